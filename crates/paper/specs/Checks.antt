@@ -1,0 +1,370 @@
+-- The paper, refusals 10 to 18: declarations, statements, routines and the module.
+use mathlib.Core.Bool.{Bool, true, false, not, _||_, _&&_}
+use mathlib.Core.List.{List, [], _∷_, _++_}
+use mathlib.Core.Option.{Option, none, some}
+use Prim.Native.Nat.{ℕ, zero, suc, _+_}
+use lib.Dec.{eqb, ltb}
+use lib.ListN.{length, getD, replicate}
+use lib.IntN.{ℤ, pos}
+use Rattle.paper.specs.Sorts.{bytes, equalTexts}
+use Rattle.paper.specs.Words.{Word}
+use Rattle.paper.specs.Terms.{Ref, ofModule, ofRoutine, Memory}
+use Rattle.paper.specs.Trees.{Expr, first, Target, Simple, assign, assignCall, call, returns, raises, exits, retries, triesNext, writes, reads, Statement, Statements, Arms, Cases, simple, compactIf, fullIf, for, while, test, empty, _then_, noArm, arm, noCase, case}
+use Rattle.paper.specs.Trees.{Content, variable as variableData, initial, array as arrayData, constant as constantData, Declared, Parameter, Handler, Routine, Module}
+use Rattle.paper.specs.Names.{DataType, num, bool, refused, typeOf, Meaning, unknown, variable, array, constant, loop, routine, theErrno, errorNumber, Names, Scopes, spelled, meaning, isDeclared, cannotDeclare, declare, enter}
+use Rattle.paper.specs.Types.{Fault, fault, faultIf, Judged, judged, differs, wanted, judge, ofType, constantFaults, constantValue, sizeOf, raisesError, isNoSize}
+
+-- "over 64 routines, 1,024 module words, 64 words a routine"
+abbrev pub routineLimit : ℕ
+routineLimit = 64
+
+abbrev pub moduleWordLimit : ℕ
+moduleWordLimit = 1024
+
+abbrev pub routineWordLimit : ℕ
+routineWordLimit = 64
+
+-- "the name that crosses": words used before it, and its own.
+unfoldable pub crosses : (limit used own : ℕ) → Bool
+crosses limit used own = elim (ltb limit used) [ true ↦ false | false ↦ ltb limit (used + own) ]
+
+-- ---- data
+-- Data declared so far: their names, the words that they start with, the faults found.
+pub record Data : Type 0 where
+  pub names : Names
+  pub words : List ℤ
+  pub faults : List Fault
+
+-- A scope that is being filled: how its names stand among the others, what a constant expression reads, which words it has and how many it may have.
+pub record Filling : Type 0 where
+  pub around : Names → Scopes
+  pub memory : List ℤ → Memory
+  pub ref : ℕ → Ref
+  pub limit : ℕ
+
+module _ (W : List Word) where
+  -- A name is declared with a meaning and words: rules 10 and 16.
+  unfoldable pub declareName : Filling → ℕ → (Ref → Meaning) → (words : List ℤ) → (faults : List Fault) → Data → Data
+  declareName F i m words faults D =
+      record {
+        names = declare (spelled W i) (m (F .ref (length (D .words)))) (D .names);
+        words = D .words ++ words;
+        faults = D .faults ++ faultIf (cannotDeclare (D .names) (spelled W i)) 10 i ++ faultIf (crosses (F .limit) (length (D .words)) (length words)) 16 i ++ faults;
+      }
+
+  -- "data names only after their semicolon": the constant expression is read before the name is declared.
+  unfoldable pub declareContent : Filling → (type : DataType) → (name : ℕ) → Content → Data → Data
+  declareContent F t i variableData D = declareName F i (variable t) (pos 0 ∷ []) [] D
+  declareContent F t i (initial e) D =
+      let S = F .around (D .names) in
+      let M = F .memory (D .words) in
+      declareName F i (variable t) (constantValue W S M e ∷ []) (constantFaults W raisesError t S M e) D
+  declareContent F t i (arrayData e) D =
+      let S = F .around (D .names) in
+      let M = F .memory (D .words) in
+      declareName F i (λ r. array t r (sizeOf W S M e)) (replicate (sizeOf W S M e) (pos 0)) (constantFaults W isNoSize num S M e) D
+  declareContent F t i (constantData e) D =
+      let S = F .around (D .names) in
+      let M = F .memory (D .words) in
+      declareName F i (constant t) (constantValue W S M e ∷ []) (constantFaults W raisesError t S M e) D
+
+  unfoldable pub declareData : Filling → List Declared → Data → Data
+  declareData F [] D = D
+  declareData F (d ∷ r) D = declareData F r (declareContent F (typeOf (d .type)) (d .name) (d .content) D)
+
+  unfoldable pub declareParameters : Filling → List Parameter → Data → Data
+  declareParameters F [] D = D
+  declareParameters F (p ∷ r) D =
+      declareParameters F r (declareName F (p .name) (variable (typeOf (p .type))) (pos 0 ∷ []) [] D)
+
+abbrev pub noData : Data
+noData = record { names = []; words = []; faults = [] }
+
+-- ---- what a call has to know of a routine
+pub record Signature : Type 0 where
+  -- nothing for a PROC
+  pub result : Option DataType
+  pub parameters : List DataType
+
+-- ---- the module's scope
+module _ (W : List Word) where
+  -- The texts of all names of module data.
+  unfoldable pub dataTexts : List Declared → Names
+  dataTexts [] = []
+  dataTexts (d ∷ r) = (spelled W (d .name), unknown) ∷ dataTexts r
+
+  -- Routines k, k + 1, .. by name: those whose name is first declared by them. `earlier` are the names declared before.
+  unfoldable pub routineNames : (earlier : Names) → ℕ → List Routine → Names
+  routineNames earlier k [] = []
+  routineNames earlier k (r ∷ rs) =
+      elim (cannotDeclare earlier (spelled W (r .name))) [
+        | true ↦ routineNames earlier (suc k) rs
+        | false ↦ (spelled W (r .name), routine k) ∷ routineNames ((spelled W (r .name), unknown) ∷ earlier) (suc k) rs
+      ]
+
+  -- Rules 10 and 16 for routine names.
+  unfoldable pub routineNameFaults : (earlier : Names) → ℕ → List Routine → List Fault
+  routineNameFaults earlier k [] = []
+  routineNameFaults earlier k (r ∷ rs) =
+      faultIf (cannotDeclare earlier (spelled W (r .name))) 10 (r .name)
+      ++ faultIf (crosses routineLimit k 1) 16 (r .name)
+      ++ routineNameFaults ((spelled W (r .name), unknown) ∷ earlier) (suc k) rs
+
+  unfoldable pub moduleFilling : Names → Filling
+  moduleFilling routines =
+      record {
+        around = λ names. record { loops = []; own = []; globals = names; routines = routines };
+        memory = λ words. record { module-words = words; routine-words = []; error-number = 0 };
+        ref = ofModule;
+        limit = moduleWordLimit;
+      }
+
+  unfoldable pub moduleData : Module → Data
+  moduleData m = declareData W (moduleFilling (routineNames (dataTexts (m .declared)) 0 (m .routines))) (m .declared) noData
+
+  unfoldable pub moduleScopes : Module → Scopes
+  moduleScopes m =
+      record {
+        loops = [];
+        own = [];
+        globals = moduleData m .names;
+        routines = routineNames (dataTexts (m .declared)) 0 (m .routines);
+      }
+
+  -- ---- a routine's scope
+  unfoldable pub routineFilling : Module → Filling
+  routineFilling m =
+      record {
+        around = λ names. record { loops = []; own = names; globals = moduleScopes m .globals; routines = moduleScopes m .routines };
+        memory = λ words. record { module-words = moduleData m .words; routine-words = words; error-number = 0 };
+        ref = ofRoutine;
+        limit = routineWordLimit;
+      }
+
+  unfoldable pub routineData : Module → Routine → Data
+  routineData m r =
+      declareData W (routineFilling m) (r .declared) (declareParameters W (routineFilling m) (r .parameters) noData)
+
+  unfoldable pub routineScopes : Module → Routine → Scopes
+  routineScopes m r = routineFilling m .around (routineData m r .names)
+
+  -- "A parameter refused [..] counts as a parameter, but its type is not asked."
+  unfoldable pub parameterTypes : Filling → List Parameter → Data → List DataType
+  parameterTypes F [] D = []
+  parameterTypes F (p ∷ r) D =
+      let D′ = declareName W F (p .name) (variable (typeOf (p .type))) (pos 0 ∷ []) [] D in
+      elim (cannotDeclare (D .names) (spelled W (p .name)) || crosses (F .limit) (length (D .words)) 1) [ true ↦ refused | false ↦ typeOf (p .type) ]
+      ∷ parameterTypes F r D′
+
+  -- The result type of a routine past the 64th is not asked.
+  unfoldable pub resultOf : ℕ → Option ℕ → Option DataType
+  resultOf k none = none
+  resultOf k (some s) = some (elim (crosses routineLimit k 1) [ true ↦ refused | false ↦ typeOf s ])
+
+  unfoldable pub signatures : Module → ℕ → List Routine → List Signature
+  signatures m k [] = []
+  signatures m k (r ∷ rs) =
+      record { result = resultOf k (r .result); parameters = parameterTypes (routineFilling m) (r .parameters) noData }
+      ∷ signatures m (suc k) rs
+
+-- ---- statements
+-- Where a statement stands: the signatures of the module's routines, whether its routine is a FUNC and of which type, and whether it is in an ERROR list.
+pub record Setting : Type 0 where
+  pub routines : List Signature
+  pub result : Option DataType
+  pub inError : Bool
+
+-- "a FOR statement is one word of its routine": how many there are.
+unfoldable mutual
+  pub forsIn : Statement → ℕ
+  forsIn (simple s) = 0
+  forsIn (compactIf i e s) = 0
+  forsIn (fullIf i a o) = forsInArms a + forsInList o
+  forsIn (for i v a b c body end) = suc (forsInList body)
+  forsIn (while i e body) = forsInList body
+  forsIn (test i e c d) = forsInCases c + forsInList d
+
+  pub forsInList : Statements → ℕ
+  forsInList empty = 0
+  forsInList (s then r) = forsIn s + forsInList r
+
+  pub forsInArms : Arms → ℕ
+  forsInArms noArm = 0
+  forsInArms (arm e b r) = forsInList b + forsInArms r
+
+  pub forsInCases : Cases → ℕ
+  forsInCases noCase = 0
+  forsInCases (case cs b r) = forsInList b + forsInCases r
+
+unfoldable pub noSignature : Signature
+noSignature = record { result = none; parameters = [] }
+
+unfoldable pub isSome : {A : Type 0} → Option A → Bool
+isSome none = false
+isSome (some a) = true
+
+-- "ERRNO, constants and FOR variables cannot be targets."
+unfoldable pub judgeScalarTarget : Meaning → ℕ → Judged
+judgeScalarTarget unknown i = judged refused (fault 11 i)
+judgeScalarTarget (variable t r) i = judged t []
+judgeScalarTarget (array t r n) i = judged refused (fault 12 i)
+judgeScalarTarget (constant t r) i = judged refused (fault 12 i)
+judgeScalarTarget (loop r) i = judged refused (fault 12 i)
+judgeScalarTarget (routine k) i = judged refused (fault 12 i)
+judgeScalarTarget theErrno i = judged refused (fault 12 i)
+judgeScalarTarget (errorNumber n) i = judged refused (fault 12 i)
+
+module _ (W : List Word) where
+  -- An element as a target is judged as in an expression: no constant and no FOR variable is an array.
+  unfoldable pub judgeTarget : Scopes → Target → Judged
+  judgeTarget S t = elim (t .index) [ none ↦ judgeScalarTarget (meaning S (spelled W (t .name))) (t .name) | some e ↦ judge W false S (Expr.element (t .name) e) ]
+
+  -- ---- calls
+  -- The arguments' own faults, and "13: wrong type" against the parameters that are there.
+  unfoldable pub argumentFaults : Scopes → List DataType → List Expr → List Fault
+  argumentFaults S ts [] = []
+  argumentFaults S [] (e ∷ es) = ofType W refused S e ++ argumentFaults S [] es
+  argumentFaults S (t ∷ ts) (e ∷ es) = ofType W t S e ++ argumentFaults S ts es
+
+  -- "12: [..] PROC for FUNC and the reverse", "14: wrong argument count: callee". What is called has to be a function if `wantsFunction`.
+  unfoldable pub signatureFaults : (wantsFunction : Bool) → Signature → ℕ → List Expr → List Fault
+  signatureFaults true sig i es =
+      elim (sig .result) [ none ↦ fault 12 i | some t ↦ faultIf (not (eqb (length (sig .parameters)) (length es))) 14 i ]
+  signatureFaults false sig i es =
+      elim (sig .result) [ some t ↦ fault 12 i | none ↦ faultIf (not (eqb (length (sig .parameters)) (length es))) 14 i ]
+
+  unfoldable pub calleeFaults : Setting → (wantsFunction : Bool) → Meaning → ℕ → List Expr → List Fault
+  calleeFaults K f unknown i es = fault 11 i
+  calleeFaults K f (variable t r) i es = fault 12 i
+  calleeFaults K f (array t r n) i es = fault 12 i
+  calleeFaults K f (constant t r) i es = fault 12 i
+  calleeFaults K f (loop r) i es = fault 12 i
+  calleeFaults K f (routine k) i es = signatureFaults f (getD (K .routines) k noSignature) i es
+  calleeFaults K f theErrno i es = fault 12 i
+  calleeFaults K f (errorNumber n) i es = fault 12 i
+
+  -- The signature of what is called, none of its parts known where it is no routine.
+  unfoldable pub signatureOf : Setting → Meaning → Signature
+  signatureOf K unknown = noSignature
+  signatureOf K (variable t r) = noSignature
+  signatureOf K (array t r n) = noSignature
+  signatureOf K (constant t r) = noSignature
+  signatureOf K (loop r) = noSignature
+  signatureOf K (routine k) = getD (K .routines) k noSignature
+  signatureOf K theErrno = noSignature
+  signatureOf K (errorNumber n) = noSignature
+
+  unfoldable pub callFaults : Setting → (wantsFunction : Bool) → Scopes → ℕ → List Expr → List Fault
+  callFaults K f S i es =
+      calleeFaults K f (meaning S (spelled W i)) i es
+      ++ argumentFaults S (signatureOf K (meaning S (spelled W i)) .parameters) es
+
+  -- "for a function's result, the callee"
+  unfoldable pub resultFaults : Judged → Option DataType → ℕ → List Fault
+  resultFaults target none i = []
+  resultFaults target (some t) i = faultIf (differs (target .type) t) 13 i
+
+  -- "RETURN with a value in PROC or without in FUNC"
+  unfoldable pub returnFaults : Setting → Scopes → ℕ → Option Expr → List Fault
+  returnFaults K S i none = faultIf (isSome (K .result)) 17 i
+  returnFaults K S i (some e) = elim (K .result) [ none ↦ fault 17 i ++ ofType W refused S e | some t ↦ ofType W t S e ]
+
+  unfoldable pub optionalNum : Scopes → Option Expr → List Fault
+  optionalNum S none = []
+  optionalNum S (some e) = ofType W num S e
+
+  -- "17: RETRY, TRYNEXT or plain RAISE outside ERROR, `RAISE e` in it"
+  unfoldable pub simpleFaults : Setting → Scopes → Simple → List Fault
+  simpleFaults K S (assign t e) =
+      judgeTarget S t .faults ++ ofType W (judgeTarget S t .type) S e
+  simpleFaults K S (assignCall t f es) =
+      judgeTarget S t .faults
+      ++ callFaults K true S f es
+      ++ resultFaults (judgeTarget S t) (signatureOf K (meaning S (spelled W f)) .result) f
+  simpleFaults K S (call p es) = callFaults K false S p es
+  simpleFaults K S (returns i e) = returnFaults K S i e
+  simpleFaults K S (raises i none) = faultIf (not (K .inError)) 17 i
+  simpleFaults K S (raises i (some e)) = faultIf (K .inError) 17 i ++ ofType W num S e
+  simpleFaults K S (exits i) = []
+  simpleFaults K S (retries i) = faultIf (not (K .inError)) 17 i
+  simpleFaults K S (triesNext i) = faultIf (not (K .inError)) 17 i
+  simpleFaults K S (writes i s e) = optionalNum S e
+  simpleFaults K S (reads i t s) = wanted num (t .name) (judgeTarget S t)
+
+  -- "Constant expressions hold literals and constants": CASE values, which read the words that constants start with.
+  unfoldable pub caseFaults : Scopes → Memory → List Expr → List Fault
+  caseFaults S M [] = []
+  caseFaults S M (e ∷ es) = constantFaults W raisesError num S M e ++ caseFaults S M es
+
+  -- The faults of statements, of which the routine has used n words before.
+  module _ (K : Setting) (M : Memory) where
+    unfoldable mutual
+      pub statementFaults : Statement → Scopes → ℕ → List Fault
+      statementFaults (simple s) S n = simpleFaults K S s
+      statementFaults (compactIf i e s) S n = ofType W bool S e ++ simpleFaults K S s
+      statementFaults (fullIf i a o) S n = armFaults a S n ++ listFaults o S (n + forsInArms a)
+      statementFaults (for i v a b c body end) S n =
+          faultIf (cannotDeclare [] (spelled W v)) 10 v
+          ++ faultIf (crosses routineWordLimit n 1) 16 v
+          ++ ofType W num S a
+          ++ ofType W num S b
+          ++ optionalNum S c
+          ++ listFaults body (enter (spelled W v) (ofRoutine n) S) (suc n)
+      statementFaults (while i e body) S n = ofType W bool S e ++ listFaults body S n
+      statementFaults (test i e c d) S n = ofType W num S e ++ casesFaults c S n ++ listFaults d S (n + forsInCases c)
+
+      pub listFaults : Statements → Scopes → ℕ → List Fault
+      listFaults empty S n = []
+      listFaults (s then r) S n = statementFaults s S n ++ listFaults r S (n + forsIn s)
+
+      pub armFaults : Arms → Scopes → ℕ → List Fault
+      armFaults noArm S n = []
+      armFaults (arm e b r) S n = ofType W bool S e ++ listFaults b S n ++ armFaults r S (n + forsInList b)
+
+      pub casesFaults : Cases → Scopes → ℕ → List Fault
+      casesFaults noCase S n = []
+      casesFaults (case es b r) S n = caseFaults S M es ++ listFaults b S n ++ casesFaults r S (n + forsInList b)
+
+  -- ---- routines and the module
+  unfoldable pub handlerFaults : Setting → Memory → Scopes → ℕ → Option Handler → List Fault
+  handlerFaults K M S n none = []
+  handlerFaults K M S n (some h) =
+      listFaults (record { routines = K .routines; result = K .result; inError = true }) M (h .list) S n
+
+  unfoldable pub routineFaults : Module → List Signature → ℕ → Routine → List Fault
+  routineFaults m sigs k r =
+      let D = routineData W m r in
+      let S = routineScopes W m r in
+      let M = routineFilling W m .memory (D .words) in
+      let K : Setting = record { routines = sigs; result = resultOf W k (r .result); inError = false } in
+      D .faults
+      ++ listFaults K M (r .statements) S (length (D .words))
+      ++ handlerFaults K M S (length (D .words) + forsInList (r .statements)) (r .handler)
+
+  unfoldable pub allRoutineFaults : Module → List Signature → ℕ → List Routine → List Fault
+  allRoutineFaults m sigs k [] = []
+  allRoutineFaults m sigs k (r ∷ rs) = routineFaults m sigs k r ++ allRoutineFaults m sigs (suc k) rs
+
+  -- All that breaks rules 10 to 17.
+  unfoldable pub faults : Module → List Fault
+  faults m =
+      moduleData W m .faults
+      ++ routineNameFaults W (dataTexts W (m .declared)) 0 (m .routines)
+      ++ allRoutineFaults m (signatures W m 0 (m .routines)) 0 (m .routines)
+
+  -- "18: no PROC main without parameters": the number of the routine that main is.
+  unfoldable pub isMain : Signature → Bool
+  isMain sig = elim (sig .result) [ some t ↦ false | none ↦ eqb (length (sig .parameters)) 0 ]
+
+  unfoldable pub mainIn : List Signature → Meaning → Option ℕ
+  mainIn sigs unknown = none
+  mainIn sigs (variable t r) = none
+  mainIn sigs (array t r n) = none
+  mainIn sigs (constant t r) = none
+  mainIn sigs (loop r) = none
+  mainIn sigs (routine k) = elim (isMain (getD sigs k noSignature)) [ true ↦ some k | false ↦ none ]
+  mainIn sigs theErrno = none
+  mainIn sigs (errorNumber n) = none
+
+  unfoldable pub mainOf : Module → Option ℕ
+  mainOf m = mainIn (signatures W m 0 (m .routines)) (meaning (moduleScopes W m) (bytes "MAIN"))

@@ -1,0 +1,332 @@
+-- The paper, "Running": one step of a module, and a run of it.
+use mathlib.Core.Bool.{Bool, true, false, not, _||_, _&&_}
+use mathlib.Core.List.{List, [], _∷_, _++_}
+use mathlib.Core.Option.{Option, none, some}
+use Prim.Native.Nat.{ℕ, zero, suc, _+_}
+use lib.Dec.{eqb, ltb, leb}
+use lib.ListN.{length, getD, set, drop, replicate}
+use lib.IntN.{ℤ, pos, natAbs, _+ℤ_}
+use lib.Signed.{ltZ}
+use Rattle.paper.specs.Numbers.{num, Value, value, error, ranged, isZero, same, decimal, illRaise}
+use Rattle.paper.specs.Terms.{Ref, ofModule, ofRoutine, Term, Memory, Located, at, fails, locate, load, worth}
+use Rattle.paper.specs.Steps.{Spot, scalar, elementOf, Action, store, callFor, callOf, giveBack, raise, handOn, exit, retry, tryNext, write, read, choose, select, testWhile, enterFor, repeatFor, endList, Step, Code, Program}
+
+-- ---- the state of a run
+-- A live FOR: its end and its step, worked out once.
+pub record Loop : Type 0 where
+  pub end : ℤ
+  pub step : ℤ
+
+-- A live call of a routine.
+pub record Call : Type 0 where
+  pub routine : ℕ
+  -- its next step, or the call that it waits for
+  pub next : ℕ
+  -- its parameters, data and FOR variables
+  pub words : List ℤ
+  pub loops : List Loop
+  -- while it is in its ERROR list: the step that failed
+  pub failed : Option ℕ
+  -- where its caller's word for the result is, if it is called for one
+  pub result : Option Ref
+
+pub record State : Type 0 where
+  pub words : List ℤ
+  -- the newest first
+  pub calls : List Call
+  pub steps : ℕ
+  -- "ERRNO is the latest error number, 0 before any."
+  pub errno : ℕ
+  pub output : List ℕ
+  pub used : ℕ
+
+-- What a run may use besides its steps: call depth, bytes of output, inputs.
+pub record Rooms : Type 0 where
+  pub depth : ℕ
+  pub output : ℕ
+  pub inputs : List ℤ
+
+-- ---- parts of a state, set anew
+abbrev pub withCalls : List Call → State → State
+withCalls c s = record { words = s .words; calls = c; steps = s .steps; errno = s .errno; output = s .output; used = s .used }
+
+abbrev pub withWords : List ℤ → State → State
+withWords w s = record { words = w; calls = s .calls; steps = s .steps; errno = s .errno; output = s .output; used = s .used }
+
+abbrev pub withErrno : ℕ → State → State
+withErrno e s = record { words = s .words; calls = s .calls; steps = s .steps; errno = e; output = s .output; used = s .used }
+
+abbrev pub counted : State → State
+counted s = record { words = s .words; calls = s .calls; steps = s .steps + 1; errno = s .errno; output = s .output; used = s .used }
+
+abbrev pub withOutput : List ℕ → State → State
+withOutput o s = record { words = s .words; calls = s .calls; steps = s .steps; errno = s .errno; output = o; used = s .used }
+
+abbrev pub withInput : State → State
+withInput s = record { words = s .words; calls = s .calls; steps = s .steps; errno = s .errno; output = s .output; used = s .used + 1 }
+
+abbrev pub goTo : ℕ → Call → Call
+goTo n c = record { routine = c .routine; next = n; words = c .words; loops = c .loops; failed = c .failed; result = c .result }
+
+abbrev pub setWord : ℕ → ℤ → Call → Call
+setWord k v c = record { routine = c .routine; next = c .next; words = set (c .words) k v; loops = c .loops; failed = c .failed; result = c .result }
+
+abbrev pub setLoop : ℕ → Loop → Call → Call
+setLoop k l c = record { routine = c .routine; next = c .next; words = c .words; loops = set (c .loops) k l; failed = c .failed; result = c .result }
+
+abbrev pub setFailed : Option ℕ → Call → Call
+setFailed f c = record { routine = c .routine; next = c .next; words = c .words; loops = c .loops; failed = f; result = c .result }
+
+-- The newest call changed.
+unfoldable pub onTop : (Call → Call) → State → State
+onTop f s = elim (s .calls) [ [] ↦ s | c ∷ r ↦ withCalls (f c ∷ r) s ]
+
+-- A value goes into a word of the module, or of the newest call.
+unfoldable pub storeAt : Ref → ℤ → State → State
+storeAt (ofModule k) v s = withWords (set (s .words) k v) s
+storeAt (ofRoutine k) v s = onTop (setWord k v) s
+
+abbrev pub memoryOf : State → Call → Memory
+memoryOf s c = record { module-words = s .words; routine-words = c .words; error-number = s .errno }
+
+-- ---- what a step comes to
+pub data Effect : Type 0 where
+  -- it is made
+  made : State → Effect
+  -- it fails: an error arises in it
+  failing : (error : ℕ) → State → Effect
+  -- "plain RAISE drops its routine and hands the number in ERRNO to the caller"
+  handing : State → Effect
+  -- it ends the run, with ending 1, 2 or 4
+  ending : (number : ℕ) → State → Effect
+  -- "In 6, 7, 8 the step isn't counted and nothing of it is kept": at this word
+  lacking : (number place : ℕ) → Effect
+
+-- With a value, or the error in its stead. `s` is the state as far as the step has come.
+unfoldable pub withValue : Value → State → (ℤ → Effect) → Effect
+withValue (value z) s go = go z
+withValue (error e) s go = failing e s
+
+-- "a target's index first"
+unfoldable pub withSpot : Memory → Spot → State → (Ref → Effect) → Effect
+withSpot M (scalar r) s go = go r
+withSpot M (elementOf r n e) s go = elim (locate r n (worth M e)) [ at w ↦ go w | fails e′ ↦ failing e′ s ]
+
+unfoldable pub withValues : Memory → List Term → State → (List ℤ → Effect) → Effect
+withValues M [] s go = go []
+withValues M (e ∷ es) s go = withValue (worth M e) s (λ z. withValues M es s (λ zs. go (z ∷ zs)))
+
+-- ---- tables
+unfoldable pub noCode : Code
+noCode = record { function = false; words = []; steps = []; start = 0; handler = none }
+
+unfoldable pub codeAt : Program → ℕ → Code
+codeAt P k = getD (P .routines) k noCode
+
+unfoldable pub noStep : Step
+noStep = record { name = 0; place = 0; after = 0; does = exit }
+
+unfoldable pub stepNamed : List Step → ℕ → Step
+stepNamed [] n = noStep
+stepNamed (s ∷ r) n = elim (eqb (s .name) n) [ true ↦ s | false ↦ stepNamed r n ]
+
+-- A call's step of that name, and its next one.
+unfoldable pub stepIn : Program → Call → ℕ → Step
+stepIn P c n = stepNamed (codeAt P (c .routine) .steps) n
+
+unfoldable pub nextStep : Program → Call → Step
+nextStep P c = stepIn P c (c .next)
+
+-- ---- calls and returns
+-- "VAR without a value starts at 0 or FALSE; routine data starts afresh at each call."
+unfoldable pub newCall : Program → (routine : ℕ) → (arguments : List ℤ) → (result : Option Ref) → Call
+newCall P k args result =
+    let code = codeAt P k in
+    record {
+      routine = k;
+      next = code .start;
+      words = args ++ drop (length args) (code .words);
+      loops = replicate 32 (record { end = pos 0; step = pos 0 });
+      failed = none;
+      result = result;
+    }
+
+-- "6: call beyond the depth, arguments done: the callee"
+unfoldable pub calling : Program → Rooms → Memory → (callee routine : ℕ) → List Term → Option Ref → State → Effect
+calling P R M callee k es result s =
+    withValues M es s (λ args.
+    elim (ltb (length (s .calls)) (R .depth)) [
+      | true ↦ made (withCalls (newCall P k args result ∷ s .calls) s)
+      | false ↦ lacking 6 callee
+    ])
+
+-- The caller goes on after the call that it waited for.
+unfoldable pub resume : Program → Call → Call
+resume P c = goTo (nextStep P c .after) c
+
+unfoldable pub storeResult : Option Ref → Option ℤ → State → State
+storeResult none v s = s
+storeResult (some r) none s = s
+storeResult (some r) (some z) s = storeAt r z s
+
+-- "1: main returned"
+unfoldable pub returning : Program → Call → (callers : List Call) → Option ℤ → State → Effect
+returning P c [] v s = ending 1 s
+returning P c (d ∷ r) v s = made (storeResult (c .result) v (withCalls (resume P d ∷ r) s))
+
+-- ---- errors
+-- "An error goes to the nearest routine up the call chain [..] that has an ERROR list; those below are dropped. If that routine is in its ERROR list, or none is found, the run dies."
+unfoldable pub caught : Program → List Call → Option (List Call)
+caught P [] = none
+caught P (c ∷ r) =
+    elim (codeAt P (c .routine) .handler) [
+      | none ↦ caught P r
+      | some h ↦ elim (c .failed) [ none ↦ some (goTo h (setFailed (some (c .next)) c) ∷ r) | some f ↦ none ]
+    ]
+
+-- "RETRY begins the failed statement of this routine again; TRYNEXT goes to the one after it."
+unfoldable pub retrying : Call → Call
+retrying c = elim (c .failed) [ none ↦ c | some f ↦ goTo f (setFailed none c) ]
+
+unfoldable pub tryingNext : Program → Call → Call
+tryingNext P c = elim (c .failed) [ none ↦ c | some f ↦ goTo (stepIn P c f .after) (setFailed none c) ]
+
+-- "`RAISE e` raises e in 1..90, any other value ERR_ILLRAISE"
+unfoldable pub raised : ℤ → ℕ
+raised z = elim (ltZ z (pos 1) || ltZ (pos 90) z) [ true ↦ illRaise | false ↦ natAbs z ]
+
+-- ---- input and output
+-- "8: a whole line lacks output room": the line is added where there is room.
+unfoldable pub adding : Rooms → (place : ℕ) → (line : List ℕ) → State → (State → Effect) → Effect
+adding R place line s go =
+    elim (leb (length (s .output) + length line) (R .output)) [ true ↦ go (withOutput (s .output ++ line) s) | false ↦ lacking 8 place ]
+
+-- "TPWrite adds the string, the number in plain decimal if given, and LF."
+unfoldable pub writing : Rooms → Memory → (place after : ℕ) → List ℕ → Option Term → State → Effect
+writing R M place after text none s = adding R place (text ++ (10 ∷ [])) s (λ s′. made (onTop (goTo after) s′))
+writing R M place after text (some e) s =
+    withValue (worth M e) s (λ z. adding R place (text ++ decimal z ++ (10 ∷ [])) s (λ s′. made (onTop (goTo after) s′)))
+
+-- "takes the next input; one outside num is consumed and raises ERR_OVERFLOW"; "7: no input left"
+unfoldable pub taking : (place after : ℕ) → Ref → (inputs : List ℤ) → State → Effect
+taking place after r [] s = lacking 7 place
+taking place after r (z ∷ rest) s =
+    withValue (ranged num z) (withInput s) (λ v. made (onTop (goTo after) (storeAt r v (withInput s))))
+
+-- "TPReadNum works out its target's index, writes its string and LF, takes the next input"
+unfoldable pub readNum : Rooms → Memory → (place after : ℕ) → Spot → List ℕ → State → Effect
+readNum R M place after t text s =
+    withSpot M t s (λ r. adding R place (text ++ (10 ∷ [])) s (λ s′. taking place after r (drop (s .used) (R .inputs)) s′))
+
+-- ---- choices and loops
+-- The first condition that holds says where to go on.
+unfoldable pub choosing : Memory → List (Term × ℕ) → (otherwise : ℕ) → State → Effect
+choosing M [] otherwise s = made (onTop (goTo otherwise) s)
+choosing M (a ∷ r) otherwise s =
+    withValue (worth M (a .0)) s (λ z. elim (isZero z) [ true ↦ choosing M r otherwise s | false ↦ made (onTop (goTo (a .1)) s) ])
+
+unfoldable pub holds : ℤ → List ℤ → Bool
+holds z [] = false
+holds z (c ∷ r) = elim (same z c) [ true ↦ true | false ↦ holds z r ]
+
+-- "TEST takes the first matching CASE, else any DEFAULT."
+unfoldable pub matching : ℤ → List (List ℤ × ℕ) → (otherwise : ℕ) → ℕ
+matching z [] otherwise = otherwise
+matching z (c ∷ r) otherwise = elim (holds z (c .0)) [ true ↦ c .1 | false ↦ matching z r otherwise ]
+
+-- "Step 0 or more: go on while not above the end; below 0: while not below."
+unfoldable pub passes : ℤ → Loop → Bool
+passes z l = elim (ltZ (l .step) (pos 0)) [ true ↦ not (ltZ z (l .end)) | false ↦ not (ltZ (l .end) z) ]
+
+-- A FOR's test: "only a value that passes is stored".
+unfoldable pub looping : (variable : Ref) → ℤ → Loop → (body after : ℕ) → State → Effect
+looping v z l body after s =
+    elim (passes z l) [ true ↦ made (onTop (goTo body) (storeAt v z s)) | false ↦ made (onTop (goTo after) s) ]
+
+-- "FOR works out start, end, step once, then tests"
+unfoldable pub entering : Memory → (variable : Ref) → (loop : ℕ) → (from to step : Term) → (body after : ℕ) → State → Effect
+entering M v k a b c body after s =
+    withValue (worth M a) s (λ z.
+    withValue (worth M b) s (λ y.
+    withValue (worth M c) s (λ x.
+    let l : Loop = record { end = y; step = x } in
+    looping v z l body after (onTop (setLoop k l) s))))
+
+-- "after the body the exact sum of variable and step is tested"
+unfoldable pub repeating : Memory → Call → (variable : Ref) → (loop : ℕ) → (body after : ℕ) → State → Effect
+repeating M c v k body after s =
+    let l = getD (c .loops) k (record { end = pos 0; step = pos 0 }) in
+    looping v (load M v +ℤ l .step) l body after s
+
+-- ---- one step
+-- "The end of a PROC's list returns; in a FUNC it is ending 4."
+unfoldable pub ending-list : Program → Call → List Call → State → Effect
+ending-list P c r s = elim (codeAt P (c .routine) .function) [ true ↦ ending 4 s | false ↦ returning P c r none s ]
+
+unfoldable pub perform : Program → Rooms → Call → (callers : List Call) → (place after : ℕ) → Action → State → Effect
+perform P R c r place after (store t e) s =
+    withSpot (memoryOf s c) t s (λ w. withValue (worth (memoryOf s c) e) s (λ z. made (onTop (goTo after) (storeAt w z s))))
+perform P R c r place after (callFor t callee k es) s =
+    withSpot (memoryOf s c) t s (λ w. calling P R (memoryOf s c) callee k es (some w) s)
+perform P R c r place after (callOf callee k es) s = calling P R (memoryOf s c) callee k es none s
+perform P R c r place after (giveBack none) s = returning P c r none s
+perform P R c r place after (giveBack (some e)) s =
+    withValue (worth (memoryOf s c) e) s (λ z. returning P c r (some z) s)
+perform P R c r place after (raise e) s = withValue (worth (memoryOf s c) e) s (λ z. failing (raised z) s)
+perform P R c r place after handOn s = handing s
+perform P R c r place after exit s = ending 2 s
+perform P R c r place after retry s = made (onTop retrying s)
+perform P R c r place after tryNext s = made (onTop (tryingNext P) s)
+perform P R c r place after (write text e) s = writing R (memoryOf s c) place after text e s
+perform P R c r place after (read t text) s = readNum R (memoryOf s c) place after t text s
+perform P R c r place after (choose arms otherwise) s = choosing (memoryOf s c) arms otherwise s
+perform P R c r place after (select e cs otherwise) s =
+    withValue (worth (memoryOf s c) e) s (λ z. made (onTop (goTo (matching z cs otherwise)) s))
+perform P R c r place after (testWhile e body) s =
+    withValue (worth (memoryOf s c) e) s (λ z. made (onTop (goTo (elim (isZero z) [ true ↦ after | false ↦ body ])) s))
+perform P R c r place after (enterFor v k a b d body) s = entering (memoryOf s c) v k a b d body after s
+perform P R c r place after (repeatFor v k body) s = repeating (memoryOf s c) c v k body after s
+perform P R c r place after endList s = ending-list P c r s
+
+-- A run goes on, or has ended: the ending's number, the word that it is at, and the state that is left.
+pub data Outcome : Type 0 where
+  goesOn : State → Outcome
+  ended : (ending place : ℕ) → State → Outcome
+
+-- An error has arisen at a word; these calls may take it. "3: error unhandled: statement it arose in"
+unfoldable pub arising : Program → (error place : ℕ) → List Call → State → Outcome
+arising P e place calls s =
+    elim (caught P calls) [ none ↦ ended 3 place (withErrno e s) | some cs ↦ goesOn (withCalls cs (withErrno e s)) ]
+
+-- "A failed step counts."
+unfoldable pub settled : Program → (place : ℕ) → (callers : List Call) → (before : State) → Effect → Outcome
+settled P place r before (made s) = goesOn (counted s)
+settled P place r before (failing e s) = arising P e place (s .calls) (counted s)
+settled P place r before (handing s) = arising P (s .errno) place r (counted s)
+settled P place r before (ending n s) = ended n place (counted s)
+settled P place r before (lacking n at′) = ended n at′ before
+
+unfoldable pub takeStep : Program → Rooms → State → Outcome
+takeStep P R s =
+    elim (s .calls) [
+      | [] ↦ ended 1 0 s
+      | c ∷ r ↦
+          let n = nextStep P c in
+          settled P (n .place) r s (perform P R c r (n .place) (n .after) (n .does) s)
+    ]
+
+-- The word that the next step is at.
+unfoldable pub nextPlace : Program → State → ℕ
+nextPlace P s = elim (s .calls) [ [] ↦ 0 | c ∷ r ↦ nextStep P c .place ]
+
+-- ---- a run
+-- "5: steps spent: the next step's place"; "5 is tested before a step"
+unfoldable pub run : Program → Rooms → (steps : ℕ) → State → Outcome
+run P R zero s = ended 5 (nextPlace P s) s
+run P R (suc n) s =
+    elim (takeStep P R s) [ goesOn s′ ↦ run P R n s′ | ended e place s′ ↦ ended e place s′ ]
+
+-- "main has depth 1."
+unfoldable pub started : Program → (main : ℕ) → State
+started P main =
+    record { words = P .words; calls = newCall P main [] none ∷ []; steps = 0; errno = 0; output = []; used = 0 }

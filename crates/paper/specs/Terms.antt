@@ -1,0 +1,143 @@
+-- The paper, "Running": expressions whose names are resolved, and what they are worth.
+use mathlib.Core.Bool.{Bool, true, false, not}
+use mathlib.Core.List.{List}
+use Prim.Native.Nat.{ℕ, _+_, _-_}
+use lib.Dec.{eqb}
+use lib.ListN.{getD}
+use lib.IntN.{ℤ, pos, natAbs}
+use lib.Signed.{ltZ, leZ}
+use Rattle.paper.specs.Sorts.{equal, less, lessEqual, unequal, greater, greaterEqual, plus, minusSign, times, DIV, MOD, AND, OR, NOT}
+use Rattle.paper.specs.Numbers.{num, Value, value, error, add, subtract, multiply, divide, modulo, minus, isZero, same, outOfBound}
+
+-- A word of data: of the module, or of the routine's live call.
+pub data Ref : Type 0 where
+  ofModule : (word : ℕ) → Ref
+  ofRoutine : (word : ℕ) → Ref
+
+-- The word that many words on.
+unfoldable pub onward : Ref → ℕ → Ref
+onward (ofModule k) n = ofModule (k + n)
+onward (ofRoutine k) n = ofRoutine (k + n)
+
+-- An expression with its names resolved. Operators are known by the sorts of their words; TRUE is 1 and FALSE is 0.
+pub data Term : Type 0 where
+  literal : ℤ → Term
+  errno : Term
+  word : Ref → Term
+  element : Ref → (size : ℕ) → (index : Term) → Term
+  before : (operator : ℕ) → Term → Term
+  between : (operator : ℕ) → (left right : Term) → Term
+
+-- What an expression can read.
+pub record Memory : Type 0 where
+  pub module-words : List ℤ
+  pub routine-words : List ℤ
+  pub error-number : ℕ
+
+unfoldable pub load : Memory → Ref → ℤ
+load M (ofModule k) = getD (M .module-words) k (pos 0)
+load M (ofRoutine k) = getD (M .routine-words) k (pos 0)
+
+unfoldable pub truth : Bool → ℤ
+truth true = pos 1
+truth false = pos 0
+
+-- "An index outside 1..n raises ERR_OUTOFBND." The element's word, counted from the array's first; or the error.
+pub data Located : Type 0 where
+  at : Ref → Located
+  fails : (error : ℕ) → Located
+
+unfoldable pub locate : Ref → (size : ℕ) → Value → Located
+locate r n (error e) = fails e
+locate r n (value i) =
+    elim (ltZ i (pos 1)) [
+      | true ↦ fails outOfBound
+      | false ↦ elim (ltZ (pos n) i) [ true ↦ fails outOfBound | false ↦ at (onward r (natAbs i - 1)) ]
+    ]
+
+unfoldable pub loadFrom : Memory → Located → Value
+loadFrom M (at r) = value (load M r)
+loadFrom M (fails e) = error e
+
+-- NOT, + or - before a value.
+unfoldable pub applied : (operator : ℕ) → Value → Value
+applied op (error e) = error e
+applied op (value a) =
+    elim (eqb op NOT) [
+      | true ↦ value (truth (isZero a))
+      | false ↦ elim (eqb op minusSign) [ true ↦ minus num a | false ↦ value a ]
+    ]
+
+-- An operator between two numbers, or two truth values.
+unfoldable pub operated : (operator : ℕ) → ℤ → ℤ → Value
+operated op a b =
+    elim (eqb op plus) [
+      | true ↦ add num a b
+      | false ↦
+          elim (eqb op minusSign) [
+            | true ↦ subtract num a b
+            | false ↦
+                elim (eqb op times) [
+                  | true ↦ multiply num a b
+                  | false ↦
+                      elim (eqb op DIV) [
+                        | true ↦ divide num a b
+                        | false ↦
+                            elim (eqb op MOD) [
+                              | true ↦ modulo num a b
+                              | false ↦
+                                  elim (eqb op equal) [
+                                    | true ↦ value (truth (same a b))
+                                    | false ↦
+                                        elim (eqb op unequal) [
+                                          | true ↦ value (truth (not (same a b)))
+                                          | false ↦
+                                              elim (eqb op less) [
+                                                | true ↦ value (truth (ltZ a b))
+                                                | false ↦
+                                                    elim (eqb op lessEqual) [
+                                                      | true ↦ value (truth (leZ a b))
+                                                      | false ↦
+                                                          elim (eqb op greater) [
+                                                            | true ↦ value (truth (ltZ b a))
+                                                            | false ↦
+                                                                elim (eqb op greaterEqual) [
+                                                                  | true ↦ value (truth (leZ b a))
+                                                                  | false ↦
+                                                                      elim (eqb op AND) [
+                                                                        | true ↦ value b
+                                                                        | false ↦
+                                                                            elim (eqb op OR) [ true ↦ value b | false ↦ value (truth (not (same a b))) ]
+                                                                      ]
+                                                                ]
+                                                          ]
+                                                    ]
+                                              ]
+                                        ]
+                                  ]
+                            ]
+                      ]
+                ]
+          ]
+    ]
+
+-- "AND and OR skip the right side once the answer is known": it is then the left side's. So it is where the left side raises an error.
+unfoldable pub known : (operator : ℕ) → Value → Bool
+known op (error e) = true
+known op (value a) =
+    elim (eqb op AND) [ true ↦ isZero a | false ↦ elim (eqb op OR) [ true ↦ not (isZero a) | false ↦ false ] ]
+
+unfoldable pub combined : (operator : ℕ) → (left right : Value) → Value
+combined op (error e) b = error e
+combined op (value a) (error e) = error e
+combined op (value a) (value b) = operated op a b
+
+-- "Evaluation goes left to right".
+unfoldable pub worth : Memory → Term → Value
+worth M (literal z) = value z
+worth M errno = value (pos (M .error-number))
+worth M (word r) = value (load M r)
+worth M (element r n e) = loadFrom M (locate r n (worth M e))
+worth M (before op e) = applied op (worth M e)
+worth M (between op a b) =
+    elim (known op (worth M a)) [ true ↦ worth M a | false ↦ combined op (worth M a) (worth M b) ]

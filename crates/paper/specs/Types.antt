@@ -1,0 +1,161 @@
+-- The paper, "Names and types" and refusals 10 to 17: expressions. All faults are collected; the answer is the least of them.
+use mathlib.Core.Bool.{Bool, true, false, _||_}
+use mathlib.Core.List.{List, [], _∷_, _++_}
+use mathlib.Core.Option.{Option, none, some}
+use Prim.Native.Nat.{ℕ, zero, suc, _+_, _-_}
+use lib.Dec.{eqb, ltb, leb}
+use lib.IntN.{ℤ, pos, natAbs}
+use lib.Signed.{ltZ}
+use Rattle.paper.specs.Sorts.{NUMBER, TRUE, FALSE, NOT, equal, unequal}
+use Rattle.paper.specs.Words.{Word}
+use Rattle.paper.specs.Numbers.{Value, value, error}
+use Rattle.paper.specs.Terms.{Ref, Memory, worth}
+use Rattle.paper.specs.Trees.{Expr, leaf, element, nested, signed, joined, first}
+use Rattle.paper.specs.Form.{levelOf}
+use Rattle.paper.specs.Names.{DataType, num, bool, refused, Meaning, unknown, variable, array, constant, loop, routine, theErrno, errorNumber, Scopes, sortIn, spelled, meaning, termOf}
+
+-- A rule broken, and the index of the word where it is.
+pub record Fault : Type 0 where
+  pub number : ℕ
+  pub at : ℕ
+
+unfoldable pub fault : ℕ → ℕ → List Fault
+fault number i = record { number = number; at = i } ∷ []
+
+unfoldable pub faultIf : Bool → ℕ → ℕ → List Fault
+faultIf true number i = fault number i
+faultIf false number i = []
+
+-- "In a group the lowest offset wins, then the lowest number."
+unfoldable pub comesFirst : Fault → Fault → Bool
+comesFirst a b = ltb (a .at) (b .at) || elim (eqb (a .at) (b .at)) [ true ↦ leb (a .number) (b .number) | false ↦ false ]
+
+unfoldable pub leastOf : Fault → List Fault → Fault
+leastOf a [] = a
+leastOf a (b ∷ r) = elim (comesFirst a b) [ true ↦ leastOf a r | false ↦ leastOf b r ]
+
+unfoldable pub least : List Fault → Option Fault
+least [] = none
+least (a ∷ r) = some (leastOf a r)
+
+-- A piece of the module: its type, and the faults in it. "an expression, but not a call, that holds one counts as refused"
+pub record Judged : Type 0 where
+  pub type : DataType
+  pub faults : List Fault
+
+unfoldable pub judged : DataType → List Fault → Judged
+judged t [] = record { type = t; faults = [] }
+judged t (f ∷ r) = record { type = refused; faults = f ∷ r }
+
+-- "A rule needing the type, size or value of a refused piece isn't applied"
+unfoldable pub differs : DataType → DataType → Bool
+differs num num = false
+differs num bool = true
+differs num refused = false
+differs bool num = true
+differs bool bool = false
+differs bool refused = false
+differs refused num = false
+differs refused bool = false
+differs refused refused = false
+
+-- "13: wrong type: the expression's or target's first word"
+unfoldable pub wanted : DataType → (at : ℕ) → Judged → List Fault
+wanted t i j = j .faults ++ faultIf (differs t (j .type)) 13 i
+
+-- ---- names
+-- "12: name of wrong kind: array without index, [..] variable (ERRNO, FOR's too) in a constant expression, routine for data"
+unfoldable pub judgeName : (constantOnly : Bool) → Meaning → ℕ → Judged
+judgeName c unknown i = judged refused (fault 11 i)
+judgeName c (variable t r) i = judged t (faultIf c 12 i)
+judgeName c (array t r n) i = judged t (fault 12 i)
+judgeName c (constant t r) i = judged t []
+judgeName c (loop r) i = judged num (faultIf c 12 i)
+judgeName c (routine k) i = judged refused (fault 12 i)
+judgeName c theErrno i = judged num (faultIf c 12 i)
+judgeName c (errorNumber n) i = judged num []
+
+-- "12: [..] index on a scalar"; "indices [..] take num". `e` is the index.
+unfoldable pub judgeElement : (constantOnly : Bool) → Meaning → ℕ → Expr → Judged → Judged
+judgeElement c unknown i e j = judged refused (fault 11 i ++ j .faults)
+judgeElement c (variable t r) i e j = judged refused (fault 12 i ++ j .faults)
+judgeElement c (array t r n) i e j = judged t (faultIf c 12 i ++ wanted num (first e) j)
+judgeElement c (constant t r) i e j = judged refused (fault 12 i ++ j .faults)
+judgeElement c (loop r) i e j = judged refused (fault 12 i ++ j .faults)
+judgeElement c (routine k) i e j = judged refused (fault 12 i ++ j .faults)
+judgeElement c theErrno i e j = judged refused (fault 12 i ++ j .faults)
+judgeElement c (errorNumber n) i e j = judged refused (fault 12 i ++ j .faults)
+
+-- ---- operators
+-- "+ - * DIV MOD < <= > >= take num; = and <> take two of one type, else the right one is wrong; NOT AND OR XOR and conditions take bool"
+unfoldable pub judgeJoined : (operator : ℕ) → (a b : Expr) → Judged → Judged → Judged
+judgeJoined op a b ja jb =
+    elim (eqb op equal || eqb op unequal) [
+      | true ↦ judged bool (ja .faults ++ wanted (ja .type) (first b) jb)
+      | false ↦
+          elim (leb 4 (levelOf op)) [
+            | true ↦ judged bool (wanted bool (first a) ja ++ wanted bool (first b) jb)
+            | false ↦
+                elim (eqb (levelOf op) 3) [
+                  | true ↦ judged bool (wanted num (first a) ja ++ wanted num (first b) jb)
+                  | false ↦
+                      judged num (wanted num (first a) ja ++ wanted num (first b) jb)
+                ]
+          ]
+    ]
+
+-- ---- constant expressions: what one is worth, or nothing where it is refused
+unfoldable pub raisesError : Option Value → Bool
+raisesError none = false
+raisesError (some (value z)) = false
+raisesError (some (error n)) = true
+
+-- "array size outside 1..512"
+unfoldable pub isNoSize : Option Value → Bool
+isNoSize none = false
+isNoSize (some (error n)) = true
+isNoSize (some (value z)) = ltZ z (pos 1) || ltZ (pos 512) z
+
+-- The value, 0 where there is none.
+unfoldable pub valueOr0 : Option Value → ℤ
+valueOr0 none = pos 0
+valueOr0 (some (value z)) = z
+valueOr0 (some (error n)) = pos 0
+
+module _ (W : List Word) where
+  unfoldable pub judgeLeaf : (constantOnly : Bool) → Scopes → ℕ → Judged
+  judgeLeaf c S i =
+      elim (eqb (sortIn W i) NUMBER) [
+        | true ↦ judged num []
+        | false ↦
+            elim (eqb (sortIn W i) TRUE || eqb (sortIn W i) FALSE) [ true ↦ judged bool [] | false ↦ judgeName c (meaning S (spelled W i)) i ]
+      ]
+
+  unfoldable pub judge : (constantOnly : Bool) → Scopes → Expr → Judged
+  judge c S (leaf i) = judgeLeaf c S i
+  judge c S (element i e) = judgeElement c (meaning S (spelled W i)) i e (judge c S e)
+  judge c S (nested i e) = judge c S e
+  judge c S (signed i e) =
+      elim (eqb (sortIn W i) NOT) [
+        | true ↦ judged bool (wanted bool (first e) (judge c S e))
+        | false ↦ judged num (wanted num (first e) (judge c S e))
+      ]
+  judge c S (joined i a b) = judgeJoined (sortIn W i) a b (judge c S a) (judge c S b)
+
+  -- The faults of an expression that must be of a type.
+  unfoldable pub ofType : DataType → Scopes → Expr → List Fault
+  ofType t S e = wanted t (first e) (judge false S e)
+
+  unfoldable pub constantWorth : Scopes → Memory → Expr → Option Value
+  constantWorth S M e = elim (judge true S e .faults) [ [] ↦ some (worth M (termOf W S e)) | f ∷ r ↦ none ]
+
+  -- "15: constant expression that would raise an error, or size outside 1..512: its expression"
+  unfoldable pub constantFaults : (bad : Option Value → Bool) → DataType → Scopes → Memory → Expr → List Fault
+  constantFaults bad t S M e = wanted t (first e) (judge true S e) ++ faultIf (bad (constantWorth S M e)) 15 (first e)
+
+  unfoldable pub constantValue : Scopes → Memory → Expr → ℤ
+  constantValue S M e = valueOr0 (constantWorth S M e)
+
+  -- The size of an array: 0 where it is refused.
+  unfoldable pub sizeOf : Scopes → Memory → Expr → ℕ
+  sizeOf S M e = elim (constantFaults isNoSize num S M e) [ [] ↦ natAbs (constantValue S M e) | f ∷ r ↦ 0 ]
