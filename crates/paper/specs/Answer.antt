@@ -8,6 +8,7 @@ use lib.ListN.{length, drop, replicate}
 use lib.IntN.{ℤ, pos}
 use mir.Syntax.{w32}
 use mir.Val.{toZ, ofZ}
+use Rattle.paper.specs.Basics.{if_then_else_}
 use Rattle.paper.specs.Words.{Word, Refusal, Reading, reading}
 use Rattle.paper.specs.Trees.{Module}
 use Rattle.paper.specs.Form.{Parsed, got, no, formed}
@@ -37,7 +38,7 @@ refuse number offset = refusal (record { number = number; offset = offset })
 
 -- The offset of word i; past the last one, the text's length.
 unfoldable pub offsetOf : (text : List ℕ) → List Word → ℕ → ℕ
-offsetOf text W i = elim (ltb i (length W)) [ true ↦ nth W i .place | false ↦ length text ]
+offsetOf text W i = if ltb i (length W) then nth W i .place else length text
 
 -- "then 18"
 unfoldable pub judgeMain : List Word → Module → Option ℕ → Verdict
@@ -105,7 +106,8 @@ endedWith e offset s =
       fields = record {
         ending = e;
         refusal = 0;
-        offset = elim (eqb e 1) [ true ↦ 0 | false ↦ offset ];
+        offset =
+            if eqb e 1 then 0 else offset;
         steps = s .steps;
         errno = s .errno;
         output = length (s .output);

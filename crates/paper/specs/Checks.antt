@@ -6,6 +6,7 @@ use Prim.Native.Nat.{ℕ, zero, suc, _+_}
 use lib.Dec.{eqb, ltb}
 use lib.ListN.{length, getD, replicate}
 use lib.IntN.{ℤ, pos}
+use Rattle.paper.specs.Basics.{if_then_else_}
 use Rattle.paper.specs.Sorts.{bytes, equalTexts}
 use Rattle.paper.specs.Words.{Word}
 use Rattle.paper.specs.Terms.{Ref, ofModule, ofRoutine, Memory}
@@ -26,7 +27,7 @@ routineWordLimit = 64
 
 -- "the name that crosses": words used before it, and its own.
 unfoldable pub crosses : (limit used own : ℕ) → Bool
-crosses limit used own = elim (ltb limit used) [ true ↦ false | false ↦ ltb limit (used + own) ]
+crosses limit used own = if ltb limit used then false else ltb limit (used + own)
 
 -- ---- data
 -- Data declared so far: their names, the words that they start with, the faults found.
@@ -153,13 +154,13 @@ module _ (W : List Word) where
   parameterTypes F [] D = []
   parameterTypes F (p ∷ r) D =
       let D′ = declareName W F (p .name) (variable (typeOf (p .type))) (pos 0 ∷ []) [] D in
-      elim (cannotDeclare (D .names) (spelled W (p .name)) || crosses (F .limit) (length (D .words)) 1) [ true ↦ refused | false ↦ typeOf (p .type) ]
+      (if cannotDeclare (D .names) (spelled W (p .name)) || crosses (F .limit) (length (D .words)) 1 then refused else typeOf (p .type))
       ∷ parameterTypes F r D′
 
   -- The result type of a routine past the 64th is not asked.
   unfoldable pub resultOf : ℕ → Option ℕ → Option DataType
   resultOf k none = none
-  resultOf k (some s) = some (elim (crosses routineLimit k 1) [ true ↦ refused | false ↦ typeOf s ])
+  resultOf k (some s) = some (if crosses routineLimit k 1 then refused else typeOf s)
 
   unfoldable pub signatures : Module → ℕ → List Routine → List Signature
   signatures m k [] = []
@@ -362,7 +363,8 @@ module _ (W : List Word) where
   mainIn sigs (array t r n) = none
   mainIn sigs (constant t r) = none
   mainIn sigs (loop r) = none
-  mainIn sigs (routine k) = elim (isMain (getD sigs k noSignature)) [ true ↦ some k | false ↦ none ]
+  mainIn sigs (routine k) =
+      if isMain (getD sigs k noSignature) then some k else none
   mainIn sigs theErrno = none
   mainIn sigs (errorNumber n) = none
 

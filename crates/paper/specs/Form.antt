@@ -5,6 +5,7 @@ use mathlib.Core.List.{List, [], _∷_}
 use mathlib.Core.Option.{Option, none, some}
 use Prim.Native.Nat.{ℕ, zero, suc, _+_, _-_}
 use lib.Dec.{eqb}
+use Rattle.paper.specs.Basics.{if_then_else_}
 use Rattle.paper.specs.Sorts.{NOTHING, NAME, NUMBER, STRING, semicolon, comma, openParen, closeParen, openBrace, closeBrace, colon, becomes, equal, less, lessEqual, unequal, greater, greaterEqual, plus, minusSign, times, backslash}
 use Rattle.paper.specs.Sorts.{AND, CASE, CONST, DEFAULT, DIV, DO, ELSE, ELSEIF, ENDFOR, ENDFUNC, ENDIF, ENDMODULE, ENDPROC, ENDTEST, ENDWHILE, ERROR, EXIT, FALSE, FOR, FROM, FUNC, IF, MOD, MODULE, NOT, OR, PROC, RAISE, RETRY, RETURN, STEP, TEST, THEN, TO, TRUE, TRYNEXT, VAR, WHILE, XOR, NUM, BOOL, TPWRITE, TPREADNUM}
 use Rattle.paper.specs.Trees.{Expr, leaf, element, nested, signed, joined, Target, Simple, assign, assignCall, call, returns, raises, exits, retries, triesNext, writes, reads, Statement, Statements, Arms, Cases, simple, compactIf, fullIf, for, while, test, empty, _then_, noArm, arm, noCase, case, Content, variable, initial, array, constant, Declared, Parameter, Handler, Routine, Module}
@@ -31,27 +32,19 @@ nestings = 16
 -- "Expressions, loosest first": the levels, counted from the tightest. 1 * DIV MOD, 2 + and -, 3 a relation, 4 AND, 5 OR and XOR; 0 is no operator.
 unfoldable pub levelOf : (sort : ℕ) → ℕ
 levelOf s =
-    elim (eqb s times || eqb s DIV || eqb s MOD) [
-      | true ↦ 1
-      | false ↦
-          elim (eqb s plus || eqb s minusSign) [
-            | true ↦ 2
-            | false ↦
-                elim (eqb s equal || eqb s unequal || eqb s less || eqb s lessEqual || eqb s greater || eqb s greaterEqual) [
-                  | true ↦ 3
-                  | false ↦
-                      elim (eqb s AND) [
-                        | true ↦ 4
-                        | false ↦
-                            elim (eqb s OR || eqb s XOR) [ true ↦ 5 | false ↦ 0 ]
-                      ]
-                ]
-          ]
-    ]
+    if eqb s times || eqb s DIV || eqb s MOD then 1
+    else if eqb s plus || eqb s minusSign then 2
+    else if eqb s equal || eqb s unequal || eqb s less || eqb s lessEqual || eqb s greater || eqb s greaterEqual then 3
+    else if eqb s AND then 4
+    else if eqb s OR || eqb s XOR then 5
+    else 0
 
 -- "`[NOT]` chain of OR and XOR", "`[+|-]` chain of + and -"
 unfoldable pub standsBefore : (level sort : ℕ) → Bool
-standsBefore j s = elim (eqb j 5) [ true ↦ eqb s NOT | false ↦ elim (eqb j 2) [ true ↦ eqb s plus || eqb s minusSign | false ↦ false ] ]
+standsBefore j s =
+    if eqb j 5 then eqb s NOT
+    else if eqb j 2 then eqb s plus || eqb s minusSign
+    else false
 
 unfoldable pub isLiteral : (sort : ℕ) → Bool
 isLiteral s = eqb s NUMBER || eqb s TRUE || eqb s FALSE
@@ -69,10 +62,10 @@ startsStatement s = startsSimple s || eqb s IF || eqb s FOR || eqb s WHILE || eq
 module _ (W : ℕ → ℕ) where
   -- "8: word that no well-formed module could have here"
   unfoldable pub expect : (sort : ℕ) → ℕ → Parsed ℕ
-  expect s at = elim (eqb (W at) s) [ true ↦ got (at + 1) | false ↦ no 8 at ]
+  expect s at = if eqb (W at) s then got (at + 1) else no 8 at
 
   unfoldable pub expectType : ℕ → Parsed ℕ
-  expectType at = elim (isType (W at)) [ true ↦ got (at + 1) | false ↦ no 8 at ]
+  expectType at = if isType (W at) then got (at + 1) else no 8 at
 
   -- ---- expressions
   -- "literal, name, element, or parentheses". `inner` reads what stands in parentheses or braces.
@@ -90,15 +83,11 @@ module _ (W : ℕ → ℕ) where
 
   unfoldable pub operand : (inner : ℕ → Parsed (Expr × ℕ)) → ℕ → Parsed (Expr × ℕ)
   operand inner at =
-      elim (eqb (W at) openParen) [
-        | true ↦ inParentheses inner at
-        | false ↦
-            elim (eqb (W at) NAME) [
-              | true ↦ elim (eqb (W (at + 1)) openBrace) [ true ↦ indexed inner at | false ↦ got (leaf at, at + 1) ]
-              | false ↦
-                  elim (isLiteral (W at)) [ true ↦ got (leaf at, at + 1) | false ↦ no 8 at ]
-            ]
-      ]
+      if eqb (W at) openParen then inParentheses inner at
+      else if eqb (W at) NAME then (if eqb (W (at + 1)) openBrace then indexed inner at
+      else got (leaf at, at + 1))
+      else if isLiteral (W at) then got (leaf at, at + 1)
+      else no 8 at
 
   -- What follows `e` in a chain of level j: operators, each with an operand that `sub` reads, joined left to right. "one relation at most"
   unfoldable pub chain : (parts j : ℕ) → (sub : ℕ → Parsed (Expr × ℕ)) → Expr → ℕ → Parsed (Expr × ℕ)
@@ -159,7 +148,7 @@ module _ (W : ℕ → ℕ) where
 
   -- The arguments of a call, none where the closing word follows at once.
   unfoldable pub arguments : (closing : ℕ) → ℕ → Parsed (List Expr × ℕ)
-  arguments s at = elim (eqb (W at) s) [ true ↦ got ([], at) | false ↦ exprs parts at ]
+  arguments s at = if eqb (W at) s then got ([], at) else exprs parts at
 
   -- ---- simple statements
   -- "a target's braces included": what stands in them is nested once.
@@ -191,7 +180,7 @@ module _ (W : ℕ → ℕ) where
 
   unfoldable pub rightSide : Target → ℕ → Parsed (Simple × ℕ)
   rightSide t at =
-      elim (eqb (W at) NAME && eqb (W (at + 1)) openParen) [ true ↦ callSide t at | false ↦ valueSide t at ]
+      if eqb (W at) NAME && eqb (W (at + 1)) openParen then callSide t at else valueSide t at
 
   unfoldable pub assignment : ℕ → Parsed (Simple × ℕ)
   assignment at = do
@@ -207,7 +196,7 @@ module _ (W : ℕ → ℕ) where
 
   unfoldable pub startedByName : ℕ → Parsed (Simple × ℕ)
   startedByName at =
-      elim (eqb (W (at + 1)) becomes || eqb (W (at + 1)) openBrace) [ true ↦ assignment at | false ↦ procedureCall at ]
+      if eqb (W (at + 1)) becomes || eqb (W (at + 1)) openBrace then assignment at else procedureCall at
 
   -- "`RETURN [e];`, `RAISE [e];`"
   unfoldable pub withOptional : (ℕ → Option Expr → Simple) → ℕ → Parsed (Simple × ℕ)
@@ -243,35 +232,15 @@ module _ (W : ℕ → ℕ) where
 
   unfoldable pub simpleWord : ℕ → Parsed (Simple × ℕ)
   simpleWord at =
-      elim (eqb (W at) NAME) [
-        | true ↦ startedByName at
-        | false ↦
-            elim (eqb (W at) RETURN) [
-              | true ↦ withOptional returns at
-              | false ↦
-                  elim (eqb (W at) RAISE) [
-                    | true ↦ withOptional raises at
-                    | false ↦
-                        elim (eqb (W at) EXIT) [
-                          | true ↦ got (exits at, at + 1)
-                          | false ↦
-                              elim (eqb (W at) RETRY) [
-                                | true ↦ got (retries at, at + 1)
-                                | false ↦
-                                    elim (eqb (W at) TRYNEXT) [
-                                      | true ↦ got (triesNext at, at + 1)
-                                      | false ↦
-                                          elim (eqb (W at) TPWRITE) [
-                                            | true ↦ tpWrite at
-                                            | false ↦
-                                                elim (eqb (W at) TPREADNUM) [ true ↦ tpReadNum at | false ↦ no 8 at ]
-                                          ]
-                                    ]
-                              ]
-                        ]
-                  ]
-            ]
-      ]
+      if eqb (W at) NAME then startedByName at
+      else if eqb (W at) RETURN then withOptional returns at
+      else if eqb (W at) RAISE then withOptional raises at
+      else if eqb (W at) EXIT then got (exits at, at + 1)
+      else if eqb (W at) RETRY then got (retries at, at + 1)
+      else if eqb (W at) TRYNEXT then got (triesNext at, at + 1)
+      else if eqb (W at) TPWRITE then tpWrite at
+      else if eqb (W at) TPREADNUM then tpReadNum at
+      else no 8 at
 
   -- A simple statement with its semicolon.
   unfoldable pub simpleStatement : ℕ → Parsed (Simple × ℕ)
@@ -284,7 +253,7 @@ module _ (W : ℕ → ℕ) where
   -- "`IF e THEN .. {ELSEIF e THEN ..} [ELSE ..] ENDIF`", from the first list on.
   unfoldable pub elsePart : (list : ℕ → Parsed (Statements × ℕ)) → ℕ → Parsed (Statements × ℕ)
   elsePart list at =
-      elim (eqb (W at) ELSE) [ false ↦ got (empty, at) | true ↦ list (at + 1) ]
+      elim (eqb (W at) ELSE) [ true ↦ list (at + 1) | false ↦ got (empty, at) ]
 
   unfoldable pub lastArm : (list : ℕ → Parsed (Statements × ℕ)) → Expr → Statements → ℕ → Parsed (Arms × Statements × ℕ)
   lastArm list e b at = do
@@ -320,10 +289,7 @@ module _ (W : ℕ → ℕ) where
   unfoldable pub ifStatement : (deeper : Option (ℕ → Parsed (Statements × ℕ))) → ℕ → Parsed (Statement × ℕ)
   ifStatement deeper at = do
     (e, n) ← expr (at + 1)
-    elim (eqb (W n) THEN) [
-      | false ↦ ifSimple at e n
-      | true ↦ elim deeper [ none ↦ no 9 n | some list ↦ ifThen at list e n ]
-    ]
+    if eqb (W n) THEN then elim deeper [ none ↦ no 9 n | some list ↦ ifThen at list e n ] else ifSimple at e n
 
   -- "`FOR i FROM e TO e [STEP e] DO .. ENDFOR`"
   unfoldable pub stepPart : ℕ → Parsed (Option Expr × ℕ)
@@ -403,23 +369,11 @@ module _ (W : ℕ → ℕ) where
 
   unfoldable pub statement : (deeper : Option (ℕ → Parsed (Statements × ℕ))) → ℕ → Parsed (Statement × ℕ)
   statement deeper at =
-      elim (eqb (W at) IF) [
-        | true ↦ ifStatement deeper at
-        | false ↦
-            elim (eqb (W at) FOR) [
-              | true ↦ opening deeper forStatement at
-              | false ↦
-                  elim (eqb (W at) WHILE) [
-                    | true ↦ opening deeper whileStatement at
-                    | false ↦
-                        elim (eqb (W at) TEST) [
-                          | true ↦ opening deeper testStatement at
-                          | false ↦
-                              plainStatement at
-                        ]
-                  ]
-            ]
-      ]
+      if eqb (W at) IF then ifStatement deeper at
+      else if eqb (W at) FOR then opening deeper forStatement at
+      else if eqb (W at) WHILE then opening deeper whileStatement at
+      else if eqb (W at) TEST then opening deeper testStatement at
+      else plainStatement at
 
   -- "Lists may be empty." A list ends before the first word that starts no statement.
   unfoldable pub statements : (parts : ℕ) → (deeper : Option (ℕ → Parsed (Statements × ℕ))) → ℕ → Parsed (Statements × ℕ)
@@ -456,11 +410,9 @@ module _ (W : ℕ → ℕ) where
   -- "`VAR type name [:= c];`, `VAR type name{c};`"
   unfoldable pub varPart : ℕ → Parsed (Content × ℕ)
   varPart at =
-      elim (eqb (W at) becomes) [
-        | true ↦ initialPart (at + 1)
-        | false ↦
-            elim (eqb (W at) openBrace) [ true ↦ sizePart (at + 1) | false ↦ got (variable, at) ]
-      ]
+      if eqb (W at) becomes then initialPart (at + 1)
+      else if eqb (W at) openBrace then sizePart (at + 1)
+      else got (variable, at)
 
   -- "`CONST type name := c;`"
   unfoldable pub constPart : ℕ → Parsed (Content × ℕ)
@@ -478,7 +430,7 @@ module _ (W : ℕ → ℕ) where
     got (record { type = W (at + 1); name = at + 2; content = c }, n₄)
 
   unfoldable pub declaration : ℕ → Parsed (Declared × ℕ)
-  declaration at = elim (eqb (W at) VAR) [ true ↦ datum varPart at | false ↦ datum constPart at ]
+  declaration at = if eqb (W at) VAR then datum varPart at else datum constPart at
 
   unfoldable pub declarations : (parts : ℕ) → ℕ → Parsed (List Declared × ℕ)
   declarations zero at = no 8 at
@@ -511,7 +463,7 @@ module _ (W : ℕ → ℕ) where
 
   unfoldable pub parameters : ℕ → Parsed (List Parameter × ℕ)
   parameters at =
-      elim (eqb (W at) closeParen) [ true ↦ got ([], at) | false ↦ parametersFrom parts at ]
+      if eqb (W at) closeParen then got ([], at) else parametersFrom parts at
 
   unfoldable pub errorPart : ℕ → Parsed (Option Handler × ℕ)
   errorPart at =
@@ -541,7 +493,7 @@ module _ (W : ℕ → ℕ) where
     routineFrom (some (W at)) ENDFUNC n
 
   unfoldable pub routine : ℕ → Parsed (Routine × ℕ)
-  routine at = elim (eqb (W at) PROC) [ true ↦ routineFrom none ENDPROC (at + 1) | false ↦ function (at + 1) ]
+  routine at = if eqb (W at) PROC then routineFrom none ENDPROC (at + 1) else function (at + 1)
 
   unfoldable pub routines : (parts : ℕ) → ℕ → Parsed (List Routine × ℕ)
   routines zero at = no 8 at

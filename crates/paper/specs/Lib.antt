@@ -1,4 +1,5 @@
 -- The paper as definitions, in its order.
+pub mod Basics
 pub mod Sorts
 pub mod Words
 pub mod Trees

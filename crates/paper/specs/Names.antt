@@ -7,6 +7,7 @@ use Prim.Native.String.{String}
 use lib.Dec.{eqb}
 use lib.ListN.{getD}
 use lib.IntN.{ℤ, pos}
+use Rattle.paper.specs.Basics.{if_then_else_}
 use Rattle.paper.specs.Sorts.{bytes, folded, equalTexts, NOTHING, NUMBER, TRUE, FALSE, NUM}
 use Rattle.paper.specs.Words.{Word}
 use Rattle.paper.specs.Numbers.{overflow, divZero, outOfBound, illRaise}
@@ -19,7 +20,7 @@ pub data DataType : Type 0 where
 
 -- A type by the sort of its word.
 unfoldable pub typeOf : (sort : ℕ) → DataType
-typeOf s = elim (eqb s NUM) [ true ↦ num | false ↦ bool ]
+typeOf s = if eqb s NUM then num else bool
 
 -- What a name means.
 pub data Meaning : Type 0 where
@@ -92,7 +93,7 @@ cannotDeclare scope text = isDeclared protected text || isDeclared scope text
 
 -- "A name declared twice means its first declaration"
 unfoldable pub declare : List ℕ → Meaning → Names → Names
-declare text m scope = elim (cannotDeclare scope text) [ true ↦ scope | false ↦ (text, m) ∷ scope ]
+declare text m scope = if cannotDeclare scope text then scope else (text, m) ∷ scope
 
 -- A loop's body is entered: its variable is known there.
 unfoldable pub enter : List ℕ → Ref → Scopes → Scopes
@@ -123,15 +124,10 @@ termOfElement (errorNumber n) e = e
 module _ (W : List Word) where
   unfoldable pub termOfLeaf : Scopes → ℕ → Term
   termOfLeaf S i =
-      elim (eqb (sortIn W i) NUMBER) [
-        | true ↦ literal (pos (nth W i .value))
-        | false ↦
-            elim (eqb (sortIn W i) TRUE) [
-              | true ↦ literal (pos 1)
-              | false ↦
-                  elim (eqb (sortIn W i) FALSE) [ true ↦ literal (pos 0) | false ↦ termOfName (meaning S (spelled W i)) ]
-            ]
-      ]
+      if eqb (sortIn W i) NUMBER then literal (pos (nth W i .value))
+      else if eqb (sortIn W i) TRUE then literal (pos 1)
+      else if eqb (sortIn W i) FALSE then literal (pos 0)
+      else termOfName (meaning S (spelled W i))
 
   unfoldable pub termOf : Scopes → Expr → Term
   termOf S (leaf i) = termOfLeaf S i

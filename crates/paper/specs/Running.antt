@@ -7,6 +7,7 @@ use lib.Dec.{eqb, ltb, leb}
 use lib.ListN.{length, getD, set, drop, replicate}
 use lib.IntN.{ℤ, pos, natAbs, _+ℤ_}
 use lib.Signed.{ltZ}
+use Rattle.paper.specs.Basics.{if_then_else_}
 use Rattle.paper.specs.Numbers.{num, Value, value, error, ranged, isZero, same, decimal, illRaise}
 use Rattle.paper.specs.Terms.{Ref, ofModule, ofRoutine, Term, Memory, Located, at, fails, locate, load, worth}
 use Rattle.paper.specs.Steps.{Spot, scalar, elementOf, Action, store, callFor, callOf, giveBack, raise, handOn, exit, retry, tryNext, write, read, choose, select, testWhile, enterFor, repeatFor, endList, Step, Code, Program}
@@ -155,10 +156,7 @@ newCall P k args result =
 unfoldable pub calling : Program → Rooms → Memory → (callee routine : ℕ) → List Term → Option Ref → State → Effect
 calling P R M callee k es result s =
     withValues M es s (λ args.
-    elim (ltb (length (s .calls)) (R .depth)) [
-      | true ↦ made (withCalls (newCall P k args result ∷ s .calls) s)
-      | false ↦ lacking 6 callee
-    ])
+    if ltb (length (s .calls)) (R .depth) then made (withCalls (newCall P k args result ∷ s .calls) s) else lacking 6 callee)
 
 -- The caller goes on after the call that it waited for.
 unfoldable pub resume : Program → Call → Call
@@ -193,13 +191,13 @@ tryingNext P c = elim (c .failed) [ none ↦ c | some f ↦ goTo (stepIn P c f .
 
 -- "`RAISE e` raises e in 1..90, any other value ERR_ILLRAISE"
 unfoldable pub raised : ℤ → ℕ
-raised z = elim (ltZ z (pos 1) || ltZ (pos 90) z) [ true ↦ illRaise | false ↦ natAbs z ]
+raised z = if ltZ z (pos 1) || ltZ (pos 90) z then illRaise else natAbs z
 
 -- ---- input and output
 -- "8: a whole line lacks output room": the line is added where there is room.
 unfoldable pub adding : Rooms → (place : ℕ) → (line : List ℕ) → State → (State → Effect) → Effect
 adding R place line s go =
-    elim (leb (length (s .output) + length line) (R .output)) [ true ↦ go (withOutput (s .output ++ line) s) | false ↦ lacking 8 place ]
+    if leb (length (s .output) + length line) (R .output) then go (withOutput (s .output ++ line) s) else lacking 8 place
 
 -- "TPWrite adds the string, the number in plain decimal if given, and LF."
 unfoldable pub writing : Rooms → Memory → (place after : ℕ) → List ℕ → Option Term → State → Effect
@@ -236,12 +234,12 @@ matching z (c ∷ r) otherwise = elim (holds z (c .0)) [ true ↦ c .1 | false �
 
 -- "Step 0 or more: go on while not above the end; below 0: while not below."
 unfoldable pub passes : ℤ → Loop → Bool
-passes z l = elim (ltZ (l .step) (pos 0)) [ true ↦ not (ltZ z (l .end)) | false ↦ not (ltZ (l .end) z) ]
+passes z l = if ltZ (l .step) (pos 0) then not (ltZ z (l .end)) else not (ltZ (l .end) z)
 
 -- A FOR's test: "only a value that passes is stored".
 unfoldable pub looping : (variable : Ref) → ℤ → Loop → (body after : ℕ) → State → Effect
 looping v z l body after s =
-    elim (passes z l) [ true ↦ made (onTop (goTo body) (storeAt v z s)) | false ↦ made (onTop (goTo after) s) ]
+    if passes z l then made (onTop (goTo body) (storeAt v z s)) else made (onTop (goTo after) s)
 
 -- "FOR works out start, end, step once, then tests"
 unfoldable pub entering : Memory → (variable : Ref) → (loop : ℕ) → (from to step : Term) → (body after : ℕ) → State → Effect
@@ -261,7 +259,7 @@ repeating M c v k body after s =
 -- ---- one step
 -- "The end of a PROC's list returns; in a FUNC it is ending 4."
 unfoldable pub ending-list : Program → Call → List Call → State → Effect
-ending-list P c r s = elim (codeAt P (c .routine) .function) [ true ↦ ending 4 s | false ↦ returning P c r none s ]
+ending-list P c r s = if codeAt P (c .routine) .function then ending 4 s else returning P c r none s
 
 unfoldable pub perform : Program → Rooms → Call → (callers : List Call) → (place after : ℕ) → Action → State → Effect
 perform P R c r place after (store t e) s =
@@ -283,7 +281,7 @@ perform P R c r place after (choose arms otherwise) s = choosing (memoryOf s c) 
 perform P R c r place after (select e cs otherwise) s =
     withValue (worth (memoryOf s c) e) s (λ z. made (onTop (goTo (matching z cs otherwise)) s))
 perform P R c r place after (testWhile e body) s =
-    withValue (worth (memoryOf s c) e) s (λ z. made (onTop (goTo (elim (isZero z) [ true ↦ after | false ↦ body ])) s))
+    withValue (worth (memoryOf s c) e) s (λ z. made (onTop (goTo (if isZero z then after else body)) s))
 perform P R c r place after (enterFor v k a b d body) s = entering (memoryOf s c) v k a b d body after s
 perform P R c r place after (repeatFor v k body) s = repeating (memoryOf s c) c v k body after s
 perform P R c r place after endList s = ending-list P c r s

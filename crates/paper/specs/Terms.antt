@@ -6,6 +6,7 @@ use lib.Dec.{eqb}
 use lib.ListN.{getD}
 use lib.IntN.{ℤ, pos, natAbs}
 use lib.Signed.{ltZ, leZ}
+use Rattle.paper.specs.Basics.{if_then_else_}
 use Rattle.paper.specs.Sorts.{equal, less, lessEqual, unequal, greater, greaterEqual, plus, minusSign, times, DIV, MOD, AND, OR, NOT}
 use Rattle.paper.specs.Numbers.{num, Value, value, error, add, subtract, multiply, divide, modulo, minus, isZero, same, outOfBound}
 
@@ -50,10 +51,9 @@ pub data Located : Type 0 where
 unfoldable pub locate : Ref → (size : ℕ) → Value → Located
 locate r n (error e) = fails e
 locate r n (value i) =
-    elim (ltZ i (pos 1)) [
-      | true ↦ fails outOfBound
-      | false ↦ elim (ltZ (pos n) i) [ true ↦ fails outOfBound | false ↦ at (onward r (natAbs i - 1)) ]
-    ]
+    if ltZ i (pos 1) then fails outOfBound
+    else if ltZ (pos n) i then fails outOfBound
+    else at (onward r (natAbs i - 1))
 
 unfoldable pub loadFrom : Memory → Located → Value
 loadFrom M (at r) = value (load M r)
@@ -63,69 +63,35 @@ loadFrom M (fails e) = error e
 unfoldable pub applied : (operator : ℕ) → Value → Value
 applied op (error e) = error e
 applied op (value a) =
-    elim (eqb op NOT) [
-      | true ↦ value (truth (isZero a))
-      | false ↦ elim (eqb op minusSign) [ true ↦ minus num a | false ↦ value a ]
-    ]
+    if eqb op NOT then value (truth (isZero a))
+    else if eqb op minusSign then minus num a
+    else value a
 
 -- An operator between two numbers, or two truth values.
 unfoldable pub operated : (operator : ℕ) → ℤ → ℤ → Value
 operated op a b =
-    elim (eqb op plus) [
-      | true ↦ add num a b
-      | false ↦
-          elim (eqb op minusSign) [
-            | true ↦ subtract num a b
-            | false ↦
-                elim (eqb op times) [
-                  | true ↦ multiply num a b
-                  | false ↦
-                      elim (eqb op DIV) [
-                        | true ↦ divide num a b
-                        | false ↦
-                            elim (eqb op MOD) [
-                              | true ↦ modulo num a b
-                              | false ↦
-                                  elim (eqb op equal) [
-                                    | true ↦ value (truth (same a b))
-                                    | false ↦
-                                        elim (eqb op unequal) [
-                                          | true ↦ value (truth (not (same a b)))
-                                          | false ↦
-                                              elim (eqb op less) [
-                                                | true ↦ value (truth (ltZ a b))
-                                                | false ↦
-                                                    elim (eqb op lessEqual) [
-                                                      | true ↦ value (truth (leZ a b))
-                                                      | false ↦
-                                                          elim (eqb op greater) [
-                                                            | true ↦ value (truth (ltZ b a))
-                                                            | false ↦
-                                                                elim (eqb op greaterEqual) [
-                                                                  | true ↦ value (truth (leZ b a))
-                                                                  | false ↦
-                                                                      elim (eqb op AND) [
-                                                                        | true ↦ value b
-                                                                        | false ↦
-                                                                            elim (eqb op OR) [ true ↦ value b | false ↦ value (truth (not (same a b))) ]
-                                                                      ]
-                                                                ]
-                                                          ]
-                                                    ]
-                                              ]
-                                        ]
-                                  ]
-                            ]
-                      ]
-                ]
-          ]
-    ]
+    if eqb op plus then add num a b
+    else if eqb op minusSign then subtract num a b
+    else if eqb op times then multiply num a b
+    else if eqb op DIV then divide num a b
+    else if eqb op MOD then modulo num a b
+    else if eqb op equal then value (truth (same a b))
+    else if eqb op unequal then value (truth (not (same a b)))
+    else if eqb op less then value (truth (ltZ a b))
+    else if eqb op lessEqual then value (truth (leZ a b))
+    else if eqb op greater then value (truth (ltZ b a))
+    else if eqb op greaterEqual then value (truth (leZ b a))
+    else if eqb op AND then value b
+    else if eqb op OR then value b
+    else value (truth (not (same a b)))
 
 -- "AND and OR skip the right side once the answer is known": it is then the left side's. So it is where the left side raises an error.
 unfoldable pub known : (operator : ℕ) → Value → Bool
 known op (error e) = true
 known op (value a) =
-    elim (eqb op AND) [ true ↦ isZero a | false ↦ elim (eqb op OR) [ true ↦ not (isZero a) | false ↦ false ] ]
+    if eqb op AND then isZero a
+    else if eqb op OR then not (isZero a)
+    else false
 
 unfoldable pub combined : (operator : ℕ) → (left right : Value) → Value
 combined op (error e) b = error e

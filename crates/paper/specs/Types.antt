@@ -6,6 +6,7 @@ use Prim.Native.Nat.{ℕ, zero, suc, _+_, _-_}
 use lib.Dec.{eqb, ltb, leb}
 use lib.IntN.{ℤ, pos, natAbs}
 use lib.Signed.{ltZ}
+use Rattle.paper.specs.Basics.{if_then_else_}
 use Rattle.paper.specs.Sorts.{NUMBER, TRUE, FALSE, NOT, equal, unequal}
 use Rattle.paper.specs.Words.{Word}
 use Rattle.paper.specs.Numbers.{Value, value, error}
@@ -28,7 +29,7 @@ faultIf false number i = []
 
 -- "In a group the lowest offset wins, then the lowest number."
 unfoldable pub comesFirst : Fault → Fault → Bool
-comesFirst a b = ltb (a .at) (b .at) || elim (eqb (a .at) (b .at)) [ true ↦ leb (a .number) (b .number) | false ↦ false ]
+comesFirst a b = if eqb (a .at) (b .at) then leb (a .number) (b .number) else ltb (a .at) (b .at)
 
 unfoldable pub leastOf : Fault → List Fault → Fault
 leastOf a [] = a
@@ -90,19 +91,10 @@ judgeElement c (errorNumber n) i e j = judged refused (fault 12 i ++ j .faults)
 -- "+ - * DIV MOD < <= > >= take num; = and <> take two of one type, else the right one is wrong; NOT AND OR XOR and conditions take bool"
 unfoldable pub judgeJoined : (operator : ℕ) → (a b : Expr) → Judged → Judged → Judged
 judgeJoined op a b ja jb =
-    elim (eqb op equal || eqb op unequal) [
-      | true ↦ judged bool (ja .faults ++ wanted (ja .type) (first b) jb)
-      | false ↦
-          elim (leb 4 (levelOf op)) [
-            | true ↦ judged bool (wanted bool (first a) ja ++ wanted bool (first b) jb)
-            | false ↦
-                elim (eqb (levelOf op) 3) [
-                  | true ↦ judged bool (wanted num (first a) ja ++ wanted num (first b) jb)
-                  | false ↦
-                      judged num (wanted num (first a) ja ++ wanted num (first b) jb)
-                ]
-          ]
-    ]
+    if eqb op equal || eqb op unequal then judged bool (ja .faults ++ wanted (ja .type) (first b) jb)
+    else if leb 4 (levelOf op) then judged bool (wanted bool (first a) ja ++ wanted bool (first b) jb)
+    else if eqb (levelOf op) 3 then judged bool (wanted num (first a) ja ++ wanted num (first b) jb)
+    else judged num (wanted num (first a) ja ++ wanted num (first b) jb)
 
 -- ---- constant expressions: what one is worth, or nothing where it is refused
 unfoldable pub raisesError : Option Value → Bool
@@ -125,11 +117,9 @@ valueOr0 (some (error n)) = pos 0
 module _ (W : List Word) where
   unfoldable pub judgeLeaf : (constantOnly : Bool) → Scopes → ℕ → Judged
   judgeLeaf c S i =
-      elim (eqb (sortIn W i) NUMBER) [
-        | true ↦ judged num []
-        | false ↦
-            elim (eqb (sortIn W i) TRUE || eqb (sortIn W i) FALSE) [ true ↦ judged bool [] | false ↦ judgeName c (meaning S (spelled W i)) i ]
-      ]
+      if eqb (sortIn W i) NUMBER then judged num []
+      else if eqb (sortIn W i) TRUE || eqb (sortIn W i) FALSE then judged bool []
+      else judgeName c (meaning S (spelled W i)) i
 
   unfoldable pub judge : (constantOnly : Bool) → Scopes → Expr → Judged
   judge c S (leaf i) = judgeLeaf c S i

@@ -235,6 +235,19 @@ kindOf sort =
       ]
     ]
 
+-- A word of the listing: "each with its kind and place", and its length.
+pub record Listed : Type 0 where
+  pub kind : Kind
+  pub place : ℕ
+  pub length : ℕ
+
+unfoldable pub listed : Word → Listed
+listed w = record { kind = kindOf (w .sort); place = w .place; length = w .length }
+
+-- "the listing ends with the first refusal of 3 to 7, if any"
+unfoldable pub listing : List ℕ → List Listed × Option Refusal
+listing text = (map listed (reading text .words), reading text .refusal)
+
 -- "Asked about a place, the bench hands back the part of the caller's text that the word there covers, or says that no word starts there."
 unfoldable pub partAt : List Word → (place : ℕ) → Option (List ℕ)
 partAt [] place = none
