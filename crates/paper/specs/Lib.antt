@@ -13,3 +13,4 @@ pub mod Steps
 pub mod Running
 pub mod Answer
 pub mod Computing
+pub mod Examples
