@@ -1,6 +1,6 @@
 -- The paper, "The answer": the whole call, from the text to the record, the output and the stores.
 use mathlib.Core.Bool.{Bool, true, false, _||_}
-use mathlib.Core.List.{List, [], _∷_, _++_, map}
+use mathlib.Core.List.{List, [], _∷_, _++_}
 use mathlib.Core.Option.{Option, none, some}
 use Prim.Native.Nat.{ℕ, zero, suc, _+_, _*_, _-_, _/_, _%_}
 use lib.Dec.{eqb, ltb}
@@ -16,7 +16,7 @@ use Rattle.paper.specs.Names.{nth, sortIn}
 use Rattle.paper.specs.Types.{Fault, least}
 use Rattle.paper.specs.Checks.{faults, mainOf}
 use Rattle.paper.specs.Steps.{Program, programOf}
-use Rattle.paper.specs.Running.{State, Rooms, Outcome, goesOn, ended, run, started}
+use Rattle.paper.specs.Running.{State, Ended, run, started}
 
 -- "16,384 words"
 abbrev pub storeWords : ℕ
@@ -118,10 +118,8 @@ endedWith e offset s =
       kept = s .words;
     }
 
--- A run that has spent its steps has ended with 5, so it never goes on.
-unfoldable pub ranTo : (text : List ℕ) → List Word → Outcome → Result
-ranTo text W (goesOn s) = endedWith 5 0 s
-ranTo text W (ended e i s) = endedWith e (offsetOf text W i) s
+unfoldable pub ranTo : (text : List ℕ) → List Word → Ended → Result
+ranTo text W e = endedWith (e .ending) (offsetOf text W (e .place)) (e .state)
 
 unfoldable pub resultOf : Question → Verdict → Result
 resultOf q (refusal f) = refusedWith f

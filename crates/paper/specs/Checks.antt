@@ -1,18 +1,18 @@
 -- The paper, refusals 10 to 18: declarations, statements, routines and the module.
-use mathlib.Core.Bool.{Bool, true, false, not, _||_, _&&_}
+use mathlib.Core.Bool.{Bool, true, false, not, _||_}
 use mathlib.Core.List.{List, [], _∷_, _++_}
 use mathlib.Core.Option.{Option, none, some}
-use Prim.Native.Nat.{ℕ, zero, suc, _+_}
+use Prim.Native.Nat.{ℕ, suc, _+_}
 use lib.Dec.{eqb, ltb}
 use lib.ListN.{length, getD, replicate}
 use lib.IntN.{ℤ, pos}
 use Rattle.paper.specs.Basics.{if_then_else_}
-use Rattle.paper.specs.Sorts.{bytes, equalTexts}
+use Rattle.paper.specs.Sorts.{bytes}
 use Rattle.paper.specs.Words.{Word}
 use Rattle.paper.specs.Terms.{Ref, ofModule, ofRoutine, Memory}
-use Rattle.paper.specs.Trees.{Expr, first, Target, Simple, assign, assignCall, call, returns, raises, exits, retries, triesNext, writes, reads, Statement, Statements, Arms, Cases, simple, compactIf, fullIf, for, while, test, empty, _then_, noArm, arm, noCase, case}
+use Rattle.paper.specs.Trees.{Expr, Target, Simple, assign, assignCall, call, returns, raises, exits, retries, triesNext, writes, reads, Statement, Statements, Arms, Cases, simple, compactIf, fullIf, for, while, test, empty, _then_, noArm, arm, noCase, case}
 use Rattle.paper.specs.Trees.{Content, variable as variableData, initial, array as arrayData, constant as constantData, Declared, Parameter, Handler, Routine, Module}
-use Rattle.paper.specs.Names.{DataType, num, bool, refused, typeOf, Meaning, unknown, variable, array, constant, loop, routine, theErrno, errorNumber, Names, Scopes, spelled, meaning, isDeclared, cannotDeclare, declare, enter}
+use Rattle.paper.specs.Names.{DataType, aNum, aBool, refusedPiece, typeOf, Meaning, unknown, variable, array, constant, routine, routineIn, variableIn, wrongName, Names, Scopes, spelled, meaning, cannotDeclare, declare, enter}
 use Rattle.paper.specs.Types.{Fault, fault, faultIf, Judged, judged, differs, wanted, judge, ofType, constantFaults, constantValue, sizeOf, raisesError, isNoSize}
 
 -- "over 64 routines, 1,024 module words, 64 words a routine"
@@ -36,10 +36,12 @@ pub record Data : Type 0 where
   pub words : List ℤ
   pub faults : List Fault
 
--- A scope that is being filled: how its names stand among the others, what a constant expression reads, which words it has and how many it may have.
+-- A scope that is being filled. For the module's data: its names stand before the routines', a constant expression reads the module's words so far, a name's
+-- words are words of the module, at most 1,024. For a routine's: its names stand before the module's, a constant expression reads its own words so far too, a
+-- name's words are words of the routine, at most 64.
 pub record Filling : Type 0 where
-  pub around : Names → Scopes
-  pub memory : List ℤ → Memory
+  pub scopesWith : Names → Scopes
+  pub memoryWith : List ℤ → Memory
   pub ref : ℕ → Ref
   pub limit : ℕ
 
@@ -57,16 +59,16 @@ module _ (W : List Word) where
   unfoldable pub declareContent : Filling → (type : DataType) → (name : ℕ) → Content → Data → Data
   declareContent F t i variableData D = declareName F i (variable t) (pos 0 ∷ []) [] D
   declareContent F t i (initial e) D =
-      let S = F .around (D .names) in
-      let M = F .memory (D .words) in
+      let S = F .scopesWith (D .names) in
+      let M = F .memoryWith (D .words) in
       declareName F i (variable t) (constantValue W S M e ∷ []) (constantFaults W raisesError t S M e) D
   declareContent F t i (arrayData e) D =
-      let S = F .around (D .names) in
-      let M = F .memory (D .words) in
-      declareName F i (λ r. array t r (sizeOf W S M e)) (replicate (sizeOf W S M e) (pos 0)) (constantFaults W isNoSize num S M e) D
+      let S = F .scopesWith (D .names) in
+      let M = F .memoryWith (D .words) in
+      declareName F i (λ r. array t r (sizeOf W S M e)) (replicate (sizeOf W S M e) (pos 0)) (constantFaults W isNoSize aNum S M e) D
   declareContent F t i (constantData e) D =
-      let S = F .around (D .names) in
-      let M = F .memory (D .words) in
+      let S = F .scopesWith (D .names) in
+      let M = F .memoryWith (D .words) in
       declareName F i (constant t) (constantValue W S M e ∷ []) (constantFaults W raisesError t S M e) D
 
   unfoldable pub declareData : Filling → List Declared → Data → Data
@@ -114,8 +116,8 @@ module _ (W : List Word) where
   unfoldable pub moduleFilling : Names → Filling
   moduleFilling routines =
       record {
-        around = λ names. record { loops = []; own = []; globals = names; routines = routines };
-        memory = λ words. record { module-words = words; routine-words = []; error-number = 0 };
+        scopesWith = λ names. record { loops = []; own = []; globals = names; routines = routines };
+        memoryWith = λ words. record { module-words = words; routine-words = []; error-number = 0 };
         ref = ofModule;
         limit = moduleWordLimit;
       }
@@ -136,8 +138,8 @@ module _ (W : List Word) where
   unfoldable pub routineFilling : Module → Filling
   routineFilling m =
       record {
-        around = λ names. record { loops = []; own = names; globals = moduleScopes m .globals; routines = moduleScopes m .routines };
-        memory = λ words. record { module-words = moduleData m .words; routine-words = words; error-number = 0 };
+        scopesWith = λ names. record { loops = []; own = names; globals = moduleScopes m .globals; routines = moduleScopes m .routines };
+        memoryWith = λ words. record { module-words = moduleData m .words; routine-words = words; error-number = 0 };
         ref = ofRoutine;
         limit = routineWordLimit;
       }
@@ -147,20 +149,20 @@ module _ (W : List Word) where
       declareData W (routineFilling m) (r .declared) (declareParameters W (routineFilling m) (r .parameters) noData)
 
   unfoldable pub routineScopes : Module → Routine → Scopes
-  routineScopes m r = routineFilling m .around (routineData m r .names)
+  routineScopes m r = routineFilling m .scopesWith (routineData m r .names)
 
-  -- "A parameter refused [..] counts as a parameter, but its type is not asked."
+  -- A parameter that is refused counts as a parameter, but its type is not asked.
   unfoldable pub parameterTypes : Filling → List Parameter → Data → List DataType
   parameterTypes F [] D = []
   parameterTypes F (p ∷ r) D =
       let D′ = declareName W F (p .name) (variable (typeOf (p .type))) (pos 0 ∷ []) [] D in
-      (if cannotDeclare (D .names) (spelled W (p .name)) || crosses (F .limit) (length (D .words)) 1 then refused else typeOf (p .type))
+      (if cannotDeclare (D .names) (spelled W (p .name)) || crosses (F .limit) (length (D .words)) 1 then refusedPiece else typeOf (p .type))
       ∷ parameterTypes F r D′
 
   -- The result type of a routine past the 64th is not asked.
   unfoldable pub resultOf : ℕ → Option ℕ → Option DataType
   resultOf k none = none
-  resultOf k (some s) = some (if crosses routineLimit k 1 then refused else typeOf s)
+  resultOf k (some s) = some (if crosses routineLimit k 1 then refusedPiece else typeOf s)
 
   unfoldable pub signatures : Module → ℕ → List Routine → List Signature
   signatures m k [] = []
@@ -175,7 +177,7 @@ pub record Setting : Type 0 where
   pub result : Option DataType
   pub inError : Bool
 
--- "a FOR statement is one word of its routine": how many there are.
+-- How many FOR statements there are: each is one word of its routine.
 unfoldable mutual
   pub forsIn : Statement → ℕ
   forsIn (simple s) = 0
@@ -204,16 +206,9 @@ unfoldable pub isSome : {A : Type 0} → Option A → Bool
 isSome none = false
 isSome (some a) = true
 
--- "ERRNO, constants and FOR variables cannot be targets."
 unfoldable pub judgeScalarTarget : Meaning → ℕ → Judged
-judgeScalarTarget unknown i = judged refused (fault 11 i)
-judgeScalarTarget (variable t r) i = judged t []
-judgeScalarTarget (array t r n) i = judged refused (fault 12 i)
-judgeScalarTarget (constant t r) i = judged refused (fault 12 i)
-judgeScalarTarget (loop r) i = judged refused (fault 12 i)
-judgeScalarTarget (routine k) i = judged refused (fault 12 i)
-judgeScalarTarget theErrno i = judged refused (fault 12 i)
-judgeScalarTarget (errorNumber n) i = judged refused (fault 12 i)
+judgeScalarTarget m i =
+    elim (variableIn m) [ none ↦ judged refusedPiece (fault (wrongName m) i) | some v ↦ judged (v .0) [] ]
 
 module _ (W : List Word) where
   -- An element as a target is judged as in an expression: no constant and no FOR variable is an array.
@@ -224,7 +219,7 @@ module _ (W : List Word) where
   -- The arguments' own faults, and "13: wrong type" against the parameters that are there.
   unfoldable pub argumentFaults : Scopes → List DataType → List Expr → List Fault
   argumentFaults S ts [] = []
-  argumentFaults S [] (e ∷ es) = ofType W refused S e ++ argumentFaults S [] es
+  argumentFaults S [] (e ∷ es) = ofType W refusedPiece S e ++ argumentFaults S [] es
   argumentFaults S (t ∷ ts) (e ∷ es) = ofType W t S e ++ argumentFaults S ts es
 
   -- "12: [..] PROC for FUNC and the reverse", "14: wrong argument count: callee". What is called has to be a function if `wantsFunction`.
@@ -235,25 +230,12 @@ module _ (W : List Word) where
       elim (sig .result) [ some t ↦ fault 12 i | none ↦ faultIf (not (eqb (length (sig .parameters)) (length es))) 14 i ]
 
   unfoldable pub calleeFaults : Setting → (wantsFunction : Bool) → Meaning → ℕ → List Expr → List Fault
-  calleeFaults K f unknown i es = fault 11 i
-  calleeFaults K f (variable t r) i es = fault 12 i
-  calleeFaults K f (array t r n) i es = fault 12 i
-  calleeFaults K f (constant t r) i es = fault 12 i
-  calleeFaults K f (loop r) i es = fault 12 i
-  calleeFaults K f (routine k) i es = signatureFaults f (getD (K .routines) k noSignature) i es
-  calleeFaults K f theErrno i es = fault 12 i
-  calleeFaults K f (errorNumber n) i es = fault 12 i
+  calleeFaults K f m i es =
+      elim (routineIn m) [ none ↦ fault (wrongName m) i | some k ↦ signatureFaults f (getD (K .routines) k noSignature) i es ]
 
   -- The signature of what is called, none of its parts known where it is no routine.
   unfoldable pub signatureOf : Setting → Meaning → Signature
-  signatureOf K unknown = noSignature
-  signatureOf K (variable t r) = noSignature
-  signatureOf K (array t r n) = noSignature
-  signatureOf K (constant t r) = noSignature
-  signatureOf K (loop r) = noSignature
-  signatureOf K (routine k) = getD (K .routines) k noSignature
-  signatureOf K theErrno = noSignature
-  signatureOf K (errorNumber n) = noSignature
+  signatureOf K m = elim (routineIn m) [ none ↦ noSignature | some k ↦ getD (K .routines) k noSignature ]
 
   unfoldable pub callFaults : Setting → (wantsFunction : Bool) → Scopes → ℕ → List Expr → List Fault
   callFaults K f S i es =
@@ -268,11 +250,11 @@ module _ (W : List Word) where
   -- "RETURN with a value in PROC or without in FUNC"
   unfoldable pub returnFaults : Setting → Scopes → ℕ → Option Expr → List Fault
   returnFaults K S i none = faultIf (isSome (K .result)) 17 i
-  returnFaults K S i (some e) = elim (K .result) [ none ↦ fault 17 i ++ ofType W refused S e | some t ↦ ofType W t S e ]
+  returnFaults K S i (some e) = elim (K .result) [ none ↦ fault 17 i ++ ofType W refusedPiece S e | some t ↦ ofType W t S e ]
 
   unfoldable pub optionalNum : Scopes → Option Expr → List Fault
   optionalNum S none = []
-  optionalNum S (some e) = ofType W num S e
+  optionalNum S (some e) = ofType W aNum S e
 
   -- "17: RETRY, TRYNEXT or plain RAISE outside ERROR, `RAISE e` in it"
   unfoldable pub simpleFaults : Setting → Scopes → Simple → List Fault
@@ -285,34 +267,34 @@ module _ (W : List Word) where
   simpleFaults K S (call p es) = callFaults K false S p es
   simpleFaults K S (returns i e) = returnFaults K S i e
   simpleFaults K S (raises i none) = faultIf (not (K .inError)) 17 i
-  simpleFaults K S (raises i (some e)) = faultIf (K .inError) 17 i ++ ofType W num S e
+  simpleFaults K S (raises i (some e)) = faultIf (K .inError) 17 i ++ ofType W aNum S e
   simpleFaults K S (exits i) = []
   simpleFaults K S (retries i) = faultIf (not (K .inError)) 17 i
   simpleFaults K S (triesNext i) = faultIf (not (K .inError)) 17 i
   simpleFaults K S (writes i s e) = optionalNum S e
-  simpleFaults K S (reads i t s) = wanted num (t .name) (judgeTarget S t)
+  simpleFaults K S (reads i t s) = wanted aNum (t .name) (judgeTarget S t)
 
   -- "Constant expressions hold literals and constants": CASE values, which read the words that constants start with.
   unfoldable pub caseFaults : Scopes → Memory → List Expr → List Fault
   caseFaults S M [] = []
-  caseFaults S M (e ∷ es) = constantFaults W raisesError num S M e ++ caseFaults S M es
+  caseFaults S M (e ∷ es) = constantFaults W raisesError aNum S M e ++ caseFaults S M es
 
   -- The faults of statements, of which the routine has used n words before.
   module _ (K : Setting) (M : Memory) where
     unfoldable mutual
       pub statementFaults : Statement → Scopes → ℕ → List Fault
       statementFaults (simple s) S n = simpleFaults K S s
-      statementFaults (compactIf i e s) S n = ofType W bool S e ++ simpleFaults K S s
+      statementFaults (compactIf i e s) S n = ofType W aBool S e ++ simpleFaults K S s
       statementFaults (fullIf i a o) S n = armFaults a S n ++ listFaults o S (n + forsInArms a)
       statementFaults (for i v a b c body end) S n =
           faultIf (cannotDeclare [] (spelled W v)) 10 v
           ++ faultIf (crosses routineWordLimit n 1) 16 v
-          ++ ofType W num S a
-          ++ ofType W num S b
+          ++ ofType W aNum S a
+          ++ ofType W aNum S b
           ++ optionalNum S c
           ++ listFaults body (enter (spelled W v) (ofRoutine n) S) (suc n)
-      statementFaults (while i e body) S n = ofType W bool S e ++ listFaults body S n
-      statementFaults (test i e c d) S n = ofType W num S e ++ casesFaults c S n ++ listFaults d S (n + forsInCases c)
+      statementFaults (while i e body) S n = ofType W aBool S e ++ listFaults body S n
+      statementFaults (test i e c d) S n = ofType W aNum S e ++ casesFaults c S n ++ listFaults d S (n + forsInCases c)
 
       pub listFaults : Statements → Scopes → ℕ → List Fault
       listFaults empty S n = []
@@ -320,7 +302,7 @@ module _ (W : List Word) where
 
       pub armFaults : Arms → Scopes → ℕ → List Fault
       armFaults noArm S n = []
-      armFaults (arm e b r) S n = ofType W bool S e ++ listFaults b S n ++ armFaults r S (n + forsInList b)
+      armFaults (arm e b r) S n = ofType W aBool S e ++ listFaults b S n ++ armFaults r S (n + forsInList b)
 
       pub casesFaults : Cases → Scopes → ℕ → List Fault
       casesFaults noCase S n = []
@@ -336,7 +318,7 @@ module _ (W : List Word) where
   routineFaults m sigs k r =
       let D = routineData W m r in
       let S = routineScopes W m r in
-      let M = routineFilling W m .memory (D .words) in
+      let M = routineFilling W m .memoryWith (D .words) in
       let K : Setting = record { routines = sigs; result = resultOf W k (r .result); inError = false } in
       D .faults
       ++ listFaults K M (r .statements) S (length (D .words))
@@ -357,16 +339,9 @@ module _ (W : List Word) where
   unfoldable pub isMain : Signature → Bool
   isMain sig = elim (sig .result) [ some t ↦ false | none ↦ eqb (length (sig .parameters)) 0 ]
 
-  unfoldable pub mainIn : List Signature → Meaning → Option ℕ
-  mainIn sigs unknown = none
-  mainIn sigs (variable t r) = none
-  mainIn sigs (array t r n) = none
-  mainIn sigs (constant t r) = none
-  mainIn sigs (loop r) = none
-  mainIn sigs (routine k) =
-      if isMain (getD sigs k noSignature) then some k else none
-  mainIn sigs theErrno = none
-  mainIn sigs (errorNumber n) = none
+  unfoldable pub mainIn : List Signature → Option ℕ → Option ℕ
+  mainIn sigs none = none
+  mainIn sigs (some k) = if isMain (getD sigs k noSignature) then some k else none
 
   unfoldable pub mainOf : Module → Option ℕ
-  mainOf m = mainIn (signatures W m 0 (m .routines)) (meaning (moduleScopes W m) (bytes "MAIN"))
+  mainOf m = mainIn (signatures W m 0 (m .routines)) (routineIn (meaning (moduleScopes W m) (bytes "MAIN")))

@@ -1,4 +1,4 @@
--- The paper as definitions, in its order.
+-- The paper as definitions, in its order, but that numbers and the worth of expressions stand before names: constant expressions need them.
 pub mod Basics
 pub mod Sorts
 pub mod Words

@@ -2,25 +2,24 @@
 use mathlib.Core.Bool.{Bool, true, false, _||_}
 use mathlib.Core.List.{List, [], _∷_, _++_, map}
 use mathlib.Core.Option.{Option, none, some}
-use Prim.Native.Nat.{ℕ, zero, suc, _+_}
-use Prim.Native.String.{String}
+use Prim.Native.Nat.{ℕ, _+_}
 use lib.Dec.{eqb}
 use lib.ListN.{getD}
-use lib.IntN.{ℤ, pos}
+use lib.IntN.{pos}
 use Rattle.paper.specs.Basics.{if_then_else_}
 use Rattle.paper.specs.Sorts.{bytes, folded, equalTexts, NOTHING, NUMBER, TRUE, FALSE, NUM}
 use Rattle.paper.specs.Words.{Word}
 use Rattle.paper.specs.Numbers.{overflow, divZero, outOfBound, illRaise}
-use Rattle.paper.specs.Terms.{Ref, ofModule, ofRoutine, Term, literal, errno, word, element, before, between}
+use Rattle.paper.specs.Terms.{Ref, Term, literal, errno, word, element, unary, binary}
 use Rattle.paper.specs.Trees.{Expr, leaf, element as elementOf, nested, signed, joined}
 
 -- The types, and a third for "a refused piece".
 pub data DataType : Type 0 where
-  num bool refused : DataType
+  aNum aBool refusedPiece : DataType
 
 -- A type by the sort of its word.
 unfoldable pub typeOf : (sort : ℕ) → DataType
-typeOf s = if eqb s NUM then num else bool
+typeOf s = if eqb s NUM then aNum else aBool
 
 -- What a name means.
 pub data Meaning : Type 0 where
@@ -36,6 +35,49 @@ pub data Meaning : Type 0 where
   theErrno : Meaning
   -- an ERR_ name
   errorNumber : ℕ → Meaning
+
+-- ---- what a place may ask of a name
+unfoldable pub routineIn : Meaning → Option ℕ
+routineIn unknown = none
+routineIn (variable t r) = none
+routineIn (array t r n) = none
+routineIn (constant t r) = none
+routineIn (loop r) = none
+routineIn (routine k) = some k
+routineIn theErrno = none
+routineIn (errorNumber n) = none
+
+unfoldable pub arrayIn : Meaning → Option (DataType × Ref × ℕ)
+arrayIn unknown = none
+arrayIn (variable t r) = none
+arrayIn (array t r n) = some (t, r, n)
+arrayIn (constant t r) = none
+arrayIn (loop r) = none
+arrayIn (routine k) = none
+arrayIn theErrno = none
+arrayIn (errorNumber n) = none
+
+-- A scalar that can be a target: "ERRNO, constants and FOR variables cannot be targets."
+unfoldable pub variableIn : Meaning → Option (DataType × Ref)
+variableIn unknown = none
+variableIn (variable t r) = some (t, r)
+variableIn (array t r n) = none
+variableIn (constant t r) = none
+variableIn (loop r) = none
+variableIn (routine k) = none
+variableIn theErrno = none
+variableIn (errorNumber n) = none
+
+-- The rule that a name breaks where it is not what the place asks: "11: unknown name", "12: name of wrong kind".
+unfoldable pub wrongName : Meaning → ℕ
+wrongName unknown = 11
+wrongName (variable t r) = 12
+wrongName (array t r n) = 12
+wrongName (constant t r) = 12
+wrongName (loop r) = 12
+wrongName (routine k) = 12
+wrongName theErrno = 12
+wrongName (errorNumber n) = 12
 
 -- ---- words
 unfoldable pub noWord : Word
@@ -111,15 +153,9 @@ termOfName (routine k) = literal (pos 0)
 termOfName theErrno = errno
 termOfName (errorNumber n) = literal (pos n)
 
-unfoldable pub termOfElement : Meaning → Term → Term
-termOfElement unknown e = e
-termOfElement (variable t r) e = e
-termOfElement (array t r n) e = element r n e
-termOfElement (constant t r) e = e
-termOfElement (loop r) e = e
-termOfElement (routine k) e = e
-termOfElement theErrno e = e
-termOfElement (errorNumber n) e = e
+unfoldable pub termOfElement : Option (DataType × Ref × ℕ) → Term → Term
+termOfElement none e = e
+termOfElement (some a) e = element (a .1) (a .2) e
 
 module _ (W : List Word) where
   unfoldable pub termOfLeaf : Scopes → ℕ → Term
@@ -131,7 +167,7 @@ module _ (W : List Word) where
 
   unfoldable pub termOf : Scopes → Expr → Term
   termOf S (leaf i) = termOfLeaf S i
-  termOf S (elementOf i e) = termOfElement (meaning S (spelled W i)) (termOf S e)
+  termOf S (elementOf i e) = termOfElement (arrayIn (meaning S (spelled W i))) (termOf S e)
   termOf S (nested i e) = termOf S e
-  termOf S (signed i e) = before (sortIn W i) (termOf S e)
-  termOf S (joined i a b) = between (sortIn W i) (termOf S a) (termOf S b)
+  termOf S (signed i e) = unary (sortIn W i) (termOf S e)
+  termOf S (joined i a b) = binary (sortIn W i) (termOf S a) (termOf S b)

@@ -1,5 +1,5 @@
 -- The paper, "Running": one step of a module, and a run of it.
-use mathlib.Core.Bool.{Bool, true, false, not, _||_, _&&_}
+use mathlib.Core.Bool.{Bool, true, false, not, _||_}
 use mathlib.Core.List.{List, [], _∷_, _++_}
 use mathlib.Core.Option.{Option, none, some}
 use Prim.Native.Nat.{ℕ, zero, suc, _+_}
@@ -9,7 +9,7 @@ use lib.IntN.{ℤ, pos, natAbs, _+ℤ_}
 use lib.Signed.{ltZ}
 use Rattle.paper.specs.Basics.{if_then_else_}
 use Rattle.paper.specs.Numbers.{num, Value, value, error, ranged, isZero, same, decimal, illRaise}
-use Rattle.paper.specs.Terms.{Ref, ofModule, ofRoutine, Term, Memory, Located, at, fails, locate, load, worth}
+use Rattle.paper.specs.Terms.{Ref, ofModule, ofRoutine, Term, Memory, at, fails, locate, load, worth}
 use Rattle.paper.specs.Steps.{Spot, scalar, elementOf, Action, store, callFor, callOf, giveBack, raise, handOn, exit, retry, tryNext, write, read, choose, select, testWhile, enterFor, repeatFor, endList, Step, Code, Program}
 
 -- ---- the state of a run
@@ -173,13 +173,17 @@ returning P c [] v s = ending 1 s
 returning P c (d ∷ r) v s = made (storeResult (c .result) v (withCalls (resume P d ∷ r) s))
 
 -- ---- errors
+-- The routine begins its ERROR list, whose first step is h. "For a caller the failed statement is the call".
+unfoldable pub takes : (handler : ℕ) → Call → Call
+takes h c = goTo h (setFailed (some (c .next)) c)
+
 -- "An error goes to the nearest routine up the call chain [..] that has an ERROR list; those below are dropped. If that routine is in its ERROR list, or none is found, the run dies."
 unfoldable pub caught : Program → List Call → Option (List Call)
 caught P [] = none
 caught P (c ∷ r) =
     elim (codeAt P (c .routine) .handler) [
       | none ↦ caught P r
-      | some h ↦ elim (c .failed) [ none ↦ some (goTo h (setFailed (some (c .next)) c) ∷ r) | some f ↦ none ]
+      | some h ↦ elim (c .failed) [ none ↦ some (takes h c ∷ r) | some f ↦ none ]
     ]
 
 -- "RETRY begins the failed statement of this routine again; TRYNEXT goes to the one after it."
@@ -286,10 +290,19 @@ perform P R c r place after (enterFor v k a b d body) s = entering (memoryOf s c
 perform P R c r place after (repeatFor v k body) s = repeating (memoryOf s c) c v k body after s
 perform P R c r place after endList s = ending-list P c r s
 
--- A run goes on, or has ended: the ending's number, the word that it is at, and the state that is left.
+-- A run has ended: the ending's number, the word that it is at, and the state that is left.
+pub record Ended : Type 0 where
+  pub ending : ℕ
+  pub place : ℕ
+  pub state : State
+
+-- After a step the run goes on, or has ended.
 pub data Outcome : Type 0 where
   goesOn : State → Outcome
-  ended : (ending place : ℕ) → State → Outcome
+  stopped : Ended → Outcome
+
+abbrev pub ended : (ending place : ℕ) → State → Outcome
+ended e place s = stopped (record { ending = e; place = place; state = s })
 
 -- An error has arisen at a word; these calls may take it. "3: error unhandled: statement it arose in"
 unfoldable pub arising : Program → (error place : ℕ) → List Call → State → Outcome
@@ -319,10 +332,9 @@ nextPlace P s = elim (s .calls) [ [] ↦ 0 | c ∷ r ↦ nextStep P c .place ]
 
 -- ---- a run
 -- "5: steps spent: the next step's place"; "5 is tested before a step"
-unfoldable pub run : Program → Rooms → (steps : ℕ) → State → Outcome
-run P R zero s = ended 5 (nextPlace P s) s
-run P R (suc n) s =
-    elim (takeStep P R s) [ goesOn s′ ↦ run P R n s′ | ended e place s′ ↦ ended e place s′ ]
+unfoldable pub run : Program → Rooms → (steps : ℕ) → State → Ended
+run P R zero s = record { ending = 5; place = nextPlace P s; state = s }
+run P R (suc n) s = elim (takeStep P R s) [ goesOn s′ ↦ run P R n s′ | stopped e ↦ e ]
 
 -- "main has depth 1."
 unfoldable pub started : Program → (main : ℕ) → State

@@ -3,17 +3,17 @@
 use mathlib.Core.Bool.{Bool, true, false}
 use mathlib.Core.List.{List, [], _∷_, _++_, map}
 use mathlib.Core.Option.{Option, none, some}
-use Prim.Native.Nat.{ℕ, zero, suc, _+_, _-_}
+use Prim.Native.Nat.{ℕ, suc, _+_, _-_}
 use lib.Dec.{eqb}
 use lib.ListN.{length, take, drop, replicate}
 use lib.IntN.{ℤ, pos}
 use Rattle.paper.specs.Words.{Word}
 use Rattle.paper.specs.Terms.{Ref, ofModule, ofRoutine, Term, literal, Memory}
-use Rattle.paper.specs.Trees.{Expr, first, Target, Simple, firstSimple, assign, assignCall, call, returns, raises, exits, retries, triesNext, writes, reads, Statement, Statements, Arms, Cases, simple, compactIf, fullIf, for, while, test, empty, _then_, noArm, arm, noCase, case}
-use Rattle.paper.specs.Trees.{Handler, Routine, Module}
-use Rattle.paper.specs.Names.{Meaning, unknown, variable, array, constant, loop, routine, theErrno, errorNumber, Scopes, nth, spelled, meaning, enter, termOf}
+use Rattle.paper.specs.Trees.{Expr, Target, Simple, firstSimple, assign, assignCall, call, returns, raises, exits, retries, triesNext, writes, reads, Statement, Statements, Arms, Cases, simple, compactIf, fullIf, for, while, test, empty, _then_, noArm, arm, noCase, case}
+use Rattle.paper.specs.Trees.{Routine, Module}
+use Rattle.paper.specs.Names.{DataType, routineIn, arrayIn, variableIn, Scopes, nth, spelled, meaning, enter, termOf}
 use Rattle.paper.specs.Types.{constantValue}
-use Rattle.paper.specs.Checks.{Data, moduleData, routineData, routineScopes, routineFilling, forsIn, forsInList, forsInArms, forsInCases, isSome}
+use Rattle.paper.specs.Checks.{moduleData, routineData, routineScopes, routineFilling, forsIn, forsInList, forsInArms, forsInCases, isSome}
 
 -- Where a value goes: a word, or the element of an array.
 pub data Spot : Type 0 where
@@ -81,46 +81,29 @@ unquoted (b ∷ c ∷ r) = elim (eqb b 34) [ true ↦ b ∷ unquoted r | false �
 abbrev pub errorLoops : ℕ
 errorLoops = 16
 
+-- A target; what a refused one stands for does not matter.
+unfoldable pub spotOfVariable : Option (DataType × Ref) → Spot
+spotOfVariable none = scalar (ofModule 0)
+spotOfVariable (some v) = scalar (v .1)
+
+unfoldable pub spotOfElement : Option (DataType × Ref × ℕ) → Term → Spot
+spotOfElement none e = scalar (ofModule 0)
+spotOfElement (some a) e = elementOf (a .1) (a .2) e
+
+unfoldable pub routineOf : Option ℕ → ℕ
+routineOf none = 0
+routineOf (some k) = k
+
 module _ (W : List Word) where
   unfoldable pub characters : ℕ → List ℕ
   characters i = unquoted (take (nth W i .length - 2) (drop 1 (nth W i .covers)))
 
-  unfoldable pub spotOfName : Meaning → Spot
-  spotOfName unknown = scalar (ofModule 0)
-  spotOfName (variable t r) = scalar r
-  spotOfName (array t r n) = scalar r
-  spotOfName (constant t r) = scalar r
-  spotOfName (loop r) = scalar r
-  spotOfName (routine k) = scalar (ofModule 0)
-  spotOfName theErrno = scalar (ofModule 0)
-  spotOfName (errorNumber n) = scalar (ofModule 0)
-
-  unfoldable pub spotOfElement : Meaning → Term → Spot
-  spotOfElement unknown e = scalar (ofModule 0)
-  spotOfElement (variable t r) e = scalar r
-  spotOfElement (array t r n) e = elementOf r n e
-  spotOfElement (constant t r) e = scalar r
-  spotOfElement (loop r) e = scalar r
-  spotOfElement (routine k) e = scalar (ofModule 0)
-  spotOfElement theErrno e = scalar (ofModule 0)
-  spotOfElement (errorNumber n) e = scalar (ofModule 0)
-
   unfoldable pub spotOf : Scopes → Target → Spot
   spotOf S t =
       elim (t .index) [
-        | none ↦ spotOfName (meaning S (spelled W (t .name)))
-        | some e ↦ spotOfElement (meaning S (spelled W (t .name))) (termOf W S e)
+        | none ↦ spotOfVariable (variableIn (meaning S (spelled W (t .name))))
+        | some e ↦ spotOfElement (arrayIn (meaning S (spelled W (t .name)))) (termOf W S e)
       ]
-
-  unfoldable pub routineOf : Meaning → ℕ
-  routineOf unknown = 0
-  routineOf (variable t r) = 0
-  routineOf (array t r n) = 0
-  routineOf (constant t r) = 0
-  routineOf (loop r) = 0
-  routineOf (routine k) = k
-  routineOf theErrno = 0
-  routineOf (errorNumber n) = 0
 
   unfoldable pub optionalTerm : Scopes → Option Expr → Option Term
   optionalTerm S none = none
@@ -129,8 +112,8 @@ module _ (W : List Word) where
   -- ---- simple statements
   unfoldable pub actionOf : Scopes → Simple → Action
   actionOf S (assign t e) = store (spotOf S t) (termOf W S e)
-  actionOf S (assignCall t f es) = callFor (spotOf S t) f (routineOf (meaning S (spelled W f))) (map (termOf W S) es)
-  actionOf S (call p es) = callOf p (routineOf (meaning S (spelled W p))) (map (termOf W S) es)
+  actionOf S (assignCall t f es) = callFor (spotOf S t) f (routineOf (routineIn (meaning S (spelled W f)))) (map (termOf W S) es)
+  actionOf S (call p es) = callOf p (routineOf (routineIn (meaning S (spelled W p)))) (map (termOf W S) es)
   actionOf S (returns i e) = giveBack (optionalTerm S e)
   actionOf S (raises i none) = handOn
   actionOf S (raises i (some e)) = raise (termOf W S e)
@@ -228,7 +211,7 @@ module _ (W : List Word) where
   codeOf m r =
       let D = routineData W m r in
       let S = routineScopes W m r in
-      let M = routineFilling W m .memory (D .words) in
+      let M = routineFilling W m .memoryWith (D .words) in
       let n = length (D .words) in
       record {
         function = isSome (r .result);

@@ -26,8 +26,8 @@ pub data Term : Type 0 where
   errno : Term
   word : Ref → Term
   element : Ref → (size : ℕ) → (index : Term) → Term
-  before : (operator : ℕ) → Term → Term
-  between : (operator : ℕ) → (left right : Term) → Term
+  unary : (operator : ℕ) → Term → Term
+  binary : (operator : ℕ) → (left right : Term) → Term
 
 -- What an expression can read.
 pub record Memory : Type 0 where
@@ -104,6 +104,6 @@ worth M (literal z) = value z
 worth M errno = value (pos (M .error-number))
 worth M (word r) = value (load M r)
 worth M (element r n e) = loadFrom M (locate r n (worth M e))
-worth M (before op e) = applied op (worth M e)
-worth M (between op a b) =
+worth M (unary op e) = applied op (worth M e)
+worth M (binary op a b) =
     elim (known op (worth M a)) [ true ↦ worth M a | false ↦ combined op (worth M a) (worth M b) ]

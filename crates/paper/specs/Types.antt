@@ -2,7 +2,7 @@
 use mathlib.Core.Bool.{Bool, true, false, _||_}
 use mathlib.Core.List.{List, [], _∷_, _++_}
 use mathlib.Core.Option.{Option, none, some}
-use Prim.Native.Nat.{ℕ, zero, suc, _+_, _-_}
+use Prim.Native.Nat.{ℕ, _+_}
 use lib.Dec.{eqb, ltb, leb}
 use lib.IntN.{ℤ, pos, natAbs}
 use lib.Signed.{ltZ}
@@ -10,10 +10,10 @@ use Rattle.paper.specs.Basics.{if_then_else_}
 use Rattle.paper.specs.Sorts.{NUMBER, TRUE, FALSE, NOT, equal, unequal}
 use Rattle.paper.specs.Words.{Word}
 use Rattle.paper.specs.Numbers.{Value, value, error}
-use Rattle.paper.specs.Terms.{Ref, Memory, worth}
+use Rattle.paper.specs.Terms.{Memory, worth}
 use Rattle.paper.specs.Trees.{Expr, leaf, element, nested, signed, joined, first}
 use Rattle.paper.specs.Form.{levelOf}
-use Rattle.paper.specs.Names.{DataType, num, bool, refused, Meaning, unknown, variable, array, constant, loop, routine, theErrno, errorNumber, Scopes, sortIn, spelled, meaning, termOf}
+use Rattle.paper.specs.Names.{DataType, aNum, aBool, refusedPiece, Meaning, unknown, variable, array, constant, loop, routine, theErrno, errorNumber, arrayIn, wrongName, Scopes, sortIn, spelled, meaning, termOf}
 
 -- A rule broken, and the index of the word where it is.
 pub record Fault : Type 0 where
@@ -39,26 +39,27 @@ unfoldable pub least : List Fault → Option Fault
 least [] = none
 least (a ∷ r) = some (leastOf a r)
 
--- A piece of the module: its type, and the faults in it. "an expression, but not a call, that holds one counts as refused"
+-- A piece of the module: its type, and the faults in it. Any fault makes it a refused piece, and what holds it another: "an expression, but not a call, that
+-- holds one counts as refused".
 pub record Judged : Type 0 where
   pub type : DataType
   pub faults : List Fault
 
 unfoldable pub judged : DataType → List Fault → Judged
 judged t [] = record { type = t; faults = [] }
-judged t (f ∷ r) = record { type = refused; faults = f ∷ r }
+judged t (f ∷ r) = record { type = refusedPiece; faults = f ∷ r }
 
--- "A rule needing the type, size or value of a refused piece isn't applied"
+-- Two types differ if one is num and the other bool: "A rule needing the type, size or value of a refused piece isn't applied".
 unfoldable pub differs : DataType → DataType → Bool
-differs num num = false
-differs num bool = true
-differs num refused = false
-differs bool num = true
-differs bool bool = false
-differs bool refused = false
-differs refused num = false
-differs refused bool = false
-differs refused refused = false
+differs aNum aBool = true
+differs aBool aNum = true
+differs aNum aNum = false
+differs aNum refusedPiece = false
+differs aBool aBool = false
+differs aBool refusedPiece = false
+differs refusedPiece aNum = false
+differs refusedPiece aBool = false
+differs refusedPiece refusedPiece = false
 
 -- "13: wrong type: the expression's or target's first word"
 unfoldable pub wanted : DataType → (at : ℕ) → Judged → List Fault
@@ -67,34 +68,31 @@ wanted t i j = j .faults ++ faultIf (differs t (j .type)) 13 i
 -- ---- names
 -- "12: name of wrong kind: array without index, [..] variable (ERRNO, FOR's too) in a constant expression, routine for data"
 unfoldable pub judgeName : (constantOnly : Bool) → Meaning → ℕ → Judged
-judgeName c unknown i = judged refused (fault 11 i)
+judgeName c unknown i = judged refusedPiece (fault 11 i)
 judgeName c (variable t r) i = judged t (faultIf c 12 i)
 judgeName c (array t r n) i = judged t (fault 12 i)
 judgeName c (constant t r) i = judged t []
-judgeName c (loop r) i = judged num (faultIf c 12 i)
-judgeName c (routine k) i = judged refused (fault 12 i)
-judgeName c theErrno i = judged num (faultIf c 12 i)
-judgeName c (errorNumber n) i = judged num []
+judgeName c (loop r) i = judged aNum (faultIf c 12 i)
+judgeName c (routine k) i = judged refusedPiece (fault 12 i)
+judgeName c theErrno i = judged aNum (faultIf c 12 i)
+judgeName c (errorNumber n) i = judged aNum []
 
 -- "12: [..] index on a scalar"; "indices [..] take num". `e` is the index.
 unfoldable pub judgeElement : (constantOnly : Bool) → Meaning → ℕ → Expr → Judged → Judged
-judgeElement c unknown i e j = judged refused (fault 11 i ++ j .faults)
-judgeElement c (variable t r) i e j = judged refused (fault 12 i ++ j .faults)
-judgeElement c (array t r n) i e j = judged t (faultIf c 12 i ++ wanted num (first e) j)
-judgeElement c (constant t r) i e j = judged refused (fault 12 i ++ j .faults)
-judgeElement c (loop r) i e j = judged refused (fault 12 i ++ j .faults)
-judgeElement c (routine k) i e j = judged refused (fault 12 i ++ j .faults)
-judgeElement c theErrno i e j = judged refused (fault 12 i ++ j .faults)
-judgeElement c (errorNumber n) i e j = judged refused (fault 12 i ++ j .faults)
+judgeElement c m i e j =
+    elim (arrayIn m) [
+      | none ↦ judged refusedPiece (fault (wrongName m) i ++ j .faults)
+      | some a ↦ judged (a .0) (faultIf c 12 i ++ wanted aNum (first e) j)
+    ]
 
 -- ---- operators
 -- "+ - * DIV MOD < <= > >= take num; = and <> take two of one type, else the right one is wrong; NOT AND OR XOR and conditions take bool"
 unfoldable pub judgeJoined : (operator : ℕ) → (a b : Expr) → Judged → Judged → Judged
 judgeJoined op a b ja jb =
-    if eqb op equal || eqb op unequal then judged bool (ja .faults ++ wanted (ja .type) (first b) jb)
-    else if leb 4 (levelOf op) then judged bool (wanted bool (first a) ja ++ wanted bool (first b) jb)
-    else if eqb (levelOf op) 3 then judged bool (wanted num (first a) ja ++ wanted num (first b) jb)
-    else judged num (wanted num (first a) ja ++ wanted num (first b) jb)
+    if eqb op equal || eqb op unequal then judged aBool (ja .faults ++ wanted (ja .type) (first b) jb)
+    else if leb 4 (levelOf op) then judged aBool (wanted aBool (first a) ja ++ wanted aBool (first b) jb)
+    else if eqb (levelOf op) 3 then judged aBool (wanted aNum (first a) ja ++ wanted aNum (first b) jb)
+    else judged aNum (wanted aNum (first a) ja ++ wanted aNum (first b) jb)
 
 -- ---- constant expressions: what one is worth, or nothing where it is refused
 unfoldable pub raisesError : Option Value → Bool
@@ -102,7 +100,7 @@ raisesError none = false
 raisesError (some (value z)) = false
 raisesError (some (error n)) = true
 
--- "array size outside 1..512"
+-- "size outside 1..512"
 unfoldable pub isNoSize : Option Value → Bool
 isNoSize none = false
 isNoSize (some (error n)) = true
@@ -117,8 +115,8 @@ valueOr0 (some (error n)) = pos 0
 module _ (W : List Word) where
   unfoldable pub judgeLeaf : (constantOnly : Bool) → Scopes → ℕ → Judged
   judgeLeaf c S i =
-      if eqb (sortIn W i) NUMBER then judged num []
-      else if eqb (sortIn W i) TRUE || eqb (sortIn W i) FALSE then judged bool []
+      if eqb (sortIn W i) NUMBER then judged aNum []
+      else if eqb (sortIn W i) TRUE || eqb (sortIn W i) FALSE then judged aBool []
       else judgeName c (meaning S (spelled W i)) i
 
   unfoldable pub judge : (constantOnly : Bool) → Scopes → Expr → Judged
@@ -127,8 +125,8 @@ module _ (W : List Word) where
   judge c S (nested i e) = judge c S e
   judge c S (signed i e) =
       elim (eqb (sortIn W i) NOT) [
-        | true ↦ judged bool (wanted bool (first e) (judge c S e))
-        | false ↦ judged num (wanted num (first e) (judge c S e))
+        | true ↦ judged aBool (wanted aBool (first e) (judge c S e))
+        | false ↦ judged aNum (wanted aNum (first e) (judge c S e))
       ]
   judge c S (joined i a b) = judgeJoined (sortIn W i) a b (judge c S a) (judge c S b)
 
@@ -148,4 +146,4 @@ module _ (W : List Word) where
 
   -- The size of an array: 0 where it is refused.
   unfoldable pub sizeOf : Scopes → Memory → Expr → ℕ
-  sizeOf S M e = elim (constantFaults isNoSize num S M e) [ [] ↦ natAbs (constantValue S M e) | f ∷ r ↦ 0 ]
+  sizeOf S M e = elim (constantFaults isNoSize aNum S M e) [ [] ↦ natAbs (constantValue S M e) | f ∷ r ↦ 0 ]

@@ -1,11 +1,11 @@
 -- The paper, "From bytes to words". A text is the list of its bytes.
-use mathlib.Core.Bool.{Bool, true, false, not, _||_}
+use mathlib.Core.Bool.{Bool, true, false, _||_}
 use mathlib.Core.List.{List, [], _∷_, map}
 use mathlib.Core.Option.{Option, none, some}
 use Prim.Native.Nat.{ℕ, zero, suc, _+_, _*_, _-_}
 use lib.Dec.{eqb, ltb, leb}
 use lib.ListN.{length, getD, take, drop}
-use Rattle.paper.specs.Sorts.{bytes, folded, signSort, nameSort, NAME, NUMBER, STRING, firstSign, firstReserved}
+use Rattle.paper.specs.Sorts.{bytes, folded, signSort, nameSort, NUMBER, STRING, firstSign, firstReserved}
 
 -- "Text is at most 32,768 bytes."
 abbrev pub textLimit : ℕ
@@ -86,7 +86,8 @@ scanNumber l =
 
 -- "String: between `"`, at most 80 characters, `""` meaning one quote and counting once; no CR or LF, no backslash."
 -- What follows the first n bytes of a string: `room` more characters may come, and `quoted` says that the byte before was a quote, which
--- closes the string unless a second one follows. The string's length, or nothing: then it is malformed.
+-- closes the string unless a second one follows: in "a""b" the second quote is such a byte, the third makes the two one character, and the last one closes.
+-- The string's length, or nothing: then it is malformed.
 unfoldable pub stringEnd : (room : ℕ) → (quoted : Bool) → List ℕ → (n : ℕ) → Option ℕ
 stringEnd room true [] n = some n
 stringEnd room false [] n = none

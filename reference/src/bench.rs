@@ -1,0 +1,75 @@
+//! The whole call: refusals in their order, then the run.
+
+use crate::form::form;
+use crate::names::settle;
+use crate::run::{run, Allowance};
+use crate::scan::{list, Refusal};
+
+const STORE_WORDS: u64 = 16_384;
+const DEEPEST: u32 = 64;
+
+/// What a call is lent.
+pub struct Lent {
+    pub text: Vec<u8>,
+    pub steps: u32,
+    pub depth: u32,
+    pub inputs: Vec<i32>,
+    pub output_room: u64,
+    pub code_words: u64,
+    pub value_words: u64,
+}
+
+/// The record, what was written and the module's words.
+#[derive(Debug, Default, PartialEq, Eq)]
+pub struct Answer {
+    pub ending: u32,
+    pub refusal: u32,
+    pub offset: usize,
+    pub steps: u32,
+    pub errno: i64,
+    pub inputs_used: usize,
+    pub output: Vec<u8>,
+    pub words: Vec<i64>,
+}
+
+pub fn answer(lent: &Lent) -> Answer {
+    accepted(lent).unwrap_or_else(|refusal| Answer {
+        refusal: refusal.number,
+        offset: refusal.place,
+        ..Answer::default()
+    })
+}
+
+/// The answer of an accepted call, or what it is refused for.
+fn accepted(lent: &Lent) -> Result<Answer, Refusal> {
+    let refuse = |number| Err(Refusal { place: 0, number });
+    if lent.code_words.min(lent.value_words) < STORE_WORDS {
+        return refuse(1);
+    }
+    if !(1..=DEEPEST).contains(&lent.depth) {
+        return refuse(2);
+    }
+    let listing = list(&lent.text);
+    if let Some(refusal) = listing.refusal {
+        return Err(refusal);
+    }
+    let mut module = form(&lent.text, &listing.words)?;
+    let main = settle(&mut module)?;
+    let allowance = Allowance {
+        steps: lent.steps,
+        depth: lent.depth,
+        inputs: &lent.inputs,
+        output_room: lent.output_room,
+    };
+    let run = run(&module, main, &allowance);
+    Ok(Answer {
+        ending: run.ending,
+        refusal: 0,
+        offset: run.place,
+        steps: run.steps,
+        errno: run.errno,
+        inputs_used: run.inputs_used,
+        output: run.output,
+        words: run.words,
+    })
+}

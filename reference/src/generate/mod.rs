@@ -1,0 +1,253 @@
+//! Case lines, reproducible from a seed.
+
+mod author;
+mod chains;
+mod damage;
+mod layout;
+mod limits;
+mod phrases;
+mod random;
+mod statements;
+
+use crate::bench::Lent;
+use crate::lines::{show_bytes, show_run};
+use crate::scan::list;
+use layout::{write_out, Token};
+use random::Random;
+
+const STORE_WORDS: u64 = 16_384;
+
+#[derive(Clone, Copy, PartialEq, Eq)]
+pub enum Kind {
+    Valid,
+    Mistyped,
+    Words,
+    Bytes,
+    Limits,
+    Listing,
+    All,
+}
+
+impl Kind {
+    pub fn named(name: &str) -> Option<Self> {
+        Some(match name {
+            "valid" => Kind::Valid,
+            "mistyped" => Kind::Mistyped,
+            "words" => Kind::Words,
+            "bytes" => Kind::Bytes,
+            "limits" => Kind::Limits,
+            "listing" => Kind::Listing,
+            "all" => Kind::All,
+            _ => return None,
+        })
+    }
+}
+
+/// Short texts are also worked out by slower means, long ones go to the limits.
+#[derive(Clone, Copy, PartialEq, Eq)]
+pub enum Size {
+    Short,
+    Long,
+}
+
+impl Size {
+    pub fn named(name: &str) -> Option<Self> {
+        match name {
+            "short" => Some(Size::Short),
+            "long" => Some(Size::Long),
+            _ => None,
+        }
+    }
+
+    /// About how many bytes a module gets.
+    fn goal(self, random: &mut Random) -> usize {
+        match self {
+            Size::Short => random.between(80, 240),
+            Size::Long if random.chance(70) => random.between(300, 3_000),
+            Size::Long => random.between(3_000, 24_000),
+        }
+    }
+}
+
+/// The lines of one seed, without end.
+pub struct Cases {
+    random: Random,
+    number: usize,
+    kind: Kind,
+    size: Size,
+}
+
+impl Cases {
+    pub fn new(seed: u64, kind: Kind, size: Size) -> Self {
+        Cases {
+            random: Random::new(seed),
+            number: 0,
+            kind,
+            size,
+        }
+    }
+}
+
+impl Iterator for Cases {
+    type Item = String;
+
+    fn next(&mut self) -> Option<String> {
+        self.number += 1;
+        // Rules 3 and 7 need longer texts than the short ones; a few come in all mixes.
+        let long_case: Option<fn(&mut Random) -> Lent> = match (self.kind, self.number % 500) {
+            (Kind::All, 100) => Some(limits::too_long),
+            (Kind::All, 200) => Some(limits::too_many_words),
+            (Kind::All, 300) => Some(limits::text_length),
+            (Kind::All, 400) => Some(limits::word_count),
+            _ => None,
+        };
+        Some(match long_case {
+            Some(long_case) => show_run(&long_case(&mut self.random)),
+            None => case_line(&mut self.random, self.kind, self.size),
+        })
+    }
+}
+
+fn case_line(random: &mut Random, kind: Kind, size: Size) -> String {
+    match kind {
+        Kind::All => mixed_line(random, size),
+        Kind::Listing => listing_line(random, size),
+        Kind::Limits => show_run(&limits::limit_case(random, size)),
+        _ => {
+            let text = text_of(random, kind, size);
+            show_run(&lend(random, text))
+        }
+    }
+}
+
+fn mixed_line(random: &mut Random, size: Size) -> String {
+    const KINDS: [Kind; 6] = [
+        Kind::Valid,
+        Kind::Mistyped,
+        Kind::Words,
+        Kind::Bytes,
+        Kind::Limits,
+        Kind::Listing,
+    ];
+    let kind = KINDS[random.weighted(&[35, 22, 10, 10, 15, 8])];
+    case_line(random, kind, size)
+}
+
+/// The words of an accepted module of one sort or the other.
+fn module_words(random: &mut Random, size: Size) -> Vec<Token> {
+    if random.chance(25) {
+        return chains::chain(random);
+    }
+    let goal = size.goal(random);
+    author::module(random, goal)
+}
+
+/// The text of a module that is accepted, or damaged in the way of its kind.
+fn text_of(random: &mut Random, kind: Kind, size: Size) -> Vec<u8> {
+    let mut words = module_words(random, size);
+    match kind {
+        Kind::Mistyped => damage::mistype(random, &mut words),
+        Kind::Words => damage::damage_words(random, &mut words),
+        _ => {}
+    }
+    let mut text = write_out(random, &words);
+    if kind == Kind::Bytes {
+        damage::damage_bytes(random, &mut text);
+    }
+    text
+}
+
+/// A call for a text, with allowances that are sometimes scarce.
+fn lend(random: &mut Random, text: Vec<u8>) -> Lent {
+    let steps = match random.weighted(&[20, 50, 20, 10]) {
+        0 => random.below(20),
+        1 => random.between(20, 300),
+        2 => random.between(300, 1_000),
+        _ => 10_000,
+    };
+    let depth = match random.below(10) {
+        0 => 1,
+        1..=7 => random.between(2, 6),
+        8 => 16,
+        _ => 64,
+    };
+    let output_room = match random.below(4) {
+        0 => random.below(30),
+        1 => 64,
+        2 => 256,
+        _ => 4_096,
+    };
+    Lent {
+        text,
+        steps: steps as u32,
+        depth: depth as u32,
+        inputs: inputs(random),
+        output_room: output_room as u64,
+        code_words: STORE_WORDS,
+        value_words: STORE_WORDS + u64::from(random.chance(2)),
+    }
+}
+
+fn inputs(random: &mut Random) -> Vec<i32> {
+    let edges = [
+        8_388_608,
+        8_388_609,
+        -8_388_607,
+        -8_388_608,
+        i32::MAX,
+        i32::MIN,
+    ];
+    (0..random.below(6))
+        .map(|_| {
+            if random.chance(15) {
+                random.pick(&edges)
+            } else {
+                random.below(12) as i32 - 3
+            }
+        })
+        .collect()
+}
+
+fn listing_line(random: &mut Random, size: Size) -> String {
+    let text = match random.below(6) {
+        0 => text_of(random, Kind::Valid, size),
+        1 => text_of(random, Kind::Words, size),
+        2 => soup(random),
+        3 => limits::limit_case(random, size).text,
+        _ => text_of(random, Kind::Bytes, size),
+    };
+    if random.chance(50) {
+        return format!("list {}", show_bytes(&text));
+    }
+    let place = place_to_ask(random, &text);
+    format!("at {} {place}", show_bytes(&text))
+}
+
+/// Words and bytes in no order.
+fn soup(random: &mut Random) -> Vec<u8> {
+    let words: Vec<Token> = (0..random.between(1, 20))
+        .map(|_| damage::any_word(random))
+        .collect();
+    let mut text = write_out(random, &words);
+    for _ in 0..random.below(4) {
+        damage::damage_bytes(random, &mut text);
+    }
+    text
+}
+
+/// A word's start, a place near it, near the refusal, or any.
+fn place_to_ask(random: &mut Random, text: &[u8]) -> usize {
+    let listing = list(text);
+    let mut places: Vec<usize> = listing.words.iter().map(|word| word.place).collect();
+    if let Some(refusal) = listing.refusal.filter(|_| random.chance(30)) {
+        places = vec![
+            refusal.place,
+            refusal.place + 1,
+            refusal.place.saturating_sub(1),
+        ];
+    }
+    if places.is_empty() || random.chance(25) {
+        return random.below(text.len() + 3);
+    }
+    random.pick(&places) + usize::from(random.chance(20))
+}

@@ -1,0 +1,530 @@
+//! The run of an accepted module, one step after another.
+
+use crate::tree::*;
+use crate::value::{element, evaluate, in_range, Memory, ILLRAISE, OVERFLOW};
+
+/// What a run is allowed and lent.
+pub struct Allowance<'a> {
+    pub steps: u32,
+    pub depth: u32,
+    pub inputs: &'a [i32],
+    pub output_room: u64,
+}
+
+/// How a run ended and what it left.
+pub struct Run {
+    pub ending: u32,
+    pub place: usize,
+    pub steps: u32,
+    pub errno: i64,
+    pub inputs_used: usize,
+    pub output: Vec<u8>,
+    pub words: Vec<i64>,
+}
+
+pub fn run(module: &Module, main: usize, allowance: &Allowance) -> Run {
+    let mut machine = Machine {
+        module,
+        allowance,
+        calls: Vec::new(),
+        words: module.words.clone(),
+        errno: 0,
+        steps: 0,
+        inputs_used: 0,
+        output: Vec::new(),
+    };
+    machine.enter(main, &[], None);
+    let (ending, place) = machine.go();
+    Run {
+        ending,
+        place,
+        steps: machine.steps,
+        errno: machine.errno,
+        inputs_used: machine.inputs_used,
+        output: machine.output,
+        words: machine.words,
+    }
+}
+
+/// A list being worked through. `at` stays on a statement until that is done,
+/// so it is the failed statement when an error arrives.
+struct Level<'m> {
+    list: &'m [Statement],
+    at: usize,
+    repeat: Repeat<'m>,
+}
+
+/// What happens at the end of a level's list.
+#[derive(Clone, Copy)]
+enum Repeat<'m> {
+    /// The routine's own list.
+    Never,
+    /// The chosen list of an IF, compact IF or TEST.
+    Leave,
+    /// The body of a WHILE.
+    Test,
+    /// The body of a FOR.
+    Count {
+        statement: &'m Statement,
+        variable: usize,
+        last: i64,
+        step: i64,
+    },
+}
+
+/// A word that gets a value.
+#[derive(Clone, Copy)]
+enum Slot {
+    Module(usize),
+    Local(usize),
+}
+
+struct Live<'m> {
+    routine: &'m Routine,
+    words: Vec<i64>,
+    levels: Vec<Level<'m>>,
+    /// Where the routine's list stood when its error came; `Some` in its ERROR list.
+    failed: Option<Vec<Level<'m>>>,
+    /// The caller's word that gets the result of a FUNC.
+    result: Option<Slot>,
+}
+
+#[derive(Clone, Copy)]
+enum Next<'m> {
+    Statement(&'m Statement),
+    Count(&'m Statement),
+    ListEnd(usize),
+}
+
+impl Next<'_> {
+    fn place(&self) -> usize {
+        match self {
+            Next::Statement(statement) | Next::Count(statement) => statement.place,
+            Next::ListEnd(place) => *place,
+        }
+    }
+}
+
+/// Why a step does not simply lead to the next one.
+enum Halt {
+    /// An error arose in the step's statement.
+    Error(i64),
+    /// A plain RAISE hands its error to the caller.
+    HandOn,
+    Ending(u32, usize),
+}
+
+impl From<i64> for Halt {
+    fn from(error: i64) -> Self {
+        Halt::Error(error)
+    }
+}
+
+type Done = Result<(), Halt>;
+
+struct Machine<'m> {
+    module: &'m Module,
+    allowance: &'m Allowance<'m>,
+    /// The live calls, main first.
+    calls: Vec<Live<'m>>,
+    words: Vec<i64>,
+    errno: i64,
+    steps: u32,
+    inputs_used: usize,
+    output: Vec<u8>,
+}
+
+impl<'m> Level<'m> {
+    fn start(list: &'m [Statement], repeat: Repeat<'m>) -> Self {
+        Level {
+            list,
+            at: 0,
+            repeat,
+        }
+    }
+}
+
+/// From step to step.
+impl<'m> Machine<'m> {
+    /// Runs to the end and hands back the ending with its offset.
+    fn go(&mut self) -> (u32, usize) {
+        loop {
+            let next = self.next();
+            if self.steps == self.allowance.steps {
+                return (5, next.place());
+            }
+            let done = self.perform(next);
+            if let Err(Halt::Ending(ending @ 6..=8, place)) = done {
+                return (ending, place);
+            }
+            self.steps += 1;
+            let settled = match done {
+                Ok(()) => Ok(()),
+                Err(Halt::Error(number)) => self.raise(number, next.place()),
+                Err(Halt::HandOn) => {
+                    self.calls.pop();
+                    self.raise(self.errno, next.place())
+                }
+                Err(Halt::Ending(ending, place)) => Err((ending, place)),
+            };
+            if let Err(ending) = settled {
+                return ending;
+            }
+        }
+    }
+
+    fn live(&mut self) -> &mut Live<'m> {
+        self.calls
+            .last_mut()
+            .expect("main is live until the run ends")
+    }
+
+    fn level(&mut self) -> &mut Level<'m> {
+        self.live()
+            .levels
+            .last_mut()
+            .expect("a live call has a list")
+    }
+
+    /// Leaves lists that are done and finds the next step.
+    fn next(&mut self) -> Next<'m> {
+        loop {
+            let level = self.level();
+            if let Some(statement) = level.list.get(level.at) {
+                return Next::Statement(statement);
+            }
+            match level.repeat {
+                Repeat::Never => return Next::ListEnd(self.list_end()),
+                Repeat::Count { statement, .. } => return Next::Count(statement),
+                Repeat::Leave => self.leave(),
+                // The level below still stands on the WHILE.
+                Repeat::Test => _ = self.live().levels.pop(),
+            }
+        }
+    }
+
+    fn list_end(&mut self) -> usize {
+        let live = self.live();
+        if live.failed.is_some() {
+            live.routine.end
+        } else {
+            live.routine.body_end
+        }
+    }
+
+    /// Leaves the list on top and goes on after the statement it belongs to.
+    fn leave(&mut self) {
+        self.live().levels.pop();
+        self.level().at += 1;
+    }
+
+    fn begin(&mut self, list: &'m [Statement], repeat: Repeat<'m>) {
+        self.live().levels.push(Level::start(list, repeat));
+    }
+
+    fn perform(&mut self, next: Next<'m>) -> Done {
+        match next {
+            Next::Statement(statement) => self.statement(statement),
+            Next::Count(_) => {
+                self.count();
+                Ok(())
+            }
+            Next::ListEnd(place) if self.live().routine.result.is_some() => {
+                Err(Halt::Ending(4, place))
+            }
+            Next::ListEnd(_) => self.give_back(None),
+        }
+    }
+
+    /// Hands an error to the nearest live call that has an ERROR list.
+    fn raise(&mut self, number: i64, place: usize) -> Result<(), (u32, usize)> {
+        self.errno = number;
+        while self
+            .calls
+            .last()
+            .is_some_and(|live| live.routine.error.is_none())
+        {
+            self.calls.pop();
+        }
+        let Some(live) = self.calls.last_mut().filter(|live| live.failed.is_none()) else {
+            return Err((3, place));
+        };
+        let list = live.routine.error.as_ref().expect("the others are dropped");
+        let handler = vec![Level::start(list, Repeat::Never)];
+        live.failed = Some(std::mem::replace(&mut live.levels, handler));
+        Ok(())
+    }
+}
+
+/// Calls and values.
+impl<'m> Machine<'m> {
+    fn enter(&mut self, index: usize, arguments: &[i64], result: Option<Slot>) {
+        let routine = &self.module.routines[index];
+        let mut words = routine.words.clone();
+        words[..arguments.len()].copy_from_slice(arguments);
+        let levels = vec![Level::start(&routine.body, Repeat::Never)];
+        self.calls.push(Live {
+            routine,
+            words,
+            levels,
+            failed: None,
+            result,
+        });
+    }
+
+    /// Returns from the routine on top, with the value of a FUNC.
+    fn give_back(&mut self, value: Option<i64>) -> Done {
+        let Some(live) = self.calls.pop() else {
+            unreachable!("a step belongs to a live call");
+        };
+        if self.calls.is_empty() {
+            return Err(Halt::Ending(1, 0));
+        }
+        if let (Some(slot), Some(value)) = (live.result, value) {
+            self.store(slot, value);
+        }
+        self.level().at += 1;
+        Ok(())
+    }
+
+    fn store(&mut self, slot: Slot, value: i64) {
+        match slot {
+            Slot::Module(slot) => self.words[slot] = value,
+            Slot::Local(slot) => self.live().words[slot] = value,
+        }
+    }
+
+    fn evaluate(&self, expression: &Expression) -> Result<i64, Halt> {
+        let local = self.calls.last().map_or(&[][..], |live| &live.words);
+        let memory = Memory {
+            module: &self.words,
+            local,
+            errno: self.errno,
+        };
+        Ok(evaluate(expression, memory)?)
+    }
+
+    /// Works out a target's index and finds its word.
+    fn slot(&self, target: &Target) -> Result<Slot, Halt> {
+        let distance = match &target.index {
+            Some(index) => element(&target.name, self.evaluate(index)?)? as usize,
+            None => 0,
+        };
+        match target.name.meaning {
+            Meaning::Module { slot, .. } => Ok(Slot::Module(slot + distance)),
+            Meaning::Local { slot, .. } => Ok(Slot::Local(slot + distance)),
+            _ => unreachable!("another target is refused by rule 12"),
+        }
+    }
+
+    fn call(&mut self, call: &Call, result: Option<Slot>) -> Done {
+        let arguments: Result<Vec<_>, _> = call
+            .arguments
+            .iter()
+            .map(|argument| self.evaluate(argument))
+            .collect();
+        let arguments = arguments?;
+        if self.calls.len() >= self.allowance.depth as usize {
+            return Err(Halt::Ending(6, call.callee.place));
+        }
+        let Meaning::Routine(index) = call.callee.meaning else {
+            unreachable!("another callee is refused by rule 12");
+        };
+        self.enter(index, &arguments, result);
+        Ok(())
+    }
+}
+
+/// Statements.
+impl<'m> Machine<'m> {
+    fn statement(&mut self, statement: &'m Statement) -> Done {
+        match &statement.action {
+            Action::Compute(target, call) => {
+                let slot = self.slot(target)?;
+                return self.call(call, Some(slot));
+            }
+            Action::Invoke(call) => return self.call(call, None),
+            Action::Return(None) => return self.give_back(None),
+            Action::Return(Some(value)) => {
+                let value = self.evaluate(value)?;
+                return self.give_back(Some(value));
+            }
+            Action::Raise(None) => return Err(Halt::HandOn),
+            Action::Raise(Some(value)) => {
+                let value = self.evaluate(value)?;
+                let legal = (1..=90).contains(&value);
+                return Err(Halt::Error(if legal { value } else { ILLRAISE }));
+            }
+            Action::Exit => return Err(Halt::Ending(2, statement.place)),
+            Action::Retry => self.resume(),
+            Action::TryNext => {
+                self.resume();
+                self.level().at += 1;
+            }
+            Action::Assign(..) | Action::Write { .. } | Action::Read { .. } => {
+                self.plain(statement)?;
+                self.level().at += 1;
+            }
+            _ => return self.compound(statement),
+        }
+        Ok(())
+    }
+
+    /// Leaves the ERROR list for the failed statement.
+    fn resume(&mut self) {
+        let live = self.live();
+        live.levels = live.failed.take().expect("rule 17 bars this outside ERROR");
+    }
+
+    /// The statements that change words, input or output and simply go on.
+    fn plain(&mut self, statement: &Statement) -> Done {
+        match &statement.action {
+            Action::Assign(target, right) => {
+                let slot = self.slot(target)?;
+                let value = self.evaluate(right)?;
+                self.store(slot, value);
+            }
+            Action::Write { string, number } => {
+                let mut line = string.clone();
+                if let Some(number) = number {
+                    line.extend(self.evaluate(number)?.to_string().bytes());
+                }
+                self.check_room(&line, statement.place)?;
+                self.write_line(&line);
+            }
+            Action::Read { target, string } => {
+                let slot = self.slot(target)?;
+                self.check_room(string, statement.place)?;
+                let Some(input) = self.allowance.inputs.get(self.inputs_used) else {
+                    return Err(Halt::Ending(7, statement.place));
+                };
+                self.write_line(string);
+                self.inputs_used += 1;
+                let input = i64::from(*input);
+                if !in_range(input) {
+                    return Err(Halt::Error(OVERFLOW));
+                }
+                self.store(slot, input);
+            }
+            _ => unreachable!("not a plain statement"),
+        }
+        Ok(())
+    }
+
+    fn check_room(&self, line: &[u8], place: usize) -> Done {
+        let needed = self.output.len() as u64 + line.len() as u64 + 1;
+        if needed > self.allowance.output_room {
+            return Err(Halt::Ending(8, place));
+        }
+        Ok(())
+    }
+
+    fn write_line(&mut self, line: &[u8]) {
+        self.output.extend_from_slice(line);
+        self.output.push(b'\n');
+    }
+
+    fn compound(&mut self, statement: &'m Statement) -> Done {
+        match &statement.action {
+            Action::CompactIf { condition, inner } => {
+                if self.evaluate(condition)? == 1 {
+                    self.begin(inner, Repeat::Leave);
+                } else {
+                    self.level().at += 1;
+                }
+            }
+            Action::If { arms, otherwise } => {
+                let chosen = self.choose_arm(arms, otherwise)?;
+                self.begin(chosen, Repeat::Leave);
+            }
+            Action::Test {
+                selector,
+                cases,
+                default,
+            } => {
+                let number = self.evaluate(selector)?;
+                let matching = cases.iter().find(|case| case.numbers.contains(&number));
+                self.begin(matching.map_or(default, |case| &case.body), Repeat::Leave);
+            }
+            Action::While { condition, body } => {
+                if self.evaluate(condition)? == 1 {
+                    self.begin(body, Repeat::Test);
+                } else {
+                    self.level().at += 1;
+                }
+            }
+            Action::For(counted) => self.head(statement, counted)?,
+            _ => unreachable!("not a compound statement"),
+        }
+        Ok(())
+    }
+
+    fn choose_arm(
+        &self,
+        arms: &'m [(Expression, List)],
+        otherwise: &'m List,
+    ) -> Result<&'m List, Halt> {
+        for (condition, list) in arms {
+            if self.evaluate(condition)? == 1 {
+                return Ok(list);
+            }
+        }
+        Ok(otherwise)
+    }
+
+    /// A FOR head with its first test.
+    fn head(&mut self, statement: &'m Statement, counted: &'m Loop) -> Done {
+        let start = self.evaluate(&counted.from)?;
+        let last = self.evaluate(&counted.to)?;
+        let step = match &counted.step {
+            Some(step) => self.evaluate(step)?,
+            None => 1,
+        };
+        let Meaning::Local { slot: variable, .. } = counted.variable.meaning else {
+            unreachable!("a FOR variable is a word of its routine");
+        };
+        if goes_on(start, last, step) {
+            self.store(Slot::Local(variable), start);
+            self.begin(
+                &counted.body,
+                Repeat::Count {
+                    statement,
+                    variable,
+                    last,
+                    step,
+                },
+            );
+        } else {
+            self.level().at += 1;
+        }
+        Ok(())
+    }
+
+    /// A later FOR test.
+    fn count(&mut self) {
+        let Repeat::Count {
+            variable,
+            last,
+            step,
+            ..
+        } = self.level().repeat
+        else {
+            unreachable!("only the body of a FOR is counted");
+        };
+        let sum = self.live().words[variable] + step;
+        if goes_on(sum, last, step) {
+            self.store(Slot::Local(variable), sum);
+            self.level().at = 0;
+        } else {
+            self.leave();
+        }
+    }
+}
+
+fn goes_on(value: i64, last: i64, step: i64) -> bool {
+    if step >= 0 {
+        value <= last
+    } else {
+        value >= last
+    }
+}

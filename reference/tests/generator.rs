@@ -1,0 +1,61 @@
+//! The generator keeps its promises.
+
+use reference::generate::{Cases, Kind, Size};
+use reference::lines::answer_line;
+use reference::tally::Tally;
+
+fn lines(seed: u64, count: usize, kind: Kind, size: Size) -> Vec<String> {
+    Cases::new(seed, kind, size).take(count).collect()
+}
+
+#[test]
+fn valid_modules_are_accepted() {
+    for (count, size) in [(3_000, Size::Short), (100, Size::Long)] {
+        for line in lines(7, count, Kind::Valid, size) {
+            let answer = answer_line(&line);
+            assert!(!answer.starts_with("0 "), "{line}\n{answer}");
+        }
+    }
+}
+
+#[test]
+fn a_mix_of_2000_misses_nothing() {
+    for seed in 1..=3 {
+        let mut tally = Tally::default();
+        for line in lines(seed, 2_000, Kind::All, Size::Short) {
+            tally.count(&answer_line(&line));
+        }
+        assert!(
+            tally.show().ends_with("none missing\n"),
+            "seed {seed}\n{}",
+            tally.show()
+        );
+    }
+}
+
+#[test]
+fn the_same_seed_gives_the_same_lines() {
+    let kind = Kind::All;
+    assert_eq!(
+        lines(5, 200, kind, Size::Short),
+        lines(5, 200, kind, Size::Short)
+    );
+    assert_ne!(
+        lines(5, 200, kind, Size::Short),
+        lines(6, 200, kind, Size::Short)
+    );
+}
+
+#[test]
+fn every_line_is_a_case_line() {
+    for name in [
+        "valid", "mistyped", "words", "bytes", "limits", "listing", "all",
+    ] {
+        let kind = Kind::named(name).expect("a kind of cases");
+        for (count, size) in [(1_000, Size::Short), (20, Size::Long)] {
+            for line in lines(11, count, kind, size) {
+                assert_ne!(answer_line(&line), "bad line", "{line}");
+            }
+        }
+    }
+}
