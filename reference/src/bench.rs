@@ -32,6 +32,36 @@ pub struct Answer {
     pub words: Vec<i64>,
 }
 
+impl Answer {
+    /// The record's eight fields in the paper's order, separated by blanks.
+    pub fn fields(&self) -> String {
+        format!(
+            "{} {} {} {} {} {} {} {}",
+            self.ending,
+            self.refusal,
+            self.offset,
+            self.steps,
+            self.errno,
+            self.output.len(),
+            self.inputs_used,
+            self.words.len()
+        )
+    }
+}
+
+/// The call that the bench program makes: 10,000 steps, depth 16, no inputs, 4,096 output bytes.
+pub fn lesson(text: Vec<u8>) -> Answer {
+    answer(&Lent {
+        text,
+        steps: 10_000,
+        depth: 16,
+        inputs: Vec::new(),
+        output_room: 4_096,
+        code_words: STORE_WORDS,
+        value_words: STORE_WORDS,
+    })
+}
+
 pub fn answer(lent: &Lent) -> Answer {
     accepted(lent).unwrap_or_else(|refusal| Answer {
         refusal: refusal.number,

@@ -120,19 +120,8 @@ fn show_list<T: ToString>(numbers: &[T]) -> String {
 }
 
 pub fn show_answer(answer: &Answer) -> String {
-    format!(
-        "{} {} {} {} {} {} {} {} {} {}",
-        answer.ending,
-        answer.refusal,
-        answer.offset,
-        answer.steps,
-        answer.errno,
-        answer.output.len(),
-        answer.inputs_used,
-        answer.words.len(),
-        show_bytes(&answer.output),
-        show_list(&answer.words)
-    )
+    let output = show_bytes(&answer.output);
+    format!("{} {output} {}", answer.fields(), show_list(&answer.words))
 }
 
 fn show_listing(listing: &Listing) -> String {

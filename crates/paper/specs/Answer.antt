@@ -11,12 +11,14 @@ use mir.Val.{toZ, ofZ}
 use Rattle.paper.specs.Basics.{if_then_else_}
 use Rattle.paper.specs.Words.{Word, Refusal, Reading, reading}
 use Rattle.paper.specs.Trees.{Module}
-use Rattle.paper.specs.Form.{Parsed, got, no, formed}
+use Rattle.paper.specs.Expressions.{Parsed, got, no}
+use Rattle.paper.specs.Form.{formed}
 use Rattle.paper.specs.Names.{nth, sortIn}
 use Rattle.paper.specs.Types.{Fault, least}
 use Rattle.paper.specs.Checks.{faults, mainOf}
 use Rattle.paper.specs.Steps.{Program, programOf}
-use Rattle.paper.specs.Running.{State, Ended, run, started}
+use Rattle.paper.specs.States.{State}
+use Rattle.paper.specs.Running.{Ended, run, started}
 
 -- "16,384 words"
 abbrev pub storeWords : ℕ

@@ -3,13 +3,17 @@ pub mod Basics
 pub mod Sorts
 pub mod Words
 pub mod Trees
+pub mod Expressions
+pub mod Statements
 pub mod Form
 pub mod Numbers
 pub mod Terms
 pub mod Names
 pub mod Types
+pub mod Declarations
 pub mod Checks
 pub mod Steps
+pub mod States
 pub mod Running
 pub mod Answer
 pub mod Computing

@@ -13,7 +13,8 @@ use Rattle.paper.specs.Trees.{Expr, Target, Simple, firstSimple, assign,
 use Rattle.paper.specs.Trees.{Routine, Module}
 use Rattle.paper.specs.Names.{DataType, routineIn, arrayIn, variableIn, Scopes, nth, spelled, meaning, enter, termOf}
 use Rattle.paper.specs.Types.{constantValue}
-use Rattle.paper.specs.Checks.{moduleData, routineData, routineScopes, routineFilling, forsIn, forsInList, forsInArms, forsInCases, isSome}
+use Rattle.paper.specs.Declarations.{moduleData, routineData, routineScopes, routineFilling}
+use Rattle.paper.specs.Checks.{forsIn, forsInList, forsInArms, forsInCases, isSome}
 
 -- Where a value goes: a word, or the element of an array.
 pub data Spot : Type 0 where

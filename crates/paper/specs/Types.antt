@@ -12,7 +12,7 @@ use Rattle.paper.specs.Words.{Word}
 use Rattle.paper.specs.Numbers.{Value, value, error}
 use Rattle.paper.specs.Terms.{Memory, worth}
 use Rattle.paper.specs.Trees.{Expr, leaf, element, nested, signed, joined, first}
-use Rattle.paper.specs.Form.{levelOf}
+use Rattle.paper.specs.Expressions.{levelOf}
 use Rattle.paper.specs.Names.{DataType, aNum, aBool, refusedPiece, Meaning, unknown, variable, array, constant, loop, routine, theErrno, errorNumber, arrayIn, wrongName, Scopes, sortIn, spelled, meaning, termOf}
 
 -- A rule broken, and the index of the word where it is.
