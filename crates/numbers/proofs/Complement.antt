@@ -1,0 +1,110 @@
+-- A word of 32 bits as a number, in two's complement.
+use mathlib.Core.Path.{_≡_, refl, subst, _∙_}
+use mathlib.Core.Bool.{Bool, true, false, not}
+use Prim.Native.Nat.{ℕ, suc, _-_, _<_, _≤_}
+use native.Mathlib.Omega.{arith}
+use lib.Dec.{T, ltb, ltb→lt, nltb→le}
+use lib.IntN.{ℤ, pos, negsuc, natAbs, _+ℤ_, _-ℤ_}
+use lib.Signed.{ltZ, nonNeg}
+use mir.Syntax.{w32, w64}
+use mir.Val.{Fits, SFits, toZ, ofZ, sel}
+use mir.Facts.{toZ-ofZ}
+use mir.ValLaws.{ofZ-toZ, toZ-fits, toZ-pos}
+use borrow.Author.Tests.{ltb-true}
+use Rattle.numbers.proofs.Whole.{read, back, sub-cases}
+
+pub back32 : (z : ℤ) → SFits w32 z → toZ w32 (ofZ w32 z) ≡ z
+back32 z s = toZ-ofZ s
+
+pub widened : (z : ℤ) → SFits w32 z → SFits w64 z
+widened z s = record { sfits = omega (arith, s .sfits) }
+
+-- ---- from a word
+
+toZ-cases : (P : ℤ → Type 0) (n h f : ℕ) → (n < h → P (pos n)) → (h ≤ n → P (negsuc (f - suc n))) → P (sel (ltb n h) (pos n) (negsuc (f - suc n)))
+toZ-cases P n h f p q = go (ltb n h) (λ t. p (ltb→lt n h t)) (λ t. q (nltb→le n h t))
+  where
+    go : (c : Bool) → (T c → P (pos n)) → (T (not c) → P (negsuc (f - suc n))) → P (sel c (pos n) (negsuc (f - suc n)))
+    go true f g = f tt
+    go false f g = g tt
+
+-- in 64 bits there is room to subtract
+pub word-less : (x k : ℕ) → Fits w32 x → k ≤ 8589934592 → SFits w64 (toZ w64 x +ℤ negsuc k)
+word-less x k s h =
+    rw (toZ-pos w64 x (omega (arith, s .fits)))
+    (sub-cases (λ v. SFits w64 v) x (suc k) (λ g. record { sfits = omega arith }) (λ g. record { sfits = omega (arith, s .fits) }))
+
+-- v is the number of the word x, and an i32
+pub record High (x : ℕ) (v : ℤ) : Type 0 where
+  pub small : SFits w32 v
+  pub same : toZ w32 (ofZ w32 v) ≡ toZ w32 x
+
+pub high : (x : ℕ) → 2147483648 ≤ x → Fits w32 x → High x (read (toZ w64 x -ℤ pos 4294967296))
+high x h s =
+    rw (back (toZ w64 x -ℤ pos 4294967296) (word-less x 4294967295 s (omega arith)), toZ-pos w64 x (omega (arith, s .fits)))
+    (sub-cases (λ v. High x v) x 4294967296
+    (λ g. made (negsuc (4294967296 - suc x)) (record { sfits = omega arith })
+    (toZ-cases (λ z. negsuc (4294967296 - suc x) ≡ z) x 2147483648 4294967296 (λ k. absurd (omega arith)) (λ k. refl)))
+    (λ g. absurd (omega (arith, s .fits))))
+  where
+    made : (v : ℤ) → SFits w32 v → v ≡ toZ w32 x → High x v
+    made v f e = record { small = f; same = back32 v f ∙ e }
+
+-- ---- to a word
+
+-- v is no less than 0, and has the bits of z
+pub record Bits (z v : ℤ) : Type 0 where
+  pub non-neg : T (nonNeg v)
+  pub small : Fits w32 (natAbs v)
+  pub same : natAbs v ≡ ofZ w32 z
+
+module _ (z : ℤ) (s : SFits w32 z) where
+  pub wide-fits : SFits w64 (toZ w32 (ofZ w32 z))
+  wide-fits = rw (back32 z s) (widened z s)
+
+  wide-read : read (toZ w32 (ofZ w32 z)) ≡ z
+  wide-read = back (toZ w32 (ofZ w32 z)) wide-fits ∙ back32 z s
+
+  -- in 64 bits there is room to add
+  sum-fits : (k : ℕ) → k ≤ 8589934592 → SFits w64 (z +ℤ pos k)
+  sum-fits k h = go z s
+    where
+      go : (z : ℤ) → SFits w32 z → SFits w64 (z +ℤ pos k)
+      go (pos n) s = record { sfits = omega (arith, s .sfits) }
+      go (negsuc n) s = sub-cases (λ v. SFits w64 v) k (suc n) (λ g. record { sfits = omega (arith, s .sfits) }) (λ g. record { sfits = omega arith })
+
+  pub word-more : (k : ℕ) → k ≤ 8589934592 → SFits w64 (read (toZ w32 (ofZ w32 z)) +ℤ pos k)
+  word-more k h = rw wide-read (sum-fits k h)
+
+  pub neg-bits : ltZ (toZ w32 (ofZ w32 z)) (pos 0) ≡ true → Bits z (read (read (toZ w32 (ofZ w32 z)) +ℤ pos 4294967296))
+  neg-bits t = rw (wide-read, back (z +ℤ pos 4294967296) (sum-fits 4294967296 (omega arith))) (go z s (rw (back32 z s) at t))
+    where
+      go : (z : ℤ) → SFits w32 z → ltZ z (pos 0) ≡ true → Bits z (z +ℤ pos 4294967296)
+      go (pos n) s t = absurd (omega (arith, ltb-true n 0 t))
+      go (negsuc n) s t =
+          sub-cases (λ v. Bits (negsuc n) v) 4294967296 (suc n)
+          (λ g. absurd (omega (arith, s .sfits)))
+          (λ g. record { non-neg = tt; small = record { fits = omega arith }; same = refl })
+
+  pub pos-bits : ltZ (toZ w32 (ofZ w32 z)) (pos 0) ≡ false → Bits z (toZ w32 (ofZ w32 z))
+  pos-bits t = rw (back32 z s) (go z s (rw (back32 z s) at t))
+    where
+      go : (z : ℤ) → SFits w32 z → ltZ z (pos 0) ≡ false → Bits z z
+      go (pos n) s t = record { non-neg = tt; small = record { fits = omega (arith, s .sfits) }; same = refl }
+      go (negsuc n) s t = absurd (subst T t tt)
+
+-- ---- there and back
+
+pub word-back : (x : ℕ) → Fits w32 x → ofZ w32 (toZ w32 x) ≡ x
+word-back x s = ofZ-toZ w32 x s
+
+-- the number z of a word x
+module _ (x : ℕ) (z : ℤ) (s : Fits w32 x) (e : z ≡ toZ w32 x) where
+  z-fits : SFits w32 z
+  z-fits = rw e (toZ-fits w32 x s)
+
+  pub word-wide : SFits w64 (toZ w32 (ofZ w32 z))
+  word-wide = wide-fits z z-fits
+
+  pub word-number : read (toZ w32 (ofZ w32 z)) ≡ toZ w32 x
+  word-number = wide-read z z-fits ∙ e

@@ -1,0 +1,27 @@
+use native.Mathlib.Omega.{arith}
+use Rattle.numbers.proofs.Complement.{wide-fits, word-more, neg-bits, pos-bits}
+use borrow.Author.Needs.{needs}
+use Rattle.numbers.proofs.to_word.Statement.{statement}
+use Rattle.numbers.proofs.to_word.Tie as tie
+
+cast-result : tie.Need-cast-result
+cast-result c = search (needs, wide-fits)
+
+add-result : tie.Need-add-result
+add-result c = word-more _ (c .before .fits .z) _ (omega arith)
+
+cast-result-2 : tie.Need-cast-result-2
+cast-result-2 c = let q = neg-bits _ (c .before .fits .z) (c .if1 .taken) in (q .non-neg, q .small)
+
+returns : tie.Need-returns
+returns c = neg-bits _ (c .before .fits .z) (c .if1 .taken) .same
+
+cast-result-3 : tie.Need-cast-result-3
+cast-result-3 c = let q = pos-bits _ (c .before .fits .z) (c .if1 .left) in (q .non-neg, q .small)
+
+returns-2 : tie.Need-returns-2
+returns-2 c = pos-bits _ (c .before .fits .z) (c .if1 .left) .same
+
+pub to-word-spec : {M : Type 1} → statement M
+to-word-spec =
+    tie.close (tie.spec cast-result add-result cast-result-2 returns cast-result-3 returns-2)
