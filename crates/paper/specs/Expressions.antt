@@ -6,7 +6,7 @@ use mathlib.Core.Option.{Option, none, some}
 use Prim.Native.Nat.{ℕ, zero, suc, _+_, _-_}
 use lib.Dec.{eqb}
 use Rattle.paper.specs.Basics.{if_then_else_}
-use Rattle.paper.specs.Sorts.{NAME, NUMBER, comma, openParen, closeParen, openBrace, closeBrace, equal, less, lessEqual, unequal, greater, greaterEqual, plus, minusSign, times}
+use Rattle.paper.specs.Sorts.{CONST, FUNC, NAME, NUMBER, PROC, VAR, closeBrace, closeParen, comma, equal, greater, greaterEqual, less, lessEqual, minusSign, openBrace, openParen, plus, times, unequal}
 use Rattle.paper.specs.Sorts.{AND, DIV, EXIT, FALSE, FOR, IF, MOD, NOT, OR, RAISE, RETRY, RETURN, TEST, TRUE, TRYNEXT, WHILE, XOR, NUM, BOOL, TPWRITE, TPREADNUM}
 use Rattle.paper.specs.Trees.{Expr, leaf, element, nested, signed, joined, _then_}
 
@@ -51,6 +51,12 @@ isLiteral s = eqb s NUMBER || eqb s TRUE || eqb s FALSE
 
 unfoldable pub isType : (sort : ℕ) → Bool
 isType s = eqb s NUM || eqb s BOOL
+
+unfoldable pub startsData : (sort : ℕ) → Bool
+startsData s = eqb s VAR || eqb s CONST
+
+unfoldable pub startsRoutine : (sort : ℕ) → Bool
+startsRoutine s = eqb s PROC || eqb s FUNC
 
 unfoldable pub startsSimple : (sort : ℕ) → Bool
 startsSimple s =
@@ -136,18 +142,34 @@ module _ (W : ℕ → ℕ) where
           got (some e, n)
       ]
 
-  -- One expression or more, with commas between.
-  unfoldable pub exprs : (parts : ℕ) → ℕ → Parsed (List Expr × ℕ)
-  exprs zero at = no 8 at
-  exprs (suc p) at = do
-    (e, n) ← expr at
+  -- ---- sequences
+  -- One or more, with commas between.
+  unfoldable pub separated : {A : Type 0} → (parts : ℕ) → (one : ℕ → Parsed (A × ℕ)) → ℕ → Parsed (List A × ℕ)
+  separated zero one at = no 8 at
+  separated (suc p) one at = do
+    (a, n) ← one at
     elim (eqb (W n) comma) [
-      | false ↦ got (e ∷ [], n)
+      | false ↦ got (a ∷ [], n)
       | true ↦ do
-        (es, m) ← exprs p (n + 1)
-        got (e ∷ es, m)
+        (r, m) ← separated p one (n + 1)
+        got (a ∷ r, m)
     ]
+
+  -- As many as there are: `starts` tells the words that one begins with.
+  unfoldable pub repeated : {A : Type 0} → (parts : ℕ) → (starts : ℕ → Bool) → (one : ℕ → Parsed (A × ℕ)) → ℕ → Parsed (List A × ℕ)
+  repeated zero starts one at = no 8 at
+  repeated (suc p) starts one at =
+      elim (starts (W at)) [
+        | false ↦ got ([], at)
+        | true ↦ do
+          (a, n) ← one at
+          (r, m) ← repeated p starts one n
+          got (a ∷ r, m)
+      ]
+
+  unfoldable pub exprs : ℕ → Parsed (List Expr × ℕ)
+  exprs at = separated parts expr at
 
   -- The arguments of a call, none where the closing word follows at once.
   unfoldable pub arguments : (closing : ℕ) → ℕ → Parsed (List Expr × ℕ)
-  arguments s at = if eqb (W at) s then got ([], at) else exprs parts at
+  arguments s at = if eqb (W at) s then got ([], at) else exprs at

@@ -1,14 +1,14 @@
 -- The paper, "Form of a module": data, routines and the module.
-use mathlib.Core.Bool.{true, false, _||_}
-use mathlib.Core.List.{List, [], _∷_}
+use mathlib.Core.Bool.{true, false}
+use mathlib.Core.List.{List, []}
 use mathlib.Core.Option.{Option, none, some}
-use Prim.Native.Nat.{ℕ, zero, suc, _+_}
+use Prim.Native.Nat.{ℕ, _+_}
 use lib.Dec.{eqb}
 use Rattle.paper.specs.Basics.{if_then_else_}
-use Rattle.paper.specs.Sorts.{NOTHING, NAME, semicolon, comma, openParen, closeParen, openBrace, closeBrace, becomes}
-use Rattle.paper.specs.Sorts.{CONST, ENDFUNC, ENDMODULE, ENDPROC, ERROR, FUNC, MODULE, PROC, VAR}
+use Rattle.paper.specs.Sorts.{NOTHING, NAME, semicolon, openParen, closeParen, openBrace, closeBrace, becomes}
+use Rattle.paper.specs.Sorts.{ENDFUNC, ENDMODULE, ENDPROC, ERROR, MODULE, PROC, VAR}
 use Rattle.paper.specs.Trees.{_then_, Content, variable, initial, array, constant, Declared, Parameter, Handler, Routine, Module}
-use Rattle.paper.specs.Expressions.{Parsed, got, no, _>>=_, parts, expect, expectType, expr}
+use Rattle.paper.specs.Expressions.{Parsed, got, _>>=_, parts, expect, expectType, expr, separated, repeated, startsData, startsRoutine}
 use Rattle.paper.specs.Statements.{statements, list}
 
 module _ (W : ℕ → ℕ) where
@@ -49,16 +49,8 @@ module _ (W : ℕ → ℕ) where
   unfoldable pub declaration : ℕ → Parsed (Declared × ℕ)
   declaration at = if eqb (W at) VAR then datum varPart at else datum constPart at
 
-  unfoldable pub declarations : (parts : ℕ) → ℕ → Parsed (List Declared × ℕ)
-  declarations zero at = no 8 at
-  declarations (suc p) at =
-      elim (eqb (W at) VAR || eqb (W at) CONST) [
-        | false ↦ got ([], at)
-        | true ↦ do
-          (d, n) ← declaration at
-          (r, m) ← declarations p n
-          got (d ∷ r, m)
-      ]
+  unfoldable pub declarations : ℕ → Parsed (List Declared × ℕ)
+  declarations at = repeated W parts startsData declaration at
 
   -- ---- routines
   unfoldable pub parameter : ℕ → Parsed (Parameter × ℕ)
@@ -67,20 +59,9 @@ module _ (W : ℕ → ℕ) where
     m ← expect W NAME n
     got (record { type = W at; name = at + 1 }, m)
 
-  unfoldable pub parametersFrom : (parts : ℕ) → ℕ → Parsed (List Parameter × ℕ)
-  parametersFrom zero at = no 8 at
-  parametersFrom (suc p) at = do
-    (u, n) ← parameter at
-    elim (eqb (W n) comma) [
-      | false ↦ got (u ∷ [], n)
-      | true ↦ do
-        (us, m) ← parametersFrom p (n + 1)
-        got (u ∷ us, m)
-    ]
-
   unfoldable pub parameters : ℕ → Parsed (List Parameter × ℕ)
   parameters at =
-      if eqb (W at) closeParen then got ([], at) else parametersFrom parts at
+      if eqb (W at) closeParen then got ([], at) else separated W parts parameter at
 
   unfoldable pub errorPart : ℕ → Parsed (Option Handler × ℕ)
   errorPart at =
@@ -98,7 +79,7 @@ module _ (W : ℕ → ℕ) where
     n₂ ← expect W openParen n₁
     (ps, n₃) ← parameters n₂
     n₄ ← expect W closeParen n₃
-    (ds, n₅) ← declarations parts n₄
+    (ds, n₅) ← declarations n₄
     (ss, n₆) ← list W n₅
     (h, n₇) ← errorPart n₆
     n₈ ← expect W closing n₇
@@ -112,24 +93,16 @@ module _ (W : ℕ → ℕ) where
   unfoldable pub routine : ℕ → Parsed (Routine × ℕ)
   routine at = if eqb (W at) PROC then routineFrom none ENDPROC (at + 1) else function (at + 1)
 
-  unfoldable pub routines : (parts : ℕ) → ℕ → Parsed (List Routine × ℕ)
-  routines zero at = no 8 at
-  routines (suc p) at =
-      elim (eqb (W at) PROC || eqb (W at) FUNC) [
-        | false ↦ got ([], at)
-        | true ↦ do
-          (r, n) ← routine at
-          (rs, m) ← routines p n
-          got (r ∷ rs, m)
-      ]
+  unfoldable pub routines : ℕ → Parsed (List Routine × ℕ)
+  routines at = repeated W parts startsRoutine routine at
 
   -- "MODULE name, data, routines, ENDMODULE, then nothing."
   unfoldable pub formed : Parsed Module
   formed = do
     n₁ ← expect W MODULE 0
     n₂ ← expect W NAME n₁
-    (ds, n₃) ← declarations parts n₂
-    (rs, n₄) ← routines parts n₃
+    (ds, n₃) ← declarations n₂
+    (rs, n₄) ← routines n₃
     n₅ ← expect W ENDMODULE n₄
     n₆ ← expect W NOTHING n₅
     got (record { declared = ds; routines = rs })

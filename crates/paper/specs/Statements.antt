@@ -205,7 +205,7 @@ module _ (W : ℕ → ℕ) where
       elim (eqb (W at) CASE) [
         | false ↦ lastCase list at
         | true ↦ do
-          (c, n₁) ← exprs W parts (at + 1)
+          (c, n₁) ← exprs W (at + 1)
           n₂ ← expect W colon n₁
           (b, n₃) ← list n₂
           (a, d, n₄) ← cases p list n₃
