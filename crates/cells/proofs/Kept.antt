@@ -1,10 +1,10 @@
 -- What a change of words leaves as it was, and that a promise allows one outcome alone.
 use mathlib.Core.Path.{_≡_, refl, sym, ap, _∙_}
 use mathlib.Core.List.{List, [], _∷_, _++_}
-use Prim.Native.Nat.{ℕ, _+_, _-_, _*_, _≤_}
+use Prim.Native.Nat.{ℕ, suc, _+_, _-_, _*_, _≤_, _<_}
 use native.Mathlib.Omega.{arith}
-use lib.ListN.{length, take, drop, replicate, getD, length-append, length-drop, length-replicate}
-use lib.Seq.{take-append-le, take-take, drop-at, drop-drop, length-take-le, getD-set-same, getD-set-other}
+use lib.ListN.{length, take, drop, replicate, getD, length-append, length-drop, length-replicate, getD-replicate, List·getD-append}
+use lib.Seq.{take-append-le, take-take, drop-at, drop-drop, length-take-le, getD-set-same, getD-set-other, getD-take, getD-drop, getD-append-add}
 use Rattle.cells.specs.Words.{wordsOf, bytesOf, replaced, Put, Cleared}
 use Rattle.cells.proofs.Laws.{length-words}
 
@@ -34,6 +34,29 @@ module _ (l m : List ℕ) (a n : ℕ) (e : length m ≡ n) (h : a + n ≤ length
       ∙ ap (drop (k - (a + n))) (drop-at (take a l ++ m) (drop (a + n) l) (a + n) head-length)
       ∙ drop-drop (k - (a + n)) (a + n) l
       ∙ ap (λ (j : ℕ). drop j l) q
+
+  -- element by element
+  pub replaced-at : (j : ℕ) → j < n → getD (replaced l a m n) (a + j) 0 ≡ getD m j 0
+  replaced-at j g =
+      let t : length (take a l) ≡ a = length-take-le a l (omega arith) in
+      List·getD-append (take a l ++ m) (drop (a + n) l) 0 (a + j) (omega (arith, head-length))
+      ∙ sym (ap (λ (k : ℕ). getD (take a l ++ m) (k + j) 0) t)
+      ∙ getD-append-add (take a l) m j 0
+
+  pub replaced-below : (j : ℕ) → j < a → getD (replaced l a m n) j 0 ≡ getD l j 0
+  replaced-below j g =
+      sym (getD-take (suc j) (replaced l a m n) j 0 (omega arith))
+      ∙ ap (λ (x : List ℕ). getD x j 0) (replaced-take (suc j) g)
+      ∙ getD-take (suc j) l j 0 (omega arith)
+
+  pub replaced-above : (j : ℕ) → a + n ≤ j → getD (replaced l a m n) j 0 ≡ getD l j 0
+  replaced-above j g =
+      let q : j + 0 ≡ j = omega arith in
+      sym (ap (λ (k : ℕ). getD (replaced l a m n) k 0) q)
+      ∙ sym (getD-drop j (replaced l a m n) 0 0)
+      ∙ ap (λ (x : List ℕ). getD x 0 0) (replaced-drop j g)
+      ∙ getD-drop j l 0 0
+      ∙ ap (λ (k : ℕ). getD l k 0) q
 
 -- ---- put
 
@@ -74,6 +97,21 @@ module _ {before after : List ℕ} {from count : ℕ} (p : Cleared before after 
   pub clear-drop : (k : ℕ) → (from + count) * 4 ≤ k → drop k after ≡ drop k before
   unfolding zeros
   clear-drop k g = ap (drop k) (p .bytes) ∙ replaced-drop before zeros (from * 4) (count * 4) (length-replicate (count * 4) 0) (omega arith) k (omega arith)
+
+  room : from + count ≤ length (wordsOf before)
+  room = omega (arith, length-words before)
+
+  pub clear-in : (j : ℕ) → j < count → getD (wordsOf after) (from + j) 0 ≡ 0
+  clear-in j g =
+      ap (λ (w : List ℕ). getD w (from + j) 0) (p .words)
+      ∙ replaced-at (wordsOf before) (replicate count 0) from count (length-replicate count 0) room j g
+      ∙ getD-replicate {A = ℕ} count j 0 0 g
+
+  pub clear-below : (j : ℕ) → j < from → getD (wordsOf after) j 0 ≡ getD (wordsOf before) j 0
+  clear-below j g = ap (λ (w : List ℕ). getD w j 0) (p .words) ∙ replaced-below (wordsOf before) (replicate count 0) from count (length-replicate count 0) room j g
+
+  pub clear-above : (j : ℕ) → from + count ≤ j → getD (wordsOf after) j 0 ≡ getD (wordsOf before) j 0
+  clear-above j g = ap (λ (w : List ℕ). getD w j 0) (p .words) ∙ replaced-above (wordsOf before) (replicate count 0) from count (length-replicate count 0) room j g
 
 -- ---- one outcome
 

@@ -54,6 +54,21 @@ bytes-words n (a ∷ b ∷ c ∷ d ∷ r) e h =
     let er : bytesOf (wordsOf r) ≡ r = bytes-words (n - 1) r (omega arith) (λ i. h (suc (suc (suc (suc i))))) in
     rw (ea, eb, ec, ed, er)
 
+-- a word of bytes is below 2^32
+pub words-small : (l : List ℕ) → ((i : ℕ) → getD l i 0 < 256) → (i : ℕ) → getD (wordsOf l) i 0 < 4294967296
+unfolding wordsOf
+words-small [] h i = omega arith
+words-small (a ∷ []) h i = omega arith
+words-small (a ∷ b ∷ []) h i = omega arith
+words-small (a ∷ b ∷ c ∷ []) h i = omega arith
+words-small (a ∷ b ∷ c ∷ d ∷ r) h zero =
+    let ha : a < 256 = h 0 in
+    let hb : b < 256 = h 1 in
+    let hc : c < 256 = h 2 in
+    let hd : d < 256 = h 3 in
+    omega arith
+words-small (a ∷ b ∷ c ∷ d ∷ r) h (suc i) = words-small r (λ j. h (suc (suc (suc (suc j))))) i
+
 -- ---- parts
 
 pub words-take : (k : ℕ) (l : List ℕ) → wordsOf (take (k * 4) l) ≡ take k (wordsOf l)

@@ -1,0 +1,184 @@
+/* A plain scanner of the same rules, as one would write it in C: nothing about it is proved. It is here to be measured against. */
+#include "plain_words.h"
+#include <string.h>
+
+enum { SEPARATES = 1, PERMITTED = 2, INSIDE = 4, LETTER = 8, DIGIT = 16, IN_NAME = 32 };
+static uint8_t class_of[256];
+
+static const char *const reserved[] = {
+    "ALIAS", "AND", "BACKWARD", "BOOL", "CASE", "CONNECT", "CONST", "DEFAULT", "DIV", "DO", "ELSE", "ELSEIF", "ENDFOR", "ENDFUNC", "ENDIF",
+    "ENDMODULE", "ENDPROC", "ENDRECORD", "ENDTEST", "ENDTRAP", "ENDWHILE", "ERROR", "EXIT", "FALSE", "FOR", "FROM", "FUNC", "GOTO", "IF", "INOUT",
+    "LOCAL", "MOD", "MODULE", "NOSTEPIN", "NOT", "NOVIEW", "NUM", "OR", "PERS", "PROC", "RAISE", "READONLY", "RECORD", "RETRY", "RETURN", "STEP",
+    "SYSMODULE", "TEST", "THEN", "TO", "TPREADNUM", "TPWRITE", "TRAP", "TRUE", "TRYNEXT", "UNDO", "VAR", "VIEWONLY", "WHILE", "WITH", "XOR",
+};
+
+void plain_start(void) {
+    for (int b = 0; b < 256; b++) {
+        int letter = (b >= 'A' && b <= 'Z') || (b >= 'a' && b <= 'z'), digit = b >= '0' && b <= '9';
+        int separates = b == ' ' || b == '\t' || b == '\r' || b == '\n', permitted = separates || (b >= 0x20 && b <= 0x7e);
+        class_of[b] = (uint8_t)(separates * SEPARATES | permitted * PERMITTED | (permitted || b >= 0xa0) * INSIDE | letter * LETTER | digit * DIGIT |
+                                (letter || digit || b == '_') * IN_NAME);
+    }
+}
+
+/* Is this name, letter case folded, a reserved word? By halving the sorted table. */
+static int is_reserved(const uint8_t *name, size_t n) {
+    char folded[33];
+    if (n > 9)
+        return 0;
+    for (size_t i = 0; i < n; i++)
+        folded[i] = (char)(name[i] >= 'a' && name[i] <= 'z' ? name[i] - 32 : name[i]);
+    folded[n] = 0;
+    size_t low = 0, high = sizeof reserved / sizeof *reserved;
+    while (low < high) {
+        size_t middle = (low + high) / 2;
+        int order = strcmp(folded, reserved[middle]);
+        if (order == 0)
+            return 1;
+        if (order < 0)
+            high = middle;
+        else
+            low = middle + 1;
+    }
+    return 0;
+}
+
+struct scan {
+    uint32_t refusal, kind;
+    size_t length; /* of the word, or bytes up to the refusal */
+};
+
+static struct scan refused(uint32_t number, size_t after) { return (struct scan){number, 0, after}; }
+static struct scan word(uint32_t kind, size_t length) { return (struct scan){0, kind, length}; }
+
+static struct scan scan_name(const uint8_t *t, size_t n) {
+    size_t k = 1;
+    while (k < n && class_of[t[k]] & IN_NAME)
+        k++;
+    if (k > 32)
+        return refused(5, 0);
+    return word(is_reserved(t, k) ? 1 : 0, k);
+}
+
+static struct scan scan_number(const uint8_t *t, size_t n) {
+    size_t k = 0;
+    uint32_t value = 0;
+    while (k < n && class_of[t[k]] & DIGIT) {
+        if (value <= 8388608)
+            value = value * 10 + (t[k] - '0');
+        k++;
+    }
+    if (k < n && (class_of[t[k]] & LETTER || t[k] == '_' || t[k] == '.'))
+        return refused(5, 0);
+    return value > 8388608 ? refused(6, 0) : word(2, k);
+}
+
+static struct scan scan_string(const uint8_t *t, size_t n) {
+    size_t k = 1, characters = 0, bad = 0;
+    for (;;) {
+        if (k == n)
+            return refused(5, 0);
+        uint8_t b = t[k];
+        if (b == '"') {
+            if (k + 1 == n || t[k + 1] != '"')
+                break;
+            k++;
+        } else if (b == '\r' || b == '\n' || b == '\\')
+            return refused(5, 0);
+        else if (!(class_of[b] & INSIDE) && !bad)
+            bad = k;
+        if (++characters > 80)
+            return refused(5, 0);
+        k++;
+    }
+    return bad ? refused(4, bad) : word(3, k + 1);
+}
+
+static struct scan scan_sign(const uint8_t *t, size_t n) {
+    uint8_t next = n > 1 ? t[1] : 0;
+    switch (t[0]) {
+    case ':':
+    case '>':
+        return word(4, next == '=' ? 2 : 1);
+    case '<':
+        return word(4, next == '=' || next == '>' ? 2 : 1);
+    case ';': case ',': case '(': case ')': case '{': case '}': case '=': case '+': case '-': case '*': case '\\':
+        return word(4, 1);
+    default:
+        return refused(5, 0);
+    }
+}
+
+static struct scan scan(const uint8_t *t, size_t n) {
+    uint8_t c = class_of[t[0]];
+    if (!(c & PERMITTED))
+        return refused(4, 0);
+    if (c & LETTER)
+        return scan_name(t, n);
+    if (c & DIGIT)
+        return scan_number(t, n);
+    return t[0] == '"' ? scan_string(t, n) : scan_sign(t, n);
+}
+
+/* The place of the next word or of the end; *bad where a comment holds a byte that is permitted nowhere. */
+static size_t skip(const uint8_t *t, size_t n, size_t at, int *bad) {
+    while (at < n) {
+        if (class_of[t[at]] & SEPARATES) {
+            at++;
+            continue;
+        }
+        if (t[at] != '!')
+            return at;
+        while (at < n && t[at] != '\n') {
+            if (!(class_of[t[at]] & INSIDE)) {
+                *bad = 1;
+                return at;
+            }
+            at++;
+        }
+    }
+    return at;
+}
+
+static void put32(uint8_t *b, size_t v) {
+    b[0] = (uint8_t)v;
+    b[1] = (uint8_t)(v >> 8);
+    b[2] = (uint8_t)(v >> 16);
+    b[3] = (uint8_t)(v >> 24);
+}
+
+static void ends(uint8_t *answer, size_t words, uint32_t refusal, size_t offset) {
+    put32(answer, words);
+    put32(answer + 4, refusal);
+    put32(answer + 8, offset);
+}
+
+void plain_list(const uint8_t *text, size_t n, uint8_t *out, size_t room, uint8_t *answer) {
+    size_t at = 0, words = 0;
+    if (n > 32768) {
+        ends(answer, 0, 3, 32768);
+        return;
+    }
+    for (;;) {
+        int bad = 0;
+        at = skip(text, n, at, &bad);
+        if (bad || at == n) {
+            ends(answer, words, bad ? 4 : 0, bad ? at : 0);
+            return;
+        }
+        struct scan s = scan(text + at, n - at);
+        if (words == 8192 && !(s.refusal && s.length == 0))
+            s = refused(7, 0);
+        if (s.refusal) {
+            ends(answer, words, s.refusal, at + s.length);
+            return;
+        }
+        if (12 * words + 12 <= room) {
+            put32(out + 12 * words, s.kind);
+            put32(out + 12 * words + 4, at);
+            put32(out + 12 * words + 8, s.length);
+        }
+        words++;
+        at += s.length;
+    }
+}

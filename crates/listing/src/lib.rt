@@ -1,0 +1,124 @@
+// The listing for the pendant, whose screen program is written in C: numbers and byte slices only. Numbers are written as four bytes, low byte first.
+use words::Cursor;
+use words::Found;
+use words::Step;
+use words::word_at;
+ghost use mathlib.Core.Path.{_≡_};
+ghost use Prim.Native.Nat.{_+_, _≤_};
+ghost use lib.ListN.{length};
+ghost use Rattle.paper.specs.Words.{kindOf};
+ghost use Rattle.listing.specs.Listing.{put4, kindNumber, entered, Ended, Listed·all, Exported, Answered};
+
+fn put32(out: &mut [u8], at: usize, v: usize)
+    requires { ⌜ at + 4 ≤ length (now out) ⌝ }
+    ensures { λ _. ⌜ now (out .exit) ≡ put4 (now (out .entry)) at v ⌝ }
+{
+    out[at] = (v % 256) as u8;
+    out[at + 1] = (v / 256 % 256) as u8;
+    out[at + 2] = (v / 65536 % 256) as u8;
+    out[at + 3] = (v / 16777216 % 256) as u8;
+}
+
+// Name 0, reserved 1, number 2, string 3, sign 4.
+fn kind_number(sort: u32) -> usize
+    ensures { λ r. ⌜ r ≡ kindNumber (kindOf sort) ⌝ }
+{
+    if 22 <= sort {
+        return 1;
+    }
+    if 4 <= sort {
+        return 4;
+    }
+    if sort == 3 {
+        return 3;
+    }
+    if sort == 2 {
+        return 2;
+    }
+    0
+}
+
+// The entry of a word at its index, where there is room for it.
+fn put_entry(out: &mut [u8], index: u32, sort: u32, place: usize, length: usize)
+    ensures { λ _. ⌜ now (out .exit) ≡ entered (now (out .entry)) index sort place length ⌝ }
+{
+    let at = (index as usize) * 12;
+    if out.len() < at + 12 {
+        return;
+    }
+    put32(out, at, kind_number(sort));
+    put32(out, at + 4, place);
+    put32(out, at + 8, length);
+}
+
+// How a listing ends: how many words there are, and the refusal, 0 at 0 where there is none.
+struct Listed {
+    words: u32,
+    refusal: u32,
+    offset: usize,
+}
+
+fn ending(s: Step, words: u32) -> Listed
+    ensures { λ r. ⌜ Ended s words (r .words) (r .refusal) (r .offset) ⌝ }
+{
+    if let Step::Refused(number, place) = s {
+        return Listed {
+            words,
+            refusal: number,
+            offset: place,
+        };
+    }
+    Listed {
+        words,
+        refusal: 0,
+        offset: 0,
+    }
+}
+
+// Lists a text, one word after another.
+fn list(text: &[u8], out: &mut [u8]) -> Listed
+    ensures { λ r. ⌜ Listed·all (now (text .entry)) (now (out .entry)) (now (out .exit)) (r .words) (r .refusal) (r .offset) ⌝ }
+{
+    let mut c = Cursor::start();
+    loop {
+        let s = c.step(text);
+        let Step::Word(sort, place, length, _, next) = s else {
+            return ending(s, c.words);
+        };
+        put_entry(out, c.words, sort, place, length);
+        c = next;
+    }
+}
+
+// Writes an entry of twelve bytes for each word, kind, place and length, as many as there is room for, and into the answer how many words there are,
+// the refusal and its place. 1, or 0 where the answer is too short, and then nothing is touched.
+#[no_mangle]
+pub extern "C" fn rapid_list(text: &[u8], out: &mut [u8], answer: &mut [u8]) -> u32
+    ensures { λ r. ⌜ Exported (now (text .entry)) (now (out .entry)) (now (answer .entry)) r (now (out .exit)) (now (answer .exit)) ⌝ }
+{
+    if answer.len() < 12 {
+        return 0;
+    }
+    let l = list(text, out);
+    put32(answer, 0, l.words as usize);
+    put32(answer, 4, l.refusal as usize);
+    put32(answer, 8, l.offset);
+    1
+}
+
+// Writes the place and the length of the word that starts at a place, and returns 1. Where none does or the answer is too short, 0, and nothing is
+// touched.
+#[no_mangle]
+pub extern "C" fn rapid_ask(text: &[u8], place: usize, answer: &mut [u8]) -> u32
+    ensures { λ r. ⌜ Answered (now (text .entry)) place (now (answer .entry)) r (now (answer .exit)) ⌝ }
+{
+    if answer.len() < 8 {
+        return 0;
+    }
+    let Found::Length(length) = word_at(text, place) else {
+        return 0;
+    };
+    put32(answer, 0, place);
+    put32(answer, 4, length);
+    1
+}

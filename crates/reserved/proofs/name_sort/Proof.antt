@@ -1,0 +1,28 @@
+-- `reserved::name_sort` meets its contract.
+use Rattle.reserved.proofs.Packs.{no-key, a-key}
+use borrow.Author.Needs.{needs}
+use Rattle.reserved.proofs.name_sort.Statement.{statement}
+use Rattle.reserved.proofs.name_sort.Tie as tie
+
+pack-requires : tie.Need-pack-requires
+pack-requires c κs = search needs
+
+enum-known-key : tie.Need-enum-known-key
+enum-known-key c = search needs
+
+enum-told : tie.Need-enum-told
+enum-told c = search needs
+
+returns : tie.Need-returns
+returns c = no-key _ _ (c .before .before .pack .ensures) (c .enum-told .given .1)
+
+sort-of-key-requires : tie.Need-sort-of-key-requires
+sort-of-key-requires c κs = search needs
+
+returns-2 : tie.Need-returns-2
+returns-2 c = a-key _ _ _ _ (c .before .before .before .before .pack .ensures) (c .before .before .key .given .1) (c .sort-of-key .ensures)
+
+pub name-sort-spec : {M : Type 1} → statement M
+name-sort-spec =
+    tie.close
+    (tie.spec pack-requires enum-known-key enum-told returns sort-of-key-requires returns-2)

@@ -1,0 +1,80 @@
+-- A word lies in the text that it is scanned in, and so does a refusal.
+use mathlib.Core.Path.{_≡_, refl, sym, ap, subst, _∙_}
+use mathlib.Core.Bool.{Bool, true, false}
+use mathlib.Core.List.{List, [], _∷_, _++_, map}
+use mathlib.Core.Option.{Option, none, some}
+use Prim.Native.Nat.{ℕ, zero, suc, _+_, _*_, _-_, _<_, _≤_}
+use native.Mathlib.Nat.{zero-add}
+use native.Mathlib.Numerals.{add-one}
+use native.Mathlib.Omega.{arith}
+use lib.Dec.{eqb, ltb, leb}
+use lib.ListN.{length, getD, take, drop, drop-of-length-le, length-take, length-drop, List·getD-eq-default}
+use lib.Seq.{drop-cons, take-suc}
+use borrow.Author.Tests.{ltb-true, ltb-false, eqb-true, eqb-false, eq-eqb, ne-eqb, lt-ltb, le-ltb, le-leb, lt-leb, leb-true, leb-false}
+pub use Rattle.reserved.proofs.Table.{test, false-true}
+use Rattle.paper.specs.Sorts.{folded, nameSort, signSort}
+use Rattle.paper.specs.Words.{Scan, word, refused, run, inName, letter, digit, permitted, permittedInside, spoilsNumber, valueOf, stringEnd, scanName, scanNumber, scanString, scanSign, scan}
+use Rattle.scanner.proofs.Strings.{end-within, none-some}
+
+abbrev pub Within : List ℕ → Scan → Type 0
+Within l (word sort n v) = (0 < n) × (n ≤ length l)
+Within l (refused number after) = after ≤ length l
+
+run-length : (such : ℕ → Bool) (l : List ℕ) → run such l ≤ length l
+unfolding run
+run-length such [] = omega arith
+run-length such (b ∷ r) = test (such b) (λ t. rw (t, run) (omega (arith, run-length such r))) (λ t. rw (t, run) (omega arith))
+
+module _ (b : ℕ) (r : List ℕ) where
+  run-some : (such : ℕ → Bool) → such b ≡ true → (0 < run such (b ∷ r)) × (run such (b ∷ r) ≤ length (b ∷ r))
+  unfolding run
+  run-some such t = (rw (t, run) (omega arith), run-length such (b ∷ r))
+
+  name-within : letter b ≡ true → Within (b ∷ r) (scanName (b ∷ r))
+  unfolding scanName inName
+  name-within h =
+      test (ltb 32 (run inName (b ∷ r))) (λ t. rw (t, scanName) (omega arith))
+      (λ t. rw (t, scanName) (run-some inName (rw (h, inName))))
+
+  number-within : digit b ≡ true → Within (b ∷ r) (scanNumber (b ∷ r))
+  unfolding scanNumber
+  number-within h =
+      test (spoilsNumber (getD (b ∷ r) (run digit (b ∷ r)) 0)) (λ t. rw (t, scanNumber) (omega arith))
+      (λ t. test (ltb 8388608 (valueOf (take (run digit (b ∷ r)) (b ∷ r)) 0))
+      (λ g. rw (t, scanNumber) (rw g (omega arith)))
+      (λ g. rw (t, scanNumber) (rw g (run-some digit h))))
+
+  string-within : Within (b ∷ r) (scanString (b ∷ r))
+  unfolding scanString
+  string-within = ended (stringEnd 80 false r 1) refl
+    where
+      inside : (n : ℕ) → stringEnd 80 false r 1 ≡ some n → (1 ≤ n) × (n ≤ length (b ∷ r))
+      inside n e = let x = end-within 80 false r 1 n e in (omega arith, omega arith)
+
+      ended : (o : Option ℕ) → stringEnd 80 false r 1 ≡ o → Within (b ∷ r) (scanString (b ∷ r))
+      ended none e = rw (e, scanString) (omega arith)
+      ended (some n) e =
+          test (ltb (run permittedInside (b ∷ r)) n)
+          (λ t. rw (e, scanString) (rw t (run-length permittedInside (b ∷ r))))
+          (λ t. rw (e, scanString) (rw t (inside n e)))
+
+  sign-within : Within (b ∷ r) (scanSign (b ∷ r))
+  unfolding scanSign
+  sign-within = pair (signSort (take 2 (b ∷ r))) refl
+    where
+      one : (s : ℕ) → signSort (take 2 (b ∷ r)) ≡ 0 → signSort (take 1 (b ∷ r)) ≡ s → Within (b ∷ r) (scanSign (b ∷ r))
+      one zero z e = rw (z, scanSign) (rw e (omega arith))
+      one (suc s) z e = rw (z, scanSign) (rw e (omega arith, omega arith))
+
+      pair : (s : ℕ) → signSort (take 2 (b ∷ r)) ≡ s → Within (b ∷ r) (scanSign (b ∷ r))
+      pair zero e = one (signSort (take 1 (b ∷ r))) e refl
+      pair (suc s) e = rw (e, scanSign) (simp length-take (omega arith), simp length-take (omega arith))
+
+  pub scan-within : Within (b ∷ r) (scan b (b ∷ r))
+  unfolding scan
+  scan-within =
+      test (permitted b) (λ p. test (letter b) (λ t. rw (p, scan) (rw t (name-within t)))
+      (λ t. test (digit b) (λ d. rw (p, scan) (rw t (rw d (number-within d))))
+      (λ d. test (eqb b 34) (λ q. rw (p, scan) (rw t (rw d (rw q string-within))))
+      (λ q. rw (p, scan) (rw t (rw d (rw q sign-within)))))))
+      (λ p. rw (p, scan) (omega arith))

@@ -1,0 +1,9 @@
+pub mod Bytes
+pub mod Runs
+pub mod Values
+pub mod Strings
+pub mod Signs
+pub mod Gaps
+pub mod Starts
+pub mod Bounds
+pub mod Unique

@@ -1,0 +1,34 @@
+-- Each public promise settles the result.
+use mathlib.Core.Path.{_≡_, refl, sym, _∙_}
+use mathlib.Core.Bool.{false}
+use mathlib.Core.List.{List}
+use Prim.Native.Nat.{ℕ}
+use native.Mathlib.Omega.{arith}
+use lib.ListN.{getD, drop}
+use Rattle.paper.specs.Words.{scan, gap}
+use Rattle.scanner.specs.declared.Scan.{Scan}
+use Rattle.scanner.specs.declared.Scan.the-variants.{Word, Refused}
+use Rattle.scanner.specs.declared.Gap.{Gap}
+use Rattle.scanner.specs.declared.Gap.the-variants.{UpTo, BadByte}
+use Rattle.scanner.specs.Answers.{scanOf, gapOf}
+
+apart : {A : Type 0} → _≡_ {A = ℕ} 0 1 → A
+apart z = absurd (omega arith)
+
+pub scan-of-one : (r s : Scan) → scanOf r ≡ scanOf s → r ≡ s
+scan-of-one (Word a b c) (Word d e f) h = cc
+scan-of-one (Word a b c) (Refused d e) h = apart (cc)
+scan-of-one (Refused a b) (Word d e f) h = apart (cc)
+scan-of-one (Refused a b) (Refused d e) h = cc
+
+gap-of-one : (r s : Gap) → gapOf r ≡ gapOf s → r ≡ s
+gap-of-one (UpTo a) (UpTo b) h = cc
+gap-of-one (UpTo a) (BadByte b) h = apart (cc)
+gap-of-one (BadByte a) (UpTo b) h = apart (cc)
+gap-of-one (BadByte a) (BadByte b) h = cc
+
+pub scan-word-unique : (text : List ℕ) (r s : Scan) → scanOf r ≡ scan (getD text 0 0) text → scanOf s ≡ scan (getD text 0 0) text → r ≡ s
+scan-word-unique text r s h g = scan-of-one r s (h ∙ sym g)
+
+pub skip-gap-unique : (text : List ℕ) (at : ℕ) (r s : Gap) → gapOf r ≡ gap false (drop at text) at → gapOf s ≡ gap false (drop at text) at → r ≡ s
+skip-gap-unique text at r s h g = gap-of-one r s (h ∙ sym g)

@@ -1,0 +1,28 @@
+-- `scanner::classes::is_in_name` meets its contract.
+use mathlib.Core.Path.{sym, _∙_}
+use Rattle.paper.specs.Words.{inName}
+use borrow.Author.Needs.{needs}
+use Rattle.scanner.proofs.classes.is_in_name.Statement.{statement}
+use Rattle.scanner.proofs.classes.is_in_name.Tie as tie
+
+is-letter-requires : tie.Need-is-letter-requires
+is-letter-requires c κs = search needs
+
+returns : tie.Need-returns
+unfolding inName
+returns c = rw (sym (c .before .is-letter .ensures) ∙ c .if1 .taken)
+
+is-digit-requires : tie.Need-is-digit-requires
+is-digit-requires c κs = search needs
+
+returns-2 : tie.Need-returns-2
+unfolding inName
+returns-2 c = rw (sym (c .before .before .before .is-letter .ensures) ∙ c .before .before .if1 .left, sym (c .before .is-digit .ensures) ∙ c .if2 .taken)
+
+returns-3 : tie.Need-returns-3
+unfolding inName
+returns-3 c = rw (sym (c .before .before .before .is-letter .ensures) ∙ c .before .before .if1 .left, sym (c .before .is-digit .ensures) ∙ c .if2 .left)
+
+pub is-in-name-spec : {M : Type 1} → statement M
+is-in-name-spec =
+    tie.close (tie.spec is-letter-requires returns is-digit-requires returns-2 returns-3)

@@ -1,0 +1,151 @@
+// Classes of bytes, by comparisons in the paper's own order. (An array of classes would be slower: a constant array is laid out anew at each use.)
+ghost use mathlib.Core.Path.{_≡_};
+ghost use mathlib.Core.List.{[], _∷_};
+ghost use Rattle.paper.specs.Sorts.{signSort};
+ghost use Rattle.paper.specs.Words.{between, letter, digit, inName, spoilsNumber, barredInString, separates, permitted, permittedInside};
+
+fn is_between(low: u8, high: u8, b: u8) -> bool
+    ensures { λ r. ⌜ r ≡ between low high b ⌝ }
+{
+    if b < low {
+        return false;
+    }
+    b <= high
+}
+
+pub(crate) fn is_letter(b: u8) -> bool
+    ensures { λ r. ⌜ r ≡ letter b ⌝ }
+{
+    if is_between(b'A', b'Z', b) {
+        return true;
+    }
+    is_between(b'a', b'z', b)
+}
+
+pub(crate) fn is_digit(b: u8) -> bool
+    ensures { λ r. ⌜ r ≡ digit b ⌝ }
+{
+    is_between(b'0', b'9', b)
+}
+
+pub(crate) fn is_in_name(b: u8) -> bool
+    ensures { λ r. ⌜ r ≡ inName b ⌝ }
+{
+    if is_letter(b) {
+        return true;
+    }
+    if is_digit(b) {
+        return true;
+    }
+    b == b'_'
+}
+
+pub(crate) fn is_spoiling(b: u8) -> bool
+    ensures { λ r. ⌜ r ≡ spoilsNumber b ⌝ }
+{
+    if is_letter(b) {
+        return true;
+    }
+    if b == b'_' {
+        return true;
+    }
+    b == b'.'
+}
+
+pub(crate) fn is_barred(b: u8) -> bool
+    ensures { λ r. ⌜ r ≡ barredInString b ⌝ }
+{
+    if b == b'\r' {
+        return true;
+    }
+    if b == b'\n' {
+        return true;
+    }
+    b == b'\\'
+}
+
+pub(crate) fn is_separator(b: u8) -> bool
+    ensures { λ r. ⌜ r ≡ separates b ⌝ }
+{
+    if b == b' ' {
+        return true;
+    }
+    if b == b'\t' {
+        return true;
+    }
+    if b == b'\r' {
+        return true;
+    }
+    b == b'\n'
+}
+
+pub(crate) fn is_permitted(b: u8) -> bool
+    ensures { λ r. ⌜ r ≡ permitted b ⌝ }
+{
+    if is_between(0x20, 0x7e, b) {
+        return true;
+    }
+    if b == b'\t' {
+        return true;
+    }
+    if b == b'\n' {
+        return true;
+    }
+    b == b'\r'
+}
+
+pub(crate) fn is_permitted_inside(b: u8) -> bool
+    ensures { λ r. ⌜ r ≡ permittedInside b ⌝ }
+{
+    if is_permitted(b) {
+        return true;
+    }
+    is_between(0xa0, 0xff, b)
+}
+
+// The sort of the sign that is this one byte, or 0.
+pub(crate) fn one_sign(b: u8) -> u32
+    ensures { λ r. ⌜ r ≡ signSort (b ∷ []) ⌝ }
+{
+    match b {
+        b';' => 4,
+        b',' => 5,
+        b'(' => 6,
+        b')' => 7,
+        b'{' => 8,
+        b'}' => 9,
+        b':' => 10,
+        b'=' => 12,
+        b'<' => 13,
+        b'>' => 16,
+        b'+' => 18,
+        b'-' => 19,
+        b'*' => 20,
+        b'\\' => 21,
+        _ => 0,
+    }
+}
+
+// The sort of the sign that is these two bytes, or 0.
+pub(crate) fn two_signs(b: u8, c: u8) -> u32
+    ensures { λ r. ⌜ r ≡ signSort (b ∷ c ∷ []) ⌝ }
+{
+    if c == b'=' {
+        if b == b':' {
+            return 11;
+        }
+        if b == b'<' {
+            return 14;
+        }
+        if b == b'>' {
+            return 17;
+        }
+        return 0;
+    }
+    if c == b'>' {
+        if b == b'<' {
+            return 15;
+        }
+    }
+    0
+}

@@ -1,0 +1,84 @@
+// One word at the front of a text, and what lies between words.
+mod classes;
+mod name;
+mod number;
+mod sign;
+mod string;
+
+use classes::is_digit;
+use classes::is_letter;
+use classes::is_permitted;
+use classes::is_permitted_inside;
+use classes::is_separator;
+ghost use mathlib.Core.Path.{_≡_};
+ghost use mathlib.Core.Bool.{false};
+ghost use lib.ListN.{getD, drop};
+ghost use Rattle.paper.specs.Words.{scan, gap};
+ghost use Rattle.scanner.specs.Answers.{scanOf, gapOf};
+
+pub enum Scan {
+    // its sort, its length and, of a number, its value
+    Word(u32, usize, u32),
+    // the refusal's number, and how many bytes after the word's start
+    Refused(u32, usize),
+}
+
+// The word that a text begins with. An empty text begins with no permitted byte.
+pub fn scan_word(text: &[u8]) -> Scan
+    ensures { λ r. ⌜ scanOf r ≡ scan (getD (now (text .entry)) 0 0) (now (text .entry)) ⌝ }
+{
+    if text.len() == 0 {
+        return Scan::Refused(4, 0);
+    }
+    let b = text[0];
+    if is_permitted(b) {
+        if is_letter(b) {
+            return name::scan_name(text);
+        }
+        if is_digit(b) {
+            return number::scan_number(text);
+        }
+        if b == b'"' {
+            return string::scan_string(text);
+        }
+        return sign::scan_sign(text);
+    }
+    Scan::Refused(4, 0)
+}
+
+pub enum Gap {
+    // the next word, or the end of the text
+    UpTo(usize),
+    // a byte in a comment that is permitted nowhere
+    BadByte(usize),
+}
+
+// What lies before the next word, from a place on: separators and comments.
+pub fn skip_gap(text: &[u8], at: usize) -> Gap
+    ensures { λ r. ⌜ gapOf r ≡ gap false (drop at (now (text .entry))) at ⌝ }
+{
+    let mut place = at;
+    let mut comment = false;
+    while place < text.len() {
+        let b = text[place];
+        place += 1;
+        if comment {
+            if b == b'\n' {
+                comment = false;
+            } else {
+                if is_permitted_inside(b) {} else {
+                    return Gap::BadByte(place - 1);
+                }
+            }
+        } else {
+            if is_separator(b) {} else {
+                if b == b'!' {
+                    comment = true;
+                } else {
+                    return Gap::UpTo(place - 1);
+                }
+            }
+        }
+    }
+    Gap::UpTo(place)
+}

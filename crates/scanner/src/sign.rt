@@ -1,0 +1,34 @@
+// A sign, or no word at all.
+use super::Scan;
+use super::classes::one_sign;
+use super::classes::two_signs;
+ghost use mathlib.Core.Path.{_≡_};
+ghost use Prim.Native.Nat.{_<_};
+ghost use lib.ListN.{length};
+ghost use Rattle.paper.specs.Words.{scanSign};
+ghost use Rattle.scanner.specs.Answers.{scanOf, pairSort};
+
+// The sort of the sign that a text's first two bytes are, or 0.
+fn pair_sort(text: &[u8]) -> u32
+    ensures { λ r. ⌜ r ≡ pairSort (now (text .entry)) ⌝ }
+{
+    if 1 < text.len() {
+        return two_signs(text[0], text[1]);
+    }
+    0
+}
+
+pub(crate) fn scan_sign(text: &[u8]) -> Scan
+    requires { ⌜ 0 < length (now text) ⌝ }
+    ensures { λ r. ⌜ scanOf r ≡ scanSign (now (text .entry)) ⌝ }
+{
+    let pair = pair_sort(text);
+    if pair != 0 {
+        return Scan::Word(pair, 2, 0);
+    }
+    let sort = one_sign(text[0]);
+    if sort == 0 {
+        return Scan::Refused(5, 0);
+    }
+    Scan::Word(sort, 1, 0)
+}

@@ -1,0 +1,5 @@
+pub mod Places
+pub mod Readings
+pub mod Cases
+pub mod Asks
+pub mod Unique

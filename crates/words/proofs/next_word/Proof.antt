@@ -1,0 +1,35 @@
+-- `words::next_word` meets its contract.
+use denote.Ref.{now}
+use Rattle.words.proofs.Cases.{next-here, next-bad}
+use borrow.Author.Needs.{needs}
+use Rattle.words.proofs.next_word.Statement.{statement}
+use Rattle.words.proofs.next_word.Tie as tie
+
+skip-gap-requires : tie.Need-skip-gap-requires
+skip-gap-requires c κs = search needs
+
+enum-known-place : tie.Need-enum-known-place
+enum-known-place c = search needs
+
+word-here-requires : tie.Need-word-here-requires
+word-here-requires c κs = search needs
+
+enum-known-place-2 : tie.Need-enum-known-place-2
+enum-known-place-2 c = search needs
+
+returns : tie.Need-returns
+returns c = next-here (now (c .before .before .before .before .before .before .args .text)) (c .before .before .before .before .before .before .args .full) (c .before .before .before .before .before .before .args .at) _ (c .before .before .before .before .skip-gap .ensures) _ (c .word-here .result) (c .before .before .place .given .1) (c .word-here .ensures)
+
+returns-2 : tie.Need-returns-2
+returns-2 c = next-bad (now (c .before .before .before .before .before .args .text)) (c .before .before .before .before .before .args .full) (c .before .before .before .before .before .args .at) _ (c .before .before .before .skip-gap .ensures) _ (c .before .place2 .given .1)
+
+pub next-word-spec : {M : Type 1} → statement M
+next-word-spec =
+    tie.close
+    (tie.spec
+    skip-gap-requires
+    enum-known-place
+    word-here-requires
+    enum-known-place-2
+    returns
+    returns-2)

@@ -1,0 +1,52 @@
+-- `words::part_at` meets its contract.
+use native.Mathlib.Omega.{arith}
+use denote.Ref.{now}
+use Rattle.words.proofs.Asks.{part-none, part-inside, part-some}
+use borrow.Author.Needs.{needs}
+use Rattle.words.proofs.part_at.Statement.{statement}
+use Rattle.words.proofs.part_at.Tie as tie
+
+word-at-requires : tie.Need-word-at-requires
+word-at-requires c κs = search needs
+
+enum-known-length : tie.Need-enum-known-length
+enum-known-length c = search needs
+
+enum-told : tie.Need-enum-told
+enum-told c = search needs
+
+slice-aggregate-result : tie.Need-slice-aggregate-result
+slice-aggregate-result c = search needs
+
+returns : tie.Need-returns
+returns c = part-none (now (c .before .before .before .before .before .args .text)) (c .before .before .before .before .before .args .place) (c .before .before .before .word-at .result) (c .before .before .before .word-at .ensures) (c .before .enum-told .given .1)
+
+add-result : tie.Need-add-result
+add-result c = omega (arith, part-inside (now (c .before .before .before .before .before .args .text)) (c .before .before .before .before .before .args .place) (c .before .before .before .word-at .result) (c .before .before .before .word-at .ensures) _ (c .before .length .given .1), c .before .before .before .before .before .good)
+
+sub-result : tie.Need-sub-result
+sub-result c = search needs
+
+part-result-start : tie.Need-part-result-start
+part-result-start c = search needs
+
+part-result-end : tie.Need-part-result-end
+part-result-end c = omega (arith, part-inside (now (c .before .before .before .before .before .args .text)) (c .before .before .before .before .before .args .place) (c .before .before .before .word-at .result) (c .before .before .before .word-at .ensures) _ (c .before .length .given .1))
+
+returns-2 : tie.Need-returns-2
+returns-2 c = part-some (now (c .before .before .before .before .before .before .args .text)) (c .before .before .before .before .before .before .args .place) (c .before .before .before .before .word-at .result) (c .before .before .before .before .word-at .ensures) _ (c .before .before .length .given .1)
+
+pub part-at-spec : {M : Type 1} → statement M
+part-at-spec =
+    tie.close
+    (tie.spec
+    word-at-requires
+    enum-known-length
+    enum-told
+    slice-aggregate-result
+    returns
+    add-result
+    sub-result
+    part-result-start
+    part-result-end
+    returns-2)

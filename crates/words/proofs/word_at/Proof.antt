@@ -1,0 +1,61 @@
+-- `words::word_at` meets its contract. The invariant: the answer is in what is left of the reading. The measure: the bytes that are left.
+use Prim.Native.Nat.{_-_}
+use lib.ListN.{length}
+use mathlib.Core.Path.{refl}
+use denote.Ref.{now}
+use denote.Enum.Declared.{tagOf}
+use Rattle.words.proofs.Step.{the-type}
+use Rattle.words.proofs.Asks.{Search, search-start, search-none, search-found, search-past, search-on}
+use Rattle.words.proofs.Readings.{word-less}
+use borrow.Author.Needs.{needs}
+use Rattle.words.proofs.word_at.Statement.{statement}
+use Rattle.words.proofs.word_at.Tie as tie
+
+abbrev Inv-loop : tie.InvT-loop
+Inv-loop text place c₀ c = Search text place c
+
+abbrev μ-loop : tie.MeasureT-loop
+μ-loop text place c₀ c = length text - c .place
+
+start-requires : tie.Need-start-requires Inv-loop μ-loop
+start-requires c κs = search needs
+
+loop-holds : tie.Need-loop-holds Inv-loop μ-loop
+loop-holds c = search (needs, search-start)
+
+step-requires : tie.Need-step-requires Inv-loop μ-loop
+step-requires c κs = search needs
+
+enum-known-start : tie.Need-enum-known-start Inv-loop μ-loop
+enum-known-start c = search needs
+
+returns : tie.Need-returns Inv-loop μ-loop
+returns c = search-none (now (c .before .before .before .before .before .args .text)) (c .before .before .before .before .before .args .place) (c .before .before .loop .c) (c .before .before .loop .inv) (c .before .step .result) (c .before .step .ensures) (tagOf the-type) (λ s p n v d. refl) (c .match .keys2)
+
+returns-2 : tie.Need-returns-2 Inv-loop μ-loop
+returns-2 c = search-found (now (c .before .before .before .before .before .before .before .before .args .text)) (c .before .before .before .before .before .before .before .before .args .place) (c .before .before .before .before .before .loop .c) (c .before .before .before .before .before .loop .inv) (c .before .before .before .before .step .result) (c .before .before .before .before .step .ensures) _ _ _ _ _ (c .before .before .start2 .given .1) (c .if1 .taken)
+
+returns-3 : tie.Need-returns-3 Inv-loop μ-loop
+returns-3 c = search-past (now (c .before .before .before .before .before .before .before .before .before .args .text)) (c .before .before .before .before .before .before .before .before .before .args .place) (c .before .before .before .before .before .before .loop .c) (c .before .before .before .before .before .before .loop .inv) (c .before .before .before .before .before .step .result) (c .before .before .before .before .before .step .ensures) _ _ _ _ _ (c .before .before .before .start2 .given .1) (c .before .if1 .left) (c .if2 .taken)
+
+loop-less : tie.Need-loop-less Inv-loop μ-loop
+loop-less c = word-less (now (c .before .before .before .before .before .before .before .before .before .args .text)) (c .before .before .before .before .before .before .loop .c) (c .before .before .before .before .before .step .result) (c .before .before .before .before .before .step .ensures) _ _ _ _ _ (c .before .before .before .start2 .given .1)
+
+loop-again : tie.Need-loop-again Inv-loop μ-loop
+loop-again c = search-on (now (c .before .before .before .before .before .before .before .before .before .args .text)) (c .before .before .before .before .before .before .before .before .before .args .place) (c .before .before .before .before .before .before .loop .c) (c .before .before .before .before .before .before .loop .inv) (c .before .before .before .before .before .step .result) (c .before .before .before .before .before .step .ensures) _ _ _ _ _ (c .before .before .before .start2 .given .1) (c .before .if1 .left)
+
+pub word-at-spec : {M : Type 1} → statement M
+word-at-spec =
+    tie.close
+    (tie.spec
+    Inv-loop
+    μ-loop
+    start-requires
+    loop-holds
+    step-requires
+    enum-known-start
+    returns
+    returns-2
+    returns-3
+    loop-less
+    loop-again)

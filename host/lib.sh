@@ -1,0 +1,26 @@
+# Shell functions for C hosts of the proved library, which is compiled for x86-64. Sourced by scripts.
+# On another processor a host is cross-compiled, linked statically and run under the kit's emulator.
+
+host_packages() { # the Debian packages that this machine lacks for a C host
+    if [ "$(uname -m)" = x86_64 ]; then
+        command -v gcc >/dev/null 2>&1 || echo gcc libc6-dev
+    else
+        command -v x86_64-linux-gnu-gcc >/dev/null 2>&1 || echo gcc-x86-64-linux-gnu libc6-dev-amd64-cross
+    fi
+}
+
+host_cc() { # as cc
+    if [ "$(uname -m)" = x86_64 ]; then
+        gcc -Wall -Wextra -Werror "$@"
+    else
+        x86_64-linux-gnu-gcc -static -Wall -Wextra -Werror "$@"
+    fi
+}
+
+host_run() { # PROGRAM WORDS..
+    if [ "$(uname -m)" = x86_64 ]; then
+        "$@"
+    else
+        "$(dirname "$(dirname "$(readlink -f "$(command -v rt)")")")/on/$(uname -m)/toolchain/bin/qemu-x86_64" "$@"
+    fi
+}
