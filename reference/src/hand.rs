@@ -63,7 +63,7 @@ fn expand(line: &str) -> Result<Vec<u8>, String> {
     let mut bytes = Vec::new();
     let mut rest = line;
     while let Some(tilde) = rest.find('~') {
-        bytes.extend_from_slice(rest[..tilde].as_bytes());
+        bytes.extend_from_slice(&rest.as_bytes()[..tilde]);
         rest = &rest[tilde + 1..];
         if rest == "." {
             return Ok(bytes);

@@ -161,6 +161,7 @@ repeating M c v k body after s =
 unfoldable pub ending-list : Program → Call → List Call → State → Effect
 ending-list P c r s = if codeAt P (c .routine) .function then ending 4 s else returning P c r none s
 
+-- What the next step of the newest call c does, whose callers are r. The step is at `place`; after its statement comes `after`.
 unfoldable pub perform : Program → Rooms → Call → (callers : List Call) → (place after : ℕ) → Action → State → Effect
 perform P R c r place after (store t e) s =
     withSpot (memoryOf s c) t s (λ w. withValue (worth (memoryOf s c) e) s (λ z. made (onTop (goTo after) (storeAt w z s))))
