@@ -1,21 +1,20 @@
 -- What is handed to the host.
-use mathlib.Core.Path.{_≡_, refl, sym, ap, subst, _∙_}
-use mathlib.Core.Bool.{Bool, true, false}
-use mathlib.Core.List.{List, [], _∷_, _++_}
+use mathlib.Core.Path.{_≡_, refl, subst, _∙_}
+use mathlib.Core.Bool.{true}
+use mathlib.Core.List.{List}
 use mathlib.Core.Option.{Option, none, some}
-use mathlib.Core.Logic.{_⊎_, inl, inr}
-use Prim.Native.Nat.{ℕ, zero, suc, _+_, _*_, _-_, _/_, _%_, _<_, _≤_}
+use Prim.Native.Nat.{ℕ, _+_, _-_, _<_, _≤_}
 use native.Mathlib.Omega.{arith}
-use lib.Dec.{eqb, ltb, leb}
-use lib.ListN.{length, getD, set, take, drop, length-set}
-use borrow.Author.Tests.{eq-eqb, ne-eqb, lt-ltb, le-ltb, le-leb, lt-leb}
+use lib.Dec.{ltb}
+use lib.ListN.{length, take, drop}
+use borrow.Author.Tests.{lt-ltb, le-ltb}
 use lib.ListN.{length-drop}
 use lib.Seq.{length-take-le}
-use Rattle.paper.specs.Words.{reading, asked}
+use Rattle.paper.specs.Words.{asked}
 use Rattle.words.specs.declared.Found.{Found}
 use Rattle.words.specs.declared.Found.the-variants.{Length, Nothing}
 use Rattle.words.specs.Answers.{FoundAt, foundOf, Inside}
-use Rattle.listing.specs.Listing.{put4, written, summary, Listed·all, Exported, askedResult, askedRecord, Answered}
+use Rattle.listing.specs.Listing.{put4, summary, Listed·all, Exported, askedResult, askedRecord, Answered}
 
 -- ---- a listing
 module _ (text out rec : List ℕ) where

@@ -1,21 +1,17 @@
 -- A listing, word by word.
-use mathlib.Core.Path.{_≡_, refl, sym, ap, subst, _∙_}
-use mathlib.Core.Bool.{Bool, true, false}
-use mathlib.Core.List.{List, [], _∷_, _++_}
-use mathlib.Core.Option.{Option, none, some}
+use mathlib.Core.Path.{_≡_, refl, sym, ap, _∙_}
+use mathlib.Core.List.{List, []}
 use mathlib.Core.Logic.{_⊎_, inl, inr}
-use Prim.Native.Nat.{ℕ, zero, suc, _+_, _*_, _-_, _/_, _%_, _<_, _≤_}
+use Prim.Native.Nat.{ℕ, _+_, _-_}
 use native.Mathlib.Omega.{arith}
-use lib.Dec.{eqb, ltb, leb}
-use lib.ListN.{length, getD, set, take, drop, length-set}
-use borrow.Author.Tests.{eq-eqb, ne-eqb, lt-ltb, le-ltb, le-leb, lt-leb}
+use lib.ListN.{length}
 use Rattle.paper.specs.Words.{Reading, reading}
 use Rattle.words.specs.declared.Cursor.{Cursor}
 use Rattle.words.specs.declared.Step.{Step}
 use Rattle.words.specs.declared.Step.the-variants as steps
-use Rattle.words.specs.Answers.{wordOf, Stepped, leftOf, readingOf}
+use Rattle.words.specs.Answers.{Stepped, leftOf, readingOf}
 use Rattle.words.proofs.Readings.{word-is, step-reads, start-reads}
-use Rattle.listing.specs.Listing.{put4, entered, written, refusalNumber, refusalOffset, Ended, endOf, Listed·all}
+use Rattle.listing.specs.Listing.{entered, written, refusalNumber, refusalOffset, Ended, endOf, Listed·all}
 use Rattle.listing.proofs.Entries.{length-entered}
 
 -- What is left of a listing at a cursor.

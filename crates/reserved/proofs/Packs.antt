@@ -76,9 +76,6 @@ unlike such (s ∷ r) n text t h =
     (λ g. rw (g, numberIn) (unlike such r (n + 1) text (rw (e, every) at t) h)))
     (λ e. false-true (rw (e, every) at t))
 
-unfoldable long : List ℕ → Bool
-long l = leb 2 (length l)
-
 unfoldable short : List ℕ → Bool
 short l = leb (length l) 9
 
@@ -89,10 +86,6 @@ all-low = refl
 all-short : every short reserved ≡ true
 unfolding every short bytes folded reserved
 all-short = refl
-
-all-long : every long reserved ≡ true
-unfolding every long bytes folded reserved
-all-long = refl
 
 by-key : (ss : List String) (n : ℕ) (text : List ℕ) → every low ss ≡ true → low text ≡ true → numberIn ss n text ≡ numberOfKey (keysOf ss) n (packed text 1)
 unfolding every numberIn numberOfKey keysOf
@@ -116,13 +109,14 @@ sort-unlike such text t h = rw (unlike such reserved firstReserved text t h, nam
 pub sort-high : (text : List ℕ) → low text ≡ false → nameSort text ≡ 1
 sort-high text h = sort-unlike low text all-low h
 
-pub sort-short : (name : List ℕ) → length name < 2 → nameSort (map folded name) ≡ 1
-unfolding long
-sort-short name h = sort-unlike long (map folded name) all-long (rw length-map (lt-leb 2 (length name) h))
-
 pub sort-long : (name : List ℕ) → 9 < length name → nameSort (map folded name) ≡ 1
 unfolding short
 sort-long name h = sort-unlike short (map folded name) all-short (rw length-map (lt-leb (length name) 9 h))
+
+pub sort-empty : (name : List ℕ) → length name ≡ 0 → nameSort (map folded name) ≡ 1
+unfolding nameSort numberIn reserved equalTexts bytes folded
+sort-empty [] h = refl
+sort-empty (b ∷ r) h = absurd (omega arith)
 
 high-folded : (b : ℕ) → 127 < b → folded b ≡ b
 unfolding folded

@@ -1,15 +1,15 @@
--- The table of keys: it ascends, and a key that it does not have is no reserved word's.
-use mathlib.Core.Path.{_≡_, refl, sym, ap, subst, _∙_}
+-- The table of keys: every reserved word's key stands at its place, so a key that does not stand there is no reserved word's.
+use mathlib.Core.Path.{_≡_, refl, sym, ap, _∙_}
 use mathlib.Core.Bool.{Bool, true, false}
 use mathlib.Core.List.{List, [], _∷_, map}
-use Prim.Native.Nat.{ℕ, zero, suc, _+_, _*_, _-_, _/_, _<_, _≤_}
+use Prim.Native.Nat.{ℕ, zero, suc, _+_, _<_}
 use native.Mathlib.Nat.{not-suc-le-zero, le-of-suc-le-suc}
 use native.Mathlib.Omega.{arith}
-use lib.Dec.{eqb, ltb, leb}
+use lib.Dec.{eqb}
 use lib.ListN.{length, getD}
-use borrow.Author.Tests.{ltb-true, ltb-false, eqb-true, eqb-false, eq-eqb, ne-eqb}
-use Rattle.paper.specs.Sorts.{bytes, folded, reserved, firstReserved, NAME}
-use Rattle.reserved.specs.Keys.{packed, keysOf, numberOfKey, sortOf, inserted, ascending, keys}
+use borrow.Author.Tests.{eqb-true, eqb-false}
+use Rattle.paper.specs.Sorts.{bytes, folded, reserved, firstReserved}
+use Rattle.reserved.specs.Keys.{packed, keysOf, numberOfKey, sortOf, keys, sorts, placeOf}
 
 -- a test, with what it says
 pub test {ℓ} : {A : Type ℓ} (b : Bool) → (b ≡ true → A) → (b ≡ false → A) → A
@@ -19,137 +19,50 @@ test false f g = g refl
 pub false-true : {A : Type 0} → false ≡ true → A
 false-true e = let z : _≡_ {A = ℕ} 0 1 = cc in absurd (omega arith)
 
--- ---- order
-unfoldable below : ℕ → List ℕ → Bool
-below x [] = true
-below x (y ∷ r) = elim (ltb x y) [ true ↦ below x r | false ↦ false ]
+-- ---- a match on every number below n has no other case
+abbrev pub Others : ℕ → ℕ → Type 0
+Others i zero = Unit {0}
+Others i (suc n) = Others i n × (i ≡ n → ⊥)
 
-unfoldable ascends : List ℕ → Bool
-ascends [] = true
-ascends (x ∷ r) = elim (below x r) [ true ↦ ascends r | false ↦ false ]
-
--- what a passed test says of its two parts
-below-head : (x y : ℕ) (r : List ℕ) → below x (y ∷ r) ≡ true → (x < y) × (below x r ≡ true)
-unfolding below
-below-head x y r t = test (ltb x y) (λ e. (ltb-true x y e, rw (e, below) at t)) (λ e. false-true (rw (e, below) at t))
-
-below-at : (x : ℕ) (l : List ℕ) → below x l ≡ true → (k : ℕ) → k < length l → x < getD l k 0
-below-at x [] t k h = absurd (not-suc-le-zero h)
-below-at x (y ∷ r) t zero h = below-head x y r t .0
-below-at x (y ∷ r) t (suc k) h = below-at x r (below-head x y r t .1) k (le-of-suc-le-suc h)
-
-ascends-head : (x : ℕ) (r : List ℕ) → ascends (x ∷ r) ≡ true → (below x r ≡ true) × (ascends r ≡ true)
-unfolding ascends
-ascends-head x r t = test (below x r) (λ e. (e, rw (e, ascends) at t)) (λ e. false-true (rw (e, ascends) at t))
-
-ascends-at : (l : List ℕ) → ascends l ≡ true → (i j : ℕ) → i < j → j < length l → getD l i 0 < getD l j 0
-ascends-at [] t i j h g = absurd (not-suc-le-zero g)
-ascends-at (x ∷ r) t i zero h g = absurd (not-suc-le-zero h)
-ascends-at (x ∷ r) t zero (suc j) h g = below-at x r (ascends-head x r t .0) j (le-of-suc-le-suc g)
-ascends-at (x ∷ r) t (suc i) (suc j) h g = ascends-at r (ascends-head x r t .1) i j (le-of-suc-le-suc h) (le-of-suc-le-suc g)
-
-pub size : length keys ≡ 61
-unfolding keys ascending inserted keysOf packed bytes folded reserved
-size = refl
-
-keys-ascend : ascends keys ≡ true
-unfolding ascends below keys ascending inserted keysOf packed bytes folded reserved
-keys-ascend = refl
-
--- ---- a key that the table has, and one that it has not
-unfoldable has : ℕ → List ℕ → Bool
-has k [] = false
-has k (x ∷ r) = elim (eqb x k) [ true ↦ true | false ↦ has k r ]
-
-unfoldable hasAll : List ℕ → List ℕ → Bool
-hasAll [] l = true
-hasAll (k ∷ r) l = elim (has k l) [ true ↦ hasAll r l | false ↦ false ]
-
-has-all : hasAll (keysOf reserved) keys ≡ true
-unfolding hasAll has keys ascending inserted keysOf packed bytes folded reserved
-has-all = refl
-
-has-not : (k : ℕ) (l : List ℕ) → ((i : ℕ) → i < length l → getD l i 0 ≡ k → ⊥) → has k l ≡ false
-unfolding has
-has-not k [] h = refl
-has-not k (x ∷ r) h =
-    rw (ne-eqb x k (λ e. h zero (omega arith) e), has) (has-not k r (λ i g e. h (suc i) (omega arith) e))
-
-number-not : (l ks : List ℕ) (n key : ℕ) → hasAll ks l ≡ true → has key l ≡ false → numberOfKey ks n key ≡ 0
-unfolding hasAll numberOfKey
-number-not l [] n key t h = refl
-number-not l (k ∷ r) n key t h =
-    test (has k l) (λ e. test (eqb k key)
-    (λ g. false-true (sym h ∙ ap (λ (x : ℕ). has x l) (sym (eqb-true k key g)) ∙ e))
-    (λ g. rw (g, numberOfKey) (number-not l r (n + 1) key (rw (e, hasAll) at t) h)))
-    (λ e. false-true (rw (e, hasAll) at t))
-
-sort-not : (key : ℕ) → ((i : ℕ) → i < 61 → getD keys i 0 ≡ key → ⊥) → sortOf key ≡ 1
-unfolding sortOf
-sort-not key h = rw (number-not keys (keysOf reserved) firstReserved key has-all (has-not key keys (λ i g. h i (rw size at g))), sortOf)
-
--- ---- the search
--- Where the key can still be: from low on, before high.
-pub record Bracket (table : List ℕ) (key low high : ℕ) : Type 0 where
-  pub same : table ≡ keys
-  pub order : low ≤ high
-  pub within : high ≤ 61
-  pub before : (k : ℕ) → k < low → getD keys k 0 < key
-  pub after : (k : ℕ) → high ≤ k → k < 61 → key < getD keys k 0
-
-pub bracket-start : (table : List ℕ) (key : ℕ) → table ≡ keys → Bracket table key 0 61
-bracket-start table key same = record {
-  same = same;
-  order = omega arith;
-  within = omega arith;
-  before = λ k h. absurd (not-suc-le-zero h);
-  after = λ k h g. absurd (omega arith);
-}
-
-rises : (i j : ℕ) → i ≤ j → j < 61 → getD keys i 0 ≤ getD keys j 0
-rises i j h g =
-    test (eqb i j) (λ e. rw (eqb-true i j e) (omega arith))
-    (λ e. let n = eqb-false i j e in
-    let lt : getD keys i 0 < getD keys j 0 = ascends-at keys keys-ascend i j (strict n) (rw size g) in omega arith)
+pub no-other : (n i : ℕ) → Others i n → i < n → ⊥
+no-other zero i o h = not-suc-le-zero h
+no-other (suc n) i o h = test (eqb i n) (λ e. o .1 (eqb-true i n e)) (λ e. no-other n i (o .0) (below (eqb-false i n e)))
   where
-    strict : (i ≡ j → ⊥) → i < j
-    strict n = omega (arith, n)
+    below : (i ≡ n → ⊥) → i < n
+    below g = omega (arith, g)
 
--- the place that the search looks at
-abbrev middle : ℕ → ℕ → ℕ
-middle low high = low + (high - low) / 2
+-- ---- a key that does not stand at its place
+unfoldable placed : List ℕ → Bool
+placed [] = true
+placed (k ∷ r) = elim (eqb (getD keys (placeOf k) 0) k) [ true ↦ placed r | false ↦ false ]
 
-pub absent : (table : List ℕ) (key low high : ℕ) → Bracket table key low high → high ≤ low → 1 ≡ sortOf key
-absent table key low high b h = sym (sort-not key (λ i g e. test (ltb i low)
-    (λ t. let x = b .before i (ltb-true i low t) in omega arith)
-    (λ t. let y = ltb-false i low t in let x = b .after i (omega arith) g in omega arith)))
+all-placed : placed (keysOf reserved) ≡ true
+unfolding placed placeOf keysOf packed bytes folded reserved
+all-placed = refl
 
+number-not : (ks : List ℕ) (n key : ℕ) → placed ks ≡ true → (getD keys (placeOf key) 0 ≡ key → ⊥) → numberOfKey ks n key ≡ 0
+unfolding placed numberOfKey
+number-not [] n key t h = refl
+number-not (k ∷ r) n key t h =
+    test (eqb (getD keys (placeOf k) 0) k) (λ e. test (eqb k key)
+    (λ g. absurd (h (ap (λ (x : ℕ). getD keys (placeOf x) 0) (sym (eqb-true k key g)) ∙ eqb-true _ k e ∙ eqb-true k key g)))
+    (λ g. rw (g, numberOfKey) (number-not r (n + 1) key (rw (e, placed) at t) h)))
+    (λ e. false-true (rw (e, placed) at t))
+
+pub absent : (key place k : ℕ) → place ≡ placeOf key → k ≡ getD keys place 0 → (k ≡ key → ⊥) → 1 ≡ sortOf key
+unfolding sortOf
+absent key place k p e h =
+    sym (rw (number-not (keysOf reserved) firstReserved key all-placed (λ g. h (e ∙ ap (λ (x : ℕ). getD keys x 0) p ∙ g)), sortOf))
+
+-- ---- a key that does
 getD-map : (f : ℕ → ℕ) (l : List ℕ) (i : ℕ) → i < length l → getD (map f l) i 0 ≡ f (getD l i 0)
 getD-map f [] i h = absurd (not-suc-le-zero h)
 getD-map f (x ∷ r) zero h = refl
 getD-map f (x ∷ r) (suc i) h = getD-map f r i (le-of-suc-le-suc h)
 
-module _ (table : List ℕ) (key low high : ℕ) (b : Bracket table key low high) (some : low < high) where
-  at : getD table (middle low high) 0 ≡ getD keys (middle low high) 0
-  at = ap (λ (l : List ℕ). getD l (middle low high) 0) (b .same)
+all-sorted : sorts ≡ map sortOf keys
+unfolding sortOf numberOfKey keysOf packed bytes folded reserved
+all-sorted = refl
 
-  pub bracket-up : getD table (middle low high) 0 < key → Bracket table key (middle low high + 1) high
-  bracket-up h = record {
-    same = b .same;
-    order = omega arith;
-    within = b .within;
-    before = λ i g. omega (arith, at, rises i (middle low high) (omega arith) (omega (arith, b .within)));
-    after = b .after;
-  }
-
-  pub bracket-down : (getD table (middle low high) 0 ≡ key → ⊥) → key ≤ getD table (middle low high) 0 → Bracket table key low (middle low high)
-  bracket-down n h = record {
-    same = b .same;
-    order = omega arith;
-    within = omega (arith, b .within);
-    before = b .before;
-    after = λ i g l. omega (arith, at, n, rises (middle low high) i g l);
-  }
-
-  pub present : (s : ℕ) → getD table (middle low high) 0 ≡ key → s ≡ getD (map sortOf keys) (middle low high) 0 → s ≡ sortOf key
-  present s e g = g ∙ getD-map sortOf keys (middle low high) (rw size (omega (arith, b .within))) ∙ ap sortOf (sym at ∙ e)
+pub present : (key place k s : ℕ) → place < 64 → k ≡ getD keys place 0 → s ≡ getD sorts place 0 → k ≡ key → s ≡ sortOf key
+present key place k s h e g is = g ∙ ap (λ (l : List ℕ). getD l place 0) all-sorted ∙ getD-map sortOf keys place h ∙ ap sortOf (sym e ∙ is)

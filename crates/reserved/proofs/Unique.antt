@@ -1,5 +1,5 @@
 -- Each public promise settles the result.
-use mathlib.Core.Path.{_≡_, sym, _∙_}
+use mathlib.Core.Path.{_≡_}
 use mathlib.Core.List.{List, map}
 use Prim.Native.Nat.{ℕ}
 use Rattle.paper.specs.Sorts.{folded, nameSort}

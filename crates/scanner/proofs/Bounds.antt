@@ -1,20 +1,16 @@
 -- A word lies in the text that it is scanned in, and so does a refusal.
-use mathlib.Core.Path.{_≡_, refl, sym, ap, subst, _∙_}
+use mathlib.Core.Path.{_≡_, refl}
 use mathlib.Core.Bool.{Bool, true, false}
-use mathlib.Core.List.{List, [], _∷_, _++_, map}
+use mathlib.Core.List.{List, [], _∷_}
 use mathlib.Core.Option.{Option, none, some}
-use Prim.Native.Nat.{ℕ, zero, suc, _+_, _*_, _-_, _<_, _≤_}
-use native.Mathlib.Nat.{zero-add}
-use native.Mathlib.Numerals.{add-one}
+use Prim.Native.Nat.{ℕ, zero, suc, _-_, _<_, _≤_}
 use native.Mathlib.Omega.{arith}
-use lib.Dec.{eqb, ltb, leb}
-use lib.ListN.{length, getD, take, drop, drop-of-length-le, length-take, length-drop, List·getD-eq-default}
-use lib.Seq.{drop-cons, take-suc}
-use borrow.Author.Tests.{ltb-true, ltb-false, eqb-true, eqb-false, eq-eqb, ne-eqb, lt-ltb, le-ltb, le-leb, lt-leb, leb-true, leb-false}
+use lib.Dec.{eqb, ltb}
+use lib.ListN.{length, getD, take, length-take}
 pub use Rattle.reserved.proofs.Table.{test, false-true}
-use Rattle.paper.specs.Sorts.{folded, nameSort, signSort}
+use Rattle.paper.specs.Sorts.{signSort}
 use Rattle.paper.specs.Words.{Scan, word, refused, run, inName, letter, digit, permitted, permittedInside, spoilsNumber, valueOf, stringEnd, scanName, scanNumber, scanString, scanSign, scan}
-use Rattle.scanner.proofs.Strings.{end-within, none-some}
+use Rattle.scanner.proofs.Strings.{end-within}
 
 abbrev pub Within : List ℕ → Scan → Type 0
 Within l (word sort n v) = (0 < n) × (n ≤ length l)

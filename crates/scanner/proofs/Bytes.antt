@@ -1,6 +1,6 @@
--- Questions about bytes, and the sorts of signs.
+-- What is said of a byte: chains of tests, and the signs, which antt computes at every byte.
 use mathlib.Core.Path.{_≡_, refl, sym, ap, subst, _∙_}
-use mathlib.Core.Bool.{Bool, true, false}
+use mathlib.Core.Bool.{Bool, true, false, _||_}
 use mathlib.Core.List.{List, [], _∷_}
 use Prim.Native.Nat.{ℕ, zero, suc, _+_, _<_, _≤_}
 use Prim.Native.String.{String}
@@ -10,7 +10,7 @@ use lib.Dec.{eqb, ltb, leb}
 use lib.ListN.{length, getD}
 use borrow.Author.Tests.{ltb-true, ltb-false, eqb-true, eqb-false, eq-eqb, ne-eqb, lt-ltb, le-ltb, le-leb, lt-leb}
 use Rattle.paper.specs.Sorts.{bytes, folded, signs, equalTexts, numberIn, signSort, firstSign}
-use Rattle.paper.specs.Words.{between}
+use Rattle.paper.specs.Words.{between, letter, digit, inName, spoilsNumber, barredInString, separates, permitted, permittedInside}
 use Rattle.reserved.proofs.Table.{test, false-true}
 use Rattle.reserved.proofs.Packs.{every, unlike}
 
@@ -33,7 +33,30 @@ all-below f (suc n) t b h =
 alike-numbers : (f g : ℕ → ℕ) → all (λ b. eqb (f b) (g b)) 256 ≡ true → (b : ℕ) → b < 256 → f b ≡ g b
 alike-numbers f g t b h = eqb-true (f b) (g b) (all-below (λ b. eqb (f b) (g b)) 256 t b h)
 
--- ---- a range
+-- ---- questions that are a chain of tests
+-- A chain is true where one of its tests is, and is its last test where the others are false.
+pub passed : (x y : Bool) → x ≡ true → x || y ≡ true
+passed true y h = refl
+passed false y h = false-true h
+
+pub passed-by : (x y : Bool) → x ≡ false → y ≡ true → x || y ≡ true
+passed-by x y h g = rw h g
+
+pub failed : (x y : Bool) → x ≡ false → y ≡ false → x || y ≡ false
+failed x y h g = rw h g
+
+pub left-to : (r x y : Bool) → x ≡ false → r ≡ y → r ≡ x || y
+left-to r x y h g = rw h g
+
+pub said : (t x r : Bool) → t ≡ x → t ≡ r → x ≡ r
+said t x r h g = sym h ∙ g
+
+pub answers : (x : Bool) → x ≡ true → true ≡ x
+answers x h = sym h
+
+-- what answers a chain from the tests before it
+pub ruleset chain = (passed, passed-by, failed, left-to, said, answers, eq-eqb, ne-eqb)
+
 pub below-range : (low high b : ℕ) → b < low → false ≡ between low high b
 unfolding between
 below-range low high b h = rw (lt-ltb b low h, between)
@@ -42,40 +65,35 @@ pub in-range : (low high b : ℕ) → low ≤ b → leb b high ≡ between low h
 unfolding between
 in-range low high b h = rw (le-ltb b low h, between)
 
--- ---- signs
--- a byte that is none of the bytes of a list, the last one first
-abbrev pub None-of : List ℕ → ℕ → Type 0
-None-of [] b = Unit {0}
-None-of (k ∷ r) b = None-of r b × (b ≡ k → ⊥)
+-- ---- signs of one byte
+unfoldable has : ℕ → List ℕ → Bool
+has b [] = false
+has b (x ∷ r) = elim (eqb b x) [ true ↦ true | false ↦ has b r ]
 
-unfoldable one-of : List ℕ → ℕ → Bool
-one-of [] b = false
-one-of (k ∷ r) b = elim (eqb b k) [ true ↦ true | false ↦ one-of r b ]
+-- what a match knows in its last arm: the byte is none of these, of which the last arm's stands first
+abbrev pub Apart : ℕ → List ℕ → Type 0
+Apart b [] = Unit {0}
+Apart b (x ∷ r) = Apart b r × (b ≡ x → ⊥)
 
-none-one : (l : List ℕ) (b : ℕ) → None-of l b → one-of l b ≡ false
-unfolding one-of
-none-one [] b h = refl
-none-one (k ∷ r) b h = rw (ne-eqb b k (h .1), one-of) (none-one r b (h .0))
+has-not : (b : ℕ) (l : List ℕ) → Apart b l → has b l ≡ false
+unfolding has
+has-not b [] h = refl
+has-not b (x ∷ r) h = rw (ne-eqb b x (h .1), has) (has-not b r (h .0))
 
--- the signs of one byte, the last one first
-abbrev pub signBytes : List ℕ
-signBytes = 92 ∷ 42 ∷ 45 ∷ 43 ∷ 62 ∷ 60 ∷ 61 ∷ 58 ∷ 125 ∷ 123 ∷ 41 ∷ 40 ∷ 44 ∷ 59 ∷ []
+abbrev oneByte : List ℕ
+oneByte = 125 ∷ 123 ∷ 92 ∷ 62 ∷ 61 ∷ 60 ∷ 59 ∷ 58 ∷ 45 ∷ 44 ∷ 43 ∷ 42 ∷ 41 ∷ 40 ∷ []
 
--- a byte's sort where it is none of them
-unfoldable elsewhere : ℕ → ℕ
-elsewhere b = elim (one-of signBytes b) [ true ↦ 0 | false ↦ signSort (b ∷ []) ]
+unfoldable signOrNone : ℕ → Bool
+signOrNone b = elim (has b oneByte) [ true ↦ true | false ↦ eqb (signSort (b ∷ [])) 0 ]
 
-no-sign-else : (b : ℕ) → b < 256 → elsewhere b ≡ 0
-unfolding all one-of elsewhere signSort numberIn signs equalTexts bytes folded
-no-sign-else b h = alike-numbers elsewhere (λ b. 0) refl b h
+pub no-sign : (b : ℕ) → b < 256 → Apart b oneByte → 0 ≡ signSort (b ∷ [])
+unfolding all has signOrNone signSort numberIn signs equalTexts bytes folded
+no-sign b h a = sym (eqb-true (signSort (b ∷ [])) 0 (rw (has-not b oneByte a, signOrNone) at (all-below signOrNone 256 refl b h)))
 
-pub no-sign : (b : ℕ) → b < 256 → None-of signBytes b → 0 ≡ signSort (b ∷ [])
-unfolding elsewhere
-no-sign b f h = sym (rw (none-one signBytes b h, elsewhere) at (no-sign-else b f))
+pub a-sign : (b x : ℕ) → b ≡ x → signSort (x ∷ []) ≡ signSort (b ∷ [])
+a-sign b x e = rw e
 
-pub a-sign : (b k : ℕ) → b ≡ k → signSort (k ∷ []) ≡ signSort (b ∷ [])
-a-sign b k e = rw e
-
+-- ---- signs of two bytes
 -- the second byte of every sign that has one is `=` or `>`
 unfoldable paired : List ℕ → Bool
 paired [] = true

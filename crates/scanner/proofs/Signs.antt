@@ -1,18 +1,10 @@
 -- Signs.
-use mathlib.Core.Path.{_≡_, refl, sym, ap, subst, _∙_}
-use mathlib.Core.Bool.{Bool, true, false}
-use mathlib.Core.List.{List, [], _∷_, _++_, map}
-use mathlib.Core.Option.{Option, none, some}
-use Prim.Native.Nat.{ℕ, zero, suc, _+_, _*_, _-_, _<_, _≤_}
-use native.Mathlib.Nat.{zero-add}
-use native.Mathlib.Numerals.{add-one}
+use mathlib.Core.Path.{_≡_, refl, sym, _∙_}
+use mathlib.Core.List.{List, [], _∷_}
+use Prim.Native.Nat.{ℕ, zero, suc, _-_, _<_, _≤_}
 use native.Mathlib.Omega.{arith}
-use lib.Dec.{eqb, ltb, leb}
-use lib.ListN.{length, getD, take, drop, drop-of-length-le, length-take, length-drop, List·getD-eq-default}
-use lib.Seq.{drop-cons, take-suc}
-use borrow.Author.Tests.{ltb-true, ltb-false, eqb-true, eqb-false, eq-eqb, ne-eqb, lt-ltb, le-ltb, le-leb, lt-leb, leb-true, leb-false}
-use Rattle.reserved.proofs.Table.{test, false-true}
-use Rattle.paper.specs.Sorts.{folded, nameSort, signSort}
+use lib.ListN.{length, getD}
+use Rattle.paper.specs.Sorts.{signSort}
 use Rattle.paper.specs.Words.{scanSign, word, refused}
 use Rattle.scanner.specs.Answers.{pairSort}
 

@@ -1,20 +1,17 @@
 -- Numbers: values above the largest may be any.
-use mathlib.Core.Path.{_≡_, refl, sym, ap, subst, _∙_}
+use mathlib.Core.Path.{_≡_, refl, sym, ap, _∙_}
 use mathlib.Core.Bool.{Bool, true, false}
-use mathlib.Core.List.{List, [], _∷_, _++_, map}
-use mathlib.Core.Option.{Option, none, some}
-use Prim.Native.Nat.{ℕ, zero, suc, _+_, _*_, _-_, _<_, _≤_}
-use native.Mathlib.Nat.{zero-add}
+use mathlib.Core.List.{List, [], _∷_, _++_}
+use Prim.Native.Nat.{ℕ, _+_, _*_, _-_, _<_, _≤_}
 use native.Mathlib.Numerals.{add-one}
 use native.Mathlib.Omega.{arith}
-use lib.Dec.{eqb, ltb, leb}
-use lib.ListN.{length, getD, take, drop, drop-of-length-le, length-take, length-drop, List·getD-eq-default}
-use lib.Seq.{drop-cons, take-suc}
-use borrow.Author.Tests.{ltb-true, ltb-false, eqb-true, eqb-false, eq-eqb, ne-eqb, lt-ltb, le-ltb, le-leb, lt-leb, leb-true, leb-false}
+use lib.Dec.{ltb}
+use lib.ListN.{length, getD, take, List·getD-eq-default}
+use lib.Seq.{take-suc}
+use borrow.Author.Tests.{ltb-true, ltb-false, lt-ltb, le-ltb, leb-true}
 use Rattle.reserved.proofs.Table.{test, false-true}
-use Rattle.paper.specs.Sorts.{folded, nameSort, signSort}
 use Rattle.paper.specs.Words.{between, letter, run, digit, valueOf, spoilsNumber, scanNumber, word, refused}
-use Rattle.scanner.specs.Answers.{Counted, capped, Digits·of}
+use Rattle.scanner.specs.Answers.{capped, Digits·of}
 use Rattle.scanner.proofs.Runs.{Run, run-start, run-more, run-stop, run-out}
 
 capped-large : (v : ℕ) → 8388608 < v → capped v ≡ 8388609

@@ -1,10 +1,10 @@
-// Classes of bytes, by comparisons in the paper's own order. (An array of classes would be slower: a constant array is laid out anew at each use.)
+// Classes of bytes: what the paper says of one byte, by comparisons. Those that most bytes of a lesson pass come first.
 ghost use mathlib.Core.Path.{_≡_};
 ghost use mathlib.Core.List.{[], _∷_};
 ghost use Rattle.paper.specs.Sorts.{signSort};
 ghost use Rattle.paper.specs.Words.{between, letter, digit, inName, spoilsNumber, barredInString, separates, permitted, permittedInside};
 
-fn is_between(low: u8, high: u8, b: u8) -> bool
+fn in_range(b: u8, low: u8, high: u8) -> bool
     ensures { λ r. ⌜ r ≡ between low high b ⌝ }
 {
     if b < low {
@@ -13,19 +13,19 @@ fn is_between(low: u8, high: u8, b: u8) -> bool
     b <= high
 }
 
-pub(crate) fn is_letter(b: u8) -> bool
-    ensures { λ r. ⌜ r ≡ letter b ⌝ }
-{
-    if is_between(b'A', b'Z', b) {
-        return true;
-    }
-    is_between(b'a', b'z', b)
-}
-
 pub(crate) fn is_digit(b: u8) -> bool
     ensures { λ r. ⌜ r ≡ digit b ⌝ }
 {
-    is_between(b'0', b'9', b)
+    in_range(b, b'0', b'9')
+}
+
+pub(crate) fn is_letter(b: u8) -> bool
+    ensures { λ r. ⌜ r ≡ letter b ⌝ }
+{
+    if in_range(b, b'A', b'Z') {
+        return true;
+    }
+    in_range(b, b'a', b'z')
 }
 
 pub(crate) fn is_in_name(b: u8) -> bool
@@ -82,7 +82,7 @@ pub(crate) fn is_separator(b: u8) -> bool
 pub(crate) fn is_permitted(b: u8) -> bool
     ensures { λ r. ⌜ r ≡ permitted b ⌝ }
 {
-    if is_between(0x20, 0x7e, b) {
+    if in_range(b, 0x20, 0x7e) {
         return true;
     }
     if b == b'\t' {
@@ -100,7 +100,7 @@ pub(crate) fn is_permitted_inside(b: u8) -> bool
     if is_permitted(b) {
         return true;
     }
-    is_between(0xa0, 0xff, b)
+    in_range(b, 0xa0, 0xff)
 }
 
 // The sort of the sign that is this one byte, or 0.
@@ -108,20 +108,20 @@ pub(crate) fn one_sign(b: u8) -> u32
     ensures { λ r. ⌜ r ≡ signSort (b ∷ []) ⌝ }
 {
     match b {
-        b';' => 4,
-        b',' => 5,
-        b'(' => 6,
-        b')' => 7,
-        b'{' => 8,
-        b'}' => 9,
-        b':' => 10,
-        b'=' => 12,
-        b'<' => 13,
-        b'>' => 16,
-        b'+' => 18,
-        b'-' => 19,
-        b'*' => 20,
-        b'\\' => 21,
+        40 => 6,
+        41 => 7,
+        42 => 20,
+        43 => 18,
+        44 => 5,
+        45 => 19,
+        58 => 10,
+        59 => 4,
+        60 => 13,
+        61 => 12,
+        62 => 16,
+        92 => 21,
+        123 => 8,
+        125 => 9,
         _ => 0,
     }
 }

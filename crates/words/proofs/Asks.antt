@@ -1,24 +1,23 @@
 -- The word that starts at a place.
 use mathlib.Core.Path.{_≡_, refl, sym, ap, subst, _∙_}
-use mathlib.Core.Bool.{Bool, true, false}
+use mathlib.Core.Bool.{true, false}
 use mathlib.Core.List.{List, [], _∷_}
-use mathlib.Core.Option.{Option, none, some}
+use mathlib.Core.Option.{none}
 use mathlib.Core.Logic.{_⊎_, inl, inr}
-use Prim.Native.Nat.{ℕ, zero, suc, _+_, _*_, _-_, _<_, _≤_, _^_}
+use Prim.Native.Nat.{ℕ, zero, suc, _+_, _-_, _<_, _≤_}
 use native.Mathlib.Omega.{arith}
-use lib.Dec.{eqb, ltb, leb}
-use lib.ListN.{length, getD, take, drop, drop-of-length-le, length-drop, length-take}
-use lib.Seq.{drop-drop, drop-cons, take-all}
-use borrow.Author.Tests.{ltb-true, ltb-false, eqb-true, eqb-false, eq-eqb, ne-eqb, lt-ltb, le-ltb, le-leb, lt-leb, leb-true, leb-false}
-use Rattle.scanner.proofs.Bounds.{test, Within, scan-within}
-use Rattle.paper.specs.Words.{Word, Next, next, ended, refusal, Reading, withWord, following, readFrom, reading, partAt, asked, textLimit, wordLimit}
+use lib.Dec.{eqb, ltb}
+use lib.ListN.{length, take, drop}
+use borrow.Author.Tests.{eq-eqb, ne-eqb}
+use Rattle.scanner.proofs.Bounds.{test}
+use Rattle.paper.specs.Words.{Word, Next, next, ended, refusal, Reading, following, readFrom, partAt, asked, textLimit, wordLimit}
 use Rattle.words.specs.declared.Cursor.{Cursor}
 use Rattle.words.specs.declared.Step.{Step}
 use Rattle.words.specs.declared.Step.the-variants as steps
 use Rattle.words.specs.declared.Found.{Found}
 use Rattle.words.specs.declared.Found.the-variants.{Length, Nothing}
-use Rattle.words.specs.Answers.{wordOf, nextAt, Stepped, leftOf, readingOf, FoundAt, foundOf, Inside, PartAt}
-use Rattle.words.proofs.Places.{Lies, NextLies, following-lies}
+use Rattle.words.specs.Answers.{wordOf, Stepped, leftOf, readingOf, FoundAt, foundOf, Inside, PartAt}
+use Rattle.words.proofs.Places.{NextLies, following-lies}
 use Rattle.words.proofs.Readings.{word-is, word-lies, step-reads, start-reads}
 
 -- ---- no word of what is left starts before its place
@@ -65,7 +64,7 @@ module _ (text : List ℕ) (place : ℕ) (c : Cursor) (at : Search text place c)
   pub search-none : (number : Step → ℕ) → ((s p n v : ℕ) (d : Cursor) → number (steps.Word s p n v d) ≡ 0) → (number r ≡ 1) ⊎ (number r ≡ 2)
       → FoundAt text place Nothing
   unfolding partAt
-  search-none number first other = record { is = sym (answered ∙ go r other); inside = omega arith }
+  search-none number first other = record { is = sym (answered ∙ go r other); inside = tt }
     where
       go : (r : Step) → (number r ≡ 1) ⊎ (number r ≡ 2) → partAt (readingOf text r .words) place ≡ none
       go (steps.Word s p n v d) (inl e) = absurd (omega (arith, first s p n v d))
@@ -91,7 +90,7 @@ module _ (text : List ℕ) (place : ℕ) (c : Cursor) (at : Search text place c)
     pub search-past : (p ≡ place → ⊥) → place < p → FoundAt text place Nothing
     search-past h g =
         let m = word-is text c r is s p n v d e .moved in
-        record { is = sym (search-on h .left ∙ left-later text d place (omega arith)); inside = omega arith }
+        record { is = sym (search-on h .left ∙ left-later text d place (omega arith)); inside = tt }
 
 -- ---- the part
 module _ (text : List ℕ) (place : ℕ) (r : Found) (is : FoundAt text place r) where

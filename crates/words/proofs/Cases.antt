@@ -1,14 +1,13 @@
 -- The answers of a reading, case by case.
 use mathlib.Core.Path.{_≡_, refl, sym, ap, subst, _∙_}
 use mathlib.Core.Bool.{Bool, true, false}
-use mathlib.Core.List.{List, [], _∷_}
-use mathlib.Core.Option.{Option, none, some}
-use Prim.Native.Nat.{ℕ, zero, suc, _+_, _*_, _-_, _<_, _≤_, _^_}
+use mathlib.Core.List.{List, _∷_}
+use Prim.Native.Nat.{ℕ, suc, _+_, _-_, _<_, _≤_, _^_}
 use native.Mathlib.Omega.{arith}
-use lib.Dec.{eqb, ltb, leb}
-use lib.ListN.{length, getD, take, drop, drop-of-length-le, length-drop, length-take}
+use lib.Dec.{eqb, leb}
+use lib.ListN.{length, getD, take, drop, drop-of-length-le, length-drop}
 use lib.Seq.{drop-drop, drop-cons, take-all}
-use borrow.Author.Tests.{ltb-true, ltb-false, eqb-true, eqb-false, eq-eqb, ne-eqb, lt-ltb, le-ltb, le-leb, lt-leb, leb-true, leb-false}
+use borrow.Author.Tests.{eq-eqb, ne-eqb, lt-ltb, le-ltb}
 use Rattle.scanner.proofs.Bounds.{test, Within, scan-within}
 use Rattle.paper.specs.Words as paper
 use Rattle.paper.specs.Words.{scan, scanned, wordAt, following, gap, textLimit, wordLimit}
@@ -70,7 +69,7 @@ module _ (text : List ℕ) (full : Bool) (place : ℕ) (h : place < length text)
   reaches room = go s (subst (Within (getD text place 0 ∷ drop (suc place) text)) (sym scan-is) (scan-within (getD text place 0) (drop (suc place) text)))
     where
       go : (s : Scan) → Within (getD text place 0 ∷ drop (suc place) text) (scanOf s) → Reaches place s
-      go (scans.Word a n v) w = omega arith
+      go (scans.Word a n v) w = tt
       go (scans.Refused k a) w = let size : length (drop (suc place) text) ≡ length text - suc place = length-drop (suc place) text in omega arith
 
   pub word-full : (a n v : ℕ) → s ≡ scans.Word a n v → full ≡ true → paper.refuse 7 place ≡ wordAt full place (drop place text)
@@ -105,7 +104,7 @@ module _ (text : List ℕ) (full : Bool) (at : ℕ) (g : Gap) (is : gapOf g ≡ 
 -- ---- a step
 pub step-long : (text : List ℕ) (c : Cursor) → 32768 < length text → Stepped text c (steps.Refused 3 32768)
 unfolding nextAt
-step-long text c h = record { next = rw (lt-ltb textLimit (length text) h, nextAt); moved = refl }
+step-long text c h = record { next = rw (lt-ltb textLimit (length text) h, nextAt); moved = tt }
 
 module _ (text : List ℕ) (c : Cursor) (h : length text ≤ 32768) (r : Next) (is : nextOf text r ≡ following (leb 8192 (c .words)) (c .place) (drop (c .place) text)) where
   next-is : nextOf text r ≡ nextAt text c
@@ -113,10 +112,10 @@ module _ (text : List ℕ) (c : Cursor) (h : length text ≤ 32768) (r : Next) (
   next-is = rw (le-ltb textLimit (length text) h, nextAt) is
 
   pub step-end : r ≡ End → Stepped text c steps.End
-  step-end e = record { next = sym (ap (nextOf text) e) ∙ next-is; moved = refl }
+  step-end e = record { next = sym (ap (nextOf text) e) ∙ next-is; moved = tt }
 
   pub step-refused : (k p : ℕ) → r ≡ Refused k p → Stepped text c (steps.Refused k p)
-  step-refused k p e = record { next = sym (ap (nextOf text) e) ∙ next-is; moved = refl }
+  step-refused k p e = record { next = sym (ap (nextOf text) e) ∙ next-is; moved = tt }
 
   pub step-word : (s p n v : ℕ) → r ≡ Word s p n v → Stepped text c (steps.Word s p n v (record { place = p + n; words = c .words + 1 }))
   step-word s p n v e = record { next = sym (ap (nextOf text) e) ∙ next-is; moved = (refl, refl) }

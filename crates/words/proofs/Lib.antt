@@ -3,3 +3,4 @@ pub mod Readings
 pub mod Cases
 pub mod Asks
 pub mod Unique
+pub mod Examples

@@ -1,15 +1,13 @@
 -- The next word lies in what is left of the text, after the place where its search began.
-use mathlib.Core.Path.{_≡_, refl, sym, ap, subst, _∙_}
+use mathlib.Core.Path.{_≡_, refl}
 use mathlib.Core.Bool.{Bool, true, false}
 use mathlib.Core.List.{List, [], _∷_}
-use mathlib.Core.Option.{Option, none, some}
-use Prim.Native.Nat.{ℕ, zero, suc, _+_, _*_, _-_, _<_, _≤_, _^_}
+use Prim.Native.Nat.{ℕ, _+_, _-_, _<_, _≤_}
 use native.Mathlib.Omega.{arith}
-use lib.Dec.{eqb, ltb, leb}
-use lib.ListN.{length, getD, take, drop, drop-of-length-le, length-drop, length-take}
-use lib.Seq.{drop-drop, drop-cons, take-all}
-use borrow.Author.Tests.{ltb-true, ltb-false, eqb-true, eqb-false, eq-eqb, ne-eqb, lt-ltb, le-ltb, le-leb, lt-leb, leb-true, leb-false}
-use Rattle.scanner.proofs.Bounds.{test, Within, scan-within}
+use lib.Dec.{eqb}
+use lib.ListN.{length, drop, length-drop}
+pub use Rattle.scanner.proofs.Bounds.{test}
+use Rattle.scanner.proofs.Bounds.{Within, scan-within}
 use Rattle.paper.specs.Words.{Gap, upTo, badByte, separates, permittedInside, gap, Scan, word, refused, scan, Word, Next, next, ended, refusal, scanned, wordAt, following}
 
 -- ---- the gap

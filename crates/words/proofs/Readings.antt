@@ -3,19 +3,19 @@ use mathlib.Core.Path.{_≡_, refl, sym, ap, subst, _∙_}
 use mathlib.Core.Bool.{Bool, true, false}
 use mathlib.Core.List.{List, [], _∷_}
 use mathlib.Core.Option.{Option, none, some}
-use Prim.Native.Nat.{ℕ, zero, suc, _+_, _*_, _-_, _<_, _≤_, _^_}
+use Prim.Native.Nat.{ℕ, zero, suc, _+_, _-_, _<_, _≤_}
 use native.Mathlib.Omega.{arith}
 use lib.Dec.{eqb, ltb, leb}
-use lib.ListN.{length, getD, take, drop, drop-of-length-le, length-drop, length-take}
-use lib.Seq.{drop-drop, drop-cons, take-all}
-use borrow.Author.Tests.{ltb-true, ltb-false, eqb-true, eqb-false, eq-eqb, ne-eqb, lt-ltb, le-ltb, le-leb, lt-leb, leb-true, leb-false}
-use Rattle.scanner.proofs.Bounds.{test, Within, scan-within}
+use lib.ListN.{length, drop, length-drop}
+use lib.Seq.{drop-drop}
+use borrow.Author.Tests.{eq-eqb, ne-eqb, leb-true, leb-false}
+use Rattle.scanner.proofs.Bounds.{test}
 use Rattle.paper.specs.Words as paper
-use Rattle.paper.specs.Words.{Refusal, Next, next, ended, refusal, refuse, Reading, noWords, withWord, following, readFrom, reading, textLimit, wordLimit}
+use Rattle.paper.specs.Words.{Refusal, Next, next, ended, refusal, refuse, noWords, withWord, following, readFrom, reading, textLimit, wordLimit}
 use Rattle.words.specs.declared.Cursor.{Cursor}
 use Rattle.words.specs.declared.Step.{Step}
 use Rattle.words.specs.declared.Step.the-variants.{Word, End, Refused}
-use Rattle.words.specs.Answers.{wordOf, nextAt, stepOf, Moved, Stepped, leftOf, readingOf, tooLong}
+use Rattle.words.specs.Answers.{wordOf, nextAt, stepOf, Stepped, leftOf, readingOf, tooLong}
 use Rattle.words.proofs.Places.{Lies, NextLies, following-lies}
 
 -- ---- the bytes that `readFrom` counts do not matter once they exceed what is left
@@ -110,7 +110,7 @@ not-long text c s p n v e =
     (λ t. let x : next (wordOf text s p n v) ≡ refusal tooLong = rw (t, nextAt) at e in let z : _≡_ {A = ℕ} 0 1 = cc in absurd (omega arith))
     (λ t. t)
 
--- THE LAW OF STEPS: what is left of the reading begins with the step's answer and goes on with what is left at its cursor.
+-- The law of steps: what is left of the reading begins with the step's answer and goes on with what is left at its cursor.
 pub step-reads : (text : List ℕ) (c : Cursor) (r : Step) → Stepped text c r → leftOf text c ≡ readingOf text r
 step-reads text c r k = test (ltb textLimit (length text)) (λ t. long-step text c r t k) (λ t. short-step text t c r k)
 

@@ -1,8 +1,7 @@
 -- Each public promise settles the result.
-use mathlib.Core.Path.{_≡_, refl, sym, ap, subst, _∙_}
+use mathlib.Core.Path.{_≡_, refl, sym, ap, _∙_}
 use mathlib.Core.Bool.{Bool, true, false}
 use mathlib.Core.List.{List, []}
-use mathlib.Core.Option.{Option, none, some}
 use Prim.Native.Nat.{ℕ, _+_, _≤_}
 use native.Mathlib.Omega.{arith}
 use lib.ListN.{length, take, drop, length-drop}
@@ -15,7 +14,7 @@ use Rattle.words.specs.declared.Step.{Step}
 use Rattle.words.specs.declared.Step.the-variants as steps
 use Rattle.words.specs.declared.Found.{Found}
 use Rattle.words.specs.declared.Found.the-variants.{Length, Nothing}
-use Rattle.words.specs.Answers.{wordOf, nextOf, stepOf, nextAt, Moved, Stepped, foundOf, Inside, FoundAt, flagged, PartAt}
+use Rattle.words.specs.Answers.{wordOf, nextOf, stepOf, Moved, Stepped, foundOf, Inside, FoundAt, flagged, PartAt}
 
 apart : {A : Type 0} → _≡_ {A = ℕ} 0 1 → A
 apart z = absurd (omega arith)

@@ -1,7 +1,7 @@
 -- The paper's case for each answer of a reading.
 use mathlib.Core.Path.{_≡_}
 use mathlib.Core.Bool.{Bool, true, false}
-use mathlib.Core.List.{List, [], _∷_}
+use mathlib.Core.List.{List, []}
 use mathlib.Core.Option.{Option, none, some}
 use Prim.Native.Nat.{ℕ, suc, _+_, _-_, _≤_, _<_, _^_}
 use lib.Dec.{eqb, ltb, leb}
@@ -35,7 +35,7 @@ refusalOf true place (scans.Refused number after) = elim (eqb after 0) [ true �
 
 -- a refusal's place is a number of the machine
 abbrev pub Reaches : ℕ → Scan → Type 0
-Reaches place (scans.Word sort n v) = 0 ≤ n
+Reaches place (scans.Word sort n v) = Unit {0}
 Reaches place (scans.Refused number after) = place + after < 2 ^ 64
 
 -- ---- the reading
@@ -58,8 +58,8 @@ stepOf text (steps.Refused number place) = paper.refuse number place
 -- the cursor with a word stands after it, and has one word more
 abbrev pub Moved : Cursor → Step → Type 0
 Moved c (steps.Word sort place length value d) = (d .place ≡ place + length) × (d .words ≡ c .words + 1)
-Moved c steps.End = c .words ≡ c .words
-Moved c (steps.Refused number place) = c .words ≡ c .words
+Moved c steps.End = Unit {0}
+Moved c (steps.Refused number place) = Unit {0}
 
 pub record Stepped (text : List ℕ) (c : Cursor) (r : Step) : Type 0 where
   pub next : stepOf text r ≡ nextAt text c
@@ -86,7 +86,7 @@ foundOf text place Nothing = none
 
 abbrev pub Inside : List ℕ → (place : ℕ) → Found → Type 0
 Inside text place (Length n) = place + n ≤ length text
-Inside text place Nothing = 0 ≤ place
+Inside text place Nothing = Unit {0}
 
 pub record FoundAt (text : List ℕ) (place : ℕ) (r : Found) : Type 0 where
   pub is : foundOf text place r ≡ paper.asked text place

@@ -2,7 +2,7 @@
 use Prim.Native.Nat.{_-_}
 use native.Mathlib.Omega.{arith}
 use lib.ListN.{length}
-use Rattle.reserved.proofs.Packs.{Left, sort-short, sort-long, left-start, left-room, left-step, left-high, left-end}
+use Rattle.reserved.proofs.Packs.{Left, sort-long, left-start, left-room, left-step, left-high, left-end, sort-empty}
 use borrow.Author.Needs.{needs}
 use Rattle.reserved.proofs.pack.Statement.{statement}
 use Rattle.reserved.proofs.pack.Tie as tie
@@ -14,10 +14,10 @@ abbrev μ-loop : tie.MeasureT-loop
 μ-loop name key₀ i₀ key i = length name - i
 
 returns : tie.Need-returns Inv-loop μ-loop
-returns c = search (needs, sort-short)
+returns c = search (needs, sort-long)
 
 returns-2 : tie.Need-returns-2 Inv-loop μ-loop
-returns-2 c = search (needs, sort-long)
+returns-2 c = search (needs, sort-empty)
 
 loop-holds : tie.Need-loop-holds Inv-loop μ-loop
 loop-holds c = search (needs, left-start)

@@ -4,12 +4,12 @@ use borrow.Author.Needs.{needs}
 use Rattle.scanner.proofs.classes.is_digit.Statement.{statement}
 use Rattle.scanner.proofs.classes.is_digit.Tie as tie
 
-is-between-requires : tie.Need-is-between-requires
-is-between-requires c κs = search needs
+in-range-requires : tie.Need-in-range-requires
+in-range-requires c κs = search needs
 
 returns : tie.Need-returns
 unfolding digit
-returns c = c .is-between .ensures
+returns c = search needs
 
 pub is-digit-spec : {M : Type 1} → statement M
-is-digit-spec = tie.close (tie.spec is-between-requires returns)
+is-digit-spec = tie.close (tie.spec in-range-requires returns)

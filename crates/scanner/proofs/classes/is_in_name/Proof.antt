@@ -1,6 +1,6 @@
 -- `scanner::classes::is_in_name` meets its contract.
-use mathlib.Core.Path.{sym, _∙_}
 use Rattle.paper.specs.Words.{inName}
+use Rattle.scanner.proofs.Bytes.{chain}
 use borrow.Author.Needs.{needs}
 use Rattle.scanner.proofs.classes.is_in_name.Statement.{statement}
 use Rattle.scanner.proofs.classes.is_in_name.Tie as tie
@@ -10,18 +10,18 @@ is-letter-requires c κs = search needs
 
 returns : tie.Need-returns
 unfolding inName
-returns c = rw (sym (c .before .is-letter .ensures) ∙ c .if1 .taken)
+returns c = search (needs, chain)
 
 is-digit-requires : tie.Need-is-digit-requires
 is-digit-requires c κs = search needs
 
 returns-2 : tie.Need-returns-2
 unfolding inName
-returns-2 c = rw (sym (c .before .before .before .is-letter .ensures) ∙ c .before .before .if1 .left, sym (c .before .is-digit .ensures) ∙ c .if2 .taken)
+returns-2 c = search (needs, chain)
 
 returns-3 : tie.Need-returns-3
 unfolding inName
-returns-3 c = rw (sym (c .before .before .before .is-letter .ensures) ∙ c .before .before .if1 .left, sym (c .before .is-digit .ensures) ∙ c .if2 .left)
+returns-3 c = search (needs, chain)
 
 pub is-in-name-spec : {M : Type 1} → statement M
 is-in-name-spec =

@@ -1,23 +1,23 @@
 -- `scanner::classes::is_letter` meets its contract.
-use mathlib.Core.Path.{sym, _∙_}
 use Rattle.paper.specs.Words.{letter}
+use Rattle.scanner.proofs.Bytes.{chain}
 use borrow.Author.Needs.{needs}
 use Rattle.scanner.proofs.classes.is_letter.Statement.{statement}
 use Rattle.scanner.proofs.classes.is_letter.Tie as tie
 
-is-between-requires : tie.Need-is-between-requires
-is-between-requires c κs = search needs
+in-range-requires : tie.Need-in-range-requires
+in-range-requires c κs = search needs
 
 returns : tie.Need-returns
 unfolding letter
-returns c = rw (sym (c .before .is-between .ensures) ∙ c .if1 .taken)
+returns c = search (needs, chain)
 
-is-between-requires-2 : tie.Need-is-between-requires-2
-is-between-requires-2 c κs = search needs
+in-range-requires-2 : tie.Need-in-range-requires-2
+in-range-requires-2 c κs = search needs
 
 returns-2 : tie.Need-returns-2
 unfolding letter
-returns-2 c = rw (sym (c .before .before .is-between .ensures) ∙ c .before .if1 .left) (c .is-between2 .ensures)
+returns-2 c = search (needs, chain)
 
 pub is-letter-spec : {M : Type 1} → statement M
-is-letter-spec = tie.close (tie.spec is-between-requires returns is-between-requires-2 returns-2)
+is-letter-spec = tie.close (tie.spec in-range-requires returns in-range-requires-2 returns-2)

@@ -1,7 +1,6 @@
 -- `scanner::classes::two_signs` meets its contract.
 use Rattle.paper.specs.Sorts.{bytes, folded, signs, equalTexts, numberIn, signSort}
 use Rattle.scanner.proofs.Bytes.{no-pair-equal, no-pair-more, unpaired, a-pair}
-use borrow.Author.Needs.{needs}
 use Rattle.scanner.proofs.classes.two_signs.Statement.{statement}
 use Rattle.scanner.proofs.classes.two_signs.Tie as tie
 
