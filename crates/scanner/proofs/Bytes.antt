@@ -8,7 +8,7 @@ use native.Mathlib.Nat.{not-suc-le-zero, zero-add, add-zero}
 use native.Mathlib.Omega.{arith}
 use lib.Dec.{eqb, ltb, leb}
 use lib.ListN.{length, getD}
-use borrow.Author.Tests.{ltb-true, ltb-false, eqb-true, eqb-false, eq-eqb, ne-eqb, lt-ltb, le-ltb, le-leb, lt-leb}
+use borrow.Author.Tests.{ltb-true, ltb-false, eqb-true, eqb-false, eq-eqb, ne-eqb, lt-ltb, le-ltb, le-leb, lt-leb, leb-true}
 use Rattle.paper.specs.Sorts.{bytes, folded, signs, equalTexts, numberIn, signSort, firstSign}
 use Rattle.paper.specs.Words.{between, letter, digit, inName, spoilsNumber, barredInString, separates, permitted, permittedInside}
 use Rattle.reserved.proofs.Table.{test, false-true}
@@ -65,6 +65,61 @@ pub in-range : (low high b : ℕ) → low ≤ b → leb b high ≡ between low h
 unfolding between
 in-range low high b h = rw (le-ltb b low h, between)
 
+pub range : (low high b : ℕ) → between low high b ≡ true → (low ≤ b) × (b ≤ high)
+unfolding between
+range low high b t =
+    test (ltb b low) (λ e. false-true (rw (e, between) at t)) (λ e. (ltb-false b low e, leb-true b high (rw (e, between) at t)))
+
+pub ranges : (low high b : ℕ) → low ≤ b → b ≤ high → between low high b ≡ true
+ranges low high b h g = sym (in-range low high b h) ∙ le-leb b high g
+
+-- a byte that stands in print is barred if it is a backslash, and any other if it is CR or LF
+module _ (b : ℕ) (t : Bool) (is : t ≡ between 0x20 0x7e b) where
+  pub barred-in-print : t ≡ true → eqb b 92 ≡ barredInString b
+  unfolding barredInString
+  barred-in-print h =
+      let r = range 0x20 0x7e b (sym is ∙ h) in
+      left-to _ _ _ (failed _ _ (ne-eqb b 13 (λ e. omega arith)) (ne-eqb b 10 (λ e. omega arith))) refl
+
+  pub barred-cr : b ≡ 13 → true ≡ barredInString b
+  unfolding barredInString
+  barred-cr e = rw (eq-eqb b 13 e)
+
+  pub barred-lf : t ≡ false → (b ≡ 13 → ⊥) → eqb b 10 ≡ barredInString b
+  unfolding barredInString
+  barred-lf h n = left-to _ _ _ (ne-eqb b 13 n) refl ∙ sym (or-false (eqb b 13 || eqb b 10) (eqb b 92) (ne-eqb b 92 other))
+    where
+      or-false : (x y : Bool) → y ≡ false → x || y ≡ x
+      or-false true y e = refl
+      or-false false y e = e
+
+      other : b ≡ 92 → ⊥
+      other e = let z : false ≡ true = sym (sym is ∙ h) ∙ ranges 0x20 0x7e b (omega arith) (omega arith) in false-true z
+
+pub spoils-not : (b : ℕ) → b < 46 → false ≡ spoilsNumber b
+unfolding spoilsNumber letter
+spoils-not b h =
+    let no-letter = failed _ _ (sym (below-range 65 90 b (omega arith))) (sym (below-range 97 122 b (omega arith))) in
+    left-to _ _ _ (failed _ _ no-letter (ne-eqb b 95 (λ e. omega arith))) (sym (ne-eqb b 46 (λ e. omega arith)))
+
+-- ---- what begins a word is permitted
+permitted-range : (b : ℕ) → 32 ≤ b → b ≤ 126 → permitted b ≡ true
+unfolding permitted
+permitted-range b h g = passed _ _ (passed _ _ (passed _ _ (ranges 0x20 0x7e b h g)))
+
+pub letter-permitted : (b : ℕ) → letter b ≡ true → permitted b ≡ true
+unfolding letter
+letter-permitted b t =
+    test (between 65 90 b) (λ e. let r = range 65 90 b e in permitted-range b (omega arith) (omega arith))
+    (λ e. let r = range 97 122 b (rw e at t) in permitted-range b (omega arith) (omega arith))
+
+pub digit-permitted : (b : ℕ) → digit b ≡ true → permitted b ≡ true
+unfolding digit
+digit-permitted b t = let r = range 48 57 b t in permitted-range b (omega arith) (omega arith)
+
+pub quote-permitted : (b : ℕ) → b ≡ 34 → permitted b ≡ true
+quote-permitted b e = permitted-range b (omega arith) (omega arith)
+
 -- ---- signs of one byte
 unfoldable has : ℕ → List ℕ → Bool
 has b [] = false
@@ -86,9 +141,32 @@ oneByte = 125 ∷ 123 ∷ 92 ∷ 62 ∷ 61 ∷ 60 ∷ 59 ∷ 58 ∷ 45 ∷ 44 �
 unfoldable signOrNone : ℕ → Bool
 signOrNone b = elim (has b oneByte) [ true ↦ true | false ↦ eqb (signSort (b ∷ [])) 0 ]
 
-pub no-sign : (b : ℕ) → b < 256 → Apart b oneByte → 0 ≡ signSort (b ∷ [])
+no-sign : (b : ℕ) → b < 256 → Apart b oneByte → 0 ≡ signSort (b ∷ [])
 unfolding all has signOrNone signSort numberIn signs equalTexts bytes folded
 no-sign b h a = sym (eqb-true (signSort (b ∷ [])) 0 (rw (has-not b oneByte a, signOrNone) at (all-below signOrNone 256 refl b h)))
+
+-- a byte outside a range is apart from every byte in it
+unfoldable beyond : ℕ → List ℕ → Bool
+beyond top [] = true
+beyond top (x ∷ r) = elim (leb x top) [ true ↦ beyond top r | false ↦ false ]
+
+apart-beyond : (top b : ℕ) (l : List ℕ) → top < b → beyond top l ≡ true → Apart b l
+unfolding beyond
+apart-beyond top b [] h t = tt
+apart-beyond top b (x ∷ r) h t =
+    test (leb x top) (λ e. (apart-beyond top b r h (rw (e, beyond) at t), λ g. let y = leb-true x top e in omega arith)) (λ e. false-true (rw (e, beyond) at t))
+
+module _ (b : ℕ) (f : b < 256) where
+  pub no-early : b < 58 → Apart b (45 ∷ 44 ∷ 43 ∷ 42 ∷ 41 ∷ 40 ∷ []) → 0 ≡ signSort (b ∷ [])
+  no-early h a =
+      no-sign b f ((((((((a, λ e. omega arith), λ e. omega arith), λ e. omega arith), λ e. omega arith), λ e. omega arith), λ e. omega arith), λ e. omega arith), λ e. omega arith)
+
+  pub no-late : 62 < b → Apart b (125 ∷ 123 ∷ 92 ∷ []) → 0 ≡ signSort (b ∷ [])
+  unfolding beyond
+  no-late h a = no-sign b f (((apart-beyond 62 b (62 ∷ 61 ∷ 60 ∷ 59 ∷ 58 ∷ 45 ∷ 44 ∷ 43 ∷ 42 ∷ 41 ∷ 40 ∷ []) h refl, a .0 .0 .1), a .0 .1), a .1)
+
+pub last-middle : (b : ℕ) → 58 ≤ b → b ≤ 62 → Apart b (61 ∷ 60 ∷ 59 ∷ 58 ∷ []) → b ≡ 62
+last-middle b h g a = omega (arith, a .1, a .0 .1, a .0 .0 .1, a .0 .0 .0 .1)
 
 pub a-sign : (b x : ℕ) → b ≡ x → signSort (x ∷ []) ≡ signSort (b ∷ [])
 a-sign b x e = rw e
@@ -107,6 +185,27 @@ all-paired = refl
 pub unpaired : (b c : ℕ) → (c ≡ 61 → ⊥) → (c ≡ 62 → ⊥) → 0 ≡ signSort (b ∷ c ∷ [])
 unfolding signSort paired
 unpaired b c n m = sym (unlike paired signs firstSign (b ∷ c ∷ []) all-paired (rw (ne-eqb c 61 n, paired) (ne-eqb c 62 m)))
+
+-- the first byte of every sign of two bytes is one from `:` to `>`
+unfoldable pairs : List ℕ → Bool
+pairs [] = true
+pairs (b ∷ []) = true
+pairs (b ∷ c ∷ r) = between 58 62 b
+
+all-pairs : every pairs signs ≡ true
+unfolding every pairs signs bytes folded between
+all-pairs = refl
+
+module _ (b c : ℕ) where
+  outside : between 58 62 b ≡ false → 0 ≡ signSort (b ∷ c ∷ [])
+  unfolding signSort pairs
+  outside n = sym (unlike pairs signs firstSign (b ∷ c ∷ []) all-pairs n)
+
+  pub unpaired-below : b < 58 → 0 ≡ signSort (b ∷ c ∷ [])
+  unpaired-below h = outside (sym (below-range 58 62 b h))
+
+  pub unpaired-above : 62 < b → 0 ≡ signSort (b ∷ c ∷ [])
+  unpaired-above h = outside (sym (in-range 58 62 b (omega arith)) ∙ lt-leb b 62 h)
 
 unfoldable beforeEqual : ℕ → ℕ
 beforeEqual b = elim (eqb b 58) [ true ↦ 11 | false ↦ elim (eqb b 60) [ true ↦ 14 | false ↦ elim (eqb b 62) [ true ↦ 17 | false ↦ 0 ] ] ]

@@ -7,6 +7,7 @@ use lib.ListN.{length, getD}
 use Rattle.paper.specs.Sorts.{signSort}
 use Rattle.paper.specs.Words.{scanSign, word, refused}
 use Rattle.scanner.specs.Answers.{pairSort}
+use Rattle.scanner.proofs.Bytes.{unpaired-below, unpaired-above}
 
 pub no-pair : (text : List ℕ) → length text ≤ 1 → 0 ≡ pairSort text
 unfolding pairSort
@@ -19,6 +20,18 @@ unfolding pairSort
 a-pair [] s h e = absurd (omega arith)
 a-pair (b ∷ []) s h e = absurd (omega arith)
 a-pair (b ∷ c ∷ r) s h e = e
+
+pub no-pair-below : (text : List ℕ) → getD text 0 0 < 58 → 0 ≡ pairSort text
+unfolding pairSort
+no-pair-below [] h = refl
+no-pair-below (b ∷ []) h = refl
+no-pair-below (b ∷ c ∷ r) h = unpaired-below b c h
+
+pub no-pair-above : (text : List ℕ) → 62 < getD text 0 0 → 0 ≡ pairSort text
+unfolding pairSort
+no-pair-above [] h = refl
+no-pair-above (b ∷ []) h = refl
+no-pair-above (b ∷ c ∷ r) h = unpaired-above b c h
 
 -- a sort is no zero
 picked : (s : ℕ) {A : Type 0} (f : ℕ → A) (a : A) → (s ≡ 0 → ⊥) → elim s [ zero ↦ a | suc m ↦ f (suc m) ] ≡ f s

@@ -7,6 +7,7 @@ use native.Mathlib.Omega.{arith}
 use lib.ListN.{length, getD}
 use borrow.Author.Tests.{eq-eqb, ne-eqb}
 use Rattle.paper.specs.Words.{Scan, refused, between, permitted, letter, digit, scanName, scanNumber, scanString, scanSign, scan}
+use Rattle.scanner.proofs.Bytes.{letter-permitted, digit-permitted, quote-permitted}
 
 abbrev front : List ℕ → ℕ
 front text = getD text 0 0
@@ -16,28 +17,31 @@ unfolding scan permitted between
 nothing [] h = refl
 nothing (b ∷ r) h = absurd (omega arith)
 
-module _ (text : List ℕ) (p : Bool) (permits : p ≡ permitted (front text)) where
-  pub not-permitted : p ≡ false → refused 4 0 ≡ scan (front text) text
+module _ (text : List ℕ) (l : Bool) (letters : l ≡ letter (front text)) where
+  pub a-name : (s : Scan) → l ≡ true → s ≡ scanName text → s ≡ scan (front text) text
   unfolding scan
-  not-permitted h = rw (sym permits ∙ h, scan)
+  a-name s g e = let t = sym letters ∙ g in e ∙ sym (rw (letter-permitted (front text) t, scan) (rw t))
 
-  module _ (h : p ≡ true) (l : Bool) (letters : l ≡ letter (front text)) where
-    after-permitted : permitted (front text) ≡ true
-    after-permitted = sym permits ∙ h
+  module _ (g : l ≡ false) (d : Bool) (digits : d ≡ digit (front text)) where
+    no-letter : letter (front text) ≡ false
+    no-letter = sym letters ∙ g
 
-    pub a-name : (s : Scan) → l ≡ true → s ≡ scanName text → s ≡ scan (front text) text
+    pub a-number : (s : Scan) → d ≡ true → s ≡ scanNumber text → s ≡ scan (front text) text
     unfolding scan
-    a-name s g e = e ∙ sym (rw (after-permitted, scan) (rw (sym letters ∙ g)))
+    a-number s k e = let t = sym digits ∙ k in e ∙ sym (rw (digit-permitted (front text) t, scan) (rw no-letter (rw t)))
 
-    module _ (g : l ≡ false) (d : Bool) (digits : d ≡ digit (front text)) where
-      pub a-number : (s : Scan) → d ≡ true → s ≡ scanNumber text → s ≡ scan (front text) text
+    module _ (k : d ≡ false) where
+      pub a-string : (s : Scan) → front text ≡ 34 → s ≡ scanString text → s ≡ scan (front text) text
       unfolding scan
-      a-number s k e = e ∙ sym (rw (after-permitted, scan) (rw (sym letters ∙ g) (rw (sym digits ∙ k))))
+      a-string s q e =
+          e ∙ sym (rw (quote-permitted (front text) q, scan) (rw no-letter (rw (sym digits ∙ k) (rw (eq-eqb (front text) 34 q)))))
 
-      pub a-string : (s : Scan) → d ≡ false → front text ≡ 34 → s ≡ scanString text → s ≡ scan (front text) text
-      unfolding scan
-      a-string s k q e = e ∙ sym (rw (after-permitted, scan) (rw (sym letters ∙ g) (rw (sym digits ∙ k) (rw (eq-eqb (front text) 34 q)))))
+      module _ (q : front text ≡ 34 → ⊥) (p : Bool) (permits : p ≡ permitted (front text)) where
+        pub a-sign : (s : Scan) → p ≡ true → s ≡ scanSign text → s ≡ scan (front text) text
+        unfolding scan
+        a-sign s h e =
+            e ∙ sym (rw (sym permits ∙ h, scan) (rw no-letter (rw (sym digits ∙ k) (rw (ne-eqb (front text) 34 q)))))
 
-      pub a-sign : (s : Scan) → d ≡ false → (front text ≡ 34 → ⊥) → s ≡ scanSign text → s ≡ scan (front text) text
-      unfolding scan
-      a-sign s k q e = e ∙ sym (rw (after-permitted, scan) (rw (sym letters ∙ g) (rw (sym digits ∙ k) (rw (ne-eqb (front text) 34 q)))))
+        pub not-permitted : p ≡ false → refused 4 0 ≡ scan (front text) text
+        unfolding scan
+        not-permitted h = rw (sym permits ∙ h, scan)

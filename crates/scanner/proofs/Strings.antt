@@ -5,22 +5,97 @@ use mathlib.Core.List.{List, [], _∷_}
 use mathlib.Core.Option.{Option, none, some}
 use Prim.Native.Nat.{ℕ, zero, suc, _+_, _-_, _<_, _≤_}
 use native.Mathlib.Omega.{arith}
-use lib.Dec.{eqb}
-use lib.ListN.{length, getD, take, drop, drop-of-length-le}
-use borrow.Author.Tests.{eq-eqb, ne-eqb, lt-ltb, le-ltb}
-use Rattle.reserved.proofs.Table.{test}
-use Rattle.paper.specs.Words.{run, permittedInside, barredInString, stringEnd, scanString, word, refused}
-use Rattle.scanner.specs.declared.string.StringEnd.{StringEnd}
-use Rattle.scanner.specs.declared.string.StringEnd.the-variants.{At, Nowhere}
-use Rattle.scanner.specs.Answers.{Counted, endOf}
-use Rattle.scanner.proofs.Runs.{rest}
+use lib.Dec.{eqb, ltb}
+use lib.ListN.{length, getD, drop, List·getD-eq-default, drop-of-length-le}
+use borrow.Author.Tests.{eq-eqb, ne-eqb, eqb-true, ltb-true, ltb-false, lt-ltb, le-ltb}
+use Rattle.reserved.proofs.Table.{test, false-true}
+use Rattle.paper.specs.Words.{Scan, run, permittedInside, barredInString, stringEnd, scanString, word, refused}
+use Rattle.scanner.specs.Answers.{noted, closedString}
+use Rattle.scanner.proofs.Bytes.{passed, quote-permitted}
+use Rattle.scanner.proofs.Runs.{Run, run-start, run-more, run-stop, rest}
 
--- What is left of a string of which n bytes are passed.
-pub record Left (text : List ℕ) (room : ℕ) (quoted : Bool) (n : ℕ) : Type 0 where
-  pub left : stringEnd 80 false (drop 1 text) 1 ≡ stringEnd room quoted (drop n text) n
+-- ---- bytes that are not permitted
+-- Of the first n bytes every one is permitted, or `bad` is the place of the first that is not.
+pub record Seen (text : List ℕ) (n bad : ℕ) : Type 0 where
+  pub none-bad : bad ≡ 0 → Run permittedInside text n
+  pub first-bad : (bad ≡ 0 → ⊥) → (run permittedInside text ≡ bad) × (bad < n)
 
-pub left-start : (text : List ℕ) → Left text 80 false 1
-left-start text = record { left = refl }
+is-zero : {A : Type 0} (x : ℕ) → (x ≡ 0 → A) → ((x ≡ 0 → ⊥) → A) → A
+is-zero zero f g = f refl
+is-zero (suc m) f g = g (λ e. omega arith)
+
+noted-zero : (bad at : ℕ) → bad ≡ 0 → noted bad at false ≡ at
+unfolding noted
+noted-zero zero at h = refl
+noted-zero (suc m) at h = absurd (omega arith)
+
+noted-some : (bad at : ℕ) → (bad ≡ 0 → ⊥) → noted bad at false ≡ bad
+unfolding noted
+noted-some zero at h = absurd (h refl)
+noted-some (suc m) at h = refl
+
+module _ (bad at : ℕ) (t p : Bool) (is : t ≡ p) where
+  pub note-permitted : t ≡ true → bad ≡ noted bad at p
+  unfolding noted
+  note-permitted h = rw (sym is ∙ h)
+
+  pub note-first : t ≡ false → bad ≡ 0 → at ≡ noted bad at p
+  note-first h z = sym (ap (noted bad at) (sym is ∙ h) ∙ noted-zero bad at z)
+
+  pub note-later : t ≡ false → (bad ≡ 0 → ⊥) → bad ≡ noted bad at p
+  note-later h z = sym (ap (noted bad at) (sym is ∙ h) ∙ noted-some bad at z)
+
+module _ (text : List ℕ) (n bad : ℕ) (at : Seen text n bad) (h : n < length text) where
+  seen-good : permittedInside (getD text n 0) ≡ true → Seen text (n + 1) bad
+  seen-good p = record {
+    none-bad = λ z. run-more permittedInside text n (at .none-bad z) true h (sym p) refl;
+    first-bad = λ z. let x = at .first-bad z in (x .0, omega arith);
+  }
+
+  seen-bad : 0 < n → permittedInside (getD text n 0) ≡ false → Seen text (n + 1) (noted bad n false)
+  seen-bad g p =
+      is-zero bad
+      (λ z. rw (noted-zero bad n z) (record {
+        none-bad = λ y. absurd (omega arith);
+        first-bad = λ y. (sym (run-stop permittedInside text n (at .none-bad z) false h (sym p) refl .exact), omega arith);
+      }))
+      (λ z. rw (noted-some bad n z) (record {
+        none-bad = λ y. absurd (z y);
+        first-bad = λ y. let x = at .first-bad z in (x .0, omega arith);
+      }))
+
+  pub seen-more : (r : ℕ) → 0 < n → r ≡ noted bad n (permittedInside (getD text n 0)) → Seen text (n + 1) r
+  unfolding noted
+  seen-more r g e =
+      test (permittedInside (getD text n 0))
+      (λ p. rw (e ∙ ap (noted bad n) p) (seen-good p))
+      (λ p. rw (e ∙ ap (noted bad n) p) (seen-bad g p))
+
+quote-inside : (b : ℕ) → b ≡ 34 → permittedInside b ≡ true
+unfolding permittedInside
+quote-inside b e = passed _ _ (quote-permitted b e)
+
+-- ---- what is left of a string of which n bytes are passed
+pub record Left (text : List ℕ) (room bad n : ℕ) : Type 0 where
+  pub place : (0 < n) × (n ≤ length text)
+  pub seen : Seen text n bad
+  pub left : stringEnd 80 false (drop 1 text) 1 ≡ stringEnd room false (drop n text) n
+
+some-length : (text : List ℕ) → getD text 0 0 ≡ 34 → 0 < length text
+some-length [] h = absurd (omega arith)
+some-length (b ∷ r) h = omega arith
+
+pub left-start : (text : List ℕ) → getD text 0 0 ≡ 34 → Left text 80 0 1
+left-start text h =
+    let some = some-length text h in
+    record {
+      place = (omega arith, omega arith);
+      seen = record {
+        none-bad = λ z. run-more permittedInside text 0 (run-start permittedInside text) true some (sym (quote-inside _ h)) refl;
+        first-bad = λ z. absurd (z refl);
+      };
+      left = refl;
+    }
 
 -- one character less is room for
 fewer : (room : ℕ) (l : List ℕ) (n : ℕ) → (room ≡ 0 → ⊥) → elim room [ zero ↦ none | suc m ↦ stringEnd m false l n ] ≡ stringEnd (room - 1) false l n
@@ -30,55 +105,97 @@ fewer (suc m) l n h = ap (λ (x : ℕ). stringEnd x false l n) (less m)
     less : (m : ℕ) → m ≡ suc m - 1
     less m = omega arith
 
-module _ (text : List ℕ) (room n : ℕ) (quoted : Bool) (at : Left text room quoted n) where
-  -- the definition at a place where quoted is known
-  known : (q : Bool) → quoted ≡ q → stringEnd 80 false (drop 1 text) 1 ≡ stringEnd room q (drop n text) n
-  known q e = at .left ∙ ap (λ (x : Bool). stringEnd room x (drop n text) n) e
+pub no-quote : (text : List ℕ) (at : ℕ) → length text ≤ at → false ≡ eqb (getD text at 0) 34
+no-quote text at h = rw (List·getD-eq-default text 0 h)
 
-  pub left-closed : length text ≤ n → quoted ≡ true → some n ≡ stringEnd 80 false (drop 1 text) 1
-  unfolding stringEnd
-  left-closed h q = sym (known true q ∙ rw (drop-of-length-le text h))
+malformed-by : (text : List ℕ) → stringEnd 80 false (drop 1 text) 1 ≡ none → refused 5 0 ≡ scanString text
+unfolding scanString
+malformed-by text e = rw (e, scanString)
 
-  pub left-open : length text ≤ n → quoted ≡ false → none ≡ stringEnd 80 false (drop 1 text) 1
+-- a string that is closed
+pub closed-good : (n bad : ℕ) → bad ≡ 0 → word 3 n 0 ≡ closedString n bad
+unfolding closedString
+closed-good n zero h = refl
+closed-good n (suc m) h = absurd (omega arith)
+
+pub closed-bad : (n bad : ℕ) → (bad ≡ 0 → ⊥) → refused 4 bad ≡ closedString n bad
+unfolding closedString
+closed-bad n zero h = absurd (h refl)
+closed-bad n (suc m) h = refl
+
+closed-by : (text : List ℕ) (m bad : ℕ) → Seen text m bad → stringEnd 80 false (drop 1 text) 1 ≡ some m → closedString m bad ≡ scanString text
+unfolding scanString closedString
+closed-by text m zero at e =
+    let all = at .none-bad refl in
+    let whole : m ≤ run permittedInside text = omega (arith, all .left) in
+    rw (e, scanString) (rw (le-ltb (run permittedInside text) m whole))
+closed-by text m (suc k) at e =
+    let x = at .first-bad (λ z. omega arith) in
+    rw (e, scanString) (rw (x .0) (rw (lt-ltb (suc k) m (x .1)) (rw (x .0))))
+
+module _ (text : List ℕ) (room bad n : ℕ) (at : Left text room bad n) where
+  pub left-open : length text ≤ n → refused 5 0 ≡ scanString text
   unfolding stringEnd
-  left-open h q = sym (known false q ∙ rw (drop-of-length-le text h))
+  left-open h = malformed-by text (at .left ∙ rw (drop-of-length-le text h))
 
   module _ (h : n < length text) where
     -- the definition at a place where the byte there is known
-    at-byte : (q : Bool) → quoted ≡ q → stringEnd 80 false (drop 1 text) 1 ≡ stringEnd room q (getD text n 0 ∷ drop (n + 1) text) n
-    at-byte q e = known q e ∙ ap (λ (l : List ℕ). stringEnd room q l n) (rest text n h)
+    at-byte : stringEnd 80 false (drop 1 text) 1 ≡ stringEnd room false (getD text n 0 ∷ drop (n + 1) text) n
+    at-byte = at .left ∙ ap (λ (l : List ℕ). stringEnd room false l n) (rest text n h)
 
-    pub quote-twice : getD text n 0 ≡ 34 → quoted ≡ true → (room ≡ 0 → ⊥) → Left text (room - 1) false (n + 1)
-    unfolding stringEnd
-    quote-twice b q r = record { left = at-byte true q ∙ rw (eq-eqb _ 34 b, stringEnd) (fewer room (drop (n + 1) text) (n + 1) r) }
-
-    pub quote-past : getD text n 0 ≡ 34 → quoted ≡ true → room ≡ 0 → none ≡ stringEnd 80 false (drop 1 text) 1
-    unfolding stringEnd
-    quote-past b q r = sym (at-byte true q ∙ rw (eq-eqb _ 34 b, stringEnd) (rw r))
-
-    pub quote-once : getD text n 0 ≡ 34 → quoted ≡ false → Left text room true (n + 1)
-    unfolding stringEnd
-    quote-once b q = record { left = at-byte false q ∙ rw (eq-eqb _ 34 b, stringEnd) }
-
-    pub closed : (getD text n 0 ≡ 34 → ⊥) → quoted ≡ true → some (n + 1 - 1) ≡ stringEnd 80 false (drop 1 text) 1
-    unfolding stringEnd
-    closed b q = sym (at-byte true q ∙ rw (ne-eqb _ 34 b, stringEnd) (ap some back))
-      where
-        back : n ≡ n + 1 - 1
-        back = omega arith
-
-    module _ (t : Bool) (b : getD text n 0 ≡ 34 → ⊥) (q : quoted ≡ false) (is : t ≡ barredInString (getD text n 0)) where
-      pub barred : t ≡ true → none ≡ stringEnd 80 false (drop 1 text) 1
+    module _ (b : getD text n 0 ≡ 34) (t : Bool) (is : t ≡ eqb (getD text (n + 1) 0) 34) where
+      after-quote : stringEnd 80 false (drop 1 text) 1 ≡ stringEnd room true (drop (n + 1) text) (n + 1)
       unfolding stringEnd
-      barred g = sym (at-byte false q ∙ rw (ne-eqb _ 34 b, stringEnd) (rw (sym is ∙ g)))
+      after-quote = at-byte ∙ rw (eq-eqb _ 34 b, stringEnd)
 
-      pub character-past : t ≡ false → room ≡ 0 → none ≡ stringEnd 80 false (drop 1 text) 1
-      unfolding stringEnd
-      character-past g r = sym (at-byte false q ∙ rw (ne-eqb _ 34 b, stringEnd) (rw (sym is ∙ g) (rw r)))
+      seen-quote : Seen text (n + 1) bad
+      seen-quote = seen-good text n bad (at .seen) h (quote-inside _ b)
 
-      pub character : t ≡ false → (room ≡ 0 → ⊥) → Left text (room - 1) quoted (n + 1)
+      at-second : n + 1 < length text → stringEnd 80 false (drop 1 text) 1 ≡ stringEnd room true (getD text (n + 1) 0 ∷ drop (n + 1 + 1) text) (n + 1)
+      at-second g = after-quote ∙ ap (λ (l : List ℕ). stringEnd room true l (n + 1)) (rest text (n + 1) g)
+
+      second : t ≡ true → n + 1 < length text
+      second g =
+          test (ltb (n + 1) (length text)) (λ e. ltb-true _ _ e)
+          (λ e. false-true (no-quote text (n + 1) (ltb-false _ _ e) ∙ sym is ∙ g))
+
+      pub quote-past : t ≡ true → room ≡ 0 → refused 5 0 ≡ scanString text
       unfolding stringEnd
-      character g r = record { left = at-byte false q ∙ rw (ne-eqb _ 34 b, stringEnd) (rw (sym is ∙ g, q) (fewer room (drop (n + 1) text) (n + 1) r)) }
+      quote-past g r = malformed-by text (at-second (second g) ∙ rw (sym is ∙ g, stringEnd) (rw r))
+
+      pub quote-twice : t ≡ true → (room ≡ 0 → ⊥) → Left text (room - 1) bad (n + 1 + 1)
+      unfolding stringEnd
+      quote-twice g r = let s = second g in record {
+        place = (omega arith, omega arith);
+        seen = seen-good text (n + 1) bad seen-quote s (quote-inside _ (eqb-true _ 34 (sym is ∙ g)));
+        left = at-second s ∙ rw (sym is ∙ g, stringEnd) (fewer room (drop (n + 1 + 1) text) (n + 1 + 1) r);
+      }
+
+      ended : t ≡ false → stringEnd 80 false (drop 1 text) 1 ≡ some (n + 1)
+      unfolding stringEnd
+      ended g =
+          test (ltb (n + 1) (length text)) (λ e. at-second (ltb-true _ _ e) ∙ rw (sym is ∙ g, stringEnd))
+          (λ e. after-quote ∙ rw (drop-of-length-le text (ltb-false _ _ e)))
+
+      pub closes : (s : Scan) → t ≡ false → s ≡ closedString (n + 1) bad → s ≡ scanString text
+      closes s g e = e ∙ closed-by text (n + 1) bad seen-quote (ended g)
+
+    module _ (t : Bool) (b : getD text n 0 ≡ 34 → ⊥) (is : t ≡ barredInString (getD text n 0)) where
+      pub barred : t ≡ true → refused 5 0 ≡ scanString text
+      unfolding stringEnd
+      barred g = malformed-by text (at-byte ∙ rw (ne-eqb _ 34 b, stringEnd) (rw (sym is ∙ g)))
+
+      pub character-past : t ≡ false → room ≡ 0 → refused 5 0 ≡ scanString text
+      unfolding stringEnd
+      character-past g r = malformed-by text (at-byte ∙ rw (ne-eqb _ 34 b, stringEnd) (rw (sym is ∙ g) (rw r)))
+
+      pub character : (worse : ℕ) → worse ≡ noted bad n (permittedInside (getD text n 0)) → t ≡ false → (room ≡ 0 → ⊥) → Left text (room - 1) worse (n + 1)
+      unfolding stringEnd
+      character worse e g r = record {
+        place = (omega arith, omega arith);
+        seen = seen-more text n bad (at .seen) h worse (at .place .0) e;
+        left = at-byte ∙ rw (ne-eqb _ 34 b, stringEnd) (rw (sym is ∙ g) (fewer room (drop (n + 1) text) (n + 1) r));
+      }
 
 -- ---- a string's end lies in the text
 pub none-some : {A : Type 0} {m : ℕ} → _≡_ {A = Option ℕ} none (some m) → A
@@ -106,57 +223,3 @@ end-within (suc k) false (b ∷ r) n m e =
     test (eqb b 34) (λ g. one-more n m b r (end-within (suc k) true r (n + 1) m (rw (g, stringEnd) at e)))
     (λ g. test (barredInString b) (λ t. none-some (rw t at (rw (g, stringEnd) at e)))
     (λ t. one-more n m b r (end-within k false r (n + 1) m (rw t at (rw (g, stringEnd) at e)))))
-
--- ---- the string as a word
--- a run of a part that stops before the part's end is a run of the whole
-run-part : (such : ℕ → Bool) (n : ℕ) (l : List ℕ) → run such (take n l) < n → n ≤ length l → run such l ≡ run such (take n l)
-unfolding run
-run-part such zero l h g = absurd (omega arith)
-run-part such (suc n) [] h g = absurd (omega arith)
-run-part such (suc n) (b ∷ l) h g =
-    test (such b) (λ t. rw (t, run) (ap suc (run-part such n l (below t) (omega arith)))) (λ t. rw (t, run))
-  where
-    below : such b ≡ true → run such (take n l) < n
-    below t = let x : run such (take (suc n) (b ∷ l)) ≡ suc (run such (take n l)) = rw (t, run) in omega arith
-
-run-whole : (such : ℕ → Bool) (n : ℕ) (l : List ℕ) → n ≤ run such (take n l) → n ≤ run such l
-unfolding run
-run-whole such zero l h = omega arith
-run-whole such (suc n) [] h = h
-run-whole such (suc n) (b ∷ l) h =
-    test (such b)
-    (λ t. let part : run such (take (suc n) (b ∷ l)) ≡ suc (run such (take n l)) = rw (t, run) in
-    let whole : run such (b ∷ l) ≡ suc (run such l) = rw (t, run) in
-    let more : n ≤ run such l = run-whole such n l (omega arith) in
-    omega arith)
-    (λ t. let part : run such (take (suc n) (b ∷ l)) ≡ 0 = rw (t, run) in absurd (omega arith))
-
-end-inside : (n : ℕ) (l : List ℕ) → stringEnd 80 false (drop 1 l) 1 ≡ some n → n ≤ length l
-unfolding stringEnd
-end-inside n [] f = none-some f
-end-inside n (b ∷ l) f = omega (arith, end-within 80 false l 1 n f .1)
-
-module _ (text : List ℕ) (r : StringEnd) (is : endOf r ≡ stringEnd 80 false (drop 1 text) 1) where
-  pub string-none : r ≡ Nowhere → refused 5 0 ≡ scanString text
-  unfolding scanString
-  string-none e = rw (sym is ∙ ap endOf e, scanString)
-
-  module _ (n : ℕ) (e : r ≡ At n) where
-    found : stringEnd 80 false (drop 1 text) 1 ≡ some n
-    found = sym is ∙ ap endOf e
-
-    pub string-within : n ≤ length text
-    string-within = end-inside n text found
-
-    module _ (k : ℕ) (good : Counted permittedInside (take n text) k) where
-      pub string-bad : k < n → refused 4 k ≡ scanString text
-      unfolding scanString
-      string-bad h =
-          let part : run permittedInside text ≡ k = run-part permittedInside n text (omega (arith, good .exact)) string-within ∙ sym (good .exact) in
-          rw (found, scanString) (rw part (rw (lt-ltb k n h) (rw part)))
-
-      pub string-good : n ≤ k → word 3 n 0 ≡ scanString text
-      unfolding scanString
-      string-good h =
-          let whole = run-whole permittedInside n text (omega (arith, good .exact)) in
-          rw (found, scanString) (rw (le-ltb (run permittedInside text) n whole))

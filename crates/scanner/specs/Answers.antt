@@ -2,18 +2,15 @@
 use mathlib.Core.Path.{_≡_}
 use mathlib.Core.Bool.{Bool, true, false}
 use mathlib.Core.List.{List, [], _∷_}
-use mathlib.Core.Option.{Option, none, some}
-use Prim.Native.Nat.{ℕ, _≤_}
+use Prim.Native.Nat.{ℕ, zero, suc, _≤_}
 use lib.Dec.{ltb}
-use lib.ListN.{length, take}
+use lib.ListN.{length, take, drop}
 use Rattle.paper.specs.Sorts.{signSort}
 use Rattle.paper.specs.Words as paper
 use Rattle.scanner.specs.declared.Scan.{Scan}
 use Rattle.scanner.specs.declared.Scan.the-variants.{Word, Refused}
 use Rattle.scanner.specs.declared.Gap.{Gap}
 use Rattle.scanner.specs.declared.Gap.the-variants.{UpTo, BadByte}
-use Rattle.scanner.specs.declared.string.StringEnd.{StringEnd}
-use Rattle.scanner.specs.declared.string.StringEnd.the-variants.{At, Nowhere}
 
 abbrev pub scanOf : Scan → paper.Scan
 scanOf (Word sort n v) = paper.word sort n v
@@ -23,9 +20,20 @@ abbrev pub gapOf : Gap → paper.Gap
 gapOf (UpTo place) = paper.upTo place
 gapOf (BadByte place) = paper.badByte place
 
-abbrev pub endOf : StringEnd → Option ℕ
-endOf (At n) = some n
-endOf Nowhere = none
+-- the place of the first byte that is not permitted, or 0, after the byte at a place, which is permitted or not
+unfoldable pub noted : (bad at : ℕ) → Bool → ℕ
+noted bad at true = bad
+noted bad at false = elim bad [ zero ↦ at | suc m ↦ suc m ]
+
+-- a string of n bytes that is well formed but for that byte
+unfoldable pub closedString : (n bad : ℕ) → paper.Scan
+closedString n zero = paper.word 3 n 0
+closedString n (suc m) = paper.refused 4 (suc m)
+
+-- What follows a comment that is open at a place is as if a gap began there anew; or the comment holds a byte that is permitted nowhere.
+unfoldable pub Commented : List ℕ → (at : ℕ) → Gap → Type 0
+Commented text at (UpTo place) = (at ≤ place) × (paper.gap true (drop at text) at ≡ paper.gap false (drop place text) place)
+Commented text at (BadByte place) = paper.gap true (drop at text) at ≡ paper.badByte place
 
 -- n is how many bytes from the first on are such bytes
 pub record Counted (such : ℕ → Bool) (text : List ℕ) (n : ℕ) : Type 0 where

@@ -1,6 +1,7 @@
 // Classes of bytes: what the paper says of one byte, by comparisons. Those that most bytes of a lesson pass come first.
 ghost use mathlib.Core.Path.{_≡_};
 ghost use mathlib.Core.List.{[], _∷_};
+ghost use Prim.Native.Nat.{_<_, _≤_};
 ghost use Rattle.paper.specs.Sorts.{signSort};
 ghost use Rattle.paper.specs.Words.{between, letter, digit, inName, spoilsNumber, barredInString, separates, permitted, permittedInside};
 
@@ -43,6 +44,10 @@ pub(crate) fn is_in_name(b: u8) -> bool
 pub(crate) fn is_spoiling(b: u8) -> bool
     ensures { λ r. ⌜ r ≡ spoilsNumber b ⌝ }
 {
+    // what follows most numbers: a blank, a closing parenthesis, a comma
+    if b < b'.' {
+        return false;
+    }
     if is_letter(b) {
         return true;
     }
@@ -55,13 +60,14 @@ pub(crate) fn is_spoiling(b: u8) -> bool
 pub(crate) fn is_barred(b: u8) -> bool
     ensures { λ r. ⌜ r ≡ barredInString b ⌝ }
 {
+    // the test that is_permitted begins with, so that a string's bytes are asked it once
+    if in_range(b, 0x20, 0x7e) {
+        return b == b'\\';
+    }
     if b == b'\r' {
         return true;
     }
-    if b == b'\n' {
-        return true;
-    }
-    b == b'\\'
+    b == b'\n'
 }
 
 pub(crate) fn is_separator(b: u8) -> bool
@@ -103,8 +109,10 @@ pub(crate) fn is_permitted_inside(b: u8) -> bool
     in_range(b, 0xa0, 0xff)
 }
 
-// The sort of the sign that is this one byte, or 0.
-pub(crate) fn one_sign(b: u8) -> u32
+// The signs of one byte from ( on. Signs of one byte stand in two short ranges, with three bytes after them: a compiler makes a match over a short
+// range a look at a table, and one over all of them a jump, which costs more.
+fn early_sign(b: u8) -> u32
+    requires { ⌜ b < 58 ⌝ }
     ensures { λ r. ⌜ r ≡ signSort (b ∷ []) ⌝ }
 {
     match b {
@@ -114,16 +122,48 @@ pub(crate) fn one_sign(b: u8) -> u32
         43 => 18,
         44 => 5,
         45 => 19,
+        _ => 0,
+    }
+}
+
+// The signs from : to >.
+fn middle_sign(b: u8) -> u32
+    requires { ⌜ (58 ≤ b) × (b ≤ 62) ⌝ }
+    ensures { λ r. ⌜ r ≡ signSort (b ∷ []) ⌝ }
+{
+    match b {
         58 => 10,
         59 => 4,
         60 => 13,
         61 => 12,
-        62 => 16,
+        _ => 16,
+    }
+}
+
+// A backslash and braces.
+fn late_sign(b: u8) -> u32
+    requires { ⌜ 62 < b ⌝ }
+    ensures { λ r. ⌜ r ≡ signSort (b ∷ []) ⌝ }
+{
+    match b {
         92 => 21,
         123 => 8,
         125 => 9,
         _ => 0,
     }
+}
+
+// The sort of the sign that is this one byte, or 0.
+pub(crate) fn one_sign(b: u8) -> u32
+    ensures { λ r. ⌜ r ≡ signSort (b ∷ []) ⌝ }
+{
+    if b < b':' {
+        return early_sign(b);
+    }
+    if b'>' < b {
+        return late_sign(b);
+    }
+    middle_sign(b)
 }
 
 // The sort of the sign that is these two bytes, or 0.

@@ -14,7 +14,7 @@ ghost use mathlib.Core.Path.{_≡_};
 ghost use mathlib.Core.Bool.{false};
 ghost use lib.ListN.{getD, drop};
 ghost use Rattle.paper.specs.Words.{scan, gap};
-ghost use Rattle.scanner.specs.Answers.{scanOf, gapOf};
+ghost use Rattle.scanner.specs.Answers.{scanOf, gapOf, Commented};
 
 pub enum Scan {
     // its sort, its length and, of a number, its value
@@ -31,16 +31,17 @@ pub fn scan_word(text: &[u8]) -> Scan
         return Scan::Refused(4, 0);
     }
     let b = text[0];
+    // letters, digits and the quote are permitted, so only other bytes are asked
+    if is_letter(b) {
+        return name::scan_name(text);
+    }
+    if is_digit(b) {
+        return number::scan_number(text);
+    }
+    if b == b'"' {
+        return string::scan_string(text);
+    }
     if is_permitted(b) {
-        if is_letter(b) {
-            return name::scan_name(text);
-        }
-        if is_digit(b) {
-            return number::scan_number(text);
-        }
-        if b == b'"' {
-            return string::scan_string(text);
-        }
         return sign::scan_sign(text);
     }
     Scan::Refused(4, 0)
@@ -53,30 +54,46 @@ pub enum Gap {
     BadByte(usize),
 }
 
+// Where a comment ends that is open at a place: after its LF, or at the end of the text.
+fn comment_end(text: &[u8], at: usize) -> Gap
+    ensures { λ r. ⌜ Commented (now (text .entry)) at r ⌝ }
+{
+    let mut place = at;
+    while place < text.len() {
+        let b = text[place];
+        if b == b'\n' {
+            return Gap::UpTo(place + 1);
+        }
+        if is_permitted_inside(b) {
+            place += 1;
+        } else {
+            return Gap::BadByte(place);
+        }
+    }
+    Gap::UpTo(place)
+}
+
 // What lies before the next word, from a place on: separators and comments.
 pub fn skip_gap(text: &[u8], at: usize) -> Gap
     ensures { λ r. ⌜ gapOf r ≡ gap false (drop at (now (text .entry))) at ⌝ }
 {
     let mut place = at;
-    let mut comment = false;
     while place < text.len() {
         let b = text[place];
-        place += 1;
-        if comment {
-            if b == b'\n' {
-                comment = false;
-            } else {
-                if is_permitted_inside(b) {} else {
-                    return Gap::BadByte(place - 1);
-                }
-            }
+        if is_separator(b) {
+            place += 1;
         } else {
-            if is_separator(b) {} else {
-                if b == b'!' {
-                    comment = true;
-                } else {
-                    return Gap::UpTo(place - 1);
+            if b == b'!' {
+                match comment_end(text, place + 1) {
+                    Gap::UpTo(after) => {
+                        place = after;
+                    }
+                    Gap::BadByte(bad) => {
+                        return Gap::BadByte(bad);
+                    }
                 }
+            } else {
+                return Gap::UpTo(place);
             }
         }
     }

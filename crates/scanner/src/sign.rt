@@ -8,12 +8,21 @@ ghost use lib.ListN.{length};
 ghost use Rattle.paper.specs.Words.{scanSign};
 ghost use Rattle.scanner.specs.Answers.{scanOf, pairSort};
 
-// The sort of the sign that a text's first two bytes are, or 0.
+// The sort of the sign that a text's first two bytes are, or 0. Signs of two bytes begin with a byte from : to >, so after any other first byte the
+// second is not looked at.
 fn pair_sort(text: &[u8]) -> u32
+    requires { ⌜ 0 < length (now text) ⌝ }
     ensures { λ r. ⌜ r ≡ pairSort (now (text .entry)) ⌝ }
 {
+    let b = text[0];
+    if b < b':' {
+        return 0;
+    }
+    if b'>' < b {
+        return 0;
+    }
     if 1 < text.len() {
-        return two_signs(text[0], text[1]);
+        return two_signs(b, text[1]);
     }
     0
 }

@@ -3,80 +3,77 @@ use super::Scan;
 use super::classes::is_barred;
 use super::classes::is_permitted_inside;
 ghost use mathlib.Core.Path.{_≡_};
-ghost use mathlib.Core.Bool.{false};
-ghost use lib.ListN.{drop};
-ghost use Rattle.paper.specs.Words.{permittedInside, stringEnd, scanString};
-ghost use Rattle.scanner.specs.Answers.{scanOf, endOf, Counted};
+ghost use lib.Dec.{eqb};
+ghost use lib.ListN.{getD};
+ghost use Rattle.paper.specs.Words.{permittedInside, scanString};
+ghost use Rattle.scanner.specs.Answers.{scanOf, noted, closedString};
 
-enum StringEnd {
-    At(usize),
-    Nowhere,
+// The place of the first byte that is permitted nowhere, or 0, once the byte at a place is passed too.
+fn note(bad: usize, at: usize, b: u8) -> usize
+    ensures { λ r. ⌜ r ≡ noted bad at (permittedInside b) ⌝ }
+{
+    if is_permitted_inside(b) {
+        return bad;
+    }
+    if bad == 0 {
+        return at;
+    }
+    bad
 }
 
-// The length of the string that a text begins with, if it is closed, short enough and has no barred byte. `quoted`: the byte before was a quote, which
-// closes the string unless a second one follows.
-fn string_end(text: &[u8]) -> StringEnd
-    ensures { λ r. ⌜ endOf r ≡ stringEnd 80 false (drop 1 (now (text .entry))) 1 ⌝ }
+// Whether there is a quote at a place.
+fn is_quote(text: &[u8], at: usize) -> bool
+    ensures { λ r. ⌜ r ≡ eqb (getD (now (text .entry)) at 0) 34 ⌝ }
+{
+    if at < text.len() {
+        return text[at] == b'"';
+    }
+    false
+}
+
+// A string of n bytes that is closed, short enough and has no barred byte.
+fn closed(n: usize, bad: usize) -> Scan
+    ensures { λ r. ⌜ scanOf r ≡ closedString n bad ⌝ }
+{
+    if bad == 0 {
+        return Scan::Word(3, n, 0);
+    }
+    Scan::Refused(4, bad)
+}
+
+// The string that a text begins with, in one pass: a byte that is permitted nowhere counts only in a string that is closed, so its place is kept.
+pub(crate) fn scan_string(text: &[u8]) -> Scan
+    requires { ⌜ getD (now text) 0 0 ≡ 34 ⌝ }
+    ensures { λ r. ⌜ scanOf r ≡ scanString (now (text .entry)) ⌝ }
 {
     let mut room: u32 = 80;
-    let mut quoted = false;
+    let mut bad = 0;
     let mut n = 1;
     while n < text.len() {
         let b = text[n];
-        n += 1;
         if b == b'"' {
-            if quoted {
+            // a quote closes the string unless a second one follows
+            n += 1;
+            if is_quote(text, n) {
                 if room == 0 {
-                    return StringEnd::Nowhere;
+                    return Scan::Refused(5, 0);
                 }
                 room -= 1;
-                quoted = false;
+                n += 1;
             } else {
-                quoted = true;
+                return closed(n, bad);
             }
         } else {
-            if quoted {
-                return StringEnd::At(n - 1);
-            }
             if is_barred(b) {
-                return StringEnd::Nowhere;
+                return Scan::Refused(5, 0);
             }
+            bad = note(bad, n, b);
             if room == 0 {
-                return StringEnd::Nowhere;
+                return Scan::Refused(5, 0);
             }
             room -= 1;
-        }
-    }
-    if quoted {
-        return StringEnd::At(n);
-    }
-    StringEnd::Nowhere
-}
-
-// How many bytes may stand in a string.
-fn permitted_length(text: &[u8]) -> usize
-    ensures { λ r. ⌜ Counted permittedInside (now (text .entry)) r ⌝ }
-{
-    let mut n = 0;
-    while n < text.len() {
-        if is_permitted_inside(text[n]) {
             n += 1;
-        } else {
-            return n;
         }
     }
-    n
-}
-
-pub(crate) fn scan_string(text: &[u8]) -> Scan
-    ensures { λ r. ⌜ scanOf r ≡ scanString (now (text .entry)) ⌝ }
-{
-    let StringEnd::At(n) = string_end(text) else {
-        return Scan::Refused(5, 0);
-    };
-    let good = permitted_length(&text[..n]);
-    if good < n {
-        return Scan::Refused(4, good);
-    }
-    Scan::Word(3, n, 0)
+    Scan::Refused(5, 0)
 }

@@ -10,9 +10,6 @@ returns c = search (needs, nothing)
 shared-slice-read-b : tie.Need-shared-slice-read-b
 shared-slice-read-b c = search needs
 
-is-permitted-requires : tie.Need-is-permitted-requires
-is-permitted-requires c κs = search needs
-
 is-letter-requires : tie.Need-is-letter-requires
 is-letter-requires c κs = search needs
 
@@ -37,6 +34,9 @@ scan-string-requires c κs = search needs
 returns-4 : tie.Need-returns-4
 returns-4 c = search (needs, a-string)
 
+is-permitted-requires : tie.Need-is-permitted-requires
+is-permitted-requires c κs = search needs
+
 scan-sign-requires : tie.Need-scan-sign-requires
 scan-sign-requires c κs = search needs
 
@@ -52,7 +52,6 @@ scan-word-spec =
     (tie.spec
     returns
     shared-slice-read-b
-    is-permitted-requires
     is-letter-requires
     scan-name-requires
     returns-2
@@ -61,6 +60,7 @@ scan-word-spec =
     returns-3
     scan-string-requires
     returns-4
+    is-permitted-requires
     scan-sign-requires
     returns-5
     returns-6)

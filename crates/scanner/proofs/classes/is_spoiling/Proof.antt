@@ -1,16 +1,15 @@
 -- `scanner::classes::is_spoiling` meets its contract.
 use Rattle.paper.specs.Words.{spoilsNumber}
-use Rattle.scanner.proofs.Bytes.{chain}
+use Rattle.scanner.proofs.Bytes.{chain, spoils-not}
 use borrow.Author.Needs.{needs}
 use Rattle.scanner.proofs.classes.is_spoiling.Statement.{statement}
 use Rattle.scanner.proofs.classes.is_spoiling.Tie as tie
 
+returns : tie.Need-returns
+returns c = search (needs, spoils-not)
+
 is-letter-requires : tie.Need-is-letter-requires
 is-letter-requires c κs = search needs
-
-returns : tie.Need-returns
-unfolding spoilsNumber
-returns c = search (needs, chain)
 
 returns-2 : tie.Need-returns-2
 unfolding spoilsNumber
@@ -20,5 +19,9 @@ returns-3 : tie.Need-returns-3
 unfolding spoilsNumber
 returns-3 c = search (needs, chain)
 
+returns-4 : tie.Need-returns-4
+unfolding spoilsNumber
+returns-4 c = search (needs, chain)
+
 pub is-spoiling-spec : {M : Type 1} → statement M
-is-spoiling-spec = tie.close (tie.spec is-letter-requires returns returns-2 returns-3)
+is-spoiling-spec = tie.close (tie.spec returns is-letter-requires returns-2 returns-3 returns-4)

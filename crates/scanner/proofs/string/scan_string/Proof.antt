@@ -1,45 +1,100 @@
--- `scanner::string::scan_string` meets its contract.
-use mathlib.Core.Path.{sym}
-use denote.Ref.{now}
-use lib.Seq.{length-take-le}
-use Rattle.scanner.proofs.Strings.{string-none, string-within, string-bad, string-good}
+-- `scanner::string::scan_string` meets its contract. The invariant: what is left of the string.
+use Prim.Native.Nat.{_-_}
+use lib.ListN.{length}
+use Rattle.scanner.proofs.Strings.{Left, left-start, left-open, quote-past, quote-twice, closes, barred, character-past, character}
 use borrow.Author.Needs.{needs}
 use Rattle.scanner.proofs.string.scan_string.Statement.{statement}
 use Rattle.scanner.proofs.string.scan_string.Tie as tie
 
-string-end-requires : tie.Need-string-end-requires
-string-end-requires c κs = search needs
+abbrev Inv-loop : tie.InvT-loop
+Inv-loop text room₀ bad₀ n₀ room bad n = Left text room bad n
 
-enum-known-n : tie.Need-enum-known-n
-enum-known-n c = search needs
+abbrev μ-loop : tie.MeasureT-loop
+μ-loop text room₀ bad₀ n₀ room bad n = length text - n
 
-enum-told : tie.Need-enum-told
-enum-told c = search needs
+loop-holds : tie.Need-loop-holds Inv-loop μ-loop
+loop-holds c = search (needs, left-start)
 
-returns : tie.Need-returns
-returns c = string-none _ _ (c .before .before .string-end .ensures) (c .enum-told .given .1)
+shared-slice-read-b : tie.Need-shared-slice-read-b Inv-loop μ-loop
+shared-slice-read-b c = search needs
 
-slice-aggregate-permitted-length : tie.Need-slice-aggregate-permitted-length
-slice-aggregate-permitted-length c = sym (length-take-le _ _ (string-within (now (c .before .before .before .before .before .before .args .text)) _ (c .before .before .before .before .string-end .ensures) _ (c .before .before .n .given .1)))
+add-n : tie.Need-add-n Inv-loop μ-loop
+add-n c = search needs
 
-permitted-length-requires : tie.Need-permitted-length-requires
-permitted-length-requires c κs = search needs
+is-quote-requires : tie.Need-is-quote-requires Inv-loop μ-loop
+is-quote-requires c κs = search needs
 
-returns-2 : tie.Need-returns-2
-returns-2 c = string-bad _ _ (c .before .before .before .before .before .before .string-end .ensures) _ (c .before .before .before .before .n .given .1) _ (c .before .permitted-length .ensures) (c .if1 .taken)
+returns : tie.Need-returns Inv-loop μ-loop
+returns c = search (needs, quote-past)
 
-returns-3 : tie.Need-returns-3
-returns-3 c = string-good _ _ (c .before .before .before .before .before .before .string-end .ensures) _ (c .before .before .before .before .n .given .1) _ (c .before .permitted-length .ensures) (c .if1 .left)
+sub-room : tie.Need-sub-room Inv-loop μ-loop
+sub-room c = search needs
+
+add-n-2 : tie.Need-add-n-2 Inv-loop μ-loop
+add-n-2 c = search needs
+
+loop-less : tie.Need-loop-less Inv-loop μ-loop
+loop-less c = search needs
+
+loop-again : tie.Need-loop-again Inv-loop μ-loop
+loop-again c = search (needs, quote-twice)
+
+closed-requires : tie.Need-closed-requires Inv-loop μ-loop
+closed-requires c κs = search needs
+
+returns-2 : tie.Need-returns-2 Inv-loop μ-loop
+returns-2 c = search (needs, closes)
+
+is-barred-requires : tie.Need-is-barred-requires Inv-loop μ-loop
+is-barred-requires c κs = search needs
+
+returns-3 : tie.Need-returns-3 Inv-loop μ-loop
+returns-3 c = search (needs, barred)
+
+note-requires : tie.Need-note-requires Inv-loop μ-loop
+note-requires c κs = search needs
+
+returns-4 : tie.Need-returns-4 Inv-loop μ-loop
+returns-4 c = search (needs, character-past)
+
+sub-room-2 : tie.Need-sub-room-2 Inv-loop μ-loop
+sub-room-2 c = search needs
+
+add-n-3 : tie.Need-add-n-3 Inv-loop μ-loop
+add-n-3 c = search needs
+
+loop-less-2 : tie.Need-loop-less-2 Inv-loop μ-loop
+loop-less-2 c = search needs
+
+loop-again-2 : tie.Need-loop-again-2 Inv-loop μ-loop
+loop-again-2 c = search (needs, character)
+
+returns-5 : tie.Need-returns-5 Inv-loop μ-loop
+returns-5 c = search (needs, left-open)
 
 pub scan-string-spec : {M : Type 1} → statement M
 scan-string-spec =
     tie.close
     (tie.spec
-    string-end-requires
-    enum-known-n
-    enum-told
+    Inv-loop
+    μ-loop
+    loop-holds
+    shared-slice-read-b
+    add-n
+    is-quote-requires
     returns
-    slice-aggregate-permitted-length
-    permitted-length-requires
+    sub-room
+    add-n-2
+    loop-less
+    loop-again
+    closed-requires
     returns-2
-    returns-3)
+    is-barred-requires
+    returns-3
+    note-requires
+    returns-4
+    sub-room-2
+    add-n-3
+    loop-less-2
+    loop-again-2
+    returns-5)
