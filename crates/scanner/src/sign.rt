@@ -31,11 +31,12 @@ pub(crate) fn scan_sign(text: &[u8]) -> Scan
     requires { ⌜ 0 < length (now text) ⌝ }
     ensures { λ r. ⌜ scanOf r ≡ scanSign (now (text .entry)) ⌝ }
 {
+    // one_sign tells the bytes apart that can begin a pair, so it comes first
+    let sort = one_sign(text[0]);
     let pair = pair_sort(text);
     if pair != 0 {
         return Scan::Word(pair, 2, 0);
     }
-    let sort = one_sign(text[0]);
     if sort == 0 {
         return Scan::Refused(5, 0);
     }
