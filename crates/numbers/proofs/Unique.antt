@@ -42,6 +42,6 @@ order-unique a b m n p q = go m n (sym (p .below) ∙ q .below) (sym (p .same) �
     go Above Same e d = cc
     go Above Above e d = refl
 
--- size, of_word, to_word, number_of, word_of: the result is given outright
+-- size, of_word, to_word, number_of: the result is given outright
 pub given-unique : {A : Type 0} (v x y : A) → x ≡ v → y ≡ v → x ≡ y
 given-unique v x y p q = p ∙ sym q

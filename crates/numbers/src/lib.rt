@@ -4,7 +4,7 @@ ghost use mathlib.Core.Path.{_≡_};
 ghost use Prim.Native.Nat.{_≤_};
 ghost use lib.IntN.{natAbs, _+ℤ_, _-ℤ_, _*ℤ_};
 ghost use mir.Syntax.{w32};
-ghost use mir.Val.{toZ, ofZ, SFits};
+ghost use mir.Val.{toZ, ofZ};
 ghost use Rattle.paper.specs.Numbers as paper;
 ghost use Rattle.numbers.specs.Answers.{rangeOf, valueOf, dnum, Compared};
 ghost use Rattle.numbers.specs.Inner.{fits64, Limit};
@@ -226,12 +226,4 @@ pub fn number_of(x: u32) -> i64
     ensures { λ z. ⌜ z ≡ toZ w32 x ⌝ }
 {
     of_word(x) as i64
-}
-
-// The word of a number that 32 bits hold, as they hold every num.
-pub fn word_of(z: i64) -> u32
-    requires { ⌜ SFits w32 z ⌝ }
-    ensures { λ x. ⌜ x ≡ ofZ w32 z ⌝ }
-{
-    to_word(z as i32)
 }
