@@ -22,7 +22,7 @@ use Rattle.words.specs.declared.Cursor.{Cursor}
 use Rattle.words.specs.declared.Step.the-variants as steps
 use Rattle.words.specs.Answers.{wordOf, nextOf, refusalOf, Reaches, nextAt, Stepped}
 use Rattle.words.proofs.Places.{gap-within}
-use Rattle.words.proofs.Readings.{next-lies}
+use Rattle.words.proofs.Readings.{word-follows}
 
 -- ---- a refusal at a place
 module _ (full : Bool) (place : ℕ) (s : Scan) where
@@ -120,5 +120,7 @@ module _ (text : List ℕ) (c : Cursor) (h : length text ≤ 32768) (r : Next) (
   pub step-word : (s p n v : ℕ) → r ≡ Word s p n v → Stepped text c (steps.Word s p n v (record { place = p + n; words = c .words + 1 }))
   step-word s p n v e = record { next = sym (ap (nextOf text) e) ∙ next-is; moved = (refl, refl) }
 
-  pub step-lies : (s p n v : ℕ) → r ≡ Word s p n v → (c .place ≤ p) × (0 < n) × (p + n ≤ length text) × (c .words < wordLimit)
-  step-lies s p n v e = next-lies text (le-ltb textLimit (length text) h) c s p n v (sym (ap (nextOf text) e) ∙ next-is)
+-- what a step needs to count on: nothing of how full the text may be
+pub step-lies : (text : List ℕ) (full : Bool) (at : ℕ) (r : Next) → nextOf text r ≡ following full at (drop at text) → (s p n v : ℕ) → r ≡ Word s p n v
+    → (at ≤ p) × (0 < n) × (p + n ≤ length text) × (full ≡ false)
+step-lies text full at r is s p n v e = word-follows text full at s p n v (sym (ap (nextOf text) e) ∙ is)

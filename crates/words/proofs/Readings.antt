@@ -49,6 +49,14 @@ full-same words =
     some-left : words < wordLimit → wordLimit - words ≡ 0 → ⊥
     some-left h e = omega arith
 
+-- a word that follows lies in the text and after the place, and the text is not full
+pub word-follows : (text : List ℕ) (full : Bool) (at s p n v : ℕ) → next (wordOf text s p n v) ≡ following full at (drop at text)
+    → (at ≤ p) × (0 < n) × (p + n ≤ length text) × (full ≡ false)
+word-follows text full at s p n v e =
+    let i : Lies full at (drop at text) (wordOf text s p n v) = subst (NextLies full at (drop at text)) (sym e) (following-lies full at (drop at text)) in
+    let bound : p + n ≤ at + (length text - at) = rw length-drop at (i .inside) in
+    (i .after, i .some-bytes, omega (arith, i .after, i .some-bytes), i .room)
+
 -- in a text that is not too long
 module _ (text : List ℕ) (short : ltb textLimit (length text) ≡ false) where
   left-is : (c : Cursor) → leftOf text c ≡ readFrom (suc (length text)) (wordLimit - c .words) (c .place) (drop (c .place) text)
@@ -63,11 +71,8 @@ module _ (text : List ℕ) (short : ltb textLimit (length text) ≡ false) where
   pub next-lies : (c : Cursor) (s p n v : ℕ) → next (wordOf text s p n v) ≡ nextAt text c
       → (c .place ≤ p) × (0 < n) × (p + n ≤ length text) × (c .words < wordLimit)
   next-lies c s p n v e =
-      let full = leb wordLimit (c .words) in
-      let i : Lies full (c .place) (drop (c .place) text) (wordOf text s p n v) =
-      subst (NextLies full (c .place) (drop (c .place) text)) (sym (e ∙ next-is c)) (following-lies full (c .place) (drop (c .place) text)) in
-      let bound : p + n ≤ c .place + (length text - c .place) = rw length-drop at (i .inside) in
-      (i .after, i .some-bytes, omega (arith, i .after, i .some-bytes), leb-false wordLimit (c .words) (i .room))
+      let i = word-follows text (leb wordLimit (c .words)) (c .place) s p n v (e ∙ next-is c) in
+      (i .0, i .1, i .2, leb-false wordLimit (c .words) (i .3))
 
   word-step : (c d : Cursor) (s p n v : ℕ) → next (wordOf text s p n v) ≡ nextAt text c → (d .place ≡ p + n) × (d .words ≡ c .words + 1)
       → leftOf text c ≡ withWord (wordOf text s p n v) (leftOf text d)

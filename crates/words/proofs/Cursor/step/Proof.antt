@@ -1,6 +1,7 @@
 -- `words::Cursor::step` meets its contract.
 use native.Mathlib.Omega.{arith}
 use denote.Ref.{now}
+use borrow.Author.Tests.{leb-false}
 use Rattle.words.proofs.Cases.{step-long, step-end, step-refused, step-word, step-lies}
 use borrow.Author.Needs.{needs}
 use Rattle.words.proofs.Cursor.step.Statement.{statement}
@@ -22,10 +23,10 @@ enum-known-sort : tie.Need-enum-known-sort
 enum-known-sort c = search needs
 
 add-t14 : tie.Need-add-t14
-add-t14 c = omega (arith, step-lies (now (c .before .before .before .before .before .before .args .text)) (c .before .before .before .before .before .before .args .self) (c .before .before .before .before .if1 .left) _ (c .before .before .before .next-word .ensures) _ _ _ _ (c .before .sort .given .1), c .before .before .before .before .before .before .good)
+add-t14 c = omega (arith, step-lies (now (c .before .before .before .before .before .before .args .text)) _ _ _ (c .before .before .before .next-word .ensures) _ _ _ _ (c .before .sort .given .1), c .before .before .before .before .before .before .good)
 
 add-t15 : tie.Need-add-t15
-add-t15 c = omega (arith, step-lies (now (c .before .before .before .before .before .before .args .text)) (c .before .before .before .before .before .before .args .self) (c .before .before .before .before .if1 .left) _ (c .before .before .before .next-word .ensures) _ _ _ _ (c .before .sort .given .1))
+add-t15 c = omega (arith, leb-false _ (c .before .before .before .before .before .before .args .self .words) (step-lies (now (c .before .before .before .before .before .before .args .text)) _ _ _ (c .before .before .before .next-word .ensures) _ _ _ _ (c .before .sort .given .1) .3))
 
 returns-2 : tie.Need-returns-2
 returns-2 c = step-end (now (c .before .before .before .before .before .args .text)) (c .before .before .before .before .before .args .self) (c .before .before .before .if1 .left) _ (c .before .before .next-word .ensures) (c .enum-told .given .1)
