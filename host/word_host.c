@@ -46,14 +46,10 @@ static void list(long length) {
 }
 
 static void ask(long length, unsigned long place) {
-    uint8_t answer[8];
-    if (!rapid_ask(text, (size_t)length, place, answer, sizeof answer)) {
-        puts("none");
-        return;
-    }
-    for (uint32_t i = 0; i < word32(answer + 4); i++)
-        printf("%02x", text[word32(answer) + i]);
-    puts("");
+    size_t covers = rapid_ask(text, (size_t)length, place);
+    for (size_t i = 0; i < covers; i++)
+        printf("%02x", text[place + i]);
+    puts(covers ? "" : "none");
 }
 
 int main(void) {

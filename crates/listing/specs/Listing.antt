@@ -6,7 +6,7 @@ use mathlib.Core.Option.{Option, none, some}
 use Prim.Native.Nat.{ℕ, _+_, _*_, _/_, _%_}
 use lib.Dec.{ltb}
 use lib.ListN.{length, set}
-use Rattle.paper.specs.Words.{Word, Refusal, Reading, reading, asked, Kind, aName, aReserved, aNumber, aString, aSign, kindOf}
+use Rattle.paper.specs.Words.{Word, Refusal, Reading, reading, Kind, aName, aReserved, aNumber, aString, aSign, kindOf}
 use Rattle.words.specs.declared.Step.{Step}
 use Rattle.words.specs.declared.Step.the-variants as steps
 
@@ -68,17 +68,3 @@ pub record Exported (text out rec : List ℕ) (r : ℕ) (out′ rec′ : List �
   pub result : r ≡ elim (ltb (length rec) 12) [ true ↦ 0 | false ↦ 1 ]
   pub entries : out′ ≡ elim (ltb (length rec) 12) [ true ↦ out | false ↦ written out 0 (reading text .words) ]
   pub record-is : rec′ ≡ elim (ltb (length rec) 12) [ true ↦ rec | false ↦ summary rec (reading text) ]
-
--- What is asked about a place, as the result and the record: the part's place and length.
-unfoldable pub askedResult : List ℕ → Option (List ℕ) → ℕ
-askedResult rec none = 0
-askedResult rec (some part) = elim (ltb (length rec) 8) [ true ↦ 0 | false ↦ 1 ]
-
-unfoldable pub askedRecord : List ℕ → (place : ℕ) → Option (List ℕ) → List ℕ
-askedRecord rec place none = rec
-askedRecord rec place (some part) =
-    elim (ltb (length rec) 8) [ true ↦ rec | false ↦ put4 (put4 rec 0 place) 4 (length part) ]
-
-pub record Answered (text : List ℕ) (place : ℕ) (rec : List ℕ) (r : ℕ) (rec′ : List ℕ) : Type 0 where
-  pub result : r ≡ askedResult rec (asked text place)
-  pub record-is : rec′ ≡ askedRecord rec place (asked text place)

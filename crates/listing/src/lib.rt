@@ -1,13 +1,11 @@
 // The listing for the pendant, whose screen program is written in C: numbers and byte slices only. Numbers are written as four bytes, low byte first.
 use words::Cursor;
-use words::Found;
 use words::Step;
-use words::word_at;
 ghost use mathlib.Core.Path.{_≡_};
 ghost use Prim.Native.Nat.{_+_, _≤_};
 ghost use lib.ListN.{length};
 ghost use Rattle.paper.specs.Words.{kindOf};
-ghost use Rattle.listing.specs.Listing.{put4, kindNumber, entered, Ended, Listed·all, Exported, Answered};
+ghost use Rattle.listing.specs.Listing.{put4, kindNumber, entered, Ended, Listed·all, Exported};
 
 fn put32(out: &mut [u8], at: usize, v: usize)
     requires { ⌜ at + 4 ≤ length (now out) ⌝ }
@@ -103,22 +101,5 @@ pub extern "C" fn rapid_list(text: &[u8], out: &mut [u8], answer: &mut [u8]) -> 
     put32(answer, 0, l.words as usize);
     put32(answer, 4, l.refusal as usize);
     put32(answer, 8, l.offset);
-    1
-}
-
-// Writes the place and the length of the word that starts at a place, and returns 1. Where none does or the answer is too short, 0, and nothing is
-// touched.
-#[no_mangle]
-pub extern "C" fn rapid_ask(text: &[u8], place: usize, answer: &mut [u8]) -> u32
-    ensures { λ r. ⌜ Answered (now (text .entry)) place (now (answer .entry)) r (now (answer .exit)) ⌝ }
-{
-    if answer.len() < 8 {
-        return 0;
-    }
-    let Found::Length(length) = word_at(text, place) else {
-        return 0;
-    };
-    put32(answer, 0, place);
-    put32(answer, 4, length);
     1
 }

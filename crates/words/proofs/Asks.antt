@@ -80,7 +80,7 @@ module _ (text : List ℕ) (place : ℕ) (c : Cursor) (at : Search text place c)
     unfolding partAt
     search-found h = record {
       is = sym (word-first ∙ rw (eq-eqb p place h, partAt) (rw h));
-      inside = let i = word-lies text c r is s p n v d e in omega arith;
+      inside = let i = word-lies text c r is s p n v d e in (i .1, omega arith);
     }
 
     pub search-on : (p ≡ place → ⊥) → Search text place d
@@ -99,7 +99,7 @@ module _ (text : List ℕ) (place : ℕ) (r : Found) (is : FoundAt text place r)
 
   module _ (n : ℕ) (e : r ≡ Length n) where
     pub part-inside : place + n ≤ length text
-    part-inside = subst (Inside text place) e (is .inside)
+    part-inside = subst (Inside text place) e (is .inside) .1
 
     pub part-some : PartAt text place (take (place + n - place) (drop place text)) true
     part-some = record {

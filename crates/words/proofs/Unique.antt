@@ -100,7 +100,7 @@ step-unique text c r s h g =
 same-found : (text : List ℕ) (place : ℕ) (r s : Found) → foundOf text place r ≡ foundOf text place s → Inside text place r → Inside text place s → r ≡ s
 same-found text place (Length n) (Length m) h x y =
     let l : take n (drop place text) ≡ take m (drop place text) = cc in
-    ap Length (sym (size n x) ∙ ap length l ∙ size m y)
+    ap Length (sym (size n (x .1)) ∙ ap length l ∙ size m (y .1))
   where
     size : (n : ℕ) → place + n ≤ length text → length (take n (drop place text)) ≡ n
     size n h = length-take-le n (drop place text) (rw length-drop (omega arith))

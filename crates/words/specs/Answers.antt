@@ -84,8 +84,9 @@ abbrev pub foundOf : List ℕ → (place : ℕ) → Found → Option (List ℕ)
 foundOf text place (Length n) = some (take n (drop place text))
 foundOf text place Nothing = none
 
+-- a word covers one byte at least, and none past the text
 abbrev pub Inside : List ℕ → (place : ℕ) → Found → Type 0
-Inside text place (Length n) = place + n ≤ length text
+Inside text place (Length n) = (0 < n) × (place + n ≤ length text)
 Inside text place Nothing = Unit {0}
 
 pub record FoundAt (text : List ℕ) (place : ℕ) (r : Found) : Type 0 where
