@@ -1,4 +1,5 @@
-/* words: nanoseconds a byte of the reading, the proved scanner beside the plain one, on a text of 1 to 32 kB made of a lesson from standard input.
+/* words: nanoseconds a byte of the reading, the proved scanner beside the plain one, and of asking about a place, on a text of 1 to 32 kB made of a
+ * lesson from standard input.
  * words proved|plain KB TIMES: only that one, for counting instructions. */
 #include "../host/rapid_words.h"
 #include "plain_words.h"
@@ -9,6 +10,7 @@
 
 enum { MOST = 32768, LESSON = 16384 };
 static uint8_t lesson[LESSON], text[MOST], proved_out[12 * 8192], plain_out[12 * 8192], proved_answer[12], plain_answer[12];
+static volatile size_t asked;
 
 static double now(void) {
     struct timespec t;
@@ -17,18 +19,25 @@ static double now(void) {
 }
 
 static void proved(size_t n) { rapid_list(text, n, proved_out, sizeof proved_out, proved_answer, sizeof proved_answer); }
+/* asked about the end, so that the whole text is read */
+static void ask(size_t n) { asked += rapid_ask(text, n, n); }
 static void plain(size_t n) { plain_list(text, n, plain_out, sizeof plain_out, plain_answer); }
 
-static double pace(void (*list)(size_t), size_t n, int times) {
-    double best = 1e30;
-    for (int round = 0; round < 7; round++) {
-        double began = now();
-        for (int i = 0; i < times; i++)
-            list(n);
-        double took = (now() - began) / times / (double)n;
-        best = took < best ? took : best;
-    }
-    return best;
+enum { PROVED, PLAIN, ASK, PACES };
+static void (*const readings[PACES])(size_t) = {proved, plain, ask};
+
+/* The least time a byte of each reading: they take turns, so that a machine that slows down slows all of them. */
+static void paces(size_t n, int times, double best[PACES]) {
+    for (int r = 0; r < PACES; r++)
+        best[r] = 1e30;
+    for (int round = 0; round < 20; round++)
+        for (int r = 0; r < PACES; r++) {
+            double began = now();
+            for (int i = 0; i < times; i++)
+                readings[r](n);
+            double took = (now() - began) / times / (double)n;
+            best[r] = took < best[r] ? took : best[r];
+        }
 }
 
 /* The lesson again and again, whole lines, up to n bytes. */
@@ -55,16 +64,18 @@ int main(int argc, char **argv) {
         printf("%zu bytes\n", n);
         return 0;
     }
-    printf("%8s %8s %14s %14s %8s\n", "bytes", "words", "proved ns/byte", "plain ns/byte", "ratio");
+    printf("%8s %8s %14s %14s %8s %12s\n", "bytes", "words", "proved ns/byte", "plain ns/byte", "ratio", "ask ns/byte");
     for (size_t kb = 1; kb <= 32; kb *= 2) {
         size_t n = make_text(have, kb * 1024);
-        int times = (int)(4096 / kb);
-        double a = pace(proved, n, times), b = pace(plain, n, times);
+        int times = (int)(2048 / kb);
+        double best[PACES];
+        paces(n, times, best);
         if (memcmp(proved_answer, plain_answer, 12) || memcmp(proved_out, plain_out, sizeof plain_out)) {
             puts("the two differ");
             return 1;
         }
-        printf("%8zu %8u %14.2f %14.2f %8.2f\n", n, proved_answer[0] | proved_answer[1] << 8, a, b, a / b);
+        printf("%8zu %8u %14.2f %14.2f %8.2f %12.2f\n", n, proved_answer[0] | proved_answer[1] << 8, best[PROVED], best[PLAIN],
+               best[PROVED] / best[PLAIN], best[ASK]);
     }
     return 0;
 }
