@@ -1,13 +1,13 @@
 -- Strings.
 use mathlib.Core.Path.{_≡_, refl, sym, ap, _∙_}
-use mathlib.Core.Bool.{Bool, true, false}
+use mathlib.Core.Bool.{Bool, true, false, not}
 use mathlib.Core.List.{List, [], _∷_}
 use mathlib.Core.Option.{Option, none, some}
 use Prim.Native.Nat.{ℕ, zero, suc, _+_, _-_, _<_, _≤_}
 use native.Mathlib.Omega.{arith}
 use lib.Dec.{eqb, ltb}
 use lib.ListN.{length, getD, drop, List·getD-eq-default, drop-of-length-le}
-use borrow.Author.Tests.{eq-eqb, ne-eqb, eqb-true, ltb-true, ltb-false, lt-ltb, le-ltb}
+use borrow.Author.Tests.{eq-eqb, ne-eqb, eqb-true, ltb-true, ltb-false, lt-ltb, le-ltb, not-true, not-false}
 use Rattle.reserved.proofs.Table.{test, false-true}
 use Rattle.paper.specs.Words.{Scan, run, permittedInside, barredInString, stringEnd, scanString, word, refused}
 use Rattle.scanner.specs.Answers.{noted, closedString}
@@ -97,6 +97,12 @@ left-start text h =
       left = refl;
     }
 
+-- A character is passed up to its last byte, the one at n: the room for it is not asked yet.
+pub record Passing (text : List ℕ) (room bad n : ℕ) : Type 0 where
+  pub place : n < length text
+  pub seen : Seen text (n + 1) bad
+  pub left : stringEnd 80 false (drop 1 text) 1 ≡ elim room [ zero ↦ none | suc m ↦ stringEnd m false (drop (n + 1) text) (n + 1) ]
+
 -- one character less is room for
 fewer : (room : ℕ) (l : List ℕ) (n : ℕ) → (room ≡ 0 → ⊥) → elim room [ zero ↦ none | suc m ↦ stringEnd m false l n ] ≡ stringEnd (room - 1) false l n
 fewer zero l n h = absurd (h refl)
@@ -105,7 +111,7 @@ fewer (suc m) l n h = ap (λ (x : ℕ). stringEnd x false l n) (less m)
     less : (m : ℕ) → m ≡ suc m - 1
     less m = omega arith
 
-pub no-quote : (text : List ℕ) (at : ℕ) → length text ≤ at → false ≡ eqb (getD text at 0) 34
+pub no-quote : (text : List ℕ) (at : ℕ) → length text ≤ at → true ≡ not (eqb (getD text at 0) 34)
 no-quote text at h = rw (List·getD-eq-default text 0 h)
 
 malformed-by : (text : List ℕ) → stringEnd 80 false (drop 1 text) 1 ≡ none → refused 5 0 ≡ scanString text
@@ -143,7 +149,7 @@ module _ (text : List ℕ) (room bad n : ℕ) (at : Left text room bad n) where
     at-byte : stringEnd 80 false (drop 1 text) 1 ≡ stringEnd room false (getD text n 0 ∷ drop (n + 1) text) n
     at-byte = at .left ∙ ap (λ (l : List ℕ). stringEnd room false l n) (rest text n h)
 
-    module _ (b : getD text n 0 ≡ 34) (t : Bool) (is : t ≡ eqb (getD text (n + 1) 0) 34) where
+    module _ (b : getD text n 0 ≡ 34) (t : Bool) (is : t ≡ not (eqb (getD text (n + 1) 0) 34)) where
       after-quote : stringEnd 80 false (drop 1 text) 1 ≡ stringEnd room true (drop (n + 1) text) (n + 1)
       unfolding stringEnd
       after-quote = at-byte ∙ rw (eq-eqb _ 34 b, stringEnd)
@@ -154,30 +160,30 @@ module _ (text : List ℕ) (room bad n : ℕ) (at : Left text room bad n) where
       at-second : n + 1 < length text → stringEnd 80 false (drop 1 text) 1 ≡ stringEnd room true (getD text (n + 1) 0 ∷ drop (n + 1 + 1) text) (n + 1)
       at-second g = after-quote ∙ ap (λ (l : List ℕ). stringEnd room true l (n + 1)) (rest text (n + 1) g)
 
-      second : t ≡ true → n + 1 < length text
+      second : t ≡ false → n + 1 < length text
       second g =
           test (ltb (n + 1) (length text)) (λ e. ltb-true _ _ e)
-          (λ e. false-true (no-quote text (n + 1) (ltb-false _ _ e) ∙ sym is ∙ g))
+          (λ e. false-true (sym g ∙ is ∙ sym (no-quote text (n + 1) (ltb-false _ _ e))))
 
-      pub quote-past : t ≡ true → room ≡ 0 → refused 5 0 ≡ scanString text
+      pub quote-twice : t ≡ false → Passing text room bad (n + 1)
       unfolding stringEnd
-      quote-past g r = malformed-by text (at-second (second g) ∙ rw (sym is ∙ g, stringEnd) (rw r))
+      quote-twice g =
+          let s = second g in
+          let q = not-false _ (sym is ∙ g) in
+          record {
+            place = s;
+            seen = seen-good text (n + 1) bad seen-quote s (quote-inside _ (eqb-true _ 34 q));
+            left = at-second s ∙ rw (q, stringEnd);
+          }
 
-      pub quote-twice : t ≡ true → (room ≡ 0 → ⊥) → Left text (room - 1) bad (n + 1 + 1)
-      unfolding stringEnd
-      quote-twice g r = let s = second g in record {
-        place = (omega arith, omega arith);
-        seen = seen-good text (n + 1) bad seen-quote s (quote-inside _ (eqb-true _ 34 (sym is ∙ g)));
-        left = at-second s ∙ rw (sym is ∙ g, stringEnd) (fewer room (drop (n + 1 + 1) text) (n + 1 + 1) r);
-      }
-
-      ended : t ≡ false → stringEnd 80 false (drop 1 text) 1 ≡ some (n + 1)
+      ended : t ≡ true → stringEnd 80 false (drop 1 text) 1 ≡ some (n + 1)
       unfolding stringEnd
       ended g =
-          test (ltb (n + 1) (length text)) (λ e. at-second (ltb-true _ _ e) ∙ rw (sym is ∙ g, stringEnd))
+          let q = not-true (eqb (getD text (n + 1) 0) 34) (sym is ∙ g) in
+          test (ltb (n + 1) (length text)) (λ e. at-second (ltb-true _ _ e) ∙ rw (q, stringEnd))
           (λ e. after-quote ∙ rw (drop-of-length-le text (ltb-false _ _ e)))
 
-      pub closes : (s : Scan) → t ≡ false → s ≡ closedString (n + 1) bad → s ≡ scanString text
+      pub closes : (s : Scan) → t ≡ true → s ≡ closedString (n + 1) bad → s ≡ scanString text
       closes s g e = e ∙ closed-by text (n + 1) bad seen-quote (ended g)
 
     module _ (t : Bool) (b : getD text n 0 ≡ 34 → ⊥) (is : t ≡ barredInString (getD text n 0)) where
@@ -185,17 +191,24 @@ module _ (text : List ℕ) (room bad n : ℕ) (at : Left text room bad n) where
       unfolding stringEnd
       barred g = malformed-by text (at-byte ∙ rw (ne-eqb _ 34 b, stringEnd) (rw (sym is ∙ g)))
 
-      pub character-past : t ≡ false → room ≡ 0 → refused 5 0 ≡ scanString text
+      pub character : (worse : ℕ) → worse ≡ noted bad n (permittedInside (getD text n 0)) → t ≡ false → Passing text room worse n
       unfolding stringEnd
-      character-past g r = malformed-by text (at-byte ∙ rw (ne-eqb _ 34 b, stringEnd) (rw (sym is ∙ g) (rw r)))
-
-      pub character : (worse : ℕ) → worse ≡ noted bad n (permittedInside (getD text n 0)) → t ≡ false → (room ≡ 0 → ⊥) → Left text (room - 1) worse (n + 1)
-      unfolding stringEnd
-      character worse e g r = record {
-        place = (omega arith, omega arith);
+      character worse e g = record {
+        place = h;
         seen = seen-more text n bad (at .seen) h worse (at .place .0) e;
-        left = at-byte ∙ rw (ne-eqb _ 34 b, stringEnd) (rw (sym is ∙ g) (fewer room (drop (n + 1) text) (n + 1) r));
+        left = at-byte ∙ rw (ne-eqb _ 34 b, stringEnd) (rw (sym is ∙ g));
       }
+
+module _ (text : List ℕ) (room bad n : ℕ) (at : Passing text room bad n) where
+  pub no-room : room ≡ 0 → refused 5 0 ≡ scanString text
+  no-room r = malformed-by text (at .left ∙ rw r)
+
+  pub passed-on : (room ≡ 0 → ⊥) → Left text (room - 1) bad (n + 1)
+  passed-on r = record {
+    place = (omega arith, omega (arith, at .place));
+    seen = at .seen;
+    left = at .left ∙ fewer room (drop (n + 1) text) (n + 1) r;
+  }
 
 -- ---- a string's end lies in the text
 pub none-some : {A : Type 0} {m : ℕ} → _≡_ {A = Option ℕ} none (some m) → A

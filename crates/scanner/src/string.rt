@@ -3,6 +3,7 @@ use super::Scan;
 use super::classes::is_barred;
 use super::classes::is_permitted_inside;
 ghost use mathlib.Core.Path.{_≡_};
+ghost use mathlib.Core.Bool.{not};
 ghost use lib.Dec.{eqb};
 ghost use lib.ListN.{getD};
 ghost use Rattle.paper.specs.Words.{permittedInside, scanString};
@@ -21,14 +22,14 @@ fn note(bad: usize, at: usize, b: u8) -> usize
     bad
 }
 
-// Whether there is a quote at a place.
-fn is_quote(text: &[u8], at: usize) -> bool
-    ensures { λ r. ⌜ r ≡ eqb (getD (now (text .entry)) at 0) 34 ⌝ }
+// Whether a string ends before a place, after a quote: it does unless a second quote follows.
+fn ends_before(text: &[u8], at: usize) -> bool
+    ensures { λ r. ⌜ r ≡ not (eqb (getD (now (text .entry)) at 0) 34) ⌝ }
 {
     if at < text.len() {
-        return text[at] == b'"';
+        return text[at] != b'"';
     }
-    false
+    true
 }
 
 // A string of n bytes that is closed, short enough and has no barred byte.
@@ -52,15 +53,8 @@ pub(crate) fn scan_string(text: &[u8]) -> Scan
     while n < text.len() {
         let b = text[n];
         if b == b'"' {
-            // a quote closes the string unless a second one follows
             n += 1;
-            if is_quote(text, n) {
-                if room == 0 {
-                    return Scan::Refused(5, 0);
-                }
-                room -= 1;
-                n += 1;
-            } else {
+            if ends_before(text, n) {
                 return closed(n, bad);
             }
         } else {
@@ -68,12 +62,13 @@ pub(crate) fn scan_string(text: &[u8]) -> Scan
                 return Scan::Refused(5, 0);
             }
             bad = note(bad, n, b);
-            if room == 0 {
-                return Scan::Refused(5, 0);
-            }
-            room -= 1;
-            n += 1;
         }
+        // the byte at n is the character's last
+        if room == 0 {
+            return Scan::Refused(5, 0);
+        }
+        room -= 1;
+        n += 1;
     }
     Scan::Refused(5, 0)
 }
