@@ -7,266 +7,151 @@ ghost use lib.ListN.{length, getD};
 ghost use Rattle.paper.specs.Sorts.{folded, nameSort};
 ghost use Rattle.reserved.specs.Keys.{Packed, keys, sorts, shifts, placeOf, sortOf};
 
-// A table entry: a key, and the sort of its word. A key of 0 is no word's.
-struct Entry {
-    key: u64,
-    sort: u32,
-}
-
-// The table, each key at its own place. A match, since a constant array would be made anew at each look.
-fn entry_at(place: u64) -> Entry
+// The table's keys, each at its own place; 0 is no word's. A match, since a constant array would be made anew at each look.
+fn key_at(place: u64) -> u64
     requires { ⌜ place < 64 ⌝ }
-    ensures { λ r. ⌜ (r .key ≡ getD keys place 0) × (r .sort ≡ getD sorts place 0) ⌝ }
+    ensures { λ r. ⌜ r ≡ getD keys place 0 ⌝ }
 {
     match place {
-        0 => Entry {
-            key: 14239558025163827524,
-            sort: 38,
-        },
-        1 => Entry {
-            key: 118525207231309401,
-            sort: 61,
-        },
-        2 => Entry {
-            key: 3368900,
-            sort: 52,
-        },
-        3 => Entry {
-            key: 52511877588,
-            sort: 27,
-        },
-        4 => Entry {
-            key: 416638787,
-            sort: 47,
-        },
-        5 => Entry {
-            key: 7234244667726,
-            sort: 64,
-        },
-        6 => Entry {
-            key: 6789950187474,
-            sort: 33,
-        },
-        7 => Entry {
-            key: 6789444756678,
-            sort: 32,
-        },
-        8 => Entry {
-            key: 53046486214,
-            sort: 35,
-        },
-        9 => Entry {
-            key: 869113624094531,
-            sort: 34,
-        },
-        10 => Entry {
-            key: 7234208917828,
-            sort: 62,
-        },
-        11 => Entry {
-            key: 54927614156,
-            sort: 51,
-        },
-        12 => Entry {
-            key: 445784782,
-            sort: 68,
-        },
-        13 => Entry {
-            key: 869113653403856,
-            sort: 40,
-        },
-        14 => Entry {
-            key: 447980111,
-            sort: 73,
-        },
-        15 => Entry { key: 0, sort: 1 },
-        16 => Entry {
-            key: 3254226,
-            sort: 45,
-        },
-        17 => Entry {
-            key: 56508967365,
-            sort: 60,
-        },
-        18 => Entry {
-            key: 56517536089,
-            sort: 63,
-        },
-        19 => Entry {
-            key: 935227414375508,
-            sort: 72,
-        },
-        20 => Entry {
-            key: 53055104978,
-            sort: 42,
-        },
-        21 => Entry {
-            key: 116318010632053966,
-            sort: 54,
-        },
-        22 => Entry {
-            key: 51968630995,
-            sort: 22,
-        },
-        23 => Entry {
-            key: 445950661,
-            sort: 71,
-        },
-        24 => Entry {
-            key: 26578,
-            sort: 57,
-        },
-        25 => Entry {
-            key: 3172164,
-            sort: 23,
-        },
-        26 => Entry {
-            key: 935158166481477,
-            sort: 81,
-        },
-        27 => Entry {
-            key: 15321608960542485197,
-            sort: 82,
-        },
-        28 => Entry {
-            key: 109500486405613892,
-            sort: 24,
-        },
-        29 => Entry {
-            key: 416589773,
-            sort: 46,
-        },
-        30 => Entry {
-            key: 25167,
-            sort: 30,
-        },
-        31 => Entry {
-            key: 3386061,
-            sort: 79,
-        },
-        32 => Entry {
-            key: 3220694,
-            sort: 29,
-        },
-        33 => Entry {
-            key: 408152012,
-            sort: 80,
-        },
-        34 => Entry {
-            key: 864406866323028,
-            sort: 28,
-        },
-        35 => Entry {
-            key: 445948112,
-            sort: 70,
-        },
-        36 => Entry {
-            key: 3385300,
-            sort: 55,
-        },
-        37 => Entry {
-            key: 418638415,
-            sort: 48,
-        },
-        38 => Entry {
-            key: 111246548420159045,
-            sort: 41,
-        },
-        39 => Entry {
-            key: 414590164,
-            sort: 43,
-        },
-        40 => Entry {
-            key: 414394821,
-            sort: 31,
-        },
-        41 => Entry {
-            key: 57865823813,
-            sort: 76,
-        },
-        42 => Entry {
-            key: 54120409812,
-            sort: 50,
-        },
-        43 => Entry {
-            key: 7099494064855,
-            sort: 56,
-        },
-        44 => Entry {
-            key: 437561283,
-            sort: 59,
-        },
-        45 => Entry {
-            key: 14239557856051684933,
-            sort: 36,
-        },
-        46 => Entry {
-            key: 452094536,
-            sort: 77,
-        },
-        47 => Entry { key: 0, sort: 1 },
-        48 => Entry {
-            key: 437348691,
-            sort: 58,
-        },
-        49 => Entry {
-            key: 869113645017027,
-            sort: 37,
-        },
-        50 => Entry {
-            key: 410020293,
-            sort: 25,
-        },
-        51 => Entry {
-            key: 120794741770266201,
-            sort: 75,
-        },
-        52 => Entry {
-            key: 443884240,
-            sort: 65,
-        },
-        53 => Entry {
-            key: 445737428,
-            sort: 67,
-        },
-        54 => Entry {
-            key: 3549138,
-            sort: 78,
-        },
-        55 => Entry {
-            key: 7065096775237,
-            sort: 53,
-        },
-        56 => Entry { key: 0, sort: 1 },
-        57 => Entry {
-            key: 860354591678932,
-            sort: 26,
-        },
-        58 => Entry {
-            key: 869113653193172,
-            sort: 39,
-        },
-        59 => Entry {
-            key: 3514578,
-            sort: 74,
-        },
-        60 => Entry {
-            key: 25798,
-            sort: 49,
-        },
-        61 => Entry {
-            key: 15254622592767977029,
-            sort: 66,
-        },
-        62 => Entry {
-            key: 53287791045,
-            sort: 44,
-        },
-        63 => Entry {
-            key: 27215,
-            sort: 69,
-        },
-        _ => Entry { key: 0, sort: 1 },
+        0 => 14239558025163827524,
+        1 => 118525207231309401,
+        2 => 3368900,
+        3 => 52511877588,
+        4 => 416638787,
+        5 => 7234244667726,
+        6 => 6789950187474,
+        7 => 6789444756678,
+        8 => 53046486214,
+        9 => 869113624094531,
+        10 => 7234208917828,
+        11 => 54927614156,
+        12 => 445784782,
+        13 => 869113653403856,
+        14 => 447980111,
+        15 => 0,
+        16 => 3254226,
+        17 => 56508967365,
+        18 => 56517536089,
+        19 => 935227414375508,
+        20 => 53055104978,
+        21 => 116318010632053966,
+        22 => 51968630995,
+        23 => 445950661,
+        24 => 26578,
+        25 => 3172164,
+        26 => 935158166481477,
+        27 => 15321608960542485197,
+        28 => 109500486405613892,
+        29 => 416589773,
+        30 => 25167,
+        31 => 3386061,
+        32 => 3220694,
+        33 => 408152012,
+        34 => 864406866323028,
+        35 => 445948112,
+        36 => 3385300,
+        37 => 418638415,
+        38 => 111246548420159045,
+        39 => 414590164,
+        40 => 414394821,
+        41 => 57865823813,
+        42 => 54120409812,
+        43 => 7099494064855,
+        44 => 437561283,
+        45 => 14239557856051684933,
+        46 => 452094536,
+        47 => 0,
+        48 => 437348691,
+        49 => 869113645017027,
+        50 => 410020293,
+        51 => 120794741770266201,
+        52 => 443884240,
+        53 => 445737428,
+        54 => 3549138,
+        55 => 7065096775237,
+        56 => 0,
+        57 => 860354591678932,
+        58 => 869113653193172,
+        59 => 3514578,
+        60 => 25798,
+        61 => 15254622592767977029,
+        62 => 53287791045,
+        63 => 27215,
+        _ => 0,
+    }
+}
+
+// The sorts of their words.
+fn sort_at(place: u64) -> u32
+    requires { ⌜ place < 64 ⌝ }
+    ensures { λ r. ⌜ r ≡ getD sorts place 0 ⌝ }
+{
+    match place {
+        0 => 38,
+        1 => 61,
+        2 => 52,
+        3 => 27,
+        4 => 47,
+        5 => 64,
+        6 => 33,
+        7 => 32,
+        8 => 35,
+        9 => 34,
+        10 => 62,
+        11 => 51,
+        12 => 68,
+        13 => 40,
+        14 => 73,
+        15 => 1,
+        16 => 45,
+        17 => 60,
+        18 => 63,
+        19 => 72,
+        20 => 42,
+        21 => 54,
+        22 => 22,
+        23 => 71,
+        24 => 57,
+        25 => 23,
+        26 => 81,
+        27 => 82,
+        28 => 24,
+        29 => 46,
+        30 => 30,
+        31 => 79,
+        32 => 29,
+        33 => 80,
+        34 => 28,
+        35 => 70,
+        36 => 55,
+        37 => 48,
+        38 => 41,
+        39 => 43,
+        40 => 31,
+        41 => 76,
+        42 => 50,
+        43 => 56,
+        44 => 59,
+        45 => 36,
+        46 => 77,
+        47 => 1,
+        48 => 58,
+        49 => 37,
+        50 => 25,
+        51 => 75,
+        52 => 65,
+        53 => 67,
+        54 => 78,
+        55 => 53,
+        56 => 1,
+        57 => 26,
+        58 => 39,
+        59 => 74,
+        60 => 49,
+        61 => 66,
+        62 => 44,
+        63 => 69,
+        _ => 1,
     }
 }
 
@@ -349,9 +234,11 @@ fn pack(name: &[u8]) -> Packing
 fn sort_of_key(key: u64) -> u32
     ensures { λ r. ⌜ r ≡ sortOf key ⌝ }
 {
-    let e = entry_at(place_of(key));
-    if e.key == key {
-        return e.sort;
+    let place = place_of(key);
+    // before the test, so that the compiler makes it a load and not a jump
+    let sort = sort_at(place);
+    if key_at(place) == key {
+        return sort;
     }
     1
 }

@@ -7,8 +7,11 @@ use Rattle.reserved.proofs.sort_of_key.Tie as tie
 place-of-requires : tie.Need-place-of-requires
 place-of-requires c κs = search needs
 
-entry-at-requires : tie.Need-entry-at-requires
-entry-at-requires c κs = search needs
+sort-at-requires : tie.Need-sort-at-requires
+sort-at-requires c κs = search needs
+
+key-at-requires : tie.Need-key-at-requires
+key-at-requires c κs = search needs
 
 returns : tie.Need-returns
 returns c = search (needs, present)
@@ -17,4 +20,4 @@ returns-2 : tie.Need-returns-2
 returns-2 c = search (needs, absent)
 
 pub sort-of-key-spec : {M : Type 1} → statement M
-sort-of-key-spec = tie.close (tie.spec place-of-requires entry-at-requires returns returns-2)
+sort-of-key-spec = tie.close (tie.spec place-of-requires sort-at-requires key-at-requires returns returns-2)

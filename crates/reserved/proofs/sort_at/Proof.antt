@@ -1,14 +1,14 @@
--- `reserved::entry_at` meets its contract: antt computes the table at each place, and there is no other.
+-- `reserved::sort_at` meets its contract: antt computes the sort at each place, and there is no other.
 use Rattle.reserved.proofs.Table.{no-other}
 use borrow.Author.Needs.{needs}
-use Rattle.reserved.proofs.entry_at.Statement.{statement}
-use Rattle.reserved.proofs.entry_at.Tie as tie
+use Rattle.reserved.proofs.sort_at.Statement.{statement}
+use Rattle.reserved.proofs.sort_at.Tie as tie
 
 outside : tie.Need-returns-65
 outside c = absurd (no-other 64 _ (c .match .rest) (c .before .pre))
 
-pub entry-at-spec : {M : Type 1} → statement M
-entry-at-spec =
+pub sort-at-spec : {M : Type 1} → statement M
+sort-at-spec =
     tie.close
     (tie.spec
     (λ c. search needs) (λ c. search needs) (λ c. search needs) (λ c. search needs) (λ c. search needs) (λ c. search needs) (λ c. search needs) (λ c. search needs)
