@@ -36,16 +36,16 @@ same-length : tie.Need-same-length Inv-loop μ-loop
 same-length c = c .before .before .before .loop .inv .size
 
 returns : tie.Need-returns Inv-loop μ-loop
-returns c = lists-end (now (c .before .before .before .before .before .before .before .args .text)) _ (c .before .before .before .loop .out) (c .before .before .before .loop .c) (c .before .before .before .loop .inv) (c .before .before .step .result) (c .before .before .step .ensures) (tagOf the-type) (λ s p n v d. refl) (c .before .match .keys2) _ _ _ (c .ending .ensures)
+returns c = lists-end _ _ _ _ (c .before .before .before .loop .inv) _ (c .before .before .step .ensures) (tagOf the-type) (λ s p n v d. refl) (c .before .match .keys2) _ _ _ (c .ending .ensures)
 
 put-entry-requires : tie.Need-put-entry-requires Inv-loop μ-loop
 put-entry-requires c κs = search needs
 
 loop-less : tie.Need-loop-less Inv-loop μ-loop
-loop-less c = word-less (now (c .before .before .before .before .before .before .before .before .before .before .before .before .args .text)) (c .before .before .before .before .before .before .before .before .loop .c) (c .before .before .before .before .before .before .before .step .result) (c .before .before .before .before .before .before .before .step .ensures) _ _ _ _ _ (c .before .before .before .before .before .s .given .1)
+loop-less c = search (needs, word-less)
 
 loop-again : tie.Need-loop-again Inv-loop μ-loop
-loop-again c = lists-word (now (c .before .before .before .before .before .before .before .before .before .before .before .before .args .text)) _ (c .before .before .before .before .before .before .before .before .loop .out) (c .before .before .before .before .before .before .before .before .loop .c) (c .before .before .before .before .before .before .before .before .loop .inv) (c .before .before .before .before .before .before .before .step .result) (c .before .before .before .before .before .before .before .step .ensures) _ _ _ _ _ _ (c .before .before .before .before .before .s .given .1) (c .before .before .put-entry .ensures)
+loop-again c = search (needs, lists-word)
 
 pub list-spec : {M : Type 1} → statement M
 list-spec =

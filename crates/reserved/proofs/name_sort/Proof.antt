@@ -20,7 +20,7 @@ sort-of-key-requires : tie.Need-sort-of-key-requires
 sort-of-key-requires c κs = search needs
 
 returns-2 : tie.Need-returns-2
-returns-2 c = a-key _ _ _ _ (c .before .before .before .before .pack .ensures) (c .before .before .key .given .1) (c .sort-of-key .ensures)
+returns-2 c = search (needs, a-key)
 
 pub name-sort-spec : {M : Type 1} → statement M
 name-sort-spec =

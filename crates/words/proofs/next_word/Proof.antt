@@ -18,10 +18,10 @@ enum-known-place-2 : tie.Need-enum-known-place-2
 enum-known-place-2 c = search needs
 
 returns : tie.Need-returns
-returns c = next-here (now (c .before .before .before .before .before .before .args .text)) (c .before .before .before .before .before .before .args .full) (c .before .before .before .before .before .before .args .at) _ (c .before .before .before .before .skip-gap .ensures) _ (c .word-here .result) (c .before .before .place .given .1) (c .word-here .ensures)
+returns c = search (needs, next-here)
 
 returns-2 : tie.Need-returns-2
-returns-2 c = next-bad (now (c .before .before .before .before .before .args .text)) (c .before .before .before .before .before .args .full) (c .before .before .before .before .before .args .at) _ (c .before .before .before .skip-gap .ensures) _ (c .before .place2 .given .1)
+returns-2 c = search (needs, next-bad)
 
 pub next-word-spec : {M : Type 1} → statement M
 next-word-spec =

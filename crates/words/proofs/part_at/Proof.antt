@@ -19,10 +19,10 @@ slice-aggregate-result : tie.Need-slice-aggregate-result
 slice-aggregate-result c = search needs
 
 returns : tie.Need-returns
-returns c = part-none (now (c .before .before .before .before .before .args .text)) (c .before .before .before .before .before .args .place) (c .before .before .before .word-at .result) (c .before .before .before .word-at .ensures) (c .before .enum-told .given .1)
+returns c = search (needs, part-none)
 
 add-result : tie.Need-add-result
-add-result c = omega (arith, part-inside (now (c .before .before .before .before .before .args .text)) (c .before .before .before .before .before .args .place) (c .before .before .before .word-at .result) (c .before .before .before .word-at .ensures) _ (c .before .length .given .1), c .before .before .before .before .before .good)
+add-result c = omega (arith, part-inside _ _ _ (c .before .before .before .word-at .ensures) _ (c .before .length .given .1), c .before .before .before .before .before .good)
 
 sub-result : tie.Need-sub-result
 sub-result c = search needs
@@ -31,10 +31,10 @@ part-result-start : tie.Need-part-result-start
 part-result-start c = search needs
 
 part-result-end : tie.Need-part-result-end
-part-result-end c = omega (arith, part-inside (now (c .before .before .before .before .before .args .text)) (c .before .before .before .before .before .args .place) (c .before .before .before .word-at .result) (c .before .before .before .word-at .ensures) _ (c .before .length .given .1))
+part-result-end c = omega (arith, part-inside _ _ _ (c .before .before .before .word-at .ensures) _ (c .before .length .given .1))
 
 returns-2 : tie.Need-returns-2
-returns-2 c = part-some (now (c .before .before .before .before .before .before .args .text)) (c .before .before .before .before .before .before .args .place) (c .before .before .before .before .word-at .result) (c .before .before .before .before .word-at .ensures) _ (c .before .before .length .given .1)
+returns-2 c = search (needs, part-some)
 
 pub part-at-spec : {M : Type 1} → statement M
 part-at-spec =

@@ -22,7 +22,7 @@ returns-3 : tie.Need-returns-3
 returns-3 c = refused-later _ _ _ _ _ (c .before .before .before .s .given .1) (c .before .if1 .taken) (c .if2 .left)
 
 add-t8 : tie.Need-add-t8
-add-t8 c = record { fits = omega (arith, refused-reach true (c .before .before .before .before .args .place) (c .before .before .before .before .args .s) _ _ (c .before .before .s .given .1) (c .before .before .before .before .pre)) }
+add-t8 c = record { fits = omega (arith, refused-reach true _ _ _ _ (c .before .before .s .given .1) (c .before .before .before .before .pre)) }
 
 returns-4 : tie.Need-returns-4
 returns-4 c = refused-after _ _ _ _ _ (c .before .before .s .given .1) (c .if1 .left)

@@ -30,19 +30,19 @@ enum-known-start : tie.Need-enum-known-start Inv-loop μ-loop
 enum-known-start c = search needs
 
 returns : tie.Need-returns Inv-loop μ-loop
-returns c = search-none (now (c .before .before .before .before .before .args .text)) (c .before .before .before .before .before .args .place) (c .before .before .loop .c) (c .before .before .loop .inv) (c .before .step .result) (c .before .step .ensures) (tagOf the-type) (λ s p n v d. refl) (c .match .keys2)
+returns c = search-none _ _ _ (c .before .before .loop .inv) _ (c .before .step .ensures) (tagOf the-type) (λ s p n v d. refl) (c .match .keys2)
 
 returns-2 : tie.Need-returns-2 Inv-loop μ-loop
-returns-2 c = search-found (now (c .before .before .before .before .before .before .before .before .args .text)) (c .before .before .before .before .before .before .before .before .args .place) (c .before .before .before .before .before .loop .c) (c .before .before .before .before .before .loop .inv) (c .before .before .before .before .step .result) (c .before .before .before .before .step .ensures) _ _ _ _ _ (c .before .before .start2 .given .1) (c .if1 .taken)
+returns-2 c = search (needs, search-found)
 
 returns-3 : tie.Need-returns-3 Inv-loop μ-loop
-returns-3 c = search-past (now (c .before .before .before .before .before .before .before .before .before .args .text)) (c .before .before .before .before .before .before .before .before .before .args .place) (c .before .before .before .before .before .before .loop .c) (c .before .before .before .before .before .before .loop .inv) (c .before .before .before .before .before .step .result) (c .before .before .before .before .before .step .ensures) _ _ _ _ _ (c .before .before .before .start2 .given .1) (c .before .if1 .left) (c .if2 .taken)
+returns-3 c = search (needs, search-past)
 
 loop-less : tie.Need-loop-less Inv-loop μ-loop
-loop-less c = word-less (now (c .before .before .before .before .before .before .before .before .before .args .text)) (c .before .before .before .before .before .before .loop .c) (c .before .before .before .before .before .step .result) (c .before .before .before .before .before .step .ensures) _ _ _ _ _ (c .before .before .before .start2 .given .1)
+loop-less c = search (needs, word-less)
 
 loop-again : tie.Need-loop-again Inv-loop μ-loop
-loop-again c = search-on (now (c .before .before .before .before .before .before .before .before .before .args .text)) (c .before .before .before .before .before .before .before .before .before .args .place) (c .before .before .before .before .before .before .loop .c) (c .before .before .before .before .before .before .loop .inv) (c .before .before .before .before .before .step .result) (c .before .before .before .before .before .step .ensures) _ _ _ _ _ (c .before .before .before .start2 .given .1) (c .before .if1 .left)
+loop-again c = search (needs, search-on)
 
 pub word-at-spec : {M : Type 1} → statement M
 word-at-spec =

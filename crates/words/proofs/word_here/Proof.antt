@@ -27,16 +27,16 @@ enum-told : tie.Need-enum-told
 enum-told c = search needs
 
 refused-at-requires : tie.Need-refused-at-requires
-refused-at-requires c κs = reaches (now (c .before .before .before .before .before .before .args .text)) (c .before .before .before .before .before .before .args .full) (c .before .before .before .before .before .before .args .place) (c .before .before .before .before .if1 .left) (c .before .before .scan-word .result) (c .before .before .scan-word .ensures) (c .before .before .before .before .before .before .good .0 .0)
+refused-at-requires c κs = search (needs, reaches)
 
 returns-2 : tie.Need-returns-2
-returns-2 c = word-refused (now (c .before .before .before .before .before .before .before .args .text)) (c .before .before .before .before .before .before .before .args .full) (c .before .before .before .before .before .before .before .args .place) (c .before .before .before .before .before .if1 .left) _ (c .before .before .before .scan-word .ensures) _ _ _ (c .before .enum-told .given .1) (c .refused-at .ensures)
+returns-2 c = search (needs, word-refused)
 
 returns-3 : tie.Need-returns-3
-returns-3 c = word-full (now (c .before .before .before .before .before .before .before .before .args .text)) (c .before .before .before .before .before .before .before .before .args .full) (c .before .before .before .before .before .before .before .before .args .place) (c .before .before .before .before .before .before .if1 .left) _ (c .before .before .before .before .scan-word .ensures) _ _ _ (c .before .before .s .given .1) (c .if2 .taken)
+returns-3 c = search (needs, word-full)
 
 returns-4 : tie.Need-returns-4
-returns-4 c = word-good (now (c .before .before .before .before .before .before .before .before .args .text)) (c .before .before .before .before .before .before .before .before .args .full) (c .before .before .before .before .before .before .before .before .args .place) (c .before .before .before .before .before .before .if1 .left) _ (c .before .before .before .before .scan-word .ensures) _ _ _ (c .before .before .s .given .1) (c .if2 .left)
+returns-4 c = search (needs, word-good)
 
 pub word-here-spec : {M : Type 1} → statement M
 word-here-spec =

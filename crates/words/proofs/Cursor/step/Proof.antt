@@ -23,19 +23,19 @@ enum-known-sort : tie.Need-enum-known-sort
 enum-known-sort c = search needs
 
 add-t14 : tie.Need-add-t14
-add-t14 c = omega (arith, step-lies (now (c .before .before .before .before .before .before .args .text)) _ _ _ (c .before .before .before .next-word .ensures) _ _ _ _ (c .before .sort .given .1), c .before .before .before .before .before .before .good)
+add-t14 c = omega (arith, step-lies _ _ _ _ (c .before .before .before .next-word .ensures) _ _ _ _ (c .before .sort .given .1), c .before .before .before .before .before .before .good)
 
 add-t15 : tie.Need-add-t15
-add-t15 c = omega (arith, leb-false _ (c .before .before .before .before .before .before .args .self .words) (step-lies (now (c .before .before .before .before .before .before .args .text)) _ _ _ (c .before .before .before .next-word .ensures) _ _ _ _ (c .before .sort .given .1) .3))
+add-t15 c = omega (arith, leb-false _ (c .before .before .before .before .before .before .args .self .words) (step-lies _ _ _ _ (c .before .before .before .next-word .ensures) _ _ _ _ (c .before .sort .given .1) .3))
 
 returns-2 : tie.Need-returns-2
-returns-2 c = step-end (now (c .before .before .before .before .before .args .text)) (c .before .before .before .before .before .args .self) (c .before .before .before .if1 .left) _ (c .before .before .next-word .ensures) (c .enum-told .given .1)
+returns-2 c = search (needs, step-end)
 
 returns-3 : tie.Need-returns-3
-returns-3 c = step-refused (now (c .before .before .before .before .before .before .args .text)) (c .before .before .before .before .before .before .args .self) (c .before .before .before .before .if1 .left) _ (c .before .before .before .next-word .ensures) _ _ (c .before .number .given .1)
+returns-3 c = search (needs, step-refused)
 
 returns-4 : tie.Need-returns-4
-returns-4 c = step-word (now (c .before .before .before .before .before .before .args .text)) (c .before .before .before .before .before .before .args .self) (c .before .before .before .before .if1 .left) _ (c .before .before .before .next-word .ensures) _ _ _ _ (c .before .sort .given .1)
+returns-4 c = search (needs, step-word)
 
 pub step-spec : {M : Type 1} → statement M
 step-spec =
