@@ -1,7 +1,6 @@
 // Whole numbers in a range: what is worked out is exact, and then held to the range. An operand may be any i64, and so may the
 // ends of the range. A result that leaves 64 bits lies outside every such range, so it is an overflow.
 ghost use mathlib.Core.Path.{_≡_};
-ghost use Prim.Native.Nat.{_≤_};
 ghost use lib.IntN.{natAbs, _+ℤ_, _-ℤ_, _*ℤ_};
 ghost use mir.Syntax.{w32};
 ghost use mir.Val.{toZ, ofZ};

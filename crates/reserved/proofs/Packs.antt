@@ -9,8 +9,8 @@ use native.Mathlib.Numerals.{add-one}
 use lib.Seq.{drop-cons}
 use lib.Dec.{eqb, ltb, leb}
 use lib.ListN.{length, getD, drop, length-map, drop-of-length-le}
-use borrow.Author.Tests.{ltb-true, ltb-false, eqb-true, eqb-false, eq-eqb, ne-eqb, lt-ltb, le-ltb, lt-leb}
-use Rattle.paper.specs.Sorts.{bytes, folded, reserved, equalTexts, numberIn, nameSort, firstReserved, NAME}
+use borrow.Author.Tests.{ltb-true, eqb-true, eq-eqb, ne-eqb, lt-ltb, le-ltb, lt-leb}
+use Rattle.paper.specs.Sorts.{bytes, folded, reserved, equalTexts, numberIn, nameSort, firstReserved}
 use Rattle.reserved.specs.declared.Packing.{Packing}
 use Rattle.reserved.specs.declared.Packing.the-variants.{Key, None}
 use Rattle.reserved.specs.Keys.{packed, keysOf, numberOfKey, sortOf, Packed}

@@ -1,6 +1,6 @@
 -- Keys: a text of few bytes below 128 as one number, and the paper's table of reserved words by their keys.
 use mathlib.Core.Path.{_≡_}
-use mathlib.Core.Bool.{Bool, true, false}
+use mathlib.Core.Bool.{true, false}
 use mathlib.Core.List.{List, [], _∷_, map}
 use Prim.Native.Nat.{ℕ, zero, suc, _+_, _*_, _%_}
 use Prim.Native.String.{String}

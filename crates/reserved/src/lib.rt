@@ -2,8 +2,8 @@
 // key: to the base 128, with a 1 before the first byte, so that different texts have different keys.
 ghost use mathlib.Core.Path.{_≡_};
 ghost use mathlib.Core.List.{map};
-ghost use Prim.Native.Nat.{_+_, _<_, _≤_};
-ghost use lib.ListN.{length, getD};
+ghost use Prim.Native.Nat.{_+_, _<_};
+ghost use lib.ListN.{getD};
 ghost use Rattle.paper.specs.Sorts.{folded, nameSort};
 ghost use Rattle.reserved.specs.Keys.{Packed, keys, sorts, shifts, placeOf, sortOf};
 

@@ -1,16 +1,14 @@
 -- What is said of a byte: chains of tests, and the signs, which antt computes at every byte.
-use mathlib.Core.Path.{_≡_, refl, sym, ap, subst, _∙_}
+use mathlib.Core.Path.{_≡_, refl, sym, ap, _∙_}
 use mathlib.Core.Bool.{Bool, true, false, _||_}
 use mathlib.Core.List.{List, [], _∷_}
-use Prim.Native.Nat.{ℕ, zero, suc, _+_, _<_, _≤_}
-use Prim.Native.String.{String}
-use native.Mathlib.Nat.{not-suc-le-zero, zero-add, add-zero}
+use Prim.Native.Nat.{ℕ, zero, suc, _<_, _≤_}
+use native.Mathlib.Nat.{not-suc-le-zero}
 use native.Mathlib.Omega.{arith}
 use lib.Dec.{eqb, ltb, leb}
-use lib.ListN.{length, getD}
-use borrow.Author.Tests.{ltb-true, ltb-false, eqb-true, eqb-false, eq-eqb, ne-eqb, lt-ltb, le-ltb, le-leb, lt-leb, leb-true}
+use borrow.Author.Tests.{ltb-false, eqb-true, eqb-false, eq-eqb, ne-eqb, lt-ltb, le-ltb, le-leb, lt-leb, leb-true}
 use Rattle.paper.specs.Sorts.{bytes, folded, signs, equalTexts, numberIn, signSort, firstSign}
-use Rattle.paper.specs.Words.{between, letter, digit, inName, spoilsNumber, barredInString, separates, permitted, permittedInside}
+use Rattle.paper.specs.Words.{between, letter, digit, spoilsNumber, barredInString, permitted}
 use Rattle.reserved.proofs.Table.{test, false-true}
 use Rattle.reserved.proofs.Packs.{every, unlike}
 

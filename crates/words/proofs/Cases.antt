@@ -10,7 +10,7 @@ use lib.Seq.{drop-drop, drop-cons, take-all}
 use borrow.Author.Tests.{eq-eqb, ne-eqb, lt-ltb, le-ltb}
 use Rattle.scanner.proofs.Bounds.{test, Within, scan-within}
 use Rattle.paper.specs.Words as paper
-use Rattle.paper.specs.Words.{scan, scanned, wordAt, following, gap, textLimit, wordLimit}
+use Rattle.paper.specs.Words.{scan, scanned, wordAt, following, gap, textLimit}
 use Rattle.scanner.specs.declared.Scan.{Scan}
 use Rattle.scanner.specs.declared.Scan.the-variants as scans
 use Rattle.scanner.specs.declared.Gap.{Gap}

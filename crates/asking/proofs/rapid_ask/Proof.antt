@@ -1,5 +1,4 @@
 -- `asking::rapid_ask` meets its contract.
-use denote.Ref.{now}
 use Rattle.asking.proofs.Tells.{tells-none, tells-some}
 use borrow.Author.Needs.{needs}
 use Rattle.asking.proofs.rapid_ask.Statement.{statement}

@@ -2,7 +2,6 @@
 use mathlib.Core.Path.{refl}
 use Prim.Native.Nat.{_-_}
 use lib.ListN.{length}
-use denote.Ref.{now}
 use denote.Enum.Declared.{tagOf}
 use Rattle.words.proofs.Step.{the-type}
 use Rattle.words.proofs.Readings.{word-less}

@@ -1,4 +1,3 @@
-use native.Mathlib.Omega.{arith}
 use Rattle.numbers.proofs.Complement.{word-less, high}
 use borrow.Author.Needs.{needs}
 use Rattle.numbers.proofs.of_word.Statement.{statement}
@@ -14,7 +13,7 @@ cast-result-2 : tie.Need-cast-result-2
 cast-result-2 c = search needs
 
 sub-result : tie.Need-sub-result
-sub-result c = word-less _ _ (c .before .fits .x) (omega arith)
+sub-result c = search (needs, word-less)
 
 cast-result-3 : tie.Need-cast-result-3
 cast-result-3 c = high _ (c .if1 .left) (c .before .fits .x) .small

@@ -1,4 +1,3 @@
-use native.Mathlib.Omega.{arith}
 use Rattle.numbers.proofs.Complement.{wide-fits, word-more, neg-bits, pos-bits}
 use borrow.Author.Needs.{needs}
 use Rattle.numbers.proofs.to_word.Statement.{statement}
@@ -8,7 +7,7 @@ cast-result : tie.Need-cast-result
 cast-result c = search (needs, wide-fits)
 
 add-result : tie.Need-add-result
-add-result c = word-more _ (c .before .fits .z) _ (omega arith)
+add-result c = search (needs, word-more)
 
 cast-result-2 : tie.Need-cast-result-2
 cast-result-2 c = let q = neg-bits _ (c .before .fits .z) (c .if1 .taken) in (q .non-neg, q .small)

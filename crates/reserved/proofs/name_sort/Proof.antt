@@ -14,7 +14,7 @@ enum-told : tie.Need-enum-told
 enum-told c = search needs
 
 returns : tie.Need-returns
-returns c = no-key _ _ (c .before .before .pack .ensures) (c .enum-told .given .1)
+returns c = search (needs, no-key)
 
 sort-of-key-requires : tie.Need-sort-of-key-requires
 sort-of-key-requires c κs = search needs

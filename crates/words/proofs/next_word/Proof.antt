@@ -1,5 +1,4 @@
 -- `words::next_word` meets its contract.
-use denote.Ref.{now}
 use Rattle.words.proofs.Cases.{next-here, next-bad}
 use borrow.Author.Needs.{needs}
 use Rattle.words.proofs.next_word.Statement.{statement}

@@ -1,6 +1,5 @@
 -- `words::part_at` meets its contract.
 use native.Mathlib.Omega.{arith}
-use denote.Ref.{now}
 use Rattle.words.proofs.Asks.{part-none, part-inside, part-some}
 use borrow.Author.Needs.{needs}
 use Rattle.words.proofs.part_at.Statement.{statement}

@@ -2,7 +2,6 @@
 use Prim.Native.Nat.{_-_}
 use lib.ListN.{length}
 use mathlib.Core.Path.{refl}
-use denote.Ref.{now}
 use denote.Enum.Declared.{tagOf}
 use Rattle.words.proofs.Step.{the-type}
 use Rattle.words.proofs.Asks.{Search, search-start, search-none, search-found, search-past, search-on}

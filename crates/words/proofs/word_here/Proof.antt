@@ -1,5 +1,4 @@
 -- `words::word_here` meets its contract.
-use denote.Ref.{now}
 use Rattle.words.proofs.Cases.{end-here, reaches, word-full, word-good, word-refused}
 use borrow.Author.Needs.{needs}
 use Rattle.words.proofs.word_here.Statement.{statement}

@@ -1,6 +1,5 @@
 -- `words::Cursor::step` meets its contract.
 use native.Mathlib.Omega.{arith}
-use denote.Ref.{now}
 use borrow.Author.Tests.{leb-false}
 use Rattle.words.proofs.Cases.{step-long, step-end, step-refused, step-word, step-lies}
 use borrow.Author.Needs.{needs}
