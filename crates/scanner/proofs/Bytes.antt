@@ -118,6 +118,19 @@ digit-permitted b t = let r = range 48 57 b t in permitted-range b (omega arith)
 pub quote-permitted : (b : ℕ) → b ≡ 34 → permitted b ≡ true
 quote-permitted b e = permitted-range b (omega arith) (omega arith)
 
+-- the first byte of every sign is permitted
+unfoldable begins : List ℕ → Bool
+begins [] = true
+begins (b ∷ r) = permitted b
+
+all-begin : every begins signs ≡ true
+unfolding every begins signs bytes folded permitted between
+all-begin = refl
+
+pub sign-permitted : (b : ℕ) (r : List ℕ) → permitted b ≡ false → signSort (b ∷ r) ≡ 0
+unfolding signSort begins
+sign-permitted b r n = unlike begins signs firstSign (b ∷ r) all-begin n
+
 -- ---- signs of one byte
 unfoldable has : ℕ → List ℕ → Bool
 has b [] = false
@@ -136,12 +149,12 @@ has-not b (x ∷ r) h = rw (ne-eqb b x (h .1), has) (has-not b r (h .0))
 abbrev oneByte : List ℕ
 oneByte = 125 ∷ 123 ∷ 92 ∷ 62 ∷ 61 ∷ 60 ∷ 59 ∷ 58 ∷ 45 ∷ 44 ∷ 43 ∷ 42 ∷ 41 ∷ 40 ∷ []
 
-unfoldable signOrNone : ℕ → Bool
-signOrNone b = elim (has b oneByte) [ true ↦ true | false ↦ eqb (signSort (b ∷ [])) 0 ]
+unfoldable signOrZero : ℕ → Bool
+signOrZero b = elim (has b oneByte) [ true ↦ true | false ↦ eqb (signSort (b ∷ [])) 0 ]
 
 no-sign : (b : ℕ) → b < 256 → Apart b oneByte → 0 ≡ signSort (b ∷ [])
-unfolding all has signOrNone signSort numberIn signs equalTexts bytes folded
-no-sign b h a = sym (eqb-true (signSort (b ∷ [])) 0 (rw (has-not b oneByte a, signOrNone) at (all-below signOrNone 256 refl b h)))
+unfolding all has signOrZero signSort numberIn signs equalTexts bytes folded
+no-sign b h a = sym (eqb-true (signSort (b ∷ [])) 0 (rw (has-not b oneByte a, signOrZero) at (all-below signOrZero 256 refl b h)))
 
 -- a byte outside a range is apart from every byte in it
 unfoldable beyond : ℕ → List ℕ → Bool

@@ -1,13 +1,15 @@
 -- Signs.
 use mathlib.Core.Path.{_≡_, refl, sym, _∙_}
+use mathlib.Core.Bool.{Bool, true, false}
 use mathlib.Core.List.{List, [], _∷_}
 use Prim.Native.Nat.{ℕ, zero, suc, _-_, _<_, _≤_}
 use native.Mathlib.Omega.{arith}
 use lib.ListN.{length, getD}
+use Rattle.reserved.proofs.Table.{test}
 use Rattle.paper.specs.Sorts.{signSort}
-use Rattle.paper.specs.Words.{scanSign, word, refused}
-use Rattle.scanner.specs.Answers.{pairSort}
-use Rattle.scanner.proofs.Bytes.{unpaired-below, unpaired-above}
+use Rattle.paper.specs.Words.{permitted, scanSign, word, refused}
+use Rattle.scanner.specs.Answers.{pairSort, signOrNone}
+use Rattle.scanner.proofs.Bytes.{unpaired-below, unpaired-above, sign-permitted}
 
 pub no-pair : (text : List ℕ) → length text ≤ 1 → 0 ≡ pairSort text
 unfolding pairSort
@@ -38,20 +40,56 @@ picked : (s : ℕ) {A : Type 0} (f : ℕ → A) (a : A) → (s ≡ 0 → ⊥) �
 picked zero f a h = absurd (h refl)
 picked (suc m) f a h = refl
 
-pub sign-pair : (text : List ℕ) (s : ℕ) → s ≡ pairSort text → (s ≡ 0 → ⊥) → word s 2 0 ≡ scanSign text
+-- ---- what the definition says, by the sorts of the first two bytes and of the first
+sign-two : (text : List ℕ) (s : ℕ) → s ≡ pairSort text → (s ≡ 0 → ⊥) → word s 2 0 ≡ scanSign text
 unfolding pairSort scanSign
-sign-pair [] s e h = absurd (h e)
-sign-pair (b ∷ []) s e h = absurd (h e)
-sign-pair (b ∷ c ∷ r) s e h = rw (← e, scanSign) (sym (picked s (λ x. word x 2 0) _ h))
+sign-two [] s e h = absurd (h e)
+sign-two (b ∷ []) s e h = absurd (h e)
+sign-two (b ∷ c ∷ r) s e h = rw (← e, scanSign) (sym (picked s (λ x. word x 2 0) _ h))
 
-pub sign-one : (text : List ℕ) (p s : ℕ) → 0 < length text → p ≡ pairSort text → p ≡ 0 → s ≡ signSort (getD text 0 0 ∷ []) → (s ≡ 0 → ⊥) → word s 1 0 ≡ scanSign text
-unfolding pairSort scanSign
-sign-one [] p s g e z i h = absurd (omega arith)
-sign-one (b ∷ []) p s g e z i h = rw (← i, scanSign) (sym (picked s (λ x. word x 1 0) _ h))
-sign-one (b ∷ c ∷ r) p s g e z i h = rw (sym e ∙ z, scanSign) (rw (← i) (sym (picked s (λ x. word x 1 0) _ h)))
+module _ (text : List ℕ) (p s : ℕ) (some : 0 < length text) (e : p ≡ pairSort text) (z : p ≡ 0) (i : s ≡ signSort (getD text 0 0 ∷ [])) where
+  sign-one : (s ≡ 0 → ⊥) → word s 1 0 ≡ scanSign text
+  unfolding pairSort scanSign
+  sign-one h = go text some e i
+    where
+      go : (text : List ℕ) → 0 < length text → p ≡ pairSort text → s ≡ signSort (getD text 0 0 ∷ []) → word s 1 0 ≡ scanSign text
+      go [] g e i = absurd (omega arith)
+      go (b ∷ []) g e i = rw (← i, scanSign) (sym (picked s (λ x. word x 1 0) _ h))
+      go (b ∷ c ∷ r) g e i = rw (sym e ∙ z, scanSign) (rw (← i) (sym (picked s (λ x. word x 1 0) _ h)))
 
-pub sign-none : (text : List ℕ) (p s : ℕ) → 0 < length text → p ≡ pairSort text → p ≡ 0 → s ≡ signSort (getD text 0 0 ∷ []) → s ≡ 0 → refused 5 0 ≡ scanSign text
-unfolding pairSort scanSign
-sign-none [] p s g e z i h = absurd (omega arith)
-sign-none (b ∷ []) p s g e z i h = rw (sym i ∙ h, scanSign) (rw (sym i ∙ h))
-sign-none (b ∷ c ∷ r) p s g e z i h = rw (sym e ∙ z, scanSign) (rw (sym i ∙ h))
+  sign-none : s ≡ 0 → refused 5 0 ≡ scanSign text
+  unfolding pairSort scanSign
+  sign-none h = go text some e i
+    where
+      go : (text : List ℕ) → 0 < length text → p ≡ pairSort text → s ≡ signSort (getD text 0 0 ∷ []) → refused 5 0 ≡ scanSign text
+      go [] g e i = absurd (omega arith)
+      go (b ∷ []) g e i = rw (sym i ∙ h, scanSign) (rw (sym i ∙ h))
+      go (b ∷ c ∷ r) g e i = rw (sym e ∙ z, scanSign) (rw (sym i ∙ h))
+
+-- ---- the answers, given that a sign begins with a permitted byte
+permitted-two : (text : List ℕ) → (pairSort text ≡ 0 → ⊥) → permitted (getD text 0 0) ≡ true
+unfolding pairSort
+permitted-two [] h = absurd (h refl)
+permitted-two (b ∷ []) h = absurd (h refl)
+permitted-two (b ∷ c ∷ r) h = test (permitted b) (λ t. t) (λ t. absurd (h (sign-permitted b (c ∷ []) t)))
+
+permitted-one : (b : ℕ) → (signSort (b ∷ []) ≡ 0 → ⊥) → permitted b ≡ true
+permitted-one b h = test (permitted b) (λ t. t) (λ t. absurd (h (sign-permitted b [] t)))
+
+pub pair-told : (text : List ℕ) (s : ℕ) → s ≡ pairSort text → (s ≡ 0 → ⊥) → word s 2 0 ≡ signOrNone text
+unfolding signOrNone
+pair-told text s e h = rw (permitted-two text (λ z. h (e ∙ z)), signOrNone) (sign-two text s e h)
+
+module _ (text : List ℕ) (p s : ℕ) (some : 0 < length text) (e : p ≡ pairSort text) (z : p ≡ 0) (i : s ≡ signSort (getD text 0 0 ∷ [])) where
+  pub sign-told : (s ≡ 0 → ⊥) → word s 1 0 ≡ signOrNone text
+  unfolding signOrNone
+  sign-told h = rw (permitted-one (getD text 0 0) (λ y. h (i ∙ y)), signOrNone) (sign-one text p s some e z i h)
+
+  module _ (y : s ≡ 0) (t : Bool) (is : t ≡ permitted (getD text 0 0)) where
+    pub none-told : t ≡ true → refused 5 0 ≡ signOrNone text
+    unfolding signOrNone
+    none-told g = rw (sym is ∙ g, signOrNone) (sign-none text p s some e z i y)
+
+    pub bad-told : t ≡ false → refused 4 0 ≡ signOrNone text
+    unfolding signOrNone
+    bad-told g = rw (sym is ∙ g, signOrNone)

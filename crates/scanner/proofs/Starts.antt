@@ -6,7 +6,9 @@ use Prim.Native.Nat.{ℕ, _-_}
 use native.Mathlib.Omega.{arith}
 use lib.ListN.{length, getD}
 use borrow.Author.Tests.{eq-eqb, ne-eqb}
-use Rattle.paper.specs.Words.{Scan, refused, between, permitted, letter, digit, scanName, scanNumber, scanString, scanSign, scan}
+use Rattle.paper.specs.Words.{Scan, refused, between, permitted, letter, digit, scanName, scanNumber, scanString, scan}
+use Rattle.reserved.proofs.Table.{test}
+use Rattle.scanner.specs.Answers.{signOrNone}
 use Rattle.scanner.proofs.Bytes.{letter-permitted, digit-permitted, quote-permitted}
 
 abbrev front : List ℕ → ℕ
@@ -36,12 +38,9 @@ module _ (text : List ℕ) (l : Bool) (letters : l ≡ letter (front text)) wher
       a-string s q e =
           e ∙ sym (rw (quote-permitted (front text) q, scan) (rw no-letter (rw (sym digits ∙ k) (rw (eq-eqb (front text) 34 q)))))
 
-      module _ (q : front text ≡ 34 → ⊥) (p : Bool) (permits : p ≡ permitted (front text)) where
-        pub a-sign : (s : Scan) → p ≡ true → s ≡ scanSign text → s ≡ scan (front text) text
-        unfolding scan
-        a-sign s h e =
-            e ∙ sym (rw (sym permits ∙ h, scan) (rw no-letter (rw (sym digits ∙ k) (rw (ne-eqb (front text) 34 q)))))
-
-        pub not-permitted : p ≡ false → refused 4 0 ≡ scan (front text) text
-        unfolding scan
-        not-permitted h = rw (sym permits ∙ h, scan)
+      pub a-sign : (s : Scan) → (front text ≡ 34 → ⊥) → s ≡ signOrNone text → s ≡ scan (front text) text
+      unfolding scan signOrNone
+      a-sign s q e =
+          test (permitted (front text))
+          (λ t. e ∙ rw (t, signOrNone) (sym (rw (t, scan) (rw no-letter (rw (sym digits ∙ k) (rw (ne-eqb (front text) 34 q)))))))
+          (λ t. e ∙ rw (t, signOrNone) (sym (rw (t, scan))))

@@ -4,7 +4,7 @@ use mathlib.Core.Bool.{Bool, true, false}
 use mathlib.Core.List.{List, [], _∷_}
 use Prim.Native.Nat.{ℕ, zero, suc, _≤_}
 use lib.Dec.{ltb}
-use lib.ListN.{length, take, drop}
+use lib.ListN.{length, getD, take, drop}
 use Rattle.paper.specs.Sorts.{signSort}
 use Rattle.paper.specs.Words as paper
 use Rattle.scanner.specs.declared.Scan.{Scan}
@@ -53,3 +53,7 @@ unfoldable pub pairSort : List ℕ → ℕ
 pairSort [] = 0
 pairSort (b ∷ []) = 0
 pairSort (b ∷ c ∷ r) = signSort (b ∷ c ∷ [])
+
+-- the word of a text that begins with no letter, digit or quote
+unfoldable pub signOrNone : List ℕ → paper.Scan
+signOrNone l = elim (paper.permitted (getD l 0 0)) [ true ↦ paper.scanSign l | false ↦ paper.refused 4 0 ]

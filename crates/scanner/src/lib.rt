@@ -7,7 +7,6 @@ mod string;
 
 use classes::is_digit;
 use classes::is_letter;
-use classes::is_permitted;
 use classes::is_permitted_inside;
 use classes::is_separator;
 ghost use mathlib.Core.Path.{_≡_};
@@ -31,7 +30,6 @@ pub fn scan_word(text: &[u8]) -> Scan
         return Scan::Refused(4, 0);
     }
     let b = text[0];
-    // letters, digits and the quote are permitted, so only other bytes are asked
     if is_letter(b) {
         return name::scan_name(text);
     }
@@ -41,10 +39,7 @@ pub fn scan_word(text: &[u8]) -> Scan
     if b == b'"' {
         return string::scan_string(text);
     }
-    if is_permitted(b) {
-        return sign::scan_sign(text);
-    }
-    Scan::Refused(4, 0)
+    sign::scan_sign(text)
 }
 
 pub enum Gap {

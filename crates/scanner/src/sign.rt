@@ -1,12 +1,12 @@
 // A sign, or no word at all.
 use super::Scan;
+use super::classes::is_permitted;
 use super::classes::one_sign;
 use super::classes::two_signs;
 ghost use mathlib.Core.Path.{_≡_};
 ghost use Prim.Native.Nat.{_<_};
 ghost use lib.ListN.{length};
-ghost use Rattle.paper.specs.Words.{scanSign};
-ghost use Rattle.scanner.specs.Answers.{scanOf, pairSort};
+ghost use Rattle.scanner.specs.Answers.{scanOf, pairSort, signOrNone};
 
 // The sort of the sign that a text's first two bytes are, or 0. Signs of two bytes begin with a byte from : to >, so after any other first byte the
 // second is not looked at.
@@ -27,9 +27,10 @@ fn pair_sort(text: &[u8]) -> u32
     0
 }
 
+// The word of a text that begins with no letter, digit or quote.
 pub(crate) fn scan_sign(text: &[u8]) -> Scan
     requires { ⌜ 0 < length (now text) ⌝ }
-    ensures { λ r. ⌜ scanOf r ≡ scanSign (now (text .entry)) ⌝ }
+    ensures { λ r. ⌜ scanOf r ≡ signOrNone (now (text .entry)) ⌝ }
 {
     // one_sign tells the bytes apart that can begin a pair, so it comes first
     let sort = one_sign(text[0]);
@@ -37,8 +38,12 @@ pub(crate) fn scan_sign(text: &[u8]) -> Scan
     if pair != 0 {
         return Scan::Word(pair, 2, 0);
     }
-    if sort == 0 {
+    if sort != 0 {
+        return Scan::Word(sort, 1, 0);
+    }
+    // what begins a word is permitted, so only the other bytes are asked
+    if is_permitted(text[0]) {
         return Scan::Refused(5, 0);
     }
-    Scan::Word(sort, 1, 0)
+    Scan::Refused(4, 0)
 }

@@ -1,5 +1,5 @@
 -- `scanner::scan_word` meets its contract.
-use Rattle.scanner.proofs.Starts.{nothing, not-permitted, a-name, a-number, a-string, a-sign}
+use Rattle.scanner.proofs.Starts.{nothing, a-name, a-number, a-string, a-sign}
 use borrow.Author.Needs.{needs}
 use Rattle.scanner.proofs.scan_word.Statement.{statement}
 use Rattle.scanner.proofs.scan_word.Tie as tie
@@ -34,17 +34,11 @@ scan-string-requires c κs = search needs
 returns-4 : tie.Need-returns-4
 returns-4 c = search (needs, a-string)
 
-is-permitted-requires : tie.Need-is-permitted-requires
-is-permitted-requires c κs = search needs
-
 scan-sign-requires : tie.Need-scan-sign-requires
 scan-sign-requires c κs = search needs
 
 returns-5 : tie.Need-returns-5
 returns-5 c = search (needs, a-sign)
-
-returns-6 : tie.Need-returns-6
-returns-6 c = search (needs, not-permitted)
 
 pub scan-word-spec : {M : Type 1} → statement M
 scan-word-spec =
@@ -60,7 +54,5 @@ scan-word-spec =
     returns-3
     scan-string-requires
     returns-4
-    is-permitted-requires
     scan-sign-requires
-    returns-5
-    returns-6)
+    returns-5)
