@@ -6,10 +6,10 @@ use Prim.Native.Nat.{ℕ, _+_, _-_, _<_, _≤_}
 use native.Mathlib.Omega.{arith}
 use lib.ListN.{length, getD, drop, drop-of-length-le}
 use borrow.Author.Tests.{eq-eqb, ne-eqb}
-use Rattle.paper.specs.Words.{permittedInside, separates, gap, upTo, badByte}
+use Rattle.paper.specs.Words.{permittedInside, separates, gap, upTo}
 use Rattle.scanner.specs.declared.Gap.{Gap}
 use Rattle.scanner.specs.declared.Gap.the-variants.{UpTo, BadByte}
-use Rattle.scanner.specs.Answers.{Commented}
+use Rattle.scanner.specs.Answers.{gapOf, Commented}
 use Rattle.scanner.proofs.Runs.{rest}
 
 -- What is left of a gap from a place on, in a comment or not.
@@ -78,6 +78,6 @@ module _ (text : List ℕ) (start place : ℕ) (at : Left false text start place
             let k = subst (λ (x : Gap). Commented text (place + 1) x) e comment in
             record { from = omega (arith, at .from, k .0); left = opened ∙ k .1 }
 
-        pub comment-bad : r ≡ BadByte p → badByte p ≡ gap false (drop start text) start
+        pub comment-bad : r ≡ BadByte p → gapOf r ≡ gap false (drop start text) start
         unfolding Commented
-        comment-bad e = sym (opened ∙ subst (λ (x : Gap). Commented text (place + 1) x) e comment)
+        comment-bad e = ap gapOf e ∙ sym (opened ∙ subst (λ (x : Gap). Commented text (place + 1) x) e comment)

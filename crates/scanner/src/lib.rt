@@ -78,18 +78,14 @@ pub fn skip_gap(text: &[u8], at: usize) -> Gap
         if is_separator(b) {
             place += 1;
         } else {
-            if b == b'!' {
-                match comment_end(text, place + 1) {
-                    Gap::UpTo(after) => {
-                        place = after;
-                    }
-                    Gap::BadByte(bad) => {
-                        return Gap::BadByte(bad);
-                    }
-                }
-            } else {
+            if b != b'!' {
                 return Gap::UpTo(place);
             }
+            let g = comment_end(text, place + 1);
+            let Gap::UpTo(after) = g else {
+                return g;
+            };
+            place = after;
         }
     }
     Gap::UpTo(place)

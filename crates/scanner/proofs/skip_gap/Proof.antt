@@ -31,29 +31,29 @@ loop-less c = search needs
 loop-again : tie.Need-loop-again Inv-loop μ-loop
 loop-again c = search (needs, separated)
 
+returns : tie.Need-returns Inv-loop μ-loop
+returns c = search (needs, ends)
+
 add-comment-end : tie.Need-add-comment-end Inv-loop μ-loop
 add-comment-end c = search needs
 
 comment-end-requires : tie.Need-comment-end-requires Inv-loop μ-loop
 comment-end-requires c κs = search needs
 
-enum-known-after : tie.Need-enum-known-after Inv-loop μ-loop
-enum-known-after c = search needs
+enum-known-g : tie.Need-enum-known-g Inv-loop μ-loop
+enum-known-g c = search needs
+
+enum-told : tie.Need-enum-told Inv-loop μ-loop
+enum-told c = search needs
+
+returns-2 : tie.Need-returns-2 Inv-loop μ-loop
+returns-2 c = search (needs, comment-bad)
 
 loop-less-2 : tie.Need-loop-less-2 Inv-loop μ-loop
 loop-less-2 c = search (needs, comment-less)
 
 loop-again-2 : tie.Need-loop-again-2 Inv-loop μ-loop
 loop-again-2 c = search (needs, comment-passed)
-
-enum-known-bad : tie.Need-enum-known-bad Inv-loop μ-loop
-enum-known-bad c = search needs
-
-returns : tie.Need-returns Inv-loop μ-loop
-returns c = search (needs, comment-bad)
-
-returns-2 : tie.Need-returns-2 Inv-loop μ-loop
-returns-2 c = search (needs, ends)
 
 returns-3 : tie.Need-returns-3 Inv-loop μ-loop
 returns-3 c = search (needs, gap-out)
@@ -70,12 +70,12 @@ skip-gap-spec =
     add-place
     loop-less
     loop-again
+    returns
     add-comment-end
     comment-end-requires
-    enum-known-after
+    enum-known-g
+    enum-told
+    returns-2
     loop-less-2
     loop-again-2
-    enum-known-bad
-    returns
-    returns-2
     returns-3)
