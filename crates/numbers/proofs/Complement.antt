@@ -34,29 +34,26 @@ word-less x k s h =
     rw (toZ-pos w64 x (omega (arith, s .fits)))
     (sub-cases (λ v. SFits w64 v) x (suc k) (λ g. record { sfits = omega arith }) (λ g. record { sfits = omega (arith, s .fits) }))
 
--- v is the number of the word x, and an i32
-pub record High (x : ℕ) (v : ℤ) : Type 0 where
-  pub small : SFits w32 v
-  pub same : toZ w32 (ofZ w32 v) ≡ toZ w32 x
+module _ (x : ℕ) (h : 2147483648 ≤ x) (s : Fits w32 x) where
+  -- a word of the upper half less a number of at most 32 bits and one, but not much smaller, is an i32
+  pub high-fits : (k : ℕ) → 2147483647 ≤ k → k ≤ 4294967295 → SFits w32 (read (toZ w64 x +ℤ negsuc k))
+  high-fits k low high =
+      rw (back (toZ w64 x +ℤ negsuc k) (word-less x k s (omega arith)), toZ-pos w64 x (omega (arith, s .fits)))
+      (sub-cases (λ v. SFits w32 v) x (suc k) (λ g. record { sfits = omega arith }) (λ g. record { sfits = omega (arith, s .fits) }))
 
-pub high : (x : ℕ) → 2147483648 ≤ x → Fits w32 x → High x (read (toZ w64 x -ℤ pos 4294967296))
-high x h s =
-    rw (back (toZ w64 x -ℤ pos 4294967296) (word-less x 4294967295 s (omega arith)), toZ-pos w64 x (omega (arith, s .fits)))
-    (sub-cases (λ v. High x v) x 4294967296
-    (λ g. made (negsuc (4294967296 - suc x)) (record { sfits = omega arith })
-    (toZ-cases (λ z. negsuc (4294967296 - suc x) ≡ z) x 2147483648 4294967296 (λ k. absurd (omega arith)) (λ k. refl)))
-    (λ g. absurd (omega (arith, s .fits))))
-  where
-    made : (v : ℤ) → SFits w32 v → v ≡ toZ w32 x → High x v
-    made v f e = record { small = f; same = back32 v f ∙ e }
+  pub high : toZ w32 (ofZ w32 (read (toZ w64 x -ℤ pos 4294967296))) ≡ toZ w32 x
+  high =
+      back32 (read (toZ w64 x -ℤ pos 4294967296)) (high-fits 4294967295 (omega arith) (omega arith))
+      ∙ rw (back (toZ w64 x -ℤ pos 4294967296) (word-less x 4294967295 s (omega arith)), toZ-pos w64 x (omega (arith, s .fits)))
+      (sub-cases (λ v. v ≡ toZ w32 x) x 4294967296
+      (λ g. toZ-cases (λ z. negsuc (4294967296 - suc x) ≡ z) x 2147483648 4294967296 (λ k. absurd (omega arith)) (λ k. refl))
+      (λ g. absurd (omega (arith, s .fits))))
 
 -- ---- to a word
 
--- v is no less than 0, and has the bits of z
-pub record Bits (z v : ℤ) : Type 0 where
-  pub non-neg : T (nonNeg v)
-  pub small : Fits w32 (natAbs v)
-  pub same : natAbs v ≡ ofZ w32 z
+-- v is a word
+abbrev pub Word : ℤ → Type 0
+Word v = T (nonNeg v) × Fits w32 (natAbs v)
 
 module _ (z : ℤ) (s : SFits w32 z) where
   pub wide-fits : SFits w64 (toZ w32 (ofZ w32 z))
@@ -76,22 +73,38 @@ module _ (z : ℤ) (s : SFits w32 z) where
   pub word-more : (k : ℕ) → k ≤ 8589934592 → SFits w64 (read (toZ w32 (ofZ w32 z)) +ℤ pos k)
   word-more k h = rw wide-read (sum-fits k h)
 
-  pub neg-bits : ltZ (toZ w32 (ofZ w32 z)) (pos 0) ≡ true → Bits z (read (read (toZ w32 (ofZ w32 z)) +ℤ pos 4294967296))
-  neg-bits t = rw (wide-read, back (z +ℤ pos 4294967296) (sum-fits 4294967296 (omega arith))) (go z s (rw (back32 z s) at t))
+  -- a number below 0 and one of 32 bits and one, but not much smaller, make a word
+  pub neg-fits : (k : ℕ) → ltZ (toZ w32 (ofZ w32 z)) (pos 0) ≡ true → 2147483648 ≤ k → k ≤ 4294967296
+      → Word (read (read (toZ w32 (ofZ w32 z)) +ℤ pos k))
+  neg-fits k t low high = rw (wide-read, back (z +ℤ pos k) (sum-fits k (omega arith))) (go z s (rw (back32 z s) at t))
     where
-      go : (z : ℤ) → SFits w32 z → ltZ z (pos 0) ≡ true → Bits z (z +ℤ pos 4294967296)
+      go : (z : ℤ) → SFits w32 z → ltZ z (pos 0) ≡ true → Word (z +ℤ pos k)
       go (pos n) s t = absurd (omega (arith, ltb-true n 0 t))
       go (negsuc n) s t =
-          sub-cases (λ v. Bits (negsuc n) v) 4294967296 (suc n)
-          (λ g. absurd (omega (arith, s .sfits)))
-          (λ g. record { non-neg = tt; small = record { fits = omega arith }; same = refl })
+          sub-cases (λ v. Word v) k (suc n) (λ g. absurd (omega (arith, s .sfits))) (λ g. (tt, record { fits = omega arith }))
 
-  pub pos-bits : ltZ (toZ w32 (ofZ w32 z)) (pos 0) ≡ false → Bits z (toZ w32 (ofZ w32 z))
-  pos-bits t = rw (back32 z s) (go z s (rw (back32 z s) at t))
+  pub neg-bits : ltZ (toZ w32 (ofZ w32 z)) (pos 0) ≡ true → natAbs (read (read (toZ w32 (ofZ w32 z)) +ℤ pos 4294967296)) ≡ ofZ w32 z
+  neg-bits t = rw (wide-read, back (z +ℤ pos 4294967296) (sum-fits 4294967296 (omega arith))) (go z s (rw (back32 z s) at t))
     where
-      go : (z : ℤ) → SFits w32 z → ltZ z (pos 0) ≡ false → Bits z z
-      go (pos n) s t = record { non-neg = tt; small = record { fits = omega (arith, s .sfits) }; same = refl }
-      go (negsuc n) s t = absurd (subst T t tt)
+      go : (z : ℤ) → SFits w32 z → ltZ z (pos 0) ≡ true → natAbs (z +ℤ pos 4294967296) ≡ ofZ w32 z
+      go (pos n) s t = absurd (omega (arith, ltb-true n 0 t))
+      go (negsuc n) s t =
+          sub-cases (λ v. natAbs v ≡ ofZ w32 (negsuc n)) 4294967296 (suc n) (λ g. absurd (omega (arith, s .sfits))) (λ g. refl)
+
+  module _ (t : ltZ (toZ w32 (ofZ w32 z)) (pos 0) ≡ false) where
+    pub pos-fits : Word (toZ w32 (ofZ w32 z))
+    pos-fits = rw (back32 z s) (go z s (rw (back32 z s) at t))
+      where
+        go : (z : ℤ) → SFits w32 z → ltZ z (pos 0) ≡ false → Word z
+        go (pos n) s t = (tt, record { fits = omega (arith, s .sfits) })
+        go (negsuc n) s t = absurd (subst T t tt)
+
+    pub pos-bits : natAbs (toZ w32 (ofZ w32 z)) ≡ ofZ w32 z
+    pos-bits = rw (back32 z s) (go z (rw (back32 z s) at t))
+      where
+        go : (z : ℤ) → ltZ z (pos 0) ≡ false → natAbs z ≡ ofZ w32 z
+        go (pos n) t = refl
+        go (negsuc n) t = absurd (subst T t tt)
 
 -- ---- there and back
 

@@ -1,4 +1,4 @@
-use Rattle.numbers.proofs.Complement.{word-less, high}
+use Rattle.numbers.proofs.Complement.{word-less, high-fits, high}
 use borrow.Author.Needs.{needs}
 use Rattle.numbers.proofs.of_word.Statement.{statement}
 use Rattle.numbers.proofs.of_word.Tie as tie
@@ -16,10 +16,10 @@ sub-result : tie.Need-sub-result
 sub-result c = search (needs, word-less)
 
 cast-result-3 : tie.Need-cast-result-3
-cast-result-3 c = high _ (c .if1 .left) (c .before .fits .x) .small
+cast-result-3 c = search (needs, high-fits)
 
 returns-2 : tie.Need-returns-2
-returns-2 c = high _ (c .if1 .left) (c .before .fits .x) .same
+returns-2 c = search (needs, high)
 
 pub of-word-spec : {M : Type 1} → statement M
 of-word-spec =

@@ -1,4 +1,5 @@
-use Rattle.numbers.proofs.Complement.{wide-fits, word-more, neg-bits, pos-bits}
+use native.Mathlib.Omega.{arith}
+use Rattle.numbers.proofs.Complement.{wide-fits, word-more, neg-fits, neg-bits, pos-fits, pos-bits}
 use borrow.Author.Needs.{needs}
 use Rattle.numbers.proofs.to_word.Statement.{statement}
 use Rattle.numbers.proofs.to_word.Tie as tie
@@ -10,16 +11,16 @@ add-result : tie.Need-add-result
 add-result c = search (needs, word-more)
 
 cast-result-2 : tie.Need-cast-result-2
-cast-result-2 c = let q = neg-bits _ (c .before .fits .z) (c .if1 .taken) in (q .non-neg, q .small)
+cast-result-2 c = neg-fits _ (c .before .fits .z) _ (c .if1 .taken) (omega arith) (omega arith)
 
 returns : tie.Need-returns
-returns c = neg-bits _ (c .before .fits .z) (c .if1 .taken) .same
+returns c = search (needs, neg-bits)
 
 cast-result-3 : tie.Need-cast-result-3
-cast-result-3 c = let q = pos-bits _ (c .before .fits .z) (c .if1 .left) in (q .non-neg, q .small)
+cast-result-3 c = pos-fits _ (c .before .fits .z) (c .if1 .left)
 
 returns-2 : tie.Need-returns-2
-returns-2 c = pos-bits _ (c .before .fits .z) (c .if1 .left) .same
+returns-2 c = search (needs, pos-bits)
 
 pub to-word-spec : {M : Type 1} → statement M
 to-word-spec =
