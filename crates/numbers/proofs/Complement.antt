@@ -35,7 +35,7 @@ word-less x k s h =
     (sub-cases (λ v. SFits w64 v) x (suc k) (λ g. record { sfits = omega arith }) (λ g. record { sfits = omega (arith, s .fits) }))
 
 module _ (x : ℕ) (h : 2147483648 ≤ x) (s : Fits w32 x) where
-  -- a word of the upper half less a number of at most 32 bits and one, but not much smaller, is an i32
+  -- a word of the upper half less any number from 2^31 to 2^32 is an i32
   pub high-fits : (k : ℕ) → 2147483647 ≤ k → k ≤ 4294967295 → SFits w32 (read (toZ w64 x +ℤ negsuc k))
   high-fits k low high =
       rw (back (toZ w64 x +ℤ negsuc k) (word-less x k s (omega arith)), toZ-pos w64 x (omega (arith, s .fits)))
@@ -73,38 +73,37 @@ module _ (z : ℤ) (s : SFits w32 z) where
   pub word-more : (k : ℕ) → k ≤ 8589934592 → SFits w64 (read (toZ w32 (ofZ w32 z)) +ℤ pos k)
   word-more k h = rw wide-read (sum-fits k h)
 
-  -- a number below 0 and one of 32 bits and one, but not much smaller, make a word
+  -- a number below 0, and what is left when it is added to k
+  negative : (P : ℤ → ℤ → Type 0) (k : ℕ) → 2147483648 ≤ k → k ≤ 4294967296 → ((n : ℕ) → n < 2147483648 → P (negsuc n) (pos (k - suc n)))
+      → ltZ (toZ w32 (ofZ w32 z)) (pos 0) ≡ true → P z (read (read (toZ w32 (ofZ w32 z)) +ℤ pos k))
+  negative P k low high each t = rw (wide-read, back (z +ℤ pos k) (sum-fits k (omega arith))) (go z s (rw (back32 z s) at t))
+    where
+      go : (z : ℤ) → SFits w32 z → ltZ z (pos 0) ≡ true → P z (z +ℤ pos k)
+      go (pos n) s t = absurd (omega (arith, ltb-true n 0 t))
+      go (negsuc n) s t =
+          sub-cases (P (negsuc n)) k (suc n) (λ g. absurd (omega (arith, s .sfits))) (λ g. each n (omega (arith, s .sfits)))
+
   pub neg-fits : (k : ℕ) → ltZ (toZ w32 (ofZ w32 z)) (pos 0) ≡ true → 2147483648 ≤ k → k ≤ 4294967296
       → Word (read (read (toZ w32 (ofZ w32 z)) +ℤ pos k))
-  neg-fits k t low high = rw (wide-read, back (z +ℤ pos k) (sum-fits k (omega arith))) (go z s (rw (back32 z s) at t))
-    where
-      go : (z : ℤ) → SFits w32 z → ltZ z (pos 0) ≡ true → Word (z +ℤ pos k)
-      go (pos n) s t = absurd (omega (arith, ltb-true n 0 t))
-      go (negsuc n) s t =
-          sub-cases (λ v. Word v) k (suc n) (λ g. absurd (omega (arith, s .sfits))) (λ g. (tt, record { fits = omega arith }))
+  neg-fits k t low high = negative (λ y v. Word v) k low high (λ n h. (tt, record { fits = omega arith })) t
 
   pub neg-bits : ltZ (toZ w32 (ofZ w32 z)) (pos 0) ≡ true → natAbs (read (read (toZ w32 (ofZ w32 z)) +ℤ pos 4294967296)) ≡ ofZ w32 z
-  neg-bits t = rw (wide-read, back (z +ℤ pos 4294967296) (sum-fits 4294967296 (omega arith))) (go z s (rw (back32 z s) at t))
+  neg-bits = negative (λ y v. natAbs v ≡ ofZ w32 y) 4294967296 (omega arith) (omega arith) (λ n h. refl)
+
+  -- a number that is none
+  positive : (P : ℤ → ℤ → Type 0) → ((n : ℕ) → n < 2147483648 → P (pos n) (pos n)) → ltZ (toZ w32 (ofZ w32 z)) (pos 0) ≡ false
+      → P z (toZ w32 (ofZ w32 z))
+  positive P each t = rw (back32 z s) (go z s (rw (back32 z s) at t))
     where
-      go : (z : ℤ) → SFits w32 z → ltZ z (pos 0) ≡ true → natAbs (z +ℤ pos 4294967296) ≡ ofZ w32 z
-      go (pos n) s t = absurd (omega (arith, ltb-true n 0 t))
-      go (negsuc n) s t =
-          sub-cases (λ v. natAbs v ≡ ofZ w32 (negsuc n)) 4294967296 (suc n) (λ g. absurd (omega (arith, s .sfits))) (λ g. refl)
+      go : (z : ℤ) → SFits w32 z → ltZ z (pos 0) ≡ false → P z z
+      go (pos n) s t = each n (omega (arith, s .sfits))
+      go (negsuc n) s t = absurd (subst T t tt)
 
-  module _ (t : ltZ (toZ w32 (ofZ w32 z)) (pos 0) ≡ false) where
-    pub pos-fits : Word (toZ w32 (ofZ w32 z))
-    pos-fits = rw (back32 z s) (go z s (rw (back32 z s) at t))
-      where
-        go : (z : ℤ) → SFits w32 z → ltZ z (pos 0) ≡ false → Word z
-        go (pos n) s t = (tt, record { fits = omega (arith, s .sfits) })
-        go (negsuc n) s t = absurd (subst T t tt)
+  pub pos-fits : ltZ (toZ w32 (ofZ w32 z)) (pos 0) ≡ false → Word (toZ w32 (ofZ w32 z))
+  pos-fits = positive (λ y v. Word v) (λ n h. (tt, record { fits = omega arith }))
 
-    pub pos-bits : natAbs (toZ w32 (ofZ w32 z)) ≡ ofZ w32 z
-    pos-bits = rw (back32 z s) (go z (rw (back32 z s) at t))
-      where
-        go : (z : ℤ) → ltZ z (pos 0) ≡ false → natAbs z ≡ ofZ w32 z
-        go (pos n) t = refl
-        go (negsuc n) t = absurd (subst T t tt)
+  pub pos-bits : ltZ (toZ w32 (ofZ w32 z)) (pos 0) ≡ false → natAbs (toZ w32 (ofZ w32 z)) ≡ ofZ w32 z
+  pos-bits = positive (λ y v. natAbs v ≡ ofZ w32 y) (λ n h. refl)
 
 -- ---- there and back
 

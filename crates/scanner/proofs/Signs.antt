@@ -47,24 +47,17 @@ sign-two [] s e h = absurd (h e)
 sign-two (b ∷ []) s e h = absurd (h e)
 sign-two (b ∷ c ∷ r) s e h = rw (← e, scanSign) (sym (picked s (λ x. word x 2 0) _ h))
 
-module _ (text : List ℕ) (p s : ℕ) (some : 0 < length text) (e : p ≡ pairSort text) (z : p ≡ 0) (i : s ≡ signSort (getD text 0 0 ∷ [])) where
-  sign-one : (s ≡ 0 → ⊥) → word s 1 0 ≡ scanSign text
-  unfolding pairSort scanSign
-  sign-one h = go text some e i
-    where
-      go : (text : List ℕ) → 0 < length text → p ≡ pairSort text → s ≡ signSort (getD text 0 0 ∷ []) → word s 1 0 ≡ scanSign text
-      go [] g e i = absurd (omega arith)
-      go (b ∷ []) g e i = rw (← i, scanSign) (sym (picked s (λ x. word x 1 0) _ h))
-      go (b ∷ c ∷ r) g e i = rw (sym e ∙ z, scanSign) (rw (← i) (sym (picked s (λ x. word x 1 0) _ h)))
+sign-one : (text : List ℕ) (p s : ℕ) → 0 < length text → p ≡ pairSort text → p ≡ 0 → s ≡ signSort (getD text 0 0 ∷ []) → (s ≡ 0 → ⊥) → word s 1 0 ≡ scanSign text
+unfolding pairSort scanSign
+sign-one [] p s g e z i h = absurd (omega arith)
+sign-one (b ∷ []) p s g e z i h = rw (← i, scanSign) (sym (picked s (λ x. word x 1 0) _ h))
+sign-one (b ∷ c ∷ r) p s g e z i h = rw (sym e ∙ z, scanSign) (rw (← i) (sym (picked s (λ x. word x 1 0) _ h)))
 
-  sign-none : s ≡ 0 → refused 5 0 ≡ scanSign text
-  unfolding pairSort scanSign
-  sign-none h = go text some e i
-    where
-      go : (text : List ℕ) → 0 < length text → p ≡ pairSort text → s ≡ signSort (getD text 0 0 ∷ []) → refused 5 0 ≡ scanSign text
-      go [] g e i = absurd (omega arith)
-      go (b ∷ []) g e i = rw (sym i ∙ h, scanSign) (rw (sym i ∙ h))
-      go (b ∷ c ∷ r) g e i = rw (sym e ∙ z, scanSign) (rw (sym i ∙ h))
+sign-none : (text : List ℕ) (p s : ℕ) → 0 < length text → p ≡ pairSort text → p ≡ 0 → s ≡ signSort (getD text 0 0 ∷ []) → s ≡ 0 → refused 5 0 ≡ scanSign text
+unfolding pairSort scanSign
+sign-none [] p s g e z i h = absurd (omega arith)
+sign-none (b ∷ []) p s g e z i h = rw (sym i ∙ h, scanSign) (rw (sym i ∙ h))
+sign-none (b ∷ c ∷ r) p s g e z i h = rw (sym e ∙ z, scanSign) (rw (sym i ∙ h))
 
 -- ---- the answers, given that a sign begins with a permitted byte
 permitted-two : (text : List ℕ) → (pairSort text ≡ 0 → ⊥) → permitted (getD text 0 0) ≡ true
