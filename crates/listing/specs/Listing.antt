@@ -3,17 +3,17 @@ use mathlib.Core.Path.{_≡_}
 use mathlib.Core.Bool.{true, false}
 use mathlib.Core.List.{List, [], _∷_}
 use mathlib.Core.Option.{Option, none, some}
-use Prim.Native.Nat.{ℕ, _+_, _*_, _/_, _%_}
+use Prim.Native.Nat.{ℕ, _+_, _*_, _%_}
 use lib.Dec.{ltb}
-use lib.ListN.{length, set}
+use lib.ListN.{length}
+use Rattle.cells.specs.Words.{replaced, bytesOf}
 use Rattle.paper.specs.Words.{Word, Refusal, Reading, reading, Kind, aName, aReserved, aNumber, aString, aSign, kindOf}
 use Rattle.words.specs.declared.Step.{Step}
 use Rattle.words.specs.declared.Step.the-variants as steps
 
--- A number as four bytes at a place, low byte first.
-unfoldable pub put4 : List ℕ → (at v : ℕ) → List ℕ
-put4 out at v =
-    set (set (set (set out at (v % 256)) (at + 1) (v / 256 % 256)) (at + 2) (v / 65536 % 256)) (at + 3) (v / 16777216 % 256)
+-- A number as word i of a slice: four bytes, low byte first.
+unfoldable pub put4 : List ℕ → (i v : ℕ) → List ℕ
+put4 out i v = replaced out (i * 4) (bytesOf (v % 4294967296 ∷ [])) 4
 
 abbrev pub kindNumber : Kind → ℕ
 kindNumber aName = 0
@@ -22,12 +22,12 @@ kindNumber aNumber = 2
 kindNumber aString = 3
 kindNumber aSign = 4
 
--- An entry of twelve bytes: kind, place and length; none where there is no room.
+-- An entry of three words: kind, place and length; none where there is no room.
 unfoldable pub entered : List ℕ → (index sort place length : ℕ) → List ℕ
 entered out index sort place n =
     elim (ltb (length out) (index * 12 + 12)) [
       | true ↦ out
-      | false ↦ put4 (put4 (put4 out (index * 12) (kindNumber (kindOf sort))) (index * 12 + 4) place) (index * 12 + 8) n
+      | false ↦ put4 (put4 (put4 out (index * 3) (kindNumber (kindOf sort))) (index * 3 + 1) place) (index * 3 + 2) n
     ]
 
 -- The entries of words, the first of which has an index.
@@ -62,7 +62,7 @@ pub record Listed·all (text before after : List ℕ) (words refusal offset : �
 
 -- The record of a listing: how many words, the refusal's number and its place.
 unfoldable pub summary : List ℕ → Reading → List ℕ
-summary out r = put4 (put4 (put4 out 0 (length (r .words))) 4 (refusalNumber (r .refusal))) 8 (refusalOffset (r .refusal))
+summary out r = put4 (put4 (put4 out 0 (length (r .words))) 1 (refusalNumber (r .refusal))) 2 (refusalOffset (r .refusal))
 
 pub record Exported (text out rec : List ℕ) (r : ℕ) (out′ rec′ : List ℕ) : Type 0 where
   pub result : r ≡ elim (ltb (length rec) 12) [ true ↦ 0 | false ↦ 1 ]

@@ -2,19 +2,17 @@
 use words::Cursor;
 use words::Step;
 ghost use mathlib.Core.Path.{_≡_};
-ghost use Prim.Native.Nat.{_+_, _≤_};
+ghost use Prim.Native.Nat.{_+_, _*_, _≤_};
 ghost use lib.ListN.{length};
 ghost use Rattle.paper.specs.Words.{kindOf};
 ghost use Rattle.listing.specs.Listing.{put4, kindNumber, entered, Ended, Listed·all, Exported};
 
-fn put32(out: &mut [u8], at: usize, v: usize)
-    requires { ⌜ at + 4 ≤ length (now out) ⌝ }
-    ensures { λ _. ⌜ now (out .exit) ≡ put4 (now (out .entry)) at v ⌝ }
+// Makes the word at index i be the low 32 bits of v.
+fn put32(out: &mut [u8], i: usize, v: usize)
+    requires { ⌜ i * 4 + 4 ≤ length (now out) ⌝ }
+    ensures { λ _. ⌜ now (out .exit) ≡ put4 (now (out .entry)) i v ⌝ }
 {
-    out[at] = (v % 256) as u8;
-    out[at + 1] = (v / 256 % 256) as u8;
-    out[at + 2] = (v / 65536 % 256) as u8;
-    out[at + 3] = (v / 16777216 % 256) as u8;
+    cells::put(out, i, (v % 4294967296) as u32);
 }
 
 // Name 0, reserved 1, number 2, string 3, sign 4.
@@ -40,13 +38,13 @@ fn kind_number(sort: u32) -> usize
 fn put_entry(out: &mut [u8], index: u32, sort: u32, place: usize, length: usize)
     ensures { λ _. ⌜ now (out .exit) ≡ entered (now (out .entry)) index sort place length ⌝ }
 {
-    let at = (index as usize) * 12;
-    if out.len() < at + 12 {
+    let i = (index as usize) * 3;
+    if out.len() < i * 4 + 12 {
         return;
     }
-    put32(out, at, kind_number(sort));
-    put32(out, at + 4, place);
-    put32(out, at + 8, length);
+    put32(out, i, kind_number(sort));
+    put32(out, i + 1, place);
+    put32(out, i + 2, length);
 }
 
 // How a listing ends: how many words there are, and the refusal, 0 at 0 where there is none.
@@ -99,7 +97,7 @@ pub extern "C" fn rapid_list(text: &[u8], out: &mut [u8], answer: &mut [u8]) -> 
     }
     let l = list(text, out);
     put32(answer, 0, l.words as usize);
-    put32(answer, 4, l.refusal as usize);
-    put32(answer, 8, l.offset);
+    put32(answer, 1, l.refusal as usize);
+    put32(answer, 2, l.offset);
     1
 }

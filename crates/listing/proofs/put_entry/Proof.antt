@@ -4,8 +4,11 @@ use borrow.Author.Needs.{needs}
 use Rattle.listing.proofs.put_entry.Statement.{statement}
 use Rattle.listing.proofs.put_entry.Tie as tie
 
-mul-at : tie.Need-mul-at
-mul-at c = search needs
+mul-i : tie.Need-mul-i
+mul-i c = search needs
+
+mul-if1 : tie.Need-mul-if1
+mul-if1 c = search needs
 
 add-if1 : tie.Need-add-if1
 add-if1 c = search needs
@@ -41,7 +44,8 @@ pub put-entry-spec : {M : Type 1} → statement M
 put-entry-spec =
     tie.close
     (tie.spec
-    mul-at
+    mul-i
+    mul-if1
     add-if1
     returns
     kind-number-requires
