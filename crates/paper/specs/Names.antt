@@ -81,7 +81,7 @@ wrongName (errorNumber n) = 12
 
 -- ---- words
 unfoldable pub noWord : Word
-noWord = record { sort = NOTHING; place = 0; length = 0; value = 0; covers = [] }
+noWord = record { sort = NOTHING; place = 0; covers = []; value = 0 }
 
 unfoldable pub nth : List Word → ℕ → Word
 nth W i = getD W i noWord

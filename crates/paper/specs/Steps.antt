@@ -97,7 +97,7 @@ routineOf (some k) = k
 
 module _ (W : List Word) where
   unfoldable pub characters : ℕ → List ℕ
-  characters i = unquoted (take (nth W i .length - 2) (drop 1 (nth W i .covers)))
+  characters i = unquoted (take (length (nth W i .covers) - 2) (drop 1 (nth W i .covers)))
 
   unfoldable pub spotOf : Scopes → Target → Spot
   spotOf S t =

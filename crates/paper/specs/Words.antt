@@ -15,6 +15,18 @@ textLimit = 32768
 abbrev pub wordLimit : ℕ
 wordLimit = 8192
 
+-- "Name: [..] at most 32."
+abbrev pub nameLimit : ℕ
+nameLimit = 32
+
+-- "Number: decimal digits, value at most 8,388,608."
+abbrev pub largestNumber : ℕ
+largestNumber = 8388608
+
+-- "String: [..] at most 80 characters"
+abbrev pub stringLimit : ℕ
+stringLimit = 80
+
 -- ---- bytes
 unfoldable pub between : ℕ → ℕ → ℕ → Bool
 between low high b = elim (ltb b low) [ true ↦ false | false ↦ leb b high ]
@@ -50,9 +62,9 @@ unfoldable pub barredInString : ℕ → Bool
 barredInString b = eqb b 13 || eqb b 10 || eqb b 92
 
 -- How many bytes from the first on are such bytes.
-unfoldable pub run : (ℕ → Bool) → List ℕ → ℕ
-run such [] = 0
-run such (b ∷ r) = elim (such b) [ true ↦ suc (run such r) | false ↦ 0 ]
+unfoldable pub leading : (such : ℕ → Bool) → List ℕ → ℕ
+leading such [] = 0
+leading such (b ∷ r) = elim (such b) [ true ↦ suc (leading such r) | false ↦ 0 ]
 
 -- ---- one word
 -- A word: its sort, its length in bytes and its value (of a number; else 0). Or a refusal: its number, and how many bytes after the word's start.
@@ -66,22 +78,22 @@ malformed = refused 5 0
 -- "Name: an ASCII letter, then letters, digits, `_`; at most 32."
 unfoldable pub scanName : List ℕ → Scan
 scanName l =
-    let n = run inName l in
-    elim (ltb 32 n) [ true ↦ malformed | false ↦ word (nameSort (map folded (take n l))) n 0 ]
+    let n = leading inName l in
+    elim (ltb nameLimit n) [ true ↦ malformed | false ↦ word (nameSort (map folded (take n l))) n 0 ]
 
 -- The number that the digits write, after digits that wrote v.
 unfoldable pub valueOf : List ℕ → ℕ → ℕ
 valueOf [] v = v
 valueOf (b ∷ r) v = valueOf r (v * 10 + (b - 48))
 
--- "Number: decimal digits, value at most 8,388,608."
-unfoldable pub scanNumber : List ℕ → Scan
-scanNumber l =
-    let n = run digit l in
+-- "Number: decimal digits, value at most [..]"; "A letter, `_` or `.` directly after it makes it malformed."
+unfoldable pub scanNumber : (largest : ℕ) → List ℕ → Scan
+scanNumber largest l =
+    let n = leading digit l in
     let v = valueOf (take n l) 0 in
     elim (spoilsNumber (getD l n 0)) [
       | true ↦ malformed
-      | false ↦ elim (ltb 8388608 v) [ true ↦ refused 6 0 | false ↦ word NUMBER n v ]
+      | false ↦ elim (ltb largest v) [ true ↦ refused 6 0 | false ↦ word NUMBER n v ]
     ]
 
 -- "String: between `"`, at most 80 characters, `""` meaning one quote and counting once; no CR or LF, no backslash."
@@ -108,9 +120,10 @@ stringEnd room false (b ∷ r) n =
 -- A byte in a good string that is permitted nowhere is refused where it stands.
 unfoldable pub scanString : List ℕ → Scan
 scanString l =
-    elim (stringEnd 80 false (drop 1 l) 1) [
+    elim (stringEnd stringLimit false (drop 1 l) 1) [
       | none ↦ malformed
-      | some n ↦ elim (ltb (run permittedInside l) n) [ true ↦ refused 4 (run permittedInside l) | false ↦ word STRING n 0 ]
+      | some n ↦
+          elim (ltb (leading permittedInside l) n) [ true ↦ refused 4 (leading permittedInside l) | false ↦ word STRING n 0 ]
     ]
 
 -- "Signs: [..], longest first. Any other start of a word [..] is malformed."
@@ -121,14 +134,14 @@ scanSign l =
       | zero ↦ elim (signSort (take 1 l)) [ suc s ↦ word (suc s) 1 0 | zero ↦ malformed ]
     ]
 
--- The word that begins with the byte b.
-unfoldable pub scan : ℕ → List ℕ → Scan
-scan b l =
+-- The word that begins with the byte b, where the largest number is as given.
+unfoldable pub scan : (largest : ℕ) → ℕ → List ℕ → Scan
+scan largest b l =
     elim (permitted b) [
       | false ↦ refused 4 0
       | true ↦ elim (letter b) [
         | true ↦ scanName l
-        | false ↦ elim (digit b) [ true ↦ scanNumber l | false ↦ elim (eqb b 34) [ true ↦ scanString l | false ↦ scanSign l ] ]
+        | false ↦ elim (digit b) [ true ↦ scanNumber largest l | false ↦ elim (eqb b 34) [ true ↦ scanString l | false ↦ scanSign l ] ]
       ]
     ]
 
@@ -156,10 +169,14 @@ gap true (b ∷ r) place =
 pub record Word : Type 0 where
   pub sort : ℕ
   pub place : ℕ
-  pub length : ℕ
-  pub value : ℕ
   -- the part of the text that it covers
   pub covers : List ℕ
+  -- of a number; else 0
+  pub value : ℕ
+
+-- The place where a word has ended.
+abbrev pub placeAfter : Word → ℕ
+placeAfter w = w .place + length (w .covers)
 
 pub record Refusal : Type 0 where
   pub number : ℕ
@@ -171,26 +188,26 @@ pub data Next : Type 0 where
   ended : Next
   refusal : Refusal → Next
 
-abbrev pub refuse : ℕ → ℕ → Next
-refuse number offset = refusal (record { number = number; offset = offset })
+abbrev pub refusalAt : (number offset : ℕ) → Next
+refusalAt number offset = refusal (record { number = number; offset = offset })
 
 -- The word scanned at a place. "more than 8,192 words: word 8,193": where the text is full, a word is refused, unless it is already refused where it starts.
 unfoldable pub scanned : (full : Bool) → (place : ℕ) → List ℕ → Scan → Next
 scanned false place l (word sort n v) =
-    next (record { sort = sort; place = place; length = n; value = v; covers = take n l })
-scanned true place l (word sort n v) = refuse 7 place
-scanned false place l (refused number after) = refuse number (place + after)
-scanned true place l (refused number after) = elim (eqb after 0) [ true ↦ refuse number place | false ↦ refuse 7 place ]
+    next (record { sort = sort; place = place; covers = take n l; value = v })
+scanned true place l (word sort n v) = refusalAt 7 place
+scanned false place l (refused number after) = refusalAt number (place + after)
+scanned true place l (refused number after) = elim (eqb after 0) [ true ↦ refusalAt number place | false ↦ refusalAt 7 place ]
 
 -- At a place where a word starts, or at the end.
 unfoldable pub wordAt : (full : Bool) → (place : ℕ) → List ℕ → Next
 wordAt full place [] = ended
-wordAt full place (b ∷ r) = scanned full place (b ∷ r) (scan b (b ∷ r))
+wordAt full place (b ∷ r) = scanned full place (b ∷ r) (scan largestNumber b (b ∷ r))
 
 -- The next word of a text, of which `l` is left from `place` on.
 unfoldable pub following : (full : Bool) → (place : ℕ) → List ℕ → Next
 following full place l =
-    elim (gap false l place) [ badByte p ↦ refuse 4 p | upTo p ↦ wordAt full p (drop (p - place) l) ]
+    elim (gap false l place) [ badByte p ↦ refusalAt 4 p | upTo p ↦ wordAt full p (drop (p - place) l) ]
 
 -- The words of a text in order, and its first refusal of 3 to 7.
 pub record Reading : Type 0 where
@@ -210,7 +227,7 @@ readFrom (suc bytes) words place l =
     elim (following (eqb words 0) place l) [
       | ended ↦ noWords none
       | refusal r ↦ noWords (some r)
-      | next w ↦ withWord w (readFrom bytes (words - 1) (w .place + w .length) (drop (w .place + w .length - place) l))
+      | next w ↦ withWord w (readFrom bytes (words - 1) (placeAfter w) (drop (placeAfter w - place) l))
     ]
 
 -- "Text is at most 32,768 bytes": a longer one has no words.
@@ -243,7 +260,7 @@ pub record Listed : Type 0 where
   pub length : ℕ
 
 unfoldable pub listed : Word → Listed
-listed w = record { kind = kindOf (w .sort); place = w .place; length = w .length }
+listed w = record { kind = kindOf (w .sort); place = w .place; length = length (w .covers) }
 
 -- "the listing ends with the first refusal of 3 to 7, if any"
 unfoldable pub listing : List ℕ → List Listed × Option Refusal
