@@ -7,14 +7,14 @@ use Prim.Native.Nat.{ℕ, suc, _+_, _-_}
 use lib.Dec.{eqb}
 use lib.ListN.{length, take, drop, replicate}
 use lib.IntN.{ℤ, pos}
-use Rattle.paper.specs.Words.{Word}
-use Rattle.paper.specs.Terms.{Ref, ofModule, ofRoutine, Term, literal, Memory}
+use Rattle.paper.specs.Words.{QUOTE, Word}
+use Rattle.paper.specs.Terms.{Ref, ofModule, ofRoutine, Term, literal, errno, stored, elementAt, unary, binary, Memory}
 use Rattle.paper.specs.Trees.{Expr, Target, Simple, firstSimple, assign, assignCall, call, returns, raises, exits, retries, triesNext, writes, reads, Statement, Statements, Arms, Cases, simple, compactIf, fullIf, for, while, test, empty, _then_, noArm, arm, noCase, case}
-use Rattle.paper.specs.Trees.{Routine, Module}
-use Rattle.paper.specs.Names.{DataType, routineIn, arrayIn, variableIn, Scopes, nth, spelled, meaning, enter, termOf}
-use Rattle.paper.specs.Types.{constantValue}
+use Rattle.paper.specs.Trees.{RoutineList, Routine, Module}
+use Rattle.paper.specs.Names.{routineIn, Scopes, nth, spelled, meaning, enter}
+use Rattle.paper.specs.Types.{termOf, constantValue}
 use Rattle.paper.specs.Declarations.{moduleData, routineData, routineScopes, routineFilling}
-use Rattle.paper.specs.Checks.{forsIn, forsInList, forsInArms, forsInCases, isSome}
+use Rattle.paper.specs.Checks.{forsIn, forsInList, forsInArms, forsInCases, isSome, judgeTarget}
 
 -- Where a value goes: a word, or the element of an array.
 pub data Spot : Type 0 where
@@ -41,9 +41,9 @@ pub data Action : Type 0 where
   -- the choice of a TEST
   select : Term → List (List ℤ × ℕ) → (otherwise : ℕ) → Action
   testWhile : Term → (body : ℕ) → Action
-  -- a FOR's head with its first test, and each later test; `loop` is the number of the live loop
-  enterFor : (variable : Ref) → (loop : ℕ) → (from to step : Term) → (body : ℕ) → Action
-  repeatFor : (variable : Ref) → (loop : ℕ) → (body : ℕ) → Action
+  -- a FOR's head with its first test, and each later test; `variable` is the word of its routine that the FOR owns
+  enterFor : (variable : ℕ) → (from to : Term) → (step : Option Term) → (body : ℕ) → Action
+  repeatFor : (variable : ℕ) → (body : ℕ) → Action
   -- the end of a routine's list
   endList : Action
 
@@ -53,10 +53,12 @@ pub record Step : Type 0 where
   pub place : ℕ
   -- the step after the whole statement, where TRYNEXT goes
   pub after : ℕ
+  -- the loops that it stands in, the innermost first, each by the word that its FOR owns
+  pub around : List ℕ
   pub does : Action
 
-unfoldable pub step : (at : ℕ) → (after : ℕ) → Action → List Step
-step i after a = record { name = i; place = i; after = after; does = a } ∷ []
+unfoldable pub step : (at : ℕ) → (around : List ℕ) → (after : ℕ) → Action → List Step
+step i around after a = record { name = i; place = i; after = after; around = around; does = a } ∷ []
 
 -- ---- where a statement begins
 unfoldable pub firstWord : Statement → ℕ
@@ -76,21 +78,18 @@ begin (s then r) after = firstWord s
 unfoldable pub unquoted : List ℕ → List ℕ
 unquoted [] = []
 unquoted (b ∷ []) = b ∷ []
-unquoted (b ∷ c ∷ r) = elim (eqb b 34) [ true ↦ b ∷ unquoted r | false ↦ b ∷ unquoted (c ∷ r) ]
+unquoted (b ∷ c ∷ r) = elim (eqb b QUOTE) [ true ↦ b ∷ unquoted r | false ↦ b ∷ unquoted (c ∷ r) ]
 
--- A loop of a routine's statements has a number by how many loops it stands in; those of its ERROR list count from 16.
-abbrev pub errorLoops : ℕ
-errorLoops = 16
+-- "A target is a name or `name{e}`": no other term is one, so what it would stand for does not matter.
+unfoldable pub spotFor : Term → Spot
+spotFor (stored r) = scalar r
+spotFor (elementAt r n e) = elementOf r n e
+spotFor (literal z) = scalar (ofModule 0)
+spotFor errno = scalar (ofModule 0)
+spotFor (unary op e) = scalar (ofModule 0)
+spotFor (binary op a b) = scalar (ofModule 0)
 
--- A target; what a refused one stands for does not matter.
-unfoldable pub spotOfVariable : Option (DataType × Ref) → Spot
-spotOfVariable none = scalar (ofModule 0)
-spotOfVariable (some v) = scalar (v .1)
-
-unfoldable pub spotOfElement : Option (DataType × Ref × ℕ) → Term → Spot
-spotOfElement none e = scalar (ofModule 0)
-spotOfElement (some a) e = elementOf (a .1) (a .2) e
-
+-- A callee that is none is refused, so its number does not matter.
 unfoldable pub routineOf : Option ℕ → ℕ
 routineOf none = 0
 routineOf (some k) = k
@@ -100,11 +99,7 @@ module _ (W : List Word) where
   characters i = unquoted (take (length (nth W i .covers) - 2) (drop 1 (nth W i .covers)))
 
   unfoldable pub spotOf : Scopes → Target → Spot
-  spotOf S t =
-      elim (t .index) [
-        | none ↦ spotOfVariable (variableIn (meaning S (spelled W (t .name))))
-        | some e ↦ spotOfElement (arrayIn (meaning S (spelled W (t .name)))) (termOf W S e)
-      ]
+  spotOf S t = spotFor (judgeTarget W S t .term)
 
   unfoldable pub optionalTerm : Scopes → Option Expr → Option Term
   optionalTerm S none = none
@@ -124,8 +119,8 @@ module _ (W : List Word) where
   actionOf S (writes i s e) = write (characters s) (optionalTerm S e)
   actionOf S (reads i t s) = read (spotOf S t) (characters s)
 
-  unfoldable pub simpleStep : Scopes → Simple → (after : ℕ) → List Step
-  simpleStep S s after = step (firstSimple s) after (actionOf S s)
+  unfoldable pub simpleStep : Scopes → Simple → (around : List ℕ) → (after : ℕ) → List Step
+  simpleStep S s around after = step (firstSimple s) around after (actionOf S s)
 
   -- ---- the choices of an IF and of a TEST
   unfoldable pub conditions : Scopes → Arms → (after : ℕ) → List (Term × ℕ)
@@ -136,44 +131,39 @@ module _ (W : List Word) where
   constants S M noCase after = []
   constants S M (case es b r) after = (map (constantValue W S M) es, begin b after) ∷ constants S M r after
 
-  -- "Without STEP the step is 1."
-  unfoldable pub stepTerm : Scopes → Option Expr → Term
-  stepTerm S none = literal (pos 1)
-  stepTerm S (some e) = termOf W S e
-
-  -- The steps of statements. Names mean what `S` says, the routine has used n words before, loop number l is free; `after` comes after them.
+  -- The steps of statements. Names mean what `S` says, the routine has used n words before, the loops `around` stand around them; `after` comes after them.
   module _ (M : Memory) where
     unfoldable mutual
-      pub stepsOf : Statement → Scopes → (n l after : ℕ) → List Step
-      stepsOf (simple s) S n l after = simpleStep S s after
-      stepsOf (compactIf i e s) S n l after =
-          step i after (choose ((termOf W S e, firstSimple s) ∷ []) after) ++ simpleStep S s after
-      stepsOf (fullIf i a o) S n l after =
-          step i after (choose (conditions S a after) (begin o after))
-          ++ stepsOfArms a S n l after
-          ++ stepsOfList o S (n + forsInArms a) l after
-      stepsOf (for i v a b c body end) S n l after =
-          step i after (enterFor (ofRoutine n) l (termOf W S a) (termOf W S b) (stepTerm S c) (begin body end))
-          ++ stepsOfList body (enter (spelled W v) (ofRoutine n) S) (suc n) (suc l) end
-          ++ (record { name = end; place = i; after = after; does = repeatFor (ofRoutine n) l (begin body end) } ∷ [])
-      stepsOf (while i e body) S n l after =
-          step i after (testWhile (termOf W S e) (begin body i)) ++ stepsOfList body S n l i
-      stepsOf (test i e c d) S n l after =
-          step i after (select (termOf W S e) (constants S M c after) (begin d after))
-          ++ stepsOfCases c S n l after
-          ++ stepsOfList d S (n + forsInCases c) l after
+      pub stepsOf : Statement → Scopes → (n : ℕ) → (around : List ℕ) → (after : ℕ) → List Step
+      stepsOf (simple s) S n around after = simpleStep S s around after
+      stepsOf (compactIf i e s) S n around after =
+          step i around after (choose ((termOf W S e, firstSimple s) ∷ []) after) ++ simpleStep S s around after
+      stepsOf (fullIf i a o) S n around after =
+          step i around after (choose (conditions S a after) (begin o after))
+          ++ stepsOfArms a S n around after
+          ++ stepsOfList o S (n + forsInArms a) around after
+      stepsOf (for i v a b c body end) S n around after =
+          step i around after (enterFor n (termOf W S a) (termOf W S b) (optionalTerm S c) (begin body end))
+          ++ stepsOfList body (enter (spelled W v) (ofRoutine n) S) (suc n) (n ∷ around) end
+          ++ (record { name = end; place = i; after = after; around = n ∷ around; does = repeatFor n (begin body end) } ∷ [])
+      stepsOf (while i e body) S n around after =
+          step i around after (testWhile (termOf W S e) (begin body i)) ++ stepsOfList body S n around i
+      stepsOf (test i e c d) S n around after =
+          step i around after (select (termOf W S e) (constants S M c after) (begin d after))
+          ++ stepsOfCases c S n around after
+          ++ stepsOfList d S (n + forsInCases c) around after
 
-      pub stepsOfList : Statements → Scopes → (n l after : ℕ) → List Step
-      stepsOfList empty S n l after = []
-      stepsOfList (s then r) S n l after = stepsOf s S n l (begin r after) ++ stepsOfList r S (n + forsIn s) l after
+      pub stepsOfList : Statements → Scopes → (n : ℕ) → (around : List ℕ) → (after : ℕ) → List Step
+      stepsOfList empty S n around after = []
+      stepsOfList (s then r) S n around after = stepsOf s S n around (begin r after) ++ stepsOfList r S (n + forsIn s) around after
 
-      pub stepsOfArms : Arms → Scopes → (n l after : ℕ) → List Step
-      stepsOfArms noArm S n l after = []
-      stepsOfArms (arm e b r) S n l after = stepsOfList b S n l after ++ stepsOfArms r S (n + forsInList b) l after
+      pub stepsOfArms : Arms → Scopes → (n : ℕ) → (around : List ℕ) → (after : ℕ) → List Step
+      stepsOfArms noArm S n around after = []
+      stepsOfArms (arm e b r) S n around after = stepsOfList b S n around after ++ stepsOfArms r S (n + forsInList b) around after
 
-      pub stepsOfCases : Cases → Scopes → (n l after : ℕ) → List Step
-      stepsOfCases noCase S n l after = []
-      stepsOfCases (case es b r) S n l after = stepsOfList b S n l after ++ stepsOfCases r S (n + forsInList b) l after
+      pub stepsOfCases : Cases → Scopes → (n : ℕ) → (around : List ℕ) → (after : ℕ) → List Step
+      stepsOfCases noCase S n around after = []
+      stepsOfCases (case es b r) S n around after = stepsOfList b S n around after ++ stepsOfCases r S (n + forsInList b) around after
 
 -- ---- routines
 -- A routine ready to run.
@@ -193,20 +183,17 @@ pub record Program : Type 0 where
   pub routines : List Code
 
 module _ (W : List Word) where
-  -- The word that closes a routine's statements.
-  unfoldable pub closing : Routine → ℕ
-  closing r = elim (r .handler) [ none ↦ r .end | some h ↦ h .opens ]
-
   -- How many FOR statements both lists of a routine have.
   unfoldable pub forsOf : Routine → ℕ
-  forsOf r = forsInList (r .statements) + elim (r .handler) [ none ↦ 0 | some h ↦ forsInList (h .list) ]
+  forsOf r = forsInList (r .body .statements) + elim (r .handler) [ none ↦ 0 | some h ↦ forsInList (h .statements) ]
 
-  unfoldable pub handlerSteps : Memory → Scopes → ℕ → Routine → List Step
-  handlerSteps M S n r =
-      elim (r .handler) [
-        | none ↦ []
-        | some h ↦ stepsOfList W M (h .list) S n errorLoops (r .end) ++ step (r .end) (r .end) endList
-      ]
+  -- The first step of a routine's list, and its steps with the one that is its end.
+  unfoldable pub firstStep : RoutineList → ℕ
+  firstStep l = begin (l .statements) (l .closes)
+
+  unfoldable pub listSteps : Memory → Scopes → ℕ → RoutineList → List Step
+  listSteps M S n l =
+      stepsOfList W M (l .statements) S n [] (l .closes) ++ step (l .closes) [] (l .closes) endList
 
   unfoldable pub codeOf : Module → Routine → Code
   codeOf m r =
@@ -217,9 +204,9 @@ module _ (W : List Word) where
       record {
         function = isSome (r .result);
         words = D .words ++ replicate (forsOf r) (pos 0);
-        steps = stepsOfList W M (r .statements) S n 0 (closing r) ++ step (closing r) (closing r) endList ++ handlerSteps M S (n + forsInList (r .statements)) r;
-        start = begin (r .statements) (closing r);
-        handler = elim (r .handler) [ none ↦ none | some h ↦ some (begin (h .list) (r .end)) ];
+        steps = listSteps M S n (r .body) ++ elim (r .handler) [ none ↦ [] | some h ↦ listSteps M S (n + forsInList (r .body .statements)) h ];
+        start = firstStep (r .body);
+        handler = elim (r .handler) [ none ↦ none | some h ↦ some (firstStep h) ];
       }
 
   unfoldable pub programOf : Module → Program
