@@ -5,7 +5,7 @@ use mathlib.Core.List.{List, [], _∷_, _++_, map}
 use mathlib.Core.Option.{Option, none, some}
 use Prim.Native.Nat.{ℕ, suc, _+_, _-_}
 use lib.Dec.{eqb}
-use lib.ListN.{length, take, drop, replicate}
+use lib.ListN.{length, take, drop}
 use lib.IntN.{ℤ, pos}
 use Rattle.paper.specs.Words.{QUOTE, Word}
 use Rattle.paper.specs.Terms.{Ref, ofModule, ofRoutine, Term, literal, errno, stored, elementAt, unary, binary, Memory}
@@ -169,8 +169,10 @@ module _ (W : List Word) where
 -- A routine ready to run.
 pub record Code : Type 0 where
   pub function : Bool
-  -- its words as a call begins, but for the arguments, which come first
+  -- its parameters and data as a call begins, but for the arguments, which come first
   pub words : List ℤ
+  -- how many FOR variables come after them
+  pub fors : ℕ
   pub steps : List Step
   pub start : ℕ
   -- where its ERROR list begins
@@ -203,7 +205,8 @@ module _ (W : List Word) where
       let n = length (D .words) in
       record {
         function = isSome (r .result);
-        words = D .words ++ replicate (forsOf r) (pos 0);
+        words = D .words;
+        fors = forsOf r;
         steps = listSteps M S n (r .body) ++ elim (r .handler) [ none ↦ [] | some h ↦ listSteps M S (n + forsInList (r .body .statements)) h ];
         start = firstStep (r .body);
         handler = elim (r .handler) [ none ↦ none | some h ↦ some (firstStep h) ];
