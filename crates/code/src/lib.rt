@@ -1,0 +1,1 @@
+// What the two stores hold between check and run: see specs/. Nothing here runs.
