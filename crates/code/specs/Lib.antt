@@ -1,2 +1,4 @@
 pub mod Cells
 pub mod Spans
+pub mod Steps
+pub mod Holds
