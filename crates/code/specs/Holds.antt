@@ -9,7 +9,7 @@ use lib.ListN.{length, getD, replicate}
 use lib.IntN.{ℤ, pos}
 use Rattle.paper.specs.Steps.{Action, store, callFor, callOf, giveBack, raise, handOn, exit, retry, tryNext, write, read, choose, select, testWhile, enterFor, repeatFor, endList, Step, Code, Program}
 use Rattle.paper.specs.Running.{codeAt}
-use Rattle.code.specs.Cells.{opAt, valueAt, placeAt, linkAt}
+use Rattle.code.specs.Cells.{opAt, placeAt, linkAt}
 use Rattle.code.specs.Spans.{_then_}
 use Rattle.code.specs.Steps.{Head, noHead, numbered, Stands, stepIn, constantAt, parts, aDatum, theParameters}
 
@@ -61,13 +61,13 @@ CalleeIn offset C endList = Unit {0}
 module _ (m : ℕ) (text : List ℕ) (R : List Head) (offset : ℕ → ℕ) (C : List ℕ) where
   pub record HoldsRoutine (h : Head) (c : Code) : Type 0 where
     pub function-is : h .function ≡ c .function
-    -- in place of its offset the first word has the first step, its link is the first of the ERROR list
+    -- in place of its offset its first word has the first step; the link of the word behind it is the first of the ERROR list
     pub start-is : c .start ≡ placeAt C (h .word)
-    pub handler-is : c .handler ≡ optionally (linkAt C (h .word))
+    pub handler-is : c .handler ≡ optionally (linkAt C (h .word + 1))
     -- its words as a call begins: the arguments, its data, the FOR variables
     pub starts : List ℤ
     pub opens : ℕ
-    pub data-is : dataIn C parts (valueAt C (h .word)) ≡ some (starts, opens)
+    pub data-is : dataIn C parts (linkAt C (h .word)) ≡ some (starts, opens)
     pub words-are : c .words ≡ replicate (h .parameters) (pos 0) ++ starts
     pub fors-are : c .fors ≡ placeAt C opens
     pub room : length (c .words) + c .fors ≤ 64

@@ -13,96 +13,115 @@ use Rattle.code.specs.Cells.{opAt, valueAt, placeAt, linkAt}
 use Rattle.code.specs.Spans.{guard, _then_, bias, firstIn, sizeIn, termIn}
 
 -- ---- ops
+-- No word's sort is as high, so that what the check has passed is told from what it has not.
 -- A target. Its op is one of these, or one of the next four where a call's result goes to it: a word of the module, of the call; an element of the module's,
 -- of the call's.
 abbrev pub aTarget : ℕ
-aTarget = 10
+aTarget = 128
 
 abbrev pub aCallTarget : ℕ
-aCallTarget = 14
+aCallTarget = 132
 
 abbrev pub aProcedureCall : ℕ
-aProcedureCall = 18
+aProcedureCall = 136
 
 abbrev pub aReturnOf : ℕ
-aReturnOf = 19
+aReturnOf = 137
 
 abbrev pub aReturn : ℕ
-aReturn = 20
+aReturn = 138
 
 abbrev pub aRaiseOf : ℕ
-aRaiseOf = 21
+aRaiseOf = 139
 
 abbrev pub aRaise : ℕ
-aRaise = 22
+aRaise = 140
 
 abbrev pub anExit : ℕ
-anExit = 23
+anExit = 141
 
 abbrev pub aRetry : ℕ
-aRetry = 24
+aRetry = 142
 
 abbrev pub aTryNext : ℕ
-aTryNext = 25
+aTryNext = 143
 
 abbrev pub aWrite : ℕ
-aWrite = 26
+aWrite = 144
 
 abbrev pub aWriteOf : ℕ
-aWriteOf = 27
+aWriteOf = 145
 
 abbrev pub aRead : ℕ
-aRead = 28
+aRead = 146
 
 abbrev pub aCompactIf : ℕ
-aCompactIf = 29
+aCompactIf = 147
 
 abbrev pub anIf : ℕ
-anIf = 30
+anIf = 148
 
 abbrev pub aWhile : ℕ
-aWhile = 31
+aWhile = 149
 
 abbrev pub aFor : ℕ
-aFor = 32
+aFor = 150
 
 abbrev pub aForTest : ℕ
-aForTest = 33
+aForTest = 151
 
 abbrev pub aTest : ℕ
-aTest = 34
+aTest = 152
 
 abbrev pub anEnd : ℕ
-anEnd = 35
+anEnd = 153
 
 -- the end of a FUNC's list
 abbrev pub aFunctionEnd : ℕ
-aFunctionEnd = 36
+aFunctionEnd = 154
 
 -- words that are no steps
 abbrev pub anElseIf : ℕ
-anElseIf = 37
+anElseIf = 155
 
 abbrev pub aStep : ℕ
-aStep = 38
+aStep = 156
 
 -- CASE, and a comma between the values of one
 abbrev pub aCase : ℕ
-aCase = 39
+aCase = 157
 
 abbrev pub aNextValue : ℕ
-aNextValue = 40
+aNextValue = 158
 
 -- a comma between two arguments
 abbrev pub aNextArgument : ℕ
-aNextArgument = 41
+aNextArgument = 159
 
 -- VAR or CONST of a routine, and the parenthesis before its parameters
 abbrev pub aDatum : ℕ
-aDatum = 42
+aDatum = 160
 
 abbrev pub theParameters : ℕ
-theParameters = 43
+theParameters = 161
+
+abbrev pub aThen : ℕ
+aThen = 162
+
+abbrev pub aDo : ℕ
+aDo = 163
+
+-- ELSE, ENDIF, ENDWHILE, and ENDTEST behind a DEFAULT: its link is where a list goes on that ends there
+abbrev pub aPass : ℕ
+aPass = 164
+
+-- DEFAULT, or an ENDTEST without one
+abbrev pub anOtherwise : ℕ
+anOtherwise = 165
+
+-- the semicolon of a procedure call
+abbrev pub aClose : ℕ
+aClose = 166
 
 -- ---- what a step's word says
 -- A routine, as calls know it: the word that it begins with, how many parameters it has, and whether it is a FUNC.
@@ -215,7 +234,7 @@ module _ (m n : ℕ) (function : Bool) (text : List ℕ) (R : List Head) (C : Li
   casesIn zero i = none
   casesIn (suc f) i =
       elim (eqb (opAt C i) aCase) [
-        | false ↦ some ([], placeAt C i)
+        | false ↦ guard (eqb (opAt C i) anOtherwise) ([], placeAt C i)
         | true ↦
             valuesIn parts (placeAt C i) (linkAt C i) then (λ v.
             casesIn f (v .1) then (λ r. some ((constantAt C i ∷ v .0, placeAt C i) ∷ r .0, r .1)))
