@@ -2,20 +2,21 @@
 use mathlib.Core.Path.{_≡_, refl, sym, ap, subst, _∙_}
 use mathlib.Core.Bool.{Bool, true, false}
 use mathlib.Core.List.{List, [], _∷_, map}
-use Prim.Native.Nat.{ℕ, zero, suc, _+_, _*_, _-_, _<_, _≤_}
+use Prim.Native.Nat.{ℕ, zero, suc, _+_, _*_, _<_, _≤_}
 use Prim.Native.String.{String}
 use native.Mathlib.Omega.{arith}
 use native.Mathlib.Numerals.{add-one}
-use lib.Seq.{drop-cons}
 use lib.Dec.{eqb, ltb, leb}
 use lib.ListN.{length, getD, drop, length-map, drop-of-length-le}
 use borrow.Author.Tests.{ltb-true, eqb-true, eq-eqb, ne-eqb, lt-ltb, le-ltb, lt-leb}
+use Rattle.laws.proofs.Tests.{test, false-true}
+use Rattle.laws.proofs.Lists.{rest}
 use Rattle.paper.specs.Sorts.{bytes, folded, reserved, equalTexts, numberIn, nameSort, firstReserved, NAME}
 use Rattle.reserved.specs.declared.Packing.{Packing}
 use Rattle.reserved.specs.declared.Packing.the-variants.{Key, None}
 use Rattle.reserved.specs.Promise.{Sorted}
 use Rattle.reserved.specs.Keys.{packed, keysOf, numberOfKey, sortOf, placeOf, keyAt, Packed}
-use Rattle.reserved.proofs.Table.{test, false-true, present, absent}
+use Rattle.reserved.proofs.Table.{present, absent}
 
 unfoldable pub low : List ℕ → Bool
 low [] = true
@@ -152,8 +153,8 @@ unfolding bound
 left-start name h = record { place = omega arith; few = h; packs = refl; lows = refl; fits = omega arith }
 
 module _ (name : List ℕ) (key i : ℕ) (l : Left name key i) where
-  rest : i < length name → map folded (drop i name) ≡ folded (getD name i 0) ∷ map folded (drop (i + 1) name)
-  rest h = rw (add-one, drop-cons name i 0)
+  at-byte : i < length name → map folded (drop i name) ≡ folded (getD name i 0) ∷ map folded (drop (i + 1) name)
+  at-byte h = ap (map folded) (rest name i h)
 
   pub left-room : i < length name → key < 144115188075855872
   unfolding bound
@@ -164,14 +165,14 @@ module _ (name : List ℕ) (key i : ℕ) (l : Left name key i) where
   left-step f h e g = record {
     place = omega arith;
     few = l .few;
-    packs = l .packs ∙ rw (rest h, e, packed);
-    lows = l .lows ∙ rw (rest h, ← e) (rw (lt-ltb f 128 g, low));
+    packs = l .packs ∙ rw (at-byte h, e, packed);
+    lows = l .lows ∙ rw (at-byte h, ← e) (rw (lt-ltb f 128 g, low));
     fits = rw add-one (omega (arith, l .fits));
   }
 
   pub left-high : i < length name → 127 < getD name i 0 → nameSort (map folded name) ≡ NAME
   unfolding low folded
-  left-high h g = sort-high (map folded name) (l .lows ∙ rw (rest h, high-folded (getD name i 0) g) (rw (le-ltb (getD name i 0) 128 (omega arith), low)))
+  left-high h g = sort-high (map folded name) (l .lows ∙ rw (at-byte h, high-folded (getD name i 0) g) (rw (le-ltb (getD name i 0) 128 (omega arith), low)))
 
   pub left-end : length name ≤ i → nameSort (map folded name) ≡ sortOf key
   unfolding packed low

@@ -4,19 +4,11 @@ use mathlib.Core.Bool.{Bool, true, false}
 use mathlib.Core.List.{List, [], _∷_}
 use Prim.Native.Nat.{ℕ, zero, suc, _+_, _<_}
 use native.Mathlib.Nat.{not-suc-le-zero}
-use native.Mathlib.Omega.{arith}
 use lib.Dec.{eqb}
-use borrow.Author.Tests.{eqb-true, eqb-false}
+use borrow.Author.Tests.{eqb-true}
+use Rattle.laws.proofs.Tests.{test, false-true, by-last}
 use Rattle.paper.specs.Sorts.{bytes, folded, reserved, firstReserved, NAME}
 use Rattle.reserved.specs.Keys.{packed, keysOf, numberOfKey, sortOf, placeOf, keyIn, keyAt}
-
--- a test, with what it says
-pub test {ℓ} : {A : Type ℓ} (b : Bool) → (b ≡ true → A) → (b ≡ false → A) → A
-test true f g = f refl
-test false f g = g refl
-
-pub false-true : {A : Type 0} → false ≡ true → A
-false-true e = let z : _≡_ {A = ℕ} 0 1 = cc in absurd (omega arith)
 
 -- ---- a match on every number below n has no other case
 abbrev pub Others : ℕ → ℕ → Type 0
@@ -25,10 +17,7 @@ Others i (suc n) = Others i n × (i ≡ n → ⊥)
 
 pub no-other : (n i : ℕ) → Others i n → i < n → ⊥
 no-other zero i o h = not-suc-le-zero h
-no-other (suc n) i o h = test (eqb i n) (λ e. o .1 (eqb-true i n e)) (λ e. no-other n i (o .0) (below (eqb-false i n e)))
-  where
-    below : (i ≡ n → ⊥) → i < n
-    below g = omega (arith, g)
+no-other (suc n) i o h = by-last i n h (o .1) (no-other n i (o .0))
 
 -- ---- what stands at a place
 module _ (place i : ℕ) (e : place ≡ i) where

@@ -6,10 +6,10 @@ use Prim.Native.Nat.{ℕ, zero, suc, _<_, _≤_}
 use native.Mathlib.Nat.{not-suc-le-zero}
 use native.Mathlib.Omega.{arith}
 use lib.Dec.{eqb, ltb, leb}
-use borrow.Author.Tests.{ltb-false, eqb-true, eqb-false, eq-eqb, ne-eqb, lt-ltb, le-ltb, le-leb, lt-leb, leb-true}
+use borrow.Author.Tests.{ltb-false, eqb-true, eq-eqb, ne-eqb, lt-ltb, le-ltb, le-leb, lt-leb, leb-true}
 use Rattle.paper.specs.Sorts.{bytes, folded, signs, equalTexts, numberIn, signSort, firstSign}
 use Rattle.paper.specs.Words.{between, letter, digit, spoilsNumber, barredInString, permitted}
-use Rattle.reserved.proofs.Table.{test, false-true}
+use Rattle.laws.proofs.Tests.{test, false-true, by-last}
 use Rattle.reserved.proofs.Packs.{every, unlike}
 
 -- ---- a test at every number below a bound
@@ -21,12 +21,8 @@ all-below : (f : ℕ → Bool) (n : ℕ) → all f n ≡ true → (b : ℕ) → 
 unfolding all
 all-below f zero t b h = absurd (not-suc-le-zero h)
 all-below f (suc n) t b h =
-    test (f n) (λ e. test (eqb b n) (λ g. ap f (eqb-true b n g) ∙ e)
-    (λ g. all-below f n (rw (e, all) at t) b (last (eqb-false b n g))))
+    test (f n) (λ e. by-last b n h (λ g. ap f g ∙ e) (all-below f n (rw (e, all) at t) b))
     (λ e. false-true (rw (e, all) at t))
-  where
-    last : (b ≡ n → ⊥) → b < n
-    last g = omega (arith, g)
 
 alike-numbers : (f g : ℕ → ℕ) → all (λ b. eqb (f b) (g b)) 256 ≡ true → (b : ℕ) → b < 256 → f b ≡ g b
 alike-numbers f g t b h = eqb-true (f b) (g b) (all-below (λ b. eqb (f b) (g b)) 256 t b h)
