@@ -210,10 +210,10 @@ fn folded_byte(b: u8) -> u64
     requires { ⌜ b < 128 ⌝ }
     ensures { λ r. ⌜ (r ≡ folded b) × (r < 128) ⌝ }
 {
-    if b < 97 {
+    if b < b'a' {
         return b as u64;
     }
-    if b <= 122 {
+    if b <= b'z' {
         return (b - 32) as u64;
     }
     b as u64
@@ -224,11 +224,14 @@ enum Packing {
     None,
 }
 
+// No reserved word is longer, and no longer text has a key.
+const LONGEST: usize = 9;
+
 // The name's key, unless it is too long for one or has a byte that no reserved word has.
 fn pack(name: &[u8]) -> Packing
     ensures { λ r. ⌜ Packed (map folded (now (name .entry))) r ⌝ }
 {
-    if 9 < name.len() {
+    if LONGEST < name.len() {
         return Packing::None;
     }
     // so that no key is a constant, for which the compiler would part the look at the table

@@ -7,7 +7,7 @@ use native.Mathlib.Nat.{not-suc-le-zero}
 use native.Mathlib.Omega.{arith}
 use lib.Dec.{eqb, ltb, leb}
 use borrow.Author.Tests.{ltb-false, eqb-true, eq-eqb, ne-eqb, lt-ltb, le-ltb, le-leb, lt-leb, leb-true}
-use Rattle.paper.specs.Sorts.{bytes, folded, signs, equalTexts, numberIn, signSort, firstSign}
+use Rattle.paper.specs.Sorts.{bytes, folded, signs, equalTexts, numberIn, signSort, firstSign, NOTHING, becomes, lessEqual, greaterEqual, unequal}
 use Rattle.paper.specs.Words.{between, letter, digit, spoilsNumber, barredInString, permitted}
 use Rattle.laws.proofs.Tests.{test, false-true, by-last}
 use Rattle.reserved.proofs.Packs.{every, unlike}
@@ -215,10 +215,14 @@ module _ (b c : ℕ) where
   unpaired-above h = outside (sym (in-range 58 62 b (omega arith)) ∙ lt-leb b 62 h)
 
 unfoldable beforeEqual : ℕ → ℕ
-beforeEqual b = elim (eqb b 58) [ true ↦ 11 | false ↦ elim (eqb b 60) [ true ↦ 14 | false ↦ elim (eqb b 62) [ true ↦ 17 | false ↦ 0 ] ] ]
+beforeEqual b =
+    elim (eqb b 58) [
+      | true ↦ becomes
+      | false ↦ elim (eqb b 60) [ true ↦ lessEqual | false ↦ elim (eqb b 62) [ true ↦ greaterEqual | false ↦ NOTHING ] ]
+    ]
 
 unfoldable beforeMore : ℕ → ℕ
-beforeMore b = elim (eqb b 60) [ true ↦ 15 | false ↦ 0 ]
+beforeMore b = elim (eqb b 60) [ true ↦ unequal | false ↦ NOTHING ]
 
 before-equal : (b : ℕ) → b < 256 → beforeEqual b ≡ signSort (b ∷ 61 ∷ [])
 unfolding all beforeEqual signSort numberIn signs equalTexts bytes folded
