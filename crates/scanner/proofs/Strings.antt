@@ -5,24 +5,22 @@ use mathlib.Core.List.{List, [], _∷_}
 use mathlib.Core.Option.{Option, none, some}
 use Prim.Native.Nat.{ℕ, zero, suc, _+_, _-_, _<_, _≤_}
 use native.Mathlib.Omega.{arith}
-use lib.Dec.{eqb, ltb}
+use lib.Dec.{eqb}
 use lib.ListN.{length, getD, drop, List·getD-eq-default, drop-of-length-le}
-use borrow.Author.Tests.{eq-eqb, ne-eqb, eqb-true, ltb-true, ltb-false, lt-ltb, le-ltb, not-true, not-false}
-use Rattle.reserved.proofs.Table.{test, false-true}
-use Rattle.paper.specs.Words.{Scan, run, permittedInside, barredInString, stringEnd, scanString, word, refused}
+use borrow.Author.Tests.{eq-eqb, ne-eqb, eqb-true, lt-ltb, le-ltb, not-true, not-false}
+use Rattle.laws.proofs.Tests.{test, false-true, apart, by-less, by-same}
+use Rattle.laws.proofs.Lists.{rest, Reached, reached-here, reached-on}
+use Rattle.paper.specs.Sorts.{STRING}
+use Rattle.paper.specs.Words.{Scan, stringLimit, leading, permittedInside, barredInString, stringEnd, scanString, word, refused, malformed}
 use Rattle.scanner.specs.Answers.{noted, closedString}
 use Rattle.scanner.proofs.Bytes.{passed, quote-permitted}
-use Rattle.scanner.proofs.Runs.{Run, run-start, run-more, run-stop, rest}
+use Rattle.scanner.proofs.Runs.{Run, run-start, run-more, run-stop}
 
 -- ---- bytes that are not permitted
 -- Of the first n bytes every one is permitted, or `bad` is the place of the first that is not.
 pub record Seen (text : List ℕ) (n bad : ℕ) : Type 0 where
   pub none-bad : bad ≡ 0 → Run permittedInside text n
-  pub first-bad : (bad ≡ 0 → ⊥) → (run permittedInside text ≡ bad) × (bad < n)
-
-is-zero : {A : Type 0} (x : ℕ) → (x ≡ 0 → A) → ((x ≡ 0 → ⊥) → A) → A
-is-zero zero f g = f refl
-is-zero (suc m) f g = g (λ e. omega arith)
+  pub first-bad : (bad ≡ 0 → ⊥) → (leading permittedInside text ≡ bad) × (bad < n)
 
 noted-zero : (bad at : ℕ) → bad ≡ 0 → noted bad at false ≡ at
 unfolding noted
@@ -54,7 +52,7 @@ module _ (text : List ℕ) (n bad : ℕ) (at : Seen text n bad) (h : n < length 
 
   seen-bad : 0 < n → permittedInside (getD text n 0) ≡ false → Seen text (n + 1) (noted bad n false)
   seen-bad g p =
-      is-zero bad
+      by-same bad 0
       (λ z. rw (noted-zero bad n z) (record {
         none-bad = λ y. absurd (omega arith);
         first-bad = λ y. (sym (run-stop permittedInside text n (at .none-bad z) false h (sym p) refl .exact), omega arith);
@@ -79,13 +77,13 @@ quote-inside b e = passed _ _ (quote-permitted b e)
 pub record Left (text : List ℕ) (room bad n : ℕ) : Type 0 where
   pub place : (0 < n) × (n ≤ length text)
   pub seen : Seen text n bad
-  pub left : stringEnd 80 false (drop 1 text) 1 ≡ stringEnd room false (drop n text) n
+  pub left : stringEnd stringLimit false (drop 1 text) 1 ≡ stringEnd room false (drop n text) n
 
 some-length : (text : List ℕ) → getD text 0 0 ≡ 34 → 0 < length text
 some-length [] h = absurd (omega arith)
 some-length (b ∷ r) h = omega arith
 
-pub left-start : (text : List ℕ) → getD text 0 0 ≡ 34 → Left text 80 0 1
+pub left-start : (text : List ℕ) → getD text 0 0 ≡ 34 → Left text stringLimit 0 1
 left-start text h =
     let some = some-length text h in
     record {
@@ -101,7 +99,7 @@ left-start text h =
 pub record Passing (text : List ℕ) (room bad n : ℕ) : Type 0 where
   pub place : n < length text
   pub seen : Seen text (n + 1) bad
-  pub left : stringEnd 80 false (drop 1 text) 1 ≡ elim room [ zero ↦ none | suc m ↦ stringEnd m false (drop (n + 1) text) (n + 1) ]
+  pub left : stringEnd stringLimit false (drop 1 text) 1 ≡ elim room [ zero ↦ none | suc m ↦ stringEnd m false (drop (n + 1) text) (n + 1) ]
 
 -- one character less is room for
 fewer : (room : ℕ) (l : List ℕ) (n : ℕ) → (room ≡ 0 → ⊥) → elim room [ zero ↦ none | suc m ↦ stringEnd m false l n ] ≡ stringEnd (room - 1) false l n
@@ -114,12 +112,12 @@ fewer (suc m) l n h = ap (λ (x : ℕ). stringEnd x false l n) (less m)
 pub no-quote : (text : List ℕ) (at : ℕ) → length text ≤ at → true ≡ not (eqb (getD text at 0) 34)
 no-quote text at h = rw (List·getD-eq-default text 0 h)
 
-malformed-by : (text : List ℕ) → stringEnd 80 false (drop 1 text) 1 ≡ none → refused 5 0 ≡ scanString text
+malformed-by : (text : List ℕ) → stringEnd stringLimit false (drop 1 text) 1 ≡ none → malformed ≡ scanString text
 unfolding scanString
 malformed-by text e = rw (e, scanString)
 
 -- a string that is closed
-pub closed-good : (n bad : ℕ) → bad ≡ 0 → word 3 n 0 ≡ closedString n bad
+pub closed-good : (n bad : ℕ) → bad ≡ 0 → word STRING n 0 ≡ closedString n bad
 unfolding closedString
 closed-good n zero h = refl
 closed-good n (suc m) h = absurd (omega arith)
@@ -129,41 +127,41 @@ unfolding closedString
 closed-bad n zero h = absurd (h refl)
 closed-bad n (suc m) h = refl
 
-closed-by : (text : List ℕ) (m bad : ℕ) → Seen text m bad → stringEnd 80 false (drop 1 text) 1 ≡ some m → closedString m bad ≡ scanString text
+closed-by : (text : List ℕ) (m bad : ℕ) → Seen text m bad → stringEnd stringLimit false (drop 1 text) 1 ≡ some m → closedString m bad ≡ scanString text
 unfolding scanString closedString
 closed-by text m zero at e =
     let all = at .none-bad refl in
-    let whole : m ≤ run permittedInside text = omega (arith, all .left) in
-    rw (e, scanString) (rw (le-ltb (run permittedInside text) m whole))
+    let whole : m ≤ leading permittedInside text = omega (arith, all .left) in
+    rw (e, scanString) (rw (le-ltb (leading permittedInside text) m whole))
 closed-by text m (suc k) at e =
     let x = at .first-bad (λ z. omega arith) in
     rw (e, scanString) (rw (x .0) (rw (lt-ltb (suc k) m (x .1)) (rw (x .0))))
 
 module _ (text : List ℕ) (room bad n : ℕ) (at : Left text room bad n) where
-  pub left-open : length text ≤ n → refused 5 0 ≡ scanString text
+  pub left-open : length text ≤ n → malformed ≡ scanString text
   unfolding stringEnd
   left-open h = malformed-by text (at .left ∙ rw (drop-of-length-le text h))
 
   module _ (h : n < length text) where
     -- the definition at a place where the byte there is known
-    at-byte : stringEnd 80 false (drop 1 text) 1 ≡ stringEnd room false (getD text n 0 ∷ drop (n + 1) text) n
+    at-byte : stringEnd stringLimit false (drop 1 text) 1 ≡ stringEnd room false (getD text n 0 ∷ drop (n + 1) text) n
     at-byte = at .left ∙ ap (λ (l : List ℕ). stringEnd room false l n) (rest text n h)
 
     module _ (b : getD text n 0 ≡ 34) (t : Bool) (is : t ≡ not (eqb (getD text (n + 1) 0) 34)) where
-      after-quote : stringEnd 80 false (drop 1 text) 1 ≡ stringEnd room true (drop (n + 1) text) (n + 1)
+      after-quote : stringEnd stringLimit false (drop 1 text) 1 ≡ stringEnd room true (drop (n + 1) text) (n + 1)
       unfolding stringEnd
       after-quote = at-byte ∙ rw (eq-eqb _ 34 b, stringEnd)
 
       seen-quote : Seen text (n + 1) bad
       seen-quote = seen-good text n bad (at .seen) h (quote-inside _ b)
 
-      at-second : n + 1 < length text → stringEnd 80 false (drop 1 text) 1 ≡ stringEnd room true (getD text (n + 1) 0 ∷ drop (n + 1 + 1) text) (n + 1)
+      at-second : n + 1 < length text → stringEnd stringLimit false (drop 1 text) 1 ≡ stringEnd room true (getD text (n + 1) 0 ∷ drop (n + 1 + 1) text) (n + 1)
       at-second g = after-quote ∙ ap (λ (l : List ℕ). stringEnd room true l (n + 1)) (rest text (n + 1) g)
 
       second : t ≡ false → n + 1 < length text
       second g =
-          test (ltb (n + 1) (length text)) (λ e. ltb-true _ _ e)
-          (λ e. false-true (sym g ∙ is ∙ sym (no-quote text (n + 1) (ltb-false _ _ e))))
+          by-less (n + 1) (length text) (λ h. h)
+          (λ h. false-true (sym g ∙ is ∙ sym (no-quote text (n + 1) h)))
 
       pub quote-twice : t ≡ false → Passing text room bad (n + 1)
       unfolding stringEnd
@@ -176,18 +174,18 @@ module _ (text : List ℕ) (room bad n : ℕ) (at : Left text room bad n) where
             left = at-second s ∙ rw (q, stringEnd);
           }
 
-      ended : t ≡ true → stringEnd 80 false (drop 1 text) 1 ≡ some (n + 1)
+      ended : t ≡ true → stringEnd stringLimit false (drop 1 text) 1 ≡ some (n + 1)
       unfolding stringEnd
       ended g =
           let q = not-true (eqb (getD text (n + 1) 0) 34) (sym is ∙ g) in
-          test (ltb (n + 1) (length text)) (λ e. at-second (ltb-true _ _ e) ∙ rw (q, stringEnd))
-          (λ e. after-quote ∙ rw (drop-of-length-le text (ltb-false _ _ e)))
+          by-less (n + 1) (length text) (λ h. at-second h ∙ rw (q, stringEnd))
+          (λ h. after-quote ∙ rw (drop-of-length-le text h))
 
       pub closes : (s : Scan) → t ≡ true → s ≡ closedString (n + 1) bad → s ≡ scanString text
       closes s g e = e ∙ closed-by text (n + 1) bad seen-quote (ended g)
 
     module _ (t : Bool) (b : getD text n 0 ≡ 34 → ⊥) (is : t ≡ barredInString (getD text n 0)) where
-      pub barred : t ≡ true → refused 5 0 ≡ scanString text
+      pub barred : t ≡ true → malformed ≡ scanString text
       unfolding stringEnd
       barred g = malformed-by text (at-byte ∙ rw (ne-eqb _ 34 b, stringEnd) (rw (sym is ∙ g)))
 
@@ -200,7 +198,7 @@ module _ (text : List ℕ) (room bad n : ℕ) (at : Left text room bad n) where
       }
 
 module _ (text : List ℕ) (room bad n : ℕ) (at : Passing text room bad n) where
-  pub no-room : room ≡ 0 → refused 5 0 ≡ scanString text
+  pub no-room : room ≡ 0 → malformed ≡ scanString text
   no-room r = malformed-by text (at .left ∙ rw r)
 
   pub passed-on : (room ≡ 0 → ⊥) → Left text (room - 1) bad (n + 1)
@@ -211,28 +209,25 @@ module _ (text : List ℕ) (room bad n : ℕ) (at : Passing text room bad n) whe
   }
 
 -- ---- a string's end lies in the text
-pub none-some : {A : Type 0} {m : ℕ} → _≡_ {A = Option ℕ} none (some m) → A
-none-some e = let z : _≡_ {A = ℕ} 0 1 = cc in absurd (omega arith)
+no-end : {A : Type 0} {m : ℕ} → _≡_ {A = Option ℕ} none (some m) → A
+no-end e = apart (cc)
 
-some-same : (n m : ℕ) (l : List ℕ) → some n ≡ some m → (n ≤ m) × (m ≤ n + length l)
-some-same n m l e = let z : n ≡ m = cc in (omega arith, omega arith)
+end-here : (n m : ℕ) (l : List ℕ) → some n ≡ some m → Reached n m l
+end-here n m l e = reached-here n m l (cc)
 
-one-more : (n m : ℕ) (b : ℕ) (l : List ℕ) → (n + 1 ≤ m) × (m ≤ n + 1 + length l) → (n ≤ m) × (m ≤ n + length (b ∷ l))
-one-more n m b l h = (omega arith, omega arith)
-
-pub end-within : (room : ℕ) (quoted : Bool) (l : List ℕ) (n m : ℕ) → stringEnd room quoted l n ≡ some m → (n ≤ m) × (m ≤ n + length l)
+pub end-within : (room : ℕ) (quoted : Bool) (l : List ℕ) (n m : ℕ) → stringEnd room quoted l n ≡ some m → Reached n m l
 unfolding stringEnd
-end-within room true [] n m e = some-same n m [] e
-end-within room false [] n m e = none-some e
+end-within room true [] n m e = end-here n m [] e
+end-within room false [] n m e = no-end e
 end-within zero true (b ∷ r) n m e =
-    test (eqb b 34) (λ g. none-some (rw (g, stringEnd) at e)) (λ g. some-same n m (b ∷ r) (rw (g, stringEnd) at e))
+    test (eqb b 34) (λ g. no-end (rw (g, stringEnd) at e)) (λ g. end-here n m (b ∷ r) (rw (g, stringEnd) at e))
 end-within (suc k) true (b ∷ r) n m e =
-    test (eqb b 34) (λ g. one-more n m b r (end-within k false r (n + 1) m (rw (g, stringEnd) at e)))
-    (λ g. some-same n m (b ∷ r) (rw (g, stringEnd) at e))
+    test (eqb b 34) (λ g. reached-on n m b r (end-within k false r (n + 1) m (rw (g, stringEnd) at e)))
+    (λ g. end-here n m (b ∷ r) (rw (g, stringEnd) at e))
 end-within zero false (b ∷ r) n m e =
-    test (eqb b 34) (λ g. one-more n m b r (end-within zero true r (n + 1) m (rw (g, stringEnd) at e)))
-    (λ g. test (barredInString b) (λ t. none-some (rw t at (rw (g, stringEnd) at e))) (λ t. none-some (rw t at (rw (g, stringEnd) at e))))
+    test (eqb b 34) (λ g. reached-on n m b r (end-within zero true r (n + 1) m (rw (g, stringEnd) at e)))
+    (λ g. test (barredInString b) (λ t. no-end (rw t at (rw (g, stringEnd) at e))) (λ t. no-end (rw t at (rw (g, stringEnd) at e))))
 end-within (suc k) false (b ∷ r) n m e =
-    test (eqb b 34) (λ g. one-more n m b r (end-within (suc k) true r (n + 1) m (rw (g, stringEnd) at e)))
-    (λ g. test (barredInString b) (λ t. none-some (rw t at (rw (g, stringEnd) at e)))
-    (λ t. one-more n m b r (end-within k false r (n + 1) m (rw t at (rw (g, stringEnd) at e)))))
+    test (eqb b 34) (λ g. reached-on n m b r (end-within (suc k) true r (n + 1) m (rw (g, stringEnd) at e)))
+    (λ g. test (barredInString b) (λ t. no-end (rw t at (rw (g, stringEnd) at e)))
+    (λ t. reached-on n m b r (end-within k false r (n + 1) m (rw t at (rw (g, stringEnd) at e)))))
