@@ -1,11 +1,11 @@
 -- Lists by places: parts, walks, and the n elements from a on replaced.
-use mathlib.Core.Path.{_≡_, sym, ap, _∙_}
-use mathlib.Core.List.{List, _∷_, _++_}
-use Prim.Native.Nat.{ℕ, suc, _+_, _-_, _≤_, _<_}
+use mathlib.Core.Path.{_≡_, refl, sym, ap, ap₂, _∙_}
+use mathlib.Core.List.{List, [], _∷_, _++_, map, append-assoc, map-append}
+use Prim.Native.Nat.{ℕ, zero, suc, _+_, _-_, _≤_, _<_}
 use native.Mathlib.Numerals.{add-one}
 use native.Mathlib.Omega.{arith}
-use lib.ListN.{length, take, drop, getD, length-append, length-drop, List·getD-append}
-use lib.Seq.{take-all, take-append-le, take-take, drop-at, drop-cons, drop-drop, length-take-le, getD-take, getD-drop, getD-append-add}
+use lib.ListN.{length, take, drop, set, replicate, getD, length-append, length-drop, List·getD-append}
+use lib.Seq.{take-all, take-append-le, take-take, take-at, drop-at, drop-cons, drop-drop, length-take-le, getD-take, getD-drop, getD-append-add}
 use Rattle.laws.specs.Lists.{replaced}
 
 -- ---- parts
@@ -34,7 +34,7 @@ reached-on p q b l h = (omega arith, omega arith)
 
 -- ---- the n elements from a on replaced by m
 
-module _ (l m : List ℕ) (a n : ℕ) (e : length m ≡ n) (h : a + n ≤ length l) where
+module _ {A : Type 0} (l m : List A) (a n : ℕ) (e : length m ≡ n) (h : a + n ≤ length l) where
   head-length : length (take a l ++ m) ≡ a + n
   head-length = length-append (take a l) m ∙ omega (arith, length-take-le a l (omega arith))
 
@@ -60,24 +60,56 @@ module _ (l m : List ℕ) (a n : ℕ) (e : length m ≡ n) (h : a + n ≤ length
       ∙ ap (λ (j : ℕ). drop j l) q
 
   -- element by element
-  pub replaced-at : (j : ℕ) → j < n → getD (replaced l a m n) (a + j) 0 ≡ getD m j 0
-  replaced-at j g =
+  pub replaced-at : (j : ℕ) (d : A) → j < n → getD (replaced l a m n) (a + j) d ≡ getD m j d
+  replaced-at j d g =
       let t : length (take a l) ≡ a = length-take-le a l (omega arith) in
-      List·getD-append (take a l ++ m) (drop (a + n) l) 0 (a + j) (omega (arith, head-length))
-      ∙ sym (ap (λ (k : ℕ). getD (take a l ++ m) (k + j) 0) t)
-      ∙ getD-append-add (take a l) m j 0
+      List·getD-append (take a l ++ m) (drop (a + n) l) d (a + j) (omega (arith, head-length))
+      ∙ sym (ap (λ (k : ℕ). getD (take a l ++ m) (k + j) d) t)
+      ∙ getD-append-add (take a l) m j d
 
-  pub replaced-below : (j : ℕ) → j < a → getD (replaced l a m n) j 0 ≡ getD l j 0
-  replaced-below j g =
-      sym (getD-take (suc j) (replaced l a m n) j 0 (omega arith))
-      ∙ ap (λ (x : List ℕ). getD x j 0) (replaced-take (suc j) g)
-      ∙ getD-take (suc j) l j 0 (omega arith)
+  pub replaced-below : (j : ℕ) (d : A) → j < a → getD (replaced l a m n) j d ≡ getD l j d
+  replaced-below j d g =
+      sym (getD-take (suc j) (replaced l a m n) j d (omega arith))
+      ∙ ap (λ (x : List A). getD x j d) (replaced-take (suc j) g)
+      ∙ getD-take (suc j) l j d (omega arith)
 
-  pub replaced-above : (j : ℕ) → a + n ≤ j → getD (replaced l a m n) j 0 ≡ getD l j 0
-  replaced-above j g =
+  pub replaced-above : (j : ℕ) (d : A) → a + n ≤ j → getD (replaced l a m n) j d ≡ getD l j d
+  replaced-above j d g =
       let q : j + 0 ≡ j = omega arith in
-      sym (ap (λ (k : ℕ). getD (replaced l a m n) k 0) q)
-      ∙ sym (getD-drop j (replaced l a m n) 0 0)
-      ∙ ap (λ (x : List ℕ). getD x 0 0) (replaced-drop j g)
-      ∙ getD-drop j l 0 0
-      ∙ ap (λ (k : ℕ). getD l k 0) q
+      sym (ap (λ (k : ℕ). getD (replaced l a m n) k d) q)
+      ∙ sym (getD-drop j (replaced l a m n) 0 d)
+      ∙ ap (λ (x : List A). getD x 0 d) (replaced-drop j g)
+      ∙ getD-drop j l 0 d
+      ∙ ap (λ (k : ℕ). getD l k d) q
+
+  -- what follows at once replaced too: one change
+  pub replaced-on : (k : List A) (p : ℕ) → replaced (replaced l a m n) (a + n) k p ≡ replaced l a (m ++ k) (n + p)
+  replaced-on k p =
+      let q : a + n + p ≡ a + (n + p) = omega arith in
+      ap₂ (λ (x y : List A). x ++ k ++ y) (take-at (take a l ++ m) (drop (a + n) l) (a + n) head-length) (replaced-drop (a + n + p) (omega arith))
+      ∙ ap₂ (λ (x : List A) (j : ℕ). x ++ drop j l) (append-assoc (take a l) m k) q
+
+-- ---- a function at every element
+
+module _ {A B : Type 0} (f : A → B) where
+  pub map-set : (l : List A) (i : ℕ) (x : A) → map f (set l i x) ≡ set (map f l) i (f x)
+  map-set [] i x = refl
+  map-set (y ∷ l) zero x = refl
+  map-set (y ∷ l) (suc i) x = ap (λ (r : List B). f y ∷ r) (map-set l i x)
+
+  pub map-take : (n : ℕ) (l : List A) → map f (take n l) ≡ take n (map f l)
+  map-take zero l = refl
+  map-take (suc n) [] = refl
+  map-take (suc n) (x ∷ l) = ap (λ (r : List B). f x ∷ r) (map-take n l)
+
+  pub map-drop : (n : ℕ) (l : List A) → map f (drop n l) ≡ drop n (map f l)
+  map-drop zero l = refl
+  map-drop (suc n) [] = refl
+  map-drop (suc n) (x ∷ l) = map-drop n l
+
+  pub map-replicate : (n : ℕ) (x : A) → map f (replicate n x) ≡ replicate n (f x)
+  map-replicate zero x = refl
+  map-replicate (suc n) x = ap (λ (r : List B). f x ∷ r) (map-replicate n x)
+
+  pub map-replaced : (l : List A) (a : ℕ) (m : List A) (n : ℕ) → map f (replaced l a m n) ≡ replaced (map f l) a (map f m) n
+  map-replaced l a m n = simp (map-append, map-take, map-drop)
