@@ -2,19 +2,21 @@
 use mathlib.Core.Path.{_≡_, refl, sym, ap, subst, _∙_}
 use mathlib.Core.Bool.{Bool, true, false}
 use mathlib.Core.List.{List, [], _∷_, map}
-use Prim.Native.Nat.{ℕ, zero, suc, _+_, _*_, _-_, _<_, _≤_}
+use Prim.Native.Nat.{ℕ, zero, suc, _+_, _*_, _<_, _≤_}
 use Prim.Native.String.{String}
 use native.Mathlib.Omega.{arith}
 use native.Mathlib.Numerals.{add-one}
-use lib.Seq.{drop-cons}
 use lib.Dec.{eqb, ltb, leb}
 use lib.ListN.{length, getD, drop, length-map, drop-of-length-le}
 use borrow.Author.Tests.{ltb-true, eqb-true, eq-eqb, ne-eqb, lt-ltb, le-ltb, lt-leb}
-use Rattle.paper.specs.Sorts.{bytes, folded, reserved, equalTexts, numberIn, nameSort, firstReserved}
+use Rattle.laws.proofs.Tests.{test, false-true}
+use Rattle.laws.proofs.Lists.{rest}
+use Rattle.paper.specs.Sorts.{bytes, folded, reserved, equalTexts, numberIn, nameSort, firstReserved, NAME}
 use Rattle.reserved.specs.declared.Packing.{Packing}
 use Rattle.reserved.specs.declared.Packing.the-variants.{Key, None}
-use Rattle.reserved.specs.Keys.{packed, keysOf, numberOfKey, sortOf, Packed}
-use Rattle.reserved.proofs.Table.{test, false-true}
+use Rattle.reserved.specs.Promise.{Sorted}
+use Rattle.reserved.specs.Keys.{packed, keysOf, numberOfKey, sortOf, placeOf, keyAt, Packed}
+use Rattle.reserved.proofs.Table.{present, absent}
 
 unfoldable pub low : List ℕ → Bool
 low [] = true
@@ -102,18 +104,18 @@ pub sort-by-key : (text : List ℕ) (key : ℕ) → low text ≡ true → packed
 unfolding nameSort sortOf
 sort-by-key text key h e = rw (by-key reserved firstReserved text all-low h, e, nameSort, sortOf)
 
-sort-unlike : (such : List ℕ → Bool) (text : List ℕ) → every such reserved ≡ true → such text ≡ false → nameSort text ≡ 1
+sort-unlike : (such : List ℕ → Bool) (text : List ℕ) → every such reserved ≡ true → such text ≡ false → nameSort text ≡ NAME
 unfolding nameSort
 sort-unlike such text t h = rw (unlike such reserved firstReserved text t h, nameSort)
 
-pub sort-high : (text : List ℕ) → low text ≡ false → nameSort text ≡ 1
+pub sort-high : (text : List ℕ) → low text ≡ false → nameSort text ≡ NAME
 sort-high text h = sort-unlike low text all-low h
 
-pub sort-long : (name : List ℕ) → 9 < length name → nameSort (map folded name) ≡ 1
+pub sort-long : (name : List ℕ) → 9 < length name → nameSort (map folded name) ≡ NAME
 unfolding short
 sort-long name h = sort-unlike short (map folded name) all-short (rw length-map (lt-leb (length name) 9 h))
 
-pub sort-empty : (name : List ℕ) → length name ≡ 0 → nameSort (map folded name) ≡ 1
+pub sort-empty : (name : List ℕ) → length name ≡ 0 → nameSort (map folded name) ≡ NAME
 unfolding nameSort numberIn reserved equalTexts bytes folded
 sort-empty [] h = refl
 sort-empty (b ∷ r) h = absurd (omega arith)
@@ -151,8 +153,8 @@ unfolding bound
 left-start name h = record { place = omega arith; few = h; packs = refl; lows = refl; fits = omega arith }
 
 module _ (name : List ℕ) (key i : ℕ) (l : Left name key i) where
-  rest : i < length name → map folded (drop i name) ≡ folded (getD name i 0) ∷ map folded (drop (i + 1) name)
-  rest h = rw (add-one, drop-cons name i 0)
+  at-byte : i < length name → map folded (drop i name) ≡ folded (getD name i 0) ∷ map folded (drop (i + 1) name)
+  at-byte h = ap (map folded) (rest name i h)
 
   pub left-room : i < length name → key < 144115188075855872
   unfolding bound
@@ -163,14 +165,14 @@ module _ (name : List ℕ) (key i : ℕ) (l : Left name key i) where
   left-step f h e g = record {
     place = omega arith;
     few = l .few;
-    packs = l .packs ∙ rw (rest h, e, packed);
-    lows = l .lows ∙ rw (rest h, ← e) (rw (lt-ltb f 128 g, low));
+    packs = l .packs ∙ rw (at-byte h, e, packed);
+    lows = l .lows ∙ rw (at-byte h, ← e) (rw (lt-ltb f 128 g, low));
     fits = rw add-one (omega (arith, l .fits));
   }
 
-  pub left-high : i < length name → 127 < getD name i 0 → nameSort (map folded name) ≡ 1
+  pub left-high : i < length name → 127 < getD name i 0 → nameSort (map folded name) ≡ NAME
   unfolding low folded
-  left-high h g = sort-high (map folded name) (l .lows ∙ rw (rest h, high-folded (getD name i 0) g) (rw (le-ltb (getD name i 0) 128 (omega arith), low)))
+  left-high h g = sort-high (map folded name) (l .lows ∙ rw (at-byte h, high-folded (getD name i 0) g) (rw (le-ltb (getD name i 0) 128 (omega arith), low)))
 
   pub left-end : length name ≤ i → nameSort (map folded name) ≡ sortOf key
   unfolding packed low
@@ -179,8 +181,15 @@ module _ (name : List ℕ) (key i : ℕ) (l : Left name key i) where
       sort-by-key (map folded name) key (l .lows ∙ rw none) (l .packs ∙ rw none)
 
 -- ---- what a packing says
-pub no-key : (text : List ℕ) (p : Packing) → Packed text p → p ≡ None → 1 ≡ nameSort text
-no-key text p h e = sym (subst (Packed text) e h)
+pub no-key : (name : List ℕ) (p : Packing) → Packed (map folded name) p → p ≡ None → Sorted name NAME
+no-key name p h e = sym (subst (Packed (map folded name)) e h)
 
-pub a-key : (text : List ℕ) (p : Packing) (key s : ℕ) → Packed text p → p ≡ Key key → s ≡ sortOf key → s ≡ nameSort text
-a-key text p key s h e g = g ∙ sym (subst (Packed text) e h)
+module _ (name : List ℕ) (p : Packing) (key : ℕ) (h : Packed (map folded name) p) (e : p ≡ Key key) (place k : ℕ) (at : k ≡ keyAt place) where
+  of-key : (s : ℕ) → s ≡ sortOf key → Sorted name s
+  of-key s g = g ∙ sym (subst (Packed (map folded name)) e h)
+
+  pub a-word : (s : ℕ) → s ≡ sortOf (keyAt place) → k ≡ key → Sorted name s
+  a-word s g is = of-key s (present key place k s at g is)
+
+  pub no-word : place ≡ placeOf key → (k ≡ key → ⊥) → Sorted name NAME
+  no-word g is = of-key NAME (absent key place k g at is)

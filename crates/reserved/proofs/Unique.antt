@@ -1,8 +1,8 @@
--- Each public promise settles the result.
+-- The public promise settles the result.
 use mathlib.Core.Path.{_≡_}
-use mathlib.Core.List.{List, map}
+use mathlib.Core.List.{List}
 use Prim.Native.Nat.{ℕ}
-use Rattle.paper.specs.Sorts.{folded, nameSort}
+use Rattle.reserved.specs.Promise.{Sorted}
 
-pub name-sort-unique : (name : List ℕ) (r s : ℕ) → r ≡ nameSort (map folded name) → s ≡ nameSort (map folded name) → r ≡ s
+pub name-sort-unique : (name : List ℕ) (r s : ℕ) → Sorted name r → Sorted name s → r ≡ s
 name-sort-unique name r s h g = cc

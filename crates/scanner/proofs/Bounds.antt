@@ -3,11 +3,11 @@ use mathlib.Core.Path.{_≡_, refl}
 use mathlib.Core.Bool.{Bool, true, false}
 use mathlib.Core.List.{List, [], _∷_}
 use mathlib.Core.Option.{Option, none, some}
-use Prim.Native.Nat.{ℕ, zero, suc, _-_, _<_, _≤_}
+use Prim.Native.Nat.{ℕ, zero, suc, _<_, _≤_}
 use native.Mathlib.Omega.{arith}
 use lib.Dec.{eqb, ltb}
 use lib.ListN.{length, getD, take, length-take}
-pub use Rattle.reserved.proofs.Table.{test, false-true}
+use Rattle.laws.proofs.Tests.{test}
 use Rattle.paper.specs.Sorts.{signSort}
 use Rattle.paper.specs.Words.{Scan, word, refused, nameLimit, stringLimit, leading, inName, letter, digit, permitted, permittedInside, spoilsNumber, valueOf, stringEnd, scanName, scanNumber, scanString, scanSign, scan}
 use Rattle.scanner.proofs.Strings.{end-within}

@@ -6,10 +6,10 @@ use Prim.Native.Nat.{ℕ, zero, suc, _<_, _≤_}
 use native.Mathlib.Nat.{not-suc-le-zero}
 use native.Mathlib.Omega.{arith}
 use lib.Dec.{eqb, ltb, leb}
-use borrow.Author.Tests.{ltb-false, eqb-true, eqb-false, eq-eqb, ne-eqb, lt-ltb, le-ltb, le-leb, lt-leb, leb-true}
-use Rattle.paper.specs.Sorts.{bytes, folded, signs, equalTexts, numberIn, signSort, firstSign}
+use borrow.Author.Tests.{ltb-false, eqb-true, eq-eqb, ne-eqb, lt-ltb, le-ltb, le-leb, lt-leb, leb-true}
+use Rattle.paper.specs.Sorts.{bytes, folded, signs, equalTexts, numberIn, signSort, firstSign, NOTHING, becomes, lessEqual, greaterEqual, unequal}
 use Rattle.paper.specs.Words.{between, letter, digit, spoilsNumber, barredInString, permitted}
-use Rattle.reserved.proofs.Table.{test, false-true}
+use Rattle.laws.proofs.Tests.{test, false-true, by-last}
 use Rattle.reserved.proofs.Packs.{every, unlike}
 
 -- ---- a test at every number below a bound
@@ -21,12 +21,8 @@ all-below : (f : ℕ → Bool) (n : ℕ) → all f n ≡ true → (b : ℕ) → 
 unfolding all
 all-below f zero t b h = absurd (not-suc-le-zero h)
 all-below f (suc n) t b h =
-    test (f n) (λ e. test (eqb b n) (λ g. ap f (eqb-true b n g) ∙ e)
-    (λ g. all-below f n (rw (e, all) at t) b (last (eqb-false b n g))))
+    test (f n) (λ e. by-last b n h (λ g. ap f g ∙ e) (all-below f n (rw (e, all) at t) b))
     (λ e. false-true (rw (e, all) at t))
-  where
-    last : (b ≡ n → ⊥) → b < n
-    last g = omega (arith, g)
 
 alike-numbers : (f g : ℕ → ℕ) → all (λ b. eqb (f b) (g b)) 256 ≡ true → (b : ℕ) → b < 256 → f b ≡ g b
 alike-numbers f g t b h = eqb-true (f b) (g b) (all-below (λ b. eqb (f b) (g b)) 256 t b h)
@@ -219,10 +215,14 @@ module _ (b c : ℕ) where
   unpaired-above h = outside (sym (in-range 58 62 b (omega arith)) ∙ lt-leb b 62 h)
 
 unfoldable beforeEqual : ℕ → ℕ
-beforeEqual b = elim (eqb b 58) [ true ↦ 11 | false ↦ elim (eqb b 60) [ true ↦ 14 | false ↦ elim (eqb b 62) [ true ↦ 17 | false ↦ 0 ] ] ]
+beforeEqual b =
+    elim (eqb b 58) [
+      | true ↦ becomes
+      | false ↦ elim (eqb b 60) [ true ↦ lessEqual | false ↦ elim (eqb b 62) [ true ↦ greaterEqual | false ↦ NOTHING ] ]
+    ]
 
 unfoldable beforeMore : ℕ → ℕ
-beforeMore b = elim (eqb b 60) [ true ↦ 15 | false ↦ 0 ]
+beforeMore b = elim (eqb b 60) [ true ↦ unequal | false ↦ NOTHING ]
 
 before-equal : (b : ℕ) → b < 256 → beforeEqual b ≡ signSort (b ∷ 61 ∷ [])
 unfolding all beforeEqual signSort numberIn signs equalTexts bytes folded

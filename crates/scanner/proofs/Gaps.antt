@@ -6,11 +6,11 @@ use Prim.Native.Nat.{ℕ, _+_, _-_, _<_, _≤_}
 use native.Mathlib.Omega.{arith}
 use lib.ListN.{length, getD, drop, drop-of-length-le}
 use borrow.Author.Tests.{eq-eqb, ne-eqb}
+use Rattle.laws.proofs.Lists.{rest}
 use Rattle.paper.specs.Words.{permittedInside, separates, gap, upTo}
 use Rattle.scanner.specs.declared.Gap.{Gap}
 use Rattle.scanner.specs.declared.Gap.the-variants.{UpTo, BadByte}
 use Rattle.scanner.specs.Answers.{gapOf, Commented}
-use Rattle.scanner.proofs.Runs.{rest}
 
 -- What is left of a gap from a place on, in a comment or not.
 pub record Left (comment : Bool) (text : List ℕ) (start place : ℕ) : Type 0 where

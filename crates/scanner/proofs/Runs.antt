@@ -1,14 +1,13 @@
 -- Runs of bytes of a kind, and names.
 use mathlib.Core.Path.{_≡_, sym, ap, _∙_}
 use mathlib.Core.Bool.{Bool, true, false}
-use mathlib.Core.List.{List, _∷_, map}
-use Prim.Native.Nat.{ℕ, suc, _+_, _-_, _<_, _≤_}
+use mathlib.Core.List.{List, map}
+use Prim.Native.Nat.{ℕ, suc, _+_, _<_, _≤_}
 use native.Mathlib.Nat.{zero-add}
-use native.Mathlib.Numerals.{add-one}
 use native.Mathlib.Omega.{arith}
 use lib.ListN.{length, getD, take, drop, drop-of-length-le}
-use lib.Seq.{drop-cons}
 use borrow.Author.Tests.{lt-ltb, le-ltb}
+use Rattle.laws.proofs.Lists.{rest}
 use Rattle.paper.specs.Sorts.{folded, nameSort}
 use Rattle.paper.specs.Words.{nameLimit, leading, inName, scanName, word, malformed}
 use Rattle.scanner.specs.Answers.{Counted}
@@ -17,10 +16,6 @@ use Rattle.scanner.specs.Answers.{Counted}
 pub record Run (such : ℕ → Bool) (text : List ℕ) (n : ℕ) : Type 0 where
   pub place : n ≤ length text
   pub left : leading such text ≡ n + leading such (drop n text)
-
--- the rest of a text from a place on begins with the byte there
-pub rest : (text : List ℕ) (n : ℕ) → n < length text → drop n text ≡ getD text n 0 ∷ drop (n + 1) text
-rest text n h = rw (add-one, drop-cons text n 0)
 
 module _ (such : ℕ → Bool) (text : List ℕ) where
   pub run-start : Run such text 0

@@ -2,10 +2,10 @@
 use mathlib.Core.Path.{_≡_, refl, sym, _∙_}
 use mathlib.Core.Bool.{Bool, true, false}
 use mathlib.Core.List.{List, [], _∷_}
-use Prim.Native.Nat.{ℕ, zero, suc, _-_, _<_, _≤_}
+use Prim.Native.Nat.{ℕ, zero, suc, _<_, _≤_}
 use native.Mathlib.Omega.{arith}
 use lib.ListN.{length, getD}
-use Rattle.reserved.proofs.Table.{test}
+use Rattle.laws.proofs.Tests.{test}
 use Rattle.paper.specs.Sorts.{signSort}
 use Rattle.paper.specs.Words.{permitted, scanSign, word, refused, malformed}
 use Rattle.scanner.specs.Answers.{pairSort, signOrNone}

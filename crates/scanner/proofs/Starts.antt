@@ -2,12 +2,12 @@
 use mathlib.Core.Path.{_≡_, refl, sym, _∙_}
 use mathlib.Core.Bool.{Bool, true, false}
 use mathlib.Core.List.{List, [], _∷_}
-use Prim.Native.Nat.{ℕ, _-_}
+use Prim.Native.Nat.{ℕ}
 use native.Mathlib.Omega.{arith}
 use lib.ListN.{length, getD}
 use borrow.Author.Tests.{eq-eqb, ne-eqb}
 use Rattle.paper.specs.Words.{Scan, refused, largestNumber, between, permitted, letter, digit, scanName, scanNumber, scanString, scan}
-use Rattle.reserved.proofs.Table.{test}
+use Rattle.laws.proofs.Tests.{test}
 use Rattle.scanner.specs.Answers.{signOrNone}
 use Rattle.scanner.proofs.Bytes.{letter-permitted, digit-permitted, quote-permitted}
 

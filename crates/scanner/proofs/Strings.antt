@@ -5,25 +5,22 @@ use mathlib.Core.List.{List, [], _∷_}
 use mathlib.Core.Option.{Option, none, some}
 use Prim.Native.Nat.{ℕ, zero, suc, _+_, _-_, _<_, _≤_}
 use native.Mathlib.Omega.{arith}
-use lib.Dec.{eqb, ltb}
+use lib.Dec.{eqb}
 use lib.ListN.{length, getD, drop, List·getD-eq-default, drop-of-length-le}
-use borrow.Author.Tests.{eq-eqb, ne-eqb, eqb-true, ltb-true, ltb-false, lt-ltb, le-ltb, not-true, not-false}
-use Rattle.reserved.proofs.Table.{test, false-true}
+use borrow.Author.Tests.{eq-eqb, ne-eqb, eqb-true, lt-ltb, le-ltb, not-true, not-false}
+use Rattle.laws.proofs.Tests.{test, false-true, apart, by-less, by-same}
+use Rattle.laws.proofs.Lists.{rest, Reached, reached-here, reached-on}
 use Rattle.paper.specs.Sorts.{STRING}
 use Rattle.paper.specs.Words.{Scan, stringLimit, leading, permittedInside, barredInString, stringEnd, scanString, word, refused, malformed}
 use Rattle.scanner.specs.Answers.{noted, closedString}
 use Rattle.scanner.proofs.Bytes.{passed, quote-permitted}
-use Rattle.scanner.proofs.Runs.{Run, run-start, run-more, run-stop, rest}
+use Rattle.scanner.proofs.Runs.{Run, run-start, run-more, run-stop}
 
 -- ---- bytes that are not permitted
 -- Of the first n bytes every one is permitted, or `bad` is the place of the first that is not.
 pub record Seen (text : List ℕ) (n bad : ℕ) : Type 0 where
   pub none-bad : bad ≡ 0 → Run permittedInside text n
   pub first-bad : (bad ≡ 0 → ⊥) → (leading permittedInside text ≡ bad) × (bad < n)
-
-is-zero : {A : Type 0} (x : ℕ) → (x ≡ 0 → A) → ((x ≡ 0 → ⊥) → A) → A
-is-zero zero f g = f refl
-is-zero (suc m) f g = g (λ e. omega arith)
 
 noted-zero : (bad at : ℕ) → bad ≡ 0 → noted bad at false ≡ at
 unfolding noted
@@ -55,7 +52,7 @@ module _ (text : List ℕ) (n bad : ℕ) (at : Seen text n bad) (h : n < length 
 
   seen-bad : 0 < n → permittedInside (getD text n 0) ≡ false → Seen text (n + 1) (noted bad n false)
   seen-bad g p =
-      is-zero bad
+      by-same bad 0
       (λ z. rw (noted-zero bad n z) (record {
         none-bad = λ y. absurd (omega arith);
         first-bad = λ y. (sym (run-stop permittedInside text n (at .none-bad z) false h (sym p) refl .exact), omega arith);
@@ -163,8 +160,8 @@ module _ (text : List ℕ) (room bad n : ℕ) (at : Left text room bad n) where
 
       second : t ≡ false → n + 1 < length text
       second g =
-          test (ltb (n + 1) (length text)) (λ e. ltb-true _ _ e)
-          (λ e. false-true (sym g ∙ is ∙ sym (no-quote text (n + 1) (ltb-false _ _ e))))
+          by-less (n + 1) (length text) (λ h. h)
+          (λ h. false-true (sym g ∙ is ∙ sym (no-quote text (n + 1) h)))
 
       pub quote-twice : t ≡ false → Passing text room bad (n + 1)
       unfolding stringEnd
@@ -181,8 +178,8 @@ module _ (text : List ℕ) (room bad n : ℕ) (at : Left text room bad n) where
       unfolding stringEnd
       ended g =
           let q = not-true (eqb (getD text (n + 1) 0) 34) (sym is ∙ g) in
-          test (ltb (n + 1) (length text)) (λ e. at-second (ltb-true _ _ e) ∙ rw (q, stringEnd))
-          (λ e. after-quote ∙ rw (drop-of-length-le text (ltb-false _ _ e)))
+          by-less (n + 1) (length text) (λ h. at-second h ∙ rw (q, stringEnd))
+          (λ h. after-quote ∙ rw (drop-of-length-le text h))
 
       pub closes : (s : Scan) → t ≡ true → s ≡ closedString (n + 1) bad → s ≡ scanString text
       closes s g e = e ∙ closed-by text (n + 1) bad seen-quote (ended g)
@@ -212,28 +209,25 @@ module _ (text : List ℕ) (room bad n : ℕ) (at : Passing text room bad n) whe
   }
 
 -- ---- a string's end lies in the text
-pub none-some : {A : Type 0} {m : ℕ} → _≡_ {A = Option ℕ} none (some m) → A
-none-some e = let z : _≡_ {A = ℕ} 0 1 = cc in absurd (omega arith)
+no-end : {A : Type 0} {m : ℕ} → _≡_ {A = Option ℕ} none (some m) → A
+no-end e = apart (cc)
 
-some-same : (n m : ℕ) (l : List ℕ) → some n ≡ some m → (n ≤ m) × (m ≤ n + length l)
-some-same n m l e = let z : n ≡ m = cc in (omega arith, omega arith)
+end-here : (n m : ℕ) (l : List ℕ) → some n ≡ some m → Reached n m l
+end-here n m l e = reached-here n m l (cc)
 
-one-more : (n m : ℕ) (b : ℕ) (l : List ℕ) → (n + 1 ≤ m) × (m ≤ n + 1 + length l) → (n ≤ m) × (m ≤ n + length (b ∷ l))
-one-more n m b l h = (omega arith, omega arith)
-
-pub end-within : (room : ℕ) (quoted : Bool) (l : List ℕ) (n m : ℕ) → stringEnd room quoted l n ≡ some m → (n ≤ m) × (m ≤ n + length l)
+pub end-within : (room : ℕ) (quoted : Bool) (l : List ℕ) (n m : ℕ) → stringEnd room quoted l n ≡ some m → Reached n m l
 unfolding stringEnd
-end-within room true [] n m e = some-same n m [] e
-end-within room false [] n m e = none-some e
+end-within room true [] n m e = end-here n m [] e
+end-within room false [] n m e = no-end e
 end-within zero true (b ∷ r) n m e =
-    test (eqb b 34) (λ g. none-some (rw (g, stringEnd) at e)) (λ g. some-same n m (b ∷ r) (rw (g, stringEnd) at e))
+    test (eqb b 34) (λ g. no-end (rw (g, stringEnd) at e)) (λ g. end-here n m (b ∷ r) (rw (g, stringEnd) at e))
 end-within (suc k) true (b ∷ r) n m e =
-    test (eqb b 34) (λ g. one-more n m b r (end-within k false r (n + 1) m (rw (g, stringEnd) at e)))
-    (λ g. some-same n m (b ∷ r) (rw (g, stringEnd) at e))
+    test (eqb b 34) (λ g. reached-on n m b r (end-within k false r (n + 1) m (rw (g, stringEnd) at e)))
+    (λ g. end-here n m (b ∷ r) (rw (g, stringEnd) at e))
 end-within zero false (b ∷ r) n m e =
-    test (eqb b 34) (λ g. one-more n m b r (end-within zero true r (n + 1) m (rw (g, stringEnd) at e)))
-    (λ g. test (barredInString b) (λ t. none-some (rw t at (rw (g, stringEnd) at e))) (λ t. none-some (rw t at (rw (g, stringEnd) at e))))
+    test (eqb b 34) (λ g. reached-on n m b r (end-within zero true r (n + 1) m (rw (g, stringEnd) at e)))
+    (λ g. test (barredInString b) (λ t. no-end (rw t at (rw (g, stringEnd) at e))) (λ t. no-end (rw t at (rw (g, stringEnd) at e))))
 end-within (suc k) false (b ∷ r) n m e =
-    test (eqb b 34) (λ g. one-more n m b r (end-within (suc k) true r (n + 1) m (rw (g, stringEnd) at e)))
-    (λ g. test (barredInString b) (λ t. none-some (rw t at (rw (g, stringEnd) at e)))
-    (λ t. one-more n m b r (end-within k false r (n + 1) m (rw t at (rw (g, stringEnd) at e)))))
+    test (eqb b 34) (λ g. reached-on n m b r (end-within (suc k) true r (n + 1) m (rw (g, stringEnd) at e)))
+    (λ g. test (barredInString b) (λ t. no-end (rw t at (rw (g, stringEnd) at e)))
+    (λ t. reached-on n m b r (end-within k false r (n + 1) m (rw t at (rw (g, stringEnd) at e)))))

@@ -2,15 +2,12 @@
 use mathlib.Core.Path.{_≡_, sym, _∙_}
 use mathlib.Core.List.{List}
 use Prim.Native.Nat.{ℕ}
-use native.Mathlib.Omega.{arith}
+use Rattle.laws.proofs.Tests.{apart}
 use Rattle.scanner.specs.declared.Scan.{Scan}
 use Rattle.scanner.specs.declared.Scan.the-variants.{Word, Refused}
 use Rattle.scanner.specs.declared.Gap.{Gap}
 use Rattle.scanner.specs.declared.Gap.the-variants.{UpTo, BadByte}
 use Rattle.scanner.specs.Answers.{scanOf, gapOf, Scanned, Skipped}
-
-apart : {A : Type 0} → _≡_ {A = ℕ} 0 1 → A
-apart z = absurd (omega arith)
 
 pub scan-of-one : (r s : Scan) → scanOf r ≡ scanOf s → r ≡ s
 scan-of-one (Word a b c) (Word d e f) h = cc

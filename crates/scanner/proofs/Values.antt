@@ -8,8 +8,8 @@ use native.Mathlib.Omega.{arith}
 use lib.Dec.{ltb}
 use lib.ListN.{length, getD, take, List·getD-eq-default}
 use lib.Seq.{take-suc}
-use borrow.Author.Tests.{ltb-true, ltb-false, lt-ltb, le-ltb, leb-true}
-use Rattle.reserved.proofs.Table.{test, false-true}
+use borrow.Author.Tests.{ltb-false, lt-ltb, le-ltb, leb-true}
+use Rattle.laws.proofs.Tests.{test, false-true, by-less}
 use Rattle.paper.specs.Sorts.{NUMBER}
 use Rattle.paper.specs.Words.{largestNumber, between, letter, leading, digit, valueOf, spoilsNumber, scanNumber, word, refused, malformed}
 use Rattle.scanner.specs.Answers.{capped, valueBound, Digits·of}
@@ -29,17 +29,15 @@ still-large v d h = capped-large v h ∙ sym (capped-large (v * 10 + d) (omega a
 -- what is large stays large, what is not is known
 capped-is : (x y : ℕ) → capped x ≡ capped y → (y ≤ largestNumber → x ≡ y) × (largestNumber < y → largestNumber < x)
 capped-is x y e =
-    test (ltb largestNumber x)
-    (λ t. let l = ltb-true largestNumber x t in
-    ((λ h. absurd (let z : suc largestNumber ≡ y = sym (capped-large x l) ∙ e ∙ capped-small y h in omega arith)), (λ h. l)))
-    (λ t. let l = ltb-false largestNumber x t in
-    ((λ h. sym (capped-small x l) ∙ e ∙ capped-small y h), (λ h. absurd (let z : x ≡ suc largestNumber = sym (capped-small x l) ∙ e ∙ capped-large y h in omega arith))))
+    by-less largestNumber x
+    (λ l. ((λ h. absurd (let z : suc largestNumber ≡ y = sym (capped-large x l) ∙ e ∙ capped-small y h in omega arith)), (λ h. l)))
+    (λ l. ((λ h. sym (capped-small x l) ∙ e ∙ capped-small y h), (λ h. absurd (let z : x ≡ suc largestNumber = sym (capped-small x l) ∙ e ∙ capped-large y h in omega arith))))
 
 capped-more : (x y d : ℕ) → capped x ≡ capped y → capped (x * 10 + d) ≡ capped (y * 10 + d)
 capped-more x y d e =
-    test (ltb largestNumber y)
-    (λ t. let l = ltb-true largestNumber y t in sym (still-large x d (capped-is x y e .1 l)) ∙ e ∙ still-large y d l)
-    (λ t. ap (λ (v : ℕ). capped (v * 10 + d)) (capped-is x y e .0 (ltb-false largestNumber y t)))
+    by-less largestNumber y
+    (λ l. sym (still-large x d (capped-is x y e .1 l)) ∙ e ∙ still-large y d l)
+    (λ l. ap (λ (v : ℕ). capped (v * 10 + d)) (capped-is x y e .0 l))
 
 value-more : (l : List ℕ) (b v : ℕ) → valueOf (l ++ b ∷ []) v ≡ valueOf l v * 10 + (b - 48)
 unfolding valueOf

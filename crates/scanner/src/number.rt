@@ -24,7 +24,7 @@ fn with_digit(value: u64, b: u8) -> u64
     if LARGEST < value {
         return value;
     }
-    value * 10 + ((b - 48) as u64)
+    value * 10 + ((b - b'0') as u64)
 }
 
 fn read_digits(text: &[u8]) -> Digits
@@ -66,5 +66,5 @@ pub(crate) fn scan_number(text: &[u8]) -> Scan
     if LARGEST < value {
         return Scan::Refused(6, 0);
     }
-    Scan::Word(2, length, value)
+    Scan::Word(sorts::NUMBER, length, value)
 }

@@ -1,5 +1,5 @@
 -- `reserved::name_sort` meets its contract.
-use Rattle.reserved.proofs.Packs.{no-key, a-key}
+use Rattle.reserved.proofs.Packs.{no-key, a-word, no-word}
 use borrow.Author.Needs.{needs}
 use Rattle.reserved.proofs.name_sort.Statement.{statement}
 use Rattle.reserved.proofs.name_sort.Tie as tie
@@ -16,13 +16,31 @@ enum-told c = search needs
 returns : tie.Need-returns
 returns c = search (needs, no-key)
 
-sort-of-key-requires : tie.Need-sort-of-key-requires
-sort-of-key-requires c κs = search needs
+place-of-requires : tie.Need-place-of-requires
+place-of-requires c κs = search needs
+
+sort-at-requires : tie.Need-sort-at-requires
+sort-at-requires c κs = search needs
+
+key-at-requires : tie.Need-key-at-requires
+key-at-requires c κs = search needs
 
 returns-2 : tie.Need-returns-2
-returns-2 c = search (needs, a-key)
+returns-2 c = search (needs, a-word)
+
+returns-3 : tie.Need-returns-3
+returns-3 c = search (needs, no-word)
 
 pub name-sort-spec : {M : Type 1} → statement M
 name-sort-spec =
     tie.close
-    (tie.spec pack-requires enum-known-key enum-told returns sort-of-key-requires returns-2)
+    (tie.spec
+    pack-requires
+    enum-known-key
+    enum-told
+    returns
+    place-of-requires
+    sort-at-requires
+    key-at-requires
+    returns-2
+    returns-3)

@@ -1,16 +1,18 @@
--- `reserved::shift_at` meets its contract: antt computes the shift at each rest, and there is no other.
+-- `reserved::shift_at` meets its contract: antt computes the shift of each letter, and there is no other.
 use Rattle.reserved.proofs.Table.{no-other}
 use borrow.Author.Needs.{needs}
 use Rattle.reserved.proofs.shift_at.Statement.{statement}
 use Rattle.reserved.proofs.shift_at.Tie as tie
 
-outside : tie.Need-returns-17
-outside c = absurd (no-other 16 _ (c .match .rest) (c .before .pre))
+outside : tie.Need-returns-33
+outside c = absurd (no-other 32 _ (c .match .rest) (c .before .pre))
 
 pub shift-at-spec : {M : Type 1} → statement M
 shift-at-spec =
     tie.close
     (tie.spec
+    (λ c. search needs) (λ c. search needs) (λ c. search needs) (λ c. search needs) (λ c. search needs) (λ c. search needs) (λ c. search needs) (λ c. search needs)
+    (λ c. search needs) (λ c. search needs) (λ c. search needs) (λ c. search needs) (λ c. search needs) (λ c. search needs) (λ c. search needs) (λ c. search needs)
     (λ c. search needs) (λ c. search needs) (λ c. search needs) (λ c. search needs) (λ c. search needs) (λ c. search needs) (λ c. search needs) (λ c. search needs)
     (λ c. search needs) (λ c. search needs) (λ c. search needs) (λ c. search needs) (λ c. search needs) (λ c. search needs) (λ c. search needs) (λ c. search needs)
     outside)
