@@ -1,23 +1,31 @@
--- The number that a search's answer is told by.
-use mathlib.Core.Path.{_≡_, sym, ap, subst, _∙_}
+-- The number that a part is told by.
+use mathlib.Core.Path.{_≡_, refl, sym, ap, _∙_}
+use mathlib.Core.Bool.{Bool, true, false}
 use mathlib.Core.List.{List}
-use Prim.Native.Nat.{ℕ, _-_}
+use mathlib.Core.Option.{Option, none, some}
+use Prim.Native.Nat.{ℕ}
 use native.Mathlib.Omega.{arith}
-use lib.ListN.{length, take, drop, length-drop}
-use lib.Seq.{length-take-le}
-use Rattle.words.specs.declared.Found.{Found}
-use Rattle.words.specs.declared.Found.the-variants.{Length, Nothing}
-use Rattle.words.specs.Answers.{FoundAt}
+use lib.ListN.{length}
+use denote.Ref.{RefT}
+use Rattle.laws.proofs.Tests.{apart}
+use Rattle.paper.specs.Words.{asked}
+use Rattle.words.specs.Answers.{bytesOf, isThere, PartAt}
+use Rattle.words.proofs.Asks.{asked-lies}
 use Rattle.asking.specs.Asking.{size, Told}
 
-module _ (text : List ℕ) (place : ℕ) (r : Found) (is : FoundAt text place r) where
-  pub tells-none : r ≡ Nothing → Told text place 0
-  tells-none e =
-      let a = subst (FoundAt text place) e is .is in
-      record { size-is = ap size a; nothing = λ z. sym a }
+module _ (text : RefT (List ℕ)) (place : ℕ) (part : RefT (List ℕ)) (found : Bool) (is : PartAt text place part found) where
+  pub tells-none : found ≡ false → Told (text .now) place 0
+  tells-none e = go (asked (text .now) place) refl (sym e ∙ is .flag)
+    where
+      go : (o : Option (List ℕ)) → asked (text .now) place ≡ o → false ≡ isThere o → Told (text .now) place 0
+      go none a f = record { size-is = rw a; nothing = λ z. a }
+      go (some l) a f = apart (cc)
 
-  pub tells-some : (n : ℕ) → r ≡ Length n → Told text place n
-  tells-some n e =
-      let f = subst (FoundAt text place) e is in
-      let l : length (take n (drop place text)) ≡ n = length-take-le n (drop place text) (rw length-drop (omega (arith, f .inside .1))) in
-      record { size-is = sym l ∙ ap size (f .is); nothing = λ z. absurd (omega (arith, f .inside .0)) }
+  pub tells-some : found ≡ true → Told (text .now) place (length (part .now))
+  tells-some e = go (asked (text .now) place) refl (sym e ∙ is .flag)
+    where
+      go : (o : Option (List ℕ)) → asked (text .now) place ≡ o → true ≡ isThere o → Told (text .now) place (length (part .now))
+      go none a f = apart (cc)
+      go (some l) a f =
+          let same : part .now ≡ l = is .bytes ∙ ap bytesOf a in
+          record { size-is = rw (a, same); nothing = λ z. absurd (omega (arith, ap length same, asked-lies (text .now) place l a .some-bytes)) }

@@ -1,22 +1,26 @@
 -- What is handed to the host.
-use mathlib.Core.Path.{_≡_, _∙_}
+use mathlib.Core.Path.{_≡_, ap, _∙_}
 use mathlib.Core.List.{List}
-use Prim.Native.Nat.{ℕ, _<_, _≤_}
+use Prim.Native.Nat.{ℕ, _*_, _<_, _≤_}
 use lib.ListN.{length}
 use borrow.Author.Tests.{lt-ltb, le-ltb}
-use Rattle.listing.specs.Listing.{put4, summary, Listed·all, Exported}
+use Rattle.cells.specs.Words.{bytesOf}
+use Rattle.paper.specs.Words.{listing}
+use Rattle.listing.specs.declared.Summary.{Summary}
+use Rattle.listing.specs.Listing.{threeBytes, threePut, summaryOf, Listed·all, Exported}
+use Rattle.listing.proofs.Output.{listing-is}
 
-module _ (text out rec : List ℕ) where
-  pub exported-short : length rec < 12 → Exported text out rec 0 out rec
-  exported-short h = let t = lt-ltb (length rec) 12 h in record { result = rw t; entries = rw t; record-is = rw t }
+module _ (text out answer : List ℕ) where
+  pub exported-short : length answer < 12 → Exported text out answer 0 out answer
+  exported-short h = let t = lt-ltb (length answer) 12 h in record { result = rw t; entries = rw t; summary = rw t }
 
-  pub exported-all : (out′ a b d : List ℕ) (w f o : ℕ) → 12 ≤ length rec → Listed·all text out out′ w f o → a ≡ put4 rec 0 w → b ≡ put4 a 1 f → d ≡ put4 b 2 o
-      → Exported text out rec 1 out′ d
-  unfolding summary
-  exported-all out′ a b d w f o h l x y z =
-      let t = le-ltb (length rec) 12 h in
+  pub exported-all : (out′ answer′ : List ℕ) (s : Summary) → 12 ≤ length answer → Listed·all text out out′ s → answer′ ≡ threePut answer (0 * 4) (s .words) (s .refusal) (s .offset)
+      → Exported text out answer 1 out′ answer′
+  unfolding threeBytes bytesOf
+  exported-all out′ answer′ s h l e =
+      let t = le-ltb (length answer) 12 h in
       record {
         result = rw t;
-        entries = rw t (l .entries);
-        record-is = rw (t, ← l .words-are, ← l .number-is, ← l .offset-is) (z ∙ rw (y, x));
+        entries = rw t (l .entries ∙ listing-is out (listing text .0));
+        summary = rw t (e ∙ ap (λ (x : Summary). threePut answer 0 (x .words) (x .refusal) (x .offset)) (l .summary));
       }

@@ -1,5 +1,5 @@
 pub mod Entries
+pub mod Output
 pub mod Lists
 pub mod Exports
 pub mod Unique
-pub mod Output

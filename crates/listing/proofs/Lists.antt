@@ -1,64 +1,65 @@
 -- A listing, word by word.
-use mathlib.Core.Path.{_≡_, refl, sym, ap, _∙_}
-use mathlib.Core.List.{List, []}
-use mathlib.Core.Logic.{_⊎_, inl, inr}
-use Prim.Native.Nat.{ℕ, _+_, _-_}
+use mathlib.Core.Path.{_≡_, refl, sym, ap, subst, _∙_}
+use mathlib.Core.List.{List, [], _∷_, map}
+use mathlib.Core.Option.{none, some}
+use Prim.Native.Nat.{ℕ, _+_}
 use native.Mathlib.Omega.{arith}
-use lib.ListN.{length}
-use Rattle.paper.specs.Words.{Reading, reading}
+use lib.ListN.{length, length-map}
+use Rattle.paper.specs.Words as paper
+use Rattle.paper.specs.Words.{Listed, Reading, Refusal, reading, noWords, listed, listing}
+use Rattle.words.specs.declared.Word.{Word}
 use Rattle.words.specs.declared.Cursor.{Cursor}
 use Rattle.words.specs.declared.Step.{Step}
 use Rattle.words.specs.declared.Step.the-variants as steps
-use Rattle.words.specs.Answers.{Stepped, leftOf, readingOf}
-use Rattle.words.proofs.Readings.{word-is, step-reads, start-reads}
-use Rattle.listing.specs.Listing.{entered, written, refusalNumber, refusalOffset, Ended, endOf, Listed·all}
+use Rattle.words.specs.Answers.{after, Started, Stepped, leftOf}
+use Rattle.words.proofs.Readings.{Given, Gives, step-gives, step-ends, step-refuses, start-left}
+use Rattle.listing.specs.Listing.{listedOf, entered, written, refusalNumber, refusalOffset, Listed·all}
 use Rattle.listing.proofs.Entries.{length-entered}
+
+abbrev leftList : List ℕ → Cursor → List Listed
+leftList text c = map listed (leftOf text c .words)
 
 -- What is left of a listing at a cursor.
 pub record Lists (text before out : List ℕ) (c : Cursor) : Type 0 where
-  pub entries : written before 0 (reading text .words) ≡ written out (c .words) (leftOf text c .words)
-  pub count : length (reading text .words) ≡ c .words + length (leftOf text c .words)
-  pub refused : reading text .refusal ≡ leftOf text c .refusal
+  pub entries : written before 0 (listing text .0) ≡ written out (c .words) (leftList text c)
+  pub count : length (listing text .0) ≡ c .words + length (leftList text c)
+  pub refused : listing text .1 ≡ leftOf text c .refusal
   pub size : length out ≡ length before
 
-pub lists-start : (text out : List ℕ) (c : Cursor) → (c .place ≡ 0) × (c .words ≡ 0) → Lists text out out c
+pub lists-start : (text out : List ℕ) (c : Cursor) → Started c → Lists text out out c
+unfolding listing
 lists-start text out c h =
-    let same : leftOf text c ≡ reading text = start-reads text c h in
-    record { entries = rw (same, h .1); count = rw (same, h .1) (omega arith); refused = rw same; size = refl }
+    let left : leftOf text c ≡ reading text = start-left text c h in
+    let none-yet : c .words ≡ 0 = ap (λ (x : Cursor). x .words) h in
+    record { entries = rw (left, none-yet); count = rw (left, none-yet) (omega arith); refused = rw left; size = refl }
 
-module _ (text before out : List ℕ) (c : Cursor) (at : Lists text before out c) (r : Step) (is : Stepped text c r) where
-  -- what is left begins with the step's answer
-  left-is : leftOf text c ≡ readingOf text r
-  left-is = step-reads text c r is
-
-  pub lists-word : (out′ : List ℕ) (s p n v : ℕ) (d : Cursor) → r ≡ steps.Word s p n v d → out′ ≡ entered out (c .words) s p n → Lists text before out′ d
+module _ (text before out : List ℕ) (c : Cursor) (at : Lists text before out c) where
+  word-on : (out′ : List ℕ) (v : paper.Word) → Given text c v → out′ ≡ entered out (c .words) (listed v) → Lists text before out′ (after (c .words) v)
   unfolding written
-  lists-word out′ s p n v d e g =
-      let m = word-is text c r is s p n v d e .moved in
-      let left : leftOf text c ≡ readingOf text (steps.Word s p n v d) = left-is ∙ ap (readingOf text) e in
-      record {
-        entries = at .entries ∙ rw (left, g, m .1);
-        count = at .count ∙ rw (left, m .1) (omega arith);
-        refused = at .refused ∙ rw left;
-        size = ap length g ∙ length-entered out (c .words) s p n ∙ at .size;
-      }
+  word-on out′ v g e = record {
+    entries = at .entries ∙ rw (g .left, e);
+    count = at .count ∙ rw (g .left) (omega arith);
+    refused = at .refused ∙ rw (g .left);
+    size = ap length e ∙ length-entered out (c .words) (listed v) ∙ at .size;
+  }
 
-  -- the reading ends where the answer is no word, whose number is 0
-  pub lists-end : (number : Step → ℕ) → ((s p n v : ℕ) (d : Cursor) → number (steps.Word s p n v d) ≡ 0) → (number r ≡ 1) ⊎ (number r ≡ 2)
-      → (w f o : ℕ) → Ended r (c .words) w f o → Listed·all text before out w f o
+  done : (o : paper.Reading) → leftOf text c ≡ o → o .words ≡ [] → Listed·all text before out (record { words = c .words; refusal = refusalNumber (o .refusal); offset = refusalOffset (o .refusal) })
   unfolding written
-  lists-end number first other w f o k = go r left-is other k
-    where
-      done : (r : Step) → leftOf text c .words ≡ [] → leftOf text c .refusal ≡ endOf r → Ended r (c .words) w f o → Listed·all text before out w f o
-      done r gone same k = record {
-        entries = sym (at .entries ∙ rw gone);
-        words-are = k .words-are ∙ sym (at .count ∙ rw gone (omega arith));
-        number-is = k .number-is ∙ ap refusalNumber (sym (at .refused ∙ same));
-        offset-is = k .offset-is ∙ ap refusalOffset (sym (at .refused ∙ same));
-      }
+  done o left gone =
+      let empty : leftOf text c .words ≡ [] = ap (λ (x : Reading). x .words) left ∙ gone in
+      let refusal-is : listing text .1 ≡ o .refusal = at .refused ∙ ap (λ (x : Reading). x .refusal) left in
+      let count-is : c .words ≡ length (listing text .0) = sym (at .count ∙ rw empty (omega arith)) in
+      record { entries = sym (at .entries ∙ rw empty); summary = rw (count-is, refusal-is) }
 
-      go : (r : Step) → leftOf text c ≡ readingOf text r → (number r ≡ 1) ⊎ (number r ≡ 2) → Ended r (c .words) w f o → Listed·all text before out w f o
-      go (steps.Word s p n v d) e (inl x) k = absurd (omega (arith, first s p n v d))
-      go (steps.Word s p n v d) e (inr x) k = absurd (omega (arith, first s p n v d))
-      go steps.End e x k = done steps.End (ap (λ (y : Reading). y .words) e) (ap (λ (y : Reading). y .refusal) e) k
-      go (steps.Refused number place) e x k = done (steps.Refused number place) (ap (λ (y : Reading). y .words) e) (ap (λ (y : Reading). y .refusal) e) k
+  module _ (r : Step) (is : Stepped text c r) where
+    pub lists-word : (out′ : List ℕ) (w : Word) (d : Cursor) → r ≡ steps.Word w d → out′ ≡ entered out (c .words) (listedOf w) → Lists text before out′ d
+    unfolding listed
+    lists-word out′ w d e f =
+        let g : Gives text c w d = step-gives text c r is w d e in
+        subst (Lists text before out′) (sym (g .cursor-is)) (word-on out′ (g .paper-word) (g .given) (f ∙ ap (λ (x : Word). entered out (c .words) (listedOf x)) (g .word-is)))
+
+    pub lists-end : r ≡ steps.End → Listed·all text before out (record { words = c .words; refusal = 0; offset = 0 })
+    lists-end e = done (noWords none) (step-ends text c r is e) refl
+
+    pub lists-refused : (k p : ℕ) → r ≡ steps.Refused k p → Listed·all text before out (record { words = c .words; refusal = k; offset = p })
+    lists-refused k p e = done (noWords (some (record { number = k; offset = p }))) (step-refuses text c r is k p e) refl

@@ -1,42 +1,51 @@
--- The paper's case for each answer of a reading.
+-- What a reading promises: the code's answer for each of the paper's.
 use mathlib.Core.Path.{_≡_}
 use mathlib.Core.Bool.{Bool, true, false}
 use mathlib.Core.List.{List, []}
 use mathlib.Core.Option.{Option, none, some}
-use Prim.Native.Nat.{ℕ, suc, _+_, _-_, _≤_, _<_, _^_}
-use lib.Dec.{eqb, ltb, leb}
-use lib.ListN.{length, take, drop}
+use Prim.Native.Nat.{ℕ, suc, _+_, _-_, _<_, _^_}
+use lib.Dec.{ltb, leb}
+use lib.ListN.{length, drop}
+use denote.Ref.{RefT}
 use Rattle.paper.specs.Words as paper
 use Rattle.scanner.specs.declared.Scan.{Scan}
 use Rattle.scanner.specs.declared.Scan.the-variants as scans
-use Rattle.words.specs.declared.Next.{Next}
-use Rattle.words.specs.declared.Next.the-variants.{Word, End, Refused}
+use Rattle.scanner.specs.Answers.{scanOf}
+use Rattle.words.specs.declared.Word.{Word}
 use Rattle.words.specs.declared.Cursor.{Cursor}
 use Rattle.words.specs.declared.Step.{Step}
 use Rattle.words.specs.declared.Step.the-variants as steps
 use Rattle.words.specs.declared.Found.{Found}
 use Rattle.words.specs.declared.Found.the-variants.{Length, Nothing}
 
--- the word of a text that has this sort, place, length and value
-abbrev pub wordOf : List ℕ → (sort place length value : ℕ) → paper.Word
-wordOf text sort place length value =
-    record { sort = sort; place = place; length = length; value = value; covers = take length (drop place text) }
+-- ---- a step
+abbrev pub wordOf : paper.Word → Word
+wordOf w = record { sort = w .sort; place = w .place; length = length (w .covers); value = w .value }
 
-abbrev pub nextOf : List ℕ → Next → paper.Next
-nextOf text (Word sort place length value) = paper.next (wordOf text sort place length value)
-nextOf text End = paper.ended
-nextOf text (Refused number place) = paper.refuse number place
+-- the cursor with a word stands after it, and has one word more
+abbrev pub after : (words : ℕ) → paper.Word → Cursor
+after words w = record { place = paper.placeAfter w; words = words + 1 }
 
--- the refusal of a scan at a place; a word is refused in a full text only
-abbrev pub refusalOf : (full : Bool) → (place : ℕ) → Scan → Next
-refusalOf full place (scans.Word sort n v) = Refused 7 place
-refusalOf false place (scans.Refused number after) = Refused number (place + after)
-refusalOf true place (scans.Refused number after) = elim (eqb after 0) [ true ↦ Refused number place | false ↦ Refused 7 place ]
+-- what comes next, where so many words came before
+abbrev pub stepOf : (words : ℕ) → paper.Next → Step
+stepOf words (paper.next w) = steps.Word (wordOf w) (after words w)
+stepOf words paper.ended = steps.End
+stepOf words (paper.refusal r) = steps.Refused (r .number) (r .offset)
 
--- a refusal's place is a number of the machine
-abbrev pub Reaches : ℕ → Scan → Type 0
-Reaches place (scans.Word sort n v) = Unit {0}
-Reaches place (scans.Refused number after) = place + after < 2 ^ 64
+abbrev pub full : (words : ℕ) → Bool
+full words = leb paper.wordLimit words
+
+abbrev pub Here : List ℕ → (place words : ℕ) → Step → Type 0
+Here text place words r = r ≡ stepOf words (paper.wordAt (full words) place (drop place text))
+
+-- a scan that is a refusal, whose place is a number of the machine
+abbrev pub Refuses : (place : ℕ) → Scan → Type 0
+Refuses place (scans.Word sort n v) = ⊥
+Refuses place (scans.Refused number after) = place + after < 2 ^ 64
+
+-- of a refusal neither what was scanned nor how many words came before is told
+abbrev pub RefusedAt : (place : ℕ) → Bool → Scan → Step → Type 0
+RefusedAt place full s r = r ≡ stepOf 0 (paper.scanned full place [] (scanOf s))
 
 -- ---- the reading
 abbrev pub tooLong : paper.Refusal
@@ -47,23 +56,8 @@ unfoldable pub nextAt : List ℕ → Cursor → paper.Next
 nextAt text c =
     elim (ltb paper.textLimit (length text)) [
       | true ↦ paper.refusal tooLong
-      | false ↦ paper.following (leb paper.wordLimit (c .words)) (c .place) (drop (c .place) text)
+      | false ↦ paper.following (full (c .words)) (c .place) (drop (c .place) text)
     ]
-
-abbrev pub stepOf : List ℕ → Step → paper.Next
-stepOf text (steps.Word sort place length value c) = paper.next (wordOf text sort place length value)
-stepOf text steps.End = paper.ended
-stepOf text (steps.Refused number place) = paper.refuse number place
-
--- the cursor with a word stands after it, and has one word more
-abbrev pub Moved : Cursor → Step → Type 0
-Moved c (steps.Word sort place length value d) = (d .place ≡ place + length) × (d .words ≡ c .words + 1)
-Moved c steps.End = Unit {0}
-Moved c (steps.Refused number place) = Unit {0}
-
-pub record Stepped (text : List ℕ) (c : Cursor) (r : Step) : Type 0 where
-  pub next : stepOf text r ≡ nextAt text c
-  pub moved : Moved c r
 
 -- what is left of the reading at a cursor
 unfoldable pub leftOf : List ℕ → Cursor → paper.Reading
@@ -73,31 +67,37 @@ leftOf text c =
       | false ↦ paper.readFrom (suc (length text)) (paper.wordLimit - c .words) (c .place) (drop (c .place) text)
     ]
 
--- the reading that begins with a step's answer
-abbrev pub readingOf : List ℕ → Step → paper.Reading
-readingOf text (steps.Word sort place length value c) = paper.withWord (wordOf text sort place length value) (leftOf text c)
-readingOf text steps.End = paper.noWords none
-readingOf text (steps.Refused number place) = paper.noWords (some (record { number = number; offset = place }))
+-- a reading starts at the first byte, with no word given
+abbrev pub Started : Cursor → Type 0
+Started r = r ≡ record { place = 0; words = 0 }
+
+abbrev pub Stepped : List ℕ → Cursor → Step → Type 0
+Stepped text c r = r ≡ stepOf (c .words) (nextAt text c)
 
 -- ---- a place
-abbrev pub foundOf : List ℕ → (place : ℕ) → Found → Option (List ℕ)
-foundOf text place (Length n) = some (take n (drop place text))
-foundOf text place Nothing = none
+abbrev pub foundOf : Option (List ℕ) → Found
+foundOf none = Nothing
+foundOf (some part) = Length (length part)
 
--- a word covers one byte at least, and none past the text
-abbrev pub Inside : List ℕ → (place : ℕ) → Found → Type 0
-Inside text place (Length n) = (0 < n) × (place + n ≤ length text)
-Inside text place Nothing = Unit {0}
+abbrev pub FoundAt : List ℕ → (place : ℕ) → Found → Type 0
+FoundAt text place r = r ≡ foundOf (paper.asked text place)
 
-pub record FoundAt (text : List ℕ) (place : ℕ) (r : Found) : Type 0 where
-  pub is : foundOf text place r ≡ paper.asked text place
-  pub inside : Inside text place r
+-- Of a part that is asked for: its bytes, whether there is one, and where it begins. A part lies in its text, at its place; where there is none, the empty
+-- part at the text's own start stands for it.
+abbrev pub bytesOf : Option (List ℕ) → List ℕ
+bytesOf none = []
+bytesOf (some part) = part
 
--- a part and a flag that says whether there is one
-abbrev pub flagged : List ℕ → Bool → Option (List ℕ)
-flagged part true = some part
-flagged part false = none
+abbrev pub isThere : Option (List ℕ) → Bool
+isThere none = false
+isThere (some part) = true
 
-pub record PartAt (text : List ℕ) (place : ℕ) (part : List ℕ) (found : Bool) : Type 0 where
-  pub is : flagged part found ≡ paper.asked text place
-  pub empty : found ≡ false → part ≡ []
+-- a start is a block of memory and an offset in it
+abbrev pub startOf : ℕ × ℕ → (place : ℕ) → Option (List ℕ) → ℕ × ℕ
+startOf start place none = start
+startOf start place (some part) = (start .0, place + start .1)
+
+pub record PartAt (text : RefT (List ℕ)) (place : ℕ) (part : RefT (List ℕ)) (found : Bool) : Type 0 where
+  pub bytes : part .now ≡ bytesOf (paper.asked (text .now) place)
+  pub start : part .ptr ≡ startOf (text .ptr) place (paper.asked (text .now) place)
+  pub flag : found ≡ isThere (paper.asked (text .now) place)

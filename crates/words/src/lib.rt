@@ -3,61 +3,25 @@ use scanner::Gap;
 use scanner::Scan;
 use scanner::scan_word;
 use scanner::skip_gap;
-ghost use mathlib.Core.Path.{_≡_};
-ghost use lib.ListN.{drop};
-ghost use Rattle.paper.specs.Words.{wordAt, following};
-ghost use Rattle.words.specs.Answers.{nextOf, refusalOf, Reaches, Stepped, FoundAt, PartAt};
+ghost use Rattle.words.specs.Answers.{Refuses, RefusedAt, Here, Started, Stepped, FoundAt, PartAt};
 
-pub enum Next {
-    // its sort, its place, its length and, of a number, its value
-    Word(u32, usize, usize, u32),
-    End,
-    // the refusal's number and its place
-    Refused(u32, usize),
-}
+const TEXT_LIMIT: usize = 32768;
 
-// A refusal found at a place. Where the text is full, one that lies after the word's start is the full text's.
-fn refused_at(s: Scan, place: usize, full: bool) -> Next
-    requires { ⌜ Reaches place s ⌝ }
-    ensures { λ r. ⌜ r ≡ refusalOf full place s ⌝ }
-{
-    let Scan::Refused(number, after) = s else {
-        return Next::Refused(7, place);
-    };
-    if full {
-        if after == 0 {
-            return Next::Refused(number, place);
-        }
-        return Next::Refused(7, place);
-    }
-    Next::Refused(number, place + after)
-}
+const WORD_LIMIT: u32 = 8192;
 
-// The word that starts at a place, or the end.
-fn word_here(text: &[u8], place: usize, full: bool) -> Next
-    ensures { λ r. ⌜ nextOf (now (text .entry)) r ≡ wordAt full place (drop place (now (text .entry))) ⌝ }
-{
-    if text.len() <= place {
-        return Next::End;
-    }
-    let s = scan_word(&text[place..]);
-    let Scan::Word(sort, length, value) = s else {
-        return refused_at(s, place, full);
-    };
-    if full {
-        return Next::Refused(7, place);
-    }
-    Next::Word(sort, place, length, value)
-}
+// Refusals, by their numbers.
+const TEXT_TOO_LONG: u32 = 3;
 
-// The next word from a place on. `full`: as many words came before as a text may have.
-pub fn next_word(text: &[u8], at: usize, full: bool) -> Next
-    ensures { λ r. ⌜ nextOf (now (text .entry)) r ≡ following full at (drop at (now (text .entry))) ⌝ }
-{
-    match skip_gap(text, at) {
-        Gap::UpTo(place) => word_here(text, place, full),
-        Gap::BadByte(place) => Next::Refused(4, place),
-    }
+const BAD_BYTE: u32 = 4;
+
+const TOO_MANY_WORDS: u32 = 7;
+
+pub struct Word {
+    pub sort: u32,
+    pub place: usize,
+    pub length: usize,
+    // of a number; else 0
+    pub value: u64,
 }
 
 // How far a reading has come: its place, and how many words it has given.
@@ -67,15 +31,61 @@ pub struct Cursor {
 }
 
 pub enum Step {
-    // the word, as in Next, and how far the reading has come with it
-    Word(u32, usize, usize, u32, Cursor),
+    // a word, and how far the reading has come with it
+    Word(Word, Cursor),
     End,
+    // the refusal's number and its place
     Refused(u32, usize),
+}
+
+// A refusal where a word starts, or so many bytes behind. In a full text one that lies behind the word's start is the full text's.
+fn refused_at(s: Scan, place: usize, full: bool) -> Step
+    requires { ⌜ Refuses place s ⌝ }
+    ensures { λ r. ⌜ RefusedAt place full s r ⌝ }
+{
+    let Scan::Refused(number, after) = s else {
+        return Step::End;
+    };
+    if full {
+        if after == 0 {
+            return Step::Refused(number, place);
+        }
+        return Step::Refused(TOO_MANY_WORDS, place);
+    }
+    Step::Refused(number, place + after)
+}
+
+// The word that starts at a place, or the end. So many words came before.
+fn word_here(text: &[u8], place: usize, words: u32) -> Step
+    ensures { λ r. ⌜ Here (now (text .entry)) place words r ⌝ }
+{
+    if text.len() <= place {
+        return Step::End;
+    }
+    let s = scan_word(&text[place..]);
+    let Scan::Word(sort, length, value) = s else {
+        return refused_at(s, place, WORD_LIMIT <= words);
+    };
+    if WORD_LIMIT <= words {
+        return Step::Refused(TOO_MANY_WORDS, place);
+    }
+    Step::Word(
+        Word {
+            sort,
+            place,
+            length,
+            value,
+        },
+        Cursor {
+            place: place + length,
+            words: words + 1,
+        },
+    )
 }
 
 impl Cursor {
     pub fn start() -> Cursor
-        ensures { λ r. ⌜ (r .place ≡ 0) × (r .words ≡ 0) ⌝ }
+        ensures { λ r. ⌜ Started r ⌝ }
     {
         Cursor { place: 0, words: 0 }
     }
@@ -84,45 +94,34 @@ impl Cursor {
     pub fn step(self, text: &[u8]) -> Step
         ensures { λ r. ⌜ Stepped (now (text .entry)) self r ⌝ }
     {
-        if 32768 < text.len() {
-            return Step::Refused(3, 32768);
+        if TEXT_LIMIT < text.len() {
+            return Step::Refused(TEXT_TOO_LONG, TEXT_LIMIT);
         }
-        let words = self.words;
-        match next_word(text, self.place, 8192 <= words) {
-            Next::End => Step::End,
-            Next::Refused(number, place) => Step::Refused(number, place),
-            Next::Word(sort, place, length, value) => Step::Word(
-                sort,
-                place,
-                length,
-                value,
-                Cursor {
-                    place: place + length,
-                    words: words + 1,
-                },
-            ),
+        match skip_gap(text, self.place) {
+            Gap::UpTo(place) => word_here(text, place, self.words),
+            Gap::BadByte(place) => Step::Refused(BAD_BYTE, place),
         }
     }
 }
 
-pub enum Found {
+enum Found {
     Length(usize),
     Nothing,
 }
 
 // The length of the word that starts at a place, in one reading from the first byte.
-pub fn word_at(text: &[u8], place: usize) -> Found
+fn word_at(text: &[u8], place: usize) -> Found
     ensures { λ r. ⌜ FoundAt (now (text .entry)) place r ⌝ }
 {
     let mut c = Cursor::start();
     loop {
-        let Step::Word(_, start, length, _, next) = c.step(text) else {
+        let Step::Word(word, next) = c.step(text) else {
             return Found::Nothing;
         };
-        if start == place {
-            return Found::Length(length);
+        if word.place == place {
+            return Found::Length(word.length);
         }
-        if place < start {
+        if place < word.place {
             return Found::Nothing;
         }
         c = next;
@@ -131,7 +130,7 @@ pub fn word_at(text: &[u8], place: usize) -> Found
 
 // The part of the text that the word at a place covers. Where no word starts there, an empty part, and `found` says so.
 pub fn part_at<'a, 'b>(text: &'a [u8], place: usize, found: &'b mut bool) -> &'a [u8]
-    ensures { λ r. ⌜ PartAt (now (text .entry)) place (now r) (now (found .exit)) ⌝ }
+    ensures { λ r. ⌜ PartAt (text .entry) place r (now (found .exit)) ⌝ }
 {
     let Found::Length(length) = word_at(text, place) else {
         *found = false;

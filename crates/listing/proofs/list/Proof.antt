@@ -1,11 +1,8 @@
 -- `listing::list` meets its contract. The invariant: what is left of the listing. The measure: the bytes that are left.
-use mathlib.Core.Path.{refl}
 use Prim.Native.Nat.{_-_}
 use lib.ListN.{length}
-use denote.Enum.Declared.{tagOf}
-use Rattle.words.proofs.Step.{the-type}
-use Rattle.words.proofs.Readings.{word-less}
-use Rattle.listing.proofs.Lists.{Lists, lists-start, lists-word, lists-end}
+use Rattle.words.proofs.Readings.{step-less}
+use Rattle.listing.proofs.Lists.{Lists, lists-start, lists-word, lists-end, lists-refused}
 use borrow.Author.Needs.{needs}
 use Rattle.listing.proofs.list.Statement.{statement}
 use Rattle.listing.proofs.list.Tie as tie
@@ -25,26 +22,35 @@ loop-holds c = search (needs, lists-start)
 step-requires : tie.Need-step-requires Inv-loop μ-loop
 step-requires c κs = search needs
 
-enum-known-s : tie.Need-enum-known-s Inv-loop μ-loop
-enum-known-s c = search needs
-
-ending-requires : tie.Need-ending-requires Inv-loop μ-loop
-ending-requires c κs = search needs
-
-same-length : tie.Need-same-length Inv-loop μ-loop
-same-length c = c .before .before .before .loop .inv .size
-
-returns : tie.Need-returns Inv-loop μ-loop
-returns c = lists-end _ _ _ _ (c .before .before .before .loop .inv) _ (c .before .before .step .ensures) (tagOf the-type) (λ s p n v d. refl) (c .before .match .keys2) _ _ _ (c .ending .ensures)
+enum-known-word : tie.Need-enum-known-word Inv-loop μ-loop
+enum-known-word c = search needs
 
 put-entry-requires : tie.Need-put-entry-requires Inv-loop μ-loop
 put-entry-requires c κs = search needs
 
 loop-less : tie.Need-loop-less Inv-loop μ-loop
-loop-less c = search (needs, word-less)
+loop-less c = search (needs, step-less)
 
 loop-again : tie.Need-loop-again Inv-loop μ-loop
 loop-again c = search (needs, lists-word)
+
+enum-told : tie.Need-enum-told Inv-loop μ-loop
+enum-told c = search needs
+
+same-length : tie.Need-same-length Inv-loop μ-loop
+same-length c = search needs
+
+returns : tie.Need-returns Inv-loop μ-loop
+returns c = search (needs, lists-end)
+
+enum-known-number : tie.Need-enum-known-number Inv-loop μ-loop
+enum-known-number c = search needs
+
+same-length-2 : tie.Need-same-length-2 Inv-loop μ-loop
+same-length-2 c = search needs
+
+returns-2 : tie.Need-returns-2 Inv-loop μ-loop
+returns-2 c = search (needs, lists-refused)
 
 pub list-spec : {M : Type 1} → statement M
 list-spec =
@@ -55,10 +61,13 @@ list-spec =
     start-requires
     loop-holds
     step-requires
-    enum-known-s
-    ending-requires
-    same-length
-    returns
+    enum-known-word
     put-entry-requires
     loop-less
-    loop-again)
+    loop-again
+    enum-told
+    same-length
+    returns
+    enum-known-number
+    same-length-2
+    returns-2)

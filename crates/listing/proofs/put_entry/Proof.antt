@@ -1,5 +1,5 @@
 -- `listing::put_entry` meets its contract.
-use Rattle.listing.proofs.Entries.{entered-none, entered-some}
+use Rattle.listing.proofs.Entries.{entry-none, entry-some}
 use borrow.Author.Needs.{needs}
 use Rattle.listing.proofs.put_entry.Statement.{statement}
 use Rattle.listing.proofs.put_entry.Tie as tie
@@ -14,31 +14,19 @@ add-if1 : tie.Need-add-if1
 add-if1 c = search needs
 
 returns : tie.Need-returns
-returns c = search (needs, entered-none)
+returns c = search (needs, entry-none)
 
 kind-number-requires : tie.Need-kind-number-requires
 kind-number-requires c κs = search needs
 
-put32-requires : tie.Need-put32-requires
-put32-requires c κs = search needs
-
-add-put32 : tie.Need-add-put32
-add-put32 c = search needs
-
-put32-requires-2 : tie.Need-put32-requires-2
-put32-requires-2 c κs = search needs
-
-add-put32-2 : tie.Need-add-put32-2
-add-put32-2 c = search needs
-
-put32-requires-3 : tie.Need-put32-requires-3
-put32-requires-3 c κs = search needs
+put-three-requires : tie.Need-put-three-requires
+put-three-requires c κs = search needs
 
 same-length : tie.Need-same-length
 same-length c = search needs
 
 returns-2 : tie.Need-returns-2
-returns-2 c = search (needs, entered-some)
+returns-2 c = search (needs, entry-some)
 
 pub put-entry-spec : {M : Type 1} → statement M
 put-entry-spec =
@@ -49,10 +37,6 @@ put-entry-spec =
     add-if1
     returns
     kind-number-requires
-    put32-requires
-    add-put32
-    put32-requires-2
-    add-put32-2
-    put32-requires-3
+    put-three-requires
     same-length
     returns-2)

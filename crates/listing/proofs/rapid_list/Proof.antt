@@ -10,20 +10,14 @@ returns c = search (needs, exported-short)
 list-requires : tie.Need-list-requires
 list-requires c κs = search needs
 
-cast-put32 : tie.Need-cast-put32
-cast-put32 c = search needs
+cast-put-three : tie.Need-cast-put-three
+cast-put-three c = search needs
 
-put32-requires : tie.Need-put32-requires
-put32-requires c κs = search needs
+cast-put-three-2 : tie.Need-cast-put-three-2
+cast-put-three-2 c = search needs
 
-cast-put32-2 : tie.Need-cast-put32-2
-cast-put32-2 c = search needs
-
-put32-requires-2 : tie.Need-put32-requires-2
-put32-requires-2 c κs = search needs
-
-put32-requires-3 : tie.Need-put32-requires-3
-put32-requires-3 c κs = search needs
+put-three-requires : tie.Need-put-three-requires
+put-three-requires c κs = search needs
 
 same-length : tie.Need-same-length
 same-length c = search needs
@@ -40,11 +34,9 @@ rapid-list-spec =
     (tie.spec
     returns
     list-requires
-    cast-put32
-    put32-requires
-    cast-put32-2
-    put32-requires-2
-    put32-requires-3
+    cast-put-three
+    cast-put-three-2
+    put-three-requires
     same-length
     same-length-2
     returns-2)

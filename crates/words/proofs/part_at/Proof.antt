@@ -1,6 +1,5 @@
 -- `words::part_at` meets its contract.
-use native.Mathlib.Omega.{arith}
-use Rattle.words.proofs.Asks.{part-none, part-inside, part-some}
+use Rattle.words.proofs.Asks.{part-none, part-fits, part-inside, part-some}
 use borrow.Author.Needs.{needs}
 use Rattle.words.proofs.part_at.Statement.{statement}
 use Rattle.words.proofs.part_at.Tie as tie
@@ -21,7 +20,7 @@ returns : tie.Need-returns
 returns c = search (needs, part-none)
 
 add-result : tie.Need-add-result
-add-result c = omega (arith, part-inside _ _ _ (c .before .before .before .word-at .ensures) _ (c .before .length .given .1), c .before .before .before .before .before .good)
+add-result c = record { fits = search (needs, part-fits) }
 
 sub-result : tie.Need-sub-result
 sub-result c = search needs
@@ -30,7 +29,7 @@ part-result-start : tie.Need-part-result-start
 part-result-start c = search needs
 
 part-result-end : tie.Need-part-result-end
-part-result-end c = omega (arith, part-inside _ _ _ (c .before .before .before .word-at .ensures) _ (c .before .length .given .1))
+part-result-end c = search (needs, part-inside)
 
 returns-2 : tie.Need-returns-2
 returns-2 c = search (needs, part-some)

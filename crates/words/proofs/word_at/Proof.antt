@@ -1,11 +1,8 @@
 -- `words::word_at` meets its contract. The invariant: the answer is in what is left of the reading. The measure: the bytes that are left.
 use Prim.Native.Nat.{_-_}
 use lib.ListN.{length}
-use mathlib.Core.Path.{refl}
-use denote.Enum.Declared.{tagOf}
-use Rattle.words.proofs.Step.{the-type}
 use Rattle.words.proofs.Asks.{Search, search-start, search-none, search-found, search-past, search-on}
-use Rattle.words.proofs.Readings.{word-less}
+use Rattle.words.proofs.Readings.{step-less}
 use borrow.Author.Needs.{needs}
 use Rattle.words.proofs.word_at.Statement.{statement}
 use Rattle.words.proofs.word_at.Tie as tie
@@ -25,11 +22,11 @@ loop-holds c = search (needs, search-start)
 step-requires : tie.Need-step-requires Inv-loop μ-loop
 step-requires c κs = search needs
 
-enum-known-start : tie.Need-enum-known-start Inv-loop μ-loop
-enum-known-start c = search needs
+enum-known-word : tie.Need-enum-known-word Inv-loop μ-loop
+enum-known-word c = search needs
 
 returns : tie.Need-returns Inv-loop μ-loop
-returns c = search-none _ _ _ (c .before .before .loop .inv) _ (c .before .step .ensures) (tagOf the-type) (λ s p n v d. refl) (c .match .keys2)
+returns c = search (needs, search-none)
 
 returns-2 : tie.Need-returns-2 Inv-loop μ-loop
 returns-2 c = search (needs, search-found)
@@ -38,7 +35,7 @@ returns-3 : tie.Need-returns-3 Inv-loop μ-loop
 returns-3 c = search (needs, search-past)
 
 loop-less : tie.Need-loop-less Inv-loop μ-loop
-loop-less c = search (needs, word-less)
+loop-less c = search (needs, step-less)
 
 loop-again : tie.Need-loop-again Inv-loop μ-loop
 loop-again c = search (needs, search-on)
@@ -52,7 +49,7 @@ word-at-spec =
     start-requires
     loop-holds
     step-requires
-    enum-known-start
+    enum-known-word
     returns
     returns-2
     returns-3

@@ -1,5 +1,5 @@
 -- `words::word_here` meets its contract.
-use Rattle.words.proofs.Cases.{end-here, reaches, word-full, word-good, word-refused}
+use Rattle.words.proofs.Cases.{end-here, refuses, word-refused, word-fits, word-full, word-good}
 use borrow.Author.Needs.{needs}
 use Rattle.words.proofs.word_here.Statement.{statement}
 use Rattle.words.proofs.word_here.Tie as tie
@@ -26,13 +26,19 @@ enum-told : tie.Need-enum-told
 enum-told c = search needs
 
 refused-at-requires : tie.Need-refused-at-requires
-refused-at-requires c κs = search (needs, reaches)
+refused-at-requires c κs = search (needs, refuses)
 
 returns-2 : tie.Need-returns-2
 returns-2 c = search (needs, word-refused)
 
 returns-3 : tie.Need-returns-3
 returns-3 c = search (needs, word-full)
+
+add-t8 : tie.Need-add-t8
+add-t8 c = record { fits = search (needs, word-fits) }
+
+add-t15 : tie.Need-add-t15
+add-t15 c = search needs
 
 returns-4 : tie.Need-returns-4
 returns-4 c = search (needs, word-good)
@@ -51,4 +57,6 @@ word-here-spec =
     refused-at-requires
     returns-2
     returns-3
+    add-t8
+    add-t15
     returns-4)

@@ -4,7 +4,7 @@ use Rattle.words.proofs.Cursor.start.Statement.{statement}
 use Rattle.words.proofs.Cursor.start.Tie as tie
 
 returns : tie.Need-returns
-returns c = (refl, refl)
+returns c = refl
 
 pub start-spec : {M : Type 1} → statement M
 start-spec = tie.close (tie.spec returns)
