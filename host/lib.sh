@@ -9,6 +9,11 @@ host_packages() { # the Debian packages that this machine lacks for a C host
     fi
 }
 
+host_library() { # NAME: makes target/staticlib/libNAME.a; what rt says is shown only where it fails
+    local said
+    said=$(rt staticlib "$1" 2>&1) || { printf '%s\n' "$said"; echo "no static library of $1"; return 1; }
+}
+
 host_cc() { # as cc
     if [ "$(uname -m)" = x86_64 ]; then
         gcc -Wall -Wextra -Werror "$@"
