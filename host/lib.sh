@@ -1,3 +1,4 @@
+# shellcheck shell=bash
 # Shell functions for C hosts of the proved library, which is compiled for x86-64. Sourced by scripts.
 # On another processor a host is cross-compiled, linked statically and run under the kit's emulator.
 
