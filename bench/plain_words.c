@@ -1,16 +1,16 @@
-/* A plain scanner of the same rules, as one would write it in C: nothing about it is proved. It is here to be measured against. */
+/* A plain scanner of the same rules, as one would write it in C: nothing about it is proved. It is here to be measured against. It is compiled twice:
+ * with BY_KEYS it tells reserved words as the proved one does, without it by halving a sorted table. */
 #include "plain_words.h"
-#include <string.h>
+#ifdef BY_KEYS
+#include "reserved_keys.h"
+#define plain_start keyed_start
+#define plain_list keyed_list
+#else
+#include "reserved_halving.h"
+#endif
 
 enum { SEPARATES = 1, PERMITTED = 2, INSIDE = 4, LETTER = 8, DIGIT = 16, IN_NAME = 32 };
 static uint8_t class_of[256];
-
-static const char *const reserved[] = {
-    "ALIAS", "AND", "BACKWARD", "BOOL", "CASE", "CONNECT", "CONST", "DEFAULT", "DIV", "DO", "ELSE", "ELSEIF", "ENDFOR", "ENDFUNC", "ENDIF",
-    "ENDMODULE", "ENDPROC", "ENDRECORD", "ENDTEST", "ENDTRAP", "ENDWHILE", "ERROR", "EXIT", "FALSE", "FOR", "FROM", "FUNC", "GOTO", "IF", "INOUT",
-    "LOCAL", "MOD", "MODULE", "NOSTEPIN", "NOT", "NOVIEW", "NUM", "OR", "PERS", "PROC", "RAISE", "READONLY", "RECORD", "RETRY", "RETURN", "STEP",
-    "SYSMODULE", "TEST", "THEN", "TO", "TPREADNUM", "TPWRITE", "TRAP", "TRUE", "TRYNEXT", "UNDO", "VAR", "VIEWONLY", "WHILE", "WITH", "XOR",
-};
 
 void plain_start(void) {
     for (int b = 0; b < 256; b++) {
@@ -19,28 +19,6 @@ void plain_start(void) {
         class_of[b] = (uint8_t)(separates * SEPARATES | permitted * PERMITTED | (permitted || b >= 0xa0) * INSIDE | letter * LETTER | digit * DIGIT |
                                 (letter || digit || b == '_') * IN_NAME);
     }
-}
-
-/* Is this name, letter case folded, a reserved word? By halving the sorted table. */
-static int is_reserved(const uint8_t *name, size_t n) {
-    char folded[33];
-    if (n > 9)
-        return 0;
-    for (size_t i = 0; i < n; i++)
-        folded[i] = (char)(name[i] >= 'a' && name[i] <= 'z' ? name[i] - 32 : name[i]);
-    folded[n] = 0;
-    size_t low = 0, high = sizeof reserved / sizeof *reserved;
-    while (low < high) {
-        size_t middle = (low + high) / 2;
-        int order = strcmp(folded, reserved[middle]);
-        if (order == 0)
-            return 1;
-        if (order < 0)
-            high = middle;
-        else
-            low = middle + 1;
-    }
-    return 0;
 }
 
 struct scan {
