@@ -2,6 +2,7 @@
  * with BY_KEYS it tells reserved words as the proved one does, without it by halving a sorted table. */
 #include "plain_words.h"
 #include "../host/rapid_words.h"
+#include <string.h>
 #ifdef BY_KEYS
 #include "reserved_keys.h"
 #define plain_start keyed_start
@@ -121,17 +122,13 @@ static size_t skip(const uint8_t *t, size_t n, size_t at, int *bad) {
     return at;
 }
 
-static void put32(uint8_t *b, size_t v) {
-    b[0] = (uint8_t)v;
-    b[1] = (uint8_t)(v >> 8);
-    b[2] = (uint8_t)(v >> 16);
-    b[3] = (uint8_t)(v >> 24);
-}
+/* Low byte first, as x86-64 has it, for which all of this is compiled. gcc makes one store of it, but not of four bytes written one by one. */
+static void put32(uint8_t *b, uint32_t v) { memcpy(b, &v, sizeof v); }
 
 static void ends(uint8_t *answer, size_t words, uint32_t refusal, size_t offset) {
-    put32(answer, words);
+    put32(answer, (uint32_t)words);
     put32(answer + 4, refusal);
-    put32(answer + 8, offset);
+    put32(answer + 8, (uint32_t)offset);
 }
 
 void plain_list(const uint8_t *text, size_t n, uint8_t *out, size_t room, uint8_t *answer) {
@@ -157,8 +154,8 @@ void plain_list(const uint8_t *text, size_t n, uint8_t *out, size_t room, uint8_
         if (RAPID_ENTRY_BYTES * (words + 1) <= room) {
             uint8_t *entry = out + RAPID_ENTRY_BYTES * words;
             put32(entry, s.kind);
-            put32(entry + 4, at);
-            put32(entry + 8, s.length);
+            put32(entry + 4, (uint32_t)at);
+            put32(entry + 8, (uint32_t)s.length);
         }
         words++;
         at += s.length;
