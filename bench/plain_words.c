@@ -1,16 +1,20 @@
-/* A plain scanner of the same rules, as one would write it in C: nothing about it is proved. It is here to be measured against. */
+/* A plain scanner of the same rules, as one would write it in C: nothing about it is proved. It is here to be measured against. It is compiled twice:
+ * with BY_KEYS it tells reserved words as the proved one does, without it by halving a sorted table. */
 #include "plain_words.h"
+#include "../host/rapid_words.h"
 #include <string.h>
+#ifdef BY_KEYS
+#include "reserved_keys.h"
+#define plain_start keyed_start
+#define plain_list keyed_list
+#else
+#include "reserved_halving.h"
+#endif
+
+enum { NAME_LIMIT = 32, STRING_LIMIT = 80, LARGEST_NUMBER = 8388608 };
 
 enum { SEPARATES = 1, PERMITTED = 2, INSIDE = 4, LETTER = 8, DIGIT = 16, IN_NAME = 32 };
 static uint8_t class_of[256];
-
-static const char *const reserved[] = {
-    "ALIAS", "AND", "BACKWARD", "BOOL", "CASE", "CONNECT", "CONST", "DEFAULT", "DIV", "DO", "ELSE", "ELSEIF", "ENDFOR", "ENDFUNC", "ENDIF",
-    "ENDMODULE", "ENDPROC", "ENDRECORD", "ENDTEST", "ENDTRAP", "ENDWHILE", "ERROR", "EXIT", "FALSE", "FOR", "FROM", "FUNC", "GOTO", "IF", "INOUT",
-    "LOCAL", "MOD", "MODULE", "NOSTEPIN", "NOT", "NOVIEW", "NUM", "OR", "PERS", "PROC", "RAISE", "READONLY", "RECORD", "RETRY", "RETURN", "STEP",
-    "SYSMODULE", "TEST", "THEN", "TO", "TPREADNUM", "TPWRITE", "TRAP", "TRUE", "TRYNEXT", "UNDO", "VAR", "VIEWONLY", "WHILE", "WITH", "XOR",
-};
 
 void plain_start(void) {
     for (int b = 0; b < 256; b++) {
@@ -19,28 +23,6 @@ void plain_start(void) {
         class_of[b] = (uint8_t)(separates * SEPARATES | permitted * PERMITTED | (permitted || b >= 0xa0) * INSIDE | letter * LETTER | digit * DIGIT |
                                 (letter || digit || b == '_') * IN_NAME);
     }
-}
-
-/* Is this name, letter case folded, a reserved word? By halving the sorted table. */
-static int is_reserved(const uint8_t *name, size_t n) {
-    char folded[33];
-    if (n > 9)
-        return 0;
-    for (size_t i = 0; i < n; i++)
-        folded[i] = (char)(name[i] >= 'a' && name[i] <= 'z' ? name[i] - 32 : name[i]);
-    folded[n] = 0;
-    size_t low = 0, high = sizeof reserved / sizeof *reserved;
-    while (low < high) {
-        size_t middle = (low + high) / 2;
-        int order = strcmp(folded, reserved[middle]);
-        if (order == 0)
-            return 1;
-        if (order < 0)
-            high = middle;
-        else
-            low = middle + 1;
-    }
-    return 0;
 }
 
 struct scan {
@@ -55,43 +37,43 @@ static struct scan scan_name(const uint8_t *t, size_t n) {
     size_t k = 1;
     while (k < n && class_of[t[k]] & IN_NAME)
         k++;
-    if (k > 32)
-        return refused(5, 0);
-    return word(is_reserved(t, k) ? 1 : 0, k);
+    if (k > NAME_LIMIT)
+        return refused(RAPID_MALFORMED_WORD, 0);
+    return word(is_reserved(t, k) ? RAPID_RESERVED : RAPID_NAME, k);
 }
 
 static struct scan scan_number(const uint8_t *t, size_t n) {
     size_t k = 0;
     uint32_t value = 0;
     while (k < n && class_of[t[k]] & DIGIT) {
-        if (value <= 8388608)
+        if (value <= LARGEST_NUMBER)
             value = value * 10 + (t[k] - '0');
         k++;
     }
     if (k < n && (class_of[t[k]] & LETTER || t[k] == '_' || t[k] == '.'))
-        return refused(5, 0);
-    return value > 8388608 ? refused(6, 0) : word(2, k);
+        return refused(RAPID_MALFORMED_WORD, 0);
+    return value > LARGEST_NUMBER ? refused(RAPID_NUMBER_TOO_LARGE, 0) : word(RAPID_NUMBER, k);
 }
 
 static struct scan scan_string(const uint8_t *t, size_t n) {
     size_t k = 1, characters = 0, bad = 0;
     for (;;) {
         if (k == n)
-            return refused(5, 0);
+            return refused(RAPID_MALFORMED_WORD, 0);
         uint8_t b = t[k];
         if (b == '"') {
             if (k + 1 == n || t[k + 1] != '"')
                 break;
             k++;
         } else if (b == '\r' || b == '\n' || b == '\\')
-            return refused(5, 0);
+            return refused(RAPID_MALFORMED_WORD, 0);
         else if (!(class_of[b] & INSIDE) && !bad)
             bad = k;
-        if (++characters > 80)
-            return refused(5, 0);
+        if (++characters > STRING_LIMIT)
+            return refused(RAPID_MALFORMED_WORD, 0);
         k++;
     }
-    return bad ? refused(4, bad) : word(3, k + 1);
+    return bad ? refused(RAPID_BYTE_NOT_PERMITTED, bad) : word(RAPID_STRING, k + 1);
 }
 
 static struct scan scan_sign(const uint8_t *t, size_t n) {
@@ -99,20 +81,20 @@ static struct scan scan_sign(const uint8_t *t, size_t n) {
     switch (t[0]) {
     case ':':
     case '>':
-        return word(4, next == '=' ? 2 : 1);
+        return word(RAPID_SIGN, next == '=' ? 2 : 1);
     case '<':
-        return word(4, next == '=' || next == '>' ? 2 : 1);
+        return word(RAPID_SIGN, next == '=' || next == '>' ? 2 : 1);
     case ';': case ',': case '(': case ')': case '{': case '}': case '=': case '+': case '-': case '*': case '\\':
-        return word(4, 1);
+        return word(RAPID_SIGN, 1);
     default:
-        return refused(5, 0);
+        return refused(RAPID_MALFORMED_WORD, 0);
     }
 }
 
 static struct scan scan(const uint8_t *t, size_t n) {
     uint8_t c = class_of[t[0]];
     if (!(c & PERMITTED))
-        return refused(4, 0);
+        return refused(RAPID_BYTE_NOT_PERMITTED, 0);
     if (c & LETTER)
         return scan_name(t, n);
     if (c & DIGIT)
@@ -140,43 +122,40 @@ static size_t skip(const uint8_t *t, size_t n, size_t at, int *bad) {
     return at;
 }
 
-static void put32(uint8_t *b, size_t v) {
-    b[0] = (uint8_t)v;
-    b[1] = (uint8_t)(v >> 8);
-    b[2] = (uint8_t)(v >> 16);
-    b[3] = (uint8_t)(v >> 24);
-}
+/* Low byte first, as x86-64 has it, for which all of this is compiled. gcc makes one store of it, but not of four bytes written one by one. */
+static void put32(uint8_t *b, uint32_t v) { memcpy(b, &v, sizeof v); }
 
 static void ends(uint8_t *answer, size_t words, uint32_t refusal, size_t offset) {
-    put32(answer, words);
+    put32(answer, (uint32_t)words);
     put32(answer + 4, refusal);
-    put32(answer + 8, offset);
+    put32(answer + 8, (uint32_t)offset);
 }
 
 void plain_list(const uint8_t *text, size_t n, uint8_t *out, size_t room, uint8_t *answer) {
     size_t at = 0, words = 0;
-    if (n > 32768) {
-        ends(answer, 0, 3, 32768);
+    if (n > RAPID_TEXT_LIMIT) {
+        ends(answer, 0, RAPID_TEXT_TOO_LONG, RAPID_TEXT_LIMIT);
         return;
     }
     for (;;) {
         int bad = 0;
         at = skip(text, n, at, &bad);
         if (bad || at == n) {
-            ends(answer, words, bad ? 4 : 0, bad ? at : 0);
+            ends(answer, words, bad ? RAPID_BYTE_NOT_PERMITTED : RAPID_NOT_REFUSED, bad ? at : 0);
             return;
         }
         struct scan s = scan(text + at, n - at);
-        if (words == 8192 && !(s.refusal && s.length == 0))
-            s = refused(7, 0);
+        if (words == RAPID_WORD_LIMIT && !(s.refusal && s.length == 0))
+            s = refused(RAPID_TOO_MANY_WORDS, 0);
         if (s.refusal) {
             ends(answer, words, s.refusal, at + s.length);
             return;
         }
-        if (12 * words + 12 <= room) {
-            put32(out + 12 * words, s.kind);
-            put32(out + 12 * words + 4, at);
-            put32(out + 12 * words + 8, s.length);
+        if (RAPID_ENTRY_BYTES * (words + 1) <= room) {
+            uint8_t *entry = out + RAPID_ENTRY_BYTES * words;
+            put32(entry, s.kind);
+            put32(entry + 4, (uint32_t)at);
+            put32(entry + 8, (uint32_t)s.length);
         }
         words++;
         at += s.length;

@@ -1,6 +1,7 @@
-/* words: nanoseconds a byte of the reading, the proved scanner beside the plain one, and of asking about a place, on a text of 1 to 32 kB made of a
- * lesson from standard input.
- * words proved|plain KB TIMES: only that one, for counting instructions. */
+/* words: nanoseconds of processor time a byte of the reading, the proved scanner beside the plain one and the plain one with keys, and of asking about a
+ * place, on a text of 1 to 32 kB made of a lesson from standard input. `shifted` is the proved scanner's same code 16 bytes further on in memory.
+ * words KB: of that size only.
+ * words KB proved|plain|keyed TIMES: that one only, untimed, for counting instructions. */
 #include "../host/rapid_words.h"
 #include "plain_words.h"
 #include <stdio.h>
@@ -8,33 +9,54 @@
 #include <string.h>
 #include <time.h>
 
-enum { MOST = 32768, LESSON = 16384 };
-static uint8_t lesson[LESSON], text[MOST], proved_out[12 * 8192], plain_out[12 * 8192], proved_answer[12], plain_answer[12];
+enum { LESSON = 16384, ROUNDS = 100, TURN = 1 << 19 };
+enum reading { PROVED, SHIFTED, PLAIN, KEYED, LISTINGS, ASK = LISTINGS, READINGS };
+static const char *const names[READINGS] = {"proved", "shifted", "plain", "keyed", "ask"};
+
+/* as rapid_list */
+uint32_t shifted_list(const uint8_t *text, size_t text_length, uint8_t *out, size_t out_length, uint8_t *answer, size_t answer_length);
+
+static uint8_t lesson[LESSON], text[RAPID_TEXT_LIMIT];
+static uint8_t out[LISTINGS][RAPID_ENTRY_BYTES * RAPID_WORD_LIMIT], answer[LISTINGS][RAPID_ANSWER_BYTES];
 static volatile size_t asked;
 
 static double now(void) {
     struct timespec t;
-    clock_gettime(CLOCK_MONOTONIC, &t);
+    clock_gettime(CLOCK_PROCESS_CPUTIME_ID, &t);
     return (double)t.tv_sec * 1e9 + (double)t.tv_nsec;
 }
 
-static void proved(size_t n) { rapid_list(text, n, proved_out, sizeof proved_out, proved_answer, sizeof proved_answer); }
-/* asked about the end, so that the whole text is read */
-static void ask(size_t n) { asked += rapid_ask(text, n, n); }
-static void plain(size_t n) { plain_list(text, n, plain_out, sizeof plain_out, plain_answer); }
+static void read_once(enum reading r, size_t n) {
+    switch (r) {
+    case PROVED:
+        if (rapid_list(text, n, out[r], sizeof out[r], answer[r], sizeof answer[r]) != 1)
+            exit(1);
+        break;
+    case SHIFTED:
+        if (shifted_list(text, n, out[r], sizeof out[r], answer[r], sizeof answer[r]) != 1)
+            exit(1);
+        break;
+    case PLAIN:
+        plain_list(text, n, out[r], sizeof out[r], answer[r]);
+        break;
+    case KEYED:
+        keyed_list(text, n, out[r], sizeof out[r], answer[r]);
+        break;
+    default: /* asked about the end, so that the whole text is read */
+        asked += rapid_ask(text, n, n);
+    }
+}
 
-enum { PROVED, PLAIN, ASK, PACES };
-static void (*const readings[PACES])(size_t) = {proved, plain, ask};
-
-/* The least time a byte of each reading: they take turns, so that a machine that slows down slows all of them. */
-static void paces(size_t n, int times, double best[PACES]) {
-    for (int r = 0; r < PACES; r++)
+/* The least time a byte of each reading: they take short turns, so that a machine that slows down slows all of them. */
+static void paces(size_t n, double best[READINGS]) {
+    int times = (int)(TURN / n);
+    for (int r = 0; r < READINGS; r++)
         best[r] = 1e30;
-    for (int round = 0; round < 20; round++)
-        for (int r = 0; r < PACES; r++) {
+    for (int round = 0; round < ROUNDS; round++)
+        for (int r = 0; r < READINGS; r++) {
             double began = now();
             for (int i = 0; i < times; i++)
-                readings[r](n);
+                read_once((enum reading)r, n);
             double took = (now() - began) / times / (double)n;
             best[r] = took < best[r] ? took : best[r];
         }
@@ -52,30 +74,51 @@ static size_t make_text(size_t have, size_t n) {
     return k;
 }
 
+/* Whether a listing differs from the first. */
+static int differs(enum reading r) { return memcmp(answer[0], answer[r], sizeof answer[r]) || memcmp(out[0], out[r], sizeof out[r]); }
+
+static void count(enum reading r, size_t n, int times) {
+    for (int i = 0; i < times; i++)
+        read_once(r, n);
+    printf("%zu\n", n);
+}
+
+/* A line of the table; 0 where the listings differ. */
+static int measure(size_t n) {
+    double best[READINGS];
+    paces(n, best);
+    for (int r = 0; r < LISTINGS; r++)
+        if (differs((enum reading)r)) {
+            printf("%s: another listing\n", names[r]);
+            return 0;
+        }
+    printf("%8zu %7u", n, answer[0][0] | answer[0][1] << 8);
+    for (int r = 0; r < READINGS; r++)
+        printf(" %7.2f", best[r]);
+    printf(" %13.2f %13.2f\n", best[PROVED] / best[PLAIN], best[PROVED] / best[KEYED]);
+    return 1;
+}
+
+static void headline(void) {
+    printf("%8s %7s", "bytes", "words");
+    for (int r = 0; r < READINGS; r++)
+        printf(" %7s", names[r]);
+    printf(" %13s %13s\n", "proved/plain", "proved/keyed");
+}
+
 int main(int argc, char **argv) {
-    size_t have = fread(lesson, 1, sizeof lesson, stdin);
-    if (have == 0)
+    size_t have = fread(lesson, 1, sizeof lesson, stdin), kb = argc > 1 ? (size_t)atoi(argv[1]) : 1, most = argc > 1 ? kb : 32;
+    if (have == 0 || kb < 1 || kb > 32)
         return 1;
     plain_start();
-    if (argc == 4) {
-        size_t n = make_text(have, (size_t)atoi(argv[2]) * 1024);
-        for (int i = atoi(argv[3]); i > 0; i--)
-            strcmp(argv[1], "proved") == 0 ? proved(n) : plain(n);
-        printf("%zu bytes\n", n);
-        return 0;
-    }
-    printf("%8s %8s %14s %14s %8s %12s\n", "bytes", "words", "proved ns/byte", "plain ns/byte", "ratio", "ask ns/byte");
-    for (size_t kb = 1; kb <= 32; kb *= 2) {
-        size_t n = make_text(have, kb * 1024);
-        int times = (int)(2048 / kb);
-        double best[PACES];
-        paces(n, times, best);
-        if (memcmp(proved_answer, plain_answer, 12) || memcmp(proved_out, plain_out, sizeof plain_out)) {
-            puts("the two differ");
+    keyed_start();
+    for (int r = 0; argc == 4 && r < LISTINGS; r++)
+        if (strcmp(argv[2], names[r]) == 0)
+            return count((enum reading)r, make_text(have, kb * 1024), atoi(argv[3])), 0;
+    if (argc == 1)
+        headline();
+    for (; kb <= most; kb *= 2)
+        if (!measure(make_text(have, kb * 1024)))
             return 1;
-        }
-        printf("%8zu %8u %14.2f %14.2f %8.2f %12.2f\n", n, proved_answer[0] | proved_answer[1] << 8, best[PROVED], best[PLAIN],
-               best[PROVED] / best[PLAIN], best[ASK]);
-    }
     return 0;
 }

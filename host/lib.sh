@@ -1,3 +1,4 @@
+# shellcheck shell=bash
 # Shell functions for C hosts of the proved library, which is compiled for x86-64. Sourced by scripts.
 # On another processor a host is cross-compiled, linked statically and run under the kit's emulator.
 
@@ -7,6 +8,11 @@ host_packages() { # the Debian packages that this machine lacks for a C host
     else
         command -v x86_64-linux-gnu-gcc >/dev/null 2>&1 || echo gcc-x86-64-linux-gnu libc6-dev-amd64-cross
     fi
+}
+
+host_library() { # NAME: makes target/staticlib/libNAME.a; what rt says is shown only where it fails
+    local said
+    said=$(rt staticlib "$1" 2>&1) || { printf '%s\n' "$said"; echo "no static library of $1"; return 1; }
 }
 
 host_cc() { # as cc

@@ -1,0 +1,28 @@
+/* Memory that a host lends to the library, between pages that nobody may touch: a byte read or written past the guarded end of what was lent ends the
+ * host by SIGSEGV. Bytes next to the other end, and those lent but not to be written, hold a pattern, so that a write there is seen afterwards. A host
+ * tries each case at both edges; the pattern differs between them, so no byte that is written can be the pattern both times. */
+#ifndef GUARDED_H
+#define GUARDED_H
+#include <stddef.h>
+#include <stdint.h>
+
+enum edge { LAST_BYTE_GUARDED, FIRST_BYTE_GUARDED, EDGES };
+
+struct guarded {
+    uint8_t *begins; /* what lies between the guards */
+    size_t room;
+    uint8_t *lent; /* the part that was lent last */
+    size_t length;
+    uint8_t pattern;
+};
+
+/* Room to lend `most` bytes. Ends the program, with a message, where there is none or where the guards guard nothing. */
+struct guarded guarded_make(size_t most);
+
+/* Lends `length` bytes that touch a guard, all of them the pattern. */
+uint8_t *guarded_lend(struct guarded *g, size_t length, enum edge edge);
+
+/* Whether all but the first `written` bytes of what was lent, and the bytes next to it, are still the pattern. */
+int guarded_kept(const struct guarded *g, size_t written);
+
+#endif
