@@ -1,20 +1,21 @@
 -- The digits of a number, found from the last to the first: what both loops know of those that are left.
-use mathlib.Core.Path.{_≡_, refl, sym, ap, ap₂, subst, _∙_}
-use mathlib.Core.Bool.{Bool, true, false}
+use mathlib.Core.Path.{_≡_, refl, sym, ap, ap₂, _∙_}
+use mathlib.Core.Bool.{true, false}
 use mathlib.Core.List.{List, [], _∷_, _++_, append-assoc, append-nil}
 use Prim.Native.Nat.{ℕ, zero, suc, _+_, _-_, _/_, _%_, _^_, _<_, _≤_}
 use native.Mathlib.Nat.{div-lt-iff-lt-mul, pow-suc}
 use native.Mathlib.Numerals.{add-one}
 use native.Mathlib.Omega.{arith}
-use lib.Dec.{T, ltb}
 use lib.IntN.{ℤ, pos, negsuc, natAbs}
 use lib.ListN.{length, take, drop, set, getD, length-append, length-set, take-append-drop}
 use lib.Seq.{take-suc, set-at, length-take-le}
 use lib.Signed.{ltZ}
 use mir.Syntax.{w64}
 use mir.Val.{SFits}
-use borrow.Author.Tests.{lt-ltb, le-ltb, ltb-true, ltb-false}
-use Rattle.numbers.proofs.Whole.{read, back}
+use mir.Facts.{toZ-ofZ}
+use borrow.Author.Tests.{lt-ltb, le-ltb, ltb-true}
+use Rattle.laws.proofs.Tests.{by-less, false-true}
+use Rattle.numbers.proofs.Whole.{read}
 use Rattle.paper.specs.Numbers.{digits, decimal}
 
 one-digit : (p n : ℕ) → n < 10 → digits (suc p) n ≡ (48 + n) ∷ []
@@ -28,18 +29,10 @@ more-digits p n h = rw (le-ltb n 10 h, digits)
 pub few : (p n : ℕ) → length (digits p n) ≤ p
 unfolding digits
 few zero n = omega arith
-few (suc p) n = go (few p (n / 10)) (ltb n 10) refl
-  where
-    go : length (digits p (n / 10)) ≤ p → (t : Bool) → ltb n 10 ≡ t → length (digits (suc p) n) ≤ suc p
-    go h true e = rw (one-digit p n (ltb-true n 10 e)) (omega arith)
-    go h false e = rw (more-digits p n (ltb-false n 10 e), length-append) (omega arith)
+few (suc p) n = by-less n 10 (λ h. rw (one-digit p n h) (omega arith)) (λ h. rw (more-digits p n h, length-append) (omega (arith, few p (n / 10))))
 
 some : (p n : ℕ) → 0 < length (digits (suc p) n)
-some p n = go (ltb n 10) refl
-  where
-    go : (t : Bool) → ltb n 10 ≡ t → 0 < length (digits (suc p) n)
-    go true e = rw (one-digit p n (ltb-true n 10 e)) (omega arith)
-    go false e = rw (more-digits p n (ltb-false n 10 e), length-append) (omega arith)
+some p n = by-less n 10 (λ h. rw (one-digit p n h) (omega arith)) (λ h. rw (more-digits p n h, length-append) (omega arith))
 
 -- ---- of the list all, the last k are found, and those of m are left
 
@@ -148,7 +141,7 @@ module _ (z : ℤ) (n : ℕ) (s : SFits w64 z) (e : n ≡ natAbs (read z)) where
   module _ (t : ltZ (read z) (pos 0) ≡ true) where
     neg-is : decimal z ≡ 45 ∷ digits 20 n
     unfolding decimal
-    neg-is = rw (e, back z s) (go z (rw (back z s) at t))
+    neg-is = rw (e, toZ-ofZ s) (go z (rw (toZ-ofZ s) at t))
       where
         go : (z : ℤ) → ltZ z (pos 0) ≡ true → decimal z ≡ 45 ∷ digits 20 (natAbs z)
         go (pos n) t = absurd (omega (arith, ltb-true n 0 t))
@@ -166,11 +159,11 @@ module _ (z : ℤ) (n : ℕ) (s : SFits w64 z) (e : n ≡ natAbs (read z)) where
   module _ (t : ltZ (read z) (pos 0) ≡ false) where
     pos-is : decimal z ≡ digits 20 n
     unfolding decimal
-    pos-is = rw (e, back z s) (go z (rw (back z s) at t))
+    pos-is = rw (e, toZ-ofZ s) (go z (rw (toZ-ofZ s) at t))
       where
         go : (z : ℤ) → ltZ z (pos 0) ≡ false → decimal z ≡ digits 20 (natAbs z)
         go (pos n) t = refl
-        go (negsuc n) t = absurd (subst T t tt)
+        go (negsuc n) t = false-true (sym t)
 
     pub pos-count : (c : ℕ) → c ≡ length (decimal z) → c ≡ length (digits 20 n)
     pos-count c h = h ∙ ap length pos-is

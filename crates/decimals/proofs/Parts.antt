@@ -4,22 +4,25 @@ use mathlib.Core.Bool.{true, false}
 use mathlib.Core.List.{List, [], _∷_, _++_, append-assoc, append-nil}
 use Prim.Native.Nat.{ℕ, suc, _+_, _-_, _≤_, _<_}
 use native.Mathlib.Omega.{arith}
-use lib.ListN.{length, take, drop, set, length-drop}
-use lib.Seq.{take-all, drop-drop, drop-length}
+use lib.ListN.{length, take, drop, set}
+use lib.Seq.{drop-drop, drop-length}
 use lib.IntN.{ℤ}
 use mir.Syntax.{w64}
 use mir.Val.{SFits}
+use mir.Facts.{toZ-ofZ}
 use borrow.Author.Tests.{le-leb, lt-leb}
 use borrow.Rule.Slice.PartMut.{midOf, postOf, putMid, post-is}
+use Rattle.laws.specs.Lists.{replaced}
+use Rattle.laws.proofs.Lists.{part-rest}
 use Rattle.paper.specs.Numbers.{decimal}
-use Rattle.numbers.proofs.Whole.{read, back}
+use Rattle.numbers.proofs.Whole.{read}
 use Rattle.decimals.specs.Placed.{fit, answer, placed, Puts}
 use Rattle.decimals.specs.declared.Put.the-variants.{Done, NoRoom}
 
 -- the part from a on has s at its front then
-pub put-front : (l s : List ℕ) (a n : ℕ) → a ≤ length l → putMid a (length l - a) l (s ++ drop n (midOf a (length l - a) l)) ≡ take a l ++ s ++ drop (a + n) l
+pub put-front : (l s : List ℕ) (a n : ℕ) → a ≤ length l → putMid a (length l - a) l (s ++ drop n (midOf a (length l - a) l)) ≡ replaced l a s n
 put-front l s a n h =
-    let m : midOf a (length l - a) l ≡ drop a l = take-all (length l - a) (drop a l) (omega (arith, length-drop a l)) in
+    let m : midOf a (length l - a) l ≡ drop a l = part-rest l a in
     let p : postOf a (length l - a) l ≡ [] = post-is a (length l) l h ∙ drop-length l in
     rw (m, p, drop-drop, append-nil) (sym (append-assoc (take a l) s (drop (a + n) l)))
 
@@ -56,11 +59,11 @@ module _ (before : List ℕ) (at n : ℕ) (s : List ℕ) (e : n ≡ length s) wh
 -- the same of a number, as the code reads it
 module _ (before : List ℕ) (at n : ℕ) (z : ℤ) (f : SFits w64 z) (e : n ≡ length (decimal (read z))) where
   count : n ≡ length (decimal z)
-  count = rw (back z f) at e
+  count = rw (toZ-ofZ f) at e
 
   pub number-done : at ≤ length before → n ≤ length before - at → (ys : List ℕ) → ys ≡ decimal (read z) ++ drop n (midOf at (length before - at) before)
       → Puts before (putMid at (length before - at) before ys) at (decimal z) (Done (at + n))
-  number-done h g ys d = puts-done before at n (decimal z) count h g ys (rw (back z f) at d)
+  number-done h g ys d = puts-done before at n (decimal z) count h g ys (rw (toZ-ofZ f) at d)
 
   pub number-past : length before < at → Puts before before at (decimal z) NoRoom
   number-past h = puts-none before at n (decimal z) count (omega arith)

@@ -4,7 +4,7 @@ ghost use mathlib.Core.List.{_∷_, _++_};
 ghost use Prim.Native.Nat.{_+_, _≤_};
 ghost use lib.ListN.{length, drop};
 ghost use Rattle.paper.specs.Numbers.{digits, decimal};
-ghost use Rattle.decimals.specs.Placed.{Puts};
+ghost use Rattle.decimals.specs.Placed.{Takes, PutsNumber};
 
 pub enum Put {
     Done(usize),
@@ -26,7 +26,7 @@ fn count_digits(n: u64) -> usize
 
 // How many bytes z takes.
 pub fn number_length(z: i64) -> usize
-    ensures { λ k. ⌜ k ≡ length (decimal z) ⌝ }
+    ensures { λ k. ⌜ Takes z k ⌝ }
 {
     let k = count_digits(numbers::size(z));
     if z < 0 {
@@ -74,7 +74,7 @@ fn write_number(out: &mut [u8], z: i64, count: usize)
 
 // Writes z at a place, where it fits whole: the unwritten rest is lent on, so that the earlier bytes stay.
 pub fn put_number(out: &mut [u8], at: usize, z: i64) -> Put
-    ensures { λ r. ⌜ Puts (now (out .entry)) (now (out .exit)) at (decimal z) r ⌝ }
+    ensures { λ r. ⌜ PutsNumber (now (out .entry)) (now (out .exit)) at z r ⌝ }
 {
     let n = number_length(z);
     if out.len() < at {

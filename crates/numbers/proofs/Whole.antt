@@ -1,48 +1,45 @@
 -- Whole numbers and their sizes, and what of them 64 bits hold.
 use mathlib.Core.Path.{_≡_, refl, sym, ap, _∙_}
-use mathlib.Core.Bool.{Bool, true, false, not, cond}
+use mathlib.Core.Bool.{true, false}
 use Prim.Native.Nat.{ℕ, zero, suc, _+_, _-_, _*_, _/_, _%_, _<_, _≤_}
 use native.Mathlib.Nat.{le-refl, div-le-self, mul-div-le, mod-def, mul-zero, div-lt-iff-lt-mul}
 use native.Mathlib.Omega.{arith}
-use lib.Dec.{T, ltb, ltb→lt, nltb→le}
+use lib.Dec.{ltb}
 use lib.IntN.{ℤ, pos, negsuc, negℤ, natAbs, subℕ, _+ℤ_, _-ℤ_, _*ℤ_, +ℤ-assoc, negℤ-+ℤ, negℤ-negℤ}
 use lib.Signed.{mag, quotZ, remZ, mag-rem}
 use mir.Syntax.{w64}
 use mir.Val.{SFits, toZ, ofZ}
 use mir.Facts.{toZ-ofZ}
 use borrow.Author.Tests.{ltb-true, ltb-false, lt-ltb, le-ltb}
+use Rattle.laws.proofs.Tests.{test}
 use Rattle.numbers.specs.Inner.{fits64}
 
--- the least size that is too large for an i64, but for -half; the ends of an i64
+-- the size of the highest i64 and of the lowest, and the two
+abbrev pub top : ℕ
+top = 9223372036854775807
+
 abbrev pub half : ℕ
 half = 9223372036854775808
 
 abbrev pub lowest : ℤ
-lowest = negsuc 9223372036854775807
+lowest = negsuc top
 
 abbrev pub highest : ℤ
-highest = pos 9223372036854775807
+highest = pos top
 
 -- ---- what the machine reads back of a local that holds z
 
 abbrev pub read : ℤ → ℤ
 read z = toZ w64 (ofZ w64 z)
 
-pub back : (z : ℤ) → SFits w64 z → read z ≡ z
-back z s = toZ-ofZ s
-
 pub bits-same : (a b : ℤ) → SFits w64 a → SFits w64 b → ofZ w64 a ≡ ofZ w64 b → a ≡ b
-bits-same a b ha hb e = sym (back a ha) ∙ ap (toZ w64) e ∙ back b hb
+bits-same a b ha hb e = sym (toZ-ofZ ha) ∙ ap (toZ w64) e ∙ toZ-ofZ hb
 
 -- ---- sizes
 
 -- a − b of two naturals, by cases
 pub sub-cases : (P : ℤ → Type 0) (a b : ℕ) → (a < b → P (negsuc (b - suc a))) → (b ≤ a → P (pos (a - b))) → P (subℕ a b)
-sub-cases P a b f g = go (ltb a b) (λ t. f (ltb→lt a b t)) (λ t. g (nltb→le a b t))
-  where
-    go : (c : Bool) → (T c → P (negsuc (b - suc a))) → (T (not c) → P (pos (a - b))) → P (cond c (negsuc (b - suc a)) (pos (a - b)))
-    go true f g = f tt
-    go false f g = g tt
+sub-cases P a b f g = test (ltb a b) (λ t. rw t (f (ltb-true a b t))) (λ t. rw t (g (ltb-false a b t)))
 
 pub pos-minus : (a n : ℕ) → n ≤ a → pos a -ℤ pos n ≡ pos (a - n)
 pos-minus a zero h = ap pos (omega arith)

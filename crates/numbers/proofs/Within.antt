@@ -1,15 +1,16 @@
 -- What a caller knows of a number that an operation gave: it is the exact result, it is in the range, and a num fits a word.
-use mathlib.Core.Path.{_≡_, refl, _∙_}
-use mathlib.Core.Bool.{Bool, true, false}
-use Prim.Native.Nat.{ℕ, _≤_}
+use mathlib.Core.Path.{_≡_, _∙_}
+use mathlib.Core.Bool.{true, false}
+use Prim.Native.Nat.{_≤_}
 use native.Mathlib.Omega.{arith}
 use lib.IntN.{ℤ, pos, negsuc, natAbs}
 use lib.Signed.{ltZ}
 use mir.Syntax.{w32}
 use mir.Val.{SFits}
 use borrow.Author.Tests.{ltb-false}
+use Rattle.laws.proofs.Tests.{test, apart}
 use Rattle.paper.specs.Numbers as paper
-use Rattle.paper.specs.Numbers.{ranged, num}
+use Rattle.paper.specs.Numbers.{overflow, ranged, num}
 use Rattle.numbers.specs.Answers.{valueOf}
 use Rattle.numbers.specs.declared.Num.the-variants.{Value}
 
@@ -20,21 +21,15 @@ pub record Within (R : paper.Range) (exact z : ℤ) : Type 0 where
 
 pub within : (R : paper.Range) (exact z : ℤ) → valueOf (Value z) ≡ ranged R exact → Within R exact z
 unfolding valueOf ranged
-within R exact z e = first (ltZ exact (R .low)) refl
+within R exact z e =
+    test (ltZ exact (R .low)) (λ l. no (e ∙ rw (l, ranged)))
+    (λ l. test (ltZ (R .high) exact) (λ h. no (e ∙ rw (l, ranged) (rw h)))
+    (λ h. let q : paper.value z ≡ paper.value exact = e ∙ rw (l, ranged) (rw h) in
+    let s : z ≡ exact = cc in
+    record { same = s; low = rw s l; high = rw s h }))
   where
-    apart : {X : Type 0} (n : ℕ) → paper.value z ≡ paper.error n → X
-    apart n d = let q : _≡_ {A = ℕ} 0 1 = cc in absurd (omega arith)
-
-    second : ltZ exact (R .low) ≡ false → (t : Bool) → ltZ (R .high) exact ≡ t → Within R exact z
-    second l true h = apart 1001 (e ∙ rw (l, ranged) (rw h))
-    second l false h =
-        let q : paper.value z ≡ paper.value exact = e ∙ rw (l, ranged) (rw h) in
-        let s : z ≡ exact = cc in
-        record { same = s; low = rw s l; high = rw s h }
-
-    first : (t : Bool) → ltZ exact (R .low) ≡ t → Within R exact z
-    first true l = apart 1001 (e ∙ rw (l, ranged))
-    first false l = second l (ltZ (R .high) exact) refl
+    no : paper.value z ≡ paper.error overflow → Within R exact z
+    no d = apart (cc)
 
 pub num-size : (exact z : ℤ) → Within num exact z → natAbs z ≤ 8388608
 unfolding num

@@ -1,8 +1,11 @@
--- What the enums and structs of this crate stand for in the paper.
+-- What the enums and structs of this crate stand for in the paper, and what each function promises.
 use mathlib.Core.Path.{_≡_}
 use mathlib.Core.Bool.{Bool, true, false}
-use lib.IntN.{ℤ, pos, negsuc}
+use Prim.Native.Nat.{ℕ}
+use lib.IntN.{ℤ, natAbs}
 use lib.Signed.{ltZ}
+use mir.Syntax.{w32}
+use mir.Val.{toZ, ofZ}
 use Rattle.paper.specs.Numbers as paper
 use Rattle.numbers.specs.declared.Range.{Range}
 use Rattle.numbers.specs.declared.Num.{Num}
@@ -17,9 +20,42 @@ unfoldable pub valueOf : Num → paper.Value
 valueOf (Value z) = paper.value z
 valueOf (Error e) = paper.error e
 
--- "dnum, whole numbers of size up to 4,503,599,627,370,496"
-unfoldable pub dnum : paper.Range
-dnum = record { low = negsuc 4503599627370495; high = pos 4503599627370496 }
+-- r is the range of num.
+abbrev pub NumRange : Range → Type 0
+NumRange r = rangeOf r ≡ paper.num
+
+-- n is z, held to the range r. In the same way n is the exact sum of a and b, held to r, and so on: what the paper gives.
+abbrev pub Held : (r : Range) (z : ℤ) (n : Num) → Type 0
+Held r z n = valueOf n ≡ paper.ranged (rangeOf r) z
+
+abbrev pub Sum : (r : Range) (a b : ℤ) (n : Num) → Type 0
+Sum r a b n = valueOf n ≡ paper.add (rangeOf r) a b
+
+abbrev pub Difference : (r : Range) (a b : ℤ) (n : Num) → Type 0
+Difference r a b n = valueOf n ≡ paper.subtract (rangeOf r) a b
+
+abbrev pub Product : (r : Range) (a b : ℤ) (n : Num) → Type 0
+Product r a b n = valueOf n ≡ paper.multiply (rangeOf r) a b
+
+abbrev pub Opposite : (r : Range) (a : ℤ) (n : Num) → Type 0
+Opposite r a n = valueOf n ≡ paper.minus (rangeOf r) a
+
+abbrev pub Quotient : (r : Range) (a b : ℤ) (n : Num) → Type 0
+Quotient r a b n = valueOf n ≡ paper.divide (rangeOf r) a b
+
+abbrev pub Remainder : (r : Range) (a b : ℤ) (n : Num) → Type 0
+Remainder r a b n = valueOf n ≡ paper.modulo (rangeOf r) a b
+
+-- n is the size of a.
+abbrev pub Size : (a : ℤ) (n : ℕ) → Type 0
+Size a n = n ≡ natAbs a
+
+-- z is the number of the word x, in two's complement, and x is the word of z.
+abbrev pub NumberOf : (x : ℕ) (z : ℤ) → Type 0
+NumberOf x z = z ≡ toZ w32 x
+
+abbrev pub WordOf : (z : ℤ) (x : ℕ) → Type 0
+WordOf z x = x ≡ ofZ w32 z
 
 abbrev pub isBelow : Order → Bool
 isBelow Below = true

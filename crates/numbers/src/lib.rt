@@ -1,17 +1,32 @@
 // Whole numbers in a range: what is worked out is exact, and then held to the range. An operand may be any i64, and so may the
 // ends of the range. A result that leaves 64 bits lies outside every such range, so it is an overflow.
 ghost use mathlib.Core.Path.{_≡_};
-ghost use lib.IntN.{natAbs, _+ℤ_, _-ℤ_, _*ℤ_};
-ghost use mir.Syntax.{w32};
-ghost use mir.Val.{toZ, ofZ};
-ghost use Rattle.paper.specs.Numbers as paper;
-ghost use Rattle.numbers.specs.Answers.{rangeOf, valueOf, dnum, Compared};
+ghost use lib.IntN.{_+ℤ_, _-ℤ_, _*ℤ_};
+ghost use Rattle.numbers.specs.Answers.{NumRange, Held, Sum, Difference, Product, Opposite, Quotient, Remainder, Size, Compared, NumberOf, WordOf};
 ghost use Rattle.numbers.specs.Inner.{fits64, Limit};
 
 // The numbers of the errors that arithmetic raises.
 pub const ERR_OVERFLOW: u32 = 1001;
 
 pub const ERR_DIVZERO: u32 = 1002;
+
+// The ends of an i64.
+const LOWEST: i64 = -9223372036854775808;
+
+const HIGHEST: i64 = 9223372036854775807;
+
+// The size of each.
+const MOST_BELOW: u64 = 9223372036854775808;
+
+const MOST_ABOVE: u64 = 9223372036854775807;
+
+// Two sizes up to this have a product that is an i64.
+const SMALL: u64 = 2147483648;
+
+// The first word whose number is below zero, and how many words there are.
+const FIRST_BELOW: u32 = 2147483648;
+
+const WORDS: i64 = 4294967296;
 
 // A range, by its two ends.
 pub struct Range {
@@ -33,7 +48,7 @@ pub enum Order {
 
 // The range of num.
 pub fn num_range() -> Range
-    ensures { λ r. ⌜ rangeOf r ≡ paper.num ⌝ }
+    ensures { λ r. ⌜ NumRange r ⌝ }
 {
     Range {
         low: -8388607,
@@ -41,19 +56,9 @@ pub fn num_range() -> Range
     }
 }
 
-// The range of dnum: whole numbers up to 2^52 in size.
-pub fn dnum_range() -> Range
-    ensures { λ r. ⌜ rangeOf r ≡ dnum ⌝ }
-{
-    Range {
-        low: -4503599627370496,
-        high: 4503599627370496,
-    }
-}
-
 // A number held to the range.
 pub fn ranged(r: Range, z: i64) -> Num
-    ensures { λ n. ⌜ valueOf n ≡ paper.ranged (rangeOf r) z ⌝ }
+    ensures { λ n. ⌜ Held r z n ⌝ }
 {
     if z < r.low {
         return Num::Error(ERR_OVERFLOW);
@@ -69,9 +74,9 @@ fn sum_fits(a: i64, b: i64) -> bool
     ensures { λ t. ⌜ t ≡ fits64 (a +ℤ b) ⌝ }
 {
     if 0 <= b {
-        return a <= 9223372036854775807 - b;
+        return a <= HIGHEST - b;
     }
-    -9223372036854775808 - b <= a
+    LOWEST - b <= a
 }
 
 // a - b is an i64: as wide as -1 - (a - b), which is the sum of -1 - a and b.
@@ -83,7 +88,7 @@ fn difference_fits(a: i64, b: i64) -> bool
 
 // The size of a number. That of the lowest i64 is no i64.
 pub fn size(a: i64) -> u64
-    ensures { λ n. ⌜ n ≡ natAbs a ⌝ }
+    ensures { λ n. ⌜ Size a n ⌝ }
 {
     if a < 0 {
         return (-1 - a) as u64 + 1;
@@ -97,14 +102,14 @@ fn limit(a: i64, b: i64) -> u64
 {
     if a < 0 {
         if b < 0 {
-            return 9223372036854775807;
+            return MOST_ABOVE;
         }
-        return 9223372036854775808;
+        return MOST_BELOW;
     }
     if b < 0 {
-        return 9223372036854775808;
+        return MOST_BELOW;
     }
-    9223372036854775807
+    MOST_ABOVE
 }
 
 // a * b is an i64: told by the sizes, and by a division only where one of them is large.
@@ -113,8 +118,8 @@ fn product_fits(a: i64, b: i64) -> bool
 {
     let x = size(a);
     let y = size(b);
-    if y <= 2147483648 {
-        if x <= 2147483648 {
+    if y <= SMALL {
+        if x <= SMALL {
             return true;
         }
     }
@@ -126,7 +131,7 @@ fn product_fits(a: i64, b: i64) -> bool
 
 // The exact sum, held to the range.
 pub fn add(r: Range, a: i64, b: i64) -> Num
-    ensures { λ n. ⌜ valueOf n ≡ paper.add (rangeOf r) a b ⌝ }
+    ensures { λ n. ⌜ Sum r a b n ⌝ }
 {
     if sum_fits(a, b) {
         return ranged(r, a + b);
@@ -136,7 +141,7 @@ pub fn add(r: Range, a: i64, b: i64) -> Num
 
 // The exact difference, held to the range.
 pub fn subtract(r: Range, a: i64, b: i64) -> Num
-    ensures { λ n. ⌜ valueOf n ≡ paper.subtract (rangeOf r) a b ⌝ }
+    ensures { λ n. ⌜ Difference r a b n ⌝ }
 {
     if difference_fits(a, b) {
         return ranged(r, a - b);
@@ -146,7 +151,7 @@ pub fn subtract(r: Range, a: i64, b: i64) -> Num
 
 // The exact product, held to the range.
 pub fn multiply(r: Range, a: i64, b: i64) -> Num
-    ensures { λ n. ⌜ valueOf n ≡ paper.multiply (rangeOf r) a b ⌝ }
+    ensures { λ n. ⌜ Product r a b n ⌝ }
 {
     if product_fits(a, b) {
         return ranged(r, a * b);
@@ -156,14 +161,14 @@ pub fn multiply(r: Range, a: i64, b: i64) -> Num
 
 // -a, held to the range.
 pub fn minus(r: Range, a: i64) -> Num
-    ensures { λ n. ⌜ valueOf n ≡ paper.minus (rangeOf r) a ⌝ }
+    ensures { λ n. ⌜ Opposite r a n ⌝ }
 {
     subtract(r, 0, a)
 }
 
 // a DIV b, towards zero. By -1 it is -a, which need not be an i64.
 pub fn divide(r: Range, a: i64, b: i64) -> Num
-    ensures { λ n. ⌜ valueOf n ≡ paper.divide (rangeOf r) a b ⌝ }
+    ensures { λ n. ⌜ Quotient r a b n ⌝ }
 {
     if b == 0 {
         return Num::Error(ERR_DIVZERO);
@@ -176,7 +181,7 @@ pub fn divide(r: Range, a: i64, b: i64) -> Num
 
 // a MOD b. By -1 it is 0, also where a DIV b is no i64.
 pub fn modulo(r: Range, a: i64, b: i64) -> Num
-    ensures { λ n. ⌜ valueOf n ≡ paper.modulo (rangeOf r) a b ⌝ }
+    ensures { λ n. ⌜ Remainder r a b n ⌝ }
 {
     if b == 0 {
         return Num::Error(ERR_DIVZERO);
@@ -200,29 +205,24 @@ pub fn compare(a: i64, b: i64) -> Order
     Order::Same
 }
 
-// A word's number, in two's complement.
-pub fn of_word(x: u32) -> i32
-    ensures { λ z. ⌜ z ≡ toZ w32 x ⌝ }
+// A word's number, in two's complement: one move with the sign, for the number goes through 32 bits.
+pub fn number_of(x: u32) -> i64
+    ensures { λ z. ⌜ NumberOf x z ⌝ }
 {
-    if x < 2147483648 {
-        return x as i32;
-    }
-    (x as i64 - 4294967296) as i32
+    let z = if x < FIRST_BELOW {
+        x as i32
+    } else {
+        (x as i64 - WORDS) as i32
+    };
+    z as i64
 }
 
 // A number's word, in two's complement.
 pub fn to_word(z: i32) -> u32
-    ensures { λ x. ⌜ x ≡ ofZ w32 z ⌝ }
+    ensures { λ x. ⌜ WordOf z x ⌝ }
 {
     if z < 0 {
-        return (z as i64 + 4294967296) as u32;
+        return (z as i64 + WORDS) as u32;
     }
     z as u32
-}
-
-// A word's number, to work with.
-pub fn number_of(x: u32) -> i64
-    ensures { λ z. ⌜ z ≡ toZ w32 x ⌝ }
-{
-    of_word(x) as i64
 }

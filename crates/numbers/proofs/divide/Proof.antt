@@ -15,7 +15,7 @@ unfolding minus
 returns-2 c = search (needs, divide-minus-one)
 
 div-ranged : tie.Need-div-ranged
-div-ranged c = let s = c .before .before in divisor-fits _ _ (s .fits .a) (s .fits .b) (c .before .if1 .left) (c .if2 .left)
+div-ranged c = search (needs, divisor-fits)
 
 ranged-requires : tie.Need-ranged-requires
 ranged-requires c κs = search needs

@@ -13,7 +13,7 @@ returns-2 : tie.Need-returns-2
 returns-2 c = search (needs, modulo-minus-one)
 
 rem-ranged : tie.Need-rem-ranged
-rem-ranged c = let s = c .before .before in divisor-fits _ _ (s .fits .a) (s .fits .b) (c .before .if1 .left) (c .if2 .left)
+rem-ranged c = search (needs, divisor-fits)
 
 ranged-requires-2 : tie.Need-ranged-requires-2
 ranged-requires-2 c κs = search needs
