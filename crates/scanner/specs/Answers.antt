@@ -14,7 +14,7 @@ use Rattle.scanner.specs.declared.Gap.the-variants.{UpTo, BadByte}
 
 abbrev pub scanOf : Scan → paper.Scan
 scanOf (Word sort n v) = paper.word sort n v
-scanOf (Refused number after) = paper.refused number after
+scanOf (Refused after number) = paper.refused number after
 
 abbrev pub gapOf : Gap → paper.Gap
 gapOf (UpTo place) = paper.upTo place

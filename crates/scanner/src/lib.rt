@@ -11,11 +11,19 @@ use classes::is_permitted_inside;
 use classes::is_separator;
 ghost use Rattle.scanner.specs.Answers.{Scanned, Skipped, Commented};
 
+// Refusals of a word, by their numbers in the paper.
+pub const BAD_BYTE: u32 = 4;
+
+pub const MALFORMED: u32 = 5;
+
+pub const TOO_LARGE: u32 = 6;
+
 pub enum Scan {
     // its sort, its length and, of a number, its value
     Word(u32, usize, u64),
-    // the refusal's number, and how many bytes after the word's start
-    Refused(u32, usize),
+    // how many bytes after the word's start, and the refusal's number: in this order, since variants that end with fields of one width make the
+    // compiler keep the answer in memory
+    Refused(usize, u32),
 }
 
 // The word that a text begins with. An empty text begins with no permitted byte.
@@ -23,7 +31,7 @@ pub fn scan_word(text: &[u8]) -> Scan
     ensures { λ r. ⌜ Scanned (now (text .entry)) r ⌝ }
 {
     if text.len() == 0 {
-        return Scan::Refused(4, 0);
+        return Scan::Refused(0, BAD_BYTE);
     }
     let b = text[0];
     if is_letter(b) {

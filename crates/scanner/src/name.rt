@@ -1,4 +1,5 @@
 // A name or a reserved word.
+use super::MALFORMED;
 use super::Scan;
 use super::classes::is_in_name;
 use reserved::name_sort;
@@ -28,7 +29,7 @@ pub(crate) fn scan_name(text: &[u8]) -> Scan
 {
     let n = name_length(text);
     if NAME_LIMIT < n {
-        return Scan::Refused(5, 0);
+        return Scan::Refused(0, MALFORMED);
     }
     let sort = name_sort(&text[..n]);
     Scan::Word(sort, n, 0)

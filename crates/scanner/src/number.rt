@@ -1,5 +1,7 @@
 // A number.
+use super::MALFORMED;
 use super::Scan;
+use super::TOO_LARGE;
 use super::classes::is_digit;
 use super::classes::is_spoiling;
 ghost use mathlib.Core.Path.{_≡_};
@@ -61,10 +63,10 @@ pub(crate) fn scan_number(text: &[u8]) -> Scan
     let length = d.length;
     let value = d.value;
     if is_spoiled(text, length) {
-        return Scan::Refused(5, 0);
+        return Scan::Refused(0, MALFORMED);
     }
     if LARGEST < value {
-        return Scan::Refused(6, 0);
+        return Scan::Refused(0, TOO_LARGE);
     }
     Scan::Word(sorts::NUMBER, length, value)
 }

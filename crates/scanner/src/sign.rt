@@ -1,4 +1,6 @@
 // A sign, or no word at all.
+use super::BAD_BYTE;
+use super::MALFORMED;
 use super::Scan;
 use super::classes::is_permitted;
 use super::classes::one_sign;
@@ -43,7 +45,7 @@ pub(crate) fn scan_sign(text: &[u8]) -> Scan
     }
     // what begins a word is permitted, so only the other bytes are asked
     if is_permitted(text[0]) {
-        return Scan::Refused(5, 0);
+        return Scan::Refused(0, MALFORMED);
     }
-    Scan::Refused(4, 0)
+    Scan::Refused(0, BAD_BYTE)
 }

@@ -1,4 +1,6 @@
 // A string.
+use super::BAD_BYTE;
+use super::MALFORMED;
 use super::Scan;
 use super::classes::is_barred;
 use super::classes::is_permitted_inside;
@@ -41,7 +43,7 @@ fn closed(n: usize, bad: usize) -> Scan
     if bad == 0 {
         return Scan::Word(sorts::STRING, n, 0);
     }
-    Scan::Refused(4, bad)
+    Scan::Refused(bad, BAD_BYTE)
 }
 
 // The string that a text begins with, in one pass: a byte that is permitted nowhere counts only in a string that is closed, so its place is kept.
@@ -61,16 +63,16 @@ pub(crate) fn scan_string(text: &[u8]) -> Scan
             }
         } else {
             if is_barred(b) {
-                return Scan::Refused(5, 0);
+                return Scan::Refused(0, MALFORMED);
             }
             bad = note(bad, n, b);
         }
         // the byte at n is the character's last
         if room == 0 {
-            return Scan::Refused(5, 0);
+            return Scan::Refused(0, MALFORMED);
         }
         room -= 1;
         n += 1;
     }
-    Scan::Refused(5, 0)
+    Scan::Refused(0, MALFORMED)
 }

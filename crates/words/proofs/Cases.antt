@@ -29,7 +29,7 @@ module _ (place : ℕ) (full : Bool) (s : Scan) where
   pub no-refusal : (a n v : ℕ) → s ≡ scans.Word a n v → Refuses place s → RefusedAt place full s End
   no-refusal a n v e h = absurd (subst (Refuses place) e h)
 
-  module _ (k a : ℕ) (e : s ≡ scans.Refused k a) where
+  module _ (k a : ℕ) (e : s ≡ scans.Refused a k) where
     pub refused-first : full ≡ true → a ≡ 0 → RefusedAt place full s (Refused k place)
     unfolding scanned
     refused-first f z = rw (e, f) (rw (eq-eqb a 0 z, scanned))
@@ -64,12 +64,12 @@ module _ (text : List ℕ) (place words : ℕ) (h : place < length text) (s : Sc
   within : Within (drop place text) (scanOf s)
   within = rw first (subst (Within (getD text place 0 ∷ drop (suc place) text)) (sym scan-is) (scan-within (getD text place 0) (drop (suc place) text) largestNumber))
 
-  pub refuses : (k a : ℕ) → s ≡ scans.Refused k a → length text < 2 ^ 64 → Refuses place s
+  pub refuses : (k a : ℕ) → s ≡ scans.Refused a k → length text < 2 ^ 64 → Refuses place s
   refuses k a e room =
       let w : a ≤ length text - place = rw length-drop at (subst (λ (x : Scan). Within (drop place text) (scanOf x)) e within) in
       rw e (omega arith)
 
-  pub word-refused : (r : Step) (k a : ℕ) → s ≡ scans.Refused k a → RefusedAt place (full words) s r → Here text place words r
+  pub word-refused : (r : Step) (k a : ℕ) → s ≡ scans.Refused a k → RefusedAt place (full words) s r → Here text place words r
   unfolding scanned
   word-refused r k a e g = g ∙ ap (λ (x : Scan). stepOf 0 (scanned (full words) place [] (scanOf x))) e ∙ same (full words)
       ∙ sym (ap (stepOf words) (here ∙ ap (λ (x : Scan). scanned (full words) place (drop place text) (scanOf x)) e))

@@ -41,7 +41,7 @@ Here text place words r = r ≡ stepOf words (paper.wordAt (full words) place (d
 -- a scan that is a refusal, whose place is a number of the machine
 abbrev pub Refuses : (place : ℕ) → Scan → Type 0
 Refuses place (scans.Word sort n v) = ⊥
-Refuses place (scans.Refused number after) = place + after < 2 ^ 64
+Refuses place (scans.Refused after number) = place + after < 2 ^ 64
 
 -- of a refusal neither what was scanned nor how many words came before is told
 abbrev pub RefusedAt : (place : ℕ) → Bool → Scan → Step → Type 0

@@ -1,4 +1,5 @@
 // The words of a text, read one after another from the first byte, and the word that starts at a place.
+use scanner::BAD_BYTE;
 use scanner::Gap;
 use scanner::Scan;
 use scanner::scan_word;
@@ -9,10 +10,8 @@ const TEXT_LIMIT: usize = 32768;
 
 const WORD_LIMIT: u32 = 8192;
 
-// Refusals, by their numbers.
+// Two refusals by their numbers; the scanner has the others.
 const TEXT_TOO_LONG: u32 = 3;
-
-const BAD_BYTE: u32 = 4;
 
 const TOO_MANY_WORDS: u32 = 7;
 
@@ -43,7 +42,7 @@ fn refused_at(s: Scan, place: usize, full: bool) -> Step
     requires { ⌜ Refuses place s ⌝ }
     ensures { λ r. ⌜ RefusedAt place full s r ⌝ }
 {
-    let Scan::Refused(number, after) = s else {
+    let Scan::Refused(after, number) = s else {
         return Step::End;
     };
     if full {
