@@ -11,7 +11,7 @@ use Rattle.laws.proofs.Tests.{apart}
 use Rattle.paper.specs.Words.{asked}
 use Rattle.words.specs.Answers.{bytesOf, isThere, PartAt}
 use Rattle.words.proofs.Asks.{asked-lies}
-use Rattle.asking.specs.Asking.{size, Told}
+use Rattle.asking.specs.Asking.{Told}
 
 module _ (text : RefT (List ℕ)) (place : ℕ) (part : RefT (List ℕ)) (found : Bool) (is : PartAt text place part found) where
   pub tells-none : found ≡ false → Told (text .now) place 0

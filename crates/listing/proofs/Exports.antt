@@ -7,7 +7,7 @@ use borrow.Author.Tests.{lt-ltb, le-ltb}
 use Rattle.cells.specs.Words.{bytesOf}
 use Rattle.paper.specs.Words.{listing}
 use Rattle.listing.specs.declared.Summary.{Summary}
-use Rattle.listing.specs.Listing.{threeBytes, threePut, summaryOf, Listed·all, Exported}
+use Rattle.listing.specs.Listing.{threeBytes, threePut, Listed·all, Exported}
 use Rattle.listing.proofs.Output.{listing-is}
 
 module _ (text out answer : List ℕ) where

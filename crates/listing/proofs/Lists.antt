@@ -1,12 +1,12 @@
 -- A listing, word by word.
 use mathlib.Core.Path.{_≡_, refl, sym, ap, subst, _∙_}
-use mathlib.Core.List.{List, [], _∷_, map}
+use mathlib.Core.List.{List, [], map}
 use mathlib.Core.Option.{none, some}
 use Prim.Native.Nat.{ℕ, _+_}
 use native.Mathlib.Omega.{arith}
-use lib.ListN.{length, length-map}
+use lib.ListN.{length}
 use Rattle.paper.specs.Words as paper
-use Rattle.paper.specs.Words.{Listed, Reading, Refusal, reading, noWords, listed, listing}
+use Rattle.paper.specs.Words.{Listed, Reading, reading, noWords, listed, listing}
 use Rattle.words.specs.declared.Word.{Word}
 use Rattle.words.specs.declared.Cursor.{Cursor}
 use Rattle.words.specs.declared.Step.{Step}
@@ -43,7 +43,7 @@ module _ (text before out : List ℕ) (c : Cursor) (at : Lists text before out c
     size = ap length e ∙ length-entered out (c .words) (listed v) ∙ at .size;
   }
 
-  done : (o : paper.Reading) → leftOf text c ≡ o → o .words ≡ [] → Listed·all text before out (record { words = c .words; refusal = refusalNumber (o .refusal); offset = refusalOffset (o .refusal) })
+  done : (o : Reading) → leftOf text c ≡ o → o .words ≡ [] → Listed·all text before out (record { words = c .words; refusal = refusalNumber (o .refusal); offset = refusalOffset (o .refusal) })
   unfolding written
   done o left gone =
       let empty : leftOf text c .words ≡ [] = ap (λ (x : Reading). x .words) left ∙ gone in

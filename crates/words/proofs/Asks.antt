@@ -1,5 +1,5 @@
 -- The word that starts at a place.
-use mathlib.Core.Path.{_≡_, refl, sym, ap, subst, _∙_}
+use mathlib.Core.Path.{_≡_, refl, sym, ap, _∙_}
 use mathlib.Core.Bool.{true, false}
 use mathlib.Core.List.{List, [], _∷_}
 use mathlib.Core.Option.{Option, none, some}
@@ -19,7 +19,7 @@ use Rattle.words.specs.declared.Step.{Step}
 use Rattle.words.specs.declared.Step.the-variants as steps
 use Rattle.words.specs.declared.Found.{Found}
 use Rattle.words.specs.declared.Found.the-variants.{Length, Nothing}
-use Rattle.words.specs.Answers.{wordOf, after, Started, Stepped, leftOf, foundOf, FoundAt, PartAt}
+use Rattle.words.specs.Answers.{Started, Stepped, leftOf, foundOf, FoundAt, bytesOf, isThere, startOf, PartAt}
 use Rattle.words.proofs.Step.{the-type}
 use Rattle.words.proofs.Places.{Lies, NextLies, lies-nearer, lies-is, following-lies}
 use Rattle.words.proofs.Readings.{Gives, step-gives, step-ends, step-refuses, start-left}
@@ -124,7 +124,7 @@ module _ (text : RefT (List ℕ)) (place : ℕ) (r : Found) (is : FoundAt (text 
   pub part-none : (name : ℕ) → r ≡ Nothing → PartAt text place (record { ptr = text .ptr; name = name; now = [] }) false
   part-none name e =
       let no = nothing (asked (text .now) place) (sym e ∙ is) in
-      record { bytes = rw no; start = rw no; flag = rw no }
+      record { start = rw no; bytes = rw no; flag = rw no }
 
   module _ (n : ℕ) (e : r ≡ Length n) where
     part-is : asked (text .now) place ≡ some (take n (drop place (text .now)))
@@ -145,7 +145,12 @@ module _ (text : RefT (List ℕ)) (place : ℕ) (r : Found) (is : FoundAt (text 
     pub part-fits : length (text .now) < 2 ^ 64 → place + n < 2 ^ 64
     part-fits room = omega (arith, part-inside)
 
-    pub part-some : (name : ℕ) → PartAt text place (record { ptr = (text .ptr .0, place + text .ptr .1); name = name; now = take (place + n - place) (drop place (text .now)) }) true
-    part-some name =
-        let size : place + n - place ≡ n = omega arith in
-        record { bytes = rw (part-is, size); start = rw part-is; flag = rw part-is }
+    -- fact by fact: what lies elsewhere is refused for where it lies
+    pub part-start : (text .ptr .0, place + text .ptr .1) ≡ startOf (text .ptr) place (asked (text .now) place)
+    part-start = rw part-is
+
+    pub part-bytes : take (place + n - place) (drop place (text .now)) ≡ bytesOf (asked (text .now) place)
+    part-bytes = let size : place + n - place ≡ n = omega arith in rw (part-is, size)
+
+    pub part-flag : true ≡ isThere (asked (text .now) place)
+    part-flag = rw part-is

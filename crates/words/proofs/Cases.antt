@@ -21,7 +21,7 @@ use Rattle.scanner.specs.Answers.{scanOf, gapOf, Scanned, Skipped}
 use Rattle.words.specs.declared.Cursor.{Cursor}
 use Rattle.words.specs.declared.Step.{Step}
 use Rattle.words.specs.declared.Step.the-variants.{Word, End, Refused}
-use Rattle.words.specs.Answers.{wordOf, after, stepOf, full, Here, Refuses, RefusedAt, nextAt, Stepped}
+use Rattle.words.specs.Answers.{stepOf, full, Here, Refuses, RefusedAt, nextAt, Stepped}
 use Rattle.words.proofs.Places.{gap-within}
 
 -- ---- a refusal at a place

@@ -5,13 +5,13 @@ use mathlib.Core.List.{List, [], _∷_, map}
 use mathlib.Core.Option.{Option, none, some}
 use Prim.Native.Nat.{ℕ, zero, suc, _+_, _-_, _<_, _≤_}
 use native.Mathlib.Omega.{arith}
-use lib.Dec.{eqb, ltb, leb}
+use lib.Dec.{eqb, ltb}
 use lib.ListN.{length, drop, length-drop}
 use lib.Seq.{drop-drop}
 use borrow.Author.Tests.{eq-eqb, ne-eqb, leb-true, leb-false}
 use Rattle.laws.proofs.Tests.{test, apart}
 use Rattle.paper.specs.Words as paper
-use Rattle.paper.specs.Words.{Next, next, ended, refusal, Refusal, Reading, withWord, noWords, placeAfter, following, readFrom, reading, textLimit, wordLimit}
+use Rattle.paper.specs.Words.{Next, next, ended, refusal, Refusal, withWord, noWords, placeAfter, following, readFrom, reading, textLimit, wordLimit}
 use Rattle.words.specs.declared.Word.{Word}
 use Rattle.words.specs.declared.Cursor.{Cursor}
 use Rattle.words.specs.declared.Step.{Step}

@@ -82,7 +82,7 @@ foundOf (some part) = Length (length part)
 abbrev pub FoundAt : List ℕ → (place : ℕ) → Found → Type 0
 FoundAt text place r = r ≡ foundOf (paper.asked text place)
 
--- Of a part that is asked for: its bytes, whether there is one, and where it begins. A part lies in its text, at its place; where there is none, the empty
+-- Of a part that is asked for: its bytes, whether there is one, and where it begins. It lies in the text itself, at its place; where there is none, the empty
 -- part at the text's own start stands for it.
 abbrev pub bytesOf : Option (List ℕ) → List ℕ
 bytesOf none = []
@@ -98,6 +98,6 @@ startOf start place none = start
 startOf start place (some part) = (start .0, place + start .1)
 
 pub record PartAt (text : RefT (List ℕ)) (place : ℕ) (part : RefT (List ℕ)) (found : Bool) : Type 0 where
-  pub bytes : part .now ≡ bytesOf (paper.asked (text .now) place)
   pub start : part .ptr ≡ startOf (text .ptr) place (paper.asked (text .now) place)
+  pub bytes : part .now ≡ bytesOf (paper.asked (text .now) place)
   pub flag : found ≡ isThere (paper.asked (text .now) place)

@@ -6,6 +6,7 @@ use scanner::scan_word;
 use scanner::skip_gap;
 ghost use Rattle.words.specs.Answers.{Refuses, RefusedAt, Here, Started, Stepped, FoundAt, PartAt};
 
+// As many bytes as a text may have, and as many words.
 const TEXT_LIMIT: usize = 32768;
 
 const WORD_LIMIT: u32 = 8192;
@@ -37,7 +38,7 @@ pub enum Step {
     Refused(u32, usize),
 }
 
-// A refusal where a word starts, or so many bytes behind. In a full text one that lies behind the word's start is the full text's.
+// A refusal at a word's start, or so many bytes after it. In a full text one that lies after the word's start is the full text's.
 fn refused_at(s: Scan, place: usize, full: bool) -> Step
     requires { ⌜ Refuses place s ⌝ }
     ensures { λ r. ⌜ RefusedAt place full s r ⌝ }

@@ -1,5 +1,5 @@
 -- `words::part_at` meets its contract.
-use Rattle.words.proofs.Asks.{part-none, part-fits, part-inside, part-some}
+use Rattle.words.proofs.Asks.{part-none, part-fits, part-inside, part-start, part-bytes, part-flag}
 use borrow.Author.Needs.{needs}
 use Rattle.words.proofs.part_at.Statement.{statement}
 use Rattle.words.proofs.part_at.Tie as tie
@@ -32,7 +32,7 @@ part-result-end : tie.Need-part-result-end
 part-result-end c = search (needs, part-inside)
 
 returns-2 : tie.Need-returns-2
-returns-2 c = search (needs, part-some)
+returns-2 c = record { start = search (needs, part-start); bytes = search (needs, part-bytes); flag = search (needs, part-flag) }
 
 pub part-at-spec : {M : Type 1} → statement M
 part-at-spec =
