@@ -5,4 +5,6 @@ pub mod Performed
 pub mod Growing
 pub mod Runs
 pub mod MoreRoom
+pub mod Calls
+pub mod Signs
 pub mod Instances

@@ -18,7 +18,7 @@ use Rattle.paper.specs.States.{Loop, Location, moduleWord, callWord, Call, Stat
 use Rattle.paper.specs.Running.{newCall, calling, resume, storeResult, returning, retrying, tryingNext, adding, taking, writing, readNum, choosing, looping, passes, withStep, entering, repeating, ending-list, perform, codeAt, stepOf}
 use Rattle.demands.proofs.Choices.{chosen, forked}
 use Rattle.demands.proofs.Errors.{Sound, SoundPlace, locate-sound, worth-sound, ranged-sound, raised-number}
-use Rattle.demands.specs.Vocabulary.{ErrorNumber, bare, CallsRoutine, forResult, forNothing, GoesOn, CallsAfter, goes-on, calls, returns, retries, tries-next}
+use Rattle.demands.specs.Vocabulary.{ErrorNumber, bare, CallsRoutine, for-result, for-nothing, GoesOn, CallsAfter, goes-on, begins, returns, retries, tries-next}
 
 -- A state later in one step: its calls, a word, a line of output, an input are other ones or more; nothing else changes.
 pub data Changed (R : Rooms) (s : State) : State → Type 0 where
@@ -177,7 +177,7 @@ module _ (P : Program) (R : Rooms) (c : Call) (r : List Call) (a : Action) (s : 
   calling-done : (M : Memory) (callee k : ℕ) (es : List Term) (result : Option Location) → CallsRoutine k a → Does (calling P R M callee k es result s)
   unfolding calling
   calling-done M callee k es result h =
-      values-done M es _ (λ args. room-done (ltb (length (s .calls)) (R .depth)) _ 6 callee (omega arith) (omega arith) (λ t. makes (with-calls _ unchanged) (calls k args result h (ap (newCall P k args result ∷_) live))))
+      values-done M es _ (λ args. room-done (ltb (length (s .calls)) (R .depth)) _ 6 callee (omega arith) (omega arith) (λ t. makes (with-calls _ unchanged) (begins k args result h (ap (newCall P k args result ∷_) live))))
 
   returning-done : (cs : List Call) (v : Option ℤ) → r ≡ cs → Does (returning P c cs v s)
   unfolding returning
@@ -263,8 +263,8 @@ performed P R c r place after (store t e) s live =
     spot-done P R c r _ s live _ t _ (λ l. term-done P R c r _ s live _ e _ (λ z.
     moves P R c r _ s live after _ (changed-store R s l z s unchanged) (stays-store c r l z s (stays-live c r s live))))
 performed P R c r place after (callFor t callee k es) s live =
-    spot-done P R c r _ s live _ t _ (λ l. calling-done P R c r _ s live _ callee k es (some l) (forResult t callee es))
-performed P R c r place after (callOf callee k es) s live = calling-done P R c r _ s live _ callee k es none (forNothing callee es)
+    spot-done P R c r _ s live _ t _ (λ l. calling-done P R c r _ s live _ callee k es (some l) (for-result t callee es))
+performed P R c r place after (callOf callee k es) s live = calling-done P R c r _ s live _ callee k es none (for-nothing callee es)
 performed P R c r place after (giveBack none) s live = returning-done P R c r _ s live r none refl
 performed P R c r place after (giveBack (some e)) s live = term-done P R c r _ s live _ e _ (λ z. returning-done P R c r _ s live r (some z) refl)
 performed P R c r place after (raise e) s live = term-done P R c r _ s live _ e _ (λ z. fails-with _ (raised-number z) refl unchanged)

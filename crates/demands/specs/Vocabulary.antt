@@ -4,9 +4,10 @@ use mathlib.Core.List.{List, [], _∷_, _++_, map}
 use mathlib.Core.Option.{Option, none, some}
 use Prim.Native.Nat.{ℕ, _≤_}
 use lib.IntN.{ℤ}
-use Rattle.paper.specs.Steps.{Action, callFor, callOf, handOn, retry, tryNext, Program}
-use Rattle.paper.specs.States.{Location, Call, goTo, setFailed}
-use Rattle.paper.specs.Running.{codeAt, stepOf, nextStep, newCall, resume, takes}
+use Rattle.paper.specs.Terms.{Term}
+use Rattle.paper.specs.Steps.{Spot, Action, callFor, callOf, handOn, retry, tryNext, Program}
+use Rattle.paper.specs.States.{Location, Call, State, Rooms, Effect, goTo, setFailed}
+use Rattle.paper.specs.Running.{codeAt, stepOf, nextStep, newCall, resume, takes, perform, goesOn, takeStep, started}
 
 -- A list begins with another.
 pub record Begins {A : Type 0} (first second : List A) : Type 0 where
@@ -33,24 +34,36 @@ All such (a ∷ r) = such a × All such r
 abbrev pub bare : Call → Call
 bare c = record { routine = c .routine; next = c .next; words = []; loops = c .loops; failed = c .failed; result = c .result }
 
--- A call of a routine is what the statement does.
-pub data CallsRoutine (k : ℕ) : Action → Type 0 where
-  forResult : (t : _) (callee : ℕ) (es : _) → CallsRoutine k (callFor t callee k es)
-  forNothing : (callee : ℕ) (es : _) → CallsRoutine k (callOf callee k es)
+-- What the next step of the newest call c comes to, whose callers are r.
+abbrev pub effectOf : Program → Rooms → Call → List Call → State → Effect
+effectOf P R c r s = perform P R c r (nextStep P c .place) (nextStep P c .after) (nextStep P c .does) s
 
--- The calls `before` are live as an error arises; one of them takes it, and `after` are live.
+-- The statement is a call of routine k.
+pub data CallsRoutine (k : ℕ) : Action → Type 0 where
+  for-result : (t : Spot) (callee : ℕ) (es : List Term) → CallsRoutine k (callFor t callee k es)
+  for-nothing : (callee : ℕ) (es : List Term) → CallsRoutine k (callOf callee k es)
+
+-- A call waits for a call that it has made: its next step is that call statement.
+pub record Waits (P : Program) (c : Call) : Type 0 where
+  pub routine : ℕ
+  pub statement : CallsRoutine routine (nextStep P c .does)
+
+-- The calls `before` are live as an error arises; one of them takes it, and `after` are live then.
 pub record Taken (P : Program) (before after : List Call) : Type 0 where
   pub dropped : List Call
   pub taker : Call
   pub callers : List Call
+  -- where its ERROR list begins
   pub list : ℕ
   pub found : before ≡ dropped ++ (taker ∷ callers)
-  pub without : All (λ c. codeAt P (c .routine) .handler ≡ none) dropped
-  pub has : codeAt P (taker .routine) .handler ≡ some list
-  pub outside : taker .failed ≡ none
+  -- "the nearest routine up the call chain, the one it arose in first, that has an ERROR list": no newer one has one
+  pub nearest : All (λ c. codeAt P (c .routine) .handler ≡ none) dropped
+  pub has-list : codeAt P (taker .routine) .handler ≡ some list
+  pub not-in-it : taker .failed ≡ none
+  -- "those below are dropped"; the routine begins its ERROR list, and the statement that it was at is the failed one
   pub left : after ≡ takes list taker ∷ callers
 
--- The call goes on in its routine; its callers are as they were, but that a result may have come into their words.
+-- The newest call goes on in its routine; its callers are as they were, but that a word of theirs may have been stored.
 pub record GoesOn (c : Call) (r after : List Call) : Type 0 where
   pub newest : Call
   pub callers : List Call
@@ -60,10 +73,22 @@ pub record GoesOn (c : Call) (r after : List Call) : Type 0 where
   pub result : newest .result ≡ c .result
   pub waiting : map bare callers ≡ map bare r
 
--- What a step does to the live calls. c is the newest one, whose step it is, r are its callers.
+-- What a step can do to the live calls: c is the newest one, whose step it is, r are its callers, `after` are live then.
 pub data CallsAfter (P : Program) (c : Call) (r : List Call) (does : Action) (after : List Call) : Type 0 where
   goes-on : GoesOn c r after → CallsAfter P c r does after
-  calls : (k : ℕ) (arguments : List ℤ) (result : Option Location) → CallsRoutine k does → after ≡ newCall P k arguments result ∷ c ∷ r → CallsAfter P c r does after
+  -- a call statement begins a new call
+  begins : (k : ℕ) (arguments : List ℤ) (result : Option Location) → CallsRoutine k does → after ≡ newCall P k arguments result ∷ c ∷ r → CallsAfter P c r does after
+  -- it returns: its caller goes on after the call
   returns : (d : Call) (older : List Call) → r ≡ d ∷ older → map bare after ≡ map bare (resume P d ∷ older) → CallsAfter P c r does after
+  -- "RETRY begins the failed statement of this routine again; TRYNEXT goes to the one after it."
   retries : (f : ℕ) → does ≡ retry → c .failed ≡ some f → after ≡ goTo f (setFailed none c) ∷ r → CallsAfter P c r does after
   tries-next : (f : ℕ) → does ≡ tryNext → c .failed ≡ some f → after ≡ goTo (stepOf P c f .after) (setFailed none c) ∷ r → CallsAfter P c r does after
+  -- an error arises in it
+  fails : Taken P (c ∷ r) after → CallsAfter P c r does after
+  -- "plain RAISE drops its routine and hands the number in ERRNO to the caller"
+  hands-on : does ≡ handOn → Taken P r after → CallsAfter P c r does after
+
+-- The states of a run.
+pub data Reached (P : Program) (R : Rooms) (main : ℕ) : State → Type 0 where
+  at-start : Reached P R main (started P main)
+  by-step : {s s′ : State} → Reached P R main s → takeStep P R s ≡ goesOn s′ → Reached P R main s′
