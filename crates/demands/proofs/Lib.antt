@@ -7,4 +7,7 @@ pub mod Runs
 pub mod MoreRoom
 pub mod Calls
 pub mod Signs
+pub mod Parsing
+pub mod Faults
+pub mod Places
 pub mod Instances

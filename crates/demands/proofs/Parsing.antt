@@ -1,0 +1,517 @@
+-- What the form of a module ensures: a refusal is 8 or 9, and each statement of a tree begins with a word of its sort. One law for each thing that is read.
+use mathlib.Core.Path.{_≡_, refl, sym, ap, _∙_}
+use mathlib.Core.Bool.{Bool, true, false, _||_, _&&_}
+use mathlib.Core.List.{List, [], _∷_}
+use mathlib.Core.Option.{Option, none, some}
+use Prim.Native.Nat.{ℕ, zero, suc, _+_, _-_, _≤_}
+use native.Mathlib.Omega.{arith}
+use lib.Dec.{eqb}
+use borrow.Author.Tests.{eqb-true}
+use Rattle.paper.specs.Basics.{if_then_else_}
+use Rattle.paper.specs.Sorts.{NAME, STRING, NUM, NOTHING, closeBrace, closeParen, openBrace, openParen, comma, semicolon, becomes, colon, backslash, CASE, DEFAULT, DO, ELSE, ELSEIF, ENDFOR, ENDFUNC, ENDIF, ENDMODULE, ENDPROC, ENDTEST, ENDWHILE, ERROR, EXIT, FOR, FROM, IF, MODULE, PROC, RAISE, RETRY, RETURN, STEP, TEST, THEN, TO, TPREADNUM, TPWRITE, TRYNEXT, VAR, WHILE}
+use Rattle.paper.specs.Trees.{Expr, leaf, element, nested, signed, joined, Target, Simple, assign, assignCall, call, returns, raises, exits, retries, triesNext, writes, reads, Statement, Statements, Arms, Cases, simple, compactIf, fullIf, for, while, test, empty, _then_, noArm, arm, noCase, case, Content, Declared, Parameter, RoutineList, Routine, Module}
+use Rattle.paper.specs.Expressions.{Parsed, Parser, got, no, _>>=_, parts, nestings, relations, levelOf, standsBefore, isLiteral, isType, startsData, startsRoutine, startsStatement, expect, expectType, inParentheses, indexed, named, operand, chain, prefixed, level, exprIn, expr, unless, separated, repeated, exprs, arguments}
+use Rattle.paper.specs.Statements.{targetIndex, target, valueSide, callSide, rightSide, assignment, procedureCall, startedByName, withOptional, written, tpWrite, tpReadNum, simpleWord, simpleStatement, elsePart, lastArm, arms, ifThen, ifSimple, ifStatement, stepPart, forStatement, whileStatement, defaultPart, lastCase, cases, testStatement, opening, plainStatement, statement, statements, listIn, list}
+use Rattle.paper.specs.Form.{initialPart, sizePart, varPart, constPart, datum, declaration, declarations, parameter, parameters, errorPart, routineFrom, function, routine, routines, formed}
+use Rattle.demands.proofs.Choices.{chosen, forked, chosen-by, forked-by}
+use Rattle.demands.specs.Vocabulary.{All}
+
+-- What is read has a property; or it is refused, with number 8 or 9.
+abbrev pub Reads : {A : Type 0} → (A → Type 0) → Parsed A → Type 0
+Reads Q (got a) = Q a
+Reads Q (no number at) = (8 ≤ number) × (number ≤ 9)
+
+then-reads : {A B : Type 0} (Q : A → Type 0) (S : B → Type 0) (p : Parsed A) (f : A → Parsed B) → Reads Q p → ((a : A) → Q a → Reads S (f a)) → Reads S (p >>= f)
+unfolding _>>=_
+then-reads Q S (got a) f h g = g a h
+then-reads Q S (no number at) f h g = h
+
+eight : (8 ≤ 8) × (8 ≤ 9)
+eight = (omega arith, omega arith)
+
+nine : (8 ≤ 9) × (9 ≤ 9)
+nine = (omega arith, omega arith)
+
+-- nothing is asked
+abbrev pub Any : {A : Type 0} → A → Type 0
+Any a = Unit
+
+any-reads : {A : Type 0} (Q : A → Type 0) (p : Parsed A) → Reads Q p → Reads Any p
+any-reads Q (got a) h = tt
+any-reads Q (no number i) h = h
+
+module _ (W : ℕ → ℕ) where
+  expect-reads : (sort at : ℕ) → Reads (λ n. W at ≡ sort) (expect W sort at)
+  unfolding expect
+  expect-reads sort at = chosen-by (Reads (λ n. W at ≡ sort)) (eqb (W at) sort) _ _ (λ t. eqb-true (W at) sort t) (λ t. eight)
+
+  type-reads : (at : ℕ) → Reads Any (expectType W at)
+  unfolding expectType
+  type-reads at = chosen (Reads Any) (isType (W at)) _ _ tt eight
+
+  -- ---- expressions
+  module _ (inner : Parser Expr) (h : (at : ℕ) → Reads Any (inner at)) where
+    parentheses-reads : (at : ℕ) → Reads Any (inParentheses W inner at)
+    unfolding inParentheses
+    parentheses-reads at = then-reads Any Any _ _ (h (at + 1)) (λ e k. then-reads _ Any _ _ (expect-reads closeParen (e .1)) (λ m k′. tt))
+
+    indexed-reads : (at : ℕ) → Reads Any (indexed W inner at)
+    unfolding indexed
+    indexed-reads at = then-reads Any Any _ _ (h (at + 2)) (λ e k. then-reads _ Any _ _ (expect-reads closeBrace (e .1)) (λ m k′. tt))
+
+    named-reads : (at : ℕ) → Reads Any (named W inner at)
+    unfolding named
+    named-reads at = chosen (Reads Any) (eqb (W (at + 1)) openBrace) _ _ (indexed-reads at) tt
+
+    operand-reads : (at : ℕ) → Reads Any (operand W inner at)
+    unfolding operand
+    operand-reads at =
+        chosen (Reads Any) (eqb (W at) openParen) _ _ (parentheses-reads at)
+        (chosen (Reads Any) (eqb (W at) NAME) _ _ (named-reads at) (chosen (Reads Any) (isLiteral (W at)) _ _ tt eight))
+
+    chain-reads : (p j : ℕ) (sub : Parser Expr) → ((at : ℕ) → Reads Any (sub at)) → (e : Expr) (at : ℕ) → Reads Any (chain W p j sub e at)
+    unfolding chain
+    chain-reads zero j sub s e at = eight
+    chain-reads (suc p) j sub s e at =
+        forked (Reads Any) (eqb (levelOf (W at)) j) _ _
+        (then-reads Any Any _ _ (s (at + 1)) (λ u k. forked (Reads Any) (eqb j relations) _ _ tt (chain-reads p j sub s (joined at e (u .0)) (u .1))))
+        tt
+
+    prefixed-reads : (j : ℕ) (sub : Parser Expr) → ((at : ℕ) → Reads Any (sub at)) → (at : ℕ) → Reads Any (prefixed W j sub at)
+    unfolding prefixed
+    prefixed-reads j sub s at = forked (Reads Any) (standsBefore j (W at)) _ _ (then-reads Any Any _ _ (s (at + 1)) (λ e k. tt)) (s at)
+
+    level-reads : (j at : ℕ) → Reads Any (level W inner j at)
+    unfolding level
+    level-reads zero at = operand-reads at
+    level-reads (suc j) at = then-reads Any Any _ _ (prefixed-reads (suc j) (level W inner j) (level-reads j) at) (λ e k. chain-reads parts (suc j) (level W inner j) (level-reads j) (e .0) (e .1))
+
+  nested-reads : (d at : ℕ) → Reads Any (exprIn W d at)
+  unfolding exprIn
+  nested-reads zero at = nine
+  nested-reads (suc d) at = level-reads (exprIn W d) (nested-reads d) _ at
+
+  expr-reads : (at : ℕ) → Reads Any (expr W at)
+  unfolding expr
+  expr-reads at = nested-reads (suc nestings) at
+
+  unless-reads : (sort at : ℕ) → Reads Any (unless W sort at)
+  unfolding unless
+  unless-reads sort at = forked (Reads Any) (eqb (W at) sort) _ _ tt (then-reads Any Any _ _ (expr-reads at) (λ e k. tt))
+
+  -- ---- sequences
+  separated-reads : {A : Type 0} (Q : A → Type 0) (p : ℕ) (one : Parser A) → ((at : ℕ) → Reads (λ x. Q (x .0)) (one at)) → (at : ℕ) → Reads (λ x. All Q (x .0)) (separated W p one at)
+  unfolding separated
+  separated-reads Q zero one h at = eight
+  separated-reads Q (suc p) one h at =
+      then-reads (λ x. Q (x .0)) _ _ _ (h at) (λ a k.
+      forked (Reads (λ x. All Q (x .0))) (eqb (W (a .1)) comma) _ _
+      (then-reads (λ x. All Q (x .0)) _ _ _ (separated-reads Q p one h (a .1 + 1)) (λ r k′. (k, k′)))
+      (k, tt))
+
+  repeated-reads : {A : Type 0} (Q : A → Type 0) (p : ℕ) (starts : ℕ → Bool) (one : Parser A) → ((at : ℕ) → Reads (λ x. Q (x .0)) (one at)) → (at : ℕ)
+      → Reads (λ x. All Q (x .0)) (repeated W p starts one at)
+  unfolding repeated
+  repeated-reads Q zero starts one h at = eight
+  repeated-reads Q (suc p) starts one h at =
+      forked (Reads (λ x. All Q (x .0))) (starts (W at)) _ _
+      (then-reads (λ x. Q (x .0)) _ _ _ (h at) (λ a k. then-reads (λ x. All Q (x .0)) _ _ _ (repeated-reads Q p starts one h (a .1)) (λ r k′. (k, k′))))
+      tt
+
+  exprs-reads : (at : ℕ) → Reads Any (exprs W at)
+  unfolding exprs
+  exprs-reads at = any-reads (λ (x : List Expr × ℕ). All Any (x .0)) (separated W parts (expr W) at) (separated-reads Any parts (expr W) expr-reads at)
+
+  arguments-reads : (closing at : ℕ) → Reads Any (arguments W closing at)
+  unfolding arguments
+  arguments-reads closing at = chosen (Reads Any) (eqb (W at) closing) _ _ tt (exprs-reads at)
+
+-- ---- the sorts of the words that statements and lists begin or close with
+-- ERROR, ENDPROC or ENDFUNC
+pub data Closes (sort : ℕ) : Type 0 where
+  by-error : sort ≡ ERROR → Closes sort
+  by-endproc : sort ≡ ENDPROC → Closes sort
+  by-endfunc : sort ≡ ENDFUNC → Closes sort
+
+module _ (W : ℕ → ℕ) where
+  abbrev pub SimpleSorts : Simple → Type 0
+  SimpleSorts (assign t e) = W (t .name) ≡ NAME
+  SimpleSorts (assignCall t f es) = (W (t .name) ≡ NAME) × (W f ≡ NAME)
+  SimpleSorts (call p es) = W p ≡ NAME
+  SimpleSorts (returns at e) = W at ≡ RETURN
+  SimpleSorts (raises at e) = W at ≡ RAISE
+  SimpleSorts (exits at) = W at ≡ EXIT
+  SimpleSorts (retries at) = W at ≡ RETRY
+  SimpleSorts (triesNext at) = W at ≡ TRYNEXT
+  SimpleSorts (writes at s e) = W at ≡ TPWRITE
+  SimpleSorts (reads at t s) = W at ≡ TPREADNUM
+
+  abbrev mutual
+    pub Sorts : Statement → Type 0
+    Sorts (simple s) = SimpleSorts s
+    Sorts (compactIf at e s) = (W at ≡ IF) × SimpleSorts s
+    Sorts (fullIf at a o) = (W at ≡ IF) × SortsOfArms a × SortsOfList o
+    Sorts (for at v a b c body end) = (W at ≡ FOR) × SortsOfList body
+    Sorts (while at e body) = (W at ≡ WHILE) × SortsOfList body
+    Sorts (test at e c d) = (W at ≡ TEST) × SortsOfCases c × SortsOfList d
+
+    pub SortsOfList : Statements → Type 0
+    SortsOfList empty = Unit
+    SortsOfList (s then r) = Sorts s × SortsOfList r
+
+    pub SortsOfArms : Arms → Type 0
+    SortsOfArms noArm = Unit
+    SortsOfArms (arm e b r) = SortsOfList b × SortsOfArms r
+
+    pub SortsOfCases : Cases → Type 0
+    SortsOfCases noCase = Unit
+    SortsOfCases (case cs b r) = SortsOfList b × SortsOfCases r
+
+  pub record SortsOfRoutineList (l : RoutineList) : Type 0 where
+    pub statements : SortsOfList (l .statements)
+    pub closes : Closes (W (l .closes))
+
+  abbrev pub SortsOfHandler : Option RoutineList → Type 0
+  SortsOfHandler none = Unit
+  SortsOfHandler (some l) = SortsOfRoutineList l
+
+  pub record SortsOfRoutine (r : Routine) : Type 0 where
+    pub body : SortsOfRoutineList (r .body)
+    pub handler : SortsOfHandler (r .handler)
+
+-- a test of two
+both-first : (a b : Bool) → (a && b) ≡ true → a ≡ true
+both-first true b h = refl
+both-first false b h = h
+
+-- ---- statements
+module _ (W : ℕ → ℕ) where
+  abbrev ReadsTarget : Parsed (Target × ℕ) → Type 0
+  ReadsTarget p = Reads (λ x. W (x .0 .name) ≡ NAME) p
+
+  abbrev ReadsSimple : Parsed (Simple × ℕ) → Type 0
+  ReadsSimple p = Reads (λ x. SimpleSorts W (x .0)) p
+
+  abbrev ReadsStatement : Parsed (Statement × ℕ) → Type 0
+  ReadsStatement p = Reads (λ x. Sorts W (x .0)) p
+
+  abbrev ReadsList : Parsed (Statements × ℕ) → Type 0
+  ReadsList p = Reads (λ x. SortsOfList W (x .0)) p
+
+  index-reads : (at : ℕ) → W at ≡ NAME → ReadsTarget (targetIndex W at)
+  unfolding targetIndex
+  index-reads at n =
+      then-reads Any _ _ _ (nested-reads W nestings (at + 2)) (λ e k. then-reads _ _ _ _ (expect-reads W closeBrace (e .1)) (λ m k′. n))
+
+  target-reads : (at : ℕ) → ReadsTarget (target W at)
+  unfolding target
+  target-reads at =
+      forked-by ReadsTarget (eqb (W at) NAME) _ _
+      (λ t. let n : W at ≡ NAME = eqb-true (W at) NAME t in forked ReadsTarget (eqb (W (at + 1)) openBrace) _ _ (index-reads at n) n)
+      (λ t. eight)
+
+  value-reads : (t : Target) (at : ℕ) → W (t .name) ≡ NAME → ReadsSimple (valueSide W t at)
+  unfolding valueSide
+  value-reads t at n = then-reads Any _ _ _ (expr-reads W at) (λ e k. n)
+
+  call-reads : (t : Target) (at : ℕ) → W (t .name) ≡ NAME → W at ≡ NAME → ReadsSimple (callSide W t at)
+  unfolding callSide
+  call-reads t at n m =
+      then-reads Any _ _ _ (arguments-reads W closeParen (at + 2)) (λ e k. then-reads _ _ _ _ (expect-reads W closeParen (e .1)) (λ i k′. (n, m)))
+
+  right-reads : (t : Target) (at : ℕ) → W (t .name) ≡ NAME → ReadsSimple (rightSide W t at)
+  unfolding rightSide
+  right-reads t at n =
+      chosen-by ReadsSimple (eqb (W at) NAME && eqb (W (at + 1)) openParen) _ _
+      (λ h. call-reads t at n (eqb-true (W at) NAME (both-first _ _ h)))
+      (λ h. value-reads t at n)
+
+  assignment-reads : (at : ℕ) → ReadsSimple (assignment W at)
+  unfolding assignment
+  assignment-reads at =
+      then-reads (λ x. W (x .0 .name) ≡ NAME) _ _ _ (target-reads at) (λ t k.
+      then-reads _ _ _ _ (expect-reads W becomes (t .1)) (λ m k′. right-reads (t .0) m k))
+
+  procedure-reads : (at : ℕ) → W at ≡ NAME → ReadsSimple (procedureCall W at)
+  unfolding procedureCall
+  procedure-reads at n = then-reads Any _ _ _ (arguments-reads W semicolon (at + 1)) (λ e k. n)
+
+  name-reads : (at : ℕ) → W at ≡ NAME → ReadsSimple (startedByName W at)
+  unfolding startedByName
+  name-reads at n = chosen ReadsSimple (eqb (W (at + 1)) becomes || eqb (W (at + 1)) openBrace) _ _ (assignment-reads at) (procedure-reads at n)
+
+  optional-reads : (make : ℕ → Option Expr → Simple) (at : ℕ) → ((e : Option Expr) → SimpleSorts W (make at e)) → ReadsSimple (withOptional W make at)
+  unfolding withOptional
+  optional-reads make at h = then-reads Any _ _ _ (unless-reads W semicolon (at + 1)) (λ e k. h (e .0))
+
+  written-reads : (at : ℕ) → Reads Any (written W at)
+  unfolding written
+  written-reads at =
+      forked (Reads Any) (eqb (W at) backslash) _ _
+      (then-reads _ Any _ _ (expect-reads W NUM (at + 1)) (λ n k.
+      then-reads _ Any _ _ (expect-reads W becomes n) (λ m k′. then-reads Any Any _ _ (expr-reads W m) (λ e k″. tt))))
+      tt
+
+  write-reads : (at : ℕ) → W at ≡ TPWRITE → ReadsSimple (tpWrite W at)
+  unfolding tpWrite
+  write-reads at n = then-reads _ _ _ _ (expect-reads W STRING (at + 1)) (λ m k. then-reads Any _ _ _ (written-reads m) (λ e k′. n))
+
+  read-reads : (at : ℕ) → W at ≡ TPREADNUM → ReadsSimple (tpReadNum W at)
+  unfolding tpReadNum
+  read-reads at n =
+      then-reads (λ x. W (x .0 .name) ≡ NAME) _ _ _ (target-reads (at + 1)) (λ t k.
+      then-reads _ _ _ _ (expect-reads W comma (t .1)) (λ m k′. then-reads _ _ _ _ (expect-reads W STRING m) (λ i k″. n)))
+
+  word-reads : (at : ℕ) → ReadsSimple (simpleWord W at)
+  unfolding simpleWord
+  word-reads at =
+      chosen-by ReadsSimple (eqb (W at) NAME) _ _ (λ t. name-reads at (eqb-true _ _ t)) (λ _.
+      chosen-by ReadsSimple (eqb (W at) RETURN) _ _ (λ t. optional-reads returns at (λ e. eqb-true _ _ t)) (λ _.
+      chosen-by ReadsSimple (eqb (W at) RAISE) _ _ (λ t. optional-reads raises at (λ e. eqb-true _ _ t)) (λ _.
+      chosen-by ReadsSimple (eqb (W at) EXIT) _ _ (λ t. eqb-true _ _ t) (λ _.
+      chosen-by ReadsSimple (eqb (W at) RETRY) _ _ (λ t. eqb-true _ _ t) (λ _.
+      chosen-by ReadsSimple (eqb (W at) TRYNEXT) _ _ (λ t. eqb-true _ _ t) (λ _.
+      chosen-by ReadsSimple (eqb (W at) TPWRITE) _ _ (λ t. write-reads at (eqb-true _ _ t)) (λ _.
+      chosen-by ReadsSimple (eqb (W at) TPREADNUM) _ _ (λ t. read-reads at (eqb-true _ _ t)) (λ _. eight))))))))
+
+  simple-reads : (at : ℕ) → ReadsSimple (simpleStatement W at)
+  unfolding simpleStatement
+  simple-reads at = then-reads (λ x. SimpleSorts W (x .0)) _ _ _ (word-reads at) (λ s k. then-reads _ _ _ _ (expect-reads W semicolon (s .1)) (λ m k′. k))
+
+  -- ---- compound statements
+  abbrev ReadsArms : Parsed ((Arms × Statements) × ℕ) → Type 0
+  ReadsArms p = Reads (λ x. SortsOfArms W (x .0 .0) × SortsOfList W (x .0 .1)) p
+
+  abbrev ReadsCases : Parsed ((Cases × Statements) × ℕ) → Type 0
+  ReadsCases p = Reads (λ x. SortsOfCases W (x .0 .0) × SortsOfList W (x .0 .1)) p
+
+  module _ (list : Parser Statements) (h : (at : ℕ) → ReadsList (list at)) where
+    else-reads : (at : ℕ) → ReadsList (elsePart W list at)
+    unfolding elsePart
+    else-reads at = forked ReadsList (eqb (W at) ELSE) _ _ (h (at + 1)) tt
+
+    last-arm-reads : (e : Expr) (b : Statements) (at : ℕ) → SortsOfList W b → ReadsArms (lastArm W list e b at)
+    unfolding lastArm
+    last-arm-reads e b at k =
+        then-reads (λ x. SortsOfList W (x .0)) _ _ _ (else-reads at) (λ o k′. then-reads _ _ _ _ (expect-reads W ENDIF (o .1)) (λ m k″. ((k, tt), k′)))
+
+    arms-reads : (p : ℕ) (e : Expr) (at : ℕ) → ReadsArms (arms W p list e at)
+    unfolding arms
+    arms-reads zero e at = eight
+    arms-reads (suc p) e at =
+        then-reads (λ x. SortsOfList W (x .0)) _ _ _ (h at) (λ b k.
+        forked ReadsArms (eqb (W (b .1)) ELSEIF) _ _
+        (then-reads Any _ _ _ (expr-reads W (b .1 + 1)) (λ c k₁.
+        then-reads _ _ _ _ (expect-reads W THEN (c .1)) (λ n k₂.
+        then-reads (λ x. SortsOfArms W (x .0 .0) × SortsOfList W (x .0 .1)) _ _ _ (arms-reads p (c .0) n) (λ a k₃. ((k, k₃ .0), k₃ .1)))))
+        (last-arm-reads e (b .0) (b .1) k))
+
+    then-list-reads : (at : ℕ) (e : Expr) (n : ℕ) → W at ≡ IF → ReadsStatement (ifThen W at list e n)
+    unfolding ifThen
+    then-list-reads at e n i =
+        then-reads (λ x. SortsOfArms W (x .0 .0) × SortsOfList W (x .0 .1)) _ _ _ (arms-reads parts e (n + 1)) (λ a k. (i, k .0, k .1))
+
+    step-reads : (at : ℕ) → Reads Any (stepPart W at)
+    unfolding stepPart
+    step-reads at = forked (Reads Any) (eqb (W at) STEP) _ _ (then-reads Any Any _ _ (expr-reads W (at + 1)) (λ e k. tt)) tt
+
+    for-reads : (at : ℕ) → W at ≡ FOR → ReadsStatement (forStatement W list at)
+    unfolding forStatement
+    for-reads at i =
+        then-reads _ _ _ _ (expect-reads W NAME (at + 1)) (λ n₁ _.
+        then-reads _ _ _ _ (expect-reads W FROM n₁) (λ n₂ _.
+        then-reads Any _ _ _ (expr-reads W n₂) (λ a _.
+        then-reads _ _ _ _ (expect-reads W TO (a .1)) (λ n₄ _.
+        then-reads Any _ _ _ (expr-reads W n₄) (λ b _.
+        then-reads Any _ _ _ (step-reads (b .1)) (λ c _.
+        then-reads _ _ _ _ (expect-reads W DO (c .1)) (λ n₇ _.
+        then-reads (λ x. SortsOfList W (x .0)) _ _ _ (h n₇) (λ body k.
+        then-reads _ _ _ _ (expect-reads W ENDFOR (body .1)) (λ n₉ _. (i, k))))))))))
+
+    while-reads : (at : ℕ) → W at ≡ WHILE → ReadsStatement (whileStatement W list at)
+    unfolding whileStatement
+    while-reads at i =
+        then-reads Any _ _ _ (expr-reads W (at + 1)) (λ e _.
+        then-reads _ _ _ _ (expect-reads W DO (e .1)) (λ n₂ _.
+        then-reads (λ x. SortsOfList W (x .0)) _ _ _ (h n₂) (λ body k. then-reads _ _ _ _ (expect-reads W ENDWHILE (body .1)) (λ n₄ _. (i, k)))))
+
+    default-reads : (at : ℕ) → ReadsList (defaultPart W list at)
+    unfolding defaultPart
+    default-reads at = forked ReadsList (eqb (W at) DEFAULT) _ _ (then-reads _ _ _ _ (expect-reads W colon (at + 1)) (λ n _. h n)) tt
+
+    last-case-reads : (at : ℕ) → ReadsCases (lastCase W list at)
+    unfolding lastCase
+    last-case-reads at =
+        then-reads (λ x. SortsOfList W (x .0)) _ _ _ (default-reads at) (λ d k. then-reads _ _ _ _ (expect-reads W ENDTEST (d .1)) (λ m _. (tt, k)))
+
+    cases-reads : (p at : ℕ) → ReadsCases (cases W p list at)
+    unfolding cases
+    cases-reads zero at = eight
+    cases-reads (suc p) at =
+        forked ReadsCases (eqb (W at) CASE) _ _
+        (then-reads Any _ _ _ (exprs-reads W (at + 1)) (λ c _.
+        then-reads _ _ _ _ (expect-reads W colon (c .1)) (λ n₂ _.
+        then-reads (λ x. SortsOfList W (x .0)) _ _ _ (h n₂) (λ b k.
+        then-reads (λ x. SortsOfCases W (x .0 .0) × SortsOfList W (x .0 .1)) _ _ _ (cases-reads p (b .1)) (λ a k′. ((k, k′ .0), k′ .1))))))
+        (last-case-reads at)
+
+    test-reads : (at : ℕ) → W at ≡ TEST → ReadsStatement (testStatement W list at)
+    unfolding testStatement
+    test-reads at i =
+        then-reads Any _ _ _ (expr-reads W (at + 1)) (λ e _.
+        then-reads (λ x. SortsOfCases W (x .0 .0) × SortsOfList W (x .0 .1)) _ _ _ (cases-reads parts (e .1)) (λ c k. (i, k .0, k .1)))
+
+  compact-reads : (at : ℕ) (e : Expr) (n : ℕ) → W at ≡ IF → ReadsStatement (ifSimple W at e n)
+  unfolding ifSimple
+  compact-reads at e n i = then-reads (λ x. SimpleSorts W (x .0)) _ _ _ (simple-reads n) (λ s k. (i, k))
+
+  -- where statements may nest deeper, the list inside is read so
+  abbrev Deeper : Option (Parser Statements) → Type 0
+  Deeper none = Unit
+  Deeper (some list) = (at : ℕ) → ReadsList (list at)
+
+  if-reads : (deeper : Option (Parser Statements)) → Deeper deeper → (at : ℕ) → W at ≡ IF → ReadsStatement (ifStatement W deeper at)
+  unfolding ifStatement
+  if-reads none h at i =
+      then-reads Any _ _ _ (expr-reads W (at + 1)) (λ e _. chosen ReadsStatement (eqb (W (e .1)) THEN) _ _ nine (compact-reads at (e .0) (e .1) i))
+  if-reads (some list) h at i =
+      then-reads Any _ _ _ (expr-reads W (at + 1)) (λ e _.
+      chosen ReadsStatement (eqb (W (e .1)) THEN) _ _ (then-list-reads list h at (e .0) (e .1) i) (compact-reads at (e .0) (e .1) i))
+
+  opening-reads : (deeper : Option (Parser Statements)) → Deeper deeper → (compound : Parser Statements → Parser Statement) (at : ℕ)
+      → ((list : Parser Statements) → ((n : ℕ) → ReadsList (list n)) → ReadsStatement (compound list at)) → ReadsStatement (opening W deeper compound at)
+  unfolding opening
+  opening-reads none h compound at f = nine
+  opening-reads (some list) h compound at f = f list h
+
+  plain-reads : (at : ℕ) → ReadsStatement (plainStatement W at)
+  unfolding plainStatement
+  plain-reads at = then-reads (λ x. SimpleSorts W (x .0)) _ _ _ (simple-reads at) (λ s k. k)
+
+  statement-reads : (deeper : Option (Parser Statements)) → Deeper deeper → (at : ℕ) → ReadsStatement (statement W deeper at)
+  unfolding statement
+  statement-reads deeper h at =
+      chosen-by ReadsStatement (eqb (W at) IF) _ _ (λ t. if-reads deeper h at (eqb-true _ _ t)) (λ _.
+      chosen-by ReadsStatement (eqb (W at) FOR) _ _ (λ t. opening-reads deeper h _ at (λ l k. for-reads l k at (eqb-true _ _ t))) (λ _.
+      chosen-by ReadsStatement (eqb (W at) WHILE) _ _ (λ t. opening-reads deeper h _ at (λ l k. while-reads l k at (eqb-true _ _ t))) (λ _.
+      chosen-by ReadsStatement (eqb (W at) TEST) _ _ (λ t. opening-reads deeper h _ at (λ l k. test-reads l k at (eqb-true _ _ t))) (λ _. plain-reads at))))
+
+  statements-reads : (p : ℕ) (deeper : Option (Parser Statements)) → Deeper deeper → (at : ℕ) → ReadsList (statements W p deeper at)
+  unfolding statements
+  statements-reads zero deeper h at = eight
+  statements-reads (suc p) deeper h at =
+      forked ReadsList (startsStatement (W at)) _ _
+      (then-reads (λ x. Sorts W (x .0)) _ _ _ (statement-reads deeper h at) (λ s k.
+      then-reads (λ x. SortsOfList W (x .0)) _ _ _ (statements-reads p deeper h (s .1)) (λ r k′. (k, k′))))
+      tt
+
+  list-in-reads : (d at : ℕ) → ReadsList (listIn W d at)
+  unfolding listIn
+  list-in-reads zero at = statements-reads parts none tt at
+  list-in-reads (suc d) at = statements-reads parts (some (listIn W d)) (list-in-reads d) at
+
+  list-reads : (at : ℕ) → ReadsList (list W at)
+  unfolding list
+  list-reads at = list-in-reads nestings at
+
+  -- ---- data and routines
+  initial-reads : (at : ℕ) → Reads Any (initialPart W at)
+  unfolding initialPart
+  initial-reads at = then-reads Any Any _ _ (expr-reads W at) (λ c _. tt)
+
+  size-reads : (at : ℕ) → Reads Any (sizePart W at)
+  unfolding sizePart
+  size-reads at = then-reads Any Any _ _ (expr-reads W at) (λ c _. then-reads _ Any _ _ (expect-reads W closeBrace (c .1)) (λ m _. tt))
+
+  var-reads : (at : ℕ) → Reads Any (varPart W at)
+  unfolding varPart
+  var-reads at = chosen (Reads Any) (eqb (W at) becomes) _ _ (initial-reads (at + 1)) (chosen (Reads Any) (eqb (W at) openBrace) _ _ (size-reads (at + 1)) tt)
+
+  const-reads : (at : ℕ) → Reads Any (constPart W at)
+  unfolding constPart
+  const-reads at = then-reads _ Any _ _ (expect-reads W becomes at) (λ n _. then-reads Any Any _ _ (expr-reads W n) (λ c _. tt))
+
+  datum-reads : (content : Parser Content) → ((at : ℕ) → Reads Any (content at)) → (at : ℕ) → Reads Any (datum W content at)
+  unfolding datum
+  datum-reads content h at =
+      then-reads Any Any _ _ (type-reads W (at + 1)) (λ n₁ _.
+      then-reads _ Any _ _ (expect-reads W NAME n₁) (λ n₂ _. then-reads Any Any _ _ (h n₂) (λ c _. then-reads _ Any _ _ (expect-reads W semicolon (c .1)) (λ n₄ _. tt))))
+
+  declaration-reads : (at : ℕ) → Reads Any (declaration W at)
+  unfolding declaration
+  declaration-reads at = chosen (Reads Any) (eqb (W at) VAR) _ _ (datum-reads (varPart W) var-reads at) (datum-reads (constPart W) const-reads at)
+
+  declarations-reads : (at : ℕ) → Reads Any (declarations W at)
+  unfolding declarations
+  declarations-reads at =
+      any-reads (λ (x : List Declared × ℕ). All Any (x .0)) (repeated W parts startsData (declaration W) at) (repeated-reads W Any parts startsData (declaration W) declaration-reads at)
+
+  parameter-reads : (at : ℕ) → Reads Any (parameter W at)
+  unfolding parameter
+  parameter-reads at = then-reads Any Any _ _ (type-reads W at) (λ n _. then-reads _ Any _ _ (expect-reads W NAME n) (λ m _. tt))
+
+  parameters-reads : (at : ℕ) → Reads Any (parameters W at)
+  unfolding parameters
+  parameters-reads at =
+      chosen (Reads Any) (eqb (W at) closeParen) _ _ tt
+      (any-reads (λ (x : List Parameter × ℕ). All Any (x .0)) (separated W parts (parameter W) at) (separated-reads W Any parts (parameter W) parameter-reads at))
+
+  -- an ERROR list, if there is one, from the word `at` on
+  abbrev ErrorPart : ℕ → Option RoutineList × ℕ → Type 0
+  ErrorPart at x = elim (x .0) [ none ↦ x .1 ≡ at | some l ↦ (W at ≡ ERROR) × SortsOfList W (l .statements) × (l .closes ≡ x .1) ]
+
+  error-reads : (at : ℕ) → Reads (ErrorPart at) (errorPart W at)
+  unfolding errorPart
+  error-reads at =
+      forked-by (Reads (ErrorPart at)) (eqb (W at) ERROR) _ _
+      (λ t. then-reads (λ x. SortsOfList W (x .0)) _ _ _ (list-reads (at + 1)) (λ ss k. (eqb-true _ _ t, k, refl)))
+      (λ t. refl)
+
+  closed : (ss : Statements) (n : ℕ) (x : Option RoutineList × ℕ) (r : Routine) → SortsOfList W ss → ErrorPart n x → Closes (W (x .1))
+      → r .body ≡ record { statements = ss; closes = n } → r .handler ≡ x .0 → SortsOfRoutine W r
+  closed ss n x r k e c b h = by-handler (x .0) (x .1) e c h
+    where
+      by-handler : (o : Option RoutineList) (m : ℕ) → ErrorPart n (o, m) → Closes (W m) → r .handler ≡ o → SortsOfRoutine W r
+      by-handler none m e c h = record { body = rw b (record { statements = k; closes = rw e at c }); handler = rw h tt }
+      by-handler (some l) m e c h =
+          record { body = rw b (record { statements = k; closes = by-error (e .0) }); handler = rw h (record { statements = e .1; closes = rw (e .2) c }) }
+
+  routine-from-reads : (result : Option ℕ) (closing at : ℕ) → Closes closing → Reads (λ x. SortsOfRoutine W (x .0)) (routineFrom W result closing at)
+  unfolding routineFrom
+  routine-from-reads result closing at c =
+      then-reads _ _ _ _ (expect-reads W NAME at) (λ n₁ _.
+      then-reads _ _ _ _ (expect-reads W openParen n₁) (λ n₂ _.
+      then-reads Any _ _ _ (parameters-reads n₂) (λ ps _.
+      then-reads _ _ _ _ (expect-reads W closeParen (ps .1)) (λ n₄ _.
+      then-reads Any _ _ _ (declarations-reads n₄) (λ ds _.
+      then-reads (λ x. SortsOfList W (x .0)) _ _ _ (list-reads (ds .1)) (λ ss k.
+      then-reads (ErrorPart (ss .1)) _ _ _ (error-reads (ss .1)) (λ h e.
+      then-reads _ _ _ _ (expect-reads W closing (h .1)) (λ n₈ q. closed (ss .0) (ss .1) h _ k e (rw q c) refl refl))))))))
+
+  function-reads : (at : ℕ) → Reads (λ x. SortsOfRoutine W (x .0)) (function W at)
+  unfolding function
+  function-reads at = then-reads Any _ _ _ (type-reads W at) (λ n _. routine-from-reads (some (W at)) ENDFUNC n (by-endfunc refl))
+
+  routine-reads : (at : ℕ) → Reads (λ x. SortsOfRoutine W (x .0)) (routine W at)
+  unfolding routine
+  routine-reads at =
+      chosen (Reads (λ x. SortsOfRoutine W (x .0))) (eqb (W at) PROC) _ _ (routine-from-reads none ENDPROC (at + 1) (by-endproc refl)) (function-reads (at + 1))
+
+  routines-reads : (at : ℕ) → Reads (λ x. All (SortsOfRoutine W) (x .0)) (routines W at)
+  unfolding routines
+  routines-reads at = repeated-reads W (SortsOfRoutine W) parts startsRoutine (routine W) routine-reads at
+
+  -- ---- a module: its first word is MODULE
+  pub record SortsOfModule (m : Module) : Type 0 where
+    pub first : W 0 ≡ MODULE
+    pub routines : All (SortsOfRoutine W) (m .routines)
+
+  pub formed-reads : Reads SortsOfModule (formed W)
+  unfolding formed
+  formed-reads =
+      then-reads _ _ _ _ (expect-reads W MODULE 0) (λ n₁ f.
+      then-reads _ _ _ _ (expect-reads W NAME n₁) (λ n₂ _.
+      then-reads Any _ _ _ (declarations-reads n₂) (λ ds _.
+      then-reads (λ x. All (SortsOfRoutine W) (x .0)) _ _ _ (routines-reads (ds .1)) (λ rs k.
+      then-reads _ _ _ _ (expect-reads W ENDMODULE (rs .1)) (λ n₅ _.
+      then-reads _ _ _ _ (expect-reads W NOTHING n₅) (λ n₆ _. record { first = f; routines = k }))))))
