@@ -13,7 +13,8 @@ use Rattle.paper.specs.States.{Call, State, Rooms, Effect, made, failing, handi
 use Rattle.paper.specs.Running.{Outcome, goesOn, stopped, stopping, codeAt, stepOf, nextStep, newCall, resume, takes, caught, retrying, tryingNext, perform, arising, settled, takeStep, started}
 use Rattle.demands.proofs.Performed.{Performed, makes, fails-with, ends, lacks, performed}
 use Rattle.demands.proofs.Performed as steps
-use Rattle.demands.specs.Vocabulary.{All, bare, effectOf, CallsRoutine, Waits, Taken, GoesOn, CallsAfter, goes-on, begins, returns, retries, tries-next, fails, hands-on, Reached, at-start, by-step}
+use Rattle.demands.proofs.Alls.{first-of, rest-of, all-behind}
+use Rattle.demands.specs.Vocabulary.{All, nothing, _also_, bare, effectOf, CallsRoutine, Waits, Taken, GoesOn, CallsAfter, goes-on, begins, returns, retries, tries-next, fails, hands-on, Reached, at-start, by-step}
 use Rattle.demands.specs.Demands.{Begun, ErrorLesson, Lesson}
 
 -- ---- one step
@@ -36,7 +37,7 @@ module _ (P : Program) where
             callers = t .callers;
             list = t .list;
             found = ap (c ∷_) (t .found);
-            nearest = (n, t .nearest);
+            nearest = n also t .nearest;
             has-list = t .has-list;
             not-in-it = t .not-in-it;
             left = t .left;
@@ -45,7 +46,7 @@ module _ (P : Program) where
       by-failed : (h : ℕ) (f : Option ℕ) → codeAt P (c .routine) .handler ≡ some h → c .failed ≡ f
           → elim f [ none ↦ some (takes h c ∷ r) | some n ↦ none ] ≡ some after → Taken P (c ∷ r) after
       by-failed h none k n g =
-          record { dropped = []; taker = c; callers = r; list = h; found = refl; nearest = tt; has-list = k; not-in-it = n; left = cc }
+          record { dropped = []; taker = c; callers = r; list = h; found = refl; nearest = nothing; has-list = k; not-in-it = n; left = cc }
       by-failed h (some f) k n g = apart (cc)
 
       by-list : (h : Option ℕ) → codeAt P (c .routine) .handler ≡ h
@@ -69,7 +70,7 @@ module _ (P : Program) where
       taken none k = tt
       taken (some after) k = f after (caught-taken cs after k)
 
-  left-settled : (R : Rooms) (c : Call) (r : List Call) (a : Action) (place : ℕ) (s : State) (e : Effect) → s .calls ≡ c ∷ r → Performed P R c r a s e
+  left-settled : (R : Rooms) (c : Call) (r : List Call) (a : Action) (place : ℕ) (s : State) (e : Effect) → s .calls ≡ c ∷ r → Performed P R c r place a s e
       → GoingOn (CallsAfter P c r a) (settled P place r s e)
   unfolding settled
   left-settled R c r a place s e live (makes h k) = k
@@ -77,7 +78,7 @@ module _ (P : Program) where
       left-arising (CallsAfter P c r a) n place (s′ .calls) (counted s′) (λ after t. fails (rw (same ∙ live) at t))
   left-settled R c r a place s e live (steps.hands-on k) = left-arising (CallsAfter P c r a) (s .errno) place r (counted s) (λ after t. hands-on k t)
   left-settled R c r a place s e live (ends n k) = tt
-  left-settled R c r a place s e live (lacks n at′ l h) = tt
+  left-settled R c r a place s e live (lacks n at′ k) = tt
 
   -- The step that is taken is the next one of the newest call.
   abbrev from : Rooms → State → List Call → Outcome
@@ -93,20 +94,20 @@ module _ (P : Program) where
       rw q at (left-settled R c r (nextStep P c .does) (nextStep P c .place) s (effectOf P R c r s) live (performed P R c r _ _ _ s live))
 
   -- ---- an error that arises in the newest call
-  failing-calls : (R : Rooms) (c : Call) (r : List Call) (a : Action) (s s₁ : State) (n : ℕ) (e : Effect) → Performed P R c r a s e → e ≡ failing n s₁ → s₁ .calls ≡ s .calls
-  failing-calls R c r a s s₁ n e (makes h k) q = apart (cc)
-  failing-calls R c r a s s₁ n e (fails-with {s′ = s′} m k same h) q =
+  failing-calls : (R : Rooms) (c : Call) (r : List Call) (place : ℕ) (a : Action) (s s₁ : State) (n : ℕ) (e : Effect) → Performed P R c r place a s e → e ≡ failing n s₁ → s₁ .calls ≡ s .calls
+  failing-calls R c r place a s s₁ n e (makes h k) q = apart (cc)
+  failing-calls R c r place a s s₁ n e (fails-with {s′ = s′} m k same h) q =
       let z : s′ ≡ s₁ = cc in
       sym (ap (λ x. x .calls) z) ∙ same
-  failing-calls R c r a s s₁ n e (steps.hands-on k) q = apart (cc)
-  failing-calls R c r a s s₁ n e (ends m k) q = apart (cc)
-  failing-calls R c r a s s₁ n e (lacks m place l h) q = apart (cc)
+  failing-calls R c r place a s s₁ n e (steps.hands-on k) q = apart (cc)
+  failing-calls R c r place a s s₁ n e (ends m k) q = apart (cc)
+  failing-calls R c r place a s s₁ n e (lacks m at′ k) q = apart (cc)
 
   module _ (R : Rooms) (s : State) (c : Call) (r : List Call) (live : s .calls ≡ c ∷ r) where
     step-fails : (e : ℕ) (s₁ : State) → effectOf P R c r s ≡ failing e s₁ → takeStep P R s ≡ arising P e (nextStep P c .place) (c ∷ r) (counted s₁)
     unfolding settled
     step-fails e s₁ q =
-        let same : s₁ .calls ≡ c ∷ r = failing-calls R c r _ s s₁ e _ (performed P R c r _ _ _ s live) q ∙ live in
+        let same : s₁ .calls ≡ c ∷ r = failing-calls R c r _ _ s s₁ e _ (performed P R c r _ _ _ s live) q ∙ live in
         step-from R s (c ∷ r) live ∙ ap (settled P (nextStep P c .place) r s) q ∙ ap (λ cs. arising P e (nextStep P c .place) cs (counted s₁)) same
 
     newer-gone : (e : ℕ) (s₁ s′ : State) → effectOf P R c r s ≡ failing e s₁ → takeStep P R s ≡ goesOn s′ → Taken P (c ∷ r) (s′ .calls)
@@ -168,24 +169,19 @@ record Orderly (P : Program) (cs : List Call) : Type 0 where
   waiting : All (Waits P) (callersOf cs)
   lists : All (HasList P) cs
 
--- The calls behind one.
-all-behind : (Q : Call → Type 0) (newer : List Call) (c : Call) (r : List Call) → All Q (newer ++ (c ∷ r)) → All Q r
-all-behind Q [] c r h = h .1
-all-behind Q (x ∷ newer) c r h = all-behind Q newer c r (h .1)
-
 all-callers : (Q : Call → Type 0) (newer : List Call) (c : Call) (r : List Call) → All Q (callersOf (newer ++ (c ∷ r))) → All Q r
 all-callers Q [] c r h = h
 all-callers Q (x ∷ newer) c r h = all-behind Q newer c r h
 
 -- What does not look at a call's words holds of calls that are alike but for them.
 all-bare : (Q : Call → Type 0) → ((c d : Call) → bare c ≡ bare d → Q c → Q d) → (a b : List Call) → map bare a ≡ map bare b → All Q a → All Q b
-all-bare Q f [] [] e h = tt
+all-bare Q f [] [] e h = nothing
 all-bare Q f [] (d ∷ b) e h = apart (cc)
 all-bare Q f (c ∷ a) [] e h = apart (cc)
 all-bare Q f (c ∷ a) (d ∷ b) e h =
     let x : bare c ≡ bare d = cc in
     let y : map bare a ≡ map bare b = cc in
-    (f c d x (h .0), all-bare Q f a b y (h .1))
+    f c d x (first-of h) also all-bare Q f a b y (rest-of h)
 
 module _ (P : Program) where
   waits-bare : (c d : Call) → bare c ≡ bare d → Waits P c → Waits P d
@@ -221,12 +217,12 @@ module _ (P : Program) where
       rw (t .left)
       (record {
         waiting = all-callers (Waits P) (t .dropped) (t .taker) (t .callers) w;
-        lists = (λ f q. (t .list, t .has-list), all-behind (HasList P) (t .dropped) (t .taker) (t .callers) l);
+        lists = (λ f q. (t .list, t .has-list)) also all-behind (HasList P) (t .dropped) (t .taker) (t .callers) l;
       })
 
   orderly-callers : (c : Call) (r : List Call) → Orderly P (c ∷ r) → Orderly P r
-  orderly-callers c [] h = record { waiting = tt; lists = tt }
-  orderly-callers c (d ∷ older) h = record { waiting = h .waiting .1; lists = h .lists .1 }
+  orderly-callers c [] h = record { waiting = nothing; lists = nothing }
+  orderly-callers c (d ∷ older) h = record { waiting = rest-of (h .waiting); lists = rest-of (h .lists) }
 
   orderly-after : (c : Call) (r after : List Call) → Orderly P (c ∷ r) → CallsAfter P c r (nextStep P c .does) after → Orderly P after
   unfolding newCall resume
@@ -234,15 +230,15 @@ module _ (P : Program) where
       rw (g .live)
       (record {
         waiting = all-bare (Waits P) waits-bare r (g .callers) (sym (g .waiting)) (h .waiting);
-        lists = (list-like c (g .newest) (sym (g .routine)) (sym (g .failed)) (h .lists .0), all-bare (HasList P) list-bare r (g .callers) (sym (g .waiting)) (h .lists .1));
+        lists = list-like c (g .newest) (sym (g .routine)) (sym (g .failed)) (first-of (h .lists)) also all-bare (HasList P) list-bare r (g .callers) (sym (g .waiting)) (rest-of (h .lists));
       })
   orderly-after c r after h (begins k args result st l) =
-      rw l (record { waiting = (record { routine = k; statement = st }, h .waiting); lists = (no-list (newCall P k args result) refl, h .lists) })
+      rw l (record { waiting = record { routine = k; statement = st } also h .waiting; lists = no-list (newCall P k args result) refl also h .lists })
   orderly-after c r after h (returns d older l b) =
       let o : Orderly P (d ∷ older) = rw l at (orderly-callers c r h) in
-      orderly-bare (resume P d ∷ older) after (sym b) (record { waiting = o .waiting; lists = (list-like d (resume P d) refl refl (o .lists .0), o .lists .1) })
-  orderly-after c r after h (retries f d k l) = rw l (record { waiting = h .waiting; lists = (no-list (goTo f (setFailed none c)) refl, h .lists .1) })
-  orderly-after c r after h (tries-next f d k l) = rw l (record { waiting = h .waiting; lists = (no-list (goTo (stepOf P c f .after) (setFailed none c)) refl, h .lists .1) })
+      orderly-bare (resume P d ∷ older) after (sym b) (record { waiting = o .waiting; lists = list-like d (resume P d) refl refl (first-of (o .lists)) also rest-of (o .lists) })
+  orderly-after c r after h (retries f d k l) = rw l (record { waiting = h .waiting; lists = no-list (goTo f (setFailed none c)) refl also rest-of (h .lists) })
+  orderly-after c r after h (tries-next f d k l) = rw l (record { waiting = h .waiting; lists = no-list (goTo (stepOf P c f .after) (setFailed none c)) refl also rest-of (h .lists) })
   orderly-after c r after h (fails t) = orderly-taken (c ∷ r) after h t
   orderly-after c r after h (hands-on d t) = orderly-taken r after (orderly-callers c r h) t
 
@@ -256,7 +252,7 @@ module _ (P : Program) where
 
   orderly : (R : Rooms) (main : ℕ) (s : State) → Reached P R main s → Orderly P (s .calls)
   unfolding started newCall
-  orderly R main s at-start = record { waiting = tt; lists = (no-list (newCall P main [] none) refl, tt) }
+  orderly R main s at-start = record { waiting = nothing; lists = no-list (newCall P main [] none) refl also nothing }
   orderly R main s (by-step {s = s₁} {s′ = s₂} h e) = orderly-step R s₁ s₂ (orderly R main s₁ h) e
 
   not-caught : (c : Call) (r : List Call) (h f : ℕ) → codeAt P (c .routine) .handler ≡ some h → c .failed ≡ some f → caught P (c ∷ r) ≡ none
@@ -268,7 +264,7 @@ module _ (P : Program) where
   unfolding arising
   dies R main s c r live e f s₁ reached k q =
       let o : Orderly P (c ∷ r) = rw live at (orderly R main s reached) in
-      let (h, g) = o .lists .0 f k in
+      let (h, g) = first-of (o .lists) f k in
       step-fails P R s c r live e s₁ q ∙ rw (not-caught c r h f g k, arising)
 
 pub lesson : Lesson

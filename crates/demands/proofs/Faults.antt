@@ -21,17 +21,16 @@ use Rattle.paper.specs.Types.{Fault, fault, faultIf, leastOf, least, comesFirst
 use Rattle.paper.specs.Declarations.{moduleWordLimit, routineLimit, routineWordLimit, crosses, Data, Filling, declareName, declareContent, declareData, declareParameters, noData, Signature, dataTexts, routineNames, routineNameFaults, moduleFilling, moduleData, routineFilling, routineData, routineScopes, signatures}
 use Rattle.paper.specs.Checks.{Setting, inError, forsIn, forsInList, forsInArms, forsInCases, isSome, isOtherKind, noSignature, judgeScalarTarget, judgeTarget, argumentFaults, signatureFaults, calleeFaults, signatureOf, callFaults, resultFaults, returnFaults, optionalNum, simpleFaults, caseFaults, statementFaults, listFaults, armFaults, casesFaults, handlerFaults, settingIn, routineFaults, allRoutineFaults, faults, theBody, theHandler}
 use Rattle.demands.proofs.Choices.{chosen, forked, chosen-by, forked-by}
-use Rattle.demands.specs.Vocabulary.{All}
+use Rattle.demands.proofs.Alls.{_and_, first-of, rest-of}
+use Rattle.demands.specs.Vocabulary.{All, nothing, _also_}
 
--- ---- lists of faults, each of rules 10 to 17
-pub data Ranked : List Fault → Type 0 where
-  no-fault : Ranked []
-  one-more : {f : Fault} {r : List Fault} → 10 ≤ f .number → f .number ≤ 17 → Ranked r → Ranked (f ∷ r)
+-- ---- faults of rules 10 to 17
+pub record InRules (f : Fault) : Type 0 where
+  pub low : 10 ≤ f .number
+  pub high : f .number ≤ 17
 
-infixl 60 _and_
-_and_ : {a b : List Fault} → Ranked a → Ranked b → Ranked (a ++ b)
-no-fault and g = g
-one-more l h r and g = one-more l h (r and g)
+abbrev pub Ranked : List Fault → Type 0
+Ranked fs = All InRules fs
 
 -- a number of them
 abbrev Rule : ℕ → Type 0
@@ -39,12 +38,12 @@ Rule number = T (leb 10 number) × T (leb number 17)
 
 fault-ranked : (number i : ℕ) → Rule number → Ranked (fault number i)
 unfolding fault
-fault-ranked number i h = one-more (leb→le 10 number (h .0)) (leb→le number 17 (h .1)) no-fault
+fault-ranked number i h = record { low = leb→le 10 number (h .0); high = leb→le number 17 (h .1) } also nothing
 
 if-ranked : (b : Bool) (number i : ℕ) → Rule number → Ranked (faultIf b number i)
 unfolding faultIf
 if-ranked true number i h = fault-ranked number i h
-if-ranked false number i h = no-fault
+if-ranked false number i h = nothing
 
 -- ---- expressions
 judged-ranked : (t : DataType) (fs : List Fault) (x : Term) → Ranked fs → Ranked (judged t fs x .faults)
@@ -65,11 +64,11 @@ unfolding judgeName
 name-ranked c unknown i = nothing-ranked _ (fault-ranked 11 i (tt, tt))
 name-ranked c (variable t r) i = judged-ranked t _ _ (if-ranked c 12 i (tt, tt))
 name-ranked c (array t r n) i = nothing-ranked _ (fault-ranked 12 i (tt, tt))
-name-ranked c (constant t r) i = judged-ranked t _ _ no-fault
+name-ranked c (constant t r) i = judged-ranked t _ _ nothing
 name-ranked c (loop r) i = judged-ranked aNum _ _ (if-ranked c 12 i (tt, tt))
 name-ranked c (theRoutine k) i = nothing-ranked _ (fault-ranked 12 i (tt, tt))
 name-ranked c theErrno i = judged-ranked aNum _ _ (if-ranked c 12 i (tt, tt))
-name-ranked c (errorNumber n) i = judged-ranked aNum _ _ no-fault
+name-ranked c (errorNumber n) i = judged-ranked aNum _ _ nothing
 
 wrong-ranked : (m : Meaning) (i : ℕ) → Ranked (fault (wrongName m) i)
 unfolding wrongName
@@ -113,9 +112,9 @@ module _ (W : List Word) where
   unfolding judgeLeaf
   leaf-ranked c S i =
       let Q : Judged → Type 0 = λ x. Ranked (x .faults) in
-      chosen Q (eqb (sortIn W i) NUMBER) _ _ (judged-ranked _ _ _ no-fault)
-      (chosen Q (eqb (sortIn W i) TRUE) _ _ (judged-ranked _ _ _ no-fault)
-      (chosen Q (eqb (sortIn W i) FALSE) _ _ (judged-ranked _ _ _ no-fault) (name-ranked c (meaning S (spelled W i)) i)))
+      chosen Q (eqb (sortIn W i) NUMBER) _ _ (judged-ranked _ _ _ nothing)
+      (chosen Q (eqb (sortIn W i) TRUE) _ _ (judged-ranked _ _ _ nothing)
+      (chosen Q (eqb (sortIn W i) FALSE) _ _ (judged-ranked _ _ _ nothing) (name-ranked c (meaning S (spelled W i)) i)))
 
   judge-ranked : (c : Bool) (S : Scopes) (e : Expr) → Ranked (judge W c S e .faults)
   unfolding judge
@@ -179,7 +178,7 @@ module _ (W : List Word) (F : Filling) where
 
   content-declares : (t : DataType) (i : ℕ) (c : Content) (D : Data) → Declares (F .limit) D → Declares (F .limit) (declareContent W F t i c D)
   unfolding declareContent
-  content-declares t i variableData D d = name-declares i _ _ _ D no-fault d
+  content-declares t i variableData D d = name-declares i _ _ _ D nothing d
   content-declares t i (initialData e) D d = name-declares i _ _ _ D (constant-ranked W raisesError t _ _ e) d
   content-declares t i (arrayData e) D d = name-declares i _ _ _ D (constant-ranked W isNoSize aNum _ _ e) d
   content-declares t i (constantData e) D d = name-declares i _ _ _ D (constant-ranked W raisesError t _ _ e) d
@@ -192,10 +191,10 @@ module _ (W : List Word) (F : Filling) where
   parameters-declare : (ps : List Parameter) (D : Data) → Declares (F .limit) D → Declares (F .limit) (declareParameters W F ps D)
   unfolding declareParameters
   parameters-declare [] D d = d
-  parameters-declare (p ∷ ps) D d = parameters-declare ps _ (name-declares (p .name) _ _ _ D no-fault d)
+  parameters-declare (p ∷ ps) D d = parameters-declare ps _ (name-declares (p .name) _ _ _ D nothing d)
 
 no-data-declares : (limit : ℕ) → Declares limit noData
-no-data-declares limit = record { ranked = no-fault; words = λ e. omega arith }
+no-data-declares limit = record { ranked = nothing; words = λ e. omega arith }
 
 module _ (W : List Word) where
   pub module-declares : (m : Module) → Declares moduleWordLimit (moduleData W m)
@@ -209,7 +208,7 @@ module _ (W : List Word) where
 
   routine-names-ranked : (earlier : List Text) (k : ℕ) (rs : List Routine) → Ranked (routineNameFaults W earlier k rs)
   unfolding routineNameFaults
-  routine-names-ranked earlier k [] = no-fault
+  routine-names-ranked earlier k [] = nothing
   routine-names-ranked earlier k (r ∷ rs) = if-ranked _ 10 (r .name) (tt, tt) and if-ranked _ 16 (r .name) (tt, tt) and routine-names-ranked _ (suc k) rs
 
 -- ---- statements
@@ -219,7 +218,7 @@ scalar-ranked m i = by-variable (variableIn m)
   where
     by-variable : (v : Option (DataType × Ref)) → Ranked ((elim v as (λ x. Judged) [ none ↦ judgedNothing (fault (wrongName m) i) | some w ↦ judged (w .0) [] (stored (w .1)) ]) .faults)
     by-variable none = nothing-ranked _ (wrong-ranked m i)
-    by-variable (some w) = judged-ranked _ _ _ no-fault
+    by-variable (some w) = judged-ranked _ _ _ nothing
 
 module _ (W : List Word) where
   target-ranked : (S : Scopes) (t : Target) → Ranked (judgeTarget W S t .faults)
@@ -232,7 +231,7 @@ module _ (W : List Word) where
 
   arguments-ranked : (S : Scopes) (ts : List DataType) (es : List Expr) → Ranked (argumentFaults W S ts es)
   unfolding argumentFaults
-  arguments-ranked S ts [] = no-fault
+  arguments-ranked S ts [] = nothing
   arguments-ranked S [] (e ∷ es) = faults-of-ranked W S e and arguments-ranked S [] es
   arguments-ranked S (t ∷ ts) (e ∷ es) = of-type-ranked W t S e and arguments-ranked S ts es
 
@@ -254,7 +253,7 @@ module _ (W : List Word) where
 
   result-ranked : (j : Judged) (t : Option DataType) (i : ℕ) → Ranked (resultFaults W j t i)
   unfolding resultFaults
-  result-ranked j none i = no-fault
+  result-ranked j none i = nothing
   result-ranked j (some t) i = if-ranked _ 13 i (tt, tt)
 
   return-ranked : (K : Setting) (S : Scopes) (i : ℕ) (e : Option Expr) → Ranked (returnFaults W K S i e)
@@ -268,7 +267,7 @@ module _ (W : List Word) where
 
   optional-ranked : (S : Scopes) (e : Option Expr) → Ranked (optionalNum W S e)
   unfolding optionalNum
-  optional-ranked S none = no-fault
+  optional-ranked S none = nothing
   optional-ranked S (some e) = of-type-ranked W aNum S e
 
   simple-ranked : (K : Setting) (S : Scopes) (s : Simple) → Ranked (simpleFaults W K S s)
@@ -279,7 +278,7 @@ module _ (W : List Word) where
   simple-ranked K S (returns i e) = return-ranked K S i e
   simple-ranked K S (raises i none) = if-ranked _ 17 i (tt, tt)
   simple-ranked K S (raises i (some e)) = if-ranked _ 17 i (tt, tt) and of-type-ranked W aNum S e
-  simple-ranked K S (exits i) = no-fault
+  simple-ranked K S (exits i) = nothing
   simple-ranked K S (retries i) = if-ranked _ 17 i (tt, tt)
   simple-ranked K S (triesNext i) = if-ranked _ 17 i (tt, tt)
   simple-ranked K S (writes i s e) = optional-ranked S e
@@ -287,7 +286,7 @@ module _ (W : List Word) where
 
   case-ranked : (S : Scopes) (M : Memory) (es : List Expr) → Ranked (caseFaults W S M es)
   unfolding caseFaults
-  case-ranked S M [] = no-fault
+  case-ranked S M [] = nothing
   case-ranked S M (e ∷ es) = constant-ranked W raisesError aNum S M e and case-ranked S M es
 
   module _ (K : Setting) (M : Memory) where
@@ -304,21 +303,21 @@ module _ (W : List Word) where
       statement-ranked (test i e c d) S n = of-type-ranked W aNum S e and cases-ranked c S n and list-ranked d S _
 
       list-ranked : (l : Statements) (S : Scopes) (n : ℕ) → Ranked (listFaults W K M l S n)
-      list-ranked empty S n = no-fault
+      list-ranked empty S n = nothing
       list-ranked (s then r) S n = statement-ranked s S n and list-ranked r S _
 
       arms-ranked : (a : Arms) (S : Scopes) (n : ℕ) → Ranked (armFaults W K M a S n)
-      arms-ranked noArm S n = no-fault
+      arms-ranked noArm S n = nothing
       arms-ranked (arm e b r) S n = of-type-ranked W aBool S e and list-ranked b S n and arms-ranked r S _
 
       cases-ranked : (c : Cases) (S : Scopes) (n : ℕ) → Ranked (casesFaults W K M c S n)
-      cases-ranked noCase S n = no-fault
+      cases-ranked noCase S n = nothing
       cases-ranked (case es b r) S n = case-ranked S M es and list-ranked b S n and cases-ranked r S _
 
   -- ---- routines and the module
   handler-ranked : (K : Setting) (M : Memory) (S : Scopes) (n : ℕ) (h : Option RoutineList) → Ranked (handlerFaults W K M S n h)
   unfolding handlerFaults
-  handler-ranked K M S n none = no-fault
+  handler-ranked K M S n none = nothing
   handler-ranked K M S n (some h) = list-ranked K M (h .statements) S n
 
   routine-faults-ranked : (m : Module) (sigs : List Signature) (k : ℕ) (r : Routine) → Ranked (routineFaults W m sigs k r)
@@ -327,7 +326,7 @@ module _ (W : List Word) where
 
   all-routines-ranked : (m : Module) (sigs : List Signature) (k : ℕ) (rs : List Routine) → Ranked (allRoutineFaults W m sigs k rs)
   unfolding allRoutineFaults
-  all-routines-ranked m sigs k [] = no-fault
+  all-routines-ranked m sigs k [] = nothing
   all-routines-ranked m sigs k (r ∷ rs) = routine-faults-ranked m sigs k r and all-routines-ranked m sigs (suc k) rs
 
   pub faults-ranked : (m : Module) → Ranked (faults W m)
@@ -335,22 +334,17 @@ module _ (W : List Word) where
   faults-ranked m = module-declares W m .ranked and routine-names-ranked W _ 0 (m .routines) and all-routines-ranked m _ 0 (m .routines)
 
 -- ---- the least fault
-pub record InRules (f : Fault) : Type 0 where
-  pub low : 10 ≤ f .number
-  pub high : f .number ≤ 17
-
 least-of-ranked : (a : Fault) (r : List Fault) → InRules a → Ranked r → InRules (leastOf a r)
 unfolding leastOf
-least-of-ranked a r h no-fault = h
-least-of-ranked a r h (one-more {f = b} {r = s} l u k) =
-    forked InRules (comesFirst a b) _ _ (least-of-ranked a s h k) (least-of-ranked b s (record { low = l; high = u }) k)
+least-of-ranked a [] h k = h
+least-of-ranked a (b ∷ s) h k = forked InRules (comesFirst a b) _ _ (least-of-ranked a s h (rest-of k)) (least-of-ranked b s (first-of k) (rest-of k))
 
 pub least-ranked : (fs : List Fault) (f : Fault) → Ranked fs → least fs ≡ some f → InRules f
 unfolding least
-least-ranked fs f no-fault e = apart (cc)
-least-ranked fs f (one-more {f = a} {r = r} l u k) e =
+least-ranked [] f k e = apart (cc)
+least-ranked (a ∷ r) f k e =
     let q : leastOf a r ≡ f = cc in
-    rw q at (least-of-ranked a r (record { low = l; high = u }) k)
+    rw q at (least-of-ranked a r (first-of k) (rest-of k))
 
 pub least-none : (fs : List Fault) → least fs ≡ none → fs ≡ []
 unfolding least

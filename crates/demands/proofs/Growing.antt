@@ -9,7 +9,7 @@ use lib.ListN.{length, length-set, length-append}
 use Rattle.paper.specs.Steps.{Action, Program}
 use Rattle.paper.specs.States.{Call, State, Rooms, Effect, made, failing, handing, ending, lacking, withCalls, withErrno, counted}
 use Rattle.paper.specs.Running.{Ended, Outcome, goesOn, stopped, stopping, caught, arising, settled, nextStep, takeStep, nextPlace, run, perform}
-use Rattle.demands.proofs.Performed.{Changed, unchanged, with-calls, with-word, with-line, with-input, Performed, makes, fails-with, hands-on, ends, lacks, OwnEnding, returned, exited, unreturned, performed}
+use Rattle.demands.proofs.Performed.{Changed, unchanged, with-calls, with-word, with-line, with-input, Performed, makes, fails-with, hands-on, ends, lacks, OwnEnding, returned, exited, unreturned, Lacking, no-depth, no-input, no-room, performed}
 use Rattle.demands.specs.Vocabulary.{Begins, ErrorNumber, Errno, latest}
 
 -- ---- beginnings
@@ -104,19 +104,24 @@ module _ (P : Program) (R : Rooms) where
       taken none = stops true 3 place (omega arith) (omega arith) (later-errno R s s′ 1 e cs k l)
       taken (some cs′) = goes (later-calls R s _ 1 cs′ (later-errno R s s′ 1 e cs k l))
 
-  own-ending : (s : State) (n place : ℕ) → OwnEnding n → Came R s (stopping true n place (counted s))
-  own-ending s n place returned = stops true 1 place (omega arith) (omega arith) (later-counted R s s (later-same R s))
-  own-ending s n place exited = stops true 2 place (omega arith) (omega arith) (later-counted R s s (later-same R s))
-  own-ending s n place unreturned = stops true 4 place (omega arith) (omega arith) (later-counted R s s (later-same R s))
+  own-ending : (a : Action) (s : State) (n place : ℕ) → OwnEnding a n → Came R s (stopping true n place (counted s))
+  own-ending a s n place returned = stops true 1 place (omega arith) (omega arith) (later-counted R s s (later-same R s))
+  own-ending a s n place (exited e) = stops true 2 place (omega arith) (omega arith) (later-counted R s s (later-same R s))
+  own-ending a s n place (unreturned e) = stops true 4 place (omega arith) (omega arith) (later-counted R s s (later-same R s))
 
-  came-settled : (c : Call) (r : List Call) (a : Action) (place : ℕ) (s : State) (e : Effect) → Performed P R c r a s e → Came R s (settled P place r s e)
+  lacking-ending : (a : Action) (s : State) (place n at′ : ℕ) → Lacking a place n at′ → Came R s (stopping false n at′ s)
+  lacking-ending a s place n at′ (no-depth callee k) = stops false 6 callee (omega arith) (omega arith) (later-same R s)
+  lacking-ending a s place n at′ (no-input t text e) = stops false 7 place (omega arith) (omega arith) (later-same R s)
+  lacking-ending a s place n at′ (no-room w) = stops false 8 place (omega arith) (omega arith) (later-same R s)
+
+  came-settled : (c : Call) (r : List Call) (a : Action) (place : ℕ) (s : State) (e : Effect) → Performed P R c r place a s e → Came R s (settled P place r s e)
   unfolding settled
   came-settled c r a place s e (makes h k) = goes (later-counted R s _ (later-changed R s _ h))
   came-settled c r a place s e (fails-with {s′ = s′} n k live h) =
       came-arising n place (s′ .calls) s _ (λ g. latest k) (later-counted R s s′ (later-changed R s s′ h))
   came-settled c r a place s e (hands-on k) = came-arising (s .errno) place r s _ (λ g. g) (later-counted R s s (later-same R s))
-  came-settled c r a place s e (ends n k) = own-ending s n place k
-  came-settled c r a place s e (lacks n at′ l h) = stops false n at′ (omega arith) (omega arith) (later-same R s)
+  came-settled c r a place s e (ends n k) = own-ending a s n place k
+  came-settled c r a place s e (lacks n at′ k) = lacking-ending a s place n at′ k
 
   pub came : (s : State) → Came R s (takeStep P R s)
   unfolding takeStep

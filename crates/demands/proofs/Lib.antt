@@ -1,4 +1,5 @@
 pub mod Choices
+pub mod Alls
 pub mod Errors
 pub mod Effects
 pub mod Performed
@@ -10,4 +11,5 @@ pub mod Signs
 pub mod Parsing
 pub mod Faults
 pub mod Places
+pub mod Tables
 pub mod Instances

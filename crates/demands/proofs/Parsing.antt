@@ -14,7 +14,7 @@ use Rattle.paper.specs.Expressions.{Parsed, Parser, got, no, _>>=_, parts, nest
 use Rattle.paper.specs.Statements.{targetIndex, target, valueSide, callSide, rightSide, assignment, procedureCall, startedByName, withOptional, written, tpWrite, tpReadNum, simpleWord, simpleStatement, elsePart, lastArm, arms, ifThen, ifSimple, ifStatement, stepPart, forStatement, whileStatement, defaultPart, lastCase, cases, testStatement, opening, plainStatement, statement, statements, listIn, list}
 use Rattle.paper.specs.Form.{initialPart, sizePart, varPart, constPart, datum, declaration, declarations, parameter, parameters, errorPart, routineFrom, function, routine, routines, formed}
 use Rattle.demands.proofs.Choices.{chosen, forked, chosen-by, forked-by}
-use Rattle.demands.specs.Vocabulary.{All}
+use Rattle.demands.specs.Vocabulary.{All, nothing, _also_, Closes, by-error, by-endproc, by-endfunc}
 
 -- What is read has a property; or it is refused, with number 8 or 9.
 abbrev pub Reads : {A : Type 0} → (A → Type 0) → Parsed A → Type 0
@@ -106,8 +106,8 @@ module _ (W : ℕ → ℕ) where
   separated-reads Q (suc p) one h at =
       then-reads (λ x. Q (x .0)) _ _ _ (h at) (λ a k.
       forked (Reads (λ x. All Q (x .0))) (eqb (W (a .1)) comma) _ _
-      (then-reads (λ x. All Q (x .0)) _ _ _ (separated-reads Q p one h (a .1 + 1)) (λ r k′. (k, k′)))
-      (k, tt))
+      (then-reads (λ x. All Q (x .0)) _ _ _ (separated-reads Q p one h (a .1 + 1)) (λ r k′. k also k′))
+      (k also nothing))
 
   repeated-reads : {A : Type 0} (Q : A → Type 0) (p : ℕ) (starts : ℕ → Bool) (one : Parser A) → ((at : ℕ) → Reads (λ x. Q (x .0)) (one at)) → (at : ℕ)
       → Reads (λ x. All Q (x .0)) (repeated W p starts one at)
@@ -115,8 +115,8 @@ module _ (W : ℕ → ℕ) where
   repeated-reads Q zero starts one h at = eight
   repeated-reads Q (suc p) starts one h at =
       forked (Reads (λ x. All Q (x .0))) (starts (W at)) _ _
-      (then-reads (λ x. Q (x .0)) _ _ _ (h at) (λ a k. then-reads (λ x. All Q (x .0)) _ _ _ (repeated-reads Q p starts one h (a .1)) (λ r k′. (k, k′))))
-      tt
+      (then-reads (λ x. Q (x .0)) _ _ _ (h at) (λ a k. then-reads (λ x. All Q (x .0)) _ _ _ (repeated-reads Q p starts one h (a .1)) (λ r k′. k also k′)))
+      nothing
 
   exprs-reads : (at : ℕ) → Reads Any (exprs W at)
   unfolding exprs
@@ -127,12 +127,6 @@ module _ (W : ℕ → ℕ) where
   arguments-reads closing at = chosen (Reads Any) (eqb (W at) closing) _ _ tt (exprs-reads at)
 
 -- ---- the sorts of the words that statements and lists begin or close with
--- ERROR, ENDPROC or ENDFUNC
-pub data Closes (sort : ℕ) : Type 0 where
-  by-error : sort ≡ ERROR → Closes sort
-  by-endproc : sort ≡ ENDPROC → Closes sort
-  by-endfunc : sort ≡ ENDFUNC → Closes sort
-
 module _ (W : ℕ → ℕ) where
   abbrev pub SimpleSorts : Simple → Type 0
   SimpleSorts (assign t e) = W (t .name) ≡ NAME

@@ -29,18 +29,34 @@ pub data Changed (R : Rooms) (s : State) : State → Type 0 where
   with-input : {s′ : State} → s′ .used < length (R .inputs) → Changed R s s′ → Changed R s (withInput s′)
 
 -- The endings of a step that is made: 1, 2 and 4.
-pub data OwnEnding : ℕ → Type 0 where
-  returned : OwnEnding 1
-  exited : OwnEnding 2
-  unreturned : OwnEnding 4
+pub data OwnEnding (a : Action) : ℕ → Type 0 where
+  returned : OwnEnding a 1
+  exited : a ≡ exit → OwnEnding a 2
+  unreturned : a ≡ endList → OwnEnding a 4
 
--- What the step `a` of the call c with callers r comes to, from state s.
-pub data Performed (P : Program) (R : Rooms) (c : Call) (r : List Call) (a : Action) (s : State) : Effect → Type 0 where
-  makes : {s′ : State} → Changed R s s′ → CallsAfter P c r a (s′ .calls) → Performed P R c r a s (made s′)
-  fails-with : {s′ : State} (e : ℕ) → ErrorNumber e → s′ .calls ≡ s .calls → Changed R s s′ → Performed P R c r a s (failing e s′)
-  hands-on : a ≡ handOn → Performed P R c r a s (handing s)
-  ends : (n : ℕ) → OwnEnding n → Performed P R c r a s (ending n s)
-  lacks : (n place : ℕ) → 6 ≤ n → n ≤ 8 → Performed P R c r a s (lacking n place)
+-- The callee's word of a call statement.
+pub data Callee (callee : ℕ) : Action → Type 0 where
+  of-function : (t : Spot) (k : ℕ) (es : List Term) → Callee callee (callFor t callee k es)
+  of-procedure : (k : ℕ) (es : List Term) → Callee callee (callOf callee k es)
+
+-- The statements that write a line: TPWrite and TPReadNum.
+pub data Writes : Action → Type 0 where
+  by-write : (text : List ℕ) (e : Option Term) → Writes (write text e)
+  by-read : (t : Spot) (text : List ℕ) → Writes (read t text)
+
+-- What the step a, at a place, can lack, and where it says so.
+pub data Lacking (a : Action) (place : ℕ) : (number at′ : ℕ) → Type 0 where
+  no-depth : (callee : ℕ) → Callee callee a → Lacking a place 6 callee
+  no-input : (t : Spot) (text : List ℕ) → a ≡ read t text → Lacking a place 7 place
+  no-room : Writes a → Lacking a place 8 place
+
+-- What the step a, at a place, of the call c with callers r comes to, from state s.
+pub data Performed (P : Program) (R : Rooms) (c : Call) (r : List Call) (place : ℕ) (a : Action) (s : State) : Effect → Type 0 where
+  makes : {s′ : State} → Changed R s s′ → CallsAfter P c r a (s′ .calls) → Performed P R c r place a s (made s′)
+  fails-with : {s′ : State} (e : ℕ) → ErrorNumber e → s′ .calls ≡ s .calls → Changed R s s′ → Performed P R c r place a s (failing e s′)
+  hands-on : a ≡ handOn → Performed P R c r place a s (handing s)
+  ends : (n : ℕ) → OwnEnding a n → Performed P R c r place a s (ending n s)
+  lacks : (n at′ : ℕ) → Lacking a place n at′ → Performed P R c r place a s (lacking n at′)
 
 -- ---- changes of the newest call, and words stored
 module _ (R : Rooms) (s : State) where
@@ -124,9 +140,9 @@ module _ (c : Call) (r : List Call) where
       (record { newest = h .newest; callers = onDepth d (setWord k v) (h .callers); live = refl; routine = h .routine; failed = h .failed; result = h .result; waiting = bare-depth d k v (h .callers) ∙ h .waiting }))
 
 -- ---- the step a of the call c
-module _ (P : Program) (R : Rooms) (c : Call) (r : List Call) (a : Action) (s : State) (live : s .calls ≡ c ∷ r) where
+module _ (P : Program) (R : Rooms) (c : Call) (r : List Call) (place : ℕ) (a : Action) (s : State) (live : s .calls ≡ c ∷ r) where
   abbrev Does : Effect → Type 0
-  Does e = Performed P R c r a s e
+  Does e = Performed P R c r place a s e
 
   here : GoesOn c r (s .calls)
   here = stays-live c r s live
@@ -164,47 +180,47 @@ module _ (P : Program) (R : Rooms) (c : Call) (r : List Call) (a : Action) (s : 
   step-done M (some e) go f = term-done M e go f
 
   -- ---- rooms
-  room-done : (b : Bool) (e : Effect) (n place : ℕ) → 6 ≤ n → n ≤ 8 → (b ≡ true → Does e) → Does (if b then e else lacking n place)
-  room-done true e n place l h f = f refl
-  room-done false e n place l h f = lacks n place l h
+  room-done : (b : Bool) (e : Effect) (n at′ : ℕ) → Lacking a place n at′ → (b ≡ true → Does e) → Does (if b then e else lacking n at′)
+  room-done true e n at′ l f = f refl
+  room-done false e n at′ l f = lacks n at′ l
 
-  adding-done : (place : ℕ) (line : List ℕ) (go : State → Effect)
+  adding-done : (line : List ℕ) (go : State → Effect) → Writes a
       → (Changed R s (withOutput (s .output ++ line) s) → Does (go (withOutput (s .output ++ line) s))) → Does (adding R place line s go)
   unfolding adding
-  adding-done place line go f = room-done _ _ 8 place (omega arith) (omega arith) (λ t. f (with-line line (leb-true _ _ t) unchanged))
+  adding-done line go w f = room-done _ _ 8 place (no-room w) (λ t. f (with-line line (leb-true _ _ t) unchanged))
 
   -- ---- each sort of step
-  calling-done : (M : Memory) (callee k : ℕ) (es : List Term) (result : Option Location) → CallsRoutine k a → Does (calling P R M callee k es result s)
+  calling-done : (M : Memory) (callee k : ℕ) (es : List Term) (result : Option Location) → CallsRoutine k a → Callee callee a → Does (calling P R M callee k es result s)
   unfolding calling
-  calling-done M callee k es result h =
-      values-done M es _ (λ args. room-done (ltb (length (s .calls)) (R .depth)) _ 6 callee (omega arith) (omega arith) (λ t. makes (with-calls _ unchanged) (begins k args result h (ap (newCall P k args result ∷_) live))))
+  calling-done M callee k es result h w =
+      values-done M es _ (λ args. room-done (ltb (length (s .calls)) (R .depth)) _ 6 callee (no-depth callee w) (λ t. makes (with-calls _ unchanged) (begins k args result h (ap (newCall P k args result ∷_) live))))
 
   returning-done : (cs : List Call) (v : Option ℤ) → r ≡ cs → Does (returning P c cs v s)
   unfolding returning
   returning-done [] v e = ends 1 returned
   returning-done (d ∷ older) v e = makes (changed-result R s (c .result) v _ (with-calls _ unchanged)) (returns d older e (bare-result (c .result) v _))
 
-  writing-done : (M : Memory) (place after : ℕ) (text : List ℕ) (e : Option Term) → Does (writing R M place after text e s)
+  writing-done : (M : Memory) (after : ℕ) (text : List ℕ) (e : Option Term) → Writes a → Does (writing R M place after text e s)
   unfolding writing
-  writing-done M place after text none = adding-done place _ _ (λ h. moves after _ h here)
-  writing-done M place after text (some e) = term-done M e _ (λ z. adding-done place _ _ (λ h. moves after _ h here))
+  writing-done M after text none w = adding-done _ _ w (λ h. moves after _ h here)
+  writing-done M after text (some e) w = term-done M e _ (λ z. adding-done _ _ w (λ h. moves after _ h here))
 
-  taking-done : (place after : ℕ) (l : Location) (line : List ℕ) → Changed R s (withOutput (s .output ++ line) s)
+  taking-done : (after : ℕ) (l : Location) (line : List ℕ) → Lacking a place 7 place → Changed R s (withOutput (s .output ++ line) s)
       → Does (taking place after l (drop (s .used) (R .inputs)) (withOutput (s .output ++ line) s))
   unfolding taking
-  taking-done place after l line h = taken (drop (s .used) (R .inputs)) refl
+  taking-done after l line w h = taken (drop (s .used) (R .inputs)) refl
     where
       taken : (i : List ℤ) → drop (s .used) (R .inputs) ≡ i → Does (taking place after l i (withOutput (s .output ++ line) s))
-      taken [] e = lacks 7 place (omega arith) (omega arith)
+      taken [] e = lacks 7 place w
       taken (z ∷ rest) e =
           let left : length (drop (s .used) (R .inputs)) ≡ suc (length rest) = ap length e in
           let lent : s .used < length (R .inputs) = omega (arith, length-drop (s .used) (R .inputs)) in
           let h′ = with-input lent h in
           value-done (ranged num z) _ _ (ranged-sound num z) refl h′ (λ v. moves after _ (changed-store R s l v _ h′) (stays-store c r l v _ here))
 
-  reading-done : (M : Memory) (place after : ℕ) (t : Spot) (text : List ℕ) → Does (readNum R M place after t text s)
+  reading-done : (M : Memory) (after : ℕ) (t : Spot) (text : List ℕ) → Writes a → Lacking a place 7 place → Does (readNum R M place after t text s)
   unfolding readNum
-  reading-done M place after t text = spot-done M t _ (λ l. adding-done place _ _ (λ h. taking-done place after l _ h))
+  reading-done M after t text w v = spot-done M t _ (λ l. adding-done _ _ w (λ h. taking-done after l _ v h))
 
   choosing-done : (M : Memory) (arms : List (Term × ℕ)) (otherwise : ℕ) → Does (choosing M arms otherwise s)
   unfolding choosing
@@ -229,9 +245,9 @@ module _ (P : Program) (R : Rooms) (c : Call) (r : List Call) (a : Action) (s : 
   unfolding repeating
   repeating-done M k body after = looping-done k _ _ body after s unchanged here
 
-  list-done : Does (ending-list P c r s)
+  list-done : a ≡ endList → Does (ending-list P c r s)
   unfolding ending-list
-  list-done = chosen Does (codeAt P (c .routine) .function) _ _ (ends 4 unreturned) (returning-done r none refl)
+  list-done e = chosen Does (codeAt P (c .routine) .function) _ _ (ends 4 (unreturned e)) (returning-done r none refl)
 
 -- ---- RETRY and TRYNEXT
 module _ (P : Program) (c : Call) (r : List Call) where
@@ -252,31 +268,31 @@ module _ (P : Program) (c : Call) (r : List Call) where
       by-failed (some n) e = tries-next n refl e refl
 
   -- one change of the newest call
-  top-done : (R : Rooms) (a : Action) (f : Call → Call) (s : State) → s .calls ≡ c ∷ r → CallsAfter P c r a (f c ∷ r) → Performed P R c r a s (made (onTop f s))
-  top-done R a f s live h = makes (changed-top R s f s unchanged) (rw (top-calls f s c r live) h)
+  top-done : (R : Rooms) (place : ℕ) (a : Action) (f : Call → Call) (s : State) → s .calls ≡ c ∷ r → CallsAfter P c r a (f c ∷ r) → Performed P R c r place a s (made (onTop f s))
+  top-done R place a f s live h = makes (changed-top R s f s unchanged) (rw (top-calls f s c r live) h)
 
 -- ---- every step
 pub performed : (P : Program) (R : Rooms) (c : Call) (r : List Call) (place after : ℕ) (a : Action) (s : State) → s .calls ≡ c ∷ r
-    → Performed P R c r a s (perform P R c r place after a s)
+    → Performed P R c r place a s (perform P R c r place after a s)
 unfolding perform
 performed P R c r place after (store t e) s live =
-    spot-done P R c r _ s live _ t _ (λ l. term-done P R c r _ s live _ e _ (λ z.
-    moves P R c r _ s live after _ (changed-store R s l z s unchanged) (stays-store c r l z s (stays-live c r s live))))
+    spot-done P R c r place _ s live _ t _ (λ l. term-done P R c r place _ s live _ e _ (λ z.
+    moves P R c r place _ s live after _ (changed-store R s l z s unchanged) (stays-store c r l z s (stays-live c r s live))))
 performed P R c r place after (callFor t callee k es) s live =
-    spot-done P R c r _ s live _ t _ (λ l. calling-done P R c r _ s live _ callee k es (some l) (for-result t callee es))
-performed P R c r place after (callOf callee k es) s live = calling-done P R c r _ s live _ callee k es none (for-nothing callee es)
-performed P R c r place after (giveBack none) s live = returning-done P R c r _ s live r none refl
-performed P R c r place after (giveBack (some e)) s live = term-done P R c r _ s live _ e _ (λ z. returning-done P R c r _ s live r (some z) refl)
-performed P R c r place after (raise e) s live = term-done P R c r _ s live _ e _ (λ z. fails-with _ (raised-number z) refl unchanged)
+    spot-done P R c r place _ s live _ t _ (λ l. calling-done P R c r place _ s live _ callee k es (some l) (for-result t callee es) (of-function t k es))
+performed P R c r place after (callOf callee k es) s live = calling-done P R c r place _ s live _ callee k es none (for-nothing callee es) (of-procedure k es)
+performed P R c r place after (giveBack none) s live = returning-done P R c r place _ s live r none refl
+performed P R c r place after (giveBack (some e)) s live = term-done P R c r place _ s live _ e _ (λ z. returning-done P R c r place _ s live r (some z) refl)
+performed P R c r place after (raise e) s live = term-done P R c r place _ s live _ e _ (λ z. fails-with _ (raised-number z) refl unchanged)
 performed P R c r place after handOn s live = hands-on refl
-performed P R c r place after exit s live = ends 2 exited
-performed P R c r place after retry s live = top-done P c r R retry retrying s live (after-retry P c r)
-performed P R c r place after tryNext s live = top-done P c r R tryNext (tryingNext P) s live (after-tryNext P c r)
-performed P R c r place after (write text e) s live = writing-done P R c r _ s live _ place after text e
-performed P R c r place after (read t text) s live = reading-done P R c r _ s live _ place after t text
-performed P R c r place after (choose arms otherwise) s live = choosing-done P R c r _ s live _ arms otherwise
-performed P R c r place after (select e cs otherwise) s live = term-done P R c r _ s live _ e _ (λ z. moves P R c r _ s live _ s unchanged (stays-live c r s live))
-performed P R c r place after (testWhile e body) s live = term-done P R c r _ s live _ e _ (λ z. moves P R c r _ s live _ s unchanged (stays-live c r s live))
-performed P R c r place after (enterFor k from to d body) s live = entering-done P R c r _ s live _ k from to d body after
-performed P R c r place after (repeatFor k body) s live = repeating-done P R c r _ s live _ k body after
-performed P R c r place after endList s live = list-done P R c r _ s live
+performed P R c r place after exit s live = ends 2 (exited refl)
+performed P R c r place after retry s live = top-done P c r R place retry retrying s live (after-retry P c r)
+performed P R c r place after tryNext s live = top-done P c r R place tryNext (tryingNext P) s live (after-tryNext P c r)
+performed P R c r place after (write text e) s live = writing-done P R c r place _ s live _ after text e (by-write text e)
+performed P R c r place after (read t text) s live = reading-done P R c r place _ s live _ after t text (by-read t text) (no-input t text refl)
+performed P R c r place after (choose arms otherwise) s live = choosing-done P R c r place _ s live _ arms otherwise
+performed P R c r place after (select e cs otherwise) s live = term-done P R c r place _ s live _ e _ (λ z. moves P R c r place _ s live _ s unchanged (stays-live c r s live))
+performed P R c r place after (testWhile e body) s live = term-done P R c r place _ s live _ e _ (λ z. moves P R c r place _ s live _ s unchanged (stays-live c r s live))
+performed P R c r place after (enterFor k from to d body) s live = entering-done P R c r place _ s live _ k from to d body after
+performed P R c r place after (repeatFor k body) s live = repeating-done P R c r place _ s live _ k body after
+performed P R c r place after endList s live = list-done P R c r place _ s live refl

@@ -2,8 +2,12 @@
 use mathlib.Core.Path.{_≡_}
 use mathlib.Core.List.{List, [], _∷_, _++_, map}
 use mathlib.Core.Option.{Option, none, some}
-use Prim.Native.Nat.{ℕ, _≤_}
+use Prim.Native.Nat.{ℕ, _≤_, _<_}
 use lib.IntN.{ℤ}
+use lib.ListN.{length}
+use Rattle.paper.specs.Sorts.{ERROR, ENDPROC, ENDFUNC, TPWRITE, TPREADNUM}
+use Rattle.paper.specs.Words.{Word}
+use Rattle.paper.specs.Names.{nth, sortIn}
 use Rattle.paper.specs.Terms.{Term}
 use Rattle.paper.specs.Steps.{Spot, Action, callFor, callOf, handOn, retry, tryNext, Program}
 use Rattle.paper.specs.States.{Location, Call, State, Rooms, Effect, goTo, setFailed}
@@ -25,9 +29,29 @@ pub data Errno (e : ℕ) : Type 0 where
   latest : ErrorNumber e → Errno e
 
 -- Each of a list has a property.
-abbrev pub All : {A : Type 0} → (A → Type 0) → List A → Type 0
-All such [] = Unit
-All such (a ∷ r) = such a × All such r
+infixr 5 _also_
+pub data All {A : Type 0} (such : A → Type 0) : List A → Type 0 where
+  nothing : All such []
+  _also_ : {a : A} {r : List A} → such a → All such r → All such (a ∷ r)
+
+-- ---- words
+-- "the word that closes the list": ERROR, ENDPROC or ENDFUNC.
+pub data Closes (sort : ℕ) : Type 0 where
+  by-error : sort ≡ ERROR → Closes sort
+  by-endproc : sort ≡ ENDPROC → Closes sort
+  by-endfunc : sort ≡ ENDFUNC → Closes sort
+
+-- TPWrite and TPReadNum write a line.
+pub data WritesLine (sort : ℕ) : Type 0 where
+  by-tpwrite : sort ≡ TPWRITE → WritesLine sort
+  by-tpreadnum : sort ≡ TPREADNUM → WritesLine sort
+
+-- At an offset there is a word of W, of such a sort.
+pub record WordAt (W : List Word) (offset : ℕ) (such : ℕ → Type 0) : Type 0 where
+  pub index : ℕ
+  pub inside : index < length W
+  pub place : nth W index .place ≡ offset
+  pub sort : such (sortIn W index)
 
 -- ---- calls
 -- A call but for its words.
