@@ -13,7 +13,7 @@ use Rattle.paper.specs.States.{Call, State, Rooms, Effect, made, failing, handi
 use Rattle.paper.specs.Running.{Outcome, goesOn, stopped, stopping, codeAt, stepOf, nextStep, newCall, resume, takes, caught, retrying, tryingNext, perform, arising, settled, takeStep, started}
 use Rattle.demands.proofs.Performed.{Performed, makes, fails-with, ends, lacks, performed}
 use Rattle.demands.proofs.Performed as steps
-use Rattle.demands.proofs.Alls.{first-of, rest-of, all-behind}
+use Rattle.demands.proofs.Alls.{first-of, rest-of, back-of}
 use Rattle.demands.specs.Vocabulary.{All, nothing, _also_, bare, effectOf, CallsRoutine, Waits, Taken, GoesOn, CallsAfter, goes-on, begins, returns, retries, tries-next, fails, hands-on, Reached, at-start, by-step}
 use Rattle.demands.specs.Demands.{Begun, ErrorLesson, Lesson}
 
@@ -70,44 +70,44 @@ module _ (P : Program) where
       taken none k = tt
       taken (some after) k = f after (caught-taken cs after k)
 
-  left-settled : (R : Rooms) (c : Call) (r : List Call) (a : Action) (place : ℕ) (s : State) (e : Effect) → s .calls ≡ c ∷ r → Performed P R c r place a s e
-      → GoingOn (CallsAfter P c r a) (settled P place r s e)
+  left-settled : (R : Rooms) (c : Call) (r : List Call) (a : Action) (place onward : ℕ) (s : State) (e : Effect) → s .calls ≡ c ∷ r → Performed P R c r place onward a s e
+      → GoingOn (CallsAfter P c r onward a) (settled P place r s e)
   unfolding settled
-  left-settled R c r a place s e live (makes h k) = k
-  left-settled R c r a place s e live (fails-with {s′ = s′} n k same h) =
-      left-arising (CallsAfter P c r a) n place (s′ .calls) (counted s′) (λ after t. fails (rw (same ∙ live) at t))
-  left-settled R c r a place s e live (steps.hands-on k) = left-arising (CallsAfter P c r a) (s .errno) place r (counted s) (λ after t. hands-on k t)
-  left-settled R c r a place s e live (ends n k) = tt
-  left-settled R c r a place s e live (lacks n at′ k) = tt
+  left-settled R c r a place onward s e live (makes h k) = k
+  left-settled R c r a place onward s e live (fails-with {s′ = s′} n k same h) =
+      left-arising (CallsAfter P c r onward a) n place (s′ .calls) (counted s′) (λ after t. fails (rw (same ∙ live) at t))
+  left-settled R c r a place onward s e live (steps.hands-on k) = left-arising (CallsAfter P c r onward a) (s .errno) place r (counted s) (λ after t. hands-on k t)
+  left-settled R c r a place onward s e live (ends n k) = tt
+  left-settled R c r a place onward s e live (lacks n at′ k) = tt
 
   -- The step that is taken is the next one of the newest call.
-  abbrev from : Rooms → State → List Call → Outcome
+  abbrev pub from : Rooms → State → List Call → Outcome
   from R s cs = elim cs [ [] ↦ stopping false 1 0 s | c ∷ r ↦ settled P (nextStep P c .place) r s (effectOf P R c r s) ]
 
-  step-from : (R : Rooms) (s : State) (cs : List Call) → s .calls ≡ cs → takeStep P R s ≡ from R s cs
+  pub step-from : (R : Rooms) (s : State) (cs : List Call) → s .calls ≡ cs → takeStep P R s ≡ from R s cs
   unfolding takeStep
   step-from R s cs e = ap (from R s) e
 
-  pub calls-after : (R : Rooms) (s s′ : State) (c : Call) (r : List Call) → s .calls ≡ c ∷ r → takeStep P R s ≡ goesOn s′ → CallsAfter P c r (nextStep P c .does) (s′ .calls)
+  pub calls-after : (R : Rooms) (s s′ : State) (c : Call) (r : List Call) → s .calls ≡ c ∷ r → takeStep P R s ≡ goesOn s′ → CallsAfter P c r (nextStep P c .after) (nextStep P c .does) (s′ .calls)
   calls-after R s s′ c r live e =
       let q : settled P (nextStep P c .place) r s (effectOf P R c r s) ≡ goesOn s′ = sym (step-from R s (c ∷ r) live) ∙ e in
-      rw q at (left-settled R c r (nextStep P c .does) (nextStep P c .place) s (effectOf P R c r s) live (performed P R c r _ _ _ s live))
+      rw q at (left-settled R c r (nextStep P c .does) (nextStep P c .place) (nextStep P c .after) s (effectOf P R c r s) live (performed P R c r _ _ _ s live))
 
   -- ---- an error that arises in the newest call
-  failing-calls : (R : Rooms) (c : Call) (r : List Call) (place : ℕ) (a : Action) (s s₁ : State) (n : ℕ) (e : Effect) → Performed P R c r place a s e → e ≡ failing n s₁ → s₁ .calls ≡ s .calls
-  failing-calls R c r place a s s₁ n e (makes h k) q = apart (cc)
-  failing-calls R c r place a s s₁ n e (fails-with {s′ = s′} m k same h) q =
+  failing-calls : (R : Rooms) (c : Call) (r : List Call) (place onward : ℕ) (a : Action) (s s₁ : State) (n : ℕ) (e : Effect) → Performed P R c r place onward a s e → e ≡ failing n s₁ → s₁ .calls ≡ s .calls
+  failing-calls R c r place onward a s s₁ n e (makes h k) q = apart (cc)
+  failing-calls R c r place onward a s s₁ n e (fails-with {s′ = s′} m k same h) q =
       let z : s′ ≡ s₁ = cc in
       sym (ap (λ x. x .calls) z) ∙ same
-  failing-calls R c r place a s s₁ n e (steps.hands-on k) q = apart (cc)
-  failing-calls R c r place a s s₁ n e (ends m k) q = apart (cc)
-  failing-calls R c r place a s s₁ n e (lacks m at′ k) q = apart (cc)
+  failing-calls R c r place onward a s s₁ n e (steps.hands-on k) q = apart (cc)
+  failing-calls R c r place onward a s s₁ n e (ends m k) q = apart (cc)
+  failing-calls R c r place onward a s s₁ n e (lacks m at′ k) q = apart (cc)
 
   module _ (R : Rooms) (s : State) (c : Call) (r : List Call) (live : s .calls ≡ c ∷ r) where
     step-fails : (e : ℕ) (s₁ : State) → effectOf P R c r s ≡ failing e s₁ → takeStep P R s ≡ arising P e (nextStep P c .place) (c ∷ r) (counted s₁)
     unfolding settled
     step-fails e s₁ q =
-        let same : s₁ .calls ≡ c ∷ r = failing-calls R c r _ _ s s₁ e _ (performed P R c r _ _ _ s live) q ∙ live in
+        let same : s₁ .calls ≡ c ∷ r = failing-calls R c r _ _ _ s s₁ e _ (performed P R c r _ _ _ s live) q ∙ live in
         step-from R s (c ∷ r) live ∙ ap (settled P (nextStep P c .place) r s) q ∙ ap (λ cs. arising P e (nextStep P c .place) cs (counted s₁)) same
 
     newer-gone : (e : ℕ) (s₁ s′ : State) → effectOf P R c r s ≡ failing e s₁ → takeStep P R s ≡ goesOn s′ → Taken P (c ∷ r) (s′ .calls)
@@ -141,7 +141,7 @@ module _ (P : Program) where
     never-again : (s′ : State) → takeStep P R s ≡ goesOn s′ → length (c ∷ r) < length (s′ .calls) → Begun P c r (s′ .calls)
     never-again s′ e more = by-case (calls-after R s s′ c r live e)
       where
-        by-case : CallsAfter P c r (nextStep P c .does) (s′ .calls) → Begun P c r (s′ .calls)
+        by-case : CallsAfter P c r (nextStep P c .after) (nextStep P c .does) (s′ .calls) → Begun P c r (s′ .calls)
         by-case (goes-on g) =
             let l : length (s′ .calls) ≡ suc (length (g .callers)) = ap length (g .live) in
             let k : length (map bare (g .callers)) ≡ length (map bare r) = ap length (g .waiting) in
@@ -171,10 +171,10 @@ record Orderly (P : Program) (cs : List Call) : Type 0 where
 
 all-callers : (Q : Call → Type 0) (newer : List Call) (c : Call) (r : List Call) → All Q (callersOf (newer ++ (c ∷ r))) → All Q r
 all-callers Q [] c r h = h
-all-callers Q (x ∷ newer) c r h = all-behind Q newer c r h
+all-callers Q (x ∷ newer) c r h = rest-of (back-of newer (c ∷ r) h)
 
 -- What does not look at a call's words holds of calls that are alike but for them.
-all-bare : (Q : Call → Type 0) → ((c d : Call) → bare c ≡ bare d → Q c → Q d) → (a b : List Call) → map bare a ≡ map bare b → All Q a → All Q b
+pub all-bare : (Q : Call → Type 0) → ((c d : Call) → bare c ≡ bare d → Q c → Q d) → (a b : List Call) → map bare a ≡ map bare b → All Q a → All Q b
 all-bare Q f [] [] e h = nothing
 all-bare Q f [] (d ∷ b) e h = apart (cc)
 all-bare Q f (c ∷ a) [] e h = apart (cc)
@@ -217,14 +217,14 @@ module _ (P : Program) where
       rw (t .left)
       (record {
         waiting = all-callers (Waits P) (t .dropped) (t .taker) (t .callers) w;
-        lists = (λ f q. (t .list, t .has-list)) also all-behind (HasList P) (t .dropped) (t .taker) (t .callers) l;
+        lists = (λ f q. (t .list, t .has-list)) also rest-of (back-of (t .dropped) (t .taker ∷ t .callers) l);
       })
 
   orderly-callers : (c : Call) (r : List Call) → Orderly P (c ∷ r) → Orderly P r
   orderly-callers c [] h = record { waiting = nothing; lists = nothing }
   orderly-callers c (d ∷ older) h = record { waiting = rest-of (h .waiting); lists = rest-of (h .lists) }
 
-  orderly-after : (c : Call) (r after : List Call) → Orderly P (c ∷ r) → CallsAfter P c r (nextStep P c .does) after → Orderly P after
+  orderly-after : (c : Call) (r after : List Call) → Orderly P (c ∷ r) → CallsAfter P c r (nextStep P c .after) (nextStep P c .does) after → Orderly P after
   unfolding newCall resume
   orderly-after c r after h (goes-on g) =
       rw (g .live)

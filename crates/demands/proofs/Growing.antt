@@ -114,14 +114,14 @@ module _ (P : Program) (R : Rooms) where
   lacking-ending a s place n at′ (no-input t text e) = stops false 7 place (omega arith) (omega arith) (later-same R s)
   lacking-ending a s place n at′ (no-room w) = stops false 8 place (omega arith) (omega arith) (later-same R s)
 
-  came-settled : (c : Call) (r : List Call) (a : Action) (place : ℕ) (s : State) (e : Effect) → Performed P R c r place a s e → Came R s (settled P place r s e)
+  came-settled : (c : Call) (r : List Call) (a : Action) (place onward : ℕ) (s : State) (e : Effect) → Performed P R c r place onward a s e → Came R s (settled P place r s e)
   unfolding settled
-  came-settled c r a place s e (makes h k) = goes (later-counted R s _ (later-changed R s _ h))
-  came-settled c r a place s e (fails-with {s′ = s′} n k live h) =
+  came-settled c r a place onward s e (makes h k) = goes (later-counted R s _ (later-changed R s _ h))
+  came-settled c r a place onward s e (fails-with {s′ = s′} n k live h) =
       came-arising n place (s′ .calls) s _ (λ g. latest k) (later-counted R s s′ (later-changed R s s′ h))
-  came-settled c r a place s e (hands-on k) = came-arising (s .errno) place r s _ (λ g. g) (later-counted R s s (later-same R s))
-  came-settled c r a place s e (ends n k) = own-ending a s n place k
-  came-settled c r a place s e (lacks n at′ k) = lacking-ending a s place n at′ k
+  came-settled c r a place onward s e (hands-on k) = came-arising (s .errno) place r s _ (λ g. g) (later-counted R s s (later-same R s))
+  came-settled c r a place onward s e (ends n k) = own-ending a s n place k
+  came-settled c r a place onward s e (lacks n at′ k) = lacking-ending a s place n at′ k
 
   pub came : (s : State) → Came R s (takeStep P R s)
   unfolding takeStep
@@ -130,7 +130,7 @@ module _ (P : Program) (R : Rooms) where
       newest : (cs : List Call) → s .calls ≡ cs
           → Came R s (elim cs [ [] ↦ stopping false 1 0 s | c ∷ r ↦ let n = nextStep P c in settled P (n .place) r s (perform P R c r (n .place) (n .after) (n .does) s) ])
       newest [] e = stops false 1 0 (omega arith) (omega arith) (later-same R s)
-      newest (c ∷ r) e = came-settled c r _ _ s _ (performed P R c r _ _ _ s e)
+      newest (c ∷ r) e = came-settled c r _ _ _ s _ (performed P R c r _ _ _ s e)
 
   -- ---- a run
   pub run-goes : (n : ℕ) (s s′ : State) → takeStep P R s ≡ goesOn s′ → run P R (suc n) s ≡ run P R n s′

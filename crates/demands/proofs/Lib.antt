@@ -11,5 +11,7 @@ pub mod Signs
 pub mod Parsing
 pub mod Faults
 pub mod Places
+pub mod Routines
 pub mod Tables
+pub mod Sitting
 pub mod Instances

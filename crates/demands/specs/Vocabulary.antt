@@ -1,15 +1,17 @@
 -- The words that the demands are written in.
 use mathlib.Core.Path.{_≡_}
+use mathlib.Core.Bool.{true}
 use mathlib.Core.List.{List, [], _∷_, _++_, map}
 use mathlib.Core.Option.{Option, none, some}
 use Prim.Native.Nat.{ℕ, _≤_, _<_}
 use lib.IntN.{ℤ}
 use lib.ListN.{length}
-use Rattle.paper.specs.Sorts.{ERROR, ENDPROC, ENDFUNC, TPWRITE, TPREADNUM}
+use Rattle.paper.specs.Sorts.{NAME, ERROR, EXIT, ENDPROC, ENDFUNC, TPWRITE, TPREADNUM}
 use Rattle.paper.specs.Words.{Word}
+use Rattle.paper.specs.Expressions.{startsStatement}
 use Rattle.paper.specs.Names.{nth, sortIn}
 use Rattle.paper.specs.Terms.{Term}
-use Rattle.paper.specs.Steps.{Spot, Action, callFor, callOf, handOn, retry, tryNext, Program}
+use Rattle.paper.specs.Steps.{Spot, Action, store, callFor, callOf, giveBack, raise, handOn, exit, retry, tryNext, write, read, choose, select, testWhile, enterFor, repeatFor, endList, Program}
 use Rattle.paper.specs.States.{Location, Call, State, Rooms, Effect, goTo, setFailed}
 use Rattle.paper.specs.Running.{codeAt, stepOf, nextStep, newCall, resume, takes, perform, goesOn, takeStep, started}
 
@@ -34,6 +36,10 @@ pub data All {A : Type 0} (such : A → Type 0) : List A → Type 0 where
   nothing : All such []
   _also_ : {a : A} {r : List A} → such a → All such r → All such (a ∷ r)
 
+pub data Among {A : Type 0} (a : A) : List A → Type 0 where
+  here : {l : List A} → Among a (a ∷ l)
+  there : {b : A} {l : List A} → Among a l → Among a (b ∷ l)
+
 -- ---- words
 -- "the word that closes the list": ERROR, ENDPROC or ENDFUNC.
 pub data Closes (sort : ℕ) : Type 0 where
@@ -45,6 +51,28 @@ pub data Closes (sort : ℕ) : Type 0 where
 pub data WritesLine (sort : ℕ) : Type 0 where
   by-tpwrite : sort ≡ TPWRITE → WritesLine sort
   by-tpreadnum : sort ≡ TPREADNUM → WritesLine sort
+
+-- The next step's place is a statement's first word, or the word that closes a list.
+pub data Next (sort : ℕ) : Type 0 where
+  a-statement : startsStatement sort ≡ true → Next sort
+  the-end : Closes sort → Next sort
+
+-- The table of endings: the sort of the word at the offset.
+pub data EndsWith : (ending sort : ℕ) → Type 0 where
+  -- "2: EXIT: of EXIT"
+  at-exit : {s : ℕ} → s ≡ EXIT → EndsWith 2 s
+  -- "3: error unhandled: statement it arose in"
+  at-statement : {s : ℕ} → startsStatement s ≡ true → EndsWith 3 s
+  -- "4: FUNC reached a list's end: the word there"
+  at-list-end : {s : ℕ} → Closes s → EndsWith 4 s
+  -- "5: steps spent: the next step's place"
+  at-next : {s : ℕ} → Next s → EndsWith 5 s
+  -- "6: call beyond the depth, arguments done: the callee"
+  at-callee : {s : ℕ} → s ≡ NAME → EndsWith 6 s
+  -- "7: no input left for TPReadNum: statement"
+  at-read : {s : ℕ} → s ≡ TPREADNUM → EndsWith 7 s
+  -- "8: a whole line lacks output room: statement"
+  at-line : {s : ℕ} → WritesLine s → EndsWith 8 s
 
 -- At an offset there is a word of W, of such a sort.
 pub record WordAt (W : List Word) (offset : ℕ) (such : ℕ → Type 0) : Type 0 where
@@ -87,30 +115,51 @@ pub record Taken (P : Program) (before after : List Call) : Type 0 where
   -- "those below are dropped"; the routine begins its ERROR list, and the statement that it was at is the failed one
   pub left : after ≡ takes list taker ∷ callers
 
+-- Where a step says itself that its call goes on, besides the step after its statement.
+unfoldable pub waysOf : Action → List ℕ
+waysOf (store t e) = []
+waysOf (callFor t callee k es) = []
+waysOf (callOf callee k es) = []
+waysOf (giveBack e) = []
+waysOf (raise e) = []
+waysOf handOn = []
+waysOf exit = []
+waysOf retry = []
+waysOf tryNext = []
+waysOf (write text e) = []
+waysOf (read t text) = []
+waysOf (choose arms otherwise) = otherwise ∷ map (λ a. a .1) arms
+waysOf (select e cs otherwise) = otherwise ∷ map (λ c. c .1) cs
+waysOf (testWhile e body) = body ∷ []
+waysOf (enterFor k from to d body) = body ∷ []
+waysOf (repeatFor k body) = body ∷ []
+waysOf endList = []
+
 -- The newest call goes on in its routine; its callers are as they were, but that a word of theirs may have been stored.
-pub record GoesOn (c : Call) (r after : List Call) : Type 0 where
+pub record GoesOn (c : Call) (r : List Call) (ways : List ℕ) (after : List Call) : Type 0 where
   pub newest : Call
   pub callers : List Call
   pub live : after ≡ newest ∷ callers
   pub routine : newest .routine ≡ c .routine
   pub failed : newest .failed ≡ c .failed
   pub result : newest .result ≡ c .result
+  pub goes-to : Among (newest .next) ways
   pub waiting : map bare callers ≡ map bare r
 
--- What a step can do to the live calls: c is the newest one, whose step it is, r are its callers, `after` are live then.
-pub data CallsAfter (P : Program) (c : Call) (r : List Call) (does : Action) (after : List Call) : Type 0 where
-  goes-on : GoesOn c r after → CallsAfter P c r does after
+-- What a step can do to the live calls: c is the newest one, whose step it is, r are its callers, `after` are live then. `onward` is the step after its statement.
+pub data CallsAfter (P : Program) (c : Call) (r : List Call) (onward : ℕ) (does : Action) (after : List Call) : Type 0 where
+  goes-on : GoesOn c r (c .next ∷ onward ∷ waysOf does) after → CallsAfter P c r onward does after
   -- a call statement begins a new call
-  begins : (k : ℕ) (arguments : List ℤ) (result : Option Location) → CallsRoutine k does → after ≡ newCall P k arguments result ∷ c ∷ r → CallsAfter P c r does after
+  begins : (k : ℕ) (arguments : List ℤ) (result : Option Location) → CallsRoutine k does → after ≡ newCall P k arguments result ∷ c ∷ r → CallsAfter P c r onward does after
   -- it returns: its caller goes on after the call
-  returns : (d : Call) (older : List Call) → r ≡ d ∷ older → map bare after ≡ map bare (resume P d ∷ older) → CallsAfter P c r does after
+  returns : (d : Call) (older : List Call) → r ≡ d ∷ older → map bare after ≡ map bare (resume P d ∷ older) → CallsAfter P c r onward does after
   -- "RETRY begins the failed statement of this routine again; TRYNEXT goes to the one after it."
-  retries : (f : ℕ) → does ≡ retry → c .failed ≡ some f → after ≡ goTo f (setFailed none c) ∷ r → CallsAfter P c r does after
-  tries-next : (f : ℕ) → does ≡ tryNext → c .failed ≡ some f → after ≡ goTo (stepOf P c f .after) (setFailed none c) ∷ r → CallsAfter P c r does after
+  retries : (f : ℕ) → does ≡ retry → c .failed ≡ some f → after ≡ goTo f (setFailed none c) ∷ r → CallsAfter P c r onward does after
+  tries-next : (f : ℕ) → does ≡ tryNext → c .failed ≡ some f → after ≡ goTo (stepOf P c f .after) (setFailed none c) ∷ r → CallsAfter P c r onward does after
   -- an error arises in it
-  fails : Taken P (c ∷ r) after → CallsAfter P c r does after
+  fails : Taken P (c ∷ r) after → CallsAfter P c r onward does after
   -- "plain RAISE drops its routine and hands the number in ERRNO to the caller"
-  hands-on : does ≡ handOn → Taken P r after → CallsAfter P c r does after
+  hands-on : does ≡ handOn → Taken P r after → CallsAfter P c r onward does after
 
 -- The states of a run.
 pub data Reached (P : Program) (R : Rooms) (main : ℕ) : State → Type 0 where
