@@ -14,4 +14,6 @@ pub mod Places
 pub mod Routines
 pub mod Tables
 pub mod Sitting
+pub mod Records
+pub mod Memory
 pub mod Instances

@@ -14,6 +14,7 @@ use Rattle.paper.specs.Words.{Word, Refusal}
 use Rattle.paper.specs.States.{State, Rooms}
 use Rattle.paper.specs.Running.{Ended, run, started}
 use Rattle.paper.specs.Answer.{storeWords, depthLimit, Verdict, refusedBy, accepted, verdict, Record, Question, Result, refusedWith, endedWith, ranTo, carriedOut, tooSmall, badDepth, result, Lent, Answer, questionOf, storeAfter, answer}
+use Rattle.demands.proofs.Choices.{forked}
 use Rattle.demands.proofs.Growing.{begins-self, RanTo, ran}
 use Rattle.demands.proofs.Effects.{RoomsAtLeast}
 use Rattle.demands.proofs.Runs.{Precedes, SameOrBrokeOff, ended-alike, broke-off, run-more}
@@ -29,10 +30,18 @@ pub record Counted (r : Result) : Type 0 where
   pub output : r .fields .output ≡ length (r .written)
   pub words : r .fields .words ≡ length (r .kept)
 
+counted-refused : (f : Refusal) → Counted (refusedWith f)
+unfolding refusedWith
+counted-refused f = record { output = refl; words = refl }
+
 counted-carried : (q : Question) (v : Verdict) → Counted (carriedOut q v)
-unfolding carriedOut refusedWith ranTo endedWith
-counted-carried q (refusedBy f) = record { output = refl; words = refl }
+unfolding carriedOut ranTo endedWith
+counted-carried q (refusedBy f) = counted-refused f
 counted-carried q (accepted a) = record { output = refl; words = refl }
+
+pub result-counted : (q : Question) → Counted (result q)
+unfolding result
+result-counted q = forked Counted (tooSmall q) _ _ (counted-refused _) (forked Counted (badDepth q) _ _ (counted-refused _) (counted-carried q (verdict (q .text))))
 
 -- ---- inside the bounds
 not-small : (l : Lent) → InsideBounds l → tooSmall (questionOf l) ≡ false

@@ -3,21 +3,88 @@ use mathlib.Core.Path.{_≡_}
 use mathlib.Core.Bool.{true}
 use mathlib.Core.List.{List, _∷_}
 use mathlib.Core.Option.{Option, none, some}
-use Prim.Native.Nat.{ℕ, _+_, _≤_, _<_}
-use lib.ListN.{length, take}
-use lib.IntN.{ℤ}
+use Prim.Native.Nat.{ℕ, _+_, _-_, _≤_, _<_}
+use lib.ListN.{length, take, drop, replicate}
+use lib.IntN.{ℤ, pos}
 use Rattle.paper.specs.Sorts.{NOT, AND}
-use Rattle.paper.specs.Words.{Word}
+use Rattle.paper.specs.Words.{textLimit, Word, reading}
 use Rattle.paper.specs.Trees.{Expr, nested, signed, joined}
 use Rattle.paper.specs.Expressions.{Parser, got, parts, products, sums, relations, conjunctions, disjunctions, levelOf, standsBefore, chain, level}
 use Rattle.paper.specs.Terms.{unary, binary}
 use Rattle.paper.specs.Names.{Scopes, sortIn}
 use Rattle.paper.specs.Types.{termOf}
+use Rattle.paper.specs.Declarations.{moduleWordLimit}
 use Rattle.paper.specs.Steps.{retry, tryNext, Program}
 use Rattle.paper.specs.States.{Location, Call, State, Rooms, failing, withCalls, withErrno, counted, goTo, setFailed}
 use Rattle.paper.specs.Running.{stepOf, nextStep, newCall, takeStep, goesOn, stopping}
 use Rattle.paper.specs.Answer.{storeWords, depthLimit, Record, Lent, Answer, answer}
-use Rattle.demands.specs.Vocabulary.{Begins, All, effectOf, CallsRoutine, Waits, Taken, Reached}
+use Rattle.demands.specs.Vocabulary.{Begins, All, Errno, EndsWith, WordAt, effectOf, CallsRoutine, Waits, Taken, Reached}
+
+-- ---- Demand 1: every answer is one that the paper's tables allow, and no memory is touched but what the paper says. For everything that can be lent.
+
+-- The table of refusals: where each is.
+pub data RefusalAt (text : List ℕ) : (number offset : ℕ) → Type 0 where
+  -- "1: a store under 16,384 words", "2: depth not 1..64": at 0
+  of-rooms : (n : ℕ) → 1 ≤ n → n ≤ 2 → RefusalAt text n 0
+  -- "3: text too long: 32,768"
+  too-long : RefusalAt text 3 textLimit
+  -- 4 to 7: a place in the text
+  in-text : (n offset : ℕ) → 4 ≤ n → n ≤ 7 → offset < length text → RefusalAt text n offset
+  -- 8 to 17: a word, "or text length"
+  at-word : (n offset : ℕ) → 8 ≤ n → n ≤ 17 → WordAt (reading text .words) offset (λ sort. Unit) → RefusalAt text n offset
+  at-end : (n : ℕ) → 8 ≤ n → n ≤ 17 → RefusalAt text n (length text)
+  -- "18: no PROC main without parameters": at 0
+  no-main : RefusalAt text 18 0
+
+-- "0: refused; all other counts 0"
+pub record RefusedRecord (l : Lent) (f : Record) : Type 0 where
+  pub from-1 : 1 ≤ f .refusal
+  pub to-18 : f .refusal ≤ 18
+  pub offset : RefusalAt (l .text) (f .refusal) (f .offset)
+  pub steps : f .steps ≡ 0
+  pub errno : f .errno ≡ 0
+  pub output : f .output ≡ 0
+  pub inputs : f .inputs ≡ 0
+  pub words : f .words ≡ 0
+
+-- Ended with 1 to 8: nothing is used that was not lent.
+pub record EndedRecord (l : Lent) (f : Record) : Type 0 where
+  pub from-1 : 1 ≤ f .ending
+  pub to-8 : f .ending ≤ 8
+  pub refusal : f .refusal ≡ 0
+  pub steps : f .steps ≤ l .steps
+  pub errno : Errno (f .errno)
+  pub output : f .output ≤ length (l .output)
+  pub inputs : f .inputs ≤ length (l .inputs)
+  pub words : f .words ≤ moduleWordLimit
+  -- "1: main returned: 0"; 2 to 8: the word that the table names
+  pub returned : f .ending ≡ 1 → f .offset ≡ 0
+  pub offset : ¬ (f .ending ≡ 1) → WordAt (reading (l .text) .words) (f .offset) (EndsWith (f .ending))
+
+pub data Allowed (l : Lent) (f : Record) : Type 0 where
+  refused : f .ending ≡ 0 → RefusedRecord l f → Allowed l f
+  ended : EndedRecord l f → Allowed l f
+
+-- What the lent memory holds after the call.
+pub record Touched (l : Lent) (a : Answer) : Type 0 where
+  -- all lengths stay
+  pub output-length : length (a .output) ≡ length (l .output)
+  pub code-length : length (a .code) ≡ length (l .code)
+  pub values-length : length (a .values) ≡ length (l .values)
+  -- "beyond that, and output past the count, nothing is touched"
+  pub output-past : drop (a .fields .output) (a .output) ≡ drop (a .fields .output) (l .output)
+  pub code-past : drop storeWords (a .code) ≡ drop storeWords (l .code)
+  pub values-past : drop storeWords (a .values) ≡ drop storeWords (l .values)
+  -- "the first words are module data [..]; the rest of the first 16,384 words of both stores are 0": but for refusal 1
+  pub code-cleared : ¬ (a .fields .refusal ≡ 1) → take storeWords (a .code) ≡ replicate storeWords (pos 0)
+  pub values-cleared : ¬ (a .fields .refusal ≡ 1) → drop (a .fields .words) (take storeWords (a .values)) ≡ replicate (storeWords - a .fields .words) (pos 0)
+  -- "1 leaves stores and output as they were"
+  pub output-kept : a .fields .refusal ≡ 1 → a .output ≡ l .output
+  pub code-kept : a .fields .refusal ≡ 1 → a .code ≡ l .code
+  pub values-kept : a .fields .refusal ≡ 1 → a .values ≡ l .values
+
+unfoldable pub Demand1 : Type 0
+Demand1 = (l : Lent) → Allowed l (answer l .fields) × Touched l (answer l)
 
 -- ---- Demand 3: more room never changes an answer.
 
