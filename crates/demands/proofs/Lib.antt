@@ -16,4 +16,6 @@ pub mod Tables
 pub mod Sitting
 pub mod Records
 pub mod Memory
+pub mod Bytes
+pub mod Pendant
 pub mod Instances

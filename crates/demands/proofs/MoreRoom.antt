@@ -22,8 +22,10 @@ use Rattle.demands.specs.Vocabulary.{Begins}
 use Rattle.demands.specs.Demands.{InsideBounds, MoreRoom, Told, told, RefusedAlike, alike, neither, BrokeOff, NeverChanged, Demand3}
 
 -- ---- what a result tells
-abbrev shown : Result → Told ℤ
-shown r = record { fields = r .fields; module-data = r .kept; output = r .written }
+abbrev shown : Result → Told Record ℤ
+shown r =
+    let f = r .fields in
+    record { fields = f; ending = f .ending; steps = f .steps; inputs = f .inputs; module-data = r .kept; output = r .written }
 
 -- The lengths that stand in the record.
 pub record Counted (r : Result) : Type 0 where
@@ -68,7 +70,7 @@ unfolding told
 told-shown l r c =
     let d : take (r .fields .words) (storeAfter (r .kept) (l .values)) ≡ r .kept = kept-first (r .kept) (l .values) _ (sym (c .words)) in
     let o : take (r .fields .output) (r .written ++ drop (length (r .written)) (l .output)) ≡ r .written = take-at (r .written) _ _ (sym (c .output)) in
-    λ i. record { fields = r .fields; module-data = d i; output = o i }
+    λ i. record { fields = r .fields; ending = r .fields .ending; steps = r .fields .steps; inputs = r .fields .inputs; module-data = d i; output = o i }
 
 -- what an answer tells is what the result of its question shows
 told-inside : (l : Lent) → InsideBounds l → told (answer l) ≡ shown (carriedOut (questionOf l) (verdict (l .text)))

@@ -3,7 +3,7 @@ use mathlib.Core.Path.{_≡_}
 use mathlib.Core.Bool.{true}
 use mathlib.Core.List.{List, _∷_}
 use mathlib.Core.Option.{Option, none, some}
-use Prim.Native.Nat.{ℕ, _+_, _-_, _≤_, _<_}
+use Prim.Native.Nat.{ℕ, _+_, _-_, _*_, _^_, _≤_, _<_}
 use lib.ListN.{length, take, drop, replicate}
 use lib.IntN.{ℤ, pos}
 use Rattle.paper.specs.Sorts.{NOT, AND}
@@ -17,8 +17,8 @@ use Rattle.paper.specs.Declarations.{moduleWordLimit}
 use Rattle.paper.specs.Steps.{retry, tryNext, Program}
 use Rattle.paper.specs.States.{Location, Call, State, Rooms, failing, withCalls, withErrno, counted, goTo, setFailed}
 use Rattle.paper.specs.Running.{stepOf, nextStep, newCall, takeStep, goesOn, stopping}
-use Rattle.paper.specs.Answer.{storeWords, depthLimit, Record, Lent, Answer, answer}
-use Rattle.demands.specs.Vocabulary.{Begins, All, Errno, EndsWith, WordAt, effectOf, CallsRoutine, Waits, Taken, Reached}
+use Rattle.paper.specs.Answer.{storeWords, depthLimit, recordSize, Record, recordBytes, Lent, Answer, answer, LentBytes, BytesAnswer, lentOf, pendantCall}
+use Rattle.demands.specs.Vocabulary.{Begins, All, IsByte, fieldIn, Errno, EndsWith, WordAt, effectOf, CallsRoutine, Waits, Taken, Reached}
 
 -- ---- Demand 1: every answer is one that the paper's tables allow, and no memory is touched but what the paper says. For everything that can be lent.
 
@@ -86,6 +86,38 @@ pub record Touched (l : Lent) (a : Answer) : Type 0 where
 unfoldable pub Demand1 : Type 0
 Demand1 = (l : Lent) → Allowed l (answer l .fields) × Touched l (answer l)
 
+-- The same of the call on bytes. f is the record.
+pub record TouchedBytes (l : LentBytes) (f : Record) (b : BytesAnswer) : Type 0 where
+  pub output-length : length (b .output) ≡ length (l .output)
+  pub code-length : length (b .code) ≡ length (l .code)
+  pub values-length : length (b .values) ≡ length (l .values)
+  pub fields-length : length (b .fields) ≡ length (l .fields)
+  pub output-past : drop (f .output) (b .output) ≡ drop (f .output) (l .output)
+  -- the bytes past 16,384 words, a part word too
+  pub code-past : drop (4 * storeWords) (b .code) ≡ drop (4 * storeWords) (l .code)
+  pub values-past : drop (4 * storeWords) (b .values) ≡ drop (4 * storeWords) (l .values)
+  pub fields-past : drop recordSize (b .fields) ≡ drop recordSize (l .fields)
+  pub code-cleared : ¬ (f .refusal ≡ 1) → take (4 * storeWords) (b .code) ≡ replicate (4 * storeWords) 0
+  pub values-cleared : ¬ (f .refusal ≡ 1) → drop (4 * f .words) (take (4 * storeWords) (b .values)) ≡ replicate (4 * (storeWords - f .words)) 0
+  pub output-kept : f .refusal ≡ 1 → b .output ≡ l .output
+  pub code-kept : f .refusal ≡ 1 → b .code ≡ l .code
+  pub values-kept : f .refusal ≡ 1 → b .values ≡ l .values
+
+pub record CallMade (l : LentBytes) (b : BytesAnswer) : Type 0 where
+  pub returned : b .returned ≡ 1
+  pub fields : Record
+  pub written : take recordSize (b .fields) ≡ recordBytes fields
+  pub allowed : Allowed (lentOf l) fields
+  pub touched : TouchedBytes l fields b
+
+-- "lent fewer, it returns 0 and touches nothing, otherwise 1"
+pub record CallAnswered (l : LentBytes) (b : BytesAnswer) : Type 0 where
+  pub fewer : length (l .fields) < recordSize → b ≡ record { returned = 0; output = l .output; code = l .code; values = l .values; fields = l .fields }
+  pub otherwise : recordSize ≤ length (l .fields) → CallMade l b
+
+unfoldable pub Demand1InBytes : Type 0
+Demand1InBytes = (l : LentBytes) → All IsByte (l .code) → All IsByte (l .values) → CallAnswered l (pendantCall l)
+
 -- ---- Demand 3: more room never changes an answer.
 
 -- "stores and call depth inside the paper's bounds"
@@ -106,36 +138,64 @@ pub record MoreRoom (first second : Lent) : Type 0 where
   pub output : length (first .output) ≤ length (second .output)
   pub inputs : Begins (first .inputs) (second .inputs)
 
--- What an answer tells: its record, the module data and the output, whose lengths stand in the record.
-pub record Told (A : Type 0) : Type 0 where
-  pub fields : Record
-  pub module-data : List A
+-- What an answer tells: its record, and of it the ending, the steps and the inputs used; the module data; the output.
+pub record Told (Fields Datum : Type 0) : Type 0 where
+  pub fields : Fields
+  pub ending : ℕ
+  pub steps : ℕ
+  pub inputs : ℕ
+  pub module-data : List Datum
   pub output : List ℕ
 
-unfoldable pub told : Answer → Told ℤ
+unfoldable pub told : Answer → Told Record ℤ
 told a =
-    record { fields = a .fields; module-data = take (a .fields .words) (a .values); output = take (a .fields .output) (a .output) }
+    let f = a .fields in
+    record { fields = f; ending = f .ending; steps = f .steps; inputs = f .inputs; module-data = take (f .words) (a .values); output = take (f .output) (a .output) }
 
 -- "Both are refused alike (the same record) or neither is."
-pub data RefusedAlike {A : Type 0} (first second : Told A) : Type 0 where
-  alike : first .fields .ending ≡ 0 → first .fields ≡ second .fields → RefusedAlike first second
-  neither : ¬ (first .fields .ending ≡ 0) → ¬ (second .fields .ending ≡ 0) → RefusedAlike first second
+pub data RefusedAlike {F D : Type 0} (first second : Told F D) : Type 0 where
+  alike : first .ending ≡ 0 → first .fields ≡ second .fields → RefusedAlike first second
+  neither : ¬ (first .ending ≡ 0) → ¬ (second .ending ≡ 0) → RefusedAlike first second
 
 -- "its output begins the second's, and it used no more steps and no more inputs"
-pub record BrokeOff {A : Type 0} (first second : Told A) : Type 0 where
+pub record BrokeOff {F D : Type 0} (first second : Told F D) : Type 0 where
   pub output : Begins (first .output) (second .output)
-  pub steps : first .fields .steps ≤ second .fields .steps
-  pub inputs : first .fields .inputs ≤ second .fields .inputs
+  pub steps : first .steps ≤ second .steps
+  pub inputs : first .inputs ≤ second .inputs
 
-pub record NeverChanged {A : Type 0} (first second : Told A) : Type 0 where
+pub record NeverChanged {F D : Type 0} (first second : Told F D) : Type 0 where
   pub refused : RefusedAlike first second
   -- "If the first ended with 1, 2, 3 or 4: the second has the same record, module data and output."
-  pub finished : 1 ≤ first .fields .ending → first .fields .ending ≤ 4 → first ≡ second
+  pub finished : 1 ≤ first .ending → first .ending ≤ 4 → first ≡ second
   -- "If the first ended with 5, 6, 7 or 8: [..]"
-  pub broke-off : 5 ≤ first .fields .ending → first .fields .ending ≤ 8 → BrokeOff first second
+  pub broke-off : 5 ≤ first .ending → first .ending ≤ 8 → BrokeOff first second
 
 unfoldable pub Demand3 : Type 0
 Demand3 = (first second : Lent) → MoreRoom first second → NeverChanged (told (answer first)) (told (answer second))
+
+-- The same of the call on bytes, as the pendant makes it: the record is its 64 bytes, a field is read from its eight.
+unfoldable pub toldInBytes : BytesAnswer → Told (List ℕ) ℕ
+toldInBytes b =
+    record {
+      fields = take recordSize (b .fields);
+      ending = fieldIn 0 (b .fields);
+      steps = fieldIn 3 (b .fields);
+      inputs = fieldIn 6 (b .fields);
+      module-data = take (4 * fieldIn 7 (b .fields)) (b .values);
+      output = take (fieldIn 5 (b .fields)) (b .output);
+    }
+
+-- What both are lent is counted in 64 bits: steps, bytes of output, inputs.
+pub record CountedIn64 (l : LentBytes) : Type 0 where
+  pub record-lent : recordSize ≤ length (l .fields)
+  pub steps : l .steps < 2 ^ 64
+  pub output : length (l .output) < 2 ^ 64
+  pub inputs : length (l .inputs) < 2 ^ 64
+
+unfoldable pub Demand3InBytes : Type 0
+Demand3InBytes =
+    (first second : LentBytes) → CountedIn64 first → CountedIn64 second → MoreRoom (lentOf first) (lentOf second)
+    → NeverChanged (toldInBytes (pendantCall first)) (toldInBytes (pendantCall second))
 
 -- ---- The user's lesson: errors, for all programs, texts and states.
 

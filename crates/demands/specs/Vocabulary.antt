@@ -3,9 +3,9 @@ use mathlib.Core.Path.{_≡_}
 use mathlib.Core.Bool.{true}
 use mathlib.Core.List.{List, [], _∷_, _++_, map}
 use mathlib.Core.Option.{Option, none, some}
-use Prim.Native.Nat.{ℕ, _≤_, _<_}
+use Prim.Native.Nat.{ℕ, _+_, _*_, _≤_, _<_}
 use lib.IntN.{ℤ}
-use lib.ListN.{length}
+use lib.ListN.{length, take, drop}
 use Rattle.paper.specs.Sorts.{NAME, ERROR, EXIT, ENDPROC, ENDFUNC, TPWRITE, TPREADNUM}
 use Rattle.paper.specs.Words.{Word}
 use Rattle.paper.specs.Expressions.{startsStatement}
@@ -39,6 +39,19 @@ pub data All {A : Type 0} (such : A → Type 0) : List A → Type 0 where
 pub data Among {A : Type 0} (a : A) : List A → Type 0 where
   here : {l : List A} → Among a (a ∷ l)
   there : {b : A} {l : List A} → Among a l → Among a (b ∷ l)
+
+-- ---- bytes
+abbrev pub IsByte : ℕ → Type 0
+IsByte b = b < 256
+
+-- The number that bytes write, the low one first.
+unfoldable pub number : List ℕ → ℕ
+number [] = 0
+number (b ∷ r) = b + 256 * number r
+
+-- Field i of a record's bytes: "eight a field", counted from 0.
+unfoldable pub fieldIn : ℕ → List ℕ → ℕ
+fieldIn i bytes = number (take 8 (drop (8 * i) bytes))
 
 -- ---- words
 -- "the word that closes the list": ERROR, ENDPROC or ENDFUNC.
