@@ -271,6 +271,7 @@ pub lesson : Lesson
 unfolding Lesson
 lesson P R main s c r live =
     record {
+      step-on-calls = λ s′ e. calls-after P R s s′ c r live e;
       newer-gone = newer-gone P R s c r live;
       never-again = never-again P R s c r live;
       retry-begins = retry-begins P R s c r live;

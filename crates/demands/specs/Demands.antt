@@ -18,7 +18,7 @@ use Rattle.paper.specs.Steps.{retry, tryNext, Program}
 use Rattle.paper.specs.States.{Location, Call, State, Rooms, failing, withCalls, withErrno, counted, goTo, setFailed}
 use Rattle.paper.specs.Running.{stepOf, nextStep, newCall, takeStep, goesOn, stopping}
 use Rattle.paper.specs.Answer.{storeWords, depthLimit, recordSize, Record, recordBytes, Lent, Answer, answer, LentBytes, BytesAnswer, lentOf, pendantCall}
-use Rattle.demands.specs.Vocabulary.{Begins, All, IsByte, fieldIn, Errno, EndsWith, WordAt, effectOf, CallsRoutine, Waits, Taken, Reached}
+use Rattle.demands.specs.Vocabulary.{Begins, All, IsByte, fieldIn, Errno, EndsWith, WordAt, effectOf, CallsRoutine, Waits, Taken, CallsAfter, Reached}
 
 -- ---- Demand 1: every answer is one that the paper's tables allow, and no memory is touched but what the paper says. For everything that can be lent.
 
@@ -209,6 +209,8 @@ pub record Begun (P : Program) (c : Call) (r after : List Call) : Type 0 where
 
 -- Of a run of P: s is a state in which c is the newest call and r are its callers.
 pub record ErrorLesson (P : Program) (R : Rooms) (main : ℕ) (s : State) (c : Call) (r : List Call) : Type 0 where
+  -- All that a step can do to the live calls.
+  pub step-on-calls : (s′ : State) → takeStep P R s ≡ goesOn s′ → CallsAfter P c r (nextStep P c .after) (nextStep P c .does) (s′ .calls)
   -- "TRYNEXT never goes back into a dropped routine": when an error is taken by a routine, every newer call is gone
   pub newer-gone : (e : ℕ) (s₁ s′ : State) → effectOf P R c r s ≡ failing e s₁ → takeStep P R s ≡ goesOn s′ → Taken P (c ∷ r) (s′ .calls)
   -- and is never live again: the calls grow only by a call statement, which makes a new one.
