@@ -43,8 +43,8 @@ module _ (kept store : List ℤ) (fits : length kept ≤ storeWords) (lent : sto
 
 -- ---- the record's counts
 counts-fit : (l : Lent) (f : Record) → Allowed l f → (f .output ≤ length (l .output)) × (f .words ≤ moduleWordLimit)
-counts-fit l f (refused e h) = (omega arith, omega arith)
-counts-fit l f (ended h) = (h .output, h .words)
+counts-fit l f (refused e p h) = (omega arith, omega arith)
+counts-fit l f (ended p h) = (h .output, h .words)
 
 module _ (l : Lent) where
   -- refusal 1: nothing but the record

@@ -43,8 +43,8 @@ module _ (l : LentBytes) (a : Answer) (lent : recordSize ≤ length (l .fields))
   few-words = by-case h
     where
       by-case : Allowed (lentOf l) (a .fields) → a .fields .words ≤ moduleWordLimit
-      by-case (refused e g) = omega arith
-      by-case (ended g) = g .words
+      by-case (refused e p g) = omega arith
+      by-case (ended p g) = g .words
 
   values-small : ¬ (storeWords ≤ length (a .values)) → a .fields .refusal ≡ 1
   values-small n =
@@ -120,14 +120,14 @@ record Counts (l : Lent) (a : Answer) : Type 0 where
   kept : a .fields .words ≤ length (a .values)
 
 counts : (l : Lent) (a : Answer) → Allowed l (a .fields) → Touched l a → Counts l a
-counts l a (refused e h) t =
+counts l a (refused e p h) t =
     let f = a .fields in
     let s : f .steps ≡ 0 = h .steps in
     let o : f .output ≡ 0 = h .output in
     let i : f .inputs ≡ 0 = h .inputs in
     let w : f .words ≡ 0 = h .words in
     record { ending = omega arith; steps = omega arith; output = omega arith; inputs = omega arith; words = omega arith; kept = omega arith }
-counts l a (ended h) t =
+counts l a (ended p h) t =
     let k : storeWords ≤ length (a .values) =
     long-enough storeWords (a .fields .words) (a .values) (omega (arith, h .words)) (t .values-cleared (λ e. omega (arith, h .refusal))) in
     record { ending = h .to-8; steps = h .steps; output = h .output; inputs = h .inputs; words = h .words; kept = omega (arith, h .words) }

@@ -12,7 +12,8 @@ use Rattle.laws.proofs.Tests.{apart}
 use Rattle.paper.specs.Basics.{if_then_else_}
 use Rattle.paper.specs.Sorts.{signSort}
 use Rattle.paper.specs.Words.{textLimit, wordLimit, nameLimit, stringLimit, largestNumber, QUOTE, EXCLAMATION, LF, permitted, permittedInside, letter, digit, inName, separates, spoilsNumber, barredInString, leading, Scan, word, refused, scanName, valueOf, scanNumber, stringEnd, scanString, scanSign, scan, Gap, upTo, badByte, gap, Word, placeAfter, Refusal, Next, next, ended, refusal, scanned, wordAt, following, Reading, readFrom, reading}
-use Rattle.demands.proofs.Choices.{chosen, forked, chosen-by, forked-by}
+use Rattle.demands.proofs.Choices.{forked, forked-by}
+use Rattle.demands.specs.Vocabulary.{All, nothing, _also_}
 
 -- ---- a word
 -- A scan of the bytes l: a refusal of 4 to 6, at a byte of l.
@@ -113,13 +114,13 @@ gaps true (b ∷ r) place =
 
 -- ---- what comes next: a word that ends in the text, or a refusal of 4 to 7 at a byte of it
 abbrev Follows : (end place : ℕ) → Next → Type 0
-Follows end place (next w) = (place ≤ w .place) × (placeAfter w ≤ end)
+Follows end place (next w) = (place ≤ w .place) × (placeAfter w ≤ end) × (w .place < end)
 Follows end place ended = Unit
 Follows end place (refusal f) = (4 ≤ f .number) × (f .number ≤ 7) × (f .offset < end)
 
 scanned-follows : (full : Bool) (place b : ℕ) (r : List ℕ) (s : Scan) → Scans (b ∷ r) s → Follows (place + length (b ∷ r)) place (scanned full place (b ∷ r) s)
 unfolding scanned
-scanned-follows false place b r (word sort n v) h = (omega arith, omega (arith, length-take n (b ∷ r)))
+scanned-follows false place b r (word sort n v) h = (omega arith, omega (arith, length-take n (b ∷ r)), omega arith)
 scanned-follows true place b r (word sort n v) h = (omega arith, omega arith, omega arith)
 scanned-follows false place b r (refused number after) h = (omega arith, omega arith, omega arith)
 scanned-follows true place b r (refused number after) h =
@@ -131,7 +132,7 @@ word-follows full place [] = tt
 word-follows full place (b ∷ r) = scanned-follows full place b r _ (scans b r largestNumber)
 
 sooner : (end p place : ℕ) (x : Next) → place ≤ p → Follows end p x → Follows end place x
-sooner end p place (next w) h g = (omega arith, g .1)
+sooner end p place (next w) h g = (omega arith, g .1, g .2)
 sooner end p place ended h g = tt
 sooner end p place (refusal f) h g = g
 
@@ -151,37 +152,55 @@ abbrev RefusesIn : (end : ℕ) → Option Refusal → Type 0
 RefusesIn end none = Unit
 RefusesIn end (some f) = (4 ≤ f .number) × (f .number ≤ 7) × (f .offset < end)
 
-reads-from : (bytes words place : ℕ) (l : List ℕ) → RefusesIn (place + length l) (readFrom bytes words place l .refusal)
+-- A reading of a text up to its end: its words begin before it, and so does what it refuses.
+pub record ReadsIn (end : ℕ) (r : Reading) : Type 0 where
+  pub refuses : RefusesIn end (r .refusal)
+  pub words : All (λ w. w .place < end) (r .words)
+
+reads-from : (bytes words place : ℕ) (l : List ℕ) → ReadsIn (place + length l) (readFrom bytes words place l)
 unfolding readFrom
-reads-from zero words place l = tt
+reads-from zero words place l = record { refuses = tt; words = nothing }
 reads-from (suc bytes) words place l = by-next (following (eqb words 0) place l) (follows (eqb words 0) place l) (λ p r. reads-from bytes (words - 1) p r)
   where
-    by-next : (x : Next) → Follows (place + length l) place x → ((p : ℕ) (r : List ℕ) → RefusesIn (p + length r) (readFrom bytes (words - 1) p r .refusal))
-        → RefusesIn (place + length l) ((elim x as (λ y. Reading) [
+    by-next : (x : Next) → Follows (place + length l) place x → ((p : ℕ) (r : List ℕ) → ReadsIn (p + length r) (readFrom bytes (words - 1) p r))
+        → ReadsIn (place + length l) (elim x [
           | ended ↦ record { words = []; refusal = none }
           | refusal f ↦ record { words = []; refusal = some f }
           | next w ↦
               let q = readFrom bytes (words - 1) (placeAfter w) (drop (placeAfter w - place) l) in
               record { words = w ∷ q .words; refusal = q .refusal }
-        ]) .refusal)
-    by-next ended h on = tt
-    by-next (refusal f) h on = h
+        ])
+    by-next ended h on = record { refuses = tt; words = nothing }
+    by-next (refusal f) h on = record { refuses = h; words = nothing }
     by-next (next w) h on =
         let e : placeAfter w + length (drop (placeAfter w - place) l) ≡ place + length l = omega (arith, length-drop (placeAfter w - place) l) in
-        rw e at (on (placeAfter w) (drop (placeAfter w - place) l))
+        let rest : ReadsIn (place + length l) (readFrom bytes (words - 1) (placeAfter w) (drop (placeAfter w - place) l)) =
+        rw e at (on (placeAfter w) (drop (placeAfter w - place) l)) in
+        record { refuses = rest .refuses; words = h .2 also rest .words }
+
+whole-text : (text : List ℕ) → ReadsIn (length text) (readFrom (suc (length text)) wordLimit 0 text)
+whole-text text =
+    let e : 0 + length text ≡ length text = omega arith in
+    rw e at (reads-from (suc (length text)) wordLimit 0 text)
 
 -- "3: text too long: 32,768"; else 4 to 7, in the text
 pub data ReadingRefuses (text : List ℕ) : Option Refusal → Type 0 where
   not : ReadingRefuses text none
-  too-long : ReadingRefuses text (some (record { number = 3; offset = textLimit }))
+  too-long : textLimit < length text → ReadingRefuses text (some (record { number = 3; offset = textLimit }))
   in-text : {f : Refusal} → 4 ≤ f .number → f .number ≤ 7 → f .offset < length text → ReadingRefuses text (some f)
 
 pub reading-refuses : (text : List ℕ) → ReadingRefuses text (reading text .refusal)
 unfolding reading
 reading-refuses text =
-    forked (λ (r : Reading). ReadingRefuses text (r .refusal)) (ltb textLimit (length text)) _ _ too-long
-    (within _ (reads-from (suc (length text)) wordLimit 0 text))
+    forked-by (λ (r : Reading). ReadingRefuses text (r .refusal)) (ltb textLimit (length text)) _ _
+    (λ t. too-long (ltb-true textLimit (length text) t))
+    (λ t. within _ (whole-text text .refuses))
   where
-    within : (o : Option Refusal) → RefusesIn (0 + length text) o → ReadingRefuses text o
+    within : (o : Option Refusal) → RefusesIn (length text) o → ReadingRefuses text o
     within none h = not
-    within (some f) h = in-text {f = f} (h .0) (h .1) (omega (arith, h .2))
+    within (some f) h = in-text {f = f} (h .0) (h .1) (h .2)
+
+-- Every word begins in the text.
+pub words-in-text : (text : List ℕ) → All (λ w. w .place < length text) (reading text .words)
+unfolding reading
+words-in-text text = forked (λ (r : Reading). All (λ w. w .place < length text) (r .words)) (ltb textLimit (length text)) _ _ nothing (whole-text text .words)

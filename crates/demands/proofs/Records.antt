@@ -8,7 +8,7 @@ use native.Mathlib.Omega.{arith}
 use lib.Dec.{eqb, ltb}
 use lib.ListN.{length, getD, length-map, List·getD-eq-default}
 use borrow.Author.Tests.{ltb-true, ltb-false, lt-ltb, eq-eqb, ne-eqb}
-use Rattle.laws.proofs.Tests.{apart, by-less}
+use Rattle.laws.proofs.Tests.{apart, by-less, by-same}
 use Rattle.paper.specs.Basics.{if_then_else_}
 use Rattle.paper.specs.Sorts.{bytes}
 use Rattle.paper.specs.Words.{textLimit, Word, Refusal, Reading, reading}
@@ -24,7 +24,8 @@ use Rattle.paper.specs.States.{State, Rooms}
 use Rattle.paper.specs.Running.{Ended, run, started}
 use Rattle.paper.specs.Answer.{Accepted, Verdict, refusedBy, refuse, accepted, offsetOf, judgeMain, judgeModule, judgeForm, judgeReading, verdict, Record, Question, Result, refusedWith, endedWith, ranTo, carriedOut, tooSmall, badDepth, result, Lent, questionOf}
 use Rattle.demands.proofs.Choices.{chosen, forked, chosen-by, forked-by}
-use Rattle.demands.proofs.Places.{ReadingRefuses, not, too-long, in-text, reading-refuses}
+use Rattle.demands.proofs.Places.{ReadingRefuses, not, too-long, in-text, reading-refuses, words-in-text}
+use Rattle.demands.proofs.Alls.{one-at}
 use Rattle.demands.proofs.Parsing.{Reads, SortsOfModule, formed-reads}
 use Rattle.demands.proofs.Faults.{InRules, faults-ranked, least-ranked, accepted-words}
 use Rattle.demands.proofs.Routines.{InRange, meaning-in, module-in}
@@ -153,14 +154,27 @@ module _ (text : List ℕ) where
     where
       by-refusal : (o : Option Refusal) → ReadingRefuses text o → Judges text (elim o [ some f ↦ refusedBy f | none ↦ judgeForm text words (formed (sortIn words)) ])
       by-refusal o not = form-judges (formed (sortIn words)) (formed-reads (sortIn words))
-      by-refusal o too-long = refuses 3 textLimit (omega arith) (omega arith) demands.too-long
+      by-refusal o (too-long k) = refuses 3 textLimit (omega arith) (omega arith) (demands.too-long k)
       by-refusal o (in-text {f = f} l h p) = refuses (f .number) (f .offset) (omega arith) (omega arith) (demands.in-text (f .number) (f .offset) l h p)
 
 -- ---- records
+-- A word's place is in the text.
+word-place : (text : List ℕ) (offset : ℕ) (such : ℕ → Type 0) → WordAt (reading text .words) offset such → offset < length text
+unfolding nth
+word-place text offset such w = rw (w .place) at (one-at (λ v. v .place < length text) (reading text .words) (w .index) noWord (words-in-text text) (w .inside))
+
+refusal-place : (text : List ℕ) (n offset : ℕ) → RefusalAt text n offset → offset ≤ length text
+refusal-place text n offset (demands.of-rooms k l h) = omega arith
+refusal-place text n offset (demands.too-long k) = omega arith
+refusal-place text n offset (demands.in-text k o l h p) = omega arith
+refusal-place text n offset (demands.at-word k o l h w) = let p = word-place text o _ w in omega arith
+refusal-place text n offset (demands.at-end k l h) = omega arith
+refusal-place text n offset demands.no-main = omega arith
+
 refused-allowed : (l : Lent) (f : Refusal) → 1 ≤ f .number → f .number ≤ 18 → RefusalAt (l .text) (f .number) (f .offset) → Allowed l (refusedWith f .fields)
 unfolding refusedWith
 refused-allowed l f low high h =
-    demands.refused refl (record { from-1 = low; to-18 = high; offset = h; steps = refl; errno = refl; output = refl; inputs = refl; words = refl })
+    demands.refused refl (refusal-place (l .text) (f .number) (f .offset) h) (record { from-1 = low; to-18 = high; offset = h; steps = refl; errno = refl; output = refl; inputs = refl; words = refl })
 
 module _ (l : Lent) (a : Accepted) (h : Accepts (reading (l .text) .words) a) where
   abbrev W : List Word
@@ -173,6 +187,13 @@ module _ (l : Lent) (a : Accepted) (h : Accepts (reading (l .text) .words) a) wh
   ended-at : (x : Ended) → EndedAt W x → ¬ (x .ending ≡ 1) → WordAt W (if eqb (x .ending) 1 then 0 else offsetOf (l .text) W (x .place)) (EndsWith (x .ending))
   ended-at x by-return f = absurd (f refl)
   ended-at x (at-word {n = n} {place = place} e) f = rw (ne-eqb n 1 f) (ending-word (l .text) W place n e)
+
+  -- no offset of a run is past the text
+  offset-inside-text : (f : Record) → EndedRecord l f → f .offset ≤ length (l .text)
+  offset-inside-text f h =
+      by-same (f .ending) 1
+      (λ e. let z : f .offset ≡ 0 = h .returned e in omega arith)
+      (λ e. let p = word-place (l .text) (f .offset) _ (h .offset e) in omega arith)
 
   ended-record : (x : Ended) → RanTo R (started (a .program) (a .main)) (l .steps) x → EndedAt W x → EndedRecord l (ranTo (l .text) W x .fields)
   unfolding ranTo endedWith started
@@ -205,9 +226,12 @@ module _ (l : Lent) where
       let P = a .program in
       let rooms = R l a h in
       let fits : ProgramFits (reading (l .text) .words) P = h .fits in
+      let x = run P rooms (l .steps) (started P (a .main)) in
+      let e : EndedRecord l (ranTo (l .text) (reading (l .text) .words) x .fields) =
+      ended-record l a h x (ran P rooms (l .steps) (started P (a .main))) (program-ends (reading (l .text) .words) P rooms fits (a .main) (l .steps) (h .main)) in
       rw (h .words)
       (record {
-        allowed = demands.ended (ended-record l a h _ (ran P rooms (l .steps) (started P (a .main))) (program-ends (reading (l .text) .words) P rooms fits (a .main) (l .steps) (h .main)));
+        allowed = demands.ended (offset-inside-text l a h _ e) e;
         not-1 = λ e. omega arith;
       })
 

@@ -27,7 +27,7 @@ pub data RefusalAt (text : List ℕ) : (number offset : ℕ) → Type 0 where
   -- "1: a store under 16,384 words", "2: depth not 1..64": at 0
   of-rooms : (n : ℕ) → 1 ≤ n → n ≤ 2 → RefusalAt text n 0
   -- "3: text too long: 32,768"
-  too-long : RefusalAt text 3 textLimit
+  too-long : textLimit < length text → RefusalAt text 3 textLimit
   -- 4 to 7: a place in the text
   in-text : (n offset : ℕ) → 4 ≤ n → n ≤ 7 → offset < length text → RefusalAt text n offset
   -- 8 to 17: a word, "or text length"
@@ -61,9 +61,10 @@ pub record EndedRecord (l : Lent) (f : Record) : Type 0 where
   pub returned : f .ending ≡ 1 → f .offset ≡ 0
   pub offset : ¬ (f .ending ≡ 1) → WordAt (reading (l .text) .words) (f .offset) (EndsWith (f .ending))
 
+-- No offset is past the text.
 pub data Allowed (l : Lent) (f : Record) : Type 0 where
-  refused : f .ending ≡ 0 → RefusedRecord l f → Allowed l f
-  ended : EndedRecord l f → Allowed l f
+  refused : f .ending ≡ 0 → f .offset ≤ length (l .text) → RefusedRecord l f → Allowed l f
+  ended : f .offset ≤ length (l .text) → EndedRecord l f → Allowed l f
 
 -- What the lent memory holds after the call.
 pub record Touched (l : Lent) (a : Answer) : Type 0 where
