@@ -62,17 +62,17 @@ module _ (W : List Word) where
 
   simple-stands : (S : Scopes) (s : Simple) → SimpleSorts (sortIn W) s → StandsAt (firstSimple s) (actionOf W S s)
   unfolding actionOf firstSimple startsStatement startsSimple
-  simple-stands S (assign t e) h = starts-by NAME _ h refl
-  simple-stands S (assignCall t f es) h = (starts-by NAME _ (h .0) refl, h .1)
-  simple-stands S (call p es) h = (starts-by NAME _ h refl, h)
-  simple-stands S (returns i e) h = starts-by RETURN _ h refl
-  simple-stands S (raises i none) h = starts-by RAISE _ h refl
-  simple-stands S (raises i (some e)) h = starts-by RAISE _ h refl
+  simple-stands S (assign t e) h = starts-by NAME _ (h .0 .name) refl
+  simple-stands S (assignCall t f es) h = (starts-by NAME _ (h .0 .name) refl, h .1)
+  simple-stands S (call p es) h = (starts-by NAME _ (h .0) refl, h .0)
+  simple-stands S (returns i e) h = starts-by RETURN _ (h .0) refl
+  simple-stands S (raises i none) h = starts-by RAISE _ (h .0) refl
+  simple-stands S (raises i (some e)) h = starts-by RAISE _ (h .0) refl
   simple-stands S (exits i) h = h
   simple-stands S (retries i) h = starts-by RETRY _ h refl
   simple-stands S (triesNext i) h = starts-by TRYNEXT _ h refl
-  simple-stands S (writes i s e) h = h
-  simple-stands S (reads i t s) h = h
+  simple-stands S (writes i s e) h = h .0
+  simple-stands S (reads i t s) h = h .0
 
   -- ---- all that a step has to fit: n is the number of routines, N tells the names of the steps of its table.
   module _ (n : ℕ) (N : ℕ → Type 0) where
@@ -180,7 +180,7 @@ module _ (W : List Word) where
               → All Named (stepsOf W M s S k around after) → All Fits (stepsOf W M s S k around after)
           steps-fit (simple s) S k around after h c f g = simple-fits S s around after h c f
           steps-fit (compactIf i e s) S k around after h c f g =
-              one-step i around after _ (starts-by IF i (h .0) refl) tt f (f also first-of (rest-of g) also nothing) and simple-fits S s around after (h .1) c f
+              one-step i around after _ (starts-by IF i (h .0) refl) tt f (f also first-of (rest-of g) also nothing) and simple-fits S s around after (h .2) c f
           steps-fit (fullIf i a o) S k around after h c f g =
               let choice = choose (conditions W S a after) (begin o after) in
               let front = step i around after choice ++ stepsOfArms W M a S k around after in
@@ -196,22 +196,22 @@ module _ (W : List Word) where
               let g₁ = back-of head middle (front-of (head ++ middle) _ g) in
               let e : N end = first-of (back-of (head ++ middle) _ g) in
               let w = begin-named body S′ (suc k) (k ∷ around) end e g₁ in
-              one-step i around after _ (starts-by FOR i (h .0) refl) tt f (w also nothing)
+              one-step i around after _ (starts-by FOR i (h .0 .for) refl) tt f (w also nothing)
               and list-fits body S′ (suc k) (k ∷ around) end (h .1) (enter-in n _ _ S c) e g₁
-              and (record { stands = starts-by FOR i (h .0) refl; calls = tt; after = f; ways = w also nothing } also nothing)
+              and (record { stands = starts-by FOR i (h .0 .for) refl; calls = tt; after = f; ways = w also nothing } also nothing)
           steps-fit (while i e body) S k around after h c f g =
               let head = step i around after (testWhile (termOf W S e) (begin body i)) in
               let g₁ = back-of head _ g in
               one-step i around after _ (starts-by WHILE i (h .0) refl) tt f (begin-named body S k around i (first-of g) g₁ also nothing)
-              and list-fits body S k around i (h .1) c (first-of g) g₁
+              and list-fits body S k around i (h .2) c (first-of g) g₁
           steps-fit (test i e cs d) S k around after h c f g =
               let choice = select (termOf W S e) (constants W S M cs after) (begin d after) in
               let front = step i around after choice ++ stepsOfCases W M cs S k around after in
               let g₁ = back-of (step i around after choice) _ (front-of front _ g) in
               let g₂ = back-of front _ g in
               one-step i around after _ (starts-by TEST i (h .0) refl) tt f (begin-named d S _ around after f g₂ also cases-ways cs S k around after f g₁)
-              and cases-fit cs S k around after (h .1) c f g₁
-              and list-fits d S _ around after (h .2) c f g₂
+              and cases-fit cs S k around after (h .2) c f g₁
+              and list-fits d S _ around after (h .3) c f g₂
 
           list-fits : (l : Statements) (S : Scopes) (k : ℕ) (around : List ℕ) (after : ℕ) → SortsOfList (sortIn W) l → ScopesIn n S → N after
               → All Named (stepsOfList W M l S k around after) → All Fits (stepsOfList W M l S k around after)
@@ -226,14 +226,14 @@ module _ (W : List Word) where
           arms-fit noArm S k around after h c f g = nothing
           arms-fit (arm e b r) S k around after h c f g =
               let steps = stepsOfList W M b S k around after in
-              list-fits b S k around after (h .0) c f (front-of steps _ g) and arms-fit r S _ around after (h .1) c f (back-of steps _ g)
+              list-fits b S k around after (h .1) c f (front-of steps _ g) and arms-fit r S _ around after (h .2) c f (back-of steps _ g)
 
           cases-fit : (cs : Cases) (S : Scopes) (k : ℕ) (around : List ℕ) (after : ℕ) → SortsOfCases (sortIn W) cs → ScopesIn n S → N after
               → All Named (stepsOfCases W M cs S k around after) → All Fits (stepsOfCases W M cs S k around after)
           cases-fit noCase S k around after h c f g = nothing
           cases-fit (case es b r) S k around after h c f g =
               let steps = stepsOfList W M b S k around after in
-              list-fits b S k around after (h .0) c f (front-of steps _ g) and cases-fit r S _ around after (h .1) c f (back-of steps _ g)
+              list-fits b S k around after (h .1) c f (front-of steps _ g) and cases-fit r S _ around after (h .2) c f (back-of steps _ g)
 
 -- ---- a table, and its steps by name
 abbrev pub Known : List Step → ℕ → Type 0
