@@ -1,21 +1,20 @@
 -- The lesson on errors: what a step does to the live calls, and what holds of them in every state of a run.
 use mathlib.Core.Path.{_≡_, refl, sym, ap, _∙_}
-use mathlib.Core.Bool.{Bool, true, false}
+use mathlib.Core.Bool.{true, false}
 use mathlib.Core.List.{List, [], _∷_, _++_, map}
 use mathlib.Core.Option.{Option, none, some}
-use Prim.Native.Nat.{ℕ, zero, suc, _+_, _≤_, _<_}
+use Prim.Native.Nat.{ℕ, suc, _+_, _<_}
 use native.Mathlib.Omega.{arith}
 use lib.ListN.{length, length-map, length-append}
-use lib.IntN.{ℤ}
 use Rattle.laws.proofs.Tests.{apart}
-use Rattle.paper.specs.Steps.{Action, handOn, retry, tryNext, Program}
-use Rattle.paper.specs.States.{Call, State, Rooms, Effect, made, failing, handing, ending, lacking, withCalls, withErrno, counted, goTo, setFailed, onTop}
+use Rattle.paper.specs.Steps.{Action, retry, tryNext, Program}
+use Rattle.paper.specs.States.{Call, State, Rooms, Effect, made, failing, withCalls, withErrno, counted, goTo, setFailed, onTop}
 use Rattle.paper.specs.Running.{Outcome, goesOn, stopped, stopping, codeAt, stepOf, nextStep, newCall, resume, takes, caught, retrying, tryingNext, perform, arising, settled, takeStep, started}
 use Rattle.demands.proofs.Performed.{Performed, makes, fails-with, ends, lacks, performed}
 use Rattle.demands.proofs.Performed as steps
 use Rattle.demands.proofs.Alls.{first-of, rest-of, back-of}
-use Rattle.demands.specs.Vocabulary.{All, nothing, _also_, bare, effectOf, CallsRoutine, Waits, Taken, GoesOn, CallsAfter, goes-on, begins, returns, retries, tries-next, fails, hands-on, Reached, at-start, by-step}
-use Rattle.demands.specs.Demands.{Begun, ErrorLesson, Lesson}
+use Rattle.demands.specs.Vocabulary.{All, nothing, _also_, bare, effectOf, Waits, Taken, CallsAfter, goes-on, begins, returns, retries, tries-next, fails, hands-on, Reached, at-start, by-step}
+use Rattle.demands.specs.Demands.{Begun, Lesson}
 
 -- ---- one step
 -- A property of the calls that are live where the run goes on.

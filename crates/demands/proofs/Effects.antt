@@ -1,10 +1,10 @@
 -- The centre of demand 3: a step that lacks nothing does the same with more room. One law for each thing that a step works out on its way, one for each room,
 -- then one case for each sort of step.
-use mathlib.Core.Path.{_≡_, refl, sym, ap, _∙_}
+use mathlib.Core.Path.{_≡_, refl, ap}
 use mathlib.Core.Bool.{Bool, true, false}
 use mathlib.Core.List.{List, [], _∷_, _++_}
 use mathlib.Core.Option.{Option, none, some}
-use Prim.Native.Nat.{ℕ, zero, suc, _+_, _≤_, _<_}
+use Prim.Native.Nat.{ℕ, zero, suc, _≤_}
 use native.Mathlib.Omega.{arith}
 use lib.Dec.{ltb, leb}
 use lib.ListN.{length, drop}
@@ -12,12 +12,11 @@ use lib.IntN.{ℤ}
 use borrow.Author.Tests.{ltb-true, leb-true, lt-ltb, le-leb}
 use Rattle.laws.proofs.Tests.{apart, false-true}
 use Rattle.paper.specs.Basics.{if_then_else_}
-use Rattle.paper.specs.Words.{LF}
-use Rattle.paper.specs.Numbers.{Value, value, error, num, ranged, decimal}
+use Rattle.paper.specs.Numbers.{Value, value, error}
 use Rattle.paper.specs.Terms.{Term, Memory, Located, at, fails, locate, worth}
 use Rattle.paper.specs.Steps.{Spot, scalar, elementOf, Action, store, callFor, callOf, giveBack, raise, handOn, exit, retry, tryNext, write, read, choose, select, testWhile, enterFor, repeatFor, endList, Program}
-use Rattle.paper.specs.States.{Location, Call, State, Rooms, Effect, failing, lacking, made, withValue, withSpot, withValues, withCalls, withOutput, withInput, locationOf, onTop, goTo, storeAt, memoryOf}
-use Rattle.paper.specs.Running.{Ended, Outcome, goesOn, stopped, newCall, calling, adding, taking, writing, readNum, perform, settled, takeStep, nextStep}
+use Rattle.paper.specs.States.{Location, Call, State, Rooms, Effect, failing, lacking, withValue, withSpot, withValues, locationOf}
+use Rattle.paper.specs.Running.{calling, adding, taking, writing, readNum, perform}
 use Rattle.demands.specs.Vocabulary.{Begins}
 
 -- A run may use at least as much.

@@ -1,14 +1,14 @@
 -- Every error that a value raises has a number of the paper's.
 use mathlib.Core.Path.{_≡_, refl}
 use mathlib.Core.Bool.{Bool, true, false, _||_}
-use Prim.Native.Nat.{ℕ, _≤_}
+use Prim.Native.Nat.{ℕ}
 use native.Mathlib.Omega.{arith}
-use lib.IntN.{ℤ, pos, negsuc, natAbs}
+use lib.IntN.{ℤ, pos, negsuc}
 use lib.Dec.{eqb, ltb}
 use lib.Signed.{ltZ}
 use borrow.Author.Tests.{ltb-false}
 use Rattle.paper.specs.Basics.{if_then_else_}
-use Rattle.paper.specs.Numbers.{Range, Value, value, error, ranged, add, subtract, multiply, minus, divide, modulo, isZero, num, overflow, divZero, outOfBound, illRaise}
+use Rattle.paper.specs.Numbers.{Range, Value, value, error, ranged, add, subtract, multiply, minus, divide, modulo, isZero, num, illRaise}
 use Rattle.paper.specs.Terms.{Term, literal, errno, stored, elementAt, unary, binary, Memory, Ref, Located, at, fails, locate, loadFrom, applied, operated, known, combined, worth}
 use Rattle.paper.specs.Sorts.{NOT, minusSign, plus, times, DIV, MOD, AND, OR, equal, unequal, less, lessEqual, greater, greaterEqual}
 use Rattle.paper.specs.Running.{raised, highestRaised}

@@ -3,14 +3,14 @@ use mathlib.Core.Path.{_≡_, refl, sym, ap, _∙_}
 use mathlib.Core.Bool.{Bool, true, false}
 use mathlib.Core.List.{List, [], _∷_, _++_, append-nil, append-assoc}
 use mathlib.Core.Option.{Option, none, some}
-use Prim.Native.Nat.{ℕ, zero, suc, _+_, _≤_, _<_}
+use Prim.Native.Nat.{ℕ, zero, suc, _+_, _≤_}
 use native.Mathlib.Omega.{arith}
 use lib.ListN.{length, length-set, length-append}
 use Rattle.paper.specs.Steps.{Action, Program}
-use Rattle.paper.specs.States.{Call, State, Rooms, Effect, made, failing, handing, ending, lacking, withCalls, withErrno, counted}
-use Rattle.paper.specs.Running.{Ended, Outcome, goesOn, stopped, stopping, caught, arising, settled, nextStep, takeStep, nextPlace, run, perform}
+use Rattle.paper.specs.States.{Call, State, Rooms, Effect, ending, withCalls, withErrno, counted}
+use Rattle.paper.specs.Running.{Ended, Outcome, goesOn, stopped, stopping, caught, arising, settled, nextStep, takeStep, run, perform}
 use Rattle.demands.proofs.Performed.{Changed, unchanged, with-calls, with-word, with-line, with-input, Performed, makes, fails-with, hands-on, ends, lacks, OwnEnding, returned, exited, unreturned, Lacking, no-depth, no-input, no-room, performed}
-use Rattle.demands.specs.Vocabulary.{Begins, ErrorNumber, Errno, latest}
+use Rattle.demands.specs.Vocabulary.{Begins, Errno, latest}
 
 -- ---- beginnings
 pub begins-self : {A : Type 0} (a : List A) → Begins a a

@@ -1,29 +1,26 @@
 -- No demand holds for want of cases: instances, which antt computes.
 use mathlib.Core.Path.{_≡_, refl}
-use mathlib.Core.Bool.{true, false}
 use mathlib.Core.List.{List, [], _∷_, _++_, map}
-use mathlib.Core.Option.{none, some}
 use Prim.Native.Nat.{ℕ, zero, suc, _+_, _≤_}
-use Prim.Native.String.{String}
 use native.Mathlib.Omega.{arith}
 use lib.Dec.{T, leb, leb→le}
 use lib.ListN.{length, getD, replicate, length-replicate}
 use lib.IntN.{ℤ, pos}
 use Rattle.paper.specs.Sorts.{NAME, plus, minusSign, times}
 use Rattle.paper.specs.Words.{reading}
-use Rattle.paper.specs.Trees.{Expr, leaf, signed, joined}
+use Rattle.paper.specs.Trees.{leaf, signed, joined}
 use Rattle.paper.specs.Expressions.{got, expr}
-use Rattle.paper.specs.Names.{nth, sortIn}
+use Rattle.paper.specs.Names.{sortIn}
 use Rattle.paper.specs.Steps.{Program}
 use Rattle.paper.specs.States.{State, Rooms}
 use Rattle.paper.specs.Running.{goesOn, stopped, takeStep, nextPlace, started}
-use Rattle.paper.specs.Computing.{computed, computedCall}
-use Rattle.paper.specs.Examples.{Row, row, asking, fields, lines, tray, moduleOf, slips}
-use Rattle.paper.specs.Answer.{storeWords, depthLimit, Verdict, refusedBy, accepted, verdict, Lent, answer, Question}
+use Rattle.paper.specs.Computing.{computed}
+use Rattle.paper.specs.Examples.{row, asking, fields, lines, tray, moduleOf, slips}
+use Rattle.paper.specs.Answer.{storeWords, depthLimit, refusedBy, accepted, verdict, Lent, answer}
 use Rattle.demands.proofs.MoreRoom.{demand-3}
 use Rattle.demands.proofs.Alls.{all-map}
-use Rattle.demands.specs.Vocabulary.{All, nothing, _also_, Begins}
-use Rattle.demands.specs.Demands.{InsideBounds, MoreRoom, told, NeverChanged, Demand3}
+use Rattle.demands.specs.Vocabulary.{All, nothing, _also_}
+use Rattle.demands.specs.Demands.{MoreRoom, told, NeverChanged, Demand3}
 
 -- ---- Demand 1: each ending of the table, 0 to 8.
 -- A text with the smallest stores.

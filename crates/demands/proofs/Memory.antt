@@ -1,17 +1,17 @@
 -- Demand 1: the lent memory after the call.
 use mathlib.Core.Path.{_≡_, refl, sym, ap, _∙_}
 use mathlib.Core.Bool.{Bool, true, false, _||_}
-use mathlib.Core.List.{List, [], _∷_, _++_, append-assoc}
-use Prim.Native.Nat.{ℕ, zero, suc, _+_, _-_, _≤_, _<_}
+use mathlib.Core.List.{List, [], _++_}
+use Prim.Native.Nat.{ℕ, _-_, _≤_}
 use native.Mathlib.Omega.{arith}
-use lib.Dec.{eqb, ltb}
+use lib.Dec.{ltb}
 use lib.ListN.{length, take, drop, replicate, length-append, length-drop, length-replicate}
-use lib.Seq.{take-at, drop-at, drop-drop, take-all}
+use lib.Seq.{take-at, drop-at}
 use lib.IntN.{ℤ, pos}
 use borrow.Author.Tests.{ltb-false}
 use Rattle.laws.proofs.Tests.{test, false-true}
 use Rattle.paper.specs.Declarations.{moduleWordLimit}
-use Rattle.paper.specs.Answer.{storeWords, Record, Question, Result, refusedWith, tooSmall, result, Lent, Answer, questionOf, storeAfter, answer}
+use Rattle.paper.specs.Answer.{storeWords, Record, Result, refusedWith, tooSmall, result, Lent, Answer, questionOf, storeAfter, answer}
 use Rattle.demands.proofs.Choices.{forked}
 use Rattle.demands.proofs.Records.{Sound, small-allowed, result-1, result-sound}
 use Rattle.demands.proofs.MoreRoom.{Counted, result-counted}

@@ -1,25 +1,22 @@
 -- Demand 3: from runs to answers.
-use mathlib.Core.Path.{_≡_, refl, sym, ap, _∙_}
-use mathlib.Core.Bool.{Bool, true, false, _||_}
-use mathlib.Core.List.{List, [], _∷_, _++_, append-assoc}
-use mathlib.Core.Option.{Option, none, some}
-use Prim.Native.Nat.{ℕ, zero, suc, _+_, _≤_, _<_}
+use mathlib.Core.Path.{_≡_, refl, sym, ap}
+use mathlib.Core.Bool.{false}
+use mathlib.Core.List.{List, [], _++_, append-assoc}
+use Prim.Native.Nat.{ℕ, _≤_}
 use native.Mathlib.Omega.{arith}
-use lib.Dec.{eqb, ltb}
 use lib.ListN.{length, take, drop}
 use lib.Seq.{take-at}
 use lib.IntN.{ℤ}
 use borrow.Author.Tests.{le-ltb, ne-eqb}
 use Rattle.paper.specs.Words.{Word, Refusal}
 use Rattle.paper.specs.States.{State, Rooms}
-use Rattle.paper.specs.Running.{Ended, run, started}
-use Rattle.paper.specs.Answer.{storeWords, depthLimit, Verdict, refusedBy, accepted, verdict, Record, Question, Result, refusedWith, endedWith, ranTo, carriedOut, tooSmall, badDepth, result, Lent, Answer, questionOf, storeAfter, answer}
+use Rattle.paper.specs.Running.{Ended, started}
+use Rattle.paper.specs.Answer.{depthLimit, Verdict, refusedBy, accepted, verdict, Record, Question, Result, refusedWith, endedWith, ranTo, carriedOut, tooSmall, badDepth, result, Lent, questionOf, storeAfter, answer}
 use Rattle.demands.proofs.Choices.{forked}
-use Rattle.demands.proofs.Growing.{begins-self, RanTo, ran}
+use Rattle.demands.proofs.Growing.{begins-self, ran}
 use Rattle.demands.proofs.Effects.{RoomsAtLeast}
 use Rattle.demands.proofs.Runs.{Precedes, SameOrBrokeOff, ended-alike, broke-off, run-more}
-use Rattle.demands.specs.Vocabulary.{Begins}
-use Rattle.demands.specs.Demands.{InsideBounds, MoreRoom, Told, told, RefusedAlike, alike, neither, BrokeOff, NeverChanged, Demand3}
+use Rattle.demands.specs.Demands.{InsideBounds, Told, told, RefusedAlike, alike, neither, BrokeOff, NeverChanged, Demand3}
 
 -- ---- what a result tells
 abbrev shown : Result → Told Record ℤ

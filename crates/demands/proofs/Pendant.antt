@@ -1,22 +1,20 @@
 -- Demands 1 and 3 of the call on bytes, carried over from the call on words.
-use mathlib.Core.Path.{_≡_, refl, sym, ap, _∙_}
-use mathlib.Core.Bool.{Bool, true, false}
-use mathlib.Core.List.{List, [], _∷_, _++_}
-use Prim.Native.Nat.{ℕ, zero, suc, _+_, _-_, _*_, _^_, _≤_, _<_}
+use mathlib.Core.Path.{_≡_, refl, ap, _∙_}
+use mathlib.Core.List.{List, _++_}
+use Prim.Native.Nat.{ℕ, _-_, _*_, _≤_, _<_}
 use native.Mathlib.Omega.{arith}
-use lib.Dec.{eqb, ltb}
 use lib.ListN.{length, take, drop, replicate, length-append, length-take, length-drop, length-replicate}
 use lib.Seq.{take-at, drop-at}
 use lib.IntN.{ℤ, pos}
 use borrow.Author.Tests.{lt-ltb, le-ltb}
 use Rattle.laws.proofs.Tests.{by-most, by-same}
 use Rattle.paper.specs.Declarations.{moduleWordLimit}
-use Rattle.paper.specs.Answer.{storeWords, recordSize, Record, recordBytes, Lent, Answer, answer, LentBytes, BytesAnswer, wordsOf, bytesOf, lentOf, bytesAfter, spread, pendantCall}
+use Rattle.paper.specs.Answer.{storeWords, recordSize, Record, recordBytes, Lent, Answer, answer, LentBytes, wordsOf, bytesOf, lentOf, bytesAfter, spread, pendantCall}
 use Rattle.demands.proofs.Bytes.{after-length, after-past, after-zeros, after-same, length-record, take-bytes, whole-words, ending-in, steps-in, output-in, inputs-in, words-in}
 use Rattle.demands.proofs.Memory.{demand-1}
 use Rattle.demands.proofs.MoreRoom.{demand-3}
 use Rattle.demands.specs.Vocabulary.{All, IsByte, fieldIn}
-use Rattle.demands.specs.Demands.{RefusedRecord, EndedRecord, Allowed, refused, ended, Touched, Demand1, TouchedBytes, CallMade, CallAnswered, Demand1InBytes, InsideBounds, MoreRoom, Told, told, RefusedAlike, alike, neither, BrokeOff, NeverChanged, Demand3, toldInBytes, CountedIn64, Demand3InBytes}
+use Rattle.demands.specs.Demands.{Allowed, refused, ended, Touched, Demand1, TouchedBytes, CallMade, Demand1InBytes, Told, told, RefusedAlike, alike, neither, NeverChanged, Demand3, toldInBytes, CountedIn64, Demand3InBytes}
 
 -- ---- a store: its words w after the call, its bytes l before
 -- Zeros from n on to k are there only if there are k words.

@@ -1,21 +1,20 @@
 -- What a step can do, whatever it is: one case for each sort of step. All that is said of runs rests on this.
-use mathlib.Core.Path.{_≡_, refl, sym, ap, _∙_}
+use mathlib.Core.Path.{_≡_, refl, ap, _∙_}
 use mathlib.Core.Bool.{Bool, true, false}
 use mathlib.Core.List.{List, [], _∷_, _++_, map}
 use mathlib.Core.Option.{Option, none, some}
-use Prim.Native.Nat.{ℕ, zero, suc, _+_, _≤_, _<_}
+use Prim.Native.Nat.{ℕ, suc, _+_, _≤_, _<_}
 use native.Mathlib.Omega.{arith}
-use lib.Dec.{eqb, ltb, leb}
+use lib.Dec.{eqb, ltb}
 use lib.ListN.{length, drop, set, length-drop}
 use lib.IntN.{ℤ}
-use borrow.Author.Tests.{ltb-true, leb-true}
-use Rattle.laws.proofs.Tests.{apart, test}
+use borrow.Author.Tests.{leb-true}
 use Rattle.paper.specs.Basics.{if_then_else_}
 use Rattle.paper.specs.Numbers.{Value, value, error, num, ranged, isZero}
 use Rattle.paper.specs.Terms.{Term, Memory, Located, at, fails, locate, worth}
 use Rattle.paper.specs.Steps.{Spot, scalar, elementOf, Action, store, callFor, callOf, giveBack, raise, handOn, exit, retry, tryNext, write, read, choose, select, testWhile, enterFor, repeatFor, endList, Program}
-use Rattle.paper.specs.States.{Loop, Location, moduleWord, callWord, Call, State, Rooms, Effect, made, failing, handing, ending, lacking, withValue, withSpot, withValues, withCalls, withWords, withOutput, withInput, locationOf, onTop, onDepth, goTo, setWord, setLoop, setFailed, storeAt, memoryOf}
-use Rattle.paper.specs.Running.{newCall, calling, resume, storeResult, returning, retrying, tryingNext, adding, taking, writing, readNum, choosing, holds, matching, looping, passes, withStep, entering, repeating, ending-list, perform, codeAt, stepOf}
+use Rattle.paper.specs.States.{Loop, Location, moduleWord, callWord, Call, State, Rooms, Effect, made, failing, handing, ending, lacking, withValue, withSpot, withValues, withCalls, withWords, withOutput, withInput, locationOf, onTop, onDepth, goTo, setWord, setLoop, setFailed, storeAt}
+use Rattle.paper.specs.Running.{newCall, calling, storeResult, returning, retrying, tryingNext, adding, taking, writing, readNum, choosing, holds, matching, looping, passes, withStep, entering, repeating, ending-list, perform, codeAt, stepOf}
 use Rattle.demands.proofs.Choices.{chosen, forked}
 use Rattle.demands.proofs.Errors.{Sound, SoundPlace, locate-sound, worth-sound, ranged-sound, raised-number}
 use Rattle.demands.specs.Vocabulary.{ErrorNumber, bare, CallsRoutine, for-result, for-nothing, Among, here, there, waysOf, GoesOn, CallsAfter, goes-on, begins, returns, retries, tries-next}

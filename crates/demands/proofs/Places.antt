@@ -1,17 +1,15 @@
 -- What a reading ensures: a refusal of it is 3 to 7, and its place is in the text.
-use mathlib.Core.Path.{_≡_, refl, sym, ap, _∙_}
-use mathlib.Core.Bool.{Bool, true, false, _||_}
-use mathlib.Core.List.{List, [], _∷_, map}
+use mathlib.Core.Path.{_≡_}
+use mathlib.Core.Bool.{Bool, true, false}
+use mathlib.Core.List.{List, [], _∷_}
 use mathlib.Core.Option.{Option, none, some}
 use Prim.Native.Nat.{ℕ, zero, suc, _+_, _-_, _≤_, _<_}
 use native.Mathlib.Omega.{arith}
 use lib.Dec.{T, eqb, ltb, leb, leb→le}
 use lib.ListN.{length, getD, take, drop, length-take, length-drop}
-use borrow.Author.Tests.{ltb-true, ltb-false}
-use Rattle.laws.proofs.Tests.{apart}
-use Rattle.paper.specs.Basics.{if_then_else_}
+use borrow.Author.Tests.{ltb-true}
 use Rattle.paper.specs.Sorts.{signSort}
-use Rattle.paper.specs.Words.{textLimit, wordLimit, nameLimit, stringLimit, largestNumber, QUOTE, EXCLAMATION, LF, permitted, permittedInside, letter, digit, inName, separates, spoilsNumber, barredInString, leading, Scan, word, refused, scanName, valueOf, scanNumber, stringEnd, scanString, scanSign, scan, Gap, upTo, badByte, gap, Word, placeAfter, Refusal, Next, next, ended, refusal, scanned, wordAt, following, Reading, readFrom, reading}
+use Rattle.paper.specs.Words.{textLimit, wordLimit, nameLimit, stringLimit, largestNumber, QUOTE, EXCLAMATION, LF, permitted, permittedInside, letter, digit, inName, separates, spoilsNumber, barredInString, leading, Scan, word, refused, scanName, valueOf, scanNumber, stringEnd, scanString, scanSign, scan, Gap, upTo, badByte, gap, placeAfter, Refusal, Next, next, ended, refusal, scanned, wordAt, following, Reading, readFrom, reading}
 use Rattle.demands.proofs.Choices.{forked, forked-by}
 use Rattle.demands.specs.Vocabulary.{All, nothing, _also_}
 

@@ -1,40 +1,39 @@
 -- Demand 1: the record.
-use mathlib.Core.Path.{_≡_, refl, sym, ap, _∙_}
+use mathlib.Core.Path.{_≡_, refl, sym, ap}
 use mathlib.Core.Bool.{Bool, true, false}
-use mathlib.Core.List.{List, [], _∷_}
+use mathlib.Core.List.{List}
 use mathlib.Core.Option.{Option, none, some}
-use Prim.Native.Nat.{ℕ, zero, suc, _+_, _≤_, _<_}
+use Prim.Native.Nat.{ℕ, _≤_, _<_}
 use native.Mathlib.Omega.{arith}
-use lib.Dec.{eqb, ltb}
+use lib.Dec.{eqb}
 use lib.ListN.{length, getD, length-map, List·getD-eq-default}
-use borrow.Author.Tests.{ltb-true, ltb-false, lt-ltb, eq-eqb, ne-eqb}
+use borrow.Author.Tests.{lt-ltb, le-ltb, eq-eqb, ne-eqb}
 use Rattle.laws.proofs.Tests.{apart, by-less, by-same}
 use Rattle.paper.specs.Basics.{if_then_else_}
 use Rattle.paper.specs.Sorts.{bytes}
-use Rattle.paper.specs.Words.{textLimit, Word, Refusal, Reading, reading}
+use Rattle.paper.specs.Words.{textLimit, Word, Refusal, reading}
 use Rattle.paper.specs.Trees.{Module}
 use Rattle.paper.specs.Expressions.{Parsed, got, no, startsStatement, startsSimple}
 use Rattle.paper.specs.Form.{formed}
-use Rattle.paper.specs.Names.{Meaning, unknown, variable, array, constant, loop, theRoutine, theErrno, errorNumber, routineIn, noWord, nth, sortIn, meaning}
+use Rattle.paper.specs.Names.{Meaning, unknown, variable, array, constant, loop, theRoutine, theErrno, errorNumber, routineIn, noWord, nth, sortIn}
 use Rattle.paper.specs.Types.{Fault, least}
-use Rattle.paper.specs.Declarations.{moduleWordLimit, Signature, moduleData, moduleScopes, signatures}
+use Rattle.paper.specs.Declarations.{moduleWordLimit, Signature, moduleScopes}
 use Rattle.paper.specs.Checks.{faults, isMain, noSignature, mainIn, mainOf}
-use Rattle.paper.specs.Steps.{Program, programOf, codeOf}
-use Rattle.paper.specs.States.{State, Rooms}
+use Rattle.paper.specs.Steps.{programOf, codeOf}
+use Rattle.paper.specs.States.{Rooms}
 use Rattle.paper.specs.Running.{Ended, run, started}
-use Rattle.paper.specs.Answer.{Accepted, Verdict, refusedBy, refuse, accepted, offsetOf, judgeMain, judgeModule, judgeForm, judgeReading, verdict, Record, Question, Result, refusedWith, endedWith, ranTo, carriedOut, tooSmall, badDepth, result, Lent, questionOf}
-use Rattle.demands.proofs.Choices.{chosen, forked, chosen-by, forked-by}
+use Rattle.paper.specs.Answer.{Accepted, Verdict, refusedBy, refuse, accepted, offsetOf, judgeMain, judgeModule, judgeForm, judgeReading, verdict, Record, Result, refusedWith, endedWith, ranTo, carriedOut, tooSmall, badDepth, result, Lent, questionOf}
 use Rattle.demands.proofs.Places.{ReadingRefuses, not, too-long, in-text, reading-refuses, words-in-text}
 use Rattle.demands.proofs.Alls.{one-at}
-use Rattle.demands.proofs.Parsing.{Reads, SortsOfModule, formed-reads}
-use Rattle.demands.proofs.Faults.{InRules, faults-ranked, least-ranked, accepted-words}
+use Rattle.demands.proofs.Parsing.{Is, by-8, by-9, Reads, SortsOfModule, formed-reads}
+use Rattle.demands.proofs.Faults.{faults-ranked, least-ranked, accepted-words}
 use Rattle.demands.proofs.Routines.{InRange, meaning-in, module-in}
 use Rattle.demands.proofs.Tables.{ProgramFits, program-fits}
 use Rattle.demands.proofs.Growing.{RanTo, ran}
 use Rattle.demands.proofs.Sitting.{EndedAt, by-return, at-word, program-ends}
-use Rattle.demands.specs.Vocabulary.{Errno, before-any, EndsWith, at-exit, at-statement, at-list-end, at-next, at-callee, at-read, at-line, Closes, by-error, by-endproc, by-endfunc, Next, a-statement, the-end, WritesLine, by-tpwrite, by-tpreadnum, WordAt}
+use Rattle.demands.specs.Vocabulary.{before-any, EndsWith, at-exit, at-statement, at-list-end, at-next, at-callee, at-read, at-line, by-error, by-endproc, by-endfunc, a-statement, the-end, by-tpwrite, by-tpreadnum, WordAt}
 use Rattle.demands.specs.Demands as demands
-use Rattle.demands.specs.Demands.{RefusalAt, RefusedRecord, EndedRecord, Allowed}
+use Rattle.demands.specs.Demands.{RefusalAt, EndedRecord, Allowed}
 
 -- ---- offsets
 -- Past the last word there is none.
@@ -73,13 +72,26 @@ module _ (text : List ℕ) (W : List Word) (i : ℕ) where
       past : length W ≤ i → WordAt W (offsetOf text W i) (EndsWith n)
       past l = absurd (no-ending n (rw (no-sort W i l) at h))
 
--- a refusal by the form or the checks
-refusal-word : (text : List ℕ) (n i : ℕ) → 8 ≤ n → n ≤ 17 → RefusalAt text n (offsetOf text (reading text .words) i)
-unfolding offsetOf
-refusal-word text n i l h =
-    chosen-by (RefusalAt text n) (ltb i (length (reading text .words))) _ _
-    (λ t. demands.at-word n _ l h (record { index = i; inside = ltb-true i _ t; place = refl; sort = tt }))
-    (λ t. demands.at-end n l h)
+-- ---- refusals by the form and the checks
+module _ (text : List ℕ) (i : ℕ) where
+  abbrev read : List Word
+  read = reading text .words
+
+  -- at a word
+  there : (n : ℕ) → 8 ≤ n → n ≤ 17 → i < length read → RefusalAt text n (offsetOf text read i)
+  there n l h k = demands.at-word n _ l h (record { index = i; inside = k; place = sym (offset-inside text read i k); sort = tt })
+
+  word-there : (n : ℕ) → 8 ≤ n → n ≤ 17 → Is (sortIn read) i → RefusalAt text n (offsetOf text read i)
+  word-there n l h w = by-less i (length read) (there n l h) (λ k. absurd (w (no-sort read i k)))
+
+  -- at a word or at the end
+  refusal-8 : RefusalAt text 8 (offsetOf text read i)
+  unfolding offsetOf
+  refusal-8 =
+      by-less i (length read) (there 8 (omega arith) (omega arith)) past
+    where
+      past : length read ≤ i → RefusalAt text 8 (offsetOf text read i)
+      past k = rw (le-ltb i (length read) k) demands.at-end
 
 -- ---- verdicts
 -- An accepted module of these words.
@@ -133,19 +145,20 @@ module _ (text : List ℕ) where
             words = refl;
             fits = program-fits words m (omega arith) (h .routines);
             main = rw (length-map (m .routines) (codeOf words m)) below;
-            size = accepted-words words m e;
+            size = accepted-words words m h e;
           })
 
   module-judges : (m : Module) → SortsOfModule (sortIn words) m → (o : Option Fault) → least (faults words m) ≡ o → Judges text (judgeModule text words m o)
   unfolding judgeModule
   module-judges m h none e = main-judges m h e
   module-judges m h (some f) e =
-      let k = least-ranked (faults words m) f (faults-ranked words m) e in
-      refuses (f .number) _ (omega arith) (omega arith) (refusal-word text (f .number) (f .at) (omega arith) (k .high))
+      let k = least-ranked words (faults words m) f (faults-ranked words m h) e in
+      refuses (f .number) _ (omega arith) (omega arith) (word-there text (f .at) (f .number) (omega arith) (k .high) (k .there))
 
-  form-judges : (p : Parsed Module) → Reads (SortsOfModule (sortIn words)) p → Judges text (judgeForm text words p)
+  form-judges : (p : Parsed Module) → Reads (sortIn words) (SortsOfModule (sortIn words)) p → Judges text (judgeForm text words p)
   unfolding judgeForm
-  form-judges (no number i) h = refuses number _ (omega arith) (omega arith) (refusal-word text number i (h .0) (omega arith))
+  form-judges (no number i) (by-8 e) = refuses number (offsetOf text words i) (omega arith) (omega arith) (rw e (refusal-8 text i))
+  form-judges (no number i) (by-9 e w) = refuses number (offsetOf text words i) (omega arith) (omega arith) (rw e (word-there text i 9 (omega arith) (omega arith) w))
   form-judges (got m) h = module-judges m h (least (faults words m)) refl
 
   pub judges : Judges text (verdict text)
@@ -168,7 +181,7 @@ refusal-place text n offset (demands.of-rooms k l h) = omega arith
 refusal-place text n offset (demands.too-long k) = omega arith
 refusal-place text n offset (demands.in-text k o l h p) = omega arith
 refusal-place text n offset (demands.at-word k o l h w) = let p = word-place text o _ w in omega arith
-refusal-place text n offset (demands.at-end k l h) = omega arith
+refusal-place text n offset demands.at-end = omega arith
 refusal-place text n offset demands.no-main = omega arith
 
 refused-allowed : (l : Lent) (f : Refusal) → 1 ≤ f .number → f .number ≤ 18 → RefusalAt (l .text) (f .number) (f .offset) → Allowed l (refusedWith f .fields)

@@ -1,21 +1,16 @@
 -- A name that means a routine means one of the module's: its number is below n, the number of routines. So it is in every scope.
-use mathlib.Core.Path.{_≡_, refl, sym, ap, _∙_}
-use mathlib.Core.Bool.{Bool, true, false}
-use mathlib.Core.List.{List, [], _∷_, _++_, map}
-use mathlib.Core.Option.{Option, none, some}
-use Prim.Native.Nat.{ℕ, zero, suc, _+_, _≤_, _<_}
+use mathlib.Core.List.{List, [], _∷_, map}
+use Prim.Native.Nat.{ℕ, suc, _+_, _≤_, _<_}
 use native.Mathlib.Omega.{arith}
-use lib.Dec.{eqb}
 use lib.ListN.{length}
 use lib.IntN.{ℤ}
-use Rattle.laws.proofs.Tests.{apart}
 use Rattle.paper.specs.Sorts.{equalTexts}
 use Rattle.paper.specs.Words.{Word}
 use Rattle.paper.specs.Terms.{Ref}
 use Rattle.paper.specs.Trees.{Content, variableData, initialData, arrayData, constantData, Declared, Parameter, Routine, Module}
 use Rattle.paper.specs.Names.{DataType, Meaning, unknown, variable, array, constant, loop, theRoutine, theErrno, errorNumber, routineIn, Text, Names, textOf, Scopes, lookIn, protected, meaning, cannotDeclare, declare, enter, spelled}
 use Rattle.paper.specs.Types.{Fault}
-use Rattle.paper.specs.Declarations.{Data, Filling, declareName, declareContent, declareData, declareParameters, noData, dataTexts, routineNames, moduleFilling, moduleData, moduleScopes, routineFilling, routineData, routineScopes}
+use Rattle.paper.specs.Declarations.{Data, Filling, declareName, declareContent, declareData, declareParameters, noData, routineNames, moduleData, moduleScopes, routineFilling, routineData, routineScopes}
 use Rattle.paper.specs.Steps.{routineOf}
 use Rattle.demands.proofs.Choices.{chosen, forked}
 use Rattle.demands.proofs.Alls.{_and_, first-of, rest-of}

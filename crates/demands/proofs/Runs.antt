@@ -1,14 +1,14 @@
 -- Demand 3 over runs: one induction, with one case a room.
-use mathlib.Core.Path.{_≡_, refl, sym, ap, _∙_}
-use mathlib.Core.Bool.{Bool, true, false}
+use mathlib.Core.Path.{_≡_, refl, sym, _∙_}
+use mathlib.Core.Bool.{false}
 use mathlib.Core.List.{List, [], _∷_}
-use Prim.Native.Nat.{ℕ, zero, suc, _+_, _≤_, _<_}
+use Prim.Native.Nat.{ℕ, zero, suc, _≤_}
 use native.Mathlib.Omega.{arith}
 use Rattle.paper.specs.Steps.{Program}
 use Rattle.paper.specs.States.{Call, State, Rooms, Effect}
 use Rattle.paper.specs.Running.{Ended, Outcome, goesOn, stopped, stopping, settled, takeStep, nextStep, perform, run}
 use Rattle.demands.proofs.Effects.{RoomsAtLeast, SameOrLacks, same, lacked, perform-more}
-use Rattle.demands.proofs.Growing.{Later, RanTo, ran, run-goes, run-stops}
+use Rattle.demands.proofs.Growing.{RanTo, ran, run-goes, run-stops}
 use Rattle.demands.specs.Vocabulary.{Begins}
 
 -- Two outcomes of one step from s: the same, or the first lacked room, was not counted, and left s as it was.

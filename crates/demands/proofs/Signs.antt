@@ -1,6 +1,6 @@
 -- The lesson on NOT and a leading sign.
 use mathlib.Core.Path.{_≡_, refl, sym, ap, _∙_}
-use mathlib.Core.Bool.{Bool, true, false, _||_}
+use mathlib.Core.Bool.{true, false, _||_}
 use mathlib.Core.List.{List, [], _∷_}
 use Prim.Native.Nat.{ℕ, suc, _+_}
 use native.Mathlib.Omega.{arith}
@@ -9,12 +9,12 @@ use borrow.Author.Tests.{eq-eqb, ne-eqb}
 use Rattle.paper.specs.Sorts.{NOT, AND, equal, unequal}
 use Rattle.paper.specs.Words.{Word}
 use Rattle.paper.specs.Trees.{Expr, nested, signed, joined}
-use Rattle.paper.specs.Expressions.{Parsed, Parser, got, no, _>>=_, parts, products, sums, relations, conjunctions, disjunctions, levelOf, standsBefore, chain, prefixed, level}
+use Rattle.paper.specs.Expressions.{Parser, got, _>>=_, parts, products, relations, conjunctions, disjunctions, levelOf, standsBefore, chain, prefixed, level}
 use Rattle.paper.specs.Terms.{Term, unary, binary}
 use Rattle.paper.specs.Names.{DataType, Scopes, sortIn}
 use Rattle.paper.specs.Types.{Fault, Judged, judged, judge, judgeSigned, judgeJoined, termOf}
 use Rattle.demands.proofs.Choices.{chosen}
-use Rattle.demands.specs.Demands.{SignLesson, NotLesson, ExpressionLesson}
+use Rattle.demands.specs.Demands.{ExpressionLesson}
 
 module _ (W : ℕ → ℕ) (inner : Parser Expr) where
   -- A word that stands before a level covers what the level below reads; then the level's own chain goes on.

@@ -1,18 +1,17 @@
 -- In every state of a run of an accepted module each live call sits at a step of its routine's table; so a run ends at a word of the sort that the paper's table says.
 use mathlib.Core.Path.{_≡_, refl, sym, ap, _∙_}
-use mathlib.Core.Bool.{Bool, true, false}
-use mathlib.Core.List.{List, [], _∷_, _++_, map}
+use mathlib.Core.Bool.{true}
+use mathlib.Core.List.{List, [], _∷_, map}
 use mathlib.Core.Option.{Option, none, some}
-use Prim.Native.Nat.{ℕ, zero, suc, _+_, _≤_, _<_}
-use native.Mathlib.Omega.{arith}
-use lib.ListN.{length, getD}
+use Prim.Native.Nat.{ℕ, zero, suc, _<_}
+use lib.ListN.{length}
 use lib.IntN.{ℤ}
 use Rattle.laws.proofs.Tests.{apart}
 use Rattle.paper.specs.Sorts.{NAME, EXIT, TPREADNUM, TPWRITE}
 use Rattle.paper.specs.Words.{Word}
 use Rattle.paper.specs.Expressions.{startsStatement, startsSimple}
 use Rattle.paper.specs.Names.{sortIn}
-use Rattle.paper.specs.Steps.{Action, store, callFor, callOf, giveBack, raise, handOn, exit, retry, tryNext, write, read, choose, select, testWhile, enterFor, repeatFor, endList, Step, Code, Program}
+use Rattle.paper.specs.Steps.{Action, store, callFor, callOf, giveBack, raise, handOn, exit, retry, tryNext, write, read, choose, select, testWhile, enterFor, repeatFor, endList, Step, Program}
 use Rattle.paper.specs.States.{Location, Call, State, Rooms, Effect, made, failing, handing, ending, lacking, withCalls, withErrno, counted, goTo, setFailed}
 use Rattle.paper.specs.Running.{Ended, Outcome, goesOn, stopped, stopping, noCode, codeAt, stepOf, nextStep, newCall, resume, takes, caught, returning, ending-list, perform, arising, settled, takeStep, nextPlace, run, started}
 use Rattle.demands.proofs.Choices.{chosen}
@@ -22,7 +21,7 @@ use Rattle.demands.proofs.Performed.{Performed, makes, fails-with, ends
 use Rattle.demands.proofs.Performed as steps
 use Rattle.demands.proofs.Calls.{calls-after, all-bare, from, step-from}
 use Rattle.demands.proofs.Growing.{run-goes, run-stops}
-use Rattle.demands.specs.Vocabulary.{All, nothing, _also_, bare, effectOf, CallsRoutine, for-result, for-nothing, Taken, GoesOn, CallsAfter, goes-on, begins, returns, retries, tries-next, fails, hands-on, waysOf, Closes, WritesLine, by-tpwrite, by-tpreadnum, Next, a-statement, the-end, EndsWith, at-exit, at-statement, at-list-end, at-next, at-callee, at-read, at-line}
+use Rattle.demands.specs.Vocabulary.{All, nothing, _also_, bare, CallsRoutine, for-result, for-nothing, Taken, CallsAfter, goes-on, begins, returns, retries, tries-next, fails, hands-on, Closes, WritesLine, by-tpwrite, by-tpreadnum, Next, a-statement, the-end, EndsWith, at-exit, at-statement, at-list-end, at-next, at-callee, at-read, at-line}
 
 -- The step a calls a routine below n.
 calls-below : (W : List Word) (n : ℕ) (N : ℕ → Type 0) (k : ℕ) (a : Action) → CallsRoutine k a → CallsIn W n N a → k < n

@@ -1,30 +1,27 @@
 -- The tables of steps: each step stands at a word of its statement's sort, calls a routine of the module, and goes on at a step of its own table.
-use mathlib.Core.Path.{_≡_, refl, sym, ap, _∙_}
-use mathlib.Core.Bool.{Bool, true, false}
+use mathlib.Core.Path.{_≡_, refl, ap, _∙_}
+use mathlib.Core.Bool.{Bool, true}
 use mathlib.Core.List.{List, [], _∷_, _++_, map}
 use mathlib.Core.Option.{Option, none, some}
-use Prim.Native.Nat.{ℕ, zero, suc, _+_, _≤_, _<_}
-use native.Mathlib.Omega.{arith}
+use Prim.Native.Nat.{ℕ, suc, _<_}
 use lib.Dec.{eqb}
 use borrow.Author.Tests.{eqb-false}
-use lib.ListN.{length, getD, length-map, List·getD-eq-default}
+use lib.ListN.{length, length-map}
 use lib.IntN.{ℤ}
-use Rattle.laws.proofs.Tests.{apart, false-true, by-less}
-use Rattle.paper.specs.Sorts.{NAME, NOTHING, MODULE, IF, FOR, WHILE, TEST, RETURN, RAISE, EXIT, RETRY, TRYNEXT, TPWRITE, TPREADNUM}
+use Rattle.laws.proofs.Tests.{apart}
+use Rattle.paper.specs.Sorts.{NAME, IF, FOR, WHILE, TEST, RETURN, RAISE, EXIT, RETRY, TRYNEXT, TPWRITE, TPREADNUM}
 use Rattle.paper.specs.Words.{Word}
-use Rattle.paper.specs.Terms.{ofRoutine, Term, Memory}
-use Rattle.paper.specs.Trees.{Expr, Target, Simple, firstSimple, assign, assignCall, call, returns, raises, exits, retries, triesNext, writes, reads, Statement, Statements, Arms, Cases, simple, compactIf, fullIf, for, while, test, empty, _then_, noArm, arm, noCase, case, RoutineList, Routine, Module}
+use Rattle.paper.specs.Terms.{ofRoutine, Memory}
+use Rattle.paper.specs.Trees.{Simple, firstSimple, assign, assignCall, call, returns, raises, exits, retries, triesNext, writes, reads, Statement, Statements, Arms, Cases, simple, compactIf, fullIf, for, while, test, empty, _then_, noArm, arm, noCase, case, RoutineList, Routine, Module}
 use Rattle.paper.specs.Expressions.{startsStatement, startsSimple}
-use Rattle.paper.specs.Names.{noWord, nth, sortIn, spelled, enter, Scopes}
+use Rattle.paper.specs.Names.{sortIn, spelled, enter, Scopes}
 use Rattle.paper.specs.Types.{termOf}
 use Rattle.paper.specs.Declarations.{routineScopes}
-use Rattle.paper.specs.Checks.{forsInList}
-use Rattle.paper.specs.Steps.{optionalTerm, conditions, constants, begin, firstWord, firstStep, Spot, Action, store, callFor, callOf, giveBack, raise, handOn, exit, retry, tryNext, write, read, choose, select, testWhile, enterFor, repeatFor, endList, Step, step, actionOf, simpleStep, stepsOf, stepsOfList, stepsOfArms, stepsOfCases, Code, Program, listSteps, codeOf, programOf}
-use Rattle.paper.specs.Running.{noCode, codeAt, noStep, stepNamed, stepOf, nextStep}
-use Rattle.paper.specs.States.{Call}
+use Rattle.paper.specs.Steps.{optionalTerm, conditions, constants, begin, firstWord, firstStep, Action, store, callFor, callOf, giveBack, raise, handOn, exit, retry, tryNext, write, read, choose, select, testWhile, enterFor, repeatFor, endList, Step, step, actionOf, simpleStep, stepsOf, stepsOfList, stepsOfArms, stepsOfCases, Code, Program, listSteps, codeOf, programOf}
+use Rattle.paper.specs.Running.{stepNamed}
 use Rattle.demands.proofs.Choices.{forked, forked-by}
-use Rattle.demands.proofs.Alls.{_and_, first-of, rest-of, front-of, back-of, all-map, one-among}
-use Rattle.demands.proofs.Routines.{ScopesIn, meaning-in, routine-in, enter-in, module-in, scopes-in}
+use Rattle.demands.proofs.Alls.{_and_, first-of, rest-of, front-of, back-of, all-map}
+use Rattle.demands.proofs.Routines.{ScopesIn, meaning-in, routine-in, enter-in, scopes-in}
 use Rattle.demands.proofs.Parsing.{SimpleSorts, Sorts, SortsOfList, SortsOfArms, SortsOfCases, SortsOfRoutineList, SortsOfHandler, SortsOfRoutine}
 use Rattle.demands.specs.Vocabulary.{All, nothing, _also_, Among, here, there, Closes, waysOf}
 

@@ -30,9 +30,9 @@ pub data RefusalAt (text : List ℕ) : (number offset : ℕ) → Type 0 where
   too-long : textLimit < length text → RefusalAt text 3 textLimit
   -- 4 to 7: a place in the text
   in-text : (n offset : ℕ) → 4 ≤ n → n ≤ 7 → offset < length text → RefusalAt text n offset
-  -- 8 to 17: a word, "or text length"
+  -- 8 to 17: a word; 8 also: "or text length"
   at-word : (n offset : ℕ) → 8 ≤ n → n ≤ 17 → WordAt (reading text .words) offset (λ sort. Unit) → RefusalAt text n offset
-  at-end : (n : ℕ) → 8 ≤ n → n ≤ 17 → RefusalAt text n (length text)
+  at-end : RefusalAt text 8 (length text)
   -- "18: no PROC main without parameters": at 0
   no-main : RefusalAt text 18 0
 
