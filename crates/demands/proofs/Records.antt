@@ -1,0 +1,265 @@
+-- Demand 1: the record.
+use mathlib.Core.Path.{_≡_, refl, sym, ap}
+use mathlib.Core.Bool.{Bool, true, false}
+use mathlib.Core.List.{List}
+use mathlib.Core.Option.{Option, none, some}
+use Prim.Native.Nat.{ℕ, _≤_, _<_}
+use native.Mathlib.Omega.{arith}
+use lib.Dec.{eqb}
+use lib.ListN.{length, getD, length-map, List·getD-eq-default}
+use borrow.Author.Tests.{lt-ltb, le-ltb, eq-eqb, ne-eqb}
+use Rattle.laws.proofs.Tests.{apart, by-less, by-same}
+use Rattle.paper.specs.Basics.{if_then_else_}
+use Rattle.paper.specs.Sorts.{bytes}
+use Rattle.paper.specs.Words.{textLimit, Word, Refusal, reading}
+use Rattle.paper.specs.Trees.{Module}
+use Rattle.paper.specs.Expressions.{Parsed, got, no, startsStatement, startsSimple}
+use Rattle.paper.specs.Form.{formed}
+use Rattle.paper.specs.Names.{Meaning, unknown, variable, array, constant, loop, theRoutine, theErrno, errorNumber, routineIn, noWord, nth, sortIn}
+use Rattle.paper.specs.Types.{Fault, least}
+use Rattle.paper.specs.Declarations.{moduleWordLimit, Signature, moduleScopes}
+use Rattle.paper.specs.Checks.{faults, isMain, noSignature, mainIn, mainOf}
+use Rattle.paper.specs.Steps.{programOf, codeOf}
+use Rattle.paper.specs.States.{Rooms}
+use Rattle.paper.specs.Running.{Ended, run, started}
+use Rattle.paper.specs.Answer.{Accepted, Verdict, refusedBy, refuse, accepted, offsetOf, judgeMain, judgeModule, judgeForm, judgeReading, verdict, Record, Result, refusedWith, endedWith, ranTo, carriedOut, tooSmall, badDepth, result, Lent, questionOf}
+use Rattle.demands.proofs.Places.{ReadingRefuses, not, too-long, in-text, reading-refuses, words-in-text}
+use Rattle.demands.proofs.Alls.{one-at}
+use Rattle.demands.proofs.Parsing.{Is, by-8, by-9, Reads, SortsOfModule, formed-reads}
+use Rattle.demands.proofs.Faults.{faults-ranked, least-ranked, accepted-words}
+use Rattle.demands.proofs.Routines.{InRange, meaning-in, module-in}
+use Rattle.demands.proofs.Tables.{ProgramFits, program-fits}
+use Rattle.demands.proofs.Growing.{RanTo, ran}
+use Rattle.demands.proofs.Sitting.{EndedAt, by-return, at-word, program-ends}
+use Rattle.demands.specs.Vocabulary.{before-any, EndsWith, at-exit, at-statement, at-list-end, at-next, at-callee, at-read, at-line, by-error, by-endproc, by-endfunc, a-statement, the-end, by-tpwrite, by-tpreadnum, WordAt}
+use Rattle.demands.specs.Demands as demands
+use Rattle.demands.specs.Demands.{RefusalAt, EndedRecord, Allowed}
+
+-- ---- offsets
+-- Past the last word there is none.
+no-sort : (W : List Word) (i : ℕ) → length W ≤ i → sortIn W i ≡ 0
+unfolding sortIn nth noWord
+no-sort W i h = ap (λ (w : Word). w .sort) (List·getD-eq-default W noWord h)
+
+-- A word that a run ends at is one.
+no-ending : (n : ℕ) → EndsWith n 0 → ⊥
+unfolding startsStatement startsSimple
+no-ending n (at-exit e) = omega arith
+no-ending n (at-statement e) = apart (cc)
+no-ending n (at-list-end (by-error e)) = omega arith
+no-ending n (at-list-end (by-endproc e)) = omega arith
+no-ending n (at-list-end (by-endfunc e)) = omega arith
+no-ending n (at-next (a-statement e)) = apart (cc)
+no-ending n (at-next (the-end (by-error e))) = omega arith
+no-ending n (at-next (the-end (by-endproc e))) = omega arith
+no-ending n (at-next (the-end (by-endfunc e))) = omega arith
+no-ending n (at-callee e) = omega arith
+no-ending n (at-read e) = omega arith
+no-ending n (at-line (by-tpwrite e)) = omega arith
+no-ending n (at-line (by-tpreadnum e)) = omega arith
+
+module _ (text : List ℕ) (W : List Word) (i : ℕ) where
+  offset-inside : i < length W → offsetOf text W i ≡ nth W i .place
+  unfolding offsetOf
+  offset-inside h = rw (lt-ltb i (length W) h)
+
+  ending-word : (n : ℕ) → EndsWith n (sortIn W i) → WordAt W (offsetOf text W i) (EndsWith n)
+  ending-word n h = by-less i (length W) inside past
+    where
+      inside : i < length W → WordAt W (offsetOf text W i) (EndsWith n)
+      inside l = record { index = i; inside = l; place = sym (offset-inside l); sort = h }
+
+      past : length W ≤ i → WordAt W (offsetOf text W i) (EndsWith n)
+      past l = absurd (no-ending n (rw (no-sort W i l) at h))
+
+-- ---- refusals by the form and the checks
+module _ (text : List ℕ) (i : ℕ) where
+  abbrev read : List Word
+  read = reading text .words
+
+  -- at a word
+  there : (n : ℕ) → 8 ≤ n → n ≤ 17 → i < length read → RefusalAt text n (offsetOf text read i)
+  there n l h k = demands.at-word n _ l h (record { index = i; inside = k; place = sym (offset-inside text read i k); sort = tt })
+
+  word-there : (n : ℕ) → 8 ≤ n → n ≤ 17 → Is (sortIn read) i → RefusalAt text n (offsetOf text read i)
+  word-there n l h w = by-less i (length read) (there n l h) (λ k. absurd (w (no-sort read i k)))
+
+  -- at a word or at the end
+  refusal-8 : RefusalAt text 8 (offsetOf text read i)
+  unfolding offsetOf
+  refusal-8 =
+      by-less i (length read) (there 8 (omega arith) (omega arith)) past
+    where
+      past : length read ≤ i → RefusalAt text 8 (offsetOf text read i)
+      past k = rw (le-ltb i (length read) k) demands.at-end
+
+-- ---- verdicts
+-- An accepted module of these words.
+pub record Accepts (W : List Word) (a : Accepted) : Type 0 where
+  pub words : a .words ≡ W
+  pub fits : ProgramFits W (a .program)
+  pub main : a .main < length (a .program .routines)
+  pub size : length (a .program .words) ≤ moduleWordLimit
+
+pub data Judges (text : List ℕ) : Verdict → Type 0 where
+  refuses : (n offset : ℕ) → 3 ≤ n → n ≤ 18 → RefusalAt text n offset → Judges text (refuse n offset)
+  accepts : (a : Accepted) → Accepts (reading text .words) a → Judges text (accepted a)
+
+main-named : (W : List Word) (sigs : List Signature) (o : Option ℕ) (k : ℕ) → mainIn W sigs o ≡ some k → o ≡ some k
+unfolding mainIn
+main-named W sigs none k e = apart (cc)
+main-named W sigs (some j) k e = by-test (isMain W (getD sigs j noSignature)) e
+  where
+    by-test : (b : Bool) → (if b then some j else none) ≡ some k → some j ≡ some k
+    by-test true q = q
+    by-test false q = apart (cc)
+
+routine-below : (n : ℕ) (m : Meaning) (k : ℕ) → InRange n m → routineIn m ≡ some k → k < n
+unfolding routineIn
+routine-below n unknown k h e = apart (cc)
+routine-below n (variable t r) k h e = apart (cc)
+routine-below n (array t r j) k h e = apart (cc)
+routine-below n (constant t r) k h e = apart (cc)
+routine-below n (loop r) k h e = apart (cc)
+routine-below n (theRoutine j) k h e = let q : j ≡ k = cc in rw q at h
+routine-below n theErrno k h e = apart (cc)
+routine-below n (errorNumber j) k h e = apart (cc)
+
+main-below : (W : List Word) (m : Module) (k : ℕ) → mainOf W m ≡ some k → k < length (m .routines)
+unfolding mainOf
+main-below W m k e = routine-below (length (m .routines)) _ k (meaning-in (length (m .routines)) (moduleScopes W m) (bytes "MAIN") (module-in W m)) (main-named W _ _ k e)
+
+module _ (text : List ℕ) where
+  abbrev words : List Word
+  words = reading text .words
+
+  main-judges : (m : Module) → SortsOfModule (sortIn words) m → least (faults words m) ≡ none → Judges text (judgeMain words m (mainOf words m))
+  unfolding judgeMain programOf
+  main-judges m h e = by-main (mainOf words m) refl
+    where
+      by-main : (o : Option ℕ) → mainOf words m ≡ o → Judges text (judgeMain words m o)
+      by-main none q = refuses 18 0 (omega arith) (omega arith) demands.no-main
+      by-main (some k) q =
+          let below = main-below words m k q in
+          accepts (record { words = words; program = programOf words m; main = k }) (record {
+            words = refl;
+            fits = program-fits words m (omega arith) (h .routines);
+            main = rw (length-map (m .routines) (codeOf words m)) below;
+            size = accepted-words words m h e;
+          })
+
+  module-judges : (m : Module) → SortsOfModule (sortIn words) m → (o : Option Fault) → least (faults words m) ≡ o → Judges text (judgeModule text words m o)
+  unfolding judgeModule
+  module-judges m h none e = main-judges m h e
+  module-judges m h (some f) e =
+      let k = least-ranked words (faults words m) f (faults-ranked words m h) e in
+      refuses (f .number) _ (omega arith) (omega arith) (word-there text (f .at) (f .number) (omega arith) (k .high) (k .there))
+
+  form-judges : (p : Parsed Module) → Reads (sortIn words) (SortsOfModule (sortIn words)) p → Judges text (judgeForm text words p)
+  unfolding judgeForm
+  form-judges (no number i) (by-8 e) = refuses number (offsetOf text words i) (omega arith) (omega arith) (rw e (refusal-8 text i))
+  form-judges (no number i) (by-9 e w) = refuses number (offsetOf text words i) (omega arith) (omega arith) (rw e (word-there text i 9 (omega arith) (omega arith) w))
+  form-judges (got m) h = module-judges m h (least (faults words m)) refl
+
+  pub judges : Judges text (verdict text)
+  unfolding verdict judgeReading
+  judges = by-refusal (reading text .refusal) (reading-refuses text)
+    where
+      by-refusal : (o : Option Refusal) → ReadingRefuses text o → Judges text (elim o [ some f ↦ refusedBy f | none ↦ judgeForm text words (formed (sortIn words)) ])
+      by-refusal o not = form-judges (formed (sortIn words)) (formed-reads (sortIn words))
+      by-refusal o (too-long k) = refuses 3 textLimit (omega arith) (omega arith) (demands.too-long k)
+      by-refusal o (in-text {f = f} l h p) = refuses (f .number) (f .offset) (omega arith) (omega arith) (demands.in-text (f .number) (f .offset) l h p)
+
+-- ---- records
+-- A word's place is in the text.
+word-place : (text : List ℕ) (offset : ℕ) (such : ℕ → Type 0) → WordAt (reading text .words) offset such → offset < length text
+unfolding nth
+word-place text offset such w = rw (w .place) at (one-at (λ v. v .place < length text) (reading text .words) (w .index) noWord (words-in-text text) (w .inside))
+
+refusal-place : (text : List ℕ) (n offset : ℕ) → RefusalAt text n offset → offset ≤ length text
+refusal-place text n offset (demands.of-rooms k l h) = omega arith
+refusal-place text n offset (demands.too-long k) = omega arith
+refusal-place text n offset (demands.in-text k o l h p) = omega arith
+refusal-place text n offset (demands.at-word k o l h w) = let p = word-place text o _ w in omega arith
+refusal-place text n offset demands.at-end = omega arith
+refusal-place text n offset demands.no-main = omega arith
+
+refused-allowed : (l : Lent) (f : Refusal) → 1 ≤ f .number → f .number ≤ 18 → RefusalAt (l .text) (f .number) (f .offset) → Allowed l (refusedWith f .fields)
+unfolding refusedWith
+refused-allowed l f low high h =
+    demands.refused refl (refusal-place (l .text) (f .number) (f .offset) h) (record { from-1 = low; to-18 = high; offset = h; steps = refl; errno = refl; output = refl; inputs = refl; words = refl })
+
+module _ (l : Lent) (a : Accepted) (h : Accepts (reading (l .text) .words) a) where
+  abbrev W : List Word
+  W = reading (l .text) .words
+
+  abbrev R : Rooms
+  R = record { depth = l .depth; output = length (l .output); inputs = l .inputs }
+
+  -- what is left of a run: its offset
+  ended-at : (x : Ended) → EndedAt W x → ¬ (x .ending ≡ 1) → WordAt W (if eqb (x .ending) 1 then 0 else offsetOf (l .text) W (x .place)) (EndsWith (x .ending))
+  ended-at x by-return f = absurd (f refl)
+  ended-at x (at-word {n = n} {place = place} e) f = rw (ne-eqb n 1 f) (ending-word (l .text) W place n e)
+
+  -- no offset of a run is past the text
+  offset-inside-text : (f : Record) → EndedRecord l f → f .offset ≤ length (l .text)
+  offset-inside-text f h =
+      by-same (f .ending) 1
+      (λ e. let z : f .offset ≡ 0 = h .returned e in omega arith)
+      (λ e. let p = word-place (l .text) (f .offset) _ (h .offset e) in omega arith)
+
+  ended-record : (x : Ended) → RanTo R (started (a .program) (a .main)) (l .steps) x → EndedAt W x → EndedRecord l (ranTo (l .text) W x .fields)
+  unfolding ranTo endedWith started
+  ended-record x r e =
+      let later = r .later in
+      record {
+        from-1 = r .least;
+        to-8 = r .most;
+        refusal = refl;
+        steps = omega (arith, later .steps, r .within);
+        errno = later .errno (before-any refl);
+        output = later .in-room (omega arith);
+        inputs = later .in-inputs (omega arith);
+        words = rw (later .words) (h .size);
+        returned = λ q. rw (eq-eqb (x .ending) 1 q);
+        offset = ended-at x e;
+      }
+
+-- What may be said of a record: the tables allow it, and the refusal 1 is none of it.
+pub record Sound (l : Lent) (f : Record) : Type 0 where
+  pub allowed : Allowed l f
+  pub not-1 : ¬ (f .refusal ≡ 1)
+
+module _ (l : Lent) where
+  carried-allowed : (v : Verdict) → Judges (l .text) v → Sound l (carriedOut (questionOf l) v .fields)
+  unfolding carriedOut questionOf refusedWith ranTo endedWith
+  carried-allowed v (refuses n offset low high h) =
+      record { allowed = refused-allowed l (record { number = n; offset = offset }) (omega arith) high h; not-1 = λ e. omega arith }
+  carried-allowed v (accepts a h) =
+      let P = a .program in
+      let rooms = R l a h in
+      let fits : ProgramFits (reading (l .text) .words) P = h .fits in
+      let x = run P rooms (l .steps) (started P (a .main)) in
+      let e : EndedRecord l (ranTo (l .text) (reading (l .text) .words) x .fields) =
+      ended-record l a h x (ran P rooms (l .steps) (started P (a .main))) (program-ends (reading (l .text) .words) P rooms fits (a .main) (l .steps) (h .main)) in
+      rw (h .words)
+      (record {
+        allowed = demands.ended (offset-inside-text l a h _ e) e;
+        not-1 = λ e. omega arith;
+      })
+
+  pub result-1 : tooSmall (questionOf l) ≡ true → result (questionOf l) ≡ refusedWith (record { number = 1; offset = 0 })
+  unfolding result
+  result-1 s = rw (s, result)
+
+  -- a store under 16,384 words: refusal 1
+  pub small-allowed : tooSmall (questionOf l) ≡ true → Allowed l (result (questionOf l) .fields)
+  small-allowed s = rw (result-1 s) (refused-allowed l _ (omega arith) (omega arith) (demands.of-rooms 1 (omega arith) (omega arith)))
+
+  pub result-sound : tooSmall (questionOf l) ≡ false → Sound l (result (questionOf l) .fields)
+  unfolding result questionOf refusedWith
+  result-sound s = rw (s, result) (by-depth (badDepth (questionOf l)))
+    where
+      by-depth : (b : Bool) → Sound l ((elim b as (λ x. Result) [ true ↦ refusedWith (record { number = 2; offset = 0 }) | false ↦ carriedOut (questionOf l) (verdict (l .text)) ]) .fields)
+      by-depth true = record { allowed = refused-allowed l _ (omega arith) (omega arith) (demands.of-rooms 2 (omega arith) (omega arith)); not-1 = λ e. omega arith }
+      by-depth false = carried-allowed (verdict (l .text)) (judges (l .text))
