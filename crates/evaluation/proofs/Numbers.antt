@@ -208,3 +208,7 @@ module _ (a b : ℤ) (sa : SFits w64 a) (sb : SFits w64 b) (fa : SFits w32 a) (f
         divided (remZ a b) (read (toZ w32 (ofZ w32 (remZ (toZ w32 (ofZ w32 (read a))) (toZ w32 (ofZ w32 (read b)))))))
         (back (toZ w32 (ofZ w32 (remZ (toZ w32 (ofZ w32 (read a))) (toZ w32 (ofZ w32 (read b)))))) rem-wide
         ∙ rw (back-a, back-b) (back32 (remZ a b) (rem-small a b fa)))
+
+-- a test whether a number is outside
+pub outside-is : (z : ℤ) (t u : Bool) → SFits w64 z → t ≡ outside (read z) → t ≡ u → outside z ≡ u
+outside-is z t u s e h = rw (back z s) at (sym e ∙ h)

@@ -279,3 +279,6 @@ module _ (values : List ℕ) (base w : ℕ) (x : ℤ) (s : SFits w64 x) where
 
 pub small-read : (a : ℤ) → SFits w64 a → Small a → Small (read a)
 small-read a s m = rw (back a s) m
+
+pub small-leaf : {values : List ℕ} {base op v : ℕ} (z : ℤ) → SFits w64 z → Read values base op v z → Small (read z)
+small-leaf z s r = rw (back z s) (λ q. r .small)

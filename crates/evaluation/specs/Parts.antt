@@ -23,7 +23,7 @@ outside z = if ltZ z (num .low) then true else ltZ (num .high) z
 
 -- two sides, by what they are worth
 unfoldable pub joined : (operator : ℕ) → (left right : Value) → Value
-joined op a b = if known op a then a else combined op a b
+joined op a b = elim (known op a) [ true ↦ a | false ↦ combined op a b ]
 
 -- what fails where an operator's result is outside: DIV and MOD, the first that can, by zero
 unfoldable pub failureOf : (number : ℕ) → ℤ → ℕ

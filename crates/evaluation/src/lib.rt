@@ -324,3 +324,56 @@ fn link(code: &[u8], i: usize) -> usize
 {
     (cells::get(code, i * 2 + 1) / 65536) as usize
 }
+
+// What the expression is worth that stands in the words from `from` up to `to`. What an operator works out is tested against num once for all operators, and
+// what fails leaves at once, so that the loop goes on with values only.
+pub fn evaluate<'a>(code: &'a [u8], values: &'a [u8], base: usize, from: usize, to: usize) -> i64
+    requires { ⌜ Stores (now values) base × Stands (now code) from to ⌝ }
+    ensures { λ r. ⌜ Evaluated (now (code .entry)) (now (values .entry)) base from to r ⌝ }
+{
+    let w = head(code, from);
+    let mut acc = 0;
+    let mut i = from + 1;
+    if w % 256 <= CALL_WORD {
+        acc = leaf(values, base, w % 256, w / 256);
+    } else {
+        let l = link(code, from);
+        let s = opens(w % 256, from);
+        if l == s + 1 {
+            let x = head(code, s);
+            acc = close(values, base, w, leaf(values, base, x % 256, x / 256));
+        } else {
+            acc = close(values, base, w, evaluate(code, values, base, s, l));
+        }
+        if !is_value(acc) {
+            return acc;
+        }
+        i = ends(w % 256, l);
+    }
+    while i < to {
+        let w = head(code, i);
+        let op = w % 256;
+        let mut b = acc;
+        let mut r = i + 2;
+        if op / 16 % 4 == SPAN {
+            r = link(code, i);
+            if !is_known(op % 16, acc) {
+                b = evaluate(code, values, base, i + 1, r);
+                if !is_value(b) {
+                    return b;
+                }
+            }
+        } else {
+            b = leaf(values, base, op / 16 % 4, w / 256);
+        }
+        let z = operate(op % 16, acc, b);
+        if outside(z) {
+            if op % 16 < AND {
+                return failure(op % 16, b);
+            }
+        }
+        acc = z;
+        i = r;
+    }
+    acc
+}
