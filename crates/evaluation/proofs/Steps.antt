@@ -1,0 +1,411 @@
+-- The places of the evaluation: what its loop keeps, how it starts, goes on, fails and ends.
+use mathlib.Core.Path.{_≡_, refl, sym, ap, ap₂, subst, _∙_}
+use mathlib.Core.Bool.{Bool, true, false, not}
+use mathlib.Core.List.{List}
+use mathlib.Core.Option.{Option, some}
+use Prim.Native.Nat.{ℕ, zero, suc, _+_, _-_, _*_, _/_, _%_, _<_, _≤_}
+use native.Mathlib.Omega.{arith}
+use lib.Dec.{T, leb}
+use lib.ListN.{length}
+use lib.IntN.{ℤ, pos, natAbs}
+use lib.Signed.{ltZ}
+use mir.Syntax.{w32, w64}
+use mir.Val.{SFits, toZ, ofZ}
+use borrow.Author.Tests.{le-leb, lt-leb, eq-eqb, ne-eqb, not-true, not-false}
+use Rattle.laws.proofs.Tests.{test, by-same}
+use Rattle.paper.specs.Numbers.{Value, value, error}
+use Rattle.paper.specs.Terms.{Memory, Term, unary, binary, worth, known, combined}
+use Rattle.cells.specs.Words.{wordsOf}
+use Rattle.numbers.proofs.Whole.{read, back}
+use Rattle.code.specs.Cells.{opIn, valueIn, headAt, opAt, valueAt, linkAt}
+use Rattle.code.specs.Spans.{aCallWord, aCallElement, aParenthesis, aSpan, numberIn, rightIn, operatorOf, operatorIn, prefixIn, leafTerm, operandTerm, rightEnd, rightTerm, chain, termIn}
+use Rattle.code.proofs.Options.{same-some}
+use Rattle.code.proofs.Operands.{of-any, LeafAt, of-leaf}
+use Rattle.code.proofs.Spanning.{end-span, end-leaf, right-span, right-leaf, chain-done, Step, chain-step, right-moves, Begun, begun, span-grows, single}
+use Rattle.evaluation.specs.Answers.{firstError, decoded, Small, Gives, Counts, termOf, memoryOf, Stores, Stands, Evaluated}
+use Rattle.evaluation.specs.Parts.{outside, joined, failureOf, firstLogic, Worked, Leaf, Read, closedTerm, opensAt, endsAt, Closes, Closed}
+use Rattle.evaluation.proofs.Numbers.{is-value, is-error, small-value, inside-small, gives-value, told}
+
+-- ---- what the loop keeps
+
+-- the answer so far is that of the part before i, for every reading of the whole
+pub record Left (c : Counts) (code values : List ℕ) (base : ℕ) (a : ℤ) (i to : ℕ) (t : Term) : Type 0 where
+  pub u : Term
+  pub is : decoded a ≡ worth (memoryOf c values base) u
+  pub g : ℕ
+  pub rest : chain (c .m) (c .n) (wordsOf code) (termIn (c .m) (c .n) (wordsOf code)) g u i to ≡ some t
+
+pub record Run (code values : List ℕ) (base from to : ℕ) (a : ℤ) (i : ℕ) : Type 0 where
+  pub stands : Stands code from to
+  pub left : (c : Counts) (t : Term) → termOf c code from to ≡ some t → Left c code values base a i to t
+  pub small : Small a
+  pub after : from < i
+  pub on : i ≤ to
+
+-- and a value
+pub record Going (code values : List ℕ) (base from to : ℕ) (a : ℤ) (i : ℕ) : Type 0 where
+  pub run : Run code values base from to a i
+  pub small : SFits w32 a
+
+-- ---- what the machine reads back of a local
+pub subst₂ : (P : ℕ → ℕ → Type 0) {a b i j : ℕ} → a ≡ b → i ≡ j → P a i → P b j
+subst₂ P {a} {b} {i} {j} p q x = subst (P b) q (subst (λ (k : ℕ). P k i) p x)
+
+pub evaluated-read : (code values : List ℕ) (base from to : ℕ) (z : ℤ) → SFits w64 z → Evaluated code values base from to z → Evaluated code values base from to (read z)
+evaluated-read code values base from to z s e = rw (back z s) e
+
+pub going-read : (code values : List ℕ) (base from to : ℕ) (z : ℤ) (i : ℕ) → SFits w64 z → Going code values base from to z i → Going code values base from to (read z) i
+going-read code values base from to z i s g = rw (back z s) g
+
+-- an answer that was told to be a value
+pub goes-value : (code values : List ℕ) (base from to : ℕ) (a : ℤ) (i : ℕ) → Run code values base from to a i → ltZ a (pos firstError) ≡ true → Going code values base from to a i
+goes-value code values base from to a i r h = record { run = r; small = r .small h }
+
+-- ---- two sides
+joined-known : (op : ℕ) (a b : Value) → known op a ≡ true → joined op a b ≡ a
+unfolding joined
+joined-known op a b k = rw (k, joined)
+
+joined-not : (op : ℕ) (a b : Value) → known op a ≡ false → joined op a b ≡ combined op a b
+unfolding joined
+joined-not op a b k = rw (k, joined)
+
+worth-joined : (M : Memory) (op : ℕ) (a b : Term) → worth M (binary op a b) ≡ joined op (worth M a) (worth M b)
+unfolding worth joined
+worth-joined M op a b = refl
+
+left-error : (op e : ℕ) (b : Value) → joined op (error e) b ≡ error e
+unfolding joined known
+left-error op e b = refl
+
+-- what fails goes through to the end
+chain-error : (c : Counts) (code values : List ℕ) (base e g : ℕ) (u : Term) (i to : ℕ) (t : Term)
+    → chain (c .m) (c .n) (wordsOf code) (termIn (c .m) (c .n) (wordsOf code)) g u i to ≡ some t
+    → worth (memoryOf c values base) u ≡ error e → worth (memoryOf c values base) t ≡ error e
+chain-error c code values base e zero u i to t r w =
+    by-same i to
+    (λ h. sym (ap (worth (memoryOf c values base)) (chain-done (c .m) (c .n) (wordsOf code) (termIn (c .m) (c .n) (wordsOf code)) zero u i to t h r)) ∙ w)
+    (λ h. let s = chain-step (c .m) (c .n) (wordsOf code) (termIn (c .m) (c .n) (wordsOf code)) zero u i to t h r in absurd (omega (arith, s .more)))
+chain-error c code values base e (suc g) u i to t r w =
+    by-same i to
+    (λ h. sym (ap (worth (memoryOf c values base)) (chain-done (c .m) (c .n) (wordsOf code) (termIn (c .m) (c .n) (wordsOf code)) (suc g) u i to t h r)) ∙ w)
+    (λ h.
+    let s = chain-step (c .m) (c .n) (wordsOf code) (termIn (c .m) (c .n) (wordsOf code)) (suc g) u i to t h r in
+    let p : s .p ≡ g = omega (arith, s .more) in
+    chain-error c code values base e g (binary (operatorIn (opAt (wordsOf code) i)) u (s .u)) (rightEnd (wordsOf code) i) to t
+    (subst (λ (j : ℕ). chain (c .m) (c .n) (wordsOf code) (termIn (c .m) (c .n) (wordsOf code)) j (binary (operatorIn (opAt (wordsOf code) i)) u (s .u)) (rightEnd (wordsOf code) i) to ≡ some t) p (s .rest))
+    (worth-joined (memoryOf c values base) (operatorIn (opAt (wordsOf code) i)) u (s .u)
+    ∙ ap (λ (v : Value). joined (operatorIn (opAt (wordsOf code) i)) v (worth (memoryOf c values base) (s .u))) w
+    ∙ left-error (operatorIn (opAt (wordsOf code) i)) e (worth (memoryOf c values base) (s .u))))
+
+module _ (code values : List ℕ) (base : ℕ) where
+  -- ---- the start
+  module _ (from to : ℕ) (sd : Stands code from to) where
+    begins : (c : Counts) (t : Term) → termOf c code from to ≡ some t → Begun (c .m) (c .n) (wordsOf code) from to t
+    begins c t e = begun (c .m) (c .n) (wordsOf code) from to t e
+
+    pub stands-less : from < to
+    stands-less = span-grows (sd .c .m) (sd .c .n) (wordsOf code) from to (sd .t) (sd .is)
+
+    pub stands-in : from * 8 + 8 ≤ length code
+    stands-in = omega (arith, stands-less, sd .room)
+
+    -- from the first operand on
+    starts : (a : ℤ) (i : ℕ) → Small a
+        → ((c : Counts) (x : Term × ℕ) → operandTerm (c .m) (c .n) (wordsOf code) (termIn (c .m) (c .n) (wordsOf code)) from ≡ some x → (decoded a ≡ worth (memoryOf c values base) (x .0)) × (i ≡ x .1))
+        → Run code values base from to a i
+    starts a i s f =
+        let h = begins (sd .c) (sd .t) (sd .is) in
+        let q : i ≡ h .x .1 = f (sd .c) (h .x) (h .first) .1 in
+        record {
+          stands = sd;
+          small = s;
+          after = omega (arith, h .after);
+          on = omega (arith, h .on);
+          left = λ c t e.
+              let b = begins c t e in
+              let o = f c (b .x) (b .first) in
+              record { u = b .x .0; is = o .0; g = b .g; rest = ap (λ (j : ℕ). chain (c .m) (c .n) (wordsOf code) (termIn (c .m) (c .n) (wordsOf code)) (b .g) (b .x .0) j to) (o .1) ∙ b .rest };
+        }
+
+    module _ (w : ℕ) (ew : w ≡ headAt (wordsOf code) from) where
+      op-is : w % 256 ≡ opAt (wordsOf code) from
+      op-is = ap (λ (v : ℕ). v % 256) ew
+
+      leaf-at : w % 256 ≤ 3 → (c : Counts) (x : Term × ℕ) → operandTerm (c .m) (c .n) (wordsOf code) (termIn (c .m) (c .n) (wordsOf code)) from ≡ some x
+          → (leafTerm (c .m) (c .n) (w % 256) (w / 256) ≡ some (x .0)) × (x .1 ≡ from + 1)
+      leaf-at h c x e =
+          let g = of-leaf (c .m) (c .n) (headAt (wordsOf code) from) (linkAt (wordsOf code) from) (termIn (c .m) (c .n) (wordsOf code)) from x e (omega (arith, op-is)) in
+          (ap (λ (v : ℕ). leafTerm (c .m) (c .n) (v % 256) (v / 256)) ew ∙ g .is, g .end)
+
+      pub first-leaf : w % 256 ≤ 3 → w < 4294967296 → Leaf (w % 256) (w / 256)
+      first-leaf h k =
+          let b = begins (sd .c) (sd .t) (sd .is) in
+          record { c = sd .c; t = b .x .0; is = leaf-at h (sd .c) (b .x) (b .first) .0; bits = omega arith }
+
+      pub start-leaf : w % 256 ≤ 3 → (z : ℤ) → SFits w64 z → Read values base (w % 256) (w / 256) z → Going code values base from to (read z) (from + 1)
+      start-leaf h z s r =
+          rw (back z s) (record {
+            small = r .small;
+            run = starts z (from + 1) (λ q. r .small) (λ c x e. let g = leaf-at h c x e in (is-value z (small-value z (r .small)) ∙ sym (r .is c (x .0) (g .0)), sym (g .1)));
+          })
+
+      -- an operand of several words: what stands inside it, and what it makes of that
+      record Enclosed (c : Counts) (x : Term × ℕ) (s l : ℕ) : Type 0 where
+        pub t : Term
+        pub inside : termOf c code s l ≡ some t
+        pub is : closedTerm c (opIn w) (valueIn w) t ≡ some (x .0)
+        pub end : x .1 ≡ endsAt (w % 256) l
+
+      module _ (h : 3 < w % 256) (l : ℕ) (el : l ≡ linkAt (wordsOf code) from) (s : ℕ) (es : s ≡ opensAt (w % 256) from) where
+        enclosed : (c : Counts) (x : Term × ℕ) → operandTerm (c .m) (c .n) (wordsOf code) (termIn (c .m) (c .n) (wordsOf code)) from ≡ some x → Enclosed c x s l
+        unfolding closedTerm opensAt endsAt
+        enclosed c x e =
+            of-any (c .m) (c .n) w l (termIn (c .m) (c .n) (wordsOf code)) from x (rw (ew, el) e)
+            (λ k g. absurd (omega arith))
+            (λ k j g. record {
+              t = g .t;
+              inside = rw es (rw (le-leb (w % 256) 5 j, opensAt) (g .inside));
+              is = rw (le-leb (w % 256) 5 j, closedTerm) (g .is);
+              end = rw (le-leb (w % 256) 6 (omega arith), endsAt) (g .end);
+            })
+            (λ j g. record {
+              t = x .0;
+              inside = rw es (rw (lt-leb (w % 256) 5 (omega arith), opensAt) (g .inside));
+              is = rw (lt-leb (w % 256) 5 (omega arith), closedTerm) (rw (eq-eqb (w % 256) 6 j));
+              end = rw (le-leb (w % 256) 6 (omega arith), endsAt) (g .end);
+            })
+            (λ j g. record {
+              t = g .t;
+              inside = rw es (rw (lt-leb (w % 256) 5 (omega arith), opensAt) (g .inside));
+              is = rw (lt-leb (w % 256) 5 (omega arith), closedTerm) (rw (ne-eqb (w % 256) 6 (λ z. omega arith)) (ap some (g .is)));
+              end = rw (lt-leb (w % 256) 6 j, endsAt) (g .end);
+            })
+
+        ghost : Enclosed (sd .c) (begins (sd .c) (sd .t) (sd .is) .x) s l
+        ghost = enclosed (sd .c) (begins (sd .c) (sd .t) (sd .is) .x) (begins (sd .c) (sd .t) (sd .is) .first)
+
+        opens-low : from < s
+        unfolding opensAt
+        opens-low = test (leb (w % 256) 5) (λ t. let q : s ≡ from + 2 = es ∙ rw (t, opensAt) in omega arith) (λ t. let q : s ≡ from + 1 = es ∙ rw (t, opensAt) in omega arith)
+
+        ends-low : (n : ℕ) → endsAt (w % 256) l ≤ n → l ≤ n
+        unfolding endsAt
+        ends-low n k = test (leb (w % 256) 6) (λ t. let q : l + 1 ≤ n = rw (t, endsAt) at k in omega arith) (λ t. rw (t, endsAt) at k)
+
+        pub inside-on : l ≤ to
+        inside-on = ends-low to (omega (arith, ghost .end, begins (sd .c) (sd .t) (sd .is) .on))
+
+        pub inside-stands : Stands code s l
+        inside-stands = record { c = sd .c; t = ghost .t; is = ghost .inside; room = omega (arith, inside-on, sd .room) }
+
+        pub inside-grows : s < l
+        inside-grows = span-grows (sd .c .m) (sd .c .n) (wordsOf code) s l (ghost .t) (ghost .inside)
+
+        pub inside-less : l - s < to - from
+        inside-less = omega (arith, inside-on, inside-grows, opens-low)
+
+        pub inside-in : s * 8 + 8 ≤ length code
+        inside-in = omega (arith, inside-on, inside-grows, sd .room)
+
+        pub closes : Closes w
+        closes = record { c = sd .c; t = ghost .t; u = begins (sd .c) (sd .t) (sd .is) .x .0; is = ghost .is }
+
+        module _ (k : l ≡ s + 1) (v : ℕ) (ev : v ≡ headAt (wordsOf code) s) where
+          short-is : (c : Counts) (t : Term) → termOf c code s l ≡ some t → leafTerm (c .m) (c .n) (v % 256) (v / 256) ≡ some t
+          short-is c t e = ap (λ (j : ℕ). leafTerm (c .m) (c .n) (j % 256) (j / 256)) ev ∙ single (c .m) (c .n) (wordsOf code) s l t k e
+
+          pub short-leaf : v < 4294967296 → Leaf (v % 256) (v / 256)
+          short-leaf b = record { c = sd .c; t = ghost .t; is = short-is (sd .c) (ghost .t) (ghost .inside); bits = omega arith }
+
+          pub short-evaluated : (x : ℤ) → Read values base (v % 256) (v / 256) x → Evaluated code values base s l x
+          short-evaluated x r = record { is = λ c t e. is-value x (small-value x (r .small)) ∙ sym (r .is c t (short-is c t e)); small = λ q. r .small }
+
+        pub start-closed : (x : ℤ) → SFits w64 x → Evaluated code values base s l x → (z : ℤ) → SFits w64 z → Closed values base w (read x) z
+            → Run code values base from to (read z) (endsAt (w % 256) l)
+        start-closed x sx v z sz k =
+            let d : Closed values base w x z = rw (back x sx) at k in
+            rw (back z sz) (starts z (endsAt (w % 256) l) (d .small) (λ c y e.
+            let g = enclosed c y e in
+            (d .is c (g .t) (y .0) (g .is) (v .is c (g .t) (g .inside)), sym (g .end))))
+
+  -- ---- an error leaves at once
+  pub run-fails : (from to : ℕ) (a : ℤ) (i : ℕ) → Run code values base from to a i → ltZ a (pos firstError) ≡ false → Evaluated code values base from to a
+  run-fails from to a i r h =
+      let q = is-error a h in
+      record {
+        small = r .small;
+        is = λ c t e.
+            let l = r .left c t e in
+            q ∙ sym (chain-error c code values base (natAbs a - firstError) (l .g) (l .u) i to t (l .rest) (sym (l .is) ∙ q));
+      }
+
+  -- ---- a turn
+  module _ (from to : ℕ) (a : ℤ) (i : ℕ) (go : Going code values base from to a i) where
+    pub ends : to ≤ i → Evaluated code values base from to a
+    ends h = record {
+      small = go .run .small;
+      is = λ c t e.
+          let l = go .run .left c t e in
+          l .is ∙ ap (worth (memoryOf c values base)) (chain-done (c .m) (c .n) (wordsOf code) (termIn (c .m) (c .n) (wordsOf code)) (l .g) (l .u) i to t (omega (arith, go .run .on)) (l .rest));
+    }
+
+    left-is : (c : Counts) (t : Term) (e : termOf c code from to ≡ some t) → worth (memoryOf c values base) (go .run .left c t e .u) ≡ value a
+    left-is c t e = sym (go .run .left c t e .is) ∙ is-value a (small-value a (go .small))
+
+    module _ (h : i < to) where
+      pub turn-in : i * 8 + 8 ≤ length code
+      turn-in = omega (arith, go .run .stands .room)
+
+      next : (c : Counts) (t : Term) (e : termOf c code from to ≡ some t)
+          → Step (c .m) (c .n) (wordsOf code) (termIn (c .m) (c .n) (wordsOf code)) (go .run .left c t e .g) (go .run .left c t e .u) i to t
+      next c t e =
+          chain-step (c .m) (c .n) (wordsOf code) (termIn (c .m) (c .n) (wordsOf code)) (go .run .left c t e .g) (go .run .left c t e .u) i to t (λ q. omega arith) (go .run .left c t e .rest)
+
+      ghost-next : Step (go .run .stands .c .m) (go .run .stands .c .n) (wordsOf code) (termIn (go .run .stands .c .m) (go .run .stands .c .n) (wordsOf code))
+          (go .run .left (go .run .stands .c) (go .run .stands .t) (go .run .stands .is) .g) (go .run .left (go .run .stands .c) (go .run .stands .t) (go .run .stands .is) .u) i to (go .run .stands .t)
+      ghost-next = next (go .run .stands .c) (go .run .stands .t) (go .run .stands .is)
+
+      right-on : rightEnd (wordsOf code) i ≤ to
+      right-on = ghost-next .on
+
+      right-more : i + 1 < rightEnd (wordsOf code) i
+      right-more =
+          right-moves (go .run .stands .c .m) (go .run .stands .c .n) (wordsOf code) (termIn (go .run .stands .c .m) (go .run .stands .c .n) (wordsOf code))
+          (span-grows (go .run .stands .c .m) (go .run .stands .c .n) (wordsOf code)) i (ghost-next .u) (ghost-next .right)
+
+      module _ (w : ℕ) (ew : w ≡ headAt (wordsOf code) i) where
+        number : ℕ
+        number = w % 256 % 16
+
+        class-is : w % 256 / 16 % 4 ≡ rightIn (opAt (wordsOf code) i)
+        class-is = ap (λ (v : ℕ). v % 256 / 16 % 4) ew
+
+        -- the right side's answer b, and the word r after it
+        pub record Sided (b : ℤ) (r : ℕ) : Type 0 where
+          pub end : r ≡ rightEnd (wordsOf code) i
+          pub small : SFits w32 b
+          pub is : (c : Counts) (u : Term) → rightTerm (c .m) (c .n) (wordsOf code) (termIn (c .m) (c .n) (wordsOf code)) i ≡ some u
+              → joined (operatorOf (w % 256 % 16)) (value a) (value b) ≡ joined (operatorOf (w % 256 % 16)) (value a) (worth (memoryOf c values base) u)
+
+        pub sided-read : (b : ℤ) (r : ℕ) → SFits w64 b → Sided b r → Sided (read b) r
+        sided-read b r s d = rw (back b s) d
+
+        -- a span
+        module _ (k : w % 256 / 16 % 4 ≡ 0) (r : ℕ) (er : r ≡ linkAt (wordsOf code) i) where
+          end-is : r ≡ rightEnd (wordsOf code) i
+          end-is = er ∙ sym (end-span (wordsOf code) i (sym class-is ∙ k))
+
+          right-is : (c : Counts) (u : Term) → rightTerm (c .m) (c .n) (wordsOf code) (termIn (c .m) (c .n) (wordsOf code)) i ≡ some u → termOf c code (i + 1) r ≡ some u
+          right-is c u e =
+              ap (termIn (c .m) (c .n) (wordsOf code) (i + 1)) er ∙ sym (right-span (wordsOf code) i (c .m) (c .n) (termIn (c .m) (c .n) (wordsOf code)) (sym class-is ∙ k)) ∙ e
+
+          pub span-stands : Stands code (i + 1) r
+          span-stands = record {
+            c = go .run .stands .c;
+            t = ghost-next .u;
+            is = right-is (go .run .stands .c) (ghost-next .u) (ghost-next .right);
+            room = omega (arith, end-is, right-on, go .run .stands .room);
+          }
+
+          pub span-less : r - (i + 1) < to - from
+          span-less = omega (arith, end-is, right-on, right-more, go .run .after)
+
+          module _ (y : Bool) (ey : y ≡ known (operatorOf (w % 256 % 16)) (value a)) where
+            known-is : (z : Bool) → y ≡ z → known (operatorOf (w % 256 % 16)) (value a) ≡ z
+            known-is z q = sym ey ∙ q
+
+            pub side-known : y ≡ true → Sided a r
+            side-known q = record {
+              end = end-is;
+              small = go .small;
+              is = λ c u e. joined-known (operatorOf (w % 256 % 16)) (value a) (value a) (known-is true q) ∙ sym (joined-known (operatorOf (w % 256 % 16)) (value a) (worth (memoryOf c values base) u) (known-is true q));
+            }
+
+            module _ (b : ℤ) (v : Evaluated code values base (i + 1) r b) where
+              pub side-span : ltZ b (pos firstError) ≡ true → Sided b r
+              side-span q = record {
+                end = end-is;
+                small = v .small q;
+                is = λ c u e. ap (joined (operatorOf (w % 256 % 16)) (value a)) (sym (is-value b q) ∙ v .is c u (right-is c u e));
+              }
+
+              pub right-fails : y ≡ false → ltZ b (pos firstError) ≡ false → Evaluated code values base from to b
+              unfolding combined
+              right-fails n q = record {
+                small = v .small;
+                is = λ c t e.
+                    let l = go .run .left c t e in
+                    let s = next c t e in
+                    let d = is-error b q in
+                    d ∙ sym (chain-error c code values base (natAbs b - firstError) (s .p) (binary (operatorIn (opAt (wordsOf code) i)) (l .u) (s .u)) (rightEnd (wordsOf code) i) to t (s .rest)
+                    (worth-joined (memoryOf c values base) (operatorIn (opAt (wordsOf code) i)) (l .u) (s .u)
+                    ∙ ap₂ (joined (operatorIn (opAt (wordsOf code) i))) (left-is c t e) (sym (v .is c (s .u) (right-is c (s .u) (s .right))) ∙ d)
+                    ∙ ap (λ (j : ℕ). joined (operatorOf (j % 256 % 16)) (value a) (error (natAbs b - firstError))) (sym ew)
+                    ∙ joined-not (operatorOf (w % 256 % 16)) (value a) (error (natAbs b - firstError)) (known-is false n)));
+              }
+
+        -- a leaf
+        module _ (k : w % 256 / 16 % 4 ≡ 0 → ⊥) where
+          fused-is : (c : Counts) (u : Term) → rightTerm (c .m) (c .n) (wordsOf code) (termIn (c .m) (c .n) (wordsOf code)) i ≡ some u → leafTerm (c .m) (c .n) (w % 256 / 16 % 4) (w / 256) ≡ some u
+          fused-is c u e =
+              ap (λ (v : ℕ). leafTerm (c .m) (c .n) (v % 256 / 16 % 4) (v / 256)) ew
+              ∙ sym (right-leaf (wordsOf code) i (c .m) (c .n) (termIn (c .m) (c .n) (wordsOf code)) (λ z. k (class-is ∙ z))) ∙ e
+
+          pub fused-leaf : w < 4294967296 → Leaf (w % 256 / 16 % 4) (w / 256)
+          fused-leaf b = record { c = go .run .stands .c; t = ghost-next .u; is = fused-is (go .run .stands .c) (ghost-next .u) (ghost-next .right); bits = omega arith }
+
+          pub side-leaf : (b : ℤ) → Read values base (w % 256 / 16 % 4) (w / 256) b → Sided b (i + 2)
+          side-leaf b r = record {
+            end = sym (end-leaf (wordsOf code) i (λ z. k (class-is ∙ z)));
+            small = r .small;
+            is = λ c u e. ap (joined (operatorOf (w % 256 % 16)) (value a)) (sym (r .is c u (fused-is c u e)));
+          }
+
+        -- both sides
+        module _ (b : ℤ) (r : ℕ) (sd : Sided b r) where
+          pub turn-on : r ≤ to
+          turn-on = omega (arith, sd .end, right-on)
+
+          pub turn-less : to - r < to - i
+          turn-less = omega (arith, sd .end, right-on, right-more)
+
+          worth-is : (c : Counts) (t : Term) (e : termOf c code from to ≡ some t)
+              → worth (memoryOf c values base) (binary (operatorIn (opAt (wordsOf code) i)) (go .run .left c t e .u) (next c t e .u)) ≡ joined (operatorOf (w % 256 % 16)) (value a) (value b)
+          worth-is c t e =
+              worth-joined (memoryOf c values base) (operatorIn (opAt (wordsOf code) i)) (go .run .left c t e .u) (next c t e .u)
+              ∙ ap (λ (v : Value). joined (operatorIn (opAt (wordsOf code) i)) v (worth (memoryOf c values base) (next c t e .u))) (left-is c t e)
+              ∙ ap (λ (j : ℕ). joined (operatorOf (j % 256 % 16)) (value a) (worth (memoryOf c values base) (next c t e .u))) (sym ew)
+              ∙ sym (sd .is c (next c t e .u) (next c t e .right))
+
+          goes-on : (z : ℤ) → SFits w32 z → joined (operatorOf (w % 256 % 16)) (value a) (value b) ≡ value z → Going code values base from to z r
+          goes-on z s q = record {
+            small = s;
+            run = record {
+              stands = go .run .stands;
+              small = λ y. s;
+              after = omega (arith, sd .end, right-more, go .run .after);
+              on = turn-on;
+              left = λ c t e. record {
+                u = binary (operatorIn (opAt (wordsOf code) i)) (go .run .left c t e .u) (next c t e .u);
+                is = is-value z (small-value z s) ∙ sym (worth-is c t e ∙ q);
+                g = next c t e .p;
+                rest = ap (λ (j : ℕ). chain (c .m) (c .n) (wordsOf code) (termIn (c .m) (c .n) (wordsOf code)) (next c t e .p) (binary (operatorIn (opAt (wordsOf code) i)) (go .run .left c t e .u) (next c t e .u)) j to) (sd .end) ∙ next c t e .rest;
+              };
+            };
+          }
+
+          module _ (z : ℤ) (k : Worked (w % 256 % 16) a b z) where
+            pub goes-inside : outside z ≡ false → Going code values base from to z r
+            goes-inside o = goes-on z (inside-small z o) (k .inside o)
+
+            pub goes-logic : 12 ≤ w % 256 % 16 → Going code values base from to z r
+            goes-logic o = goes-on z (k .small o) (k .logic o)
+
+            pub turn-fails : outside z ≡ true → w % 256 % 16 < 12 → (f : ℤ) → Gives (error (failureOf (w % 256 % 16) b)) f → Evaluated code values base from to f
+            turn-fails o n f g = record {
+              small = g .small;
+              is = λ c t e.
+                  g .is ∙ sym (chain-error c code values base (failureOf (w % 256 % 16) b) (next c t e .p)
+                  (binary (operatorIn (opAt (wordsOf code) i)) (go .run .left c t e .u) (next c t e .u)) (rightEnd (wordsOf code) i) to t (next c t e .rest) (worth-is c t e ∙ k .fails o n));
+            }
