@@ -1,0 +1,5 @@
+pub mod Rewriting
+pub mod Spellings
+pub mod Tables
+pub mod Unique
+pub mod Shields

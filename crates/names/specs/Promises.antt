@@ -1,0 +1,55 @@
+-- What the functions promise: every cell, and every byte, after the call.
+use mathlib.Core.Path.{_≡_}
+use mathlib.Core.Bool.{Bool}
+use mathlib.Core.List.{List, [], _∷_}
+use Prim.Native.Nat.{ℕ, _+_, _*_, _%_, _<_}
+use lib.ListN.{getD, set}
+use Rattle.laws.specs.Lists.{replaced}
+use Rattle.cells.specs.Words.{wordsOf, bytesOf, Put}
+use Rattle.code.specs.Cells.{headAt, valueAt, placeAt, linkAt}
+use Rattle.names.specs.Meanings.{firstMeaning, protectsCell}
+
+-- a store's 16,384 cells
+abbrev pub storeBytes : ℕ
+storeBytes = 65536
+
+abbrev pub numberLimit : ℕ
+numberLimit = 8192
+
+-- ---- cells
+-- A name's head has its number, and 8192 times its length above it, as its value.
+abbrev pub numberAt : (C : List ℕ) → ℕ → ℕ
+numberAt C i = valueAt C i % numberLimit
+
+abbrev pub meaningAt : (C X : List ℕ) → ℕ → ℕ
+meaningAt C X i = getD X (firstMeaning + numberAt C i) 0
+
+abbrev pub tailWith : (place link : ℕ) → ℕ
+tailWith place link = place + 65536 * link
+
+-- Word i has this head and this tail now, and every byte outside its two cells is as it was.
+pub record Rewritten (before after : List ℕ) (i head tail : ℕ) : Type 0 where
+  pub bytes : after ≡ replaced before (i * 8) (bytesOf (head ∷ tail ∷ [])) 8
+  pub words : wordsOf after ≡ set (set (wordsOf before) (i * 2) head) (i * 2 + 1) tail
+
+-- ---- promises
+abbrev pub Number : (code : List ℕ) (i r : ℕ) → Type 0
+Number code i r = r ≡ numberAt (wordsOf code) i
+
+abbrev pub Meant : (code values : List ℕ) (i r : ℕ) → Type 0
+Meant code values i r = r ≡ meaningAt (wordsOf code) (wordsOf values) i
+
+pub record Declared (code values : List ℕ) (i m : ℕ) (code′ values′ : List ℕ) : Type 0 where
+  -- what the name meant, and its number as the word's link
+  pub word : Rewritten code code′ i (meaningAt (wordsOf code) (wordsOf values) i) (tailWith (placeAt (wordsOf code) i) (numberAt (wordsOf code) i))
+  pub table : Put values values′ (firstMeaning + numberAt (wordsOf code) i) m
+
+-- the word's link is a name's number
+abbrev pub Links : (code : List ℕ) (i : ℕ) → Type 0
+Links code i = linkAt (wordsOf code) i < numberLimit
+
+abbrev pub Left : (code values : List ℕ) (i : ℕ) (values′ : List ℕ) → Type 0
+Left code values i values′ = Put values values′ (firstMeaning + linkAt (wordsOf code) i) (headAt (wordsOf code) i)
+
+abbrev pub Protects : (m : ℕ) → Bool → Type 0
+Protects m r = r ≡ protectsCell m

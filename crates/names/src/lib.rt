@@ -1,0 +1,85 @@
+// Names: all names of one spelling have one number, and a table in the value store says what each number means.
+ghost use mathlib.Core.Path.{_≡_};
+ghost use Prim.Native.Nat.{_+_, _*_, _<_, _≤_};
+ghost use lib.ListN.{length};
+ghost use Rattle.names.specs.Promises.{Number, Meant, Declared, Links, Left, Protects, storeBytes};
+
+// The table begins at this cell of the value store. The name with number n has cell MEANINGS + n.
+pub const MEANINGS: usize = 8192;
+
+// Numbers of names are below this.
+pub const NUMBERS: u32 = 8192;
+
+// A cell is an op, and a value above it; a tail is a place, and a link above it.
+pub const VALUE: u32 = 256;
+
+pub const LINK: u32 = 65536;
+
+// The ops of meanings. A bool has IS_BOOL more, a word of the routine OF_ROUTINE.
+pub const UNKNOWN: u32 = 0;
+
+// module data whose semicolon is still to come
+pub const TO_COME: u32 = 1;
+
+pub const VARIABLE: u32 = 4;
+
+pub const ARRAY: u32 = 8;
+
+pub const CONSTANT: u32 = 12;
+
+pub const LOOP: u32 = 16;
+
+pub const ROUTINE: u32 = 20;
+
+pub const ERRNO: u32 = 24;
+
+pub const ERROR_NUMBER: u32 = 28;
+
+pub const IS_BOOL: u32 = 2;
+
+pub const OF_ROUTINE: u32 = 1;
+
+// The number of the name at a word.
+pub fn number(code: &[u8], i: usize) -> usize
+    requires { ⌜ i * 8 + 8 ≤ length (now code) ⌝ }
+    ensures { λ r. ⌜ Number (now (code .entry)) i r ⌝ }
+{
+    (cells::get(code, i * 2) / VALUE % NUMBERS) as usize
+}
+
+// What the name at a word means.
+pub fn meaning<'a>(code: &'a [u8], values: &'a [u8], i: usize) -> u32
+    requires { ⌜ (i * 8 + 8 ≤ length (now code)) × (storeBytes ≤ length (now values)) ⌝ }
+    ensures { λ r. ⌜ Meant (now (code .entry)) (now (values .entry)) i r ⌝ }
+{
+    cells::get(values, MEANINGS + number(code, i))
+}
+
+// The name at a word means m from now on. What it meant is kept in the word's head, and its number in the word's link.
+pub fn declare(code: &mut [u8], values: &mut [u8], i: usize, m: u32)
+    requires { ⌜ (i * 8 + 8 ≤ length (now code)) × (storeBytes ≤ length (now values)) ⌝ }
+    ensures { λ _. ⌜ Declared (now (code .entry)) (now (values .entry)) i m (now (code .exit)) (now (values .exit)) ⌝ }
+{
+    let n = number(code, i);
+    let before = cells::get(values, MEANINGS + n);
+    let place = cells::get(code, i * 2 + 1) % LINK;
+    cells::put(code, i * 2, before);
+    cells::put(code, i * 2 + 1, place + LINK * (n as u32));
+    cells::put(values, MEANINGS + n, m);
+}
+
+// The name that a word declared means again what it meant before.
+pub fn leave(code: &[u8], values: &mut [u8], i: usize)
+    requires { ⌜ (i * 8 + 8 ≤ length (now code)) × (storeBytes ≤ length (now values)) × Links (now code) i ⌝ }
+    ensures { λ _. ⌜ Left (now (code .entry)) (now (values .entry)) i (now (values .exit)) ⌝ }
+{
+    let n = (cells::get(code, i * 2 + 1) / LINK) as usize;
+    cells::put(values, MEANINGS + n, cells::get(code, i * 2));
+}
+
+// A meaning is that of a protected name.
+pub fn is_protected(m: u32) -> bool
+    ensures { λ r. ⌜ Protects m r ⌝ }
+{
+    ERRNO <= m % VALUE
+}
