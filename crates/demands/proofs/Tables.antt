@@ -271,21 +271,22 @@ module _ (W : List Word) where
         and one-step W n N some-routine (l .closes) [] (l .closes) endList (h .closes) tt f nothing
 
   -- a routine's two lists, in one table
-  lists-fit : (n : ℕ) → 0 < n → (M : Memory) (S : Scopes) → ScopesIn n S → (k j : ℕ) (body : RoutineList) (o : Option RoutineList) (function : Bool) (words : List ℤ)
+  lists-fit : (n : ℕ) → 0 < n → (M : Memory) (S : Scopes) → ScopesIn n S → (k j : ℕ) (body : RoutineList) (o : Option RoutineList) (function : Bool) (words : List ℤ) (fors : ℕ)
       → SortsOfRoutineList (sortIn W) body → SortsOfHandler (sortIn W) o
       → CodeFits W n (record {
         function = function;
         words = words;
+        fors = fors;
         steps = listSteps W M S k body ++ elim o [ none ↦ [] | some l ↦ listSteps W M S j l ];
         start = firstStep W body;
         handler = elim o [ none ↦ none | some l ↦ some (firstStep W l) ];
       })
-  lists-fit n z M S c k j body none function words h g =
+  lists-fit n z M S c k j body none function words fors h g =
       let A = listSteps W M S k body in
       let N = Known (A ++ []) in
       let names = front-of A [] (names-known (A ++ [])) in
       record { start = first-step-named n N z M S c k body names; handler = λ i e. apart (cc); steps = routine-list-fits n N z M S c k body h names and nothing }
-  lists-fit n z M S c k j body (some l) function words h g =
+  lists-fit n z M S c k j body (some l) function words fors h g =
       let A = listSteps W M S k body in
       let B = listSteps W M S j l in
       let N = Known (A ++ B) in
@@ -299,7 +300,7 @@ module _ (W : List Word) where
 
   code-fits : (m : Module) (r : Routine) → 0 < length (m .routines) → SortsOfRoutine (sortIn W) r → CodeFits W (length (m .routines)) (codeOf W m r)
   unfolding codeOf
-  code-fits m r z h = lists-fit (length (m .routines)) z _ (routineScopes W m r) (scopes-in W m r) _ _ (r .body) (r .handler) _ _ (h .body) (h .handler)
+  code-fits m r z h = lists-fit (length (m .routines)) z _ (routineScopes W m r) (scopes-in W m r) _ _ (r .body) (r .handler) _ _ _ (h .body) (h .handler)
 
   codes-fit : (m : Module) (rs : List Routine) → 0 < length (m .routines) → All (SortsOfRoutine (sortIn W)) rs → All (CodeFits W (length (m .routines))) (map (codeOf W m) rs)
   codes-fit m [] z h = nothing
