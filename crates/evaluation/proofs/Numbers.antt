@@ -9,13 +9,14 @@ use lib.IntN.{ℤ, pos, negsuc, negℤ, natAbs, _-ℤ_, +ℤ-idl}
 use lib.Signed.{mag, ltZ, leZ, quotZ, remZ, mag-rem}
 use mir.Syntax.{w32, w64}
 use mir.Val.{SFits, toZ, ofZ}
+use mir.Facts.{toZ-ofZ}
 use borrow.Author.Tests.{eqb-true, eqb-false, eq-eqb, ne-eqb, lt-ltb, le-ltb, ltb-true, ltb-false, le-leb, lt-leb}
 use Rattle.laws.proofs.Tests.{test, by-same}
 use Rattle.paper.specs.Numbers as paper
 use Rattle.paper.specs.Numbers.{Value, value, error, isZero, same, num, overflow}
 use Rattle.paper.specs.Terms.{truth}
-use Rattle.numbers.proofs.Whole.{read, back, bits-same, mag-neg, quot-by-minus-one, rem-by-minus-one}
-use Rattle.numbers.proofs.Complement.{back32, widened}
+use Rattle.numbers.proofs.Whole.{read, bits-same, mag-neg, quot-by-minus-one, rem-by-minus-one}
+use Rattle.numbers.proofs.Complement.{widened}
 use Rattle.evaluation.specs.Answers.{firstError, decoded, Small, Gives}
 use Rattle.evaluation.specs.Parts.{outside, Divided}
 
@@ -53,11 +54,11 @@ truth-false b h = rw h
 module _ (z : ℤ) (s : SFits w64 z) where
   pub outside-low : ltZ (read z) (negsuc 8388606) ≡ true → true ≡ outside z
   unfolding outside num
-  outside-low h = let q : ltZ z (negsuc 8388606) ≡ true = rw (back z s) at h in rw (q, outside)
+  outside-low h = let q : ltZ z (negsuc 8388606) ≡ true = rw (toZ-ofZ s) at h in rw (q, outside)
 
   pub outside-high : ltZ (read z) (negsuc 8388606) ≡ false → ltZ (pos 8388608) (read z) ≡ outside z
   unfolding outside num
-  outside-high h = let q : ltZ z (negsuc 8388606) ≡ false = rw (back z s) at h in rw (q, outside) (rw (back z s))
+  outside-high h = let q : ltZ z (negsuc 8388606) ≡ false = rw (toZ-ofZ s) at h in rw (q, outside) (rw (toZ-ofZ s))
 
 module _ (z : ℤ) where
   pub ranged-inside : outside z ≡ false → paper.ranged num z ≡ value z
@@ -122,7 +123,7 @@ gives-same a s = record { is = refl; small = s }
 
 -- a test whether an answer is a value
 pub told : (a : ℤ) (t u : Bool) → SFits w64 a → t ≡ ltZ (read a) (pos firstError) → t ≡ u → ltZ a (pos firstError) ≡ u
-told a t u s e h = rw (back a s) at (sym e ∙ h)
+told a t u s e h = rw (toZ-ofZ s) at (sym e ∙ h)
 
 -- ---- quotients and remainders
 read32 : ℤ → ℤ
@@ -144,17 +145,17 @@ bits-not (pos n) s h = pos-of-ne-zero (λ e. h (eq-eqb n 0 e))
 bits-not (negsuc n) s h = omega (arith, s .sfits)
 
 pub narrowed : (a : ℤ) → SFits w64 a → SFits w32 a → SFits w32 (read a)
-narrowed a s f = rw (back a s) f
+narrowed a s f = rw (toZ-ofZ s) f
 
 pub divided-none : (b exact : ℤ) (t : Bool) → SFits w64 b → t ≡ isZero (read b) → t ≡ true → Divided b exact (pos 8388609)
 unfolding outside num
 divided-none b exact t s e h =
-    let q : isZero b ≡ true = rw (back b s) at (sym e ∙ h) in
+    let q : isZero b ≡ true = rw (toZ-ofZ s) at (sym e ∙ h) in
     record { none = λ k. refl; is = λ k. absurd (subst T (sym q ∙ k) tt) }
 
 module _ (a b : ℤ) (sa : SFits w64 a) (sb : SFits w64 b) (fa : SFits w32 a) (fb : SFits w32 b) (t : Bool) (e : t ≡ isZero (read b)) (h : t ≡ false) where
   not-zero : isZero b ≡ false
-  not-zero = rw (back b sb) at (sym e ∙ h)
+  not-zero = rw (toZ-ofZ sb) at (sym e ∙ h)
 
   divided : (exact z : ℤ) → z ≡ exact → Divided b exact z
   divided exact z q = record { none = λ k. absurd (subst T (sym k ∙ not-zero) tt); is = λ k. q }
@@ -163,7 +164,7 @@ module _ (a b : ℤ) (sa : SFits w64 a) (sb : SFits w64 b) (fa : SFits w32 a) (f
   minus-is k = bits-same b (negsuc 0) sb (record { sfits = omega arith }) k
 
   pub minus-fits : SFits w64 (pos 0 -ℤ read a)
-  minus-fits = rw (back a sa, +ℤ-idl (negℤ a)) (turned a fa)
+  minus-fits = rw (toZ-ofZ sa, +ℤ-idl (negℤ a)) (turned a fa)
     where
       turned : (a : ℤ) → SFits w32 a → SFits w64 (negℤ a)
       turned (pos zero) s = record { sfits = omega arith }
@@ -173,42 +174,42 @@ module _ (a b : ℤ) (sa : SFits w64 a) (sb : SFits w64 b) (fa : SFits w32 a) (f
   pub quot-minus : ofZ w64 b ≡ 18446744073709551615 → Divided b (quotZ a b) (read (pos 0 -ℤ read a))
   quot-minus k =
       divided (quotZ a b) (read (pos 0 -ℤ read a))
-      (back (pos 0 -ℤ read a) minus-fits ∙ +ℤ-idl (negℤ (read a)) ∙ ap negℤ (back a sa) ∙ sym (quot-by-minus-one a) ∙ ap (quotZ a) (sym (minus-is k)))
+      (toZ-ofZ minus-fits ∙ +ℤ-idl (negℤ (read a)) ∙ ap negℤ (toZ-ofZ sa) ∙ sym (quot-by-minus-one a) ∙ ap (quotZ a) (sym (minus-is k)))
 
   pub rem-minus : ofZ w64 b ≡ 18446744073709551615 → Divided b (remZ a b) (pos 0)
   rem-minus k = divided (remZ a b) (pos 0) (sym (rem-by-minus-one a) ∙ ap (remZ a) (sym (minus-is k)))
 
   module _ (k : ofZ w64 b ≡ 18446744073709551615 → ⊥) where
     back-a : toZ w32 (ofZ w32 (read a)) ≡ a
-    back-a = ap (λ (z : ℤ). toZ w32 (ofZ w32 z)) (back a sa) ∙ back32 a fa
+    back-a = ap (λ (z : ℤ). toZ w32 (ofZ w32 z)) (toZ-ofZ sa) ∙ toZ-ofZ fa
 
     back-b : toZ w32 (ofZ w32 (read b)) ≡ b
-    back-b = ap (λ (z : ℤ). toZ w32 (ofZ w32 z)) (back b sb) ∙ back32 b fb
+    back-b = ap (λ (z : ℤ). toZ w32 (ofZ w32 z)) (toZ-ofZ sb) ∙ toZ-ofZ fb
 
     quot-ok : SFits w32 (quotZ a b)
     quot-ok = quot-small a b fa (λ q. k (ap (ofZ w64) q))
 
     pub divisor-ok : (0 < ofZ w32 (read b)) × SFits w32 (quotZ (toZ w32 (ofZ w32 (read a))) (toZ w32 (ofZ w32 (read b))))
-    divisor-ok = (rw (back b sb) (bits-not b fb (λ q. absurd (subst T (sym q ∙ not-zero) tt))), rw (back-a, back-b) quot-ok)
+    divisor-ok = (rw (toZ-ofZ sb) (bits-not b fb (λ q. absurd (subst T (sym q ∙ not-zero) tt))), rw (back-a, back-b) quot-ok)
 
     pub quot-wide : SFits w64 (toZ w32 (ofZ w32 (quotZ (toZ w32 (ofZ w32 (read a))) (toZ w32 (ofZ w32 (read b))))))
-    quot-wide = rw (back-a, back-b, back32 (quotZ a b) quot-ok) (widened (quotZ a b) quot-ok)
+    quot-wide = rw (back-a, back-b, toZ-ofZ quot-ok) (widened (quotZ a b) quot-ok)
 
     pub rem-wide : SFits w64 (toZ w32 (ofZ w32 (remZ (toZ w32 (ofZ w32 (read a))) (toZ w32 (ofZ w32 (read b))))))
-    rem-wide = rw (back-a, back-b, back32 (remZ a b) (rem-small a b fa)) (widened (remZ a b) (rem-small a b fa))
+    rem-wide = rw (back-a, back-b, toZ-ofZ (rem-small a b fa)) (widened (remZ a b) (rem-small a b fa))
 
     pub quot-done : Divided b (quotZ a b) (read (toZ w32 (ofZ w32 (quotZ (toZ w32 (ofZ w32 (read a))) (toZ w32 (ofZ w32 (read b)))))))
     quot-done =
         divided (quotZ a b) (read (toZ w32 (ofZ w32 (quotZ (toZ w32 (ofZ w32 (read a))) (toZ w32 (ofZ w32 (read b)))))))
-        (back (toZ w32 (ofZ w32 (quotZ (toZ w32 (ofZ w32 (read a))) (toZ w32 (ofZ w32 (read b)))))) quot-wide
-        ∙ rw (back-a, back-b) (back32 (quotZ a b) quot-ok))
+        (toZ-ofZ quot-wide
+        ∙ rw (back-a, back-b) (toZ-ofZ quot-ok))
 
     pub rem-done : Divided b (remZ a b) (read (toZ w32 (ofZ w32 (remZ (toZ w32 (ofZ w32 (read a))) (toZ w32 (ofZ w32 (read b)))))))
     rem-done =
         divided (remZ a b) (read (toZ w32 (ofZ w32 (remZ (toZ w32 (ofZ w32 (read a))) (toZ w32 (ofZ w32 (read b)))))))
-        (back (toZ w32 (ofZ w32 (remZ (toZ w32 (ofZ w32 (read a))) (toZ w32 (ofZ w32 (read b)))))) rem-wide
-        ∙ rw (back-a, back-b) (back32 (remZ a b) (rem-small a b fa)))
+        (toZ-ofZ rem-wide
+        ∙ rw (back-a, back-b) (toZ-ofZ (rem-small a b fa)))
 
 -- a test whether a number is outside
 pub outside-is : (z : ℤ) (t u : Bool) → SFits w64 z → t ≡ outside (read z) → t ≡ u → outside z ≡ u
-outside-is z t u s e h = rw (back z s) at (sym e ∙ h)
+outside-is z t u s e h = rw (toZ-ofZ s) at (sym e ∙ h)

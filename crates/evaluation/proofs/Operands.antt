@@ -12,13 +12,14 @@ use lib.IntN.{ℤ, pos, negsuc, natAbs, _-ℤ_}
 use lib.Signed.{mag, ltZ, nonNeg}
 use mir.Syntax.{w32, w64}
 use mir.Val.{Fits, SFits, toZ, ofZ}
+use mir.Facts.{toZ-ofZ}
 use mir.ValLaws.{toZ-pos, toZ-fits}
 use borrow.Author.Tests.{eq-eqb, ne-eqb, ltb-true, ltb-false, le-leb, lt-leb}
 use Rattle.laws.proofs.Tests.{test, by-same, by-most}
 use Rattle.paper.specs.Numbers.{Value, value, error, outOfBound}
 use Rattle.paper.specs.Terms.{Memory, Ref, ofModule, ofRoutine, onward, Term, literal, errno, stored, elementAt, unary, applied, worth, load, Located, at, fails, locate, loadFrom}
 use Rattle.cells.specs.Words.{wordsOf}
-use Rattle.numbers.proofs.Whole.{read, back, minus-cases}
+use Rattle.numbers.proofs.Whole.{read, minus-cases}
 use Rattle.code.specs.Cells.{opIn, valueIn, errnoCell}
 use Rattle.code.specs.Spans.{aLiteral, aModuleWord, aCallWord, aModuleElement, aCallElement, aParenthesis, bias, firstIn, sizeIn, prefixIn, leafTerm, elementTerm, memoryIn}
 use Rattle.code.proofs.Options.{same-some}
@@ -29,7 +30,7 @@ use Rattle.evaluation.proofs.Numbers.{is-value, is-error, gives-value, 
 
 -- ---- a word
 pub loads : (k n : ℕ) → k < 4294967296 → k ≡ n → (z : ℤ) → SFits w64 z → z ≡ toZ w32 k → Loaded n (read z)
-loads k n h e z s q = rw (back z s) (record { is = q ∙ ap (toZ w32) e; small = rw q (toZ-fits w32 k (record { fits = h })) })
+loads k n h e z s q = rw (toZ-ofZ s) (record { is = q ∙ ap (toZ w32) e; small = rw q (toZ-fits w32 k (record { fits = h })) })
 
 map-at : (X : List ℕ) (k : ℕ) → getD (map (toZ w32) X) k (pos 0) ≡ toZ w32 (getD X k 0)
 map-at X k = List·getD-map (toZ w32) X k 0
@@ -100,7 +101,7 @@ module _ (values : List ℕ) (base : ℕ) (st : Stores values base) (op v : ℕ)
     pub read-literal : op ≡ 1 → Read values base op v (read (toZ w64 v -ℤ pos 8388607))
     unfolding worth
     read-literal h =
-        rw (back (toZ w64 v -ℤ pos 8388607) literal-fits, toZ-pos w64 v (omega (arith, lf .bits)))
+        rw (toZ-ofZ literal-fits, toZ-pos w64 v (omega (arith, lf .bits)))
         (record {
           is = λ c t e. let d : leafTerm (c .m) (c .n) aLiteral v ≡ some t = rw h at e in ap (worth (memoryOf c values base)) (sym (leaf-literal (c .m) (c .n) v t d));
           small = literal-small;
@@ -113,7 +114,7 @@ module _ (values : List ℕ) (base : ℕ) (st : Stores values base) (op v : ℕ)
 
         pub read-word : (z : ℤ) → SFits w64 z → Loaded (getD (wordsOf values) k 0) z → Read values base op v (read z)
         read-word z s l =
-            rw (back z s) (record {
+            rw (toZ-ofZ s) (record {
               is = λ c t d. stands-at c t h d .is ∙ ap (λ (j : ℕ). value (toZ w32 (getD (wordsOf values) j 0))) (sym e) ∙ ap value (sym (l .is));
               small = l .small;
             })
@@ -157,7 +158,7 @@ module _ (values : List ℕ) (base w : ℕ) (x : ℤ) (st : Stores values base) 
   unfolding loadFrom locate located
   index-error h =
       let q = is-error x (told x b false s eb h) in
-      rw (back x s) (answers x (decoded x) (gives-same x sm) (λ c t u k z d. q ∙ ap (located c) (sym q ∙ d)))
+      rw (toZ-ofZ s) (answers x (decoded x) (gives-same x sm) (λ c t u k z d. q ∙ ap (located c) (sym q ∙ d)))
 
   module _ (h : b ≡ true) where
     val : decoded x ≡ value x
@@ -170,15 +171,15 @@ module _ (values : List ℕ) (base w : ℕ) (x : ℤ) (st : Stores values base) 
     pub index-low : ltZ (read x) (pos 1) ≡ true → Indexed values base w x (pos 4294968299)
     unfolding loadFrom locate located
     index-low l =
-        let q : ltZ x (pos 1) ≡ true = rw (back x s) at l in
+        let q : ltZ x (pos 1) ≡ true = rw (toZ-ofZ s) at l in
         by-value (pos 4294968299) (error outOfBound) (gives-error outOfBound 4294968299 refl) (λ c t u k. rw (q, locate))
 
     module _ (l : ltZ (read x) (pos 1) ≡ false) (n : w < 4294967296) where
       low-is : ltZ x (pos 1) ≡ false
-      low-is = rw (back x s) at l
+      low-is = rw (toZ-ofZ s) at l
 
       high-is : (y : Bool) → ltZ (toZ w64 (w / 256 / 1024)) (read x) ≡ y → ltZ (pos (sizeIn (valueIn w))) x ≡ y
-      high-is y g = rw (toZ-pos w64 (w / 256 / 1024) (omega arith), back x s) at g
+      high-is y g = rw (toZ-pos w64 (w / 256 / 1024) (omega arith), toZ-ofZ s) at g
 
       pub index-high : ltZ (toZ w64 (w / 256 / 1024)) (read x) ≡ true → Indexed values base w x (pos 4294968299)
       unfolding loadFrom locate located
@@ -200,10 +201,10 @@ module _ (values : List ℕ) (base w : ℕ) (x : ℤ) (st : Stores values base) 
         within = within-of x refl low-is (high-is false g)
 
         abs-is : natAbs (read x) ≡ within .k
-        abs-is = ap natAbs (back x s ∙ within .is)
+        abs-is = ap natAbs (toZ-ofZ s ∙ within .is)
 
         pub index-cast : T (nonNeg (read x)) × Fits w64 (natAbs (read x))
-        index-cast = (rw (back x s) (rw (within .is) tt), record { fits = omega (arith, abs-is, within .high) })
+        index-cast = (rw (toZ-ofZ s) (rw (within .is) tt), record { fits = omega (arith, abs-is, within .high) })
 
         pub index-some : 1 ≤ natAbs (read x)
         index-some = omega (arith, abs-is, within .low)
@@ -220,9 +221,9 @@ module _ (values : List ℕ) (base w : ℕ) (x : ℤ) (st : Stores values base) 
           pub index-done : (z : ℤ) → SFits w64 z → Loaded (getD (wordsOf values) (p + (natAbs (read x) - 1)) 0) z → Indexed values base w x (read z)
           unfolding loadFrom locate located
           index-done z y ld =
-              rw (back z y) (by-value z (value z) (gives-value z (ld .small)) (λ c t u k.
+              rw (toZ-ofZ y) (by-value z (value z) (gives-value z (ld .small)) (λ c t u k.
               rw (low-is, locate) (rw (high-is false g)
-              (ap value (ld .is ∙ rw (q, back x s) (sym (load-at values base (opIn w) (valueIn w) (natAbs x - 1) c (rw (back x s) at (room-is c t u k)))))))))
+              (ap value (ld .is ∙ rw (q, toZ-ofZ s) (sym (load-at values base (opIn w) (valueIn w) (natAbs x - 1) c (rw (toZ-ofZ s) at (room-is c t u k)))))))))
 
 -- ---- operands of several words
 module _ (op at : ℕ) where
@@ -258,8 +259,8 @@ module _ (values : List ℕ) (base w : ℕ) (x : ℤ) (s : SFits w64 x) where
 
   pub closed-element : w % 256 ≤ 5 → (z : ℤ) → SFits w64 z → Indexed values base w (read x) z → Closed values base w x (read z)
   closed-element h z y i =
-      let j : Indexed values base w x z = rw (back x s) at i in
-      rw (back z y) (record { is = λ c t u k d. j .is c t u (element-is h c t u k) d; small = j .small })
+      let j : Indexed values base w x z = rw (toZ-ofZ s) at i in
+      rw (toZ-ofZ y) (record { is = λ c t u k d. j .is c t u (element-is h c t u k) d; small = j .small })
 
   worth-is : 5 < w % 256 → (c : Counts) (t u : Term) → closedTerm c (opIn w) (valueIn w) t ≡ some u
       → applied (prefixIn (opIn w)) (worth (memoryOf c values base) t) ≡ worth (memoryOf c values base) u
@@ -272,13 +273,13 @@ module _ (values : List ℕ) (base w : ℕ) (x : ℤ) (s : SFits w64 x) where
 
   pub closed-other : 5 < w % 256 → (z : ℤ) → SFits w64 z → Gives (applied (prefixIn (w % 256)) (decoded (read x))) z → Closed values base w x (read z)
   closed-other h z y g =
-      rw (back z y) (record {
-        is = λ c t u k d. g .is ∙ ap (λ (v : Value). applied (prefixIn (opIn w)) v) (ap decoded (back x s) ∙ d) ∙ worth-is h c t u k;
+      rw (toZ-ofZ y) (record {
+        is = λ c t u k d. g .is ∙ ap (λ (v : Value). applied (prefixIn (opIn w)) v) (ap decoded (toZ-ofZ s) ∙ d) ∙ worth-is h c t u k;
         small = g .small;
       })
 
 pub small-read : (a : ℤ) → SFits w64 a → Small a → Small (read a)
-small-read a s m = rw (back a s) m
+small-read a s m = rw (toZ-ofZ s) m
 
 pub small-leaf : {values : List ℕ} {base op v : ℕ} (z : ℤ) → SFits w64 z → Read values base op v z → Small (read z)
-small-leaf z s r = rw (back z s) (λ q. r .small)
+small-leaf z s r = rw (toZ-ofZ s) (λ q. r .small)

@@ -10,13 +10,14 @@ use lib.IntN.{ℤ, pos, negsuc, negℤ, natAbs, _+ℤ_, _-ℤ_, _*ℤ_, +ℤ-idl
 use lib.Signed.{mag, ltZ, leZ, quotZ, remZ, natAbs-le}
 use mir.Syntax.{w32, w64}
 use mir.Val.{SFits}
+use mir.Facts.{toZ-ofZ}
 use borrow.Author.Tests.{eq-eqb, ne-eqb, le-leb, lt-leb}
 use Rattle.laws.proofs.Tests.{test, by-less, by-last}
 use Rattle.paper.specs.Sorts.{AND, OR, XOR}
 use Rattle.paper.specs.Numbers as paper
 use Rattle.paper.specs.Numbers.{num, Value, value, error, add, subtract, multiply, divide, modulo, isZero, same, overflow, divZero}
 use Rattle.paper.specs.Terms.{truth, applied, known, combined, operated}
-use Rattle.numbers.proofs.Whole.{read, back, sub-cases, mag-abs, abs-neg, abs-mul, rem-is}
+use Rattle.numbers.proofs.Whole.{read, sub-cases, mag-abs, abs-neg, abs-mul, rem-is}
 use Rattle.code.specs.Spans.{operators, operatorOf, prefixIn, aNot, aMinus}
 use Rattle.evaluation.specs.Answers.{firstError, decoded, Small, Gives}
 use Rattle.evaluation.specs.Parts.{outside, joined, failureOf, firstLogic, Worked, Divided}
@@ -75,7 +76,7 @@ plain k p q =
 
 module _ (number : ℕ) (a : ℤ) (s : SFits w64 a) (t : Bool) (e : t ≡ isZero (read a)) where
   zero-is : t ≡ isZero a
-  zero-is = e ∙ ap isZero (back a s)
+  zero-is = e ∙ ap isZero (toZ-ofZ s)
 
   pub known-and : number ≡ 12 → t ≡ known (operatorOf number) (value a)
   unfolding known operatorOf operators
@@ -97,7 +98,7 @@ module _ (number : ℕ) (b : ℤ) where
 
   module _ (h : 3 ≤ number) (s : SFits w64 b) (t : Bool) (e : t ≡ isZero (read b)) where
     divisor-is : (u : Bool) → t ≡ u → isZero b ≡ u
-    divisor-is u q = rw (back b s) at (sym e ∙ q)
+    divisor-is u q = rw (toZ-ofZ s) at (sym e ∙ q)
 
     pub fails-zero : t ≡ true → Gives (error (failureOf number b)) (pos 4294968298)
     unfolding failureOf
@@ -122,13 +123,13 @@ wide z h = record { sfits = omega (arith, mag-abs z) }
 
 module _ (a b : ℤ) (sa : SFits w64 a) (sb : SFits w64 b) (fa : SFits w32 a) (fb : SFits w32 b) where
   pub sum-fits : SFits w64 (read a +ℤ read b)
-  sum-fits = rw (back a sa, back b sb) (wide (a +ℤ b) (omega (arith, sum-size a b, abs-size a fa, abs-size b fb)))
+  sum-fits = rw (toZ-ofZ sa, toZ-ofZ sb) (wide (a +ℤ b) (omega (arith, sum-size a b, abs-size a fa, abs-size b fb)))
 
   pub difference-fits : SFits w64 (read a -ℤ read b)
-  difference-fits = rw (back a sa, back b sb) (wide (a -ℤ b) (omega (arith, sum-size a (negℤ b), abs-neg b, abs-size a fa, abs-size b fb)))
+  difference-fits = rw (toZ-ofZ sa, toZ-ofZ sb) (wide (a -ℤ b) (omega (arith, sum-size a (negℤ b), abs-neg b, abs-size a fa, abs-size b fb)))
 
   pub product-fits : SFits w64 (read a *ℤ read b)
-  product-fits = rw (back a sa, back b sb) (wide (a *ℤ b) (let h = mul-le-mul (abs-size a fa) (abs-size b fb) in omega (arith, abs-mul a b)))
+  product-fits = rw (toZ-ofZ sa, toZ-ofZ sb) (wide (a *ℤ b) (let h = mul-le-mul (abs-size a fa) (abs-size b fb) in omega (arith, abs-mul a b)))
 
 -- a number that num holds or not
 held : (k : ℕ) (a b z : ℤ) → k < firstLogic → failureOf k b ≡ overflow → joined (operatorOf k) (value a) (value b) ≡ paper.ranged num z → Worked k a b z
@@ -176,53 +177,53 @@ module _ (number : ℕ) (a b : ℤ) (sa : SFits w64 a) (sb : SFits w64 b) (fa : 
   pub work-add : number ≡ 0 → Worked number a b (read (read a +ℤ read b))
   unfolding joined known combined operated add operatorOf operators failureOf
   work-add k =
-      worked-as number 0 a b (read (read a +ℤ read b)) (a +ℤ b) k (back (read a +ℤ read b) (sum-fits a b sa sb fa fb) ∙ ap₂ _+ℤ_ (back a sa) (back b sb))
+      worked-as number 0 a b (read (read a +ℤ read b)) (a +ℤ b) k (toZ-ofZ (sum-fits a b sa sb fa fb) ∙ ap₂ _+ℤ_ (toZ-ofZ sa) (toZ-ofZ sb))
       (held 0 a b (a +ℤ b) (omega arith) refl refl)
 
   pub work-subtract : number ≡ 1 → Worked number a b (read (read a -ℤ read b))
   unfolding joined known combined operated subtract operatorOf operators failureOf
   work-subtract k =
-      worked-as number 1 a b (read (read a -ℤ read b)) (a -ℤ b) k (back (read a -ℤ read b) (difference-fits a b sa sb fa fb) ∙ ap₂ _-ℤ_ (back a sa) (back b sb))
+      worked-as number 1 a b (read (read a -ℤ read b)) (a -ℤ b) k (toZ-ofZ (difference-fits a b sa sb fa fb) ∙ ap₂ _-ℤ_ (toZ-ofZ sa) (toZ-ofZ sb))
       (held 1 a b (a -ℤ b) (omega arith) refl refl)
 
   pub work-multiply : number ≡ 2 → Worked number a b (read (read a *ℤ read b))
   unfolding joined known combined operated multiply operatorOf operators failureOf
   work-multiply k =
-      worked-as number 2 a b (read (read a *ℤ read b)) (a *ℤ b) k (back (read a *ℤ read b) (product-fits a b sa sb fa fb) ∙ ap₂ _*ℤ_ (back a sa) (back b sb))
+      worked-as number 2 a b (read (read a *ℤ read b)) (a *ℤ b) k (toZ-ofZ (product-fits a b sa sb fa fb) ∙ ap₂ _*ℤ_ (toZ-ofZ sa) (toZ-ofZ sb))
       (held 2 a b (a *ℤ b) (omega arith) refl refl)
 
   module _ (z : ℤ) (s : SFits w64 z) where
     pub work-divide : number ≡ 3 → Divided (read b) (quotZ (read a) (read b)) z → Worked number a b (read z)
     unfolding joined known combined operated divide operatorOf operators
     work-divide k d =
-        worked-as number 3 a b (read z) z k (back z s)
-        (quotients 3 a b z (quotZ a b) (omega arith) (omega arith) (rw (back a sa, back b sb) at d) (λ t. rw (t, divide)) (λ t. rw (t, divide)))
+        worked-as number 3 a b (read z) z k (toZ-ofZ s)
+        (quotients 3 a b z (quotZ a b) (omega arith) (omega arith) (rw (toZ-ofZ sa, toZ-ofZ sb) at d) (λ t. rw (t, divide)) (λ t. rw (t, divide)))
 
     pub work-modulo : number ≡ 4 → Divided (read b) (remZ (read a) (read b)) z → Worked number a b (read z)
     unfolding joined known combined operated modulo operatorOf operators
     work-modulo k d =
-        worked-as number 4 a b (read z) z k (back z s)
-        (quotients 4 a b z (remZ a b) (omega arith) (omega arith) (rw (back a sa, back b sb) at d) (λ t. rw (t, modulo)) (λ t. rw (t, modulo) (ap (paper.ranged num) (rem-is a b))))
+        worked-as number 4 a b (read z) z k (toZ-ofZ s)
+        (quotients 4 a b z (remZ a b) (omega arith) (omega arith) (rw (toZ-ofZ sa, toZ-ofZ sb) at d) (λ t. rw (t, modulo)) (λ t. rw (t, modulo) (ap (paper.ranged num) (rem-is a b))))
 
     pub work-both : number ≡ 12 → Worked 12 (read a) (read b) z → Worked number a b (read z)
-    work-both k w = worked-as number 12 a b (read z) z k (back z s) (rw (back a sa, back b sb) at w)
+    work-both k w = worked-as number 12 a b (read z) z k (toZ-ofZ s) (rw (toZ-ofZ sa, toZ-ofZ sb) at w)
 
     pub work-either : number ≡ 13 → Worked 13 (read a) (read b) z → Worked number a b (read z)
-    work-either k w = worked-as number 13 a b (read z) z k (back z s) (rw (back a sa, back b sb) at w)
+    work-either k w = worked-as number 13 a b (read z) z k (toZ-ofZ s) (rw (toZ-ofZ sa, toZ-ofZ sb) at w)
 
     module _ (t : Bool) where
       -- what a comparison's function told, of a and b themselves
       less-is : t ≡ ltZ (read a) (read b) → t ≡ ltZ a b
-      less-is e = e ∙ rw (back a sa, back b sb)
+      less-is e = e ∙ rw (toZ-ofZ sa, toZ-ofZ sb)
 
       more-is : t ≡ ltZ (read b) (read a) → t ≡ ltZ b a
-      more-is e = e ∙ rw (back a sa, back b sb)
+      more-is e = e ∙ rw (toZ-ofZ sa, toZ-ofZ sb)
 
       same-is : t ≡ same (read a) (read b) → t ≡ same a b
-      same-is e = e ∙ rw (back a sa, back b sb)
+      same-is e = e ∙ rw (toZ-ofZ sa, toZ-ofZ sb)
 
       told-by : (k : ℕ) (u c : Bool) → number ≡ k → z ≡ truth u → u ≡ c → joined (operatorOf k) (value a) (value b) ≡ value (truth c) → Worked number a b (read z)
-      told-by k u c e q h j = worked-as number k a b (read z) (truth u) e (back z s ∙ q) (true-is k a b u (j ∙ ap (λ (x : Bool). value (truth x)) (sym h)))
+      told-by k u c e q h j = worked-as number k a b (read z) (truth u) e (toZ-ofZ s ∙ q) (true-is k a b u (j ∙ ap (λ (x : Bool). value (truth x)) (sym h)))
 
       pub work-less : number ≡ 5 → t ≡ ltZ (read a) (read b) → z ≡ truth t → Worked number a b (read z)
       unfolding joined known combined operated operatorOf operators
@@ -274,23 +275,23 @@ module _ (number : ℕ) (a b : ℤ) (sa : SFits w64 a) (sb : SFits w64 b) (fa : 
 -- ---- AND and OR
 module _ (a b : ℤ) (sa : SFits w64 a) (sb : SFits w64 b) (fa : SFits w32 a) (fb : SFits w32 b) (t : Bool) (e : t ≡ isZero (read a)) where
   left-is : (u : Bool) → t ≡ u → isZero a ≡ u
-  left-is u h = rw (back a sa) at (sym e ∙ h)
+  left-is u h = rw (toZ-ofZ sa) at (sym e ∙ h)
 
   pub both-left : t ≡ true → Worked 12 a b (read a)
   unfolding joined known combined operated operatorOf operators
-  both-left h = rw (back a sa) (side 12 a b a (omega arith) fa (rw (left-is true h, joined)))
+  both-left h = rw (toZ-ofZ sa) (side 12 a b a (omega arith) fa (rw (left-is true h, joined)))
 
   pub both-right : t ≡ false → Worked 12 a b (read b)
   unfolding joined known combined operated operatorOf operators
-  both-right h = rw (back b sb) (side 12 a b b (omega arith) fb (rw (left-is false h, joined)))
+  both-right h = rw (toZ-ofZ sb) (side 12 a b b (omega arith) fb (rw (left-is false h, joined)))
 
   pub either-right : t ≡ true → Worked 13 a b (read b)
   unfolding joined known combined operated operatorOf operators
-  either-right h = rw (back b sb) (side 13 a b b (omega arith) fb (rw (left-is true h, joined)))
+  either-right h = rw (toZ-ofZ sb) (side 13 a b b (omega arith) fb (rw (left-is true h, joined)))
 
   pub either-left : t ≡ false → Worked 13 a b (read a)
   unfolding joined known combined operated operatorOf operators
-  either-left h = rw (back a sa) (side 13 a b a (omega arith) fa (rw (left-is false h, joined)))
+  either-left h = rw (toZ-ofZ sa) (side 13 a b a (omega arith) fa (rw (left-is false h, joined)))
 
 -- ---- NOT and the signs
 module _ (op : ℕ) (a : ℤ) (sa : SFits w64 a) (sm : Small a) (t : Bool) (e : t ≡ ltZ (read a) (pos firstError)) where
@@ -304,18 +305,18 @@ module _ (op : ℕ) (a : ℤ) (sa : SFits w64 a) (sm : Small a) (t : Bool) (e : 
     pub apply-not : op ≡ 7 → (b : Bool) → b ≡ isZero (read a) → (z : ℤ) → SFits w64 z → z ≡ truth b → Gives (applied (prefixIn op) (decoded a)) (read z)
     unfolding applied prefixIn
     apply-not k b q z s r =
-        rw (back z s, r) (gives-as (value (truth b)) (applied (prefixIn op) (decoded a)) (truth b)
-        (rw (val, k) (ap (λ (c : Bool). value (truth c)) (rw (back a sa) at q))) (gives-value (truth b) (truth-small b)))
+        rw (toZ-ofZ s, r) (gives-as (value (truth b)) (applied (prefixIn op) (decoded a)) (truth b)
+        (rw (val, k) (ap (λ (c : Bool). value (truth c)) (rw (toZ-ofZ sa) at q))) (gives-value (truth b) (truth-small b)))
 
     negated : pos 0 -ℤ read a ≡ negℤ a
-    negated = +ℤ-idl (negℤ (read a)) ∙ ap negℤ (back a sa)
+    negated = +ℤ-idl (negℤ (read a)) ∙ ap negℤ (toZ-ofZ sa)
 
     pub negative-fits : SFits w64 (pos 0 -ℤ read a)
     negative-fits = rw negated (wide (negℤ a) (omega (arith, abs-neg a, abs-size a fit)))
 
     module _ (k : op ≡ 9) (b : Bool) (q : b ≡ outside (read (pos 0 -ℤ read a))) where
       minus-is : (u : Bool) → b ≡ u → outside (negℤ a) ≡ u
-      minus-is u r = sym (q ∙ ap outside (back (pos 0 -ℤ read a) negative-fits ∙ negated)) ∙ r
+      minus-is u r = sym (q ∙ ap outside (toZ-ofZ negative-fits ∙ negated)) ∙ r
 
       applies : applied (prefixIn op) (decoded a) ≡ paper.ranged num (negℤ a)
       unfolding applied prefixIn paper.minus
@@ -326,13 +327,13 @@ module _ (op : ℕ) (a : ℤ) (sa : SFits w64 a) (sm : Small a) (t : Bool) (e : 
 
       pub apply-minus : b ≡ false → Gives (applied (prefixIn op) (decoded a)) (read (pos 0 -ℤ read a))
       apply-minus r =
-          rw (back (pos 0 -ℤ read a) negative-fits, negated)
+          rw (toZ-ofZ negative-fits, negated)
           (gives-as (value (negℤ a)) (applied (prefixIn op) (decoded a)) (negℤ a) (sym (applies ∙ ranged-inside (negℤ a) (minus-is false r))) (gives-value (negℤ a) (inside-small (negℤ a) (minus-is false r))))
 
     pub apply-none : (op ≡ 7 → ⊥) → (op ≡ 9 → ⊥) → Gives (applied (prefixIn op) (decoded a)) (read a)
     unfolding applied prefixIn
-    apply-none p q = rw (back a sa) (rw val (rw (ne-eqb op 7 p, prefixIn) (rw (ne-eqb op 9 q) (gives-value a fit))))
+    apply-none p q = rw (toZ-ofZ sa) (rw val (rw (ne-eqb op 7 p, prefixIn) (rw (ne-eqb op 9 q) (gives-value a fit))))
 
   pub apply-error : t ≡ false → Gives (applied (prefixIn op) (decoded a)) (read a)
   unfolding applied
-  apply-error h = rw (back a sa) (gives-as (decoded a) (applied (prefixIn op) (decoded a)) a (rw (is-error a (told a t false sa e h))) (gives-same a sm))
+  apply-error h = rw (toZ-ofZ sa) (gives-as (decoded a) (applied (prefixIn op) (decoded a)) a (rw (is-error a (told a t false sa e h))) (gives-same a sm))

@@ -11,12 +11,13 @@ use lib.IntN.{ℤ, pos, natAbs}
 use lib.Signed.{ltZ}
 use mir.Syntax.{w32, w64}
 use mir.Val.{SFits, toZ, ofZ}
+use mir.Facts.{toZ-ofZ}
 use borrow.Author.Tests.{le-leb, lt-leb, eq-eqb, ne-eqb, not-true, not-false}
 use Rattle.laws.proofs.Tests.{test, by-same}
 use Rattle.paper.specs.Numbers.{Value, value, error}
 use Rattle.paper.specs.Terms.{Memory, Term, unary, binary, worth, known, combined}
 use Rattle.cells.specs.Words.{wordsOf}
-use Rattle.numbers.proofs.Whole.{read, back}
+use Rattle.numbers.proofs.Whole.{read}
 use Rattle.code.specs.Cells.{opIn, valueIn, headAt, opAt, valueAt, linkAt}
 use Rattle.code.specs.Spans.{aCallWord, aCallElement, aParenthesis, aSpan, numberIn, rightIn, operatorOf, operatorIn, prefixIn, leafTerm, operandTerm, rightEnd, rightTerm, chain, termIn}
 use Rattle.code.proofs.Options.{same-some}
@@ -52,10 +53,10 @@ pub subst₂ : (P : ℕ → ℕ → Type 0) {a b i j : ℕ} → a ≡ b → i �
 subst₂ P {a} {b} {i} {j} p q x = subst (P b) q (subst (λ (k : ℕ). P k i) p x)
 
 pub evaluated-read : (code values : List ℕ) (base from to : ℕ) (z : ℤ) → SFits w64 z → Evaluated code values base from to z → Evaluated code values base from to (read z)
-evaluated-read code values base from to z s e = rw (back z s) e
+evaluated-read code values base from to z s e = rw (toZ-ofZ s) e
 
 pub going-read : (code values : List ℕ) (base from to : ℕ) (z : ℤ) (i : ℕ) → SFits w64 z → Going code values base from to z i → Going code values base from to (read z) i
-going-read code values base from to z i s g = rw (back z s) g
+going-read code values base from to z i s g = rw (toZ-ofZ s) g
 
 -- an answer that was told to be a value
 pub goes-value : (code values : List ℕ) (base from to : ℕ) (a : ℤ) (i : ℕ) → Run code values base from to a i → ltZ a (pos firstError) ≡ true → Going code values base from to a i
@@ -145,7 +146,7 @@ module _ (code values : List ℕ) (base : ℕ) where
 
       pub start-leaf : w % 256 ≤ 3 → (z : ℤ) → SFits w64 z → Read values base (w % 256) (w / 256) z → Going code values base from to (read z) (from + 1)
       start-leaf h z s r =
-          rw (back z s) (record {
+          rw (toZ-ofZ s) (record {
             small = r .small;
             run = starts z (from + 1) (λ q. r .small) (λ c x e. let g = leaf-at h c x e in (is-value z (small-value z (r .small)) ∙ sym (r .is c (x .0) (g .0)), sym (g .1)));
           })
@@ -224,8 +225,8 @@ module _ (code values : List ℕ) (base : ℕ) where
         pub start-closed : (x : ℤ) → SFits w64 x → Evaluated code values base s l x → (z : ℤ) → SFits w64 z → Closed values base w (read x) z
             → Run code values base from to (read z) (endsAt (w % 256) l)
         start-closed x sx v z sz k =
-            let d : Closed values base w x z = rw (back x sx) at k in
-            rw (back z sz) (starts z (endsAt (w % 256) l) (d .small) (λ c y e.
+            let d : Closed values base w x z = rw (toZ-ofZ sx) at k in
+            rw (toZ-ofZ sz) (starts z (endsAt (w % 256) l) (d .small) (λ c y e.
             let g = enclosed c y e in
             (d .is c (g .t) (y .0) (g .is) (v .is c (g .t) (g .inside)), sym (g .end))))
 
@@ -289,7 +290,7 @@ module _ (code values : List ℕ) (base : ℕ) where
               → joined (operatorOf (w % 256 % 16)) (value a) (value b) ≡ joined (operatorOf (w % 256 % 16)) (value a) (worth (memoryOf c values base) u)
 
         pub sided-read : (b : ℤ) (r : ℕ) → SFits w64 b → Sided b r → Sided (read b) r
-        sided-read b r s d = rw (back b s) d
+        sided-read b r s d = rw (toZ-ofZ s) d
 
         -- a span
         module _ (k : w % 256 / 16 % 4 ≡ 0) (r : ℕ) (er : r ≡ linkAt (wordsOf code) i) where
