@@ -1,0 +1,10 @@
+pub mod Letters
+pub mod Hashing
+pub mod Protected
+pub mod Bounds
+pub mod Chains
+pub mod Filling
+pub mod Coming
+pub mod Progress
+pub mod Results
+pub mod Unique

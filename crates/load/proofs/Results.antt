@@ -1,0 +1,50 @@
+-- What later passes take from the loading.
+use mathlib.Core.Path.{_≡_, ap, _∙_}
+use mathlib.Core.Bool.{true}
+use mathlib.Core.List.{List}
+use Prim.Native.Nat.{ℕ, _+_, _*_, _/_, _%_, _<_, _≤_}
+use native.Mathlib.Omega.{arith}
+use lib.ListN.{length}
+use borrow.Author.Tests.{eq-eqb}
+use Rattle.cells.specs.Words.{wordsOf}
+use Rattle.paper.specs.Sorts.{NAME}
+use Rattle.paper.specs.Names.{nth, sortIn, spelled}
+use Rattle.code.specs.Cells.{opAt, headAt}
+use Rattle.names.specs.Numbers.{numberOf, IsName}
+use Rattle.names.specs.Meanings.{protectedCell, Means, noScopes}
+use Rattle.names.specs.Promises.{numberAt}
+use Rattle.names.proofs.Spellings.{name-inside, number-most}
+use Rattle.names.proofs.Shields.{means-first}
+use Rattle.load.specs.declared.Loaded.{Loaded}
+use Rattle.load.specs.Layout.{headValue, isFirst, firstCell, wordsIn}
+use Rattle.load.specs.Loads.{Loads}
+use Rattle.load.proofs.Bounds.{reading-good, reading-most}
+use Rattle.load.proofs.Chains.{true-first}
+
+module _ (text code values : List ℕ) (r : Loaded) (code′ values′ : List ℕ) (h : Loads text code values r code′ values′) where
+  pub loads-sorts : (i : ℕ) → i < length (wordsIn text) → opAt (wordsOf code′) i ≡ sortIn (wordsIn text) i
+  unfolding sortIn
+  loads-sorts i l = ap (λ (x : ℕ). x % 256) (h .heads i l) ∙ low (nth (wordsIn text) i .sort) (headValue (wordsIn text) i) (reading-good text i l .sizes .sorts)
+    where
+      low : (sort v : ℕ) → sort < 256 → (sort + 256 * v) % 256 ≡ sort
+      low sort v b = omega arith
+
+  pub loads-numbers : (i : ℕ) → IsName (wordsIn text) i → numberAt (wordsOf code′) i ≡ numberOf (wordsIn text) i
+  unfolding headValue
+  loads-numbers i n =
+      let l = name-inside (wordsIn text) i n in
+      let most : numberOf (wordsIn text) i < 8192 = omega (arith, number-most (wordsIn text) i n, l, reading-most text) in
+      ap (λ (x : ℕ). x / 256 % 8192) (h .heads i l)
+      ∙ rw (eq-eqb (sortIn (wordsIn text) i) NAME n) (value (sortIn (wordsIn text) i) (numberOf (wordsIn text) i) (length (nth (wordsIn text) i .covers)) (omega (arith, n)) most)
+    where
+      value : (sort number n : ℕ) → sort < 256 → number < 8192 → (sort + 256 * (number + 8192 * n)) / 256 % 8192 ≡ number
+      value sort number n a b =
+          let e : (sort + 256 * (number + 8192 * n)) / 256 ≡ number + 8192 * n = omega arith in
+          rw e (omega arith)
+
+  -- Before any declaration, the table says what the protected names mean.
+  pub loads-means : (routine : ℕ → ℕ) → Means routine (wordsIn text) noScopes (wordsOf values′)
+  unfolding firstCell
+  loads-means routine =
+      means-first routine (wordsIn text) (wordsOf values′)
+      (λ i n own. h .table i (omega (arith, name-inside (wordsIn text) i n, reading-most text)) ∙ rw (true-first (wordsIn text) i (record { name = n; own = own })))

@@ -1,0 +1,170 @@
+-- `load::load_name` meets its contract.
+use Rattle.load.proofs.Coming.{name-chain, goes-found, goes-new}
+use borrow.Author.Needs.{needs}
+use Rattle.load.proofs.load_name.Statement.{statement}
+use Rattle.load.proofs.load_name.Tie as tie
+
+add-end : tie.Need-add-end
+add-end c = search needs
+
+sub-hash : tie.Need-sub-hash
+sub-hash c = search needs
+
+part-hash-start : tie.Need-part-hash-start
+part-hash-start c = search needs
+
+part-hash-end : tie.Need-part-hash-end
+part-hash-end c = search needs
+
+hash-requires : tie.Need-hash-requires
+hash-requires c κs = search needs
+
+add-bucket : tie.Need-add-bucket
+add-bucket c = search needs
+
+get-requires : tie.Need-get-requires
+get-requires c κs = search needs
+
+cast-first : tie.Need-cast-first
+cast-first c = search needs
+
+sub-find : tie.Need-sub-find
+sub-find c = search needs
+
+part-find-start : tie.Need-part-find-start
+part-find-start c = search needs
+
+part-find-end : tie.Need-part-find-end
+part-find-end c = search needs
+
+find-requires : tie.Need-find-requires
+find-requires c κs = search (needs, name-chain)
+
+sub-put-cells : tie.Need-sub-put-cells
+sub-put-cells c = search needs
+
+mul-put-cells : tie.Need-mul-put-cells
+mul-put-cells c = search needs
+
+add-put-cells : tie.Need-add-put-cells
+add-put-cells c = search needs
+
+cast-put-cells : tie.Need-cast-put-cells
+cast-put-cells c = search needs
+
+mul-put-cells-2 : tie.Need-mul-put-cells-2
+mul-put-cells-2 c = search needs
+
+add-put-cells-2 : tie.Need-add-put-cells-2
+add-put-cells-2 c = search needs
+
+put-cells-requires : tie.Need-put-cells-requires
+put-cells-requires c κs = search needs
+
+same-length : tie.Need-same-length
+same-length c = search needs
+
+same-length-2 : tie.Need-same-length-2
+same-length-2 c = search needs
+
+returns : tie.Need-returns
+returns c = search (needs, goes-found)
+
+sub-protected : tie.Need-sub-protected
+sub-protected c = search needs
+
+part-protected-start : tie.Need-part-protected-start
+part-protected-start c = search needs
+
+part-protected-end : tie.Need-part-protected-end
+part-protected-end c = search needs
+
+protected-requires : tie.Need-protected-requires
+protected-requires c κs = search needs
+
+mul-put-cells-3 : tie.Need-mul-put-cells-3
+mul-put-cells-3 c = search needs
+
+add-put-cells-3 : tie.Need-add-put-cells-3
+add-put-cells-3 c = search needs
+
+cast-put-cells-2 : tie.Need-cast-put-cells-2
+cast-put-cells-2 c = search needs
+
+mul-put-cells-4 : tie.Need-mul-put-cells-4
+mul-put-cells-4 c = search needs
+
+add-put-cells-4 : tie.Need-add-put-cells-4
+add-put-cells-4 c = search needs
+
+put-cells-requires-2 : tie.Need-put-cells-requires-2
+put-cells-requires-2 c κs = search needs
+
+add-put : tie.Need-add-put
+add-put c = search needs
+
+cast-put : tie.Need-cast-put
+cast-put c = search needs
+
+put-requires : tie.Need-put-requires
+put-requires c κs = search needs
+
+add-put-2 : tie.Need-add-put-2
+add-put-2 c = search needs
+
+put-requires-2 : tie.Need-put-requires-2
+put-requires-2 c κs = search needs
+
+same-length-3 : tie.Need-same-length-3
+same-length-3 c = search needs
+
+same-length-4 : tie.Need-same-length-4
+same-length-4 c = search needs
+
+returns-2 : tie.Need-returns-2
+returns-2 c = search (needs, goes-new)
+
+pub load-name-spec : {M : Type 1} → statement M
+load-name-spec =
+    tie.close
+    (tie.spec
+    add-end
+    sub-hash
+    part-hash-start
+    part-hash-end
+    hash-requires
+    add-bucket
+    get-requires
+    cast-first
+    sub-find
+    part-find-start
+    part-find-end
+    find-requires
+    sub-put-cells
+    mul-put-cells
+    add-put-cells
+    cast-put-cells
+    mul-put-cells-2
+    add-put-cells-2
+    put-cells-requires
+    same-length
+    same-length-2
+    returns
+    sub-protected
+    part-protected-start
+    part-protected-end
+    protected-requires
+    mul-put-cells-3
+    add-put-cells-3
+    cast-put-cells-2
+    mul-put-cells-4
+    add-put-cells-4
+    put-cells-requires-2
+    add-put
+    cast-put
+    put-requires
+    add-put-2
+    put-requires-2
+    same-length-3
+    same-length-4
+    returns-2)

@@ -1,0 +1,3 @@
+pub mod Hash
+pub mod Layout
+pub mod Loads

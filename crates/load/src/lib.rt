@@ -1,0 +1,140 @@
+// The checker's first pass: the words of a text go into the code store, two cells each, and names get their numbers.
+mod spelling;
+
+use names::LINK;
+use names::MEANINGS;
+use names::VALUE;
+use spelling::hash;
+use spelling::protected;
+use spelling::same;
+use words::Cursor;
+use words::Step;
+use words::Word;
+ghost use mathlib.Core.Path.{_≡_};
+ghost use Prim.Native.Nat.{_+_, _*_, _<_, _≤_};
+ghost use lib.ListN.{length};
+ghost use Rattle.names.specs.Promises.{storeBytes, tailWith, Rewritten};
+ghost use Rattle.load.specs.Layout.{Chain, Finds, Loading, NameComes, Comes, Goes, Valued, valueOf};
+ghost use Rattle.load.specs.Loads.{Ready, Loads};
+
+// Chains of names that have one hash begin in the cells of the value store from here on, as many as there are hashes.
+const FIRST_BUCKET: usize = 4096;
+
+const BUCKETS: usize = 2048;
+
+// A name's head has its number below this, and its length above.
+const LENGTHS: usize = 8192;
+
+// Makes a word's two cells be its head, and its place and link.
+fn put_cells(code: &mut [u8], i: usize, head: u32, place: usize, link: usize)
+    requires { ⌜ (i * 8 + 8 ≤ length (now code)) × (place < 65536) × (link < 65536) ⌝ }
+    ensures { λ _. ⌜ Rewritten (now (code .entry)) (now (code .exit)) i head (tailWith place link) ⌝ }
+{
+    cells::put(code, i * 2, head);
+    cells::put(code, i * 2 + 1, (place + 65536 * link) as u32);
+}
+
+// The first name with a text in the chain that begins as given: its index and 1, or 0 where there is none.
+fn find<'a>(text: &'a [u8], code: &'a [u8], name: &'a [u8], first: usize) -> usize
+    requires { ⌜ Chain (now text) (now code) (now name) first ⌝ }
+    ensures { λ r. ⌜ Finds (now (text .entry)) (now (name .entry)) first r ⌝ }
+{
+    let mut j = first;
+    while j != 0 {
+        let i = j - 1;
+        let tail = cells::get(code, i * 2 + 1);
+        let place = (tail % LINK) as usize;
+        let end = place + (cells::get(code, i * 2) / VALUE) as usize / LENGTHS;
+        if same(&text[place..end], name) {
+            return j;
+        }
+        j = (tail / LINK) as usize;
+    }
+    0
+}
+
+// A name: it gets the number of the first name of its spelling. A new name has its own, begins its chain, and has what it means if it is protected.
+fn load_name(text: &[u8], code: &mut [u8], values: &mut [u8], i: usize, place: usize, length: usize)
+    requires { ⌜ Loading (now text) i (now code) (now values) × NameComes (now text) i place length ⌝ }
+    ensures { λ _. ⌜ Goes (now (text .entry)) i (now (code .entry)) (now (values .entry)) (now (code .exit)) (now (values .exit)) ⌝ }
+{
+    let end = place + length;
+    let bucket = FIRST_BUCKET + hash(&text[place..end]);
+    let first = cells::get(values, bucket) as usize;
+    let found = find(text, code, &text[place..end], first);
+    if found != 0 {
+        put_cells(
+            code,
+            i,
+            sorts::NAME + VALUE * ((found - 1 + LENGTHS * length) as u32),
+            place,
+            0,
+        );
+        return;
+    }
+    let meaning = protected(&text[place..end]);
+    put_cells(
+        code,
+        i,
+        sorts::NAME + VALUE * ((i + LENGTHS * length) as u32),
+        place,
+        first,
+    );
+    cells::put(values, bucket, (i + 1) as u32);
+    cells::put(values, MEANINGS + i, meaning);
+}
+
+// The value of a word that is no name.
+fn value_of(w: Word) -> u32
+    requires { ⌜ Valued w ⌝ }
+    ensures { λ r. ⌜ (r ≡ valueOf w) × (r < 16777216) ⌝ }
+{
+    if w.sort == sorts::STRING {
+        return w.length as u32;
+    }
+    w.value as u32
+}
+
+// The next word.
+fn load_word(text: &[u8], code: &mut [u8], values: &mut [u8], i: usize, w: Word)
+    requires { ⌜ Loading (now text) i (now code) (now values) × Comes (now text) i w ⌝ }
+    ensures { λ _. ⌜ Goes (now (text .entry)) i (now (code .entry)) (now (values .entry)) (now (code .exit)) (now (values .exit)) ⌝ }
+{
+    if w.sort == sorts::NAME {
+        load_name(text, code, values, i, w.place, w.length);
+        return;
+    }
+    put_cells(code, i, w.sort + VALUE * value_of(w), w.place, 0);
+}
+
+pub enum Loaded {
+    // how many words there are
+    Words(usize),
+    // a refusal's number and its place
+    Refused(u32, usize),
+}
+
+// Loads a text's words. The value store's cells are 0 before.
+pub fn load(text: &[u8], code: &mut [u8], values: &mut [u8]) -> Loaded
+    requires { ⌜ Ready (now code) (now values) ⌝ }
+    ensures { λ r. ⌜ Loads (now (text .entry)) (now (code .entry)) (now (values .entry)) r (now (code .exit)) (now (values .exit)) ⌝ }
+{
+    let mut c = Cursor::start();
+    loop {
+        let words = c.words as usize;
+        match c.step(text) {
+            Step::Word(word, next) => {
+                load_word(text, code, values, words, word);
+                c = next;
+            }
+            Step::End => {
+                cells::clear(values, FIRST_BUCKET, BUCKETS);
+                return Loaded::Words(words);
+            }
+            Step::Refused(number, place) => {
+                cells::clear(values, FIRST_BUCKET, BUCKETS);
+                return Loaded::Refused(number, place);
+            }
+        }
+    }
+}
