@@ -342,15 +342,15 @@ module _ (W : List Word) where
       cases-ranked (case es b r) S n h = case-ranked S M es (h .0) and list-ranked b S n (h .1) and cases-ranked r S _ (h .2)
 
   -- ---- routines and the module
-  handler-ranked : (K : Setting) (M : Memory) (S : Scopes) (n : ℕ) (o : Option RoutineList) → SortsOfHandler (sortIn W) o → Ranked W (handlerFaults W K M S n o)
+  handler-ranked : (K : Setting) (M : Memory) (S : Scopes) (n : ℕ) (o : Option RoutineList) (function : Bool) → SortsOfHandler (sortIn W) function o → Ranked W (handlerFaults W K M S n o)
   unfolding handlerFaults
-  handler-ranked K M S n none h = nothing
-  handler-ranked K M S n (some l) h = list-ranked K M (l .statements) S n (h .statements)
+  handler-ranked K M S n none f h = nothing
+  handler-ranked K M S n (some l) f h = list-ranked K M (l .statements) S n (h .statements)
 
   routine-faults-ranked : (m : Module) (sigs : List Signature) (k : ℕ) (r : Routine) → SortsOfRoutine (sortIn W) r → Ranked W (routineFaults W m sigs k r)
   unfolding routineFaults
   routine-faults-ranked m sigs k r h =
-      routine-ranked m r h and list-ranked _ _ (r .body .statements) _ _ (h .body .statements) and handler-ranked _ _ _ _ (r .handler) (h .handler)
+      routine-ranked m r h and list-ranked _ _ (r .body .statements) _ _ (h .body .statements) and handler-ranked _ _ _ _ (r .handler) _ (h .handler)
 
   all-routines-ranked : (m : Module) (sigs : List Signature) (k : ℕ) (rs : List Routine) → All (SortsOfRoutine (sortIn W)) rs → Ranked W (allRoutineFaults W m sigs k rs)
   unfolding allRoutineFaults

@@ -104,10 +104,10 @@ module _ (P : Program) (R : Rooms) where
       taken none = stops true 3 place (omega arith) (omega arith) (later-errno R s s′ 1 e cs k l)
       taken (some cs′) = goes (later-calls R s _ 1 cs′ (later-errno R s s′ 1 e cs k l))
 
-  own-ending : (a : Action) (s : State) (n place : ℕ) → OwnEnding a n → Came R s (stopping true n place (counted s))
-  own-ending a s n place returned = stops true 1 place (omega arith) (omega arith) (later-counted R s s (later-same R s))
-  own-ending a s n place (exited e) = stops true 2 place (omega arith) (omega arith) (later-counted R s s (later-same R s))
-  own-ending a s n place (unreturned e) = stops true 4 place (omega arith) (omega arith) (later-counted R s s (later-same R s))
+  own-ending : (function : Bool) (a : Action) (s : State) (n place : ℕ) → OwnEnding function a n → Came R s (stopping true n place (counted s))
+  own-ending f a s n place returned = stops true 1 place (omega arith) (omega arith) (later-counted R s s (later-same R s))
+  own-ending f a s n place (exited e) = stops true 2 place (omega arith) (omega arith) (later-counted R s s (later-same R s))
+  own-ending f a s n place (unreturned t e) = stops true 4 place (omega arith) (omega arith) (later-counted R s s (later-same R s))
 
   lacking-ending : (a : Action) (s : State) (place n at′ : ℕ) → Lacking a place n at′ → Came R s (stopping false n at′ s)
   lacking-ending a s place n at′ (no-depth callee k) = stops false 6 callee (omega arith) (omega arith) (later-same R s)
@@ -120,7 +120,7 @@ module _ (P : Program) (R : Rooms) where
   came-settled c r a place onward s e (fails-with {s′ = s′} n k live h) =
       came-arising n place (s′ .calls) s _ (λ g. latest k) (later-counted R s s′ (later-changed R s s′ h))
   came-settled c r a place onward s e (hands-on k) = came-arising (s .errno) place r s _ (λ g. g) (later-counted R s s (later-same R s))
-  came-settled c r a place onward s e (ends n k) = own-ending a s n place k
+  came-settled c r a place onward s e (ends n k) = own-ending _ a s n place k
   came-settled c r a place onward s e (lacks n at′ k) = lacking-ending a s place n at′ k
 
   pub came : (s : State) → Came R s (takeStep P R s)

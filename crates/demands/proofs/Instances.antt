@@ -24,7 +24,7 @@ use Rattle.demands.specs.Demands.{MoreRoom, told, NeverChanged, Demand3}
 
 -- ---- Demand 1: each ending of the table, 0 to 8.
 -- A text with the smallest stores.
-pub lent : List ℕ → (steps depth : ℕ) → (inputs : List ℤ) → (room : ℕ) → Lent
+unfoldable pub lent : List ℕ → (steps depth : ℕ) → (inputs : List ℤ) → (room : ℕ) → Lent
 lent text steps depth inputs room =
     record { text = text; steps = steps; depth = depth; inputs = inputs; output = replicate room 0; code = replicate storeWords (pos 0); values = replicate storeWords (pos 0) }
 

@@ -19,3 +19,4 @@ pub mod Memory
 pub mod Bytes
 pub mod Pendant
 pub mod Instances
+pub mod Fakes

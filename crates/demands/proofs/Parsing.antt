@@ -13,6 +13,7 @@ use Rattle.paper.specs.Trees.{variableData, initialData, arrayData, constantDat
 use Rattle.paper.specs.Expressions.{Parsed, Parser, got, no, _>>=_, parts, nestings, sums, relations, disjunctions, levelOf, standsBefore, isLiteral, isType, startsData, startsRoutine, startsStatement, expect, expectType, inParentheses, indexed, named, operand, chain, prefixed, level, exprIn, expr, unless, separated, repeated, exprs, arguments}
 use Rattle.paper.specs.Statements.{targetIndex, target, valueSide, callSide, rightSide, assignment, procedureCall, startedByName, withOptional, written, tpWrite, tpReadNum, simpleWord, simpleStatement, elsePart, lastArm, arms, ifThen, ifSimple, ifStatement, stepPart, forStatement, whileStatement, defaultPart, lastCase, cases, testStatement, opening, plainStatement, statement, statements, listIn, list}
 use Rattle.paper.specs.Form.{initialPart, sizePart, varPart, constPart, datum, declaration, declarations, parameter, parameters, errorPart, routineFrom, function, routine, routines, formed}
+use Rattle.paper.specs.Checks.{isSome}
 use Rattle.demands.proofs.Choices.{chosen, forked, chosen-by, forked-by}
 use Rattle.demands.specs.Vocabulary.{All, nothing, _also_, Closes, by-error, by-endproc, by-endfunc}
 
@@ -220,13 +221,13 @@ module _ (W : ℕ → ℕ) where
     SortsOfCases noCase = Unit
     SortsOfCases (case cs b r) = All (ExprIn W) cs × SortsOfList b × SortsOfCases r
 
-  pub record SortsOfRoutineList (l : RoutineList) : Type 0 where
+  pub record SortsOfRoutineList (function : Bool) (l : RoutineList) : Type 0 where
     pub statements : SortsOfList (l .statements)
-    pub closes : Closes (W (l .closes))
+    pub closes : Closes (W (l .closes)) function
 
-  abbrev pub SortsOfHandler : Option RoutineList → Type 0
-  SortsOfHandler none = Unit
-  SortsOfHandler (some l) = SortsOfRoutineList l
+  abbrev pub SortsOfHandler : (function : Bool) → Option RoutineList → Type 0
+  SortsOfHandler function none = Unit
+  SortsOfHandler function (some l) = SortsOfRoutineList function l
 
   -- data and parameters
   abbrev pub ContentIn : Content → Type 0
@@ -246,8 +247,8 @@ module _ (W : ℕ → ℕ) where
     pub name : Is W (r .name)
     pub parameters : All ParameterIn (r .parameters)
     pub declared : All DeclaredIn (r .declared)
-    pub body : SortsOfRoutineList (r .body)
-    pub handler : SortsOfHandler (r .handler)
+    pub body : SortsOfRoutineList (isSome (r .result)) (r .body)
+    pub handler : SortsOfHandler (isSome (r .result)) (r .handler)
 
 -- a test of two
 both-first : (a b : Bool) → (a && b) ≡ true → a ≡ true
@@ -549,17 +550,17 @@ module _ (W : ℕ → ℕ) where
       (λ t. then-reads W (λ x. SortsOfList W (x .0)) _ _ _ (list-reads (at + 1)) (λ ss k. (eqb-true _ _ t, k, refl)))
       (λ t. refl)
 
-  closed : (ss : Statements) (n : ℕ) (x : Option RoutineList × ℕ) (r : Routine) → SortsOfList W ss → ErrorPart n x → Closes (W (x .1))
+  closed : (ss : Statements) (n : ℕ) (x : Option RoutineList × ℕ) (r : Routine) → SortsOfList W ss → ErrorPart n x → Closes (W (x .1)) (isSome (r .result))
       → r .body ≡ record { statements = ss; closes = n } → r .handler ≡ x .0 → Is W (r .name) → All (ParameterIn W) (r .parameters) → All (DeclaredIn W) (r .declared)
       → SortsOfRoutine W r
   closed ss n x r k e c b h i ps ds = by-handler (x .0) (x .1) e c h
     where
-      by-handler : (o : Option RoutineList) (m : ℕ) → ErrorPart n (o, m) → Closes (W m) → r .handler ≡ o → SortsOfRoutine W r
+      by-handler : (o : Option RoutineList) (m : ℕ) → ErrorPart n (o, m) → Closes (W m) (isSome (r .result)) → r .handler ≡ o → SortsOfRoutine W r
       by-handler none m e c h = record { name = i; parameters = ps; declared = ds; body = rw b (record { statements = k; closes = rw e at c }); handler = rw h tt }
       by-handler (some l) m e c h =
           record { name = i; parameters = ps; declared = ds; body = rw b (record { statements = k; closes = by-error (e .0) }); handler = rw h (record { statements = e .1; closes = rw (e .2) c }) }
 
-  routine-from-reads : (result : Option ℕ) (closing at : ℕ) → Closes closing → Reads W (λ x. SortsOfRoutine W (x .0)) (routineFrom W result closing at)
+  routine-from-reads : (result : Option ℕ) (closing at : ℕ) → Closes closing (isSome result) → Reads W (λ x. SortsOfRoutine W (x .0)) (routineFrom W result closing at)
   unfolding routineFrom
   routine-from-reads result closing at c =
       then-reads W _ _ _ _ (expect-reads W NAME at) (λ n₁ i.
@@ -572,11 +573,11 @@ module _ (W : ℕ → ℕ) where
       then-reads W _ _ _ _ (expect-reads W closing (h .1)) (λ n₈ q. closed (ss .0) (ss .1) h _ k e (rw q c) refl refl (is-by W at 0 i) hp hd))))))))
 
   function-reads : (at : ℕ) → Reads W (λ x. SortsOfRoutine W (x .0)) (function W at)
-  unfolding function
+  unfolding function isSome
   function-reads at = then-reads W (λ n. n ≡ at + 1) _ _ _ (type-reads W at) (λ n _. routine-from-reads (some (W at)) ENDFUNC n (by-endfunc refl))
 
   routine-reads : (at : ℕ) → Reads W (λ x. SortsOfRoutine W (x .0)) (routine W at)
-  unfolding routine
+  unfolding routine isSome
   routine-reads at =
       chosen (Reads W (λ x. SortsOfRoutine W (x .0))) (eqb (W at) PROC) _ _ (routine-from-reads none ENDPROC (at + 1) (by-endproc refl)) (function-reads (at + 1))
 

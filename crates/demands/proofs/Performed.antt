@@ -15,7 +15,7 @@ use Rattle.paper.specs.Terms.{Term, Memory, Located, at, fails, locate, worth}
 use Rattle.paper.specs.Steps.{Spot, scalar, elementOf, Action, store, callFor, callOf, giveBack, raise, handOn, exit, retry, tryNext, write, read, choose, select, testWhile, enterFor, repeatFor, endList, Program}
 use Rattle.paper.specs.States.{Loop, Location, moduleWord, callWord, Call, State, Rooms, Effect, made, failing, handing, ending, lacking, withValue, withSpot, withValues, withCalls, withWords, withOutput, withInput, locationOf, onTop, onDepth, goTo, setWord, setLoop, setFailed, storeAt}
 use Rattle.paper.specs.Running.{newCall, calling, storeResult, returning, retrying, tryingNext, adding, taking, writing, readNum, choosing, holds, matching, looping, passes, withStep, entering, repeating, ending-list, perform, codeAt, stepOf}
-use Rattle.demands.proofs.Choices.{chosen, forked}
+use Rattle.demands.proofs.Choices.{chosen, chosen-by, forked}
 use Rattle.demands.proofs.Errors.{Sound, SoundPlace, locate-sound, worth-sound, ranged-sound, raised-number}
 use Rattle.demands.specs.Vocabulary.{ErrorNumber, bare, CallsRoutine, for-result, for-nothing, Among, here, there, waysOf, GoesOn, CallsAfter, goes-on, begins, returns, retries, tries-next}
 
@@ -27,11 +27,11 @@ pub data Changed (R : Rooms) (s : State) : State → Type 0 where
   with-line : {s′ : State} (line : List ℕ) → length (s′ .output) + length line ≤ R .output → Changed R s s′ → Changed R s (withOutput (s′ .output ++ line) s′)
   with-input : {s′ : State} → s′ .used < length (R .inputs) → Changed R s s′ → Changed R s (withInput s′)
 
--- The endings of a step that is made: 1, 2 and 4.
-pub data OwnEnding (a : Action) : ℕ → Type 0 where
-  returned : OwnEnding a 1
-  exited : a ≡ exit → OwnEnding a 2
-  unreturned : a ≡ endList → OwnEnding a 4
+-- The endings of a step that is made, of a function or a procedure: 1, 2 and 4.
+pub data OwnEnding (function : Bool) (a : Action) : ℕ → Type 0 where
+  returned : OwnEnding function a 1
+  exited : a ≡ exit → OwnEnding function a 2
+  unreturned : function ≡ true → a ≡ endList → OwnEnding function a 4
 
 -- The callee's word of a call statement.
 pub data Callee (callee : ℕ) : Action → Type 0 where
@@ -54,7 +54,7 @@ pub data Performed (P : Program) (R : Rooms) (c : Call) (r : List Call) (place o
   makes : {s′ : State} → Changed R s s′ → CallsAfter P c r onward a (s′ .calls) → Performed P R c r place onward a s (made s′)
   fails-with : {s′ : State} (e : ℕ) → ErrorNumber e → s′ .calls ≡ s .calls → Changed R s s′ → Performed P R c r place onward a s (failing e s′)
   hands-on : a ≡ handOn → Performed P R c r place onward a s (handing s)
-  ends : (n : ℕ) → OwnEnding a n → Performed P R c r place onward a s (ending n s)
+  ends : (n : ℕ) → OwnEnding (codeAt P (c .routine) .function) a n → Performed P R c r place onward a s (ending n s)
   lacks : (n at′ : ℕ) → Lacking a place n at′ → Performed P R c r place onward a s (lacking n at′)
 
 -- ---- changes of the newest call, and words stored
@@ -283,7 +283,7 @@ module _ (P : Program) (R : Rooms) (c : Call) (r : List Call) (place onward : �
 
   list-done : a ≡ endList → Does (ending-list P c r s)
   unfolding ending-list
-  list-done e = chosen Does (codeAt P (c .routine) .function) _ _ (ends 4 (unreturned e)) (returning-done r none refl)
+  list-done e = chosen-by Does (codeAt P (c .routine) .function) _ _ (λ t. ends 4 (unreturned t e)) (λ t. returning-done r none refl)
 
 -- ---- RETRY and TRYNEXT
 module _ (P : Program) (c : Call) (r : List Call) (onward : ℕ) where

@@ -47,12 +47,11 @@ unfolding startsStatement startsSimple
 no-ending n (at-exit e) = omega arith
 no-ending n (at-statement e) = apart (cc)
 no-ending n (at-list-end (by-error e)) = omega arith
-no-ending n (at-list-end (by-endproc e)) = omega arith
 no-ending n (at-list-end (by-endfunc e)) = omega arith
 no-ending n (at-next (a-statement e)) = apart (cc)
-no-ending n (at-next (the-end (by-error e))) = omega arith
-no-ending n (at-next (the-end (by-endproc e))) = omega arith
-no-ending n (at-next (the-end (by-endfunc e))) = omega arith
+no-ending n (at-next (the-end f (by-error e))) = omega arith
+no-ending n (at-next (the-end f (by-endproc e))) = omega arith
+no-ending n (at-next (the-end f (by-endfunc e))) = omega arith
 no-ending n (at-callee e) = omega arith
 no-ending n (at-read e) = omega arith
 no-ending n (at-line (by-tpwrite e)) = omega arith

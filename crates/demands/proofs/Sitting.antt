@@ -1,6 +1,6 @@
 -- In every state of a run of an accepted module each live call sits at a step of its routine's table; so a run ends at a word of the sort that the paper's table says.
 use mathlib.Core.Path.{_≡_, refl, sym, ap, _∙_}
-use mathlib.Core.Bool.{true}
+use mathlib.Core.Bool.{Bool, true}
 use mathlib.Core.List.{List, [], _∷_, map}
 use mathlib.Core.Option.{Option, none, some}
 use Prim.Native.Nat.{ℕ, zero, suc, _<_}
@@ -24,9 +24,9 @@ use Rattle.demands.proofs.Growing.{run-goes, run-stops}
 use Rattle.demands.specs.Vocabulary.{All, nothing, _also_, bare, CallsRoutine, for-result, for-nothing, Taken, CallsAfter, goes-on, begins, returns, retries, tries-next, fails, hands-on, Closes, WritesLine, by-tpwrite, by-tpreadnum, Next, a-statement, the-end, EndsWith, at-exit, at-statement, at-list-end, at-next, at-callee, at-read, at-line}
 
 -- The step a calls a routine below n.
-calls-below : (W : List Word) (n : ℕ) (N : ℕ → Type 0) (k : ℕ) (a : Action) → CallsRoutine k a → CallsIn W n N a → k < n
-calls-below W n N k a (for-result t callee es) h = h
-calls-below W n N k a (for-nothing callee es) h = h
+calls-below : (W : List Word) (function : Bool) (n : ℕ) (N : ℕ → Type 0) (k : ℕ) (a : Action) → CallsRoutine k a → CallsIn W function n N a → k < n
+calls-below W f n N k a (for-result t callee es) h = h
+calls-below W f n N k a (for-nothing callee es) h = h
 
 module _ (W : List Word) (P : Program) (fits : ProgramFits W P) where
   abbrev count : ℕ
@@ -34,6 +34,9 @@ module _ (W : List Word) (P : Program) (fits : ProgramFits W P) where
 
   abbrev table : Call → List Step
   table c = codeAt P (c .routine) .steps
+
+  abbrev isFunction : Call → Bool
+  isFunction c = codeAt P (c .routine) .function
 
   record Sits (c : Call) : Type 0 where
     routine : c .routine < count
@@ -45,11 +48,11 @@ module _ (W : List Word) (P : Program) (fits : ProgramFits W P) where
   code-at k h = one-at (CodeFits W count) (P .routines) k noCode (fits .codes) h
 
   -- a step of the table, by its name
-  step-fits : (c : Call) (i : ℕ) → Sits c → Known (table c) i → Fits W count (Known (table c)) (stepOf P c i)
+  step-fits : (c : Call) (i : ℕ) → Sits c → Known (table c) i → Fits W (isFunction c) count (Known (table c)) (stepOf P c i)
   unfolding stepOf
-  step-fits c i h k = known-step (Fits W count (Known (table c))) (table c) i (code-at (c .routine) (h .routine) .steps) k
+  step-fits c i h k = known-step (Fits W (isFunction c) count (Known (table c))) (table c) i (code-at (c .routine) (h .routine) .steps) k
 
-  next-fits : (c : Call) → Sits c → Fits W count (Known (table c)) (nextStep P c)
+  next-fits : (c : Call) → Sits c → Fits W (isFunction c) count (Known (table c)) (nextStep P c)
   unfolding nextStep
   next-fits c h = step-fits c (c .next) h (h .next)
 
@@ -99,7 +102,7 @@ module _ (W : List Word) (P : Program) (fits : ProgramFits W P) where
       (sits-at c (o .newest) (o .routine) (o .failed) (one-among (Known (table c)) (h .next also f .after also f .ways) (o .goes-to)) h)
       (all-bare Sits sits-bare r (o .callers) (sym (o .waiting)) g))
   sitting-after c r after h g (begins k args result st l) =
-      let below = calls-below W count (Known (table c)) k _ st (next-fits c h .calls) in
+      let below = calls-below W (isFunction c) count (Known (table c)) k _ st (next-fits c h .calls) in
       rw l (sitting (sits-new k args result below) (h also g))
   sitting-after c r after h g (returns d older l b) =
       let o : All Sits (d ∷ older) = rw l at g in
@@ -123,13 +126,13 @@ Stopped W (stopped b x) = EndedAt W x
 -- A step stands at a statement, or is the end of a list.
 pub data AtStatement (W : List Word) (i : ℕ) (a : Action) : Type 0 where
   starts : Starts W i → AtStatement W i a
-  closes : a ≡ endList → Closes (sortIn W i) → AtStatement W i a
+  closes : (function : Bool) → a ≡ endList → Closes (sortIn W i) function → AtStatement W i a
 
-module _ (W : List Word) (i : ℕ) where
+module _ (W : List Word) (function : Bool) (i : ℕ) where
   by-sort : (sort : ℕ) (a : Action) → sortIn W i ≡ sort → startsStatement sort ≡ true → AtStatement W i a
   by-sort sort a e h = starts (ap startsStatement e ∙ h)
 
-  at-statement-or-end : (a : Action) → StandsAt W i a → AtStatement W i a
+  at-statement-or-end : (a : Action) → StandsAt W function i a → AtStatement W i a
   unfolding startsStatement startsSimple
   at-statement-or-end (store t e) h = starts h
   at-statement-or-end (callFor t callee k es) h = starts (h .0)
@@ -147,24 +150,24 @@ module _ (W : List Word) (i : ℕ) where
   at-statement-or-end (testWhile e body) h = starts h
   at-statement-or-end (enterFor k from to d body) h = starts h
   at-statement-or-end (repeatFor k body) h = starts h
-  at-statement-or-end endList h = closes refl h
+  at-statement-or-end endList h = closes function refl h
 
-  next-word : (a : Action) → StandsAt W i a → Next (sortIn W i)
+  next-word : (a : Action) → StandsAt W function i a → Next (sortIn W i)
   next-word a h = by-case (at-statement-or-end a h)
     where
       by-case : AtStatement W i a → Next (sortIn W i)
       by-case (starts k) = a-statement k
-      by-case (closes e k) = the-end k
+      by-case (closes f e k) = the-end f k
 
-  callee-name : (callee : ℕ) (a : Action) → Callee callee a → StandsAt W i a → sortIn W callee ≡ NAME
+  callee-name : (callee : ℕ) (a : Action) → Callee callee a → StandsAt W function i a → sortIn W callee ≡ NAME
   callee-name callee a (of-function t k es) h = h .1
   callee-name callee a (of-procedure k es) h = h .1
 
-  line-word : (a : Action) → Writes a → StandsAt W i a → WritesLine (sortIn W i)
+  line-word : (a : Action) → Writes a → StandsAt W function i a → WritesLine (sortIn W i)
   line-word a (by-write text e) h = by-tpwrite h
   line-word a (by-read t text) h = by-tpreadnum h
 
-  lacking-word : (a : Action) (n at′ : ℕ) → Lacking a i n at′ → StandsAt W i a → EndsWith n (sortIn W at′)
+  lacking-word : (a : Action) (n at′ : ℕ) → Lacking a i n at′ → StandsAt W function i a → EndsWith n (sortIn W at′)
   lacking-word a n at′ (no-depth callee k) h = at-callee (callee-name callee a k h)
   lacking-word a n at′ (no-input t text e) h = at-read (rw e at h)
   lacking-word a n at′ (no-room w) h = at-line (line-word a w h)
@@ -199,26 +202,26 @@ module _ (W : List Word) (P : Program) (R : Rooms) where
       taken none = at-word (at-statement h)
       taken (some cs′) = tt
 
-  failing-starts : (place : ℕ) (a : Action) → StandsAt W place a → (a ≡ endList → ⊥) → Starts W place
-  failing-starts place a h f = by-case (at-statement-or-end W place a h)
+  failing-starts : (function : Bool) (place : ℕ) (a : Action) → StandsAt W function place a → (a ≡ endList → ⊥) → Starts W place
+  failing-starts function place a h f = by-case (at-statement-or-end W function place a h)
     where
       by-case : AtStatement W place a → Starts W place
       by-case (starts k) = k
-      by-case (closes e k) = absurd (f e)
+      by-case (closes g e k) = absurd (f e)
 
-  own-stops : (a : Action) (n place : ℕ) (s : State) → OwnEnding a n → StandsAt W place a → Stopped W (stopping true n place s)
-  own-stops a n place s returned h = by-return
-  own-stops a n place s (exited e) h = at-word (at-exit (rw e at h))
-  own-stops a n place s (unreturned e) h = at-word (at-list-end (rw e at h))
+  own-stops : (function : Bool) (a : Action) (n place : ℕ) (s : State) → OwnEnding function a n → StandsAt W function place a → Stopped W (stopping true n place s)
+  own-stops f a n place s returned h = by-return
+  own-stops f a n place s (exited e) h = at-word (at-exit (rw e at h))
+  own-stops f a n place s (unreturned t e) h = at-word (at-list-end (rw (t, e) at h))
 
-  settled-stops : (c : Call) (r : List Call) (place onward : ℕ) (a : Action) (s : State) (e : Effect) → StandsAt W place a → (a ≡ endList → NoError e)
+  settled-stops : (c : Call) (r : List Call) (place onward : ℕ) (a : Action) (s : State) (e : Effect) → StandsAt W (codeAt P (c .routine) .function) place a → (a ≡ endList → NoError e)
       → Performed P R c r place onward a s e → Stopped W (settled P place r s e)
   unfolding settled
   settled-stops c r place onward a s e h f (makes k l) = tt
-  settled-stops c r place onward a s e h f (fails-with {s′ = s′} n k l g) = arising-stops n place (s′ .calls) (counted s′) (failing-starts place a h f)
+  settled-stops c r place onward a s e h f (fails-with {s′ = s′} n k l g) = arising-stops n place (s′ .calls) (counted s′) (failing-starts _ place a h f)
   settled-stops c r place onward a s e h f (steps.hands-on k) = arising-stops (s .errno) place r (counted s) (rw k at h)
-  settled-stops c r place onward a s e h f (ends n k) = own-stops a n place (counted s) k h
-  settled-stops c r place onward a s e h f (lacks n at′ k) = at-word (lacking-word W place a n at′ k h)
+  settled-stops c r place onward a s e h f (ends n k) = own-stops _ a n place (counted s) k h
+  settled-stops c r place onward a s e h f (lacks n at′ k) = at-word (lacking-word W _ place a n at′ k h)
 
   module _ (fits : ProgramFits W P) where
     step-stops : (s : State) → Sitting W P fits (s .calls) → Stopped W (takeStep P R s)
@@ -240,7 +243,7 @@ module _ (W : List Word) (P : Program) (R : Rooms) where
     spent s h = at-word (at-next (newest (s .calls) h))
       where
         newest : (cs : List Call) → Sitting W P fits cs → Next (sortIn W (elim cs [ [] ↦ 0 | c ∷ r ↦ nextStep P c .place ]))
-        newest cs (sitting {c = c} {r = r} k g) = next-word W (nextStep P c .place) (nextStep P c .does) (next-fits W P fits c k .stands)
+        newest cs (sitting {c = c} {r = r} k g) = next-word W _ (nextStep P c .place) (nextStep P c .does) (next-fits W P fits c k .stands)
 
     run-ends : (n : ℕ) (s : State) → Sitting W P fits (s .calls) → EndedAt W (run P R n s)
     unfolding run

@@ -30,44 +30,46 @@ module _ (W : List Word) where
   abbrev pub Starts : ℕ → Type 0
   Starts i = startsStatement (sortIn W i) ≡ true
 
+  starts-by : (sort i : ℕ) → sortIn W i ≡ sort → startsStatement sort ≡ true → Starts i
+  starts-by sort i e h = ap startsStatement e ∙ h
+
+-- The steps of a function or of a procedure.
+module _ (W : List Word) (function : Bool) where
   -- A step that does a stands at the word i.
   abbrev pub StandsAt : ℕ → Action → Type 0
-  StandsAt i (store t e) = Starts i
-  StandsAt i (callFor t callee k es) = Starts i × (sortIn W callee ≡ NAME)
-  StandsAt i (callOf callee k es) = Starts i × (sortIn W callee ≡ NAME)
-  StandsAt i (giveBack e) = Starts i
-  StandsAt i (raise e) = Starts i
-  StandsAt i handOn = Starts i
+  StandsAt i (store t e) = Starts W i
+  StandsAt i (callFor t callee k es) = Starts W i × (sortIn W callee ≡ NAME)
+  StandsAt i (callOf callee k es) = Starts W i × (sortIn W callee ≡ NAME)
+  StandsAt i (giveBack e) = Starts W i
+  StandsAt i (raise e) = Starts W i
+  StandsAt i handOn = Starts W i
   StandsAt i exit = sortIn W i ≡ EXIT
-  StandsAt i retry = Starts i
-  StandsAt i tryNext = Starts i
+  StandsAt i retry = Starts W i
+  StandsAt i tryNext = Starts W i
   StandsAt i (write text e) = sortIn W i ≡ TPWRITE
   StandsAt i (read t text) = sortIn W i ≡ TPREADNUM
-  StandsAt i (choose arms otherwise) = Starts i
-  StandsAt i (select e cs otherwise) = Starts i
-  StandsAt i (testWhile e body) = Starts i
-  StandsAt i (enterFor k from to d body) = Starts i
-  StandsAt i (repeatFor k body) = Starts i
-  StandsAt i endList = Closes (sortIn W i)
+  StandsAt i (choose arms otherwise) = Starts W i
+  StandsAt i (select e cs otherwise) = Starts W i
+  StandsAt i (testWhile e body) = Starts W i
+  StandsAt i (enterFor k from to d body) = Starts W i
+  StandsAt i (repeatFor k body) = Starts W i
+  StandsAt i endList = Closes (sortIn W i) function
 
   abbrev pub Stands : Step → Type 0
   Stands s = StandsAt (s .place) (s .does)
 
   -- ---- simple statements
-  starts-by : (sort i : ℕ) → sortIn W i ≡ sort → startsStatement sort ≡ true → Starts i
-  starts-by sort i e h = ap startsStatement e ∙ h
-
   simple-stands : (S : Scopes) (s : Simple) → SimpleSorts (sortIn W) s → StandsAt (firstSimple s) (actionOf W S s)
   unfolding actionOf firstSimple startsStatement startsSimple
-  simple-stands S (assign t e) h = starts-by NAME _ (h .0 .name) refl
-  simple-stands S (assignCall t f es) h = (starts-by NAME _ (h .0 .name) refl, h .1)
-  simple-stands S (call p es) h = (starts-by NAME _ (h .0) refl, h .0)
-  simple-stands S (returns i e) h = starts-by RETURN _ (h .0) refl
-  simple-stands S (raises i none) h = starts-by RAISE _ (h .0) refl
-  simple-stands S (raises i (some e)) h = starts-by RAISE _ (h .0) refl
+  simple-stands S (assign t e) h = starts-by W NAME _ (h .0 .name) refl
+  simple-stands S (assignCall t f es) h = (starts-by W NAME _ (h .0 .name) refl, h .1)
+  simple-stands S (call p es) h = (starts-by W NAME _ (h .0) refl, h .0)
+  simple-stands S (returns i e) h = starts-by W RETURN _ (h .0) refl
+  simple-stands S (raises i none) h = starts-by W RAISE _ (h .0) refl
+  simple-stands S (raises i (some e)) h = starts-by W RAISE _ (h .0) refl
   simple-stands S (exits i) h = h
-  simple-stands S (retries i) h = starts-by RETRY _ h refl
-  simple-stands S (triesNext i) h = starts-by TRYNEXT _ h refl
+  simple-stands S (retries i) h = starts-by W RETRY _ h refl
+  simple-stands S (triesNext i) h = starts-by W TRYNEXT _ h refl
   simple-stands S (writes i s e) h = h .0
   simple-stands S (reads i t s) h = h .0
 
@@ -177,13 +179,13 @@ module _ (W : List Word) where
               → All Named (stepsOf W M s S k around after) → All Fits (stepsOf W M s S k around after)
           steps-fit (simple s) S k around after h c f g = simple-fits S s around after h c f
           steps-fit (compactIf i e s) S k around after h c f g =
-              one-step i around after _ (starts-by IF i (h .0) refl) tt f (f also first-of (rest-of g) also nothing) and simple-fits S s around after (h .2) c f
+              one-step i around after _ (starts-by W IF i (h .0) refl) tt f (f also first-of (rest-of g) also nothing) and simple-fits S s around after (h .2) c f
           steps-fit (fullIf i a o) S k around after h c f g =
               let choice = choose (conditions W S a after) (begin o after) in
               let front = step i around after choice ++ stepsOfArms W M a S k around after in
               let g₁ = back-of (step i around after choice) _ (front-of front _ g) in
               let g₂ = back-of front _ g in
-              one-step i around after _ (starts-by IF i (h .0) refl) tt f (begin-named o S _ around after f g₂ also arms-ways a S k around after f g₁)
+              one-step i around after _ (starts-by W IF i (h .0) refl) tt f (begin-named o S _ around after f g₂ also arms-ways a S k around after f g₁)
               and arms-fit a S k around after (h .1) c f g₁
               and list-fits o S _ around after (h .2) c f g₂
           steps-fit (for i v a b d body end) S k around after h c f g =
@@ -193,20 +195,20 @@ module _ (W : List Word) where
               let g₁ = back-of head middle (front-of (head ++ middle) _ g) in
               let e : N end = first-of (back-of (head ++ middle) _ g) in
               let w = begin-named body S′ (suc k) (k ∷ around) end e g₁ in
-              one-step i around after _ (starts-by FOR i (h .0 .for) refl) tt f (w also nothing)
+              one-step i around after _ (starts-by W FOR i (h .0 .for) refl) tt f (w also nothing)
               and list-fits body S′ (suc k) (k ∷ around) end (h .1) (enter-in n _ _ S c) e g₁
-              and (record { stands = starts-by FOR i (h .0 .for) refl; calls = tt; after = f; ways = w also nothing } also nothing)
+              and (record { stands = starts-by W FOR i (h .0 .for) refl; calls = tt; after = f; ways = w also nothing } also nothing)
           steps-fit (while i e body) S k around after h c f g =
               let head = step i around after (testWhile (termOf W S e) (begin body i)) in
               let g₁ = back-of head _ g in
-              one-step i around after _ (starts-by WHILE i (h .0) refl) tt f (begin-named body S k around i (first-of g) g₁ also nothing)
+              one-step i around after _ (starts-by W WHILE i (h .0) refl) tt f (begin-named body S k around i (first-of g) g₁ also nothing)
               and list-fits body S k around i (h .2) c (first-of g) g₁
           steps-fit (test i e cs d) S k around after h c f g =
               let choice = select (termOf W S e) (constants W S M cs after) (begin d after) in
               let front = step i around after choice ++ stepsOfCases W M cs S k around after in
               let g₁ = back-of (step i around after choice) _ (front-of front _ g) in
               let g₂ = back-of front _ g in
-              one-step i around after _ (starts-by TEST i (h .0) refl) tt f (begin-named d S _ around after f g₂ also cases-ways cs S k around after f g₁)
+              one-step i around after _ (starts-by W TEST i (h .0) refl) tt f (begin-named d S _ around after f g₂ also cases-ways cs S k around after f g₁)
               and cases-fit cs S k around after (h .2) c f g₁
               and list-fits d S _ around after (h .3) c f g₂
 
@@ -250,29 +252,34 @@ known-step Q (s ∷ l) i h (there m) = forked Q (eqb (s .name) i) _ _ (first-of 
 pub record CodeFits (W : List Word) (n : ℕ) (code : Code) : Type 0 where
   pub start : Known (code .steps) (code .start)
   pub handler : (h : ℕ) → code .handler ≡ some h → Known (code .steps) h
-  pub steps : All (Fits W n (Known (code .steps))) (code .steps)
+  pub steps : All (Fits W (code .function) n (Known (code .steps))) (code .steps)
 
 module _ (W : List Word) where
-  module _ (n : ℕ) (N : ℕ → Type 0) (some-routine : 0 < n) (M : Memory) (S : Scopes) (c : ScopesIn n S) (k : ℕ) (l : RoutineList) where
-    closing-named : All (Named W n N) (listSteps W M S k l) → N (l .closes)
+  module _ (function : Bool) (n : ℕ) (N : ℕ → Type 0) (some-routine : 0 < n) (M : Memory) (S : Scopes) (c : ScopesIn n S) (k : ℕ) (l : RoutineList) where
+    closing-named : All (Named W function n N) (listSteps W M S k l) → N (l .closes)
     unfolding listSteps step
     closing-named g = first-of (back-of (stepsOfList W M (l .statements) S k [] (l .closes)) _ g)
 
-    first-step-named : All (Named W n N) (listSteps W M S k l) → N (firstStep W l)
+    first-step-named : All (Named W function n N) (listSteps W M S k l) → N (firstStep W l)
     unfolding listSteps firstStep
     first-step-named g =
-        begin-named W n N some-routine M (l .statements) S k [] (l .closes) (closing-named g) (front-of (stepsOfList W M (l .statements) S k [] (l .closes)) _ g)
+        begin-named W function n N some-routine M (l .statements) S k [] (l .closes) (closing-named g) (front-of (stepsOfList W M (l .statements) S k [] (l .closes)) _ g)
 
-    routine-list-fits : SortsOfRoutineList (sortIn W) l → All (Named W n N) (listSteps W M S k l) → All (Fits W n N) (listSteps W M S k l)
+    routine-list-fits : SortsOfRoutineList (sortIn W) function l → All (Named W function n N) (listSteps W M S k l) → All (Fits W function n N) (listSteps W M S k l)
     unfolding listSteps waysOf
     routine-list-fits h g =
         let f = closing-named g in
-        list-fits W n N some-routine M (l .statements) S k [] (l .closes) (h .statements) c f (front-of (stepsOfList W M (l .statements) S k [] (l .closes)) _ g)
-        and one-step W n N some-routine (l .closes) [] (l .closes) endList (h .closes) tt f nothing
+        list-fits W function n N some-routine M (l .statements) S k [] (l .closes) (h .statements) c f (front-of (stepsOfList W M (l .statements) S k [] (l .closes)) _ g)
+        and one-step W function n N some-routine (l .closes) [] (l .closes) endList (h .closes) tt f nothing
 
   -- a routine's two lists, in one table
+<<<<<<< HEAD
   lists-fit : (n : ℕ) → 0 < n → (M : Memory) (S : Scopes) → ScopesIn n S → (k j : ℕ) (body : RoutineList) (o : Option RoutineList) (function : Bool) (words : List ℤ) (fors : ℕ)
       → SortsOfRoutineList (sortIn W) body → SortsOfHandler (sortIn W) o
+=======
+  lists-fit : (n : ℕ) → 0 < n → (M : Memory) (S : Scopes) → ScopesIn n S → (k j : ℕ) (body : RoutineList) (o : Option RoutineList) (function : Bool) (words : List ℤ)
+      → SortsOfRoutineList (sortIn W) function body → SortsOfHandler (sortIn W) function o
+>>>>>>> 9c31804b029ee8ad15c3ee156478d66d499eda46
       → CodeFits W n (record {
         function = function;
         words = words;
@@ -285,17 +292,22 @@ module _ (W : List Word) where
       let A = listSteps W M S k body in
       let N = Known (A ++ []) in
       let names = front-of A [] (names-known (A ++ [])) in
+<<<<<<< HEAD
       record { start = first-step-named n N z M S c k body names; handler = λ i e. apart (cc); steps = routine-list-fits n N z M S c k body h names and nothing }
   lists-fit n z M S c k j body (some l) function words fors h g =
+=======
+      record { start = first-step-named function n N z M S c k body names; handler = λ i e. apart (cc); steps = routine-list-fits function n N z M S c k body h names and nothing }
+  lists-fit n z M S c k j body (some l) function words h g =
+>>>>>>> 9c31804b029ee8ad15c3ee156478d66d499eda46
       let A = listSteps W M S k body in
       let B = listSteps W M S j l in
       let N = Known (A ++ B) in
       let front = front-of A B (names-known (A ++ B)) in
       let back = back-of A B (names-known (A ++ B)) in
       record {
-        start = first-step-named n N z M S c k body front;
-        handler = λ i e. let q : firstStep W l ≡ i = cc in rw q at (first-step-named n N z M S c j l back);
-        steps = routine-list-fits n N z M S c k body h front and routine-list-fits n N z M S c j l g back;
+        start = first-step-named function n N z M S c k body front;
+        handler = λ i e. let q : firstStep W l ≡ i = cc in rw q at (first-step-named function n N z M S c j l back);
+        steps = routine-list-fits function n N z M S c k body h front and routine-list-fits function n N z M S c j l g back;
       }
 
   code-fits : (m : Module) (r : Routine) → 0 < length (m .routines) → SortsOfRoutine (sortIn W) r → CodeFits W (length (m .routines)) (codeOf W m r)

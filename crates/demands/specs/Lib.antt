@@ -1,3 +1,4 @@
--- The demands as statements, with their own words as comments. To read: Demands; the words that it is written in are in Vocabulary.
+-- The demands as statements, with their own words as comments. To read: Demands, and Fakes for demand 2; the words that Demands is written in are in Vocabulary.
 pub mod Vocabulary
 pub mod Demands
+pub mod Fakes

@@ -1,6 +1,6 @@
 -- The words that the demands are written in.
 use mathlib.Core.Path.{_≡_}
-use mathlib.Core.Bool.{true}
+use mathlib.Core.Bool.{Bool, true, false}
 use mathlib.Core.List.{List, [], _∷_, _++_, map}
 use mathlib.Core.Option.{Option, none, some}
 use Prim.Native.Nat.{ℕ, _+_, _*_, _≤_, _<_}
@@ -54,11 +54,11 @@ unfoldable pub fieldIn : ℕ → List ℕ → ℕ
 fieldIn i bytes = number (take 8 (drop (8 * i) bytes))
 
 -- ---- words
--- "the word that closes the list": ERROR, ENDPROC or ENDFUNC.
-pub data Closes (sort : ℕ) : Type 0 where
-  by-error : sort ≡ ERROR → Closes sort
-  by-endproc : sort ≡ ENDPROC → Closes sort
-  by-endfunc : sort ≡ ENDFUNC → Closes sort
+-- "the word that closes the list": ERROR, or else ENDPROC in a PROC and ENDFUNC in a FUNC.
+pub data Closes (sort : ℕ) : (function : Bool) → Type 0 where
+  by-error : {function : Bool} → sort ≡ ERROR → Closes sort function
+  by-endproc : sort ≡ ENDPROC → Closes sort false
+  by-endfunc : sort ≡ ENDFUNC → Closes sort true
 
 -- TPWrite and TPReadNum write a line.
 pub data WritesLine (sort : ℕ) : Type 0 where
@@ -68,7 +68,7 @@ pub data WritesLine (sort : ℕ) : Type 0 where
 -- The next step's place is a statement's first word, or the word that closes a list.
 pub data Next (sort : ℕ) : Type 0 where
   a-statement : startsStatement sort ≡ true → Next sort
-  the-end : Closes sort → Next sort
+  the-end : (function : Bool) → Closes sort function → Next sort
 
 -- The table of endings: the sort of the word at the offset.
 pub data EndsWith : (ending sort : ℕ) → Type 0 where
@@ -77,7 +77,7 @@ pub data EndsWith : (ending sort : ℕ) → Type 0 where
   -- "3: error unhandled: statement it arose in"
   at-statement : {s : ℕ} → startsStatement s ≡ true → EndsWith 3 s
   -- "4: FUNC reached a list's end: the word there"
-  at-list-end : {s : ℕ} → Closes s → EndsWith 4 s
+  at-list-end : {s : ℕ} → Closes s true → EndsWith 4 s
   -- "5: steps spent: the next step's place"
   at-next : {s : ℕ} → Next s → EndsWith 5 s
   -- "6: call beyond the depth, arguments done: the callee"
