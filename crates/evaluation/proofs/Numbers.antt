@@ -1,15 +1,15 @@
 -- Numbers of 64 bits that hold a value of 32, and answers: from what the code tests to what the paper says.
-use mathlib.Core.Path.{_≡_, refl, sym, ap, ap₂, subst, _∙_}
+use mathlib.Core.Path.{_≡_, refl, sym, ap, subst, _∙_}
 use mathlib.Core.Bool.{Bool, true, false, not}
-use Prim.Native.Nat.{ℕ, zero, suc, _+_, _-_, _*_, _/_, _%_, _<_, _≤_}
+use Prim.Native.Nat.{ℕ, zero, suc, _+_, _-_, _/_, _<_}
 use native.Mathlib.Omega.{arith}
 use native.Mathlib.Nat.{div-le-self, pos-of-ne-zero, div-lt-iff-lt-mul}
 use lib.Dec.{T, eqb, ltb}
 use lib.IntN.{ℤ, pos, negsuc, negℤ, natAbs, _-ℤ_, +ℤ-idl}
-use lib.Signed.{mag, ltZ, leZ, quotZ, remZ, mag-rem}
+use lib.Signed.{ltZ, leZ, quotZ, remZ, mag-rem}
 use mir.Syntax.{w32, w64}
 use mir.Val.{SFits, toZ, ofZ}
-use borrow.Author.Tests.{eqb-true, eqb-false, eq-eqb, ne-eqb, lt-ltb, le-ltb, ltb-true, ltb-false, le-leb, lt-leb}
+use borrow.Author.Tests.{eq-eqb, ne-eqb, lt-ltb, le-ltb, ltb-true, ltb-false, le-leb, lt-leb}
 use Rattle.laws.proofs.Tests.{test, by-same}
 use Rattle.paper.specs.Numbers as paper
 use Rattle.paper.specs.Numbers.{Value, value, error, isZero, same, num, overflow}
@@ -125,9 +125,6 @@ pub told : (a : ℤ) (t u : Bool) → SFits w64 a → t ≡ ltZ (read a) (pos fi
 told a t u s e h = rw (back a s) at (sym e ∙ h)
 
 -- ---- quotients and remainders
-read32 : ℤ → ℤ
-read32 z = toZ w32 (ofZ w32 z)
-
 quot-small : (a b : ℤ) → SFits w32 a → (b ≡ negsuc 0 → ⊥) → SFits w32 (quotZ a b)
 quot-small (pos a) (pos b) s h = record { sfits = omega (arith, div-le-self a b, s .sfits) }
 quot-small (pos a) (negsuc b) s h = record { sfits = omega (arith, mag-neg (a / suc b) a (omega (arith, div-le-self a (suc b))), s .sfits) }

@@ -1,26 +1,26 @@
 -- Operands: what is loaded, and that it is inside the store.
-use mathlib.Core.Path.{_≡_, refl, sym, ap, ap₂, subst, _∙_}
+use mathlib.Core.Path.{_≡_, refl, sym, ap, subst, _∙_}
 use mathlib.Core.Bool.{Bool, true, false}
 use mathlib.Core.List.{List, map}
-use mathlib.Core.Option.{Option, some}
+use mathlib.Core.Option.{some}
 use Prim.Native.Nat.{ℕ, _+_, _-_, _*_, _/_, _%_, _<_, _≤_}
 use native.Mathlib.Omega.{arith}
-use lib.Dec.{T, eqb, leb, ltb}
+use lib.Dec.{T, eqb}
 use lib.ListN.{length, getD, take, drop, List·getD-map}
 use lib.Seq.{getD-take, getD-drop}
 use lib.IntN.{ℤ, pos, negsuc, natAbs, _-ℤ_}
-use lib.Signed.{mag, ltZ, nonNeg}
+use lib.Signed.{ltZ, nonNeg}
 use mir.Syntax.{w32, w64}
-use mir.Val.{Fits, SFits, toZ, ofZ}
+use mir.Val.{Fits, SFits, toZ}
 use mir.ValLaws.{toZ-pos, toZ-fits}
 use borrow.Author.Tests.{eq-eqb, ne-eqb, ltb-true, ltb-false, le-leb, lt-leb}
-use Rattle.laws.proofs.Tests.{test, by-same, by-most}
+use Rattle.laws.proofs.Tests.{test, by-same}
 use Rattle.paper.specs.Numbers.{Value, value, error, outOfBound}
-use Rattle.paper.specs.Terms.{Memory, Ref, ofModule, ofRoutine, onward, Term, literal, errno, stored, elementAt, unary, applied, worth, load, Located, at, fails, locate, loadFrom}
+use Rattle.paper.specs.Terms.{ofModule, ofRoutine, onward, Term, literal, errno, unary, applied, worth, load, at, locate, loadFrom}
 use Rattle.cells.specs.Words.{wordsOf}
 use Rattle.numbers.proofs.Whole.{read, back, minus-cases}
 use Rattle.code.specs.Cells.{opIn, valueIn, errnoCell}
-use Rattle.code.specs.Spans.{aLiteral, aModuleWord, aCallWord, aModuleElement, aCallElement, aParenthesis, bias, firstIn, sizeIn, prefixIn, leafTerm, elementTerm, memoryIn}
+use Rattle.code.specs.Spans.{aLiteral, aModuleWord, aCallWord, aModuleElement, aCallElement, aParenthesis, firstIn, sizeIn, prefixIn, leafTerm, elementTerm, memoryIn}
 use Rattle.code.proofs.Options.{same-some}
 use Rattle.code.proofs.Operands.{leaf-literal, leaf-errno, leaf-module, leaf-call, by-leaf, arrayIn, roomIn, Shaped, shaped}
 use Rattle.evaluation.specs.Answers.{firstError, decoded, Small, Gives, Counts, memoryOf, Stores}

@@ -13,7 +13,7 @@ ghost use Rattle.cells.specs.Words.{wordsOf};
 ghost use Rattle.code.specs.Cells.{headAt, linkAt};
 ghost use Rattle.code.specs.Spans.{prefixIn, operatorOf};
 ghost use Rattle.evaluation.specs.Answers.{firstError, decoded, Small, Gives, Stores, Stands, Evaluated};
-ghost use Rattle.evaluation.specs.Parts.{joined, failureOf, Worked, Divided, Loaded, Leaf, Read, cellOf, opensAt, endsAt, Array, Indexed, Closes, Closed};
+ghost use Rattle.evaluation.specs.Parts.{failureOf, failing, Worked, Divided, Loaded, Leaf, Read, cellOf, opensAt, endsAt, Array, Indexed, Closes, Closed, Encloses, Entered};
 ghost use Rattle.evaluation.specs.Parts as parts;
 
 // ---- ops, as the specs of code have them
@@ -183,6 +183,16 @@ fn operate(number: u32, a: i64, b: i64) -> i64
     }
 }
 
+// z, worked out so, is not what the operator gives.
+fn is_failing(number: u32, z: i64) -> bool
+    ensures { λ r. ⌜ r ≡ failing number z ⌝ }
+{
+    if outside(z) {
+        return number < AND;
+    }
+    false
+}
+
 fn failure(number: u32, b: i64) -> i64
     ensures { λ r. ⌜ Gives (error (failureOf number b)) r ⌝ }
 {
@@ -325,8 +335,20 @@ fn link(code: &[u8], i: usize) -> usize
     (cells::get(code, i * 2 + 1) / 65536) as usize
 }
 
-// What the expression is worth that stands in the words from `from` up to `to`. What an operator works out is tested against num once for all operators, and
-// what fails leaves at once, so that the loop goes on with values only.
+// An operand of several words that begins at a word with the head w, and what stands inside it ends at l. A word alone is read without a call.
+fn enclosed<'a>(code: &'a [u8], values: &'a [u8], base: usize, at: usize, w: u32, l: usize) -> i64
+    requires { ⌜ Stores (now values) base × Encloses (now code) at w l ⌝ }
+    ensures { λ r. ⌜ Entered (now (code .entry)) (now (values .entry)) base at w l r ⌝ }
+{
+    let s = opens(w % 256, at);
+    if l == s + 1 {
+        let x = head(code, s);
+        return close(values, base, w, leaf(values, base, x % 256, x / 256));
+    }
+    close(values, base, w, evaluate(code, values, base, s, l))
+}
+
+// What the expression is worth that stands in the words from `from` up to `to`. What fails leaves at once, so that the loop goes on with values only.
 pub fn evaluate<'a>(code: &'a [u8], values: &'a [u8], base: usize, from: usize, to: usize) -> i64
     requires { ⌜ Stores (now values) base × Stands (now code) from to ⌝ }
     ensures { λ r. ⌜ Evaluated (now (code .entry)) (now (values .entry)) base from to r ⌝ }
@@ -338,13 +360,7 @@ pub fn evaluate<'a>(code: &'a [u8], values: &'a [u8], base: usize, from: usize, 
         acc = leaf(values, base, w % 256, w / 256);
     } else {
         let l = link(code, from);
-        let s = opens(w % 256, from);
-        if l == s + 1 {
-            let x = head(code, s);
-            acc = close(values, base, w, leaf(values, base, x % 256, x / 256));
-        } else {
-            acc = close(values, base, w, evaluate(code, values, base, s, l));
-        }
+        acc = enclosed(code, values, base, from, w, l);
         if !is_value(acc) {
             return acc;
         }
@@ -367,10 +383,8 @@ pub fn evaluate<'a>(code: &'a [u8], values: &'a [u8], base: usize, from: usize, 
             b = leaf(values, base, op / 16 % 4, w / 256);
         }
         let z = operate(op % 16, acc, b);
-        if outside(z) {
-            if op % 16 < AND {
-                return failure(op % 16, b);
-            }
+        if is_failing(op % 16, z) {
+            return failure(op % 16, b);
         }
         acc = z;
         i = r;
