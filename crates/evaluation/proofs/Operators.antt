@@ -91,21 +91,21 @@ known-none number a p q = let h = plain number p q in rw (h .0, known) (rw (h .1
 
 -- ---- what fails
 module _ (number : ℕ) (b : ℤ) where
-  pub fails-early : number < 3 → Gives (error (failureOf number b)) (pos 4294968297)
+  pub fails-early : number < 3 → Gives (error (failureOf number b)) (pos (firstError + overflow))
   unfolding failureOf
-  fails-early h = rw (lt-leb 3 number h, failureOf) (gives-error overflow 4294968297 refl)
+  fails-early h = rw (lt-leb 3 number h, failureOf) (gives-error overflow)
 
   module _ (h : 3 ≤ number) (s : SFits w64 b) (t : Bool) (e : t ≡ isZero (read b)) where
     divisor-is : (u : Bool) → t ≡ u → isZero b ≡ u
     divisor-is u q = rw (back b s) at (sym e ∙ q)
 
-    pub fails-zero : t ≡ true → Gives (error (failureOf number b)) (pos 4294968298)
+    pub fails-zero : t ≡ true → Gives (error (failureOf number b)) (pos (firstError + divZero))
     unfolding failureOf
-    fails-zero q = rw (le-leb 3 number h, failureOf) (rw (divisor-is true q) (gives-error divZero 4294968298 refl))
+    fails-zero q = rw (le-leb 3 number h, failureOf) (rw (divisor-is true q) (gives-error divZero))
 
-    pub fails-over : t ≡ false → Gives (error (failureOf number b)) (pos 4294968297)
+    pub fails-over : t ≡ false → Gives (error (failureOf number b)) (pos (firstError + overflow))
     unfolding failureOf
-    fails-over q = rw (le-leb 3 number h, failureOf) (rw (divisor-is false q) (gives-error overflow 4294968297 refl))
+    fails-over q = rw (le-leb 3 number h, failureOf) (rw (divisor-is false q) (gives-error overflow))
 
 -- ---- whether a result fails
 module _ (k : ℕ) (z : ℤ) where
@@ -348,8 +348,8 @@ module _ (op : ℕ) (a : ℤ) (sa : SFits w64 a) (sm : Small a) (t : Bool) (e : 
       unfolding applied prefixIn paper.minus
       applies = rw (val, k)
 
-      pub apply-over : b ≡ true → Gives (applied (prefixIn op) (decoded a)) (pos 4294968297)
-      apply-over r = gives-as (error overflow) (applied (prefixIn op) (decoded a)) (pos 4294968297) (sym (applies ∙ ranged-outside (negℤ a) (minus-is true r))) (gives-error overflow 4294968297 refl)
+      pub apply-over : b ≡ true → Gives (applied (prefixIn op) (decoded a)) (pos (firstError + overflow))
+      apply-over r = gives-as (error overflow) (applied (prefixIn op) (decoded a)) (pos (firstError + overflow)) (sym (applies ∙ ranged-outside (negℤ a) (minus-is true r))) (gives-error overflow)
 
       pub apply-minus : b ≡ false → Gives (applied (prefixIn op) (decoded a)) (read (pos 0 -ℤ read a))
       apply-minus r =

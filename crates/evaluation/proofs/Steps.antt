@@ -22,7 +22,7 @@ use Rattle.code.specs.Spans.{rightIn, operatorOf, operatorIn, leafTerm, operand
 use Rattle.code.proofs.Operands.{of-any, of-leaf}
 use Rattle.code.proofs.Spanning.{end-span, end-leaf, right-span, right-leaf, chain-done, Step, chain-step, right-moves, Begun, begun, span-grows, single}
 use Rattle.evaluation.specs.Answers.{firstError, decoded, Small, Gives, Counts, termOf, memoryOf, Stands, Evaluated}
-use Rattle.evaluation.specs.Parts.{joined, failureOf, failing, Worked, Leaf, Read, closedTerm, opensAt, endsAt, Closes, Closed, Encloses, Entered}
+use Rattle.evaluation.specs.Parts.{cellValues, joined, failureOf, failing, Worked, Leaf, Read, closedTerm, opensAt, endsAt, Closes, Closed, Encloses, Entered}
 use Rattle.evaluation.proofs.Numbers.{is-value, is-error, small-value}
 
 -- ---- what the loop keeps
@@ -137,7 +137,7 @@ module _ (code values : List ℕ) (base : ℕ) where
           let g = of-leaf (c .m) (c .n) (headAt (wordsOf code) from) (linkAt (wordsOf code) from) (termIn (c .m) (c .n) (wordsOf code)) from x e (omega (arith, op-is)) in
           (ap (λ (v : ℕ). leafTerm (c .m) (c .n) (v % 256) (v / 256)) ew ∙ g .is, g .end)
 
-      pub first-leaf : w % 256 ≤ 3 → w < 4294967296 → Leaf (w % 256) (w / 256)
+      pub first-leaf : w % 256 ≤ 3 → w < cellValues → Leaf (w % 256) (w / 256)
       first-leaf h k =
           let b = begins (sd .c) (sd .t) (sd .is) in
           record { c = sd .c; t = b .x .0; is = leaf-at h (sd .c) (b .x) (b .first) .0; bits = omega arith }
@@ -231,7 +231,7 @@ module _ (code values : List ℕ) (base : ℕ) where
         short-is : (c : Counts) (t : Term) → termOf c code s l ≡ some t → leafTerm (c .m) (c .n) (v % 256) (v / 256) ≡ some t
         short-is c t e = ap (λ (j : ℕ). leafTerm (c .m) (c .n) (j % 256) (j / 256)) ev ∙ single (c .m) (c .n) (wordsOf code) s l t k e
 
-        pub short-leaf : v < 4294967296 → Leaf (v % 256) (v / 256)
+        pub short-leaf : v < cellValues → Leaf (v % 256) (v / 256)
         unfolding inside-stands
         short-leaf b = record { c = en .c; t = en .t; is = short-is (en .c) (en .t) (inside-stands .is); bits = omega arith }
 
@@ -373,7 +373,7 @@ module _ (code values : List ℕ) (base : ℕ) where
               ap (λ (v : ℕ). leafTerm (c .m) (c .n) (v % 256 / 16 % 4) (v / 256)) ew
               ∙ sym (right-leaf (wordsOf code) i (c .m) (c .n) (termIn (c .m) (c .n) (wordsOf code)) (λ z. k (class-is ∙ z))) ∙ e
 
-          pub fused-leaf : w < 4294967296 → Leaf (w % 256 / 16 % 4) (w / 256)
+          pub fused-leaf : w < cellValues → Leaf (w % 256 / 16 % 4) (w / 256)
           fused-leaf b = record { c = go .run .stands .c; t = ghost-next .u; is = fused-is (go .run .stands .c) (ghost-next .u) (ghost-next .right); bits = omega arith }
 
           pub side-leaf : (b : ℤ) → Read values base (w % 256 / 16 % 4) (w / 256) b → Sided b (i + 2)

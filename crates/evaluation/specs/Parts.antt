@@ -51,6 +51,17 @@ pub record Divided (b exact z : ℤ) : Type 0 where
   pub is : isZero b ≡ false → z ≡ exact
 
 -- ---- operands
+-- what a usize counts to
+abbrev pub addresses : ℕ
+addresses = 18446744073709551616
+
+-- what a cell counts to, and the value that a head has above its op
+abbrev pub cellValues : ℕ
+cellValues = 4294967296
+
+abbrev pub headValues : ℕ
+headValues = 16777216
+
 -- a word that was loaded
 pub record Loaded (k : ℕ) (z : ℤ) : Type 0 where
   pub is : z ≡ toZ w32 k
@@ -60,7 +71,7 @@ pub record Leaf (op v : ℕ) : Type 0 where
   pub c : Counts
   pub t : Term
   pub is : leafTerm (c .m) (c .n) op v ≡ some t
-  pub bits : v < 16777216
+  pub bits : v < headValues
 
 pub record Read (values : List ℕ) (base op v : ℕ) (z : ℤ) : Type 0 where
   pub is : (c : Counts) (t : Term) → leafTerm (c .m) (c .n) op v ≡ some t → worth (memoryOf c values base) t ≡ value z
