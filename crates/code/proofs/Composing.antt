@@ -1,14 +1,14 @@
 -- The laws for whoever writes the cells: how a term that stands in a span grows, from one word on, and what may be written elsewhere meanwhile.
 use mathlib.Core.Path.{_≡_, refl, sym, ap, _∙_}
 use mathlib.Core.List.{List}
-use mathlib.Core.Option.{Option, none, some}
+use mathlib.Core.Option.{some}
 use Prim.Native.Nat.{ℕ, _+_, _-_, _*_, _/_, _%_, _<_, _≤_}
 use native.Mathlib.Omega.{arith}
 use lib.ListN.{getD, set}
 use lib.Seq.{getD-set-other}
 use Rattle.paper.specs.Terms.{Term, unary, binary}
 use Rattle.code.specs.Cells.{linkIn, headAt, opAt, valueAt, linkAt}
-use Rattle.code.specs.Spans.{aCallWord, aCallElement, aParenthesis, aSpan, rightIn, operatorIn, operatorOf, opOf, prefixIn, leafTerm, elementTerm, operandTerm, rightEnd, rightTerm, termIn}
+use Rattle.code.specs.Spans.{aCallWord, aCallElement, aParenthesis, aSpan, rightIn, operatorIn, operatorOf, opOf, prefixIn, leafTerm, elementTerm, operandTerm, termIn}
 use Rattle.code.proofs.Operands.{to-leaf, to-element, to-nested, to-prefix}
 use Rattle.code.proofs.Spanning.{Agree, end-span, end-leaf, right-span, right-leaf, chain-stop, kept, ended, composed, agree-same}
 

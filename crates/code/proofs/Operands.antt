@@ -1,16 +1,16 @@
 -- Operands: what a word's head says of the term that it begins, by its op, there and back.
 use mathlib.Core.Path.{_≡_, refl, sym, ap, ap₂, _∙_}
-use mathlib.Core.Bool.{Bool, true, false}
-use mathlib.Core.Option.{Option, none, some}
+use mathlib.Core.Bool.{true, false}
+use mathlib.Core.Option.{Option, some}
 use Prim.Native.Nat.{ℕ, _+_, _<_, _≤_}
 use native.Mathlib.Omega.{arith}
 use lib.Dec.{eqb, ltb, leb}
 use lib.IntN.{pos, _-ℤ_}
-use borrow.Author.Tests.{eqb-true, eq-eqb, ne-eqb, ltb-true, lt-ltb, leb-true, le-leb, lt-leb}
+use borrow.Author.Tests.{eq-eqb, ne-eqb, ltb-true, lt-ltb, leb-true, le-leb, lt-leb}
 use Rattle.laws.proofs.Tests.{test, by-most, by-same}
 use Rattle.paper.specs.Terms.{Ref, ofModule, ofRoutine, Term, literal, errno, stored, elementAt, unary}
 use Rattle.code.specs.Cells.{opIn, valueIn, errnoCell}
-use Rattle.code.specs.Spans.{aLiteral, aModuleWord, aCallWord, aModuleElement, aCallElement, aParenthesis, bias, guard, _then_, firstIn, sizeIn, prefixIn, moduleLeaf, leafTerm, elementTerm, operandOf}
+use Rattle.code.specs.Spans.{aLiteral, aModuleWord, aCallWord, aModuleElement, aCallElement, aParenthesis, bias, _then_, firstIn, sizeIn, prefixIn, moduleLeaf, leafTerm, elementTerm, operandOf}
 use Rattle.code.proofs.Options.{none-some, same-some, Guarded, guarded, guards, went, goes}
 
 -- ---- a leaf, by its op

@@ -1,18 +1,18 @@
 -- What a span says of its parts. One theorem, `kept`, says that the words outside do not matter, nor fuel that is left over, nor more words of data.
 use mathlib.Core.Path.{_≡_, refl, sym, ap, ap₂, subst, _∙_}
-use mathlib.Core.Bool.{Bool, true, false}
+use mathlib.Core.Bool.{true, false}
 use mathlib.Core.List.{List}
-use mathlib.Core.Option.{Option, none, some}
-use Prim.Native.Nat.{ℕ, zero, suc, _+_, _-_, _*_, _/_, _%_, _<_, _≤_}
+use mathlib.Core.Option.{Option, some}
+use Prim.Native.Nat.{ℕ, zero, suc, _+_, _-_, _<_, _≤_}
 use native.Mathlib.Omega.{arith}
-use lib.Dec.{eqb, leb}
+use lib.Dec.{eqb}
 use borrow.Author.Tests.{eq-eqb, ne-eqb, le-leb, lt-leb}
 use Rattle.laws.proofs.Tests.{by-same, by-most}
-use Rattle.paper.specs.Terms.{Term, unary, binary}
-use Rattle.code.specs.Cells.{opIn, valueIn, linkIn, headAt, opAt, valueAt, linkAt}
-use Rattle.code.specs.Spans.{aCallWord, aCallElement, aParenthesis, aSpan, rightIn, operatorIn, _then_, leafTerm, elementTerm, operandOf, operandTerm, rightEnd, rightTerm, chain, spanTerm, termIn}
+use Rattle.paper.specs.Terms.{Term, binary}
+use Rattle.code.specs.Cells.{opIn, valueIn, headAt, opAt, valueAt, linkAt}
+use Rattle.code.specs.Spans.{aSpan, rightIn, operatorIn, leafTerm, operandOf, operandTerm, rightEnd, rightTerm, chain, spanTerm, termIn}
 use Rattle.code.proofs.Options.{none-some, same-some, went, goes}
-use Rattle.code.proofs.Operands.{leaf-more, element-more, LeafAt, ElementAt, NestedAt, PrefixAt, of-any, to-leaf, to-element, to-nested, to-prefix}
+use Rattle.code.proofs.Operands.{leaf-more, element-more, of-any, to-leaf, to-element, to-nested, to-prefix}
 
 -- ---- the right side of an operator
 module _ (C : List ℕ) (i : ℕ) where

@@ -273,13 +273,8 @@ module _ (W : List Word) where
         and one-step W function n N some-routine (l .closes) [] (l .closes) endList (h .closes) tt f nothing
 
   -- a routine's two lists, in one table
-<<<<<<< HEAD
   lists-fit : (n : ℕ) → 0 < n → (M : Memory) (S : Scopes) → ScopesIn n S → (k j : ℕ) (body : RoutineList) (o : Option RoutineList) (function : Bool) (words : List ℤ) (fors : ℕ)
-      → SortsOfRoutineList (sortIn W) body → SortsOfHandler (sortIn W) o
-=======
-  lists-fit : (n : ℕ) → 0 < n → (M : Memory) (S : Scopes) → ScopesIn n S → (k j : ℕ) (body : RoutineList) (o : Option RoutineList) (function : Bool) (words : List ℤ)
       → SortsOfRoutineList (sortIn W) function body → SortsOfHandler (sortIn W) function o
->>>>>>> 9c31804b029ee8ad15c3ee156478d66d499eda46
       → CodeFits W n (record {
         function = function;
         words = words;
@@ -292,13 +287,8 @@ module _ (W : List Word) where
       let A = listSteps W M S k body in
       let N = Known (A ++ []) in
       let names = front-of A [] (names-known (A ++ [])) in
-<<<<<<< HEAD
-      record { start = first-step-named n N z M S c k body names; handler = λ i e. apart (cc); steps = routine-list-fits n N z M S c k body h names and nothing }
-  lists-fit n z M S c k j body (some l) function words fors h g =
-=======
       record { start = first-step-named function n N z M S c k body names; handler = λ i e. apart (cc); steps = routine-list-fits function n N z M S c k body h names and nothing }
-  lists-fit n z M S c k j body (some l) function words h g =
->>>>>>> 9c31804b029ee8ad15c3ee156478d66d499eda46
+  lists-fit n z M S c k j body (some l) function words fors h g =
       let A = listSteps W M S k body in
       let B = listSteps W M S j l in
       let N = Known (A ++ B) in

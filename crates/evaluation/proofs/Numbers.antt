@@ -1,16 +1,16 @@
 -- Numbers of 64 bits that hold a value of 32, and answers: from what the code tests to what the paper says.
-use mathlib.Core.Path.{_≡_, refl, sym, ap, ap₂, subst, _∙_}
+use mathlib.Core.Path.{_≡_, refl, sym, ap, subst, _∙_}
 use mathlib.Core.Bool.{Bool, true, false, not}
-use Prim.Native.Nat.{ℕ, zero, suc, _+_, _-_, _*_, _/_, _%_, _<_, _≤_}
+use Prim.Native.Nat.{ℕ, zero, suc, _+_, _-_, _/_, _<_}
 use native.Mathlib.Omega.{arith}
 use native.Mathlib.Nat.{div-le-self, pos-of-ne-zero, div-lt-iff-lt-mul}
 use lib.Dec.{T, eqb, ltb}
 use lib.IntN.{ℤ, pos, negsuc, negℤ, natAbs, _-ℤ_, +ℤ-idl}
-use lib.Signed.{mag, ltZ, leZ, quotZ, remZ, mag-rem}
+use lib.Signed.{ltZ, leZ, quotZ, remZ, mag-rem}
 use mir.Syntax.{w32, w64}
 use mir.Val.{SFits, toZ, ofZ}
 use mir.Facts.{toZ-ofZ}
-use borrow.Author.Tests.{eqb-true, eqb-false, eq-eqb, ne-eqb, lt-ltb, le-ltb, ltb-true, ltb-false, le-leb, lt-leb}
+use borrow.Author.Tests.{eq-eqb, ne-eqb, lt-ltb, le-ltb, ltb-true, ltb-false, le-leb, lt-leb}
 use Rattle.laws.proofs.Tests.{test, by-same}
 use Rattle.paper.specs.Numbers as paper
 use Rattle.paper.specs.Numbers.{Value, value, error, isZero, same, num, overflow}
@@ -20,21 +20,39 @@ use Rattle.numbers.proofs.Complement.{widened}
 use Rattle.evaluation.specs.Answers.{firstError, decoded, Small, Gives}
 use Rattle.evaluation.specs.Parts.{outside, Divided}
 
+-- ---- numbers of the code
+-- num's ends, and a number past them
+abbrev lowest : ℤ
+lowest = negsuc 8388606
+
+abbrev highest : ℤ
+highest = pos 8388608
+
+abbrev beyond : ℤ
+beyond = pos 8388609
+
+-- 2^64, and the bits of -1
+abbrev full : ℕ
+full = 18446744073709551616
+
+abbrev ones : ℕ
+ones = 18446744073709551615
+
 -- ---- tests
 pub zero-bits : (a : ℤ) → SFits w64 a → eqb (ofZ w64 a) 0 ≡ isZero a
 unfolding isZero
 zero-bits (pos n) s = refl
-zero-bits (negsuc n) s = ne-eqb (18446744073709551616 - suc n) 0 (λ e. omega (arith, s .sfits))
+zero-bits (negsuc n) s = ne-eqb (full - suc n) 0 (λ e. omega (arith, s .sfits))
 
 pub same-bits : (a b : ℤ) → SFits w64 a → SFits w64 b → eqb (ofZ w64 a) (ofZ w64 b) ≡ same a b
 unfolding same
 same-bits (pos a) (pos b) s t = refl
-same-bits (pos a) (negsuc b) s t = ne-eqb a (18446744073709551616 - suc b) (λ e. omega (arith, s .sfits, t .sfits))
-same-bits (negsuc a) (pos b) s t = ne-eqb (18446744073709551616 - suc a) b (λ e. omega (arith, s .sfits, t .sfits))
+same-bits (pos a) (negsuc b) s t = ne-eqb a (full - suc b) (λ e. omega (arith, s .sfits, t .sfits))
+same-bits (negsuc a) (pos b) s t = ne-eqb (full - suc a) b (λ e. omega (arith, s .sfits, t .sfits))
 same-bits (negsuc a) (negsuc b) s t =
     by-same a b
-    (λ e. eq-eqb (18446744073709551616 - suc a) (18446744073709551616 - suc b) (ap (λ (k : ℕ). 18446744073709551616 - suc k) e) ∙ sym (eq-eqb a b e))
-    (λ e. ne-eqb (18446744073709551616 - suc a) (18446744073709551616 - suc b) (λ q. e (omega (arith, s .sfits, t .sfits))) ∙ sym (ne-eqb a b e))
+    (λ e. eq-eqb (full - suc a) (full - suc b) (ap (λ (k : ℕ). full - suc k) e) ∙ sym (eq-eqb a b e))
+    (λ e. ne-eqb (full - suc a) (full - suc b) (λ q. e (omega (arith, s .sfits, t .sfits))) ∙ sym (ne-eqb a b e))
 
 pub not-less : (a b : ℤ) → not (ltZ b a) ≡ leZ a b
 not-less (pos a) (pos b) = test (ltb b a) (λ t. ap not t ∙ sym (lt-leb a b (ltb-true b a t))) (λ t. ap not t ∙ sym (le-leb a b (ltb-false b a t)))
@@ -52,28 +70,28 @@ truth-false b h = rw h
 
 -- ---- num
 module _ (z : ℤ) (s : SFits w64 z) where
-  pub outside-low : ltZ (read z) (negsuc 8388606) ≡ true → true ≡ outside z
+  pub outside-low : ltZ (read z) lowest ≡ true → true ≡ outside z
   unfolding outside num
-  outside-low h = let q : ltZ z (negsuc 8388606) ≡ true = rw (toZ-ofZ s) at h in rw (q, outside)
+  outside-low h = let q : ltZ z lowest ≡ true = rw (toZ-ofZ s) at h in rw (q, outside)
 
-  pub outside-high : ltZ (read z) (negsuc 8388606) ≡ false → ltZ (pos 8388608) (read z) ≡ outside z
+  pub outside-high : ltZ (read z) lowest ≡ false → ltZ highest (read z) ≡ outside z
   unfolding outside num
-  outside-high h = let q : ltZ z (negsuc 8388606) ≡ false = rw (toZ-ofZ s) at h in rw (q, outside) (rw (toZ-ofZ s))
+  outside-high h = let q : ltZ z lowest ≡ false = rw (toZ-ofZ s) at h in rw (q, outside) (rw (toZ-ofZ s))
 
 module _ (z : ℤ) where
   pub ranged-inside : outside z ≡ false → paper.ranged num z ≡ value z
   unfolding outside paper.ranged num
   ranged-inside h =
-      test (ltZ z (negsuc 8388606))
+      test (ltZ z lowest)
       (λ t. let q : true ≡ false = rw (t, outside) at h in absurd (subst T q tt))
-      (λ t. let q : ltZ (pos 8388608) z ≡ false = rw (t, outside) at h in rw (t, paper.ranged) (rw q))
+      (λ t. let q : ltZ highest z ≡ false = rw (t, outside) at h in rw (t, paper.ranged) (rw q))
 
   pub ranged-outside : outside z ≡ true → paper.ranged num z ≡ error overflow
   unfolding outside paper.ranged num
   ranged-outside h =
-      test (ltZ z (negsuc 8388606))
+      test (ltZ z lowest)
       (λ t. rw (t, paper.ranged))
-      (λ t. let q : ltZ (pos 8388608) z ≡ true = rw (t, outside) at h in rw (t, paper.ranged) (rw q))
+      (λ t. let q : ltZ highest z ≡ true = rw (t, outside) at h in rw (t, paper.ranged) (rw q))
 
 pub inside-small : (z : ℤ) → outside z ≡ false → SFits w32 z
 unfolding outside num
@@ -109,10 +127,10 @@ small-value (negsuc n) h = refl
 pub gives-value : (z : ℤ) → SFits w32 z → Gives (value z) z
 gives-value z h = record { is = is-value z (small-value z h); small = λ q. h }
 
-pub gives-error : (e n : ℕ) → n ≡ firstError + e → Gives (error e) (pos n)
-gives-error e n h =
-    let l : ltZ (pos n) (pos firstError) ≡ false = le-ltb n firstError (omega arith) in
-    record { is = is-error (pos n) l ∙ ap error (omega arith); small = λ q. absurd (subst T (sym q ∙ l) tt) }
+pub gives-error : (e : ℕ) → Gives (error e) (pos (firstError + e))
+gives-error e =
+    let l : ltZ (pos (firstError + e)) (pos firstError) ≡ false = le-ltb (firstError + e) firstError (omega arith) in
+    record { is = is-error (pos (firstError + e)) l ∙ ap error (omega arith); small = λ q. absurd (subst T (sym q ∙ l) tt) }
 
 pub gives-as : (v u : Value) (z : ℤ) → v ≡ u → Gives v z → Gives u z
 gives-as v u z e g = record { is = g .is ∙ e; small = g .small }
@@ -126,9 +144,6 @@ pub told : (a : ℤ) (t u : Bool) → SFits w64 a → t ≡ ltZ (read a) (pos fi
 told a t u s e h = rw (toZ-ofZ s) at (sym e ∙ h)
 
 -- ---- quotients and remainders
-read32 : ℤ → ℤ
-read32 z = toZ w32 (ofZ w32 z)
-
 quot-small : (a b : ℤ) → SFits w32 a → (b ≡ negsuc 0 → ⊥) → SFits w32 (quotZ a b)
 quot-small (pos a) (pos b) s h = record { sfits = omega (arith, div-le-self a b, s .sfits) }
 quot-small (pos a) (negsuc b) s h = record { sfits = omega (arith, mag-neg (a / suc b) a (omega (arith, div-le-self a (suc b))), s .sfits) }
@@ -147,7 +162,7 @@ bits-not (negsuc n) s h = omega (arith, s .sfits)
 pub narrowed : (a : ℤ) → SFits w64 a → SFits w32 a → SFits w32 (read a)
 narrowed a s f = rw (toZ-ofZ s) f
 
-pub divided-none : (b exact : ℤ) (t : Bool) → SFits w64 b → t ≡ isZero (read b) → t ≡ true → Divided b exact (pos 8388609)
+pub divided-none : (b exact : ℤ) (t : Bool) → SFits w64 b → t ≡ isZero (read b) → t ≡ true → Divided b exact beyond
 unfolding outside num
 divided-none b exact t s e h =
     let q : isZero b ≡ true = rw (toZ-ofZ s) at (sym e ∙ h) in
@@ -160,7 +175,7 @@ module _ (a b : ℤ) (sa : SFits w64 a) (sb : SFits w64 b) (fa : SFits w32 a) (f
   divided : (exact z : ℤ) → z ≡ exact → Divided b exact z
   divided exact z q = record { none = λ k. absurd (subst T (sym k ∙ not-zero) tt); is = λ k. q }
 
-  minus-is : ofZ w64 b ≡ 18446744073709551615 → b ≡ negsuc 0
+  minus-is : ofZ w64 b ≡ ones → b ≡ negsuc 0
   minus-is k = bits-same b (negsuc 0) sb (record { sfits = omega arith }) k
 
   pub minus-fits : SFits w64 (pos 0 -ℤ read a)
@@ -171,15 +186,15 @@ module _ (a b : ℤ) (sa : SFits w64 a) (sb : SFits w64 b) (fa : SFits w32 a) (f
       turned (pos (suc n)) s = record { sfits = omega (arith, s .sfits) }
       turned (negsuc n) s = record { sfits = omega (arith, s .sfits) }
 
-  pub quot-minus : ofZ w64 b ≡ 18446744073709551615 → Divided b (quotZ a b) (read (pos 0 -ℤ read a))
+  pub quot-minus : ofZ w64 b ≡ ones → Divided b (quotZ a b) (read (pos 0 -ℤ read a))
   quot-minus k =
       divided (quotZ a b) (read (pos 0 -ℤ read a))
       (toZ-ofZ minus-fits ∙ +ℤ-idl (negℤ (read a)) ∙ ap negℤ (toZ-ofZ sa) ∙ sym (quot-by-minus-one a) ∙ ap (quotZ a) (sym (minus-is k)))
 
-  pub rem-minus : ofZ w64 b ≡ 18446744073709551615 → Divided b (remZ a b) (pos 0)
+  pub rem-minus : ofZ w64 b ≡ ones → Divided b (remZ a b) (pos 0)
   rem-minus k = divided (remZ a b) (pos 0) (sym (rem-by-minus-one a) ∙ ap (remZ a) (sym (minus-is k)))
 
-  module _ (k : ofZ w64 b ≡ 18446744073709551615 → ⊥) where
+  module _ (k : ofZ w64 b ≡ ones → ⊥) where
     back-a : toZ w32 (ofZ w32 (read a)) ≡ a
     back-a = ap (λ (z : ℤ). toZ w32 (ofZ w32 z)) (toZ-ofZ sa) ∙ toZ-ofZ fa
 

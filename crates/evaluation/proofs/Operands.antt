@@ -1,35 +1,35 @@
 -- Operands: what is loaded, and that it is inside the store.
-use mathlib.Core.Path.{_≡_, refl, sym, ap, ap₂, subst, _∙_}
+use mathlib.Core.Path.{_≡_, refl, sym, ap, subst, _∙_}
 use mathlib.Core.Bool.{Bool, true, false}
 use mathlib.Core.List.{List, map}
-use mathlib.Core.Option.{Option, some}
+use mathlib.Core.Option.{some}
 use Prim.Native.Nat.{ℕ, _+_, _-_, _*_, _/_, _%_, _<_, _≤_}
 use native.Mathlib.Omega.{arith}
-use lib.Dec.{T, eqb, leb, ltb}
+use lib.Dec.{T, eqb}
 use lib.ListN.{length, getD, take, drop, List·getD-map}
 use lib.Seq.{getD-take, getD-drop}
 use lib.IntN.{ℤ, pos, negsuc, natAbs, _-ℤ_}
-use lib.Signed.{mag, ltZ, nonNeg}
+use lib.Signed.{ltZ, nonNeg}
 use mir.Syntax.{w32, w64}
-use mir.Val.{Fits, SFits, toZ, ofZ}
+use mir.Val.{Fits, SFits, toZ}
 use mir.Facts.{toZ-ofZ}
 use mir.ValLaws.{toZ-pos, toZ-fits}
 use borrow.Author.Tests.{eq-eqb, ne-eqb, ltb-true, ltb-false, le-leb, lt-leb}
-use Rattle.laws.proofs.Tests.{test, by-same, by-most}
+use Rattle.laws.proofs.Tests.{test, by-same}
 use Rattle.paper.specs.Numbers.{Value, value, error, outOfBound}
-use Rattle.paper.specs.Terms.{Memory, Ref, ofModule, ofRoutine, onward, Term, literal, errno, stored, elementAt, unary, applied, worth, load, Located, at, fails, locate, loadFrom}
+use Rattle.paper.specs.Terms.{ofModule, ofRoutine, onward, Term, literal, errno, unary, applied, worth, load, at, locate, loadFrom}
 use Rattle.cells.specs.Words.{wordsOf}
 use Rattle.numbers.proofs.Whole.{read, minus-cases}
 use Rattle.code.specs.Cells.{opIn, valueIn, errnoCell}
-use Rattle.code.specs.Spans.{aLiteral, aModuleWord, aCallWord, aModuleElement, aCallElement, aParenthesis, bias, firstIn, sizeIn, prefixIn, leafTerm, elementTerm, memoryIn}
+use Rattle.code.specs.Spans.{bias, aLiteral, aModuleWord, aCallWord, aModuleElement, aCallElement, aParenthesis, firstIn, sizeIn, prefixIn, leafTerm, elementTerm, memoryIn}
 use Rattle.code.proofs.Options.{same-some}
 use Rattle.code.proofs.Operands.{leaf-literal, leaf-errno, leaf-module, leaf-call, by-leaf, arrayIn, roomIn, Shaped, shaped}
 use Rattle.evaluation.specs.Answers.{firstError, decoded, Small, Gives, Counts, memoryOf, Stores}
-use Rattle.evaluation.specs.Parts.{Loaded, Leaf, Read, cellOf, closedTerm, opensAt, endsAt, Array, Indexed, Closes, Closed}
+use Rattle.evaluation.specs.Parts.{cellValues, Loaded, Leaf, Read, cellOf, closedTerm, opensAt, endsAt, Array, Indexed, Closes, Closed}
 use Rattle.evaluation.proofs.Numbers.{is-value, is-error, gives-value, gives-error, gives-same, told}
 
 -- ---- a word
-pub loads : (k n : ℕ) → k < 4294967296 → k ≡ n → (z : ℤ) → SFits w64 z → z ≡ toZ w32 k → Loaded n (read z)
+pub loads : (k n : ℕ) → k < cellValues → k ≡ n → (z : ℤ) → SFits w64 z → z ≡ toZ w32 k → Loaded n (read z)
 loads k n h e z s q = rw (toZ-ofZ s) (record { is = q ∙ ap (toZ w32) e; small = rw q (toZ-fits w32 k (record { fits = h })) })
 
 map-at : (X : List ℕ) (k : ℕ) → getD (map (toZ w32) X) k (pos 0) ≡ toZ w32 (getD X k 0)
@@ -90,15 +90,15 @@ module _ (values : List ℕ) (base : ℕ) (st : Stores values base) (op v : ℕ)
       (ap (worth (memoryOf c values base)) (sym (g .is)) ∙ ap value (load-call (c .m) (c .n) (wordsOf values) base v l)))
 
   module _ (lf : Leaf op v) where
-    pub literal-fits : SFits w64 (toZ w64 v -ℤ pos 8388607)
+    pub literal-fits : SFits w64 (toZ w64 v -ℤ pos bias)
     literal-fits =
         rw (toZ-pos w64 v (omega (arith, lf .bits)))
-        (minus-cases (λ z. SFits w64 z) v 8388607 (λ h. record { sfits = omega arith }) (λ h. record { sfits = omega (arith, lf .bits) }))
+        (minus-cases (λ z. SFits w64 z) v bias (λ h. record { sfits = omega arith }) (λ h. record { sfits = omega (arith, lf .bits) }))
 
-    literal-small : SFits w32 (pos v -ℤ pos 8388607)
-    literal-small = minus-cases (λ z. SFits w32 z) v 8388607 (λ h. record { sfits = omega arith }) (λ h. record { sfits = omega (arith, lf .bits) })
+    literal-small : SFits w32 (pos v -ℤ pos bias)
+    literal-small = minus-cases (λ z. SFits w32 z) v bias (λ h. record { sfits = omega arith }) (λ h. record { sfits = omega (arith, lf .bits) })
 
-    pub read-literal : op ≡ 1 → Read values base op v (read (toZ w64 v -ℤ pos 8388607))
+    pub read-literal : op ≡ 1 → Read values base op v (read (toZ w64 v -ℤ pos bias))
     unfolding worth
     read-literal h =
         rw (toZ-ofZ literal-fits, toZ-pos w64 v (omega (arith, lf .bits)))
@@ -168,23 +168,23 @@ module _ (values : List ℕ) (base w : ℕ) (x : ℤ) (st : Stores values base) 
     unfolding located
     by-value r y g f = answers r y g (λ c t u k z d. f c t u k ∙ ap (located c) (sym val ∙ d))
 
-    pub index-low : ltZ (read x) (pos 1) ≡ true → Indexed values base w x (pos 4294968299)
+    pub index-low : ltZ (read x) (pos 1) ≡ true → Indexed values base w x (pos (firstError + outOfBound))
     unfolding loadFrom locate located
     index-low l =
         let q : ltZ x (pos 1) ≡ true = rw (toZ-ofZ s) at l in
-        by-value (pos 4294968299) (error outOfBound) (gives-error outOfBound 4294968299 refl) (λ c t u k. rw (q, locate))
+        by-value (pos (firstError + outOfBound)) (error outOfBound) (gives-error outOfBound) (λ c t u k. rw (q, locate))
 
-    module _ (l : ltZ (read x) (pos 1) ≡ false) (n : w < 4294967296) where
+    module _ (l : ltZ (read x) (pos 1) ≡ false) (n : w < cellValues) where
       low-is : ltZ x (pos 1) ≡ false
       low-is = rw (toZ-ofZ s) at l
 
       high-is : (y : Bool) → ltZ (toZ w64 (w / 256 / 1024)) (read x) ≡ y → ltZ (pos (sizeIn (valueIn w))) x ≡ y
       high-is y g = rw (toZ-pos w64 (w / 256 / 1024) (omega arith), toZ-ofZ s) at g
 
-      pub index-high : ltZ (toZ w64 (w / 256 / 1024)) (read x) ≡ true → Indexed values base w x (pos 4294968299)
+      pub index-high : ltZ (toZ w64 (w / 256 / 1024)) (read x) ≡ true → Indexed values base w x (pos (firstError + outOfBound))
       unfolding loadFrom locate located
       index-high g =
-          by-value (pos 4294968299) (error outOfBound) (gives-error outOfBound 4294968299 refl) (λ c t u k. rw (low-is, locate) (rw (high-is true g)))
+          by-value (pos (firstError + outOfBound)) (error outOfBound) (gives-error outOfBound) (λ c t u k. rw (low-is, locate) (rw (high-is true g)))
 
       module _ (g : ltZ (toZ w64 (w / 256 / 1024)) (read x) ≡ false) where
         record Within : Type 0 where

@@ -1,27 +1,27 @@
 -- Operators: from what is worked out with no regard to num to what the paper says that they give.
 use mathlib.Core.Path.{_≡_, refl, sym, ap, ap₂, subst, _∙_}
 use mathlib.Core.Bool.{Bool, true, false, not}
-use Prim.Native.Nat.{ℕ, zero, suc, _+_, _-_, _*_, _<_, _≤_}
+use Prim.Native.Nat.{ℕ, suc, _+_, _*_, _<_, _≤_}
 use native.Mathlib.Omega.{arith}
 use native.Mathlib.Nat.{mul-le-mul}
-use lib.Dec.{T, eqb, leb}
-use lib.ListN.{getD, length, List·getD-eq-default}
+use lib.Dec.{T, eqb, ltb}
+use lib.ListN.{List·getD-eq-default}
 use lib.IntN.{ℤ, pos, negsuc, negℤ, natAbs, _+ℤ_, _-ℤ_, _*ℤ_, +ℤ-idl}
-use lib.Signed.{mag, ltZ, leZ, quotZ, remZ, natAbs-le}
+use lib.Signed.{ltZ, leZ, quotZ, remZ, natAbs-le}
 use mir.Syntax.{w32, w64}
 use mir.Val.{SFits}
 use mir.Facts.{toZ-ofZ}
-use borrow.Author.Tests.{eq-eqb, ne-eqb, le-leb, lt-leb}
+use borrow.Author.Tests.{ne-eqb, le-leb, lt-leb, lt-ltb, le-ltb}
 use Rattle.laws.proofs.Tests.{test, by-less, by-last}
 use Rattle.paper.specs.Sorts.{AND, OR, XOR}
 use Rattle.paper.specs.Numbers as paper
-use Rattle.paper.specs.Numbers.{num, Value, value, error, add, subtract, multiply, divide, modulo, isZero, same, overflow, divZero}
+use Rattle.paper.specs.Numbers.{num, value, error, add, subtract, multiply, divide, modulo, isZero, same, overflow, divZero}
 use Rattle.paper.specs.Terms.{truth, applied, known, combined, operated}
 use Rattle.numbers.proofs.Whole.{read, sub-cases, mag-abs, abs-neg, abs-mul, rem-is}
-use Rattle.code.specs.Spans.{operators, operatorOf, prefixIn, aNot, aMinus}
+use Rattle.code.specs.Spans.{operators, operatorOf, prefixIn}
 use Rattle.evaluation.specs.Answers.{firstError, decoded, Small, Gives}
-use Rattle.evaluation.specs.Parts.{outside, joined, failureOf, firstLogic, Worked, Divided}
-use Rattle.evaluation.proofs.Numbers.{not-less, ranged-inside, ranged-outside, truth-inside, truth-small, is-value, is-error, gives-value, gives-error, gives-as, gives-same, told, inside-small}
+use Rattle.evaluation.specs.Parts.{outside, joined, failureOf, firstLogic, failing, Worked, Divided}
+use Rattle.evaluation.proofs.Numbers.{not-less, ranged-inside, ranged-outside, truth-inside, truth-small, is-value, is-error, gives-value, gives-error, gives-as, gives-same, told, inside-small, outside-is}
 
 -- ---- operators by their numbers
 -- from 14 on there is only XOR
@@ -92,21 +92,53 @@ known-none number a p q = let h = plain number p q in rw (h .0, known) (rw (h .1
 
 -- ---- what fails
 module _ (number : ℕ) (b : ℤ) where
-  pub fails-early : number < 3 → Gives (error (failureOf number b)) (pos 4294968297)
+  pub fails-early : number < 3 → Gives (error (failureOf number b)) (pos (firstError + overflow))
   unfolding failureOf
-  fails-early h = rw (lt-leb 3 number h, failureOf) (gives-error overflow 4294968297 refl)
+  fails-early h = rw (lt-leb 3 number h, failureOf) (gives-error overflow)
 
   module _ (h : 3 ≤ number) (s : SFits w64 b) (t : Bool) (e : t ≡ isZero (read b)) where
     divisor-is : (u : Bool) → t ≡ u → isZero b ≡ u
     divisor-is u q = rw (toZ-ofZ s) at (sym e ∙ q)
 
-    pub fails-zero : t ≡ true → Gives (error (failureOf number b)) (pos 4294968298)
+    pub fails-zero : t ≡ true → Gives (error (failureOf number b)) (pos (firstError + divZero))
     unfolding failureOf
-    fails-zero q = rw (le-leb 3 number h, failureOf) (rw (divisor-is true q) (gives-error divZero 4294968298 refl))
+    fails-zero q = rw (le-leb 3 number h, failureOf) (rw (divisor-is true q) (gives-error divZero))
 
-    pub fails-over : t ≡ false → Gives (error (failureOf number b)) (pos 4294968297)
+    pub fails-over : t ≡ false → Gives (error (failureOf number b)) (pos (firstError + overflow))
     unfolding failureOf
-    fails-over q = rw (le-leb 3 number h, failureOf) (rw (divisor-is false q) (gives-error overflow 4294968297 refl))
+    fails-over q = rw (le-leb 3 number h, failureOf) (rw (divisor-is false q) (gives-error overflow))
+
+-- ---- whether a result fails
+module _ (k : ℕ) (z : ℤ) where
+  pub holds-inside : k < firstLogic → failing k z ≡ false → outside z ≡ false
+  unfolding failing
+  holds-inside h f =
+      test (outside z)
+      (λ t. let q : ltb k firstLogic ≡ false = rw (t, failing) at f in absurd (subst T (sym (lt-ltb k firstLogic h) ∙ q) tt))
+      (λ t. t)
+
+  pub fails-outside : failing k z ≡ true → outside z ≡ true
+  unfolding failing
+  fails-outside f = test (outside z) (λ t. t) (λ t. let q : false ≡ true = rw (t, failing) at f in absurd (subst T (sym q) tt))
+
+  pub inside-holds : outside z ≡ false → failing k z ≡ false
+  unfolding failing
+  inside-holds t = rw (t, failing)
+
+  pub logic-holds : firstLogic ≤ k → failing k z ≡ false
+  unfolding failing
+  logic-holds h = test (outside z) (λ t. rw (t, failing) (le-ltb k firstLogic h)) inside-holds
+
+module _ (k : ℕ) (z : ℤ) (s : SFits w64 z) (t : Bool) (e : t ≡ outside (read z)) where
+  pub failing-outside : t ≡ true → ltb k 12 ≡ failing k z
+  unfolding failing
+  failing-outside h = rw (outside-is z t true s e h, failing)
+
+  pub failing-inside : t ≡ false → false ≡ failing k z
+  failing-inside h = sym (inside-holds k z (outside-is z t false s e h))
+
+pub failing-is : (k : ℕ) (z : ℤ) (t u : Bool) → SFits w64 z → t ≡ failing k (read z) → t ≡ u → failing k z ≡ u
+failing-is k z t u s e h = rw (toZ-ofZ s) at (sym e ∙ h)
 
 -- ---- what is worked out
 abs-size : (a : ℤ) → SFits w32 a → natAbs a ≤ 2147483648
@@ -134,24 +166,20 @@ module _ (a b : ℤ) (sa : SFits w64 a) (sb : SFits w64 b) (fa : SFits w32 a) (f
 -- a number that num holds or not
 held : (k : ℕ) (a b z : ℤ) → k < firstLogic → failureOf k b ≡ overflow → joined (operatorOf k) (value a) (value b) ≡ paper.ranged num z → Worked k a b z
 held k a b z h f e = record {
-  inside = λ o. e ∙ ranged-inside z o;
-  fails = λ o q. e ∙ ranged-outside z o ∙ ap error (sym f);
-  logic = λ q. absurd (omega arith);
-  small = λ q. absurd (omega arith);
+  is = λ o. e ∙ ranged-inside z (holds-inside k z h o);
+  small = λ o. inside-small z (holds-inside k z h o);
+  fails = λ o. e ∙ ranged-outside z (fails-outside k z o) ∙ ap error (sym f);
 }
 
--- a truth
+-- a number that is the answer in any case: a truth, or one of the sides
+whole : (k : ℕ) (a b z : ℤ) → SFits w32 z → failing k z ≡ false → joined (operatorOf k) (value a) (value b) ≡ value z → Worked k a b z
+whole k a b z s f e = record { is = λ o. e; small = λ o. s; fails = λ o. absurd (subst T (sym o ∙ f) tt) }
+
 true-is : (k : ℕ) (a b : ℤ) (t : Bool) → joined (operatorOf k) (value a) (value b) ≡ value (truth t) → Worked k a b (truth t)
-true-is k a b t e = record {
-  inside = λ o. e;
-  fails = λ o q. absurd (subst T (sym o ∙ truth-inside t) tt);
-  logic = λ q. e;
-  small = λ q. truth-small t;
-}
+true-is k a b t e = whole k a b (truth t) (truth-small t) (inside-holds k (truth t) (truth-inside t)) e
 
--- one of the sides
 side : (k : ℕ) (a b z : ℤ) → firstLogic ≤ k → SFits w32 z → joined (operatorOf k) (value a) (value b) ≡ value z → Worked k a b z
-side k a b z h s e = record { inside = λ o. e; fails = λ o q. absurd (omega arith); logic = λ q. e; small = λ q. s }
+side k a b z h s e = whole k a b z s (logic-holds k z h) e
 
 -- a quotient or a remainder
 quotients : (k : ℕ) (a b z exact : ℤ) → k < firstLogic → 3 ≤ k → Divided b exact z
@@ -162,10 +190,9 @@ unfolding failureOf
 quotients k a b z exact h j d f g =
     test (isZero b)
     (λ t. record {
-      inside = λ o. absurd (subst T (sym (d .none t) ∙ o) tt);
-      fails = λ o q. f t ∙ ap error (sym (rw (le-leb 3 k j, failureOf) (rw t)));
-      logic = λ q. absurd (omega arith);
-      small = λ q. absurd (omega arith);
+      is = λ o. absurd (subst T (sym (d .none t) ∙ holds-inside k z h o) tt);
+      small = λ o. absurd (subst T (sym (d .none t) ∙ holds-inside k z h o) tt);
+      fails = λ o. f t ∙ ap error (sym (rw (le-leb 3 k j, failureOf) (rw t)));
     })
     (λ t. held k a b z h (rw (le-leb 3 k j, failureOf) (rw t)) (g t ∙ ap (paper.ranged num) (sym (d .is t))))
 
@@ -322,8 +349,8 @@ module _ (op : ℕ) (a : ℤ) (sa : SFits w64 a) (sm : Small a) (t : Bool) (e : 
       unfolding applied prefixIn paper.minus
       applies = rw (val, k)
 
-      pub apply-over : b ≡ true → Gives (applied (prefixIn op) (decoded a)) (pos 4294968297)
-      apply-over r = gives-as (error overflow) (applied (prefixIn op) (decoded a)) (pos 4294968297) (sym (applies ∙ ranged-outside (negℤ a) (minus-is true r))) (gives-error overflow 4294968297 refl)
+      pub apply-over : b ≡ true → Gives (applied (prefixIn op) (decoded a)) (pos (firstError + overflow))
+      apply-over r = gives-as (error overflow) (applied (prefixIn op) (decoded a)) (pos (firstError + overflow)) (sym (applies ∙ ranged-outside (negℤ a) (minus-is true r))) (gives-error overflow)
 
       pub apply-minus : b ≡ false → Gives (applied (prefixIn op) (decoded a)) (read (pos 0 -ℤ read a))
       apply-minus r =

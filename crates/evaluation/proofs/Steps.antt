@@ -1,31 +1,30 @@
 -- The places of the evaluation: what its loop keeps, how it starts, goes on, fails and ends.
 use mathlib.Core.Path.{_≡_, refl, sym, ap, ap₂, subst, _∙_}
-use mathlib.Core.Bool.{Bool, true, false, not}
+use mathlib.Core.Bool.{Bool, true, false}
 use mathlib.Core.List.{List}
-use mathlib.Core.Option.{Option, some}
+use mathlib.Core.Option.{some}
 use Prim.Native.Nat.{ℕ, zero, suc, _+_, _-_, _*_, _/_, _%_, _<_, _≤_}
 use native.Mathlib.Omega.{arith}
-use lib.Dec.{T, leb}
+use lib.Dec.{leb}
 use lib.ListN.{length}
 use lib.IntN.{ℤ, pos, natAbs}
 use lib.Signed.{ltZ}
 use mir.Syntax.{w32, w64}
-use mir.Val.{SFits, toZ, ofZ}
+use mir.Val.{SFits}
 use mir.Facts.{toZ-ofZ}
-use borrow.Author.Tests.{le-leb, lt-leb, eq-eqb, ne-eqb, not-true, not-false}
+use borrow.Author.Tests.{le-leb, lt-leb, eq-eqb, ne-eqb}
 use Rattle.laws.proofs.Tests.{test, by-same}
 use Rattle.paper.specs.Numbers.{Value, value, error}
-use Rattle.paper.specs.Terms.{Memory, Term, unary, binary, worth, known, combined}
+use Rattle.paper.specs.Terms.{Memory, Term, binary, worth, known, combined}
 use Rattle.cells.specs.Words.{wordsOf}
 use Rattle.numbers.proofs.Whole.{read}
-use Rattle.code.specs.Cells.{opIn, valueIn, headAt, opAt, valueAt, linkAt}
-use Rattle.code.specs.Spans.{aCallWord, aCallElement, aParenthesis, aSpan, numberIn, rightIn, operatorOf, operatorIn, prefixIn, leafTerm, operandTerm, rightEnd, rightTerm, chain, termIn}
-use Rattle.code.proofs.Options.{same-some}
-use Rattle.code.proofs.Operands.{of-any, LeafAt, of-leaf}
+use Rattle.code.specs.Cells.{opIn, valueIn, headAt, opAt, linkAt}
+use Rattle.code.specs.Spans.{rightIn, operatorOf, operatorIn, leafTerm, operandTerm, rightEnd, rightTerm, chain, termIn}
+use Rattle.code.proofs.Operands.{of-any, of-leaf}
 use Rattle.code.proofs.Spanning.{end-span, end-leaf, right-span, right-leaf, chain-done, Step, chain-step, right-moves, Begun, begun, span-grows, single}
-use Rattle.evaluation.specs.Answers.{firstError, decoded, Small, Gives, Counts, termOf, memoryOf, Stores, Stands, Evaluated}
-use Rattle.evaluation.specs.Parts.{outside, joined, failureOf, firstLogic, Worked, Leaf, Read, closedTerm, opensAt, endsAt, Closes, Closed}
-use Rattle.evaluation.proofs.Numbers.{is-value, is-error, small-value, inside-small, gives-value, told}
+use Rattle.evaluation.specs.Answers.{firstError, decoded, Small, Gives, Counts, termOf, memoryOf, Stands, Evaluated}
+use Rattle.evaluation.specs.Parts.{cellValues, joined, failureOf, failing, Worked, Leaf, Read, closedTerm, opensAt, endsAt, Closes, Closed, Encloses, Entered}
+use Rattle.evaluation.proofs.Numbers.{is-value, is-error, small-value}
 
 -- ---- what the loop keeps
 
@@ -139,7 +138,7 @@ module _ (code values : List ℕ) (base : ℕ) where
           let g = of-leaf (c .m) (c .n) (headAt (wordsOf code) from) (linkAt (wordsOf code) from) (termIn (c .m) (c .n) (wordsOf code)) from x e (omega (arith, op-is)) in
           (ap (λ (v : ℕ). leafTerm (c .m) (c .n) (v % 256) (v / 256)) ew ∙ g .is, g .end)
 
-      pub first-leaf : w % 256 ≤ 3 → w < 4294967296 → Leaf (w % 256) (w / 256)
+      pub first-leaf : w % 256 ≤ 3 → w < cellValues → Leaf (w % 256) (w / 256)
       first-leaf h k =
           let b = begins (sd .c) (sd .t) (sd .is) in
           record { c = sd .c; t = b .x .0; is = leaf-at h (sd .c) (b .x) (b .first) .0; bits = omega arith }
@@ -152,83 +151,105 @@ module _ (code values : List ℕ) (base : ℕ) where
           })
 
       -- an operand of several words: what stands inside it, and what it makes of that
-      record Enclosed (c : Counts) (x : Term × ℕ) (s l : ℕ) : Type 0 where
+      record Enclosed (c : Counts) (x : Term × ℕ) (l : ℕ) : Type 0 where
         pub t : Term
-        pub inside : termOf c code s l ≡ some t
+        pub inside : termOf c code (opensAt (opIn w) from) l ≡ some t
         pub is : closedTerm c (opIn w) (valueIn w) t ≡ some (x .0)
         pub end : x .1 ≡ endsAt (w % 256) l
 
-      module _ (h : 3 < w % 256) (l : ℕ) (el : l ≡ linkAt (wordsOf code) from) (s : ℕ) (es : s ≡ opensAt (w % 256) from) where
-        enclosed : (c : Counts) (x : Term × ℕ) → operandTerm (c .m) (c .n) (wordsOf code) (termIn (c .m) (c .n) (wordsOf code)) from ≡ some x → Enclosed c x s l
+      module _ (h : 3 < w % 256) (l : ℕ) (el : l ≡ linkAt (wordsOf code) from) where
+        enclosed : (c : Counts) (x : Term × ℕ) → operandTerm (c .m) (c .n) (wordsOf code) (termIn (c .m) (c .n) (wordsOf code)) from ≡ some x → Enclosed c x l
         unfolding closedTerm opensAt endsAt
         enclosed c x e =
             of-any (c .m) (c .n) w l (termIn (c .m) (c .n) (wordsOf code)) from x (rw (ew, el) e)
             (λ k g. absurd (omega arith))
             (λ k j g. record {
               t = g .t;
-              inside = rw es (rw (le-leb (w % 256) 5 j, opensAt) (g .inside));
+              inside = rw (le-leb (w % 256) 5 j, opensAt) (g .inside);
               is = rw (le-leb (w % 256) 5 j, closedTerm) (g .is);
               end = rw (le-leb (w % 256) 6 (omega arith), endsAt) (g .end);
             })
             (λ j g. record {
               t = x .0;
-              inside = rw es (rw (lt-leb (w % 256) 5 (omega arith), opensAt) (g .inside));
+              inside = rw (lt-leb (w % 256) 5 (omega arith), opensAt) (g .inside);
               is = rw (lt-leb (w % 256) 5 (omega arith), closedTerm) (rw (eq-eqb (w % 256) 6 j));
               end = rw (le-leb (w % 256) 6 (omega arith), endsAt) (g .end);
             })
             (λ j g. record {
               t = g .t;
-              inside = rw es (rw (lt-leb (w % 256) 5 (omega arith), opensAt) (g .inside));
+              inside = rw (lt-leb (w % 256) 5 (omega arith), opensAt) (g .inside);
               is = rw (lt-leb (w % 256) 5 (omega arith), closedTerm) (rw (ne-eqb (w % 256) 6 (λ z. omega arith)) (ap some (g .is)));
               end = rw (lt-leb (w % 256) 6 j, endsAt) (g .end);
             })
 
-        ghost : Enclosed (sd .c) (begins (sd .c) (sd .t) (sd .is) .x) s l
+        ghost : Enclosed (sd .c) (begins (sd .c) (sd .t) (sd .is) .x) l
         ghost = enclosed (sd .c) (begins (sd .c) (sd .t) (sd .is) .x) (begins (sd .c) (sd .t) (sd .is) .first)
-
-        opens-low : from < s
-        unfolding opensAt
-        opens-low = test (leb (w % 256) 5) (λ t. let q : s ≡ from + 2 = es ∙ rw (t, opensAt) in omega arith) (λ t. let q : s ≡ from + 1 = es ∙ rw (t, opensAt) in omega arith)
 
         ends-low : (n : ℕ) → endsAt (w % 256) l ≤ n → l ≤ n
         unfolding endsAt
         ends-low n k = test (leb (w % 256) 6) (λ t. let q : l + 1 ≤ n = rw (t, endsAt) at k in omega arith) (λ t. rw (t, endsAt) at k)
 
-        pub inside-on : l ≤ to
-        inside-on = ends-low to (omega (arith, ghost .end, begins (sd .c) (sd .t) (sd .is) .on))
+        pub encloses-on : l ≤ to
+        encloses-on = ends-low to (omega (arith, ghost .end, begins (sd .c) (sd .t) (sd .is) .on))
 
-        pub inside-stands : Stands code s l
-        inside-stands = record { c = sd .c; t = ghost .t; is = ghost .inside; room = omega (arith, inside-on, sd .room) }
+        pub encloses : Encloses code from w l
+        encloses = record {
+          c = sd .c;
+          t = ghost .t;
+          u = begins (sd .c) (sd .t) (sd .is) .x .0;
+          inside = ghost .inside;
+          is = ghost .is;
+          room = omega (arith, encloses-on, sd .room);
+        }
 
-        pub inside-grows : s < l
-        inside-grows = span-grows (sd .c .m) (sd .c .n) (wordsOf code) s l (ghost .t) (ghost .inside)
+        pub start-enclosed : (z : ℤ) → SFits w64 z → Entered code values base from w l z → Run code values base from to (read z) (endsAt (w % 256) l)
+        start-enclosed z sz d =
+            rw (toZ-ofZ sz) (starts z (endsAt (w % 256) l) (d .small) (λ c y e. let g = enclosed c y e in (d .is c (g .t) (y .0) (g .inside) (g .is), sym (g .end))))
 
-        pub inside-less : l - s < to - from
-        inside-less = omega (arith, inside-on, inside-grows, opens-low)
+  -- ---- inside an operand
+  module _ (at w l : ℕ) (en : Encloses code at w l) where
+    opens-low : (s : ℕ) → s ≡ opensAt (w % 256) at → at < s
+    unfolding opensAt
+    opens-low s es = test (leb (w % 256) 5) (λ t. let q : s ≡ at + 2 = es ∙ rw (t, opensAt) in omega arith) (λ t. let q : s ≡ at + 1 = es ∙ rw (t, opensAt) in omega arith)
 
-        pub inside-in : s * 8 + 8 ≤ length code
-        inside-in = omega (arith, inside-on, inside-grows, sd .room)
+    pub at-room : at * 8 + 8 ≤ length code
+    at-room = omega (arith, opens-low (opensAt (w % 256) at) refl, span-grows (en .c .m) (en .c .n) (wordsOf code) (opensAt (opIn w) at) l (en .t) (en .inside), en .room)
 
-        pub closes : Closes w
-        closes = record { c = sd .c; t = ghost .t; u = begins (sd .c) (sd .t) (sd .is) .x .0; is = ghost .is }
+    pub closes : Closes w
+    closes = record { c = en .c; t = en .t; u = en .u; is = en .is }
 
-        module _ (k : l ≡ s + 1) (v : ℕ) (ev : v ≡ headAt (wordsOf code) s) where
-          short-is : (c : Counts) (t : Term) → termOf c code s l ≡ some t → leafTerm (c .m) (c .n) (v % 256) (v / 256) ≡ some t
-          short-is c t e = ap (λ (j : ℕ). leafTerm (c .m) (c .n) (j % 256) (j / 256)) ev ∙ single (c .m) (c .n) (wordsOf code) s l t k e
+    module _ (s : ℕ) (es : s ≡ opensAt (w % 256) at) where
+      pub inside-stands : Stands code s l
+      inside-stands = record { c = en .c; t = en .t; is = ap (λ (j : ℕ). termOf (en .c) code j l) es ∙ en .inside; room = en .room }
 
-          pub short-leaf : v < 4294967296 → Leaf (v % 256) (v / 256)
-          short-leaf b = record { c = sd .c; t = ghost .t; is = short-is (sd .c) (ghost .t) (ghost .inside); bits = omega arith }
+      pub inside-in : s * 8 + 8 ≤ length code
+      inside-in = stands-in s l inside-stands
 
-          pub short-evaluated : (x : ℤ) → Read values base (v % 256) (v / 256) x → Evaluated code values base s l x
-          short-evaluated x r = record { is = λ c t e. is-value x (small-value x (r .small)) ∙ sym (r .is c t (short-is c t e)); small = λ q. r .small }
+      pub inside-less : (l - s) * 2 + 1 < (l - at) * 2
+      inside-less = omega (arith, opens-low s es, stands-less s l inside-stands)
 
-        pub start-closed : (x : ℤ) → SFits w64 x → Evaluated code values base s l x → (z : ℤ) → SFits w64 z → Closed values base w (read x) z
-            → Run code values base from to (read z) (endsAt (w % 256) l)
-        start-closed x sx v z sz k =
-            let d : Closed values base w x z = rw (toZ-ofZ sx) at k in
-            rw (toZ-ofZ sz) (starts z (endsAt (w % 256) l) (d .small) (λ c y e.
-            let g = enclosed c y e in
-            (d .is c (g .t) (y .0) (g .is) (v .is c (g .t) (g .inside)), sym (g .end))))
+      module _ (k : l ≡ s + 1) (v : ℕ) (ev : v ≡ headAt (wordsOf code) s) where
+        short-is : (c : Counts) (t : Term) → termOf c code s l ≡ some t → leafTerm (c .m) (c .n) (v % 256) (v / 256) ≡ some t
+        short-is c t e = ap (λ (j : ℕ). leafTerm (c .m) (c .n) (j % 256) (j / 256)) ev ∙ single (c .m) (c .n) (wordsOf code) s l t k e
+
+        pub short-leaf : v < cellValues → Leaf (v % 256) (v / 256)
+        unfolding inside-stands
+        short-leaf b = record { c = en .c; t = en .t; is = short-is (en .c) (en .t) (inside-stands .is); bits = omega arith }
+
+        pub short-evaluated : (x : ℤ) → Read values base (v % 256) (v / 256) x → Evaluated code values base s l x
+        short-evaluated x r = record { is = λ c t e. is-value x (small-value x (r .small)) ∙ sym (r .is c t (short-is c t e)); small = λ q. r .small }
+
+      pub entered : (x : ℤ) → SFits w64 x → Evaluated code values base s l x → (z : ℤ) → SFits w64 z → Closed values base w (read x) z → Entered code values base at w l (read z)
+      entered x sx v z sz k =
+          let d : Closed values base w x z = rw (toZ-ofZ sx) at k in
+          rw (toZ-ofZ sz) (record {
+            is = λ c t u e g. d .is c t u g (v .is c t (ap (λ (j : ℕ). termOf c code j l) es ∙ e));
+            small = d .small;
+          })
+
+      pub entered-short : l ≡ s + 1 → (v : ℕ) → v ≡ headAt (wordsOf code) s → (x : ℤ) → SFits w64 x → Read values base (v % 256) (v / 256) x → (z : ℤ) → SFits w64 z
+          → Closed values base w (read x) z → Entered code values base at w l (read z)
+      entered-short k v ev x sx r z sz d = entered x sx (short-evaluated k v ev x r) z sz d
 
   -- ---- an error leaves at once
   pub run-fails : (from to : ℕ) (a : ℤ) (i : ℕ) → Run code values base from to a i → ltZ a (pos firstError) ≡ false → Evaluated code values base from to a
@@ -353,7 +374,7 @@ module _ (code values : List ℕ) (base : ℕ) where
               ap (λ (v : ℕ). leafTerm (c .m) (c .n) (v % 256 / 16 % 4) (v / 256)) ew
               ∙ sym (right-leaf (wordsOf code) i (c .m) (c .n) (termIn (c .m) (c .n) (wordsOf code)) (λ z. k (class-is ∙ z))) ∙ e
 
-          pub fused-leaf : w < 4294967296 → Leaf (w % 256 / 16 % 4) (w / 256)
+          pub fused-leaf : w < cellValues → Leaf (w % 256 / 16 % 4) (w / 256)
           fused-leaf b = record { c = go .run .stands .c; t = ghost-next .u; is = fused-is (go .run .stands .c) (ghost-next .u) (ghost-next .right); bits = omega arith }
 
           pub side-leaf : (b : ℤ) → Read values base (w % 256 / 16 % 4) (w / 256) b → Sided b (i + 2)
@@ -397,16 +418,13 @@ module _ (code values : List ℕ) (base : ℕ) where
           }
 
           module _ (z : ℤ) (k : Worked (w % 256 % 16) a b z) where
-            pub goes-inside : outside z ≡ false → Going code values base from to z r
-            goes-inside o = goes-on z (inside-small z o) (k .inside o)
+            pub goes : failing (w % 256 % 16) z ≡ false → Going code values base from to z r
+            goes o = goes-on z (k .small o) (k .is o)
 
-            pub goes-logic : 12 ≤ w % 256 % 16 → Going code values base from to z r
-            goes-logic o = goes-on z (k .small o) (k .logic o)
-
-            pub turn-fails : outside z ≡ true → w % 256 % 16 < 12 → (f : ℤ) → Gives (error (failureOf (w % 256 % 16) b)) f → Evaluated code values base from to f
-            turn-fails o n f g = record {
+            pub turn-fails : failing (w % 256 % 16) z ≡ true → (f : ℤ) → Gives (error (failureOf (w % 256 % 16) b)) f → Evaluated code values base from to f
+            turn-fails o f g = record {
               small = g .small;
               is = λ c t e.
                   g .is ∙ sym (chain-error c code values base (failureOf (w % 256 % 16) b) (next c t e .p)
-                  (binary (operatorIn (opAt (wordsOf code) i)) (go .run .left c t e .u) (next c t e .u)) (rightEnd (wordsOf code) i) to t (next c t e .rest) (worth-is c t e ∙ k .fails o n));
+                  (binary (operatorIn (opAt (wordsOf code) i)) (go .run .left c t e .u) (next c t e .u)) (rightEnd (wordsOf code) i) to t (next c t e .rest) (worth-is c t e ∙ k .fails o));
             }

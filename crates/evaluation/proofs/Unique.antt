@@ -1,15 +1,15 @@
 -- Of a value store that meets its terms, the promise allows one answer alone.
 use mathlib.Core.Path.{_≡_, refl, sym, ap, subst, _∙_}
-use mathlib.Core.Bool.{Bool, true, false}
+use mathlib.Core.Bool.{false}
 use mathlib.Core.List.{List}
-use Prim.Native.Nat.{ℕ, suc, _+_, _-_, _≤_, _<_}
+use Prim.Native.Nat.{ℕ, _-_, _≤_}
 use native.Mathlib.Omega.{arith}
 use lib.Dec.{T}
 use lib.IntN.{ℤ, pos, negsuc, natAbs}
 use lib.Signed.{ltZ}
 use borrow.Author.Tests.{ltb-false}
 use Rattle.laws.proofs.Tests.{test, apart}
-use Rattle.paper.specs.Numbers.{Value, value, error}
+use Rattle.paper.specs.Numbers.{value, error}
 use Rattle.evaluation.specs.Answers.{firstError, decoded, Stands, Evaluated}
 use Rattle.evaluation.proofs.Numbers.{is-value, is-error}
 

@@ -1,6 +1,6 @@
 -- What an evaluation answers, and what it asks of the two stores.
 use mathlib.Core.Path.{_≡_}
-use mathlib.Core.Bool.{Bool, true, false}
+use mathlib.Core.Bool.{true, false}
 use mathlib.Core.List.{List}
 use mathlib.Core.Option.{Option, some}
 use Prim.Native.Nat.{ℕ, _+_, _-_, _*_, _<_, _≤_}
@@ -36,6 +36,10 @@ pub record Gives (v : Value) (r : ℤ) : Type 0 where
 abbrev pub callWords : ℕ
 callWords = 64
 
+-- the words below it are the same number with a sign and without
+abbrev pub firstNegative : ℕ
+firstNegative = 2147483648
+
 -- how many words of data the module and the routine have
 pub record Counts : Type 0 where
   pub m : ℕ
@@ -53,7 +57,7 @@ memoryOf c values base = memoryIn (c .m) (c .n) (wordsOf values) base
 pub record Stores (values : List ℕ) (base : ℕ) : Type 0 where
   pub words : errnoCell * 4 + 4 ≤ length values
   pub call : (base + callWords) * 4 ≤ length values
-  pub number : getD (wordsOf values) errnoCell 0 < 2147483648
+  pub number : getD (wordsOf values) errnoCell 0 < firstNegative
 
 -- An expression stands in the words from `from` up to `to`.
 pub record Stands (code : List ℕ) (from to : ℕ) : Type 0 where

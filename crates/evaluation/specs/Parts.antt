@@ -3,9 +3,10 @@ use mathlib.Core.Path.{_≡_}
 use mathlib.Core.Bool.{Bool, true, false}
 use mathlib.Core.List.{List}
 use mathlib.Core.Option.{Option, some}
-use Prim.Native.Nat.{ℕ, _+_, _<_, _≤_}
-use lib.Dec.{eqb, leb}
-use lib.IntN.{ℤ, pos, negsuc}
+use Prim.Native.Nat.{ℕ, _+_, _*_, _<_, _≤_}
+use lib.Dec.{eqb, leb, ltb}
+use lib.ListN.{length}
+use lib.IntN.{ℤ}
 use lib.Signed.{ltZ}
 use mir.Syntax.{w32}
 use mir.Val.{SFits, toZ}
@@ -13,8 +14,8 @@ use Rattle.paper.specs.Basics.{if_then_else_}
 use Rattle.paper.specs.Numbers.{num, Value, value, error, isZero, overflow, divZero}
 use Rattle.paper.specs.Terms.{Term, unary, known, combined, worth}
 use Rattle.code.specs.Cells.{opIn, valueIn}
-use Rattle.code.specs.Spans.{aCallElement, aParenthesis, firstIn, prefixIn, operatorOf, leafTerm, elementTerm}
-use Rattle.evaluation.specs.Answers.{decoded, Small, Gives, Counts, memoryOf}
+use Rattle.code.specs.Spans.{aCallElement, aParenthesis, prefixIn, operatorOf, leafTerm, elementTerm}
+use Rattle.evaluation.specs.Answers.{decoded, Small, Counts, termOf, memoryOf}
 
 -- ---- operators
 -- a number that num does not hold
@@ -35,12 +36,14 @@ failureOf k b =
 abbrev pub firstLogic : ℕ
 firstLogic = 12
 
+unfoldable pub failing : (number : ℕ) → ℤ → Bool
+failing k z = if outside z then ltb k firstLogic else false
+
 -- z, worked out with no regard to num, tells what the operator gives between a and b.
 pub record Worked (number : ℕ) (a b z : ℤ) : Type 0 where
-  pub inside : outside z ≡ false → joined (operatorOf number) (value a) (value b) ≡ value z
-  pub fails : outside z ≡ true → number < firstLogic → joined (operatorOf number) (value a) (value b) ≡ error (failureOf number b)
-  pub logic : firstLogic ≤ number → joined (operatorOf number) (value a) (value b) ≡ value z
-  pub small : firstLogic ≤ number → SFits w32 z
+  pub is : failing number z ≡ false → joined (operatorOf number) (value a) (value b) ≡ value z
+  pub small : failing number z ≡ false → SFits w32 z
+  pub fails : failing number z ≡ true → joined (operatorOf number) (value a) (value b) ≡ error (failureOf number b)
 
 -- z is the exact quotient or remainder, and outside where there is none
 pub record Divided (b exact z : ℤ) : Type 0 where
@@ -48,6 +51,17 @@ pub record Divided (b exact z : ℤ) : Type 0 where
   pub is : isZero b ≡ false → z ≡ exact
 
 -- ---- operands
+-- what a usize counts to
+abbrev pub addresses : ℕ
+addresses = 18446744073709551616
+
+-- what a cell counts to, and the value that a head has above its op
+abbrev pub cellValues : ℕ
+cellValues = 4294967296
+
+abbrev pub headValues : ℕ
+headValues = 16777216
+
 -- a word that was loaded
 pub record Loaded (k : ℕ) (z : ℤ) : Type 0 where
   pub is : z ≡ toZ w32 k
@@ -57,7 +71,7 @@ pub record Leaf (op v : ℕ) : Type 0 where
   pub c : Counts
   pub t : Term
   pub is : leafTerm (c .m) (c .n) op v ≡ some t
-  pub bits : v < 16777216
+  pub bits : v < headValues
 
 pub record Read (values : List ℕ) (base op v : ℕ) (z : ℤ) : Type 0 where
   pub is : (c : Counts) (t : Term) → leafTerm (c .m) (c .n) op v ≡ some t → worth (memoryOf c values base) t ≡ value z
@@ -99,5 +113,19 @@ pub record Closes (w : ℕ) : Type 0 where
 
 pub record Closed (values : List ℕ) (base w : ℕ) (x r : ℤ) : Type 0 where
   pub is : (c : Counts) (t u : Term) → closedTerm c (opIn w) (valueIn w) t ≡ some u → decoded x ≡ worth (memoryOf c values base) t
+      → decoded r ≡ worth (memoryOf c values base) u
+  pub small : Small r
+
+-- an operand of several words begins at a word with the head w: what stands inside it ends at l
+pub record Encloses (code : List ℕ) (at w l : ℕ) : Type 0 where
+  pub c : Counts
+  pub t : Term
+  pub u : Term
+  pub inside : termOf c code (opensAt (opIn w) at) l ≡ some t
+  pub is : closedTerm c (opIn w) (valueIn w) t ≡ some u
+  pub room : l * 8 ≤ length code
+
+pub record Entered (code values : List ℕ) (base at w l : ℕ) (r : ℤ) : Type 0 where
+  pub is : (c : Counts) (t u : Term) → termOf c code (opensAt (opIn w) at) l ≡ some t → closedTerm c (opIn w) (valueIn w) t ≡ some u
       → decoded r ≡ worth (memoryOf c values base) u
   pub small : Small r

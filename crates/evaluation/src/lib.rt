@@ -1,9 +1,8 @@
 // What an expression is worth, worked out from the linked words of the code store in place.
 ghost use mathlib.Core.Path.{_≡_};
-ghost use mathlib.Core.Bool.{true};
 ghost use Prim.Native.Nat.{_+_, _*_, _<_, _≤_};
 ghost use lib.ListN.{length, getD};
-ghost use lib.IntN.{pos, _-ℤ_};
+ghost use lib.IntN.{pos};
 ghost use lib.Signed.{ltZ, quotZ, remZ};
 ghost use mir.Syntax.{w32};
 ghost use mir.Val.{SFits};
@@ -13,7 +12,7 @@ ghost use Rattle.cells.specs.Words.{wordsOf};
 ghost use Rattle.code.specs.Cells.{headAt, linkAt};
 ghost use Rattle.code.specs.Spans.{prefixIn, operatorOf};
 ghost use Rattle.evaluation.specs.Answers.{firstError, decoded, Small, Gives, Stores, Stands, Evaluated};
-ghost use Rattle.evaluation.specs.Parts.{joined, failureOf, Worked, Divided, Loaded, Leaf, Read, cellOf, opensAt, endsAt, Array, Indexed, Closes, Closed};
+ghost use Rattle.evaluation.specs.Parts.{failureOf, failing, Worked, Divided, addresses, Loaded, Leaf, Read, cellOf, opensAt, endsAt, Array, Indexed, Closes, Closed, Encloses, Entered};
 ghost use Rattle.evaluation.specs.Parts as parts;
 
 // ---- ops, as the specs of code have them
@@ -44,23 +43,27 @@ const OR: u32 = 13;
 // the first operator that can divide
 const DIV: u32 = 3;
 
+// a tail has its link above its place
+const PLACES: u32 = 65536;
+
 // ---- numbers
 
 // how far the numbers that a head holds are from those they stand for
 const BIAS: i64 = 8388607;
 
+// the ends of num, and a number past them
 const LOWEST: i64 = -8388607;
 
 const HIGHEST: i64 = 8388608;
 
-// any number outside
 const BEYOND: i64 = 8388609;
 
+// an answer from here on is an error's
 const FIRST_ERROR: i64 = 4294967296;
 
-const OVERFLOW: i64 = FIRST_ERROR + 1001;
+const OVERFLOW: i64 = FIRST_ERROR + numbers::ERR_OVERFLOW as i64;
 
-const DIV_ZERO: i64 = FIRST_ERROR + 1002;
+const DIV_ZERO: i64 = FIRST_ERROR + numbers::ERR_DIVZERO as i64;
 
 const OUT_OF_BOUND: i64 = FIRST_ERROR + 1003;
 
@@ -183,6 +186,16 @@ fn operate(number: u32, a: i64, b: i64) -> i64
     }
 }
 
+// z, worked out so, is not what the operator gives.
+fn is_failing(number: u32, z: i64) -> bool
+    ensures { λ r. ⌜ r ≡ failing number z ⌝ }
+{
+    if outside(z) {
+        return number < AND;
+    }
+    false
+}
+
 fn failure(number: u32, b: i64) -> i64
     ensures { λ r. ⌜ Gives (error (failureOf number b)) r ⌝ }
 {
@@ -239,7 +252,7 @@ fn load(values: &[u8], i: usize) -> i64
 
 // The cell of a word: those with the op `own` are the module's, and any other the call's.
 fn cell(base: usize, op: u32, own: u32, word: usize) -> usize
-    requires { ⌜ base + word < 18446744073709551616 ⌝ }
+    requires { ⌜ base + word < addresses ⌝ }
     ensures { λ r. ⌜ r ≡ cellOf base op own word ⌝ }
 {
     if op == own {
@@ -290,7 +303,7 @@ fn close(values: &[u8], base: usize, w: u32, x: i64) -> i64
 }
 
 fn opens(op: u32, at: usize) -> usize
-    requires { ⌜ at < 4611686018427387904 ⌝ }
+    requires { ⌜ at + 2 < addresses ⌝ }
     ensures { λ r. ⌜ r ≡ opensAt op at ⌝ }
 {
     if op <= CALL_ELEMENT {
@@ -300,7 +313,7 @@ fn opens(op: u32, at: usize) -> usize
 }
 
 fn ends(op: u32, link: usize) -> usize
-    requires { ⌜ link < 4611686018427387904 ⌝ }
+    requires { ⌜ link + 1 < addresses ⌝ }
     ensures { λ r. ⌜ r ≡ endsAt op link ⌝ }
 {
     if op <= PARENTHESIS {
@@ -322,11 +335,23 @@ fn link(code: &[u8], i: usize) -> usize
     requires { ⌜ i * 8 + 8 ≤ length (now code) ⌝ }
     ensures { λ r. ⌜ r ≡ linkAt (wordsOf (now (code .entry))) i ⌝ }
 {
-    (cells::get(code, i * 2 + 1) / 65536) as usize
+    (cells::get(code, i * 2 + 1) / PLACES) as usize
 }
 
-// What the expression is worth that stands in the words from `from` up to `to`. What an operator works out is tested against num once for all operators, and
-// what fails leaves at once, so that the loop goes on with values only.
+// An operand of several words that begins at a word with the head w, and what stands inside it ends at l. A word alone is read without a call.
+fn enclosed<'a>(code: &'a [u8], values: &'a [u8], base: usize, at: usize, w: u32, l: usize) -> i64
+    requires { ⌜ Stores (now values) base × Encloses (now code) at w l ⌝ }
+    ensures { λ r. ⌜ Entered (now (code .entry)) (now (values .entry)) base at w l r ⌝ }
+{
+    let s = opens(w % 256, at);
+    if l == s + 1 {
+        let x = head(code, s);
+        return close(values, base, w, leaf(values, base, x % 256, x / 256));
+    }
+    close(values, base, w, evaluate(code, values, base, s, l))
+}
+
+// What the expression is worth that stands in the words from `from` up to `to`. What fails leaves at once, so that the loop goes on with values only.
 pub fn evaluate<'a>(code: &'a [u8], values: &'a [u8], base: usize, from: usize, to: usize) -> i64
     requires { ⌜ Stores (now values) base × Stands (now code) from to ⌝ }
     ensures { λ r. ⌜ Evaluated (now (code .entry)) (now (values .entry)) base from to r ⌝ }
@@ -338,13 +363,7 @@ pub fn evaluate<'a>(code: &'a [u8], values: &'a [u8], base: usize, from: usize, 
         acc = leaf(values, base, w % 256, w / 256);
     } else {
         let l = link(code, from);
-        let s = opens(w % 256, from);
-        if l == s + 1 {
-            let x = head(code, s);
-            acc = close(values, base, w, leaf(values, base, x % 256, x / 256));
-        } else {
-            acc = close(values, base, w, evaluate(code, values, base, s, l));
-        }
+        acc = enclosed(code, values, base, from, w, l);
         if !is_value(acc) {
             return acc;
         }
@@ -353,6 +372,7 @@ pub fn evaluate<'a>(code: &'a [u8], values: &'a [u8], base: usize, from: usize, 
     while i < to {
         let w = head(code, i);
         let op = w % 256;
+        // a left side that tells the answer stands for the right one too, which gives it back
         let mut b = acc;
         let mut r = i + 2;
         if op / 16 % 4 == SPAN {
@@ -367,10 +387,8 @@ pub fn evaluate<'a>(code: &'a [u8], values: &'a [u8], base: usize, from: usize, 
             b = leaf(values, base, op / 16 % 4, w / 256);
         }
         let z = operate(op % 16, acc, b);
-        if outside(z) {
-            if op % 16 < AND {
-                return failure(op % 16, b);
-            }
+        if is_failing(op % 16, z) {
+            return failure(op % 16, b);
         }
         acc = z;
         i = r;
