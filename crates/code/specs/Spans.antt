@@ -46,8 +46,9 @@ aPlus = 8
 abbrev pub aMinus : ℕ
 aMinus = 9
 
--- An operator between two sides: its number among these, and how its right side is given. aSpan: it stands from the next word up to the link. aLiteral,
--- aModuleWord, aCallWord: it is the next word alone, and the operator has its value.
+-- An operator between two sides: its number among these in the low four bits, and above it how its right side is given. aSpan: it stands from the next word
+-- up to the link. aLiteral, aModuleWord, aCallWord: it is the next word alone, and the operator has its value. (Four whole bits for the number make the
+-- choice of an operator one jump with no test.)
 abbrev pub anOperator : ℕ
 anOperator = 64
 
@@ -59,14 +60,21 @@ operators =
     plus ∷ minusSign ∷ times ∷ DIV ∷ MOD ∷ less ∷ lessEqual ∷ greater ∷ greaterEqual ∷ equal ∷ unequal ∷ XOR ∷ AND ∷ OR ∷ []
 
 abbrev pub numberIn : (op : ℕ) → ℕ
-numberIn op = (op - anOperator) / 4
+numberIn op = op % 16
 
 abbrev pub rightIn : (op : ℕ) → ℕ
-rightIn op = op % 4
+rightIn op = op / 16 % 4
 
--- the sort of the operator with an op
-unfoldable pub operatorIn : (op : ℕ) → ℕ
-operatorIn op = getD operators (numberIn op) XOR
+-- the sort of the operator with a number, and with an op
+unfoldable pub operatorOf : (number : ℕ) → ℕ
+operatorOf k = getD operators k XOR
+
+abbrev pub operatorIn : (op : ℕ) → ℕ
+operatorIn op = operatorOf (numberIn op)
+
+-- the op of an operator
+abbrev pub opOf : (number right : ℕ) → ℕ
+opOf k r = anOperator + 16 * r + k
 
 -- numbers are held as how far they are from the lowest
 abbrev pub bias : ℕ
@@ -94,6 +102,10 @@ prefixIn op =
     if eqb op aNot then NOT
     else if eqb op aMinus then minusSign
     else plus
+
+-- the word after the operator at i and its right side, which is the next word alone or a span
+unfoldable pub rightEnd : (C : List ℕ) → ℕ → ℕ
+rightEnd C i = elim (eqb (rightIn (opAt C i)) aSpan) [ true ↦ linkAt C i | false ↦ i + 2 ]
 
 -- The module has m words, the routine n.
 module _ (m n : ℕ) where
@@ -130,10 +142,7 @@ module _ (m n : ℕ) where
     abbrev pub operandTerm : (inner : ℕ → ℕ → Option Term) → (at : ℕ) → Option (Term × ℕ)
     operandTerm inner at = operandOf (headAt C at) (linkAt C at) inner at
 
-    -- the word after the operator at i and its right side, which is the next word alone or a span
-    unfoldable pub rightEnd : ℕ → ℕ
-    rightEnd i = elim (eqb (rightIn (opAt C i)) aSpan) [ true ↦ linkAt C i | false ↦ i + 2 ]
-
+    -- the right side of the operator at i
     unfoldable pub rightTerm : (inner : ℕ → ℕ → Option Term) → ℕ → Option Term
     rightTerm inner i =
         elim (eqb (rightIn (opAt C i)) aSpan) [ true ↦ inner (i + 1) (linkAt C i) | false ↦ leafTerm (rightIn (opAt C i)) (valueAt C i) ]
@@ -145,10 +154,10 @@ module _ (m n : ℕ) where
         elim (eqb i to) [
           | true ↦ some t
           | false ↦
-              elim (leb (rightEnd i) to) [
+              elim (leb (rightEnd C i) to) [
                 | false ↦ none
                 | true ↦
-                    rightTerm inner i then (λ u. chain inner f (binary (operatorIn (opAt C i)) t u) (rightEnd i) to)
+                    rightTerm inner i then (λ u. chain inner f (binary (operatorIn (opAt C i)) t u) (rightEnd C i) to)
               ]
         ]
 

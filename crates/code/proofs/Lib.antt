@@ -1,0 +1,5 @@
+pub mod Options
+pub mod Operands
+pub mod Spanning
+pub mod Composing
+pub mod Examples

@@ -1,0 +1,338 @@
+-- Operators: from what is worked out with no regard to num to what the paper says that they give.
+use mathlib.Core.Path.{_≡_, refl, sym, ap, ap₂, subst, _∙_}
+use mathlib.Core.Bool.{Bool, true, false, not}
+use Prim.Native.Nat.{ℕ, zero, suc, _+_, _-_, _*_, _<_, _≤_}
+use native.Mathlib.Omega.{arith}
+use native.Mathlib.Nat.{mul-le-mul}
+use lib.Dec.{T, eqb, leb}
+use lib.ListN.{getD, length, List·getD-eq-default}
+use lib.IntN.{ℤ, pos, negsuc, negℤ, natAbs, _+ℤ_, _-ℤ_, _*ℤ_, +ℤ-idl}
+use lib.Signed.{mag, ltZ, leZ, quotZ, remZ, natAbs-le}
+use mir.Syntax.{w32, w64}
+use mir.Val.{SFits}
+use borrow.Author.Tests.{eq-eqb, ne-eqb, le-leb, lt-leb}
+use Rattle.laws.proofs.Tests.{test, by-less, by-last}
+use Rattle.paper.specs.Sorts.{AND, OR, XOR}
+use Rattle.paper.specs.Numbers as paper
+use Rattle.paper.specs.Numbers.{num, Value, value, error, add, subtract, multiply, divide, modulo, isZero, same, overflow, divZero}
+use Rattle.paper.specs.Terms.{truth, applied, known, combined, operated}
+use Rattle.numbers.proofs.Whole.{read, back, sub-cases, mag-abs, abs-neg, abs-mul, rem-is}
+use Rattle.code.specs.Spans.{operators, operatorOf, prefixIn, aNot, aMinus}
+use Rattle.evaluation.specs.Answers.{firstError, decoded, Small, Gives}
+use Rattle.evaluation.specs.Parts.{outside, joined, failureOf, firstLogic, Worked, Divided}
+use Rattle.evaluation.proofs.Numbers.{not-less, ranged-inside, ranged-outside, truth-inside, truth-small, is-value, is-error, gives-value, gives-error, gives-as, gives-same, told, inside-small}
+
+-- ---- operators by their numbers
+-- from 14 on there is only XOR
+pub past-last : (k : ℕ) → 14 ≤ k → operatorOf k ≡ XOR
+unfolding operatorOf operators
+past-last k h = List·getD-eq-default operators XOR {n = k} h
+
+-- no number of an operator
+pub past-of : (k : ℕ) → (k ≡ 0 → ⊥) → (k ≡ 1 → ⊥) → (k ≡ 2 → ⊥) → (k ≡ 3 → ⊥) → (k ≡ 4 → ⊥) → (k ≡ 5 → ⊥) → (k ≡ 6 → ⊥) → (k ≡ 7 → ⊥)
+    → (k ≡ 8 → ⊥) → (k ≡ 9 → ⊥) → (k ≡ 10 → ⊥) → (k ≡ 11 → ⊥) → (k ≡ 12 → ⊥) → (k ≡ 13 → ⊥) → 14 ≤ k
+past-of k n0 n1 n2 n3 n4 n5 n6 n7 n8 n9 n10 n11 n12 n13 =
+    by-less k 14 (λ h.
+    by-last k 13 h (λ e. absurd (n13 e)) (λ h.
+    by-last k 12 h (λ e. absurd (n12 e)) (λ h.
+    by-last k 11 h (λ e. absurd (n11 e)) (λ h.
+    by-last k 10 h (λ e. absurd (n10 e)) (λ h.
+    by-last k 9 h (λ e. absurd (n9 e)) (λ h.
+    by-last k 8 h (λ e. absurd (n8 e)) (λ h.
+    by-last k 7 h (λ e. absurd (n7 e)) (λ h.
+    by-last k 6 h (λ e. absurd (n6 e)) (λ h.
+    by-last k 5 h (λ e. absurd (n5 e)) (λ h.
+    by-last k 4 h (λ e. absurd (n4 e)) (λ h.
+    by-last k 3 h (λ e. absurd (n3 e)) (λ h.
+    by-last k 2 h (λ e. absurd (n2 e)) (λ h.
+    by-last k 1 h (λ e. absurd (n1 e)) (λ h.
+    by-last k 0 h (λ e. absurd (n0 e)) (λ h. absurd (omega arith))))))))))))))))
+    (λ h. h)
+
+-- an operator other than AND and OR
+abbrev Plain : ℕ → Type 0
+Plain op = (eqb op AND ≡ false) × (eqb op OR ≡ false)
+
+plain : (k : ℕ) → (k ≡ 12 → ⊥) → (k ≡ 13 → ⊥) → Plain (operatorOf k)
+unfolding operatorOf operators
+plain k p q =
+    by-less k 14 (λ h.
+    by-last k 13 h (λ e. absurd (q e)) (λ h.
+    by-last k 12 h (λ e. absurd (p e)) (λ h.
+    by-last k 11 h (λ e. rw e (refl, refl)) (λ h.
+    by-last k 10 h (λ e. rw e (refl, refl)) (λ h.
+    by-last k 9 h (λ e. rw e (refl, refl)) (λ h.
+    by-last k 8 h (λ e. rw e (refl, refl)) (λ h.
+    by-last k 7 h (λ e. rw e (refl, refl)) (λ h.
+    by-last k 6 h (λ e. rw e (refl, refl)) (λ h.
+    by-last k 5 h (λ e. rw e (refl, refl)) (λ h.
+    by-last k 4 h (λ e. rw e (refl, refl)) (λ h.
+    by-last k 3 h (λ e. rw e (refl, refl)) (λ h.
+    by-last k 2 h (λ e. rw e (refl, refl)) (λ h.
+    by-last k 1 h (λ e. rw e (refl, refl)) (λ h.
+    by-last k 0 h (λ e. rw e (refl, refl)) (λ h. absurd (omega arith))))))))))))))))
+    (λ h. rw (past-last k h) (refl, refl))
+
+module _ (number : ℕ) (a : ℤ) (s : SFits w64 a) (t : Bool) (e : t ≡ isZero (read a)) where
+  zero-is : t ≡ isZero a
+  zero-is = e ∙ ap isZero (back a s)
+
+  pub known-and : number ≡ 12 → t ≡ known (operatorOf number) (value a)
+  unfolding known operatorOf operators
+  known-and k = rw k zero-is
+
+  pub known-or : (number ≡ 12 → ⊥) → number ≡ 13 → not t ≡ known (operatorOf number) (value a)
+  unfolding known operatorOf operators
+  known-or j k = rw k (ap not zero-is)
+
+pub known-none : (number : ℕ) (a : ℤ) → (number ≡ 12 → ⊥) → (number ≡ 13 → ⊥) → false ≡ known (operatorOf number) (value a)
+unfolding known
+known-none number a p q = let h = plain number p q in rw (h .0, known) (rw (h .1))
+
+-- ---- what fails
+module _ (number : ℕ) (b : ℤ) where
+  pub fails-early : number < 3 → Gives (error (failureOf number b)) (pos 4294968297)
+  unfolding failureOf
+  fails-early h = rw (lt-leb 3 number h, failureOf) (gives-error overflow 4294968297 refl)
+
+  module _ (h : 3 ≤ number) (s : SFits w64 b) (t : Bool) (e : t ≡ isZero (read b)) where
+    divisor-is : (u : Bool) → t ≡ u → isZero b ≡ u
+    divisor-is u q = rw (back b s) at (sym e ∙ q)
+
+    pub fails-zero : t ≡ true → Gives (error (failureOf number b)) (pos 4294968298)
+    unfolding failureOf
+    fails-zero q = rw (le-leb 3 number h, failureOf) (rw (divisor-is true q) (gives-error divZero 4294968298 refl))
+
+    pub fails-over : t ≡ false → Gives (error (failureOf number b)) (pos 4294968297)
+    unfolding failureOf
+    fails-over q = rw (le-leb 3 number h, failureOf) (rw (divisor-is false q) (gives-error overflow 4294968297 refl))
+
+-- ---- what is worked out
+abs-size : (a : ℤ) → SFits w32 a → natAbs a ≤ 2147483648
+abs-size a s = natAbs-le a (s .sfits)
+
+sum-size : (a b : ℤ) → natAbs (a +ℤ b) ≤ natAbs a + natAbs b
+sum-size (pos a) (pos b) = omega arith
+sum-size (pos a) (negsuc b) = sub-cases (λ z. natAbs z ≤ a + suc b) a (suc b) (λ h. omega arith) (λ h. omega arith)
+sum-size (negsuc a) (pos b) = sub-cases (λ z. natAbs z ≤ suc a + b) b (suc a) (λ h. omega arith) (λ h. omega arith)
+sum-size (negsuc a) (negsuc b) = omega arith
+
+wide : (z : ℤ) → natAbs z ≤ 4611686018427387904 → SFits w64 z
+wide z h = record { sfits = omega (arith, mag-abs z) }
+
+module _ (a b : ℤ) (sa : SFits w64 a) (sb : SFits w64 b) (fa : SFits w32 a) (fb : SFits w32 b) where
+  pub sum-fits : SFits w64 (read a +ℤ read b)
+  sum-fits = rw (back a sa, back b sb) (wide (a +ℤ b) (omega (arith, sum-size a b, abs-size a fa, abs-size b fb)))
+
+  pub difference-fits : SFits w64 (read a -ℤ read b)
+  difference-fits = rw (back a sa, back b sb) (wide (a -ℤ b) (omega (arith, sum-size a (negℤ b), abs-neg b, abs-size a fa, abs-size b fb)))
+
+  pub product-fits : SFits w64 (read a *ℤ read b)
+  product-fits = rw (back a sa, back b sb) (wide (a *ℤ b) (let h = mul-le-mul (abs-size a fa) (abs-size b fb) in omega (arith, abs-mul a b)))
+
+-- a number that num holds or not
+held : (k : ℕ) (a b z : ℤ) → k < firstLogic → failureOf k b ≡ overflow → joined (operatorOf k) (value a) (value b) ≡ paper.ranged num z → Worked k a b z
+held k a b z h f e = record {
+  inside = λ o. e ∙ ranged-inside z o;
+  fails = λ o q. e ∙ ranged-outside z o ∙ ap error (sym f);
+  logic = λ q. absurd (omega arith);
+  small = λ q. absurd (omega arith);
+}
+
+-- a truth
+true-is : (k : ℕ) (a b : ℤ) (t : Bool) → joined (operatorOf k) (value a) (value b) ≡ value (truth t) → Worked k a b (truth t)
+true-is k a b t e = record {
+  inside = λ o. e;
+  fails = λ o q. absurd (subst T (sym o ∙ truth-inside t) tt);
+  logic = λ q. e;
+  small = λ q. truth-small t;
+}
+
+-- one of the sides
+side : (k : ℕ) (a b z : ℤ) → firstLogic ≤ k → SFits w32 z → joined (operatorOf k) (value a) (value b) ≡ value z → Worked k a b z
+side k a b z h s e = record { inside = λ o. e; fails = λ o q. absurd (omega arith); logic = λ q. e; small = λ q. s }
+
+-- a quotient or a remainder
+quotients : (k : ℕ) (a b z exact : ℤ) → k < firstLogic → 3 ≤ k → Divided b exact z
+    → (isZero b ≡ true → joined (operatorOf k) (value a) (value b) ≡ error divZero)
+    → (isZero b ≡ false → joined (operatorOf k) (value a) (value b) ≡ paper.ranged num exact)
+    → Worked k a b z
+unfolding failureOf
+quotients k a b z exact h j d f g =
+    test (isZero b)
+    (λ t. record {
+      inside = λ o. absurd (subst T (sym (d .none t) ∙ o) tt);
+      fails = λ o q. f t ∙ ap error (sym (rw (le-leb 3 k j, failureOf) (rw t)));
+      logic = λ q. absurd (omega arith);
+      small = λ q. absurd (omega arith);
+    })
+    (λ t. held k a b z h (rw (le-leb 3 k j, failureOf) (rw t)) (g t ∙ ap (paper.ranged num) (sym (d .is t))))
+
+-- the result is what the machine reads back
+worked-as : (k j : ℕ) (a b y z : ℤ) → k ≡ j → y ≡ z → Worked j a b z → Worked k a b y
+worked-as k j a b y z p q w = rw (p, q) w
+
+module _ (number : ℕ) (a b : ℤ) (sa : SFits w64 a) (sb : SFits w64 b) (fa : SFits w32 a) (fb : SFits w32 b) where
+  pub work-add : number ≡ 0 → Worked number a b (read (read a +ℤ read b))
+  unfolding joined known combined operated add operatorOf operators failureOf
+  work-add k =
+      worked-as number 0 a b (read (read a +ℤ read b)) (a +ℤ b) k (back (read a +ℤ read b) (sum-fits a b sa sb fa fb) ∙ ap₂ _+ℤ_ (back a sa) (back b sb))
+      (held 0 a b (a +ℤ b) (omega arith) refl refl)
+
+  pub work-subtract : number ≡ 1 → Worked number a b (read (read a -ℤ read b))
+  unfolding joined known combined operated subtract operatorOf operators failureOf
+  work-subtract k =
+      worked-as number 1 a b (read (read a -ℤ read b)) (a -ℤ b) k (back (read a -ℤ read b) (difference-fits a b sa sb fa fb) ∙ ap₂ _-ℤ_ (back a sa) (back b sb))
+      (held 1 a b (a -ℤ b) (omega arith) refl refl)
+
+  pub work-multiply : number ≡ 2 → Worked number a b (read (read a *ℤ read b))
+  unfolding joined known combined operated multiply operatorOf operators failureOf
+  work-multiply k =
+      worked-as number 2 a b (read (read a *ℤ read b)) (a *ℤ b) k (back (read a *ℤ read b) (product-fits a b sa sb fa fb) ∙ ap₂ _*ℤ_ (back a sa) (back b sb))
+      (held 2 a b (a *ℤ b) (omega arith) refl refl)
+
+  module _ (z : ℤ) (s : SFits w64 z) where
+    pub work-divide : number ≡ 3 → Divided (read b) (quotZ (read a) (read b)) z → Worked number a b (read z)
+    unfolding joined known combined operated divide operatorOf operators
+    work-divide k d =
+        worked-as number 3 a b (read z) z k (back z s)
+        (quotients 3 a b z (quotZ a b) (omega arith) (omega arith) (rw (back a sa, back b sb) at d) (λ t. rw (t, divide)) (λ t. rw (t, divide)))
+
+    pub work-modulo : number ≡ 4 → Divided (read b) (remZ (read a) (read b)) z → Worked number a b (read z)
+    unfolding joined known combined operated modulo operatorOf operators
+    work-modulo k d =
+        worked-as number 4 a b (read z) z k (back z s)
+        (quotients 4 a b z (remZ a b) (omega arith) (omega arith) (rw (back a sa, back b sb) at d) (λ t. rw (t, modulo)) (λ t. rw (t, modulo) (ap (paper.ranged num) (rem-is a b))))
+
+    pub work-both : number ≡ 12 → Worked 12 (read a) (read b) z → Worked number a b (read z)
+    work-both k w = worked-as number 12 a b (read z) z k (back z s) (rw (back a sa, back b sb) at w)
+
+    pub work-either : number ≡ 13 → Worked 13 (read a) (read b) z → Worked number a b (read z)
+    work-either k w = worked-as number 13 a b (read z) z k (back z s) (rw (back a sa, back b sb) at w)
+
+    module _ (t : Bool) where
+      -- what a comparison's function told, of a and b themselves
+      less-is : t ≡ ltZ (read a) (read b) → t ≡ ltZ a b
+      less-is e = e ∙ rw (back a sa, back b sb)
+
+      more-is : t ≡ ltZ (read b) (read a) → t ≡ ltZ b a
+      more-is e = e ∙ rw (back a sa, back b sb)
+
+      same-is : t ≡ same (read a) (read b) → t ≡ same a b
+      same-is e = e ∙ rw (back a sa, back b sb)
+
+      told-by : (k : ℕ) (u c : Bool) → number ≡ k → z ≡ truth u → u ≡ c → joined (operatorOf k) (value a) (value b) ≡ value (truth c) → Worked number a b (read z)
+      told-by k u c e q h j = worked-as number k a b (read z) (truth u) e (back z s ∙ q) (true-is k a b u (j ∙ ap (λ (x : Bool). value (truth x)) (sym h)))
+
+      pub work-less : number ≡ 5 → t ≡ ltZ (read a) (read b) → z ≡ truth t → Worked number a b (read z)
+      unfolding joined known combined operated operatorOf operators
+      work-less k e q = told-by 5 t (ltZ a b) k q (less-is e) refl
+
+      pub work-less-equal : number ≡ 6 → t ≡ ltZ (read b) (read a) → z ≡ truth (not t) → Worked number a b (read z)
+      unfolding joined known combined operated operatorOf operators
+      work-less-equal k e q = told-by 6 (not t) (leZ a b) k q (ap not (more-is e) ∙ not-less a b) refl
+
+      pub work-greater : number ≡ 7 → t ≡ ltZ (read b) (read a) → z ≡ truth t → Worked number a b (read z)
+      unfolding joined known combined operated operatorOf operators
+      work-greater k e q = told-by 7 t (ltZ b a) k q (more-is e) refl
+
+      pub work-greater-equal : number ≡ 8 → t ≡ ltZ (read a) (read b) → z ≡ truth (not t) → Worked number a b (read z)
+      unfolding joined known combined operated operatorOf operators
+      work-greater-equal k e q = told-by 8 (not t) (leZ b a) k q (ap not (less-is e) ∙ not-less b a) refl
+
+      pub work-equal : number ≡ 9 → t ≡ same (read a) (read b) → z ≡ truth t → Worked number a b (read z)
+      unfolding joined known combined operated operatorOf operators
+      work-equal k e q = told-by 9 t (same a b) k q (same-is e) refl
+
+      -- <> and XOR
+      differs : (k : ℕ) → number ≡ k → joined (operatorOf k) (value a) (value b) ≡ value (truth (not (same a b))) → t ≡ same (read a) (read b) → z ≡ truth (not t) → Worked number a b (read z)
+      differs k h j e q = told-by k (not t) (not (same a b)) h q (ap not (same-is e)) j
+
+      pub work-unequal : number ≡ 10 → t ≡ same (read a) (read b) → z ≡ truth (not t) → Worked number a b (read z)
+      unfolding joined known combined operated operatorOf operators
+      work-unequal k e q = differs 10 k refl e q
+
+      pub work-xor : number ≡ 11 → t ≡ same (read a) (read b) → z ≡ truth (not t) → Worked number a b (read z)
+      unfolding joined known combined operated operatorOf operators
+      work-xor k e q = differs 11 k refl e q
+
+      pub work-past : 14 ≤ number → t ≡ same (read a) (read b) → z ≡ truth (not t) → Worked number a b (read z)
+      unfolding joined known combined operated
+      work-past k e q = differs number refl (rw (past-last number k)) e q
+
+      pub work-14 : number ≡ 14 → t ≡ same (read a) (read b) → z ≡ truth (not t) → Worked number a b (read z)
+      work-14 k e q = work-past (omega arith) e q
+
+      pub work-15 : number ≡ 15 → t ≡ same (read a) (read b) → z ≡ truth (not t) → Worked number a b (read z)
+      work-15 k e q = work-past (omega arith) e q
+
+      pub work-rest : (number ≡ 0 → ⊥) → (number ≡ 1 → ⊥) → (number ≡ 2 → ⊥) → (number ≡ 3 → ⊥) → (number ≡ 4 → ⊥) → (number ≡ 5 → ⊥) → (number ≡ 6 → ⊥) → (number ≡ 7 → ⊥)
+          → (number ≡ 8 → ⊥) → (number ≡ 9 → ⊥) → (number ≡ 10 → ⊥) → (number ≡ 11 → ⊥) → (number ≡ 12 → ⊥) → (number ≡ 13 → ⊥)
+          → t ≡ same (read a) (read b) → z ≡ truth (not t) → Worked number a b (read z)
+      work-rest n0 n1 n2 n3 n4 n5 n6 n7 n8 n9 n10 n11 n12 n13 e q = work-past (past-of number n0 n1 n2 n3 n4 n5 n6 n7 n8 n9 n10 n11 n12 n13) e q
+
+-- ---- AND and OR
+module _ (a b : ℤ) (sa : SFits w64 a) (sb : SFits w64 b) (fa : SFits w32 a) (fb : SFits w32 b) (t : Bool) (e : t ≡ isZero (read a)) where
+  left-is : (u : Bool) → t ≡ u → isZero a ≡ u
+  left-is u h = rw (back a sa) at (sym e ∙ h)
+
+  pub both-left : t ≡ true → Worked 12 a b (read a)
+  unfolding joined known combined operated operatorOf operators
+  both-left h = rw (back a sa) (side 12 a b a (omega arith) fa (rw (left-is true h, joined)))
+
+  pub both-right : t ≡ false → Worked 12 a b (read b)
+  unfolding joined known combined operated operatorOf operators
+  both-right h = rw (back b sb) (side 12 a b b (omega arith) fb (rw (left-is false h, joined)))
+
+  pub either-right : t ≡ true → Worked 13 a b (read b)
+  unfolding joined known combined operated operatorOf operators
+  either-right h = rw (back b sb) (side 13 a b b (omega arith) fb (rw (left-is true h, joined)))
+
+  pub either-left : t ≡ false → Worked 13 a b (read a)
+  unfolding joined known combined operated operatorOf operators
+  either-left h = rw (back a sa) (side 13 a b a (omega arith) fa (rw (left-is false h, joined)))
+
+-- ---- NOT and the signs
+module _ (op : ℕ) (a : ℤ) (sa : SFits w64 a) (sm : Small a) (t : Bool) (e : t ≡ ltZ (read a) (pos firstError)) where
+  module _ (h : t ≡ true) where
+    val : decoded a ≡ value a
+    val = is-value a (told a t true sa e h)
+
+    fit : SFits w32 a
+    fit = sm (told a t true sa e h)
+
+    pub apply-not : op ≡ 7 → (b : Bool) → b ≡ isZero (read a) → (z : ℤ) → SFits w64 z → z ≡ truth b → Gives (applied (prefixIn op) (decoded a)) (read z)
+    unfolding applied prefixIn
+    apply-not k b q z s r =
+        rw (back z s, r) (gives-as (value (truth b)) (applied (prefixIn op) (decoded a)) (truth b)
+        (rw (val, k) (ap (λ (c : Bool). value (truth c)) (rw (back a sa) at q))) (gives-value (truth b) (truth-small b)))
+
+    negated : pos 0 -ℤ read a ≡ negℤ a
+    negated = +ℤ-idl (negℤ (read a)) ∙ ap negℤ (back a sa)
+
+    pub negative-fits : SFits w64 (pos 0 -ℤ read a)
+    negative-fits = rw negated (wide (negℤ a) (omega (arith, abs-neg a, abs-size a fit)))
+
+    module _ (k : op ≡ 9) (b : Bool) (q : b ≡ outside (read (pos 0 -ℤ read a))) where
+      minus-is : (u : Bool) → b ≡ u → outside (negℤ a) ≡ u
+      minus-is u r = sym (q ∙ ap outside (back (pos 0 -ℤ read a) negative-fits ∙ negated)) ∙ r
+
+      applies : applied (prefixIn op) (decoded a) ≡ paper.ranged num (negℤ a)
+      unfolding applied prefixIn paper.minus
+      applies = rw (val, k)
+
+      pub apply-over : b ≡ true → Gives (applied (prefixIn op) (decoded a)) (pos 4294968297)
+      apply-over r = gives-as (error overflow) (applied (prefixIn op) (decoded a)) (pos 4294968297) (sym (applies ∙ ranged-outside (negℤ a) (minus-is true r))) (gives-error overflow 4294968297 refl)
+
+      pub apply-minus : b ≡ false → Gives (applied (prefixIn op) (decoded a)) (read (pos 0 -ℤ read a))
+      apply-minus r =
+          rw (back (pos 0 -ℤ read a) negative-fits, negated)
+          (gives-as (value (negℤ a)) (applied (prefixIn op) (decoded a)) (negℤ a) (sym (applies ∙ ranged-inside (negℤ a) (minus-is false r))) (gives-value (negℤ a) (inside-small (negℤ a) (minus-is false r))))
+
+    pub apply-none : (op ≡ 7 → ⊥) → (op ≡ 9 → ⊥) → Gives (applied (prefixIn op) (decoded a)) (read a)
+    unfolding applied prefixIn
+    apply-none p q = rw (back a sa) (rw val (rw (ne-eqb op 7 p, prefixIn) (rw (ne-eqb op 9 q) (gives-value a fit))))
+
+  pub apply-error : t ≡ false → Gives (applied (prefixIn op) (decoded a)) (read a)
+  unfolding applied
+  apply-error h = rw (back a sa) (gives-as (decoded a) (applied (prefixIn op) (decoded a)) a (rw (is-error a (told a t false sa e h))) (gives-same a sm))

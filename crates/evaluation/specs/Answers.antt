@@ -1,0 +1,68 @@
+-- What an evaluation answers, and what it asks of the two stores.
+use mathlib.Core.Path.{_≡_}
+use mathlib.Core.Bool.{Bool, true, false}
+use mathlib.Core.List.{List}
+use mathlib.Core.Option.{Option, some}
+use Prim.Native.Nat.{ℕ, _+_, _-_, _*_, _<_, _≤_}
+use lib.ListN.{length, getD}
+use lib.IntN.{ℤ, pos, natAbs}
+use lib.Signed.{ltZ}
+use mir.Syntax.{w32}
+use mir.Val.{SFits}
+use Rattle.paper.specs.Numbers.{Value, value, error}
+use Rattle.paper.specs.Terms.{Term, Memory, worth}
+use Rattle.cells.specs.Words.{wordsOf}
+use Rattle.code.specs.Cells.{firstWindow, errnoCell}
+use Rattle.code.specs.Spans.{termIn, memoryIn}
+
+-- ---- answers
+-- An answer is one number of 64 bits: a value, or the number of an error above all values.
+abbrev pub firstError : ℕ
+firstError = 4294967296
+
+unfoldable pub decoded : ℤ → Value
+decoded z = elim (ltZ z (pos firstError)) [ true ↦ value z | false ↦ error (natAbs z - firstError) ]
+
+-- a value has 32 bits
+abbrev pub Small : ℤ → Type 0
+Small z = ltZ z (pos firstError) ≡ true → SFits w32 z
+
+pub record Gives (v : Value) (r : ℤ) : Type 0 where
+  pub is : decoded r ≡ v
+  pub small : Small r
+
+-- ---- the stores
+-- a call's words, at the beginning of its window
+abbrev pub callWords : ℕ
+callWords = 64
+
+-- how many words of data the module and the routine have
+pub record Counts : Type 0 where
+  pub m : ℕ
+  pub n : ℕ
+  pub most : m ≤ firstWindow
+  pub window : n ≤ callWords
+
+abbrev pub termOf : Counts → (code : List ℕ) → (from to : ℕ) → Option Term
+termOf c code from to = termIn (c .m) (c .n) (wordsOf code) from to
+
+abbrev pub memoryOf : Counts → (values : List ℕ) → (base : ℕ) → Memory
+memoryOf c values base = memoryIn (c .m) (c .n) (wordsOf values) base
+
+-- The value store has the module's words, ERRNO, which is no large number, and the call's words from `base` on.
+pub record Stores (values : List ℕ) (base : ℕ) : Type 0 where
+  pub words : errnoCell * 4 + 4 ≤ length values
+  pub call : (base + callWords) * 4 ≤ length values
+  pub number : getD (wordsOf values) errnoCell 0 < 2147483648
+
+-- An expression stands in the words from `from` up to `to`.
+pub record Stands (code : List ℕ) (from to : ℕ) : Type 0 where
+  pub c : Counts
+  pub t : Term
+  pub is : termOf c code from to ≡ some t
+  pub room : to * 8 ≤ length code
+
+-- r is what the expression is worth that stands there.
+pub record Evaluated (code values : List ℕ) (base from to : ℕ) (r : ℤ) : Type 0 where
+  pub is : (c : Counts) (t : Term) → termOf c code from to ≡ some t → decoded r ≡ worth (memoryOf c values base) t
+  pub small : Small r

@@ -1,0 +1,103 @@
+-- What the inner functions ask and tell. No promise of a public function rests on this.
+use mathlib.Core.Path.{_≡_}
+use mathlib.Core.Bool.{Bool, true, false}
+use mathlib.Core.List.{List}
+use mathlib.Core.Option.{Option, some}
+use Prim.Native.Nat.{ℕ, _+_, _<_, _≤_}
+use lib.Dec.{eqb, leb}
+use lib.IntN.{ℤ, pos, negsuc}
+use lib.Signed.{ltZ}
+use mir.Syntax.{w32}
+use mir.Val.{SFits, toZ}
+use Rattle.paper.specs.Basics.{if_then_else_}
+use Rattle.paper.specs.Numbers.{num, Value, value, error, isZero, overflow, divZero}
+use Rattle.paper.specs.Terms.{Term, unary, known, combined, worth}
+use Rattle.code.specs.Cells.{opIn, valueIn}
+use Rattle.code.specs.Spans.{aCallElement, aParenthesis, firstIn, prefixIn, operatorOf, leafTerm, elementTerm}
+use Rattle.evaluation.specs.Answers.{decoded, Small, Gives, Counts, memoryOf}
+
+-- ---- operators
+-- a number that num does not hold
+unfoldable pub outside : ℤ → Bool
+outside z = if ltZ z (num .low) then true else ltZ (num .high) z
+
+-- two sides, by what they are worth
+unfoldable pub joined : (operator : ℕ) → (left right : Value) → Value
+joined op a b = if known op a then a else combined op a b
+
+-- what fails where an operator's result is outside: DIV and MOD, the first that can, by zero
+unfoldable pub failureOf : (number : ℕ) → ℤ → ℕ
+failureOf k b =
+    if leb 3 k then (if isZero b then divZero else overflow)
+    else overflow
+
+-- AND and OR, the last, give one of their sides, which need not be in num
+abbrev pub firstLogic : ℕ
+firstLogic = 12
+
+-- z, worked out with no regard to num, tells what the operator gives between a and b.
+pub record Worked (number : ℕ) (a b z : ℤ) : Type 0 where
+  pub inside : outside z ≡ false → joined (operatorOf number) (value a) (value b) ≡ value z
+  pub fails : outside z ≡ true → number < firstLogic → joined (operatorOf number) (value a) (value b) ≡ error (failureOf number b)
+  pub logic : firstLogic ≤ number → joined (operatorOf number) (value a) (value b) ≡ value z
+  pub small : firstLogic ≤ number → SFits w32 z
+
+-- z is the exact quotient or remainder, and outside where there is none
+pub record Divided (b exact z : ℤ) : Type 0 where
+  pub none : isZero b ≡ true → outside z ≡ true
+  pub is : isZero b ≡ false → z ≡ exact
+
+-- ---- operands
+-- a word that was loaded
+pub record Loaded (k : ℕ) (z : ℤ) : Type 0 where
+  pub is : z ≡ toZ w32 k
+  pub small : SFits w32 z
+
+pub record Leaf (op v : ℕ) : Type 0 where
+  pub c : Counts
+  pub t : Term
+  pub is : leafTerm (c .m) (c .n) op v ≡ some t
+  pub bits : v < 16777216
+
+pub record Read (values : List ℕ) (base op v : ℕ) (z : ℤ) : Type 0 where
+  pub is : (c : Counts) (t : Term) → leafTerm (c .m) (c .n) op v ≡ some t → worth (memoryOf c values base) t ≡ value z
+  pub small : SFits w32 z
+
+-- the cell of a word with an op: the op `own` is the module's
+unfoldable pub cellOf : (base op own word : ℕ) → ℕ
+cellOf base op own k = if eqb op own then k else base + k
+
+-- what an operand of several words is, by what stands inside it; where that begins; and the word after it
+unfoldable pub closedTerm : Counts → (op value : ℕ) → Term → Option Term
+closedTerm c op v t =
+    if leb op aCallElement then elementTerm (c .m) (c .n) op v t
+    else if eqb op aParenthesis then some t
+    else some (unary (prefixIn op) t)
+
+unfoldable pub opensAt : (op at : ℕ) → ℕ
+opensAt op at = if leb op aCallElement then at + 2 else at + 1
+
+unfoldable pub endsAt : (op link : ℕ) → ℕ
+endsAt op l = if leb op aParenthesis then l + 1 else l
+
+pub record Array (w : ℕ) : Type 0 where
+  pub c : Counts
+  pub t : Term
+  pub u : Term
+  pub is : elementTerm (c .m) (c .n) (opIn w) (valueIn w) t ≡ some u
+
+pub record Indexed (values : List ℕ) (base w : ℕ) (x r : ℤ) : Type 0 where
+  pub is : (c : Counts) (t u : Term) → elementTerm (c .m) (c .n) (opIn w) (valueIn w) t ≡ some u → decoded x ≡ worth (memoryOf c values base) t
+      → decoded r ≡ worth (memoryOf c values base) u
+  pub small : Small r
+
+pub record Closes (w : ℕ) : Type 0 where
+  pub c : Counts
+  pub t : Term
+  pub u : Term
+  pub is : closedTerm c (opIn w) (valueIn w) t ≡ some u
+
+pub record Closed (values : List ℕ) (base w : ℕ) (x r : ℤ) : Type 0 where
+  pub is : (c : Counts) (t u : Term) → closedTerm c (opIn w) (valueIn w) t ≡ some u → decoded x ≡ worth (memoryOf c values base) t
+      → decoded r ≡ worth (memoryOf c values base) u
+  pub small : Small r
