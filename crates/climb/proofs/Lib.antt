@@ -1,0 +1,3 @@
+pub mod Climb
+pub mod Operands
+pub mod Places
