@@ -348,10 +348,12 @@ fn enclosed<'a>(code: &'a [u8], values: &'a [u8], base: usize, at: usize, w: u32
         let x = head(code, s);
         return close(values, base, w, leaf(values, base, x % 256, x / 256));
     }
-    close(values, base, w, evaluate(code, values, base, s, l))
+    close(values, base, w, evaluate(&*code, &*values, base, s, l))
 }
 
 // What the expression is worth that stands in the words from `from` up to `to`. What fails leaves at once, so that the loop goes on with values only.
+// `&*code` and `&*values` have a slice's two halves loaded one by one: a caller makes them anew for each call, the value store's at least, to which it
+// writes, and a load of both halves at once would wait for its stores.
 pub fn evaluate<'a>(code: &'a [u8], values: &'a [u8], base: usize, from: usize, to: usize) -> i64
     requires { ⌜ Stores (now values) base × Stands (now code) from to ⌝ }
     ensures { λ r. ⌜ Evaluated (now (code .entry)) (now (values .entry)) base from to r ⌝ }
@@ -363,7 +365,7 @@ pub fn evaluate<'a>(code: &'a [u8], values: &'a [u8], base: usize, from: usize, 
         acc = leaf(values, base, w % 256, w / 256);
     } else {
         let l = link(code, from);
-        acc = enclosed(code, values, base, from, w, l);
+        acc = enclosed(&*code, &*values, base, from, w, l);
         if !is_value(acc) {
             return acc;
         }
@@ -378,7 +380,7 @@ pub fn evaluate<'a>(code: &'a [u8], values: &'a [u8], base: usize, from: usize, 
         if op / 16 % 4 == SPAN {
             r = link(code, i);
             if !is_known(op % 16, acc) {
-                b = evaluate(code, values, base, i + 1, r);
+                b = evaluate(&*code, &*values, base, i + 1, r);
                 if !is_value(b) {
                     return b;
                 }
