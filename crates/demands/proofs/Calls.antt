@@ -3,18 +3,18 @@ use mathlib.Core.Path.{_≡_, refl, sym, ap, _∙_}
 use mathlib.Core.Bool.{true, false}
 use mathlib.Core.List.{List, [], _∷_, _++_, map}
 use mathlib.Core.Option.{Option, none, some}
-use Prim.Native.Nat.{ℕ, suc, _+_, _<_}
+use Prim.Native.Nat.{ℕ, suc, _+_, _≤_, _<_}
 use native.Mathlib.Omega.{arith}
 use lib.ListN.{length, length-map, length-append}
-use Rattle.laws.proofs.Tests.{apart}
+use Rattle.laws.proofs.Tests.{apart, by-less}
 use Rattle.paper.specs.Steps.{Action, retry, tryNext, Program}
 use Rattle.paper.specs.States.{Call, State, Rooms, Effect, made, failing, withCalls, withErrno, counted, goTo, setFailed, onTop}
 use Rattle.paper.specs.Running.{Outcome, goesOn, stopped, stopping, codeAt, stepOf, nextStep, newCall, resume, takes, caught, retrying, tryingNext, perform, arising, settled, takeStep, started}
 use Rattle.demands.proofs.Performed.{Performed, makes, fails-with, ends, lacks, performed}
 use Rattle.demands.proofs.Performed as steps
 use Rattle.demands.proofs.Alls.{first-of, rest-of, back-of}
-use Rattle.demands.specs.Vocabulary.{All, nothing, _also_, bare, effectOf, Waits, Taken, CallsAfter, goes-on, begins, returns, retries, tries-next, fails, hands-on, Reached, at-start, by-step}
-use Rattle.demands.specs.Demands.{Begun, Lesson}
+use Rattle.demands.specs.Vocabulary.{All, nothing, _also_, bare, effectOf, Waits, Taken, CallsAfter, goes-on, begins, returns, retries, tries-next, fails, hands-on, Reached, at-start, by-step, Leads, at-once, and-then}
+use Rattle.demands.specs.Demands.{Begun, Lesson, BegunSince, NeverLiveAgain}
 
 -- ---- one step
 -- A property of the calls that are live where the run goes on.
@@ -278,3 +278,31 @@ lesson P R main s c r live =
       callers-wait = λ h. (rw live at (orderly P R main s h)) .waiting;
       dies = dies P R main s c r live;
     }
+
+-- ---- over whole runs
+-- A step to more than n calls, from no more: it begins a call at depth n + 1.
+crosses : (P : Program) (R : Rooms) (n : ℕ) (first s s′ : State) → Leads P R (λ x. Unit) first s → takeStep P R s ≡ goesOn s′ → length (s .calls) ≤ n → n < length (s′ .calls)
+    → BegunSince P R n first s′
+crosses P R n first s s′ way e low high = newest (s .calls) refl
+  where
+    newest : (cs : List Call) → s .calls ≡ cs → BegunSince P R n first s′
+    newest [] live = let q : stopping false 1 0 s ≡ goesOn s′ = sym (step-from P R s [] live) ∙ e in apart (cc)
+    newest (c ∷ r) live =
+        let same : length (s .calls) ≡ length (c ∷ r) = ap length live in
+        let b : Begun P c r (s′ .calls) = never-again P R s c r live s′ e (omega arith) in
+        let one-more : length (s′ .calls) ≡ suc (length (c ∷ r)) = ap length (b .live) in
+        record { before = s; after = s′; newest = c; callers = r; on-the-way = way; live = live; deep = omega arith; step = e; begun = b; since = at-once high }
+
+-- the call has been live a step longer
+longer : (P : Program) (R : Rooms) (n : ℕ) (first s s′ : State) → takeStep P R s ≡ goesOn s′ → n < length (s′ .calls) → BegunSince P R n first s → BegunSince P R n first s′
+longer P R n first s s′ e high b =
+    record { before = b .before; after = b .after; newest = b .newest; callers = b .callers; on-the-way = b .on-the-way; live = b .live; deep = b .deep; step = b .step; begun = b .begun; since = and-then (b .since) e high }
+
+pub never-live-again : NeverLiveAgain
+unfolding NeverLiveAgain
+never-live-again P R n first last way low high = along last way high
+  where
+    along : (s : State) → Leads P R (λ x. Unit) first s → n < length (s .calls) → BegunSince P R n first s
+    along s (at-once u) h = absurd (omega arith)
+    along s (and-then {s₁ = s₁} {s₂ = s₂} g e u) h =
+        by-less n (length (s₁ .calls)) (λ above. longer P R n first s₁ s₂ e h (along s₁ g above)) (λ below. crosses P R n first s₁ s₂ g e below h)

@@ -135,6 +135,12 @@ pub fetch-is-gone : traceOf (slip 1) (pos 13 ∷ []) ≡ (1, 52) ∷ (2, 113) �
 unfolding computed trace traceOf slip slips row asking fields lines tray moduleOf
 fetch-is-gone = refl
 
+-- p is called at 21, fails at 59 and is dropped; the call that is live at depth 2 later is another one, begun at 24.
+pub another-call : traceOf (lines ("MODULE m" ∷ "PROC main()" ∷ "p;" ∷ "p;" ∷ "ERROR" ∷ "TRYNEXT;" ∷ "ENDPROC" ∷ "PROC p()" ∷ "RAISE 5;" ∷ "ENDPROC" ∷ "ENDMODULE" ∷ [])) []
+    ≡ (1, 21) ∷ (2, 59) ∷ (1, 33) ∷ (1, 24) ∷ (2, 59) ∷ (1, 33) ∷ (1, 27) ∷ []
+unfolding computed trace traceOf lines
+another-call = refl
+
 -- p fails at 79 and takes its error; the error at 99, in its ERROR list, ends the run, though main has an ERROR list at 45.
 pub dies-in-list : traceOf (slip 2) [] ≡ (1, 36) ∷ (2, 79) ∷ (2, 99) ∷ []
 unfolding computed trace traceOf slip slips row asking fields lines tray moduleOf

@@ -18,7 +18,7 @@ use Rattle.paper.specs.Steps.{retry, tryNext, Program}
 use Rattle.paper.specs.States.{Location, Call, State, Rooms, failing, withCalls, withErrno, counted, goTo, setFailed}
 use Rattle.paper.specs.Running.{stepOf, nextStep, newCall, takeStep, goesOn, stopping}
 use Rattle.paper.specs.Answer.{storeWords, depthLimit, recordSize, Record, recordBytes, Lent, Answer, answer, LentBytes, BytesAnswer, lentOf, pendantCall}
-use Rattle.demands.specs.Vocabulary.{Begins, All, IsByte, fieldIn, Errno, EndsWith, WordAt, effectOf, CallsRoutine, Waits, Taken, CallsAfter, Reached}
+use Rattle.demands.specs.Vocabulary.{Begins, All, IsByte, fieldIn, Errno, EndsWith, WordAt, effectOf, CallsRoutine, Waits, Taken, CallsAfter, Reached, Leads}
 
 -- ---- Demand 1: every answer is one that the paper's tables allow, and no memory is touched but what the paper says. For everything that can be lent.
 
@@ -228,6 +228,24 @@ pub record ErrorLesson (P : Program) (R : Rooms) (main : ℕ) (s : State) (c : C
 
 unfoldable pub Lesson : Type 0
 Lesson = (P : Program) (R : Rooms) (main : ℕ) (s : State) (c : Call) (r : List Call) → s .calls ≡ c ∷ r → ErrorLesson P R main s c r
+
+-- Between a state and a later one, the call at depth n + 1 was begun, and has been live since. "main has depth 1."
+pub record BegunSince (P : Program) (R : Rooms) (n : ℕ) (first last : State) : Type 0 where
+  pub before : State
+  pub after : State
+  pub newest : Call
+  pub callers : List Call
+  pub on-the-way : Leads P R (λ s. Unit) first before
+  pub live : before .calls ≡ newest ∷ callers
+  pub deep : length (before .calls) ≡ n
+  pub step : takeStep P R before ≡ goesOn after
+  pub begun : Begun P newest callers (after .calls)
+  pub since : Leads P R (λ s. n < length (s .calls)) after last
+
+-- "never goes back into a dropped routine", over whole runs: where calls have been dropped, a call that is live later, deeper than those left, was begun later.
+unfoldable pub NeverLiveAgain : Type 0
+NeverLiveAgain =
+    (P : Program) (R : Rooms) (n : ℕ) (first last : State) → Leads P R (λ s. Unit) first last → length (first .calls) ≤ n → n < length (last .calls) → BegunSince P R n first last
 
 -- ---- The user's lesson: NOT and a leading sign, for all words. W i is the sort of word i; `inner` reads what stands in parentheses and braces.
 

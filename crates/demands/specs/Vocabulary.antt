@@ -178,3 +178,8 @@ pub data CallsAfter (P : Program) (c : Call) (r : List Call) (onward : ℕ) (doe
 pub data Reached (P : Program) (R : Rooms) (main : ℕ) : State → Type 0 where
   at-start : Reached P R main (started P main)
   by-step : {s s′ : State} → Reached P R main s → takeStep P R s ≡ goesOn s′ → Reached P R main s′
+
+-- From a state of a run to a later one, by states of which each is such.
+pub data Leads (P : Program) (R : Rooms) (such : State → Type 0) (s : State) : State → Type 0 where
+  at-once : such s → Leads P R such s s
+  and-then : {s₁ s₂ : State} → Leads P R such s s₁ → takeStep P R s₁ ≡ goesOn s₂ → such s₂ → Leads P R such s s₂
