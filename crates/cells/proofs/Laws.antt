@@ -14,6 +14,13 @@ four i k = omega arith
 four0 : (i : ℕ) → suc i * 4 ≡ suc (suc (suc (suc (i * 4))))
 four0 i = omega arith
 
+-- every element is a byte, or a word
+abbrev pub Bytes : List ℕ → Type 0
+Bytes l = (i : ℕ) → getD l i 0 < 256
+
+abbrev pub Words : List ℕ → Type 0
+Words l = (i : ℕ) → getD l i 0 < 4294967296
+
 -- ---- words and bytes, there and back
 
 pub length-words : (l : List ℕ) → length (wordsOf l) ≡ length l / 4
@@ -34,13 +41,14 @@ unfolding wordsOf bytesOf
 words-bytes [] = refl
 words-bytes (v ∷ w) = ap₂ (λ (x : ℕ) (y : List ℕ). x ∷ y) (omega arith) (words-bytes w)
 
-pub bytes-words : (n : ℕ) (l : List ℕ) → length l ≡ n * 4 → ((i : ℕ) → getD l i 0 < 256) → bytesOf (wordsOf l) ≡ l
+-- a part word is left out
+pub bytes-words : (l : List ℕ) → Bytes l → bytesOf (wordsOf l) ≡ take (length (wordsOf l) * 4) l
 unfolding wordsOf bytesOf
-bytes-words n [] e h = refl
-bytes-words n (a ∷ []) e h = absurd (omega arith)
-bytes-words n (a ∷ b ∷ []) e h = absurd (omega arith)
-bytes-words n (a ∷ b ∷ c ∷ []) e h = absurd (omega arith)
-bytes-words n (a ∷ b ∷ c ∷ d ∷ r) e h =
+bytes-words [] h = refl
+bytes-words (a ∷ []) h = refl
+bytes-words (a ∷ b ∷ []) h = refl
+bytes-words (a ∷ b ∷ c ∷ []) h = refl
+bytes-words (a ∷ b ∷ c ∷ d ∷ r) h =
     let ha : a < 256 = h 0 in
     let hb : b < 256 = h 1 in
     let hc : c < 256 = h 2 in
@@ -51,11 +59,11 @@ bytes-words n (a ∷ b ∷ c ∷ d ∷ r) e h =
     let qc : word a b c d / 65536 ≡ c + 256 * d = omega arith in
     let ec : word a b c d / 65536 % 256 ≡ c = rw qc (omega arith) in
     let ed : word a b c d / 16777216 ≡ d = omega arith in
-    let er : bytesOf (wordsOf r) ≡ r = bytes-words (n - 1) r (omega arith) (λ i. h (suc (suc (suc (suc i))))) in
-    rw (ea, eb, ec, ed, er)
+    let er = bytes-words r (λ i. h (suc (suc (suc (suc i))))) in
+    rw (four0 (length (wordsOf r)), ea, eb, ec, ed, er)
 
 -- a word of bytes is below 2^32
-pub words-small : (l : List ℕ) → ((i : ℕ) → getD l i 0 < 256) → (i : ℕ) → getD (wordsOf l) i 0 < 4294967296
+pub words-small : (l : List ℕ) → Bytes l → Words (wordsOf l)
 unfolding wordsOf
 words-small [] h i = omega arith
 words-small (a ∷ []) h i = omega arith

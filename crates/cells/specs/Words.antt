@@ -1,8 +1,10 @@
 -- A list of bytes read as words of 32 bits: "four each, low byte first (a part word is left out)".
 use mathlib.Core.Path.{_≡_}
-use mathlib.Core.List.{List, [], _∷_, _++_}
+use mathlib.Core.List.{List, [], _∷_}
 use Prim.Native.Nat.{ℕ, _+_, _*_, _/_, _%_}
-use lib.ListN.{set, take, drop, replicate}
+use lib.ListN.{getD, set, replicate}
+pub use Rattle.laws.specs.Lists.{replaced}
+use Rattle.paper.specs.Answer.{lowFirst}
 
 abbrev pub word : ℕ → ℕ → ℕ → ℕ → ℕ
 word a b c d = a + 256 * b + 65536 * c + 16777216 * d
@@ -19,9 +21,9 @@ unfoldable pub bytesOf : List ℕ → List ℕ
 bytesOf [] = []
 bytesOf (v ∷ r) = (v % 256) ∷ (v / 256 % 256) ∷ (v / 65536 % 256) ∷ (v / 16777216) ∷ bytesOf r
 
--- What l becomes when the n elements from a on are replaced by m, of n elements: every other one stays.
-abbrev pub replaced : List ℕ → ℕ → List ℕ → ℕ → List ℕ
-replaced l a m n = take a l ++ m ++ drop (a + n) l
+-- v is word i.
+abbrev pub Got : (bytes : List ℕ) (i v : ℕ) → Type 0
+Got bytes i v = v ≡ getD (wordsOf bytes) i 0
 
 -- Word i is v now, and every byte outside it is as it was.
 pub record Put (before after : List ℕ) (i v : ℕ) : Type 0 where
@@ -32,3 +34,7 @@ pub record Put (before after : List ℕ) (i v : ℕ) : Type 0 where
 pub record Cleared (before after : List ℕ) (from count : ℕ) : Type 0 where
   pub bytes : after ≡ replaced before (from * 4) (replicate (count * 4) 0) (count * 4)
   pub words : wordsOf after ≡ replaced (wordsOf before) from (replicate count 0) count
+
+-- "eight a field": field i is v now, low byte first, and every byte outside it is as it was.
+pub record PutField (before after : List ℕ) (i v : ℕ) : Type 0 where
+  pub bytes : after ≡ replaced before (i * 8) (lowFirst 8 v) 8

@@ -1,8 +1,8 @@
-// Words of 32 bits in lent bytes, four each, low byte first.
+// Words of 32 bits in lent bytes, four each, and fields of 64 bits, eight each: low byte first.
 ghost use mathlib.Core.Path.{_≡_};
 ghost use Prim.Native.Nat.{_+_, _*_, _<_, _≤_};
-ghost use lib.ListN.{length, getD};
-ghost use Rattle.cells.specs.Words.{wordsOf, Put, Cleared};
+ghost use lib.ListN.{length};
+ghost use Rattle.cells.specs.Words.{Got, Put, Cleared, PutField};
 
 // A byte as a word.
 fn wide(x: u8) -> u32
@@ -22,7 +22,7 @@ fn low(x: u32) -> u8
 // The word at index i.
 pub fn get(bytes: &[u8], i: usize) -> u32
     requires { ⌜ i * 4 + 4 ≤ length (now bytes) ⌝ }
-    ensures { λ r. ⌜ r ≡ getD (wordsOf (now (bytes .entry))) i 0 ⌝ }
+    ensures { λ r. ⌜ Got (now (bytes .entry)) i r ⌝ }
 {
     let a = i * 4;
     wide(bytes[a])
@@ -41,6 +41,15 @@ pub fn put(bytes: &mut [u8], i: usize, v: u32)
     bytes[a + 1] = low(v / 256 % 256);
     bytes[a + 2] = low(v / 65536 % 256);
     bytes[a + 3] = low(v / 16777216);
+}
+
+// Makes field i be v: its two words, which compiles to one store.
+pub fn put_field(bytes: &mut [u8], i: usize, v: u64)
+    requires { ⌜ i * 8 + 8 ≤ length (now bytes) ⌝ }
+    ensures { λ _. ⌜ PutField (now (bytes .entry)) (now (bytes .exit)) i v ⌝ }
+{
+    put(bytes, i * 2, (v % 4294967296) as u32);
+    put(bytes, i * 2 + 1, (v / 4294967296) as u32);
 }
 
 // Makes count words from index `from` on be 0, byte by byte, which compiles to one fill.
