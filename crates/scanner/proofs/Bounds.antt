@@ -9,49 +9,49 @@ use lib.Dec.{eqb, ltb}
 use lib.ListN.{length, getD, take, length-take}
 pub use Rattle.reserved.proofs.Table.{test, false-true}
 use Rattle.paper.specs.Sorts.{signSort}
-use Rattle.paper.specs.Words.{Scan, word, refused, run, inName, letter, digit, permitted, permittedInside, spoilsNumber, valueOf, stringEnd, scanName, scanNumber, scanString, scanSign, scan}
+use Rattle.paper.specs.Words.{Scan, word, refused, nameLimit, stringLimit, leading, inName, letter, digit, permitted, permittedInside, spoilsNumber, valueOf, stringEnd, scanName, scanNumber, scanString, scanSign, scan}
 use Rattle.scanner.proofs.Strings.{end-within}
 
 abbrev pub Within : List ℕ → Scan → Type 0
 Within l (word sort n v) = (0 < n) × (n ≤ length l)
 Within l (refused number after) = after ≤ length l
 
-run-length : (such : ℕ → Bool) (l : List ℕ) → run such l ≤ length l
-unfolding run
-run-length such [] = omega arith
-run-length such (b ∷ r) = test (such b) (λ t. rw (t, run) (omega (arith, run-length such r))) (λ t. rw (t, run) (omega arith))
+leading-length : (such : ℕ → Bool) (l : List ℕ) → leading such l ≤ length l
+unfolding leading
+leading-length such [] = omega arith
+leading-length such (b ∷ r) = test (such b) (λ t. rw (t, leading) (omega (arith, leading-length such r))) (λ t. rw (t, leading) (omega arith))
 
 module _ (b : ℕ) (r : List ℕ) where
-  run-some : (such : ℕ → Bool) → such b ≡ true → (0 < run such (b ∷ r)) × (run such (b ∷ r) ≤ length (b ∷ r))
-  unfolding run
-  run-some such t = (rw (t, run) (omega arith), run-length such (b ∷ r))
+  leading-some : (such : ℕ → Bool) → such b ≡ true → (0 < leading such (b ∷ r)) × (leading such (b ∷ r) ≤ length (b ∷ r))
+  unfolding leading
+  leading-some such t = (rw (t, leading) (omega arith), leading-length such (b ∷ r))
 
   name-within : letter b ≡ true → Within (b ∷ r) (scanName (b ∷ r))
   unfolding scanName inName
   name-within h =
-      test (ltb 32 (run inName (b ∷ r))) (λ t. rw (t, scanName) (omega arith))
-      (λ t. rw (t, scanName) (run-some inName (rw (h, inName))))
+      test (ltb nameLimit (leading inName (b ∷ r))) (λ t. rw (t, scanName) (omega arith))
+      (λ t. rw (t, scanName) (leading-some inName (rw (h, inName))))
 
-  number-within : digit b ≡ true → Within (b ∷ r) (scanNumber (b ∷ r))
+  number-within : (largest : ℕ) → digit b ≡ true → Within (b ∷ r) (scanNumber largest (b ∷ r))
   unfolding scanNumber
-  number-within h =
-      test (spoilsNumber (getD (b ∷ r) (run digit (b ∷ r)) 0)) (λ t. rw (t, scanNumber) (omega arith))
-      (λ t. test (ltb 8388608 (valueOf (take (run digit (b ∷ r)) (b ∷ r)) 0))
+  number-within largest h =
+      test (spoilsNumber (getD (b ∷ r) (leading digit (b ∷ r)) 0)) (λ t. rw (t, scanNumber) (omega arith))
+      (λ t. test (ltb largest (valueOf (take (leading digit (b ∷ r)) (b ∷ r)) 0))
       (λ g. rw (t, scanNumber) (rw g (omega arith)))
-      (λ g. rw (t, scanNumber) (rw g (run-some digit h))))
+      (λ g. rw (t, scanNumber) (rw g (leading-some digit h))))
 
   string-within : Within (b ∷ r) (scanString (b ∷ r))
   unfolding scanString
-  string-within = ended (stringEnd 80 false r 1) refl
+  string-within = ended (stringEnd stringLimit false r 1) refl
     where
-      inside : (n : ℕ) → stringEnd 80 false r 1 ≡ some n → (1 ≤ n) × (n ≤ length (b ∷ r))
-      inside n e = let x = end-within 80 false r 1 n e in (omega arith, omega arith)
+      inside : (n : ℕ) → stringEnd stringLimit false r 1 ≡ some n → (1 ≤ n) × (n ≤ length (b ∷ r))
+      inside n e = let x = end-within stringLimit false r 1 n e in (omega arith, omega arith)
 
-      ended : (o : Option ℕ) → stringEnd 80 false r 1 ≡ o → Within (b ∷ r) (scanString (b ∷ r))
+      ended : (o : Option ℕ) → stringEnd stringLimit false r 1 ≡ o → Within (b ∷ r) (scanString (b ∷ r))
       ended none e = rw (e, scanString) (omega arith)
       ended (some n) e =
-          test (ltb (run permittedInside (b ∷ r)) n)
-          (λ t. rw (e, scanString) (rw t (run-length permittedInside (b ∷ r))))
+          test (ltb (leading permittedInside (b ∷ r)) n)
+          (λ t. rw (e, scanString) (rw t (leading-length permittedInside (b ∷ r))))
           (λ t. rw (e, scanString) (rw t (inside n e)))
 
   sign-within : Within (b ∷ r) (scanSign (b ∷ r))
@@ -66,11 +66,11 @@ module _ (b : ℕ) (r : List ℕ) where
       pair zero e = one (signSort (take 1 (b ∷ r))) e refl
       pair (suc s) e = rw (e, scanSign) (simp length-take (omega arith), simp length-take (omega arith))
 
-  pub scan-within : Within (b ∷ r) (scan b (b ∷ r))
+  pub scan-within : (largest : ℕ) → Within (b ∷ r) (scan largest b (b ∷ r))
   unfolding scan
-  scan-within =
+  scan-within largest =
       test (permitted b) (λ p. test (letter b) (λ t. rw (p, scan) (rw t (name-within t)))
-      (λ t. test (digit b) (λ d. rw (p, scan) (rw t (rw d (number-within d))))
+      (λ t. test (digit b) (λ d. rw (p, scan) (rw t (rw d (number-within largest d))))
       (λ d. test (eqb b 34) (λ q. rw (p, scan) (rw t (rw d (rw q string-within))))
       (λ q. rw (p, scan) (rw t (rw d (rw q sign-within)))))))
       (λ p. rw (p, scan) (omega arith))

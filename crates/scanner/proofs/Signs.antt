@@ -7,7 +7,7 @@ use native.Mathlib.Omega.{arith}
 use lib.ListN.{length, getD}
 use Rattle.reserved.proofs.Table.{test}
 use Rattle.paper.specs.Sorts.{signSort}
-use Rattle.paper.specs.Words.{permitted, scanSign, word, refused}
+use Rattle.paper.specs.Words.{permitted, scanSign, word, refused, malformed}
 use Rattle.scanner.specs.Answers.{pairSort, signOrNone}
 use Rattle.scanner.proofs.Bytes.{unpaired-below, unpaired-above, sign-permitted}
 
@@ -53,7 +53,7 @@ sign-one [] p s g e z i h = absurd (omega arith)
 sign-one (b ∷ []) p s g e z i h = rw (← i, scanSign) (sym (picked s (λ x. word x 1 0) _ h))
 sign-one (b ∷ c ∷ r) p s g e z i h = rw (sym e ∙ z, scanSign) (rw (← i) (sym (picked s (λ x. word x 1 0) _ h)))
 
-sign-none : (text : List ℕ) (p s : ℕ) → 0 < length text → p ≡ pairSort text → p ≡ 0 → s ≡ signSort (getD text 0 0 ∷ []) → s ≡ 0 → refused 5 0 ≡ scanSign text
+sign-none : (text : List ℕ) (p s : ℕ) → 0 < length text → p ≡ pairSort text → p ≡ 0 → s ≡ signSort (getD text 0 0 ∷ []) → s ≡ 0 → malformed ≡ scanSign text
 unfolding pairSort scanSign
 sign-none [] p s g e z i h = absurd (omega arith)
 sign-none (b ∷ []) p s g e z i h = rw (sym i ∙ h, scanSign) (rw (sym i ∙ h))
@@ -79,7 +79,7 @@ module _ (text : List ℕ) (p s : ℕ) (some : 0 < length text) (e : p ≡ pairS
   sign-told h = rw (permitted-one (getD text 0 0) (λ y. h (i ∙ y)), signOrNone) (sign-one text p s some e z i h)
 
   module _ (y : s ≡ 0) (t : Bool) (is : t ≡ permitted (getD text 0 0)) where
-    pub none-told : t ≡ true → refused 5 0 ≡ signOrNone text
+    pub none-told : t ≡ true → malformed ≡ signOrNone text
     unfolding signOrNone
     none-told g = rw (sym is ∙ g, signOrNone) (sign-none text p s some e z i y)
 

@@ -6,7 +6,7 @@ use Prim.Native.Nat.{ℕ, _-_}
 use native.Mathlib.Omega.{arith}
 use lib.ListN.{length, getD}
 use borrow.Author.Tests.{eq-eqb, ne-eqb}
-use Rattle.paper.specs.Words.{Scan, refused, between, permitted, letter, digit, scanName, scanNumber, scanString, scan}
+use Rattle.paper.specs.Words.{Scan, refused, largestNumber, between, permitted, letter, digit, scanName, scanNumber, scanString, scan}
 use Rattle.reserved.proofs.Table.{test}
 use Rattle.scanner.specs.Answers.{signOrNone}
 use Rattle.scanner.proofs.Bytes.{letter-permitted, digit-permitted, quote-permitted}
@@ -14,13 +14,13 @@ use Rattle.scanner.proofs.Bytes.{letter-permitted, digit-permitted, quo
 abbrev front : List ℕ → ℕ
 front text = getD text 0 0
 
-pub nothing : (text : List ℕ) → length text ≡ 0 → refused 4 0 ≡ scan (front text) text
+pub nothing : (text : List ℕ) → length text ≡ 0 → refused 4 0 ≡ scan largestNumber (front text) text
 unfolding scan permitted between
 nothing [] h = refl
 nothing (b ∷ r) h = absurd (omega arith)
 
 module _ (text : List ℕ) (l : Bool) (letters : l ≡ letter (front text)) where
-  pub a-name : (s : Scan) → l ≡ true → s ≡ scanName text → s ≡ scan (front text) text
+  pub a-name : (s : Scan) → l ≡ true → s ≡ scanName text → s ≡ scan largestNumber (front text) text
   unfolding scan
   a-name s g e = let t = sym letters ∙ g in e ∙ sym (rw (letter-permitted (front text) t, scan) (rw t))
 
@@ -28,17 +28,17 @@ module _ (text : List ℕ) (l : Bool) (letters : l ≡ letter (front text)) wher
     no-letter : letter (front text) ≡ false
     no-letter = sym letters ∙ g
 
-    pub a-number : (s : Scan) → d ≡ true → s ≡ scanNumber text → s ≡ scan (front text) text
+    pub a-number : (s : Scan) → d ≡ true → s ≡ scanNumber largestNumber text → s ≡ scan largestNumber (front text) text
     unfolding scan
     a-number s k e = let t = sym digits ∙ k in e ∙ sym (rw (digit-permitted (front text) t, scan) (rw no-letter (rw t)))
 
     module _ (k : d ≡ false) where
-      pub a-string : (s : Scan) → front text ≡ 34 → s ≡ scanString text → s ≡ scan (front text) text
+      pub a-string : (s : Scan) → front text ≡ 34 → s ≡ scanString text → s ≡ scan largestNumber (front text) text
       unfolding scan
       a-string s q e =
           e ∙ sym (rw (quote-permitted (front text) q, scan) (rw no-letter (rw (sym digits ∙ k) (rw (eq-eqb (front text) 34 q)))))
 
-      pub a-sign : (s : Scan) → (front text ≡ 34 → ⊥) → s ≡ signOrNone text → s ≡ scan (front text) text
+      pub a-sign : (s : Scan) → (front text ≡ 34 → ⊥) → s ≡ signOrNone text → s ≡ scan largestNumber (front text) text
       unfolding scan signOrNone
       a-sign s q e =
           test (permitted (front text))

@@ -9,7 +9,8 @@ use lib.Dec.{eqb, ltb}
 use lib.ListN.{length, getD, drop, List·getD-eq-default, drop-of-length-le}
 use borrow.Author.Tests.{eq-eqb, ne-eqb, eqb-true, ltb-true, ltb-false, lt-ltb, le-ltb, not-true, not-false}
 use Rattle.reserved.proofs.Table.{test, false-true}
-use Rattle.paper.specs.Words.{Scan, run, permittedInside, barredInString, stringEnd, scanString, word, refused}
+use Rattle.paper.specs.Sorts.{STRING}
+use Rattle.paper.specs.Words.{Scan, stringLimit, leading, permittedInside, barredInString, stringEnd, scanString, word, refused, malformed}
 use Rattle.scanner.specs.Answers.{noted, closedString}
 use Rattle.scanner.proofs.Bytes.{passed, quote-permitted}
 use Rattle.scanner.proofs.Runs.{Run, run-start, run-more, run-stop, rest}
@@ -18,7 +19,7 @@ use Rattle.scanner.proofs.Runs.{Run, run-start, run-more, run-stop, res
 -- Of the first n bytes every one is permitted, or `bad` is the place of the first that is not.
 pub record Seen (text : List ℕ) (n bad : ℕ) : Type 0 where
   pub none-bad : bad ≡ 0 → Run permittedInside text n
-  pub first-bad : (bad ≡ 0 → ⊥) → (run permittedInside text ≡ bad) × (bad < n)
+  pub first-bad : (bad ≡ 0 → ⊥) → (leading permittedInside text ≡ bad) × (bad < n)
 
 is-zero : {A : Type 0} (x : ℕ) → (x ≡ 0 → A) → ((x ≡ 0 → ⊥) → A) → A
 is-zero zero f g = f refl
@@ -79,13 +80,13 @@ quote-inside b e = passed _ _ (quote-permitted b e)
 pub record Left (text : List ℕ) (room bad n : ℕ) : Type 0 where
   pub place : (0 < n) × (n ≤ length text)
   pub seen : Seen text n bad
-  pub left : stringEnd 80 false (drop 1 text) 1 ≡ stringEnd room false (drop n text) n
+  pub left : stringEnd stringLimit false (drop 1 text) 1 ≡ stringEnd room false (drop n text) n
 
 some-length : (text : List ℕ) → getD text 0 0 ≡ 34 → 0 < length text
 some-length [] h = absurd (omega arith)
 some-length (b ∷ r) h = omega arith
 
-pub left-start : (text : List ℕ) → getD text 0 0 ≡ 34 → Left text 80 0 1
+pub left-start : (text : List ℕ) → getD text 0 0 ≡ 34 → Left text stringLimit 0 1
 left-start text h =
     let some = some-length text h in
     record {
@@ -101,7 +102,7 @@ left-start text h =
 pub record Passing (text : List ℕ) (room bad n : ℕ) : Type 0 where
   pub place : n < length text
   pub seen : Seen text (n + 1) bad
-  pub left : stringEnd 80 false (drop 1 text) 1 ≡ elim room [ zero ↦ none | suc m ↦ stringEnd m false (drop (n + 1) text) (n + 1) ]
+  pub left : stringEnd stringLimit false (drop 1 text) 1 ≡ elim room [ zero ↦ none | suc m ↦ stringEnd m false (drop (n + 1) text) (n + 1) ]
 
 -- one character less is room for
 fewer : (room : ℕ) (l : List ℕ) (n : ℕ) → (room ≡ 0 → ⊥) → elim room [ zero ↦ none | suc m ↦ stringEnd m false l n ] ≡ stringEnd (room - 1) false l n
@@ -114,12 +115,12 @@ fewer (suc m) l n h = ap (λ (x : ℕ). stringEnd x false l n) (less m)
 pub no-quote : (text : List ℕ) (at : ℕ) → length text ≤ at → true ≡ not (eqb (getD text at 0) 34)
 no-quote text at h = rw (List·getD-eq-default text 0 h)
 
-malformed-by : (text : List ℕ) → stringEnd 80 false (drop 1 text) 1 ≡ none → refused 5 0 ≡ scanString text
+malformed-by : (text : List ℕ) → stringEnd stringLimit false (drop 1 text) 1 ≡ none → malformed ≡ scanString text
 unfolding scanString
 malformed-by text e = rw (e, scanString)
 
 -- a string that is closed
-pub closed-good : (n bad : ℕ) → bad ≡ 0 → word 3 n 0 ≡ closedString n bad
+pub closed-good : (n bad : ℕ) → bad ≡ 0 → word STRING n 0 ≡ closedString n bad
 unfolding closedString
 closed-good n zero h = refl
 closed-good n (suc m) h = absurd (omega arith)
@@ -129,35 +130,35 @@ unfolding closedString
 closed-bad n zero h = absurd (h refl)
 closed-bad n (suc m) h = refl
 
-closed-by : (text : List ℕ) (m bad : ℕ) → Seen text m bad → stringEnd 80 false (drop 1 text) 1 ≡ some m → closedString m bad ≡ scanString text
+closed-by : (text : List ℕ) (m bad : ℕ) → Seen text m bad → stringEnd stringLimit false (drop 1 text) 1 ≡ some m → closedString m bad ≡ scanString text
 unfolding scanString closedString
 closed-by text m zero at e =
     let all = at .none-bad refl in
-    let whole : m ≤ run permittedInside text = omega (arith, all .left) in
-    rw (e, scanString) (rw (le-ltb (run permittedInside text) m whole))
+    let whole : m ≤ leading permittedInside text = omega (arith, all .left) in
+    rw (e, scanString) (rw (le-ltb (leading permittedInside text) m whole))
 closed-by text m (suc k) at e =
     let x = at .first-bad (λ z. omega arith) in
     rw (e, scanString) (rw (x .0) (rw (lt-ltb (suc k) m (x .1)) (rw (x .0))))
 
 module _ (text : List ℕ) (room bad n : ℕ) (at : Left text room bad n) where
-  pub left-open : length text ≤ n → refused 5 0 ≡ scanString text
+  pub left-open : length text ≤ n → malformed ≡ scanString text
   unfolding stringEnd
   left-open h = malformed-by text (at .left ∙ rw (drop-of-length-le text h))
 
   module _ (h : n < length text) where
     -- the definition at a place where the byte there is known
-    at-byte : stringEnd 80 false (drop 1 text) 1 ≡ stringEnd room false (getD text n 0 ∷ drop (n + 1) text) n
+    at-byte : stringEnd stringLimit false (drop 1 text) 1 ≡ stringEnd room false (getD text n 0 ∷ drop (n + 1) text) n
     at-byte = at .left ∙ ap (λ (l : List ℕ). stringEnd room false l n) (rest text n h)
 
     module _ (b : getD text n 0 ≡ 34) (t : Bool) (is : t ≡ not (eqb (getD text (n + 1) 0) 34)) where
-      after-quote : stringEnd 80 false (drop 1 text) 1 ≡ stringEnd room true (drop (n + 1) text) (n + 1)
+      after-quote : stringEnd stringLimit false (drop 1 text) 1 ≡ stringEnd room true (drop (n + 1) text) (n + 1)
       unfolding stringEnd
       after-quote = at-byte ∙ rw (eq-eqb _ 34 b, stringEnd)
 
       seen-quote : Seen text (n + 1) bad
       seen-quote = seen-good text n bad (at .seen) h (quote-inside _ b)
 
-      at-second : n + 1 < length text → stringEnd 80 false (drop 1 text) 1 ≡ stringEnd room true (getD text (n + 1) 0 ∷ drop (n + 1 + 1) text) (n + 1)
+      at-second : n + 1 < length text → stringEnd stringLimit false (drop 1 text) 1 ≡ stringEnd room true (getD text (n + 1) 0 ∷ drop (n + 1 + 1) text) (n + 1)
       at-second g = after-quote ∙ ap (λ (l : List ℕ). stringEnd room true l (n + 1)) (rest text (n + 1) g)
 
       second : t ≡ false → n + 1 < length text
@@ -176,7 +177,7 @@ module _ (text : List ℕ) (room bad n : ℕ) (at : Left text room bad n) where
             left = at-second s ∙ rw (q, stringEnd);
           }
 
-      ended : t ≡ true → stringEnd 80 false (drop 1 text) 1 ≡ some (n + 1)
+      ended : t ≡ true → stringEnd stringLimit false (drop 1 text) 1 ≡ some (n + 1)
       unfolding stringEnd
       ended g =
           let q = not-true (eqb (getD text (n + 1) 0) 34) (sym is ∙ g) in
@@ -187,7 +188,7 @@ module _ (text : List ℕ) (room bad n : ℕ) (at : Left text room bad n) where
       closes s g e = e ∙ closed-by text (n + 1) bad seen-quote (ended g)
 
     module _ (t : Bool) (b : getD text n 0 ≡ 34 → ⊥) (is : t ≡ barredInString (getD text n 0)) where
-      pub barred : t ≡ true → refused 5 0 ≡ scanString text
+      pub barred : t ≡ true → malformed ≡ scanString text
       unfolding stringEnd
       barred g = malformed-by text (at-byte ∙ rw (ne-eqb _ 34 b, stringEnd) (rw (sym is ∙ g)))
 
@@ -200,7 +201,7 @@ module _ (text : List ℕ) (room bad n : ℕ) (at : Left text room bad n) where
       }
 
 module _ (text : List ℕ) (room bad n : ℕ) (at : Passing text room bad n) where
-  pub no-room : room ≡ 0 → refused 5 0 ≡ scanString text
+  pub no-room : room ≡ 0 → malformed ≡ scanString text
   no-room r = malformed-by text (at .left ∙ rw r)
 
   pub passed-on : (room ≡ 0 → ⊥) → Left text (room - 1) bad (n + 1)

@@ -1,16 +1,13 @@
 -- Each public promise settles the result.
 use mathlib.Core.Path.{_≡_, sym, _∙_}
-use mathlib.Core.Bool.{false}
 use mathlib.Core.List.{List}
 use Prim.Native.Nat.{ℕ}
 use native.Mathlib.Omega.{arith}
-use lib.ListN.{getD, drop}
-use Rattle.paper.specs.Words.{scan, gap}
 use Rattle.scanner.specs.declared.Scan.{Scan}
 use Rattle.scanner.specs.declared.Scan.the-variants.{Word, Refused}
 use Rattle.scanner.specs.declared.Gap.{Gap}
 use Rattle.scanner.specs.declared.Gap.the-variants.{UpTo, BadByte}
-use Rattle.scanner.specs.Answers.{scanOf, gapOf}
+use Rattle.scanner.specs.Answers.{scanOf, gapOf, Scanned, Skipped}
 
 apart : {A : Type 0} → _≡_ {A = ℕ} 0 1 → A
 apart z = absurd (omega arith)
@@ -27,8 +24,8 @@ gap-of-one (UpTo a) (BadByte b) h = apart (cc)
 gap-of-one (BadByte a) (UpTo b) h = apart (cc)
 gap-of-one (BadByte a) (BadByte b) h = cc
 
-pub scan-word-unique : (text : List ℕ) (r s : Scan) → scanOf r ≡ scan (getD text 0 0) text → scanOf s ≡ scan (getD text 0 0) text → r ≡ s
+pub scan-word-unique : (text : List ℕ) (r s : Scan) → Scanned text r → Scanned text s → r ≡ s
 scan-word-unique text r s h g = scan-of-one r s (h ∙ sym g)
 
-pub skip-gap-unique : (text : List ℕ) (at : ℕ) (r s : Gap) → gapOf r ≡ gap false (drop at text) at → gapOf s ≡ gap false (drop at text) at → r ≡ s
+pub skip-gap-unique : (text : List ℕ) (at : ℕ) (r s : Gap) → Skipped text at r → Skipped text at s → r ≡ s
 skip-gap-unique text at r s h g = gap-of-one r s (h ∙ sym g)

@@ -2,7 +2,7 @@
 use mathlib.Core.Path.{_≡_, refl, sym, ap, _∙_}
 use mathlib.Core.Bool.{Bool, true, false}
 use mathlib.Core.List.{List, [], _∷_, _++_}
-use Prim.Native.Nat.{ℕ, _+_, _*_, _-_, _<_, _≤_}
+use Prim.Native.Nat.{ℕ, suc, _+_, _*_, _-_, _<_, _≤_}
 use native.Mathlib.Numerals.{add-one}
 use native.Mathlib.Omega.{arith}
 use lib.Dec.{ltb}
@@ -10,35 +10,36 @@ use lib.ListN.{length, getD, take, List·getD-eq-default}
 use lib.Seq.{take-suc}
 use borrow.Author.Tests.{ltb-true, ltb-false, lt-ltb, le-ltb, leb-true}
 use Rattle.reserved.proofs.Table.{test, false-true}
-use Rattle.paper.specs.Words.{between, letter, run, digit, valueOf, spoilsNumber, scanNumber, word, refused}
-use Rattle.scanner.specs.Answers.{capped, Digits·of}
+use Rattle.paper.specs.Sorts.{NUMBER}
+use Rattle.paper.specs.Words.{largestNumber, between, letter, leading, digit, valueOf, spoilsNumber, scanNumber, word, refused, malformed}
+use Rattle.scanner.specs.Answers.{capped, valueBound, Digits·of}
 use Rattle.scanner.proofs.Runs.{Run, run-start, run-more, run-stop, run-out}
 
-capped-large : (v : ℕ) → 8388608 < v → capped v ≡ 8388609
+capped-large : (v : ℕ) → largestNumber < v → capped v ≡ suc largestNumber
 unfolding capped
-capped-large v h = rw (lt-ltb 8388608 v h, capped)
+capped-large v h = rw (lt-ltb largestNumber v h, capped)
 
-capped-small : (v : ℕ) → v ≤ 8388608 → capped v ≡ v
+capped-small : (v : ℕ) → v ≤ largestNumber → capped v ≡ v
 unfolding capped
-capped-small v h = rw (le-ltb 8388608 v h, capped)
+capped-small v h = rw (le-ltb largestNumber v h, capped)
 
-pub still-large : (v d : ℕ) → 8388608 < v → capped v ≡ capped (v * 10 + d)
+pub still-large : (v d : ℕ) → largestNumber < v → capped v ≡ capped (v * 10 + d)
 still-large v d h = capped-large v h ∙ sym (capped-large (v * 10 + d) (omega arith))
 
 -- what is large stays large, what is not is known
-capped-is : (x y : ℕ) → capped x ≡ capped y → (y ≤ 8388608 → x ≡ y) × (8388608 < y → 8388608 < x)
+capped-is : (x y : ℕ) → capped x ≡ capped y → (y ≤ largestNumber → x ≡ y) × (largestNumber < y → largestNumber < x)
 capped-is x y e =
-    test (ltb 8388608 x)
-    (λ t. let l = ltb-true 8388608 x t in
-    ((λ h. absurd (let z : 8388609 ≡ y = sym (capped-large x l) ∙ e ∙ capped-small y h in omega arith)), (λ h. l)))
-    (λ t. let l = ltb-false 8388608 x t in
-    ((λ h. sym (capped-small x l) ∙ e ∙ capped-small y h), (λ h. absurd (let z : x ≡ 8388609 = sym (capped-small x l) ∙ e ∙ capped-large y h in omega arith))))
+    test (ltb largestNumber x)
+    (λ t. let l = ltb-true largestNumber x t in
+    ((λ h. absurd (let z : suc largestNumber ≡ y = sym (capped-large x l) ∙ e ∙ capped-small y h in omega arith)), (λ h. l)))
+    (λ t. let l = ltb-false largestNumber x t in
+    ((λ h. sym (capped-small x l) ∙ e ∙ capped-small y h), (λ h. absurd (let z : x ≡ suc largestNumber = sym (capped-small x l) ∙ e ∙ capped-large y h in omega arith))))
 
 capped-more : (x y d : ℕ) → capped x ≡ capped y → capped (x * 10 + d) ≡ capped (y * 10 + d)
 capped-more x y d e =
-    test (ltb 8388608 y)
-    (λ t. let l = ltb-true 8388608 y t in sym (still-large x d (capped-is x y e .1 l)) ∙ e ∙ still-large y d l)
-    (λ t. ap (λ (v : ℕ). capped (v * 10 + d)) (capped-is x y e .0 (ltb-false 8388608 y t)))
+    test (ltb largestNumber y)
+    (λ t. let l = ltb-true largestNumber y t in sym (still-large x d (capped-is x y e .1 l)) ∙ e ∙ still-large y d l)
+    (λ t. ap (λ (v : ℕ). capped (v * 10 + d)) (capped-is x y e .0 (ltb-false largestNumber y t)))
 
 value-more : (l : List ℕ) (b v : ℕ) → valueOf (l ++ b ∷ []) v ≡ valueOf l v * 10 + (b - 48)
 unfolding valueOf
@@ -56,7 +57,7 @@ digit-range b t is g =
 pub record Passed (text : List ℕ) (n v : ℕ) : Type 0 where
   pub digits : Run digit text n
   pub worth : capped v ≡ capped (valueOf (take n text) 0)
-  pub small : v < 83886090
+  pub small : v < valueBound
 
 module _ (text : List ℕ) where
   pub passed-start : Passed text 0 0
@@ -68,7 +69,7 @@ module _ (text : List ℕ) where
     passed-out h = record { count = run-out digit text n (at .digits) h; worth = at .worth }
 
     module _ (t : Bool) (h : n < length text) (is : t ≡ digit (getD text n 0)) where
-      pub passed-more : (w : ℕ) → t ≡ true → (capped w ≡ capped (v * 10 + (getD text n 0 - 48))) × (w < 83886090) → Passed text (n + 1) w
+      pub passed-more : (w : ℕ) → t ≡ true → (capped w ≡ capped (v * 10 + (getD text n 0 - 48))) × (w < valueBound) → Passed text (n + 1) w
       passed-more w g e = record {
         digits = run-more digit text n (at .digits) t h is g;
         worth =
@@ -87,25 +88,25 @@ unfolding spoilsNumber letter between
 nothing-spoils text n h = rw (List·getD-eq-default text 0 h)
 
 module _ (text : List ℕ) (n v : ℕ) (t : Bool) (d : Digits·of text n v) (is : t ≡ spoilsNumber (getD text n 0)) where
-  length-is : run digit text ≡ n
+  length-is : leading digit text ≡ n
   length-is = sym (d .count .exact)
 
-  spoiled-is : t ≡ spoilsNumber (getD text (run digit text) 0)
+  spoiled-is : t ≡ spoilsNumber (getD text (leading digit text) 0)
   spoiled-is = rw length-is is
 
-  pub number-spoiled : t ≡ true → refused 5 0 ≡ scanNumber text
+  pub number-spoiled : t ≡ true → malformed ≡ scanNumber largestNumber text
   unfolding scanNumber
   number-spoiled h = rw (sym spoiled-is ∙ h, scanNumber)
 
-  pub number-large : t ≡ false → 8388608 < v → refused 6 0 ≡ scanNumber text
+  pub number-large : t ≡ false → largestNumber < v → refused 6 0 ≡ scanNumber largestNumber text
   unfolding scanNumber
   number-large h g =
       let big = capped-is (valueOf (take n text) 0) v (sym (d .worth)) .1 g in
-      rw (sym spoiled-is ∙ h, scanNumber) (rw length-is (rw (lt-ltb 8388608 _ big)))
+      rw (sym spoiled-is ∙ h, scanNumber) (rw length-is (rw (lt-ltb largestNumber _ big)))
 
-  pub number-good : t ≡ false → v ≤ 8388608 → word 2 n v ≡ scanNumber text
+  pub number-good : t ≡ false → v ≤ largestNumber → word NUMBER n v ≡ scanNumber largestNumber text
   unfolding scanNumber
   number-good h g =
       let same = capped-is (valueOf (take n text) 0) v (sym (d .worth)) .0 g in
-      let fits : valueOf (take n text) 0 ≤ 8388608 = omega arith in
-      rw (sym spoiled-is ∙ h, scanNumber) (rw length-is (rw (le-ltb 8388608 _ fits) (rw (length-is, same))))
+      let fits : valueOf (take n text) 0 ≤ largestNumber = omega arith in
+      rw (sym spoiled-is ∙ h, scanNumber) (rw length-is (rw (le-ltb largestNumber _ fits) (rw (length-is, same))))

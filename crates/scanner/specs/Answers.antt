@@ -2,10 +2,10 @@
 use mathlib.Core.Path.{_≡_}
 use mathlib.Core.Bool.{Bool, true, false}
 use mathlib.Core.List.{List, [], _∷_}
-use Prim.Native.Nat.{ℕ, zero, suc, _≤_}
+use Prim.Native.Nat.{ℕ, zero, suc, _+_, _*_, _≤_}
 use lib.Dec.{ltb}
 use lib.ListN.{length, getD, take, drop}
-use Rattle.paper.specs.Sorts.{signSort}
+use Rattle.paper.specs.Sorts.{STRING, signSort}
 use Rattle.paper.specs.Words as paper
 use Rattle.scanner.specs.declared.Scan.{Scan}
 use Rattle.scanner.specs.declared.Scan.the-variants.{Word, Refused}
@@ -20,6 +20,15 @@ abbrev pub gapOf : Gap → paper.Gap
 gapOf (UpTo place) = paper.upTo place
 gapOf (BadByte place) = paper.badByte place
 
+-- ---- what is promised
+-- the word that a text begins with
+abbrev pub Scanned : List ℕ → Scan → Type 0
+Scanned text r = scanOf r ≡ paper.scan paper.largestNumber (getD text 0 0) text
+
+-- what lies before the next word, from a place on
+abbrev pub Skipped : List ℕ → (at : ℕ) → Gap → Type 0
+Skipped text at r = gapOf r ≡ paper.gap false (drop at text) at
+
 -- the place of the first byte that is not permitted, or 0, after the byte at a place, which is permitted or not
 unfoldable pub noted : (bad at : ℕ) → Bool → ℕ
 noted bad at true = bad
@@ -27,7 +36,7 @@ noted bad at false = elim bad [ zero ↦ at | suc m ↦ suc m ]
 
 -- a string of n bytes that is well formed but for that byte
 unfoldable pub closedString : (n bad : ℕ) → paper.Scan
-closedString n zero = paper.word 3 n 0
+closedString n zero = paper.word STRING n 0
 closedString n (suc m) = paper.refused 4 (suc m)
 
 -- What follows a comment that is open at a place is as if a gap began there anew; or the comment holds a byte that is permitted nowhere.
@@ -37,12 +46,16 @@ Commented text at (BadByte place) = paper.gap true (drop at text) at ≡ paper.b
 
 -- n is how many bytes from the first on are such bytes
 pub record Counted (such : ℕ → Bool) (text : List ℕ) (n : ℕ) : Type 0 where
-  pub exact : n ≡ paper.run such text
+  pub exact : n ≡ paper.leading such text
   pub within : n ≤ length text
 
 -- Numbers above the largest are one.
 unfoldable pub capped : ℕ → ℕ
-capped v = elim (ltb 8388608 v) [ true ↦ 8388609 | false ↦ v ]
+capped v = elim (ltb paper.largestNumber v) [ true ↦ suc paper.largestNumber | false ↦ v ]
+
+-- Below it is every number that has one digit more than one that is not above the largest.
+abbrev pub valueBound : ℕ
+valueBound = paper.largestNumber * 10 + 10
 
 pub record Digits·of (text : List ℕ) (n v : ℕ) : Type 0 where
   pub count : Counted paper.digit text n

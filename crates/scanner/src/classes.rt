@@ -116,13 +116,13 @@ fn early_sign(b: u8) -> u32
     ensures { λ r. ⌜ r ≡ signSort (b ∷ []) ⌝ }
 {
     match b {
-        40 => 6,
-        41 => 7,
-        42 => 20,
-        43 => 18,
-        44 => 5,
-        45 => 19,
-        _ => 0,
+        b'(' => sorts::OPEN_PAREN,
+        b')' => sorts::CLOSE_PAREN,
+        b'*' => sorts::TIMES,
+        b'+' => sorts::PLUS,
+        b',' => sorts::COMMA,
+        b'-' => sorts::MINUS_SIGN,
+        _ => sorts::NOTHING,
     }
 }
 
@@ -132,11 +132,11 @@ fn middle_sign(b: u8) -> u32
     ensures { λ r. ⌜ r ≡ signSort (b ∷ []) ⌝ }
 {
     match b {
-        58 => 10,
-        59 => 4,
-        60 => 13,
-        61 => 12,
-        _ => 16,
+        b':' => sorts::COLON,
+        b';' => sorts::SEMICOLON,
+        b'<' => sorts::LESS,
+        b'=' => sorts::EQUAL,
+        _ => sorts::GREATER,
     }
 }
 
@@ -146,14 +146,14 @@ fn late_sign(b: u8) -> u32
     ensures { λ r. ⌜ r ≡ signSort (b ∷ []) ⌝ }
 {
     match b {
-        92 => 21,
-        123 => 8,
-        125 => 9,
-        _ => 0,
+        b'\\' => sorts::BACKSLASH,
+        b'{' => sorts::OPEN_BRACE,
+        b'}' => sorts::CLOSE_BRACE,
+        _ => sorts::NOTHING,
     }
 }
 
-// The sort of the sign that is this one byte, or 0.
+// The sort of the sign that is this one byte, or NOTHING.
 pub(crate) fn one_sign(b: u8) -> u32
     ensures { λ r. ⌜ r ≡ signSort (b ∷ []) ⌝ }
 {
@@ -166,26 +166,26 @@ pub(crate) fn one_sign(b: u8) -> u32
     middle_sign(b)
 }
 
-// The sort of the sign that is these two bytes, or 0.
+// The sort of the sign that is these two bytes, or NOTHING.
 pub(crate) fn two_signs(b: u8, c: u8) -> u32
     ensures { λ r. ⌜ r ≡ signSort (b ∷ c ∷ []) ⌝ }
 {
     if c == b'=' {
         if b == b':' {
-            return 11;
+            return sorts::BECOMES;
         }
         if b == b'<' {
-            return 14;
+            return sorts::LESS_EQUAL;
         }
         if b == b'>' {
-            return 17;
+            return sorts::GREATER_EQUAL;
         }
-        return 0;
+        return sorts::NOTHING;
     }
     if c == b'>' {
         if b == b'<' {
-            return 15;
+            return sorts::UNEQUAL;
         }
     }
-    0
+    sorts::NOTHING
 }

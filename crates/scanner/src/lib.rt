@@ -9,22 +9,18 @@ use classes::is_digit;
 use classes::is_letter;
 use classes::is_permitted_inside;
 use classes::is_separator;
-ghost use mathlib.Core.Path.{_≡_};
-ghost use mathlib.Core.Bool.{false};
-ghost use lib.ListN.{getD, drop};
-ghost use Rattle.paper.specs.Words.{scan, gap};
-ghost use Rattle.scanner.specs.Answers.{scanOf, gapOf, Commented};
+ghost use Rattle.scanner.specs.Answers.{Scanned, Skipped, Commented};
 
 pub enum Scan {
     // its sort, its length and, of a number, its value
-    Word(u32, usize, u32),
+    Word(u32, usize, u64),
     // the refusal's number, and how many bytes after the word's start
     Refused(u32, usize),
 }
 
 // The word that a text begins with. An empty text begins with no permitted byte.
 pub fn scan_word(text: &[u8]) -> Scan
-    ensures { λ r. ⌜ scanOf r ≡ scan (getD (now (text .entry)) 0 0) (now (text .entry)) ⌝ }
+    ensures { λ r. ⌜ Scanned (now (text .entry)) r ⌝ }
 {
     if text.len() == 0 {
         return Scan::Refused(4, 0);
@@ -70,7 +66,7 @@ fn comment_end(text: &[u8], at: usize) -> Gap
 
 // What lies before the next word, from a place on: separators and comments.
 pub fn skip_gap(text: &[u8], at: usize) -> Gap
-    ensures { λ r. ⌜ gapOf r ≡ gap false (drop at (now (text .entry))) at ⌝ }
+    ensures { λ r. ⌜ Skipped (now (text .entry)) at r ⌝ }
 {
     let mut place = at;
     while place < text.len() {

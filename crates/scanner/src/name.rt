@@ -6,6 +6,8 @@ ghost use mathlib.Core.Path.{_≡_};
 ghost use Rattle.paper.specs.Words.{inName, scanName};
 ghost use Rattle.scanner.specs.Answers.{scanOf, Counted};
 
+const NAME_LIMIT: usize = 32;
+
 // How many bytes go on with a name.
 fn name_length(text: &[u8]) -> usize
     ensures { λ r. ⌜ Counted inName (now (text .entry)) r ⌝ }
@@ -25,7 +27,7 @@ pub(crate) fn scan_name(text: &[u8]) -> Scan
     ensures { λ r. ⌜ scanOf r ≡ scanName (now (text .entry)) ⌝ }
 {
     let n = name_length(text);
-    if 32 < n {
+    if NAME_LIMIT < n {
         return Scan::Refused(5, 0);
     }
     let sort = name_sort(&text[..n]);

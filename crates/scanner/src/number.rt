@@ -4,34 +4,34 @@ use super::classes::is_digit;
 use super::classes::is_spoiling;
 ghost use mathlib.Core.Path.{_≡_};
 ghost use Prim.Native.Nat.{_+_, _*_, _-_, _≤_, _<_};
-ghost use Rattle.paper.specs.Words.{spoilsNumber, scanNumber};
+ghost use Rattle.paper.specs.Words.{largestNumber, spoilsNumber, scanNumber};
 ghost use lib.ListN.{getD};
-ghost use Rattle.scanner.specs.Answers.{scanOf, capped, Digits·of};
+ghost use Rattle.scanner.specs.Answers.{scanOf, capped, valueBound, Digits·of};
 
-const LARGEST: u32 = 8388608;
+const LARGEST: u64 = 8388608;
 
 // Digits: how many, and the number that they write, or some number above the largest in its place.
 struct Digits {
     length: usize,
-    value: u32,
+    value: u64,
 }
 
 // A value with one digit more; one that is too large already stays as it is.
-fn with_digit(value: u32, b: u8) -> u32
-    requires { ⌜ (48 ≤ b) × (b ≤ 57) × (value < 83886090) ⌝ }
-    ensures { λ r. ⌜ (capped r ≡ capped (value * 10 + (b - 48))) × (r < 83886090) ⌝ }
+fn with_digit(value: u64, b: u8) -> u64
+    requires { ⌜ (48 ≤ b) × (b ≤ 57) × (value < valueBound) ⌝ }
+    ensures { λ r. ⌜ (capped r ≡ capped (value * 10 + (b - 48))) × (r < valueBound) ⌝ }
 {
     if LARGEST < value {
         return value;
     }
-    value * 10 + ((b - 48) as u32)
+    value * 10 + ((b - b'0') as u64)
 }
 
 fn read_digits(text: &[u8]) -> Digits
     ensures { λ r. ⌜ Digits·of (now (text .entry)) (r .length) (r .value) ⌝ }
 {
     let mut length = 0;
-    let mut value: u32 = 0;
+    let mut value: u64 = 0;
     while length < text.len() {
         let b = text[length];
         if is_digit(b) {
@@ -55,7 +55,7 @@ fn is_spoiled(text: &[u8], at: usize) -> bool
 }
 
 pub(crate) fn scan_number(text: &[u8]) -> Scan
-    ensures { λ r. ⌜ scanOf r ≡ scanNumber (now (text .entry)) ⌝ }
+    ensures { λ r. ⌜ scanOf r ≡ scanNumber largestNumber (now (text .entry)) ⌝ }
 {
     let d = read_digits(text);
     let length = d.length;
@@ -66,5 +66,5 @@ pub(crate) fn scan_number(text: &[u8]) -> Scan
     if LARGEST < value {
         return Scan::Refused(6, 0);
     }
-    Scan::Word(2, length, value)
+    Scan::Word(sorts::NUMBER, length, value)
 }

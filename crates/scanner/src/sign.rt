@@ -8,7 +8,7 @@ ghost use Prim.Native.Nat.{_<_};
 ghost use lib.ListN.{length};
 ghost use Rattle.scanner.specs.Answers.{scanOf, pairSort, signOrNone};
 
-// The sort of the sign that a text's first two bytes are, or 0. Signs of two bytes begin with a byte from : to >, so after any other first byte the
+// The sort of the sign that a text's first two bytes are, or NOTHING. Signs of two bytes begin with a byte from : to >, so after any other first byte the
 // second is not looked at.
 fn pair_sort(text: &[u8]) -> u32
     requires { ⌜ 0 < length (now text) ⌝ }
@@ -16,15 +16,15 @@ fn pair_sort(text: &[u8]) -> u32
 {
     let b = text[0];
     if b < b':' {
-        return 0;
+        return sorts::NOTHING;
     }
     if b'>' < b {
-        return 0;
+        return sorts::NOTHING;
     }
     if 1 < text.len() {
         return two_signs(b, text[1]);
     }
-    0
+    sorts::NOTHING
 }
 
 // The word of a text that begins with no letter, digit or quote.
@@ -35,10 +35,10 @@ pub(crate) fn scan_sign(text: &[u8]) -> Scan
     // one_sign tells the bytes apart that can begin a pair, so it comes first
     let sort = one_sign(text[0]);
     let pair = pair_sort(text);
-    if pair != 0 {
+    if pair != sorts::NOTHING {
         return Scan::Word(pair, 2, 0);
     }
-    if sort != 0 {
+    if sort != sorts::NOTHING {
         return Scan::Word(sort, 1, 0);
     }
     // what begins a word is permitted, so only the other bytes are asked

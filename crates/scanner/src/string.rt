@@ -9,6 +9,8 @@ ghost use lib.ListN.{getD};
 ghost use Rattle.paper.specs.Words.{permittedInside, scanString};
 ghost use Rattle.scanner.specs.Answers.{scanOf, noted, closedString};
 
+const STRING_LIMIT: u32 = 80;
+
 // The place of the first byte that is permitted nowhere, or 0, once the byte at a place is passed too.
 fn note(bad: usize, at: usize, b: u8) -> usize
     ensures { λ r. ⌜ r ≡ noted bad at (permittedInside b) ⌝ }
@@ -37,7 +39,7 @@ fn closed(n: usize, bad: usize) -> Scan
     ensures { λ r. ⌜ scanOf r ≡ closedString n bad ⌝ }
 {
     if bad == 0 {
-        return Scan::Word(3, n, 0);
+        return Scan::Word(sorts::STRING, n, 0);
     }
     Scan::Refused(4, bad)
 }
@@ -47,7 +49,7 @@ pub(crate) fn scan_string(text: &[u8]) -> Scan
     requires { ⌜ getD (now text) 0 0 ≡ 34 ⌝ }
     ensures { λ r. ⌜ scanOf r ≡ scanString (now (text .entry)) ⌝ }
 {
-    let mut room: u32 = 80;
+    let mut room = STRING_LIMIT;
     let mut bad = 0;
     let mut n = 1;
     while n < text.len() {
