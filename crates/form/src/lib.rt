@@ -1,0 +1,157 @@
+// The checker's second pass: whether the words of a text form a module, read by their sorts from the first on. What is refused first is answered, by its
+// number and the index of its word: 8, a word that no well-formed module could have there, or 9, nesting 17.
+use sorts::*;
+
+ghost use mathlib.Core.Path.{_≡_};
+
+ghost use Prim.Native.Nat.{_<_};
+
+ghost use Rattle.paper.specs.Expressions.{levelOf};
+
+ghost use Rattle.form.specs.Places.{Lent, sortsIn, _▸_, word, typeWord, expressions};
+
+ghost use Rattle.form.specs.Places.{compound};
+
+ghost use Rattle.form.specs.Places.{behindNot, behindSign};
+
+// Refusals.
+const FORM: u32 = 8;
+
+const NESTING: u32 = 9;
+
+// How deep lists, and parentheses and braces, may nest.
+const NESTINGS: usize = 16;
+
+pub enum Verdict {
+    Formed,
+    // the refusal's number, and the index of its word
+    Refused(u32, usize),
+}
+
+// What is read from a place on.
+pub enum Read {
+    // up to that place
+    Upto(usize),
+    Refused(u32, usize),
+}
+
+// How far a compound statement is read.
+pub enum Part {
+    // to its end
+    Whole(usize),
+    // into a list: what a word of that sort closes, or, with ELSEIF and CASE, an IF's or a TEST's which others may follow
+    Inside(u32, usize),
+    Refused(u32, usize),
+}
+
+// ---- words
+
+// The sort of a word, and NOTHING past the last one.
+fn sort(code: &[u8], words: usize, at: usize) -> u32
+    requires { ⌜ Lent (now code) words ⌝ }
+    ensures { λ r. ⌜ r ≡ sortsIn (now (code .entry)) words at ⌝ }
+{
+    if at < words {
+        return cells::get(code, 2 * at) % 256;
+    }
+    NOTHING
+}
+
+// A word of that sort.
+fn expect(code: &[u8], words: usize, at: usize, s: u32) -> Read
+    requires { ⌜ Lent (now code) words × (0 < s) ⌝ }
+    ensures { λ r. ⌜ r ≡ word (sortsIn (now (code .entry)) words) s at ⌝ }
+{
+    if sort(code, words, at) == s {
+        return Read::Upto(at + 1);
+    }
+    Read::Refused(FORM, at)
+}
+
+fn expect_type(code: &[u8], words: usize, at: usize) -> Read
+    requires { ⌜ Lent (now code) words ⌝ }
+    ensures { λ r. ⌜ r ≡ typeWord (sortsIn (now (code .entry)) words) at ⌝ }
+{
+    let s = sort(code, words, at);
+    if s == NUM {
+        return Read::Upto(at + 1);
+    }
+    if s == BOOL {
+        return Read::Upto(at + 1);
+    }
+    Read::Refused(FORM, at)
+}
+
+// What follows a reading.
+impl Read {
+    fn word(self, code: &[u8], words: usize, s: u32) -> Read
+        requires { ⌜ Lent (now code) words × (0 < s) ⌝ }
+        ensures { λ r. ⌜ r ≡ (self ▸ word (sortsIn (now (code .entry)) words) s) ⌝ }
+    {
+        let Read::Upto(n) = self else {
+            return self;
+        };
+        expect(code, words, n, s)
+    }
+}
+
+// ---- expressions
+
+// Levels of operators, from the tightest on.
+const NO_OPERATOR: u32 = 0;
+
+const PRODUCTS: u32 = 1;
+
+const SUMS: u32 = 2;
+
+const RELATIONS: u32 = 3;
+
+const CONJUNCTIONS: u32 = 4;
+
+const DISJUNCTIONS: u32 = 5;
+
+fn level(s: u32) -> u32
+    ensures { λ r. ⌜ r ≡ levelOf s ⌝ }
+{
+    match s {
+        TIMES => PRODUCTS,
+        DIV => PRODUCTS,
+        MOD => PRODUCTS,
+        PLUS => SUMS,
+        MINUS_SIGN => SUMS,
+        EQUAL => RELATIONS,
+        UNEQUAL => RELATIONS,
+        LESS => RELATIONS,
+        LESS_EQUAL => RELATIONS,
+        GREATER => RELATIONS,
+        GREATER_EQUAL => RELATIONS,
+        AND => CONJUNCTIONS,
+        OR => DISJUNCTIONS,
+        XOR => DISJUNCTIONS,
+        _ => NO_OPERATOR,
+    }
+}
+
+fn behind_not(code: &[u8], words: usize, at: usize) -> usize
+    requires { ⌜ Lent (now code) words ⌝ }
+    ensures { λ r. ⌜ r ≡ behindNot (sortsIn (now (code .entry)) words) at ⌝ }
+{
+    if sort(code, words, at) == NOT {
+        return at + 1;
+    }
+    at
+}
+
+fn behind_sign(code: &[u8], words: usize, at: usize) -> usize
+    requires { ⌜ Lent (now code) words ⌝ }
+    ensures { λ r. ⌜ r ≡ behindSign (sortsIn (now (code .entry)) words) at ⌝ }
+{
+    let s = sort(code, words, at);
+    if s == PLUS {
+        return at + 1;
+    }
+    if s == MINUS_SIGN {
+        return at + 1;
+    }
+    at
+}
