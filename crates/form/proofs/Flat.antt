@@ -5,6 +5,8 @@ use mathlib.Core.List.{List}
 use Prim.Native.Nat.{ℕ, zero, suc, _+_, _-_, _<_, _≤_}
 use native.Mathlib.Omega.{arith}
 use lib.Dec.{eqb}
+use mir.Syntax.{w64}
+use mir.Val.{Fits}
 use borrow.Author.Tests.{eqb-true, eqb-false, eq-eqb, ne-eqb}
 use Rattle.laws.proofs.Tests.{test, by-same, apart}
 use Rattle.paper.specs.Basics.{if_then_else_}
@@ -12,7 +14,7 @@ use Rattle.paper.specs.Expressions.{levelOf, isLiteral, standsBefore}
 use Rattle.form.specs.declared.Read.{Read}
 use Rattle.form.specs.declared.Read.the-variants.{Upto, Refused}
 use Rattle.form.specs.Places.{Lent, sortsIn, _▸_, turns, word, operand, chainTurn, chain, prefixed, level, expressionIn, expression, behindNot, behindSign, rest}
-use Rattle.form.proofs.Beyond.{Beyond, same-after, Local, endless, level-on, nested-on}
+use Rattle.form.proofs.Beyond.{Beyond, same-after, Local, endless, operand-on, level-on, nested-on}
 use Rattle.form.proofs.Reading.{within}
 
 level-of-nothing : levelOf 0 ≡ 0
@@ -193,11 +195,11 @@ module _ (code : List ℕ) (words : ℕ) (d at : ℕ) (lent : Lent code words) w
     is : levelOf (S m) ≡ k
     is = sym (g ∙ ap levelOf w)
 
-    pub past-all : k ≡ 0 → r ≡ expressionIn (sortsIn code words) (suc d) at
-    past-all q = h ∙ sym (on ∙ after-none code words lent inner (nested-on S d) used m (is ∙ q))
+    pub past-all : k ≡ 0 → Upto m ≡ expressionIn (sortsIn code words) (suc d) at
+    past-all q = sym (on ∙ after-none code words lent inner (nested-on S d) used m (is ∙ q))
 
-    pub past-relation : k ≡ 3 → used ≡ true → r ≡ expressionIn (sortsIn code words) (suc d) at
-    past-relation q u = h ∙ sym (on ∙ ap (λ (x : Bool). rest S inner x m) u ∙ after-relation code words lent inner (nested-on S d) m (is ∙ q))
+    pub past-relation : k ≡ 3 → used ≡ true → Upto m ≡ expressionIn (sortsIn code words) (suc d) at
+    past-relation q u = sym (on ∙ ap (λ (x : Bool). rest S inner x m) u ∙ after-relation code words lent inner (nested-on S d) m (is ∙ q))
 
     pub on-tight : (k ≡ 0 → ⊥) → k < 3 → Left (m + 1) used
     on-tight z q =
@@ -214,3 +216,40 @@ module _ (code : List ℕ) (words : ℕ) (d at : ℕ) (lent : Lent code words) w
         by-same k 4
         (λ o. on ∙ on-4 code words lent inner (nested-on S d) used m (is ∙ o) ∙ ap (λ (x : ℕ). operand S inner x ▸ rest S inner false) (sym f))
         (λ o. on ∙ on-5 code words lent inner (nested-on S d) used m (is ∙ omega (arith, p, q, o, level-most (S m), is)) ∙ ap (λ (x : ℕ). operand S inner x ▸ rest S inner false) (sym f))
+
+-- ---- places
+
+module _ (code : List ℕ) (words : ℕ) where
+  -- an operator stands there
+  operator-in : (m v k : ℕ) → v ≡ sortsIn code words m → k ≡ levelOf v → (k ≡ 0 → ⊥) → m < words
+  operator-in m v k w g z = within code words m (λ q. z (g ∙ ap levelOf (w ∙ q) ∙ level-of-nothing))
+
+  pub operator-fits : (m v k : ℕ) → Fits w64 words → v ≡ sortsIn code words m → k ≡ levelOf v → (k ≡ 0 → ⊥) → Fits w64 (m + 1)
+  operator-fits m v k f w g z = record { fits = omega (arith, operator-in m v k w g z, f .fits) }
+
+  sign-on : (at : ℕ) → at ≤ behindSign (sortsIn code words) at
+  unfolding behindSign
+  sign-on at =
+      test (eqb (sortsIn code words at) 18 || eqb (sortsIn code words at) 19) (λ t. rw (t, behindSign) (omega arith)) (λ t. rw (t, behindSign) (omega arith))
+
+  module _ (d n : ℕ) (r : Read) (m v k : ℕ) (e : r ≡ operand (sortsIn code words) (expressionIn (sortsIn code words) d) n) (h : r ≡ Upto m)
+      (w : v ≡ sortsIn code words m) (g : k ≡ levelOf v) (z : k ≡ 0 → ⊥) where
+    -- fewer words are left after an operator
+    pub fewer : words - (m + 1) < words - n
+    fewer = omega (arith, operator-in m v k w g z, operand-on (sortsIn code words) (expressionIn (sortsIn code words) d) (nested-on (sortsIn code words) d) n m (sym e ∙ h))
+
+    pub fewer-signed : (a : ℕ) → a ≡ behindSign (sortsIn code words) (m + 1) → words - a < words - n
+    fewer-signed a f = omega (arith, fewer, sign-on (m + 1), f)
+
+  -- ---- nesting
+
+  pub nest-out : (d at c : ℕ) → d ≡ 0 → Refused 9 at ≡ (expressionIn (sortsIn code words) d (at + 1) ▸ word (sortsIn code words) c)
+  unfolding expressionIn _▸_
+  nest-out d at c h = let q : at + 1 - 1 ≡ at = omega arith in rw (h, q)
+
+  pub nest-out-2 : (d at c : ℕ) → d ≡ 0 → Refused 9 (at + 1) ≡ (expressionIn (sortsIn code words) d (at + 2) ▸ word (sortsIn code words) c)
+  unfolding expressionIn _▸_
+  nest-out-2 d at c h = let q : at + 2 - 1 ≡ at + 1 = omega arith in rw (h, q)
+
+  pub nest-in : (d at : ℕ) (r : Read) → (d ≡ 0 → ⊥) → r ≡ expressionIn (sortsIn code words) (suc (d - 1)) at → r ≡ expressionIn (sortsIn code words) d at
+  nest-in d at r h e = let q : suc (d - 1) ≡ d = omega arith in rw q at e

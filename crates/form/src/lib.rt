@@ -4,15 +4,15 @@ use sorts::*;
 
 ghost use mathlib.Core.Path.{_≡_};
 
-ghost use Prim.Native.Nat.{_<_};
+ghost use Prim.Native.Nat.{suc, _<_};
 
 ghost use Rattle.paper.specs.Expressions.{levelOf};
 
-ghost use Rattle.form.specs.Places.{Lent, sortsIn, _▸_, word, typeWord, expressions};
+ghost use Rattle.form.specs.Places.{Lent, sortsIn, _▸_, word, typeWord, expressionIn, expression, expressions};
 
 ghost use Rattle.form.specs.Places.{compound};
 
-ghost use Rattle.form.specs.Places.{behindNot, behindSign};
+ghost use Rattle.form.specs.Places.{operand, behindNot, behindSign};
 
 // Refusals.
 const FORM: u32 = 8;
@@ -93,6 +93,16 @@ impl Read {
         };
         expect(code, words, n, s)
     }
+
+    fn expression(self, code: &[u8], words: usize) -> Read
+        requires { ⌜ Lent (now code) words ⌝ }
+        ensures { λ r. ⌜ r ≡ (self ▸ expression (sortsIn (now (code .entry)) words)) ⌝ }
+    {
+        let Read::Upto(n) = self else {
+            return self;
+        };
+        expression(code, words, n, NESTINGS)
+    }
 }
 
 // ---- expressions
@@ -154,4 +164,71 @@ fn behind_sign(code: &[u8], words: usize, at: usize) -> usize
         return at + 1;
     }
     at
+}
+
+// An operand. Where it has parentheses or braces, of which `nesting` more may open, an expression is read inside.
+fn operand(code: &[u8], words: usize, at: usize, nesting: usize) -> Read
+    requires { ⌜ Lent (now code) words ⌝ }
+    ensures { λ r. ⌜ r ≡ operand (sortsIn (now (code .entry)) words) (expressionIn (sortsIn (now (code .entry)) words) nesting) at ⌝ }
+{
+    let s = sort(code, words, at);
+    if s == NAME {
+        if sort(code, words, at + 1) != OPEN_BRACE {
+            return Read::Upto(at + 1);
+        }
+        if nesting == 0 {
+            return Read::Refused(NESTING, at + 1);
+        }
+        return expression(code, words, at + 2, nesting - 1).word(code, words, CLOSE_BRACE);
+    }
+    if s == OPEN_PAREN {
+        if nesting == 0 {
+            return Read::Refused(NESTING, at);
+        }
+        return expression(code, words, at + 1, nesting - 1).word(code, words, CLOSE_PAREN);
+    }
+    if s == NUMBER {
+        return Read::Upto(at + 1);
+    }
+    if s == TRUE {
+        return Read::Upto(at + 1);
+    }
+    if s == FALSE {
+        return Read::Upto(at + 1);
+    }
+    Read::Refused(FORM, at)
+}
+
+// Operands and operators in turn. An operator's level says what may follow: NOT only at the beginning, a sign there and behind a relation, AND, OR and XOR,
+// and a second relation only behind the next of these three.
+fn expression(code: &[u8], words: usize, at: usize, nesting: usize) -> Read
+    requires { ⌜ Lent (now code) words ⌝ }
+    ensures { λ r. ⌜ r ≡ expressionIn (sortsIn (now (code .entry)) words) (suc nesting) at ⌝ }
+{
+    let mut n = behind_sign(code, words, behind_not(code, words, at));
+    let mut related = false;
+    loop {
+        let r = operand(code, words, n, nesting);
+        let Read::Upto(m) = r else {
+            return r;
+        };
+        let k = level(sort(code, words, m));
+        if k == NO_OPERATOR {
+            return r;
+        }
+        if k < RELATIONS {
+            n = m + 1;
+            continue;
+        }
+        if k == RELATIONS {
+            if related {
+                return r;
+            }
+            n = behind_sign(code, words, m + 1);
+            related = true;
+            continue;
+        }
+        n = behind_sign(code, words, m + 1);
+        related = false;
+    }
 }
