@@ -10,7 +10,7 @@ use Rattle.paper.specs.Basics.{if_then_else_}
 use Rattle.paper.specs.Expressions.{levelOf, isLiteral, isType, standsBefore}
 use Rattle.form.specs.declared.Read.{Read}
 use Rattle.form.specs.declared.Read.the-variants.{Upto, Refused}
-use Rattle.form.specs.Places.{_▸_, turns, word, typeWord, operand, chainTurn, chain, prefixed, level, expressionIn, expression}
+use Rattle.form.specs.Places.{_▸_, turns, word, typeWord, operand, chainTurn, chain, prefixed, level, expressionIn}
 
 -- ---- ends
 
@@ -121,7 +121,3 @@ module _ (W : ℕ → ℕ) where
   unfolding expressionIn
   nested-on zero at = refuses (suc at) 9 (at - 1)
   nested-on (suc d) at = level-on (expressionIn W d) (nested-on d) 5 at
-
-  pub expression-on : (at : ℕ) → Beyond (suc at) (expression W at)
-  unfolding expression
-  expression-on at = nested-on 17 at

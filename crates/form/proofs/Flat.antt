@@ -13,7 +13,7 @@ use Rattle.paper.specs.Basics.{if_then_else_}
 use Rattle.paper.specs.Expressions.{levelOf, isLiteral, standsBefore}
 use Rattle.form.specs.declared.Read.{Read}
 use Rattle.form.specs.declared.Read.the-variants.{Upto, Refused}
-use Rattle.form.specs.Places.{Lent, sortsIn, _▸_, turns, word, operand, chainTurn, chain, prefixed, level, expressionIn, expression, behindNot, behindSign, rest}
+use Rattle.form.specs.Places.{Lent, sortsIn, _▸_, turns, word, operand, chainTurn, chain, prefixed, level, expressionIn, behindNot, behindSign, rest}
 use Rattle.form.proofs.Beyond.{Beyond, same-after, Local, endless, operand-on, level-on, nested-on}
 use Rattle.form.proofs.Reading.{within}
 

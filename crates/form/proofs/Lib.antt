@@ -1,3 +1,4 @@
 pub mod Reading
 pub mod Beyond
 pub mod Flat
+pub mod Loops

@@ -15,7 +15,8 @@ use Rattle.paper.specs.Expressions.{levelOf}
 use Rattle.cells.specs.Words.{wordsOf}
 use Rattle.form.specs.declared.Read.{Read}
 use Rattle.form.specs.declared.Read.the-variants.{Upto, Refused}
-use Rattle.form.specs.Places.{sortsIn, _▸_, word}
+use Rattle.form.specs.declared.Part.{Part}
+use Rattle.form.specs.Places.{sortsIn, _▸_, _▹_, word}
 
 -- ---- answers
 
@@ -29,6 +30,27 @@ stays r k i f h = rw h
 
 pub after : (r p q : Read) (f : ℕ → Read) → q ≡ (p ▸ f) → p ≡ r → q ≡ (r ▸ f)
 after r p q f e h = rw h at e
+
+-- the same of a reading in a local
+pub goes-from : (r p q : Read) (n : ℕ) (f : ℕ → Read) → r ≡ Upto n → r ≡ p → q ≡ f n → q ≡ (p ▸ f)
+unfolding _▸_
+goes-from r p q n f h g e = rw (sym g ∙ h) e
+
+pub stays-from : (r p : Read) (k i : ℕ) (f : ℕ → Read) → r ≡ Refused k i → r ≡ p → r ≡ (p ▸ f)
+unfolding _▸_
+stays-from r p k i f h g = rw (sym g ∙ h) h
+
+-- and into parts
+pub part-goes : (r p : Read) (q : Part) (n : ℕ) (f : ℕ → Part) → r ≡ Upto n → r ≡ p → q ≡ f n → q ≡ (p ▹ f)
+unfolding _▹_
+part-goes r p q n f h g e = rw (sym g ∙ h) e
+
+pub part-stays : (r p : Read) (q : Part) (k i : ℕ) (f g : ℕ → Part) → r ≡ Refused k i → r ≡ p → q ≡ (r ▹ g) → q ≡ (p ▹ f)
+unfolding _▹_
+part-stays r p q k i f g h e u = u ∙ rw (h, sym e ∙ h)
+
+pub part-after : (r p : Read) (q : Part) (f : ℕ → Part) → q ≡ (p ▹ f) → p ≡ r → q ≡ (r ▹ f)
+part-after r p q f e h = rw h at e
 
 -- ---- choices
 
@@ -73,6 +95,9 @@ module _ (code : List ℕ) (words : ℕ) where
     pub place-fits : (at v : ℕ) → v ≡ sortsIn code words at → (v ≡ 0 → ⊥) → Fits w64 (at + 1)
     place-fits at v e h = record { fits = omega (arith, within at (λ q. h (e ∙ q)), f .fits) }
 
+    pub eq-in : (at s v : ℕ) → v ≡ sortsIn code words at → v ≡ s → 0 < s → at < words
+    eq-in at s v e h p = within at (λ z. omega arith)
+
     pub eq-fits : (at s v : ℕ) → v ≡ sortsIn code words at → v ≡ s → 0 < s → Fits w64 (at + 1)
     eq-fits at s v e h p = place-fits at v e (λ z. absurd (omega arith))
 
@@ -91,6 +116,8 @@ level-none s a b c d e f g h i j k l m n =
 
 -- ---- what the code's proofs are found with
 
-pub ruleset branches = (if-yes, if-no, or-one, or-two, or-none, sort-yes, sort-no, eq-eqb, ne-eqb, goes-on, stays, after)
+pub ruleset branches = (if-yes, if-no, or-one, or-two, or-none, sort-yes, sort-no, eq-eqb, ne-eqb, goes-on, stays, goes-from, stays-from, after)
+
+pub ruleset parts = (part-goes, part-stays, part-after)
 
 pub ruleset fits = (eq-fits, eq-fits-2)

@@ -74,8 +74,8 @@ module _ (W : ℕ → ℕ) where
   expressionIn zero at = Refused 9 (at - 1)
   expressionIn (suc d) at = level (expressionIn d) disjunctions at
 
-  unfoldable pub expression : ℕ → Read
-  expression at = expressionIn (suc nestings) at
+  abbrev pub expression : ℕ → Read
+  expression = expressionIn (suc nestings)
 
   -- ---- sequences
   unfoldable pub afterOne : (again : ℕ → Read) → ℕ → Read
@@ -110,7 +110,8 @@ module _ (W : ℕ → ℕ) where
 
   unfoldable pub rightSide : ℕ → Read
   rightSide at =
-      if eqb (W at) NAME && eqb (W (at + 1)) openParen then arguments closeParen (at + 2) ▸ word closeParen else expression at
+      if eqb (W at) NAME then (if eqb (W (at + 1)) openParen then arguments closeParen (at + 2) ▸ word closeParen else expression at)
+      else expression at
 
   unfoldable pub startedByName : ℕ → Read
   startedByName at =
@@ -124,6 +125,9 @@ module _ (W : ℕ → ℕ) where
   unfoldable pub writing : ℕ → Read
   writing at = word STRING at ▸ number
 
+  unfoldable pub wanting : ℕ → Read
+  wanting at = target at ▸ word comma ▸ word STRING
+
   unfoldable pub simpleWord : ℕ → Read
   simpleWord at =
       if eqb (W at) NAME then startedByName at
@@ -133,7 +137,7 @@ module _ (W : ℕ → ℕ) where
       else if eqb (W at) RETRY then Upto (at + 1)
       else if eqb (W at) TRYNEXT then Upto (at + 1)
       else if eqb (W at) TPWRITE then writing (at + 1)
-      else if eqb (W at) TPREADNUM then target (at + 1) ▸ word comma ▸ word STRING
+      else if eqb (W at) TPREADNUM then wanting (at + 1)
       else Refused 8 at
 
   unfoldable pub simple : ℕ → Read

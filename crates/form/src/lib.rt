@@ -8,7 +8,9 @@ ghost use Prim.Native.Nat.{suc, _<_};
 
 ghost use Rattle.paper.specs.Expressions.{levelOf};
 
-ghost use Rattle.form.specs.Places.{Lent, sortsIn, _▸_, word, typeWord, expressionIn, expression, expressions};
+ghost use Rattle.form.specs.Places.{Lent, sortsIn, _▸_, word, typeWord, expressionIn, expression, expressions, arguments, optional};
+
+ghost use Rattle.form.specs.Places.{target, rightSide, startedByName, writing, wanting, simpleWord, simple};
 
 ghost use Rattle.form.specs.Places.{compound};
 
@@ -231,4 +233,155 @@ fn expression(code: &[u8], words: usize, at: usize, nesting: usize) -> Read
         n = behind_sign(code, words, m + 1);
         related = false;
     }
+}
+
+// One or more expressions, with commas between.
+fn expressions(code: &[u8], words: usize, at: usize) -> Read
+    requires { ⌜ Lent (now code) words ⌝ }
+    ensures { λ r. ⌜ r ≡ expressions (sortsIn (now (code .entry)) words) at ⌝ }
+{
+    let mut n = at;
+    loop {
+        let r = expression(code, words, n, NESTINGS);
+        let Read::Upto(m) = r else {
+            return r;
+        };
+        if sort(code, words, m) != COMMA {
+            return r;
+        }
+        n = m + 1;
+    }
+}
+
+// None where the closing word follows at once.
+fn arguments(code: &[u8], words: usize, at: usize, closing: u32) -> Read
+    requires { ⌜ Lent (now code) words ⌝ }
+    ensures { λ r. ⌜ r ≡ arguments (sortsIn (now (code .entry)) words) closing at ⌝ }
+{
+    if sort(code, words, at) == closing {
+        return Read::Upto(at);
+    }
+    expressions(code, words, at)
+}
+
+// ---- simple statements
+
+fn target(code: &[u8], words: usize, at: usize) -> Read
+    requires { ⌜ Lent (now code) words ⌝ }
+    ensures { λ r. ⌜ r ≡ target (sortsIn (now (code .entry)) words) at ⌝ }
+{
+    if sort(code, words, at) != NAME {
+        return Read::Refused(FORM, at);
+    }
+    if sort(code, words, at + 1) != OPEN_BRACE {
+        return Read::Upto(at + 1);
+    }
+    expression(code, words, at + 2, NESTINGS - 1).word(code, words, CLOSE_BRACE)
+}
+
+// A call where a name and a parenthesis stand, else an expression.
+fn right_side(code: &[u8], words: usize, at: usize) -> Read
+    requires { ⌜ Lent (now code) words ⌝ }
+    ensures { λ r. ⌜ r ≡ rightSide (sortsIn (now (code .entry)) words) at ⌝ }
+{
+    if sort(code, words, at) != NAME {
+        return expression(code, words, at, NESTINGS);
+    }
+    if sort(code, words, at + 1) != OPEN_PAREN {
+        return expression(code, words, at, NESTINGS);
+    }
+    arguments(code, words, at + 2, CLOSE_PAREN).word(code, words, CLOSE_PAREN)
+}
+
+// What a name starts: an assignment or a procedure's call. `at` is the place of the name.
+fn by_name(code: &[u8], words: usize, at: usize) -> Read
+    requires { ⌜ Lent (now code) words × (at < words) ⌝ }
+    ensures { λ r. ⌜ r ≡ startedByName (sortsIn (now (code .entry)) words) at ⌝ }
+{
+    let s = sort(code, words, at + 1);
+    if s == BECOMES {
+        return right_side(code, words, at + 2);
+    }
+    if s != OPEN_BRACE {
+        return arguments(code, words, at + 1, SEMICOLON);
+    }
+    let r = target(code, words, at).word(code, words, BECOMES);
+    let Read::Upto(n) = r else {
+        return r;
+    };
+    right_side(code, words, n)
+}
+
+// An expression, or none where a semicolon follows at once.
+fn optional(code: &[u8], words: usize, at: usize) -> Read
+    requires { ⌜ Lent (now code) words ⌝ }
+    ensures { λ r. ⌜ r ≡ optional (sortsIn (now (code .entry)) words) at ⌝ }
+{
+    if sort(code, words, at) == SEMICOLON {
+        return Read::Upto(at);
+    }
+    expression(code, words, at, NESTINGS)
+}
+
+// What TPWrite writes.
+fn written(code: &[u8], words: usize, at: usize) -> Read
+    requires { ⌜ Lent (now code) words ⌝ }
+    ensures { λ r. ⌜ r ≡ writing (sortsIn (now (code .entry)) words) at ⌝ }
+{
+    let r = expect(code, words, at, STRING);
+    let Read::Upto(n) = r else {
+        return r;
+    };
+    if sort(code, words, n) != BACKSLASH {
+        return r;
+    }
+    expect(code, words, n + 1, NUM).word(code, words, BECOMES).expression(code, words)
+}
+
+// What TPReadNum reads into, and its text.
+fn wanted(code: &[u8], words: usize, at: usize) -> Read
+    requires { ⌜ Lent (now code) words ⌝ }
+    ensures { λ r. ⌜ r ≡ wanting (sortsIn (now (code .entry)) words) at ⌝ }
+{
+    target(code, words, at).word(code, words, COMMA).word(code, words, STRING)
+}
+
+// A simple statement up to its semicolon.
+fn simple_word(code: &[u8], words: usize, at: usize) -> Read
+    requires { ⌜ Lent (now code) words ⌝ }
+    ensures { λ r. ⌜ r ≡ simpleWord (sortsIn (now (code .entry)) words) at ⌝ }
+{
+    let s = sort(code, words, at);
+    if s == NAME {
+        return by_name(code, words, at);
+    }
+    if s == RETURN {
+        return optional(code, words, at + 1);
+    }
+    if s == RAISE {
+        return optional(code, words, at + 1);
+    }
+    if s == EXIT {
+        return Read::Upto(at + 1);
+    }
+    if s == RETRY {
+        return Read::Upto(at + 1);
+    }
+    if s == TRYNEXT {
+        return Read::Upto(at + 1);
+    }
+    if s == TPWRITE {
+        return written(code, words, at + 1);
+    }
+    if s == TPREADNUM {
+        return wanted(code, words, at + 1);
+    }
+    Read::Refused(FORM, at)
+}
+
+fn simple(code: &[u8], words: usize, at: usize) -> Read
+    requires { ⌜ Lent (now code) words ⌝ }
+    ensures { λ r. ⌜ r ≡ simple (sortsIn (now (code .entry)) words) at ⌝ }
+{
+    simple_word(code, words, at).word(code, words, SEMICOLON)
 }

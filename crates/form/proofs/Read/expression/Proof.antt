@@ -1,6 +1,5 @@
 use borrow.Author.Needs.{needs}
 use Rattle.form.proofs.Reading.{branches}
-use Rattle.form.specs.Places.{expression}
 use Rattle.form.proofs.Read.expression.Statement.{statement}
 use Rattle.form.proofs.Read.expression.Tie as tie
 
@@ -11,14 +10,14 @@ enum-told : tie.Need-enum-told
 enum-told c = search needs
 
 returns : tie.Need-returns
-unfolding expression
+
 returns c = search (needs, branches)
 
 expression-requires : tie.Need-expression-requires
 expression-requires c κs = search needs
 
 returns-2 : tie.Need-returns-2
-unfolding expression
+
 returns-2 c = search (needs, branches)
 
 pub expression-spec : {M : Type 1} → statement M
