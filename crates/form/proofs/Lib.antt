@@ -2,3 +2,4 @@ pub mod Reading
 pub mod Beyond
 pub mod Flat
 pub mod Loops
+pub mod Moves

@@ -16,6 +16,7 @@ use Rattle.cells.specs.Words.{wordsOf}
 use Rattle.form.specs.declared.Read.{Read}
 use Rattle.form.specs.declared.Read.the-variants.{Upto, Refused}
 use Rattle.form.specs.declared.Part.{Part}
+use Rattle.form.specs.declared.Part.the-variants as part
 use Rattle.form.specs.Places.{sortsIn, _▸_, _▹_, word}
 
 -- ---- answers
@@ -48,6 +49,18 @@ part-goes r p q n f h g e = rw (sym g ∙ h) e
 pub part-stays : (r p : Read) (q : Part) (k i : ℕ) (f g : ℕ → Part) → r ≡ Refused k i → r ≡ p → q ≡ (r ▹ g) → q ≡ (p ▹ f)
 unfolding _▹_
 part-stays r p q k i f g h e u = u ∙ rw (h, sym e ∙ h)
+
+pub inside-made : (r : Read) (n c : ℕ) → r ≡ Upto n → part.Inside c n ≡ (r ▹ part.Inside c)
+unfolding _▹_
+inside-made r n c h = rw h
+
+pub whole-made : (r : Read) (n : ℕ) → r ≡ Upto n → part.Whole n ≡ (r ▹ part.Whole)
+unfolding _▹_
+whole-made r n h = rw h
+
+pub part-refused : (r : Read) (k i : ℕ) (f : ℕ → Part) → r ≡ Refused k i → part.Refused k i ≡ (r ▹ f)
+unfolding _▹_
+part-refused r k i f h = rw h
 
 pub part-after : (r p : Read) (q : Part) (f : ℕ → Part) → q ≡ (p ▹ f) → p ≡ r → q ≡ (r ▹ f)
 part-after r p q f e h = rw h at e

@@ -36,6 +36,9 @@ unfoldable pub _▹_ : Read → (ℕ → Part) → Part
 Upto n ▹ f = f n
 Refused k i ▹ f = part.Refused k i
 
+unfoldable pub startsCompound : (sort : ℕ) → Bool
+startsCompound s = eqb s IF || eqb s FOR || eqb s WHILE || eqb s TEST
+
 -- A loop of the parser, of that many turns at most.
 unfoldable pub turns : (turn : (again : ℕ → Read) → ℕ → Read) → (parts : ℕ) → ℕ → Read
 turns turn zero at = Refused 8 at
@@ -219,9 +222,6 @@ module _ (W : ℕ → ℕ) where
   resume list (part.Inside c n) = list n ▸ ending list c
 
   -- ---- lists
-  unfoldable pub startsCompound : (sort : ℕ) → Bool
-  startsCompound s = eqb s IF || eqb s FOR || eqb s WHILE || eqb s TEST
-
   unfoldable pub listTurn : (compound again : ℕ → Read) → ℕ → Read
   listTurn compound again at =
       if startsCompound (W at) then compound at ▸ again else if startsSimple (W at) then simple at ▸ again else Upto at

@@ -6,13 +6,13 @@ ghost use mathlib.Core.Path.{_≡_};
 
 ghost use Prim.Native.Nat.{suc, _<_};
 
-ghost use Rattle.paper.specs.Expressions.{levelOf};
+ghost use Rattle.paper.specs.Expressions.{levelOf, startsSimple};
 
-ghost use Rattle.form.specs.Places.{Lent, sortsIn, _▸_, word, typeWord, expressionIn, expression, expressions, arguments, optional};
+ghost use Rattle.form.specs.Places.{Lent, sortsIn, _▸_, _▹_, word, typeWord, expressionIn, expression, expressions, arguments, optional};
 
-ghost use Rattle.form.specs.Places.{target, rightSide, startedByName, writing, wanting, simpleWord, simple};
+ghost use Rattle.form.specs.Places.{target, rightSide, startedByName, writing, wanting, simpleWord, simple, stepPart, forHead};
 
-ghost use Rattle.form.specs.Places.{compound};
+ghost use Rattle.form.specs.Places.{startsCompound, armEnd, caseEnd, listEnd, ifHead, testHead, opened, compound};
 
 ghost use Rattle.form.specs.Places.{operand, behindNot, behindSign};
 
@@ -384,4 +384,192 @@ fn simple(code: &[u8], words: usize, at: usize) -> Read
     ensures { λ r. ⌜ r ≡ simple (sortsIn (now (code .entry)) words) at ⌝ }
 {
     simple_word(code, words, at).word(code, words, SEMICOLON)
+}
+
+// ---- compound statements
+
+impl Read {
+    // Then STEP and an expression, if it is there.
+    fn step(self, code: &[u8], words: usize) -> Read
+        requires { ⌜ Lent (now code) words ⌝ }
+        ensures { λ r. ⌜ r ≡ (self ▸ stepPart (sortsIn (now (code .entry)) words)) ⌝ }
+    {
+        let Read::Upto(n) = self else {
+            return self;
+        };
+        if sort(code, words, n) != STEP {
+            return self;
+        }
+        expression(code, words, n + 1, NESTINGS)
+    }
+
+    // Into a list.
+    fn inside(self, closing: u32) -> Part
+        ensures { λ r. ⌜ r ≡ (self ▹ Part.Inside closing) ⌝ }
+    {
+        match self {
+            Read::Upto(n) => Part::Inside(closing, n),
+            Read::Refused(number, at) => Part::Refused(number, at),
+        }
+    }
+
+    fn whole(self) -> Part
+        ensures { λ r. ⌜ r ≡ (self ▹ Part.Whole) ⌝ }
+    {
+        match self {
+            Read::Upto(n) => Part::Whole(n),
+            Read::Refused(number, at) => Part::Refused(number, at),
+        }
+    }
+}
+
+// What stands after an arm of an IF.
+fn arm_end(code: &[u8], words: usize, at: usize) -> Part
+    requires { ⌜ Lent (now code) words ⌝ }
+    ensures { λ r. ⌜ r ≡ armEnd (sortsIn (now (code .entry)) words) at ⌝ }
+{
+    let s = sort(code, words, at);
+    if s == ELSEIF {
+        return expression(code, words, at + 1, NESTINGS).word(code, words, THEN).inside(ELSEIF);
+    }
+    if s == ELSE {
+        return Part::Inside(ENDIF, at + 1);
+    }
+    expect(code, words, at, ENDIF).whole()
+}
+
+// What stands after a TEST's selector, or after a case of it.
+fn case_end(code: &[u8], words: usize, at: usize) -> Part
+    requires { ⌜ Lent (now code) words ⌝ }
+    ensures { λ r. ⌜ r ≡ caseEnd (sortsIn (now (code .entry)) words) at ⌝ }
+{
+    let s = sort(code, words, at);
+    if s == CASE {
+        return expressions(code, words, at + 1).word(code, words, COLON).inside(CASE);
+    }
+    if s == DEFAULT {
+        return expect(code, words, at + 1, COLON).inside(ENDTEST);
+    }
+    expect(code, words, at, ENDTEST).whole()
+}
+
+// What stands after a list.
+fn list_end(code: &[u8], words: usize, at: usize, closing: u32) -> Part
+    requires { ⌜ Lent (now code) words × (0 < closing) ⌝ }
+    ensures { λ r. ⌜ r ≡ listEnd (sortsIn (now (code .entry)) words) closing at ⌝ }
+{
+    if closing == ELSEIF {
+        return arm_end(code, words, at);
+    }
+    if closing == CASE {
+        return case_end(code, words, at);
+    }
+    expect(code, words, at, closing).whole()
+}
+
+// From behind FOR to the list.
+fn for_head(code: &[u8], words: usize, at: usize) -> Read
+    requires { ⌜ Lent (now code) words ⌝ }
+    ensures { λ r. ⌜ r ≡ forHead (sortsIn (now (code .entry)) words) at ⌝ }
+{
+    expect(code, words, at, NAME)
+        .word(code, words, FROM)
+        .expression(code, words)
+        .word(code, words, TO)
+        .expression(code, words)
+        .step(code, words)
+        .word(code, words, DO)
+}
+
+// From behind IF to the list, unless it would be the 17th, or to the end of a compact IF.
+fn if_head(code: &[u8], words: usize, at: usize, deeper: usize) -> Part
+    requires { ⌜ Lent (now code) words ⌝ }
+    ensures { λ r. ⌜ r ≡ ifHead (sortsIn (now (code .entry)) words) deeper at ⌝ }
+{
+    let r = expression(code, words, at, NESTINGS);
+    let Read::Upto(n) = r else {
+        return r.whole();
+    };
+    if sort(code, words, n) != THEN {
+        return simple(code, words, n).whole();
+    }
+    if deeper == 0 {
+        return Part::Refused(NESTING, n);
+    }
+    Part::Inside(ELSEIF, n + 1)
+}
+
+// From behind TEST to the first list.
+fn test_head(code: &[u8], words: usize, at: usize) -> Part
+    requires { ⌜ Lent (now code) words ⌝ }
+    ensures { λ r. ⌜ r ≡ testHead (sortsIn (now (code .entry)) words) at ⌝ }
+{
+    let r = expression(code, words, at, NESTINGS);
+    let Read::Upto(n) = r else {
+        return r.whole();
+    };
+    case_end(code, words, n)
+}
+
+// The compound statement at a place, up to its first list.
+fn open(code: &[u8], words: usize, at: usize, deeper: usize) -> Part
+    requires { ⌜ Lent (now code) words × (at < words) ⌝ }
+    ensures { λ r. ⌜ r ≡ opened (sortsIn (now (code .entry)) words) deeper at ⌝ }
+{
+    let s = sort(code, words, at);
+    if s == IF {
+        return if_head(code, words, at + 1, deeper);
+    }
+    if deeper == 0 {
+        return Part::Refused(NESTING, at);
+    }
+    if s == FOR {
+        return for_head(code, words, at + 1).inside(ENDFOR);
+    }
+    if s == WHILE {
+        return expression(code, words, at + 1, NESTINGS).word(code, words, DO).inside(ENDWHILE);
+    }
+    test_head(code, words, at + 1)
+}
+
+fn starts_compound(s: u32) -> bool
+    ensures { λ r. ⌜ r ≡ startsCompound s ⌝ }
+{
+    if s == IF {
+        return true;
+    }
+    if s == FOR {
+        return true;
+    }
+    if s == WHILE {
+        return true;
+    }
+    s == TEST
+}
+
+fn starts_simple(s: u32) -> bool
+    ensures { λ r. ⌜ r ≡ startsSimple s ⌝ }
+{
+    if s == NAME {
+        return true;
+    }
+    if s == RETURN {
+        return true;
+    }
+    if s == RAISE {
+        return true;
+    }
+    if s == EXIT {
+        return true;
+    }
+    if s == RETRY {
+        return true;
+    }
+    if s == TRYNEXT {
+        return true;
+    }
+    if s == TPWRITE {
+        return true;
+    }
+    s == TPREADNUM
 }
