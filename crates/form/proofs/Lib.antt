@@ -3,3 +3,4 @@ pub mod Beyond
 pub mod Flat
 pub mod Loops
 pub mod Moves
+pub mod Compounds

@@ -78,7 +78,7 @@ module _ (W : ℕ → ℕ) where
         turns-on (repeatedTurn W starts one)
         (λ again g n. either (starts (W n)) (on (sooner n (omega arith) (one-on n)) g) (ends n n (omega arith))) 8193 at
 
-  expressions-on : (at : ℕ) → Beyond (suc at) (expressions W at)
+  pub expressions-on : (at : ℕ) → Beyond (suc at) (expressions W at)
   unfolding expressions
   expressions-on at = separated-on (expressionIn W 17) (nested-on W 17) at
 

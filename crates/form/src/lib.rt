@@ -12,7 +12,7 @@ ghost use Rattle.form.specs.Places.{Lent, sortsIn, _▸_, _▹_, word, t
 
 ghost use Rattle.form.specs.Places.{target, rightSide, startedByName, writing, wanting, simpleWord, simple, stepPart, forHead};
 
-ghost use Rattle.form.specs.Places.{startsCompound, armEnd, caseEnd, listEnd, ifHead, testHead, opened, compound};
+ghost use Rattle.form.specs.Places.{startsCompound, armEnd, caseEnd, listEnd, ifHead, testHead, opened, compound, listBelow};
 
 ghost use Rattle.form.specs.Places.{operand, behindNot, behindSign};
 
@@ -572,4 +572,53 @@ fn starts_simple(s: u32) -> bool
         return true;
     }
     s == TPREADNUM
+}
+
+// A compound statement: its lists, one after another. `deeper` more may nest.
+fn compound(code: &[u8], words: usize, at: usize, deeper: usize) -> Read
+    requires { ⌜ Lent (now code) words × (at < words) ⌝ }
+    ensures { λ r. ⌜ r ≡ compound (sortsIn (now (code .entry)) words) deeper at ⌝ }
+{
+    let mut part = open(code, words, at, deeper);
+    loop {
+        match part {
+            Part::Whole(n) => return Read::Upto(n),
+            Part::Refused(number, at) => return Read::Refused(number, at),
+            Part::Inside(closing, n) => {
+                let r = list(code, words, n, deeper - 1);
+                let Read::Upto(m) = r else {
+                    return r;
+                };
+                part = list_end(code, words, m, closing);
+            }
+        }
+    }
+}
+
+// A list of statements ends before the first word that starts none.
+fn list(code: &[u8], words: usize, at: usize, deeper: usize) -> Read
+    requires { ⌜ Lent (now code) words ⌝ }
+    ensures { λ r. ⌜ r ≡ listBelow (sortsIn (now (code .entry)) words) (suc deeper) at ⌝ }
+{
+    let mut n = at;
+    loop {
+        let s = sort(code, words, n);
+        if starts_compound(s) {
+            let r = compound(code, words, n, deeper);
+            let Read::Upto(m) = r else {
+                return r;
+            };
+            n = m;
+            continue;
+        }
+        if starts_simple(s) {
+            let r = simple(code, words, n);
+            let Read::Upto(m) = r else {
+                return r;
+            };
+            n = m;
+            continue;
+        }
+        return Read::Upto(n);
+    }
 }
