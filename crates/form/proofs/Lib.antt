@@ -4,3 +4,4 @@ pub mod Flat
 pub mod Loops
 pub mod Moves
 pub mod Compounds
+pub mod Routines

@@ -6,13 +6,15 @@ ghost use mathlib.Core.Path.{_≡_};
 
 ghost use Prim.Native.Nat.{suc, _<_};
 
-ghost use Rattle.paper.specs.Expressions.{levelOf, startsSimple};
+ghost use Rattle.paper.specs.Expressions.{levelOf, startsData, startsRoutine, startsSimple};
 
 ghost use Rattle.form.specs.Places.{Lent, sortsIn, _▸_, _▹_, word, typeWord, expressionIn, expression, expressions, arguments, optional};
 
 ghost use Rattle.form.specs.Places.{target, rightSide, startedByName, writing, wanting, simpleWord, simple, stepPart, forHead};
 
 ghost use Rattle.form.specs.Places.{startsCompound, armEnd, caseEnd, listEnd, ifHead, testHead, opened, compound, listBelow};
+
+ghost use Rattle.form.specs.Places.{content, declaration, declarations, parameters, errorPart, routineFrom, routine, routines};
 
 ghost use Rattle.form.specs.Places.{operand, behindNot, behindSign};
 
@@ -621,4 +623,178 @@ fn list(code: &[u8], words: usize, at: usize, deeper: usize) -> Read
         }
         return Read::Upto(n);
     }
+}
+
+// ---- data
+
+impl Read {
+    // What stands after a declared name.
+    fn content(self, code: &[u8], words: usize, s: u32) -> Read
+        requires { ⌜ Lent (now code) words ⌝ }
+        ensures { λ r. ⌜ r ≡ (self ▸ content (sortsIn (now (code .entry)) words) s) ⌝ }
+    {
+        let Read::Upto(n) = self else {
+            return self;
+        };
+        let t = sort(code, words, n);
+        if t == BECOMES {
+            return expression(code, words, n + 1, NESTINGS);
+        }
+        if s != VAR {
+            return Read::Refused(FORM, n);
+        }
+        if t != OPEN_BRACE {
+            return self;
+        }
+        expression(code, words, n + 1, NESTINGS).word(code, words, CLOSE_BRACE)
+    }
+
+    // Data, as many as there are.
+    fn declarations(self, code: &[u8], words: usize) -> Read
+        requires { ⌜ Lent (now code) words ⌝ }
+        ensures { λ r. ⌜ r ≡ (self ▸ declarations (sortsIn (now (code .entry)) words)) ⌝ }
+    {
+        let Read::Upto(at) = self else {
+            return self;
+        };
+        let mut n = at;
+        loop {
+            let s = sort(code, words, n);
+            if starts_data(s) {
+                let r = declaration(code, words, n + 1, s);
+                let Read::Upto(m) = r else {
+                    return r;
+                };
+                n = m;
+                continue;
+            }
+            return Read::Upto(n);
+        }
+    }
+}
+
+fn starts_data(s: u32) -> bool
+    ensures { λ r. ⌜ r ≡ startsData s ⌝ }
+{
+    if s == VAR {
+        return true;
+    }
+    s == CONST
+}
+
+// From behind VAR or CONST on.
+fn declaration(code: &[u8], words: usize, at: usize, s: u32) -> Read
+    requires { ⌜ Lent (now code) words ⌝ }
+    ensures { λ r. ⌜ r ≡ declaration (sortsIn (now (code .entry)) words) s at ⌝ }
+{
+    expect_type(code, words, at).word(code, words, NAME).content(code, words, s).word(code, words, SEMICOLON)
+}
+
+// ---- routines
+
+impl Read {
+    fn parameters(self, code: &[u8], words: usize) -> Read
+        requires { ⌜ Lent (now code) words ⌝ }
+        ensures { λ r. ⌜ r ≡ (self ▸ parameters (sortsIn (now (code .entry)) words)) ⌝ }
+    {
+        let Read::Upto(at) = self else {
+            return self;
+        };
+        if sort(code, words, at) == CLOSE_PAREN {
+            return self;
+        }
+        let mut n = at;
+        loop {
+            let r = expect_type(code, words, n).word(code, words, NAME);
+            let Read::Upto(m) = r else {
+                return r;
+            };
+            if sort(code, words, m) != COMMA {
+                return r;
+            }
+            n = m + 1;
+        }
+    }
+
+    fn list(self, code: &[u8], words: usize) -> Read
+        requires { ⌜ Lent (now code) words ⌝ }
+        ensures { λ r. ⌜ r ≡ (self ▸ listBelow (sortsIn (now (code .entry)) words) 17) ⌝ }
+    {
+        let Read::Upto(n) = self else {
+            return self;
+        };
+        list(code, words, n, NESTINGS)
+    }
+
+    // The ERROR list, if any.
+    fn handler(self, code: &[u8], words: usize) -> Read
+        requires { ⌜ Lent (now code) words ⌝ }
+        ensures { λ r. ⌜ r ≡ (self ▸ errorPart (sortsIn (now (code .entry)) words)) ⌝ }
+    {
+        let Read::Upto(n) = self else {
+            return self;
+        };
+        if sort(code, words, n) != ERROR {
+            return self;
+        }
+        list(code, words, n + 1, NESTINGS)
+    }
+
+    // A routine from its name on.
+    fn routine(self, code: &[u8], words: usize, closing: u32) -> Read
+        requires { ⌜ Lent (now code) words × (0 < closing) ⌝ }
+        ensures { λ r. ⌜ r ≡ routineFrom (sortsIn (now (code .entry)) words) closing self ⌝ }
+    {
+        self.word(code, words, NAME)
+            .word(code, words, OPEN_PAREN)
+            .parameters(code, words)
+            .word(code, words, CLOSE_PAREN)
+            .declarations(code, words)
+            .list(code, words)
+            .handler(code, words)
+            .word(code, words, closing)
+    }
+
+    // Routines, as many as there are.
+    fn routines(self, code: &[u8], words: usize) -> Read
+        requires { ⌜ Lent (now code) words ⌝ }
+        ensures { λ r. ⌜ r ≡ (self ▸ routines (sortsIn (now (code .entry)) words)) ⌝ }
+    {
+        let Read::Upto(at) = self else {
+            return self;
+        };
+        let mut n = at;
+        loop {
+            let s = sort(code, words, n);
+            if starts_routine(s) {
+                let r = routine(code, words, n + 1, s);
+                let Read::Upto(m) = r else {
+                    return r;
+                };
+                n = m;
+                continue;
+            }
+            return Read::Upto(n);
+        }
+    }
+}
+
+fn starts_routine(s: u32) -> bool
+    ensures { λ r. ⌜ r ≡ startsRoutine s ⌝ }
+{
+    if s == PROC {
+        return true;
+    }
+    s == FUNC
+}
+
+// From behind PROC or FUNC on.
+fn routine(code: &[u8], words: usize, at: usize, s: u32) -> Read
+    requires { ⌜ Lent (now code) words ⌝ }
+    ensures { λ r. ⌜ r ≡ routine (sortsIn (now (code .entry)) words) s at ⌝ }
+{
+    if s == PROC {
+        return Read::Upto(at).routine(code, words, ENDPROC);
+    }
+    expect_type(code, words, at).routine(code, words, ENDFUNC)
 }
