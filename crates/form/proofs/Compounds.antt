@@ -127,7 +127,7 @@ module _ (code : List ℕ) (words : ℕ) (lent : Lent code words) where
     into (Upto n) c f h = h n
     into (Refused k i) c f h = refl
 
-    to-end : (r : Read) → r ≡ resume W list (r ▹ part.Whole)
+    pub to-end : (r : Read) → r ≡ resume W list (r ▹ part.Whole)
     unfolding _▹_ resume
     to-end (Upto n) = refl
     to-end (Refused k i) = refl
@@ -138,7 +138,7 @@ module _ (code : List ℕ) (words : ℕ) (lent : Lent code words) where
     closing c h g (Upto n) = rw (ne-eqb c 42 h, ne-eqb c 35 g)
     closing c h g (Refused k i) = refl
 
-    arm-again : (n : ℕ) → arms W list n ≡ (list n ▸ ending W list 42)
+    pub arm-again : (n : ℕ) → arms W list n ≡ (list n ▸ ending W list 42)
     unfolding ending
     arm-again n = arms-is n ∙ same-after {mid = n} (list n) (weak n) (λ m i. refl)
 
@@ -155,12 +155,12 @@ module _ (code : List ℕ) (words : ℕ) (lent : Lent code words) where
           (λ u. rw u (closing 45 (λ z. omega arith) (λ z. omega arith) (list (at + 1))))
           (λ u. rw u (to-end (word W 45 at)))))
 
-    into-list : (r : Read) (c : ℕ) (f : ℕ → Read) → ((n : ℕ) → (list n ▸ f) ≡ (list n ▸ ending W list c)) → (r ▸ list ▸ f) ≡ resume W list (r ▹ part.Inside c)
+    pub into-list : (r : Read) (c : ℕ) (f : ℕ → Read) → ((n : ℕ) → (list n ▸ f) ≡ (list n ▸ ending W list c)) → (r ▸ list ▸ f) ≡ resume W list (r ▹ part.Inside c)
     unfolding _▸_ _▹_ resume
     into-list (Upto n) c f h = h n
     into-list (Refused k i) c f h = refl
 
-    case-rest : (at : ℕ) → cases W list at ≡ resume W list (caseEnd W at)
+    pub case-rest : (at : ℕ) → cases W list at ≡ resume W list (caseEnd W at)
     unfolding casesTurn caseEnd defaultPart _▸_
     case-rest at =
         cases-is at

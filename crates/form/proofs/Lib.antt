@@ -5,3 +5,5 @@ pub mod Loops
 pub mod Moves
 pub mod Compounds
 pub mod Routines
+pub mod Trees
+pub mod Modules
