@@ -133,7 +133,7 @@ module _ (code : List ℕ) (words : ℕ) (lent : Lent code words) where
     to-end (Refused k i) = refl
 
     -- a list that only its closing word ends
-    closing : (c : ℕ) → (c ≡ 42 → ⊥) → (c ≡ 35 → ⊥) → (r : Read) → (r ▸ word W c) ≡ (r ▸ ending W list c)
+    pub closing : (c : ℕ) → (c ≡ 42 → ⊥) → (c ≡ 35 → ⊥) → (r : Read) → (r ▸ word W c) ≡ (r ▸ ending W list c)
     unfolding _▸_ ending
     closing c h g (Upto n) = rw (ne-eqb c 42 h, ne-eqb c 35 g)
     closing c h g (Refused k i) = refl
