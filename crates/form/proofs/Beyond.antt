@@ -92,11 +92,11 @@ module _ (W : ℕ → ℕ) where
     operand-on at =
         either (eqb (W at) 1)
         (either (eqb (W (at + 1)) 8)
-          (on (sooner (suc at) (omega arith) (inner-on (at + 2))) (strictly (word-on 9)))
-          (ends (suc at) (at + 1) (omega arith)))
+        (on (sooner (suc at) (omega arith) (inner-on (at + 2))) (strictly (word-on 9)))
+        (ends (suc at) (at + 1) (omega arith)))
         (either (eqb (W at) 6)
-          (on (sooner (suc at) (omega arith) (inner-on (at + 1))) (strictly (word-on 7)))
-          (either (isLiteral (W at)) (ends (suc at) (at + 1) (omega arith)) (refuses (suc at) 8 at)))
+        (on (sooner (suc at) (omega arith) (inner-on (at + 1))) (strictly (word-on 7)))
+        (either (isLiteral (W at)) (ends (suc at) (at + 1) (omega arith)) (refuses (suc at) 8 at)))
 
     chain-turn-on : (j : ℕ) (sub : ℕ → Read) → ((at : ℕ) → Beyond (suc at) (sub at))
         → (again : ℕ → Read) → ((n : ℕ) → Beyond n (again n)) → (at : ℕ) → Beyond at (chainTurn W j sub again at)

@@ -83,9 +83,9 @@ module _ (W : ℕ → ℕ) (d : ℕ) where
       shaped-if d (eqb (W at) 59) _ _ (shaped-after d (expressionIn W 17 (at + 1)) (condition W d) condition-shaped)
       (test (eqb d 0) (λ t. rw t refl)
       (λ t. rw t (let h : 0 < d = omega (arith, eqb-false d 0 t) in
-        shaped-if d (eqb (W at) 55) _ _ (inside-shaped d 43 _ h (omega arith))
-        (shaped-if d (eqb (W at) 86) _ _ (inside-shaped d 51 _ h (omega arith))
-        (shaped-after d (expressionIn W 17 (at + 1)) (caseEnd W) (case-shaped h))))))
+      shaped-if d (eqb (W at) 55) _ _ (inside-shaped d 43 _ h (omega arith))
+      (shaped-if d (eqb (W at) 86) _ _ (inside-shaped d 51 _ h (omega arith))
+      (shaped-after d (expressionIn W 17 (at + 1)) (caseEnd W) (case-shaped h))))))
 
 -- ---- what is left of a compound statement
 
@@ -99,10 +99,10 @@ module _ (code : List ℕ) (words : ℕ) (lent : Lent code words) where
     arms-local f g at h =
         same-after {mid = at} (list at) (weak at)
         (λ n l. test (eqb (W n) 42)
-          (λ t. rw t (same-after {mid = suc n} (expressionIn W 17 (n + 1) ▸ word W 78)
-            (on (sooner (suc n) (omega arith) (nested-on W 17 (n + 1))) (strictly (word-on W 78)))
-            (λ m i. h (omega (arith, within code words n (λ z. omega (arith, eqb-true (W n) 42 t)))) m (omega arith))))
-          (λ t. rw t))
+        (λ t. rw t (same-after {mid = suc n} (expressionIn W 17 (n + 1) ▸ word W 78)
+        (on (sooner (suc n) (omega arith) (nested-on W 17 (n + 1))) (strictly (word-on W 78)))
+        (λ m i. h (omega (arith, within code words n (λ z. omega (arith, eqb-true (W n) 42 t)))) m (omega arith))))
+        (λ t. rw t))
 
     arms-is : (at : ℕ) → arms W list at ≡ (list at ▸ afterArm W list (arms W list))
     unfolding arms armsTurn
@@ -113,8 +113,8 @@ module _ (code : List ℕ) (words : ℕ) (lent : Lent code words) where
     cases-local f g at h =
         test (eqb (W at) 35)
         (λ t. rw t (same-after {mid = suc at} (expressions W (at + 1) ▸ word W 10 ▸ list)
-          (on (on (sooner (suc at) (omega arith) (expressions-on W (at + 1))) (strictly (word-on W 10))) weak)
-          (λ m i. h (within code words at (λ z. omega (arith, eqb-true (W at) 35 t))) m (omega arith))))
+        (on (on (sooner (suc at) (omega arith) (expressions-on W (at + 1))) (strictly (word-on W 10))) weak)
+        (λ m i. h (within code words at (λ z. omega (arith, eqb-true (W at) 35 t))) m (omega arith))))
         (λ t. rw t)
 
     cases-is : (at : ℕ) → cases W list at ≡ casesTurn W list (cases W list) at
@@ -152,8 +152,8 @@ module _ (code : List ℕ) (words : ℕ) (lent : Lent code words) where
         test (eqb (W at) 42)
         (λ t. rw t (into (expressionIn W 17 (at + 1) ▸ word W 78) 42 (arms W list) arm-again))
         (λ t. rw t (test (eqb (W at) 41)
-          (λ u. rw u (closing 45 (λ z. omega arith) (λ z. omega arith) (list (at + 1))))
-          (λ u. rw u (to-end (word W 45 at)))))
+        (λ u. rw u (closing 45 (λ z. omega arith) (λ z. omega arith) (list (at + 1))))
+        (λ u. rw u (to-end (word W 45 at)))))
 
     pub into-list : (r : Read) (c : ℕ) (f : ℕ → Read) → ((n : ℕ) → (list n ▸ f) ≡ (list n ▸ ending W list c)) → (r ▸ list ▸ f) ≡ resume W list (r ▹ part.Inside c)
     unfolding _▸_ _▹_ resume
@@ -167,8 +167,8 @@ module _ (code : List ℕ) (words : ℕ) (lent : Lent code words) where
         ∙ test (eqb (W at) 35)
         (λ t. rw t (into-list (expressions W (at + 1) ▸ word W 10) 35 (cases W list) case-again))
         (λ t. rw t (test (eqb (W at) 38)
-          (λ u. rw u (into-list (word W 10 (at + 1)) 49 (word W 49) (λ n. closing 49 (λ z. omega arith) (λ z. omega arith) (list n))))
-          (λ u. rw u (to-end (word W 49 at)))))
+        (λ u. rw u (into-list (word W 10 (at + 1)) 49 (word W 49) (λ n. closing 49 (λ z. omega arith) (λ z. omega arith) (list n))))
+        (λ u. rw u (to-end (word W 49 at)))))
 
     pub end-rest : (c at : ℕ) → ending W list c at ≡ resume W list (listEnd W c at)
     unfolding ending listEnd
@@ -277,8 +277,8 @@ module _ (code : List ℕ) (words : ℕ) (lent : Lent code words) (d : ℕ) wher
       test (startsCompound (sortsIn code words at))
       (λ t. rw t (same-after {mid = suc at} (compound (sortsIn code words) d at) (compound-on (sortsIn code words) d at) (λ n l. h (compound-there at t) n l)))
       (λ t. rw t (test (startsSimple (sortsIn code words at))
-        (λ u. rw u (same-after {mid = suc at} (simple (sortsIn code words) at) (simple-on (sortsIn code words) at) (λ n l. h (simple-there at u) n l)))
-        (λ u. rw u)))
+      (λ u. rw u (same-after {mid = suc at} (simple (sortsIn code words) at) (simple-on (sortsIn code words) at) (λ n l. h (simple-there at u) n l)))
+      (λ u. rw u)))
 
   list-is : (at : ℕ) → listBelow (sortsIn code words) (suc d) at ≡ listTurn (sortsIn code words) (compound (sortsIn code words) d) (listBelow (sortsIn code words) (suc d)) at
   unfolding listBelow compound

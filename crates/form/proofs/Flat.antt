@@ -32,7 +32,7 @@ module _ (code : List ℕ) (words : ℕ) (lent : Lent code words) where
   chain-local j sub s p f g at h =
       test (eqb (levelOf (W at)) j)
       (λ t. rw (t, chainTurn) (test (eqb j 3) (λ u. rw u) (λ u. rw u
-        (same-after {mid = suc (at + 1)} (sub (at + 1)) (s (at + 1)) (λ n l. h (within code words at (λ z. absurd (omega (arith, eqb-true (levelOf (W at)) j t, ap levelOf z, level-of-nothing)))) n (omega arith))))))
+      (same-after {mid = suc (at + 1)} (sub (at + 1)) (s (at + 1)) (λ n l. h (within code words at (λ z. absurd (omega (arith, eqb-true (levelOf (W at)) j t, ap levelOf z, level-of-nothing)))) n (omega arith))))))
       (λ t. rw (t, chainTurn))
 
   module _ (inner : ℕ → Read) (inner-on : (at : ℕ) → Beyond (suc at) (inner at)) where

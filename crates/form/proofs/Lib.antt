@@ -7,3 +7,4 @@ pub mod Compounds
 pub mod Routines
 pub mod Trees
 pub mod Modules
+pub mod Whole

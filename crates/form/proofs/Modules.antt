@@ -49,10 +49,10 @@ module _ (W : ℕ → ℕ) (list : Parser Statements) (list′ : ℕ → Read) (
   arms-turns (suc p) e at =
       then-0 second (list at) _ (places.afterArm W list′ (turns (places.armsTurn W list′) p)) (same at)
       (λ x. test (eqb (W (x .1)) 42)
-        (λ t. rw t (then-1 second (paper.expr W (x .1 + 1)) _ _ _ (expression-is W (x .1 + 1))
-          (λ y. then-0 itself (paper.expect W 78 (y .1)) _ _ (word-is W 78 (y .1))
-            (λ n. ends-so second (statements.arms W p list (y .0) n) _ (arms-turns p (y .0) n)))))
-        (λ t. rw t (last-arm-is e (x .0) (x .1))))
+      (λ t. rw t (then-1 second (paper.expr W (x .1 + 1)) _ _ _ (expression-is W (x .1 + 1))
+      (λ y. then-0 itself (paper.expect W 78 (y .1)) _ _ (word-is W 78 (y .1))
+      (λ n. ends-so second (statements.arms W p list (y .0) n) _ (arms-turns p (y .0) n)))))
+      (λ t. rw t (last-arm-is e (x .0) (x .1))))
 
   arms-is : (e : Expr) → Same (statements.arms W 8193 list e) (places.arms W list′)
   unfolding places.arms
@@ -71,9 +71,9 @@ module _ (W : ℕ → ℕ) (list : Parser Statements) (list′ : ℕ → Read) (
   cases-turns (suc p) at =
       test (eqb (W at) 35)
       (λ t. rw (t, statements.cases) (then-2 second (paper.exprs W (at + 1)) _ _ _ _ (expressions-is W (at + 1))
-        (λ x. then-1 itself (paper.expect W 10 (x .1)) _ _ _ (word-is W 10 (x .1))
-          (λ n. then-0 second (list n) _ _ (same n)
-            (λ y. ends-so second (statements.cases W p list (y .1)) _ (cases-turns p (y .1)))))))
+      (λ x. then-1 itself (paper.expect W 10 (x .1)) _ _ _ (word-is W 10 (x .1))
+      (λ n. then-0 second (list n) _ _ (same n)
+      (λ y. ends-so second (statements.cases W p list (y .1)) _ (cases-turns p (y .1)))))))
       (λ t. rw (t, statements.cases) (then-0 second (statements.defaultPart W list at) _ _ (default-is at) (λ x. ends-so itself (paper.expect W 49 (x .1)) _ (word-is W 49 (x .1)))))
 
   cases-is : Same (statements.cases W 8193 list) (places.cases W list′)
@@ -137,12 +137,12 @@ module _ (W : ℕ → ℕ) (deeper : Option (Parser Statements)) where
     list-turns (suc p) at =
         test (startsCompound (W at))
         (λ t. rw (starts-split (W at), statements.statements) (rw (t, or-true (startsSimple (W at)))
-          (then-0 second (statements.statement W deeper at) _ _ (same at t) (λ x. ends-so second (statements.statements W p deeper (x .1)) _ (list-turns p (x .1))))))
+        (then-0 second (statements.statement W deeper at) _ _ (same at t) (λ x. ends-so second (statements.statements W p deeper (x .1)) _ (list-turns p (x .1))))))
         (λ t. test (startsSimple (W at))
-          (λ u. rw (starts-split (W at), statements.statements) (rw (t, u)
-            (then-0 second (statements.statement W deeper at) _ _ (rw (plain-is at t) (ends-so second (statements.simpleStatement W at) _ (simple-is W at)))
-              (λ x. ends-so second (statements.statements W p deeper (x .1)) _ (list-turns p (x .1))))))
-          (λ u. rw (starts-split (W at), statements.statements) (rw (t, u))))
+        (λ u. rw (starts-split (W at), statements.statements) (rw (t, u)
+        (then-0 second (statements.statement W deeper at) _ _ (rw (plain-is at t) (ends-so second (statements.simpleStatement W at) _ (simple-is W at)))
+        (λ x. ends-so second (statements.statements W p deeper (x .1)) _ (list-turns p (x .1))))))
+        (λ u. rw (starts-split (W at), statements.statements) (rw (t, u))))
 
 module _ (code : List ℕ) (words : ℕ) (lent : Lent code words) where
   abbrev W : ℕ → ℕ
@@ -155,8 +155,8 @@ module _ (code : List ℕ) (words : ℕ) (lent : Lent code words) where
   compound-none list′ weak at h =
       test (eqb (W at) 59)
       (λ a. rw a (into-part W list′ (paper.expr W (at + 1)) _ (places.condition W 0) (expression-is W (at + 1))
-        (λ x. test (eqb (W (x .1)) 78) (λ t. rw t)
-          (λ t. rw t (ends-so second (statements.simpleStatement W (x .1)) _ (simple-is W (x .1)) ∙ to-end code words lent list′ weak (places.simple W (x .1)))))))
+      (λ x. test (eqb (W (x .1)) 78) (λ t. rw t)
+      (λ t. rw t (ends-so second (statements.simpleStatement W (x .1)) _ (simple-is W (x .1)) ∙ to-end code words lent list′ weak (places.simple W (x .1)))))))
       (λ a. rw a (test (eqb (W at) 55) (λ b. rw b) (λ b. rw b (test (eqb (W at) 86) (λ c. rw c) (λ c. rw c (test (eqb (W at) 77) (λ d. rw d) (λ d. false-true (sym (rw (a, b, c, d)) ∙ h))))))))
 
   -- where some may
@@ -170,8 +170,8 @@ module _ (code : List ℕ) (words : ℕ) (lent : Lent code words) where
     if-is d at =
         into-part W list′ (paper.expr W (at + 1)) _ (places.condition W (suc d)) (expression-is W (at + 1))
         (λ x. test (eqb (W (x .1)) 78)
-          (λ t. rw (t, ne-eqb (suc d) 0 (λ z. omega arith)) (then-is at (x .0) (x .1)))
-          (λ t. rw t (ends-so second (statements.simpleStatement W (x .1)) _ (simple-is W (x .1)) ∙ to-end code words lent list′ weak (places.simple W (x .1)))))
+        (λ t. rw (t, ne-eqb (suc d) 0 (λ z. omega arith)) (then-is at (x .0) (x .1)))
+        (λ t. rw t (ends-so second (statements.simpleStatement W (x .1)) _ (simple-is W (x .1)) ∙ to-end code words lent list′ weak (places.simple W (x .1)))))
 
     for-part : (at : ℕ) → forget (statements.forStatement W list at) ≡ places.resume W list′ (places.forHead W (at + 1) ▹ part.Inside 43)
     for-part at = for-is W list list′ same at ∙ into-list code words lent list′ weak (places.forHead W (at + 1)) 43 (places.word W 43) (λ n. closing code words lent list′ weak 43 (λ z. omega arith) (λ z. omega arith) (list′ n))

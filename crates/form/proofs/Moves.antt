@@ -211,7 +211,7 @@ module _ (W : ℕ → ℕ) where
     cases-on at =
         turns-on (casesTurn W list)
         (λ again g n. either (eqb (W n) 35) (on (on (on (sooner n (omega arith) (expressions-on (n + 1))) (strictly (word-on W 10))) list-on) g)
-          (on (default-on n) (strictly (word-on W 49)))) 8193 at
+        (on (default-on n) (strictly (word-on W 49)))) 8193 at
 
     ending-on : (c at : ℕ) → Beyond at (ending W list c at)
     unfolding ending
@@ -232,7 +232,7 @@ module _ (W : ℕ → ℕ) where
   list-on (suc d) at =
       turns-on (listTurn W (λ n. resume W (listBelow W d) (opened W d n)))
       (λ again g n. either (startsCompound (W n)) (on (sooner n (omega arith) (resume-on (listBelow W d) (list-on d) (suc n) (opened W d n) (opened-on d n))) g)
-        (either (startsSimple (W n)) (on (sooner n (omega arith) (simple-on n)) g) (ends n n (omega arith)))) 8193 at
+      (either (startsSimple (W n)) (on (sooner n (omega arith) (simple-on n)) g) (ends n n (omega arith)))) 8193 at
 
   pub compound-on : (d at : ℕ) → Beyond (suc at) (compound W d at)
   unfolding compound

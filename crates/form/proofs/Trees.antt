@@ -112,10 +112,10 @@ module _ (W : ℕ → ℕ) where
     operand-is at =
         test (eqb (W at) 6)
         (λ t. rw (t, ne-eqb (W at) 1 (λ z. omega (arith, eqb-true (W at) 6 t)))
-          (then-0 second (inner (at + 1)) _ _ (same (at + 1)) (λ x. ends-so itself (paper.expect W 7 (x .1)) _ (word-is 7 (x .1)))))
+        (then-0 second (inner (at + 1)) _ _ (same (at + 1)) (λ x. ends-so itself (paper.expect W 7 (x .1)) _ (word-is 7 (x .1)))))
         (λ t. rw t (choice (eqb (W at) 1) _ _
-          (choice (eqb (W (at + 1)) 8) _ _ (then-0 second (inner (at + 2)) _ _ (same (at + 2)) (λ x. ends-so itself (paper.expect W 9 (x .1)) _ (word-is 9 (x .1)))) refl)
-          (choice (isLiteral (W at)) _ _ refl refl)))
+        (choice (eqb (W (at + 1)) 8) _ _ (then-0 second (inner (at + 2)) _ _ (same (at + 2)) (λ x. ends-so itself (paper.expect W 9 (x .1)) _ (word-is 9 (x .1)))) refl)
+        (choice (isLiteral (W at)) _ _ refl refl)))
 
     chain-is : (j : ℕ) (sub : Parser Expr) (sub′ : ℕ → Read) → Same sub sub′ → (p : ℕ) (e : Expr) → Same (paper.chain W p j sub e) (turns (places.chainTurn W j sub′) p)
     unfolding paper.chain turns places.chainTurn place
@@ -123,8 +123,8 @@ module _ (W : ℕ → ℕ) where
     chain-is j sub sub′ s (suc p) e at =
         test (eqb (levelOf (W at)) j)
         (λ t. rw (t, paper.chain) (test (eqb j 3)
-          (λ u. rw u (ends-so second (sub (at + 1)) _ (s (at + 1))))
-          (λ u. rw u (then-0 second (sub (at + 1)) _ _ (s (at + 1)) (λ x. chain-is j sub sub′ s p _ (x .1))))))
+        (λ u. rw u (ends-so second (sub (at + 1)) _ (s (at + 1))))
+        (λ u. rw u (then-0 second (sub (at + 1)) _ _ (s (at + 1)) (λ x. chain-is j sub sub′ s p _ (x .1))))))
         (λ t. rw (t, paper.chain))
 
     prefixed-is : (j : ℕ) (sub : Parser Expr) (sub′ : ℕ → Read) → Same sub sub′ → Same (paper.prefixed W j sub) (places.prefixed W j sub′)
@@ -158,8 +158,8 @@ module _ (W : ℕ → ℕ) where
     separated-turns (suc p) at =
         then-0 second (one at) _ (places.afterOne W (turns (places.separatedTurn W one′) p)) (same at)
         (λ x. test (eqb (W (x .1)) 5)
-          (λ t. rw t (ends-so second (paper.separated W p one (x .1 + 1)) _ (separated-turns p (x .1 + 1))))
-          (λ t. rw t))
+        (λ t. rw t (ends-so second (paper.separated W p one (x .1 + 1)) _ (separated-turns p (x .1 + 1))))
+        (λ t. rw t))
 
     pub separated-is : Same (paper.separated W 8193 one) (places.separated W one′)
     unfolding places.separated
@@ -196,8 +196,8 @@ module _ (W : ℕ → ℕ) where
   target-is at =
       test (eqb (W at) 1)
       (λ t. rw (t, statements.target) (test (eqb (W (at + 1)) 8)
-        (λ u. rw u (then-0 second (paper.exprIn W 16 (at + 2)) _ _ (nested-is 16 (at + 2)) (λ x. ends-so itself (paper.expect W 9 (x .1)) _ (word-is 9 (x .1)))))
-        (λ u. rw u)))
+      (λ u. rw u (then-0 second (paper.exprIn W 16 (at + 2)) _ _ (nested-is 16 (at + 2)) (λ x. ends-so itself (paper.expect W 9 (x .1)) _ (word-is 9 (x .1)))))
+      (λ u. rw u)))
       (λ t. rw (t, statements.target))
 
   right-is : (t : Target) → Same (statements.rightSide W t) (places.rightSide W)
@@ -205,8 +205,8 @@ module _ (W : ℕ → ℕ) where
   right-is t at =
       test (eqb (W at) 1)
       (λ u. rw u (test (eqb (W (at + 1)) 6)
-        (λ v. rw v (then-0 second (paper.arguments W 7 (at + 2)) _ _ (arguments-is 7 (at + 2)) (λ x. ends-so itself (paper.expect W 7 (x .1)) _ (word-is 7 (x .1)))))
-        (λ v. rw v (ends-so second (paper.expr W at) _ (expression-is at)))))
+      (λ v. rw v (then-0 second (paper.arguments W 7 (at + 2)) _ _ (arguments-is 7 (at + 2)) (λ x. ends-so itself (paper.expect W 7 (x .1)) _ (word-is 7 (x .1)))))
+      (λ v. rw v (ends-so second (paper.expr W at) _ (expression-is at)))))
       (λ u. rw u (ends-so second (paper.expr W at) _ (expression-is at)))
 
   assignment-is : (at : ℕ) → forget (statements.assignment W at) ≡ (places.target W at ▸ places.word W 11 ▸ places.rightSide W)
@@ -225,15 +225,15 @@ module _ (W : ℕ → ℕ) where
       test (eqb (W (at + 1)) 11)
       (λ t. rw t (assignment-is at ∙ assigned at h (eqb-true (W (at + 1)) 11 t)))
       (λ t. rw t (test (eqb (W (at + 1)) 8)
-        (λ u. rw u (assignment-is at))
-        (λ u. rw u (ends-so second (paper.arguments W 4 (at + 1)) _ (arguments-is 4 (at + 1))))))
+      (λ u. rw u (assignment-is at))
+      (λ u. rw u (ends-so second (paper.arguments W 4 (at + 1)) _ (arguments-is 4 (at + 1))))))
 
   number-is : Same (statements.written W) (places.number W)
   unfolding statements.written places.number place
   number-is at =
       test (eqb (W at) 21)
       (λ t. rw (t, statements.written) (then-1 itself (paper.expect W 89 (at + 1)) _ _ _ (word-is 89 (at + 1))
-        (λ n. then-0 itself (paper.expect W 11 n) _ _ (word-is 11 n) (λ m. ends-so second (paper.expr W m) _ (expression-is m)))))
+      (λ n. then-0 itself (paper.expect W 11 n) _ _ (word-is 11 n) (λ m. ends-so second (paper.expr W m) _ (expression-is m)))))
       (λ t. rw (t, statements.written))
 
   write-is : (at : ℕ) → forget (statements.tpWrite W at) ≡ places.writing W (at + 1)

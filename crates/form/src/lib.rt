@@ -1,22 +1,15 @@
 // The checker's second pass: whether the words of a text form a module, read by their sorts from the first on. What is refused first is answered, by its
 // number and the index of its word: 8, a word that no well-formed module could have there, or 9, nesting 17.
 use sorts::*;
-
 ghost use mathlib.Core.Path.{_≡_};
-
 ghost use Prim.Native.Nat.{suc, _<_};
-
 ghost use Rattle.paper.specs.Expressions.{levelOf, startsData, startsRoutine, startsSimple};
-
 ghost use Rattle.form.specs.Places.{Lent, sortsIn, _▸_, _▹_, word, typeWord, expressionIn, expression, expressions, arguments, optional};
-
 ghost use Rattle.form.specs.Places.{target, rightSide, startedByName, writing, wanting, simpleWord, simple, stepPart, forHead};
-
 ghost use Rattle.form.specs.Places.{startsCompound, armEnd, caseEnd, listEnd, ifHead, testHead, opened, compound, listBelow};
-
 ghost use Rattle.form.specs.Places.{content, declaration, declarations, parameters, errorPart, routineFrom, routine, routines};
-
 ghost use Rattle.form.specs.Places.{operand, behindNot, behindSign};
+ghost use Rattle.form.specs.Judged.{Judged};
 
 // Refusals.
 const FORM: u32 = 8;
@@ -337,7 +330,9 @@ fn written(code: &[u8], words: usize, at: usize) -> Read
     if sort(code, words, n) != BACKSLASH {
         return r;
     }
-    expect(code, words, n + 1, NUM).word(code, words, BECOMES).expression(code, words)
+    expect(code, words, n + 1, NUM)
+        .word(code, words, BECOMES)
+        .expression(code, words)
 }
 
 // What TPReadNum reads into, and its text.
@@ -345,7 +340,9 @@ fn wanted(code: &[u8], words: usize, at: usize) -> Read
     requires { ⌜ Lent (now code) words ⌝ }
     ensures { λ r. ⌜ r ≡ wanting (sortsIn (now (code .entry)) words) at ⌝ }
 {
-    target(code, words, at).word(code, words, COMMA).word(code, words, STRING)
+    target(code, words, at)
+        .word(code, words, COMMA)
+        .word(code, words, STRING)
 }
 
 // A simple statement up to its semicolon.
@@ -432,7 +429,9 @@ fn arm_end(code: &[u8], words: usize, at: usize) -> Part
 {
     let s = sort(code, words, at);
     if s == ELSEIF {
-        return expression(code, words, at + 1, NESTINGS).word(code, words, THEN).inside(ELSEIF);
+        return expression(code, words, at + 1, NESTINGS)
+            .word(code, words, THEN)
+            .inside(ELSEIF);
     }
     if s == ELSE {
         return Part::Inside(ENDIF, at + 1);
@@ -447,7 +446,9 @@ fn case_end(code: &[u8], words: usize, at: usize) -> Part
 {
     let s = sort(code, words, at);
     if s == CASE {
-        return expressions(code, words, at + 1).word(code, words, COLON).inside(CASE);
+        return expressions(code, words, at + 1)
+            .word(code, words, COLON)
+            .inside(CASE);
     }
     if s == DEFAULT {
         return expect(code, words, at + 1, COLON).inside(ENDTEST);
@@ -529,7 +530,9 @@ fn open(code: &[u8], words: usize, at: usize, deeper: usize) -> Part
         return for_head(code, words, at + 1).inside(ENDFOR);
     }
     if s == WHILE {
-        return expression(code, words, at + 1, NESTINGS).word(code, words, DO).inside(ENDWHILE);
+        return expression(code, words, at + 1, NESTINGS)
+            .word(code, words, DO)
+            .inside(ENDWHILE);
     }
     test_head(code, words, at + 1)
 }
@@ -687,7 +690,10 @@ fn declaration(code: &[u8], words: usize, at: usize, s: u32) -> Read
     requires { ⌜ Lent (now code) words ⌝ }
     ensures { λ r. ⌜ r ≡ declaration (sortsIn (now (code .entry)) words) s at ⌝ }
 {
-    expect_type(code, words, at).word(code, words, NAME).content(code, words, s).word(code, words, SEMICOLON)
+    expect_type(code, words, at)
+        .word(code, words, NAME)
+        .content(code, words, s)
+        .word(code, words, SEMICOLON)
 }
 
 // ---- routines
@@ -797,4 +803,26 @@ fn routine(code: &[u8], words: usize, at: usize, s: u32) -> Read
         return Read::Upto(at).routine(code, words, ENDPROC);
     }
     expect_type(code, words, at).routine(code, words, ENDFUNC)
+}
+
+// ---- the module
+
+pub fn form(code: &[u8], words: usize) -> Verdict
+    requires { ⌜ Lent (now code) words ⌝ }
+    ensures { λ r. ⌜ Judged (now (code .entry)) words r ⌝ }
+{
+    let r = expect(code, words, 0, MODULE)
+        .word(code, words, NAME)
+        .declarations(code, words)
+        .routines(code, words)
+        .word(code, words, ENDMODULE);
+    match r {
+        Read::Refused(number, at) => Verdict::Refused(number, at),
+        Read::Upto(n) => {
+            if sort(code, words, n) == NOTHING {
+                return Verdict::Formed;
+            }
+            Verdict::Refused(FORM, n)
+        }
+    }
 }

@@ -79,7 +79,7 @@ compound-sub-list : (t : ℕ) → compound-lts.Need-sub-list (calls-compound t) 
 compound-sub-list t c = search (needs, deep)
 
 compound-list-requires : (t : ℕ) → compound-lts.Need-list-requires (calls-compound t) (compound-at t) compound.Post compound-Inv-loop compound-μ-loop
-compound-list-requires t c κs = 
+compound-list-requires t c κs =
     let h : 0 < c .before .before .before .before .before .before .args .deeper = search (needs, deep) in
     (omega arith, search needs)
 
@@ -102,7 +102,7 @@ compound-loop-again : (t : ℕ) → compound-lts.Need-loop-again (calls-compound
 compound-loop-again t c = search (needs, list-left)
 
 abbrev list-Inv-loop : list-lts.InvT-loop
-list-Inv-loop code words at deeper n₀ n = 
+list-Inv-loop code words at deeper n₀ n =
     listBelow (sortsIn code words) (suc deeper) at ≡ listBelow (sortsIn code words) (suc deeper) n
 
 abbrev list-μ-loop : list-lts.MeasureT-loop

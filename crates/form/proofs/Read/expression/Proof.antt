@@ -10,14 +10,12 @@ enum-told : tie.Need-enum-told
 enum-told c = search needs
 
 returns : tie.Need-returns
-
 returns c = search (needs, branches)
 
 expression-requires : tie.Need-expression-requires
 expression-requires c κs = search needs
 
 returns-2 : tie.Need-returns-2
-
 returns-2 c = search (needs, branches)
 
 pub expression-spec : {M : Type 1} → statement M
