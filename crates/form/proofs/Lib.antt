@@ -1,0 +1,10 @@
+pub mod Reading
+pub mod Beyond
+pub mod Flat
+pub mod Loops
+pub mod Moves
+pub mod Compounds
+pub mod Routines
+pub mod Trees
+pub mod Modules
+pub mod Whole
