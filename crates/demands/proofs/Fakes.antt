@@ -2,9 +2,9 @@
 -- the fake does not.
 use mathlib.Core.Path.{_≡_, refl, sym, ap, _∙_, subst, fun-ext}
 use mathlib.Core.Bool.{Bool, true, false}
-use mathlib.Core.List.{List, [], _∷_, _++_}
+use mathlib.Core.List.{List, [], _∷_, _++_, map}
 use mathlib.Core.Option.{none, some}
-use Prim.Native.Nat.{ℕ, zero, suc}
+use Prim.Native.Nat.{ℕ}
 use native.Mathlib.Omega.{arith}
 use lib.ListN.{length, getD, drop}
 use lib.IntN.{ℤ, pos, natAbs}
@@ -16,7 +16,7 @@ use Rattle.paper.specs.Computing.{computed}
 use Rattle.paper.specs.Examples.{fields, lines, moduleOf}
 use Rattle.paper.specs.Answer.{Accepted, Verdict, refusedBy, accepted, verdict, Result, refusedWith, carriedOut, ranTo, tooSmall, badDepth, result, Lent, Answer, questionOf, storeAfter, answer}
 use Rattle.demands.proofs.Instances.{lent}
-use Rattle.demands.specs.Fakes.{Bench, AnswersAsDefined, withText, withSteps, withInputs, withCount, RefusesEvery, refuser, SameRecord, repeater, TouchesNoOutput, silent, TouchesNoData, idler, firstStepOf, Plain, assigns, tpwrites, BeginsPlain, upToSecond, FakesWhatFollows, closedAfterFirst, skipper, FakesWhatIsRead, returned, pretender, InventsSteps, inventor, HasWhatItShould, ShutOut, Demand2}
+use Rattle.demands.specs.Fakes.{Bench, AnswersAsDefined, withText, withSteps, withInputs, withCount, RefusesEvery, refuser, SameRecord, repeater, TouchesNoOutput, silent, TouchesNoData, idler, firstStepOf, Plain, assigns, tpwrites, BeginsPlain, upToSecond, FakesWhatFollows, closedAfterFirst, skipper, FakesWhatIsRead, returned, pretender, InventsSteps, inventor, HasWhatItShould, Demand2}
 
 -- ---- a plain first statement does the same whatever there is to read
 module _ (P : Program) (d o : ℕ) (i j : List ℤ) where
@@ -188,6 +188,16 @@ steps-differ h =
     let same : uncounted (result (questionOf (withInputs (pos 2 ∷ []) (reading countdown 1)))) ≡ uncounted (result (questionOf (reading countdown 1))) = ap uncounted counts-2 ∙ sym (ap uncounted counts-1) in
     let e : Same 8 6 = h (reading countdown 1) (pos 2 ∷ []) refl (rest-same (reading countdown 1) (pos 2 ∷ []) same) in
     omega arith
+
+-- ---- two of the benches do run main's first statement
+-- the ending, the steps, and n
+seen : Answer → ℕ × ℕ × ℕ
+seen a = (a .fields .ending, a .fields .steps, natAbs (getD (a .values) 0 (pos 0)))
+
+-- They leave 1 in n, where the second statement would have put 2.
+first-runs : map seen (skipper (reading long 1) ∷ pretender (reading long 1) ∷ []) ≡ (1, 2, 1) ∷ (1, 1, 1) ∷ []
+unfolding computed lent lines moduleOf long reading firstStepOf upToSecond closedAfterFirst skipper returned pretender seen
+first-runs = refl
 
 -- ---- the demand
 -- What the definition has not, no bench has that answers as it does.
