@@ -12,7 +12,7 @@ use Rattle.form.specs.declared.Read.the-variants.{Upto, Refused}
 use Rattle.form.specs.declared.Part.{Part}
 use Rattle.form.specs.declared.Part.the-variants as part
 use Rattle.form.specs.Places.{_▸_, _▹_, turns, word, typeWord, expressionIn, afterOne, separatedTurn, separated, repeatedTurn, repeated, expressions, arguments, optional}
-use Rattle.form.specs.Places.{target, rightSide, startedByName, number, writing, wanting, simpleWord, simple, armEnd, caseEnd, listEnd, stepPart, forHead, condition, ifHead, testHead, opened}
+use Rattle.form.specs.Places.{target, rightSide, assigns, startedByName, number, writing, wanting, simpleWord, simple, armEnd, caseEnd, listEnd, stepPart, forHead, condition, ifHead, testHead, opened}
 use Rattle.form.specs.Places.{elsePart, afterArm, armsTurn, arms, defaultPart, casesTurn, cases, ending, resume, startsCompound, listTurn, listBelow, compound}
 use Rattle.form.specs.Places.{content, declaration, declared, declarations, parameter, parameters, errorPart, routineFrom, routine, routineAt, routines}
 use Rattle.form.proofs.Beyond.{Beyond, refuses, ends, sooner, either, follows, on, strictly, turns-on, word-on, type-on, nested-on}
@@ -109,9 +109,8 @@ module _ (W : ℕ → ℕ) where
   name-on : (at : ℕ) → Beyond (suc at) (startedByName W at)
   unfolding startedByName
   name-on at =
-      either (eqb (W (at + 1)) 11) (sooner (suc at) (omega arith) (right-on (at + 2)))
-      (either (eqb (W (at + 1)) 8) (on (on (target-on at) (strictly (word-on W 11))) (strictly right-on))
-      (sooner (suc at) (omega arith) (arguments-on 4 (at + 1))))
+      either (assigns (W (at + 1))) (on (on (target-on at) (strictly (word-on W 11))) (strictly right-on))
+      (sooner (suc at) (omega arith) (arguments-on 4 (at + 1)))
 
   number-on : (at : ℕ) → Beyond at (number W at)
   unfolding number

@@ -17,7 +17,7 @@ use Rattle.form.specs.declared.Read.{Read}
 use Rattle.form.specs.declared.Read.the-variants.{Upto, Refused}
 use Rattle.form.specs.declared.Part.{Part}
 use Rattle.form.specs.declared.Part.the-variants as part
-use Rattle.form.specs.Places.{sortsIn, _▸_, _▹_, word}
+use Rattle.form.specs.Places.{sortsIn, _▸_, _▹_, word, assigns}
 
 -- ---- answers
 
@@ -98,6 +98,13 @@ module _ (code : List ℕ) (words : ℕ) where
 
   pub sort-no : (at s v : ℕ) → v ≡ sortsIn code words at → (v ≡ s → ⊥) → eqb (sortsIn code words at) s ≡ false
   sort-no at s v e h = ne-eqb (sortsIn code words at) s (λ q. h (e ∙ q))
+
+  -- a function of the sort, in a local
+  pub assigns-yes : (at v : ℕ) (b : Bool) → v ≡ sortsIn code words at → b ≡ assigns v → b ≡ true → assigns (sortsIn code words at) ≡ true
+  assigns-yes at v b e f h = ap assigns (sym e) ∙ sym f ∙ h
+
+  pub assigns-no : (at v : ℕ) (b : Bool) → v ≡ sortsIn code words at → b ≡ assigns v → b ≡ false → assigns (sortsIn code words at) ≡ false
+  assigns-no at v b e f h = ap assigns (sym e) ∙ sym f ∙ h
 
   -- a word is there
   pub within : (at : ℕ) → (sortsIn code words at ≡ 0 → ⊥) → at < words

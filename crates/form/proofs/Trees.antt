@@ -215,18 +215,10 @@ module _ (W : ℕ → ℕ) where
       then-1 second (statements.target W at) _ _ _ (target-is at)
       (λ x. then-0 itself (paper.expect W 11 (x .1)) _ _ (word-is 11 (x .1)) (λ n. right-is (x .0) n))
 
-  assigned : (at : ℕ) → W at ≡ 1 → W (at + 1) ≡ 11 → (places.target W at ▸ places.word W 11 ▸ places.rightSide W) ≡ places.rightSide W (at + 2)
-  unfolding places.target places.word _▸_
-  assigned at h g = let q : at + 1 + 1 ≡ at + 2 = omega arith in rw (h, g) (rw g (ap (places.rightSide W) q))
-
-  name-is : (at : ℕ) → W at ≡ 1 → forget (statements.startedByName W at) ≡ places.startedByName W at
-  unfolding statements.startedByName statements.procedureCall places.startedByName
-  name-is at h =
-      test (eqb (W (at + 1)) 11)
-      (λ t. rw t (assignment-is at ∙ assigned at h (eqb-true (W (at + 1)) 11 t)))
-      (λ t. rw t (test (eqb (W (at + 1)) 8)
-      (λ u. rw u (assignment-is at))
-      (λ u. rw u (ends-so second (paper.arguments W 4 (at + 1)) _ (arguments-is 4 (at + 1))))))
+  name-is : Same (statements.startedByName W) (places.startedByName W)
+  unfolding statements.startedByName statements.procedureCall places.startedByName places.assigns
+  name-is at =
+      choice (eqb (W (at + 1)) 11 || eqb (W (at + 1)) 8) _ _ (assignment-is at) (ends-so second (paper.arguments W 4 (at + 1)) _ (arguments-is 4 (at + 1)))
 
   number-is : Same (statements.written W) (places.number W)
   unfolding statements.written places.number place
@@ -253,14 +245,14 @@ module _ (W : ℕ → ℕ) where
   word-of-is : Same (statements.simpleWord W) (places.simpleWord W)
   unfolding statements.simpleWord places.simpleWord place
   word-of-is at =
-      test (eqb (W at) 1) (λ t. rw t (name-is at (eqb-true (W at) 1 t)))
-      (λ t. rw t (choice (eqb (W at) 74) _ _ (optional-is _ at)
+      choice (eqb (W at) 1) _ _ (name-is at)
+      (choice (eqb (W at) 74) _ _ (optional-is _ at)
       (choice (eqb (W at) 70) _ _ (optional-is _ at)
       (choice (eqb (W at) 53) _ _ refl
       (choice (eqb (W at) 73) _ _ refl
       (choice (eqb (W at) 82) _ _ refl
       (choice (eqb (W at) 91) _ _ (write-is at)
-      (choice (eqb (W at) 92) _ _ (read-is at) refl))))))))
+      (choice (eqb (W at) 92) _ _ (read-is at) refl)))))))
 
   pub simple-is : Same (statements.simpleStatement W) (places.simple W)
   unfolding statements.simpleStatement places.simple

@@ -36,6 +36,10 @@ unfoldable pub _▹_ : Read → (ℕ → Part) → Part
 Upto n ▹ f = f n
 Refused k i ▹ f = part.Refused k i
 
+-- The sorts behind a name that make it a target.
+unfoldable pub assigns : (sort : ℕ) → Bool
+assigns s = eqb s becomes || eqb s openBrace
+
 unfoldable pub startsCompound : (sort : ℕ) → Bool
 startsCompound s = eqb s IF || eqb s FOR || eqb s WHILE || eqb s TEST
 
@@ -118,9 +122,7 @@ module _ (W : ℕ → ℕ) where
 
   unfoldable pub startedByName : ℕ → Read
   startedByName at =
-      if eqb (W (at + 1)) becomes then rightSide (at + 2)
-      else if eqb (W (at + 1)) openBrace then target at ▸ word becomes ▸ rightSide
-      else arguments semicolon (at + 1)
+      if assigns (W (at + 1)) then target at ▸ word becomes ▸ rightSide else arguments semicolon (at + 1)
 
   unfoldable pub number : ℕ → Read
   number at = if eqb (W at) backslash then word NUM (at + 1) ▸ word becomes ▸ expression else Upto at

@@ -5,7 +5,7 @@ ghost use mathlib.Core.Path.{_≡_};
 ghost use Prim.Native.Nat.{suc, _<_};
 ghost use Rattle.paper.specs.Expressions.{levelOf, startsData, startsRoutine, startsSimple};
 ghost use Rattle.form.specs.Places.{Lent, sortsIn, _▸_, _▹_, word, typeWord, expressionIn, expression, expressions, arguments, optional};
-ghost use Rattle.form.specs.Places.{target, rightSide, startedByName, writing, wanting, simpleWord, simple, stepPart, forHead};
+ghost use Rattle.form.specs.Places.{target, rightSide, assigns, startedByName, writing, wanting, simpleWord, simple, stepPart, forHead};
 ghost use Rattle.form.specs.Places.{startsCompound, armEnd, caseEnd, listEnd, ifHead, testHead, opened, compound, listBelow};
 ghost use Rattle.form.specs.Places.{content, declaration, declarations, parameters, errorPart, routineFrom, routine, routines};
 ghost use Rattle.form.specs.Places.{operand, behindNot, behindSign};
@@ -288,23 +288,29 @@ fn right_side(code: &[u8], words: usize, at: usize) -> Read
     arguments(code, words, at + 2, CLOSE_PAREN).word(code, words, CLOSE_PAREN)
 }
 
+// Whether that sort behind a name makes it a target.
+fn assigns(s: u32) -> bool
+    ensures { λ r. ⌜ r ≡ assigns s ⌝ }
+{
+    if s == BECOMES {
+        return true;
+    }
+    s == OPEN_BRACE
+}
+
 // What a name starts: an assignment or a procedure's call. `at` is the place of the name.
 fn by_name(code: &[u8], words: usize, at: usize) -> Read
     requires { ⌜ Lent (now code) words × (at < words) ⌝ }
     ensures { λ r. ⌜ r ≡ startedByName (sortsIn (now (code .entry)) words) at ⌝ }
 {
-    let s = sort(code, words, at + 1);
-    if s == BECOMES {
-        return right_side(code, words, at + 2);
+    if assigns(sort(code, words, at + 1)) {
+        let r = target(code, words, at).word(code, words, BECOMES);
+        let Read::Upto(n) = r else {
+            return r;
+        };
+        return right_side(code, words, n);
     }
-    if s != OPEN_BRACE {
-        return arguments(code, words, at + 1, SEMICOLON);
-    }
-    let r = target(code, words, at).word(code, words, BECOMES);
-    let Read::Upto(n) = r else {
-        return r;
-    };
-    right_side(code, words, n)
+    arguments(code, words, at + 1, SEMICOLON)
 }
 
 // An expression, or none where a semicolon follows at once.

@@ -1,5 +1,5 @@
 use borrow.Author.Needs.{needs}
-use Rattle.form.proofs.Reading.{branches}
+use Rattle.form.proofs.Reading.{branches, assigns-yes, assigns-no}
 use Rattle.form.specs.Places.{startedByName}
 use Rattle.form.proofs.by_name.Statement.{statement}
 use Rattle.form.proofs.by_name.Tie as tie
@@ -10,25 +10,8 @@ add-sort c = search needs
 sort-requires : tie.Need-sort-requires
 sort-requires c κs = search needs
 
-add-right-side : tie.Need-add-right-side
-add-right-side c = search needs
-
-right-side-requires : tie.Need-right-side-requires
-right-side-requires c κs = search needs
-
-returns : tie.Need-returns
-unfolding startedByName
-returns c = search (needs, branches)
-
-add-arguments : tie.Need-add-arguments
-add-arguments c = search needs
-
-arguments-requires : tie.Need-arguments-requires
-arguments-requires c κs = search needs
-
-returns-2 : tie.Need-returns-2
-unfolding startedByName
-returns-2 c = search (needs, branches)
+assigns-requires : tie.Need-assigns-requires
+assigns-requires c κs = search needs
 
 target-requires : tie.Need-target-requires
 target-requires c κs = search needs
@@ -42,33 +25,28 @@ enum-known-r c = search needs
 enum-told : tie.Need-enum-told
 enum-told c = search needs
 
+returns : tie.Need-returns
+unfolding startedByName
+returns c = search (needs, branches, assigns-yes, assigns-no)
+
+right-side-requires : tie.Need-right-side-requires
+right-side-requires c κs = search needs
+
+returns-2 : tie.Need-returns-2
+unfolding startedByName
+returns-2 c = search (needs, branches, assigns-yes, assigns-no)
+
+add-arguments : tie.Need-add-arguments
+add-arguments c = search needs
+
+arguments-requires : tie.Need-arguments-requires
+arguments-requires c κs = search needs
+
 returns-3 : tie.Need-returns-3
 unfolding startedByName
-returns-3 c = search (needs, branches)
-
-right-side-requires-2 : tie.Need-right-side-requires-2
-right-side-requires-2 c κs = search needs
-
-returns-4 : tie.Need-returns-4
-unfolding startedByName
-returns-4 c = search (needs, branches)
+returns-3 c = search (needs, branches, assigns-yes, assigns-no)
 
 pub by-name-spec : {M : Type 1} → statement M
 by-name-spec =
     tie.close
-    (tie.spec
-    add-sort
-    sort-requires
-    add-right-side
-    right-side-requires
-    returns
-    add-arguments
-    arguments-requires
-    returns-2
-    target-requires
-    word-requires
-    enum-known-r
-    enum-told
-    returns-3
-    right-side-requires-2
-    returns-4)
+    (tie.spec add-sort sort-requires assigns-requires target-requires word-requires enum-known-r enum-told returns right-side-requires returns-2 add-arguments arguments-requires returns-3)
