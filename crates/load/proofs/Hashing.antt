@@ -23,7 +23,7 @@ pub mixes-start : (l : List ℕ) (h : ℕ) → 4 ≤ length l → h ≡ fourOf l
 unfolding mixed
 mixes-start l h g e s = record { is = e; small = s; most = omega arith }
 
-pub mixes-on : (l : List ℕ) (h k f : ℕ) → Mixes l h k → k * 4 + 4 < length l → f ≡ fourOf l (k * 4) → Mixes l ((h * 1021 + f) % 1048576) (k + 1)
+pub mixes-on : (l : List ℕ) (h k f : ℕ) → Mixes l h k → k * 4 + 4 < length l → f ≡ fourOf l (k * 4) → Mixes l ((h * 73 + f) % 1048576) (k + 1)
 unfolding mixed
 mixes-on l h k f m g e = record { is = rw (m .is, e, add-one k); small = omega arith; most = omega arith }
 

@@ -46,9 +46,6 @@ pub record Agrees (a b : List ℕ) (i : ℕ) : Type 0 where
 pub lengths-differ : (a b : List ℕ) → (length a ≡ length b → ⊥) → false ≡ sameNames a b
 lengths-differ a b d = sym (texts-differ (map folded a) (map folded b) (λ e. d (sym (length-map a folded) ∙ ap length e ∙ length-map b folded)))
 
-pub agrees-start : (a b : List ℕ) → length a ≡ length b → Agrees a b 0
-agrees-start a b h = record { sizes = h; left = refl }
-
 module _ (a b : List ℕ) (i : ℕ) (at : Agrees a b i) where
   pub agrees-end : length a ≤ i → true ≡ sameNames a b
   unfolding equalTexts

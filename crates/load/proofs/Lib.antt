@@ -1,4 +1,5 @@
 pub mod Letters
+pub mod Fronts
 pub mod Hashing
 pub mod Protected
 pub mod Bounds

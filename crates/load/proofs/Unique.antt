@@ -3,29 +3,18 @@ use mathlib.Core.Path.{_≡_, sym, ap, ap₂, subst, _∙_}
 use mathlib.Core.List.{List, _++_}
 use Prim.Native.Nat.{ℕ, _+_, _-_, _*_, _/_, _<_, _≤_}
 use native.Mathlib.Omega.{arith}
-use lib.ListN.{length, getD, take, drop, length-take, take-append-drop, List·getD-eq-default}
-use lib.Seq.{ext-getD, getD-take, length-take-le, take-all}
+use lib.ListN.{length, getD, take, drop, take-append-drop}
+use lib.Seq.{ext-getD, getD-take, length-take-le}
 use Rattle.laws.proofs.Tests.{by-less}
 use Rattle.cells.specs.Words.{wordsOf, bytesOf}
-use Rattle.cells.proofs.Laws.{Bytes, length-words, bytes-words, words-take}
+use Rattle.cells.proofs.Laws.{Bytes, length-words}
 use Rattle.code.specs.Cells.{headAt, placeAt}
 use Rattle.names.specs.Meanings.{firstMeaning}
 use Rattle.names.specs.Promises.{storeBytes}
 use Rattle.load.specs.declared.Loaded.{Loaded}
 use Rattle.load.specs.Layout.{wordsIn}
 use Rattle.load.specs.Loads.{Ready, Loads}
-
--- bytes up to a place, by their words
-front-bytes : (n : ℕ) (l : List ℕ) → Bytes l → n * 4 ≤ length l → take (n * 4) l ≡ bytesOf (take n (wordsOf l))
-front-bytes n l b h =
-    let size : length (take (n * 4) l) ≡ n * 4 = length-take-le (n * 4) l h in
-    sym (take-all (length (wordsOf (take (n * 4) l)) * 4) (take (n * 4) l) (omega (arith, length-words (take (n * 4) l))))
-    ∙ sym (bytes-words (take (n * 4) l) (few n l b)) ∙ ap bytesOf (words-take n l)
-  where
-    few : (n : ℕ) (l : List ℕ) → Bytes l → Bytes (take (n * 4) l)
-    few n l b i =
-        by-less i (n * 4) (λ h. rw (getD-take (n * 4) l i 0 h) (b i))
-        (λ h. let short : length (take (n * 4) l) ≤ i = simp length-take (omega arith) in rw (List·getD-eq-default (take (n * 4) l) 0 short) (omega arith))
+use Rattle.load.proofs.Fronts.{front-bytes}
 
 -- two stores of the same words in front, and the same bytes behind
 same-store : (n : ℕ) (v w : List ℕ) → Bytes v → Bytes w → length v ≡ length w → n * 4 ≤ length v → ((k : ℕ) → k < n → getD (wordsOf v) k 0 ≡ getD (wordsOf w) k 0) → drop (n * 4) v ≡ drop (n * 4) w → v ≡ w

@@ -23,7 +23,7 @@ fewOf l = lowAt l 0 + 32 * lowAt l (length l / 2) + 1024 * lowAt l (length l - 1
 -- the last four letters, and then so many times four from the front
 unfoldable pub mixed : List ℕ → (times : ℕ) → ℕ
 mixed l zero = fourOf l (length l - 4)
-mixed l (suc k) = (mixed l k * 1021 + fourOf l (k * 4)) % 1048576
+mixed l (suc k) = (mixed l k * 73 + fourOf l (k * 4)) % 1048576
 
 abbrev pub manyOf : List ℕ → ℕ
 manyOf l = mixed l ((length l - 1) / 4)

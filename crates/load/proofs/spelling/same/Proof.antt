@@ -1,7 +1,9 @@
 -- `load::spelling::same` meets its contract. The invariant: both agree so far.
+use native.Mathlib.Omega.{arith}
 use Prim.Native.Nat.{_-_}
 use lib.ListN.{length}
-use Rattle.load.proofs.Letters.{Agrees, lengths-differ, agrees-start, agrees-end, agrees-not, agrees-on}
+use Rattle.load.proofs.Letters.{Agrees, lengths-differ, agrees-end, agrees-not, agrees-on}
+use Rattle.load.proofs.Fronts.{agrees-fours}
 use borrow.Author.Needs.{needs}
 use Rattle.load.proofs.spelling.same.Statement.{statement}
 use Rattle.load.proofs.spelling.same.Tie as tie
@@ -15,8 +17,17 @@ abbrev μ-loop : tie.MeasureT-loop
 returns : tie.Need-returns Inv-loop μ-loop
 returns c = search (needs, lengths-differ)
 
+fours-requires : tie.Need-fours-requires Inv-loop μ-loop
+fours-requires c κs = search needs
+
+mul-i : tie.Need-mul-i Inv-loop μ-loop
+mul-i c = search needs
+
 loop-holds : tie.Need-loop-holds Inv-loop μ-loop
-loop-holds c = search (needs, agrees-start)
+loop-holds c =
+    let known = c .before .before in
+    let s = known .before .before in
+    agrees-fours (s .args .a .now) (s .args .b .now) (c .fours .result) (λ i. omega (arith, known .before .shared-slice-known .given i)) (λ i. omega (arith, known .shared-slice-known2 .given i)) (c .before .if1 .left) (c .fours .ensures)
 
 shared-slice-read-alike : tie.Need-shared-slice-read-alike Inv-loop μ-loop
 shared-slice-read-alike c = search needs
@@ -49,6 +60,8 @@ same-spec =
     Inv-loop
     μ-loop
     returns
+    fours-requires
+    mul-i
     loop-holds
     shared-slice-read-alike
     shared-slice-read-alike-2
