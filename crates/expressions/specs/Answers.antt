@@ -1,0 +1,68 @@
+-- What the check of an expression answers, and what it asks of the two stores.
+use mathlib.Core.Path.{_≡_}
+use mathlib.Core.Bool.{Bool, true, false}
+use mathlib.Core.List.{List, [], _∷_}
+use mathlib.Core.Option.{some}
+use Prim.Native.Nat.{ℕ, _+_, _*_, _<_, _≤_}
+use lib.ListN.{length, take, drop}
+use Rattle.paper.specs.Trees.{Expr}
+use Rattle.paper.specs.Expressions.{got, disjunctions, level, levelOf, exprIn}
+use Rattle.paper.specs.Names.{DataType, aNum, aBool, sortIn}
+use Rattle.paper.specs.Types.{Fault, judge}
+use Rattle.paper.specs.Types as types
+use Rattle.cells.specs.Words.{wordsOf}
+use Rattle.code.specs.Cells.{placeAt}
+use Rattle.code.specs.Spans.{termIn}
+use Rattle.expressions.specs.declared.Judged.{Judged}
+use Rattle.expressions.specs.declared.Judged.the-variants.{Typed, Faulty}
+use Rattle.expressions.specs.Known.{Loaded, Known}
+
+-- ---- the code store
+-- Nothing but the words from `from` up to `to` has changed, and no word's place.
+pub record Kept (before after : List ℕ) (from to : ℕ) : Type 0 where
+  pub below : take (from * 8) after ≡ take (from * 8) before
+  pub above : drop (to * 8) after ≡ drop (to * 8) before
+  pub long : length after ≡ length before
+  pub places : (i : ℕ) → placeAt (wordsOf after) i ≡ placeAt (wordsOf before) i
+
+-- ---- answers
+unfoldable pub typeIf : (bool : Bool) → DataType
+typeIf true = aBool
+typeIf false = aNum
+
+-- No rule is broken: the type, the word after it, and its term that stands in the cells.
+pub record Sound (m n : ℕ) (C : List ℕ) (at to : ℕ) (j : types.Judged) (bool : Bool) (next : ℕ) : Type 0 where
+  pub none : j .faults ≡ []
+  pub type-is : j .type ≡ typeIf bool
+  pub next-is : next ≡ to
+  pub stands : termIn m n C at to ≡ some (j .term)
+
+-- The rule broken, and its word, are those of the first fault.
+pub record Refused (j : types.Judged) (number word : ℕ) : Type 0 where
+  pub others : List Fault
+  pub faults-are : j .faults ≡ record { number = number; at = word } ∷ others
+
+-- what an answer says of an expression from `at` up to `to` that the paper judges so
+unfoldable pub Says : (m n : ℕ) (C : List ℕ) (at to : ℕ) → types.Judged → Judged → Type 0
+Says m n C at to j (Typed bool next) = Sound m n C at to j bool next
+Says m n C at to j (Faulty number word) = Refused j number word
+
+pub record Judges (m n : ℕ) (before after : List ℕ) (at to : ℕ) (j : types.Judged) (r : Judged) : Type 0 where
+  pub says : Says m n (wordsOf after) at to j r
+  pub kept : Kept before after at to
+
+-- ---- the promise
+-- An expression of operators up to a level stands from `at` up to `to`, and no such operator follows it.
+pub record Stands (code values : List ℕ) (top at : ℕ) : Type 0 where
+  pub known : Known values
+  pub d : ℕ
+  pub e : Expr
+  pub to : ℕ
+  pub tops : top ≤ disjunctions
+  pub is : level (sortIn (known .W)) (exprIn (sortIn (known .W)) d) top at ≡ got (e, to)
+  pub ends : 0 < levelOf (sortIn (known .W) to) → top < levelOf (sortIn (known .W) to)
+  pub loaded : Loaded (known .W) code at to
+
+-- the answer is what the paper judges of it
+pub record Checked (code values after : List ℕ) (only : Bool) (top at : ℕ) (r : Judged) : Type 0 where
+  pub is : (s : Stands code values top at) → Judges (s .known .m) (s .known .n) code after at (s .to) (judge (s .known .W) only (s .known .S) (s .e)) r

@@ -1,0 +1,64 @@
+-- What the check of an expression knows: the words of the text as they were loaded, and what names mean.
+use mathlib.Core.Path.{_≡_}
+use mathlib.Core.List.{List}
+use Prim.Native.Nat.{ℕ, _+_, _*_, _<_, _≤_}
+use lib.Dec.{eqb}
+use lib.ListN.{length}
+use Rattle.paper.specs.Basics.{if_then_else_}
+use Rattle.paper.specs.Sorts.{NAME, NUMBER}
+use Rattle.paper.specs.Words.{Word, wordLimit}
+use Rattle.paper.specs.Terms.{Ref, ofModule, ofRoutine}
+use Rattle.paper.specs.Names.{Meaning, unknown, variable, array, constant, loop, theRoutine, theErrno, errorNumber, Scopes, nth, sortIn, spelled, meaning}
+use Rattle.cells.specs.Words.{wordsOf}
+use Rattle.code.specs.Cells.{firstWindow, headAt}
+use Rattle.names.specs.Numbers.{numberOf, IsName}
+use Rattle.names.specs.Meanings.{Means}
+use Rattle.names.specs.Promises.{storeBytes, numberLimit}
+
+-- ---- words
+-- A word's head as loading writes it: its sort, and above it what a number is, or a name's number and length.
+unfoldable pub headOf : List Word → ℕ → ℕ
+headOf W i =
+    if eqb (sortIn W i) NUMBER then NUMBER + 256 * nth W i .value
+    else if eqb (sortIn W i) NAME then NAME + 256 * (numberOf W i + numberLimit * length (nth W i .covers))
+    else sortIn W i
+
+-- The words from `at` up to `to`, and the word `to`, are as they were loaded.
+pub record Loaded (W : List Word) (code : List ℕ) (at to : ℕ) : Type 0 where
+  pub heads : (i : ℕ) → at ≤ i → i ≤ to → headAt (wordsOf code) i ≡ headOf W i
+  pub last : to < wordLimit
+  pub room : to * 8 + 8 ≤ length code
+
+-- ---- meanings
+-- the largest number of a text
+abbrev pub largest : ℕ
+largest = 8388608
+
+-- So many words from a word on are words of the module, which has m, or of the routine, which has n.
+unfoldable pub InRoom : (m n : ℕ) → Ref → (size : ℕ) → Type 0
+InRoom m n (ofModule k) size = k + size ≤ m
+InRoom m n (ofRoutine k) size = k + size ≤ n
+
+unfoldable pub Within : (m n : ℕ) → Meaning → Type 0
+Within m n unknown = Unit {0}
+Within m n (variable t r) = InRoom m n r 1
+Within m n (array t r size) = InRoom m n r size
+Within m n (constant t r) = InRoom m n r 1
+Within m n (loop r) = InRoom m n r 1
+Within m n (theRoutine k) = Unit {0}
+Within m n theErrno = Unit {0}
+Within m n (errorNumber k) = k ≤ largest
+
+-- The text's words, what its names mean by the table in the value store, and how many words of data there are.
+pub record Known (values : List ℕ) : Type 0 where
+  pub W : List Word
+  pub S : Scopes
+  -- the number of the routine that begins at a word
+  pub routine : ℕ → ℕ
+  pub m : ℕ
+  pub n : ℕ
+  pub most : m ≤ firstWindow
+  pub table : storeBytes ≤ length values
+  pub means : Means routine W S (wordsOf values)
+  pub within : (i : ℕ) → IsName W i → Within m n (meaning S (spelled W i))
+  pub small : (i : ℕ) → sortIn W i ≡ NUMBER → nth W i .value ≤ largest
