@@ -33,6 +33,21 @@ struct scan {
 static struct scan refused(uint32_t number, size_t after) { return (struct scan){number, 0, after}; }
 static struct scan word(uint32_t kind, size_t length) { return (struct scan){0, kind, length}; }
 
+#ifdef BY_KEYS
+/* The key of the letters, which are counted in the same loop; what follows them makes the name no reserved word. */
+static struct scan scan_name(const uint8_t *t, size_t n) {
+    size_t letters = 1;
+    uint64_t key = 1 << 5 | (t[0] & 31);
+    while (letters < n && class_of[t[letters]] & LETTER)
+        key = key << 5 | (t[letters++] & 31);
+    size_t k = letters;
+    while (k < n && class_of[t[k]] & IN_NAME)
+        k++;
+    if (k > NAME_LIMIT)
+        return refused(RAPID_MALFORMED_WORD, 0);
+    return word(k == letters && is_reserved(key, k) ? RAPID_RESERVED : RAPID_NAME, k);
+}
+#else
 static struct scan scan_name(const uint8_t *t, size_t n) {
     size_t k = 1;
     while (k < n && class_of[t[k]] & IN_NAME)
@@ -41,6 +56,7 @@ static struct scan scan_name(const uint8_t *t, size_t n) {
         return refused(RAPID_MALFORMED_WORD, 0);
     return word(is_reserved(t, k) ? RAPID_RESERVED : RAPID_NAME, k);
 }
+#endif
 
 static struct scan scan_number(const uint8_t *t, size_t n) {
     size_t k = 0;

@@ -1,46 +1,49 @@
--- Keys stand for texts: different texts of bytes below 128 have different keys.
-use mathlib.Core.Path.{_≡_, refl, sym, ap, subst, _∙_}
+-- Keys stand for words: different words of capitals have different keys. And what a name's letters say of its sort.
+use mathlib.Core.Path.{_≡_, refl, sym, ap, _∙_}
 use mathlib.Core.Bool.{Bool, true, false}
-use mathlib.Core.List.{List, [], _∷_, map}
-use Prim.Native.Nat.{ℕ, zero, suc, _+_, _*_, _<_, _≤_}
+use mathlib.Core.List.{List, [], _∷_, _++_, map, map-append}
+use Prim.Native.Nat.{ℕ, zero, suc, _+_, _*_, _%_, _<_, _≤_}
 use Prim.Native.String.{String}
 use native.Mathlib.Omega.{arith}
+use native.Mathlib.Nat.{mod-eq-of-lt}
 use native.Mathlib.Numerals.{add-one}
-use lib.Dec.{eqb, ltb, leb}
-use lib.ListN.{length, getD, drop, length-map, drop-of-length-le}
-use borrow.Author.Tests.{ltb-true, eqb-true, eq-eqb, ne-eqb, lt-ltb, le-ltb, lt-leb}
+use lib.Dec.{eqb, leb}
+use lib.ListN.{length, getD, take, length-map}
+use lib.Seq.{take-suc, length-take-le}
+use borrow.Author.Tests.{eqb-true, eq-eqb, ne-eqb, lt-leb}
 use Rattle.laws.proofs.Tests.{test, false-true}
-use Rattle.laws.proofs.Lists.{rest}
 use Rattle.paper.specs.Sorts.{bytes, folded, reserved, equalTexts, numberIn, nameSort, firstReserved, NAME}
-use Rattle.reserved.specs.declared.Packing.{Packing}
-use Rattle.reserved.specs.declared.Packing.the-variants.{Key, None}
-use Rattle.reserved.specs.Promise.{Sorted}
-use Rattle.reserved.specs.Keys.{packed, keysOf, numberOfKey, sortOf, placeOf, keyAt, Packed}
-use Rattle.reserved.proofs.Table.{present, absent}
+use Rattle.paper.specs.Words.{between, letter, leading, inName}
+use Rattle.reserved.specs.Runs.{Counted}
+use Rattle.reserved.specs.Promise.{Named}
+use Rattle.reserved.specs.Keys.{keyRoom, keyBound, packed, keysOf, numberOfKey, sortOf, Packs}
+use Rattle.reserved.proofs.Ranges.{range}
+use Rattle.reserved.proofs.Folds.{fold-capital, fold-rest, fold-other}
+use Rattle.reserved.proofs.Runs.{Run, run-start, run-more, run-stop, run-out, none-behind, goes-on, goes-off}
 
-unfoldable pub low : List ℕ → Bool
-low [] = true
-low (b ∷ r) = elim (ltb b 128) [ true ↦ low r | false ↦ false ]
+unfoldable pub capitals : List ℕ → Bool
+capitals [] = true
+capitals (b ∷ r) = elim (between 65 90 b) [ true ↦ capitals r | false ↦ false ]
 
 packed-above : (l : List ℕ) (k : ℕ) → k ≤ packed l k
 unfolding packed
 packed-above [] k = omega arith
-packed-above (b ∷ r) k = omega (arith, packed-above r (k * 128 + b))
+packed-above (b ∷ r) k = omega (arith, packed-above r (k * 32 + b % 32))
 
--- neither key is as long as the other with a byte more
-same-text : (a b : List ℕ) (x y : ℕ) → low a ≡ true → low b ≡ true → x < 128 * y → y < 128 * x → packed a x ≡ packed b y → (x ≡ y) × (a ≡ b)
-unfolding packed low
+-- neither key is as long as the other with a letter more
+same-text : (a b : List ℕ) (x y : ℕ) → capitals a ≡ true → capitals b ≡ true → x < 32 * y → y < 32 * x → packed a x ≡ packed b y → (x ≡ y) × (a ≡ b)
+unfolding packed capitals
 same-text [] [] x y la lb h g e = (e, refl)
-same-text [] (c ∷ s) x y la lb h g e = absurd (omega (arith, packed-above s (y * 128 + c)))
-same-text (d ∷ r) [] x y la lb h g e = absurd (omega (arith, packed-above r (x * 128 + d)))
+same-text [] (c ∷ s) x y la lb h g e = absurd (omega (arith, packed-above s (y * 32 + c % 32)))
+same-text (d ∷ r) [] x y la lb h g e = absurd (omega (arith, packed-above r (x * 32 + d % 32)))
 same-text (d ∷ r) (c ∷ s) x y la lb h g e =
-    test (ltb d 128) (λ t. test (ltb c 128) (λ u.
-    let dl = ltb-true d 128 t in let cl = ltb-true c 128 u in
-    let more = same-text r s (x * 128 + d) (y * 128 + c) (rw (t, low) at la) (rw (u, low) at lb) (omega arith) (omega arith) e in
+    test (between 65 90 d) (λ t. test (between 65 90 c) (λ u.
+    let dl = range 65 90 d t in let cl = range 65 90 c u in
+    let more = same-text r s (x * 32 + d % 32) (y * 32 + c % 32) (rw (t, capitals) at la) (rw (u, capitals) at lb) (omega arith) (omega arith) e in
     let first : x ≡ y = omega arith in
     let byte : d ≡ c = omega arith in
     (first, cc))
-    (λ u. false-true (rw (u, low) at lb))) (λ t. false-true (rw (t, low) at la))
+    (λ u. false-true (rw (u, capitals) at lb))) (λ t. false-true (rw (t, capitals) at la))
 
 equal-text : (a b : List ℕ) → equalTexts a b ≡ true → a ≡ b
 unfolding equalTexts
@@ -55,7 +58,7 @@ unfolding equalTexts
 equals-self [] = refl
 equals-self (a ∷ r) = rw (eq-eqb a a refl, equalTexts) (equals-self r)
 
-equal-keys : (a b : List ℕ) → low a ≡ true → low b ≡ true → equalTexts a b ≡ eqb (packed a 1) (packed b 1)
+equal-keys : (a b : List ℕ) → capitals a ≡ true → capitals b ≡ true → equalTexts a b ≡ eqb (packed a 1) (packed b 1)
 equal-keys a b la lb =
     test (equalTexts a b) (λ t. t ∙ sym (eq-eqb (packed a 1) (packed b 1) (ap (λ (l : List ℕ). packed l 1) (equal-text a b t))))
     (λ t. t ∙ sym (ne-eqb (packed a 1) (packed b 1) (λ e.
@@ -81,53 +84,42 @@ unlike such (s ∷ r) n text t h =
 unfoldable short : List ℕ → Bool
 short l = leb (length l) 9
 
-all-low : every low reserved ≡ true
-unfolding every low bytes folded reserved
-all-low = refl
+all-capitals : every capitals reserved ≡ true
+unfolding every capitals between bytes folded reserved
+all-capitals = refl
 
 all-short : every short reserved ≡ true
 unfolding every short bytes folded reserved
 all-short = refl
 
-by-key : (ss : List String) (n : ℕ) (text : List ℕ) → every low ss ≡ true → low text ≡ true → numberIn ss n text ≡ numberOfKey (keysOf ss) n (packed text 1)
+by-key : (ss : List String) (n : ℕ) (text : List ℕ) → every capitals ss ≡ true → capitals text ≡ true → numberIn ss n text ≡ numberOfKey (keysOf ss) n (packed text 1)
 unfolding every numberIn numberOfKey keysOf
 by-key [] n text t h = refl
 by-key (s ∷ r) n text t h =
-    test (low (map folded (bytes s))) (λ e.
+    test (capitals (map folded (bytes s))) (λ e.
     let same = equal-keys (map folded (bytes s)) text e h in
     test (eqb (packed (map folded (bytes s)) 1) (packed text 1))
     (λ g. rw (same, numberIn) (rw (g, numberOfKey)))
     (λ g. rw (same, numberIn) (rw (g, numberOfKey) (by-key r (n + 1) text (rw (e, every) at t) h))))
     (λ e. false-true (rw (e, every) at t))
 
-pub sort-by-key : (text : List ℕ) (key : ℕ) → low text ≡ true → packed text 1 ≡ key → nameSort text ≡ sortOf key
+sort-by-key : (text : List ℕ) (key : ℕ) → capitals text ≡ true → key ≡ packed text 1 → nameSort text ≡ sortOf key
 unfolding nameSort sortOf
-sort-by-key text key h e = rw (by-key reserved firstReserved text all-low h, e, nameSort, sortOf)
+sort-by-key text key h e = rw (by-key reserved firstReserved text all-capitals h, ← e, nameSort, sortOf)
 
-sort-unlike : (such : List ℕ → Bool) (text : List ℕ) → every such reserved ≡ true → such text ≡ false → nameSort text ≡ NAME
+sort-unlike : (such : List ℕ → Bool) (text : List ℕ) → every such reserved ≡ true → such text ≡ false → NAME ≡ nameSort text
 unfolding nameSort
-sort-unlike such text t h = rw (unlike such reserved firstReserved text t h, nameSort)
-
-pub sort-high : (text : List ℕ) → low text ≡ false → nameSort text ≡ NAME
-sort-high text h = sort-unlike low text all-low h
-
-pub sort-long : (name : List ℕ) → 9 < length name → nameSort (map folded name) ≡ NAME
-unfolding short
-sort-long name h = sort-unlike short (map folded name) all-short (rw length-map (lt-leb (length name) 9 h))
-
-pub sort-empty : (name : List ℕ) → length name ≡ 0 → nameSort (map folded name) ≡ NAME
-unfolding nameSort numberIn reserved equalTexts bytes folded
-sort-empty [] h = refl
-sort-empty (b ∷ r) h = absurd (omega arith)
-
-high-folded : (b : ℕ) → 127 < b → folded b ≡ b
-unfolding folded
-high-folded b h = rw (le-ltb b 97 (omega arith), folded) (rw (lt-leb b 122 (omega arith)))
+sort-unlike such text t h = sym (rw (unlike such reserved firstReserved text t h, nameSort))
 
 -- ---- a key that grows
+packed-more : (l : List ℕ) (b k : ℕ) → packed (l ++ b ∷ []) k ≡ packed l k * 32 + b % 32
+unfolding packed
+packed-more [] b k = refl
+packed-more (a ∷ l) b k = packed-more l b (k * 32 + a % 32)
+
 unfoldable pub bound : ℕ → ℕ
 bound zero = 2
-bound (suc i) = 128 * bound i
+bound (suc i) = 32 * bound i
 
 bound-least : (i : ℕ) → 2 ≤ bound i
 unfolding bound
@@ -140,56 +132,84 @@ bound-rises zero j h = bound-least j
 bound-rises (suc i) zero h = absurd (omega arith)
 bound-rises (suc i) (suc j) h = omega (arith, bound-rises i j (omega arith))
 
--- What is left of a key of at most nine bytes, of which i are packed.
-pub record Left (name : List ℕ) (key i : ℕ) : Type 0 where
-  pub place : i ≤ length name
-  pub few : length name ≤ 9
-  pub packs : packed (map folded name) 1 ≡ packed (map folded (drop i name)) key
-  pub lows : low (map folded name) ≡ low (map folded (drop i name))
-  pub fits : key < bound i
+-- The letters of a text, of which n are passed; their key, as long as a reserved word may have as many.
+pub record Passed (text : List ℕ) (n key : ℕ) : Type 0 where
+  pub run : Run letter text n
+  pub keyed : n ≤ 9 → key ≡ packed (map folded (take n text)) 1
+  pub fits : n ≤ 9 → key < bound n
 
-pub left-start : (name : List ℕ) → length name ≤ 9 → Left name 1 0
-unfolding bound
-left-start name h = record { place = omega arith; few = h; packs = refl; lows = refl; fits = omega arith }
+letters-capital : (l : List ℕ) → capitals (map folded (take (leading letter l) l)) ≡ true
+unfolding capitals leading
+letters-capital [] = refl
+letters-capital (b ∷ r) =
+    test (letter b) (λ t. rw (t, leading) (rw (fold-capital b t, capitals) (letters-capital r))) (λ t. rw (t, leading))
 
-module _ (name : List ℕ) (key i : ℕ) (l : Left name key i) where
-  at-byte : i < length name → map folded (drop i name) ≡ folded (getD name i 0) ∷ map folded (drop (i + 1) name)
-  at-byte h = ap (map folded) (rest name i h)
+module _ (text : List ℕ) where
+  pub passed-start : Passed text 0 1
+  unfolding packed bound
+  passed-start = record { run = run-start letter text; keyed = λ h. refl; fits = λ h. omega arith }
 
-  pub left-room : i < length name → key < 144115188075855872
-  unfolding bound
-  left-room h = omega (arith, bound-rises i 8 (omega (arith, l .few)), l .fits)
+  module _ (n key : ℕ) (at : Passed text n key) where
+    packs : Counted letter text n → (more : Bool) → more ≡ inName (getD text n 0) → Packs text n key more
+    unfolding bound
+    packs c more e = record {
+      count = c;
+      goes = e;
+      fits = λ h. omega (arith, at .fits h, bound-rises n 9 h);
+      sort = λ h. sort-by-key _ key (rw (c .exact) (letters-capital text)) (at .keyed h);
+    }
 
-  pub left-step : (f : ℕ) → i < length name → f ≡ folded (getD name i 0) → f < 128 → Left name (key * 128 + f) (i + 1)
-  unfolding packed low bound
-  left-step f h e g = record {
-    place = omega arith;
-    few = l .few;
-    packs = l .packs ∙ rw (at-byte h, e, packed);
-    lows = l .lows ∙ rw (at-byte h, ← e) (rw (lt-ltb f 128 g, low));
-    fits = rw add-one (omega (arith, l .fits));
+    pub passed-out : length text ≤ n → Packs text n key false
+    passed-out h = packs (run-out letter text n (at .run) h) false (none-behind text n h)
+
+    module _ (t : Bool) (h : n < length text) (is : t ≡ letter (getD text n 0)) where
+      pub passed-more : (k : ℕ) → t ≡ true → k ≡ key % keyRoom * 32 + getD text n 0 % 32 → Passed text (n + 1) k
+      unfolding bound
+      passed-more k g e = record {
+        run = run-more letter text n (at .run) t h is g;
+        keyed = λ f. grown f;
+        fits = λ f. rw add-one (omega (arith, uncut f, at .fits (omega arith)));
+      }
+        where
+          uncut : n + 1 ≤ 9 → key % keyRoom ≡ key
+          uncut f = mod-eq-of-lt (omega (arith, at .fits (omega arith), bound-rises n 8 (omega arith)))
+
+          grown : n + 1 ≤ 9 → k ≡ packed (map folded (take (n + 1) text)) 1
+          grown f =
+              rw (add-one, take-suc text n 0 h, map-append, packed-more)
+              (rw (fold-rest (getD text n 0) (sym is ∙ g), ← at .keyed (omega arith)) (omega (arith, uncut f)))
+
+      pub passed-stop : (more : Bool) → t ≡ false → more ≡ inName (getD text n 0) → Packs text n key more
+      passed-stop more g e = packs (run-stop letter text n (at .run) t h is g) more e
+
+-- ---- a name by its letters
+rest-other : (l : List ℕ) (n : ℕ) → leading letter l < n → n ≤ length l → capitals (map folded (take n l)) ≡ false
+unfolding capitals leading
+rest-other [] n h g = absurd (omega arith)
+rest-other (b ∷ r) zero h g = absurd (omega arith)
+rest-other (b ∷ r) (suc n) h g =
+    test (letter b)
+    (λ t. rw (fold-capital b t, capitals) (rest-other r n (let k = rw (t, leading) at h in omega arith) (omega arith)))
+    (λ t. rw (fold-other b t, capitals))
+
+module _ (text : List ℕ) (letters key : ℕ) (more : Bool) (packs : Packs text letters key more) where
+  pub rest-name : (n : ℕ) → more ≡ true → Counted inName text n → Named text (record { length = n; sort = NAME })
+  rest-name n t is = record {
+    count = is .exact;
+    kind = sort-unlike capitals _ all-capitals (rest-other text n (omega (arith, packs .count .exact, is .exact, goes-on text letters (packs .count) (sym (packs .goes) ∙ t))) (is .within));
   }
 
-  pub left-high : i < length name → 127 < getD name i 0 → nameSort (map folded name) ≡ NAME
-  unfolding low folded
-  left-high h g = sort-high (map folded name) (l .lows ∙ rw (at-byte h, high-folded (getD name i 0) g) (rw (le-ltb (getD name i 0) 128 (omega arith), low)))
+  module _ (t : more ≡ false) where
+    all-letters : (s : ℕ) → s ≡ nameSort (map folded (take letters text)) → Named text (record { length = letters; sort = s })
+    all-letters s e = record { count = goes-off text letters (packs .count) (sym (packs .goes) ∙ t); kind = e }
 
-  pub left-end : length name ≤ i → nameSort (map folded name) ≡ sortOf key
-  unfolding packed low
-  left-end h =
-      let none : drop i name ≡ [] = drop-of-length-le name h in
-      sort-by-key (map folded name) key (l .lows ∙ rw none) (l .packs ∙ rw none)
+    pub long-name : 9 < letters → Named text (record { length = letters; sort = NAME })
+    unfolding short
+    long-name h =
+        all-letters NAME (sort-unlike short _ all-short (rw length-map (lt-leb (length (take letters text)) 9 (omega (arith, length-take-le letters text (packs .count .within))))))
 
--- ---- what a packing says
-pub no-key : (name : List ℕ) (p : Packing) → Packed (map folded name) p → p ≡ None → Sorted name NAME
-no-key name p h e = sym (subst (Packed (map folded name)) e h)
+    pub letters-name : (s : ℕ) → letters ≤ 9 → s ≡ sortOf key → Named text (record { length = letters; sort = s })
+    letters-name s h e = all-letters s (e ∙ sym (packs .sort h))
 
-module _ (name : List ℕ) (p : Packing) (key : ℕ) (h : Packed (map folded name) p) (e : p ≡ Key key) (place k : ℕ) (at : k ≡ keyAt place) where
-  of-key : (s : ℕ) → s ≡ sortOf key → Sorted name s
-  of-key s g = g ∙ sym (subst (Packed (map folded name)) e h)
-
-  pub a-word : (s : ℕ) → s ≡ sortOf (keyAt place) → k ≡ key → Sorted name s
-  a-word s g is = of-key s (present key place k s at g is)
-
-  pub no-word : place ≡ placeOf key → (k ≡ key → ⊥) → Sorted name NAME
-  no-word g is = of-key NAME (absent key place k g at is)
+  pub key-fits : letters ≤ 9 → key < keyBound
+  key-fits h = packs .fits h

@@ -1,12 +1,16 @@
-// Reserved words, told from names by a look at the paper's table with letter case folded. A name of at most nine ASCII bytes is one number, its
-// key: to the base 128, with a 1 before the first byte, so that different texts have different keys.
+// Names, and reserved words, told from them by a look at the paper's table with letter case folded. A reserved word is at most nine letters, which are one
+// number, its key: to the base 32, with a 1 before the first letter, so that different words have different keys.
+pub mod classes;
+
+use classes::is_in_name;
+use classes::is_letter;
 ghost use mathlib.Core.Path.{_≡_};
-ghost use mathlib.Core.List.{map};
-ghost use Prim.Native.Nat.{_+_, _<_};
+ghost use Prim.Native.Nat.{_+_, _*_, _%_, _<_};
 ghost use lib.ListN.{getD};
-ghost use Rattle.paper.specs.Sorts.{folded};
-ghost use Rattle.reserved.specs.Keys.{Packed, shifts, placeOf, keyAt, sortOf};
-ghost use Rattle.reserved.specs.Promise.{Sorted};
+ghost use Rattle.paper.specs.Words.{letter, inName};
+ghost use Rattle.reserved.specs.Keys.{keyRoom, keyBound, shifts, placeOf, keyAt, sortOf, Packs};
+ghost use Rattle.reserved.specs.Runs.{Counted};
+ghost use Rattle.reserved.specs.Promise.{Named};
 
 // The table's keys, each at its own place; 0 is no word's. A match, since a constant array would be made anew at each look.
 fn key_at(place: u64) -> u64
@@ -14,70 +18,70 @@ fn key_at(place: u64) -> u64
     ensures { λ r. ⌜ r ≡ keyAt place ⌝ }
 {
     match place {
-        0 => 56508967365,
-        1 => 51968630995,
-        2 => 437561283,
-        3 => 52511877588,
-        4 => 120794741770266201,
-        5 => 445948112,
-        6 => 445950661,
-        7 => 869113645017027,
-        8 => 3254226,
-        9 => 935158166481477,
-        10 => 54927614156,
-        11 => 0,
-        12 => 53055104978,
-        13 => 7234244667726,
-        14 => 447980111,
-        15 => 14239558025163827524,
-        16 => 26578,
-        17 => 3368900,
-        18 => 118525207231309401,
-        19 => 935227414375508,
-        20 => 445784782,
-        21 => 111246548420159045,
-        22 => 443884240,
-        23 => 414394821,
-        24 => 57865823813,
-        25 => 7234208917828,
-        26 => 416638787,
-        27 => 437348691,
-        28 => 14239557856051684933,
-        29 => 116318010632053966,
-        30 => 25167,
-        31 => 869113624094531,
-        32 => 408152012,
-        33 => 410020293,
-        34 => 864406866323028,
-        35 => 56517536089,
-        36 => 3385300,
-        37 => 418638415,
-        38 => 7065096775237,
-        39 => 414590164,
-        40 => 3172164,
-        41 => 0,
-        42 => 54120409812,
-        43 => 109500486405613892,
-        44 => 15254622592767977029,
-        45 => 53287791045,
-        46 => 3549138,
-        47 => 869113653403856,
-        48 => 15321608960542485197,
-        49 => 25798,
-        50 => 416589773,
-        51 => 3514578,
-        52 => 3386061,
-        53 => 445737428,
-        54 => 3220694,
-        55 => 0,
-        56 => 7099494064855,
-        57 => 860354591678932,
-        58 => 869113653193172,
-        59 => 452094536,
-        60 => 6789444756678,
-        61 => 53046486214,
-        62 => 6789950187474,
-        63 => 27215,
+        0 => 1256331762,
+        1 => 39260454,
+        2 => 1129964,
+        3 => 37174,
+        4 => 1709684,
+        5 => 1318,
+        6 => 1169417799236,
+        7 => 57842,
+        8 => 34244,
+        9 => 1525831045,
+        10 => 39410,
+        11 => 1597312778542,
+        12 => 1522,
+        13 => 1683078724,
+        14 => 38099424372,
+        15 => 0,
+        16 => 57943429,
+        17 => 1812104,
+        18 => 0,
+        19 => 1751183,
+        20 => 1167,
+        21 => 1591779,
+        22 => 1679,
+        23 => 1712302,
+        24 => 1254724902,
+        25 => 41167713621381,
+        26 => 37206644,
+        27 => 52613721,
+        28 => 1267139,
+        29 => 41167870869060,
+        30 => 1683641934,
+        31 => 40203064948,
+        32 => 1237300,
+        33 => 46631980,
+        34 => 1293967,
+        35 => 1722416,
+        36 => 1723045,
+        37 => 57743856777901,
+        38 => 1559962807,
+        39 => 47789,
+        40 => 35005491,
+        41 => 56954939659653,
+        42 => 47604,
+        43 => 39406066,
+        44 => 1225317,
+        45 => 1148517,
+        46 => 1723393882521,
+        47 => 56465233684,
+        48 => 40202947043,
+        49 => 46564,
+        50 => 52471397,
+        51 => 39891557,
+        52 => 56396162693,
+        53 => 43466420,
+        54 => 1264109,
+        55 => 1286501311877,
+        56 => 40202622403,
+        57 => 1578579,
+        58 => 1865281943961,
+        59 => 38828823956,
+        60 => 0,
+        61 => 1691824,
+        62 => 40203077680,
+        63 => 55346,
         _ => 0,
     }
 }
@@ -88,76 +92,76 @@ fn sort_at(place: u64) -> u32
     ensures { λ r. ⌜ r ≡ sortOf (keyAt place) ⌝ }
 {
     match place {
-        0 => sorts::RAISE,
-        1 => sorts::ALIAS,
-        2 => sorts::PROC,
-        3 => sorts::CONST,
-        4 => sorts::VIEWONLY,
-        5 => sorts::TRAP,
-        6 => sorts::TRUE,
-        7 => sorts::ENDPROC,
-        8 => sorts::FOR,
-        9 => sorts::TPWRITE,
-        10 => sorts::LOCAL,
-        11 => sorts::NAME,
-        12 => sorts::ERROR,
-        13 => sorts::RETURN,
-        14 => sorts::UNDO,
-        15 => sorts::ENDRECORD,
-        16 => sorts::OR,
-        17 => sorts::MOD,
-        18 => sorts::READONLY,
-        19 => sorts::TRYNEXT,
-        20 => sorts::THEN,
-        21 => sorts::ENDWHILE,
-        22 => sorts::STEP,
-        23 => sorts::ELSE,
-        24 => sorts::WHILE,
-        25 => sorts::RECORD,
-        26 => sorts::FUNC,
-        27 => sorts::PERS,
-        28 => sorts::ENDMODULE,
-        29 => sorts::NOSTEPIN,
-        30 => sorts::DO,
-        31 => sorts::ENDFUNC,
-        32 => sorts::BOOL,
-        33 => sorts::CASE,
-        34 => sorts::DEFAULT,
-        35 => sorts::RETRY,
-        36 => sorts::NOT,
-        37 => sorts::GOTO,
-        38 => sorts::MODULE,
-        39 => sorts::EXIT,
-        40 => sorts::AND,
-        41 => sorts::NAME,
-        42 => sorts::INOUT,
-        43 => sorts::BACKWARD,
-        44 => sorts::SYSMODULE,
-        45 => sorts::FALSE,
-        46 => sorts::XOR,
-        47 => sorts::ENDTRAP,
-        48 => sorts::TPREADNUM,
-        49 => sorts::IF,
-        50 => sorts::FROM,
-        51 => sorts::VAR,
-        52 => sorts::NUM,
-        53 => sorts::TEST,
-        54 => sorts::DIV,
-        55 => sorts::NAME,
-        56 => sorts::NOVIEW,
-        57 => sorts::CONNECT,
-        58 => sorts::ENDTEST,
-        59 => sorts::WITH,
-        60 => sorts::ELSEIF,
-        61 => sorts::ENDIF,
-        62 => sorts::ENDFOR,
-        63 => sorts::TO,
+        0 => sorts::ENDFOR,
+        1 => sorts::ENDIF,
+        2 => sorts::BOOL,
+        3 => sorts::DIV,
+        4 => sorts::TEST,
+        5 => sorts::IF,
+        6 => sorts::BACKWARD,
+        7 => sorts::XOR,
+        8 => sorts::AND,
+        9 => sorts::MODULE,
+        10 => sorts::FOR,
+        11 => sorts::NOSTEPIN,
+        12 => sorts::OR,
+        13 => sorts::RECORD,
+        14 => sorts::CONNECT,
+        15 => sorts::NAME,
+        16 => sorts::WHILE,
+        17 => sorts::WITH,
+        18 => sorts::NAME,
+        19 => sorts::UNDO,
+        20 => sorts::DO,
+        21 => sorts::PROC,
+        22 => sorts::TO,
+        23 => sorts::THEN,
+        24 => sorts::ELSEIF,
+        25 => sorts::ENDMODULE,
+        26 => sorts::CONST,
+        27 => sorts::RETRY,
+        28 => sorts::FUNC,
+        29 => sorts::ENDRECORD,
+        30 => sorts::RETURN,
+        31 => sorts::ENDTEST,
+        32 => sorts::EXIT,
+        33 => sorts::LOCAL,
+        34 => sorts::GOTO,
+        35 => sorts::TRAP,
+        36 => sorts::TRUE,
+        37 => sorts::TPREADNUM,
+        38 => sorts::NOVIEW,
+        39 => sorts::NUM,
+        40 => sorts::ALIAS,
+        41 => sorts::SYSMODULE,
+        42 => sorts::NOT,
+        43 => sorts::ERROR,
+        44 => sorts::ELSE,
+        45 => sorts::CASE,
+        46 => sorts::READONLY,
+        47 => sorts::TRYNEXT,
+        48 => sorts::ENDPROC,
+        49 => sorts::MOD,
+        50 => sorts::RAISE,
+        51 => sorts::FALSE,
+        52 => sorts::TPWRITE,
+        53 => sorts::INOUT,
+        54 => sorts::FROM,
+        55 => sorts::ENDWHILE,
+        56 => sorts::ENDFUNC,
+        57 => sorts::PERS,
+        58 => sorts::VIEWONLY,
+        59 => sorts::DEFAULT,
+        60 => sorts::NAME,
+        61 => sorts::STEP,
+        62 => sorts::ENDTRAP,
+        63 => sorts::VAR,
         _ => sorts::NAME,
     }
 }
 
-// By how much a key is moved that has this rest by 32, which is the number of its last letter. `tools/keys --write DNUM SETDO` finds the shifts by
-// trial, so that no two words come to one place, also with two words that are not reserved yet.
+// By how much a key is moved that has this rest by 32, which is the number of its last letter. `tools/keys --write DNUM SETDO` finds the shifts, the
+// factor and the divisor by trial, so that no two words come to one place, also with two words that are not reserved yet.
 fn shift_at(letter: u64) -> u64
     requires { ⌜ letter < 32 ⌝ }
     ensures { λ r. ⌜ (r ≡ getD shifts letter 0) × (r < 64) ⌝ }
@@ -166,29 +170,29 @@ fn shift_at(letter: u64) -> u64
         0 => 0,
         1 => 0,
         2 => 0,
-        3 => 63,
-        4 => 15,
+        3 => 37,
+        4 => 23,
         5 => 0,
-        6 => 45,
+        6 => 1,
         7 => 0,
-        8 => 41,
+        8 => 4,
         9 => 0,
         10 => 0,
         11 => 0,
-        12 => 38,
-        13 => 30,
-        14 => 16,
-        15 => 37,
-        16 => 41,
+        12 => 19,
+        13 => 9,
+        14 => 22,
+        15 => 17,
+        16 => 1,
         17 => 0,
         18 => 7,
-        19 => 20,
-        20 => 0,
+        19 => 53,
+        20 => 12,
         21 => 0,
-        22 => 14,
-        23 => 26,
+        22 => 8,
+        23 => 5,
         24 => 0,
-        25 => 21,
+        25 => 16,
         26 => 0,
         27 => 0,
         28 => 0,
@@ -199,65 +203,23 @@ fn shift_at(letter: u64) -> u64
     }
 }
 
+const FACTOR: u64 = 223279;
+
+const DIVISOR: u64 = 67108864;
+
 // The one place of the table where a key can be.
 fn place_of(key: u64) -> u64
+    requires { ⌜ key < keyBound ⌝ }
     ensures { λ r. ⌜ (r ≡ placeOf key) × (r < 64) ⌝ }
 {
-    (key % 155 + shift_at(key % 32)) % 64
+    (key * FACTOR / DIVISOR + shift_at(key % 32)) % 64
 }
 
-fn folded_byte(b: u8) -> u64
-    requires { ⌜ b < 128 ⌝ }
-    ensures { λ r. ⌜ (r ≡ folded b) × (r < 128) ⌝ }
+// The sort of the word that has a key, or a name's. One look at the place where the key would be.
+fn sort_of(key: u64) -> u32
+    requires { ⌜ key < keyBound ⌝ }
+    ensures { λ r. ⌜ r ≡ sortOf key ⌝ }
 {
-    if b < b'a' {
-        return b as u64;
-    }
-    if b <= b'z' {
-        return (b - 32) as u64;
-    }
-    b as u64
-}
-
-enum Packing {
-    Key(u64),
-    None,
-}
-
-// No reserved word is longer, and no longer text has a key.
-const LONGEST: usize = 9;
-
-// The name's key, unless it is too long for one or has a byte that no reserved word has.
-fn pack(name: &[u8]) -> Packing
-    ensures { λ r. ⌜ Packed (map folded (now (name .entry))) r ⌝ }
-{
-    if LONGEST < name.len() {
-        return Packing::None;
-    }
-    // so that no key is a constant, for which the compiler would part the look at the table
-    if name.len() == 0 {
-        return Packing::None;
-    }
-    let mut key: u64 = 1;
-    let mut i = 0;
-    while i < name.len() {
-        let b = name[i];
-        if 127 < b {
-            return Packing::None;
-        }
-        key = key * 128 + folded_byte(b);
-        i += 1;
-    }
-    Packing::Key(key)
-}
-
-// The sort of a name: a reserved word's own, or that of a name. One look at the place where its key would be.
-pub fn name_sort(name: &[u8]) -> u32
-    ensures { λ r. ⌜ Sorted (now (name .entry)) r ⌝ }
-{
-    let Packing::Key(key) = pack(name) else {
-        return sorts::NAME;
-    };
     let place = place_of(key);
     // before the test, so that the compiler makes it a load and not a jump
     let sort = sort_at(place);
@@ -265,4 +227,98 @@ pub fn name_sort(name: &[u8]) -> u32
         return sort;
     }
     sorts::NAME
+}
+
+// No key of nine letters reaches it, and a key below it has room in 64 bits for a letter more.
+const KEY_ROOM: u64 = 576460752303423488;
+
+// A key with one letter more, which its low five bits tell, small or capital. It is cut first, so that any number of letters may follow, though the key of
+// more than nine says nothing.
+fn with_letter(key: u64, b: u8) -> u64
+    ensures { λ r. ⌜ r ≡ key % keyRoom * 32 + b % 32 ⌝ }
+{
+    key % KEY_ROOM * 32 + (b % 32) as u64
+}
+
+// Letters: how many, their key, and whether a byte follows that goes on with a name.
+struct Letters {
+    length: usize,
+    key: u64,
+    more: bool,
+}
+
+// The letters that a text begins with, counted and packed in one loop, since most bytes of a lesson are read here.
+fn read_letters(text: &[u8]) -> Letters
+    ensures { λ r. ⌜ Packs (now (text .entry)) (r .length) (r .key) (r .more) ⌝ }
+{
+    let mut length = 0;
+    let mut key: u64 = 1;
+    while length < text.len() {
+        let b = text[length];
+        if is_letter(b) {
+            key = with_letter(key, b);
+            length += 1;
+        } else {
+            let more = is_in_name(b);
+            return Letters { length, key, more };
+        }
+    }
+    Letters {
+        length,
+        key,
+        more: false,
+    }
+}
+
+// How many bytes go on with a name that begins with so many letters.
+fn name_length(text: &[u8], letters: usize) -> usize
+    requires { ⌜ Counted letter (now text) letters ⌝ }
+    ensures { λ r. ⌜ Counted inName (now (text .entry)) r ⌝ }
+{
+    let mut n = letters;
+    while n < text.len() {
+        if is_in_name(text[n]) {
+            n += 1;
+        } else {
+            return n;
+        }
+    }
+    n
+}
+
+// No reserved word is longer.
+const LONGEST: usize = 9;
+
+// The length of a name, and its sort: a reserved word's own, or that of a name.
+pub struct Name {
+    pub length: usize,
+    pub sort: u32,
+}
+
+// The name that a text begins with. No reserved word has a byte that is no letter, so only a name of nothing but letters is looked up.
+pub fn read_name(text: &[u8]) -> Name
+    ensures { λ r. ⌜ Named (now (text .entry)) r ⌝ }
+{
+    let l = read_letters(text);
+    let letters = l.length;
+    let key = l.key;
+    let more = l.more;
+    if more {
+        let length = name_length(text, letters);
+        return Name {
+            length,
+            sort: sorts::NAME,
+        };
+    }
+    if LONGEST < letters {
+        return Name {
+            length: letters,
+            sort: sorts::NAME,
+        };
+    }
+    let sort = sort_of(key);
+    Name {
+        length: letters,
+        sort,
+    }
 }

@@ -1,16 +1,17 @@
--- What is said of a byte: chains of tests, and the signs, which antt computes at every byte.
+-- What is said of a byte: whether it is barred in a string, spoils a number or is permitted, and the signs, which antt computes at every byte.
 use mathlib.Core.Path.{_≡_, refl, sym, ap, _∙_}
 use mathlib.Core.Bool.{Bool, true, false, _||_}
 use mathlib.Core.List.{List, [], _∷_}
 use Prim.Native.Nat.{ℕ, zero, suc, _<_, _≤_}
 use native.Mathlib.Nat.{not-suc-le-zero}
 use native.Mathlib.Omega.{arith}
-use lib.Dec.{eqb, ltb, leb}
-use borrow.Author.Tests.{ltb-false, eqb-true, eq-eqb, ne-eqb, lt-ltb, le-ltb, le-leb, lt-leb, leb-true}
+use lib.Dec.{eqb, leb}
+use borrow.Author.Tests.{eqb-true, eq-eqb, ne-eqb, lt-leb, leb-true}
 use Rattle.paper.specs.Sorts.{bytes, folded, signs, equalTexts, numberIn, signSort, firstSign, NOTHING, becomes, lessEqual, greaterEqual, unequal}
 use Rattle.paper.specs.Words.{between, letter, digit, spoilsNumber, barredInString, permitted}
 use Rattle.laws.proofs.Tests.{test, false-true, by-last}
 use Rattle.reserved.proofs.Packs.{every, unlike}
+use Rattle.reserved.proofs.Ranges.{failed, passed, left-to, below-range, in-range, range, ranges}
 
 -- ---- a test at every number below a bound
 unfoldable pub all : (ℕ → Bool) → ℕ → Bool
@@ -27,46 +28,7 @@ all-below f (suc n) t b h =
 alike-numbers : (f g : ℕ → ℕ) → all (λ b. eqb (f b) (g b)) 256 ≡ true → (b : ℕ) → b < 256 → f b ≡ g b
 alike-numbers f g t b h = eqb-true (f b) (g b) (all-below (λ b. eqb (f b) (g b)) 256 t b h)
 
--- ---- questions that are a chain of tests
--- A chain is true where one of its tests is, and is its last test where the others are false.
-pub passed : (x y : Bool) → x ≡ true → x || y ≡ true
-passed true y h = refl
-passed false y h = false-true h
-
-pub passed-by : (x y : Bool) → x ≡ false → y ≡ true → x || y ≡ true
-passed-by x y h g = rw h g
-
-pub failed : (x y : Bool) → x ≡ false → y ≡ false → x || y ≡ false
-failed x y h g = rw h g
-
-pub left-to : (r x y : Bool) → x ≡ false → r ≡ y → r ≡ x || y
-left-to r x y h g = rw h g
-
-pub said : (t x r : Bool) → t ≡ x → t ≡ r → x ≡ r
-said t x r h g = sym h ∙ g
-
-pub answers : (x : Bool) → x ≡ true → true ≡ x
-answers x h = sym h
-
--- what answers a chain from the tests before it
-pub ruleset chain = (passed, passed-by, failed, left-to, said, answers, eq-eqb, ne-eqb)
-
-pub below-range : (low high b : ℕ) → b < low → false ≡ between low high b
-unfolding between
-below-range low high b h = rw (lt-ltb b low h, between)
-
-pub in-range : (low high b : ℕ) → low ≤ b → leb b high ≡ between low high b
-unfolding between
-in-range low high b h = rw (le-ltb b low h, between)
-
-pub range : (low high b : ℕ) → between low high b ≡ true → (low ≤ b) × (b ≤ high)
-unfolding between
-range low high b t =
-    test (ltb b low) (λ e. false-true (rw (e, between) at t)) (λ e. (ltb-false b low e, leb-true b high (rw (e, between) at t)))
-
-pub ranges : (low high b : ℕ) → low ≤ b → b ≤ high → between low high b ≡ true
-ranges low high b h g = sym (in-range low high b h) ∙ le-leb b high g
-
+-- ---- in strings and after numbers
 -- a byte that stands in print is barred if it is a backslash, and any other if it is CR or LF
 module _ (b : ℕ) (t : Bool) (is : t ≡ between 0x20 0x7e b) where
   pub barred-in-print : t ≡ true → eqb b 92 ≡ barredInString b

@@ -1,5 +1,4 @@
 pub mod Bytes
-pub mod Runs
 pub mod Values
 pub mod Strings
 pub mod Signs

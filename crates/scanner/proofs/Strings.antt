@@ -13,8 +13,9 @@ use Rattle.laws.proofs.Lists.{rest, Reached, reached-here, reached-on}
 use Rattle.paper.specs.Sorts.{STRING}
 use Rattle.paper.specs.Words.{Scan, stringLimit, leading, permittedInside, barredInString, stringEnd, scanString, word, refused, malformed}
 use Rattle.scanner.specs.Answers.{noted, closedString}
-use Rattle.scanner.proofs.Bytes.{passed, quote-permitted}
-use Rattle.scanner.proofs.Runs.{Run, run-start, run-more, run-stop}
+use Rattle.reserved.proofs.Ranges.{passed}
+use Rattle.scanner.proofs.Bytes.{quote-permitted}
+use Rattle.reserved.proofs.Runs.{Run, run-start, run-more, run-stop}
 
 -- ---- bytes that are not permitted
 -- Of the first n bytes every one is permitted, or `bad` is the place of the first that is not.

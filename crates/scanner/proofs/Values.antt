@@ -5,15 +5,15 @@ use mathlib.Core.List.{List, [], _∷_, _++_}
 use Prim.Native.Nat.{ℕ, suc, _+_, _*_, _-_, _<_, _≤_}
 use native.Mathlib.Numerals.{add-one}
 use native.Mathlib.Omega.{arith}
-use lib.Dec.{ltb}
 use lib.ListN.{length, getD, take, List·getD-eq-default}
 use lib.Seq.{take-suc}
-use borrow.Author.Tests.{ltb-false, lt-ltb, le-ltb, leb-true}
-use Rattle.laws.proofs.Tests.{test, false-true, by-less}
+use borrow.Author.Tests.{lt-ltb, le-ltb}
+use Rattle.laws.proofs.Tests.{by-less}
 use Rattle.paper.specs.Sorts.{NUMBER}
 use Rattle.paper.specs.Words.{largestNumber, between, letter, leading, digit, valueOf, spoilsNumber, scanNumber, word, refused, malformed}
 use Rattle.scanner.specs.Answers.{capped, valueBound, Digits·of}
-use Rattle.scanner.proofs.Runs.{Run, run-start, run-more, run-stop, run-out}
+use Rattle.reserved.proofs.Ranges.{range}
+use Rattle.reserved.proofs.Runs.{Run, run-start, run-more, run-stop, run-out}
 
 capped-large : (v : ℕ) → largestNumber < v → capped v ≡ suc largestNumber
 unfolding capped
@@ -45,11 +45,8 @@ value-more [] b v = refl
 value-more (a ∷ l) b v = value-more l b (v * 10 + (a - 48))
 
 pub digit-range : (b : ℕ) (t : Bool) → t ≡ digit b → t ≡ true → (48 ≤ b) × (b ≤ 57)
-unfolding digit between
-digit-range b t is g =
-    let d : digit b ≡ true = sym is ∙ g in
-    test (ltb b 48) (λ e. false-true (rw (e, between, digit) at d))
-    (λ e. (ltb-false b 48 e, leb-true b 57 (rw (e, between, digit) at d)))
+unfolding digit
+digit-range b t is g = range 48 57 b (sym is ∙ g)
 
 -- What n digits write, as far as the value counts.
 pub record Passed (text : List ℕ) (n v : ℕ) : Type 0 where

@@ -4,9 +4,10 @@ use mathlib.Core.Bool.{Bool, true, false}
 use mathlib.Core.List.{List, [], _∷_}
 use Prim.Native.Nat.{ℕ, zero, suc, _+_, _*_, _≤_}
 use lib.Dec.{ltb}
-use lib.ListN.{length, getD, take, drop}
+use lib.ListN.{getD, take, drop}
 use Rattle.paper.specs.Sorts.{STRING, signSort}
 use Rattle.paper.specs.Words as paper
+use Rattle.reserved.specs.Runs.{Counted}
 use Rattle.scanner.specs.declared.Scan.{Scan}
 use Rattle.scanner.specs.declared.Scan.the-variants.{Word, Refused}
 use Rattle.scanner.specs.declared.Gap.{Gap}
@@ -43,11 +44,6 @@ closedString n (suc m) = paper.refused 4 (suc m)
 unfoldable pub Commented : List ℕ → (at : ℕ) → Gap → Type 0
 Commented text at (UpTo place) = (at ≤ place) × (paper.gap true (drop at text) at ≡ paper.gap false (drop place text) place)
 Commented text at (BadByte place) = paper.gap true (drop at text) at ≡ paper.badByte place
-
--- n is how many bytes from the first on are such bytes
-pub record Counted (such : ℕ → Bool) (text : List ℕ) (n : ℕ) : Type 0 where
-  pub exact : n ≡ paper.leading such text
-  pub within : n ≤ length text
 
 -- Numbers above the largest are one.
 unfoldable pub capped : ℕ → ℕ

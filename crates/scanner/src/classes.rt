@@ -1,45 +1,11 @@
 // Classes of bytes: what the paper says of one byte, by comparisons. Those that most bytes of a lesson pass come first.
+use reserved::classes::in_range;
+use reserved::classes::is_letter;
 ghost use mathlib.Core.Path.{_≡_};
 ghost use mathlib.Core.List.{[], _∷_};
 ghost use Prim.Native.Nat.{_<_, _≤_};
 ghost use Rattle.paper.specs.Sorts.{signSort};
-ghost use Rattle.paper.specs.Words.{between, letter, digit, inName, spoilsNumber, barredInString, separates, permitted, permittedInside};
-
-fn in_range(b: u8, low: u8, high: u8) -> bool
-    ensures { λ r. ⌜ r ≡ between low high b ⌝ }
-{
-    if b < low {
-        return false;
-    }
-    b <= high
-}
-
-pub(crate) fn is_digit(b: u8) -> bool
-    ensures { λ r. ⌜ r ≡ digit b ⌝ }
-{
-    in_range(b, b'0', b'9')
-}
-
-pub(crate) fn is_letter(b: u8) -> bool
-    ensures { λ r. ⌜ r ≡ letter b ⌝ }
-{
-    if in_range(b, b'A', b'Z') {
-        return true;
-    }
-    in_range(b, b'a', b'z')
-}
-
-pub(crate) fn is_in_name(b: u8) -> bool
-    ensures { λ r. ⌜ r ≡ inName b ⌝ }
-{
-    if is_letter(b) {
-        return true;
-    }
-    if is_digit(b) {
-        return true;
-    }
-    b == b'_'
-}
+ghost use Rattle.paper.specs.Words.{spoilsNumber, barredInString, separates, permitted, permittedInside};
 
 pub(crate) fn is_spoiling(b: u8) -> bool
     ensures { λ r. ⌜ r ≡ spoilsNumber b ⌝ }

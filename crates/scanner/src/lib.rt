@@ -5,10 +5,10 @@ mod number;
 mod sign;
 mod string;
 
-use classes::is_digit;
-use classes::is_letter;
 use classes::is_permitted_inside;
 use classes::is_separator;
+use reserved::classes::is_digit;
+use reserved::classes::is_letter;
 ghost use Rattle.scanner.specs.Answers.{Scanned, Skipped, Commented};
 
 // Refusals of a word, by their numbers in the paper.

@@ -2,8 +2,8 @@
 use super::MALFORMED;
 use super::Scan;
 use super::TOO_LARGE;
-use super::classes::is_digit;
 use super::classes::is_spoiling;
+use reserved::classes::is_digit;
 ghost use mathlib.Core.Path.{_≡_};
 ghost use Prim.Native.Nat.{_+_, _*_, _-_, _≤_, _<_};
 ghost use Rattle.paper.specs.Words.{largestNumber, spoilsNumber, scanNumber};

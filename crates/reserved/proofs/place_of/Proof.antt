@@ -1,10 +1,11 @@
 -- `reserved::place_of` meets its contract.
-use mathlib.Core.Path.{ap}
-use Prim.Native.Nat.{ℕ, _+_, _%_}
 use Rattle.reserved.specs.Keys.{placeOf}
 use borrow.Author.Needs.{needs}
 use Rattle.reserved.proofs.place_of.Statement.{statement}
 use Rattle.reserved.proofs.place_of.Tie as tie
+
+mul-result : tie.Need-mul-result
+mul-result c = search needs
 
 shift-at-requires : tie.Need-shift-at-requires
 shift-at-requires c κs = search needs
@@ -14,7 +15,7 @@ add-result c = search needs
 
 returns : tie.Need-returns
 unfolding placeOf
-returns c = (ap (λ (s : ℕ). (c .before .args .key % 155 + s) % 64) (c .shift-at .ensures .0), search needs)
+returns c = (rw (c .shift-at .ensures .0), search needs)
 
 pub place-of-spec : {M : Type 1} → statement M
-place-of-spec = tie.close (tie.spec shift-at-requires add-result returns)
+place-of-spec = tie.close (tie.spec mul-result shift-at-requires add-result returns)

@@ -1,6 +1,6 @@
 -- `scanner::classes::is_permitted` meets its contract.
 use Rattle.paper.specs.Words.{permitted}
-use Rattle.scanner.proofs.Bytes.{chain}
+use Rattle.reserved.proofs.Ranges.{chain}
 use borrow.Author.Needs.{needs}
 use Rattle.scanner.proofs.classes.is_permitted.Statement.{statement}
 use Rattle.scanner.proofs.classes.is_permitted.Tie as tie

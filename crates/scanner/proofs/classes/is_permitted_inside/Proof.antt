@@ -1,6 +1,6 @@
 -- `scanner::classes::is_permitted_inside` meets its contract.
 use Rattle.paper.specs.Words.{permittedInside}
-use Rattle.scanner.proofs.Bytes.{chain}
+use Rattle.reserved.proofs.Ranges.{chain}
 use borrow.Author.Needs.{needs}
 use Rattle.scanner.proofs.classes.is_permitted_inside.Statement.{statement}
 use Rattle.scanner.proofs.classes.is_permitted_inside.Tie as tie

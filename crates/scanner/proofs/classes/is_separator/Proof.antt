@@ -1,6 +1,6 @@
 -- `scanner::classes::is_separator` meets its contract.
 use Rattle.paper.specs.Words.{separates}
-use Rattle.scanner.proofs.Bytes.{chain}
+use Rattle.reserved.proofs.Ranges.{chain}
 use borrow.Author.Needs.{needs}
 use Rattle.scanner.proofs.classes.is_separator.Statement.{statement}
 use Rattle.scanner.proofs.classes.is_separator.Tie as tie

@@ -1,6 +1,7 @@
 -- `scanner::classes::is_spoiling` meets its contract.
 use Rattle.paper.specs.Words.{spoilsNumber}
-use Rattle.scanner.proofs.Bytes.{chain, spoils-not}
+use Rattle.reserved.proofs.Ranges.{chain}
+use Rattle.scanner.proofs.Bytes.{spoils-not}
 use borrow.Author.Needs.{needs}
 use Rattle.scanner.proofs.classes.is_spoiling.Statement.{statement}
 use Rattle.scanner.proofs.classes.is_spoiling.Tie as tie

@@ -1,9 +1,9 @@
--- `scanner::classes::is_in_name` meets its contract.
+-- `reserved::classes::is_in_name` meets its contract.
 use Rattle.paper.specs.Words.{inName}
-use Rattle.scanner.proofs.Bytes.{chain}
+use Rattle.reserved.proofs.Ranges.{chain}
 use borrow.Author.Needs.{needs}
-use Rattle.scanner.proofs.classes.is_in_name.Statement.{statement}
-use Rattle.scanner.proofs.classes.is_in_name.Tie as tie
+use Rattle.reserved.proofs.classes.is_in_name.Statement.{statement}
+use Rattle.reserved.proofs.classes.is_in_name.Tie as tie
 
 is-letter-requires : tie.Need-is-letter-requires
 is-letter-requires c κs = search needs

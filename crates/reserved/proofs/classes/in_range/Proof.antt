@@ -1,8 +1,8 @@
--- `scanner::classes::in_range` meets its contract.
-use Rattle.scanner.proofs.Bytes.{below-range, in-range}
+-- `reserved::classes::in_range` meets its contract.
+use Rattle.reserved.proofs.Ranges.{below-range, in-range}
 use borrow.Author.Needs.{needs}
-use Rattle.scanner.proofs.classes.in_range.Statement.{statement}
-use Rattle.scanner.proofs.classes.in_range.Tie as tie
+use Rattle.reserved.proofs.classes.in_range.Statement.{statement}
+use Rattle.reserved.proofs.classes.in_range.Tie as tie
 
 returns : tie.Need-returns
 returns c = search (needs, below-range)

@@ -1,8 +1,8 @@
--- `scanner::classes::is_digit` meets its contract.
+-- `reserved::classes::is_digit` meets its contract.
 use Rattle.paper.specs.Words.{digit}
 use borrow.Author.Needs.{needs}
-use Rattle.scanner.proofs.classes.is_digit.Statement.{statement}
-use Rattle.scanner.proofs.classes.is_digit.Tie as tie
+use Rattle.reserved.proofs.classes.is_digit.Statement.{statement}
+use Rattle.reserved.proofs.classes.is_digit.Tie as tie
 
 in-range-requires : tie.Need-in-range-requires
 in-range-requires c κs = search needs

@@ -1,9 +1,9 @@
--- `scanner::classes::is_letter` meets its contract.
+-- `reserved::classes::is_letter` meets its contract.
 use Rattle.paper.specs.Words.{letter}
-use Rattle.scanner.proofs.Bytes.{chain}
+use Rattle.reserved.proofs.Ranges.{chain}
 use borrow.Author.Needs.{needs}
-use Rattle.scanner.proofs.classes.is_letter.Statement.{statement}
-use Rattle.scanner.proofs.classes.is_letter.Tie as tie
+use Rattle.reserved.proofs.classes.is_letter.Statement.{statement}
+use Rattle.reserved.proofs.classes.is_letter.Tie as tie
 
 in-range-requires : tie.Need-in-range-requires
 in-range-requires c κs = search needs

@@ -1,20 +1,20 @@
--- `scanner::name::name_length` meets its contract. The invariant: what is left of the run.
+-- `reserved::name_length` meets its contract. The invariant: what is left of the run.
 use Prim.Native.Nat.{_-_}
 use lib.ListN.{length}
 use Rattle.paper.specs.Words.{inName}
-use Rattle.scanner.proofs.Runs.{Run, run-start, run-more, run-stop, run-out}
+use Rattle.reserved.proofs.Runs.{Run, letters-run, run-more, run-stop, run-out}
 use borrow.Author.Needs.{needs}
-use Rattle.scanner.proofs.name.name_length.Statement.{statement}
-use Rattle.scanner.proofs.name.name_length.Tie as tie
+use Rattle.reserved.proofs.name_length.Statement.{statement}
+use Rattle.reserved.proofs.name_length.Tie as tie
 
 abbrev Inv-loop : tie.InvT-loop
-Inv-loop text n₀ n = Run inName text n
+Inv-loop text letters n₀ n = Run inName text n
 
 abbrev μ-loop : tie.MeasureT-loop
-μ-loop text n₀ n = length text - n
+μ-loop text letters n₀ n = length text - n
 
 loop-holds : tie.Need-loop-holds Inv-loop μ-loop
-loop-holds c = search (needs, run-start)
+loop-holds c = search (needs, letters-run)
 
 shared-slice-read-is-in-name : tie.Need-shared-slice-read-is-in-name Inv-loop μ-loop
 shared-slice-read-is-in-name c = search needs
