@@ -1,23 +1,22 @@
 -- A chain has every first name of its hash, so that a text that is not found in its chain is new. Links fall, so the walk ends.
-use mathlib.Core.Path.{_≡_, refl, sym, ap, ap₂, subst, _∙_}
+use mathlib.Core.Path.{_≡_, refl, sym, ap, ap₂, _∙_}
 use mathlib.Core.Bool.{Bool, true, false}
-use mathlib.Core.List.{List, [], _∷_, map}
+use mathlib.Core.List.{List, map}
 use Prim.Native.Nat.{ℕ, zero, suc, _+_, _-_, _*_, _/_, _%_, _<_, _≤_}
 use native.Mathlib.Omega.{arith}
-use lib.Dec.{eqb, ltb}
-use lib.ListN.{length, getD, take, drop}
-use borrow.Author.Tests.{eqb-true, eq-eqb, ltb-true, lt-ltb, le-ltb}
-use Rattle.laws.proofs.Tests.{test, by-last, by-less, by-same, apart, false-true}
-use Rattle.cells.specs.Words.{wordsOf, Got}
-use Rattle.paper.specs.Sorts.{folded, equalTexts, NAME, STRING}
+use lib.Dec.{eqb}
+use lib.ListN.{length, take, drop}
+use borrow.Author.Tests.{eqb-true, eq-eqb, lt-ltb, le-ltb}
+use Rattle.laws.proofs.Tests.{test, by-last, by-less, by-same, false-true}
+use Rattle.cells.specs.Words.{Got}
+use Rattle.paper.specs.Sorts.{folded, equalTexts, NAME}
 use Rattle.paper.specs.Words.{Word, textLimit}
 use Rattle.paper.specs.Names.{Text, nth, sortIn, spelled}
-use Rattle.code.specs.Cells.{headAt, tailAt, placeAt, linkAt}
 use Rattle.words.proofs.Places.{Lies, lies-is}
 use Rattle.names.specs.Numbers.{firstNamed, numberOf, IsName}
-use Rattle.names.proofs.Spellings.{Named, name-inside, first-found, same-texts, differing}
+use Rattle.names.proofs.Spellings.{name-inside, first-found, same-texts, differing}
 use Rattle.load.specs.Hash.{hashOf}
-use Rattle.load.specs.Layout.{headValue, headOf, isFirst, opens, latest, knownAs, Written, wordsIn, Chain, Finds}
+use Rattle.load.specs.Layout.{headValue, isFirst, opens, latest, knownAs, wordsIn, Chain, Finds}
 use Rattle.load.proofs.Letters.{sameNames}
 use Rattle.load.proofs.Hashing.{hash-folded}
 use Rattle.load.proofs.Bounds.{text-short, reading-good}

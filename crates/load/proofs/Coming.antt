@@ -1,28 +1,26 @@
 -- The word that comes, a name or another, goes into both stores.
 use mathlib.Core.Path.{_≡_, refl, sym, ap, ap₂, subst, _∙_}
-use mathlib.Core.Bool.{Bool, true, false}
-use mathlib.Core.List.{List, [], _∷_, map}
-use Prim.Native.Nat.{ℕ, suc, _+_, _-_, _*_, _/_, _%_, _<_, _≤_}
+use mathlib.Core.Bool.{true, false}
+use mathlib.Core.List.{List, map}
+use Prim.Native.Nat.{ℕ, _+_, _-_, _*_, _<_, _≤_}
 use native.Mathlib.Omega.{arith}
-use lib.Dec.{eqb}
-use lib.ListN.{length, getD, take, drop}
+use lib.ListN.{length, take, drop}
 use borrow.Author.Tests.{eq-eqb, ne-eqb}
 use Rattle.laws.proofs.Tests.{false-true}
 use Rattle.cells.specs.Words.{wordsOf, Got, Put}
 use Rattle.cells.proofs.Kept.{put-length, put-drop}
 use Rattle.paper.specs.Sorts.{folded, NAME, STRING}
-use Rattle.paper.specs.Words.{Word, textLimit}
+use Rattle.paper.specs.Words.{Word}
 use Rattle.paper.specs.Names.{nth, sortIn, spelled}
 use Rattle.words.specs.declared.Word as declared
-use Rattle.words.specs.Answers.{wordOf}
-use Rattle.words.proofs.Places.{Lies, lies-is}
-use Rattle.names.specs.Numbers.{firstNamed, numberOf, IsName}
-use Rattle.names.specs.Meanings.{protectedCell, firstMeaning}
-use Rattle.names.specs.Promises.{storeBytes, numberLimit, tailWith, Rewritten}
+use Rattle.words.proofs.Places.{lies-is}
+use Rattle.names.specs.Numbers.{numberOf, IsName}
+use Rattle.names.specs.Meanings.{protectedCell}
+use Rattle.names.specs.Promises.{storeBytes, tailWith, Rewritten}
 use Rattle.names.proofs.Spellings.{name-inside, number-most}
 use Rattle.names.proofs.Rewriting.{rewritten-length, rewritten-drop}
-use Rattle.load.specs.Hash.{buckets, hashOf}
-use Rattle.load.specs.Layout.{headValue, headOf, isFirst, latest, knownAs, firstBucket, Written, Tabled, wordsIn, Loading, Keeping, Goes, Comes, valueOf, NameComes, Chain, Finds}
+use Rattle.load.specs.Hash.{hashOf}
+use Rattle.load.specs.Layout.{headValue, headOf, isFirst, latest, knownAs, firstBucket, Written, wordsIn, Loading, Keeping, Goes, Comes, valueOf, NameComes, Chain, Finds}
 use Rattle.load.proofs.Hashing.{hash-folded}
 use Rattle.load.proofs.Bounds.{reading-good}
 use Rattle.load.proofs.Chains.{latest-most, latest-itself, known-some, known-zero, known-latest}

@@ -1,34 +1,23 @@
 -- One word more in both stores.
-use mathlib.Core.Path.{_≡_, refl, sym, ap, ap₂, subst, _∙_}
-use mathlib.Core.Bool.{Bool, true, false}
-use mathlib.Core.List.{List, [], _∷_, map}
-use Prim.Native.Nat.{ℕ, suc, _+_, _-_, _*_, _/_, _%_, _<_, _≤_}
+use mathlib.Core.Path.{_≡_, refl, sym, ap, _∙_}
+use mathlib.Core.Bool.{true, false}
+use mathlib.Core.List.{List}
+use Prim.Native.Nat.{ℕ, _+_, _-_, _*_, _/_, _%_, _<_, _≤_}
 use native.Mathlib.Omega.{arith}
 use native.Mathlib.Numerals.{add-one}
-use lib.Dec.{eqb}
-use lib.ListN.{length, getD, take, drop}
+use lib.ListN.{length, getD}
 use borrow.Author.Tests.{eq-eqb, ne-eqb}
-use Rattle.laws.proofs.Tests.{test, by-last, by-same, false-true}
-use Rattle.cells.specs.Words.{wordsOf, Got, Put}
-use Rattle.cells.proofs.Kept.{put-length, put-drop, put-same, put-other}
-use Rattle.paper.specs.Basics.{if_then_else_}
-use Rattle.paper.specs.Sorts.{folded, NAME, STRING}
-use Rattle.paper.specs.Words.{Word, textLimit}
-use Rattle.paper.specs.Names.{nth, sortIn, spelled}
-use Rattle.code.specs.Cells.{headAt, tailAt, placeAt, linkAt}
-use Rattle.words.specs.declared.Word as declared
-use Rattle.words.specs.Answers.{wordOf}
-use Rattle.words.proofs.Places.{Lies, lies-is}
-use Rattle.names.specs.Numbers.{firstNamed, numberOf, IsName}
+use Rattle.laws.proofs.Tests.{by-same}
+use Rattle.cells.specs.Words.{wordsOf, Put}
+use Rattle.cells.proofs.Kept.{put-length, put-same, put-other}
+use Rattle.paper.specs.Words.{Word}
+use Rattle.paper.specs.Names.{nth, spelled}
+use Rattle.code.specs.Cells.{placeAt, linkAt}
 use Rattle.names.specs.Meanings.{protectedCell, firstMeaning}
 use Rattle.names.specs.Promises.{storeBytes, numberLimit, tailWith, Rewritten}
-use Rattle.names.proofs.Spellings.{name-inside, number-most}
-use Rattle.names.proofs.Rewriting.{rewritten-length, rewritten-drop, rewritten-head, rewritten-tail, rewritten-heads, rewritten-tails}
+use Rattle.names.proofs.Rewriting.{rewritten-head, rewritten-tail, rewritten-heads, rewritten-tails}
 use Rattle.load.specs.Hash.{buckets, hashOf}
-use Rattle.load.specs.Layout.{headValue, headOf, isFirst, firstCell, opens, latest, knownAs, firstBucket, pastBuckets, Written, Tabled, wordsIn, Loading, Keeping, Goes, Comes, valueOf, NameComes, Chain, Finds}
-use Rattle.load.proofs.Hashing.{hash-folded}
-use Rattle.load.proofs.Bounds.{reading-good}
-use Rattle.load.proofs.Chains.{First, true-first, opens-hash, latest-most, latest-itself, known-some, known-zero, known-latest}
+use Rattle.load.specs.Layout.{headOf, isFirst, firstCell, opens, latest, firstBucket, Written, Tabled}
 
 -- ---- the code store
 module _ (W : List Word) (i : ℕ) (code code′ : List ℕ) (head place link : ℕ) (p : Rewritten code code′ i head (tailWith place link)) (room : i * 8 + 8 ≤ length code) (small : place < 65536) where

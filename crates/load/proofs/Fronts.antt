@@ -1,12 +1,10 @@
 -- Fours of bytes from the front on, compared as words.
 use mathlib.Core.Path.{_≡_, refl, sym, ap, ap₂, _∙_}
-use mathlib.Core.Bool.{true}
 use mathlib.Core.List.{List, [], _∷_, _++_, map, map-append}
-use Prim.Native.Nat.{ℕ, zero, suc, _+_, _*_, _/_, _<_, _≤_}
+use Prim.Native.Nat.{ℕ, _+_, _*_, _<_, _≤_}
 use native.Mathlib.Omega.{arith}
 use native.Mathlib.Numerals.{add-one}
-use lib.Dec.{eqb}
-use lib.ListN.{length, getD, take, drop, length-take, take-append-drop, List·getD-eq-default}
+use lib.ListN.{length, take, drop, length-take, take-append-drop, List·getD-eq-default}
 use lib.Seq.{getD-take, length-take-le, take-all, take-suc}
 use borrow.Author.Tests.{eq-eqb}
 use Rattle.laws.proofs.Tests.{by-less}

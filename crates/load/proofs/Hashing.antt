@@ -1,17 +1,15 @@
 -- The hash of a name is the same in both letter cases.
-use mathlib.Core.Path.{_≡_, refl, sym, ap, ap₂, _∙_}
-use mathlib.Core.Bool.{true, false}
+use mathlib.Core.Path.{_≡_, refl, ap, _∙_}
 use mathlib.Core.List.{List, [], _∷_, map}
 use Prim.Native.Nat.{ℕ, zero, suc, _+_, _-_, _*_, _/_, _%_, _<_, _≤_}
 use native.Mathlib.Omega.{arith}
 use native.Mathlib.Numerals.{add-one}
 use lib.Dec.{ltb, leb}
-use lib.ListN.{length, getD, length-map}
-use borrow.Author.Tests.{lt-ltb, le-ltb, ltb-false, leb-true}
+use lib.ListN.{length, length-map}
+use borrow.Author.Tests.{lt-ltb, le-ltb, ltb-false}
 use Rattle.laws.proofs.Tests.{test}
-use Rattle.paper.specs.Basics.{if_then_else_}
 use Rattle.paper.specs.Sorts.{folded}
-use Rattle.load.specs.Hash.{buckets, lowAt, fourOf, fewOf, mixed, manyOf, hashOf}
+use Rattle.load.specs.Hash.{lowAt, fourOf, fewOf, mixed, manyOf, hashOf}
 
 -- ---- four at a time
 pub record Mixes (l : List ℕ) (h k : ℕ) : Type 0 where

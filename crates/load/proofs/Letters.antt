@@ -1,18 +1,15 @@
 -- Letters and texts with letter case folded.
-use mathlib.Core.Path.{_≡_, refl, sym, ap, ap₂, _∙_}
+use mathlib.Core.Path.{_≡_, sym, ap, ap₂, _∙_}
 use mathlib.Core.Bool.{Bool, true, false, not}
-use mathlib.Core.List.{List, [], _∷_, map}
-use Prim.Native.Nat.{ℕ, suc, _+_, _-_, _<_, _≤_}
+use mathlib.Core.List.{List, _∷_, map}
+use Prim.Native.Nat.{ℕ, _+_, _-_, _<_, _≤_}
 use native.Mathlib.Omega.{arith}
 use lib.Dec.{eqb}
-use lib.ListN.{length, getD, drop, length-map, length-drop, drop-of-length-le}
+use lib.ListN.{length, getD, drop, length-map, drop-of-length-le}
 use borrow.Author.Tests.{not-true, not-false, eq-eqb, lt-ltb, le-ltb, le-leb, lt-leb}
-use Rattle.laws.proofs.Tests.{test}
 use Rattle.laws.proofs.Lists.{rest}
-use Rattle.paper.specs.Sorts.{bytes, folded, equalTexts}
-use Rattle.paper.specs.Names.{unknown, lookIn, protected}
-use Rattle.names.specs.Meanings.{cellOf, protectedCell}
-use Rattle.names.proofs.Spellings.{same-texts, texts-differ}
+use Rattle.paper.specs.Sorts.{folded, equalTexts}
+use Rattle.names.proofs.Spellings.{texts-differ}
 
 -- ---- letters
 module _ (b : ℕ) where

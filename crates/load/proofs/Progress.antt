@@ -1,13 +1,12 @@
 -- The loading of a text, word by word.
 use mathlib.Core.Path.{_≡_, refl, sym, ap, subst, _∙_}
-use mathlib.Core.Bool.{Bool, true, false}
-use mathlib.Core.List.{List, [], _∷_}
+use mathlib.Core.List.{List, _∷_}
 use mathlib.Core.Option.{Option, none, some}
-use Prim.Native.Nat.{ℕ, suc, _+_, _-_, _*_, _<_, _≤_}
+use Prim.Native.Nat.{ℕ, _+_, _-_, _*_, _<_, _≤_}
 use native.Mathlib.Omega.{arith}
-use lib.ListN.{length, getD, take, drop, drop-of-length-le, length-drop, List·getD-eq-default}
+use lib.ListN.{length, getD, drop, List·getD-eq-default}
 use lib.Seq.{drop-drop, getD-drop}
-use Rattle.laws.proofs.Tests.{by-less, by-most}
+use Rattle.laws.proofs.Tests.{by-less}
 use Rattle.cells.specs.Words.{wordsOf, Cleared}
 use Rattle.cells.proofs.Kept.{clear-length, clear-drop, clear-in, clear-below, clear-above}
 use Rattle.paper.specs.Words as paper
@@ -20,10 +19,9 @@ use Rattle.words.specs.declared.Step.the-variants as steps
 use Rattle.words.specs.Answers.{wordOf, after, Started, Stepped, leftOf}
 use Rattle.words.proofs.Readings.{Gives, step-gives, step-ends, step-refuses, start-left}
 use Rattle.names.specs.Meanings.{firstMeaning}
-use Rattle.names.specs.Promises.{storeBytes, numberLimit}
-use Rattle.load.specs.declared.Loaded.{Loaded}
+use Rattle.names.specs.Promises.{storeBytes}
 use Rattle.load.specs.declared.Loaded.the-variants as loaded
-use Rattle.load.specs.Layout.{isFirst, firstCell, latest, firstBucket, pastBuckets, Written, Tabled, wordsIn, Loading, Keeping, Goes, Comes}
+use Rattle.load.specs.Layout.{isFirst, firstCell, latest, firstBucket, wordsIn, Loading, Keeping, Goes, Comes}
 use Rattle.load.specs.Loads.{Ready, answerOf, Loads}
 use Rattle.load.proofs.Bounds.{text-short, reading-good}
 

@@ -1,22 +1,21 @@
 -- What later passes take from the loading.
 use mathlib.Core.Path.{_≡_, ap, _∙_}
-use mathlib.Core.Bool.{true}
 use mathlib.Core.List.{List}
-use Prim.Native.Nat.{ℕ, _+_, _*_, _/_, _%_, _<_, _≤_}
+use Prim.Native.Nat.{ℕ, _+_, _*_, _/_, _%_, _<_}
 use native.Mathlib.Omega.{arith}
 use lib.ListN.{length}
 use borrow.Author.Tests.{eq-eqb}
 use Rattle.cells.specs.Words.{wordsOf}
 use Rattle.paper.specs.Sorts.{NAME}
-use Rattle.paper.specs.Names.{nth, sortIn, spelled}
-use Rattle.code.specs.Cells.{opAt, headAt}
+use Rattle.paper.specs.Names.{nth, sortIn}
+use Rattle.code.specs.Cells.{opAt}
 use Rattle.names.specs.Numbers.{numberOf, IsName}
-use Rattle.names.specs.Meanings.{protectedCell, Means, noScopes}
+use Rattle.names.specs.Meanings.{Means, noScopes}
 use Rattle.names.specs.Promises.{numberAt}
 use Rattle.names.proofs.Spellings.{name-inside, number-most}
 use Rattle.names.proofs.Shields.{means-first}
 use Rattle.load.specs.declared.Loaded.{Loaded}
-use Rattle.load.specs.Layout.{headValue, isFirst, firstCell, wordsIn}
+use Rattle.load.specs.Layout.{headValue, firstCell, wordsIn}
 use Rattle.load.specs.Loads.{Loads}
 use Rattle.load.proofs.Bounds.{reading-good, reading-most}
 use Rattle.load.proofs.Chains.{true-first}

@@ -1,7 +1,7 @@
 -- The promise settles the answer, the value store whole, and of the code store all but the words' links: a word's head and place, and every byte behind the words.
 use mathlib.Core.Path.{_≡_, sym, ap, ap₂, subst, _∙_}
 use mathlib.Core.List.{List, _++_}
-use Prim.Native.Nat.{ℕ, _+_, _-_, _*_, _/_, _<_, _≤_}
+use Prim.Native.Nat.{ℕ, _+_, _-_, _*_, _<_, _≤_}
 use native.Mathlib.Omega.{arith}
 use lib.ListN.{length, getD, take, drop, take-append-drop}
 use lib.Seq.{ext-getD, getD-take, length-take-le}
@@ -10,7 +10,6 @@ use Rattle.cells.specs.Words.{wordsOf, bytesOf}
 use Rattle.cells.proofs.Laws.{Bytes, length-words}
 use Rattle.code.specs.Cells.{headAt, placeAt}
 use Rattle.names.specs.Meanings.{firstMeaning}
-use Rattle.names.specs.Promises.{storeBytes}
 use Rattle.load.specs.declared.Loaded.{Loaded}
 use Rattle.load.specs.Layout.{wordsIn}
 use Rattle.load.specs.Loads.{Ready, Loads}

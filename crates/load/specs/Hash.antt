@@ -1,5 +1,4 @@
 -- The hash of a name. Nobody has to believe it: no promise speaks of it.
-use mathlib.Core.Bool.{true, false}
 use mathlib.Core.List.{List}
 use Prim.Native.Nat.{ℕ, zero, suc, _+_, _-_, _*_, _/_, _%_}
 use lib.Dec.{ltb}

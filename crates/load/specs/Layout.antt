@@ -8,7 +8,6 @@ use lib.ListN.{length, getD, take, drop}
 use Rattle.cells.specs.Words.{wordsOf}
 use Rattle.paper.specs.Basics.{if_then_else_}
 use Rattle.paper.specs.Sorts.{folded, NAME, STRING}
-use Rattle.paper.specs.Words as paper
 use Rattle.paper.specs.Words.{Word, reading, textLimit, wordLimit, nameLimit, largestNumber}
 use Rattle.paper.specs.Names.{Text, nth, sortIn, spelled}
 use Rattle.code.specs.Cells.{headAt, placeAt, linkAt}

@@ -2,10 +2,10 @@
 use mathlib.Core.Path.{_≡_}
 use mathlib.Core.List.{List}
 use mathlib.Core.Option.{Option, none, some}
-use Prim.Native.Nat.{ℕ, _+_, _*_, _<_, _≤_}
-use lib.ListN.{length, getD, drop}
+use Prim.Native.Nat.{ℕ, _+_, _<_, _≤_}
+use lib.ListN.{length, getD}
 use Rattle.cells.specs.Words.{wordsOf}
-use Rattle.paper.specs.Words.{Refusal, Reading, reading}
+use Rattle.paper.specs.Words.{Refusal, reading}
 use Rattle.paper.specs.Names.{nth}
 use Rattle.code.specs.Cells.{headAt, placeAt}
 use Rattle.names.specs.Meanings.{firstMeaning}

@@ -25,13 +25,16 @@ const BUCKETS: usize = 2048;
 // A name's head has its number below this, and its length above.
 const LENGTHS: usize = 8192;
 
+// Places are below this in a word's tail, and its link above.
+const PLACES: usize = 65536;
+
 // Makes a word's two cells be its head, and its place and link.
 fn put_cells(code: &mut [u8], i: usize, head: u32, place: usize, link: usize)
     requires { ⌜ (i * 8 + 8 ≤ length (now code)) × (place < 65536) × (link < 65536) ⌝ }
     ensures { λ _. ⌜ Rewritten (now (code .entry)) (now (code .exit)) i head (tailWith place link) ⌝ }
 {
     cells::put(code, i * 2, head);
-    cells::put(code, i * 2 + 1, (place + 65536 * link) as u32);
+    cells::put(code, i * 2 + 1, (place + PLACES * link) as u32);
 }
 
 // The first name with a text in the chain that begins as given: its index and 1, or 0 where there is none.

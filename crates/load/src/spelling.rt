@@ -15,6 +15,13 @@ const SMALL: u8 = 32;
 // Letters in both cases are the same below this.
 const LETTERS: usize = 32;
 
+// Letters of five bits, one above the other.
+const SECOND: usize = 32;
+
+const THIRD: usize = 1024;
+
+const FOURTH: usize = 32768;
+
 // A hash is kept below this while it is made, and has so many low bits too many at the end.
 const RANGE: usize = 1048576;
 
@@ -24,6 +31,15 @@ const LOW_BITS: usize = 512;
 const MIX: usize = 73;
 
 const SPREAD: usize = 648055;
+
+// Errors, by their numbers.
+const OVERFLOW: u32 = 1001;
+
+const DIV_ZERO: u32 = 1002;
+
+const OUT_OF_BOUND: u32 = 1003;
+
+const ILL_RAISE: u32 = 1004;
 
 // A small letter becomes a capital.
 fn fold(b: u8) -> u8
@@ -91,7 +107,7 @@ fn four(name: &[u8], i: usize) -> usize
     requires { ⌜ i + 4 ≤ length (now name) ⌝ }
     ensures { λ r. ⌜ (r ≡ fourOf (now (name .entry)) i) × (r < 1048576) ⌝ }
 {
-    low(name[i]) + 32 * low(name[i + 1]) + 1024 * low(name[i + 2]) + 32768 * low(name[i + 3])
+    low(name[i]) + SECOND * low(name[i + 1]) + THIRD * low(name[i + 2]) + FOURTH * low(name[i + 3])
 }
 
 // A name of one to three letters: all of them, and how many they are.
@@ -100,7 +116,7 @@ fn few(name: &[u8]) -> usize
     ensures { λ r. ⌜ (r ≡ fewOf (now (name .entry))) × (r < 1048576) ⌝ }
 {
     let n = name.len();
-    low(name[0]) + 32 * low(name[n / 2]) + 1024 * low(name[n - 1]) + 32768 * n
+    low(name[0]) + SECOND * low(name[n / 2]) + THIRD * low(name[n - 1]) + FOURTH * n
 }
 
 // A longer name: four letters at a time, after the last four.
@@ -140,16 +156,16 @@ pub fn protected(name: &[u8]) -> u32
         return names::ERRNO;
     }
     if same(b"ERR_OVERFLOW", name) {
-        return names::ERROR_NUMBER + names::VALUE * 1001;
+        return names::ERROR_NUMBER + names::VALUE * OVERFLOW;
     }
     if same(b"ERR_DIVZERO", name) {
-        return names::ERROR_NUMBER + names::VALUE * 1002;
+        return names::ERROR_NUMBER + names::VALUE * DIV_ZERO;
     }
     if same(b"ERR_OUTOFBND", name) {
-        return names::ERROR_NUMBER + names::VALUE * 1003;
+        return names::ERROR_NUMBER + names::VALUE * OUT_OF_BOUND;
     }
     if same(b"ERR_ILLRAISE", name) {
-        return names::ERROR_NUMBER + names::VALUE * 1004;
+        return names::ERROR_NUMBER + names::VALUE * ILL_RAISE;
     }
     names::UNKNOWN
 }

@@ -1,17 +1,17 @@
 -- A word's two cells written, and the other cells of both stores.
 use mathlib.Core.Path.{_≡_, refl, ap, ap₂, subst, _∙_}
 use mathlib.Core.List.{List, [], _∷_}
-use Prim.Native.Nat.{ℕ, _+_, _*_, _/_, _%_, _≤_, _<_}
+use Prim.Native.Nat.{ℕ, _+_, _*_, _/_, _%_, _≤_}
 use native.Mathlib.Omega.{arith}
-use lib.ListN.{length, take, drop, set, getD, length-set}
+use lib.ListN.{length, drop, set, getD, length-set}
 use lib.Seq.{getD-set-same, getD-set-other}
 use Rattle.laws.specs.Lists.{replaced}
 use Rattle.laws.proofs.Lists.{replaced-on, replaced-length, replaced-drop}
 use Rattle.cells.specs.Words.{wordsOf, bytesOf, Got, Put}
 use Rattle.cells.proofs.Laws.{length-words}
-use Rattle.code.specs.Cells.{headAt, tailAt, placeAt, linkAt}
+use Rattle.code.specs.Cells.{headAt, tailAt, placeAt}
 use Rattle.names.specs.Meanings.{firstMeaning}
-use Rattle.names.specs.Promises.{numberLimit, numberAt, meaningAt, tailWith, Rewritten, Number, Meant, Declared, Left}
+use Rattle.names.specs.Promises.{numberAt, meaningAt, tailWith, Rewritten, Number, Meant, Declared, Left}
 
 -- ---- a word is its head and its tail
 pub two-puts : (a b c : List ℕ) (i head tail : ℕ) → i * 8 + 8 ≤ length a → Put a b (i * 2) head → Put b c (i * 2 + 1) tail → Rewritten a c i head tail

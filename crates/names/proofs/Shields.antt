@@ -1,13 +1,13 @@
 -- The cells of protected names, and the table before any declaration.
-use mathlib.Core.Path.{_≡_, refl, sym, ap, _∙_}
-use mathlib.Core.Bool.{true, false}
+use mathlib.Core.Path.{_≡_, refl, ap, _∙_}
+use mathlib.Core.Bool.{true}
 use mathlib.Core.List.{List, [], _∷_, map}
 use Prim.Native.Nat.{ℕ, _+_}
 use lib.ListN.{getD}
 use Rattle.laws.proofs.Tests.{test}
-use Rattle.paper.specs.Sorts.{bytes, equalTexts}
+use Rattle.paper.specs.Sorts.{equalTexts}
 use Rattle.paper.specs.Words.{Word}
-use Rattle.paper.specs.Names.{unknown, Text, textOf, Names, Scopes, spelled, isAmong, lookIn, protected, meaning}
+use Rattle.paper.specs.Names.{unknown, Text, textOf, Names, spelled, isAmong, lookIn, protected, meaning}
 use Rattle.names.specs.Numbers.{firstNamed, numberOf, IsName}
 use Rattle.names.specs.Meanings.{meaningWith, meaningIn, isProtected, cellOf, protectedCell, protectsCell, firstMeaning, cellFor, Means, noScopes}
 use Rattle.names.proofs.Spellings.{number-named}

@@ -2,13 +2,13 @@
 use mathlib.Core.Path.{_≡_, refl, sym, ap, ap₂, _∙_}
 use mathlib.Core.Bool.{true, false}
 use mathlib.Core.List.{List, [], _∷_, map}
-use Prim.Native.Nat.{ℕ, zero, suc, _+_, _≤_, _<_}
+use Prim.Native.Nat.{ℕ, zero, suc, _≤_, _<_}
 use native.Mathlib.Omega.{arith}
 use lib.Dec.{eqb}
-use lib.ListN.{length, getD}
-use borrow.Author.Tests.{eqb-true, eqb-false, eq-eqb}
+use lib.ListN.{length}
+use borrow.Author.Tests.{eqb-true, eq-eqb}
 use Rattle.laws.proofs.Tests.{test, by-less, apart, false-true}
-use Rattle.paper.specs.Sorts.{folded, equalTexts, NAME, NOTHING}
+use Rattle.paper.specs.Sorts.{folded, equalTexts, NAME}
 use Rattle.paper.specs.Words.{Word}
 use Rattle.paper.specs.Names.{Text, noWord, nth, sortIn, spelled}
 use Rattle.names.specs.Numbers.{firstNamed, numberOf, IsName}

@@ -1,10 +1,9 @@
 -- The table of meanings: what a declaration changes in it, and what restores it.
 use mathlib.Core.Path.{_≡_, refl, sym, ap, subst, _∙_}
-use mathlib.Core.Bool.{Bool, true, false}
+use mathlib.Core.Bool.{true, false}
 use mathlib.Core.List.{List, [], _∷_, _++_, map}
 use Prim.Native.Nat.{ℕ, _+_, _*_, _/_, _%_, _≤_, _<_}
 use native.Mathlib.Omega.{arith}
-use lib.Dec.{eqb}
 use lib.ListN.{length, getD, set}
 use lib.Seq.{getD-set-same, getD-set-other}
 use Rattle.laws.proofs.Tests.{by-same, test, apart}
@@ -12,13 +11,13 @@ use Rattle.cells.specs.Words.{wordsOf}
 use Rattle.cells.proofs.Laws.{length-words}
 use Rattle.paper.specs.Sorts.{equalTexts}
 use Rattle.paper.specs.Words.{Word}
-use Rattle.paper.specs.Names.{Meaning, unknown, loop, Text, textOf, Names, Scopes, spelled, isAmong, lookIn, protected, meaning, cannotDeclare, declare, enter}
+use Rattle.paper.specs.Names.{Meaning, loop, Text, textOf, Names, Scopes, spelled, isAmong, lookIn, protected, meaning, cannotDeclare, declare, enter}
 use Rattle.paper.specs.Terms.{Ref}
-use Rattle.code.specs.Cells.{headAt, tailAt, linkAt}
+use Rattle.code.specs.Cells.{headAt, tailAt}
 use Rattle.names.specs.Numbers.{numberOf, IsName}
 use Rattle.names.specs.Meanings.{cellWith, meaningWith, meaningIn, isProtected, protectsCell, firstMeaning, cellFor, Means, Apart, Hides, Keeps}
-use Rattle.names.specs.Promises.{storeBytes, numberAt, Rewritten, Declared, Left}
-use Rattle.names.proofs.Spellings.{numbers-same, spellings-same, same-texts, texts-same, texts-differ}
+use Rattle.names.specs.Promises.{storeBytes, numberAt, Declared, Left}
+use Rattle.names.proofs.Spellings.{numbers-same, spellings-same, texts-same, texts-differ}
 use Rattle.names.proofs.Rewriting.{rewritten-head, rewritten-tail}
 
 -- ---- a cell

@@ -1,10 +1,10 @@
 -- What a cell of the table of meanings says, and when the table says what the paper's scopes say.
 use mathlib.Core.Path.{_≡_}
-use mathlib.Core.Bool.{Bool, true, false}
+use mathlib.Core.Bool.{Bool}
 use mathlib.Core.List.{List, [], map}
-use Prim.Native.Nat.{ℕ, _+_, _*_, _/_, _%_, _<_}
+use Prim.Native.Nat.{ℕ, _+_, _*_, _/_, _%_}
 use lib.Dec.{eqb, leb}
-use lib.ListN.{length, getD}
+use lib.ListN.{getD}
 use Rattle.paper.specs.Basics.{if_then_else_}
 use Rattle.paper.specs.Words.{Word}
 use Rattle.paper.specs.Terms.{Ref, ofModule, ofRoutine}
