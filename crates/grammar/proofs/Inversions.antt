@@ -575,6 +575,12 @@ module _ (W : ℕ → ℕ) (E : (d at : ℕ) → Expr → (to : ℕ) → Type 0)
     content-none (sized v b k c z) p q = absurd (q b)
     content-none (constant v b k) p q = absurd (p b)
 
+    pub content-const : {x : Content} → ContentAt W E opens x at to → ¬ (opens ≡ VAR) → opens ≡ CONST
+    content-const (no-content v f g e) o = absurd (o v)
+    content-const (initial v b k) o = absurd (o v)
+    content-const (sized v b k c z) o = absurd (o v)
+    content-const (constant v b k) o = v
+
     pub content-constant : {x : Content} → ContentAt W E opens x at to → opens ≡ CONST → HasContent constantData x (at + 1) to
     content-constant (no-content v f g e) o = absurd (omega arith)
     content-constant (initial v b k) o = absurd (omega arith)
@@ -607,6 +613,7 @@ module _ (W : ℕ → ℕ) (E : (d at : ℕ) → Expr → (to : ℕ) → Type 0)
 
   pub record IsFunc (result : Option ℕ) (closing at name : ℕ) : Type 0 where
     pub is : result ≡ some (W (at + 1))
+    pub opens : W at ≡ FUNC
     pub typed : isType (W (at + 1)) ≡ true
     pub name-at : name ≡ at + 2
     pub ends : closing ≡ ENDFUNC
@@ -617,4 +624,4 @@ module _ (W : ℕ → ℕ) (E : (d at : ℕ) → Expr → (to : ℕ) → Type 0)
 
   pub head-func : {result : Option ℕ} {closing at name : ℕ} → HeadAt W E result closing at name → ¬ (W at ≡ PROC) → IsFunc result closing at name
   head-func (a-proc p n c) q = absurd (q p)
-  head-func (a-func p t k n c) q = record { is = ap (λ (x : ℕ). some x) t; typed = k; name-at = n; ends = c }
+  head-func (a-func p t k n c) q = record { is = ap (λ (x : ℕ). some x) t; opens = p; typed = k; name-at = n; ends = c }
