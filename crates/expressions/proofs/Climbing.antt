@@ -7,31 +7,29 @@ use Prim.Native.Nat.{ℕ, suc, _+_, _-_, _*_, _<_, _≤_}
 use native.Mathlib.Omega.{arith}
 use lib.Dec.{eqb}
 use lib.ListN.{length}
-use borrow.Author.Tests.{eqb-true, eqb-false}
+use borrow.Author.Tests.{eqb-true}
 use Rattle.laws.proofs.Tests.{test, by-most}
 use Rattle.paper.specs.Sorts.{NOT, plus, minusSign}
 use Rattle.paper.specs.Words.{Word, wordLimit}
 use Rattle.paper.specs.Terms.{binary}
 use Rattle.paper.specs.Trees.{Expr, joined, first}
 use Rattle.paper.specs.Expressions.{got, relations, levelOf, level, exprIn}
-use Rattle.paper.specs.Names.{DataType, Scopes, sortIn}
+use Rattle.paper.specs.Names.{Scopes, sortIn}
 use Rattle.paper.specs.Types.{Fault, fault, faultIf, differs, wanted, judgeJoined, judge}
-use Rattle.paper.specs.Types as types
 use Rattle.cells.specs.Words.{wordsOf}
 use Rattle.code.specs.Cells.{opAt}
 use Rattle.code.specs.Spans.{termIn}
-use Rattle.climb.specs.Rise.{rise, next, lowest, begin}
+use Rattle.climb.specs.Rise.{rise, next, lowest}
 use Rattle.climb.specs.Places.{Spans}
 use Rattle.climb.proofs.Climb.{rise-stop, Joins, rise-join, Begun, begun}
 use Rattle.climb.proofs.Operands.{got-same}
 use Rattle.climb.proofs.Places.{spans-grow, spans-first, stands, begins, rises, rise-keeps}
 use Rattle.expressions.specs.declared.Judged.{Judged}
 use Rattle.expressions.specs.declared.Judged.the-variants.{Typed, Faulty}
-use Rattle.expressions.specs.Answers.{Kept, typeIf, Sound, Refused, Says, Judges, Stands, Checked, ofType, OfType}
+use Rattle.expressions.specs.Answers.{typeIf, Sound, Refused, Says, Judges, Stands, Checked, ofType, OfType}
 use Rattle.expressions.specs.Parts.{askedOf, resultOf, Asks, Differ, Right, Joined, Begins, Began}
 use Rattle.expressions.proofs.Keeping.{term-below, kept-wider, kept-on}
 use Rattle.expressions.proofs.Judging.{wanted-first, wanted-wrong, wanted-none, joined-is}
-use Rattle.expressions.proofs.Leaves.{judges-refused}
 use Rattle.expressions.proofs.Around.{says-faulty, says-typed, refused-as}
 use Rattle.expressions.proofs.Starts.{loaded-part, loaded-after, judges-on}
 
@@ -177,12 +175,12 @@ module _ (code values : List ℕ) (top at : ℕ) (s : Stands code values top at)
         level-is = el ∙ ap levelOf operator-is
 
         -- no operator follows that goes on
-        stop-is : (0 < l → l ≤ top → ⊥) → Judges (s .known .m) (s .known .n) code now at (s .to) (judge (s .known .W) only (s .known .S) (s .e)) left
+        stop-is : (0 < l → l ≤ top → ⊥) → Judges (s .known .m) (s .known .n) code now at (s .to) (judge (s .known .W) only (s .known .S) (s .e)) (Typed bool i)
         stop-is h =
-            subst (λ (y : Expr × ℕ). Judges (s .known .m) (s .known .n) code now at (y .1) (judge (s .known .W) only (s .known .S) (y .0)) left)
+            subst (λ (y : Expr × ℕ). Judges (s .known .m) (s .known .n) code now at (y .1) (judge (s .known .W) only (s .known .S) (y .0)) (Typed bool i))
             (got-same (g .e, g .i) (s .e, s .to)
             (sym (rise-stop (sortIn (s .known .W)) (exprIn (sortIn (s .known .W)) (s .d)) (g .f) (g .low) (g .e) (g .i) (λ a b. h (omega (arith, level-is, g .some)) (omega (arith, level-is, g .width)))) ∙ g .rest))
-            (g .judges)
+            (subst (λ (r : Judged). Judges (s .known .m) (s .known .n) code now at (g .i) (judge (s .known .W) only (s .known .S) (g .e)) r) e (g .judges))
 
         -- one follows
         module _ (ne : l ≡ 0 → ⊥) (le : l ≤ top) where
@@ -218,8 +216,13 @@ module _ (code values : List ℕ) (top at : ℕ) (s : Stands code values top at)
                 tops = omega (arith, s .tops);
                 is = q;
                 ends = λ h.
-                    omega (arith, ne, level-is, next-most (levelOf (sortIn (s .known .W) (g .i))),
-                    ahead (joins .f) (next (levelOf (sortIn (s .known .W) (g .i)))) (joined (g .i) (g .e) (joins .u)) (joins .m) joins-width (joins .rest) h);
+                    omega (
+                      arith,
+                      ne,
+                      level-is,
+                      next-most (levelOf (sortIn (s .known .W) (g .i))),
+                      ahead (joins .f) (next (levelOf (sortIn (s .known .W) (g .i)))) (joined (g .i) (g .e) (joins .u)) (joins .m) joins-width (joins .rest) h,
+                    );
                 loaded = loaded-after (s .known .W) code now at (g .i) (i + 1) (joins .m)
                     (loaded-part (s .known .W) code at (s .to) (i + 1) (joins .m) (s .loaded) (omega (arith, z .0)) right-within) (g .judges .kept) (omega (arith, end-is));
               }
@@ -297,12 +300,12 @@ module _ (code values : List ℕ) (top at : ℕ) (s : Stands code values top at)
                     omega (arith, r, end-is, says-typed _ _ _ _ _ _ left′ b k q (joined-judges .says) .next-is)
 
 -- ---- the loop
--- so it goes whatever is known
-pub record Runs (code values now : List ℕ) (only : Bool) (top at : ℕ) (left : Judged) : Type 0 where
-  pub is : (s : Stands code values top at) → Going code values top at s now only left
+-- So it goes whatever is known, and whatever stood where the first part was answered so: `begun` are the cells where the loop begins.
+pub record Runs (values begun now : List ℕ) (only : Bool) (top at : ℕ) (part left : Judged) : Type 0 where
+  pub is : (code : List ℕ) → Began code values begun only at part → (s : Stands code values top at) → Going code values top at s now only left
 
-pub runs-first : (code values now : List ℕ) (only : Bool) (top at : ℕ) (left : Judged) → Began code values now only at left → Runs code values now only top at left
-runs-first code values now only top at left b = record { is = λ s. first-going code values top at s now only left b }
+pub runs-first : (values now : List ℕ) (only : Bool) (top at : ℕ) (left : Judged) → Runs values now now only top at left left
+runs-first values now only top at left = record { is = λ code b s. first-going code values top at s now only left b }
 
 -- the words that are left
 unfoldable pub wordsLeft : (words : ℕ) → Judged → ℕ
@@ -314,48 +317,48 @@ unfolding wordsLeft
 fewer n i (Typed b k) h f = omega (arith, f b k refl)
 fewer n i (Faulty number word) h f = omega arith
 
-module _ (code values now : List ℕ) (only : Bool) (top at : ℕ) (left : Judged) (run : Runs code values now only top at left) where
-  pub run-faulty : (number word : ℕ) → left ≡ Faulty number word → Checked code values now only top at left
-  run-faulty number word e = record { is = λ s. faulty-is code values top at s now only left (run .is s) number word e }
+module _ (values begun now : List ℕ) (only : Bool) (top at : ℕ) (part left : Judged) (run : Runs values begun now only top at part left) where
+  pub run-faulty : (code : List ℕ) → Began code values begun only at part → (number word : ℕ) → left ≡ Faulty number word → Checked code values now only top at left
+  run-faulty code b number word e = record { is = λ s. faulty-is code values top at s now only left (run .is code b s) number word e }
 
-  pub run-long : Stands code values top at → length now ≡ length code
-  run-long s = run .is s .judges .kept .long
+  pub run-long : (code : List ℕ) → Began code values begun only at part → Stands code values top at → length now ≡ length code
+  run-long code b s = run .is code b s .judges .kept .long
 
   module _ (bool : Bool) (i : ℕ) (e : left ≡ Typed bool i) where
-    pub run-room : Stands code values top at → i * 8 + 8 ≤ length now
-    run-room s = going-in code values top at s now only left (run .is s) bool i e .3
+    pub run-room : (code : List ℕ) → Began code values begun only at part → Stands code values top at → i * 8 + 8 ≤ length now
+    run-room code b s = going-in code values top at s now only left (run .is code b s) bool i e .3
 
-    pub run-in : Stands code values top at → (at < i) × (i < 8192)
-    run-in s = let z = going-in code values top at s now only left (run .is s) bool i e in (z .0, z .2)
+    pub run-in : (code : List ℕ) → Began code values begun only at part → Stands code values top at → (at < i) × (i < 8192)
+    run-in code b s = let z = going-in code values top at s now only left (run .is code b s) bool i e in (z .0, z .2)
 
     module _ (w l : ℕ) (ew : w ≡ opAt (wordsOf now) i) (el : l ≡ levelOf w) where
-      pub run-none : l ≡ 0 → Checked code values now only top at left
-      run-none z = record { is = λ s. stop-is code values top at s now only left (run .is s) bool i e w l ew el (λ a b. omega arith) }
+      pub run-none : (code : List ℕ) → Began code values begun only at part → l ≡ 0 → Checked code values now only top at (Typed bool i)
+      run-none code b z = record { is = λ s. stop-is code values top at s now only left (run .is code b s) bool i e w l ew el (λ h g. omega arith) }
 
-      pub run-loose : top < l → Checked code values now only top at left
-      run-loose h = record { is = λ s. stop-is code values top at s now only left (run .is s) bool i e w l ew el (λ a b. omega arith) }
+      pub run-loose : (code : List ℕ) → Began code values begun only at part → top < l → Checked code values now only top at (Typed bool i)
+      run-loose code b h = record { is = λ s. stop-is code values top at s now only left (run .is code b s) bool i e w l ew el (λ f g. omega arith) }
 
       module _ (ne : l ≡ 0 → ⊥) (le : l ≤ top) where
-        pub run-right : Stands code values top at → Stands now values (l - 1) (i + 1)
-        run-right s = right-stands code values top at s now only left (run .is s) bool i e w l ew el ne le
+        pub run-right : (code : List ℕ) → Began code values begun only at part → Stands code values top at → Stands now values (l - 1) (i + 1)
+        run-right code b s = right-stands code values top at s now only left (run .is code b s) bool i e w l ew el ne le
 
         module _ (wants : Bool) (asks : Asks w bool wants) (t : Bool) (df : Differ bool wants t) where
-          pub run-wrong : t ≡ true → Checked code values now only top at (Faulty 13 at)
-          run-wrong y = record { is = λ s. wrong-is code values top at s now only left (run .is s) bool i e w l ew el ne le wants asks (df .yes y) }
+          pub run-wrong : (code : List ℕ) → Began code values begun only at part → t ≡ true → Checked code values now only top at (Faulty 13 at)
+          run-wrong code b y = record { is = λ s. wrong-is code values top at s now only left (run .is code b s) bool i e w l ew el ne le wants asks (df .yes y) }
 
           module _ (y : t ≡ false) (mid : List ℕ) (right : Judged) (c : Checked now values mid only (l - 1) (i + 1) right) where
-            pub run-joins : Stands code values top at → Right mid w l i right
-            run-joins s = right-is code values top at s now only left (run .is s) bool i e w l ew el ne le wants asks (df .no y) mid right c
+            pub run-joins : (code : List ℕ) → Began code values begun only at part → Stands code values top at → Right mid w l i right
+            run-joins code b s = right-is code values top at s now only left (run .is code b s) bool i e w l ew el ne le wants asks (df .no y) mid right c
 
             module _ (after : List ℕ) (left′ : Judged) (x : Joined mid after w wants i right left′) where
-              pub run-on : Runs code values after only top at left′
-              run-on = record { is = λ s. going-on code values top at s now only left (run .is s) bool i e w l ew el ne le wants asks (df .no y) mid right c after left′ x }
+              pub run-on : Runs values begun after only top at part left′
+              run-on = record { is = λ code b s. going-on code values top at s now only left (run .is code b s) bool i e w l ew el ne le wants asks (df .no y) mid right c after left′ x }
 
-              pub run-less : Stands code values top at → wordsLeft 8192 left′ < wordsLeft 8192 left
+              pub run-less : (code : List ℕ) → Began code values begun only at part → Stands code values top at → wordsLeft 8192 left′ < wordsLeft 8192 left
               unfolding wordsLeft
-              run-less s =
-                  let z = run-in s in
-                  rw e (fewer 8192 i left′ (z .1) (going-grows code values top at s now only left (run .is s) bool i e w l ew el ne le wants asks (df .no y) mid right c after left′ x))
+              run-less code b s =
+                  let z = run-in code b s in
+                  rw e (fewer 8192 i left′ (z .1) (going-grows code values top at s now only left (run .is code b s) bool i e w l ew el ne le wants asks (df .no y) mid right c after left′ x))
 
 -- ---- an expression of a type
 module _ (code values after : List ℕ) (only wants : Bool) (at : ℕ) (r : Judged) (c : Checked code values after only 5 at r) where

@@ -10,7 +10,7 @@ use lib.IntN.{ℤ, pos, _-ℤ_, +ℤ-negℤ-cancel, pos-+ℤ-pos}
 use borrow.Author.Tests.{eqb-true, eqb-false, ne-eqb, eq-eqb, lt-ltb}
 use Rattle.laws.proofs.Tests.{test, by-last, apart, false-true}
 use Rattle.paper.specs.Basics.{if_then_else_}
-use Rattle.paper.specs.Sorts.{NAME, NUMBER, TRUE, FALSE}
+use Rattle.paper.specs.Sorts.{NUMBER, TRUE, FALSE}
 use Rattle.paper.specs.Words.{Word}
 use Rattle.paper.specs.Terms.{Ref, ofModule, ofRoutine, Term, literal, errno, stored, truth}
 use Rattle.paper.specs.Trees.{Expr, first}

@@ -1,29 +1,27 @@
 -- The first part of an expression: what is answered of an operand, or of what NOT or a sign covers, is answered of the part.
 use mathlib.Core.Path.{_≡_, refl, sym, ap, subst, _∙_}
-use mathlib.Core.Bool.{Bool, true, false, _||_}
+use mathlib.Core.Bool.{Bool, true, false}
 use mathlib.Core.List.{List}
-use Prim.Native.Nat.{ℕ, suc, _+_, _-_, _*_, _/_, _%_, _<_, _≤_}
+use Prim.Native.Nat.{ℕ, _+_, _-_, _*_, _/_, _%_, _<_, _≤_}
 use native.Mathlib.Omega.{arith}
 use lib.Dec.{eqb}
 use lib.ListN.{length, getD}
-use borrow.Author.Tests.{eqb-true, eqb-false, ne-eqb}
-use Rattle.laws.proofs.Tests.{test, by-same}
-use Rattle.paper.specs.Basics.{if_then_else_}
-use Rattle.paper.specs.Sorts.{NAME, NUMBER, NOT, plus, minusSign, openParen, closeParen, openBrace, closeBrace}
+use borrow.Author.Tests.{ne-eqb}
+use Rattle.laws.proofs.Tests.{test}
+use Rattle.paper.specs.Sorts.{NAME, NUMBER, NOT, plus, minusSign, openParen, closeParen, closeBrace}
 use Rattle.paper.specs.Words.{Word, wordLimit}
 use Rattle.paper.specs.Trees.{Expr, leaf, element, nested, signed, first}
 use Rattle.paper.specs.Expressions.{Parsed, got, levelOf, isLiteral, level, operand, exprIn}
-use Rattle.paper.specs.Names.{Meaning, Scopes, sortIn, spelled, meaning}
+use Rattle.paper.specs.Names.{Meaning, sortIn, spelled, meaning}
 use Rattle.paper.specs.Types.{judgeName, judgeElement, judgeSigned, judgeLeaf, judge}
 use Rattle.paper.specs.Types as types
 use Rattle.cells.specs.Words.{wordsOf}
 use Rattle.code.specs.Cells.{opIn, valueIn, headAt, opAt}
 use Rattle.climb.specs.Rise.{height, lowest, behind, begin}
-use Rattle.climb.specs.Places.{Spans}
 use Rattle.climb.proofs.Climb.{Went, went}
 use Rattle.climb.proofs.Operands.{Inside, got-same, op-paren, op-element, op-name, op-literal, op-none, Deeper, deeper}
 use Rattle.climb.proofs.Places.{spans-grow, spans-first, stands, begins}
-use Rattle.names.specs.Meanings.{firstMeaning, cellFor, meaningIn, meaningWith}
+use Rattle.names.specs.Meanings.{firstMeaning, meaningIn}
 use Rattle.names.specs.Promises as promises
 use Rattle.expressions.specs.declared.Judged.{Judged}
 use Rattle.expressions.specs.declared.Judged.the-variants.{Typed, Faulty}
@@ -116,9 +114,6 @@ module _ (code values : List ℕ) (at : ℕ) (b : Begins code values at) where
 
   pub begins-short : at + 1 < 8192
   begins-short = omega (arith, begins-on, b .loaded .last)
-
-  pub begins-table : 65536 ≤ length values
-  begins-table = b .known .table
 
   pub fresh-first : Fresh (b .known .W) (wordsOf code) at
   fresh-first = b .loaded .words at (omega arith) (omega (arith, begins-on))

@@ -4,10 +4,8 @@ use mathlib.Core.Bool.{Bool, true, false}
 use mathlib.Core.List.{List, [], _∷_}
 use Prim.Native.Nat.{ℕ}
 use Rattle.laws.proofs.Tests.{apart}
-use Rattle.paper.specs.Names.{DataType}
 use Rattle.paper.specs.Types.{Fault}
 use Rattle.paper.specs.Types as types
-use Rattle.cells.specs.Words.{wordsOf}
 use Rattle.expressions.specs.declared.Judged.{Judged}
 use Rattle.expressions.specs.declared.Judged.the-variants.{Typed, Faulty}
 use Rattle.expressions.specs.Answers.{typeIf, Says, Stands, Checked, OfType}

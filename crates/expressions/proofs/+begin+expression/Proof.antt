@@ -1,7 +1,7 @@
 use borrow.Author.Needs.{needs}
 use Prim.Native.Nat.{ℕ, _+_, _-_, _*_, _<_}
 use native.Mathlib.Omega.{arith}
-use Rattle.expressions.proofs.Starts.{begins-room, begins-next, begins-short, begins-table, name-meant, element-stands, index-short, index-room, paren-stands, inner-short, inner-room, part-stands, part-short, part-room, literal-small}
+use Rattle.expressions.proofs.Starts.{begins-room, begins-next, begins-short, name-meant, element-stands, index-short, index-room, paren-stands, inner-short, inner-room, part-stands, part-short, part-room, literal-small}
 use Rattle.expressions.proofs.Starts.{began-name, began-wrong, began-element, began-paren, began-signed, began-literal}
 use Rattle.expressions.proofs.Climbing.{Runs, wordsLeft, stands-begins, runs-first, run-faulty, run-long, run-room, run-in, run-none, run-loose, run-wrong, run-right, run-joins, run-less, run-on}
 use borrow.Fn.Kinds.{In}
@@ -59,7 +59,7 @@ begin-sort-requires : (t : ℕ) → begin-lts.Need-sort-requires (calls-begin t)
 begin-sort-requires t c κs = search (needs, begins-room)
 
 begin-meaning-requires : (t : ℕ) → begin-lts.Need-meaning-requires (calls-begin t) (begin-at t) begin.Post
-begin-meaning-requires t c κs = search (needs, begins-room, begins-table)
+begin-meaning-requires t c κs = search (needs, begins-room)
 
 begin-add-sort : (t : ℕ) → begin-lts.Need-add-sort (calls-begin t) (begin-at t) begin.Post
 begin-add-sort t c = omega (arith, begins-short _ _ _ (c .before .before .before .before .before .before .before .before .pre .1))
@@ -89,10 +89,10 @@ begin-add-expression : (t : ℕ) → begin-lts.Need-add-expression (calls-begin 
 begin-add-expression t c = omega (arith, begins-short _ _ _ (c .before .before .before .before .before .before .before .before .before .before .before .before .before .pre .1))
 
 begin-expression-requires : (t : ℕ) → begin-lts.Need-expression-requires (calls-begin t) (begin-at t) begin.Post
-begin-expression-requires t c κs = (omega (arith, begins-short _ _ _ (c .before .before .before .before .before .before .before .before .before .before .before .before .before .pre .1), c .before .before .before .before .before .before .before .before .before .before .before .before .before .pre .0), search (needs, element-stands))
+begin-expression-requires t c κs = (omega (arith, begins-short _ _ _ (c .before .before .before .before .before .before .before .before .before .before .before .before .before .pre .1), c .before .before .before .before .before .before .before .before .before .before .before .before .before .pre .0), element-stands _ _ _ (c .before .before .before .before .before .before .before .before .before .before .before .before .before .pre .1) _ (c .before .before .before .before .before .before .before .before .before .sort .ensures) (c .before .before .before .before .before .before .before .before .if1 .taken) _ (c .before .before .before .before .before .before .meaning .ensures) _ (c .before .before .before .before .sort2 .ensures) (c .before .before .before .if2 .left))
 
 begin-indexed-requires : (t : ℕ) → begin-lts.Need-indexed-requires (calls-begin t) (begin-at t) begin.Post
-begin-indexed-requires t c κs = (search (needs, index-room), omega (arith, begins-short _ _ _ (c .before .before .before .before .before .before .before .before .before .before .before .before .before .before .before .before .before .pre .1)), search (needs, index-short))
+begin-indexed-requires t c κs = (index-room _ _ _ (c .before .before .before .before .before .before .before .before .before .before .before .before .before .before .before .before .before .pre .1) _ (c .before .before .before .before .before .before .before .before .before .before .before .before .before .sort .ensures) (c .before .before .before .before .before .before .before .before .before .before .before .before .if1 .taken) _ (c .before .before .before .before .before .before .before .before .before .before .meaning .ensures) _ (c .before .before .before .before .before .before .before .before .sort2 .ensures) (c .before .before .before .before .before .before .before .if2 .left) _ _ (c .before .before .before .before .before .before .breaks-indexed .ensures) _ _ (c .before .before .before .expression .ensures), omega (arith, begins-short _ _ _ (c .before .before .before .before .before .before .before .before .before .before .before .before .before .before .before .before .before .pre .1)), index-short _ _ _ (c .before .before .before .before .before .before .before .before .before .before .before .before .before .before .before .before .before .pre .1) _ (c .before .before .before .before .before .before .before .before .before .before .before .before .before .sort .ensures) (c .before .before .before .before .before .before .before .before .before .before .before .before .if1 .taken) _ (c .before .before .before .before .before .before .before .before .before .before .meaning .ensures) _ (c .before .before .before .before .before .before .before .before .sort2 .ensures) (c .before .before .before .before .before .before .before .if2 .left) _ _ (c .before .before .before .before .before .before .breaks-indexed .ensures) _ _ (c .before .before .before .expression .ensures))
 
 begin-same-length-3 : (t : ℕ) → begin-lts.Need-same-length-3 (calls-begin t) (begin-at t) begin.Post
 begin-same-length-3 t c = search needs
@@ -143,7 +143,7 @@ begin-returns-6 : (t : ℕ) → begin-lts.Need-returns-6 (calls-begin t) (begin-
 begin-returns-6 t c = search (needs, began-literal)
 
 abbrev expression-Inv-loop : expression-lts.InvT-loop
-expression-Inv-loop code₀ values only level at left₀ code left = Runs code₀ values code only level at left
+expression-Inv-loop code₀ values only level at left₀ code left = Runs values code₀ code only level at left₀ left
 
 abbrev expression-μ-loop : expression-lts.MeasureT-loop
 expression-μ-loop code₀ values only level at left₀ code left = wordsLeft 8192 left
@@ -200,13 +200,13 @@ expression-sub-expression : (t : ℕ) → expression-lts.Need-sub-expression (ca
 expression-sub-expression t c = search needs
 
 expression-add-expression : (t : ℕ) → expression-lts.Need-add-expression (calls-expression t) (expression-at t) expression.Post expression-Inv-loop expression-μ-loop
-expression-add-expression t c = ?
+expression-add-expression t c = omega (arith, run-in _ _ _ _ _ _ _ _ (c .before .before .before .before .before .before .before .before .before .before .before .before .loop .inv) _ _ (c .before .before .before .before .before .before .before .before .before .before .left .given .1) _ (c .before .before .before .before .before .before .before .before .before .before .before .before .before .before .before .begin .ensures) (c .before .before .before .before .before .before .before .before .before .before .before .before .before .before .before .before .before .before .before .pre .1) .1)
 
 expression-expression-requires : (t : ℕ) → expression-lts.Need-expression-requires (calls-expression t) (expression-at t) expression.Post expression-Inv-loop expression-μ-loop
-expression-expression-requires t c κs = (?, search (needs, run-right))
+expression-expression-requires t c κs = (let z = run-in _ _ _ _ _ _ _ _ (c .before .before .before .before .before .before .before .before .before .before .before .before .loop .inv) _ _ (c .before .before .before .before .before .before .before .before .before .before .left .given .1) _ (c .before .before .before .before .before .before .before .before .before .before .before .before .before .before .before .begin .ensures) (c .before .before .before .before .before .before .before .before .before .before .before .before .before .before .before .before .before .before .before .pre .1) in omega (arith, z .0, z .1, c .before .before .before .before .before .before .before .before .before .before .before .before .before .before .before .before .before .before .before .pre .0), search (needs, run-right))
 
 expression-join-requires : (t : ℕ) → expression-lts.Need-join-requires (calls-expression t) (expression-at t) expression.Post expression-Inv-loop expression-μ-loop
-expression-join-requires t c κs = search (needs, run-joins)
+expression-join-requires t c κs = run-joins _ _ _ _ _ _ _ _ (c .before .before .before .before .before .before .before .before .before .before .before .before .before .before .before .before .loop .inv) _ _ (c .before .before .before .before .before .before .before .before .before .before .before .before .before .before .left .given .1) _ _ (c .before .before .before .before .before .before .before .before .before .before .before .sort .ensures) (c .before .before .before .before .before .before .before .before .before .before .level-of .ensures) (c .before .before .before .before .before .before .before .before .before .if1 .left) (c .before .before .before .before .before .before .before .before .if2 .left) _ (c .before .before .before .before .before .before .before .asked .ensures) _ (c .before .before .before .before .before .before .differ .ensures) (c .before .before .before .before .before .if3 .left) _ _ (c .before .before .before .expression .ensures) _ (c .before .before .before .before .before .before .before .before .before .before .before .before .before .before .before .before .before .before .before .begin .ensures) (c .before .before .before .before .before .before .before .before .before .before .before .before .before .before .before .before .before .before .before .before .before .before .before .pre .1)
 
 expression-loop-less : (t : ℕ) → expression-lts.Need-loop-less (calls-expression t) (expression-at t) expression.Post expression-Inv-loop expression-μ-loop
 expression-loop-less t c = search (needs, run-less)
