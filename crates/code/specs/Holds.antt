@@ -12,6 +12,7 @@ use Rattle.paper.specs.Running.{codeAt}
 use Rattle.code.specs.Cells.{opAt, placeAt, linkAt}
 use Rattle.code.specs.Spans.{_then_}
 use Rattle.code.specs.Steps.{Head, noHead, numbered, Stands, stepIn, constantAt, parts, aDatum, theParameters}
+use Rattle.code.specs.Closed.{Every, Closed, SmallName}
 
 -- what a run can know of a step of the table, where words have these offsets
 unfoldable pub known : (offset : ℕ → ℕ) → Step → Stands
@@ -31,11 +32,6 @@ dataIn C (suc f) i =
       | true ↦ dataIn C f (linkAt C i) then (λ r. some (replicate (placeAt C i) (constantAt C i) ++ r .0, r .1))
       | false ↦ elim (eqb (opAt C i) theParameters) [ true ↦ some ([], i) | false ↦ none ]
     ]
-
--- every step of a list is read back
-pub data Every (A : Step → Type 0) : List Step → Type 0 where
-  done : Every A []
-  also : {s : Step} {r : List Step} → A s → Every A r → Every A (s ∷ r)
 
 -- a callee's word has its own offset
 unfoldable pub CalleeIn : (offset : ℕ → ℕ) → (C : List ℕ) → Action → Type 0
@@ -73,6 +69,9 @@ module _ (m : ℕ) (text : List ℕ) (R : List Head) (offset : ℕ → ℕ) (C :
     pub room : length (c .words) + c .fors ≤ 64
     pub steps-are : Every (λ s. stepIn m (length (c .words) + c .fors) (c .function) text R C (s .name) ≡ some (known offset s)) (c .steps)
     pub callees-are : Every (λ s. CalleeIn offset C (s .does)) (c .steps)
+    pub closed : Closed c
+    pub small : Every SmallName (c .steps)
+    pub head-small : h .word + 1 < parts
 
 -- The module's routines `R`, whose words have these offsets, are those of the program.
 pub record Holds (text : List ℕ) (R : List Head) (offset : ℕ → ℕ) (C : List ℕ) (P : Program) : Type 0 where

@@ -1,5 +1,6 @@
 pub mod Cells
 pub mod Spans
 pub mod Steps
+pub mod Closed
 pub mod Holds
 pub mod Windows
