@@ -102,8 +102,8 @@ pub record Calls (code values after : List ℕ) (base last i : ℕ) (r : ℤ) : 
 -- ---- any step
 -- what a run lends besides its steps and its depth
 pub record Lends (rooms : Rooms) (inputs out : List ℕ) : Type 0 where
-  pub output : rooms .output ≡ length out
-  pub inputs : rooms .inputs ≡ map (toZ w32) (wordsOf inputs)
+  pub room : rooms .output ≡ length out
+  pub reads : rooms .inputs ≡ map (toZ w32) (wordsOf inputs)
 
 pub record Steps (text code values out : List ℕ) (base last i : ℕ) : Type 0 where
   pub here : Here code values base i
