@@ -6,4 +6,5 @@ pub mod Leaves
 pub mod Around
 pub mod Starts
 pub mod Climbing
+pub mod Callers
 pub mod Unique

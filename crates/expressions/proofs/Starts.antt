@@ -163,87 +163,87 @@ module _ (code values : List ℕ) (at : ℕ) (b : Begins code values at) where
     sort-first : s ≡ sortIn (b .known .W) at
     sort-first = es ∙ fresh-first .sort
 
-    module _ (name : s ≡ 1) (m : ℕ) (em : promises.Meant code values at m) where
+    module _ (name : s ≡ 1) where
       name-first : sortIn (b .known .W) at ≡ NAME
       name-first = sym sort-first ∙ name
 
-      name-means : meaningIn (b .known .routine) m ≡ meaning (b .known .S) (spelled (b .known .W) at)
-      name-means =
-          ap (meaningIn (b .known .routine)) (em ∙ ap (λ (k : ℕ). getD (wordsOf values) (firstMeaning + k) 0) (fresh-first .number name-first))
-          ∙ b .known .means .means at name-first
+      module _ (v : ℕ) (ev : v ≡ opAt (wordsOf code) (at + 1)) (brace : v ≡ 8) where
+        element-inside : Inside (sortIn (b .known .W)) (exprIn (sortIn (b .known .W)) (b .d)) (at + 2) closeBrace (element at) (b .e, b .to)
+        element-inside =
+            op-element (sortIn (b .known .W)) (exprIn (sortIn (b .known .W)) (b .d)) at (b .e, b .to) name-first (sym (fresh-next .sort) ∙ sym ev ∙ brace)
+            (operand-is NAME name-first (λ q. omega arith) (λ q. omega arith) (λ q. omega arith))
 
-      pub name-meant : Meant m
-      name-meant = record {
-        routine = b .known .routine;
-        m = b .known .m;
-        n = b .known .n;
-        most = b .known .most;
-        within = subst (Within (b .known .m) (b .known .n)) (sym name-means) (b .known .within at name-first);
-      }
+        pub element-stands : Stands code values 5 (at + 2)
+        unfolding levelOf
+        element-stands = inside-stands (at + 2) closeBrace (element at) element-inside (omega arith) refl
 
-      module _ (v : ℕ) (ev : v ≡ opAt (wordsOf code) (at + 1)) where
-        alone-is : (v ≡ 8 → ⊥) → (only : Bool) (after : List ℕ) (r : Judged) → Alone code after m only at r
-            → Judges (b .known .m) (b .known .n) code after at (b .to) (judge (b .known .W) only (b .known .S) (b .e)) r
-        unfolding judge judgeLeaf name-meant
-        alone-is h only after r a =
-            let named = op-name (sortIn (b .known .W)) (exprIn (sortIn (b .known .W)) (b .d)) at name-first (λ q. h (ev ∙ fresh-next .sort ∙ q)) in
-            let same : judgeName only (meaningIn (b .known .routine) m) at ≡ judge (b .known .W) only (b .known .S) (leaf at) = ap (λ (x : Meaning). judgeName only x at) name-means ∙ rw (name-first, judgeLeaf) in
-            whole-as only code after r (leaf at, at + 1) (got-same (b .e, b .to) (leaf at, at + 1) (sym (operand-is NAME name-first (λ q. omega arith) (λ q. omega arith) (λ q. omega arith)) ∙ named))
-            (subst (λ (j : types.Judged). Judges (b .known .m) (b .known .n) code after at (at + 1) j r) same (a .is name-meant))
+        element-first : first (element-inside .e) ≡ at + 2
+        unfolding levelOf
+        element-first = inside-first (at + 2) closeBrace (element at) element-inside (omega arith) refl
 
-        module _ (brace : v ≡ 8) where
-          element-inside : Inside (sortIn (b .known .W)) (exprIn (sortIn (b .known .W)) (b .d)) (at + 2) closeBrace (element at) (b .e, b .to)
-          element-inside =
-              op-element (sortIn (b .known .W)) (exprIn (sortIn (b .known .W)) (b .d)) at (b .e, b .to) name-first (sym (fresh-next .sort) ∙ sym ev ∙ brace)
-              (operand-is NAME name-first (λ q. omega arith) (λ q. omega arith) (λ q. omega arith))
+        module _ (only : Bool) (mid : List ℕ) (index : Judged) (k : Checked code values mid only 5 (at + 2) index) where
+          index-judges : Judges (b .known .m) (b .known .n) code mid (at + 2) (element-inside .n) (judge (b .known .W) only (b .known .S) (element-inside .e)) index
+          unfolding element-stands inside-stands
+          index-judges = k .is element-stands
 
-          pub element-stands : Stands code values 5 (at + 2)
-          unfolding levelOf
-          element-stands = inside-stands (at + 2) closeBrace (element at) element-inside (omega arith) refl
+          pub index-short : Short index
+          unfolding element-stands inside-stands
+          index-short = says-short _ _ _ _ _ _ index (index-judges .says) (element-stands .loaded .last)
 
-          element-first : first (element-inside .e) ≡ at + 2
-          unfolding levelOf
-          element-first = inside-first (at + 2) closeBrace (element at) element-inside (omega arith) refl
+      module _ (m : ℕ) (em : promises.Meant code values at m) where
+        name-means : meaningIn (b .known .routine) m ≡ meaning (b .known .S) (spelled (b .known .W) at)
+        name-means =
+            ap (meaningIn (b .known .routine)) (em ∙ ap (λ (k : ℕ). getD (wordsOf values) (firstMeaning + k) 0) (fresh-first .number name-first))
+            ∙ b .known .means .means at name-first
 
-          element-judged : (only : Bool) → judgeElement only (meaningIn (b .known .routine) m) at (element-inside .e) (judge (b .known .W) only (b .known .S) (element-inside .e))
-              ≡ judge (b .known .W) only (b .known .S) (element at (element-inside .e))
-          unfolding judge
-          element-judged only = ap (λ (x : Meaning). judgeElement only x at (element-inside .e) (judge (b .known .W) only (b .known .S) (element-inside .e))) name-means
+        pub name-meant : Meant m
+        name-meant = record {
+          routine = b .known .routine;
+          m = b .known .m;
+          n = b .known .n;
+          most = b .known .most;
+          within = subst (Within (b .known .m) (b .known .n)) (sym name-means) (b .known .within at name-first);
+        }
 
-          module _ (only : Bool) (broken : ℕ) (br : BreaksIndexed (m % 256 / 4) only broken) where
+        module _ (only : Bool) (v : ℕ) (ev : v ≡ opAt (wordsOf code) (at + 1)) where
+          alone-is : (v ≡ 8 → ⊥) → (after : List ℕ) (r : Judged) → Alone code after m only at r
+              → Judges (b .known .m) (b .known .n) code after at (b .to) (judge (b .known .W) only (b .known .S) (b .e)) r
+          unfolding judge judgeLeaf name-meant
+          alone-is h after r a =
+              let named = op-name (sortIn (b .known .W)) (exprIn (sortIn (b .known .W)) (b .d)) at name-first (λ q. h (ev ∙ fresh-next .sort ∙ q)) in
+              let same : judgeName only (meaningIn (b .known .routine) m) at ≡ judge (b .known .W) only (b .known .S) (leaf at) = ap (λ (x : Meaning). judgeName only x at) name-means ∙ rw (name-first, judgeLeaf) in
+              whole-as only code after r (leaf at, at + 1) (got-same (b .e, b .to) (leaf at, at + 1) (sym (operand-is NAME name-first (λ q. omega arith) (λ q. omega arith) (λ q. omega arith)) ∙ named))
+              (subst (λ (j : types.Judged). Judges (b .known .m) (b .known .n) code after at (at + 1) j r) same (a .is name-meant))
+
+          module _ (brace : v ≡ 8) (broken : ℕ) (br : BreaksIndexed (m % 256 / 4) only broken) where
+            element-judged : judgeElement only (meaningIn (b .known .routine) m) at (element-inside v ev brace .e) (judge (b .known .W) only (b .known .S) (element-inside v ev brace .e))
+                ≡ judge (b .known .W) only (b .known .S) (element at (element-inside v ev brace .e))
+            unfolding judge
+            element-judged = ap (λ (x : Meaning). judgeElement only x at (element-inside v ev brace .e) (judge (b .known .W) only (b .known .S) (element-inside v ev brace .e))) name-means
+
             wrong-is : (broken ≡ 0 → ⊥) → Judges (b .known .m) (b .known .n) code code at (b .to) (judge (b .known .W) only (b .known .S) (b .e)) (Faulty broken at)
             unfolding meaningIn
             wrong-is d =
-                whole-as only code code (Faulty broken at) (element at (element-inside .e), element-inside .n + 1) (element-inside .whole)
-                (judges-refused (b .known .m) (b .known .n) code at (element-inside .n + 1) (judge (b .known .W) only (b .known .S) (element at (element-inside .e))) broken at
-                (subst (λ (j : types.Judged). Refused j broken at) (element-judged only)
-                (br .wrong d (b .known .routine) (m / 2 % 2) (m % 2) (m / 256) at (element-inside .e) (judge (b .known .W) only (b .known .S) (element-inside .e)))))
+                let i = element-inside v ev brace in
+                whole-as only code code (Faulty broken at) (element at (i .e), i .n + 1) (i .whole)
+                (judges-refused (b .known .m) (b .known .n) code at (i .n + 1) (judge (b .known .W) only (b .known .S) (element at (i .e))) broken at
+                (subst (λ (j : types.Judged). Refused j broken at) element-judged
+                (br .wrong d (b .known .routine) (m / 2 % 2) (m % 2) (m / 256) at (i .e) (judge (b .known .W) only (b .known .S) (i .e)))))
 
-            module _ (mid : List ℕ) (index : Judged) (k : Checked code values mid only 5 (at + 2) index) where
-              index-judges : Judges (b .known .m) (b .known .n) code mid (at + 2) (element-inside .n) (judge (b .known .W) only (b .known .S) (element-inside .e)) index
-              unfolding element-stands inside-stands
-              index-judges = k .is element-stands
-
-              pub index-short : Short index
-              unfolding element-stands inside-stands
-              index-short = says-short _ _ _ _ _ _ index (index-judges .says) (element-stands .loaded .last)
-
-              pub index-room : at * 8 + 8 ≤ length mid
-              index-room = omega (arith, begins-room, index-judges .kept .long)
-
-              element-is : broken ≡ 0 → (after : List ℕ) (r : Judged) → Indexed mid after m index at r
-                  → Judges (b .known .m) (b .known .n) code after at (b .to) (judge (b .known .W) only (b .known .S) (b .e)) r
-              unfolding name-meant
-              element-is z after r x =
-                  let free : false ≡ only = sym (br .free z) in
-                  let j : types.Judged = judge (b .known .W) only (b .known .S) (element-inside .e) in
-                  let judged = x .is name-meant (element-inside .n) (element-inside .e) j (br .kind-is z) element-first (index-judges .says) in
-                  let told : judgeElement false (meaningIn (b .known .routine) m) at (element-inside .e) j ≡ judge (b .known .W) only (b .known .S) (element at (element-inside .e)) =
-                  ap (λ (c : Bool). judgeElement c (meaningIn (b .known .routine) m) at (element-inside .e) j) free ∙ element-judged only in
-                  whole-as only code after r (element at (element-inside .e), element-inside .n + 1) (element-inside .whole)
-                  (judges-on (b .known .m) (b .known .n) code mid after (at + 2) (element-inside .n) at (element-inside .n + 1) (judge (b .known .W) only (b .known .S) (element at (element-inside .e))) r
-                  (index-judges .kept) (omega arith) (omega arith)
-                  (subst (λ (q : types.Judged). Judges (b .known .m) (b .known .n) mid after at (element-inside .n + 1) q r) told judged))
+            element-is : broken ≡ 0 → (mid after : List ℕ) (index r : Judged) → Checked code values mid only 5 (at + 2) index → Indexed mid after m index at r
+                → Judges (b .known .m) (b .known .n) code after at (b .to) (judge (b .known .W) only (b .known .S) (b .e)) r
+            unfolding name-meant
+            element-is z mid after index r k x =
+                let i = element-inside v ev brace in
+                let free : false ≡ only = sym (br .free z) in
+                let j : types.Judged = judge (b .known .W) only (b .known .S) (i .e) in
+                let inner = index-judges v ev brace only mid index k in
+                let judged = x .is name-meant (i .n) (i .e) j (br .kind-is z) (element-first v ev brace) (inner .says) in
+                let told : judgeElement false (meaningIn (b .known .routine) m) at (i .e) j ≡ judge (b .known .W) only (b .known .S) (element at (i .e)) =
+                ap (λ (c : Bool). judgeElement c (meaningIn (b .known .routine) m) at (i .e) j) free ∙ element-judged in
+                whole-as only code after r (element at (i .e), i .n + 1) (i .whole)
+                (judges-on (b .known .m) (b .known .n) code mid after (at + 2) (i .n) at (i .n + 1) (judge (b .known .W) only (b .known .S) (element at (i .e))) r (inner .kept) (omega arith) (omega arith)
+                (subst (λ (q : types.Judged). Judges (b .known .m) (b .known .n) mid after at (i .n + 1) q r) told judged))
 
     -- ---- parentheses
     module _ (paren : s ≡ 6) where
@@ -264,9 +264,6 @@ module _ (code values : List ℕ) (at : ℕ) (b : Begins code values at) where
         pub inner-short : Short inner
         unfolding paren-stands inside-stands
         inner-short = says-short _ _ _ _ _ _ inner (inner-judges .says) (paren-stands .loaded .last)
-
-        pub inner-room : at * 8 + 8 ≤ length mid
-        inner-room = omega (arith, begins-room, inner-judges .kept .long)
 
         paren-is : (after : List ℕ) (r : Judged) → Nested mid after inner at r → Judges (b .known .m) (b .known .n) code after at (b .to) (judge (b .known .W) only (b .known .S) (b .e)) r
         unfolding judge
@@ -320,9 +317,6 @@ module _ (code values : List ℕ) (at : ℕ) (b : Begins code values at) where
           unfolding part-stands
           part-short = says-short _ _ _ _ _ _ part (part-judges .says) (part-stands .loaded .last)
 
-          pub part-room : at * 8 + 8 ≤ length mid
-          part-room = omega (arith, begins-room, part-judges .kept .long)
-
           part-is : (after : List ℕ) (r : Judged) → Signed mid after s part at r → Judges (b .known .m) (b .known .n) code after at (b .to) (judge (b .known .W) only (b .known .S) (b .e)) r
           unfolding judge
           part-is after r x =
@@ -360,11 +354,11 @@ module _ (code values : List ℕ) (at : ℕ) (b : Begins code values at) where
 module _ (code values after : List ℕ) (only : Bool) (at : ℕ) (r : Judged) (s : ℕ) (es : s ≡ opAt (wordsOf code) at) where
   module _ (name : s ≡ 1) (m : ℕ) (em : promises.Meant code values at m) (v : ℕ) (ev : v ≡ opAt (wordsOf code) (at + 1)) where
     pub began-name : (v ≡ 8 → ⊥) → Alone code after m only at r → Began code values after only at r
-    began-name h a = record { is = λ b. alone-is code values at b s es name m em v ev h only after r a }
+    began-name h a = record { is = λ b. alone-is code values at b s es name m em only v ev h after r a }
 
     pub began-element : v ≡ 8 → (broken : ℕ) → BreaksIndexed (m % 256 / 4) only broken → broken ≡ 0 → (mid : List ℕ) (index : Judged) → Checked code values mid only 5 (at + 2) index → Indexed mid after m index at r
         → Began code values after only at r
-    began-element brace broken br z mid index k x = record { is = λ b. element-is code values at b s es name m em v ev brace only broken br mid index k z after r x }
+    began-element brace broken br z mid index k x = record { is = λ b. element-is code values at b s es name m em only v ev brace broken br z mid after index r k x }
 
   pub began-paren : s ≡ 6 → (mid : List ℕ) (inner : Judged) → Checked code values mid only 5 (at + 1) inner → Nested mid after inner at r → Began code values after only at r
   began-paren paren mid inner k x = record { is = λ b. paren-is code values at b s es paren only mid inner k after r x }
@@ -378,4 +372,4 @@ module _ (code values after : List ℕ) (only : Bool) (at : ℕ) (r : Judged) (s
 
 pub began-wrong : (code values : List ℕ) (only : Bool) (at s : ℕ) → s ≡ opAt (wordsOf code) at → s ≡ 1 → (m : ℕ) → promises.Meant code values at m → (v : ℕ) → v ≡ opAt (wordsOf code) (at + 1) → v ≡ 8
     → (broken : ℕ) → BreaksIndexed (m % 256 / 4) only broken → (broken ≡ 0 → ⊥) → Began code values code only at (Faulty broken at)
-began-wrong code values only at s es name m em v ev brace broken br d = record { is = λ b. wrong-is code values at b s es name m em v ev brace only broken br d }
+began-wrong code values only at s es name m em v ev brace broken br d = record { is = λ b. wrong-is code values at b s es name m em only v ev brace broken br d }

@@ -1,7 +1,9 @@
+-- The walk calls itself on what stands inside and on right sides: the words that are left fall at each call. The invariant of its loop: what has been answered up to word i is what
+-- the paper judges of the tree that is read up to there, and what is left to read of the expression rises from that tree.
 use borrow.Author.Needs.{needs}
 use Prim.Native.Nat.{ℕ, _+_, _-_, _*_, _<_}
 use native.Mathlib.Omega.{arith}
-use Rattle.expressions.proofs.Starts.{begins-room, begins-next, begins-short, name-meant, element-stands, index-short, index-room, paren-stands, inner-short, inner-room, part-stands, part-short, part-room, literal-small}
+use Rattle.expressions.proofs.Starts.{begins-room, begins-next, begins-short, name-meant, element-stands, index-short, paren-stands, inner-short, part-stands, part-short, literal-small}
 use Rattle.expressions.proofs.Starts.{began-name, began-wrong, began-element, began-paren, began-signed, began-literal}
 use Rattle.expressions.proofs.Climbing.{Runs, wordsLeft, stands-begins, runs-first, run-faulty, run-long, run-room, run-in, run-none, run-loose, run-wrong, run-right, run-joins, run-less, run-on}
 use borrow.Fn.Kinds.{In}
@@ -89,10 +91,15 @@ begin-add-expression : (t : ℕ) → begin-lts.Need-add-expression (calls-begin 
 begin-add-expression t c = omega (arith, begins-short _ _ _ (c .before .before .before .before .before .before .before .before .before .before .before .before .before .pre .1))
 
 begin-expression-requires : (t : ℕ) → begin-lts.Need-expression-requires (calls-begin t) (begin-at t) begin.Post
-begin-expression-requires t c κs = (omega (arith, begins-short _ _ _ (c .before .before .before .before .before .before .before .before .before .before .before .before .before .pre .1), c .before .before .before .before .before .before .before .before .before .before .before .before .before .pre .0), element-stands _ _ _ (c .before .before .before .before .before .before .before .before .before .before .before .before .before .pre .1) _ (c .before .before .before .before .before .before .before .before .before .sort .ensures) (c .before .before .before .before .before .before .before .before .if1 .taken) _ (c .before .before .before .before .before .before .meaning .ensures) _ (c .before .before .before .before .sort2 .ensures) (c .before .before .before .if2 .left))
+begin-expression-requires t c κs =
+    let b = c .before .before .before .before .before .before .before .before .before .before .before .before .before .pre in
+    (omega (arith, begins-short _ _ _ (b .1), b .0), element-stands _ _ _ (b .1) _ (c .before .before .before .before .before .before .before .before .before .sort .ensures) (c .before .before .before .before .before .before .before .before .if1 .taken) _ (c .before .before .before .before .sort2 .ensures) (c .before .before .before .if2 .left))
 
 begin-indexed-requires : (t : ℕ) → begin-lts.Need-indexed-requires (calls-begin t) (begin-at t) begin.Post
-begin-indexed-requires t c κs = (index-room _ _ _ (c .before .before .before .before .before .before .before .before .before .before .before .before .before .before .before .before .before .pre .1) _ (c .before .before .before .before .before .before .before .before .before .before .before .before .before .sort .ensures) (c .before .before .before .before .before .before .before .before .before .before .before .before .if1 .taken) _ (c .before .before .before .before .before .before .before .before .before .before .meaning .ensures) _ (c .before .before .before .before .before .before .before .before .sort2 .ensures) (c .before .before .before .before .before .before .before .if2 .left) _ _ (c .before .before .before .before .before .before .breaks-indexed .ensures) _ _ (c .before .before .before .expression .ensures), omega (arith, begins-short _ _ _ (c .before .before .before .before .before .before .before .before .before .before .before .before .before .before .before .before .before .pre .1)), index-short _ _ _ (c .before .before .before .before .before .before .before .before .before .before .before .before .before .before .before .before .before .pre .1) _ (c .before .before .before .before .before .before .before .before .before .before .before .before .before .sort .ensures) (c .before .before .before .before .before .before .before .before .before .before .before .before .if1 .taken) _ (c .before .before .before .before .before .before .before .before .before .before .meaning .ensures) _ (c .before .before .before .before .before .before .before .before .sort2 .ensures) (c .before .before .before .before .before .before .before .if2 .left) _ _ (c .before .before .before .before .before .before .breaks-indexed .ensures) _ _ (c .before .before .before .expression .ensures))
+begin-indexed-requires t c κs =
+    let z = begins-room _ _ _ (c .before .before .before .before .before .before .before .before .before .before .before .before .before .before .before .before .before .pre .1) in
+    let y = begins-short _ _ _ (c .before .before .before .before .before .before .before .before .before .before .before .before .before .before .before .before .before .pre .1) in
+    (search needs, search needs, search (needs, index-short))
 
 begin-same-length-3 : (t : ℕ) → begin-lts.Need-same-length-3 (calls-begin t) (begin-at t) begin.Post
 begin-same-length-3 t c = search needs
@@ -104,10 +111,15 @@ begin-add-expression-2 : (t : ℕ) → begin-lts.Need-add-expression-2 (calls-be
 begin-add-expression-2 t c = omega (arith, begins-short _ _ _ (c .before .before .before .before .before .before .before .pre .1))
 
 begin-expression-requires-2 : (t : ℕ) → begin-lts.Need-expression-requires-2 (calls-begin t) (begin-at t) begin.Post
-begin-expression-requires-2 t c κs = (omega (arith, begins-short _ _ _ (c .before .before .before .before .before .before .before .pre .1), c .before .before .before .before .before .before .before .pre .0), search (needs, paren-stands))
+begin-expression-requires-2 t c κs =
+    let b = c .before .before .before .before .before .before .before .pre in
+    (omega (arith, begins-short _ _ _ (b .1), b .0), search (needs, paren-stands))
 
 begin-nested-requires : (t : ℕ) → begin-lts.Need-nested-requires (calls-begin t) (begin-at t) begin.Post
-begin-nested-requires t c κs = (search (needs, inner-room), search (needs, inner-short))
+begin-nested-requires t c κs =
+    let z = begins-room _ _ _ (c .before .before .before .before .before .before .before .before .before .before .before .pre .1) in
+    let y = begins-short _ _ _ (c .before .before .before .before .before .before .before .before .before .before .before .pre .1) in
+    (search needs, search (needs, inner-short))
 
 begin-same-length-4 : (t : ℕ) → begin-lts.Need-same-length-4 (calls-begin t) (begin-at t) begin.Post
 begin-same-length-4 t c = search needs
@@ -122,10 +134,15 @@ begin-add-expression-3 : (t : ℕ) → begin-lts.Need-add-expression-3 (calls-be
 begin-add-expression-3 t c = omega (arith, begins-short _ _ _ (c .before .before .before .before .before .before .before .before .before .pre .1))
 
 begin-expression-requires-3 : (t : ℕ) → begin-lts.Need-expression-requires-3 (calls-begin t) (begin-at t) begin.Post
-begin-expression-requires-3 t c κs = (omega (arith, begins-short _ _ _ (c .before .before .before .before .before .before .before .before .before .pre .1), c .before .before .before .before .before .before .before .before .before .pre .0), search (needs, part-stands))
+begin-expression-requires-3 t c κs =
+    let b = c .before .before .before .before .before .before .before .before .before .pre in
+    (omega (arith, begins-short _ _ _ (b .1), b .0), search (needs, part-stands))
 
 begin-signed-requires : (t : ℕ) → begin-lts.Need-signed-requires (calls-begin t) (begin-at t) begin.Post
-begin-signed-requires t c κs = (search (needs, part-room), omega (arith, begins-short _ _ _ (c .before .before .before .before .before .before .before .before .before .before .before .before .before .pre .1)), search (needs, part-short))
+begin-signed-requires t c κs =
+    let z = begins-room _ _ _ (c .before .before .before .before .before .before .before .before .before .before .before .before .before .pre .1) in
+    let y = begins-short _ _ _ (c .before .before .before .before .before .before .before .before .before .before .before .before .before .pre .1) in
+    (search needs, search needs, search (needs, part-short))
 
 begin-same-length-5 : (t : ℕ) → begin-lts.Need-same-length-5 (calls-begin t) (begin-at t) begin.Post
 begin-same-length-5 t c = search needs
@@ -200,13 +217,20 @@ expression-sub-expression : (t : ℕ) → expression-lts.Need-sub-expression (ca
 expression-sub-expression t c = search needs
 
 expression-add-expression : (t : ℕ) → expression-lts.Need-add-expression (calls-expression t) (expression-at t) expression.Post expression-Inv-loop expression-μ-loop
-expression-add-expression t c = omega (arith, run-in _ _ _ _ _ _ _ _ (c .before .before .before .before .before .before .before .before .before .before .before .before .loop .inv) _ _ (c .before .before .before .before .before .before .before .before .before .before .left .given .1) _ (c .before .before .before .before .before .before .before .before .before .before .before .before .before .before .before .begin .ensures) (c .before .before .before .before .before .before .before .before .before .before .before .before .before .before .before .before .before .before .before .pre .1) .1)
+expression-add-expression t c =
+    let z = run-in _ _ _ _ _ _ _ _ (c .before .before .before .before .before .before .before .before .before .before .before .before .loop .inv) _ _ (c .before .before .before .before .before .before .before .before .before .before .left .given .1) _ (c .before .before .before .before .before .before .before .before .before .before .before .before .before .before .before .begin .ensures) (c .before .before .before .before .before .before .before .before .before .before .before .before .before .before .before .before .before .before .before .pre .1) in
+    omega (arith, z .1)
 
 expression-expression-requires : (t : ℕ) → expression-lts.Need-expression-requires (calls-expression t) (expression-at t) expression.Post expression-Inv-loop expression-μ-loop
-expression-expression-requires t c κs = (let z = run-in _ _ _ _ _ _ _ _ (c .before .before .before .before .before .before .before .before .before .before .before .before .loop .inv) _ _ (c .before .before .before .before .before .before .before .before .before .before .left .given .1) _ (c .before .before .before .before .before .before .before .before .before .before .before .before .before .before .before .begin .ensures) (c .before .before .before .before .before .before .before .before .before .before .before .before .before .before .before .before .before .before .before .pre .1) in omega (arith, z .0, z .1, c .before .before .before .before .before .before .before .before .before .before .before .before .before .before .before .before .before .before .before .pre .0), search (needs, run-right))
+expression-expression-requires t c κs =
+    let z = run-in _ _ _ _ _ _ _ _ (c .before .before .before .before .before .before .before .before .before .before .before .before .loop .inv) _ _ (c .before .before .before .before .before .before .before .before .before .before .left .given .1) _ (c .before .before .before .before .before .before .before .before .before .before .before .before .before .before .before .begin .ensures) (c .before .before .before .before .before .before .before .before .before .before .before .before .before .before .before .before .before .before .before .pre .1) in
+    (omega (arith, z .0, z .1, c .before .before .before .before .before .before .before .before .before .before .before .before .before .before .before .before .before .before .before .pre .0), search (needs, run-right))
 
 expression-join-requires : (t : ℕ) → expression-lts.Need-join-requires (calls-expression t) (expression-at t) expression.Post expression-Inv-loop expression-μ-loop
-expression-join-requires t c κs = run-joins _ _ _ _ _ _ _ _ (c .before .before .before .before .before .before .before .before .before .before .before .before .before .before .before .before .loop .inv) _ _ (c .before .before .before .before .before .before .before .before .before .before .before .before .before .before .left .given .1) _ _ (c .before .before .before .before .before .before .before .before .before .before .before .sort .ensures) (c .before .before .before .before .before .before .before .before .before .before .level-of .ensures) (c .before .before .before .before .before .before .before .before .before .if1 .left) (c .before .before .before .before .before .before .before .before .if2 .left) _ (c .before .before .before .before .before .before .before .asked .ensures) _ (c .before .before .before .before .before .before .differ .ensures) (c .before .before .before .before .before .if3 .left) _ _ (c .before .before .before .expression .ensures) _ (c .before .before .before .before .before .before .before .before .before .before .before .before .before .before .before .before .before .before .before .begin .ensures) (c .before .before .before .before .before .before .before .before .before .before .before .before .before .before .before .before .before .before .before .before .before .before .before .pre .1)
+expression-join-requires t c κs =
+    run-joins _ _ _ _ _ _ _ _ (c .before .before .before .before .before .before .before .before .before .before .before .before .before .before .before .before .loop .inv) _ _ (c .before .before .before .before .before .before .before .before .before .before .before .before .before .before .left .given .1) _ _ (c .before .before .before .before .before .before .before .before .before .before .before .sort .ensures) (c .before .before .before .before .before .before .before .before .before .before .level-of .ensures) (c .before .before .before .before .before .before .before .before .before .if1 .left) (c .before .before .before .before .before .before .before .before .if2 .left)
+    _ (c .before .before .before .before .before .before .before .asked .ensures) _ (c .before .before .before .before .before .before .differ .ensures) (c .before .before .before .before .before .if3 .left) _ _ (c .before .before .before .expression .ensures)
+    _ (c .before .before .before .before .before .before .before .before .before .before .before .before .before .before .before .before .before .before .before .begin .ensures) (c .before .before .before .before .before .before .before .before .before .before .before .before .before .before .before .before .before .before .before .before .before .before .before .pre .1)
 
 expression-loop-less : (t : ℕ) → expression-lts.Need-loop-less (calls-expression t) (expression-at t) expression.Post expression-Inv-loop expression-μ-loop
 expression-loop-less t c = search (needs, run-less)
