@@ -1,21 +1,23 @@
 -- The faults that declarations add: what they are, that they lie in the words of their declarations, and what is left of them while a walk goes on.
 use mathlib.Core.Path.{_≡_, refl, sym, ap, _∙_}
-use mathlib.Core.List.{List, [], _∷_, _++_, append-assoc, append-nil}
-use Prim.Native.Nat.{ℕ, _+_, _≤_, _<_}
+use mathlib.Core.Bool.{true, false}
+use mathlib.Core.List.{List, [], _∷_, _++_, map, append-assoc, append-nil}
+use Prim.Native.Nat.{ℕ, suc, _+_, _≤_, _<_}
 use native.Mathlib.Omega.{arith}
+use lib.ListN.{length}
 use lib.IntN.{ℤ, pos}
 use Rattle.paper.specs.Words.{Word}
 use Rattle.paper.specs.Terms.{Ref}
 use Rattle.paper.specs.Trees.{Content, variableData, initialData, arrayData, constantData, Declared, Parameter}
-use Rattle.paper.specs.Names.{DataType, aNum, typeOf, Meaning, variable, sortIn}
+use Rattle.paper.specs.Names.{DataType, aNum, typeOf, Meaning, variable, textOf, sortIn, spelled, cannotDeclare}
 use Rattle.paper.specs.Types.{Fault, raisesError, isNoSize}
-use Rattle.paper.specs.Declarations.{Data, Filling, declareName, declareContent, declareData, declareParameters}
+use Rattle.paper.specs.Declarations.{crosses, Data, Filling, declareName, declareContent, declareData, declareParameters}
 use Rattle.grammar.specs.Form.{SeparatedAt, last-one, one-more, closed-at-once, closed-later, none-starts, one-starts, Parses}
 use Rattle.grammar.specs.Form.{ContentAt, no-content, initial, sized, constant, DeclaredAt, DeclarationsAt, ParameterAt, ParametersAt}
 use Rattle.grammar.proofs.Places.{content-grows, declared-grows, declarations-grow, parameter-grows, separated-grows}
 use Rattle.faults.specs.First.{no-fault, Inside, First}
 use Rattle.faults.specs.Added.{nameFaults, contentWords, contentFaults, declaredFaults, dataFaults, parameterFaults}
-use Rattle.faults.proofs.First.{_and_, widen, inside-if, first-before, first-alone, nothing-in-both}
+use Rattle.faults.proofs.First.{_and_, widen, inside-if, first-before, first-after, first-alone, first-lower, first-higher, neither-rule, nothing-in-both}
 use Rattle.faults.proofs.Expressions.{grows, constant-inside}
 
 module _ (W : List Word) (F : Filling) where
@@ -95,6 +97,30 @@ module _ (W : List Word) (F : Filling) where
   unfolding parameterFaults
   parameters-inside D (closed-at-once c e) = no-fault
   parameters-inside D (closed-later f h) = separated-inside D h
+
+  -- ---- one name, one declaration
+  module _ (i : ℕ) (words : List ℤ) (D : Data) where
+    pub name-taken : cannotDeclare (map textOf (D .names)) (spelled W i) ≡ true → First (record { number = 10; at = i }) (nameFaults W F i words D)
+    unfolding nameFaults
+    name-taken e = first-lower _ _ 10 16 i (omega arith) e
+
+    pub name-crosses : cannotDeclare (map textOf (D .names)) (spelled W i) ≡ false → crosses (F .limit) (length (D .words)) (length words) ≡ true
+        → First (record { number = 16; at = i }) (nameFaults W F i words D)
+    unfolding nameFaults
+    name-crosses e g = first-higher _ _ 10 16 i e g
+
+    pub name-fits : cannotDeclare (map textOf (D .names)) (spelled W i) ≡ false → crosses (F .limit) (length (D .words)) (length words) ≡ false → nameFaults W F i words D ≡ []
+    unfolding nameFaults
+    name-fits e g = neither-rule _ _ 10 16 i e g
+
+  pub found-in-name : {f : Fault} (t : DataType) (D : Data) {d : Declared} {at to : ℕ} → DeclaredAt (sortIn W) (Parses (sortIn W)) d at to → First f (nameFaults W F (d .name) (contentWords W F (d .content) D) D)
+      → First f (declaredFaults W F t (d .name) (d .content) D)
+  unfolding declaredFaults
+  found-in-name t D {d} h g = first-before g (name-inside (d .name) (d .name) (suc (d .name)) _ D (omega arith) (omega arith)) (content-inside t D (h .content)) (omega (arith, h .named))
+
+  pub found-in-content : {f : Fault} (t : DataType) (i : ℕ) (c : Content) (D : Data) → nameFaults W F i (contentWords W F c D) D ≡ [] → First f (contentFaults W F t c D) → First f (declaredFaults W F t i c D)
+  unfolding declaredFaults
+  found-in-content t i c D e g = first-after e g
 
   -- ---- a walk over data: what is left, with D declared before
   pub data-left : (ds : List Declared) (D : Data) → D .faults ≡ [] → declareData W F ds D .faults ≡ dataFaults W F ds D

@@ -211,3 +211,11 @@ module _ (W : List Word) where
 
       pub constant-first : (bad : Option Value → Bool) (t : DataType) (S : Scopes) (M : Memory) → bad none ≡ false → constantFaults W bad t S M e ≡ f ∷ others → First f (constantFaults W bad t S M e)
       constant-first bad t S M n q = headed-first f others (constant-ordered bad t S M n .headed) q
+
+      pub faults-of-first : (S : Scopes) → faultsOf W S e ≡ f ∷ others → First f (faultsOf W S e)
+      unfolding faultsOf
+      faults-of-first S q = judge-first false S q
+
+      pub of-type-first : (t : DataType) (S : Scopes) → ofType W t S e ≡ f ∷ others → First f (ofType W t S e)
+      unfolding ofType
+      of-type-first t S q = typed-first false t S q

@@ -1,20 +1,21 @@
 -- The faults of routines and of the module: where they lie, what a routine's are made of, and what is left of them while a walk goes over the routines.
 use mathlib.Core.Path.{_≡_, refl, sym, ap, ap₂, subst, _∙_}
+use mathlib.Core.Bool.{true, false}
 use mathlib.Core.List.{List, [], _∷_, _++_, append-assoc}
 use Prim.Native.Nat.{ℕ, suc, _+_, _≤_, _<_}
 use native.Mathlib.Omega.{arith}
 use Rattle.paper.specs.Words.{Word}
 use Rattle.paper.specs.Trees.{Routine, Module}
-use Rattle.paper.specs.Names.{Text, sortIn, spelled}
+use Rattle.paper.specs.Names.{Text, sortIn, spelled, cannotDeclare}
 use Rattle.paper.specs.Types.{Fault}
-use Rattle.paper.specs.Declarations.{noData, Signature, declareParameters, dataTexts, routineNameFaults, moduleFilling, routineNames, moduleData, routineFilling, routineData, signatures}
+use Rattle.paper.specs.Declarations.{routineLimit, crosses, noData, Signature, declareParameters, dataTexts, routineNameFaults, moduleFilling, routineNames, moduleData, routineFilling, routineData, signatures}
 use Rattle.paper.specs.Checks.{routineFaults, allRoutineFaults, faults}
 use Rattle.grammar.specs.Form.{none-starts, one-starts, Parses, RoutineAt, RoutinesAt, ModuleAt}
 use Rattle.grammar.proofs.Places.{parameters-grow, declarations-grow, list-grows, handler-grows, head-grows, routines-grow}
 use Rattle.faults.specs.First.{no-fault, Inside, First}
 use Rattle.faults.specs.Parts.{inParameters, inData, inBody, inHandler}
 use Rattle.faults.specs.Left.{headFaults, ownFaults, leftFaults, Left}
-use Rattle.faults.proofs.First.{_and_, widen, inside-if, leads-later, first-inside, first-left, first-before, first-after, first-between, nothing-in-both}
+use Rattle.faults.proofs.First.{_and_, widen, inside-if, leads-later, first-inside, first-left, first-before, first-after, first-between, first-lower, first-higher, neither-rule, nothing-in-both}
 use Rattle.faults.proofs.Expressions.{grows}
 use Rattle.faults.proofs.Statements.{list-inside, handler-inside}
 use Rattle.faults.proofs.Declarations.{data-adds, parameters-add, data-left, data-inside, parameters-inside}
@@ -115,6 +116,19 @@ module _ (W : List Word) where
   pub head-inside : (earlier : List Text) (k : ℕ) (r : Routine) → Inside (r .name) (suc (r .name)) (headFaults W earlier k r)
   unfolding headFaults
   head-inside earlier k r = inside-if _ 10 (r .name) (r .name) (suc (r .name)) (omega arith) (omega arith) and inside-if _ 16 (r .name) (r .name) (suc (r .name)) (omega arith) (omega arith)
+
+  module _ (earlier : List Text) (k : ℕ) (r : Routine) where
+    pub head-taken : cannotDeclare earlier (spelled W (r .name)) ≡ true → First (record { number = 10; at = r .name }) (headFaults W earlier k r)
+    unfolding headFaults
+    head-taken e = first-lower _ _ 10 16 (r .name) (omega arith) e
+
+    pub head-crosses : cannotDeclare earlier (spelled W (r .name)) ≡ false → crosses routineLimit k 1 ≡ true → First (record { number = 16; at = r .name }) (headFaults W earlier k r)
+    unfolding headFaults
+    head-crosses e g = first-higher _ _ 10 16 (r .name) e g
+
+    pub head-fits : cannotDeclare earlier (spelled W (r .name)) ≡ false → crosses routineLimit k 1 ≡ false → headFaults W earlier k r ≡ []
+    unfolding headFaults
+    head-fits e g = neither-rule _ _ 10 16 (r .name) e g
 
   -- the names' faults, one name apart from the others
   pub names-are : (earlier : List Text) (k : ℕ) (r : Routine) (rs : List Routine) → routineNameFaults W earlier k (r ∷ rs) ≡ headFaults W earlier k r ++ routineNameFaults W (spelled W (r .name) ∷ earlier) (suc k) rs
