@@ -34,6 +34,13 @@ goesByPlace op =
     else if eqb op aNextValue then true
     else eqb op anOtherwise
 
+-- The others stay as they are.
+unfoldable pub isLed : (op : ℕ) → Bool
+isLed op =
+    if goesByLink op then true
+    else if goesByValue op then true
+    else goesByPlace op
+
 -- ---- where they lead
 -- A step is where it is; a list that ends at another word goes on where that word's link leads, or for a CASE the link of the word behind it.
 -- Ops are read from C, links from L.
