@@ -1,2 +1,3 @@
 pub mod Ops
 pub mod Turning
+pub mod Moving

@@ -103,7 +103,7 @@ module _ (g : Ground) (n : ℕ) (C : List ℕ) where
     pub name : f ≡ b + 1
     pub still : isLed (opAt C f) ≡ false
     pub arguments : RawArguments S es (b + 3) (linkAt C f) z
-    pub within : z ≤ to
+    pub within : z < to
     pub leaves : linkAt C at ≡ out
 
   -- it goes on by its semicolon
