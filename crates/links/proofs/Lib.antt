@@ -1,3 +1,4 @@
 pub mod Ops
 pub mod Turning
 pub mod Moving
+pub mod Reading
