@@ -79,7 +79,7 @@ module _ (C D : List ℕ) (words : ℕ) (led : (i : ℕ) → i < words → Led C
     outs = λ i l k f d e. link-goes (opAt C i) i (omega (arith, x .inside)) refl out on f (λ p q. d p) e (λ j. absurd (omega arith)) x;
   }
 
-  ends-go : (z to after : ℕ) → Ends C z to → Goes to after → Goes z after
+  pub ends-go : (z to after : ℕ) → Ends C z to → Goes to after → Goes z after
   unfolding goesByLink
   ends-go z to after (at-once e) x = subst (λ (k : ℕ). Goes k after) (sym e) x
   ends-go z to after (closed w e) x = pass-goes aPass z to after refl (omega arith) (λ q. omega arith) (λ q. omega arith) w (omega arith) x

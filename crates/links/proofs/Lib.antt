@@ -5,3 +5,4 @@ pub mod Reading
 pub mod Orders
 pub mod Leading
 pub mod Choosing
+pub mod Standing
