@@ -6,3 +6,4 @@ pub mod Orders
 pub mod Leading
 pub mod Choosing
 pub mod Standing
+pub mod Walked

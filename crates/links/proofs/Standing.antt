@@ -1,4 +1,4 @@
--- Every step of a list that was walked and resolved is read back.
+-- What a run reads at the first words of statements that were walked and resolved, and at an ENDFOR.
 use mathlib.Core.Path.{_≡_, refl, sym, ap, ap₂, subst, _∙_}
 use mathlib.Core.Bool.{Bool, true, false}
 use mathlib.Core.List.{List, [], _∷_, _++_, map}
@@ -9,11 +9,10 @@ use lib.Dec.{eqb, ltb}
 use borrow.Author.Tests.{eq-eqb, ne-eqb, lt-ltb}
 use Rattle.paper.specs.Terms.{Term, ofRoutine}
 use Rattle.paper.specs.Trees.{Expr, Simple, firstSimple, Statement, Statements, Arms, Cases, simple, compactIf, fullIf, for, while, test, empty, noArm, arm, noCase, case}
-use Rattle.paper.specs.Trees as trees
 use Rattle.paper.specs.Names.{Scopes, spelled, enter}
 use Rattle.paper.specs.Types.{termOf}
 use Rattle.paper.specs.Checks.{forsIn, forsInList, forsInArms, forsInCases}
-use Rattle.paper.specs.Steps.{Action, choose, select, testWhile, enterFor, repeatFor, Step, step, begin, optionalTerm, actionOf, simpleStep, conditions, constants, stepsOf, stepsOfList, stepsOfArms, stepsOfCases}
+use Rattle.paper.specs.Steps.{Action, choose, select, testWhile, enterFor, repeatFor, Step, step, begin, optionalTerm, actionOf, simpleStep, conditions, constants}
 use Rattle.code.specs.Cells.{opAt, valueAt, placeAt, linkAt}
 use Rattle.code.specs.Spans.{guard, _then_, termIn}
 use Rattle.code.specs.Steps.{aCompactIf, anIf, aWhile, aFor, aForTest, aTest, anElseIf, aStep, aCase, aThen, aDo, aPass, anOtherwise, parts, conditionsIn, casesIn, forStep, forIn, linked, compactIfIn, ifIn, whileIn, forTestIn, testIn, actionIn, stepIn}
@@ -29,24 +28,16 @@ use Rattle.links.proofs.Orders.{term-order, bound-order, step-order, en
 use Rattle.links.proofs.Leading.{Goes, op-same, value-same, place-same, link-same, value-goes, place-goes, link-goes, word-goes, pass-goes, step-goes, moves, ends-go, list-goes, last-goes, arms-go, cases-go}
 use Rattle.links.proofs.Choosing.{term-reads, conditions-read, cases-read}
 
--- ---- lists of steps
-pub every-both : {A : Step → Type 0} (l r : List Step) → Every A l → Every A r → Every A (l ++ r)
-every-both [] r x y = y
-every-both (s ∷ l) r (also a x) y = also a (every-both l r x y)
-
-pub every-as : {A B : Step → Type 0} → ((s : Step) → A s → B s) → (l : List Step) → Every A l → Every B l
-every-as f [] x = done
-every-as f (s ∷ l) (also a x) = also (f s a) (every-as f l x)
 
 step-place : (op : ℕ) → op < anElseIf → goesByPlace op ≡ false
 unfolding goesByPlace
 step-place op h = rw (ne-eqb op 157 (λ e. omega arith), goesByPlace) (rw (ne-eqb op 158 (λ e. omega arith)) (ne-eqb op 165 (λ e. omega arith)))
 
 module _ (g : Ground) (n : ℕ) (C D : List ℕ) (words : ℕ) (led : (i : ℕ) → i < words → Led C D D words i) (few : words ≤ parts) where
-  abbrev acts : ℕ → Option (ℕ × Action)
+  abbrev pub acts : ℕ → Option (ℕ × Action)
   acts i = actionIn (g .m) n (g .function) (g .text) (g .R) D i
 
-  abbrev To : ℕ → ℕ → Type 0
+  abbrev pub To : ℕ → ℕ → Type 0
   To z after = Goes C D words led z after
 
   -- a step is read back
@@ -54,13 +45,13 @@ module _ (g : Ground) (n : ℕ) (C D : List ℕ) (words : ℕ) (led : (i : ℕ) 
     pub is : stepIn (g .m) n (g .function) (g .text) (g .R) D (s .name) ≡ some (known (g .offset) s)
     pub callee : CalleeIn (g .R) (g .offset) D (s .does)
 
-  stands : (i place : ℕ) (around : List ℕ) (after : ℕ) (a : Action) → placeAt D i ≡ g .offset place → acts i ≡ some (after, a) → CalleeIn (g .R) (g .offset) D a
+  pub stands : (i place : ℕ) (around : List ℕ) (after : ℕ) (a : Action) → placeAt D i ≡ g .offset place → acts i ≡ some (after, a) → CalleeIn (g .R) (g .offset) D a
       → Stands (record { name = i; place = place; after = after; around = around; does = a })
   unfolding known
   stands i place around after a p e c = record { is = reads-step (g .m) n (g .function) (g .text) (g .R) D i after (g .offset place) a p e; callee = c }
 
   -- a step that is a statement's first word
-  begun : (i at : ℕ) (around : List ℕ) (after to : ℕ) (a : Action) → i ≡ at → at < words → opAt C at < anElseIf → placeAt C at ≡ g .offset at → acts at ≡ some (after, a)
+  pub begun : (i at : ℕ) (around : List ℕ) (after to : ℕ) (a : Action) → i ≡ at → at < words → opAt C at < anElseIf → placeAt C at ≡ g .offset at → acts at ≡ some (after, a)
       → CalleeIn (g .R) (g .offset) D a → Every Stands (step i around after a)
   unfolding step
   begun i at around after to a q h o p e c =
@@ -68,7 +59,7 @@ module _ (g : Ground) (n : ℕ) (C D : List ℕ) (words : ℕ) (led : (i : ℕ) 
       (also (stands at at around after a (place-same C D words led (opAt C at) at h refl (step-place (opAt C at) o) ∙ p) e c) done)
 
   -- ---- simple statements
-  simple-stands : (s : Simple) (S : Scopes) (at to : ℕ) (around : List ℕ) (after : ℕ) → RawSimple g n C S s at to → To to after → Every Stands (simpleStep (g .W) S s around after)
+  pub simple-stands : (s : Simple) (S : Scopes) (at to : ℕ) (around : List ℕ) (after : ℕ) → RawSimple g n C S s at to → To to after → Every Stands (simpleStep (g .W) S s around after)
   unfolding simpleStep
   simple-stands s S at to around after x y =
       let d = does-move g n n (omega arith) C D at to to after (moves C D words led at to to after (omega arith) y) S at to (omega arith) (x .forward) (omega arith) s (x .first) (x .does) in
@@ -79,7 +70,7 @@ module _ (g : Ground) (n : ℕ) (C D : List ℕ) (words : ℕ) (led : (i : ℕ) 
   first-leads : (op i at to after : ℕ) → goesByLink op ≡ true → (op ≡ aThen → ⊥) → RawFirst g n C op i at to → at < to → To to after → linkAt D at ≡ after
   first-leads op i at to after f d x h y = word-goes C D words led op at to after f d (x .word) h y
 
-  compact-reads : (S : Scopes) (i : ℕ) (e : Expr) (s : Simple) (used at to after : ℕ) → RawStatement g n C (compactIf i e s) S used at to → To to after
+  pub compact-reads : (S : Scopes) (i : ℕ) (e : Expr) (s : Simple) (used at to after : ℕ) → RawStatement g n C (compactIf i e s) S used at to → To to after
       → acts at ≡ some (after, choose ((termOf (g .W) S e, firstSimple s) ∷ []) after)
   unfolding RawStatement compactIfIn goesByLink goesByValue
   compact-reads S i e s used at to after x y =
@@ -93,7 +84,7 @@ module _ (g : Ground) (n : ℕ) (C D : List ℕ) (words : ℕ) (led : (i : ℕ) 
       ∙ ap₂ (λ (k o : ℕ). some (after, choose ((termOf (g .W) S e, k) ∷ []) o)) (v ∙ sym (x .does .first)) l
 
   -- what leads back to a step
-  back : (z at : ℕ) → z + 1 < words → at < words → RawWord C aPass z at → at < z → opAt C at < anElseIf → To z at
+  pub back : (z at : ℕ) → z + 1 < words → at < words → RawWord C aPass z at → at < z → opAt C at < anElseIf → To z at
   unfolding goesByLink
   back z at h k w l o = record {
     inside = h;
@@ -108,7 +99,7 @@ module _ (g : Ground) (n : ℕ) (C D : List ℕ) (words : ℕ) (led : (i : ℕ) 
   do-goes d z after h x y = value-goes C D words led aDo d h (x .op) (d + 1) after refl (x .value) (omega arith) y
 
   -- ---- WHILE
-  while-reads : (S : Scopes) (i : ℕ) (e : Expr) (body : Statements) (used at to after : ℕ) → RawStatement g n C (while i e body) S used at to → To to after
+  pub while-reads : (S : Scopes) (i : ℕ) (e : Expr) (body : Statements) (used at to after : ℕ) → RawStatement g n C (while i e body) S used at to → To to after
       → acts at ≡ some (after, testWhile (termOf (g .W) S e) (begin body i))
   unfolding RawStatement whileIn goesByLink goesByValue
   while-reads S i e body used at to after x y =
@@ -157,10 +148,10 @@ module _ (g : Ground) (n : ℕ) (C D : List ℕ) (words : ℕ) (led : (i : ℕ) 
 
   -- the parts of a FOR's head, and both its tests
   module _ (S : Scopes) (used i v : ℕ) (a b : Expr) (c : Option Expr) (body : Statements) (end at to after : ℕ) (y : To to after) where
-    abbrev Around : Scopes
+    abbrev pub Around : Scopes
     Around = enter (spelled (g .W) v) (ofRoutine used) S
 
-    record Parts : Type 0 where
+    pub record Parts : Type 0 where
       pub d : ℕ
       pub behind : at < d
       pub before : d < end
@@ -171,7 +162,7 @@ module _ (g : Ground) (n : ℕ) (C D : List ℕ) (words : ℕ) (led : (i : ℕ) 
       pub leads : linkAt D at ≡ after
       pub enters : To (d + 1) (begin body end)
 
-    for-parts : RawStatement g n C (for i v a b c body end) S used at to → Parts
+    pub for-parts : RawStatement g n C (for i v a b c body end) S used at to → Parts
     unfolding RawStatement goesByLink
     for-parts x =
         let p = bound-order g n C S a (at + 2) (x .t) (x .lower) in
@@ -192,7 +183,7 @@ module _ (g : Ground) (n : ℕ) (C D : List ℕ) (words : ℕ) (led : (i : ℕ) 
           enters = list-goes C D words led g n body Around (suc used) (x .d + 1) end end (x .list) (step-goes C D words led end h (omega (arith, x .test .is)));
         }
 
-    for-reads : (x : RawStatement g n C (for i v a b c body end) S used at to)
+    pub for-reads : (x : RawStatement g n C (for i v a b c body end) S used at to)
         → acts at ≡ some (after, enterFor used (termOf (g .W) S a) (termOf (g .W) S b) (optionalTerm (g .W) S c) (begin body end))
     unfolding RawStatement goesByValue linked
     for-reads x =
@@ -216,7 +207,7 @@ module _ (g : Ground) (n : ℕ) (C D : List ℕ) (words : ℕ) (led : (i : ℕ) 
         (do-goes (x .d) end (begin body end) (omega (arith, y .inside)) (x .do-is) (list-goes C D words led g n body Around (suc used) (x .d + 1) end end (x .list) (step-goes C D words led end (w .inside) (omega (arith, x .test .is))))))
         ∙ ap (λ (k : ℕ). some (k, enterFor used (termOf (g .W) S a) (termOf (g .W) S b) (optionalTerm (g .W) S c) (begin body end))) (w .leads)
 
-    for-test-reads : (x : RawStatement g n C (for i v a b c body end) S used at to) → acts end ≡ some (after, repeatFor used (begin body end))
+    pub for-test-reads : (x : RawStatement g n C (for i v a b c body end) S used at to) → acts end ≡ some (after, repeatFor used (begin body end))
     unfolding RawStatement forTestIn goesByLink goesByValue
     for-test-reads x =
         let w = for-parts x in
@@ -241,7 +232,7 @@ module _ (g : Ground) (n : ℕ) (C D : List ℕ) (words : ℕ) (led : (i : ℕ) 
         high-part u p h = omega arith
 
   -- ---- IF
-  if-reads : (S : Scopes) (i : ℕ) (a : Arms) (o : Statements) (used at to after : ℕ) → RawStatement g n C (fullIf i a o) S used at to → To to after
+  pub if-reads : (S : Scopes) (i : ℕ) (a : Arms) (o : Statements) (used at to after : ℕ) → RawStatement g n C (fullIf i a o) S used at to → To to after
       → acts at ≡ some (after, choose (conditions (g .W) S a after) (begin o after))
   unfolding RawStatement ifIn linked goesByLink goesByValue
   if-reads S i a o used at to after x y =
@@ -263,7 +254,7 @@ module _ (g : Ground) (n : ℕ) (C D : List ℕ) (words : ℕ) (led : (i : ℕ) 
       ∙ ap (λ (k : ℕ). some (k, choose (conditions (g .W) S a after) (begin o after))) (first-leads anIf i at to after refl (λ k. omega arith) (x .head) (omega arith) y)
 
   -- ---- TEST
-  default-goes : (S : Scopes) (d : Statements) (used last to after : ℕ) → RawDefault g n C (λ x y. RawList g n C d S used x y) last to → To to after → To last after
+  pub default-goes : (S : Scopes) (d : Statements) (used last to after : ℕ) → RawDefault g n C (λ x y. RawList g n C d S used x y) last to → To to after → To last after
   unfolding goesByLink
   default-goes S d used last to after x y =
       let q = list-order g n C d S used (x .first) (x .z) (x .list) in
@@ -277,7 +268,7 @@ module _ (g : Ground) (n : ℕ) (C D : List ℕ) (words : ℕ) (led : (i : ℕ) 
       place-goes C D words led anOtherwise last (omega (arith, x .before, y .inside)) (x .word .is) (x .first) (begin d after) refl (x .place) (x .before)
       (list-goes C D words led g n d S used (x .first) (x .z) after (x .list) (ends-go C D words led (x .z) to after (x .ends) y))
 
-  test-reads : (S : Scopes) (i : ℕ) (e : Expr) (c : Cases) (d : Statements) (used at to after : ℕ) → RawStatement g n C (test i e c d) S used at to → To to after
+  pub test-reads : (S : Scopes) (i : ℕ) (e : Expr) (c : Cases) (d : Statements) (used at to after : ℕ) → RawStatement g n C (test i e c d) S used at to → To to after
       → acts at ≡ some (after, select (termOf (g .W) S e) (constants (g .W) S (g .M) c after) (begin d after))
   unfolding RawStatement testIn linked goesByLink goesByValue
   test-reads S i e c d used at to after x y =
@@ -298,3 +289,11 @@ module _ (g : Ground) (n : ℕ) (C D : List ℕ) (words : ℕ) (led : (i : ℕ) 
       ∙ cases-read g n C D words led (x .last) after (begin d after) (default-goes S d (used + forsInCases c) (x .last) to after z y) (z .word .is)
       (default-place S d (used + forsInCases c) (x .last) to after z y) few c S used (valueAt C at) parts (x .cases-are) (omega (arith, y .inside)))
       ∙ ap (λ (k : ℕ). some (k, select (termOf (g .W) S e) (constants (g .W) S (g .M) c after) (begin d after))) (first-leads aTest i at to after refl (λ k. omega arith) (x .head) (omega arith) y)
+
+  pub pass-by-link : goesByLink aPass ≡ true
+  unfolding goesByLink
+  pass-by-link = refl
+
+  -- an ENDFOR has its FOR's offset
+  pub test-place : (end at i : ℕ) → end < words → opAt C end ≡ aForTest → placeAt C end ≡ g .offset at → i ≡ at → placeAt D end ≡ g .offset i
+  test-place end at i h o p q = place-same C D words led aForTest end h o (step-place aForTest (omega arith)) ∙ p ∙ ap (g .offset) (sym q)
