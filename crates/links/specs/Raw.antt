@@ -13,7 +13,7 @@ use Rattle.paper.specs.Names.{routineIn, Scopes, spelled, meaning, enter}
 use Rattle.paper.specs.Types.{termOf, constantValue}
 use Rattle.paper.specs.Checks.{forsIn, forsInList, forsInArms, forsInCases}
 use Rattle.paper.specs.Steps.{routineOf, characters, spotOf}
-use Rattle.code.specs.Cells.{opAt, valueAt, placeAt, linkAt}
+use Rattle.code.specs.Cells.{headAt, tailAt, opAt, valueAt, placeAt, linkAt}
 use Rattle.code.specs.Spans.{termIn}
 use Rattle.code.specs.Steps.{aTarget, aCallTarget, aProcedureCall, aReturnOf, aReturn, aRaiseOf, aRaise, anExit, aRetry, aTryNext, aWrite, aWriteOf, aRead, aCompactIf, anIf, aWhile, aFor, aForTest, aTest, anElseIf, aStep, aCase, aNextValue, aThen, aDo, aPass, anOtherwise, aClose, Head, constantAt, targetIn, anyArguments, calleeIn, charactersIn}
 use Rattle.links.specs.Resolved.{isLed}
@@ -30,6 +30,11 @@ pub record Ground : Type 0 where
   pub offset : ℕ → ℕ
 
 -- ---- cells
+-- Two stores have the same words from a up to b.
+pub record SameWords (C D : List ℕ) (a b : ℕ) : Type 0 where
+  pub heads : (i : ℕ) → a ≤ i → i < b → headAt C i ≡ headAt D i
+  pub tails : (i : ℕ) → a ≤ i → i < b → tailAt C i ≡ tailAt D i
+
 module _ (C : List ℕ) where
   -- no word from a up to b leads on
   abbrev pub Quiet : (a b : ℕ) → Type 0
