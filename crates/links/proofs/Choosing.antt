@@ -102,7 +102,6 @@ module _ (g : Ground) (n : ℕ) (C D : List ℕ) (words : ℕ) (led : (i : ℕ) 
         ∙ arm-reads e2 b r S used (some t) c fuel z (λ v e. ap (λ (l : ℕ). fromThen fuel e v (linkAt D l)) (z .value)
         ∙ arms-read r S (used + forsInList b) (z .t) (z .y) fuel v e (z .rest) (omega arith) (z .then-op) (omega arith)))
 
-
     pub conditions-read : (a : Arms) (S : Scopes) (used c : ℕ) → RawArms g n C a S used first none c last → words ≤ parts
         → conditionsIn (g .m) n (g .function) (g .text) (g .R) D parts c (valueAt C c) ≡ some (conditions (g .W) S a after, otherwise)
     unfolding RawArms NoMore

@@ -4,6 +4,7 @@ use mathlib.Core.List.{List, [], _∷_}
 use mathlib.Core.Option.{Option, none, some}
 use Prim.Native.Nat.{ℕ, suc, _+_, _*_, _<_, _≤_}
 use native.Mathlib.Omega.{arith}
+use lib.ListN.{getD}
 use lib.IntN.{pos, _-ℤ_}
 use Rattle.paper.specs.Terms.{ofRoutine}
 use Rattle.paper.specs.Trees.{Expr, Simple, Statement, Statements, Arms, Cases, simple, compactIf, fullIf, for, while, test, empty, _then_, noArm, arm, noCase, case}
@@ -16,6 +17,9 @@ use Rattle.code.proofs.Options.{none-some, same-some}
 use Rattle.links.specs.Raw.{Ground, SameWords, RawWord, RawDo, Ends, at-once, closed, LastOf, an-else, no-else, RawTerm, RawBound, RawStep, RawSimple, RawFirst, RawElseIf, RawNoMore, Begins, NoMore, RawElse, RawValue, RawValues, RawConstants, RawDefault, RawStatement, RawList, RawArms, RawCases}
 use Rattle.links.proofs.Moving.{Moves, term-moves, bound-moves, does-move}
 use Rattle.links.proofs.Orders.{term-order, bound-order, step-order, ends-order, last-order, statement-order, list-order, arms-order, cases-order}
+
+pub same-cells : (C D : List ℕ) (a b : ℕ) → ((k : ℕ) → a * 2 ≤ k → k < b * 2 → getD C k 0 ≡ getD D k 0) → SameWords C D a b
+same-cells C D a b f = record { heads = λ i l h. f (i * 2) (omega arith) (omega arith); tails = λ i l h. f (i * 2 + 1) (omega arith) (omega arith) }
 
 pub same-part : (C D : List ℕ) (a b x y : ℕ) → a ≤ x → y ≤ b → SameWords C D a b → SameWords C D x y
 same-part C D a b x y l h s = record { heads = λ i p q. s .heads i (omega arith) (omega arith); tails = λ i p q. s .tails i (omega arith) (omega arith) }
@@ -131,6 +135,7 @@ module _ (g : Ground) (n p : ℕ) (np : n ≤ p) (C D : List ℕ) where
 
     mutual
       unfolding RawStatement RawList RawArms RawCases
+
       pub statement-frame : (s : Statement) (S : Scopes) (used at to : ℕ) → low ≤ at → to ≤ high → RawStatement g n C s S used at to → RawStatement g p D s S used at to
       statement-frame (simple s) S used at to l h x = simple-frame S s at to (part at to l h) x
       statement-frame (compactIf i e s) S used at to l h x =

@@ -42,6 +42,7 @@ module _ (g : Ground) (n : ℕ) (C D : List ℕ) (words : ℕ) (led : (i : ℕ) 
 
   mutual
     unfolding RawStatement RawList RawArms RawCases stepsOf stepsOfList stepsOfArms stepsOfCases CalleeIn
+
     pub statement-stands : (s : Statement) (S : Scopes) (used : ℕ) (around : List ℕ) (after at to : ℕ) → RawStatement g n C s S used at to → To to after
         → Every Stands (stepsOf (g .W) (g .M) s S used around after)
     statement-stands (simple s) S used around after at to x y = standing.simple-stands g n C D words led few s S at to around after x y
