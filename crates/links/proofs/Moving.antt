@@ -65,6 +65,19 @@ room-more v n p x s h e = let d = guarded (ltb v n) x s e in guards (ltb v p) x 
 most-more : {A : Type 0} (v n p : ℕ) (x s : A) → n ≤ p → guard (leb v n) x ≡ some s → guard (leb v p) x ≡ some s
 most-more v n p x s h e = let d = guarded (leb v n) x s e in guards (leb v p) x s (le-leb v p (omega (arith, leb-true v n (d .holds)))) (d .is)
 
+-- ---- arguments, one after another
+module _ (m n : ℕ) (fn : Bool) (text : List ℕ) (R : List Head) (C : List ℕ) (f a b : ℕ) (t : Term) (e : termIn m n C a b ≡ some t) where
+  pub argument-last : (opAt C b ≡ aNextArgument → ⊥) → argumentsIn m n fn text R C (suc f) a b ≡ some (t ∷ [], b)
+  unfolding argumentsIn _then_
+  argument-last h = rw (e, argumentsIn) (rw (ne-eqb (opAt C b) aNextArgument h))
+
+  pub argument-next : (c : ℕ) (ts : List Term) (z : ℕ) → opAt C b ≡ aNextArgument → linkAt C b ≡ c → argumentsIn m n fn text R C f (b + 1) c ≡ some (ts, z)
+      → argumentsIn m n fn text R C (suc f) a b ≡ some (t ∷ ts, z)
+  unfolding argumentsIn _then_
+  argument-next c ts z h l r =
+      let q : argumentsIn m n fn text R C f (b + 1) (linkAt C b) ≡ some (ts, z) = ap (argumentsIn m n fn text R C f (b + 1)) l ∙ r in
+      rw (e, argumentsIn) (rw (eq-eqb (opAt C b) aNextArgument h) (goes (argumentsIn m n fn text R C f (b + 1) (linkAt C b)) (λ r. some (t ∷ r .0, r .1)) (ts, z) q))
+
 -- ---- the readings of parts, in two stores
 module _ (m n p : ℕ) (np : n ≤ p) (fn : Bool) (text : List ℕ) (R : List Head) (C D : List ℕ) where
   module _ (ops i : ℕ) (hd : headAt C i ≡ headAt D i) where
@@ -148,12 +161,8 @@ module _ (m n p : ℕ) (np : n ≤ p) (fn : Bool) (text : List ℕ) (R : List He
         record {
           first = gr;
           on = omega arith;
-          kept = goes (termIn m p D a b) (λ t. elim (eqb (opAt D b) aNextArgument) [ true ↦ argumentsIn m p fn text R D f (b + 1) (linkAt D b) then (λ r. some (t ∷ r .0, r .1)) | false ↦ some (t ∷ [], b) ]) (x .a)
-              (term a b (x .a) lo (omega arith) (x .first))
-              ∙ rw (eq-eqb (opAt D b) aNextArgument (sym (ap opIn hb) ∙ q))
-              (rw (← lb)
-              (goes (argumentsIn m p fn text R D f (b + 1) (linkAt C b)) (λ r. some (x .a ∷ r .0, r .1)) (y .a .0, z) (r .kept)
-              ∙ sym (ap (λ (k : ℕ). some (x .a ∷ y .a .0, k)) w) ∙ y .next));
+          kept = argument-next m p fn text R D f a b (x .a) (term a b (x .a) lo (omega arith) (x .first)) (linkAt C b) (y .a .0) z (sym (ap opIn hb) ∙ q) (sym lb) (r .kept)
+              ∙ sym (ap (λ (k : ℕ). some (x .a ∷ y .a .0, k)) w) ∙ y .next;
         })
         (λ q.
         let w : some (x .a ∷ [], b) ≡ some (ts, z) = rw (ne-eqb (opAt C b) aNextArgument q) at (x .next) in
@@ -161,9 +170,7 @@ module _ (m n p : ℕ) (np : n ≤ p) (fn : Bool) (text : List ℕ) (R : List He
         record {
           first = gr;
           on = omega arith;
-          kept = goes (termIn m p D a b) (λ t. elim (eqb (opAt D b) aNextArgument) [ true ↦ argumentsIn m p fn text R D f (b + 1) (linkAt D b) then (λ r. some (t ∷ r .0, r .1)) | false ↦ some (t ∷ [], b) ]) (x .a)
-              (term a b (x .a) lo (omega arith) (x .first))
-              ∙ rw (ne-eqb (opAt D b) aNextArgument (λ k. q (ap (opAt C) bz ∙ oz ∙ sym (ap (opAt D) bz) ∙ k))) w;
+          kept = argument-last m p fn text R D f a b (x .a) (term a b (x .a) lo (omega arith) (x .first)) (λ k. q (ap (opAt C) bz ∙ oz ∙ sym (ap (opAt D) bz) ∙ k)) ∙ w;
         })
       where
         term : (a b : ℕ) (t : Term) → low ≤ a → b ≤ high → termIn m n C a b ≡ some t → termIn m p D a b ≡ some t

@@ -37,7 +37,7 @@ module _ (g : Ground) (n : ℕ) (C D : List ℕ) (words : ℕ) (led : (i : ℕ) 
   acts i = actionIn (g .m) n (g .function) (g .text) (g .R) D i
 
   abbrev pub To : ℕ → ℕ → Type 0
-  To z after = Goes C D words led z after
+  To z after = Goes C D words z after
 
   -- a step is read back
   pub record Stands (s : Step) : Type 0 where
