@@ -1,2 +1,4 @@
 pub mod Closing
 pub mod Chaining
+pub mod Orders
+pub mod Framing

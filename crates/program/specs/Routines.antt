@@ -32,21 +32,22 @@ groundFor g m r = record {
 }
 
 -- ---- a routine
+-- how many words of data it has, and how many with its FOR variables
+module _ (g : Ground) (m : Module) (r : Routine) where
+  abbrev pub wordsOfData : ℕ
+  wordsOfData = length (routineData (g .W) m r .words)
+
+  abbrev pub wordsInAll : ℕ
+  wordsInAll = wordsOfData + forsOf (g .W) r
+
 module _ (g : Ground) (C : List ℕ) (m : Module) where
-  -- how many words of data it has, and how many with its FOR variables
-  abbrev pub wordsOfData : Routine → ℕ
-  wordsOfData r = length (routineData (g .W) m r .words)
-
-  abbrev pub wordsInAll : Routine → ℕ
-  wordsInAll r = wordsOfData r + forsOf (g .W) r
-
   abbrev pub RawLines : Routine → RoutineList → (used at : ℕ) → Type 0
-  RawLines r l used at = RawRoutineList (groundFor g m r) (wordsInAll r) C l (routineScopes (g .W) m r) used at
+  RawLines r l used at = RawRoutineList (groundFor g m r) (wordsInAll g m r) C l (routineScopes (g .W) m r) used at
 
   -- an ERROR list, behind the word that closes the other
   pub record RawErrors (r : Routine) (l : RoutineList) (leader : ℕ) : Type 0 where
     pub leads : linkAt C leader ≡ r .body .closes + 1
-    pub list : RawLines r l (wordsOfData r + forsInList (r .body .statements)) (r .body .closes + 1)
+    pub list : RawLines r l (wordsOfData g m r + forsInList (r .body .statements)) (r .body .closes + 1)
 
   -- 0 is no step, and says that there is none
   unfoldable pub RawHandler : Routine → (handler : Option RoutineList) → (leader : ℕ) → Type 0
@@ -62,7 +63,7 @@ module _ (g : Ground) (C : List ℕ) (m : Module) where
     pub still : isLed (opAt C (h .word)) ≡ false
     pub still-next : isLed (opAt C (h .word + 1)) ≡ false
     pub starts : placeAt C (h .word) ≡ form .begin
-    pub body : RawLines r (r .body) (wordsOfData r) (form .begin)
+    pub body : RawLines r (r .body) (wordsOfData g m r) (form .begin)
     pub handler : RawHandler r (r .handler) (h .word + 1)
     -- the first words of its data, which the parenthesis before the parameters ends
     pub ds : List ℕ
@@ -71,7 +72,7 @@ module _ (g : Ground) (C : List ℕ) (m : Module) where
     pub words : routineData (g .W) m r .words ≡ replicate (length (r .parameters)) (pos 0) ++ startsIn C ds
     pub opens : opAt C (r .name + 1) ≡ theParameters
     pub fors : placeAt C (r .name + 1) ≡ forsOf (g .W) r
-    pub room : wordsInAll r ≤ routineWordLimit
+    pub room : wordsInAll g m r ≤ routineWordLimit
 
   -- ---- routines one after another, with their heads
   pub data RawRoutines : List Routine → List Head → (at to : ℕ) → Type 0 where
