@@ -2,3 +2,4 @@ pub mod Closing
 pub mod Chaining
 pub mod Orders
 pub mod Framing
+pub mod Holding
