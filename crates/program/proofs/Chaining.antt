@@ -1,17 +1,15 @@
 -- The chain of a routine's data: what a run reads of it, and that it stays while other words change.
-use mathlib.Core.Path.{_≡_, refl, sym, ap, ap₂, subst, _∙_}
-use mathlib.Core.Bool.{Bool, true, false}
+use mathlib.Core.Path.{_≡_, refl, sym, ap, ap₂, _∙_}
+use mathlib.Core.Bool.{false}
 use mathlib.Core.List.{List, [], _∷_, _++_}
-use mathlib.Core.Option.{Option, none, some}
-use Prim.Native.Nat.{ℕ, zero, suc, _+_, _<_, _≤_}
+use mathlib.Core.Option.{some}
+use Prim.Native.Nat.{ℕ, suc, _+_, _<_, _≤_}
 use native.Mathlib.Omega.{arith}
-use lib.Dec.{eqb}
 use lib.ListN.{length, replicate}
 use lib.IntN.{ℤ, pos, _-ℤ_}
 use borrow.Author.Tests.{eq-eqb, ne-eqb}
-use Rattle.paper.specs.Basics.{if_then_else_}
 use Rattle.cells.specs.Words.{wordsOf}
-use Rattle.code.specs.Cells.{opIn, valueIn, placeIn, linkIn, headAt, tailAt, opAt, valueAt, placeAt, linkAt}
+use Rattle.code.specs.Cells.{opIn, valueIn, placeIn, linkIn, headAt, tailAt, opAt, placeAt, linkAt}
 use Rattle.code.specs.Spans.{_then_, bias}
 use Rattle.code.specs.Steps.{constantAt, parts, aDatum, theParameters}
 use Rattle.code.specs.Holds.{dataIn}
@@ -74,39 +72,52 @@ stays-resolved g before after words few x = record {
   tails = λ i l h q. tail-stays g 0 before after words few x i h q;
 }
 
-module _ (C D : List ℕ) (low high : ℕ) (stays : Stays C D low high) where
-  leads-kept : (b : ℕ) (ds : List ℕ) → low ≤ b → isLed (opAt C b) ≡ false → Rise b high ds → Leads C b ds → Leads D b ds
+-- Of the words from b up to `high` the data stay, and so does the link of b. (The walk gives the word b its place, and the parenthesis its op, after it has chained the data.)
+pub record DataStay (C D : List ℕ) (b high : ℕ) : Type 0 where
+  pub link : linkAt D b ≡ linkAt C b
+  pub heads : (i : ℕ) → b < i → i < high → opAt C i ≡ aDatum → headAt D i ≡ headAt C i
+  pub tails : (i : ℕ) → b < i → i < high → opAt C i ≡ aDatum → tailAt D i ≡ tailAt C i
+
+pub data-stay : (C D : List ℕ) (low high b : ℕ) → Stays C D low high → low ≤ b → b < high → isLed (opAt C b) ≡ false → DataStay C D b high
+data-stay C D low high b s l h q = record {
+  link = ap linkIn (s .tails b l h q);
+  heads = λ i p k e. s .heads i (omega arith) k (datum-still (opAt C i) e);
+  tails = λ i p k e. s .tails i (omega arith) k (datum-still (opAt C i) e);
+}
+
+-- the same from a datum on
+stay-later : (C D : List ℕ) (b d high : ℕ) → DataStay C D b high → b < d → d < high → opAt C d ≡ aDatum → DataStay C D d high
+stay-later C D b d high s l h o = record {
+  link = ap linkIn (s .tails d l h o);
+  heads = λ i p k e. s .heads i (omega arith) k e;
+  tails = λ i p k e. s .tails i (omega arith) k e;
+}
+
+module _ (C D : List ℕ) (high : ℕ) where
+  leads-kept : (b : ℕ) (ds : List ℕ) → DataStay C D b high → Rise b high ds → Leads C b ds → Leads D b ds
   unfolding Leads Rise
-  leads-kept b [] l q o x = tt
-  leads-kept b (d ∷ r) l q o x =
-      let p = rise-all d high r (o .1) in
-      let s = datum-still (opAt C d) (x .1) in
-      let bd = o .0 in
-      (
-        ap linkIn (stays .tails b l (omega arith) q) ∙ x .0,
-        ap opIn (stays .heads d (omega arith) (omega arith) s) ∙ x .1,
-        leads-kept d r (omega arith) s (o .1) (x .2),
-      )
+  leads-kept b [] s o x = tt
+  leads-kept b (d ∷ r) s o x =
+      let p : d < high = omega (arith, rise-all d high r (o .1)) in
+      (s .link ∙ x .0, ap opIn (s .heads d (o .0) p (x .1)) ∙ x .1, leads-kept d r (stay-later C D b d high s (o .0) p (x .1)) (o .1) (x .2))
 
-  last-kept : (b : ℕ) (ds : List ℕ) → low ≤ b → isLed (opAt C b) ≡ false → Rise b high ds → Leads C b ds → linkAt D (lastOf b ds) ≡ linkAt C (lastOf b ds)
+  last-kept : (b : ℕ) (ds : List ℕ) → DataStay C D b high → Rise b high ds → Leads C b ds → linkAt D (lastOf b ds) ≡ linkAt C (lastOf b ds)
   unfolding Leads Rise lastOf
-  last-kept b [] l q o x = ap linkIn (stays .tails b l o q)
-  last-kept b (d ∷ r) l q o x = last-kept d r (omega (arith, o .0)) (datum-still (opAt C d) (x .1)) (o .1) (x .2)
+  last-kept b [] s o x = s .link
+  last-kept b (d ∷ r) s o x = last-kept d r (stay-later C D b d high s (o .0) (omega (arith, rise-all d high r (o .1))) (x .1)) (o .1) (x .2)
 
-  pub chain-kept : (b : ℕ) (ds : List ℕ) (end : ℕ) → low ≤ b → isLed (opAt C b) ≡ false → Rise b high ds → Chain C b ds end → Chain D b ds end
-  chain-kept b ds end l q o x = record { leads = leads-kept b ds l q o (x .leads); ends = last-kept b ds l q o (x .leads) ∙ x .ends }
+  pub chain-kept : (b : ℕ) (ds : List ℕ) (end : ℕ) → DataStay C D b high → Rise b high ds → Chain C b ds end → Chain D b ds end
+  chain-kept b ds end s o x = record { leads = leads-kept b ds s o (x .leads); ends = last-kept b ds s o (x .leads) ∙ x .ends }
 
   constant-kept : (i : ℕ) → headAt D i ≡ headAt C i → constantAt D i ≡ constantAt C i
   unfolding constantAt
   constant-kept i e = ap (λ (k : ℕ). pos (valueIn k) -ℤ pos bias) e
 
-  pub starts-kept : (b : ℕ) (ds : List ℕ) → low ≤ b → Rise b high ds → Leads C b ds → startsIn D ds ≡ startsIn C ds
+  pub starts-kept : (b : ℕ) (ds : List ℕ) → DataStay C D b high → Rise b high ds → Leads C b ds → startsIn D ds ≡ startsIn C ds
   unfolding Leads Rise startsIn
-  starts-kept b [] l o x = refl
-  starts-kept b (d ∷ r) l o x =
-      let p = rise-all d high r (o .1) in
-      let s = datum-still (opAt C d) (x .1) in
-      let bd = o .0 in
-      let c : constantAt D d ≡ constantAt C d = constant-kept d (stays .heads d (omega arith) (omega arith) s) in
-      let k : placeAt D d ≡ placeAt C d = ap placeIn (stays .tails d (omega arith) (omega arith) s) in
-      ap₂ (λ (x y : List ℤ). x ++ y) (ap₂ (λ (n : ℕ) (z : ℤ). replicate n z) k c) (starts-kept d r (omega arith) (o .1) (x .2))
+  starts-kept b [] s o x = refl
+  starts-kept b (d ∷ r) s o x =
+      let p : d < high = omega (arith, rise-all d high r (o .1)) in
+      let c : constantAt D d ≡ constantAt C d = constant-kept d (s .heads d (o .0) p (x .1)) in
+      let k : placeAt D d ≡ placeAt C d = ap placeIn (s .tails d (o .0) p (x .1)) in
+      ap₂ (λ (x y : List ℤ). x ++ y) (ap₂ (λ (n : ℕ) (z : ℤ). replicate n z) k c) (starts-kept d r (stay-later C D b d high s (o .0) p (x .1)) (o .1) (x .2))

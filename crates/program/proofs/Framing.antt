@@ -9,23 +9,20 @@ use lib.ListN.{length, replicate}
 use lib.IntN.{ℤ, pos}
 use Rattle.paper.specs.Terms.{Memory}
 use Rattle.paper.specs.Trees.{RoutineList, Routine, Module}
-use Rattle.paper.specs.Names.{Scopes, sortIn}
+use Rattle.paper.specs.Names.{sortIn}
 use Rattle.paper.specs.Declarations.{routineScopes, moduleData}
-use Rattle.paper.specs.Checks.{forsInList, isSome}
-use Rattle.code.specs.Cells.{opIn, placeIn, linkIn, opAt, placeAt, linkAt}
+use Rattle.paper.specs.Checks.{isSome}
+use Rattle.code.specs.Cells.{opIn, placeIn, linkIn}
 use Rattle.code.specs.Steps.{Head}
-use Rattle.grammar.specs.Form.{Parses, RoutineListAt, HandlerAt, no-handler, a-handler}
-use Rattle.grammar.proofs.Places.{list-grows}
+use Rattle.grammar.specs.Form.{Parses, HandlerAt, a-handler}
 use Rattle.faults.specs.Parts.{memoryOf}
-use Rattle.faults.proofs.Expressions.{grows}
 use Rattle.links.specs.Resolved.{isLed}
 use Rattle.links.specs.Raw.{Ground, SameWords, RawRoutineList}
 use Rattle.links.proofs.Framing.{list-frame, same-part}
 use Rattle.links.proofs.Orders.{list-order}
-use Rattle.program.specs.Chains.{Rise}
-use Rattle.program.specs.Routines.{groundFor, wordsOfData, wordsInAll, RawErrors, RawHandler, RawRoutine, RawRoutines, no-routine, a-routine}
-use Rattle.program.proofs.Orders.{Lies, lies}
-use Rattle.program.proofs.Chaining.{stays-same, chain-kept, starts-kept, rise-on}
+use Rattle.program.specs.Routines.{groundFor, wordsInAll, RawHandler, RawRoutine, RawRoutines, no-routine, a-routine}
+use Rattle.program.proofs.Orders.{lies}
+use Rattle.program.proofs.Chaining.{rise-on, stays-same, data-stay, chain-kept, starts-kept}
 
 -- ---- grounds
 -- a ground that is a routine's own
@@ -38,7 +35,7 @@ own-ground g m r a b c =
 
 -- ---- one routine
 module _ (g : Ground) (C D : List ℕ) (m : Module) (r : Routine) (low to : ℕ) (same : SameWords C D low to) where
-  lines-frame : (l : RoutineList) (used at : ℕ) → low ≤ at → l .closes < to → RawRoutineList (groundFor g m r) (wordsInAll g m r) C l (routineScopes (g .W) m r) used at
+  pub lines-frame : (l : RoutineList) (used at : ℕ) → low ≤ at → l .closes < to → RawRoutineList (groundFor g m r) (wordsInAll g m r) C l (routineScopes (g .W) m r) used at
       → RawRoutineList (groundFor g m r) (wordsInAll g m r) D l (routineScopes (g .W) m r) used at
   lines-frame l used at a z x =
       let o = list-order (groundFor g m r) (wordsInAll g m r) C (l .statements) (routineScopes (g .W) m r) used at (l .closes) (x .list) in
@@ -66,7 +63,7 @@ routine-frame g C D m r h to same x =
     let c = o .body in
     let d = o .end in
     let e = o .after in
-    let s = stays-same C D w to same in
+    let s = data-stay C D w to w (stays-same C D w to same) (omega arith) (omega arith) (x .still) in
     let z = rise-on w (x .form .begin) to (x .ds) (omega arith) (x .rise) in
     let p = r .name + 1 in
     record {
@@ -79,9 +76,9 @@ routine-frame g C D m r h to same x =
       body = lines-frame g C D m r w to same (r .body) _ (x .form .begin) (omega arith) (omega arith) (x .body);
       handler = handler-frame g C D m r w to same (r .handler) (w + 1) (x .form .end) (x .form .handler) (omega arith) (omega arith) (omega arith) (omega arith) (x .handler);
       ds = x .ds;
-      chain = chain-kept C D w to s w (x .ds) p (omega arith) (x .still) z (x .chain);
+      chain = chain-kept C D to w (x .ds) p s z (x .chain);
       rise = x .rise;
-      words = x .words ∙ ap (λ (l : List ℤ). replicate (length (r .parameters)) (pos 0) ++ l) (sym (starts-kept C D w to s w (x .ds) (omega arith) z (x .chain .leads)));
+      words = x .words ∙ ap (λ (l : List ℤ). replicate (length (r .parameters)) (pos 0) ++ l) (sym (starts-kept C D to w (x .ds) s z (x .chain .leads)));
       opens = sym (ap opIn (same .heads p (omega arith) (omega arith))) ∙ x .opens;
       fors = sym (ap placeIn (same .tails p (omega arith) (omega arith))) ∙ x .fors;
       room = x .room;

@@ -1,12 +1,10 @@
 -- The code store holds the paper's program: what the walk has left, resolved, is read back.
-use mathlib.Core.Path.{_≡_, refl, sym, ap, subst, _∙_}
-use mathlib.Core.Bool.{Bool, true, false}
-use mathlib.Core.List.{List, [], _∷_, _++_, map}
+use mathlib.Core.Path.{_≡_, refl, sym, ap, _∙_}
+use mathlib.Core.List.{List, _++_, map}
 use mathlib.Core.Option.{Option, none, some}
 use Prim.Native.Nat.{ℕ, zero, suc, _+_, _<_, _≤_}
 use native.Mathlib.Numerals.{add-one}
 use native.Mathlib.Omega.{arith}
-use lib.Dec.{eqb}
 use lib.ListN.{length, getD, replicate}
 use lib.IntN.{ℤ, pos}
 use borrow.Author.Tests.{eq-eqb, ne-eqb}
@@ -14,27 +12,27 @@ use Rattle.paper.specs.Words.{Word}
 use Rattle.paper.specs.Terms.{Memory}
 use Rattle.paper.specs.Trees.{RoutineList, Routine, Module}
 use Rattle.paper.specs.Names.{Scopes, sortIn}
-use Rattle.paper.specs.Declarations.{moduleData, routineData, routineScopes}
+use Rattle.paper.specs.Declarations.{moduleData, routineScopes}
 use Rattle.paper.specs.Checks.{forsInList, isSome}
-use Rattle.paper.specs.Steps.{Step, Code, begin, forsOf, firstStep, listSteps, codeOf, programOf}
+use Rattle.paper.specs.Steps.{Step, begin, firstStep, listSteps, codeOf, programOf}
 use Rattle.paper.specs.Running.{noCode, codeAt}
 use Rattle.cells.specs.Words.{wordsOf}
-use Rattle.code.specs.Cells.{opIn, placeIn, linkIn, headAt, tailAt, opAt, placeAt, linkAt}
+use Rattle.code.specs.Cells.{opIn, placeIn, linkIn, opAt, linkAt}
 use Rattle.code.specs.Steps.{Head, noHead, numbered, stepIn, parts}
 use Rattle.code.specs.Closed.{Every, done, also, SmallName}
-use Rattle.code.specs.Holds.{known, optionally, dataIn, CalleeIn, HoldsRoutine, Holds}
+use Rattle.code.specs.Holds.{known, optionally, CalleeIn, HoldsRoutine, Holds}
 use Rattle.grammar.specs.Places.{Within, no-step-left, one-step}
-use Rattle.grammar.specs.Form.{Parses, RoutineListAt}
+use Rattle.grammar.specs.Form.{Parses}
 use Rattle.grammar.proofs.Places.{routine-list-within}
 use Rattle.faults.specs.Parts.{memoryOf}
 use Rattle.faults.proofs.Expressions.{grows}
-use Rattle.links.specs.Resolved.{isLed, Resolved}
+use Rattle.links.specs.Resolved.{Resolved}
 use Rattle.links.specs.Raw.{Ground}
 use Rattle.links.proofs.Walked.{every-both, steps-read, callees-read, starts-at}
 use Rattle.program.specs.Chains.{startsIn}
-use Rattle.program.specs.Routines.{groundFor, wordsOfData, wordsInAll, RawErrors, RawHandler, RawRoutine, RawRoutines, no-routine, a-routine, RawModule}
+use Rattle.program.specs.Routines.{groundFor, wordsOfData, wordsInAll, RawHandler, RawRoutine, RawRoutines, no-routine, a-routine, RawModule}
 use Rattle.program.proofs.Closing.{closed, loops-fit}
-use Rattle.program.proofs.Chaining.{parameters-still, rise-all, rise-on, chain-reads, Stays, stays-resolved, chain-kept, starts-kept}
+use Rattle.program.proofs.Chaining.{parameters-still, rise-all, rise-on, chain-reads, Stays, stays-resolved, data-stay, chain-kept, starts-kept}
 use Rattle.program.proofs.Orders.{lies, handler-form, handler-raw, handler-every}
 use Rattle.program.proofs.Framing.{routine-order, routines-order}
 
@@ -129,9 +127,9 @@ module _ (g : Ground) (m : Module) (before after : List ℕ) (words : ℕ) (few 
         (within-small (h .word) to behind (omega arith)
         (routine-list-within (sortIn W) (Parses (sortIn W)) (grows W) W M (h .word) to (x .form .body) (omega arith) (omega arith) S n))
         (λ l e.
-          let f = handler-form (sortIn W) (Parses (sortIn W)) (r .handler) (r .body .closes) (x .form .end) l e (x .form .handler) in
-          within-small (h .word) to behind (omega arith)
-          (routine-list-within (sortIn W) (Parses (sortIn W)) (grows W) W M (h .word) to f (omega arith) (omega arith) S late))
+        let f = handler-form (sortIn W) (Parses (sortIn W)) (r .handler) (r .body .closes) (x .form .end) l e (x .form .handler) in
+        within-small (h .word) to behind (omega arith)
+        (routine-list-within (sortIn W) (Parses (sortIn W)) (grows W) W M (h .word) to f (omega arith) (omega arith) S late))
 
     pub routine-holds : HoldsRoutine (length (moduleData W m .words)) (g .text) (g .R) (g .offset) D h (codeOf W m r)
     unfolding codeOf firstStep
@@ -146,8 +144,9 @@ module _ (g : Ground) (m : Module) (before after : List ℕ) (words : ℕ) (few 
         let p = r .name + 1 in
         let s : Stays C D 0 words = stays-resolved g before after words few resolved in
         let rise = rise-on w (x .form .begin) words (x .ds) (omega arith) (x .rise) in
-        let chain = chain-kept C D 0 words s w (x .ds) p (omega arith) (x .still) rise (x .chain) in
-        let kept = starts-kept C D 0 words s w (x .ds) (omega arith) rise (x .chain .leads) in
+        let stay = data-stay C D 0 words w s (omega arith) (omega arith) (x .still) in
+        let chain = chain-kept C D words w (x .ds) p stay rise (x .chain) in
+        let kept = starts-kept C D words w (x .ds) stay rise (x .chain .leads) in
         let still = parameters-still (opAt C p) (x .opens) in
         record {
           function-is = x .function;

@@ -1,5 +1,5 @@
 -- Where the parts of a routine lie, and what is known of its ERROR list.
-use mathlib.Core.Path.{_≡_, refl, sym, _∙_}
+use mathlib.Core.Path.{_≡_, refl, sym}
 use mathlib.Core.List.{List, []}
 use mathlib.Core.Option.{Option, none, some}
 use Prim.Native.Nat.{ℕ, _+_, _<_, _≤_}
@@ -10,13 +10,12 @@ use Rattle.paper.specs.Terms.{Memory}
 use Rattle.paper.specs.Trees.{Expr, RoutineList, Routine, Module}
 use Rattle.paper.specs.Names.{Scopes, sortIn}
 use Rattle.paper.specs.Steps.{Step, listSteps}
-use Rattle.code.specs.Steps.{Head}
 use Rattle.code.specs.Closed.{Every, done}
-use Rattle.grammar.specs.Form.{Parses, RoutineListAt, HandlerAt, no-handler, a-handler, RoutineAt}
+use Rattle.grammar.specs.Form.{Parses, RoutineListAt, HandlerAt, a-handler, RoutineAt}
 use Rattle.grammar.proofs.Places.{parameters-grow, declarations-grow, list-grows, handler-grows, head-grows}
 use Rattle.faults.proofs.Expressions.{grows}
 use Rattle.links.specs.Raw.{Ground}
-use Rattle.program.specs.Routines.{RawErrors, RawHandler, RawRoutine}
+use Rattle.program.specs.Routines.{RawErrors, RawHandler}
 
 -- ---- order
 pub record Lies (W : List Word) {r : Routine} {at to : ℕ} (f : RoutineAt (sortIn W) (Parses (sortIn W)) r at to) : Type 0 where

@@ -7,7 +7,7 @@ use Prim.Native.Nat.{ℕ, _+_, _<_, _≤_}
 use lib.ListN.{length, replicate}
 use lib.IntN.{pos}
 use Rattle.paper.specs.Trees.{RoutineList, Routine, Module}
-use Rattle.paper.specs.Names.{Scopes, sortIn}
+use Rattle.paper.specs.Names.{sortIn}
 use Rattle.paper.specs.Declarations.{routineWordLimit, moduleWordLimit, moduleData, routineData, routineScopes}
 use Rattle.paper.specs.Checks.{forsInList, isSome}
 use Rattle.paper.specs.Steps.{forsOf}
