@@ -1,10 +1,9 @@
 // The checker: from a text to a code store that is ready to run, or the first rule broken and its place.
 use form::Verdict;
 use load::Loaded;
-use modules::Found;
 ghost use Rattle.paper.specs.Answer.{verdict};
-ghost use Rattle.modules.specs.Walks.{Laid, Formed};
 ghost use Rattle.checker.specs.Checks.{Judges, Checks};
+ghost use Rattle.checker.specs.Walks.{Laid, Formed, Walks};
 ghost use Rattle.checker.specs.Passes.{Whole, Clean, Settles, Formal};
 
 // How many words a store has, and their bytes.
@@ -24,12 +23,33 @@ pub enum Checked {
     Refused(u32, usize),
 }
 
+// ---- names and types
+
+enum Found {
+    // how many words of data the module has, and the word that main begins with
+    Main(usize, usize),
+    // no rule is broken, but there is no main
+    NoMain,
+    // the rule broken, and its word
+    Faulty(u32, usize),
+}
+
+// A stub, until the routines stand: only its contract counts.
+fn names_and_types(text: &[u8], code: &mut [u8], values: &mut [u8], words: usize) -> Found
+    requires { ⌜ Formed (now text) (now code) (now values) words ⌝ }
+    ensures { λ r. ⌜ Walks (now (text .entry)) (now (code .entry)) (now (values .entry)) r (now (code .exit)) (now (values .exit)) ⌝ }
+{
+    Found::NoMain
+}
+
+// ---- the passes
+
 // Rules 10 to 18. Then links lead to steps, and behind the module's words the value store is empty.
 fn judge_names(text: &[u8], code: &mut [u8], values: &mut [u8], words: usize) -> Checked
     requires { ⌜ Formed (now text) (now code) (now values) words ⌝ }
     ensures { λ r. ⌜ Formal (now (text .entry)) (now (code .entry)) (now (values .entry)) r (now (code .exit)) (now (values .exit)) ⌝ }
 {
-    match modules::names_and_types(text, code, values, words) {
+    match names_and_types(text, code, values, words) {
         Found::Faulty(number, at) => Checked::Refused(number, offsets::offset_of(text, at)),
         Found::NoMain => Checked::Refused(NO_MAIN, 0),
         Found::Main(count, main) => {

@@ -23,8 +23,8 @@ use Rattle.load.specs.Loads.{Loads}
 use Rattle.faults.specs.First.{First}
 use Rattle.links.specs.Raw.{Ground}
 use Rattle.program.specs.Routines.{RawModule}
-use Rattle.modules.specs.declared.Found.{Found}
-use Rattle.modules.specs.declared.Found.the-variants.{Main, NoMain, Faulty}
+use Rattle.checker.specs.declared.Found.{Found}
+use Rattle.checker.specs.declared.Found.the-variants.{Main, NoMain, Faulty}
 
 -- Both stores, which are no longer than their cells, are as loading left them.
 pub record Laid (text code values : List ℕ) (words : ℕ) : Type 0 where
