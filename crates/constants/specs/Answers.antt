@@ -14,14 +14,13 @@ use Rattle.paper.specs.Terms.{Ref, ofModule, ofRoutine, Memory, load}
 use Rattle.paper.specs.Trees.{Expr}
 use Rattle.paper.specs.Words.{Word}
 use Rattle.paper.specs.Expressions.{disjunctions}
-use Rattle.paper.specs.Names.{DataType, aNum, constant, Scopes, spelled, meaning}
+use Rattle.paper.specs.Names.{DataType, aNum, Meaning, unknown, variable, array, constant, loop, theRoutine, theErrno, errorNumber, Text, Scopes, meaning}
 use Rattle.paper.specs.Types.{constantFaults, constantValue, sizeOf, raisesError, isNoSize, elementLimit}
 use Rattle.cells.specs.Words.{wordsOf}
 use Rattle.code.specs.Cells.{firstWindow, errnoCell}
-use Rattle.names.specs.Numbers.{IsName}
 use Rattle.evaluation.specs.Answers.{callWords, firstNegative}
 use Rattle.faults.specs.First.{First}
-use Rattle.expressions.specs.Known.{Known}
+use Rattle.expressions.specs.Known.{largest, InRoom}
 use Rattle.expressions.specs.Answers.{Kept, typeIf, Stands}
 use Rattle.constants.specs.declared.Valued.{Valued}
 use Rattle.constants.specs.declared.Valued.the-variants as values-of
@@ -39,22 +38,30 @@ pub record InNum (z : ℤ) : Type 0 where
   pub low : ltZ z (num .low) ≡ false
   pub high : ltZ (num .high) z ≡ false
 
--- A word's cell has what the paper reads there, which is in num. `X` is the value store's cells.
-pub record Worth (X : List ℕ) (M : Memory) (r : Ref) : Type 0 where
+-- A word of the module, which has m, or of the routine, which has n: its cell has what the paper reads there, which is in num. `X` is the value store's cells.
+pub record Worth (m n : ℕ) (X : List ℕ) (M : Memory) (r : Ref) : Type 0 where
+  pub room : InRoom m n r 1
   pub is : toZ w32 (getD X (cellOf r) 0) ≡ load M r
   pub ranged : InNum (load M r)
 
--- It does of every word that a name of a constant means.
-abbrev pub Worths : (W : List Word) (S : Scopes) (X : List ℕ) (M : Memory) → Type 0
-Worths W S X M = (i : ℕ) → IsName W i → (t : DataType) (r : Ref) → meaning S (spelled W i) ≡ constant t r → Worth X M r
+-- What a constant expression has to know of a name's meaning.
+unfoldable pub Fine : (m n : ℕ) (X : List ℕ) (M : Memory) → Meaning → Type 0
+Fine m n X M unknown = Unit {0}
+Fine m n X M (variable t r) = Unit {0}
+Fine m n X M (array t r size) = Unit {0}
+Fine m n X M (constant t r) = Worth m n X M r
+Fine m n X M (loop r) = Unit {0}
+Fine m n X M (theRoutine k) = Unit {0}
+Fine m n X M theErrno = Unit {0}
+Fine m n X M (errorNumber k) = k ≤ largest
 
 -- ---- what is asked
--- An expression stands at a word that no operator follows; the routine's words are those of a window, and ERRNO, which no constant expression reads, is no large number.
+-- An expression stands at a word; the routine's words are those of a window, and ERRNO, which no constant expression reads, is no large number.
 pub record Asks (code values : List ℕ) (at : ℕ) : Type 0 where
   pub stands : Stands code values disjunctions at
   pub M : Memory
   pub window : stands .known .n ≤ callWords
-  pub worths : Worths (stands .known .W) (stands .known .S) (wordsOf values) M
+  pub fine : (text : Text) → Fine (stands .known .m) (stands .known .n) (wordsOf values) M (meaning (stands .known .S) text)
   pub number : getD (wordsOf values) errnoCell 0 < firstNegative
 
 -- ---- answers
