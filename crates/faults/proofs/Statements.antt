@@ -1,30 +1,28 @@
 -- The faults of statements lie in their words: one law for each thing that stands.
-use mathlib.Core.Path.{_≡_, refl, sym, ap}
+use mathlib.Core.Path.{_≡_, refl}
 use mathlib.Core.Bool.{Bool, true, false}
-use mathlib.Core.List.{List, [], _∷_, _++_}
+use mathlib.Core.List.{List, [], _∷_}
 use mathlib.Core.Option.{Option, none, some}
-use Prim.Native.Nat.{ℕ, suc, _+_, _-_, _≤_, _<_}
+use Prim.Native.Nat.{ℕ, _+_, _-_, _≤_, _<_}
 use native.Mathlib.Omega.{arith}
-use lib.Dec.{eqb}
 use lib.ListN.{getD}
 use Rattle.laws.proofs.Tests.{test}
-use Rattle.paper.specs.Basics.{if_then_else_}
 use Rattle.paper.specs.Words.{Word}
 use Rattle.paper.specs.Terms.{Ref, Memory}
 use Rattle.paper.specs.Trees.{Expr, element, Target, Simple, Statement, Statements, Arms, Cases, RoutineList}
 use Rattle.paper.specs.Names.{DataType, aNum, aBool, Meaning, routineIn, variableIn, wrongName, Scopes, sortIn, spelled, meaning}
-use Rattle.paper.specs.Types.{Fault, fault, faultIf, Judged, judgedNothing, wanted, raisesError}
+use Rattle.paper.specs.Types.{Fault, Judged, wanted, raisesError}
 use Rattle.paper.specs.Declarations.{Signature}
 use Rattle.paper.specs.Checks.{Setting, isOtherKind, noSignature, judgeScalarTarget, judgeTarget, argumentFaults, signatureFaults, calleeFaults, callFaults, resultFaults, returnFaults, optionalNum, simpleFaults, caseFaults, statementFaults, listFaults, armFaults, casesFaults, handlerFaults}
 use Rattle.climb.specs.Places.{Spans}
-use Rattle.grammar.specs.Form.{SeparatedAt, last-one, one-more, ClosedAt, closed-at-once, closed-later, Parses}
+use Rattle.grammar.specs.Form.{last-one, one-more, closed-at-once, closed-later, Parses}
 use Rattle.grammar.specs.Form.{ExprsAt, ArgumentsAt, IndexAt, no-index, in-braces, TargetAt, OptionalAt, no-value, a-value, NumberAt, no-number, a-number}
-use Rattle.grammar.specs.Form.{SimpleAt, assigning, assigning-call, calling, returning, raising, exiting, retrying, trying-next, writing, reading, StepAt, no-step, a-step, ForHeadAt}
+use Rattle.grammar.specs.Form.{SimpleAt, assigning, assigning-call, calling, returning, raising, exiting, retrying, trying-next, writing, reading, StepAt, no-step, a-step}
 use Rattle.grammar.specs.Form.{StatementAt, plain, compact, full, counting, looping, testing, ListAt, ended, begun, ArmsAt, last-arm, more-arms, ElseAt, no-else, an-else, CasesAt, no-more-cases, one-case, DefaultAt, no-default, a-default, HandlerAt, no-handler, a-handler}
-use Rattle.grammar.proofs.Places.{exprs-grow, arguments-grow, index-grows, target-grows, optional-grows, number-grows, simple-grows, step-grows, for-head-grows, statement-grows, list-grows, arms-grow, else-grows, cases-grow, default-grows}
-use Rattle.faults.specs.First.{Every, no-fault, Inside}
-use Rattle.faults.proofs.First.{_and_, widen, inside-fault, inside-if}
-use Rattle.faults.proofs.Expressions.{spans, grows, judged-inside, wanted-inside, spans-inside, faults-of-inside, of-type-inside, constant-inside}
+use Rattle.grammar.proofs.Places.{exprs-grow, arguments-grow, target-grows, simple-grows, step-grows, statement-grows, list-grows, arms-grow, else-grows, cases-grow, default-grows}
+use Rattle.faults.specs.First.{no-fault, Inside, First, Ordered}
+use Rattle.faults.proofs.First.{_and_, widen, inside-fault, inside-if, headed-first, ordered-none}
+use Rattle.faults.proofs.Expressions.{spans, grows, Orderly, judged-orderly, wanted-ordered, one-orderly, orderly, faults-of-inside, of-type-inside, constant-inside}
 
 module _ (W : List Word) where
   -- ---- lists of expressions
@@ -52,26 +50,38 @@ module _ (W : List Word) where
       and widen (case-inside S M h) (omega (arith, grows W _ _ _ _ k)) (omega arith)
 
   -- ---- targets and calls
-  scalar-inside : (m : Meaning) (i a b : ℕ) → a ≤ i → i < b → Inside a b (judgeScalarTarget m i .faults)
-  unfolding judgeScalarTarget judgedNothing
-  scalar-inside m i a b low high = by-variable (variableIn m) refl
+  scalar-orderly : (m : Meaning) (i a b : ℕ) → a ≤ i → i < b → Orderly a b (judgeScalarTarget m i)
+  unfolding judgeScalarTarget
+  scalar-orderly m i a b low high = by-variable (variableIn m) refl
     where
-      by-variable : (o : Option (DataType × Ref)) → variableIn m ≡ o → Inside a b (judgeScalarTarget m i .faults)
-      by-variable none q = rw (q, judgeScalarTarget) (judged-inside _ _ _ (inside-fault (wrongName m) i a b low high))
-      by-variable (some v) q = rw (q, judgeScalarTarget) (judged-inside _ _ _ no-fault)
+      by-variable : (o : Option (DataType × Ref)) → variableIn m ≡ o → Orderly a b (judgeScalarTarget m i)
+      by-variable none q = rw (q, judgeScalarTarget) (one-orderly false i a b low high (wrongName m))
+      by-variable (some v) q = rw (q, judgeScalarTarget) (judged-orderly _ _ _ (ordered-none a b))
 
   moved : (e : Expr) (a b c d : ℕ) → a ≡ c → b ≡ d → Spans e a b → Spans e c d
   moved e a b c d p q s = rw (← p, ← q) s
 
-  index-inside : (S : Scopes) (name : ℕ) {o : Option Expr} {at next to : ℕ} → name ≡ at → next ≡ at + 1 → IndexAt (sortIn W) (Parses (sortIn W)) o next to
-      → Inside at to (judgeTarget W S (record { name = name; index = o }) .faults)
+  index-orderly : (S : Scopes) (name : ℕ) {o : Option Expr} {at next to : ℕ} → name ≡ at → next ≡ at + 1 → IndexAt (sortIn W) (Parses (sortIn W)) o next to
+      → Orderly at to (judgeTarget W S (record { name = name; index = o }))
   unfolding judgeTarget Spans
-  index-inside S name {at = at} {to = to} i j (no-index f e) = scalar-inside (meaning S (spelled W name)) name at to (omega arith) (omega arith)
-  index-inside S name {at = at} {next = next} {to = to} i j (in-braces {e = e} {n = n} b k c z) =
-      spans-inside W false S (element name e) at to (i, moved e (next + 1) n (at + 2) (to - 1) (omega arith) (omega arith) (spans W _ (next + 1) e n k))
+  index-orderly S name {at = at} {to = to} i j (no-index f e) = scalar-orderly (meaning S (spelled W name)) name at to (omega arith) (omega arith)
+  index-orderly S name {at = at} {next = next} {to = to} i j (in-braces {e = e} {n = n} b k c z) =
+      orderly W false S (element name e) at to (i, moved e (next + 1) n (at + 2) (to - 1) (omega arith) (omega arith) (spans W _ (next + 1) e n k))
+
+  pub target-orderly : (S : Scopes) {t : Target} {at to : ℕ} → TargetAt (sortIn W) (Parses (sortIn W)) t at to → Orderly at to (judgeTarget W S t)
+  target-orderly S {t} h = index-orderly S (t .name) (h .named) refl (h .index)
 
   pub target-inside : (S : Scopes) {t : Target} {at to : ℕ} → TargetAt (sortIn W) (Parses (sortIn W)) t at to → Inside at to (judgeTarget W S t .faults)
-  target-inside S {t} h = index-inside S (t .name) (h .named) refl (h .index)
+  target-inside S h = target-orderly S h .ordered .inside
+
+  -- the fault of a target, also where it must be of a type
+  pub target-first : (S : Scopes) {t : Target} {at to : ℕ} (f : Fault) (others : List Fault) → TargetAt (sortIn W) (Parses (sortIn W)) t at to → judgeTarget W S t .faults ≡ f ∷ others
+      → First f (judgeTarget W S t .faults)
+  target-first S f others h e = headed-first f others (target-orderly S h .ordered .headed) e
+
+  pub target-ordered : (S : Scopes) (x : DataType) {t : Target} {at to : ℕ} → TargetAt (sortIn W) (Parses (sortIn W)) t at to → Ordered at to (wanted x (t .name) (judgeTarget W S t))
+  target-ordered S x {t} h =
+      wanted-ordered x (t .name) (judgeTarget W S t) (target-orderly S h) (omega (arith, h .named)) (omega (arith, h .named, target-grows (sortIn W) (Parses (sortIn W)) (grows W) h))
 
   module _ (i a b : ℕ) (low : a ≤ i) (high : i < b) where
     signature-inside : (f : Bool) (sig : Signature) (es : List Expr) → Inside a b (signatureFaults W f sig i es)
@@ -152,8 +162,7 @@ module _ (W : List Word) where
   simple-inside K S (retrying {i = j} {at = at} {to = to} i a z) = inside-if _ 17 j at to (omega arith) (omega arith)
   simple-inside K S (trying-next {i = j} {at = at} {to = to} i a z) = inside-if _ 17 j at to (omega arith) (omega arith)
   simple-inside K S (writing i a j s k) = widen (number-inside S k) (omega arith) (omega arith)
-  simple-inside K S (reading {t = t} i a h c j s z) =
-      wanted-inside aNum (t .name) (judgeTarget W S t) (widen (target-inside S h) (omega arith) (omega arith)) (omega (arith, h .named)) (omega (arith, h .named, target-on h))
+  simple-inside K S (reading i a h c j s z) = widen (target-ordered S aNum h .inside) (omega arith) (omega arith)
 
   -- ---- statements
   module _ (K : Setting) (M : Memory) where
