@@ -26,7 +26,7 @@ use Rattle.links.proofs.Leading.{Goes, op-same, value-same, place-same,
 
 module _ (g : Ground) (n : ℕ) (C D : List ℕ) (words : ℕ) (led : (i : ℕ) → i < words → Led C D D words i) where
   -- an expression of a statement that ends at `to`
-  pub term-reads : (S : Scopes) (e : Expr) (a b to after : ℕ) → b ≤ to → Goes C D words led to after → RawTerm g n C S e a b → termIn (g .m) n D a b ≡ some (termOf (g .W) S e)
+  pub term-reads : (S : Scopes) (e : Expr) (a b to after : ℕ) → b ≤ to → Goes C D words to after → RawTerm g n C S e a b → termIn (g .m) n D a b ≡ some (termOf (g .W) S e)
   term-reads S e a b to after h x t =
       term-moves g n n (omega arith) C D a b to after (moves C D words led a b to after h x) S e a b (omega arith) (omega arith) t .is
 
@@ -60,7 +60,7 @@ module _ (g : Ground) (n : ℕ) (C D : List ℕ) (words : ℕ) (led : (i : ℕ) 
       goes (termIn (g .m) n D (i + 1) t) (λ e. fromThen fuel e (valueAt D t) (linkAt D t)) e h
       ∙ ap (λ (w : ℕ). fromThen fuel e w (linkAt D t)) q
 
-  module _ (first last after otherwise : ℕ) (x : Goes C D words led last after) (y : Goes C D words led first otherwise) (f : last ≤ first) (not-arm : opAt C first ≡ anElseIf → ⊥) where
+  module _ (first last after otherwise : ℕ) (x : Goes C D words last after) (y : Goes C D words first otherwise) (f : last ≤ first) (not-arm : opAt C first ≡ anElseIf → ⊥) where
     -- a condition, its THEN, and what comes then
     arm-reads : (e : Expr) (b : Statements) (r : Arms) (S : Scopes) (used : ℕ) (before : Option ℕ) (c fuel : ℕ) (z : RawArms g n C (arm e b r) S used first before c last)
         → ((v : ℕ) (t : Term) → fromThen fuel t v (linkAt D (valueAt C c)) ≡ some ((t, v) ∷ conditions (g .W) S r after, otherwise))
@@ -101,7 +101,6 @@ module _ (g : Ground) (n : ℕ) (C D : List ℕ) (words : ℕ) (led : (i : ℕ) 
         (ap (conditionsIn (g .m) n (g .function) (g .text) (g .R) D (suc fuel) c) vc
         ∙ arm-reads e2 b r S used (some t) c fuel z (λ v e. ap (λ (l : ℕ). fromThen fuel e v (linkAt D l)) (z .value)
         ∙ arms-read r S (used + forsInList b) (z .t) (z .y) fuel v e (z .rest) (omega arith) (z .then-op) (omega arith)))
-
 
     pub conditions-read : (a : Arms) (S : Scopes) (used c : ℕ) → RawArms g n C a S used first none c last → words ≤ parts
         → conditionsIn (g .m) n (g .function) (g .text) (g .R) D parts c (valueAt C c) ≡ some (conditions (g .W) S a after, otherwise)
@@ -151,7 +150,7 @@ module _ (g : Ground) (n : ℕ) (C D : List ℕ) (words : ℕ) (led : (i : ℕ) 
         ∙ goes (casesIn (g .m) n (g .function) (g .text) (g .R) D fuel next) (λ r. some ((constantAt D i ∷ ks, placeAt D i) ∷ r .0, r .1)) (r, other) f
         ∙ ap₂ (λ (c : ℤ) (q : ℕ). some ((c ∷ ks, q) ∷ r, other)) c p)
 
-  module _ (S : Scopes) (first next step : ℕ) (x : Goes C D words led first step) (nw : next < words) (no : opAt C next ≡ aNextValue → ⊥) where
+  module _ (S : Scopes) (first next step : ℕ) (x : Goes C D words first step) (nw : next < words) (no : opAt C next ≡ aNextValue → ⊥) where
     values-read : (es : List Expr) (op w fuel : ℕ) → RawValues g n C S es first next w → w < first → opAt C w ≡ op → goesByLink op ≡ false → first - w ≤ fuel
         → valuesIn (g .m) n (g .function) (g .text) (g .R) D fuel step (linkAt D w) ≡ some (map (constantValue (g .W) S (g .M)) es, next)
     unfolding RawValues goesByLink goesByValue goesByPlace
@@ -167,7 +166,7 @@ module _ (g : Ground) (n : ℕ) (C D : List ℕ) (words : ℕ) (led : (i : ℕ) 
         (constant-same aNextValue (z .v) vw (z .op) refl ∙ z .constant)
         (values-read es aNextValue (z .v) fuel (z .rest) (z .before) (z .op) refl (omega (arith, z .on, z .before)))
 
-  module _ (last after other : ℕ) (x : Goes C D words led last after) (o : opAt C last ≡ anOtherwise) (p : placeAt D last ≡ other) (h : words ≤ parts) where
+  module _ (last after other : ℕ) (x : Goes C D words last after) (o : opAt C last ≡ anOtherwise) (p : placeAt D last ≡ other) (h : words ≤ parts) where
     cases-op : (c : Cases) (S : Scopes) (used at : ℕ) → RawCases g n C c S used at last → opAt C at ≡ aNextValue → ⊥
     unfolding RawCases
     cases-op noCase S used at z q = let y = ap (opAt C) z in omega arith

@@ -3,6 +3,7 @@ pub mod Turning
 pub mod Moving
 pub mod Reading
 pub mod Orders
+pub mod Framing
 pub mod Leading
 pub mod Choosing
 pub mod Standing

@@ -256,12 +256,12 @@ module _ (g : Ground) (n p : ℕ) (np : n ≤ p) (C D : List ℕ) (low high out 
 
     pub arguments-move : (es : List Expr) (a b b2 z : ℕ) → low ≤ a → z < high → b ≡ b2 → RawArguments g n C S es a b z → RawArguments g p D S es a b2 z
     arguments-move es a b b2 z l h q x =
-      let az : a ≤ z = any-on (g .m) n (g .function) (g .text) (g .R) C a b _ z (x .is) in
-      record {
-      is = ap (λ (k : ℕ). anyArguments (g .m) p (g .function) (g .text) (g .R) D a k) (sym q)
-          ∙ any-kept (g .m) n p np (g .function) (g .text) (g .R) C D a z (agrees a z l (omega arith) (x .quiet)) a b _ z (omega arith) (omega arith) (mv .ops z (omega arith) h) (x .is);
-      quiet = quiet-moves a z l (omega arith) (x .quiet);
-    }
+        let az : a ≤ z = any-on (g .m) n (g .function) (g .text) (g .R) C a b _ z (x .is) in
+        record {
+          is = ap (λ (k : ℕ). anyArguments (g .m) p (g .function) (g .text) (g .R) D a k) (sym q)
+              ∙ any-kept (g .m) n p np (g .function) (g .text) (g .R) C D a z (agrees a z l (omega arith) (x .quiet)) a b _ z (omega arith) (omega arith) (mv .ops z (omega arith) h) (x .is);
+          quiet = quiet-moves a z l (omega arith) (x .quiet);
+        }
 
     pub callee-moves : (f : Bool) (i : ℕ) (es : List Expr) → low ≤ i → i < high → goesByValue (opAt C i) ≡ false → goesByPlace (opAt C i) ≡ false → RawCallee g n C S f i es → RawCallee g p D S f i es
     callee-moves f i es l h v q x = record {

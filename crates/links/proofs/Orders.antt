@@ -43,19 +43,32 @@ module _ (g : Ground) (n : ℕ) (C : List ℕ) where
 
   mutual
     unfolding RawStatement RawList RawArms RawCases
+
     pub statement-order : (s : Statement) (S : Scopes) (used at to : ℕ) → RawStatement g n C s S used at to → at < to
     statement-order (simple s) S used at to x = x .forward
     statement-order (compactIf i e s) S used at to x = omega (arith, x .does .forward, term-order S e (at + 1) (valueAt C at) (x .term))
     statement-order (fullIf i a o) S used at to x =
         omega (arith, arms-order a S used (x .first) none at (x .last) (x .arms-are), last-order (x .last) (x .first) (x .otherwise-is .z) (x .otherwise-is .begins), list-order o S (used + forsInArms a) (x .first) (x .otherwise-is .z) (x .otherwise-is .list), x .otherwise-is .end)
     statement-order (for i v a b c body end) S used at to x =
-        omega (arith, bound-order S a (at + 2) (x .t) (x .lower), bound-order S b (x .t) (x .s) (x .upper), step-order S c (x .s) (x .d) (x .steps),
-        list-order body (enter (spelled (g .W) v) (ofRoutine used) S) (suc used) (x .d + 1) end (x .list), x .ends)
+        omega (
+          arith,
+          bound-order S a (at + 2) (x .t) (x .lower),
+          bound-order S b (x .t) (x .s) (x .upper),
+          step-order S c (x .s) (x .d) (x .steps),
+          list-order body (enter (spelled (g .W) v) (ofRoutine used) S) (suc used) (x .d + 1) end (x .list),
+          x .ends,
+        )
     statement-order (while i e body) S used at to x =
         omega (arith, term-order S e (at + 1) (valueAt C at) (x .term), list-order body S used (valueAt C at + 1) (x .z) (x .list), x .end)
     statement-order (test i e c d) S used at to x =
-        omega (arith, term-order S e (at + 1) (valueAt C at) (x .term), cases-order c S used (valueAt C at) (x .last) (x .cases-are), x .default-is .before,
-        list-order d S (used + forsInCases c) (x .default-is .first) (x .default-is .z) (x .default-is .list), ends-order (x .default-is .z) to (x .default-is .ends))
+        omega (
+          arith,
+          term-order S e (at + 1) (valueAt C at) (x .term),
+          cases-order c S used (valueAt C at) (x .last) (x .cases-are),
+          x .default-is .before,
+          list-order d S (used + forsInCases c) (x .default-is .first) (x .default-is .z) (x .default-is .list),
+          ends-order (x .default-is .z) to (x .default-is .ends),
+        )
 
     pub list-order : (l : Statements) (S : Scopes) (used at to : ℕ) → RawList g n C l S used at to → at ≤ to
     list-order empty S used at to x = omega arith

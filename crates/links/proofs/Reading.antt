@@ -7,18 +7,19 @@ use Prim.Native.Nat.{ℕ, _+_, _<_, _≤_}
 use native.Mathlib.Omega.{arith}
 use lib.Dec.{eqb, ltb}
 use borrow.Author.Tests.{eq-eqb, ne-eqb, lt-ltb, le-ltb}
+use Rattle.laws.proofs.Tests.{test}
 use Rattle.paper.specs.Basics.{if_then_else_}
 use Rattle.paper.specs.Terms.{Term}
 use Rattle.paper.specs.Trees.{Expr, Target, Simple, firstSimple, assign, assignCall, call, returns, raises, exits, retries, triesNext, writes, reads}
 use Rattle.paper.specs.Names.{Scopes, routineIn, spelled, meaning}
 use Rattle.paper.specs.Types.{termOf}
-use Rattle.paper.specs.Steps.{Spot, Action, store, callFor, callOf, giveBack, raise, handOn, exit, retry, tryNext, write, read, routineOf, characters, spotOf, optionalTerm, actionOf}
+use Rattle.paper.specs.Steps.{Spot, Action, store, callFor, callOf, giveBack, raise, handOn, exit, retry, tryNext, write, read, endList, routineOf, characters, spotOf, optionalTerm, actionOf}
 use Rattle.code.specs.Cells.{opAt, valueAt, placeAt, linkAt}
 use Rattle.code.specs.Spans.{guard, _then_, termIn}
 use Rattle.code.specs.Steps.{aTarget, aCallTarget, aProcedureCall, Head, Stands, targetIn, anyArguments, calleeIn, charactersIn, linked, storeIn, callForIn, callOfIn, withTerm, writeIn, writeOfIn, readIn, compactIfIn, ifIn, whileIn, forIn, forTestIn, testIn, actionIn, stepIn, aCompactIf}
 use Rattle.code.specs.Holds.{CalleeIn}
 use Rattle.code.proofs.Options.{goes}
-use Rattle.links.specs.Raw.{Ground, RawWord, RawTerm, RawBound, RawTarget, RawArguments, RawCallee, RawText, RawAssign, RawAssignCall, RawCall, RawValued, RawReturn, RawReturnOf, RawWrite, RawWriteOf, RawRead, RawDoes}
+use Rattle.links.specs.Raw.{Ground, RawWord, RawTerm, RawBound, RawTarget, RawArguments, RawCallee, RawText, RawAssign, RawAssignCall, RawCall, RawValued, RawReturn, RawReturnOf, RawWrite, RawWriteOf, RawRead, RawDoes, endOf}
 
 -- The module has m words, the routine n, and it is a function or is none; `text` is the module's, `R` its routines, `C` the cells.
 module _ (m n : ℕ) (fn : Bool) (text : List ℕ) (R : List Head) (C : List ℕ) where
@@ -107,6 +108,10 @@ module _ (m n : ℕ) (fn : Bool) (text : List ℕ) (R : List Head) (C : List ℕ
     pub acts-test : opAt C i ≡ 152 → actionIn m n fn text R C i ≡ testIn m n fn text R C i
     unfolding actionIn
     acts-test h = rw (h, actionIn)
+
+    pub acts-end : opAt C i ≡ endOf fn → actionIn m n fn text R C i ≡ some (i, endList)
+    unfolding actionIn endOf guard
+    acts-end h = test fn (λ t. rw (h, actionIn) (rw t)) (λ t. rw (h, actionIn) (rw t))
 
     -- ---- what they read
     module _ (out : ℕ) (leaves : linkAt C i ≡ out) where

@@ -28,7 +28,6 @@ use Rattle.links.proofs.Orders.{term-order, bound-order, step-order, en
 use Rattle.links.proofs.Leading.{Goes, op-same, value-same, place-same, link-same, value-goes, place-goes, link-goes, word-goes, pass-goes, step-goes, moves, ends-go, list-goes, last-goes, arms-go, cases-go}
 use Rattle.links.proofs.Choosing.{term-reads, conditions-read, cases-read}
 
-
 step-place : (op : ℕ) → op < anElseIf → goesByPlace op ≡ false
 unfolding goesByPlace
 step-place op h = rw (ne-eqb op 157 (λ e. omega arith), goesByPlace) (rw (ne-eqb op 158 (λ e. omega arith)) (ne-eqb op 165 (λ e. omega arith)))
@@ -38,7 +37,7 @@ module _ (g : Ground) (n : ℕ) (C D : List ℕ) (words : ℕ) (led : (i : ℕ) 
   acts i = actionIn (g .m) n (g .function) (g .text) (g .R) D i
 
   abbrev pub To : ℕ → ℕ → Type 0
-  To z after = Goes C D words led z after
+  To z after = Goes C D words z after
 
   -- a step is read back
   pub record Stands (s : Step) : Type 0 where

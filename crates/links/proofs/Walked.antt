@@ -1,23 +1,26 @@
 -- Every step of a list that was walked and resolved is read back.
 use mathlib.Core.Path.{_≡_, refl, sym, ap, subst, _∙_}
+use mathlib.Core.Bool.{Bool, true, false}
 use mathlib.Core.List.{List, [], _∷_, _++_}
 use mathlib.Core.Option.{Option, none, some}
 use Prim.Native.Nat.{ℕ, suc, _+_, _<_, _≤_}
 use native.Mathlib.Omega.{arith}
 use Rattle.paper.specs.Terms.{ofRoutine}
-use Rattle.paper.specs.Trees.{Statement, Statements, Arms, Cases, simple, compactIf, fullIf, for, while, test, empty, _then_, noArm, arm, noCase, case}
+use Rattle.paper.specs.Trees.{Statement, Statements, Arms, Cases, simple, compactIf, fullIf, for, while, test, empty, _then_, noArm, arm, noCase, case, RoutineList}
 use Rattle.paper.specs.Names.{Scopes, spelled, enter}
 use Rattle.paper.specs.Checks.{forsIn, forsInList, forsInArms, forsInCases}
-use Rattle.paper.specs.Steps.{Step, begin, stepsOf, stepsOfList, stepsOfArms, stepsOfCases}
+use Rattle.paper.specs.Steps.{Step, endList, begin, listSteps, stepsOf, stepsOfList, stepsOfArms, stepsOfCases}
 use Rattle.cells.specs.Words.{wordsOf}
-use Rattle.code.specs.Cells.{opAt, valueAt}
+use Rattle.code.specs.Cells.{headAt, tailAt, opAt, valueAt}
 use Rattle.code.specs.Steps.{aPass, anElseIf, parts, stepIn}
 use Rattle.code.specs.Closed.{Every, done, also}
 use Rattle.code.specs.Holds.{known, CalleeIn}
-use Rattle.links.specs.Resolved.{beyond, Led, Resolved}
-use Rattle.links.specs.Raw.{Ground, RawStatement, RawList, RawArms, RawCases}
-use Rattle.links.proofs.Orders.{term-order, statement-order, list-order}
-use Rattle.links.proofs.Leading.{Goes, pass-goes, step-goes, ends-go, list-goes, last-goes, arms-go, cases-go}
+use Rattle.links.specs.Resolved.{isLed, beyond, Led, Resolved}
+use Rattle.links.specs.Raw.{Ground, RawStatement, RawList, RawArms, RawCases, endOf, RawRoutineList}
+use Rattle.links.proofs.Moving.{still-link, still-value, still-place}
+use Rattle.links.proofs.Reading.{acts-end}
+use Rattle.links.proofs.Orders.{term-order, statement-order, list-order, begins}
+use Rattle.links.proofs.Leading.{Goes, op-same, pass-goes, step-goes, ends-go, list-goes, last-goes, arms-go, cases-go}
 use Rattle.links.proofs.Standing as standing
 
 -- ---- lists of steps
@@ -32,13 +35,14 @@ every-as f (s ∷ l) (also a x) = also (f s a) (every-as f l x)
 -- C as the walk left it, D resolved.
 module _ (g : Ground) (n : ℕ) (C D : List ℕ) (words : ℕ) (led : (i : ℕ) → i < words → Led C D D words i) (few : words ≤ parts) where
   abbrev To : ℕ → ℕ → Type 0
-  To z after = Goes C D words led z after
+  To z after = Goes C D words z after
 
   abbrev Stands : Step → Type 0
   Stands = standing.Stands g n C D words led few
 
   mutual
     unfolding RawStatement RawList RawArms RawCases stepsOf stepsOfList stepsOfArms stepsOfCases CalleeIn
+
     pub statement-stands : (s : Statement) (S : Scopes) (used : ℕ) (around : List ℕ) (after at to : ℕ) → RawStatement g n C s S used at to → To to after
         → Every Stands (stepsOf (g .W) (g .M) s S used around after)
     statement-stands (simple s) S used around after at to x y = standing.simple-stands g n C D words led few s S at to around after x y
@@ -99,3 +103,62 @@ module _ (g : Ground) (n : ℕ) (C D : List ℕ) (words : ℕ) (led : (i : ℕ) 
         every-both _ _
         (list-stands b S used around after (x .first) (x .next) (x .list) (cases-go C D words led g n r S (used + forsInList b) (x .next) last after (x .rest) y))
         (cases-stand r S (used + forsInList b) around after (x .next) last (x .rest) y)
+
+  -- ---- the lists of a routine
+  end-step : (function : Bool) → endOf function < anElseIf
+  unfolding endOf
+  end-step true = omega arith
+  end-step false = omega arith
+
+  pub routine-list-stands : (l : RoutineList) (S : Scopes) (used at : ℕ) → RawRoutineList g n C l S used at → l .closes + 1 < words → Every Stands (listSteps (g .W) (g .M) S used l)
+  unfolding listSteps CalleeIn
+  routine-list-stands l S used at x h =
+      let z = l .closes in
+      let o : opAt C z < anElseIf = subst (λ (k : ℕ). k < anElseIf) (sym (x .op)) (end-step (g .function)) in
+      every-both _ _
+      (list-stands (l .statements) S used [] z at z (x .list) (step-goes C D words led z h o))
+      (standing.begun g n C D words led few z z [] z z endList refl (omega arith) o (x .place)
+      (acts-end (g .m) n (g .function) (g .text) (g .R) D z (op-same C D words led z (omega arith) ∙ x .op)) tt)
+
+-- ---- what others ask for
+-- a routine's list begins with the word that it stands from
+pub starts-at : (g : Ground) (n : ℕ) (C : List ℕ) (l : Statements) (S : Scopes) (used at to : ℕ) → RawList g n C l S used at to → begin l to ≡ at
+unfolding RawList begin
+starts-at g n C empty S used at to x = sym x
+starts-at g n C (s then r) S used at to x = begins g n C s S used at (x .mid) (x .first) .name
+
+-- C are the words as the walk left them, D as they are resolved.
+module _ (g : Ground) (n : ℕ) (before after : List ℕ) (words : ℕ) (few : words ≤ parts) (resolved : Resolved before after words) where
+  abbrev D : List ℕ
+  D = wordsOf after
+
+  abbrev Reads : Step → Type 0
+  Reads s = stepIn (g .m) n (g .function) (g .text) (g .R) D (s .name) ≡ some (known (g .offset) s)
+
+  abbrev Calls : Step → Type 0
+  Calls s = CalleeIn (g .R) (g .offset) D (s .does)
+
+  module _ (l : RoutineList) (S : Scopes) (used at : ℕ) (x : RawRoutineList g n (wordsOf before) l S used at) (h : l .closes + 1 < words) where
+    pub steps-read : Every Reads (listSteps (g .W) (g .M) S used l)
+    steps-read = every-as (λ s z. z .is) _ (routine-list-stands g n (wordsOf before) D words (resolved .led) few l S used at x h)
+
+    pub callees-read : Every Calls (listSteps (g .W) (g .M) S used l)
+    callees-read = every-as (λ s z. z .callee) _ (routine-list-stands g n (wordsOf before) D words (resolved .led) few l S used at x h)
+
+  -- a word that does not lead on is as it was
+  module _ (i : ℕ) (h : i < words) (s : isLed (opAt (wordsOf before) i) ≡ false) where
+    pub head-stays : headAt D i ≡ headAt (wordsOf before) i
+    head-stays =
+        let o = opAt (wordsOf before) i in
+        let l = resolved .led i h in
+        let q = l .op in
+        let v = l .value (still-value o s) in
+        omega arith
+
+    pub tail-stays : tailAt D i ≡ tailAt (wordsOf before) i
+    tail-stays =
+        let o = opAt (wordsOf before) i in
+        let l = resolved .led i h in
+        let q = l .place (still-place o s) in
+        let v = l .link (still-link o s) in
+        omega arith

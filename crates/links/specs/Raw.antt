@@ -8,14 +8,14 @@ use Prim.Native.Nat.{ℕ, suc, _+_, _*_, _<_, _≤_}
 use lib.ListN.{length}
 use Rattle.paper.specs.Words.{Word}
 use Rattle.paper.specs.Terms.{ofRoutine, Memory}
-use Rattle.paper.specs.Trees.{Expr, Target, Simple, firstSimple, assign, assignCall, call, returns, raises, exits, retries, triesNext, writes, reads, Statement, Statements, Arms, Cases, simple, compactIf, fullIf, for, while, test, empty, _then_, noArm, arm, noCase, case}
+use Rattle.paper.specs.Trees.{Expr, Target, Simple, firstSimple, assign, assignCall, call, returns, raises, exits, retries, triesNext, writes, reads, Statement, Statements, Arms, Cases, simple, compactIf, fullIf, for, while, test, empty, _then_, noArm, arm, noCase, case, RoutineList}
 use Rattle.paper.specs.Names.{routineIn, Scopes, spelled, meaning, enter}
 use Rattle.paper.specs.Types.{termOf, constantValue}
 use Rattle.paper.specs.Checks.{forsIn, forsInList, forsInArms, forsInCases}
 use Rattle.paper.specs.Steps.{routineOf, characters, spotOf}
-use Rattle.code.specs.Cells.{opAt, valueAt, placeAt, linkAt}
+use Rattle.code.specs.Cells.{headAt, tailAt, opAt, valueAt, placeAt, linkAt}
 use Rattle.code.specs.Spans.{termIn}
-use Rattle.code.specs.Steps.{aTarget, aCallTarget, aProcedureCall, aReturnOf, aReturn, aRaiseOf, aRaise, anExit, aRetry, aTryNext, aWrite, aWriteOf, aRead, aCompactIf, anIf, aWhile, aFor, aForTest, aTest, anElseIf, aStep, aCase, aNextValue, aThen, aDo, aPass, anOtherwise, aClose, Head, constantAt, targetIn, anyArguments, calleeIn, charactersIn}
+use Rattle.code.specs.Steps.{aTarget, aCallTarget, aProcedureCall, aReturnOf, aReturn, aRaiseOf, aRaise, anExit, aRetry, aTryNext, aWrite, aWriteOf, aRead, aCompactIf, anIf, aWhile, aFor, aForTest, aTest, anEnd, aFunctionEnd, anElseIf, aStep, aCase, aNextValue, aThen, aDo, aPass, anOtherwise, aClose, Head, constantAt, targetIn, anyArguments, calleeIn, charactersIn}
 use Rattle.links.specs.Resolved.{isLed}
 
 -- What does not change while a routine is walked: the words of data that its module has, whether it is a function, the module's text and routines, what its
@@ -30,6 +30,11 @@ pub record Ground : Type 0 where
   pub offset : ℕ → ℕ
 
 -- ---- cells
+-- Two stores have the same words from a up to b.
+pub record SameWords (C D : List ℕ) (a b : ℕ) : Type 0 where
+  pub heads : (i : ℕ) → a ≤ i → i < b → headAt C i ≡ headAt D i
+  pub tails : (i : ℕ) → a ≤ i → i < b → tailAt C i ≡ tailAt D i
+
 module _ (C : List ℕ) where
   -- no word from a up to b leads on
   abbrev pub Quiet : (a b : ℕ) → Type 0
@@ -55,6 +60,11 @@ module _ (C : List ℕ) where
   pub data LastOf (last first z : ℕ) : Type 0 where
     an-else : RawWord aPass last z → first ≡ last + 1 → LastOf last first z
     no-else : last ≡ z → first ≡ z → LastOf last first z
+
+-- the op of the end of a list
+unfoldable pub endOf : (function : Bool) → ℕ
+endOf true = aFunctionEnd
+endOf false = anEnd
 
 -- The routine has n words of data in the end.
 module _ (g : Ground) (n : ℕ) (C : List ℕ) where
@@ -353,3 +363,9 @@ module _ (g : Ground) (n : ℕ) (C : List ℕ) where
     pub RawCases : Cases → Scopes → (used : ℕ) → Listed
     RawCases noCase S used c last = c ≡ last
     RawCases (case es b r) S used c last = RawCase S es (λ x y. RawList b S used x y) (λ x last. RawCases r S (used + forsInList b) x last) c last
+
+  -- A list of a routine, with the word that closes it, which is a step of its own.
+  pub record RawRoutineList (l : RoutineList) (S : Scopes) (used at : ℕ) : Type 0 where
+    pub list : RawList (l .statements) S used at (l .closes)
+    pub op : opAt C (l .closes) ≡ endOf (g .function)
+    pub place : placeAt C (l .closes) ≡ g .offset (l .closes)
