@@ -10,7 +10,7 @@ use lib.IntN.{ℤ, pos, _-ℤ_, +ℤ-negℤ-cancel, pos-+ℤ-pos}
 use borrow.Author.Tests.{eqb-true, eqb-false, ne-eqb, eq-eqb, lt-ltb}
 use Rattle.laws.proofs.Tests.{test, by-last, apart, false-true}
 use Rattle.paper.specs.Basics.{if_then_else_}
-use Rattle.paper.specs.Sorts.{NAME, NUMBER, TRUE, FALSE}
+use Rattle.paper.specs.Sorts.{NUMBER, TRUE, FALSE}
 use Rattle.paper.specs.Words.{Word}
 use Rattle.paper.specs.Terms.{Ref, ofModule, ofRoutine, Term, literal, errno, stored, truth}
 use Rattle.paper.specs.Trees.{Expr, first}
@@ -25,7 +25,7 @@ use Rattle.code.proofs.Composing.{leaf-span}
 use Rattle.names.specs.Meanings.{typeWith, refWith, meaningWith, meaningIn}
 use Rattle.expressions.specs.declared.Judged.{Judged}
 use Rattle.expressions.specs.declared.Judged.the-variants.{Typed, Faulty}
-use Rattle.expressions.specs.Known.{headOf, largest, InRoom, Within}
+use Rattle.expressions.specs.Known.{Fresh, InRoom, Within}
 use Rattle.expressions.specs.Answers.{typeIf, Refused, Sound, Says, Judges}
 use Rattle.expressions.specs.Parts.{Headed, Meant, faultOf, BreaksAlone, BreaksIndexed, Alone, Literal}
 use Rattle.expressions.proofs.Keeping.{kept-same}
@@ -285,21 +285,11 @@ pub number-small : (w h : ℕ) → w ≡ h → (h % 256 ≡ 2 → h / 256 ≤ 83
 number-small w h e f q = rw e (f (rw e at q))
 
 module _ (before after : List ℕ) (at w : ℕ) (e : w ≡ headAt (wordsOf before) at) where
-  head-op : (W : List Word) → headAt (wordsOf before) at ≡ headOf W at → isLiteral (sortIn W at) ≡ true → w % 256 ≡ sortIn W at
-  unfolding headOf isLiteral
-  head-op W h l =
-      test (eqb (sortIn W at) NUMBER)
-      (λ t. let q : w ≡ 2 + 256 * nth W at .value = e ∙ h ∙ rw (t, headOf) in rw (eqb-true (sortIn W at) NUMBER t) (omega arith))
-      (λ t. test (eqb (sortIn W at) NAME)
-      (λ u. false-true (rw (eqb-true (sortIn W at) NAME u, isLiteral) at l))
-      (λ u. let q : w ≡ sortIn W at = e ∙ h ∙ rw (t, u, headOf) in
-      test (eqb (sortIn W at) TRUE)
-      (λ v. let k = eqb-true (sortIn W at) TRUE v in omega arith)
-      (λ v. test (eqb (sortIn W at) FALSE) (λ x. let k = eqb-true (sortIn W at) FALSE x in omega arith) (λ x. false-true (rw (t, v, x, isLiteral) at l)))))
+  head-op : (W : List Word) → Fresh W (wordsOf before) at → w % 256 ≡ sortIn W at
+  head-op W f = ap opIn e ∙ f .sort
 
-  head-value : (W : List Word) → headAt (wordsOf before) at ≡ headOf W at → sortIn W at ≡ NUMBER → w / 256 ≡ nth W at .value
-  unfolding headOf
-  head-value W h s = let q : w ≡ 2 + 256 * nth W at .value = e ∙ h ∙ rw (s, headOf) in omega arith
+  head-value : (W : List Word) → Fresh W (wordsOf before) at → sortIn W at ≡ NUMBER → w / 256 ≡ nth W at .value
+  head-value W f s = ap valueIn e ∙ f .value s
 
   module _ (value : ℕ) (h : Headed before after at 1 (value + 8388607)) where
     literal-as : (m n : ℕ) (j : types.Judged) (t : DataType) (b : Bool) → j ≡ judged t [] (literal (pos value)) → t ≡ typeIf b → Judges m n before after at (at + 1) j (Typed b (at + 1))
@@ -309,21 +299,21 @@ module _ (before after : List ℕ) (at w : ℕ) (e : w ≡ headAt (wordsOf befor
   unfolding judgeLeaf typeIf
   literal-number k h = record {
     is = λ m n W only S q l.
-        let s : sortIn W at ≡ NUMBER = sym (head-op W q l) ∙ k in
+        let s : sortIn W at ≡ NUMBER = sym (head-op W q) ∙ k in
         literal-as (w / 256) h m n (judgeLeaf W only S at) aNum false (rw (s, judgeLeaf) (ap (λ (v : ℕ). judged aNum [] (literal (pos v))) (sym (head-value W q s)))) refl;
   }
 
   pub literal-true : w % 256 ≡ 81 → Headed before after at 1 (1 + 8388607) → Literal before after at (Typed true (at + 1))
   unfolding judgeLeaf typeIf truth
   literal-true k h = record {
-    is = λ m n W only S q l. let s : sortIn W at ≡ TRUE = sym (head-op W q l) ∙ k in literal-as 1 h m n (judgeLeaf W only S at) aBool true (rw (s, judgeLeaf)) refl;
+    is = λ m n W only S q l. let s : sortIn W at ≡ TRUE = sym (head-op W q) ∙ k in literal-as 1 h m n (judgeLeaf W only S at) aBool true (rw (s, judgeLeaf)) refl;
   }
 
   pub literal-false : (w % 256 ≡ 2 → ⊥) → (w % 256 ≡ 81 → ⊥) → Headed before after at 1 8388607 → Literal before after at (Typed true (at + 1))
   unfolding judgeLeaf typeIf truth isLiteral
   literal-false a b h = record {
     is = λ m n W only S q l.
-        let o = head-op W q l in
+        let o = head-op W q in
         let na = ne-eqb (sortIn W at) NUMBER (λ z. a (o ∙ z)) in
         let nb = ne-eqb (sortIn W at) TRUE (λ z. b (o ∙ z)) in
         test (eqb (sortIn W at) FALSE)

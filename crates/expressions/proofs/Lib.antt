@@ -4,3 +4,6 @@ pub mod Order
 pub mod Operators
 pub mod Leaves
 pub mod Around
+pub mod Starts
+pub mod Climbing
+pub mod Unique

@@ -181,6 +181,13 @@ module _ (W : List Word) (c : Bool) (S : Scopes) where
       (wanted-rising t (first r) i b (judge W c S r) (omega (arith, spans-first r (i + 1) b (s .1))) (omega (arith, spans-first r (i + 1) b (s .1))) (refuses r)
       (rising-wider (i + 1) b i b (judge W c S r .faults) (omega arith) (omega arith) (rising r (i + 1) b (s .1))))))
 
+  -- the same where a type is wanted
+  pub rising-wanted : (t : DataType) (e : Expr) (a b : ℕ) → Spans e a b → Rising a b (wanted t (first e) (judge W c S e))
+  rising-wanted t e a b s =
+      let f = spans-first e a b s in
+      let g = spans-grow e a b s in
+      wanted-rising t (first e) a b (judge W c S e) (omega arith) (omega arith) (refuses e) (rising e a b s)
+
   -- The fault of an answer is the least of those of its expression.
   pub least-is : (d j at to : ℕ) (e : Expr) (number word : ℕ) → level (sortIn W) (exprIn (sortIn W) d) j at ≡ got (e, to) → Refused (judge W c S e) number word
       → least (judge W c S e .faults) ≡ some (record { number = number; at = word })

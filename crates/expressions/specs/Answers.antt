@@ -5,10 +5,10 @@ use mathlib.Core.List.{List, [], _∷_}
 use mathlib.Core.Option.{some}
 use Prim.Native.Nat.{ℕ, _+_, _*_, _<_, _≤_}
 use lib.ListN.{length, take, drop}
-use Rattle.paper.specs.Trees.{Expr}
+use Rattle.paper.specs.Trees.{Expr, first}
 use Rattle.paper.specs.Expressions.{got, disjunctions, level, levelOf, exprIn}
 use Rattle.paper.specs.Names.{DataType, aNum, aBool, sortIn}
-use Rattle.paper.specs.Types.{Fault, judge}
+use Rattle.paper.specs.Types.{Fault, wanted, judge}
 use Rattle.paper.specs.Types as types
 use Rattle.cells.specs.Words.{wordsOf}
 use Rattle.code.specs.Cells.{placeAt}
@@ -66,3 +66,12 @@ pub record Stands (code values : List ℕ) (top at : ℕ) : Type 0 where
 -- the answer is what the paper judges of it
 pub record Checked (code values after : List ℕ) (only : Bool) (top at : ℕ) (r : Judged) : Type 0 where
   pub is : (s : Stands code values top at) → Judges (s .known .m) (s .known .n) code after at (s .to) (judge (s .known .W) only (s .known .S) (s .e)) r
+
+-- ---- an expression of a type
+-- what is judged of an expression whose first word is `at` where a type is wanted: "13: wrong type"
+abbrev pub ofType : DataType → (at : ℕ) → types.Judged → types.Judged
+ofType t i j = record { type = t; faults = wanted t i j; term = j .term }
+
+pub record OfType (code values after : List ℕ) (only wants : Bool) (at : ℕ) (r : Judged) : Type 0 where
+  pub is : (s : Stands code values disjunctions at)
+      → Judges (s .known .m) (s .known .n) code after at (s .to) (ofType (typeIf wants) (first (s .e)) (judge (s .known .W) only (s .known .S) (s .e))) r

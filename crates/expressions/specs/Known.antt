@@ -2,30 +2,27 @@
 use mathlib.Core.Path.{_≡_}
 use mathlib.Core.List.{List}
 use Prim.Native.Nat.{ℕ, _+_, _*_, _<_, _≤_}
-use lib.Dec.{eqb}
 use lib.ListN.{length}
-use Rattle.paper.specs.Basics.{if_then_else_}
-use Rattle.paper.specs.Sorts.{NAME, NUMBER}
+use Rattle.paper.specs.Sorts.{NUMBER}
 use Rattle.paper.specs.Words.{Word, wordLimit}
 use Rattle.paper.specs.Terms.{Ref, ofModule, ofRoutine}
 use Rattle.paper.specs.Names.{Meaning, unknown, variable, array, constant, loop, theRoutine, theErrno, errorNumber, Scopes, nth, sortIn, spelled, meaning}
 use Rattle.cells.specs.Words.{wordsOf}
-use Rattle.code.specs.Cells.{firstWindow, headAt}
+use Rattle.code.specs.Cells.{firstWindow, opAt, valueAt}
 use Rattle.names.specs.Numbers.{numberOf, IsName}
 use Rattle.names.specs.Meanings.{Means}
-use Rattle.names.specs.Promises.{storeBytes, numberLimit}
+use Rattle.names.specs.Promises.{storeBytes, numberAt}
 
 -- ---- words
--- A word's head as loading writes it: its sort, and above it what a number is, or a name's number and length.
-unfoldable pub headOf : List Word → ℕ → ℕ
-headOf W i =
-    if eqb (sortIn W i) NUMBER then NUMBER + 256 * nth W i .value
-    else if eqb (sortIn W i) NAME then NAME + 256 * (numberOf W i + numberLimit * length (nth W i .covers))
-    else sortIn W i
+-- Word i is as it was loaded: its sort is its op, and its value what a number is, or a name's number with something above it. `C` is the code store's cells.
+pub record Fresh (W : List Word) (C : List ℕ) (i : ℕ) : Type 0 where
+  pub sort : opAt C i ≡ sortIn W i
+  pub value : sortIn W i ≡ NUMBER → valueAt C i ≡ nth W i .value
+  pub number : IsName W i → numberAt C i ≡ numberOf W i
 
 -- The words from `at` up to `to`, and the word `to`, are as they were loaded.
 pub record Loaded (W : List Word) (code : List ℕ) (at to : ℕ) : Type 0 where
-  pub heads : (i : ℕ) → at ≤ i → i ≤ to → headAt (wordsOf code) i ≡ headOf W i
+  pub words : (i : ℕ) → at ≤ i → i ≤ to → Fresh W (wordsOf code) i
   pub last : to < wordLimit
   pub room : to * 8 + 8 ≤ length code
 

@@ -15,13 +15,13 @@ use Rattle.paper.specs.Names.{DataType, aNum, aBool, Scopes, sortIn}
 use Rattle.paper.specs.Types.{Fault, fault, judgeName, judgeElement, judgeSigned, judgeJoined, judgeLeaf, judge}
 use Rattle.paper.specs.Types as types
 use Rattle.cells.specs.Words.{wordsOf}
-use Rattle.code.specs.Cells.{firstWindow, opIn, valueIn, headAt, opAt, valueAt, linkAt}
+use Rattle.code.specs.Cells.{firstWindow, opIn, valueIn, opAt, valueAt, linkAt}
 use Rattle.code.specs.Spans.{aSpan, aCallWord, aParenthesis, rightIn, operatorIn, operatorOf, prefixIn}
 use Rattle.climb.specs.Rise.{height, lowest, begin}
 use Rattle.names.specs.Meanings.{anArray, meaningWith, meaningIn}
 use Rattle.expressions.specs.declared.Judged.{Judged}
 use Rattle.expressions.specs.declared.Judged.the-variants.{Typed, Faulty}
-use Rattle.expressions.specs.Known.{headOf, Loaded, largest, Within, Known}
+use Rattle.expressions.specs.Known.{Fresh, Loaded, largest, Within, Known}
 use Rattle.expressions.specs.Answers.{Kept, typeIf, Sound, Refused, Says, Judges}
 
 -- ---- operators
@@ -109,7 +109,7 @@ abbrev pub SmallNumber : (head : ℕ) → Type 0
 SmallNumber w = opIn w ≡ NUMBER → valueIn w ≤ largest
 
 pub record Literal (before after : List ℕ) (at : ℕ) (r : Judged) : Type 0 where
-  pub is : (m n : ℕ) (W : List Word) (only : Bool) (S : Scopes) → headAt (wordsOf before) at ≡ headOf W at → isLiteral (sortIn W at) ≡ true
+  pub is : (m n : ℕ) (W : List Word) (only : Bool) (S : Scopes) → Fresh W (wordsOf before) at → isLiteral (sortIn W at) ≡ true
       → Judges m n before after at (at + 1) (judgeLeaf W only S at) r
 
 -- ---- around what has been answered

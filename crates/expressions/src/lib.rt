@@ -2,11 +2,11 @@
 ghost use mathlib.Core.Path.{_≡_};
 ghost use Prim.Native.Nat.{_+_, _-_, _*_, _<_, _≤_};
 ghost use lib.ListN.{length};
-ghost use Rattle.paper.specs.Expressions.{levelOf};
+ghost use Rattle.paper.specs.Expressions.{disjunctions, levelOf};
 ghost use Rattle.cells.specs.Words.{wordsOf};
 ghost use Rattle.code.specs.Cells.{headAt, opAt};
 ghost use Rattle.climb.specs.Rise.{height};
-ghost use Rattle.expressions.specs.Answers.{Stands, Checked};
+ghost use Rattle.expressions.specs.Answers.{Stands, Checked, OfType};
 ghost use Rattle.expressions.specs.Parts.{Asks, Numbered, Prefixes, Differ, Headed, Linked, Tied, Meant, BreaksAlone, BreaksIndexed, Alone, SmallNumber, Literal, Short, Nested, Signed, Indexed, Right, Joined, Begins, Began};
 
 pub enum Judged {
@@ -158,6 +158,14 @@ fn head(code: &[u8], i: usize) -> u32
     ensures { λ r. ⌜ r ≡ headAt (wordsOf (now (code .entry))) i ⌝ }
 {
     cells::get(code, i * 2)
+}
+
+// The op of a word, which is its sort as long as the check has not come to it.
+fn sort(code: &[u8], i: usize) -> u32
+    requires { ⌜ i * 8 + 8 ≤ length (now code) ⌝ }
+    ensures { λ r. ⌜ r ≡ opAt (wordsOf (now (code .entry))) i ⌝ }
+{
+    head(code, i) % 256
 }
 
 fn set_head(code: &mut [u8], i: usize, op: u32, value: u32)
@@ -327,4 +335,78 @@ fn join(code: &mut [u8], s: u32, l: u32, wants: bool, right: Judged, i: usize) -
     }
     tie(code, s, i, end);
     Judged::Typed(RELATIONS <= l, end)
+}
+
+// ---- expressions
+
+// The first part of an expression: an operand, or NOT or a sign with what it covers.
+fn begin(code: &mut [u8], values: &[u8], only: bool, at: usize) -> Judged
+    requires { ⌜ Begins (now code) (now values) at ⌝ }
+    ensures { λ r. ⌜ Began (now (code .entry)) (now (values .entry)) (now (code .exit)) only at r ⌝ }
+{
+    let s = sort(code, at);
+    if s == sorts::NAME {
+        let m = names::meaning(code, values, at);
+        if sort(code, at + 1) != sorts::OPEN_BRACE {
+            return plain(code, m, only, at);
+        }
+        let broken = breaks_indexed(m % 256 / 4, only);
+        if broken != 0 {
+            return Judged::Faulty(broken, at);
+        }
+        let index = expression(code, values, only, DISJUNCTIONS, at + 2);
+        return indexed(code, m, index, at);
+    }
+    if s == sorts::OPEN_PAREN {
+        let inner = expression(code, values, only, DISJUNCTIONS, at + 1);
+        return nested(code, inner, at);
+    }
+    let l = covered(s);
+    if l != 0 {
+        let part = expression(code, values, only, l, at + 1);
+        return signed(code, s, part, at);
+    }
+    literal(code, at)
+}
+
+// An expression of operators up to a level.
+pub fn expression(code: &mut [u8], values: &[u8], only: bool, level: u32, at: usize) -> Judged
+    requires { ⌜ Stands (now code) (now values) level at ⌝ }
+    ensures { λ r. ⌜ Checked (now (code .entry)) (now (values .entry)) (now (code .exit)) only level at r ⌝ }
+{
+    let mut left = begin(code, values, only, at);
+    loop {
+        let Judged::Typed(bool, i) = left else {
+            return left;
+        };
+        let s = sort(code, i);
+        let l = level_of(s);
+        if l == 0 {
+            return left;
+        }
+        if level < l {
+            return left;
+        }
+        let wants = asked(s, l, bool);
+        if differ(bool, wants) {
+            return Judged::Faulty(13, at);
+        }
+        let right = expression(code, values, only, l - 1, i + 1);
+        left = join(code, s, l, wants, right, i);
+    }
+}
+
+// An expression of a type: bool, or num.
+pub fn of_type(code: &mut [u8], values: &[u8], only: bool, wants: bool, at: usize) -> Judged
+    requires { ⌜ Stands (now code) (now values) disjunctions at ⌝ }
+    ensures { λ r. ⌜ OfType (now (code .entry)) (now (values .entry)) (now (code .exit)) only wants at r ⌝ }
+{
+    let r = expression(code, values, only, DISJUNCTIONS, at);
+    let Judged::Typed(bool, end) = r else {
+        return r;
+    };
+    if differ(bool, wants) {
+        return Judged::Faulty(13, at);
+    }
+    Judged::Typed(bool, end)
 }

@@ -1,0 +1,415 @@
+-- The operators of an expression, one after the other: what has been read so far, and what is left of it.
+use mathlib.Core.Path.{_≡_, refl, sym, ap, subst, _∙_}
+use mathlib.Core.Bool.{Bool, true, false}
+use mathlib.Core.List.{List, [], _∷_, _++_}
+use mathlib.Core.Option.{some}
+use Prim.Native.Nat.{ℕ, suc, _+_, _-_, _*_, _<_, _≤_}
+use native.Mathlib.Omega.{arith}
+use lib.Dec.{eqb}
+use lib.ListN.{length}
+use borrow.Author.Tests.{eqb-true}
+use Rattle.laws.proofs.Tests.{test, by-most}
+use Rattle.paper.specs.Sorts.{NOT, plus, minusSign}
+use Rattle.paper.specs.Words.{Word, wordLimit}
+use Rattle.paper.specs.Terms.{binary}
+use Rattle.paper.specs.Trees.{Expr, joined, first}
+use Rattle.paper.specs.Expressions.{got, relations, levelOf, level, exprIn}
+use Rattle.paper.specs.Names.{Scopes, sortIn}
+use Rattle.paper.specs.Types.{Fault, fault, faultIf, differs, wanted, judgeJoined, judge}
+use Rattle.cells.specs.Words.{wordsOf}
+use Rattle.code.specs.Cells.{opAt}
+use Rattle.code.specs.Spans.{termIn}
+use Rattle.climb.specs.Rise.{rise, next, lowest}
+use Rattle.climb.specs.Places.{Spans}
+use Rattle.climb.proofs.Climb.{rise-stop, Joins, rise-join, Begun, begun}
+use Rattle.climb.proofs.Operands.{got-same}
+use Rattle.climb.proofs.Places.{spans-grow, spans-first, stands, begins, rises, rise-keeps}
+use Rattle.expressions.specs.declared.Judged.{Judged}
+use Rattle.expressions.specs.declared.Judged.the-variants.{Typed, Faulty}
+use Rattle.expressions.specs.Answers.{typeIf, Sound, Refused, Says, Judges, Stands, Checked, ofType, OfType}
+use Rattle.expressions.specs.Parts.{askedOf, resultOf, Asks, Differ, Right, Joined, Begins, Began}
+use Rattle.expressions.proofs.Keeping.{term-below, kept-wider, kept-on}
+use Rattle.expressions.proofs.Judging.{wanted-first, wanted-wrong, wanted-none, joined-is}
+use Rattle.expressions.proofs.Around.{says-faulty, says-typed, refused-as}
+use Rattle.expressions.proofs.Starts.{loaded-part, loaded-after, judges-on}
+
+-- ---- faults of what is joined
+module _ (W : List Word) (only : Bool) (S : Scopes) (i : ℕ) (a b : Expr) where
+  -- the fault of the left side is the first
+  left-refused : (number word : ℕ) (others : List Fault) → wanted (askedOf (sortIn W i) (judge W only S a .type)) (first a) (judge W only S a) ≡ record { number = number; at = word } ∷ others
+      → Refused (judge W only S (joined i a b)) number word
+  unfolding judge
+  left-refused number word others e =
+      let s = sortIn W i in
+      let ja = judge W only S a in
+      let jb = judge W only S b in
+      let t = askedOf s (ja .type) in
+      refused-as (judgeJoined s a b ja jb) (resultOf s) (wanted t (first a) ja ++ wanted t (first b) jb) (binary s (ja .term) (jb .term)) (joined-is s a b ja jb) number word (others ++ wanted t (first b) jb)
+      (ap (λ (l : List Fault). l ++ wanted t (first b) jb) e)
+
+  pub refused-joined : (number word : ℕ) → Refused (judge W only S a) number word → Refused (judge W only S (joined i a b)) number word
+  refused-joined number word r =
+      let t = askedOf (sortIn W i) (judge W only S a .type) in
+      left-refused number word (r .others ++ faultIf (differs t (judge W only S a .type)) 13 (first a))
+      (wanted-first t (first a) (judge W only S a) (record { number = number; at = word }) (r .others) (r .faults-are))
+
+  -- the left side is of a wrong type
+  pub wrong-joined : (bool wants : Bool) → judge W only S a .faults ≡ [] → judge W only S a .type ≡ typeIf bool → askedOf (sortIn W i) (typeIf bool) ≡ typeIf wants → (bool ≡ wants → ⊥)
+      → Refused (judge W only S (joined i a b)) 13 (first a)
+  unfolding fault
+  wrong-joined bool wants none type asks d =
+      left-refused 13 (first a) []
+      (wanted-wrong (askedOf (sortIn W i) (judge W only S a .type)) (first a) (judge W only S a) wants bool (ap (askedOf (sortIn W i)) type ∙ asks) type (λ q. d (sym q)) none)
+
+-- ---- what follows
+lowest-some : (s : ℕ) → 0 < lowest s
+unfolding lowest
+lowest-some s =
+    test (eqb s NOT) (λ t. rw (t, lowest) (omega arith))
+    (λ t. test (eqb s plus) (λ u. rw (t, lowest) (rw u (omega arith)))
+    (λ u. test (eqb s minusSign) (λ v. rw (t, lowest) (rw u (rw v (omega arith)))) (λ v. rw (t, lowest) (rw u (rw v (omega arith))))))
+
+next-most : (k : ℕ) → k ≤ next k
+unfolding next
+next-most k = test (eqb k relations) (λ t. rw (t, next) (omega (arith, eqb-true k relations t))) (λ t. rw (t, next) (omega arith))
+
+module _ (code values : List ℕ) (top at : ℕ) (s : Stands code values top at) where
+  -- an operator that follows goes on, since the expression ends before those that do not
+  ahead : (f low : ℕ) (e : Expr) (n : ℕ) → low + f ≡ suc top → rise (sortIn (s .known .W)) (exprIn (sortIn (s .known .W)) (s .d)) f low (got (e, n)) ≡ got (s .e, s .to)
+      → 0 < levelOf (sortIn (s .known .W) n) → low ≤ levelOf (sortIn (s .known .W) n)
+  ahead f low e n w r h =
+      by-most low (levelOf (sortIn (s .known .W) n)) (λ g. g)
+      (λ g.
+      let q = got-same (e, n) (s .e, s .to) (sym (rise-stop (sortIn (s .known .W)) (exprIn (sortIn (s .known .W)) (s .d)) f low e n (λ a b. omega arith)) ∙ r) in
+      let t : n ≡ s .to = ap (λ (y : Expr × ℕ). y .1) q in
+      let u = s .ends (subst (λ (k : ℕ). 0 < levelOf (sortIn (s .known .W) k)) t h) in
+      absurd (omega (arith, ap (λ (k : ℕ). levelOf (sortIn (s .known .W) k)) t, u)))
+
+  -- ---- the first part
+  first-part : Begun (sortIn (s .known .W)) (exprIn (sortIn (s .known .W)) (s .d)) top at (s .e, s .to)
+  first-part = begun (sortIn (s .known .W)) (exprIn (sortIn (s .known .W)) (s .d)) top at (s .e, s .to) (s .tops) (s .is)
+
+  first-spans : Spans (first-part .e) at (first-part .n)
+  first-spans = begins (sortIn (s .known .W)) (s .d) at (first-part .e, first-part .n) (first-part .first)
+
+  pub stands-begins : Begins code values at
+  stands-begins = record {
+    known = s .known;
+    d = s .d;
+    e = first-part .e;
+    to = first-part .n;
+    is = first-part .first;
+    ends = ahead (first-part .f) (lowest (sortIn (s .known .W) at)) (first-part .e) (first-part .n) (first-part .width) (first-part .rest);
+    loaded = loaded-part (s .known .W) code at (s .to) at (first-part .n) (s .loaded) (omega arith)
+        (rises (sortIn (s .known .W)) (s .d) (first-part .f) (lowest (sortIn (s .known .W) at)) (first-part .e) at (first-part .n) (s .e, s .to) first-spans (first-part .rest) .on);
+  }
+
+  -- ---- what has been read up to word i, and answered so
+  pub record Going (now : List ℕ) (only : Bool) (left : Judged) : Type 0 where
+    pub e : Expr
+    pub i : ℕ
+    pub f : ℕ
+    pub low : ℕ
+    pub some : 0 < low
+    pub width : low + f ≡ suc top
+    pub rest : rise (sortIn (s .known .W)) (exprIn (sortIn (s .known .W)) (s .d)) f low (got (e, i)) ≡ got (s .e, s .to)
+    pub spans : Spans e at i
+    pub judges : Judges (s .known .m) (s .known .n) code now at i (judge (s .known .W) only (s .known .S) e) left
+
+  first-going : (now : List ℕ) (only : Bool) (left : Judged) → Began code values now only at left → Going now only left
+  unfolding stands-begins
+  first-going now only left b = record {
+    e = first-part .e;
+    i = first-part .n;
+    f = first-part .f;
+    low = lowest (sortIn (s .known .W) at);
+    some = lowest-some (sortIn (s .known .W) at);
+    width = first-part .width;
+    rest = first-part .rest;
+    spans = first-spans;
+    judges = b .is stands-begins;
+  }
+
+  module _ (now : List ℕ) (only : Bool) (left : Judged) (g : Going now only left) where
+    going-within : g .i ≤ s .to
+    going-within = rises (sortIn (s .known .W)) (s .d) (g .f) (g .low) (g .e) at (g .i) (s .e, s .to) (g .spans) (g .rest) .on
+
+    -- a fault of what has been read is one of the whole
+    going-refused : (e : Expr) (n f low number word : ℕ) → rise (sortIn (s .known .W)) (exprIn (sortIn (s .known .W)) (s .d)) f low (got (e, n)) ≡ got (s .e, s .to)
+        → Refused (judge (s .known .W) only (s .known .S) e) number word → Refused (judge (s .known .W) only (s .known .S) (s .e)) number word
+    going-refused e n f low number word r q =
+        rise-keeps (sortIn (s .known .W)) (λ (x : Expr). Refused (judge (s .known .W) only (s .known .S) x) number word)
+        (λ i a b p. refused-joined (s .known .W) only (s .known .S) i a b number word p)
+        (exprIn (sortIn (s .known .W)) (s .d)) f low e n (s .e, s .to) q r
+
+    going-faulty : (number word : ℕ) → Refused (judge (s .known .W) only (s .known .S) (s .e)) number word → Judges (s .known .m) (s .known .n) code now at (s .to) (judge (s .known .W) only (s .known .S) (s .e)) (Faulty number word)
+    unfolding Says
+    going-faulty number word r = record { says = r; kept = kept-wider (g .judges .kept) at (s .to) (omega arith) going-within }
+
+    faulty-is : (number word : ℕ) → left ≡ Faulty number word → Judges (s .known .m) (s .known .n) code now at (s .to) (judge (s .known .W) only (s .known .S) (s .e)) left
+    faulty-is number word e =
+        subst (λ (r : Judged). Judges (s .known .m) (s .known .n) code now at (s .to) (judge (s .known .W) only (s .known .S) (s .e)) r) (sym e)
+        (going-faulty number word (going-refused (g .e) (g .i) (g .f) (g .low) number word (g .rest) (says-faulty _ _ _ _ _ _ left number word e (g .judges .says))))
+
+    module _ (bool : Bool) (i : ℕ) (e : left ≡ Typed bool i) where
+      left-sound : Sound (s .known .m) (s .known .n) (wordsOf now) at (g .i) (judge (s .known .W) only (s .known .S) (g .e)) bool i
+      left-sound = says-typed _ _ _ _ _ _ left bool i e (g .judges .says)
+
+      end-is : g .i ≡ i
+      end-is = sym (left-sound .next-is)
+
+      -- where word i is
+      going-in : (at < i) × (i ≤ s .to) × (i < wordLimit) × (i * 8 + 8 ≤ length now)
+      going-in =
+          let a = spans-grow (g .e) at (g .i) (g .spans) in
+          (omega (arith, a, end-is), omega (arith, going-within, end-is), omega (arith, going-within, end-is, s .loaded .last), omega (arith, going-within, end-is, s .loaded .room, g .judges .kept .long))
+
+      module _ (w l : ℕ) (ew : w ≡ opAt (wordsOf now) i) (el : l ≡ levelOf w) where
+        operator-is : w ≡ sortIn (s .known .W) (g .i)
+        operator-is =
+            let z = going-in in
+            let k = loaded-after (s .known .W) code now at (g .i) i (s .to) (loaded-part (s .known .W) code at (s .to) i (s .to) (s .loaded) (omega (arith, z .0)) (omega arith)) (g .judges .kept) (omega (arith, end-is)) in
+            ew ∙ k .words i (omega arith) (z .1) .sort ∙ ap (sortIn (s .known .W)) (sym end-is)
+
+        level-is : l ≡ levelOf (sortIn (s .known .W) (g .i))
+        level-is = el ∙ ap levelOf operator-is
+
+        -- no operator follows that goes on
+        stop-is : (0 < l → l ≤ top → ⊥) → Judges (s .known .m) (s .known .n) code now at (s .to) (judge (s .known .W) only (s .known .S) (s .e)) (Typed bool i)
+        stop-is h =
+            subst (λ (y : Expr × ℕ). Judges (s .known .m) (s .known .n) code now at (y .1) (judge (s .known .W) only (s .known .S) (y .0)) (Typed bool i))
+            (got-same (g .e, g .i) (s .e, s .to)
+            (sym (rise-stop (sortIn (s .known .W)) (exprIn (sortIn (s .known .W)) (s .d)) (g .f) (g .low) (g .e) (g .i) (λ a b. h (omega (arith, level-is, g .some)) (omega (arith, level-is, g .width)))) ∙ g .rest))
+            (subst (λ (r : Judged). Judges (s .known .m) (s .known .n) code now at (g .i) (judge (s .known .W) only (s .known .S) (g .e)) r) e (g .judges))
+
+        -- one follows
+        module _ (ne : l ≡ 0 → ⊥) (le : l ≤ top) where
+          joins : Joins (sortIn (s .known .W)) (exprIn (sortIn (s .known .W)) (s .d)) (g .low + g .f) (g .e) (g .i) (s .e, s .to)
+          joins =
+              rise-join (sortIn (s .known .W)) (exprIn (sortIn (s .known .W)) (s .d)) (g .f) (g .low) (g .e) (g .i) (s .e, s .to)
+              (ahead (g .f) (g .low) (g .e) (g .i) (g .width) (g .rest) (omega (arith, level-is, ne))) (omega (arith, level-is, g .width)) (g .rest)
+
+          joins-width : next (levelOf (sortIn (s .known .W) (g .i))) + joins .f ≡ suc top
+          joins-width = joins .width ∙ g .width
+
+          right-spans : Spans (joins .u) (g .i + 1) (joins .m)
+          right-spans = stands (sortIn (s .known .W)) (s .d) (levelOf (sortIn (s .known .W) (g .i)) - 1) (g .i + 1) (joins .u, joins .m) (joins .right)
+
+          joined-spans : Spans (joined (g .i) (g .e) (joins .u)) at (joins .m)
+          unfolding Spans
+          joined-spans = (g .spans, right-spans)
+
+          right-within : joins .m ≤ s .to
+          right-within = rises (sortIn (s .known .W)) (s .d) (joins .f) (next (levelOf (sortIn (s .known .W) (g .i)))) (joined (g .i) (g .e) (joins .u)) at (joins .m) (s .e, s .to) joined-spans (joins .rest) .on
+
+          right-stands : Stands now values (l - 1) (i + 1)
+          right-stands =
+              let z = going-in in
+              let q : level (sortIn (s .known .W)) (exprIn (sortIn (s .known .W)) (s .d)) (l - 1) (i + 1) ≡ got (joins .u, joins .m) =
+              subst (λ (k : ℕ). level (sortIn (s .known .W)) (exprIn (sortIn (s .known .W)) (s .d)) k (i + 1) ≡ got (joins .u, joins .m)) (sym (ap (λ (k : ℕ). k - 1) level-is))
+              (subst (λ (k : ℕ). level (sortIn (s .known .W)) (exprIn (sortIn (s .known .W)) (s .d)) (levelOf (sortIn (s .known .W) (g .i)) - 1) (k + 1) ≡ got (joins .u, joins .m)) end-is (joins .right)) in
+              record {
+                known = s .known;
+                d = s .d;
+                e = joins .u;
+                to = joins .m;
+                tops = omega (arith, s .tops);
+                is = q;
+                ends = λ h.
+                    omega (
+                      arith,
+                      ne,
+                      level-is,
+                      next-most (levelOf (sortIn (s .known .W) (g .i))),
+                      ahead (joins .f) (next (levelOf (sortIn (s .known .W) (g .i)))) (joined (g .i) (g .e) (joins .u)) (joins .m) joins-width (joins .rest) h,
+                    );
+                loaded = loaded-after (s .known .W) code now at (g .i) (i + 1) (joins .m)
+                    (loaded-part (s .known .W) code at (s .to) (i + 1) (joins .m) (s .loaded) (omega (arith, z .0)) right-within) (g .judges .kept) (omega (arith, end-is));
+              }
+
+          module _ (wants : Bool) (asks : Asks w bool wants) where
+            asks-here : askedOf (sortIn (s .known .W) (g .i)) (typeIf bool) ≡ typeIf wants
+            asks-here = ap (λ (o : ℕ). askedOf o (typeIf bool)) (sym operator-is) ∙ asks .is
+
+            -- the left side is of a wrong type
+            wrong-is : (bool ≡ wants → ⊥) → Judges (s .known .m) (s .known .n) code now at (s .to) (judge (s .known .W) only (s .known .S) (s .e)) (Faulty 13 at)
+            wrong-is d =
+                going-faulty 13 at
+                (going-refused (joined (g .i) (g .e) (joins .u)) (joins .m) (joins .f) (next (levelOf (sortIn (s .known .W) (g .i)))) 13 at (joins .rest)
+                (subst (λ (k : ℕ). Refused (judge (s .known .W) only (s .known .S) (joined (g .i) (g .e) (joins .u))) 13 k) (spans-first (g .e) at (g .i) (g .spans))
+                (wrong-joined (s .known .W) only (s .known .S) (g .i) (g .e) (joins .u) bool wants (left-sound .none) (left-sound .type-is) asks-here d)))
+
+            module _ (same : bool ≡ wants) (mid : List ℕ) (right : Judged) (c : Checked now values mid only (l - 1) (i + 1) right) where
+              right-judges : Judges (s .known .m) (s .known .n) now mid (i + 1) (joins .m) (judge (s .known .W) only (s .known .S) (joins .u)) right
+              unfolding right-stands
+              right-judges = c .is right-stands
+
+              right-is : Right mid w l i right
+              right-is = record {
+                level-is = el;
+                some = omega (arith, ne);
+                m = s .known .m;
+                n = s .known .n;
+                to = joins .m;
+                j = judge (s .known .W) only (s .known .S) (joins .u);
+                says = right-judges .says;
+                last = omega (arith, right-within, s .loaded .last);
+                room = omega (arith, right-within, s .loaded .room, g .judges .kept .long, right-judges .kept .long);
+              }
+
+              left-still : Sound (s .known .m) (s .known .n) (wordsOf mid) at i (judge (s .known .W) only (s .known .S) (g .e)) wants i
+              left-still = record {
+                none = left-sound .none;
+                type-is = left-sound .type-is ∙ ap typeIf same;
+                next-is = refl;
+                stands = term-below (right-judges .kept) (s .known .m) (s .known .n) at i (judge (s .known .W) only (s .known .S) (g .e) .term) (omega arith)
+                    (subst (λ (k : ℕ). termIn (s .known .m) (s .known .n) (wordsOf now) at k ≡ some (judge (s .known .W) only (s .known .S) (g .e) .term)) end-is (left-sound .stands));
+              }
+
+              module _ (after : List ℕ) (left′ : Judged) (x : Joined mid after w wants i right left′) where
+                joined-judges : Judges (s .known .m) (s .known .n) code after at (joins .m) (judge (s .known .W) only (s .known .S) (joined (g .i) (g .e) (joins .u))) left′
+                unfolding judge
+                joined-judges =
+                    let z = going-in in
+                    let r = spans-grow (joins .u) (g .i + 1) (joins .m) right-spans in
+                    let start : first (joins .u) ≡ i + 1 = spans-first (joins .u) (g .i + 1) (joins .m) right-spans ∙ ap (λ (k : ℕ). k + 1) end-is in
+                    let asks-same : askedOf w (typeIf wants) ≡ typeIf wants = subst (λ (b : Bool). askedOf w (typeIf b) ≡ typeIf wants) same (asks .is) in
+                    let ja = judge (s .known .W) only (s .known .S) (g .e) in
+                    let jb = judge (s .known .W) only (s .known .S) (joins .u) in
+                    let q = x .is (s .known .m) (s .known .n) at (joins .m) (g .e) (joins .u) ja jb left-still asks-same start (right-judges .says) in
+                    let kept = kept-on (kept-wider (g .judges .kept) at (joins .m) (omega arith) (omega (arith, r))) (kept-wider (right-judges .kept) at (joins .m) (omega (arith, z .0)) (omega arith)) in
+                    judges-on (s .known .m) (s .known .n) code mid after at (joins .m) at (joins .m) (judgeJoined (sortIn (s .known .W) (g .i)) (g .e) (joins .u) ja jb) left′ kept (omega arith) (omega arith)
+                    (subst (λ (o : ℕ). Judges (s .known .m) (s .known .n) mid after at (joins .m) (judgeJoined o (g .e) (joins .u) ja jb) left′) operator-is q)
+
+                going-on : Going after only left′
+                going-on = record {
+                  e = joined (g .i) (g .e) (joins .u);
+                  i = joins .m;
+                  f = joins .f;
+                  low = next (levelOf (sortIn (s .known .W) (g .i)));
+                  some = omega (arith, next-most (levelOf (sortIn (s .known .W) (g .i))), level-is, ne);
+                  width = joins-width;
+                  rest = joins .rest;
+                  spans = joined-spans;
+                  judges = joined-judges;
+                }
+
+                going-grows : (b : Bool) (k : ℕ) → left′ ≡ Typed b k → i < k
+                going-grows b k q =
+                    let r = spans-grow (joins .u) (g .i + 1) (joins .m) right-spans in
+                    omega (arith, r, end-is, says-typed _ _ _ _ _ _ left′ b k q (joined-judges .says) .next-is)
+
+-- ---- the loop
+-- So it goes whatever is known, and whatever stood where the first part was answered so: `begun` are the cells where the loop begins.
+pub record Runs (values begun now : List ℕ) (only : Bool) (top at : ℕ) (part left : Judged) : Type 0 where
+  pub is : (code : List ℕ) → Began code values begun only at part → (s : Stands code values top at) → Going code values top at s now only left
+
+pub runs-first : (values now : List ℕ) (only : Bool) (top at : ℕ) (left : Judged) → Runs values now now only top at left left
+runs-first values now only top at left = record { is = λ code b s. first-going code values top at s now only left b }
+
+-- the words that are left
+unfoldable pub wordsLeft : (words : ℕ) → Judged → ℕ
+wordsLeft n (Typed bool i) = suc (n - i)
+wordsLeft n (Faulty number word) = 0
+
+fewer : (n i : ℕ) (r : Judged) → i < n → ((b : Bool) (k : ℕ) → r ≡ Typed b k → i < k) → wordsLeft n r < suc (n - i)
+unfolding wordsLeft
+fewer n i (Typed b k) h f = omega (arith, f b k refl)
+fewer n i (Faulty number word) h f = omega arith
+
+module _ (values begun now : List ℕ) (only : Bool) (top at : ℕ) (part left : Judged) (run : Runs values begun now only top at part left) where
+  pub run-faulty : (code : List ℕ) → Began code values begun only at part → (number word : ℕ) → left ≡ Faulty number word → Checked code values now only top at left
+  run-faulty code b number word e = record { is = λ s. faulty-is code values top at s now only left (run .is code b s) number word e }
+
+  pub run-long : (code : List ℕ) → Began code values begun only at part → Stands code values top at → length now ≡ length code
+  run-long code b s = run .is code b s .judges .kept .long
+
+  module _ (bool : Bool) (i : ℕ) (e : left ≡ Typed bool i) where
+    pub run-room : (code : List ℕ) → Began code values begun only at part → Stands code values top at → i * 8 + 8 ≤ length now
+    run-room code b s = going-in code values top at s now only left (run .is code b s) bool i e .3
+
+    pub run-in : (code : List ℕ) → Began code values begun only at part → Stands code values top at → (at < i) × (i < 8192)
+    run-in code b s = let z = going-in code values top at s now only left (run .is code b s) bool i e in (z .0, z .2)
+
+    module _ (w l : ℕ) (ew : w ≡ opAt (wordsOf now) i) (el : l ≡ levelOf w) where
+      pub run-none : (code : List ℕ) → Began code values begun only at part → l ≡ 0 → Checked code values now only top at (Typed bool i)
+      run-none code b z = record { is = λ s. stop-is code values top at s now only left (run .is code b s) bool i e w l ew el (λ h g. omega arith) }
+
+      pub run-loose : (code : List ℕ) → Began code values begun only at part → top < l → Checked code values now only top at (Typed bool i)
+      run-loose code b h = record { is = λ s. stop-is code values top at s now only left (run .is code b s) bool i e w l ew el (λ f g. omega arith) }
+
+      module _ (ne : l ≡ 0 → ⊥) (le : l ≤ top) where
+        pub run-right : (code : List ℕ) → Began code values begun only at part → Stands code values top at → Stands now values (l - 1) (i + 1)
+        run-right code b s = right-stands code values top at s now only left (run .is code b s) bool i e w l ew el ne le
+
+        module _ (wants : Bool) (asks : Asks w bool wants) (t : Bool) (df : Differ bool wants t) where
+          pub run-wrong : (code : List ℕ) → Began code values begun only at part → t ≡ true → Checked code values now only top at (Faulty 13 at)
+          run-wrong code b y = record { is = λ s. wrong-is code values top at s now only left (run .is code b s) bool i e w l ew el ne le wants asks (df .yes y) }
+
+          module _ (y : t ≡ false) (mid : List ℕ) (right : Judged) (c : Checked now values mid only (l - 1) (i + 1) right) where
+            pub run-joins : (code : List ℕ) → Began code values begun only at part → Stands code values top at → Right mid w l i right
+            run-joins code b s = right-is code values top at s now only left (run .is code b s) bool i e w l ew el ne le wants asks (df .no y) mid right c
+
+            module _ (after : List ℕ) (left′ : Judged) (x : Joined mid after w wants i right left′) where
+              pub run-on : Runs values begun after only top at part left′
+              run-on = record { is = λ code b s. going-on code values top at s now only left (run .is code b s) bool i e w l ew el ne le wants asks (df .no y) mid right c after left′ x }
+
+              pub run-less : (code : List ℕ) → Began code values begun only at part → Stands code values top at → wordsLeft 8192 left′ < wordsLeft 8192 left
+              unfolding wordsLeft
+              run-less code b s =
+                  let z = run-in code b s in
+                  rw e (fewer 8192 i left′ (z .1) (going-grows code values top at s now only left (run .is code b s) bool i e w l ew el ne le wants asks (df .no y) mid right c after left′ x))
+
+-- ---- an expression of a type
+module _ (code values after : List ℕ) (only wants : Bool) (at : ℕ) (r : Judged) (c : Checked code values after only 5 at r) where
+  pub typed-faulty : (number word : ℕ) → r ≡ Faulty number word → OfType code values after only wants at r
+  unfolding Says
+  typed-faulty number word e = record {
+    is = λ s.
+        let j = judge (s .known .W) only (s .known .S) (s .e) in
+        let f = says-faulty _ _ _ _ _ _ r number word e (c .is s .says) in
+        let t = typeIf wants in
+        subst (Judges (s .known .m) (s .known .n) code after at (s .to) (ofType t (first (s .e)) j)) (sym e)
+        (record {
+          says = record {
+            others = f .others ++ faultIf (differs t (j .type)) 13 (first (s .e));
+            faults-are = wanted-first t (first (s .e)) j (record { number = number; at = word }) (f .others) (f .faults-are);
+          };
+          kept = c .is s .kept;
+        });
+  }
+
+  module _ (bool : Bool) (end : ℕ) (e : r ≡ Typed bool end) (t : Bool) (df : Differ bool wants t) where
+    pub typed-wrong : t ≡ true → OfType code values after only wants at (Faulty 13 at)
+    unfolding Says fault
+    typed-wrong y = record {
+      is = λ s.
+          let j = judge (s .known .W) only (s .known .S) (s .e) in
+          let q = says-typed _ _ _ _ _ _ r bool end e (c .is s .says) in
+          let start = spans-first (s .e) at (s .to) (stands (sortIn (s .known .W)) (s .d) 5 at (s .e, s .to) (s .is)) in
+          record {
+            says = record {
+              others = [];
+              faults-are = wanted-wrong (typeIf wants) (first (s .e)) j wants bool refl (q .type-is) (λ z. df .yes y (sym z)) (q .none) ∙ ap (fault 13) start;
+            };
+            kept = c .is s .kept;
+          };
+    }
+
+    pub typed-right : t ≡ false → OfType code values after only wants at (Typed bool end)
+    unfolding Says
+    typed-right y = record {
+      is = λ s.
+          let j = judge (s .known .W) only (s .known .S) (s .e) in
+          let q = says-typed _ _ _ _ _ _ r bool end e (c .is s .says) in
+          let same = ap typeIf (df .no y) in
+          record {
+            says = record {
+              none = wanted-none (typeIf wants) (first (s .e)) j (q .none) (sym (q .type-is ∙ same));
+              type-is = sym same;
+              next-is = q .next-is;
+              stands = q .stands;
+            };
+            kept = c .is s .kept;
+          };
+    }
