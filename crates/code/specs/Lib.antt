@@ -2,5 +2,6 @@ pub mod Cells
 pub mod Spans
 pub mod Steps
 pub mod Closed
+pub mod Signatures
 pub mod Holds
 pub mod Windows

@@ -1,0 +1,1 @@
+-- What a change of some words leaves as it was.
