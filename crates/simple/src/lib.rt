@@ -11,7 +11,7 @@ ghost use Rattle.expressions.specs.Answers as expressions;
 ghost use Rattle.expressions.specs.Parts.{Linked};
 ghost use Rattle.simple.specs.Answers.{Statement, Stated};
 ghost use Rattle.simple.specs.Parts.{Begins, Begun, BeginsIn, BegunIn, BeginsOf, BegunOf, Assigns, Assigned, CallsOf, CalledOf, WrongName, TypeDiffers, IsCall};
-ghost use Rattle.simple.specs.Parts.{Targets, TargetJudged, Elements, ElementJudged, ValueSide, ValueAssigned, Callees, CalleeTold, Passed, More, MoreJudged, Counts, Counted, CallSide, CallJudged, ForCalls, ForJudged, CallAssigns, CallAssigned, Alone, Values, Valued, Characters, Strings, Spelled};
+ghost use Rattle.simple.specs.Parts.{Targets, TargetJudged, Elements, ElementJudged, ValueSide, ValueAssigned, Callees, CalleeTold, Passed, More, MoreJudged, Counts, Counted, CallSide, CallJudged, ForCalls, ForJudged, CallAssigns, CallAssigned, Alone, Values, Valued, Width, Characters, Strings, Spelled};
 
 // Where a statement stands.
 pub struct Setting {
@@ -454,7 +454,17 @@ fn raises(code: &mut [u8], values: &[u8], k: Setting, i: usize) -> Judged
 
 // ---- strings
 
-// How many characters n bytes are: two quotes are one.
+// How many bytes a character takes that begins with this one: two quotes are one.
+fn width(b: u8) -> usize
+    ensures { λ r. ⌜ Width b r ⌝ }
+{
+    if b == b'"' {
+        return 2;
+    }
+    1
+}
+
+// How many characters n bytes are.
 fn characters(text: &[u8], first: usize, n: usize) -> usize
     requires { ⌜ (first + n ≤ length (now text)) × (n < 256) × (first < 65536) ⌝ }
     ensures { λ r. ⌜ Characters (now (text .entry)) first n r ⌝ }
@@ -462,10 +472,7 @@ fn characters(text: &[u8], first: usize, n: usize) -> usize
     let mut k = 0;
     let mut count = 0;
     while k < n {
-        if text[first + k] == b'"' {
-            k += 1;
-        }
-        k += 1;
+        k += width(text[first + k]);
         count += 1;
     }
     count
