@@ -1,16 +1,16 @@
 -- Which fault comes first: of one piece, of two pieces one after the other, of a list.
 use mathlib.Core.Path.{_≡_, refl, sym, ap, ap₂, subst, _∙_}
 use mathlib.Core.Bool.{Bool, true, false}
-use mathlib.Core.List.{List, [], _∷_, _++_, List·Memᴰ, List·Memᴰ·head, List·Memᴰ·tail, Memᴰ·append-left, Memᴰ·append-right}
-use mathlib.Core.Option.{Option, none, some}
+use mathlib.Core.List.{List, [], _∷_, _++_, List·Memᴰ, List·Memᴰ·head, List·Memᴰ·tail, List·Memᴰ·append-cases, Memᴰ·append-left, Memᴰ·append-right}
+use mathlib.Core.Option.{none, some}
+use mathlib.Core.Logic.{_⊎_, inl, inr}
 use Prim.Native.Nat.{ℕ, suc, _≤_, _<_}
 use native.Mathlib.Omega.{arith}
-use lib.Dec.{eqb, ltb, leb}
-use borrow.Author.Tests.{eqb-true, eqb-false, eq-eqb, ne-eqb, ltb-true, lt-ltb, leb-true, le-leb}
-use Rattle.laws.proofs.Tests.{test, false-true}
-use Rattle.paper.specs.Basics.{if_then_else_}
+use lib.Dec.{eqb}
+use borrow.Author.Tests.{eqb-true, eq-eqb, ne-eqb, ltb-true, lt-ltb, leb-true, le-leb}
+use Rattle.laws.proofs.Tests.{test, apart, false-true}
 use Rattle.paper.specs.Types.{Fault, fault, faultIf, rank, comesFirst, leastOf, least}
-use Rattle.faults.specs.First.{Every, no-fault, _also_, Between, Inside, Precedes, Leads, First}
+use Rattle.faults.specs.First.{Every, no-fault, _also_, Between, Inside, Leads, First, Headed, none-there, leads-others, Ordered}
 
 -- ---- the order
 module _ (f g : Fault) where
@@ -45,6 +45,14 @@ infixl 4 _and_
 pub _and_ : {Q : Fault → Type 0} {xs ys : List Fault} → Every Q xs → Every Q ys → Every Q (xs ++ ys)
 no-fault and k = k
 (q also h) and k = q also (h and k)
+
+pub front-of : {Q : Fault → Type 0} (xs ys : List Fault) → Every Q (xs ++ ys) → Every Q xs
+front-of [] ys h = no-fault
+front-of (f ∷ xs) ys (q also h) = q also front-of xs ys h
+
+pub back-of : {Q : Fault → Type 0} (xs ys : List Fault) → Every Q (xs ++ ys) → Every Q ys
+back-of [] ys h = h
+back-of (f ∷ xs) ys (q also h) = back-of xs ys h
 
 pub every-one : {Q : Fault → Type 0} {f : Fault} {fs : List Fault} → Every Q fs → List·Memᴰ f fs → Q f
 every-one {Q} (q also h) (List·Memᴰ·head e) = subst Q (sym e) q
@@ -124,8 +132,61 @@ first-alone h e = first-left h (every-none e)
 pub first-past : {f : Fault} {a b : ℕ} {xs ys : List Fault} → Inside a b xs → First f ys → f .at < a → First f (xs ++ ys)
 first-past {f} k h low = first-right (leads-later f k low) h
 
+-- two pieces of one part of the text, each with others behind it that stand later
+pub first-between : {f : Fault} (xs ys vs ws : List Fault) → First f (xs ++ ys) → Leads f vs → Leads f ws → First f ((xs ++ vs) ++ (ys ++ ws))
+first-between {f} xs ys vs ws h k l = record { among = there (List·Memᴰ·append-cases xs (h .among)); leads = (front-of xs ys (h .leads) and k) and (back-of xs ys (h .leads) and l) }
+  where
+    there : List·Memᴰ f xs ⊎ List·Memᴰ f ys → List·Memᴰ f ((xs ++ vs) ++ (ys ++ ws))
+    there (inl m) = Memᴰ·append-left (ys ++ ws) (Memᴰ·append-left vs m)
+    there (inr m) = Memᴰ·append-right (xs ++ vs) (Memᴰ·append-left ws m)
+
 pub nothing-in-both : {xs ys : List Fault} → xs ≡ [] → ys ≡ [] → xs ++ ys ≡ []
 nothing-in-both e g = rw (e, g)
+
+-- two rules at one word, the lower number first
+module _ (x y : Bool) (m n i : ℕ) where
+  pub first-lower : m ≤ n → x ≡ true → First (record { number = m; at = i }) (faultIf x m i ++ faultIf y n i)
+  first-lower le e = first-left (first-if x m i e) (leads-same-if (record { number = m; at = i }) y n i refl le)
+
+  pub first-higher : x ≡ false → y ≡ true → First (record { number = n; at = i }) (faultIf x m i ++ faultIf y n i)
+  unfolding faultIf
+  first-higher e g = rw e (first-if y n i g)
+
+  pub neither-rule : x ≡ false → y ≡ false → faultIf x m i ++ faultIf y n i ≡ []
+  unfolding faultIf
+  neither-rule e g = rw (e, g)
+
+-- ---- pieces whose head comes first
+pub headed-first : (f : Fault) (others : List Fault) {fs : List Fault} → Headed fs → fs ≡ f ∷ others → First f fs
+headed-first f others none-there e = apart (cc)
+headed-first f others (leads-others {f = g} {r = r} k) e =
+    let q : g ≡ f = cc in
+    subst (λ (x : Fault). First x (g ∷ r)) q (first-head g r (g ∷ r) refl k)
+
+headed-append : {a b c d : ℕ} {xs ys : List Fault} → Ordered a b xs → Ordered c d ys → b ≤ c → Headed (xs ++ ys)
+headed-append h k le = by-head (h .inside) (h .headed) k le
+  where
+    by-head : {a b c d : ℕ} {xs ys : List Fault} → Inside a b xs → Headed xs → Ordered c d ys → b ≤ c → Headed (xs ++ ys)
+    by-head i none-there k le = k .headed
+    by-head (q also i) (leads-others {f = f} l) k le = leads-others (l and leads-later f (k .inside) (omega (arith, q .high)))
+
+pub ordered-none : (a b : ℕ) → Ordered a b []
+ordered-none a b = record { inside = no-fault; headed = none-there }
+
+pub ordered-fault : (number i a b : ℕ) → a ≤ i → i < b → Ordered a b (fault number i)
+unfolding fault
+ordered-fault number i a b low high = record { inside = inside-fault number i a b low high; headed = leads-others no-fault }
+
+pub ordered-if : (t : Bool) (number i a b : ℕ) → a ≤ i → i < b → Ordered a b (faultIf t number i)
+unfolding faultIf
+ordered-if true number i a b low high = ordered-fault number i a b low high
+ordered-if false number i a b low high = ordered-none a b
+
+pub ordered-wider : {a b c d : ℕ} {fs : List Fault} → Ordered a b fs → c ≤ a → b ≤ d → Ordered c d fs
+ordered-wider h low high = record { inside = widen (h .inside) low high; headed = h .headed }
+
+pub ordered-append : {a b c d : ℕ} {xs ys : List Fault} → Ordered a b xs → Ordered c d ys → a ≤ c → b ≤ c → b ≤ d → Ordered a d (xs ++ ys)
+ordered-append h k low between high = record { inside = widen (h .inside) (omega arith) high and widen (k .inside) low (omega arith); headed = headed-append h k between }
 
 -- ---- the answer
 pub least-none : (fs : List Fault) → fs ≡ [] → least fs ≡ none

@@ -30,3 +30,13 @@ Leads f fs = Every (Precedes f) fs
 pub record First (f : Fault) (fs : List Fault) : Type 0 where
   pub among : List·Memᴰ f fs
   pub leads : Leads f fs
+
+-- The fault at the head of a list, if there is one, comes first: a walk in the order of the text finds it.
+pub data Headed : List Fault → Type 0 where
+  none-there : Headed []
+  leads-others : {f : Fault} {r : List Fault} → Leads f r → Headed (f ∷ r)
+
+-- The faults of the words from a up to b, as a walk over them finds them.
+pub record Ordered (a b : ℕ) (fs : List Fault) : Type 0 where
+  pub inside : Inside a b fs
+  pub headed : Headed fs

@@ -1,7 +1,7 @@
 -- What is left of the module's faults while a walk goes over the routines. The paper lists the faults of all routine names before those of the routines; in the text
 -- each routine's name stands before its own words.
 use mathlib.Core.Path.{_≡_}
-use mathlib.Core.List.{List, [], _∷_, _++_}
+use mathlib.Core.List.{List, _++_}
 use Prim.Native.Nat.{ℕ}
 use Rattle.paper.specs.Words.{Word}
 use Rattle.paper.specs.Trees.{Routine, Module}
