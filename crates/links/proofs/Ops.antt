@@ -11,7 +11,8 @@ use Rattle.paper.specs.Basics.{if_then_else_}
 use Rattle.cells.specs.Words.{wordsOf, Got}
 use Rattle.code.specs.Cells.{opAt, linkAt, linkIn}
 use Rattle.code.specs.Steps.{aTarget, anElseIf, aCase, aThen}
-use Rattle.links.specs.Resolved.{goesByLink, goesByValue, goesByPlace, beyond, Beyond, LedValue, LedPlace, LedLink}
+use Rattle.links.specs.Resolved.{goesByLink, goesByValue, goesByPlace, isLed, beyond, Beyond, LedValue, LedPlace, LedLink}
+use Rattle.links.specs.Raw.{Quiet}
 
 -- ---- ops
 module _ (op : ℕ) where
@@ -60,6 +61,14 @@ module _ (op : ℕ) where
   pub low-place : op < 128 → goesByPlace op ≡ false
   unfolding goesByPlace
   low-place h = rw (ne-eqb op 157 (λ e. omega arith), goesByPlace) (rw (ne-eqb op 158 (λ e. omega arith)) (ne-eqb op 165 (λ e. omega arith)))
+
+  pub low-still : op < 128 → isLed op ≡ false
+  unfolding isLed
+  low-still h = rw (sym (link-low h), isLed) (rw (low-value h) (low-place h))
+
+-- words whose ops are as low as those of expressions lead nowhere
+pub quiet-low : (C : List ℕ) (a b : ℕ) → ((i : ℕ) → a ≤ i → i < b → opAt C i < 128) → Quiet C a b
+quiet-low C a b f i l h = low-still (opAt C i) (f i l h)
 
 -- ---- where a list goes on
 module _ (C L : List ℕ) (z : ℕ) where

@@ -8,14 +8,14 @@ use Prim.Native.Nat.{ℕ, suc, _+_, _*_, _<_, _≤_}
 use lib.ListN.{length}
 use Rattle.paper.specs.Words.{Word}
 use Rattle.paper.specs.Terms.{ofRoutine, Memory}
-use Rattle.paper.specs.Trees.{Expr, Target, Simple, firstSimple, assign, assignCall, call, returns, raises, exits, retries, triesNext, writes, reads, Statement, Statements, Arms, Cases, simple, compactIf, fullIf, for, while, test, empty, _then_, noArm, arm, noCase, case}
+use Rattle.paper.specs.Trees.{Expr, Target, Simple, firstSimple, assign, assignCall, call, returns, raises, exits, retries, triesNext, writes, reads, Statement, Statements, Arms, Cases, simple, compactIf, fullIf, for, while, test, empty, _then_, noArm, arm, noCase, case, RoutineList}
 use Rattle.paper.specs.Names.{routineIn, Scopes, spelled, meaning, enter}
 use Rattle.paper.specs.Types.{termOf, constantValue}
 use Rattle.paper.specs.Checks.{forsIn, forsInList, forsInArms, forsInCases}
 use Rattle.paper.specs.Steps.{routineOf, characters, spotOf}
-use Rattle.code.specs.Cells.{opAt, valueAt, placeAt, linkAt}
+use Rattle.code.specs.Cells.{headAt, tailAt, opAt, valueAt, placeAt, linkAt}
 use Rattle.code.specs.Spans.{termIn}
-use Rattle.code.specs.Steps.{aTarget, aCallTarget, aProcedureCall, aReturnOf, aReturn, aRaiseOf, aRaise, anExit, aRetry, aTryNext, aWrite, aWriteOf, aRead, aCompactIf, anIf, aWhile, aFor, aForTest, aTest, anElseIf, aStep, aCase, aNextValue, aThen, aDo, aPass, anOtherwise, aClose, Head, constantAt, targetIn, anyArguments, calleeIn, charactersIn}
+use Rattle.code.specs.Steps.{aTarget, aCallTarget, aProcedureCall, aReturnOf, aReturn, aRaiseOf, aRaise, anExit, aRetry, aTryNext, aWrite, aWriteOf, aRead, aCompactIf, anIf, aWhile, aFor, aForTest, aTest, anEnd, aFunctionEnd, anElseIf, aStep, aCase, aNextValue, aThen, aDo, aPass, anOtherwise, aClose, Head, constantAt, targetIn, anyArguments, calleeIn, charactersIn}
 use Rattle.links.specs.Resolved.{isLed}
 
 -- What does not change while a routine is walked: the words of data that its module has, whether it is a function, the module's text and routines, what its
@@ -30,6 +30,11 @@ pub record Ground : Type 0 where
   pub offset : ℕ → ℕ
 
 -- ---- cells
+-- Two stores have the same words from a up to b.
+pub record SameWords (C D : List ℕ) (a b : ℕ) : Type 0 where
+  pub heads : (i : ℕ) → a ≤ i → i < b → headAt C i ≡ headAt D i
+  pub tails : (i : ℕ) → a ≤ i → i < b → tailAt C i ≡ tailAt D i
+
 module _ (C : List ℕ) where
   -- no word from a up to b leads on
   abbrev pub Quiet : (a b : ℕ) → Type 0
@@ -49,6 +54,17 @@ module _ (C : List ℕ) where
   pub data Ends (z to : ℕ) : Type 0 where
     at-once : z ≡ to → Ends z to
     closed : RawWord aPass z to → to ≡ z + 1 → Ends z to
+
+  -- The last word that closes a list of an IF's arms. ELSE: its list begins behind it and ends at ENDIF, where it leads. ENDIF: it is where an empty list begins and ends. (What stands
+  -- behind ENDIF may be an ELSEIF of an IF around this one, so no THEN leads there.)
+  pub data LastOf (last first z : ℕ) : Type 0 where
+    an-else : RawWord aPass last z → first ≡ last + 1 → LastOf last first z
+    no-else : last ≡ z → first ≡ z → LastOf last first z
+
+-- the op of the end of a list
+unfoldable pub endOf : (function : Bool) → ℕ
+endOf true = aFunctionEnd
+endOf false = anEnd
 
 -- The routine has n words of data in the end.
 module _ (g : Ground) (n : ℕ) (C : List ℕ) where
@@ -103,7 +119,7 @@ module _ (g : Ground) (n : ℕ) (C : List ℕ) where
     pub name : f ≡ b + 1
     pub still : isLed (opAt C f) ≡ false
     pub arguments : RawArguments S es (b + 3) (linkAt C f) z
-    pub within : z ≤ to
+    pub within : z < to
     pub leaves : linkAt C at ≡ out
 
   -- it goes on by its semicolon
@@ -225,19 +241,19 @@ module _ (g : Ground) (n : ℕ) (C : List ℕ) where
     pub then-leaves : linkAt C t ≡ c
     pub word : RawWord C anElseIf c y
 
-  -- no ELSEIF behind the list of a THEN: what closes it is ELSE or ENDIF
-  pub record RawNoMore (t c last : ℕ) : Type 0 where
+  -- no ELSEIF behind the list of a THEN: what closes it is ELSE or ENDIF, and the THEN leads to where ELSE's list is found
+  pub record RawNoMore (first t c last : ℕ) : Type 0 where
     pub is-last : c ≡ last
-    pub then-leaves : linkAt C t ≡ c + 1
+    pub then-leaves : linkAt C t ≡ first
 
   -- An arm begins with IF, where there is no THEN before it, or with ELSEIF.
   unfoldable pub Begins : (before : Option ℕ) → (c y : ℕ) → Type 0
   Begins none c y = Unit {0}
   Begins (some t) c y = RawElseIf t c y
 
-  unfoldable pub NoMore : (before : Option ℕ) → (c last : ℕ) → Type 0
-  NoMore none c last = ⊥
-  NoMore (some t) c last = RawNoMore t c last
+  unfoldable pub NoMore : (first : ℕ) → (before : Option ℕ) → (c last : ℕ) → Type 0
+  NoMore first none c last = ⊥
+  NoMore first (some t) c last = RawNoMore first t c last
 
   -- A condition behind the word c, its THEN, its list, and then the other arms.
   pub record RawArm (S : Scopes) (e : Expr) (body : Listed) (more : (before : Option ℕ) → Listed) (before : Option ℕ) (c last : ℕ) : Type 0 where
@@ -251,18 +267,20 @@ module _ (g : Ground) (n : ℕ) (C : List ℕ) where
     pub begins : Begins before c y
     pub rest : more (some t) y last
 
-  -- ELSE with its list, or ENDIF, which is an empty list that ends with the statement
-  pub record RawElse (otherwise : Listed) (last to : ℕ) : Type 0 where
+  pub record RawElse (otherwise : Listed) (last first to : ℕ) : Type 0 where
+    -- its ENDIF
     pub z : ℕ
-    pub word : RawWord C aPass last z
-    pub list : otherwise (last + 1) z
-    pub ends : Ends C z to
+    pub begins : LastOf C last first z
+    pub list : otherwise first z
+    pub word : RawWord C aPass z to
+    pub end : to ≡ z + 1
 
-  pub record RawFullIf (i : ℕ) (arms otherwise : Listed) (at to : ℕ) : Type 0 where
+  pub record RawFullIf (i : ℕ) (arms : (first : ℕ) → Listed) (otherwise : Listed) (at to : ℕ) : Type 0 where
     pub head : RawFirst anIf i at to
     pub last : ℕ
-    pub arms-are : arms at last
-    pub otherwise-is : RawElse otherwise last to
+    pub first : ℕ
+    pub arms-are : arms first at last
+    pub otherwise-is : RawElse otherwise last first to
 
   -- ---- TEST
   -- The values of a CASE behind the one at w, each at its comma. All have the list's first word as their place; the last one leads to what comes after it.
@@ -326,7 +344,7 @@ module _ (g : Ground) (n : ℕ) (C : List ℕ) where
     pub RawStatement : Statement → Scopes → (used : ℕ) → Listed
     RawStatement (simple s) S used at to = RawSimple S s at to
     RawStatement (compactIf i e s) S used at to = RawCompactIf S i e s at to
-    RawStatement (fullIf i a o) S used at to = RawFullIf i (λ c last. RawArms a S used none c last) (λ x y. RawList o S (used + forsInArms a) x y) at to
+    RawStatement (fullIf i a o) S used at to = RawFullIf i (λ first c last. RawArms a S used first none c last) (λ x y. RawList o S (used + forsInArms a) x y) at to
     RawStatement (for i v a b c body end) S used at to =
         RawFor S used i a b c (λ x y. RawList body (enter (spelled (g .W) v) (ofRoutine used) S) (suc used) x y) end at to
     RawStatement (while i e body) S used at to = RawWhile S i e (λ x y. RawList body S used x y) at to
@@ -336,12 +354,18 @@ module _ (g : Ground) (n : ℕ) (C : List ℕ) where
     RawList empty S used at to = at ≡ to
     RawList (s then r) S used at to = RawThen (λ x y. RawStatement s S used x y) (λ x y. RawList r S (used + forsIn s) x y) at to
 
-    -- the arms of an IF from the word c on, behind a THEN or none; `last` is its ELSE or ENDIF
-    pub RawArms : Arms → Scopes → (used : ℕ) → (before : Option ℕ) → Listed
-    RawArms noArm S used before c last = NoMore before c last
-    RawArms (arm e b r) S used before c last = RawArm S e (λ x y. RawList b S used x y) (λ t x last. RawArms r S (used + forsInList b) t x last) before c last
+    -- The arms of an IF from the word c on, behind a THEN or none; `last` is its ELSE or ENDIF. ELSE's list begins with the word `first`.
+    pub RawArms : Arms → Scopes → (used first : ℕ) → (before : Option ℕ) → Listed
+    RawArms noArm S used first before c last = NoMore first before c last
+    RawArms (arm e b r) S used first before c last = RawArm S e (λ x y. RawList b S used x y) (λ t x last. RawArms r S (used + forsInList b) first t x last) before c last
 
     -- the cases of a TEST from the word c on; `last` is its DEFAULT or ENDTEST
     pub RawCases : Cases → Scopes → (used : ℕ) → Listed
     RawCases noCase S used c last = c ≡ last
     RawCases (case es b r) S used c last = RawCase S es (λ x y. RawList b S used x y) (λ x last. RawCases r S (used + forsInList b) x last) c last
+
+  -- A list of a routine, with the word that closes it, which is a step of its own.
+  pub record RawRoutineList (l : RoutineList) (S : Scopes) (used at : ℕ) : Type 0 where
+    pub list : RawList (l .statements) S used at (l .closes)
+    pub op : opAt C (l .closes) ≡ endOf (g .function)
+    pub place : placeAt C (l .closes) ≡ g .offset (l .closes)
