@@ -275,6 +275,12 @@ pub record ArgumentsStand (W : List Word) (es : List Expr) (first closing z end 
   pub at-end : closing ≡ semicolon → end ≡ z
   pub past-end : (closing ≡ semicolon → ⊥) → (closing ≡ closeParen) × (end ≡ z + 1)
 
+-- a comma counts
+pub record Commas (s r : ℕ) : Type 0 where
+  pub yes : s ≡ comma → r ≡ 1
+  pub no : (s ≡ comma → ⊥) → r ≡ 0
+  pub few : r ≤ 1
+
 pub record Counts (code : List ℕ) (first closing : ℕ) : Type 0 where
   pub W : List Word
   pub es : List Expr

@@ -1,4 +1,5 @@
 use borrow.Author.Needs.{needs}
+use Rattle.simple.proofs.Passing.{passed-faulty, passed-wrong, passed-right}
 use Rattle.simple.proofs.argument.Statement.{statement}
 use Rattle.simple.proofs.argument.Tie as tie
 use Rattle.simple.proofs.argument.Reads as reads
@@ -29,7 +30,7 @@ same-length c = search needs
 
 -- src/lib.rt:232:9
 returns : tie.Need-returns
-returns c = ?
+returns c = search (needs, passed-faulty)
 
 -- src/lib.rt:234:8
 differs-requires : tie.Need-differs-requires
@@ -41,7 +42,7 @@ same-length-2 c = search needs
 
 -- src/lib.rt:235:9
 returns-2 : tie.Need-returns-2
-returns-2 c = ?
+returns-2 c = search (needs, passed-wrong)
 
 -- src/lib.rt:225:1
 same-length-3 : tie.Need-same-length-3
@@ -49,7 +50,7 @@ same-length-3 c = search needs
 
 -- src/lib.rt:225:1
 returns-3 : tie.Need-returns-3
-returns-3 c = ?
+returns-3 c = search (needs, passed-right)
 
 pub argument-spec : {M : Type 1} → statement M
 argument-spec =

@@ -1,4 +1,5 @@
 use borrow.Author.Needs.{needs}
+use Rattle.simple.proofs.Spelling.{string-least, string-asks, string-small, string-spelled}
 use Rattle.simple.proofs.string.Statement.{statement}
 use Rattle.simple.proofs.string.Tie as tie
 use Rattle.simple.proofs.string.Reads as reads
@@ -42,7 +43,7 @@ sub-characters c = search needs
 
 -- src/lib.rt:481:9
 characters-requires : tie.Need-characters-requires
-characters-requires c κs = ?
+characters-requires c κs = search (needs, string-asks)
 
 -- src/lib.rt:482:53
 cast-set-head : tie.Need-cast-set-head
@@ -66,7 +67,7 @@ same-length c = search needs
 
 -- src/lib.rt:475:1
 returns : tie.Need-returns
-returns c = ?
+returns c = search (needs, string-spelled)
 
 pub string-spec : {M : Type 1} → statement M
 string-spec =
