@@ -8,7 +8,7 @@ use lib.Dec.{eqb}
 use lib.ListN.{length, getD, take, drop}
 use Rattle.paper.specs.Basics.{if_then_else_}
 use Rattle.paper.specs.Sorts.{NAME, STRING, comma, semicolon, openParen, closeParen, openBrace, becomes, FUNC}
-use Rattle.paper.specs.Words.{Word, wordLimit}
+use Rattle.paper.specs.Words.{QUOTE, Word, wordLimit}
 use Rattle.paper.specs.Terms.{Term}
 use Rattle.paper.specs.Trees.{Expr, first, Target}
 use Rattle.paper.specs.Names.{DataType, typeOf, refusedPiece, Meaning, theRoutine, wrongName, nth, sortIn, spelled, meaning, Scopes}
@@ -275,6 +275,12 @@ pub record ArgumentsStand (W : List Word) (es : List Expr) (first closing z end 
   pub at-end : closing ≡ semicolon → end ≡ z
   pub past-end : (closing ≡ semicolon → ⊥) → (closing ≡ closeParen) × (end ≡ z + 1)
 
+-- a comma counts
+pub record Commas (s r : ℕ) : Type 0 where
+  pub yes : s ≡ comma → r ≡ 1
+  pub no : (s ≡ comma → ⊥) → r ≡ 0
+  pub few : r ≤ 1
+
 pub record Counts (code : List ℕ) (first closing : ℕ) : Type 0 where
   pub W : List Word
   pub es : List Expr
@@ -377,6 +383,13 @@ pub record Valued (code values after : List ℕ) (op : ℕ) (wants : Bool) (from
       (RawValued (groundOf (g .around)) (g .around .known .n) (wordsOf after) (g .around .known .S) op (g .e) from i (g .to + 1) (g .to + 1)) r
 
 -- ---- strings
+-- how many bytes a character takes that begins with this one
+pub record Width (b r : ℕ) : Type 0 where
+  pub quote : b ≡ QUOTE → r ≡ 2
+  pub other : (b ≡ QUOTE → ⊥) → r ≡ 1
+  pub some : 0 < r
+  pub few : r ≤ 2
+
 -- how many characters n bytes from `first` on are
 pub record Characters (text : List ℕ) (first n r : ℕ) : Type 0 where
   pub is : r ≡ length (unquoted (take n (drop first text)))

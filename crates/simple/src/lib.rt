@@ -11,7 +11,7 @@ ghost use Rattle.expressions.specs.Answers as expressions;
 ghost use Rattle.expressions.specs.Parts.{Linked};
 ghost use Rattle.simple.specs.Answers.{Statement, Stated};
 ghost use Rattle.simple.specs.Parts.{Begins, Begun, BeginsIn, BegunIn, BeginsOf, BegunOf, Assigns, Assigned, CallsOf, CalledOf, WrongName, TypeDiffers, IsCall};
-ghost use Rattle.simple.specs.Parts.{Targets, TargetJudged, Elements, ElementJudged, ValueSide, ValueAssigned, Callees, CalleeTold, Passed, More, MoreJudged, Counts, Counted, CallSide, CallJudged, ForCalls, ForJudged, CallAssigns, CallAssigned, Alone, Values, Valued, Characters, Strings, Spelled};
+ghost use Rattle.simple.specs.Parts.{Targets, TargetJudged, Elements, ElementJudged, ValueSide, ValueAssigned, Callees, CalleeTold, Passed, More, MoreJudged, Commas, Counts, Counted, CallSide, CallJudged, ForCalls, ForJudged, CallAssigns, CallAssigned, Alone, Values, Valued, Width, Characters, Strings, Spelled};
 
 // Where a statement stands.
 pub struct Setting {
@@ -199,6 +199,16 @@ fn callee_at<'a>(code: &'a [u8], values: &'a [u8], function: bool, i: usize) -> 
     Callee::At(h)
 }
 
+// A comma counts.
+fn counted(s: u32) -> u32
+    ensures { λ r. ⌜ Commas s r ⌝ }
+{
+    if s == sorts::COMMA {
+        return 1;
+    }
+    0
+}
+
 // How many arguments stand from a word on: each comma up to the semicolon is between two of them.
 fn count_arguments(code: &[u8], first: usize, closing: u32) -> u32
     requires { ⌜ Counts (now code) first closing ⌝ }
@@ -214,9 +224,7 @@ fn count_arguments(code: &[u8], first: usize, closing: u32) -> u32
         if s == sorts::SEMICOLON {
             return count;
         }
-        if s == sorts::COMMA {
-            count += 1;
-        }
+        count += counted(s);
         i += 1;
     }
 }
@@ -454,18 +462,25 @@ fn raises(code: &mut [u8], values: &[u8], k: Setting, i: usize) -> Judged
 
 // ---- strings
 
-// How many characters n bytes are: two quotes are one.
+// How many bytes a character takes that begins with this one: two quotes are one.
+fn width(b: u8) -> usize
+    ensures { λ r. ⌜ Width b r ⌝ }
+{
+    if b == b'"' {
+        return 2;
+    }
+    1
+}
+
+// How many characters n bytes are.
 fn characters(text: &[u8], first: usize, n: usize) -> usize
-    requires { ⌜ (first + n ≤ length (now text)) × (n < 256) × (first < 65536) ⌝ }
+    requires { ⌜ (first + n ≤ length (now text)) × (n < 256) × (first ≤ 65536) ⌝ }
     ensures { λ r. ⌜ Characters (now (text .entry)) first n r ⌝ }
 {
     let mut k = 0;
     let mut count = 0;
     while k < n {
-        if text[first + k] == b'"' {
-            k += 1;
-        }
-        k += 1;
+        k += width(text[first + k]);
         count += 1;
     }
     count
