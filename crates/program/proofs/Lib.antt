@@ -1,0 +1,5 @@
+pub mod Closing
+pub mod Chaining
+pub mod Orders
+pub mod Framing
+pub mod Holding
