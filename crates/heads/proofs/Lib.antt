@@ -1,2 +1,4 @@
 pub mod Leaves
 pub mod Inner
+pub mod Given
+pub mod Frames
