@@ -243,6 +243,7 @@ module _ (W : ℕ → ℕ) where
 
   mutual
     unfolding inRoutine isOneOf
+
     statement-in : {d : ℕ} {s : Statement} {at to : ℕ} → StatementAt W E d s at to → In at to
     statement-in (plain k e z) = upto (simple-in k ▸ word e refl) z
     statement-in (compact i a k f h c z) = upto (word a refl ▸ expr-in _ _ _ _ k ▸ simple-in h ▸ word c refl) z

@@ -7,9 +7,10 @@ use native.Mathlib.Omega.{arith}
 use lib.Dec.{eqb}
 use lib.ListN.{length, getD, take, drop}
 use borrow.Author.Tests.{eq-eqb, ne-eqb}
-use Rattle.laws.proofs.Tests.{by-last, by-same, false-true}
+use Rattle.laws.proofs.Tests.{by-last, by-less, by-same, false-true}
 use Rattle.paper.specs.Basics.{if_then_else_}
-use Rattle.paper.specs.Sorts.{bytes, folded, equalTexts, PROC, FUNC}
+use Rattle.paper.specs.Sorts.{bytes, folded, equalTexts, PROC, FUNC, VAR, CONST}
+use Rattle.paper.specs.Expressions.{startsData, startsRoutine}
 use Rattle.paper.specs.Declarations.{routineLimit}
 use Rattle.cells.specs.Words.{wordsOf, Got, Put}
 use Rattle.code.specs.Cells.{opAt, valueAt}
@@ -174,3 +175,25 @@ is-main-law text code i w v b g k e =
     let n : w % 65536 + v / 256 / 8192 - w % 65536 ≡ v / 256 / 8192 = omega arith in
     e ∙ ap (λ (x : ℕ). equalTexts (map folded (take x (drop (w % 65536) text))) (bytes "MAIN")) (n ∙ ap (λ (x : ℕ). x / 256 / 8192) k)
     ∙ ap (λ (x : ℕ). equalTexts (map folded (take (getD (wordsOf code) (i * 2) 0 / 256 / 8192) (drop (x % 65536) text))) (bytes "MAIN")) g
+
+-- ---- what a word starts
+pub data-var : (s : ℕ) → s ≡ VAR → true ≡ startsData s
+unfolding startsData
+data-var s e = rw e
+
+pub data-const : (s : ℕ) → (s ≡ VAR → ⊥) → eqb s CONST ≡ startsData s
+unfolding startsData
+data-const s d = rw (ne-eqb s VAR d)
+
+pub routine-proc : (s : ℕ) → s ≡ PROC → true ≡ startsRoutine s
+unfolding startsRoutine
+routine-proc s e = rw e
+
+pub routine-func : (s : ℕ) → (s ≡ PROC → ⊥) → eqb s FUNC ≡ startsRoutine s
+unfolding startsRoutine
+routine-func s d = rw (ne-eqb s PROC d)
+
+-- the first is the one that no other is before
+pub next-is : (code : List ℕ) (at a b r e : ℕ) → Next code at a b r → at ≤ e → isOneOf a b (opAt (wordsOf code) e) ≡ true → ((k : ℕ) → at ≤ k → k < e → isOneOf a b (opAt (wordsOf code) k) ≡ false) → r ≡ e
+next-is code at a b r e n h is none =
+    by-less r e (λ l. false-true (sym (none r (n .from) l) ∙ n .is)) (λ l. by-less e r (λ u. false-true (sym (n .none e h u) ∙ is)) (λ u. omega arith))

@@ -9,6 +9,7 @@ ghost use mathlib.Core.Path.{_≡_};
 ghost use Prim.Native.Nat.{_+_, _*_, _<_, _≤_};
 ghost use lib.ListN.{length};
 ghost use Rattle.paper.specs.Sorts.{bytes, equalTexts};
+ghost use Rattle.paper.specs.Expressions.{startsData, startsRoutine};
 ghost use Rattle.cells.specs.Words.{wordsOf};
 ghost use Rattle.code.specs.Cells.{opAt, placeAt};
 ghost use Rattle.names.specs.Promises.{storeBytes};
@@ -32,6 +33,24 @@ fn sort(code: &[u8], i: usize) -> u32
     ensures { λ r. ⌜ r ≡ opAt (wordsOf (now (code .entry))) i ⌝ }
 {
     cells::get(code, i * 2) % VALUE
+}
+
+fn starts_data(s: u32) -> bool
+    ensures { λ r. ⌜ r ≡ startsData s ⌝ }
+{
+    if s == VAR {
+        return true;
+    }
+    s == CONST
+}
+
+fn starts_routine(s: u32) -> bool
+    ensures { λ r. ⌜ r ≡ startsRoutine s ⌝ }
+{
+    if s == PROC {
+        return true;
+    }
+    s == FUNC
 }
 
 // Gives a word a value; its sort stays.
@@ -81,11 +100,8 @@ fn data_names(code: &[u8], values: &mut [u8], at: usize) -> usize
 {
     let mut i = at;
     loop {
-        let s = sort(code, i);
-        if s != VAR {
-            if s != CONST {
-                return i;
-            }
+        if !starts_data(sort(code, i)) {
+            return i;
         }
         announce(code, values, i + 2);
         i = next(code, i + 2, SEMICOLON, SEMICOLON) + 1;
@@ -236,12 +252,9 @@ fn routines(text: &[u8], code: &mut [u8], values: &mut [u8], at: usize) -> usize
     let mut k = 0;
     let mut main = 0;
     loop {
-        let s = sort(code, i);
-        if s != PROC {
-            if s != FUNC {
-                cells::clear(values, 0, i);
-                return main_of(code, main);
-            }
+        if !starts_routine(sort(code, i)) {
+            cells::clear(values, 0, i);
+            return main_of(code, main);
         }
         let name = head(code, values, i, k);
         main = take_name(text, code, values, i, name, main);
