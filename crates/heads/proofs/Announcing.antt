@@ -34,7 +34,7 @@ use Rattle.heads.proofs.Frames.{kept-same, kept-on, put-kept}
 use Rattle.heads.proofs.Leaves.{next-is}
 
 -- ---- the cell of a text
-protected-some : (u : Text) → isProtected u ≡ true → protectedCell u ≡ 0 → ⊥
+pub protected-some : (u : Text) → isProtected u ≡ true → protectedCell u ≡ 0 → ⊥
 protected-some u h z = false-true (sym (ap protectsCell z) ∙ protected-guards (λ n. n) u ∙ h)
 
 pub cell-protected : (D : List Text) (u : Text) → isProtected u ≡ true → dataCell D u ≡ protectedCell u
@@ -91,7 +91,7 @@ or-nothing true = refl
 or-nothing false = refl
 
 -- what is not protected has no cell
-not-found : (N : Names) (u : Text) (m : Meaning) → isAmong (map textOf N) u ≡ false → lookIn N u m ≡ m
+pub not-found : (N : Names) (u : Text) (m : Meaning) → isAmong (map textOf N) u ≡ false → lookIn N u m ≡ m
 unfolding lookIn isAmong
 not-found [] u m h = refl
 not-found (n ∷ N) u m h = test (equalTexts (n .0) u) (λ t. false-true (sym (rw (t, isAmong) at h))) (λ t. rw (t, lookIn) (not-found N u m (rw (t, isAmong) at h)))

@@ -154,18 +154,20 @@ module _ (code : List ℕ) (h : ℕ) where
   main-none e = rw (eq-eqb h 0 e)
 
   module _ (some : h ≡ 0 → ⊥) (s : ℕ) (e : s ≡ opAt (wordsOf code) h) where
-    pub main-function : (s ≡ PROC → ⊥) → 0 ≡ mainWord (wordsOf code) h
+    pub main-function : s ≡ FUNC → 0 ≡ mainWord (wordsOf code) h
     unfolding mainWord
-    main-function d = rw (ne-eqb h 0 some) (rw (ne-eqb (opAt (wordsOf code) h) PROC (λ z. d (e ∙ z))))
+    main-function p = rw (ne-eqb h 0 some) (rw (eq-eqb (opAt (wordsOf code) h) FUNC (sym e ∙ p)))
 
-    module _ (p : s ≡ PROC) (w : ℕ) (g : Got code (h * 2) w) where
+    module _ (d : s ≡ FUNC → ⊥) (w : ℕ) (g : Got code (h * 2) w) where
       pub main-asks : (w / 256 ≡ 0 → ⊥) → 0 ≡ mainWord (wordsOf code) h
       unfolding mainWord
-      main-asks d = rw (ne-eqb h 0 some) (rw (eq-eqb (opAt (wordsOf code) h) PROC (sym e ∙ p)) (rw (ne-eqb (valueAt (wordsOf code) h) 0 (λ z. d (ap (λ (x : ℕ). x / 256) g ∙ z)))))
+      main-asks f =
+          rw (ne-eqb h 0 some) (rw (ne-eqb (opAt (wordsOf code) h) FUNC (λ z. d (e ∙ z))) (rw (ne-eqb (valueAt (wordsOf code) h) 0 (λ z. f (ap (λ (x : ℕ). x / 256) g ∙ z)))))
 
       pub main-found : w / 256 ≡ 0 → h ≡ mainWord (wordsOf code) h
       unfolding mainWord
-      main-found z = rw (ne-eqb h 0 some) (rw (eq-eqb (opAt (wordsOf code) h) PROC (sym e ∙ p)) (rw (eq-eqb (valueAt (wordsOf code) h) 0 (sym (ap (λ (x : ℕ). x / 256) g) ∙ z))))
+      main-found z =
+          rw (ne-eqb h 0 some) (rw (ne-eqb (opAt (wordsOf code) h) FUNC (λ z. d (e ∙ z))) (rw (eq-eqb (valueAt (wordsOf code) h) 0 (sym (ap (λ (x : ℕ). x / 256) g) ∙ z))))
 
 pub is-main-law : (text code : List ℕ) (i w v : ℕ) (b : Bool) → Got code (i * 2 + 1) w → Got code (i * 2) v
     → b ≡ equalTexts (map folded (take (w % 65536 + v / 256 / 8192 - w % 65536) (drop (w % 65536) text))) (map folded (77 ∷ 65 ∷ 73 ∷ 78 ∷ []))

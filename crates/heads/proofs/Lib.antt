@@ -4,3 +4,6 @@ pub mod Given
 pub mod Frames
 pub mod Marking
 pub mod Announcing
+pub mod Heading
+pub mod Numbering
+pub mod Scoping

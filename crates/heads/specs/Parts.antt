@@ -6,7 +6,7 @@ use Prim.Native.Nat.{ℕ, _+_, _*_, _<_, _≤_}
 use lib.Dec.{eqb}
 use lib.ListN.{length, getD}
 use Rattle.paper.specs.Basics.{if_then_else_}
-use Rattle.paper.specs.Sorts.{bytes, equalTexts, closeParen, PROC, FUNC}
+use Rattle.paper.specs.Sorts.{bytes, equalTexts, closeParen, FUNC}
 use Rattle.paper.specs.Words.{Word}
 use Rattle.paper.specs.Trees.{Declared, Parameter, Routine, Module}
 use Rattle.paper.specs.Names.{sortIn, spelled}
@@ -157,7 +157,7 @@ pub record Takes (text code values : List ℕ) (h name main : ℕ) (values′ : 
 
 -- the word that a PROC without parameters begins with; 0 for any other
 unfoldable pub mainWord : (C : List ℕ) → (h : ℕ) → ℕ
-mainWord C h = if eqb h 0 then 0 else if eqb (opAt C h) PROC then (if eqb (valueAt C h) 0 then h else 0) else 0
+mainWord C h = if eqb h 0 then 0 else if eqb (opAt C h) FUNC then 0 else if eqb (valueAt C h) 0 then h else 0
 
 -- ---- the routines
 -- The module's routines stand from `at` on; the table has its data, and nothing was seen.

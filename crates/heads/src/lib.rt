@@ -234,7 +234,7 @@ fn main_of(code: &[u8], h: usize) -> usize
     if h == 0 {
         return 0;
     }
-    if sort(code, h) != PROC {
+    if sort(code, h) == FUNC {
         return 0;
     }
     if cells::get(code, h * 2) / VALUE != 0 {
