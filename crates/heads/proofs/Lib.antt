@@ -7,3 +7,5 @@ pub mod Announcing
 pub mod Heading
 pub mod Numbering
 pub mod Scoping
+pub mod Taking
+pub mod Walking
