@@ -1,6 +1,7 @@
 pub mod Cells
 pub mod Spans
 pub mod Steps
+pub mod Signatures
 pub mod Closed
 pub mod Signatures
 pub mod Holds

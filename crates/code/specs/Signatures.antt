@@ -38,6 +38,10 @@ module _ (C : List ℕ) where
   unfoldable pub signatureIn : (h : ℕ) → Signature
   signatureIn h = record { result = resultAt h; parameters = typesAt (valueAt C h) (firstParameter h) }
 
+  -- the first word behind the types that it is read from
+  abbrev pub signatureEnd : (h : ℕ) → ℕ
+  signatureEnd h = firstParameter h + 3 * valueAt C h
+
   -- the cells say this of one routine
   pub record SignatureAt (h : Head) (sig : Signature) : Type 0 where
     pub head-is : h ≡ headIn (h .word)
