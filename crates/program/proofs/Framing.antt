@@ -1,5 +1,5 @@
 -- What the walk has written of routines stays true while it writes elsewhere, and routines are walked one after another.
-use mathlib.Core.Path.{_≡_, refl, sym, ap, _∙_}
+use mathlib.Core.Path.{_≡_, refl, sym, ap, subst, _∙_}
 use mathlib.Core.Bool.{Bool}
 use mathlib.Core.List.{List, [], _∷_, _++_}
 use mathlib.Core.Option.{Option, none, some}
@@ -10,17 +10,19 @@ use lib.IntN.{ℤ, pos}
 use Rattle.paper.specs.Terms.{Memory}
 use Rattle.paper.specs.Trees.{RoutineList, Routine, Module}
 use Rattle.paper.specs.Names.{sortIn}
-use Rattle.paper.specs.Declarations.{routineScopes, moduleData}
+use Rattle.paper.specs.Declarations.{moduleWordLimit, routineScopes, moduleData}
 use Rattle.paper.specs.Checks.{isSome}
 use Rattle.code.specs.Cells.{opIn, placeIn, linkIn}
-use Rattle.code.specs.Steps.{Head}
-use Rattle.grammar.specs.Form.{Parses, HandlerAt, a-handler}
+use Rattle.code.specs.Steps.{Head, parts}
+use Rattle.grammar.specs.Form.{Parses, HandlerAt, a-handler, ModuleAt}
+use Rattle.grammar.proofs.Places.{declarations-grow}
 use Rattle.faults.specs.Parts.{memoryOf}
+use Rattle.faults.proofs.Expressions.{grows}
 use Rattle.links.specs.Resolved.{isLed}
 use Rattle.links.specs.Raw.{Ground, SameWords, RawRoutineList}
 use Rattle.links.proofs.Framing.{list-frame, same-part}
 use Rattle.links.proofs.Orders.{list-order}
-use Rattle.program.specs.Routines.{groundFor, wordsInAll, RawHandler, RawRoutine, RawRoutines, no-routine, a-routine}
+use Rattle.program.specs.Routines.{groundFor, wordsInAll, RawLines, RawHandler, RawRoutine, RawRoutines, no-routine, a-routine, RawModule}
 use Rattle.program.proofs.Orders.{lies}
 use Rattle.program.proofs.Chaining.{rise-on, stays-same, data-stay, chain-kept, starts-kept}
 
@@ -32,6 +34,11 @@ own-ground g m r a b c =
     ap (λ (k : ℕ). record { m = k; function = g .function; text = g .text; R = g .R; W = g .W; M = g .M; offset = g .offset }) a
     ∙ ap (λ (k : Bool). record { m = length (moduleData (g .W) m .words); function = k; text = g .text; R = g .R; W = g .W; M = g .M; offset = g .offset }) b
     ∙ ap (λ (k : Memory). record { m = length (moduleData (g .W) m .words); function = isSome (r .result); text = g .text; R = g .R; W = g .W; M = k; offset = g .offset }) c
+
+-- so a list that was walked on that ground is one of the routine's
+pub own-lines : (g : Ground) (C : List ℕ) (m : Module) (r : Routine) (l : RoutineList) (used at : ℕ) → g .m ≡ length (moduleData (g .W) m .words) → g .function ≡ isSome (r .result) → g .M ≡ memoryOf (g .W) m r
+    → RawRoutineList g (wordsInAll g m r) C l (routineScopes (g .W) m r) used at → RawLines g C m r l used at
+own-lines g C m r l used at a b c x = subst (λ (k : Ground). RawRoutineList k (wordsInAll g m r) C l (routineScopes (g .W) m r) used at) (own-ground g m r a b c) x
 
 -- ---- one routine
 module _ (g : Ground) (C D : List ℕ) (m : Module) (r : Routine) (low to : ℕ) (same : SameWords C D low to) where
@@ -108,3 +115,16 @@ pub routines-on : (g : Ground) (C : List ℕ) (m : Module) (rs : List Routine) (
     → RawRoutines g C m (rs ++ r ∷ []) (R ++ h ∷ []) at to
 routines-on g C m rs R at n to r h (no-routine e) w x = a-routine {r = r} {h = h} {at = at} (omega arith) x (no-routine refl)
 routines-on g C m rs R at n to r h (a-routine {r = q} {rs = qs} {h = j} {R = Q} {n = k} e y z) w x = a-routine {r = q} {h = j} {at = at} e y (routines-on g C m qs Q k n to r h z w x)
+
+-- all of them
+pub module-walked : (g : Ground) (C : List ℕ) (m : Module) (words : ℕ) (f : ModuleAt (sortIn (g .W)) (Parses (sortIn (g .W))) m words) → RawRoutines g C m (m .routines) (g .R) (f .begin) (f .end) → words ≤ parts
+    → length (moduleData (g .W) m .words) ≤ moduleWordLimit → RawModule g C m words
+module-walked g C m words f x few room = record {
+  begin = f .begin;
+  end = f .end;
+  routines = x;
+  behind = omega (arith, declarations-grow (sortIn (g .W)) (Parses (sortIn (g .W))) (grows (g .W)) (f .declared));
+  inside = omega (arith, f .after);
+  few = few;
+  room = room;
+}

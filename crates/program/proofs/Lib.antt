@@ -3,3 +3,4 @@ pub mod Chaining
 pub mod Orders
 pub mod Framing
 pub mod Holding
+pub mod Examples
