@@ -1,1 +1,4 @@
 pub mod Frames
+pub mod Judging
+pub mod Walking
+pub mod Whiles

@@ -552,14 +552,16 @@ pub fn list(
     let mut i = at;
     let mut n = used;
     loop {
-        if !starts_statement(simple::sort(code, i)) {
-            return Walked::Upto(i, n);
+        let s = simple::sort(code, i);
+        if starts_statement(s) {
+            let r = statement(text, code, values, k, n, i);
+            let Walked::Upto(m, u) = r else {
+                return r;
+            };
+            i = m;
+            n = u;
+            continue;
         }
-        let r = statement(text, code, values, k, n, i);
-        let Walked::Upto(m, u) = r else {
-            return r;
-        };
-        i = m;
-        n = u;
+        return Walked::Upto(i, n);
     }
 }
