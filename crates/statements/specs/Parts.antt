@@ -198,12 +198,17 @@ pub record Thened (text code values after values′ : List ℕ) (k : Setting) (u
       code after values values′ i (g .to) (used + (forsInList (g .b) + forsInArms (g .rest) + forsInList (g .o)))
       (RawStatement (groundOf (g .around)) (g .around .known .n) (wordsOf after) (fullIf i (arm (g .e) (g .b) (g .rest)) (g .o)) (g .around .known .S) used i (g .to)) r
 
--- The list of the THEN at t is closed by the word e, which has this sort; its arm begins with the word c.
+-- Where the list of the last THEN goes on if its condition does not hold: behind ELSE, or at ENDIF.
+pub record BehindElse (code : List ℕ) (e r : ℕ) : Type 0 where
+  pub at-else : opAt (wordsOf code) e ≡ ELSE → r ≡ e + 1
+  pub elsewhere : (opAt (wordsOf code) e ≡ ELSE → ⊥) → r ≡ e
+  pub small : r < 65536
+
+-- The list of the THEN at t is closed by the word e; its arm begins with the word c.
 pub record ArmEnded (before after : List ℕ) (op c t e : ℕ) : Type 0 where
   pub mid : List ℕ
   pub link : ℕ
-  pub at-else : opAt (wordsOf before) e ≡ ELSE → link ≡ e + 1
-  pub elsewhere : (opAt (wordsOf before) e ≡ ELSE → ⊥) → link ≡ e
+  pub behind : BehindElse before e link
   pub then-is : Linked before mid t aThen (t + 1) link
   pub arm-is : Linked mid after c op t e
 
