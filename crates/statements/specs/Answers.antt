@@ -30,8 +30,7 @@ pub record Outside (C D : List ℕ) (at to : ℕ) : Type 0 where
 -- ---- what is asked
 -- The check comes to the words from `at` up to `to`, with `used` words of the routine taken so far: names mean words of these, and of those that are constants the value store
 -- has the values. (The routine has more words in the end, which `around` knows; constant expressions are worked out before there are so many.)
-pub record Here (text code values : List ℕ) (k : Setting) (used at to : ℕ) : Type 0 where
-  pub around : Around text values
+pub record Here {text values : List ℕ} (around : Around text values) (code : List ℕ) (k : Setting) (used at to : ℕ) : Type 0 where
   pub tells : Tells k (around .K)
   pub few : used ≤ callWords
   pub within : (i : ℕ) → IsName (around .known .W) i → Within (around .known .m) used (meaning (around .known .S) (spelled (around .known .W) i))
@@ -43,20 +42,22 @@ pub record Here (text code values : List ℕ) (k : Setting) (used at to : ℕ) :
 -- a statement from `at` on
 pub record Stands (text code values : List ℕ) (k : Setting) (used at : ℕ) : Type 0 where
   pub to : ℕ
-  pub here : Here text code values k used at to
+  pub around : Around text values
+  pub here : Here around code k used at to
   pub d : ℕ
   pub s : Statement
-  pub is : StatementAt (sortIn (here .around .known .W)) (Parses (sortIn (here .around .known .W))) d s at to
-  pub room : used + forsIn s ≤ here .around .known .n
+  pub is : StatementAt (sortIn (around .known .W)) (Parses (sortIn (around .known .W))) d s at to
+  pub room : used + forsIn s ≤ around .known .n
 
 -- a list, up to the word that closes it
 pub record Lists (text code values : List ℕ) (k : Setting) (used at : ℕ) : Type 0 where
   pub to : ℕ
-  pub here : Here text code values k used at to
+  pub around : Around text values
+  pub here : Here around code k used at to
   pub d : ℕ
   pub l : Statements
-  pub is : ListAt (sortIn (here .around .known .W)) (Parses (sortIn (here .around .known .W))) d l at to
-  pub room : used + forsInList l ≤ here .around .known .n
+  pub is : ListAt (sortIn (around .known .W)) (Parses (sortIn (around .known .W))) d l at to
+  pub room : used + forsInList l ≤ around .known .n
 
 -- ---- answers
 -- A piece with these faults, from `at` up to `to`, has none: the next word is `to`, so many words of the routine are taken behind it, what is written holds, nothing else is changed.
@@ -80,21 +81,21 @@ pub record Answer (fs : List Fault) (before after values values′ : List ℕ) (
 
 abbrev pub StatementAnswer : {text code values : List ℕ} {k : Setting} {used at : ℕ} → (g : Stands text code values k used at) → (after values′ : List ℕ) → Walked → Type 0
 StatementAnswer {code = code} {values = values} {used = used} {at = at} g after values′ r =
-    Answer (statementFaults (g .here .around .known .W) (g .here .around .K) (g .here .around .M) (g .s) (g .here .around .known .S) used) code after values values′ at (g .to) (used + forsIn (g .s))
-    (RawStatement (groundOf (g .here .around)) (g .here .around .known .n) (wordsOf after) (g .s) (g .here .around .known .S) used at (g .to)) r
+    Answer (statementFaults (g .around .known .W) (g .around .K) (g .around .M) (g .s) (g .around .known .S) used) code after values values′ at (g .to) (used + forsIn (g .s))
+    (RawStatement (groundOf (g .around)) (g .around .known .n) (wordsOf after) (g .s) (g .around .known .S) used at (g .to)) r
 
 pub record Stated (text code values after values′ : List ℕ) (k : Setting) (used at : ℕ) (r : Walked) : Type 0 where
   pub is : (g : Stands text code values k used at) → StatementAnswer g after values′ r
 
 pub record Listed (text code values after values′ : List ℕ) (k : Setting) (used at : ℕ) (r : Walked) : Type 0 where
   pub is : (g : Lists text code values k used at)
-      → Answer (listFaults (g .here .around .known .W) (g .here .around .K) (g .here .around .M) (g .l) (g .here .around .known .S) used) code after values values′ at (g .to) (used + forsInList (g .l))
-      (RawList (groundOf (g .here .around)) (g .here .around .known .n) (wordsOf after) (g .l) (g .here .around .known .S) used at (g .to)) r
+      → Answer (listFaults (g .around .known .W) (g .around .K) (g .around .M) (g .l) (g .around .known .S) used) code after values values′ at (g .to) (used + forsInList (g .l))
+      (RawList (groundOf (g .around)) (g .around .known .n) (wordsOf after) (g .l) (g .around .known .S) used at (g .to)) r
 
 -- ---- a statement by its first word
 pub record Begins (sort : ℕ) (text code values : List ℕ) (k : Setting) (used at : ℕ) : Type 0 where
   pub stands : Stands text code values k used at
-  pub here-is : sortIn (stands .here .around .known .W) at ≡ sort
+  pub here-is : sortIn (stands .around .known .W) at ≡ sort
 
 pub record Begun (sort : ℕ) (text code values after values′ : List ℕ) (k : Setting) (used at : ℕ) (r : Walked) : Type 0 where
   pub is : (g : Begins sort text code values k used at) → StatementAnswer (g .stands) after values′ r

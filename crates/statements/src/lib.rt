@@ -12,7 +12,7 @@ ghost use Rattle.cells.specs.Words.{wordsOf};
 ghost use Rattle.code.specs.Cells.{headAt, placeAt};
 ghost use Rattle.names.specs.Promises.{tailWith, Rewritten};
 ghost use Rattle.statements.specs.Answers.{Stands, Stated, Lists, Listed, Begins, Begun};
-ghost use Rattle.statements.specs.Parts.{Plain, Plainly, WhileEnded, Bounds, Bounded, Steps, Stepped, ForHeads, ForHeaded, ForEnded, Compacts, Compacted, Thens, Thened, ArmEnded, Elses, Elsed, CaseValues, CaseValued, Chained, ValuesLinked, Defaults, Defaulted, Chooses, Chosen};
+ghost use Rattle.statements.specs.Parts.{Plain, Plainly, WhileEnded, Bounds, Bounded, Steps, Stepped, ForHeads, ForHeaded, ForEnded, Compacts, Compacted, Thens, Thened, BehindElse, ArmEnded, Elses, Elsed, CaseValues, CaseValued, Chained, ValuesLinked, Defaults, Defaulted, Chooses, Chosen};
 
 pub enum Walked {
     // the word after it, and how many words of the routine are taken
@@ -236,15 +236,23 @@ fn compact_if(
     }
 }
 
+// Where the list of a THEN goes on that is closed by the word e, unless an ELSEIF does that: behind an ELSE.
+fn behind_else(code: &[u8], e: usize) -> usize
+    requires { ⌜ (e < 8192) × (65536 ≤ length (now code)) ⌝ }
+    ensures { λ r. ⌜ BehindElse (now (code .entry)) e r ⌝ }
+{
+    if simple::sort(code, e) == sorts::ELSE {
+        return e + 1;
+    }
+    e
+}
+
 // The list of the THEN at t is closed by the word e. Its arm begins with the word c.
 fn arm_end(code: &mut [u8], op: u32, c: usize, t: usize, e: usize)
     requires { ⌜ (op < 256) × (c < t) × (t < e) × (e < 8192) × (65536 ≤ length (now code)) ⌝ }
     ensures { λ _. ⌜ ArmEnded (now (code .entry)) (now (code .exit)) op c t e ⌝ }
 {
-    let mut link = e;
-    if simple::sort(code, e) == sorts::ELSE {
-        link = e + 1;
-    }
+    let link = behind_else(code, e);
     simple::set_word(code, t, THEN, (t + 1) as u32, link);
     simple::set_word(code, c, op, t as u32, e);
 }
@@ -552,14 +560,16 @@ pub fn list(
     let mut i = at;
     let mut n = used;
     loop {
-        if !starts_statement(simple::sort(code, i)) {
-            return Walked::Upto(i, n);
+        let s = simple::sort(code, i);
+        if starts_statement(s) {
+            let r = statement(text, code, values, k, n, i);
+            let Walked::Upto(m, u) = r else {
+                return r;
+            };
+            i = m;
+            n = u;
+            continue;
         }
-        let r = statement(text, code, values, k, n, i);
-        let Walked::Upto(m, u) = r else {
-            return r;
-        };
-        i = m;
-        n = u;
+        return Walked::Upto(i, n);
     }
 }
