@@ -1,6 +1,8 @@
 pub mod Cells
 pub mod Spans
 pub mod Steps
+pub mod Signatures
 pub mod Closed
+pub mod Signatures
 pub mod Holds
 pub mod Windows
