@@ -1,2 +1,3 @@
 pub mod Passing
 pub mod Parting
+pub mod Laying

@@ -2,7 +2,7 @@
 use mathlib.Core.Path.{_≡_}
 use mathlib.Core.List.{List, [], map}
 use mathlib.Core.Option.{Option, none, some}
-use Prim.Native.Nat.{ℕ, _<_}
+use Prim.Native.Nat.{ℕ, _<_, _≤_}
 use lib.ListN.{length, getD, take}
 use mir.Syntax.{w32}
 use mir.Val.{toZ}
@@ -11,7 +11,7 @@ use Rattle.paper.specs.Expressions.{got}
 use Rattle.paper.specs.Form.{formed}
 use Rattle.paper.specs.Names.{sortIn}
 use Rattle.paper.specs.Types.{Fault}
-use Rattle.paper.specs.Declarations.{moduleData}
+use Rattle.paper.specs.Declarations.{moduleData, signatures}
 use Rattle.paper.specs.Checks.{faults, mainOf}
 use Rattle.paper.specs.Answer.{offsetOf}
 use Rattle.cells.specs.Words.{wordsOf}
@@ -22,7 +22,15 @@ use Rattle.load.specs.Layout.{wordsIn}
 use Rattle.load.specs.Loads.{Loads}
 use Rattle.faults.specs.First.{First}
 use Rattle.links.specs.Raw.{Ground}
-use Rattle.program.specs.Routines.{RawModule}
+use Rattle.program.specs.Routines.{RawRoutines, RawModule}
+use Rattle.code.specs.Signatures.{Heads}
+use Rattle.grammar.specs.Form.{Parses, RoutinesAt}
+use Rattle.heads.specs.Trees.{headsFor}
+use Rattle.simple.specs.Around.{Unread}
+use Rattle.routines.specs.declared.Walked.{Walked}
+use Rattle.routines.specs.declared.Walked.the-variants.{Upto}
+use Rattle.routines.specs.declared.Walked.the-variants as routines
+use Rattle.routines.specs.Answers.{ModuleFilled, groundOf}
 use Rattle.checker.specs.declared.Found.{Found}
 use Rattle.checker.specs.declared.Found.the-variants.{Main, NoMain, Faulty}
 
@@ -49,7 +57,7 @@ pub record Named (text : List ℕ) (m : Module) (count main : ℕ) (code′ valu
   pub g : Ground
   pub text-is : g .text ≡ text
   pub words-are : g .W ≡ wordsIn text
-  pub offset-is : g .offset ≡ offsetOf text (wordsIn text)
+  pub offset-is : (i : ℕ) → i < length (wordsIn text) → g .offset i ≡ offsetOf text (wordsIn text) i
   pub number : ℕ
   pub main-is : mainOf (wordsIn text) m ≡ some number
   pub there : number < length (g .R)
@@ -69,6 +77,31 @@ Finds text m (Main count main) code′ values′ = Named text m count main code�
 Finds text m NoMain code′ values′ = Nameless text m
 Finds text m (Faulty number at) code′ values′ = First (record { number = number; at = at }) (faults (wordsIn text) m)
 
+-- ---- the routines
+-- The module's data are declared, and break no rule; its routines stand from `at` up to the word ENDMODULE, which is `end`.
+pub record RoutinesStand (text code values : List ℕ) (at end : ℕ) : Type 0 where
+  pub m : Module
+  pub form : RoutinesAt (sortIn (wordsIn text)) (Parses (sortIn (wordsIn text))) (m .routines) at end
+  pub none : moduleData (wordsIn text) m .faults ≡ []
+  pub filled : ModuleFilled (wordsIn text) m values
+  pub unread : Unread (wordsIn text) code at end
+  pub heads : Heads (wordsOf code) (headsFor (m .routines)) (signatures (wordsIn text) m 0 (m .routines))
+  pub room : storeBytes ≤ length code
+
+-- No rule is broken in them, and the walk has left in the code store what it leaves of each.
+pub record RoutinesDone {text code values : List ℕ} {at end : ℕ} (b : RoutinesStand text code values at end) (code′ values′ : List ℕ) : Type 0 where
+  pub clear : faults (wordsIn text) (b .m) ≡ []
+  pub raw : RawRoutines (groundOf text (wordsIn text) (b .m)) (wordsOf code′) (b .m) (b .m .routines) (headsFor (b .m .routines)) at end
+  pub filled : ModuleFilled (wordsIn text) (b .m) values′
+
+unfoldable pub SaysRoutines : {text code values : List ℕ} {at end : ℕ} (b : RoutinesStand text code values at end) (code′ values′ : List ℕ) → Walked → Type 0
+SaysRoutines b code′ values′ (Upto next) = RoutinesDone b code′ values′
+SaysRoutines {text = text} b code′ values′ (routines.Faulty number word) = First (record { number = number; at = word }) (faults (wordsIn text) (b .m))
+
+pub record RoutinesWalk (text code values code′ values′ : List ℕ) (at end : ℕ) (r : Walked) : Type 0 where
+  pub is : (b : RoutinesStand text code values at end) → SaysRoutines b code′ values′ r
+
+-- ---- the module
 pub record Walks (text code values : List ℕ) (r : Found) (code′ values′ : List ℕ) : Type 0 where
   pub finds : (m : Module) → formed (sortIn (wordsIn text)) ≡ got m → Finds text m r code′ values′
   pub code-long : length code′ ≡ length code

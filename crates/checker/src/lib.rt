@@ -1,9 +1,11 @@
 // The checker: from a text to a code store that is ready to run, or the first rule broken and its place.
+use declarations::Walked as Declared;
 use form::Verdict;
 use load::Loaded;
+use routines::Walked;
 ghost use Rattle.paper.specs.Answer.{verdict};
 ghost use Rattle.checker.specs.Checks.{Judges, Checks};
-ghost use Rattle.checker.specs.Walks.{Laid, Formed, Walks};
+ghost use Rattle.checker.specs.Walks.{Laid, Formed, RoutinesStand, RoutinesWalk, Walks};
 ghost use Rattle.checker.specs.Passes.{Whole, Clean, Settles, Formal};
 
 // How many words a store has, and their bytes.
@@ -34,12 +36,50 @@ enum Found {
     Faulty(u32, usize),
 }
 
-// A stub, until the routines stand: only its contract counts.
+// The word behind "MODULE name".
+const FIRST: usize = 2;
+
+// The routines one after another, up to the word ENDMODULE at `end`.
+fn all_routines(text: &[u8], code: &mut [u8], values: &mut [u8], at: usize, end: usize) -> Walked
+    requires { ⌜ RoutinesStand (now text) (now code) (now values) at end ⌝ }
+    ensures { λ r. ⌜ RoutinesWalk (now (text .entry)) (now (code .entry)) (now (values .entry)) (now (code .exit)) (now (values .exit)) at end r ⌝ }
+{
+    let mut h = at;
+    let mut k = 0;
+    while h < end {
+        let r = routines::routine(text, code, values, k, h);
+        match r {
+            Walked::Faulty(_, _) => return r,
+            Walked::Upto(next) => {
+                h = next;
+                k += 1;
+            }
+        }
+    }
+    Walked::Upto(h)
+}
+
 fn names_and_types(text: &[u8], code: &mut [u8], values: &mut [u8], words: usize) -> Found
     requires { ⌜ Formed (now text) (now code) (now values) words ⌝ }
     ensures { λ r. ⌜ Walks (now (text .entry)) (now (code .entry)) (now (values .entry)) r (now (code .exit)) (now (values .exit)) ⌝ }
 {
-    Found::NoMain
+    let main = heads::read(text, code, values);
+    let d = declarations::module_data(code, values, FIRST);
+    match d {
+        Declared::Faulty(number, word) => Found::Faulty(number, word),
+        Declared::Upto(at, count) => {
+            let r = all_routines(text, code, values, at, words - 1);
+            match r {
+                Walked::Faulty(number, word) => Found::Faulty(number, word),
+                Walked::Upto(_) => {
+                    if main == 0 {
+                        return Found::NoMain;
+                    }
+                    Found::Main(count as usize, main)
+                }
+            }
+        }
+    }
 }
 
 // ---- the passes

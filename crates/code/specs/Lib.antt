@@ -3,6 +3,5 @@ pub mod Spans
 pub mod Steps
 pub mod Signatures
 pub mod Closed
-pub mod Signatures
 pub mod Holds
 pub mod Windows
