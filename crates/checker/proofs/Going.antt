@@ -16,7 +16,7 @@ use Rattle.paper.specs.Types.{Fault}
 use Rattle.paper.specs.Declarations.{Signature, dataTexts, moduleData, signatures}
 use Rattle.paper.specs.Checks.{faults}
 use Rattle.cells.specs.Words.{wordsOf}
-use Rattle.code.specs.Steps.{Head}
+use Rattle.code.specs.Steps.{Head, numbered}
 use Rattle.code.specs.Signatures.{Heads}
 use Rattle.names.specs.Promises.{storeBytes}
 use Rattle.grammar.specs.Form.{Parses, RepeatedAt, none-starts, one-starts, RoutineAt, RoutinesAt}
@@ -71,6 +71,7 @@ pub record Going {text code₀ values₀ : List ℕ} {at end : ℕ} (b : Routine
 pub record Invariant (text code₀ values₀ : List ℕ) (at end : ℕ) (code values : List ℕ) (h k : ℕ) : Type 0 where
   pub stand : RoutinesStand text code₀ values₀ at end
   pub long : length code ≡ length code₀
+  pub values-long : length values ≡ length values₀
   pub going : (b : RoutinesStand text code₀ values₀ at end) → Going b code values h k
 
 pub going-begins : (text code values : List ℕ) (at end : ℕ) → RoutinesStand text code values at end → Invariant text code values at end code values at 0
@@ -78,6 +79,7 @@ unfolding earlierOf headsFor
 going-begins text code values at end s = record {
   stand = s;
   long = refl;
+  values-long = refl;
   going = λ b. record {
     left = record {
       stand = b .form;
@@ -90,6 +92,10 @@ going-begins text code values at end s = record {
     few = omega arith;
   };
 }
+
+head-word : (W : ℕ → ℕ) (q : Routine) (w n : ℕ) → RoutineAt W (Parses W) q w n → headFor q .word ≡ w
+unfolding headFor
+head-word W q w n f = word-at W q w n f
 
 -- ---- the routine that comes
 record Next (W : List Word) (rs : List Routine) (h end : ℕ) : Type 0 where
@@ -125,6 +131,10 @@ module _ {text code₀ values₀ : List ℕ} {at end : ℕ} (b : RoutinesStand t
   next-on : h < next .n
   next-on = routine-grows (sortIn W) (Parses (sortIn W)) (grows W) (next .r) h (next .n) (next .one)
 
+  ground-words : groundOf text W (b .m) .W ≡ W
+  unfolding groundOf
+  ground-words = refl
+
   begins : Begins text code values k h
   begins = record {
     stands = record {
@@ -136,13 +146,80 @@ module _ {text code₀ values₀ : List ℕ} {at end : ℕ} (b : RoutinesStand t
       to = next .n;
       form = next .one;
       nth-is = next .is;
-      number-is = ap (λ (w : ℕ). _) (word-at (sortIn W) (next .r) h (next .n) (next .one)) ∙ number;
+      number-is = subst (λ (w : ℕ). numbered (headsFor rs) w ≡ k) (word-at (sortIn W) (next .r) h (next .n) (next .one)) (numbered-at (sortIn W) (b .form) k (next .r) (next .rest) (next .is));
       earlier-is = refl;
       quoted = strings-quoted text;
       sorts = sorts-low text;
     };
     filled = g .filled;
     unread = unread-less W code h (next .one .end) end (omega (arith, next .one .after, next-inside)) (g .unread);
-    calls = λ D s. calls-kept W (b .m) (wordsOf code) D at end k h (next .n) (next .r) (next .rest) (b .form) (next .is) (next .one) (g .heads) s;
+    calls = λ D s. calls-kept W (b .m) (wordsOf code) D (groundOf text W (b .m)) at end k h (next .n) (next .r) (next .rest) _ ground-words (g .raw) (next .is) (next .one) (next .more) (g .heads) s;
     room = omega (arith, b .room, long);
   }
+
+  module _ (code′ values′ : List ℕ) (r : Walked) (c : Checks text code values code′ values′ k h r) where
+    says : (q : Walked) → r ≡ q → Says begins code′ values′ q
+    says q e = subst (λ (x : Walked). Says begins code′ values′ x) e (c .is begins)
+
+    found : (number word : ℕ) → r ≡ routines.Faulty number word → First (record { number = number; at = word }) (faults W (b .m))
+    unfolding Says begins
+    found number word e = found-in-left W (b .m) (subst (λ (x : List Routine). Left W (b .m) (earlierOf W (dataTexts W (b .m .declared)) k rs) k x h end) (next .is) (g .left)) (next .one) (next .more) (says _ e)
+
+    going-on : length code′ ≡ length code → (n : ℕ) → r ≡ routines.Upto n → Going b code′ values′ n (k + 1)
+    unfolding Says begins
+    going-on kept n e =
+        let s = says _ e in
+        let z : k + 1 ≡ suc k = add-one k in
+        let t : n ≡ next .n = s .goes .next-is in
+        let d : drop (suc k) rs ≡ next .rest = drop-next rs k (next .r) (next .rest) (next .is) in
+        let q : earlierOf W (dataTexts W (b .m .declared)) (suc k) rs ≡ spelled W (next .r .name) ∷ earlierOf W (dataTexts W (b .m .declared)) k rs = earlier-next W (dataTexts W (b .m .declared)) k rs (next .r) (next .rest) (next .is) in
+        let same : SameWords (wordsOf code) (wordsOf code′) at h = record { heads = λ i a l. sym (s .goes .below (i * 2) (omega arith)); tails = λ i a l. sym (s .goes .below (i * 2 + 1) (omega arith)) } in
+        let old = routines-frame (groundOf text W (b .m)) (wordsOf code) (wordsOf code′) (b .m) (take k rs) (headsFor (take k rs)) at h same (g .raw) in
+        let all = routines-on (groundOf text W (b .m)) (wordsOf code′) (b .m) (take k rs) (headsFor (take k rs)) at h (next .n) (next .r) (headFor (next .r)) old (head-word (sortIn W) (next .r) h (next .n) (next .one)) (s .goes .raw) in
+        let u = left-on W (b .m) (subst (λ (x : List Routine). Left W (b .m) (earlierOf W (dataTexts W (b .m .declared)) k rs) k x h end) (next .is) (g .left)) (next .more) (s .none-in-head) (s .goes .none) in
+        rw (z, t) (record {
+          left = rw (d, q) u;
+          raw = rw (take-next rs k (next .r) (next .rest) (next .is)) (rw (heads-more (take k rs) (next .r)) all);
+          filled = s .goes .filled;
+          unread = unread-kept W code code′ h (next .n) end (omega (arith, next-on)) (s .goes .above) kept (g .unread);
+          heads = begins .calls (wordsOf code′) (s .goes .spares);
+          few = omega (arith, g .few, next-on);
+        })
+
+-- ---- for the loop
+module _ (text code₀ values₀ : List ℕ) (at end : ℕ) (code values : List ℕ) (h k : ℕ) (i : Invariant text code₀ values₀ at end code values h k) where
+  module _ (l : h < end) where
+    pub k-small : k < 8192
+    k-small = omega (arith, i .going (i .stand) .few, i .stand .unread .loaded .last)
+
+    pub routine-begins : Begins text code values k h
+    routine-begins = begins (i .stand) code values h k (i .long) (i .going (i .stand)) l
+
+    module _ (code′ values′ : List ℕ) (r : Walked) (c : Checks text code values code′ values′ k h r) where
+      pub routine-found : (number word : ℕ) → r ≡ routines.Faulty number word → RoutinesWalk text code₀ values₀ code′ values′ at end r
+      unfolding SaysRoutines
+      routine-found number word e = record { is = λ b. subst (λ (x : Walked). SaysRoutines b code′ values′ x) (sym e) (found b code values h k (i .long) (i .going b) l code′ values′ r c number word e) }
+
+      pub routine-done : (n : ℕ) → r ≡ routines.Upto n → length code′ ≡ length code → length values′ ≡ length values → Invariant text code₀ values₀ at end code′ values′ n (k + 1)
+      routine-done n e q v = record { stand = i .stand; long = q ∙ i .long; values-long = v ∙ i .values-long; going = λ b. going-on b code values h k (i .long) (i .going b) l code′ values′ r c q n e }
+
+      pub routine-less : (n : ℕ) → r ≡ routines.Upto n → end - n < end - h
+      unfolding Says begins
+      routine-less n e =
+          let s = says (i .stand) code values h k (i .long) (i .going (i .stand)) l code′ values′ r c _ e in
+          omega (arith, next-on (i .stand) code values h k (i .long) (i .going (i .stand)) l, s .goes .next-is)
+
+  pub routines-done : end ≤ h → RoutinesWalk text code₀ values₀ code values at end (routines.Upto h)
+  unfolding SaysRoutines
+  routines-done l = record { is = λ b. done b (i .going b) }
+    where
+      done : (b : RoutinesStand text code₀ values₀ at end) → Going b code values h k → RoutinesDone b code values
+      done b g =
+          let rs = b .m .routines in
+          let n = none-left (wordsIn text) (drop k rs) h end (g .left .stand) l in
+          let all : take k rs ≡ rs = take-all k rs (drop-all rs k (n .0)) in
+          record {
+            clear = left-end (wordsIn text) (b .m) (subst (λ (x : List Routine). Left (wordsIn text) (b .m) (earlierOf (wordsIn text) (dataTexts (wordsIn text) (b .m .declared)) k (b .m .routines)) k x h end) (n .0) (g .left));
+            raw = rw (n .1) (subst (λ (x : List Routine). RawRoutines (groundOf text (wordsIn text) (b .m)) (wordsOf code) (b .m) x (headsFor x) at h) all (g .raw));
+            filled = g .filled;
+          }

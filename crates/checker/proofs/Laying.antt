@@ -8,7 +8,7 @@ use lib.Dec.{eqb}
 use lib.ListN.{length, getD, take, drop, List·getD-eq-default}
 use borrow.Author.Tests.{eqb-false}
 use Rattle.laws.proofs.Tests.{by-less}
-use Rattle.paper.specs.Sorts.{NAME, NUMBER, STRING}
+use Rattle.paper.specs.Sorts.{NAME, NUMBER, STRING, ENDMODULE}
 use Rattle.paper.specs.Words.{Word, reading}
 use Rattle.paper.specs.Trees.{Module}
 use Rattle.paper.specs.Expressions.{got, isType, startsRoutine}
@@ -52,10 +52,21 @@ module _ (text : List ℕ) where
   strings-quoted i e =
       let h = inside i STRING (omega arith) e in
       let g = reading-good text i h in
-      record { covers = g .lies .is; inside = g .lies .inside; least = g .sizes .strings e; most = g .sizes .string-most e }
+      let z : nth W i .place - 0 ≡ nth W i .place = omega arith in
+      record { covers = g .lies .is ∙ ap (λ (k : ℕ). take (length (nth W i .covers)) (drop k text)) z; inside = omega (arith, g .lies .inside); least = g .sizes .strings e; most = g .sizes .string-most e }
 
   pub numbers-small : (i : ℕ) → sortIn W i ≡ NUMBER → nth W i .value ≤ largest
   numbers-small i e = reading-good text i (inside i NUMBER (omega arith) e) .sizes .values
+
+  -- All words are those of the module.
+  pub module-words : (m : Module) (f : Stands (sortIn W) (Parses (sortIn W)) m) → length W ≡ f .form .end + 1
+  unfolding sortIn
+  module-words m f =
+      let a = inside (f .form .end) ENDMODULE (omega arith) (f .form .closes) in
+      by-less (f .words) (length W) (λ h. absurd (omega (arith, real (f .words) h, f .form .nothing))) (λ h. omega (arith, f .form .after))
+    where
+      real : (i : ℕ) → i < length W → 0 < sortIn W i
+      real i h = reading-good text i h .sizes .real
 
 -- ---- cells
 -- words whose values are not changed by what is read of the heads
@@ -91,7 +102,7 @@ module _ (text code values : List ℕ) (words : ℕ) (l : Laid text code values 
       high : (sort v : ℕ) → sort < 256 → (sort + 256 * v) / 256 ≡ v
       high sort v b = omega arith
 
-  module _ (code′ : List ℕ) (from : ℕ) (k : Marked code code′ from words) where
+  module _ (code′ : List ℕ) (from upto : ℕ) (k : Marked code code′ from upto) where
     sort-of : (i : ℕ) → i < length (wordsIn text) → opAt (wordsOf code) i ≡ sortIn (wordsIn text) i
     sort-of i h = loads-sorts text (l .code₀) (l .values₀) (l .answer) code values (l .loads) i h
 

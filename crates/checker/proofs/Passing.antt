@@ -47,6 +47,9 @@ use Rattle.links.specs.Resolved.{Resolved}
 use Rattle.links.specs.Raw.{Ground}
 use Rattle.program.specs.Routines.{RawModule}
 use Rattle.program.proofs.Holding.{module-holds}
+use Rattle.grammar.proofs.Reading.{formed-parses}
+use Rattle.checker.proofs.Laying.{module-words}
+use Rattle.checker.proofs.Placing.{offsets-same}
 use Rattle.checker.specs.declared.Checked.{Checked}
 use Rattle.checker.specs.declared.Checked.the-variants as checked
 use Rattle.checker.specs.declared.Found.{Found}
@@ -138,10 +141,12 @@ module _ (text code values : List ℕ) (words : ℕ) (f : Formed text code value
           let n = named in
           let h : Holds (n .g .text) (n .g .R) (n .g .offset) (wordsOf code″) (programOf (n .g .W) (f .m))
           = module-holds (n .g) (f .m) code′ code″ (length W) (n .raw) (subst (Resolved code′ code″) (f .laid .many) resolved) in
-          rw (take-all storeBytes code″ (omega (arith, code-whole)))
-          (subst (λ (t : List ℕ). Holds t (n .g .R) (offsetOf text W) (wordsOf code″) P) (n .text-is)
-          (subst (λ (o : ℕ → ℕ). Holds (n .g .text) (n .g .R) o (wordsOf code″) P) (n .offset-is)
-          (subst (λ (x : List Word). Holds (n .g .text) (n .g .R) (n .g .offset) (wordsOf code″) (programOf x (f .m))) (n .words-are) h)))
+          let k : Holds text (n .g .R) (n .g .offset) (wordsOf code″) P
+              = subst (λ (t : List ℕ). Holds t (n .g .R) (n .g .offset) (wordsOf code″) P) (n .text-is)
+              (subst (λ (x : List Word). Holds (n .g .text) (n .g .R) (n .g .offset) (wordsOf code″) (programOf x (f .m))) (n .words-are) h) in
+          let at = formed-parses (sortIn W) (f .m) (f .form) .form in
+          let q : length W ≡ at .end + 1 = module-words text (f .m) (formed-parses (sortIn W) (f .m) (f .form)) in
+          rw (take-all storeBytes code″ (omega (arith, code-whole))) (offsets-same (length W) (n .g .offset) (offsetOf text W) (n .offset-is) W (f .m) text (n .g .R) (wordsOf code″) (at .begin) (at .end) (at .routines) (omega arith) k)
 
       words-here : map (toZ w32) (take count (wordsOf values″)) ≡ moduleData W (f .m) .words
       words-here =

@@ -31,15 +31,15 @@ number-range (s ∷ T) n text =
     wider (inl e) = inl e
     wider (inr h) = inr (omega arith, omega arith)
 
-name-small : (text : List ℕ) → (nameSort text < 128) × (nameSort text ≡ STRING → ⊥)
+name-small : (text : List ℕ) → (nameSort text < 128) × (nameSort text ≡ STRING → ⊥) × (0 < nameSort text)
 unfolding nameSort reserved
 name-small text = go (numberIn reserved 32 text) refl (number-range reserved 32 text)
   where
     go : (x : ℕ) → numberIn reserved 32 text ≡ x → (numberIn reserved 32 text ≡ 0) ⊎ ((32 ≤ numberIn reserved 32 text) × (numberIn reserved 32 text < 32 + length reserved))
-        → (nameSort text < 128) × (nameSort text ≡ STRING → ⊥)
-    go zero e h = rw (e, nameSort) (omega arith, λ q. omega arith)
+        → (nameSort text < 128) × (nameSort text ≡ STRING → ⊥) × (0 < nameSort text)
+    go zero e h = rw (e, nameSort) (omega arith, (λ q. omega arith), omega arith)
     go (suc x) e (inl z) = absurd (omega arith)
-    go (suc x) e (inr h) = rw (e, nameSort) (omega arith, λ q. omega arith)
+    go (suc x) e (inr h) = rw (e, nameSort) (omega arith, (λ q. omega arith), omega arith)
 
 sign-small : (text : List ℕ) (s : ℕ) → signSort text ≡ suc s → (3 ≤ s) × (s < 127)
 unfolding signSort signs
@@ -51,6 +51,8 @@ sign-small text s e = go (number-range signs 4 text)
 
 -- ---- a word
 pub record Sizes (sort size value : ℕ) : Type 0 where
+  -- a word's sort is not that of nothing
+  pub real : 0 < sort
   pub sorts : sort < 128
   pub values : value ≤ largestNumber
   pub names : sort ≡ NAME → size ≤ nameLimit
@@ -63,8 +65,8 @@ abbrev Sized : List ℕ → Scan → Type 0
 Sized l (word s n v) = Sizes s (length (take n l)) v
 Sized l (refused k a) = Unit {0}
 
-no-string : (s n v : ℕ) (l : List ℕ) → s < 128 → (s ≡ STRING → ⊥) → v ≤ largestNumber → (s ≡ NAME → n ≤ nameLimit) → Sizes s (length (take n l)) v
-no-string s n v l a b c d = record { sorts = a; values = c; names = λ e. simp length-take (omega (arith, d e)); strings = λ e. absurd (b e); string-most = λ e. absurd (b e) }
+no-string : (s n v : ℕ) (l : List ℕ) → 0 < s → s < 128 → (s ≡ STRING → ⊥) → v ≤ largestNumber → (s ≡ NAME → n ≤ nameLimit) → Sizes s (length (take n l)) v
+no-string s n v l z a b c d = record { real = z; sorts = a; values = c; names = λ e. simp length-take (omega (arith, d e)); strings = λ e. absurd (b e); string-most = λ e. absurd (b e) }
 
 -- A string that ends at k of the bytes behind its first n, of which there are so many.
 record Ends (room n len k e : ℕ) : Type 0 where
@@ -106,14 +108,14 @@ sized-name l =
     test (ltb nameLimit (leading inName l)) (λ t. rw (t, scanName) tt)
     (λ t.
     let n = name-small (map folded (take (leading inName l) l)) in
-    rw (t, scanName) (no-string _ (leading inName l) 0 l (n .0) (n .1) (omega arith) (λ e. ltb-false nameLimit (leading inName l) t)))
+    rw (t, scanName) (no-string _ (leading inName l) 0 l (n .2) (n .0) (n .1) (omega arith) (λ e. ltb-false nameLimit (leading inName l) t)))
 
 sized-number : (l : List ℕ) → Sized l (scanNumber largestNumber l)
 unfolding scanNumber
 sized-number l =
     test (spoilsNumber (getD l (leading digit l) 0)) (λ t. rw (t, scanNumber) tt)
     (λ t. test (ltb largestNumber (valueOf (take (leading digit l) l) 0)) (λ u. rw (t, scanNumber) (rw u tt))
-    (λ u. rw (t, scanNumber) (rw u (no-string _ (leading digit l) _ l (omega arith) (λ e. omega arith) (ltb-false largestNumber (valueOf (take (leading digit l) l) 0) u) (λ e. absurd (omega arith))))))
+    (λ u. rw (t, scanNumber) (rw u (no-string _ (leading digit l) _ l (omega arith) (omega arith) (λ e. omega arith) (ltb-false largestNumber (valueOf (take (leading digit l) l) 0) u) (λ e. absurd (omega arith))))))
 
 string-fits : (l : List ℕ) (n : ℕ) → stringEnd stringLimit false (drop 1 l) 1 ≡ some n → (2 ≤ length (take n l)) × (length (take n l) ≤ 162)
 unfolding slack stringEnd
@@ -131,14 +133,14 @@ sized-string l = go (stringEnd stringLimit false (drop 1 l) 1) refl
     go none e = rw (e, scanString) tt
     go (some n) e =
         test (ltb (leading permittedInside l) n) (λ u. rw (e, scanString) (rw u tt))
-        (λ u. rw (e, scanString) (rw u (record { sorts = omega arith; values = omega arith; names = λ z. absurd (omega arith); strings = λ z. string-fits l n e .0; string-most = λ z. string-fits l n e .1 })))
+        (λ u. rw (e, scanString) (rw u (record { real = omega arith; sorts = omega arith; values = omega arith; names = λ z. absurd (omega arith); strings = λ z. string-fits l n e .0; string-most = λ z. string-fits l n e .1 })))
 
 sized-sign : (l : List ℕ) → Sized l (scanSign l)
 unfolding scanSign
 sized-sign l = go (signSort (take 2 l)) refl (signSort (take 1 l)) refl
   where
     sized : (s n : ℕ) → (3 ≤ s) × (s < 127) → Sizes (suc s) (length (take n l)) 0
-    sized s n h = no-string (suc s) n 0 l (omega arith) (λ e. omega arith) (omega arith) (λ e. absurd (omega arith))
+    sized s n h = no-string (suc s) n 0 l (omega arith) (omega arith) (λ e. omega arith) (omega arith) (λ e. absurd (omega arith))
 
     go : (x : ℕ) → signSort (take 2 l) ≡ x → (y : ℕ) → signSort (take 1 l) ≡ y → Sized l (scanSign l)
     go (suc s) e y f = rw (e, scanSign) (sized s (length (take 2 l)) (sign-small (take 2 l) s e))
