@@ -3,3 +3,4 @@ pub mod Operands
 pub mod Spanning
 pub mod Composing
 pub mod Examples
+pub mod Signatures

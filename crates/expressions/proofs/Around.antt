@@ -30,7 +30,7 @@ use Rattle.expressions.specs.declared.Judged.the-variants.{Typed, Faulty
 use Rattle.expressions.specs.Known.{InRoom, Within}
 use Rattle.expressions.specs.Answers.{typeIf, Sound, Refused, Says, Judges}
 use Rattle.expressions.specs.Parts.{askedOf, resultOf, Numbered, isPrefix, Prefixes, Differ, Headed, Linked, Tied, Meant, Short, Nested, Signed, Indexed, Right, Joined}
-use Rattle.expressions.proofs.Keeping.{kept-same, kept-wider, kept-rewritten, term-below, term-above}
+use Rattle.expressions.proofs.Keeping.{kept-same, kept-wider, kept-rewritten, low-written, term-below, term-above}
 use Rattle.expressions.proofs.Judging.{judged-faults, judged-term, judged-type, wanted-none, wanted-wrong, wanted-first, joined-is, signed-is, element-is}
 use Rattle.expressions.proofs.Leaves.{judges-refused, type-with}
 
@@ -80,6 +80,7 @@ nested-typed before after inner at b end e l = record {
           stands = nested-span m n (wordsOf after) at to (j .term) (l .op-is) (l .link-is ∙ t .next-is) (term-above (l .kept) m n (at + 1) to (j .term) (omega arith) (t .stands));
         };
         kept = kept-wider (l .kept) at (to + 1) (omega arith) (omega arith);
+        low = low-written before after at (l .kept) (omega (arith, l .op-is));
       };
 }
 
@@ -122,6 +123,7 @@ module _ (s : ℕ) (inner : Judged) (at : ℕ) where
               (prefix-span m n (wordsOf after) at to (j .term) o (l .link-is ∙ t .next-is) (term-above (l .kept) m n (at + 1) to (j .term) (omega arith) (t .stands))
               ∙ ap (λ (q : ℕ). some (unary q (j .term))) (rw (l .op-is) (p .is k)));
           kept = kept-wider (l .kept) at to (omega arith) (omega arith);
+          low = low-written before after at (l .kept) (omega (arith, l .op-is, p .small));
         };
   }
 
@@ -189,11 +191,12 @@ module _ (cell : ℕ) (inner : Judged) (at : ℕ) where
               (term-above (l .kept) (g .m) (g .n) (at + 2) to (j .term) (omega arith) (t .stands))
               (rw (l .op-is, l .value-is) (element-term (g .m) (g .n) (cell % 2) (cell / 256) (j .term) (omega arith) (array-room g k))));
           kept = kept-wider (l .kept) at (to + 1) (omega arith) (omega arith);
+          low = low-written before after at (l .kept) (omega (arith, l .op-is));
         };
   }
 
 -- ---- an operator's word
-pub tie-small : (C : List ℕ) (i w number : ℕ) → w ≡ headAt C (i + 1) → opAt C (i + 1) < 4 → number < 16 → 64 + number + 16 * (w % 256) < 256
+pub tie-small : (C : List ℕ) (i w number : ℕ) → w ≡ headAt C (i + 1) → opAt C (i + 1) < 4 → number < 16 → 64 + number + 16 * (w % 256) < 128
 tie-small C i w number e h k = let f : w % 256 < 4 = rw e h in omega arith
 
 module _ (before after : List ℕ) (s i n number : ℕ) (k : Numbered s number) where
@@ -207,6 +210,7 @@ module _ (before after : List ℕ) (s i n number : ℕ) (k : Numbered s number) 
         leaf-value = λ _. h .value-is ∙ ap valueIn e;
         span-op = λ d. absurd (d q);
         span-link = λ d. absurd (d q);
+        small = omega (arith, o, f, k .small);
         kept = h .kept;
       }
 
@@ -219,6 +223,7 @@ module _ (before after : List ℕ) (s i n number : ℕ) (k : Numbered s number) 
         leaf-value = λ q. absurd (d q);
         span-op = λ _. ap rightIn o ∙ right-of-op number 0 (k .small) (omega arith);
         span-link = λ _. l .link-is;
+        small = omega (arith, o, k .small);
         kept = l .kept;
       }
 
@@ -311,6 +316,7 @@ module _ (s l i : ℕ) (wants : Bool) (right : Judged) where
               (left .stands) (rw (t .leaf-op z, t .leaf-value z) sg) ∙ op))
               (λ z. written-span m n (wordsOf before) (wordsOf after) i rew at to (ja .term) (jb .term) (t .span-op z) (t .span-link z ∙ r .next-is) (left .stands) (r .stands) ∙ op));
           kept = kept-wider (t .kept) at to (omega arith) (omega arith);
+          low = low-written before after i (t .kept) (t .small);
         };
   }
 

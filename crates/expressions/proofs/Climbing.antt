@@ -28,7 +28,7 @@ use Rattle.expressions.specs.declared.Judged.{Judged}
 use Rattle.expressions.specs.declared.Judged.the-variants.{Typed, Faulty}
 use Rattle.expressions.specs.Answers.{typeIf, Sound, Refused, Says, Judges, Stands, Checked, ofType, OfType}
 use Rattle.expressions.specs.Parts.{askedOf, resultOf, Asks, Differ, Right, Joined, Begins, Began}
-use Rattle.expressions.proofs.Keeping.{term-below, kept-wider, kept-on}
+use Rattle.expressions.proofs.Keeping.{low-on, term-below, kept-wider, kept-on}
 use Rattle.expressions.proofs.Judging.{wanted-first, wanted-wrong, wanted-none, joined-is}
 use Rattle.expressions.proofs.Around.{says-faulty, says-typed, refused-as}
 use Rattle.expressions.proofs.Starts.{loaded-part, loaded-after, judges-on}
@@ -144,7 +144,7 @@ module _ (code values : List ℕ) (top at : ℕ) (s : Stands code values top at)
 
     going-faulty : (number word : ℕ) → Refused (judge (s .known .W) only (s .known .S) (s .e)) number word → Judges (s .known .m) (s .known .n) code now at (s .to) (judge (s .known .W) only (s .known .S) (s .e)) (Faulty number word)
     unfolding Says
-    going-faulty number word r = record { says = r; kept = kept-wider (g .judges .kept) at (s .to) (omega arith) going-within }
+    going-faulty number word r = record { says = r; kept = kept-wider (g .judges .kept) at (s .to) (omega arith) going-within; low = g .judges .low }
 
     faulty-is : (number word : ℕ) → left ≡ Faulty number word → Judges (s .known .m) (s .known .n) code now at (s .to) (judge (s .known .W) only (s .known .S) (s .e)) left
     faulty-is number word e =
@@ -278,7 +278,7 @@ module _ (code values : List ℕ) (top at : ℕ) (s : Stands code values top at)
                     let jb = judge (s .known .W) only (s .known .S) (joins .u) in
                     let q = x .is (s .known .m) (s .known .n) at (joins .m) (g .e) (joins .u) ja jb left-still asks-same start (right-judges .says) in
                     let kept = kept-on (kept-wider (g .judges .kept) at (joins .m) (omega arith) (omega (arith, r))) (kept-wider (right-judges .kept) at (joins .m) (omega (arith, z .0)) (omega arith)) in
-                    judges-on (s .known .m) (s .known .n) code mid after at (joins .m) at (joins .m) (judgeJoined (sortIn (s .known .W) (g .i)) (g .e) (joins .u) ja jb) left′ kept (omega arith) (omega arith)
+                    judges-on (s .known .m) (s .known .n) code mid after at (joins .m) at (joins .m) (judgeJoined (sortIn (s .known .W) (g .i)) (g .e) (joins .u) ja jb) left′ kept (low-on (g .judges .low) (right-judges .low)) (omega arith) (omega arith)
                     (subst (λ (o : ℕ). Judges (s .known .m) (s .known .n) mid after at (joins .m) (judgeJoined o (g .e) (joins .u) ja jb) left′) operator-is q)
 
                 going-on : Going after only left′
@@ -376,6 +376,7 @@ module _ (code values after : List ℕ) (only wants : Bool) (at : ℕ) (r : Judg
             faults-are = wanted-first t (first (s .e)) j (record { number = number; at = word }) (f .others) (f .faults-are);
           };
           kept = c .is s .kept;
+          low = c .is s .low;
         });
   }
 
@@ -393,6 +394,7 @@ module _ (code values after : List ℕ) (only wants : Bool) (at : ℕ) (r : Judg
               faults-are = wanted-wrong (typeIf wants) (first (s .e)) j wants bool refl (q .type-is) (λ z. df .yes y (sym z)) (q .none) ∙ ap (fault 13) start;
             };
             kept = c .is s .kept;
+            low = c .is s .low;
           };
     }
 
@@ -411,5 +413,6 @@ module _ (code values after : List ℕ) (only wants : Bool) (at : ℕ) (r : Judg
               stands = q .stands;
             };
             kept = c .is s .kept;
+            low = c .is s .low;
           };
     }

@@ -11,10 +11,10 @@ use Rattle.paper.specs.Terms.{Term}
 use Rattle.cells.specs.Words.{wordsOf, Got, Put}
 use Rattle.cells.proofs.Laws.{words-take, words-drop}
 use Rattle.cells.proofs.Kept.{put-length, put-take, put-drop, put-same, put-other}
-use Rattle.code.specs.Cells.{opIn, valueIn, placeIn, linkIn, headAt, tailAt, placeAt, linkAt}
+use Rattle.code.specs.Cells.{opIn, valueIn, placeIn, linkIn, headAt, tailAt, opAt, placeAt, linkAt}
 use Rattle.code.specs.Spans.{termIn}
 use Rattle.code.proofs.Composing.{Rewritten, frame}
-use Rattle.expressions.specs.Answers.{Kept}
+use Rattle.expressions.specs.Answers.{Kept, Low}
 use Rattle.expressions.specs.Parts.{Headed, Linked}
 
 -- ---- cells outside
@@ -79,6 +79,19 @@ kept-on p q = record {
   above = q .above ∙ p .above;
   long = q .long ∙ p .long;
   places = λ i. q .places i ∙ p .places i;
+}
+
+pub low-same : (code : List ℕ) → Low code code
+low-same code = record { stays = λ i h. h }
+
+pub low-on : {x y z : List ℕ} → Low x y → Low y z → Low x z
+low-on p q = record { stays = λ i h. q .stays i (p .stays i h) }
+
+-- one word has a new op
+pub low-written : (before after : List ℕ) (i : ℕ) → Kept before after i (i + 1) → opAt (wordsOf after) i < 128 → Low before after
+low-written before after i k h = record {
+  stays = λ j l. by-same j i (λ e. subst (λ (x : ℕ). opAt (wordsOf after) x < 128) (sym e) h)
+      (λ d. subst (λ (w : ℕ). opIn w < 128) (kept-rewritten before after i k .heads j d) l);
 }
 
 -- ---- what is written

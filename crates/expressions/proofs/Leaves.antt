@@ -28,14 +28,14 @@ use Rattle.expressions.specs.declared.Judged.the-variants.{Typed, Faulty
 use Rattle.expressions.specs.Known.{Fresh, InRoom, Within}
 use Rattle.expressions.specs.Answers.{typeIf, Refused, Sound, Says, Judges}
 use Rattle.expressions.specs.Parts.{Headed, Meant, faultOf, BreaksAlone, BreaksIndexed, Alone, Literal}
-use Rattle.expressions.proofs.Keeping.{kept-same}
+use Rattle.expressions.proofs.Keeping.{kept-same, low-same, low-written}
 use Rattle.expressions.proofs.Judging.{judged-faults, judged-term, judged-type}
 
 -- ---- answers
 -- nothing is written, and a rule is broken
 pub judges-refused : (m n : ℕ) (code : List ℕ) (at to : ℕ) (j : types.Judged) (number word : ℕ) → Refused j number word → Judges m n code code at to j (Faulty number word)
 unfolding Says
-judges-refused m n code at to j number word r = record { says = r; kept = kept-same code at to }
+judges-refused m n code at to j number word r = record { says = r; kept = kept-same code at to; low = low-same code }
 
 -- an operand of one word is written
 pub judges-leaf : (m n : ℕ) (before after : List ℕ) (at op value : ℕ) → Headed before after at op value → op ≤ aCallWord
@@ -50,6 +50,7 @@ judges-leaf m n before after at op value h o j t fs x b q clean ty l = record {
     stands = leaf-span m n (wordsOf after) at x (rw (h .op-is) o) (rw (h .op-is, h .value-is) l) ∙ ap some (sym (judged-term t fs x) ∙ sym (ap (λ (k : types.Judged). k .term) q));
   };
   kept = h .kept;
+  low = low-written before after at (h .kept) (omega (arith, h .op-is));
 }
 
 -- ---- leaves

@@ -64,7 +64,7 @@ pub height-none : (s : ℕ) → (s ≡ 65 → ⊥) → (s ≡ 18 → ⊥) → (s
 unfolding height
 height-none s a b c = rw (ne-eqb s 65 a, height) (rw (ne-eqb s 18 b) (rw (ne-eqb s 19 c)))
 
-pub prefix-here : (s k r : ℕ) → s ≡ k → 6 < r → r < 256 → prefixIn r ≡ k → Prefixes s r
+pub prefix-here : (s k r : ℕ) → s ≡ k → 6 < r → r < 128 → prefixIn r ≡ k → Prefixes s r
 prefix-here s k r e g h p = record { small = h; op = g; is = λ _. p ∙ sym e }
 
 pub prefix-plus : (s : ℕ) → (s ≡ 65 → ⊥) → (s ≡ 19 → ⊥) → Prefixes s 8

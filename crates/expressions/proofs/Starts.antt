@@ -26,9 +26,9 @@ use Rattle.names.specs.Promises as promises
 use Rattle.expressions.specs.declared.Judged.{Judged}
 use Rattle.expressions.specs.declared.Judged.the-variants.{Typed, Faulty}
 use Rattle.expressions.specs.Known.{Fresh, Loaded, Within}
-use Rattle.expressions.specs.Answers.{Kept, Refused, Says, Judges, Stands, Checked}
+use Rattle.expressions.specs.Answers.{Kept, Low, Refused, Says, Judges, Stands, Checked}
 use Rattle.expressions.specs.Parts.{isPrefix, Meant, BreaksIndexed, Alone, SmallNumber, Literal, Short, Nested, Signed, Indexed, Begins, Began}
-use Rattle.expressions.proofs.Keeping.{head-above, kept-wider, kept-on}
+use Rattle.expressions.proofs.Keeping.{head-above, kept-wider, kept-on, low-on}
 use Rattle.expressions.proofs.Leaves.{judges-refused}
 
 -- ---- words as they were loaded
@@ -57,8 +57,8 @@ loaded-after W code after from to a b l k h = record {
 
 -- ---- answers
 -- what is said of a part is said, after a change, of the whole
-pub judges-on : (m n : ℕ) (before mid after : List ℕ) (a b at to : ℕ) (j : types.Judged) (r : Judged) → Kept before mid a b → at ≤ a → b ≤ to → Judges m n mid after at to j r → Judges m n before after at to j r
-judges-on m n before mid after a b at to j r k h g q = record { says = q .says; kept = kept-on (kept-wider k at to h g) (q .kept) }
+pub judges-on : (m n : ℕ) (before mid after : List ℕ) (a b at to : ℕ) (j : types.Judged) (r : Judged) → Kept before mid a b → Low before mid → at ≤ a → b ≤ to → Judges m n mid after at to j r → Judges m n before after at to j r
+judges-on m n before mid after a b at to j r k w h g q = record { says = q .says; kept = kept-on (kept-wider k at to h g) (q .kept); low = low-on w (q .low) }
 
 pub says-short : (m n : ℕ) (C : List ℕ) (at to : ℕ) (j : types.Judged) (r : Judged) → Says m n C at to j r → to < wordLimit → Short r
 unfolding Says Short
@@ -242,7 +242,7 @@ module _ (code values : List ℕ) (at : ℕ) (b : Begins code values at) where
                 let told : judgeElement false (meaningIn (b .known .routine) m) at (i .e) j ≡ judge (b .known .W) only (b .known .S) (element at (i .e)) =
                 ap (λ (c : Bool). judgeElement c (meaningIn (b .known .routine) m) at (i .e) j) free ∙ element-judged in
                 whole-as only code after r (element at (i .e), i .n + 1) (i .whole)
-                (judges-on (b .known .m) (b .known .n) code mid after (at + 2) (i .n) at (i .n + 1) (judge (b .known .W) only (b .known .S) (element at (i .e))) r (inner .kept) (omega arith) (omega arith)
+                (judges-on (b .known .m) (b .known .n) code mid after (at + 2) (i .n) at (i .n + 1) (judge (b .known .W) only (b .known .S) (element at (i .e))) r (inner .kept) (inner .low) (omega arith) (omega arith)
                 (subst (λ (q : types.Judged). Judges (b .known .m) (b .known .n) mid after at (i .n + 1) q r) told judged))
 
     -- ---- parentheses
@@ -270,7 +270,7 @@ module _ (code values : List ℕ) (at : ℕ) (b : Begins code values at) where
         paren-is after r x =
             whole-as only code after r (nested at (paren-inside .e), paren-inside .n + 1) (paren-inside .whole)
             (judges-on (b .known .m) (b .known .n) code mid after (at + 1) (paren-inside .n) at (paren-inside .n + 1) (judge (b .known .W) only (b .known .S) (paren-inside .e)) r
-            (inner-judges .kept) (omega arith) (omega arith)
+            (inner-judges .kept) (inner-judges .low) (omega arith) (omega arith)
             (x .is (b .known .m) (b .known .n) (paren-inside .n) (judge (b .known .W) only (b .known .S) (paren-inside .e)) (inner-judges .says)))
 
     -- ---- NOT and signs
@@ -325,7 +325,7 @@ module _ (code values : List ℕ) (at : ℕ) (b : Begins code values at) where
               let judged = x .is (b .known .m) (b .known .n) (part-went .a .1) (part-went .a .0) j (ap isPrefix sort-first ∙ part-covers .prefix) start (part-judges .says) in
               whole-as only code after r (signed at (part-went .a .0), part-went .a .1) part-whole
               (judges-on (b .known .m) (b .known .n) code mid after (at + 1) (part-went .a .1) at (part-went .a .1) (judgeSigned (sortIn (b .known .W) at) (part-went .a .0) j) r
-              (part-judges .kept) (omega arith) (omega arith)
+              (part-judges .kept) (part-judges .low) (omega arith) (omega arith)
               (subst (λ (q : ℕ). Judges (b .known .m) (b .known .n) mid after at (part-went .a .1) (judgeSigned q (part-went .a .0) j) r) sort-first judged))
 
       -- ---- literals

@@ -11,7 +11,7 @@ use Rattle.paper.specs.Names.{DataType, aNum, aBool, sortIn}
 use Rattle.paper.specs.Types.{Fault, wanted, judge}
 use Rattle.paper.specs.Types as types
 use Rattle.cells.specs.Words.{wordsOf}
-use Rattle.code.specs.Cells.{placeAt}
+use Rattle.code.specs.Cells.{opAt, placeAt}
 use Rattle.code.specs.Spans.{termIn}
 use Rattle.expressions.specs.declared.Judged.{Judged}
 use Rattle.expressions.specs.declared.Judged.the-variants.{Typed, Faulty}
@@ -24,6 +24,10 @@ pub record Kept (before after : List ℕ) (from to : ℕ) : Type 0 where
   pub above : drop (to * 8) after ≡ drop (to * 8) before
   pub long : length after ≡ length before
   pub places : (i : ℕ) → placeAt (wordsOf after) i ≡ placeAt (wordsOf before) i
+
+-- No word gets an op as high as those of steps, so that an expression's words are no steps.
+pub record Low (before after : List ℕ) : Type 0 where
+  pub stays : (i : ℕ) → opAt (wordsOf before) i < 128 → opAt (wordsOf after) i < 128
 
 -- ---- answers
 unfoldable pub typeIf : (bool : Bool) → DataType
@@ -50,6 +54,7 @@ Says m n C at to j (Faulty number word) = Refused j number word
 pub record Judges (m n : ℕ) (before after : List ℕ) (at to : ℕ) (j : types.Judged) (r : Judged) : Type 0 where
   pub says : Says m n (wordsOf after) at to j r
   pub kept : Kept before after at to
+  pub low : Low before after
 
 -- ---- the promise
 -- An expression of operators up to a level stands from `at` up to `to`, and no such operator follows it.

@@ -49,7 +49,7 @@ unfoldable pub isPrefix : (sort : ℕ) → Bool
 isPrefix s = eqb s NOT || eqb s plus || eqb s minusSign
 
 pub record Prefixes (s r : ℕ) : Type 0 where
-  pub small : r < 256
+  pub small : r < 128
   pub op : aParenthesis < r
   pub is : isPrefix s ≡ true → prefixIn r ≡ s
 
@@ -76,6 +76,7 @@ pub record Tied (before after : List ℕ) (s i n : ℕ) : Type 0 where
   pub leaf-value : n ≡ i + 2 → valueAt (wordsOf after) i ≡ valueAt (wordsOf before) (i + 1)
   pub span-op : (n ≡ i + 2 → ⊥) → rightIn (opAt (wordsOf after) i) ≡ aSpan
   pub span-link : (n ≡ i + 2 → ⊥) → linkAt (wordsOf after) i ≡ n
+  pub small : opAt (wordsOf after) i < 128
   pub kept : Kept before after i (i + 1)
 
 -- ---- names

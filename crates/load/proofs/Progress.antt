@@ -100,7 +100,7 @@ module _ (text code₀ values₀ code values : List ℕ) (c : Cursor) (at : Prog
         record {
           is = same;
           room = gives .given .room;
-          sorts = rw same (good .sizes .sorts);
+          sorts = rw same (omega (arith, good .sizes .sorts));
           values = rw same (good .sizes .values);
           some-bytes = rw same (good .lies .some-bytes);
           inside = rw same (omega (arith, good .lies .inside));

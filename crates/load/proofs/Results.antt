@@ -25,7 +25,7 @@ module _ (text code values : List ℕ) (r : Loaded) (code′ values′ : List �
   unfolding sortIn
   loads-sorts i l = ap (λ (x : ℕ). x % 256) (h .heads i l) ∙ low (nth (wordsIn text) i .sort) (headValue (wordsIn text) i) (reading-good text i l .sizes .sorts)
     where
-      low : (sort v : ℕ) → sort < 256 → (sort + 256 * v) % 256 ≡ sort
+      low : (sort v : ℕ) → sort < 128 → (sort + 256 * v) % 256 ≡ sort
       low sort v b = omega arith
 
   pub loads-numbers : (i : ℕ) → IsName (wordsIn text) i → numberAt (wordsOf code′) i ≡ numberOf (wordsIn text) i

@@ -1,5 +1,5 @@
 // The checker's first pass: the words of a text go into the code store, two cells each, and names get their numbers.
-mod spelling;
+pub mod spelling;
 
 use names::LINK;
 use names::MEANINGS;

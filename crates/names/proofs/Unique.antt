@@ -4,6 +4,8 @@ use mathlib.Core.Bool.{Bool}
 use mathlib.Core.List.{List}
 use Prim.Native.Nat.{ℕ}
 use Rattle.names.specs.Promises.{Number, Meant, Declared, Left, Protects}
+use Rattle.names.specs.declared.Scope.{Scope}
+use Rattle.names.specs.Scopes.{Declares, Leaves}
 
 pub number-unique : (code : List ℕ) (i r s : ℕ) → Number code i r → Number code i s → r ≡ s
 number-unique code i r s h g = h ∙ sym g
@@ -19,3 +21,12 @@ leave-unique code values i v w h g = h .bytes ∙ sym (g .bytes)
 
 pub is-protected-unique : (m : ℕ) (r s : Bool) → Protects m r → Protects m s → r ≡ s
 is-protected-unique m r s h g = h ∙ sym g
+
+pub scope-declare-unique : (s : Scope) (code values : List ℕ) (i m words : ℕ) (c d v w : List ℕ) (r t : Scope) → Declares s code values i m words c v r → Declares s code values i m words d w t
+    → (c ≡ d) × (v ≡ w) × (r ≡ t)
+scope-declare-unique s code values i m words c d v w r t h g =
+    let same = declare-unique code values i m c d v w (h .known) (g .known) in
+    (same .0, same .1, h .used ∙ sym (g .used))
+
+pub scope-leave-unique : (s : Scope) (code values : List ℕ) (i : ℕ) (v w : List ℕ) (r t : Scope) → Leaves s code values i v r → Leaves s code values i w t → (v ≡ w) × (r ≡ t)
+scope-leave-unique s code values i v w r t h g = (leave-unique code values i v w (h .known) (g .known), h .used ∙ sym (g .used))

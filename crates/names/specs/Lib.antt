@@ -1,3 +1,4 @@
 pub mod Numbers
 pub mod Meanings
 pub mod Promises
+pub mod Scopes

@@ -3,6 +3,7 @@ ghost use mathlib.Core.Path.{_≡_};
 ghost use Prim.Native.Nat.{_+_, _*_, _<_, _≤_};
 ghost use lib.ListN.{length};
 ghost use Rattle.names.specs.Promises.{Number, Meant, Declared, Links, Left, Protects, storeBytes};
+ghost use Rattle.names.specs.Scopes.{Fits, Declares, Enters, Leaves};
 
 // The table begins at this cell of the value store. The name with number n has cell MEANINGS + n.
 pub const MEANINGS: usize = 8192;
@@ -82,4 +83,41 @@ pub fn is_protected(m: u32) -> bool
     ensures { λ r. ⌜ Protects m r ⌝ }
 {
     ERRNO <= m % VALUE
+}
+
+// How far a scope is filled: the words of its data. It goes in by value, and what fills it hands the new state back. What its names mean does not fit a struct,
+// and stands in lent cells.
+pub struct Scope {
+    pub used: u32,
+}
+
+impl Scope {
+    // The name at a word means m from now on, and has so many words.
+    pub fn declare(self, code: &mut [u8], values: &mut [u8], i: usize, m: u32, words: u32) -> Scope
+        requires { ⌜ (i * 8 + 8 ≤ length (now code)) × (storeBytes ≤ length (now values)) × Fits self words ⌝ }
+        ensures { λ r. ⌜ Declares self (now (code .entry)) (now (values .entry)) i m words (now (code .exit)) (now (values .exit)) r ⌝ }
+    {
+        declare(code, values, i, m);
+        Scope {
+            used: self.used + words,
+        }
+    }
+
+    // A loop's body is entered: the name at a word is its variable, the routine's next word.
+    pub fn enter(self, code: &mut [u8], values: &mut [u8], i: usize) -> Scope
+        requires { ⌜ (i * 8 + 8 ≤ length (now code)) × (storeBytes ≤ length (now values)) × Fits self 1 ⌝ }
+        ensures { λ r. ⌜ Enters self (now (code .entry)) (now (values .entry)) i (now (code .exit)) (now (values .exit)) r ⌝ }
+    {
+        let m = LOOP + OF_ROUTINE + VALUE * self.used;
+        self.declare(code, values, i, m, 1)
+    }
+
+    // The name that a word declared means again what it meant before; its words stay the scope's.
+    pub fn leave(self, code: &[u8], values: &mut [u8], i: usize) -> Scope
+        requires { ⌜ (i * 8 + 8 ≤ length (now code)) × (storeBytes ≤ length (now values)) × Links (now code) i ⌝ }
+        ensures { λ r. ⌜ Leaves self (now (code .entry)) (now (values .entry)) i (now (values .exit)) r ⌝ }
+    {
+        leave(code, values, i);
+        self
+    }
 }

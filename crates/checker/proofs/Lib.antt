@@ -1,0 +1,6 @@
+pub mod Placing
+pub mod Laying
+pub mod Passing
+pub mod Parting
+pub mod Calling
+pub mod Going

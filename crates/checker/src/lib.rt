@@ -1,0 +1,151 @@
+// The checker: from a text to a code store that is ready to run, or the first rule broken and its place.
+use declarations::Walked as Declared;
+use form::Verdict;
+use load::Loaded;
+use routines::Walked;
+ghost use Rattle.paper.specs.Answer.{verdict};
+ghost use Rattle.checker.specs.Checks.{Judges, Checks};
+ghost use Rattle.checker.specs.Walks.{Laid, Formed, RoutinesStand, RoutinesWalk, Walks};
+ghost use Rattle.checker.specs.Passes.{Whole, Clean, Settles, Formal};
+
+// How many words a store has, and their bytes.
+const STORE_WORDS: usize = 16384;
+
+const STORE_BYTES: usize = 65536;
+
+// "1: a store under 16,384 words", "18: no PROC main without parameters"
+const SMALL_STORE: u32 = 1;
+
+const NO_MAIN: u32 = 18;
+
+pub enum Checked {
+    // how many words, how many module words, and the word that main begins with
+    Accepted(usize, usize, usize),
+    // the rule broken, and its offset
+    Refused(u32, usize),
+}
+
+// ---- names and types
+
+enum Found {
+    // how many words of data the module has, and the word that main begins with
+    Main(usize, usize),
+    // no rule is broken, but there is no main
+    NoMain,
+    // the rule broken, and its word
+    Faulty(u32, usize),
+}
+
+// The word behind "MODULE name".
+const FIRST: usize = 2;
+
+// The routines one after another, up to the word ENDMODULE at `end`.
+fn all_routines(text: &[u8], code: &mut [u8], values: &mut [u8], at: usize, end: usize) -> Walked
+    requires { ⌜ RoutinesStand (now text) (now code) (now values) at end ⌝ }
+    ensures { λ r. ⌜ RoutinesWalk (now (text .entry)) (now (code .entry)) (now (values .entry)) (now (code .exit)) (now (values .exit)) at end r ⌝ }
+{
+    let mut h = at;
+    let mut k = 0;
+    while h < end {
+        let r = routines::routine(text, code, values, k, h);
+        match r {
+            Walked::Faulty(_, _) => return r,
+            Walked::Upto(next) => {
+                h = next;
+                k += 1;
+            }
+        }
+    }
+    Walked::Upto(h)
+}
+
+fn names_and_types(text: &[u8], code: &mut [u8], values: &mut [u8], words: usize) -> Found
+    requires { ⌜ Formed (now text) (now code) (now values) words ⌝ }
+    ensures { λ r. ⌜ Walks (now (text .entry)) (now (code .entry)) (now (values .entry)) r (now (code .exit)) (now (values .exit)) ⌝ }
+{
+    let main = heads::read(text, code, values);
+    let d = declarations::module_data(code, values, FIRST);
+    match d {
+        Declared::Faulty(number, word) => Found::Faulty(number, word),
+        Declared::Upto(at, count) => {
+            let r = all_routines(text, code, values, at, words - 1);
+            match r {
+                Walked::Faulty(number, word) => Found::Faulty(number, word),
+                Walked::Upto(_) => {
+                    if main == 0 {
+                        return Found::NoMain;
+                    }
+                    Found::Main(count as usize, main)
+                }
+            }
+        }
+    }
+}
+
+// ---- the passes
+
+// Rules 10 to 18. Then links lead to steps, and behind the module's words the value store is empty.
+fn judge_names(text: &[u8], code: &mut [u8], values: &mut [u8], words: usize) -> Checked
+    requires { ⌜ Formed (now text) (now code) (now values) words ⌝ }
+    ensures { λ r. ⌜ Formal (now (text .entry)) (now (code .entry)) (now (values .entry)) r (now (code .exit)) (now (values .exit)) ⌝ }
+{
+    match names_and_types(text, code, values, words) {
+        Found::Faulty(number, at) => Checked::Refused(number, offsets::offset_of(text, at)),
+        Found::NoMain => Checked::Refused(NO_MAIN, 0),
+        Found::Main(count, main) => {
+            links::resolve(code, words);
+            cells::clear(values, count, STORE_WORDS - count);
+            Checked::Accepted(words, count, main)
+        }
+    }
+}
+
+// Rules 8 and 9, and the later ones.
+fn judge_form(text: &[u8], code: &mut [u8], values: &mut [u8], words: usize) -> Checked
+    requires { ⌜ Laid (now text) (now code) (now values) words ⌝ }
+    ensures { λ r. ⌜ Formal (now (text .entry)) (now (code .entry)) (now (values .entry)) r (now (code .exit)) (now (values .exit)) ⌝ }
+{
+    match form::form(code, words) {
+        Verdict::Refused(number, at) => Checked::Refused(number, offsets::offset_of(text, at)),
+        Verdict::Formed => judge_names(text, code, values, words),
+    }
+}
+
+// Rules 3 to 7, and the later ones.
+fn judge_text(text: &[u8], code: &mut [u8], values: &mut [u8]) -> Checked
+    requires { ⌜ Clean (now code) (now values) ⌝ }
+    ensures { λ r. ⌜ Settles (now (text .entry)) (now (code .entry)) (now (values .entry)) (verdict (now (text .entry))) r (now (code .exit)) (now (values .exit)) ⌝ }
+{
+    match load::load(text, code, values) {
+        Loaded::Refused(number, place) => Checked::Refused(number, place),
+        Loaded::Words(words) => judge_form(text, code, values, words),
+    }
+}
+
+// A module that is refused leaves both stores empty.
+fn check_cells(text: &[u8], code: &mut [u8], values: &mut [u8]) -> Checked
+    requires { ⌜ Whole (now code) (now values) ⌝ }
+    ensures { λ r. ⌜ Judges (now (text .entry)) (now (code .entry)) (now (values .entry)) (verdict (now (text .entry))) r (now (code .exit)) (now (values .exit)) ⌝ }
+{
+    cells::clear(values, 0, STORE_WORDS);
+    let r = judge_text(text, code, values);
+    let Checked::Refused(_, _) = r else {
+        return r;
+    };
+    cells::clear(code, 0, STORE_WORDS);
+    cells::clear(values, 0, STORE_WORDS);
+    r
+}
+
+// Beyond their 16,384 words nothing is touched in either store.
+pub fn check(text: &[u8], code: &mut [u8], values: &mut [u8]) -> Checked
+    ensures { λ r. ⌜ Checks (now (text .entry)) (now (code .entry)) (now (values .entry)) r (now (code .exit)) (now (values .exit)) ⌝ }
+{
+    if code.len() < STORE_BYTES {
+        return Checked::Refused(SMALL_STORE, 0);
+    }
+    if values.len() < STORE_BYTES {
+        return Checked::Refused(SMALL_STORE, 0);
+    }
+    check_cells(text, &mut code[..STORE_BYTES], &mut values[..STORE_BYTES])
+}

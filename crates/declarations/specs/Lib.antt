@@ -1,0 +1,4 @@
+pub mod Sites
+pub mod Chains
+pub mod Answers
+pub mod Parts

@@ -1,0 +1,4 @@
+pub mod First
+pub mod Added
+pub mod Parts
+pub mod Left

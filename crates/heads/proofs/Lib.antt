@@ -1,0 +1,11 @@
+pub mod Leaves
+pub mod Inner
+pub mod Given
+pub mod Frames
+pub mod Marking
+pub mod Announcing
+pub mod Heading
+pub mod Numbering
+pub mod Scoping
+pub mod Taking
+pub mod Walking

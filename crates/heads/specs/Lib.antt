@@ -1,0 +1,4 @@
+pub mod Stores
+pub mod Trees
+pub mod Parts
+pub mod Reads

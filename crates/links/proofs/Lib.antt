@@ -1,0 +1,10 @@
+pub mod Ops
+pub mod Turning
+pub mod Moving
+pub mod Reading
+pub mod Orders
+pub mod Framing
+pub mod Leading
+pub mod Choosing
+pub mod Standing
+pub mod Walked

@@ -1,0 +1,134 @@
+-- Which words lead on, and where to: the tests of the code.
+use mathlib.Core.Path.{_≡_, refl, sym, ap, _∙_}
+use mathlib.Core.Bool.{Bool, true, false, not}
+use mathlib.Core.List.{List}
+use Prim.Native.Nat.{ℕ, _+_, _*_, _/_, _<_, _≤_}
+use native.Mathlib.Omega.{arith}
+use lib.Dec.{eqb, ltb}
+use borrow.Author.Tests.{ne-eqb, eq-eqb, lt-ltb, le-ltb, not-true, not-false}
+use Rattle.laws.proofs.Tests.{false-true}
+use Rattle.paper.specs.Basics.{if_then_else_}
+use Rattle.cells.specs.Words.{wordsOf, Got}
+use Rattle.code.specs.Cells.{opAt, linkAt, linkIn}
+use Rattle.code.specs.Steps.{aTarget, anElseIf, aCase, aThen}
+use Rattle.links.specs.Resolved.{goesByLink, goesByValue, goesByPlace, isLed, beyond, Beyond, LedValue, LedPlace, LedLink}
+use Rattle.links.specs.Raw.{Quiet}
+
+-- ---- ops
+module _ (op : ℕ) where
+  pub link-low : op < 128 → false ≡ goesByLink op
+  unfolding goesByLink
+  link-low h = rw (lt-ltb op 128 h, goesByLink)
+
+  pub link-step : 128 ≤ op → op < 153 → not (eqb op 136) ≡ goesByLink op
+  unfolding goesByLink
+  link-step h g = rw (le-ltb op 128 h, goesByLink) (rw (lt-ltb op 153 g))
+
+  pub link-here : (k : ℕ) → op ≡ k → true ≡ goesByLink k → true ≡ goesByLink op
+  link-here k e h = h ∙ ap goesByLink (sym e)
+
+  pub link-none : 153 ≤ op → (op ≡ 155 → ⊥) → (op ≡ 162 → ⊥) → (op ≡ 164 → ⊥) → (op ≡ 165 → ⊥) → (op ≡ 166 → ⊥) → false ≡ goesByLink op
+  unfolding goesByLink
+  link-none h a b c d e =
+      let l : ltb op 128 ≡ false = le-ltb op 128 (omega arith) in
+      simp (l, le-ltb op 153 h, ne-eqb op 155 a, ne-eqb op 162 b, ne-eqb op 164 c, ne-eqb op 165 d, ne-eqb op 166 e, goesByLink)
+
+  pub value-then : op ≡ 162 → true ≡ goesByValue op
+  unfolding goesByValue
+  value-then h = rw (h, goesByValue)
+
+  pub value-else : (op ≡ 162 → ⊥) → eqb op 163 ≡ goesByValue op
+  unfolding goesByValue
+  value-else h = rw (ne-eqb op 162 h, goesByValue)
+
+  pub place-case : op ≡ 157 → true ≡ goesByPlace op
+  unfolding goesByPlace
+  place-case h = rw (h, goesByPlace)
+
+  pub place-comma : op ≡ 158 → true ≡ goesByPlace op
+  unfolding goesByPlace
+  place-comma h = rw (h, goesByPlace)
+
+  pub place-else : (op ≡ 157 → ⊥) → (op ≡ 158 → ⊥) → eqb op 165 ≡ goesByPlace op
+  unfolding goesByPlace
+  place-else h g = rw (ne-eqb op 157 h, goesByPlace) (rw (ne-eqb op 158 g))
+
+  -- a word of an expression leads nowhere
+  pub low-value : op < 128 → goesByValue op ≡ false
+  unfolding goesByValue
+  low-value h = rw (ne-eqb op 162 (λ e. omega arith), goesByValue) (ne-eqb op 163 (λ e. omega arith))
+
+  pub low-place : op < 128 → goesByPlace op ≡ false
+  unfolding goesByPlace
+  low-place h = rw (ne-eqb op 157 (λ e. omega arith), goesByPlace) (rw (ne-eqb op 158 (λ e. omega arith)) (ne-eqb op 165 (λ e. omega arith)))
+
+  pub low-still : op < 128 → isLed op ≡ false
+  unfolding isLed
+  low-still h = rw (sym (link-low h), isLed) (rw (low-value h) (low-place h))
+
+-- words whose ops are as low as those of expressions lead nowhere
+pub quiet-low : (C : List ℕ) (a b : ℕ) → ((i : ℕ) → a ≤ i → i < b → opAt C i < 128) → Quiet C a b
+quiet-low C a b f i l h = low-still (opAt C i) (f i l h)
+
+-- ---- where a list goes on
+module _ (C L : List ℕ) (z : ℕ) where
+  pub beyond-step : opAt C z < anElseIf → beyond C L z ≡ z
+  unfolding beyond
+  beyond-step h = rw (lt-ltb (opAt C z) anElseIf h, beyond)
+
+  pub beyond-case : opAt C z ≡ aCase → beyond C L z ≡ linkAt L (z + 1)
+  unfolding beyond
+  beyond-case h = rw (le-ltb (opAt C z) anElseIf (omega arith), beyond) (rw (eq-eqb (opAt C z) aCase h))
+
+  pub beyond-close : anElseIf ≤ opAt C z → (opAt C z ≡ aCase → ⊥) → beyond C L z ≡ linkAt L z
+  unfolding beyond
+  beyond-close h g = rw (le-ltb (opAt C z) anElseIf h, beyond) (rw (ne-eqb (opAt C z) aCase g))
+
+-- ---- the parts of the code
+module _ (code : List ℕ) (words : ℕ) where
+  pub goes-step : (z op : ℕ) → z < 16777216 → op ≡ opAt (wordsOf code) z → op < 155 → Beyond code words z z
+  goes-step z op h e g = record { is = λ k. sym (beyond-step (wordsOf code) (wordsOf code) z (omega arith)); as-link = λ k. k; as-value = h }
+
+  pub goes-case : (z op tail : ℕ) → op ≡ opAt (wordsOf code) z → op ≡ 157 → Got code ((z + 1) * 2 + 1) tail → tail < 4294967296 → Beyond code words z (tail / 65536)
+  goes-case z op tail e h g k = record {
+    is = λ i. ap linkIn g ∙ sym (beyond-case (wordsOf code) (wordsOf code) z (sym e ∙ h));
+    as-link = λ i. omega arith;
+    as-value = omega arith;
+  }
+
+  pub goes-close : (z op tail : ℕ) → op ≡ opAt (wordsOf code) z → 155 ≤ op → (op ≡ 157 → ⊥) → Got code (z * 2 + 1) tail → tail < 4294967296 → Beyond code words z (tail / 65536)
+  goes-close z op tail e h d g k = record {
+    is = λ i. ap linkIn g ∙ sym (beyond-close (wordsOf code) (wordsOf code) z (omega arith) (λ q. d (e ∙ q)));
+    as-link = λ i. omega arith;
+    as-value = omega arith;
+  }
+
+  module _ (op : ℕ) (b : Bool) (t : b ≡ true) where
+    pub value-goes : (v r : ℕ) → b ≡ goesByValue op → Beyond code words v r → LedValue code words op v r
+    value-goes v r e g = record { same = λ f. false-true (sym f ∙ sym e ∙ t); on = λ f. g .is; small = g .as-value }
+
+    pub place-goes : (p r : ℕ) → b ≡ goesByPlace op → p < 65536 → Beyond code words p r → LedPlace code words op p r
+    place-goes p r e h g = record { same = λ f. false-true (sym f ∙ sym e ∙ t); on = λ f. g .is; small = g .as-link h }
+
+  module _ (op : ℕ) (b : Bool) (t : b ≡ false) where
+    pub value-stays : (v : ℕ) → b ≡ goesByValue op → v < 16777216 → LedValue code words op v v
+    value-stays v e h = record { same = λ f. refl; on = λ f. false-true (sym t ∙ e ∙ f); small = h }
+
+    pub place-stays : (p : ℕ) → b ≡ goesByPlace op → p < 65536 → LedPlace code words op p p
+    place-stays p e h = record { same = λ f. refl; on = λ f. false-true (sym t ∙ e ∙ f); small = h }
+
+  pub link-stays : (op : ℕ) (b : Bool) (l : ℕ) → not b ≡ true → b ≡ goesByLink op → l < 65536 → LedLink code words op l l
+  link-stays op b l t e h = record { same = λ f. refl; stays = λ f g k. refl; on = λ f. false-true (sym (not-true b t) ∙ e ∙ f); small = h }
+
+  pub link-to-else : (op l o : ℕ) → op ≡ 162 → o ≡ opAt (wordsOf code) l → o ≡ 155 → l < 65536 → LedLink code words op l l
+  link-to-else op l o e f g h = record { same = λ k. refl; stays = λ p q k. refl; on = λ p d. absurd (d e (sym f ∙ g)); small = h }
+
+  module _ (op : ℕ) (b : Bool) (t : not b ≡ false) (e : b ≡ goesByLink op) (l r : ℕ) (h : l < 65536) (g : Beyond code words l r) where
+    pub link-goes : (op ≡ 162 → opAt (wordsOf code) l ≡ 155 → ⊥) → LedLink code words op l r
+    link-goes d = record { same = λ f. false-true (sym f ∙ sym e ∙ not-false b t); stays = λ p q k. absurd (d p q); on = λ f p. g .is; small = g .as-link h }
+
+    pub link-goes-other : (op ≡ 162 → ⊥) → LedLink code words op l r
+    link-goes-other d = link-goes (λ p q. d p)
+
+    pub link-goes-then : (o : ℕ) → o ≡ opAt (wordsOf code) l → (o ≡ 155 → ⊥) → LedLink code words op l r
+    link-goes-then o f d = link-goes (λ p q. d (f ∙ q))

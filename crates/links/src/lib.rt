@@ -1,0 +1,171 @@
+// From the last word to the first: what leads to a word that only closes a list leads on to where that list goes on.
+ghost use mathlib.Core.Path.{_≡_};
+ghost use mathlib.Core.Bool.{true};
+ghost use Prim.Native.Nat.{_+_, _*_, _<_, _≤_};
+ghost use lib.ListN.{length};
+ghost use Rattle.cells.specs.Words.{wordsOf};
+ghost use Rattle.code.specs.Cells.{opAt};
+ghost use Rattle.links.specs.Resolved.{goesByLink, goesByValue, goesByPlace, Beyond, LedValue, LedPlace, LedLink, Turned, Resolved};
+
+// A head is an op, and a value above it; a tail is a place, and a link above it.
+const VALUE: u32 = 256;
+
+const LINK: u32 = 65536;
+
+// ---- ops, as the specs of code have them
+
+const TARGET: u32 = 128;
+
+const PROCEDURE_CALL: u32 = 136;
+
+const END: u32 = 153;
+
+const ELSE_IF: u32 = 155;
+
+const CASE: u32 = 157;
+
+const NEXT_VALUE: u32 = 158;
+
+const THEN: u32 = 162;
+
+const DO: u32 = 163;
+
+const PASS: u32 = 164;
+
+const OTHERWISE: u32 = 165;
+
+const CLOSE: u32 = 166;
+
+fn goes_by_link(op: u32) -> bool
+    ensures { λ r. ⌜ r ≡ goesByLink op ⌝ }
+{
+    if op < TARGET {
+        return false;
+    }
+    if op < END {
+        return op != PROCEDURE_CALL;
+    }
+    match op {
+        ELSE_IF => true,
+        THEN => true,
+        PASS => true,
+        OTHERWISE => true,
+        CLOSE => true,
+        _ => false,
+    }
+}
+
+fn goes_by_value(op: u32) -> bool
+    ensures { λ r. ⌜ r ≡ goesByValue op ⌝ }
+{
+    if op == THEN {
+        return true;
+    }
+    op == DO
+}
+
+fn goes_by_place(op: u32) -> bool
+    ensures { λ r. ⌜ r ≡ goesByPlace op ⌝ }
+{
+    if op == CASE {
+        return true;
+    }
+    if op == NEXT_VALUE {
+        return true;
+    }
+    op == OTHERWISE
+}
+
+fn op_at(code: &[u8], i: usize) -> u32
+    requires { ⌜ i * 8 + 8 ≤ length (now code) ⌝ }
+    ensures { λ r. ⌜ r ≡ opAt (wordsOf (now (code .entry))) i ⌝ }
+{
+    cells::get(code, i * 2) % VALUE
+}
+
+// Where a list goes on that ends at word z, or z itself where it is a step. What leads out of the words stays.
+fn beyond(code: &[u8], words: usize, z: usize) -> usize
+    requires { ⌜ (words * 8 ≤ length (now code)) × (z < 16777216) ⌝ }
+    ensures { λ r. ⌜ Beyond (now (code .entry)) words z r ⌝ }
+{
+    if words <= z + 1 {
+        return z;
+    }
+    let op = op_at(code, z);
+    if op < ELSE_IF {
+        return z;
+    }
+    if op == CASE {
+        return (cells::get(code, (z + 1) * 2 + 1) / LINK) as usize;
+    }
+    (cells::get(code, z * 2 + 1) / LINK) as usize
+}
+
+fn led_value(code: &[u8], words: usize, op: u32, v: usize) -> usize
+    requires { ⌜ (words * 8 ≤ length (now code)) × (v < 16777216) ⌝ }
+    ensures { λ r. ⌜ LedValue (now (code .entry)) words op v r ⌝ }
+{
+    if goes_by_value(op) {
+        return beyond(code, words, v);
+    }
+    v
+}
+
+fn led_place(code: &[u8], words: usize, op: u32, p: usize) -> usize
+    requires { ⌜ (words * 8 ≤ length (now code)) × (p < 65536) ⌝ }
+    ensures { λ r. ⌜ LedPlace (now (code .entry)) words op p r ⌝ }
+{
+    if goes_by_place(op) {
+        return beyond(code, words, p);
+    }
+    p
+}
+
+// A THEN that leads to an ELSEIF stays: there the next condition is found.
+fn led_link(code: &[u8], words: usize, op: u32, l: usize) -> usize
+    requires { ⌜ (words * 8 ≤ length (now code)) × (l < 65536) ⌝ }
+    ensures { λ r. ⌜ LedLink (now (code .entry)) words op l r ⌝ }
+{
+    if !goes_by_link(op) {
+        return l;
+    }
+    if words <= l {
+        return l;
+    }
+    if op != THEN {
+        return beyond(code, words, l);
+    }
+    if op_at(code, l) == ELSE_IF {
+        return l;
+    }
+    beyond(code, words, l)
+}
+
+fn resolve_word(code: &mut [u8], words: usize, i: usize)
+    requires { ⌜ (words * 8 ≤ length (now code)) × (i < words) ⌝ }
+    ensures { λ _. ⌜ Turned (now (code .entry)) (now (code .exit)) words i ⌝ }
+{
+    let head = cells::get(code, i * 2);
+    let op = head % VALUE;
+    if op < TARGET {
+        return;
+    }
+    let tail = cells::get(code, i * 2 + 1);
+    let v = led_value(code, words, op, (head / VALUE) as usize);
+    let p = led_place(code, words, op, (tail % LINK) as usize);
+    let l = led_link(code, words, op, (tail / LINK) as usize);
+    cells::put(code, i * 2, op + VALUE * (v as u32));
+    cells::put(code, i * 2 + 1, (p as u32) + LINK * (l as u32));
+}
+
+// Makes the links of a text's words lead to steps.
+pub fn resolve(code: &mut [u8], words: usize)
+    requires { ⌜ (words ≤ 8192) × (words * 8 ≤ length (now code)) ⌝ }
+    ensures { λ _. ⌜ Resolved (now (code .entry)) (now (code .exit)) words ⌝ }
+{
+    let mut i = words;
+    while 0 < i {
+        i -= 1;
+        resolve_word(code, words, i);
+    }
+}

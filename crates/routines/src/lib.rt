@@ -1,0 +1,232 @@
+// The check of a routine: its name, parameters, data, list and ERROR list. What a run has to know of it is written over its words in the code store; when its scope is left the table
+// of meanings says again what names mean in the module.
+use simple::Setting;
+ghost use mathlib.Core.Path.{_≡_};
+ghost use Prim.Native.Nat.{_+_, _*_, _<_, _≤_};
+ghost use lib.ListN.{length};
+ghost use Rattle.cells.specs.Words.{wordsOf};
+ghost use Rattle.code.specs.Cells.{linkAt};
+ghost use Rattle.links.specs.Raw.{endOf};
+ghost use Rattle.expressions.specs.Parts.{Linked};
+ghost use Rattle.routines.specs.Answers.{Begins, Checks};
+ghost use Rattle.routines.specs.Parts.{namesRoutine, resultIn, nameWith, SetPlace, SetParameters, Finishes, leadsTo, ErrorsStand, Errors, ListsStand, Lists, ScopeStands, Scoped};
+
+pub enum Walked {
+    // the word after it
+    Upto(usize),
+    // the rule broken, and its word
+    Faulty(u32, usize),
+}
+
+// "10: name declared twice or protected", "16: over 64 routines"
+const TAKEN: u32 = 10;
+
+const TOO_MANY: u32 = 16;
+
+const MOST: u32 = 64;
+
+// ---- ops, as the specs of code have them
+
+const END: u32 = 153;
+
+const FUNCTION_END: u32 = 154;
+
+const PARAMETERS: u32 = 161;
+
+// the kind of a meaning, as the specs of names have it
+const ROUTINE: u32 = 5;
+
+// ---- the head
+
+// Whether a cell of the table says that its name is the routine that begins at h.
+fn names_routine(m: u32, h: usize) -> bool
+    ensures { λ r. ⌜ r ≡ namesRoutine m h ⌝ }
+{
+    if m % 256 / 4 != ROUTINE {
+        return false;
+    }
+    (m / 256) as usize == h
+}
+
+// 0 for a PROC, 1 for a FUNC of num, 2 for one of bool.
+fn result_of(code: &[u8], h: usize) -> u32
+    requires { ⌜ h * 8 + 16 ≤ length (now code) ⌝ }
+    ensures { λ r. ⌜ r ≡ resultIn (wordsOf (now (code .entry))) h ⌝ }
+{
+    if simple::sort(code, h) == sorts::PROC {
+        return 0;
+    }
+    if simple::sort(code, h + 1) == sorts::BOOL {
+        return 2;
+    }
+    1
+}
+
+fn name_of(result: u32, h: usize) -> usize
+    requires { ⌜ h < 8192 ⌝ }
+    ensures { λ r. ⌜ r ≡ nameWith result h ⌝ }
+{
+    if result == 0 {
+        return h + 1;
+    }
+    h + 2
+}
+
+// ---- words
+
+fn set_place(code: &mut [u8], i: usize, place: u32)
+    requires { ⌜ (i * 8 + 8 ≤ length (now code)) × (place < 65536) ⌝ }
+    ensures { λ _. ⌜ SetPlace (now (code .entry)) (now (code .exit)) i place ⌝ }
+{
+    let link = cells::get(code, i * 2 + 1) / names::LINK;
+    cells::put(code, i * 2 + 1, place + names::LINK * link);
+}
+
+fn set_parameters(code: &mut [u8], i: usize, fors: u32)
+    requires { ⌜ (i * 8 + 8 ≤ length (now code)) × (fors < 65536) ⌝ }
+    ensures { λ _. ⌜ SetParameters (now (code .entry)) (now (code .exit)) i fors ⌝ }
+{
+    cells::put(code, i * 2, PARAMETERS);
+    cells::put(code, i * 2 + 1, fors);
+}
+
+// What a run has to know of the routine that begins at h: the first word of its list, and how many FOR variables it has.
+fn finish(code: &mut [u8], h: usize, opens: usize, at: usize, fors: u32)
+    requires { ⌜ (h < opens) × (opens * 8 + 8 ≤ length (now code)) × (at < 65536) × (fors < 65536) ⌝ }
+    ensures { λ _. ⌜ Finishes (now (code .entry)) (now (code .exit)) h opens at fors ⌝ }
+{
+    set_place(code, h, at as u32);
+    set_parameters(code, opens, fors);
+}
+
+// The word e is a list's end.
+fn end_list(code: &mut [u8], function: bool, e: usize)
+    requires { ⌜ e * 8 + 8 ≤ length (now code) ⌝ }
+    ensures { λ _. ⌜ Linked (now (code .entry)) (now (code .exit)) e (endOf function) 0 (linkAt (wordsOf (now (code .entry))) e) ⌝ }
+{
+    if function {
+        simple::set_head(code, e, FUNCTION_END, 0);
+    } else {
+        simple::set_head(code, e, END, 0);
+    }
+}
+
+// ---- lists
+
+// Where the ERROR list begins, if the word e that closes the other is ERROR; else 0.
+fn leads_to(code: &[u8], e: usize) -> usize
+    requires { ⌜ (e * 8 + 8 ≤ length (now code)) × (e < 8192) ⌝ }
+    ensures { λ r. ⌜ r ≡ leadsTo (wordsOf (now (code .entry))) e ⌝ }
+{
+    if simple::sort(code, e) == sorts::ERROR {
+        return e + 1;
+    }
+    0
+}
+
+// The end of the first list, and the ERROR list with its end, if there is one.
+fn errors(
+    text: &[u8],
+    code: &mut [u8],
+    values: &mut [u8],
+    result: u32,
+    used: u32,
+    e: usize,
+    leads: usize,
+) -> statements::Walked
+    requires { ⌜ ErrorsStand (now text) (now code) (now values) result used e leads ⌝ }
+    ensures { λ r. ⌜ Errors (now (text .entry)) (now (code .entry)) (now (values .entry)) (now (code .exit)) (now (values .exit)) result used e leads r ⌝ }
+{
+    end_list(code, result != 0, e);
+    if leads == 0 {
+        return statements::Walked::Upto(e + 1, used);
+    }
+    let setting = Setting { result: result, handler: true };
+    let r = statements::list(text, code, values, setting, used, leads);
+    let statements::Walked::Upto(z, n) = r else {
+        return r;
+    };
+    end_list(code, result != 0, z);
+    statements::Walked::Upto(z + 1, n)
+}
+
+// Both lists of the routine that begins at h, from the word `at` on. Its second word leads to its ERROR list.
+fn lists(
+    text: &[u8],
+    code: &mut [u8],
+    values: &mut [u8],
+    result: u32,
+    data: u32,
+    h: usize,
+    at: usize,
+) -> statements::Walked
+    requires { ⌜ ListsStand (now text) (now code) (now values) result data h at ⌝ }
+    ensures { λ r. ⌜ Lists (now (text .entry)) (now (code .entry)) (now (values .entry)) (now (code .exit)) (now (values .exit)) result data h at r ⌝ }
+{
+    let setting = Setting { result: result, handler: false };
+    let r = statements::list(text, code, values, setting, data, at);
+    let statements::Walked::Upto(e, n) = r else {
+        return r;
+    };
+    let leads = leads_to(code, e);
+    let r = errors(text, code, values, result, n, e, leads);
+    let statements::Walked::Upto(z, used) = r else {
+        return r;
+    };
+    simple::set_link(code, h + 1, leads);
+    statements::Walked::Upto(z, used)
+}
+
+// ---- a routine
+
+// All that stands behind its name.
+fn scope(
+    text: &[u8],
+    code: &mut [u8],
+    values: &mut [u8],
+    result: u32,
+    h: usize,
+    name: usize,
+) -> Walked
+    requires { ⌜ ScopeStands (now text) (now code) (now values) result h name ⌝ }
+    ensures { λ r. ⌜ Scoped (now (text .entry)) (now (code .entry)) (now (values .entry)) (now (code .exit)) (now (values .exit)) result h name r ⌝ }
+{
+    let p = declarations::parameters(code, values, name + 2);
+    match p {
+        declarations::Walked::Faulty(number, word) => Walked::Faulty(number, word),
+        declarations::Walked::Upto(close, count) => {
+            let d = declarations::routine_data(code, values, name + 1, h, count, close + 1);
+            match d {
+                declarations::Walked::Faulty(number, word) => Walked::Faulty(number, word),
+                declarations::Walked::Upto(at, data) => {
+                    let l = lists(text, code, values, result, data, h, at);
+                    match l {
+                        statements::Walked::Faulty(number, word) => Walked::Faulty(number, word),
+                        statements::Walked::Upto(next, used) => {
+                            finish(code, h, name + 1, at, used - data);
+                            declarations::leave_routine(code, values, name + 2, count, h);
+                            Walked::Upto(next)
+                        }
+                    }
+                }
+            }
+        }
+    }
+}
+
+// Routine k, which begins at the word h.
+pub fn routine(text: &[u8], code: &mut [u8], values: &mut [u8], k: u32, h: usize) -> Walked
+    requires { ⌜ Begins (now text) (now code) (now values) k h ⌝ }
+    ensures { λ r. ⌜ Checks (now (text .entry)) (now (code .entry)) (now (values .entry)) (now (code .exit)) (now (values .exit)) k h r ⌝ }
+{
+    let result = result_of(code, h);
+    let name = name_of(result, h);
+    let m = names::meaning(code, values, name);
+    if !names_routine(m, h) {
+        return Walked::Faulty(TAKEN, name);
+    }
+    if k == MOST {
+        return Walked::Faulty(TOO_MANY, name);
+    }
+    scope(text, code, values, result, h, name)
+}

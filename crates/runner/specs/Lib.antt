@@ -1,0 +1,4 @@
+pub mod Reading
+pub mod Live
+pub mod Machine
+pub mod Runs

@@ -1,0 +1,93 @@
+-- An argument against the type of its parameter.
+use mathlib.Core.Path.{_≡_, refl, sym, ap, subst, _∙_}
+use mathlib.Core.Bool.{Bool, true, false}
+use mathlib.Core.List.{List, [], _∷_, _++_}
+use Prim.Native.Nat.{ℕ, _+_, _*_, _<_, _≤_}
+use native.Mathlib.Omega.{arith}
+use lib.Dec.{eqb}
+use Rattle.paper.specs.Basics.{if_then_else_}
+use Rattle.paper.specs.Trees.{first}
+use Rattle.paper.specs.Names.{DataType, typeOf, refusedPiece, sortIn}
+use Rattle.paper.specs.Types.{Fault, fault, faultIf, differs, wanted, judge}
+use Rattle.paper.specs.Types as types
+use Rattle.cells.specs.Words.{wordsOf}
+use Rattle.code.specs.Cells.{opIn, valueIn, headAt}
+use Rattle.code.specs.Signatures.{typeAt}
+use Rattle.climb.proofs.Places.{spans-first, stands}
+use Rattle.expressions.specs.declared.Judged.{Judged}
+use Rattle.expressions.specs.declared.Judged.the-variants.{Typed, Faulty}
+use Rattle.expressions.specs.Answers.{typeIf, Says, Judges, Checked}
+use Rattle.expressions.specs.Answers as expressions
+use Rattle.expressions.proofs.Judging.{wanted-first}
+use Rattle.expressions.proofs.Around.{says-typed, says-faulty}
+use Rattle.simple.specs.Parts.{typeIn, TypeDiffers, passed, Passed}
+
+pub type-at : (C : List ℕ) (p asked : ℕ) → asked ≡ headAt C p → typeIn asked ≡ typeAt C p
+unfolding typeIn typeAt
+type-at C p asked e = rw e
+
+wanted-fine : (t : DataType) (i : ℕ) (j : types.Judged) → j .faults ≡ [] → differs t (j .type) ≡ false → wanted t i j ≡ []
+unfolding wanted faultIf
+wanted-fine t i j n d = rw (n, d, wanted)
+
+wanted-bad : (t : DataType) (i : ℕ) (j : types.Judged) → j .faults ≡ [] → differs t (j .type) ≡ true → wanted t i j ≡ fault 13 i
+unfolding wanted faultIf
+wanted-bad t i j n d = rw (n, d, wanted)
+
+module _ (code values after : List ℕ) (p at asked : ℕ) (e : asked ≡ headAt (wordsOf code) p) (r : Judged) (c : Checked code values after false 5 at r) where
+  pub passed-faulty : (number word : ℕ) → r ≡ Faulty number word → Passed code values after p at r
+  unfolding Says
+  passed-faulty number word q = record {
+    is = λ s.
+        let j = judge (s .known .W) false (s .known .S) (s .e) in
+        let t = typeAt (wordsOf code) p in
+        let f = says-faulty _ _ _ _ _ _ r number word q (c .is s .says) in
+        subst (Judges (s .known .m) (s .known .n) code after at (s .to) (passed t (first (s .e)) j)) (sym q)
+        (record {
+          says = record {
+            others = f .others ++ faultIf (differs t (j .type)) 13 (first (s .e));
+            faults-are = wanted-first t (first (s .e)) j (record { number = number; at = word }) (f .others) (f .faults-are);
+          };
+          kept = c .is s .kept;
+          low = c .is s .low;
+        });
+  }
+
+  module _ (bool : Bool) (end : ℕ) (q : r ≡ Typed bool end) (t : Bool) (d : TypeDiffers asked bool t) where
+    differs-is : (x : DataType) → x ≡ typeIf bool → differs (typeAt (wordsOf code) p) x ≡ t
+    differs-is x z = ap (differs (typeAt (wordsOf code) p)) z ∙ sym (ap (λ (y : DataType). differs y (typeIf bool)) (type-at (wordsOf code) p asked e)) ∙ d .is
+
+    pub passed-wrong : t ≡ true → Passed code values after p at (Faulty 13 at)
+    unfolding Says fault
+    passed-wrong y = record {
+      is = λ s.
+          let j = judge (s .known .W) false (s .known .S) (s .e) in
+          let x = says-typed _ _ _ _ _ _ r bool end q (c .is s .says) in
+          let start = spans-first (s .e) at (s .to) (stands (sortIn (s .known .W)) (s .d) 5 at (s .e, s .to) (s .is)) in
+          record {
+            says = record {
+              others = [];
+              faults-are = wanted-bad (typeAt (wordsOf code) p) (first (s .e)) j (x .none) (differs-is (j .type) (x .type-is) ∙ y) ∙ ap (fault 13) start;
+            };
+            kept = c .is s .kept;
+            low = c .is s .low;
+          };
+    }
+
+    pub passed-right : t ≡ false → Passed code values after p at (Typed bool end)
+    unfolding Says
+    passed-right y = record {
+      is = λ s.
+          let j = judge (s .known .W) false (s .known .S) (s .e) in
+          let x = says-typed _ _ _ _ _ _ r bool end q (c .is s .says) in
+          record {
+            says = record {
+              none = wanted-fine (typeAt (wordsOf code) p) (first (s .e)) j (x .none) (differs-is (j .type) (x .type-is) ∙ y);
+              type-is = x .type-is;
+              next-is = x .next-is;
+              stands = x .stands;
+            };
+            kept = c .is s .kept;
+            low = c .is s .low;
+          };
+    }

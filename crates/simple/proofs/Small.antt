@@ -1,0 +1,92 @@
+-- Names, types and words by simple tests.
+use mathlib.Core.Path.{_≡_, refl, sym, ap, _∙_}
+use mathlib.Core.Bool.{Bool, true, false, not}
+use mathlib.Core.List.{List}
+use Prim.Native.Nat.{ℕ, suc, _+_, _*_, _/_, _%_, _<_, _≤_}
+use native.Mathlib.Omega.{arith}
+use lib.Dec.{eqb}
+use borrow.Author.Tests.{eq-eqb, ne-eqb, eqb-true, eqb-false}
+use Rattle.laws.proofs.Tests.{by-same, false-true}
+use Rattle.paper.specs.Basics.{if_then_else_}
+use Rattle.paper.specs.Sorts.{NAME, NUM, openParen, FUNC}
+use Rattle.paper.specs.Names.{typeOf, wrongName, Meaning}
+use Rattle.paper.specs.Types.{differs}
+use Rattle.code.specs.Cells.{opIn, valueIn, headAt, opAt}
+use Rattle.code.specs.Signatures.{firstParameter}
+use Rattle.names.specs.Meanings.{meaningWith}
+use Rattle.expressions.specs.Answers.{typeIf}
+use Rattle.simple.specs.Parts.{WrongName, typeIn, TypeDiffers, IsCall}
+
+-- ---- names of a wrong kind
+pub wrong-none : (kind : ℕ) → kind ≡ 0 → WrongName kind 11
+unfolding meaningWith wrongName
+wrong-none kind e = record { is = λ routine bool own value. rw e }
+
+unknown-kind : (kind : ℕ) → 7 < kind → (routine : ℕ → ℕ) (bool own value : ℕ) → wrongName (meaningWith routine kind bool own value) ≡ 11
+unfolding meaningWith wrongName
+unknown-kind kind h routine bool own value =
+    rw (ne-eqb kind 1 (λ e. omega arith), ne-eqb kind 2 (λ e. omega arith), ne-eqb kind 3 (λ e. omega arith), ne-eqb kind 4 (λ e. omega arith),
+    ne-eqb kind 5 (λ e. omega arith), ne-eqb kind 6 (λ e. omega arith), ne-eqb kind 7 (λ e. omega arith), meaningWith)
+
+pub wrong-high : (kind : ℕ) → 7 < kind → WrongName kind 11
+wrong-high kind h = record { is = unknown-kind kind h }
+
+above : (k n : ℕ) → n ≤ k → (k ≡ n → ⊥) → suc n ≤ k
+above k n h d = omega (arith, h, d)
+
+pub wrong-other : (kind : ℕ) → (kind ≡ 0 → ⊥) → kind ≤ 7 → WrongName kind 12
+unfolding meaningWith wrongName
+wrong-other kind z h = from-one (above kind 0 (omega arith) z)
+  where
+    from-five : 5 ≤ kind → WrongName kind 12
+    from-five l =
+        by-same kind 5 (λ e. record { is = λ routine bool own value. rw e })
+        (λ a. by-same kind 6 (λ e. record { is = λ routine bool own value. rw e })
+        (λ b. let m = above kind 6 (above kind 5 l a) b in let e : kind ≡ 7 = omega (arith, m, h) in record { is = λ routine bool own value. rw e }))
+
+    from-three : 3 ≤ kind → WrongName kind 12
+    from-three l =
+        by-same kind 3 (λ e. record { is = λ routine bool own value. rw e })
+        (λ a. by-same kind 4 (λ e. record { is = λ routine bool own value. rw e })
+        (λ b. from-five (above kind 4 (above kind 3 l a) b)))
+
+    from-one : 1 ≤ kind → WrongName kind 12
+    from-one l =
+        by-same kind 1 (λ e. record { is = λ routine bool own value. rw e })
+        (λ a. by-same kind 2 (λ e. record { is = λ routine bool own value. rw e })
+        (λ b. from-three (above kind 2 (above kind 1 l a) b)))
+
+-- ---- types
+pub differs-unasked : (w : ℕ) (bool : Bool) → (w / 256 ≡ 0 → ⊥) → TypeDiffers w bool false
+unfolding typeIn differs typeIf
+differs-unasked w true h = record { is = rw (ne-eqb (w / 256) 0 h, typeIn) }
+differs-unasked w false h = record { is = rw (ne-eqb (w / 256) 0 h, typeIn) }
+
+pub differs-num : (w : ℕ) (bool : Bool) → w / 256 ≡ 0 → w % 256 ≡ 89 → TypeDiffers w bool bool
+unfolding typeIn differs typeIf typeOf
+differs-num w true h e = record { is = rw (h, e, typeIn) }
+differs-num w false h e = record { is = rw (h, e, typeIn) }
+
+pub differs-bool : (w : ℕ) (bool : Bool) → w / 256 ≡ 0 → (w % 256 ≡ 89 → ⊥) → TypeDiffers w bool (not bool)
+unfolding typeIn differs typeIf typeOf
+differs-bool w true h e = record { is = rw (h, ne-eqb (w % 256) NUM e, typeIn) }
+differs-bool w false h e = record { is = rw (h, ne-eqb (w % 256) NUM e, typeIn) }
+
+-- ---- words
+module _ (C : List ℕ) (at s : ℕ) (e : s ≡ opAt C at) where
+  pub call-not : (s ≡ 1 → ⊥) → IsCall C at false
+  call-not d = record { yes = λ t. false-true t; no = λ _ n. absurd (d (e ∙ n)) }
+
+  pub call-is : s ≡ 1 → (r : ℕ) → r ≡ opAt C (at + 1) → IsCall C at (eqb r 6)
+  call-is n r q = record {
+    yes = λ t. (sym e ∙ n, sym q ∙ eqb-true r 6 t);
+    no = λ f _ o. eqb-false r 6 f (q ∙ o);
+  }
+
+pub parameter-func : (C : List ℕ) (h s : ℕ) → s ≡ opAt C h → s ≡ 57 → h + 4 ≡ firstParameter C h
+unfolding firstParameter
+parameter-func C h s e f = let q : opAt C h ≡ FUNC = sym e ∙ f in rw (q, firstParameter)
+
+pub parameter-proc : (C : List ℕ) (h s : ℕ) → s ≡ opAt C h → (s ≡ 57 → ⊥) → h + 3 ≡ firstParameter C h
+unfolding firstParameter
+parameter-proc C h s e f = rw (ne-eqb (opAt C h) FUNC (λ q. f (e ∙ q)), firstParameter)

@@ -1,0 +1,72 @@
+use borrow.Author.Needs.{needs}
+use Rattle.simple.proofs.assign_value.Statement.{statement}
+use Rattle.simple.proofs.assign_value.Tie as tie
+use Rattle.simple.proofs.assign_value.Reads as reads
+use Rattle.simple.proofs.assign_value.Lts as lts
+use Rattle.expressions.proofs.of_type.Reads as of-type-reads
+use Rattle.simple.proofs.set_link.Reads as set-link-reads
+
+-- src/lib.rt:339:62
+add-of-type : tie.Need-add-of-type
+add-of-type c = ?
+
+-- src/lib.rt:339:9
+of-type-requires : tie.Need-of-type-requires
+of-type-requires c κs = ?
+
+-- src/lib.rt:340:23
+enum-known-r : tie.Need-enum-known-r
+enum-known-r c = search needs
+
+-- src/lib.rt:341:9
+enum-told : tie.Need-enum-told
+enum-told c = search needs
+
+-- src/lib.rt:341:9
+same-length : tie.Need-same-length
+same-length c = search needs
+
+-- src/lib.rt:341:9
+returns : tie.Need-returns
+returns c = ?
+
+-- src/lib.rt:343:5
+set-link-requires : tie.Need-set-link-requires
+set-link-requires c κs = ?
+
+-- src/lib.rt:344:23
+add-set-link : tie.Need-add-set-link
+add-set-link c = ?
+
+-- src/lib.rt:344:5
+set-link-requires-2 : tie.Need-set-link-requires-2
+set-link-requires-2 c κs = ?
+
+-- src/lib.rt:345:25
+add-t11 : tie.Need-add-t11
+add-t11 c = ?
+
+-- src/lib.rt:335:1
+same-length-2 : tie.Need-same-length-2
+same-length-2 c = search needs
+
+-- src/lib.rt:335:1
+returns-2 : tie.Need-returns-2
+returns-2 c = ?
+
+pub assign-value-spec : {M : Type 1} → statement M
+assign-value-spec =
+    tie.close
+    (tie.spec
+    add-of-type
+    of-type-requires
+    enum-known-r
+    enum-told
+    same-length
+    returns
+    set-link-requires
+    add-set-link
+    set-link-requires-2
+    add-t11
+    same-length-2
+    returns-2)

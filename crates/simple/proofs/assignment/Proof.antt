@@ -1,0 +1,79 @@
+use borrow.Author.Needs.{needs}
+use Rattle.simple.proofs.assignment.Statement.{statement}
+use Rattle.simple.proofs.assignment.Tie as tie
+use Rattle.simple.proofs.assignment.Reads as reads
+use Rattle.simple.proofs.assignment.Lts as lts
+use Rattle.simple.proofs.assign_call.Reads as assign-call-reads
+use Rattle.simple.proofs.assign_value.Reads as assign-value-reads
+use Rattle.simple.proofs.is_call.Reads as is-call-reads
+use Rattle.simple.proofs.target.Reads as target-reads
+
+-- src/lib.rt:376:9
+target-requires : tie.Need-target-requires
+target-requires c κs = ?
+
+-- src/lib.rt:377:23
+enum-known-r : tie.Need-enum-known-r
+enum-known-r c = search needs
+
+-- src/lib.rt:378:9
+enum-told : tie.Need-enum-told
+enum-told c = search needs
+
+-- src/lib.rt:378:9
+same-length : tie.Need-same-length
+same-length c = search needs
+
+-- src/lib.rt:378:9
+returns : tie.Need-returns
+returns c = ?
+
+-- src/lib.rt:380:22
+add-is-call : tie.Need-add-is-call
+add-is-call c = ?
+
+-- src/lib.rt:380:8
+is-call-requires : tie.Need-is-call-requires
+is-call-requires c κs = ?
+
+-- src/lib.rt:381:9
+assign-call-requires : tie.Need-assign-call-requires
+assign-call-requires c κs = ?
+
+-- src/lib.rt:381:9
+same-length-2 : tie.Need-same-length-2
+same-length-2 c = search needs
+
+-- src/lib.rt:381:9
+returns-2 : tie.Need-returns-2
+returns-2 c = ?
+
+-- src/lib.rt:383:5
+assign-value-requires : tie.Need-assign-value-requires
+assign-value-requires c κs = ?
+
+-- src/lib.rt:372:1
+same-length-3 : tie.Need-same-length-3
+same-length-3 c = search needs
+
+-- src/lib.rt:372:1
+returns-3 : tie.Need-returns-3
+returns-3 c = ?
+
+pub assignment-spec : {M : Type 1} → statement M
+assignment-spec =
+    tie.close
+    (tie.spec
+    target-requires
+    enum-known-r
+    enum-told
+    same-length
+    returns
+    add-is-call
+    is-call-requires
+    assign-call-requires
+    same-length-2
+    returns-2
+    assign-value-requires
+    same-length-3
+    returns-3)

@@ -1,0 +1,111 @@
+use borrow.Author.Needs.{needs}
+use Rattle.simple.proofs.call.Statement.{statement}
+use Rattle.simple.proofs.call.Tie as tie
+use Rattle.simple.proofs.call.Reads as reads
+use Rattle.simple.proofs.call.Lts as lts
+use Rattle.simple.proofs.argument.Reads as argument-reads
+use Rattle.simple.proofs.count_arguments.Reads as count-arguments-reads
+use Rattle.simple.proofs.first_parameter.Reads as first-parameter-reads
+use Rattle.simple.proofs.head.Reads as head-reads
+use Rattle.simple.proofs.more_arguments.Reads as more-arguments-reads
+use Rattle.simple.proofs.set_word.Reads as set-word-reads
+
+-- src/lib.rt:282:9
+count-arguments-requires : tie.Need-count-arguments-requires
+count-arguments-requires c κs = search needs
+
+-- src/lib.rt:283:17
+head-requires : tie.Need-head-requires
+head-requires c κs = ?
+
+-- src/lib.rt:284:9
+same-length : tie.Need-same-length
+same-length c = search needs
+
+-- src/lib.rt:284:9
+returns : tie.Need-returns
+returns c = ?
+
+-- src/lib.rt:287:36
+cast-set-word : tie.Need-cast-set-word
+cast-set-word c = ?
+
+-- src/lib.rt:287:9
+set-word-requires : tie.Need-set-word-requires
+set-word-requires c κs = ?
+
+-- src/lib.rt:288:9
+same-length-2 : tie.Need-same-length-2
+same-length-2 c = search needs
+
+-- src/lib.rt:288:9
+returns-2 : tie.Need-returns-2
+returns-2 c = ?
+
+-- src/lib.rt:290:9
+first-parameter-requires : tie.Need-first-parameter-requires
+first-parameter-requires c κs = ?
+
+-- src/lib.rt:291:9
+argument-requires : tie.Need-argument-requires
+argument-requires c κs = ?
+
+-- src/lib.rt:292:26
+enum-known-r : tie.Need-enum-known-r
+enum-known-r c = search needs
+
+-- src/lib.rt:293:9
+enum-told : tie.Need-enum-told
+enum-told c = search needs
+
+-- src/lib.rt:293:9
+same-length-3 : tie.Need-same-length-3
+same-length-3 c = search needs
+
+-- src/lib.rt:293:9
+returns-3 : tie.Need-returns-3
+returns-3 c = ?
+
+-- src/lib.rt:295:32
+cast-set-word-2 : tie.Need-cast-set-word-2
+cast-set-word-2 c = ?
+
+-- src/lib.rt:295:5
+set-word-requires-2 : tie.Need-set-word-requires-2
+set-word-requires-2 c κs = ?
+
+-- src/lib.rt:296:5
+more-arguments-requires : tie.Need-more-arguments-requires
+more-arguments-requires c κs = ?
+
+-- src/lib.rt:270:1
+same-length-4 : tie.Need-same-length-4
+same-length-4 c = search needs
+
+-- src/lib.rt:270:1
+returns-4 : tie.Need-returns-4
+returns-4 c = ?
+
+pub call-spec : {M : Type 1} → statement M
+call-spec =
+    tie.close
+    (tie.spec
+    count-arguments-requires
+    head-requires
+    same-length
+    returns
+    cast-set-word
+    set-word-requires
+    same-length-2
+    returns-2
+    first-parameter-requires
+    argument-requires
+    enum-known-r
+    enum-told
+    same-length-3
+    returns-3
+    cast-set-word-2
+    set-word-requires-2
+    more-arguments-requires
+    same-length-4
+    returns-4)

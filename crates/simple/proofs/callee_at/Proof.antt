@@ -1,0 +1,48 @@
+use borrow.Author.Needs.{needs}
+use Rattle.simple.proofs.callee_at.Statement.{statement}
+use Rattle.simple.proofs.callee_at.Tie as tie
+use Rattle.simple.proofs.callee_at.Reads as reads
+use Rattle.simple.proofs.callee_at.Lts as lts
+use Rattle.names.proofs.meaning.Reads as meaning-reads
+use Rattle.simple.proofs.sort.Reads as sort-reads
+use Rattle.simple.proofs.wrong_name.Reads as wrong-name-reads
+
+-- src/lib.rt:189:9
+meaning-requires : tie.Need-meaning-requires
+meaning-requires c κs = search needs
+
+-- src/lib.rt:192:30
+wrong-name-requires : tie.Need-wrong-name-requires
+wrong-name-requires c κs = search needs
+
+-- src/lib.rt:192:9
+returns : tie.Need-returns
+returns c = ?
+
+-- src/lib.rt:194:13
+cast-h : tie.Need-cast-h
+cast-h c = search needs
+
+-- src/lib.rt:195:23
+sort-requires : tie.Need-sort-requires
+sort-requires c κs = ?
+
+-- src/lib.rt:197:9
+returns-2 : tie.Need-returns-2
+returns-2 c = ?
+
+-- src/lib.rt:185:1
+returns-3 : tie.Need-returns-3
+returns-3 c = ?
+
+pub callee-at-spec : {M : Type 1} → statement M
+callee-at-spec =
+    tie.close
+    (tie.spec
+    meaning-requires
+    wrong-name-requires
+    returns
+    cast-h
+    sort-requires
+    returns-2
+    returns-3)

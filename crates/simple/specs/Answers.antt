@@ -1,0 +1,63 @@
+-- What the check of a simple statement asks, and what it answers.
+use mathlib.Core.Path.{_≡_}
+use mathlib.Core.List.{List, []}
+use Prim.Native.Nat.{ℕ, _+_}
+use lib.ListN.{length}
+use Rattle.paper.specs.Sorts.{semicolon}
+use Rattle.paper.specs.Trees.{Simple}
+use Rattle.paper.specs.Names.{sortIn}
+use Rattle.paper.specs.Types.{Fault}
+use Rattle.paper.specs.Checks.{simpleFaults}
+use Rattle.cells.specs.Words.{wordsOf}
+use Rattle.grammar.specs.Form.{Parses, SimpleAt}
+use Rattle.expressions.specs.declared.Judged.{Judged}
+use Rattle.expressions.specs.declared.Judged.the-variants.{Typed, Faulty}
+use Rattle.expressions.specs.Answers.{Kept}
+use Rattle.faults.specs.First.{First}
+use Rattle.links.specs.Raw.{RawSimple}
+use Rattle.simple.specs.declared.Setting.{Setting}
+use Rattle.simple.specs.Around.{Around, groundOf, Unread, Calls, Tells}
+
+-- ---- answers
+-- Of a piece with these faults, from `at` up to `to`: there are none, the next word is `to`, and what is written there holds.
+pub record Fine (fs : List Fault) (before after : List ℕ) (at to next : ℕ) (holds : Type 0) : Type 0 where
+  pub none : fs ≡ []
+  pub next-is : next ≡ to
+  pub written : holds
+  pub kept : Kept before after at to
+
+unfoldable pub Tell : (fs : List Fault) (before after : List ℕ) (at to : ℕ) (holds : Type 0) → Judged → Type 0
+Tell fs before after at to holds (Typed bool next) = Fine fs before after at to next holds
+Tell fs before after at to holds (Faulty number word) = First (record { number = number; at = word }) fs
+
+-- Where a rule is broken nothing is promised of what is written.
+pub record Answer (fs : List Fault) (before after : List ℕ) (at to : ℕ) (holds : Type 0) (r : Judged) : Type 0 where
+  pub tells : Tell fs before after at to holds r
+  pub long : length after ≡ length before
+
+-- ---- a simple statement
+-- It stands from `at` up to its semicolon at `to`, and the check has not come to it.
+pub record Stands (code values : List ℕ) (at : ℕ) : Type 0 where
+  pub text : List ℕ
+  pub around : Around text values
+  pub s : Simple
+  pub to : ℕ
+  pub is : SimpleAt (sortIn (around .known .W)) (Parses (sortIn (around .known .W))) s at to
+  pub ends : sortIn (around .known .W) to ≡ semicolon
+  pub unread : Unread (around .known .W) code at to
+  pub calls : Calls around code at to
+
+-- Its faults are those of the paper; the word after its semicolon comes next, and the steps of a run stand in its words.
+abbrev pub Answers : {code values : List ℕ} {at : ℕ} → (g : Stands code values at) → (after : List ℕ) → Judged → Type 0
+Answers {code} {at = at} g after r =
+    Answer (simpleFaults (g .around .known .W) (g .around .K) (g .around .known .S) (g .s)) code after at (g .to + 1)
+    (RawSimple (groundOf (g .around)) (g .around .known .n) (wordsOf after) (g .around .known .S) (g .s) at (g .to + 1)) r
+
+-- The same for `statement`, which is told the text and the setting.
+pub record Statement (text code values : List ℕ) (k : Setting) (at : ℕ) : Type 0 where
+  pub stands : Stands code values at
+  pub text-is : stands .text ≡ text
+  pub tells : Tells k (stands .around .K)
+
+pub record Stated (text code values after : List ℕ) (k : Setting) (at : ℕ) (r : Judged) : Type 0 where
+  pub is : (g : Statement text code values k at) → Answers (g .stands) after r

@@ -1,0 +1,545 @@
+// The check of a simple statement: its names, its types, its place, and what a run has to know of it, written over its words in the code store.
+use expressions::Judged;
+ghost use mathlib.Core.Path.{_≡_};
+ghost use Prim.Native.Nat.{_+_, _*_, _/_, _%_, _<_, _≤_};
+ghost use lib.ListN.{length};
+ghost use Rattle.paper.specs.Sorts.{NAME, RETURN, RAISE, TPWRITE, TPREADNUM};
+ghost use Rattle.cells.specs.Words.{wordsOf};
+ghost use Rattle.code.specs.Cells.{headAt, opAt, valueAt, placeAt, linkAt};
+ghost use Rattle.code.specs.Signatures.{firstParameter};
+ghost use Rattle.expressions.specs.Answers as expressions;
+ghost use Rattle.expressions.specs.Parts.{Linked};
+ghost use Rattle.simple.specs.Answers.{Statement, Stated};
+ghost use Rattle.simple.specs.Parts.{Begins, Begun, BeginsIn, BegunIn, BeginsOf, BegunOf, Assigns, Assigned, CallsOf, CalledOf, WrongName, TypeDiffers, IsCall};
+ghost use Rattle.simple.specs.Parts.{Targets, TargetJudged, Elements, ElementJudged, ValueSide, ValueAssigned, Callees, CalleeTold, Passed, More, MoreJudged, Commas, Counts, Counted, CallSide, CallJudged, ForCalls, ForJudged, CallAssigns, CallAssigned, Alone, Values, Valued, Width, Characters, Strings, Spelled};
+
+// Where a statement stands.
+pub struct Setting {
+    // 0: in a PROC; 1: in a FUNC of num, 2: in one of bool
+    pub result: u32,
+    // in an ERROR list
+    pub handler: bool,
+}
+
+// What the name of a callee is.
+pub enum Callee {
+    // a routine, by the word that it begins with
+    At(usize),
+    // no such routine, and the rule that this breaks
+    Wrong(u32),
+}
+
+// ---- ops, as the specs of code have them
+
+const TARGET: u32 = 128;
+
+// so much higher is the op of a target that a call's result goes to
+const FOR_A_CALL: u32 = 4;
+
+const PROCEDURE_CALL: u32 = 136;
+
+const RETURN_OF: u32 = 137;
+
+const RETURN: u32 = 138;
+
+const RAISE_OF: u32 = 139;
+
+const RAISE: u32 = 140;
+
+const EXIT: u32 = 141;
+
+const RETRY: u32 = 142;
+
+const TRY_NEXT: u32 = 143;
+
+const WRITE: u32 = 144;
+
+const WRITE_OF: u32 = 145;
+
+const READ: u32 = 146;
+
+const NEXT_ARGUMENT: u32 = 159;
+
+const CLOSE: u32 = 166;
+
+// ---- kinds of meanings
+
+const VARIABLE: u32 = 1;
+
+const ARRAY: u32 = 2;
+
+const ROUTINE: u32 = 5;
+
+// the level of all operators
+const DISJUNCTIONS: u32 = 5;
+
+// ---- cells
+
+fn head(code: &[u8], i: usize) -> u32
+    requires { ⌜ i * 8 + 8 ≤ length (now code) ⌝ }
+    ensures { λ r. ⌜ r ≡ headAt (wordsOf (now (code .entry))) i ⌝ }
+{
+    cells::get(code, i * 2)
+}
+
+// The op of a word, which is its sort as long as the check has not come to it.
+pub fn sort(code: &[u8], i: usize) -> u32
+    requires { ⌜ i * 8 + 8 ≤ length (now code) ⌝ }
+    ensures { λ r. ⌜ r ≡ opAt (wordsOf (now (code .entry))) i ⌝ }
+{
+    head(code, i) % 256
+}
+
+pub fn set_word(code: &mut [u8], i: usize, op: u32, value: u32, link: usize)
+    requires { ⌜ (i * 8 + 8 ≤ length (now code)) × (op < 256) × (value < 16777216) × (link < 65536) ⌝ }
+    ensures { λ _. ⌜ Linked (now (code .entry)) (now (code .exit)) i op value link ⌝ }
+{
+    let place = cells::get(code, i * 2 + 1) % 65536;
+    cells::put(code, i * 2, op + 256 * value);
+    cells::put(code, i * 2 + 1, place + 65536 * (link as u32));
+}
+
+pub fn set_head(code: &mut [u8], i: usize, op: u32, value: u32)
+    requires { ⌜ (i * 8 + 8 ≤ length (now code)) × (op < 256) × (value < 16777216) ⌝ }
+    ensures { λ _. ⌜ Linked (now (code .entry)) (now (code .exit)) i op value (linkAt (wordsOf (now (code .entry))) i) ⌝ }
+{
+    cells::put(code, i * 2, op + 256 * value);
+}
+
+pub fn set_link(code: &mut [u8], i: usize, link: usize)
+    requires { ⌜ (i * 8 + 8 ≤ length (now code)) × (link < 65536) ⌝ }
+    ensures { λ _. ⌜ Linked (now (code .entry)) (now (code .exit)) i (opAt (wordsOf (now (code .entry))) i) (valueAt (wordsOf (now (code .entry))) i) link ⌝ }
+{
+    let place = cells::get(code, i * 2 + 1) % 65536;
+    cells::put(code, i * 2 + 1, place + 65536 * (link as u32));
+}
+
+// ---- names and types
+
+// The rule that a name of this kind breaks where another is asked for.
+fn wrong_name(kind: u32) -> u32
+    ensures { λ r. ⌜ WrongName kind r ⌝ }
+{
+    if kind == 0 {
+        return 11;
+    }
+    if 7 < kind {
+        return 11;
+    }
+    12
+}
+
+// Whether the type that a head says, if it is asked, is not this one.
+fn differs(w: u32, bool: bool) -> bool
+    ensures { λ r. ⌜ TypeDiffers w bool r ⌝ }
+{
+    if w / 256 != 0 {
+        return false;
+    }
+    if w % 256 == sorts::NUM {
+        return bool;
+    }
+    !bool
+}
+
+// ---- targets
+
+// A target: whether it is a bool, and the word after it.
+fn target(code: &mut [u8], values: &[u8], at: usize) -> Judged
+    requires { ⌜ Targets (now code) (now values) at ⌝ }
+    ensures { λ r. ⌜ TargetJudged (now (code .entry)) (now (values .entry)) (now (code .exit)) at r ⌝ }
+{
+    let m = names::meaning(code, values, at);
+    if sort(code, at + 1) == sorts::OPEN_BRACE {
+        return element_target(code, values, m, at);
+    }
+    let kind = m % 256 / 4;
+    if kind != VARIABLE {
+        return Judged::Faulty(wrong_name(kind), at);
+    }
+    set_head(code, at, TARGET + m % 2, m / 256);
+    Judged::Typed(m / 2 % 2 == 1, at + 1)
+}
+
+// An element, of whose array the table says m.
+fn element_target(code: &mut [u8], values: &[u8], m: u32, at: usize) -> Judged
+    requires { ⌜ Elements (now code) (now values) m at ⌝ }
+    ensures { λ r. ⌜ ElementJudged (now (code .entry)) (now (values .entry)) (now (code .exit)) m at r ⌝ }
+{
+    let kind = m % 256 / 4;
+    if kind != ARRAY {
+        return Judged::Faulty(wrong_name(kind), at);
+    }
+    let index = expressions::of_type(code, values, false, false, at + 2);
+    let Judged::Typed(_, end) = index else {
+        return index;
+    };
+    set_head(code, at, TARGET + 2 + m % 2, m / 256);
+    set_link(code, at + 1, end);
+    Judged::Typed(m / 2 % 2 == 1, end + 1)
+}
+
+// ---- calls
+
+// What a name is where a function, or a procedure, is to be called.
+fn callee_at<'a>(code: &'a [u8], values: &'a [u8], function: bool, i: usize) -> Callee
+    requires { ⌜ Callees (now code) (now values) i ⌝ }
+    ensures { λ r. ⌜ CalleeTold (now (code .entry)) (now (values .entry)) function i r ⌝ }
+{
+    let m = names::meaning(code, values, i);
+    let kind = m % 256 / 4;
+    if kind != ROUTINE {
+        return Callee::Wrong(wrong_name(kind));
+    }
+    let h = (m / 256) as usize;
+    let is_function = sort(code, h) == sorts::FUNC;
+    if is_function != function {
+        return Callee::Wrong(12);
+    }
+    Callee::At(h)
+}
+
+// A comma counts.
+fn counted(s: u32) -> u32
+    ensures { λ r. ⌜ Commas s r ⌝ }
+{
+    if s == sorts::COMMA {
+        return 1;
+    }
+    0
+}
+
+// How many arguments stand from a word on: each comma up to the semicolon is between two of them.
+fn count_arguments(code: &[u8], first: usize, closing: u32) -> u32
+    requires { ⌜ Counts (now code) first closing ⌝ }
+    ensures { λ r. ⌜ Counted (now (code .entry)) first closing r ⌝ }
+{
+    if sort(code, first) == closing {
+        return 0;
+    }
+    let mut i = first;
+    let mut count = 1;
+    loop {
+        let s = sort(code, i);
+        if s == sorts::SEMICOLON {
+            return count;
+        }
+        count += counted(s);
+        i += 1;
+    }
+}
+
+// An argument for the parameter whose type is at word p.
+fn argument(code: &mut [u8], values: &[u8], p: usize, at: usize) -> Judged
+    requires { ⌜ (p * 8 + 8 ≤ length (now code)) × expressions.Stands (now code) (now values) 5 at ⌝ }
+    ensures { λ r. ⌜ Passed (now (code .entry)) (now (values .entry)) (now (code .exit)) p at r ⌝ }
+{
+    let asked = head(code, p);
+    let r = expressions::expression(code, values, false, DISJUNCTIONS, at);
+    let Judged::Typed(bool, end) = r else {
+        return r;
+    };
+    if differs(asked, bool) {
+        return Judged::Faulty(13, at);
+    }
+    r
+}
+
+// The arguments behind the one that ends at b, whose parameter's type is at word p: up to the word that closes them.
+fn more_arguments(code: &mut [u8], values: &[u8], p: usize, b: usize) -> Judged
+    requires { ⌜ More (now code) (now values) p b ⌝ }
+    ensures { λ r. ⌜ MoreJudged (now (code .entry)) (now (values .entry)) (now (code .exit)) p b r ⌝ }
+{
+    let mut parameter = p;
+    let mut end = b;
+    while sort(code, end) == sorts::COMMA {
+        parameter += 3;
+        let r = argument(code, values, parameter, end + 1);
+        let Judged::Typed(_, n) = r else {
+            return r;
+        };
+        set_word(code, end, NEXT_ARGUMENT, 0, n);
+        end = n;
+    }
+    Judged::Typed(false, end)
+}
+
+fn first_parameter(code: &[u8], h: usize) -> usize
+    requires { ⌜ (h * 8 + 8 ≤ length (now code)) × (h < 8192) ⌝ }
+    ensures { λ r. ⌜ r ≡ firstParameter (wordsOf (now (code .entry))) h ⌝ }
+{
+    if sort(code, h) == sorts::FUNC {
+        return h + 4;
+    }
+    h + 3
+}
+
+// A call of the routine that begins at h. The callee's word gets this op, and leads to the end of its first argument.
+fn call(
+    code: &mut [u8],
+    values: &[u8],
+    op: u32,
+    h: usize,
+    callee: usize,
+    first: usize,
+    closing: u32,
+) -> Judged
+    requires { ⌜ CallSide (now code) (now values) h callee first closing × (op < 256) ⌝ }
+    ensures { λ r. ⌜ CallJudged (now (code .entry)) (now (values .entry)) (now (code .exit)) op h callee first closing r ⌝ }
+{
+    let count = count_arguments(code, first, closing);
+    if count != head(code, h) / 256 {
+        return Judged::Faulty(14, callee);
+    }
+    if count == 0 {
+        set_word(code, callee, op, h as u32, first);
+        return Judged::Typed(false, first);
+    }
+    let p = first_parameter(code, h);
+    let r = argument(code, values, p, first);
+    let Judged::Typed(_, end) = r else {
+        return r;
+    };
+    set_word(code, callee, op, h as u32, end);
+    more_arguments(code, values, p, end)
+}
+
+// The right side of an assignment to a target of a type: up to the parenthesis that closes.
+fn call_for(code: &mut [u8], values: &[u8], wants: bool, i: usize) -> Judged
+    requires { ⌜ ForCalls (now code) (now values) i ⌝ }
+    ensures { λ r. ⌜ ForJudged (now (code .entry)) (now (values .entry)) (now (code .exit)) wants i r ⌝ }
+{
+    match callee_at(code, values, true, i) {
+        Callee::Wrong(number) => Judged::Faulty(number, i),
+        Callee::At(h) => {
+            if differs(head(code, h + 1), wants) {
+                return Judged::Faulty(13, i);
+            }
+            call(code, values, sorts::NAME, h, i, i + 2, sorts::CLOSE_PAREN)
+        }
+    }
+}
+
+// A procedure call goes on by its semicolon.
+fn call_of(code: &mut [u8], values: &[u8], i: usize) -> Judged
+    requires { ⌜ CallsOf (now code) (now values) i ⌝ }
+    ensures { λ r. ⌜ CalledOf (now (code .entry)) (now (values .entry)) (now (code .exit)) i r ⌝ }
+{
+    match callee_at(code, values, false, i) {
+        Callee::Wrong(number) => Judged::Faulty(number, i),
+        Callee::At(h) => {
+            let r = call(code, values, PROCEDURE_CALL, h, i, i + 1, sorts::SEMICOLON);
+            let Judged::Typed(bool, end) = r else {
+                return r;
+            };
+            set_word(code, end, CLOSE, 0, end + 1);
+            Judged::Typed(bool, end + 1)
+        }
+    }
+}
+
+// ---- assignments: the target at i ends before b
+
+fn assign_value(code: &mut [u8], values: &[u8], wants: bool, i: usize, b: usize) -> Judged
+    requires { ⌜ ValueSide (now code) (now values) wants i b ⌝ }
+    ensures { λ r. ⌜ ValueAssigned (now (code .entry)) (now (values .entry)) (now (code .exit)) wants i b r ⌝ }
+{
+    let r = expressions::of_type(code, values, false, wants, b + 1);
+    let Judged::Typed(bool, end) = r else {
+        return r;
+    };
+    set_link(code, b, end);
+    set_link(code, i, end + 1);
+    Judged::Typed(bool, end + 1)
+}
+
+fn assign_call(code: &mut [u8], values: &[u8], wants: bool, i: usize, b: usize) -> Judged
+    requires { ⌜ CallAssigns (now code) (now values) i b ⌝ }
+    ensures { λ r. ⌜ CallAssigned (now (code .entry)) (now (values .entry)) (now (code .exit)) wants i b r ⌝ }
+{
+    let r = call_for(code, values, wants, b + 1);
+    let Judged::Typed(bool, end) = r else {
+        return r;
+    };
+    let w = head(code, i);
+    set_word(code, i, w % 256 + FOR_A_CALL, w / 256, end + 2);
+    Judged::Typed(bool, end + 2)
+}
+
+// Whether a name with a parenthesis behind it stands at a word.
+fn is_call(code: &[u8], at: usize) -> bool
+    requires { ⌜ at * 8 + 16 ≤ length (now code) ⌝ }
+    ensures { λ r. ⌜ IsCall (wordsOf (now (code .entry))) at r ⌝ }
+{
+    if sort(code, at) != sorts::NAME {
+        return false;
+    }
+    sort(code, at + 1) == sorts::OPEN_PAREN
+}
+
+fn assignment(code: &mut [u8], values: &[u8], i: usize) -> Judged
+    requires { ⌜ Assigns (now code) (now values) i ⌝ }
+    ensures { λ r. ⌜ Assigned (now (code .entry)) (now (values .entry)) (now (code .exit)) i r ⌝ }
+{
+    let r = target(code, values, i);
+    let Judged::Typed(bool, b) = r else {
+        return r;
+    };
+    if is_call(code, b + 1) {
+        return assign_call(code, values, bool, i, b);
+    }
+    assign_value(code, values, bool, i, b)
+}
+
+fn started_by_name(code: &mut [u8], values: &[u8], i: usize) -> Judged
+    requires { ⌜ Begins NAME (now code) (now values) i ⌝ }
+    ensures { λ r. ⌜ Begun NAME (now (code .entry)) (now (values .entry)) (now (code .exit)) i r ⌝ }
+{
+    let s = sort(code, i + 1);
+    if s == sorts::BECOMES {
+        return assignment(code, values, i);
+    }
+    if s == sorts::OPEN_BRACE {
+        return assignment(code, values, i);
+    }
+    call_of(code, values, i)
+}
+
+// ---- other statements
+
+// A statement that is one word, and may stand here or not.
+fn word(code: &mut [u8], op: u32, fine: bool, i: usize) -> Judged
+    requires { ⌜ (i * 8 + 8 ≤ length (now code)) × (op < 256) × (i < 8192) ⌝ }
+    ensures { λ r. ⌜ Alone (now (code .entry)) (now (code .exit)) op fine i r ⌝ }
+{
+    if !fine {
+        return Judged::Faulty(17, i);
+    }
+    set_word(code, i, op, 0, i + 2);
+    Judged::Typed(false, i + 2)
+}
+
+// A statement with an expression of a type, which stands from a word on.
+fn with_value(code: &mut [u8], values: &[u8], op: u32, wants: bool, from: usize, i: usize) -> Judged
+    requires { ⌜ Values (now code) (now values) from i × (op < 256) ⌝ }
+    ensures { λ r. ⌜ Valued (now (code .entry)) (now (values .entry)) (now (code .exit)) op wants from i r ⌝ }
+{
+    let r = expressions::of_type(code, values, false, wants, from);
+    let Judged::Typed(bool, end) = r else {
+        return r;
+    };
+    set_word(code, i, op, end as u32, end + 1);
+    Judged::Typed(bool, end + 1)
+}
+
+fn returns(code: &mut [u8], values: &[u8], k: Setting, i: usize) -> Judged
+    requires { ⌜ BeginsIn RETURN k (now code) (now values) i ⌝ }
+    ensures { λ r. ⌜ BegunIn RETURN k (now (code .entry)) (now (values .entry)) (now (code .exit)) i r ⌝ }
+{
+    let result = k.result;
+    if sort(code, i + 1) == sorts::SEMICOLON {
+        return word(code, RETURN, result == 0, i);
+    }
+    if result == 0 {
+        return Judged::Faulty(17, i);
+    }
+    with_value(code, values, RETURN_OF, result == 2, i + 1, i)
+}
+
+fn raises(code: &mut [u8], values: &[u8], k: Setting, i: usize) -> Judged
+    requires { ⌜ BeginsIn RAISE k (now code) (now values) i ⌝ }
+    ensures { λ r. ⌜ BegunIn RAISE k (now (code .entry)) (now (values .entry)) (now (code .exit)) i r ⌝ }
+{
+    let handler = k.handler;
+    if sort(code, i + 1) == sorts::SEMICOLON {
+        return word(code, RAISE, handler, i);
+    }
+    if handler {
+        return Judged::Faulty(17, i);
+    }
+    with_value(code, values, RAISE_OF, false, i + 1, i)
+}
+
+// ---- strings
+
+// How many bytes a character takes that begins with this one: two quotes are one.
+fn width(b: u8) -> usize
+    ensures { λ r. ⌜ Width b r ⌝ }
+{
+    if b == b'"' {
+        return 2;
+    }
+    1
+}
+
+// How many characters n bytes are.
+fn characters(text: &[u8], first: usize, n: usize) -> usize
+    requires { ⌜ (first + n ≤ length (now text)) × (n < 256) × (first ≤ 65536) ⌝ }
+    ensures { λ r. ⌜ Characters (now (text .entry)) first n r ⌝ }
+{
+    let mut k = 0;
+    let mut count = 0;
+    while k < n {
+        k += width(text[first + k]);
+        count += 1;
+    }
+    count
+}
+
+// The value of a string's word is how many bytes it has, quotes included. Its characters are counted above them.
+fn string(text: &[u8], code: &mut [u8], i: usize)
+    requires { ⌜ Strings (now text) (now code) i ⌝ }
+    ensures { λ _. ⌜ Spelled (now (text .entry)) (now (code .entry)) (now (code .exit)) i ⌝ }
+{
+    let bytes = head(code, i) / 256;
+    let first = (cells::get(code, i * 2 + 1) % 65536) as usize + 1;
+    let count = characters(text, first, bytes as usize - 2);
+    set_head(code, i, sorts::STRING, bytes + 256 * (count as u32));
+}
+
+fn writes(text: &[u8], code: &mut [u8], values: &[u8], i: usize) -> Judged
+    requires { ⌜ BeginsOf TPWRITE (now text) (now code) (now values) i ⌝ }
+    ensures { λ r. ⌜ BegunOf TPWRITE (now (text .entry)) (now (code .entry)) (now (values .entry)) (now (code .exit)) i r ⌝ }
+{
+    string(text, code, i + 1);
+    if sort(code, i + 2) == sorts::BACKSLASH {
+        return with_value(code, values, WRITE_OF, false, i + 5, i);
+    }
+    set_word(code, i, WRITE, 0, i + 3);
+    Judged::Typed(false, i + 3)
+}
+
+fn reads(text: &[u8], code: &mut [u8], values: &[u8], i: usize) -> Judged
+    requires { ⌜ BeginsOf TPREADNUM (now text) (now code) (now values) i ⌝ }
+    ensures { λ r. ⌜ BegunOf TPREADNUM (now (text .entry)) (now (code .entry)) (now (values .entry)) (now (code .exit)) i r ⌝ }
+{
+    let r = target(code, values, i + 1);
+    let Judged::Typed(bool, b) = r else {
+        return r;
+    };
+    if bool {
+        return Judged::Faulty(13, i + 1);
+    }
+    string(text, code, b + 1);
+    set_word(code, i, READ, (b + 1) as u32, b + 3);
+    Judged::Typed(bool, b + 3)
+}
+
+// A simple statement: the word after its semicolon.
+pub fn statement(text: &[u8], code: &mut [u8], values: &[u8], k: Setting, i: usize) -> Judged
+    requires { ⌜ Statement (now text) (now code) (now values) k i ⌝ }
+    ensures { λ r. ⌜ Stated (now (text .entry)) (now (code .entry)) (now (values .entry)) (now (code .exit)) k i r ⌝ }
+{
+    let s = sort(code, i);
+    let handler = k.handler;
+    match s {
+        sorts::NAME => started_by_name(code, values, i),
+        sorts::RETURN => returns(code, values, k, i),
+        sorts::RAISE => raises(code, values, k, i),
+        sorts::EXIT => word(code, EXIT, true, i),
+        sorts::RETRY => word(code, RETRY, handler, i),
+        sorts::TRYNEXT => word(code, TRY_NEXT, handler, i),
+        sorts::TPWRITE => writes(text, code, values, i),
+        _ => reads(text, code, values, i),
+    }
+}

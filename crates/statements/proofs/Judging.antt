@@ -1,0 +1,89 @@
+-- What the check of an expression says of the expression of a statement.
+use mathlib.Core.Path.{_≡_, refl, sym, ap, subst, _∙_}
+use mathlib.Core.Bool.{Bool, true, false}
+use mathlib.Core.List.{List, []}
+use mathlib.Core.Option.{some}
+use Prim.Native.Nat.{ℕ, suc, _+_, _-_, _*_, _<_, _≤_}
+use native.Mathlib.Omega.{arith}
+use lib.ListN.{length}
+use lib.Dec.{eqb, ltb}
+use borrow.Author.Tests.{lt-ltb, ne-eqb}
+use Rattle.cells.specs.Words.{wordsOf}
+use Rattle.climb.proofs.Operands.{deeper}
+use Rattle.paper.specs.Trees.{Expr, first}
+use Rattle.paper.specs.Expressions.{nestings, levelOf}
+use Rattle.paper.specs.Names.{DataType, sortIn}
+use Rattle.paper.specs.Types.{ofType, termOf, judge}
+use Rattle.code.specs.Cells.{opAt}
+use Rattle.grammar.specs.Form.{Parses, ExprAt}
+use Rattle.expressions.specs.declared.Judged.{Judged}
+use Rattle.expressions.specs.declared.Judged.the-variants.{Typed, Faulty}
+use Rattle.expressions.specs.Known.{Loaded}
+use Rattle.expressions.specs.Answers.{Kept, typeIf, Sound, Judges, Stands, OfType}
+use Rattle.expressions.proofs.Around.{says-typed, says-faulty}
+use Rattle.faults.specs.First.{First}
+use Rattle.faults.proofs.Expressions.{of-type-first}
+use Rattle.links.specs.Resolved.{isLed, goesByLink, goesByValue, goesByPlace}
+use Rattle.links.specs.Raw.{RawTerm}
+use Rattle.simple.specs.declared.Setting.{Setting}
+use Rattle.simple.specs.Around.{Around, groundOf}
+use Rattle.statements.specs.Answers.{Outside, Here}
+use Rattle.statements.proofs.Frames.{kept-outside, here-on}
+
+-- ops below those of steps lead nowhere
+pub low-still : (op : ℕ) → op < 128 → isLed op ≡ false
+unfolding isLed goesByLink goesByValue goesByPlace
+low-still op h =
+    rw (lt-ltb op 128 h, ne-eqb op 162 (λ e. omega arith), ne-eqb op 163 (λ e. omega arith), ne-eqb op 157 (λ e. omega arith), ne-eqb op 158 (λ e. omega arith), ne-eqb op 165 (λ e. omega arith))
+
+module _ (text code values : List ℕ) (g : Around text values) (k : Setting) (used at to : ℕ) (h : Here g code k used at to) (e : Expr) (a z : ℕ)
+    (is : ExprAt (sortIn (g .known .W)) (Parses (sortIn (g .known .W))) e a z) (ends : levelOf (sortIn (g .known .W) z) ≡ 0) (low : at ≤ a) (high : z ≤ to) where
+  loaded : Loaded (g .known .W) code a z
+  loaded = record {
+    words = λ i l m. h .unread .loaded .words i (omega arith) (omega arith);
+    last = omega (arith, h .unread .loaded .last);
+    room = omega (arith, h .unread .loaded .room);
+  }
+
+  pub expression-stands : Stands code values 5 a
+  expression-stands = record {
+    known = g .known;
+    d = nestings;
+    e = e;
+    to = z;
+    tops = omega arith;
+    is = deeper (sortIn (g .known .W)) (suc nestings) a (e, z) is .is;
+    ends = λ f. absurd (omega (arith, ends, f));
+    loaded = loaded;
+  }
+
+  module _ (after : List ℕ) (wants : Bool) (r : Judged) (c : OfType code values after false wants a r) where
+    judges : Judges (g .known .m) (g .known .n) code after a z (record { type = typeIf wants; faults = ofType (g .known .W) (typeIf wants) (g .known .S) e; term = termOf (g .known .W) (g .known .S) e }) r
+    unfolding expression-stands ofType termOf
+    judges = c .is expression-stands
+
+    -- what is found is the first fault
+    pub judged-faulty : (number word : ℕ) → r ≡ Faulty number word → First (record { number = number; at = word }) (ofType (g .known .W) (typeIf wants) (g .known .S) e)
+    judged-faulty number word q =
+        let f = says-faulty _ _ _ _ _ _ r number word q (judges .says) in
+        of-type-first (g .known .W) (suc nestings) a e z is (record { number = number; at = word }) (f .others) (typeIf wants) (g .known .S) (f .faults-are)
+
+    module _ (bool : Bool) (next : ℕ) (q : r ≡ Typed bool next) where
+      sound : Sound (g .known .m) (g .known .n) (wordsOf after) a z (record { type = typeIf wants; faults = ofType (g .known .W) (typeIf wants) (g .known .S) e; term = termOf (g .known .W) (g .known .S) e }) bool next
+      sound = says-typed _ _ _ _ _ _ r bool next q (judges .says)
+
+      pub judged-none : ofType (g .known .W) (typeIf wants) (g .known .S) e ≡ []
+      judged-none = sound .none
+
+      pub judged-next : next ≡ z
+      judged-next = sound .next-is
+
+      pub judged-term : RawTerm (groundOf g) (g .known .n) (wordsOf after) (g .known .S) e a z
+      unfolding groundOf
+      judged-term = record {
+        is = sound .stands;
+        quiet = λ i l m. low-still _ (judges .low .stays i (subst (λ (x : ℕ). x < 128) (sym (h .unread .loaded .words i (omega arith) (omega arith) .sort)) (g .sorts i)));
+      }
+
+      pub judged-kept : Kept code after a z
+      judged-kept = judges .kept

@@ -1,0 +1,6 @@
+pub mod Frames
+pub mod Judging
+pub mod Walking
+pub mod Whiles
+pub mod Compacts
+pub mod Elses

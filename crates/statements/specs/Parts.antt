@@ -1,0 +1,350 @@
+-- The parts of the check of statements that hold lists.
+use mathlib.Core.Path.{_≡_}
+use mathlib.Core.Bool.{Bool, false}
+use mathlib.Core.List.{List, [], _∷_, _++_}
+use mathlib.Core.Option.{Option}
+use Prim.Native.Nat.{ℕ, suc, _+_, _*_, _<_, _≤_}
+use lib.ListN.{length}
+use lib.IntN.{ℤ}
+use Rattle.paper.specs.Sorts.{IF, FOR, WHILE, TEST, DO, ELSE, ELSEIF, ENDIF, THEN, ENDTEST, semicolon, colon}
+use Rattle.paper.specs.Words.{Word, wordLimit}
+use Rattle.paper.specs.Terms.{Memory}
+use Rattle.paper.specs.Trees.{Expr, Simple, Statements, Arms, Cases, arm, noArm, compactIf, fullIf}
+use Rattle.paper.specs.Expressions.{levelOf}
+use Rattle.paper.specs.Names.{aNum, Scopes, sortIn, spelled, cannotDeclare}
+use Rattle.paper.specs.Types.{Fault, faultIf, ofType, constantValue}
+use Rattle.paper.specs.Declarations.{routineWordLimit, crosses}
+use Rattle.paper.specs.Checks.{forsInList, forsInArms, forsInCases, optionalNum, simpleFaults, caseFaults, listFaults, armFaults, casesFaults}
+use Rattle.cells.specs.Words.{wordsOf}
+use Rattle.code.specs.Cells.{opAt, placeAt, linkAt}
+use Rattle.code.specs.Steps.{aWhile, aFor, aForTest, aCase, aNextValue, aThen, aDo, aPass, constantAt}
+use Rattle.evaluation.specs.Answers.{callWords}
+use Rattle.names.specs.Meanings.{isProtected}
+use Rattle.names.specs.Promises.{storeBytes, tailWith, Rewritten}
+use Rattle.grammar.specs.Form.{Parses, ExprAt, SimpleAt, StepAt, ForHeadAt, ExprsAt, ListAt, ArmsAt, ElseAt, CasesAt, DefaultAt}
+use Rattle.expressions.specs.declared.Judged.{Judged}
+use Rattle.expressions.specs.Parts.{Linked}
+use Rattle.links.specs.Resolved.{isLed}
+use Rattle.links.specs.Raw.{Ground, RawTerm, RawBound, RawStep, RawElse, RawConstants, RawDefault, RawStatement, RawList, RawCases}
+use Rattle.simple.specs.declared.Setting.{Setting}
+use Rattle.simple.specs.Around.{Around, groundOf, offsetIn, Calls}
+use Rattle.simple.specs.Answers as simple
+use Rattle.statements.specs.declared.Walked.{Walked}
+use Rattle.statements.specs.Answers.{Outside, Here, Stands, Answer, StatementAnswer}
+
+-- ---- a simple statement
+pub record Plain (text code values : List ℕ) (k : Setting) (used at : ℕ) : Type 0 where
+  pub stands : Stands text code values k used at
+  pub no-if : sortIn (stands .around .known .W) at ≡ IF → ⊥
+  pub no-for : sortIn (stands .around .known .W) at ≡ FOR → ⊥
+  pub no-while : sortIn (stands .around .known .W) at ≡ WHILE → ⊥
+  pub no-test : sortIn (stands .around .known .W) at ≡ TEST → ⊥
+
+pub record Plainly (text code values after : List ℕ) (k : Setting) (used at : ℕ) (r : Walked) : Type 0 where
+  pub is : (g : Plain text code values k used at) → StatementAnswer (g .stands) after values r
+
+-- ---- WHILE at i, DO at d, ENDWHILE at e
+pub record WhileEnded (before after : List ℕ) (i d e : ℕ) : Type 0 where
+  pub one : List ℕ
+  pub two : List ℕ
+  pub opens : Linked before one d aDo (d + 1) 0
+  pub again : Linked one two e aPass 0 i
+  pub head : Linked two after i aWhile d (e + 1)
+
+-- ---- FOR
+-- An expression of num behind the word i, whose link it gets, up to z.
+pub record Bounds (code values : List ℕ) (i : ℕ) : Type 0 where
+  pub text : List ℕ
+  pub k : Setting
+  pub used : ℕ
+  pub to : ℕ
+  pub around : Around text values
+  pub here : Here around code k used (i + 1) to
+  pub still : isLed (opAt (wordsOf code) i) ≡ false
+  pub e : Expr
+  pub z : ℕ
+  pub is : ExprAt (sortIn (around .known .W)) (Parses (sortIn (around .known .W))) e (i + 1) z
+  pub ends : levelOf (sortIn (around .known .W) z) ≡ 0
+  pub inside : z ≤ to
+
+pub record Bounded (code values after : List ℕ) (i : ℕ) (r : Judged) : Type 0 where
+  pub is : (g : Bounds code values i)
+      → simple.Answer (ofType (g .around .known .W) aNum (g .around .known .S) (g .e)) code after i (g .z)
+      (RawBound (groundOf (g .around)) (g .around .known .n) (wordsOf after) (g .around .known .S) (g .e) i (g .z)) r
+
+-- STEP with its bound, or DO, at s
+pub record Steps (code values : List ℕ) (s : ℕ) : Type 0 where
+  pub text : List ℕ
+  pub k : Setting
+  pub used : ℕ
+  pub to : ℕ
+  pub around : Around text values
+  pub here : Here around code k used s to
+  pub c : Option Expr
+  pub d : ℕ
+  pub is : StepAt (sortIn (around .known .W)) (Parses (sortIn (around .known .W))) c s d
+  pub doWord : sortIn (around .known .W) d ≡ DO
+  pub inside : d ≤ to
+
+pub record Stepped (code values after : List ℕ) (s : ℕ) (r : Judged) : Type 0 where
+  pub is : (g : Steps code values s)
+      → simple.Answer (optionalNum (g .around .known .W) (g .around .known .S) (g .c)) code after s (g .d)
+      (RawStep (groundOf (g .around)) (g .around .known .n) (wordsOf after) (g .around .known .S) (g .c) s (g .d)) r
+
+-- From FOR at i up to its DO.
+pub record ForHeads (code values : List ℕ) (used i : ℕ) : Type 0 where
+  pub text : List ℕ
+  pub k : Setting
+  pub to : ℕ
+  pub around : Around text values
+  pub here : Here around code k used i to
+  pub a : Expr
+  pub b : Expr
+  pub c : Option Expr
+  pub doAt : ℕ
+  pub is : ForHeadAt (sortIn (around .known .W)) (Parses (sortIn (around .known .W))) (i + 1) a b c i doAt
+  pub inside : doAt < to
+
+-- its bounds, by its TO and what comes after the bound there
+pub record RawHead (g : Ground) (n : ℕ) (C : List ℕ) (S : Scopes) (a b : Expr) (c : Option Expr) (i d : ℕ) : Type 0 where
+  pub t : ℕ
+  pub s : ℕ
+  pub lower : RawBound g n C S a (i + 2) t
+  pub upper : RawBound g n C S b t s
+  pub steps : RawStep g n C S c s d
+
+-- the name is free, and there is a word for it
+pub record ForMay (g : Ground) (n : ℕ) (C : List ℕ) (S : Scopes) (used : ℕ) (a b : Expr) (c : Option Expr) (i d : ℕ) : Type 0 where
+  pub free : isProtected (spelled (g .W) (i + 1)) ≡ false
+  pub spare : used < callWords
+  pub bounds : RawHead g n C S a b c i d
+
+pub record ForHeaded (code values after : List ℕ) (used i : ℕ) (r : Judged) : Type 0 where
+  pub is : (g : ForHeads code values used i)
+      → simple.Answer
+      (faultIf (cannotDeclare [] (spelled (g .around .known .W) (i + 1))) 10 (i + 1)
+      ++ faultIf (crosses routineWordLimit used 1) 16 (i + 1)
+      ++ ofType (g .around .known .W) aNum (g .around .known .S) (g .a)
+      ++ ofType (g .around .known .W) aNum (g .around .known .S) (g .b)
+      ++ optionalNum (g .around .known .W) (g .around .known .S) (g .c))
+      code after (i + 2) (g .doAt)
+      (ForMay (groundOf (g .around)) (g .around .known .n) (wordsOf after) (g .around .known .S) used (g .a) (g .b) (g .c) i (g .doAt)) r
+
+-- DO at d, ENDFOR at e, which has FOR's offset
+pub record ForEnded (before after : List ℕ) (used i d e : ℕ) : Type 0 where
+  pub one : List ℕ
+  pub two : List ℕ
+  pub opens : Linked before one d aDo (d + 1) 0
+  pub head : Linked one two i aFor used (e + 1)
+  pub test : Rewritten two after e (aForTest + 256 * (used + 256 * i)) (tailWith (placeAt (wordsOf two) i) (d + 1))
+
+-- ---- IF
+-- A compact IF at i, whose condition ends before t.
+pub record Compacts (text code values : List ℕ) (k : Setting) (used i t : ℕ) : Type 0 where
+  pub to : ℕ
+  pub around : Around text values
+  pub here : Here around code k used t to
+  pub before : i < t
+  pub place : placeAt (wordsOf code) i ≡ offsetIn (around .known .W) i
+  pub e : Expr
+  pub term : RawTerm (groundOf (around)) (around .known .n) (wordsOf code) (around .known .S) e (i + 1) t
+  pub s : Simple
+  pub n : ℕ
+  pub is : SimpleAt (sortIn (around .known .W)) (Parses (sortIn (around .known .W))) s t n
+  pub ends : sortIn (around .known .W) n ≡ semicolon
+  pub after : to ≡ n + 1
+
+pub record Compacted (text code values after : List ℕ) (k : Setting) (used i t : ℕ) (r : Walked) : Type 0 where
+  pub is : (g : Compacts text code values k used i t)
+      → Answer (simpleFaults (g .around .known .W) (g .around .K) (g .around .known .S) (g .s)) code after values values i (g .to) used
+      (RawStatement (groundOf (g .around)) (g .around .known .n) (wordsOf after) (compactIf i (g .e) (g .s)) (g .around .known .S) used i (g .to)) r
+
+-- THEN at t and its list b, and the other arms, up to ELSE or ENDIF
+pub record ThenAt (W : ℕ → ℕ) (d : ℕ) (b : Statements) (rest : Arms) (t last : ℕ) : Type 0 where
+  pub thenWord : W t ≡ THEN
+  pub m : ℕ
+  pub list : ListAt W (Parses W) d b (t + 1) m
+  pub more : W m ≡ ELSEIF → ArmsAt W (Parses W) d rest (m + 1) last
+  pub none-more : (W m ≡ ELSEIF → ⊥) → (rest ≡ noArm) × (last ≡ m)
+
+-- A full IF at i, whose condition ends before THEN at t.
+pub record Thens (text code values : List ℕ) (k : Setting) (used i t : ℕ) : Type 0 where
+  pub to : ℕ
+  pub around : Around text values
+  pub here : Here around code k used t to
+  pub calls : Calls (around) code i to
+  pub before : i < t
+  pub place : placeAt (wordsOf code) i ≡ offsetIn (around .known .W) i
+  pub e : Expr
+  pub term : RawTerm (groundOf (around)) (around .known .n) (wordsOf code) (around .known .S) e (i + 1) t
+  pub d : ℕ
+  pub b : Statements
+  pub rest : Arms
+  pub o : Statements
+  pub last : ℕ
+  pub z : ℕ
+  pub is : ThenAt (sortIn (around .known .W)) d b rest t last
+  pub otherwise : ElseAt (sortIn (around .known .W)) (Parses (sortIn (around .known .W))) d o last z
+  pub ends : sortIn (around .known .W) z ≡ ENDIF
+  pub after : to ≡ z + 1
+  pub room : used + (forsInList b + forsInArms rest + forsInList o) ≤ around .known .n
+
+pub record Thened (text code values after values′ : List ℕ) (k : Setting) (used i t : ℕ) (r : Walked) : Type 0 where
+  pub is : (g : Thens text code values k used i t)
+      → Answer
+      (listFaults (g .around .known .W) (g .around .K) (g .around .M) (g .b) (g .around .known .S) used
+      ++ armFaults (g .around .known .W) (g .around .K) (g .around .M) (g .rest) (g .around .known .S) (used + forsInList (g .b))
+      ++ listFaults (g .around .known .W) (g .around .K) (g .around .M) (g .o) (g .around .known .S) (used + (forsInList (g .b) + forsInArms (g .rest))))
+      code after values values′ i (g .to) (used + (forsInList (g .b) + forsInArms (g .rest) + forsInList (g .o)))
+      (RawStatement (groundOf (g .around)) (g .around .known .n) (wordsOf after) (fullIf i (arm (g .e) (g .b) (g .rest)) (g .o)) (g .around .known .S) used i (g .to)) r
+
+-- Where the list of the last THEN goes on if its condition does not hold: behind ELSE, or at ENDIF.
+pub record BehindElse (code : List ℕ) (e r : ℕ) : Type 0 where
+  pub at-else : opAt (wordsOf code) e ≡ ELSE → r ≡ e + 1
+  pub elsewhere : (opAt (wordsOf code) e ≡ ELSE → ⊥) → r ≡ e
+  pub small : r < 65536
+
+-- The list of the THEN at t is closed by the word e; its arm begins with the word c.
+pub record ArmEnded (before after : List ℕ) (op c t e : ℕ) : Type 0 where
+  pub mid : List ℕ
+  pub link : ℕ
+  pub behind : BehindElse before e link
+  pub then-is : Linked before mid t aThen (t + 1) link
+  pub arm-is : Linked mid after c op t e
+
+-- ELSE with its list, or ENDIF, at c
+pub record Elses (text code values : List ℕ) (k : Setting) (used c : ℕ) : Type 0 where
+  pub to : ℕ
+  pub around : Around text values
+  pub here : Here around code k used c to
+  pub d : ℕ
+  pub o : Statements
+  pub z : ℕ
+  pub is : ElseAt (sortIn (around .known .W)) (Parses (sortIn (around .known .W))) d o c z
+  pub ends : sortIn (around .known .W) z ≡ ENDIF
+  pub after : to ≡ z + 1
+  pub room : used + forsInList o ≤ around .known .n
+
+-- what is written of it: where its list begins, and what a run reads
+pub record ElseWritten (W : ℕ → ℕ) (raw : (first : ℕ) → Type 0) (c : ℕ) : Type 0 where
+  pub first : ℕ
+  pub at-else : W c ≡ ELSE → first ≡ c + 1
+  pub elsewhere : (W c ≡ ELSE → ⊥) → first ≡ c
+  pub is : raw first
+
+pub record Elsed (text code values after values′ : List ℕ) (k : Setting) (used c : ℕ) (r : Walked) : Type 0 where
+  pub is : (g : Elses text code values k used c)
+      → Answer (listFaults (g .around .known .W) (g .around .K) (g .around .M) (g .o) (g .around .known .S) used) code after values values′ c (g .to) (used + forsInList (g .o))
+      (ElseWritten (sortIn (g .around .known .W))
+      (λ (first : ℕ). RawElse (groundOf (g .around)) (g .around .known .n) (wordsOf after)
+      (λ (x y : ℕ). RawList (groundOf (g .around)) (g .around .known .n) (wordsOf after) (g .o) (g .around .known .S) used x y) c first (g .to)) c) r
+
+-- ---- TEST
+-- A value of a CASE behind the one at w, at its comma.
+pub record ChainValue (C : List ℕ) (value : ℤ) (more : ℕ → Type 0) (colon w : ℕ) : Type 0 where
+  pub v : ℕ
+  pub leaves : linkAt C w ≡ v
+  pub on : w < v
+  pub before : v < colon
+  pub op : opAt C v ≡ aNextValue
+  pub constant : constantAt C v ≡ value
+  pub rest : more v
+
+module _ (W : List Word) (S : Scopes) (M : Memory) (C : List ℕ) where
+  -- those behind the one at w, each of which leads to the next, and the last to the colon
+  unfoldable pub Chain : List Expr → (colon w : ℕ) → Type 0
+  Chain [] colon w = linkAt C w ≡ colon
+  Chain (e ∷ es) colon w = ChainValue C (constantValue W S M e) (Chain es colon) colon w
+
+  -- all values of a CASE at c
+  unfoldable pub CaseChain : List Expr → (colon c : ℕ) → Type 0
+  CaseChain [] colon c = ⊥
+  CaseChain (e ∷ es) colon c = (opAt C c ≡ aCase) × (constantAt C c ≡ constantValue W S M e) × Chain es colon c
+
+-- the values of a CASE at c
+pub record CaseValues (code values : List ℕ) (c : ℕ) : Type 0 where
+  pub text : List ℕ
+  pub k : Setting
+  pub used : ℕ
+  pub to : ℕ
+  pub around : Around text values
+  pub here : Here around code k used c to
+  pub es : List Expr
+  pub n : ℕ
+  pub is : ExprsAt (sortIn (around .known .W)) (Parses (sortIn (around .known .W))) es (c + 1) n
+  pub ends : sortIn (around .known .W) n ≡ colon
+  pub inside : n < to
+
+pub record CaseValued (code values after : List ℕ) (c : ℕ) (r : Judged) : Type 0 where
+  pub is : (g : CaseValues code values c)
+      → simple.Answer (caseFaults (g .around .known .W) (g .around .known .S) (g .around .M) (g .es)) code after c (g .n)
+      (CaseChain (g .around .known .W) (g .around .known .S) (g .around .M) (wordsOf after) (g .es) (g .n) c) r
+
+pub record Chained (code : List ℕ) (colon c : ℕ) : Type 0 where
+  pub W : List Word
+  pub S : Scopes
+  pub M : Memory
+  pub es : List Expr
+  pub is : CaseChain W S M (wordsOf code) es colon c
+  pub before : c < colon
+  pub last : colon < wordLimit
+  pub room : storeBytes ≤ length code
+
+-- The values have the list's first word as their place, and the last one leads to the word that closes the list.
+pub record ValuesLinked (before after : List ℕ) (colon next c : ℕ) : Type 0 where
+  pub op : opAt (wordsOf after) c ≡ opAt (wordsOf before) c
+  pub place : placeAt (wordsOf after) c ≡ colon + 1
+  pub values : (g : Ground) (n : ℕ) (S : Scopes) (es : List Expr) → CaseChain (g .W) S (g .M) (wordsOf before) es colon c → RawConstants g n (wordsOf after) S es (colon + 1) next c
+  pub outside : Outside (wordsOf before) (wordsOf after) c colon
+  pub long : length after ≡ length before
+
+-- DEFAULT with its list, or ENDTEST, at c
+pub record Defaults (text code values : List ℕ) (k : Setting) (used c : ℕ) : Type 0 where
+  pub to : ℕ
+  pub around : Around text values
+  pub here : Here around code k used c to
+  pub d : ℕ
+  pub o : Statements
+  pub z : ℕ
+  pub is : DefaultAt (sortIn (around .known .W)) (Parses (sortIn (around .known .W))) d o c z
+  pub ends : sortIn (around .known .W) z ≡ ENDTEST
+  pub after : to ≡ z + 1
+  pub room : used + forsInList o ≤ around .known .n
+
+pub record Defaulted (text code values after values′ : List ℕ) (k : Setting) (used c : ℕ) (r : Walked) : Type 0 where
+  pub is : (g : Defaults text code values k used c)
+      → Answer (listFaults (g .around .known .W) (g .around .K) (g .around .M) (g .o) (g .around .known .S) used) code after values values′ c (g .to) (used + forsInList (g .o))
+      (RawDefault (groundOf (g .around)) (g .around .known .n) (wordsOf after)
+      (λ (x y : ℕ). RawList (groundOf (g .around)) (g .around .known .n) (wordsOf after) (g .o) (g .around .known .S) used x y) c (g .to)) r
+
+-- the cases of a TEST from c on, and its DEFAULT
+pub record Chooses (text code values : List ℕ) (k : Setting) (used c : ℕ) : Type 0 where
+  pub to : ℕ
+  pub around : Around text values
+  pub here : Here around code k used c to
+  pub d : ℕ
+  pub cs : Cases
+  pub o : Statements
+  pub last : ℕ
+  pub z : ℕ
+  pub is : CasesAt (sortIn (around .known .W)) (Parses (sortIn (around .known .W))) d cs c last
+  pub otherwise : DefaultAt (sortIn (around .known .W)) (Parses (sortIn (around .known .W))) d o last z
+  pub ends : sortIn (around .known .W) z ≡ ENDTEST
+  pub after : to ≡ z + 1
+  pub room : used + (forsInCases cs + forsInList o) ≤ around .known .n
+
+pub record CasesWritten (cases : (last : ℕ) → Type 0) (default : (last : ℕ) → Type 0) : Type 0 where
+  pub last : ℕ
+  pub cases-are : cases last
+  pub default-is : default last
+
+pub record Chosen (text code values after values′ : List ℕ) (k : Setting) (used c : ℕ) (r : Walked) : Type 0 where
+  pub is : (g : Chooses text code values k used c)
+      → Answer
+      (casesFaults (g .around .known .W) (g .around .K) (g .around .M) (g .cs) (g .around .known .S) used
+      ++ listFaults (g .around .known .W) (g .around .K) (g .around .M) (g .o) (g .around .known .S) (used + forsInCases (g .cs)))
+      code after values values′ c (g .to) (used + (forsInCases (g .cs) + forsInList (g .o)))
+      (CasesWritten
+      (λ (last : ℕ). RawCases (groundOf (g .around)) (g .around .known .n) (wordsOf after) (g .cs) (g .around .known .S) used c last)
+      (λ (last : ℕ). RawDefault (groundOf (g .around)) (g .around .known .n) (wordsOf after)
+      (λ (x y : ℕ). RawList (groundOf (g .around)) (g .around .known .n) (wordsOf after) (g .o) (g .around .known .S) (used + forsInCases (g .cs)) x y) last (g .to))) r
