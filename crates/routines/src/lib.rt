@@ -156,15 +156,15 @@ fn lists(
     code: &mut [u8],
     values: &mut [u8],
     result: u32,
-    data: u32,
+    taken: u32,
     h: usize,
     at: usize,
 ) -> statements::Walked
-    requires { ⌜ ListsStand (now text) (now code) (now values) result data h at ⌝ }
-    ensures { λ r. ⌜ Lists (now (text .entry)) (now (code .entry)) (now (values .entry)) (now (code .exit)) (now (values .exit)) result data h at r ⌝ }
+    requires { ⌜ ListsStand (now text) (now code) (now values) result taken h at ⌝ }
+    ensures { λ r. ⌜ Lists (now (text .entry)) (now (code .entry)) (now (values .entry)) (now (code .exit)) (now (values .exit)) result taken h at r ⌝ }
 {
     let setting = Setting { result: result, handler: false };
-    let r = statements::list(text, code, values, setting, data, at);
+    let r = statements::list(text, code, values, setting, taken, at);
     let statements::Walked::Upto(e, n) = r else {
         return r;
     };
