@@ -1,1 +1,6 @@
 pub mod Leaves
+pub mod Naming
+pub mod Filling
+pub mod Surrounding
+pub mod Going
+pub mod Erring
