@@ -194,75 +194,97 @@ module _ (text code values : List ℕ) (result used e leads : ℕ) where
   pub errors-none : {f : Bool} (mid : List ℕ) → f ≡ not (eqb result 0) → leads ≡ 0 → Linked code mid e (endOf f) 0 (linkAt (wordsOf code) e)
       → Errors text code values mid values result used e leads (Upto (e + 1) used)
   unfolding Tell groundOf offsetIn
-  errors-none mid fl z c = record { is = λ g. record {
-    tells = record {
-      none = no-faults _ _ _ _ _ _ (missing g z .0);
-      next-is = omega (arith, missing g z .1, g .closes, g .inside .stands .form .after);
-      used-is = omega (arith, g .used-is, fors-none (g .inside .stands .W) (g .inside .stands .r) (missing g z .0));
-      few = g .few;
-      written = record {
-        op = subst (λ (i : ℕ). opAt (wordsOf mid) i ≡ endOf (isSome (g .inside .stands .r .result))) (g .closes) (c .op-is ∙ ap endOf (fl ∙ flag g));
-        place = subst (λ (i : ℕ). placeAt (wordsOf mid) i ≡ groundIn (g .inside) .offset i) (g .closes)
-            (c .kept .places e ∙ g .onward .unread .places e (omega arith) (closes-inside g));
-        errors = no-lines _ _ _ _ _ (missing g z .0);
+  errors-none mid fl z c = record {
+    is = λ g. record {
+      tells = record {
+        none = no-faults _ _ _ _ _ _ (missing g z .0);
+        next-is = omega (arith, missing g z .1, g .closes, g .inside .stands .form .after);
+        used-is = omega (arith, g .used-is, fors-none (g .inside .stands .W) (g .inside .stands .r) (missing g z .0));
+        few = g .few;
+        written = record {
+          op = subst (λ (i : ℕ). opAt (wordsOf mid) i ≡ endOf (isSome (g .inside .stands .r .result))) (g .closes) (c .op-is ∙ ap endOf (fl ∙ flag g));
+          place = subst (λ (i : ℕ). placeAt (wordsOf mid) i ≡ groundIn (g .inside) .offset i) (g .closes)
+              (c .kept .places e ∙ g .onward .unread .places e (omega arith) (closes-inside g));
+          errors = no-lines _ _ _ _ _ (missing g z .0);
+        };
+        outside = outside-wider e (g .inside .stands .to) (omega arith) (omega (arith, closes-inside g, g .inside .stands .form .after)) (outside-kept code mid e (e + 1) (c .kept));
+        same = refl;
       };
-      outside = outside-wider e (g .inside .stands .to) (omega arith) (omega (arith, closes-inside g, g .inside .stands .form .after)) (outside-kept code mid e (e + 1) (c .kept));
-      same = refl;
+      long = c .kept .long;
     };
-    long = c .kept .long;
-  } }
+  }
 
   module _ (z : leads ≡ 0 → ⊥) {f : Bool} (fl : f ≡ not (eqb result 0)) (mid after values′ : List ℕ) (c : Linked code mid e (endOf f) 0 (linkAt (wordsOf code) e)) where
-    pub errors-faulty : (number word : ℕ) → Listed text mid values after values′ (record { result = result; handler = true }) used leads (Faulty number word)
+    errors-faulty-so : (number word : ℕ) → Listed text mid values after values′ (record { result = result; handler = true }) used leads (Faulty number word)
         → Errors text code values after values′ result used e leads (Faulty number word)
     unfolding Tell
-    errors-faulty number word x = record { is = λ g. let a = answered g z mid (endOf f) c after values′ (Faulty number word) x in record {
-      tells = subst (First (record { number = number; at = word })) (sym (faults-are g z mid (endOf f) c)) (a .tells);
-      long = a .long ∙ c .kept .long;
-    } }
+    errors-faulty-so number word x = record {
+      is = λ g. let a = answered g z mid (endOf f) c after values′ (Faulty number word) x in record {
+        tells = subst (First (record { number = number; at = word })) (sym (faults-are g z mid (endOf f) c)) (a .tells);
+        long = a .long ∙ c .kept .long;
+      };
+    }
 
     module _ (next u : ℕ) (x : Listed text mid values after values′ (record { result = result; handler = true }) used leads (Upto next u)) where
-      pub next-room : ErrorsStand text code values result used e leads → next * 8 + 8 ≤ length after
+      next-room-so : ErrorsStand text code values result used e leads → next * 8 + 8 ≤ length after
       unfolding Tell
-      next-room g =
+      next-room-so g =
           let a = answered g z mid (endOf f) c after values′ (Upto next u) x in
           omega (arith, a .tells .next-is, g .onward .unread .loaded .room, a .long, c .kept .long)
 
-      pub next-small : ErrorsStand text code values result used e leads → next < 8192
+      next-small-so : ErrorsStand text code values result used e leads → next < 8192
       unfolding Tell
-      next-small g =
+      next-small-so g =
           let a = answered g z mid (endOf f) c after values′ (Upto next u) x in
           omega (arith, a .tells .next-is, g .onward .unread .loaded .last)
 
-      pub errors-some : (last : List ℕ) → Linked after last next (endOf f) 0 (linkAt (wordsOf after) next) → Errors text code values last values′ result used e leads (Upto (next + 1) u)
+      errors-some-so : (last : List ℕ) → Linked after last next (endOf f) 0 (linkAt (wordsOf after) next) → Errors text code values last values′ result used e leads (Upto (next + 1) u)
       unfolding Tell groundOf offsetIn
-      errors-some last q = record { is = λ g.
-        let a = answered g z mid (endOf f) c after values′ (Upto next u) x in
-        let d = a .tells in
-        let n : next ≡ end g = d .next-is in
-        let to-is : g .inside .stands .to ≡ end g + 1 = g .inside .stands .form .after in
-        let lead : leads ≡ e + 1 = leads-next g z in
-        let i : e ≤ end g = closes-inside g in
-        let first : Outside (wordsOf code) (wordsOf mid) e (e + 1) = outside-kept code mid e (e + 1) (c .kept) in
-        let second : Outside (wordsOf mid) (wordsOf after) leads (end g) = d .outside in
-        let third : Outside (wordsOf after) (wordsOf last) next (next + 1) = outside-kept after last next (next + 1) (q .kept) in
-        let apart : e < end g = behind g z mid (endOf f) c in
-        let both : Outside (wordsOf code) (wordsOf after) e (end g) = outside-on (omega arith) (omega arith) (omega arith) (omega arith) first second in
-        record {
-          tells = record {
-            none = faults-are g z mid (endOf f) c ∙ d .none;
-            next-is = omega arith;
-            used-is = omega (arith, d .used-is, g .used-is, fors-are g z);
-            few = d .few;
-            written = record {
-              op = subst (λ (j : ℕ). opAt (wordsOf last) j ≡ endOf (isSome (g .inside .stands .r .result))) (g .closes)
-                  (ap (λ (w : ℕ). w % 256) (third .below (e * 2) (omega arith) ∙ second .below (e * 2) (omega arith)) ∙ c .op-is ∙ ap endOf (fl ∙ flag g));
-              place = subst (λ (j : ℕ). placeAt (wordsOf last) j ≡ groundIn (g .inside) .offset j) (g .closes)
-                  (ap (λ (w : ℕ). w % 65536) (third .below (e * 2 + 1) (omega arith) ∙ second .below (e * 2 + 1) (omega arith)) ∙ c .kept .places e ∙ g .onward .unread .places e (omega arith) i);
-              errors = some-lines _ _ _ _ _ (l g z) (found g z .is) (lines-are g z mid (endOf f) c after last next (fl ∙ flag g) n second (d .written) q);
+      errors-some-so last q = record {
+        is = λ g.
+            let a = answered g z mid (endOf f) c after values′ (Upto next u) x in
+            let d = a .tells in
+            let n : next ≡ end g = d .next-is in
+            let to-is : g .inside .stands .to ≡ end g + 1 = g .inside .stands .form .after in
+            let lead : leads ≡ e + 1 = leads-next g z in
+            let i : e ≤ end g = closes-inside g in
+            let first : Outside (wordsOf code) (wordsOf mid) e (e + 1) = outside-kept code mid e (e + 1) (c .kept) in
+            let second : Outside (wordsOf mid) (wordsOf after) leads (end g) = d .outside in
+            let third : Outside (wordsOf after) (wordsOf last) next (next + 1) = outside-kept after last next (next + 1) (q .kept) in
+            let apart : e < end g = behind g z mid (endOf f) c in
+            let both : Outside (wordsOf code) (wordsOf after) e (end g) = outside-on (omega arith) (omega arith) (omega arith) (omega arith) first second in
+            record {
+              tells = record {
+                none = faults-are g z mid (endOf f) c ∙ d .none;
+                next-is = omega arith;
+                used-is = omega (arith, d .used-is, g .used-is, fors-are g z);
+                few = d .few;
+                written = record {
+                  op = subst (λ (j : ℕ). opAt (wordsOf last) j ≡ endOf (isSome (g .inside .stands .r .result))) (g .closes)
+                      (ap (λ (w : ℕ). w % 256) (third .below (e * 2) (omega arith) ∙ second .below (e * 2) (omega arith)) ∙ c .op-is ∙ ap endOf (fl ∙ flag g));
+                  place = subst (λ (j : ℕ). placeAt (wordsOf last) j ≡ groundIn (g .inside) .offset j) (g .closes)
+                      (ap (λ (w : ℕ). w % 65536) (third .below (e * 2 + 1) (omega arith) ∙ second .below (e * 2 + 1) (omega arith)) ∙ c .kept .places e ∙ g .onward .unread .places e (omega arith) i);
+                  errors = some-lines _ _ _ _ _ (l g z) (found g z .is) (lines-are g z mid (endOf f) c after last next (fl ∙ flag g) n second (d .written) q);
+                };
+                outside = outside-on (omega arith) (omega arith) (omega arith) (omega arith) both third;
+                same = d .same;
+              };
+              long = q .kept .long ∙ a .long ∙ c .kept .long;
             };
-            outside = outside-on (omega arith) (omega arith) (omega arith) (omega arith) both third;
-            same = d .same;
-          };
-          long = q .kept .long ∙ a .long ∙ c .kept .long;
-        } }
+      }
+
+    abbrev L : Walked → Type 0
+    L x = Listed text mid values after values′ (record { result = result; handler = true }) used leads x
+
+    pub errors-faulty : (x : Walked) → L x → (number word : ℕ) → x ≡ Faulty number word → Errors text code values after values′ result used e leads x
+    errors-faulty x y number word q = subst (λ (w : Walked). Errors text code values after values′ result used e leads w) (sym q) (errors-faulty-so number word (subst L q y))
+
+    module _ (x : Walked) (y : L x) (next u : ℕ) (q : x ≡ Upto next u) where
+      pub next-room : ErrorsStand text code values result used e leads → next * 8 + 8 ≤ length after
+      next-room g = next-room-so next u (subst L q y) g
+
+      pub next-small : ErrorsStand text code values result used e leads → next < 8192
+      next-small g = next-small-so next u (subst L q y) g
+
+      pub errors-some : (last : List ℕ) → Linked after last next (endOf f) 0 (linkAt (wordsOf after) next) → Errors text code values last values′ result used e leads (Upto (next + 1) u)
+      errors-some last k = errors-some-so next u (subst L q y) last k

@@ -80,8 +80,8 @@ module _ {text values : List ℕ} {k h : ℕ} (s : Inside text values k h) where
     unread = record {
       loaded = record {
         words = λ i x y. let z = o .unread .loaded .words i (omega arith) y in
-        let e : headAt (wordsOf code′) i ≡ headAt (wordsOf code) i = q .above (i * 2) (omega arith) in
-        record { sort = ap opIn e ∙ z .sort; value = λ n. ap valueIn e ∙ z .value n; number = λ n. ap (λ (w : ℕ). valueIn w % 8192) e ∙ z .number n };
+            let e : headAt (wordsOf code′) i ≡ headAt (wordsOf code) i = q .above (i * 2) (omega arith) in
+            record { sort = ap opIn e ∙ z .sort; value = λ n. ap valueIn e ∙ z .value n; number = λ n. ap (λ (w : ℕ). valueIn w % 8192) e ∙ z .number n };
         last = o .unread .loaded .last;
         room = omega (arith, o .unread .loaded .room);
       };

@@ -141,7 +141,10 @@ fn errors(
     if leads == 0 {
         return statements::Walked::Upto(e + 1, used);
     }
-    let setting = Setting { result: result, handler: true };
+    let setting = Setting {
+        result: result,
+        handler: true,
+    };
     let r = statements::list(text, code, values, setting, used, leads);
     let statements::Walked::Upto(z, n) = r else {
         return r;
@@ -163,7 +166,10 @@ fn lists(
     requires { ⌜ ListsStand (now text) (now code) (now values) result taken h at ⌝ }
     ensures { λ r. ⌜ Lists (now (text .entry)) (now (code .entry)) (now (values .entry)) (now (code .exit)) (now (values .exit)) result taken h at r ⌝ }
 {
-    let setting = Setting { result: result, handler: false };
+    let setting = Setting {
+        result: result,
+        handler: false,
+    };
     let r = statements::list(text, code, values, setting, taken, at);
     let statements::Walked::Upto(e, n) = r else {
         return r;
