@@ -4,3 +4,4 @@ pub mod Filling
 pub mod Surrounding
 pub mod Going
 pub mod Erring
+pub mod Listing
