@@ -5,3 +5,4 @@ pub mod Surrounding
 pub mod Going
 pub mod Erring
 pub mod Listing
+pub mod Parting
