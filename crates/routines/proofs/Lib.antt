@@ -6,3 +6,4 @@ pub mod Going
 pub mod Erring
 pub mod Listing
 pub mod Parting
+pub mod Entering
