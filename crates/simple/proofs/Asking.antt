@@ -73,7 +73,7 @@ pub record Told {values : List ℕ} (k : Known values) (fs : List Fault) (before
 
 module _ {code values : List ℕ} (k : Known values) (sorts : (i : ℕ) → sortIn (k .W) i < 128) (d at : ℕ) (e : Expr) (to : ℕ) (p : Parses (sortIn (k .W)) d at e to) (l : Loaded (k .W) code at to)
     (no : levelOf (sortIn (k .W) to) ≡ 0) where
-  pub asks : expressions.Stands code values 5 at
+  unfoldable pub asks : expressions.Stands code values 5 at
   asks = record {
     known = k;
     d = d - 1;

@@ -4,3 +4,4 @@ pub mod Spelling
 pub mod Asking
 pub mod Passing
 pub mod Counting
+pub mod Arguing
