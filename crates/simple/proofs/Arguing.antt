@@ -164,11 +164,11 @@ next-level around n z rest ended low =
     by-same (sortIn (around .known .W) n) comma (λ c. no-operator _ _ c level-comma) (λ c. ap (λ (i : ℕ). levelOf (sortIn (around .known .W) i)) (sym (ended c .1)) ∙ low)
 
 -- ---- one argument more
-types-next : (D : List ℕ) (k i : ℕ) → typesAt D (suc k) i ≡ typeAt D i ∷ typesAt D k (i + 3)
+pub types-next : (D : List ℕ) (k i : ℕ) → typesAt D (suc k) i ≡ typeAt D i ∷ typesAt D k (i + 3)
 unfolding typesAt
 types-next D k i = refl
 
-same-tail : {A : Type 0} (x y : A) (xs ys : List A) → x ∷ xs ≡ y ∷ ys → xs ≡ ys
+pub same-tail : {A : Type 0} (x y : A) (xs ys : List A) → x ∷ xs ≡ y ∷ ys → xs ≡ ys
 same-tail x y xs ys e = cc
 
 module _ {text values : List ℕ} (around : Around text values) (a b₀ z : ℕ) (now : List ℕ) (q end : ℕ) (us : List Term) (rest : List Expr) (ts : List DataType)

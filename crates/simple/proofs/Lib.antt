@@ -5,3 +5,5 @@ pub mod Asking
 pub mod Passing
 pub mod Counting
 pub mod Arguing
+pub mod Callees
+pub mod Calling
