@@ -7,3 +7,4 @@ pub mod Counting
 pub mod Arguing
 pub mod Callees
 pub mod Calling
+pub mod Naming
