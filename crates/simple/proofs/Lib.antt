@@ -8,3 +8,4 @@ pub mod Arguing
 pub mod Callees
 pub mod Calling
 pub mod Naming
+pub mod Aiming
