@@ -9,3 +9,4 @@ pub mod Callees
 pub mod Calling
 pub mod Naming
 pub mod Aiming
+pub mod Assigning
