@@ -110,16 +110,16 @@ module _ (m n : ℕ) (fn : Bool) (text : List ℕ) (R : List Head) (C : List ℕ
       ∙ goes (elementIn m n fn text R C ops at (s .t)) (λ x. some (x, linkAt C (at + 1) + 1)) (elementOf (refWith (s .own) (firstIn v)) (sizeIn v) (s .t)) (element-read (s .own) v (s .t) (s .few) op e (s .room))
       ∙ ap₂ {C = Option (Spot × ℕ)} (λ (x : Spot) (i : ℕ). some (x, i)) (sym (s .spot-is)) (ap (λ (i : ℕ). i + 1) (s .link-is) ∙ sym (s .end)))
 
-  aims-few : (k v : ℕ) (spot : Spot) (to : ℕ) → Aims m n C k v spot at to → k < 4
-  aims-few k v spot to (scalar-aims s) = omega (arith, s .few)
-  aims-few k v spot to (element-aims s) = omega (arith, s .few, s .op-is)
+aims-few : (m n : ℕ) (C : List ℕ) (k v : ℕ) (spot : Spot) (at to : ℕ) → Aims m n C k v spot at to → k < 4
+aims-few m n C k v spot at to (scalar-aims s) = omega (arith, s .few)
+aims-few m n C k v spot at to (element-aims s) = omega (arith, s .few, s .op-is)
 
 pub raw-target : {text values : List ℕ} (a : Around text values) (C : List ℕ) (ops : ℕ) (t : Target) (i b k v : ℕ) → opAt C i ≡ ops + k → valueAt C i ≡ v
     → Aims (a .known .m) (a .known .n) C k v (spotOf (a .known .W) (a .known .S) t) i b → Quiet C (i + 1) b → RawTarget (groundOf a) (a .known .n) C (a .known .S) ops t i b
 unfolding groundOf
 raw-target a C ops t i b k v o e s q = record {
   low = omega (arith, o);
-  high = omega (arith, o, aims-few (a .known .m) (a .known .n) _ _ _ C ops i k v (spotOf (a .known .W) (a .known .S) t) b s);
+  high = omega (arith, o, aims-few (a .known .m) (a .known .n) C k v (spotOf (a .known .W) (a .known .S) t) i b s);
   is = target-read (a .known .m) (a .known .n) _ _ _ C ops i k v (spotOf (a .known .W) (a .known .S) t) b o e s;
   quiet = q;
 }

@@ -17,7 +17,7 @@ use Rattle.paper.specs.Trees.{Expr}
 use Rattle.paper.specs.Expressions.{levelOf, nestings}
 use Rattle.paper.specs.Names.{DataType, sortIn}
 use Rattle.paper.specs.Types.{Fault, fault, faultIf, ofType, termOf}
-use Rattle.paper.specs.Checks.{argumentFaults}
+use Rattle.paper.specs.Checks.{isSome, argumentFaults}
 use Rattle.cells.specs.Words.{wordsOf}
 use Rattle.code.specs.Cells.{opIn, valueIn, headAt, opAt, valueAt, linkAt}
 use Rattle.code.specs.Spans.{termIn}
@@ -44,10 +44,10 @@ use Rattle.links.specs.Raw.{Quiet, RawArguments}
 use Rattle.links.proofs.Moving.{argument-last, argument-next}
 use Rattle.simple.specs.Around.{Around, groundOf, Unread, Apart}
 use Rattle.simple.specs.Answers.{Fine, Answer, Tell}
-use Rattle.simple.specs.Parts.{Passed, Reads, reads-one, reads-more, Rest, More, MoreRead, MoreJudged, ArgumentsStand, Counts, Counted, CallSide, signatureFor, CallWritten, CallJudged}
+use Rattle.simple.specs.Parts.{Passed, Reads, reads-one, reads-more, ReadAll, no-arguments, some-arguments, Rest, More, MoreRead, MoreJudged, ArgumentsStand, Counts, Counted, CallSide, signatureFor, CallWritten, CallJudged}
 use Rattle.simple.proofs.Asking.{no-operator, level-semicolon, level-paren, quiet-above, Told, answer-first, answer-fine}
 use Rattle.simple.proofs.Callees.{Known, known}
-use Rattle.simple.proofs.Arguing.{link-below, unread-part, unread-after, apart-kept, apart-same, reads-grow, one-asks, one-long, one-told, one-first, one-is-first, one-is-fine, next-level, types-next, same-tail}
+use Rattle.simple.proofs.Arguing.{link-below, unread-part, unread-after, apart-kept, apart-same, reads-grow, reads-below, one-asks, one-long, one-told, one-first, one-is-first, one-is-fine, next-level, types-next, same-tail}
 
 -- ---- terms that have been read are the arguments
 module _ (m n : ℕ) (fn : Bool) (text : List ℕ) (R : List Head) (C : List ℕ) where
@@ -83,6 +83,24 @@ module _ (m n : ℕ) (fn : Bool) (text : List ℕ) (R : List Head) (C : List ℕ
   pub none-read : (a b : ℕ) → a ≡ b → anyArguments m n fn text R C a b ≡ some ([], b)
   unfolding anyArguments
   none-read a b e = rw (eq-eqb a b e, anyArguments)
+
+pub raw-arguments : {text values : List ℕ} (x : Around text values) (C : List ℕ) (es : List Expr) (a b z : ℕ)
+    → ReadAll (x .known .m) (x .known .n) C (map (termOf (x .known .W) (x .known .S)) es) a b z → Quiet C a z → (opAt C z ≡ aNextArgument → ⊥) → z ≤ wordLimit
+    → RawArguments (groundOf x) (x .known .n) C (x .known .S) es a b z
+unfolding groundOf
+raw-arguments {text} x C es a b z (no-arguments e f g) q o h = record {
+  is = none-read (x .known .m) (x .known .n) (isSome (x .K .result)) text (x .R) C a b (sym f)
+      ∙ ap₂ {C = Option (List Term × ℕ)} (λ (ts : List Term) (i : ℕ). some (ts, i)) (sym e) (f ∙ sym g);
+  quiet = q;
+}
+raw-arguments {text} x C es a b z (some-arguments l r) q o h = record {
+  is = any-read (x .known .m) (x .known .n) (isSome (x .K .result)) text (x .R) C a b _ z r o h l;
+  quiet = q;
+}
+
+pub read-below : (m n : ℕ) {before after : List ℕ} {x y : ℕ} → Kept before after x y → (ts : List Term) (a b z : ℕ) → z ≤ x → ReadAll m n (wordsOf before) ts a b z → ReadAll m n (wordsOf after) ts a b z
+read-below m n k ts a b z h (no-arguments e f g) = no-arguments e f g
+read-below m n k ts a b z h (some-arguments l r) = some-arguments l (reads-below m n k a b h r)
 
 -- ---- answers carried on
 pub answer-on : (fs gs : List Fault) (before mid after : List ℕ) (at to x y : ℕ) (P Q : Type 0) (r : Judged) → Answer fs mid after at to P r → length mid ≡ length before
@@ -131,7 +149,7 @@ module _ (code values : List ℕ) (h callee first closing : ℕ) (g : CallSide c
   callee-room = (omega (arith, g .before, call-on, call-end, g .unread .loaded .room), omega (arith, g .before, call-on, call-end, g .unread .loaded .last), omega (arith, call-on, call-end, g .unread .loaded .last))
 
   -- the word that closes them is as it was
-  closes-low : (after : List ℕ) (x : ℕ) → Kept code after x (g .z) → opAt (wordsOf after) (g .z) ≡ aNextArgument → ⊥
+  pub closes-low : (after : List ℕ) (x : ℕ) → Kept code after x (g .z) → opAt (wordsOf after) (g .z) ≡ aNextArgument → ⊥
   closes-low after x k e =
       omega (arith, sym (ap opIn (head-above k (g .z) (omega arith)) ∙ g .unread .loaded .words (g .z) call-on call-end .sort) ∙ e, g .around .sorts (g .z))
 
@@ -180,12 +198,8 @@ module _ (code values : List ℕ) (h callee first closing : ℕ) (g : CallSide c
               op-is = l .op-is;
               value-is = l .value-is;
               as-many = as-many;
-              arguments = record {
-                is = none-read (g .around .known .m) (g .around .known .n) _ _ _ (wordsOf after) first (linkAt (wordsOf after) callee) (sym (l .link-is))
-                    ∙ ap₂ {C = Option (List Term × ℕ)} (λ (ts : List Term) (i : ℕ). some (ts, i))
-                    (sym (ap (map (termOf (g .around .known .W) (g .around .known .S))) (n .0))) (l .link-is ∙ sym (n .1));
-                quiet = λ i x y. absurd (omega (arith, n .1));
-              };
+              read = no-arguments (ap (map (termOf (g .around .known .W) (g .around .known .S))) (n .0)) (l .link-is) (n .1);
+              quiet = λ i x y. absurd (omega (arith, n .1));
             };
             kept = kept-wider (l .kept) callee (g .z) (omega arith) (omega (arith, g .before, call-on));
           })
@@ -312,13 +326,10 @@ module _ (code values : List ℕ) (h callee first closing : ℕ) (g : CallSide c
                         op-is = ap opIn (head-below (f .kept) callee below) ∙ l .op-is;
                         value-is = ap valueIn (head-below (f .kept) callee below) ∙ l .value-is;
                         as-many = as-many;
-                        arguments = record {
-                          is = ap (anyArguments (g .around .known .m) (g .around .known .n) _ _ _ (wordsOf final) first) (sym lk)
-                              ∙ any-read (g .around .known .m) (g .around .known .n) _ _ _ (wordsOf final) first (one .n) (termOf (g .around .known .W) (g .around .known .S) (one .a) ∷ map (termOf (g .around .known .W) (g .around .known .S)) (one .rest)) (g .z)
-                              (f .written .read) (closes-low final callee k) (omega (arith, call-end, g .unread .loaded .last)) one-on
-                              ∙ ap (λ (ts : List Term). some (ts, g .z)) all;
-                          quiet = f .written .quiet;
-                        };
+                        read = subst (λ (ts : List Term). ReadAll (g .around .known .m) (g .around .known .n) (wordsOf final) ts first (linkAt (wordsOf final) callee) (g .z)) all
+                            (subst (λ (i : ℕ). ReadAll (g .around .known .m) (g .around .known .n) (wordsOf final) (termOf (g .around .known .W) (g .around .known .S) (one .a) ∷ map (termOf (g .around .known .W) (g .around .known .S)) (one .rest)) first i (g .z)) lk
+                            (some-arguments one-on (f .written .read)));
+                        quiet = f .written .quiet;
                       };
                       kept = k;
                     }

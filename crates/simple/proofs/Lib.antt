@@ -10,3 +10,4 @@ pub mod Calling
 pub mod Naming
 pub mod Aiming
 pub mod Assigning
+pub mod Found

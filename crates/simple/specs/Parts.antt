@@ -235,6 +235,11 @@ pub data Reads (m n : ℕ) (C : List ℕ) (a b : ℕ) : List Term → (z : ℕ) 
   reads-more : {us ts : List Term} {y z : ℕ} (t : Term) → Reads m n C a b us y → opAt C y ≡ aNextArgument → linkAt C y ≡ z → termIn m n C (y + 1) z ≡ some t
       → ts ≡ us ++ (t ∷ []) → Reads m n C a b ts z
 
+-- all arguments of a call, which z closes: none, or some
+pub data ReadAll (m n : ℕ) (C : List ℕ) (ts : List Term) (a b z : ℕ) : Type 0 where
+  no-arguments : ts ≡ [] → b ≡ a → z ≡ a → ReadAll m n C ts a b z
+  some-arguments : a < b → Reads m n C a b ts z → ReadAll m n C ts a b z
+
 -- Behind an argument that ends at b, against a parameter whose type is the word p: `rest` is left, up to the word z that closes them, for parameters of types `ts`.
 -- The first argument stands from a up to b₀, and `us` are the terms so far.
 pub record Rest {text values : List ℕ} (around : Around text values) (a b₀ z : ℕ) (code : List ℕ) (p b : ℕ) (us : List Term) (rest : List Expr) (ts : List DataType) : Type 0 where
@@ -318,7 +323,8 @@ pub record CallWritten {code values : List ℕ} {h callee first closing : ℕ} (
   pub op-is : opAt C callee ≡ op
   pub value-is : valueAt C callee ≡ h
   pub as-many : length (g .es) ≡ length (signatureFor (g .around) h .parameters)
-  pub arguments : RawArguments (groundOf (g .around)) (g .around .known .n) C (g .around .known .S) (g .es) first (linkAt C callee) (g .z)
+  pub read : ReadAll (g .around .known .m) (g .around .known .n) C (map (termOf (g .around .known .W) (g .around .known .S)) (g .es)) first (linkAt C callee) (g .z)
+  pub quiet : Quiet C first (g .z)
 
 pub record CallJudged (code values after : List ℕ) (op h callee first closing : ℕ) (r : Judged) : Type 0 where
   pub is : (g : CallSide code values h callee first closing)

@@ -54,7 +54,7 @@ same-length-2 c = search needs
 
 -- src/lib.rt:335:1
 returns-2 : tie.Need-returns-2
-returns-2 c = search (needs, assigned-typed)
+returns-2 c = assigned-typed _ _ _ _ _ _ _ (c .before .before .before .before .before .before .before .before .before .before .before .before .before .of-type .ensures) _ _ (c .before .before .before .before .before .before .before .before .before .r .given .1) _ (c .before .before .before .before .before .before .set-link .ensures) _ (c .before .before .set-link2 .ensures)
 
 pub assign-value-spec : {M : Type 1} → statement M
 assign-value-spec =
