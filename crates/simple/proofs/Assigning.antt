@@ -110,7 +110,7 @@ module _ (m n : ℕ) (fn : Bool) (text : List ℕ) (R : List Head) (C : List ℕ
       ∙ goes (elementIn m n fn text R C ops at (s .t)) (λ x. some (x, linkAt C (at + 1) + 1)) (elementOf (refWith (s .own) (firstIn v)) (sizeIn v) (s .t)) (element-read (s .own) v (s .t) (s .few) op e (s .room))
       ∙ ap₂ {C = Option (Spot × ℕ)} (λ (x : Spot) (i : ℕ). some (x, i)) (sym (s .spot-is)) (ap (λ (i : ℕ). i + 1) (s .link-is) ∙ sym (s .end)))
 
-aims-few : (m n : ℕ) (C : List ℕ) (k v : ℕ) (spot : Spot) (at to : ℕ) → Aims m n C k v spot at to → k < 4
+pub aims-few : (m n : ℕ) (C : List ℕ) (k v : ℕ) (spot : Spot) (at to : ℕ) → Aims m n C k v spot at to → k < 4
 aims-few m n C k v spot at to (scalar-aims s) = omega (arith, s .few)
 aims-few m n C k v spot at to (element-aims s) = omega (arith, s .few, s .op-is)
 

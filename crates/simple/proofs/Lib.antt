@@ -11,3 +11,4 @@ pub mod Naming
 pub mod Aiming
 pub mod Assigning
 pub mod Found
+pub mod Functions

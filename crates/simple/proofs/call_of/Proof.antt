@@ -1,4 +1,5 @@
 use borrow.Author.Needs.{needs}
+use native.Mathlib.Omega.{arith}
 use Rattle.simple.proofs.call_of.Statement.{statement}
 use Rattle.simple.proofs.call_of.Tie as tie
 use Rattle.simple.proofs.call_of.Reads as reads
