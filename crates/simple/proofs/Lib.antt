@@ -12,3 +12,5 @@ pub mod Aiming
 pub mod Assigning
 pub mod Found
 pub mod Functions
+pub mod Stating
+pub mod Procedures
