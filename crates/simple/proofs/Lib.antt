@@ -14,3 +14,5 @@ pub mod Found
 pub mod Functions
 pub mod Stating
 pub mod Procedures
+pub mod Leaving
+pub mod Speaking

@@ -21,7 +21,7 @@ use Rattle.faults.proofs.Expressions.{grows}
 use Rattle.links.specs.Raw.{RawDoes, RawSimple}
 use Rattle.simple.specs.Around.{Around, offsetIn, groundOf}
 use Rattle.simple.specs.Answers.{Fine, Answer, Stands, Answers}
-use Rattle.simple.proofs.Asking.{answer-first, answer-fine}
+use Rattle.simple.proofs.Asking.{answer-first, answer-fine, answered-fine, answered-first}
 
 module _ (code values : List ℕ) (at : ℕ) (g : Stands code values at) where
   pub stands-on : at < g .to
@@ -63,3 +63,11 @@ module _ (code values : List ℕ) (at : ℕ) (g : Stands code values at) where
           };
           kept = k;
         }))
+
+    -- the same, from what is answered of a part of it
+    pub stated-on : (fs : List Fault) (mid : List ℕ) (x y : ℕ) (P : Type 0) (r : Judged) → Answer fs mid after x y P r → length mid ≡ length code
+        → ((f : Fault) → First f fs → First f (simpleFaults (g .around .known .W) (g .around .K) (g .around .known .S) s))
+        → ((b : Bool) (next : ℕ) → Fine fs mid after x y next P → Answers g after (Typed b next)) → Answers g after r
+    stated-on fs mid x y P (Typed b next) a l f n = n b next (answered-fine fs mid after x y P (Typed b next) a b next refl)
+    stated-on fs mid x y P (Faulty number word) a l f n =
+        stated-first (Faulty number word) number word refl (a .long ∙ l) (f (record { number = number; at = word }) (answered-first fs mid after x y P (Faulty number word) a number word refl))

@@ -387,10 +387,14 @@ pub record Values (code values : List ℕ) (from i : ℕ) : Type 0 where
   pub before : i < from
   pub loaded : Loaded (around .known .W) code from to
 
+-- what is written of it; the words between the two are as they were
+pub record ValueWritten {code values : List ℕ} {from i : ℕ} (g : Values code values from i) (C : List ℕ) (op : ℕ) : Type 0 where
+  pub raw : RawValued (groundOf (g .around)) (g .around .known .n) C (g .around .known .S) op (g .e) from i (g .to + 1) (g .to + 1)
+  pub between : (k : ℕ) → i < k → k < from → headAt C k ≡ headAt (wordsOf code) k
+
 pub record Valued (code values after : List ℕ) (op : ℕ) (wants : Bool) (from i : ℕ) (r : Judged) : Type 0 where
   pub is : (g : Values code values from i)
-      → Answer (ofType (g .around .known .W) (typeIf wants) (g .around .known .S) (g .e)) code after i (g .to + 1)
-      (RawValued (groundOf (g .around)) (g .around .known .n) (wordsOf after) (g .around .known .S) op (g .e) from i (g .to + 1) (g .to + 1)) r
+      → Answer (ofType (g .around .known .W) (typeIf wants) (g .around .known .S) (g .e)) code after i (g .to + 1) (ValueWritten g (wordsOf after) op) r
 
 -- ---- strings
 -- how many bytes a character takes that begins with this one
