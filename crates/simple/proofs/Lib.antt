@@ -16,3 +16,4 @@ pub mod Stating
 pub mod Procedures
 pub mod Leaving
 pub mod Speaking
+pub mod Hearing

@@ -78,7 +78,7 @@ raw-text {text} a C i q o v p = record {
 }
 
 -- a string at word i, in words that are unread
-pub string-at : (code values : List ℕ) (at : ℕ) (g : Stands code values at) (now : List ℕ) (i : ℕ) → at ≤ i → i ≤ g .to → sortIn (g .around .known .W) i ≡ STRING
+unfoldable pub string-at : (code values : List ℕ) (at : ℕ) (g : Stands code values at) (now : List ℕ) (i : ℕ) → at ≤ i → i ≤ g .to → sortIn (g .around .known .W) i ≡ STRING
     → headAt (wordsOf now) i ≡ headAt (wordsOf code) i → placeAt (wordsOf now) i ≡ placeAt (wordsOf code) i → length now ≡ length code → Strings (g .text) now i
 string-at code values at g now i l h s e p k = record {
   w = nth (g .around .known .W) i;
