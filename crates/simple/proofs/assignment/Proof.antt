@@ -1,4 +1,5 @@
 use borrow.Author.Needs.{needs}
+use native.Mathlib.Omega.{arith}
 use Rattle.simple.proofs.assignment.Statement.{statement}
 use Rattle.simple.proofs.assignment.Tie as tie
 use Rattle.simple.proofs.assignment.Reads as reads

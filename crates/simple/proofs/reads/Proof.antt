@@ -1,4 +1,5 @@
 use borrow.Author.Needs.{needs}
+use native.Mathlib.Omega.{arith}
 use Rattle.simple.proofs.reads.Statement.{statement}
 use Rattle.simple.proofs.reads.Tie as tie
 use Rattle.simple.proofs.reads.Reads as reads

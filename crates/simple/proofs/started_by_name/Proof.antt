@@ -1,4 +1,5 @@
 use borrow.Author.Needs.{needs}
+use native.Mathlib.Omega.{arith}
 use Rattle.simple.proofs.started_by_name.Statement.{statement}
 use Rattle.simple.proofs.started_by_name.Tie as tie
 use Rattle.simple.proofs.started_by_name.Reads as reads

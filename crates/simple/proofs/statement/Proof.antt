@@ -1,4 +1,5 @@
 use borrow.Author.Needs.{needs}
+use native.Mathlib.Omega.{arith}
 use Rattle.simple.proofs.statement.Statement.{statement}
 use Rattle.simple.proofs.statement.Tie as tie
 use Rattle.simple.proofs.statement.Reads as reads
