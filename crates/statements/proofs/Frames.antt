@@ -121,18 +121,23 @@ fine-more m n p X M theErrno h w = w
 fine-more m n p X M (errorNumber k) h w = w
 
 -- ---- further on
--- The words from a up to b have been written, and the routine has used p words: what is known of the words from x up to y.
-pub here-on : {text values : List ℕ} (g : Around text values) (before after : List ℕ) (k : Setting) (n at to : ℕ) {a b : ℕ} (p x y : ℕ) → Here g before k n at to → Outside (wordsOf before) (wordsOf after) a b → length after ≡ length before
-    → n ≤ p → p ≤ 64 → at ≤ a → b ≤ to + 1 → at ≤ x → b ≤ x → y ≤ to → Here g after k p x y
-here-on g before after k n at to p x y h o long few-more few l m q r s = record {
+-- The words up to b have been written, and the routine has used p words: what is known of the words from x up to y.
+pub here-from : {text values : List ℕ} (g : Around text values) (before after : List ℕ) (k : Setting) (n at to : ℕ) {a b : ℕ} (p x y : ℕ) → Here g before k n at to → Outside (wordsOf before) (wordsOf after) a b → length after ≡ length before
+    → n ≤ p → p ≤ 64 → at ≤ x → b ≤ x → y ≤ to → Calls g after x y → Here g after k p x y
+here-from g before after k n at to p x y h o long few-more few q r s c = record {
   tells = h .tells;
   few = few;
   within = λ i z. within-more _ _ p _ few-more (h .within i z);
   fine = λ t. fine-more _ _ p _ _ _ few-more (h .fine t);
   number = h .number;
   unread = unread-behind _ before after o long x y (h .unread) q r s;
-  calls = calls-behind g o long x y (h .calls) l m q s;
+  calls = c;
 }
+
+-- the same for words from a up to b that are among those from `at` up to `to`
+pub here-on : {text values : List ℕ} (g : Around text values) (before after : List ℕ) (k : Setting) (n at to : ℕ) {a b : ℕ} (p x y : ℕ) → Here g before k n at to → Outside (wordsOf before) (wordsOf after) a b → length after ≡ length before
+    → n ≤ p → p ≤ 64 → at ≤ a → b ≤ to + 1 → at ≤ x → b ≤ x → y ≤ to → Here g after k p x y
+here-on g before after k n at to p x y h o long few-more few l m q r s = here-from g before after k n at to p x y h o long few-more few q r s (calls-behind g o long x y (h .calls) l m q s)
 
 -- fewer words
 pub here-part : {text values : List ℕ} (g : Around text values) (code : List ℕ) (k : Setting) (n at to x y : ℕ) → Here g code k n at to → at ≤ x → x ≤ to → y ≤ to → Here g code k n x y

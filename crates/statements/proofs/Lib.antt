@@ -4,3 +4,4 @@ pub mod Walking
 pub mod Whiles
 pub mod Compacts
 pub mod Elses
+pub mod Arms
