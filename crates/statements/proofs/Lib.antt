@@ -5,3 +5,4 @@ pub mod Whiles
 pub mod Compacts
 pub mod Elses
 pub mod Arms
+pub mod Ifs

@@ -54,6 +54,19 @@ pub faulty-answer : (fs : List Fault) (before after values values′ : List ℕ)
 faulty-answer fs before after values values′ at to count holds r number word e f long =
     subst (Answer fs before after values values′ at to count holds) (sym e) (first-answer fs before after values values′ at to count number word holds f long)
 
+-- what is answered of a piece, where words before it have been written without a fault
+pub answer-behind : (fs gs : List Fault) (code one two values values′ : List ℕ) (at to count total : ℕ) (holds : Type 0) (r : Walked) → gs ≡ fs → count ≡ total → Outside (wordsOf code) (wordsOf one) at to → length one ≡ length code
+    → Answer fs one two values values′ at to count holds r → Answer gs code two values values′ at to total holds r
+unfolding Tell
+answer-behind fs gs code one two values values′ at to count total holds (Upto next u) e c o long x =
+    let d = x .tells in
+    record {
+      tells = record { none = e ∙ d .none; next-is = d .next-is; used-is = d .used-is ∙ c; few = d .few; written = d .written; outside = outside-on o (d .outside); same = d .same };
+      long = x .long ∙ long;
+    }
+answer-behind fs gs code one two values values′ at to count total holds (Faulty number word) e c o long x =
+    record { tells = subst (First (record { number = number; at = word })) (sym e) (x .tells); long = x .long ∙ long }
+
 -- ---- what is left of a list
 pub record Going {text code values : List ℕ} {k : Setting} {used at : ℕ} (g : Lists text code values k used at) (now values′ : List ℕ) (i n : ℕ) : Type 0 where
   pub same : values′ ≡ values
