@@ -39,8 +39,9 @@ use Rattle.simple.specs.declared.Setting.{Setting}
 use Rattle.simple.specs.Around.{Around, groundOf, offsetIn, Calls}
 use Rattle.statements.specs.declared.Walked.{Walked}
 use Rattle.statements.specs.declared.Walked.the-variants.{Upto, Faulty}
-use Rattle.statements.specs.Answers.{Outside, Here, Lists, Done, Answer, Listed}
+use Rattle.statements.specs.Answers.{Outside, Here, SameValues, Lists, Done, Answer, Listed}
 use Rattle.statements.specs.Parts.{ThenAt, Thens, Thened, BehindElse, ArmEnded, Elses, ElseWritten, Elsed}
+use Rattle.statements.proofs.Same.{same-values, lists-as, elses-as, expression-as, of-type-as, answer-as}
 use Rattle.statements.proofs.Frames.{outside-same, outside-wider, outside-on, kept-outside, same-before, same-behind, same-on, head-before, head-behind, tail-before, here-from, here-on, here-part, calls-behind, unread-behind, term-same, list-same, op-same, value-same, link-same, word-same, linked-outside, linked-word}
 use Rattle.statements.proofs.Judging.{inside-both, expression-stands, judged-faulty, judged-none, judged-next, judged-term, judged-kept}
 use Rattle.statements.proofs.Walking.{upto-done, faulty-first, done-answer, first-answer, faulty-answer}
@@ -68,7 +69,7 @@ Opened C i op c none = (c ≡ i) × (op ≡ anIf)
 Opened C i op c (some p) = (op ≡ anElseIf) × (linkAt C p ≡ c) × (i < p) × (p < c)
 
 pub record Arming {text code values : List ℕ} {k : Setting} {used i first : ℕ} (g : Thens text code values k used i first) (now values′ : List ℕ) (op c t n : ℕ) : Type 0 where
-  pub same : values′ ≡ values
+  pub same : SameValues values values′
   pub e : Expr
   pub b : Statements
   pub rest : Arms
@@ -102,7 +103,7 @@ pub arms-begin : (text code values : List ℕ) (k : Setting) (used i first : ℕ
 unfolding Opened
 arms-begin text code values k used i first = record {
   is = λ g. record {
-    same = refl;
+    same = same-values values;
     e = g .e;
     b = g .b;
     rest = g .rest;
@@ -149,7 +150,7 @@ module _ (text code values : List ℕ) (k : Setting) (used i first : ℕ) (now v
     }
 
     pub arm-lists : Lists text now values′ k n (t + 1)
-    arm-lists = subst (λ (v : List ℕ). Lists text now v k n (t + 1)) (sym (x .same)) lists
+    arm-lists = lists-as (x .same) lists
 
     pub arm-place : (t < 8191) × (length now ≡ length code)
     arm-place = (omega (arith, order, ending), x .long)
@@ -181,8 +182,8 @@ module _ (text code values : List ℕ) (k : Setting) (used i first : ℕ) (now v
     module _ (one values″ : List ℕ) (r : Walked) (l : Listed text now values′ one values″ k n (t + 1) r) where
       inner : Answer (listFaults (a .known .W) (a .K) (a .M) (x .b) (a .known .S) n) now one values values″ (t + 1) (x .is .m) (n + forsInList (x .b))
           (RawList (groundOf a) (a .known .n) (wordsOf one) (x .b) (a .known .S) n (t + 1) (x .is .m)) r
-      unfolding lists
-      inner = subst (λ (v : List ℕ). Listed text now v one values″ k n (t + 1) r) (x .same) l .is lists
+      unfolding lists groundOf
+      inner = answer-as (x .same) _ _ _ _ _ _ _ _ r (l .is (lists-as (x .same) lists))
 
       list-wrong : (number word : ℕ) → r ≡ Faulty number word → ForIf one values″ r
       unfolding else-faults
@@ -323,7 +324,7 @@ module _ (text code values : List ℕ) (k : Setting) (used i first : ℕ) (now v
 
               pub arm-elses : Elses text two values″ k u e
               arm-elses =
-                  subst (λ (v : List ℕ). Elses text two v k u e) (sym (done .same)) (subst (λ (v : ℕ). Elses text two values k v e) (sym (done .used-is)) (subst (λ (v : ℕ). Elses text two values k (n + forsInList (x .b)) v) (sym (done .next-is)) elses))
+                  elses-as (done .same) (subst (λ (v : ℕ). Elses text two values k v e) (sym (done .used-is)) (subst (λ (v : ℕ). Elses text two values k (n + forsInList (x .b)) v) (sym (done .next-is)) elses))
 
               remain : total ≡ else-faults
               unfolding armFaults
@@ -333,10 +334,10 @@ module _ (text code values : List ℕ) (k : Setting) (used i first : ℕ) (now v
                 last-answer : Answer (listFaults (a .known .W) (a .K) (a .M) (g .o) (a .known .S) (n + forsInList (x .b))) two three values values‴ m (g .to) (n + forsInList (x .b) + forsInList (g .o))
                     (ElseWritten (sortIn (a .known .W))
                     (λ (first : ℕ). RawElse (groundOf a) (a .known .n) (wordsOf three) (λ (x2 y2 : ℕ). RawList (groundOf a) (a .known .n) (wordsOf three) (g .o) (a .known .S) (n + forsInList (x .b)) x2 y2) m first (g .to)) m) r2
-                unfolding elses
+                unfolding elses groundOf
                 last-answer =
-                    subst (λ (v : List ℕ). Elsed text two v three values‴ k (n + forsInList (x .b)) m r2) (done .same)
-                    (subst (λ (v : ℕ). Elsed text two values″ three values‴ k v m r2) (done .used-is) (subst (λ (v : ℕ). Elsed text two values″ three values‴ k u v r2) (done .next-is) el)) .is elses
+                    answer-as (done .same) _ _ _ _ _ _ _ _ r2
+                    (subst (λ (v : ℕ). Elsed text two values″ three values‴ k v m r2) (done .used-is) (subst (λ (v : ℕ). Elsed text two values″ three values‴ k u v r2) (done .next-is) el) .is (elses-as (done .same) elses))
 
                 else-wrong : (number word : ℕ) → r2 ≡ Faulty number word → ForIf three values‴ r2
                 unfolding total else-faults
@@ -469,7 +470,7 @@ module _ (text code values : List ℕ) (k : Setting) (used i first : ℕ) (now v
 
               pub arm-condition : expressions.Stands two values″ 5 (e + 1)
               arm-condition =
-                  subst (λ (v : List ℕ). expressions.Stands two v 5 (e + 1)) (sym (done .same)) (subst (λ (v : ℕ). expressions.Stands two values 5 (v + 1)) (sym (done .next-is)) condition)
+                  expression-as (done .same) (subst (λ (v : ℕ). expressions.Stands two values 5 (v + 1)) (sym (done .next-is)) condition)
 
               in-arm : armFaults (a .known .W) (a .K) (a .M) (x .rest) (a .known .S) (n + forsInList (x .b))
                   ≡ ofType (a .known .W) aBool (a .known .S) (f .e) ++ listFaults (a .known .W) (a .K) (a .M) (f .b) (a .known .S) (n + forsInList (x .b))
@@ -479,7 +480,7 @@ module _ (text code values : List ℕ) (k : Setting) (used i first : ℕ) (now v
 
               module _ (three : List ℕ) (j : Judged) (o2 : OfType two values″ three false true (e + 1) j) where
                 o3 : OfType two values three false true (m + 1) j
-                o3 = subst (λ (v : List ℕ). OfType two v three false true (m + 1) j) (done .same) (subst (λ (v : ℕ). OfType two values″ three false true (v + 1) j) (done .next-is) o2)
+                o3 = of-type-as (done .same) (subst (λ (v : ℕ). OfType two values″ three false true (v + 1) j) (done .next-is) o2)
 
                 condition-wrong : (number word : ℕ) → j ≡ judged.Faulty number word → length three ≡ length two → ForIf three values″ (Faulty number word)
                 unfolding total else-faults typeIf

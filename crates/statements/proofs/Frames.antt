@@ -16,9 +16,9 @@ use Rattle.expressions.specs.Answers.{Kept}
 use Rattle.expressions.proofs.Keeping.{cell-below, cell-above}
 use Rattle.constants.specs.Answers.{Worth, Fine}
 use Rattle.expressions.specs.Parts.{Linked}
-use Rattle.links.specs.Raw.{Ground, SameWords, RawWord, RawTerm, RawList}
+use Rattle.links.specs.Raw.{Ground, SameWords, RawWord, RawTerm, RawBound, RawList}
 use Rattle.links.proofs.Framing.{same-cells, same-moves, list-frame}
-use Rattle.links.proofs.Moving.{term-moves}
+use Rattle.links.proofs.Moving.{term-moves, bound-moves}
 use Rattle.simple.specs.declared.Setting.{Setting}
 use Rattle.simple.specs.Around.{Around, Unread, Apart, Calls}
 use Rattle.statements.specs.Answers.{Outside, Here}
@@ -147,6 +147,9 @@ here-part g code k n at to x y h q r s =
 -- ---- what has been written stays
 pub term-same : (g : Ground) (n : ℕ) (C D : List ℕ) (S : Scopes) (e : Expr) (a b : ℕ) → SameWords C D a b → RawTerm g n C S e a b → RawTerm g n D S e a b
 term-same g n C D S e a b s t = term-moves g n n (omega arith) C D a b 0 0 (same-moves C D a b 0 s) S e a b (omega arith) (omega arith) t
+
+pub bound-same : (g : Ground) (n : ℕ) (C D : List ℕ) (S : Scopes) (e : Expr) (w z : ℕ) → SameWords C D w z → RawBound g n C S e w z → RawBound g n D S e w z
+bound-same g n C D S e w z s t = bound-moves g n n (omega arith) C D w z 0 0 (same-moves C D w z 0 s) S e w z (omega arith) (omega arith) t
 
 pub list-same : (g : Ground) (n : ℕ) (C D : List ℕ) (l : Statements) (S : Scopes) (used a b : ℕ) → SameWords C D a b → RawList g n C l S used a b → RawList g n D l S used a b
 list-same g n C D l S used a b s x = list-frame g n n (omega arith) C D a b s l S used a b (omega arith) (omega arith) x

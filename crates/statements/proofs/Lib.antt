@@ -1,8 +1,10 @@
 pub mod Frames
 pub mod Judging
+pub mod Same
 pub mod Walking
 pub mod Whiles
 pub mod Compacts
 pub mod Elses
 pub mod Arms
 pub mod Ifs
+pub mod Heads

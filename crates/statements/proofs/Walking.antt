@@ -25,7 +25,8 @@ use Rattle.simple.specs.declared.Setting.{Setting}
 use Rattle.simple.specs.Around.{Around, groundOf}
 use Rattle.statements.specs.declared.Walked.{Walked}
 use Rattle.statements.specs.declared.Walked.the-variants.{Upto, Faulty}
-use Rattle.statements.specs.Answers.{Outside, Here, Stands, Lists, Done, Tell, Answer, StatementAnswer, Stated, Listed}
+use Rattle.statements.specs.Answers.{Outside, Here, SameValues, Stands, Lists, Done, Tell, Answer, StatementAnswer, Stated, Listed}
+use Rattle.statements.proofs.Same.{same-values, stands-as, answer-as}
 use Rattle.statements.proofs.Frames.{outside-same, outside-wider, outside-on, same-before, here-on, here-part}
 
 -- ---- answers
@@ -69,7 +70,7 @@ answer-behind fs gs code one two values values′ at to count total holds (Fault
 
 -- ---- what is left of a list
 pub record Going {text code values : List ℕ} {k : Setting} {used at : ℕ} (g : Lists text code values k used at) (now values′ : List ℕ) (i n : ℕ) : Type 0 where
-  pub same : values′ ≡ values
+  pub same : SameValues values values′
   pub l : Statements
   pub is : ListAt (sortIn (g .around .known .W)) (Parses (sortIn (g .around .known .W))) (g .d) l i (g .to)
   pub here : Here (g .around) now k n i (g .to)
@@ -92,7 +93,7 @@ list-order g = list-grows (sortIn (g .around .known .W)) (Parses (sortIn (g .aro
 pub list-begins : (text code values : List ℕ) (k : Setting) (used at : ℕ) → Goings text code values k used at code values at used
 list-begins text code values k used at = record {
   is = λ g. record {
-    same = refl;
+    same = same-values values;
     l = g .l;
     is = g .is;
     here = g .here;
@@ -178,7 +179,7 @@ module _ (text code values : List ℕ) (k : Setting) (used at : ℕ) (now values
       }
 
       pub list-stands : Stands text now values′ k n i
-      list-stands = subst (λ (v : List ℕ). Stands text now v k n i) (sym (x .same)) one
+      list-stands = stands-as (x .same) one
 
       first-faults : List Fault
       first-faults = statementFaults (g .around .known .W) (g .around .K) (g .around .M) (f .s) (g .around .known .S) n
@@ -192,7 +193,8 @@ module _ (text code values : List ℕ) (k : Setting) (used at : ℕ) (now values
 
       module _ (after values″ : List ℕ) (r : Walked) (st : Stated text now values′ after values″ k n i r) where
         answer : StatementAnswer one after values″ r
-        answer = subst (λ (v : List ℕ). Stated text now v after values″ k n i r) (x .same) st .is one
+        unfolding groundOf
+        answer = answer-as (x .same) _ _ _ _ _ _ _ _ r (st .is (stands-as (x .same) one))
 
         faulty-is : (number word : ℕ) → r ≡ Faulty number word → Answer (listFaults (g .around .known .W) (g .around .K) (g .around .M) (g .l) (g .around .known .S) used) code after values values″ at (g .to) (used + forsInList (g .l))
             (RawList (groundOf (g .around)) (g .around .known .n) (wordsOf after) (g .l) (g .around .known .S) used at (g .to)) r

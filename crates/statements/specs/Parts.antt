@@ -67,10 +67,15 @@ pub record Bounds (code values : List ℕ) (i : ℕ) : Type 0 where
   pub ends : levelOf (sortIn (around .known .W) z) ≡ 0
   pub inside : z ≤ to
 
+-- what a run reads there; the word has the op that it had
+pub record BoundWritten (raw : Type 0) (before after : List ℕ) (i : ℕ) : Type 0 where
+  pub is : raw
+  pub op : opAt (wordsOf after) i ≡ opAt (wordsOf before) i
+
 pub record Bounded (code values after : List ℕ) (i : ℕ) (r : Judged) : Type 0 where
   pub is : (g : Bounds code values i)
       → simple.Answer (ofType (g .around .known .W) aNum (g .around .known .S) (g .e)) code after i (g .z)
-      (RawBound (groundOf (g .around)) (g .around .known .n) (wordsOf after) (g .around .known .S) (g .e) i (g .z)) r
+      (BoundWritten (RawBound (groundOf (g .around)) (g .around .known .n) (wordsOf after) (g .around .known .S) (g .e) i (g .z)) code after i) r
 
 -- STEP with its bound, or DO, at s
 pub record Steps (code values : List ℕ) (s : ℕ) : Type 0 where
