@@ -43,7 +43,7 @@ use Rattle.statements.specs.Answers.{Outside, Here, SameValues, Lists, D
 use Rattle.statements.specs.Parts.{ThenAt, Thens, Thened, BehindElse, ArmEnded, Elses, ElseWritten, Elsed}
 use Rattle.statements.proofs.Same.{same-values, lists-as, elses-as, expression-as, of-type-as, answer-as}
 use Rattle.statements.proofs.Frames.{outside-same, outside-wider, outside-on, kept-outside, same-before, same-behind, same-on, head-before, head-behind, tail-before, here-from, here-on, here-part, calls-behind, unread-behind, term-same, list-same, op-same, value-same, link-same, word-same, linked-outside, linked-word}
-use Rattle.statements.proofs.Judging.{inside-both, expression-stands, judged-faulty, judged-none, judged-next, judged-term, judged-kept}
+use Rattle.statements.proofs.Judging.{inside-both, expression-stands, judged-faulty, judged-long, judged-none, judged-next, judged-term, judged-kept}
 use Rattle.statements.proofs.Walking.{upto-done, faulty-first, done-answer, first-answer, faulty-answer}
 
 -- ---- the words of what is left
@@ -88,6 +88,7 @@ pub record Arming {text code values : List ℕ} {k : Setting} {used i first : �
       ++ armFaults (g .around .known .W) (g .around .K) (g .around .M) rest (g .around .known .S) (n + forsInList b)
       ++ listFaults (g .around .known .W) (g .around .K) (g .around .M) (g .o) (g .around .known .S) (used + (forsInList (g .b) + forsInArms (g .rest)))
   pub count : n + (forsInList b + forsInArms rest) ≡ used + (forsInList (g .b) + forsInArms (g .rest))
+  pub later : first ≤ t
   pub outside : Outside (wordsOf code) (wordsOf now) i t
   pub place : placeAt (wordsOf now) i ≡ offsetIn (g .around .known .W) i
   pub long : length now ≡ length code
@@ -117,6 +118,7 @@ arms-begin text code values k used i first = record {
     head = λ h. absurd (omega arith);
     faults-are = refl;
     count = refl;
+    later = omega arith;
     outside = outside-same (wordsOf code) i first;
     place = g .place;
     long = refl;
@@ -151,6 +153,18 @@ module _ (text code values : List ℕ) (k : Setting) (used i first : ℕ) (now v
 
     pub arm-lists : Lists text now values′ k n (t + 1)
     arm-lists = lists-as (x .same) lists
+
+    pub arm-values : length values′ ≡ length values
+    arm-values = x .same .long
+
+    pub arm-long-so : length now ≡ length code
+    arm-long-so = x .long
+
+    pub arm-after : first ≤ t
+    arm-after = x .later
+
+    pub arm-wide : 65536 ≤ length code
+    arm-wide = g .calls .room
 
     pub arm-place : (t < 8191) × (length now ≡ length code)
     arm-place = (omega (arith, order, ending), x .long)
@@ -482,9 +496,9 @@ module _ (text code values : List ℕ) (k : Setting) (used i first : ℕ) (now v
                 o3 : OfType two values three false true (m + 1) j
                 o3 = of-type-as (done .same) (subst (λ (v : ℕ). OfType two values″ three false true (v + 1) j) (done .next-is) o2)
 
-                condition-wrong : (number word : ℕ) → j ≡ judged.Faulty number word → length three ≡ length two → ForIf three values″ (Faulty number word)
+                condition-wrong : (number word : ℕ) → j ≡ judged.Faulty number word → ForIf three values″ (Faulty number word)
                 unfolding total else-faults typeIf
-                condition-wrong number word q2 long =
+                condition-wrong number word q2 =
                     let c2 = judged-faulty text two values a k (n + forsInList (x .b)) m (g .to) next-here (f .e) (m + 1) (f .n) (f .condition) no-operator (omega arith) (omega (arith, next-order, ending)) three true j o3 number word q2 in
                     let i1 = of-type-inside (a .known .W) _ _ _ _ (f .condition) aBool (a .known .S) in
                     let i2 = list-inside (a .known .W) (a .K) (a .M) (f .list) (a .known .S) (n + forsInList (x .b)) in
@@ -496,7 +510,7 @@ module _ (text code values : List ℕ) (k : Setting) (used i first : ℕ) (now v
                     let f3 = first-before f2 i5 else-in (omega arith) in
                     first-answer _ _ _ _ _ _ _ _ number word _
                     (subst (First (record { number = number; at = word })) (sym (left ∙ ap (λ (l2 : List Fault). l2 ++ else-faults) in-arm)) f3)
-                    (long ∙ arm-long)
+                    (judged-long text two values a k (n + forsInList (x .b)) m (g .to) next-here (f .e) (m + 1) (f .n) (f .condition) no-operator (omega arith) (omega (arith, next-order, ending)) three true j o3 ∙ arm-long)
 
                 module _ (bool : Bool) (m2 : ℕ) (q2 : j ≡ judged.Typed bool m2) where
                   then-at : m2 ≡ f .n
@@ -552,6 +566,7 @@ module _ (text code values : List ℕ) (k : Setting) (used i first : ℕ) (now v
                     head = λ _. ap opIn (head-before three-is i (omega (arith, x .low, x .next, order))) ∙ head-if (x .before) (x .opened);
                     faults-are = new-faults;
                     count = new-count;
+                    later = omega (arith, x .later, spans, order);
                     outside = outside-on (outside-wider i (f .n) changed (omega arith) (omega (arith, spans))) (outside-wider i (f .n) three-is (omega (arith, x .low, x .next, order)) (omega arith));
                     place = kept .places i ∙ place;
                     long = kept .long ∙ arm-long;
@@ -584,8 +599,8 @@ module _ (text code values : List ℕ) (k : Setting) (used i first : ℕ) (now v
         arms-finished z v q2 four l2 = record { is = λ g. finished g one values″ r l e u q two ended s es f three values‴ r2 el z v q2 four l2 }
 
       module _ (h : s ≡ ELSEIF) (three : List ℕ) (j : Judged) (o2 : OfType two values″ three false true (e + 1) j) where
-        pub arm-wrong : (number word : ℕ) → j ≡ judged.Faulty number word → length three ≡ length two → Thened text code values three values″ k used i first (Faulty number word)
-        arm-wrong number word q2 long = record { is = λ g. condition-wrong g one values″ r l e u q two ended s es h three j o2 number word q2 long }
+        pub arm-wrong : (number word : ℕ) → j ≡ judged.Faulty number word → Thened text code values three values″ k used i first (Faulty number word)
+        arm-wrong number word q2 = record { is = λ g. condition-wrong g one values″ r l e u q two ended s es h three j o2 number word q2 }
 
         pub arms-go : (bool : Bool) (m2 : ℕ) → j ≡ judged.Typed bool m2 → Armings text code values k used i first three values″ 155 e m2 u
         arms-go bool m2 q2 = record { is = λ g. goes-on g one values″ r l e u q two ended s es h three j o2 bool m2 q2 }

@@ -43,7 +43,7 @@ use Rattle.simple.specs.Answers.{Fine, Tell, Answer}
 use Rattle.statements.specs.Answers.{Outside, Here}
 use Rattle.statements.specs.Parts.{Bounds, BoundWritten, Bounded, Steps, Stepped, ForHeads, RawHead, ForMay, ForHeaded}
 use Rattle.statements.proofs.Frames.{kept-outside, same-before, same-behind, same-on, head-before, here-on, here-part, term-same, bound-same, linked-outside, linked-word}
-use Rattle.statements.proofs.Judging.{inside-both, low-still, expression-stands, judged-faulty, judged-none, judged-next, judged-term, judged-kept}
+use Rattle.statements.proofs.Judging.{inside-both, low-still, expression-stands, judged-faulty, judged-long, judged-none, judged-next, judged-term, judged-kept}
 use Rattle.statements.proofs.Compacts.{typed-fine, faulty-found}
 
 -- ---- answers
@@ -78,10 +78,10 @@ module _ (code values : List ℕ) (i : ℕ) (g : Bounds code values i) where
   ForBound after r = Answer (ofType (a .known .W) aNum (a .known .S) (g .e)) code after i (g .z) (BoundWritten (RawBound (groundOf a) (a .known .n) (wordsOf after) (a .known .S) (g .e) i (g .z)) code after i) r
 
   module _ (one : List ℕ) (j : Judged) (c : OfType code values one false false (i + 1) j) where
-    bound-no : (number word : ℕ) → j ≡ Faulty number word → length one ≡ length code → ForBound one j
+    bound-no : (number word : ℕ) → j ≡ Faulty number word → ForBound one j
     unfolding typeIf
-    bound-no number word q long =
-        found-as _ _ _ _ _ _ j number word q (judged-faulty (g .text) code values a (g .k) (g .used) (i + 1) (g .to) (g .here) (g .e) (i + 1) (g .z) (g .is) (g .ends) (omega arith) (g .inside) one false j c number word q) long
+    bound-no number word q =
+        found-as _ _ _ _ _ _ j number word q (judged-faulty (g .text) code values a (g .k) (g .used) (i + 1) (g .to) (g .here) (g .e) (i + 1) (g .z) (g .is) (g .ends) (omega arith) (g .inside) one false j c number word q) (judged-long (g .text) code values a (g .k) (g .used) (i + 1) (g .to) (g .here) (g .e) (i + 1) (g .z) (g .is) (g .ends) (omega arith) (g .inside) one false j c)
 
     module _ (bool : Bool) (n : ℕ) (q : j ≡ Typed bool n) where
       at-is : n ≡ g .z
@@ -113,8 +113,8 @@ module _ (code values : List ℕ) (i : ℕ) (g : Bounds code values i) where
           })
 
 module _ (code values : List ℕ) (i : ℕ) (one : List ℕ) (j : Judged) (c : OfType code values one false false (i + 1) j) where
-  pub bound-wrong : (number word : ℕ) → j ≡ Faulty number word → length one ≡ length code → Bounded code values one i j
-  bound-wrong number word q long = record { is = λ g. bound-no code values i g one j c number word q long }
+  pub bound-wrong : (number word : ℕ) → j ≡ Faulty number word → Bounded code values one i j
+  bound-wrong number word q = record { is = λ g. bound-no code values i g one j c number word q }
 
   pub bound-right : (bool : Bool) (n : ℕ) → j ≡ Typed bool n → (two : List ℕ) → Linked one two i (opAt (wordsOf one) i) (valueAt (wordsOf one) i) n → Bounded code values two i (Typed bool n)
   bound-right bool n q two l = record { is = λ g. bound-yes code values i g one j c bool n q two l }

@@ -35,7 +35,7 @@ use Rattle.statements.specs.declared.Walked.the-variants.{Upto, Faulty}
 use Rattle.statements.specs.Answers.{Outside, Here, Stands, Answer, StatementAnswer, Begins, Begun}
 use Rattle.statements.specs.Parts.{Compacts, Compacted, ThenAt, Thens, Thened}
 use Rattle.statements.proofs.Frames.{outside-wider, kept-outside, here-on, calls-behind}
-use Rattle.statements.proofs.Judging.{inside-both, expression-stands, judged-faulty, judged-none, judged-next, judged-term, judged-kept}
+use Rattle.statements.proofs.Judging.{inside-both, expression-stands, judged-faulty, judged-long, judged-none, judged-next, judged-term, judged-kept}
 use Rattle.statements.proofs.Walking.{first-answer, answer-behind}
 use Rattle.statements.proofs.Arms.{then-order, rest-inside}
 
@@ -103,9 +103,10 @@ module _ (text code values : List ℕ) (k : Setting) (used i : ℕ) (g : Begins 
   condition-inside = of-type-inside (a .known .W) _ _ _ _ (w .condition) aBool (a .known .S)
 
   module _ (one : List ℕ) (j : Judged) (c : OfType code values one false true (i + 1) j) where
-    wrong : (number word : ℕ) → j ≡ judged.Faulty number word → length one ≡ length code → StatementAnswer (g .stands) one values (Faulty number word)
+    wrong : (number word : ℕ) → j ≡ judged.Faulty number word → StatementAnswer (g .stands) one values (Faulty number word)
     unfolding statementFaults typeIf forsIn
-    wrong number word q long =
+    wrong number word q =
+        let long = judged-long text code values a k used i (s .to) (s .here) (w .e) (i + 1) (w .n) (w .condition) (bounded .0) (omega arith) (omega (arith, bounded)) one true j c in
         let c2 = judged-faulty text code values a k used i (s .to) (s .here) (w .e) (i + 1) (w .n) (w .condition) (bounded .0) (omega arith) (omega (arith, bounded)) one true j c number word q in
         by-same (sortIn (a .known .W) (w .n)) THEN
         (λ e.
@@ -148,6 +149,9 @@ module _ (text code values : List ℕ) (k : Setting) (used i : ℕ) (g : Begins 
 
       changed : Outside (wordsOf code) (wordsOf one) i (s .to)
       changed = outside-wider i (s .to) (kept-outside kept) (omega arith) (omega (arith, bounded))
+
+      pub if-forward : i < t
+      if-forward = omega (arith, at-is, begins)
 
       pub if-room : (t < 8192) × (t * 8 + 8 ≤ length one)
       if-room = (omega (arith, at-is, bounded, s .here .unread .loaded .last), omega (arith, at-is, bounded, next-here .unread .loaded .room))
@@ -231,8 +235,8 @@ module _ (text code values : List ℕ) (k : Setting) (used i : ℕ) (g : Begins 
 
 -- ---- for whatever the statement is
 module _ (text code values : List ℕ) (k : Setting) (used i : ℕ) (one : List ℕ) (j : Judged) (c : OfType code values one false true (i + 1) j) where
-  pub if-wrong : (number word : ℕ) → j ≡ judged.Faulty number word → length one ≡ length code → Begun IF text code values one values k used i (Faulty number word)
-  if-wrong number word q long = record { is = λ g. wrong text code values k used i g one j c number word q long }
+  pub if-wrong : (number word : ℕ) → j ≡ judged.Faulty number word → Begun IF text code values one values k used i (Faulty number word)
+  if-wrong number word q = record { is = λ g. wrong text code values k used i g one j c number word q }
 
   module _ (bool : Bool) (t : ℕ) (q : j ≡ judged.Typed bool t) (v : ℕ) (ev : v ≡ opAt (wordsOf one) t) where
     pub if-compact : (v ≡ THEN → ⊥) → (two : List ℕ) (r : Walked) → Compacted text one values two k used i t r → Begun IF text code values two values k used i r

@@ -73,6 +73,9 @@ module _ (text code values : List ℕ) (g : Around text values) (k : Setting) (u
         let f = says-faulty _ _ _ _ _ _ r number word q (judges .says) in
         of-type-first (g .known .W) (suc nestings) a e z is (record { number = number; at = word }) (f .others) (typeIf wants) (g .known .S) (f .faults-are)
 
+    pub judged-long : length after ≡ length code
+    judged-long = judges .kept .long
+
     module _ (bool : Bool) (next : ℕ) (q : r ≡ Typed bool next) where
       sound : Sound (g .known .m) (g .known .n) (wordsOf after) a z (record { type = typeIf wants; faults = ofType (g .known .W) (typeIf wants) (g .known .S) e; term = termOf (g .known .W) (g .known .S) e }) bool next
       sound = says-typed _ _ _ _ _ _ r bool next q (judges .says)

@@ -8,3 +8,4 @@ pub mod Elses
 pub mod Arms
 pub mod Ifs
 pub mod Heads
+pub mod Dispatch

@@ -111,6 +111,14 @@ module _ (text code values : List ℕ) (k : Setting) (used at : ℕ) (now values
   pub list-long : Lists text code values k used at → length now ≡ length code
   list-long g = inv .is g .long
 
+  pub list-values : Lists text code values k used at → length values′ ≡ length values
+  list-values g = inv .is g .same .long
+
+  pub list-forward : Lists text code values k used at → (at ≤ i) × (i < 8192)
+  list-forward g =
+      let x = inv .is g in
+      (x .order, omega (arith, x .inside, x .here .unread .loaded .last))
+
   pub list-room : Lists text code values k used at → i * 8 + 8 ≤ length now
   list-room g =
       let x = inv .is g in
