@@ -1,11 +1,14 @@
 -- A statement by its first word.
-use mathlib.Core.Path.{_≡_, sym, _∙_}
+use mathlib.Core.Path.{_≡_, sym, ap, _∙_}
+use mathlib.Core.Bool.{true, false}
 use mathlib.Core.List.{List}
 use Prim.Native.Nat.{ℕ, _+_, _*_, _<_, _≤_}
 use native.Mathlib.Omega.{arith}
 use lib.ListN.{length}
+use borrow.Author.Tests.{ne-eqb}
 use Rattle.cells.specs.Words.{wordsOf}
-use Rattle.paper.specs.Sorts.{IF, FOR, WHILE, TEST}
+use Rattle.paper.specs.Sorts.{NAME, RETURN, RAISE, EXIT, RETRY, TRYNEXT, TPWRITE, TPREADNUM, IF, FOR, WHILE, TEST}
+use Rattle.paper.specs.Expressions.{startsSimple, startsStatement}
 use Rattle.paper.specs.Names.{sortIn}
 use Rattle.code.specs.Cells.{opAt}
 use Rattle.grammar.specs.Form.{Parses}
@@ -43,3 +46,13 @@ module _ (text code values : List ℕ) (k : Setting) (used i : ℕ) where
       pub stated-plain : (after : List ℕ) (r : Walked) → Plainly text code values after k used i r → Stated text code values after values k used i r
       stated-plain after r x =
           record { is = λ g. x .is (record { stands = g; no-if = λ e. a (sym (sort-is g) ∙ e); no-for = λ e. b (sym (sort-is g) ∙ e); no-while = λ e. c (sym (sort-is g) ∙ e); no-test = λ e. d (sym (sort-is g) ∙ e) }) }
+
+-- ---- which words start a statement
+pub starts-here : (s v : ℕ) → s ≡ v → startsStatement v ≡ true → true ≡ startsStatement s
+starts-here s v e h = sym (ap startsStatement e ∙ h)
+
+pub starts-other : (s : ℕ) → (s ≡ NAME → ⊥) → (s ≡ RETURN → ⊥) → (s ≡ RAISE → ⊥) → (s ≡ EXIT → ⊥) → (s ≡ RETRY → ⊥) → (s ≡ TRYNEXT → ⊥) → (s ≡ TPWRITE → ⊥) → (s ≡ TPREADNUM → ⊥)
+    → (s ≡ IF → ⊥) → (s ≡ FOR → ⊥) → (s ≡ WHILE → ⊥) → (s ≡ TEST → ⊥) → false ≡ startsStatement s
+unfolding startsStatement startsSimple
+starts-other s a b c d e f g h i j k l =
+    rw (ne-eqb s NAME a, ne-eqb s RETURN b, ne-eqb s RAISE c, ne-eqb s EXIT d, ne-eqb s RETRY e, ne-eqb s TRYNEXT f, ne-eqb s TPWRITE g, ne-eqb s TPREADNUM h, ne-eqb s IF i, ne-eqb s FOR j, ne-eqb s WHILE k, ne-eqb s TEST l)

@@ -9,3 +9,4 @@ pub mod Arms
 pub mod Ifs
 pub mod Heads
 pub mod Dispatch
+pub mod Ends
