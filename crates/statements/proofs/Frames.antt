@@ -93,7 +93,7 @@ calls-behind g o long x y c h k l m = record {
 }
 
 -- ---- more words of the routine are taken
-within-more : (m n p : ℕ) (x : Meaning) → n ≤ p → Within m n x → Within m p x
+pub within-more : (m n p : ℕ) (x : Meaning) → n ≤ p → Within m n x → Within m p x
 unfolding Within InRoom
 within-more m n p unknown h w = w
 within-more m n p (variable t (ofModule k)) h w = w
@@ -108,7 +108,7 @@ within-more m n p (theRoutine k) h w = w
 within-more m n p theErrno h w = w
 within-more m n p (errorNumber k) h w = w
 
-fine-more : (m n p : ℕ) (X : List ℕ) (M : Rattle.paper.specs.Terms.Memory) (x : Meaning) → n ≤ p → Fine m n X M x → Fine m p X M x
+pub fine-more : (m n p : ℕ) (X : List ℕ) (M : Rattle.paper.specs.Terms.Memory) (x : Meaning) → n ≤ p → Fine m n X M x → Fine m p X M x
 unfolding Fine InRoom
 fine-more m n p X M unknown h w = w
 fine-more m n p X M (variable t r) h w = w

@@ -10,3 +10,5 @@ pub mod Ifs
 pub mod Heads
 pub mod Dispatch
 pub mod Ends
+pub mod Entering
+pub mod Fors
