@@ -287,6 +287,9 @@ module _ (text code values : List ℕ) (k : Setting) (used i : ℕ) (g : Begins 
                     ends = w .after;
                   }
 
+              pub for-long : length four ≡ length code
+              for-long = rewritten-length (y .test) end-room ∙ y .head .kept .long ∙ y .opens .kept .long ∙ body .long ∙ long-two
+
               outside : Outside (wordsOf code) (wordsOf four) i (s .to)
               outside =
                   outside-on (outside-on (outside-on (outside-on (outside-wider i (s .to) changed (omega arith) (omega (arith, orders, last))) (outside-wider i (s .to) (done .outside) (omega (arith, orders)) (omega (arith, last))))
@@ -307,7 +310,7 @@ module _ (text code values : List ℕ) (k : Setting) (used i : ℕ) (g : Begins 
                     outside = outside;
                     same = back;
                   })
-                  (rewritten-length (y .test) end-room ∙ y .head .kept .long ∙ y .opens .kept .long ∙ body .long ∙ long-two))
+                  for-long)
 
 -- ---- for whatever the statement is
 module _ (text code values : List ℕ) (k : Setting) (used i : ℕ) (one : List ℕ) (j : Judged) (h : ForHeaded code values one used i j) where

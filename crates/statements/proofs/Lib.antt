@@ -12,3 +12,6 @@ pub mod Dispatch
 pub mod Ends
 pub mod Entering
 pub mod Fors
+pub mod Defaulting
+pub mod Choosing
+pub mod Tests

@@ -7,6 +7,8 @@ use Rattle.statements.proofs.Whiles.{while-condition, while-forward, wh
 use Rattle.statements.proofs.Elses.{else-room, else-lists, else-closes, else-no, else-wrong, else-yes}
 use Rattle.statements.proofs.Arms.{Armings, arms-begin, arm-lists, arm-values, arm-long-so, arm-after, arm-wide, arm-place, arm-closes, arm-long, arm-elses, arm-ends, arm-condition, arm-less, arm-list-wrong, arm-else-wrong, arms-finished, arm-wrong, arms-go}
 use Rattle.statements.proofs.Ifs.{if-condition, if-room, if-forward, if-compacts, if-thens, if-wrong, if-compact, if-full}
+use mathlib.Core.Path.{refl}
+use Rattle.statements.proofs.Fors.{for-heads, for-declares, for-spare, for-lists, for-closes, for-leaves, for-wrong, for-list-wrong, for-finished}
 use Prim.Native.Nat.{ℕ, _<_}
 use borrow.Fn.Kinds.{In}
 use borrow.Fn.PlainCycle.{Measures, is, falls, and}
@@ -429,7 +431,7 @@ else-part-returns-3 : (t : ℕ) → else-part-lts.Need-returns-3 (calls-else-par
 else-part-returns-3 t c = else-yes _ _ _ _ _ _ _ (c .before .before .before .before .before .before .before .before .before .before .before .before .before .before .before .before .before .before .before .sort .ensures) (c .before .before .before .before .before .before .before .before .before .before .before .before .before .before .before .before .before .before .if1 .left) _ _ _ (c .before .before .before .before .before .before .before .before .before .before .before .before .before .before .before .list .ensures) _ _ (c .before .before .before .before .before .before .before .before .before .r .given .1) _ _ (c .before .before .before .before .before .before .set-word2 .ensures) (c .before .before .set-word3 .ensures)
 
 for-statement-for-head-requires : (t : ℕ) → for-statement-lts.Need-for-head-requires (calls-for-statement t) (for-statement-at t) for-statement.Post
-for-statement-for-head-requires t c κs = ?
+for-statement-for-head-requires t c κs = search (needs, for-heads)
 
 for-statement-enum-known-j : (t : ℕ) → for-statement-lts.Need-enum-known-j (calls-for-statement t) (for-statement-at t) for-statement.Post
 for-statement-enum-known-j t c = search needs
@@ -438,28 +440,28 @@ for-statement-enum-known-j-2 : (t : ℕ) → for-statement-lts.Need-enum-known-j
 for-statement-enum-known-j-2 t c = search needs
 
 for-statement-add-declare : (t : ℕ) → for-statement-lts.Need-add-declare (calls-for-statement t) (for-statement-at t) for-statement.Post
-for-statement-add-declare t c = ?
+for-statement-add-declare t c = omega (arith, for-spare _ _ _ _ _ _ (c .before .before .before .before .before .before .before .before .before .before .before .before .before .pre .1) _ _ (c .before .before .before .before .before .before .before .for-head .ensures) _ _ (c .before .before .before .j2 .given .1))
 
 for-statement-add-declare-2 : (t : ℕ) → for-statement-lts.Need-add-declare-2 (calls-for-statement t) (for-statement-at t) for-statement.Post
-for-statement-add-declare-2 t c = ?
+for-statement-add-declare-2 t c = omega (arith, for-spare _ _ _ _ _ _ (c .before .before .before .before .before .before .before .before .before .before .before .before .before .pre .1) _ _ (c .before .before .before .before .before .before .before .for-head .ensures) _ _ (c .before .before .before .j2 .given .1))
 
 for-statement-mul-declare : (t : ℕ) → for-statement-lts.Need-mul-declare (calls-for-statement t) (for-statement-at t) for-statement.Post
-for-statement-mul-declare t c = ?
+for-statement-mul-declare t c = omega (arith, for-spare _ _ _ _ _ _ (c .before .before .before .before .before .before .before .before .before .before .before .before .before .pre .1) _ _ (c .before .before .before .before .before .before .before .for-head .ensures) _ _ (c .before .before .before .j2 .given .1))
 
 for-statement-add-declare-3 : (t : ℕ) → for-statement-lts.Need-add-declare-3 (calls-for-statement t) (for-statement-at t) for-statement.Post
-for-statement-add-declare-3 t c = ?
+for-statement-add-declare-3 t c = omega (arith, for-spare _ _ _ _ _ _ (c .before .before .before .before .before .before .before .before .before .before .before .before .before .pre .1) _ _ (c .before .before .before .before .before .before .before .for-head .ensures) _ _ (c .before .before .before .j2 .given .1))
 
 for-statement-declare-requires : (t : ℕ) → for-statement-lts.Need-declare-requires (calls-for-statement t) (for-statement-at t) for-statement.Post
-for-statement-declare-requires t c κs = ?
+for-statement-declare-requires t c κs = for-declares _ _ _ _ _ _ (c .before .before .before .before .before .before .before .before .before .before .before .before .before .pre .1) _ _ (c .before .before .before .before .before .before .before .for-head .ensures) _ _ (c .before .before .before .j2 .given .1)
 
 for-statement-add-list : (t : ℕ) → for-statement-lts.Need-add-list (calls-for-statement t) (for-statement-at t) for-statement.Post
-for-statement-add-list t c = ?
+for-statement-add-list t c = omega (arith, for-spare _ _ _ _ _ _ (c .before .before .before .before .before .before .before .before .before .before .before .before .before .before .before .before .before .before .before .before .pre .1) _ _ (c .before .before .before .before .before .before .before .before .before .before .before .before .before .before .for-head .ensures) _ _ (c .before .before .before .before .before .before .before .before .before .before .j2 .given .1))
 
 for-statement-add-list-2 : (t : ℕ) → for-statement-lts.Need-add-list-2 (calls-for-statement t) (for-statement-at t) for-statement.Post
-for-statement-add-list-2 t c = ?
+for-statement-add-list-2 t c = omega (arith, for-spare _ _ _ _ _ _ (c .before .before .before .before .before .before .before .before .before .before .before .before .before .before .before .before .before .before .before .before .pre .1) _ _ (c .before .before .before .before .before .before .before .before .before .before .before .before .before .before .for-head .ensures) _ _ (c .before .before .before .before .before .before .before .before .before .before .j2 .given .1))
 
 for-statement-list-requires : (t : ℕ) → for-statement-lts.Need-list-requires (calls-for-statement t) (for-statement-at t) for-statement.Post
-for-statement-list-requires t c κs = ?
+for-statement-list-requires t c κs = (omega (arith, for-spare _ _ _ _ _ _ (c .before .before .before .before .before .before .before .before .before .before .before .before .before .before .before .before .before .before .before .before .pre .1) _ _ (c .before .before .before .before .before .before .before .before .before .before .before .before .before .before .for-head .ensures) _ _ (c .before .before .before .before .before .before .before .before .before .before .j2 .given .1), c .before .before .before .before .before .before .before .before .before .before .before .before .before .before .before .before .before .before .before .before .pre .0), for-lists _ _ _ _ _ _ (c .before .before .before .before .before .before .before .before .before .before .before .before .before .before .before .before .before .before .before .before .pre .1) _ _ (c .before .before .before .before .before .before .before .before .before .before .before .before .before .before .for-head .ensures) _ _ (c .before .before .before .before .before .before .before .before .before .before .j2 .given .1) _ (omega arith) _ _ (c .before .before .before .before .before .before .declare .ensures))
 
 for-statement-enum-known-r : (t : ℕ) → for-statement-lts.Need-enum-known-r (calls-for-statement t) (for-statement-at t) for-statement.Post
 for-statement-enum-known-r t c = search needs
@@ -474,19 +476,19 @@ for-statement-same-length-2 : (t : ℕ) → for-statement-lts.Need-same-length-2
 for-statement-same-length-2 t c = search needs
 
 for-statement-returns : (t : ℕ) → for-statement-lts.Need-returns (calls-for-statement t) (for-statement-at t) for-statement.Post
-for-statement-returns t c = ?
+for-statement-returns t c = for-list-wrong _ _ _ _ _ _ _ _ (c .before .before .before .before .before .before .before .before .before .before .before .before .before .before .before .before .before .before .before .before .before .for-head .ensures) _ _ (c .before .before .before .before .before .before .before .before .before .before .before .before .before .before .before .before .before .j2 .given .1) _ (omega arith) _ _ (c .before .before .before .before .before .before .before .before .before .before .before .before .before .declare .ensures) _ _ _ (c .before .before .before .before .before .before .list .ensures) _ _ (c .enum-told .given .1)
 
 for-statement-add-leave : (t : ℕ) → for-statement-lts.Need-add-leave (calls-for-statement t) (for-statement-at t) for-statement.Post
-for-statement-add-leave t c = ?
+for-statement-add-leave t c = omega (arith, for-spare _ _ _ _ _ _ (c .before .before .before .before .before .before .before .before .before .before .before .before .before .before .before .before .before .before .before .before .before .before .before .before .before .before .before .before .before .before .pre .1) _ _ (c .before .before .before .before .before .before .before .before .before .before .before .before .before .before .before .before .before .before .before .before .before .before .before .before .for-head .ensures) _ _ (c .before .before .before .before .before .before .before .before .before .before .before .before .before .before .before .before .before .before .before .before .j2 .given .1))
 
 for-statement-leave-requires : (t : ℕ) → for-statement-lts.Need-leave-requires (calls-for-statement t) (for-statement-at t) for-statement.Post
-for-statement-leave-requires t c κs = ?
+for-statement-leave-requires t c κs = for-leaves _ _ _ _ _ _ (c .before .before .before .before .before .before .before .before .before .before .before .before .before .before .before .before .before .before .before .before .before .before .before .before .before .before .before .before .before .before .pre .1) _ _ (c .before .before .before .before .before .before .before .before .before .before .before .before .before .before .before .before .before .before .before .before .before .before .before .before .for-head .ensures) _ _ (c .before .before .before .before .before .before .before .before .before .before .before .before .before .before .before .before .before .before .before .before .j2 .given .1) _ (omega arith) _ _ (c .before .before .before .before .before .before .before .before .before .before .before .before .before .before .before .before .declare .ensures) _ _ _ (c .before .before .before .before .before .before .before .before .before .list .ensures) _ _ (c .before .before .before .r .given .1)
 
 for-statement-for-end-requires : (t : ℕ) → for-statement-lts.Need-for-end-requires (calls-for-statement t) (for-statement-at t) for-statement.Post
-for-statement-for-end-requires t c κs = ?
+for-statement-for-end-requires t c κs = for-closes _ _ _ _ _ _ (c .before .before .before .before .before .before .before .before .before .before .before .before .before .before .before .before .before .before .before .before .before .before .before .before .before .before .before .before .before .before .before .before .before .before .pre .1) _ _ (c .before .before .before .before .before .before .before .before .before .before .before .before .before .before .before .before .before .before .before .before .before .before .before .before .before .before .before .before .for-head .ensures) _ _ (c .before .before .before .before .before .before .before .before .before .before .before .before .before .before .before .before .before .before .before .before .before .before .before .before .j2 .given .1) _ (omega arith) _ _ (c .before .before .before .before .before .before .before .before .before .before .before .before .before .before .before .before .before .before .before .before .declare .ensures) _ _ _ (c .before .before .before .before .before .before .before .before .before .before .before .before .before .list .ensures) _ _ (c .before .before .before .before .before .before .before .r .given .1)
 
 for-statement-add-t24 : (t : ℕ) → for-statement-lts.Need-add-t24 (calls-for-statement t) (for-statement-at t) for-statement.Post
-for-statement-add-t24 t c = ?
+for-statement-add-t24 t c = omega (arith, for-closes _ _ _ _ _ _ (c .before .before .before .before .before .before .before .before .before .before .before .before .before .before .before .before .before .before .before .before .before .before .before .before .before .before .before .before .before .before .before .before .before .before .before .before .before .pre .1) _ _ (c .before .before .before .before .before .before .before .before .before .before .before .before .before .before .before .before .before .before .before .before .before .before .before .before .before .before .before .before .before .before .before .for-head .ensures) _ _ (c .before .before .before .before .before .before .before .before .before .before .before .before .before .before .before .before .before .before .before .before .before .before .before .before .before .before .before .j2 .given .1) _ (omega arith) _ _ (c .before .before .before .before .before .before .before .before .before .before .before .before .before .before .before .before .before .before .before .before .before .before .before .declare .ensures) _ _ _ (c .before .before .before .before .before .before .before .before .before .before .before .before .before .before .before .before .list .ensures) _ _ (c .before .before .before .before .before .before .before .before .before .before .r .given .1))
 
 for-statement-same-length-3 : (t : ℕ) → for-statement-lts.Need-same-length-3 (calls-for-statement t) (for-statement-at t) for-statement.Post
 for-statement-same-length-3 t c = search needs
@@ -495,16 +497,16 @@ for-statement-same-length-4 : (t : ℕ) → for-statement-lts.Need-same-length-4
 for-statement-same-length-4 t c = search needs
 
 for-statement-returns-2 : (t : ℕ) → for-statement-lts.Need-returns-2 (calls-for-statement t) (for-statement-at t) for-statement.Post
-for-statement-returns-2 t c = ?
+for-statement-returns-2 t c = search (needs, for-wrong)
 
 for-statement-same-length-5 : (t : ℕ) → for-statement-lts.Need-same-length-5 (calls-for-statement t) (for-statement-at t) for-statement.Post
-for-statement-same-length-5 t c = ?
+for-statement-same-length-5 t c = search needs
 
 for-statement-same-length-6 : (t : ℕ) → for-statement-lts.Need-same-length-6 (calls-for-statement t) (for-statement-at t) for-statement.Post
 for-statement-same-length-6 t c = search needs
 
 for-statement-returns-3 : (t : ℕ) → for-statement-lts.Need-returns-3 (calls-for-statement t) (for-statement-at t) for-statement.Post
-for-statement-returns-3 t c = ?
+for-statement-returns-3 t c = for-finished _ _ _ _ _ _ _ _ (c .before .before .before .before .before .before .before .before .before .before .before .before .before .before .before .before .before .before .before .before .before .before .before .before .before .before .before .before .before .before .before .for-head .ensures) _ _ (c .before .before .before .before .before .before .before .before .before .before .before .before .before .before .before .before .before .before .before .before .before .before .before .before .before .before .before .j2 .given .1) _ (omega arith) _ _ (c .before .before .before .before .before .before .before .before .before .before .before .before .before .before .before .before .before .before .before .before .before .before .before .declare .ensures) _ _ _ (c .before .before .before .before .before .before .before .before .before .before .before .before .before .before .before .before .list .ensures) _ _ (c .before .before .before .before .before .before .before .before .before .before .r .given .1) _ _ (c .before .before .before .before .before .before .leave .ensures) (c .before .before .for-end .ensures)
 
 abbrev full-if-Inv-loop : full-if-lts.InvT-loop
 full-if-Inv-loop text code₀ values₀ k used i first op₀ c₀ t₀ n₀ code values op c t n = Armings text code₀ values₀ k used i first code values op c t n
