@@ -1,6 +1,17 @@
 pub mod Frames
 pub mod Judging
+pub mod Same
 pub mod Walking
 pub mod Whiles
 pub mod Compacts
 pub mod Elses
+pub mod Arms
+pub mod Ifs
+pub mod Heads
+pub mod Dispatch
+pub mod Ends
+pub mod Entering
+pub mod Fors
+pub mod Defaulting
+pub mod Choosing
+pub mod Tests

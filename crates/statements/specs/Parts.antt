@@ -25,7 +25,7 @@ use Rattle.grammar.specs.Form.{Parses, ExprAt, SimpleAt, StepAt, ForHeadAt, Exp
 use Rattle.expressions.specs.declared.Judged.{Judged}
 use Rattle.expressions.specs.Parts.{Linked}
 use Rattle.links.specs.Resolved.{isLed}
-use Rattle.links.specs.Raw.{Ground, RawTerm, RawBound, RawStep, RawElse, RawConstants, RawDefault, RawStatement, RawList, RawCases}
+use Rattle.links.specs.Raw.{Ground, SameWords, RawTerm, RawBound, RawStep, RawElse, RawConstants, RawDefault, RawStatement, RawList, RawCases}
 use Rattle.simple.specs.declared.Setting.{Setting}
 use Rattle.simple.specs.Around.{Around, groundOf, offsetIn, Calls}
 use Rattle.simple.specs.Answers as simple
@@ -67,10 +67,15 @@ pub record Bounds (code values : List ℕ) (i : ℕ) : Type 0 where
   pub ends : levelOf (sortIn (around .known .W) z) ≡ 0
   pub inside : z ≤ to
 
+-- what a run reads there; the word has the op that it had
+pub record BoundWritten (raw : Type 0) (before after : List ℕ) (i : ℕ) : Type 0 where
+  pub is : raw
+  pub op : opAt (wordsOf after) i ≡ opAt (wordsOf before) i
+
 pub record Bounded (code values after : List ℕ) (i : ℕ) (r : Judged) : Type 0 where
   pub is : (g : Bounds code values i)
       → simple.Answer (ofType (g .around .known .W) aNum (g .around .known .S) (g .e)) code after i (g .z)
-      (RawBound (groundOf (g .around)) (g .around .known .n) (wordsOf after) (g .around .known .S) (g .e) i (g .z)) r
+      (BoundWritten (RawBound (groundOf (g .around)) (g .around .known .n) (wordsOf after) (g .around .known .S) (g .e) i (g .z)) code after i) r
 
 -- STEP with its bound, or DO, at s
 pub record Steps (code values : List ℕ) (s : ℕ) : Type 0 where
@@ -244,7 +249,8 @@ pub record Elsed (text code values after values′ : List ℕ) (k : Setting) (us
 pub record ChainValue (C : List ℕ) (value : ℤ) (more : ℕ → Type 0) (colon w : ℕ) : Type 0 where
   pub v : ℕ
   pub leaves : linkAt C w ≡ v
-  pub on : w < v
+  -- an expression stands between them
+  pub on : w + 1 < v
   pub before : v < colon
   pub op : opAt C v ≡ aNextValue
   pub constant : constantAt C v ≡ value
@@ -286,7 +292,7 @@ pub record Chained (code : List ℕ) (colon c : ℕ) : Type 0 where
   pub M : Memory
   pub es : List Expr
   pub is : CaseChain W S M (wordsOf code) es colon c
-  pub before : c < colon
+  pub before : c + 1 < colon
   pub last : colon < wordLimit
   pub room : storeBytes ≤ length code
 
@@ -295,6 +301,8 @@ pub record ValuesLinked (before after : List ℕ) (colon next c : ℕ) : Type 0 
   pub op : opAt (wordsOf after) c ≡ opAt (wordsOf before) c
   pub place : placeAt (wordsOf after) c ≡ colon + 1
   pub values : (g : Ground) (n : ℕ) (S : Scopes) (es : List Expr) → CaseChain (g .W) S (g .M) (wordsOf before) es colon c → RawConstants g n (wordsOf after) S es (colon + 1) next c
+  -- the word behind CASE is no value's
+  pub behind : SameWords (wordsOf before) (wordsOf after) (c + 1) (c + 2)
   pub outside : Outside (wordsOf before) (wordsOf after) c colon
   pub long : length after ≡ length before
 

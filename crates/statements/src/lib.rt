@@ -443,9 +443,9 @@ fn cases(
                 let Walked::Upto(e, u) = r else {
                     return r;
                 };
-                link_values(code, c, colon, e);
                 // where a list goes on that ends at this CASE is found behind it
                 simple::set_word(code, c + 1, PASS, 0, e);
+                link_values(code, c, colon, e);
                 c = e;
                 n = u;
             }
