@@ -1,2 +1,4 @@
 pub mod Words
 pub mod Taking
+pub mod Sitting
+pub mod Declaring
