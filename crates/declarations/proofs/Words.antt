@@ -27,7 +27,7 @@ use Rattle.names.specs.Promises as names
 use Rattle.numbers.proofs.Whole.{read, sub-cases}
 use Rattle.numbers.proofs.Complement.{widened}
 use Rattle.constants.specs.Answers.{InNum}
-use Rattle.declarations.specs.Parts.{TypeBit, scalarOp, baseOf, HeldAs, Fills, SetDatum, SetLink, Makes}
+use Rattle.declarations.specs.Parts.{TypeBit, scalarOp, baseOf, HeldAs, Fills, SetDatum, SetLink, Makes, Starts}
 
 -- ---- sorts
 pub type-num : (s : ℕ) → s ≡ 89 → TypeBit s 0
@@ -53,6 +53,10 @@ base-routine own h = rw h refl
 pub base-module : (own : ℕ) → (own ≡ 1 → ⊥) → 0 ≡ baseOf own
 unfolding baseOf
 base-module own h = rw (ne-eqb own 1 h) refl
+
+pub base-small : (own r : ℕ) → r ≡ baseOf own → r ≤ 1024
+unfolding baseOf
+base-small own r h = by-same own 1 (λ e. omega (arith, h ∙ sym (base-routine own e))) (λ d. omega (arith, h ∙ sym (base-module own d)))
 
 pub starts-var : (s : ℕ) → s ≡ 84 → true ≡ startsData s
 unfolding startsData
@@ -158,3 +162,14 @@ link-set before after i link tail room h g p =
 pub makes : (code values code′ values′ : List ℕ) (i op own value s bool : ℕ) → s ≡ opAt (wordsOf code) (i - 1) → TypeBit s bool → names.Declared code values i (op + 2 * bool + own + 256 * value) code′ values′
     → Makes code values code′ values′ i op own value
 makes code values code′ values′ i op own value s bool e t d = record { bool = bool; type = subst (λ (k : ℕ). TypeBit k bool) e t; declared = d }
+
+-- ---- the words of a datum
+module _ (code values values′ : List ℕ) (own used count word held i base : ℕ) (b : base ≡ baseOf own) (f : Fills values values′ (base + used) count word) where
+  here : Fills values values′ (baseOf own + used) count word
+  here = subst (λ (k : ℕ). Fills values values′ (k + used) count word) b f
+
+  pub starts-routine : (code′ : List ℕ) → own ≡ 1 → SetDatum code code′ i count held → Starts code values code′ values′ own used count word held i
+  starts-routine code′ o d = record { fills = here; own-datum = λ e. d; untouched = λ e. absurd (e o) }
+
+  pub starts-module : (own ≡ 1 → ⊥) → Starts code values code values′ own used count word held i
+  starts-module o = record { fills = here; own-datum = λ e. absurd (o e); untouched = λ e. refl }

@@ -88,6 +88,10 @@ pub record Starts (code values code′ values′ : List ℕ) (own used count wor
   pub untouched : (own ≡ 1 → ⊥) → code′ ≡ code
 
 -- ---- declarations whose name can be declared
+-- what numbers a declaration that begins at word i has to do with
+abbrev pub Near : (code values : List ℕ) (own limit used i : ℕ) → Type 0
+Near code values own limit used i = (i + 4 < wordLimit) × (i * 8 + 40 ≤ length code) × (storeBytes ≤ length values) × (own < 2) × (used ≤ limit) × (limit ≤ 1024)
+
 pub record DeclaresFree (code values code′ values′ : List ℕ) (own limit used i : ℕ) (r : Walked) : Type 0 where
   pub is : (b : Begins code values own limit used i) → Free b → Says b code′ values′ r
 

@@ -11,7 +11,7 @@ ghost use Rattle.code.specs.Cells.{opAt, linkAt};
 ghost use Rattle.names.specs.Promises.{storeBytes};
 ghost use Rattle.constants.specs.Answers.{InNum};
 ghost use Rattle.declarations.specs.Answers.{Begins, Declares, DataStand, DeclaresModule, RoutineStands, DeclaresRoutine, ParametersStand, DeclaresParameters, Leaving, Leaves};
-ghost use Rattle.declarations.specs.Parts.{TypeBit, scalarOp, baseOf, HeldAs, Fills, SetDatum, SetLink, Taken, Makes, Starts, DeclaresFree, ParameterBegins, DeclaresParameter, ParametersKept, LeavesParameters, DataKept, LeavesData};
+ghost use Rattle.declarations.specs.Parts.{Near, TypeBit, scalarOp, baseOf, HeldAs, Fills, SetDatum, SetLink, Taken, Makes, Starts, DeclaresFree, ParameterBegins, DeclaresParameter, ParametersKept, LeavesParameters, DataKept, LeavesData};
 use constants::Sized;
 use constants::Valued;
 
@@ -194,7 +194,7 @@ fn start(
 
 // VAR type name{c};
 fn array(code: &mut [u8], values: &mut [u8], own: u32, limit: u32, used: u32, i: usize) -> Walked
-    requires { ⌜ Begins (now code) (now values) own limit used i × (opAt (wordsOf (now code)) (i + 3) ≡ openBrace) ⌝ }
+    requires { ⌜ Begins (now code) (now values) own limit used i × Near (now code) (now values) own limit used i × (opAt (wordsOf (now code)) (i + 3) ≡ openBrace) ⌝ }
     ensures { λ r. ⌜ DeclaresFree (now (code .entry)) (now (values .entry)) (now (code .exit)) (now (values .exit)) own limit used i r ⌝ }
 {
     let c = constants::size(code, values, i + 4);
@@ -213,7 +213,7 @@ fn array(code: &mut [u8], values: &mut [u8], own: u32, limit: u32, used: u32, i:
 
 // VAR type name [:= c]; CONST type name := c;
 fn scalar(code: &mut [u8], values: &mut [u8], own: u32, limit: u32, used: u32, i: usize) -> Walked
-    requires { ⌜ Begins (now code) (now values) own limit used i × (opAt (wordsOf (now code)) (i + 3) ≡ openBrace → ⊥) ⌝ }
+    requires { ⌜ Begins (now code) (now values) own limit used i × Near (now code) (now values) own limit used i × (opAt (wordsOf (now code)) (i + 3) ≡ openBrace → ⊥) ⌝ }
     ensures { λ r. ⌜ DeclaresFree (now (code .entry)) (now (values .entry)) (now (code .exit)) (now (values .exit)) own limit used i r ⌝ }
 {
     if limit <= used {
@@ -238,7 +238,7 @@ fn scalar(code: &mut [u8], values: &mut [u8], own: u32, limit: u32, used: u32, i
 }
 
 fn datum(code: &mut [u8], values: &mut [u8], own: u32, limit: u32, used: u32, i: usize) -> Walked
-    requires { ⌜ Begins (now code) (now values) own limit used i ⌝ }
+    requires { ⌜ Begins (now code) (now values) own limit used i × Near (now code) (now values) own limit used i ⌝ }
     ensures { λ r. ⌜ Declares (now (code .entry)) (now (values .entry)) (now (code .exit)) (now (values .exit)) own limit used i r ⌝ }
 {
     if is_taken(code, values, own, i + 2) {

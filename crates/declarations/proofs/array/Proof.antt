@@ -1,99 +1,76 @@
 use borrow.Author.Needs.{needs}
+use native.Mathlib.Omega.{arith}
+use Prim.Native.Nat.{_<_, _≤_}
+use Rattle.declarations.proofs.Contents.{array-asks, count-most, count-next, array-faulty, array-crosses, array-goes}
 use Rattle.declarations.proofs.array.Statement.{statement}
 use Rattle.declarations.proofs.array.Tie as tie
-use Rattle.declarations.proofs.array.Reads as reads
-use Rattle.declarations.proofs.array.Lts as lts
-use Rattle.constants.proofs.size.Reads as size-reads
-use Rattle.declarations.proofs.known.Reads as known-reads
-use Rattle.declarations.proofs.start.Reads as start-reads
 
--- src/lib.rt:200:43
 add-size : tie.Need-add-size
-add-size c = ?
+add-size c = search needs
 
--- src/lib.rt:200:9
 size-requires : tie.Need-size-requires
-size-requires c κs = ?
+size-requires c κs = search (needs, array-asks)
 
--- src/lib.rt:202:24
 enum-known-c : tie.Need-enum-known-c
 enum-known-c c = search needs
 
--- src/lib.rt:203:22
 enum-known-c-2 : tie.Need-enum-known-c-2
 enum-known-c-2 c = search needs
 
--- src/lib.rt:204:24
 add-if1 : tie.Need-add-if1
-add-if1 c = ?
+add-if1 c = let h : c .before .c2 .given .0 .0 ≤ 512 = search (needs, count-most, array-asks) in omega (arith, h)
 
--- src/lib.rt:205:49
 add-t20 : tie.Need-add-t20
-add-t20 c = ?
+add-t20 c = search needs
 
--- src/lib.rt:205:17
 same-length : tie.Need-same-length
 same-length c = search needs
 
--- src/lib.rt:205:17
 same-length-2 : tie.Need-same-length-2
 same-length-2 c = search needs
 
--- src/lib.rt:205:17
 returns : tie.Need-returns
-returns c = ?
+returns c = search (needs, array-crosses)
 
--- src/lib.rt:207:33
 add-known : tie.Need-add-known
-add-known c = ?
+add-known c = search needs
 
--- src/lib.rt:207:66
 mul-known : tie.Need-mul-known
-mul-known c = ?
+mul-known c = let h : c .before .before .before .before .c2 .given .0 .0 ≤ 512 = search (needs, count-most, array-asks) in omega (arith, h)
 
--- src/lib.rt:207:59
 add-known-2 : tie.Need-add-known-2
-add-known-2 c = ?
+add-known-2 c = let h : c .before .before .before .before .c2 .given .0 .0 ≤ 512 = search (needs, count-most, array-asks) in omega (arith, h)
 
--- src/lib.rt:207:13
 known-requires : tie.Need-known-requires
-known-requires c κs = ?
+known-requires c κs = let h : c .before .before .before .before .c2 .given .0 .0 ≤ 512 = search (needs, count-most, array-asks) in (search needs, search needs, search needs, search needs, search needs, omega (arith, h))
 
--- src/lib.rt:208:13
 start-requires : tie.Need-start-requires
-start-requires c κs = ?
+start-requires c κs = (search needs, search needs, search needs, search needs)
 
--- src/lib.rt:209:26
 add-t26 : tie.Need-add-t26
-add-t26 c = ?
+add-t26 c = let h : c .before .before .before .before .before .before .before .before .before .before .before .before .before .before .before .before .c2 .given .0 .1 .0 < 8192 = search (needs, count-next, array-asks) in omega (arith, h)
 
--- src/lib.rt:209:36
 add-t27 : tie.Need-add-t27
 add-t27 c = search needs
 
--- src/lib.rt:196:1
 same-length-3 : tie.Need-same-length-3
 same-length-3 c = search needs
 
--- src/lib.rt:196:1
 same-length-4 : tie.Need-same-length-4
 same-length-4 c = search needs
 
--- src/lib.rt:196:1
 returns-2 : tie.Need-returns-2
-returns-2 c = ?
+returns-2 c = search (needs, array-faulty)
 
--- src/lib.rt:196:1
 same-length-5 : tie.Need-same-length-5
 same-length-5 c = search needs
 
--- src/lib.rt:196:1
 same-length-6 : tie.Need-same-length-6
 same-length-6 c = search needs
 
--- src/lib.rt:196:1
 returns-3 : tie.Need-returns-3
-returns-3 c = ?
+returns-3 c =
+    array-goes (c .before .before .before .before .before .before .before .before .before .before .before .before .before .before .before .before .before .before .before .before .before .before .before .before .before .pre .2) _ _ (c .before .before .before .before .before .before .before .before .before .before .before .before .before .before .before .before .before .before .before .before .size .ensures) _ _ (c .before .before .before .before .before .before .before .before .before .before .before .before .before .before .before .before .c2 .given .1) (c .before .before .before .before .before .before .before .before .before .before .before .before .before .before .if1 .left) _ _ _ _ (c .before .before .before .before .before .before .before .before .before .before .before .known .ensures) (c .before .before .before .before .start .ensures)
 
 pub array-spec : {M : Type 1} → statement M
 array-spec =

@@ -1,47 +1,35 @@
 use borrow.Author.Needs.{needs}
+use native.Mathlib.Omega.{arith}
+use Rattle.declarations.proofs.Words.{base-small, starts-routine, starts-module}
 use Rattle.declarations.proofs.start.Statement.{statement}
 use Rattle.declarations.proofs.start.Tie as tie
-use Rattle.declarations.proofs.start.Reads as reads
-use Rattle.declarations.proofs.start.Lts as lts
-use Rattle.declarations.proofs.base_of.Reads as base-of-reads
-use Rattle.declarations.proofs.fill.Reads as fill-reads
-use Rattle.declarations.proofs.set_datum.Reads as set-datum-reads
 
--- src/lib.rt:189:18
 base-of-requires : tie.Need-base-of-requires
 base-of-requires c κs = search needs
 
--- src/lib.rt:189:18
 add-fill : tie.Need-add-fill
-add-fill c = ?
+add-fill c = omega (arith, base-small _ _ (c .base-of .ensures))
 
--- src/lib.rt:189:5
 fill-requires : tie.Need-fill-requires
-fill-requires c κs = ?
+fill-requires c κs = let h = base-small _ _ (c .base-of .ensures) in (omega (arith, h), omega (arith, h))
 
--- src/lib.rt:191:9
 set-datum-requires : tie.Need-set-datum-requires
 set-datum-requires c κs = search needs
 
--- src/lib.rt:176:1
 same-length : tie.Need-same-length
 same-length c = search needs
 
--- src/lib.rt:176:1
 same-length-2 : tie.Need-same-length-2
 same-length-2 c = search needs
 
--- src/lib.rt:176:1
 returns : tie.Need-returns
-returns c = ?
+returns c = search (needs, starts-routine)
 
--- src/lib.rt:176:1
 same-length-3 : tie.Need-same-length-3
 same-length-3 c = search needs
 
--- src/lib.rt:176:1
 returns-2 : tie.Need-returns-2
-returns-2 c = ?
+returns-2 c = search (needs, starts-module)
 
 pub start-spec : {M : Type 1} → statement M
 start-spec =
