@@ -34,7 +34,7 @@ use Rattle.faults.specs.First.{First, no-fault}
 use Rattle.faults.specs.Added.{nameFaults, contentWords, contentFaults, declaredFaults}
 use Rattle.faults.proofs.Expressions.{grows}
 use Rattle.faults.proofs.First.{every-one, nothing-in-both}
-use Rattle.faults.proofs.Declarations.{name-crosses, name-fits, found-in-name, found-in-content}
+use Rattle.faults.proofs.Declarations.{name-taken, name-crosses, name-fits, found-in-name, found-in-content}
 use Rattle.expressions.specs.Known.{Loaded}
 use Rattle.expressions.specs.Answers.{Kept, typeIf}
 use Rattle.expressions.proofs.Keeping.{cell-below, cell-above}
@@ -48,9 +48,9 @@ use Rattle.constants.specs.Answers as constants
 use Rattle.constants.proofs.Terms.{in-num-small}
 use Rattle.declarations.specs.declared.Walked.{Walked}
 use Rattle.declarations.specs.declared.Walked.the-variants.{Upto, Faulty}
-use Rattle.declarations.specs.Sites.{Site, filling, ownOf, scopesOf, memoryOf, Elements, Steady, Placed, isOwn, owned, Filled}
-use Rattle.declarations.specs.Answers.{Begins, Free, after, faultsOf, Goes, Says}
-use Rattle.declarations.specs.Parts.{Near, TypeBit, scalarOp, HeldAs, Makes, Starts, DeclaresFree}
+use Rattle.declarations.specs.Sites.{Site, filling, ownOf, scopesOf, memoryOf, Elements, Steady, Placed, isOwn, owned, Owns, Filled}
+use Rattle.declarations.specs.Answers.{Begins, Free, after, faultsOf, Goes, Says, Declares}
+use Rattle.declarations.specs.Parts.{Near, Taken, TypeBit, scalarOp, HeldAs, Makes, Starts, DeclaresFree}
 use Rattle.declarations.proofs.Words.{in-num-32, in-num-64}
 use Rattle.declarations.proofs.Sitting.{site-ref, own-small, own-here, among-new, load-new, limit-most, used-most}
 use Rattle.declarations.proofs.Declaring.{asks-of, contentMeaning, content-used, Around, name-keeps, words-changed, words-written, now-filled}
@@ -185,12 +185,12 @@ module _ {code values : List ℕ} {own limit used i : ℕ} (brace : opAt (wordsO
     unfolding Says contentFaults contentWords
     array-faulty number word q = record {
       is = λ b free.
-        let e = sized b .e in
-        let h = says-unsized (b .W) (scopesOf (b .W) (b .s) (b .D)) (memoryOf (b .W) (b .s) (b .D)) e (sized b .n) c number word q (o .says (size-asks b)) in
-        let z : length (contentWords (b .W) (F b) (content b) (b .D)) ≡ 0 =
-        ap (λ (x : Content). length (contentWords (b .W) (F b) x (b .D))) (sized b .is) ∙ length-replicate _ (pos 0) ∙ size-refused (b .W) _ _ e _ h in
-        in-content b (record { number = number; at = word }) free (omega (arith, z, room-left b))
-        (subst (λ (x : Content). First (record { number = number; at = word }) (contentFaults (b .W) (F b) (type b) x (b .D))) (sym (sized b .is)) h);
+          let e = sized b .e in
+          let h = says-unsized (b .W) (scopesOf (b .W) (b .s) (b .D)) (memoryOf (b .W) (b .s) (b .D)) e (sized b .n) c number word q (o .says (size-asks b)) in
+          let z : length (contentWords (b .W) (F b) (content b) (b .D)) ≡ 0 =
+          ap (λ (x : Content). length (contentWords (b .W) (F b) x (b .D))) (sized b .is) ∙ length-replicate _ (pos 0) ∙ size-refused (b .W) _ _ e _ h in
+          in-content b (record { number = number; at = word }) free (omega (arith, z, room-left b))
+          (subst (λ (x : Content). First (record { number = number; at = word }) (contentFaults (b .W) (F b) (type b) x (b .D))) (sym (sized b .is)) h);
     }
 
     module _ (count next : ℕ) (q : c ≡ sizes-of.Count count next) where
@@ -243,16 +243,37 @@ module _ {code values : List ℕ} {own limit used i : ℕ} (brace : opAt (wordsO
         unfolding Says contentFaults
         array-goes = record {
           is = λ b free.
-            let k = count-is b in
-            let around = around-kept code mid i (i + 4) (sized b .n) (b .to) (omega arith) (before-end b) (o .kept (size-asks b)) in
-            record {
-              none = clean b free (omega (arith, fits, long-is b, b .used-is, b .limit-is)) (ap (λ (x : Content). contentFaults (b .W) (F b) (type b) x (b .D)) (sized b .is) ∙ k .none);
-              next-is = omega (arith, k .next-is, sized b .after, b .stands .after);
-              used-is = omega (arith, b .used-is, long-is b, content-used (b .W) (F b) (type b) (b .x .name) (content b) (b .D));
-              filled = now-filled b free mid code₂ code′ values₂ values′ 8 (used + 1024 * count) count 0 8388607 (pos 0) around made started (words-are b) refl (omega arith) (array-means b) refl
-                  (omega (arith, fits, b .used-is, b .limit-is)) (array-mine b) (array-placed b);
-              keeps = name-keeps b free mid code₂ code′ values₂ values′ 8 (used + 1024 * count) count 0 8388607 (pos 0) around made started;
-              written = words-written b free mid code₂ code′ values₂ values′ 8 (used + 1024 * count) count 0 8388607 (pos 0) around made started (words-are b) refl;
-              changed = words-changed b free mid code₂ code′ values₂ values′ 8 (used + 1024 * count) count 0 8388607 (pos 0) around made started;
-            };
+              let k = count-is b in
+              let around = around-kept code mid i (i + 4) (sized b .n) (b .to) (omega arith) (before-end b) (o .kept (size-asks b)) in
+              record {
+                none = clean b free (omega (arith, fits, long-is b, b .used-is, b .limit-is)) (ap (λ (x : Content). contentFaults (b .W) (F b) (type b) x (b .D)) (sized b .is) ∙ k .none);
+                next-is = omega (arith, k .next-is, sized b .after, b .stands .after);
+                used-is = omega (arith, b .used-is, long-is b, content-used (b .W) (F b) (type b) (b .x .name) (content b) (b .D));
+                filled = now-filled b free mid code₂ code′ values₂ values′ 8 (used + 1024 * count) count 0 8388607 (pos 0) around made started (words-are b) refl (omega arith) (array-means b) refl
+                    (omega (arith, fits, b .used-is, b .limit-is)) (array-mine b) (array-placed b);
+                keeps = name-keeps b free mid code₂ code′ values₂ values′ 8 (used + 1024 * count) count 0 8388607 (pos 0) around made started;
+                written = words-written b free mid code₂ code′ values₂ values′ 8 (used + 1024 * count) count 0 8388607 (pos 0) around made started (words-are b) refl;
+                changed = words-changed b free mid code₂ code′ values₂ values′ 8 (used + 1024 * count) count 0 8388607 (pos 0) around made started;
+              };
         }
+
+-- ---- by its name
+module _ {code values : List ℕ} {own limit used i : ℕ} (t : Bool) (taken : Taken code values own (i + 2) t) where
+  taken-is : (b : Begins code values own limit used i) → t ≡ cannotDeclare (map textOf (b .D .names)) (spelled (b .W) (i + 2))
+  taken-is b =
+      taken .is (b .routine) (b .W) (scopesOf (b .W) (b .s) (b .D)) (b .D .names) (b .filled .means) (b .stands .name)
+      (b .loaded .words (i + 2) (omega arith) (omega (arith, far b)) .number (b .stands .name))
+      (subst (λ (k : ℕ). Owns k (b .D .names) (scopesOf (b .W) (b .s) (b .D))) (sym (b .own-is)) (b .filled .owns))
+
+  pub datum-taken : t ≡ true → Declares code values code values own limit used i (Faulty 10 (i + 2))
+  unfolding Says
+  datum-taken h = record {
+    is = λ b.
+        let q : cannotDeclare (map textOf (b .D .names)) (spelled (b .W) (b .x .name)) ≡ true =
+        ap (λ (k : ℕ). cannotDeclare (map textOf (b .D .names)) (spelled (b .W) k)) (b .stands .named) ∙ sym (taken-is b) ∙ h in
+        subst (λ (k : ℕ). First (record { number = 10; at = k }) (faultsOf b)) (b .stands .named)
+        (found-in-name (b .W) (F b) (type b) (b .D) (b .stands) (name-taken (b .W) (F b) (b .x .name) (contentWords (b .W) (F b) (content b) (b .D)) (b .D) q));
+  }
+
+  pub datum-free : t ≡ false → (code′ values′ : List ℕ) (r : Walked) → DeclaresFree code values code′ values′ own limit used i r → Declares code values code′ values′ own limit used i r
+  datum-free h code′ values′ r d = record { is = λ b. d .is b (sym (taken-is b) ∙ h) }

@@ -201,7 +201,7 @@ module _ {code values : List ℕ} {own limit used i : ℕ} (b : Begins code valu
         record {
           name = b .stands .name;
           keeps = keeps-same (b .routine) (b .W) (outerOf (b .W) (b .s)) (wordsOf code₂) (wordsOf code′) (i + 2)
-          (start-same ((i + 2) * 2) (λ e. omega arith) (λ e. omega arith)) (start-same ((i + 2) * 2 + 1) (λ e. omega arith) (λ e. omega arith)) o;
+              (start-same ((i + 2) * 2) (λ e. omega arith) (λ e. omega arith)) (start-same ((i + 2) * 2 + 1) (λ e. omega arith) (λ e. omega arith)) o;
         }
 
     pub words-changed : Changed (wordsOf code) (wordsOf code′) i (b .to)

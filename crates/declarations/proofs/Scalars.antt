@@ -43,7 +43,7 @@ use Rattle.declarations.specs.declared.Walked.{Walked}
 use Rattle.declarations.specs.declared.Walked.the-variants.{Upto, Faulty}
 use Rattle.declarations.specs.Sites.{filling, ownOf, scopesOf, memoryOf, Steady, Placed, owned}
 use Rattle.declarations.specs.Answers.{Begins, Free, after, faultsOf, Goes, Says}
-use Rattle.declarations.specs.Parts.{TypeBit, scalarOp, HeldAs, Makes, Starts, DeclaresFree}
+use Rattle.declarations.specs.Parts.{TypeBit, scalarOp, HeldAs, Makes, Starts, FitValue, Fit, PlacedValue, PlacedAs, Placing, DeclaresFree}
 use Rattle.declarations.proofs.Words.{in-num-32, in-num-64}
 use Rattle.declarations.proofs.Sitting.{own-here, among-new, load-new}
 use Rattle.declarations.proofs.Declaring.{asks-of, contentMeaning, content-used, Around, name-keeps, words-changed, words-written, now-filled}
@@ -56,6 +56,9 @@ scalarMeaning op t r = if eqb op 12 then constant t r else variable t r
 scalar-low : (s : ℕ) → scalarOp s < 16
 unfolding scalarOp
 scalar-low s = by-same s 37 (λ e. rw e (omega arith)) (λ d. rw (ne-eqb s 37 d) (omega arith))
+
+pub op-low : (op s : ℕ) → op ≡ scalarOp s → op < 16
+op-low op s e = omega (arith, e, scalar-low s)
 
 scalar-means : (routine : ℕ → ℕ) (s bool own used : ℕ) → bool < 2 → own < 2 → meaningIn routine (scalarOp s + 2 * bool + own + 256 * used) ≡ scalarMeaning (scalarOp s) (typeWith bool) (refWith own used)
 unfolding scalarOp scalarMeaning meaningWith
@@ -154,29 +157,47 @@ module _ {code values : List ℕ} {own limit used i : ℕ} (b : Begins code valu
         changed = words-changed b free mid code₂ code′ values₂ values′ op used 1 word held v around made started;
       }
 
--- ---- what the code answers
-says-right : (W : List Word) (t : DataType) (S : Scopes) (M : Memory) (e : Expr) (to : ℕ) (c : Valued) (v : ℤ) (next : ℕ) → c ≡ values-of.Value v next → constants.Says W t S M e to c → Right W t S M e to v next
-unfolding constants.Says
-says-right W t S M e to c v next q h = subst (constants.Says W t S M e to) q h
+says-fit : (d : Valued) (W : List Word) (t : DataType) (S : Scopes) (M : Memory) (e : Expr) (to : ℕ) → to < 8192 → constants.Says W t S M e to d → Fit d
+unfolding constants.Says Fit
+says-fit (values-of.Value v next) W t S M e to l h = record { ranged = h .ranged; near = omega (arith, h .next-is, l) }
+says-fit (values-of.Faulty number word) W t S M e to l h = tt
 
-says-wrong : (W : List Word) (t : DataType) (S : Scopes) (M : Memory) (e : Expr) (to : ℕ) (c : Valued) (number word : ℕ) → c ≡ values-of.Faulty number word → constants.Says W t S M e to c
-    → First (record { number = number; at = word }) (constantFaults W raisesError t S M e)
-unfolding constants.Says
-says-wrong W t S M e to c number word q h = subst (constants.Says W t S M e to) q h
+-- ---- the value is placed
+fit-value : (c : Valued) (v : ℤ) (next : ℕ) → c ≡ values-of.Value v next → Fit c → FitValue v next
+unfolding Fit
+fit-value c v next q f = subst Fit q f
 
--- an answer's numbers
-module _ (code values mid : List ℕ) (wants : Bool) (at : ℕ) (c : Valued) (a : Asks code values at) (o : Values code values mid wants at c) (v : ℤ) (next : ℕ) (q : c ≡ values-of.Value v next) where
-  right : Right (a .stands .known .W) (typeIf wants) (a .stands .known .S) (a .M) (a .stands .e) (a .stands .to) v next
-  right = says-right (a .stands .known .W) (typeIf wants) (a .stands .known .S) (a .M) (a .stands .e) (a .stands .to) c v next q (o .says a)
+pub fit-read : (c : Valued) (v : ℤ) (next : ℕ) → c ≡ values-of.Value v next → Fit c → InNum (read v)
+fit-read c v next q f = let h = fit-value c v next q f .ranged in subst InNum (sym (toZ-ofZ (in-num-64 v h))) h
 
-  pub value-small : InNum v
-  value-small = right .ranged
+pub fit-next : (c : Valued) (v : ℤ) (next : ℕ) → c ≡ values-of.Value v next → Fit c → next < 8192
+fit-next c v next q f = fit-value c v next q f .near
 
-  pub value-read : InNum (read v)
-  value-read = subst InNum (sym (toZ-ofZ (in-num-64 v (right .ranged)))) (right .ranged)
+module _ (code values code′ values′ : List ℕ) (own used op i : ℕ) (c : Valued) where
+  pub placing-faulty : (number word : ℕ) → c ≡ values-of.Faulty number word → Placing code values code values own used op i c (Faulty number word)
+  unfolding PlacedAs
+  placing-faulty number word q = record { is = rw q (record { answer = refl; same-code = refl; same-values = refl }) }
 
-  pub value-next : next < 8192
-  value-next = let l = a .stands .loaded .last in omega (arith, right .next-is, l)
+  pub placing-value : (v : ℤ) (next : ℕ) → c ≡ values-of.Value v next → Fit c → (mid-code mid-values : List ℕ) → Makes code values mid-code mid-values (i + 2) op own used → (word held : ℕ) → word ≡ ofZ w32 (read v)
+      → HeldAs (read v) held → Starts mid-code mid-values code′ values′ own used 1 word held i → Placing code values code′ values′ own used op i c (Upto (next + 1) (used + 1))
+  unfolding PlacedAs
+  placing-value v next q f mid-code mid-values made word held w h started =
+      let y : read v ≡ v = toZ-ofZ (in-num-64 v (fit-value c v next q f .ranged)) in
+      record {
+        is = rw q (
+          record {
+            mid-code = mid-code;
+            mid-values = mid-values;
+            word = word;
+            held = held;
+            made = made;
+            word-is = w ∙ ap (ofZ w32) y;
+            held-is = subst (λ (z : ℤ). HeldAs z held) y h;
+            started = started;
+          },
+          refl,
+        );
+      }
 
 module _ {code values : List ℕ} {own limit used i : ℕ} (plain : opAt (wordsOf code) (i + 3) ≡ 8 → ⊥) where
   not-brace : (b : Begins code values own limit used i) → sortIn (b .W) (i + 3) ≡ 8 → ⊥
@@ -197,10 +218,10 @@ module _ {code values : List ℕ} {own limit used i : ℕ} (plain : opAt (wordsO
     unfolding Says
     scalar-plain none code₂ code′ values₂ values′ made started = record {
       is = λ b free.
-        let n = no-value (b .W) (F b) (type b) (b .D) (b .stands .content) (not-brace b) (λ e. none (s3-is ∙ sort-is b 3 (omega arith) ∙ e)) in
-        scalar-done b free op (op-here b) (pos 0) (in-num-small 0 (omega arith)) (n .words-are) (n .faults-are) (n .means-are) fits
-        code code₂ code′ values₂ values′ 0 8388607 (i + 4) (around-kept code code i (i + 3) (i + 3) (b .to) (omega arith) (omega (arith, far b)) (kept-same code (i + 3) (i + 3))) made started
-        refl refl (omega (arith, n .end-is, b .stands .after));
+          let n = no-value (b .W) (F b) (type b) (b .D) (b .stands .content) (not-brace b) (λ e. none (s3-is ∙ sort-is b 3 (omega arith) ∙ e)) in
+          scalar-done b free op (op-here b) (pos 0) (in-num-small 0 (omega arith)) (n .words-are) (n .faults-are) (n .means-are) fits
+          code code₂ code′ values₂ values′ 0 8388607 (i + 4) (around-kept code code i (i + 3) (i + 3) (b .to) (omega arith) (omega (arith, far b)) (kept-same code (i + 3) (i + 3))) made started
+          refl refl (omega (arith, n .end-is, b .stands .after));
     }
 
     module _ (some : s3 ≡ 11) where
@@ -230,23 +251,26 @@ module _ {code values : List ℕ} {own limit used i : ℕ} (plain : opAt (wordsO
         says-here : (b : Begins code values own limit used i) → constants.Says (b .W) (type b) (scopesOf (b .W) (b .s) (b .D)) (memoryOf (b .W) (b .s) (b .D)) (value b .e) (b .stands .end) c
         says-here b = subst (λ (t : DataType). constants.Says (b .W) t (scopesOf (b .W) (b .s) (b .D)) (memoryOf (b .W) (b .s) (b .D)) (value b .e) (b .stands .end) c) (type-wanted b) (o .says (value-asks b))
 
-        pub scalar-faulty : (number word : ℕ) → c ≡ values-of.Faulty number word → DeclaresFree code values mid values own limit used i (Faulty number word)
-        unfolding Says
-        scalar-faulty number word q = record {
-          is = λ b free.
-            let h = says-wrong (b .W) (type b) (scopesOf (b .W) (b .s) (b .D)) (memoryOf (b .W) (b .s) (b .D)) (value b .e) (b .stands .end) c number word q (says-here b) in
-            in-content b (record { number = number; at = word }) free (omega (arith, fits, ap length (value b .words-are), b .used-is, b .limit-is))
-            (subst (First (record { number = number; at = word })) (sym (value b .faults-are)) h);
-        }
+        pub scalar-fit : Begins code values own limit used i → Fit c
+        scalar-fit b =
+            let l = b .loaded .last in
+            says-fit c (b .W) (type b) (scopesOf (b .W) (b .s) (b .D)) (memoryOf (b .W) (b .s) (b .D)) (value b .e) (b .stands .end) (omega (arith, l, b .stands .after)) (says-here b)
 
-        pub scalar-goes : (v : ℤ) (next : ℕ) → c ≡ values-of.Value v next → (code₂ code′ values₂ values′ : List ℕ) (word held : ℕ) → Makes mid values code₂ values₂ (i + 2) op own used
-            → word ≡ ofZ w32 (read v) → HeldAs (read v) held → Starts code₂ values₂ code′ values′ own used 1 word held i → DeclaresFree code values code′ values′ own limit used i (Upto (next + 1) (used + 1))
-        unfolding Says
-        scalar-goes v next q code₂ code′ values₂ values′ word held made word-is held-is started = record {
-          is = λ b free.
-            let r = says-right (b .W) (type b) (scopesOf (b .W) (b .s) (b .D)) (memoryOf (b .W) (b .s) (b .D)) (value b .e) (b .stands .end) c v next q (says-here b) in
-            let y : read v ≡ v = toZ-ofZ (in-num-64 v (r .ranged)) in
-            scalar-done b free op (op-here b) v (r .ranged) (value b .words-are ∙ ap (λ (z : ℤ). z ∷ []) (sym (r .is))) (value b .faults-are ∙ r .none) (value b .means-are) fits
-            mid code₂ code′ values₂ values′ word held (next + 1) (around-kept code mid i (i + 4) (b .stands .end) (b .to) (omega arith) (omega (arith, b .stands .after)) (o .kept (value-asks b))) made started
-            (ap (toZ w32) (word-is ∙ ap (ofZ w32) y) ∙ toZ-ofZ (in-num-32 v (r .ranged))) (held-is .is ∙ y) (omega (arith, r .next-is, b .stands .after));
-        }
+        module _ (code′ values′ : List ℕ) (b : Begins code values own limit used i) (free : Free b) where
+          by-answer : (d : Valued) (r : Walked) → constants.Says (b .W) (type b) (scopesOf (b .W) (b .s) (b .D)) (memoryOf (b .W) (b .s) (b .D)) (value b .e) (b .stands .end) d
+              → PlacedAs mid values code′ values′ own used op i d r → Says b code′ values′ r
+          unfolding Says constants.Says PlacedAs
+          by-answer (values-of.Faulty number word) r h p =
+              subst (Says b code′ values′) (sym (p .answer))
+              (in-content b (record { number = number; at = word }) free (omega (arith, fits, ap length (value b .words-are), b .used-is, b .limit-is))
+              (subst (First (record { number = number; at = word })) (sym (value b .faults-are)) h))
+          by-answer (values-of.Value v next) r h p =
+              let g = p .0 in
+              subst (Says b code′ values′) (sym (p .1))
+              (scalar-done b free op (op-here b) v (h .ranged) (value b .words-are ∙ ap (λ (z : ℤ). z ∷ []) (sym (h .is))) (value b .faults-are ∙ h .none) (value b .means-are) fits
+              mid (g .mid-code) code′ (g .mid-values) values′ (g .word) (g .held) (next + 1)
+              (around-kept code mid i (i + 4) (b .stands .end) (b .to) (omega arith) (omega (arith, b .stands .after)) (o .kept (value-asks b))) (g .made) (g .started)
+              (ap (toZ w32) (g .word-is) ∙ toZ-ofZ (in-num-32 v (h .ranged))) (g .held-is .is) (omega (arith, h .next-is, b .stands .after)))
+
+        pub scalar-goes : (code′ values′ : List ℕ) (r : Walked) → Placing mid values code′ values′ own used op i c r → DeclaresFree code values code′ values′ own limit used i r
+        scalar-goes code′ values′ r p = record { is = λ b free. by-answer code′ values′ b free c r (says-here b) (p .is) }

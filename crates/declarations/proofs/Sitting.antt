@@ -193,21 +193,21 @@ module _ (W : List Word) (routine : ℕ → ℕ) (s : Site) (D : Data) (values m
         means = means-same routine W T (wordsOf mid) (wordsOf after) (λ k l. fills .above k (omega (arith, end))) table;
         owns = record {
           is = λ u p. test (equalTexts text u)
-          (λ t. let e : text ≡ u = same-texts text u t in
-          subst (λ (v : Text). isAmong (map textOf (declare text a N)) v ≡ owned (ownOf s) (meaning T v)) e
-          (ap (λ (l : Names). isAmong (map textOf l) text) (declared-front text a N free) ∙ among-here text (map textOf N) ∙ sym mine ∙ sym (ap (owned (ownOf s)) (hides .here))))
-          (λ t. ap (λ (l : Names). isAmong (map textOf l) u) (declared-front text a N free) ∙ among-further text u (map textOf N) t ∙ f .owns .is u p
-          ∙ sym (ap (owned (ownOf s)) (hides .elsewhere u (λ e. differing text u t (sym e)))));
+              (λ t. let e : text ≡ u = same-texts text u t in
+              subst (λ (v : Text). isAmong (map textOf (declare text a N)) v ≡ owned (ownOf s) (meaning T v)) e
+              (ap (λ (l : Names). isAmong (map textOf l) text) (declared-front text a N free) ∙ among-here text (map textOf N) ∙ sym mine ∙ sym (ap (owned (ownOf s)) (hides .here))))
+              (λ t. ap (λ (l : Names). isAmong (map textOf l) u) (declared-front text a N free) ∙ among-further text u (map textOf N) t ∙ f .owns .is u p
+              ∙ sym (ap (owned (ownOf s)) (hides .elsewhere u (λ e. differing text u t (sym e)))));
         };
         placed = λ u. test (equalTexts text u)
-        (λ t. let e : text ≡ u = same-texts text u t in subst (λ (v : Text). Placed M (meaning T v)) e (subst (Placed M) (sym (hides .here)) here))
-        (λ t. subst (Placed M) (sym (hides .elsewhere u (λ e. differing text u t (sym e)))) (placed-more W s (D .words) vs (meaning S u) (f .placed u)));
+            (λ t. let e : text ≡ u = same-texts text u t in subst (λ (v : Text). Placed M (meaning T v)) e (subst (Placed M) (sym (hides .here)) here))
+            (λ t. subst (Placed M) (sym (hides .elsewhere u (λ e. differing text u t (sym e)))) (placed-more W s (D .words) vs (meaning S u) (f .placed u)));
         cells = λ r h. by-new W s (D .words) vs r h
-        (λ o. ap (toZ w32) (fills .below (cellOf r) (cell-old W s (D .words) r (f .most) o) ∙ word-mid (cellOf r) (omega (arith, cell-old W s (D .words) r (f .most) o, end)))
-        ∙ f .cells r o ∙ sym (load-more W s (D .words) vs r o))
-        (λ j l e.
-        let c : cellOf r ≡ baseOf (ownOf s) + length (D .words) + j = ap cellOf e ∙ cell-new W s (length (D .words) + j) ∙ omega arith in
-        ap (λ (k : ℕ). toZ w32 (getD (wordsOf after) k 0)) c ∙ ap (toZ w32) (fills .here j l) ∙ sym (starts j l) ∙ sym (load-new W s (D .words) vs j) ∙ sym (ap (load M) e));
+            (λ o. ap (toZ w32) (fills .below (cellOf r) (cell-old W s (D .words) r (f .most) o) ∙ word-mid (cellOf r) (omega (arith, cell-old W s (D .words) r (f .most) o, end)))
+            ∙ f .cells r o ∙ sym (load-more W s (D .words) vs r o))
+            (λ j l e.
+            let c : cellOf r ≡ baseOf (ownOf s) + length (D .words) + j = ap cellOf e ∙ cell-new W s (length (D .words) + j) ∙ omega arith in
+            ap (λ (k : ℕ). toZ w32 (getD (wordsOf after) k 0)) c ∙ ap (toZ w32) (fills .here j l) ∙ sym (starts j l) ∙ sym (load-new W s (D .words) vs j) ∙ sym (ap (load M) e));
         most = most-more W s (D .words) vs fits (f .most);
         window = window-more W s (D .words) vs fits (f .window);
         errno = fills .above 1263 (omega (arith, end)) ∙ word-mid 1263 (omega arith) ∙ f .errno;

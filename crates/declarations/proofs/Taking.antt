@@ -77,9 +77,9 @@ module _ (code values : List ℕ) (own i m : ℕ) (says : Meant code values i m)
   unfolding cannotDeclare
   taken-by h r o = record {
     is = λ routine W S N table name e owns.
-      let p : isProtected (spelled W i) ≡ false = protected-is routine W S table name e ∙ h in
-      let q : cannotDeclare (map textOf N) (spelled W i) ≡ isAmong (map textOf N) (spelled W i) = rw (p, cannotDeclare) refl in
-      sym (q ∙ owns .is (spelled W i) p ∙ ap (owned own) (sym (table .means i name) ∙ sym (ap (meaningIn routine) (cell-is W e))) ∙ o routine);
+        let p : isProtected (spelled W i) ≡ false = protected-is routine W S table name e ∙ h in
+        let q : cannotDeclare (map textOf N) (spelled W i) ≡ isAmong (map textOf N) (spelled W i) = rw (p, cannotDeclare) refl in
+        sym (q ∙ owns .is (spelled W i) p ∙ ap (owned own) (sym (table .means i name) ∙ sym (ap (meaningIn routine) (cell-is W e))) ∙ o routine);
   }
 
   pub not-known : t ≡ false → m % 256 < 4 → Taken code values own i false
