@@ -111,7 +111,7 @@ module _ (W : List Word) (F : Filling) where
   contentMeaning t (arrayData e) D r = array t r (sizeOf W (F .scopesWith (D .names)) (F .memoryWith (D .words)) e)
   contentMeaning t (constantData e) D r = constant t r
 
-  content-shape : (t : DataType) (i : ℕ) (c : Content) (D : Data) → declareContent W F t i c D
+  pub content-shape : (t : DataType) (i : ℕ) (c : Content) (D : Data) → declareContent W F t i c D
       ≡ record { names = declare (spelled W i) (contentMeaning t c D (F .ref (length (D .words)))) (D .names); words = D .words ++ contentWords W F c D; faults = declareContent W F t i c D .faults }
   unfolding declareContent declareName contentMeaning contentWords
   content-shape t i variableData D = refl

@@ -4,3 +4,4 @@ pub mod Sitting
 pub mod Declaring
 pub mod Contents
 pub mod Scalars
+pub mod Walking

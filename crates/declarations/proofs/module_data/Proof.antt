@@ -1,73 +1,57 @@
 use borrow.Author.Needs.{needs}
+use Prim.Native.Nat.{_-_, _<_, _≤_}
+use native.Mathlib.Omega.{arith}
+use Rattle.declarations.proofs.Walking.{ModuleWalk, module-begun, module-room, module-datum, module-near, module-faulty, module-falls, module-long, module-long-values, module-on, module-done}
 use Rattle.declarations.proofs.module_data.Statement.{statement}
 use Rattle.declarations.proofs.module_data.Tie as tie
-use Rattle.declarations.proofs.module_data.Reads as reads
-use Rattle.declarations.proofs.module_data.Lts as lts
-use Rattle.declarations.proofs.datum.Reads as datum-reads
-use Rattle.declarations.proofs.sort.Reads as sort-reads
-use Rattle.declarations.proofs.starts_data.Reads as starts-data-reads
 
 abbrev Inv-loop : tie.InvT-loop
-Inv-loop code₀ values₀ at i₀ used₀ code values i used = ?
+Inv-loop code₀ values₀ at i₀ used₀ code values i used = ModuleWalk code₀ values₀ at code values i used
 
 abbrev μ-loop : tie.MeasureT-loop
-μ-loop code₀ values₀ at i₀ used₀ code values i used = ?
+μ-loop code₀ values₀ at i₀ used₀ code values i used = 8192 - i
 
--- src/lib.rt:260:5
 loop-holds : tie.Need-loop-holds Inv-loop μ-loop
-loop-holds c = ?
+loop-holds c = search (needs, module-begun)
 
--- src/lib.rt:260:23
 sort-requires : tie.Need-sort-requires Inv-loop μ-loop
-sort-requires c κs = ?
+sort-requires c κs = search (needs, module-room)
 
--- src/lib.rt:260:11
 starts-data-requires : tie.Need-starts-data-requires Inv-loop μ-loop
-starts-data-requires c κs = ?
+starts-data-requires c κs = search needs
 
--- src/lib.rt:261:13
 datum-requires : tie.Need-datum-requires Inv-loop μ-loop
-datum-requires c κs = ?
+datum-requires c κs = (search (needs, module-datum), search (needs, module-near))
 
--- src/lib.rt:263:28
 enum-known-d : tie.Need-enum-known-d Inv-loop μ-loop
-enum-known-d c = ?
+enum-known-d c = search needs
 
--- src/lib.rt:263:45
 same-length : tie.Need-same-length Inv-loop μ-loop
-same-length c = ?
+same-length c = search (needs, module-long, module-long-values)
 
--- src/lib.rt:263:45
 same-length-2 : tie.Need-same-length-2 Inv-loop μ-loop
-same-length-2 c = ?
+same-length-2 c = search (needs, module-long, module-long-values)
 
--- src/lib.rt:263:45
 returns : tie.Need-returns Inv-loop μ-loop
-returns c = ?
+returns c = search (needs, module-faulty)
 
--- src/lib.rt:264:26
 enum-known-d-2 : tie.Need-enum-known-d-2 Inv-loop μ-loop
-enum-known-d-2 c = ?
+enum-known-d-2 c = search needs
 
--- src/lib.rt:260:5
 loop-less : tie.Need-loop-less Inv-loop μ-loop
-loop-less c = ?
+loop-less c = search (needs, module-falls)
 
--- src/lib.rt:260:5
 loop-again : tie.Need-loop-again Inv-loop μ-loop
-loop-again c = ?
+loop-again c = search (needs, module-on)
 
--- src/lib.rt:254:1
 same-length-3 : tie.Need-same-length-3 Inv-loop μ-loop
-same-length-3 c = ?
+same-length-3 c = search (needs, module-long, module-long-values)
 
--- src/lib.rt:254:1
 same-length-4 : tie.Need-same-length-4 Inv-loop μ-loop
-same-length-4 c = ?
+same-length-4 c = search (needs, module-long, module-long-values)
 
--- src/lib.rt:254:1
 returns-2 : tie.Need-returns-2 Inv-loop μ-loop
-returns-2 c = ?
+returns-2 c = search (needs, module-done)
 
 pub module-data-spec : {M : Type 1} → statement M
 module-data-spec =
