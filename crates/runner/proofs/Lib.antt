@@ -1,3 +1,4 @@
 pub mod Agreeing
 pub mod States
 pub mod Living
+pub mod Storing
