@@ -1,10 +1,10 @@
 // The machine over the code store: one step, and a run.
-pub mod reading;
-pub mod targets;
 pub mod calls;
 pub mod choices;
 pub mod errors;
 pub mod output;
+pub mod reading;
+pub mod targets;
 
 // How a run ended: the ending, the offset of its place, and how many steps of the allowance are left.
 pub struct Ended {
