@@ -2,3 +2,4 @@ pub mod Agreeing
 pub mod States
 pub mod Living
 pub mod Storing
+pub mod Actions
