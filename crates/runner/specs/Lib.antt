@@ -1,4 +1,5 @@
 pub mod Reading
 pub mod Live
 pub mod Machine
+pub mod Output
 pub mod Runs
