@@ -1,3 +1,4 @@
+use mathlib.Core.Path.{_∙_}
 use lib.ListN.{length-set}
 use borrow.Author.Needs.{needs}
 use Rattle.runner.proofs.Lines.{of-string, of-fits, of-fits-first, of-room, of-done}
@@ -33,7 +34,9 @@ add-out c = search (needs, of-fits-first)
 
 -- src/output.rt:95:5
 slice-write-out : tie.Need-slice-write-out
-slice-write-out c = search (needs, of-room)
+slice-write-out c =
+    let s = c .before .before .before .before .before .before .before .before .before .before .before .before .before .before .before in
+    of-room _ _ _ _ _ _ (s .fits .v) (s .pre .1) _ (c .before .before .before .before .before .before .before .before .written .ensures) _ _ (c .before .before .before .before .before .before .before .string .ensures) _ (c .before .before .before .before .number-length .ensures) _ _ (c .before .before .put-number .ensures)
 
 -- src/output.rt:96:25
 add-set-written : tie.Need-add-set-written
@@ -53,11 +56,13 @@ same-length c = search needs
 
 -- src/output.rt:88:1
 same-length-2 : tie.Need-same-length-2
-same-length-2 c = search (needs, length-set)
+same-length-2 c = simp length-set (c .before .before .before .before .before .before .put-number .kept .0 ∙ c .before .before .before .before .before .before .before .before .before .before .before .string .kept .1 .1 .0)
 
 -- src/output.rt:88:1
 returns : tie.Need-returns
-returns c = search (needs, of-done)
+returns c =
+    let s = c .before .before .before .before .before .before .before .before .before .before .before .before .before .before .before .before .before .before .before in
+    of-done _ _ _ _ _ _ (s .fits .v) (s .pre .1) _ (c .before .before .before .before .before .before .before .before .before .before .before .before .written .ensures) _ _ (c .before .before .before .before .before .before .before .before .before .before .before .string .ensures) _ (c .before .before .before .before .before .before .before .before .number-length .ensures) _ _ (c .before .before .before .before .before .before .put-number .ensures) _ (c .before .before .set-written .ensures)
 
 pub add-of-spec : {M : Type 1} → statement M
 add-of-spec =
