@@ -3,7 +3,7 @@ use mathlib.Core.Path.{_≡_}
 use mathlib.Core.Bool.{Bool, true, false}
 use mathlib.Core.List.{List, [], _∷_, map}
 use mathlib.Core.Option.{some}
-use Prim.Native.Nat.{ℕ, _<_}
+use Prim.Native.Nat.{ℕ, _<_, _≤_}
 use lib.Dec.{eqb}
 use lib.IntN.{ℤ}
 use Rattle.paper.specs.Terms.{Term}
@@ -62,3 +62,26 @@ pub record Closed (c : Code) : Type 0 where
 -- A step's name is the index of a word, and not of the first, which is MODULE.
 abbrev pub SmallName : Step → Type 0
 SmallName s = (0 < s .name) × (s .name < parts)
+
+-- A FOR owns a word behind its routine's parameters and data, which are so many.
+unfoldable pub LoopFits : (words : ℕ) → Action → Type 0
+LoopFits n (enterFor k a b c d) = n ≤ k
+LoopFits n (repeatFor k b) = n ≤ k
+LoopFits n (store t e) = Unit {0}
+LoopFits n (callFor t i k es) = Unit {0}
+LoopFits n (callOf i k es) = Unit {0}
+LoopFits n (giveBack e) = Unit {0}
+LoopFits n (raise e) = Unit {0}
+LoopFits n handOn = Unit {0}
+LoopFits n exit = Unit {0}
+LoopFits n retry = Unit {0}
+LoopFits n tryNext = Unit {0}
+LoopFits n (write s e) = Unit {0}
+LoopFits n (read t s) = Unit {0}
+LoopFits n (choose cs o) = Unit {0}
+LoopFits n (select e cs o) = Unit {0}
+LoopFits n (testWhile e b) = Unit {0}
+LoopFits n endList = Unit {0}
+
+abbrev pub OwnLoop : (words : ℕ) → Step → Type 0
+OwnLoop n s = LoopFits n (s .does)

@@ -12,7 +12,7 @@ use Rattle.paper.specs.Running.{codeAt}
 use Rattle.code.specs.Cells.{opAt, placeAt, linkAt}
 use Rattle.code.specs.Spans.{_then_}
 use Rattle.code.specs.Steps.{Head, noHead, numbered, Stands, stepIn, constantAt, parts, aDatum, theParameters}
-use Rattle.code.specs.Closed.{Every, Closed, SmallName}
+use Rattle.code.specs.Closed.{Every, Closed, SmallName, OwnLoop}
 
 -- what a run can know of a step of the table, where words have these offsets
 unfoldable pub known : (offset : ℕ → ℕ) → Step → Stands
@@ -33,25 +33,25 @@ dataIn C (suc f) i =
       | false ↦ elim (eqb (opAt C i) theParameters) [ true ↦ some ([], i) | false ↦ none ]
     ]
 
--- a callee's word has its own offset
-unfoldable pub CalleeIn : (offset : ℕ → ℕ) → (C : List ℕ) → Action → Type 0
-CalleeIn offset C (callFor t i k es) = placeAt C i ≡ offset i
-CalleeIn offset C (callOf i k es) = placeAt C i ≡ offset i
-CalleeIn offset C (store t e) = Unit {0}
-CalleeIn offset C (giveBack e) = Unit {0}
-CalleeIn offset C (raise e) = Unit {0}
-CalleeIn offset C handOn = Unit {0}
-CalleeIn offset C exit = Unit {0}
-CalleeIn offset C retry = Unit {0}
-CalleeIn offset C tryNext = Unit {0}
-CalleeIn offset C (write s e) = Unit {0}
-CalleeIn offset C (read t s) = Unit {0}
-CalleeIn offset C (choose cs o) = Unit {0}
-CalleeIn offset C (select e cs o) = Unit {0}
-CalleeIn offset C (testWhile e b) = Unit {0}
-CalleeIn offset C (enterFor k a b c d) = Unit {0}
-CalleeIn offset C (repeatFor k b) = Unit {0}
-CalleeIn offset C endList = Unit {0}
+-- a callee's word has its own offset, and is the name of one of the routines
+unfoldable pub CalleeIn : (R : List Head) → (offset : ℕ → ℕ) → (C : List ℕ) → Action → Type 0
+CalleeIn R offset C (callFor t i k es) = (placeAt C i ≡ offset i) × (k < length R)
+CalleeIn R offset C (callOf i k es) = (placeAt C i ≡ offset i) × (k < length R)
+CalleeIn R offset C (store t e) = Unit {0}
+CalleeIn R offset C (giveBack e) = Unit {0}
+CalleeIn R offset C (raise e) = Unit {0}
+CalleeIn R offset C handOn = Unit {0}
+CalleeIn R offset C exit = Unit {0}
+CalleeIn R offset C retry = Unit {0}
+CalleeIn R offset C tryNext = Unit {0}
+CalleeIn R offset C (write s e) = Unit {0}
+CalleeIn R offset C (read t s) = Unit {0}
+CalleeIn R offset C (choose cs o) = Unit {0}
+CalleeIn R offset C (select e cs o) = Unit {0}
+CalleeIn R offset C (testWhile e b) = Unit {0}
+CalleeIn R offset C (enterFor k a b c d) = Unit {0}
+CalleeIn R offset C (repeatFor k b) = Unit {0}
+CalleeIn R offset C endList = Unit {0}
 
 -- A routine that begins at a word, in a module of m words.
 module _ (m : ℕ) (text : List ℕ) (R : List Head) (offset : ℕ → ℕ) (C : List ℕ) where
@@ -68,9 +68,10 @@ module _ (m : ℕ) (text : List ℕ) (R : List Head) (offset : ℕ → ℕ) (C :
     pub fors-are : c .fors ≡ placeAt C opens
     pub room : length (c .words) + c .fors ≤ 64
     pub steps-are : Every (λ s. stepIn m (length (c .words) + c .fors) (c .function) text R C (s .name) ≡ some (known offset s)) (c .steps)
-    pub callees-are : Every (λ s. CalleeIn offset C (s .does)) (c .steps)
+    pub callees-are : Every (λ s. CalleeIn R offset C (s .does)) (c .steps)
     pub closed : Closed c
     pub small : Every SmallName (c .steps)
+    pub loops-fit : Every (OwnLoop (length (c .words))) (c .steps)
     pub head-small : h .word + 1 < parts
 
 -- The module's routines `R`, whose words have these offsets, are those of the program.

@@ -10,10 +10,10 @@ use Rattle.paper.specs.Steps.{Program}
 use Rattle.paper.specs.States.{State, Call, Rooms, Effect, made, failing, handing, ending, lacking}
 use Rattle.paper.specs.Running.{nextStep, perform}
 use Rattle.cells.specs.Words.{wordsOf}
-use Rattle.code.specs.Cells.{windowOf}
+use Rattle.code.specs.Cells.{windowOf, placeAt}
 use Rattle.code.specs.Steps.{Head}
 use Rattle.code.specs.Holds.{Holds}
-use Rattle.code.specs.Windows.{callIn, waiting, writtenIn, stateIn, usedCell}
+use Rattle.code.specs.Windows.{callIn, waiting, writtenIn, stateIn, writtenCell, usedCell}
 use Rattle.evaluation.specs.Answers.{firstError}
 use Rattle.runner.specs.Live.{Live}
 
@@ -52,7 +52,7 @@ effectAt P R rooms X d i steps out =
     perform P rooms c (waiting P R X d) (s .place) (s .after) (s .does) (stateIn P R X d i steps out)
 
 -- How a step comes out that was made with the value store X and left it as X′, and the output likewise: r is its answer.
-module _ (P : Program) (R : List Head) (d i steps : ℕ) (X X′ out out′ : List ℕ) where
+module _ (P : Program) (R : List Head) (C : List ℕ) (offset : ℕ → ℕ) (d i steps : ℕ) (X X′ out out′ : List ℕ) where
   pub data Comes (E : Effect) (r : ℤ) : Type 0 where
     goesOn : (n : ℕ) → r ≡ pos n → Live P R X′ d n → E ≡ made (stateIn P R X′ d n steps out′) → Comes E r
     enters : (n : ℕ) → r ≡ pos (entered + n) → suc d < depthLimit → Live P R X′ (suc d) n → E ≡ made (stateIn P R X′ (suc d) n steps out′) → Comes E r
@@ -60,7 +60,8 @@ module _ (P : Program) (R : List Head) (d i steps : ℕ) (X X′ out out′ : Li
     fails : (e : ℕ) → r ≡ pos (firstError + e) → e < 65536 → Live P R X′ d i → E ≡ failing e (stateIn P R X′ d i steps out′) → Comes E r
     hands : r ≡ pos handed → X′ ≡ X → out′ ≡ out → E ≡ handing (stateIn P R X d i steps out) → Comes E r
     ends : (n : ℕ) → r ≡ pos (ended + n) → n ≤ 4 → X′ ≡ X → out′ ≡ out → E ≡ ending n (stateIn P R X d i steps out) → Comes E r
-    lacks : (n w : ℕ) → r ≡ pos (lackedBy n + w) → 6 ≤ n → n ≤ 8 → w < 65536 → X′ ≡ X → out′ ≡ out → E ≡ lacking n w → Comes E r
+    -- w has the offset of the word that it is at
+    lacks : (n w at : ℕ) → r ≡ pos (lackedBy n + w) → 6 ≤ n → n ≤ 8 → w < 65536 → placeAt C w ≡ offset at → X′ ≡ X → out′ ≡ out → E ≡ lacking n at → Comes E r
 
 -- ---- what a step asks
 -- The code store holds a program, and the value store a state of its run: the window of the newest call is at `base`, its next step is i.
@@ -88,16 +89,16 @@ pub record LastWindow (rooms : Rooms) (last : ℕ) : Type 0 where
 pub record Performs (code values after : List ℕ) (base i : ℕ) (r : ℤ) : Type 0 where
   pub long : length after ≡ length values
   pub does : (h : Here code values base i) (rooms : Rooms) (steps : ℕ) (out : List ℕ) →
-      Comes (h .P) (h .R) (h .d) i steps (wordsOf values) (wordsOf after) out out (effectAt (h .P) (h .R) rooms (wordsOf values) (h .d) i steps out) r
-  -- inputs are not touched
-  pub used : getD (wordsOf after) usedCell 0 ≡ getD (wordsOf values) usedCell 0
+      Comes (h .P) (h .R) (wordsOf code) (h .offset) (h .d) i steps (wordsOf values) (wordsOf after) out out (effectAt (h .P) (h .R) rooms (wordsOf values) (h .d) i steps out) r
+  -- output and inputs are not touched
+  pub kept : (c : ℕ) → writtenCell ≤ c → c ≤ usedCell → getD (wordsOf after) c 0 ≡ getD (wordsOf values) c 0
 
 -- A call.
 pub record Calls (code values after : List ℕ) (base last i : ℕ) (r : ℤ) : Type 0 where
   pub long : length after ≡ length values
   pub does : (h : Here code values base i) (rooms : Rooms) → LastWindow rooms last → (steps : ℕ) (out : List ℕ) →
-      Comes (h .P) (h .R) (h .d) i steps (wordsOf values) (wordsOf after) out out (effectAt (h .P) (h .R) rooms (wordsOf values) (h .d) i steps out) r
-  pub used : getD (wordsOf after) usedCell 0 ≡ getD (wordsOf values) usedCell 0
+      Comes (h .P) (h .R) (wordsOf code) (h .offset) (h .d) i steps (wordsOf values) (wordsOf after) out out (effectAt (h .P) (h .R) rooms (wordsOf values) (h .d) i steps out) r
+  pub kept : (c : ℕ) → writtenCell ≤ c → c ≤ usedCell → getD (wordsOf after) c 0 ≡ getD (wordsOf values) c 0
 
 -- ---- any step
 -- what a run lends besides its steps and its depth
@@ -118,7 +119,7 @@ pub record Stepped (text code values after inputs out out′ : List ℕ) (base l
   pub long : length after ≡ length values
   pub out-long : length out′ ≡ length out
   pub does : (h : Here code values base i) → h .text ≡ text → (rooms : Rooms) → LastWindow rooms last → Lends rooms inputs out → (steps : ℕ) →
-      Comes (h .P) (h .R) (h .d) i steps (wordsOf values) (wordsOf after) out out′ (effectAt (h .P) (h .R) rooms (wordsOf values) (h .d) i steps out) r
+      Comes (h .P) (h .R) (wordsOf code) (h .offset) (h .d) i steps (wordsOf values) (wordsOf after) out out′ (effectAt (h .P) (h .R) rooms (wordsOf values) (h .d) i steps out) r
   -- output past the count is untouched
   pub written : (P : Program) (R : List Head) → writtenIn P R (wordsOf after) ≤ length out
   pub past : (P : Program) (R : List Head) → drop (writtenIn P R (wordsOf after)) out′ ≡ drop (writtenIn P R (wordsOf after)) out
