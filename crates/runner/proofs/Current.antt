@@ -7,9 +7,9 @@ use Prim.Native.Nat.{ℕ, zero, suc, _+_, _-_, _*_, _/_, _%_, _<_, _≤_}
 use native.Mathlib.Omega.{arith}
 use lib.Dec.{eqb}
 use lib.ListN.{length, getD}
-use lib.IntN.{ℤ, pos, natAbs}
+use lib.IntN.{ℤ, pos, negsuc, natAbs}
 use lib.Signed.{ltZ}
-use borrow.Author.Tests.{eq-eqb, ne-eqb}
+use borrow.Author.Tests.{eq-eqb, ne-eqb, ltb-false}
 use Rattle.laws.proofs.Tests.{by-same, false-true}
 use Rattle.paper.specs.Numbers.{Value, value, error}
 use Rattle.paper.specs.Terms.{Term, Memory, worth}
@@ -19,13 +19,17 @@ use Rattle.paper.specs.Running.{codeAt, stepNamed, stepOf, nextStep, perform}
 use Rattle.cells.specs.Words.{wordsOf}
 use Rattle.code.specs.Cells.{windowOf, opAt, placeAt}
 use Rattle.code.specs.Spans.{_then_, termIn, memoryIn}
-use Rattle.code.specs.Steps.{Head, noHead, Stands, parts, actionIn, stepIn}
+use Rattle.code.specs.Steps.{Head, noHead, parts, actionIn, stepIn}
+use Rattle.code.specs.Steps as steps
 use Rattle.code.specs.Closed.{Every, done, also, isNamed, Named, targetsOf, GoesOn, SmallName, OwnLoop}
 use Rattle.code.specs.Holds.{known, CalleeIn, HoldsRoutine}
 use Rattle.code.specs.Windows.{callIn, waiting, stateIn}
 use Rattle.code.proofs.Options.{same-some, went}
+use Rattle.evaluation.specs.Answers.{firstError, decoded, Counts, Stores, Stands, Evaluated}
+use Rattle.evaluation.proofs.Numbers.{is-value, is-error}
 use Rattle.runner.specs.Live.{Live, wordsOfCall, routineOfCall, codeOfCall}
-use Rattle.runner.specs.Machine.{Here, effectAt}
+use Rattle.runner.specs.Machine.{Here, effectAt, Comes, fails}
+use Rattle.runner.proofs.Raised.{worth-error}
 
 -- ---- lists of steps
 pub named-every : {A : Step → Type 0} (S : List Step) (i : ℕ) → Every A S → isNamed S i ≡ true → A (stepNamed S i)
@@ -43,6 +47,11 @@ named-name (s ∷ r) i e =
     by-same (s .name) i
     (λ h. rw (eq-eqb (s .name) i h, stepNamed) h)
     (λ h. rw (ne-eqb (s .name) i h, stepNamed) (named-name r i (rw (ne-eqb (s .name) i h, isNamed) at e)))
+
+-- ---- an answer that is an error
+pub error-is : (r : ℤ) → ltZ r (pos firstError) ≡ false → r ≡ pos (firstError + (natAbs r - firstError))
+error-is (pos k) h = ap pos (omega (arith, ltb-false k firstError h))
+error-is (negsuc k) h = false-true (sym h)
 
 -- ---- what the cells say of it
 module _ (code values : List ℕ) (base i : ℕ) (h : Here code values base i) where
@@ -83,13 +92,30 @@ module _ (code values : List ℕ) (base i : ℕ) (h : Here code values base i) w
   read =
       let g = went (actionIn m n (codeHere .function) (h .text) (h .R) C i) (λ r. some (record { offset = placeAt C i; after = r .0; does = r .1 })) (known (h .offset) stepHere) step-here in
       let q = same-some (record { offset = placeAt C i; after = g .a .0; does = g .a .1 }) (known (h .offset) stepHere) (g .next) in
-      record { action = g .first ∙ ap (λ (s : Stands). some (s .after, s .does)) q; place = ap (λ (s : Stands). s .offset) q }
+      record { action = g .first ∙ ap (λ (s : steps.Stands). some (s .after, s .does)) q; place = ap (λ (s : steps.Stands). s .offset) q }
 
   pub action-here : actionIn m n (codeHere .function) (h .text) (h .R) C i ≡ some (stepHere .after, stepHere .does)
   action-here = read .action
 
   pub place-here : placeAt C i ≡ h .offset (stepHere .place)
   place-here = read .place
+
+  -- ---- what an evaluation asks
+  abbrev pub counts-here : Counts
+  counts-here = record { m = m; n = n; most = h .holds .room; window = routine-holds .room }
+
+  pub stores-here : Stores values base
+  stores-here = record {
+    words = omega (arith, h .values-size);
+    call = omega (arith, h .values-size, h .base-is, h .deep);
+    number = h .live .errno;
+  }
+
+  pub whole-here : length code % 8 ≡ 0
+  whole-here = rw (h .code-size)
+
+  pub stands-here : (from to : ℕ) (t : Term) → termIn m n C from to ≡ some t → Stands code from to
+  stands-here from to t e = record { c = counts-here; t = t; is = e; whole = whole-here }
 
   -- ---- where it leads
   pub small-name : (j : ℕ) → isNamed (codeHere .steps) j ≡ true → (0 < j) × (j < parts)
@@ -129,3 +155,24 @@ module _ (code values : List ℕ) (base i : ℕ) (h : Here code values base i) w
     pub memory-here : memoryOf stateHere callHere ≡ memoryIn m n X (windowOf (h .d))
     unfolding stateIn callIn memoryIn
     memory-here = refl
+
+    -- ---- expressions
+    module _ (from to : ℕ) (t : Term) (e : termIn m n C from to ≡ some t) (r : ℤ) (v : Evaluated code values base from to r) where
+      worth-here : worth (memoryOf stateHere callHere) t ≡ decoded r
+      worth-here =
+          ap (λ (M : Memory). worth M t) memory-here ∙ sym (ap (λ (b : ℕ). worth (memoryIn m n X b) t) (h .base-is)) ∙ sym (v .is counts-here t e)
+
+      pub value-here : ltZ r (pos firstError) ≡ true → worth (memoryOf stateHere callHere) t ≡ value r
+      value-here k = worth-here ∙ is-value r k
+
+      module _ (k : ltZ r (pos firstError) ≡ false) where
+        pub error-here : worth (memoryOf stateHere callHere) t ≡ error (natAbs r - firstError)
+        error-here = worth-here ∙ is-error r k
+
+        -- what raises an error in an expression fails, and nothing has changed
+        pub failed-here : (go : ℤ → Effect) (E : Effect) → E ≡ withValue (worth (memoryOf stateHere callHere) t) stateHere go
+            → Comes (h .P) (h .R) C (h .offset) (h .d) i steps X X out out E r
+        unfolding withValue
+        failed-here go E q =
+            fails (natAbs r - firstError) (error-is r k) (worth-error (memoryOf stateHere callHere) t (natAbs r - firstError) error-here) (h .live)
+            (q ∙ ap (λ (y : Value). withValue y stateHere go) error-here)
