@@ -3,5 +3,7 @@ pub mod States
 pub mod Living
 pub mod Storing
 pub mod Actions
+pub mod Current
+pub mod Raised
 pub mod Copying
 pub mod Lines
