@@ -7,3 +7,4 @@ pub mod Current
 pub mod Raised
 pub mod Copying
 pub mod Lines
+pub mod Following
