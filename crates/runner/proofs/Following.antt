@@ -85,6 +85,13 @@ module _ (code : List ℕ) (first end : ℕ) where
     closed-next c = rw el (next c)
 
 -- ---- by the op of a step
+-- a number from k on is k, or is above it
+by-next : {A : Type 0} (a k : ℕ) → k ≤ a → (a ≡ k → A) → (suc k ≤ a → A) → A
+by-next a k h f g = by-same a k f (λ d. g (above d))
+  where
+    above : (a ≡ k → ⊥) → suc k ≤ a
+    above d = omega (arith, d)
+
 module _ (code : List ℕ) (i w : ℕ) (ew : w ≡ headAt (wordsOf code) i) where
   abbrev C : List ℕ
   C = wordsOf code
@@ -93,10 +100,112 @@ module _ (code : List ℕ) (i w : ℕ) (ew : w ≡ headAt (wordsOf code) i) wher
   op-at k e = sym (ap (λ (x : ℕ). x % 256) ew) ∙ e
 
   module _ (s : StepAt code i) where
-    pub step-op : (128 ≤ opAt C i) × (opAt C i ≤ 154)
-    step-op =
-        (Actions.op-low (s .m) (s .n) (s .function) (s .text) (s .R) C i (s .next) (s .does) (s .is),
-        Actions.op-high (s .m) (s .n) (s .function) (s .text) (s .R) C i (s .next) (s .does) (s .is))
-
     step-whole : length code % 8 ≡ 0
     step-whole = omega (arith, s .size)
+
+    -- what a word is linked to that leads on lies in the store
+    linked-in : (j : ℕ) → s .next ≡ linkAt C j → j * 8 + 8 ≤ length code
+    linked-in j e = link-in code j step-whole (λ z. absurd (omega (arith, s .goes-on)))
+
+    module _ (h : opAt C i ≡ 136) where
+      of-call : Actions.CallsOf (s .m) (s .n) (s .function) (s .text) (s .R) C i (s .next) (s .does)
+      of-call = Actions.reads-call-of (s .m) (s .n) (s .function) (s .text) (s .R) C i (s .next) (s .does) (s .is) h
+
+      closes-of : (l : ℕ) → l ≡ linkAt C i → Closes code (i + 1) l
+      closes-of l e =
+          let g = of-call in
+          record {
+            m = s .m;
+            n = s .n;
+            function = s .function;
+            text = s .text;
+            R = s .R;
+            terms = g .es;
+            closing = g .closes;
+            is = rw e (g .arguments);
+            linked = omega (arith, g .after-is, s .goes-on);
+            size = s .size;
+          }
+
+      closed-at : (l : ℕ) → l ≡ linkAt C i → (r : ℕ) → Closing code (i + 1) l r → s .next ≡ linkAt C r
+      unfolding closes-of of-call
+      closed-at l e r c = of-call .after-is ∙ sym (ap (linkAt C) (c .is (closes-of l e)))
+
+    module _ (h : opAt C i ≡ 151) where
+      for-at : s .next ≡ linkAt C (w / 65536)
+      for-at =
+          let g = Actions.reads-for-test (s .m) (s .n) (s .function) (s .text) (s .R) C i (s .next) (s .does) (s .is) h in
+          let q : valueAt C i / 256 ≡ w / 65536 = omega arith in
+          g .after-is ∙ ap (linkAt C) q
+
+    module _ (low : 128 ≤ opAt C i) (high : opAt C i ≤ 154) (call : opAt C i ≡ 136 → ⊥) (test : opAt C i ≡ 151 → ⊥) (end : opAt C i ≡ 153 → ⊥) (last : opAt C i ≡ 154 → ⊥) where
+      plain-at : s .next ≡ linkAt C i
+      plain-at =
+          by-less (opAt C i) 132 (λ h. Actions.reads-store (s .m) (s .n) (s .function) (s .text) (s .R) C i (s .next) (s .does) (s .is) low h .after-is) (λ k.
+          by-less (opAt C i) 136 (λ h. Actions.reads-call-for (s .m) (s .n) (s .function) (s .text) (s .R) C i (s .next) (s .does) (s .is) k h .after-is) (λ l136.
+          by-next (opAt C i) 136 l136 (λ h. absurd (call h)) (λ l137.
+          by-next (opAt C i) 137 l137 (λ h. Actions.reads-return-of (s .m) (s .n) (s .function) (s .text) (s .R) C i (s .next) (s .does) (s .is) h .after-is) (λ l138.
+          by-next (opAt C i) 138 l138 (λ h. Actions.reads-return (s .m) (s .n) (s .function) (s .text) (s .R) C i (s .next) (s .does) (s .is) h .after-is) (λ l139.
+          by-next (opAt C i) 139 l139 (λ h. Actions.reads-raise-of (s .m) (s .n) (s .function) (s .text) (s .R) C i (s .next) (s .does) (s .is) h .after-is) (λ l140.
+          by-next (opAt C i) 140 l140 (λ h. Actions.reads-raise (s .m) (s .n) (s .function) (s .text) (s .R) C i (s .next) (s .does) (s .is) h .after-is) (λ l141.
+          by-next (opAt C i) 141 l141 (λ h. Actions.reads-exit (s .m) (s .n) (s .function) (s .text) (s .R) C i (s .next) (s .does) (s .is) h .after-is) (λ l142.
+          by-next (opAt C i) 142 l142 (λ h. Actions.reads-retry (s .m) (s .n) (s .function) (s .text) (s .R) C i (s .next) (s .does) (s .is) h .after-is) (λ l143.
+          by-next (opAt C i) 143 l143 (λ h. Actions.reads-try-next (s .m) (s .n) (s .function) (s .text) (s .R) C i (s .next) (s .does) (s .is) h .after-is) (λ l144.
+          by-next (opAt C i) 144 l144 (λ h. Actions.reads-write (s .m) (s .n) (s .function) (s .text) (s .R) C i (s .next) (s .does) (s .is) h .after-is) (λ l145.
+          by-next (opAt C i) 145 l145 (λ h. Actions.reads-write-of (s .m) (s .n) (s .function) (s .text) (s .R) C i (s .next) (s .does) (s .is) h .after-is) (λ l146.
+          by-next (opAt C i) 146 l146 (λ h. Actions.reads-read (s .m) (s .n) (s .function) (s .text) (s .R) C i (s .next) (s .does) (s .is) h .after-is) (λ l147.
+          by-next (opAt C i) 147 l147 (λ h. Actions.reads-compact-if (s .m) (s .n) (s .function) (s .text) (s .R) C i (s .next) (s .does) (s .is) h .after-is) (λ l148.
+          by-next (opAt C i) 148 l148 (λ h. Actions.reads-if (s .m) (s .n) (s .function) (s .text) (s .R) C i (s .next) (s .does) (s .is) h .after-is) (λ l149.
+          by-next (opAt C i) 149 l149 (λ h. Actions.reads-while (s .m) (s .n) (s .function) (s .text) (s .R) C i (s .next) (s .does) (s .is) h .after-is) (λ l150.
+          by-next (opAt C i) 150 l150 (λ h. Actions.reads-for (s .m) (s .n) (s .function) (s .text) (s .R) C i (s .next) (s .does) (s .is) h .after-is) (λ l151.
+          by-next (opAt C i) 151 l151 (λ h. absurd (test h)) (λ l152.
+          by-next (opAt C i) 152 l152 (λ h. Actions.reads-test (s .m) (s .n) (s .function) (s .text) (s .R) C i (s .next) (s .does) (s .is) h .after-is) (λ l153.
+          by-next (opAt C i) 153 l153 (λ h. absurd (end h)) (λ l154.
+          by-next (opAt C i) 154 l154 (λ h. absurd (last h)) (λ l155.
+          absurd (omega arith))))))))))))))))))))))
+
+-- ---- what the code does with it
+module _ (code : List ℕ) (i : ℕ) where
+  pub step-in : StepAt code i → i * 8 + 8 ≤ length code
+  step-in s =
+      let low = Actions.op-low (s .m) (s .n) (s .function) (s .text) (s .R) (wordsOf code) i (s .next) (s .does) (s .is) in
+      op-in code i (omega (arith, s .size)) (λ z. absurd (omega arith))
+
+  pub step-small : StepAt code i → i + 1 < 18446744073709551616
+  step-small s = omega (arith, step-in s, s .size)
+
+  module _ (w : ℕ) (ew : w ≡ headAt (wordsOf code) i) where
+    module _ (h : w % 256 ≡ 136) (l : ℕ) (el : l ≡ linkAt (wordsOf code) i) where
+      pub call-closes : StepAt code i → Closes code (i + 1) l
+      call-closes s = closes-of code i w ew s (op-at code i w ew 136 h) l el
+
+      module _ (r : ℕ) (c : Closing code (i + 1) l r) where
+        pub call-in : StepAt code i → r * 8 + 8 ≤ length code
+        call-in s = linked-in code i w ew s r (closed-at code i w ew s (op-at code i w ew 136 h) l el r c)
+
+        pub call-after : (q : ℕ) → q ≡ linkAt (wordsOf code) r → After code i q
+        call-after q e = record { is = λ s. e ∙ sym (closed-at code i w ew s (op-at code i w ew 136 h) l el r c) }
+
+    module _ (h : w % 256 ≡ 151) where
+      pub for-in : StepAt code i → w / 65536 * 8 + 8 ≤ length code
+      for-in s = linked-in code i w ew s (w / 65536) (for-at code i w ew s (op-at code i w ew 151 h))
+
+      pub for-after : (q : ℕ) → q ≡ linkAt (wordsOf code) (w / 65536) → After code i q
+      for-after q e = record { is = λ s. e ∙ sym (for-at code i w ew s (op-at code i w ew 151 h)) }
+
+    pub end-after : w % 256 ≡ 153 → After code i i
+    end-after h = record { is = λ s. sym (Actions.reads-end (s .m) (s .n) (s .function) (s .text) (s .R) (wordsOf code) i (s .next) (s .does) (s .is) (op-at code i w ew 153 h) .after-is) }
+
+    pub function-end-after : w % 256 ≡ 154 → After code i i
+    function-end-after h =
+        record { is = λ s. sym (Actions.reads-function-end (s .m) (s .n) (s .function) (s .text) (s .R) (wordsOf code) i (s .next) (s .does) (s .is) (op-at code i w ew 154 h) .after-is) }
+
+    pub plain-after : (w % 256 ≡ 136 → ⊥) → (w % 256 ≡ 151 → ⊥) → (w % 256 ≡ 153 → ⊥) → (w % 256 ≡ 154 → ⊥) → (q : ℕ) → q ≡ linkAt (wordsOf code) i → After code i q
+    plain-after d1 d2 d3 d4 q e =
+        let o : opAt (wordsOf code) i ≡ w % 256 = op-at code i w ew (w % 256) refl in
+        record {
+          is = λ s. e ∙ sym (plain-at code i w ew s
+              (Actions.op-low (s .m) (s .n) (s .function) (s .text) (s .R) (wordsOf code) i (s .next) (s .does) (s .is))
+              (Actions.op-high (s .m) (s .n) (s .function) (s .text) (s .R) (wordsOf code) i (s .next) (s .does) (s .is))
+              (λ z. d1 (sym o ∙ z)) (λ z. d2 (sym o ∙ z)) (λ z. d3 (sym o ∙ z)) (λ z. d4 (sym o ∙ z)));
+        }
