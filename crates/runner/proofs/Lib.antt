@@ -8,3 +8,5 @@ pub mod Raised
 pub mod Copying
 pub mod Lines
 pub mod Following
+pub mod Resuming
+pub mod Unwinding
