@@ -15,6 +15,8 @@ use super::reading::link;
 // an error's answer is above all others
 const FIRST_ERROR: i64 = 4294967296;
 
+const ERRORS: usize = 4294967296;
+
 // the windows of calls, main's first
 const FIRST: usize = 1024;
 
@@ -157,7 +159,8 @@ pub fn arise<'a>(code: &'a [u8], values: &'a mut [u8], base: usize, i: usize, r:
     ensures { λ t. ⌜ Arisen (now (code .entry)) (now (values .entry)) (now (values .exit)) base i r t ⌝ }
 {
     if FIRST_ERROR <= r {
-        cells::put(values, ERRNO, (r - FIRST_ERROR) as u32);
+        let e = r as usize - ERRORS;
+        cells::put(values, ERRNO, e as u32);
         return unwind(code, values, base, i);
     }
     if base == FIRST {

@@ -1,4 +1,9 @@
+use mathlib.Core.Path.{ap, _∙_}
+use Prim.Native.Nat.{ℕ, _+_}
+use denote.Ref.{now}
 use borrow.Author.Needs.{needs}
+use Rattle.cells.specs.Words.{wordsOf}
+use Rattle.code.specs.Cells.{linkAt}
 use Rattle.runner.proofs.errors.handler.Statement.{statement}
 use Rattle.runner.proofs.errors.handler.Tie as tie
 use Rattle.runner.proofs.errors.handler.Reads as reads
@@ -28,7 +33,7 @@ link-requires c κs = search needs
 
 -- src/errors.rt:112:1
 returns : tie.Need-returns
-returns c = ?
+returns c = c .link .ensures ∙ ap (λ (w : ℕ). linkAt (wordsOf (now (c .before .before .before .before .args .code))) (w + 1)) (c .before .get .ensures)
 
 pub handler-spec : {M : Type 1} → statement M
 handler-spec = tie.close (tie.spec add-get get-requires cast-link add-link link-requires returns)
