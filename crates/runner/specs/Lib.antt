@@ -2,3 +2,4 @@ pub mod Reading
 pub mod Live
 pub mod Machine
 pub mod Runs
+pub mod Choices
