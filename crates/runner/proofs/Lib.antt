@@ -1,3 +1,7 @@
 pub mod Actions
+pub mod Agreeing
 pub mod Current
+pub mod Living
 pub mod Raised
+pub mod States
+pub mod Storing
