@@ -1,5 +1,7 @@
-pub mod Agreeing
-pub mod States
-pub mod Living
-pub mod Storing
 pub mod Actions
+pub mod Agreeing
+pub mod Current
+pub mod Living
+pub mod Raised
+pub mod States
+pub mod Storing

@@ -3,3 +3,4 @@ pub mod Live
 pub mod Machine
 pub mod Runs
 pub mod Targets
+pub mod Choices
