@@ -5,3 +5,8 @@ pub mod Living
 pub mod Raised
 pub mod States
 pub mod Storing
+pub mod Elements
+pub mod References
+pub mod Assigning
+pub mod Targeting
+pub mod StoreSteps

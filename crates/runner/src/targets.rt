@@ -28,7 +28,15 @@ const CALL_WORD: u32 = 129;
 const MODULE_ELEMENT: u32 = 130;
 
 // The cell of an element, or an error. Its array's first cell is given, and its size.
-pub fn element<'a>(code: &'a [u8], values: &'a [u8], base: usize, first: usize, size: usize, i: usize, end: usize) -> i64
+pub fn element<'a>(
+    code: &'a [u8],
+    values: &'a [u8],
+    base: usize,
+    first: usize,
+    size: usize,
+    i: usize,
+    end: usize,
+) -> i64
     requires { ⌜ Stores (now values) base × Indexes (now code) base first size i end ⌝ }
     ensures { λ r. ⌜ Found (now (code .entry)) (now (values .entry)) base first size i end r ⌝ }
 {
@@ -40,7 +48,7 @@ pub fn element<'a>(code: &'a [u8], values: &'a [u8], base: usize, first: usize, 
         if (size as i64) < x {
             return OUT_OF_BOUND;
         }
-        return first as i64 + (x - 1);
+        return (first + (x as usize - 1)) as i64;
     }
     x
 }
@@ -69,7 +77,14 @@ pub fn target_cell<'a>(code: &'a [u8], values: &'a [u8], base: usize, i: usize) 
 }
 
 // What stands behind the word `at`, which follows the target of the step at i, into a cell.
-fn assign<'a>(code: &'a [u8], values: &'a mut [u8], base: usize, i: usize, at: usize, cell: usize) -> i64
+fn assign<'a>(
+    code: &'a [u8],
+    values: &'a mut [u8],
+    base: usize,
+    i: usize,
+    at: usize,
+    cell: usize,
+) -> i64
     requires { ⌜ Assigns (now code) (now values) base i at cell ⌝ }
     ensures { λ r. ⌜ Assigned (now (code .entry)) (now (values .entry)) base i at cell (now (values .exit)) r ⌝ }
 {
@@ -90,7 +105,14 @@ pub fn store<'a>(code: &'a [u8], values: &'a mut [u8], base: usize, i: usize, ce
 }
 
 // A store to an element of the array whose first cell is given.
-pub fn store_element<'a>(code: &'a [u8], values: &'a mut [u8], base: usize, i: usize, first: usize, size: usize) -> i64
+pub fn store_element<'a>(
+    code: &'a [u8],
+    values: &'a mut [u8],
+    base: usize,
+    i: usize,
+    first: usize,
+    size: usize,
+) -> i64
     requires { ⌜ Here (now code) (now values) base i × ArrayAt (wordsOf (now code)) base aTarget i first size ⌝ }
     ensures { λ r. ⌜ Performs (now (code .entry)) (now (values .entry)) (now (values .exit)) base i r ⌝ }
 {
