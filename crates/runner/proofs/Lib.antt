@@ -5,3 +5,4 @@ pub mod Living
 pub mod Raised
 pub mod States
 pub mod Storing
+pub mod Worths

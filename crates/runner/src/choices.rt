@@ -1,5 +1,10 @@
 // Choices and loops: what decides where a run goes on, and RAISE.
-use crate::reading::{head, link, load, place, put, value};
+use crate::reading::head;
+use crate::reading::link;
+use crate::reading::load;
+use crate::reading::place;
+use crate::reading::put;
+use crate::reading::value;
 use evaluation::evaluate;
 ghost use mathlib.Core.Path.{_≡_};
 ghost use lib.IntN.{pos};
