@@ -6,3 +6,4 @@ pub mod Raised
 pub mod States
 pub mod Storing
 pub mod Worths
+pub mod Choosing
