@@ -7,3 +7,5 @@ pub mod States
 pub mod Storing
 pub mod Worths
 pub mod Choosing
+pub mod Hops
+pub mod Conditions
