@@ -68,6 +68,30 @@ pub fn test_if<'a>(code: &'a [u8], values: &'a [u8], base: usize, i: usize, t: u
     link(code, i) as i64
 }
 
+// An IF whose first THEN is at w: the first condition that holds says where to go on, or what follows the last.
+pub fn choose<'a>(code: &'a [u8], values: &'a [u8], base: usize, i: usize, w: usize) -> i64
+    requires { ⌜ Here (now code) (now values) base i × Says (now code) i 148 w ⌝ }
+    ensures { λ r. ⌜ Performs (now (code .entry)) (now (values .entry)) (now (values .entry)) base i r ⌝ }
+{
+    let mut j = i;
+    let mut t = w;
+    loop {
+        let v = worth(code, values, base, j + 1, t);
+        if FIRST_ERROR <= v {
+            return v;
+        }
+        if v != 0 {
+            return value(code, t) as i64;
+        }
+        j = link(code, t);
+        let h = head(code, j);
+        if h % OPS != ELSE_IF {
+            return j as i64;
+        }
+        t = (h / OPS) as usize;
+    }
+}
+
 // ---- WHILE
 
 // A WHILE whose DO is at t.

@@ -4,42 +4,36 @@ use Rattle.runner.proofs.choices.raise.Tie as tie
 use Rattle.runner.proofs.choices.raise.Reads as reads
 use Rattle.runner.proofs.choices.raise.Lts as lts
 use Rattle.runner.proofs.choices.worth.Reads as worth-reads
+use native.Mathlib.Omega.{arith}
+use Rattle.runner.proofs.Current.{stores-here}
+use Rattle.runner.proofs.Choosing.{word-in, raise-stands, raise-fails, raise-low, raise-high, raise-fits, raise-given}
 
--- src/choices.rt:90:39
 add-worth : tie.Need-add-worth
-add-worth c = ?
+add-worth c = omega (arith, word-in _ _ _ _ (c .before .before .pre .0))
 
--- src/choices.rt:90:9
 worth-requires : tie.Need-worth-requires
-worth-requires c κs = ?
+worth-requires c κs = search (needs, stores-here, raise-stands)
 
--- src/choices.rt:92:9
 returns : tie.Need-returns
-returns c = ?
+returns c = search (needs, raise-fails)
 
--- src/choices.rt:95:16
 add-result : tie.Need-add-result
 add-result c = search needs
 
--- src/choices.rt:95:9
 returns-2 : tie.Need-returns-2
-returns-2 c = ?
+returns-2 c = search (needs, raise-low)
 
--- src/choices.rt:98:16
 add-result-2 : tie.Need-add-result-2
 add-result-2 c = search needs
 
--- src/choices.rt:98:9
 returns-3 : tie.Need-returns-3
-returns-3 c = ?
+returns-3 c = search (needs, raise-high)
 
--- src/choices.rt:100:5
 add-result-3 : tie.Need-add-result-3
-add-result-3 c = ?
+add-result-3 c = search (needs, raise-fits)
 
--- src/choices.rt:86:1
 returns-4 : tie.Need-returns-4
-returns-4 c = ?
+returns-4 c = search (needs, raise-given)
 
 pub raise-spec : {M : Type 1} → statement M
 raise-spec =

@@ -5,38 +5,33 @@ use Rattle.runner.proofs.choices.test_if.Reads as reads
 use Rattle.runner.proofs.choices.test_if.Lts as lts
 use Rattle.runner.proofs.choices.worth.Reads as worth-reads
 use Rattle.runner.proofs.reading.link.Reads as link-reads
+use native.Mathlib.Omega.{arith}
+use Rattle.runner.proofs.Current.{stores-here}
+use Rattle.runner.proofs.Choosing.{word-in, if-stands, if-small, if-fails, if-then, if-else}
 
--- src/choices.rt:56:39
 add-worth : tie.Need-add-worth
-add-worth c = ?
+add-worth c = omega (arith, word-in _ _ _ _ (c .before .before .pre .0))
 
--- src/choices.rt:56:9
 worth-requires : tie.Need-worth-requires
-worth-requires c κs = ?
+worth-requires c κs = search (needs, stores-here, if-stands)
 
--- src/choices.rt:58:9
 returns : tie.Need-returns
-returns c = ?
+returns c = search (needs, if-fails)
 
--- src/choices.rt:61:16
 cast-result : tie.Need-cast-result
-cast-result c = ?
+cast-result c = record { sfits = omega (arith, if-small _ _ _ _ _ (c .before .before .before .before .before .pre .1) (c .before .before .before .before .before .pre .0)) }
 
--- src/choices.rt:61:9
 returns-2 : tie.Need-returns-2
-returns-2 c = ?
+returns-2 c = search (needs, if-then)
 
--- src/choices.rt:63:5
 link-requires : tie.Need-link-requires
-link-requires c κs = ?
+link-requires c κs = search (needs, word-in)
 
--- src/choices.rt:63:5
 cast-result-2 : tie.Need-cast-result-2
-cast-result-2 c = ?
+cast-result-2 c = search needs
 
--- src/choices.rt:52:1
 returns-3 : tie.Need-returns-3
-returns-3 c = ?
+returns-3 c = search (needs, if-else)
 
 pub test-if-spec : {M : Type 1} → statement M
 test-if-spec =

@@ -6,42 +6,36 @@ use Rattle.runner.proofs.choices.test_while.Lts as lts
 use Rattle.runner.proofs.choices.worth.Reads as worth-reads
 use Rattle.runner.proofs.reading.link.Reads as link-reads
 use Rattle.runner.proofs.reading.value.Reads as value-reads
+use native.Mathlib.Omega.{arith}
+use Rattle.runner.proofs.Current.{stores-here}
+use Rattle.runner.proofs.Choosing.{word-in, while-stands, while-body-in, while-fails, while-body, while-after}
 
--- src/choices.rt:73:39
 add-worth : tie.Need-add-worth
-add-worth c = ?
+add-worth c = omega (arith, word-in _ _ _ _ (c .before .before .pre .0))
 
--- src/choices.rt:73:9
 worth-requires : tie.Need-worth-requires
-worth-requires c κs = ?
+worth-requires c κs = search (needs, stores-here, while-stands)
 
--- src/choices.rt:75:9
 returns : tie.Need-returns
-returns c = ?
+returns c = search (needs, while-fails)
 
--- src/choices.rt:78:16
 value-requires : tie.Need-value-requires
-value-requires c κs = ?
+value-requires c κs = search (needs, while-body-in)
 
--- src/choices.rt:78:16
 cast-result : tie.Need-cast-result
-cast-result c = ?
+cast-result c = search needs
 
--- src/choices.rt:78:9
 returns-2 : tie.Need-returns-2
-returns-2 c = ?
+returns-2 c = search (needs, while-body)
 
--- src/choices.rt:80:5
 link-requires : tie.Need-link-requires
-link-requires c κs = ?
+link-requires c κs = search (needs, word-in)
 
--- src/choices.rt:80:5
 cast-result-2 : tie.Need-cast-result-2
-cast-result-2 c = ?
+cast-result-2 c = search needs
 
--- src/choices.rt:69:1
 returns-3 : tie.Need-returns-3
-returns-3 c = ?
+returns-3 c = search (needs, while-after)
 
 pub test-while-spec : {M : Type 1} → statement M
 test-while-spec =
