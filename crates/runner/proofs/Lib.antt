@@ -14,3 +14,5 @@ pub mod StoreSteps
 pub mod Storing
 pub mod Targeting
 pub mod Worths
+pub mod Writing
+pub mod DataWords
