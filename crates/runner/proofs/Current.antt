@@ -1,6 +1,6 @@
 -- The step that comes next: what the table says of it, what the cells say, and where it leads.
 use mathlib.Core.Path.{_≡_, refl, sym, ap, subst, _∙_}
-use mathlib.Core.Bool.{Bool, true, false}
+use mathlib.Core.Bool.{Bool, true, false, not}
 use mathlib.Core.List.{List, [], _∷_, map}
 use mathlib.Core.Option.{Option, none, some}
 use Prim.Native.Nat.{ℕ, zero, suc, _+_, _-_, _*_, _/_, _%_, _<_, _≤_}
@@ -8,13 +8,17 @@ use native.Mathlib.Omega.{arith}
 use lib.Dec.{eqb}
 use lib.ListN.{length, getD}
 use lib.IntN.{ℤ, pos, negsuc, natAbs}
-use lib.Signed.{ltZ}
-use borrow.Author.Tests.{eq-eqb, ne-eqb, ltb-false}
+use lib.Signed.{ltZ, leZ}
+use mir.Syntax.{w64}
+use mir.Val.{SFits, toZ, ofZ}
+use mir.Facts.{toZ-ofZ}
+use mir.ValLaws.{toZ-pos}
+use borrow.Author.Tests.{eq-eqb, ne-eqb, ltb-false, not-true, not-false}
 use Rattle.laws.proofs.Tests.{by-same, false-true}
-use Rattle.paper.specs.Numbers.{Value, value, error}
+use Rattle.paper.specs.Numbers.{Value, value, error, isZero}
 use Rattle.paper.specs.Terms.{Term, Memory, worth}
 use Rattle.paper.specs.Steps.{Action, Step, Code, Program}
-use Rattle.paper.specs.States.{Call, State, Rooms, Effect, made, failing, memoryOf, withValue}
+use Rattle.paper.specs.States.{Call, State, Rooms, Effect, made, failing, memoryOf, goTo, onTop, withValue}
 use Rattle.paper.specs.Running.{codeAt, stepNamed, stepOf, nextStep, perform}
 use Rattle.cells.specs.Words.{wordsOf}
 use Rattle.code.specs.Cells.{windowOf, opAt, placeAt}
@@ -26,9 +30,12 @@ use Rattle.code.specs.Holds.{known, CalleeIn, HoldsRoutine}
 use Rattle.code.specs.Windows.{callIn, waiting, stateIn}
 use Rattle.code.proofs.Options.{same-some, went}
 use Rattle.evaluation.specs.Answers.{firstError, decoded, Counts, Stores, Stands, Evaluated}
-use Rattle.evaluation.proofs.Numbers.{is-value, is-error}
+use Rattle.evaluation.proofs.Numbers.{is-value, is-error, not-less, zero-bits}
+use Rattle.numbers.proofs.Whole.{read}
 use Rattle.runner.specs.Live.{Live, wordsOfCall, routineOfCall, codeOfCall}
-use Rattle.runner.specs.Machine.{Here, effectAt, Comes, fails}
+use Rattle.runner.specs.Machine.{Here, effectAt, Comes, goesOn, fails, Performs}
+use Rattle.runner.proofs.States.{goes-to}
+use Rattle.runner.proofs.Living.{live-next}
 use Rattle.runner.proofs.Raised.{worth-error}
 
 -- ---- lists of steps
@@ -52,6 +59,27 @@ named-name (s ∷ r) i e =
 pub error-is : (r : ℤ) → ltZ r (pos firstError) ≡ false → r ≡ pos (firstError + (natAbs r - firstError))
 error-is (pos k) h = ap pos (omega (arith, ltb-false k firstError h))
 error-is (negsuc k) h = false-true (sym h)
+
+-- ---- what the code's tests say of an answer
+module _ (r : ℤ) (s : SFits w64 r) where
+  pub told-error : leZ (pos firstError) (read r) ≡ true → ltZ r (pos firstError) ≡ false
+  told-error h = not-true _ (not-less (pos firstError) r ∙ (rw (toZ-ofZ s) at h))
+
+  pub told-value : leZ (pos firstError) (read r) ≡ false → ltZ r (pos firstError) ≡ true
+  told-value h = not-false _ (not-less (pos firstError) r ∙ (rw (toZ-ofZ s) at h))
+
+  pub told-zero : ofZ w64 r ≡ 0 → isZero r ≡ true
+  told-zero h = sym (zero-bits r s) ∙ eq-eqb (ofZ w64 r) 0 h
+
+  pub told-other : (ofZ w64 r ≡ 0 → ⊥) → isZero r ≡ false
+  told-other h = sym (zero-bits r s) ∙ ne-eqb (ofZ w64 r) 0 h
+
+-- a step that changes nothing but where the call is
+pub performs : (code values : List ℕ) (base i : ℕ) (r : ℤ)
+    → ((h : Here code values base i) (rooms : Rooms) (steps : ℕ) (out : List ℕ)
+    → Comes (h .P) (h .R) (wordsOf code) (h .offset) (h .d) i steps (wordsOf values) (wordsOf values) out out (effectAt (h .P) (h .R) rooms (wordsOf values) (h .d) i steps out) r)
+    → Performs code values values base i r
+performs code values base i r f = record { long = refl; does = f; kept = λ c a b. refl }
 
 -- ---- what the cells say of it
 module _ (code values : List ℕ) (base i : ℕ) (h : Here code values base i) where
@@ -83,22 +111,22 @@ module _ (code values : List ℕ) (base i : ℕ) (h : Here code values base i) w
       subst (λ (j : ℕ). stepIn m n (codeHere .function) (h .text) (h .R) C j ≡ some (known (h .offset) stepHere)) (named-name (codeHere .steps) i (h .live .named))
       (named-every (codeHere .steps) i (routine-holds .steps-are) (h .live .named))
 
-  record Read : Type 0 where
+  record Says : Type 0 where
     pub action : actionIn m n (codeHere .function) (h .text) (h .R) C i ≡ some (stepHere .after, stepHere .does)
     pub place : placeAt C i ≡ h .offset (stepHere .place)
 
-  read : Read
+  says : Says
   unfolding stepIn known
-  read =
+  says =
       let g = went (actionIn m n (codeHere .function) (h .text) (h .R) C i) (λ r. some (record { offset = placeAt C i; after = r .0; does = r .1 })) (known (h .offset) stepHere) step-here in
       let q = same-some (record { offset = placeAt C i; after = g .a .0; does = g .a .1 }) (known (h .offset) stepHere) (g .next) in
       record { action = g .first ∙ ap (λ (s : steps.Stands). some (s .after, s .does)) q; place = ap (λ (s : steps.Stands). s .offset) q }
 
   pub action-here : actionIn m n (codeHere .function) (h .text) (h .R) C i ≡ some (stepHere .after, stepHere .does)
-  action-here = read .action
+  action-here = says .action
 
   pub place-here : placeAt C i ≡ h .offset (stepHere .place)
-  place-here = read .place
+  place-here = says .place
 
   -- ---- what an evaluation asks
   abbrev pub counts-here : Counts
@@ -121,6 +149,9 @@ module _ (code values : List ℕ) (base i : ℕ) (h : Here code values base i) w
   pub small-name : (j : ℕ) → isNamed (codeHere .steps) j ≡ true → (0 < j) × (j < parts)
   small-name j e =
       subst (λ (k : ℕ). (0 < k) × (k < parts)) (named-name (codeHere .steps) j e) (named-every (codeHere .steps) j (routine-holds .small) e)
+
+  pub step-in : i * 8 + 8 ≤ length code
+  step-in = omega (arith, small-name i (h .live .named) .1, h .code-size)
 
   goes-on : Named (codeHere .steps) (stepHere .after ∷ targetsOf (stepHere .does))
   goes-on = named-every (codeHere .steps) i (routine-holds .closed .goes-on) (h .live .named)
@@ -155,6 +186,13 @@ module _ (code values : List ℕ) (base i : ℕ) (h : Here code values base i) w
     pub memory-here : memoryOf stateHere callHere ≡ memoryIn m n X (windowOf (h .d))
     unfolding stateIn callIn memoryIn
     memory-here = refl
+
+    -- a step that only says where to go on
+    pub goes-here : (b : ℕ) (E : Effect) → isNamed (codeHere .steps) b ≡ true → E ≡ made (onTop (goTo b) stateHere)
+        → Comes (h .P) (h .R) C (h .offset) (h .d) i steps X X out out E (toZ w64 b)
+    goes-here b E k q =
+        goesOn b (toZ-pos w64 b (omega (arith, small-name b k .1))) (live-next (h .P) (h .R) X (h .d) i b (h .live) k)
+        (q ∙ ap made (sym (goes-to (h .P) (h .R) X (h .d) i steps out b)))
 
     -- ---- expressions
     module _ (from to : ℕ) (t : Term) (e : termIn m n C from to ≡ some t) (r : ℤ) (v : Evaluated code values base from to r) where

@@ -4,3 +4,6 @@ pub mod Machine
 pub mod Output
 pub mod Errors
 pub mod Runs
+pub mod Targets
+pub mod Choices
+pub mod Calling

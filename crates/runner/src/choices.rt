@@ -1,1 +1,130 @@
-// see the task
+// Choices and loops: what decides where a run goes on, and RAISE.
+use crate::reading::head;
+use crate::reading::link;
+use crate::reading::load;
+use crate::reading::place;
+use crate::reading::put;
+use crate::reading::value;
+use evaluation::evaluate;
+ghost use mathlib.Core.Path.{_≡_};
+ghost use lib.IntN.{pos};
+ghost use mir.Syntax.{w32};
+ghost use mir.Val.{SFits};
+ghost use Rattle.paper.specs.Numbers.{isZero};
+ghost use Rattle.evaluation.specs.Answers.{Stores, Stands, Evaluated};
+ghost use Rattle.runner.specs.Machine.{Here, Performs};
+ghost use Rattle.runner.specs.Choices.{Says};
+
+// ---- ops, as the specs of code have them
+
+const OPS: u32 = 256;
+
+const LITERAL: u32 = 1;
+
+const MODULE_WORD: u32 = 2;
+
+const ELSE_IF: u32 = 155;
+
+// ---- numbers
+
+// how far the numbers that a head holds are from those they stand for
+const BIAS: i64 = 8388607;
+
+// an answer from here on is an error's
+const FIRST_ERROR: i64 = 4294967296;
+
+// What the expression is worth that stands in the words from `from` up to `to`: a word alone is read without a call.
+pub fn worth<'a>(code: &'a [u8], values: &'a [u8], base: usize, from: usize, to: usize) -> i64
+    requires { ⌜ Stores (now values) base × Stands (now code) from to ⌝ }
+    ensures { λ r. ⌜ Evaluated (now (code .entry)) (now (values .entry)) base from to r ⌝ }
+{
+    if to == from + 1 {
+        let w = head(code, from);
+        if w % OPS == LITERAL {
+            return (w / OPS) as i64 - BIAS;
+        }
+        if w % OPS == MODULE_WORD {
+            return load(values, (w / OPS) as usize);
+        }
+        return load(values, base + (w / OPS) as usize);
+    }
+    evaluate(&*code, &*values, base, from, to)
+}
+
+// ---- IF
+
+// A compact IF whose statement is at t.
+pub fn test_if<'a>(code: &'a [u8], values: &'a [u8], base: usize, i: usize, t: usize) -> i64
+    requires { ⌜ Here (now code) (now values) base i × Says (now code) i 147 t ⌝ }
+    ensures { λ r. ⌜ Performs (now (code .entry)) (now (values .entry)) (now (values .entry)) base i r ⌝ }
+{
+    let v = worth(code, values, base, i + 1, t);
+    if FIRST_ERROR <= v {
+        return v;
+    }
+    if v != 0 {
+        return t as i64;
+    }
+    link(code, i) as i64
+}
+
+// An IF whose first THEN is at w: the first condition that holds says where to go on, or what follows the last.
+pub fn choose<'a>(code: &'a [u8], values: &'a [u8], base: usize, i: usize, w: usize) -> i64
+    requires { ⌜ Here (now code) (now values) base i × Says (now code) i 148 w ⌝ }
+    ensures { λ r. ⌜ Performs (now (code .entry)) (now (values .entry)) (now (values .entry)) base i r ⌝ }
+{
+    let mut j = i;
+    let mut t = w;
+    loop {
+        let v = worth(code, values, base, j + 1, t);
+        if FIRST_ERROR <= v {
+            return v;
+        }
+        if v != 0 {
+            return value(code, t) as i64;
+        }
+        j = link(code, t);
+        let h = head(code, j);
+        if h % OPS != ELSE_IF {
+            return j as i64;
+        }
+        t = (h / OPS) as usize;
+    }
+}
+
+// ---- WHILE
+
+// A WHILE whose DO is at t.
+pub fn test_while<'a>(code: &'a [u8], values: &'a [u8], base: usize, i: usize, t: usize) -> i64
+    requires { ⌜ Here (now code) (now values) base i × Says (now code) i 149 t ⌝ }
+    ensures { λ r. ⌜ Performs (now (code .entry)) (now (values .entry)) (now (values .entry)) base i r ⌝ }
+{
+    let v = worth(code, values, base, i + 1, t);
+    if FIRST_ERROR <= v {
+        return v;
+    }
+    if v != 0 {
+        return value(code, t) as i64;
+    }
+    link(code, i) as i64
+}
+
+// ---- RAISE
+
+// RAISE of an expression that ends at t.
+pub fn raise<'a>(code: &'a [u8], values: &'a [u8], base: usize, i: usize, t: usize) -> i64
+    requires { ⌜ Here (now code) (now values) base i × Says (now code) i 139 t ⌝ }
+    ensures { λ r. ⌜ Performs (now (code .entry)) (now (values .entry)) (now (values .entry)) base i r ⌝ }
+{
+    let v = worth(code, values, base, i + 1, t);
+    if FIRST_ERROR <= v {
+        return v;
+    }
+    if v < 1 {
+        return FIRST_ERROR + 1004;
+    }
+    if 90 < v {
+        return FIRST_ERROR + 1004;
+    }
+    FIRST_ERROR + v
+}
