@@ -1,0 +1,16 @@
+use borrow.Author.Needs.{needs}
+use Rattle.runner.proofs.choices.passes.Statement.{statement}
+use Rattle.runner.proofs.choices.passes.Tie as tie
+use Rattle.runner.proofs.choices.passes.Reads as reads
+use Rattle.runner.proofs.choices.passes.Lts as lts
+
+-- src/choices.rt:131:9
+returns : tie.Need-returns
+returns c = ?
+
+-- src/choices.rt:127:1
+returns-2 : tie.Need-returns-2
+returns-2 c = ?
+
+pub passes-spec : {M : Type 1} → statement M
+passes-spec = tie.close (tie.spec returns returns-2)
