@@ -18,10 +18,10 @@ use Rattle.code.specs.Spans.{guard, _then_, firstIn, sizeIn, termIn}
 use Rattle.code.specs.Steps.{aTarget, aCallTarget, anElseIf, aStep, aCase, aNextValue, aNextArgument, anOtherwise, Head, noHead, numbered, agree, parts, constantAt, scalarIn, elementIn, targetIn, argumentsIn, anyArguments, calleeIn, charactersIn, conditionsIn, valuesIn, casesIn, forStep, forIn, linked, storeIn, callForIn, callOfIn, withTerm, writeIn, writeOfIn, readIn, compactIfIn, ifIn, whileIn, forTestIn, testIn, actionIn}
 use Rattle.code.proofs.Options.{none-some, same-some, guarded, went}
 
-first-is : {A B : Type 0} (a : A) (b : B) (x : A × B) → some (a, b) ≡ some x → x .0 ≡ a
+pub first-is : {A B : Type 0} (a : A) (b : B) (x : A × B) → some (a, b) ≡ some x → x .0 ≡ a
 first-is {A} {B} a b x e = sym (ap (λ (y : A × B). y .0) (same-some (a, b) x e))
 
-second-is : {A B : Type 0} (a : A) (b : B) (x : A × B) → some (a, b) ≡ some x → x .1 ≡ b
+pub second-is : {A B : Type 0} (a : A) (b : B) (x : A × B) → some (a, b) ≡ some x → x .1 ≡ b
 second-is {A} {B} a b x e = sym (ap (λ (y : A × B). y .1) (same-some (a, b) x e))
 
 not-is : (b : Bool) → not b ≡ true → b ≡ false

@@ -2,4 +2,5 @@ pub mod Reading
 pub mod Live
 pub mod Machine
 pub mod Runs
+pub mod Targets
 pub mod Choices
