@@ -14,3 +14,4 @@ pub mod StoreSteps
 pub mod Storing
 pub mod Targeting
 pub mod Worths
+pub mod Looping

@@ -5,22 +5,19 @@ use Rattle.runner.proofs.choices.do_of.Reads as reads
 use Rattle.runner.proofs.choices.do_of.Lts as lts
 use Rattle.runner.proofs.reading.head.Reads as head-reads
 use Rattle.runner.proofs.reading.link.Reads as link-reads
+use Rattle.runner.proofs.Looping.{do-behind, do-here}
 
--- src/choices.rt:167:8
 head-requires : tie.Need-head-requires
 head-requires c κs = search needs
 
--- src/choices.rt:168:9
 link-requires : tie.Need-link-requires
 link-requires c κs = search needs
 
--- src/choices.rt:168:9
 returns : tie.Need-returns
-returns c = ?
+returns c = search (needs, do-behind)
 
--- src/choices.rt:163:1
 returns-2 : tie.Need-returns-2
-returns-2 c = ?
+returns-2 c = search (needs, do-here)
 
 pub do-of-spec : {M : Type 1} → statement M
 do-of-spec = tie.close (tie.spec head-requires link-requires returns returns-2)

@@ -6,30 +6,25 @@ use Rattle.runner.proofs.choices.step_of.Lts as lts
 use Rattle.runner.proofs.choices.worth.Reads as worth-reads
 use Rattle.runner.proofs.reading.head.Reads as head-reads
 use Rattle.runner.proofs.reading.link.Reads as link-reads
+use Rattle.runner.proofs.Looping.{step-stands, step-given, step-one}
 
--- src/choices.rt:156:8
 head-requires : tie.Need-head-requires
 head-requires c κs = search needs
 
--- src/choices.rt:157:42
 add-worth : tie.Need-add-worth
 add-worth c = search needs
 
--- src/choices.rt:157:49
 link-requires : tie.Need-link-requires
 link-requires c κs = search needs
 
--- src/choices.rt:157:9
 worth-requires : tie.Need-worth-requires
-worth-requires c κs = ?
+worth-requires c κs = search (needs, step-stands)
 
--- src/choices.rt:157:9
 returns : tie.Need-returns
-returns c = ?
+returns c = search (needs, step-given)
 
--- src/choices.rt:152:1
 returns-2 : tie.Need-returns-2
-returns-2 c = ?
+returns-2 c = search (needs, step-one)
 
 pub step-of-spec : {M : Type 1} → statement M
 step-of-spec =
