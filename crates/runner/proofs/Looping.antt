@@ -18,18 +18,19 @@ use borrow.Author.Tests.{ltb-false, le-ltb, not-true}
 use Rattle.laws.proofs.Tests.{false-true}
 use Rattle.paper.specs.Basics.{if_then_else_}
 use Rattle.paper.specs.Numbers.{value}
-use Rattle.paper.specs.Terms.{Term, ofRoutine, load}
+use Rattle.paper.specs.Terms.{Term, ofRoutine, Memory, load}
 use Rattle.paper.specs.Steps.{Program, Code, Action, repeatFor}
-use Rattle.paper.specs.States.{Loop, Call, State, Rooms, Effect, made, goTo, setWord, onTop}
+use Rattle.paper.specs.States.{Loop, Call, State, Rooms, Effect, made, goTo, setWord, onTop, memoryOf}
 use Rattle.paper.specs.Running.{idle, codeAt, passes, looping, repeating, perform}
 use Rattle.cells.specs.Words.{wordsOf}
 use Rattle.numbers.proofs.Whole.{read, sub-cases}
 use Rattle.code.specs.Cells.{headAt, opAt, valueAt, linkAt, windowOf}
 use Rattle.code.specs.Spans.{termIn}
-use Rattle.code.specs.Steps.{Head, aStep}
+use Rattle.code.specs.Steps.{Head, aStep, parts}
 use Rattle.code.specs.Closed.{isNamed, Named, targetsOf, LoopFits}
-use Rattle.code.specs.Windows.{endsCell, stepsCell, routineCell, writtenCell, usedCell, loopsFrom, callIn}
-use Rattle.evaluation.specs.Answers.{memoryOf, Stands, Evaluated}
+use Rattle.code.specs.Windows.{endsCell, stepsCell, routineCell, writtenCell, usedCell, loopsFrom, callIn, stateIn}
+use Rattle.evaluation.specs.Answers.{Stands, Evaluated}
+use Rattle.evaluation.specs.Answers as answers
 use Rattle.evaluation.specs.Parts.{Loaded}
 use Rattle.evaluation.proofs.Places.{link-in}
 use Rattle.evaluation.proofs.Numbers.{small-value, is-value}
@@ -41,7 +42,7 @@ use Rattle.runner.specs.Machine.{Here, Comes, goesOn, effectAt, Performs
 use Rattle.runner.specs.Choices.{Says, ForSteps, stepWorth, StepGiven, DoAt}
 use Rattle.runner.proofs.Actions.{given-step, no-step, RepeatsFor, reads-for-test}
 use Rattle.runner.proofs.Agreeing.{codeIn, set-same}
-use Rattle.runner.proofs.States.{roomy, goes-to, call-word}
+use Rattle.runner.proofs.States.{Roomy, roomy, goes-to, call-word}
 use Rattle.runner.proofs.Living.{live-next, live-call}
 use Rattle.runner.proofs.Current.{codeHere, stepHere, m, n, callHere, stateHere, action-here, routine-holds, whole-here, memory-here, named-after, named-targets, loop-here, small-name, effect-here, goes-here, performs}
 use Rattle.runner.proofs.Choosing.{stepsHere}
@@ -91,14 +92,14 @@ module _ (code : List ℕ) (s w : ℕ) (ew : w ≡ headAt (wordsOf code) s) wher
         small = v .small;
         is = λ c function text R step d e.
             let g = given-step (c .m) (c .n) function text R (wordsOf code) s step d e (sym op-is ∙ k) in
-            v .is c (g .e) (ap (termIn (c .m) (c .n) (wordsOf code) (s + 1)) (p .same) ∙ g .reads) ∙ ap (stepWorth (memoryOf c values base)) (sym (g .is));
+            v .is c (g .e) (ap (termIn (c .m) (c .n) (wordsOf code) (s + 1)) (p .same) ∙ g .reads) ∙ ap (stepWorth (answers.memoryOf c values base)) (sym (g .is));
       })
 
     pub step-one : (w % 256 ≡ 156 → ⊥) → StepGiven code values base s (pos 1)
     unfolding stepWorth
     step-one k = record {
       small = λ q. record { sfits = omega arith };
-      is = λ c function text R step d e. is-value (pos 1) refl ∙ ap (stepWorth (memoryOf c values base)) (sym (no-step (c .m) (c .n) function text R (wordsOf code) s step d e (λ z. k (op-is ∙ z)) .is));
+      is = λ c function text R step d e. is-value (pos 1) refl ∙ ap (stepWorth (answers.memoryOf c values base)) (sym (no-step (c .m) (c .n) function text R (wordsOf code) s step d e (λ z. k (op-is ∙ z)) .is));
     }
 
 -- ---- the loop at a word of a call
@@ -123,3 +124,124 @@ module _ (P : Program) (R : List Head) (X : List ℕ) (base : ℕ) where
       ∙ getD-append-add (replicate (length (c .words)) idle) (loopsFrom P R X base (c .fors) (length (c .words))) (k - length (c .words)) idle
       ∙ loops-at (c .fors) (length (c .words)) (k - length (c .words)) (omega arith)
       ∙ rw s
+
+-- a word of the newest call gets a value, and the call goes on
+pub word-goes : (P : Program) (R : List Head) (C : List ℕ) (offset : ℕ → ℕ) (X Y : List ℕ) (d i steps : ℕ) (out : List ℕ) → Roomy P Y d → Live P R Y d i
+    → (k : ℕ) (z : ℤ) (b : ℕ) → k < wordsOfCall (codeOfCall P R Y d) → SFits w32 z → isNamed (codeOfCall P R Y d .steps) b ≡ true → b < parts
+    → (E : Effect) → E ≡ made (onTop (goTo b) (onTop (setWord k z) (stateIn P R Y d i steps out)))
+    → Comes P R C offset d i steps X (set Y (windowOf d + k) (ofZ w32 z)) out out E (toZ w64 b)
+word-goes P R C offset X Y d i steps out g l k z b f s a small E e =
+    let Z = set Y (windowOf d + k) (ofZ w32 z) in
+    let room : k < 64 = omega (arith, g .calls (routineOfCall P R Y d)) in
+    goesOn b (toZ-pos w64 b (omega arith))
+    (live-call P R Y d (windowOf d + k) (ofZ w32 z) b (live-next P R Y d i b l a) d k (omega arith) refl)
+    (e ∙ ap made (sym (goes-to P R Z d i steps out b ∙ ap (onTop (goTo b)) (call-word P R Y d g k (ofZ w32 z) i steps out f
+    ∙ ap (λ (y : ℤ). onTop (setWord k y) (stateIn P R Y d i steps out)) (toZ-ofZ s)))))
+
+-- ---- each later test
+module _ (code values : List ℕ) (base i t : ℕ) (q : Says code i 151 t) where
+  module _ (h : Here code values base i) where
+    again : RepeatsFor (m code values base i h) (n code values base i h) (codeHere code values base i h .function) (h .text) (h .R) (wordsOf code) i
+        (stepHere code values base i h .after) (stepHere code values base i h .does)
+    again = reads-for-test _ _ _ _ _ _ i _ _ (action-here code values base i h) (q .op-is)
+
+    -- the variable
+    k-is : valueAt (wordsOf code) i % 256 ≡ t % 256
+    k-is = ap (λ (v : ℕ). v % 256) (sym (q .value-is))
+
+    k-fits : t % 256 < n code values base i h
+    k-fits = omega (arith, k-is, again .fits)
+
+    k-own : length (codeHere code values base i h .words) ≤ t % 256
+    unfolding LoopFits
+    k-own = omega (arith, k-is, subst (LoopFits (length (codeHere code values base i h .words))) (again .does-is) (loop-here code values base i h))
+
+    pub for-inside : (base + t % 256 + 128) * 4 + 4 ≤ length values
+    for-inside = omega (arith, k-fits, routine-holds code values base i h .room, h .base-is, h .deep, h .values-size)
+
+    pub for-end-inside : (base + t % 256 + 64) * 4 + 4 ≤ length values
+    for-end-inside = omega (arith, for-inside)
+
+    pub for-word-inside : (base + t % 256) * 4 + 4 ≤ length values
+    for-word-inside = omega (arith, for-inside)
+
+    -- where it goes
+    body-named : isNamed (stepsHere code values base i h) (linkAt (wordsOf code) i) ≡ true
+    unfolding Named targetsOf
+    body-named = subst (λ (a : Action). Named (stepsHere code values base i h) (targetsOf a)) (again .does-is) (named-targets code values base i h) .0
+
+    after-is : stepHere code values base i h .after ≡ linkAt (wordsOf code) (t / 256)
+    after-is = again .after-is ∙ ap (λ (v : ℕ). linkAt (wordsOf code) (v / 256)) (sym (q .value-is))
+
+    done-named : isNamed (stepsHere code values base i h) (linkAt (wordsOf code) (t / 256)) ≡ true
+    done-named = subst (λ (j : ℕ). isNamed (stepsHere code values base i h) j ≡ true) after-is (named-after code values base i h)
+
+    pub for-word-in : t / 256 * 8 + 8 ≤ length code
+    for-word-in = link-in code (t / 256) (whole-here code values base i h) (λ z. omega (arith, small-name code values base i h (linkAt (wordsOf code) (t / 256)) done-named .0))
+
+    module _ (rooms : Rooms) (steps : ℕ) (out : List ℕ) (a end step : ℤ) (la : Loaded (getD (wordsOf values) (base + t % 256) 0) a)
+        (le : Loaded (getD (wordsOf values) (base + t % 256 + 64) 0) end) (ls : Loaded (getD (wordsOf values) (base + t % 256 + 128) 0) step) where
+      loop-is : getD (callHere code values base i h rooms steps out .loops) (t % 256) idle ≡ record { end = end; step = step }
+      loop-is =
+          let X = wordsOf values in
+          let e : windowOf (h .d) + endsCell + t % 256 ≡ base + t % 256 + 64 = omega (arith, h .base-is) in
+          let s : windowOf (h .d) + stepsCell + t % 256 ≡ base + t % 256 + 128 = omega (arith, h .base-is) in
+          loop-at (h .P) (h .R) X (windowOf (h .d)) i (t % 256) k-own k-fits
+          ∙ (λ j. record { end = (ap (λ (c : ℕ). toZ w32 (getD X c 0)) e ∙ sym (le .is)) j; step = (ap (λ (c : ℕ). toZ w32 (getD X c 0)) s ∙ sym (ls .is)) j })
+
+      word-is : load (memoryOf (stateHere code values base i h rooms steps out) (callHere code values base i h rooms steps out)) (ofRoutine (t % 256)) ≡ a
+      word-is =
+          ap (λ (M : Memory). load M (ofRoutine (t % 256))) (memory-here code values base i h rooms steps out)
+          ∙ load-call (m code values base i h) (n code values base i h) (wordsOf values) (windowOf (h .d)) (t % 256) k-fits
+          ∙ ap (λ (b : ℕ). toZ w32 (getD (wordsOf values) (b + t % 256) 0)) (sym (h .base-is)) ∙ sym (la .is)
+
+      again-effect : effectAt (h .P) (h .R) rooms (wordsOf values) (h .d) i steps out
+          ≡ looping (t % 256) (a +ℤ step) (record { end = end; step = step }) (linkAt (wordsOf code) i) (linkAt (wordsOf code) (t / 256)) (stateHere code values base i h rooms steps out)
+      unfolding perform repeating
+      again-effect =
+          effect-here code values base i h rooms steps out (linkAt (wordsOf code) (t / 256)) (repeatFor (t % 256) (linkAt (wordsOf code) i)) after-is
+          (again .does-is ∙ ap (λ (v : ℕ). repeatFor (v % 256) (linkAt (wordsOf code) i)) (sym (q .value-is)))
+          ∙ ap₂ (λ (y : ℤ) (l : Loop). looping (t % 256) (y +ℤ l .step) l (linkAt (wordsOf code) i) (linkAt (wordsOf code) (t / 256)) (stateHere code values base i h rooms steps out)) word-is loop-is
+
+  module _ (step : ℤ) (ss : SFits w64 step) (ls : Loaded (getD (wordsOf values) (base + t % 256 + 128) 0) step)
+      (a : ℤ) (sa : SFits w64 a) (la : Loaded (getD (wordsOf values) (base + t % 256) 0) a) where
+    pub for-sum : SFits w64 (read a +ℤ read step)
+    for-sum = sum-fits a step sa ss (la .small) (ls .small)
+
+    sum-is : read (read a +ℤ read step) ≡ a +ℤ step
+    sum-is = toZ-ofZ for-sum ∙ ap₂ _+ℤ_ (toZ-ofZ sa) (toZ-ofZ ss)
+
+    module _ (end : ℤ) (se : SFits w64 end) (le : Loaded (getD (wordsOf values) (base + t % 256 + 64) 0) end)
+        (b : Bool) (eb : b ≡ passes (read (read a +ℤ read step)) (record { end = read end; step = read step })) where
+      told : (y : Bool) → b ≡ y → passes (a +ℤ step) (record { end = end; step = step }) ≡ y
+      told y e =
+          let loops : _≡_ {A = Loop} (record { end = read end; step = read step }) (record { end = end; step = step }) = λ j. record { end = toZ-ofZ se j; step = toZ-ofZ ss j } in
+          ap₂ (λ (z : ℤ) (l : Loop). passes z l) (sym sum-is) (sym loops) ∙ sym eb ∙ e
+
+      pub for-small : b ≡ true → SFits w32 (read (read a +ℤ read step))
+      for-small y = rw sum-is (sum-small a step end (la .small) (ls .small) (le .small) (told true y))
+
+      pub for-again : b ≡ true → Here code values base i → (after : List ℕ) → Stored values after (base + t % 256) (read (read a +ℤ read step))
+          → (k : ℕ) → Part halfEnd (linkAt (wordsOf code) i) k → Performs code values after base i (toZ w64 k)
+      unfolding looping
+      for-again y here after sd k p =
+          let set-is : (h : Here code values base i) → wordsOf after ≡ set (wordsOf values) (windowOf (h .d) + t % 256) (ofZ w32 (a +ℤ step)) =
+          λ h. sd .words ∙ ap₂ (λ (b : ℕ) (z : ℤ). set (wordsOf values) (b + t % 256) (ofZ w32 z)) (h .base-is) sum-is in
+          record {
+            long = sd .long;
+            kept = λ c x z.
+                subst (λ (Y : List ℕ). getD Y c 0 ≡ getD (wordsOf values) c 0) (sym (set-is here))
+                (set-same (wordsOf values) (windowOf (here .d) + t % 256) (ofZ w32 (a +ℤ step)) c (λ e. omega (arith, k-fits here, routine-holds code values base i here .room)));
+            does = λ h rooms steps out.
+                subst (λ (Y : List ℕ). Comes (h .P) (h .R) (wordsOf code) (h .offset) (h .d) i steps (wordsOf values) Y out out (effectAt (h .P) (h .R) rooms (wordsOf values) (h .d) i steps out) (toZ w64 k)) (sym (set-is h))
+                (rw (p .same) (word-goes (h .P) (h .R) (wordsOf code) (h .offset) (wordsOf values) (wordsOf values) (h .d) i steps out (roomy h) (h .live) (t % 256) (a +ℤ step) (linkAt (wordsOf code) i)
+                (k-fits h) (sum-small a step end (la .small) (ls .small) (le .small) (told true y)) (body-named h) (small-name code values base i h (linkAt (wordsOf code) i) (body-named h) .1) _
+                (again-effect h rooms steps out a end step la le ls ∙ rw (told true y, looping))));
+          }
+
+      pub for-done : b ≡ false → (k : ℕ) → Part halfEnd (linkAt (wordsOf code) (t / 256)) k → Performs code values values base i (toZ w64 k)
+      unfolding looping
+      for-done y k p =
+          rw (p .same) (performs code values base i (toZ w64 (linkAt (wordsOf code) (t / 256))) (λ h rooms steps out.
+          goes-here code values base i h rooms steps out (linkAt (wordsOf code) (t / 256)) _ (done-named h)
+          (again-effect h rooms steps out a end step la le ls ∙ rw (told false y, looping))))

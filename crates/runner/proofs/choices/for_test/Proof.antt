@@ -7,74 +7,59 @@ use Rattle.runner.proofs.choices.passes.Reads as passes-reads
 use Rattle.runner.proofs.reading.link.Reads as link-reads
 use Rattle.runner.proofs.reading.load.Reads as load-reads
 use Rattle.runner.proofs.reading.put.Reads as put-reads
+use Rattle.runner.proofs.Choosing.{word-in}
+use Rattle.runner.proofs.Looping.{for-inside, for-end-inside, for-word-inside, for-word-in, for-sum, for-small, for-again, for-done}
 
--- src/choices.rt:141:13
 add-k : tie.Need-add-k
 add-k c = search needs
 
--- src/choices.rt:142:31
 add-load : tie.Need-add-load
 add-load c = search needs
 
--- src/choices.rt:142:9
 load-requires : tie.Need-load-requires
-load-requires c κs = ?
+load-requires c κs = search (needs, for-inside)
 
--- src/choices.rt:143:13
 load-requires-2 : tie.Need-load-requires-2
-load-requires-2 c κs = ?
+load-requires-2 c κs = search (needs, for-word-inside)
 
--- src/choices.rt:143:13
 add-z : tie.Need-add-z
-add-z c = ?
+add-z c = search (needs, for-sum)
 
--- src/choices.rt:144:33
 add-load-2 : tie.Need-add-load-2
 add-load-2 c = search needs
 
--- src/choices.rt:144:18
 load-requires-3 : tie.Need-load-requires-3
-load-requires-3 c κs = ?
+load-requires-3 c κs = search (needs, for-end-inside)
 
--- src/choices.rt:144:8
 passes-requires : tie.Need-passes-requires
 passes-requires c κs = search needs
 
--- src/choices.rt:145:9
 put-requires : tie.Need-put-requires
-put-requires c κs = ?
+put-requires c κs = search (needs, for-word-inside, for-small)
 
--- src/choices.rt:146:16
 link-requires : tie.Need-link-requires
-link-requires c κs = ?
+link-requires c κs = search (needs, word-in)
 
--- src/choices.rt:146:16
 cast-result : tie.Need-cast-result
 cast-result c = search needs
 
--- src/choices.rt:146:9
 same-length : tie.Need-same-length
 same-length c = search needs
 
--- src/choices.rt:146:9
 returns : tie.Need-returns
-returns c = ?
+returns c = search (needs, for-again)
 
--- src/choices.rt:148:5
 link-requires-2 : tie.Need-link-requires-2
-link-requires-2 c κs = ?
+link-requires-2 c κs = search (needs, for-word-in)
 
--- src/choices.rt:148:5
 cast-result-2 : tie.Need-cast-result-2
 cast-result-2 c = search needs
 
--- src/choices.rt:137:1
 same-length-2 : tie.Need-same-length-2
 same-length-2 c = search needs
 
--- src/choices.rt:137:1
 returns-2 : tie.Need-returns-2
-returns-2 c = ?
+returns-2 c = search (needs, for-done)
 
 pub for-test-spec : {M : Type 1} → statement M
 for-test-spec =
