@@ -21,3 +21,4 @@ pub mod Targeting
 pub mod Worths
 pub mod Writing
 pub mod DataWords
+pub mod Looping
