@@ -146,9 +146,15 @@ module _ (code values : List ℕ) (base i : ℕ) (h : Here code values base i) w
   stands-here from to t e = record { c = counts-here; t = t; is = e; whole = whole-here }
 
   -- ---- where it leads
+  low-name : (j : ℕ) → isNamed (codeHere .steps) j ≡ true → (0 < j) × (j + 1 < parts)
+  low-name j e =
+      subst (λ (k : ℕ). (0 < k) × (k + 1 < parts)) (named-name (codeHere .steps) j e) (named-every (codeHere .steps) j (routine-holds .small) e)
+
   pub small-name : (j : ℕ) → isNamed (codeHere .steps) j ≡ true → (0 < j) × (j < parts)
-  small-name j e =
-      subst (λ (k : ℕ). (0 < k) × (k < parts)) (named-name (codeHere .steps) j e) (named-every (codeHere .steps) j (routine-holds .small) e)
+  small-name j e = (low-name j e .0, omega (arith, low-name j e .1))
+
+  pub small-next : (j : ℕ) → isNamed (codeHere .steps) j ≡ true → j + 1 < parts
+  small-next j e = low-name j e .1
 
   pub step-in : i * 8 + 8 ≤ length code
   step-in = omega (arith, small-name i (h .live .named) .1, h .code-size)

@@ -6,7 +6,7 @@ use Prim.Native.Nat.{ℕ, zero, suc, _+_, _-_, _*_, _/_, _%_, _≤_, _<_}
 use native.Mathlib.Nat.{add-zero}
 use native.Mathlib.Numerals.{add-one}
 use native.Mathlib.Omega.{arith}
-use lib.ListN.{length, getD, take, drop, set, length-append, length-set, length-drop, take-append-drop, drop-of-length-le}
+use lib.ListN.{length, getD, take, drop, set, length-append, length-set, length-drop, take-append-drop, drop-of-length-le, List·getD-eq-default}
 use lib.Seq.{take-nil, set-split, append-snoc}
 use lib.IntN.{ℤ}
 use mir.Syntax.{w64}
@@ -21,12 +21,14 @@ use Rattle.paper.specs.Words.{LF}
 use Rattle.paper.specs.Numbers.{decimal}
 use Rattle.paper.specs.Steps.{unquoted}
 use Rattle.cells.specs.Words.{wordsOf, Put}
+use Rattle.cells.proofs.Laws.{length-words}
 use Rattle.cells.proofs.Kept.{put-length}
 use Rattle.numbers.proofs.Whole.{read}
 use Rattle.decimals.specs.declared.Put as decimals
 use Rattle.decimals.specs.Placed.{fit, placed, PutsNumber}
 use Rattle.decimals.proofs.Parts.{put-front}
 use Rattle.code.specs.Cells.{valueAt, placeAt}
+use Rattle.evaluation.proofs.Places.{value-in}
 use Rattle.runner.specs.Output.{cellValues, countIn, withCount, Counted, Copies, Copied, charactersAt, Spells, Placed, lineAt, lineOf, HasRoom, Added}
 
 pub counted : (before mid after : List ℕ) (n : ℕ) → 5048 ≤ length before → Put before mid 1260 (n % cellValues) → Put mid after 1261 (n / cellValues) → Counted before after n
@@ -39,23 +41,29 @@ empty-of [] e = refl
 empty-of (x ∷ l) e = absurd (omega arith)
 
 -- ---- a string
-module _ (text C : List ℕ) (i v : ℕ) (ev : v ≡ valueAt C i) (many : valueAt C i / 256 ≡ length (charactersAt text C i)) where
+pub no-characters : (code : List ℕ) (i : ℕ) → length code % 8 ≡ 0 → length code / 8 ≤ i → (0 ≡ valueAt (wordsOf code) i / 256) × (0 < 65536)
+no-characters code i w h = (sym (ap (λ (x : ℕ). x / 256 / 256) (List·getD-eq-default (wordsOf code) 0 {n = i * 2} (omega (arith, length-words code)))), omega arith)
+
+pub string-there : (code : List ℕ) (i n : ℕ) → n ≡ valueAt (wordsOf code) i / 256 → length code % 8 ≡ 0 → (n ≡ 0 → ⊥) → i * 8 + 8 ≤ length code
+string-there code i n e w d = value-in code i w (λ z. d (e ∙ ap (λ (x : ℕ). x / 256) z))
+
+module _ (text C : List ℕ) (i n : ℕ) (en : n ≡ valueAt C i / 256) (many : valueAt C i / 256 ≡ length (charactersAt text C i)) where
   -- none of its bytes is read where it is empty, wherever it stands
-  pub string-none : v / 256 ≡ 0 → (out : List ℕ) (at : ℕ) → Placed out out at (charactersAt text C i) at
+  pub string-none : n ≡ 0 → (out : List ℕ) (at : ℕ) → Placed out out at (charactersAt text C i) at
   string-none z out at =
-      let n : length (charactersAt text C i) ≡ 0 = sym many ∙ ap (λ (x : ℕ). x / 256) (sym ev) ∙ z in
-      let e : charactersAt text C i ≡ [] = empty-of (charactersAt text C i) n in
+      let l : length (charactersAt text C i) ≡ 0 = sym many ∙ sym en ∙ z in
+      let e : charactersAt text C i ≡ [] = empty-of (charactersAt text C i) l in
       record {
         bytes = rw e (sym (ap (λ (x : List ℕ). x ++ drop (at + 0) out) (append-nil (take at out)) ∙ ap (λ (k : ℕ). take at out ++ drop k out) (add-zero at) ∙ take-append-drop at out));
         place = omega arith;
       }
 
-  module _ (p : ℕ) (ep : p ≡ placeAt C i) (some : v / 256 ≡ 0 → ⊥) where
+  module _ (p : ℕ) (ep : p ≡ placeAt C i) (some : n ≡ 0 → ⊥) where
     pub string-in : p + 1 ≤ length text
     unfolding charactersAt unquoted
     string-in =
         by-most (p + 1) (length text) (λ h. h)
-        (λ h. absurd (some (ap (λ (x : ℕ). x / 256) ev ∙ many ∙ ap (λ (l : List ℕ). length (unquoted l)) (ap (take (valueAt C i % 256 - 2)) (ap (λ (k : ℕ). drop (k + 1) text) (sym ep) ∙ drop-of-length-le text {i = p + 1} (omega arith)) ∙ take-nil (valueAt C i % 256 - 2)))))
+        (λ h. absurd (some (en ∙ many ∙ ap (λ (l : List ℕ). length (unquoted l)) (ap (take (valueAt C i % 256 - 2)) (ap (λ (k : ℕ). drop (k + 1) text) (sym ep) ∙ drop-of-length-le text {i = p + 1} (omega arith)) ∙ take-nil (valueAt C i % 256 - 2)))))
 
     rest-is : midOf (p + 1) (length text - (p + 1)) text ≡ drop (placeAt C i + 1) text
     rest-is = part-rest text (p + 1) ∙ ap (λ (k : ℕ). drop (k + 1) text) ep
@@ -64,21 +72,21 @@ module _ (text C : List ℕ) (i v : ℕ) (ev : v ≡ valueAt C i) (many : valueA
     unfolding charactersAt
     characters-in = ap (λ (l : List ℕ). unquoted (take (valueAt C i % 256 - 2) l)) rest-is
 
-    many-in : length (unquoted (take (valueAt C i % 256 - 2) (midOf (p + 1) (length text - (p + 1)) text))) ≡ v / 256
-    many-in = ap length characters-in ∙ sym many ∙ ap (λ (x : ℕ). x / 256) (sym ev)
+    many-in : length (unquoted (take (valueAt C i % 256 - 2) (midOf (p + 1) (length text - (p + 1)) text))) ≡ n
+    many-in = ap length characters-in ∙ sym many ∙ sym en
 
     module _ (out : List ℕ) (at : ℕ) (h : at + length (charactersAt text C i) ≤ length out) where
-      count : v / 256 ≡ length (charactersAt text C i)
-      count = ap (λ (x : ℕ). x / 256) ev ∙ many
+      count : n ≡ length (charactersAt text C i)
+      count = en ∙ many
 
-      pub string-copies : Copies (midOf (p + 1) (length text - (p + 1)) text) (midOf at (length out - at) out) (v / 256)
+      pub string-copies : Copies (midOf (p + 1) (length text - (p + 1)) text) (midOf at (length out - at) out) n
       string-copies = record { bytes = valueAt C i % 256 - 2; many = many-in; room = rw (part-rest out at, length-drop) (omega (arith, count)) }
 
-      pub string-done : (ys : List ℕ) → Copied (midOf (p + 1) (length text - (p + 1)) text) (midOf at (length out - at) out) ys (v / 256)
-          → Placed out (putMid at (length out - at) out ys) at (charactersAt text C i) (at + v / 256)
+      pub string-done : (ys : List ℕ) → Copied (midOf (p + 1) (length text - (p + 1)) text) (midOf at (length out - at) out) ys n
+          → Placed out (putMid at (length out - at) out ys) at (charactersAt text C i) (at + n)
       string-done ys c = record {
-        bytes = ap (putMid at (length out - at) out) (c .is (valueAt C i % 256 - 2) many-in ∙ ap (λ (s : List ℕ). s ++ drop (v / 256) (midOf at (length out - at) out)) characters-in)
-            ∙ put-front out (charactersAt text C i) at (v / 256) (omega arith)
+        bytes = ap (putMid at (length out - at) out) (c .is (valueAt C i % 256 - 2) many-in ∙ ap (λ (s : List ℕ). s ++ drop n (midOf at (length out - at) out)) characters-in)
+            ∙ put-front out (charactersAt text C i) at n (omega arith)
             ∙ ap (replaced out at (charactersAt text C i)) count;
         place = omega (arith, count);
       }
@@ -131,10 +139,7 @@ module _ (text C values out : List ℕ) (i : ℕ) (z : ℤ) (s : SFits w64 z) (f
   pub of-string : (w : ℕ) → w ≡ countIn (wordsOf values) → w + length (charactersAt text C i) ≤ length out
   of-string w e = omega (arith, f .room, of-length)
 
-  module _ (w : ℕ) (ew : w ≡ countIn (wordsOf values)) (out1 : List ℕ) (e : ℕ) (p : Placed out out1 w (charactersAt text C i) e) (n : ℕ) (en : n ≡ length (decimal (read z))) where
-    n-is : n ≡ length (decimal z)
-    n-is = rw (toZ-ofZ s) at en
-
+  module _ (w : ℕ) (ew : w ≡ countIn (wordsOf values)) (out1 : List ℕ) (e : ℕ) (p : Placed out out1 w (charactersAt text C i) e) (n : ℕ) (n-is : n ≡ length (decimal z)) where
     of1-length : length out1 ≡ length out
     of1-length = ap length (p .bytes) ∙ replaced-length out (charactersAt text C i) w (length (charactersAt text C i)) refl (omega (arith, of-string w ew))
 

@@ -33,7 +33,7 @@ link-requires c κs = search needs
 
 -- src/errors.rt:112:1
 returns : tie.Need-returns
-returns c = c .link .ensures ∙ ap (λ (w : ℕ). linkAt (wordsOf (now (c .before .before .before .before .args .code))) (w + 1)) (c .before .get .ensures)
+returns c = c .link .ensures .same ∙ ap (λ (w : ℕ). linkAt (wordsOf (now (c .before .before .before .before .args .code))) (w + 1)) (c .before .get .ensures)
 
 pub handler-spec : {M : Type 1} → statement M
 handler-spec = tie.close (tie.spec add-get get-requires cast-link add-link link-requires returns)

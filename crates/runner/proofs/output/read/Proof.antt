@@ -1,0 +1,157 @@
+use borrow.Author.Needs.{needs}
+use Rattle.runner.proofs.output.read.Statement.{statement}
+use Rattle.runner.proofs.output.read.Tie as tie
+use Rattle.runner.proofs.output.read.Reads as reads
+use Rattle.runner.proofs.output.read.Lts as lts
+use Rattle.cells.proofs.get.Reads as get-reads
+use Rattle.runner.proofs.output.add.Reads as add-reads
+use Rattle.runner.proofs.output.characters.Reads as characters-reads
+use Rattle.runner.proofs.output.take.Reads as take-reads
+use Rattle.runner.proofs.output.written.Reads as written-reads
+use Rattle.runner.proofs.reading.link.Reads as link-reads
+use Rattle.runner.proofs.targets.target_cell.Reads as target-cell-reads
+
+-- src/output.rt:190:49
+add-target-cell : tie.Need-add-target-cell
+add-target-cell c = ?
+
+-- src/output.rt:190:9
+target-cell-requires : tie.Need-target-cell-requires
+target-cell-requires c κs = ?
+
+-- src/output.rt:192:9
+same-length : tie.Need-same-length
+same-length c = search needs
+
+-- src/output.rt:192:9
+returns : tie.Need-returns
+returns c = ?
+
+-- src/output.rt:194:20
+written-requires : tie.Need-written-requires
+written-requires c κs = search needs
+
+-- src/output.rt:194:8
+sub-if2 : tie.Need-sub-if2
+sub-if2 c = search needs
+
+-- src/output.rt:194:41
+characters-requires : tie.Need-characters-requires
+characters-requires c κs = search needs
+
+-- src/output.rt:195:26
+cast-result : tie.Need-cast-result
+cast-result c = ?
+
+-- src/output.rt:195:16
+add-result : tie.Need-add-result
+add-result c = ?
+
+-- src/output.rt:195:9
+same-length-2 : tie.Need-same-length-2
+same-length-2 c = search needs
+
+-- src/output.rt:195:9
+returns-2 : tie.Need-returns-2
+returns-2 c = ?
+
+-- src/output.rt:197:9
+get-requires : tie.Need-get-requires
+get-requires c κs = search needs
+
+-- src/output.rt:198:28
+cast-if3 : tie.Need-cast-if3
+cast-if3 c = search needs
+
+-- src/output.rt:199:27
+cast-result-2 : tie.Need-cast-result-2
+cast-result-2 c = ?
+
+-- src/output.rt:199:16
+add-result-2 : tie.Need-add-result-2
+add-result-2 c = ?
+
+-- src/output.rt:199:9
+same-length-3 : tie.Need-same-length-3
+same-length-3 c = search needs
+
+-- src/output.rt:199:9
+returns-3 : tie.Need-returns-3
+returns-3 c = ?
+
+-- src/output.rt:201:5
+add-requires : tie.Need-add-requires
+add-requires c κs = ?
+
+-- src/output.rt:202:35
+cast-take : tie.Need-cast-take
+cast-take c = ?
+
+-- src/output.rt:202:8
+take-requires : tie.Need-take-requires
+take-requires c κs = ?
+
+-- src/output.rt:203:16
+link-requires : tie.Need-link-requires
+link-requires c κs = ?
+
+-- src/output.rt:203:16
+cast-result-3 : tie.Need-cast-result-3
+cast-result-3 c = search needs
+
+-- src/output.rt:203:9
+same-length-4 : tie.Need-same-length-4
+same-length-4 c = search needs
+
+-- src/output.rt:203:9
+same-length-5 : tie.Need-same-length-5
+same-length-5 c = search needs
+
+-- src/output.rt:203:9
+returns-4 : tie.Need-returns-4
+returns-4 c = ?
+
+-- src/output.rt:186:1
+same-length-6 : tie.Need-same-length-6
+same-length-6 c = search needs
+
+-- src/output.rt:186:1
+same-length-7 : tie.Need-same-length-7
+same-length-7 c = search needs
+
+-- src/output.rt:186:1
+returns-5 : tie.Need-returns-5
+returns-5 c = ?
+
+pub read-spec : {M : Type 1} → statement M
+read-spec =
+    tie.close
+    (tie.spec
+    add-target-cell
+    target-cell-requires
+    same-length
+    returns
+    written-requires
+    sub-if2
+    characters-requires
+    cast-result
+    add-result
+    same-length-2
+    returns-2
+    get-requires
+    cast-if3
+    cast-result-2
+    add-result-2
+    same-length-3
+    returns-3
+    add-requires
+    cast-take
+    take-requires
+    link-requires
+    cast-result-3
+    same-length-4
+    same-length-5
+    returns-4
+    same-length-6
+    same-length-7
+    returns-5)
