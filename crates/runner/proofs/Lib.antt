@@ -22,3 +22,6 @@ pub mod Worths
 pub mod Writing
 pub mod DataWords
 pub mod Looping
+pub mod Printing
+pub mod Inputs
+pub mod PrintingOf

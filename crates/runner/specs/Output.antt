@@ -6,7 +6,7 @@ use Prim.Native.Nat.{ℕ, suc, _+_, _-_, _*_, _/_, _%_, _<_, _≤_}
 use lib.ListN.{length, getD, take, drop, set}
 use lib.IntN.{ℤ}
 use mir.Syntax.{w32}
-use mir.Val.{toZ}
+use mir.Val.{SFits, toZ, ofZ}
 use Rattle.laws.specs.Lists.{replaced}
 use Rattle.paper.specs.Words.{LF, QUOTE}
 use Rattle.paper.specs.Numbers.{num, value, error, ranged, overflow, decimal}
@@ -100,11 +100,15 @@ pub record Takes (values inputs : List ℕ) (used cell : ℕ) : Type 0 where
   pub input : used * 4 + 4 ≤ length inputs
   pub count : used + 1 < cellValues
 
+abbrev pub inputAt : (inputs : List ℕ) → ℕ → ℤ
+inputAt inputs k = toZ w32 (getD (wordsOf inputs) k 0)
+
 pub record Took (values after inputs : List ℕ) (used cell : ℕ) (ok : Bool) : Type 0 where
   pub long : length after ≡ length values
-  pub in-num : ok ≡ true → ranged num (toZ w32 (getD (wordsOf inputs) used 0)) ≡ value (toZ w32 (getD (wordsOf inputs) used 0))
-  pub stored : ok ≡ true → wordsOf after ≡ set (set (wordsOf values) usedCell (used + 1)) cell (getD (wordsOf inputs) used 0)
-  pub outside : ok ≡ false → ranged num (toZ w32 (getD (wordsOf inputs) used 0)) ≡ error overflow
+  pub small : SFits w32 (inputAt inputs used)
+  pub in-num : ok ≡ true → ranged num (inputAt inputs used) ≡ value (inputAt inputs used)
+  pub stored : ok ≡ true → wordsOf after ≡ set (set (wordsOf values) usedCell (used + 1)) cell (ofZ w32 (inputAt inputs used))
+  pub outside : ok ≡ false → ranged num (inputAt inputs used) ≡ error overflow
   pub consumed : ok ≡ false → wordsOf after ≡ set (wordsOf values) usedCell (used + 1)
 
 pub record Reads (text code values inputs out : List ℕ) (base i : ℕ) : Type 0 where

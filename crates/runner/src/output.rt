@@ -25,9 +25,9 @@ const FIRST_ERROR: i64 = 4294967296;
 
 const OVERFLOW: i64 = FIRST_ERROR + 1001;
 
-const NO_INPUT: i64 = 327680;
+const NO_INPUT: usize = 327680;
 
-const NO_ROOM: i64 = 393216;
+const NO_ROOM: usize = 393216;
 
 // the ends of num
 const LOWEST: i64 = -8388607;
@@ -140,7 +140,7 @@ pub fn write<'a>(text: &'a [u8], code: &'a [u8], values: &'a mut [u8], out: &'a 
     ensures { λ r. ⌜ Wrote (now (text .entry)) (now (code .entry)) (now (values .entry)) (now (values .exit)) (now (out .entry)) (now (out .exit)) i r ⌝ }
 {
     if out.len() - written(&*values) <= characters(code, i + 1) {
-        return NO_ROOM + i as i64;
+        return (NO_ROOM + i) as i64;
     }
     add(text, code, values, out, i + 1);
     link(code, i) as i64
@@ -157,7 +157,7 @@ pub fn write_of<'a>(text: &'a [u8], code: &'a [u8], values: &'a mut [u8], out: &
     }
     let n = decimals::number_length(v);
     if out.len() - written(&*values) <= characters(code, i + 1) + n {
-        return NO_ROOM + i as i64;
+        return (NO_ROOM + i) as i64;
     }
     add_of(text, code, values, out, i + 1, v, n);
     link(code, i) as i64
@@ -192,11 +192,11 @@ pub fn read<'a>(text: &'a [u8], code: &'a [u8], values: &'a mut [u8], inputs: &'
         return k;
     }
     if out.len() - written(&*values) <= characters(code, s) {
-        return NO_ROOM + i as i64;
+        return (NO_ROOM + i) as i64;
     }
     let used = cells::get(&*values, USED);
     if inputs.len() / 4 <= used as usize {
-        return NO_INPUT + i as i64;
+        return (NO_INPUT + i) as i64;
     }
     add(text, code, values, out, s);
     if take(values, inputs, used, k as usize) {

@@ -39,13 +39,13 @@ sub-if2 c = search needs
 characters-requires : tie.Need-characters-requires
 characters-requires c κs = search needs
 
--- src/output.rt:195:26
-cast-result : tie.Need-cast-result
-cast-result c = ?
-
--- src/output.rt:195:16
+-- src/output.rt:195:17
 add-result : tie.Need-add-result
 add-result c = ?
+
+-- src/output.rt:195:16
+cast-result : tie.Need-cast-result
+cast-result c = ?
 
 -- src/output.rt:195:9
 same-length-2 : tie.Need-same-length-2
@@ -63,13 +63,13 @@ get-requires c κs = search needs
 cast-if3 : tie.Need-cast-if3
 cast-if3 c = search needs
 
--- src/output.rt:199:27
-cast-result-2 : tie.Need-cast-result-2
-cast-result-2 c = ?
-
--- src/output.rt:199:16
+-- src/output.rt:199:17
 add-result-2 : tie.Need-add-result-2
 add-result-2 c = ?
+
+-- src/output.rt:199:16
+cast-result-2 : tie.Need-cast-result-2
+cast-result-2 c = ?
 
 -- src/output.rt:199:9
 same-length-3 : tie.Need-same-length-3
@@ -134,14 +134,14 @@ read-spec =
     written-requires
     sub-if2
     characters-requires
-    cast-result
     add-result
+    cast-result
     same-length-2
     returns-2
     get-requires
     cast-if3
-    cast-result-2
     add-result-2
+    cast-result-2
     same-length-3
     returns-3
     add-requires

@@ -1,3 +1,4 @@
+use Rattle.runner.proofs.Inputs.{take-low, take-high, take-in}
 use borrow.Author.Needs.{needs}
 use Rattle.runner.proofs.output.take.Statement.{statement}
 use Rattle.runner.proofs.output.take.Tie as tie
@@ -25,7 +26,7 @@ same-length c = search needs
 
 -- src/output.rt:176:9
 returns : tie.Need-returns
-returns c = ?
+returns c = take-low _ _ _ _ _ (c .before .before .before .before .before .before .before .before .pre) (c .before .before .before .put .ensures) _ record { sfits = c .before .before .before .before .before .load .ok } (c .before .before .before .before .before .load .ensures) (c .if1 .taken)
 
 -- src/output.rt:179:9
 same-length-2 : tie.Need-same-length-2
@@ -33,7 +34,7 @@ same-length-2 c = search needs
 
 -- src/output.rt:179:9
 returns-2 : tie.Need-returns-2
-returns-2 c = ?
+returns-2 c = take-high _ _ _ _ _ (c .before .before .before .before .before .before .before .before .before .pre) (c .before .before .before .before .put .ensures) _ record { sfits = c .before .before .before .before .before .before .load .ok } (c .before .before .before .before .before .before .load .ensures) (c .before .if1 .left) (c .if2 .taken)
 
 -- src/output.rt:181:5
 put-requires-2 : tie.Need-put-requires-2
@@ -45,7 +46,7 @@ same-length-3 c = search needs
 
 -- src/output.rt:169:1
 returns-3 : tie.Need-returns-3
-returns-3 c = ?
+returns-3 c = take-in _ _ _ _ _ (c .before .before .before .before .before .before .before .before .before .before .before .before .before .pre) (c .before .before .before .before .before .before .before .before .put .ensures) _ record { sfits = c .before .before .before .before .before .before .before .before .before .before .load .ok } (c .before .before .before .before .before .before .before .before .before .before .load .ensures) (c .before .before .before .before .before .if1 .left) (c .before .before .before .before .if2 .left) _ (c .before .before .put2 .ensures)
 
 pub take-spec : {M : Type 1} → statement M
 take-spec =

@@ -1,3 +1,4 @@
+use Rattle.runner.proofs.Printing.{write-in, write-next, write-sum, write-fits, write-lacks, write-adds, write-done}
 use borrow.Author.Needs.{needs}
 use Rattle.runner.proofs.output.write.Statement.{statement}
 use Rattle.runner.proofs.output.write.Tie as tie
@@ -18,19 +19,19 @@ sub-if1 c = search needs
 
 -- src/output.rt:142:58
 add-characters : tie.Need-add-characters
-add-characters c = ?
+add-characters c = search (needs, write-next)
 
 -- src/output.rt:142:41
 characters-requires : tie.Need-characters-requires
 characters-requires c κs = search needs
 
--- src/output.rt:143:26
-cast-result : tie.Need-cast-result
-cast-result c = ?
+-- src/output.rt:143:17
+add-result : tie.Need-add-result
+add-result c = search (needs, write-sum)
 
 -- src/output.rt:143:16
-add-result : tie.Need-add-result
-add-result c = ?
+cast-result : tie.Need-cast-result
+cast-result c = search (needs, write-fits)
 
 -- src/output.rt:143:9
 same-length : tie.Need-same-length
@@ -38,19 +39,19 @@ same-length c = search needs
 
 -- src/output.rt:143:9
 returns : tie.Need-returns
-returns c = ?
+returns c = write-lacks _ _ _ _ _ (c .before .before .before .before .before .before .before .before .pre) _ (c .before .before .written .ensures) _ (c .before .characters .ensures .0) (c .if1 .taken)
 
 -- src/output.rt:145:34
 add-add : tie.Need-add-add
-add-add c = ?
+add-add c = search (needs, write-next)
 
 -- src/output.rt:145:5
 add-requires : tie.Need-add-requires
-add-requires c κs = ?
+add-requires c κs = write-adds _ _ _ _ _ (c .before .before .before .before .before .before .before .before .before .before .pre) _ (c .before .before .before .before .written .ensures) _ (c .before .before .before .characters .ensures .0) (c .before .before .if1 .left)
 
 -- src/output.rt:146:5
 link-requires : tie.Need-link-requires
-link-requires c κs = ?
+link-requires c κs = search (needs, write-in)
 
 -- src/output.rt:146:5
 cast-result-2 : tie.Need-cast-result-2
@@ -66,7 +67,7 @@ same-length-3 c = search needs
 
 -- src/output.rt:138:1
 returns-2 : tie.Need-returns-2
-returns-2 c = ?
+returns-2 c = write-done _ _ _ _ _ (c .before .before .before .before .before .before .before .before .before .before .before .before .before .before .before .before .pre) _ (c .before .before .before .before .before .before .before .before .before .before .written .ensures) _ (c .before .before .before .before .before .before .before .before .before .characters .ensures .0) (c .before .before .before .before .before .before .before .before .if1 .left) _ _ (c .before .before .before .before .before .add .ensures) _ (c .link .ensures .same)
 
 pub write-spec : {M : Type 1} → statement M
 write-spec =
@@ -76,8 +77,8 @@ write-spec =
     sub-if1
     add-characters
     characters-requires
-    cast-result
     add-result
+    cast-result
     same-length
     returns
     add-add
