@@ -25,3 +25,4 @@ pub mod Looping
 pub mod Printing
 pub mod Inputs
 pub mod PrintingOf
+pub mod Prompting

@@ -167,6 +167,7 @@ module _ (code values : List ℕ) (base i b s : ℕ) (k : Seeking code values ba
     where
       no : codeAt (h .P) (callIn (h .P) (h .R) (wordsOf values) (windowOf (k h .e)) s .routine) .handler ≡ none
       no = handler-here code values base i b s k h ∙ ap optionally g ∙ zero-handler
+
       go : (e : ℕ) → k h .e ≡ e → Seeks (h .P) (h .R) (wordsOf values) (h .d) i (b - 240) (getD (wordsOf values) (b - 240 + waitsCell) 0)
       go zero z = absurd (d (k h .base-is ∙ ap windowOf z))
       go (suc e) z = up-one h (k h) e z no

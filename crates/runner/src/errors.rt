@@ -8,7 +8,6 @@ ghost use Rattle.code.specs.Steps.{aRetry, aTryNext};
 ghost use Rattle.code.specs.Windows.{failedCell};
 ghost use Rattle.runner.specs.Machine.{Here, Performs};
 ghost use Rattle.runner.specs.Errors.{Closes, Closing, StepAt, After, Forgot, HasRoutine, handlerAt, Nearest, Unwound, Raises, Arisen};
-
 use super::reading::head;
 use super::reading::link;
 

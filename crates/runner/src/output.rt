@@ -11,7 +11,6 @@ ghost use Rattle.code.specs.Cells.{valueAt};
 ghost use Rattle.decimals.specs.Placed as decimals;
 ghost use Rattle.runner.specs.Choices.{Says};
 ghost use Rattle.runner.specs.Output.{countIn, Counted, Copies, Copied, charactersAt, Spells, Placed, lineAt, lineOf, HasRoom, Added, Prints, Writes, Wrote, WroteOf, Takes, Took, Reads, WasRead};
-
 use super::choices::worth;
 use super::reading::link;
 use super::reading::load;
@@ -123,7 +122,15 @@ fn add<'a>(text: &'a [u8], code: &'a [u8], values: &'a mut [u8], out: &'a mut [u
 }
 
 // The string at word i, a number of n bytes and LF.
-fn add_of<'a>(text: &'a [u8], code: &'a [u8], values: &'a mut [u8], out: &'a mut [u8], i: usize, v: i64, n: usize)
+fn add_of<'a>(
+    text: &'a [u8],
+    code: &'a [u8],
+    values: &'a mut [u8],
+    out: &'a mut [u8],
+    i: usize,
+    v: i64,
+    n: usize,
+)
     requires { ⌜ Spells (now text) (now code) i × HasRoom (now values) (now out) (lineOf (now text) (wordsOf (now code)) i v) × decimals.Takes v n ⌝ }
     ensures { λ _. ⌜ Added (now (values .entry)) (now (values .exit)) (now (out .entry)) (now (out .exit)) (lineOf (now (text .entry)) (wordsOf (now (code .entry))) i v) ⌝ }
 {
@@ -135,7 +142,13 @@ fn add_of<'a>(text: &'a [u8], code: &'a [u8], values: &'a mut [u8], out: &'a mut
 
 // ---- TPWrite
 
-pub fn write<'a>(text: &'a [u8], code: &'a [u8], values: &'a mut [u8], out: &'a mut [u8], i: usize) -> i64
+pub fn write<'a>(
+    text: &'a [u8],
+    code: &'a [u8],
+    values: &'a mut [u8],
+    out: &'a mut [u8],
+    i: usize,
+) -> i64
     requires { ⌜ Writes (now text) (now code) (now values) (now out) i ⌝ }
     ensures { λ r. ⌜ Wrote (now (text .entry)) (now (code .entry)) (now (values .entry)) (now (values .exit)) (now (out .entry)) (now (out .exit)) i r ⌝ }
 {
@@ -147,7 +160,15 @@ pub fn write<'a>(text: &'a [u8], code: &'a [u8], values: &'a mut [u8], out: &'a 
 }
 
 // With a number, whose expression ends at t.
-pub fn write_of<'a>(text: &'a [u8], code: &'a [u8], values: &'a mut [u8], out: &'a mut [u8], base: usize, i: usize, t: usize) -> i64
+pub fn write_of<'a>(
+    text: &'a [u8],
+    code: &'a [u8],
+    values: &'a mut [u8],
+    out: &'a mut [u8],
+    base: usize,
+    i: usize,
+    t: usize,
+) -> i64
     requires { ⌜ Prints (now text) (now code) (now values) (now out) base i × Says (now code) i 145 t ⌝ }
     ensures { λ r. ⌜ WroteOf (now (text .entry)) (now (code .entry)) (now (values .entry)) (now (values .exit)) (now (out .entry)) (now (out .exit)) base i r ⌝ }
 {
@@ -183,7 +204,16 @@ fn take<'a>(values: &'a mut [u8], inputs: &'a [u8], used: u32, cell: usize) -> b
 }
 
 // With its string at the word s.
-pub fn read<'a>(text: &'a [u8], code: &'a [u8], values: &'a mut [u8], inputs: &'a [u8], out: &'a mut [u8], base: usize, i: usize, s: usize) -> i64
+pub fn read<'a>(
+    text: &'a [u8],
+    code: &'a [u8],
+    values: &'a mut [u8],
+    inputs: &'a [u8],
+    out: &'a mut [u8],
+    base: usize,
+    i: usize,
+    s: usize,
+) -> i64
     requires { ⌜ Reads (now text) (now code) (now values) (now inputs) (now out) base i × Says (now code) i 146 s ⌝ }
     ensures { λ r. ⌜ WasRead (now (text .entry)) (now (code .entry)) (now (values .entry)) (now (values .exit)) (now (inputs .entry)) (now (out .entry)) (now (out .exit)) base i r ⌝ }
 {
