@@ -16,3 +16,4 @@ pub mod Targeting
 pub mod Worths
 pub mod Writing
 pub mod DataWords
+pub mod Arguments

@@ -12,12 +12,13 @@ use Rattle.paper.specs.Terms.{Term}
 use Rattle.paper.specs.States.{State, Rooms, Effect, failing, withCalls, withValues}
 use Rattle.paper.specs.Running.{codeAt, stepNamed, newCall}
 use Rattle.cells.specs.Words.{wordsOf}
-use Rattle.code.specs.Cells.{opAt, placeAt, valueAt, windowOf, windowCells}
+use Rattle.code.specs.Cells.{opAt, placeAt, valueAt, firstWindow, windowCells}
 use Rattle.code.specs.Steps.{Head, noHead, numbered, parts, aCallTarget, aProcedureCall, anyArguments}
 use Rattle.code.specs.Holds.{dataIn}
 use Rattle.code.specs.Windows.{stepsCell, writtenCell, usedCell, resultIn, stateIn}
 use Rattle.evaluation.specs.Answers.{firstError, callWords, Counts, memoryOf, Stores}
 use Rattle.runner.specs.Live.{codeOfCall, ResultFits, Live}
+use Rattle.runner.specs.Reading.{Stored}
 use Rattle.runner.specs.Machine.{Here, Comes, effectAt, entered, depthLimit, LastWindow}
 use Rattle.runner.specs.Targets.{Aims}
 
@@ -76,7 +77,8 @@ pub record Passes (code values : List ℕ) (base first end : ℕ) (room : Bool) 
   pub few : length es ≤ callWords
   pub stores : Stores values base
   pub cells : room ≡ true → (base + windowCells + callWords) * 4 ≤ length values
-  pub low : base < 16384
+  pub low : firstWindow ≤ base
+  pub high : base < 16384
   pub code-size : length code ≡ 65536
   pub small : end < 65536
 
@@ -85,6 +87,12 @@ pub data Argued (c : Counts) (values after : List ℕ) (base : ℕ) (room : Bool
   given : (zs : List ℤ) → length zs ≡ length es → ((S : State) (go : List ℤ → Effect) → withValues (memoryOf c values base) es S go ≡ go zs)
       → (room ≡ true → Holding (wordsOf after) (base + windowCells) zs) → closes < 65536 → r ≡ pos (closes + 65536 * (base + windowCells + length es)) → Argued c values after base room es closes r
   raises : (e : ℕ) → e < 65536 → ((S : State) (go : List ℤ → Effect) → withValues (memoryOf c values base) es S go ≡ failing e S) → r ≡ pos (firstError + e) → Argued c values after base room es closes r
+
+-- One of them, with its value: it goes to a cell where there is room.
+pub record Let (before after : List ℕ) (room : Bool) (n : ℕ) (v : ℤ) : Type 0 where
+  pub long : length after ≡ length before
+  pub stored : room ≡ true → Stored before after n v
+  pub same : room ≡ false → after ≡ before
 
 pub record Passed (code values after : List ℕ) (base first end : ℕ) (room : Bool) (r : ℤ) : Type 0 where
   pub long : length after ≡ length values

@@ -1,14 +1,18 @@
 // Calls and returns.
 ghost use mathlib.Core.Path.{_≡_};
-ghost use Prim.Native.Nat.{_+_, _*_, _≤_};
+ghost use mathlib.Core.Bool.{true};
+ghost use Prim.Native.Nat.{_+_, _*_, _<_, _≤_};
 ghost use lib.Dec.{eqb};
 ghost use lib.ListN.{length};
+ghost use lib.IntN.{pos};
 ghost use mir.Syntax.{w32};
 ghost use mir.Val.{SFits};
 ghost use Rattle.cells.specs.Words.{wordsOf};
 ghost use Rattle.code.specs.Cells.{opAt};
+ghost use Rattle.code.specs.Steps.{aNextArgument};
 ghost use Rattle.code.specs.Windows.{stepsCell};
-ghost use Rattle.runner.specs.Calling.{Filled, Idled, Starts, Started};
+ghost use Rattle.runner.specs.Calling.{Filled, Idled, Starts, Started, Let, Passes, Passed};
+use super::choices::worth;
 use super::reading::head;
 use super::reading::link;
 use super::reading::place;
@@ -19,8 +23,23 @@ const ENDS: usize = 64;
 
 const STEPS: usize = 128;
 
+// an answer from here on is an error's
+const FIRST_ERROR: i64 = 4294967296;
+
+// what an answer that is no error has in its low half counts to
+const HALF: usize = 65536;
+
+// cells of a window
+const WINDOW: usize = 240;
+
+// words of the code store
+const WORDS: usize = 8192;
+
 // a head has its value above its op
 const OPS: u32 = 256;
+
+// a comma between two arguments
+const NEXT_ARGUMENT: u32 = 159;
 
 // VAR or CONST of a routine
 const DATUM: u32 = 160;
@@ -71,4 +90,68 @@ pub fn start_words<'a>(code: &'a [u8], values: &'a mut [u8], first: usize, at: u
         w = head(code, q);
     }
     start_loops(values, n, place(code, q));
+}
+
+// ---- arguments
+
+// Two numbers in one.
+fn packed(low: usize, high: usize) -> i64
+    requires { ⌜ (low < 65536) × (high < 65536) ⌝ }
+    ensures { λ r. ⌜ r ≡ pos (low + 65536 * high) ⌝ }
+{
+    (low + HALF * high) as i64
+}
+
+// A comma stands at a word, which may lie past the store.
+fn is_comma(code: &[u8], b: usize) -> bool
+    requires { ⌜ length (now code) ≡ 65536 ⌝ }
+    ensures { λ r. ⌜ r ≡ eqb (opAt (wordsOf (now (code .entry))) b) aNextArgument ⌝ }
+{
+    if b < WORDS {
+        return head(code, b) % OPS == NEXT_ARGUMENT;
+    }
+    false
+}
+
+fn pass(values: &mut [u8], room: bool, n: usize, v: i64)
+    requires { ⌜ (room ≡ true → n * 4 + 4 ≤ length (now values)) × SFits w32 v ⌝ }
+    ensures { λ _. ⌜ Let (now (values .entry)) (now (values .exit)) room n v ⌝ }
+{
+    if room {
+        put(values, n, v);
+    }
+}
+
+// The arguments from `first` on, the first of which ends at `end`, into the next window where there is room: the word that closes them and, above it, the
+// cell behind them; or an error.
+fn arguments<'a>(
+    code: &'a [u8],
+    values: &'a mut [u8],
+    base: usize,
+    room: bool,
+    first: usize,
+    end: usize,
+) -> i64
+    requires { ⌜ Passes (now code) (now values) base first end room ⌝ }
+    ensures { λ r. ⌜ Passed (now (code .entry)) (now (values .entry)) (now (values .exit)) base first end room r ⌝ }
+{
+    let mut n = base + WINDOW;
+    if first == end {
+        return packed(end, n);
+    }
+    let mut a = first;
+    let mut b = end;
+    loop {
+        let v = worth(&*code, &*values, base, a, b);
+        if FIRST_ERROR <= v {
+            return v;
+        }
+        pass(values, room, n, v);
+        n += 1;
+        if !is_comma(code, b) {
+            return packed(b, n);
+        }
+        a = b + 1;
+        b = link(code, b);
+    }
 }
