@@ -17,3 +17,5 @@ pub mod Worths
 pub mod Writing
 pub mod DataWords
 pub mod Arguments
+pub mod Fresh
+pub mod Entering

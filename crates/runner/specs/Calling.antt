@@ -106,6 +106,7 @@ module _ (code values : List ℕ) (base i : ℕ) where
   -- The routine that the word `callee` names is called with these arguments, which stand in the next window: n is the cell behind them.
   pub record Enters (h : Here code values base i) (callee result after n : ℕ) : Type 0 where
     pub deep : suc (h .d) < depthLimit
+    pub inside : callee * 8 + 8 ≤ length code
     pub k : ℕ
     pub number : k ≡ numbered (h .R) (valueAt (wordsOf code) callee)
     pub there : k < length (h .R)
@@ -116,6 +117,10 @@ module _ (code values : List ℕ) (base i : ℕ) where
     pub next : n ≡ base + windowCells + length zs
     pub result-fits : ResultFits (h .P) (h .R) (wordsOf values) (suc (h .d)) result
     pub after-is : after ≡ stepNamed (codeOfCall (h .P) (h .R) (wordsOf values) (h .d) .steps) i .after
+
+  pub record MayEnter (callee result after n : ℕ) : Type 0 where
+    pub here : Here code values base i
+    pub enters : Enters here callee result after n
 
   -- It is the newest call then, and its caller waits.
   pub record Entered (callee result after n : ℕ) (after′ : List ℕ) (r : ℤ) : Type 0 where

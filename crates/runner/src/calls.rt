@@ -11,12 +11,13 @@ ghost use Rattle.cells.specs.Words.{wordsOf};
 ghost use Rattle.code.specs.Cells.{opAt};
 ghost use Rattle.code.specs.Steps.{aNextArgument};
 ghost use Rattle.code.specs.Windows.{stepsCell};
-ghost use Rattle.runner.specs.Calling.{Filled, Idled, Starts, Started, Let, Passes, Passed};
+ghost use Rattle.runner.specs.Calling.{Filled, Idled, Starts, Started, Let, Passes, Passed, MayEnter, Entered};
 use super::choices::worth;
 use super::reading::head;
 use super::reading::link;
 use super::reading::place;
 use super::reading::put;
+use super::reading::value;
 
 // where the loop of a word of the call ends, and its step, counted from the word's cell
 const ENDS: usize = 64;
@@ -29,8 +30,21 @@ const FIRST_ERROR: i64 = 4294967296;
 // what an answer that is no error has in its low half counts to
 const HALF: usize = 65536;
 
-// cells of a window
+// a step of a routine that is entered has this in the half above it
+const ENTERED: usize = 65536;
+
+// cells of a window, and some of them
 const WINDOW: usize = 240;
+
+const ROUTINE: usize = 192;
+
+const WAITS: usize = 193;
+
+const AFTER: usize = 194;
+
+const FAILED: usize = 195;
+
+const RESULT: usize = 196;
 
 // words of the code store
 const WORDS: usize = 8192;
@@ -154,4 +168,30 @@ fn arguments<'a>(
         a = b + 1;
         b = link(code, b);
     }
+}
+
+// ---- calls
+
+// A call of the routine that the word `callee` names, of which the arguments stand in the next window up to the cell n.
+fn enter<'a>(
+    code: &'a [u8],
+    values: &'a mut [u8],
+    base: usize,
+    i: usize,
+    callee: usize,
+    result: usize,
+    after: usize,
+    n: usize,
+) -> i64
+    requires { ⌜ MayEnter (now code) (now values) base i callee result after n ⌝ }
+    ensures { λ r. ⌜ Entered (now (code .entry)) (now (values .entry)) base i callee result after n (now (values .exit)) r ⌝ }
+{
+    cells::put(values, base + WAITS, i as u32);
+    cells::put(values, base + AFTER, after as u32);
+    let h = value(code, callee);
+    start_words(code, values, link(code, h), n);
+    cells::put(values, base + WINDOW + ROUTINE, h as u32);
+    cells::put(values, base + WINDOW + FAILED, 0);
+    cells::put(values, base + WINDOW + RESULT, result as u32);
+    (ENTERED + place(code, h)) as i64
 }
