@@ -19,3 +19,6 @@ pub mod DataWords
 pub mod Arguments
 pub mod Fresh
 pub mod Entering
+pub mod Called
+pub mod CallSteps
+pub mod CallTargets

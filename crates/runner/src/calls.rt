@@ -9,15 +9,18 @@ ghost use mir.Syntax.{w32};
 ghost use mir.Val.{SFits};
 ghost use Rattle.cells.specs.Words.{wordsOf};
 ghost use Rattle.code.specs.Cells.{opAt};
-ghost use Rattle.code.specs.Steps.{aNextArgument};
+ghost use Rattle.code.specs.Steps.{aNextArgument, aProcedureCall, aCallTarget};
 ghost use Rattle.code.specs.Windows.{stepsCell};
-ghost use Rattle.runner.specs.Calling.{Filled, Idled, Starts, Started, Let, Passes, Passed, MayEnter, Entered};
+ghost use Rattle.runner.specs.Machine.{Here, Calls};
+ghost use Rattle.runner.specs.Targets.{WordAt, ArrayAt};
+ghost use Rattle.runner.specs.Calling.{Filled, Idled, Starts, Started, Let, Passes, Passed, MayEnter, Entered, CallsFor, CalledFor, Deepest};
 use super::choices::worth;
 use super::reading::head;
 use super::reading::link;
 use super::reading::place;
 use super::reading::put;
 use super::reading::value;
+use super::targets::element;
 
 // where the loop of a word of the call ends, and its step, counted from the word's cell
 const ENDS: usize = 64;
@@ -32,6 +35,9 @@ const HALF: usize = 65536;
 
 // a step of a routine that is entered has this in the half above it
 const ENTERED: usize = 65536;
+
+// a call beyond the depth has this in the half above its callee
+const LACKS: usize = 262144;
 
 // cells of a window, and some of them
 const WINDOW: usize = 240;
@@ -194,4 +200,91 @@ fn enter<'a>(
     cells::put(values, base + WINDOW + FAILED, 0);
     cells::put(values, base + WINDOW + RESULT, result as u32);
     (ENTERED + place(code, h)) as i64
+}
+
+// A procedure call; `last` is the window of the last call that the depth lent admits.
+pub fn call_of<'a>(code: &'a [u8], values: &'a mut [u8], base: usize, last: usize, i: usize) -> i64
+    requires { ⌜ Here (now code) (now values) base i × Deepest last × (opAt (wordsOf (now code)) i ≡ aProcedureCall) ⌝ }
+    ensures { λ r. ⌜ Calls (now (code .entry)) (now (values .entry)) (now (values .exit)) base last i r ⌝ }
+{
+    let room = base < last;
+    let r = arguments(code, values, base, room, i + 1, link(code, i));
+    if FIRST_ERROR <= r {
+        return r;
+    }
+    if room {
+        let k = r as usize;
+        return enter(code, values, base, i, i, 0, link(code, k % HALF), k / HALF);
+    }
+    (LACKS + i) as i64
+}
+
+// A call for a result that goes to a cell. Its target is followed by the word `next`, and that by the callee.
+fn call_to<'a>(
+    code: &'a [u8],
+    values: &'a mut [u8],
+    base: usize,
+    last: usize,
+    i: usize,
+    next: usize,
+    cell: usize,
+) -> i64
+    requires { ⌜ CallsFor (now code) (now values) base i last next cell ⌝ }
+    ensures { λ r. ⌜ CalledFor (now (code .entry)) (now (values .entry)) base i last next cell (now (values .exit)) r ⌝ }
+{
+    let room = base < last;
+    let callee = next + 1;
+    let r = arguments(code, values, base, room, callee + 2, link(code, callee));
+    if FIRST_ERROR <= r {
+        return r;
+    }
+    if room {
+        return enter(
+            code,
+            values,
+            base,
+            i,
+            callee,
+            cell + 1,
+            link(code, i),
+            r as usize / HALF,
+        );
+    }
+    (LACKS + callee) as i64
+}
+
+// A call for a result that goes to the word at a cell.
+pub fn call_for<'a>(
+    code: &'a [u8],
+    values: &'a mut [u8],
+    base: usize,
+    last: usize,
+    i: usize,
+    cell: usize,
+) -> i64
+    requires { ⌜ Here (now code) (now values) base i × Deepest last × WordAt (wordsOf (now code)) base aCallTarget i cell ⌝ }
+    ensures { λ r. ⌜ Calls (now (code .entry)) (now (values .entry)) (now (values .exit)) base last i r ⌝ }
+{
+    call_to(code, values, base, last, i, i + 1, cell)
+}
+
+// A call for a result that goes to an element of the array whose first cell is given.
+pub fn call_for_element<'a>(
+    code: &'a [u8],
+    values: &'a mut [u8],
+    base: usize,
+    last: usize,
+    i: usize,
+    first: usize,
+    size: usize,
+) -> i64
+    requires { ⌜ Here (now code) (now values) base i × Deepest last × ArrayAt (wordsOf (now code)) base aCallTarget i first size ⌝ }
+    ensures { λ r. ⌜ Calls (now (code .entry)) (now (values .entry)) (now (values .exit)) base last i r ⌝ }
+{
+    let end = link(code, i + 1);
+    let k = element(&*code, &*values, base, first, size, i, end);
+    if k < FIRST_ERROR {
+        return call_to(code, values, base, last, i, end + 1, k as usize);
+    }
+    k
 }
