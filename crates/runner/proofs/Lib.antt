@@ -22,3 +22,4 @@ pub mod Entering
 pub mod Called
 pub mod CallSteps
 pub mod CallTargets
+pub mod Returning

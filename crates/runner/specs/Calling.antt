@@ -13,7 +13,7 @@ use Rattle.paper.specs.States.{State, Rooms, Effect, failing, withCalls, withVa
 use Rattle.paper.specs.Running.{codeAt, stepNamed, newCall}
 use Rattle.cells.specs.Words.{wordsOf}
 use Rattle.code.specs.Cells.{opAt, placeAt, valueAt, firstWindow, windowCells}
-use Rattle.code.specs.Steps.{Head, noHead, numbered, parts, aCallTarget, aProcedureCall, anyArguments}
+use Rattle.code.specs.Steps.{Head, noHead, numbered, parts, aCallTarget, aProcedureCall, aReturn, anEnd, anyArguments}
 use Rattle.code.specs.Holds.{dataIn}
 use Rattle.code.specs.Windows.{stepsCell, writtenCell, usedCell, resultIn, stateIn}
 use Rattle.evaluation.specs.Answers.{firstError, callWords, Counts, memoryOf, Stores}
@@ -152,3 +152,15 @@ module _ (code values : List ℕ) (base i : ℕ) where
 pub record Deepest (last : ℕ) : Type 0 where
   pub rooms : Rooms
   pub is : LastWindow rooms last
+
+-- ---- returns
+-- A result goes to the cell that is 1 below, or nowhere.
+pub record Gave (before after : List ℕ) (cell : ℕ) (v : ℤ) : Type 0 where
+  pub long : length after ≡ length before
+  pub stored : (c : ℕ) → cell ≡ suc c → Stored before after c v
+  pub same : cell ≡ 0 → after ≡ before
+
+-- The step returns, and gives nothing back.
+pub data Returns (C : List ℕ) (i : ℕ) : Type 0 where
+  byReturn : opAt C i ≡ aReturn → Returns C i
+  byEnd : opAt C i ≡ anEnd → Returns C i

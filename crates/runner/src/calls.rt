@@ -11,9 +11,10 @@ ghost use Rattle.cells.specs.Words.{wordsOf};
 ghost use Rattle.code.specs.Cells.{opAt};
 ghost use Rattle.code.specs.Steps.{aNextArgument, aProcedureCall, aCallTarget};
 ghost use Rattle.code.specs.Windows.{stepsCell};
-ghost use Rattle.runner.specs.Machine.{Here, Calls};
+ghost use Rattle.runner.specs.Machine.{Here, Performs, Calls};
+ghost use Rattle.runner.specs.Choices.{Says};
 ghost use Rattle.runner.specs.Targets.{WordAt, ArrayAt};
-ghost use Rattle.runner.specs.Calling.{Filled, Idled, Starts, Started, Let, Passes, Passed, MayEnter, Entered, CallsFor, CalledFor, Deepest};
+ghost use Rattle.runner.specs.Calling.{Filled, Idled, Starts, Started, Let, Passes, Passed, MayEnter, Entered, CallsFor, CalledFor, Deepest, Gave, Returns};
 use super::choices::worth;
 use super::reading::head;
 use super::reading::link;
@@ -36,8 +37,16 @@ const HALF: usize = 65536;
 // a step of a routine that is entered has this in the half above it
 const ENTERED: usize = 65536;
 
+// the same for a caller's step, and the end of main
+const LEFT: usize = 131072;
+
+const MAIN_RETURNED: i64 = 196609;
+
 // a call beyond the depth has this in the half above its callee
 const LACKS: usize = 262144;
+
+// the window of main
+const FIRST: usize = 1024;
 
 // cells of a window, and some of them
 const WINDOW: usize = 240;
@@ -287,4 +296,45 @@ pub fn call_for_element<'a>(
         return call_to(code, values, base, last, i, end + 1, k as usize);
     }
     k
+}
+
+// ---- returns
+
+// A result into the cell that is 1 below; 0 is nowhere.
+fn give(values: &mut [u8], cell: usize, v: i64)
+    requires { ⌜ (cell * 4 ≤ length (now values)) × SFits w32 v ⌝ }
+    ensures { λ _. ⌜ Gave (now (values .entry)) (now (values .exit)) cell v ⌝ }
+{
+    if cell != 0 {
+        put(values, cell - 1, v);
+    }
+}
+
+// RETURN with a value, which stands from the next word up to t.
+pub fn give_back<'a>(code: &'a [u8], values: &'a mut [u8], base: usize, i: usize, t: usize) -> i64
+    requires { ⌜ Here (now code) (now values) base i × Says (now code) i 137 t ⌝ }
+    ensures { λ r. ⌜ Performs (now (code .entry)) (now (values .entry)) (now (values .exit)) base i r ⌝ }
+{
+    let v = worth(&*code, &*values, base, i + 1, t);
+    if FIRST_ERROR <= v {
+        return v;
+    }
+    if base == FIRST {
+        return MAIN_RETURNED;
+    }
+    let next = cells::get(values, base - WINDOW + AFTER) as usize;
+    let cell = cells::get(values, base + RESULT) as usize;
+    give(values, cell, v);
+    (LEFT + next) as i64
+}
+
+// A return with nothing: the caller goes on.
+pub fn back<'a>(code: &'a [u8], values: &'a [u8], base: usize, i: usize) -> i64
+    requires { ⌜ Here (now code) (now values) base i × Returns (wordsOf (now code)) i ⌝ }
+    ensures { λ r. ⌜ Performs (now (code .entry)) (now (values .entry)) (now (values .entry)) base i r ⌝ }
+{
+    if base == FIRST {
+        return MAIN_RETURNED;
+    }
+    (LEFT + cells::get(values, base - WINDOW + AFTER) as usize) as i64
 }

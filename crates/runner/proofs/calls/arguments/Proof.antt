@@ -4,13 +4,6 @@ use Rattle.cells.specs.Words.{wordsOf}
 use Rattle.runner.proofs.Arguments.{Passing, argumentsLeft, next-small, none-passed, passing, pass-stores, pass-stands, pass-inside, pass-next, pass-fails, pass-small, pass-last, pass-on, comma-inside, comma-next, comma-less}
 use Rattle.runner.proofs.calls.arguments.Statement.{statement}
 use Rattle.runner.proofs.calls.arguments.Tie as tie
-use Rattle.runner.proofs.calls.arguments.Reads as reads
-use Rattle.runner.proofs.calls.arguments.Lts as lts
-use Rattle.runner.proofs.calls.is_comma.Reads as is-comma-reads
-use Rattle.runner.proofs.calls.packed.Reads as packed-reads
-use Rattle.runner.proofs.calls.pass.Reads as pass-reads
-use Rattle.runner.proofs.choices.worth.Reads as worth-reads
-use Rattle.runner.proofs.reading.link.Reads as link-reads
 
 abbrev Inv-loop : tie.InvT-loop
 Inv-loop code values₀ base room first end n₀ a₀ b₀ values n a b = Passing code values₀ base room first end values a b n

@@ -3,9 +3,6 @@ use Rattle.runner.proofs.StoreSteps.{after-fits}
 use Rattle.runner.proofs.CallTargets.{word-calls, word-called}
 use Rattle.runner.proofs.calls.call_for.Statement.{statement}
 use Rattle.runner.proofs.calls.call_for.Tie as tie
-use Rattle.runner.proofs.calls.call_for.Reads as reads
-use Rattle.runner.proofs.calls.call_for.Lts as lts
-use Rattle.runner.proofs.calls.call_to.Reads as call-to-reads
 
 add-call-to : tie.Need-add-call-to
 add-call-to c = search (needs, after-fits)

@@ -4,11 +4,6 @@ use Rattle.runner.proofs.Current.{stores-here}
 use Rattle.runner.proofs.CallTargets.{call-brace, call-indexes, call-signed, call-small, element-calls, element-called, element-refused}
 use Rattle.runner.proofs.calls.call_for_element.Statement.{statement}
 use Rattle.runner.proofs.calls.call_for_element.Tie as tie
-use Rattle.runner.proofs.calls.call_for_element.Reads as reads
-use Rattle.runner.proofs.calls.call_for_element.Lts as lts
-use Rattle.runner.proofs.calls.call_to.Reads as call-to-reads
-use Rattle.runner.proofs.reading.link.Reads as link-reads
-use Rattle.runner.proofs.targets.element.Reads as element-reads
 
 add-link : tie.Need-add-link
 add-link c = search (needs, after-fits)

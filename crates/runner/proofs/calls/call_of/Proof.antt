@@ -4,11 +4,6 @@ use Rattle.runner.proofs.StoreSteps.{after-fits}
 use Rattle.runner.proofs.CallSteps.{of-passes, of-fails, of-signed, of-fits, of-closes, of-may, of-enters, of-lacks, of-lack-fits, of-lack-signed}
 use Rattle.runner.proofs.calls.call_of.Statement.{statement}
 use Rattle.runner.proofs.calls.call_of.Tie as tie
-use Rattle.runner.proofs.calls.call_of.Reads as reads
-use Rattle.runner.proofs.calls.call_of.Lts as lts
-use Rattle.runner.proofs.calls.arguments.Reads as arguments-reads
-use Rattle.runner.proofs.calls.enter.Reads as enter-reads
-use Rattle.runner.proofs.reading.link.Reads as link-reads
 
 add-arguments : tie.Need-add-arguments
 add-arguments c = search (needs, after-fits)

@@ -2,11 +2,6 @@ use borrow.Author.Needs.{needs}
 use Rattle.runner.proofs.CallSteps.{to-callee, to-first, to-inside, to-step, to-cell, to-lack-fits, to-lack-signed, to-passes, to-fails, to-signed, to-fits, to-may, to-enters, to-lacks}
 use Rattle.runner.proofs.calls.call_to.Statement.{statement}
 use Rattle.runner.proofs.calls.call_to.Tie as tie
-use Rattle.runner.proofs.calls.call_to.Reads as reads
-use Rattle.runner.proofs.calls.call_to.Lts as lts
-use Rattle.runner.proofs.calls.arguments.Reads as arguments-reads
-use Rattle.runner.proofs.calls.enter.Reads as enter-reads
-use Rattle.runner.proofs.reading.link.Reads as link-reads
 
 add-callee : tie.Need-add-callee
 add-callee c = search (needs, to-callee)

@@ -2,13 +2,6 @@ use borrow.Author.Needs.{needs}
 use Rattle.runner.proofs.Entering.{step-fits, after-fits, result-fits, word-inside, enter-starts, enter-done}
 use Rattle.runner.proofs.calls.enter.Statement.{statement}
 use Rattle.runner.proofs.calls.enter.Tie as tie
-use Rattle.runner.proofs.calls.enter.Reads as reads
-use Rattle.runner.proofs.calls.enter.Lts as lts
-use Rattle.cells.proofs.put.Reads as put-reads
-use Rattle.runner.proofs.calls.start_words.Reads as start-words-reads
-use Rattle.runner.proofs.reading.link.Reads as link-reads
-use Rattle.runner.proofs.reading.place.Reads as place-reads
-use Rattle.runner.proofs.reading.value.Reads as value-reads
 
 add-put : tie.Need-add-put
 add-put c = search needs

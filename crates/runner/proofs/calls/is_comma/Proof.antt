@@ -2,9 +2,6 @@ use borrow.Author.Needs.{needs}
 use Rattle.runner.proofs.Arguments.{comma-in, comma-past}
 use Rattle.runner.proofs.calls.is_comma.Statement.{statement}
 use Rattle.runner.proofs.calls.is_comma.Tie as tie
-use Rattle.runner.proofs.calls.is_comma.Reads as reads
-use Rattle.runner.proofs.calls.is_comma.Lts as lts
-use Rattle.runner.proofs.reading.head.Reads as head-reads
 
 head-requires : tie.Need-head-requires
 head-requires c κs = search needs

@@ -2,8 +2,6 @@ use borrow.Author.Needs.{needs}
 use Rattle.runner.proofs.Arguments.{packed-is}
 use Rattle.runner.proofs.calls.packed.Statement.{statement}
 use Rattle.runner.proofs.calls.packed.Tie as tie
-use Rattle.runner.proofs.calls.packed.Reads as reads
-use Rattle.runner.proofs.calls.packed.Lts as lts
 
 mul-result : tie.Need-mul-result
 mul-result c = search needs

@@ -2,9 +2,6 @@ use borrow.Author.Needs.{needs}
 use Rattle.runner.proofs.Arguments.{let-stored, let-same}
 use Rattle.runner.proofs.calls.pass.Statement.{statement}
 use Rattle.runner.proofs.calls.pass.Tie as tie
-use Rattle.runner.proofs.calls.pass.Reads as reads
-use Rattle.runner.proofs.calls.pass.Lts as lts
-use Rattle.runner.proofs.reading.put.Reads as put-reads
 
 put-requires : tie.Need-put-requires
 put-requires c κs = search (needs, c .before .before .before .pre .0)
