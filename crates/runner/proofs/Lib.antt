@@ -15,3 +15,4 @@ pub mod Storing
 pub mod Targeting
 pub mod Worths
 pub mod Looping
+pub mod Entering
