@@ -54,6 +54,13 @@ unfolding stepWorth
 step-error M none e q = apart (cc)
 step-error M (some t) e q = worth-error M t e q
 
+-- ---- values have 32 bits
+pub value-small : (code values : List ℕ) (base from to : ℕ) (r : ℤ) → SFits w64 r → Evaluated code values base from to r → leZ (pos firstError) (read r) ≡ false → SFits w32 (read r)
+value-small code values base from to r s v k = rw (toZ-ofZ s) (v .small (told-value r s k))
+
+pub step-small : (code values : List ℕ) (base s : ℕ) (r : ℤ) → SFits w64 r → StepGiven code values base s r → leZ (pos firstError) (read r) ≡ false → SFits w32 (read r)
+step-small code values base s r f v k = rw (toZ-ofZ f) (v .small (told-value r f k))
+
 module _ (code values : List ℕ) (base i t : ℕ) (q : Says code i 150 t) where
   module _ (h : Here code values base i) where
     abbrev m-here : ℕ
@@ -118,6 +125,13 @@ module _ (code values : List ℕ) (base i t : ℕ) (q : Says code i 150 t) where
     pub for-end-inside : (base + t + 64) * 4 + 4 ≤ length values
     for-end-inside = omega (arith, for-inside)
 
+    module _ (v1 : List ℕ) (z1 : ℤ) (d1 : Stored values v1 (base + t + 64) z1) where
+      pub first-inside : (base + t + 128) * 4 + 4 ≤ length v1
+      first-inside = omega (arith, for-inside, d1 .long)
+
+      pub second-inside : (v2 : List ℕ) (z2 : ℤ) → Stored v1 v2 (base + t + 128) z2 → (base + t) * 4 + 4 ≤ length v2
+      second-inside v2 z2 d2 = omega (arith, for-inside, d1 .long, d2 .long)
+
     -- ---- what it does
     module _ (rooms : Rooms) (steps : ℕ) (out : List ℕ) where
       abbrev S : State
@@ -155,6 +169,26 @@ module _ (code values : List ℕ) (base i t : ℕ) (q : Says code i 150 t) where
     pub to-in : Here code values base i → to * 8 + 8 ≤ length code
     to-in h = rw (pt .same) (to-at h)
 
+    module _ (s : ℕ) (ps : Part halfEnd (linkAt (wordsOf code) to) s) where
+      s-is : s ≡ linkAt (wordsOf code) (linkAt (wordsOf code) (i + 2))
+      s-is = ps .same ∙ ap (linkAt (wordsOf code)) (pt .same)
+
+      to-reads : (h : Here code values base i) → termIn (m-here h) (n-here h) (wordsOf code) (to + 1) s ≡ some (enter h .to)
+      to-reads h = ap₂ (λ (x y : ℕ). termIn (m-here h) (n-here h) (wordsOf code) (x + 1) y) (pt .same) s-is ∙ enter h .to-reads
+
+      pub to-stands : Here code values base i → Stands code (to + 1) s
+      to-stands h = stands-here code values base i h (to + 1) s (enter h .to) (to-reads h)
+
+      pub for-steps : Here code values base i → ForSteps code s
+      for-steps h = steps-at h s s-is
+
+      -- the DO
+      pub do-in : Here code values base i → (o : ℕ) → DoAt code s o → o * 8 + 8 ≤ length code
+      do-in h o po =
+          let e = po .is (counts-here code values base i h) (codeHere code values base i h .function) (h .text) (h .R) (enter h .c) (enter h .d)
+          (ap (forStep (m-here h) (n-here h) (codeHere code values base i h .function) (h .text) (h .R) (wordsOf code)) s-is ∙ enter h .step) in
+          omega (arith, do-at h)
+
     module _ (a : ℤ) (sa : SFits w64 a) (va : Evaluated code values base (i + 3) to a) where
       pub from-fails : leZ (pos firstError) (read a) ≡ true → Performs code values values base i (read a)
       from-fails k =
@@ -169,23 +203,11 @@ module _ (code values : List ℕ) (base i t : ℕ) (q : Says code i 150 t) where
             (value-here code values base i h rooms steps out (i + 3) to (enter h .from) (from-reads h) a va (told-value a sa ka))
 
         module _ (s : ℕ) (ps : Part halfEnd (linkAt (wordsOf code) to) s) where
-          s-is : s ≡ linkAt (wordsOf code) (linkAt (wordsOf code) (i + 2))
-          s-is = ps .same ∙ ap (linkAt (wordsOf code)) (pt .same)
-
-          to-reads : (h : Here code values base i) → termIn (m-here h) (n-here h) (wordsOf code) (to + 1) s ≡ some (enter h .to)
-          to-reads h = ap₂ (λ (x y : ℕ). termIn (m-here h) (n-here h) (wordsOf code) (x + 1) y) (pt .same) s-is ∙ enter h .to-reads
-
-          pub to-stands : Here code values base i → Stands code (to + 1) s
-          to-stands h = stands-here code values base i h (to + 1) s (enter h .to) (to-reads h)
-
-          pub for-steps : Here code values base i → ForSteps code s
-          for-steps h = steps-at h s s-is
-
           module _ (b : ℤ) (sb : SFits w64 b) (vb : Evaluated code values base (to + 1) s b) where
             pub to-fails : leZ (pos firstError) (read b) ≡ true → Performs code values values base i (read b)
             to-fails k =
                 rw (toZ-ofZ sb) (performs code values base i b (λ h rooms steps out.
-                failed-here code values base i h rooms steps out (to + 1) s (enter h .to) (to-reads h) b vb (told-error b sb k) (to-then h rooms steps out a) _ (from-given h rooms steps out)))
+                failed-here code values base i h rooms steps out (to + 1) s (enter h .to) (to-reads s ps h) b vb (told-error b sb k) (to-then h rooms steps out a) _ (from-given h rooms steps out)))
 
             module _ (kb : leZ (pos firstError) (read b) ≡ false) where
               to-given : (h : Here code values base i) (rooms : Rooms) (steps : ℕ) (out : List ℕ)
@@ -193,7 +215,7 @@ module _ (code values : List ℕ) (base i t : ℕ) (q : Says code i 150 t) where
               unfolding withValue to-then
               to-given h rooms steps out =
                   from-given h rooms steps out ∙ ap (λ (y : Value). withValue y (S h rooms steps out) (to-then h rooms steps out a))
-                  (value-here code values base i h rooms steps out (to + 1) s (enter h .to) (to-reads h) b vb (told-value b sb kb))
+                  (value-here code values base i h rooms steps out (to + 1) s (enter h .to) (to-reads s ps h) b vb (told-value b sb kb))
 
               module _ (c : ℤ) (sc : SFits w64 c) (vc : StepGiven code values base s c) where
                 step-worth : (h : Here code values base i) (rooms : Rooms) (steps : ℕ) (out : List ℕ) → stepWorth (M h rooms steps out) (enter h .c) ≡ decoded c
@@ -201,7 +223,7 @@ module _ (code values : List ℕ) (base i t : ℕ) (q : Says code i 150 t) where
                     ap (λ (N : Memory). stepWorth N (enter h .c)) (memory-here code values base i h rooms steps out)
                     ∙ sym (ap (λ (x : ℕ). stepWorth (memoryIn (m-here h) (n-here h) (wordsOf values) x) (enter h .c)) (h .base-is))
                     ∙ sym (vc .is (counts-here code values base i h) (codeHere code values base i h .function) (h .text) (h .R) (enter h .c) (enter h .d)
-                    (ap (forStep (m-here h) (n-here h) (codeHere code values base i h .function) (h .text) (h .R) (wordsOf code)) s-is ∙ enter h .step))
+                    (ap (forStep (m-here h) (n-here h) (codeHere code values base i h .function) (h .text) (h .R) (wordsOf code)) (s-is s ps) ∙ enter h .step))
 
                 pub step-fails : leZ (pos firstError) (read c) ≡ true → Performs code values values base i (read c)
                 unfolding withValue
@@ -227,22 +249,7 @@ module _ (code values : List ℕ) (base i t : ℕ) (q : Says code i 150 t) where
                   c-small : SFits w32 c
                   c-small = vc .small (told-value c sc kc)
 
-                  pub start-small : SFits w32 (read a)
-                  start-small = rw (toZ-ofZ sa) a-small
-
-                  pub end-small : SFits w32 (read b)
-                  end-small = rw (toZ-ofZ sb) b-small
-
-                  pub step-small : SFits w32 (read c)
-                  step-small = rw (toZ-ofZ sc) c-small
-
                   module _ (v1 v2 : List ℕ) (d1 : Stored values v1 (base + t + 64) (read b)) (d2 : Stored v1 v2 (base + t + 128) (read c)) where
-                    pub first-inside : Here code values base i → (base + t + 128) * 4 + 4 ≤ length v1
-                    first-inside h = omega (arith, for-inside h, d1 .long)
-
-                    pub second-inside : Here code values base i → (base + t) * 4 + 4 ≤ length v2
-                    second-inside h = omega (arith, for-inside h, d1 .long, d2 .long)
-
                     -- the store with the loop in it
                     Y-is : wordsOf v2 ≡ set (set (wordsOf values) (base + t + 64) (ofZ w32 b)) (base + t + 128) (ofZ w32 c)
                     Y-is =
@@ -332,11 +339,4 @@ module _ (code values : List ℕ) (base i t : ℕ) (q : Says code i 150 t) where
                           k-is : (h : Here code values base i) → k ≡ valueAt (wordsOf code) (enter h .d)
                           k-is h =
                               p .same ∙ ap (valueAt (wordsOf code)) (po .is (counts-here code values base i h) (codeHere code values base i h .function) (h .text) (h .R) (enter h .c) (enter h .d)
-                              (ap (forStep (m-here h) (n-here h) (codeHere code values base i h .function) (h .text) (h .R) (wordsOf code)) s-is ∙ enter h .step))
-
-          -- the DO
-          pub do-in : Here code values base i → (o : ℕ) → DoAt code s o → o * 8 + 8 ≤ length code
-          do-in h o po =
-              let e = po .is (counts-here code values base i h) (codeHere code values base i h .function) (h .text) (h .R) (enter h .c) (enter h .d)
-              (ap (forStep (m-here h) (n-here h) (codeHere code values base i h .function) (h .text) (h .R) (wordsOf code)) s-is ∙ enter h .step) in
-              omega (arith, do-at h)
+                              (ap (forStep (m-here h) (n-here h) (codeHere code values base i h .function) (h .text) (h .R) (wordsOf code)) (s-is s ps) ∙ enter h .step))
