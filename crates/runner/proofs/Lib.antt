@@ -16,3 +16,5 @@ pub mod Targeting
 pub mod Worths
 pub mod Looping
 pub mod Entering
+pub mod Selecting
+pub mod TestSteps

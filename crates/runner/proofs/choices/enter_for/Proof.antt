@@ -1,15 +1,6 @@
 use borrow.Author.Needs.{needs}
 use Rattle.runner.proofs.choices.enter_for.Statement.{statement}
 use Rattle.runner.proofs.choices.enter_for.Tie as tie
-use Rattle.runner.proofs.choices.enter_for.Reads as reads
-use Rattle.runner.proofs.choices.enter_for.Lts as lts
-use Rattle.runner.proofs.choices.do_of.Reads as do-of-reads
-use Rattle.runner.proofs.choices.passes.Reads as passes-reads
-use Rattle.runner.proofs.choices.step_of.Reads as step-of-reads
-use Rattle.runner.proofs.choices.worth.Reads as worth-reads
-use Rattle.runner.proofs.reading.link.Reads as link-reads
-use Rattle.runner.proofs.reading.put.Reads as put-reads
-use Rattle.runner.proofs.reading.value.Reads as value-reads
 use native.Mathlib.Omega.{arith}
 use Rattle.runner.proofs.Current.{stores-here}
 use Rattle.runner.proofs.Choosing.{word-in}
