@@ -15,6 +15,6 @@ pub mod Storing
 pub mod Targeting
 pub mod Worths
 pub mod Looping
-pub mod Entering
+pub mod ForHeads
 pub mod Selecting
 pub mod TestSteps

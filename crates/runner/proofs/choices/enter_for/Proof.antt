@@ -4,7 +4,7 @@ use Rattle.runner.proofs.choices.enter_for.Tie as tie
 use native.Mathlib.Omega.{arith}
 use Rattle.runner.proofs.Current.{stores-here}
 use Rattle.runner.proofs.Choosing.{word-in}
-use Rattle.runner.proofs.Entering.{from-in, for-inside, for-end-inside, from-stands, to-in, from-fails, to-stands, for-steps, to-fails, step-fails, value-small, step-small, first-inside, second-inside, for-skips, for-enters, do-in}
+use Rattle.runner.proofs.ForHeads.{from-in, for-inside, for-end-inside, from-stands, to-in, from-fails, to-stands, for-steps, to-fails, step-fails, value-small, step-small, first-inside, second-inside, for-skips, for-enters, do-in}
 
 add-link : tie.Need-add-link
 add-link c = omega (arith, word-in _ _ _ _ (c .before .before .pre .0))

@@ -4,7 +4,7 @@ use Rattle.runner.proofs.choices.select.Tie as tie
 use native.Mathlib.Omega.{arith}
 use Rattle.runner.proofs.Current.{stores-here}
 use Rattle.runner.proofs.Choosing.{word-in}
-use Rattle.runner.proofs.Entering.{value-small}
+use Rattle.runner.proofs.ForHeads.{value-small}
 use Rattle.runner.proofs.TestSteps.{test-stands, test-cases, test-fails, test-goes}
 
 add-worth : tie.Need-add-worth
