@@ -4,3 +4,4 @@ pub mod Machine
 pub mod Runs
 pub mod Targets
 pub mod Choices
+pub mod Calling
