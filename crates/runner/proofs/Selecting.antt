@@ -26,6 +26,7 @@ use Rattle.evaluation.proofs.Numbers.{same-bits}
 use Rattle.evaluation.proofs.Operators.{sum-fits}
 use Rattle.runner.specs.Reading.{halfEnd, Part}
 use Rattle.runner.specs.Choices.{Cases, Matches}
+use Rattle.runner.proofs.Actions.{first-is, second-is}
 use Rattle.runner.proofs.Hops.{hops, hops-on, hops-end, hops-more, hops-less}
 
 -- ---- the measure
@@ -38,12 +39,6 @@ most = 67117057
 
 abbrev pub wordsLeft : List ℕ → ℕ → ℕ
 wordsLeft code j = hops (further (wordsOf code)) (linkAt (wordsOf code)) most j
-
-first-is : {A B : Type 0} (a : A) (b : B) (x : A × B) → some (a, b) ≡ some x → x .0 ≡ a
-first-is {A} {B} a b x e = sym (ap (λ (y : A × B). y .0) (same-some (a, b) x e))
-
-second-is : {A B : Type 0} (a : A) (b : B) (x : A × B) → some (a, b) ≡ some x → x .1 ≡ b
-second-is {A} {B} a b x e = sym (ap (λ (y : A × B). y .1) (same-some (a, b) x e))
 
 module _ (m n : ℕ) (function : Bool) (text : List ℕ) (R : List Head) (C : List ℕ) where
   abbrev values : (fuel step i : ℕ) → Option (List ℤ × ℕ)
