@@ -287,10 +287,9 @@ module _ (code values : List ℕ) (base i : ℕ) where
     pub to-step : i * 8 + 8 ≤ length code
     to-step = here.step-in code values base i (cf .here)
 
-    pub to-cell : Fits w64 (cell + 1)
-    to-cell = record {
-      fits = omega (arith, cf .aims .cell-is, cf .here .base-is, cf .here .deep, cell-most (length (cf .here .P .words)) (wordsOfCall (codeOfCall (cf .here .P) (cf .here .R) (wordsOf values) (cf .here .d))) base (cf .aims .w) 1 (cf .aims .fits) (cf .here .holds .room) (here.routine-holds code values base i (cf .here) .room));
-    }
+    pub to-cell : cell < 1048576
+    to-cell =
+        omega (arith, cf .aims .cell-is, cf .here .base-is, cf .here .deep, cell-most (length (cf .here .P .words)) (wordsOfCall (codeOfCall (cf .here .P) (cf .here .R) (wordsOf values) (cf .here .d))) base (cf .aims .w) 1 (cf .aims .fits) (cf .here .holds .room) (here.routine-holds code values base i (cf .here) .room))
 
     pub to-lack-fits : Fits w64 (262144 + (next + 1))
     to-lack-fits = record { fits = omega (arith, callee-at, cf .here .code-size) }

@@ -1,4 +1,5 @@
 use borrow.Author.Needs.{needs}
+use native.Mathlib.Omega.{arith}
 use Rattle.runner.proofs.CallSteps.{to-callee, to-first, to-inside, to-step, to-cell, to-lack-fits, to-lack-signed, to-passes, to-fails, to-signed, to-fits, to-may, to-enters, to-lacks}
 use Rattle.runner.proofs.calls.call_to.Statement.{statement}
 use Rattle.runner.proofs.calls.call_to.Tie as tie
@@ -22,7 +23,7 @@ returns : tie.Need-returns
 returns c = search (needs, to-fails)
 
 add-enter : tie.Need-add-enter
-add-enter c = search (needs, to-cell)
+add-enter c = omega (arith, to-cell _ _ _ _ _ _ _ (c .before .before .before .before .before .before .before .before .before .before .pre))
 
 link-requires-2 : tie.Need-link-requires-2
 link-requires-2 c κs = search (needs, to-step)
