@@ -64,16 +64,16 @@ module _ (code values : List ℕ) (base i : ℕ) where
   }
 
   module _ (t : ℕ) (go : Going) (d : (h : Here code values base i) → Deciding t go h) where
-    decided-stands : Here code values base i → Stands code (i + 1) t
+    pub decided-stands : Here code values base i → Stands code (i + 1) t
     decided-stands h = stands-here code values base i h (i + 1) t (d h .e) (d h .reads)
 
     module _ (r : ℤ) (s : SFits w64 r) (v : Evaluated code values base (i + 1) t r) where
-      decided-fails : leZ (pos firstError) (read r) ≡ true → Performs code values values base i (read r)
+      pub decided-fails : leZ (pos firstError) (read r) ≡ true → Performs code values values base i (read r)
       decided-fails k =
           rw (toZ-ofZ s) (performs code values base i r (λ h rooms steps out.
           failed-here code values base i h rooms steps out (i + 1) t (d h .e) (d h .reads) r v (told-error r s k) (go h rooms steps out) _ (d h .effect rooms steps out)))
 
-      decided : leZ (pos firstError) (read r) ≡ false → (h : Here code values base i) (rooms : Rooms) (steps : ℕ) (out : List ℕ)
+      pub decided : leZ (pos firstError) (read r) ≡ false → (h : Here code values base i) (rooms : Rooms) (steps : ℕ) (out : List ℕ)
           → effectAt (h .P) (h .R) rooms (wordsOf values) (h .d) i steps out ≡ go h rooms steps out r
       unfolding withValue
       decided k h rooms steps out =

@@ -19,7 +19,7 @@ module _ (more : ℕ → Bool) (next : ℕ → ℕ) where
   hops-end f j t = rw (t, hops)
 
   -- where the fuel is enough, more is no more hops
-  hops-more : (f g j : ℕ) → hops f j < f → f ≤ g → hops g j ≡ hops f j
+  pub hops-more : (f g j : ℕ) → hops f j < f → f ≤ g → hops g j ≡ hops f j
   unfolding hops
   hops-more zero g j h k = absurd (omega arith)
   hops-more (suc f) zero j h k = absurd (omega arith)

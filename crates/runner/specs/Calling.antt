@@ -12,12 +12,13 @@ use Rattle.paper.specs.Terms.{Term}
 use Rattle.paper.specs.States.{State, Rooms, Effect, failing, withCalls, withValues}
 use Rattle.paper.specs.Running.{codeAt, stepNamed, newCall}
 use Rattle.cells.specs.Words.{wordsOf}
-use Rattle.code.specs.Cells.{opAt, placeAt, valueAt, windowOf, windowCells}
-use Rattle.code.specs.Steps.{Head, noHead, numbered, parts, aCallTarget, aProcedureCall, anyArguments}
+use Rattle.code.specs.Cells.{opAt, placeAt, valueAt, firstWindow, windowCells}
+use Rattle.code.specs.Steps.{Head, noHead, numbered, parts, aCallTarget, aProcedureCall, aReturn, anEnd, anyArguments}
 use Rattle.code.specs.Holds.{dataIn}
 use Rattle.code.specs.Windows.{stepsCell, writtenCell, usedCell, resultIn, stateIn}
 use Rattle.evaluation.specs.Answers.{firstError, callWords, Counts, memoryOf, Stores}
 use Rattle.runner.specs.Live.{codeOfCall, ResultFits, Live}
+use Rattle.runner.specs.Reading.{Stored}
 use Rattle.runner.specs.Machine.{Here, Comes, effectAt, entered, depthLimit, LastWindow}
 use Rattle.runner.specs.Targets.{Aims}
 
@@ -76,7 +77,8 @@ pub record Passes (code values : List ℕ) (base first end : ℕ) (room : Bool) 
   pub few : length es ≤ callWords
   pub stores : Stores values base
   pub cells : room ≡ true → (base + windowCells + callWords) * 4 ≤ length values
-  pub low : base < 16384
+  pub low : firstWindow ≤ base
+  pub high : base < 16384
   pub code-size : length code ≡ 65536
   pub small : end < 65536
 
@@ -85,6 +87,12 @@ pub data Argued (c : Counts) (values after : List ℕ) (base : ℕ) (room : Bool
   given : (zs : List ℤ) → length zs ≡ length es → ((S : State) (go : List ℤ → Effect) → withValues (memoryOf c values base) es S go ≡ go zs)
       → (room ≡ true → Holding (wordsOf after) (base + windowCells) zs) → closes < 65536 → r ≡ pos (closes + 65536 * (base + windowCells + length es)) → Argued c values after base room es closes r
   raises : (e : ℕ) → e < 65536 → ((S : State) (go : List ℤ → Effect) → withValues (memoryOf c values base) es S go ≡ failing e S) → r ≡ pos (firstError + e) → Argued c values after base room es closes r
+
+-- One of them, with its value: it goes to a cell where there is room.
+pub record Let (before after : List ℕ) (room : Bool) (n : ℕ) (v : ℤ) : Type 0 where
+  pub long : length after ≡ length before
+  pub stored : room ≡ true → Stored before after n v
+  pub same : room ≡ false → after ≡ before
 
 pub record Passed (code values after : List ℕ) (base first end : ℕ) (room : Bool) (r : ℤ) : Type 0 where
   pub long : length after ≡ length values
@@ -98,6 +106,7 @@ module _ (code values : List ℕ) (base i : ℕ) where
   -- The routine that the word `callee` names is called with these arguments, which stand in the next window: n is the cell behind them.
   pub record Enters (h : Here code values base i) (callee result after n : ℕ) : Type 0 where
     pub deep : suc (h .d) < depthLimit
+    pub inside : callee * 8 + 8 ≤ length code
     pub k : ℕ
     pub number : k ≡ numbered (h .R) (valueAt (wordsOf code) callee)
     pub there : k < length (h .R)
@@ -108,6 +117,10 @@ module _ (code values : List ℕ) (base i : ℕ) where
     pub next : n ≡ base + windowCells + length zs
     pub result-fits : ResultFits (h .P) (h .R) (wordsOf values) (suc (h .d)) result
     pub after-is : after ≡ stepNamed (codeOfCall (h .P) (h .R) (wordsOf values) (h .d) .steps) i .after
+
+  pub record MayEnter (callee result after n : ℕ) : Type 0 where
+    pub here : Here code values base i
+    pub enters : Enters here callee result after n
 
   -- It is the newest call then, and its caller waits.
   pub record Entered (callee result after n : ℕ) (after′ : List ℕ) (r : ℤ) : Type 0 where
@@ -139,3 +152,15 @@ module _ (code values : List ℕ) (base i : ℕ) where
 pub record Deepest (last : ℕ) : Type 0 where
   pub rooms : Rooms
   pub is : LastWindow rooms last
+
+-- ---- returns
+-- A result goes to the cell that is 1 below, or nowhere.
+pub record Gave (before after : List ℕ) (cell : ℕ) (v : ℤ) : Type 0 where
+  pub long : length after ≡ length before
+  pub stored : (c : ℕ) → cell ≡ suc c → Stored before after c v
+  pub same : cell ≡ 0 → after ≡ before
+
+-- The step returns, and gives nothing back.
+pub data Returns (C : List ℕ) (i : ℕ) : Type 0 where
+  byReturn : opAt C i ≡ aReturn → Returns C i
+  byEnd : opAt C i ≡ anEnd → Returns C i

@@ -6,9 +6,6 @@ use mir.Val.{toZ}
 use Rattle.runner.proofs.Writing.{Filling, fill-start, fill-inside, fill-on, fill-end, filled-read}
 use Rattle.runner.proofs.calls.fill.Statement.{statement}
 use Rattle.runner.proofs.calls.fill.Tie as tie
-use Rattle.runner.proofs.calls.fill.Reads as reads
-use Rattle.runner.proofs.calls.fill.Lts as lts
-use Rattle.runner.proofs.reading.put.Reads as put-reads
 
 abbrev Inv-loop : tie.InvT-loop
 Inv-loop values₀ at count v k₀ values k = Filling values₀ values at count (toZ w64 v) k

@@ -4,9 +4,6 @@ use native.Mathlib.Omega.{arith}
 use Rattle.runner.proofs.Writing.{Idling, idle-start, idle-inside, idle-inside-ends, idle-inside-steps, idle-on, idle-end}
 use Rattle.runner.proofs.calls.start_loops.Statement.{statement}
 use Rattle.runner.proofs.calls.start_loops.Tie as tie
-use Rattle.runner.proofs.calls.start_loops.Reads as reads
-use Rattle.runner.proofs.calls.start_loops.Lts as lts
-use Rattle.runner.proofs.reading.put.Reads as put-reads
 
 abbrev Inv-loop : tie.InvT-loop
 Inv-loop values₀ at fors k₀ values k = Idling values₀ values at fors k

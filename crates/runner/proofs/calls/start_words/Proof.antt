@@ -4,13 +4,6 @@ use Rattle.cells.specs.Words.{wordsOf}
 use Rattle.runner.proofs.DataWords.{Starting, dataLeft, starts-in, starts-begin, datum-in, number-fits, number-small, datum-room, datum-next, datum-less, datum-on, fors-room, started}
 use Rattle.runner.proofs.calls.start_words.Statement.{statement}
 use Rattle.runner.proofs.calls.start_words.Tie as tie
-use Rattle.runner.proofs.calls.start_words.Reads as reads
-use Rattle.runner.proofs.calls.start_words.Lts as lts
-use Rattle.runner.proofs.calls.fill.Reads as fill-reads
-use Rattle.runner.proofs.calls.start_loops.Reads as start-loops-reads
-use Rattle.runner.proofs.reading.head.Reads as head-reads
-use Rattle.runner.proofs.reading.link.Reads as link-reads
-use Rattle.runner.proofs.reading.place.Reads as place-reads
 
 abbrev Inv-loop : tie.InvT-loop
 Inv-loop code values₀ first at q₀ n₀ w₀ values q n w = Starting code values₀ values first at q n w

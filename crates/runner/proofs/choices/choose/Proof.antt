@@ -1,12 +1,6 @@
 use borrow.Author.Needs.{needs}
 use Rattle.runner.proofs.choices.choose.Statement.{statement}
 use Rattle.runner.proofs.choices.choose.Tie as tie
-use Rattle.runner.proofs.choices.choose.Reads as reads
-use Rattle.runner.proofs.choices.choose.Lts as lts
-use Rattle.runner.proofs.choices.worth.Reads as worth-reads
-use Rattle.runner.proofs.reading.head.Reads as head-reads
-use Rattle.runner.proofs.reading.link.Reads as link-reads
-use Rattle.runner.proofs.reading.value.Reads as value-reads
 use native.Mathlib.Omega.{arith}
 use Rattle.runner.proofs.Conditions.{conditionsLeft, Trying, starts, tries-store, tries, tries-in, then-in, behind-in, condition-fails, condition-holds, none-holds, tries-next, tries-less}
 

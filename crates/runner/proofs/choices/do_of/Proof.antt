@@ -1,10 +1,6 @@
 use borrow.Author.Needs.{needs}
 use Rattle.runner.proofs.choices.do_of.Statement.{statement}
 use Rattle.runner.proofs.choices.do_of.Tie as tie
-use Rattle.runner.proofs.choices.do_of.Reads as reads
-use Rattle.runner.proofs.choices.do_of.Lts as lts
-use Rattle.runner.proofs.reading.head.Reads as head-reads
-use Rattle.runner.proofs.reading.link.Reads as link-reads
 use Rattle.runner.proofs.Looping.{do-behind, do-here}
 
 head-requires : tie.Need-head-requires

@@ -1,135 +1,100 @@
 use borrow.Author.Needs.{needs}
 use Rattle.runner.proofs.choices.enter_for.Statement.{statement}
 use Rattle.runner.proofs.choices.enter_for.Tie as tie
-use Rattle.runner.proofs.choices.enter_for.Reads as reads
-use Rattle.runner.proofs.choices.enter_for.Lts as lts
-use Rattle.runner.proofs.choices.do_of.Reads as do-of-reads
-use Rattle.runner.proofs.choices.passes.Reads as passes-reads
-use Rattle.runner.proofs.choices.step_of.Reads as step-of-reads
-use Rattle.runner.proofs.choices.worth.Reads as worth-reads
-use Rattle.runner.proofs.reading.link.Reads as link-reads
-use Rattle.runner.proofs.reading.put.Reads as put-reads
-use Rattle.runner.proofs.reading.value.Reads as value-reads
+use native.Mathlib.Omega.{arith}
+use Rattle.runner.proofs.Current.{stores-here}
+use Rattle.runner.proofs.Choosing.{word-in}
+use Rattle.runner.proofs.ForHeads.{from-in, for-inside, for-end-inside, from-stands, to-in, from-fails, to-stands, for-steps, to-fails, step-fails, value-small, step-small, first-inside, second-inside, for-skips, for-enters, do-in}
 
--- src/choices.rt:178:25
 add-link : tie.Need-add-link
-add-link c = ?
+add-link c = omega (arith, word-in _ _ _ _ (c .before .before .pre .0))
 
--- src/choices.rt:178:9
 link-requires : tie.Need-link-requires
-link-requires c κs = ?
+link-requires c κs = search (needs, from-in)
 
--- src/choices.rt:179:43
 add-worth : tie.Need-add-worth
-add-worth c = ?
+add-worth c = omega (arith, word-in _ _ _ _ (c .before .before .before .before .pre .0))
 
--- src/choices.rt:179:9
 worth-requires : tie.Need-worth-requires
-worth-requires c κs = ?
+worth-requires c κs = search (needs, stores-here, from-stands)
 
--- src/choices.rt:181:9
 same-length : tie.Need-same-length
 same-length c = search needs
 
--- src/choices.rt:181:9
 returns : tie.Need-returns
-returns c = ?
+returns c = search (needs, from-fails)
 
--- src/choices.rt:183:9
 link-requires-2 : tie.Need-link-requires-2
-link-requires-2 c κs = ?
+link-requires-2 c κs = search (needs, to-in)
 
--- src/choices.rt:184:43
 add-worth-2 : tie.Need-add-worth-2
 add-worth-2 c = search needs
 
--- src/choices.rt:184:9
 worth-requires-2 : tie.Need-worth-requires-2
-worth-requires-2 c κs = ?
+worth-requires-2 c κs = search (needs, stores-here, to-stands)
 
--- src/choices.rt:186:9
 same-length-2 : tie.Need-same-length-2
 same-length-2 c = search needs
 
--- src/choices.rt:186:9
 returns-2 : tie.Need-returns-2
-returns-2 c = ?
+returns-2 c = search (needs, to-fails)
 
--- src/choices.rt:188:9
 step-of-requires : tie.Need-step-of-requires
-step-of-requires c κs = ?
+step-of-requires c κs = (stores-here _ _ _ _ (c .before .before .before .before .before .before .before .before .before .before .before .pre .0), for-steps _ _ _ _ _ (c .before .before .before .before .before .before .before .before .before .before .before .pre .1) _ (c .before .before .before .before .before .before .before .before .link .ensures) _ (c .before .before .before .before .link2 .ensures) (c .before .before .before .before .before .before .before .before .before .before .before .pre .0))
 
--- src/choices.rt:190:9
 same-length-3 : tie.Need-same-length-3
 same-length-3 c = search needs
 
--- src/choices.rt:190:9
 returns-3 : tie.Need-returns-3
-returns-3 c = ?
+returns-3 c = search (needs, step-fails)
 
--- src/choices.rt:192:13
 add-k : tie.Need-add-k
-add-k c = ?
+add-k c = omega (arith, for-inside _ _ _ _ _ (c .before .before .before .before .before .before .before .before .before .before .before .before .before .pre .1) (c .before .before .before .before .before .before .before .before .before .before .before .before .before .pre .0))
 
--- src/choices.rt:193:17
 add-put : tie.Need-add-put
-add-put c = ?
+add-put c = omega (arith, for-inside _ _ _ _ _ (c .before .before .before .before .before .before .before .before .before .before .before .before .before .before .pre .1) (c .before .before .before .before .before .before .before .before .before .before .before .before .before .before .pre .0))
 
--- src/choices.rt:193:5
 put-requires : tie.Need-put-requires
-put-requires c κs = ?
+put-requires c κs = search (needs, for-end-inside, value-small)
 
--- src/choices.rt:194:17
 add-put-2 : tie.Need-add-put-2
-add-put-2 c = ?
+add-put-2 c = omega (arith, for-inside _ _ _ _ _ (c .before .before .before .before .before .before .before .before .before .before .before .before .before .before .before .before .before .before .pre .1) (c .before .before .before .before .before .before .before .before .before .before .before .before .before .before .before .before .before .before .pre .0))
 
--- src/choices.rt:194:5
 put-requires-2 : tie.Need-put-requires-2
-put-requires-2 c κs = ?
+put-requires-2 c κs = (first-inside _ _ _ _ _ (c .before .before .before .before .before .before .before .before .before .before .before .before .before .before .before .before .before .before .pre .1) (c .before .before .before .before .before .before .before .before .before .before .before .before .before .before .before .before .before .before .pre .0) _ _ (c .before .before .before .put .ensures), step-small _ _ _ _ (c .before .before .before .before .before .before .step-of .result) (search needs) (c .before .before .before .before .before .before .step-of .ensures) (c .before .before .before .before .before .if3 .left))
 
--- src/choices.rt:195:8
 passes-requires : tie.Need-passes-requires
 passes-requires c κs = search needs
 
--- src/choices.rt:196:9
 put-requires-3 : tie.Need-put-requires-3
-put-requires-3 c κs = ?
+put-requires-3 c κs = (second-inside _ _ _ _ _ (c .before .before .before .before .before .before .before .before .before .before .before .before .before .before .before .before .before .before .before .before .before .before .before .before .pre .1) (c .before .before .before .before .before .before .before .before .before .before .before .before .before .before .before .before .before .before .before .before .before .before .before .before .pre .0) _ _ (c .before .before .before .before .before .before .before .before .before .put .ensures) _ _ (c .before .before .before .before .before .put2 .ensures), value-small _ _ _ _ _ (c .before .before .before .before .before .before .before .before .before .before .before .before .before .before .before .before .before .before .before .worth .result) (search needs) (c .before .before .before .before .before .before .before .before .before .before .before .before .before .before .before .before .before .before .before .worth .ensures) (c .before .before .before .before .before .before .before .before .before .before .before .before .before .before .before .before .before .before .if1 .left))
 
--- src/choices.rt:197:28
 do-of-requires : tie.Need-do-of-requires
-do-of-requires c κs = ?
+do-of-requires c κs = for-steps _ _ _ _ _ (c .before .before .before .before .before .before .before .before .before .before .before .before .before .before .before .before .before .before .before .before .before .before .before .before .before .before .before .pre .1) _ (c .before .before .before .before .before .before .before .before .before .before .before .before .before .before .before .before .before .before .before .before .before .before .before .before .link .ensures) _ (c .before .before .before .before .before .before .before .before .before .before .before .before .before .before .before .before .before .before .before .before .link2 .ensures) (c .before .before .before .before .before .before .before .before .before .before .before .before .before .before .before .before .before .before .before .before .before .before .before .before .before .before .before .pre .0)
 
--- src/choices.rt:197:16
 value-requires : tie.Need-value-requires
-value-requires c κs = ?
+value-requires c κs = do-in _ _ _ _ _ (c .before .before .before .before .before .before .before .before .before .before .before .before .before .before .before .before .before .before .before .before .before .before .before .before .before .before .before .before .pre .1) _ (c .before .before .before .before .before .before .before .before .before .before .before .before .before .before .before .before .before .before .before .before .before .before .before .before .before .link .ensures) _ (c .before .before .before .before .before .before .before .before .before .before .before .before .before .before .before .before .before .before .before .before .before .link2 .ensures) (c .before .before .before .before .before .before .before .before .before .before .before .before .before .before .before .before .before .before .before .before .before .before .before .before .before .before .before .before .pre .0) _ (c .do-of .ensures)
 
--- src/choices.rt:197:16
 cast-result : tie.Need-cast-result
 cast-result c = search needs
 
--- src/choices.rt:197:9
 same-length-4 : tie.Need-same-length-4
 same-length-4 c = search needs
 
--- src/choices.rt:197:9
 returns-4 : tie.Need-returns-4
-returns-4 c = ?
+returns-4 c = for-enters _ _ _ _ _ (c .before .before .before .before .before .before .before .before .before .before .before .before .before .before .before .before .before .before .before .before .before .before .before .before .before .before .before .before .before .pre .1) _ (c .before .before .before .before .before .before .before .before .before .before .before .before .before .before .before .before .before .before .before .before .before .before .before .before .before .before .link .ensures) (c .before .before .before .before .before .before .before .before .before .before .before .before .before .before .before .before .before .before .before .before .before .before .before .before .worth .result) (search needs) (c .before .before .before .before .before .before .before .before .before .before .before .before .before .before .before .before .before .before .before .before .before .before .before .before .worth .ensures) (c .before .before .before .before .before .before .before .before .before .before .before .before .before .before .before .before .before .before .before .before .before .before .before .if1 .left) _ (c .before .before .before .before .before .before .before .before .before .before .before .before .before .before .before .before .before .before .before .before .before .before .link2 .ensures) (c .before .before .before .before .before .before .before .before .before .before .before .before .before .before .before .before .before .before .before .before .worth2 .result) (search needs) (c .before .before .before .before .before .before .before .before .before .before .before .before .before .before .before .before .before .before .before .before .worth2 .ensures) (c .before .before .before .before .before .before .before .before .before .before .before .before .before .before .before .before .before .before .before .if2 .left) (c .before .before .before .before .before .before .before .before .before .before .before .before .before .before .before .before .before .step-of .result) (search needs) (c .before .before .before .before .before .before .before .before .before .before .before .before .before .before .before .before .before .step-of .ensures) (c .before .before .before .before .before .before .before .before .before .before .before .before .before .before .before .before .if3 .left) _ _ (c .before .before .before .before .before .before .before .before .before .before .before .before .before .before .put .ensures) (c .before .before .before .before .before .before .before .before .before .before .put2 .ensures) _ (c .before .before .before .before .before .before .before .passes .ensures) (c .before .before .before .before .before .before .if4 .taken) (c .before .before .before .before .before .before .before .before .before .before .before .before .before .before .before .before .before .before .before .before .before .before .before .before .before .before .before .before .before .pre .0) _ (c .before .before .before .before .put3 .ensures) _ (c .before .do-of .ensures) _ (c .value .ensures)
 
--- src/choices.rt:199:5
 link-requires-3 : tie.Need-link-requires-3
-link-requires-3 c κs = ?
+link-requires-3 c κs = search (needs, word-in)
 
--- src/choices.rt:199:5
 cast-result-2 : tie.Need-cast-result-2
 cast-result-2 c = search needs
 
--- src/choices.rt:174:1
 same-length-5 : tie.Need-same-length-5
 same-length-5 c = search needs
 
--- src/choices.rt:174:1
 returns-5 : tie.Need-returns-5
-returns-5 c = ?
+returns-5 c = search (needs, for-skips)
 
 pub enter-for-spec : {M : Type 1} → statement M
 enter-for-spec =

@@ -1,12 +1,6 @@
 use borrow.Author.Needs.{needs}
 use Rattle.runner.proofs.choices.for_test.Statement.{statement}
 use Rattle.runner.proofs.choices.for_test.Tie as tie
-use Rattle.runner.proofs.choices.for_test.Reads as reads
-use Rattle.runner.proofs.choices.for_test.Lts as lts
-use Rattle.runner.proofs.choices.passes.Reads as passes-reads
-use Rattle.runner.proofs.reading.link.Reads as link-reads
-use Rattle.runner.proofs.reading.load.Reads as load-reads
-use Rattle.runner.proofs.reading.put.Reads as put-reads
 use Rattle.runner.proofs.Choosing.{word-in}
 use Rattle.runner.proofs.Looping.{for-inside, for-end-inside, for-word-inside, for-word-in, for-sum, for-small, for-again, for-done}
 

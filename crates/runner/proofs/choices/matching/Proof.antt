@@ -1,61 +1,49 @@
+use mir.Syntax.{w64}
+use mir.Val.{toZ}
 use borrow.Author.Needs.{needs}
+use Rattle.runner.proofs.Selecting.{Searching, wordsLeft}
 use Rattle.runner.proofs.choices.matching.Statement.{statement}
 use Rattle.runner.proofs.choices.matching.Tie as tie
-use Rattle.runner.proofs.choices.matching.Reads as reads
-use Rattle.runner.proofs.choices.matching.Lts as lts
-use Rattle.runner.proofs.reading.head.Reads as head-reads
-use Rattle.runner.proofs.reading.link.Reads as link-reads
-use Rattle.runner.proofs.reading.place.Reads as place-reads
+use Rattle.runner.proofs.Selecting.{key-fits, search-begins, search-in, search-ends, search-finds, search-on, search-less}
 
 abbrev Inv-loop : tie.InvT-loop
-Inv-loop code first v key j₀ j = ?
+Inv-loop code first v key j₀ j = Searching code first (toZ w64 v) j
 
 abbrev μ-loop : tie.MeasureT-loop
-μ-loop code first v key j₀ j = ?
+μ-loop code first v key j₀ j = wordsLeft code j
 
--- src/choices.rt:209:15
 add-key : tie.Need-add-key Inv-loop μ-loop
-add-key c = ?
+add-key c = search (needs, key-fits)
 
--- src/choices.rt:211:5
 loop-holds : tie.Need-loop-holds Inv-loop μ-loop
-loop-holds c = ?
+loop-holds c = search (needs, search-begins)
 
--- src/choices.rt:212:13
 head-requires : tie.Need-head-requires Inv-loop μ-loop
-head-requires c κs = ?
+head-requires c κs = search (needs, search-in)
 
--- src/choices.rt:214:13
 place-requires : tie.Need-place-requires Inv-loop μ-loop
-place-requires c κs = ?
+place-requires c κs = search (needs, search-in)
 
--- src/choices.rt:214:13
 returns : tie.Need-returns Inv-loop μ-loop
-returns c = ?
+returns c = search (needs, search-ends)
 
--- src/choices.rt:216:12
 cast-if2 : tie.Need-cast-if2 Inv-loop μ-loop
-cast-if2 c = ?
+cast-if2 c = search needs
 
--- src/choices.rt:217:13
 place-requires-2 : tie.Need-place-requires-2 Inv-loop μ-loop
-place-requires-2 c κs = ?
+place-requires-2 c κs = search (needs, search-in)
 
--- src/choices.rt:217:13
 returns-2 : tie.Need-returns-2 Inv-loop μ-loop
-returns-2 c = ?
+returns-2 c = search (needs, search-finds)
 
--- src/choices.rt:219:9
 link-requires : tie.Need-link-requires Inv-loop μ-loop
-link-requires c κs = ?
+link-requires c κs = search (needs, search-in)
 
--- src/choices.rt:211:5
 loop-less : tie.Need-loop-less Inv-loop μ-loop
-loop-less c = ?
+loop-less c = search (needs, search-less)
 
--- src/choices.rt:211:5
 loop-again : tie.Need-loop-again Inv-loop μ-loop
-loop-again c = ?
+loop-again c = search (needs, search-on)
 
 pub matching-spec : {M : Type 1} → statement M
 matching-spec =

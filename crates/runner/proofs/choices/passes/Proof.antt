@@ -1,8 +1,6 @@
 use borrow.Author.Needs.{needs}
 use Rattle.runner.proofs.choices.passes.Statement.{statement}
 use Rattle.runner.proofs.choices.passes.Tie as tie
-use Rattle.runner.proofs.choices.passes.Reads as reads
-use Rattle.runner.proofs.choices.passes.Lts as lts
 use Rattle.runner.proofs.Looping.{passes-down, passes-up}
 
 returns : tie.Need-returns

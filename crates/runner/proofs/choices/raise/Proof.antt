@@ -1,9 +1,6 @@
 use borrow.Author.Needs.{needs}
 use Rattle.runner.proofs.choices.raise.Statement.{statement}
 use Rattle.runner.proofs.choices.raise.Tie as tie
-use Rattle.runner.proofs.choices.raise.Reads as reads
-use Rattle.runner.proofs.choices.raise.Lts as lts
-use Rattle.runner.proofs.choices.worth.Reads as worth-reads
 use native.Mathlib.Omega.{arith}
 use Rattle.runner.proofs.Current.{stores-here}
 use Rattle.runner.proofs.Choosing.{word-in, raise-stands, raise-fails, raise-low, raise-high, raise-fits, raise-given}

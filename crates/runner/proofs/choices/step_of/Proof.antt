@@ -1,11 +1,6 @@
 use borrow.Author.Needs.{needs}
 use Rattle.runner.proofs.choices.step_of.Statement.{statement}
 use Rattle.runner.proofs.choices.step_of.Tie as tie
-use Rattle.runner.proofs.choices.step_of.Reads as reads
-use Rattle.runner.proofs.choices.step_of.Lts as lts
-use Rattle.runner.proofs.choices.worth.Reads as worth-reads
-use Rattle.runner.proofs.reading.head.Reads as head-reads
-use Rattle.runner.proofs.reading.link.Reads as link-reads
 use Rattle.runner.proofs.Looping.{step-stands, step-given, step-one}
 
 head-requires : tie.Need-head-requires

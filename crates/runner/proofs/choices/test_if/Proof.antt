@@ -1,10 +1,6 @@
 use borrow.Author.Needs.{needs}
 use Rattle.runner.proofs.choices.test_if.Statement.{statement}
 use Rattle.runner.proofs.choices.test_if.Tie as tie
-use Rattle.runner.proofs.choices.test_if.Reads as reads
-use Rattle.runner.proofs.choices.test_if.Lts as lts
-use Rattle.runner.proofs.choices.worth.Reads as worth-reads
-use Rattle.runner.proofs.reading.link.Reads as link-reads
 use native.Mathlib.Omega.{arith}
 use Rattle.runner.proofs.Current.{stores-here}
 use Rattle.runner.proofs.Choosing.{word-in, if-stands, if-small, if-fails, if-then, if-else}

@@ -1,11 +1,6 @@
 use borrow.Author.Needs.{needs}
 use Rattle.runner.proofs.choices.test_while.Statement.{statement}
 use Rattle.runner.proofs.choices.test_while.Tie as tie
-use Rattle.runner.proofs.choices.test_while.Reads as reads
-use Rattle.runner.proofs.choices.test_while.Lts as lts
-use Rattle.runner.proofs.choices.worth.Reads as worth-reads
-use Rattle.runner.proofs.reading.link.Reads as link-reads
-use Rattle.runner.proofs.reading.value.Reads as value-reads
 use native.Mathlib.Omega.{arith}
 use Rattle.runner.proofs.Current.{stores-here}
 use Rattle.runner.proofs.Choosing.{word-in, while-stands, while-body-in, while-fails, while-body, while-after}

@@ -4,11 +4,6 @@ use borrow.Author.Needs.{needs}
 use Rattle.runner.proofs.Worths.{word-in, literal-in, worth-literal, module-in, worth-module, call-in, worth-call}
 use Rattle.runner.proofs.choices.worth.Statement.{statement}
 use Rattle.runner.proofs.choices.worth.Tie as tie
-use Rattle.runner.proofs.choices.worth.Reads as reads
-use Rattle.runner.proofs.choices.worth.Lts as lts
-use Rattle.evaluation.proofs.evaluate.Reads as evaluate-reads
-use Rattle.runner.proofs.reading.head.Reads as head-reads
-use Rattle.runner.proofs.reading.load.Reads as load-reads
 
 add-if1 : tie.Need-add-if1
 add-if1 c = omega (arith, word-in (now (c .before .before .args .code)) (now (c .before .before .args .values)) (c .before .before .args .base) (c .before .before .args .from) (c .before .before .args .to) (c .before .before .pre .0) (c .before .before .pre .1))
