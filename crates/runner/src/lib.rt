@@ -4,6 +4,7 @@ pub mod choices;
 pub mod errors;
 pub mod output;
 pub mod reading;
+pub mod stepping;
 pub mod targets;
 
 // How a run ended: the ending, the offset of its place, and how many steps of the allowance are left.
