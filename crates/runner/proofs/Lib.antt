@@ -36,3 +36,4 @@ pub mod Printing
 pub mod Inputs
 pub mod PrintingOf
 pub mod Prompting
+pub mod Stepping

@@ -1,3 +1,4 @@
+use Rattle.runner.proofs.Stepping.{none-of, word-of-module, word-of-call, array-of-module, array-of-call, returns-at, ends-at, says-at, step-within, deepest, prints, writes, reads, by-performs, by-calls, by-writes, by-writes-of, by-reads, by-raise, by-exit, by-end}
 use borrow.Author.Needs.{needs}
 use Rattle.runner.proofs.step.Statement.{statement}
 use Rattle.runner.proofs.step.Tie as tie
@@ -26,7 +27,7 @@ use Rattle.runner.proofs.targets.store_element.Reads as store-element-r
 
 -- src/lib.rt:99:9
 head-requires : tie.Need-head-requires
-head-requires c κs = ?
+head-requires c κs = step-within _ _ _ _ _ _ _ (c .before .before .before .before .before .pre)
 
 -- src/lib.rt:101:13
 cast-v : tie.Need-cast-v
@@ -34,7 +35,7 @@ cast-v c = search needs
 
 -- src/lib.rt:103:16
 store-requires : tie.Need-store-requires
-store-requires c κs = ?
+store-requires c κs = (c .before .before .before .before .before .before .before .before .pre .here, word-of-module _ _ _ _ (c .before .before .head .ensures) 128 (c .before .match .keys1))
 
 -- src/lib.rt:104:45
 add-store : tie.Need-add-store
@@ -42,11 +43,11 @@ add-store c = search needs
 
 -- src/lib.rt:104:16
 store-requires-2 : tie.Need-store-requires-2
-store-requires-2 c κs = ?
+store-requires-2 c κs = (c .before .before .before .before .before .before .before .before .pre .here, word-of-call _ _ _ _ (c .before .before .head .ensures) 128 (c .before .match .keys2))
 
 -- src/lib.rt:105:16
 store-element-requires : tie.Need-store-element-requires
-store-element-requires c κs = ?
+store-element-requires c κs = (c .before .before .before .before .before .before .before .before .pre .here, array-of-module _ _ _ _ (c .before .before .head .ensures) 128 (c .before .match .keys3))
 
 -- src/lib.rt:106:53
 add-store-element : tie.Need-add-store-element
@@ -54,11 +55,11 @@ add-store-element c = search needs
 
 -- src/lib.rt:106:16
 store-element-requires-2 : tie.Need-store-element-requires-2
-store-element-requires-2 c κs = ?
+store-element-requires-2 c κs = (c .before .before .before .before .before .before .before .before .pre .here, array-of-call _ _ _ _ (c .before .before .head .ensures) 128 (c .before .match .keys4))
 
 -- src/lib.rt:107:16
 call-for-requires : tie.Need-call-for-requires
-call-for-requires c κs = ?
+call-for-requires c κs = (c .before .before .before .before .before .before .before .before .pre .here, deepest _ _ _ _ _ _ _ (c .before .before .before .before .before .before .before .before .pre), word-of-module _ _ _ _ (c .before .before .head .ensures) 132 (c .before .match .keys5))
 
 -- src/lib.rt:108:54
 add-call-for : tie.Need-add-call-for
@@ -66,11 +67,11 @@ add-call-for c = search needs
 
 -- src/lib.rt:108:16
 call-for-requires-2 : tie.Need-call-for-requires-2
-call-for-requires-2 c κs = ?
+call-for-requires-2 c κs = (c .before .before .before .before .before .before .before .before .pre .here, deepest _ _ _ _ _ _ _ (c .before .before .before .before .before .before .before .before .pre), word-of-call _ _ _ _ (c .before .before .head .ensures) 132 (c .before .match .keys6))
 
 -- src/lib.rt:109:16
 call-for-element-requires : tie.Need-call-for-element-requires
-call-for-element-requires c κs = ?
+call-for-element-requires c κs = (c .before .before .before .before .before .before .before .before .pre .here, deepest _ _ _ _ _ _ _ (c .before .before .before .before .before .before .before .before .pre), array-of-module _ _ _ _ (c .before .before .head .ensures) 132 (c .before .match .keys7))
 
 -- src/lib.rt:110:62
 add-call-for-element : tie.Need-add-call-for-element
@@ -78,7 +79,7 @@ add-call-for-element c = search needs
 
 -- src/lib.rt:110:16
 call-for-element-requires-2 : tie.Need-call-for-element-requires-2
-call-for-element-requires-2 c κs = ?
+call-for-element-requires-2 c κs = (c .before .before .before .before .before .before .before .before .pre .here, deepest _ _ _ _ _ _ _ (c .before .before .before .before .before .before .before .before .pre), array-of-call _ _ _ _ (c .before .before .head .ensures) 132 (c .before .match .keys8))
 
 -- src/lib.rt:111:16
 call-of-requires : tie.Need-call-of-requires
@@ -90,7 +91,7 @@ give-back-requires c κs = search needs
 
 -- src/lib.rt:113:16
 back-requires : tie.Need-back-requires
-back-requires c κs = ?
+back-requires c κs = (c .before .before .before .before .before .before .before .before .pre .here, returns-at _ 0 _ _ (c .before .before .head .ensures) (c .before .match .keys11))
 
 -- src/lib.rt:114:16
 raise-requires : tie.Need-raise-requires
@@ -106,15 +107,15 @@ try-next-requires c κs = search needs
 
 -- src/lib.rt:119:16
 write-requires : tie.Need-write-requires
-write-requires c κs = ?
+write-requires c κs = writes _ _ _ _ _ _ _ (c .before .before .before .before .before .before .before .before .before .pre) _ (c .before .before .before .head .ensures) (c .before .before .match .keys17)
 
 -- src/lib.rt:120:16
 write-of-requires : tie.Need-write-of-requires
-write-of-requires c κs = ?
+write-of-requires c κs = (prints _ _ _ _ _ _ _ (c .before .before .before .before .before .before .before .before .before .pre), says-at _ 0 _ _ (c .before .before .before .head .ensures) 145 (c .before .before .match .keys18))
 
 -- src/lib.rt:121:16
 read-requires : tie.Need-read-requires
-read-requires c κs = ?
+read-requires c κs = (reads _ _ _ _ _ _ _ (c .before .before .before .before .before .before .before .before .before .pre) _, says-at _ 0 _ _ (c .before .before .before .head .ensures) 146 (c .before .before .match .keys19))
 
 -- src/lib.rt:122:16
 test-if-requires : tie.Need-test-if-requires
@@ -142,7 +143,7 @@ select-requires c κs = search needs
 
 -- src/lib.rt:128:16
 back-requires-2 : tie.Need-back-requires-2
-back-requires-2 c κs = ?
+back-requires-2 c κs = (c .before .before .before .before .before .before .before .before .pre .here, ends-at _ 0 _ _ (c .before .before .head .ensures) (c .before .match .keys26))
 
 -- src/lib.rt:86:1
 same-length : tie.Need-same-length
@@ -150,7 +151,7 @@ same-length c = search needs
 
 -- src/lib.rt:86:1
 returns : tie.Need-returns
-returns c = ?
+returns c = by-performs _ _ _ _ _ _ _ (c .before .before .before .before .before .before .before .before .before .before .before .pre) _ _ _ record { sfits = c .before .before .store .ok } (c .before .before .store .ensures)
 
 -- src/lib.rt:86:1
 same-length-2 : tie.Need-same-length-2
@@ -158,7 +159,7 @@ same-length-2 c = search needs
 
 -- src/lib.rt:86:1
 returns-2 : tie.Need-returns-2
-returns-2 c = ?
+returns-2 c = by-performs _ _ _ _ _ _ _ (c .before .before .before .before .before .before .before .before .before .before .before .pre) _ _ _ record { sfits = c .before .before .store2 .ok } (c .before .before .store2 .ensures)
 
 -- src/lib.rt:86:1
 same-length-3 : tie.Need-same-length-3
@@ -166,7 +167,7 @@ same-length-3 c = search needs
 
 -- src/lib.rt:86:1
 returns-3 : tie.Need-returns-3
-returns-3 c = ?
+returns-3 c = by-performs _ _ _ _ _ _ _ (c .before .before .before .before .before .before .before .before .before .before .before .pre) _ _ _ record { sfits = c .before .before .store-element .ok } (c .before .before .store-element .ensures)
 
 -- src/lib.rt:86:1
 same-length-4 : tie.Need-same-length-4
@@ -174,7 +175,7 @@ same-length-4 c = search needs
 
 -- src/lib.rt:86:1
 returns-4 : tie.Need-returns-4
-returns-4 c = ?
+returns-4 c = by-performs _ _ _ _ _ _ _ (c .before .before .before .before .before .before .before .before .before .before .before .pre) _ _ _ record { sfits = c .before .before .store-element2 .ok } (c .before .before .store-element2 .ensures)
 
 -- src/lib.rt:86:1
 same-length-5 : tie.Need-same-length-5
@@ -182,7 +183,7 @@ same-length-5 c = search needs
 
 -- src/lib.rt:86:1
 returns-5 : tie.Need-returns-5
-returns-5 c = ?
+returns-5 c = by-calls _ _ _ _ _ _ _ (c .before .before .before .before .before .before .before .before .before .before .before .pre) _ _ _ record { sfits = c .before .before .call-for .ok } (c .before .before .call-for .ensures)
 
 -- src/lib.rt:86:1
 same-length-6 : tie.Need-same-length-6
@@ -190,7 +191,7 @@ same-length-6 c = search needs
 
 -- src/lib.rt:86:1
 returns-6 : tie.Need-returns-6
-returns-6 c = ?
+returns-6 c = by-calls _ _ _ _ _ _ _ (c .before .before .before .before .before .before .before .before .before .before .before .pre) _ _ _ record { sfits = c .before .before .call-for2 .ok } (c .before .before .call-for2 .ensures)
 
 -- src/lib.rt:86:1
 same-length-7 : tie.Need-same-length-7
@@ -198,7 +199,7 @@ same-length-7 c = search needs
 
 -- src/lib.rt:86:1
 returns-7 : tie.Need-returns-7
-returns-7 c = ?
+returns-7 c = by-calls _ _ _ _ _ _ _ (c .before .before .before .before .before .before .before .before .before .before .before .pre) _ _ _ record { sfits = c .before .before .call-for-element .ok } (c .before .before .call-for-element .ensures)
 
 -- src/lib.rt:86:1
 same-length-8 : tie.Need-same-length-8
@@ -206,7 +207,7 @@ same-length-8 c = search needs
 
 -- src/lib.rt:86:1
 returns-8 : tie.Need-returns-8
-returns-8 c = ?
+returns-8 c = by-calls _ _ _ _ _ _ _ (c .before .before .before .before .before .before .before .before .before .before .before .pre) _ _ _ record { sfits = c .before .before .call-for-element2 .ok } (c .before .before .call-for-element2 .ensures)
 
 -- src/lib.rt:86:1
 same-length-9 : tie.Need-same-length-9
@@ -214,7 +215,7 @@ same-length-9 c = search needs
 
 -- src/lib.rt:86:1
 returns-9 : tie.Need-returns-9
-returns-9 c = ?
+returns-9 c = by-calls _ _ _ _ _ _ _ (c .before .before .before .before .before .before .before .before .before .before .before .pre) _ _ _ record { sfits = c .before .before .call-of .ok } (c .before .before .call-of .ensures)
 
 -- src/lib.rt:86:1
 same-length-10 : tie.Need-same-length-10
@@ -222,7 +223,7 @@ same-length-10 c = search needs
 
 -- src/lib.rt:86:1
 returns-10 : tie.Need-returns-10
-returns-10 c = ?
+returns-10 c = by-performs _ _ _ _ _ _ _ (c .before .before .before .before .before .before .before .before .before .before .before .pre) _ _ _ record { sfits = c .before .before .give-back .ok } (c .before .before .give-back .ensures)
 
 -- src/lib.rt:86:1
 same-length-11 : tie.Need-same-length-11
@@ -230,7 +231,7 @@ same-length-11 c = search needs
 
 -- src/lib.rt:86:1
 returns-11 : tie.Need-returns-11
-returns-11 c = ?
+returns-11 c = by-performs _ _ _ _ _ _ _ (c .before .before .before .before .before .before .before .before .before .pre) _ _ _ record { sfits = c .back .ok } (c .back .ensures)
 
 -- src/lib.rt:86:1
 same-length-12 : tie.Need-same-length-12
@@ -238,15 +239,15 @@ same-length-12 c = search needs
 
 -- src/lib.rt:86:1
 returns-12 : tie.Need-returns-12
-returns-12 c = ?
+returns-12 c = by-performs _ _ _ _ _ _ _ (c .before .before .before .before .before .before .before .before .before .pre) _ _ _ record { sfits = c .raise .ok } (c .raise .ensures)
 
 -- src/lib.rt:86:1
 returns-13 : tie.Need-returns-13
-returns-13 c = ?
+returns-13 c = by-raise _ _ _ _ _ _ _ (c .before .before .before .before .before .before .before .pre) _ _ (c .before .head .ensures) (c .match .keys13)
 
 -- src/lib.rt:86:1
 returns-14 : tie.Need-returns-14
-returns-14 c = ?
+returns-14 c = by-exit _ _ _ _ _ _ _ (c .before .before .before .before .before .before .before .pre) _ _ (c .before .head .ensures) (c .match .keys14)
 
 -- src/lib.rt:86:1
 same-length-13 : tie.Need-same-length-13
@@ -254,7 +255,7 @@ same-length-13 c = search needs
 
 -- src/lib.rt:86:1
 returns-15 : tie.Need-returns-15
-returns-15 c = ?
+returns-15 c = by-performs _ _ _ _ _ _ _ (c .before .before .before .before .before .before .before .before .before .before .before .pre) _ _ _ record { sfits = c .before .before .retry .ok } (c .before .before .retry .ensures)
 
 -- src/lib.rt:86:1
 same-length-14 : tie.Need-same-length-14
@@ -262,7 +263,7 @@ same-length-14 c = search needs
 
 -- src/lib.rt:86:1
 returns-16 : tie.Need-returns-16
-returns-16 c = ?
+returns-16 c = by-performs _ _ _ _ _ _ _ (c .before .before .before .before .before .before .before .before .before .before .before .pre) _ _ _ record { sfits = c .before .before .try-next .ok } (c .before .before .try-next .ensures)
 
 -- src/lib.rt:86:1
 same-length-15 : tie.Need-same-length-15
@@ -274,7 +275,7 @@ same-length-16 c = search needs
 
 -- src/lib.rt:86:1
 returns-17 : tie.Need-returns-17
-returns-17 c = ?
+returns-17 c = by-writes _ _ _ _ _ _ _ (c .before .before .before .before .before .before .before .before .before .before .before .before .before .before .pre) _ _ _ _ record { sfits = c .before .before .before .before .write .ok } (c .before .before .before .before .write .ensures)
 
 -- src/lib.rt:86:1
 same-length-17 : tie.Need-same-length-17
@@ -286,7 +287,7 @@ same-length-18 c = search needs
 
 -- src/lib.rt:86:1
 returns-18 : tie.Need-returns-18
-returns-18 c = ?
+returns-18 c = by-writes-of _ _ _ _ _ _ _ (c .before .before .before .before .before .before .before .before .before .before .before .before .before .before .pre) _ _ _ _ record { sfits = c .before .before .before .before .write-of .ok } (c .before .before .before .before .write-of .ensures)
 
 -- src/lib.rt:86:1
 same-length-19 : tie.Need-same-length-19
@@ -298,7 +299,7 @@ same-length-20 c = search needs
 
 -- src/lib.rt:86:1
 returns-19 : tie.Need-returns-19
-returns-19 c = ?
+returns-19 c = by-reads _ _ _ _ _ _ _ (c .before .before .before .before .before .before .before .before .before .before .before .before .before .before .pre) _ _ _ _ record { sfits = c .before .before .before .before .read .ok } (c .before .before .before .before .read .ensures)
 
 -- src/lib.rt:86:1
 same-length-21 : tie.Need-same-length-21
@@ -306,7 +307,7 @@ same-length-21 c = search needs
 
 -- src/lib.rt:86:1
 returns-20 : tie.Need-returns-20
-returns-20 c = ?
+returns-20 c = by-performs _ _ _ _ _ _ _ (c .before .before .before .before .before .before .before .before .before .pre) _ _ _ record { sfits = c .test-if .ok } (c .test-if .ensures)
 
 -- src/lib.rt:86:1
 same-length-22 : tie.Need-same-length-22
@@ -314,7 +315,7 @@ same-length-22 c = search needs
 
 -- src/lib.rt:86:1
 returns-21 : tie.Need-returns-21
-returns-21 c = ?
+returns-21 c = by-performs _ _ _ _ _ _ _ (c .before .before .before .before .before .before .before .before .before .pre) _ _ _ record { sfits = c .choose .ok } (c .choose .ensures)
 
 -- src/lib.rt:86:1
 same-length-23 : tie.Need-same-length-23
@@ -322,7 +323,7 @@ same-length-23 c = search needs
 
 -- src/lib.rt:86:1
 returns-22 : tie.Need-returns-22
-returns-22 c = ?
+returns-22 c = by-performs _ _ _ _ _ _ _ (c .before .before .before .before .before .before .before .before .before .pre) _ _ _ record { sfits = c .test-while .ok } (c .test-while .ensures)
 
 -- src/lib.rt:86:1
 same-length-24 : tie.Need-same-length-24
@@ -330,7 +331,7 @@ same-length-24 c = search needs
 
 -- src/lib.rt:86:1
 returns-23 : tie.Need-returns-23
-returns-23 c = ?
+returns-23 c = by-performs _ _ _ _ _ _ _ (c .before .before .before .before .before .before .before .before .before .before .before .pre) _ _ _ record { sfits = c .before .before .enter-for .ok } (c .before .before .enter-for .ensures)
 
 -- src/lib.rt:86:1
 same-length-25 : tie.Need-same-length-25
@@ -338,7 +339,7 @@ same-length-25 c = search needs
 
 -- src/lib.rt:86:1
 returns-24 : tie.Need-returns-24
-returns-24 c = ?
+returns-24 c = by-performs _ _ _ _ _ _ _ (c .before .before .before .before .before .before .before .before .before .before .before .pre) _ _ _ record { sfits = c .before .before .for-test .ok } (c .before .before .for-test .ensures)
 
 -- src/lib.rt:86:1
 same-length-26 : tie.Need-same-length-26
@@ -346,7 +347,7 @@ same-length-26 c = search needs
 
 -- src/lib.rt:86:1
 returns-25 : tie.Need-returns-25
-returns-25 c = ?
+returns-25 c = by-performs _ _ _ _ _ _ _ (c .before .before .before .before .before .before .before .before .before .pre) _ _ _ record { sfits = c .select .ok } (c .select .ensures)
 
 -- src/lib.rt:86:1
 same-length-27 : tie.Need-same-length-27
@@ -354,11 +355,11 @@ same-length-27 c = search needs
 
 -- src/lib.rt:86:1
 returns-26 : tie.Need-returns-26
-returns-26 c = ?
+returns-26 c = by-performs _ _ _ _ _ _ _ (c .before .before .before .before .before .before .before .before .before .pre) _ _ _ record { sfits = c .back2 .ok } (c .back2 .ensures)
 
 -- src/lib.rt:86:1
 returns-27 : tie.Need-returns-27
-returns-27 c = ?
+returns-27 c = let m = c .match in by-end _ _ _ _ _ _ _ (c .before .before .before .before .before .before .before .pre) _ _ (c .before .head .ensures) (none-of _ (m .rest .0 .0 .0 .0 .0 .0 .0 .0 .0 .0 .0 .0 .0 .0 .0 .0 .0 .0 .0 .0 .0 .0 .0 .0 .0 .1) (m .rest .0 .0 .0 .0 .0 .0 .0 .0 .0 .0 .0 .0 .0 .0 .0 .0 .0 .0 .0 .0 .0 .0 .0 .0 .1) (m .rest .0 .0 .0 .0 .0 .0 .0 .0 .0 .0 .0 .0 .0 .0 .0 .0 .0 .0 .0 .0 .0 .0 .0 .1) (m .rest .0 .0 .0 .0 .0 .0 .0 .0 .0 .0 .0 .0 .0 .0 .0 .0 .0 .0 .0 .0 .0 .0 .1) (m .rest .0 .0 .0 .0 .0 .0 .0 .0 .0 .0 .0 .0 .0 .0 .0 .0 .0 .0 .0 .0 .0 .1) (m .rest .0 .0 .0 .0 .0 .0 .0 .0 .0 .0 .0 .0 .0 .0 .0 .0 .0 .0 .0 .0 .1) (m .rest .0 .0 .0 .0 .0 .0 .0 .0 .0 .0 .0 .0 .0 .0 .0 .0 .0 .0 .0 .1) (m .rest .0 .0 .0 .0 .0 .0 .0 .0 .0 .0 .0 .0 .0 .0 .0 .0 .0 .0 .1) (m .rest .0 .0 .0 .0 .0 .0 .0 .0 .0 .0 .0 .0 .0 .0 .0 .0 .0 .1) (m .rest .0 .0 .0 .0 .0 .0 .0 .0 .0 .0 .0 .0 .0 .0 .0 .0 .1) (m .rest .0 .0 .0 .0 .0 .0 .0 .0 .0 .0 .0 .0 .0 .0 .0 .1) (m .rest .0 .0 .0 .0 .0 .0 .0 .0 .0 .0 .0 .0 .0 .0 .1) (m .rest .0 .0 .0 .0 .0 .0 .0 .0 .0 .0 .0 .0 .0 .1) (m .rest .0 .0 .0 .0 .0 .0 .0 .0 .0 .0 .0 .0 .1) (m .rest .0 .0 .0 .0 .0 .0 .0 .0 .0 .0 .0 .1) (m .rest .0 .0 .0 .0 .0 .0 .0 .0 .0 .0 .1) (m .rest .0 .0 .0 .0 .0 .0 .0 .0 .0 .1) (m .rest .0 .0 .0 .0 .0 .0 .0 .0 .1) (m .rest .0 .0 .0 .0 .0 .0 .0 .1) (m .rest .0 .0 .0 .0 .0 .0 .1) (m .rest .0 .0 .0 .0 .0 .1) (m .rest .0 .0 .0 .0 .1) (m .rest .0 .0 .0 .1) (m .rest .0 .0 .1) (m .rest .0 .1) (m .rest .1))
 
 pub step-spec : {M : Type 1} → statement M
 step-spec =
