@@ -37,3 +37,5 @@ pub mod Inputs
 pub mod PrintingOf
 pub mod Prompting
 pub mod Stepping
+pub mod Stopping
+pub mod Beginning

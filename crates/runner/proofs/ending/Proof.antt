@@ -1,3 +1,4 @@
+use Rattle.runner.proofs.Stopping.{stops-whole, stops-low, stops-high, stops-left, stopped-main, stopped-step, stopped-lack}
 use borrow.Author.Needs.{needs}
 use Rattle.runner.proofs.ending.Statement.{statement}
 use Rattle.runner.proofs.ending.Tie as tie
@@ -11,11 +12,11 @@ add-if2 c = search needs
 
 -- src/lib.rt:151:13
 returns : tie.Need-returns
-returns c = ?
+returns c = search (needs, stopped-main)
 
 -- src/lib.rt:158:22
 sub-t6 : tie.Need-sub-t6
-sub-t6 c = ?
+sub-t6 c = search (needs, stops-low)
 
 -- src/lib.rt:158:21
 cast-t8 : tie.Need-cast-t8
@@ -23,11 +24,11 @@ cast-t8 c = search needs
 
 -- src/lib.rt:159:20
 place-of-requires : tie.Need-place-of-requires
-place-of-requires c κs = ?
+place-of-requires c κs = search (needs, stops-whole)
 
 -- src/lib.rt:157:9
 returns-2 : tie.Need-returns-2
-returns-2 c = ?
+returns-2 c = search (needs, stopped-step)
 
 -- src/lib.rt:165:18
 add-t12 : tie.Need-add-t12
@@ -35,19 +36,19 @@ add-t12 c = search needs
 
 -- src/lib.rt:165:17
 cast-t13 : tie.Need-cast-t13
-cast-t13 c = ?
+cast-t13 c = search (needs, stops-high)
 
 -- src/lib.rt:166:16
 place-of-requires-2 : tie.Need-place-of-requires-2
-place-of-requires-2 c κs = ?
+place-of-requires-2 c κs = search (needs, stops-whole)
 
 -- src/lib.rt:167:15
 add-t16 : tie.Need-add-t16
-add-t16 c = ?
+add-t16 c = search (needs, stops-left)
 
 -- src/lib.rt:145:1
 returns-3 : tie.Need-returns-3
-returns-3 c = ?
+returns-3 c = search (needs, stopped-lack)
 
 pub ending-spec : {M : Type 1} → statement M
 ending-spec =

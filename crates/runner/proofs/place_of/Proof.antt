@@ -1,3 +1,4 @@
+use Rattle.runner.proofs.Stopping.{no-place}
 use borrow.Author.Needs.{needs}
 use Rattle.runner.proofs.place_of.Statement.{statement}
 use Rattle.runner.proofs.place_of.Tie as tie
@@ -7,7 +8,7 @@ use Rattle.runner.proofs.reading.place.Reads as place-reads
 
 -- src/lib.rt:139:9
 returns : tie.Need-returns
-returns c = ?
+returns c = no-place _ _ (c .before .before .pre) (c .if1 .taken)
 
 -- src/lib.rt:141:5
 place-requires : tie.Need-place-requires
