@@ -39,3 +39,4 @@ pub mod Prompting
 pub mod Stepping
 pub mod Stopping
 pub mod Beginning
+pub mod Turns
