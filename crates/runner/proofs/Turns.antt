@@ -332,10 +332,11 @@ module _ (text code values₀ inputs out₀ : List ℕ) (base₀ i₀ steps last
           arm-leaves v (goesOn m e lv q) = absurd (omega (arith, answer-above r s m e 65536 z, low h x rooms lw l d m (t .is h x rooms lw l .deep) lv))
           arm-leaves v (enters m e de lv q) = absurd (omega (arith, answer-above r s (entered + m) e 131072 y, low h x rooms lw l (suc d) m de lv))
           arm-leaves v (leaves c m e o lv q) =
-              let k : natAbs (read r) - 131072 ≡ m = omega (arith, answer-is r s (left + m) e) in
-              (omega (arith, t .is h x rooms lw l .base-is),
-              subst (λ (j : ℕ). Rest (h .P) (h .R) rooms (wordsOf values₀) out₀ (h .d) i₀ steps (wordsOf after) out′ (base - 240) j (n - 1)) (sym k)
-              (onward-made h x rooms lw l c m q (base - 240) (omega (arith, t .is h x rooms lw l .deep)) (omega (arith, t .is h x rooms lw l .base-is)) lv))
+              let k : natAbs (read r) - 131072 ≡ m = omega (arith, answer-is r s (left + m) e) in (
+                omega (arith, t .is h x rooms lw l .base-is),
+                subst (λ (j : ℕ). Rest (h .P) (h .R) rooms (wordsOf values₀) out₀ (h .d) i₀ steps (wordsOf after) out′ (base - 240) j (n - 1)) (sym k)
+                    (onward-made h x rooms lw l c m q (base - 240) (omega (arith, t .is h x rooms lw l .deep)) (omega (arith, t .is h x rooms lw l .base-is)) lv),
+              )
           arm-leaves v (fails e o f lv q) = absurd (omega (arith, answer-below r s (firstError + e) o 196608 v))
           arm-leaves v (hands e a b q) = absurd (omega (arith, answer-below r s handed e 196608 v))
           arm-leaves v (ends m e f a b q) = absurd (omega (arith, answer-below r s (ended + m) e 196608 v))
@@ -400,5 +401,312 @@ module _ (text code values₀ inputs out₀ : List ℕ) (base₀ i₀ steps last
           pub turn-stops : ltZ (read r) (pos 458752) ≡ true → Stops code (natAbs (read r)) (n - 1)
           turn-stops u = arm-stops (g .here) (g .text-is) (g .rooms) (g .deepest) (g .lends) z y v u here-came
 
-          pub turn-raises : ltZ (read r) (pos 458752) ≡ false → Here code after base i × Raises r
-          turn-raises u = arm-raises (g .here) (g .text-is) (g .rooms) (g .deepest) (g .lends) z y v u here-came
+          pub turn-raises : ltZ (read r) (pos 458752) ≡ false → Here code after base i × Raises (read r)
+          turn-raises u = let q = arm-raises (g .here) (g .text-is) (g .rooms) (g .deepest) (g .lends) z y v u here-came in (q .0, subst Raises (sym (toZ-ofZ s)) (q .1))
+
+-- ---- the end of a run
+-- a state that a run ended in, as the answer and the stores have it
+module _ (P : Program) (R : List Head) (offset : ℕ → ℕ) (after out₀ out′ : List ℕ) (d i k steps m p : ℕ) (rec : Ended) where
+  finished : rec .ending ≡ m → rec .place ≡ (if eqb m 1 then 0 else offset p) → rec .left ≤ steps → k ≡ steps - rec .left → countIn (wordsOf after) ≤ length out′
+      → drop (countIn (wordsOf after)) out′ ≡ drop (countIn (wordsOf after)) out₀
+      → runs.Comes P offset after out₀ out′ steps (record { ending = m; place = p; state = stateIn P R (wordsOf after) d i k out′ }) rec
+  unfolding stateIn writtenIn
+  finished a b c e w q =
+      let w′ = countIn (wordsOf after) in
+      let len : length (take w′ out′) ≡ w′ = length-take-le w′ out′ w in
+      record {
+        ending = a;
+        place = b;
+        left = c;
+        counted = e;
+        errno = refl;
+        used = refl;
+        words = refl;
+        written = λ R′. sym len;
+        output = ap (λ (j : ℕ). take j out′) len;
+        past = ap (λ (j : ℕ). drop j out′) len ∙ q ∙ sym (ap (λ (j : ℕ). drop j out₀) len);
+      }
+
+module _ (code values : List ℕ) (base i : ℕ) (h : Here code values base i) where
+  place-now : placeAt (wordsOf code) i ≡ h .offset (nextStep (h .P) (callIn (h .P) (h .R) (wordsOf values) (windowOf (h .d)) i) .place)
+  unfolding nextStep stepOf callIn
+  place-now = place-here code values base i h
+
+next-place : (P : Program) (R : List Head) (X : List ℕ) (d i k : ℕ) (out : List ℕ) → nextPlace P (stateIn P R X d i k out) ≡ nextStep P (callIn P R X (windowOf d) i) .place
+unfolding nextPlace stateIn
+next-place P R X d i k out = refl
+
+run-spent : (P : Program) (rooms : Rooms) (s : State) → run P rooms 0 s ≡ record { ending = 5; place = nextPlace P s; state = s }
+unfolding run
+run-spent P rooms s = refl
+
+-- what the stores and the answer then say of the whole run
+abbrev pub Finishes : (text code values₀ inputs out₀ : List ℕ) (base₀ i₀ steps last : ℕ) (after out′ : List ℕ) (rec : Ended) → Type 0
+Finishes text code values₀ inputs out₀ base₀ i₀ steps last after out′ rec =
+    (h : Here code values₀ base₀ i₀) → h .text ≡ text → (rooms : Rooms) → LastWindow rooms last → Lends rooms inputs out₀
+    → runs.Comes (h .P) (h .offset) after out₀ out′ steps (run (h .P) rooms steps (stateIn (h .P) (h .R) (wordsOf values₀) (h .d) i₀ 0 out₀)) rec
+
+module _ (text code values₀ inputs out₀ : List ℕ) (base₀ i₀ steps last : ℕ) (values out : List ℕ) (base i n : ℕ) (t : Turning text code values₀ inputs out₀ base₀ i₀ steps last values out base i n) where
+  abbrev at-now : (h : Here code values₀ base₀ i₀) → h .text ≡ text → (rooms : Rooms) → LastWindow rooms last → Lends rooms inputs out₀ → Here code values base i
+  at-now h x rooms lw l = now-here text code values₀ inputs out₀ base₀ i₀ steps last values out base i n t h x rooms lw l
+
+  now-place : (h : Here code values₀ base₀ i₀) (x : h .text ≡ text) (rooms : Rooms) (lw : LastWindow rooms last) (l : Lends rooms inputs out₀)
+      → placeAt (wordsOf code) i ≡ h .offset (nextStep (h .P) (callIn (h .P) (h .R) (wordsOf values) (windowOf (t .is h x rooms lw l .d)) i) .place)
+  unfolding now-here
+  now-place h x rooms lw l = place-now code values base i (at-now h x rooms lw l)
+
+  -- the steps are spent
+  pub spent : n ≤ 0 → (p : ℕ) → p ≡ placeAt (wordsOf code) i → Finishes text code values₀ inputs out₀ base₀ i₀ steps last values out (record { ending = 5; place = p; left = n })
+  spent z p ep h x rooms lw l =
+      let q = t .is h x rooms lw l in
+      let e : n ≡ 0 = omega arith in
+      let S = stateIn (h .P) (h .R) (wordsOf values) (q .d) i (steps - n) out in
+      subst (λ (w : running.Ended). runs.Comes (h .P) (h .offset) values out₀ out steps w (record { ending = 5; place = p; left = n }))
+      (sym (q .rest ∙ ap (λ (j : ℕ). run (h .P) rooms j S) e ∙ run-spent (h .P) rooms S))
+      (finished (h .P) (h .R) (h .offset) values out₀ out (q .d) i (steps - n) steps 5 (nextPlace (h .P) S) (record { ending = 5; place = p; left = n })
+      refl (ep ∙ now-place h x rooms lw l ∙ sym (ap (h .offset) (next-place (h .P) (h .R) (wordsOf values) (q .d) i (steps - n) out))) (t .on) refl (t .written) (t .past))
+
+  module _ (p : 0 < n) (after out′ : List ℕ) (r : ℤ) (s : SFits w64 r) (sd : Stepped text code values after inputs out out′ base last i r)
+      (z : ltZ (read r) (pos 65536) ≡ false) (y : ltZ (read r) (pos 131072) ≡ false) (v : ltZ (read r) (pos 196608) ≡ false) where
+    abbrev cm : (h : Here code values₀ base₀ i₀) (x : h .text ≡ text) (rooms : Rooms) (lw : LastWindow rooms last) (l : Lends rooms inputs out₀)
+        → Came text code values₀ inputs out₀ base₀ i₀ steps last values out base i n t p after out′ r s sd h x rooms lw l
+    cm h x rooms lw l = came text code values₀ inputs out₀ base₀ i₀ steps last values out base i n t p after out′ r s sd h x rooms lw l
+
+    abbrev lw-of : (h : Here code values₀ base₀ i₀) (x : h .text ≡ text) (rooms : Rooms) (lw : LastWindow rooms last) (l : Lends rooms inputs out₀) (e m : ℕ) → e < depthLimit → Live (h .P) (h .R) (wordsOf after) e m → m < 8192
+    lw-of h x rooms lw l e m de lv = low text code values₀ inputs out₀ base₀ i₀ steps last values out base i n t p after out′ r s sd h x rooms lw l e m de lv
+
+    n-suc : suc (n - 1) ≡ n
+    n-suc = omega arith
+
+    -- what is left of the run is its last step
+    by-last : (h : Here code values₀ base₀ i₀) (x : h .text ≡ text) (rooms : Rooms) (lw : LastWindow rooms last) (l : Lends rooms inputs out₀) (e : running.Ended)
+        → run (h .P) rooms (suc (n - 1)) (stateIn (h .P) (h .R) (wordsOf values) (t .is h x rooms lw l .d) i (steps - n) out) ≡ e
+        → run (h .P) rooms steps (stateIn (h .P) (h .R) (wordsOf values₀) (h .d) i₀ 0 out₀) ≡ e
+    by-last h x rooms lw l e q =
+        t .is h x rooms lw l .rest
+        ∙ sym (ap (λ (j : ℕ). run (h .P) rooms j (stateIn (h .P) (h .R) (wordsOf values) (t .is h x rooms lw l .d) i (steps - n) out)) n-suc)
+        ∙ q
+
+    -- it was ended by the step
+    module _ (u : ltZ (read r) (pos 458752) ≡ true) (rec : Ended) (st : Stopped code i (natAbs (read r)) (n - 1) rec) where
+      module _ (h : Here code values₀ base₀ i₀) (x : h .text ≡ text) (rooms : Rooms) (lw : LastWindow rooms last) (l : Lends rooms inputs out₀) where
+        abbrev q : Rest (h .P) (h .R) rooms (wordsOf values₀) out₀ (h .d) i₀ steps (wordsOf values) out base i n
+        q = t .is h x rooms lw l
+
+        stop-place : (m : ℕ) → rec .place ≡ (if eqb m 1 then 0 else placeAt (wordsOf code) i)
+            → rec .place ≡ (if eqb m 1 then 0 else h .offset (nextStep (h .P) (callIn (h .P) (h .R) (wordsOf values) (windowOf (q .d)) i) .place))
+        stop-place m e = e ∙ ap (λ (j : ℕ). if eqb m 1 then 0 else j) (now-place h x rooms lw l)
+
+        same-stores : (f : running.Ended) → wordsOf after ≡ wordsOf values → out′ ≡ out → runs.Comes (h .P) (h .offset) values out₀ out steps f rec → runs.Comes (h .P) (h .offset) after out₀ out′ steps f rec
+        same-stores f a b c = record {
+          ending = c .ending;
+          place = c .place;
+          left = c .left;
+          counted = c .counted;
+          errno = ap (λ (w : List ℕ). getD w errnoCell 0) a ∙ c .errno;
+          used = ap (λ (w : List ℕ). getD w usedCell 0) a ∙ c .used;
+          words = ap (λ (w : List ℕ). map (toZ w32) (take (length (h .P .words)) w)) a ∙ c .words;
+          written = λ R. ap (writtenIn (h .P) R) a ∙ c .written R;
+          output = ap (take (length (f .state .output))) b ∙ c .output;
+          past = ap (drop (length (f .state .output))) b ∙ c .past;
+        }
+
+        ended-at : Came text code values₀ inputs out₀ base₀ i₀ steps last values out base i n t p after out′ r s sd h x rooms lw l
+            → runs.Comes (h .P) (h .offset) after out₀ out′ steps (run (h .P) rooms steps (stateIn (h .P) (h .R) (wordsOf values₀) (h .d) i₀ 0 out₀)) rec
+        ended-at (goesOn m e lv o) = absurd (omega (arith, answer-above r s m e 65536 z, lw-of h x rooms lw l (q .d) m (q .deep) lv))
+        ended-at (enters m e de lv o) = absurd (omega (arith, answer-above r s (entered + m) e 131072 y, lw-of h x rooms lw l (suc (q .d)) m de lv))
+        ended-at (leaves c m e w lv o) = absurd (omega (arith, answer-above r s (left + m) e 196608 v, lw-of h x rooms lw l c m (omega (arith, q .deep)) lv))
+        ended-at (fails e w f lv o) = absurd (omega (arith, answer-below r s (firstError + e) w 458752 u))
+        ended-at (hands e a b o) = absurd (omega (arith, answer-below r s handed e 458752 u))
+        ended-at (ends m e f a b o) =
+            let g = st .by-step m f (answer-is r s (ended + m) e) in
+            let place = nextStep (h .P) (callIn (h .P) (h .R) (wordsOf values) (windowOf (q .d)) i) .place in
+            let S = stateIn (h .P) (h .R) (wordsOf values) (q .d) i (steps - n) out in
+            let k : steps - n + 1 ≡ steps - rec .left = omega (arith, g .2, t .on) in
+            subst (λ (w : running.Ended). runs.Comes (h .P) (h .offset) after out₀ out′ steps w rec)
+            (sym (by-last h x rooms lw l (record { ending = m; place = place; state = stateIn (h .P) (h .R) (wordsOf values) (q .d) i (steps - n + 1) out })
+            (run-ends (h .P) rooms (h .R) (wordsOf values) (q .d) i (steps - n) out (n - 1) m S o
+            ∙ ap (λ (w : State). record { ending = m; place = place; state = w }) (counted-is (h .P) (h .R) (wordsOf values) (q .d) i (steps - n) out))))
+            (same-stores _ a b
+            (finished (h .P) (h .R) (h .offset) values out₀ out (q .d) i (steps - n + 1) steps m place rec (g .0) (stop-place m (g .1)) (omega (arith, g .2, t .on)) k (t .written) (t .past)))
+        ended-at (lacks m w at e f k j pl a b o) =
+            let g = st .by-lack m w f k j (answer-is r s (lackedBy m + w) e) in
+            let c : eqb m 1 ≡ false = ne-eqb m 1 (λ z. omega arith) in
+            let S = stateIn (h .P) (h .R) (wordsOf values) (q .d) i (steps - n) out in
+            let left-is : rec .left ≡ n = omega (arith, g .2) in
+            subst (λ (w : running.Ended). runs.Comes (h .P) (h .offset) after out₀ out′ steps w rec)
+            (sym (by-last h x rooms lw l (record { ending = m; place = at; state = S }) (run-lacks (h .P) rooms (h .R) (wordsOf values) (q .d) i (steps - n) out (n - 1) m at o)))
+            (same-stores _ a b
+            (finished (h .P) (h .R) (h .offset) values out₀ out (q .d) i (steps - n) steps m at rec (g .0) (g .1 ∙ pl ∙ sym (ap (λ b. if b then 0 else h .offset at) c)) (omega (arith, t .on)) (ap (λ (x : ℕ). steps - x) (sym left-is)) (t .written) (t .past)))
+
+      pub stopped-run : Finishes text code values₀ inputs out₀ base₀ i₀ steps last after out′ rec
+      stopped-run h x rooms lw l = ended-at h x rooms lw l (cm h x rooms lw l)
+
+    -- an error arose
+    module _ (u : ltZ (read r) (pos 458752) ≡ false) (after2 : List ℕ) (k : Taken) (ar : Arisen code after after2 base i (read r) k) where
+      ar-is : Arisen code after after2 base i r k
+      ar-is = rw (toZ-ofZ s) at ar
+
+      module _ (h : Here code values₀ base₀ i₀) (x : h .text ≡ text) (rooms : Rooms) (lw : LastWindow rooms last) (l : Lends rooms inputs out₀) where
+        abbrev now : Rest (h .P) (h .R) rooms (wordsOf values₀) out₀ (h .d) i₀ steps (wordsOf values) out base i n
+        now = t .is h x rooms lw l
+
+        abbrev place : ℕ
+        place = nextStep (h .P) (callIn (h .P) (h .R) (wordsOf values) (windowOf (now .d)) i) .place
+
+        abbrev now-settled : Outcome
+        now-settled =
+            settled (h .P) place (waiting (h .P) (h .R) (wordsOf values) (now .d)) (stateIn (h .P) (h .R) (wordsOf values) (now .d) i (steps - n) out) (effectAt (h .P) (h .R) rooms (wordsOf values) (now .d) i (steps - n) out)
+
+        -- the step after which it arose
+        at-after : Live (h .P) (h .R) (wordsOf after) (now .d) i → Here code after base i
+        at-after lv = after-here text code values₀ inputs out₀ base₀ i₀ steps last values out base i n t p after out′ r s sd h x rooms lw l base (now .d) i (now .deep) (now .base-is) lv
+
+        settles : Came text code values₀ inputs out₀ base₀ i₀ steps last values out base i n t p after out′ r s sd h x rooms lw l
+            → Settles (h .P) (h .R) (wordsOf after2) (now .d) i (steps - n + 1) place out′ k now-settled
+        unfolding at-after after-here
+        settles (goesOn m e lv o) = absurd (omega (arith, answer-above r s m e 65536 z, lw-of h x rooms lw l (now .d) m (now .deep) lv))
+        settles (enters m e de lv o) = absurd (omega (arith, answer-above r s (entered + m) e 131072 y, lw-of h x rooms lw l (suc (now .d)) m de lv))
+        settles (leaves c m e w lv o) = absurd (omega (arith, answer-above r s (left + m) e 196608 v, lw-of h x rooms lw l c m (omega (arith, now .deep)) lv))
+        settles (fails e w f lv o) =
+            subst (Settles (h .P) (h .R) (wordsOf after2) (now .d) i (steps - n + 1) place out′ k)
+            (sym (ap (settled (h .P) place (waiting (h .P) (h .R) (wordsOf values) (now .d)) (stateIn (h .P) (h .R) (wordsOf values) (now .d) i (steps - n) out)) o
+            ∙ settled-fails (h .P) place (h .R) (wordsOf values) (wordsOf after) (now .d) i (steps - n) out out′ e))
+            (ar-is .fails (at-after lv) e w (steps - n + 1) place out′)
+        settles (hands e a b o) =
+            let lv : Live (h .P) (h .R) (wordsOf after) (now .d) i = subst (λ (w : List ℕ). Live (h .P) (h .R) w (now .d) i) (sym a) (now .live) in
+            subst (Settles (h .P) (h .R) (wordsOf after2) (now .d) i (steps - n + 1) place out′ k)
+            (sym (ap (settled (h .P) place (waiting (h .P) (h .R) (wordsOf values) (now .d)) (stateIn (h .P) (h .R) (wordsOf values) (now .d) i (steps - n) out)) o
+            ∙ settled-hands (h .P) place (h .R) (wordsOf values) (now .d) i (steps - n) out
+            ∙ sym (ap₂ (λ (w y : List ℕ). arising (h .P) (getD w errnoCell 0) place (waiting (h .P) (h .R) w (now .d)) (stateIn (h .P) (h .R) w (now .d) i (steps - n + 1) y)) a b)))
+            (ar-is .hands (at-after lv) e (steps - n + 1) place out′)
+        settles (ends m e f a b o) = absurd (omega (arith, answer-above r s (ended + m) e 458752 u))
+        settles (lacks m w at e f j d pl a b o) = absurd (omega (arith, answer-above r s (lackedBy m + w) e 458752 u, lackedBy-is m))
+
+        settled-now : Settles (h .P) (h .R) (wordsOf after2) (now .d) i (steps - n + 1) place out′ k now-settled
+        settled-now = settles (cm h x rooms lw l)
+
+      -- the stores then
+      kept-count : countIn (wordsOf after2) ≡ countIn (wordsOf after)
+      kept-count = ap₂ (λ (x y : ℕ). x + cellValues * y) (ar-is .kept writtenCell (omega arith) (omega arith)) (ar-is .kept (suc writtenCell) (omega arith) (omega arith))
+
+      count-2 : countIn (wordsOf after2) ≤ length out′
+      count-2 = subst (λ (j : ℕ). j ≤ length out′) (sym kept-count) (count-now text code values₀ inputs out₀ base₀ i₀ steps last values out base i n t p after out′ r s sd)
+
+      past-2 : drop (countIn (wordsOf after2)) out′ ≡ drop (countIn (wordsOf after2)) out₀
+      past-2 = subst (λ (j : ℕ). drop j out′ ≡ drop j out₀) (sym kept-count) (past-now text code values₀ inputs out₀ base₀ i₀ steps last values out base i n t p after out′ r s sd)
+
+      -- nobody takes it
+      module _ (nx : k .next ≡ 0) (pl : ℕ) (ep : pl ≡ placeAt (wordsOf code) i) where
+        abbrev died : Ended
+        died = record { ending = 3; place = pl; left = n - 1 }
+
+        dies-by : (h : Here code values₀ base₀ i₀) (x : h .text ≡ text) (rooms : Rooms) (lw : LastWindow rooms last) (l : Lends rooms inputs out₀)
+            → Settles (h .P) (h .R) (wordsOf after2) (t .is h x rooms lw l .d) i (steps - n + 1) (place h x rooms lw l) out′ k (now-settled h x rooms lw l)
+            → runs.Comes (h .P) (h .offset) after2 out₀ out′ steps (run (h .P) rooms steps (stateIn (h .P) (h .R) (wordsOf values₀) (h .d) i₀ 0 out₀)) died
+        dies-by h x rooms lw l (stops w o) =
+            let g = t .is h x rooms lw l in
+            let e : running.Ended = record { ending = 3; place = place h x rooms lw l; state = stateIn (h .P) (h .R) (wordsOf after2) (g .d) i (steps - n + 1) out′ } in
+            subst (λ (w : running.Ended). runs.Comes (h .P) (h .offset) after2 out₀ out′ steps w died)
+            (sym (by-last h x rooms lw l e (run-dies (h .P) rooms (h .R) (wordsOf values) (g .d) i (steps - n) out (n - 1) (now-settled h x rooms lw l) refl e o)))
+            (finished (h .P) (h .R) (h .offset) after2 out₀ out′ (g .d) i (steps - n + 1) steps 3 (place h x rooms lw l) died
+            refl (ep ∙ now-place h x rooms lw l) (omega (arith, t .on)) (omega (arith, t .on)) count-2 past-2)
+        dies-by h x rooms lw l (resumes c w b de lv o) = absurd (omega arith)
+
+        pub died-run : Finishes text code values₀ inputs out₀ base₀ i₀ steps last after2 out′ died
+        died-run h x rooms lw l = dies-by h x rooms lw l (settled-now h x rooms lw l)
+
+      -- a call takes it
+      module _ (nx : k .next ≡ 0 → ⊥) where
+        resumes-by : (h : Here code values₀ base₀ i₀) (x : h .text ≡ text) (rooms : Rooms) (lw : LastWindow rooms last) (l : Lends rooms inputs out₀)
+            → Settles (h .P) (h .R) (wordsOf after2) (t .is h x rooms lw l .d) i (steps - n + 1) (place h x rooms lw l) out′ k (now-settled h x rooms lw l)
+            → Rest (h .P) (h .R) rooms (wordsOf values₀) out₀ (h .d) i₀ steps (wordsOf after2) out′ (k .base) (k .next) (n - 1)
+        resumes-by h x rooms lw l (stops w o) = absurd (nx w)
+        resumes-by h x rooms lw l (resumes c w b de lv o) =
+            let g = t .is h x rooms lw l in
+            let e : steps - n + 1 ≡ steps - (n - 1) = omega (arith, t .on) in
+            record {
+              d = c;
+              deep = de;
+              base-is = b;
+              live = lv;
+              rest = g .rest
+                  ∙ sym (ap (λ (j : ℕ). run (h .P) rooms j (stateIn (h .P) (h .R) (wordsOf values) (g .d) i (steps - n) out)) n-suc)
+                  ∙ run-resumes (h .P) rooms (h .R) (wordsOf values) (g .d) i (steps - n) out (n - 1) (now-settled h x rooms lw l) refl (stateIn (h .P) (h .R) (wordsOf after2) c (k .next) (steps - n + 1) out′) o
+                  ∙ ap (λ (j : ℕ). run (h .P) rooms (n - 1) (stateIn (h .P) (h .R) (wordsOf after2) c (k .next) j out′)) e;
+            }
+
+        pub turn-resumes : Turning text code values₀ inputs out₀ base₀ i₀ steps last after2 out′ (k .base) (k .next) (n - 1)
+        turn-resumes = record {
+          given = t .given;
+          small = t .small;
+          long = ar-is .long ∙ sd .long ∙ t .long;
+          out-long = sd .out-long ∙ t .out-long;
+          on = omega (arith, t .on);
+          written = count-2;
+          past = past-2;
+          used = omega (arith, ar-is .kept usedCell (omega arith) (omega arith), sd .used, t .used, t .on);
+          is = λ h x rooms lw l. resumes-by h x rooms lw l (settled-now h x rooms lw l);
+        }
+
+-- ---- the whole of it
+pub run-begins : (text code values : List ℕ) (h depth : ℕ) → Begins text code values h depth → MayBegin code values h
+run-begins text code values h depth b = record { text = text; depth = depth; begins = b }
+
+module _ (text code values inputs out : List ℕ) (h steps depth : ℕ) (b : Begins text code values h depth) where
+  module _ (values₀ : List ℕ) (bg : Begun code values values₀ h) (i₀ : ℕ) (ei : i₀ ≡ placeAt (wordsOf code) h) where
+    first-here : Begins text code values h depth → Here code values₀ 1024 i₀
+    first-here c = record {
+      text = text;
+      P = c .P;
+      R = c .R;
+      offset = c .offset;
+      holds = c .holds;
+      code-size = c .code-size;
+      values-size = bg .long ∙ c .values-size;
+      d = 0;
+      deep = omega arith;
+      base-is = refl;
+      live = subst (Live (c .P) (c .R) (wordsOf values₀) 0) (sym ei) (bg .live text depth c);
+    }
+
+    last-of : (c : Begins text code values h depth) (rooms : Rooms) → rooms .depth ≡ depth → LastWindow rooms (1024 + 240 * (depth - 1))
+    last-of c rooms e = record { some = omega (arith, c .some); most = omega (arith, c .most); is = sym (ap (λ (n : ℕ). 1024 + 240 * (n - 1)) e) }
+
+    lent : Rooms
+    lent = record { depth = depth; output = length out; inputs = map (toZ w32) (wordsOf inputs) }
+
+    pub run-starts : steps < 4294967296 → Turning text code values₀ inputs out 1024 i₀ steps (1024 + 240 * (depth - 1)) values₀ out 1024 i₀ steps
+    unfolding lent first-here
+    run-starts sm =
+        let w : countIn (wordsOf values₀) ≡ 0 = sym (count-is (b .P) (b .R) (wordsOf values₀)) ∙ bg .written (b .P) (b .R) text depth b in
+        let z : steps - steps ≡ 0 = omega arith in
+        record {
+          given = record { here = first-here b; text-is = refl; rooms = lent; deepest = last-of b lent refl; lends = record { room = refl; reads = refl } };
+          small = sm;
+          long = refl;
+          out-long = refl;
+          on = omega arith;
+          written = omega arith;
+          past = refl;
+          used = omega (arith, bg .used text depth b);
+          is = λ h x rooms lw l. record {
+            d = h .d;
+            deep = h .deep;
+            base-is = h .base-is;
+            live = h .live;
+            rest = sym (ap (λ (k : ℕ). run (h .P) rooms steps (stateIn (h .P) (h .R) (wordsOf values₀) (h .d) i₀ k out)) z);
+          };
+        }
+
+    pub run-ran : (after out′ : List ℕ) (rec : Ended) → length after ≡ length values₀ → length out′ ≡ length out
+        → Finishes text code values₀ inputs out 1024 i₀ steps (1024 + 240 * (depth - 1)) after out′ rec → Ran text code values after inputs out out′ h steps depth rec
+    unfolding first-here
+    run-ran after out′ rec la lo f = record {
+      long = la ∙ bg .long;
+      out-long = lo;
+      is = λ c rooms e l.
+          subst (λ (s : State). runs.Comes (c .P) (c .offset) after out out′ steps (run (c .P) rooms steps s) rec)
+          (ap (λ (j : ℕ). stateIn (c .P) (c .R) (wordsOf values₀) 0 j 0 out) ei ∙ bg .state text depth c out)
+          (f (first-here c) refl rooms (last-of c rooms e) l);
+    }
