@@ -3,6 +3,7 @@ pub mod States
 pub mod Living
 pub mod Storing
 pub mod Actions
+pub mod Arms
 pub mod Arguments
 pub mod Assigning
 pub mod CallSteps

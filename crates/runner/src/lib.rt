@@ -12,6 +12,7 @@ pub mod choices;
 pub mod errors;
 pub mod output;
 pub mod reading;
+pub mod stepping;
 pub mod targets;
 
 use calls::back;
