@@ -4,7 +4,6 @@ ghost use Prim.Native.Nat.{_%_};
 ghost use lib.ListN.{length};
 ghost use Rattle.cells.specs.Words.{wordsOf};
 ghost use Rattle.code.specs.Cells.{placeAt};
-ghost use Rattle.runner.specs.Machine.{Steps, Stepped};
 ghost use Rattle.runner.specs.Runs.{Stops, Stopped, MayBegin, Begun, Begins, Ran};
 
 pub mod calls;
@@ -15,35 +14,11 @@ pub mod reading;
 pub mod stepping;
 pub mod targets;
 
-use calls::back;
-use calls::call_for;
-use calls::call_for_element;
-use calls::call_of;
-use calls::give_back;
 use calls::start_words;
-use choices::choose;
-use choices::enter_for;
-use choices::for_test;
-use choices::raise;
-use choices::select;
-use choices::test_if;
-use choices::test_while;
 use errors::arise;
-use errors::retry;
-use errors::try_next;
-use output::read;
-use output::write;
-use output::write_of;
-use reading::head;
 use reading::link;
 use reading::place;
-use targets::store;
-use targets::store_element;
-
-// a head has its value above its op, and that an array's size above its first word
-const OPS: u32 = 256;
-
-const FIRSTS: usize = 1024;
+use stepping::step;
 
 // the windows of calls, main's first, and the cell that has its routine
 const FIRST: usize = 1024;
@@ -58,10 +33,6 @@ const ENTERED: i64 = 65536;
 const LEFT: i64 = 131072;
 
 const ENDED: i64 = 196608;
-
-const EXITED: i64 = ENDED + 2;
-
-const FUNCTION_ENDED: i64 = ENDED + 4;
 
 const HANDED: i64 = 458752;
 
@@ -81,54 +52,6 @@ pub struct Ended {
     pub ending: u32,
     pub place: usize,
     pub left: u32,
-}
-
-// The step at word i of the call with its window at `base`, where `last` is the last window that the depth admits. One jump for all ops.
-fn step<'a>(
-    text: &'a [u8],
-    code: &'a [u8],
-    values: &'a mut [u8],
-    inputs: &'a [u8],
-    out: &'a mut [u8],
-    base: usize,
-    last: usize,
-    i: usize,
-) -> i64
-    requires { ⌜ Steps (now text) (now code) (now values) (now out) base last i ⌝ }
-    ensures { λ r. ⌜ Stepped (now (text .entry)) (now (code .entry)) (now (values .entry)) (now (values .exit)) (now (inputs .entry)) (now (out .entry)) (now (out .exit)) base last i r ⌝ }
-{
-    let w = head(code, i);
-    let op = w % OPS;
-    let v = (w / OPS) as usize;
-    match op {
-        128 => store(code, values, base, i, v),
-        129 => store(code, values, base, i, base + v),
-        130 => store_element(code, values, base, i, v % FIRSTS, v / FIRSTS),
-        131 => store_element(code, values, base, i, base + v % FIRSTS, v / FIRSTS),
-        132 => call_for(code, values, base, last, i, v),
-        133 => call_for(code, values, base, last, i, base + v),
-        134 => call_for_element(code, values, base, last, i, v % FIRSTS, v / FIRSTS),
-        135 => call_for_element(code, values, base, last, i, base + v % FIRSTS, v / FIRSTS),
-        136 => call_of(code, values, base, last, i),
-        137 => give_back(code, values, base, i, v),
-        138 => back(&*code, &*values, base, i),
-        139 => raise(&*code, &*values, base, i, v),
-        140 => HANDED,
-        141 => EXITED,
-        142 => retry(code, values, base, i),
-        143 => try_next(code, values, base, i),
-        144 => write(text, code, values, out, i),
-        145 => write_of(text, code, values, out, base, i, v),
-        146 => read(text, code, values, inputs, out, base, i, v),
-        147 => test_if(&*code, &*values, base, i, v),
-        148 => choose(&*code, &*values, base, i, v),
-        149 => test_while(&*code, &*values, base, i, v),
-        150 => enter_for(code, values, base, i, v),
-        151 => for_test(code, values, base, i, v),
-        152 => select(&*code, &*values, base, i, v),
-        153 => back(&*code, &*values, base, i),
-        _ => FUNCTION_ENDED,
-    }
 }
 
 // The place that a word has: 0 where there is no such word.

@@ -11,7 +11,7 @@ use Rattle.runner.proofs.begin.Reads as begin-reads
 use Rattle.runner.proofs.ending.Reads as ending-reads
 use Rattle.runner.proofs.errors.arise.Reads as arise-reads
 use Rattle.runner.proofs.reading.place.Reads as place-reads
-use Rattle.runner.proofs.step.Reads as step-reads
+use Rattle.runner.proofs.stepping.step.Reads as step-reads
 
 abbrev Inv-loop : tie.InvT-loop
 Inv-loop text code values₀ inputs out₀ h steps depth last i₀ base₀ left₀ values out i base left = Turning text code values₀ inputs out₀ base₀ i₀ steps last values out base i left
