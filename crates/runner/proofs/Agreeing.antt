@@ -1,21 +1,20 @@
 -- Two value stores that have the same in some cells: what they say alike.
-use mathlib.Core.Path.{_≡_, refl, sym, ap, ap₂, subst, _∙_}
-use mathlib.Core.List.{List, [], _∷_, _++_, map}
-use mathlib.Core.Option.{Option, none, some}
-use Prim.Native.Nat.{ℕ, zero, suc, _+_, _-_, _*_, _<_, _≤_}
+use mathlib.Core.Path.{_≡_, refl, ap, ap₂, _∙_}
+use mathlib.Core.List.{List, _∷_, _++_, map}
+use mathlib.Core.Option.{some}
+use Prim.Native.Nat.{ℕ, zero, suc, _+_, _<_, _≤_}
 use native.Mathlib.Omega.{arith}
 use lib.ListN.{length, getD, take, drop, set, replicate, length-take, length-drop}
 use lib.Seq.{ext-getD, getD-take, getD-drop, getD-set-other}
-use lib.IntN.{ℤ}
 use mir.Syntax.{w32}
 use mir.Val.{toZ}
 use Rattle.paper.specs.Steps.{Code, Program}
 use Rattle.paper.specs.States.{Loop, Call, State}
 use Rattle.paper.specs.Running.{codeAt, idle}
-use Rattle.code.specs.Cells.{windowOf, firstWindow, windowCells, errnoCell}
-use Rattle.code.specs.Steps.{Head, noHead, numbered}
+use Rattle.code.specs.Cells.{windowOf}
+use Rattle.code.specs.Steps.{Head, numbered}
 use Rattle.code.specs.Holds.{optionally}
-use Rattle.code.specs.Windows.{endsCell, stepsCell, routineCell, waitsCell, afterCell, failedCell, resultCell, writtenCell, usedCell, numberAt, locationIn, resultIn, loopsFrom, callIn, waiting, writtenIn, stateIn}
+use Rattle.code.specs.Windows.{endsCell, stepsCell, routineCell, waitsCell, failedCell, resultCell, locationIn, resultIn, loopsFrom, callIn, waiting}
 use Rattle.evaluation.specs.Answers.{callWords}
 use Rattle.runner.specs.Live.{wordsOfCall}
 

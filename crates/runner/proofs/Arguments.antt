@@ -1,13 +1,12 @@
 -- The arguments of a call, one after the other.
-use mathlib.Core.Path.{_≡_, refl, sym, ap, ap₂, subst, subst₂, _∙_}
+use mathlib.Core.Path.{_≡_, refl, sym, ap, ap₂, subst, _∙_}
 use mathlib.Core.Bool.{Bool, true, false, not}
 use mathlib.Core.List.{List, [], _∷_, _++_, map, append-nil}
 use mathlib.Core.Option.{some}
 use Prim.Native.Nat.{ℕ, zero, suc, _+_, _-_, _*_, _/_, _%_, _<_, _≤_}
 use native.Mathlib.Omega.{arith}
-use native.Mathlib.Numerals.{add-one}
 use lib.Dec.{eqb}
-use lib.ListN.{length, getD, take, drop, set, length-append, List·getD-eq-default}
+use lib.ListN.{length, getD, set, length-append, List·getD-eq-default}
 use lib.Seq.{append-snoc}
 use lib.IntN.{ℤ, pos, natAbs}
 use lib.Signed.{ltZ, leZ}
@@ -18,27 +17,26 @@ use mir.ValLaws.{toZ-pos}
 use borrow.Author.Tests.{eq-eqb, ne-eqb, eqb-true, eqb-false}
 use borrow.Author.Tests.{not-true, not-false}
 use Rattle.laws.proofs.Tests.{test, by-same, false-true}
-use Rattle.paper.specs.Numbers.{Value, value, error}
+use Rattle.paper.specs.Numbers.{Value, error}
 use Rattle.paper.specs.Terms.{Term, Memory, worth}
-use Rattle.paper.specs.States.{State, Effect, failing, withValue, withValues}
+use Rattle.paper.specs.States.{State, Effect, withValue, withValues}
 use Rattle.cells.specs.Words.{wordsOf}
 use Rattle.cells.proofs.Laws.{length-words}
 use Rattle.numbers.proofs.Whole.{read}
 use Rattle.code.specs.Cells.{headAt, opAt, linkAt, firstWindow, windowCells, errnoCell}
-use Rattle.code.specs.Spans.{termIn, memoryIn}
+use Rattle.code.specs.Spans.{memoryIn}
 use Rattle.code.specs.Steps.{Head, parts, aNextArgument, argumentsIn, anyArguments}
-use Rattle.evaluation.specs.Answers.{firstError, firstNegative, callWords, decoded, Counts, termOf, memoryOf, Stores, Stands, Evaluated}
-use Rattle.evaluation.specs.Parts.{addresses}
+use Rattle.evaluation.specs.Answers.{firstError, firstNegative, decoded, Counts, termOf, memoryOf, Stores, Stands, Evaluated}
 use Rattle.evaluation.proofs.Numbers.{is-value, is-error}
 use Rattle.evaluation.proofs.Places.{op-in}
 use Rattle.runner.specs.Reading.{halfEnd, Part, Stored}
-use Rattle.runner.specs.Calling.{Holding, Let, Passes, Argued, given, raises, Passed}
-use Rattle.runner.proofs.Actions.{Argument, argument-more, LastArgument, argument-last, arguments-some, NoArguments, no-arguments, some-arguments}
-use Rattle.runner.proofs.Agreeing.{SameIn, set-same, part-same}
+use Rattle.runner.specs.Calling.{Holding, Let, Passes, given, raises, Passed}
+use Rattle.runner.proofs.Actions.{argument-more, argument-last, arguments-some, no-arguments, some-arguments}
+use Rattle.runner.proofs.Agreeing.{set-same, part-same}
 use Rattle.runner.proofs.Raised.{worth-error}
 use Rattle.runner.proofs.Current.{error-is, told-error, told-value}
 use Rattle.runner.proofs.Hops.{hops, hops-on, hops-end, hops-less}
-use Rattle.runner.proofs.Writing.{holding-one, holding-same}
+use Rattle.runner.proofs.Writing.{holding-one}
 
 -- ---- two numbers in one
 pub packed-is : (low high : ℕ) → low < 65536 → high < 65536 → toZ w64 (low + 65536 * high) ≡ pos (low + 65536 * high)

@@ -3,31 +3,30 @@ use mathlib.Core.Path.{_≡_, refl, sym, ap, ap₂, subst, _∙_}
 use mathlib.Core.Bool.{true, false}
 use mathlib.Core.List.{List}
 use mathlib.Core.Option.{some}
-use Prim.Native.Nat.{ℕ, _+_, _-_, _*_, _%_, _<_, _≤_}
+use Prim.Native.Nat.{ℕ, _+_, _*_, _%_, _<_, _≤_}
 use native.Mathlib.Omega.{arith}
 use lib.ListN.{length, getD, set}
-use lib.IntN.{ℤ, pos, natAbs}
+use lib.IntN.{ℤ, pos}
 use lib.Signed.{ltZ}
 use mir.Syntax.{w32, w64}
 use mir.Val.{Fits, SFits, toZ, ofZ}
 use mir.Facts.{toZ-ofZ}
 use mir.ValLaws.{toZ-pos}
-use Rattle.paper.specs.Numbers.{Value, value, error}
-use Rattle.paper.specs.Terms.{Ref, Term, Memory, at, worth}
+use Rattle.paper.specs.Numbers.{Value}
+use Rattle.paper.specs.Terms.{Term, Memory, at, worth}
 use Rattle.paper.specs.Steps.{Spot}
 use Rattle.paper.specs.Steps as action
-use Rattle.paper.specs.States.{Location, locationOf, State, Rooms, Effect, made, goTo, onTop, storeAt, memoryOf, withValue, withSpot}
+use Rattle.paper.specs.States.{locationOf, State, Rooms, Effect, made, goTo, onTop, storeAt, memoryOf, withValue}
 use Rattle.paper.specs.Running.{perform}
 use Rattle.cells.specs.Words.{wordsOf}
 use Rattle.numbers.proofs.Whole.{read}
 use Rattle.code.specs.Cells.{opAt, linkAt, windowOf}
 use Rattle.code.specs.Spans.{termIn, memoryIn}
-use Rattle.code.specs.Steps.{aTarget, aCallTarget, targetIn}
+use Rattle.code.specs.Steps.{aTarget, aCallTarget}
 use Rattle.code.specs.Closed.{isNamed}
-use Rattle.code.specs.Windows.{stateIn, writtenCell, usedCell}
 use Rattle.code.proofs.Options.{same-some}
 use Rattle.code.proofs.Spanning.{span-grows}
-use Rattle.evaluation.specs.Answers.{firstError, Small, Stores, Stands, Evaluated}
+use Rattle.evaluation.specs.Answers.{firstError, Stores, Stands, Evaluated}
 use Rattle.evaluation.proofs.Places.{op-in, link-in}
 use Rattle.runner.specs.Reading.{halfEnd, Part, Stored}
 use Rattle.runner.specs.Machine.{Here, Comes, goesOn, effectAt}
@@ -35,7 +34,7 @@ use Rattle.runner.specs.Live.{Live}
 use Rattle.runner.specs.Targets.{refCell, spotIn, Aims, Assigns, Assigned}
 use Rattle.runner.proofs.Actions.{op-low, reads-store}
 use Rattle.runner.proofs.Current as here
-use Rattle.runner.proofs.States.{Roomy, roomy, goes-to}
+use Rattle.runner.proofs.States.{roomy, goes-to}
 use Rattle.runner.proofs.Living.{live-next}
 use Rattle.runner.proofs.References.{spot-found, ref-inside, ref-word, ref-live, ref-kept}
 

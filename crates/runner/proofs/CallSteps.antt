@@ -1,9 +1,9 @@
 -- A step that calls: a procedure, or a function for a result.
 use mathlib.Core.Path.{_≡_, refl, sym, ap, ap₂, subst, _∙_}
-use mathlib.Core.Bool.{Bool, true, false}
+use mathlib.Core.Bool.{true, false}
 use mathlib.Core.List.{List}
-use mathlib.Core.Option.{Option, none, some}
-use Prim.Native.Nat.{ℕ, suc, _+_, _-_, _*_, _/_, _%_, _<_, _≤_}
+use mathlib.Core.Option.{none, some}
+use Prim.Native.Nat.{ℕ, suc, _+_, _*_, _/_, _%_, _<_, _≤_}
 use native.Mathlib.Omega.{arith}
 use lib.Dec.{T, ltb}
 use lib.ListN.{length, getD}
@@ -13,28 +13,27 @@ use mir.Syntax.{w64}
 use mir.Val.{Fits, SFits, toZ}
 use mir.Facts.{toZ-ofZ}
 use Rattle.laws.proofs.Tests.{by-same}
-use Rattle.paper.specs.Terms.{Ref, ofModule, ofRoutine, Term, Memory, at}
-use Rattle.paper.specs.Steps.{Spot, Code, Program}
+use Rattle.paper.specs.Terms.{Ref, ofModule, ofRoutine, Memory, at}
+use Rattle.paper.specs.Steps.{Spot, Program}
 use Rattle.paper.specs.Steps as action
-use Rattle.paper.specs.States.{Location, locationOf, State, Rooms, Effect, memoryOf, withSpot}
+use Rattle.paper.specs.States.{locationOf, Rooms, memoryOf}
 use Rattle.paper.specs.Running.{perform, calling}
 use Rattle.cells.specs.Words.{wordsOf}
 use Rattle.numbers.proofs.Whole.{read}
-use Rattle.code.specs.Cells.{opAt, placeAt, linkAt, windowOf, windowCells}
-use Rattle.code.specs.Spans.{memoryIn}
-use Rattle.code.specs.Steps.{Head, aCallTarget, aProcedureCall, anyArguments}
+use Rattle.code.specs.Cells.{opAt, linkAt, windowOf}
+use Rattle.code.specs.Steps.{Head, aCallTarget, anyArguments}
 use Rattle.code.specs.Holds.{CalleeIn}
-use Rattle.code.specs.Windows.{writtenCell, usedCell, locationIn, resultIn, stateIn}
+use Rattle.code.specs.Windows.{writtenCell, usedCell, resultIn}
 use Rattle.code.proofs.Options.{same-some}
 use Rattle.code.proofs.Spanning.{span-grows}
 use Rattle.evaluation.specs.Answers.{firstError}
-use Rattle.evaluation.proofs.Places.{op-in, link-in}
+use Rattle.evaluation.proofs.Places.{link-in}
 use Rattle.runner.specs.Reading.{halfEnd, Part}
 use Rattle.runner.specs.Live.{wordsOfCall, codeOfCall, ResultFits, nowhere, inModule, inCaller}
 use Rattle.runner.specs.Machine.{Here, Comes, effectAt, LastWindow, Calls}
 use Rattle.runner.specs.Targets.{refCell, RefFits, spotIn, Aims}
-use Rattle.runner.specs.Calling.{Passes, Passed, Enters, MayEnter, Entered, CallsFor, CalledFor, Deepest}
-use Rattle.runner.proofs.Actions.{reads-call-for, reads-call-of, no-arguments, some-arguments, arguments-some, argument-more, argument-last}
+use Rattle.runner.specs.Calling.{Passes, Passed, MayEnter, Entered, CallsFor, CalledFor, Deepest}
+use Rattle.runner.proofs.Actions.{reads-call-for, reads-call-of, some-arguments, argument-more, argument-last}
 use Rattle.runner.proofs.Actions as reads
 use Rattle.runner.proofs.Current as here
 use Rattle.runner.proofs.Agreeing.{location-any}
@@ -42,17 +41,11 @@ use Rattle.runner.proofs.Elements.{cell-most}
 use Rattle.runner.proofs.States.{roomy, depth-is}
 use Rattle.runner.proofs.References.{spot-found, ref-location}
 use Rattle.runner.proofs.Assigning.{memory-is}
-use Rattle.runner.proofs.Called.{Calling, room-deep, call-passes, here-after, call-fails, answer-signed, answer-fits, answer-closes, call-lacks, call-may, call-enters}
+use Rattle.runner.proofs.Called.{Calling, call-passes, here-after, call-fails, answer-signed, answer-fits, answer-closes, call-lacks, call-may, call-enters}
 
 -- ---- any call
 module _ (code values : List ℕ) (base last i first end callee result : ℕ) (dp : Deepest last)
     (h : Here code values base i) (g : Calling code values base i h first end callee result) where
-  pub lack-fits : Fits w64 (262144 + callee)
-  lack-fits = record { fits = omega (arith, g .inside, h .code-size) }
-
-  pub lack-signed : SFits w64 (pos (262144 + callee))
-  lack-signed = record { sfits = omega (arith, g .inside, h .code-size) }
-
   module _ (after : List ℕ) (r : ℤ) (s : SFits w64 r) (ps : Passed code values after base first end (ltb base last) r) where
     pub argument-error : leZ (pos firstError) (read r) ≡ true → (rooms : Rooms) (steps : ℕ) (out : List ℕ)
         → Comes (h .P) (h .R) (wordsOf code) (h .offset) (h .d) i steps (wordsOf values) (wordsOf after) out out (effectAt (h .P) (h .R) rooms (wordsOf values) (h .d) i steps out) r

@@ -1,5 +1,5 @@
 -- A call for a result that goes to a word, or to an element.
-use mathlib.Core.Path.{_≡_, refl, sym, ap, _∙_}
+use mathlib.Core.Path.{_≡_, refl}
 use mathlib.Core.Bool.{true, false}
 use mathlib.Core.List.{List}
 use mathlib.Core.Option.{some}
@@ -13,7 +13,7 @@ use mir.Syntax.{w64}
 use mir.Val.{Fits, SFits}
 use mir.Facts.{toZ-ofZ}
 use Rattle.paper.specs.Steps as action
-use Rattle.paper.specs.States.{memoryOf, withSpot}
+use Rattle.paper.specs.States.{memoryOf}
 use Rattle.paper.specs.Running.{perform, calling}
 use Rattle.cells.specs.Words.{wordsOf}
 use Rattle.numbers.proofs.Whole.{read}

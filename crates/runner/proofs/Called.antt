@@ -1,39 +1,35 @@
 -- A call: its arguments, and then it is entered, or lacks room.
-use mathlib.Core.Path.{_≡_, refl, sym, ap, ap₂, subst, subst₂, _∙_}
+use mathlib.Core.Path.{_≡_, refl, sym, ap, ap₂, subst, _∙_}
 use mathlib.Core.Bool.{Bool, true, false}
-use mathlib.Core.List.{List, [], _∷_}
-use mathlib.Core.Option.{Option, none, some}
-use Prim.Native.Nat.{ℕ, zero, suc, _+_, _-_, _*_, _/_, _%_, _<_, _≤_}
+use mathlib.Core.List.{List, _∷_}
+use mathlib.Core.Option.{Option, some}
+use Prim.Native.Nat.{ℕ, suc, _+_, _*_, _/_, _%_, _<_, _≤_}
 use native.Mathlib.Omega.{arith}
 use lib.Dec.{T, ltb}
 use lib.ListN.{length, getD, replicate, length-append, length-replicate}
 use lib.IntN.{ℤ, pos, natAbs}
-use lib.Signed.{ltZ, leZ, nonNeg}
+use lib.Signed.{ltZ, nonNeg}
 use mir.Syntax.{w64}
-use mir.Val.{Fits, SFits, toZ}
-use mir.Facts.{toZ-ofZ}
+use mir.Val.{Fits, toZ}
 use mir.ValLaws.{toZ-pos}
 use borrow.Author.Tests.{lt-ltb, le-ltb, ltb-true, ltb-false}
-use Rattle.laws.proofs.Tests.{test, false-true}
 use Rattle.paper.specs.Basics.{if_then_else_}
 use Rattle.paper.specs.Terms.{Term, Memory}
-use Rattle.paper.specs.States.{Location, Call, State, Rooms, Effect, made, failing, lacking, withCalls, memoryOf, withValues}
+use Rattle.paper.specs.States.{Location, State, Rooms, Effect, made, failing, lacking, withCalls, memoryOf, withValues}
 use Rattle.paper.specs.Steps.{Code}
 use Rattle.paper.specs.Running.{codeAt, stepNamed, newCall, calling}
 use Rattle.cells.specs.Words.{wordsOf}
 use Rattle.cells.proofs.Laws.{length-words}
-use Rattle.numbers.proofs.Whole.{read}
-use Rattle.code.specs.Cells.{opAt, placeAt, valueAt, linkAt, windowOf, windowCells}
-use Rattle.code.specs.Steps.{Head, noHead, numbered, parts, anyArguments}
+use Rattle.code.specs.Cells.{placeAt, valueAt, windowOf, windowCells}
+use Rattle.code.specs.Steps.{noHead, numbered, anyArguments}
 use Rattle.code.specs.Windows.{routineCell, resultIn, stateIn}
 use Rattle.evaluation.specs.Answers.{firstError, callWords, Counts}
 use Rattle.evaluation.specs.Answers as answers
-use Rattle.runner.specs.Reading.{halfEnd, Part}
-use Rattle.runner.specs.Live.{wordsOfCall, codeOfCall, ResultFits, Live}
-use Rattle.runner.specs.Machine.{Here, Comes, enters, fails, lacks, lackedBy, effectAt, depthLimit, LastWindow}
-use Rattle.runner.specs.Calling.{Holding, Passes, Argued, given, raises, Passed, Enters, MayEnter, Entered}
+use Rattle.runner.specs.Live.{codeOfCall, ResultFits, Live}
+use Rattle.runner.specs.Machine.{Here, Comes, enters, fails, lacks, lackedBy, effectAt, LastWindow}
+use Rattle.runner.specs.Calling.{Holding, Passes, Argued, given, raises, Passed, Enters, Entered}
 use Rattle.runner.proofs.Agreeing.{SameIn}
-use Rattle.runner.proofs.States.{Roomy, roomy, depth-is, past}
+use Rattle.runner.proofs.States.{roomy, depth-is, past}
 use Rattle.runner.proofs.Living.{routine-code, fits-same, live-past}
 use Rattle.runner.proofs.Current as here
 use Rattle.runner.proofs.Assigning.{memory-is}

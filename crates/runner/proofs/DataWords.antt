@@ -1,9 +1,9 @@
 -- The words of a new call: its routine's data and its FOR variables.
 use mathlib.Core.Path.{_≡_, refl, sym, ap, ap₂, subst, subst₂, _∙_}
-use mathlib.Core.Bool.{Bool, true, false}
-use mathlib.Core.List.{List, [], _∷_, _++_, append-assoc, append-nil}
-use mathlib.Core.Option.{Option, none, some}
-use Prim.Native.Nat.{ℕ, zero, suc, _+_, _-_, _*_, _/_, _%_, _<_, _≤_}
+use mathlib.Core.Bool.{Bool}
+use mathlib.Core.List.{List, [], _++_, append-assoc, append-nil}
+use mathlib.Core.Option.{Option, some}
+use Prim.Native.Nat.{ℕ, zero, suc, _+_, _*_, _/_, _%_, _<_, _≤_}
 use native.Mathlib.Omega.{arith}
 use lib.Dec.{eqb}
 use lib.ListN.{length, getD, replicate, length-append, length-replicate}
@@ -13,12 +13,12 @@ use mir.Val.{SFits, toZ}
 use mir.Facts.{toZ-ofZ}
 use mir.ValLaws.{toZ-pos}
 use borrow.Author.Tests.{eq-eqb, ne-eqb}
-use Rattle.laws.proofs.Tests.{by-same, apart}
+use Rattle.laws.proofs.Tests.{by-same}
 use Rattle.cells.specs.Words.{wordsOf}
 use Rattle.cells.proofs.Laws.{length-words}
 use Rattle.numbers.proofs.Whole.{read, minus-cases}
 use Rattle.code.specs.Cells.{headAt, opAt, placeAt, linkAt}
-use Rattle.code.specs.Spans.{_then_, bias}
+use Rattle.code.specs.Spans.{bias}
 use Rattle.code.specs.Steps.{parts, aDatum, theParameters, constantAt}
 use Rattle.code.specs.Holds.{dataIn}
 use Rattle.code.specs.Windows.{stepsCell}

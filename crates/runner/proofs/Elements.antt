@@ -3,7 +3,7 @@ use mathlib.Core.Path.{_≡_, refl, sym, ap, subst, _∙_}
 use mathlib.Core.Bool.{Bool, true, false}
 use mathlib.Core.List.{List}
 use mathlib.Core.Option.{some}
-use Prim.Native.Nat.{ℕ, _+_, _-_, _*_, _/_, _%_, _<_, _≤_}
+use Prim.Native.Nat.{ℕ, _+_, _-_, _<_, _≤_}
 use native.Mathlib.Omega.{arith}
 use lib.Dec.{T}
 use lib.ListN.{length}
@@ -15,14 +15,14 @@ use mir.Facts.{toZ-ofZ}
 use mir.ValLaws.{toZ-pos}
 use borrow.Author.Tests.{ltb-false}
 use Rattle.paper.specs.Numbers.{value, error, outOfBound}
-use Rattle.paper.specs.Terms.{Ref, ofModule, ofRoutine, onward, Term, Located, at, fails, locate, worth}
+use Rattle.paper.specs.Terms.{Ref, ofModule, ofRoutine, onward, Term, at, fails, locate, worth}
 use Rattle.cells.specs.Words.{wordsOf}
 use Rattle.numbers.proofs.Whole.{read}
 use Rattle.code.proofs.Spanning.{span-grows}
-use Rattle.evaluation.specs.Answers.{firstError, decoded, Counts, callWords, termOf, memoryOf, Stores, Evaluated}
+use Rattle.evaluation.specs.Answers.{firstError, Counts, callWords, termOf, memoryOf, Stores, Evaluated}
 use Rattle.evaluation.specs.Parts.{addresses}
 use Rattle.evaluation.proofs.Numbers.{is-value, is-error}
-use Rattle.runner.specs.Targets.{refCell, RefFits, Tells, found, lost, Indexes, Found}
+use Rattle.runner.specs.Targets.{refCell, RefFits, found, lost, Indexes, Found}
 use Rattle.runner.proofs.Raised.{worth-error}
 use Rattle.runner.proofs.Current.{error-is}
 

@@ -1,15 +1,14 @@
 -- A call is entered: its window is made, and its caller waits.
-use mathlib.Core.Path.{_≡_, refl, sym, ap, ap₂, subst, subst₂, _∙_}
-use mathlib.Core.Bool.{true}
-use mathlib.Core.List.{List, [], _∷_, _++_, map}
+use mathlib.Core.Path.{_≡_, refl, sym, ap, ap₂, subst, _∙_}
+use mathlib.Core.List.{List, _∷_, _++_}
 use mathlib.Core.Option.{some}
-use Prim.Native.Nat.{ℕ, zero, suc, _+_, _-_, _*_, _/_, _%_, _<_, _≤_}
+use Prim.Native.Nat.{ℕ, suc, _+_, _*_, _<_, _≤_}
 use native.Mathlib.Omega.{arith}
-use lib.ListN.{length, getD, take, drop, set, replicate, length-set, length-append, length-replicate}
+use lib.ListN.{length, getD, set, replicate, length-set, length-append, length-replicate}
 use lib.Seq.{getD-set-same}
-use lib.IntN.{ℤ, pos}
+use lib.IntN.{pos}
 use mir.Syntax.{w32, w64}
-use mir.Val.{Fits, SFits, toZ}
+use mir.Val.{Fits, toZ}
 use mir.ValLaws.{toZ-pos}
 use Rattle.paper.specs.Steps.{Code, Program}
 use Rattle.paper.specs.States.{Call, State, withCalls}
@@ -17,19 +16,19 @@ use Rattle.paper.specs.Running.{codeAt, stepNamed, newCall}
 use Rattle.cells.specs.Words.{wordsOf, Put}
 use Rattle.cells.proofs.Laws.{length-words}
 use Rattle.cells.proofs.Kept.{put-length}
-use Rattle.code.specs.Cells.{placeAt, valueAt, linkAt, windowOf, windowCells, errnoCell}
+use Rattle.code.specs.Cells.{placeAt, valueAt, linkAt, windowOf, windowCells}
 use Rattle.code.specs.Steps.{Head, noHead, numbered, parts}
 use Rattle.code.specs.Closed.{isNamed}
 use Rattle.code.specs.Holds.{dataIn, HoldsRoutine}
-use Rattle.code.specs.Windows.{endsCell, stepsCell, routineCell, waitsCell, afterCell, failedCell, resultCell, writtenCell, usedCell, resultIn, callIn, stateIn}
-use Rattle.evaluation.specs.Answers.{callWords, firstNegative}
+use Rattle.code.specs.Windows.{endsCell, stepsCell, routineCell, waitsCell, afterCell, resultIn, stateIn}
+use Rattle.evaluation.specs.Answers.{callWords}
 use Rattle.runner.specs.Reading.{valueEnd, halfEnd, Part}
-use Rattle.runner.specs.Live.{wordsOfCall, cellOfCall, codeOfCall, ResultFits, nowhere, inModule, inCaller, noneFailed, Sane, Waits, Below, Live}
+use Rattle.runner.specs.Live.{wordsOfCall, codeOfCall, ResultFits, nowhere, inModule, inCaller, noneFailed, Sane, Waits, Below, Live}
 use Rattle.runner.specs.Machine.{Here, entered, depthLimit}
 use Rattle.runner.specs.Calling.{Holding, Starts, Started, Enters, MayEnter, Entered}
 use Rattle.runner.proofs.Agreeing.{Same, SameIn, set-same}
 use Rattle.runner.proofs.States.{storeWords, Roomy, roomy, entered-state, past, call-waits}
-use Rattle.runner.proofs.Living.{SameRoutine, routine-code, fits-same, live-waits, live-past}
+use Rattle.runner.proofs.Living.{routine-code, fits-same, live-waits, live-past}
 use Rattle.runner.proofs.Writing.{holding-append, holding-same, holding-zeros}
 use Rattle.runner.proofs.Fresh.{FreshIn, call-fresh}
 use Rattle.runner.proofs.Current as here

@@ -86,7 +86,7 @@ module _ (code : List ℕ) (first end : ℕ) where
 
 -- ---- by the op of a step
 -- a number from k on is k, or is above it
-by-next : {A : Type 0} (a k : ℕ) → k ≤ a → (a ≡ k → A) → (suc k ≤ a → A) → A
+pub by-next : {A : Type 0} (a k : ℕ) → k ≤ a → (a ≡ k → A) → (suc k ≤ a → A) → A
 by-next a k h f g = by-same a k f (λ d. g (above d))
   where
     above : (a ≡ k → ⊥) → suc k ≤ a

@@ -1,7 +1,7 @@
 -- A call as it begins, in its window.
-use mathlib.Core.Path.{_≡_, refl, sym, ap, ap₂, subst, _∙_}
-use mathlib.Core.List.{List, [], _∷_, _++_, map}
-use Prim.Native.Nat.{ℕ, zero, suc, _+_, _-_, _*_, _<_, _≤_}
+use mathlib.Core.Path.{_≡_, refl, sym, ap, ap₂, _∙_}
+use mathlib.Core.List.{List, _∷_, _++_, map}
+use Prim.Native.Nat.{ℕ, zero, suc, _+_, _<_}
 use native.Mathlib.Omega.{arith}
 use lib.ListN.{length, getD, take, drop, replicate, length-append, length-replicate, replicate-append-replicate}
 use lib.Seq.{drop-at}
@@ -9,7 +9,7 @@ use lib.IntN.{ℤ, pos}
 use mir.Syntax.{w32}
 use mir.Val.{toZ}
 use Rattle.paper.specs.Steps.{Code, Program}
-use Rattle.paper.specs.States.{Loop, Call}
+use Rattle.paper.specs.States.{Loop}
 use Rattle.paper.specs.Running.{codeAt, idle, newCall}
 use Rattle.code.specs.Steps.{Head, numbered}
 use Rattle.code.specs.Holds.{optionally}

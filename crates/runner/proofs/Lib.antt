@@ -37,3 +37,6 @@ pub mod Printing
 pub mod Inputs
 pub mod PrintingOf
 pub mod Prompting
+pub mod Stopping
+pub mod Beginning
+pub mod Turns

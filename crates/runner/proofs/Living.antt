@@ -1,8 +1,8 @@
 -- What is kept of `Live` as the value store changes: it is told by few cells.
-use mathlib.Core.Path.{_≡_, refl, sym, ap, subst, _∙_}
+use mathlib.Core.Path.{_≡_, sym, ap, subst, _∙_}
 use mathlib.Core.Bool.{true}
 use mathlib.Core.List.{List}
-use Prim.Native.Nat.{ℕ, zero, suc, _+_, _-_, _*_, _<_, _≤_}
+use Prim.Native.Nat.{ℕ, zero, suc, _+_, _-_, _<_, _≤_}
 use native.Mathlib.Omega.{arith}
 use lib.ListN.{length, getD, set}
 use lib.Seq.{getD-set-same}
@@ -11,9 +11,9 @@ use Rattle.paper.specs.Running.{codeAt, stepNamed}
 use Rattle.code.specs.Cells.{windowOf, errnoCell}
 use Rattle.code.specs.Steps.{Head, noHead, numbered}
 use Rattle.code.specs.Closed.{isNamed}
-use Rattle.code.specs.Windows.{routineCell, waitsCell, afterCell, failedCell, resultCell, usedCell}
+use Rattle.code.specs.Windows.{routineCell, waitsCell, afterCell, failedCell, resultCell}
 use Rattle.evaluation.specs.Answers.{firstNegative}
-use Rattle.runner.specs.Live.{wordsOfCall, cellOfCall, routineOfCall, codeOfCall, ResultFits, nowhere, inModule, inCaller, FailedFits, noneFailed, hasFailed, Sane, Waits, Below, Live}
+use Rattle.runner.specs.Live.{wordsOfCall, cellOfCall, codeOfCall, ResultFits, nowhere, inModule, inCaller, FailedFits, noneFailed, hasFailed, Sane, Waits, Below, Live}
 use Rattle.runner.proofs.Agreeing.{Same, SameIn, callCells, set-same}
 
 module _ (P : Program) (R : List Head) (X Y : List ℕ) where

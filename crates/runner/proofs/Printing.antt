@@ -137,6 +137,7 @@ module _ (text code values after inputs out : List ℕ) (base last i : ℕ) (r :
     long = long;
     out-long = refl;
     does = d;
+    grows = λ P R. rw (count-is P R (wordsOf after), count-is P R (wordsOf values)) (omega (arith, same-count));
     written = λ P R. rw (count-is P R (wordsOf after), same-count) w;
     past = λ P R. refl;
     used = omega (arith, kept usedCell (omega arith) (omega arith));
@@ -152,6 +153,7 @@ module _ (text code values after inputs out out′ line : List ℕ) (base last i
     long = a .count .long;
     out-long = added-long values after out out′ line a long fits;
     does = d;
+    grows = λ P R. rw (count-is P R (wordsOf after), count-is P R (wordsOf values)) (omega (arith, added-count values after out out′ line a long fits));
     written = λ P R. rw (count-is P R (wordsOf after), added-count values after out out′ line a long fits) fits;
     past = λ P R. rw (count-is P R (wordsOf after)) (added-past values after out out′ line a long fits);
     used = omega (arith, added-used values after out out′ line a long fits);

@@ -208,6 +208,7 @@ module _ (code values : List ℕ) (base i : ℕ) (h : Here code values base i) (
       long = long ∙ a .count .long;
       out-long = added-long values mid out out′ line a (h .values-size) fits;
       does = d;
+      grows = λ P R. rw (count-is P R (wordsOf after), count-is P R (wordsOf values)) (omega (arith, same-count, added-count values mid out out′ line a (h .values-size) fits));
       written = λ P R. rw (count-is P R (wordsOf after), same-count, added-count values mid out out′ line a (h .values-size) fits) fits;
       past = λ P R. rw (count-is P R (wordsOf after), same-count) (added-past values mid out out′ line a (h .values-size) fits);
       used =

@@ -1,20 +1,15 @@
 -- A word that the newest call refers to: its cell, its location, and what a store to it does.
-use mathlib.Core.Path.{_≡_, refl, sym, ap, ap₂, subst, _∙_}
+use mathlib.Core.Path.{_≡_, refl, sym, ap, ap₂, _∙_}
 use mathlib.Core.List.{List}
-use mathlib.Core.Bool.{true, false}
-use mathlib.Core.Option.{some}
-use Prim.Native.Nat.{ℕ, suc, _+_, _-_, _*_, _/_, _%_, _<_, _≤_}
+use Prim.Native.Nat.{ℕ, suc, _+_, _-_, _/_, _%_, _<_, _≤_}
 use native.Mathlib.Omega.{arith}
-use lib.Dec.{ltb}
-use lib.ListN.{length, getD, set}
-use lib.IntN.{ℤ}
+use lib.ListN.{length, set}
 use mir.Syntax.{w32}
 use mir.Val.{toZ}
 use borrow.Author.Tests.{lt-ltb, le-ltb}
-use Rattle.paper.specs.Basics.{if_then_else_}
-use Rattle.paper.specs.Terms.{Ref, ofModule, ofRoutine, Memory, Located, at, fails, locate, worth}
+use Rattle.paper.specs.Terms.{Ref, ofModule, ofRoutine, Memory, at, fails}
 use Rattle.paper.specs.Steps.{Program, Spot, scalar, elementOf}
-use Rattle.paper.specs.States.{Location, moduleWord, callWord, locationOf, State, storeAt, Effect, failing, withSpot}
+use Rattle.paper.specs.States.{Location, callWord, locationOf, State, storeAt, Effect, failing, withSpot}
 use Rattle.code.specs.Cells.{windowOf, firstWindow, windowCells}
 use Rattle.code.specs.Steps.{Head, numbered}
 use Rattle.code.specs.Windows.{routineCell, writtenCell, usedCell, locationIn, stateIn}

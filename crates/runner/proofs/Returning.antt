@@ -1,36 +1,33 @@
 -- Returns: the caller goes on after the call that it waited for, with the result where it goes.
 use mathlib.Core.Path.{_≡_, refl, sym, ap, ap₂, subst, _∙_}
 use mathlib.Core.Bool.{Bool, true, false}
-use mathlib.Core.List.{List, [], _∷_}
+use mathlib.Core.List.{List}
 use mathlib.Core.Option.{Option, none, some}
-use Prim.Native.Nat.{ℕ, zero, suc, _+_, _-_, _*_, _/_, _%_, _<_, _≤_}
+use Prim.Native.Nat.{ℕ, suc, _+_, _-_, _*_, _<_, _≤_}
 use native.Mathlib.Omega.{arith}
 use lib.ListN.{length, getD, set}
 use lib.IntN.{ℤ, pos}
-use lib.Signed.{ltZ, leZ}
+use lib.Signed.{leZ}
 use mir.Syntax.{w32, w64}
-use mir.Val.{Fits, SFits, toZ, ofZ}
+use mir.Val.{SFits, toZ, ofZ}
 use mir.Facts.{toZ-ofZ}
 use mir.ValLaws.{toZ-pos}
 use Rattle.laws.proofs.Tests.{by-same}
 use Rattle.paper.specs.Basics.{if_then_else_}
-use Rattle.paper.specs.Numbers.{Value, value, error}
-use Rattle.paper.specs.Terms.{Ref, ofModule, ofRoutine, Term, worth}
-use Rattle.paper.specs.Steps.{Code, Program}
+use Rattle.paper.specs.Numbers.{Value}
+use Rattle.paper.specs.Terms.{Ref, ofModule, ofRoutine, worth}
 use Rattle.paper.specs.Steps as action
-use Rattle.paper.specs.States.{Location, locationOf, Call, State, Rooms, Effect, made, failing, ending, withCalls, storeAt, memoryOf, withValue}
-use Rattle.paper.specs.Running.{codeAt, stepNamed, stepOf, nextStep, perform, resume, storeResult, returning, ending-list}
+use Rattle.paper.specs.States.{Location, locationOf, Call, State, Rooms, Effect, made, ending, storeAt, memoryOf, withValue}
+use Rattle.paper.specs.Running.{perform, storeResult, returning, ending-list}
 use Rattle.cells.specs.Words.{wordsOf, Got}
 use Rattle.numbers.proofs.Whole.{read}
-use Rattle.code.specs.Cells.{opAt, valueAt, linkAt, windowOf, firstWindow, windowCells}
+use Rattle.code.specs.Cells.{windowOf}
 use Rattle.code.specs.Spans.{termIn}
-use Rattle.code.specs.Steps.{Head, numbered}
 use Rattle.code.specs.Closed.{isNamed}
-use Rattle.code.specs.Windows.{routineCell, waitsCell, afterCell, resultCell, writtenCell, usedCell, locationIn, resultIn, callIn, waiting, stateIn}
-use Rattle.evaluation.specs.Answers.{firstError, Stores, Stands, Evaluated}
-use Rattle.evaluation.specs.Parts.{cellValues}
+use Rattle.code.specs.Windows.{waitsCell, afterCell, resultCell, writtenCell, usedCell, resultIn, callIn, waiting, stateIn}
+use Rattle.evaluation.specs.Answers.{firstError, Stands, Evaluated}
 use Rattle.runner.specs.Reading.{Stored}
-use Rattle.runner.specs.Live.{wordsOfCall, cellOfCall, codeOfCall, ResultFits, nowhere, inModule, inCaller, Waits, Below, Live}
+use Rattle.runner.specs.Live.{wordsOfCall, cellOfCall, codeOfCall, ResultFits, nowhere, inModule, inCaller, Waits, Live}
 use Rattle.runner.specs.Machine.{Here, Comes, leaves, ends, effectAt, Performs}
 use Rattle.runner.specs.Choices.{Says}
 use Rattle.runner.specs.Targets.{refCell, RefFits}
@@ -38,8 +35,7 @@ use Rattle.runner.specs.Calling.{Gave, Returns, byReturn, byEnd}
 use Rattle.runner.proofs.Actions.{reads-return-of, reads-return, reads-end, end-function}
 use Rattle.runner.proofs.Actions as reads
 use Rattle.runner.proofs.Current as here
-use Rattle.runner.proofs.Agreeing.{Same}
-use Rattle.runner.proofs.States.{storeWords, Roomy, roomy, depth-is, left-state}
+use Rattle.runner.proofs.States.{Roomy, roomy, depth-is, left-state}
 use Rattle.runner.proofs.Living.{live-next, live-left}
 use Rattle.runner.proofs.References.{ref-inside, ref-word, ref-live, ref-kept, ref-location}
 

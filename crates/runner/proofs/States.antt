@@ -1,33 +1,29 @@
 -- What a change of the value store does to the state that it holds.
 use mathlib.Core.Path.{_≡_, refl, sym, ap, ap₂, subst, _∙_}
 use mathlib.Core.List.{List, [], _∷_, _++_, map}
-use mathlib.Core.Option.{Option, none, some}
-use mathlib.Core.Bool.{true, false}
-use Prim.Native.Nat.{ℕ, zero, suc, _+_, _-_, _*_, _/_, _%_, _<_, _≤_}
+use Prim.Native.Nat.{ℕ, zero, suc, _+_, _-_, _*_, _<_, _≤_}
 use native.Mathlib.Omega.{arith}
-use lib.Dec.{eqb}
 use lib.ListN.{length, getD, take, drop, set, replicate, length-set, length-replicate, List·getD-eq-default}
-use lib.Seq.{take-set-lt, take-set-le, drop-set-add, getD-set-same}
+use lib.Seq.{take-set-lt, drop-set-add, getD-set-same}
 use lib.IntN.{ℤ}
 use mir.Syntax.{w32}
 use mir.Val.{toZ}
-use borrow.Author.Tests.{eq-eqb, lt-ltb, le-ltb}
+use borrow.Author.Tests.{eq-eqb}
 use Rattle.laws.proofs.Lists.{map-set}
 use Rattle.laws.proofs.Tests.{by-less}
-use Rattle.paper.specs.Terms.{Ref, ofModule, ofRoutine}
 use Rattle.paper.specs.Steps.{Code, Program}
-use Rattle.paper.specs.States.{Loop, Location, moduleWord, callWord, locationOf, Call, State, withCalls, withWords, withErrno, withOutput, withInput, goTo, setWord, setLoop, setFailed, onTop, onDepth, storeAt}
+use Rattle.paper.specs.States.{Loop, moduleWord, callWord, Call, withCalls, withErrno, withOutput, withInput, goTo, setWord, setLoop, setFailed, onTop, onDepth, storeAt}
 use Rattle.paper.specs.Running.{codeAt, noCode, stepOf, nextStep, resume, idle}
 use Rattle.cells.specs.Words.{wordsOf}
 use Rattle.cells.proofs.Laws.{length-words}
-use Rattle.code.specs.Cells.{windowOf, firstWindow, windowCells, errnoCell}
-use Rattle.code.specs.Steps.{Head, noHead, numbered}
+use Rattle.code.specs.Cells.{windowOf, firstWindow, errnoCell}
+use Rattle.code.specs.Steps.{Head, numbered}
 use Rattle.code.specs.Holds.{optionally, Holds}
-use Rattle.code.specs.Windows.{endsCell, stepsCell, routineCell, waitsCell, afterCell, failedCell, resultCell, writtenCell, usedCell, locationIn, resultIn, loopsFrom, callIn, waiting, writtenIn, stateIn}
+use Rattle.code.specs.Windows.{endsCell, stepsCell, routineCell, waitsCell, afterCell, failedCell, resultCell, writtenCell, usedCell, loopsFrom, callIn, waiting, writtenIn, stateIn}
 use Rattle.evaluation.specs.Answers.{callWords}
 use Rattle.runner.specs.Live.{wordsOfCall, cellOfCall, codeOfCall, Waits}
-use Rattle.runner.specs.Machine.{storeBytes, depthLimit, Here}
-use Rattle.runner.proofs.Agreeing.{Same, SameIn, callCells, SameCall, set-same, set-before, set-behind, part-same, call-eq, location-any, result-any, loops-same, codeIn, code-same, words-same, call-loops-same, result-same, call-same, waiting-same, state-eq}
+use Rattle.runner.specs.Machine.{depthLimit, Here}
+use Rattle.runner.proofs.Agreeing.{Same, SameIn, callCells, SameCall, set-same, set-before, set-behind, part-same, call-eq, code-same, words-same, call-loops-same, result-same, call-same, waiting-same, state-eq}
 
 -- ---- rooms
 abbrev pub storeWords : ℕ

@@ -1,29 +1,29 @@
 -- A step that stores: to a word, and to an element.
 use mathlib.Core.Path.{_≡_, refl, sym, ap, subst, _∙_}
-use mathlib.Core.Bool.{Bool, true, false}
+use mathlib.Core.Bool.{true, false}
 use mathlib.Core.List.{List}
 use mathlib.Core.Option.{some}
-use Prim.Native.Nat.{ℕ, _+_, _-_, _*_, _%_, _<_, _≤_}
+use Prim.Native.Nat.{ℕ, _+_, _*_, _<_, _≤_}
 use native.Mathlib.Omega.{arith}
 use lib.Dec.{T}
-use lib.ListN.{length, getD}
+use lib.ListN.{length}
 use lib.IntN.{ℤ, pos, natAbs}
 use lib.Signed.{ltZ, nonNeg}
 use mir.Syntax.{w64}
-use mir.Val.{Fits, SFits, toZ}
+use mir.Val.{Fits, SFits}
 use mir.Facts.{toZ-ofZ}
-use Rattle.paper.specs.Terms.{Ref, Term, Memory, Located, at, fails, worth}
-use Rattle.paper.specs.Steps.{Spot, scalar}
+use Rattle.paper.specs.Terms.{Ref, Memory, at, fails, worth}
+use Rattle.paper.specs.Steps.{Spot}
 use Rattle.paper.specs.Steps as action
-use Rattle.paper.specs.States.{Location, State, Rooms, Effect, made, goTo, onTop, storeAt, memoryOf, withValue, withSpot}
+use Rattle.paper.specs.States.{Location, Rooms, Effect, made, goTo, onTop, storeAt, memoryOf, withValue, withSpot}
 use Rattle.paper.specs.Running.{perform}
 use Rattle.cells.specs.Words.{wordsOf}
 use Rattle.numbers.proofs.Whole.{read}
-use Rattle.code.specs.Cells.{opAt, linkAt, windowOf}
+use Rattle.code.specs.Cells.{opAt, linkAt}
 use Rattle.code.specs.Spans.{memoryIn}
 use Rattle.code.specs.Steps.{aTarget, aCallTarget, targetIn}
-use Rattle.evaluation.specs.Answers.{firstError, Stores}
-use Rattle.evaluation.proofs.Places.{op-in, link-in}
+use Rattle.evaluation.specs.Answers.{firstError}
+use Rattle.evaluation.proofs.Places.{link-in}
 use Rattle.runner.specs.Reading.{halfEnd, Part}
 use Rattle.runner.specs.Machine.{Here, Comes, effectAt, Performs}
 use Rattle.runner.specs.Machine as machine
@@ -32,7 +32,7 @@ use Rattle.runner.proofs.Actions.{op-low, reads-store, Stores as Reads}
 use Rattle.runner.proofs.Current as here
 use Rattle.runner.proofs.Elements.{cell-most}
 use Rattle.runner.proofs.References.{spot-lost}
-use Rattle.runner.proofs.Targeting.{WordRead, word-read, ArrayRead, array-read, array-more, array-indexes, array-tells, told-less, told-error}
+use Rattle.runner.proofs.Targeting.{word-read, ArrayRead, array-read, array-more, array-indexes, array-tells, told-less, told-error}
 use Rattle.runner.proofs.Assigning.{memory-is}
 
 -- ---- where the target of any step is

@@ -1,29 +1,28 @@
 -- Targets, as their words say them: where they are, and what a store to one asks and does.
-use mathlib.Core.Path.{_≡_, refl, sym, ap, ap₂, subst, _∙_}
+use mathlib.Core.Path.{_≡_, refl, sym, ap, subst, _∙_}
 use mathlib.Core.Bool.{Bool, true, false}
 use mathlib.Core.List.{List}
 use mathlib.Core.Option.{some}
-use Prim.Native.Nat.{ℕ, _+_, _-_, _*_, _/_, _%_, _<_, _≤_}
+use Prim.Native.Nat.{ℕ, _+_, _*_, _/_, _%_, _<_, _≤_}
 use native.Mathlib.Omega.{arith}
 use lib.Dec.{eqb, ltb}
-use lib.ListN.{length, getD}
-use lib.IntN.{ℤ, pos, natAbs}
+use lib.ListN.{length}
+use lib.IntN.{ℤ, pos}
 use lib.Signed.{ltZ}
 use mir.Syntax.{w64}
-use mir.Val.{Fits, SFits, toZ}
+use mir.Val.{SFits, toZ}
 use mir.Facts.{toZ-ofZ}
 use mir.ValLaws.{toZ-pos}
 use borrow.Author.Tests.{lt-ltb, eq-eqb, ne-eqb, ltb-true, ltb-false}
 use Rattle.laws.proofs.Tests.{by-same}
 use Rattle.paper.specs.Basics.{if_then_else_}
-use Rattle.paper.specs.Terms.{Ref, ofModule, ofRoutine, Term, Memory, Located, at, fails, locate, worth}
+use Rattle.paper.specs.Terms.{Ref, ofModule, ofRoutine, Term, Located, at, fails}
 use Rattle.paper.specs.Steps.{Spot, scalar, elementOf}
-use Rattle.paper.specs.States.{Rooms}
 use Rattle.cells.specs.Words.{wordsOf}
 use Rattle.numbers.proofs.Whole.{read}
 use Rattle.code.specs.Cells.{headAt, opAt, valueAt, linkAt}
-use Rattle.code.specs.Spans.{firstIn, sizeIn, termIn, memoryIn}
-use Rattle.code.specs.Steps.{Head, aTarget, aCallTarget, scalarIn, targetIn}
+use Rattle.code.specs.Spans.{firstIn, sizeIn, termIn}
+use Rattle.code.specs.Steps.{Head, aTarget, scalarIn, targetIn}
 use Rattle.code.proofs.Options.{guarded, went}
 use Rattle.code.proofs.Spanning.{span-grows}
 use Rattle.evaluation.specs.Answers.{firstError, Counts, callWords, termOf, memoryOf, Stores}
@@ -31,7 +30,7 @@ use Rattle.evaluation.specs.Parts.{addresses, cellValues}
 use Rattle.evaluation.proofs.Places.{link-in}
 use Rattle.runner.specs.Reading.{halfEnd, Part}
 use Rattle.runner.specs.Targets.{refCell, RefFits, spotIn, Tells, found, lost, Indexes, Found, Target, Spotted, WordAt, ofModuleWord, ofCallWord, ArrayAt, ofModuleArray, ofCallArray}
-use Rattle.runner.proofs.Actions.{first-is, second-is, module-word, call-word, module-element, call-element}
+use Rattle.runner.proofs.Actions.{first-is, second-is, module-word, module-element, call-element}
 use Rattle.runner.proofs.Elements.{cell-most}
 
 -- ---- what a target's word says

@@ -125,11 +125,11 @@ module _ (code values : List ℕ) (base i b s : ℕ) (k : Seeking code values ba
         above zero z = absurd (d z)
         above (suc e) z = omega arith
 
-  pub seek-get : (b - 240 + 193) * 4 + 4 ≤ length values
-  seek-get = omega (arith, seek-in)
+  pub seek-get : (j : ℕ) → j < 240 → (b - 240 + j) * 4 + 4 ≤ length values
+  seek-get j l = omega (arith, seek-in)
 
-  pub seek-add : b - 240 + 193 < 18446744073709551616
-  seek-add = omega (arith, seek-in, h .values-size)
+  pub seek-add : (j : ℕ) → j < 240 → b - 240 + j < 18446744073709551616
+  seek-add j l = omega (arith, seek-in, h .values-size)
 
   pub seek-sub : (b ≡ 1024 → ⊥) → 240 ≤ b
   seek-sub d = omega (arith, seek-above d)
@@ -195,11 +195,11 @@ module _ (code values : List ℕ) (base i : ℕ) (t : Taken) (nr : Nearest code 
     pub found-in : (t .base + 240) * 4 ≤ length values
     found-in = seek-in code values base i (t .base) (t .next) (nr .is) h
 
-    pub found-get : (t .base + 195) * 4 + 4 ≤ length values
-    found-get = omega (arith, found-in)
+    pub found-get : (j : ℕ) → j < 240 → (t .base + j) * 4 + 4 ≤ length values
+    found-get j l = omega (arith, found-in)
 
-    pub found-add : t .base + 195 < 18446744073709551616
-    found-add = omega (arith, found-in, h .values-size)
+    pub found-add : (j : ℕ) → j < 240 → t .base + j < 18446744073709551616
+    found-add j l = omega (arith, found-in, h .values-size)
 
     pub found-small : t .next < 4294967296
     found-small = omega (arith, small-name code values (t .base) (t .next) at-call (t .next) (at-call .live .named) .1)

@@ -1,9 +1,8 @@
 -- Cells that hold numbers, written one after another.
 use mathlib.Core.Path.{_≡_, refl, sym, ap, ap₂, subst, _∙_}
-use mathlib.Core.List.{List, [], _∷_, _++_, map, map-append, append-assoc}
-use Prim.Native.Nat.{ℕ, zero, suc, _+_, _-_, _*_, _/_, _<_, _≤_}
+use mathlib.Core.List.{List, [], _∷_, _++_, map, map-append}
+use Prim.Native.Nat.{ℕ, zero, suc, _+_, _*_, _/_, _<_, _≤_}
 use native.Mathlib.Omega.{arith}
-use native.Mathlib.Numerals.{add-one}
 use lib.ListN.{length, getD, take, drop, set, replicate, length-append, length-drop, length-replicate, length-set, getD-replicate, replicate-append-replicate}
 use lib.Seq.{ext-getD, set-out, getD-take, getD-drop, take-suc-set, drop-set-add, take-add, drop-drop, getD-set-same}
 use lib.IntN.{ℤ, pos}
@@ -18,7 +17,7 @@ use Rattle.numbers.proofs.Whole.{read}
 use Rattle.code.specs.Windows.{stepsCell}
 use Rattle.runner.specs.Reading.{Stored}
 use Rattle.runner.specs.Calling.{Holding, Wrote, Filled, Idled}
-use Rattle.runner.proofs.Agreeing.{Same, SameIn, set-same, part-same}
+use Rattle.runner.proofs.Agreeing.{SameIn, set-same, part-same}
 
 -- ---- numbers in cells
 pub holding-one : (X : List ℕ) (a : ℕ) (zs : List ℤ) (w : ℕ) (v : ℤ) → Holding X a zs → a + length zs < length X → toZ w32 w ≡ v → Holding (set X (a + length zs) w) a (zs ++ (v ∷ []))

@@ -120,7 +120,8 @@ pub record Stepped (text code values after inputs out out′ : List ℕ) (base l
   pub out-long : length out′ ≡ length out
   pub does : (h : Here code values base i) → h .text ≡ text → (rooms : Rooms) → LastWindow rooms last → Lends rooms inputs out → (steps : ℕ) →
       Comes (h .P) (h .R) (wordsOf code) (h .offset) (h .d) i steps (wordsOf values) (wordsOf after) out out′ (effectAt (h .P) (h .R) rooms (wordsOf values) (h .d) i steps out) r
-  -- output past the count is untouched
+  -- the count only grows, and output past it is untouched
+  pub grows : (P : Program) (R : List Head) → writtenIn P R (wordsOf values) ≤ writtenIn P R (wordsOf after)
   pub written : (P : Program) (R : List Head) → writtenIn P R (wordsOf after) ≤ length out
   pub past : (P : Program) (R : List Head) → drop (writtenIn P R (wordsOf after)) out′ ≡ drop (writtenIn P R (wordsOf after)) out
   pub used : getD (wordsOf after) usedCell 0 ≤ getD (wordsOf values) usedCell 0 + 1

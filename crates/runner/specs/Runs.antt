@@ -13,12 +13,13 @@ use Rattle.paper.specs.States.{Rooms}
 use Rattle.paper.specs.Running.{run, started}
 use Rattle.paper.specs.Running as running
 use Rattle.cells.specs.Words.{wordsOf}
-use Rattle.code.specs.Cells.{errnoCell}
+use Rattle.code.specs.Cells.{errnoCell, placeAt}
 use Rattle.code.specs.Steps.{Head, noHead}
 use Rattle.code.specs.Holds.{Holds}
-use Rattle.code.specs.Windows.{writtenIn, usedCell}
+use Rattle.code.specs.Windows.{writtenIn, usedCell, stateIn}
 use Rattle.runner.specs.declared.Ended.{Ended}
-use Rattle.runner.specs.Machine.{storeBytes, depthLimit, Lends}
+use Rattle.runner.specs.Live.{Live}
+use Rattle.runner.specs.Machine.{storeBytes, depthLimit, ended, lackedBy, Lends}
 
 -- The code store holds a program, of which main begins at word h; the value store has the module's words as a run begins, and zeros.
 pub record Begins (text code values : List ℕ) (h depth : ℕ) : Type 0 where
@@ -55,3 +56,26 @@ pub record Ran (text code values after inputs out out′ : List ℕ) (h steps de
   pub out-long : length out′ ≡ length out
   pub is : (b : Begins text code values h depth) (rooms : Rooms) → rooms .depth ≡ depth → Lends rooms inputs out →
       Comes (b .P) (b .offset) after out out′ steps (run (b .P) rooms steps (started (b .P) (b .main))) r
+
+-- ---- the parts of a run
+-- a step's answer that ends the run
+pub data Stops (code : List ℕ) (answer left : ℕ) : Type 0 where
+  byStep : (n : ℕ) → n ≤ 4 → answer ≡ ended + n → length code ≡ storeBytes → Stops code answer left
+  byLack : (n w : ℕ) → 6 ≤ n → n ≤ 8 → w < 65536 → answer ≡ lackedBy n + w → left + 1 < 4294967296 → length code ≡ storeBytes → Stops code answer left
+
+pub record Stopped (code : List ℕ) (i answer left : ℕ) (e : Ended) : Type 0 where
+  pub by-step : (n : ℕ) → n ≤ 4 → answer ≡ ended + n → (e .ending ≡ n) × (e .place ≡ (if eqb n 1 then 0 else placeAt (wordsOf code) i)) × (e .left ≡ left)
+  pub by-lack : (n w : ℕ) → 6 ≤ n → n ≤ 8 → w < 65536 → answer ≡ lackedBy n + w → (e .ending ≡ n) × (e .place ≡ placeAt (wordsOf code) w) × (e .left ≡ left + 1)
+
+pub record MayBegin (code values : List ℕ) (h : ℕ) : Type 0 where
+  pub text : List ℕ
+  pub depth : ℕ
+  pub begins : Begins text code values h depth
+
+-- The state is that of a run that has begun.
+pub record Begun (code values after : List ℕ) (h : ℕ) : Type 0 where
+  pub long : length after ≡ length values
+  pub written : (P : Program) (R : List Head) → (text : List ℕ) (depth : ℕ) → Begins text code values h depth → writtenIn P R (wordsOf after) ≡ 0
+  pub used : (text : List ℕ) (depth : ℕ) → Begins text code values h depth → getD (wordsOf after) usedCell 0 ≡ 0
+  pub live : (text : List ℕ) (depth : ℕ) (b : Begins text code values h depth) → Live (b .P) (b .R) (wordsOf after) 0 (placeAt (wordsOf code) h)
+  pub state : (text : List ℕ) (depth : ℕ) (b : Begins text code values h depth) (out : List ℕ) → stateIn (b .P) (b .R) (wordsOf after) 0 (placeAt (wordsOf code) h) 0 out ≡ started (b .P) (b .main)

@@ -1,4 +1,11 @@
 // The machine over the code store: one step, and a run.
+ghost use mathlib.Core.Path.{_≡_};
+ghost use Prim.Native.Nat.{_%_};
+ghost use lib.ListN.{length};
+ghost use Rattle.cells.specs.Words.{wordsOf};
+ghost use Rattle.code.specs.Cells.{placeAt};
+ghost use Rattle.runner.specs.Runs.{Stops, Stopped, MayBegin, Begun, Begins, Ran};
+
 pub mod calls;
 pub mod choices;
 pub mod errors;
@@ -7,9 +14,142 @@ pub mod reading;
 pub mod stepping;
 pub mod targets;
 
+use calls::start_words;
+use errors::arise;
+use reading::link;
+use reading::place;
+use stepping::step;
+
+// the windows of calls, main's first, and the cell that has its routine
+const FIRST: usize = 1024;
+
+const WINDOW: usize = 240;
+
+const MAIN_ROUTINE: usize = 1216;
+
+// ---- what a step answers: the next step, or one of these
+const ENTERED: i64 = 65536;
+
+const LEFT: i64 = 131072;
+
+const ENDED: i64 = 196608;
+
+const HANDED: i64 = 458752;
+
+// the same without a sign, and what lacks room first; each has so many answers
+const ENTRIES: usize = 65536;
+
+const LEAVINGS: usize = 131072;
+
+const ENDINGS: usize = 196608;
+
+const LACKS: usize = 262144;
+
+const ANSWERS: usize = 65536;
+
 // How a run ended: the ending, the offset of its place, and how many steps of the allowance are left.
 pub struct Ended {
     pub ending: u32,
     pub place: usize,
     pub left: u32,
+}
+
+// The place that a word has: 0 where there is no such word.
+fn place_of(code: &[u8], i: usize) -> usize
+    requires { ⌜ length (now code) % 8 ≡ 0 ⌝ }
+    ensures { λ r. ⌜ r ≡ placeAt (wordsOf (now (code .entry))) i ⌝ }
+{
+    if code.len() / 8 <= i {
+        return 0;
+    }
+    place(code, i)
+}
+
+// The ending that the answer of the step at i says, with so many steps left after it.
+fn ending(code: &[u8], i: usize, answer: usize, left: u32) -> Ended
+    requires { ⌜ Stops (now code) answer left ⌝ }
+    ensures { λ e. ⌜ Stopped (now (code .entry)) i answer left e ⌝ }
+{
+    if answer < LACKS {
+        if answer == ENDINGS + 1 {
+            return Ended {
+                ending: 1,
+                place: 0,
+                left,
+            };
+        }
+        return Ended {
+            ending: (answer - ENDINGS) as u32,
+            place: place_of(code, i),
+            left,
+        };
+    }
+    // the step is not counted
+    Ended {
+        ending: (6 + (answer - LACKS) / ANSWERS) as u32,
+        place: place_of(code, answer % ANSWERS),
+        left: left + 1,
+    }
+}
+
+// main's window as a run begins: its routine begins at word h
+fn begin<'a>(code: &'a [u8], values: &'a mut [u8], h: usize)
+    requires { ⌜ MayBegin (now code) (now values) h ⌝ }
+    ensures { λ _. ⌜ Begun (now (code .entry)) (now (values .entry)) (now (values .exit)) h ⌝ }
+{
+    cells::put(values, MAIN_ROUTINE, h as u32);
+    start_words(code, values, link(code, h), FIRST);
+}
+
+// A run of the module whose main begins at word h.
+pub fn run<'a>(
+    text: &'a [u8],
+    code: &'a [u8],
+    values: &'a mut [u8],
+    inputs: &'a [u8],
+    out: &'a mut [u8],
+    h: usize,
+    steps: u32,
+    depth: u32,
+) -> Ended
+    requires { ⌜ Begins (now text) (now code) (now values) h depth ⌝ }
+    ensures { λ r. ⌜ Ran (now (text .entry)) (now (code .entry)) (now (values .entry)) (now (values .exit)) (now (inputs .entry)) (now (out .entry)) (now (out .exit)) h steps depth r ⌝ }
+{
+    begin(code, values, h);
+    let last = FIRST + WINDOW * (depth as usize - 1);
+    let mut i = place(code, h);
+    let mut base = FIRST;
+    let mut left = steps;
+    while 0 < left {
+        left -= 1;
+        let r = step(text, code, values, inputs, out, base, last, i);
+        if r < ENTERED {
+            i = r as usize;
+        } else if r < LEFT {
+            base += WINDOW;
+            i = r as usize - ENTRIES;
+        } else if r < ENDED {
+            base -= WINDOW;
+            i = r as usize - LEAVINGS;
+        } else if r < HANDED {
+            return ending(code, i, r as usize, left);
+        } else {
+            let t = arise(code, values, base, i, r);
+            let next = t.next;
+            if next == 0 {
+                return Ended {
+                    ending: 3,
+                    place: place(code, i),
+                    left,
+                };
+            }
+            i = next;
+            base = t.base;
+        }
+    }
+    Ended {
+        ending: 5,
+        place: place(code, i),
+        left,
+    }
 }

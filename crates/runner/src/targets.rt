@@ -1,5 +1,4 @@
 // Where a target is, and stores to it.
-ghost use mathlib.Core.Path.{_≡_};
 ghost use Rattle.cells.specs.Words.{wordsOf};
 ghost use Rattle.code.specs.Steps.{aTarget};
 ghost use Rattle.evaluation.specs.Answers.{Stores};

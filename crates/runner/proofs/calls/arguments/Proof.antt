@@ -1,5 +1,4 @@
 use borrow.Author.Needs.{needs}
-use native.Mathlib.Omega.{arith}
 use Rattle.cells.specs.Words.{wordsOf}
 use Rattle.runner.proofs.Arguments.{Passing, argumentsLeft, next-small, none-passed, passing, pass-stores, pass-stands, pass-inside, pass-next, pass-fails, pass-small, pass-last, pass-on, comma-inside, comma-next, comma-less}
 use Rattle.runner.proofs.calls.arguments.Statement.{statement}

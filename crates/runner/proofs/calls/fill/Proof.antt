@@ -1,6 +1,5 @@
 use borrow.Author.Needs.{needs}
 use Prim.Native.Nat.{_-_}
-use native.Mathlib.Omega.{arith}
 use mir.Syntax.{w64}
 use mir.Val.{toZ}
 use Rattle.runner.proofs.Writing.{Filling, fill-start, fill-inside, fill-on, fill-end, filled-read}

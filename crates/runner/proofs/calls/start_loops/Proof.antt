@@ -1,6 +1,5 @@
 use borrow.Author.Needs.{needs}
 use Prim.Native.Nat.{_-_}
-use native.Mathlib.Omega.{arith}
 use Rattle.runner.proofs.Writing.{Idling, idle-start, idle-inside, idle-inside-ends, idle-inside-steps, idle-on, idle-end}
 use Rattle.runner.proofs.calls.start_loops.Statement.{statement}
 use Rattle.runner.proofs.calls.start_loops.Tie as tie

@@ -1,5 +1,4 @@
 use borrow.Author.Needs.{needs}
-use native.Mathlib.Omega.{arith}
 use Rattle.cells.specs.Words.{wordsOf}
 use Rattle.runner.proofs.DataWords.{Starting, dataLeft, starts-in, starts-begin, datum-in, number-fits, number-small, datum-room, datum-next, datum-less, datum-on, fors-room, started}
 use Rattle.runner.proofs.calls.start_words.Statement.{statement}

@@ -1,5 +1,4 @@
 use borrow.Author.Needs.{needs}
-use native.Mathlib.Omega.{arith}
 use Rattle.runner.proofs.Elements.{index-at, size-fits, index-low, index-high, index-signed, index-fits, index-some, cell-fits, cell-signed, index-done, index-error}
 use Rattle.runner.proofs.targets.element.Statement.{statement}
 use Rattle.runner.proofs.targets.element.Tie as tie
