@@ -1,14 +1,137 @@
+/* The RAPID lesson bench for C and C++: check and run a module's text, list its words, and ask about a place in it.
+ *
+ * Behind it stand three proved libraries, each a static library of one function: `pendant` (rapid_run), `listing` (rapid_list) and `asking` (rapid_ask).
+ * rapid.c has the thin wrapper `rapid_call` and the sentences; nothing else stands between a caller and the proved code. No memory is used but what is
+ * lent, and some stack (docs/EMBEDDING.md says how much).
+ *
+ * A byte slice is a pointer and its length. It must be readable, or writable where it is not const, over its whole length, and no two slices of one call may
+ * overlap. A slice of length 0 may have any pointer, NULL too: nothing is read or written through it. */
 #ifndef RAPID_H
 #define RAPID_H
 #include <stddef.h>
 #include <stdint.h>
+
 #ifdef __cplusplus
 extern "C" {
 #endif
-enum { RAPID_RECORD_BYTES = 64 };
-uint32_t rapid_run(const uint8_t *text, size_t text_length, uint32_t steps, uint32_t depth, const uint8_t *inputs, size_t inputs_length, uint8_t *out, size_t out_length, uint8_t *code,
+
+/* ---- sizes and limits */
+enum {
+    RAPID_TEXT_LIMIT = 32768,  /* bytes of a text */
+    RAPID_WORD_LIMIT = 8192,   /* words of a text */
+    RAPID_STORE_WORDS = 16384, /* words that each store must have */
+    RAPID_STORE_BYTES = 65536, /* the same in bytes */
+    RAPID_RECORD_BYTES = 64,   /* the record, eight bytes a field */
+    RAPID_DEPTH_LIMIT = 64,    /* live calls, main's own included */
+    RAPID_MODULE_WORD_LIMIT = 1024, /* words of a module's data */
+    RAPID_ENTRY_BYTES = 12,    /* an entry of a listing */
+    RAPID_ANSWER_BYTES = 12    /* the end of a listing */
+};
+
+/* ---- the record */
+/* How a run ended; what the offset is then. */
+enum rapid_ending {
+    RAPID_REFUSED,          /* the module is refused: by the refusal, all other counts 0 */
+    RAPID_RETURNED,         /* main returned: 0 */
+    RAPID_EXITED,           /* EXIT: of EXIT */
+    RAPID_ERROR_UNHANDLED,  /* an error that no routine handled: the statement it arose in */
+    RAPID_FUNCTION_ENDED,   /* a FUNC came to its list's end: the word there */
+    RAPID_STEPS_SPENT,      /* the allowance: the next step's place */
+    RAPID_DEPTH_SPENT,      /* a call beyond the depth: the callee */
+    RAPID_NO_INPUT_LEFT,    /* TPReadNum: the statement */
+    RAPID_NO_OUTPUT_ROOM    /* a whole line does not fit: the statement */
+};
+
+/* Why a module is refused; what the offset is then. */
+enum rapid_refusal {
+    RAPID_NOT_REFUSED = 0,
+    RAPID_STORE_TOO_SMALL = 1,     /* 0 */
+    RAPID_DEPTH_OUT_OF_RANGE = 2,  /* 0 */
+    RAPID_TEXT_TOO_LONG = 3,       /* RAPID_TEXT_LIMIT */
+    RAPID_BYTE_NOT_PERMITTED = 4,  /* of the byte */
+    RAPID_MALFORMED_WORD = 5,      /* of the word's start */
+    RAPID_NUMBER_TOO_LARGE = 6,    /* of the number */
+    RAPID_TOO_MANY_WORDS = 7,      /* of word RAPID_WORD_LIMIT + 1 */
+    RAPID_WORD_OUT_OF_PLACE = 8,   /* of the word, or the text's length */
+    RAPID_NESTED_TOO_DEEP = 9,     /* of the opening word; for an IF, its THEN */
+    RAPID_DECLARED_TWICE = 10,     /* of the later name */
+    RAPID_UNKNOWN_NAME = 11,       /* of the name */
+    RAPID_WRONG_KIND = 12,         /* of the name */
+    RAPID_WRONG_TYPE = 13,         /* of the expression's or target's first word; for a function's result, the callee */
+    RAPID_WRONG_COUNT = 14,        /* of the callee */
+    RAPID_BAD_CONSTANT = 15,       /* of its expression */
+    RAPID_LIMIT_CROSSED = 16,      /* of the name that crosses it */
+    RAPID_BARRED_HERE = 17,        /* of the word */
+    RAPID_NO_MAIN = 18             /* 0 */
+};
+
+/* Numbers in ERRNO that the language raises itself; RAISE gives 1 to 90. */
+enum rapid_error {
+    RAPID_ERR_OVERFLOW = 1001,
+    RAPID_ERR_DIVZERO = 1002,
+    RAPID_ERR_OUTOFBND = 1003,
+    RAPID_ERR_ILLRAISE = 1004
+};
+
+struct rapid_record {
+    uint64_t ending;       /* enum rapid_ending */
+    uint64_t refusal;      /* enum rapid_refusal */
+    uint64_t offset;       /* a place in the text, see above */
+    uint64_t steps;        /* steps made */
+    uint64_t error;        /* ERRNO: the latest error's number, 0 before any */
+    uint64_t output;       /* bytes of output written */
+    uint64_t inputs;       /* inputs used */
+    uint64_t module_words; /* words of the module's data, at the front of the value store */
+};
+
+/* ---- a call */
+struct rapid_lent {
+    const uint8_t *text; /* the module, ASCII */
+    size_t text_length;
+    uint32_t steps; /* allowance */
+    uint32_t depth; /* 1 to RAPID_DEPTH_LIMIT */
+    const int32_t *inputs; /* what TPReadNum reads, in order */
+    size_t input_count;
+    uint8_t *output; /* what TPWrite and TPReadNum write; no terminating 0 is added */
+    size_t output_length;
+    int32_t *code; /* RAPID_STORE_WORDS words each. After the call the value store begins with the module's data, in order of declaration (TRUE is 1), and is 0 behind
+                      them; the code store is 0. Words past RAPID_STORE_WORDS are not touched. */
+    size_t code_words;
+    int32_t *values;
+    size_t value_words;
+};
+
+/* Checks a module and runs it. 1, and the record is filled in, whether the module is refused or not; 0, and nothing is touched, where `record` or `lent` is NULL or
+ * a pointer is NULL whose length is not 0. */
+int rapid_call(const struct rapid_lent *lent, struct rapid_record *record);
+
+/* The same, as the proved code takes it: bytes for words, four each, low byte first. 0, and nothing is touched, where the record has fewer than RAPID_RECORD_BYTES. */
+uint32_t rapid_run(const uint8_t *text, size_t text_length, uint32_t steps, uint32_t depth, const uint8_t *inputs, size_t inputs_length, uint8_t *output, size_t output_length, uint8_t *code,
                    size_t code_length, uint8_t *values, size_t values_length, uint8_t *record, size_t record_length);
+
+/* A sentence for an ending, for a refusal, and the name of an error; NULL for any other number. */
+const char *rapid_ending_sentence(uint64_t ending);
+const char *rapid_refusal_sentence(uint64_t refusal);
+const char *rapid_error_name(uint64_t error);
+
+/* ---- words */
+/* The kind of a word. */
+enum rapid_kind { RAPID_NAME, RAPID_RESERVED, RAPID_NUMBER, RAPID_STRING, RAPID_SIGN };
+
+/* Lists a text. All numbers are written as four bytes, low byte first.
+ * `output`: for each word an entry: its kind, its place and its length. As many entries as fit whole; no byte after them is touched. No text has more words than
+ * bytes, so entries for the lesser of its length and RAPID_WORD_LIMIT are always enough.
+ * `answer`: how many words there are before the first refusal of 3 to 7 (entries that did not fit count too), the refusal and its offset. Bytes after these
+ * twelve are not touched.
+ * Returns 1, whether the text is refused or not; or 0 where `answer` has fewer than RAPID_ANSWER_BYTES: then nothing is touched. */
+uint32_t rapid_list(const uint8_t *text, size_t text_length, uint8_t *output, size_t output_length, uint8_t *answer, size_t answer_length);
+
+/* Returns how many bytes the word that starts at a place covers, from the place on; or 0 where none starts there: a word is at least one byte long. Any
+ * place may be asked about, one past the text too. */
+size_t rapid_ask(const uint8_t *text, size_t text_length, size_t place);
+
 #ifdef __cplusplus
 }
 #endif
+
 #endif
