@@ -3,7 +3,7 @@ use mathlib.Core.Path.{_≡_}
 use mathlib.Core.Bool.{Bool, true, false}
 use mathlib.Core.List.{List, [], _∷_, map}
 use mathlib.Core.Option.{some}
-use Prim.Native.Nat.{ℕ, _<_, _≤_}
+use Prim.Native.Nat.{ℕ, _+_, _<_, _≤_}
 use lib.Dec.{eqb}
 use lib.IntN.{ℤ}
 use Rattle.paper.specs.Terms.{Term}
@@ -59,9 +59,9 @@ pub record Closed (c : Code) : Type 0 where
   pub handles : (h : ℕ) → c .handler ≡ some h → isNamed (c .steps) h ≡ true
   pub goes-on : Every (GoesOn (c .steps)) (c .steps)
 
--- A step's name is the index of a word, and not of the first, which is MODULE.
+-- A step's name is the index of a word, and not of the first, which is MODULE, nor of the last, which is ENDMODULE.
 abbrev pub SmallName : Step → Type 0
-SmallName s = (0 < s .name) × (s .name < parts)
+SmallName s = (0 < s .name) × (s .name + 1 < parts)
 
 -- A FOR owns a word behind its routine's parameters and data, which are so many.
 unfoldable pub LoopFits : (words : ℕ) → Action → Type 0

@@ -1,5 +1,6 @@
 pub mod Numbers
 pub mod Operators
 pub mod Operands
+pub mod Places
 pub mod Steps
 pub mod Unique

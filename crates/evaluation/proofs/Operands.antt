@@ -39,7 +39,7 @@ load-module : (m n : ℕ) (X : List ℕ) (base k : ℕ) → k < m → load (memo
 unfolding memoryIn load
 load-module m n X base k h = map-at (take m X) k ∙ ap (toZ w32) (getD-take m X k 0 h)
 
-load-call : (m n : ℕ) (X : List ℕ) (base k : ℕ) → k < n → load (memoryIn m n X base) (ofRoutine k) ≡ toZ w32 (getD X (base + k) 0)
+pub load-call : (m n : ℕ) (X : List ℕ) (base k : ℕ) → k < n → load (memoryIn m n X base) (ofRoutine k) ≡ toZ w32 (getD X (base + k) 0)
 unfolding memoryIn load
 load-call m n X base k h = map-at (take n (drop base X)) k ∙ ap (toZ w32) (getD-take n (drop base X) k 0 h ∙ getD-drop base X k 0)
 

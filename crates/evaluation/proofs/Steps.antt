@@ -25,6 +25,7 @@ use Rattle.code.proofs.Spanning.{end-span, end-leaf, right-span, right-leaf, ch
 use Rattle.evaluation.specs.Answers.{firstError, decoded, Small, Gives, Counts, termOf, memoryOf, Stands, Evaluated}
 use Rattle.evaluation.specs.Parts.{cellValues, joined, failureOf, failing, Worked, Leaf, Read, closedTerm, opensAt, endsAt, Closes, Closed, Encloses, Entered}
 use Rattle.evaluation.proofs.Numbers.{is-value, is-error, small-value}
+use Rattle.evaluation.proofs.Places.{head-in, operand-some, right-in}
 
 -- ---- what the loop keeps
 
@@ -108,7 +109,9 @@ module _ (code values : List ℕ) (base : ℕ) where
     stands-less = span-grows (sd .c .m) (sd .c .n) (wordsOf code) from to (sd .t) (sd .is)
 
     pub stands-in : from * 8 + 8 ≤ length code
-    stands-in = omega (arith, stands-less, sd .room)
+    stands-in =
+        let b = begins (sd .c) (sd .t) (sd .is) in
+        head-in code from (sd .whole) (operand-some (sd .c .m) (sd .c .n) (wordsOf code) (termIn (sd .c .m) (sd .c .n) (wordsOf code)) from (b .x) (b .first))
 
     -- from the first operand on
     starts : (a : ℤ) (i : ℕ) → Small a
@@ -199,7 +202,7 @@ module _ (code values : List ℕ) (base : ℕ) where
           u = begins (sd .c) (sd .t) (sd .is) .x .0;
           inside = ghost .inside;
           is = ghost .is;
-          room = omega (arith, encloses-on, sd .room);
+          whole = sd .whole;
         }
 
         pub start-enclosed : (z : ℤ) → SFits w64 z → Entered code values base from w l z → Run code values base from to (read z) (endsAt (w % 256) l)
@@ -213,14 +216,16 @@ module _ (code values : List ℕ) (base : ℕ) where
     opens-low s es = test (leb (w % 256) 5) (λ t. let q : s ≡ at + 2 = es ∙ rw (t, opensAt) in omega arith) (λ t. let q : s ≡ at + 1 = es ∙ rw (t, opensAt) in omega arith)
 
     pub at-room : at * 8 + 8 ≤ length code
-    at-room = omega (arith, opens-low (opensAt (w % 256) at) refl, span-grows (en .c .m) (en .c .n) (wordsOf code) (opensAt (opIn w) at) l (en .t) (en .inside), en .room)
+    at-room =
+        let g : Stands code (opensAt (w % 256) at) l = record { c = en .c; t = en .t; is = en .inside; whole = en .whole } in
+        omega (arith, opens-low (opensAt (w % 256) at) refl, stands-in (opensAt (w % 256) at) l g)
 
     pub closes : Closes w
     closes = record { c = en .c; t = en .t; u = en .u; is = en .is }
 
     module _ (s : ℕ) (es : s ≡ opensAt (w % 256) at) where
       pub inside-stands : Stands code s l
-      inside-stands = record { c = en .c; t = en .t; is = ap (λ (j : ℕ). termOf (en .c) code j l) es ∙ en .inside; room = en .room }
+      inside-stands = record { c = en .c; t = en .t; is = ap (λ (j : ℕ). termOf (en .c) code j l) es ∙ en .inside; whole = en .whole }
 
       pub inside-in : s * 8 + 8 ≤ length code
       inside-in = stands-in s l inside-stands
@@ -276,9 +281,6 @@ module _ (code values : List ℕ) (base : ℕ) where
     left-is c t e = sym (go .run .left c t e .is) ∙ is-value a (small-value a (go .small))
 
     module _ (h : i < to) where
-      pub turn-in : i * 8 + 8 ≤ length code
-      turn-in = omega (arith, go .run .stands .room)
-
       next : (c : Counts) (t : Term) (e : termOf c code from to ≡ some t)
           → Step (c .m) (c .n) (wordsOf code) (termIn (c .m) (c .n) (wordsOf code)) (go .run .left c t e .g) (go .run .left c t e .u) i to t
       next c t e =
@@ -295,6 +297,11 @@ module _ (code values : List ℕ) (base : ℕ) where
       right-more =
           right-moves (go .run .stands .c .m) (go .run .stands .c .n) (wordsOf code) (termIn (go .run .stands .c .m) (go .run .stands .c .n) (wordsOf code))
           (span-grows (go .run .stands .c .m) (go .run .stands .c .n) (wordsOf code)) i (ghost-next .u) (ghost-next .right)
+
+      pub turn-in : i * 8 + 8 ≤ length code
+      turn-in =
+          right-in code i (go .run .stands .whole) (go .run .stands .c .m) (go .run .stands .c .n) (termIn (go .run .stands .c .m) (go .run .stands .c .n) (wordsOf code))
+          (span-grows (go .run .stands .c .m) (go .run .stands .c .n) (wordsOf code)) (ghost-next .u) (ghost-next .right)
 
       module _ (w : ℕ) (ew : w ≡ headAt (wordsOf code) i) where
         number : ℕ
@@ -327,7 +334,7 @@ module _ (code values : List ℕ) (base : ℕ) where
             c = go .run .stands .c;
             t = ghost-next .u;
             is = right-is (go .run .stands .c) (ghost-next .u) (ghost-next .right);
-            room = omega (arith, end-is, right-on, go .run .stands .room);
+            whole = go .run .stands .whole;
           }
 
           pub span-less : r - (i + 1) < to - from

@@ -3,7 +3,7 @@ use mathlib.Core.Path.{_≡_}
 use mathlib.Core.Bool.{true, false}
 use mathlib.Core.List.{List}
 use mathlib.Core.Option.{Option, some}
-use Prim.Native.Nat.{ℕ, _+_, _-_, _*_, _<_, _≤_}
+use Prim.Native.Nat.{ℕ, _+_, _-_, _*_, _%_, _<_, _≤_}
 use lib.ListN.{length, getD}
 use lib.IntN.{ℤ, pos, natAbs}
 use lib.Signed.{ltZ}
@@ -59,12 +59,12 @@ pub record Stores (values : List ℕ) (base : ℕ) : Type 0 where
   pub call : (base + callWords) * 4 ≤ length values
   pub number : getD (wordsOf values) errnoCell 0 < firstNegative
 
--- An expression stands in the words from `from` up to `to`.
+-- An expression stands in the words from `from` up to `to`. The code store has whole words, of two cells each: so those that say something are in it.
 pub record Stands (code : List ℕ) (from to : ℕ) : Type 0 where
   pub c : Counts
   pub t : Term
   pub is : termOf c code from to ≡ some t
-  pub room : to * 8 ≤ length code
+  pub whole : length code % 8 ≡ 0
 
 -- r is what the expression is worth that stands there.
 pub record Evaluated (code values : List ℕ) (base from to : ℕ) (r : ℤ) : Type 0 where

@@ -3,7 +3,7 @@ use mathlib.Core.Path.{_≡_}
 use mathlib.Core.Bool.{Bool, true, false}
 use mathlib.Core.List.{List}
 use mathlib.Core.Option.{Option, some}
-use Prim.Native.Nat.{ℕ, _+_, _*_, _<_, _≤_}
+use Prim.Native.Nat.{ℕ, _+_, _%_, _<_}
 use lib.Dec.{eqb, leb, ltb}
 use lib.ListN.{length}
 use lib.IntN.{ℤ}
@@ -13,7 +13,8 @@ use mir.Val.{SFits, toZ}
 use Rattle.paper.specs.Basics.{if_then_else_}
 use Rattle.paper.specs.Numbers.{num, Value, value, error, isZero, overflow, divZero}
 use Rattle.paper.specs.Terms.{Term, unary, known, combined, worth}
-use Rattle.code.specs.Cells.{opIn, valueIn}
+use Rattle.cells.specs.Words.{wordsOf}
+use Rattle.code.specs.Cells.{opIn, valueIn, linkAt}
 use Rattle.code.specs.Spans.{aCallElement, aParenthesis, prefixIn, operatorOf, leafTerm, elementTerm}
 use Rattle.evaluation.specs.Answers.{decoded, Small, Counts, termOf, memoryOf}
 
@@ -61,6 +62,15 @@ cellValues = 4294967296
 
 abbrev pub headValues : ℕ
 headValues = 16777216
+
+-- what a link counts to
+abbrev pub links : ℕ
+links = 65536
+
+-- a link that was read
+pub record Linked (code : List ℕ) (i l : ℕ) : Type 0 where
+  pub is : l ≡ linkAt (wordsOf code) i
+  pub small : l < links
 
 -- a word that was loaded
 pub record Loaded (k : ℕ) (z : ℤ) : Type 0 where
@@ -123,7 +133,7 @@ pub record Encloses (code : List ℕ) (at w l : ℕ) : Type 0 where
   pub u : Term
   pub inside : termOf c code (opensAt (opIn w) at) l ≡ some t
   pub is : closedTerm c (opIn w) (valueIn w) t ≡ some u
-  pub room : l * 8 ≤ length code
+  pub whole : length code % 8 ≡ 0
 
 pub record Entered (code values : List ℕ) (base at w l : ℕ) (r : ℤ) : Type 0 where
   pub is : (c : Counts) (t u : Term) → termOf c code (opensAt (opIn w) at) l ≡ some t → closedTerm c (opIn w) (valueIn w) t ≡ some u

@@ -9,10 +9,10 @@ ghost use mir.Val.{SFits};
 ghost use Rattle.paper.specs.Numbers.{value, error, isZero, same};
 ghost use Rattle.paper.specs.Terms.{truth, applied, known};
 ghost use Rattle.cells.specs.Words.{wordsOf};
-ghost use Rattle.code.specs.Cells.{headAt, linkAt};
+ghost use Rattle.code.specs.Cells.{headAt};
 ghost use Rattle.code.specs.Spans.{prefixIn, operatorOf};
 ghost use Rattle.evaluation.specs.Answers.{firstError, decoded, Small, Gives, Stores, Stands, Evaluated};
-ghost use Rattle.evaluation.specs.Parts.{failureOf, failing, Worked, Divided, addresses, Loaded, Leaf, Read, cellOf, opensAt, endsAt, Array, Indexed, Closes, Closed, Encloses, Entered};
+ghost use Rattle.evaluation.specs.Parts.{failureOf, failing, Worked, Divided, addresses, Linked, Loaded, Leaf, Read, cellOf, opensAt, endsAt, Array, Indexed, Closes, Closed, Encloses, Entered};
 ghost use Rattle.evaluation.specs.Parts as parts;
 
 // ---- ops, as the specs of code have them
@@ -333,7 +333,7 @@ fn head(code: &[u8], i: usize) -> u32
 
 fn link(code: &[u8], i: usize) -> usize
     requires { ⌜ i * 8 + 8 ≤ length (now code) ⌝ }
-    ensures { λ r. ⌜ r ≡ linkAt (wordsOf (now (code .entry))) i ⌝ }
+    ensures { λ r. ⌜ Linked (now (code .entry)) i r ⌝ }
 {
     (cells::get(code, i * 2 + 1) / PLACES) as usize
 }

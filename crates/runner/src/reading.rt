@@ -7,7 +7,7 @@ ghost use mir.Val.{SFits};
 ghost use Rattle.cells.specs.Words.{wordsOf};
 ghost use Rattle.code.specs.Cells.{headAt, valueAt, placeAt, linkAt};
 ghost use Rattle.evaluation.specs.Parts.{Loaded};
-ghost use Rattle.runner.specs.Reading.{Stored};
+ghost use Rattle.runner.specs.Reading.{valueEnd, halfEnd, Part, Stored};
 
 // a head has its value above its op, a tail its link above its place
 const OPS: u32 = 256;
@@ -23,21 +23,21 @@ pub fn head(code: &[u8], i: usize) -> u32
 
 pub fn value(code: &[u8], i: usize) -> usize
     requires { ⌜ i * 8 + 8 ≤ length (now code) ⌝ }
-    ensures { λ r. ⌜ r ≡ valueAt (wordsOf (now (code .entry))) i ⌝ }
+    ensures { λ r. ⌜ Part valueEnd (valueAt (wordsOf (now (code .entry))) i) r ⌝ }
 {
     (cells::get(code, i * 2) / OPS) as usize
 }
 
 pub fn link(code: &[u8], i: usize) -> usize
     requires { ⌜ i * 8 + 8 ≤ length (now code) ⌝ }
-    ensures { λ r. ⌜ r ≡ linkAt (wordsOf (now (code .entry))) i ⌝ }
+    ensures { λ r. ⌜ Part halfEnd (linkAt (wordsOf (now (code .entry))) i) r ⌝ }
 {
     (cells::get(code, i * 2 + 1) / PLACES) as usize
 }
 
 pub fn place(code: &[u8], i: usize) -> usize
     requires { ⌜ i * 8 + 8 ≤ length (now code) ⌝ }
-    ensures { λ r. ⌜ r ≡ placeAt (wordsOf (now (code .entry))) i ⌝ }
+    ensures { λ r. ⌜ Part halfEnd (placeAt (wordsOf (now (code .entry))) i) r ⌝ }
 {
     (cells::get(code, i * 2 + 1) % PLACES) as usize
 }
