@@ -11,7 +11,7 @@ use mir.Val.{toZ}
 use borrow.Author.Tests.{lt-ltb, le-ltb}
 use Rattle.laws.proofs.Tests.{apart, false-true}
 use Rattle.paper.specs.Answer as paper
-use Rattle.paper.specs.Answer.{storeWords, recordSize, recordBytes, Verdict, refusedBy, accepted, verdict, Question, Result, Lent, LentBytes, lentOf, questionOf, refusedWith, carriedOut, tooSmall, badDepth, result, answer, bytesAfter, spread, pendantCall}
+use Rattle.paper.specs.Answer.{storeWords, recordSize, recordBytes, Verdict, refusedBy, accepted, verdict, Question, Result, LentBytes, lentOf, questionOf, refusedWith, carriedOut, tooSmall, badDepth, result, answer, spread, pendantCall}
 use Rattle.cells.specs.Words.{wordsOf, Cleared}
 use Rattle.cells.proofs.Laws.{length-words}
 use Rattle.cells.proofs.Paper.{words-paper}
@@ -85,7 +85,7 @@ module _ (text : List ℕ) (steps depth : ℕ) (inputs out code values fields : 
     call-tells R e out′ code′ values′ fields′ t c v =
         let p : pendantCall all ≡ spread (answer (lentOf all)) all = rw (le-ltb (length fields) recordSize h, pendantCall) in
         let q : answer (lentOf all)
-            ≡ record { fields = R .fields; output = R .written ++ drop (length (R .written)) out; code = paper.storeAfter [] (paper.wordsOf code); values = paper.storeAfter (R .kept) (paper.wordsOf values) } =
+        ≡ record { fields = R .fields; output = R .written ++ drop (length (R .written)) out; code = paper.storeAfter [] (paper.wordsOf code); values = paper.storeAfter (R .kept) (paper.wordsOf values) } =
         rw (not-small, answer) (rw e) in
         let w = t .output in
         let x = t .told .bytes in

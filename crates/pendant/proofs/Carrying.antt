@@ -1,9 +1,8 @@
 -- An accepted module carried out: what the run promises is what the paper's result says.
 use mathlib.Core.Path.{_≡_, refl, sym, ap, ap₂, _∙_}
-use mathlib.Core.List.{List, [], _∷_, _++_, map}
-use Prim.Native.Nat.{ℕ, suc, _+_, _-_, _*_, _/_, _≤_, _<_}
+use mathlib.Core.List.{List, _++_, map}
+use Prim.Native.Nat.{ℕ, _+_, _-_, _*_, _/_, _≤_, _<_}
 use native.Mathlib.Omega.{arith}
-use lib.IntN.{ℤ, pos}
 use lib.ListN.{length, getD, take, drop, length-map, length-append, take-append-drop, List·getD-append, List·getD-eq-default}
 use lib.Seq.{length-take-le, take-take, take-append-le, drop-at, getD-take}
 use mir.Syntax.{w32}
@@ -11,7 +10,7 @@ use mir.Val.{toZ}
 use Rattle.laws.proofs.Lists.{map-take}
 use Rattle.laws.proofs.Tests.{by-less}
 use Rattle.paper.specs.Answer as paper
-use Rattle.paper.specs.Answer.{storeWords, Record, lentOf, questionOf, verdict, accepted, Result, endedWith, ranTo, carriedOut, offsetOf}
+use Rattle.paper.specs.Answer.{storeWords, Record, lentOf, questionOf, verdict, accepted, endedWith, ranTo, carriedOut, offsetOf}
 use Rattle.paper.specs.States.{Rooms}
 use Rattle.paper.specs.Running as running
 use Rattle.cells.specs.Words.{wordsOf, Got, Cleared}
@@ -106,9 +105,6 @@ module _ {text code values fields : List ℕ} {words main depth : ℕ} (a : Acce
 
     pub room-for : (n : ℕ) → n ≤ storeBytes → n ≤ length (after ++ drop storeBytes values)
     room-for n h = omega (arith, whole-size, a .values-room)
-
-    pub clear-room : (words + (storeWords - words)) * 4 ≤ length (after ++ drop storeBytes values)
-    clear-room = omega (arith, whole-size, a .values-room, few-words)
 
     whole-past : drop storeBytes (after ++ drop storeBytes values) ≡ drop storeBytes values
     whole-past = drop-at after (drop storeBytes values) storeBytes after-size

@@ -5,7 +5,7 @@ use Prim.Native.Nat.{ℕ, _<_, _≤_}
 use native.Mathlib.Omega.{arith}
 use lib.Dec.{eqb, ltb}
 use borrow.Author.Tests.{eq-eqb, ne-eqb, eqb-false, ltb-false}
-use Rattle.laws.proofs.Tests.{test, false-true}
+use Rattle.laws.proofs.Tests.{false-true}
 use Rattle.paper.specs.Answer.{depthLimit}
 
 abbrev pub isBad : ℕ → Bool

@@ -2,7 +2,7 @@
 use mathlib.Core.Path.{_≡_}
 use mathlib.Core.List.{List}
 use Prim.Native.Nat.{ℕ}
-use Rattle.paper.specs.Answer.{LentBytes, BytesAnswer, pendantCall}
+use Rattle.paper.specs.Answer.{LentBytes, pendantCall}
 
 unfoldable pub lent : (text : List ℕ) → (steps depth : ℕ) → (inputs out code values record′ : List ℕ) → LentBytes
 lent text steps depth inputs out code values fields =

@@ -32,7 +32,7 @@ pub record Left (kept : List ℤ) (before after : List ℕ) : Type 0 where
   pub size : length after ≡ length before
   pub past : drop storeBytes after ≡ drop storeBytes before
 
--- The stores hold the module that the text is, as the check leaves them: it has so many words, and main begins at a word.
+-- The stores hold the module that the text is, as the check leaves them: it has so many words of data, and main begins at a word of the text, of which there are n.
 pub record Accepts (text code values fields : List ℕ) (words main depth : ℕ) : Type 0 where
   pub a : Accepted
   pub n : ℕ

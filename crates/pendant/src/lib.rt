@@ -93,13 +93,35 @@ fn carry_out<'a>(
     requires { ⌜ Accepts (now text) (now code) (now values) (now fields) words main depth ⌝ }
     ensures { λ _. ⌜ Tells (carriedOut (asked (now (text .entry)) steps depth (now (inputs .entry)) (now (out .entry))) (verdict (now (text .entry)))) (now (out .entry)) (now (code .entry)) (now (values .entry)) (now (fields .entry)) (now (out .exit)) (now (code .exit)) (now (values .exit)) (now (fields .exit)) ⌝ }
 {
-    let e = runner::run(text, &code[..STORE], &mut values[..STORE], inputs, out, main, steps, depth);
+    let e = runner::run(
+        text,
+        &code[..STORE],
+        &mut values[..STORE],
+        inputs,
+        out,
+        main,
+        steps,
+        depth,
+    );
     let errno = cells::get(values, ERRNO);
-    let output = joined(cells::get(values, OUTPUT_LOW), cells::get(values, OUTPUT_HIGH));
+    let output = joined(
+        cells::get(values, OUTPUT_LOW),
+        cells::get(values, OUTPUT_HIGH),
+    );
     let used = cells::get(values, INPUTS);
     cells::clear(code, 0, CELLS);
     cells::clear(values, words, CELLS - words);
-    put_record(fields, e.ending as u64, 0, e.place as u64, (steps - e.left) as u64, errno as u64, output, used as u64, words as u64);
+    put_record(
+        fields,
+        e.ending as u64,
+        0,
+        e.place as u64,
+        (steps - e.left) as u64,
+        errno as u64,
+        output,
+        used as u64,
+        words as u64,
+    );
 }
 
 // Checks the module text and carries it out. 1, or 0 where the record is too short, and then nothing is touched.
@@ -135,7 +157,18 @@ pub extern "C" fn rapid_run<'a>(
     }
     match checker::check(text, code, values) {
         Checked::Refused(number, offset) => refuse(fields, number, offset),
-        Checked::Accepted(_, words, main) => carry_out(text, steps, depth, inputs, out, code, values, fields, words, main),
+        Checked::Accepted(_, words, main) => carry_out(
+            text,
+            steps,
+            depth,
+            inputs,
+            out,
+            code,
+            values,
+            fields,
+            words,
+            main,
+        ),
     }
     1
 }

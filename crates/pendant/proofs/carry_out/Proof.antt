@@ -2,7 +2,7 @@ use borrow.Author.Needs.{needs}
 use mathlib.Core.Path.{_∙_}
 use native.Mathlib.Omega.{arith}
 use lib.ListN.{length-take}
-use Rattle.pendant.proofs.Carrying.{few-words, begins, left-steps, whole-size, room-for, clear-room, carried}
+use Rattle.pendant.proofs.Carrying.{few-words, begins, left-steps, whole-size, room-for, carried}
 use Rattle.pendant.proofs.carry_out.Statement.{statement}
 use Rattle.pendant.proofs.carry_out.Tie as tie
 
@@ -28,15 +28,15 @@ run-requires c κs = begins (c .before .before .before .before .before .before .
 
 -- src/lib.rt:97:9
 get-requires : tie.Need-get-requires
-get-requires c κs = room-for (c .before .before .before .before .before .before .before .before .before .before .before .before .before .before .before .pre) (c .before .before .before .before .before .run .ensures) 5056 (omega arith)
+get-requires c κs = room-for (c .before .before .before .before .before .before .before .before .before .before .before .before .before .before .before .pre) (c .before .before .before .before .before .run .ensures) _ (omega arith)
 
 -- src/lib.rt:98:25
 get-requires-2 : tie.Need-get-requires-2
-get-requires-2 c κs = room-for (c .before .before .before .before .before .before .before .before .before .before .before .before .before .before .before .before .before .pre) (c .before .before .before .before .before .before .before .run .ensures) 5044 (omega arith)
+get-requires-2 c κs = room-for (c .before .before .before .before .before .before .before .before .before .before .before .before .before .before .before .before .before .pre) (c .before .before .before .before .before .before .before .run .ensures) _ (omega arith)
 
 -- src/lib.rt:98:57
 get-requires-3 : tie.Need-get-requires-3
-get-requires-3 c κs = room-for (c .before .before .before .before .before .before .before .before .before .before .before .before .before .before .before .before .before .before .before .pre) (c .before .before .before .before .before .before .before .before .before .run .ensures) 5048 (omega arith)
+get-requires-3 c κs = room-for (c .before .before .before .before .before .before .before .before .before .before .before .before .before .before .before .before .before .before .before .pre) (c .before .before .before .before .before .before .before .before .before .run .ensures) _ (omega arith)
 
 -- src/lib.rt:98:9
 joined-requires : tie.Need-joined-requires
@@ -44,7 +44,7 @@ joined-requires c κs = search needs
 
 -- src/lib.rt:99:9
 get-requires-4 : tie.Need-get-requires-4
-get-requires-4 c κs = room-for (c .before .before .before .before .before .before .before .before .before .before .before .before .before .before .before .before .before .before .before .before .before .before .pre) (c .before .before .before .before .before .before .before .before .before .before .before .before .run .ensures) 5052 (omega arith)
+get-requires-4 c κs = room-for (c .before .before .before .before .before .before .before .before .before .before .before .before .before .before .before .before .before .before .before .before .before .before .pre) (c .before .before .before .before .before .before .before .before .before .before .before .before .run .ensures) _ (omega arith)
 
 -- src/lib.rt:100:5
 clear-requires : tie.Need-clear-requires
@@ -56,7 +56,7 @@ sub-clear c = omega (arith, few-words (c .before .before .before .before .before
 
 -- src/lib.rt:101:5
 clear-requires-2 : tie.Need-clear-requires-2
-clear-requires-2 c κs = clear-room (c .before .before .before .before .before .before .before .before .before .before .before .before .before .before .before .before .before .before .before .before .before .before .before .before .before .before .before .before .pre) (c .before .before .before .before .before .before .before .before .before .before .before .before .before .before .before .before .before .before .run .ensures)
+clear-requires-2 c κs = omega (arith, few-words (c .before .before .before .before .before .before .before .before .before .before .before .before .before .before .before .before .before .before .before .before .before .before .before .before .before .before .before .before .pre), room-for (c .before .before .before .before .before .before .before .before .before .before .before .before .before .before .before .before .before .before .before .before .before .before .before .before .before .before .before .before .pre) (c .before .before .before .before .before .before .before .before .before .before .before .before .before .before .before .before .before .before .run .ensures) 65536 (omega arith))
 
 -- src/lib.rt:102:24
 cast-put-record : tie.Need-cast-put-record
@@ -100,7 +100,7 @@ same-length-4 c = search needs
 
 -- src/lib.rt:81:1
 returns : tie.Need-returns
-returns c = 
+returns c =
     let c1 = c .before .before in
     let c2 = c1 .before .before .before .before .before .before in
     let c3 = c2 .before .before .before .before in

@@ -1,17 +1,13 @@
 use borrow.Author.Needs.{needs}
+use mathlib.Core.Path.{sym, _∙_}
+use mathlib.Core.List.{[]}
+use Rattle.pendant.proofs.Answering.{call-short, small-code, small-values, call-deep, accepts, call-refused, call-carried}
 use Rattle.pendant.proofs.rapid_run.Statement.{statement}
 use Rattle.pendant.proofs.rapid_run.Tie as tie
-use Rattle.pendant.proofs.rapid_run.Reads as reads
-use Rattle.pendant.proofs.rapid_run.Lts as lts
-use Rattle.cells.proofs.clear.Reads as clear-reads
-use Rattle.checker.proofs.check.Reads as check-reads
-use Rattle.pendant.proofs.bad_depth.Reads as bad-depth-reads
-use Rattle.pendant.proofs.carry_out.Reads as carry-out-reads
-use Rattle.pendant.proofs.refuse.Reads as refuse-reads
 
 -- src/lib.rt:120:9
 returns : tie.Need-returns
-returns c = ?
+returns c = call-short _ _ _ _ _ _ _ _ (c .if1 .taken)
 
 -- src/lib.rt:123:9
 refuse-requires : tie.Need-refuse-requires
@@ -23,7 +19,10 @@ same-length c = search needs
 
 -- src/lib.rt:124:9
 returns-2 : tie.Need-returns-2
-returns-2 c = ?
+returns-2 c =
+    small-code _ _ _ _ _ _ _ _ (c .before .before .before .before .before .if1 .left) (c .before .before .before .before .if2 .taken) _ (c .before .before .refuse .ensures)
+    (c .before .before .before .before .before .before .before .before .slice-known2 .given)
+    (c .before .before .before .before .before .before .before .slice-known3 .given)
 
 -- src/lib.rt:127:9
 refuse-requires-2 : tie.Need-refuse-requires-2
@@ -35,7 +34,10 @@ same-length-2 c = search needs
 
 -- src/lib.rt:128:9
 returns-3 : tie.Need-returns-3
-returns-3 c = ?
+returns-3 c =
+    small-values _ _ _ _ _ _ _ _ (c .before .before .before .before .before .before .if1 .left) (c .before .before .before .before .before .if2 .left) (c .before .before .before .before .if3 .taken) _ (c .before .before .refuse2 .ensures)
+    (c .before .before .before .before .before .before .before .before .before .slice-known2 .given)
+    (c .before .before .before .before .before .before .before .before .slice-known3 .given)
 
 -- src/lib.rt:130:8
 bad-depth-requires : tie.Need-bad-depth-requires
@@ -67,7 +69,16 @@ same-length-5 c = search needs
 
 -- src/lib.rt:134:9
 returns-4 : tie.Need-returns-4
-returns-4 c = ?
+returns-4 c =
+    let c1 = c .before .before .before .before .before .before .before .before .before .before in
+    let c2 = c1 .before .before .before in
+    let c3 = c2 .before .before .before in
+    call-deep _ _ _ _ _ _ _ _ (c3 .if1 .left) (c2 .before .before .if2 .left) (c2 .before .if3 .left) (sym (c1 .before .before .if4 .taken) ∙ c2 .bad-depth .ensures) _ _ _
+    (c1 .clear .ensures)
+    (c .before .before .before .before .before .before .clear2 .ensures)
+    (c .before .before .refuse3 .ensures)
+    (c .before .before .before .before .before .before .before .before .slice-known7 .given)
+    (c .before .before .before .before .slice-known8 .given)
 
 -- src/lib.rt:136:11
 check-requires : tie.Need-check-requires
@@ -87,7 +98,11 @@ enum-known-words c = search needs
 
 -- src/lib.rt:138:46
 carry-out-requires : tie.Need-carry-out-requires
-carry-out-requires c κs = ?
+carry-out-requires c κs =
+    let c1 = c .before .before .before .before .before .before .before .before .before .before .before in
+    let c2 = c1 .before .before .before .before in
+    accepts _ 0 _ [] [] _ _ _ (c2 .before .before .before .if1 .left) (c2 .before .before .if2 .left) (c2 .before .if3 .left) (sym (c1 .before .before .before .if4 .left) ∙ c2 .bad-depth .ensures)
+    _ _ _ _ _ _ (c1 .check .ensures) (c .before .before .before .before .before .words .given .1)
 
 -- src/lib.rt:106:1
 same-length-6 : tie.Need-same-length-6
@@ -103,7 +118,14 @@ same-length-8 c = search needs
 
 -- src/lib.rt:106:1
 returns-5 : tie.Need-returns-5
-returns-5 c = ?
+returns-5 c =
+    let c1 = c .before .before .before .before .before .before .before .before .before .before .before in
+    let c2 = c1 .before .before .before .before in
+    call-refused _ _ _ _ _ _ _ _ (c2 .before .before .before .if1 .left) (c2 .before .before .if2 .left) (c2 .before .if3 .left) (sym (c1 .before .before .before .if4 .left) ∙ c2 .bad-depth .ensures)
+    _ _ _ _ _ _ (c1 .check .ensures) (c .before .before .before .before .before .number .given .1)
+    (c .before .before .refuse4 .ensures)
+    (c .before .before .before .before .before .before .before .before .before .slice-known10 .given)
+    (c .before .before .before .before .before .before .before .slice-known11 .given)
 
 -- src/lib.rt:106:1
 same-length-9 : tie.Need-same-length-9
@@ -123,7 +145,15 @@ same-length-12 c = search needs
 
 -- src/lib.rt:106:1
 returns-6 : tie.Need-returns-6
-returns-6 c = ?
+returns-6 c =
+    let c0 = c .before .before .before .before .before .before .before .before in
+    let c1 = c0 .before .before .before .before .before .before .before .before .before .before .before .before in
+    let c2 = c1 .before .before .before .before in
+    call-carried _ _ _ _ _ _ _ _ (c2 .before .before .before .if1 .left) (c2 .before .before .if2 .left) (c2 .before .if3 .left) (sym (c1 .before .before .before .if4 .left) ∙ c2 .bad-depth .ensures)
+    _ _ _ _ _ _ _ _ _ _ (c1 .check .ensures) (c .before .before .before .before .before .before .before .before .before .before .before .before .before .before .words .given .1)
+    (c0 .carry-out .ensures)
+    (c .before .before .before .before .slice-known14 .given)
+    (c .before .before .slice-known15 .given)
 
 pub rapid-run-spec : {M : Type 1} → statement M
 rapid-run-spec =
