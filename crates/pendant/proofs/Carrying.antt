@@ -1,0 +1,176 @@
+-- An accepted module carried out: what the run promises is what the paper's result says.
+use mathlib.Core.Path.{_≡_, refl, sym, ap, ap₂, _∙_}
+use mathlib.Core.List.{List, _++_, map}
+use Prim.Native.Nat.{ℕ, _+_, _-_, _*_, _/_, _≤_, _<_}
+use native.Mathlib.Omega.{arith}
+use lib.ListN.{length, getD, take, drop, length-map, length-append, take-append-drop, List·getD-append, List·getD-eq-default}
+use lib.Seq.{length-take-le, take-take, take-append-le, drop-at, getD-take}
+use mir.Syntax.{w32}
+use mir.Val.{toZ}
+use Rattle.laws.proofs.Lists.{map-take}
+use Rattle.laws.proofs.Tests.{by-less}
+use Rattle.paper.specs.Answer as paper
+use Rattle.paper.specs.Answer.{storeWords, Record, lentOf, questionOf, verdict, accepted, endedWith, ranTo, carriedOut, offsetOf}
+use Rattle.paper.specs.States.{Rooms}
+use Rattle.paper.specs.Running as running
+use Rattle.cells.specs.Words.{wordsOf, Got, Cleared}
+use Rattle.cells.proofs.Laws.{length-words, words-take, words-append}
+use Rattle.cells.proofs.Paper.{words-paper}
+use Rattle.code.specs.Windows.{writtenIn}
+use Rattle.checker.specs.declared.Checked.{Checked}
+use Rattle.checker.specs.declared.Checked.the-variants as checked
+use Rattle.checker.specs.Checks.{storeBytes}
+use Rattle.runner.specs.declared.Ended.{Ended}
+use Rattle.runner.specs.Runs.{Begins, Comes, Ran}
+use Rattle.pendant.specs.Calls.{lent}
+use Rattle.pendant.specs.Carries.{asked, fieldsOf, Written, Accepts, Tells}
+use Rattle.pendant.proofs.Stores.{left-cleared, left-empty}
+
+-- ---- what the check's answer says
+wordsIn : Checked → ℕ
+wordsIn (checked.Accepted n w h) = w
+wordsIn (checked.Refused n o) = 0
+
+mainIn : Checked → ℕ
+mainIn (checked.Accepted n w h) = h
+mainIn (checked.Refused n o) = 0
+
+-- ---- the first part of a list of bytes
+first-words : (l : List ℕ) → wordsOf (take storeBytes l) ≡ take storeWords (wordsOf l)
+first-words l = words-take storeWords l
+
+module _ {text code values fields : List ℕ} {words main depth : ℕ} (a : Accepts text code values fields words main depth) where
+  words-are : words ≡ length (a .a .program .words)
+  unfolding wordsIn
+  words-are = ap wordsIn (a .ready .answer)
+
+  pub few-words : words ≤ 1024
+  few-words = rw words-are (a .ready .holds .room)
+
+  many : storeWords ≤ length (wordsOf values)
+  many = omega (arith, length-words values, a .values-room)
+
+  pub begins : Begins text (take storeBytes code) (take storeBytes values) main depth
+  unfolding mainIn
+  begins =
+      let few : length (a .a .program .words) ≤ 1024 = a .ready .holds .room in
+      record {
+        P = a .a .program;
+        R = a .ready .R;
+        offset = offsetOf text (a .a .words);
+        main = a .a .main;
+        holds = a .ready .holds;
+        code-size = length-take-le storeBytes code (a .code-room);
+        values-size = length-take-le storeBytes values (a .values-room);
+        some = a .some;
+        most = a .most;
+        there = a .ready .there;
+        main-is = sym (ap mainIn (a .ready .answer));
+        alone = a .ready .alone;
+        words = ap (λ (x : List ℕ). map (toZ w32) (take (length (a .a .program .words)) x)) (first-words values)
+            ∙ ap (map (toZ w32)) (take-take (length (a .a .program .words)) storeWords (wordsOf values) (omega arith))
+            ∙ a .ready .words;
+        zeros = λ c m. ap (λ (x : List ℕ). getD x c 0) (first-words values)
+            ∙ by-less c storeWords
+            (λ h. getD-take storeWords (wordsOf values) c 0 h ∙ a .ready .zeros c m h)
+            (λ h. List·getD-eq-default (take storeWords (wordsOf values)) 0 (rw (length-take-le storeWords (wordsOf values) many) h));
+      }
+
+  -- ---- after the run
+  module _ {inputs out after out′ : List ℕ} {steps : ℕ} {e : Ended}
+      (ran : Ran text (take storeBytes code) (take storeBytes values) after inputs out out′ main steps depth e) where
+    rooms : Rooms
+    rooms = record { depth = depth; output = length out; inputs = paper.wordsOf inputs }
+
+    ended : running.Ended
+    ended = running.run (a .a .program) rooms steps (running.started (a .a .program) (a .a .main))
+
+    comes : Comes (a .a .program) (offsetOf text (a .a .words)) after out out′ steps ended e
+    unfolding rooms ended begins
+    comes = ran .is begins rooms refl (record { room = refl; reads = words-paper inputs })
+
+    pub left-steps : e .left ≤ steps
+    left-steps = comes .left
+
+    -- the part that the run was lent is back in its store
+    after-size : length after ≡ storeBytes
+    after-size = ran .long ∙ length-take-le storeBytes values (a .values-room)
+
+    pub whole-size : length (after ++ drop storeBytes values) ≡ length values
+    whole-size =
+        length-append after (drop storeBytes values)
+        ∙ ap (λ (n : ℕ). n + length (drop storeBytes values)) (ran .long)
+        ∙ sym (length-append (take storeBytes values) (drop storeBytes values))
+        ∙ ap length (take-append-drop storeBytes values)
+
+    pub room-for : (n : ℕ) → n ≤ storeBytes → n ≤ length (after ++ drop storeBytes values)
+    room-for n h = omega (arith, whole-size, a .values-room)
+
+    whole-past : drop storeBytes (after ++ drop storeBytes values) ≡ drop storeBytes values
+    whole-past = drop-at after (drop storeBytes values) storeBytes after-size
+
+    whole-words : wordsOf (after ++ drop storeBytes values) ≡ wordsOf after ++ wordsOf (drop storeBytes values)
+    whole-words = words-append storeWords after (drop storeBytes values) after-size
+
+    after-words : length (wordsOf after) ≡ storeWords
+    after-words = length-words after ∙ ap (λ (n : ℕ). n / 4) after-size
+
+    cell : (c : ℕ) → c < storeWords → getD (wordsOf (after ++ drop storeBytes values)) c 0 ≡ getD (wordsOf after) c 0
+    cell c h =
+        ap (λ (x : List ℕ). getD x c 0) whole-words
+        ∙ List·getD-append (wordsOf after) (wordsOf (drop storeBytes values)) 0 c (rw after-words h)
+
+    kept-are : take words (paper.wordsOf (after ++ drop storeBytes values)) ≡ ended .state .words
+    kept-are =
+        ap (take words) (words-paper (after ++ drop storeBytes values))
+        ∙ sym (map-take (toZ w32) words (wordsOf (after ++ drop storeBytes values)))
+        ∙ ap (λ (x : List ℕ). map (toZ w32) (take words x)) whole-words
+        ∙ ap (map (toZ w32)) (take-append-le words (wordsOf after) (wordsOf (drop storeBytes values)) (rw after-words (omega (arith, few-words))))
+        ∙ ap (λ (m : ℕ). map (toZ w32) (take m (wordsOf after))) words-are
+        ∙ comes .words
+
+    kept-many : length (ended .state .words) ≡ words
+    kept-many =
+        ap length (sym (comes .words))
+        ∙ length-map (take (length (a .a .program .words)) (wordsOf after)) (toZ w32)
+        ∙ ap (λ (m : ℕ). length (take m (wordsOf after))) (sym words-are)
+        ∙ length-take-le words (wordsOf after) (rw after-words (omega (arith, few-words)))
+
+    module _ {errno low high used output : ℕ} (errno-is : Got (after ++ drop storeBytes values) 1263 errno) (low-is : Got (after ++ drop storeBytes values) 1260 low)
+        (high-is : Got (after ++ drop storeBytes values) 1261 high) (output-is : output ≡ low + 4294967296 * high) (used-is : Got (after ++ drop storeBytes values) 1262 used) where
+      output-long : output ≡ length (ended .state .output)
+      unfolding writtenIn
+      output-long =
+          output-is
+          ∙ ap₂ (λ (x y : ℕ). x + 4294967296 * y) (low-is ∙ cell 1260 (omega arith)) (high-is ∙ cell 1261 (omega arith))
+          ∙ comes .written (a .ready .R)
+
+      fields-are : fieldsOf (e .ending) 0 (e .place) (steps - e .left) errno output used words ≡ ranTo text (a .a .words) ended .fields
+      unfolding ranTo endedWith
+      fields-are =
+          let e₁ = comes .ending in
+          let e₂ = comes .place in
+          let e₃ = sym (comes .counted) in
+          let e₄ = errno-is ∙ cell 1263 (omega arith) ∙ comes .errno in
+          let e₅ = output-long in
+          let e₆ = used-is ∙ cell 1262 (omega arith) ∙ comes .used in
+          let e₇ = sym kept-many in
+          λ i. record { ending = e₁ i; refusal = 0; offset = e₂ i; steps = e₃ i; errno = e₄ i; output = e₅ i; inputs = e₆ i; words = e₇ i }
+
+      tells : {code′ values′ fields′ : List ℕ} → Cleared code code′ 0 storeWords → Cleared (after ++ drop storeBytes values) values′ words (storeWords - words)
+          → Written fields fields′ (fieldsOf (e .ending) 0 (e .place) (steps - e .left) errno output used words)
+          → Tells (ranTo text (a .a .words) ended) out code values fields out′ code′ values′ fields′
+      unfolding ranTo endedWith
+      tells {code′} {values′} {fields′} c v w =
+          record {
+            output = sym (take-append-drop (length (ended .state .output)) out′) ∙ ap₂ _++_ (comes .output) (comes .past);
+            code-left = left-empty code code′ (a .code-room) c;
+            values-left = left-cleared values (after ++ drop storeBytes values) values′ words v (omega (arith, few-words)) (a .values-room) whole-size whole-past (ended .state .words) kept-many kept-are;
+            told = record { bytes = w .bytes ∙ ap (λ (f : Record). paper.recordBytes f ++ drop 64 fields) fields-are };
+          }
+
+      pub carried : {code′ values′ fields′ : List ℕ} → Cleared code code′ 0 storeWords → Cleared (after ++ drop storeBytes values) values′ words (storeWords - words)
+          → Written fields fields′ (fieldsOf (e .ending) 0 (e .place) (steps - e .left) errno output used words)
+          → Tells (carriedOut (asked text steps depth inputs out) (verdict text)) out code values fields out′ code′ values′ fields′
+      unfolding asked questionOf lentOf lent carriedOut rooms ended
+      carried c v w = rw (a .judged) (tells c v w)

@@ -1,0 +1,6 @@
+pub mod Records
+pub mod Stores
+pub mod Depths
+pub mod Carrying
+pub mod Answering
+pub mod Unique

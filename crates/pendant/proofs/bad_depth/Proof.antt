@@ -1,0 +1,15 @@
+use borrow.Author.Needs.{needs}
+use Rattle.pendant.proofs.Depths.{bad-none, bad-some}
+use Rattle.pendant.proofs.bad_depth.Statement.{statement}
+use Rattle.pendant.proofs.bad_depth.Tie as tie
+
+-- src/lib.rt:42:9
+returns : tie.Need-returns
+returns c = search (needs, bad-none)
+
+-- src/lib.rt:38:1
+returns-2 : tie.Need-returns-2
+returns-2 c = search (needs, bad-some)
+
+pub bad-depth-spec : {M : Type 1} → statement M
+bad-depth-spec = tie.close (tie.spec returns returns-2)
