@@ -316,6 +316,9 @@ module _ (text code values : List ℕ) (k : Setting) (i : ℕ) where
         let q : startsSimple s ≡ true = ap startsSimple (statement-sort text code values k i s es g) ∙ inversions.simple-starts (sortIn (g .stands .around .known .W)) (Parses (sortIn (g .stands .around .known .W))) (g .stands .is) in
         eqb-true s 92 (simp (ne-eqb s 1 a, ne-eqb s 74 b, ne-eqb s 70 c, ne-eqb s 53 d, ne-eqb s 73 e, ne-eqb s 82 f, ne-eqb s 91 h, startsSimple) at q)
 
+    pub begins-read : (s ≡ 1 → ⊥) → (s ≡ 74 → ⊥) → (s ≡ 70 → ⊥) → (s ≡ 53 → ⊥) → (s ≡ 73 → ⊥) → (s ≡ 82 → ⊥) → (s ≡ 91 → ⊥) → Statement text code values k i → BeginsOf 92 text code values i
+    begins-read a b c d e f h g = begins-of 92 (reads-left a b c d e f h g) g
+
     module _ (after : List ℕ) (r : Judged) where
       pub stated-name : s ≡ 1 → Begun 1 code values after i r → Stated text code values after k i r
       unfolding begins-by
