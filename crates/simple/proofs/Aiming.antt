@@ -184,7 +184,7 @@ module _ (code values : List ℕ) (at : ℕ) (g : Targets code values at) where
 
           plain-fine : (after : List ℕ) → Linked code after at (128 + cell % 2) (cell / 256) (linkAt (wordsOf code) at)
               → Fine (judgeTarget (g .known .W) (g .known .S) (g .t) .faults) code after at (g .to) (at + 1)
-                (Aimed (g .known .m) (g .known .n) (wordsOf after) (judgeTarget (g .known .W) (g .known .S) (g .t)) (spotOf (g .known .W) (g .known .S) (g .t)) at (g .to) (eqb (cell / 2 % 2) 1))
+              (Aimed (g .known .m) (g .known .n) (wordsOf after) (judgeTarget (g .known .W) (g .known .S) (g .t)) (spotOf (g .known .W) (g .known .S) (g .t)) at (g .to) (eqb (cell / 2 % 2) 1))
           plain-fine after l =
               let term = ap (λ (x : types.Judged). x .term) plain-judged ∙ judged-term _ _ _ in
               record {
@@ -267,7 +267,7 @@ module _ (code values : List ℕ) (cell at : ℕ) (g : Elements code values cell
 
     array-judged : judgeTarget (g .targets .known .W) (g .targets .known .S) (g .targets .t)
         ≡ judged (typeWith (cell / 2 % 2)) (ofType (g .targets .known .W) (typeIf false) (g .targets .known .S) (braces .e))
-          (elementAt (refWith (cell % 2) (cell / 256 % 1024)) (cell / 256 / 1024) (termOf (g .targets .known .W) (g .targets .known .S) (braces .e)))
+        (elementAt (refWith (cell % 2) (cell / 256 % 1024)) (cell / 256 / 1024) (termOf (g .targets .known .W) (g .targets .known .S) (braces .e)))
     unfolding ofType termOf typeIf
     array-judged =
         judged-element (g .targets .known .W) (g .targets .known .S) (g .targets .t) at (g .targets .is .named) (braces .e) (braces .is)

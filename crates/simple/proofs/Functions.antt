@@ -170,7 +170,7 @@ module _ (code values : List ℕ) (i : ℕ) (g : ForCalls code values i) where
 
         for-written : (final : List ℕ) (next : ℕ) → t ≡ false
             → Fine (faultIf (not (eqb (length (signatureFor (g .around) h .parameters)) (length (g .es)))) 14 i ++ argumentFaults (g .around .known .W) (g .around .known .S) (signatureFor (g .around) h .parameters) (g .es))
-              code final i (g .z) next (CallWritten for-side (wordsOf final) 1)
+            code final i (g .z) next (CallWritten for-side (wordsOf final) 1)
             → Fine (forFaults g j) code final i (g .z) next (ForWritten g (wordsOf final))
         unfolding for-side
         for-written final next y f = record {

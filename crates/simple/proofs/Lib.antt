@@ -17,3 +17,4 @@ pub mod Procedures
 pub mod Leaving
 pub mod Speaking
 pub mod Hearing
+pub mod Whole

@@ -45,7 +45,7 @@ no-routine routine kind bool own value d =
     (λ c. test (eqb kind 4) (λ t. rw (a, meaningWith) (rw b (rw c (rw t))))
     (λ e. test (eqb kind 6) (λ t. rw (a, meaningWith) (rw b (rw c (rw e (rw (ne-eqb kind 5 d) (rw t))))))
     (λ f. test (eqb kind 7) (λ t. rw (a, meaningWith) (rw b (rw c (rw e (rw (ne-eqb kind 5 d) (rw f (rw t)))))))
-    (λ g. rw (a, meaningWith) (rw b (rw c (rw e (rw (ne-eqb kind 5 d) (rw f (rw g)))))))))))) 
+    (λ g. rw (a, meaningWith) (rw b (rw c (rw e (rw (ne-eqb kind 5 d) (rw f (rw g))))))))))))
 
 wrong-low : (m : Meaning) → wrongName m ≤ 12
 unfolding wrongName
