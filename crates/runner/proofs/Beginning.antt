@@ -1,32 +1,31 @@
 -- A run begins: main's window, and the state.
-use mathlib.Core.Path.{_≡_, refl, sym, ap, ap₂, subst, _∙_}
-use mathlib.Core.Bool.{true}
+use mathlib.Core.Path.{_≡_, refl, sym, ap, ap₂, _∙_}
 use mathlib.Core.List.{List, [], _∷_, _++_, map}
 use mathlib.Core.Option.{none, some}
-use Prim.Native.Nat.{ℕ, suc, _+_, _-_, _*_, _/_, _%_, _<_, _≤_}
+use Prim.Native.Nat.{ℕ, suc, _+_, _*_, _/_, _<_, _≤_}
 use native.Mathlib.Omega.{arith}
-use lib.ListN.{length, getD, take, drop, set, replicate, length-append, length-replicate}
+use lib.ListN.{length, getD, take, replicate}
 use lib.Seq.{getD-set-same, getD-set-other}
-use lib.IntN.{ℤ, pos}
+use lib.IntN.{pos}
 use mir.Syntax.{w32}
-use mir.Val.{Fits, toZ}
+use mir.Val.{toZ}
 use Rattle.paper.specs.Steps.{Code, Program}
-use Rattle.paper.specs.States.{Call, State}
+use Rattle.paper.specs.States.{Call}
 use Rattle.paper.specs.Running.{codeAt, newCall, started}
 use Rattle.cells.specs.Words.{wordsOf, Put}
 use Rattle.cells.proofs.Laws.{length-words}
 use Rattle.cells.proofs.Kept.{put-length}
-use Rattle.code.specs.Cells.{placeAt, linkAt, windowOf, errnoCell}
+use Rattle.code.specs.Cells.{placeAt, linkAt, errnoCell}
 use Rattle.code.specs.Steps.{Head, noHead, numbered, parts}
 use Rattle.code.specs.Closed.{isNamed}
 use Rattle.code.specs.Holds.{dataIn, HoldsRoutine}
-use Rattle.code.specs.Windows.{endsCell, stepsCell, routineCell, failedCell, resultCell, writtenCell, usedCell, resultIn, callIn, waiting, writtenIn, stateIn}
-use Rattle.runner.specs.Live.{Live, Below, Sane, nowhere, noneFailed, codeOfCall}
+use Rattle.code.specs.Windows.{endsCell, stepsCell, writtenCell, usedCell, resultIn, callIn, waiting, writtenIn, stateIn}
+use Rattle.runner.specs.Live.{Live, Below, nowhere, noneFailed, codeOfCall}
 use Rattle.runner.specs.Calling.{Holding, Starts, Started}
 use Rattle.runner.specs.Runs.{Begins, MayBegin, Begun}
 use Rattle.runner.proofs.Agreeing.{state-eq}
 use Rattle.runner.proofs.States.{module-same}
-use Rattle.runner.proofs.Writing.{holding-append, holding-same, holding-zeros}
+use Rattle.runner.proofs.Writing.{holding-append, holding-zeros}
 use Rattle.runner.proofs.Fresh.{FreshIn, call-fresh}
 
 module _ (code values : List ℕ) (h : ℕ) where

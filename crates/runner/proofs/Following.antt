@@ -8,10 +8,9 @@ use native.Mathlib.Omega.{arith}
 use lib.ListN.{length}
 use Rattle.laws.proofs.Tests.{by-less, by-same}
 use Rattle.paper.specs.Terms.{Term}
-use Rattle.paper.specs.Steps.{Action}
 use Rattle.cells.specs.Words.{wordsOf}
 use Rattle.code.specs.Cells.{headAt, opAt, valueAt, linkAt}
-use Rattle.code.specs.Steps.{Head, parts, argumentsIn, anyArguments, actionIn}
+use Rattle.code.specs.Steps.{Head, argumentsIn}
 use Rattle.code.proofs.Spanning.{span-grows}
 use Rattle.evaluation.proofs.Places.{op-in, link-in}
 use Rattle.runner.specs.Errors.{Closes, Closing, StepAt, After}
@@ -86,7 +85,7 @@ module _ (code : List ℕ) (first end : ℕ) where
 
 -- ---- by the op of a step
 -- a number from k on is k, or is above it
-pub by-next : {A : Type 0} (a k : ℕ) → k ≤ a → (a ≡ k → A) → (suc k ≤ a → A) → A
+by-next : {A : Type 0} (a k : ℕ) → k ≤ a → (a ≡ k → A) → (suc k ≤ a → A) → A
 by-next a k h f g = by-same a k f (λ d. g (above d))
   where
     above : (a ≡ k → ⊥) → suc k ≤ a

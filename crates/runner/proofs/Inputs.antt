@@ -1,14 +1,14 @@
 -- The next input, in num or not.
-use mathlib.Core.Path.{_≡_, refl, sym, ap, subst, _∙_}
+use mathlib.Core.Path.{_≡_, sym, ap, subst, _∙_}
 use mathlib.Core.Bool.{true, false}
 use mathlib.Core.List.{List}
-use Prim.Native.Nat.{ℕ, _+_, _*_, _<_, _≤_}
+use Prim.Native.Nat.{ℕ, _+_}
 use native.Mathlib.Omega.{arith}
-use lib.ListN.{length, getD, set}
+use lib.ListN.{getD, set}
 use lib.IntN.{ℤ, pos, negsuc}
 use lib.Signed.{ltZ}
 use mir.Syntax.{w32, w64}
-use mir.Val.{SFits, toZ, ofZ}
+use mir.Val.{SFits, ofZ}
 use mir.Facts.{toZ-ofZ}
 use Rattle.laws.proofs.Tests.{false-true}
 use Rattle.paper.specs.Numbers.{num, value, error, ranged, overflow}
@@ -18,7 +18,7 @@ use Rattle.cells.proofs.Kept.{put-length}
 use Rattle.evaluation.specs.Parts.{outside, Loaded}
 use Rattle.evaluation.proofs.Numbers.{outside-low, outside-high, ranged-inside, ranged-outside}
 use Rattle.runner.specs.Reading.{Stored}
-use Rattle.runner.specs.Output.{Takes, Took, inputAt}
+use Rattle.runner.specs.Output.{Takes, Took}
 
 module _ (values inputs mid : List ℕ) (used cell : ℕ) (t : Takes values inputs used cell) (p : Put values mid 1262 (used + 1)) (z : ℤ) (s : SFits w64 z) (l : Loaded (getD (wordsOf inputs) used 0) z) where
   refused : outside z ≡ true → Took values mid inputs used cell false

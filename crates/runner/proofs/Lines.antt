@@ -1,12 +1,12 @@
 -- Lines: the bytes of one, and what is written then.
 use mathlib.Core.Path.{_≡_, refl, sym, ap, ap₂, _∙_}
 use mathlib.Core.Bool.{true}
-use mathlib.Core.List.{List, [], _∷_, _++_, append-assoc, append-nil}
-use Prim.Native.Nat.{ℕ, zero, suc, _+_, _-_, _*_, _/_, _%_, _≤_, _<_}
+use mathlib.Core.List.{List, [], _∷_, _++_, append-nil}
+use Prim.Native.Nat.{ℕ, _+_, _-_, _*_, _/_, _%_, _≤_, _<_}
 use native.Mathlib.Nat.{add-zero}
 use native.Mathlib.Numerals.{add-one}
 use native.Mathlib.Omega.{arith}
-use lib.ListN.{length, getD, take, drop, set, length-append, length-set, length-drop, take-append-drop, drop-of-length-le, List·getD-eq-default}
+use lib.ListN.{length, take, drop, set, length-append, length-drop, take-append-drop, drop-of-length-le, List·getD-eq-default}
 use lib.Seq.{take-nil, set-split, append-snoc}
 use lib.IntN.{ℤ}
 use mir.Syntax.{w64}
@@ -29,7 +29,7 @@ use Rattle.decimals.specs.Placed.{fit, placed, PutsNumber}
 use Rattle.decimals.proofs.Parts.{put-front}
 use Rattle.code.specs.Cells.{valueAt, placeAt}
 use Rattle.evaluation.proofs.Places.{value-in}
-use Rattle.runner.specs.Output.{cellValues, countIn, withCount, Counted, Copies, Copied, charactersAt, Spells, Placed, lineAt, lineOf, HasRoom, Added}
+use Rattle.runner.specs.Output.{cellValues, countIn, withCount, Counted, Copies, Copied, charactersAt, Placed, lineAt, lineOf, HasRoom, Added}
 
 pub counted : (before mid after : List ℕ) (n : ℕ) → 5048 ≤ length before → Put before mid 1260 (n % cellValues) → Put mid after 1261 (n / cellValues) → Counted before after n
 counted before mid after n h p q =

@@ -2,7 +2,7 @@
 use mathlib.Core.Path.{_≡_, refl, sym, ap, ap₂, subst, _∙_}
 use mathlib.Core.Bool.{true, false}
 use mathlib.Core.List.{List, [], _∷_, _++_}
-use mathlib.Core.Option.{none, some}
+use mathlib.Core.Option.{none}
 use Prim.Native.Nat.{ℕ, suc, _+_, _-_, _*_, _/_, _%_, _<_, _≤_}
 use native.Mathlib.Omega.{arith}
 use lib.ListN.{length, getD, take, drop, set, length-append, length-set}
@@ -13,7 +13,6 @@ use mir.Syntax.{w64}
 use mir.Val.{SFits, toZ}
 use mir.Facts.{toZ-pos}
 use borrow.Author.Tests.{le-leb, lt-leb}
-use Rattle.laws.specs.Lists.{replaced}
 use Rattle.laws.proofs.Lists.{replaced-length, replaced-drop}
 use Rattle.paper.specs.Basics.{if_then_else_}
 use Rattle.paper.specs.Words.{LF}
@@ -22,18 +21,17 @@ use Rattle.paper.specs.States.{State, Rooms, Effect, made, lacking, withOutput,
 use Rattle.paper.specs.Running.{perform, adding, writing}
 use Rattle.cells.specs.Words.{wordsOf}
 use Rattle.cells.proofs.Laws.{length-words}
-use Rattle.code.specs.Cells.{windowOf, opAt, valueAt, placeAt, linkAt}
+use Rattle.code.specs.Cells.{opAt, valueAt, linkAt}
 use Rattle.code.specs.Steps.{Head}
-use Rattle.code.specs.Closed.{isNamed}
 use Rattle.code.specs.Windows.{writtenCell, usedCell, writtenIn, stateIn}
 use Rattle.runner.specs.Live.{Live}
-use Rattle.runner.specs.Machine.{Here, LastWindow, Lends, Comes, goesOn, lacks, lackedBy, Performs, Stepped, effectAt}
-use Rattle.runner.specs.Output.{cellValues, countIn, withCount, Counted, charactersAt, Spells, lineAt, HasRoom, Added, Prints, Writes, Wrote}
-use Rattle.runner.proofs.States.{Roomy, roomy, goes-to, written-cells}
+use Rattle.runner.specs.Machine.{Here, LastWindow, Lends, Comes, goesOn, lacks, lackedBy, Stepped, effectAt}
+use Rattle.runner.specs.Output.{cellValues, countIn, withCount, charactersAt, Spells, lineAt, HasRoom, Added, Writes, Wrote}
+use Rattle.runner.proofs.States.{roomy, goes-to, written-cells}
 use Rattle.runner.proofs.Living.{live-next, live-run}
 use Rattle.runner.proofs.Actions
 use Rattle.runner.proofs.Current as here
-use Rattle.runner.proofs.Current.{codeHere, stepHere, action-here, place-here, effect-here, small-name, small-next, named-after}
+use Rattle.runner.proofs.Current.{codeHere, stepHere, action-here, place-here, effect-here, small-name, named-after}
 
 -- ---- what is written
 pub count-is : (P : Program) (R : List Head) (X : List ℕ) → writtenIn P R X ≡ countIn X

@@ -2,7 +2,7 @@
 use mathlib.Core.Path.{_≡_, refl, sym, ap, subst, _∙_}
 use mathlib.Core.Bool.{true, false}
 use mathlib.Core.List.{List, [], _∷_, _++_}
-use mathlib.Core.Option.{Option, none, some}
+use mathlib.Core.Option.{some}
 use Prim.Native.Nat.{ℕ, suc, _+_, _-_, _*_, _/_, _<_, _≤_}
 use native.Mathlib.Omega.{arith}
 use lib.ListN.{length, length-append}
@@ -12,17 +12,15 @@ use mir.Syntax.{w64}
 use mir.Val.{SFits, toZ}
 use mir.Facts.{toZ-ofZ}
 use Rattle.paper.specs.Words.{LF}
-use Rattle.paper.specs.Numbers.{Value, value, decimal}
-use Rattle.paper.specs.Terms.{Term, worth}
+use Rattle.paper.specs.Numbers.{Value, decimal}
+use Rattle.paper.specs.Terms.{worth}
 use Rattle.paper.specs.Steps.{write}
-use Rattle.paper.specs.States.{State, Rooms, Effect, made, goTo, onTop, memoryOf, withValue}
+use Rattle.paper.specs.States.{Rooms, made, goTo, onTop, memoryOf, withValue}
 use Rattle.paper.specs.Running.{perform, adding, writing}
 use Rattle.numbers.proofs.Whole.{read}
 use Rattle.cells.specs.Words.{wordsOf}
 use Rattle.code.specs.Cells.{opAt, valueAt, linkAt}
 use Rattle.code.specs.Spans.{termIn}
-use Rattle.code.specs.Windows.{stateIn}
-use Rattle.code.proofs.Spanning.{span-grows}
 use Rattle.evaluation.specs.Answers.{firstError, Stands, Evaluated}
 use Rattle.decimals.specs.Placed as decimals
 use Rattle.decimals.proofs.Digits.{few}

@@ -2,22 +2,20 @@
 use mathlib.Core.Path.{_≡_, refl, sym, ap, ap₂, subst, _∙_}
 use mathlib.Core.Bool.{Bool, true, false}
 use mathlib.Core.List.{List, [], _∷_, _++_, map}
-use mathlib.Core.Option.{some}
 use Prim.Native.Nat.{ℕ, suc, _+_, _-_, _*_, _/_, _%_, _<_, _≤_}
 use native.Mathlib.Omega.{arith}
 use lib.Dec.{T}
-use lib.ListN.{length, getD, take, drop, set, length-append, length-set, length-map, drop-of-length-le, List·getD-map}
+use lib.ListN.{length, getD, drop, set, length-append, length-set, length-map, drop-of-length-le, List·getD-map}
 use lib.Seq.{drop-cons, getD-set-same, getD-set-other}
 use lib.IntN.{ℤ, pos, natAbs}
 use lib.Signed.{ltZ, leZ, nonNeg}
 use mir.Syntax.{w32, w64}
 use mir.Val.{Fits, SFits, toZ, ofZ}
 use mir.Facts.{toZ-ofZ, toZ-pos}
-use Rattle.laws.proofs.Tests.{false-true}
 use Rattle.paper.specs.Words.{LF}
 use Rattle.paper.specs.Numbers.{num, Value, value, error, ranged, overflow}
-use Rattle.paper.specs.Terms.{Ref, Memory, Located, at, fails}
-use Rattle.paper.specs.Steps.{Spot, read}
+use Rattle.paper.specs.Terms.{Ref, Memory, at, fails}
+use Rattle.paper.specs.Steps.{read}
 use Rattle.paper.specs.States.{Location, locationOf, State, Rooms, Effect, made, failing, lacking, withOutput, withInput, goTo, onTop, storeAt, memoryOf, withValue, withSpot}
 use Rattle.paper.specs.Running.{perform, adding, taking, readNum}
 use Rattle.numbers.proofs.Whole as whole
@@ -25,15 +23,14 @@ use Rattle.cells.specs.Words.{wordsOf}
 use Rattle.cells.proofs.Laws.{length-words}
 use Rattle.code.specs.Cells.{windowOf, opAt, valueAt, linkAt}
 use Rattle.code.specs.Spans.{memoryIn}
-use Rattle.code.specs.Steps.{aTarget, targetIn}
-use Rattle.code.specs.Windows.{routineCell, writtenCell, usedCell, writtenIn, stateIn}
+use Rattle.code.specs.Windows.{routineCell, writtenCell, usedCell, stateIn}
 use Rattle.evaluation.specs.Answers.{firstError, Stores}
 use Rattle.runner.specs.Live.{Live, codeOfCall, wordsOfCall}
 use Rattle.runner.specs.Machine.{Here, LastWindow, Lends, Comes, goesOn, lacks, lackedBy, Stepped, effectAt}
 use Rattle.runner.specs.Machine as machine
 use Rattle.runner.specs.Choices.{Says}
 use Rattle.runner.specs.Targets.{Target, Spotted, Tells, RefFits, refCell, spotIn}
-use Rattle.runner.specs.Output.{cellValues, countIn, charactersAt, Spells, lineAt, HasRoom, Added, Prints, Takes, Took, inputAt, Reads, WasRead}
+use Rattle.runner.specs.Output.{cellValues, countIn, charactersAt, Spells, lineAt, HasRoom, Added, Takes, Took, inputAt, Reads, WasRead}
 use Rattle.runner.proofs.Actions
 use Rattle.runner.proofs.Agreeing.{Same}
 use Rattle.runner.proofs.States.{Roomy, roomy, depth-is, goes-to, used-cell}

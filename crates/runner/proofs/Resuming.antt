@@ -3,16 +3,16 @@ use mathlib.Core.Path.{_≡_, refl, sym, ap, subst, _∙_}
 use mathlib.Core.Bool.{true}
 use mathlib.Core.List.{List, _∷_}
 use mathlib.Core.Option.{Option, none, some}
-use Prim.Native.Nat.{ℕ, zero, suc, _+_, _*_, _<_, _≤_}
+use Prim.Native.Nat.{ℕ, zero, suc, _+_, _<_}
 use native.Mathlib.Omega.{arith}
 use lib.ListN.{length, getD, set}
 use lib.Seq.{getD-set-other, set-getD}
-use lib.IntN.{ℤ, pos}
+use lib.IntN.{pos}
 use mir.Syntax.{w64}
 use mir.Val.{SFits, toZ}
 use mir.Facts.{toZ-pos}
 use Rattle.paper.specs.Steps.{Program, retry, tryNext}
-use Rattle.paper.specs.States.{Call, State, Rooms, Effect, made, withCalls, goTo, setFailed, onTop}
+use Rattle.paper.specs.States.{Call, Rooms, Effect, made, withCalls, goTo, setFailed, onTop}
 use Rattle.paper.specs.Running.{stepOf, perform, retrying, tryingNext}
 use Rattle.cells.specs.Words.{wordsOf}
 use Rattle.cells.proofs.Laws.{length-words}
@@ -21,13 +21,13 @@ use Rattle.code.specs.Closed.{isNamed}
 use Rattle.code.specs.Holds.{optionally}
 use Rattle.code.specs.Windows.{failedCell, callIn, waiting, stateIn}
 use Rattle.code.proofs.Options.{none-some, same-some}
-use Rattle.runner.specs.Live.{Live, FailedFits, noneFailed, hasFailed, codeOfCall}
+use Rattle.runner.specs.Live.{Live, FailedFits, noneFailed, hasFailed}
 use Rattle.runner.specs.Machine.{Here, Comes, goesOn, Performs, effectAt}
 use Rattle.runner.specs.Errors.{StepAt, After, Forgot, KeepsRun}
-use Rattle.runner.proofs.States.{Roomy, roomy, goes-to, call-failed}
+use Rattle.runner.proofs.States.{roomy, goes-to, call-failed}
 use Rattle.runner.proofs.Living.{live-next, live-failed}
 use Rattle.runner.proofs.Actions
-use Rattle.runner.proofs.Current.{codeHere, stepHere, stateHere, callHere, action-here, effect-here, small-name, named-after}
+use Rattle.runner.proofs.Current.{codeHere, stepHere, action-here, effect-here, small-name, named-after}
 
 -- ---- answers
 pub answer-fits : (n : ℕ) → n < 8192 → SFits w64 (pos n)

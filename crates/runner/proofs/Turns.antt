@@ -1,10 +1,10 @@
 -- A run: what is left of it after so many steps, and how each step goes on.
 use mathlib.Core.Path.{_≡_, refl, sym, ap, ap₂, subst, _∙_}
 use mathlib.Core.Bool.{Bool, true, false}
-use mathlib.Core.List.{List, [], _∷_, map}
-use Prim.Native.Nat.{ℕ, zero, suc, _+_, _-_, _*_, _<_, _≤_}
+use mathlib.Core.List.{List, map}
+use Prim.Native.Nat.{ℕ, suc, _+_, _-_, _*_, _<_, _≤_}
 use native.Mathlib.Omega.{arith}
-use lib.Dec.{T, eqb, ltb}
+use lib.Dec.{T, eqb}
 use lib.ListN.{length, getD, take, drop}
 use lib.Seq.{drop-drop, length-take-le}
 use lib.IntN.{ℤ, pos, natAbs}
@@ -13,12 +13,11 @@ use mir.Syntax.{w32, w64}
 use mir.Val.{Fits, SFits, toZ}
 use mir.Facts.{toZ-ofZ}
 use borrow.Author.Tests.{ltb-true, ltb-false, ne-eqb}
-use Rattle.laws.proofs.Tests.{by-same}
 use Rattle.paper.specs.Basics.{if_then_else_}
 use Rattle.paper.specs.Steps.{Program}
-use Rattle.paper.specs.States.{State, Rooms, Effect, made, failing, handing, lacking, counted}
+use Rattle.paper.specs.States.{State, Rooms, made, failing, handing, lacking, counted}
 use Rattle.paper.specs.States as states
-use Rattle.paper.specs.Running.{nextStep, stepOf, Outcome, stopped, stopping, settled, takeStep, nextPlace, arising, run, started}
+use Rattle.paper.specs.Running.{nextStep, stepOf, Outcome, stopped, settled, takeStep, nextPlace, arising, run}
 use Rattle.paper.specs.Running as running
 use Rattle.numbers.proofs.Whole.{read}
 use Rattle.cells.specs.Words.{wordsOf}
@@ -34,7 +33,7 @@ use Rattle.runner.specs.Errors.{Raises, raises, handsOn, Settles, stops,
 use Rattle.runner.specs.Output.{cellValues, countIn}
 use Rattle.runner.specs.Runs.{Begins, Begun, MayBegin, Stops, byStep, byLack, Stopped, Ran}
 use Rattle.runner.specs.Runs as runs
-use Rattle.runner.proofs.Current.{stepHere, place-here, small-name}
+use Rattle.runner.proofs.Current.{place-here, small-name}
 use Rattle.runner.proofs.Printing.{count-is}
 
 -- ---- one step of the paper's run

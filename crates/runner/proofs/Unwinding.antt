@@ -15,9 +15,9 @@ use mir.Val.{Fits, SFits}
 use mir.Facts.{toZ-ofZ}
 use borrow.Author.Tests.{leb-false}
 use Rattle.laws.proofs.Tests.{false-true}
-use Rattle.paper.specs.Steps.{Code, Program}
+use Rattle.paper.specs.Steps.{Program}
 use Rattle.paper.specs.States.{Call, State, withCalls, withErrno, goTo, setFailed, onTop}
-use Rattle.paper.specs.Running.{codeAt, takes, caught, Outcome, stopping, goesOn, arising}
+use Rattle.paper.specs.Running.{codeAt, takes, caught, stopping, goesOn, arising}
 use Rattle.numbers.proofs.Whole.{read}
 use Rattle.cells.specs.Words.{wordsOf, Put}
 use Rattle.cells.proofs.Laws.{length-words}
@@ -29,11 +29,11 @@ use Rattle.code.specs.Holds.{optionally}
 use Rattle.code.specs.Windows.{routineCell, waitsCell, failedCell, callIn, waiting, stateIn}
 use Rattle.evaluation.specs.Answers.{firstError}
 use Rattle.runner.specs.declared.errors.Taken.{Taken}
-use Rattle.runner.specs.Live.{Live, Below, FailedFits, hasFailed, cellOfCall, routineOfCall, codeOfCall}
-use Rattle.runner.specs.Machine.{depthLimit, handed, Here}
+use Rattle.runner.specs.Live.{Live, hasFailed, routineOfCall, codeOfCall}
+use Rattle.runner.specs.Machine.{handed, Here}
 use Rattle.runner.specs.Errors as errors
 use Rattle.runner.specs.Errors.{HasRoutine, handlerAt, Seeks, Nearest, Takes, dies, Unwound, Raises, raises, handsOn, Settles, stops, resumes, Arisen, KeepsRun}
-use Rattle.runner.proofs.States.{Roomy, roomy, goes-to, call-failed, errno-cell}
+use Rattle.runner.proofs.States.{roomy, goes-to, call-failed, errno-cell}
 use Rattle.runner.proofs.Living.{live-next, live-left, live-failed, live-errno}
 use Rattle.runner.proofs.Current.{codeHere, routine-holds, small-name}
 use Rattle.runner.proofs.Resuming.{none-case, some-case, positive}

@@ -8,7 +8,7 @@ use lib.IntN.{ℤ}
 use mir.Syntax.{w32}
 use mir.Val.{SFits, toZ, ofZ}
 use Rattle.laws.specs.Lists.{replaced}
-use Rattle.paper.specs.Words.{LF, QUOTE}
+use Rattle.paper.specs.Words.{LF}
 use Rattle.paper.specs.Numbers.{num, value, error, ranged, overflow, decimal}
 use Rattle.paper.specs.Steps.{unquoted}
 use Rattle.cells.specs.Words.{wordsOf}

@@ -1,10 +1,9 @@
 -- What a run asks of what it is lent, and what it promises.
 use mathlib.Core.Path.{_≡_}
-use mathlib.Core.List.{List, [], map}
+use mathlib.Core.List.{List, map}
 use Prim.Native.Nat.{ℕ, _+_, _-_, _<_, _≤_}
 use lib.Dec.{eqb}
 use lib.ListN.{length, getD, take, drop}
-use lib.IntN.{pos}
 use mir.Syntax.{w32}
 use mir.Val.{toZ}
 use Rattle.paper.specs.Basics.{if_then_else_}

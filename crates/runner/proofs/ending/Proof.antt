@@ -2,51 +2,37 @@ use Rattle.runner.proofs.Stopping.{stops-whole, stops-low, stops-high, 
 use borrow.Author.Needs.{needs}
 use Rattle.runner.proofs.ending.Statement.{statement}
 use Rattle.runner.proofs.ending.Tie as tie
-use Rattle.runner.proofs.ending.Reads as reads
-use Rattle.runner.proofs.ending.Lts as lts
-use Rattle.runner.proofs.place_of.Reads as place-of-reads
 
--- src/lib.rt:150:22
 add-if2 : tie.Need-add-if2
 add-if2 c = search needs
 
--- src/lib.rt:151:13
 returns : tie.Need-returns
 returns c = search (needs, stopped-main)
 
--- src/lib.rt:158:22
 sub-t6 : tie.Need-sub-t6
 sub-t6 c = search (needs, stops-low)
 
--- src/lib.rt:158:21
 cast-t8 : tie.Need-cast-t8
 cast-t8 c = search needs
 
--- src/lib.rt:159:20
 place-of-requires : tie.Need-place-of-requires
 place-of-requires c κs = search (needs, stops-whole)
 
--- src/lib.rt:157:9
 returns-2 : tie.Need-returns-2
 returns-2 c = search (needs, stopped-step)
 
--- src/lib.rt:165:18
 add-t12 : tie.Need-add-t12
 add-t12 c = search needs
 
--- src/lib.rt:165:17
 cast-t13 : tie.Need-cast-t13
 cast-t13 c = search (needs, stops-high)
 
--- src/lib.rt:166:16
 place-of-requires-2 : tie.Need-place-of-requires-2
 place-of-requires-2 c κs = search (needs, stops-whole)
 
--- src/lib.rt:167:15
 add-t16 : tie.Need-add-t16
 add-t16 c = search (needs, stops-left)
 
--- src/lib.rt:145:1
 returns-3 : tie.Need-returns-3
 returns-3 c = search (needs, stopped-lack)
 

@@ -5,13 +5,6 @@ use Rattle.runner.proofs.Beginning.{begin-in}
 use Rattle.runner.proofs.Turns.{Turning, turn-steps, turn-in, turn-cast, turn-goes, turn-up, turn-sub-1, turn-enters, turn-sub-2, turn-down, turn-leaves, turn-stops, turn-raises, turn-resumes, spent, stopped-run, died-run, run-begins, run-starts, run-ran}
 use Rattle.runner.proofs.run.Statement.{statement}
 use Rattle.runner.proofs.run.Tie as tie
-use Rattle.runner.proofs.run.Reads as reads
-use Rattle.runner.proofs.run.Lts as lts
-use Rattle.runner.proofs.begin.Reads as begin-reads
-use Rattle.runner.proofs.ending.Reads as ending-reads
-use Rattle.runner.proofs.errors.arise.Reads as arise-reads
-use Rattle.runner.proofs.reading.place.Reads as place-reads
-use Rattle.runner.proofs.stepping.step.Reads as step-reads
 
 abbrev Inv-loop : tie.InvT-loop
 Inv-loop text code values₀ inputs out₀ h steps depth last i₀ base₀ left₀ values out i base left = Turning text code values₀ inputs out₀ base₀ i₀ steps last values out base i left
@@ -19,151 +12,114 @@ Inv-loop text code values₀ inputs out₀ h steps depth last i₀ base₀ left�
 abbrev μ-loop : tie.MeasureT-loop
 μ-loop text code values₀ inputs out₀ h steps depth last i₀ base₀ left₀ values out i base left = left
 
--- src/lib.rt:194:5
 begin-requires : tie.Need-begin-requires Inv-loop μ-loop
 begin-requires c κs = run-begins _ _ _ _ _ (c .before .before .before .before .before .before .pre)
 
--- src/lib.rt:195:34
 sub-last : tie.Need-sub-last Inv-loop μ-loop
 sub-last c = search needs
 
--- src/lib.rt:195:24
 mul-last : tie.Need-mul-last Inv-loop μ-loop
 mul-last c = search needs
 
--- src/lib.rt:195:16
 add-last : tie.Need-add-last Inv-loop μ-loop
 add-last c = search needs
 
--- src/lib.rt:196:9
 place-requires : tie.Need-place-requires Inv-loop μ-loop
 place-requires c κs = begin-in _ _ _ (run-begins _ _ _ _ _ (c .before .before .before .before .before .before .before .before .before .pre))
 
--- src/lib.rt:199:5
 loop-holds : tie.Need-loop-holds Inv-loop μ-loop
 loop-holds c = run-starts _ _ _ _ _ _ _ _ (c .before .before .before .before .before .before .before .before .before .before .pre) _ (c .before .before .before .begin .ensures) _ (c .place .ensures .same) (c .before .before .before .before .before .before .before .before .before .before .fits .steps .fits)
 
--- src/lib.rt:200:9
 sub-left : tie.Need-sub-left Inv-loop μ-loop
 sub-left c = search needs
 
--- src/lib.rt:201:13
 step-requires : tie.Need-step-requires Inv-loop μ-loop
 step-requires c κs = turn-steps _ _ _ _ _ _ _ _ _ _ _ _ _ _ (c .before .before .before .loop .inv) (c .before .before .loop-test .taken)
 
--- src/lib.rt:203:17
 cast-i : tie.Need-cast-i Inv-loop μ-loop
 cast-i c = turn-cast _ _ _ _ _ _ _ _ _ _ _ _ _ _ (c .before .before .before .before .before .before .before .before .before .loop .inv) (c .before .before .before .before .before .before .before .before .loop-test .taken) _ _ _ record { sfits = (c .before .before .before .before .before .step .ok) } (c .before .before .before .before .before .step .ensures)
 
--- src/lib.rt:199:5
 loop-less : tie.Need-loop-less Inv-loop μ-loop
 loop-less c = omega arith
 
--- src/lib.rt:199:5
 loop-again : tie.Need-loop-again Inv-loop μ-loop
 loop-again c = turn-goes _ _ _ _ _ _ _ _ _ _ _ _ _ _ (c .before .before .before .before .before .before .before .before .before .loop .inv) (c .before .before .before .before .before .before .before .before .loop-test .taken) _ _ _ record { sfits = (c .before .before .before .before .before .step .ok) } (c .before .before .before .before .before .step .ensures) (c .if1 .taken)
 
--- src/lib.rt:205:13
 add-base : tie.Need-add-base Inv-loop μ-loop
 add-base c = record { fits = turn-up _ _ _ _ _ _ _ _ _ _ _ _ _ _ (c .before .before .before .before .before .before .before .before .before .before .loop .inv) (c .before .before .before .before .before .before .before .before .before .loop-test .taken) _ _ _ record { sfits = (c .before .before .before .before .before .before .step .ok) } (c .before .before .before .before .before .before .step .ensures) }
 
--- src/lib.rt:206:17
 cast-i-2 : tie.Need-cast-i-2 Inv-loop μ-loop
 cast-i-2 c = turn-cast _ _ _ _ _ _ _ _ _ _ _ _ _ _ (c .before .before .before .before .before .before .before .before .before .before .loop .inv) (c .before .before .before .before .before .before .before .before .before .loop-test .taken) _ _ _ record { sfits = (c .before .before .before .before .before .before .step .ok) } (c .before .before .before .before .before .before .step .ensures)
 
--- src/lib.rt:206:17
 sub-i : tie.Need-sub-i Inv-loop μ-loop
 sub-i c = turn-sub-1 _ _ _ _ _ _ _ _ _ _ _ _ _ _ (c .before .before .before .before .before .before .before .before .before .before .loop .inv) (c .before .before .before .before .before .before .before .before .before .loop-test .taken) _ _ _ record { sfits = (c .before .before .before .before .before .before .step .ok) } (c .before .before .before .before .before .before .step .ensures) (c .before .if1 .left)
 
--- src/lib.rt:199:5
 loop-less-2 : tie.Need-loop-less-2 Inv-loop μ-loop
 loop-less-2 c = omega arith
 
--- src/lib.rt:199:5
 loop-again-2 : tie.Need-loop-again-2 Inv-loop μ-loop
 loop-again-2 c = turn-enters _ _ _ _ _ _ _ _ _ _ _ _ _ _ (c .before .before .before .before .before .before .before .before .before .before .loop .inv) (c .before .before .before .before .before .before .before .before .before .loop-test .taken) _ _ _ record { sfits = (c .before .before .before .before .before .before .step .ok) } (c .before .before .before .before .before .before .step .ensures) (c .before .if1 .left) (c .if2 .taken)
 
--- src/lib.rt:208:13
 sub-base : tie.Need-sub-base Inv-loop μ-loop
 sub-base c = turn-down _ _ _ _ _ _ _ _ _ _ _ _ _ _ (c .before .before .before .before .before .before .before .before .before .before .before .loop .inv) (c .before .before .before .before .before .before .before .before .before .before .loop-test .taken) _ _ _ record { sfits = (c .before .before .before .before .before .before .before .step .ok) } (c .before .before .before .before .before .before .before .step .ensures) (c .before .before .if1 .left) (c .before .if2 .left) (c .if3 .taken)
 
--- src/lib.rt:209:17
 cast-i-3 : tie.Need-cast-i-3 Inv-loop μ-loop
 cast-i-3 c = turn-cast _ _ _ _ _ _ _ _ _ _ _ _ _ _ (c .before .before .before .before .before .before .before .before .before .before .before .loop .inv) (c .before .before .before .before .before .before .before .before .before .before .loop-test .taken) _ _ _ record { sfits = (c .before .before .before .before .before .before .before .step .ok) } (c .before .before .before .before .before .before .before .step .ensures)
 
--- src/lib.rt:209:17
 sub-i-2 : tie.Need-sub-i-2 Inv-loop μ-loop
 sub-i-2 c = turn-sub-2 _ _ _ _ _ _ _ _ _ _ _ _ _ _ (c .before .before .before .before .before .before .before .before .before .before .before .loop .inv) (c .before .before .before .before .before .before .before .before .before .before .loop-test .taken) _ _ _ record { sfits = (c .before .before .before .before .before .before .before .step .ok) } (c .before .before .before .before .before .before .before .step .ensures) (c .before .before .if1 .left) (c .before .if2 .left)
 
--- src/lib.rt:199:5
 loop-less-3 : tie.Need-loop-less-3 Inv-loop μ-loop
 loop-less-3 c = omega arith
 
--- src/lib.rt:199:5
 loop-again-3 : tie.Need-loop-again-3 Inv-loop μ-loop
 loop-again-3 c = turn-leaves _ _ _ _ _ _ _ _ _ _ _ _ _ _ (c .before .before .before .before .before .before .before .before .before .before .before .loop .inv) (c .before .before .before .before .before .before .before .before .before .before .loop-test .taken) _ _ _ record { sfits = (c .before .before .before .before .before .before .before .step .ok) } (c .before .before .before .before .before .before .before .step .ensures) (c .before .before .if1 .left) (c .before .if2 .left) (c .if3 .taken)
 
--- src/lib.rt:211:36
 cast-ending : tie.Need-cast-ending Inv-loop μ-loop
 cast-ending c = turn-cast _ _ _ _ _ _ _ _ _ _ _ _ _ _ (c .before .before .before .before .before .before .before .before .before .before .before .before .loop .inv) (c .before .before .before .before .before .before .before .before .before .before .before .loop-test .taken) _ _ _ record { sfits = (c .before .before .before .before .before .before .before .before .step .ok) } (c .before .before .before .before .before .before .before .before .step .ensures)
 
--- src/lib.rt:211:13
 ending-requires : tie.Need-ending-requires Inv-loop μ-loop
 ending-requires c κs = turn-stops _ _ _ _ _ _ _ _ _ _ _ _ _ _ (c .before .before .before .before .before .before .before .before .before .before .before .before .loop .inv) (c .before .before .before .before .before .before .before .before .before .before .before .loop-test .taken) _ _ _ record { sfits = (c .before .before .before .before .before .before .before .before .step .ok) } (c .before .before .before .before .before .before .before .before .step .ensures) (c .before .before .before .if1 .left) (c .before .before .if2 .left) (c .before .if3 .left) (c .if4 .taken)
 
--- src/lib.rt:211:13
 same-length : tie.Need-same-length Inv-loop μ-loop
 same-length c = (c .before .before .before .before .before .before .before .before .before .step .ensures) .long ∙ (c .before .before .before .before .before .before .before .before .before .before .before .before .before .loop .inv) .long ∙ (c .before .before .before .before .before .before .before .before .before .before .before .before .before .before .before .before .before .begin .ensures .long)
 
--- src/lib.rt:211:13
 same-length-2 : tie.Need-same-length-2 Inv-loop μ-loop
 same-length-2 c = (c .before .before .before .before .before .before .before .before .before .step .ensures) .out-long ∙ (c .before .before .before .before .before .before .before .before .before .before .before .before .before .loop .inv) .out-long
 
--- src/lib.rt:211:13
 returns : tie.Need-returns Inv-loop μ-loop
 returns c = run-ran _ _ _ _ _ _ _ _ (c .before .before .before .before .before .before .before .before .before .before .before .before .before .before .before .before .before .before .before .before .before .before .before .before .pre) _ (c .before .before .before .before .before .before .before .before .before .before .before .before .before .before .before .before .before .begin .ensures) _ (c .before .before .before .before .before .before .before .before .before .before .before .before .before .before .place .ensures .same) _ _ _ ((c .before .before .before .before .before .before .before .before .before .step .ensures) .long ∙ (c .before .before .before .before .before .before .before .before .before .before .before .before .before .loop .inv) .long) ((c .before .before .before .before .before .before .before .before .before .step .ensures) .out-long ∙ (c .before .before .before .before .before .before .before .before .before .before .before .before .before .loop .inv) .out-long) (stopped-run _ _ _ _ _ _ _ _ _ _ _ _ _ _ (c .before .before .before .before .before .before .before .before .before .before .before .before .before .loop .inv) (c .before .before .before .before .before .before .before .before .before .before .before .before .loop-test .taken) _ _ _ record { sfits = (c .before .before .before .before .before .before .before .before .before .step .ok) } (c .before .before .before .before .before .before .before .before .before .step .ensures) (c .before .before .before .before .if1 .left) (c .before .before .before .if2 .left) (c .before .before .if3 .left) (c .before .if4 .taken) _ (c .ending .ensures))
 
--- src/lib.rt:213:17
 arise-requires : tie.Need-arise-requires Inv-loop μ-loop
 arise-requires c κs = turn-raises _ _ _ _ _ _ _ _ _ _ _ _ _ _ (c .before .before .before .before .before .before .before .before .before .before .before .before .before .loop .inv) (c .before .before .before .before .before .before .before .before .before .before .before .before .loop-test .taken) _ _ _ record { sfits = (c .before .before .before .before .before .before .before .before .before .step .ok) } (c .before .before .before .before .before .before .before .before .before .step .ensures) (c .before .before .before .before .if1 .left) (c .before .before .before .if2 .left) (c .before .before .if3 .left) (c .before .if4 .left)
 
--- src/lib.rt:218:28
 place-requires-2 : tie.Need-place-requires-2 Inv-loop μ-loop
 place-requires-2 c κs = turn-in _ _ _ _ _ _ _ _ _ _ _ _ _ _ (c .before .before .before .before .before .before .before .before .before .before .before .before .before .before .before .before .before .loop .inv)
 
--- src/lib.rt:216:17
 same-length-3 : tie.Need-same-length-3 Inv-loop μ-loop
 same-length-3 c = (c .before .before .before .before .arise .ensures) .long ∙ (c .before .before .before .before .before .before .before .before .before .before .before .before .before .before .step .ensures) .long ∙ (c .before .before .before .before .before .before .before .before .before .before .before .before .before .before .before .before .before .before .loop .inv) .long ∙ (c .before .before .before .before .before .before .before .before .before .before .before .before .before .before .before .before .before .before .before .before .before .before .begin .ensures .long)
 
--- src/lib.rt:216:17
 same-length-4 : tie.Need-same-length-4 Inv-loop μ-loop
 same-length-4 c = (c .before .before .before .before .before .before .before .before .before .before .before .before .before .before .step .ensures) .out-long ∙ (c .before .before .before .before .before .before .before .before .before .before .before .before .before .before .before .before .before .before .loop .inv) .out-long
 
--- src/lib.rt:216:17
 returns-2 : tie.Need-returns-2 Inv-loop μ-loop
 returns-2 c = run-ran _ _ _ _ _ _ _ _ (c .before .before .before .before .before .before .before .before .before .before .before .before .before .before .before .before .before .before .before .before .before .before .before .before .before .before .before .before .before .pre) _ (c .before .before .before .before .before .before .before .before .before .before .before .before .before .before .before .before .before .before .before .before .before .before .begin .ensures) _ (c .before .before .before .before .before .before .before .before .before .before .before .before .before .before .before .before .before .before .before .place .ensures .same) _ _ _ ((c .before .before .before .before .arise .ensures) .long ∙ (c .before .before .before .before .before .before .before .before .before .before .before .before .before .before .step .ensures) .long ∙ (c .before .before .before .before .before .before .before .before .before .before .before .before .before .before .before .before .before .before .loop .inv) .long) ((c .before .before .before .before .before .before .before .before .before .before .before .before .before .before .step .ensures) .out-long ∙ (c .before .before .before .before .before .before .before .before .before .before .before .before .before .before .before .before .before .before .loop .inv) .out-long) (died-run _ _ _ _ _ _ _ _ _ _ _ _ _ _ (c .before .before .before .before .before .before .before .before .before .before .before .before .before .before .before .before .before .before .loop .inv) (c .before .before .before .before .before .before .before .before .before .before .before .before .before .before .before .before .before .loop-test .taken) _ _ _ record { sfits = (c .before .before .before .before .before .before .before .before .before .before .before .before .before .before .step .ok) } (c .before .before .before .before .before .before .before .before .before .before .before .before .before .before .step .ensures) (c .before .before .before .before .before .before .before .before .before .if1 .left) (c .before .before .before .before .before .before .before .before .if2 .left) (c .before .before .before .before .before .before .before .if3 .left) (c .before .before .before .before .before .before .if4 .left) _ _ (c .before .before .before .before .arise .ensures) (c .before .if5 .taken) _ (c .place2 .ensures .same))
 
--- src/lib.rt:199:5
 loop-less-4 : tie.Need-loop-less-4 Inv-loop μ-loop
 loop-less-4 c = omega arith
 
--- src/lib.rt:199:5
 loop-again-4 : tie.Need-loop-again-4 Inv-loop μ-loop
 loop-again-4 c = turn-resumes _ _ _ _ _ _ _ _ _ _ _ _ _ _ (c .before .before .before .before .before .before .before .before .before .before .before .before .before .before .before .before .before .loop .inv) (c .before .before .before .before .before .before .before .before .before .before .before .before .before .before .before .before .loop-test .taken) _ _ _ record { sfits = (c .before .before .before .before .before .before .before .before .before .before .before .before .before .step .ok) } (c .before .before .before .before .before .before .before .before .before .before .before .before .before .step .ensures) (c .before .before .before .before .before .before .before .before .if1 .left) (c .before .before .before .before .before .before .before .if2 .left) (c .before .before .before .before .before .before .if3 .left) (c .before .before .before .before .before .if4 .left) _ _ (c .before .before .before .arise .ensures) (c .if5 .left)
 
--- src/lib.rt:228:16
 place-requires-3 : tie.Need-place-requires-3 Inv-loop μ-loop
 place-requires-3 c κs = turn-in _ _ _ _ _ _ _ _ _ _ _ _ _ _ (c .before .loop .inv)
 
--- src/lib.rt:181:1
 same-length-5 : tie.Need-same-length-5 Inv-loop μ-loop
 same-length-5 c = (c .before .before .loop .inv) .long ∙ (c .before .before .before .before .before .before .begin .ensures .long)
 
--- src/lib.rt:181:1
 same-length-6 : tie.Need-same-length-6 Inv-loop μ-loop
 same-length-6 c = (c .before .before .loop .inv) .out-long
 
--- src/lib.rt:181:1
 returns-3 : tie.Need-returns-3 Inv-loop μ-loop
 returns-3 c = run-ran _ _ _ _ _ _ _ _ (c .before .before .before .before .before .before .before .before .before .before .before .before .before .pre) _ (c .before .before .before .before .before .before .begin .ensures) _ (c .before .before .before .place .ensures .same) _ _ _ ((c .before .before .loop .inv) .long) ((c .before .before .loop .inv) .out-long) (spent _ _ _ _ _ _ _ _ _ _ _ _ _ _ (c .before .before .loop .inv) (c .before .loop-test .left) _ (c .place3 .ensures .same))
 

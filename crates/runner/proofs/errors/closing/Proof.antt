@@ -3,10 +3,6 @@ use borrow.Author.Needs.{needs}
 use Rattle.runner.proofs.Following.{Closed, closed-none, closed-start, closed-in, closed-less, closed-next, closed-end}
 use Rattle.runner.proofs.errors.closing.Statement.{statement}
 use Rattle.runner.proofs.errors.closing.Tie as tie
-use Rattle.runner.proofs.errors.closing.Reads as reads
-use Rattle.runner.proofs.errors.closing.Lts as lts
-use Rattle.runner.proofs.reading.head.Reads as head-reads
-use Rattle.runner.proofs.reading.link.Reads as link-reads
 
 abbrev Inv-loop : tie.InvT-loop
 Inv-loop code first end b₀ b = Closed code first end b
@@ -14,31 +10,24 @@ Inv-loop code first end b₀ b = Closed code first end b
 abbrev μ-loop : tie.MeasureT-loop
 μ-loop code first end b₀ b = 8192 - b
 
--- src/errors.rt:52:9
 returns : tie.Need-returns Inv-loop μ-loop
 returns c = search (needs, closed-none)
 
--- src/errors.rt:55:5
 loop-holds : tie.Need-loop-holds Inv-loop μ-loop
 loop-holds c = search (needs, closed-start)
 
--- src/errors.rt:55:11
 head-requires : tie.Need-head-requires Inv-loop μ-loop
 head-requires c κs = search (needs, closed-in)
 
--- src/errors.rt:56:9
 link-requires : tie.Need-link-requires Inv-loop μ-loop
 link-requires c κs = search (needs, closed-in)
 
--- src/errors.rt:55:5
 loop-less : tie.Need-loop-less Inv-loop μ-loop
 loop-less c = search (needs, closed-less)
 
--- src/errors.rt:55:5
 loop-again : tie.Need-loop-again Inv-loop μ-loop
 loop-again c = search (needs, closed-next)
 
--- src/errors.rt:47:1
 returns-2 : tie.Need-returns-2 Inv-loop μ-loop
 returns-2 c = search (needs, closed-end)
 

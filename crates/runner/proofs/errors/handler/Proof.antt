@@ -6,32 +6,22 @@ use Rattle.cells.specs.Words.{wordsOf}
 use Rattle.code.specs.Cells.{linkAt}
 use Rattle.runner.proofs.errors.handler.Statement.{statement}
 use Rattle.runner.proofs.errors.handler.Tie as tie
-use Rattle.runner.proofs.errors.handler.Reads as reads
-use Rattle.runner.proofs.errors.handler.Lts as lts
-use Rattle.cells.proofs.get.Reads as get-reads
-use Rattle.runner.proofs.reading.link.Reads as link-reads
 
--- src/errors.rt:116:35
 add-get : tie.Need-add-get
 add-get c = search needs
 
--- src/errors.rt:116:16
 get-requires : tie.Need-get-requires
 get-requires c κs = search needs
 
--- src/errors.rt:116:16
 cast-link : tie.Need-cast-link
 cast-link c = search needs
 
--- src/errors.rt:116:16
 add-link : tie.Need-add-link
 add-link c = search needs
 
--- src/errors.rt:116:5
 link-requires : tie.Need-link-requires
 link-requires c κs = search needs
 
--- src/errors.rt:112:1
 returns : tie.Need-returns
 returns c = c .link .ensures .same ∙ ap (λ (w : ℕ). linkAt (wordsOf (now (c .before .before .before .before .args .code))) (w + 1)) (c .before .get .ensures)
 

@@ -1,12 +1,7 @@
-use native.Mathlib.Omega.{arith}
 use borrow.Author.Needs.{needs}
 use Rattle.runner.proofs.Unwinding.{Seeking, seek-start, seek-routine, seek-get, seek-add, seek-sub, seek-less, seek-on, nearest-found, nearest-main}
 use Rattle.runner.proofs.errors.nearest.Statement.{statement}
 use Rattle.runner.proofs.errors.nearest.Tie as tie
-use Rattle.runner.proofs.errors.nearest.Reads as reads
-use Rattle.runner.proofs.errors.nearest.Lts as lts
-use Rattle.cells.proofs.get.Reads as get-reads
-use Rattle.runner.proofs.errors.handler.Reads as handler-reads
 
 abbrev Inv-loop : tie.InvT-loop
 Inv-loop code values base i b₀ s₀ b s = Seeking code values base i b s
@@ -14,43 +9,33 @@ Inv-loop code values base i b₀ s₀ b s = Seeking code values base i b s
 abbrev μ-loop : tie.MeasureT-loop
 μ-loop code values base i b₀ s₀ b s = b
 
--- src/errors.rt:126:5
 loop-holds : tie.Need-loop-holds Inv-loop μ-loop
 loop-holds c = search (needs, seek-start)
 
--- src/errors.rt:126:11
 handler-requires : tie.Need-handler-requires Inv-loop μ-loop
 handler-requires c κs = search (needs, seek-routine)
 
--- src/errors.rt:128:13
 returns : tie.Need-returns Inv-loop μ-loop
 returns c = search (needs, nearest-main)
 
--- src/errors.rt:130:9
 sub-b : tie.Need-sub-b Inv-loop μ-loop
 sub-b c = search (needs, seek-sub)
 
--- src/errors.rt:131:32
 add-get : tie.Need-add-get Inv-loop μ-loop
 add-get c = search (needs, seek-add)
 
--- src/errors.rt:131:13
 get-requires : tie.Need-get-requires Inv-loop μ-loop
 get-requires c κs = search (needs, seek-get)
 
--- src/errors.rt:131:13
 cast-s : tie.Need-cast-s Inv-loop μ-loop
 cast-s c = search needs
 
--- src/errors.rt:126:5
 loop-less : tie.Need-loop-less Inv-loop μ-loop
 loop-less c = search (needs, seek-less)
 
--- src/errors.rt:126:5
 loop-again : tie.Need-loop-again Inv-loop μ-loop
 loop-again c = search (needs, seek-on)
 
--- src/errors.rt:120:1
 returns-2 : tie.Need-returns-2 Inv-loop μ-loop
 returns-2 c = search (needs, nearest-found)
 

@@ -2,40 +2,28 @@ use borrow.Author.Needs.{needs}
 use Rattle.runner.proofs.Resuming.{answer-fits, step-fits, next-low, failed-step, try-none, try-again}
 use Rattle.runner.proofs.errors.try_next.Statement.{statement}
 use Rattle.runner.proofs.errors.try_next.Tie as tie
-use Rattle.runner.proofs.errors.try_next.Reads as reads
-use Rattle.runner.proofs.errors.try_next.Lts as lts
-use Rattle.runner.proofs.errors.after.Reads as after-reads
-use Rattle.runner.proofs.errors.forget.Reads as forget-reads
 
--- src/errors.rt:102:9
 forget-requires : tie.Need-forget-requires
 forget-requires c κs = search needs
 
--- src/errors.rt:104:16
 cast-result : tie.Need-cast-result
 cast-result c = search (needs, step-fits)
 
--- src/errors.rt:104:9
 same-length : tie.Need-same-length
 same-length c = search needs
 
--- src/errors.rt:104:9
 returns : tie.Need-returns
 returns c = search (needs, try-none)
 
--- src/errors.rt:106:5
 after-requires : tie.Need-after-requires
 after-requires c κs = search (needs, failed-step)
 
--- src/errors.rt:106:5
 cast-result-2 : tie.Need-cast-result-2
 cast-result-2 c = search (needs, answer-fits, next-low)
 
--- src/errors.rt:98:1
 same-length-2 : tie.Need-same-length-2
 same-length-2 c = search needs
 
--- src/errors.rt:98:1
 returns-2 : tie.Need-returns-2
 returns-2 c = search (needs, try-again)
 

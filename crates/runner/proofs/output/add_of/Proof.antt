@@ -4,54 +4,37 @@ use Rattle.runner.proofs.Lines.{of-string, of-fits, of-fits-first, of-r
 use borrow.Author.Needs.{needs}
 use Rattle.runner.proofs.output.add_of.Statement.{statement}
 use Rattle.runner.proofs.output.add_of.Tie as tie
-use Rattle.runner.proofs.output.add_of.Reads as reads
-use Rattle.runner.proofs.output.add_of.Lts as lts
-use Rattle.decimals.proofs.put_number.Reads as put-number-reads
-use Rattle.runner.proofs.output.set_written.Reads as set-written-reads
-use Rattle.runner.proofs.output.string.Reads as string-reads
-use Rattle.runner.proofs.output.written.Reads as written-reads
 
--- src/output.rt:107:37
 written-requires : tie.Need-written-requires
 written-requires c κs = search needs
 
--- src/output.rt:107:9
 string-requires : tie.Need-string-requires
 string-requires c κs = search (needs, of-string)
 
--- src/output.rt:108:5
 put-number-requires : tie.Need-put-number-requires
 put-number-requires c κs = search needs
 
--- src/output.rt:109:9
 add-out : tie.Need-add-out
 add-out c = search (needs, of-fits-first)
 
--- src/output.rt:109:5
 slice-write-out : tie.Need-slice-write-out
 slice-write-out c = let s = c .before .before .before .before .before .before .before .before .before .before .before .before .before .before in of-room _ _ _ _ _ _ (s .fits .v) (s .pre .1) _ (c .before .before .before .before .before .before .before .written .ensures) _ _ (c .before .before .before .before .before .before .string .ensures) _ (s .pre .2) _ _ (c .before .before .put-number .ensures)
 
--- src/output.rt:110:25
 add-set-written : tie.Need-add-set-written
 add-set-written c = search (needs, of-fits-first)
 
--- src/output.rt:110:25
 add-set-written-2 : tie.Need-add-set-written-2
 add-set-written-2 c = search (needs, of-fits)
 
--- src/output.rt:110:5
 set-written-requires : tie.Need-set-written-requires
 set-written-requires c κs = search needs
 
--- src/output.rt:103:1
 same-length : tie.Need-same-length
 same-length c = search needs
 
--- src/output.rt:103:1
 same-length-2 : tie.Need-same-length-2
 same-length-2 c = simp length-set (c .before .before .before .before .before .before .put-number .kept .0 ∙ c .before .before .before .before .before .before .before .before .before .before .string .kept .1 .1 .0)
 
--- src/output.rt:103:1
 returns : tie.Need-returns
 returns c = let s = c .before .before .before .before .before .before .before .before .before .before .before .before .before .before .before .before .before .before in of-done _ _ _ _ _ _ (s .fits .v) (s .pre .1) _ (c .before .before .before .before .before .before .before .before .before .before .before .written .ensures) _ _ (c .before .before .before .before .before .before .before .before .before .before .string .ensures) _ (s .pre .2) _ _ (c .before .before .before .before .before .before .put-number .ensures) _ (c .before .before .set-written .ensures)
 

@@ -2,19 +2,13 @@ use Rattle.runner.proofs.Lines.{no-characters}
 use borrow.Author.Needs.{needs}
 use Rattle.runner.proofs.output.characters.Statement.{statement}
 use Rattle.runner.proofs.output.characters.Tie as tie
-use Rattle.runner.proofs.output.characters.Reads as reads
-use Rattle.runner.proofs.output.characters.Lts as lts
-use Rattle.runner.proofs.reading.value.Reads as value-reads
 
--- src/output.rt:71:9
 returns : tie.Need-returns
 returns c = no-characters _ _ (c .before .before .pre) (c .if1 .taken)
 
--- src/output.rt:73:5
 value-requires : tie.Need-value-requires
 value-requires c κs = search needs
 
--- src/output.rt:66:1
 returns-2 : tie.Need-returns-2
 returns-2 c = search needs
 

@@ -2,125 +2,88 @@ use Rattle.runner.proofs.Prompting.{read-in, read-next, read-sum, read-
 use borrow.Author.Needs.{needs}
 use Rattle.runner.proofs.output.read.Statement.{statement}
 use Rattle.runner.proofs.output.read.Tie as tie
-use Rattle.runner.proofs.output.read.Reads as reads
-use Rattle.runner.proofs.output.read.Lts as lts
-use Rattle.cells.proofs.get.Reads as get-reads
-use Rattle.runner.proofs.output.add.Reads as add-reads
-use Rattle.runner.proofs.output.characters.Reads as characters-reads
-use Rattle.runner.proofs.output.take.Reads as take-reads
-use Rattle.runner.proofs.output.written.Reads as written-reads
-use Rattle.runner.proofs.reading.link.Reads as link-reads
-use Rattle.runner.proofs.targets.target_cell.Reads as target-cell-reads
 
--- src/output.rt:190:49
 add-target-cell : tie.Need-add-target-cell
 add-target-cell c = search (needs, read-next)
 
--- src/output.rt:190:9
 target-cell-requires : tie.Need-target-cell-requires
 target-cell-requires c κs = read-target _ _ _ _ _ _ _ _ (c .before .before .before .before .before .before .pre .0) (c .before .before .before .before .before .before .pre .1)
 
--- src/output.rt:192:9
 same-length : tie.Need-same-length
 same-length c = search needs
 
--- src/output.rt:192:9
 returns : tie.Need-returns
 returns c = read-fails _ _ _ _ _ _ _ _ (c .before .before .before .before .before .before .before .before .pre .0) (c .before .before .before .before .before .before .before .before .pre .1) _ record { sfits = c .before .target-cell .ok } (c .before .target-cell .ensures) (c .if1 .taken)
 
--- src/output.rt:194:20
 written-requires : tie.Need-written-requires
 written-requires c κs = search needs
 
--- src/output.rt:194:8
 sub-if2 : tie.Need-sub-if2
 sub-if2 c = search needs
 
--- src/output.rt:194:41
 characters-requires : tie.Need-characters-requires
 characters-requires c κs = search needs
 
--- src/output.rt:195:17
 add-result : tie.Need-add-result
 add-result c = search (needs, read-sum)
 
--- src/output.rt:195:16
 cast-result : tie.Need-cast-result
 cast-result c = search (needs, read-answer)
 
--- src/output.rt:195:9
 same-length-2 : tie.Need-same-length-2
 same-length-2 c = search needs
 
--- src/output.rt:195:9
 returns-2 : tie.Need-returns-2
 returns-2 c = read-lacks _ _ _ _ _ _ _ _ (c .before .before .before .before .before .before .before .before .before .before .before .before .pre .0) (c .before .before .before .before .before .before .before .before .before .before .before .before .pre .1) _ record { sfits = c .before .before .before .before .before .target-cell .ok } (c .before .before .before .before .before .target-cell .ensures) (c .before .before .before .before .if1 .left) _ (c .before .before .written .ensures) _ (c .before .characters .ensures .0) (c .if2 .taken)
 
--- src/output.rt:197:9
 get-requires : tie.Need-get-requires
 get-requires c κs = search needs
 
--- src/output.rt:198:28
 cast-if3 : tie.Need-cast-if3
 cast-if3 c = search needs
 
--- src/output.rt:199:17
 add-result-2 : tie.Need-add-result-2
 add-result-2 c = search (needs, read-sum-7)
 
--- src/output.rt:199:16
 cast-result-2 : tie.Need-cast-result-2
 cast-result-2 c = search (needs, read-answer-7)
 
--- src/output.rt:199:9
 same-length-3 : tie.Need-same-length-3
 same-length-3 c = search needs
 
--- src/output.rt:199:9
 returns-3 : tie.Need-returns-3
 returns-3 c = read-none _ _ _ _ _ _ _ _ (c .before .before .before .before .before .before .before .before .before .before .before .before .before .before .before .pre .0) (c .before .before .before .before .before .before .before .before .before .before .before .before .before .before .before .pre .1) _ record { sfits = c .before .before .before .before .before .before .before .before .target-cell .ok } (c .before .before .before .before .before .before .before .before .target-cell .ensures) (c .before .before .before .before .before .before .before .if1 .left) _ (c .before .before .before .before .before .written .ensures) _ (c .before .before .before .before .characters .ensures .0) (c .before .before .before .if2 .left) _ (c .before .get .ensures) (c .if3 .taken)
 
--- src/output.rt:201:5
 add-requires : tie.Need-add-requires
 add-requires c κs = read-adds _ _ _ _ _ _ _ _ (c .before .before .before .before .before .before .before .before .before .before .before .before .before .before .before .before .before .pre .0) (c .before .before .before .before .before .before .before .before .before .before .before .before .before .before .before .before .before .pre .1) _ record { sfits = c .before .before .before .before .before .before .before .before .before .before .target-cell .ok } (c .before .before .before .before .before .before .before .before .before .before .target-cell .ensures) (c .before .before .before .before .before .before .before .before .before .if1 .left) _ (c .before .before .before .before .before .before .before .written .ensures) _ (c .before .before .before .before .before .before .characters .ensures .0) (c .before .before .before .before .before .if2 .left) _ (c .before .before .before .get .ensures)
 
--- src/output.rt:202:35
 cast-take : tie.Need-cast-take
 cast-take c = read-cast _ _ _ _ _ _ _ _ (c .before .before .before .before .before .before .before .before .before .before .before .before .before .before .before .before .before .before .before .before .before .before .before .pre .0) (c .before .before .before .before .before .before .before .before .before .before .before .before .before .before .before .before .before .before .before .before .before .before .before .pre .1) _ record { sfits = c .before .before .before .before .before .before .before .before .before .before .before .before .before .before .before .before .target-cell .ok } (c .before .before .before .before .before .before .before .before .before .before .before .before .before .before .before .before .target-cell .ensures) (c .before .before .before .before .before .before .before .before .before .before .before .before .before .before .before .if1 .left) _ (c .before .before .before .before .before .before .before .before .before .before .before .before .before .written .ensures) _ (c .before .before .before .before .before .before .before .before .before .before .before .before .characters .ensures .0) (c .before .before .before .before .before .before .before .before .before .before .before .if2 .left) _ (c .before .before .before .before .before .before .before .before .before .get .ensures) (c .before .before .before .before .before .before .before .before .if3 .left) _ _ (c .before .before .before .before .before .add .ensures)
 
--- src/output.rt:202:8
 take-requires : tie.Need-take-requires
 take-requires c κs = read-takes _ _ _ _ _ _ _ _ (c .before .before .before .before .before .before .before .before .before .before .before .before .before .before .before .before .before .before .before .before .before .before .before .pre .0) (c .before .before .before .before .before .before .before .before .before .before .before .before .before .before .before .before .before .before .before .before .before .before .before .pre .1) _ record { sfits = c .before .before .before .before .before .before .before .before .before .before .before .before .before .before .before .before .target-cell .ok } (c .before .before .before .before .before .before .before .before .before .before .before .before .before .before .before .before .target-cell .ensures) (c .before .before .before .before .before .before .before .before .before .before .before .before .before .before .before .if1 .left) _ (c .before .before .before .before .before .before .before .before .before .before .before .before .before .written .ensures) _ (c .before .before .before .before .before .before .before .before .before .before .before .before .characters .ensures .0) (c .before .before .before .before .before .before .before .before .before .before .before .if2 .left) _ (c .before .before .before .before .before .before .before .before .before .get .ensures) (c .before .before .before .before .before .before .before .before .if3 .left) _ _ (c .before .before .before .before .before .add .ensures)
 
--- src/output.rt:203:16
 link-requires : tie.Need-link-requires
 link-requires c κs = search (needs, read-in)
 
--- src/output.rt:203:16
 cast-result-3 : tie.Need-cast-result-3
 cast-result-3 c = search needs
 
--- src/output.rt:203:9
 same-length-4 : tie.Need-same-length-4
 same-length-4 c = search needs
 
--- src/output.rt:203:9
 same-length-5 : tie.Need-same-length-5
 same-length-5 c = search needs
 
--- src/output.rt:203:9
 returns-4 : tie.Need-returns-4
 returns-4 c = read-done _ _ _ _ _ _ _ _ (c .before .before .before .before .before .before .before .before .before .before .before .before .before .before .before .before .before .before .before .before .before .before .before .before .before .before .before .before .pre .0) (c .before .before .before .before .before .before .before .before .before .before .before .before .before .before .before .before .before .before .before .before .before .before .before .before .before .before .before .before .pre .1) _ record { sfits = c .before .before .before .before .before .before .before .before .before .before .before .before .before .before .before .before .before .before .before .before .before .target-cell .ok } (c .before .before .before .before .before .before .before .before .before .before .before .before .before .before .before .before .before .before .before .before .before .target-cell .ensures) (c .before .before .before .before .before .before .before .before .before .before .before .before .before .before .before .before .before .before .before .before .if1 .left) _ (c .before .before .before .before .before .before .before .before .before .before .before .before .before .before .before .before .before .before .written .ensures) _ (c .before .before .before .before .before .before .before .before .before .before .before .before .before .before .before .before .before .characters .ensures .0) (c .before .before .before .before .before .before .before .before .before .before .before .before .before .before .before .before .if2 .left) _ (c .before .before .before .before .before .before .before .before .before .before .before .before .before .before .get .ensures) (c .before .before .before .before .before .before .before .before .before .before .before .before .before .if3 .left) _ _ (c .before .before .before .before .before .before .before .before .before .before .add .ensures) _ _ (c .before .before .before .before .take .ensures) (c .before .if4 .taken) _ (c .link .ensures .same)
 
--- src/output.rt:186:1
 same-length-6 : tie.Need-same-length-6
 same-length-6 c = search needs
 
--- src/output.rt:186:1
 same-length-7 : tie.Need-same-length-7
 same-length-7 c = search needs
 
--- src/output.rt:186:1
 returns-5 : tie.Need-returns-5
 returns-5 c = read-out _ _ _ _ _ _ _ _ (c .before .before .before .before .before .before .before .before .before .before .before .before .before .before .before .before .before .before .before .before .before .before .before .before .before .before .before .pre .0) (c .before .before .before .before .before .before .before .before .before .before .before .before .before .before .before .before .before .before .before .before .before .before .before .before .before .before .before .pre .1) _ record { sfits = c .before .before .before .before .before .before .before .before .before .before .before .before .before .before .before .before .before .before .before .before .target-cell .ok } (c .before .before .before .before .before .before .before .before .before .before .before .before .before .before .before .before .before .before .before .before .target-cell .ensures) (c .before .before .before .before .before .before .before .before .before .before .before .before .before .before .before .before .before .before .before .if1 .left) _ (c .before .before .before .before .before .before .before .before .before .before .before .before .before .before .before .before .before .written .ensures) _ (c .before .before .before .before .before .before .before .before .before .before .before .before .before .before .before .before .characters .ensures .0) (c .before .before .before .before .before .before .before .before .before .before .before .before .before .before .before .if2 .left) _ (c .before .before .before .before .before .before .before .before .before .before .before .before .before .get .ensures) (c .before .before .before .before .before .before .before .before .before .before .before .before .if3 .left) _ _ (c .before .before .before .before .before .before .before .before .before .add .ensures) _ _ (c .before .before .before .take .ensures) (c .if4 .left)
 

@@ -2,35 +2,25 @@ use borrow.Author.Needs.{needs}
 use Rattle.runner.proofs.Lines.{counted}
 use Rattle.runner.proofs.output.set_written.Statement.{statement}
 use Rattle.runner.proofs.output.set_written.Tie as tie
-use Rattle.runner.proofs.output.set_written.Reads as reads
-use Rattle.runner.proofs.output.set_written.Lts as lts
-use Rattle.cells.proofs.put.Reads as put-reads
 
--- src/output.rt:34:33
 cast-put : tie.Need-cast-put
 cast-put c = search needs
 
--- src/output.rt:34:5
 put-requires : tie.Need-put-requires
 put-requires c κs = search needs
 
--- src/output.rt:35:24
 add-put : tie.Need-add-put
 add-put c = search needs
 
--- src/output.rt:35:37
 cast-put-2 : tie.Need-cast-put-2
 cast-put-2 c = search needs
 
--- src/output.rt:35:5
 put-requires-2 : tie.Need-put-requires-2
 put-requires-2 c κs = search needs
 
--- src/output.rt:30:1
 same-length : tie.Need-same-length
 same-length c = search needs
 
--- src/output.rt:30:1
 returns : tie.Need-returns
 returns c = search (needs, counted)
 

@@ -2,65 +2,46 @@ use Rattle.runner.proofs.Lines.{string-none, string-there, string-in, s
 use borrow.Author.Needs.{needs}
 use Rattle.runner.proofs.output.string.Statement.{statement}
 use Rattle.runner.proofs.output.string.Tie as tie
-use Rattle.runner.proofs.output.string.Reads as reads
-use Rattle.runner.proofs.output.string.Lts as lts
-use Rattle.runner.proofs.output.characters.Reads as characters-reads
-use Rattle.runner.proofs.output.copy.Reads as copy-reads
-use Rattle.runner.proofs.reading.place.Reads as place-reads
 
--- src/output.rt:81:9
 characters-requires : tie.Need-characters-requires
 characters-requires c κs = search needs
 
--- src/output.rt:83:9
 returns : tie.Need-returns
 returns c = search (needs, string-none)
 
--- src/output.rt:85:13
 place-requires : tie.Need-place-requires
 place-requires c κs = search (needs, string-there)
 
--- src/output.rt:85:13
 add-p : tie.Need-add-p
 add-p c = search needs
 
--- src/output.rt:86:10
 sub-copy : tie.Need-sub-copy
 sub-copy c = search (needs, string-in)
 
--- src/output.rt:86:10
 part-copy-start : tie.Need-part-copy-start
 part-copy-start c = search (needs, string-in)
 
--- src/output.rt:86:10
 part-copy-end : tie.Need-part-copy-end
 part-copy-end c = search needs
 
--- src/output.rt:86:22
 sub-copy-2 : tie.Need-sub-copy-2
 sub-copy-2 c = search needs
 
--- src/output.rt:86:22
 part-copy-start-2 : tie.Need-part-copy-start-2
 part-copy-start-2 c = search needs
 
--- src/output.rt:86:22
 part-copy-end-2 : tie.Need-part-copy-end-2
 part-copy-end-2 c = search needs
 
--- src/output.rt:86:5
 copy-requires : tie.Need-copy-requires
 copy-requires c κs = search (needs, string-copies)
 
--- src/output.rt:87:5
 add-result : tie.Need-add-result
 add-result c = search needs
 
--- src/output.rt:77:1
 same-length : tie.Need-same-length
 same-length c = search needs
 
--- src/output.rt:77:1
 returns-2 : tie.Need-returns-2
 returns-2 c = search (needs, string-done)
 

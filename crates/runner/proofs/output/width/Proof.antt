@@ -2,14 +2,10 @@ use borrow.Author.Needs.{needs}
 use Rattle.runner.proofs.Copying.{width-quote, width-plain}
 use Rattle.runner.proofs.output.width.Statement.{statement}
 use Rattle.runner.proofs.output.width.Tie as tie
-use Rattle.runner.proofs.output.width.Reads as reads
-use Rattle.runner.proofs.output.width.Lts as lts
 
--- src/output.rt:43:9
 returns : tie.Need-returns
 returns c = search (needs, width-quote)
 
--- src/output.rt:39:1
 returns-2 : tie.Need-returns-2
 returns-2 c = search (needs, width-plain)
 

@@ -2,70 +2,49 @@ use Rattle.runner.proofs.Printing.{write-in, write-next, write-sum, wri
 use borrow.Author.Needs.{needs}
 use Rattle.runner.proofs.output.write.Statement.{statement}
 use Rattle.runner.proofs.output.write.Tie as tie
-use Rattle.runner.proofs.output.write.Reads as reads
-use Rattle.runner.proofs.output.write.Lts as lts
-use Rattle.runner.proofs.output.add.Reads as add-reads
-use Rattle.runner.proofs.output.characters.Reads as characters-reads
-use Rattle.runner.proofs.output.written.Reads as written-reads
-use Rattle.runner.proofs.reading.link.Reads as link-reads
 
--- src/output.rt:142:20
 written-requires : tie.Need-written-requires
 written-requires c κs = search needs
 
--- src/output.rt:142:8
 sub-if1 : tie.Need-sub-if1
 sub-if1 c = search needs
 
--- src/output.rt:142:58
 add-characters : tie.Need-add-characters
 add-characters c = search (needs, write-next)
 
--- src/output.rt:142:41
 characters-requires : tie.Need-characters-requires
 characters-requires c κs = search needs
 
--- src/output.rt:143:17
 add-result : tie.Need-add-result
 add-result c = search (needs, write-sum)
 
--- src/output.rt:143:16
 cast-result : tie.Need-cast-result
 cast-result c = search (needs, write-fits)
 
--- src/output.rt:143:9
 same-length : tie.Need-same-length
 same-length c = search needs
 
--- src/output.rt:143:9
 returns : tie.Need-returns
 returns c = write-lacks _ _ _ _ _ (c .before .before .before .before .before .before .before .before .pre) _ (c .before .before .written .ensures) _ (c .before .characters .ensures .0) (c .if1 .taken)
 
--- src/output.rt:145:34
 add-add : tie.Need-add-add
 add-add c = search (needs, write-next)
 
--- src/output.rt:145:5
 add-requires : tie.Need-add-requires
 add-requires c κs = write-adds _ _ _ _ _ (c .before .before .before .before .before .before .before .before .before .before .pre) _ (c .before .before .before .before .written .ensures) _ (c .before .before .before .characters .ensures .0) (c .before .before .if1 .left)
 
--- src/output.rt:146:5
 link-requires : tie.Need-link-requires
 link-requires c κs = search (needs, write-in)
 
--- src/output.rt:146:5
 cast-result-2 : tie.Need-cast-result-2
 cast-result-2 c = search needs
 
--- src/output.rt:138:1
 same-length-2 : tie.Need-same-length-2
 same-length-2 c = search needs
 
--- src/output.rt:138:1
 same-length-3 : tie.Need-same-length-3
 same-length-3 c = search needs
 
--- src/output.rt:138:1
 returns-2 : tie.Need-returns-2
 returns-2 c = write-done _ _ _ _ _ (c .before .before .before .before .before .before .before .before .before .before .before .before .before .before .before .before .pre) _ (c .before .before .before .before .before .before .before .before .before .before .written .ensures) _ (c .before .before .before .before .before .before .before .before .before .characters .ensures .0) (c .before .before .before .before .before .before .before .before .if1 .left) _ _ (c .before .before .before .before .before .add .ensures) _ (c .link .ensures .same)
 

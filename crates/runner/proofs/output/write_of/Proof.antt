@@ -3,96 +3,67 @@ use Rattle.runner.proofs.PrintingOf.{of-in, of-next, of-from, of-sum, o
 use borrow.Author.Needs.{needs}
 use Rattle.runner.proofs.output.write_of.Statement.{statement}
 use Rattle.runner.proofs.output.write_of.Tie as tie
-use Rattle.runner.proofs.output.write_of.Reads as reads
-use Rattle.runner.proofs.output.write_of.Lts as lts
-use Rattle.decimals.proofs.number_length.Reads as number-length-reads
-use Rattle.runner.proofs.choices.worth.Reads as worth-reads
-use Rattle.runner.proofs.output.add_of.Reads as add-of-reads
-use Rattle.runner.proofs.output.characters.Reads as characters-reads
-use Rattle.runner.proofs.output.written.Reads as written-reads
-use Rattle.runner.proofs.reading.link.Reads as link-reads
 
--- src/output.rt:154:43
 add-worth : tie.Need-add-worth
 add-worth c = search (needs, of-from)
 
--- src/output.rt:154:9
 worth-requires : tie.Need-worth-requires
 worth-requires c κs = (stores-here _ _ _ _ (c .before .before .before .before .before .pre .0 .here), of-stands _ _ _ _ _ _ _ (c .before .before .before .before .before .pre .0) (c .before .before .before .before .before .pre .1))
 
--- src/output.rt:156:9
 same-length : tie.Need-same-length
 same-length c = search needs
 
--- src/output.rt:156:9
 returns : tie.Need-returns
 returns c = of-fails _ _ _ _ _ _ _ (c .before .before .before .before .before .before .before .pre .0) (c .before .before .before .before .before .before .before .pre .1) _ record { sfits = c .before .worth .ok } (c .before .worth .ensures) (c .if1 .taken)
 
--- src/output.rt:158:9
 number-length-requires : tie.Need-number-length-requires
 number-length-requires c κs = search needs
 
--- src/output.rt:159:20
 written-requires : tie.Need-written-requires
 written-requires c κs = search needs
 
--- src/output.rt:159:8
 sub-if2 : tie.Need-sub-if2
 sub-if2 c = search needs
 
--- src/output.rt:159:58
 add-characters : tie.Need-add-characters
 add-characters c = search (needs, of-next)
 
--- src/output.rt:159:41
 characters-requires : tie.Need-characters-requires
 characters-requires c κs = search needs
 
--- src/output.rt:159:41
 add-if2 : tie.Need-add-if2
 add-if2 c = record { fits = of-short _ _ _ (c .characters .ensures .1) (c .before .before .before .number-length .ensures) }
 
--- src/output.rt:160:17
 add-result : tie.Need-add-result
 add-result c = search (needs, of-sum)
 
--- src/output.rt:160:16
 cast-result : tie.Need-cast-result
 cast-result c = search (needs, of-answer)
 
--- src/output.rt:160:9
 same-length-2 : tie.Need-same-length-2
 same-length-2 c = search needs
 
--- src/output.rt:160:9
 returns-2 : tie.Need-returns-2
 returns-2 c = of-lacks _ _ _ _ _ _ _ (c .before .before .before .before .before .before .before .before .before .before .before .before .pre .0) (c .before .before .before .before .before .before .before .before .before .before .before .before .pre .1) _ record { sfits = c .before .before .before .before .before .before .worth .ok } (c .before .before .before .before .before .before .worth .ensures) (c .before .before .before .before .before .if1 .left) _ (c .before .before .before .before .number-length .ensures) _ (c .before .before .written .ensures) _ (c .before .characters .ensures .0) (c .if2 .taken)
 
--- src/output.rt:162:37
 add-add-of : tie.Need-add-add-of
 add-add-of c = search (needs, of-next)
 
--- src/output.rt:162:5
 add-of-requires : tie.Need-add-of-requires
 add-of-requires c κs = of-adds _ _ _ _ _ _ _ (c .before .before .before .before .before .before .before .before .before .before .before .before .before .before .pre .0) (c .before .before .before .before .before .before .before .before .before .before .before .before .before .before .pre .1) _ record { sfits = c .before .before .before .before .before .before .before .before .worth .ok } (c .before .before .before .before .before .before .before .before .worth .ensures) (c .before .before .before .before .before .before .before .if1 .left) _ (c .before .before .before .before .before .before .number-length .ensures) _ (c .before .before .before .before .written .ensures) _ (c .before .before .before .characters .ensures .0) (c .before .before .if2 .left)
 
--- src/output.rt:163:5
 link-requires : tie.Need-link-requires
 link-requires c κs = search (needs, of-in)
 
--- src/output.rt:163:5
 cast-result-2 : tie.Need-cast-result-2
 cast-result-2 c = search needs
 
--- src/output.rt:150:1
 same-length-3 : tie.Need-same-length-3
 same-length-3 c = search needs
 
--- src/output.rt:150:1
 same-length-4 : tie.Need-same-length-4
 same-length-4 c = search needs
 
--- src/output.rt:150:1
 returns-3 : tie.Need-returns-3
 returns-3 c = of-done _ _ _ _ _ _ _ (c .before .before .before .before .before .before .before .before .before .before .before .before .before .before .before .before .before .before .before .before .pre .0) (c .before .before .before .before .before .before .before .before .before .before .before .before .before .before .before .before .before .before .before .before .pre .1) _ record { sfits = c .before .before .before .before .before .before .before .before .before .before .before .before .before .before .worth .ok } (c .before .before .before .before .before .before .before .before .before .before .before .before .before .before .worth .ensures) (c .before .before .before .before .before .before .before .before .before .before .before .before .before .if1 .left) _ (c .before .before .before .before .before .before .before .before .before .before .before .before .number-length .ensures) _ (c .before .before .before .before .before .before .before .before .before .before .written .ensures) _ (c .before .before .before .before .before .before .before .before .before .characters .ensures .0) (c .before .before .before .before .before .before .before .before .if2 .left) _ _ (c .before .before .before .before .before .add-of .ensures) _ (c .link .ensures .same)
 
