@@ -156,7 +156,7 @@ unread-less W code at to end h u = record {
 
 -- ---- the heads are read next
 module _ (text code values : List ℕ) (words : ℕ) (f : Formed text code values words) where
-  pub heads-begin : heads.Begins text code values
+  unfoldable pub heads-begin : heads.Begins text code values
   heads-begin = record {
     m = f .m;
     stands = formed-parses (sortIn (wordsIn text)) (f .m) (f .form);

@@ -4,3 +4,4 @@ pub mod Passing
 pub mod Parting
 pub mod Calling
 pub mod Going
+pub mod Naming
