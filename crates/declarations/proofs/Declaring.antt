@@ -123,7 +123,7 @@ module _ (W : List Word) (F : Filling) where
   content-used t i c D = ap (λ (E : Data). length (E .words)) (content-shape t i c D) ∙ length-append (D .words) (contentWords W F c D)
 
 -- ---- what words keep
-keeps-same : (routine : ℕ → ℕ) (W : List Word) (S : Scopes) (C E : List ℕ) (i : ℕ) → getD E (i * 2) 0 ≡ getD C (i * 2) 0 → getD E (i * 2 + 1) 0 ≡ getD C (i * 2 + 1) 0 → Keeps routine W S C i → Keeps routine W S E i
+pub keeps-same : (routine : ℕ → ℕ) (W : List Word) (S : Scopes) (C E : List ℕ) (i : ℕ) → getD E (i * 2) 0 ≡ getD C (i * 2) 0 → getD E (i * 2 + 1) 0 ≡ getD C (i * 2 + 1) 0 → Keeps routine W S C i → Keeps routine W S E i
 keeps-same routine W S C E i h t k = record {
   number = ap linkIn t ∙ k .number;
   means = ap (meaningIn routine) h ∙ k .means;
