@@ -7,3 +7,4 @@ pub mod Scalars
 pub mod Walking
 pub mod Chaining
 pub mod Routing
+pub mod Passing
