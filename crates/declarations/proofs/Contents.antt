@@ -56,7 +56,7 @@ use Rattle.declarations.proofs.Sitting.{site-ref, own-small, own-here, 
 use Rattle.declarations.proofs.Declaring.{asks-of, contentMeaning, content-used, Around, name-keeps, words-changed, words-written, now-filled}
 
 -- ---- limits
-crossing : (limit used own : ℕ) → used ≤ limit → limit < used + own → crosses limit used own ≡ true
+pub crossing : (limit used own : ℕ) → used ≤ limit → limit < used + own → crosses limit used own ≡ true
 unfolding crosses
 crossing limit used own h g = rw (le-ltb limit used h) (lt-ltb limit (used + own) g)
 

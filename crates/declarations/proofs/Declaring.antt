@@ -123,7 +123,7 @@ module _ (W : List Word) (F : Filling) where
   content-used t i c D = ap (λ (E : Data). length (E .words)) (content-shape t i c D) ∙ length-append (D .words) (contentWords W F c D)
 
 -- ---- what words keep
-keeps-same : (routine : ℕ → ℕ) (W : List Word) (S : Scopes) (C E : List ℕ) (i : ℕ) → getD E (i * 2) 0 ≡ getD C (i * 2) 0 → getD E (i * 2 + 1) 0 ≡ getD C (i * 2 + 1) 0 → Keeps routine W S C i → Keeps routine W S E i
+pub keeps-same : (routine : ℕ → ℕ) (W : List Word) (S : Scopes) (C E : List ℕ) (i : ℕ) → getD E (i * 2) 0 ≡ getD C (i * 2) 0 → getD E (i * 2 + 1) 0 ≡ getD C (i * 2 + 1) 0 → Keeps routine W S C i → Keeps routine W S E i
 keeps-same routine W S C E i h t k = record {
   number = ap linkIn t ∙ k .number;
   means = ap (meaningIn routine) h ∙ k .means;
@@ -136,7 +136,7 @@ look-past [] text o h = refl
 look-past (n ∷ N) text o h =
     test (equalTexts (n .0) text) (λ t. let x : true ≡ false = rw (t, isAmong) at h in apart (cc)) (λ t. rw (t, lookIn) (look-past N text o (rw (t, isAmong) at h)))
 
-not-among : (scope : List Text) (text : Text) → cannotDeclare scope text ≡ false → isAmong scope text ≡ false
+pub not-among : (scope : List Text) (text : Text) → cannotDeclare scope text ≡ false → isAmong scope text ≡ false
 unfolding cannotDeclare
 not-among scope text h = let p : isProtected text ≡ false = may-declare scope text h in rw (p, cannotDeclare) at h
 
@@ -146,11 +146,11 @@ unfolding filling moduleFilling routineFilling meaning lookIn
 outer-meaning W (theModule routines) N text h = ap (lookIn protected text) (look-past N text _ h)
 outer-meaning W (aRoutine m) N text h = ap (lookIn protected text) (look-past N text _ h)
 
-keeps-outer : (routine : ℕ → ℕ) (W : List Word) (s : Site) (N : Names) (C : List ℕ) (i : ℕ) → isAmong (map textOf N) (spelled W i) ≡ false → Keeps routine W (filling W s .scopesWith N) C i → Keeps routine W (outerOf W s) C i
+pub keeps-outer : (routine : ℕ → ℕ) (W : List Word) (s : Site) (N : Names) (C : List ℕ) (i : ℕ) → isAmong (map textOf N) (spelled W i) ≡ false → Keeps routine W (filling W s .scopesWith N) C i → Keeps routine W (outerOf W s) C i
 keeps-outer routine W s N C i h k = record { number = k .number; means = k .means ∙ outer-meaning W s N (spelled W i) h; guards = k .guards }
 
 -- ---- the name is declared, and its words have what they start with
-data-plain : (op bool own value : ℕ) → op < 16 → bool < 2 → own < 2 → protectsCell (op + 2 * bool + own + 256 * value) ≡ false
+pub data-plain : (op bool own value : ℕ) → op < 16 → bool < 2 → own < 2 → protectsCell (op + 2 * bool + own + 256 * value) ≡ false
 data-plain op bool own value h g k = lt-leb 24 ((op + 2 * bool + own + 256 * value) % 256) (omega arith)
 
 -- what the code store says between the check of the expression and the declaration of the name: `n` is at or before the word after the declaration

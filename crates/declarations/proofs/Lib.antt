@@ -5,3 +5,6 @@ pub mod Declaring
 pub mod Contents
 pub mod Scalars
 pub mod Walking
+pub mod Chaining
+pub mod Routing
+pub mod Passing

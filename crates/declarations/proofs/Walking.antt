@@ -64,7 +64,7 @@ module _ {W : List Word} {routine : ℕ → ℕ} {s : Site} {D₀ : Data} {ds : 
   walk-near = omega (arith, on, w .loaded .last)
 
   -- the word at hand
-  sort-here : (k : ℕ) → k ≡ opAt (wordsOf code) i → sortIn W i ≡ k
+  pub sort-here : (k : ℕ) → k ≡ opAt (wordsOf code) i → sortIn W i ≡ k
   sort-here k e = sym (e ∙ w .loaded .words i (omega arith) on .sort)
 
   module _ (starts : startsData (sortIn W i) ≡ true) where
@@ -100,7 +100,7 @@ module _ {W : List Word} {routine : ℕ → ℕ} {s : Site} {D₀ : Data} {ds : 
           subst (First f) (sym (w .faults-left ∙ ap (λ (l : List Declared). dataFaults W (filling W s) l (w .D)) (next .is)))
           (data-found W (filling W s) (w .D) (next .one) (next .more) h)
 
-      pub walk-on : (code′ values′ : List ℕ) (n used′ : ℕ) → length code′ ≡ length code → ((k : ℕ) → next .n * 2 ≤ k → getD (wordsOf code′) k 0 ≡ getD (wordsOf code) k 0)
+      unfoldable pub walk-on : (code′ values′ : List ℕ) (n used′ : ℕ) → length code′ ≡ length code → ((k : ℕ) → next .n * 2 ≤ k → getD (wordsOf code′) k 0 ≡ getD (wordsOf code) k 0)
           → faultsOf walk-begins ≡ [] → n ≡ next .n → used′ ≡ length (after walk-begins .words) → Filled W routine s (after walk-begins) values′ → Walk W routine s D₀ ds to code′ values′ n used′
       unfolding declareData
       walk-on code′ values′ n used′ long same none n-is used-is filled =
@@ -132,11 +132,11 @@ module _ {W : List Word} {routine : ℕ → ℕ} {s : Site} {D₀ : Data} {ds : 
     pub done-rest : w .rest ≡ []
     done-rest = repeated-none (sortIn W) (DeclaredAt (sortIn W) (Parses (sortIn W))) (w .stand) stops .0
 
-says-goes : {code values : List ℕ} {own limit used i : ℕ} (b : Begins code values own limit used i) (code′ values′ : List ℕ) (r : Walked) (next used′ : ℕ) → r ≡ Upto next used′ → Says b code′ values′ r → Goes b code′ values′ next used′
+pub says-goes : {code values : List ℕ} {own limit used i : ℕ} (b : Begins code values own limit used i) (code′ values′ : List ℕ) (r : Walked) (next used′ : ℕ) → r ≡ Upto next used′ → Says b code′ values′ r → Goes b code′ values′ next used′
 unfolding Says
 says-goes b code′ values′ r next used′ q h = subst (Says b code′ values′) q h
 
-says-faulty : {code values : List ℕ} {own limit used i : ℕ} (b : Begins code values own limit used i) (code′ values′ : List ℕ) (r : Walked) (number word : ℕ) → r ≡ Faulty number word → Says b code′ values′ r
+pub says-faulty : {code values : List ℕ} {own limit used i : ℕ} (b : Begins code values own limit used i) (code′ values′ : List ℕ) (r : Walked) (number word : ℕ) → r ≡ Faulty number word → Says b code′ values′ r
     → First (record { number = number; at = word }) (faultsOf b)
 unfolding Says
 says-faulty b code′ values′ r number word q h = subst (Says b code′ values′) q h

@@ -1,82 +1,68 @@
 use borrow.Author.Needs.{needs}
+use Prim.Native.Nat.{_-_, _<_, _≤_}
+use native.Mathlib.Omega.{arith}
+use Rattle.declarations.proofs.Routing.{RoutineWalk, routine-begun, routine-room, last-room, routine-long, routine-long-values, routine-datum, routine-near, routine-faulty, routine-falls, routine-small, routine-on, routine-done}
 use Rattle.declarations.proofs.routine_data.Statement.{statement}
 use Rattle.declarations.proofs.routine_data.Tie as tie
-use Rattle.declarations.proofs.routine_data.Reads as reads
-use Rattle.declarations.proofs.routine_data.Lts as lts
-use Rattle.declarations.proofs.datum.Reads as datum-reads
-use Rattle.declarations.proofs.set_link.Reads as set-link-reads
-use Rattle.declarations.proofs.sort.Reads as sort-reads
-use Rattle.declarations.proofs.starts_data.Reads as starts-data-reads
 
 abbrev Inv-loop : tie.InvT-loop
-Inv-loop code₀ values₀ opens head before at i₀ used₀ last₀ code values i used last = ?
+Inv-loop code₀ values₀ opens head before at i₀ used₀ last₀ code values i used last = RoutineWalk code₀ values₀ head before at code values i used last
 
 abbrev μ-loop : tie.MeasureT-loop
-μ-loop code₀ values₀ opens head before at i₀ used₀ last₀ code values i used last = ?
+μ-loop code₀ values₀ opens head before at i₀ used₀ last₀ code values i used last = 8192 - i
 
--- src/lib.rt:288:5
 loop-holds : tie.Need-loop-holds Inv-loop μ-loop
-loop-holds c = ?
+loop-holds c = search (needs, routine-begun)
 
--- src/lib.rt:288:23
 sort-requires : tie.Need-sort-requires Inv-loop μ-loop
-sort-requires c κs = ?
+sort-requires c κs = search (needs, routine-room)
 
--- src/lib.rt:288:11
 starts-data-requires : tie.Need-starts-data-requires Inv-loop μ-loop
-starts-data-requires c κs = ?
+starts-data-requires c κs = search needs
 
--- src/lib.rt:289:13
 datum-requires : tie.Need-datum-requires Inv-loop μ-loop
-datum-requires c κs = ?
+datum-requires c κs = (search (needs, routine-datum), search (needs, routine-near))
 
--- src/lib.rt:291:28
 enum-known-d : tie.Need-enum-known-d Inv-loop μ-loop
-enum-known-d c = ?
+enum-known-d c = search needs
 
--- src/lib.rt:291:45
 same-length : tie.Need-same-length Inv-loop μ-loop
-same-length c = ?
+same-length c = search (needs, routine-long, routine-long-values)
 
--- src/lib.rt:291:45
 same-length-2 : tie.Need-same-length-2 Inv-loop μ-loop
-same-length-2 c = ?
+same-length-2 c = search (needs, routine-long, routine-long-values)
 
--- src/lib.rt:291:45
 returns : tie.Need-returns Inv-loop μ-loop
-returns c = ?
+returns c = search (needs, routine-faulty)
 
--- src/lib.rt:292:26
 enum-known-d-2 : tie.Need-enum-known-d-2 Inv-loop μ-loop
-enum-known-d-2 c = ?
+enum-known-d-2 c = search needs
 
--- src/lib.rt:293:17
 set-link-requires : tie.Need-set-link-requires Inv-loop μ-loop
-set-link-requires c κs = ?
+set-link-requires c κs =
+    let h = last-room _ _ _ _ _ _ _ _ _ _ (c .before .before .before .before .before .before .before .before .before .before .before .before .before .before .before .loop .inv) (c .before .before .before .before .before .before .before .before .before .before .before .before .before .before .before .before .before .before .pre .0) in
+    let g = routine-small _ _ _ _ _ _ _ _ _ _ (c .before .before .before .before .before .before .before .before .before .before .before .before .before .before .before .loop .inv) (c .before .before .before .before .before .before .before .before .before .before .before .before .before .before .before .before .before .before .pre .0) in
+    (omega (arith, h), omega (arith, g))
 
--- src/lib.rt:288:5
 loop-less : tie.Need-loop-less Inv-loop μ-loop
-loop-less c = ?
+loop-less c = search (needs, routine-falls)
 
--- src/lib.rt:288:5
 loop-again : tie.Need-loop-again Inv-loop μ-loop
-loop-again c = ?
+loop-again c =
+    routine-on _ _ _ _ _ _ _ _ _ _ (c .before .before .before .before .before .before .before .before .before .before .before .before .before .before .before .before .before .before .loop .inv) _ (c .before .before .before .before .before .before .before .before .before .before .before .before .before .before .before .before .sort .ensures) _ (c .before .before .before .before .before .before .before .before .before .before .before .before .before .before .before .starts-data .ensures) (c .before .before .before .before .before .before .before .before .before .before .before .before .before .before .if1 .taken) _ _ _ (c .before .before .before .before .before .before .before .before .before .before .before .datum .ensures) _ _ (c .before .before .before .before .before .d2 .given .1) (c .before .before .before .before .before .before .before .before .before .before .before .before .before .before .before .before .before .before .before .before .before .pre .0) _ (c .before .before .set-link .ensures) (search needs) (search needs)
 
--- src/lib.rt:300:5
 set-link-requires-2 : tie.Need-set-link-requires-2 Inv-loop μ-loop
-set-link-requires-2 c κs = ?
+set-link-requires-2 c κs = (search (needs, last-room), search needs)
 
--- src/lib.rt:274:1
 same-length-3 : tie.Need-same-length-3 Inv-loop μ-loop
-same-length-3 c = ?
+same-length-3 c = search (needs, routine-long, routine-long-values)
 
--- src/lib.rt:274:1
 same-length-4 : tie.Need-same-length-4 Inv-loop μ-loop
-same-length-4 c = ?
+same-length-4 c = search (needs, routine-long, routine-long-values)
 
--- src/lib.rt:274:1
 returns-2 : tie.Need-returns-2 Inv-loop μ-loop
-returns-2 c = ?
+returns-2 c =
+    routine-done _ _ _ _ _ _ _ _ _ _ (c .before .before .before .before .before .before .before .before .loop .inv) _ (c .before .before .before .before .before .before .sort .ensures) _ (c .before .before .before .before .before .starts-data .ensures) (c .before .before .before .before .if1 .left) _ _ (c .before .before .set-link2 .ensures)
 
 pub routine-data-spec : {M : Type 1} → statement M
 routine-data-spec =
