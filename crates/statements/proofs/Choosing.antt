@@ -52,7 +52,7 @@ unfolding constantAt
 constant-same s i l h = ap (λ (k : ℕ). pos k -ℤ pos bias) (value-same s i l h _ refl)
 
 module _ (W : List Word) (S : Scopes) (M : Memory) (C D : List ℕ) (colon low : ℕ) (same : SameWords C D low colon) where
-  chain-same : (es : List Expr) (w : ℕ) → linkAt C w ≡ linkAt D w → low ≤ w + 2 → Chain W S M C es colon w → Chain W S M D es colon w
+  pub chain-same : (es : List Expr) (w : ℕ) → linkAt C w ≡ linkAt D w → low ≤ w + 2 → Chain W S M C es colon w → Chain W S M D es colon w
   unfolding Chain
   chain-same [] w l h x = sym l ∙ x
   chain-same (e ∷ es) w l h x =

@@ -15,3 +15,4 @@ pub mod Fors
 pub mod Defaulting
 pub mod Choosing
 pub mod Tests
+pub mod Linking

@@ -8,7 +8,11 @@ use Rattle.statements.proofs.Elses.{else-room, else-lists, else-closes,
 use Rattle.statements.proofs.Arms.{Armings, arms-begin, arm-lists, arm-values, arm-long-so, arm-after, arm-wide, arm-place, arm-closes, arm-long, arm-elses, arm-ends, arm-condition, arm-less, arm-list-wrong, arm-else-wrong, arms-finished, arm-wrong, arms-go}
 use Rattle.statements.proofs.Ifs.{if-condition, if-room, if-forward, if-compacts, if-thens, if-wrong, if-compact, if-full}
 use mathlib.Core.Path.{refl}
-use Rattle.statements.proofs.Fors.{for-heads, for-declares, for-spare, for-lists, for-closes, for-leaves, for-wrong, for-list-wrong, for-finished}
+use Rattle.statements.proofs.Fors.{for-heads, for-declares, for-spare, for-lists, for-closes, for-leaves, for-wrong, for-list-wrong, for-long, for-finished}
+use Rattle.statements.proofs.Defaulting.{default-room, default-lists, default-closes, default-no, default-wrong, default-yes}
+use Rattle.statements.proofs.Choosing.{Casings, cases-begin, case-room, case-long, case-values-long, case-defaults, case-values-stand, case-lists, case-colon, case-closes, case-links, cases-finished, case-wrong, case-list-wrong, cases-go}
+use Rattle.statements.proofs.Tests.{test-selector, test-chooses, test-forward, test-room, test-wrong, test-cases-wrong, test-finished}
+use Rattle.names.proofs.Rewriting.{rewritten-length}
 use Prim.Native.Nat.{ℕ, _<_}
 use borrow.Fn.Kinds.{In}
 use borrow.Fn.PlainCycle.{Measures, is, falls, and}
@@ -191,7 +195,7 @@ while-statement-below t =
 
 -- what the callees ask and ensure
 abbrev calls-cases : ℕ → cases-lts.Claims
-calls-cases t = (sort-reads.Asked, sort-reads.Learnt, default-below t, default.Post, case-values-reads.Asked, case-values-reads.Learnt, list-below t, list.Post, link-values-reads.Asked, link-values-reads.Learnt, set-word-reads.Asked, set-word-reads.Learnt)
+calls-cases t = (sort-reads.Asked, sort-reads.Learnt, default-below t, default.Post, case-values-reads.Asked, case-values-reads.Learnt, list-below t, list.Post, set-word-reads.Asked, set-word-reads.Learnt, link-values-reads.Asked, link-values-reads.Learnt)
 
 abbrev calls-default : ℕ → default-lts.Claims
 calls-default t = (sort-reads.Asked, sort-reads.Learnt, rewrite-reads.Asked, rewrite-reads.Learnt, list-below t, list.Post, set-word-reads.Asked, set-word-reads.Learnt)
@@ -221,52 +225,52 @@ abbrev calls-while-statement : ℕ → while-statement-lts.Claims
 calls-while-statement t = (of-type-reads.Asked, of-type-reads.Learnt, list-below t, list.Post, while-end-reads.Asked, while-end-reads.Learnt)
 
 abbrev cases-Inv-loop : cases-lts.InvT-loop
-cases-Inv-loop text code₀ values₀ k used first c₀ n₀ code values c n = ?
+cases-Inv-loop text code₀ values₀ k used first c₀ n₀ code values c n = Casings text code₀ values₀ k used first code values c n
 
 abbrev cases-μ-loop : cases-lts.MeasureT-loop
-cases-μ-loop text code₀ values₀ k used first c₀ n₀ code values c n = ?
+cases-μ-loop text code₀ values₀ k used first c₀ n₀ code values c n = 8192 - c
 
 cases-loop-holds : (t : ℕ) → cases-lts.Need-loop-holds (calls-cases t) (cases-at t) cases.Post cases-Inv-loop cases-μ-loop
-cases-loop-holds t c = ?
+cases-loop-holds t c = search (needs, cases-begin)
 
 cases-sort-requires : (t : ℕ) → cases-lts.Need-sort-requires (calls-cases t) (cases-at t) cases.Post cases-Inv-loop cases-μ-loop
-cases-sort-requires t c κs = ?
+cases-sort-requires t c κs = case-room _ _ _ _ _ _ _ _ _ _ (c .before .loop .inv) (c .before .before .before .before .before .pre .1) .2
 
 cases-default-requires : (t : ℕ) → cases-lts.Need-default-requires (calls-cases t) (cases-at t) cases.Post cases-Inv-loop cases-μ-loop
-cases-default-requires t c κs = ?
+cases-default-requires t c κs = (omega (arith, case-room _ _ _ _ _ _ _ _ _ _ (c .before .before .before .before .before .loop .inv) (c .before .before .before .before .before .before .before .before .before .pre .1), c .before .before .before .before .before .before .before .before .before .pre .0), case-defaults _ _ _ _ _ _ _ _ _ _ (c .before .before .before .before .before .loop .inv) (c .before .before .before .before .before .before .before .before .before .pre .1) _ (c .before .before .before .sort .ensures) (c .before .before .if1 .taken))
 
 cases-same-length : (t : ℕ) → cases-lts.Need-same-length (calls-cases t) (cases-at t) cases.Post cases-Inv-loop cases-μ-loop
-cases-same-length t c = ?
+cases-same-length t c = let z = case-long _ _ _ _ _ _ _ _ _ _ (c .before .before .before .before .before .before .before .before .before .before .loop .inv) (c .before .before .before .before .before .before .before .before .before .before .before .before .before .before .pre .1) in search needs
 
 cases-same-length-2 : (t : ℕ) → cases-lts.Need-same-length-2 (calls-cases t) (cases-at t) cases.Post cases-Inv-loop cases-μ-loop
-cases-same-length-2 t c = ?
+cases-same-length-2 t c = let z = case-values-long _ _ _ _ _ _ _ _ _ _ (c .before .before .before .before .before .before .before .before .before .before .loop .inv) (c .before .before .before .before .before .before .before .before .before .before .before .before .before .before .pre .1) in search needs
 
 cases-returns : (t : ℕ) → cases-lts.Need-returns (calls-cases t) (cases-at t) cases.Post cases-Inv-loop cases-μ-loop
-cases-returns t c = ?
+cases-returns t c = cases-finished _ _ _ _ _ _ _ _ _ _ (c .before .before .before .before .before .before .before .before .before .before .loop .inv) _ (c .before .before .before .before .before .before .before .before .sort .ensures) (c .before .before .before .before .before .before .before .if1 .taken) _ _ _ (c .before .before .before .before .default .ensures)
 
 cases-case-values-requires : (t : ℕ) → cases-lts.Need-case-values-requires (calls-cases t) (cases-at t) cases.Post cases-Inv-loop cases-μ-loop
-cases-case-values-requires t c κs = ?
+cases-case-values-requires t c κs = case-values-stand _ _ _ _ _ _ _ _ _ _ (c .before .before .before .before .before .loop .inv) (c .before .before .before .before .before .before .before .before .before .pre .1) _ (c .before .before .before .sort .ensures) (c .before .before .if1 .left)
 
 cases-enum-known-j : (t : ℕ) → cases-lts.Need-enum-known-j (calls-cases t) (cases-at t) cases.Post cases-Inv-loop cases-μ-loop
 cases-enum-known-j t c = search needs
 
 cases-same-length-3 : (t : ℕ) → cases-lts.Need-same-length-3 (calls-cases t) (cases-at t) cases.Post cases-Inv-loop cases-μ-loop
-cases-same-length-3 t c = ?
+cases-same-length-3 t c = let z = case-long _ _ _ _ _ _ _ _ _ _ (c .before .before .before .before .before .before .before .before .before .before .before .loop .inv) (c .before .before .before .before .before .before .before .before .before .before .before .before .before .before .before .pre .1) in search needs
 
 cases-same-length-4 : (t : ℕ) → cases-lts.Need-same-length-4 (calls-cases t) (cases-at t) cases.Post cases-Inv-loop cases-μ-loop
-cases-same-length-4 t c = ?
+cases-same-length-4 t c = let z = case-values-long _ _ _ _ _ _ _ _ _ _ (c .before .before .before .before .before .before .before .before .before .before .before .loop .inv) (c .before .before .before .before .before .before .before .before .before .before .before .before .before .before .before .pre .1) in search needs
 
 cases-returns-2 : (t : ℕ) → cases-lts.Need-returns-2 (calls-cases t) (cases-at t) cases.Post cases-Inv-loop cases-μ-loop
-cases-returns-2 t c = ?
+cases-returns-2 t c = case-wrong _ _ _ _ _ _ _ _ _ _ (c .before .before .before .before .before .before .before .before .before .before .before .loop .inv) _ (c .before .before .before .before .before .before .before .before .before .sort .ensures) (c .before .before .before .before .before .before .before .before .if1 .left) _ _ (c .before .before .before .before .before .case-values .ensures) _ _ (c .before .j .given .1)
 
 cases-enum-known-j-2 : (t : ℕ) → cases-lts.Need-enum-known-j-2 (calls-cases t) (cases-at t) cases.Post cases-Inv-loop cases-μ-loop
 cases-enum-known-j-2 t c = search needs
 
 cases-add-list : (t : ℕ) → cases-lts.Need-add-list (calls-cases t) (cases-at t) cases.Post cases-Inv-loop cases-μ-loop
-cases-add-list t c = ?
+cases-add-list t c = omega (arith, case-colon _ _ _ _ _ _ _ _ _ _ (c .before .before .before .before .before .before .before .before .before .before .before .before .before .loop .inv) (c .before .before .before .before .before .before .before .before .before .before .before .before .before .before .before .before .before .pre .1) _ (c .before .before .before .before .before .before .before .before .before .before .before .sort .ensures) (c .before .before .before .before .before .before .before .before .before .before .if1 .left) _ _ (c .before .before .before .before .before .before .before .case-values .ensures) _ _ (c .before .before .before .j2 .given .1))
 
 cases-list-requires : (t : ℕ) → cases-lts.Need-list-requires (calls-cases t) (cases-at t) cases.Post cases-Inv-loop cases-μ-loop
-cases-list-requires t c κs = ?
+cases-list-requires t c κs = (omega (arith, case-colon _ _ _ _ _ _ _ _ _ _ (c .before .before .before .before .before .before .before .before .before .before .before .before .before .loop .inv) (c .before .before .before .before .before .before .before .before .before .before .before .before .before .before .before .before .before .pre .1) _ (c .before .before .before .before .before .before .before .before .before .before .before .sort .ensures) (c .before .before .before .before .before .before .before .before .before .before .if1 .left) _ _ (c .before .before .before .before .before .before .before .case-values .ensures) _ _ (c .before .before .before .j2 .given .1), case-room _ _ _ _ _ _ _ _ _ _ (c .before .before .before .before .before .before .before .before .before .before .before .before .before .loop .inv) (c .before .before .before .before .before .before .before .before .before .before .before .before .before .before .before .before .before .pre .1), c .before .before .before .before .before .before .before .before .before .before .before .before .before .before .before .before .before .pre .0), case-lists _ _ _ _ _ _ _ _ _ _ (c .before .before .before .before .before .before .before .before .before .before .before .before .before .loop .inv) (c .before .before .before .before .before .before .before .before .before .before .before .before .before .before .before .before .before .pre .1) _ (c .before .before .before .before .before .before .before .before .before .before .before .sort .ensures) (c .before .before .before .before .before .before .before .before .before .before .if1 .left) _ _ (c .before .before .before .before .before .before .before .case-values .ensures) _ _ (c .before .before .before .j2 .given .1))
 
 cases-enum-known-r : (t : ℕ) → cases-lts.Need-enum-known-r (calls-cases t) (cases-at t) cases.Post cases-Inv-loop cases-μ-loop
 cases-enum-known-r t c = search needs
@@ -275,58 +279,58 @@ cases-enum-told : (t : ℕ) → cases-lts.Need-enum-told (calls-cases t) (cases-
 cases-enum-told t c = search needs
 
 cases-same-length-5 : (t : ℕ) → cases-lts.Need-same-length-5 (calls-cases t) (cases-at t) cases.Post cases-Inv-loop cases-μ-loop
-cases-same-length-5 t c = ?
+cases-same-length-5 t c = let z = case-long _ _ _ _ _ _ _ _ _ _ (c .before .before .before .before .before .before .before .before .before .before .before .before .before .before .before .before .before .before .before .before .loop .inv) (c .before .before .before .before .before .before .before .before .before .before .before .before .before .before .before .before .before .before .before .before .before .before .before .before .pre .1) in search needs
 
 cases-same-length-6 : (t : ℕ) → cases-lts.Need-same-length-6 (calls-cases t) (cases-at t) cases.Post cases-Inv-loop cases-μ-loop
-cases-same-length-6 t c = ?
+cases-same-length-6 t c = let z = case-values-long _ _ _ _ _ _ _ _ _ _ (c .before .before .before .before .before .before .before .before .before .before .before .before .before .before .before .before .before .before .before .before .loop .inv) (c .before .before .before .before .before .before .before .before .before .before .before .before .before .before .before .before .before .before .before .before .before .before .before .before .pre .1) in search needs
 
 cases-returns-3 : (t : ℕ) → cases-lts.Need-returns-3 (calls-cases t) (cases-at t) cases.Post cases-Inv-loop cases-μ-loop
-cases-returns-3 t c = ?
-
-cases-link-values-requires : (t : ℕ) → cases-lts.Need-link-values-requires (calls-cases t) (cases-at t) cases.Post cases-Inv-loop cases-μ-loop
-cases-link-values-requires t c κs = ?
+cases-returns-3 t c = case-list-wrong _ _ _ _ _ _ _ _ _ _ (c .before .before .before .before .before .before .before .before .before .before .before .before .before .before .before .before .before .before .before .before .loop .inv) _ (c .before .before .before .before .before .before .before .before .before .before .before .before .before .before .before .before .before .before .sort .ensures) (c .before .before .before .before .before .before .before .before .before .before .before .before .before .before .before .before .before .if1 .left) _ _ (c .before .before .before .before .before .before .before .before .before .before .before .before .before .before .case-values .ensures) _ _ (c .before .before .before .before .before .before .before .before .before .before .j2 .given .1) _ _ _ (c .before .before .before .before .before .before .list .ensures) _ _ (c .enum-told .given .1)
 
 cases-add-set-word : (t : ℕ) → cases-lts.Need-add-set-word (calls-cases t) (cases-at t) cases.Post cases-Inv-loop cases-μ-loop
-cases-add-set-word t c = ?
+cases-add-set-word t c = omega (arith, case-room _ _ _ _ _ _ _ _ _ _ (c .before .before .before .before .before .before .before .before .before .before .before .before .before .before .before .before .before .before .before .before .before .before .loop .inv) (c .before .before .before .before .before .before .before .before .before .before .before .before .before .before .before .before .before .before .before .before .before .before .before .before .before .before .pre .1))
 
 cases-set-word-requires : (t : ℕ) → cases-lts.Need-set-word-requires (calls-cases t) (cases-at t) cases.Post cases-Inv-loop cases-μ-loop
-cases-set-word-requires t c κs = ?
+cases-set-word-requires t c κs = let z = case-closes _ _ _ _ _ _ _ _ _ _ (c .before .before .before .before .before .before .before .before .before .before .before .before .before .before .before .before .before .before .before .before .before .before .loop .inv) (c .before .before .before .before .before .before .before .before .before .before .before .before .before .before .before .before .before .before .before .before .before .before .before .before .before .before .pre .1) _ (c .before .before .before .before .before .before .before .before .before .before .before .before .before .before .before .before .before .before .before .before .sort .ensures) (c .before .before .before .before .before .before .before .before .before .before .before .before .before .before .before .before .before .before .before .if1 .left) _ _ (c .before .before .before .before .before .before .before .before .before .before .before .before .before .before .before .before .case-values .ensures) _ _ (c .before .before .before .before .before .before .before .before .before .before .before .before .j2 .given .1) _ _ _ (c .before .before .before .before .before .before .before .before .list .ensures) _ _ (c .before .before .r .given .1) in (omega (arith, z), omega arith, omega arith, omega (arith, z))
+
+cases-link-values-requires : (t : ℕ) → cases-lts.Need-link-values-requires (calls-cases t) (cases-at t) cases.Post cases-Inv-loop cases-μ-loop
+cases-link-values-requires t c κs = case-links _ _ _ _ _ _ _ _ _ _ (c .before .before .before .before .before .before .before .before .before .before .before .before .before .before .before .before .before .before .before .before .before .before .before .before .before .before .loop .inv) (c .before .before .before .before .before .before .before .before .before .before .before .before .before .before .before .before .before .before .before .before .before .before .before .before .before .before .before .before .before .before .pre .1) _ (c .before .before .before .before .before .before .before .before .before .before .before .before .before .before .before .before .before .before .before .before .before .before .before .before .sort .ensures) (c .before .before .before .before .before .before .before .before .before .before .before .before .before .before .before .before .before .before .before .before .before .before .before .if1 .left) _ _ (c .before .before .before .before .before .before .before .before .before .before .before .before .before .before .before .before .before .before .before .before .case-values .ensures) _ _ (c .before .before .before .before .before .before .before .before .before .before .before .before .before .before .before .before .j2 .given .1) _ _ _ (c .before .before .before .before .before .before .before .before .before .before .before .before .list .ensures) _ _ (c .before .before .before .before .before .before .r .given .1) _ (c .before .before .before .set-word .ensures)
 
 cases-loop-less : (t : ℕ) → cases-lts.Need-loop-less (calls-cases t) (cases-at t) cases.Post cases-Inv-loop cases-μ-loop
-cases-loop-less t c = ?
+cases-loop-less t c = let z = case-closes _ _ _ _ _ _ _ _ _ _ (c .before .before .before .before .before .before .before .before .before .before .before .before .before .before .before .before .before .before .before .before .before .before .before .before .before .before .before .before .before .loop .inv) (c .before .before .before .before .before .before .before .before .before .before .before .before .before .before .before .before .before .before .before .before .before .before .before .before .before .before .before .before .before .before .before .before .before .pre .1) _ (c .before .before .before .before .before .before .before .before .before .before .before .before .before .before .before .before .before .before .before .before .before .before .before .before .before .before .before .sort .ensures) (c .before .before .before .before .before .before .before .before .before .before .before .before .before .before .before .before .before .before .before .before .before .before .before .before .before .before .if1 .left) _ _ (c .before .before .before .before .before .before .before .before .before .before .before .before .before .before .before .before .before .before .before .before .before .before .before .case-values .ensures) _ _ (c .before .before .before .before .before .before .before .before .before .before .before .before .before .before .before .before .before .before .before .j2 .given .1) _ _ _ (c .before .before .before .before .before .before .before .before .before .before .before .before .before .before .before .list .ensures) _ _ (c .before .before .before .before .before .before .before .before .before .r .given .1) in omega (arith, z)
 
 cases-loop-again : (t : ℕ) → cases-lts.Need-loop-again (calls-cases t) (cases-at t) cases.Post cases-Inv-loop cases-μ-loop
-cases-loop-again t c = ?
+cases-loop-again t c = cases-go _ _ _ _ _ _ _ _ _ _ (c .before .before .before .before .before .before .before .before .before .before .before .before .before .before .before .before .before .before .before .before .before .before .before .before .before .before .before .before .before .loop .inv) _ (c .before .before .before .before .before .before .before .before .before .before .before .before .before .before .before .before .before .before .before .before .before .before .before .before .before .before .before .sort .ensures) (c .before .before .before .before .before .before .before .before .before .before .before .before .before .before .before .before .before .before .before .before .before .before .before .before .before .before .if1 .left) _ _ (c .before .before .before .before .before .before .before .before .before .before .before .before .before .before .before .before .before .before .before .before .before .before .before .case-values .ensures) _ _ (c .before .before .before .before .before .before .before .before .before .before .before .before .before .before .before .before .before .before .before .j2 .given .1) _ _ _ (c .before .before .before .before .before .before .before .before .before .before .before .before .before .before .before .list .ensures) _ _ (c .before .before .before .before .before .before .before .before .before .r .given .1) _ (c .before .before .before .before .before .before .set-word .ensures) _ (c .before .before .link-values .ensures)
 
 default-sort-requires : (t : ℕ) → default-lts.Need-sort-requires (calls-default t) (default-at t) default.Post
-default-sort-requires t c κs = ?
+default-sort-requires t c κs = omega (arith, default-room _ _ _ _ _ _ (c .before .before .before .before .pre .1))
 
 default-add-rewrite : (t : ℕ) → default-lts.Need-add-rewrite (calls-default t) (default-at t) default.Post
-default-add-rewrite t c = ?
+default-add-rewrite t c = omega (arith, default-room _ _ _ _ _ _ (c .before .before .before .before .before .before .before .pre .1))
 
 default-cast-rewrite : (t : ℕ) → default-lts.Need-cast-rewrite (calls-default t) (default-at t) default.Post
-default-cast-rewrite t c = ?
+default-cast-rewrite t c = omega (arith, default-room _ _ _ _ _ _ (c .before .before .before .before .before .before .before .pre .1))
 
 default-add-rewrite-2 : (t : ℕ) → default-lts.Need-add-rewrite-2 (calls-default t) (default-at t) default.Post
-default-add-rewrite-2 t c = ?
+default-add-rewrite-2 t c = omega (arith, default-room _ _ _ _ _ _ (c .before .before .before .before .before .before .before .pre .1))
 
 default-rewrite-requires : (t : ℕ) → default-lts.Need-rewrite-requires (calls-default t) (default-at t) default.Post
-default-rewrite-requires t c κs = ?
+default-rewrite-requires t c κs = let z = default-room _ _ _ _ _ _ (c .before .before .before .before .before .before .before .pre .1) in (omega (arith, z), omega (arith, z), omega (arith, z))
 
 default-add-t17 : (t : ℕ) → default-lts.Need-add-t17 (calls-default t) (default-at t) default.Post
-default-add-t17 t c = ?
+default-add-t17 t c = omega (arith, default-room _ _ _ _ _ _ (c .before .before .before .before .before .before .before .before .before .before .pre .1))
 
 default-same-length : (t : ℕ) → default-lts.Need-same-length (calls-default t) (default-at t) default.Post
 default-same-length t c = search needs
 
 default-returns : (t : ℕ) → default-lts.Need-returns (calls-default t) (default-at t) default.Post
-default-returns t c = ?
+default-returns t c = search (needs, default-no)
 
 default-add-list : (t : ℕ) → default-lts.Need-add-list (calls-default t) (default-at t) default.Post
-default-add-list t c = ?
+default-add-list t c = omega (arith, default-room _ _ _ _ _ _ (c .before .before .before .before .before .before .before .before .pre .1))
 
 default-list-requires : (t : ℕ) → default-lts.Need-list-requires (calls-default t) (default-at t) default.Post
-default-list-requires t c κs = ?
+default-list-requires t c κs = (omega (arith, default-room _ _ _ _ _ _ (c .before .before .before .before .before .before .before .before .pre .1), c .before .before .before .before .before .before .before .before .pre .0), search (needs, default-lists))
 
 default-enum-known-r : (t : ℕ) → default-lts.Need-enum-known-r (calls-default t) (default-at t) default.Post
 default-enum-known-r t c = search needs
@@ -341,25 +345,25 @@ default-same-length-3 : (t : ℕ) → default-lts.Need-same-length-3 (calls-defa
 default-same-length-3 t c = search needs
 
 default-returns-2 : (t : ℕ) → default-lts.Need-returns-2 (calls-default t) (default-at t) default.Post
-default-returns-2 t c = ?
+default-returns-2 t c = search (needs, default-wrong)
 
 default-add-rewrite-3 : (t : ℕ) → default-lts.Need-add-rewrite-3 (calls-default t) (default-at t) default.Post
-default-add-rewrite-3 t c = ?
+default-add-rewrite-3 t c = omega (arith, default-room _ _ _ _ _ _ (c .before .before .before .before .before .before .before .before .before .before .before .before .before .before .before .before .before .pre .1))
 
 default-cast-rewrite-2 : (t : ℕ) → default-lts.Need-cast-rewrite-2 (calls-default t) (default-at t) default.Post
-default-cast-rewrite-2 t c = ?
+default-cast-rewrite-2 t c = omega (arith, default-room _ _ _ _ _ _ (c .before .before .before .before .before .before .before .before .before .before .before .before .before .before .before .before .before .pre .1))
 
 default-rewrite-requires-2 : (t : ℕ) → default-lts.Need-rewrite-requires-2 (calls-default t) (default-at t) default.Post
-default-rewrite-requires-2 t c κs = ?
+default-rewrite-requires-2 t c κs = let z = default-closes _ _ _ _ _ _ (c .before .before .before .before .before .before .before .before .before .before .before .before .before .before .before .before .before .pre .1) _ (c .before .before .before .before .before .before .before .before .before .before .before .before .sort .ensures) (c .before .before .before .before .before .before .before .before .before .before .before .if1 .left) _ _ _ (c .before .before .before .before .before .before .before .before .list .ensures) _ _ (c .before .before .r .given .1) in let y = default-room _ _ _ _ _ _ (c .before .before .before .before .before .before .before .before .before .before .before .before .before .before .before .before .before .pre .1) in (omega (arith, z), omega (arith, y), omega (arith, z))
 
 default-add-set-word : (t : ℕ) → default-lts.Need-add-set-word (calls-default t) (default-at t) default.Post
-default-add-set-word t c = ?
+default-add-set-word t c = omega (arith, default-closes _ _ _ _ _ _ (c .before .before .before .before .before .before .before .before .before .before .before .before .before .before .before .before .before .before .before .before .before .pre .1) _ (c .before .before .before .before .before .before .before .before .before .before .before .before .before .before .before .before .sort .ensures) (c .before .before .before .before .before .before .before .before .before .before .before .before .before .before .before .if1 .left) _ _ _ (c .before .before .before .before .before .before .before .before .before .before .before .before .list .ensures) _ _ (c .before .before .before .before .before .before .r .given .1))
 
 default-set-word-requires : (t : ℕ) → default-lts.Need-set-word-requires (calls-default t) (default-at t) default.Post
-default-set-word-requires t c κs = ?
+default-set-word-requires t c κs = let z = default-closes _ _ _ _ _ _ (c .before .before .before .before .before .before .before .before .before .before .before .before .before .before .before .before .before .before .before .before .before .pre .1) _ (c .before .before .before .before .before .before .before .before .before .before .before .before .before .before .before .before .sort .ensures) (c .before .before .before .before .before .before .before .before .before .before .before .before .before .before .before .if1 .left) _ _ _ (c .before .before .before .before .before .before .before .before .before .before .before .before .list .ensures) _ _ (c .before .before .before .before .before .before .r .given .1) in let y = rewritten-length (c .before .before .before .rewrite2 .ensures) (z .2) in (omega (arith, z, y), omega arith, omega arith, omega (arith, z))
 
 default-add-t24 : (t : ℕ) → default-lts.Need-add-t24 (calls-default t) (default-at t) default.Post
-default-add-t24 t c = ?
+default-add-t24 t c = omega (arith, default-closes _ _ _ _ _ _ (c .before .before .before .before .before .before .before .before .before .before .before .before .before .before .before .before .before .before .before .before .before .before .before .before .pre .1) _ (c .before .before .before .before .before .before .before .before .before .before .before .before .before .before .before .before .before .before .before .sort .ensures) (c .before .before .before .before .before .before .before .before .before .before .before .before .before .before .before .before .before .before .if1 .left) _ _ _ (c .before .before .before .before .before .before .before .before .before .before .before .before .before .before .before .list .ensures) _ _ (c .before .before .before .before .before .before .before .before .before .r .given .1))
 
 default-same-length-4 : (t : ℕ) → default-lts.Need-same-length-4 (calls-default t) (default-at t) default.Post
 default-same-length-4 t c = search needs
@@ -368,7 +372,7 @@ default-same-length-5 : (t : ℕ) → default-lts.Need-same-length-5 (calls-defa
 default-same-length-5 t c = search needs
 
 default-returns-3 : (t : ℕ) → default-lts.Need-returns-3 (calls-default t) (default-at t) default.Post
-default-returns-3 t c = ?
+default-returns-3 t c = default-yes _ _ _ _ _ _ _ (c .before .before .before .before .before .before .before .before .before .before .before .before .before .before .before .before .before .before .before .sort .ensures) (c .before .before .before .before .before .before .before .before .before .before .before .before .before .before .before .before .before .before .if1 .left) _ _ _ (c .before .before .before .before .before .before .before .before .before .before .before .before .before .before .before .list .ensures) _ _ (c .before .before .before .before .before .before .before .before .before .r .given .1) _ _ (c .before .before .before .before .before .before .rewrite2 .ensures) (c .before .before .set-word .ensures)
 
 else-part-sort-requires : (t : ℕ) → else-part-lts.Need-sort-requires (calls-else-part t) (else-part-at t) else-part.Post
 else-part-sort-requires t c κs = omega (arith, else-room _ _ _ _ _ _ (c .before .before .before .before .pre .1))
@@ -500,7 +504,7 @@ for-statement-returns-2 : (t : ℕ) → for-statement-lts.Need-returns-2 (calls-
 for-statement-returns-2 t c = search (needs, for-wrong)
 
 for-statement-same-length-5 : (t : ℕ) → for-statement-lts.Need-same-length-5 (calls-for-statement t) (for-statement-at t) for-statement.Post
-for-statement-same-length-5 t c = search needs
+for-statement-same-length-5 t c = let z = for-long _ _ _ _ _ _ (c .before .before .before .before .before .before .before .before .before .before .before .before .before .before .before .before .before .before .before .before .before .before .before .before .before .before .before .before .before .before .before .before .before .before .before .before .before .pre .1) _ _ (c .before .before .before .before .before .before .before .before .before .before .before .before .before .before .before .before .before .before .before .before .before .before .before .before .before .before .before .before .before .before .before .for-head .ensures) _ _ (c .before .before .before .before .before .before .before .before .before .before .before .before .before .before .before .before .before .before .before .before .before .before .before .before .before .before .before .j2 .given .1) _ (omega arith) _ _ (c .before .before .before .before .before .before .before .before .before .before .before .before .before .before .before .before .before .before .before .before .before .before .before .declare .ensures) _ _ _ (c .before .before .before .before .before .before .before .before .before .before .before .before .before .before .before .before .list .ensures) _ _ (c .before .before .before .before .before .before .before .before .before .before .r .given .1) _ _ (c .before .before .before .before .before .before .leave .ensures) (c .before .before .for-end .ensures) in search needs
 
 for-statement-same-length-6 : (t : ℕ) → for-statement-lts.Need-same-length-6 (calls-for-statement t) (for-statement-at t) for-statement.Post
 for-statement-same-length-6 t c = search needs
@@ -761,10 +765,10 @@ statement-returns-5 : (t : ℕ) → statement-lts.Need-returns-5 (calls-statemen
 statement-returns-5 t c = search (needs, stated-plain)
 
 test-statement-add-of-type : (t : ℕ) → test-statement-lts.Need-add-of-type (calls-test-statement t) (test-statement-at t) test-statement.Post
-test-statement-add-of-type t c = ?
+test-statement-add-of-type t c = omega (arith, stands-early _ _ _ _ _ _ (c .before .before .before .before .before .pre .1 .stands))
 
 test-statement-of-type-requires : (t : ℕ) → test-statement-lts.Need-of-type-requires (calls-test-statement t) (test-statement-at t) test-statement.Post
-test-statement-of-type-requires t c κs = ?
+test-statement-of-type-requires t c κs = search (needs, test-selector)
 
 test-statement-enum-known-j : (t : ℕ) → test-statement-lts.Need-enum-known-j (calls-test-statement t) (test-statement-at t) test-statement.Post
 test-statement-enum-known-j t c = search needs
@@ -773,7 +777,7 @@ test-statement-enum-known-j-2 : (t : ℕ) → test-statement-lts.Need-enum-known
 test-statement-enum-known-j-2 t c = search needs
 
 test-statement-cases-requires : (t : ℕ) → test-statement-lts.Need-cases-requires (calls-test-statement t) (test-statement-at t) test-statement.Post
-test-statement-cases-requires t c κs = ?
+test-statement-cases-requires t c κs = (omega (arith, test-forward _ _ _ _ _ _ (c .before .before .before .before .before .before .before .before .before .before .before .before .before .pre .1) _ _ (c .before .before .before .before .before .before .before .of-type .ensures) _ _ (c .before .before .before .j2 .given .1), c .before .before .before .before .before .before .before .before .before .before .before .before .before .pre .0), test-chooses _ _ _ _ _ _ (c .before .before .before .before .before .before .before .before .before .before .before .before .before .pre .1) _ _ (c .before .before .before .before .before .before .before .of-type .ensures) _ _ (c .before .before .before .j2 .given .1))
 
 test-statement-enum-known-r : (t : ℕ) → test-statement-lts.Need-enum-known-r (calls-test-statement t) (test-statement-at t) test-statement.Post
 test-statement-enum-known-r t c = search needs
@@ -788,13 +792,13 @@ test-statement-same-length-2 : (t : ℕ) → test-statement-lts.Need-same-length
 test-statement-same-length-2 t c = search needs
 
 test-statement-returns : (t : ℕ) → test-statement-lts.Need-returns (calls-test-statement t) (test-statement-at t) test-statement.Post
-test-statement-returns t c = ?
+test-statement-returns t c = test-cases-wrong _ _ _ _ _ _ _ _ (c .before .before .before .before .before .before .before .before .before .before .before .before .before .before .of-type .ensures) _ _ (c .before .before .before .before .before .before .before .before .before .before .j2 .given .1) _ _ _ (c .before .before .before .before .before .before .cases .ensures) _ _ (c .enum-told .given .1)
 
 test-statement-cast-set-word : (t : ℕ) → test-statement-lts.Need-cast-set-word (calls-test-statement t) (test-statement-at t) test-statement.Post
-test-statement-cast-set-word t c = ?
+test-statement-cast-set-word t c = omega (arith, test-forward _ _ _ _ _ _ (c .before .before .before .before .before .before .before .before .before .before .before .before .before .before .before .before .before .before .before .before .before .before .pre .1) _ _ (c .before .before .before .before .before .before .before .before .before .before .before .before .before .before .before .before .of-type .ensures) _ _ (c .before .before .before .before .before .before .before .before .before .before .before .before .j2 .given .1))
 
 test-statement-set-word-requires : (t : ℕ) → test-statement-lts.Need-set-word-requires (calls-test-statement t) (test-statement-at t) test-statement.Post
-test-statement-set-word-requires t c κs = ?
+test-statement-set-word-requires t c κs = let z = test-room _ _ _ _ _ _ (c .before .before .before .before .before .before .before .before .before .before .before .before .before .before .before .before .before .before .before .before .before .before .pre .1) _ _ (c .before .before .before .before .before .before .before .before .before .before .before .before .before .before .before .before .of-type .ensures) _ _ (c .before .before .before .before .before .before .before .before .before .before .before .before .j2 .given .1) _ _ _ (c .before .before .before .before .before .before .before .before .cases .ensures) _ _ (c .before .before .r .given .1) in let y = test-forward _ _ _ _ _ _ (c .before .before .before .before .before .before .before .before .before .before .before .before .before .before .before .before .before .before .before .before .before .before .pre .1) _ _ (c .before .before .before .before .before .before .before .before .before .before .before .before .before .before .before .before .of-type .ensures) _ _ (c .before .before .before .before .before .before .before .before .before .before .before .before .j2 .given .1) in (omega (arith, z), omega arith, omega (arith, y), omega (arith, z))
 
 test-statement-same-length-3 : (t : ℕ) → test-statement-lts.Need-same-length-3 (calls-test-statement t) (test-statement-at t) test-statement.Post
 test-statement-same-length-3 t c = search needs
@@ -803,7 +807,7 @@ test-statement-same-length-4 : (t : ℕ) → test-statement-lts.Need-same-length
 test-statement-same-length-4 t c = search needs
 
 test-statement-returns-2 : (t : ℕ) → test-statement-lts.Need-returns-2 (calls-test-statement t) (test-statement-at t) test-statement.Post
-test-statement-returns-2 t c = ?
+test-statement-returns-2 t c = search (needs, test-wrong)
 
 test-statement-same-length-5 : (t : ℕ) → test-statement-lts.Need-same-length-5 (calls-test-statement t) (test-statement-at t) test-statement.Post
 test-statement-same-length-5 t c = search needs
@@ -812,7 +816,7 @@ test-statement-same-length-6 : (t : ℕ) → test-statement-lts.Need-same-length
 test-statement-same-length-6 t c = search needs
 
 test-statement-returns-3 : (t : ℕ) → test-statement-lts.Need-returns-3 (calls-test-statement t) (test-statement-at t) test-statement.Post
-test-statement-returns-3 t c = ?
+test-statement-returns-3 t c = test-finished _ _ _ _ _ _ _ _ (c .before .before .before .before .before .before .before .before .before .before .before .before .before .before .before .before .before .before .before .of-type .ensures) _ _ (c .before .before .before .before .before .before .before .before .before .before .before .before .before .before .before .j2 .given .1) _ _ _ (c .before .before .before .before .before .before .before .before .before .before .before .cases .ensures) _ _ (c .before .before .before .before .before .r .given .1) _ (c .before .before .set-word .ensures)
 
 while-statement-add-of-type : (t : ℕ) → while-statement-lts.Need-add-of-type (calls-while-statement t) (while-statement-at t) while-statement.Post
 while-statement-add-of-type t c = omega (arith, stands-early _ _ _ _ _ _ (c .before .before .before .before .before .pre .1 .stands))
@@ -909,9 +913,9 @@ pub +cases+default+else-part+for-statement+full-if+if-statement+list+statement+t
     (cases-same-length-5 t)
     (cases-same-length-6 t)
     (cases-returns-3 t)
-    (cases-link-values-requires t)
     (cases-add-set-word t)
     (cases-set-word-requires t)
+    (cases-link-values-requires t)
     (cases-loop-less t)
     (cases-loop-again t))
     (λ t. default-lts.spec (calls-default t)

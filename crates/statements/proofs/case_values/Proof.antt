@@ -13,63 +13,63 @@ Inv-loop code₀ values c w₀ op₀ code w op = ?
 abbrev μ-loop : tie.MeasureT-loop
 μ-loop code₀ values c w₀ op₀ code w op = ?
 
--- src/lib.rt:353:5
+-- src/lib.rt:361:5
 loop-holds : tie.Need-loop-holds Inv-loop μ-loop
 loop-holds c = ?
 
--- src/lib.rt:354:58
+-- src/lib.rt:362:58
 add-constant : tie.Need-add-constant Inv-loop μ-loop
 add-constant c = ?
 
--- src/lib.rt:354:13
+-- src/lib.rt:362:13
 constant-requires : tie.Need-constant-requires Inv-loop μ-loop
 constant-requires c κs = ?
 
--- src/lib.rt:356:28
+-- src/lib.rt:364:28
 enum-known-v : tie.Need-enum-known-v Inv-loop μ-loop
 enum-known-v c = ?
 
--- src/lib.rt:356:45
+-- src/lib.rt:364:45
 same-length : tie.Need-same-length Inv-loop μ-loop
 same-length c = ?
 
--- src/lib.rt:356:45
+-- src/lib.rt:364:45
 returns : tie.Need-returns Inv-loop μ-loop
 returns c = ?
 
--- src/lib.rt:357:27
+-- src/lib.rt:365:27
 enum-known-v-2 : tie.Need-enum-known-v-2 Inv-loop μ-loop
 enum-known-v-2 c = ?
 
--- src/lib.rt:358:48
+-- src/lib.rt:366:48
 add-set-word : tie.Need-add-set-word Inv-loop μ-loop
 add-set-word c = ?
 
--- src/lib.rt:358:47
+-- src/lib.rt:366:47
 cast-set-word : tie.Need-cast-set-word Inv-loop μ-loop
 cast-set-word c = ?
 
--- src/lib.rt:358:17
+-- src/lib.rt:366:17
 set-word-requires : tie.Need-set-word-requires Inv-loop μ-loop
 set-word-requires c κs = ?
 
--- src/lib.rt:359:20
+-- src/lib.rt:367:20
 sort-requires : tie.Need-sort-requires Inv-loop μ-loop
 sort-requires c κs = ?
 
--- src/lib.rt:360:21
+-- src/lib.rt:368:21
 same-length-2 : tie.Need-same-length-2 Inv-loop μ-loop
 same-length-2 c = ?
 
--- src/lib.rt:360:21
+-- src/lib.rt:368:21
 returns-2 : tie.Need-returns-2 Inv-loop μ-loop
 returns-2 c = ?
 
--- src/lib.rt:353:5
+-- src/lib.rt:361:5
 loop-less : tie.Need-loop-less Inv-loop μ-loop
 loop-less c = ?
 
--- src/lib.rt:353:5
+-- src/lib.rt:361:5
 loop-again : tie.Need-loop-again Inv-loop μ-loop
 loop-again c = ?
 
