@@ -229,7 +229,7 @@ module _ (text code values : List ℕ) (result h name : ℕ) where
           types = λ j l. subst (λ (n : ℕ). headAt D (n + 2 + 3 * j) ≡ headAt (wordsOf code) (n + 2 + 3 * j)) (g .name-is) (types j l ∙ type₂ j l);
         }
 
-        pub inside : Inside text values₂ (g .k) h
+        unfoldable pub inside : Inside text values₂ (g .k) h
         inside = record { stands = b .stands; filled = declared .filled; none = nothing-in-data W m r (entered .none) (declared .none); fits = g .fits }
 
         pub onward : Onward inside code₂ at
@@ -248,6 +248,6 @@ module _ (text code values : List ℕ) (result h name : ℕ) where
           room = omega (arith, b .room);
         }
 
-        pub lists-stand : ListsStand text code₂ values₂ result taken h at
+        unfoldable pub lists-stand : ListsStand text code₂ values₂ result taken h at
         unfolding inside groundOf
         lists-stand = record { k = g .k; inside = inside; begins = declared .at-is; onward = onward; result-is = g .result-is; used-is = declared .taken-is }

@@ -7,3 +7,4 @@ pub mod Erring
 pub mod Listing
 pub mod Parting
 pub mod Entering
+pub mod Departing
