@@ -3,7 +3,7 @@ use mathlib.Core.Path.{_≡_, refl, sym, ap, subst, _∙_}
 use mathlib.Core.Bool.{Bool, true, false, _||_}
 use mathlib.Core.List.{List, [], _∷_, _++_}
 use mathlib.Core.Option.{Option, none, some}
-use Prim.Native.Nat.{ℕ, suc, _+_, _-_, _*_, _<_, _≤_}
+use Prim.Native.Nat.{ℕ, suc, _+_, _-_, _*_, _%_, _<_, _≤_}
 use native.Mathlib.Omega.{arith}
 use lib.Dec.{T, ltb}
 use lib.ListN.{length, getD}
@@ -157,10 +157,7 @@ module _ (code values after : List ℕ) (wants : Bool) (at : ℕ) (j : Judged) (
 
     pub evaluable : Asks code values at → evaluation.Stands after at next
     evaluable a =
-        let r = a .stands .loaded .room in
-        let k = kept-all a .long in
-        let n = sound a .next-is in
-        record { c = counts a; t = term-of a; is = stands-there a; room = omega (arith, r, k, n) }
+        record { c = counts a; t = term-of a; is = stands-there a; whole = ap (λ (x : ℕ). x % 8) (kept-all a .long) ∙ a .stands .loaded .whole }
 
     module _ (v : ℤ) (x : Evaluated after values 1024 at next v) (s : SFits w64 v) where
       clean : (a : Asks code values at) → judge (a .stands .known .W) true (a .stands .known .S) (a .stands .e) .faults ≡ []

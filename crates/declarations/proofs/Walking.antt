@@ -40,6 +40,7 @@ loaded-changed W code code′ from i to long same h l = record {
       record { sort = ap opIn e ∙ f .sort; value = λ n. ap valueIn e ∙ f .value n; number = λ n. ap (λ (w : ℕ). valueIn w % 8192) e ∙ f .number n };
   last = l .last;
   room = omega (arith, l .room, long);
+  whole = ap (λ (x : ℕ). x % 8) long ∙ l .whole;
 }
 
 -- ---- what is left of declarations `ds` up to word `to`, of which D₀ is declared before them

@@ -45,6 +45,7 @@ loaded-part W code at to a b l h g = record {
   words = λ i p q. l .words i (omega arith) (omega arith);
   last = omega (arith, l .last);
   room = omega (arith, l .room);
+  whole = l .whole;
 }
 
 -- nothing is written from word a on
@@ -53,6 +54,7 @@ loaded-after W code after from to a b l k h = record {
   words = λ i p q. fresh-same W (wordsOf code) (wordsOf after) i (head-above k i (omega arith)) (l .words i p q);
   last = l .last;
   room = omega (arith, l .room, k .long);
+  whole = ap (λ (x : ℕ). x % 8) (k .long) ∙ l .whole;
 }
 
 -- ---- answers

@@ -1,7 +1,7 @@
 -- What the check of an expression knows: the words of the text as they were loaded, and what names mean.
 use mathlib.Core.Path.{_≡_}
 use mathlib.Core.List.{List}
-use Prim.Native.Nat.{ℕ, _+_, _*_, _<_, _≤_}
+use Prim.Native.Nat.{ℕ, _+_, _*_, _%_, _<_, _≤_}
 use lib.ListN.{length}
 use Rattle.paper.specs.Sorts.{NUMBER}
 use Rattle.paper.specs.Words.{Word, wordLimit}
@@ -25,6 +25,8 @@ pub record Loaded (W : List Word) (code : List ℕ) (at to : ℕ) : Type 0 where
   pub words : (i : ℕ) → at ≤ i → i ≤ to → Fresh W (wordsOf code) i
   pub last : to < wordLimit
   pub room : to * 8 + 8 ≤ length code
+  -- the store has no part of a word
+  pub whole : length code % 8 ≡ 0
 
 -- ---- meanings
 -- the largest number of a text
