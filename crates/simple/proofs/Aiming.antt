@@ -1,58 +1,50 @@
 -- Targets: a name, or an array's name with an index in braces.
-use mathlib.Core.Path.{_≡_, refl, sym, ap, ap₂, subst, _∙_}
-use mathlib.Core.Bool.{Bool, true, false}
+use mathlib.Core.Path.{_≡_, refl, sym, ap, subst, _∙_}
+use mathlib.Core.Bool.{Bool, false}
 use mathlib.Core.List.{List, [], _∷_, _++_}
-use mathlib.Core.Option.{Option, none, some}
-use Prim.Native.Nat.{ℕ, _+_, _-_, _*_, _/_, _%_, _<_, _≤_}
+use mathlib.Core.Option.{none, some}
+use Prim.Native.Nat.{ℕ, _+_, _*_, _/_, _%_, _<_, _≤_}
 use native.Mathlib.Omega.{arith}
-use lib.Dec.{eqb, ltb, leb}
+use lib.Dec.{eqb}
 use lib.ListN.{length}
-use borrow.Author.Tests.{eq-eqb, ne-eqb, lt-ltb, le-ltb, le-leb}
-use Rattle.laws.proofs.Tests.{test, by-last}
-use Rattle.paper.specs.Basics.{if_then_else_}
-use Rattle.paper.specs.Sorts.{NAME, openBrace, closeBrace}
-use Rattle.paper.specs.Words.{Word, wordLimit}
-use Rattle.paper.specs.Terms.{Ref, ofModule, ofRoutine, Term, stored, elementAt}
-use Rattle.paper.specs.Trees.{Expr, element, first, Target}
+use borrow.Author.Tests.{ne-eqb}
+use Rattle.laws.proofs.Tests.{test}
+use Rattle.paper.specs.Sorts.{openBrace, closeBrace}
+use Rattle.paper.specs.Words.{Word}
+use Rattle.paper.specs.Terms.{Ref, Term, stored, elementAt}
+use Rattle.paper.specs.Trees.{Expr, element, Target}
 use Rattle.paper.specs.Expressions.{levelOf, nestings}
-use Rattle.paper.specs.Names.{DataType, aNum, refusedPiece, Meaning, variableIn, arrayIn, wrongName, sortIn, spelled, meaning, Scopes}
-use Rattle.paper.specs.Types.{Fault, fault, judged, judgedNothing, wanted, judgeElement, judge, ofType, termOf}
+use Rattle.paper.specs.Names.{DataType, Meaning, variableIn, arrayIn, wrongName, sortIn, spelled, meaning, Scopes}
+use Rattle.paper.specs.Types.{fault, judged, judgedNothing, judgeElement, judge, ofType, termOf}
 use Rattle.paper.specs.Types as types
 use Rattle.paper.specs.Checks.{judgeScalarTarget, judgeTarget}
 use Rattle.paper.specs.Steps.{Spot, scalar, elementOf, spotFor, spotOf}
 use Rattle.cells.specs.Words.{wordsOf}
-use Rattle.code.specs.Cells.{opIn, valueIn, headAt, opAt, valueAt, linkAt}
-use Rattle.code.specs.Spans.{guard, _then_, firstIn, sizeIn, termIn}
-use Rattle.code.specs.Steps.{aTarget, Head, scalarIn, elementIn, targetIn}
-use Rattle.code.proofs.Options.{goes}
+use Rattle.code.specs.Cells.{opIn, valueIn, opAt, valueAt, linkAt}
 use Rattle.names.specs.Meanings.{typeWith, refWith, meaningWith, meaningIn}
 use Rattle.names.specs.Promises.{meaningAt}
-use Rattle.grammar.specs.Form.{Parses, TargetAt}
+use Rattle.grammar.specs.Form.{Parses}
 use Rattle.grammar.proofs.Places.{target-grows}
 use Rattle.grammar.proofs.Inversions.{InBraces, index-some, index-none}
 use Rattle.expressions.specs.declared.Judged.{Judged}
 use Rattle.expressions.specs.declared.Judged.the-variants.{Typed, Faulty}
-use Rattle.expressions.specs.Known.{Fresh, Loaded, InRoom, Within}
-use Rattle.expressions.specs.Known as expressions
+use Rattle.expressions.specs.Known.{Loaded, InRoom, Within}
 use Rattle.expressions.specs.Answers.{Kept, typeIf, OfType}
 use Rattle.expressions.specs.Answers as answers
 use Rattle.expressions.specs.Parts.{Linked}
-use Rattle.expressions.proofs.Keeping.{cell-above, head-below, head-above, kept-wider, kept-on, term-above}
+use Rattle.expressions.proofs.Keeping.{head-below, head-above, kept-wider, kept-on, term-above}
 use Rattle.expressions.proofs.Judging.{judged-faults, judged-term, judged-type, element-is}
 use Rattle.expressions.proofs.Leaves.{type-with}
 use Rattle.expressions.proofs.Starts.{loaded-part}
 use Rattle.faults.specs.First.{First}
-use Rattle.faults.proofs.First.{first-fault}
 use Rattle.faults.proofs.Expressions.{grows}
 use Rattle.faults.proofs.Statements.{target-first}
-use Rattle.links.specs.Resolved.{isLed}
-use Rattle.links.specs.Raw.{Quiet, Ground, RawTarget}
+use Rattle.links.specs.Raw.{Quiet}
 use Rattle.links.proofs.Ops.{low-still}
-use Rattle.simple.specs.Around.{Around, groundOf}
 use Rattle.simple.specs.Answers.{Fine}
-use Rattle.simple.specs.Parts.{WrongName, ScalarAims, ElementAims, Aims, scalar-aims, element-aims, Targeted, Targets, Aimed, AimTells, AimAnswer, TargetJudged, Elements, ElementJudged}
-use Rattle.simple.proofs.Asking.{no-operator, level-brace, quiet-below, quiet-above, Told, asks, typed-told, typed-first, typed-long}
-use Rattle.simple.proofs.Arguing.{link-below, quiet-append, quiet-word}
+use Rattle.simple.specs.Parts.{WrongName, scalar-aims, element-aims, Targets, Aimed, AimTells, AimAnswer, TargetJudged, Elements, ElementJudged}
+use Rattle.simple.proofs.Asking.{no-operator, level-brace, quiet-above, Told, asks, typed-told, typed-first, typed-long}
+use Rattle.simple.proofs.Arguing.{quiet-append, quiet-word}
 use Rattle.simple.proofs.Naming.{name-means}
 
 -- ---- answers by their cases

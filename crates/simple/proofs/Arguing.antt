@@ -1,25 +1,22 @@
 -- Arguments one after another, each against its parameter.
 use mathlib.Core.Path.{_≡_, refl, sym, ap, ap₂, subst, _∙_}
-use mathlib.Core.Bool.{Bool, true, false}
+use mathlib.Core.Bool.{Bool, false}
 use mathlib.Core.List.{List, [], _∷_, _++_, map, append-assoc}
-use mathlib.Core.Option.{some}
-use Prim.Native.Nat.{ℕ, zero, suc, _+_, _-_, _*_, _<_, _≤_}
+use Prim.Native.Nat.{ℕ, suc, _+_, _*_, _<_, _≤_}
 use native.Mathlib.Omega.{arith}
 use lib.ListN.{length, length-append}
 use Rattle.laws.proofs.Tests.{by-same, by-less}
-use Rattle.paper.specs.Sorts.{comma, STRING}
-use Rattle.paper.specs.Words.{Word, wordLimit}
+use Rattle.paper.specs.Sorts.{comma}
+use Rattle.paper.specs.Words.{Word}
 use Rattle.paper.specs.Terms.{Term}
 use Rattle.paper.specs.Trees.{Expr, first}
 use Rattle.paper.specs.Expressions.{levelOf, nestings}
-use Rattle.paper.specs.Names.{DataType, nth, sortIn}
+use Rattle.paper.specs.Names.{DataType, sortIn}
 use Rattle.paper.specs.Types.{Fault, judge, ofType, termOf}
-use Rattle.paper.specs.Types as types
 use Rattle.paper.specs.Checks.{argumentFaults}
 use Rattle.cells.specs.Words.{wordsOf}
-use Rattle.code.specs.Cells.{opIn, valueIn, linkIn, headAt, opAt, valueAt, placeAt, linkAt}
-use Rattle.code.specs.Spans.{termIn}
-use Rattle.code.specs.Steps.{aNextArgument, Head, argumentsIn, anyArguments}
+use Rattle.code.specs.Cells.{opIn, valueIn, linkIn, opAt, linkAt}
+use Rattle.code.specs.Steps.{aNextArgument}
 use Rattle.code.specs.Signatures.{typeAt, typesAt}
 use Rattle.code.proofs.Spanning.{span-grows}
 use Rattle.grammar.specs.Form.{Parses, ExprAt, SeparatedAt}
@@ -27,22 +24,21 @@ use Rattle.grammar.proofs.Places.{exprs-grow}
 use Rattle.grammar.proofs.Inversions.{FirstOf, separated-first}
 use Rattle.expressions.specs.declared.Judged.{Judged}
 use Rattle.expressions.specs.declared.Judged.the-variants.{Typed, Faulty}
-use Rattle.expressions.specs.Known.{Loaded, Known}
-use Rattle.expressions.specs.Answers.{Kept, Judges}
+use Rattle.expressions.specs.Known.{Loaded}
+use Rattle.expressions.specs.Answers.{Kept}
 use Rattle.expressions.specs.Answers as expressions
 use Rattle.expressions.specs.Parts.{Linked}
 use Rattle.expressions.proofs.Keeping.{cell-below, head-below, head-above, kept-same, kept-wider, kept-on, term-below, term-above}
 use Rattle.expressions.proofs.Judging.{append-none}
 use Rattle.expressions.proofs.Starts.{loaded-part, loaded-after}
 use Rattle.faults.specs.First.{Inside, First}
-use Rattle.faults.proofs.First.{every-none, widen, first-before, first-after}
+use Rattle.faults.proofs.First.{every-none, widen, first-before}
 use Rattle.faults.proofs.Expressions.{grows, of-type-inside}
 use Rattle.faults.proofs.Statements.{exprs-inside}
 use Rattle.links.specs.Resolved.{isLed, goesByLink, goesByValue, goesByPlace}
 use Rattle.links.specs.Raw.{Quiet}
 use Rattle.simple.specs.Around.{Around, Unread, Apart}
-use Rattle.simple.specs.Answers.{Fine, Answer}
-use Rattle.simple.specs.Parts.{passed, Passed, Reads, reads-one, reads-more, Rest, More, MoreRead, MoreJudged}
+use Rattle.simple.specs.Parts.{passed, Passed, Reads, reads-one, reads-more, Rest, More, MoreJudged}
 use Rattle.simple.proofs.Asking.{no-operator, level-comma, quiet-below, quiet-above, Told, asks, told, told-first, answer-first, answer-fine}
 
 -- ---- words that are not changed
@@ -77,7 +73,6 @@ apart-same C a b = record { below = λ i h. refl; above = λ i h. refl }
 -- ---- terms that have been read
 module _ (m n : ℕ) where
   pub reads-grow : (C : List ℕ) (a b : ℕ) {us : List Term} {z : ℕ} → Reads m n C a b us z → a + length us ≤ z
-  unfolding length
   reads-grow C a b (reads-one {t = t} e h) = omega (arith, e, span-grows m n C a b t h)
   reads-grow C a b (reads-more {us = us} {y = y} {z = z} t r o l h e) =
       omega (arith, reads-grow C a b r, span-grows m n C (y + 1) z t h, ap length e, length-append us (t ∷ []))
@@ -199,7 +194,6 @@ module _ {text values : List ℕ} (around : Around text values) (a b₀ z : ℕ)
     next-no = next-level around (next .n) z (next .rest) (next .done) (r .closes)
 
     pub next-asks : ((q + 3) * 8 + 8 ≤ length now) × expressions.Stands now values 5 (end + 1)
-    unfolding length
     next-asks =
         (omega (arith, r .words, r .room, ap length (next .is)), one-asks around now (q + 3) (end + 1) (next .a) (next .n) (next .one) next-load next-no)
 
@@ -208,7 +202,7 @@ module _ {text values : List ℕ} (around : Around text values) (a b₀ z : ℕ)
     left = typesAt (wordsOf now) (length (next .rest)) (q + 3 + 3)
 
     types-are : (D : List ℕ) → Apart (wordsOf now) D end z → typeAt D (q + 3) ∷ typesAt D (length (next .rest)) (q + 3 + 3) ≡ ts
-    unfolding typesAt length
+    unfolding typesAt
     types-are D p = sym (ap (λ (k : ℕ). typesAt D k (q + 3)) (ap length (next .is))) ∙ r .types D p
 
     here : typeAt (wordsOf now) (q + 3) ∷ left ≡ ts
@@ -252,7 +246,7 @@ module _ {text values : List ℕ} (around : Around text values) (a b₀ z : ℕ)
               (quiet-append (wordsOf after) end (end + 1) (next .n) (quiet-word (wordsOf after) end (ap isLed (l .op-is) ∙ comma-still)) (quiet-above (l .kept) (end + 1) (next .n) (omega arith) (next-told .quiet)))
 
           pub next-rest : Rest around a b₀ z after (q + 3) n (us ++ (termOf (around .known .W) (around .known .S) (next .a) ∷ [])) (next .rest) left
-          unfolding length left
+          unfolding left
           next-rest =
               subst (λ (i : ℕ). Rest around a b₀ z after (q + 3) i (us ++ (termOf (around .known .W) (around .known .S) (next .a) ∷ [])) (next .rest) left) (sym (next-told .next-is))
               (record {

@@ -1,20 +1,19 @@
 -- An expression in a statement: that it stands, and what is told of it.
 use mathlib.Core.Path.{_≡_, refl, sym, ap, subst, _∙_}
-use mathlib.Core.Bool.{Bool, true, false}
-use mathlib.Core.List.{List, [], _∷_}
+use mathlib.Core.Bool.{Bool, false}
+use mathlib.Core.List.{List, []}
 use mathlib.Core.Option.{some}
 use Prim.Native.Nat.{ℕ, suc, _+_, _-_, _*_, _<_, _≤_}
 use native.Mathlib.Omega.{arith}
 use lib.ListN.{length}
 use Rattle.paper.specs.Sorts.{comma, semicolon, closeParen, closeBrace}
-use Rattle.paper.specs.Words.{Word, wordLimit}
 use Rattle.paper.specs.Trees.{Expr, first}
 use Rattle.paper.specs.Expressions.{levelOf, nestings}
 use Rattle.paper.specs.Names.{DataType, sortIn}
-use Rattle.paper.specs.Types.{Fault, wanted, judge, ofType, termOf}
+use Rattle.paper.specs.Types.{Fault, judge, ofType, termOf}
 use Rattle.paper.specs.Types as types
 use Rattle.cells.specs.Words.{wordsOf}
-use Rattle.code.specs.Cells.{opIn, headAt, opAt, valueAt, linkAt}
+use Rattle.code.specs.Cells.{opIn, opAt, valueAt}
 use Rattle.code.specs.Spans.{termIn}
 use Rattle.climb.proofs.Operands.{deeper}
 use Rattle.grammar.specs.Form.{Parses}

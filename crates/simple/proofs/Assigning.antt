@@ -1,21 +1,18 @@
 -- Assignments of a value.
-use mathlib.Core.Path.{_≡_, refl, sym, ap, ap₂, subst, _∙_}
-use mathlib.Core.Bool.{Bool, true, false}
-use mathlib.Core.List.{List, []}
+use mathlib.Core.Path.{_≡_, sym, ap, ap₂, _∙_}
+use mathlib.Core.Bool.{Bool, false}
+use mathlib.Core.List.{List}
 use mathlib.Core.Option.{Option, none, some}
-use Prim.Native.Nat.{ℕ, suc, _+_, _-_, _*_, _/_, _%_, _<_, _≤_}
+use Prim.Native.Nat.{ℕ, suc, _+_, _*_, _<_, _≤_}
 use native.Mathlib.Omega.{arith}
-use lib.Dec.{eqb, ltb, leb}
 use lib.ListN.{length}
 use borrow.Author.Tests.{eq-eqb, ne-eqb, lt-ltb, le-ltb, le-leb}
 use Rattle.laws.proofs.Tests.{by-last}
-use Rattle.paper.specs.Basics.{if_then_else_}
 use Rattle.paper.specs.Sorts.{becomes}
-use Rattle.paper.specs.Terms.{Ref, ofModule, ofRoutine, Term}
-use Rattle.paper.specs.Trees.{Expr, Target}
+use Rattle.paper.specs.Terms.{Term}
+use Rattle.paper.specs.Trees.{Target}
 use Rattle.paper.specs.Expressions.{nestings}
-use Rattle.paper.specs.Names.{sortIn}
-use Rattle.paper.specs.Types.{Fault, ofType, termOf}
+use Rattle.paper.specs.Types.{ofType}
 use Rattle.paper.specs.Steps.{Spot, scalar, elementOf, spotOf}
 use Rattle.cells.specs.Words.{wordsOf}
 use Rattle.code.specs.Cells.{opIn, valueIn, linkIn, headAt, opAt, valueAt, linkAt}
@@ -34,12 +31,11 @@ use Rattle.expressions.proofs.Keeping.{cell-above, head-below, head-above, kept
 use Rattle.expressions.proofs.Starts.{loaded-part}
 use Rattle.faults.specs.First.{First}
 use Rattle.faults.proofs.Expressions.{grows}
-use Rattle.links.specs.Resolved.{isLed}
-use Rattle.links.specs.Raw.{Quiet, RawTarget, RawTerm, RawBound, RawAssign}
+use Rattle.links.specs.Raw.{Quiet, RawTarget, RawAssign}
 use Rattle.links.proofs.Ops.{low-still}
 use Rattle.simple.specs.Around.{Around, groundOf}
-use Rattle.simple.specs.Answers.{Fine, Answer}
-use Rattle.simple.specs.Parts.{ScalarAims, ElementAims, Aims, scalar-aims, element-aims, Targeted, ValueSide, ValueAssigned}
+use Rattle.simple.specs.Answers.{Fine}
+use Rattle.simple.specs.Parts.{Aims, scalar-aims, element-aims, ValueSide, ValueAssigned}
 use Rattle.simple.proofs.Asking.{no-operator, level-semicolon, quiet-below, quiet-above, Told, asks, typed-told, typed-first, typed-long, answer-first, answer-fine, raw-term, raw-term-after}
 use Rattle.simple.proofs.Arguing.{link-below}
 

@@ -1,26 +1,23 @@
 -- What the cells say of a routine that is called.
-use mathlib.Core.Path.{_≡_, refl, sym, ap, subst, _∙_}
-use mathlib.Core.Bool.{Bool, true, false}
+use mathlib.Core.Path.{_≡_, refl, ap, _∙_}
+use mathlib.Core.Bool.{false}
 use mathlib.Core.List.{List, [], _∷_}
-use mathlib.Core.Option.{Option, none, some}
 use Prim.Native.Nat.{ℕ, zero, suc, _+_, _*_, _<_, _≤_}
 use native.Mathlib.Omega.{arith}
 use lib.Dec.{eqb}
 use lib.ListN.{length, getD}
 use borrow.Author.Tests.{eqb-true}
 use Rattle.laws.proofs.Tests.{test}
-use Rattle.paper.specs.Basics.{if_then_else_}
 use Rattle.paper.specs.Sorts.{FUNC}
 use Rattle.paper.specs.Words.{wordLimit}
-use Rattle.paper.specs.Names.{DataType}
 use Rattle.paper.specs.Declarations.{Signature}
 use Rattle.paper.specs.Checks.{noSignature}
 use Rattle.code.specs.Cells.{opAt, valueAt}
 use Rattle.code.specs.Steps.{Head, noHead, numbered}
-use Rattle.code.specs.Signatures.{typeAt, typesAt, firstParameter, resultAt, headIn, signatureIn, SignatureAt, Heads}
+use Rattle.code.specs.Signatures.{typesAt, firstParameter, resultAt, headIn, signatureIn, Heads}
 
 pub numbered-word : (R : List Head) (h : ℕ) → numbered R h < length R → getD R (numbered R h) noHead .word ≡ h
-unfolding numbered length getD
+unfolding numbered
 numbered-word [] h l = absurd (omega arith)
 numbered-word (r ∷ R) h l =
     test (eqb (r .word) h) (λ t. rw (t, numbered) (eqb-true (r .word) h t))
@@ -30,7 +27,7 @@ numbered-word (r ∷ R) h l =
     below t = let e : suc (numbered R h) < suc (length R) = rw (t, numbered) at l in omega (arith, e)
 
 types-length : (C : List ℕ) (k i : ℕ) → length (typesAt C k i) ≡ k
-unfolding typesAt length
+unfolding typesAt
 types-length C zero i = refl
 types-length C (suc k) i = ap suc (types-length C k (i + 3))
 

@@ -1,32 +1,31 @@
 -- A call: its arguments are as many as the callee's parameters, and each is of the type of its parameter.
 use mathlib.Core.Path.{_≡_, refl, sym, ap, ap₂, subst, _∙_}
-use mathlib.Core.Bool.{Bool, true, false, not}
+use mathlib.Core.Bool.{Bool, false, not}
 use mathlib.Core.List.{List, [], _∷_, _++_, map, append-assoc}
 use mathlib.Core.Option.{Option, some}
-use Prim.Native.Nat.{ℕ, zero, suc, _+_, _-_, _*_, _/_, _<_, _≤_}
+use Prim.Native.Nat.{ℕ, suc, _+_, _-_, _*_, _/_, _<_, _≤_}
 use native.Mathlib.Omega.{arith}
 use lib.Dec.{eqb}
-use lib.ListN.{length, length-append, getD}
+use lib.ListN.{length, length-append}
 use borrow.Author.Tests.{eq-eqb, ne-eqb}
 use Rattle.laws.proofs.Tests.{by-same}
 use Rattle.paper.specs.Basics.{if_then_else_}
-use Rattle.paper.specs.Sorts.{comma, semicolon, closeParen, FUNC}
-use Rattle.paper.specs.Words.{Word, wordLimit}
+use Rattle.paper.specs.Sorts.{comma, semicolon, FUNC}
+use Rattle.paper.specs.Words.{wordLimit}
 use Rattle.paper.specs.Terms.{Term}
 use Rattle.paper.specs.Trees.{Expr}
 use Rattle.paper.specs.Expressions.{levelOf, nestings}
 use Rattle.paper.specs.Names.{DataType, sortIn}
-use Rattle.paper.specs.Types.{Fault, fault, faultIf, ofType, termOf}
+use Rattle.paper.specs.Types.{Fault, faultIf, ofType, termOf}
 use Rattle.paper.specs.Checks.{isSome, argumentFaults}
 use Rattle.cells.specs.Words.{wordsOf}
 use Rattle.code.specs.Cells.{opIn, valueIn, headAt, opAt, valueAt, linkAt}
 use Rattle.code.specs.Spans.{termIn}
-use Rattle.code.specs.Steps.{aNextArgument, Head, parts, numbered, argumentsIn, anyArguments}
+use Rattle.code.specs.Steps.{aNextArgument, Head, parts, argumentsIn, anyArguments}
 use Rattle.code.specs.Signatures.{typeAt, typesAt, firstParameter}
-use Rattle.code.proofs.Spanning.{span-grows}
 use Rattle.grammar.specs.Form.{Parses, ExprAt, SeparatedAt, last-one, one-more, ClosedAt, closed-at-once, closed-later}
 use Rattle.grammar.proofs.Places.{exprs-grow, arguments-grow}
-use Rattle.grammar.proofs.Inversions.{FirstOf, separated-first, closed-some}
+use Rattle.grammar.proofs.Inversions.{FirstOf, separated-first}
 use Rattle.expressions.specs.declared.Judged.{Judged}
 use Rattle.expressions.specs.declared.Judged.the-variants.{Typed, Faulty}
 use Rattle.expressions.specs.Known.{Loaded}
@@ -37,17 +36,17 @@ use Rattle.expressions.proofs.Keeping.{head-below, head-above, kept-wider, kept
 use Rattle.expressions.proofs.Judging.{append-none}
 use Rattle.expressions.proofs.Starts.{loaded-part}
 use Rattle.faults.specs.First.{First}
-use Rattle.faults.proofs.First.{first-if, first-left, first-after, leads-later}
+use Rattle.faults.proofs.First.{first-if, first-left, leads-later}
 use Rattle.faults.proofs.Expressions.{grows}
 use Rattle.faults.proofs.Statements.{arguments-inside}
 use Rattle.links.specs.Raw.{Quiet, RawArguments}
 use Rattle.links.proofs.Moving.{argument-last, argument-next}
-use Rattle.simple.specs.Around.{Around, groundOf, Unread, Apart}
+use Rattle.simple.specs.Around.{Around, groundOf, Apart}
 use Rattle.simple.specs.Answers.{Fine, Answer, Tell}
-use Rattle.simple.specs.Parts.{Passed, Reads, reads-one, reads-more, ReadAll, no-arguments, some-arguments, Rest, More, MoreRead, MoreJudged, ArgumentsStand, Counts, Counted, CallSide, signatureFor, CallWritten, CallJudged}
+use Rattle.simple.specs.Parts.{Passed, Reads, reads-one, reads-more, ReadAll, no-arguments, some-arguments, Rest, More, MoreRead, MoreJudged, Counts, Counted, CallSide, signatureFor, CallWritten, CallJudged}
 use Rattle.simple.proofs.Asking.{no-operator, level-semicolon, level-paren, quiet-above, Told, answer-first, answer-fine}
 use Rattle.simple.proofs.Callees.{Known, known}
-use Rattle.simple.proofs.Arguing.{link-below, unread-part, unread-after, apart-kept, apart-same, reads-grow, reads-below, one-asks, one-long, one-told, one-first, one-is-first, one-is-fine, next-level, types-next, same-tail}
+use Rattle.simple.proofs.Arguing.{link-below, unread-part, unread-after, apart-kept, apart-same, reads-grow, reads-below, one-asks, one-long, one-told, one-first, one-is-first, one-is-fine, next-level, same-tail}
 
 -- ---- terms that have been read are the arguments
 module _ (m n : ℕ) (fn : Bool) (text : List ℕ) (R : List Head) (C : List ℕ) where
@@ -60,7 +59,6 @@ module _ (m n : ℕ) (fn : Bool) (text : List ℕ) (R : List Head) (C : List ℕ
   one-read f a b t vs y e (behind-more o h) = argument-next m n fn text R C f a b t e (linkAt C b) vs y o refl h
 
   all-read : (a b : ℕ) {us : List Term} {z : ℕ} → Reads m n C a b us z → (f : ℕ) (vs : List Term) (y : ℕ) → Behind f vs z y → argumentsIn m n fn text R C (f + length us) a b ≡ some (us ++ vs, y)
-  unfolding length
   all-read a b (reads-one {t = t} e h) f vs y k =
       let g : f + 1 ≡ suc f = omega arith in
       ap (λ (i : ℕ). argumentsIn m n fn text R C i a b) g ∙ one-read f a b t vs y h (subst (λ (i : ℕ). Behind f vs i y) e k)
@@ -111,13 +109,11 @@ answer-on fs gs before mid after at to x y P Q (Faulty number word) a l f g = re
 
 -- no arguments
 none-closed : {W : ℕ → ℕ} {closing : ℕ} {l : List Expr} {at to : ℕ} → ClosedAt W (ExprAt W (Parses W)) closing l at to → length l ≡ 0 → (l ≡ []) × (to ≡ at)
-unfolding length
 none-closed (closed-at-once c e) z = (refl, e)
 none-closed (closed-later f (last-one k d)) z = absurd (omega arith)
 none-closed (closed-later f (one-more k c h)) z = absurd (omega arith)
 
 some-closed : {W : ℕ → ℕ} {closing : ℕ} {l : List Expr} {at to : ℕ} → ClosedAt W (ExprAt W (Parses W)) closing l at to → (length l ≡ 0 → ⊥) → SeparatedAt W (ExprAt W (Parses W)) l at to
-unfolding length
 some-closed (closed-at-once c e) z = absurd (z refl)
 some-closed (closed-later f h) z = h
 
@@ -169,7 +165,6 @@ module _ (code values : List ℕ) (h callee first closing : ℕ) (g : CallSide c
     many-is = head-known .many ∙ sym (ap valueIn ew)
 
     many-wrong : (count ≡ w / 256 → ⊥) → First (record { number = 14; at = callee }) (faultIf (not (eqb (length params) (length (g .es)))) 14 callee ++ passing params (g .es))
-    unfolding not
     many-wrong d =
         first-left (first-if (not (eqb (length params) (length (g .es)))) 14 callee (rw (ne-eqb (length params) (length (g .es)) (λ e. d (count-is ∙ sym e ∙ many-is)))))
         (leads-later (record { number = 14; at = callee }) (arguments-inside (g .around .known .W) (g .around .known .S) params (g .stand .arguments)) (g .before))
@@ -179,7 +174,7 @@ module _ (code values : List ℕ) (h callee first closing : ℕ) (g : CallSide c
       as-many = sym count-is ∙ same ∙ sym many-is
 
       many-right : faultIf (not (eqb (length params) (length (g .es)))) 14 callee ≡ []
-      unfolding not faultIf
+      unfolding faultIf
       many-right = rw (eq-eqb (length params) (length (g .es)) (sym as-many))
 
       all-faults : faultIf (not (eqb (length params) (length (g .es)))) 14 callee ++ passing params (g .es) ≡ passing params (g .es)
@@ -227,7 +222,6 @@ module _ (code values : List ℕ) (h callee first closing : ℕ) (g : CallSide c
         one-no = next-level (g .around) (one .n) (g .z) (one .rest) (one .done) call-no
 
         value-suc : valueAt (wordsOf code) h ≡ suc (length (one .rest))
-        unfolding length
         value-suc = sym (ap valueIn ew) ∙ sym many-is ∙ sym as-many ∙ ap length (one .is)
 
         pub call-asks : (p * 8 + 8 ≤ length code) × (p < 8192) × expressions.Stands code values 5 first

@@ -1,22 +1,19 @@
 -- A callee that is found: its faults, and what a run reads of it.
 use mathlib.Core.Path.{_≡_, refl, sym, ap, subst, _∙_}
 use mathlib.Core.Bool.{Bool, true, false, not}
-use mathlib.Core.List.{List, [], _∷_, _++_, map}
-use mathlib.Core.Option.{Option, none, some}
+use mathlib.Core.List.{List, [], _∷_, map}
+use mathlib.Core.Option.{some}
 use Prim.Native.Nat.{ℕ, suc, _+_, _*_, _<_, _≤_}
 use native.Mathlib.Omega.{arith}
 use lib.Dec.{eqb}
 use lib.ListN.{length, getD}
 use borrow.Author.Tests.{eq-eqb}
-use Rattle.paper.specs.Basics.{if_then_else_}
 use Rattle.paper.specs.Sorts.{FUNC}
-use Rattle.paper.specs.Words.{wordLimit}
 use Rattle.paper.specs.Terms.{Term}
 use Rattle.paper.specs.Trees.{Expr}
-use Rattle.paper.specs.Names.{DataType, aNum, aBool, refusedPiece, theRoutine, routineIn, spelled, meaning, nth}
-use Rattle.paper.specs.Types.{Fault, fault, faultIf, differs, termOf}
-use Rattle.paper.specs.Declarations.{Signature}
-use Rattle.paper.specs.Checks.{isSome, noSignature, isOtherKind, signatureFaults, calleeFaults, signatureOf}
+use Rattle.paper.specs.Names.{DataType, aNum, aBool, refusedPiece, routineIn, spelled, meaning, nth}
+use Rattle.paper.specs.Types.{faultIf, differs, termOf}
+use Rattle.paper.specs.Checks.{isSome, isOtherKind, signatureFaults, calleeFaults, signatureOf}
 use Rattle.paper.specs.Steps.{routineOf}
 use Rattle.cells.specs.Words.{wordsOf}
 use Rattle.code.specs.Cells.{opAt, valueAt, placeAt}

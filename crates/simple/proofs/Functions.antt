@@ -1,26 +1,23 @@
 -- Calls of functions: target := f(args).
 use mathlib.Core.Path.{_≡_, refl, sym, ap, ap₂, subst, _∙_}
 use mathlib.Core.Bool.{Bool, true, false, not}
-use mathlib.Core.List.{List, [], _∷_, _++_, map}
+use mathlib.Core.List.{List, [], _++_}
 use mathlib.Core.Option.{Option, none, some}
-use Prim.Native.Nat.{ℕ, suc, _+_, _-_, _*_, _/_, _%_, _<_, _≤_}
+use Prim.Native.Nat.{ℕ, _+_, _*_, _/_, _%_, _<_, _≤_}
 use native.Mathlib.Omega.{arith}
 use lib.Dec.{eqb}
 use lib.ListN.{length}
 use lib.IntN.{pos}
-use Rattle.laws.proofs.Tests.{false-true}
-use Rattle.paper.specs.Sorts.{semicolon, closeParen}
-use Rattle.paper.specs.Words.{Word, wordLimit}
+use Rattle.paper.specs.Words.{Word}
 use Rattle.paper.specs.Terms.{literal}
-use Rattle.paper.specs.Trees.{Expr}
 use Rattle.paper.specs.Names.{DataType, sortIn, spelled, meaning}
-use Rattle.paper.specs.Types.{Fault, fault, faultIf, differs, termOf}
+use Rattle.paper.specs.Types.{Fault, faultIf, differs}
 use Rattle.paper.specs.Types as types
 use Rattle.paper.specs.Declarations.{Signature}
 use Rattle.paper.specs.Checks.{argumentFaults, calleeFaults, signatureOf, callFaults, resultFaults}
 use Rattle.paper.specs.Steps.{spotOf}
 use Rattle.cells.specs.Words.{wordsOf}
-use Rattle.code.specs.Cells.{opIn, valueIn, headAt, opAt, valueAt, placeAt, linkAt}
+use Rattle.code.specs.Cells.{opIn, valueIn, headAt, opAt, linkAt}
 use Rattle.code.specs.Steps.{aCallTarget, numbered}
 use Rattle.code.specs.Signatures.{typeAt}
 use Rattle.grammar.specs.Form.{Parses}
@@ -35,8 +32,7 @@ use Rattle.faults.specs.First.{First, Leads}
 use Rattle.faults.proofs.First.{_and_, every-none, first-fault, first-if, first-left, first-right, leads-later, leads-same-if}
 use Rattle.faults.proofs.Expressions.{grows}
 use Rattle.faults.proofs.Statements.{arguments-inside}
-use Rattle.links.specs.Resolved.{isLed}
-use Rattle.links.specs.Raw.{Quiet, SameWords, RawArguments, RawAssignCall}
+use Rattle.links.specs.Raw.{SameWords, RawArguments, RawAssignCall}
 use Rattle.links.proofs.Ops.{low-still}
 use Rattle.links.proofs.Moving.{still-value, still-place, still-moves, arguments-move, callee-moves}
 use Rattle.links.proofs.Framing.{same-cells, same-moves}
@@ -44,11 +40,11 @@ use Rattle.simple.specs.declared.Callee.{Callee}
 use Rattle.simple.specs.declared.Callee.the-variants.{At, Wrong}
 use Rattle.simple.specs.Around.{Around, groundOf}
 use Rattle.simple.specs.Answers.{Fine, Answer}
-use Rattle.simple.specs.Parts.{typeIn, TypeDiffers, Callees, CalleeFound, CalleeWrong, CalleeSays, CalleeTold, ArgumentsStand, CallSide, signatureFor, CallWritten, CallJudged, ForCalls, ForWritten, forFaults, ForJudged, Targeted, CallAssigns, CallAssigned}
+use Rattle.simple.specs.Parts.{TypeDiffers, Callees, CalleeFound, CalleeWrong, CalleeSays, CalleeTold, CallSide, signatureFor, CallWritten, CallJudged, ForCalls, ForWritten, forFaults, ForJudged, CallAssigns, CallAssigned}
 use Rattle.simple.proofs.Asking.{quiet-below, quiet-above, answer-first, answer-fine, answered-fine, answered-first}
 use Rattle.simple.proofs.Passing.{type-at}
-use Rattle.simple.proofs.Arguing.{unread-part, apart-kept}
-use Rattle.simple.proofs.Calling.{raw-arguments, read-below, answer-on, closes-low}
+use Rattle.simple.proofs.Arguing.{unread-part}
+use Rattle.simple.proofs.Calling.{raw-arguments, answer-on, closes-low}
 use Rattle.simple.proofs.Found.{differs-turned, found-room, found-signature, found-faults, found-result, found-read}
 use Rattle.simple.proofs.Assigning.{link-above, aims-below, aims-above, aims-few, raw-target}
 

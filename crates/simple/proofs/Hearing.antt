@@ -1,28 +1,27 @@
 -- TPReadNum target, "s";
-use mathlib.Core.Path.{_≡_, refl, sym, ap, ap₂, subst, _∙_}
+use mathlib.Core.Path.{_≡_, refl, sym, ap, subst, _∙_}
 use mathlib.Core.Bool.{Bool, true, false}
-use mathlib.Core.List.{List, [], _∷_, _++_, List·Memᴰ}
-use mathlib.Core.Option.{Option, none, some}
-use Prim.Native.Nat.{ℕ, suc, _+_, _-_, _*_, _<_, _≤_}
+use mathlib.Core.List.{List, [], _∷_}
+use mathlib.Core.Option.{none}
+use Prim.Native.Nat.{ℕ, _+_, _-_, _*_, _<_, _≤_}
 use native.Mathlib.Omega.{arith}
 use lib.ListN.{length, take, drop}
-use Rattle.paper.specs.Sorts.{STRING, comma}
-use Rattle.paper.specs.Words.{Word, wordLimit}
-use Rattle.paper.specs.Trees.{Expr, Target, Simple, reads}
-use Rattle.paper.specs.Names.{DataType, aNum, aBool, refusedPiece, nth, sortIn, Scopes}
+use Rattle.paper.specs.Sorts.{STRING}
+use Rattle.paper.specs.Trees.{reads}
+use Rattle.paper.specs.Names.{aNum, aBool, refusedPiece, nth, sortIn}
 use Rattle.paper.specs.Types.{Fault, fault, faultIf, differs, wanted}
 use Rattle.paper.specs.Types as types
 use Rattle.paper.specs.Checks.{judgeTarget, simpleFaults}
 use Rattle.paper.specs.Steps.{unquoted, spotOf}
 use Rattle.cells.specs.Words.{wordsOf}
-use Rattle.code.specs.Cells.{opIn, valueIn, headAt, opAt, valueAt, placeAt, linkAt}
+use Rattle.code.specs.Cells.{opIn, valueIn, valueAt, linkAt}
 use Rattle.code.specs.Steps.{aTarget}
-use Rattle.grammar.specs.Form.{Parses, TargetAt}
+use Rattle.grammar.specs.Form.{Parses}
 use Rattle.grammar.proofs.Places.{target-grows}
 use Rattle.grammar.proofs.Inversions as inversions
 use Rattle.expressions.specs.declared.Judged.{Judged}
 use Rattle.expressions.specs.declared.Judged.the-variants.{Typed, Faulty}
-use Rattle.expressions.specs.Answers.{Kept, typeIf}
+use Rattle.expressions.specs.Answers.{typeIf}
 use Rattle.expressions.specs.Parts.{Linked}
 use Rattle.expressions.proofs.Keeping.{head-below, head-above, kept-wider, kept-on}
 use Rattle.expressions.proofs.Judging.{append-none}
@@ -32,13 +31,13 @@ use Rattle.faults.proofs.First.{first-fault}
 use Rattle.faults.proofs.Expressions.{grows}
 use Rattle.faults.proofs.Statements.{target-orderly}
 use Rattle.links.specs.Raw.{RawDoes, RawText}
-use Rattle.simple.specs.Around.{Around, groundOf}
-use Rattle.simple.specs.Answers.{Fine, Stands, Answers}
-use Rattle.simple.specs.Parts.{Begins, BeginsOf, BegunOf, Targeted, Targets, Aimed, AimAnswer, TargetJudged, Strings, Spelled}
+use Rattle.simple.specs.Around.{groundOf}
+use Rattle.simple.specs.Answers.{Fine, Answers}
+use Rattle.simple.specs.Parts.{Begins, BeginsOf, BegunOf, Targets, Aimed, AimAnswer, TargetJudged, Strings, Spelled}
 use Rattle.simple.proofs.Asking.{quiet-below, quiet-above}
 use Rattle.simple.proofs.Aiming.{aimed-fine, aimed-first}
 use Rattle.simple.proofs.Assigning.{aims-below, aims-above, raw-target}
-use Rattle.simple.proofs.Stating.{stands-on, stands-room, stated-first, stated-fine}
+use Rattle.simple.proofs.Stating.{stands-room, stated-first, stated-fine}
 use Rattle.simple.proofs.Speaking.{string-at, raw-text}
 
 -- ---- a target that has to be a num

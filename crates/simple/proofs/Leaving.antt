@@ -1,41 +1,38 @@
 -- RETURN, RAISE and the statements of one word.
 use mathlib.Core.Path.{_≡_, refl, sym, ap, subst, _∙_}
 use mathlib.Core.Bool.{Bool, true, false, not}
-use mathlib.Core.List.{List, [], _∷_, _++_}
+use mathlib.Core.List.{List, [], _++_}
 use mathlib.Core.Option.{Option, none, some}
 use Prim.Native.Nat.{ℕ, suc, _+_, _*_, _<_, _≤_}
 use native.Mathlib.Omega.{arith}
 use lib.Dec.{eqb}
 use lib.ListN.{length}
-use borrow.Author.Tests.{eq-eqb, ne-eqb, eqb-true, eqb-false}
-use Rattle.laws.proofs.Tests.{test, false-true}
-use Rattle.paper.specs.Basics.{if_then_else_}
-use Rattle.paper.specs.Sorts.{semicolon, RETURN, RAISE}
+use borrow.Author.Tests.{ne-eqb, eqb-true, eqb-false}
+use Rattle.laws.proofs.Tests.{test}
 use Rattle.paper.specs.Trees.{Expr, Simple, returns, raises, exits, retries, triesNext}
 use Rattle.paper.specs.Expressions.{nestings}
 use Rattle.paper.specs.Words.{Word}
 use Rattle.paper.specs.Names.{DataType, aNum, Scopes, sortIn}
-use Rattle.paper.specs.Types.{Fault, fault, faultIf, faultsOf, ofType}
+use Rattle.paper.specs.Types.{fault, faultIf, faultsOf, ofType}
 use Rattle.paper.specs.Checks.{isSome, inError, returnFaults, simpleFaults}
 use Rattle.paper.specs.Checks as checks
 use Rattle.cells.specs.Words.{wordsOf}
-use Rattle.code.specs.Cells.{opAt, linkAt}
-use Rattle.grammar.specs.Form.{Parses, ExprAt, OptionalAt}
+use Rattle.code.specs.Cells.{opAt}
+use Rattle.grammar.specs.Form.{Parses, ExprAt}
 use Rattle.grammar.proofs.Inversions.{WithOptional, Given, Alone, simple-return, simple-raise, simple-exit, simple-retry, simple-trynext, optional-none, optional-some}
 use Rattle.expressions.specs.declared.Judged.{Judged}
-use Rattle.expressions.specs.declared.Judged.the-variants.{Typed, Faulty}
-use Rattle.expressions.specs.Answers.{Kept, typeIf}
-use Rattle.expressions.specs.Parts.{Linked}
+use Rattle.expressions.specs.declared.Judged.the-variants.{Faulty}
+use Rattle.expressions.specs.Answers.{typeIf}
 use Rattle.expressions.proofs.Keeping.{kept-wider}
 use Rattle.expressions.proofs.Starts.{loaded-part}
 use Rattle.faults.specs.First.{First}
-use Rattle.faults.proofs.First.{first-fault, first-if, first-left, first-after, leads-later}
-use Rattle.faults.proofs.Expressions.{grows, faults-of-inside, of-type-inside}
+use Rattle.faults.proofs.First.{first-fault, first-if, first-left, leads-later}
+use Rattle.faults.proofs.Expressions.{faults-of-inside, of-type-inside}
 use Rattle.links.specs.Raw.{RawWord, RawDoes}
 use Rattle.simple.specs.declared.Setting.{Setting}
-use Rattle.simple.specs.Around.{Around, groundOf, resultIf, Tells}
-use Rattle.simple.specs.Answers.{Fine, Answer, Stands, Answers, Statement, Stated}
-use Rattle.simple.specs.Parts.{Begins, BeginsIn, BegunIn, Values, ValueWritten, Valued}
+use Rattle.simple.specs.Around.{groundOf, resultIf, Tells}
+use Rattle.simple.specs.Answers.{Stands, Answers, Statement, Stated}
+use Rattle.simple.specs.Parts.{BeginsIn, BegunIn, Values, Valued}
 use Rattle.simple.specs.Parts as parts
 use Rattle.simple.proofs.Stating.{stands-on, stands-room, stands-sort, stated-first, stated-fine, stated-on}
 

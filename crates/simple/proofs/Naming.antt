@@ -1,32 +1,29 @@
 -- What the name of a callee means.
-use mathlib.Core.Path.{_≡_, refl, sym, ap, subst, _∙_}
-use mathlib.Core.Bool.{Bool, true, false, not}
+use mathlib.Core.Path.{_≡_, sym, ap, subst, _∙_}
+use mathlib.Core.Bool.{Bool, true, false}
 use mathlib.Core.List.{List}
 use mathlib.Core.Option.{Option, none, some}
 use Prim.Native.Nat.{ℕ, _+_, _*_, _/_, _%_, _<_, _≤_}
 use native.Mathlib.Omega.{arith}
 use lib.Dec.{eqb}
 use lib.ListN.{length, getD}
-use borrow.Author.Tests.{eq-eqb, ne-eqb, eqb-true, eqb-false}
+use borrow.Author.Tests.{eq-eqb, ne-eqb}
 use Rattle.laws.proofs.Tests.{test, false-true}
-use Rattle.paper.specs.Basics.{if_then_else_}
 use Rattle.paper.specs.Sorts.{FUNC}
-use Rattle.paper.specs.Trees.{Expr}
 use Rattle.paper.specs.Names.{DataType, Meaning, unknown, variable, array, constant, loop, theRoutine, theErrno, errorNumber, routineIn, wrongName, spelled, meaning, sortIn}
-use Rattle.paper.specs.Types.{Fault, fault}
+use Rattle.paper.specs.Types.{fault}
 use Rattle.paper.specs.Declarations.{Signature}
 use Rattle.paper.specs.Checks.{noSignature, isOtherKind, signatureFaults, calleeFaults, signatureOf}
 use Rattle.cells.specs.Words.{wordsOf}
-use Rattle.code.specs.Cells.{opIn, valueIn, opAt}
+use Rattle.code.specs.Cells.{opAt}
 use Rattle.code.specs.Steps.{numbered}
 use Rattle.code.specs.Signatures.{typeAt, resultAt}
 use Rattle.names.specs.Meanings.{firstMeaning, meaningWith, meaningIn}
 use Rattle.names.specs.Promises.{meaningAt}
 use Rattle.expressions.specs.Known.{Fresh}
 use Rattle.expressions.specs.Known as expressions
-use Rattle.simple.specs.declared.Callee.{Callee}
 use Rattle.simple.specs.declared.Callee.the-variants.{At, Wrong}
-use Rattle.simple.specs.Parts.{WrongName, Callees, CalleeFound, CalleeWrong, CalleeSays, CalleeTold}
+use Rattle.simple.specs.Parts.{WrongName, Callees, CalleeWrong, CalleeSays, CalleeTold}
 use Rattle.simple.proofs.Callees.{Known, known}
 use Rattle.simple.proofs.Arguing.{apart-same}
 

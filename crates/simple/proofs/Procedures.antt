@@ -1,39 +1,36 @@
 -- Calls of procedures: p args;
 use mathlib.Core.Path.{_≡_, refl, sym, ap, ap₂, subst, _∙_}
-use mathlib.Core.Bool.{Bool, true, false, not}
-use mathlib.Core.List.{List, [], _∷_, _++_, map}
-use Prim.Native.Nat.{ℕ, suc, _+_, _*_, _<_, _≤_}
+use mathlib.Core.Bool.{Bool, false, not}
+use mathlib.Core.List.{List, _++_}
+use Prim.Native.Nat.{ℕ, _+_, _*_, _<_, _≤_}
 use native.Mathlib.Omega.{arith}
 use lib.Dec.{eqb}
 use lib.ListN.{length}
-use Rattle.paper.specs.Sorts.{NAME, semicolon}
-use Rattle.paper.specs.Words.{wordLimit}
-use Rattle.paper.specs.Trees.{Expr, Simple, call}
-use Rattle.paper.specs.Names.{DataType, sortIn, spelled, meaning}
-use Rattle.paper.specs.Types.{Fault, faultIf, termOf}
+use Rattle.paper.specs.Trees.{call}
+use Rattle.paper.specs.Names.{sortIn, spelled, meaning}
+use Rattle.paper.specs.Types.{Fault, faultIf}
 use Rattle.paper.specs.Declarations.{Signature}
-use Rattle.paper.specs.Checks.{argumentFaults, calleeFaults, signatureOf, callFaults, simpleFaults}
+use Rattle.paper.specs.Checks.{argumentFaults, callFaults, simpleFaults}
 use Rattle.cells.specs.Words.{wordsOf}
-use Rattle.code.specs.Cells.{opIn, valueIn, opAt, valueAt, linkAt}
-use Rattle.code.specs.Steps.{numbered, aClose}
+use Rattle.code.specs.Cells.{opIn, valueIn, linkAt}
+use Rattle.code.specs.Steps.{numbered}
 use Rattle.grammar.specs.Form.{Parses}
 use Rattle.grammar.proofs.Places.{arguments-grow}
 use Rattle.grammar.proofs.Inversions as inversions
 use Rattle.expressions.specs.declared.Judged.{Judged}
 use Rattle.expressions.specs.declared.Judged.the-variants.{Typed, Faulty}
-use Rattle.expressions.specs.Answers.{Kept}
 use Rattle.expressions.specs.Parts.{Linked}
 use Rattle.expressions.proofs.Keeping.{head-below, kept-wider, kept-on}
 use Rattle.faults.specs.First.{First}
 use Rattle.faults.proofs.First.{first-fault, first-left, leads-later}
 use Rattle.faults.proofs.Expressions.{grows}
 use Rattle.faults.proofs.Statements.{arguments-inside}
-use Rattle.links.specs.Raw.{Quiet, RawArguments, RawDoes}
+use Rattle.links.specs.Raw.{RawArguments, RawDoes}
 use Rattle.simple.specs.declared.Callee.{Callee}
 use Rattle.simple.specs.declared.Callee.the-variants.{At, Wrong}
-use Rattle.simple.specs.Around.{Around, groundOf}
-use Rattle.simple.specs.Answers.{Fine, Answer, Stands, Answers}
-use Rattle.simple.specs.Parts.{CallsOf, CalledOf, Callees, CalleeFound, CalleeWrong, CalleeSays, CalleeTold, ArgumentsStand, CallSide, signatureFor, CallWritten, CallJudged}
+use Rattle.simple.specs.Around.{groundOf}
+use Rattle.simple.specs.Answers.{Fine, Answer, Answers}
+use Rattle.simple.specs.Parts.{CallsOf, CalledOf, Callees, CalleeFound, CalleeSays, CalleeTold, ArgumentsStand, CallSide, signatureFor, CallWritten, CallJudged}
 use Rattle.simple.proofs.Asking.{quiet-below, answered-fine, answered-first}
 use Rattle.simple.proofs.Arguing.{link-below, unread-part}
 use Rattle.simple.proofs.Calling.{raw-arguments, read-below}

@@ -1,45 +1,40 @@
 -- TPWrite and TPReadNum.
-use mathlib.Core.Path.{_≡_, refl, sym, ap, ap₂, subst, _∙_}
-use mathlib.Core.Bool.{Bool, true, false}
-use mathlib.Core.List.{List, [], _∷_, _++_}
-use mathlib.Core.Option.{Option, none, some}
+use mathlib.Core.Path.{_≡_, refl, sym, ap, subst, _∙_}
+use mathlib.Core.Bool.{Bool, false}
+use mathlib.Core.List.{List, [], _∷_}
+use mathlib.Core.Option.{none, some}
 use Prim.Native.Nat.{ℕ, suc, _+_, _-_, _*_, _/_, _%_, _<_, _≤_}
 use native.Mathlib.Omega.{arith}
-use lib.Dec.{eqb}
 use lib.ListN.{length, take, drop}
 use lib.Seq.{take-nil, take-take, drop-drop}
 use borrow.Author.Tests.{eq-eqb}
-use Rattle.laws.proofs.Tests.{by-same, false-true}
-use Rattle.paper.specs.Sorts.{STRING, comma, backslash}
-use Rattle.paper.specs.Words.{Word, wordLimit}
-use Rattle.paper.specs.Trees.{Expr, Target, Simple, writes, reads}
+use Rattle.laws.proofs.Tests.{by-same}
+use Rattle.paper.specs.Sorts.{STRING, backslash}
+use Rattle.paper.specs.Words.{Word}
+use Rattle.paper.specs.Trees.{writes}
 use Rattle.paper.specs.Expressions.{nestings}
-use Rattle.paper.specs.Names.{DataType, aNum, aBool, refusedPiece, nth, sortIn, Scopes}
-use Rattle.paper.specs.Types.{Fault, fault, faultIf, differs, wanted, ofType}
-use Rattle.paper.specs.Types as types
-use Rattle.paper.specs.Checks.{isSome, judgeTarget, optionalNum, simpleFaults}
-use Rattle.paper.specs.Steps.{unquoted, characters, spotOf}
+use Rattle.paper.specs.Names.{nth, sortIn}
+use Rattle.paper.specs.Checks.{isSome, optionalNum, simpleFaults}
+use Rattle.paper.specs.Steps.{unquoted, characters}
 use Rattle.cells.specs.Words.{wordsOf}
 use Rattle.code.specs.Cells.{opIn, valueIn, headAt, opAt, valueAt, placeAt, linkAt}
 use Rattle.code.specs.Spans.{guard}
-use Rattle.code.specs.Steps.{aTarget, Head, charactersIn}
-use Rattle.grammar.specs.Form.{Parses, ExprAt}
-use Rattle.grammar.proofs.Places.{target-grows}
+use Rattle.code.specs.Steps.{Head, charactersIn}
+use Rattle.grammar.specs.Form.{Parses}
 use Rattle.grammar.proofs.Inversions as inversions
 use Rattle.expressions.specs.declared.Judged.{Judged}
-use Rattle.expressions.specs.declared.Judged.the-variants.{Typed, Faulty}
-use Rattle.expressions.specs.Answers.{Kept, typeIf}
+use Rattle.expressions.specs.declared.Judged.the-variants.{Typed}
+use Rattle.expressions.specs.Answers.{typeIf}
 use Rattle.expressions.specs.Parts.{Linked}
-use Rattle.expressions.proofs.Keeping.{head-below, head-above, kept-wider, kept-on}
+use Rattle.expressions.proofs.Keeping.{head-above, kept-wider, kept-on}
 use Rattle.expressions.proofs.Starts.{loaded-part, loaded-after}
-use Rattle.faults.specs.First.{First}
 use Rattle.faults.proofs.Expressions.{grows}
 use Rattle.links.specs.Raw.{RawText, RawDoes}
 use Rattle.links.proofs.Ops.{low-still}
 use Rattle.simple.specs.Around.{Quoted, Around, groundOf}
-use Rattle.simple.specs.Answers.{Fine, Answer, Stands, Answers}
-use Rattle.simple.specs.Parts.{Begins, BeginsOf, BegunOf, Values, ValueWritten, Valued, Strings, Spelled}
-use Rattle.simple.proofs.Stating.{stands-on, stands-room, stands-sort, stated-first, stated-fine, stated-on}
+use Rattle.simple.specs.Answers.{Stands, Answers}
+use Rattle.simple.specs.Parts.{Begins, BeginsOf, BegunOf, Values, Valued, Strings, Spelled}
+use Rattle.simple.proofs.Stating.{stands-sort, stated-fine, stated-on}
 
 -- ---- the characters of a string in the text
 drop-one : (m : ℕ) (l : List ℕ) → drop 1 (take (suc m) l) ≡ take m (drop 1 l)

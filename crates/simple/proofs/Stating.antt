@@ -2,15 +2,15 @@
 use mathlib.Core.Path.{_≡_, refl, sym, ap, subst, _∙_}
 use mathlib.Core.Bool.{Bool}
 use mathlib.Core.List.{List, []}
-use Prim.Native.Nat.{ℕ, suc, _+_, _*_, _<_, _≤_}
+use Prim.Native.Nat.{ℕ, _+_, _*_, _<_, _≤_}
 use native.Mathlib.Omega.{arith}
 use lib.ListN.{length}
 use Rattle.paper.specs.Trees.{Simple, firstSimple}
-use Rattle.paper.specs.Names.{nth, sortIn}
+use Rattle.paper.specs.Names.{sortIn}
 use Rattle.paper.specs.Types.{Fault}
 use Rattle.paper.specs.Checks.{simpleFaults}
 use Rattle.cells.specs.Words.{wordsOf}
-use Rattle.code.specs.Cells.{opAt, placeAt}
+use Rattle.code.specs.Cells.{opAt}
 use Rattle.grammar.specs.Form.{Parses}
 use Rattle.grammar.proofs.Places.{simple-first, simple-grows}
 use Rattle.expressions.specs.declared.Judged.{Judged}
@@ -19,7 +19,7 @@ use Rattle.expressions.specs.Answers.{Kept}
 use Rattle.faults.specs.First.{First}
 use Rattle.faults.proofs.Expressions.{grows}
 use Rattle.links.specs.Raw.{RawDoes, RawSimple}
-use Rattle.simple.specs.Around.{Around, offsetIn, groundOf}
+use Rattle.simple.specs.Around.{offsetIn, groundOf}
 use Rattle.simple.specs.Answers.{Fine, Answer, Stands, Answers}
 use Rattle.simple.proofs.Asking.{answer-first, answer-fine, answered-fine, answered-first}
 

@@ -1,19 +1,18 @@
 -- Assignments, and statements by their first words.
 use mathlib.Core.Path.{_≡_, refl, sym, ap, ap₂, subst, _∙_}
 use mathlib.Core.Bool.{Bool, true, false}
-use mathlib.Core.List.{List, [], _∷_, _++_}
+use mathlib.Core.List.{List, [], _++_}
 use Prim.Native.Nat.{ℕ, suc, _+_, _*_, _<_, _≤_}
 use native.Mathlib.Omega.{arith}
 use lib.ListN.{length}
 use borrow.Author.Tests.{eqb-true, ne-eqb}
 use Rattle.laws.proofs.Tests.{by-same}
-use Rattle.paper.specs.Sorts.{NAME, openParen, closeParen, openBrace, becomes, semicolon}
-use Rattle.paper.specs.Words.{Word, wordLimit}
-use Rattle.paper.specs.Trees.{Expr, Target, Simple, assign, assignCall}
+use Rattle.paper.specs.Sorts.{NAME, openParen, closeParen, becomes}
+use Rattle.paper.specs.Words.{Word}
+use Rattle.paper.specs.Trees.{Expr, Target, assign, assignCall}
 use Rattle.paper.specs.Expressions.{nestings, startsSimple}
 use Rattle.paper.specs.Names.{DataType, Scopes, sortIn, spelled, meaning}
 use Rattle.paper.specs.Types.{Fault, ofType}
-use Rattle.paper.specs.Types as types
 use Rattle.paper.specs.Checks.{judgeTarget, signatureOf, callFaults, resultFaults, simpleFaults}
 use Rattle.paper.specs.Checks as checks
 use Rattle.paper.specs.Steps.{spotOf}
@@ -35,8 +34,8 @@ use Rattle.faults.proofs.Statements.{arguments-inside, target-inside, call-insi
 use Rattle.links.specs.Raw.{RawDoes}
 use Rattle.simple.specs.declared.Setting.{Setting}
 use Rattle.simple.specs.Around.{Around, groundOf, Unread, Calls}
-use Rattle.simple.specs.Answers.{Fine, Answer, Stands, Answers, Statement, Stated}
-use Rattle.simple.specs.Parts.{Begins, Begun, BeginsIn, BegunIn, BeginsOf, BegunOf, Assigns, Assigned, CallsOf, CalledOf, IsCall, Targeted, Targets, Aimed, AimAnswer, TargetJudged, ValueSide, ValueAssigned, ArgumentsStand, ForCalls, forFaults, CallAssigns, CallAssigned}
+use Rattle.simple.specs.Answers.{Fine, Answers, Statement, Stated}
+use Rattle.simple.specs.Parts.{Begins, Begun, BeginsIn, BegunIn, BeginsOf, BegunOf, Assigns, Assigned, CallsOf, CalledOf, IsCall, Targets, Aimed, AimAnswer, TargetJudged, ValueSide, ValueAssigned, ArgumentsStand, CallAssigns, CallAssigned}
 use Rattle.simple.proofs.Arguing.{unread-part, unread-after, apart-kept}
 use Rattle.simple.proofs.Aiming.{aimed-fine, aimed-first}
 use Rattle.simple.proofs.Stating.{stands-on, stands-room, stands-sort, stated-first, stated-fine, stated-on}

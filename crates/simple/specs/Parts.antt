@@ -2,7 +2,7 @@
 use mathlib.Core.Path.{_≡_}
 use mathlib.Core.Bool.{Bool, true, false, not}
 use mathlib.Core.List.{List, [], _∷_, _++_, map}
-use mathlib.Core.Option.{Option, none, some}
+use mathlib.Core.Option.{none, some}
 use Prim.Native.Nat.{ℕ, _+_, _*_, _-_, _/_, _%_, _<_, _≤_}
 use lib.Dec.{eqb}
 use lib.ListN.{length, getD, take, drop}
@@ -12,7 +12,7 @@ use Rattle.paper.specs.Words.{QUOTE, Word, wordLimit}
 use Rattle.paper.specs.Terms.{Term}
 use Rattle.paper.specs.Trees.{Expr, first, Target}
 use Rattle.paper.specs.Expressions.{levelOf}
-use Rattle.paper.specs.Names.{DataType, typeOf, refusedPiece, Meaning, theRoutine, wrongName, nth, sortIn, spelled, meaning, Scopes}
+use Rattle.paper.specs.Names.{DataType, typeOf, refusedPiece, Meaning, theRoutine, wrongName, sortIn, spelled, meaning}
 use Rattle.paper.specs.Types.{Fault, fault, faultIf, differs, wanted, judge, ofType, termOf}
 use Rattle.paper.specs.Types as types
 use Rattle.paper.specs.Declarations.{Signature}
@@ -23,14 +23,14 @@ use Rattle.cells.specs.Words.{wordsOf}
 use Rattle.code.specs.Cells.{opIn, valueIn, headAt, opAt, valueAt, placeAt, linkAt}
 use Rattle.code.specs.Spans.{firstIn, sizeIn, termIn}
 use Rattle.code.specs.Steps.{aTarget, aNextArgument, numbered}
-use Rattle.code.specs.Signatures.{typeAt, typesAt, firstParameter, Heads}
+use Rattle.code.specs.Signatures.{typeAt, typesAt}
 use Rattle.names.specs.Promises.{storeBytes}
 use Rattle.names.specs.Meanings.{meaningWith, refWith}
 use Rattle.grammar.specs.Form.{Parses, ExprAt, SeparatedAt, ArgumentsAt, TargetAt}
 use Rattle.expressions.specs.declared.Judged.{Judged}
 use Rattle.expressions.specs.declared.Judged.the-variants.{Typed, Faulty}
 use Rattle.expressions.specs.Known.{Fresh, Loaded, InRoom, Known}
-use Rattle.expressions.specs.Answers.{Kept, typeIf, Judges}
+use Rattle.expressions.specs.Answers.{typeIf, Judges}
 use Rattle.expressions.specs.Answers as expressions
 use Rattle.expressions.specs.Parts.{Linked}
 use Rattle.faults.specs.First.{First}
