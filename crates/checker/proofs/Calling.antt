@@ -148,8 +148,8 @@ pub calls-kept : (W : List Word) (m : Module) (C D : List ℕ) (g : Ground) (at 
     → Heads D (headsFor (m .routines)) sigs
 calls-kept W m C D g at end k h to r rest sigs w raw is one more x s =
     let all : All C D (take k (m .routines) ++ drop k (m .routines))
-        = all-both C D (take k (m .routines)) (drop k (m .routines)) (earlier-apart W C D r h to s g C m (take k (m .routines)) at w raw)
-        (subst (All C D) (sym is) (this-and (moves-by C D (sortIn W) r h to one (s .first) (s .second) (s .types)) (later-apart W C D r h to s rest to end more (omega arith)))) in
+    = all-both C D (take k (m .routines)) (drop k (m .routines)) (earlier-apart W C D r h to s g C m (take k (m .routines)) at w raw)
+    (subst (All C D) (sym is) (this-and (moves-by C D (sortIn W) r h to one (s .first) (s .second) (s .types)) (later-apart W C D r h to s rest to end more (omega arith)))) in
     record {
       as-many = x .as-many;
       each = λ j l. each-moves C D (m .routines) (subst (All C D) (take-append-drop k (m .routines)) all) j l _ (x .each j l);

@@ -70,6 +70,10 @@ look-first : (M : Memory) (u t : Text) (a : Meaning) (N : Names) (other : Meanin
 unfolding lookIn
 look-first M u t a N other f g = test (equalTexts t u) (λ e. rw (e, lookIn) f) (λ e. rw (e, lookIn) g)
 
+look-none : (M : Memory) (u : Text) (other : Meaning) → Free M other → Free M (lookIn [] u other)
+unfolding lookIn
+look-none M u other f = f
+
 free-routine : (M : Memory) (k : ℕ) → Free M (theRoutine k)
 unfolding owned Placed
 free-routine M k = record { not-owned = refl; placed = tt }
@@ -94,15 +98,12 @@ free-routines M W u earlier k (r ∷ rs) =
     (λ e. rw (e, routineNames) (look-first M u (spelled W (r .name)) (theRoutine k) (routineNames W (spelled W (r .name) ∷ earlier) (suc k) rs) unknown (free-routine M k) (free-routines M W u (spelled W (r .name) ∷ earlier) (suc k) rs)))
 
 free-protected : (M : Memory) (u : Text) (other : Meaning) → Free M other → Free M (lookIn protected u other)
-unfolding protected lookIn
+unfolding protected
 free-protected M u other f =
     look-first M u _ _ _ other (free-errno M)
     (look-first M u _ _ _ other (free-number M _ (omega arith))
     (look-first M u _ _ _ other (free-number M _ (omega arith))
-    (look-first M u _ _ _ other (free-number M _ (omega arith)) (look-first M u _ _ _ other (free-number M _ (omega arith)) (look-none f)))))
-  where
-    look-none : Free M other → Free M (lookIn [] u other)
-    look-none g = g
+    (look-first M u _ _ _ other (free-number M _ (omega arith)) (look-first M u _ _ _ other (free-number M _ (omega arith)) (look-none M u other f)))))
 
 -- ---- main
 main-is : (W : List Word) (sigs : List Signature) (o : Option ℕ) (k : ℕ) → mainIn W sigs o ≡ some k → isMain W (getD sigs k noSignature) ≡ true
@@ -143,6 +144,16 @@ offset-same : (text : List ℕ) (i : ℕ) → i < length (wordsIn text) → offs
 unfolding offsetIn offsetOf
 offset-same text i h = rw (lt-ltb i (length (wordsIn text)) h, offsetOf)
 
+-- what the value store says of the module's data
+module _ (W : List Word) (routine : ℕ → ℕ) (known : Names) (D : Data) (values : List ℕ) (x : Filled W routine (theModule known) D values) where
+  data-most : length (D .words) ≤ 1024
+  unfolding filling moduleFilling
+  data-most = x .most
+
+  data-words : map (toZ w32) (take (length (D .words)) (wordsOf values)) ≡ D .words
+  unfolding filling moduleFilling InRoom cellOf load
+  data-words = words-from (D .words) (wordsOf values) (length (D .words)) refl (omega (arith, data-most, length-words values, x .table)) (λ i h. x .cells (ofModule i) (omega arith))
+
 -- ---- module data come next
 module _ (text code values : List ℕ) (words : ℕ) (f : Formed text code values words) (code₁ values₁ : List ℕ) (main : ℕ) (reads : heads.Reads text code values code₁ values₁ main) where
   abbrev W : List Word
@@ -175,7 +186,7 @@ module _ (text code values : List ℕ) (words : ℕ) (f : Formed text code value
 
   free : (M : Memory) (u : Text) → Free M (meaning (scopesOf W (theModule known) noData) u)
   unfolding meaning filling moduleFilling
-  free M u = free-protected M u _ (free-routines M W u (dataTexts W (m .declared)) 0 (m .routines))
+  free M u = free-protected M u _ (look-none M u _ (look-none M u _ (look-none M u _ (free-routines M W u (dataTexts W (m .declared)) 0 (m .routines)))))
 
   no-data : Filled W (numbered R) (theModule known) noData values₁
   unfolding filling moduleFilling ownOf isAmong InRoom
@@ -272,8 +283,16 @@ module _ (text code values : List ℕ) (words : ℕ) (f : Formed text code value
           unfolding walked routines-stand Finds
           main-none z = record { finds = any-module NoMain code₃ values₃ (record { clear = walked .clear; main-is = foretold .main .missing z }); code-long = a; values-long = b }
 
+          starts : at ≡ stands .form .begin
+          unfolding filled data-stand
+          starts = filled .next-is
+
+          count-words : count ≡ length (moduleData W m .words)
+          unfolding filled data-stand moduleData filling
+          count-words = filled .used-is
+
           pub main-some : (main ≡ 0 → ⊥) → Walks text code values (Main count main) code₃ values₃
-          unfolding walked routines-stand Finds groundOf moduleData filling filled data-stand mainOf
+          unfolding walked routines-stand Finds groundOf mainOf
           main-some z =
               let x = walked in
               let k = numbered R main in
@@ -293,13 +312,13 @@ module _ (text code values : List ℕ) (words : ℕ) (f : Formed text code value
                     begin = at;
                     end = words - 1;
                     routines = x .raw;
-                    behind = omega (arith, filled .next-is, in-order .0);
+                    behind = omega (arith, starts, in-order .0);
                     inside = omega (arith, f .laid .many, all-words);
                     few = reading-most text;
-                    room = x .filled .most;
+                    room = data-most W (numbered R) known (moduleData W m) values₃ (x .filled);
                   };
-                  count-is = filled .used-is;
-                  values-are = words-from (moduleData W m .words) (wordsOf values₃) count (sym (filled .used-is)) (omega (arith, filled .used-is, x .filled .most, length-words values₃, x .filled .table)) (λ i h. x .filled .cells (ofModule i) (omega (arith, filled .used-is)));
+                  count-is = count-words;
+                  values-are = ap (λ (q : ℕ). map (toZ w32) (take q (wordsOf values₃))) count-words ∙ data-words W (numbered R) known (moduleData W m) values₃ (x .filled);
                 });
                 code-long = a;
                 values-long = b;

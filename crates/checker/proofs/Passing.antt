@@ -142,8 +142,8 @@ module _ (text code values : List ℕ) (words : ℕ) (f : Formed text code value
           let h : Holds (n .g .text) (n .g .R) (n .g .offset) (wordsOf code″) (programOf (n .g .W) (f .m))
           = module-holds (n .g) (f .m) code′ code″ (length W) (n .raw) (subst (Resolved code′ code″) (f .laid .many) resolved) in
           let k : Holds text (n .g .R) (n .g .offset) (wordsOf code″) P
-              = subst (λ (t : List ℕ). Holds t (n .g .R) (n .g .offset) (wordsOf code″) P) (n .text-is)
-              (subst (λ (x : List Word). Holds (n .g .text) (n .g .R) (n .g .offset) (wordsOf code″) (programOf x (f .m))) (n .words-are) h) in
+          = subst (λ (t : List ℕ). Holds t (n .g .R) (n .g .offset) (wordsOf code″) P) (n .text-is)
+          (subst (λ (x : List Word). Holds (n .g .text) (n .g .R) (n .g .offset) (wordsOf code″) (programOf x (f .m))) (n .words-are) h) in
           let at = formed-parses (sortIn W) (f .m) (f .form) .form in
           let q : length W ≡ at .end + 1 = module-words text (f .m) (formed-parses (sortIn W) (f .m) (f .form)) in
           rw (take-all storeBytes code″ (omega (arith, code-whole))) (offsets-same (length W) (n .g .offset) (offsetOf text W) (n .offset-is) W (f .m) text (n .g .R) (wordsOf code″) (at .begin) (at .end) (at .routines) (omega arith) k)

@@ -1,6 +1,7 @@
 -- `checker::names_and_types` meets its contract.
 use Rattle.checker.proofs.Laying.{heads-begin}
 use Rattle.checker.proofs.Naming.{data-stand, data-found, one-less, routines-stand, routines-found, main-none, main-some}
+use native.Mathlib.Omega.{arith}
 use borrow.Author.Needs.{needs}
 use Rattle.checker.proofs.names_and_types.Statement.{statement}
 use Rattle.checker.proofs.names_and_types.Tie as tie
@@ -21,7 +22,10 @@ sub-all-routines : tie.Need-sub-all-routines
 sub-all-routines c = search (needs, one-less)
 
 all-routines-requires : tie.Need-all-routines-requires
-all-routines-requires c κs = search (needs, routines-stand)
+all-routines-requires c κs =
+    let d = c .before .before .before .before .before .before .before .before .before in
+    let h = d .before .before .before .before .before .before .before in
+    routines-stand _ _ _ _ (h .before .before .before .before .before .before .pre) _ _ _ (h .read .ensures) _ _ _ (d .module-data .ensures) _ _ (c .before .before .before .d2 .given .1) (omega (arith, c .before .before .before .before .before .before .before .before .code2 .given))
 
 enum-known-r : tie.Need-enum-known-r
 enum-known-r c = search needs
@@ -36,7 +40,15 @@ same-length-2 : tie.Need-same-length-2
 same-length-2 c = search needs
 
 returns : tie.Need-returns
-returns c = search (needs, main-none)
+returns c =
+    let r = c .before .before .before .before .before .before .before in
+    let d = r .before .before .before .before .before .before .before .before .before .before in
+    let h = d .before .before .before .before .before .before .before in
+    main-none _ _ _ _ (h .before .before .before .before .before .before .pre) _ _ _ (h .read .ensures) _ _ _ (d .module-data .ensures) _ _ (r .before .before .before .before .d2 .given .1) (omega (arith, c .before .before .before .before .before .before .before .before .before .before .before .before .before .before .before .before .code2 .given))
+    _ _ _ (r .all-routines .ensures)
+    (omega (arith, c .before .before .before .before .before .before .code3 .given, c .before .before .before .before .before .before .before .before .before .before .before .before .before .before .before .before .code2 .given, c .before .before .before .before .before .before .before .before .before .before .before .before .before .before .before .before .before .before .before .before .before .before .before .code .given))
+    (omega (arith, c .before .before .before .before .values3 .given, c .before .before .before .before .before .before .before .before .before .before .before .before .before .before .values2 .given, c .before .before .before .before .before .before .before .before .before .before .before .before .before .before .before .before .before .before .before .before .before .values .given))
+    _ (c .before .enum-told .given .1) (c .if1 .taken)
 
 cast-t30 : tie.Need-cast-t30
 cast-t30 c = search needs
@@ -48,7 +60,12 @@ same-length-4 : tie.Need-same-length-4
 same-length-4 c = search needs
 
 returns-2 : tie.Need-returns-2
-returns-2 c = search (needs, main-some)
+returns-2 c =
+    let d = c .before .before .before .before .before .before .before in
+    let h = d .before .before .before .before .before .before .before in
+    data-found _ _ _ _ (h .before .before .before .before .before .before .pre) _ _ _ (h .read .ensures) _ _ _ (d .module-data .ensures) _ _ (c .before .d .given .1)
+    (omega (arith, c .before .before .before .before .before .before .code2 .given, c .before .before .before .before .before .before .before .before .before .before .before .before .before .code .given))
+    (omega (arith, c .before .before .before .before .values2 .given, c .before .before .before .before .before .before .before .before .before .before .before .values .given))
 
 same-length-5 : tie.Need-same-length-5
 same-length-5 c = search needs
@@ -57,7 +74,15 @@ same-length-6 : tie.Need-same-length-6
 same-length-6 c = search needs
 
 returns-3 : tie.Need-returns-3
-returns-3 c = search (needs, routines-found)
+returns-3 c =
+    let r = c .before .before .before .before .before .before .before in
+    let d = r .before .before .before .before .before .before .before .before .before .before in
+    let h = d .before .before .before .before .before .before .before in
+    routines-found _ _ _ _ (h .before .before .before .before .before .before .pre) _ _ _ (h .read .ensures) _ _ _ (d .module-data .ensures) _ _ (r .before .before .before .before .d2 .given .1) (omega (arith, c .before .before .before .before .before .before .before .before .before .before .before .before .before .before .before .before .code2 .given))
+    _ _ _ (r .all-routines .ensures)
+    (omega (arith, c .before .before .before .before .before .before .code3 .given, c .before .before .before .before .before .before .before .before .before .before .before .before .before .before .before .before .code2 .given, c .before .before .before .before .before .before .before .before .before .before .before .before .before .before .before .before .before .before .before .before .before .before .before .code .given))
+    (omega (arith, c .before .before .before .before .values3 .given, c .before .before .before .before .before .before .before .before .before .before .before .before .before .before .values2 .given, c .before .before .before .before .before .before .before .before .before .before .before .before .before .before .before .before .before .before .before .before .before .values .given))
+    _ _ (c .before .r .given .1)
 
 same-length-7 : tie.Need-same-length-7
 same-length-7 c = search needs
@@ -66,7 +91,15 @@ same-length-8 : tie.Need-same-length-8
 same-length-8 c = search needs
 
 returns-4 : tie.Need-returns-4
-returns-4 c = search (needs, data-found)
+returns-4 c =
+    let r = c .before .before .before .before .before .before .before in
+    let d = r .before .before .before .before .before .before .before .before .before .before in
+    let h = d .before .before .before .before .before .before .before in
+    main-some _ _ _ _ (h .before .before .before .before .before .before .pre) _ _ _ (h .read .ensures) _ _ _ (d .module-data .ensures) _ _ (r .before .before .before .before .d2 .given .1) (omega (arith, c .before .before .before .before .before .before .before .before .before .before .before .before .before .before .before .before .code2 .given))
+    _ _ _ (r .all-routines .ensures)
+    (omega (arith, c .before .before .before .before .before .before .code3 .given, c .before .before .before .before .before .before .before .before .before .before .before .before .before .before .before .before .code2 .given, c .before .before .before .before .before .before .before .before .before .before .before .before .before .before .before .before .before .before .before .before .before .before .before .code .given))
+    (omega (arith, c .before .before .before .before .values3 .given, c .before .before .before .before .before .before .before .before .before .before .before .before .before .before .values2 .given, c .before .before .before .before .before .before .before .before .before .before .before .before .before .before .before .before .before .before .before .before .before .values .given))
+    _ (c .before .enum-told .given .1) (c .if1 .left)
 
 pub names-and-types-spec : {M : Type 1} → statement M
 names-and-types-spec =
