@@ -96,8 +96,8 @@ module _ (W : List Word) (m : Module) where
         }
 
     module _ (h : ℕ) (some : 0 < h) (number : numbered R h ≡ k) (less : k < length R) (word : getD R k noHead .word ≡ h) (Y : List ℕ) (z : cellFor W X (r .name) ≡ 0)
-      (same : (j : ℕ) → IsName W j → numberOf W j ≡ numberOf W (r .name) → cellFor W Y j ≡ 20 + 256 * h)
-      (other : (j : ℕ) → IsName W j → (numberOf W j ≡ numberOf W (r .name) → ⊥) → cellFor W Y j ≡ cellFor W X j) where
+        (same : (j : ℕ) → IsName W j → numberOf W j ≡ numberOf W (r .name) → cellFor W Y j ≡ 20 + 256 * h)
+        (other : (j : ℕ) → IsName W j → (numberOf W j ≡ numberOf W (r .name) → ⊥) → cellFor W Y j ≡ cellFor W X j) where
       abbrev text : Text
       text = spelled W (r .name)
 

@@ -10,6 +10,7 @@ use Rattle.paper.specs.Basics.{if_then_else_}
 use Rattle.paper.specs.Sorts.{PROC, BOOL, ERROR}
 use Rattle.paper.specs.Trees.{RoutineList, Routine, Module}
 use Rattle.paper.specs.Names.{sortIn}
+use Rattle.paper.specs.Types.{Fault}
 use Rattle.paper.specs.Declarations.{routineLimit, crosses, resultAsked, routineData, signatures}
 use Rattle.paper.specs.Checks.{isSome, forsInList, routineFaults}
 use Rattle.paper.specs.Steps.{forsOf}
@@ -92,7 +93,7 @@ groundIn {text = text} s = groundOf text (s .stands .W) (s .stands .m)
 abbrev pub dataWords : {text values : List ℕ} {k h : ℕ} → Inside text values k h → ℕ
 dataWords s = wordsOfData (groundIn s) (s .stands .m) (s .stands .r)
 
-abbrev pub faultsIn : {text values : List ℕ} {k h : ℕ} → Inside text values k h → List _
+abbrev pub faultsIn : {text values : List ℕ} {k h : ℕ} → Inside text values k h → List Fault
 faultsIn {k = k} s = routineFaults (s .stands .W) (s .stands .m) (signatures (s .stands .W) (s .stands .m) 0 (s .stands .m .routines)) k (s .stands .r)
 
 -- ---- the ERROR list

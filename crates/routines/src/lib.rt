@@ -141,7 +141,10 @@ fn errors(
     if leads == 0 {
         return statements::Walked::Upto(e + 1, used);
     }
-    let setting = Setting { result: result, handler: true };
+    let setting = Setting {
+        result: result,
+        handler: true,
+    };
     let r = statements::list(text, code, values, setting, used, leads);
     let statements::Walked::Upto(z, n) = r else {
         return r;
@@ -156,15 +159,18 @@ fn lists(
     code: &mut [u8],
     values: &mut [u8],
     result: u32,
-    data: u32,
+    taken: u32,
     h: usize,
     at: usize,
 ) -> statements::Walked
-    requires { ⌜ ListsStand (now text) (now code) (now values) result data h at ⌝ }
-    ensures { λ r. ⌜ Lists (now (text .entry)) (now (code .entry)) (now (values .entry)) (now (code .exit)) (now (values .exit)) result data h at r ⌝ }
+    requires { ⌜ ListsStand (now text) (now code) (now values) result taken h at ⌝ }
+    ensures { λ r. ⌜ Lists (now (text .entry)) (now (code .entry)) (now (values .entry)) (now (code .exit)) (now (values .exit)) result taken h at r ⌝ }
 {
-    let setting = Setting { result: result, handler: false };
-    let r = statements::list(text, code, values, setting, data, at);
+    let setting = Setting {
+        result: result,
+        handler: false,
+    };
+    let r = statements::list(text, code, values, setting, taken, at);
     let statements::Walked::Upto(e, n) = r else {
         return r;
     };

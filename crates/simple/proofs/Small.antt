@@ -25,8 +25,16 @@ wrong-none kind e = record { is = λ routine bool own value. rw e }
 unknown-kind : (kind : ℕ) → 7 < kind → (routine : ℕ → ℕ) (bool own value : ℕ) → wrongName (meaningWith routine kind bool own value) ≡ 11
 unfolding meaningWith wrongName
 unknown-kind kind h routine bool own value =
-    rw (ne-eqb kind 1 (λ e. omega arith), ne-eqb kind 2 (λ e. omega arith), ne-eqb kind 3 (λ e. omega arith), ne-eqb kind 4 (λ e. omega arith),
-    ne-eqb kind 5 (λ e. omega arith), ne-eqb kind 6 (λ e. omega arith), ne-eqb kind 7 (λ e. omega arith), meaningWith)
+    rw (
+      ne-eqb kind 1 (λ e. omega arith),
+      ne-eqb kind 2 (λ e. omega arith),
+      ne-eqb kind 3 (λ e. omega arith),
+      ne-eqb kind 4 (λ e. omega arith),
+      ne-eqb kind 5 (λ e. omega arith),
+      ne-eqb kind 6 (λ e. omega arith),
+      ne-eqb kind 7 (λ e. omega arith),
+      meaningWith,
+    )
 
 pub wrong-high : (kind : ℕ) → 7 < kind → WrongName kind 11
 wrong-high kind h = record { is = unknown-kind kind h }

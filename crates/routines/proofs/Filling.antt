@@ -1,0 +1,117 @@
+-- The value store between the module's scope and a routine's.
+use mathlib.Core.Path.{_≡_, refl, sym, ap, subst, _∙_}
+use mathlib.Core.Bool.{Bool, true, false}
+use mathlib.Core.List.{List, [], map}
+use Prim.Native.Nat.{ℕ, _+_, _<_, _≤_}
+use native.Mathlib.Omega.{arith}
+use lib.Dec.{eqb}
+use lib.ListN.{length, getD}
+use mir.Syntax.{w32}
+use mir.Val.{toZ}
+use Rattle.paper.specs.Words.{Word}
+use Rattle.paper.specs.Terms.{Ref, ofModule, ofRoutine, Memory, load}
+use Rattle.paper.specs.Trees.{Module}
+use Rattle.paper.specs.Names.{Meaning, unknown, variable, array, constant, loop, theRoutine, theErrno, errorNumber, Text, Names, textOf, isAmong, meaning}
+use Rattle.paper.specs.Declarations.{Data, noData, dataTexts, routineNames, moduleFilling, moduleData, moduleScopes, routineFilling}
+use Rattle.cells.specs.Words.{wordsOf}
+use Rattle.code.specs.Cells.{firstWindow, errnoCell}
+use Rattle.code.specs.Steps.{numbered}
+use Rattle.names.specs.Meanings.{Means}
+use Rattle.names.specs.Promises.{storeBytes}
+use Rattle.expressions.specs.Known.{largest, InRoom, Within}
+use Rattle.constants.specs.Answers.{cellOf, Worth, Fine}
+use Rattle.heads.specs.Trees.{headsFor}
+use Rattle.declarations.specs.Sites.{theModule, aRoutine, filling, ownOf, scopesOf, memoryOf, Among, Elements, Steady, Placed, isOwn, owned, Owns, Filled}
+use Rattle.declarations.specs.Answers.{SameWords}
+use Rattle.routines.specs.Answers.{ModuleFilled}
+
+-- ---- meanings by their words
+-- with no words of a routine no name means one
+not-own : (M : Memory) (r : Ref) → M .routine-words ≡ [] → Among M r 1 → isOwn 1 r ≡ false
+unfolding isOwn InRoom
+not-own M (ofModule k) e a = refl
+not-own M (ofRoutine k) e a = absurd (omega (arith, ap length e))
+
+unfoldable some-among : (M : Memory) (r : Ref) (size : ℕ) → 0 < size → Among M r size → Among M r 1
+unfolding InRoom
+some-among M (ofModule k) size s a = omega arith
+some-among M (ofRoutine k) size s a = omega arith
+
+pub none-owned : (M : Memory) (m : Meaning) → M .routine-words ≡ [] → Placed M m → owned 1 m ≡ false
+unfolding owned Placed
+none-owned M unknown e p = refl
+none-owned M (variable t r) e p = not-own M r e p
+none-owned M (array t r size) e p = not-own M r e (some-among M r size (p .some) (p .room))
+none-owned M (constant t r) e p = not-own M r e (p .room)
+none-owned M (loop r) e p = refl
+none-owned M (theRoutine k) e p = refl
+none-owned M theErrno e p = refl
+none-owned M (errorNumber k) e p = refl
+
+room-on : (m n q : ℕ) (r : Ref) (size : ℕ) → n ≤ q → InRoom m n r size → InRoom m q r size
+unfolding InRoom
+room-on m n q (ofModule k) size h a = a
+room-on m n q (ofRoutine k) size h a = omega arith
+
+-- a name's words are words of the module, or of the routine, which may get more
+pub within-placed : (M : Memory) (q : ℕ) (m : Meaning) → length (M .routine-words) ≤ q → Placed M m → Within (length (M .module-words)) q m
+unfolding Placed Within
+within-placed M q unknown h p = p
+within-placed M q (variable t r) h p = room-on _ _ q r 1 h p
+within-placed M q (array t r size) h p = room-on _ _ q r size h (p .room)
+within-placed M q (constant t r) h p = room-on _ _ q r 1 h (p .room)
+within-placed M q (loop r) h p = room-on _ _ q r 1 h p
+within-placed M q (theRoutine k) h p = p
+within-placed M q theErrno h p = p
+within-placed M q (errorNumber k) h p = p
+
+pub fine-placed : (M : Memory) (X : List ℕ) → ((r : Ref) → Among M r 1 → toZ w32 (getD X (cellOf r) 0) ≡ load M r) → (q : ℕ) (m : Meaning) → length (M .routine-words) ≤ q → Placed M m
+    → Fine (length (M .module-words)) q X M m
+unfolding Placed Fine
+fine-placed M X c q unknown h p = p
+fine-placed M X c q (variable t r) h p = record {}
+fine-placed M X c q (array t r size) h p = record {}
+fine-placed M X c q (constant t r) h p = record { room = room-on _ _ q r 1 h (p .room); is = c r (p .room); ranged = p .ranged }
+fine-placed M X c q (loop r) h p = record {}
+fine-placed M X c q (theRoutine k) h p = p
+fine-placed M X c q theErrno h p = p
+fine-placed M X c q (errorNumber k) h p = p
+
+-- ---- entering a routine
+module _ (W : List Word) (m : Module) where
+  pub routine-entered : (values : List ℕ) → ModuleFilled W m values → Filled W (numbered (headsFor (m .routines))) (aRoutine m) noData values
+  unfolding filling moduleFilling routineFilling moduleScopes ownOf isAmong
+  routine-entered values f = record {
+    table = f .table;
+    means = f .means;
+    owns = record { is = λ u h. sym (none-owned (memoryOf W (aRoutine m) noData) (meaning (scopesOf W (aRoutine m) noData) u) refl (f .placed u)) };
+    placed = f .placed;
+    cells = f .cells;
+    most = f .most;
+    window = omega arith;
+    errno = f .errno;
+    small = f .small;
+  }
+
+  -- ---- and leaving it
+  module-cells : (E : Data) (values values′ : List ℕ) → length (moduleData W m .words) ≤ firstWindow → Filled W (numbered (headsFor (m .routines))) (aRoutine m) E values → SameWords values values′
+      → (r : Ref) → Among (memoryOf W (theModule (routineNames W (dataTexts W (m .declared)) 0 (m .routines))) (moduleData W m)) r 1
+      → toZ w32 (getD (wordsOf values′) (cellOf r) 0) ≡ load (memoryOf W (theModule (routineNames W (dataTexts W (m .declared)) 0 (m .routines))) (moduleData W m)) r
+  unfolding filling moduleFilling routineFilling InRoom cellOf load
+  module-cells E values values′ most e s (ofModule k) a = ap (toZ w32) (s .is k (omega arith)) ∙ e .cells (ofModule k) a
+  module-cells E values values′ most e s (ofRoutine k) a = absurd (omega arith)
+
+  pub routine-left : (E : Data) (values middle values′ : List ℕ) → ModuleFilled W m values → Filled W (numbered (headsFor (m .routines))) (aRoutine m) E middle → storeBytes ≤ length values′ → SameWords middle values′
+      → Means (numbered (headsFor (m .routines))) W (scopesOf W (aRoutine m) noData) (wordsOf values′) → ModuleFilled W m values′
+  unfolding filling moduleFilling routineFilling moduleScopes
+  routine-left E values middle values′ f e long s t = record {
+    table = long;
+    means = t;
+    owns = f .owns;
+    placed = f .placed;
+    cells = module-cells E middle values′ (f .most) e s;
+    most = f .most;
+    window = f .window;
+    errno = s .is errnoCell (omega arith) ∙ e .errno;
+    small = f .small;
+  }

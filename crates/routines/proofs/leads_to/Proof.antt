@@ -1,0 +1,26 @@
+use borrow.Author.Needs.{needs}
+use Rattle.routines.proofs.Leaves.{leads-on, leads-nowhere}
+use Rattle.routines.proofs.leads_to.Statement.{statement}
+use Rattle.routines.proofs.leads_to.Tie as tie
+use Rattle.routines.proofs.leads_to.Reads as reads
+use Rattle.routines.proofs.leads_to.Lts as lts
+use Rattle.simple.proofs.sort.Reads as sort-reads
+
+-- src/lib.rt:121:8
+sort-requires : tie.Need-sort-requires
+sort-requires c κs = search needs
+
+-- src/lib.rt:122:16
+add-result : tie.Need-add-result
+add-result c = search needs
+
+-- src/lib.rt:122:9
+returns : tie.Need-returns
+returns c = search (needs, leads-on)
+
+-- src/lib.rt:117:1
+returns-2 : tie.Need-returns-2
+returns-2 c = search (needs, leads-nowhere)
+
+pub leads-to-spec : {M : Type 1} → statement M
+leads-to-spec = tie.close (tie.spec sort-requires add-result returns returns-2)

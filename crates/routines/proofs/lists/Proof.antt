@@ -1,0 +1,106 @@
+use borrow.Author.Needs.{needs}
+use native.Mathlib.Omega.{arith}
+use Rattle.routines.proofs.Listing.{lists-list, first-faulty, e-room, e-small, lists-errors, second-faulty, link-room, link-small, leads-few, lists-done}
+use Rattle.routines.proofs.lists.Statement.{statement}
+use Rattle.routines.proofs.lists.Tie as tie
+use Rattle.routines.proofs.lists.Reads as reads
+use Rattle.routines.proofs.lists.Lts as lts
+use Rattle.routines.proofs.errors.Reads as errors-reads
+use Rattle.routines.proofs.leads_to.Reads as leads-to-reads
+use Rattle.simple.proofs.set_link.Reads as set-link-reads
+use Rattle.statements.proofs.list.Reads as list-reads
+
+-- src/lib.rt:167:9
+list-requires : tie.Need-list-requires
+list-requires c κs = lists-list _ _ _ _ _ _ _ (c .before .before .before .before .before .pre)
+
+-- src/lib.rt:168:34
+enum-known-r : tie.Need-enum-known-r
+enum-known-r c = search needs
+
+-- src/lib.rt:169:9
+enum-told : tie.Need-enum-told
+enum-told c = search needs
+
+-- src/lib.rt:169:9
+same-length : tie.Need-same-length
+same-length c = search needs
+
+-- src/lib.rt:169:9
+same-length-2 : tie.Need-same-length-2
+same-length-2 c = search needs
+
+-- src/lib.rt:169:9
+returns : tie.Need-returns
+returns c = first-faulty _ _ _ _ _ _ _ _ _ _ (c .before .before .before .before .before .before .list .ensures) _ _ (c .enum-told .given .1)
+
+-- src/lib.rt:171:9
+leads-to-requires : tie.Need-leads-to-requires
+leads-to-requires c κs = (e-room _ _ _ _ _ _ _ _ _ _ (c .before .before .before .before .before .before .before .before .list .ensures) _ _ (c .before .before .r .given .1) (c .before .before .before .before .before .before .before .before .before .before .before .before .before .before .pre), e-small _ _ _ _ _ _ _ _ _ _ (c .before .before .before .before .before .before .before .before .list .ensures) _ _ (c .before .before .r .given .1) (c .before .before .before .before .before .before .before .before .before .before .before .before .before .before .pre))
+
+-- src/lib.rt:172:9
+errors-requires : tie.Need-errors-requires
+errors-requires c κs = lists-errors _ _ _ _ _ _ _ _ _ _ (c .before .before .before .before .before .before .before .before .before .before .before .list .ensures) _ _ (c .before .before .before .before .before .r .given .1) _ (c .before .before .leads-to .ensures) (c .before .before .before .before .before .before .before .before .before .before .before .before .before .before .before .before .before .pre)
+
+-- src/lib.rt:173:34
+enum-known-r-2 : tie.Need-enum-known-r-2
+enum-known-r-2 c = search needs
+
+-- src/lib.rt:174:9
+enum-told-2 : tie.Need-enum-told-2
+enum-told-2 c = search needs
+
+-- src/lib.rt:174:9
+same-length-3 : tie.Need-same-length-3
+same-length-3 c = search needs
+
+-- src/lib.rt:174:9
+same-length-4 : tie.Need-same-length-4
+same-length-4 c = search needs
+
+-- src/lib.rt:174:9
+returns-2 : tie.Need-returns-2
+returns-2 c = second-faulty _ _ _ _ _ _ _ _ _ _ (c .before .before .before .before .before .before .before .before .before .before .before .before .before .before .before .before .before .before .list .ensures) _ _ (c .before .before .before .before .before .before .before .before .before .before .before .before .r .given .1) _ (c .before .before .before .before .before .before .before .before .before .leads-to .ensures) _ _ _ (c .before .before .before .before .before .before .errors .ensures) _ _ (c .enum-told2 .given .1)
+
+-- src/lib.rt:176:28
+add-set-link : tie.Need-add-set-link
+add-set-link c = omega (arith, link-small _ _ _ _ _ _ _ (c .before .before .before .before .before .before .before .before .before .before .before .before .before .before .before .before .before .before .before .before .before .before .before .before .before .before .pre))
+
+-- src/lib.rt:176:5
+set-link-requires : tie.Need-set-link-requires
+set-link-requires c κs = (link-room _ _ _ _ _ _ _ _ _ _ (c .before .before .before .before .before .before .before .before .before .before .before .before .before .before .before .before .before .before .before .before .list .ensures) _ _ (c .before .before .before .before .before .before .before .before .before .before .before .before .before .before .r .given .1) _ (c .before .before .before .before .before .before .before .before .before .before .before .leads-to .ensures) _ _ _ (c .before .before .before .before .before .before .before .before .errors .ensures) _ _ (c .before .before .r2 .given .1) (c .before .before .before .before .before .before .before .before .before .before .before .before .before .before .before .before .before .before .before .before .before .before .before .before .before .before .pre) (search needs), leads-few _ _ _ (c .before .before .before .before .before .before .before .before .before .before .before .leads-to .ensures) (e-small _ _ _ _ _ _ _ _ _ _ (c .before .before .before .before .before .before .before .before .before .before .before .before .before .before .before .before .before .before .before .before .list .ensures) _ _ (c .before .before .before .before .before .before .before .before .before .before .before .before .before .before .r .given .1) (c .before .before .before .before .before .before .before .before .before .before .before .before .before .before .before .before .before .before .before .before .before .before .before .before .before .before .pre)))
+
+-- src/lib.rt:154:1
+same-length-5 : tie.Need-same-length-5
+same-length-5 c = search needs
+
+-- src/lib.rt:154:1
+same-length-6 : tie.Need-same-length-6
+same-length-6 c = search needs
+
+-- src/lib.rt:154:1
+returns-3 : tie.Need-returns-3
+returns-3 c = lists-done _ _ _ _ _ _ _ _ _ _ (c .before .before .before .before .before .before .before .before .before .before .before .before .before .before .before .before .before .before .before .before .before .before .before .list .ensures) _ _ (c .before .before .before .before .before .before .before .before .before .before .before .before .before .before .before .before .before .r .given .1) _ (c .before .before .before .before .before .before .before .before .before .before .before .before .before .before .leads-to .ensures) _ _ _ (c .before .before .before .before .before .before .before .before .before .before .before .errors .ensures) _ _ (c .before .before .before .before .before .r2 .given .1) _ (c .before .before .set-link .ensures)
+
+pub lists-spec : {M : Type 1} → statement M
+lists-spec =
+    tie.close
+    (tie.spec
+    list-requires
+    enum-known-r
+    enum-told
+    same-length
+    same-length-2
+    returns
+    leads-to-requires
+    errors-requires
+    enum-known-r-2
+    enum-told-2
+    same-length-3
+    same-length-4
+    returns-2
+    add-set-link
+    set-link-requires
+    same-length-5
+    same-length-6
+    returns-3)
