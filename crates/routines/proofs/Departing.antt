@@ -92,7 +92,7 @@ module _ (text code values : List ℕ) (result h name : ℕ) (g : ScopeStands te
   high : (i : ℕ) → form .begin * 2 ≤ i → getD (wordsOf code₂) i 0 ≡ getD (wordsOf code) i 0
   high = high₂ text code values result h name g code₁ values₁ close count x₁ long₁ code₂ values₂ at taken x₂ long₂
 
-  pub scope-lists : ListsStand text code₂ values₂ result taken h at
+  unfoldable pub scope-lists : ListsStand text code₂ values₂ result taken h at
   scope-lists = lists-stand text code values result h name g code₁ values₁ close count x₁ long₁ code₂ values₂ at taken x₂ long₂
 
   -- the words before the parameters have their sorts still

@@ -8,3 +8,4 @@ pub mod Listing
 pub mod Parting
 pub mod Entering
 pub mod Departing
+pub mod Whole
