@@ -1,12 +1,13 @@
 use borrow.Author.Needs.{needs}
 use mathlib.Core.Path.{sym, _∙_}
+use native.Mathlib.Omega.{arith}
 use Rattle.pendant.proofs.Depths.{good}
 use Rattle.pendant.proofs.Answering.{call-short, small-code, small-values, call-deep, call-judged}
 use Rattle.pendant.proofs.rapid_run.Statement.{statement}
 use Rattle.pendant.proofs.rapid_run.Tie as tie
 
 returns : tie.Need-returns
-returns c = call-short _ _ _ _ _ _ _ _ (c .if1 .taken)
+returns c = call-short _ _ _ _ _ _ _ _ (omega (arith, c .if1 .taken))
 
 refuse-requires : tie.Need-refuse-requires
 refuse-requires c κs = search needs
