@@ -1,7 +1,7 @@
 -- An accepted module carried out: what the run promises is what the paper's result says.
 use mathlib.Core.Path.{_≡_, refl, sym, ap, ap₂, _∙_}
 use mathlib.Core.List.{List, _++_, map}
-use Prim.Native.Nat.{ℕ, _+_, _-_, _*_, _/_, _≤_, _<_}
+use Prim.Native.Nat.{ℕ, suc, _+_, _-_, _*_, _/_, _≤_, _<_}
 use native.Mathlib.Omega.{arith}
 use lib.ListN.{length, getD, take, drop, length-map, length-append, take-append-drop, List·getD-append, List·getD-eq-default}
 use lib.Seq.{length-take-le, take-take, take-append-le, drop-at, getD-take}
@@ -13,17 +13,18 @@ use Rattle.paper.specs.Answer as paper
 use Rattle.paper.specs.Answer.{storeWords, Record, lentOf, questionOf, verdict, accepted, endedWith, ranTo, carriedOut, offsetOf}
 use Rattle.paper.specs.States.{Rooms}
 use Rattle.paper.specs.Running as running
-use Rattle.cells.specs.Words.{wordsOf, Got, Cleared}
+use Rattle.cells.specs.Words.{wordsOf, Cleared}
 use Rattle.cells.proofs.Laws.{length-words, words-take, words-append}
 use Rattle.cells.proofs.Paper.{words-paper}
-use Rattle.code.specs.Windows.{writtenIn}
+use Rattle.code.specs.Cells.{errnoCell}
+use Rattle.code.specs.Windows.{writtenCell, usedCell, writtenIn}
 use Rattle.checker.specs.declared.Checked.{Checked}
 use Rattle.checker.specs.declared.Checked.the-variants as checked
 use Rattle.checker.specs.Checks.{storeBytes}
 use Rattle.runner.specs.declared.Ended.{Ended}
 use Rattle.runner.specs.Runs.{Begins, Comes, Ran}
 use Rattle.pendant.specs.Calls.{lent}
-use Rattle.pendant.specs.Carries.{asked, fieldsOf, Written, Accepts, Tells}
+use Rattle.pendant.specs.Carries.{asked, reported, Written, Reports, Accepts, Tells}
 use Rattle.pendant.proofs.Stores.{left-cleared, left-empty}
 
 -- ---- what the check's answer says
@@ -48,7 +49,7 @@ module _ {text code values fields : List ℕ} {words main depth : ℕ} (a : Acce
   few-words = rw words-are (a .ready .holds .room)
 
   many : storeWords ≤ length (wordsOf values)
-  many = omega (arith, length-words values, a .values-room)
+  many = omega (arith, length-words values, a .rooms .values-room)
 
   pub begins : Begins text (take storeBytes code) (take storeBytes values) main depth
   unfolding mainIn
@@ -60,8 +61,8 @@ module _ {text code values fields : List ℕ} {words main depth : ℕ} (a : Acce
         offset = offsetOf text (a .a .words);
         main = a .a .main;
         holds = a .ready .holds;
-        code-size = length-take-le storeBytes code (a .code-room);
-        values-size = length-take-le storeBytes values (a .values-room);
+        code-size = length-take-le storeBytes code (a .rooms .code-room);
+        values-size = length-take-le storeBytes values (a .rooms .values-room);
         some = a .some;
         most = a .most;
         there = a .ready .there;
@@ -89,12 +90,9 @@ module _ {text code values fields : List ℕ} {words main depth : ℕ} (a : Acce
     unfolding rooms ended begins
     comes = ran .is begins rooms refl (record { room = refl; reads = words-paper inputs })
 
-    pub left-steps : e .left ≤ steps
-    left-steps = comes .left
-
     -- the part that the run was lent is back in its store
     after-size : length after ≡ storeBytes
-    after-size = ran .long ∙ length-take-le storeBytes values (a .values-room)
+    after-size = ran .long ∙ length-take-le storeBytes values (a .rooms .values-room)
 
     pub whole-size : length (after ++ drop storeBytes values) ≡ length values
     whole-size =
@@ -104,7 +102,7 @@ module _ {text code values fields : List ℕ} {words main depth : ℕ} (a : Acce
         ∙ ap length (take-append-drop storeBytes values)
 
     pub room-for : (n : ℕ) → n ≤ storeBytes → n ≤ length (after ++ drop storeBytes values)
-    room-for n h = omega (arith, whole-size, a .values-room)
+    room-for n h = omega (arith, whole-size, a .rooms .values-room)
 
     whole-past : drop storeBytes (after ++ drop storeBytes values) ≡ drop storeBytes values
     whole-past = drop-at after (drop storeBytes values) storeBytes after-size
@@ -136,41 +134,35 @@ module _ {text code values fields : List ℕ} {words main depth : ℕ} (a : Acce
         ∙ ap (λ (m : ℕ). length (take m (wordsOf after))) (sym words-are)
         ∙ length-take-le words (wordsOf after) (rw after-words (omega (arith, few-words)))
 
-    module _ {errno low high used output : ℕ} (errno-is : Got (after ++ drop storeBytes values) 1263 errno) (low-is : Got (after ++ drop storeBytes values) 1260 low)
-        (high-is : Got (after ++ drop storeBytes values) 1261 high) (output-is : output ≡ low + 4294967296 * high) (used-is : Got (after ++ drop storeBytes values) 1262 used) where
-      output-long : output ≡ length (ended .state .output)
-      unfolding writtenIn
-      output-long =
-          output-is
-          ∙ ap₂ (λ (x y : ℕ). x + 4294967296 * y) (low-is ∙ cell 1260 (omega arith)) (high-is ∙ cell 1261 (omega arith))
-          ∙ comes .written (a .ready .R)
+    fields-are : reported e steps (after ++ drop storeBytes values) words ≡ ranTo text (a .a .words) ended .fields
+    unfolding reported ranTo endedWith writtenIn
+    fields-are =
+        let e₁ = comes .ending in
+        let e₂ = comes .place in
+        let e₃ = sym (comes .counted) in
+        let e₄ = cell errnoCell (omega arith) ∙ comes .errno in
+        let e₅ = ap₂ (λ (x y : ℕ). x + 4294967296 * y) (cell writtenCell (omega arith)) (cell (suc writtenCell) (omega arith)) ∙ comes .written (a .ready .R) in
+        let e₆ = cell usedCell (omega arith) ∙ comes .used in
+        let e₇ = sym kept-many in
+        λ i. record { ending = e₁ i; refusal = 0; offset = e₂ i; steps = e₃ i; errno = e₄ i; output = e₅ i; inputs = e₆ i; words = e₇ i }
 
-      fields-are : fieldsOf (e .ending) 0 (e .place) (steps - e .left) errno output used words ≡ ranTo text (a .a .words) ended .fields
-      unfolding ranTo endedWith
-      fields-are =
-          let e₁ = comes .ending in
-          let e₂ = comes .place in
-          let e₃ = sym (comes .counted) in
-          let e₄ = errno-is ∙ cell 1263 (omega arith) ∙ comes .errno in
-          let e₅ = output-long in
-          let e₆ = used-is ∙ cell 1262 (omega arith) ∙ comes .used in
-          let e₇ = sym kept-many in
-          λ i. record { ending = e₁ i; refusal = 0; offset = e₂ i; steps = e₃ i; errno = e₄ i; output = e₅ i; inputs = e₆ i; words = e₇ i }
+    tells : {code′ values′ fields′ : List ℕ} → Written fields fields′ (reported e steps (after ++ drop storeBytes values) words)
+        → Cleared code code′ 0 storeWords → Cleared (after ++ drop storeBytes values) values′ words (storeWords - words)
+        → Tells (ranTo text (a .a .words) ended) out code values fields out′ code′ values′ fields′
+    unfolding ranTo endedWith
+    tells {code′} {values′} {fields′} w c v =
+        record {
+          output = sym (take-append-drop (length (ended .state .output)) out′) ∙ ap₂ _++_ (comes .output) (comes .past);
+          code-left = left-empty code code′ (a .rooms .code-room) c;
+          values-left = left-cleared values (after ++ drop storeBytes values) values′ words v (omega (arith, few-words)) (a .rooms .values-room) whole-size whole-past (ended .state .words) kept-many kept-are;
+          told = record { bytes = w .bytes ∙ ap (λ (f : Record). paper.recordBytes f ++ drop 64 fields) fields-are };
+        }
 
-      tells : {code′ values′ fields′ : List ℕ} → Cleared code code′ 0 storeWords → Cleared (after ++ drop storeBytes values) values′ words (storeWords - words)
-          → Written fields fields′ (fieldsOf (e .ending) 0 (e .place) (steps - e .left) errno output used words)
-          → Tells (ranTo text (a .a .words) ended) out code values fields out′ code′ values′ fields′
-      unfolding ranTo endedWith
-      tells {code′} {values′} {fields′} c v w =
-          record {
-            output = sym (take-append-drop (length (ended .state .output)) out′) ∙ ap₂ _++_ (comes .output) (comes .past);
-            code-left = left-empty code code′ (a .code-room) c;
-            values-left = left-cleared values (after ++ drop storeBytes values) values′ words v (omega (arith, few-words)) (a .values-room) whole-size whole-past (ended .state .words) kept-many kept-are;
-            told = record { bytes = w .bytes ∙ ap (λ (f : Record). paper.recordBytes f ++ drop 64 fields) fields-are };
-          }
+    pub carried : {code′ values′ fields′ : List ℕ} → Written fields fields′ (reported e steps (after ++ drop storeBytes values) words)
+        → Cleared code code′ 0 storeWords → Cleared (after ++ drop storeBytes values) values′ words (storeWords - words)
+        → Tells (carriedOut (asked text steps depth inputs out) (verdict text)) out code values fields out′ code′ values′ fields′
+    unfolding asked questionOf lentOf lent carriedOut rooms ended
+    carried w c v = rw (a .judged) (tells w c v)
 
-      pub carried : {code′ values′ fields′ : List ℕ} → Cleared code code′ 0 storeWords → Cleared (after ++ drop storeBytes values) values′ words (storeWords - words)
-          → Written fields fields′ (fieldsOf (e .ending) 0 (e .place) (steps - e .left) errno output used words)
-          → Tells (carriedOut (asked text steps depth inputs out) (verdict text)) out code values fields out′ code′ values′ fields′
-      unfolding asked questionOf lentOf lent carriedOut rooms ended
-      carried c v w = rw (a .judged) (tells c v w)
+    pub reports : Reports (after ++ drop storeBytes values) fields e steps
+    reports = record { values-room = rw whole-size (a .rooms .values-room); fields-room = a .rooms .fields-room; left = comes .left }
