@@ -1,0 +1,41 @@
+-- The parser reads what the grammar derives, and nothing else.
+use mathlib.Core.Path.{_≡_, sym, ap, _∙_}
+use mathlib.Core.Logic.{_↔_}
+use Prim.Native.Nat.{ℕ, _+_, _<_, _≤_}
+use native.Mathlib.Omega.{arith}
+use Rattle.laws.proofs.Tests.{by-less}
+use Rattle.paper.specs.Sorts.{NOTHING, ENDMODULE}
+use Rattle.paper.specs.Words.{wordLimit}
+use Rattle.paper.specs.Trees.{Expr, Module}
+use Rattle.paper.specs.Expressions.{got}
+use Rattle.paper.specs.Form.{formed}
+use Rattle.grammar.specs.Form.{Stands}
+use Rattle.grammar.specs.Grammar.{Derives, Short, IsModule}
+use Rattle.grammar.proofs.Reading.{formed-stands}
+use Rattle.grammar.proofs.Levels.{disjunction-grows, derived-reads}
+use Rattle.grammar.proofs.Derived.{parses-derives}
+use Rattle.grammar.proofs.Completing.{stands-formed}
+
+module _ (W : ℕ → ℕ) where
+  derives-grows : (d at : ℕ) (e : Expr) (to : ℕ) → Derives W d at e to → at < to
+  derives-grows d at e to h = disjunction-grows W (h .derived)
+
+  pub sound : (m : Module) → formed W ≡ got m → IsModule W m
+  sound m h = formed-stands W (Derives W) (parses-derives W) m h
+
+  pub complete : (m : Module) (h : IsModule W m) → h .words ≤ wordLimit → formed W ≡ got m
+  complete m h w = stands-formed W (Derives W) derives-grows (derived-reads W) m h w
+
+  -- ENDMODULE is a word
+  pub few-words : Short W → (m : Module) (h : IsModule W m) → h .words ≤ wordLimit
+  few-words s m h =
+      by-less (h .form .end) wordLimit
+      (λ l. omega (arith, h .form .after))
+      (λ l. absurd (apart-words (s (h .form .end) l) (h .form .closes)))
+    where
+      apart-words : {t : ℕ} → t ≡ NOTHING → t ≡ ENDMODULE → ⊥
+      apart-words a b = omega (arith, a, b)
+
+  -- "(i)": the paper's parser gives a tree exactly where the words are that module.
+  pub formed-is-module : Short W → (m : Module) → (formed W ≡ got m) ↔ IsModule W m
+  formed-is-module s m = (sound m, λ h. complete m h (few-words s m h))
