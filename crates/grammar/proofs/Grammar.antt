@@ -1,13 +1,14 @@
 -- The parser reads what the grammar derives, and nothing else.
-use mathlib.Core.Path.{_≡_, sym, ap, _∙_}
+use mathlib.Core.Path.{_≡_, sym, ap, _∙_, subst}
+use mathlib.Core.Bool.{Bool, true, false}
 use mathlib.Core.Logic.{_↔_}
 use Prim.Native.Nat.{ℕ, _+_, _<_, _≤_}
 use native.Mathlib.Omega.{arith}
-use Rattle.laws.proofs.Tests.{by-less}
+use Rattle.laws.proofs.Tests.{by-less, false-true}
 use Rattle.paper.specs.Sorts.{NOTHING, ENDMODULE}
 use Rattle.paper.specs.Words.{wordLimit}
 use Rattle.paper.specs.Trees.{Expr, Module}
-use Rattle.paper.specs.Expressions.{got}
+use Rattle.paper.specs.Expressions.{Parsed, got, no}
 use Rattle.paper.specs.Form.{formed}
 use Rattle.grammar.specs.Form.{Stands}
 use Rattle.grammar.specs.Grammar.{Derives, Short, IsModule}
@@ -15,6 +16,7 @@ use Rattle.grammar.proofs.Reading.{formed-stands}
 use Rattle.grammar.proofs.Levels.{disjunction-grows, derived-reads}
 use Rattle.grammar.proofs.Derived.{parses-derives}
 use Rattle.grammar.proofs.Completing.{stands-formed}
+use Rattle.grammar.proofs.Local.{refused-alike}
 
 module _ (W : ℕ → ℕ) where
   derives-grows : (d at : ℕ) (e : Expr) (to : ℕ) → Derives W d at e to → at < to
@@ -39,3 +41,16 @@ module _ (W : ℕ → ℕ) where
   -- "(i)": the paper's parser gives a tree exactly where the words are that module.
   pub formed-is-module : Short W → (m : Module) → (formed W ≡ got m) ↔ IsModule W m
   formed-is-module s m = (sound m, λ h. complete m h (few-words s m h))
+
+-- ---- refusals
+isRead : {A : Type 0} → Parsed A → Bool
+isRead (got a) = true
+isRead (no k j) = false
+
+no-got : {A : Type 0} (k j : ℕ) (a : A) → no k j ≡ got a → ⊥
+unfolding isRead
+no-got k j a e = false-true (ap isRead e)
+
+-- "8: word that no well-formed module could have here": where the parser says so of word i, no module begins with these i + 1 words.
+pub refused : (W U : ℕ → ℕ) (i : ℕ) → formed W ≡ no 8 i → ((j : ℕ) → j ≤ i → U j ≡ W j) → (m : Module) (h : IsModule U m) → h .words ≤ wordLimit → ⊥
+refused W U i e same m h w = no-got 8 i m (sym (refused-alike W U i same e) ∙ complete U m h w)

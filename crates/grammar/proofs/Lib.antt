@@ -6,3 +6,4 @@ pub mod Levels
 pub mod Derived
 pub mod Completing
 pub mod Grammar
+pub mod Local
