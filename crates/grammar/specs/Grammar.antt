@@ -7,7 +7,7 @@ use Rattle.paper.specs.Sorts.{NOTHING, NAME, NOT, plus, minusSign, openParen, c
 use Rattle.paper.specs.Words.{wordLimit}
 use Rattle.paper.specs.Trees.{Expr, leaf, element, nested, signed, joined, Module}
 use Rattle.paper.specs.Expressions.{products, sums, relations, conjunctions, disjunctions, levelOf, isLiteral}
-use Rattle.grammar.specs.Form.{Stands}
+use Rattle.grammar.specs.Form.{StandsIn, Stands}
 
 -- ---- expressions
 -- "Expressions, loosest first": what the words from `at` up to `to` are. No limits, and nothing about the word at `to`.
@@ -70,3 +70,8 @@ Short W = (i : ℕ) → wordLimit ≤ i → W i ≡ NOTHING
 -- The words are this module: the paper's form, nested as deep as the paper lets it.
 abbrev pub IsModule : (W : ℕ → ℕ) → Module → Type 0
 IsModule W m = Stands W (Derives W) m
+
+-- The words have the form of this module, however deep it nests.
+pub record HasForm (W : ℕ → ℕ) (m : Module) : Type 0 where
+  pub nesting : ℕ
+  pub stands : StandsIn W (λ d at e to. DisjunctionAt W e at to) nesting m
