@@ -17,7 +17,7 @@ use Rattle.grammar.specs.Form.{SeparatedAt, last-one, one-more, ClosedAt
 use Rattle.grammar.specs.Form.{ExprAt, ExprsAt, ArgumentsAt, IndexAt, no-index, in-braces, TargetAt, OptionalAt, no-value, a-value, NumberAt, no-number, a-number}
 use Rattle.grammar.specs.Form.{SimpleAt, assigning, assigning-call, calling, returning, raising, exiting, retrying, trying-next, writing, reading, StepAt, no-step, a-step, ForHeadAt}
 use Rattle.grammar.specs.Form.{StatementAt, plain, compact, full, counting, looping, testing, ListAt, ended, begun, ArmsAt, last-arm, more-arms, ElseAt, no-else, an-else, CasesAt, no-more-cases, one-case, DefaultAt, no-default, a-default}
-use Rattle.grammar.specs.Form.{ContentAt, no-content, initial, sized, constant, DeclaredAt, DeclarationsAt, ParameterAt, ParametersAt, RoutineListAt, HandlerAt, no-handler, a-handler, HeadAt, a-proc, a-func, RoutineAt, RoutinesAt, ModuleAt}
+use Rattle.grammar.specs.Form.{ContentAt, no-content, initial, sized, constant, DeclaredAt, DeclarationsAt, ParameterAt, ParametersAt, RoutineListAt, HandlerIn, no-handler, a-handler, HeadAt, a-proc, a-func, RoutineIn, RoutinesIn}
 
 -- ---- first words
 module _ (W : ℕ → ℕ) (E : (d at : ℕ) → Expr → (to : ℕ) → Type 0) where
@@ -159,7 +159,7 @@ module _ (W : ℕ → ℕ) (E : (d at : ℕ) → Expr → (to : ℕ) → Type 0)
   pub parameters-grow : {ps : List Parameter} {at to : ℕ} → ParametersAt W E ps at to → at ≤ to
   parameters-grow h = closed-grows W (ParameterAt W E) parameter-grows h
 
-  pub handler-grows : {o : Option RoutineList} {at to : ℕ} → HandlerAt W E o at to → at ≤ to
+  pub handler-grows : {N : ℕ} {o : Option RoutineList} {at to : ℕ} → HandlerIn W E N o at to → at ≤ to
   handler-grows (no-handler f e) = omega arith
   handler-grows (a-handler c h) = omega (arith, list-grows (h .statements))
 
@@ -167,12 +167,12 @@ module _ (W : ℕ → ℕ) (E : (d at : ℕ) → Expr → (to : ℕ) → Type 0)
   head-grows (a-proc p n c) = omega arith
   head-grows (a-func p t k n c) = omega arith
 
-  pub routine-grows : (r : Routine) (at to : ℕ) → RoutineAt W E r at to → at < to
+  pub routine-grows : {N : ℕ} (r : Routine) (at to : ℕ) → RoutineIn W E N r at to → at < to
   routine-grows r at to h =
       omega (arith, head-grows (h .head), parameters-grow (h .parameters), declarations-grow (h .declared), list-grows (h .body .statements), handler-grows (h .handler), h .after)
 
-  pub routines-grow : {rs : List Routine} {at to : ℕ} → RoutinesAt W E rs at to → at ≤ to
-  routines-grow h = repeated-grows W (RoutineAt W E) routine-grows h
+  pub routines-grow : {N : ℕ} {rs : List Routine} {at to : ℕ} → RoutinesIn W E N rs at to → at ≤ to
+  routines-grow {N} h = repeated-grows W (RoutineIn W E N) routine-grows h
 
   -- ---- steps are named by words from a on and before b
   module _ (T : List Word) (M : Memory) (a b : ℕ) where

@@ -28,25 +28,25 @@ Gives Q (no number at) = Unit {0}
 pub gives-got : {A : Type 0} (Q : A → Type 0) (p : Parsed A) (a : A) → Gives Q p → p ≡ got a → Q a
 gives-got Q p a h e = subst (Gives Q) e h
 
-gives-by : {A : Type 0} (Q : A → Type 0) (p : Parsed A) → ((a : A) → p ≡ got a → Q a) → Gives Q p
+pub gives-by : {A : Type 0} (Q : A → Type 0) (p : Parsed A) → ((a : A) → p ≡ got a → Q a) → Gives Q p
 gives-by Q (got a) h = h a refl
 gives-by Q (no number at) h = tt
 
-weaker : {A : Type 0} (Q S : A → Type 0) (p : Parsed A) → ((a : A) → Q a → S a) → Gives Q p → Gives S p
+pub weaker : {A : Type 0} (Q S : A → Type 0) (p : Parsed A) → ((a : A) → Q a → S a) → Gives Q p → Gives S p
 weaker Q S (got a) f h = f a h
 weaker Q S (no number at) f h = tt
 
-then-gives : {A B : Type 0} (Q : A → Type 0) (S : B → Type 0) (p : Parsed A) (f : A → Parsed B) → Gives Q p → ((a : A) → Q a → Gives S (f a)) → Gives S (p >>= f)
+pub then-gives : {A B : Type 0} (Q : A → Type 0) (S : B → Type 0) (p : Parsed A) (f : A → Parsed B) → Gives Q p → ((a : A) → Q a → Gives S (f a)) → Gives S (p >>= f)
 unfolding _>>=_
 then-gives Q S (got a) f h g = g a h
 then-gives Q S (no number at) f h g = tt
 
 -- a choice, however it is written
-chosen-gives : {A : Type 0} (Q : A → Type 0) (b : Bool) (x y : Parsed A) → (b ≡ true → Gives Q x) → (b ≡ false → Gives Q y) → Gives Q (if b then x else y)
+pub chosen-gives : {A : Type 0} (Q : A → Type 0) (b : Bool) (x y : Parsed A) → (b ≡ true → Gives Q x) → (b ≡ false → Gives Q y) → Gives Q (if b then x else y)
 chosen-gives Q true x y h g = h refl
 chosen-gives Q false x y h g = g refl
 
-forked-gives : {A : Type 0} (Q : A → Type 0) (b : Bool) (x y : Parsed A) → (b ≡ true → Gives Q x) → (b ≡ false → Gives Q y) → Gives Q (elim b [ true ↦ x | false ↦ y ])
+pub forked-gives : {A : Type 0} (Q : A → Type 0) (b : Bool) (x y : Parsed A) → (b ≡ true → Gives Q x) → (b ≡ false → Gives Q y) → Gives Q (elim b [ true ↦ x | false ↦ y ])
 forked-gives Q true x y h g = h refl
 forked-gives Q false x y h g = g refl
 
@@ -83,7 +83,7 @@ module _ (W : ℕ → ℕ) where
     goes-on X at j p f e k h =
         then-gives (λ n. X × (n ≡ at + 1)) S p f k (λ n q. let z : j ≡ n = sym e ∙ sym (q .1) in subst (λ (i : ℕ). Gives S (f i)) z (h (q .0)))
 
-    expect-then : (sort at j : ℕ) (f : ℕ → Parsed B) → at + 1 ≡ j → (W at ≡ sort → Gives S (f j)) → Gives S (expect W sort at >>= f)
+    pub expect-then : (sort at j : ℕ) (f : ℕ → Parsed B) → at + 1 ≡ j → (W at ≡ sort → Gives S (f j)) → Gives S (expect W sort at >>= f)
     expect-then sort at j f e h = goes-on (W at ≡ sort) at j (expect W sort at) f e (expect-gives sort at) h
 
     type-then : (at j : ℕ) (f : ℕ → Parsed B) → at + 1 ≡ j → (isType (W at) ≡ true → Gives S (f j)) → Gives S (expectType W at >>= f)

@@ -191,54 +191,75 @@ module _ (W : ℕ → ℕ) (E : (d at : ℕ) → Expr → (to : ℕ) → Type 0)
   abbrev pub ParametersAt : List Parameter → (at to : ℕ) → Type 0
   ParametersAt ps at to = ClosedAt W ParameterAt closeParen ps at to
 
-  -- A list of a routine, up to the word that closes it.
-  pub record RoutineListAt (l : RoutineList) (at to : ℕ) : Type 0 where
-    pub statements : ListAt nestings (l .statements) at to
-    pub closes : l .closes ≡ to
-
-  -- "optionally ERROR and statements"
-  pub data HandlerAt : Option RoutineList → (at to : ℕ) → Type 0 where
-    no-handler : {at to : ℕ} → ¬ (W at ≡ ERROR) → to ≡ at → HandlerAt none at to
-    a-handler : {l : RoutineList} {at to : ℕ} → W at ≡ ERROR → RoutineListAt l (at + 1) to → HandlerAt (some l) at to
-
   -- "PROC name", "FUNC type name", up to the name; and the word at the routine's end
   pub data HeadAt : (result : Option ℕ) → (closing : ℕ) → (at name : ℕ) → Type 0 where
     a-proc : {closing at name : ℕ} → W at ≡ PROC → name ≡ at + 1 → closing ≡ ENDPROC → HeadAt none closing at name
     a-func : {t closing at name : ℕ} → W at ≡ FUNC → t ≡ W (at + 1) → isType (W (at + 1)) ≡ true → name ≡ at + 2 → closing ≡ ENDFUNC → HeadAt (some t) closing at name
 
-  -- "PROC name(params) or FUNC type name(params): data, statements, optionally ERROR and statements, ENDPROC or ENDFUNC."
-  pub record RoutineAt (r : Routine) (at to : ℕ) : Type 0 where
-    -- the parenthesis behind the parameters, the first word of the list, the word at the end
-    pub close : ℕ
-    pub begin : ℕ
-    pub end : ℕ
-    pub head : HeadAt (r .result) (W end) at (r .name)
-    pub name : W (r .name) ≡ NAME
-    pub opens : W (r .name + 1) ≡ openParen
-    pub parameters : ParametersAt (r .parameters) (r .name + 2) close
-    pub closes : W close ≡ closeParen
-    pub declared : DeclarationsAt (r .declared) (close + 1) begin
-    pub body : RoutineListAt (r .body) begin (r .body .closes)
-    pub handler : HandlerAt (r .handler) (r .body .closes) end
-    pub after : to ≡ end + 1
+  -- Compound statements nest to N in these.
+  module _ (N : ℕ) where
+    -- A list of a routine, up to the word that closes it.
+    pub record RoutineListIn (l : RoutineList) (at to : ℕ) : Type 0 where
+      pub statements : ListAt N (l .statements) at to
+      pub closes : l .closes ≡ to
+
+    -- "optionally ERROR and statements"
+    pub data HandlerIn : Option RoutineList → (at to : ℕ) → Type 0 where
+      no-handler : {at to : ℕ} → ¬ (W at ≡ ERROR) → to ≡ at → HandlerIn none at to
+      a-handler : {l : RoutineList} {at to : ℕ} → W at ≡ ERROR → RoutineListIn l (at + 1) to → HandlerIn (some l) at to
+
+    -- "PROC name(params) or FUNC type name(params): data, statements, optionally ERROR and statements, ENDPROC or ENDFUNC."
+    pub record RoutineIn (r : Routine) (at to : ℕ) : Type 0 where
+      -- the parenthesis behind the parameters, the first word of the list, the word at the end
+      pub close : ℕ
+      pub begin : ℕ
+      pub end : ℕ
+      pub head : HeadAt (r .result) (W end) at (r .name)
+      pub name : W (r .name) ≡ NAME
+      pub opens : W (r .name + 1) ≡ openParen
+      pub parameters : ParametersAt (r .parameters) (r .name + 2) close
+      pub closes : W close ≡ closeParen
+      pub declared : DeclarationsAt (r .declared) (close + 1) begin
+      pub body : RoutineListIn (r .body) begin (r .body .closes)
+      pub handler : HandlerIn (r .handler) (r .body .closes) end
+      pub after : to ≡ end + 1
+
+    abbrev pub RoutinesIn : List Routine → (at to : ℕ) → Type 0
+    RoutinesIn rs at to = RepeatedAt W startsRoutine RoutineIn rs at to
+
+    -- "MODULE name, data, routines, ENDMODULE, then nothing." There are so many words.
+    pub record ModuleIn (m : Module) (words : ℕ) : Type 0 where
+      -- the first word of the routines, and ENDMODULE
+      pub begin : ℕ
+      pub end : ℕ
+      pub opens : W 0 ≡ MODULE
+      pub name : W 1 ≡ NAME
+      pub declared : DeclarationsAt (m .declared) 2 begin
+      pub routines : RoutinesIn (m .routines) begin end
+      pub closes : W end ≡ ENDMODULE
+      pub after : words ≡ end + 1
+      pub nothing : W words ≡ NOTHING
+
+    -- The words are this module.
+    pub record StandsIn (m : Module) : Type 0 where
+      pub words : ℕ
+      pub form : ModuleIn m words
+
+  -- "Compound statements [..] nest to 16"
+  abbrev pub RoutineListAt : RoutineList → (at to : ℕ) → Type 0
+  RoutineListAt l at to = RoutineListIn nestings l at to
+
+  abbrev pub HandlerAt : Option RoutineList → (at to : ℕ) → Type 0
+  HandlerAt o at to = HandlerIn nestings o at to
+
+  abbrev pub RoutineAt : Routine → (at to : ℕ) → Type 0
+  RoutineAt r at to = RoutineIn nestings r at to
 
   abbrev pub RoutinesAt : List Routine → (at to : ℕ) → Type 0
-  RoutinesAt rs at to = RepeatedAt W startsRoutine RoutineAt rs at to
+  RoutinesAt rs at to = RoutinesIn nestings rs at to
 
-  -- "MODULE name, data, routines, ENDMODULE, then nothing." There are so many words.
-  pub record ModuleAt (m : Module) (words : ℕ) : Type 0 where
-    -- the first word of the routines, and ENDMODULE
-    pub begin : ℕ
-    pub end : ℕ
-    pub opens : W 0 ≡ MODULE
-    pub name : W 1 ≡ NAME
-    pub declared : DeclarationsAt (m .declared) 2 begin
-    pub routines : RoutinesAt (m .routines) begin end
-    pub closes : W end ≡ ENDMODULE
-    pub after : words ≡ end + 1
-    pub nothing : W words ≡ NOTHING
+  abbrev pub ModuleAt : Module → (words : ℕ) → Type 0
+  ModuleAt m words = ModuleIn nestings m words
 
-  -- The words are this module.
-  pub record Stands (m : Module) : Type 0 where
-    pub words : ℕ
-    pub form : ModuleAt m words
+  abbrev pub Stands : Module → Type 0
+  Stands m = StandsIn nestings m
