@@ -16,3 +16,4 @@ pub mod Defaulting
 pub mod Choosing
 pub mod Tests
 pub mod Linking
+pub mod Valuing
