@@ -17,3 +17,4 @@ pub mod Choosing
 pub mod Tests
 pub mod Linking
 pub mod Valuing
+pub mod Holding

@@ -253,9 +253,10 @@ module _ (code values : List ℕ) (c : ℕ) (now : List ℕ) (w op : ℕ) (inv :
               unfolding From Chain
               joined C [] o p y = absurd y
               joined C (e2 ∷ t) o p y =
-                  let sw = same-before w (w + 1) o (omega (arith, span)) in
-                  (constant-is C (value-same sw w (omega arith) (omega arith) _ (l .value-is)),
-                  record { v = f .n; leaves = link-same sw w (omega arith) (omega arith) _ (l .link-is ∙ m); on = span; before = omega (arith, before); op = p; constant = y .0; rest = y .1 })
+                  let sw = same-before w (w + 1) o (omega (arith, span)) in (
+                    constant-is C (value-same sw w (omega arith) (omega arith) _ (l .value-is)),
+                    record { v = f .n; leaves = link-same sw w (omega arith) (omega arith) _ (l .link-is ∙ m); on = span; before = omega (arith, before); op = p; constant = y .0; rest = y .1 },
+                  )
 
               goes : Valuing g two (f .n) 158
               unfolding rest-faults own-faults
