@@ -17,7 +17,7 @@ in-num-fits (pos n) h = record { sfits = omega (arith, ltb-false 8388608 n (h .h
 in-num-fits (negsuc n) h = record { sfits = omega (arith, ltb-false 8388606 n (h .low)) }
 
 pub read-in-num : (v : ℤ) → InNum v → InNum (toZ w64 (ofZ w64 v))
-read-in-num v h = subst InNum (sym (toZ-ofZ w64 v (in-num-fits v h))) h
+read-in-num v h = subst InNum (sym (toZ-ofZ (in-num-fits v h))) h
 
 pub held-as : (v : ℤ) (r : ℕ) → InNum v → Held (toZ w64 (ofZ w64 v)) r → Held v r
-held-as v r h x = subst (λ (z : ℤ). Held z r) (toZ-ofZ w64 v (in-num-fits v h)) x
+held-as v r h x = subst (λ (z : ℤ). Held z r) (toZ-ofZ (in-num-fits v h)) x
