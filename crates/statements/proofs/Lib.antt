@@ -16,3 +16,5 @@ pub mod Defaulting
 pub mod Choosing
 pub mod Tests
 pub mod Linking
+pub mod Valuing
+pub mod Holding

@@ -5,7 +5,7 @@ use mathlib.Core.List.{List, [], _∷_, _++_}
 use mathlib.Core.Option.{Option}
 use Prim.Native.Nat.{ℕ, suc, _+_, _*_, _<_, _≤_}
 use lib.ListN.{length}
-use lib.IntN.{ℤ}
+use lib.IntN.{ℤ, pos, _-ℤ_}
 use Rattle.paper.specs.Sorts.{IF, FOR, WHILE, TEST, DO, ELSE, ELSEIF, ENDIF, THEN, ENDTEST, semicolon, colon}
 use Rattle.paper.specs.Words.{Word, wordLimit}
 use Rattle.paper.specs.Terms.{Memory}
@@ -17,6 +17,7 @@ use Rattle.paper.specs.Declarations.{routineWordLimit, crosses}
 use Rattle.paper.specs.Checks.{forsInList, forsInArms, forsInCases, optionalNum, simpleFaults, caseFaults, listFaults, armFaults, casesFaults}
 use Rattle.cells.specs.Words.{wordsOf}
 use Rattle.code.specs.Cells.{opAt, placeAt, linkAt}
+use Rattle.code.specs.Spans.{bias}
 use Rattle.code.specs.Steps.{aWhile, aFor, aForTest, aCase, aNextValue, aThen, aDo, aPass, constantAt}
 use Rattle.evaluation.specs.Answers.{callWords}
 use Rattle.names.specs.Meanings.{isProtected}
@@ -245,6 +246,11 @@ pub record Elsed (text code values after values′ : List ℕ) (k : Setting) (us
       (λ (x y : ℕ). RawList (groundOf (g .around)) (g .around .known .n) (wordsOf after) (g .o) (g .around .known .S) used x y) c first (g .to)) c) r
 
 -- ---- TEST
+-- A head's value that holds a number.
+pub record Held (v : ℤ) (r : ℕ) : Type 0 where
+  pub small : r < 16777216
+  pub is : pos r -ℤ pos bias ≡ v
+
 -- A value of a CASE behind the one at w, at its comma.
 pub record ChainValue (C : List ℕ) (value : ℤ) (more : ℕ → Type 0) (colon w : ℕ) : Type 0 where
   pub v : ℕ
