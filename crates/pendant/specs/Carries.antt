@@ -59,11 +59,13 @@ pub record Accepts (text code values fields : List ℕ) (words main depth : ℕ)
   pub most : depth ≤ depthLimit
 
 -- ---- a refusal, and a run that has ended
+-- A refusal leaves both stores empty.
 pub record Refuses (number offset : ℕ) (code values fields code′ values′ fields′ : List ℕ) : Type 0 where
   pub code-left : Left [] code code′
   pub values-left : Left [] values values′
   pub told : Written fields fields′ (refusedFields number offset)
 
+-- What the record of a run asks: the cells that were counted in, the record, and that no more steps are left than were lent.
 pub record Reports (values fields : List ℕ) (e : Ended) (steps : ℕ) : Type 0 where
   pub values-room : storeBytes ≤ length values
   pub fields-room : recordSize ≤ length fields

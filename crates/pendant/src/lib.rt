@@ -18,6 +18,7 @@ const STORE: usize = 65536;
 
 const CELLS: usize = 16384;
 
+// The most live calls.
 const DEEPEST: u32 = 64;
 
 // What a run has counted, in cells of the value store: bytes of output, the low half first, inputs, and ERRNO.
