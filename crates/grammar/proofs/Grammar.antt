@@ -8,12 +8,12 @@ use Rattle.laws.proofs.Tests.{by-less, false-true}
 use Rattle.paper.specs.Sorts.{NOTHING, ENDMODULE}
 use Rattle.paper.specs.Words.{wordLimit}
 use Rattle.paper.specs.Trees.{Expr, Module}
-use Rattle.paper.specs.Expressions.{Parsed, got, no, nestings}
+use Rattle.paper.specs.Expressions.{Parsed, got, no, nestings, parts}
 use Rattle.paper.specs.Form.{formed}
 use Rattle.grammar.specs.Form.{Stands}
 use Rattle.grammar.specs.Grammar.{DisjunctionAt, Derives, Short, IsModule, HasForm}
 use Rattle.grammar.proofs.Reading.{formed-stands}
-use Rattle.grammar.proofs.Steps.{Comes, exactly, too-deep}
+use Rattle.grammar.proofs.Steps.{Comes, exactly, too-deep, too-long}
 use Rattle.grammar.proofs.Levels.{disjunction-grows, derived-reads}
 use Rattle.grammar.proofs.Derived.{parses-derives}
 use Rattle.grammar.proofs.Completing.{stands-formed}
@@ -26,18 +26,24 @@ module _ (W : ℕ → ℕ) where
   pub sound : (m : Module) → formed W ≡ got m → IsModule W m
   sound m h = formed-stands W (Derives W) (parses-derives W) m h
 
-  comes : {m : Module} → Comes ⊥ (formed W) (got m) → formed W ≡ got m
+  comes : {m : Module} → Comes ⊥ (λ j. ⊥) (formed W) (got m) → formed W ≡ got m
   comes (exactly h) = h
   comes (too-deep j d h) = absurd d
+  comes (too-long j d h) = absurd d
+
+  no-longer : (j : ℕ) → parts ≤ j → j ≤ wordLimit → ⊥
+  no-longer j h g = omega arith
 
   pub complete : (m : Module) (h : IsModule W m) → h .words ≤ wordLimit → formed W ≡ got m
   complete m h w =
-      comes (stands-formed ⊥ W (Derives W) derives-grows (λ d at e to k l f. derived-reads W ⊥ d at e to (k .derived) (inr (k .deep, k .nests)) l f) nestings (λ z. omega arith) m h w)
+      comes (stands-formed ⊥ (λ j. ⊥) wordLimit no-longer W (Derives W) derives-grows (λ d at e to k l f. derived-reads W ⊥ (λ j. ⊥) wordLimit no-longer d at e to (k .derived) (inr (k .deep, k .nests)) l f) nestings (λ z. omega arith) m h w)
 
-  -- However deep a module nests, its words are read, or refused for their nesting.
-  pub complete-or-deep : (m : Module) (h : HasForm W m) → h .stands .words ≤ wordLimit → Comes Unit (formed W) (got m)
-  complete-or-deep m h w =
-      stands-formed Unit W (λ d at e to. DisjunctionAt W e at to) (λ d at e to k. disjunction-grows W k) (λ d at e to k l f. derived-reads W Unit d at e to k (inl tt) l f) (h .nesting) (λ z. tt) m (h .stands) w
+  -- However deep a module nests, and however long it is, its words are read, or refused for their nesting or at a word past the last that may be.
+  pub complete-or-limited : (m : Module) → HasForm W m → Comes Unit (λ j. wordLimit < j) (formed W) (got m)
+  complete-or-limited m h =
+      let n = h .stands .words in
+      stands-formed Unit (λ j. wordLimit < j) n (λ j g _. omega arith) W (λ d at e to. DisjunctionAt W e at to) (λ d at e to k. disjunction-grows W k)
+      (λ d at e to k l f. derived-reads W Unit (λ j. wordLimit < j) n (λ j g _. omega arith) d at e to k (inl tt) l f) (h .nesting) (λ z. tt) m (h .stands) (omega arith)
 
   -- ENDMODULE is a word
   pub few-words : Short W → (m : Module) (h : IsModule W m) → h .words ≤ wordLimit
@@ -70,10 +76,19 @@ eight-nine : {A : Type 0} {i j : ℕ} → _≡_ {A = Parsed A} (no 8 i) (no 9 j)
 unfolding number
 eight-nine e = let z : _≡_ {A = ℕ} 8 9 = ap number e in omega arith
 
+place : {A : Type 0} → Parsed A → ℕ
+place (got a) = 0
+place (no k j) = j
+
+same-place : {A : Type 0} {i j : ℕ} → _≡_ {A = Parsed A} (no 8 i) (no 8 j) → i ≡ j
+unfolding place
+same-place e = ap place e
+
 -- "8: word that no well-formed module could have here": where the parser says so of word i, no module begins with these i + 1 words.
-pub refused : (W U : ℕ → ℕ) (i : ℕ) → formed W ≡ no 8 i → ((j : ℕ) → j ≤ i → U j ≡ W j) → (m : Module) (h : HasForm U m) → h .stands .words ≤ wordLimit → ⊥
-refused W U i e same m h w = by (complete-or-deep U m h w)
+pub refused : (W U : ℕ → ℕ) (i : ℕ) → i ≤ wordLimit → formed W ≡ no 8 i → ((j : ℕ) → j ≤ i → U j ≡ W j) → (m : Module) → HasForm U m → ⊥
+refused W U i l e same m h = by (complete-or-limited U m h)
   where
-    by : Comes Unit (formed U) (got m) → ⊥
+    by : Comes Unit (λ j. wordLimit < j) (formed U) (got m) → ⊥
     by (exactly k) = no-got 8 i m (sym (refused-alike W U i same e) ∙ k)
     by (too-deep j d k) = eight-nine (sym (refused-alike W U i same e) ∙ k)
+    by (too-long j d k) = omega (arith, d, same-place (sym (refused-alike W U i same e) ∙ k))
