@@ -13,7 +13,7 @@ use Rattle.paper.specs.Words.{wordLimit}
 use Rattle.paper.specs.Trees.{Expr, leaf, element, nested, signed, joined}
 use Rattle.paper.specs.Expressions.{Parsed, Parser, got, no, _>>=_, parts, products, sums, relations, conjunctions, disjunctions, levelOf, standsBefore, isLiteral, expect, inParentheses, indexed, named, operand, chain, prefixed, level, exprIn}
 use Rattle.grammar.specs.Grammar.{DisjunctionAt, a-conjunction, negated, or-xor, ConjunctionAt, a-relation, and, RelationAt, a-sum, compared, SumAt, a-product, with-sign, plus-minus, ProductAt, an-operand, times-div-mod, OperandAt, a-literal, a-name, an-element, in-parentheses, NestsTo, Derives}
-use Rattle.grammar.proofs.Steps.{Comes, exactly, too-deep, done, through, and-then, bind-got, if-true, if-false, when-true, when-false, either-true, expect-on}
+use Rattle.grammar.proofs.Steps.{Comes, exactly, too-deep, too-long, done, through, and-then, bind-got, if-true, if-false, when-true, when-false, either-true, expect-on}
 
 -- ---- words
 -- A word behind an expression: it goes on none of the levels up to j.
@@ -111,21 +111,21 @@ module _ (W : ℕ → ℕ) where
     operand-grows (an-element i n b k c z) = omega (arith, disjunction-grows k)
     operand-grows (in-parentheses i o k c z) = omega (arith, disjunction-grows k)
 
-  module _ (D : Type 0) where
+  module _ (D : Type 0) (T : ℕ → Type 0) (top : ℕ) (long : (j : ℕ) → parts ≤ j → j ≤ top → T j) where
     -- ---- one level of the parser
     module _ (inner : Parser Expr) (j : ℕ) where
       -- what is left to read of the chain of level j + 1 that begins at `at`, after e
       record Left (e : Expr) (at to : ℕ) : Type 0 where
         p : ℕ
         room : parts + at ≤ p + to
-        left : Comes D (level W inner (suc j) at) (chain W p (suc j) (level W inner j) e to)
+        left : Comes D T (level W inner (suc j) at) (chain W p (suc j) (level W inner j) e to)
 
-      alone-left : (e : Expr) (at to : ℕ) → standsBefore (suc j) (W at) ≡ false → at < to → Comes D (level W inner j at) (got (e, to)) → Left e at to
+      alone-left : (e : Expr) (at to : ℕ) → standsBefore (suc j) (W at) ≡ false → at < to → Comes D T (level W inner j at) (got (e, to)) → Left e at to
       unfolding level prefixed
       alone-left e at to b g h =
           record { p = parts; room = omega arith; left = bind-got (prefixed W (suc j) (level W inner j) at) _ (e, to) (when-false (standsBefore (suc j) (W at)) _ _ b h) done }
 
-      covered-left : (e : Expr) (at to : ℕ) → standsBefore (suc j) (W at) ≡ true → at + 1 < to → Comes D (level W inner j (at + 1)) (got (e, to)) → Left (signed at e) at to
+      covered-left : (e : Expr) (at to : ℕ) → standsBefore (suc j) (W at) ≡ true → at + 1 < to → Comes D T (level W inner j (at + 1)) (got (e, to)) → Left (signed at e) at to
       unfolding level prefixed
       covered-left e at to b g h =
           record {
@@ -134,12 +134,12 @@ module _ (W : ℕ → ℕ) where
             left = bind-got (prefixed W (suc j) (level W inner j) at) _ (signed at e, to) (when-true (standsBefore (suc j) (W at)) _ _ b (bind-got (level W inner j (at + 1)) _ (e, to) h done)) done;
           }
 
-      joined-left : (a b : Expr) (at n to : ℕ) → Left a at n → levelOf (W n) ≡ suc j → ¬ (suc j ≡ relations) → n + 1 < to → to ≤ wordLimit → Comes D (level W inner j (n + 1)) (got (b, to)) → Left (joined n a b) at to
+      joined-left : (a b : Expr) (at n to : ℕ) → Left a at n → levelOf (W n) ≡ suc j → ¬ (suc j ≡ relations) → n + 1 < to → to ≤ top → Comes D T (level W inner j (n + 1)) (got (b, to)) → Left (joined n a b) at to
       unfolding chain
       joined-left a b at n to k o f g w h = by (k .p) (k .room) (k .left)
         where
-          by : (p : ℕ) → parts + at ≤ p + n → Comes D (level W inner (suc j) at) (chain W p (suc j) (level W inner j) a n) → Left (joined n a b) at to
-          by zero r l = absurd (omega arith)
+          by : (p : ℕ) → parts + at ≤ p + n → Comes D T (level W inner (suc j) at) (chain W p (suc j) (level W inner j) a n) → Left (joined n a b) at to
+          by zero r l = record { p = parts; room = omega arith; left = and-then l (too-long n (long n (omega arith) (omega arith)) refl) }
           by (suc p) r l =
               record {
                 p = p;
@@ -147,25 +147,25 @@ module _ (W : ℕ → ℕ) where
                 left = and-then l (when-true (eqb (levelOf (W n)) (suc j)) _ _ (eq-eqb _ _ o) (bind-got (level W inner j (n + 1)) _ (b, to) h (when-false (eqb (suc j) relations) _ _ (ne-eqb _ _ f) done)));
               }
 
-      left-done : (e : Expr) (at to : ℕ) → Left e at to → ¬ (levelOf (W to) ≡ suc j) → to ≤ wordLimit → Comes D (level W inner (suc j) at) (got (e, to))
+      left-done : (e : Expr) (at to : ℕ) → Left e at to → ¬ (levelOf (W to) ≡ suc j) → to ≤ top → Comes D T (level W inner (suc j) at) (got (e, to))
       unfolding chain
       left-done e at to k f w = by (k .p) (k .room) (k .left)
         where
-          by : (p : ℕ) → parts + at ≤ p + to → Comes D (level W inner (suc j) at) (chain W p (suc j) (level W inner j) e to) → Comes D (level W inner (suc j) at) (got (e, to))
-          by zero r l = absurd (omega arith)
+          by : (p : ℕ) → parts + at ≤ p + to → Comes D T (level W inner (suc j) at) (chain W p (suc j) (level W inner j) e to) → Comes D T (level W inner (suc j) at) (got (e, to))
+          by zero r l = and-then l (too-long to (long to (omega arith) w) refl)
           by (suc p) r l = and-then l (when-false (eqb (levelOf (W to)) (suc j)) _ _ (ne-eqb _ _ f) done)
 
     -- "one relation at most"
-    compared-reads : (inner : Parser Expr) (a b : Expr) (at n to : ℕ) → Left inner sums a at n → levelOf (W n) ≡ relations → n ≤ wordLimit → Comes D (level W inner sums (n + 1)) (got (b, to)) → Comes D (level W inner relations at) (got (joined n a b, to))
+    compared-reads : (inner : Parser Expr) (a b : Expr) (at n to : ℕ) → Left inner sums a at n → levelOf (W n) ≡ relations → n ≤ top → Comes D T (level W inner sums (n + 1)) (got (b, to)) → Comes D T (level W inner relations at) (got (joined n a b, to))
     unfolding chain
     compared-reads inner a b at n to k o w h = by (k .p) (k .room) (k .left)
       where
-        by : (p : ℕ) → parts + at ≤ p + n → Comes D (level W inner relations at) (chain W p relations (level W inner sums) a n) → Comes D (level W inner relations at) (got (joined n a b, to))
-        by zero r l = absurd (omega arith)
+        by : (p : ℕ) → parts + at ≤ p + n → Comes D T (level W inner relations at) (chain W p relations (level W inner sums) a n) → Comes D T (level W inner relations at) (got (joined n a b, to))
+        by zero r l = and-then l (too-long n (long n (omega arith) w) refl)
         by (suc p) r l = and-then l (when-true (eqb (levelOf (W n)) relations) _ _ (eq-eqb _ _ o) (bind-got (level W inner sums (n + 1)) _ (b, to) h done))
 
     -- ---- what is derived is read
-    chain-done : (d j : ℕ) {e : Expr} {at to : ℕ} → Left (exprIn W d) j e at to → to ≤ wordLimit → Ends (suc j) (W to) → Comes D (level W (exprIn W d) (suc j) at) (got (e, to))
+    chain-done : (d j : ℕ) {e : Expr} {at to : ℕ} → Left (exprIn W d) j e at to → to ≤ top → Ends (suc j) (W to) → Comes D T (level W (exprIn W d) (suc j) at) (got (e, to))
     chain-done d j {e} {at} {to} k w f = left-done (exprIn W d) j e at to k (f .loose (suc j) (omega arith) (omega arith)) w
 
     -- it nests no deeper, or D lets it
@@ -180,7 +180,7 @@ module _ (W : ℕ → ℕ) where
     second-of (inl d) = inl d
     second-of (inr h) = inr (h .1)
 
-    whole-done : (d : ℕ) {X : Type 0} {e : Expr} {at to : ℕ} → D ⊎ ((0 < d) × X) → Left (exprIn W (d - 1)) conjunctions e at to → to ≤ wordLimit → Ends disjunctions (W to) → Comes D (exprIn W d at) (got (e, to))
+    whole-done : (d : ℕ) {X : Type 0} {e : Expr} {at to : ℕ} → D ⊎ ((0 < d) × X) → Left (exprIn W (d - 1)) conjunctions e at to → to ≤ top → Ends disjunctions (W to) → Comes D T (exprIn W d at) (got (e, to))
     unfolding exprIn
     whole-done zero {at = at} (inl x) k w f = too-deep (at - 1) x refl
     whole-done zero (inr l) k w f = absurd (omega (arith, l .0))
@@ -199,28 +199,28 @@ module _ (W : ℕ → ℕ) where
     mutual
       unfolding NestsTo level standsBefore operand named indexed inParentheses
 
-      disjunction-left : (d : ℕ) {e : Expr} {at to : ℕ} → DisjunctionAt W e at to → Fits e d → to ≤ wordLimit → Ends conjunctions (W to) → Left (exprIn W d) conjunctions e at to
+      disjunction-left : (d : ℕ) {e : Expr} {at to : ℕ} → DisjunctionAt W e at to → Fits e d → to ≤ top → Ends conjunctions (W to) → Left (exprIn W d) conjunctions e at to
       disjunction-left d {e} {at} {to} (a-conjunction k) l w f = alone-left (exprIn W d) 4 e at to (ne-eqb _ _ (conjunction-opens k)) (conjunction-grows k) (chain-done d 3 (conjunction-left d k l w (ends-lower 3 4 _ (omega arith) f)) w f)
       disjunction-left d {at = at} {to = to} (negated {e = e} i o k) l w f = rw i (covered-left (exprIn W d) 4 e at to (eq-eqb _ _ o) (conjunction-grows k) (chain-done d 3 (conjunction-left d k l w (ends-lower 3 4 _ (omega arith) f)) w f))
       disjunction-left d {at = at} {to = to} (or-xor {a = a} {b = b} {n = n} h o k) l w f =
           joined-left (exprIn W d) 4 a b at n to (disjunction-left d h (first-of l) (omega (arith, conjunction-grows k)) (operator-ends 4 _ o)) o (λ z. omega arith) (conjunction-grows k) w (chain-done d 3 (conjunction-left d k (second-of l) w (ends-lower 3 4 _ (omega arith) f)) w f)
 
-      conjunction-left : (d : ℕ) {e : Expr} {at to : ℕ} → ConjunctionAt W e at to → Fits e d → to ≤ wordLimit → Ends relations (W to) → Left (exprIn W d) relations e at to
+      conjunction-left : (d : ℕ) {e : Expr} {at to : ℕ} → ConjunctionAt W e at to → Fits e d → to ≤ top → Ends relations (W to) → Left (exprIn W d) relations e at to
       conjunction-left d {e} {at} {to} (a-relation k) l w f = alone-left (exprIn W d) 3 e at to refl (relation-grows k) (relation-reads d k l w f)
       conjunction-left d {at = at} {to = to} (and {a = a} {b = b} {n = n} h o k) l w f =
           joined-left (exprIn W d) 3 a b at n to (conjunction-left d h (first-of l) (omega (arith, relation-grows k)) (operator-ends 3 _ o)) o (λ z. omega arith) (relation-grows k) w (relation-reads d k (second-of l) w f)
 
-      relation-reads : (d : ℕ) {e : Expr} {at to : ℕ} → RelationAt W e at to → Fits e d → to ≤ wordLimit → Ends relations (W to) → Comes D (level W (exprIn W d) relations at) (got (e, to))
+      relation-reads : (d : ℕ) {e : Expr} {at to : ℕ} → RelationAt W e at to → Fits e d → to ≤ top → Ends relations (W to) → Comes D T (level W (exprIn W d) relations at) (got (e, to))
       relation-reads d {e} {at} {to} (a-sum k) l w f =
           let g = ends-lower 2 3 _ (omega arith) f in
           chain-done d 2 (alone-left (exprIn W d) 2 e at to refl (sum-grows k) (chain-done d 1 (sum-left d k l w (ends-lower 1 2 _ (omega arith) g)) w g)) w f
       relation-reads d {at = at} {to = to} (compared {a = a} {b = b} {n = n} h o k) l w f =
-          let v : n ≤ wordLimit = omega (arith, sum-grows k) in
+          let v : n ≤ top = omega (arith, sum-grows k) in
           let g = operator-ends 2 _ o in
           let q = ends-lower 2 3 _ (omega arith) f in
           compared-reads (exprIn W d) a b at n to (alone-left (exprIn W d) 2 a at n refl (sum-grows h) (chain-done d 1 (sum-left d h (first-of l) v (ends-lower 1 2 _ (omega arith) g)) v g)) o v (chain-done d 1 (sum-left d k (second-of l) w (ends-lower 1 2 _ (omega arith) q)) w q)
 
-      sum-left : (d : ℕ) {e : Expr} {at to : ℕ} → SumAt W e at to → Fits e d → to ≤ wordLimit → Ends products (W to) → Left (exprIn W d) products e at to
+      sum-left : (d : ℕ) {e : Expr} {at to : ℕ} → SumAt W e at to → Fits e d → to ≤ top → Ends products (W to) → Left (exprIn W d) products e at to
       sum-left d {e} {at} {to} (a-product k) l w f =
           alone-left (exprIn W d) 1 e at to (rw (ne-eqb _ _ (product-opens k .no-plus)) (ne-eqb _ _ (product-opens k .no-minus))) (product-grows k) (chain-done d 0 (product-left d k l w (ends-lower 0 1 _ (omega arith) f)) w f)
       sum-left d {at = at} {to = to} (with-sign {e = e} i (inl o) k) l w f = rw i (covered-left (exprIn W d) 1 e at to (rw o) (product-grows k) (chain-done d 0 (product-left d k l w (ends-lower 0 1 _ (omega arith) f)) w f))
@@ -228,12 +228,12 @@ module _ (W : ℕ → ℕ) where
       sum-left d {at = at} {to = to} (plus-minus {a = a} {b = b} {n = n} h o k) l w f =
           joined-left (exprIn W d) 1 a b at n to (sum-left d h (first-of l) (omega (arith, product-grows k)) (operator-ends 1 _ o)) o (λ z. omega arith) (product-grows k) w (chain-done d 0 (product-left d k (second-of l) w (ends-lower 0 1 _ (omega arith) f)) w f)
 
-      product-left : (d : ℕ) {e : Expr} {at to : ℕ} → ProductAt W e at to → Fits e d → to ≤ wordLimit → Ends 0 (W to) → Left (exprIn W d) 0 e at to
+      product-left : (d : ℕ) {e : Expr} {at to : ℕ} → ProductAt W e at to → Fits e d → to ≤ top → Ends 0 (W to) → Left (exprIn W d) 0 e at to
       product-left d {e} {at} {to} (an-operand k) l w f = alone-left (exprIn W d) 0 e at to refl (operand-grows k) (operand-reads d k l w f)
       product-left d {at = at} {to = to} (times-div-mod {a = a} {b = b} {n = n} h o k) l w f =
           joined-left (exprIn W d) 0 a b at n to (product-left d h (first-of l) (omega (arith, operand-grows k)) (operator-ends 0 _ o)) o (λ z. omega arith) (operand-grows k) w (operand-reads d k (second-of l) w f)
 
-      operand-reads : (d : ℕ) {e : Expr} {at to : ℕ} → OperandAt W e at to → Fits e d → to ≤ wordLimit → Ends 0 (W to) → Comes D (level W (exprIn W d) 0 at) (got (e, to))
+      operand-reads : (d : ℕ) {e : Expr} {at to : ℕ} → OperandAt W e at to → Fits e d → to ≤ top → Ends 0 (W to) → Comes D T (level W (exprIn W d) 0 at) (got (e, to))
       operand-reads d {at = at} {to = to} (a-literal i l z) n w f =
           let q = not-paren-name _ l in
           if-false (eqb (W at) openParen) _ _ (ne-eqb _ _ (q .0)) (if-false (eqb (W at) NAME) _ _ (ne-eqb _ _ (q .1)) (if-true (isLiteral (W at)) _ _ l (rw (i, z) done)))
@@ -249,5 +249,5 @@ module _ (W : ℕ → ℕ) where
           expect-on W closeParen n (n + 1) _ refl c (rw (i, z) done)))
 
     -- what the grammar derives, within the limits if D is nothing
-    pub derived-reads : (d at : ℕ) (e : Expr) (to : ℕ) → DisjunctionAt W e at to → D ⊎ ((0 < d) × NestsTo e (d - 1)) → to ≤ wordLimit → Ends disjunctions (W to) → Comes D (exprIn W d at) (got (e, to))
+    pub derived-reads : (d at : ℕ) (e : Expr) (to : ℕ) → DisjunctionAt W e at to → D ⊎ ((0 < d) × NestsTo e (d - 1)) → to ≤ top → Ends disjunctions (W to) → Comes D T (exprIn W d at) (got (e, to))
     derived-reads d at e to h l w f = whole-done d l (disjunction-left (d - 1) h (second-of l) w (ends-lower 4 5 _ (omega arith) f)) w f

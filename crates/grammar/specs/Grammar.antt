@@ -1,4 +1,5 @@
 -- The paper, "Form of a module": the grammar. Expressions are derived here, a level at a time; with them the relation of Form is the grammar of modules.
+-- proofs/Grammar has what it is for: the parser gives a tree exactly where the words are that module, and what it refuses with 8 begins no module.
 use mathlib.Core.Path.{_≡_}
 use mathlib.Core.Bool.{true}
 use mathlib.Core.Logic.{_⊎_}
@@ -63,7 +64,7 @@ pub record Derives (W : ℕ → ℕ) (d at : ℕ) (e : Expr) (to : ℕ) : Type 0
   pub nests : NestsTo e (d - 1)
 
 -- ---- modules
--- "a text of more than 8,192 words" is refused before its form is judged: past the last word there is nothing.
+-- "7: more than 8,192 words" is judged before the form: past that many words there is nothing.
 abbrev pub Short : (W : ℕ → ℕ) → Type 0
 Short W = (i : ℕ) → wordLimit ≤ i → W i ≡ NOTHING
 
