@@ -32,8 +32,8 @@ pub agrees-changed : (code mid after : List ℕ) (i last link : ℕ) → ((k : �
 agrees-changed code mid after i last link below s = record {
   heads = λ j l. s .others (j * 2) (λ e. omega arith) ∙ below (j * 2) (omega arith);
   places = λ j l. by-same j last
-  (λ e. subst (λ (k : ℕ). placeAt (wordsOf after) k ≡ placeAt (wordsOf code) k) (sym e) (s .place-is ∙ ap placeIn (below (last * 2 + 1) (omega arith))))
-  (λ d. ap placeIn (s .others (j * 2 + 1) (λ e. d (omega arith)) ∙ below (j * 2 + 1) (omega arith)));
+      (λ e. subst (λ (k : ℕ). placeAt (wordsOf after) k ≡ placeAt (wordsOf code) k) (sym e) (s .place-is ∙ ap placeIn (below (last * 2 + 1) (omega arith))))
+      (λ d. ap placeIn (s .others (j * 2 + 1) (λ e. d (omega arith)) ∙ below (j * 2 + 1) (omega arith)));
   links = λ j l d. ap linkIn (s .others (j * 2 + 1) (λ e. d (omega arith)) ∙ below (j * 2 + 1) (omega arith));
 }
 
@@ -119,6 +119,7 @@ module _ (routine : ℕ → ℕ) (W : List Word) (s : Site) (C E : List ℕ) (i 
   keeps-name : (n : ℕ) → Settled i last n → KeepsName routine W s C n → KeepsName routine W s E n
   keeps-name n q k =
       record {
+        near = k .near;
         name = k .name;
         keeps = record {
           number = a .links n (q .below) (q .apart) ∙ k .keeps .number;

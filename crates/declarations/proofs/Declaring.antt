@@ -199,6 +199,7 @@ module _ {code values : List ℕ} {own limit used i : ℕ} (b : Begins code valu
         let k = declare-keeps (b .routine) (b .W) (scopesOf (b .W) (b .s) (b .D)) (scopesOf (b .W) (b .s) (b .D)) (i + 2) (b .stands .name) mid values code₂ values₂ _ room (made .declared) number (b .filled .means) in
         let o = keeps-outer (b .routine) (b .W) (b .s) (b .D .names) (wordsOf code₂) (i + 2) (not-among (map textOf (b .D .names)) (spelled (b .W) (i + 2)) free) k in
         record {
+          near = let l = b .loaded .last in omega (arith, far, l);
           name = b .stands .name;
           keeps = keeps-same (b .routine) (b .W) (outerOf (b .W) (b .s)) (wordsOf code₂) (wordsOf code′) (i + 2)
               (start-same ((i + 2) * 2) (λ e. omega arith) (λ e. omega arith)) (start-same ((i + 2) * 2 + 1) (λ e. omega arith) (λ e. omega arith)) o;

@@ -125,6 +125,7 @@ module _ {code values : List ℕ} {used i : ℕ} (b : ParameterBegins code value
       used-is = refl;
       filled = now-filled;
       keeps = record {
+        near = omega (arith, parameter-near);
         name = b .stands .name;
         keeps = keeps-outer (b .routine) (b .W) (aRoutine (b .m)) (b .D .names) (wordsOf code′) (i + 1) (not-among (map textOf (b .D .names)) (spelled (b .W) (i + 1)) free)
             (declare-keeps (b .routine) (b .W) (scopesOf (b .W) (aRoutine (b .m)) (b .D)) (scopesOf (b .W) (aRoutine (b .m)) (b .D)) (i + 1) (b .stands .name) code values code′ mid _ room (made .declared) number-here (b .filled .means));
@@ -201,19 +202,19 @@ module _ (code values : List ℕ) (at s : ℕ) (s-is : s ≡ opAt (wordsOf code)
   unfolding SaysParameters KeepsAll nameWords parameterFaults declareParameters
   parameters-none h = record {
     is = λ b.
-      let n = closed-none (sortIn (b .W)) (ParameterAt (sortIn (b .W)) (Parses (sortIn (b .W)))) (b .stand) (sort-at b ∙ h) in
-      let G = filling (b .W) (aRoutine (b .m)) in
-      let e : parametersAfter b ≡ noData = ap (λ (ps : List Parameter). declareParameters (b .W) G ps noData) (n .0) in
-      record {
-        none = ap (λ (ps : List Parameter). parameterFaults (b .W) G ps noData) (n .0);
-        next-is = sym (n .1);
-        used-is = sym (ap length (n .0));
-        words-are = ap (λ (D : Data). D .words) e ∙ ap (λ (ps : List Parameter). replicate (length ps) (pos 0)) (sym (n .0));
-        filled = subst (λ (D : Data). Filled (b .W) (b .routine) (aRoutine (b .m)) D values) (sym e) (b .filled);
-        keeps = tt;
-        covers = λ u q. ap (λ (D : Data). isAmong (map textOf (D .names)) u) e ∙ q;
-        others = record { is = λ k d. refl };
-      };
+        let n = closed-none (sortIn (b .W)) (ParameterAt (sortIn (b .W)) (Parses (sortIn (b .W)))) (b .stand) (sort-at b ∙ h) in
+        let G = filling (b .W) (aRoutine (b .m)) in
+        let e : parametersAfter b ≡ noData = ap (λ (ps : List Parameter). declareParameters (b .W) G ps noData) (n .0) in
+        record {
+          none = ap (λ (ps : List Parameter). parameterFaults (b .W) G ps noData) (n .0);
+          next-is = sym (n .1);
+          used-is = sym (ap length (n .0));
+          words-are = ap (λ (D : Data). D .words) e ∙ ap (λ (ps : List Parameter). replicate (length ps) (pos 0)) (sym (n .0));
+          filled = subst (λ (D : Data). Filled (b .W) (b .routine) (aRoutine (b .m)) D values) (sym e) (b .filled);
+          keeps = tt;
+          covers = λ u q. ap (λ (D : Data). isAmong (map textOf (D .names)) u) e ∙ q;
+          others = record { is = λ k d. refl };
+        };
   }
 
   pub parameters-begun : (s ≡ 7 → ⊥) → ParametersWalk code values at code values at 0

@@ -136,6 +136,7 @@ module _ {code₀ values₀ : List ℕ} {head used₀ at : ℕ} (b : RoutineStan
 
     name-kept : KeepsName (b .routine) (b .W) (aRoutine (b .m)) (wordsOf code′) (i + 2)
     name-kept = record {
+      near = g .keeps .near;
       name = g .keeps .name;
       keeps = keeps-same (b .routine) (b .W) (outerOf (b .W) (aRoutine (b .m))) (wordsOf mid) (wordsOf code′) (i + 2) (stays ((i + 2) * 2) (omega arith)) (stays ((i + 2) * 2 + 1) (omega arith)) (g .keeps .keeps);
     }
@@ -166,8 +167,8 @@ module _ {code₀ values₀ : List ℕ} {head used₀ at : ℕ} (b : RoutineStan
           (keeps-more (b .routine) (b .W) (aRoutine (b .m)) (wordsOf code) (wordsOf code′) i last (agrees-changed code mid code′ i last i (g .changed .below) s) (map nameOf (h .done)) (i + 2) (h .settled) (h .keeps) name-kept);
       covers = covers-more;
       below = λ k l d. by-same last head
-      (λ e. s .others k (λ q. d (omega (arith, q, e))) ∙ g .changed .below k (omega (arith, l, begun)) ∙ h .below k l d)
-      (λ e. let f = last-new e in s .others k (λ q. omega (arith, q, l, f)) ∙ g .changed .below k (omega (arith, l, begun)) ∙ h .below k l d);
+          (λ e. s .others k (λ q. d (omega (arith, q, e))) ∙ g .changed .below k (omega (arith, l, begun)) ∙ h .below k l d)
+          (λ e. let f = last-new e in s .others k (λ q. omega (arith, q, l, f)) ∙ g .changed .below k (omega (arith, l, begun)) ∙ h .below k l d);
       place-is = agrees-changed code mid code′ i last i (g .changed .below) s .places head (omega (arith, b .before, begun)) ∙ h .place-is;
       above = λ k l. beyond k (omega (arith, l, g .next-is)) ∙ h .above k (omega (arith, l, gap));
     }
@@ -205,8 +206,8 @@ module _ {code₀ values₀ : List ℕ} {head used₀ at : ℕ} (b : RoutineStan
           is = λ u p q. ap (λ (D : Data). isAmong (map textOf (D .names)) u) e ∙ h .covers u p (subst (λ (l : List ℕ). isAmong (map (spelled (b .W)) (map nameOf l)) u ≡ false) all-done q);
         };
         below = λ k l d. by-same last head
-        (λ y. s .others k (λ q. d (omega (arith, q, y))) ∙ h .below k l d)
-        (λ y. let f = last-new y in s .others k (λ q. omega (arith, q, l, f)) ∙ h .below k l d);
+            (λ y. s .others k (λ q. d (omega (arith, q, y))) ∙ h .below k l d)
+            (λ y. let f = last-new y in s .others k (λ q. omega (arith, q, l, f)) ∙ h .below k l d);
         place-is = same .places head (omega (arith, b .before, begun)) ∙ h .place-is;
         above = λ k l. s .others k (λ q. omega (arith, q, l, last-before, done-at (h .walk) stops)) ∙ h .above k (omega (arith, l, done-at (h .walk) stops));
       }

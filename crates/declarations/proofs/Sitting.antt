@@ -44,7 +44,7 @@ among-here : (text : Text) (l : List Text) → isAmong (text ∷ l) text ≡ tru
 unfolding isAmong
 among-here text l = rw (texts-same text text refl, isAmong)
 
-among-further : (text u : Text) (l : List Text) → equalTexts text u ≡ false → isAmong (text ∷ l) u ≡ isAmong l u
+pub among-further : (text u : Text) (l : List Text) → equalTexts text u ≡ false → isAmong (text ∷ l) u ≡ isAmong l u
 unfolding isAmong
 among-further text u l h = rw (h, isAmong)
 

@@ -31,6 +31,7 @@ outerOf W s = filling W s .scopesWith []
 
 -- Word i is a name's, and keeps what its name meant outside.
 pub record KeepsName (routine : ℕ → ℕ) (W : List Word) (s : Site) (C : List ℕ) (i : ℕ) : Type 0 where
+  pub near : i < wordLimit
   pub name : IsName W i
   pub keeps : Keeps routine W (outerOf W s) C i
 
