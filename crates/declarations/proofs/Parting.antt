@@ -1,22 +1,22 @@
 -- Leaving a routine: what its names mean again.
 use mathlib.Core.Path.{_≡_, refl, sym, ap, subst, _∙_}
-use mathlib.Core.Bool.{Bool, true, false}
-use mathlib.Core.List.{List, [], _∷_, _++_, map, append-assoc}
-use Prim.Native.Nat.{ℕ, zero, suc, _+_, _-_, _*_, _/_, _%_, _<_, _≤_}
+use mathlib.Core.Bool.{true, false}
+use mathlib.Core.List.{List, [], _∷_, _++_, map}
+use Prim.Native.Nat.{ℕ, zero, suc, _+_, _-_, _*_, _<_, _≤_}
 use native.Mathlib.Omega.{arith}
 use lib.Dec.{eqb}
 use lib.ListN.{length, getD}
 use borrow.Author.Tests.{eq-eqb, ne-eqb}
-use Rattle.laws.proofs.Tests.{test, by-same}
+use Rattle.laws.proofs.Tests.{test}
 use Rattle.paper.specs.Sorts.{equalTexts}
 use Rattle.paper.specs.Words.{Word, wordLimit}
-use Rattle.paper.specs.Names.{Text, Scopes, spelled, isAmong, meaning}
+use Rattle.paper.specs.Names.{Text, spelled, isAmong, meaning}
 use Rattle.cells.specs.Words.{wordsOf}
 use Rattle.cells.proofs.Kept.{put-length, put-same, put-other}
 use Rattle.code.specs.Cells.{opAt, headAt, linkAt}
 use Rattle.code.specs.Steps.{aDatum}
 use Rattle.names.specs.Numbers.{numberOf, IsName}
-use Rattle.names.specs.Meanings.{meaningIn, isProtected, protectsCell, firstMeaning, cellFor, Means, Keeps}
+use Rattle.names.specs.Meanings.{meaningIn, isProtected, protectsCell, firstMeaning, cellFor}
 use Rattle.names.specs.Promises.{storeBytes, Left, Links}
 use Rattle.names.proofs.Spellings.{same-texts, differing, number-most, numbers-same, spellings-same}
 use Rattle.declarations.specs.Sites.{Site}

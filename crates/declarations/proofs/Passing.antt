@@ -1,28 +1,26 @@
 -- The parameters of a routine.
-use mathlib.Core.Path.{_≡_, refl, sym, ap, ap₂, subst, _∙_}
+use mathlib.Core.Path.{_≡_, refl, sym, ap, subst, _∙_}
 use mathlib.Core.Bool.{Bool, true, false}
-use mathlib.Core.List.{List, [], _∷_, _++_, map, append-assoc}
-use Prim.Native.Nat.{ℕ, zero, suc, _+_, _-_, _*_, _/_, _%_, _<_, _≤_}
+use mathlib.Core.List.{List, [], _∷_, _++_, map}
+use Prim.Native.Nat.{ℕ, zero, suc, _+_, _-_, _*_, _/_, _<_, _≤_}
 use native.Mathlib.Omega.{arith}
-use lib.ListN.{length, getD, replicate, length-append, length-replicate, replicate-append-replicate}
+use lib.ListN.{length, getD, replicate, length-replicate, replicate-append-replicate}
 use lib.IntN.{ℤ, pos}
 use mir.Syntax.{w32}
 use mir.Val.{toZ}
-use Rattle.laws.proofs.Tests.{by-same, by-less}
-use Rattle.paper.specs.Words.{Word}
-use Rattle.paper.specs.Terms.{Ref}
-use Rattle.paper.specs.Trees.{Parameter, Module}
-use Rattle.paper.specs.Names.{DataType, Meaning, variable, Text, Names, textOf, sortIn, spelled, isAmong, cannotDeclare, declare, typeOf}
+use Rattle.laws.proofs.Tests.{by-same}
+use Rattle.paper.specs.Trees.{Parameter}
+use Rattle.paper.specs.Names.{DataType, variable, Text, textOf, sortIn, spelled, isAmong, cannotDeclare, typeOf}
 use Rattle.paper.specs.Types.{Fault}
-use Rattle.paper.specs.Declarations.{Data, noData, Filling, crosses, declareName, declareParameters, routineFilling}
+use Rattle.paper.specs.Declarations.{Data, noData, Filling, declareName, declareParameters}
 use Rattle.cells.specs.Words.{wordsOf}
-use Rattle.code.specs.Cells.{opIn, placeIn, linkIn, opAt, headAt, tailAt}
+use Rattle.code.specs.Cells.{opIn, placeIn, linkIn, opAt}
 use Rattle.names.specs.Numbers.{numberOf}
-use Rattle.names.specs.Meanings.{typeWith, refWith, meaningWith, meaningIn, protectsCell}
+use Rattle.names.specs.Meanings.{typeWith, refWith, meaningWith, meaningIn}
 use Rattle.names.specs.Promises.{numberAt}
 use Rattle.names.proofs.Tables.{meaning-with, declare-keeps}
 use Rattle.names.proofs.Rewriting.{rewritten-other}
-use Rattle.grammar.specs.Form.{Parses, SeparatedAt, ParameterAt, ParametersAt}
+use Rattle.grammar.specs.Form.{Parses, SeparatedAt, ParameterAt}
 use Rattle.grammar.proofs.Inversions.{FirstOf, separated-first, closed-none, closed-some}
 use Rattle.grammar.proofs.Places.{separated-grows, closed-grows, parameter-grows}
 use Rattle.faults.specs.First.{First}
@@ -34,8 +32,8 @@ use Rattle.expressions.proofs.Starts.{loaded-part}
 use Rattle.declarations.specs.declared.Walked.{Walked}
 use Rattle.declarations.specs.declared.Walked.the-variants.{Upto, Faulty}
 use Rattle.declarations.specs.Sites.{aRoutine, filling, ownOf, scopesOf, Owns, Placed, owned, Filled}
-use Rattle.declarations.specs.Answers.{outerOf, KeepsName, KeepsAll, OtherWords, nameWords, ParametersStand, parametersAfter, ParametersFilled, SaysParameters, DeclaresParameters}
-use Rattle.declarations.specs.Parts.{TypeBit, baseOf, Fills, Taken, Makes, ParameterBegins, parameterAfter, ParameterGoes, SaysParameter, DeclaresParameter}
+use Rattle.declarations.specs.Answers.{KeepsAll, OtherWords, nameWords, ParametersStand, parametersAfter, ParametersFilled, SaysParameters, DeclaresParameters}
+use Rattle.declarations.specs.Parts.{baseOf, Fills, Taken, Makes, ParameterBegins, parameterAfter, ParameterGoes, SaysParameter, DeclaresParameter}
 use Rattle.declarations.proofs.Sitting.{site-ref, own-here, among-new, used-most, filled-on}
 use Rattle.declarations.proofs.Declaring.{data-plain, keeps-outer, not-among}
 use Rattle.declarations.proofs.Contents.{crossing, not-crossing}

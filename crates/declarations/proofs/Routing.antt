@@ -2,7 +2,7 @@
 use mathlib.Core.Path.{_≡_, refl, sym, ap, ap₂, subst, _∙_}
 use mathlib.Core.Bool.{Bool, true, false}
 use mathlib.Core.List.{List, [], _∷_, _++_, map, append-assoc}
-use Prim.Native.Nat.{ℕ, suc, _+_, _-_, _*_, _/_, _%_, _<_, _≤_}
+use Prim.Native.Nat.{ℕ, _+_, _-_, _*_, _/_, _<_, _≤_}
 use native.Mathlib.Omega.{arith}
 use lib.ListN.{length, getD, replicate}
 use lib.IntN.{ℤ, pos, _-ℤ_}
@@ -10,24 +10,23 @@ use Rattle.laws.proofs.Tests.{by-same}
 use Rattle.paper.specs.Words.{Word}
 use Rattle.paper.specs.Trees.{Declared, Module}
 use Rattle.paper.specs.Expressions.{startsData}
-use Rattle.paper.specs.Names.{Text, Names, textOf, sortIn, spelled, isAmong, typeOf}
-use Rattle.paper.specs.Declarations.{Data, declareContent, routineFilling}
+use Rattle.paper.specs.Names.{Text, textOf, sortIn, spelled, isAmong, typeOf}
+use Rattle.paper.specs.Declarations.{Data, routineFilling}
 use Rattle.cells.specs.Words.{wordsOf}
-use Rattle.code.specs.Cells.{opIn, placeIn, linkIn, opAt, valueAt, placeAt, linkAt}
+use Rattle.code.specs.Cells.{opIn, placeIn, opAt, valueAt, placeAt, linkAt}
 use Rattle.code.specs.Spans.{bias}
-use Rattle.code.specs.Steps.{constantAt, aDatum}
-use Rattle.faults.specs.First.{First}
+use Rattle.code.specs.Steps.{constantAt}
 use Rattle.declarations.specs.declared.Walked.{Walked}
 use Rattle.declarations.specs.declared.Walked.the-variants.{Upto, Faulty}
 use Rattle.declarations.specs.Sites.{aRoutine, filling, ownOf, Filled}
 use Rattle.declarations.specs.Chains.{Leads, lastOf, startsIn, Rise}
-use Rattle.declarations.specs.Answers.{outerOf, KeepsName, KeepsAll, Begins, after, faultsOf, Goes, Says, Declares, firstOf, nameOf, RoutineStands, routineAfter, RoutineFilled, SaysRoutine, DeclaresRoutine}
+use Rattle.declarations.specs.Answers.{outerOf, KeepsName, KeepsAll, Begins, after, Goes, Declares, firstOf, nameOf, RoutineStands, RoutineFilled, SaysRoutine, DeclaresRoutine}
 use Rattle.declarations.specs.Parts.{Near, SetLink}
 use Rattle.expressions.proofs.Judging.{append-none}
-use Rattle.declarations.proofs.Declaring.{contentMeaning, content-shape, keeps-same}
+use Rattle.declarations.proofs.Declaring.{content-shape, keeps-same}
 use Rattle.declarations.proofs.Contents.{near, far}
-use Rattle.declarations.proofs.Walking.{Walk, on, walk-room, walk-near, sort-here, next, next-on, next-grows, walk-begins, walk-found, walk-on, done-none, done-is, done-at, done-rest, says-goes, says-faulty}
-use Rattle.declarations.proofs.Chaining.{Agrees, agrees-changed, rise-more, rise-last, last-is, leads-kept, leads-more, starts-kept, starts-append, Settled, Each, settled-more, keeps-kept, keeps-more, among-append, among-declared, map-append}
+use Rattle.declarations.proofs.Walking.{Walk, walk-room, walk-near, sort-here, next, next-on, next-grows, walk-begins, walk-found, walk-on, done-none, done-is, done-at, done-rest, says-goes, says-faulty}
+use Rattle.declarations.proofs.Chaining.{Agrees, agrees-changed, rise-more, last-is, leads-kept, leads-more, starts-kept, starts-append, Settled, Each, settled-more, keeps-kept, keeps-more, among-append, among-declared, map-append}
 
 -- ---- how far the chain has come
 pub record Chained {code₀ values₀ : List ℕ} {head used₀ at : ℕ} (b : RoutineStands code₀ values₀ head used₀ at) (code values : List ℕ) (i used last : ℕ) : Type 0 where

@@ -1,28 +1,25 @@
 -- Sorts, numbers and cells: from what the code tests and writes to what is said of it.
 use mathlib.Core.Path.{_≡_, refl, sym, ap, subst, _∙_}
-use mathlib.Core.Bool.{Bool, true, false, _||_}
+use mathlib.Core.Bool.{true}
 use mathlib.Core.List.{List}
-use Prim.Native.Nat.{ℕ, suc, _+_, _-_, _*_, _/_, _%_, _<_, _≤_}
+use Prim.Native.Nat.{ℕ, suc, _+_, _-_, _*_, _%_, _<_, _≤_}
 use native.Mathlib.Omega.{arith}
 use lib.Dec.{T, eqb}
 use lib.ListN.{length, getD}
-use lib.IntN.{ℤ, pos, negsuc, natAbs, subℕ, _+ℤ_, _-ℤ_, pos-+ℤ-pos, +ℤ-negℤ-cancel}
-use lib.Signed.{ltZ, nonNeg}
+use lib.IntN.{ℤ, pos, negsuc, natAbs, _+ℤ_, _-ℤ_, pos-+ℤ-pos, +ℤ-negℤ-cancel}
+use lib.Signed.{nonNeg}
 use mir.Syntax.{w32, w64}
 use mir.Val.{Fits, SFits, toZ, ofZ}
 use mir.Facts.{toZ-ofZ}
-use borrow.Author.Tests.{ltb-false, eq-eqb, ne-eqb}
-use Rattle.laws.proofs.Tests.{by-same, by-less}
-use Rattle.paper.specs.Basics.{if_then_else_}
-use Rattle.paper.specs.Sorts.{NUM, CONST, VAR}
+use borrow.Author.Tests.{ltb-false, ne-eqb}
+use Rattle.laws.proofs.Tests.{by-same}
 use Rattle.paper.specs.Numbers.{num}
 use Rattle.paper.specs.Names.{typeOf}
 use Rattle.paper.specs.Expressions.{startsData}
 use Rattle.cells.specs.Words.{wordsOf, Got, Put}
 use Rattle.cells.proofs.Kept.{put-length, put-same, put-other}
-use Rattle.code.specs.Cells.{headAt, tailAt, opIn, valueIn, placeIn, linkIn, opAt, valueAt, placeAt, linkAt}
+use Rattle.code.specs.Cells.{headAt, opIn, valueIn, placeIn, linkIn, opAt}
 use Rattle.code.specs.Spans.{bias}
-use Rattle.names.specs.Meanings.{typeWith}
 use Rattle.names.specs.Promises as names
 use Rattle.numbers.proofs.Whole.{read, sub-cases}
 use Rattle.numbers.proofs.Complement.{widened}
