@@ -2,10 +2,9 @@
 use mathlib.Core.Path.{_≡_}
 use mathlib.Core.Bool.{Bool, false}
 use mathlib.Core.List.{List, []}
-use mathlib.Core.Option.{Option}
 use Prim.Native.Nat.{ℕ, _+_, _<_, _≤_}
 use lib.ListN.{getD}
-use lib.IntN.{ℤ}
+use lib.IntN.{ℤ, pos, _-ℤ_}
 use lib.Signed.{ltZ}
 use mir.Syntax.{w32}
 use mir.Val.{toZ}
@@ -18,6 +17,7 @@ use Rattle.paper.specs.Names.{DataType, aNum, Meaning, unknown, variable, array
 use Rattle.paper.specs.Types.{constantFaults, constantValue, sizeOf, raisesError, isNoSize, elementLimit}
 use Rattle.cells.specs.Words.{wordsOf}
 use Rattle.code.specs.Cells.{firstWindow, errnoCell}
+use Rattle.code.specs.Spans.{bias}
 use Rattle.evaluation.specs.Answers.{callWords, firstNegative}
 use Rattle.faults.specs.First.{First}
 use Rattle.expressions.specs.Known.{largest, InRoom}
@@ -37,6 +37,11 @@ cellOf (ofRoutine k) = firstWindow + k
 pub record InNum (z : ℤ) : Type 0 where
   pub low : ltZ z (num .low) ≡ false
   pub high : ltZ (num .high) z ≡ false
+
+-- a number as a head has it
+pub record HeldAs (v : ℤ) (r : ℕ) : Type 0 where
+  pub small : r < 16777216
+  pub is : pos r -ℤ pos bias ≡ v
 
 -- A word of the module, which has m, or of the routine, which has n: its cell has what the paper reads there, which is in num. `X` is the value store's cells.
 pub record Worth (m n : ℕ) (X : List ℕ) (M : Memory) (r : Ref) : Type 0 where

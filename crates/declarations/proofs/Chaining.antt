@@ -1,26 +1,25 @@
 -- The chain of a routine's data, as it grows and as it stays.
 use mathlib.Core.Path.{_≡_, refl, sym, ap, ap₂, subst, _∙_}
-use mathlib.Core.Bool.{Bool, true, false}
+use mathlib.Core.Bool.{true, false}
 use mathlib.Core.List.{List, [], _∷_, _++_, map, append-assoc}
-use Prim.Native.Nat.{ℕ, suc, _+_, _-_, _*_, _/_, _%_, _<_, _≤_}
+use Prim.Native.Nat.{ℕ, _+_, _*_, _/_, _<_, _≤_}
 use native.Mathlib.Omega.{arith}
 use lib.ListN.{length, getD, replicate}
 use lib.IntN.{ℤ, pos, _-ℤ_}
 use Rattle.laws.proofs.Tests.{test, apart, by-same}
 use Rattle.paper.specs.Sorts.{equalTexts}
 use Rattle.paper.specs.Words.{Word}
-use Rattle.paper.specs.Names.{Meaning, Text, Names, textOf, spelled, isAmong, cannotDeclare, declare}
-use Rattle.code.specs.Cells.{opIn, placeIn, linkIn, headAt, tailAt, opAt, valueAt, placeAt, linkAt}
+use Rattle.paper.specs.Names.{Meaning, Text, Names, textOf, isAmong, cannotDeclare, declare}
+use Rattle.code.specs.Cells.{opIn, placeIn, linkIn, headAt, opAt, valueAt, placeAt, linkAt}
 use Rattle.code.specs.Spans.{bias}
 use Rattle.code.specs.Steps.{constantAt, aDatum}
 use Rattle.cells.specs.Words.{wordsOf}
-use Rattle.names.specs.Meanings.{meaningIn, protectsCell, Keeps}
+use Rattle.names.specs.Meanings.{meaningIn, protectsCell}
 use Rattle.expressions.proofs.Judging.{append-none}
 use Rattle.declarations.specs.Sites.{Site}
-use Rattle.declarations.specs.Chains.{Changed, Leads, lastOf, startsIn, Rise}
-use Rattle.declarations.specs.Answers.{KeepsName, KeepsAll, nameOf, outerOf}
+use Rattle.declarations.specs.Chains.{Leads, lastOf, startsIn, Rise}
+use Rattle.declarations.specs.Answers.{KeepsName, KeepsAll}
 use Rattle.declarations.specs.Parts.{SetLink}
-use Rattle.declarations.proofs.Declaring.{keeps-same}
 
 -- ---- words that stay but for one link
 pub record Agrees (C E : List ℕ) (i last : ℕ) : Type 0 where
@@ -32,8 +31,8 @@ pub agrees-changed : (code mid after : List ℕ) (i last link : ℕ) → ((k : �
 agrees-changed code mid after i last link below s = record {
   heads = λ j l. s .others (j * 2) (λ e. omega arith) ∙ below (j * 2) (omega arith);
   places = λ j l. by-same j last
-  (λ e. subst (λ (k : ℕ). placeAt (wordsOf after) k ≡ placeAt (wordsOf code) k) (sym e) (s .place-is ∙ ap placeIn (below (last * 2 + 1) (omega arith))))
-  (λ d. ap placeIn (s .others (j * 2 + 1) (λ e. d (omega arith)) ∙ below (j * 2 + 1) (omega arith)));
+      (λ e. subst (λ (k : ℕ). placeAt (wordsOf after) k ≡ placeAt (wordsOf code) k) (sym e) (s .place-is ∙ ap placeIn (below (last * 2 + 1) (omega arith))))
+      (λ d. ap placeIn (s .others (j * 2 + 1) (λ e. d (omega arith)) ∙ below (j * 2 + 1) (omega arith)));
   links = λ j l d. ap linkIn (s .others (j * 2 + 1) (λ e. d (omega arith)) ∙ below (j * 2 + 1) (omega arith));
 }
 
@@ -119,6 +118,7 @@ module _ (routine : ℕ → ℕ) (W : List Word) (s : Site) (C E : List ℕ) (i 
   keeps-name : (n : ℕ) → Settled i last n → KeepsName routine W s C n → KeepsName routine W s E n
   keeps-name n q k =
       record {
+        near = k .near;
         name = k .name;
         keeps = record {
           number = a .links n (q .below) (q .apart) ∙ k .keeps .number;

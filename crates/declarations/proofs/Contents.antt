@@ -2,57 +2,42 @@
 use mathlib.Core.Path.{_≡_, refl, sym, ap, subst, _∙_}
 use mathlib.Core.Bool.{Bool, true, false}
 use mathlib.Core.List.{List, [], _∷_, _++_, map}
-use Prim.Native.Nat.{ℕ, suc, _+_, _-_, _*_, _/_, _%_, _<_, _≤_}
+use Prim.Native.Nat.{ℕ, suc, _+_, _*_, _/_, _%_, _<_, _≤_}
 use native.Mathlib.Omega.{arith}
-use lib.Dec.{eqb, ltb}
-use lib.ListN.{length, getD, replicate, length-replicate}
-use lib.IntN.{ℤ, pos, _-ℤ_}
-use mir.Syntax.{w32, w64}
-use mir.Val.{toZ, ofZ}
-use mir.Facts.{toZ-ofZ}
+use lib.ListN.{length, replicate, length-replicate}
+use lib.IntN.{pos}
 use borrow.Author.Tests.{lt-ltb, le-ltb}
-use Rattle.laws.proofs.Tests.{test, apart, by-same}
-use Rattle.paper.specs.Basics.{if_then_else_}
-use Rattle.paper.specs.Sorts.{becomes, semicolon, openBrace, closeBrace, CONST, VAR}
-use Rattle.paper.specs.Words.{Word, wordLimit}
-use Rattle.paper.specs.Terms.{Ref, Memory, load}
-use Rattle.paper.specs.Trees.{Expr, Content, variableData, initialData, arrayData, constantData, Declared}
+use Rattle.paper.specs.Words.{Word}
+use Rattle.paper.specs.Terms.{Ref, Memory}
+use Rattle.paper.specs.Trees.{Expr, Content}
 use Rattle.paper.specs.Expressions.{nestings, levelOf}
-use Rattle.paper.specs.Names.{DataType, aNum, Meaning, variable, array, constant, typeOf, Text, textOf, Scopes, sortIn, spelled, cannotDeclare}
-use Rattle.paper.specs.Types.{Fault, constantFaults, constantValue, sizeOf, raisesError, isNoSize}
-use Rattle.paper.specs.Declarations.{Data, Filling, crosses}
+use Rattle.paper.specs.Names.{DataType, aNum, array, typeOf, textOf, Scopes, sortIn, spelled, cannotDeclare}
+use Rattle.paper.specs.Types.{Fault, constantFaults, sizeOf, isNoSize}
+use Rattle.paper.specs.Declarations.{Filling, crosses}
 use Rattle.cells.specs.Words.{wordsOf}
 use Rattle.code.specs.Cells.{opAt}
-use Rattle.code.specs.Spans.{bias}
-use Rattle.names.specs.Meanings.{cellWith, typeWith, refWith, meaningWith, meaningIn}
+use Rattle.names.specs.Meanings.{typeWith, refWith, meaningWith, meaningIn}
 use Rattle.names.proofs.Tables.{meaning-with}
-use Rattle.numbers.proofs.Whole.{read}
-use Rattle.grammar.specs.Form.{Parses, DeclaredAt, ContentAt}
-use Rattle.grammar.proofs.Inversions.{HasContent, Sized, content-initial, content-sized, content-none, content-const, content-constant, content-becomes}
+use Rattle.grammar.specs.Form.{Parses}
+use Rattle.grammar.proofs.Inversions.{Sized, content-sized}
 use Rattle.grammar.proofs.Places.{content-grows}
 use Rattle.faults.specs.First.{First, no-fault}
-use Rattle.faults.specs.Added.{nameFaults, contentWords, contentFaults, declaredFaults}
+use Rattle.faults.specs.Added.{contentWords, contentFaults, declaredFaults}
 use Rattle.faults.proofs.Expressions.{grows}
 use Rattle.faults.proofs.First.{every-one, nothing-in-both}
 use Rattle.faults.proofs.Declarations.{name-taken, name-crosses, name-fits, found-in-name, found-in-content}
-use Rattle.expressions.specs.Known.{Loaded}
-use Rattle.expressions.specs.Answers.{Kept, typeIf}
+use Rattle.expressions.specs.Answers.{Kept}
 use Rattle.expressions.proofs.Keeping.{cell-below, cell-above}
-use Rattle.expressions.proofs.Leaves.{type-with}
-use Rattle.constants.specs.declared.Valued.{Valued}
-use Rattle.constants.specs.declared.Valued.the-variants as values-of
 use Rattle.constants.specs.declared.Sized.the-variants as sizes-of
 use Rattle.constants.specs.declared.Sized.{Sized as Size}
-use Rattle.constants.specs.Answers.{InNum, Asks, Values, Sizes, Right, Counted}
+use Rattle.constants.specs.Answers.{Asks, Sizes, Counted}
 use Rattle.constants.specs.Answers as constants
-use Rattle.constants.proofs.Terms.{in-num-small}
 use Rattle.declarations.specs.declared.Walked.{Walked}
 use Rattle.declarations.specs.declared.Walked.the-variants.{Upto, Faulty}
-use Rattle.declarations.specs.Sites.{Site, filling, ownOf, scopesOf, memoryOf, Elements, Steady, Placed, isOwn, owned, Owns, Filled}
-use Rattle.declarations.specs.Answers.{Begins, Free, after, faultsOf, Goes, Says, Declares}
-use Rattle.declarations.specs.Parts.{Near, Taken, TypeBit, scalarOp, HeldAs, Makes, Starts, DeclaresFree}
-use Rattle.declarations.proofs.Words.{in-num-32, in-num-64}
-use Rattle.declarations.proofs.Sitting.{site-ref, own-small, own-here, among-new, load-new, limit-most, used-most}
+use Rattle.declarations.specs.Sites.{filling, ownOf, scopesOf, memoryOf, Placed, owned, Owns}
+use Rattle.declarations.specs.Answers.{Begins, Free, after, faultsOf, Says, Declares}
+use Rattle.declarations.specs.Parts.{Near, Taken, Makes, Starts, DeclaresFree}
+use Rattle.declarations.proofs.Sitting.{site-ref, own-small, own-here, among-new, limit-most, used-most}
 use Rattle.declarations.proofs.Declaring.{asks-of, contentMeaning, content-used, Around, name-keeps, words-changed, words-written, now-filled}
 
 -- ---- limits

@@ -1,50 +1,45 @@
 -- One declaration: what it asks of the crates below, and what it makes known.
 use mathlib.Core.Path.{_≡_, refl, sym, ap, subst, _∙_}
-use mathlib.Core.Bool.{Bool, true, false}
+use mathlib.Core.Bool.{true, false}
 use mathlib.Core.List.{List, [], _∷_, _++_, map}
 use Prim.Native.Nat.{ℕ, suc, _+_, _-_, _*_, _/_, _%_, _<_, _≤_}
 use native.Mathlib.Omega.{arith}
-use lib.Dec.{eqb, ltb}
 use lib.ListN.{length, getD, replicate, length-append, length-replicate, getD-replicate}
 use lib.IntN.{ℤ, pos, _-ℤ_}
 use mir.Syntax.{w32}
 use mir.Val.{toZ}
-use borrow.Author.Tests.{lt-leb, ne-eqb, lt-ltb, le-ltb}
-use Rattle.laws.proofs.Tests.{test, apart, by-less, by-same}
-use Rattle.paper.specs.Basics.{if_then_else_}
+use borrow.Author.Tests.{lt-leb}
+use Rattle.laws.proofs.Tests.{test, apart, by-same}
 use Rattle.paper.specs.Sorts.{equalTexts}
-use Rattle.paper.specs.Words.{Word, wordLimit}
-use Rattle.paper.specs.Terms.{Ref, ofModule, ofRoutine, Memory, load}
-use Rattle.paper.specs.Trees.{Expr, Content, variableData, initialData, arrayData, constantData, Declared}
-use Rattle.paper.specs.Expressions.{got, nestings, disjunctions, level, levelOf, exprIn}
+use Rattle.paper.specs.Words.{Word}
+use Rattle.paper.specs.Terms.{Ref, Memory}
+use Rattle.paper.specs.Trees.{Expr, Content, variableData, initialData, arrayData, constantData}
+use Rattle.paper.specs.Expressions.{nestings, levelOf}
 use Rattle.paper.specs.Names.{DataType, Meaning, unknown, variable, array, constant, loop, theRoutine, theErrno, errorNumber, typeOf, Text, Names, textOf, Scopes, sortIn, spelled, isAmong, lookIn, protected, meaning, cannotDeclare, declare}
-use Rattle.paper.specs.Types.{Fault, sizeOf}
-use Rattle.paper.specs.Declarations.{Data, Filling, crosses, declareName, declareContent, moduleFilling, routineFilling}
+use Rattle.paper.specs.Types.{sizeOf}
+use Rattle.paper.specs.Declarations.{Data, Filling, declareName, declareContent, moduleFilling, routineFilling}
 use Rattle.cells.specs.Words.{wordsOf}
-use Rattle.code.specs.Cells.{opIn, headAt, tailAt, opAt, valueAt, placeAt, linkAt, linkIn}
+use Rattle.code.specs.Cells.{opIn, opAt, placeAt, linkIn}
 use Rattle.code.specs.Spans.{bias}
-use Rattle.code.specs.Steps.{constantAt, aDatum}
+use Rattle.code.specs.Steps.{constantAt}
 use Rattle.climb.proofs.Operands.{deeper}
-use Rattle.names.specs.Numbers.{numberOf, IsName}
-use Rattle.names.specs.Meanings.{cellWith, typeWith, refWith, meaningWith, meaningIn, isProtected, protectsCell, firstMeaning, Means, Keeps}
+use Rattle.names.specs.Numbers.{numberOf}
+use Rattle.names.specs.Meanings.{typeWith, meaningIn, isProtected, protectsCell, Keeps}
 use Rattle.names.specs.Promises.{numberAt}
-use Rattle.names.specs.Promises as names
-use Rattle.names.proofs.Tables.{meaning-with, declare-keeps}
+use Rattle.names.proofs.Tables.{declare-keeps}
 use Rattle.names.proofs.Rewriting.{rewritten-other}
-use Rattle.grammar.specs.Form.{Parses, DeclaredAt, ContentAt}
+use Rattle.grammar.specs.Form.{Parses}
 use Rattle.grammar.proofs.Places.{content-grows}
 use Rattle.faults.specs.Added.{contentWords}
-use Rattle.faults.proofs.Expressions.{spans, grows}
-use Rattle.evaluation.specs.Answers.{callWords}
-use Rattle.expressions.specs.Known.{Fresh, Loaded, largest, InRoom, Within, Known}
-use Rattle.expressions.specs.Answers.{Stands}
+use Rattle.faults.proofs.Expressions.{grows}
+use Rattle.expressions.specs.Known.{Loaded, Within, Known}
 use Rattle.expressions.proofs.Starts.{loaded-part}
-use Rattle.constants.specs.Answers.{cellOf, InNum, Worth, Fine, Asks}
-use Rattle.declarations.specs.Sites.{Site, theModule, aRoutine, filling, ownOf, scopesOf, memoryOf, Among, Elements, Steady, Placed, isOwn, owned, Owns, Filled}
+use Rattle.constants.specs.Answers.{Fine, Asks}
+use Rattle.declarations.specs.Sites.{Site, theModule, aRoutine, filling, ownOf, scopesOf, memoryOf, Placed, owned, Filled}
 use Rattle.declarations.specs.Chains.{Changed}
 use Rattle.declarations.specs.Answers.{outerOf, KeepsName, Begins, Free, after, Written}
-use Rattle.declarations.specs.Parts.{TypeBit, baseOf, Fills, SetDatum, Makes, Starts}
-use Rattle.declarations.proofs.Sitting.{may-declare, site-ref, own-small, own-here, among-new, load-new, limit-most, used-most, filled-on}
+use Rattle.declarations.specs.Parts.{baseOf, Fills, Makes, Starts}
+use Rattle.declarations.proofs.Sitting.{may-declare, own-small, filled-on}
 
 -- ---- what expressions know
 pub placed-within : (M : Memory) (a : Meaning) → Placed M a → Within (length (M .module-words)) (length (M .routine-words)) a
@@ -199,6 +194,7 @@ module _ {code values : List ℕ} {own limit used i : ℕ} (b : Begins code valu
         let k = declare-keeps (b .routine) (b .W) (scopesOf (b .W) (b .s) (b .D)) (scopesOf (b .W) (b .s) (b .D)) (i + 2) (b .stands .name) mid values code₂ values₂ _ room (made .declared) number (b .filled .means) in
         let o = keeps-outer (b .routine) (b .W) (b .s) (b .D .names) (wordsOf code₂) (i + 2) (not-among (map textOf (b .D .names)) (spelled (b .W) (i + 2)) free) k in
         record {
+          near = let l = b .loaded .last in omega (arith, far, l);
           name = b .stands .name;
           keeps = keeps-same (b .routine) (b .W) (outerOf (b .W) (b .s)) (wordsOf code₂) (wordsOf code′) (i + 2)
               (start-same ((i + 2) * 2) (λ e. omega arith) (λ e. omega arith)) (start-same ((i + 2) * 2 + 1) (λ e. omega arith) (λ e. omega arith)) o;

@@ -8,3 +8,4 @@ pub mod Walking
 pub mod Chaining
 pub mod Routing
 pub mod Passing
+pub mod Parting

@@ -2,7 +2,7 @@
 use mathlib.Core.Path.{_≡_, refl, sym, ap, ap₂, subst, _∙_}
 use mathlib.Core.Bool.{Bool, true, false}
 use mathlib.Core.List.{List, [], _∷_, _++_, map, append-assoc}
-use Prim.Native.Nat.{ℕ, suc, _+_, _-_, _*_, _/_, _%_, _<_, _≤_}
+use Prim.Native.Nat.{ℕ, _+_, _-_, _*_, _/_, _<_, _≤_}
 use native.Mathlib.Omega.{arith}
 use lib.ListN.{length, getD, replicate}
 use lib.IntN.{ℤ, pos, _-ℤ_}
@@ -10,24 +10,23 @@ use Rattle.laws.proofs.Tests.{by-same}
 use Rattle.paper.specs.Words.{Word}
 use Rattle.paper.specs.Trees.{Declared, Module}
 use Rattle.paper.specs.Expressions.{startsData}
-use Rattle.paper.specs.Names.{Text, Names, textOf, sortIn, spelled, isAmong, typeOf}
-use Rattle.paper.specs.Declarations.{Data, declareContent, routineFilling}
+use Rattle.paper.specs.Names.{Text, textOf, sortIn, spelled, isAmong, typeOf}
+use Rattle.paper.specs.Declarations.{Data, routineFilling}
 use Rattle.cells.specs.Words.{wordsOf}
-use Rattle.code.specs.Cells.{opIn, placeIn, linkIn, opAt, valueAt, placeAt, linkAt}
+use Rattle.code.specs.Cells.{opIn, placeIn, opAt, valueAt, placeAt, linkAt}
 use Rattle.code.specs.Spans.{bias}
-use Rattle.code.specs.Steps.{constantAt, aDatum}
-use Rattle.faults.specs.First.{First}
+use Rattle.code.specs.Steps.{constantAt}
 use Rattle.declarations.specs.declared.Walked.{Walked}
 use Rattle.declarations.specs.declared.Walked.the-variants.{Upto, Faulty}
 use Rattle.declarations.specs.Sites.{aRoutine, filling, ownOf, Filled}
 use Rattle.declarations.specs.Chains.{Leads, lastOf, startsIn, Rise}
-use Rattle.declarations.specs.Answers.{outerOf, KeepsName, KeepsAll, Begins, after, faultsOf, Goes, Says, Declares, firstOf, nameOf, RoutineStands, routineAfter, RoutineFilled, SaysRoutine, DeclaresRoutine}
+use Rattle.declarations.specs.Answers.{outerOf, KeepsName, KeepsAll, Begins, after, Goes, Declares, firstOf, nameOf, RoutineStands, RoutineFilled, SaysRoutine, DeclaresRoutine}
 use Rattle.declarations.specs.Parts.{Near, SetLink}
 use Rattle.expressions.proofs.Judging.{append-none}
-use Rattle.declarations.proofs.Declaring.{contentMeaning, content-shape, keeps-same}
+use Rattle.declarations.proofs.Declaring.{content-shape, keeps-same}
 use Rattle.declarations.proofs.Contents.{near, far}
-use Rattle.declarations.proofs.Walking.{Walk, on, walk-room, walk-near, sort-here, next, next-on, next-grows, walk-begins, walk-found, walk-on, done-none, done-is, done-at, done-rest, says-goes, says-faulty}
-use Rattle.declarations.proofs.Chaining.{Agrees, agrees-changed, rise-more, rise-last, last-is, leads-kept, leads-more, starts-kept, starts-append, Settled, Each, settled-more, keeps-kept, keeps-more, among-append, among-declared, map-append}
+use Rattle.declarations.proofs.Walking.{Walk, walk-room, walk-near, sort-here, next, next-on, next-grows, walk-begins, walk-found, walk-on, done-none, done-is, done-at, done-rest, says-goes, says-faulty}
+use Rattle.declarations.proofs.Chaining.{Agrees, agrees-changed, rise-more, last-is, leads-kept, leads-more, starts-kept, starts-append, Settled, Each, settled-more, keeps-kept, keeps-more, among-append, among-declared, map-append}
 
 -- ---- how far the chain has come
 pub record Chained {code₀ values₀ : List ℕ} {head used₀ at : ℕ} (b : RoutineStands code₀ values₀ head used₀ at) (code values : List ℕ) (i used last : ℕ) : Type 0 where
@@ -136,6 +135,7 @@ module _ {code₀ values₀ : List ℕ} {head used₀ at : ℕ} (b : RoutineStan
 
     name-kept : KeepsName (b .routine) (b .W) (aRoutine (b .m)) (wordsOf code′) (i + 2)
     name-kept = record {
+      near = g .keeps .near;
       name = g .keeps .name;
       keeps = keeps-same (b .routine) (b .W) (outerOf (b .W) (aRoutine (b .m))) (wordsOf mid) (wordsOf code′) (i + 2) (stays ((i + 2) * 2) (omega arith)) (stays ((i + 2) * 2 + 1) (omega arith)) (g .keeps .keeps);
     }
@@ -166,8 +166,8 @@ module _ {code₀ values₀ : List ℕ} {head used₀ at : ℕ} (b : RoutineStan
           (keeps-more (b .routine) (b .W) (aRoutine (b .m)) (wordsOf code) (wordsOf code′) i last (agrees-changed code mid code′ i last i (g .changed .below) s) (map nameOf (h .done)) (i + 2) (h .settled) (h .keeps) name-kept);
       covers = covers-more;
       below = λ k l d. by-same last head
-      (λ e. s .others k (λ q. d (omega (arith, q, e))) ∙ g .changed .below k (omega (arith, l, begun)) ∙ h .below k l d)
-      (λ e. let f = last-new e in s .others k (λ q. omega (arith, q, l, f)) ∙ g .changed .below k (omega (arith, l, begun)) ∙ h .below k l d);
+          (λ e. s .others k (λ q. d (omega (arith, q, e))) ∙ g .changed .below k (omega (arith, l, begun)) ∙ h .below k l d)
+          (λ e. let f = last-new e in s .others k (λ q. omega (arith, q, l, f)) ∙ g .changed .below k (omega (arith, l, begun)) ∙ h .below k l d);
       place-is = agrees-changed code mid code′ i last i (g .changed .below) s .places head (omega (arith, b .before, begun)) ∙ h .place-is;
       above = λ k l. beyond k (omega (arith, l, g .next-is)) ∙ h .above k (omega (arith, l, gap));
     }
@@ -205,8 +205,8 @@ module _ {code₀ values₀ : List ℕ} {head used₀ at : ℕ} (b : RoutineStan
           is = λ u p q. ap (λ (D : Data). isAmong (map textOf (D .names)) u) e ∙ h .covers u p (subst (λ (l : List ℕ). isAmong (map (spelled (b .W)) (map nameOf l)) u ≡ false) all-done q);
         };
         below = λ k l d. by-same last head
-        (λ y. s .others k (λ q. d (omega (arith, q, y))) ∙ h .below k l d)
-        (λ y. let f = last-new y in s .others k (λ q. omega (arith, q, l, f)) ∙ h .below k l d);
+            (λ y. s .others k (λ q. d (omega (arith, q, y))) ∙ h .below k l d)
+            (λ y. let f = last-new y in s .others k (λ q. omega (arith, q, l, f)) ∙ h .below k l d);
         place-is = same .places head (omega (arith, b .before, begun)) ∙ h .place-is;
         above = λ k l. s .others k (λ q. omega (arith, q, l, last-before, done-at (h .walk) stops)) ∙ h .above k (omega (arith, l, done-at (h .walk) stops));
       }

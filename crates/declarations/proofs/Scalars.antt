@@ -1,25 +1,24 @@
 -- Scalars: with a value, or with none.
 use mathlib.Core.Path.{_≡_, refl, sym, ap, subst, _∙_}
-use mathlib.Core.Bool.{Bool, true, false}
-use mathlib.Core.List.{List, [], _∷_, _++_, map}
-use Prim.Native.Nat.{ℕ, suc, _+_, _-_, _*_, _/_, _%_, _<_, _≤_}
+use mathlib.Core.Bool.{true}
+use mathlib.Core.List.{List, [], _∷_, _++_}
+use Prim.Native.Nat.{ℕ, suc, _+_, _*_, _<_, _≤_}
 use native.Mathlib.Omega.{arith}
-use lib.Dec.{eqb, ltb}
-use lib.ListN.{length, getD, replicate}
+use lib.Dec.{eqb}
+use lib.ListN.{length, getD}
 use lib.IntN.{ℤ, pos, _-ℤ_}
-use mir.Syntax.{w32, w64}
+use mir.Syntax.{w32}
 use mir.Val.{toZ, ofZ}
 use mir.Facts.{toZ-ofZ}
 use borrow.Author.Tests.{ne-eqb}
-use Rattle.laws.proofs.Tests.{test, apart, by-same}
+use Rattle.laws.proofs.Tests.{test, by-same}
 use Rattle.paper.specs.Basics.{if_then_else_}
-use Rattle.paper.specs.Sorts.{becomes, semicolon, openBrace, CONST, VAR}
-use Rattle.paper.specs.Words.{Word, wordLimit}
+use Rattle.paper.specs.Words.{Word}
 use Rattle.paper.specs.Terms.{Ref, Memory, load}
-use Rattle.paper.specs.Trees.{Expr, Content, variableData, initialData, arrayData, constantData}
+use Rattle.paper.specs.Trees.{Expr, Content}
 use Rattle.paper.specs.Expressions.{nestings, levelOf}
 use Rattle.paper.specs.Names.{DataType, Meaning, variable, constant, typeOf, Scopes, sortIn}
-use Rattle.paper.specs.Types.{Fault, constantFaults, constantValue, raisesError}
+use Rattle.paper.specs.Types.{constantFaults, constantValue, raisesError}
 use Rattle.paper.specs.Declarations.{Data, Filling}
 use Rattle.cells.specs.Words.{wordsOf}
 use Rattle.code.specs.Cells.{opAt}
@@ -36,18 +35,18 @@ use Rattle.expressions.proofs.Keeping.{kept-same}
 use Rattle.expressions.proofs.Leaves.{type-with}
 use Rattle.constants.specs.declared.Valued.{Valued}
 use Rattle.constants.specs.declared.Valued.the-variants as values-of
-use Rattle.constants.specs.Answers.{InNum, Asks, Values, Right}
+use Rattle.constants.specs.Answers.{InNum, Asks, Values}
 use Rattle.constants.specs.Answers as constants
 use Rattle.constants.proofs.Terms.{in-num-small}
 use Rattle.declarations.specs.declared.Walked.{Walked}
 use Rattle.declarations.specs.declared.Walked.the-variants.{Upto, Faulty}
-use Rattle.declarations.specs.Sites.{filling, ownOf, scopesOf, memoryOf, Steady, Placed, owned}
-use Rattle.declarations.specs.Answers.{Begins, Free, after, faultsOf, Goes, Says}
-use Rattle.declarations.specs.Parts.{TypeBit, scalarOp, HeldAs, Makes, Starts, FitValue, Fit, PlacedValue, PlacedAs, Placing, DeclaresFree}
+use Rattle.declarations.specs.Sites.{ownOf, scopesOf, memoryOf, Placed, owned}
+use Rattle.declarations.specs.Answers.{Begins, Free, after, Goes, Says}
+use Rattle.declarations.specs.Parts.{TypeBit, scalarOp, HeldAs, Makes, Starts, FitValue, Fit, PlacedAs, Placing, DeclaresFree}
 use Rattle.declarations.proofs.Words.{in-num-32, in-num-64}
 use Rattle.declarations.proofs.Sitting.{own-here, among-new, load-new}
 use Rattle.declarations.proofs.Declaring.{asks-of, contentMeaning, content-used, Around, name-keeps, words-changed, words-written, now-filled}
-use Rattle.declarations.proofs.Contents.{F, type, content, far, room-left, near, sort-is, opens-is, ref-is, clean, in-content, too-many, around-kept}
+use Rattle.declarations.proofs.Contents.{F, type, content, far, near, sort-is, opens-is, ref-is, clean, in-content, too-many, around-kept}
 
 -- ---- meanings
 unfoldable scalarMeaning : (op : ℕ) → DataType → Ref → Meaning

@@ -1,34 +1,32 @@
 -- The two sites: what one more name changes in them, and what stays.
 use mathlib.Core.Path.{_≡_, refl, sym, ap, subst, _∙_}
-use mathlib.Core.Bool.{Bool, true, false, _||_}
-use mathlib.Core.List.{List, [], _∷_, _++_, map}
-use Prim.Native.Nat.{ℕ, _+_, _-_, _*_, _/_, _%_, _<_, _≤_}
+use mathlib.Core.Bool.{true, false}
+use mathlib.Core.List.{List, _∷_, _++_, map}
+use Prim.Native.Nat.{ℕ, _+_, _-_, _*_, _<_, _≤_}
 use native.Mathlib.Omega.{arith}
-use lib.Dec.{eqb}
 use lib.ListN.{length, getD, length-append, List·getD-append}
 use lib.Seq.{getD-append-add}
 use lib.IntN.{ℤ, pos}
 use mir.Syntax.{w32}
 use mir.Val.{toZ}
 use Rattle.laws.proofs.Tests.{test, apart, by-less}
-use Rattle.paper.specs.Basics.{if_then_else_}
 use Rattle.paper.specs.Sorts.{equalTexts}
 use Rattle.paper.specs.Words.{Word}
-use Rattle.paper.specs.Terms.{Ref, ofModule, ofRoutine, Memory, load}
-use Rattle.paper.specs.Names.{Meaning, unknown, variable, array, constant, loop, theRoutine, theErrno, errorNumber, Text, Names, textOf, Scopes, sortIn, spelled, isAmong, meaning, cannotDeclare, declare}
+use Rattle.paper.specs.Terms.{Ref, ofModule, ofRoutine, load}
+use Rattle.paper.specs.Names.{Meaning, unknown, variable, array, constant, loop, theRoutine, theErrno, errorNumber, Text, Names, textOf, Scopes, spelled, isAmong, meaning, cannotDeclare, declare}
 use Rattle.paper.specs.Types.{Fault}
-use Rattle.paper.specs.Declarations.{Data, Filling, moduleFilling, routineFilling}
+use Rattle.paper.specs.Declarations.{Data, moduleFilling, routineFilling}
 use Rattle.cells.specs.Words.{wordsOf}
 use Rattle.cells.proofs.Kept.{put-length, put-other}
 use Rattle.names.specs.Numbers.{numberOf, IsName}
-use Rattle.names.specs.Meanings.{refWith, meaningIn, isProtected, protectsCell, firstMeaning, cellFor, Means, Hides}
-use Rattle.names.specs.Promises.{storeBytes, numberAt}
+use Rattle.names.specs.Meanings.{refWith, meaningIn, isProtected, protectsCell, firstMeaning, Means, Hides}
+use Rattle.names.specs.Promises.{numberAt}
 use Rattle.names.specs.Promises as names
-use Rattle.names.proofs.Spellings.{same-texts, texts-same, texts-differ, differing}
+use Rattle.names.proofs.Spellings.{same-texts, texts-same, differing}
 use Rattle.names.proofs.Tables.{declare-means, own-hides, globals-hides}
 use Rattle.expressions.specs.Known.{InRoom}
 use Rattle.constants.specs.Answers.{cellOf, InNum}
-use Rattle.declarations.specs.Sites.{Site, theModule, aRoutine, filling, ownOf, scopesOf, memoryOf, Among, Elements, Steady, Placed, isOwn, owned, Owns, Filled}
+use Rattle.declarations.specs.Sites.{Site, theModule, aRoutine, filling, ownOf, Among, Placed, isOwn, owned, Filled}
 use Rattle.declarations.specs.Parts.{baseOf, Fills}
 
 -- ---- names
@@ -44,7 +42,7 @@ among-here : (text : Text) (l : List Text) → isAmong (text ∷ l) text ≡ tru
 unfolding isAmong
 among-here text l = rw (texts-same text text refl, isAmong)
 
-among-further : (text u : Text) (l : List Text) → equalTexts text u ≡ false → isAmong (text ∷ l) u ≡ isAmong l u
+pub among-further : (text u : Text) (l : List Text) → equalTexts text u ≡ false → isAmong (text ∷ l) u ≡ isAmong l u
 unfolding isAmong
 among-further text u l h = rw (h, isAmong)
 

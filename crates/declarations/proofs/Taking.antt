@@ -1,21 +1,20 @@
 -- A name that cannot be declared: what its cell of the table tells.
-use mathlib.Core.Path.{_≡_, refl, sym, ap, subst, _∙_}
-use mathlib.Core.Bool.{Bool, true, false, _||_}
+use mathlib.Core.Path.{_≡_, refl, sym, ap, _∙_}
+use mathlib.Core.Bool.{Bool, true, false}
 use mathlib.Core.List.{List, map}
-use Prim.Native.Nat.{ℕ, _+_, _-_, _*_, _/_, _%_, _<_, _≤_}
+use Prim.Native.Nat.{ℕ, _+_, _/_, _%_, _<_, _≤_}
 use native.Mathlib.Omega.{arith}
 use lib.Dec.{eqb}
 use lib.ListN.{getD}
-use borrow.Author.Tests.{eq-eqb, ne-eqb}
+use borrow.Author.Tests.{ne-eqb}
 use Rattle.laws.proofs.Tests.{by-same, by-last}
-use Rattle.paper.specs.Basics.{if_then_else_}
 use Rattle.paper.specs.Words.{Word}
-use Rattle.paper.specs.Names.{Text, Names, textOf, Scopes, spelled, isAmong, meaning, cannotDeclare}
+use Rattle.paper.specs.Names.{textOf, Scopes, spelled, isAmong, cannotDeclare}
 use Rattle.cells.specs.Words.{wordsOf}
 use Rattle.names.specs.Numbers.{numberOf, IsName}
 use Rattle.names.specs.Meanings.{refWith, meaningWith, meaningIn, isProtected, protectsCell, firstMeaning, cellFor, Means}
 use Rattle.names.specs.Promises.{numberAt, Meant, Protects}
-use Rattle.declarations.specs.Sites.{isOwn, owned, Owns}
+use Rattle.declarations.specs.Sites.{isOwn, owned}
 use Rattle.declarations.specs.Parts.{Taken}
 
 -- ---- whose data a cell means

@@ -1,16 +1,16 @@
 -- A walk over declarations: what is left of them.
 use mathlib.Core.Path.{_≡_, refl, sym, ap, subst, _∙_}
 use mathlib.Core.Bool.{Bool, true, false}
-use mathlib.Core.List.{List, [], _∷_, _++_, map}
-use Prim.Native.Nat.{ℕ, suc, _+_, _-_, _*_, _/_, _%_, _<_, _≤_}
+use mathlib.Core.List.{List, []}
+use Prim.Native.Nat.{ℕ, _+_, _-_, _*_, _%_, _<_, _≤_}
 use native.Mathlib.Omega.{arith}
 use lib.ListN.{length, getD}
-use Rattle.paper.specs.Words.{Word, wordLimit}
+use Rattle.paper.specs.Words.{Word}
 use Rattle.paper.specs.Trees.{Declared}
 use Rattle.paper.specs.Expressions.{startsData}
-use Rattle.paper.specs.Names.{typeOf, sortIn}
+use Rattle.paper.specs.Names.{sortIn}
 use Rattle.paper.specs.Types.{Fault}
-use Rattle.paper.specs.Declarations.{Data, noData, Filling, declareContent, declareData, moduleFilling, routineFilling}
+use Rattle.paper.specs.Declarations.{Data, noData, declareData, moduleFilling}
 use Rattle.cells.specs.Words.{wordsOf}
 use Rattle.code.specs.Cells.{opIn, valueIn, opAt}
 use Rattle.grammar.specs.Form.{Parses, DeclaredAt, DeclarationsAt}
@@ -20,13 +20,12 @@ use Rattle.faults.specs.First.{First}
 use Rattle.faults.specs.Added.{dataFaults}
 use Rattle.faults.proofs.Expressions.{grows}
 use Rattle.faults.proofs.Declarations.{data-on, data-found}
-use Rattle.expressions.specs.Known.{Fresh, Loaded}
+use Rattle.expressions.specs.Known.{Loaded}
 use Rattle.expressions.proofs.Starts.{loaded-part}
 use Rattle.declarations.specs.declared.Walked.{Walked}
 use Rattle.declarations.specs.declared.Walked.the-variants.{Upto, Faulty}
-use Rattle.declarations.specs.Sites.{Site, theModule, aRoutine, filling, ownOf, Filled}
-use Rattle.declarations.specs.Chains.{Changed}
-use Rattle.declarations.specs.Answers.{Begins, after, faultsOf, Goes, Says, Declares, DataStand, ModuleFilled, SaysModule, DeclaresModule}
+use Rattle.declarations.specs.Sites.{Site, theModule, filling, ownOf, Filled}
+use Rattle.declarations.specs.Answers.{Begins, after, faultsOf, Goes, Says, Declares, DataStand, SaysModule, DeclaresModule}
 use Rattle.declarations.specs.Parts.{Near}
 use Rattle.declarations.proofs.Contents.{near}
 

@@ -1,33 +1,31 @@
 -- Sorts, numbers and cells: from what the code tests and writes to what is said of it.
 use mathlib.Core.Path.{_≡_, refl, sym, ap, subst, _∙_}
-use mathlib.Core.Bool.{Bool, true, false, _||_}
+use mathlib.Core.Bool.{true}
 use mathlib.Core.List.{List}
-use Prim.Native.Nat.{ℕ, suc, _+_, _-_, _*_, _/_, _%_, _<_, _≤_}
+use Prim.Native.Nat.{ℕ, suc, _+_, _-_, _*_, _%_, _<_, _≤_}
 use native.Mathlib.Omega.{arith}
 use lib.Dec.{T, eqb}
 use lib.ListN.{length, getD}
-use lib.IntN.{ℤ, pos, negsuc, natAbs, subℕ, _+ℤ_, _-ℤ_, pos-+ℤ-pos, +ℤ-negℤ-cancel}
-use lib.Signed.{ltZ, nonNeg}
+use lib.IntN.{ℤ, pos, negsuc, natAbs, _+ℤ_, _-ℤ_, pos-+ℤ-pos, +ℤ-negℤ-cancel}
+use lib.Signed.{nonNeg}
 use mir.Syntax.{w32, w64}
 use mir.Val.{Fits, SFits, toZ, ofZ}
 use mir.Facts.{toZ-ofZ}
-use borrow.Author.Tests.{ltb-false, eq-eqb, ne-eqb}
-use Rattle.laws.proofs.Tests.{by-same, by-less}
-use Rattle.paper.specs.Basics.{if_then_else_}
-use Rattle.paper.specs.Sorts.{NUM, CONST, VAR}
+use borrow.Author.Tests.{ltb-false, ne-eqb}
+use Rattle.laws.proofs.Tests.{by-same}
 use Rattle.paper.specs.Numbers.{num}
 use Rattle.paper.specs.Names.{typeOf}
 use Rattle.paper.specs.Expressions.{startsData}
 use Rattle.cells.specs.Words.{wordsOf, Got, Put}
 use Rattle.cells.proofs.Kept.{put-length, put-same, put-other}
-use Rattle.code.specs.Cells.{headAt, tailAt, opIn, valueIn, placeIn, linkIn, opAt, valueAt, placeAt, linkAt}
+use Rattle.code.specs.Cells.{headAt, opIn, valueIn, placeIn, linkIn, opAt}
 use Rattle.code.specs.Spans.{bias}
-use Rattle.names.specs.Meanings.{typeWith}
 use Rattle.names.specs.Promises as names
 use Rattle.numbers.proofs.Whole.{read, sub-cases}
 use Rattle.numbers.proofs.Complement.{widened}
 use Rattle.constants.specs.Answers.{InNum}
-use Rattle.declarations.specs.Parts.{TypeBit, scalarOp, baseOf, HeldAs, Fills, SetDatum, SetLink, Makes, Starts}
+pub use Rattle.constants.proofs.Holding.{in-num-32, in-num-64, held-fits, held-cast, held-is}
+use Rattle.declarations.specs.Parts.{TypeBit, scalarOp, baseOf, Fills, SetDatum, SetLink, Makes, Starts}
 
 -- ---- sorts
 pub type-num : (s : ℕ) → s ≡ 89 → TypeBit s 0
@@ -67,51 +65,11 @@ unfolding startsData
 starts-const s h = rw (ne-eqb s 84 h) refl
 
 -- ---- numbers
-pub in-num-32 : (z : ℤ) → InNum z → SFits w32 z
-unfolding num
-in-num-32 (pos n) h = record { sfits = omega (arith, ltb-false 8388608 n (h .high)) }
-in-num-32 (negsuc n) h = record { sfits = omega (arith, ltb-false 8388606 n (h .low)) }
-
-pub in-num-64 : (z : ℤ) → InNum z → SFits w64 z
-in-num-64 z h = widened z (in-num-32 z h)
-
 pub word-cast : (z : ℤ) → InNum z → SFits w32 (read z)
 word-cast z h = subst (SFits w32) (sym (toZ-ofZ (in-num-64 z h))) (in-num-32 z h)
 
 pub word-is : (z : ℤ) (r : ℕ) → InNum z → r ≡ ofZ w32 (toZ w32 (ofZ w32 (read z))) → r ≡ ofZ w32 z
 word-is z r h e = e ∙ ap (ofZ w32) (toZ-ofZ (word-cast z h)) ∙ ap (ofZ w32) (toZ-ofZ (in-num-64 z h))
-
-record Sum (z : ℤ) : Type 0 where
-  k : ℕ
-  is : z +ℤ pos bias ≡ pos k
-  small : k < 16777216
-
-sum-of : (z : ℤ) → InNum z → Sum z
-unfolding num
-sum-of (pos n) h = record { k = n + 8388607; is = pos-+ℤ-pos n 8388607; small = omega (arith, ltb-false 8388608 n (h .high)) }
-sum-of (negsuc n) h =
-    let g = ltb-false 8388606 n (h .low) in
-    record { k = 8388607 - suc n; is = sub-cases (λ z. z ≡ pos (8388607 - suc n)) 8388607 (suc n) (λ l. absurd (omega arith)) (λ l. refl); small = omega arith }
-
-module _ (z : ℤ) (h : InNum z) where
-  sum-read : read z +ℤ pos 8388607 ≡ pos (sum-of z h .k)
-  sum-read = ap (λ (y : ℤ). y +ℤ pos 8388607) (toZ-ofZ (in-num-64 z h)) ∙ sum-of z h .is
-
-  pos-fits : (k : ℕ) → k < 16777216 → SFits w64 (pos k)
-  pos-fits k l = record { sfits = omega arith }
-
-  pub held-fits : SFits w64 (read z +ℤ pos 8388607)
-  held-fits = subst (SFits w64) (sym sum-read) (pos-fits (sum-of z h .k) (sum-of z h .small))
-
-  twice-read : read (read z +ℤ pos 8388607) ≡ pos (sum-of z h .k)
-  twice-read = toZ-ofZ held-fits ∙ sum-read
-
-  pub held-cast : T (nonNeg (read (read z +ℤ pos 8388607))) × Fits w32 (natAbs (read (read z +ℤ pos 8388607)))
-  held-cast = subst (λ (y : ℤ). T (nonNeg y) × Fits w32 (natAbs y)) (sym twice-read) (tt, record { fits = omega (arith, sum-of z h .small) })
-
-  pub held-is : HeldAs z (natAbs (read (read z +ℤ pos 8388607)))
-  held-is = subst (λ (y : ℤ). HeldAs z (natAbs y)) (sym twice-read)
-      (record { small = sum-of z h .small; is = ap (λ (y : ℤ). y -ℤ pos bias) (sym (sum-of z h .is)) ∙ +ℤ-negℤ-cancel z (pos bias) })
 
 -- ---- cells
 pub fills-none : (values : List ℕ) (from v : ℕ) → Fills values values from 0 v

@@ -1,6 +1,6 @@
 -- The parts of the walks over declarations.
 use mathlib.Core.Path.{_≡_}
-use mathlib.Core.Bool.{Bool, false}
+use mathlib.Core.Bool.{Bool}
 use mathlib.Core.List.{List, [], _∷_, _++_, map}
 use Prim.Native.Nat.{ℕ, _+_, _-_, _*_, _<_, _≤_}
 use lib.Dec.{eqb}
@@ -29,6 +29,7 @@ use mir.Val.{ofZ}
 use Rattle.constants.specs.declared.Valued.{Valued}
 use Rattle.constants.specs.declared.Valued.the-variants as values-of
 use Rattle.constants.specs.Answers.{InNum}
+pub use Rattle.constants.specs.Answers.{HeldAs}
 use Rattle.declarations.specs.declared.Walked.{Walked}
 use Rattle.declarations.specs.declared.Walked.the-variants.{Upto, Faulty}
 use Rattle.declarations.specs.Sites.{Site, aRoutine, filling, Owns, Filled}
@@ -48,11 +49,6 @@ scalarOp s = if eqb s CONST then 12 else 4
 -- the cell of a scope's first word
 unfoldable pub baseOf : (own : ℕ) → ℕ
 baseOf own = if eqb own 1 then firstWindow else 0
-
--- a number as a head has it
-pub record HeldAs (v : ℤ) (r : ℕ) : Type 0 where
-  pub small : r < 16777216
-  pub is : pos r -ℤ pos bias ≡ v
 
 -- ---- cells
 -- The cells from `from` on have the word v now, so many of them, and all others are as they were.

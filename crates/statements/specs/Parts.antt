@@ -17,7 +17,7 @@ use Rattle.paper.specs.Declarations.{routineWordLimit, crosses}
 use Rattle.paper.specs.Checks.{forsInList, forsInArms, forsInCases, optionalNum, simpleFaults, caseFaults, listFaults, armFaults, casesFaults}
 use Rattle.cells.specs.Words.{wordsOf}
 use Rattle.code.specs.Cells.{opAt, placeAt, linkAt}
-use Rattle.code.specs.Spans.{bias}
+use Rattle.constants.specs.Answers.{HeldAs}
 use Rattle.code.specs.Steps.{aWhile, aFor, aForTest, aCase, aNextValue, aThen, aDo, aPass, constantAt}
 use Rattle.evaluation.specs.Answers.{callWords}
 use Rattle.names.specs.Meanings.{isProtected}
@@ -247,9 +247,8 @@ pub record Elsed (text code values after values′ : List ℕ) (k : Setting) (us
 
 -- ---- TEST
 -- A head's value that holds a number.
-pub record Held (v : ℤ) (r : ℕ) : Type 0 where
-  pub small : r < 16777216
-  pub is : pos r -ℤ pos bias ≡ v
+abbrev pub Held : (v : ℤ) (r : ℕ) → Type 0
+Held v r = HeldAs v r
 
 -- A value of a CASE behind the one at w, at its comma.
 pub record ChainValue (C : List ℕ) (value : ℤ) (more : ℕ → Type 0) (colon w : ℕ) : Type 0 where
