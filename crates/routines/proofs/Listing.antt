@@ -258,15 +258,16 @@ module _ (text code values : List ℕ) (result taken h at : ℕ) where
               same = both .same ∙ same₁;
             }
 
-
   -- ---- answers
   module _ (code₁ values₁ : List ℕ) (x : Walked) (l : Listed text code values code₁ values₁ (record { result = result; handler = false }) taken at x) where
     pub first-faulty : (number word : ℕ) → x ≡ Faulty number word → parts.Lists text code values code₁ values₁ result taken h at x
     unfolding SaysLists Tell
-    first-faulty number word q = record { is = λ g.
-      subst (SaysLists g code₁ values₁) (sym q)
-      (found-in-body (W g) (m g) (sigs g) (g .k) (s g .stands .form) (s g .none)
-      (subst (First (record { number = number; at = word })) (body-faults g) (answered g code₁ values₁ (Faulty number word) (subst (L g code₁ values₁) q l) .tells))) }
+    first-faulty number word q = record {
+      is = λ g.
+          subst (SaysLists g code₁ values₁) (sym q)
+          (found-in-body (W g) (m g) (sigs g) (g .k) (s g .stands .form) (s g .none)
+          (subst (First (record { number = number; at = word })) (body-faults g) (answered g code₁ values₁ (Faulty number word) (subst (L g code₁ values₁) q l) .tells)));
+    }
 
     module _ (e n : ℕ) (q : x ≡ Upto e n) where
       pub e-room : ListsStand text code values result taken h at → e * 8 + 8 ≤ length code₁
@@ -282,10 +283,12 @@ module _ (text code values : List ℕ) (result taken h at : ℕ) where
         module _ (code₂ values₂ : List ℕ) (y : Walked) (x₂ : Errors text code₁ values₁ code₂ values₂ result n e leads y) where
           pub second-faulty : (number word : ℕ) → y ≡ Faulty number word → parts.Lists text code values code₂ values₂ result taken h at y
           unfolding SaysLists Tell
-          second-faulty number word p = record { is = λ g.
-            let l′ = subst (L g code₁ values₁) q l in
-            let f = second g code₁ values₁ e n l′ leads t code₂ values₂ (Faulty number word) (subst (Errors text code₁ values₁ code₂ values₂ result n e leads) p x₂) in
-            subst (SaysLists g code₂ values₂) (sym p) (found-in-handler (W g) (m g) (sigs g) (g .k) (s g .stands .form) (s g .none) (body-none g code₁ values₁ e n l′ leads t code₂ values₂ y x₂) (f .tells)) }
+          second-faulty number word p = record {
+            is = λ g.
+                let l′ = subst (L g code₁ values₁) q l in
+                let f = second g code₁ values₁ e n l′ leads t code₂ values₂ (Faulty number word) (subst (Errors text code₁ values₁ code₂ values₂ result n e leads) p x₂) in
+                subst (SaysLists g code₂ values₂) (sym p) (found-in-handler (W g) (m g) (sigs g) (g .k) (s g .stands .form) (s g .none) (body-none g code₁ values₁ e n l′ leads t code₂ values₂ y x₂) (f .tells));
+          }
 
           module _ (z used : ℕ) (p : y ≡ Upto z used) where
             pub link-room : ListsStand text code values result taken h at → length code₂ ≡ length code → (h + 1) * 8 + 8 ≤ length code₂
