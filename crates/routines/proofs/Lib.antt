@@ -10,3 +10,4 @@ pub mod Entering
 pub mod Departing
 pub mod Whole
 pub mod Routing
+pub mod Calls
