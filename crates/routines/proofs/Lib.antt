@@ -10,4 +10,3 @@ pub mod Entering
 pub mod Departing
 pub mod Whole
 pub mod Routing
-pub mod Calls

@@ -35,7 +35,8 @@ use Rattle.declarations.specs.Sites.{aRoutine, filling, Filled}
 use Rattle.simple.specs.Around.{offsetIn, resultIf, Tells}
 use Rattle.statements.specs.declared.Walked.{Walked}
 use Rattle.statements.specs.declared.Walked.the-variants.{Upto, Faulty}
-use Rattle.statements.specs.Answers.{Outside, Lists, Listed, Tell, Answer}
+use Rattle.routines.proofs.Filling.{filled-same}
+use Rattle.statements.specs.Answers.{SameValues, Outside, Lists, Listed, Tell, Answer}
 use Rattle.program.specs.Routines as program
 use Rattle.program.specs.Routines.{wordsOfData, wordsInAll, groundFor, RawLines, RawHandler}
 use Rattle.program.proofs.Orders.{lies}
@@ -147,7 +148,7 @@ module _ (text code values : List ℕ) (result taken h at : ℕ) where
       unfolding Tell
       outside₁ = first .outside
 
-      same₁ : values₁ ≡ values
+      same₁ : SameValues values values₁
       unfolding Tell
       same₁ = first .same
 
@@ -157,7 +158,7 @@ module _ (text code values : List ℕ) (result taken h at : ℕ) where
       inside₁ : Inside text values₁ (g .k) h
       inside₁ = record {
         stands = s .stands;
-        filled = subst (Filled W (numbered (headsFor (m .routines))) (aRoutine m) (routineData W m r)) (sym same₁) (s .filled);
+        filled = filled-same W (numbered (headsFor (m .routines))) (aRoutine m) (routineData W m r) values values₁ same₁ (s .filled);
         none = s .none;
         fits = s .fits;
       }
@@ -255,7 +256,7 @@ module _ (text code values : List ℕ) (result taken h at : ℕ) where
               handler = handler;
               below = λ i a d. cell₃ i d ∙ outside₂ .below i (omega (arith, begin-before)) ∙ outside₁ .below i a;
               above = λ i a. cell₃ i (λ w. omega (arith, before-all, begin-before, closes-inside, after-is)) ∙ outside₂ .above i a ∙ outside₁ .above i (omega (arith, closes-inside, after-is));
-              same = both .same ∙ same₁;
+              same = record { words = both .same .words ∙ same₁ .words; long = both .same .long ∙ same₁ .long };
             }
 
   -- ---- answers

@@ -61,6 +61,7 @@ module _ (routine : ℕ → ℕ) (W : List Word) (s : Site) (C D : List ℕ) whe
   keeps-name : (i : ℕ) → headAt D i ≡ headAt C i → tailAt D i ≡ tailAt C i → KeepsName routine W s C i → KeepsName routine W s D i
   keeps-name i h t k = record {
     name = k .name;
+    near = k .near;
     keeps = record {
       number = ap linkIn t ∙ k .keeps .number;
       means = ap (meaningIn routine) h ∙ k .keeps .means;
