@@ -1,18 +1,18 @@
 -- A constant expression without faults holds literals and constants only: what it is worth is in num, and is the same in every memory that holds the constants.
 use mathlib.Core.Path.{_≡_, refl, sym, ap, ap₂, subst, _∙_}
 use mathlib.Core.Bool.{Bool, true, false, not, _||_}
-use mathlib.Core.List.{List, [], _∷_, _++_, map}
+use mathlib.Core.List.{List, [], _∷_, _++_}
 use mathlib.Core.Option.{Option, none, some}
-use Prim.Native.Nat.{ℕ, _+_, _-_, _<_, _≤_}
+use Prim.Native.Nat.{ℕ, _≤_}
 use native.Mathlib.Omega.{arith}
-use lib.Dec.{eqb, ltb}
-use lib.ListN.{getD, take, drop, List·getD-map}
+use lib.Dec.{eqb}
+use lib.ListN.{take, drop, List·getD-map}
 use lib.Seq.{getD-take, getD-drop}
 use lib.IntN.{ℤ, pos, _+ℤ_, _-ℤ_, _*ℤ_}
 use lib.Signed.{ltZ, leZ}
 use mir.Syntax.{w32}
 use mir.Val.{toZ}
-use borrow.Author.Tests.{eqb-true, eqb-false, le-ltb}
+use borrow.Author.Tests.{eqb-true, le-ltb}
 use Rattle.laws.proofs.Tests.{test, apart}
 use Rattle.paper.specs.Basics.{if_then_else_}
 use Rattle.paper.specs.Sorts.{NUMBER, TRUE, FALSE, NOT, plus, minusSign, times, DIV, MOD, AND, OR, equal, unequal, less, lessEqual, greater, greaterEqual}
@@ -20,8 +20,8 @@ use Rattle.paper.specs.Words.{Word}
 use Rattle.paper.specs.Numbers.{num, Value, value, error, ranged, add, subtract, multiply, divide, modulo, minus, isZero, same}
 use Rattle.paper.specs.Terms.{Ref, ofModule, ofRoutine, Term, literal, stored, unary, binary, Memory, load, truth, applied, operated, known, combined, worth}
 use Rattle.paper.specs.Trees.{Expr, leaf, element, nested, signed, joined, first}
-use Rattle.paper.specs.Names.{DataType, aNum, aBool, Meaning, unknown, variable, array, constant, loop, theRoutine, theErrno, errorNumber, arrayIn, wrongName, Text, Scopes, nth, sortIn, spelled, meaning}
-use Rattle.paper.specs.Types.{Fault, fault, faultIf, judged, judgedNothing, wanted, judgeName, judgeElement, judgeJoined, judgeSigned, judgeLeaf, judge}
+use Rattle.paper.specs.Names.{DataType, Meaning, unknown, variable, array, constant, loop, theRoutine, theErrno, errorNumber, arrayIn, Text, Scopes, nth, sortIn, spelled, meaning}
+use Rattle.paper.specs.Types.{Fault, fault, faultIf, judged, judgedNothing, wanted, judgeName, judgeElement, judgeLeaf, judge}
 use Rattle.paper.specs.Types as types
 use Rattle.code.specs.Cells.{firstWindow}
 use Rattle.code.specs.Spans.{memoryIn}

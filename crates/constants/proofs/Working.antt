@@ -1,18 +1,17 @@
 -- From the check of an expression and its evaluation to what a constant expression is worth, and to its faults.
 use mathlib.Core.Path.{_≡_, refl, sym, ap, subst, _∙_}
-use mathlib.Core.Bool.{Bool, true, false, _||_}
-use mathlib.Core.List.{List, [], _∷_, _++_}
+use mathlib.Core.Bool.{Bool, true, false}
+use mathlib.Core.List.{List, [], _∷_}
 use mathlib.Core.Option.{Option, none, some}
-use Prim.Native.Nat.{ℕ, suc, _+_, _-_, _*_, _<_, _≤_}
+use Prim.Native.Nat.{ℕ, suc, _-_, _<_, _≤_}
 use native.Mathlib.Omega.{arith}
-use lib.Dec.{T, ltb}
-use lib.ListN.{length, getD}
+use lib.Dec.{T}
 use lib.IntN.{ℤ, pos, negsuc, natAbs}
 use lib.Signed.{ltZ, nonNeg}
 use mir.Syntax.{w32, w64}
-use mir.Val.{Fits, SFits, toZ, ofZ}
+use mir.Val.{Fits, SFits}
 use mir.Facts.{toZ-ofZ}
-use borrow.Author.Tests.{ltb-true, ltb-false}
+use borrow.Author.Tests.{ltb-false}
 use Rattle.laws.proofs.Tests.{test, apart, false-true}
 use Rattle.paper.specs.Words.{Word}
 use Rattle.paper.specs.Numbers.{num, Value, value, error}
@@ -21,9 +20,8 @@ use Rattle.paper.specs.Trees.{Expr, first}
 use Rattle.paper.specs.Names.{DataType, aNum, Scopes, sortIn}
 use Rattle.paper.specs.Types.{Fault, fault, faultIf, wanted, differs, judge, constantWorth, constantFaults, constantValue, sizeOf, valueOr0, raisesError, isNoSize}
 use Rattle.cells.specs.Words.{wordsOf}
-use Rattle.code.specs.Spans.{termIn, memoryIn}
 use Rattle.climb.proofs.Places.{spans-first, stands}
-use Rattle.evaluation.specs.Answers.{firstError, decoded, Counts, memoryOf, Stores, Evaluated}
+use Rattle.evaluation.specs.Answers.{firstError, decoded, Counts, Stores, Evaluated}
 use Rattle.evaluation.specs.Answers as evaluation
 use Rattle.evaluation.proofs.Numbers.{is-value, is-error}
 use Rattle.numbers.proofs.Whole.{read}
@@ -38,10 +36,9 @@ use Rattle.expressions.proofs.Around.{says-faulty}
 use Rattle.expressions.proofs.Callers.{of-type-typed}
 use Rattle.constants.specs.declared.Valued.{Valued}
 use Rattle.constants.specs.declared.Valued.the-variants as values-of
-use Rattle.constants.specs.declared.Sized.{Sized}
 use Rattle.constants.specs.declared.Sized.the-variants as sizes-of
-use Rattle.constants.specs.Answers.{InNum, Asks, Right, Says, Values, Counted, SaysSize, Sizes}
-use Rattle.constants.proofs.Terms.{none-left, none-right, some-fault, wanted-clean, Held, constantly, constantly-same, constantly-held}
+use Rattle.constants.specs.Answers.{InNum, Asks, Right, Says, Values, SaysSize, Sizes}
+use Rattle.constants.proofs.Terms.{none-left, none-right, some-fault, wanted-clean, constantly, constantly-same, constantly-held}
 
 -- ---- faults that rise
 rising-inside : (low high : ℕ) (l : List Fault) → Rising low high l → Inside low high l

@@ -1,6 +1,6 @@
 -- What walks over declarations promise, and what they ask of the two stores.
 use mathlib.Core.Path.{_≡_}
-use mathlib.Core.Bool.{Bool, true, false}
+use mathlib.Core.Bool.{false}
 use mathlib.Core.List.{List, [], _∷_, _++_, map}
 use Prim.Native.Nat.{ℕ, zero, suc, _+_, _-_, _*_, _/_, _<_, _≤_}
 use lib.ListN.{length, getD, replicate}
@@ -9,20 +9,20 @@ use Rattle.paper.specs.Words.{Word, wordLimit}
 use Rattle.paper.specs.Trees.{Declared, Parameter, Module}
 use Rattle.paper.specs.Names.{typeOf, Text, Names, textOf, Scopes, sortIn, spelled, isAmong, meaning, cannotDeclare}
 use Rattle.paper.specs.Types.{Fault}
-use Rattle.paper.specs.Declarations.{Data, noData, declareContent, declareData, declareName, declareParameters}
+use Rattle.paper.specs.Declarations.{Data, noData, declareContent, declareData, declareParameters}
 use Rattle.cells.specs.Words.{wordsOf}
 use Rattle.code.specs.Cells.{opAt, placeAt}
 use Rattle.code.specs.Steps.{constantAt, aDatum}
 use Rattle.names.specs.Numbers.{IsName}
 use Rattle.names.specs.Meanings.{firstMeaning, isProtected, protectsCell, meaningIn, cellFor, Means, Keeps}
 use Rattle.names.specs.Promises.{storeBytes}
-use Rattle.grammar.specs.Form.{Parses, DeclaredAt, DeclarationsAt, ParameterAt, ParametersAt}
+use Rattle.grammar.specs.Form.{Parses, DeclaredAt, DeclarationsAt, ParametersAt}
 use Rattle.faults.specs.First.{First}
-use Rattle.faults.specs.Added.{nameFaults, declaredFaults, dataFaults, parameterFaults}
+use Rattle.faults.specs.Added.{declaredFaults, dataFaults, parameterFaults}
 use Rattle.expressions.specs.Known.{Loaded}
 use Rattle.declarations.specs.declared.Walked.{Walked}
 use Rattle.declarations.specs.declared.Walked.the-variants.{Upto, Faulty}
-use Rattle.declarations.specs.Sites.{Site, theModule, aRoutine, filling, ownOf, scopesOf, Filled}
+use Rattle.declarations.specs.Sites.{Site, theModule, aRoutine, filling, ownOf, Filled}
 use Rattle.declarations.specs.Chains.{Changed, Chain, startsIn, Rise}
 
 -- the scopes before any name of a site is declared
@@ -31,6 +31,7 @@ outerOf W s = filling W s .scopesWith []
 
 -- Word i is a name's, and keeps what its name meant outside.
 pub record KeepsName (routine : ℕ → ℕ) (W : List Word) (s : Site) (C : List ℕ) (i : ℕ) : Type 0 where
+  pub near : i < wordLimit
   pub name : IsName W i
   pub keeps : Keeps routine W (outerOf W s) C i
 

@@ -1,6 +1,6 @@
 -- The parts of the walks over declarations.
 use mathlib.Core.Path.{_≡_}
-use mathlib.Core.Bool.{Bool, false}
+use mathlib.Core.Bool.{Bool}
 use mathlib.Core.List.{List, [], _∷_, _++_, map}
 use Prim.Native.Nat.{ℕ, _+_, _-_, _*_, _<_, _≤_}
 use lib.Dec.{eqb}
@@ -24,6 +24,11 @@ use Rattle.grammar.specs.Form.{Parses, ParameterAt}
 use Rattle.faults.specs.First.{First}
 use Rattle.faults.specs.Added.{nameFaults}
 use Rattle.expressions.specs.Known.{Loaded}
+use mir.Syntax.{w32}
+use mir.Val.{ofZ}
+use Rattle.constants.specs.declared.Valued.{Valued}
+use Rattle.constants.specs.declared.Valued.the-variants as values-of
+use Rattle.constants.specs.Answers.{InNum}
 use Rattle.declarations.specs.declared.Walked.{Walked}
 use Rattle.declarations.specs.declared.Walked.the-variants.{Upto, Faulty}
 use Rattle.declarations.specs.Sites.{Site, aRoutine, filling, Owns, Filled}
@@ -87,7 +92,44 @@ pub record Starts (code values code′ values′ : List ℕ) (own used count wor
   pub own-datum : own ≡ 1 → SetDatum code code′ i count held
   pub untouched : (own ≡ 1 → ⊥) → code′ ≡ code
 
+-- ---- a scalar's value
+-- a value is one of num, and the word after its expression is a word's index
+pub record FitValue (v : ℤ) (next : ℕ) : Type 0 where
+  pub ranged : InNum v
+  pub near : next < wordLimit
+
+unfoldable pub Fit : Valued → Type 0
+Fit (values-of.Value v next) = FitValue v next
+Fit (values-of.Faulty number word) = Unit {0}
+
+-- The name at word i + 2 is known now, and its word has the value v.
+pub record PlacedValue (code values code′ values′ : List ℕ) (own used op i : ℕ) (v : ℤ) : Type 0 where
+  pub mid-code : List ℕ
+  pub mid-values : List ℕ
+  pub word : ℕ
+  pub held : ℕ
+  pub made : Makes code values mid-code mid-values (i + 2) op own used
+  pub word-is : word ≡ ofZ w32 v
+  pub held-is : HeldAs v held
+  pub started : Starts mid-code mid-values code′ values′ own used 1 word held i
+
+pub record Unplaced (code values code′ values′ : List ℕ) (r s : Walked) : Type 0 where
+  pub answer : r ≡ s
+  pub same-code : code′ ≡ code
+  pub same-values : values′ ≡ values
+
+unfoldable pub PlacedAs : (code values code′ values′ : List ℕ) (own used op i : ℕ) → Valued → Walked → Type 0
+PlacedAs code values code′ values′ own used op i (values-of.Value v next) r = PlacedValue code values code′ values′ own used op i v × (r ≡ Upto (next + 1) (used + 1))
+PlacedAs code values code′ values′ own used op i (values-of.Faulty number word) r = Unplaced code values code′ values′ r (Faulty number word)
+
+pub record Placing (code values code′ values′ : List ℕ) (own used op i : ℕ) (c : Valued) (r : Walked) : Type 0 where
+  pub is : PlacedAs code values code′ values′ own used op i c r
+
 -- ---- declarations whose name can be declared
+-- what numbers a declaration that begins at word i has to do with
+abbrev pub Near : (code values : List ℕ) (own limit used i : ℕ) → Type 0
+Near code values own limit used i = (i + 4 < wordLimit) × (i * 8 + 40 ≤ length code) × (storeBytes ≤ length values) × (own < 2) × (used ≤ limit) × (limit ≤ 1024)
+
 pub record DeclaresFree (code values code′ values′ : List ℕ) (own limit used i : ℕ) (r : Walked) : Type 0 where
   pub is : (b : Begins code values own limit used i) → Free b → Says b code′ values′ r
 

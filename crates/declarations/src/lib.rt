@@ -11,7 +11,7 @@ ghost use Rattle.code.specs.Cells.{opAt, linkAt};
 ghost use Rattle.names.specs.Promises.{storeBytes};
 ghost use Rattle.constants.specs.Answers.{InNum};
 ghost use Rattle.declarations.specs.Answers.{Begins, Declares, DataStand, DeclaresModule, RoutineStands, DeclaresRoutine, ParametersStand, DeclaresParameters, Leaving, Leaves};
-ghost use Rattle.declarations.specs.Parts.{TypeBit, scalarOp, baseOf, HeldAs, Fills, SetDatum, SetLink, Taken, Makes, Starts, DeclaresFree, ParameterBegins, DeclaresParameter, ParametersKept, LeavesParameters, DataKept, LeavesData};
+ghost use Rattle.declarations.specs.Parts.{Near, TypeBit, scalarOp, baseOf, HeldAs, Fills, SetDatum, SetLink, Taken, Makes, Starts, Fit, Placing, DeclaresFree, ParameterBegins, DeclaresParameter, ParametersKept, LeavesParameters, DataKept, LeavesData};
 use constants::Sized;
 use constants::Valued;
 
@@ -194,7 +194,7 @@ fn start(
 
 // VAR type name{c};
 fn array(code: &mut [u8], values: &mut [u8], own: u32, limit: u32, used: u32, i: usize) -> Walked
-    requires { ⌜ Begins (now code) (now values) own limit used i × (opAt (wordsOf (now code)) (i + 3) ≡ openBrace) ⌝ }
+    requires { ⌜ Begins (now code) (now values) own limit used i × Near (now code) (now values) own limit used i × (opAt (wordsOf (now code)) (i + 3) ≡ openBrace) ⌝ }
     ensures { λ r. ⌜ DeclaresFree (now (code .entry)) (now (values .entry)) (now (code .exit)) (now (values .exit)) own limit used i r ⌝ }
 {
     let c = constants::size(code, values, i + 4);
@@ -211,9 +211,32 @@ fn array(code: &mut [u8], values: &mut [u8], own: u32, limit: u32, used: u32, i:
     }
 }
 
+// A scalar whose constant expression was answered so.
+fn valued(
+    code: &mut [u8],
+    values: &mut [u8],
+    own: u32,
+    used: u32,
+    op: u32,
+    c: Valued,
+    i: usize,
+) -> Walked
+    requires { ⌜ (i * 8 + 40 ≤ length (now code)) × (storeBytes ≤ length (now values)) × (i < 8192) × (own < 2) × (used < 1024) × (op < 16) × Fit c ⌝ }
+    ensures { λ r. ⌜ Placing (now (code .entry)) (now (values .entry)) (now (code .exit)) (now (values .exit)) own used op i c r ⌝ }
+{
+    match c {
+        Valued::Faulty(number, word) => Walked::Faulty(number, word),
+        Valued::Value(v, next) => {
+            known(code, values, i + 2, op, own, used);
+            start(code, values, own, used, 1, word_of(v), held_of(v), i);
+            Walked::Upto(next + 1, used + 1)
+        }
+    }
+}
+
 // VAR type name [:= c]; CONST type name := c;
 fn scalar(code: &mut [u8], values: &mut [u8], own: u32, limit: u32, used: u32, i: usize) -> Walked
-    requires { ⌜ Begins (now code) (now values) own limit used i × (opAt (wordsOf (now code)) (i + 3) ≡ openBrace → ⊥) ⌝ }
+    requires { ⌜ Begins (now code) (now values) own limit used i × Near (now code) (now values) own limit used i × (opAt (wordsOf (now code)) (i + 3) ≡ openBrace → ⊥) ⌝ }
     ensures { λ r. ⌜ DeclaresFree (now (code .entry)) (now (values .entry)) (now (code .exit)) (now (values .exit)) own limit used i r ⌝ }
 {
     if limit <= used {
@@ -227,18 +250,11 @@ fn scalar(code: &mut [u8], values: &mut [u8], own: u32, limit: u32, used: u32, i
     }
     let wants = type_bit(sort(code, i + 1)) == 1;
     let c = constants::constant(code, values, wants, i + 4);
-    match c {
-        Valued::Faulty(number, word) => Walked::Faulty(number, word),
-        Valued::Value(v, next) => {
-            known(code, values, i + 2, op, own, used);
-            start(code, values, own, used, 1, word_of(v), held_of(v), i);
-            Walked::Upto(next + 1, used + 1)
-        }
-    }
+    valued(code, values, own, used, op, c, i)
 }
 
 fn datum(code: &mut [u8], values: &mut [u8], own: u32, limit: u32, used: u32, i: usize) -> Walked
-    requires { ⌜ Begins (now code) (now values) own limit used i ⌝ }
+    requires { ⌜ Begins (now code) (now values) own limit used i × Near (now code) (now values) own limit used i ⌝ }
     ensures { λ r. ⌜ Declares (now (code .entry)) (now (values .entry)) (now (code .exit)) (now (values .exit)) own limit used i r ⌝ }
 {
     if is_taken(code, values, own, i + 2) {

@@ -1,51 +1,42 @@
 use borrow.Author.Needs.{needs}
+use Rattle.declarations.proofs.Words.{fills-none, fills-more, fills-long, fills-done}
+use Prim.Native.Nat.{_≤_, _-_}
+use Rattle.declarations.specs.Parts.{Fills}
 use Rattle.declarations.proofs.fill.Statement.{statement}
 use Rattle.declarations.proofs.fill.Tie as tie
-use Rattle.declarations.proofs.fill.Reads as reads
-use Rattle.declarations.proofs.fill.Lts as lts
-use Rattle.cells.proofs.put.Reads as put-reads
 
 abbrev Inv-loop : tie.InvT-loop
-Inv-loop values₀ from count v k₀ values k = ?
+Inv-loop values₀ from count v k₀ values k = Fills values₀ values from k v × (k ≤ count)
 
 abbrev μ-loop : tie.MeasureT-loop
-μ-loop values₀ from count v k₀ values k = ?
+μ-loop values₀ from count v k₀ values k = count - k
 
--- src/lib.rt:117:5
 loop-holds : tie.Need-loop-holds Inv-loop μ-loop
-loop-holds c = ?
+loop-holds c = search (needs, fills-none)
 
--- src/lib.rt:118:35
 cast-put : tie.Need-cast-put Inv-loop μ-loop
-cast-put c = ?
+cast-put c = search needs
 
--- src/lib.rt:118:28
 add-put : tie.Need-add-put Inv-loop μ-loop
-add-put c = ?
+add-put c = search needs
 
--- src/lib.rt:118:9
 put-requires : tie.Need-put-requires Inv-loop μ-loop
-put-requires c κs = ?
+put-requires c κs = search needs
 
--- src/lib.rt:119:9
 add-k : tie.Need-add-k Inv-loop μ-loop
-add-k c = ?
+add-k c = search needs
 
--- src/lib.rt:117:5
 loop-less : tie.Need-loop-less Inv-loop μ-loop
-loop-less c = ?
+loop-less c = search needs
 
--- src/lib.rt:117:5
 loop-again : tie.Need-loop-again Inv-loop μ-loop
-loop-again c = ?
+loop-again c = search (needs, fills-more)
 
--- src/lib.rt:112:1
 same-length : tie.Need-same-length Inv-loop μ-loop
-same-length c = ?
+same-length c = search (needs, fills-long)
 
--- src/lib.rt:112:1
 returns : tie.Need-returns Inv-loop μ-loop
-returns c = ?
+returns c = search (needs, fills-done)
 
 pub fill-spec : {M : Type 1} → statement M
 fill-spec =

@@ -1,57 +1,46 @@
 use borrow.Author.Needs.{needs}
+use Prim.Native.Nat.{_-_, _<_, _≤_}
+use native.Mathlib.Omega.{arith}
+use Rattle.cells.specs.Words.{wordsOf}
+use Rattle.declarations.proofs.Parting.{chainLength, DataLeft, head-room, data-kept, datum-room, data-values, name-near, name-room, name-table, name-links, data-fall, data-leave, data-left}
 use Rattle.declarations.proofs.leave_data.Statement.{statement}
 use Rattle.declarations.proofs.leave_data.Tie as tie
-use Rattle.declarations.proofs.leave_data.Reads as reads
-use Rattle.declarations.proofs.leave_data.Lts as lts
-use Rattle.declarations.proofs.link.Reads as link-reads
-use Rattle.declarations.proofs.sort.Reads as sort-reads
-use Rattle.names.proofs.leave.Reads as leave-reads
 
 abbrev Inv-loop : tie.InvT-loop
-Inv-loop code values₀ head i₀ values i = ?
+Inv-loop code values₀ head i₀ values i = DataLeft code values₀ head values i
 
 abbrev μ-loop : tie.MeasureT-loop
-μ-loop code values₀ head i₀ values i = ?
+μ-loop code values₀ head i₀ values i = chainLength (wordsOf code) 8192 i
 
--- src/lib.rt:379:9
 link-requires : tie.Need-link-requires Inv-loop μ-loop
-link-requires c κs = ?
+link-requires c κs = search (needs, head-room)
 
--- src/lib.rt:380:5
 loop-holds : tie.Need-loop-holds Inv-loop μ-loop
-loop-holds c = ?
+loop-holds c = search (needs, data-kept)
 
--- src/lib.rt:380:11
 sort-requires : tie.Need-sort-requires Inv-loop μ-loop
-sort-requires c κs = ?
+sort-requires c κs = search (needs, datum-room)
 
--- src/lib.rt:381:36
 add-leave : tie.Need-add-leave Inv-loop μ-loop
-add-leave c = ?
+add-leave c = let h = name-near _ _ _ _ _ (c .before .before .before .loop .inv) _ (c .before .before .sort .ensures) (c .before .before .before .before .before .before .before .pre) (c .before .if1 .taken) in omega (arith, h)
 
--- src/lib.rt:381:9
 leave-requires : tie.Need-leave-requires Inv-loop μ-loop
-leave-requires c κs = ?
+leave-requires c κs = (search (needs, name-room), search (needs, name-table), search (needs, name-links))
 
--- src/lib.rt:382:9
 link-requires-2 : tie.Need-link-requires-2 Inv-loop μ-loop
-link-requires-2 c κs = ?
+link-requires-2 c κs = search (needs, datum-room)
 
--- src/lib.rt:380:5
 loop-less : tie.Need-loop-less Inv-loop μ-loop
-loop-less c = ?
+loop-less c = search (needs, data-fall)
 
--- src/lib.rt:380:5
 loop-again : tie.Need-loop-again Inv-loop μ-loop
-loop-again c = ?
+loop-again c = search (needs, data-leave)
 
--- src/lib.rt:375:1
 same-length : tie.Need-same-length Inv-loop μ-loop
-same-length c = ?
+same-length c = search (needs, data-values)
 
--- src/lib.rt:375:1
 returns : tie.Need-returns Inv-loop μ-loop
-returns c = ?
+returns c = search (needs, data-left)
 
 pub leave-data-spec : {M : Type 1} → statement M
 leave-data-spec =

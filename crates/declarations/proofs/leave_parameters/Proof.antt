@@ -1,51 +1,42 @@
 use borrow.Author.Needs.{needs}
+use Prim.Native.Nat.{_-_, _<_, _≤_}
+use native.Mathlib.Omega.{arith}
+use Rattle.declarations.proofs.Parting.{ParametersLeft, parameters-kept, leave-room, leave-table, leave-links, leave-near, parameters-leave, left-values, parameters-left}
 use Rattle.declarations.proofs.leave_parameters.Statement.{statement}
 use Rattle.declarations.proofs.leave_parameters.Tie as tie
-use Rattle.declarations.proofs.leave_parameters.Reads as reads
-use Rattle.declarations.proofs.leave_parameters.Lts as lts
-use Rattle.names.proofs.leave.Reads as leave-reads
 
 abbrev Inv-loop : tie.InvT-loop
-Inv-loop code values₀ first count at₀ left₀ values at left = ?
+Inv-loop code values₀ first count at₀ left₀ values at left = ParametersLeft code values₀ first count values at left
 
 abbrev μ-loop : tie.MeasureT-loop
-μ-loop code values₀ first count at₀ left₀ values at left = ?
+μ-loop code values₀ first count at₀ left₀ values at left = left
 
--- src/lib.rt:368:5
 loop-holds : tie.Need-loop-holds Inv-loop μ-loop
-loop-holds c = ?
+loop-holds c = search (needs, parameters-kept)
 
--- src/lib.rt:369:36
 add-leave : tie.Need-add-leave Inv-loop μ-loop
-add-leave c = ?
+add-leave c = let h = leave-near _ _ _ _ _ _ _ (c .before .before .loop .inv) (c .before .before .before .before .before .pre) (c .before .loop-test .taken) in omega (arith, h)
 
--- src/lib.rt:369:9
 leave-requires : tie.Need-leave-requires Inv-loop μ-loop
-leave-requires c κs = ?
+leave-requires c κs = (search (needs, leave-room), search (needs, leave-table), search (needs, leave-links))
 
--- src/lib.rt:370:9
 add-at : tie.Need-add-at Inv-loop μ-loop
-add-at c = ?
+add-at c = let h = leave-near _ _ _ _ _ _ _ (c .before .before .before .before .before .loop .inv) (c .before .before .before .before .before .before .before .before .pre) (c .before .before .before .before .loop-test .taken) in omega (arith, h)
 
--- src/lib.rt:371:9
 sub-left : tie.Need-sub-left Inv-loop μ-loop
-sub-left c = ?
+sub-left c = search needs
 
--- src/lib.rt:368:5
 loop-less : tie.Need-loop-less Inv-loop μ-loop
-loop-less c = ?
+loop-less c = search needs
 
--- src/lib.rt:368:5
 loop-again : tie.Need-loop-again Inv-loop μ-loop
-loop-again c = ?
+loop-again c = search (needs, parameters-leave)
 
--- src/lib.rt:362:1
 same-length : tie.Need-same-length Inv-loop μ-loop
-same-length c = ?
+same-length c = search (needs, left-values)
 
--- src/lib.rt:362:1
 returns : tie.Need-returns Inv-loop μ-loop
-returns c = ?
+returns c = search (needs, parameters-left)
 
 pub leave-parameters-spec : {M : Type 1} → statement M
 leave-parameters-spec =
