@@ -30,6 +30,7 @@ use Rattle.statements.specs.declared.Walked.{Walked}
 use Rattle.statements.specs.declared.Walked.the-variants.{Upto, Faulty}
 use Rattle.statements.specs.Answers.{Outside, Here, Stands, Answer, StatementAnswer}
 use Rattle.statements.specs.Parts.{Plain, Plainly, Compacts, Compacted}
+use Rattle.statements.proofs.Same.{same-values}
 use Rattle.statements.proofs.Frames.{outside-wider, outside-on, kept-outside, same-before, same-behind, same-on, here-part, term-same, linked-outside, linked-word}
 use Rattle.statements.proofs.Walking.{done-answer, first-answer}
 
@@ -103,7 +104,7 @@ module _ (text code values : List ℕ) (k : Setting) (used i : ℕ) (g : Plain t
           few = s .here .few;
           written = subst (RawSimple (groundOf a) (a .known .n) (wordsOf one) (a .known .S) (w .simply) i) (sym (w .after)) (f .written);
           outside = outside-wider i (s .to) (kept-outside (f .kept)) (omega arith) (omega (arith, w .after));
-          same = refl;
+          same = same-values values;
         })
         (answers .long))
 
@@ -166,7 +167,7 @@ module _ (text code values : List ℕ) (k : Setting) (used i t : ℕ) (g : Compa
             };
             outside = outside-on (outside-wider i (g .to) (kept-outside (f .kept)) (omega (arith, g .before)) (omega (arith, g .after)))
                 (outside-wider i (g .to) o (omega arith) (omega (arith, g .before, g .after, r .forward)));
-            same = refl;
+            same = same-values values;
           })
           (l .kept .long ∙ found .long)
 

@@ -25,6 +25,7 @@ use Rattle.statements.specs.declared.Walked.{Walked}
 use Rattle.statements.specs.declared.Walked.the-variants.{Upto, Faulty}
 use Rattle.statements.specs.Answers.{Outside, Here, Lists, Done, Answer, Listed}
 use Rattle.statements.specs.Parts.{Elses, ElseWritten, Elsed}
+use Rattle.statements.proofs.Same.{same-values}
 use Rattle.statements.proofs.Frames.{outside-wider, outside-on, same-before, same-behind, same-on, here-part, list-same, word-same, linked-outside, linked-word}
 use Rattle.statements.proofs.Walking.{upto-done, faulty-first, done-answer, faulty-answer}
 
@@ -77,7 +78,7 @@ module _ (text code values : List ℕ) (k : Setting) (used c : ℕ) (g : Elses t
             };
           };
           outside = outside-wider c (g .to) (linked-outside l) (omega arith) (omega (arith, to-is));
-          same = refl;
+          same = same-values values;
         })
         (l .kept .long)
 

@@ -16,9 +16,9 @@ use Rattle.expressions.specs.Answers.{Kept}
 use Rattle.expressions.proofs.Keeping.{cell-below, cell-above}
 use Rattle.constants.specs.Answers.{Worth, Fine}
 use Rattle.expressions.specs.Parts.{Linked}
-use Rattle.links.specs.Raw.{Ground, SameWords, RawWord, RawTerm, RawList}
+use Rattle.links.specs.Raw.{Ground, SameWords, RawWord, RawTerm, RawBound, RawList}
 use Rattle.links.proofs.Framing.{same-cells, same-moves, list-frame}
-use Rattle.links.proofs.Moving.{term-moves}
+use Rattle.links.proofs.Moving.{term-moves, bound-moves}
 use Rattle.simple.specs.declared.Setting.{Setting}
 use Rattle.simple.specs.Around.{Around, Unread, Apart, Calls}
 use Rattle.statements.specs.Answers.{Outside, Here}
@@ -93,7 +93,7 @@ calls-behind g o long x y c h k l m = record {
 }
 
 -- ---- more words of the routine are taken
-within-more : (m n p : ℕ) (x : Meaning) → n ≤ p → Within m n x → Within m p x
+pub within-more : (m n p : ℕ) (x : Meaning) → n ≤ p → Within m n x → Within m p x
 unfolding Within InRoom
 within-more m n p unknown h w = w
 within-more m n p (variable t (ofModule k)) h w = w
@@ -108,7 +108,7 @@ within-more m n p (theRoutine k) h w = w
 within-more m n p theErrno h w = w
 within-more m n p (errorNumber k) h w = w
 
-fine-more : (m n p : ℕ) (X : List ℕ) (M : Rattle.paper.specs.Terms.Memory) (x : Meaning) → n ≤ p → Fine m n X M x → Fine m p X M x
+pub fine-more : (m n p : ℕ) (X : List ℕ) (M : Rattle.paper.specs.Terms.Memory) (x : Meaning) → n ≤ p → Fine m n X M x → Fine m p X M x
 unfolding Fine InRoom
 fine-more m n p X M unknown h w = w
 fine-more m n p X M (variable t r) h w = w
@@ -121,18 +121,23 @@ fine-more m n p X M theErrno h w = w
 fine-more m n p X M (errorNumber k) h w = w
 
 -- ---- further on
--- The words from a up to b have been written, and the routine has used p words: what is known of the words from x up to y.
-pub here-on : {text values : List ℕ} (g : Around text values) (before after : List ℕ) (k : Setting) (n at to : ℕ) {a b : ℕ} (p x y : ℕ) → Here g before k n at to → Outside (wordsOf before) (wordsOf after) a b → length after ≡ length before
-    → n ≤ p → p ≤ 64 → at ≤ a → b ≤ to + 1 → at ≤ x → b ≤ x → y ≤ to → Here g after k p x y
-here-on g before after k n at to p x y h o long few-more few l m q r s = record {
+-- The words up to b have been written, and the routine has used p words: what is known of the words from x up to y.
+pub here-from : {text values : List ℕ} (g : Around text values) (before after : List ℕ) (k : Setting) (n at to : ℕ) {a b : ℕ} (p x y : ℕ) → Here g before k n at to → Outside (wordsOf before) (wordsOf after) a b → length after ≡ length before
+    → n ≤ p → p ≤ 64 → at ≤ x → b ≤ x → y ≤ to → Calls g after x y → Here g after k p x y
+here-from g before after k n at to p x y h o long few-more few q r s c = record {
   tells = h .tells;
   few = few;
   within = λ i z. within-more _ _ p _ few-more (h .within i z);
   fine = λ t. fine-more _ _ p _ _ _ few-more (h .fine t);
   number = h .number;
   unread = unread-behind _ before after o long x y (h .unread) q r s;
-  calls = calls-behind g o long x y (h .calls) l m q s;
+  calls = c;
 }
+
+-- the same for words from a up to b that are among those from `at` up to `to`
+pub here-on : {text values : List ℕ} (g : Around text values) (before after : List ℕ) (k : Setting) (n at to : ℕ) {a b : ℕ} (p x y : ℕ) → Here g before k n at to → Outside (wordsOf before) (wordsOf after) a b → length after ≡ length before
+    → n ≤ p → p ≤ 64 → at ≤ a → b ≤ to + 1 → at ≤ x → b ≤ x → y ≤ to → Here g after k p x y
+here-on g before after k n at to p x y h o long few-more few l m q r s = here-from g before after k n at to p x y h o long few-more few q r s (calls-behind g o long x y (h .calls) l m q s)
 
 -- fewer words
 pub here-part : {text values : List ℕ} (g : Around text values) (code : List ℕ) (k : Setting) (n at to x y : ℕ) → Here g code k n at to → at ≤ x → x ≤ to → y ≤ to → Here g code k n x y
@@ -142,6 +147,9 @@ here-part g code k n at to x y h q r s =
 -- ---- what has been written stays
 pub term-same : (g : Ground) (n : ℕ) (C D : List ℕ) (S : Scopes) (e : Expr) (a b : ℕ) → SameWords C D a b → RawTerm g n C S e a b → RawTerm g n D S e a b
 term-same g n C D S e a b s t = term-moves g n n (omega arith) C D a b 0 0 (same-moves C D a b 0 s) S e a b (omega arith) (omega arith) t
+
+pub bound-same : (g : Ground) (n : ℕ) (C D : List ℕ) (S : Scopes) (e : Expr) (w z : ℕ) → SameWords C D w z → RawBound g n C S e w z → RawBound g n D S e w z
+bound-same g n C D S e w z s t = bound-moves g n n (omega arith) C D w z 0 0 (same-moves C D w z 0 s) S e w z (omega arith) (omega arith) t
 
 pub list-same : (g : Ground) (n : ℕ) (C D : List ℕ) (l : Statements) (S : Scopes) (used a b : ℕ) → SameWords C D a b → RawList g n C l S used a b → RawList g n D l S used a b
 list-same g n C D l S used a b s x = list-frame g n n (omega arith) C D a b s l S used a b (omega arith) (omega arith) x

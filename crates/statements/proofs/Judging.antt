@@ -1,7 +1,7 @@
 -- What the check of an expression says of the expression of a statement.
 use mathlib.Core.Path.{_≡_, refl, sym, ap, subst, _∙_}
 use mathlib.Core.Bool.{Bool, true, false}
-use mathlib.Core.List.{List, []}
+use mathlib.Core.List.{List, [], _++_}
 use mathlib.Core.Option.{some}
 use Prim.Native.Nat.{ℕ, suc, _+_, _-_, _*_, _<_, _≤_}
 use native.Mathlib.Omega.{arith}
@@ -13,7 +13,7 @@ use Rattle.climb.proofs.Operands.{deeper}
 use Rattle.paper.specs.Trees.{Expr, first}
 use Rattle.paper.specs.Expressions.{nestings, levelOf}
 use Rattle.paper.specs.Names.{DataType, sortIn}
-use Rattle.paper.specs.Types.{ofType, termOf, judge}
+use Rattle.paper.specs.Types.{Fault, ofType, termOf, judge}
 use Rattle.code.specs.Cells.{opAt}
 use Rattle.grammar.specs.Form.{Parses, ExprAt}
 use Rattle.expressions.specs.declared.Judged.{Judged}
@@ -21,7 +21,8 @@ use Rattle.expressions.specs.declared.Judged.the-variants.{Typed, Faulty}
 use Rattle.expressions.specs.Known.{Loaded}
 use Rattle.expressions.specs.Answers.{Kept, typeIf, Sound, Judges, Stands, OfType}
 use Rattle.expressions.proofs.Around.{says-typed, says-faulty}
-use Rattle.faults.specs.First.{First}
+use Rattle.faults.specs.First.{First, Inside}
+use Rattle.faults.proofs.First.{_and_, widen}
 use Rattle.faults.proofs.Expressions.{of-type-first}
 use Rattle.links.specs.Resolved.{isLed, goesByLink, goesByValue, goesByPlace}
 use Rattle.links.specs.Raw.{RawTerm}
@@ -29,6 +30,10 @@ use Rattle.simple.specs.declared.Setting.{Setting}
 use Rattle.simple.specs.Around.{Around, groundOf}
 use Rattle.statements.specs.Answers.{Outside, Here}
 use Rattle.statements.proofs.Frames.{kept-outside, here-on}
+
+-- the faults of two pieces, one after the other
+pub inside-both : {a b c d : ℕ} {xs ys : List Fault} → Inside a b xs → Inside c d ys → a ≤ c → b ≤ d → Inside a d (xs ++ ys)
+inside-both p q l h = widen p (omega arith) h and widen q l (omega arith)
 
 -- ops below those of steps lead nowhere
 pub low-still : (op : ℕ) → op < 128 → isLed op ≡ false
@@ -67,6 +72,9 @@ module _ (text code values : List ℕ) (g : Around text values) (k : Setting) (u
     judged-faulty number word q =
         let f = says-faulty _ _ _ _ _ _ r number word q (judges .says) in
         of-type-first (g .known .W) (suc nestings) a e z is (record { number = number; at = word }) (f .others) (typeIf wants) (g .known .S) (f .faults-are)
+
+    pub judged-long : length after ≡ length code
+    judged-long = judges .kept .long
 
     module _ (bool : Bool) (next : ℕ) (q : r ≡ Typed bool next) where
       sound : Sound (g .known .m) (g .known .n) (wordsOf after) a z (record { type = typeIf wants; faults = ofType (g .known .W) (typeIf wants) (g .known .S) e; term = termOf (g .known .W) (g .known .S) e }) bool next

@@ -32,7 +32,7 @@ use Rattle.statements.specs.declared.Walked.the-variants.{Upto, Faulty}
 use Rattle.statements.specs.Answers.{Outside, Here, Stands, Lists, Done, Answer, StatementAnswer, Listed, Begins, Begun}
 use Rattle.statements.specs.Parts.{WhileEnded}
 use Rattle.statements.proofs.Frames.{outside-wider, outside-on, kept-outside, same-before, same-behind, same-on, tail-before, here-on, term-same, list-same, op-same, value-same, word-same, linked-outside, linked-word}
-use Rattle.statements.proofs.Judging.{expression-stands, judged-faulty, judged-none, judged-next, judged-term, judged-kept}
+use Rattle.statements.proofs.Judging.{expression-stands, judged-faulty, judged-long, judged-none, judged-next, judged-term, judged-kept}
 use Rattle.statements.proofs.Walking.{upto-done, faulty-first, done-answer, first-answer, faulty-answer}
 
 module _ (text code values : List ℕ) (k : Setting) (used i : ℕ) (g : Begins WHILE text code values k used i) where
@@ -73,14 +73,14 @@ module _ (text code values : List ℕ) (k : Setting) (used i : ℕ) (g : Begins 
   body-inside = list-inside (a .known .W) (a .K) (a .M) (w .list) (a .known .S) used
 
   module _ (one : List ℕ) (j : Judged) (c : OfType code values one false true (i + 1) j) where
-    wrong : (number word : ℕ) → j ≡ judged.Faulty number word → length one ≡ length code → StatementAnswer (g .stands) one values (Faulty number word)
+    wrong : (number word : ℕ) → j ≡ judged.Faulty number word → StatementAnswer (g .stands) one values (Faulty number word)
     unfolding statementFaults typeIf
-    wrong number word q long =
+    wrong number word q =
         subst (ForStatement one values (Faulty number word)) (sym (w .is))
         (first-answer _ _ _ _ _ _ _ _ number word _
         (first-before (judged-faulty text code values a k used i (s .to) (s .here) (w .e) (i + 1) (w .doAt) (w .condition) no-operator (omega arith) (omega (arith, listed, w .after)) one true j c number word q)
         condition-inside body-inside (omega arith))
-        long)
+        (judged-long text code values a k used i (s .to) (s .here) (w .e) (i + 1) (w .doAt) (w .condition) no-operator (omega arith) (omega (arith, listed, w .after)) one true j c))
 
     module _ (bool : Bool) (d : ℕ) (q : j ≡ judged.Typed bool d) where
       do-at : d ≡ w .doAt
@@ -206,8 +206,8 @@ module _ (text code values : List ℕ) (k : Setting) (used i : ℕ) (g : Begins 
 
 -- ---- for whatever the statement is
 module _ (text code values : List ℕ) (k : Setting) (used i : ℕ) (one : List ℕ) (j : Judged) (c : OfType code values one false true (i + 1) j) where
-  pub while-wrong : (number word : ℕ) → j ≡ judged.Faulty number word → length one ≡ length code → Begun WHILE text code values one values k used i (Faulty number word)
-  while-wrong number word q long = record { is = λ g. wrong text code values k used i g one j c number word q long }
+  pub while-wrong : (number word : ℕ) → j ≡ judged.Faulty number word → Begun WHILE text code values one values k used i (Faulty number word)
+  while-wrong number word q = record { is = λ g. wrong text code values k used i g one j c number word q }
 
   module _ (bool : Bool) (d : ℕ) (q : j ≡ judged.Typed bool d) (two values′ : List ℕ) (r : Walked) (l : Listed text one values two values′ k used (d + 1) r) where
     pub while-list-wrong : (number word : ℕ) → r ≡ Faulty number word → Begun WHILE text code values two values′ k used i r

@@ -59,6 +59,12 @@ pub record Lists (text code values : List ℕ) (k : Setting) (used at : ℕ) : T
   pub is : ListAt (sortIn (around .known .W)) (Parses (sortIn (around .known .W))) d l at to
   pub room : used + forsInList l ≤ around .known .n
 
+-- ---- the value store
+-- The cells are as they were.
+pub record SameValues (before after : List ℕ) : Type 0 where
+  pub words : wordsOf after ≡ wordsOf before
+  pub long : length after ≡ length before
+
 -- ---- answers
 -- A piece with these faults, from `at` up to `to`, has none: the next word is `to`, so many words of the routine are taken behind it, what is written holds, nothing else is changed.
 pub record Done (fs : List Fault) (before after values values′ : List ℕ) (at to count next u : ℕ) (holds : Type 0) : Type 0 where
@@ -68,7 +74,7 @@ pub record Done (fs : List Fault) (before after values values′ : List ℕ) (at
   pub few : u ≤ callWords
   pub written : holds
   pub outside : Outside (wordsOf before) (wordsOf after) at to
-  pub same : values′ ≡ values
+  pub same : SameValues values values′
 
 unfoldable pub Tell : (fs : List Fault) (before after values values′ : List ℕ) (at to count : ℕ) (holds : Type 0) → Walked → Type 0
 Tell fs before after values values′ at to count holds (Upto next u) = Done fs before after values values′ at to count next u holds

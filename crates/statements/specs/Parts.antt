@@ -5,7 +5,7 @@ use mathlib.Core.List.{List, [], _∷_, _++_}
 use mathlib.Core.Option.{Option}
 use Prim.Native.Nat.{ℕ, suc, _+_, _*_, _<_, _≤_}
 use lib.ListN.{length}
-use lib.IntN.{ℤ}
+use lib.IntN.{ℤ, pos, _-ℤ_}
 use Rattle.paper.specs.Sorts.{IF, FOR, WHILE, TEST, DO, ELSE, ELSEIF, ENDIF, THEN, ENDTEST, semicolon, colon}
 use Rattle.paper.specs.Words.{Word, wordLimit}
 use Rattle.paper.specs.Terms.{Memory}
@@ -17,6 +17,7 @@ use Rattle.paper.specs.Declarations.{routineWordLimit, crosses}
 use Rattle.paper.specs.Checks.{forsInList, forsInArms, forsInCases, optionalNum, simpleFaults, caseFaults, listFaults, armFaults, casesFaults}
 use Rattle.cells.specs.Words.{wordsOf}
 use Rattle.code.specs.Cells.{opAt, placeAt, linkAt}
+use Rattle.code.specs.Spans.{bias}
 use Rattle.code.specs.Steps.{aWhile, aFor, aForTest, aCase, aNextValue, aThen, aDo, aPass, constantAt}
 use Rattle.evaluation.specs.Answers.{callWords}
 use Rattle.names.specs.Meanings.{isProtected}
@@ -25,7 +26,7 @@ use Rattle.grammar.specs.Form.{Parses, ExprAt, SimpleAt, StepAt, ForHeadAt, Exp
 use Rattle.expressions.specs.declared.Judged.{Judged}
 use Rattle.expressions.specs.Parts.{Linked}
 use Rattle.links.specs.Resolved.{isLed}
-use Rattle.links.specs.Raw.{Ground, RawTerm, RawBound, RawStep, RawElse, RawConstants, RawDefault, RawStatement, RawList, RawCases}
+use Rattle.links.specs.Raw.{Ground, SameWords, RawTerm, RawBound, RawStep, RawElse, RawConstants, RawDefault, RawStatement, RawList, RawCases}
 use Rattle.simple.specs.declared.Setting.{Setting}
 use Rattle.simple.specs.Around.{Around, groundOf, offsetIn, Calls}
 use Rattle.simple.specs.Answers as simple
@@ -67,10 +68,15 @@ pub record Bounds (code values : List ℕ) (i : ℕ) : Type 0 where
   pub ends : levelOf (sortIn (around .known .W) z) ≡ 0
   pub inside : z ≤ to
 
+-- what a run reads there; the word has the op that it had
+pub record BoundWritten (raw : Type 0) (before after : List ℕ) (i : ℕ) : Type 0 where
+  pub is : raw
+  pub op : opAt (wordsOf after) i ≡ opAt (wordsOf before) i
+
 pub record Bounded (code values after : List ℕ) (i : ℕ) (r : Judged) : Type 0 where
   pub is : (g : Bounds code values i)
       → simple.Answer (ofType (g .around .known .W) aNum (g .around .known .S) (g .e)) code after i (g .z)
-      (RawBound (groundOf (g .around)) (g .around .known .n) (wordsOf after) (g .around .known .S) (g .e) i (g .z)) r
+      (BoundWritten (RawBound (groundOf (g .around)) (g .around .known .n) (wordsOf after) (g .around .known .S) (g .e) i (g .z)) code after i) r
 
 -- STEP with its bound, or DO, at s
 pub record Steps (code values : List ℕ) (s : ℕ) : Type 0 where
@@ -240,11 +246,17 @@ pub record Elsed (text code values after values′ : List ℕ) (k : Setting) (us
       (λ (x y : ℕ). RawList (groundOf (g .around)) (g .around .known .n) (wordsOf after) (g .o) (g .around .known .S) used x y) c first (g .to)) c) r
 
 -- ---- TEST
+-- A head's value that holds a number.
+pub record Held (v : ℤ) (r : ℕ) : Type 0 where
+  pub small : r < 16777216
+  pub is : pos r -ℤ pos bias ≡ v
+
 -- A value of a CASE behind the one at w, at its comma.
 pub record ChainValue (C : List ℕ) (value : ℤ) (more : ℕ → Type 0) (colon w : ℕ) : Type 0 where
   pub v : ℕ
   pub leaves : linkAt C w ≡ v
-  pub on : w < v
+  -- an expression stands between them
+  pub on : w + 1 < v
   pub before : v < colon
   pub op : opAt C v ≡ aNextValue
   pub constant : constantAt C v ≡ value
@@ -286,7 +298,7 @@ pub record Chained (code : List ℕ) (colon c : ℕ) : Type 0 where
   pub M : Memory
   pub es : List Expr
   pub is : CaseChain W S M (wordsOf code) es colon c
-  pub before : c < colon
+  pub before : c + 1 < colon
   pub last : colon < wordLimit
   pub room : storeBytes ≤ length code
 
@@ -295,6 +307,8 @@ pub record ValuesLinked (before after : List ℕ) (colon next c : ℕ) : Type 0 
   pub op : opAt (wordsOf after) c ≡ opAt (wordsOf before) c
   pub place : placeAt (wordsOf after) c ≡ colon + 1
   pub values : (g : Ground) (n : ℕ) (S : Scopes) (es : List Expr) → CaseChain (g .W) S (g .M) (wordsOf before) es colon c → RawConstants g n (wordsOf after) S es (colon + 1) next c
+  -- the word behind CASE is no value's
+  pub behind : SameWords (wordsOf before) (wordsOf after) (c + 1) (c + 2)
   pub outside : Outside (wordsOf before) (wordsOf after) c colon
   pub long : length after ≡ length before
 

@@ -10,9 +10,10 @@ ghost use Rattle.paper.specs.Sorts.{IF, FOR, WHILE, TEST};
 ghost use Rattle.paper.specs.Expressions.{startsStatement};
 ghost use Rattle.cells.specs.Words.{wordsOf};
 ghost use Rattle.code.specs.Cells.{headAt, placeAt};
+ghost use Rattle.constants.specs.Answers.{InNum};
 ghost use Rattle.names.specs.Promises.{tailWith, Rewritten};
 ghost use Rattle.statements.specs.Answers.{Stands, Stated, Lists, Listed, Begins, Begun};
-ghost use Rattle.statements.specs.Parts.{Plain, Plainly, WhileEnded, Bounds, Bounded, Steps, Stepped, ForHeads, ForHeaded, ForEnded, Compacts, Compacted, Thens, Thened, BehindElse, ArmEnded, Elses, Elsed, CaseValues, CaseValued, Chained, ValuesLinked, Defaults, Defaulted, Chooses, Chosen};
+ghost use Rattle.statements.specs.Parts.{Plain, Plainly, WhileEnded, Bounds, Bounded, Steps, Stepped, ForHeads, ForHeaded, ForEnded, Compacts, Compacted, Thens, Thened, BehindElse, ArmEnded, Elses, Elsed, Held, CaseValues, CaseValued, Chained, ValuesLinked, Defaults, Defaulted, Chooses, Chosen};
 
 pub enum Walked {
     // the word after it, and how many words of the routine are taken
@@ -351,6 +352,14 @@ fn if_statement(
 
 // ---- TEST
 
+// A number as a head holds it.
+fn held(v: i64) -> u32
+    requires { ⌜ InNum v ⌝ }
+    ensures { λ r. ⌜ Held v r ⌝ }
+{
+    (v + BIAS) as u32
+}
+
 // The values of one CASE, from its word on, each in the word before it; the colon behind them.
 fn case_values(code: &mut [u8], values: &[u8], c: usize) -> Judged
     requires { ⌜ CaseValues (now code) (now values) c ⌝ }
@@ -363,7 +372,7 @@ fn case_values(code: &mut [u8], values: &[u8], c: usize) -> Judged
         match v {
             Valued::Faulty(number, word) => return Judged::Faulty(number, word),
             Valued::Value(v, n) => {
-                simple::set_word(code, w, op, (v + BIAS) as u32, n);
+                simple::set_word(code, w, op, held(v), n);
                 if simple::sort(code, n) != sorts::COMMA {
                     return Judged::Typed(false, n);
                 }
@@ -443,9 +452,9 @@ fn cases(
                 let Walked::Upto(e, u) = r else {
                     return r;
                 };
-                link_values(code, c, colon, e);
                 // where a list goes on that ends at this CASE is found behind it
                 simple::set_word(code, c + 1, PASS, 0, e);
+                link_values(code, c, colon, e);
                 c = e;
                 n = u;
             }

@@ -1,4 +1,18 @@
 use borrow.Author.Needs.{needs}
+use Prim.Native.Nat.{_+_, _-_, _*_}
+use native.Mathlib.Omega.{arith}
+use Rattle.statements.proofs.Walking.{Goings, list-begins, list-long, list-values, list-forward, list-room, list-ends, list-stands, list-less, list-faulty, list-goes}
+use Rattle.statements.proofs.Dispatch.{stands-room, stands-early, begins-by, stated-by, plain-by, stated-plain}
+use Rattle.statements.proofs.Whiles.{while-condition, while-forward, while-lists, while-closes, while-wrong, while-list-wrong, while-finished}
+use Rattle.statements.proofs.Elses.{else-room, else-lists, else-closes, else-no, else-wrong, else-yes}
+use Rattle.statements.proofs.Arms.{Armings, arms-begin, arm-lists, arm-values, arm-long-so, arm-after, arm-wide, arm-place, arm-closes, arm-long, arm-elses, arm-ends, arm-condition, arm-less, arm-list-wrong, arm-else-wrong, arms-finished, arm-wrong, arms-go}
+use Rattle.statements.proofs.Ifs.{if-condition, if-room, if-forward, if-compacts, if-thens, if-wrong, if-compact, if-full}
+use mathlib.Core.Path.{refl}
+use Rattle.statements.proofs.Fors.{for-heads, for-declares, for-spare, for-lists, for-closes, for-leaves, for-wrong, for-list-wrong, for-long, for-finished}
+use Rattle.statements.proofs.Defaulting.{default-room, default-lists, default-closes, default-no, default-wrong, default-yes}
+use Rattle.statements.proofs.Choosing.{Casings, cases-begin, case-room, case-long, case-values-long, case-defaults, case-values-stand, case-lists, case-colon, case-closes, case-links, cases-finished, case-wrong, case-list-wrong, cases-go}
+use Rattle.statements.proofs.Tests.{test-selector, test-chooses, test-forward, test-room, test-wrong, test-cases-wrong, test-finished}
+use Rattle.names.proofs.Rewriting.{rewritten-length}
 use Prim.Native.Nat.{ℕ, _<_}
 use borrow.Fn.Kinds.{In}
 use borrow.Fn.PlainCycle.{Measures, is, falls, and}
@@ -56,34 +70,34 @@ use Rattle.statements.proofs.+cases+default+else_part+for_statement+ful
 }
 
 abbrev μ-cases : Measures 3 cases-kinds.ps ℕ
-μ-cases κs a = ?
+μ-cases κs a = (8192 - a .1 .1 .1 .1 .1 .0) * 3 + 1
 
 abbrev μ-default : Measures 3 default-kinds.ps ℕ
-μ-default κs a = ?
+μ-default κs a = (8192 - a .1 .1 .1 .1 .1 .0) * 3
 
 abbrev μ-else-part : Measures 3 else-part-kinds.ps ℕ
-μ-else-part κs a = ?
+μ-else-part κs a = (8192 - a .1 .1 .1 .1 .1 .0) * 3
 
 abbrev μ-for-statement : Measures 3 for-statement-kinds.ps ℕ
-μ-for-statement κs a = ?
+μ-for-statement κs a = (8192 - a .1 .1 .1 .1 .1 .0) * 3
 
 abbrev μ-full-if : Measures 3 full-if-kinds.ps ℕ
-μ-full-if κs a = ?
+μ-full-if κs a = (8192 - a .1 .1 .1 .1 .1 .1 .0) * 3
 
 abbrev μ-if-statement : Measures 3 if-statement-kinds.ps ℕ
-μ-if-statement κs a = ?
+μ-if-statement κs a = (8192 - a .1 .1 .1 .1 .1 .0) * 3
 
 abbrev μ-list : Measures 3 list-kinds.ps ℕ
-μ-list κs a = ?
+μ-list κs a = (8192 - a .1 .1 .1 .1 .1 .0) * 3 + 2
 
 abbrev μ-statement : Measures 3 statement-kinds.ps ℕ
-μ-statement κs a = ?
+μ-statement κs a = (8192 - a .1 .1 .1 .1 .1 .0) * 3 + 1
 
 abbrev μ-test-statement : Measures 3 test-statement-kinds.ps ℕ
-μ-test-statement κs a = ?
+μ-test-statement κs a = (8192 - a .1 .1 .1 .1 .1 .0) * 3
 
 abbrev μ-while-statement : Measures 3 while-statement-kinds.ps ℕ
-μ-while-statement κs a = ?
+μ-while-statement κs a = (8192 - a .1 .1 .1 .1 .1 .0) * 3
 
 abbrev cases-at : ℕ → In 3 cases-kinds.ps
 cases-at t = and 3 cases-kinds.ps (is 3 cases-kinds.ps μ-cases t) cases.Pre
@@ -179,2972 +193,687 @@ while-statement-below t =
     (falls 3 while-statement-kinds.ps _<_ μ-while-statement t)
     while-statement.Pre
 
+-- what the callees ask and ensure
+abbrev calls-cases : ℕ → cases-lts.Claims
+calls-cases t = (sort-reads.Asked, sort-reads.Learnt, default-below t, default.Post, case-values-reads.Asked, case-values-reads.Learnt, list-below t, list.Post, set-word-reads.Asked, set-word-reads.Learnt, link-values-reads.Asked, link-values-reads.Learnt)
+
+abbrev calls-default : ℕ → default-lts.Claims
+calls-default t = (sort-reads.Asked, sort-reads.Learnt, rewrite-reads.Asked, rewrite-reads.Learnt, list-below t, list.Post, set-word-reads.Asked, set-word-reads.Learnt)
+
+abbrev calls-else-part : ℕ → else-part-lts.Claims
+calls-else-part t = (sort-reads.Asked, sort-reads.Learnt, set-word-reads.Asked, set-word-reads.Learnt, list-below t, list.Post)
+
+abbrev calls-for-statement : ℕ → for-statement-lts.Claims
+calls-for-statement t = (for-head-reads.Asked, for-head-reads.Learnt, declare-reads.Asked, declare-reads.Learnt, list-below t, list.Post, leave-reads.Asked, leave-reads.Learnt, for-end-reads.Asked, for-end-reads.Learnt)
+
+abbrev calls-full-if : ℕ → full-if-lts.Claims
+calls-full-if t = (list-below t, list.Post, arm-end-reads.Asked, arm-end-reads.Learnt, sort-reads.Asked, sort-reads.Learnt, else-part-below t, else-part.Post, set-link-reads.Asked, set-link-reads.Learnt, of-type-reads.Asked, of-type-reads.Learnt)
+
+abbrev calls-if-statement : ℕ → if-statement-lts.Claims
+calls-if-statement t = (of-type-reads.Asked, of-type-reads.Learnt, sort-reads.Asked, sort-reads.Learnt, compact-if-reads.Asked, compact-if-reads.Learnt, full-if-below t, full-if.Post)
+
+abbrev calls-list : ℕ → list-lts.Claims
+calls-list t = (sort-reads.Asked, sort-reads.Learnt, starts-statement-reads.Asked, starts-statement-reads.Learnt, statement-below t, statement′.Post)
+
+abbrev calls-statement : ℕ → statement-lts.Claims
+calls-statement t = (sort-reads.Asked, sort-reads.Learnt, if-statement-below t, if-statement.Post, for-statement-below t, for-statement.Post, while-statement-below t, while-statement.Post, test-statement-below t, test-statement.Post, simple-statement-reads.Asked, simple-statement-reads.Learnt)
+
+abbrev calls-test-statement : ℕ → test-statement-lts.Claims
+calls-test-statement t = (of-type-reads.Asked, of-type-reads.Learnt, cases-below t, cases.Post, set-word-reads.Asked, set-word-reads.Learnt)
+
+abbrev calls-while-statement : ℕ → while-statement-lts.Claims
+calls-while-statement t = (of-type-reads.Asked, of-type-reads.Learnt, list-below t, list.Post, while-end-reads.Asked, while-end-reads.Learnt)
+
 abbrev cases-Inv-loop : cases-lts.InvT-loop
-cases-Inv-loop text code₀ values₀ k used first c₀ n₀ code values c n = ?
+cases-Inv-loop text code₀ values₀ k used first c₀ n₀ code values c n = Casings text code₀ values₀ k used first code values c n
 
 abbrev cases-μ-loop : cases-lts.MeasureT-loop
-cases-μ-loop text code₀ values₀ k used first c₀ n₀ code values c n = ?
-
--- src/lib.rt:426:5
-cases-loop-holds : (t : ℕ) → cases-lts.Need-loop-holds (
-  sort-reads.Asked,
-  sort-reads.Learnt,
-  default-below t,
-  default.Post,
-  case-values-reads.Asked,
-  case-values-reads.Learnt,
-  list-below t,
-  list.Post,
-  link-values-reads.Asked,
-  link-values-reads.Learnt,
-  set-word-reads.Asked,
-  set-word-reads.Learnt,
-) (cases-at t) cases.Post cases-Inv-loop cases-μ-loop
-cases-loop-holds t c = ?
-
--- src/lib.rt:427:12
-cases-sort-requires : (t : ℕ) → cases-lts.Need-sort-requires (
-  sort-reads.Asked,
-  sort-reads.Learnt,
-  default-below t,
-  default.Post,
-  case-values-reads.Asked,
-  case-values-reads.Learnt,
-  list-below t,
-  list.Post,
-  link-values-reads.Asked,
-  link-values-reads.Learnt,
-  set-word-reads.Asked,
-  set-word-reads.Learnt,
-) (cases-at t) cases.Post cases-Inv-loop cases-μ-loop
-cases-sort-requires t c κs = ?
-
--- src/lib.rt:428:13
-cases-default-requires : (t : ℕ) → cases-lts.Need-default-requires (
-  sort-reads.Asked,
-  sort-reads.Learnt,
-  default-below t,
-  default.Post,
-  case-values-reads.Asked,
-  case-values-reads.Learnt,
-  list-below t,
-  list.Post,
-  link-values-reads.Asked,
-  link-values-reads.Learnt,
-  set-word-reads.Asked,
-  set-word-reads.Learnt,
-) (cases-at t) cases.Post cases-Inv-loop cases-μ-loop
-cases-default-requires t c κs = ?
-
--- src/lib.rt:428:13
-cases-same-length : (t : ℕ) → cases-lts.Need-same-length (
-  sort-reads.Asked,
-  sort-reads.Learnt,
-  default-below t,
-  default.Post,
-  case-values-reads.Asked,
-  case-values-reads.Learnt,
-  list-below t,
-  list.Post,
-  link-values-reads.Asked,
-  link-values-reads.Learnt,
-  set-word-reads.Asked,
-  set-word-reads.Learnt,
-) (cases-at t) cases.Post cases-Inv-loop cases-μ-loop
-cases-same-length t c = ?
-
--- src/lib.rt:428:13
-cases-same-length-2 : (t : ℕ) → cases-lts.Need-same-length-2 (
-  sort-reads.Asked,
-  sort-reads.Learnt,
-  default-below t,
-  default.Post,
-  case-values-reads.Asked,
-  case-values-reads.Learnt,
-  list-below t,
-  list.Post,
-  link-values-reads.Asked,
-  link-values-reads.Learnt,
-  set-word-reads.Asked,
-  set-word-reads.Learnt,
-) (cases-at t) cases.Post cases-Inv-loop cases-μ-loop
-cases-same-length-2 t c = ?
-
--- src/lib.rt:428:13
-cases-returns : (t : ℕ) → cases-lts.Need-returns (
-  sort-reads.Asked,
-  sort-reads.Learnt,
-  default-below t,
-  default.Post,
-  case-values-reads.Asked,
-  case-values-reads.Learnt,
-  list-below t,
-  list.Post,
-  link-values-reads.Asked,
-  link-values-reads.Learnt,
-  set-word-reads.Asked,
-  set-word-reads.Learnt,
-) (cases-at t) cases.Post cases-Inv-loop cases-μ-loop
-cases-returns t c = ?
-
--- src/lib.rt:430:13
-cases-case-values-requires : (t : ℕ) → cases-lts.Need-case-values-requires (
-  sort-reads.Asked,
-  sort-reads.Learnt,
-  default-below t,
-  default.Post,
-  case-values-reads.Asked,
-  case-values-reads.Learnt,
-  list-below t,
-  list.Post,
-  link-values-reads.Asked,
-  link-values-reads.Learnt,
-  set-word-reads.Asked,
-  set-word-reads.Learnt,
-) (cases-at t) cases.Post cases-Inv-loop cases-μ-loop
-cases-case-values-requires t c κs = ?
-
--- src/lib.rt:432:28
-cases-enum-known-j : (t : ℕ) → cases-lts.Need-enum-known-j (
-  sort-reads.Asked,
-  sort-reads.Learnt,
-  default-below t,
-  default.Post,
-  case-values-reads.Asked,
-  case-values-reads.Learnt,
-  list-below t,
-  list.Post,
-  link-values-reads.Asked,
-  link-values-reads.Learnt,
-  set-word-reads.Asked,
-  set-word-reads.Learnt,
-) (cases-at t) cases.Post cases-Inv-loop cases-μ-loop
-cases-enum-known-j t c = ?
-
--- src/lib.rt:432:45
-cases-same-length-3 : (t : ℕ) → cases-lts.Need-same-length-3 (
-  sort-reads.Asked,
-  sort-reads.Learnt,
-  default-below t,
-  default.Post,
-  case-values-reads.Asked,
-  case-values-reads.Learnt,
-  list-below t,
-  list.Post,
-  link-values-reads.Asked,
-  link-values-reads.Learnt,
-  set-word-reads.Asked,
-  set-word-reads.Learnt,
-) (cases-at t) cases.Post cases-Inv-loop cases-μ-loop
-cases-same-length-3 t c = ?
-
--- src/lib.rt:432:45
-cases-same-length-4 : (t : ℕ) → cases-lts.Need-same-length-4 (
-  sort-reads.Asked,
-  sort-reads.Learnt,
-  default-below t,
-  default.Post,
-  case-values-reads.Asked,
-  case-values-reads.Learnt,
-  list-below t,
-  list.Post,
-  link-values-reads.Asked,
-  link-values-reads.Learnt,
-  set-word-reads.Asked,
-  set-word-reads.Learnt,
-) (cases-at t) cases.Post cases-Inv-loop cases-μ-loop
-cases-same-length-4 t c = ?
-
--- src/lib.rt:432:45
-cases-returns-2 : (t : ℕ) → cases-lts.Need-returns-2 (
-  sort-reads.Asked,
-  sort-reads.Learnt,
-  default-below t,
-  default.Post,
-  case-values-reads.Asked,
-  case-values-reads.Learnt,
-  list-below t,
-  list.Post,
-  link-values-reads.Asked,
-  link-values-reads.Learnt,
-  set-word-reads.Asked,
-  set-word-reads.Learnt,
-) (cases-at t) cases.Post cases-Inv-loop cases-μ-loop
-cases-returns-2 t c = ?
-
--- src/lib.rt:433:30
-cases-enum-known-j-2 : (t : ℕ) → cases-lts.Need-enum-known-j-2 (
-  sort-reads.Asked,
-  sort-reads.Learnt,
-  default-below t,
-  default.Post,
-  case-values-reads.Asked,
-  case-values-reads.Learnt,
-  list-below t,
-  list.Post,
-  link-values-reads.Asked,
-  link-values-reads.Learnt,
-  set-word-reads.Asked,
-  set-word-reads.Learnt,
-) (cases-at t) cases.Post cases-Inv-loop cases-μ-loop
-cases-enum-known-j-2 t c = ?
-
--- src/lib.rt:434:56
-cases-add-list : (t : ℕ) → cases-lts.Need-add-list (
-  sort-reads.Asked,
-  sort-reads.Learnt,
-  default-below t,
-  default.Post,
-  case-values-reads.Asked,
-  case-values-reads.Learnt,
-  list-below t,
-  list.Post,
-  link-values-reads.Asked,
-  link-values-reads.Learnt,
-  set-word-reads.Asked,
-  set-word-reads.Learnt,
-) (cases-at t) cases.Post cases-Inv-loop cases-μ-loop
-cases-add-list t c = ?
-
--- src/lib.rt:434:21
-cases-list-requires : (t : ℕ) → cases-lts.Need-list-requires (
-  sort-reads.Asked,
-  sort-reads.Learnt,
-  default-below t,
-  default.Post,
-  case-values-reads.Asked,
-  case-values-reads.Learnt,
-  list-below t,
-  list.Post,
-  link-values-reads.Asked,
-  link-values-reads.Learnt,
-  set-word-reads.Asked,
-  set-word-reads.Learnt,
-) (cases-at t) cases.Post cases-Inv-loop cases-μ-loop
-cases-list-requires t c κs = ?
-
--- src/lib.rt:435:34
-cases-enum-known-r : (t : ℕ) → cases-lts.Need-enum-known-r (
-  sort-reads.Asked,
-  sort-reads.Learnt,
-  default-below t,
-  default.Post,
-  case-values-reads.Asked,
-  case-values-reads.Learnt,
-  list-below t,
-  list.Post,
-  link-values-reads.Asked,
-  link-values-reads.Learnt,
-  set-word-reads.Asked,
-  set-word-reads.Learnt,
-) (cases-at t) cases.Post cases-Inv-loop cases-μ-loop
-cases-enum-known-r t c = ?
-
--- src/lib.rt:436:21
-cases-enum-told : (t : ℕ) → cases-lts.Need-enum-told (
-  sort-reads.Asked,
-  sort-reads.Learnt,
-  default-below t,
-  default.Post,
-  case-values-reads.Asked,
-  case-values-reads.Learnt,
-  list-below t,
-  list.Post,
-  link-values-reads.Asked,
-  link-values-reads.Learnt,
-  set-word-reads.Asked,
-  set-word-reads.Learnt,
-) (cases-at t) cases.Post cases-Inv-loop cases-μ-loop
-cases-enum-told t c = ?
-
--- src/lib.rt:436:21
-cases-same-length-5 : (t : ℕ) → cases-lts.Need-same-length-5 (
-  sort-reads.Asked,
-  sort-reads.Learnt,
-  default-below t,
-  default.Post,
-  case-values-reads.Asked,
-  case-values-reads.Learnt,
-  list-below t,
-  list.Post,
-  link-values-reads.Asked,
-  link-values-reads.Learnt,
-  set-word-reads.Asked,
-  set-word-reads.Learnt,
-) (cases-at t) cases.Post cases-Inv-loop cases-μ-loop
-cases-same-length-5 t c = ?
-
--- src/lib.rt:436:21
-cases-same-length-6 : (t : ℕ) → cases-lts.Need-same-length-6 (
-  sort-reads.Asked,
-  sort-reads.Learnt,
-  default-below t,
-  default.Post,
-  case-values-reads.Asked,
-  case-values-reads.Learnt,
-  list-below t,
-  list.Post,
-  link-values-reads.Asked,
-  link-values-reads.Learnt,
-  set-word-reads.Asked,
-  set-word-reads.Learnt,
-) (cases-at t) cases.Post cases-Inv-loop cases-μ-loop
-cases-same-length-6 t c = ?
-
--- src/lib.rt:436:21
-cases-returns-3 : (t : ℕ) → cases-lts.Need-returns-3 (
-  sort-reads.Asked,
-  sort-reads.Learnt,
-  default-below t,
-  default.Post,
-  case-values-reads.Asked,
-  case-values-reads.Learnt,
-  list-below t,
-  list.Post,
-  link-values-reads.Asked,
-  link-values-reads.Learnt,
-  set-word-reads.Asked,
-  set-word-reads.Learnt,
-) (cases-at t) cases.Post cases-Inv-loop cases-μ-loop
-cases-returns-3 t c = ?
-
--- src/lib.rt:438:17
-cases-link-values-requires : (t : ℕ) → cases-lts.Need-link-values-requires (
-  sort-reads.Asked,
-  sort-reads.Learnt,
-  default-below t,
-  default.Post,
-  case-values-reads.Asked,
-  case-values-reads.Learnt,
-  list-below t,
-  list.Post,
-  link-values-reads.Asked,
-  link-values-reads.Learnt,
-  set-word-reads.Asked,
-  set-word-reads.Learnt,
-) (cases-at t) cases.Post cases-Inv-loop cases-μ-loop
-cases-link-values-requires t c κs = ?
-
--- src/lib.rt:440:40
-cases-add-set-word : (t : ℕ) → cases-lts.Need-add-set-word (
-  sort-reads.Asked,
-  sort-reads.Learnt,
-  default-below t,
-  default.Post,
-  case-values-reads.Asked,
-  case-values-reads.Learnt,
-  list-below t,
-  list.Post,
-  link-values-reads.Asked,
-  link-values-reads.Learnt,
-  set-word-reads.Asked,
-  set-word-reads.Learnt,
-) (cases-at t) cases.Post cases-Inv-loop cases-μ-loop
-cases-add-set-word t c = ?
-
--- src/lib.rt:440:17
-cases-set-word-requires : (t : ℕ) → cases-lts.Need-set-word-requires (
-  sort-reads.Asked,
-  sort-reads.Learnt,
-  default-below t,
-  default.Post,
-  case-values-reads.Asked,
-  case-values-reads.Learnt,
-  list-below t,
-  list.Post,
-  link-values-reads.Asked,
-  link-values-reads.Learnt,
-  set-word-reads.Asked,
-  set-word-reads.Learnt,
-) (cases-at t) cases.Post cases-Inv-loop cases-μ-loop
-cases-set-word-requires t c κs = ?
-
--- src/lib.rt:426:5
-cases-loop-less : (t : ℕ) → cases-lts.Need-loop-less (
-  sort-reads.Asked,
-  sort-reads.Learnt,
-  default-below t,
-  default.Post,
-  case-values-reads.Asked,
-  case-values-reads.Learnt,
-  list-below t,
-  list.Post,
-  link-values-reads.Asked,
-  link-values-reads.Learnt,
-  set-word-reads.Asked,
-  set-word-reads.Learnt,
-) (cases-at t) cases.Post cases-Inv-loop cases-μ-loop
-cases-loop-less t c = ?
-
--- src/lib.rt:426:5
-cases-loop-again : (t : ℕ) → cases-lts.Need-loop-again (
-  sort-reads.Asked,
-  sort-reads.Learnt,
-  default-below t,
-  default.Post,
-  case-values-reads.Asked,
-  case-values-reads.Learnt,
-  list-below t,
-  list.Post,
-  link-values-reads.Asked,
-  link-values-reads.Learnt,
-  set-word-reads.Asked,
-  set-word-reads.Learnt,
-) (cases-at t) cases.Post cases-Inv-loop cases-μ-loop
-cases-loop-again t c = ?
-
--- src/lib.rt:399:8
-default-sort-requires : (t : ℕ) → default-lts.Need-sort-requires (
-  sort-reads.Asked,
-  sort-reads.Learnt,
-  rewrite-reads.Asked,
-  rewrite-reads.Learnt,
-  list-below t,
-  list.Post,
-  set-word-reads.Asked,
-  set-word-reads.Learnt,
-) (default-at t) default.Post
-default-sort-requires t c κs = ?
-
--- src/lib.rt:400:38
-default-add-rewrite : (t : ℕ) → default-lts.Need-add-rewrite (
-  sort-reads.Asked,
-  sort-reads.Learnt,
-  rewrite-reads.Asked,
-  rewrite-reads.Learnt,
-  list-below t,
-  list.Post,
-  set-word-reads.Asked,
-  set-word-reads.Learnt,
-) (default-at t) default.Post
-default-add-rewrite t c = ?
-
--- src/lib.rt:400:37
-default-cast-rewrite : (t : ℕ) → default-lts.Need-cast-rewrite (
-  sort-reads.Asked,
-  sort-reads.Learnt,
-  rewrite-reads.Asked,
-  rewrite-reads.Learnt,
-  list-below t,
-  list.Post,
-  set-word-reads.Asked,
-  set-word-reads.Learnt,
-) (default-at t) default.Post
-default-cast-rewrite t c = ?
-
--- src/lib.rt:400:53
-default-add-rewrite-2 : (t : ℕ) → default-lts.Need-add-rewrite-2 (
-  sort-reads.Asked,
-  sort-reads.Learnt,
-  rewrite-reads.Asked,
-  rewrite-reads.Learnt,
-  list-below t,
-  list.Post,
-  set-word-reads.Asked,
-  set-word-reads.Learnt,
-) (default-at t) default.Post
-default-add-rewrite-2 t c = ?
-
--- src/lib.rt:400:9
-default-rewrite-requires : (t : ℕ) → default-lts.Need-rewrite-requires (
-  sort-reads.Asked,
-  sort-reads.Learnt,
-  rewrite-reads.Asked,
-  rewrite-reads.Learnt,
-  list-below t,
-  list.Post,
-  set-word-reads.Asked,
-  set-word-reads.Learnt,
-) (default-at t) default.Post
-default-rewrite-requires t c κs = ?
-
--- src/lib.rt:401:29
-default-add-t17 : (t : ℕ) → default-lts.Need-add-t17 (
-  sort-reads.Asked,
-  sort-reads.Learnt,
-  rewrite-reads.Asked,
-  rewrite-reads.Learnt,
-  list-below t,
-  list.Post,
-  set-word-reads.Asked,
-  set-word-reads.Learnt,
-) (default-at t) default.Post
-default-add-t17 t c = ?
-
--- src/lib.rt:401:9
-default-same-length : (t : ℕ) → default-lts.Need-same-length (
-  sort-reads.Asked,
-  sort-reads.Learnt,
-  rewrite-reads.Asked,
-  rewrite-reads.Learnt,
-  list-below t,
-  list.Post,
-  set-word-reads.Asked,
-  set-word-reads.Learnt,
-) (default-at t) default.Post
-default-same-length t c = ?
-
--- src/lib.rt:401:9
-default-returns : (t : ℕ) → default-lts.Need-returns (
-  sort-reads.Asked,
-  sort-reads.Learnt,
-  rewrite-reads.Asked,
-  rewrite-reads.Learnt,
-  list-below t,
-  list.Post,
-  set-word-reads.Asked,
-  set-word-reads.Learnt,
-) (default-at t) default.Post
-default-returns t c = ?
-
--- src/lib.rt:403:47
-default-add-list : (t : ℕ) → default-lts.Need-add-list (
-  sort-reads.Asked,
-  sort-reads.Learnt,
-  rewrite-reads.Asked,
-  rewrite-reads.Learnt,
-  list-below t,
-  list.Post,
-  set-word-reads.Asked,
-  set-word-reads.Learnt,
-) (default-at t) default.Post
-default-add-list t c = ?
-
--- src/lib.rt:403:9
-default-list-requires : (t : ℕ) → default-lts.Need-list-requires (
-  sort-reads.Asked,
-  sort-reads.Learnt,
-  rewrite-reads.Asked,
-  rewrite-reads.Learnt,
-  list-below t,
-  list.Post,
-  set-word-reads.Asked,
-  set-word-reads.Learnt,
-) (default-at t) default.Post
-default-list-requires t c κs = ?
-
--- src/lib.rt:404:22
-default-enum-known-r : (t : ℕ) → default-lts.Need-enum-known-r (
-  sort-reads.Asked,
-  sort-reads.Learnt,
-  rewrite-reads.Asked,
-  rewrite-reads.Learnt,
-  list-below t,
-  list.Post,
-  set-word-reads.Asked,
-  set-word-reads.Learnt,
-) (default-at t) default.Post
-default-enum-known-r t c = ?
-
--- src/lib.rt:405:9
-default-enum-told : (t : ℕ) → default-lts.Need-enum-told (
-  sort-reads.Asked,
-  sort-reads.Learnt,
-  rewrite-reads.Asked,
-  rewrite-reads.Learnt,
-  list-below t,
-  list.Post,
-  set-word-reads.Asked,
-  set-word-reads.Learnt,
-) (default-at t) default.Post
-default-enum-told t c = ?
-
--- src/lib.rt:405:9
-default-same-length-2 : (t : ℕ) → default-lts.Need-same-length-2 (
-  sort-reads.Asked,
-  sort-reads.Learnt,
-  rewrite-reads.Asked,
-  rewrite-reads.Learnt,
-  list-below t,
-  list.Post,
-  set-word-reads.Asked,
-  set-word-reads.Learnt,
-) (default-at t) default.Post
-default-same-length-2 t c = ?
-
--- src/lib.rt:405:9
-default-same-length-3 : (t : ℕ) → default-lts.Need-same-length-3 (
-  sort-reads.Asked,
-  sort-reads.Learnt,
-  rewrite-reads.Asked,
-  rewrite-reads.Learnt,
-  list-below t,
-  list.Post,
-  set-word-reads.Asked,
-  set-word-reads.Learnt,
-) (default-at t) default.Post
-default-same-length-3 t c = ?
-
--- src/lib.rt:405:9
-default-returns-2 : (t : ℕ) → default-lts.Need-returns-2 (
-  sort-reads.Asked,
-  sort-reads.Learnt,
-  rewrite-reads.Asked,
-  rewrite-reads.Learnt,
-  list-below t,
-  list.Post,
-  set-word-reads.Asked,
-  set-word-reads.Learnt,
-) (default-at t) default.Post
-default-returns-2 t c = ?
-
--- src/lib.rt:407:34
-default-add-rewrite-3 : (t : ℕ) → default-lts.Need-add-rewrite-3 (
-  sort-reads.Asked,
-  sort-reads.Learnt,
-  rewrite-reads.Asked,
-  rewrite-reads.Learnt,
-  list-below t,
-  list.Post,
-  set-word-reads.Asked,
-  set-word-reads.Learnt,
-) (default-at t) default.Post
-default-add-rewrite-3 t c = ?
-
--- src/lib.rt:407:33
-default-cast-rewrite-2 : (t : ℕ) → default-lts.Need-cast-rewrite-2 (
-  sort-reads.Asked,
-  sort-reads.Learnt,
-  rewrite-reads.Asked,
-  rewrite-reads.Learnt,
-  list-below t,
-  list.Post,
-  set-word-reads.Asked,
-  set-word-reads.Learnt,
-) (default-at t) default.Post
-default-cast-rewrite-2 t c = ?
-
--- src/lib.rt:407:5
-default-rewrite-requires-2 : (t : ℕ) → default-lts.Need-rewrite-requires-2 (
-  sort-reads.Asked,
-  sort-reads.Learnt,
-  rewrite-reads.Asked,
-  rewrite-reads.Learnt,
-  list-below t,
-  list.Post,
-  set-word-reads.Asked,
-  set-word-reads.Learnt,
-) (default-at t) default.Post
-default-rewrite-requires-2 t c κs = ?
-
--- src/lib.rt:408:40
-default-add-set-word : (t : ℕ) → default-lts.Need-add-set-word (
-  sort-reads.Asked,
-  sort-reads.Learnt,
-  rewrite-reads.Asked,
-  rewrite-reads.Learnt,
-  list-below t,
-  list.Post,
-  set-word-reads.Asked,
-  set-word-reads.Learnt,
-) (default-at t) default.Post
-default-add-set-word t c = ?
-
--- src/lib.rt:408:5
-default-set-word-requires : (t : ℕ) → default-lts.Need-set-word-requires (
-  sort-reads.Asked,
-  sort-reads.Learnt,
-  rewrite-reads.Asked,
-  rewrite-reads.Learnt,
-  list-below t,
-  list.Post,
-  set-word-reads.Asked,
-  set-word-reads.Learnt,
-) (default-at t) default.Post
-default-set-word-requires t c κs = ?
-
--- src/lib.rt:409:18
-default-add-t24 : (t : ℕ) → default-lts.Need-add-t24 (
-  sort-reads.Asked,
-  sort-reads.Learnt,
-  rewrite-reads.Asked,
-  rewrite-reads.Learnt,
-  list-below t,
-  list.Post,
-  set-word-reads.Asked,
-  set-word-reads.Learnt,
-) (default-at t) default.Post
-default-add-t24 t c = ?
-
--- src/lib.rt:388:1
-default-same-length-4 : (t : ℕ) → default-lts.Need-same-length-4 (
-  sort-reads.Asked,
-  sort-reads.Learnt,
-  rewrite-reads.Asked,
-  rewrite-reads.Learnt,
-  list-below t,
-  list.Post,
-  set-word-reads.Asked,
-  set-word-reads.Learnt,
-) (default-at t) default.Post
-default-same-length-4 t c = ?
-
--- src/lib.rt:388:1
-default-same-length-5 : (t : ℕ) → default-lts.Need-same-length-5 (
-  sort-reads.Asked,
-  sort-reads.Learnt,
-  rewrite-reads.Asked,
-  rewrite-reads.Learnt,
-  list-below t,
-  list.Post,
-  set-word-reads.Asked,
-  set-word-reads.Learnt,
-) (default-at t) default.Post
-default-same-length-5 t c = ?
-
--- src/lib.rt:388:1
-default-returns-3 : (t : ℕ) → default-lts.Need-returns-3 (
-  sort-reads.Asked,
-  sort-reads.Learnt,
-  rewrite-reads.Asked,
-  rewrite-reads.Learnt,
-  list-below t,
-  list.Post,
-  set-word-reads.Asked,
-  set-word-reads.Learnt,
-) (default-at t) default.Post
-default-returns-3 t c = ?
-
--- src/lib.rt:264:8
-else-part-sort-requires : (t : ℕ) → else-part-lts.Need-sort-requires (
-  sort-reads.Asked,
-  sort-reads.Learnt,
-  set-word-reads.Asked,
-  set-word-reads.Learnt,
-  list-below t,
-  list.Post,
-) (else-part-at t) else-part.Post
-else-part-sort-requires t c κs = ?
-
--- src/lib.rt:265:44
-else-part-add-set-word : (t : ℕ) → else-part-lts.Need-add-set-word (
-  sort-reads.Asked,
-  sort-reads.Learnt,
-  set-word-reads.Asked,
-  set-word-reads.Learnt,
-  list-below t,
-  list.Post,
-) (else-part-at t) else-part.Post
-else-part-add-set-word t c = ?
-
--- src/lib.rt:265:9
-else-part-set-word-requires : (t : ℕ) → else-part-lts.Need-set-word-requires (
-  sort-reads.Asked,
-  sort-reads.Learnt,
-  set-word-reads.Asked,
-  set-word-reads.Learnt,
-  list-below t,
-  list.Post,
-) (else-part-at t) else-part.Post
-else-part-set-word-requires t c κs = ?
-
--- src/lib.rt:266:29
-else-part-add-t17 : (t : ℕ) → else-part-lts.Need-add-t17 (
-  sort-reads.Asked,
-  sort-reads.Learnt,
-  set-word-reads.Asked,
-  set-word-reads.Learnt,
-  list-below t,
-  list.Post,
-) (else-part-at t) else-part.Post
-else-part-add-t17 t c = ?
-
--- src/lib.rt:266:9
-else-part-same-length : (t : ℕ) → else-part-lts.Need-same-length (
-  sort-reads.Asked,
-  sort-reads.Learnt,
-  set-word-reads.Asked,
-  set-word-reads.Learnt,
-  list-below t,
-  list.Post,
-) (else-part-at t) else-part.Post
-else-part-same-length t c = ?
-
--- src/lib.rt:266:9
-else-part-returns : (t : ℕ) → else-part-lts.Need-returns (
-  sort-reads.Asked,
-  sort-reads.Learnt,
-  set-word-reads.Asked,
-  set-word-reads.Learnt,
-  list-below t,
-  list.Post,
-) (else-part-at t) else-part.Post
-else-part-returns t c = ?
-
--- src/lib.rt:268:47
-else-part-add-list : (t : ℕ) → else-part-lts.Need-add-list (
-  sort-reads.Asked,
-  sort-reads.Learnt,
-  set-word-reads.Asked,
-  set-word-reads.Learnt,
-  list-below t,
-  list.Post,
-) (else-part-at t) else-part.Post
-else-part-add-list t c = ?
-
--- src/lib.rt:268:9
-else-part-list-requires : (t : ℕ) → else-part-lts.Need-list-requires (
-  sort-reads.Asked,
-  sort-reads.Learnt,
-  set-word-reads.Asked,
-  set-word-reads.Learnt,
-  list-below t,
-  list.Post,
-) (else-part-at t) else-part.Post
-else-part-list-requires t c κs = ?
-
--- src/lib.rt:269:22
-else-part-enum-known-r : (t : ℕ) → else-part-lts.Need-enum-known-r (
-  sort-reads.Asked,
-  sort-reads.Learnt,
-  set-word-reads.Asked,
-  set-word-reads.Learnt,
-  list-below t,
-  list.Post,
-) (else-part-at t) else-part.Post
-else-part-enum-known-r t c = ?
-
--- src/lib.rt:270:9
-else-part-enum-told : (t : ℕ) → else-part-lts.Need-enum-told (
-  sort-reads.Asked,
-  sort-reads.Learnt,
-  set-word-reads.Asked,
-  set-word-reads.Learnt,
-  list-below t,
-  list.Post,
-) (else-part-at t) else-part.Post
-else-part-enum-told t c = ?
-
--- src/lib.rt:270:9
-else-part-same-length-2 : (t : ℕ) → else-part-lts.Need-same-length-2 (
-  sort-reads.Asked,
-  sort-reads.Learnt,
-  set-word-reads.Asked,
-  set-word-reads.Learnt,
-  list-below t,
-  list.Post,
-) (else-part-at t) else-part.Post
-else-part-same-length-2 t c = ?
-
--- src/lib.rt:270:9
-else-part-same-length-3 : (t : ℕ) → else-part-lts.Need-same-length-3 (
-  sort-reads.Asked,
-  sort-reads.Learnt,
-  set-word-reads.Asked,
-  set-word-reads.Learnt,
-  list-below t,
-  list.Post,
-) (else-part-at t) else-part.Post
-else-part-same-length-3 t c = ?
-
--- src/lib.rt:270:9
-else-part-returns-2 : (t : ℕ) → else-part-lts.Need-returns-2 (
-  sort-reads.Asked,
-  sort-reads.Learnt,
-  set-word-reads.Asked,
-  set-word-reads.Learnt,
-  list-below t,
-  list.Post,
-) (else-part-at t) else-part.Post
-else-part-returns-2 t c = ?
-
--- src/lib.rt:272:5
-else-part-set-word-requires-2 : (t : ℕ) → else-part-lts.Need-set-word-requires-2 (
-  sort-reads.Asked,
-  sort-reads.Learnt,
-  set-word-reads.Asked,
-  set-word-reads.Learnt,
-  list-below t,
-  list.Post,
-) (else-part-at t) else-part.Post
-else-part-set-word-requires-2 t c κs = ?
-
--- src/lib.rt:273:40
-else-part-add-set-word-2 : (t : ℕ) → else-part-lts.Need-add-set-word-2 (
-  sort-reads.Asked,
-  sort-reads.Learnt,
-  set-word-reads.Asked,
-  set-word-reads.Learnt,
-  list-below t,
-  list.Post,
-) (else-part-at t) else-part.Post
-else-part-add-set-word-2 t c = ?
-
--- src/lib.rt:273:5
-else-part-set-word-requires-3 : (t : ℕ) → else-part-lts.Need-set-word-requires-3 (
-  sort-reads.Asked,
-  sort-reads.Learnt,
-  set-word-reads.Asked,
-  set-word-reads.Learnt,
-  list-below t,
-  list.Post,
-) (else-part-at t) else-part.Post
-else-part-set-word-requires-3 t c κs = ?
-
--- src/lib.rt:274:18
-else-part-add-t22 : (t : ℕ) → else-part-lts.Need-add-t22 (
-  sort-reads.Asked,
-  sort-reads.Learnt,
-  set-word-reads.Asked,
-  set-word-reads.Learnt,
-  list-below t,
-  list.Post,
-) (else-part-at t) else-part.Post
-else-part-add-t22 t c = ?
-
--- src/lib.rt:253:1
-else-part-same-length-4 : (t : ℕ) → else-part-lts.Need-same-length-4 (
-  sort-reads.Asked,
-  sort-reads.Learnt,
-  set-word-reads.Asked,
-  set-word-reads.Learnt,
-  list-below t,
-  list.Post,
-) (else-part-at t) else-part.Post
-else-part-same-length-4 t c = ?
-
--- src/lib.rt:253:1
-else-part-same-length-5 : (t : ℕ) → else-part-lts.Need-same-length-5 (
-  sort-reads.Asked,
-  sort-reads.Learnt,
-  set-word-reads.Asked,
-  set-word-reads.Learnt,
-  list-below t,
-  list.Post,
-) (else-part-at t) else-part.Post
-else-part-same-length-5 t c = ?
-
--- src/lib.rt:253:1
-else-part-returns-3 : (t : ℕ) → else-part-lts.Need-returns-3 (
-  sort-reads.Asked,
-  sort-reads.Learnt,
-  set-word-reads.Asked,
-  set-word-reads.Learnt,
-  list-below t,
-  list.Post,
-) (else-part-at t) else-part.Post
-else-part-returns-3 t c = ?
-
--- src/lib.rt:193:9
-for-statement-for-head-requires : (t : ℕ) → for-statement-lts.Need-for-head-requires (
-  for-head-reads.Asked,
-  for-head-reads.Learnt,
-  declare-reads.Asked,
-  declare-reads.Learnt,
-  list-below t,
-  list.Post,
-  leave-reads.Asked,
-  leave-reads.Learnt,
-  for-end-reads.Asked,
-  for-end-reads.Learnt,
-) (for-statement-at t) for-statement.Post
-for-statement-for-head-requires t c κs = ?
-
--- src/lib.rt:195:24
-for-statement-enum-known-j : (t : ℕ) → for-statement-lts.Need-enum-known-j (
-  for-head-reads.Asked,
-  for-head-reads.Learnt,
-  declare-reads.Asked,
-  declare-reads.Learnt,
-  list-below t,
-  list.Post,
-  leave-reads.Asked,
-  leave-reads.Learnt,
-  for-end-reads.Asked,
-  for-end-reads.Learnt,
-) (for-statement-at t) for-statement.Post
-for-statement-enum-known-j t c = ?
-
--- src/lib.rt:196:26
-for-statement-enum-known-j-2 : (t : ℕ) → for-statement-lts.Need-enum-known-j-2 (
-  for-head-reads.Asked,
-  for-head-reads.Learnt,
-  declare-reads.Asked,
-  declare-reads.Learnt,
-  list-below t,
-  list.Post,
-  leave-reads.Asked,
-  leave-reads.Learnt,
-  for-end-reads.Asked,
-  for-end-reads.Learnt,
-) (for-statement-at t) for-statement.Post
-for-statement-enum-known-j-2 t c = ?
-
--- src/lib.rt:200:17
-for-statement-add-declare : (t : ℕ) → for-statement-lts.Need-add-declare (
-  for-head-reads.Asked,
-  for-head-reads.Learnt,
-  declare-reads.Asked,
-  declare-reads.Learnt,
-  list-below t,
-  list.Post,
-  leave-reads.Asked,
-  leave-reads.Learnt,
-  for-end-reads.Asked,
-  for-end-reads.Learnt,
-) (for-statement-at t) for-statement.Post
-for-statement-add-declare t c = ?
-
--- src/lib.rt:201:17
-for-statement-add-declare-2 : (t : ℕ) → for-statement-lts.Need-add-declare-2 (
-  for-head-reads.Asked,
-  for-head-reads.Learnt,
-  declare-reads.Asked,
-  declare-reads.Learnt,
-  list-below t,
-  list.Post,
-  leave-reads.Asked,
-  leave-reads.Learnt,
-  for-end-reads.Asked,
-  for-end-reads.Learnt,
-) (for-statement-at t) for-statement.Post
-for-statement-add-declare-2 t c = ?
-
--- src/lib.rt:201:51
-for-statement-mul-declare : (t : ℕ) → for-statement-lts.Need-mul-declare (
-  for-head-reads.Asked,
-  for-head-reads.Learnt,
-  declare-reads.Asked,
-  declare-reads.Learnt,
-  list-below t,
-  list.Post,
-  leave-reads.Asked,
-  leave-reads.Learnt,
-  for-end-reads.Asked,
-  for-end-reads.Learnt,
-) (for-statement-at t) for-statement.Post
-for-statement-mul-declare t c = ?
-
--- src/lib.rt:201:17
-for-statement-add-declare-3 : (t : ℕ) → for-statement-lts.Need-add-declare-3 (
-  for-head-reads.Asked,
-  for-head-reads.Learnt,
-  declare-reads.Asked,
-  declare-reads.Learnt,
-  list-below t,
-  list.Post,
-  leave-reads.Asked,
-  leave-reads.Learnt,
-  for-end-reads.Asked,
-  for-end-reads.Learnt,
-) (for-statement-at t) for-statement.Post
-for-statement-add-declare-3 t c = ?
-
--- src/lib.rt:197:13
-for-statement-declare-requires : (t : ℕ) → for-statement-lts.Need-declare-requires (
-  for-head-reads.Asked,
-  for-head-reads.Learnt,
-  declare-reads.Asked,
-  declare-reads.Learnt,
-  list-below t,
-  list.Post,
-  leave-reads.Asked,
-  leave-reads.Learnt,
-  for-end-reads.Asked,
-  for-end-reads.Learnt,
-) (for-statement-at t) for-statement.Post
-for-statement-declare-requires t c κs = ?
-
--- src/lib.rt:203:49
-for-statement-add-list : (t : ℕ) → for-statement-lts.Need-add-list (
-  for-head-reads.Asked,
-  for-head-reads.Learnt,
-  declare-reads.Asked,
-  declare-reads.Learnt,
-  list-below t,
-  list.Post,
-  leave-reads.Asked,
-  leave-reads.Learnt,
-  for-end-reads.Asked,
-  for-end-reads.Learnt,
-) (for-statement-at t) for-statement.Post
-for-statement-add-list t c = ?
-
--- src/lib.rt:203:59
-for-statement-add-list-2 : (t : ℕ) → for-statement-lts.Need-add-list-2 (
-  for-head-reads.Asked,
-  for-head-reads.Learnt,
-  declare-reads.Asked,
-  declare-reads.Learnt,
-  list-below t,
-  list.Post,
-  leave-reads.Asked,
-  leave-reads.Learnt,
-  for-end-reads.Asked,
-  for-end-reads.Learnt,
-) (for-statement-at t) for-statement.Post
-for-statement-add-list-2 t c = ?
-
--- src/lib.rt:203:17
-for-statement-list-requires : (t : ℕ) → for-statement-lts.Need-list-requires (
-  for-head-reads.Asked,
-  for-head-reads.Learnt,
-  declare-reads.Asked,
-  declare-reads.Learnt,
-  list-below t,
-  list.Post,
-  leave-reads.Asked,
-  leave-reads.Learnt,
-  for-end-reads.Asked,
-  for-end-reads.Learnt,
-) (for-statement-at t) for-statement.Post
-for-statement-list-requires t c κs = ?
-
--- src/lib.rt:204:30
-for-statement-enum-known-r : (t : ℕ) → for-statement-lts.Need-enum-known-r (
-  for-head-reads.Asked,
-  for-head-reads.Learnt,
-  declare-reads.Asked,
-  declare-reads.Learnt,
-  list-below t,
-  list.Post,
-  leave-reads.Asked,
-  leave-reads.Learnt,
-  for-end-reads.Asked,
-  for-end-reads.Learnt,
-) (for-statement-at t) for-statement.Post
-for-statement-enum-known-r t c = ?
-
--- src/lib.rt:205:17
-for-statement-enum-told : (t : ℕ) → for-statement-lts.Need-enum-told (
-  for-head-reads.Asked,
-  for-head-reads.Learnt,
-  declare-reads.Asked,
-  declare-reads.Learnt,
-  list-below t,
-  list.Post,
-  leave-reads.Asked,
-  leave-reads.Learnt,
-  for-end-reads.Asked,
-  for-end-reads.Learnt,
-) (for-statement-at t) for-statement.Post
-for-statement-enum-told t c = ?
-
--- src/lib.rt:205:17
-for-statement-same-length : (t : ℕ) → for-statement-lts.Need-same-length (
-  for-head-reads.Asked,
-  for-head-reads.Learnt,
-  declare-reads.Asked,
-  declare-reads.Learnt,
-  list-below t,
-  list.Post,
-  leave-reads.Asked,
-  leave-reads.Learnt,
-  for-end-reads.Asked,
-  for-end-reads.Learnt,
-) (for-statement-at t) for-statement.Post
-for-statement-same-length t c = ?
-
--- src/lib.rt:205:17
-for-statement-same-length-2 : (t : ℕ) → for-statement-lts.Need-same-length-2 (
-  for-head-reads.Asked,
-  for-head-reads.Learnt,
-  declare-reads.Asked,
-  declare-reads.Learnt,
-  list-below t,
-  list.Post,
-  leave-reads.Asked,
-  leave-reads.Learnt,
-  for-end-reads.Asked,
-  for-end-reads.Learnt,
-) (for-statement-at t) for-statement.Post
-for-statement-same-length-2 t c = ?
-
--- src/lib.rt:205:17
-for-statement-returns : (t : ℕ) → for-statement-lts.Need-returns (
-  for-head-reads.Asked,
-  for-head-reads.Learnt,
-  declare-reads.Asked,
-  declare-reads.Learnt,
-  list-below t,
-  list.Post,
-  leave-reads.Asked,
-  leave-reads.Learnt,
-  for-end-reads.Asked,
-  for-end-reads.Learnt,
-) (for-statement-at t) for-statement.Post
-for-statement-returns t c = ?
-
--- src/lib.rt:207:40
-for-statement-add-leave : (t : ℕ) → for-statement-lts.Need-add-leave (
-  for-head-reads.Asked,
-  for-head-reads.Learnt,
-  declare-reads.Asked,
-  declare-reads.Learnt,
-  list-below t,
-  list.Post,
-  leave-reads.Asked,
-  leave-reads.Learnt,
-  for-end-reads.Asked,
-  for-end-reads.Learnt,
-) (for-statement-at t) for-statement.Post
-for-statement-add-leave t c = ?
-
--- src/lib.rt:207:13
-for-statement-leave-requires : (t : ℕ) → for-statement-lts.Need-leave-requires (
-  for-head-reads.Asked,
-  for-head-reads.Learnt,
-  declare-reads.Asked,
-  declare-reads.Learnt,
-  list-below t,
-  list.Post,
-  leave-reads.Asked,
-  leave-reads.Learnt,
-  for-end-reads.Asked,
-  for-end-reads.Learnt,
-) (for-statement-at t) for-statement.Post
-for-statement-leave-requires t c κs = ?
-
--- src/lib.rt:208:13
-for-statement-for-end-requires : (t : ℕ) → for-statement-lts.Need-for-end-requires (
-  for-head-reads.Asked,
-  for-head-reads.Learnt,
-  declare-reads.Asked,
-  declare-reads.Learnt,
-  list-below t,
-  list.Post,
-  leave-reads.Asked,
-  leave-reads.Learnt,
-  for-end-reads.Asked,
-  for-end-reads.Learnt,
-) (for-statement-at t) for-statement.Post
-for-statement-for-end-requires t c κs = ?
-
--- src/lib.rt:209:26
-for-statement-add-t24 : (t : ℕ) → for-statement-lts.Need-add-t24 (
-  for-head-reads.Asked,
-  for-head-reads.Learnt,
-  declare-reads.Asked,
-  declare-reads.Learnt,
-  list-below t,
-  list.Post,
-  leave-reads.Asked,
-  leave-reads.Learnt,
-  for-end-reads.Asked,
-  for-end-reads.Learnt,
-) (for-statement-at t) for-statement.Post
-for-statement-add-t24 t c = ?
-
--- src/lib.rt:182:1
-for-statement-same-length-3 : (t : ℕ) → for-statement-lts.Need-same-length-3 (
-  for-head-reads.Asked,
-  for-head-reads.Learnt,
-  declare-reads.Asked,
-  declare-reads.Learnt,
-  list-below t,
-  list.Post,
-  leave-reads.Asked,
-  leave-reads.Learnt,
-  for-end-reads.Asked,
-  for-end-reads.Learnt,
-) (for-statement-at t) for-statement.Post
-for-statement-same-length-3 t c = ?
-
--- src/lib.rt:182:1
-for-statement-same-length-4 : (t : ℕ) → for-statement-lts.Need-same-length-4 (
-  for-head-reads.Asked,
-  for-head-reads.Learnt,
-  declare-reads.Asked,
-  declare-reads.Learnt,
-  list-below t,
-  list.Post,
-  leave-reads.Asked,
-  leave-reads.Learnt,
-  for-end-reads.Asked,
-  for-end-reads.Learnt,
-) (for-statement-at t) for-statement.Post
-for-statement-same-length-4 t c = ?
-
--- src/lib.rt:182:1
-for-statement-returns-2 : (t : ℕ) → for-statement-lts.Need-returns-2 (
-  for-head-reads.Asked,
-  for-head-reads.Learnt,
-  declare-reads.Asked,
-  declare-reads.Learnt,
-  list-below t,
-  list.Post,
-  leave-reads.Asked,
-  leave-reads.Learnt,
-  for-end-reads.Asked,
-  for-end-reads.Learnt,
-) (for-statement-at t) for-statement.Post
-for-statement-returns-2 t c = ?
-
--- src/lib.rt:182:1
-for-statement-same-length-5 : (t : ℕ) → for-statement-lts.Need-same-length-5 (
-  for-head-reads.Asked,
-  for-head-reads.Learnt,
-  declare-reads.Asked,
-  declare-reads.Learnt,
-  list-below t,
-  list.Post,
-  leave-reads.Asked,
-  leave-reads.Learnt,
-  for-end-reads.Asked,
-  for-end-reads.Learnt,
-) (for-statement-at t) for-statement.Post
-for-statement-same-length-5 t c = ?
-
--- src/lib.rt:182:1
-for-statement-same-length-6 : (t : ℕ) → for-statement-lts.Need-same-length-6 (
-  for-head-reads.Asked,
-  for-head-reads.Learnt,
-  declare-reads.Asked,
-  declare-reads.Learnt,
-  list-below t,
-  list.Post,
-  leave-reads.Asked,
-  leave-reads.Learnt,
-  for-end-reads.Asked,
-  for-end-reads.Learnt,
-) (for-statement-at t) for-statement.Post
-for-statement-same-length-6 t c = ?
-
--- src/lib.rt:182:1
-for-statement-returns-3 : (t : ℕ) → for-statement-lts.Need-returns-3 (
-  for-head-reads.Asked,
-  for-head-reads.Learnt,
-  declare-reads.Asked,
-  declare-reads.Learnt,
-  list-below t,
-  list.Post,
-  leave-reads.Asked,
-  leave-reads.Learnt,
-  for-end-reads.Asked,
-  for-end-reads.Learnt,
-) (for-statement-at t) for-statement.Post
-for-statement-returns-3 t c = ?
+cases-μ-loop text code₀ values₀ k used first c₀ n₀ code values c n = 8192 - c
+
+cases-loop-holds : (t : ℕ) → cases-lts.Need-loop-holds (calls-cases t) (cases-at t) cases.Post cases-Inv-loop cases-μ-loop
+cases-loop-holds t c = search (needs, cases-begin)
+
+cases-sort-requires : (t : ℕ) → cases-lts.Need-sort-requires (calls-cases t) (cases-at t) cases.Post cases-Inv-loop cases-μ-loop
+cases-sort-requires t c κs = case-room _ _ _ _ _ _ _ _ _ _ (c .before .loop .inv) (c .before .before .before .before .before .pre .1) .2
+
+cases-default-requires : (t : ℕ) → cases-lts.Need-default-requires (calls-cases t) (cases-at t) cases.Post cases-Inv-loop cases-μ-loop
+cases-default-requires t c κs = (omega (arith, case-room _ _ _ _ _ _ _ _ _ _ (c .before .before .before .before .before .loop .inv) (c .before .before .before .before .before .before .before .before .before .pre .1), c .before .before .before .before .before .before .before .before .before .pre .0), case-defaults _ _ _ _ _ _ _ _ _ _ (c .before .before .before .before .before .loop .inv) (c .before .before .before .before .before .before .before .before .before .pre .1) _ (c .before .before .before .sort .ensures) (c .before .before .if1 .taken))
+
+cases-same-length : (t : ℕ) → cases-lts.Need-same-length (calls-cases t) (cases-at t) cases.Post cases-Inv-loop cases-μ-loop
+cases-same-length t c = let z = case-long _ _ _ _ _ _ _ _ _ _ (c .before .before .before .before .before .before .before .before .before .before .loop .inv) (c .before .before .before .before .before .before .before .before .before .before .before .before .before .before .pre .1) in search needs
+
+cases-same-length-2 : (t : ℕ) → cases-lts.Need-same-length-2 (calls-cases t) (cases-at t) cases.Post cases-Inv-loop cases-μ-loop
+cases-same-length-2 t c = let z = case-values-long _ _ _ _ _ _ _ _ _ _ (c .before .before .before .before .before .before .before .before .before .before .loop .inv) (c .before .before .before .before .before .before .before .before .before .before .before .before .before .before .pre .1) in search needs
+
+cases-returns : (t : ℕ) → cases-lts.Need-returns (calls-cases t) (cases-at t) cases.Post cases-Inv-loop cases-μ-loop
+cases-returns t c = cases-finished _ _ _ _ _ _ _ _ _ _ (c .before .before .before .before .before .before .before .before .before .before .loop .inv) _ (c .before .before .before .before .before .before .before .before .sort .ensures) (c .before .before .before .before .before .before .before .if1 .taken) _ _ _ (c .before .before .before .before .default .ensures)
+
+cases-case-values-requires : (t : ℕ) → cases-lts.Need-case-values-requires (calls-cases t) (cases-at t) cases.Post cases-Inv-loop cases-μ-loop
+cases-case-values-requires t c κs = case-values-stand _ _ _ _ _ _ _ _ _ _ (c .before .before .before .before .before .loop .inv) (c .before .before .before .before .before .before .before .before .before .pre .1) _ (c .before .before .before .sort .ensures) (c .before .before .if1 .left)
+
+cases-enum-known-j : (t : ℕ) → cases-lts.Need-enum-known-j (calls-cases t) (cases-at t) cases.Post cases-Inv-loop cases-μ-loop
+cases-enum-known-j t c = search needs
+
+cases-same-length-3 : (t : ℕ) → cases-lts.Need-same-length-3 (calls-cases t) (cases-at t) cases.Post cases-Inv-loop cases-μ-loop
+cases-same-length-3 t c = let z = case-long _ _ _ _ _ _ _ _ _ _ (c .before .before .before .before .before .before .before .before .before .before .before .loop .inv) (c .before .before .before .before .before .before .before .before .before .before .before .before .before .before .before .pre .1) in search needs
+
+cases-same-length-4 : (t : ℕ) → cases-lts.Need-same-length-4 (calls-cases t) (cases-at t) cases.Post cases-Inv-loop cases-μ-loop
+cases-same-length-4 t c = let z = case-values-long _ _ _ _ _ _ _ _ _ _ (c .before .before .before .before .before .before .before .before .before .before .before .loop .inv) (c .before .before .before .before .before .before .before .before .before .before .before .before .before .before .before .pre .1) in search needs
+
+cases-returns-2 : (t : ℕ) → cases-lts.Need-returns-2 (calls-cases t) (cases-at t) cases.Post cases-Inv-loop cases-μ-loop
+cases-returns-2 t c = case-wrong _ _ _ _ _ _ _ _ _ _ (c .before .before .before .before .before .before .before .before .before .before .before .loop .inv) _ (c .before .before .before .before .before .before .before .before .before .sort .ensures) (c .before .before .before .before .before .before .before .before .if1 .left) _ _ (c .before .before .before .before .before .case-values .ensures) _ _ (c .before .j .given .1)
+
+cases-enum-known-j-2 : (t : ℕ) → cases-lts.Need-enum-known-j-2 (calls-cases t) (cases-at t) cases.Post cases-Inv-loop cases-μ-loop
+cases-enum-known-j-2 t c = search needs
+
+cases-add-list : (t : ℕ) → cases-lts.Need-add-list (calls-cases t) (cases-at t) cases.Post cases-Inv-loop cases-μ-loop
+cases-add-list t c = omega (arith, case-colon _ _ _ _ _ _ _ _ _ _ (c .before .before .before .before .before .before .before .before .before .before .before .before .before .loop .inv) (c .before .before .before .before .before .before .before .before .before .before .before .before .before .before .before .before .before .pre .1) _ (c .before .before .before .before .before .before .before .before .before .before .before .sort .ensures) (c .before .before .before .before .before .before .before .before .before .before .if1 .left) _ _ (c .before .before .before .before .before .before .before .case-values .ensures) _ _ (c .before .before .before .j2 .given .1))
+
+cases-list-requires : (t : ℕ) → cases-lts.Need-list-requires (calls-cases t) (cases-at t) cases.Post cases-Inv-loop cases-μ-loop
+cases-list-requires t c κs = (omega (arith, case-colon _ _ _ _ _ _ _ _ _ _ (c .before .before .before .before .before .before .before .before .before .before .before .before .before .loop .inv) (c .before .before .before .before .before .before .before .before .before .before .before .before .before .before .before .before .before .pre .1) _ (c .before .before .before .before .before .before .before .before .before .before .before .sort .ensures) (c .before .before .before .before .before .before .before .before .before .before .if1 .left) _ _ (c .before .before .before .before .before .before .before .case-values .ensures) _ _ (c .before .before .before .j2 .given .1), case-room _ _ _ _ _ _ _ _ _ _ (c .before .before .before .before .before .before .before .before .before .before .before .before .before .loop .inv) (c .before .before .before .before .before .before .before .before .before .before .before .before .before .before .before .before .before .pre .1), c .before .before .before .before .before .before .before .before .before .before .before .before .before .before .before .before .before .pre .0), case-lists _ _ _ _ _ _ _ _ _ _ (c .before .before .before .before .before .before .before .before .before .before .before .before .before .loop .inv) (c .before .before .before .before .before .before .before .before .before .before .before .before .before .before .before .before .before .pre .1) _ (c .before .before .before .before .before .before .before .before .before .before .before .sort .ensures) (c .before .before .before .before .before .before .before .before .before .before .if1 .left) _ _ (c .before .before .before .before .before .before .before .case-values .ensures) _ _ (c .before .before .before .j2 .given .1))
+
+cases-enum-known-r : (t : ℕ) → cases-lts.Need-enum-known-r (calls-cases t) (cases-at t) cases.Post cases-Inv-loop cases-μ-loop
+cases-enum-known-r t c = search needs
+
+cases-enum-told : (t : ℕ) → cases-lts.Need-enum-told (calls-cases t) (cases-at t) cases.Post cases-Inv-loop cases-μ-loop
+cases-enum-told t c = search needs
+
+cases-same-length-5 : (t : ℕ) → cases-lts.Need-same-length-5 (calls-cases t) (cases-at t) cases.Post cases-Inv-loop cases-μ-loop
+cases-same-length-5 t c = let z = case-long _ _ _ _ _ _ _ _ _ _ (c .before .before .before .before .before .before .before .before .before .before .before .before .before .before .before .before .before .before .before .before .loop .inv) (c .before .before .before .before .before .before .before .before .before .before .before .before .before .before .before .before .before .before .before .before .before .before .before .before .pre .1) in search needs
+
+cases-same-length-6 : (t : ℕ) → cases-lts.Need-same-length-6 (calls-cases t) (cases-at t) cases.Post cases-Inv-loop cases-μ-loop
+cases-same-length-6 t c = let z = case-values-long _ _ _ _ _ _ _ _ _ _ (c .before .before .before .before .before .before .before .before .before .before .before .before .before .before .before .before .before .before .before .before .loop .inv) (c .before .before .before .before .before .before .before .before .before .before .before .before .before .before .before .before .before .before .before .before .before .before .before .before .pre .1) in search needs
+
+cases-returns-3 : (t : ℕ) → cases-lts.Need-returns-3 (calls-cases t) (cases-at t) cases.Post cases-Inv-loop cases-μ-loop
+cases-returns-3 t c = case-list-wrong _ _ _ _ _ _ _ _ _ _ (c .before .before .before .before .before .before .before .before .before .before .before .before .before .before .before .before .before .before .before .before .loop .inv) _ (c .before .before .before .before .before .before .before .before .before .before .before .before .before .before .before .before .before .before .sort .ensures) (c .before .before .before .before .before .before .before .before .before .before .before .before .before .before .before .before .before .if1 .left) _ _ (c .before .before .before .before .before .before .before .before .before .before .before .before .before .before .case-values .ensures) _ _ (c .before .before .before .before .before .before .before .before .before .before .j2 .given .1) _ _ _ (c .before .before .before .before .before .before .list .ensures) _ _ (c .enum-told .given .1)
+
+cases-add-set-word : (t : ℕ) → cases-lts.Need-add-set-word (calls-cases t) (cases-at t) cases.Post cases-Inv-loop cases-μ-loop
+cases-add-set-word t c = omega (arith, case-room _ _ _ _ _ _ _ _ _ _ (c .before .before .before .before .before .before .before .before .before .before .before .before .before .before .before .before .before .before .before .before .before .before .loop .inv) (c .before .before .before .before .before .before .before .before .before .before .before .before .before .before .before .before .before .before .before .before .before .before .before .before .before .before .pre .1))
+
+cases-set-word-requires : (t : ℕ) → cases-lts.Need-set-word-requires (calls-cases t) (cases-at t) cases.Post cases-Inv-loop cases-μ-loop
+cases-set-word-requires t c κs = let z = case-closes _ _ _ _ _ _ _ _ _ _ (c .before .before .before .before .before .before .before .before .before .before .before .before .before .before .before .before .before .before .before .before .before .before .loop .inv) (c .before .before .before .before .before .before .before .before .before .before .before .before .before .before .before .before .before .before .before .before .before .before .before .before .before .before .pre .1) _ (c .before .before .before .before .before .before .before .before .before .before .before .before .before .before .before .before .before .before .before .before .sort .ensures) (c .before .before .before .before .before .before .before .before .before .before .before .before .before .before .before .before .before .before .before .if1 .left) _ _ (c .before .before .before .before .before .before .before .before .before .before .before .before .before .before .before .before .case-values .ensures) _ _ (c .before .before .before .before .before .before .before .before .before .before .before .before .j2 .given .1) _ _ _ (c .before .before .before .before .before .before .before .before .list .ensures) _ _ (c .before .before .r .given .1) in (omega (arith, z), omega arith, omega arith, omega (arith, z))
+
+cases-link-values-requires : (t : ℕ) → cases-lts.Need-link-values-requires (calls-cases t) (cases-at t) cases.Post cases-Inv-loop cases-μ-loop
+cases-link-values-requires t c κs = case-links _ _ _ _ _ _ _ _ _ _ (c .before .before .before .before .before .before .before .before .before .before .before .before .before .before .before .before .before .before .before .before .before .before .before .before .before .before .loop .inv) (c .before .before .before .before .before .before .before .before .before .before .before .before .before .before .before .before .before .before .before .before .before .before .before .before .before .before .before .before .before .before .pre .1) _ (c .before .before .before .before .before .before .before .before .before .before .before .before .before .before .before .before .before .before .before .before .before .before .before .before .sort .ensures) (c .before .before .before .before .before .before .before .before .before .before .before .before .before .before .before .before .before .before .before .before .before .before .before .if1 .left) _ _ (c .before .before .before .before .before .before .before .before .before .before .before .before .before .before .before .before .before .before .before .before .case-values .ensures) _ _ (c .before .before .before .before .before .before .before .before .before .before .before .before .before .before .before .before .j2 .given .1) _ _ _ (c .before .before .before .before .before .before .before .before .before .before .before .before .list .ensures) _ _ (c .before .before .before .before .before .before .r .given .1) _ (c .before .before .before .set-word .ensures)
+
+cases-loop-less : (t : ℕ) → cases-lts.Need-loop-less (calls-cases t) (cases-at t) cases.Post cases-Inv-loop cases-μ-loop
+cases-loop-less t c = let z = case-closes _ _ _ _ _ _ _ _ _ _ (c .before .before .before .before .before .before .before .before .before .before .before .before .before .before .before .before .before .before .before .before .before .before .before .before .before .before .before .before .before .loop .inv) (c .before .before .before .before .before .before .before .before .before .before .before .before .before .before .before .before .before .before .before .before .before .before .before .before .before .before .before .before .before .before .before .before .before .pre .1) _ (c .before .before .before .before .before .before .before .before .before .before .before .before .before .before .before .before .before .before .before .before .before .before .before .before .before .before .before .sort .ensures) (c .before .before .before .before .before .before .before .before .before .before .before .before .before .before .before .before .before .before .before .before .before .before .before .before .before .before .if1 .left) _ _ (c .before .before .before .before .before .before .before .before .before .before .before .before .before .before .before .before .before .before .before .before .before .before .before .case-values .ensures) _ _ (c .before .before .before .before .before .before .before .before .before .before .before .before .before .before .before .before .before .before .before .j2 .given .1) _ _ _ (c .before .before .before .before .before .before .before .before .before .before .before .before .before .before .before .list .ensures) _ _ (c .before .before .before .before .before .before .before .before .before .r .given .1) in omega (arith, z)
+
+cases-loop-again : (t : ℕ) → cases-lts.Need-loop-again (calls-cases t) (cases-at t) cases.Post cases-Inv-loop cases-μ-loop
+cases-loop-again t c = cases-go _ _ _ _ _ _ _ _ _ _ (c .before .before .before .before .before .before .before .before .before .before .before .before .before .before .before .before .before .before .before .before .before .before .before .before .before .before .before .before .before .loop .inv) _ (c .before .before .before .before .before .before .before .before .before .before .before .before .before .before .before .before .before .before .before .before .before .before .before .before .before .before .before .sort .ensures) (c .before .before .before .before .before .before .before .before .before .before .before .before .before .before .before .before .before .before .before .before .before .before .before .before .before .before .if1 .left) _ _ (c .before .before .before .before .before .before .before .before .before .before .before .before .before .before .before .before .before .before .before .before .before .before .before .case-values .ensures) _ _ (c .before .before .before .before .before .before .before .before .before .before .before .before .before .before .before .before .before .before .before .j2 .given .1) _ _ _ (c .before .before .before .before .before .before .before .before .before .before .before .before .before .before .before .list .ensures) _ _ (c .before .before .before .before .before .before .before .before .before .r .given .1) _ (c .before .before .before .before .before .before .set-word .ensures) _ (c .before .before .link-values .ensures)
+
+default-sort-requires : (t : ℕ) → default-lts.Need-sort-requires (calls-default t) (default-at t) default.Post
+default-sort-requires t c κs = omega (arith, default-room _ _ _ _ _ _ (c .before .before .before .before .pre .1))
+
+default-add-rewrite : (t : ℕ) → default-lts.Need-add-rewrite (calls-default t) (default-at t) default.Post
+default-add-rewrite t c = omega (arith, default-room _ _ _ _ _ _ (c .before .before .before .before .before .before .before .pre .1))
+
+default-cast-rewrite : (t : ℕ) → default-lts.Need-cast-rewrite (calls-default t) (default-at t) default.Post
+default-cast-rewrite t c = omega (arith, default-room _ _ _ _ _ _ (c .before .before .before .before .before .before .before .pre .1))
+
+default-add-rewrite-2 : (t : ℕ) → default-lts.Need-add-rewrite-2 (calls-default t) (default-at t) default.Post
+default-add-rewrite-2 t c = omega (arith, default-room _ _ _ _ _ _ (c .before .before .before .before .before .before .before .pre .1))
+
+default-rewrite-requires : (t : ℕ) → default-lts.Need-rewrite-requires (calls-default t) (default-at t) default.Post
+default-rewrite-requires t c κs = let z = default-room _ _ _ _ _ _ (c .before .before .before .before .before .before .before .pre .1) in (omega (arith, z), omega (arith, z), omega (arith, z))
+
+default-add-t17 : (t : ℕ) → default-lts.Need-add-t17 (calls-default t) (default-at t) default.Post
+default-add-t17 t c = omega (arith, default-room _ _ _ _ _ _ (c .before .before .before .before .before .before .before .before .before .before .pre .1))
+
+default-same-length : (t : ℕ) → default-lts.Need-same-length (calls-default t) (default-at t) default.Post
+default-same-length t c = search needs
+
+default-returns : (t : ℕ) → default-lts.Need-returns (calls-default t) (default-at t) default.Post
+default-returns t c = search (needs, default-no)
+
+default-add-list : (t : ℕ) → default-lts.Need-add-list (calls-default t) (default-at t) default.Post
+default-add-list t c = omega (arith, default-room _ _ _ _ _ _ (c .before .before .before .before .before .before .before .before .pre .1))
+
+default-list-requires : (t : ℕ) → default-lts.Need-list-requires (calls-default t) (default-at t) default.Post
+default-list-requires t c κs = (omega (arith, default-room _ _ _ _ _ _ (c .before .before .before .before .before .before .before .before .pre .1), c .before .before .before .before .before .before .before .before .pre .0), search (needs, default-lists))
+
+default-enum-known-r : (t : ℕ) → default-lts.Need-enum-known-r (calls-default t) (default-at t) default.Post
+default-enum-known-r t c = search needs
+
+default-enum-told : (t : ℕ) → default-lts.Need-enum-told (calls-default t) (default-at t) default.Post
+default-enum-told t c = search needs
+
+default-same-length-2 : (t : ℕ) → default-lts.Need-same-length-2 (calls-default t) (default-at t) default.Post
+default-same-length-2 t c = search needs
+
+default-same-length-3 : (t : ℕ) → default-lts.Need-same-length-3 (calls-default t) (default-at t) default.Post
+default-same-length-3 t c = search needs
+
+default-returns-2 : (t : ℕ) → default-lts.Need-returns-2 (calls-default t) (default-at t) default.Post
+default-returns-2 t c = search (needs, default-wrong)
+
+default-add-rewrite-3 : (t : ℕ) → default-lts.Need-add-rewrite-3 (calls-default t) (default-at t) default.Post
+default-add-rewrite-3 t c = omega (arith, default-room _ _ _ _ _ _ (c .before .before .before .before .before .before .before .before .before .before .before .before .before .before .before .before .before .pre .1))
+
+default-cast-rewrite-2 : (t : ℕ) → default-lts.Need-cast-rewrite-2 (calls-default t) (default-at t) default.Post
+default-cast-rewrite-2 t c = omega (arith, default-room _ _ _ _ _ _ (c .before .before .before .before .before .before .before .before .before .before .before .before .before .before .before .before .before .pre .1))
+
+default-rewrite-requires-2 : (t : ℕ) → default-lts.Need-rewrite-requires-2 (calls-default t) (default-at t) default.Post
+default-rewrite-requires-2 t c κs = let z = default-closes _ _ _ _ _ _ (c .before .before .before .before .before .before .before .before .before .before .before .before .before .before .before .before .before .pre .1) _ (c .before .before .before .before .before .before .before .before .before .before .before .before .sort .ensures) (c .before .before .before .before .before .before .before .before .before .before .before .if1 .left) _ _ _ (c .before .before .before .before .before .before .before .before .list .ensures) _ _ (c .before .before .r .given .1) in let y = default-room _ _ _ _ _ _ (c .before .before .before .before .before .before .before .before .before .before .before .before .before .before .before .before .before .pre .1) in (omega (arith, z), omega (arith, y), omega (arith, z))
+
+default-add-set-word : (t : ℕ) → default-lts.Need-add-set-word (calls-default t) (default-at t) default.Post
+default-add-set-word t c = omega (arith, default-closes _ _ _ _ _ _ (c .before .before .before .before .before .before .before .before .before .before .before .before .before .before .before .before .before .before .before .before .before .pre .1) _ (c .before .before .before .before .before .before .before .before .before .before .before .before .before .before .before .before .sort .ensures) (c .before .before .before .before .before .before .before .before .before .before .before .before .before .before .before .if1 .left) _ _ _ (c .before .before .before .before .before .before .before .before .before .before .before .before .list .ensures) _ _ (c .before .before .before .before .before .before .r .given .1))
+
+default-set-word-requires : (t : ℕ) → default-lts.Need-set-word-requires (calls-default t) (default-at t) default.Post
+default-set-word-requires t c κs = let z = default-closes _ _ _ _ _ _ (c .before .before .before .before .before .before .before .before .before .before .before .before .before .before .before .before .before .before .before .before .before .pre .1) _ (c .before .before .before .before .before .before .before .before .before .before .before .before .before .before .before .before .sort .ensures) (c .before .before .before .before .before .before .before .before .before .before .before .before .before .before .before .if1 .left) _ _ _ (c .before .before .before .before .before .before .before .before .before .before .before .before .list .ensures) _ _ (c .before .before .before .before .before .before .r .given .1) in let y = rewritten-length (c .before .before .before .rewrite2 .ensures) (z .2) in (omega (arith, z, y), omega arith, omega arith, omega (arith, z))
+
+default-add-t24 : (t : ℕ) → default-lts.Need-add-t24 (calls-default t) (default-at t) default.Post
+default-add-t24 t c = omega (arith, default-closes _ _ _ _ _ _ (c .before .before .before .before .before .before .before .before .before .before .before .before .before .before .before .before .before .before .before .before .before .before .before .before .pre .1) _ (c .before .before .before .before .before .before .before .before .before .before .before .before .before .before .before .before .before .before .before .sort .ensures) (c .before .before .before .before .before .before .before .before .before .before .before .before .before .before .before .before .before .before .if1 .left) _ _ _ (c .before .before .before .before .before .before .before .before .before .before .before .before .before .before .before .list .ensures) _ _ (c .before .before .before .before .before .before .before .before .before .r .given .1))
+
+default-same-length-4 : (t : ℕ) → default-lts.Need-same-length-4 (calls-default t) (default-at t) default.Post
+default-same-length-4 t c = search needs
+
+default-same-length-5 : (t : ℕ) → default-lts.Need-same-length-5 (calls-default t) (default-at t) default.Post
+default-same-length-5 t c = search needs
+
+default-returns-3 : (t : ℕ) → default-lts.Need-returns-3 (calls-default t) (default-at t) default.Post
+default-returns-3 t c = default-yes _ _ _ _ _ _ _ (c .before .before .before .before .before .before .before .before .before .before .before .before .before .before .before .before .before .before .before .sort .ensures) (c .before .before .before .before .before .before .before .before .before .before .before .before .before .before .before .before .before .before .if1 .left) _ _ _ (c .before .before .before .before .before .before .before .before .before .before .before .before .before .before .before .list .ensures) _ _ (c .before .before .before .before .before .before .before .before .before .r .given .1) _ _ (c .before .before .before .before .before .before .rewrite2 .ensures) (c .before .before .set-word .ensures)
+
+else-part-sort-requires : (t : ℕ) → else-part-lts.Need-sort-requires (calls-else-part t) (else-part-at t) else-part.Post
+else-part-sort-requires t c κs = omega (arith, else-room _ _ _ _ _ _ (c .before .before .before .before .pre .1))
+
+else-part-add-set-word : (t : ℕ) → else-part-lts.Need-add-set-word (calls-else-part t) (else-part-at t) else-part.Post
+else-part-add-set-word t c = omega (arith, else-room _ _ _ _ _ _ (c .before .before .before .before .before .before .before .pre .1))
+
+else-part-set-word-requires : (t : ℕ) → else-part-lts.Need-set-word-requires (calls-else-part t) (else-part-at t) else-part.Post
+else-part-set-word-requires t c κs = let z = else-room _ _ _ _ _ _ (c .before .before .before .before .before .before .before .pre .1) in (omega (arith, z), omega arith, omega arith, omega (arith, z))
+
+else-part-add-t17 : (t : ℕ) → else-part-lts.Need-add-t17 (calls-else-part t) (else-part-at t) else-part.Post
+else-part-add-t17 t c = omega (arith, else-room _ _ _ _ _ _ (c .before .before .before .before .before .before .before .before .before .before .pre .1))
+
+else-part-same-length : (t : ℕ) → else-part-lts.Need-same-length (calls-else-part t) (else-part-at t) else-part.Post
+else-part-same-length t c = search needs
+
+else-part-returns : (t : ℕ) → else-part-lts.Need-returns (calls-else-part t) (else-part-at t) else-part.Post
+else-part-returns t c = search (needs, else-no)
+
+else-part-add-list : (t : ℕ) → else-part-lts.Need-add-list (calls-else-part t) (else-part-at t) else-part.Post
+else-part-add-list t c = omega (arith, else-room _ _ _ _ _ _ (c .before .before .before .before .before .before .before .before .pre .1))
+
+else-part-list-requires : (t : ℕ) → else-part-lts.Need-list-requires (calls-else-part t) (else-part-at t) else-part.Post
+else-part-list-requires t c κs = (omega (arith, else-room _ _ _ _ _ _ (c .before .before .before .before .before .before .before .before .pre .1), c .before .before .before .before .before .before .before .before .pre .0), search (needs, else-lists))
+
+else-part-enum-known-r : (t : ℕ) → else-part-lts.Need-enum-known-r (calls-else-part t) (else-part-at t) else-part.Post
+else-part-enum-known-r t c = search needs
+
+else-part-enum-told : (t : ℕ) → else-part-lts.Need-enum-told (calls-else-part t) (else-part-at t) else-part.Post
+else-part-enum-told t c = search needs
+
+else-part-same-length-2 : (t : ℕ) → else-part-lts.Need-same-length-2 (calls-else-part t) (else-part-at t) else-part.Post
+else-part-same-length-2 t c = search needs
+
+else-part-same-length-3 : (t : ℕ) → else-part-lts.Need-same-length-3 (calls-else-part t) (else-part-at t) else-part.Post
+else-part-same-length-3 t c = search needs
+
+else-part-returns-2 : (t : ℕ) → else-part-lts.Need-returns-2 (calls-else-part t) (else-part-at t) else-part.Post
+else-part-returns-2 t c = search (needs, else-wrong)
+
+else-part-set-word-requires-2 : (t : ℕ) → else-part-lts.Need-set-word-requires-2 (calls-else-part t) (else-part-at t) else-part.Post
+else-part-set-word-requires-2 t c κs = let z = else-closes _ _ _ _ _ _ (c .before .before .before .before .before .before .before .before .before .before .before .before .before .before .before .before .before .pre .1) _ (c .before .before .before .before .before .before .before .before .before .before .before .before .sort .ensures) (c .before .before .before .before .before .before .before .before .before .before .before .if1 .left) _ _ _ (c .before .before .before .before .before .before .before .before .list .ensures) _ _ (c .before .before .r .given .1) in let y = else-room _ _ _ _ _ _ (c .before .before .before .before .before .before .before .before .before .before .before .before .before .before .before .before .before .pre .1) in (omega (arith, z, y), omega arith, omega arith, omega (arith, z))
+
+else-part-add-set-word-2 : (t : ℕ) → else-part-lts.Need-add-set-word-2 (calls-else-part t) (else-part-at t) else-part.Post
+else-part-add-set-word-2 t c = omega (arith, else-closes _ _ _ _ _ _ (c .before .before .before .before .before .before .before .before .before .before .before .before .before .before .before .before .before .before .before .before .before .pre .1) _ (c .before .before .before .before .before .before .before .before .before .before .before .before .before .before .before .before .sort .ensures) (c .before .before .before .before .before .before .before .before .before .before .before .before .before .before .before .if1 .left) _ _ _ (c .before .before .before .before .before .before .before .before .before .before .before .before .list .ensures) _ _ (c .before .before .before .before .before .before .r .given .1))
+
+else-part-set-word-requires-3 : (t : ℕ) → else-part-lts.Need-set-word-requires-3 (calls-else-part t) (else-part-at t) else-part.Post
+else-part-set-word-requires-3 t c κs = let z = else-closes _ _ _ _ _ _ (c .before .before .before .before .before .before .before .before .before .before .before .before .before .before .before .before .before .before .before .before .before .pre .1) _ (c .before .before .before .before .before .before .before .before .before .before .before .before .before .before .before .before .sort .ensures) (c .before .before .before .before .before .before .before .before .before .before .before .before .before .before .before .if1 .left) _ _ _ (c .before .before .before .before .before .before .before .before .before .before .before .before .list .ensures) _ _ (c .before .before .before .before .before .before .r .given .1) in let y = else-room _ _ _ _ _ _ (c .before .before .before .before .before .before .before .before .before .before .before .before .before .before .before .before .before .before .before .before .before .pre .1) in (omega (arith, z, y, c .before .before .before .set-word2 .ensures .kept .long), omega arith, omega arith, omega (arith, z))
+
+else-part-add-t22 : (t : ℕ) → else-part-lts.Need-add-t22 (calls-else-part t) (else-part-at t) else-part.Post
+else-part-add-t22 t c = omega (arith, else-closes _ _ _ _ _ _ (c .before .before .before .before .before .before .before .before .before .before .before .before .before .before .before .before .before .before .before .before .before .before .before .before .pre .1) _ (c .before .before .before .before .before .before .before .before .before .before .before .before .before .before .before .before .before .before .before .sort .ensures) (c .before .before .before .before .before .before .before .before .before .before .before .before .before .before .before .before .before .before .if1 .left) _ _ _ (c .before .before .before .before .before .before .before .before .before .before .before .before .before .before .before .list .ensures) _ _ (c .before .before .before .before .before .before .before .before .before .r .given .1))
+
+else-part-same-length-4 : (t : ℕ) → else-part-lts.Need-same-length-4 (calls-else-part t) (else-part-at t) else-part.Post
+else-part-same-length-4 t c = search needs
+
+else-part-same-length-5 : (t : ℕ) → else-part-lts.Need-same-length-5 (calls-else-part t) (else-part-at t) else-part.Post
+else-part-same-length-5 t c = search needs
+
+else-part-returns-3 : (t : ℕ) → else-part-lts.Need-returns-3 (calls-else-part t) (else-part-at t) else-part.Post
+else-part-returns-3 t c = else-yes _ _ _ _ _ _ _ (c .before .before .before .before .before .before .before .before .before .before .before .before .before .before .before .before .before .before .before .sort .ensures) (c .before .before .before .before .before .before .before .before .before .before .before .before .before .before .before .before .before .before .if1 .left) _ _ _ (c .before .before .before .before .before .before .before .before .before .before .before .before .before .before .before .list .ensures) _ _ (c .before .before .before .before .before .before .before .before .before .r .given .1) _ _ (c .before .before .before .before .before .before .set-word2 .ensures) (c .before .before .set-word3 .ensures)
+
+for-statement-for-head-requires : (t : ℕ) → for-statement-lts.Need-for-head-requires (calls-for-statement t) (for-statement-at t) for-statement.Post
+for-statement-for-head-requires t c κs = search (needs, for-heads)
+
+for-statement-enum-known-j : (t : ℕ) → for-statement-lts.Need-enum-known-j (calls-for-statement t) (for-statement-at t) for-statement.Post
+for-statement-enum-known-j t c = search needs
+
+for-statement-enum-known-j-2 : (t : ℕ) → for-statement-lts.Need-enum-known-j-2 (calls-for-statement t) (for-statement-at t) for-statement.Post
+for-statement-enum-known-j-2 t c = search needs
+
+for-statement-add-declare : (t : ℕ) → for-statement-lts.Need-add-declare (calls-for-statement t) (for-statement-at t) for-statement.Post
+for-statement-add-declare t c = omega (arith, for-spare _ _ _ _ _ _ (c .before .before .before .before .before .before .before .before .before .before .before .before .before .pre .1) _ _ (c .before .before .before .before .before .before .before .for-head .ensures) _ _ (c .before .before .before .j2 .given .1))
+
+for-statement-add-declare-2 : (t : ℕ) → for-statement-lts.Need-add-declare-2 (calls-for-statement t) (for-statement-at t) for-statement.Post
+for-statement-add-declare-2 t c = omega (arith, for-spare _ _ _ _ _ _ (c .before .before .before .before .before .before .before .before .before .before .before .before .before .pre .1) _ _ (c .before .before .before .before .before .before .before .for-head .ensures) _ _ (c .before .before .before .j2 .given .1))
+
+for-statement-mul-declare : (t : ℕ) → for-statement-lts.Need-mul-declare (calls-for-statement t) (for-statement-at t) for-statement.Post
+for-statement-mul-declare t c = omega (arith, for-spare _ _ _ _ _ _ (c .before .before .before .before .before .before .before .before .before .before .before .before .before .pre .1) _ _ (c .before .before .before .before .before .before .before .for-head .ensures) _ _ (c .before .before .before .j2 .given .1))
+
+for-statement-add-declare-3 : (t : ℕ) → for-statement-lts.Need-add-declare-3 (calls-for-statement t) (for-statement-at t) for-statement.Post
+for-statement-add-declare-3 t c = omega (arith, for-spare _ _ _ _ _ _ (c .before .before .before .before .before .before .before .before .before .before .before .before .before .pre .1) _ _ (c .before .before .before .before .before .before .before .for-head .ensures) _ _ (c .before .before .before .j2 .given .1))
+
+for-statement-declare-requires : (t : ℕ) → for-statement-lts.Need-declare-requires (calls-for-statement t) (for-statement-at t) for-statement.Post
+for-statement-declare-requires t c κs = for-declares _ _ _ _ _ _ (c .before .before .before .before .before .before .before .before .before .before .before .before .before .pre .1) _ _ (c .before .before .before .before .before .before .before .for-head .ensures) _ _ (c .before .before .before .j2 .given .1)
+
+for-statement-add-list : (t : ℕ) → for-statement-lts.Need-add-list (calls-for-statement t) (for-statement-at t) for-statement.Post
+for-statement-add-list t c = omega (arith, for-spare _ _ _ _ _ _ (c .before .before .before .before .before .before .before .before .before .before .before .before .before .before .before .before .before .before .before .before .pre .1) _ _ (c .before .before .before .before .before .before .before .before .before .before .before .before .before .before .for-head .ensures) _ _ (c .before .before .before .before .before .before .before .before .before .before .j2 .given .1))
+
+for-statement-add-list-2 : (t : ℕ) → for-statement-lts.Need-add-list-2 (calls-for-statement t) (for-statement-at t) for-statement.Post
+for-statement-add-list-2 t c = omega (arith, for-spare _ _ _ _ _ _ (c .before .before .before .before .before .before .before .before .before .before .before .before .before .before .before .before .before .before .before .before .pre .1) _ _ (c .before .before .before .before .before .before .before .before .before .before .before .before .before .before .for-head .ensures) _ _ (c .before .before .before .before .before .before .before .before .before .before .j2 .given .1))
+
+for-statement-list-requires : (t : ℕ) → for-statement-lts.Need-list-requires (calls-for-statement t) (for-statement-at t) for-statement.Post
+for-statement-list-requires t c κs = (omega (arith, for-spare _ _ _ _ _ _ (c .before .before .before .before .before .before .before .before .before .before .before .before .before .before .before .before .before .before .before .before .pre .1) _ _ (c .before .before .before .before .before .before .before .before .before .before .before .before .before .before .for-head .ensures) _ _ (c .before .before .before .before .before .before .before .before .before .before .j2 .given .1), c .before .before .before .before .before .before .before .before .before .before .before .before .before .before .before .before .before .before .before .before .pre .0), for-lists _ _ _ _ _ _ (c .before .before .before .before .before .before .before .before .before .before .before .before .before .before .before .before .before .before .before .before .pre .1) _ _ (c .before .before .before .before .before .before .before .before .before .before .before .before .before .before .for-head .ensures) _ _ (c .before .before .before .before .before .before .before .before .before .before .j2 .given .1) _ (omega arith) _ _ (c .before .before .before .before .before .before .declare .ensures))
+
+for-statement-enum-known-r : (t : ℕ) → for-statement-lts.Need-enum-known-r (calls-for-statement t) (for-statement-at t) for-statement.Post
+for-statement-enum-known-r t c = search needs
+
+for-statement-enum-told : (t : ℕ) → for-statement-lts.Need-enum-told (calls-for-statement t) (for-statement-at t) for-statement.Post
+for-statement-enum-told t c = search needs
+
+for-statement-same-length : (t : ℕ) → for-statement-lts.Need-same-length (calls-for-statement t) (for-statement-at t) for-statement.Post
+for-statement-same-length t c = search needs
+
+for-statement-same-length-2 : (t : ℕ) → for-statement-lts.Need-same-length-2 (calls-for-statement t) (for-statement-at t) for-statement.Post
+for-statement-same-length-2 t c = search needs
+
+for-statement-returns : (t : ℕ) → for-statement-lts.Need-returns (calls-for-statement t) (for-statement-at t) for-statement.Post
+for-statement-returns t c = for-list-wrong _ _ _ _ _ _ _ _ (c .before .before .before .before .before .before .before .before .before .before .before .before .before .before .before .before .before .before .before .before .before .for-head .ensures) _ _ (c .before .before .before .before .before .before .before .before .before .before .before .before .before .before .before .before .before .j2 .given .1) _ (omega arith) _ _ (c .before .before .before .before .before .before .before .before .before .before .before .before .before .declare .ensures) _ _ _ (c .before .before .before .before .before .before .list .ensures) _ _ (c .enum-told .given .1)
+
+for-statement-add-leave : (t : ℕ) → for-statement-lts.Need-add-leave (calls-for-statement t) (for-statement-at t) for-statement.Post
+for-statement-add-leave t c = omega (arith, for-spare _ _ _ _ _ _ (c .before .before .before .before .before .before .before .before .before .before .before .before .before .before .before .before .before .before .before .before .before .before .before .before .before .before .before .before .before .before .pre .1) _ _ (c .before .before .before .before .before .before .before .before .before .before .before .before .before .before .before .before .before .before .before .before .before .before .before .before .for-head .ensures) _ _ (c .before .before .before .before .before .before .before .before .before .before .before .before .before .before .before .before .before .before .before .before .j2 .given .1))
+
+for-statement-leave-requires : (t : ℕ) → for-statement-lts.Need-leave-requires (calls-for-statement t) (for-statement-at t) for-statement.Post
+for-statement-leave-requires t c κs = for-leaves _ _ _ _ _ _ (c .before .before .before .before .before .before .before .before .before .before .before .before .before .before .before .before .before .before .before .before .before .before .before .before .before .before .before .before .before .before .pre .1) _ _ (c .before .before .before .before .before .before .before .before .before .before .before .before .before .before .before .before .before .before .before .before .before .before .before .before .for-head .ensures) _ _ (c .before .before .before .before .before .before .before .before .before .before .before .before .before .before .before .before .before .before .before .before .j2 .given .1) _ (omega arith) _ _ (c .before .before .before .before .before .before .before .before .before .before .before .before .before .before .before .before .declare .ensures) _ _ _ (c .before .before .before .before .before .before .before .before .before .list .ensures) _ _ (c .before .before .before .r .given .1)
+
+for-statement-for-end-requires : (t : ℕ) → for-statement-lts.Need-for-end-requires (calls-for-statement t) (for-statement-at t) for-statement.Post
+for-statement-for-end-requires t c κs = for-closes _ _ _ _ _ _ (c .before .before .before .before .before .before .before .before .before .before .before .before .before .before .before .before .before .before .before .before .before .before .before .before .before .before .before .before .before .before .before .before .before .before .pre .1) _ _ (c .before .before .before .before .before .before .before .before .before .before .before .before .before .before .before .before .before .before .before .before .before .before .before .before .before .before .before .before .for-head .ensures) _ _ (c .before .before .before .before .before .before .before .before .before .before .before .before .before .before .before .before .before .before .before .before .before .before .before .before .j2 .given .1) _ (omega arith) _ _ (c .before .before .before .before .before .before .before .before .before .before .before .before .before .before .before .before .before .before .before .before .declare .ensures) _ _ _ (c .before .before .before .before .before .before .before .before .before .before .before .before .before .list .ensures) _ _ (c .before .before .before .before .before .before .before .r .given .1)
+
+for-statement-add-t24 : (t : ℕ) → for-statement-lts.Need-add-t24 (calls-for-statement t) (for-statement-at t) for-statement.Post
+for-statement-add-t24 t c = omega (arith, for-closes _ _ _ _ _ _ (c .before .before .before .before .before .before .before .before .before .before .before .before .before .before .before .before .before .before .before .before .before .before .before .before .before .before .before .before .before .before .before .before .before .before .before .before .before .pre .1) _ _ (c .before .before .before .before .before .before .before .before .before .before .before .before .before .before .before .before .before .before .before .before .before .before .before .before .before .before .before .before .before .before .before .for-head .ensures) _ _ (c .before .before .before .before .before .before .before .before .before .before .before .before .before .before .before .before .before .before .before .before .before .before .before .before .before .before .before .j2 .given .1) _ (omega arith) _ _ (c .before .before .before .before .before .before .before .before .before .before .before .before .before .before .before .before .before .before .before .before .before .before .before .declare .ensures) _ _ _ (c .before .before .before .before .before .before .before .before .before .before .before .before .before .before .before .before .list .ensures) _ _ (c .before .before .before .before .before .before .before .before .before .before .r .given .1))
+
+for-statement-same-length-3 : (t : ℕ) → for-statement-lts.Need-same-length-3 (calls-for-statement t) (for-statement-at t) for-statement.Post
+for-statement-same-length-3 t c = search needs
+
+for-statement-same-length-4 : (t : ℕ) → for-statement-lts.Need-same-length-4 (calls-for-statement t) (for-statement-at t) for-statement.Post
+for-statement-same-length-4 t c = search needs
+
+for-statement-returns-2 : (t : ℕ) → for-statement-lts.Need-returns-2 (calls-for-statement t) (for-statement-at t) for-statement.Post
+for-statement-returns-2 t c = search (needs, for-wrong)
+
+for-statement-same-length-5 : (t : ℕ) → for-statement-lts.Need-same-length-5 (calls-for-statement t) (for-statement-at t) for-statement.Post
+for-statement-same-length-5 t c = let z = for-long _ _ _ _ _ _ (c .before .before .before .before .before .before .before .before .before .before .before .before .before .before .before .before .before .before .before .before .before .before .before .before .before .before .before .before .before .before .before .before .before .before .before .before .before .pre .1) _ _ (c .before .before .before .before .before .before .before .before .before .before .before .before .before .before .before .before .before .before .before .before .before .before .before .before .before .before .before .before .before .before .before .for-head .ensures) _ _ (c .before .before .before .before .before .before .before .before .before .before .before .before .before .before .before .before .before .before .before .before .before .before .before .before .before .before .before .j2 .given .1) _ (omega arith) _ _ (c .before .before .before .before .before .before .before .before .before .before .before .before .before .before .before .before .before .before .before .before .before .before .before .declare .ensures) _ _ _ (c .before .before .before .before .before .before .before .before .before .before .before .before .before .before .before .before .list .ensures) _ _ (c .before .before .before .before .before .before .before .before .before .before .r .given .1) _ _ (c .before .before .before .before .before .before .leave .ensures) (c .before .before .for-end .ensures) in search needs
+
+for-statement-same-length-6 : (t : ℕ) → for-statement-lts.Need-same-length-6 (calls-for-statement t) (for-statement-at t) for-statement.Post
+for-statement-same-length-6 t c = search needs
+
+for-statement-returns-3 : (t : ℕ) → for-statement-lts.Need-returns-3 (calls-for-statement t) (for-statement-at t) for-statement.Post
+for-statement-returns-3 t c = for-finished _ _ _ _ _ _ _ _ (c .before .before .before .before .before .before .before .before .before .before .before .before .before .before .before .before .before .before .before .before .before .before .before .before .before .before .before .before .before .before .before .for-head .ensures) _ _ (c .before .before .before .before .before .before .before .before .before .before .before .before .before .before .before .before .before .before .before .before .before .before .before .before .before .before .before .j2 .given .1) _ (omega arith) _ _ (c .before .before .before .before .before .before .before .before .before .before .before .before .before .before .before .before .before .before .before .before .before .before .before .declare .ensures) _ _ _ (c .before .before .before .before .before .before .before .before .before .before .before .before .before .before .before .before .list .ensures) _ _ (c .before .before .before .before .before .before .before .before .before .before .r .given .1) _ _ (c .before .before .before .before .before .before .leave .ensures) (c .before .before .for-end .ensures)
 
 abbrev full-if-Inv-loop : full-if-lts.InvT-loop
-full-if-Inv-loop text code₀ values₀ k used i first op₀ c₀ t₀ n₀ code values op c t n = ?
+full-if-Inv-loop text code₀ values₀ k used i first op₀ c₀ t₀ n₀ code values op c t n = Armings text code₀ values₀ k used i first code values op c t n
 
 abbrev full-if-μ-loop : full-if-lts.MeasureT-loop
-full-if-μ-loop text code₀ values₀ k used i first op₀ c₀ t₀ n₀ code values op c t n = ?
+full-if-μ-loop text code₀ values₀ k used i first op₀ c₀ t₀ n₀ code values op c t n = 8192 - t
 
--- src/lib.rt:294:5
-full-if-loop-holds : (t : ℕ) → full-if-lts.Need-loop-holds (
-  list-below t,
-  list.Post,
-  arm-end-reads.Asked,
-  arm-end-reads.Learnt,
-  sort-reads.Asked,
-  sort-reads.Learnt,
-  else-part-below t,
-  else-part.Post,
-  set-link-reads.Asked,
-  set-link-reads.Learnt,
-  of-type-reads.Asked,
-  of-type-reads.Learnt,
-) (full-if-at t) full-if.Post full-if-Inv-loop full-if-μ-loop
-full-if-loop-holds t c = ?
+full-if-loop-holds : (t : ℕ) → full-if-lts.Need-loop-holds (calls-full-if t) (full-if-at t) full-if.Post full-if-Inv-loop full-if-μ-loop
+full-if-loop-holds t c = search (needs, arms-begin)
 
--- src/lib.rt:295:48
-full-if-add-list : (t : ℕ) → full-if-lts.Need-add-list (
-  list-below t,
-  list.Post,
-  arm-end-reads.Asked,
-  arm-end-reads.Learnt,
-  sort-reads.Asked,
-  sort-reads.Learnt,
-  else-part-below t,
-  else-part.Post,
-  set-link-reads.Asked,
-  set-link-reads.Learnt,
-  of-type-reads.Asked,
-  of-type-reads.Learnt,
-) (full-if-at t) full-if.Post full-if-Inv-loop full-if-μ-loop
-full-if-add-list t c = ?
+full-if-add-list : (t : ℕ) → full-if-lts.Need-add-list (calls-full-if t) (full-if-at t) full-if.Post full-if-Inv-loop full-if-μ-loop
+full-if-add-list t c = omega (arith, arm-place _ _ _ _ _ _ _ _ _ _ _ _ _ (c .before .before .loop .inv) (c .before .before .before .before .before .before .pre .1))
 
--- src/lib.rt:295:13
-full-if-list-requires : (t : ℕ) → full-if-lts.Need-list-requires (
-  list-below t,
-  list.Post,
-  arm-end-reads.Asked,
-  arm-end-reads.Learnt,
-  sort-reads.Asked,
-  sort-reads.Learnt,
-  else-part-below t,
-  else-part.Post,
-  set-link-reads.Asked,
-  set-link-reads.Learnt,
-  of-type-reads.Asked,
-  of-type-reads.Learnt,
-) (full-if-at t) full-if.Post full-if-Inv-loop full-if-μ-loop
-full-if-list-requires t c κs = ?
+full-if-list-requires : (t : ℕ) → full-if-lts.Need-list-requires (calls-full-if t) (full-if-at t) full-if.Post full-if-Inv-loop full-if-μ-loop
+full-if-list-requires t c κs = (omega (arith, arm-place _ _ _ _ _ _ _ _ _ _ _ _ _ (c .before .before .loop .inv) (c .before .before .before .before .before .before .pre .1), arm-after _ _ _ _ _ _ _ _ _ _ _ _ _ (c .before .before .loop .inv) (c .before .before .before .before .before .before .pre .1), c .before .before .before .before .before .before .pre .0), search (needs, arm-lists))
 
--- src/lib.rt:296:26
-full-if-enum-known-r : (t : ℕ) → full-if-lts.Need-enum-known-r (
-  list-below t,
-  list.Post,
-  arm-end-reads.Asked,
-  arm-end-reads.Learnt,
-  sort-reads.Asked,
-  sort-reads.Learnt,
-  else-part-below t,
-  else-part.Post,
-  set-link-reads.Asked,
-  set-link-reads.Learnt,
-  of-type-reads.Asked,
-  of-type-reads.Learnt,
-) (full-if-at t) full-if.Post full-if-Inv-loop full-if-μ-loop
-full-if-enum-known-r t c = ?
+full-if-enum-known-r : (t : ℕ) → full-if-lts.Need-enum-known-r (calls-full-if t) (full-if-at t) full-if.Post full-if-Inv-loop full-if-μ-loop
+full-if-enum-known-r t c = search needs
 
--- src/lib.rt:297:13
-full-if-enum-told : (t : ℕ) → full-if-lts.Need-enum-told (
-  list-below t,
-  list.Post,
-  arm-end-reads.Asked,
-  arm-end-reads.Learnt,
-  sort-reads.Asked,
-  sort-reads.Learnt,
-  else-part-below t,
-  else-part.Post,
-  set-link-reads.Asked,
-  set-link-reads.Learnt,
-  of-type-reads.Asked,
-  of-type-reads.Learnt,
-) (full-if-at t) full-if.Post full-if-Inv-loop full-if-μ-loop
-full-if-enum-told t c = ?
+full-if-enum-told : (t : ℕ) → full-if-lts.Need-enum-told (calls-full-if t) (full-if-at t) full-if.Post full-if-Inv-loop full-if-μ-loop
+full-if-enum-told t c = search needs
 
--- src/lib.rt:297:13
-full-if-same-length : (t : ℕ) → full-if-lts.Need-same-length (
-  list-below t,
-  list.Post,
-  arm-end-reads.Asked,
-  arm-end-reads.Learnt,
-  sort-reads.Asked,
-  sort-reads.Learnt,
-  else-part-below t,
-  else-part.Post,
-  set-link-reads.Asked,
-  set-link-reads.Learnt,
-  of-type-reads.Asked,
-  of-type-reads.Learnt,
-) (full-if-at t) full-if.Post full-if-Inv-loop full-if-μ-loop
-full-if-same-length t c = ?
+full-if-same-length : (t : ℕ) → full-if-lts.Need-same-length (calls-full-if t) (full-if-at t) full-if.Post full-if-Inv-loop full-if-μ-loop
+full-if-same-length t c = let z = arm-long-so _ _ _ _ _ _ _ _ _ _ _ _ _ (c .before .before .before .before .before .before .before .before .before .loop .inv) (c .before .before .before .before .before .before .before .before .before .before .before .before .before .pre .1) in search needs
 
--- src/lib.rt:297:13
-full-if-same-length-2 : (t : ℕ) → full-if-lts.Need-same-length-2 (
-  list-below t,
-  list.Post,
-  arm-end-reads.Asked,
-  arm-end-reads.Learnt,
-  sort-reads.Asked,
-  sort-reads.Learnt,
-  else-part-below t,
-  else-part.Post,
-  set-link-reads.Asked,
-  set-link-reads.Learnt,
-  of-type-reads.Asked,
-  of-type-reads.Learnt,
-) (full-if-at t) full-if.Post full-if-Inv-loop full-if-μ-loop
-full-if-same-length-2 t c = ?
+full-if-same-length-2 : (t : ℕ) → full-if-lts.Need-same-length-2 (calls-full-if t) (full-if-at t) full-if.Post full-if-Inv-loop full-if-μ-loop
+full-if-same-length-2 t c = let z = arm-values _ _ _ _ _ _ _ _ _ _ _ _ _ (c .before .before .before .before .before .before .before .before .before .loop .inv) (c .before .before .before .before .before .before .before .before .before .before .before .before .before .pre .1) in search needs
 
--- src/lib.rt:297:13
-full-if-returns : (t : ℕ) → full-if-lts.Need-returns (
-  list-below t,
-  list.Post,
-  arm-end-reads.Asked,
-  arm-end-reads.Learnt,
-  sort-reads.Asked,
-  sort-reads.Learnt,
-  else-part-below t,
-  else-part.Post,
-  set-link-reads.Asked,
-  set-link-reads.Learnt,
-  of-type-reads.Asked,
-  of-type-reads.Learnt,
-) (full-if-at t) full-if.Post full-if-Inv-loop full-if-μ-loop
-full-if-returns t c = ?
+full-if-returns : (t : ℕ) → full-if-lts.Need-returns (calls-full-if t) (full-if-at t) full-if.Post full-if-Inv-loop full-if-μ-loop
+full-if-returns t c = search (needs, arm-list-wrong)
 
--- src/lib.rt:299:9
-full-if-arm-end-requires : (t : ℕ) → full-if-lts.Need-arm-end-requires (
-  list-below t,
-  list.Post,
-  arm-end-reads.Asked,
-  arm-end-reads.Learnt,
-  sort-reads.Asked,
-  sort-reads.Learnt,
-  else-part-below t,
-  else-part.Post,
-  set-link-reads.Asked,
-  set-link-reads.Learnt,
-  of-type-reads.Asked,
-  of-type-reads.Learnt,
-) (full-if-at t) full-if.Post full-if-Inv-loop full-if-μ-loop
-full-if-arm-end-requires t c κs = ?
+full-if-arm-end-requires : (t : ℕ) → full-if-lts.Need-arm-end-requires (calls-full-if t) (full-if-at t) full-if.Post full-if-Inv-loop full-if-μ-loop
+full-if-arm-end-requires t c κs = arm-closes _ _ _ _ _ _ _ _ _ _ _ _ _ (c .before .before .before .before .before .before .before .before .before .before .before .loop .inv) (c .before .before .before .before .before .before .before .before .before .before .before .before .before .before .before .pre .1) _ _ _ (c .before .before .before .before .before .before .before .before .list .ensures) _ _ (c .before .before .r .given .1)
 
--- src/lib.rt:300:12
-full-if-sort-requires : (t : ℕ) → full-if-lts.Need-sort-requires (
-  list-below t,
-  list.Post,
-  arm-end-reads.Asked,
-  arm-end-reads.Learnt,
-  sort-reads.Asked,
-  sort-reads.Learnt,
-  else-part-below t,
-  else-part.Post,
-  set-link-reads.Asked,
-  set-link-reads.Learnt,
-  of-type-reads.Asked,
-  of-type-reads.Learnt,
-) (full-if-at t) full-if.Post full-if-Inv-loop full-if-μ-loop
-full-if-sort-requires t c κs = ?
+full-if-sort-requires : (t : ℕ) → full-if-lts.Need-sort-requires (calls-full-if t) (full-if-at t) full-if.Post full-if-Inv-loop full-if-μ-loop
+full-if-sort-requires t c κs = omega (arith, arm-closes _ _ _ _ _ _ _ _ _ _ _ _ _ (c .before .before .before .before .before .before .before .before .before .before .before .before .before .before .before .loop .inv) (c .before .before .before .before .before .before .before .before .before .before .before .before .before .before .before .before .before .before .before .pre .1) _ _ _ (c .before .before .before .before .before .before .before .before .before .before .before .before .list .ensures) _ _ (c .before .before .before .before .before .before .r .given .1), arm-long _ _ _ _ _ _ _ _ _ _ _ _ _ (c .before .before .before .before .before .before .before .before .before .before .before .before .before .before .before .loop .inv) (c .before .before .before .before .before .before .before .before .before .before .before .before .before .before .before .before .before .before .before .pre .1) _ _ _ (c .before .before .before .before .before .before .before .before .before .before .before .before .list .ensures) _ _ (c .before .before .before .before .before .before .r .given .1) _ (c .before .before .before .arm-end .ensures), arm-wide _ _ _ _ _ _ _ _ _ _ _ _ _ (c .before .before .before .before .before .before .before .before .before .before .before .before .before .before .before .loop .inv) (c .before .before .before .before .before .before .before .before .before .before .before .before .before .before .before .before .before .before .before .pre .1))
 
--- src/lib.rt:301:17
-full-if-else-part-requires : (t : ℕ) → full-if-lts.Need-else-part-requires (
-  list-below t,
-  list.Post,
-  arm-end-reads.Asked,
-  arm-end-reads.Learnt,
-  sort-reads.Asked,
-  sort-reads.Learnt,
-  else-part-below t,
-  else-part.Post,
-  set-link-reads.Asked,
-  set-link-reads.Learnt,
-  of-type-reads.Asked,
-  of-type-reads.Learnt,
-) (full-if-at t) full-if.Post full-if-Inv-loop full-if-μ-loop
-full-if-else-part-requires t c κs = ?
+full-if-else-part-requires : (t : ℕ) → full-if-lts.Need-else-part-requires (calls-full-if t) (full-if-at t) full-if.Post full-if-Inv-loop full-if-μ-loop
+full-if-else-part-requires t c κs = (omega (arith, arm-closes _ _ _ _ _ _ _ _ _ _ _ _ _ (c .before .before .before .before .before .before .before .before .before .before .before .before .before .before .before .before .before .before .before .loop .inv) (c .before .before .before .before .before .before .before .before .before .before .before .before .before .before .before .before .before .before .before .before .before .before .before .pre .1) _ _ _ (c .before .before .before .before .before .before .before .before .before .before .before .before .before .before .before .before .list .ensures) _ _ (c .before .before .before .before .before .before .before .before .before .before .r .given .1), arm-after _ _ _ _ _ _ _ _ _ _ _ _ _ (c .before .before .before .before .before .before .before .before .before .before .before .before .before .before .before .before .before .before .before .loop .inv) (c .before .before .before .before .before .before .before .before .before .before .before .before .before .before .before .before .before .before .before .before .before .before .before .pre .1), c .before .before .before .before .before .before .before .before .before .before .before .before .before .before .before .before .before .before .before .before .before .before .before .pre .0), arm-elses _ _ _ _ _ _ _ _ _ _ _ _ _ (c .before .before .before .before .before .before .before .before .before .before .before .before .before .before .before .before .before .before .before .loop .inv) (c .before .before .before .before .before .before .before .before .before .before .before .before .before .before .before .before .before .before .before .before .before .before .before .pre .1) _ _ _ (c .before .before .before .before .before .before .before .before .before .before .before .before .before .before .before .before .list .ensures) _ _ (c .before .before .before .before .before .before .before .before .before .before .r .given .1) _ (c .before .before .before .before .before .before .before .arm-end .ensures) _ (c .before .before .before .sort .ensures) (c .before .before .if1 .taken))
 
--- src/lib.rt:302:30
-full-if-enum-known-r-2 : (t : ℕ) → full-if-lts.Need-enum-known-r-2 (
-  list-below t,
-  list.Post,
-  arm-end-reads.Asked,
-  arm-end-reads.Learnt,
-  sort-reads.Asked,
-  sort-reads.Learnt,
-  else-part-below t,
-  else-part.Post,
-  set-link-reads.Asked,
-  set-link-reads.Learnt,
-  of-type-reads.Asked,
-  of-type-reads.Learnt,
-) (full-if-at t) full-if.Post full-if-Inv-loop full-if-μ-loop
-full-if-enum-known-r-2 t c = ?
+full-if-enum-known-r-2 : (t : ℕ) → full-if-lts.Need-enum-known-r-2 (calls-full-if t) (full-if-at t) full-if.Post full-if-Inv-loop full-if-μ-loop
+full-if-enum-known-r-2 t c = search needs
 
--- src/lib.rt:303:17
-full-if-enum-told-2 : (t : ℕ) → full-if-lts.Need-enum-told-2 (
-  list-below t,
-  list.Post,
-  arm-end-reads.Asked,
-  arm-end-reads.Learnt,
-  sort-reads.Asked,
-  sort-reads.Learnt,
-  else-part-below t,
-  else-part.Post,
-  set-link-reads.Asked,
-  set-link-reads.Learnt,
-  of-type-reads.Asked,
-  of-type-reads.Learnt,
-) (full-if-at t) full-if.Post full-if-Inv-loop full-if-μ-loop
-full-if-enum-told-2 t c = ?
+full-if-enum-told-2 : (t : ℕ) → full-if-lts.Need-enum-told-2 (calls-full-if t) (full-if-at t) full-if.Post full-if-Inv-loop full-if-μ-loop
+full-if-enum-told-2 t c = search needs
 
--- src/lib.rt:303:17
-full-if-same-length-3 : (t : ℕ) → full-if-lts.Need-same-length-3 (
-  list-below t,
-  list.Post,
-  arm-end-reads.Asked,
-  arm-end-reads.Learnt,
-  sort-reads.Asked,
-  sort-reads.Learnt,
-  else-part-below t,
-  else-part.Post,
-  set-link-reads.Asked,
-  set-link-reads.Learnt,
-  of-type-reads.Asked,
-  of-type-reads.Learnt,
-) (full-if-at t) full-if.Post full-if-Inv-loop full-if-μ-loop
-full-if-same-length-3 t c = ?
+full-if-same-length-3 : (t : ℕ) → full-if-lts.Need-same-length-3 (calls-full-if t) (full-if-at t) full-if.Post full-if-Inv-loop full-if-μ-loop
+full-if-same-length-3 t c = let z = arm-long-so _ _ _ _ _ _ _ _ _ _ _ _ _ (c .before .before .before .before .before .before .before .before .before .before .before .before .before .before .before .before .before .before .before .before .before .before .before .before .before .before .loop .inv) (c .before .before .before .before .before .before .before .before .before .before .before .before .before .before .before .before .before .before .before .before .before .before .before .before .before .before .before .before .before .before .pre .1) in search needs
 
--- src/lib.rt:303:17
-full-if-same-length-4 : (t : ℕ) → full-if-lts.Need-same-length-4 (
-  list-below t,
-  list.Post,
-  arm-end-reads.Asked,
-  arm-end-reads.Learnt,
-  sort-reads.Asked,
-  sort-reads.Learnt,
-  else-part-below t,
-  else-part.Post,
-  set-link-reads.Asked,
-  set-link-reads.Learnt,
-  of-type-reads.Asked,
-  of-type-reads.Learnt,
-) (full-if-at t) full-if.Post full-if-Inv-loop full-if-μ-loop
-full-if-same-length-4 t c = ?
+full-if-same-length-4 : (t : ℕ) → full-if-lts.Need-same-length-4 (calls-full-if t) (full-if-at t) full-if.Post full-if-Inv-loop full-if-μ-loop
+full-if-same-length-4 t c = let z = arm-values _ _ _ _ _ _ _ _ _ _ _ _ _ (c .before .before .before .before .before .before .before .before .before .before .before .before .before .before .before .before .before .before .before .before .before .before .before .before .before .before .loop .inv) (c .before .before .before .before .before .before .before .before .before .before .before .before .before .before .before .before .before .before .before .before .before .before .before .before .before .before .before .before .before .before .pre .1) in search needs
 
--- src/lib.rt:303:17
-full-if-returns-2 : (t : ℕ) → full-if-lts.Need-returns-2 (
-  list-below t,
-  list.Post,
-  arm-end-reads.Asked,
-  arm-end-reads.Learnt,
-  sort-reads.Asked,
-  sort-reads.Learnt,
-  else-part-below t,
-  else-part.Post,
-  set-link-reads.Asked,
-  set-link-reads.Learnt,
-  of-type-reads.Asked,
-  of-type-reads.Learnt,
-) (full-if-at t) full-if.Post full-if-Inv-loop full-if-μ-loop
-full-if-returns-2 t c = ?
+full-if-returns-2 : (t : ℕ) → full-if-lts.Need-returns-2 (calls-full-if t) (full-if-at t) full-if.Post full-if-Inv-loop full-if-μ-loop
+full-if-returns-2 t c = search (needs, arm-else-wrong)
 
--- src/lib.rt:305:13
-full-if-set-link-requires : (t : ℕ) → full-if-lts.Need-set-link-requires (
-  list-below t,
-  list.Post,
-  arm-end-reads.Asked,
-  arm-end-reads.Learnt,
-  sort-reads.Asked,
-  sort-reads.Learnt,
-  else-part-below t,
-  else-part.Post,
-  set-link-reads.Asked,
-  set-link-reads.Learnt,
-  of-type-reads.Asked,
-  of-type-reads.Learnt,
-) (full-if-at t) full-if.Post full-if-Inv-loop full-if-μ-loop
-full-if-set-link-requires t c κs = ?
+full-if-set-link-requires : (t : ℕ) → full-if-lts.Need-set-link-requires (calls-full-if t) (full-if-at t) full-if.Post full-if-Inv-loop full-if-μ-loop
+full-if-set-link-requires t c κs = arm-ends _ _ _ _ _ _ _ _ _ _ _ _ _ (c .before .before .before .before .before .before .before .before .before .before .before .before .before .before .before .before .before .before .before .before .before .before .before .before .before .before .before .before .loop .inv) (c .before .before .before .before .before .before .before .before .before .before .before .before .before .before .before .before .before .before .before .before .before .before .before .before .before .before .before .before .before .before .before .before .pre .1) _ _ _ (c .before .before .before .before .before .before .before .before .before .before .before .before .before .before .before .before .before .before .before .before .before .before .before .before .before .list .ensures) _ _ (c .before .before .before .before .before .before .before .before .before .before .before .before .before .before .before .before .before .before .before .r .given .1) _ (c .before .before .before .before .before .before .before .before .before .before .before .before .before .before .before .before .arm-end .ensures) _ (c .before .before .before .before .before .before .before .before .before .before .before .before .sort .ensures) (c .before .before .before .before .before .before .before .before .before .before .before .if1 .taken) _ _ _ (c .before .before .before .before .before .before .before .before .else-part .ensures) _ _ (c .before .before .r2 .given .1)
 
--- src/lib.rt:306:13
-full-if-same-length-5 : (t : ℕ) → full-if-lts.Need-same-length-5 (
-  list-below t,
-  list.Post,
-  arm-end-reads.Asked,
-  arm-end-reads.Learnt,
-  sort-reads.Asked,
-  sort-reads.Learnt,
-  else-part-below t,
-  else-part.Post,
-  set-link-reads.Asked,
-  set-link-reads.Learnt,
-  of-type-reads.Asked,
-  of-type-reads.Learnt,
-) (full-if-at t) full-if.Post full-if-Inv-loop full-if-μ-loop
-full-if-same-length-5 t c = ?
+full-if-same-length-5 : (t : ℕ) → full-if-lts.Need-same-length-5 (calls-full-if t) (full-if-at t) full-if.Post full-if-Inv-loop full-if-μ-loop
+full-if-same-length-5 t c = let z = arm-long-so _ _ _ _ _ _ _ _ _ _ _ _ _ (c .before .before .before .before .before .before .before .before .before .before .before .before .before .before .before .before .before .before .before .before .before .before .before .before .before .before .before .before .before .before .before .loop .inv) (c .before .before .before .before .before .before .before .before .before .before .before .before .before .before .before .before .before .before .before .before .before .before .before .before .before .before .before .before .before .before .before .before .before .before .before .pre .1) in search needs
 
--- src/lib.rt:306:13
-full-if-same-length-6 : (t : ℕ) → full-if-lts.Need-same-length-6 (
-  list-below t,
-  list.Post,
-  arm-end-reads.Asked,
-  arm-end-reads.Learnt,
-  sort-reads.Asked,
-  sort-reads.Learnt,
-  else-part-below t,
-  else-part.Post,
-  set-link-reads.Asked,
-  set-link-reads.Learnt,
-  of-type-reads.Asked,
-  of-type-reads.Learnt,
-) (full-if-at t) full-if.Post full-if-Inv-loop full-if-μ-loop
-full-if-same-length-6 t c = ?
+full-if-same-length-6 : (t : ℕ) → full-if-lts.Need-same-length-6 (calls-full-if t) (full-if-at t) full-if.Post full-if-Inv-loop full-if-μ-loop
+full-if-same-length-6 t c = let z = arm-values _ _ _ _ _ _ _ _ _ _ _ _ _ (c .before .before .before .before .before .before .before .before .before .before .before .before .before .before .before .before .before .before .before .before .before .before .before .before .before .before .before .before .before .before .before .loop .inv) (c .before .before .before .before .before .before .before .before .before .before .before .before .before .before .before .before .before .before .before .before .before .before .before .before .before .before .before .before .before .before .before .before .before .before .before .pre .1) in search needs
 
--- src/lib.rt:306:13
-full-if-returns-3 : (t : ℕ) → full-if-lts.Need-returns-3 (
-  list-below t,
-  list.Post,
-  arm-end-reads.Asked,
-  arm-end-reads.Learnt,
-  sort-reads.Asked,
-  sort-reads.Learnt,
-  else-part-below t,
-  else-part.Post,
-  set-link-reads.Asked,
-  set-link-reads.Learnt,
-  of-type-reads.Asked,
-  of-type-reads.Learnt,
-) (full-if-at t) full-if.Post full-if-Inv-loop full-if-μ-loop
-full-if-returns-3 t c = ?
+full-if-returns-3 : (t : ℕ) → full-if-lts.Need-returns-3 (calls-full-if t) (full-if-at t) full-if.Post full-if-Inv-loop full-if-μ-loop
+full-if-returns-3 t c = arms-finished _ _ _ _ _ _ _ _ _ _ _ _ _ (c .before .before .before .before .before .before .before .before .before .before .before .before .before .before .before .before .before .before .before .before .before .before .before .before .before .before .before .before .before .before .before .loop .inv) _ _ _ (c .before .before .before .before .before .before .before .before .before .before .before .before .before .before .before .before .before .before .before .before .before .before .before .before .before .before .before .before .list .ensures) _ _ (c .before .before .before .before .before .before .before .before .before .before .before .before .before .before .before .before .before .before .before .before .before .before .r .given .1) _ (c .before .before .before .before .before .before .before .before .before .before .before .before .before .before .before .before .before .before .before .arm-end .ensures) _ (c .before .before .before .before .before .before .before .before .before .before .before .before .before .before .before .sort .ensures) (c .before .before .before .before .before .before .before .before .before .before .before .before .before .before .if1 .taken) _ _ _ (c .before .before .before .before .before .before .before .before .before .before .before .else-part .ensures) _ _ (c .before .before .before .before .before .r2 .given .1) _ (c .before .before .set-link .ensures)
 
--- src/lib.rt:308:65
-full-if-add-of-type : (t : ℕ) → full-if-lts.Need-add-of-type (
-  list-below t,
-  list.Post,
-  arm-end-reads.Asked,
-  arm-end-reads.Learnt,
-  sort-reads.Asked,
-  sort-reads.Learnt,
-  else-part-below t,
-  else-part.Post,
-  set-link-reads.Asked,
-  set-link-reads.Learnt,
-  of-type-reads.Asked,
-  of-type-reads.Learnt,
-) (full-if-at t) full-if.Post full-if-Inv-loop full-if-μ-loop
-full-if-add-of-type t c = ?
+full-if-add-of-type : (t : ℕ) → full-if-lts.Need-add-of-type (calls-full-if t) (full-if-at t) full-if.Post full-if-Inv-loop full-if-μ-loop
+full-if-add-of-type t c = omega (arith, arm-closes _ _ _ _ _ _ _ _ _ _ _ _ _ (c .before .before .before .before .before .before .before .before .before .before .before .before .before .before .before .before .before .before .before .loop .inv) (c .before .before .before .before .before .before .before .before .before .before .before .before .before .before .before .before .before .before .before .before .before .before .before .pre .1) _ _ _ (c .before .before .before .before .before .before .before .before .before .before .before .before .before .before .before .before .list .ensures) _ _ (c .before .before .before .before .before .before .before .before .before .before .r .given .1))
 
--- src/lib.rt:308:13
-full-if-of-type-requires : (t : ℕ) → full-if-lts.Need-of-type-requires (
-  list-below t,
-  list.Post,
-  arm-end-reads.Asked,
-  arm-end-reads.Learnt,
-  sort-reads.Asked,
-  sort-reads.Learnt,
-  else-part-below t,
-  else-part.Post,
-  set-link-reads.Asked,
-  set-link-reads.Learnt,
-  of-type-reads.Asked,
-  of-type-reads.Learnt,
-) (full-if-at t) full-if.Post full-if-Inv-loop full-if-μ-loop
-full-if-of-type-requires t c κs = ?
+full-if-of-type-requires : (t : ℕ) → full-if-lts.Need-of-type-requires (calls-full-if t) (full-if-at t) full-if.Post full-if-Inv-loop full-if-μ-loop
+full-if-of-type-requires t c κs = arm-condition _ _ _ _ _ _ _ _ _ _ _ _ _ (c .before .before .before .before .before .before .before .before .before .before .before .before .before .before .before .before .before .before .before .loop .inv) (c .before .before .before .before .before .before .before .before .before .before .before .before .before .before .before .before .before .before .before .before .before .before .before .pre .1) _ _ _ (c .before .before .before .before .before .before .before .before .before .before .before .before .before .before .before .before .list .ensures) _ _ (c .before .before .before .before .before .before .before .before .before .before .r .given .1) _ (c .before .before .before .before .before .before .before .arm-end .ensures) _ (c .before .before .before .sort .ensures) (c .before .before .if1 .left)
 
--- src/lib.rt:310:28
-full-if-enum-known-j : (t : ℕ) → full-if-lts.Need-enum-known-j (
-  list-below t,
-  list.Post,
-  arm-end-reads.Asked,
-  arm-end-reads.Learnt,
-  sort-reads.Asked,
-  sort-reads.Learnt,
-  else-part-below t,
-  else-part.Post,
-  set-link-reads.Asked,
-  set-link-reads.Learnt,
-  of-type-reads.Asked,
-  of-type-reads.Learnt,
-) (full-if-at t) full-if.Post full-if-Inv-loop full-if-μ-loop
-full-if-enum-known-j t c = ?
+full-if-enum-known-j : (t : ℕ) → full-if-lts.Need-enum-known-j (calls-full-if t) (full-if-at t) full-if.Post full-if-Inv-loop full-if-μ-loop
+full-if-enum-known-j t c = search needs
 
--- src/lib.rt:310:45
-full-if-same-length-7 : (t : ℕ) → full-if-lts.Need-same-length-7 (
-  list-below t,
-  list.Post,
-  arm-end-reads.Asked,
-  arm-end-reads.Learnt,
-  sort-reads.Asked,
-  sort-reads.Learnt,
-  else-part-below t,
-  else-part.Post,
-  set-link-reads.Asked,
-  set-link-reads.Learnt,
-  of-type-reads.Asked,
-  of-type-reads.Learnt,
-) (full-if-at t) full-if.Post full-if-Inv-loop full-if-μ-loop
-full-if-same-length-7 t c = ?
+full-if-same-length-7 : (t : ℕ) → full-if-lts.Need-same-length-7 (calls-full-if t) (full-if-at t) full-if.Post full-if-Inv-loop full-if-μ-loop
+full-if-same-length-7 t c = let z = arm-long-so _ _ _ _ _ _ _ _ _ _ _ _ _ (c .before .before .before .before .before .before .before .before .before .before .before .before .before .before .before .before .before .before .before .before .before .before .before .before .before .loop .inv) (c .before .before .before .before .before .before .before .before .before .before .before .before .before .before .before .before .before .before .before .before .before .before .before .before .before .before .before .before .before .pre .1) in search needs
 
--- src/lib.rt:310:45
-full-if-same-length-8 : (t : ℕ) → full-if-lts.Need-same-length-8 (
-  list-below t,
-  list.Post,
-  arm-end-reads.Asked,
-  arm-end-reads.Learnt,
-  sort-reads.Asked,
-  sort-reads.Learnt,
-  else-part-below t,
-  else-part.Post,
-  set-link-reads.Asked,
-  set-link-reads.Learnt,
-  of-type-reads.Asked,
-  of-type-reads.Learnt,
-) (full-if-at t) full-if.Post full-if-Inv-loop full-if-μ-loop
-full-if-same-length-8 t c = ?
+full-if-same-length-8 : (t : ℕ) → full-if-lts.Need-same-length-8 (calls-full-if t) (full-if-at t) full-if.Post full-if-Inv-loop full-if-μ-loop
+full-if-same-length-8 t c = let z = arm-values _ _ _ _ _ _ _ _ _ _ _ _ _ (c .before .before .before .before .before .before .before .before .before .before .before .before .before .before .before .before .before .before .before .before .before .before .before .before .before .loop .inv) (c .before .before .before .before .before .before .before .before .before .before .before .before .before .before .before .before .before .before .before .before .before .before .before .before .before .before .before .before .before .pre .1) in search needs
 
--- src/lib.rt:310:45
-full-if-returns-4 : (t : ℕ) → full-if-lts.Need-returns-4 (
-  list-below t,
-  list.Post,
-  arm-end-reads.Asked,
-  arm-end-reads.Learnt,
-  sort-reads.Asked,
-  sort-reads.Learnt,
-  else-part-below t,
-  else-part.Post,
-  set-link-reads.Asked,
-  set-link-reads.Learnt,
-  of-type-reads.Asked,
-  of-type-reads.Learnt,
-) (full-if-at t) full-if.Post full-if-Inv-loop full-if-μ-loop
-full-if-returns-4 t c = ?
+full-if-returns-4 : (t : ℕ) → full-if-lts.Need-returns-4 (calls-full-if t) (full-if-at t) full-if.Post full-if-Inv-loop full-if-μ-loop
+full-if-returns-4 t c = arm-wrong _ _ _ _ _ _ _ _ _ _ _ _ _ (c .before .before .before .before .before .before .before .before .before .before .before .before .before .before .before .before .before .before .before .before .before .before .before .before .before .loop .inv) _ _ _ (c .before .before .before .before .before .before .before .before .before .before .before .before .before .before .before .before .before .before .before .before .before .before .list .ensures) _ _ (c .before .before .before .before .before .before .before .before .before .before .before .before .before .before .before .before .r .given .1) _ (c .before .before .before .before .before .before .before .before .before .before .before .before .before .arm-end .ensures) _ (c .before .before .before .before .before .before .before .before .before .sort .ensures) (c .before .before .before .before .before .before .before .before .if1 .left) _ _ (c .before .before .before .before .before .of-type .ensures) _ _ (c .before .j .given .1)
 
--- src/lib.rt:311:30
-full-if-enum-known-j-2 : (t : ℕ) → full-if-lts.Need-enum-known-j-2 (
-  list-below t,
-  list.Post,
-  arm-end-reads.Asked,
-  arm-end-reads.Learnt,
-  sort-reads.Asked,
-  sort-reads.Learnt,
-  else-part-below t,
-  else-part.Post,
-  set-link-reads.Asked,
-  set-link-reads.Learnt,
-  of-type-reads.Asked,
-  of-type-reads.Learnt,
-) (full-if-at t) full-if.Post full-if-Inv-loop full-if-μ-loop
-full-if-enum-known-j-2 t c = ?
+full-if-enum-known-j-2 : (t : ℕ) → full-if-lts.Need-enum-known-j-2 (calls-full-if t) (full-if-at t) full-if.Post full-if-Inv-loop full-if-μ-loop
+full-if-enum-known-j-2 t c = search needs
 
--- src/lib.rt:294:5
-full-if-loop-less : (t : ℕ) → full-if-lts.Need-loop-less (
-  list-below t,
-  list.Post,
-  arm-end-reads.Asked,
-  arm-end-reads.Learnt,
-  sort-reads.Asked,
-  sort-reads.Learnt,
-  else-part-below t,
-  else-part.Post,
-  set-link-reads.Asked,
-  set-link-reads.Learnt,
-  of-type-reads.Asked,
-  of-type-reads.Learnt,
-) (full-if-at t) full-if.Post full-if-Inv-loop full-if-μ-loop
-full-if-loop-less t c = ?
+full-if-loop-less : (t : ℕ) → full-if-lts.Need-loop-less (calls-full-if t) (full-if-at t) full-if.Post full-if-Inv-loop full-if-μ-loop
+full-if-loop-less t c = arm-less _ _ _ _ _ _ _ _ _ _ _ _ _ (c .before .before .before .before .before .before .before .before .before .before .before .before .before .before .before .before .before .before .before .before .before .before .before .before .before .loop .inv) (c .before .before .before .before .before .before .before .before .before .before .before .before .before .before .before .before .before .before .before .before .before .before .before .before .before .before .before .before .before .pre .1) _ _ _ (c .before .before .before .before .before .before .before .before .before .before .before .before .before .before .before .before .before .before .before .before .before .before .list .ensures) _ _ (c .before .before .before .before .before .before .before .before .before .before .before .before .before .before .before .before .r .given .1) _ (c .before .before .before .before .before .before .before .before .before .before .before .before .before .arm-end .ensures) _ (c .before .before .before .before .before .before .before .before .before .sort .ensures) (c .before .before .before .before .before .before .before .before .if1 .left) _ _ (c .before .before .before .before .before .of-type .ensures) _ _ (c .before .j2 .given .1)
 
--- src/lib.rt:294:5
-full-if-loop-again : (t : ℕ) → full-if-lts.Need-loop-again (
-  list-below t,
-  list.Post,
-  arm-end-reads.Asked,
-  arm-end-reads.Learnt,
-  sort-reads.Asked,
-  sort-reads.Learnt,
-  else-part-below t,
-  else-part.Post,
-  set-link-reads.Asked,
-  set-link-reads.Learnt,
-  of-type-reads.Asked,
-  of-type-reads.Learnt,
-) (full-if-at t) full-if.Post full-if-Inv-loop full-if-μ-loop
-full-if-loop-again t c = ?
+full-if-loop-again : (t : ℕ) → full-if-lts.Need-loop-again (calls-full-if t) (full-if-at t) full-if.Post full-if-Inv-loop full-if-μ-loop
+full-if-loop-again t c = arms-go _ _ _ _ _ _ _ _ _ _ _ _ _ (c .before .before .before .before .before .before .before .before .before .before .before .before .before .before .before .before .before .before .before .before .before .before .before .before .before .loop .inv) _ _ _ (c .before .before .before .before .before .before .before .before .before .before .before .before .before .before .before .before .before .before .before .before .before .before .list .ensures) _ _ (c .before .before .before .before .before .before .before .before .before .before .before .before .before .before .before .before .r .given .1) _ (c .before .before .before .before .before .before .before .before .before .before .before .before .before .arm-end .ensures) _ (c .before .before .before .before .before .before .before .before .before .sort .ensures) (c .before .before .before .before .before .before .before .before .if1 .left) _ _ (c .before .before .before .before .before .of-type .ensures) _ _ (c .before .j2 .given .1)
 
--- src/lib.rt:332:61
-if-statement-add-of-type : (t : ℕ) → if-statement-lts.Need-add-of-type (
-  of-type-reads.Asked,
-  of-type-reads.Learnt,
-  sort-reads.Asked,
-  sort-reads.Learnt,
-  compact-if-reads.Asked,
-  compact-if-reads.Learnt,
-  full-if-below t,
-  full-if.Post,
-) (if-statement-at t) if-statement.Post
-if-statement-add-of-type t c = ?
+if-statement-add-of-type : (t : ℕ) → if-statement-lts.Need-add-of-type (calls-if-statement t) (if-statement-at t) if-statement.Post
+if-statement-add-of-type t c = omega (arith, stands-early _ _ _ _ _ _ (c .before .before .before .before .before .pre .1 .stands))
 
--- src/lib.rt:332:9
-if-statement-of-type-requires : (t : ℕ) → if-statement-lts.Need-of-type-requires (
-  of-type-reads.Asked,
-  of-type-reads.Learnt,
-  sort-reads.Asked,
-  sort-reads.Learnt,
-  compact-if-reads.Asked,
-  compact-if-reads.Learnt,
-  full-if-below t,
-  full-if.Post,
-) (if-statement-at t) if-statement.Post
-if-statement-of-type-requires t c κs = ?
+if-statement-of-type-requires : (t : ℕ) → if-statement-lts.Need-of-type-requires (calls-if-statement t) (if-statement-at t) if-statement.Post
+if-statement-of-type-requires t c κs = search (needs, if-condition)
 
--- src/lib.rt:334:24
-if-statement-enum-known-j : (t : ℕ) → if-statement-lts.Need-enum-known-j (
-  of-type-reads.Asked,
-  of-type-reads.Learnt,
-  sort-reads.Asked,
-  sort-reads.Learnt,
-  compact-if-reads.Asked,
-  compact-if-reads.Learnt,
-  full-if-below t,
-  full-if.Post,
-) (if-statement-at t) if-statement.Post
-if-statement-enum-known-j t c = ?
+if-statement-enum-known-j : (t : ℕ) → if-statement-lts.Need-enum-known-j (calls-if-statement t) (if-statement-at t) if-statement.Post
+if-statement-enum-known-j t c = search needs
 
--- src/lib.rt:335:26
-if-statement-enum-known-j-2 : (t : ℕ) → if-statement-lts.Need-enum-known-j-2 (
-  of-type-reads.Asked,
-  of-type-reads.Learnt,
-  sort-reads.Asked,
-  sort-reads.Learnt,
-  compact-if-reads.Asked,
-  compact-if-reads.Learnt,
-  full-if-below t,
-  full-if.Post,
-) (if-statement-at t) if-statement.Post
-if-statement-enum-known-j-2 t c = ?
+if-statement-enum-known-j-2 : (t : ℕ) → if-statement-lts.Need-enum-known-j-2 (calls-if-statement t) (if-statement-at t) if-statement.Post
+if-statement-enum-known-j-2 t c = search needs
 
--- src/lib.rt:336:16
-if-statement-sort-requires : (t : ℕ) → if-statement-lts.Need-sort-requires (
-  of-type-reads.Asked,
-  of-type-reads.Learnt,
-  sort-reads.Asked,
-  sort-reads.Learnt,
-  compact-if-reads.Asked,
-  compact-if-reads.Learnt,
-  full-if-below t,
-  full-if.Post,
-) (if-statement-at t) if-statement.Post
-if-statement-sort-requires t c κs = ?
+if-statement-sort-requires : (t : ℕ) → if-statement-lts.Need-sort-requires (calls-if-statement t) (if-statement-at t) if-statement.Post
+if-statement-sort-requires t c κs = if-room _ _ _ _ _ _ (c .before .before .before .before .before .before .before .before .before .before .before .before .pre .1) _ _ (c .before .before .before .before .before .before .of-type .ensures) _ _ (c .before .before .j2 .given .1) .1
 
--- src/lib.rt:337:17
-if-statement-compact-if-requires : (t : ℕ) → if-statement-lts.Need-compact-if-requires (
-  of-type-reads.Asked,
-  of-type-reads.Learnt,
-  sort-reads.Asked,
-  sort-reads.Learnt,
-  compact-if-reads.Asked,
-  compact-if-reads.Learnt,
-  full-if-below t,
-  full-if.Post,
-) (if-statement-at t) if-statement.Post
-if-statement-compact-if-requires t c κs = ?
+if-statement-compact-if-requires : (t : ℕ) → if-statement-lts.Need-compact-if-requires (calls-if-statement t) (if-statement-at t) if-statement.Post
+if-statement-compact-if-requires t c κs = if-compacts _ _ _ _ _ _ (c .before .before .before .before .before .before .before .before .before .before .before .before .before .before .before .before .pre .1) _ _ (c .before .before .before .before .before .before .before .before .before .before .of-type .ensures) _ _ (c .before .before .before .before .before .before .j2 .given .1) _ (c .before .before .before .sort .ensures) (c .before .before .if1 .taken)
 
--- src/lib.rt:337:17
-if-statement-same-length : (t : ℕ) → if-statement-lts.Need-same-length (
-  of-type-reads.Asked,
-  of-type-reads.Learnt,
-  sort-reads.Asked,
-  sort-reads.Learnt,
-  compact-if-reads.Asked,
-  compact-if-reads.Learnt,
-  full-if-below t,
-  full-if.Post,
-) (if-statement-at t) if-statement.Post
-if-statement-same-length t c = ?
+if-statement-same-length : (t : ℕ) → if-statement-lts.Need-same-length (calls-if-statement t) (if-statement-at t) if-statement.Post
+if-statement-same-length t c = search needs
 
--- src/lib.rt:337:17
-if-statement-same-length-2 : (t : ℕ) → if-statement-lts.Need-same-length-2 (
-  of-type-reads.Asked,
-  of-type-reads.Learnt,
-  sort-reads.Asked,
-  sort-reads.Learnt,
-  compact-if-reads.Asked,
-  compact-if-reads.Learnt,
-  full-if-below t,
-  full-if.Post,
-) (if-statement-at t) if-statement.Post
-if-statement-same-length-2 t c = ?
+if-statement-same-length-2 : (t : ℕ) → if-statement-lts.Need-same-length-2 (calls-if-statement t) (if-statement-at t) if-statement.Post
+if-statement-same-length-2 t c = search needs
 
--- src/lib.rt:337:17
-if-statement-returns : (t : ℕ) → if-statement-lts.Need-returns (
-  of-type-reads.Asked,
-  of-type-reads.Learnt,
-  sort-reads.Asked,
-  sort-reads.Learnt,
-  compact-if-reads.Asked,
-  compact-if-reads.Learnt,
-  full-if-below t,
-  full-if.Post,
-) (if-statement-at t) if-statement.Post
-if-statement-returns t c = ?
+if-statement-returns : (t : ℕ) → if-statement-lts.Need-returns (calls-if-statement t) (if-statement-at t) if-statement.Post
+if-statement-returns t c = search (needs, if-compact)
 
--- src/lib.rt:339:13
-if-statement-full-if-requires : (t : ℕ) → if-statement-lts.Need-full-if-requires (
-  of-type-reads.Asked,
-  of-type-reads.Learnt,
-  sort-reads.Asked,
-  sort-reads.Learnt,
-  compact-if-reads.Asked,
-  compact-if-reads.Learnt,
-  full-if-below t,
-  full-if.Post,
-) (if-statement-at t) if-statement.Post
-if-statement-full-if-requires t c κs = ?
+if-statement-full-if-requires : (t : ℕ) → if-statement-lts.Need-full-if-requires (calls-if-statement t) (if-statement-at t) if-statement.Post
+if-statement-full-if-requires t c κs = (omega (arith, if-room _ _ _ _ _ _ (c .before .before .before .before .before .before .before .before .before .before .before .before .before .before .before .before .pre .1) _ _ (c .before .before .before .before .before .before .before .before .before .before .of-type .ensures) _ _ (c .before .before .before .before .before .before .j2 .given .1), if-forward _ _ _ _ _ _ (c .before .before .before .before .before .before .before .before .before .before .before .before .before .before .before .before .pre .1) _ _ (c .before .before .before .before .before .before .before .before .before .before .of-type .ensures) _ _ (c .before .before .before .before .before .before .j2 .given .1), c .before .before .before .before .before .before .before .before .before .before .before .before .before .before .before .before .pre .0), if-thens _ _ _ _ _ _ (c .before .before .before .before .before .before .before .before .before .before .before .before .before .before .before .before .pre .1) _ _ (c .before .before .before .before .before .before .before .before .before .before .of-type .ensures) _ _ (c .before .before .before .before .before .before .j2 .given .1) _ (c .before .before .before .sort .ensures) (c .before .before .if1 .left))
 
--- src/lib.rt:321:1
-if-statement-same-length-3 : (t : ℕ) → if-statement-lts.Need-same-length-3 (
-  of-type-reads.Asked,
-  of-type-reads.Learnt,
-  sort-reads.Asked,
-  sort-reads.Learnt,
-  compact-if-reads.Asked,
-  compact-if-reads.Learnt,
-  full-if-below t,
-  full-if.Post,
-) (if-statement-at t) if-statement.Post
-if-statement-same-length-3 t c = ?
+if-statement-same-length-3 : (t : ℕ) → if-statement-lts.Need-same-length-3 (calls-if-statement t) (if-statement-at t) if-statement.Post
+if-statement-same-length-3 t c = search needs
 
--- src/lib.rt:321:1
-if-statement-same-length-4 : (t : ℕ) → if-statement-lts.Need-same-length-4 (
-  of-type-reads.Asked,
-  of-type-reads.Learnt,
-  sort-reads.Asked,
-  sort-reads.Learnt,
-  compact-if-reads.Asked,
-  compact-if-reads.Learnt,
-  full-if-below t,
-  full-if.Post,
-) (if-statement-at t) if-statement.Post
-if-statement-same-length-4 t c = ?
+if-statement-same-length-4 : (t : ℕ) → if-statement-lts.Need-same-length-4 (calls-if-statement t) (if-statement-at t) if-statement.Post
+if-statement-same-length-4 t c = search needs
 
--- src/lib.rt:321:1
-if-statement-returns-2 : (t : ℕ) → if-statement-lts.Need-returns-2 (
-  of-type-reads.Asked,
-  of-type-reads.Learnt,
-  sort-reads.Asked,
-  sort-reads.Learnt,
-  compact-if-reads.Asked,
-  compact-if-reads.Learnt,
-  full-if-below t,
-  full-if.Post,
-) (if-statement-at t) if-statement.Post
-if-statement-returns-2 t c = ?
+if-statement-returns-2 : (t : ℕ) → if-statement-lts.Need-returns-2 (calls-if-statement t) (if-statement-at t) if-statement.Post
+if-statement-returns-2 t c = search (needs, if-wrong)
 
--- src/lib.rt:321:1
-if-statement-same-length-5 : (t : ℕ) → if-statement-lts.Need-same-length-5 (
-  of-type-reads.Asked,
-  of-type-reads.Learnt,
-  sort-reads.Asked,
-  sort-reads.Learnt,
-  compact-if-reads.Asked,
-  compact-if-reads.Learnt,
-  full-if-below t,
-  full-if.Post,
-) (if-statement-at t) if-statement.Post
-if-statement-same-length-5 t c = ?
+if-statement-same-length-5 : (t : ℕ) → if-statement-lts.Need-same-length-5 (calls-if-statement t) (if-statement-at t) if-statement.Post
+if-statement-same-length-5 t c = search needs
 
--- src/lib.rt:321:1
-if-statement-same-length-6 : (t : ℕ) → if-statement-lts.Need-same-length-6 (
-  of-type-reads.Asked,
-  of-type-reads.Learnt,
-  sort-reads.Asked,
-  sort-reads.Learnt,
-  compact-if-reads.Asked,
-  compact-if-reads.Learnt,
-  full-if-below t,
-  full-if.Post,
-) (if-statement-at t) if-statement.Post
-if-statement-same-length-6 t c = ?
+if-statement-same-length-6 : (t : ℕ) → if-statement-lts.Need-same-length-6 (calls-if-statement t) (if-statement-at t) if-statement.Post
+if-statement-same-length-6 t c = search needs
 
--- src/lib.rt:321:1
-if-statement-returns-3 : (t : ℕ) → if-statement-lts.Need-returns-3 (
-  of-type-reads.Asked,
-  of-type-reads.Learnt,
-  sort-reads.Asked,
-  sort-reads.Learnt,
-  compact-if-reads.Asked,
-  compact-if-reads.Learnt,
-  full-if-below t,
-  full-if.Post,
-) (if-statement-at t) if-statement.Post
-if-statement-returns-3 t c = ?
+if-statement-returns-3 : (t : ℕ) → if-statement-lts.Need-returns-3 (calls-if-statement t) (if-statement-at t) if-statement.Post
+if-statement-returns-3 t c = if-full _ _ _ _ _ _ _ _ (c .before .before .before .before .before .before .before .before .before .before .before .before .before .before .before .of-type .ensures) _ _ (c .before .before .before .before .before .before .before .before .before .before .before .j2 .given .1) _ (c .before .before .before .before .before .before .before .before .sort .ensures) (c .before .before .before .before .before .before .before .if1 .left) _ _ _ (c .before .before .before .before .full-if .ensures)
 
 abbrev list-Inv-loop : list-lts.InvT-loop
-list-Inv-loop text code₀ values₀ k used at i₀ n₀ code values i n = ?
+list-Inv-loop text code₀ values₀ k used at i₀ n₀ code values i n = Goings text code₀ values₀ k used at code values i n
 
 abbrev list-μ-loop : list-lts.MeasureT-loop
-list-μ-loop text code₀ values₀ k used at i₀ n₀ code values i n = ?
-
--- src/lib.rt:554:5
-list-loop-holds : (t : ℕ) → list-lts.Need-loop-holds (
-  sort-reads.Asked,
-  sort-reads.Learnt,
-  starts-statement-reads.Asked,
-  starts-statement-reads.Learnt,
-  statement-below t,
-  statement′.Post,
-) (list-at t) list.Post list-Inv-loop list-μ-loop
-list-loop-holds t c = ?
-
--- src/lib.rt:555:13
-list-sort-requires : (t : ℕ) → list-lts.Need-sort-requires (
-  sort-reads.Asked,
-  sort-reads.Learnt,
-  starts-statement-reads.Asked,
-  starts-statement-reads.Learnt,
-  statement-below t,
-  statement′.Post,
-) (list-at t) list.Post list-Inv-loop list-μ-loop
-list-sort-requires t c κs = ?
-
--- src/lib.rt:556:12
-list-starts-statement-requires : (t : ℕ) → list-lts.Need-starts-statement-requires (
-  sort-reads.Asked,
-  sort-reads.Learnt,
-  starts-statement-reads.Asked,
-  starts-statement-reads.Learnt,
-  statement-below t,
-  statement′.Post,
-) (list-at t) list.Post list-Inv-loop list-μ-loop
-list-starts-statement-requires t c κs = ?
-
--- src/lib.rt:557:17
-list-statement-requires : (t : ℕ) → list-lts.Need-statement-requires (
-  sort-reads.Asked,
-  sort-reads.Learnt,
-  starts-statement-reads.Asked,
-  starts-statement-reads.Learnt,
-  statement-below t,
-  statement′.Post,
-) (list-at t) list.Post list-Inv-loop list-μ-loop
-list-statement-requires t c κs = ?
-
--- src/lib.rt:558:30
-list-enum-known-r : (t : ℕ) → list-lts.Need-enum-known-r (
-  sort-reads.Asked,
-  sort-reads.Learnt,
-  starts-statement-reads.Asked,
-  starts-statement-reads.Learnt,
-  statement-below t,
-  statement′.Post,
-) (list-at t) list.Post list-Inv-loop list-μ-loop
-list-enum-known-r t c = ?
-
--- src/lib.rt:559:17
-list-enum-told : (t : ℕ) → list-lts.Need-enum-told (
-  sort-reads.Asked,
-  sort-reads.Learnt,
-  starts-statement-reads.Asked,
-  starts-statement-reads.Learnt,
-  statement-below t,
-  statement′.Post,
-) (list-at t) list.Post list-Inv-loop list-μ-loop
-list-enum-told t c = ?
-
--- src/lib.rt:559:17
-list-same-length : (t : ℕ) → list-lts.Need-same-length (
-  sort-reads.Asked,
-  sort-reads.Learnt,
-  starts-statement-reads.Asked,
-  starts-statement-reads.Learnt,
-  statement-below t,
-  statement′.Post,
-) (list-at t) list.Post list-Inv-loop list-μ-loop
-list-same-length t c = ?
-
--- src/lib.rt:559:17
-list-same-length-2 : (t : ℕ) → list-lts.Need-same-length-2 (
-  sort-reads.Asked,
-  sort-reads.Learnt,
-  starts-statement-reads.Asked,
-  starts-statement-reads.Learnt,
-  statement-below t,
-  statement′.Post,
-) (list-at t) list.Post list-Inv-loop list-μ-loop
-list-same-length-2 t c = ?
-
--- src/lib.rt:559:17
-list-returns : (t : ℕ) → list-lts.Need-returns (
-  sort-reads.Asked,
-  sort-reads.Learnt,
-  starts-statement-reads.Asked,
-  starts-statement-reads.Learnt,
-  statement-below t,
-  statement′.Post,
-) (list-at t) list.Post list-Inv-loop list-μ-loop
-list-returns t c = ?
-
--- src/lib.rt:554:5
-list-loop-less : (t : ℕ) → list-lts.Need-loop-less (
-  sort-reads.Asked,
-  sort-reads.Learnt,
-  starts-statement-reads.Asked,
-  starts-statement-reads.Learnt,
-  statement-below t,
-  statement′.Post,
-) (list-at t) list.Post list-Inv-loop list-μ-loop
-list-loop-less t c = ?
-
--- src/lib.rt:554:5
-list-loop-again : (t : ℕ) → list-lts.Need-loop-again (
-  sort-reads.Asked,
-  sort-reads.Learnt,
-  starts-statement-reads.Asked,
-  starts-statement-reads.Learnt,
-  statement-below t,
-  statement′.Post,
-) (list-at t) list.Post list-Inv-loop list-μ-loop
-list-loop-again t c = ?
-
--- src/lib.rt:565:9
-list-same-length-3 : (t : ℕ) → list-lts.Need-same-length-3 (
-  sort-reads.Asked,
-  sort-reads.Learnt,
-  starts-statement-reads.Asked,
-  starts-statement-reads.Learnt,
-  statement-below t,
-  statement′.Post,
-) (list-at t) list.Post list-Inv-loop list-μ-loop
-list-same-length-3 t c = ?
-
--- src/lib.rt:565:9
-list-same-length-4 : (t : ℕ) → list-lts.Need-same-length-4 (
-  sort-reads.Asked,
-  sort-reads.Learnt,
-  starts-statement-reads.Asked,
-  starts-statement-reads.Learnt,
-  statement-below t,
-  statement′.Post,
-) (list-at t) list.Post list-Inv-loop list-μ-loop
-list-same-length-4 t c = ?
-
--- src/lib.rt:565:9
-list-returns-2 : (t : ℕ) → list-lts.Need-returns-2 (
-  sort-reads.Asked,
-  sort-reads.Learnt,
-  starts-statement-reads.Asked,
-  starts-statement-reads.Learnt,
-  statement-below t,
-  statement′.Post,
-) (list-at t) list.Post list-Inv-loop list-μ-loop
-list-returns-2 t c = ?
-
--- src/lib.rt:504:9
-statement-sort-requires : (t : ℕ) → statement-lts.Need-sort-requires (
-  sort-reads.Asked,
-  sort-reads.Learnt,
-  if-statement-below t,
-  if-statement.Post,
-  for-statement-below t,
-  for-statement.Post,
-  while-statement-below t,
-  while-statement.Post,
-  test-statement-below t,
-  test-statement.Post,
-  simple-statement-reads.Asked,
-  simple-statement-reads.Learnt,
-) (statement-at t) statement′.Post
-statement-sort-requires t c κs = ?
-
--- src/lib.rt:506:9
-statement-if-statement-requires : (t : ℕ) → statement-lts.Need-if-statement-requires (
-  sort-reads.Asked,
-  sort-reads.Learnt,
-  if-statement-below t,
-  if-statement.Post,
-  for-statement-below t,
-  for-statement.Post,
-  while-statement-below t,
-  while-statement.Post,
-  test-statement-below t,
-  test-statement.Post,
-  simple-statement-reads.Asked,
-  simple-statement-reads.Learnt,
-) (statement-at t) statement′.Post
-statement-if-statement-requires t c κs = ?
-
--- src/lib.rt:506:9
-statement-same-length : (t : ℕ) → statement-lts.Need-same-length (
-  sort-reads.Asked,
-  sort-reads.Learnt,
-  if-statement-below t,
-  if-statement.Post,
-  for-statement-below t,
-  for-statement.Post,
-  while-statement-below t,
-  while-statement.Post,
-  test-statement-below t,
-  test-statement.Post,
-  simple-statement-reads.Asked,
-  simple-statement-reads.Learnt,
-) (statement-at t) statement′.Post
-statement-same-length t c = ?
-
--- src/lib.rt:506:9
-statement-same-length-2 : (t : ℕ) → statement-lts.Need-same-length-2 (
-  sort-reads.Asked,
-  sort-reads.Learnt,
-  if-statement-below t,
-  if-statement.Post,
-  for-statement-below t,
-  for-statement.Post,
-  while-statement-below t,
-  while-statement.Post,
-  test-statement-below t,
-  test-statement.Post,
-  simple-statement-reads.Asked,
-  simple-statement-reads.Learnt,
-) (statement-at t) statement′.Post
-statement-same-length-2 t c = ?
-
--- src/lib.rt:506:9
-statement-returns : (t : ℕ) → statement-lts.Need-returns (
-  sort-reads.Asked,
-  sort-reads.Learnt,
-  if-statement-below t,
-  if-statement.Post,
-  for-statement-below t,
-  for-statement.Post,
-  while-statement-below t,
-  while-statement.Post,
-  test-statement-below t,
-  test-statement.Post,
-  simple-statement-reads.Asked,
-  simple-statement-reads.Learnt,
-) (statement-at t) statement′.Post
-statement-returns t c = ?
-
--- src/lib.rt:509:9
-statement-for-statement-requires : (t : ℕ) → statement-lts.Need-for-statement-requires (
-  sort-reads.Asked,
-  sort-reads.Learnt,
-  if-statement-below t,
-  if-statement.Post,
-  for-statement-below t,
-  for-statement.Post,
-  while-statement-below t,
-  while-statement.Post,
-  test-statement-below t,
-  test-statement.Post,
-  simple-statement-reads.Asked,
-  simple-statement-reads.Learnt,
-) (statement-at t) statement′.Post
-statement-for-statement-requires t c κs = ?
-
--- src/lib.rt:509:9
-statement-same-length-3 : (t : ℕ) → statement-lts.Need-same-length-3 (
-  sort-reads.Asked,
-  sort-reads.Learnt,
-  if-statement-below t,
-  if-statement.Post,
-  for-statement-below t,
-  for-statement.Post,
-  while-statement-below t,
-  while-statement.Post,
-  test-statement-below t,
-  test-statement.Post,
-  simple-statement-reads.Asked,
-  simple-statement-reads.Learnt,
-) (statement-at t) statement′.Post
-statement-same-length-3 t c = ?
-
--- src/lib.rt:509:9
-statement-same-length-4 : (t : ℕ) → statement-lts.Need-same-length-4 (
-  sort-reads.Asked,
-  sort-reads.Learnt,
-  if-statement-below t,
-  if-statement.Post,
-  for-statement-below t,
-  for-statement.Post,
-  while-statement-below t,
-  while-statement.Post,
-  test-statement-below t,
-  test-statement.Post,
-  simple-statement-reads.Asked,
-  simple-statement-reads.Learnt,
-) (statement-at t) statement′.Post
-statement-same-length-4 t c = ?
-
--- src/lib.rt:509:9
-statement-returns-2 : (t : ℕ) → statement-lts.Need-returns-2 (
-  sort-reads.Asked,
-  sort-reads.Learnt,
-  if-statement-below t,
-  if-statement.Post,
-  for-statement-below t,
-  for-statement.Post,
-  while-statement-below t,
-  while-statement.Post,
-  test-statement-below t,
-  test-statement.Post,
-  simple-statement-reads.Asked,
-  simple-statement-reads.Learnt,
-) (statement-at t) statement′.Post
-statement-returns-2 t c = ?
-
--- src/lib.rt:512:9
-statement-while-statement-requires : (t : ℕ) → statement-lts.Need-while-statement-requires (
-  sort-reads.Asked,
-  sort-reads.Learnt,
-  if-statement-below t,
-  if-statement.Post,
-  for-statement-below t,
-  for-statement.Post,
-  while-statement-below t,
-  while-statement.Post,
-  test-statement-below t,
-  test-statement.Post,
-  simple-statement-reads.Asked,
-  simple-statement-reads.Learnt,
-) (statement-at t) statement′.Post
-statement-while-statement-requires t c κs = ?
-
--- src/lib.rt:512:9
-statement-same-length-5 : (t : ℕ) → statement-lts.Need-same-length-5 (
-  sort-reads.Asked,
-  sort-reads.Learnt,
-  if-statement-below t,
-  if-statement.Post,
-  for-statement-below t,
-  for-statement.Post,
-  while-statement-below t,
-  while-statement.Post,
-  test-statement-below t,
-  test-statement.Post,
-  simple-statement-reads.Asked,
-  simple-statement-reads.Learnt,
-) (statement-at t) statement′.Post
-statement-same-length-5 t c = ?
-
--- src/lib.rt:512:9
-statement-same-length-6 : (t : ℕ) → statement-lts.Need-same-length-6 (
-  sort-reads.Asked,
-  sort-reads.Learnt,
-  if-statement-below t,
-  if-statement.Post,
-  for-statement-below t,
-  for-statement.Post,
-  while-statement-below t,
-  while-statement.Post,
-  test-statement-below t,
-  test-statement.Post,
-  simple-statement-reads.Asked,
-  simple-statement-reads.Learnt,
-) (statement-at t) statement′.Post
-statement-same-length-6 t c = ?
-
--- src/lib.rt:512:9
-statement-returns-3 : (t : ℕ) → statement-lts.Need-returns-3 (
-  sort-reads.Asked,
-  sort-reads.Learnt,
-  if-statement-below t,
-  if-statement.Post,
-  for-statement-below t,
-  for-statement.Post,
-  while-statement-below t,
-  while-statement.Post,
-  test-statement-below t,
-  test-statement.Post,
-  simple-statement-reads.Asked,
-  simple-statement-reads.Learnt,
-) (statement-at t) statement′.Post
-statement-returns-3 t c = ?
-
--- src/lib.rt:515:9
-statement-test-statement-requires : (t : ℕ) → statement-lts.Need-test-statement-requires (
-  sort-reads.Asked,
-  sort-reads.Learnt,
-  if-statement-below t,
-  if-statement.Post,
-  for-statement-below t,
-  for-statement.Post,
-  while-statement-below t,
-  while-statement.Post,
-  test-statement-below t,
-  test-statement.Post,
-  simple-statement-reads.Asked,
-  simple-statement-reads.Learnt,
-) (statement-at t) statement′.Post
-statement-test-statement-requires t c κs = ?
-
--- src/lib.rt:515:9
-statement-same-length-7 : (t : ℕ) → statement-lts.Need-same-length-7 (
-  sort-reads.Asked,
-  sort-reads.Learnt,
-  if-statement-below t,
-  if-statement.Post,
-  for-statement-below t,
-  for-statement.Post,
-  while-statement-below t,
-  while-statement.Post,
-  test-statement-below t,
-  test-statement.Post,
-  simple-statement-reads.Asked,
-  simple-statement-reads.Learnt,
-) (statement-at t) statement′.Post
-statement-same-length-7 t c = ?
-
--- src/lib.rt:515:9
-statement-same-length-8 : (t : ℕ) → statement-lts.Need-same-length-8 (
-  sort-reads.Asked,
-  sort-reads.Learnt,
-  if-statement-below t,
-  if-statement.Post,
-  for-statement-below t,
-  for-statement.Post,
-  while-statement-below t,
-  while-statement.Post,
-  test-statement-below t,
-  test-statement.Post,
-  simple-statement-reads.Asked,
-  simple-statement-reads.Learnt,
-) (statement-at t) statement′.Post
-statement-same-length-8 t c = ?
-
--- src/lib.rt:515:9
-statement-returns-4 : (t : ℕ) → statement-lts.Need-returns-4 (
-  sort-reads.Asked,
-  sort-reads.Learnt,
-  if-statement-below t,
-  if-statement.Post,
-  for-statement-below t,
-  for-statement.Post,
-  while-statement-below t,
-  while-statement.Post,
-  test-statement-below t,
-  test-statement.Post,
-  simple-statement-reads.Asked,
-  simple-statement-reads.Learnt,
-) (statement-at t) statement′.Post
-statement-returns-4 t c = ?
-
--- src/lib.rt:517:5
-statement-simple-statement-requires : (t : ℕ) → statement-lts.Need-simple-statement-requires (
-  sort-reads.Asked,
-  sort-reads.Learnt,
-  if-statement-below t,
-  if-statement.Post,
-  for-statement-below t,
-  for-statement.Post,
-  while-statement-below t,
-  while-statement.Post,
-  test-statement-below t,
-  test-statement.Post,
-  simple-statement-reads.Asked,
-  simple-statement-reads.Learnt,
-) (statement-at t) statement′.Post
-statement-simple-statement-requires t c κs = ?
-
--- src/lib.rt:493:1
-statement-same-length-9 : (t : ℕ) → statement-lts.Need-same-length-9 (
-  sort-reads.Asked,
-  sort-reads.Learnt,
-  if-statement-below t,
-  if-statement.Post,
-  for-statement-below t,
-  for-statement.Post,
-  while-statement-below t,
-  while-statement.Post,
-  test-statement-below t,
-  test-statement.Post,
-  simple-statement-reads.Asked,
-  simple-statement-reads.Learnt,
-) (statement-at t) statement′.Post
-statement-same-length-9 t c = ?
-
--- src/lib.rt:493:1
-statement-same-length-10 : (t : ℕ) → statement-lts.Need-same-length-10 (
-  sort-reads.Asked,
-  sort-reads.Learnt,
-  if-statement-below t,
-  if-statement.Post,
-  for-statement-below t,
-  for-statement.Post,
-  while-statement-below t,
-  while-statement.Post,
-  test-statement-below t,
-  test-statement.Post,
-  simple-statement-reads.Asked,
-  simple-statement-reads.Learnt,
-) (statement-at t) statement′.Post
-statement-same-length-10 t c = ?
-
--- src/lib.rt:493:1
-statement-returns-5 : (t : ℕ) → statement-lts.Need-returns-5 (
-  sort-reads.Asked,
-  sort-reads.Learnt,
-  if-statement-below t,
-  if-statement.Post,
-  for-statement-below t,
-  for-statement.Post,
-  while-statement-below t,
-  while-statement.Post,
-  test-statement-below t,
-  test-statement.Post,
-  simple-statement-reads.Asked,
-  simple-statement-reads.Learnt,
-) (statement-at t) statement′.Post
-statement-returns-5 t c = ?
-
--- src/lib.rt:459:62
-test-statement-add-of-type : (t : ℕ) → test-statement-lts.Need-add-of-type (
-  of-type-reads.Asked,
-  of-type-reads.Learnt,
-  cases-below t,
-  cases.Post,
-  set-word-reads.Asked,
-  set-word-reads.Learnt,
-) (test-statement-at t) test-statement.Post
-test-statement-add-of-type t c = ?
-
--- src/lib.rt:459:9
-test-statement-of-type-requires : (t : ℕ) → test-statement-lts.Need-of-type-requires (
-  of-type-reads.Asked,
-  of-type-reads.Learnt,
-  cases-below t,
-  cases.Post,
-  set-word-reads.Asked,
-  set-word-reads.Learnt,
-) (test-statement-at t) test-statement.Post
-test-statement-of-type-requires t c κs = ?
-
--- src/lib.rt:461:24
-test-statement-enum-known-j : (t : ℕ) → test-statement-lts.Need-enum-known-j (
-  of-type-reads.Asked,
-  of-type-reads.Learnt,
-  cases-below t,
-  cases.Post,
-  set-word-reads.Asked,
-  set-word-reads.Learnt,
-) (test-statement-at t) test-statement.Post
-test-statement-enum-known-j t c = ?
-
--- src/lib.rt:462:26
-test-statement-enum-known-j-2 : (t : ℕ) → test-statement-lts.Need-enum-known-j-2 (
-  of-type-reads.Asked,
-  of-type-reads.Learnt,
-  cases-below t,
-  cases.Post,
-  set-word-reads.Asked,
-  set-word-reads.Learnt,
-) (test-statement-at t) test-statement.Post
-test-statement-enum-known-j-2 t c = ?
-
--- src/lib.rt:463:17
-test-statement-cases-requires : (t : ℕ) → test-statement-lts.Need-cases-requires (
-  of-type-reads.Asked,
-  of-type-reads.Learnt,
-  cases-below t,
-  cases.Post,
-  set-word-reads.Asked,
-  set-word-reads.Learnt,
-) (test-statement-at t) test-statement.Post
-test-statement-cases-requires t c κs = ?
-
--- src/lib.rt:464:30
-test-statement-enum-known-r : (t : ℕ) → test-statement-lts.Need-enum-known-r (
-  of-type-reads.Asked,
-  of-type-reads.Learnt,
-  cases-below t,
-  cases.Post,
-  set-word-reads.Asked,
-  set-word-reads.Learnt,
-) (test-statement-at t) test-statement.Post
-test-statement-enum-known-r t c = ?
-
--- src/lib.rt:465:17
-test-statement-enum-told : (t : ℕ) → test-statement-lts.Need-enum-told (
-  of-type-reads.Asked,
-  of-type-reads.Learnt,
-  cases-below t,
-  cases.Post,
-  set-word-reads.Asked,
-  set-word-reads.Learnt,
-) (test-statement-at t) test-statement.Post
-test-statement-enum-told t c = ?
-
--- src/lib.rt:465:17
-test-statement-same-length : (t : ℕ) → test-statement-lts.Need-same-length (
-  of-type-reads.Asked,
-  of-type-reads.Learnt,
-  cases-below t,
-  cases.Post,
-  set-word-reads.Asked,
-  set-word-reads.Learnt,
-) (test-statement-at t) test-statement.Post
-test-statement-same-length t c = ?
-
--- src/lib.rt:465:17
-test-statement-same-length-2 : (t : ℕ) → test-statement-lts.Need-same-length-2 (
-  of-type-reads.Asked,
-  of-type-reads.Learnt,
-  cases-below t,
-  cases.Post,
-  set-word-reads.Asked,
-  set-word-reads.Learnt,
-) (test-statement-at t) test-statement.Post
-test-statement-same-length-2 t c = ?
-
--- src/lib.rt:465:17
-test-statement-returns : (t : ℕ) → test-statement-lts.Need-returns (
-  of-type-reads.Asked,
-  of-type-reads.Learnt,
-  cases-below t,
-  cases.Post,
-  set-word-reads.Asked,
-  set-word-reads.Learnt,
-) (test-statement-at t) test-statement.Post
-test-statement-returns t c = ?
-
--- src/lib.rt:467:45
-test-statement-cast-set-word : (t : ℕ) → test-statement-lts.Need-cast-set-word (
-  of-type-reads.Asked,
-  of-type-reads.Learnt,
-  cases-below t,
-  cases.Post,
-  set-word-reads.Asked,
-  set-word-reads.Learnt,
-) (test-statement-at t) test-statement.Post
-test-statement-cast-set-word t c = ?
-
--- src/lib.rt:467:13
-test-statement-set-word-requires : (t : ℕ) → test-statement-lts.Need-set-word-requires (
-  of-type-reads.Asked,
-  of-type-reads.Learnt,
-  cases-below t,
-  cases.Post,
-  set-word-reads.Asked,
-  set-word-reads.Learnt,
-) (test-statement-at t) test-statement.Post
-test-statement-set-word-requires t c κs = ?
-
--- src/lib.rt:448:1
-test-statement-same-length-3 : (t : ℕ) → test-statement-lts.Need-same-length-3 (
-  of-type-reads.Asked,
-  of-type-reads.Learnt,
-  cases-below t,
-  cases.Post,
-  set-word-reads.Asked,
-  set-word-reads.Learnt,
-) (test-statement-at t) test-statement.Post
-test-statement-same-length-3 t c = ?
-
--- src/lib.rt:448:1
-test-statement-same-length-4 : (t : ℕ) → test-statement-lts.Need-same-length-4 (
-  of-type-reads.Asked,
-  of-type-reads.Learnt,
-  cases-below t,
-  cases.Post,
-  set-word-reads.Asked,
-  set-word-reads.Learnt,
-) (test-statement-at t) test-statement.Post
-test-statement-same-length-4 t c = ?
-
--- src/lib.rt:448:1
-test-statement-returns-2 : (t : ℕ) → test-statement-lts.Need-returns-2 (
-  of-type-reads.Asked,
-  of-type-reads.Learnt,
-  cases-below t,
-  cases.Post,
-  set-word-reads.Asked,
-  set-word-reads.Learnt,
-) (test-statement-at t) test-statement.Post
-test-statement-returns-2 t c = ?
-
--- src/lib.rt:448:1
-test-statement-same-length-5 : (t : ℕ) → test-statement-lts.Need-same-length-5 (
-  of-type-reads.Asked,
-  of-type-reads.Learnt,
-  cases-below t,
-  cases.Post,
-  set-word-reads.Asked,
-  set-word-reads.Learnt,
-) (test-statement-at t) test-statement.Post
-test-statement-same-length-5 t c = ?
-
--- src/lib.rt:448:1
-test-statement-same-length-6 : (t : ℕ) → test-statement-lts.Need-same-length-6 (
-  of-type-reads.Asked,
-  of-type-reads.Learnt,
-  cases-below t,
-  cases.Post,
-  set-word-reads.Asked,
-  set-word-reads.Learnt,
-) (test-statement-at t) test-statement.Post
-test-statement-same-length-6 t c = ?
-
--- src/lib.rt:448:1
-test-statement-returns-3 : (t : ℕ) → test-statement-lts.Need-returns-3 (
-  of-type-reads.Asked,
-  of-type-reads.Learnt,
-  cases-below t,
-  cases.Post,
-  set-word-reads.Asked,
-  set-word-reads.Learnt,
-) (test-statement-at t) test-statement.Post
-test-statement-returns-3 t c = ?
-
--- src/lib.rt:101:61
-while-statement-add-of-type : (t : ℕ) → while-statement-lts.Need-add-of-type (
-  of-type-reads.Asked,
-  of-type-reads.Learnt,
-  list-below t,
-  list.Post,
-  while-end-reads.Asked,
-  while-end-reads.Learnt,
-) (while-statement-at t) while-statement.Post
-while-statement-add-of-type t c = ?
-
--- src/lib.rt:101:9
-while-statement-of-type-requires : (t : ℕ) → while-statement-lts.Need-of-type-requires (
-  of-type-reads.Asked,
-  of-type-reads.Learnt,
-  list-below t,
-  list.Post,
-  while-end-reads.Asked,
-  while-end-reads.Learnt,
-) (while-statement-at t) while-statement.Post
-while-statement-of-type-requires t c κs = ?
-
--- src/lib.rt:103:24
-while-statement-enum-known-j : (t : ℕ) → while-statement-lts.Need-enum-known-j (
-  of-type-reads.Asked,
-  of-type-reads.Learnt,
-  list-below t,
-  list.Post,
-  while-end-reads.Asked,
-  while-end-reads.Learnt,
-) (while-statement-at t) while-statement.Post
-while-statement-enum-known-j t c = ?
-
--- src/lib.rt:104:26
-while-statement-enum-known-j-2 : (t : ℕ) → while-statement-lts.Need-enum-known-j-2 (
-  of-type-reads.Asked,
-  of-type-reads.Learnt,
-  list-below t,
-  list.Post,
-  while-end-reads.Asked,
-  while-end-reads.Learnt,
-) (while-statement-at t) while-statement.Post
-while-statement-enum-known-j-2 t c = ?
-
--- src/lib.rt:105:55
-while-statement-add-list : (t : ℕ) → while-statement-lts.Need-add-list (
-  of-type-reads.Asked,
-  of-type-reads.Learnt,
-  list-below t,
-  list.Post,
-  while-end-reads.Asked,
-  while-end-reads.Learnt,
-) (while-statement-at t) while-statement.Post
-while-statement-add-list t c = ?
-
--- src/lib.rt:105:17
-while-statement-list-requires : (t : ℕ) → while-statement-lts.Need-list-requires (
-  of-type-reads.Asked,
-  of-type-reads.Learnt,
-  list-below t,
-  list.Post,
-  while-end-reads.Asked,
-  while-end-reads.Learnt,
-) (while-statement-at t) while-statement.Post
-while-statement-list-requires t c κs = ?
-
--- src/lib.rt:106:30
-while-statement-enum-known-r : (t : ℕ) → while-statement-lts.Need-enum-known-r (
-  of-type-reads.Asked,
-  of-type-reads.Learnt,
-  list-below t,
-  list.Post,
-  while-end-reads.Asked,
-  while-end-reads.Learnt,
-) (while-statement-at t) while-statement.Post
-while-statement-enum-known-r t c = ?
-
--- src/lib.rt:107:17
-while-statement-enum-told : (t : ℕ) → while-statement-lts.Need-enum-told (
-  of-type-reads.Asked,
-  of-type-reads.Learnt,
-  list-below t,
-  list.Post,
-  while-end-reads.Asked,
-  while-end-reads.Learnt,
-) (while-statement-at t) while-statement.Post
-while-statement-enum-told t c = ?
-
--- src/lib.rt:107:17
-while-statement-same-length : (t : ℕ) → while-statement-lts.Need-same-length (
-  of-type-reads.Asked,
-  of-type-reads.Learnt,
-  list-below t,
-  list.Post,
-  while-end-reads.Asked,
-  while-end-reads.Learnt,
-) (while-statement-at t) while-statement.Post
-while-statement-same-length t c = ?
-
--- src/lib.rt:107:17
-while-statement-same-length-2 : (t : ℕ) → while-statement-lts.Need-same-length-2 (
-  of-type-reads.Asked,
-  of-type-reads.Learnt,
-  list-below t,
-  list.Post,
-  while-end-reads.Asked,
-  while-end-reads.Learnt,
-) (while-statement-at t) while-statement.Post
-while-statement-same-length-2 t c = ?
-
--- src/lib.rt:107:17
-while-statement-returns : (t : ℕ) → while-statement-lts.Need-returns (
-  of-type-reads.Asked,
-  of-type-reads.Learnt,
-  list-below t,
-  list.Post,
-  while-end-reads.Asked,
-  while-end-reads.Learnt,
-) (while-statement-at t) while-statement.Post
-while-statement-returns t c = ?
-
--- src/lib.rt:109:13
-while-statement-while-end-requires : (t : ℕ) → while-statement-lts.Need-while-end-requires (
-  of-type-reads.Asked,
-  of-type-reads.Learnt,
-  list-below t,
-  list.Post,
-  while-end-reads.Asked,
-  while-end-reads.Learnt,
-) (while-statement-at t) while-statement.Post
-while-statement-while-end-requires t c κs = ?
-
--- src/lib.rt:110:26
-while-statement-add-t24 : (t : ℕ) → while-statement-lts.Need-add-t24 (
-  of-type-reads.Asked,
-  of-type-reads.Learnt,
-  list-below t,
-  list.Post,
-  while-end-reads.Asked,
-  while-end-reads.Learnt,
-) (while-statement-at t) while-statement.Post
-while-statement-add-t24 t c = ?
-
--- src/lib.rt:90:1
-while-statement-same-length-3 : (t : ℕ) → while-statement-lts.Need-same-length-3 (
-  of-type-reads.Asked,
-  of-type-reads.Learnt,
-  list-below t,
-  list.Post,
-  while-end-reads.Asked,
-  while-end-reads.Learnt,
-) (while-statement-at t) while-statement.Post
-while-statement-same-length-3 t c = ?
-
--- src/lib.rt:90:1
-while-statement-same-length-4 : (t : ℕ) → while-statement-lts.Need-same-length-4 (
-  of-type-reads.Asked,
-  of-type-reads.Learnt,
-  list-below t,
-  list.Post,
-  while-end-reads.Asked,
-  while-end-reads.Learnt,
-) (while-statement-at t) while-statement.Post
-while-statement-same-length-4 t c = ?
-
--- src/lib.rt:90:1
-while-statement-returns-2 : (t : ℕ) → while-statement-lts.Need-returns-2 (
-  of-type-reads.Asked,
-  of-type-reads.Learnt,
-  list-below t,
-  list.Post,
-  while-end-reads.Asked,
-  while-end-reads.Learnt,
-) (while-statement-at t) while-statement.Post
-while-statement-returns-2 t c = ?
-
--- src/lib.rt:90:1
-while-statement-same-length-5 : (t : ℕ) → while-statement-lts.Need-same-length-5 (
-  of-type-reads.Asked,
-  of-type-reads.Learnt,
-  list-below t,
-  list.Post,
-  while-end-reads.Asked,
-  while-end-reads.Learnt,
-) (while-statement-at t) while-statement.Post
-while-statement-same-length-5 t c = ?
-
--- src/lib.rt:90:1
-while-statement-same-length-6 : (t : ℕ) → while-statement-lts.Need-same-length-6 (
-  of-type-reads.Asked,
-  of-type-reads.Learnt,
-  list-below t,
-  list.Post,
-  while-end-reads.Asked,
-  while-end-reads.Learnt,
-) (while-statement-at t) while-statement.Post
-while-statement-same-length-6 t c = ?
-
--- src/lib.rt:90:1
-while-statement-returns-3 : (t : ℕ) → while-statement-lts.Need-returns-3 (
-  of-type-reads.Asked,
-  of-type-reads.Learnt,
-  list-below t,
-  list.Post,
-  while-end-reads.Asked,
-  while-end-reads.Learnt,
-) (while-statement-at t) while-statement.Post
-while-statement-returns-3 t c = ?
+list-μ-loop text code₀ values₀ k used at i₀ n₀ code values i n = 8192 - i
+
+list-loop-holds : (t : ℕ) → list-lts.Need-loop-holds (calls-list t) (list-at t) list.Post list-Inv-loop list-μ-loop
+list-loop-holds t c = search (needs, list-begins)
+
+list-sort-requires : (t : ℕ) → list-lts.Need-sort-requires (calls-list t) (list-at t) list.Post list-Inv-loop list-μ-loop
+list-sort-requires t c κs = search (needs, list-room)
+
+list-starts-statement-requires : (t : ℕ) → list-lts.Need-starts-statement-requires (calls-list t) (list-at t) list.Post list-Inv-loop list-μ-loop
+list-starts-statement-requires t c κs = search needs
+
+list-statement-requires : (t : ℕ) → list-lts.Need-statement-requires (calls-list t) (list-at t) list.Post list-Inv-loop list-μ-loop
+list-statement-requires t c κs = (omega (arith, list-forward _ _ _ _ _ _ _ _ _ _ (c .before .before .before .before .before .before .loop .inv) (c .before .before .before .before .before .before .before .before .before .before .pre .1), c .before .before .before .before .before .before .before .before .before .before .pre .0), search (needs, list-stands))
+
+list-enum-known-r : (t : ℕ) → list-lts.Need-enum-known-r (calls-list t) (list-at t) list.Post list-Inv-loop list-μ-loop
+list-enum-known-r t c = search needs
+
+list-enum-told : (t : ℕ) → list-lts.Need-enum-told (calls-list t) (list-at t) list.Post list-Inv-loop list-μ-loop
+list-enum-told t c = search needs
+
+list-same-length : (t : ℕ) → list-lts.Need-same-length (calls-list t) (list-at t) list.Post list-Inv-loop list-μ-loop
+list-same-length t c = let z = list-long _ _ _ _ _ _ _ _ _ _ (c .before .before .before .before .before .before .before .before .before .before .before .before .before .loop .inv) (c .before .before .before .before .before .before .before .before .before .before .before .before .before .before .before .before .before .pre .1) in search needs
+
+list-same-length-2 : (t : ℕ) → list-lts.Need-same-length-2 (calls-list t) (list-at t) list.Post list-Inv-loop list-μ-loop
+list-same-length-2 t c = let z = list-values _ _ _ _ _ _ _ _ _ _ (c .before .before .before .before .before .before .before .before .before .before .before .before .before .loop .inv) (c .before .before .before .before .before .before .before .before .before .before .before .before .before .before .before .before .before .pre .1) in search needs
+
+list-returns : (t : ℕ) → list-lts.Need-returns (calls-list t) (list-at t) list.Post list-Inv-loop list-μ-loop
+list-returns t c = search (needs, list-faulty)
+
+list-loop-less : (t : ℕ) → list-lts.Need-loop-less (calls-list t) (list-at t) list.Post list-Inv-loop list-μ-loop
+list-loop-less t c = search (needs, list-less)
+
+list-loop-again : (t : ℕ) → list-lts.Need-loop-again (calls-list t) (list-at t) list.Post list-Inv-loop list-μ-loop
+list-loop-again t c = search (needs, list-goes)
+
+list-same-length-3 : (t : ℕ) → list-lts.Need-same-length-3 (calls-list t) (list-at t) list.Post list-Inv-loop list-μ-loop
+list-same-length-3 t c = let z = list-long _ _ _ _ _ _ _ _ _ _ (c .before .before .before .before .loop .inv) (c .before .before .before .before .before .before .before .before .pre .1) in search needs
+
+list-same-length-4 : (t : ℕ) → list-lts.Need-same-length-4 (calls-list t) (list-at t) list.Post list-Inv-loop list-μ-loop
+list-same-length-4 t c = let z = list-values _ _ _ _ _ _ _ _ _ _ (c .before .before .before .before .loop .inv) (c .before .before .before .before .before .before .before .before .pre .1) in search needs
+
+list-returns-2 : (t : ℕ) → list-lts.Need-returns-2 (calls-list t) (list-at t) list.Post list-Inv-loop list-μ-loop
+list-returns-2 t c = search (needs, list-ends)
+
+statement-sort-requires : (t : ℕ) → statement-lts.Need-sort-requires (calls-statement t) (statement-at t) statement′.Post
+statement-sort-requires t c κs = search (needs, stands-room)
+
+statement-if-statement-requires : (t : ℕ) → statement-lts.Need-if-statement-requires (calls-statement t) (statement-at t) statement′.Post
+statement-if-statement-requires t c κs = (omega (arith, stands-early _ _ _ _ _ _ (c .before .before .before .before .before .before .before .before .pre .1), c .before .before .before .before .before .before .before .before .pre .0), search (needs, begins-by))
+
+statement-same-length : (t : ℕ) → statement-lts.Need-same-length (calls-statement t) (statement-at t) statement′.Post
+statement-same-length t c = search needs
+
+statement-same-length-2 : (t : ℕ) → statement-lts.Need-same-length-2 (calls-statement t) (statement-at t) statement′.Post
+statement-same-length-2 t c = search needs
+
+statement-returns : (t : ℕ) → statement-lts.Need-returns (calls-statement t) (statement-at t) statement′.Post
+statement-returns t c = search (needs, stated-by)
+
+statement-for-statement-requires : (t : ℕ) → statement-lts.Need-for-statement-requires (calls-statement t) (statement-at t) statement′.Post
+statement-for-statement-requires t c κs = (omega (arith, stands-early _ _ _ _ _ _ (c .before .before .before .before .before .before .before .before .before .pre .1), c .before .before .before .before .before .before .before .before .before .pre .0), search (needs, begins-by))
+
+statement-same-length-3 : (t : ℕ) → statement-lts.Need-same-length-3 (calls-statement t) (statement-at t) statement′.Post
+statement-same-length-3 t c = search needs
+
+statement-same-length-4 : (t : ℕ) → statement-lts.Need-same-length-4 (calls-statement t) (statement-at t) statement′.Post
+statement-same-length-4 t c = search needs
+
+statement-returns-2 : (t : ℕ) → statement-lts.Need-returns-2 (calls-statement t) (statement-at t) statement′.Post
+statement-returns-2 t c = search (needs, stated-by)
+
+statement-while-statement-requires : (t : ℕ) → statement-lts.Need-while-statement-requires (calls-statement t) (statement-at t) statement′.Post
+statement-while-statement-requires t c κs = (omega (arith, stands-early _ _ _ _ _ _ (c .before .before .before .before .before .before .before .before .before .before .pre .1), c .before .before .before .before .before .before .before .before .before .before .pre .0), search (needs, begins-by))
+
+statement-same-length-5 : (t : ℕ) → statement-lts.Need-same-length-5 (calls-statement t) (statement-at t) statement′.Post
+statement-same-length-5 t c = search needs
+
+statement-same-length-6 : (t : ℕ) → statement-lts.Need-same-length-6 (calls-statement t) (statement-at t) statement′.Post
+statement-same-length-6 t c = search needs
+
+statement-returns-3 : (t : ℕ) → statement-lts.Need-returns-3 (calls-statement t) (statement-at t) statement′.Post
+statement-returns-3 t c = search (needs, stated-by)
+
+statement-test-statement-requires : (t : ℕ) → statement-lts.Need-test-statement-requires (calls-statement t) (statement-at t) statement′.Post
+statement-test-statement-requires t c κs = (omega (arith, stands-early _ _ _ _ _ _ (c .before .before .before .before .before .before .before .before .before .before .before .pre .1), c .before .before .before .before .before .before .before .before .before .before .before .pre .0), search (needs, begins-by))
+
+statement-same-length-7 : (t : ℕ) → statement-lts.Need-same-length-7 (calls-statement t) (statement-at t) statement′.Post
+statement-same-length-7 t c = search needs
+
+statement-same-length-8 : (t : ℕ) → statement-lts.Need-same-length-8 (calls-statement t) (statement-at t) statement′.Post
+statement-same-length-8 t c = search needs
+
+statement-returns-4 : (t : ℕ) → statement-lts.Need-returns-4 (calls-statement t) (statement-at t) statement′.Post
+statement-returns-4 t c = search (needs, stated-by)
+
+statement-simple-statement-requires : (t : ℕ) → statement-lts.Need-simple-statement-requires (calls-statement t) (statement-at t) statement′.Post
+statement-simple-statement-requires t c κs = search (needs, plain-by)
+
+statement-same-length-9 : (t : ℕ) → statement-lts.Need-same-length-9 (calls-statement t) (statement-at t) statement′.Post
+statement-same-length-9 t c = search needs
+
+statement-same-length-10 : (t : ℕ) → statement-lts.Need-same-length-10 (calls-statement t) (statement-at t) statement′.Post
+statement-same-length-10 t c = search needs
+
+statement-returns-5 : (t : ℕ) → statement-lts.Need-returns-5 (calls-statement t) (statement-at t) statement′.Post
+statement-returns-5 t c = search (needs, stated-plain)
+
+test-statement-add-of-type : (t : ℕ) → test-statement-lts.Need-add-of-type (calls-test-statement t) (test-statement-at t) test-statement.Post
+test-statement-add-of-type t c = omega (arith, stands-early _ _ _ _ _ _ (c .before .before .before .before .before .pre .1 .stands))
+
+test-statement-of-type-requires : (t : ℕ) → test-statement-lts.Need-of-type-requires (calls-test-statement t) (test-statement-at t) test-statement.Post
+test-statement-of-type-requires t c κs = search (needs, test-selector)
+
+test-statement-enum-known-j : (t : ℕ) → test-statement-lts.Need-enum-known-j (calls-test-statement t) (test-statement-at t) test-statement.Post
+test-statement-enum-known-j t c = search needs
+
+test-statement-enum-known-j-2 : (t : ℕ) → test-statement-lts.Need-enum-known-j-2 (calls-test-statement t) (test-statement-at t) test-statement.Post
+test-statement-enum-known-j-2 t c = search needs
+
+test-statement-cases-requires : (t : ℕ) → test-statement-lts.Need-cases-requires (calls-test-statement t) (test-statement-at t) test-statement.Post
+test-statement-cases-requires t c κs = (omega (arith, test-forward _ _ _ _ _ _ (c .before .before .before .before .before .before .before .before .before .before .before .before .before .pre .1) _ _ (c .before .before .before .before .before .before .before .of-type .ensures) _ _ (c .before .before .before .j2 .given .1), c .before .before .before .before .before .before .before .before .before .before .before .before .before .pre .0), test-chooses _ _ _ _ _ _ (c .before .before .before .before .before .before .before .before .before .before .before .before .before .pre .1) _ _ (c .before .before .before .before .before .before .before .of-type .ensures) _ _ (c .before .before .before .j2 .given .1))
+
+test-statement-enum-known-r : (t : ℕ) → test-statement-lts.Need-enum-known-r (calls-test-statement t) (test-statement-at t) test-statement.Post
+test-statement-enum-known-r t c = search needs
+
+test-statement-enum-told : (t : ℕ) → test-statement-lts.Need-enum-told (calls-test-statement t) (test-statement-at t) test-statement.Post
+test-statement-enum-told t c = search needs
+
+test-statement-same-length : (t : ℕ) → test-statement-lts.Need-same-length (calls-test-statement t) (test-statement-at t) test-statement.Post
+test-statement-same-length t c = search needs
+
+test-statement-same-length-2 : (t : ℕ) → test-statement-lts.Need-same-length-2 (calls-test-statement t) (test-statement-at t) test-statement.Post
+test-statement-same-length-2 t c = search needs
+
+test-statement-returns : (t : ℕ) → test-statement-lts.Need-returns (calls-test-statement t) (test-statement-at t) test-statement.Post
+test-statement-returns t c = test-cases-wrong _ _ _ _ _ _ _ _ (c .before .before .before .before .before .before .before .before .before .before .before .before .before .before .of-type .ensures) _ _ (c .before .before .before .before .before .before .before .before .before .before .j2 .given .1) _ _ _ (c .before .before .before .before .before .before .cases .ensures) _ _ (c .enum-told .given .1)
+
+test-statement-cast-set-word : (t : ℕ) → test-statement-lts.Need-cast-set-word (calls-test-statement t) (test-statement-at t) test-statement.Post
+test-statement-cast-set-word t c = omega (arith, test-forward _ _ _ _ _ _ (c .before .before .before .before .before .before .before .before .before .before .before .before .before .before .before .before .before .before .before .before .before .before .pre .1) _ _ (c .before .before .before .before .before .before .before .before .before .before .before .before .before .before .before .before .of-type .ensures) _ _ (c .before .before .before .before .before .before .before .before .before .before .before .before .j2 .given .1))
+
+test-statement-set-word-requires : (t : ℕ) → test-statement-lts.Need-set-word-requires (calls-test-statement t) (test-statement-at t) test-statement.Post
+test-statement-set-word-requires t c κs = let z = test-room _ _ _ _ _ _ (c .before .before .before .before .before .before .before .before .before .before .before .before .before .before .before .before .before .before .before .before .before .before .pre .1) _ _ (c .before .before .before .before .before .before .before .before .before .before .before .before .before .before .before .before .of-type .ensures) _ _ (c .before .before .before .before .before .before .before .before .before .before .before .before .j2 .given .1) _ _ _ (c .before .before .before .before .before .before .before .before .cases .ensures) _ _ (c .before .before .r .given .1) in let y = test-forward _ _ _ _ _ _ (c .before .before .before .before .before .before .before .before .before .before .before .before .before .before .before .before .before .before .before .before .before .before .pre .1) _ _ (c .before .before .before .before .before .before .before .before .before .before .before .before .before .before .before .before .of-type .ensures) _ _ (c .before .before .before .before .before .before .before .before .before .before .before .before .j2 .given .1) in (omega (arith, z), omega arith, omega (arith, y), omega (arith, z))
+
+test-statement-same-length-3 : (t : ℕ) → test-statement-lts.Need-same-length-3 (calls-test-statement t) (test-statement-at t) test-statement.Post
+test-statement-same-length-3 t c = search needs
+
+test-statement-same-length-4 : (t : ℕ) → test-statement-lts.Need-same-length-4 (calls-test-statement t) (test-statement-at t) test-statement.Post
+test-statement-same-length-4 t c = search needs
+
+test-statement-returns-2 : (t : ℕ) → test-statement-lts.Need-returns-2 (calls-test-statement t) (test-statement-at t) test-statement.Post
+test-statement-returns-2 t c = search (needs, test-wrong)
+
+test-statement-same-length-5 : (t : ℕ) → test-statement-lts.Need-same-length-5 (calls-test-statement t) (test-statement-at t) test-statement.Post
+test-statement-same-length-5 t c = search needs
+
+test-statement-same-length-6 : (t : ℕ) → test-statement-lts.Need-same-length-6 (calls-test-statement t) (test-statement-at t) test-statement.Post
+test-statement-same-length-6 t c = search needs
+
+test-statement-returns-3 : (t : ℕ) → test-statement-lts.Need-returns-3 (calls-test-statement t) (test-statement-at t) test-statement.Post
+test-statement-returns-3 t c = test-finished _ _ _ _ _ _ _ _ (c .before .before .before .before .before .before .before .before .before .before .before .before .before .before .before .before .before .before .before .of-type .ensures) _ _ (c .before .before .before .before .before .before .before .before .before .before .before .before .before .before .before .j2 .given .1) _ _ _ (c .before .before .before .before .before .before .before .before .before .before .before .cases .ensures) _ _ (c .before .before .before .before .before .r .given .1) _ (c .before .before .set-word .ensures)
+
+while-statement-add-of-type : (t : ℕ) → while-statement-lts.Need-add-of-type (calls-while-statement t) (while-statement-at t) while-statement.Post
+while-statement-add-of-type t c = omega (arith, stands-early _ _ _ _ _ _ (c .before .before .before .before .before .pre .1 .stands))
+
+while-statement-of-type-requires : (t : ℕ) → while-statement-lts.Need-of-type-requires (calls-while-statement t) (while-statement-at t) while-statement.Post
+while-statement-of-type-requires t c κs = search (needs, while-condition)
+
+while-statement-enum-known-j : (t : ℕ) → while-statement-lts.Need-enum-known-j (calls-while-statement t) (while-statement-at t) while-statement.Post
+while-statement-enum-known-j t c = search needs
+
+while-statement-enum-known-j-2 : (t : ℕ) → while-statement-lts.Need-enum-known-j-2 (calls-while-statement t) (while-statement-at t) while-statement.Post
+while-statement-enum-known-j-2 t c = search needs
+
+while-statement-add-list : (t : ℕ) → while-statement-lts.Need-add-list (calls-while-statement t) (while-statement-at t) while-statement.Post
+while-statement-add-list t c = omega (arith, while-forward _ _ _ _ _ _ (c .before .before .before .before .before .before .before .before .before .before .before .before .before .pre .1) _ _ (c .before .before .before .before .before .before .before .of-type .ensures) _ _ (c .before .before .before .j2 .given .1))
+
+while-statement-list-requires : (t : ℕ) → while-statement-lts.Need-list-requires (calls-while-statement t) (while-statement-at t) while-statement.Post
+while-statement-list-requires t c κs = (omega (arith, while-forward _ _ _ _ _ _ (c .before .before .before .before .before .before .before .before .before .before .before .before .before .pre .1) _ _ (c .before .before .before .before .before .before .before .of-type .ensures) _ _ (c .before .before .before .j2 .given .1), c .before .before .before .before .before .before .before .before .before .before .before .before .before .pre .0), search (needs, while-lists))
+
+while-statement-enum-known-r : (t : ℕ) → while-statement-lts.Need-enum-known-r (calls-while-statement t) (while-statement-at t) while-statement.Post
+while-statement-enum-known-r t c = search needs
+
+while-statement-enum-told : (t : ℕ) → while-statement-lts.Need-enum-told (calls-while-statement t) (while-statement-at t) while-statement.Post
+while-statement-enum-told t c = search needs
+
+while-statement-same-length : (t : ℕ) → while-statement-lts.Need-same-length (calls-while-statement t) (while-statement-at t) while-statement.Post
+while-statement-same-length t c = search needs
+
+while-statement-same-length-2 : (t : ℕ) → while-statement-lts.Need-same-length-2 (calls-while-statement t) (while-statement-at t) while-statement.Post
+while-statement-same-length-2 t c = search needs
+
+while-statement-returns : (t : ℕ) → while-statement-lts.Need-returns (calls-while-statement t) (while-statement-at t) while-statement.Post
+while-statement-returns t c = search (needs, while-list-wrong)
+
+while-statement-while-end-requires : (t : ℕ) → while-statement-lts.Need-while-end-requires (calls-while-statement t) (while-statement-at t) while-statement.Post
+while-statement-while-end-requires t c κs = while-closes _ _ _ _ _ _ (c .before .before .before .before .before .before .before .before .before .before .before .before .before .before .before .before .before .before .before .before .before .before .pre .1) _ _ (c .before .before .before .before .before .before .before .before .before .before .before .before .before .before .before .before .of-type .ensures) _ _ (c .before .before .before .before .before .before .before .before .before .before .before .before .j2 .given .1) _ _ _ (c .before .before .before .before .before .before .before .before .list .ensures) _ _ (c .before .before .r .given .1)
+
+while-statement-add-t24 : (t : ℕ) → while-statement-lts.Need-add-t24 (calls-while-statement t) (while-statement-at t) while-statement.Post
+while-statement-add-t24 t c = omega (arith, while-closes _ _ _ _ _ _ (c .before .before .before .before .before .before .before .before .before .before .before .before .before .before .before .before .before .before .before .before .before .before .before .before .before .pre .1) _ _ (c .before .before .before .before .before .before .before .before .before .before .before .before .before .before .before .before .before .before .before .of-type .ensures) _ _ (c .before .before .before .before .before .before .before .before .before .before .before .before .before .before .before .j2 .given .1) _ _ _ (c .before .before .before .before .before .before .before .before .before .before .before .list .ensures) _ _ (c .before .before .before .before .before .r .given .1))
+
+while-statement-same-length-3 : (t : ℕ) → while-statement-lts.Need-same-length-3 (calls-while-statement t) (while-statement-at t) while-statement.Post
+while-statement-same-length-3 t c = search needs
+
+while-statement-same-length-4 : (t : ℕ) → while-statement-lts.Need-same-length-4 (calls-while-statement t) (while-statement-at t) while-statement.Post
+while-statement-same-length-4 t c = search needs
+
+while-statement-returns-2 : (t : ℕ) → while-statement-lts.Need-returns-2 (calls-while-statement t) (while-statement-at t) while-statement.Post
+while-statement-returns-2 t c = search (needs, while-wrong)
+
+while-statement-same-length-5 : (t : ℕ) → while-statement-lts.Need-same-length-5 (calls-while-statement t) (while-statement-at t) while-statement.Post
+while-statement-same-length-5 t c = search needs
+
+while-statement-same-length-6 : (t : ℕ) → while-statement-lts.Need-same-length-6 (calls-while-statement t) (while-statement-at t) while-statement.Post
+while-statement-same-length-6 t c = search needs
+
+while-statement-returns-3 : (t : ℕ) → while-statement-lts.Need-returns-3 (calls-while-statement t) (while-statement-at t) while-statement.Post
+while-statement-returns-3 t c = search (needs, while-finished)
 
 pub +cases+default+else-part+for-statement+full-if+if-statement+list+statement+test-statement+while-statement-spec :
     {M : Type 1} → statement M
@@ -3160,20 +889,7 @@ pub +cases+default+else-part+for-statement+full-if+if-statement+list+statement+t
     μ-statement
     μ-test-statement
     μ-while-statement
-    (λ t. cases-lts.spec (
-      sort-reads.Asked,
-      sort-reads.Learnt,
-      default-below t,
-      default.Post,
-      case-values-reads.Asked,
-      case-values-reads.Learnt,
-      list-below t,
-      list.Post,
-      link-values-reads.Asked,
-      link-values-reads.Learnt,
-      set-word-reads.Asked,
-      set-word-reads.Learnt,
-    )
+    (λ t. cases-lts.spec (calls-cases t)
     (cases-at t)
     cases.Post
     cases-Inv-loop
@@ -3197,21 +913,12 @@ pub +cases+default+else-part+for-statement+full-if+if-statement+list+statement+t
     (cases-same-length-5 t)
     (cases-same-length-6 t)
     (cases-returns-3 t)
-    (cases-link-values-requires t)
     (cases-add-set-word t)
     (cases-set-word-requires t)
+    (cases-link-values-requires t)
     (cases-loop-less t)
     (cases-loop-again t))
-    (λ t. default-lts.spec (
-      sort-reads.Asked,
-      sort-reads.Learnt,
-      rewrite-reads.Asked,
-      rewrite-reads.Learnt,
-      list-below t,
-      list.Post,
-      set-word-reads.Asked,
-      set-word-reads.Learnt,
-    )
+    (λ t. default-lts.spec (calls-default t)
     (default-at t)
     default.Post
     (default-sort-requires t)
@@ -3238,14 +945,7 @@ pub +cases+default+else-part+for-statement+full-if+if-statement+list+statement+t
     (default-same-length-4 t)
     (default-same-length-5 t)
     (default-returns-3 t))
-    (λ t. else-part-lts.spec (
-      sort-reads.Asked,
-      sort-reads.Learnt,
-      set-word-reads.Asked,
-      set-word-reads.Learnt,
-      list-below t,
-      list.Post,
-    )
+    (λ t. else-part-lts.spec (calls-else-part t)
     (else-part-at t)
     else-part.Post
     (else-part-sort-requires t)
@@ -3268,18 +968,7 @@ pub +cases+default+else-part+for-statement+full-if+if-statement+list+statement+t
     (else-part-same-length-4 t)
     (else-part-same-length-5 t)
     (else-part-returns-3 t))
-    (λ t. for-statement-lts.spec (
-      for-head-reads.Asked,
-      for-head-reads.Learnt,
-      declare-reads.Asked,
-      declare-reads.Learnt,
-      list-below t,
-      list.Post,
-      leave-reads.Asked,
-      leave-reads.Learnt,
-      for-end-reads.Asked,
-      for-end-reads.Learnt,
-    )
+    (λ t. for-statement-lts.spec (calls-for-statement t)
     (for-statement-at t)
     for-statement.Post
     (for-statement-for-head-requires t)
@@ -3308,20 +997,7 @@ pub +cases+default+else-part+for-statement+full-if+if-statement+list+statement+t
     (for-statement-same-length-5 t)
     (for-statement-same-length-6 t)
     (for-statement-returns-3 t))
-    (λ t. full-if-lts.spec (
-      list-below t,
-      list.Post,
-      arm-end-reads.Asked,
-      arm-end-reads.Learnt,
-      sort-reads.Asked,
-      sort-reads.Learnt,
-      else-part-below t,
-      else-part.Post,
-      set-link-reads.Asked,
-      set-link-reads.Learnt,
-      of-type-reads.Asked,
-      of-type-reads.Learnt,
-    )
+    (λ t. full-if-lts.spec (calls-full-if t)
     (full-if-at t)
     full-if.Post
     full-if-Inv-loop
@@ -3355,16 +1031,7 @@ pub +cases+default+else-part+for-statement+full-if+if-statement+list+statement+t
     (full-if-enum-known-j-2 t)
     (full-if-loop-less t)
     (full-if-loop-again t))
-    (λ t. if-statement-lts.spec (
-      of-type-reads.Asked,
-      of-type-reads.Learnt,
-      sort-reads.Asked,
-      sort-reads.Learnt,
-      compact-if-reads.Asked,
-      compact-if-reads.Learnt,
-      full-if-below t,
-      full-if.Post,
-    )
+    (λ t. if-statement-lts.spec (calls-if-statement t)
     (if-statement-at t)
     if-statement.Post
     (if-statement-add-of-type t)
@@ -3383,14 +1050,7 @@ pub +cases+default+else-part+for-statement+full-if+if-statement+list+statement+t
     (if-statement-same-length-5 t)
     (if-statement-same-length-6 t)
     (if-statement-returns-3 t))
-    (λ t. list-lts.spec (
-      sort-reads.Asked,
-      sort-reads.Learnt,
-      starts-statement-reads.Asked,
-      starts-statement-reads.Learnt,
-      statement-below t,
-      statement′.Post,
-    )
+    (λ t. list-lts.spec (calls-list t)
     (list-at t)
     list.Post
     list-Inv-loop
@@ -3409,20 +1069,7 @@ pub +cases+default+else-part+for-statement+full-if+if-statement+list+statement+t
     (list-same-length-3 t)
     (list-same-length-4 t)
     (list-returns-2 t))
-    (λ t. statement-lts.spec (
-      sort-reads.Asked,
-      sort-reads.Learnt,
-      if-statement-below t,
-      if-statement.Post,
-      for-statement-below t,
-      for-statement.Post,
-      while-statement-below t,
-      while-statement.Post,
-      test-statement-below t,
-      test-statement.Post,
-      simple-statement-reads.Asked,
-      simple-statement-reads.Learnt,
-    )
+    (λ t. statement-lts.spec (calls-statement t)
     (statement-at t)
     statement′.Post
     (statement-sort-requires t)
@@ -3446,14 +1093,7 @@ pub +cases+default+else-part+for-statement+full-if+if-statement+list+statement+t
     (statement-same-length-9 t)
     (statement-same-length-10 t)
     (statement-returns-5 t))
-    (λ t. test-statement-lts.spec (
-      of-type-reads.Asked,
-      of-type-reads.Learnt,
-      cases-below t,
-      cases.Post,
-      set-word-reads.Asked,
-      set-word-reads.Learnt,
-    )
+    (λ t. test-statement-lts.spec (calls-test-statement t)
     (test-statement-at t)
     test-statement.Post
     (test-statement-add-of-type t)
@@ -3474,14 +1114,7 @@ pub +cases+default+else-part+for-statement+full-if+if-statement+list+statement+t
     (test-statement-same-length-5 t)
     (test-statement-same-length-6 t)
     (test-statement-returns-3 t))
-    λ t. while-statement-lts.spec (
-      of-type-reads.Asked,
-      of-type-reads.Learnt,
-      list-below t,
-      list.Post,
-      while-end-reads.Asked,
-      while-end-reads.Learnt,
-    )
+    λ t. while-statement-lts.spec (calls-while-statement t)
     (while-statement-at t)
     while-statement.Post
     (while-statement-add-of-type t)

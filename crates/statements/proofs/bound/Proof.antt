@@ -1,4 +1,6 @@
 use borrow.Author.Needs.{needs}
+use Rattle.statements.proofs.Heads.{bound-stands, bound-room, bound-links, bound-wrong, bound-right}
+use native.Mathlib.Omega.{arith}
 use Rattle.statements.proofs.bound.Statement.{statement}
 use Rattle.statements.proofs.bound.Tie as tie
 use Rattle.statements.proofs.bound.Reads as reads
@@ -6,41 +8,32 @@ use Rattle.statements.proofs.bound.Lts as lts
 use Rattle.expressions.proofs.of_type.Reads as of-type-reads
 use Rattle.simple.proofs.set_link.Reads as set-link-reads
 
--- src/lib.rt:122:62
 add-of-type : tie.Need-add-of-type
-add-of-type c = ?
+add-of-type c = omega (arith, bound-room _ _ _ (c .before .before .before .pre))
 
--- src/lib.rt:122:9
 of-type-requires : tie.Need-of-type-requires
-of-type-requires c κs = ?
+of-type-requires c κs = search (needs, bound-stands)
 
--- src/lib.rt:123:23
 enum-known-j : tie.Need-enum-known-j
 enum-known-j c = search needs
 
--- src/lib.rt:124:9
 enum-told : tie.Need-enum-told
 enum-told c = search needs
 
--- src/lib.rt:124:9
 same-length : tie.Need-same-length
 same-length c = search needs
 
--- src/lib.rt:124:9
 returns : tie.Need-returns
-returns c = ?
+returns c = search (needs, bound-wrong)
 
--- src/lib.rt:126:5
 set-link-requires : tie.Need-set-link-requires
-set-link-requires c κs = ?
+set-link-requires c κs = bound-links _ _ _ (c .before .before .before .before .before .before .before .before .before .before .pre) _ _ (c .before .before .before .before .before .before .of-type .ensures) _ _ (c .before .before .j .given .1)
 
--- src/lib.rt:118:1
 same-length-2 : tie.Need-same-length-2
 same-length-2 c = search needs
 
--- src/lib.rt:118:1
 returns-2 : tie.Need-returns-2
-returns-2 c = ?
+returns-2 c = search (needs, bound-right)
 
 pub bound-spec : {M : Type 1} → statement M
 bound-spec =

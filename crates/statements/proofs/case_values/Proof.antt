@@ -1,4 +1,8 @@
 use borrow.Author.Needs.{needs}
+use Rattle.statements.proofs.Holding.{read-in-num, held-as}
+use Rattle.statements.proofs.Valuing.{Valuings, values-begin, value-room, value-asks, value-ranged, value-next, value-long, value-wrong, values-end, values-go}
+use Prim.Native.Nat.{_-_}
+use native.Mathlib.Omega.{arith}
 use Rattle.statements.proofs.case_values.Statement.{statement}
 use Rattle.statements.proofs.case_values.Tie as tie
 use Rattle.statements.proofs.case_values.Reads as reads
@@ -6,72 +10,55 @@ use Rattle.statements.proofs.case_values.Lts as lts
 use Rattle.constants.proofs.constant.Reads as constant-reads
 use Rattle.simple.proofs.set_word.Reads as set-word-reads
 use Rattle.simple.proofs.sort.Reads as sort-reads
+use Rattle.statements.proofs.held.Reads as held-reads
 
 abbrev Inv-loop : tie.InvT-loop
-Inv-loop code₀ values c w₀ op₀ code w op = ?
+Inv-loop code₀ values c w₀ op₀ code w op = Valuings code₀ values c code w op
 
 abbrev μ-loop : tie.MeasureT-loop
-μ-loop code₀ values c w₀ op₀ code w op = ?
+μ-loop code₀ values c w₀ op₀ code w op = 8192 - w
 
--- src/lib.rt:353:5
 loop-holds : tie.Need-loop-holds Inv-loop μ-loop
-loop-holds c = ?
+loop-holds c = search (needs, values-begin)
 
--- src/lib.rt:354:58
 add-constant : tie.Need-add-constant Inv-loop μ-loop
-add-constant c = ?
+add-constant c = omega (arith, value-room _ _ _ _ _ _ (c .before .loop .inv) (c .before .before .before .before .pre))
 
--- src/lib.rt:354:13
 constant-requires : tie.Need-constant-requires Inv-loop μ-loop
-constant-requires c κs = ?
+constant-requires c κs = value-asks _ _ _ _ _ _ (c .before .loop .inv) (c .before .before .before .before .pre)
 
--- src/lib.rt:356:28
 enum-known-v : tie.Need-enum-known-v Inv-loop μ-loop
-enum-known-v c = ?
+enum-known-v c = search needs
 
--- src/lib.rt:356:45
 same-length : tie.Need-same-length Inv-loop μ-loop
-same-length c = ?
+same-length c = let z = value-room _ _ _ _ _ _ (c .before .before .before .before .before .before .before .loop .inv) (c .before .before .before .before .before .before .before .before .before .before .pre) .3 in search needs
 
--- src/lib.rt:356:45
 returns : tie.Need-returns Inv-loop μ-loop
-returns c = ?
+returns c = value-wrong _ _ _ _ _ _ (c .before .before .before .before .before .before .before .loop .inv) _ _ (c .before .before .before .before .before .constant .ensures) _ _ (c .before .v .given .1)
 
--- src/lib.rt:357:27
 enum-known-v-2 : tie.Need-enum-known-v-2 Inv-loop μ-loop
-enum-known-v-2 c = ?
+enum-known-v-2 c = search needs
 
--- src/lib.rt:358:48
-add-set-word : tie.Need-add-set-word Inv-loop μ-loop
-add-set-word c = ?
+held-requires : tie.Need-held-requires Inv-loop μ-loop
+held-requires c κs = read-in-num _ (value-ranged _ _ _ _ _ _ (c .before .before .before .before .before .before .before .before .loop .inv) (c .before .before .before .before .before .before .before .before .before .before .before .pre) _ _ (c .before .before .before .before .before .before .constant .ensures) _ _ (c .before .before .v2 .given .1))
 
--- src/lib.rt:358:47
-cast-set-word : tie.Need-cast-set-word Inv-loop μ-loop
-cast-set-word c = ?
-
--- src/lib.rt:358:17
 set-word-requires : tie.Need-set-word-requires Inv-loop μ-loop
-set-word-requires c κs = ?
+set-word-requires c κs = let z = value-next _ _ _ _ _ _ (c .before .before .before .before .before .before .before .before .before .loop .inv) (c .before .before .before .before .before .before .before .before .before .before .before .before .pre) _ _ (c .before .before .before .before .before .before .before .constant .ensures) _ _ (c .before .before .before .v2 .given .1) in let y = value-room _ _ _ _ _ _ (c .before .before .before .before .before .before .before .before .before .loop .inv) (c .before .before .before .before .before .before .before .before .before .before .before .before .pre) in (z .3, y .2, c .held .ensures .small, omega (arith, z))
 
--- src/lib.rt:359:20
 sort-requires : tie.Need-sort-requires Inv-loop μ-loop
-sort-requires c κs = ?
+sort-requires c κs = omega (arith, value-next _ _ _ _ _ _ (c .before .before .before .before .before .before .before .before .before .before .before .before .before .loop .inv) (c .before .before .before .before .before .before .before .before .before .before .before .before .before .before .before .before .pre) _ _ (c .before .before .before .before .before .before .before .before .before .before .before .constant .ensures) _ _ (c .before .before .before .before .before .before .before .v2 .given .1), c .before .before .before .set-word .ensures .kept .long)
 
--- src/lib.rt:360:21
 same-length-2 : tie.Need-same-length-2 Inv-loop μ-loop
-same-length-2 c = ?
+same-length-2 c = let z = value-long _ _ _ _ _ _ (c .before .before .before .before .before .before .before .before .before .before .before .before .before .before .before .loop .inv) (c .before .before .before .before .before .before .before .before .before .before .before .before .before .before .before .before .before .before .pre) _ _ (c .before .before .before .before .before .before .before .before .before .before .before .before .before .constant .ensures) _ _ (c .before .before .before .before .before .before .before .before .before .v2 .given .1) _ (held-as _ _ (value-ranged _ _ _ _ _ _ (c .before .before .before .before .before .before .before .before .before .before .before .before .before .before .before .loop .inv) (c .before .before .before .before .before .before .before .before .before .before .before .before .before .before .before .before .before .before .pre) _ _ (c .before .before .before .before .before .before .before .before .before .before .before .before .before .constant .ensures) _ _ (c .before .before .before .before .before .before .before .before .before .v2 .given .1)) (c .before .before .before .before .before .before .held .ensures)) _ (c .before .before .before .before .before .set-word .ensures) in search needs
 
--- src/lib.rt:360:21
 returns-2 : tie.Need-returns-2 Inv-loop μ-loop
-returns-2 c = ?
+returns-2 c = values-end _ _ _ _ _ _ (c .before .before .before .before .before .before .before .before .before .before .before .before .before .before .before .loop .inv) _ _ (c .before .before .before .before .before .before .before .before .before .before .before .before .before .constant .ensures) _ _ (c .before .before .before .before .before .before .before .before .before .v2 .given .1) _ (held-as _ _ (value-ranged _ _ _ _ _ _ (c .before .before .before .before .before .before .before .before .before .before .before .before .before .before .before .loop .inv) (c .before .before .before .before .before .before .before .before .before .before .before .before .before .before .before .before .before .before .pre) _ _ (c .before .before .before .before .before .before .before .before .before .before .before .before .before .constant .ensures) _ _ (c .before .before .before .before .before .before .before .before .before .v2 .given .1)) (c .before .before .before .before .before .before .held .ensures)) _ (c .before .before .before .before .before .set-word .ensures) _ (c .before .sort .ensures) (c .if1 .taken)
 
--- src/lib.rt:353:5
 loop-less : tie.Need-loop-less Inv-loop μ-loop
-loop-less c = ?
+loop-less c = omega (arith, value-next _ _ _ _ _ _ (c .before .before .before .before .before .before .before .before .before .before .before .before .before .before .before .loop .inv) (c .before .before .before .before .before .before .before .before .before .before .before .before .before .before .before .before .before .before .pre) _ _ (c .before .before .before .before .before .before .before .before .before .before .before .before .before .constant .ensures) _ _ (c .before .before .before .before .before .before .before .before .before .v2 .given .1))
 
--- src/lib.rt:353:5
 loop-again : tie.Need-loop-again Inv-loop μ-loop
-loop-again c = ?
+loop-again c = values-go _ _ _ _ _ _ (c .before .before .before .before .before .before .before .before .before .before .before .before .before .before .before .loop .inv) _ _ (c .before .before .before .before .before .before .before .before .before .before .before .before .before .constant .ensures) _ _ (c .before .before .before .before .before .before .before .before .before .v2 .given .1) _ (held-as _ _ (value-ranged _ _ _ _ _ _ (c .before .before .before .before .before .before .before .before .before .before .before .before .before .before .before .loop .inv) (c .before .before .before .before .before .before .before .before .before .before .before .before .before .before .before .before .before .before .pre) _ _ (c .before .before .before .before .before .before .before .before .before .before .before .before .before .constant .ensures) _ _ (c .before .before .before .before .before .before .before .before .before .v2 .given .1)) (c .before .before .before .before .before .before .held .ensures)) _ (c .before .before .before .before .before .set-word .ensures) _ (c .before .sort .ensures) (c .if1 .left)
 
 pub case-values-spec : {M : Type 1} → statement M
 case-values-spec =
@@ -86,8 +73,7 @@ case-values-spec =
     same-length
     returns
     enum-known-v-2
-    add-set-word
-    cast-set-word
+    held-requires
     set-word-requires
     sort-requires
     same-length-2

@@ -1,4 +1,6 @@
 use borrow.Author.Needs.{needs}
+use Rattle.statements.proofs.Compacts.{compact-stands, compact-room, compact-next, compact-wrong, compact-right}
+use native.Mathlib.Omega.{arith}
 use Rattle.statements.proofs.compact_if.Statement.{statement}
 use Rattle.statements.proofs.compact_if.Tie as tie
 use Rattle.statements.proofs.compact_if.Reads as reads
@@ -6,41 +8,32 @@ use Rattle.statements.proofs.compact_if.Lts as lts
 use Rattle.simple.proofs.set_word.Reads as set-word-reads
 use Rattle.simple.proofs.statement.Reads as statement-reads
 
--- src/lib.rt:229:9
 statement-requires : tie.Need-statement-requires
-statement-requires c κs = ?
+statement-requires c κs = search (needs, compact-stands)
 
--- src/lib.rt:231:24
 enum-known-j : tie.Need-enum-known-j
 enum-known-j c = search needs
 
--- src/lib.rt:232:26
 enum-known-j-2 : tie.Need-enum-known-j-2
 enum-known-j-2 c = search needs
 
--- src/lib.rt:233:51
 cast-set-word : tie.Need-cast-set-word
-cast-set-word c = ?
+cast-set-word c = omega (arith, compact-room _ _ _ _ _ _ _ (c .before .before .before .before .before .before .before .before .before .before .before .pre))
 
--- src/lib.rt:233:13
 set-word-requires : tie.Need-set-word-requires
-set-word-requires c κs = ?
+set-word-requires c κs = let z = compact-room _ _ _ _ _ _ _ (c .before .before .before .before .before .before .before .before .before .before .before .pre) in let y = compact-next _ _ _ _ _ _ _ (c .before .before .before .before .before .before .before .before .before .before .before .pre) _ _ (c .before .before .before .before .before .before .statement .ensures) _ _ (c .before .before .j2 .given .1) in (omega (arith, z, y), omega arith, omega (arith, z), omega (arith, y))
 
--- src/lib.rt:217:1
 same-length : tie.Need-same-length
 same-length c = search needs
 
--- src/lib.rt:217:1
 returns : tie.Need-returns
-returns c = ?
+returns c = search (needs, compact-wrong, compact-right)
 
--- src/lib.rt:217:1
 same-length-2 : tie.Need-same-length-2
 same-length-2 c = search needs
 
--- src/lib.rt:217:1
 returns-2 : tie.Need-returns-2
-returns-2 c = ?
+returns-2 c = search (needs, compact-wrong, compact-right)
 
 pub compact-if-spec : {M : Type 1} → statement M
 compact-if-spec =

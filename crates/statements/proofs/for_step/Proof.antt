@@ -1,4 +1,6 @@
 use borrow.Author.Needs.{needs}
+use Rattle.statements.proofs.Heads.{step-room, step-bounds, no-step, a-step}
+use native.Mathlib.Omega.{arith}
 use Rattle.statements.proofs.for_step.Statement.{statement}
 use Rattle.statements.proofs.for_step.Tie as tie
 use Rattle.statements.proofs.for_step.Reads as reads
@@ -7,33 +9,26 @@ use Rattle.simple.proofs.set_head.Reads as set-head-reads
 use Rattle.simple.proofs.sort.Reads as sort-reads
 use Rattle.statements.proofs.bound.Reads as bound-reads
 
--- src/lib.rt:135:8
 sort-requires : tie.Need-sort-requires
-sort-requires c κs = ?
+sort-requires c κs = step-room _ _ _ (c .before .before .before .pre) .1
 
--- src/lib.rt:136:9
 same-length : tie.Need-same-length
 same-length c = search needs
 
--- src/lib.rt:136:9
 returns : tie.Need-returns
-returns c = ?
+returns c = search (needs, no-step)
 
--- src/lib.rt:138:5
 set-head-requires : tie.Need-set-head-requires
-set-head-requires c κs = ?
+set-head-requires c κs = let z = step-room _ _ _ (c .before .before .before .before .before .before .pre) in (omega (arith, z), omega arith, omega arith)
 
--- src/lib.rt:139:5
 bound-requires : tie.Need-bound-requires
-bound-requires c κs = ?
+bound-requires c κs = search (needs, step-bounds)
 
--- src/lib.rt:131:1
 same-length-2 : tie.Need-same-length-2
 same-length-2 c = search needs
 
--- src/lib.rt:131:1
 returns-2 : tie.Need-returns-2
-returns-2 c = ?
+returns-2 c = search (needs, a-step)
 
 pub for-step-spec : {M : Type 1} → statement M
 for-step-spec =

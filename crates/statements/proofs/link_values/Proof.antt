@@ -1,4 +1,8 @@
 use borrow.Author.Needs.{needs}
+use Rattle.statements.proofs.Linking.{Linkings, link-begins, link-room, link-long, link-next, link-ends, link-goes, link-less}
+use Prim.Native.Nat.{_-_}
+use mathlib.Core.Path.{refl}
+use native.Mathlib.Omega.{arith}
 use Rattle.statements.proofs.link_values.Statement.{statement}
 use Rattle.statements.proofs.link_values.Tie as tie
 use Rattle.statements.proofs.link_values.Reads as reads
@@ -7,78 +11,61 @@ use Rattle.cells.proofs.get.Reads as get-reads
 use Rattle.statements.proofs.rewrite.Reads as rewrite-reads
 
 abbrev Inv-loop : tie.InvT-loop
-Inv-loop code₀ c colon next w₀ code w = ?
+Inv-loop code₀ c colon next w₀ code w = Linkings code₀ code colon next c w
 
 abbrev μ-loop : tie.MeasureT-loop
-μ-loop code₀ c colon next w₀ code w = ?
+μ-loop code₀ c colon next w₀ code w = colon - w
 
--- src/lib.rt:375:5
 loop-holds : tie.Need-loop-holds Inv-loop μ-loop
-loop-holds c = ?
+loop-holds c = search (needs, link-begins)
 
--- src/lib.rt:376:34
 mul-get : tie.Need-mul-get Inv-loop μ-loop
-mul-get c = ?
+mul-get c = omega (arith, link-room _ _ _ _ _ _ (c .before .loop .inv) (c .before .before .before .pre .0))
 
--- src/lib.rt:376:13
 get-requires : tie.Need-get-requires Inv-loop μ-loop
-get-requires c κs = ?
+get-requires c κs = omega (arith, link-room _ _ _ _ _ _ (c .before .loop .inv) (c .before .before .before .pre .0))
 
--- src/lib.rt:377:35
 mul-get-2 : tie.Need-mul-get-2 Inv-loop μ-loop
-mul-get-2 c = ?
+mul-get-2 c = omega (arith, link-room _ _ _ _ _ _ (c .before .before .before .loop .inv) (c .before .before .before .before .before .pre .0))
 
--- src/lib.rt:377:35
 add-get : tie.Need-add-get Inv-loop μ-loop
-add-get c = ?
+add-get c = omega (arith, link-room _ _ _ _ _ _ (c .before .before .before .loop .inv) (c .before .before .before .before .before .pre .0))
 
--- src/lib.rt:377:18
 get-requires-2 : tie.Need-get-requires-2 Inv-loop μ-loop
-get-requires-2 c κs = ?
+get-requires-2 c κs = omega (arith, link-room _ _ _ _ _ _ (c .before .before .before .loop .inv) (c .before .before .before .before .before .pre .0))
 
--- src/lib.rt:377:17
 cast-n : tie.Need-cast-n Inv-loop μ-loop
-cast-n c = ?
+cast-n c = search needs
 
--- src/lib.rt:379:34
 add-rewrite : tie.Need-add-rewrite Inv-loop μ-loop
-add-rewrite c = ?
+add-rewrite c = omega (arith, c .before .before .before .before .before .before .before .before .pre .0 .last)
 
--- src/lib.rt:379:33
 cast-rewrite : tie.Need-cast-rewrite Inv-loop μ-loop
-cast-rewrite c = ?
+cast-rewrite c = omega (arith, c .before .before .before .before .before .before .before .before .pre .0 .last)
 
--- src/lib.rt:379:13
 rewrite-requires : tie.Need-rewrite-requires Inv-loop μ-loop
-rewrite-requires c κs = ?
+rewrite-requires c κs = (omega (arith, link-room _ _ _ _ _ _ (c .before .before .before .before .before .before .loop .inv) (c .before .before .before .before .before .before .before .before .pre .0)), omega (arith, c .before .before .before .before .before .before .before .before .pre .0 .last), omega (arith, c .before .before .before .before .before .before .before .before .pre .1))
 
--- src/lib.rt:380:13
 same-length : tie.Need-same-length Inv-loop μ-loop
-same-length c = ?
+same-length c = let z = link-long _ _ _ _ _ _ (c .before .before .before .before .before .before .before .before .before .loop .inv) in search needs
 
--- src/lib.rt:380:13
 returns : tie.Need-returns Inv-loop μ-loop
-returns c = ?
+returns c = link-ends _ _ _ _ _ _ (c .before .before .before .before .before .before .before .before .before .loop .inv) _ _ _ (c .before .before .before .before .before .before .before .get .ensures) (c .before .before .before .before .before .get2 .ensures) refl (c .before .before .before .before .if1 .taken) _ (c .before .before .rewrite .ensures) (c .before .before .before .before .before .before .before .before .before .before .before .pre .0)
 
--- src/lib.rt:382:30
 add-rewrite-2 : tie.Need-add-rewrite-2 Inv-loop μ-loop
-add-rewrite-2 c = ?
+add-rewrite-2 c = omega (arith, c .before .before .before .before .before .before .before .before .pre .0 .last)
 
--- src/lib.rt:382:29
 cast-rewrite-2 : tie.Need-cast-rewrite-2 Inv-loop μ-loop
-cast-rewrite-2 c = ?
+cast-rewrite-2 c = omega (arith, c .before .before .before .before .before .before .before .before .pre .0 .last)
 
--- src/lib.rt:382:9
 rewrite-requires-2 : tie.Need-rewrite-requires-2 Inv-loop μ-loop
-rewrite-requires-2 c κs = ?
+rewrite-requires-2 c κs = (omega (arith, link-room _ _ _ _ _ _ (c .before .before .before .before .before .before .loop .inv) (c .before .before .before .before .before .before .before .before .pre .0)), omega (arith, c .before .before .before .before .before .before .before .before .pre .0 .last), omega (arith, c .before .before .before .before .before .before .before .before .pre .0 .last, link-next _ _ _ _ _ _ (c .before .before .before .before .before .before .loop .inv) _ _ _ (c .before .before .before .before .get .ensures) (c .before .before .get2 .ensures) refl (c .before .before .before .before .before .before .before .before .pre .0) (c .before .if1 .left)))
 
--- src/lib.rt:375:5
 loop-less : tie.Need-loop-less Inv-loop μ-loop
-loop-less c = ?
+loop-less c = link-less _ _ _ _ _ _ (c .before .before .before .before .before .before .before .before .before .loop .inv) _ _ _ (c .before .before .before .before .before .before .before .get .ensures) (c .before .before .before .before .before .get2 .ensures) refl (c .before .before .before .before .if1 .left) (c .before .before .before .before .before .before .before .before .before .before .before .pre .0) _ (c .before .before .rewrite2 .ensures)
 
--- src/lib.rt:375:5
 loop-again : tie.Need-loop-again Inv-loop μ-loop
-loop-again c = ?
+loop-again c = link-goes _ _ _ _ _ _ (c .before .before .before .before .before .before .before .before .before .loop .inv) _ _ _ (c .before .before .before .before .before .before .before .get .ensures) (c .before .before .before .before .before .get2 .ensures) refl (c .before .before .before .before .if1 .left) (c .before .before .before .before .before .before .before .before .before .before .before .pre .0) _ (c .before .before .rewrite2 .ensures)
 
 pub link-values-spec : {M : Type 1} → statement M
 link-values-spec =

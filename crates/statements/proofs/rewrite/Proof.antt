@@ -1,49 +1,40 @@
 use borrow.Author.Needs.{needs}
+use Rattle.names.proofs.Rewriting.{two-puts}
 use Rattle.statements.proofs.rewrite.Statement.{statement}
 use Rattle.statements.proofs.rewrite.Tie as tie
 use Rattle.statements.proofs.rewrite.Reads as reads
 use Rattle.statements.proofs.rewrite.Lts as lts
 use Rattle.cells.proofs.put.Reads as put-reads
 
--- src/lib.rt:67:22
 mul-put : tie.Need-mul-put
 mul-put c = search needs
 
--- src/lib.rt:67:5
 put-requires : tie.Need-put-requires
 put-requires c κs = search needs
 
--- src/lib.rt:68:22
 mul-put-2 : tie.Need-mul-put-2
 mul-put-2 c = search needs
 
--- src/lib.rt:68:22
 add-put : tie.Need-add-put
 add-put c = search needs
 
--- src/lib.rt:68:50
 cast-put : tie.Need-cast-put
 cast-put c = search needs
 
--- src/lib.rt:68:41
 mul-put-3 : tie.Need-mul-put-3
 mul-put-3 c = search needs
 
--- src/lib.rt:68:33
 add-put-2 : tie.Need-add-put-2
 add-put-2 c = search needs
 
--- src/lib.rt:68:5
 put-requires-2 : tie.Need-put-requires-2
 put-requires-2 c κs = search needs
 
--- src/lib.rt:63:1
 same-length : tie.Need-same-length
 same-length c = search needs
 
--- src/lib.rt:63:1
 returns : tie.Need-returns
-returns c = ?
+returns c = search (needs, two-puts)
 
 pub rewrite-spec : {M : Type 1} → statement M
 rewrite-spec =

@@ -1,0 +1,172 @@
+-- DEFAULT with its list, or ENDTEST.
+use mathlib.Core.Path.{_≡_, refl, sym, ap, subst, _∙_}
+use mathlib.Core.Bool.{Bool, true, false}
+use mathlib.Core.List.{List, []}
+use Prim.Native.Nat.{ℕ, _+_, _-_, _*_, _/_, _%_, _<_, _≤_}
+use native.Mathlib.Omega.{arith}
+use lib.ListN.{length}
+use Rattle.cells.specs.Words.{wordsOf}
+use Rattle.paper.specs.Sorts.{DEFAULT}
+use Rattle.paper.specs.Trees.{Statements, empty}
+use Rattle.paper.specs.Names.{sortIn}
+use Rattle.paper.specs.Types.{Fault}
+use Rattle.paper.specs.Checks.{forsInList, listFaults}
+use Rattle.code.specs.Cells.{opIn, placeIn, linkIn, headAt, tailAt, opAt, placeAt, linkAt}
+use Rattle.names.specs.Promises.{tailWith, Rewritten}
+use Rattle.names.proofs.Rewriting.{rewritten-length, rewritten-head, rewritten-tail}
+use Rattle.grammar.specs.Form.{Parses, DefaultAt, ListAt}
+use Rattle.grammar.proofs.Inversions.{default-some, default-none}
+use Rattle.grammar.proofs.Places.{default-grows, list-grows}
+use Rattle.expressions.specs.Parts.{Linked}
+use Rattle.faults.specs.First.{First}
+use Rattle.faults.proofs.Expressions.{grows}
+use Rattle.links.specs.Raw.{RawWord, Ends, at-once, closed, RawDefault, RawList}
+use Rattle.simple.specs.declared.Setting.{Setting}
+use Rattle.simple.specs.Around.{Around, groundOf}
+use Rattle.statements.specs.declared.Walked.{Walked}
+use Rattle.statements.specs.declared.Walked.the-variants.{Upto, Faulty}
+use Rattle.statements.specs.Answers.{Outside, Here, Lists, Done, Answer, Listed}
+use Rattle.statements.specs.Parts.{Defaults, Defaulted}
+use Rattle.statements.proofs.Same.{same-values}
+use Rattle.statements.proofs.Frames.{outside-wider, outside-on, same-before, same-behind, same-on, here-part, list-same, op-same, place-same, word-same, linked-outside, linked-word}
+use Rattle.statements.proofs.Walking.{upto-done, faulty-first, done-answer, faulty-answer}
+use Rattle.statements.proofs.Entering.{rewritten-outside}
+
+-- a word that is written with its place
+module _ {before after : List ℕ} {i op : ℕ} (place link : ℕ) (r : Rewritten before after i op (tailWith place link)) (room : i * 8 + 8 ≤ length before) where
+  pub rewritten-op : op < 256 → opAt (wordsOf after) i ≡ op
+  rewritten-op h = ap opIn (rewritten-head r room) ∙ omega arith
+
+  pub rewritten-place : place < 65536 → placeAt (wordsOf after) i ≡ place
+  rewritten-place h = ap placeIn (rewritten-tail r room) ∙ omega arith
+
+  pub rewritten-link : place < 65536 → linkAt (wordsOf after) i ≡ link
+  rewritten-link h = ap linkIn (rewritten-tail r room) ∙ omega arith
+
+module _ (text code values : List ℕ) (k : Setting) (used c : ℕ) (g : Defaults text code values k used c) where
+  abbrev a : Around text values
+  a = g .around
+
+  order : c ≤ g .z
+  order = default-grows (sortIn (a .known .W)) (Parses (sortIn (a .known .W))) (grows (a .known .W)) (g .is)
+
+  last : g .to < 8192
+  last = g .here .unread .loaded .last
+
+  pub default-room : (c < 8191) × (c * 8 + 8 ≤ length code) × (65536 ≤ length code)
+  default-room = (omega (arith, order, last, g .after), omega (arith, order, last, g .after, g .here .calls .room), g .here .calls .room)
+
+  abbrev ForDefault : (after values′ : List ℕ) → Walked → Type 0
+  ForDefault after values′ r =
+      Answer (listFaults (a .known .W) (a .K) (a .M) (g .o) (a .known .S) used) code after values values′ c (g .to) (used + forsInList (g .o))
+      (RawDefault (groundOf a) (a .known .n) (wordsOf after) (λ (x y : ℕ). RawList (groundOf a) (a .known .n) (wordsOf after) (g .o) (a .known .S) used x y) c (g .to)) r
+
+  module _ (s : ℕ) (es : s ≡ opAt (wordsOf code) c) where
+    sort-is : sortIn (a .known .W) c ≡ s
+    sort-is = sym (es ∙ g .here .unread .loaded .words c (omega arith) (omega (arith, order, g .after)) .sort)
+
+    no : (s ≡ DEFAULT → ⊥) → (one : List ℕ) → Rewritten code one c 165 (tailWith (c + 1) (c + 1)) → ForDefault one values (Upto (c + 1) used)
+    unfolding listFaults forsInList RawList
+    no f one l =
+        let q = default-none (sortIn (a .known .W)) (Parses (sortIn (a .known .W))) (g .is) (λ e. f (sym sort-is ∙ e)) in
+        let z : g .z ≡ c = q .1 in
+        let none : forsInList (g .o) ≡ 0 = ap forsInList (q .0) in
+        let to-is : c + 1 ≡ g .to = omega (arith, g .after, z) in
+        let small : c + 1 < 65536 = omega (arith, default-room) in
+        done-answer _ _ _ _ _ _ _ _ _ _ _
+        (record {
+          none = ap (λ (o : Statements). listFaults (a .known .W) (a .K) (a .M) o (a .known .S) used) (q .0);
+          next-is = to-is;
+          used-is = omega (arith, none);
+          few = g .here .few;
+          written = record {
+            z = c + 1;
+            first = c + 1;
+            word = record { is = rewritten-op (c + 1) (c + 1) l (default-room .1) (omega arith); leaves = rewritten-link (c + 1) (c + 1) l (default-room .1) small };
+            place = rewritten-place (c + 1) (c + 1) l (default-room .1) small;
+            before = omega arith;
+            list = subst (λ (o : Statements). RawList (groundOf a) (a .known .n) (wordsOf one) o (a .known .S) used (c + 1) (c + 1)) (sym (q .0)) refl;
+            ends = at-once to-is;
+          };
+          outside = outside-wider c (g .to) (rewritten-outside l (default-room .1)) (omega arith) (omega (arith, to-is));
+          same = same-values values;
+        })
+        (rewritten-length l (default-room .1))
+
+    module _ (e : s ≡ DEFAULT) where
+      list : ListAt (sortIn (a .known .W)) (Parses (sortIn (a .known .W))) (g .d) (g .o) (c + 2) (g .z)
+      list = default-some (sortIn (a .known .W)) (Parses (sortIn (a .known .W))) (g .is) (sort-is ∙ e)
+
+      listed : c + 2 ≤ g .z
+      listed = list-grows (sortIn (a .known .W)) (Parses (sortIn (a .known .W))) (grows (a .known .W)) list
+
+      pub default-lists : Lists text code values k used (c + 2)
+      default-lists = record {
+        to = g .z;
+        around = a;
+        here = here-part a code k used c (g .to) (c + 2) (g .z) (g .here) (omega arith) (omega (arith, listed, g .after)) (omega (arith, g .after));
+        d = g .d;
+        l = g .o;
+        is = list;
+        room = g .room;
+      }
+
+      module _ (one values′ : List ℕ) (r : Walked) (l : Listed text code values one values′ k used (c + 2) r) where
+        inner : Answer (listFaults (a .known .W) (a .K) (a .M) (g .o) (a .known .S) used) code one values values′ (c + 2) (g .z) (used + forsInList (g .o))
+            (RawList (groundOf a) (a .known .n) (wordsOf one) (g .o) (a .known .S) used (c + 2) (g .z)) r
+        unfolding default-lists
+        inner = l .is default-lists
+
+        wrong : (number word : ℕ) → r ≡ Faulty number word → ForDefault one values′ r
+        wrong number word q = faulty-answer _ _ _ _ _ _ _ _ _ r number word q (faulty-first r inner number word q) (inner .long)
+
+        module _ (z n : ℕ) (q : r ≡ Upto z n) where
+          done : Done (listFaults (a .known .W) (a .K) (a .M) (g .o) (a .known .S) used) code one values values′ (c + 2) (g .z) (used + forsInList (g .o)) z n
+              (RawList (groundOf a) (a .known .n) (wordsOf one) (g .o) (a .known .S) used (c + 2) (g .z))
+          done = upto-done r inner z n q
+
+          pub default-closes : (c + 1 < z) × (z < 8191) × (c * 8 + 8 ≤ length one) × (65536 ≤ length one)
+          default-closes = (omega (arith, listed, done .next-is), omega (arith, done .next-is, last, g .after), omega (arith, default-room, inner .long), omega (arith, default-room, inner .long))
+
+          yes : (two three : List ℕ) → Rewritten one two c 165 (tailWith (c + 2) z) → Linked two three z 164 0 (z + 1) → ForDefault three values′ (Upto (z + 1) n)
+          yes two three x y =
+              let zi = done .next-is in
+              let o = rewritten-outside x (default-closes .2) in
+              let p = linked-outside y in
+              let small : c + 2 < 65536 = omega (arith, default-room) in
+              let to-is : z + 1 ≡ g .to = omega (arith, g .after, zi) in
+              let sp = same-before c (c + 1) p (omega (arith, listed, zi)) in
+              done-answer _ _ _ _ _ _ _ _ _ _ _
+              (record {
+                none = done .none;
+                next-is = to-is;
+                used-is = done .used-is;
+                few = done .few;
+                written = record {
+                  z = z;
+                  first = c + 2;
+                  word = word-same sp c (omega arith) (omega arith) _ z (record { is = rewritten-op (c + 2) z x (default-closes .2) (omega arith); leaves = rewritten-link (c + 2) z x (default-closes .2) small });
+                  place = place-same sp c (omega arith) (omega arith) _ (rewritten-place (c + 2) z x (default-closes .2) small);
+                  before = omega arith;
+                  list = subst (λ (v : ℕ). RawList (groundOf a) (a .known .n) (wordsOf three) (g .o) (a .known .S) used (c + 2) v) (sym zi)
+                      (list-same (groundOf a) (a .known .n) (wordsOf one) (wordsOf three) (g .o) (a .known .S) used (c + 2) (g .z)
+                      (same-on (same-behind (c + 2) (g .z) o (omega arith)) (same-before (c + 2) (g .z) p (omega (arith, zi)))) (done .written));
+                  ends = closed (subst (RawWord (wordsOf three) 164 z) to-is (linked-word y)) (sym to-is);
+                };
+                outside = outside-on (outside-on (outside-wider c (g .to) (done .outside) (omega arith) (omega (arith, g .after)))
+                    (outside-wider c (g .to) o (omega arith) (omega (arith, listed, g .after)))) (outside-wider c (g .to) p (omega (arith, listed, zi)) (omega (arith, to-is)));
+                same = done .same;
+              })
+              (y .kept .long ∙ rewritten-length x (default-closes .2) ∙ inner .long)
+
+-- ---- for whatever it is
+module _ (text code values : List ℕ) (k : Setting) (used c s : ℕ) (es : s ≡ opAt (wordsOf code) c) where
+  pub default-no : (s ≡ DEFAULT → ⊥) → (one : List ℕ) → Rewritten code one c 165 (tailWith (c + 1) (c + 1)) → Defaulted text code values one values k used c (Upto (c + 1) used)
+  default-no f one l = record { is = λ g. no text code values k used c g s es f one l }
+
+  module _ (e : s ≡ DEFAULT) (one values′ : List ℕ) (r : Walked) (l : Listed text code values one values′ k used (c + 2) r) where
+    pub default-wrong : (number word : ℕ) → r ≡ Faulty number word → Defaulted text code values one values′ k used c r
+    default-wrong number word q = record { is = λ g. wrong text code values k used c g s es e one values′ r l number word q }
+
+    pub default-yes : (z n : ℕ) → r ≡ Upto z n → (two three : List ℕ) → Rewritten one two c 165 (tailWith (c + 2) z) → Linked two three z 164 0 (z + 1) → Defaulted text code values three values′ k used c (Upto (z + 1) n)
+    default-yes z n q two three x y = record { is = λ g. yes text code values k used c g s es e one values′ r l z n q two three x y }

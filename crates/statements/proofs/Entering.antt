@@ -1,0 +1,157 @@
+-- A FOR's list is entered: its name means the FOR's word, and then again what it meant.
+use mathlib.Core.Path.{_≡_, refl, sym, ap, subst, _∙_}
+use mathlib.Core.Bool.{Bool, true, false}
+use mathlib.Core.List.{List, [], _∷_}
+use Prim.Native.Nat.{ℕ, zero, suc, _+_, _-_, _*_, _/_, _%_, _<_, _≤_}
+use native.Mathlib.Omega.{arith}
+use lib.Dec.{eqb, leb}
+use lib.ListN.{length, getD, set}
+use mir.Syntax.{w32}
+use mir.Val.{toZ}
+use Rattle.laws.proofs.Tests.{test, by-same, apart}
+use Rattle.cells.specs.Words.{wordsOf, Put}
+use Rattle.cells.proofs.Kept.{put-length, put-other}
+use Rattle.paper.specs.Sorts.{equalTexts}
+use Rattle.paper.specs.Words.{Word}
+use Rattle.paper.specs.Terms.{Ref, ofModule, ofRoutine, Memory, load}
+use Rattle.paper.specs.Names.{Meaning, unknown, variable, array, constant, loop, theRoutine, theErrno, errorNumber, Text, Scopes, spelled, meaning, enter, sortIn}
+use Rattle.code.specs.Cells.{opIn, headAt, tailAt, linkAt, placeAt}
+use Rattle.names.specs.Numbers.{numberOf, IsName}
+use Rattle.names.specs.Meanings.{cellWith, meaningWith, meaningIn, isProtected, protectsCell, firstMeaning, Means, Hides}
+use Rattle.names.specs.Promises.{numberAt, meaningAt, tailWith, Rewritten, Declared, Left}
+use Rattle.names.proofs.Spellings.{same-texts, differing}
+use Rattle.names.proofs.Tables.{meaning-with, declare-means, enter-hides}
+use Rattle.names.proofs.Rewriting.{rewritten-length, rewritten-head, rewritten-tail, rewritten-other}
+use Rattle.expressions.specs.Known.{InRoom, Within, Known}
+use Rattle.constants.specs.Answers.{cellOf, Worth, Fine}
+use Rattle.simple.specs.declared.Setting.{Setting}
+use Rattle.simple.specs.Around.{Around, Calls}
+use Rattle.statements.specs.Answers.{Outside, SameValues, Here}
+use Rattle.statements.proofs.Frames.{within-more, fine-more, unread-behind, calls-behind}
+
+-- ---- a cell that is set and then set back
+restored : (X : List ℕ) (c m : ℕ) → set (set X c m) c (getD X c 0) ≡ X
+restored [] c m = refl
+restored (x ∷ X) zero m = refl
+restored (x ∷ X) (suc c) m = ap (λ (r : List ℕ). x ∷ r) (restored X c m)
+
+pub rewritten-outside : {before after : List ℕ} {i head tail : ℕ} → Rewritten before after i head tail → i * 8 + 8 ≤ length before → Outside (wordsOf before) (wordsOf after) i (i + 1)
+rewritten-outside {i = i} r h = record { below = λ k l. rewritten-other r h k (λ e. omega arith) (λ e. omega arith); above = λ k l. rewritten-other r h k (λ e. omega arith) (λ e. omega arith) }
+
+-- ---- the cell of a FOR's name
+pub loop-within : (used x y : ℕ) → used < y → Within x y (loop (ofRoutine used))
+unfolding Within InRoom
+loop-within used x y h = omega arith
+
+pub loop-means : (routine : ℕ → ℕ) (m used : ℕ) → m ≡ 17 + 256 * used → meaningIn routine m ≡ loop (ofRoutine used)
+unfolding meaningWith
+loop-means routine m used e =
+    let c : m ≡ cellWith 4 0 1 used = omega arith in
+    ap (meaningIn routine) c ∙ meaning-with routine 4 0 1 used (omega arith) (omega arith) (omega arith)
+
+pub loop-plain : (m used : ℕ) → m ≡ 17 + 256 * used → protectsCell m ≡ false
+loop-plain m used e = let o : opIn m ≡ 17 = omega arith in rw o
+
+module _ {text values : List ℕ} (a : Around text values) (one two values′ : List ℕ) (used i m : ℕ) (em : m ≡ 17 + 256 * used) (name : IsName (a .known .W) i) (free : isProtected (spelled (a .known .W) i) ≡ false)
+    (number : numberAt (wordsOf one) i ≡ numberOf (a .known .W) i) (room : i * 8 + 8 ≤ length one) (dec : Declared one values i m two values′) where
+  pub hides : Hides (a .known .S) (enter (spelled (a .known .W) i) (ofRoutine used) (a .known .S)) (spelled (a .known .W) i) (loop (ofRoutine used))
+  hides = enter-hides (a .known .S) (spelled (a .known .W) i) (ofRoutine used) free
+
+  low : numberAt (wordsOf one) i < 8192
+  low = omega arith
+
+  pub longer : length values′ ≡ length values
+  longer = put-length (dec .table) (omega (arith, low, a .known .table))
+
+  -- what holds of what a text meant, and of the loop's word, holds of what it means now
+  pub by-text : (Q : Meaning → Type 0) (t : Text) → Q (loop (ofRoutine used)) → Q (meaning (a .known .S) t) → Q (meaning (enter (spelled (a .known .W) i) (ofRoutine used) (a .known .S)) t)
+  by-text Q t here there =
+      test (equalTexts t (spelled (a .known .W) i))
+      (λ e. subst Q (sym (ap (meaning (enter (spelled (a .known .W) i) (ofRoutine used) (a .known .S))) (same-texts t (spelled (a .known .W) i) e) ∙ hides .here)) here)
+      (λ f. subst Q (sym (hides .elsewhere t (differing t (spelled (a .known .W) i) f))) there)
+
+  pub no-routine : (k : ℕ) → loop (ofRoutine used) ≡ theRoutine k → k < length (a .R)
+  no-routine k z = apart (cc)
+
+  abbrev pub inner : used < a .known .n → Around text values′
+  inner n = record {
+    known = record {
+      W = a .known .W;
+      S = enter (spelled (a .known .W) i) (ofRoutine used) (a .known .S);
+      routine = a .known .routine;
+      m = a .known .m;
+      n = a .known .n;
+      most = a .known .most;
+      table = subst (λ (l : ℕ). 65536 ≤ l) (sym longer) (a .known .table);
+      means = declare-means (a .known .routine) (a .known .W) (a .known .S) (enter (spelled (a .known .W) i) (ofRoutine used) (a .known .S)) i name one values two values′ m dec number (a .known .table)
+          (subst (Hides (a .known .S) (enter (spelled (a .known .W) i) (ofRoutine used) (a .known .S)) (spelled (a .known .W) i)) (sym (loop-means (a .known .routine) m used em)) hides) free (loop-plain m used em) (a .known .means);
+      within = λ j q. by-text (Within (a .known .m) (a .known .n)) (spelled (a .known .W) j) (loop-within used (a .known .m) (a .known .n) n) (a .known .within j q);
+      small = a .known .small;
+    };
+    R = a .R;
+    K = a .K;
+    M = a .M;
+    numbers = a .numbers;
+    callable = λ j k q e. by-text (λ (x : Meaning). x ≡ theRoutine k → k < length (a .R)) (spelled (a .known .W) j) (no-routine k) (a .callable j k q) e;
+    quoted = a .quoted;
+    sorts = a .sorts;
+  }
+
+  -- ---- constants are worth what they were: their words lie before the table
+  data-cell : (x y : ℕ) (r : Ref) → InRoom x y r 1 → x ≤ 1024 → y ≤ 64 → getD (wordsOf values′) (cellOf r) 0 ≡ getD (wordsOf values) (cellOf r) 0
+  unfolding InRoom cellOf
+  data-cell x y (ofModule c) h q r = put-other (dec .table) (omega (arith, low, a .known .table)) c (λ e. omega arith)
+  data-cell x y (ofRoutine c) h q r = put-other (dec .table) (omega (arith, low, a .known .table)) (1024 + c) (λ e. omega arith)
+
+  fine-on : (x y : ℕ) (z : Meaning) → x ≤ 1024 → y ≤ 64 → Fine x y (wordsOf values) (a .M) z → Fine x y (wordsOf values′) (a .M) z
+  unfolding Fine
+  fine-on x y unknown q r f = f
+  fine-on x y (variable t c) q r f = f
+  fine-on x y (array t c n) q r f = f
+  fine-on x y (constant t c) q r f = record { room = f .room; is = ap (toZ w32) (data-cell x y c (f .room) q r) ∙ f .is; ranged = f .ranged }
+  fine-on x y (loop c) q r f = f
+  fine-on x y (theRoutine k) q r f = f
+  fine-on x y theErrno q r f = f
+  fine-on x y (errorNumber k) q r f = f
+
+  loop-fine : (x y : ℕ) (X : List ℕ) → Fine x y X (a .M) (loop (ofRoutine used))
+  unfolding Fine
+  loop-fine x y X = tt
+
+  -- ---- the words of the list
+  pub enters : (n : used < a .known .n) (code : List ℕ) (k : Setting) (at to x y : ℕ) {p q : ℕ} → Here a code k used at to → used < 64 → Outside (wordsOf code) (wordsOf two) p q → length two ≡ length code
+      → at ≤ p → q ≤ to + 1 → at ≤ x → q ≤ x → y ≤ to → Here (inner n) two k (used + 1) x y
+  enters n code k at to x y h few o long l1 l2 l3 l4 l5 =
+      let c = calls-behind a o long x y (h .calls) l1 l2 l3 l5 in
+      record {
+        tells = h .tells;
+        few = omega arith;
+        within = λ j q. by-text (Within (a .known .m) (used + 1)) (spelled (a .known .W) j) (loop-within used (a .known .m) (used + 1) (omega arith)) (within-more _ used (used + 1) _ (omega arith) (h .within j q));
+        fine = λ t. by-text (Fine (a .known .m) (used + 1) (wordsOf values′) (a .M)) t (loop-fine (a .known .m) (used + 1) (wordsOf values′))
+            (fine-more (a .known .m) used (used + 1) (wordsOf values′) (a .M) _ (omega arith) (fine-on (a .known .m) used _ (a .known .most) (omega arith) (h .fine t)));
+        number = subst (λ (v : ℕ). v < 2147483648) (sym (put-other (dec .table) (omega (arith, low, a .known .table)) 1263 (λ e. omega arith))) (h .number);
+        unread = unread-behind (a .known .W) code two o long x y (h .unread) l3 l4 l5;
+        calls = record { heads = c .heads; room = c .room };
+      }
+
+  -- ---- the name is left
+  module _ (three values″ values‴ : List ℕ) (head : headAt (wordsOf three) i ≡ headAt (wordsOf two) i) (tail : tailAt (wordsOf three) i ≡ tailAt (wordsOf two) i) (same : SameValues values′ values″) where
+    link-is : linkAt (wordsOf three) i ≡ numberAt (wordsOf one) i
+    link-is = ap (λ (v : ℕ). v / 65536) (tail ∙ rewritten-tail (dec .word) room) ∙ part (tailAt (wordsOf one) i) (numberAt (wordsOf one) i)
+      where
+        part : (t n : ℕ) → (t % 65536 + 65536 * n) / 65536 ≡ n
+        part t n = omega arith
+
+    pub leaves-links : (linkAt (wordsOf three) i < 8192) × (65536 ≤ length values″)
+    leaves-links = (omega (arith, link-is), omega (arith, same .long, longer, a .known .table))
+
+    pub leaves : Left three values″ i values‴ → SameValues values values‴
+    leaves l =
+        let cell : headAt (wordsOf three) i ≡ getD (wordsOf values) (8192 + numberAt (wordsOf one) i) 0 = head ∙ rewritten-head (dec .word) room in
+        record {
+          words = l .words ∙ ap (λ (X : List ℕ). set X (8192 + linkAt (wordsOf three) i) (headAt (wordsOf three) i)) (same .words ∙ dec .table .words)
+              ∙ ap (λ (v : ℕ). set (set (wordsOf values) (8192 + numberAt (wordsOf one) i) m) (8192 + v) (headAt (wordsOf three) i)) link-is
+              ∙ ap (set (set (wordsOf values) (8192 + numberAt (wordsOf one) i) m) (8192 + numberAt (wordsOf one) i)) cell
+              ∙ restored (wordsOf values) (8192 + numberAt (wordsOf one) i) m;
+          long = put-length l (omega (arith, link-is, low, same .long, longer, a .known .table)) ∙ same .long ∙ longer;
+        }
