@@ -1,20 +1,19 @@
 -- An expression in a statement: that it stands, and what is told of it.
 use mathlib.Core.Path.{_≡_, refl, sym, ap, subst, _∙_}
-use mathlib.Core.Bool.{Bool, true, false}
-use mathlib.Core.List.{List, [], _∷_}
+use mathlib.Core.Bool.{Bool, false}
+use mathlib.Core.List.{List, []}
 use mathlib.Core.Option.{some}
 use Prim.Native.Nat.{ℕ, suc, _+_, _-_, _*_, _<_, _≤_}
 use native.Mathlib.Omega.{arith}
 use lib.ListN.{length}
 use Rattle.paper.specs.Sorts.{comma, semicolon, closeParen, closeBrace}
-use Rattle.paper.specs.Words.{Word, wordLimit}
 use Rattle.paper.specs.Trees.{Expr, first}
 use Rattle.paper.specs.Expressions.{levelOf, nestings}
 use Rattle.paper.specs.Names.{DataType, sortIn}
-use Rattle.paper.specs.Types.{Fault, wanted, judge, ofType, termOf}
+use Rattle.paper.specs.Types.{Fault, judge, ofType, termOf}
 use Rattle.paper.specs.Types as types
 use Rattle.cells.specs.Words.{wordsOf}
-use Rattle.code.specs.Cells.{opIn, headAt, opAt, valueAt, linkAt}
+use Rattle.code.specs.Cells.{opIn, opAt, valueAt}
 use Rattle.code.specs.Spans.{termIn}
 use Rattle.climb.proofs.Operands.{deeper}
 use Rattle.grammar.specs.Form.{Parses}
@@ -73,7 +72,7 @@ pub record Told {values : List ℕ} (k : Known values) (fs : List Fault) (before
 
 module _ {code values : List ℕ} (k : Known values) (sorts : (i : ℕ) → sortIn (k .W) i < 128) (d at : ℕ) (e : Expr) (to : ℕ) (p : Parses (sortIn (k .W)) d at e to) (l : Loaded (k .W) code at to)
     (no : levelOf (sortIn (k .W) to) ≡ 0) where
-  pub asks : expressions.Stands code values 5 at
+  unfoldable pub asks : expressions.Stands code values 5 at
   asks = record {
     known = k;
     d = d - 1;
@@ -201,10 +200,13 @@ valued-typed code values mid after op wants from i r o b end e l = record {
         none = t .none;
         next-is = ap (λ (x : ℕ). x + 1) (t .next-is);
         written = record {
-          word = record { is = l .op-is; leaves = l .link-is ∙ ap (λ (x : ℕ). x + 1) (t .next-is) };
-          term = subst (λ (z : ℕ). RawTerm (groundOf (g .around)) (g .around .known .n) (wordsOf after) (g .around .known .S) (g .e) from z) v
-              (raw-term-after (g .around) mid after (g .e) from (g .to) i (i + 1) (l .kept) (omega (arith, g .before)) (raw-term (g .around) _ code mid (g .e) from (g .to) end t));
-          within = omega (arith, v);
+          raw = record {
+            word = record { is = l .op-is; leaves = l .link-is ∙ ap (λ (x : ℕ). x + 1) (t .next-is) };
+            term = subst (λ (z : ℕ). RawTerm (groundOf (g .around)) (g .around .known .n) (wordsOf after) (g .around .known .S) (g .e) from z) v
+                (raw-term-after (g .around) mid after (g .e) from (g .to) i (i + 1) (l .kept) (omega (arith, g .before)) (raw-term (g .around) _ code mid (g .e) from (g .to) end t));
+            within = omega (arith, v);
+          };
+          between = λ k x y. head-above (l .kept) k (omega arith) ∙ head-below (t .kept) k y;
         };
         kept = kept-on (kept-wider (t .kept) i (g .to + 1) (omega (arith, g .before)) (omega arith)) (kept-wider (l .kept) i (g .to + 1) (omega arith) (omega (arith, g .before, grow)));
       });

@@ -1,15 +1,14 @@
 -- Arguments counted by the commas between them: no expression has a comma.
 use mathlib.Core.Path.{_≡_, refl, sym, ap, subst, _∙_}
-use mathlib.Core.Bool.{Bool, true, false, _||_}
-use mathlib.Core.List.{List, [], _∷_}
+use mathlib.Core.Bool.{Bool, true, false}
+use mathlib.Core.List.{List, []}
 use Prim.Native.Nat.{ℕ, zero, suc, _+_, _-_, _*_, _<_, _≤_}
 use native.Mathlib.Omega.{arith}
 use lib.Dec.{eqb}
 use lib.ListN.{length}
 use borrow.Author.Tests.{eqb-true, eqb-false}
 use Rattle.laws.proofs.Tests.{test, by-same, false-true}
-use Rattle.paper.specs.Basics.{if_then_else_}
-use Rattle.paper.specs.Sorts.{NAME, comma, semicolon, openParen, closeParen, openBrace, closeBrace, NOT, plus, minusSign}
+use Rattle.paper.specs.Sorts.{NAME, comma, semicolon, openParen, closeParen, openBrace, closeBrace}
 use Rattle.paper.specs.Words.{Word}
 use Rattle.paper.specs.Trees.{Expr, leaf, joined, signed}
 use Rattle.paper.specs.Expressions.{Parsed, got, parts, relations, disjunctions, sums, nestings, levelOf, standsBefore, isLiteral, chain, prefixed, level, operand, exprIn}
@@ -20,7 +19,6 @@ use Rattle.climb.proofs.Climb.{got-no, went, after, chain-on, chain-stop}
 use Rattle.climb.proofs.Operands.{got-same, op-paren, op-element, op-name, op-literal, op-none}
 use Rattle.grammar.specs.Form.{Parses, ExprAt, SeparatedAt, last-one, one-more}
 use Rattle.grammar.proofs.Inversions.{closed-none, closed-some}
-use Rattle.expressions.specs.Known.{Loaded}
 use Rattle.simple.specs.Parts.{Commas, ArgumentsStand, Counts, Counted}
 
 pub comma-yes : (s : ℕ) → s ≡ 5 → Commas s 1
@@ -146,12 +144,11 @@ module _ (W : ℕ → ℕ) (end : ℕ) where
 
   -- ---- arguments
   separated-some : {es : List Expr} {at to : ℕ} → SeparatedAt W (ExprAt W (Parses W)) es at to → 0 < length es
-  unfolding length
   separated-some (last-one k f) = omega arith
   separated-some (one-more k c h) = omega arith
 
   separated-left : {es : List Expr} {at to : ℕ} → SeparatedAt W (ExprAt W (Parses W)) es at to → Left W end to 0 → (k : ℕ) → length es ≡ suc k → Left W end at k
-  unfolding Over length
+  unfolding Over
   separated-left {at = at} {to = to} (last-one {a = a} h f) l k e =
       let z : 0 ≡ k = omega (arith, e) in
       subst (Left W end at) z (expr-past (suc nestings) at (a, to) h 0 l)
@@ -211,7 +208,6 @@ module _ (code : List ℕ) (first closing : ℕ) where
     sort-first g = e ∙ fresh-sort g first (omega arith) (first-inside g)
 
     pub count-none : s ≡ closing → Counted code first closing 0
-    unfolding length
     count-none c = record {
       is = λ g. sym (ap length (arguments-none (g .W) (g .es) first closing (g .z) (g .end) (g .stand) (sym (sort-first g) ∙ c)));
     }

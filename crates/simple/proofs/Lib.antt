@@ -4,3 +4,17 @@ pub mod Spelling
 pub mod Asking
 pub mod Passing
 pub mod Counting
+pub mod Arguing
+pub mod Callees
+pub mod Calling
+pub mod Naming
+pub mod Aiming
+pub mod Assigning
+pub mod Found
+pub mod Functions
+pub mod Stating
+pub mod Procedures
+pub mod Leaving
+pub mod Speaking
+pub mod Hearing
+pub mod Whole

@@ -1,23 +1,19 @@
 -- An argument against the type of its parameter.
-use mathlib.Core.Path.{_≡_, refl, sym, ap, subst, _∙_}
+use mathlib.Core.Path.{_≡_, sym, ap, subst, _∙_}
 use mathlib.Core.Bool.{Bool, true, false}
-use mathlib.Core.List.{List, [], _∷_, _++_}
-use Prim.Native.Nat.{ℕ, _+_, _*_, _<_, _≤_}
-use native.Mathlib.Omega.{arith}
-use lib.Dec.{eqb}
-use Rattle.paper.specs.Basics.{if_then_else_}
+use mathlib.Core.List.{List, [], _++_}
+use Prim.Native.Nat.{ℕ}
 use Rattle.paper.specs.Trees.{first}
-use Rattle.paper.specs.Names.{DataType, typeOf, refusedPiece, sortIn}
-use Rattle.paper.specs.Types.{Fault, fault, faultIf, differs, wanted, judge}
+use Rattle.paper.specs.Names.{DataType, sortIn}
+use Rattle.paper.specs.Types.{fault, faultIf, differs, wanted, judge}
 use Rattle.paper.specs.Types as types
 use Rattle.cells.specs.Words.{wordsOf}
-use Rattle.code.specs.Cells.{opIn, valueIn, headAt}
+use Rattle.code.specs.Cells.{headAt}
 use Rattle.code.specs.Signatures.{typeAt}
 use Rattle.climb.proofs.Places.{spans-first, stands}
 use Rattle.expressions.specs.declared.Judged.{Judged}
 use Rattle.expressions.specs.declared.Judged.the-variants.{Typed, Faulty}
 use Rattle.expressions.specs.Answers.{typeIf, Says, Judges, Checked}
-use Rattle.expressions.specs.Answers as expressions
 use Rattle.expressions.proofs.Judging.{wanted-first}
 use Rattle.expressions.proofs.Around.{says-typed, says-faulty}
 use Rattle.simple.specs.Parts.{typeIn, TypeDiffers, passed, Passed}

@@ -1,17 +1,16 @@
 -- Names, types and words by simple tests.
-use mathlib.Core.Path.{_≡_, refl, sym, ap, _∙_}
+use mathlib.Core.Path.{_≡_, sym, _∙_}
 use mathlib.Core.Bool.{Bool, true, false, not}
 use mathlib.Core.List.{List}
-use Prim.Native.Nat.{ℕ, suc, _+_, _*_, _/_, _%_, _<_, _≤_}
+use Prim.Native.Nat.{ℕ, suc, _+_, _/_, _%_, _<_, _≤_}
 use native.Mathlib.Omega.{arith}
 use lib.Dec.{eqb}
-use borrow.Author.Tests.{eq-eqb, ne-eqb, eqb-true, eqb-false}
+use borrow.Author.Tests.{ne-eqb, eqb-true, eqb-false}
 use Rattle.laws.proofs.Tests.{by-same, false-true}
-use Rattle.paper.specs.Basics.{if_then_else_}
-use Rattle.paper.specs.Sorts.{NAME, NUM, openParen, FUNC}
-use Rattle.paper.specs.Names.{typeOf, wrongName, Meaning}
+use Rattle.paper.specs.Sorts.{NUM, FUNC}
+use Rattle.paper.specs.Names.{typeOf, wrongName}
 use Rattle.paper.specs.Types.{differs}
-use Rattle.code.specs.Cells.{opIn, valueIn, headAt, opAt}
+use Rattle.code.specs.Cells.{opAt}
 use Rattle.code.specs.Signatures.{firstParameter}
 use Rattle.names.specs.Meanings.{meaningWith}
 use Rattle.expressions.specs.Answers.{typeIf}

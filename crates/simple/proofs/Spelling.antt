@@ -1,10 +1,8 @@
 -- The characters of a string, counted.
-use mathlib.Core.Path.{_≡_, refl, sym, ap, ap₂, subst, _∙_}
-use mathlib.Core.Bool.{Bool, true, false}
+use mathlib.Core.Path.{_≡_, refl, ap, ap₂, subst, _∙_}
 use mathlib.Core.List.{List, [], _∷_}
 use Prim.Native.Nat.{ℕ, suc, _+_, _*_, _-_, _/_, _%_, _<_, _≤_}
 use native.Mathlib.Omega.{arith}
-use lib.Dec.{eqb}
 use lib.ListN.{length, getD, take, drop, drop-of-length-le}
 use lib.Seq.{drop-cons, drop-drop, getD-take, getD-drop}
 use borrow.Author.Tests.{eq-eqb, ne-eqb}
@@ -19,12 +17,12 @@ use Rattle.expressions.specs.Parts.{Linked}
 use Rattle.simple.specs.Parts.{Width, Characters, Strings, Spelled}
 
 unquoted-quote : (b : ℕ) (r : List ℕ) → b ≡ QUOTE → length (unquoted (b ∷ r)) ≡ suc (length (unquoted (drop 1 r)))
-unfolding unquoted length
+unfolding unquoted
 unquoted-quote b [] e = refl
 unquoted-quote b (c ∷ r) e = rw (eq-eqb b QUOTE e, length, unquoted)
 
 unquoted-other : (b : ℕ) (r : List ℕ) → (b ≡ QUOTE → ⊥) → length (unquoted (b ∷ r)) ≡ suc (length (unquoted r))
-unfolding unquoted length
+unfolding unquoted
 unquoted-other b [] e = refl
 unquoted-other b (c ∷ r) e = rw (ne-eqb b QUOTE e, length, unquoted)
 

@@ -11,7 +11,7 @@ use Rattle.cells.specs.Words.{wordsOf, Got, Put}
 use Rattle.cells.proofs.Kept.{put-other}
 use Rattle.code.specs.Cells.{linkIn, opAt, valueAt, linkAt}
 use Rattle.expressions.specs.declared.Judged.the-variants.{Typed, Faulty}
-use Rattle.expressions.specs.Parts.{Headed, Linked}
+use Rattle.expressions.specs.Parts.{Linked}
 use Rattle.expressions.proofs.Keeping.{kept-same, set-headed, set-linked}
 use Rattle.simple.specs.Parts.{Alone}
 

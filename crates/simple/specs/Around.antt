@@ -1,6 +1,5 @@
 -- What is known where statements are checked: the routine's words and names, the routines that can be called, and the text.
 use mathlib.Core.Path.{_≡_}
-use mathlib.Core.Bool.{Bool}
 use mathlib.Core.List.{List}
 use mathlib.Core.Option.{Option, none, some}
 use Prim.Native.Nat.{ℕ, _+_, _<_, _≤_}

@@ -2,7 +2,7 @@
 use mathlib.Core.Path.{_≡_}
 use mathlib.Core.Bool.{Bool, true, false, not}
 use mathlib.Core.List.{List, [], _∷_, _++_, map}
-use mathlib.Core.Option.{Option, none, some}
+use mathlib.Core.Option.{none, some}
 use Prim.Native.Nat.{ℕ, _+_, _*_, _-_, _/_, _%_, _<_, _≤_}
 use lib.Dec.{eqb}
 use lib.ListN.{length, getD, take, drop}
@@ -11,7 +11,8 @@ use Rattle.paper.specs.Sorts.{NAME, STRING, comma, semicolon, openParen, closeP
 use Rattle.paper.specs.Words.{QUOTE, Word, wordLimit}
 use Rattle.paper.specs.Terms.{Term}
 use Rattle.paper.specs.Trees.{Expr, first, Target}
-use Rattle.paper.specs.Names.{DataType, typeOf, refusedPiece, Meaning, theRoutine, wrongName, nth, sortIn, spelled, meaning, Scopes}
+use Rattle.paper.specs.Expressions.{levelOf}
+use Rattle.paper.specs.Names.{DataType, typeOf, refusedPiece, Meaning, theRoutine, wrongName, sortIn, spelled, meaning}
 use Rattle.paper.specs.Types.{Fault, fault, faultIf, differs, wanted, judge, ofType, termOf}
 use Rattle.paper.specs.Types as types
 use Rattle.paper.specs.Declarations.{Signature}
@@ -22,14 +23,14 @@ use Rattle.cells.specs.Words.{wordsOf}
 use Rattle.code.specs.Cells.{opIn, valueIn, headAt, opAt, valueAt, placeAt, linkAt}
 use Rattle.code.specs.Spans.{firstIn, sizeIn, termIn}
 use Rattle.code.specs.Steps.{aTarget, aNextArgument, numbered}
-use Rattle.code.specs.Signatures.{typeAt, typesAt, firstParameter, Heads}
+use Rattle.code.specs.Signatures.{typeAt, typesAt}
 use Rattle.names.specs.Promises.{storeBytes}
 use Rattle.names.specs.Meanings.{meaningWith, refWith}
 use Rattle.grammar.specs.Form.{Parses, ExprAt, SeparatedAt, ArgumentsAt, TargetAt}
 use Rattle.expressions.specs.declared.Judged.{Judged}
 use Rattle.expressions.specs.declared.Judged.the-variants.{Typed, Faulty}
 use Rattle.expressions.specs.Known.{Fresh, Loaded, InRoom, Known}
-use Rattle.expressions.specs.Answers.{Kept, typeIf, Judges}
+use Rattle.expressions.specs.Answers.{typeIf, Judges}
 use Rattle.expressions.specs.Answers as expressions
 use Rattle.expressions.specs.Parts.{Linked}
 use Rattle.faults.specs.First.{First}
@@ -234,28 +235,36 @@ pub data Reads (m n : ℕ) (C : List ℕ) (a b : ℕ) : List Term → (z : ℕ) 
   reads-more : {us ts : List Term} {y z : ℕ} (t : Term) → Reads m n C a b us y → opAt C y ≡ aNextArgument → linkAt C y ≡ z → termIn m n C (y + 1) z ≡ some t
       → ts ≡ us ++ (t ∷ []) → Reads m n C a b ts z
 
--- Behind an argument that ends at b, against a parameter whose type is the word p: `rest` is left, up to the word z that closes them.
-pub record More (code values : List ℕ) (p b : ℕ) : Type 0 where
-  pub text : List ℕ
-  pub around : Around text values
-  -- where the first argument begins and ends, and the terms so far
-  pub a : ℕ
-  pub b₀ : ℕ
-  pub us : List Term
+-- all arguments of a call, which z closes: none, or some
+pub data ReadAll (m n : ℕ) (C : List ℕ) (ts : List Term) (a b z : ℕ) : Type 0 where
+  no-arguments : ts ≡ [] → b ≡ a → z ≡ a → ReadAll m n C ts a b z
+  some-arguments : a < b → Reads m n C a b ts z → ReadAll m n C ts a b z
+
+-- Behind an argument that ends at b, against a parameter whose type is the word p: `rest` is left, up to the word z that closes them, for parameters of types `ts`.
+-- The first argument stands from a up to b₀, and `us` are the terms so far.
+pub record Rest {text values : List ℕ} (around : Around text values) (a b₀ z : ℕ) (code : List ℕ) (p b : ℕ) (us : List Term) (rest : List Expr) (ts : List DataType) : Type 0 where
   pub read : Reads (around .known .m) (around .known .n) (wordsOf code) a b₀ us b
   pub quiet : Quiet (wordsOf code) a b
-  pub on : a < b
-  pub rest : List Expr
-  pub z : ℕ
   pub inside : b ≤ z
   pub more : sortIn (around .known .W) b ≡ comma → SeparatedAt (sortIn (around .known .W)) (ExprAt (sortIn (around .known .W)) (Parses (sortIn (around .known .W)))) rest (b + 1) z
   pub done : (sortIn (around .known .W) b ≡ comma → ⊥) → (rest ≡ []) × (z ≡ b)
+  pub closes : levelOf (sortIn (around .known .W) z) ≡ 0
   pub unread : Unread (around .known .W) code b z
   -- the types of the other parameters, whatever is written from b up to z
-  pub ts : List DataType
   pub types : (D : List ℕ) → Apart (wordsOf code) D b z → typesAt D (length rest) (p + 3) ≡ ts
   pub words : p + 3 + 3 * length rest ≤ wordLimit
   pub room : storeBytes ≤ length code
+
+pub record More (code values : List ℕ) (p b : ℕ) : Type 0 where
+  pub text : List ℕ
+  pub around : Around text values
+  pub a : ℕ
+  pub b₀ : ℕ
+  pub z : ℕ
+  pub us : List Term
+  pub rest : List Expr
+  pub ts : List DataType
+  pub is : Rest around a b₀ z code p b us rest ts
 
 -- the terms of all of them
 pub record MoreRead {code values : List ℕ} {p b : ℕ} (g : More code values p b) (C : List ℕ) : Type 0 where
@@ -314,7 +323,8 @@ pub record CallWritten {code values : List ℕ} {h callee first closing : ℕ} (
   pub op-is : opAt C callee ≡ op
   pub value-is : valueAt C callee ≡ h
   pub as-many : length (g .es) ≡ length (signatureFor (g .around) h .parameters)
-  pub arguments : RawArguments (groundOf (g .around)) (g .around .known .n) C (g .around .known .S) (g .es) first (linkAt C callee) (g .z)
+  pub read : ReadAll (g .around .known .m) (g .around .known .n) C (map (termOf (g .around .known .W) (g .around .known .S)) (g .es)) first (linkAt C callee) (g .z)
+  pub quiet : Quiet C first (g .z)
 
 pub record CallJudged (code values after : List ℕ) (op h callee first closing : ℕ) (r : Judged) : Type 0 where
   pub is : (g : CallSide code values h callee first closing)
@@ -377,10 +387,14 @@ pub record Values (code values : List ℕ) (from i : ℕ) : Type 0 where
   pub before : i < from
   pub loaded : Loaded (around .known .W) code from to
 
+-- what is written of it; the words between the two are as they were
+pub record ValueWritten {code values : List ℕ} {from i : ℕ} (g : Values code values from i) (C : List ℕ) (op : ℕ) : Type 0 where
+  pub raw : RawValued (groundOf (g .around)) (g .around .known .n) C (g .around .known .S) op (g .e) from i (g .to + 1) (g .to + 1)
+  pub between : (k : ℕ) → i < k → k < from → headAt C k ≡ headAt (wordsOf code) k
+
 pub record Valued (code values after : List ℕ) (op : ℕ) (wants : Bool) (from i : ℕ) (r : Judged) : Type 0 where
   pub is : (g : Values code values from i)
-      → Answer (ofType (g .around .known .W) (typeIf wants) (g .around .known .S) (g .e)) code after i (g .to + 1)
-      (RawValued (groundOf (g .around)) (g .around .known .n) (wordsOf after) (g .around .known .S) op (g .e) from i (g .to + 1) (g .to + 1)) r
+      → Answer (ofType (g .around .known .W) (typeIf wants) (g .around .known .S) (g .e)) code after i (g .to + 1) (ValueWritten g (wordsOf after) op) r
 
 -- ---- strings
 -- how many bytes a character takes that begins with this one

@@ -192,8 +192,14 @@ fn callee_at<'a>(code: &'a [u8], values: &'a [u8], function: bool, i: usize) -> 
         return Callee::Wrong(wrong_name(kind));
     }
     let h = (m / 256) as usize;
-    let is_function = sort(code, h) == sorts::FUNC;
-    if is_function != function {
+    let s = sort(code, h);
+    if function {
+        if s != sorts::FUNC {
+            return Callee::Wrong(12);
+        }
+        return Callee::At(h);
+    }
+    if s == sorts::FUNC {
         return Callee::Wrong(12);
     }
     Callee::At(h)

@@ -1,63 +1,47 @@
 use borrow.Author.Needs.{needs}
+use Rattle.simple.proofs.Functions.{assign-small, assign-fits, assign-op-fits, call-faulty, call-typed}
+use native.Mathlib.Omega.{arith}
 use Rattle.simple.proofs.assign_call.Statement.{statement}
 use Rattle.simple.proofs.assign_call.Tie as tie
-use Rattle.simple.proofs.assign_call.Reads as reads
-use Rattle.simple.proofs.assign_call.Lts as lts
-use Rattle.simple.proofs.call_for.Reads as call-for-reads
-use Rattle.simple.proofs.head.Reads as head-reads
-use Rattle.simple.proofs.set_word.Reads as set-word-reads
 
--- src/lib.rt:352:43
 add-call-for : tie.Need-add-call-for
-add-call-for c = ?
+add-call-for c = omega (arith, assign-small _ _ _ _ (c .before .before .before .pre))
 
--- src/lib.rt:352:9
 call-for-requires : tie.Need-call-for-requires
 call-for-requires c κs = search needs
 
--- src/lib.rt:353:23
 enum-known-r : tie.Need-enum-known-r
 enum-known-r c = search needs
 
--- src/lib.rt:354:9
 enum-told : tie.Need-enum-told
 enum-told c = search needs
 
--- src/lib.rt:354:9
 same-length : tie.Need-same-length
 same-length c = search needs
 
--- src/lib.rt:354:9
 returns : tie.Need-returns
-returns c = ?
+returns c = search (needs, call-faulty)
 
--- src/lib.rt:356:9
 head-requires : tie.Need-head-requires
-head-requires c κs = ?
+head-requires c κs = assign-fits _ _ _ _ _ (c .before .before .before .before .before .before .before .before .before .before .pre) _ _ (c .before .before .before .before .before .before .call-for .ensures) _ _ (c .before .before .r .given .1) .1
 
--- src/lib.rt:357:23
 add-set-word : tie.Need-add-set-word
 add-set-word c = search needs
 
--- src/lib.rt:357:54
 add-set-word-2 : tie.Need-add-set-word-2
-add-set-word-2 c = ?
+add-set-word-2 c = omega (arith, assign-fits _ _ _ _ _ (c .before .before .before .before .before .before .before .before .before .before .before .before .pre) _ _ (c .before .before .before .before .before .before .before .before .call-for .ensures) _ _ (c .before .before .before .before .r .given .1) .0)
 
--- src/lib.rt:357:5
 set-word-requires : tie.Need-set-word-requires
-set-word-requires c κs = ?
+set-word-requires c κs = let x = assign-fits _ _ _ _ _ (c .before .before .before .before .before .before .before .before .before .before .before .before .pre) _ _ (c .before .before .before .before .before .before .before .before .call-for .ensures) _ _ (c .before .before .before .before .r .given .1) in let y = assign-op-fits _ _ _ _ _ (c .before .before .before .before .before .before .before .before .before .before .before .before .pre) _ _ (c .before .before .before .before .before .before .before .before .call-for .ensures) _ _ (c .before .before .before .before .r .given .1) _ (c .before .head .ensures) in let u = x .0 in let v = x .1 in search needs
 
--- src/lib.rt:358:25
 add-t12 : tie.Need-add-t12
-add-t12 c = ?
+add-t12 c = omega (arith, assign-fits _ _ _ _ _ (c .before .before .before .before .before .before .before .before .before .before .before .before .before .before .before .pre) _ _ (c .before .before .before .before .before .before .before .before .before .before .before .call-for .ensures) _ _ (c .before .before .before .before .before .before .before .r .given .1) .0)
 
--- src/lib.rt:348:1
 same-length-2 : tie.Need-same-length-2
 same-length-2 c = search needs
 
--- src/lib.rt:348:1
 returns-2 : tie.Need-returns-2
-returns-2 c = ?
+returns-2 c = search (needs, call-typed)
 
 pub assign-call-spec : {M : Type 1} → statement M
 assign-call-spec =

@@ -1,58 +1,44 @@
 use borrow.Author.Needs.{needs}
+use native.Mathlib.Omega.{arith}
+use Rattle.simple.proofs.Assigning.{value-stands, value-small, value-end, assigned-faulty, assigned-typed}
 use Rattle.simple.proofs.assign_value.Statement.{statement}
 use Rattle.simple.proofs.assign_value.Tie as tie
-use Rattle.simple.proofs.assign_value.Reads as reads
-use Rattle.simple.proofs.assign_value.Lts as lts
-use Rattle.expressions.proofs.of_type.Reads as of-type-reads
-use Rattle.simple.proofs.set_link.Reads as set-link-reads
 
--- src/lib.rt:339:62
 add-of-type : tie.Need-add-of-type
-add-of-type c = ?
+add-of-type c = omega (arith, value-small _ _ _ _ _ (c .before .before .before .pre))
 
--- src/lib.rt:339:9
 of-type-requires : tie.Need-of-type-requires
-of-type-requires c κs = ?
+of-type-requires c κs = search (needs, value-stands)
 
--- src/lib.rt:340:23
 enum-known-r : tie.Need-enum-known-r
 enum-known-r c = search needs
 
--- src/lib.rt:341:9
 enum-told : tie.Need-enum-told
 enum-told c = search needs
 
--- src/lib.rt:341:9
 same-length : tie.Need-same-length
 same-length c = search needs
 
--- src/lib.rt:341:9
 returns : tie.Need-returns
-returns c = ?
+returns c = search (needs, assigned-faulty)
 
--- src/lib.rt:343:5
 set-link-requires : tie.Need-set-link-requires
-set-link-requires c κs = ?
+set-link-requires c κs = let x = value-end _ _ _ _ _ (c .before .before .before .before .before .before .before .before .before .before .pre) _ _ (c .before .before .before .before .before .before .of-type .ensures) _ _ (c .before .before .r .given .1) in (x .1, omega (arith, x .0))
 
--- src/lib.rt:344:23
 add-set-link : tie.Need-add-set-link
-add-set-link c = ?
+add-set-link c = omega (arith, value-end _ _ _ _ _ (c .before .before .before .before .before .before .before .before .before .before .before .before .before .before .pre) _ _ (c .before .before .before .before .before .before .before .before .before .before .of-type .ensures) _ _ (c .before .before .before .before .before .before .r .given .1) .0)
 
--- src/lib.rt:344:5
 set-link-requires-2 : tie.Need-set-link-requires-2
-set-link-requires-2 c κs = ?
+set-link-requires-2 c κs = let x = value-end _ _ _ _ _ (c .before .before .before .before .before .before .before .before .before .before .before .before .before .before .pre) _ _ (c .before .before .before .before .before .before .before .before .before .before .of-type .ensures) _ _ (c .before .before .before .before .before .before .r .given .1) in (omega (arith, x .2, c .before .before .before .set-link .ensures .kept .long), omega (arith, x .0))
 
--- src/lib.rt:345:25
 add-t11 : tie.Need-add-t11
-add-t11 c = ?
+add-t11 c = omega (arith, value-end _ _ _ _ _ (c .before .before .before .before .before .before .before .before .before .before .before .before .before .before .before .before .before .pre) _ _ (c .before .before .before .before .before .before .before .before .before .before .before .before .before .of-type .ensures) _ _ (c .before .before .before .before .before .before .before .before .before .r .given .1) .0)
 
--- src/lib.rt:335:1
 same-length-2 : tie.Need-same-length-2
 same-length-2 c = search needs
 
--- src/lib.rt:335:1
 returns-2 : tie.Need-returns-2
-returns-2 c = ?
+returns-2 c = assigned-typed _ _ _ _ _ _ _ (c .before .before .before .before .before .before .before .before .before .before .before .before .before .of-type .ensures) _ _ (c .before .before .before .before .before .before .before .before .before .r .given .1) _ (c .before .before .before .before .before .before .set-link .ensures) _ (c .before .before .set-link2 .ensures)
 
 pub assign-value-spec : {M : Type 1} → statement M
 assign-value-spec =

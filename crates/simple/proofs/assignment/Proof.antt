@@ -1,64 +1,47 @@
 use borrow.Author.Needs.{needs}
+use Rattle.simple.proofs.Whole.{assign-targets, assign-end, call-assigns, value-assigns, assigned-no-target, assigned-call, assigned-value}
+use native.Mathlib.Omega.{arith}
 use Rattle.simple.proofs.assignment.Statement.{statement}
 use Rattle.simple.proofs.assignment.Tie as tie
-use Rattle.simple.proofs.assignment.Reads as reads
-use Rattle.simple.proofs.assignment.Lts as lts
-use Rattle.simple.proofs.assign_call.Reads as assign-call-reads
-use Rattle.simple.proofs.assign_value.Reads as assign-value-reads
-use Rattle.simple.proofs.is_call.Reads as is-call-reads
-use Rattle.simple.proofs.target.Reads as target-reads
 
--- src/lib.rt:376:9
 target-requires : tie.Need-target-requires
-target-requires c κs = ?
+target-requires c κs = search (needs, assign-targets)
 
--- src/lib.rt:377:23
 enum-known-r : tie.Need-enum-known-r
 enum-known-r c = search needs
 
--- src/lib.rt:378:9
 enum-told : tie.Need-enum-told
 enum-told c = search needs
 
--- src/lib.rt:378:9
 same-length : tie.Need-same-length
 same-length c = search needs
 
--- src/lib.rt:378:9
 returns : tie.Need-returns
-returns c = ?
+returns c = search (needs, assigned-no-target)
 
--- src/lib.rt:380:22
 add-is-call : tie.Need-add-is-call
-add-is-call c = ?
+add-is-call c = omega (arith, assign-end _ _ _ (c .before .before .before .before .before .before .before .before .before .before .pre) _ _ (c .before .before .before .before .before .before .target .ensures) _ _ (c .before .before .r .given .1) .0)
 
--- src/lib.rt:380:8
 is-call-requires : tie.Need-is-call-requires
-is-call-requires c κs = ?
+is-call-requires c κs = assign-end _ _ _ (c .before .before .before .before .before .before .before .before .before .before .pre) _ _ (c .before .before .before .before .before .before .target .ensures) _ _ (c .before .before .r .given .1) .1
 
--- src/lib.rt:381:9
 assign-call-requires : tie.Need-assign-call-requires
-assign-call-requires c κs = ?
+assign-call-requires c κs = call-assigns _ _ _ (c .before .before .before .before .before .before .before .before .before .before .before .before .before .pre) _ _ (c .before .before .before .before .before .before .before .before .before .target .ensures) _ _ (c .before .before .before .before .before .r .given .1) _ (c .before .before .is-call .ensures) (c .before .if1 .taken)
 
--- src/lib.rt:381:9
 same-length-2 : tie.Need-same-length-2
 same-length-2 c = search needs
 
--- src/lib.rt:381:9
 returns-2 : tie.Need-returns-2
-returns-2 c = ?
+returns-2 c = search (needs, assigned-call)
 
--- src/lib.rt:383:5
 assign-value-requires : tie.Need-assign-value-requires
-assign-value-requires c κs = ?
+assign-value-requires c κs = value-assigns _ _ _ (c .before .before .before .before .before .before .before .before .before .before .before .before .before .pre) _ _ (c .before .before .before .before .before .before .before .before .before .target .ensures) _ _ (c .before .before .before .before .before .r .given .1) _ (c .before .before .is-call .ensures) (c .before .if1 .left)
 
--- src/lib.rt:372:1
 same-length-3 : tie.Need-same-length-3
 same-length-3 c = search needs
 
--- src/lib.rt:372:1
 returns-3 : tie.Need-returns-3
-returns-3 c = ?
+returns-3 c = search (needs, assigned-value)
 
 pub assignment-spec : {M : Type 1} → statement M
 assignment-spec =

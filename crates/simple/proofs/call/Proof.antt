@@ -1,90 +1,65 @@
 use borrow.Author.Needs.{needs}
+use native.Mathlib.Omega.{arith}
+use Rattle.simple.proofs.Calling.{head-room, callee-room, call-asks, first-end, call-more, called-wrong, called-none, called-faulty, called-on}
 use Rattle.simple.proofs.call.Statement.{statement}
 use Rattle.simple.proofs.call.Tie as tie
-use Rattle.simple.proofs.call.Reads as reads
-use Rattle.simple.proofs.call.Lts as lts
-use Rattle.simple.proofs.argument.Reads as argument-reads
-use Rattle.simple.proofs.count_arguments.Reads as count-arguments-reads
-use Rattle.simple.proofs.first_parameter.Reads as first-parameter-reads
-use Rattle.simple.proofs.head.Reads as head-reads
-use Rattle.simple.proofs.more_arguments.Reads as more-arguments-reads
-use Rattle.simple.proofs.set_word.Reads as set-word-reads
 
--- src/lib.rt:282:9
 count-arguments-requires : tie.Need-count-arguments-requires
 count-arguments-requires c κs = search needs
 
--- src/lib.rt:283:17
 head-requires : tie.Need-head-requires
-head-requires c κs = ?
+head-requires c κs = head-room _ _ _ _ _ _ (c .before .before .before .before .before .pre .0) .0
 
--- src/lib.rt:284:9
 same-length : tie.Need-same-length
 same-length c = search needs
 
--- src/lib.rt:284:9
 returns : tie.Need-returns
-returns c = ?
+returns c = search (needs, called-wrong)
 
--- src/lib.rt:287:36
 cast-set-word : tie.Need-cast-set-word
-cast-set-word c = ?
+cast-set-word c = omega (arith, head-room _ _ _ _ _ _ (c .before .before .before .before .before .before .before .before .before .pre .0) .1)
 
--- src/lib.rt:287:9
 set-word-requires : tie.Need-set-word-requires
-set-word-requires c κs = ?
+set-word-requires c κs = let x = callee-room _ _ _ _ _ _ (c .before .before .before .before .before .before .before .before .before .pre .0) in (x .0, c .before .before .before .before .before .before .before .before .before .pre .1, omega (arith, head-room _ _ _ _ _ _ (c .before .before .before .before .before .before .before .before .before .pre .0) .1), omega (arith, x .2))
 
--- src/lib.rt:288:9
 same-length-2 : tie.Need-same-length-2
 same-length-2 c = search needs
 
--- src/lib.rt:288:9
 returns-2 : tie.Need-returns-2
-returns-2 c = ?
+returns-2 c = search (needs, called-none)
 
--- src/lib.rt:290:9
 first-parameter-requires : tie.Need-first-parameter-requires
-first-parameter-requires c κs = ?
+first-parameter-requires c κs = head-room _ _ _ _ _ _ (c .before .before .before .before .before .before .before .before .before .pre .0)
 
--- src/lib.rt:291:9
 argument-requires : tie.Need-argument-requires
-argument-requires c κs = ?
+argument-requires c κs = let x = call-asks _ _ _ _ _ _ (c .before .before .before .before .before .before .before .before .before .before .before .pre .0) _ (c .before .before .before .before .before .before .before .count-arguments .ensures) _ (c .before .before .before .before .before .head .ensures) (c .before .before .before .before .if1 .left) (c .before .before .before .if2 .left) _ (c .before .first-parameter .ensures) in (x .0, x .2)
 
--- src/lib.rt:292:26
 enum-known-r : tie.Need-enum-known-r
 enum-known-r c = search needs
 
--- src/lib.rt:293:9
 enum-told : tie.Need-enum-told
 enum-told c = search needs
 
--- src/lib.rt:293:9
 same-length-3 : tie.Need-same-length-3
 same-length-3 c = search needs
 
--- src/lib.rt:293:9
 returns-3 : tie.Need-returns-3
-returns-3 c = ?
+returns-3 c = search (needs, called-faulty)
 
--- src/lib.rt:295:32
 cast-set-word-2 : tie.Need-cast-set-word-2
-cast-set-word-2 c = ?
+cast-set-word-2 c = omega (arith, head-room _ _ _ _ _ _ (c .before .before .before .before .before .before .before .before .before .before .before .before .before .before .before .before .before .before .pre .0) .1)
 
--- src/lib.rt:295:5
 set-word-requires-2 : tie.Need-set-word-requires-2
-set-word-requires-2 c κs = ?
+set-word-requires-2 c κs = let x = first-end _ _ _ _ _ _ (c .before .before .before .before .before .before .before .before .before .before .before .before .before .before .before .before .before .before .pre .0) _ (c .before .before .before .before .before .before .before .before .before .before .before .before .before .before .count-arguments .ensures) _ (c .before .before .before .before .before .before .before .before .before .before .before .before .head .ensures) (c .before .before .before .before .before .before .before .before .before .before .before .if1 .left) (c .before .before .before .before .before .before .before .before .before .before .if2 .left) _ (c .before .before .before .before .before .before .before .before .first-parameter .ensures) _ _ (c .before .before .before .before .before .before .argument .ensures) _ _ (c .before .before .r .given .1) in (x .1, c .before .before .before .before .before .before .before .before .before .before .before .before .before .before .before .before .before .before .pre .1, omega (arith, head-room _ _ _ _ _ _ (c .before .before .before .before .before .before .before .before .before .before .before .before .before .before .before .before .before .before .pre .0) .1), omega (arith, x .0))
 
--- src/lib.rt:296:5
 more-arguments-requires : tie.Need-more-arguments-requires
-more-arguments-requires c κs = ?
+more-arguments-requires c κs = call-more _ _ _ _ _ _ (c .before .before .before .before .before .before .before .before .before .before .before .before .before .before .before .before .before .before .before .before .before .before .pre .0) _ (c .before .before .before .before .before .before .before .before .before .before .before .before .before .before .before .before .before .before .count-arguments .ensures) _ (c .before .before .before .before .before .before .before .before .before .before .before .before .before .before .before .before .head .ensures) (c .before .before .before .before .before .before .before .before .before .before .before .before .before .before .before .if1 .left) (c .before .before .before .before .before .before .before .before .before .before .before .before .before .before .if2 .left) _ (c .before .before .before .before .before .before .before .before .before .before .before .before .first-parameter .ensures) _ _ (c .before .before .before .before .before .before .before .before .before .before .argument .ensures) _ _ (c .before .before .before .before .before .before .r .given .1) _ _ (c .before .before .before .set-word2 .ensures)
 
--- src/lib.rt:270:1
 same-length-4 : tie.Need-same-length-4
 same-length-4 c = search needs
 
--- src/lib.rt:270:1
 returns-4 : tie.Need-returns-4
-returns-4 c = ?
+returns-4 c = search (needs, called-on)
 
 pub call-spec : {M : Type 1} → statement M
 call-spec =

@@ -1,68 +1,50 @@
 use borrow.Author.Needs.{needs}
+use native.Mathlib.Omega.{arith}
+use Rattle.simple.proofs.Functions.{for-callees, for-small, for-head, for-side, for-wrong, for-differs, for-called}
 use Rattle.simple.proofs.call_for.Statement.{statement}
 use Rattle.simple.proofs.call_for.Tie as tie
-use Rattle.simple.proofs.call_for.Reads as reads
-use Rattle.simple.proofs.call_for.Lts as lts
-use Rattle.simple.proofs.call.Reads as call-reads
-use Rattle.simple.proofs.callee_at.Reads as callee-at-reads
-use Rattle.simple.proofs.differs.Reads as differs-reads
-use Rattle.simple.proofs.head.Reads as head-reads
 
--- src/lib.rt:304:11
 callee-at-requires : tie.Need-callee-at-requires
-callee-at-requires c κs = ?
+callee-at-requires c κs = search (needs, for-callees)
 
--- src/lib.rt:305:23
 enum-known-number : tie.Need-enum-known-number
 enum-known-number c = search needs
 
--- src/lib.rt:306:20
 enum-known-h : tie.Need-enum-known-h
 enum-known-h c = search needs
 
--- src/lib.rt:307:35
 add-head : tie.Need-add-head
-add-head c = ?
+add-head c = omega (arith, for-head _ _ _ (c .before .before .before .before .before .before .before .before .pre) _ (c .before .before .before .before .callee-at .ensures) _ (c .before .before .h .given .1) .0)
 
--- src/lib.rt:307:24
 head-requires : tie.Need-head-requires
-head-requires c κs = ?
+head-requires c κs = for-head _ _ _ (c .before .before .before .before .before .before .before .before .pre) _ (c .before .before .before .before .callee-at .ensures) _ (c .before .before .h .given .1) .1
 
--- src/lib.rt:307:16
 differs-requires : tie.Need-differs-requires
 differs-requires c κs = search needs
 
--- src/lib.rt:308:17
 same-length : tie.Need-same-length
 same-length c = search needs
 
--- src/lib.rt:308:17
 returns : tie.Need-returns
-returns c = ?
+returns c = search (needs, for-differs)
 
--- src/lib.rt:310:51
 add-call : tie.Need-add-call
-add-call c = ?
+add-call c = omega (arith, for-small _ _ _ (c .before .before .before .before .before .before .before .before .before .before .before .before .pre))
 
--- src/lib.rt:310:13
 call-requires : tie.Need-call-requires
-call-requires c κs = ?
+call-requires c κs = (for-side _ _ _ (c .before .before .before .before .before .before .before .before .before .before .before .before .pre) _ (c .before .before .before .before .before .before .before .before .callee-at .ensures) _ (c .before .before .before .before .before .before .h .given .1), omega arith)
 
--- src/lib.rt:300:1
 same-length-2 : tie.Need-same-length-2
 same-length-2 c = search needs
 
--- src/lib.rt:300:1
 returns-2 : tie.Need-returns-2
-returns-2 c = ?
+returns-2 c = search (needs, for-wrong)
 
--- src/lib.rt:300:1
 same-length-3 : tie.Need-same-length-3
 same-length-3 c = search needs
 
--- src/lib.rt:300:1
 returns-3 : tie.Need-returns-3
-returns-3 c = ?
+returns-3 c = search (needs, for-called)
 
 pub call-for-spec : {M : Type 1} → statement M
 call-for-spec =

@@ -3,9 +3,6 @@ use Prim.Native.Nat.{_-_}
 use Rattle.simple.proofs.Spelling.{Counting, counting-first, counting-on, counting-done}
 use Rattle.simple.proofs.characters.Statement.{statement}
 use Rattle.simple.proofs.characters.Tie as tie
-use Rattle.simple.proofs.characters.Reads as reads
-use Rattle.simple.proofs.characters.Lts as lts
-use Rattle.simple.proofs.width.Reads as width-reads
 
 abbrev Inv-loop : tie.InvT-loop
 Inv-loop text first n k₀ count₀ k count = Counting text first n k count
@@ -13,39 +10,30 @@ Inv-loop text first n k₀ count₀ k count = Counting text first n k count
 abbrev μ-loop : tie.MeasureT-loop
 μ-loop text first n k₀ count₀ k count = n - k
 
--- src/lib.rt:474:5
 loop-holds : tie.Need-loop-holds Inv-loop μ-loop
 loop-holds c = search (needs, counting-first)
 
--- src/lib.rt:475:25
 add-width : tie.Need-add-width Inv-loop μ-loop
 add-width c = search needs
 
--- src/lib.rt:475:20
 shared-slice-read-width : tie.Need-shared-slice-read-width Inv-loop μ-loop
 shared-slice-read-width c = search needs
 
--- src/lib.rt:475:14
 width-requires : tie.Need-width-requires Inv-loop μ-loop
 width-requires c κs = search needs
 
--- src/lib.rt:475:9
 add-k : tie.Need-add-k Inv-loop μ-loop
 add-k c = search needs
 
--- src/lib.rt:476:9
 add-count : tie.Need-add-count Inv-loop μ-loop
 add-count c = search needs
 
--- src/lib.rt:474:5
 loop-less : tie.Need-loop-less Inv-loop μ-loop
 loop-less c = search needs
 
--- src/lib.rt:474:5
 loop-again : tie.Need-loop-again Inv-loop μ-loop
 loop-again c = search (needs, counting-on)
 
--- src/lib.rt:468:1
 returns : tie.Need-returns Inv-loop μ-loop
 returns c = search (needs, counting-done)
 

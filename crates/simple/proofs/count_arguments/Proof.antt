@@ -4,10 +4,6 @@ use native.Mathlib.Omega.{arith}
 use Rattle.simple.proofs.Counting.{Goes, count-room, count-none, count-starts, goes-room, goes-done, goes-on}
 use Rattle.simple.proofs.count_arguments.Statement.{statement}
 use Rattle.simple.proofs.count_arguments.Tie as tie
-use Rattle.simple.proofs.count_arguments.Reads as reads
-use Rattle.simple.proofs.count_arguments.Lts as lts
-use Rattle.simple.proofs.counted.Reads as counted-reads
-use Rattle.simple.proofs.sort.Reads as sort-reads
 
 abbrev Inv-loop : tie.InvT-loop
 Inv-loop code first closing i₀ count₀ i count = Goes code first closing i count
@@ -15,43 +11,33 @@ Inv-loop code first closing i₀ count₀ i count = Goes code first closing i co
 abbrev μ-loop : tie.MeasureT-loop
 μ-loop code first closing i₀ count₀ i count = 8192 - i
 
--- src/lib.rt:217:8
 sort-requires : tie.Need-sort-requires Inv-loop μ-loop
 sort-requires c κs = search (needs, count-room)
 
--- src/lib.rt:218:9
 returns : tie.Need-returns Inv-loop μ-loop
 returns c = search (needs, count-none)
 
--- src/lib.rt:222:5
 loop-holds : tie.Need-loop-holds Inv-loop μ-loop
 loop-holds c = search (needs, count-starts)
 
--- src/lib.rt:223:13
 sort-requires-2 : tie.Need-sort-requires-2 Inv-loop μ-loop
 sort-requires-2 c κs = goes-room _ _ _ _ _ (c .loop .inv) (c .before .before .before .before .pre) .0
 
--- src/lib.rt:225:13
 returns-2 : tie.Need-returns-2 Inv-loop μ-loop
 returns-2 c = search (needs, goes-done)
 
--- src/lib.rt:227:18
 counted-requires : tie.Need-counted-requires Inv-loop μ-loop
 counted-requires c κs = search needs
 
--- src/lib.rt:227:9
 add-count : tie.Need-add-count Inv-loop μ-loop
 add-count c = let z = goes-room _ _ _ _ _ (c .before .before .before .loop .inv) (c .before .before .before .before .before .before .before .pre) in omega (arith, z .2, c .counted .ensures .few)
 
--- src/lib.rt:228:9
 add-i : tie.Need-add-i Inv-loop μ-loop
 add-i c = let z = goes-room _ _ _ _ _ (c .before .before .before .loop .inv) (c .before .before .before .before .before .before .before .pre) in omega (arith, z .1)
 
--- src/lib.rt:222:5
 loop-less : tie.Need-loop-less Inv-loop μ-loop
 loop-less c = let z = goes-room _ _ _ _ _ (c .before .before .before .loop .inv) (c .before .before .before .before .before .before .before .pre) in omega (arith, z .1)
 
--- src/lib.rt:222:5
 loop-again : tie.Need-loop-again Inv-loop μ-loop
 loop-again c = search (needs, goes-on)
 

@@ -2,27 +2,19 @@ use borrow.Author.Needs.{needs}
 use Rattle.simple.proofs.Small.{call-not, call-is}
 use Rattle.simple.proofs.is_call.Statement.{statement}
 use Rattle.simple.proofs.is_call.Tie as tie
-use Rattle.simple.proofs.is_call.Reads as reads
-use Rattle.simple.proofs.is_call.Lts as lts
-use Rattle.simple.proofs.sort.Reads as sort-reads
 
--- src/lib.rt:366:8
 sort-requires : tie.Need-sort-requires
 sort-requires c κs = search needs
 
--- src/lib.rt:367:9
 returns : tie.Need-returns
 returns c = search (needs, call-not)
 
--- src/lib.rt:369:16
 add-sort : tie.Need-add-sort
 add-sort c = search needs
 
--- src/lib.rt:369:5
 sort-requires-2 : tie.Need-sort-requires-2
 sort-requires-2 c κs = search needs
 
--- src/lib.rt:362:1
 returns-2 : tie.Need-returns-2
 returns-2 c = search (needs, call-is)
 

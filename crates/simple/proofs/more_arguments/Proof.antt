@@ -1,73 +1,57 @@
 use borrow.Author.Needs.{needs}
+use Prim.Native.Nat.{_-_}
+use native.Mathlib.Omega.{arith}
+use Rattle.simple.proofs.Arguing.{Runs, runs-first, run-room, run-long, run-done, run-asks, run-long-then, run-faulty, run-end, run-on}
 use Rattle.simple.proofs.more_arguments.Statement.{statement}
 use Rattle.simple.proofs.more_arguments.Tie as tie
-use Rattle.simple.proofs.more_arguments.Reads as reads
-use Rattle.simple.proofs.more_arguments.Lts as lts
-use Rattle.simple.proofs.argument.Reads as argument-reads
-use Rattle.simple.proofs.set_word.Reads as set-word-reads
-use Rattle.simple.proofs.sort.Reads as sort-reads
 
 abbrev Inv-loop : tie.InvT-loop
-Inv-loop code₀ values p b parameter₀ end₀ code parameter end = ?
+Inv-loop code₀ values p b parameter₀ end₀ code parameter end = Runs code₀ values code p b parameter end
 
 abbrev μ-loop : tie.MeasureT-loop
-μ-loop code₀ values p b parameter₀ end₀ code parameter end = ?
+μ-loop code₀ values p b parameter₀ end₀ code parameter end = 8192 - end
 
--- src/lib.rt:247:5
 loop-holds : tie.Need-loop-holds Inv-loop μ-loop
-loop-holds c = ?
+loop-holds c = search (needs, runs-first)
 
--- src/lib.rt:247:11
 sort-requires : tie.Need-sort-requires Inv-loop μ-loop
-sort-requires c κs = ?
+sort-requires c κs = run-room _ _ _ _ _ _ _ (c .before .loop .inv) (c .before .before .before .before .pre) .0
 
--- src/lib.rt:248:9
 add-parameter : tie.Need-add-parameter Inv-loop μ-loop
-add-parameter c = ?
+add-parameter c = omega (arith, run-room _ _ _ _ _ _ _ (c .before .before .before .loop .inv) (c .before .before .before .before .before .before .pre) .2)
 
--- src/lib.rt:249:51
 add-argument : tie.Need-add-argument Inv-loop μ-loop
-add-argument c = ?
+add-argument c = omega (arith, run-room _ _ _ _ _ _ _ (c .before .before .before .before .loop .inv) (c .before .before .before .before .before .before .before .pre) .1)
 
--- src/lib.rt:249:13
 argument-requires : tie.Need-argument-requires Inv-loop μ-loop
-argument-requires c κs = ?
+argument-requires c κs = run-asks _ _ _ _ _ _ _ (c .before .before .before .before .loop .inv) _ (c .before .before .sort .ensures) (c .before .if1 .taken) (c .before .before .before .before .before .before .before .pre)
 
--- src/lib.rt:250:30
 enum-known-r : tie.Need-enum-known-r Inv-loop μ-loop
-enum-known-r c = ?
+enum-known-r c = search needs
 
--- src/lib.rt:251:13
 enum-told : tie.Need-enum-told Inv-loop μ-loop
-enum-told c = ?
+enum-told c = search needs
 
--- src/lib.rt:251:13
 same-length : tie.Need-same-length Inv-loop μ-loop
-same-length c = ?
+same-length c = search (needs, run-long-then)
 
--- src/lib.rt:251:13
 returns : tie.Need-returns Inv-loop μ-loop
-returns c = ?
+returns c = search (needs, run-faulty)
 
--- src/lib.rt:253:9
 set-word-requires : tie.Need-set-word-requires Inv-loop μ-loop
-set-word-requires c κs = ?
+set-word-requires c κs = let x = run-end _ _ _ _ _ _ _ (c .before .before .before .before .before .before .before .before .before .before .before .loop .inv) _ (c .before .before .before .before .before .before .before .before .before .sort .ensures) (c .before .before .before .before .before .before .before .before .if1 .taken) _ _ (c .before .before .before .before .before .before .argument .ensures) _ _ (c .before .before .r .given .1) (c .before .before .before .before .before .before .before .before .before .before .before .before .before .before .pre) in (x .2, omega arith, omega arith, omega (arith, x .0))
 
--- src/lib.rt:247:5
 loop-less : tie.Need-loop-less Inv-loop μ-loop
-loop-less c = ?
+loop-less c = let x = run-end _ _ _ _ _ _ _ (c .before .before .before .before .before .before .before .before .before .before .before .before .before .before .loop .inv) _ (c .before .before .before .before .before .before .before .before .before .before .before .before .sort .ensures) (c .before .before .before .before .before .before .before .before .before .before .before .if1 .taken) _ _ (c .before .before .before .before .before .before .before .before .before .argument .ensures) _ _ (c .before .before .before .before .before .r .given .1) (c .before .before .before .before .before .before .before .before .before .before .before .before .before .before .before .before .before .pre) in omega (arith, x .0, x .1)
 
--- src/lib.rt:247:5
 loop-again : tie.Need-loop-again Inv-loop μ-loop
-loop-again c = ?
+loop-again c = search (needs, run-on)
 
--- src/lib.rt:241:1
 same-length-2 : tie.Need-same-length-2 Inv-loop μ-loop
-same-length-2 c = ?
+same-length-2 c = search (needs, run-long)
 
--- src/lib.rt:241:1
 returns-2 : tie.Need-returns-2 Inv-loop μ-loop
-returns-2 c = ?
+returns-2 c = search (needs, run-done)
 
 pub more-arguments-spec : {M : Type 1} → statement M
 more-arguments-spec =

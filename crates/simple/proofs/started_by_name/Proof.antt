@@ -1,55 +1,42 @@
 use borrow.Author.Needs.{needs}
+use mathlib.Core.Path.{refl}
+use Rattle.simple.proofs.Whole.{name-room, name-becomes, name-brace, name-calls, begun-becomes, begun-brace, begun-calls}
+use native.Mathlib.Omega.{arith}
 use Rattle.simple.proofs.started_by_name.Statement.{statement}
 use Rattle.simple.proofs.started_by_name.Tie as tie
-use Rattle.simple.proofs.started_by_name.Reads as reads
-use Rattle.simple.proofs.started_by_name.Lts as lts
-use Rattle.simple.proofs.assignment.Reads as assignment-reads
-use Rattle.simple.proofs.call_of.Reads as call-of-reads
-use Rattle.simple.proofs.sort.Reads as sort-reads
 
--- src/lib.rt:390:24
 add-sort : tie.Need-add-sort
-add-sort c = ?
+add-sort c = omega (arith, name-room _ _ _ _ refl (c .before .before .before .pre) .1)
 
--- src/lib.rt:390:9
 sort-requires : tie.Need-sort-requires
-sort-requires c κs = ?
+sort-requires c κs = name-room _ _ _ _ refl (c .before .before .before .pre) .0
 
--- src/lib.rt:392:9
 assignment-requires : tie.Need-assignment-requires
-assignment-requires c κs = ?
+assignment-requires c κs = name-becomes _ _ _ _ (c .before .before .sort .ensures) (c .before .before .before .before .before .before .pre) (c .before .if1 .taken)
 
--- src/lib.rt:392:9
 same-length : tie.Need-same-length
 same-length c = search needs
 
--- src/lib.rt:392:9
 returns : tie.Need-returns
-returns c = ?
+returns c = search (needs, begun-becomes)
 
--- src/lib.rt:395:9
 assignment-requires-2 : tie.Need-assignment-requires-2
-assignment-requires-2 c κs = ?
+assignment-requires-2 c κs = name-brace _ _ _ _ (c .before .before .before .sort .ensures) (c .before .before .before .before .before .before .before .pre) (c .before .if2 .taken)
 
--- src/lib.rt:395:9
 same-length-2 : tie.Need-same-length-2
 same-length-2 c = search needs
 
--- src/lib.rt:395:9
 returns-2 : tie.Need-returns-2
-returns-2 c = ?
+returns-2 c = search (needs, begun-brace)
 
--- src/lib.rt:397:5
 call-of-requires : tie.Need-call-of-requires
-call-of-requires c κs = ?
+call-of-requires c κs = name-calls _ _ _ _ (c .before .before .before .sort .ensures) (c .before .before .before .before .before .before .before .pre) (c .before .before .if1 .left) (c .before .if2 .left)
 
--- src/lib.rt:386:1
 same-length-3 : tie.Need-same-length-3
 same-length-3 c = search needs
 
--- src/lib.rt:386:1
 returns-3 : tie.Need-returns-3
-returns-3 c = ?
+returns-3 c = search (needs, begun-calls)
 
 pub started-by-name-spec : {M : Type 1} → statement M
 started-by-name-spec =

@@ -1,115 +1,84 @@
 use borrow.Author.Needs.{needs}
+use Rattle.simple.proofs.Whole.{statement-room, begins-by, begins-in, begins-of, begins-read, stated-name, stated-return, stated-raise, stated-write, stated-read}
+use Rattle.simple.proofs.Leaving.{exited, retried, tried-next}
+use native.Mathlib.Omega.{arith}
 use Rattle.simple.proofs.statement.Statement.{statement}
 use Rattle.simple.proofs.statement.Tie as tie
-use Rattle.simple.proofs.statement.Reads as reads
-use Rattle.simple.proofs.statement.Lts as lts
-use Rattle.simple.proofs.raises.Reads as raises-reads
-use Rattle.simple.proofs.reads.Reads as reads-reads
-use Rattle.simple.proofs.returns.Reads as returns-reads
-use Rattle.simple.proofs.sort.Reads as sort-reads
-use Rattle.simple.proofs.started_by_name.Reads as started-by-name-reads
-use Rattle.simple.proofs.word.Reads as word-reads
-use Rattle.simple.proofs.writes.Reads as writes-reads
 
--- src/lib.rt:518:9
 sort-requires : tie.Need-sort-requires
-sort-requires c κs = ?
+sort-requires c κs = statement-room _ _ _ _ _ (c .before .before .before .before .pre) .0
 
--- src/lib.rt:521:24
 started-by-name-requires : tie.Need-started-by-name-requires
-started-by-name-requires c κs = ?
+started-by-name-requires c κs = begins-by _ _ _ _ _ _ (c .before .before .sort .ensures) 1 (c .before .match .keys1) (c .before .before .before .before .before .before .before .pre)
 
--- src/lib.rt:522:26
 returns-requires : tie.Need-returns-requires
-returns-requires c κs = ?
+returns-requires c κs = begins-in _ _ _ _ _ _ (c .before .before .sort .ensures) 74 (c .before .match .keys2) (c .before .before .before .before .before .before .before .pre)
 
--- src/lib.rt:523:25
 raises-requires : tie.Need-raises-requires
-raises-requires c κs = ?
+raises-requires c κs = begins-in _ _ _ _ _ _ (c .before .before .sort .ensures) 70 (c .before .match .keys3) (c .before .before .before .before .before .before .before .pre)
 
--- src/lib.rt:524:24
 word-requires : tie.Need-word-requires
-word-requires c κs = ?
+word-requires c κs = let x = statement-room _ _ _ _ _ (c .before .before .before .before .before .before .before .pre) in (x .0, omega arith, x .1)
 
--- src/lib.rt:525:25
 word-requires-2 : tie.Need-word-requires-2
-word-requires-2 c κs = ?
+word-requires-2 c κs = let x = statement-room _ _ _ _ _ (c .before .before .before .before .before .before .before .pre) in (x .0, omega arith, x .1)
 
--- src/lib.rt:526:27
 word-requires-3 : tie.Need-word-requires-3
-word-requires-3 c κs = ?
+word-requires-3 c κs = let x = statement-room _ _ _ _ _ (c .before .before .before .before .before .before .before .pre) in (x .0, omega arith, x .1)
 
--- src/lib.rt:527:27
 writes-requires : tie.Need-writes-requires
-writes-requires c κs = ?
+writes-requires c κs = begins-of _ _ _ _ _ _ (c .before .before .sort .ensures) 91 (c .before .match .keys7) (c .before .before .before .before .before .before .before .pre)
 
--- src/lib.rt:528:14
 reads-requires : tie.Need-reads-requires
-reads-requires c κs = ?
+reads-requires c κs = begins-read _ _ _ _ _ _ (c .before .before .sort .ensures) (c .before .match .rest .0 .0 .0 .0 .0 .0 .1) (c .before .match .rest .0 .0 .0 .0 .0 .1) (c .before .match .rest .0 .0 .0 .0 .1) (c .before .match .rest .0 .0 .0 .1) (c .before .match .rest .0 .0 .1) (c .before .match .rest .0 .1) (c .before .match .rest .1) (c .before .before .before .before .before .before .before .pre)
 
--- src/lib.rt:514:1
 same-length : tie.Need-same-length
 same-length c = search needs
 
--- src/lib.rt:514:1
 returns : tie.Need-returns
-returns c = ?
+returns c = search (needs, stated-name)
 
--- src/lib.rt:514:1
 same-length-2 : tie.Need-same-length-2
 same-length-2 c = search needs
 
--- src/lib.rt:514:1
 returns-2 : tie.Need-returns-2
-returns-2 c = ?
+returns-2 c = search (needs, stated-return)
 
--- src/lib.rt:514:1
 same-length-3 : tie.Need-same-length-3
 same-length-3 c = search needs
 
--- src/lib.rt:514:1
 returns-3 : tie.Need-returns-3
-returns-3 c = ?
+returns-3 c = search (needs, stated-raise)
 
--- src/lib.rt:514:1
 same-length-4 : tie.Need-same-length-4
 same-length-4 c = search needs
 
--- src/lib.rt:514:1
 returns-4 : tie.Need-returns-4
-returns-4 c = ?
+returns-4 c = search (needs, exited)
 
--- src/lib.rt:514:1
 same-length-5 : tie.Need-same-length-5
 same-length-5 c = search needs
 
--- src/lib.rt:514:1
 returns-5 : tie.Need-returns-5
-returns-5 c = ?
+returns-5 c = search (needs, retried)
 
--- src/lib.rt:514:1
 same-length-6 : tie.Need-same-length-6
 same-length-6 c = search needs
 
--- src/lib.rt:514:1
 returns-6 : tie.Need-returns-6
-returns-6 c = ?
+returns-6 c = search (needs, tried-next)
 
--- src/lib.rt:514:1
 same-length-7 : tie.Need-same-length-7
 same-length-7 c = search needs
 
--- src/lib.rt:514:1
 returns-7 : tie.Need-returns-7
-returns-7 c = ?
+returns-7 c = search (needs, stated-write)
 
--- src/lib.rt:514:1
 same-length-8 : tie.Need-same-length-8
 same-length-8 c = search needs
 
--- src/lib.rt:514:1
 returns-8 : tie.Need-returns-8
-returns-8 c = ?
+returns-8 c = search (needs, stated-read)
 
 pub statement-spec : {M : Type 1} → statement M
 statement-spec =

@@ -1,0 +1,138 @@
+-- What the name of a callee means.
+use mathlib.Core.Path.{_≡_, sym, ap, subst, _∙_}
+use mathlib.Core.Bool.{Bool, true, false}
+use mathlib.Core.List.{List}
+use mathlib.Core.Option.{Option, none, some}
+use Prim.Native.Nat.{ℕ, _+_, _*_, _/_, _%_, _<_, _≤_}
+use native.Mathlib.Omega.{arith}
+use lib.Dec.{eqb}
+use lib.ListN.{length, getD}
+use borrow.Author.Tests.{eq-eqb, ne-eqb}
+use Rattle.laws.proofs.Tests.{test, false-true}
+use Rattle.paper.specs.Sorts.{FUNC}
+use Rattle.paper.specs.Names.{DataType, Meaning, unknown, variable, array, constant, loop, theRoutine, theErrno, errorNumber, routineIn, wrongName, spelled, meaning, sortIn}
+use Rattle.paper.specs.Types.{fault}
+use Rattle.paper.specs.Declarations.{Signature}
+use Rattle.paper.specs.Checks.{noSignature, isOtherKind, signatureFaults, calleeFaults, signatureOf}
+use Rattle.cells.specs.Words.{wordsOf}
+use Rattle.code.specs.Cells.{opAt}
+use Rattle.code.specs.Steps.{numbered}
+use Rattle.code.specs.Signatures.{typeAt, resultAt}
+use Rattle.names.specs.Meanings.{firstMeaning, meaningWith, meaningIn}
+use Rattle.names.specs.Promises.{meaningAt}
+use Rattle.expressions.specs.Known.{Fresh}
+use Rattle.expressions.specs.Known as expressions
+use Rattle.simple.specs.declared.Callee.the-variants.{At, Wrong}
+use Rattle.simple.specs.Parts.{WrongName, Callees, CalleeWrong, CalleeSays, CalleeTold}
+use Rattle.simple.proofs.Callees.{Known, known}
+use Rattle.simple.proofs.Arguing.{apart-same}
+
+-- ---- a name by its cell
+pub name-means : {values : List ℕ} (k : expressions.Known values) (code : List ℕ) (i m : ℕ) → sortIn (k .W) i ≡ 1 → Fresh (k .W) (wordsOf code) i → m ≡ meaningAt (wordsOf code) (wordsOf values) i
+    → meaningIn (k .routine) m ≡ meaning (k .S) (spelled (k .W) i)
+name-means {values} k code i m n f e =
+    ap (meaningIn (k .routine)) (e ∙ ap (λ (x : ℕ). getD (wordsOf values) (firstMeaning + x) 0) (f .number n)) ∙ k .means .means i n
+
+no-routine : (routine : ℕ → ℕ) (kind bool own value : ℕ) → (kind ≡ 5 → ⊥) → routineIn (meaningWith routine kind bool own value) ≡ none
+unfolding meaningWith routineIn
+no-routine routine kind bool own value d =
+    test (eqb kind 1) (λ t. rw (t, meaningWith))
+    (λ a. test (eqb kind 2) (λ t. rw (a, meaningWith) (rw t))
+    (λ b. test (eqb kind 3) (λ t. rw (a, meaningWith) (rw b (rw t)))
+    (λ c. test (eqb kind 4) (λ t. rw (a, meaningWith) (rw b (rw c (rw t))))
+    (λ e. test (eqb kind 6) (λ t. rw (a, meaningWith) (rw b (rw c (rw e (rw (ne-eqb kind 5 d) (rw t))))))
+    (λ f. test (eqb kind 7) (λ t. rw (a, meaningWith) (rw b (rw c (rw e (rw (ne-eqb kind 5 d) (rw f (rw t)))))))
+    (λ g. rw (a, meaningWith) (rw b (rw c (rw e (rw (ne-eqb kind 5 d) (rw f (rw g))))))))))))
+
+wrong-low : (m : Meaning) → wrongName m ≤ 12
+unfolding wrongName
+wrong-low unknown = omega arith
+wrong-low (variable t r) = omega arith
+wrong-low (array t r n) = omega arith
+wrong-low (constant t r) = omega arith
+wrong-low (loop r) = omega arith
+wrong-low (theRoutine k) = omega arith
+wrong-low theErrno = omega arith
+wrong-low (errorNumber n) = omega arith
+
+same-kind : (function : Bool) (o : Option DataType) → function ≡ true → o ≡ none → isOtherKind function o ≡ true
+unfolding isOtherKind
+same-kind function o e f = rw (e, f)
+
+some-kind : (function : Bool) (t : DataType) (o : Option DataType) → function ≡ false → o ≡ some t → isOtherKind function o ≡ true
+unfolding isOtherKind
+some-kind function t o e f = rw (e, f)
+
+module _ (code values : List ℕ) (function : Bool) (i m : ℕ) (em : m ≡ meaningAt (wordsOf code) (wordsOf values) i) where
+  module _ (g : Callees code values i) where
+    means : meaningWith (g .around .known .routine) (m % 256 / 4) (m / 2 % 2) (m % 2) (m / 256) ≡ meaning (g .around .known .S) (spelled (g .around .known .W) i)
+    unfolding meaningIn
+    means = name-means (g .around .known) code i m (g .name) (g .fresh) em
+
+    wrong-says : (number : ℕ) → (m % 256 / 4 ≡ 5 → ⊥) → WrongName (m % 256 / 4) number
+        → CalleeWrong (g .around .known .W) (g .around .K) (meaning (g .around .known .S) (spelled (g .around .known .W) i)) function i number
+    unfolding calleeFaults signatureOf noSignature
+    wrong-says number d w =
+        let q : routineIn (meaning (g .around .known .S) (spelled (g .around .known .W) i)) ≡ none =
+        ap routineIn (sym means) ∙ no-routine (g .around .known .routine) (m % 256 / 4) (m / 2 % 2) (m % 2) (m / 256) d in
+        let n : wrongName (meaning (g .around .known .S) (spelled (g .around .known .W) i)) ≡ number = ap wrongName (sym means) ∙ w .is (g .around .known .routine) (m / 2 % 2) (m % 2) (m / 256) in
+        record {
+          is = λ es. rw (q, calleeFaults) (ap (λ (x : ℕ). fault x i) n);
+          low = subst (λ (x : ℕ). x ≤ 12) n (wrong-low (meaning (g .around .known .S) (spelled (g .around .known .W) i)));
+          no-result = λ _. rw (q, signatureOf);
+        }
+
+    module _ (is : m % 256 / 4 ≡ 5) where
+      routine-means : meaning (g .around .known .S) (spelled (g .around .known .W) i) ≡ theRoutine (numbered (g .around .R) (m / 256))
+      unfolding meaningWith
+      routine-means = sym means ∙ rw is (ap theRoutine (g .around .numbers (m / 256)))
+
+      among : numbered (g .around .R) (m / 256) < length (g .around .R)
+      among = g .around .callable i (numbered (g .around .R) (m / 256)) (g .name) routine-means
+
+      callee-known : Known (wordsOf code) (g .around .R) (g .around .K .routines) (m / 256)
+      callee-known = known (wordsOf code) (g .around .R) (g .around .K .routines) (m / 256) (g .calls .heads (wordsOf code) (apart-same (wordsOf code) i (g .to))) among
+
+      pub callee-room : m / 256 * 8 + 8 ≤ length code
+      callee-room = omega (arith, callee-known .low, callee-known .inside, g .calls .room)
+
+      found-says : eqb (opAt (wordsOf code) (m / 256)) FUNC ≡ function → CalleeSays (g .around) code function i (At (m / 256))
+      unfolding CalleeSays
+      found-says k = record { means = routine-means; among = among; kind = k }
+
+      -- a routine of the other kind
+      other-says : isOtherKind function (resultAt (wordsOf code) (m / 256)) ≡ true → (function ≡ true → resultAt (wordsOf code) (m / 256) ≡ none) → CalleeSays (g .around) code function i (Wrong 12)
+      unfolding CalleeSays calleeFaults signatureFaults signatureOf routineIn
+      other-says k z =
+          let sig : Signature = getD (g .around .K .routines) (numbered (g .around .R) (m / 256)) noSignature in
+          let o : isOtherKind function (sig .result) ≡ true = ap (isOtherKind function) (callee-known .result) ∙ k in
+          record {
+            is = λ es. rw (routine-means, calleeFaults) (rw (o, signatureFaults));
+            low = omega arith;
+            no-result = λ e. rw (routine-means, signatureOf) (callee-known .result ∙ z e);
+          }
+
+  pub callee-wrong : (number : ℕ) → (m % 256 / 4 ≡ 5 → ⊥) → WrongName (m % 256 / 4) number → CalleeTold code values function i (Wrong number)
+  unfolding CalleeSays
+  callee-wrong number d w = record { is = λ g. wrong-says g number d w }
+
+  module _ (is : m % 256 / 4 ≡ 5) (s : ℕ) (es : s ≡ opAt (wordsOf code) (m / 256)) where
+    func-result : s ≡ 57 → resultAt (wordsOf code) (m / 256) ≡ some (typeAt (wordsOf code) (m / 256 + 1))
+    unfolding resultAt
+    func-result f = rw (eq-eqb (opAt (wordsOf code) (m / 256)) FUNC (sym es ∙ f), resultAt)
+
+    proc-result : (s ≡ 57 → ⊥) → resultAt (wordsOf code) (m / 256) ≡ none
+    unfolding resultAt
+    proc-result f = rw (ne-eqb (opAt (wordsOf code) (m / 256)) FUNC (λ q. f (es ∙ q)), resultAt)
+
+    pub callee-no-func : function ≡ true → (s ≡ 57 → ⊥) → CalleeTold code values function i (Wrong 12)
+    callee-no-func t f = record { is = λ g. other-says g is (same-kind function _ t (proc-result f)) (λ _. proc-result f) }
+
+    pub callee-func : function ≡ true → s ≡ 57 → CalleeTold code values function i (At (m / 256))
+    callee-func t f = record { is = λ g. found-says g is (eq-eqb (opAt (wordsOf code) (m / 256)) FUNC (sym es ∙ f) ∙ sym t) }
+
+    pub callee-no-proc : function ≡ false → s ≡ 57 → CalleeTold code values function i (Wrong 12)
+    callee-no-proc t f = record { is = λ g. other-says g is (some-kind function _ _ t (func-result f)) (λ e. false-true (sym t ∙ e)) }
+
+    pub callee-proc : function ≡ false → (s ≡ 57 → ⊥) → CalleeTold code values function i (At (m / 256))
+    callee-proc t f = record { is = λ g. found-says g is (ne-eqb (opAt (wordsOf code) (m / 256)) FUNC (λ q. f (es ∙ q)) ∙ sym t) }
