@@ -34,6 +34,7 @@ use Rattle.declarations.specs.Sites.{aRoutine, filling, scopesOf, Filled}
 use Rattle.declarations.specs.Chains as chains
 use Rattle.declarations.specs.Answers.{outerOf, firstOf, nameOf, nameWords, KeepsAll, MeansBut, DeclaresParameters, DeclaresRoutine, Leaving, Leaves}
 use Rattle.statements.specs.declared.Walked as statements
+use Rattle.statements.specs.Answers.{SameValues}
 use Rattle.statements.specs.declared.Walked.the-variants as walked
 use Rattle.program.specs.Chains.{Chain, Rise, startsIn}
 use Rattle.program.specs.Routines.{wordsInAll, RawLines, RawHandler, RawRoutine}
@@ -43,7 +44,7 @@ use Rattle.routines.specs.declared.Walked.{Walked}
 use Rattle.routines.specs.declared.Walked.the-variants.{Upto, Faulty}
 use Rattle.routines.specs.Answers.{groundOf, ModuleFilled, Spares, Begins, Goes}
 use Rattle.routines.specs.Parts.{Finishes, Inside, groundIn, ListsStand, ListsDone, SaysLists, Lists, ScopeStands, SaysScope, Scoped}
-use Rattle.routines.proofs.Filling.{routine-left}
+use Rattle.routines.proofs.Filling.{filled-same, routine-left}
 use Rattle.routines.proofs.Parting.{spelled-apart, keeps-parameters, keeps-data, rise-out, rise-far, chain-out, chain-in, starts-same, handler-moves}
 use Rattle.routines.proofs.Entering.{Order, order, parameters-stand, parameters-faulty, Entered, entered, data-stand, data-faulty, Declared, declared, low₂, high₂, type₂, spares-from, inside, lists-stand}
 
@@ -116,7 +117,7 @@ module _ (text code values : List ℕ) (result h name : ℕ) (g : ScopeStands te
       pub handler : RawHandler (groundOf text W m) (wordsOf code₃) m r (r .handler) (h + 1)
       pub below : (i : ℕ) → i < at * 2 → (i ≡ h * 2 + 3 → ⊥) → getD (wordsOf code₃) i 0 ≡ getD (wordsOf code₂) i 0
       pub above : (i : ℕ) → to * 2 ≤ i → getD (wordsOf code₃) i 0 ≡ getD (wordsOf code₂) i 0
-      pub same : values₃ ≡ values₂
+      pub same : SameValues values₂ values₃
 
     pub listed : Listed
     unfolding scope-lists lists-stand inside
@@ -195,7 +196,7 @@ module _ (text code values : List ℕ) (result h name : ℕ) (g : ScopeStands te
       }
         where
           table : Filled W (numbered R) (aRoutine m) (routineData W m r) values₃
-          table = subst (Filled W (numbered R) (aRoutine m) (routineData W m r)) (sym (listed .same)) (d .filled)
+          table = filled-same W (numbered R) (aRoutine m) (routineData W m r) values₂ values₃ (listed .same) (d .filled)
 
       pub leaving : Leaving code₄ values₃ (name + 2) count h
       leaving =
@@ -209,7 +210,7 @@ module _ (text code values : List ℕ) (result h name : ℕ) (g : ScopeStands te
             ds = ds;
             end = name + 1;
             code-room = omega (arith, g .begins .room);
-            table = subst (λ (v : List ℕ). storeBytes ≤ length v) (sym (listed .same)) (d .filled .table);
+            table = omega (arith, listed .same .long, d .filled .table);
             near = omega arith;
             before = omega arith;
             rises = rise-far h (form .begin) 8192 ds (omega arith) (d .rises);
@@ -272,4 +273,4 @@ module _ (text code values : List ℕ) (result h name : ℕ) (g : ScopeStands te
       }
         where
           table : Filled W (numbered R) (aRoutine m) (routineData W m r) values₃
-          table = subst (Filled W (numbered R) (aRoutine m) (routineData W m r)) (sym (listed .same)) (d .filled)
+          table = filled-same W (numbered R) (aRoutine m) (routineData W m r) values₂ values₃ (listed .same) (d .filled)

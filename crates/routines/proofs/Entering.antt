@@ -111,6 +111,7 @@ module _ (text code values : List ℕ) (result h name : ℕ) where
       loaded = let o = order in record {
         words = λ i x y. b .unread .loaded .words i (omega arith) (omega arith);
         last = omega arith;
+        whole = b .unread .loaded .whole;
         room = omega arith;
       };
     }
@@ -163,6 +164,7 @@ module _ (text code values : List ℕ) (result h name : ℕ) where
         loaded = record {
           words = λ i x y. fresh-on W (wordsOf code) (wordsOf code₁) i (high₁ (i * 2) (omega arith)) (b .unread .loaded .words i (omega arith) (omega arith));
           last = omega arith;
+          whole = ap (λ (x : ℕ). x % 8) long₁ ∙ b .unread .loaded .whole;
           room = omega arith;
         };
       }
@@ -239,6 +241,7 @@ module _ (text code values : List ℕ) (result h name : ℕ) where
             loaded = record {
               words = λ i x y. fresh-on W (wordsOf code) (wordsOf code₂) i (high₂ (i * 2) (omega arith)) (b .unread .loaded .words i (omega arith) y);
               last = omega arith;
+              whole = ap (λ (x : ℕ). x % 8) long₂ ∙ b .unread .loaded .whole;
               room = omega arith;
             };
             strings = λ i x y z. ap valueIn (high₂ (i * 2) (omega arith)) ∙ b .unread .strings i (omega arith) y z;

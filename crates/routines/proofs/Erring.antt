@@ -208,7 +208,7 @@ module _ (text code values : List ℕ) (result used e leads : ℕ) where
           errors = no-lines _ _ _ _ _ (missing g z .0);
         };
         outside = outside-wider e (g .inside .stands .to) (omega arith) (omega (arith, closes-inside g, g .inside .stands .form .after)) (outside-kept code mid e (e + 1) (c .kept));
-        same = refl;
+        same = record { words = refl; long = refl };
       };
       long = c .kept .long;
     };

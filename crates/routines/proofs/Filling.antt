@@ -21,7 +21,8 @@ use Rattle.names.specs.Promises.{storeBytes}
 use Rattle.expressions.specs.Known.{largest, InRoom, Within}
 use Rattle.constants.specs.Answers.{cellOf, Worth, Fine}
 use Rattle.heads.specs.Trees.{headsFor}
-use Rattle.declarations.specs.Sites.{theModule, aRoutine, filling, ownOf, scopesOf, memoryOf, Among, Elements, Steady, Placed, isOwn, owned, Owns, Filled}
+use Rattle.statements.specs.Answers.{SameValues}
+use Rattle.declarations.specs.Sites.{Site, theModule, aRoutine, filling, ownOf, scopesOf, memoryOf, Among, Elements, Steady, Placed, isOwn, owned, Owns, Filled}
 use Rattle.declarations.specs.Answers.{SameWords}
 use Rattle.routines.specs.Answers.{ModuleFilled}
 
@@ -76,6 +77,20 @@ fine-placed M X c q (loop r) h p = record {}
 fine-placed M X c q (theRoutine k) h p = p
 fine-placed M X c q theErrno h p = p
 fine-placed M X c q (errorNumber k) h p = p
+
+-- ---- cells that are as they were
+pub filled-same : (W : List Word) (routine : ℕ → ℕ) (s : Site) (D : Data) (values values′ : List ℕ) → SameValues values values′ → Filled W routine s D values → Filled W routine s D values′
+filled-same W routine s D values values′ q f = record {
+  table = omega (arith, q .long, f .table);
+  means = subst (Means routine W (scopesOf W s D)) (sym (q .words)) (f .means);
+  owns = f .owns;
+  placed = f .placed;
+  cells = λ r a. ap (λ (X : List ℕ). toZ w32 (getD X (cellOf r) 0)) (q .words) ∙ f .cells r a;
+  most = f .most;
+  window = f .window;
+  errno = ap (λ (X : List ℕ). getD X errnoCell 0) (q .words) ∙ f .errno;
+  small = f .small;
+}
 
 -- ---- entering a routine
 module _ (W : List Word) (m : Module) where

@@ -84,6 +84,7 @@ module _ {text values : List ℕ} {k h : ℕ} (s : Inside text values k h) where
             record { sort = ap opIn e ∙ z .sort; value = λ n. ap valueIn e ∙ z .value n; number = λ n. ap (λ (w : ℕ). valueIn w % 8192) e ∙ z .number n };
         last = o .unread .loaded .last;
         room = omega (arith, o .unread .loaded .room);
+        whole = ap (λ (x : ℕ). x % 8) long ∙ o .unread .loaded .whole;
       };
       strings = λ i x y z. ap valueIn (q .above (i * 2) (omega arith)) ∙ o .unread .strings i (omega arith) y z;
       places = λ i x y. ap placeIn (q .above (i * 2 + 1) (omega arith)) ∙ o .unread .places i (omega arith) y;

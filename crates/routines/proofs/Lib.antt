@@ -9,3 +9,4 @@ pub mod Parting
 pub mod Entering
 pub mod Departing
 pub mod Whole
+pub mod Routing

@@ -35,7 +35,8 @@ use Rattle.declarations.specs.Sites.{aRoutine, filling, Filled}
 use Rattle.simple.specs.Around.{offsetIn, resultIf, Tells}
 use Rattle.statements.specs.declared.Walked.{Walked}
 use Rattle.statements.specs.declared.Walked.the-variants.{Upto, Faulty}
-use Rattle.statements.specs.Answers.{Outside, Lists, Listed, Tell, Answer}
+use Rattle.routines.proofs.Filling.{filled-same}
+use Rattle.statements.specs.Answers.{SameValues, Outside, Lists, Listed, Tell, Answer}
 use Rattle.program.specs.Routines as program
 use Rattle.program.specs.Routines.{wordsOfData, wordsInAll, groundFor, RawLines, RawHandler}
 use Rattle.program.proofs.Orders.{lies}
@@ -147,7 +148,7 @@ module _ (text code values : List ℕ) (result taken h at : ℕ) where
       unfolding Tell
       outside₁ = first .outside
 
-      same₁ : values₁ ≡ values
+      same₁ : SameValues values values₁
       unfolding Tell
       same₁ = first .same
 
@@ -157,7 +158,7 @@ module _ (text code values : List ℕ) (result taken h at : ℕ) where
       inside₁ : Inside text values₁ (g .k) h
       inside₁ = record {
         stands = s .stands;
-        filled = subst (Filled W (numbered (headsFor (m .routines))) (aRoutine m) (routineData W m r)) (sym same₁) (s .filled);
+        filled = filled-same W (numbered (headsFor (m .routines))) (aRoutine m) (routineData W m r) values values₁ same₁ (s .filled);
         none = s .none;
         fits = s .fits;
       }
@@ -255,18 +256,19 @@ module _ (text code values : List ℕ) (result taken h at : ℕ) where
               handler = handler;
               below = λ i a d. cell₃ i d ∙ outside₂ .below i (omega (arith, begin-before)) ∙ outside₁ .below i a;
               above = λ i a. cell₃ i (λ w. omega (arith, before-all, begin-before, closes-inside, after-is)) ∙ outside₂ .above i a ∙ outside₁ .above i (omega (arith, closes-inside, after-is));
-              same = both .same ∙ same₁;
+              same = record { words = both .same .words ∙ same₁ .words; long = both .same .long ∙ same₁ .long };
             }
-
 
   -- ---- answers
   module _ (code₁ values₁ : List ℕ) (x : Walked) (l : Listed text code values code₁ values₁ (record { result = result; handler = false }) taken at x) where
     pub first-faulty : (number word : ℕ) → x ≡ Faulty number word → parts.Lists text code values code₁ values₁ result taken h at x
     unfolding SaysLists Tell
-    first-faulty number word q = record { is = λ g.
-      subst (SaysLists g code₁ values₁) (sym q)
-      (found-in-body (W g) (m g) (sigs g) (g .k) (s g .stands .form) (s g .none)
-      (subst (First (record { number = number; at = word })) (body-faults g) (answered g code₁ values₁ (Faulty number word) (subst (L g code₁ values₁) q l) .tells))) }
+    first-faulty number word q = record {
+      is = λ g.
+          subst (SaysLists g code₁ values₁) (sym q)
+          (found-in-body (W g) (m g) (sigs g) (g .k) (s g .stands .form) (s g .none)
+          (subst (First (record { number = number; at = word })) (body-faults g) (answered g code₁ values₁ (Faulty number word) (subst (L g code₁ values₁) q l) .tells)));
+    }
 
     module _ (e n : ℕ) (q : x ≡ Upto e n) where
       pub e-room : ListsStand text code values result taken h at → e * 8 + 8 ≤ length code₁
@@ -282,10 +284,12 @@ module _ (text code values : List ℕ) (result taken h at : ℕ) where
         module _ (code₂ values₂ : List ℕ) (y : Walked) (x₂ : Errors text code₁ values₁ code₂ values₂ result n e leads y) where
           pub second-faulty : (number word : ℕ) → y ≡ Faulty number word → parts.Lists text code values code₂ values₂ result taken h at y
           unfolding SaysLists Tell
-          second-faulty number word p = record { is = λ g.
-            let l′ = subst (L g code₁ values₁) q l in
-            let f = second g code₁ values₁ e n l′ leads t code₂ values₂ (Faulty number word) (subst (Errors text code₁ values₁ code₂ values₂ result n e leads) p x₂) in
-            subst (SaysLists g code₂ values₂) (sym p) (found-in-handler (W g) (m g) (sigs g) (g .k) (s g .stands .form) (s g .none) (body-none g code₁ values₁ e n l′ leads t code₂ values₂ y x₂) (f .tells)) }
+          second-faulty number word p = record {
+            is = λ g.
+                let l′ = subst (L g code₁ values₁) q l in
+                let f = second g code₁ values₁ e n l′ leads t code₂ values₂ (Faulty number word) (subst (Errors text code₁ values₁ code₂ values₂ result n e leads) p x₂) in
+                subst (SaysLists g code₂ values₂) (sym p) (found-in-handler (W g) (m g) (sigs g) (g .k) (s g .stands .form) (s g .none) (body-none g code₁ values₁ e n l′ leads t code₂ values₂ y x₂) (f .tells));
+          }
 
           module _ (z used : ℕ) (p : y ≡ Upto z used) where
             pub link-room : ListsStand text code values result taken h at → length code₂ ≡ length code → (h + 1) * 8 + 8 ≤ length code₂

@@ -61,6 +61,7 @@ module _ (routine : ℕ → ℕ) (W : List Word) (s : Site) (C D : List ℕ) whe
   keeps-name : (i : ℕ) → headAt D i ≡ headAt C i → tailAt D i ≡ tailAt C i → KeepsName routine W s C i → KeepsName routine W s D i
   keeps-name i h t k = record {
     name = k .name;
+    near = k .near;
     keeps = record {
       number = ap linkIn t ∙ k .keeps .number;
       means = ap (meaningIn routine) h ∙ k .keeps .means;
@@ -73,11 +74,12 @@ module _ (routine : ℕ → ℕ) (W : List Word) (s : Site) (C D : List ℕ) whe
   unfolding KeepsAll nameWords
   keeps-parameters first zero h t k = k
   keeps-parameters first (suc n) h t k =
-      let z : first + 3 * 0 + 1 ≡ first + 1 = omega arith in
-      (keeps-name (first + 1) (subst (λ (i : ℕ). headAt D i ≡ headAt C i) z (h 0 (omega arith))) (subst (λ (i : ℕ). tailAt D i ≡ tailAt C i) z (t 0 (omega arith))) (k .0),
-      keeps-parameters (first + 3) n
-      (λ j l. let e : first + 3 * suc j + 1 ≡ first + 3 + 3 * j + 1 = omega arith in subst (λ (i : ℕ). headAt D i ≡ headAt C i) e (h (suc j) (omega arith)))
-      (λ j l. let e : first + 3 * suc j + 1 ≡ first + 3 + 3 * j + 1 = omega arith in subst (λ (i : ℕ). tailAt D i ≡ tailAt C i) e (t (suc j) (omega arith))) (k .1))
+      let z : first + 3 * 0 + 1 ≡ first + 1 = omega arith in (
+        keeps-name (first + 1) (subst (λ (i : ℕ). headAt D i ≡ headAt C i) z (h 0 (omega arith))) (subst (λ (i : ℕ). tailAt D i ≡ tailAt C i) z (t 0 (omega arith))) (k .0),
+        keeps-parameters (first + 3) n
+            (λ j l. let e : first + 3 * suc j + 1 ≡ first + 3 + 3 * j + 1 = omega arith in subst (λ (i : ℕ). headAt D i ≡ headAt C i) e (h (suc j) (omega arith)))
+            (λ j l. let e : first + 3 * suc j + 1 ≡ first + 3 + 3 * j + 1 = omega arith in subst (λ (i : ℕ). tailAt D i ≡ tailAt C i) e (t (suc j) (omega arith))) (k .1),
+      )
 
   pub keeps-data : {ds : List Declared} {at to : ℕ} → DeclarationsAt (sortIn W) (Parses (sortIn W)) ds at to → ((i : ℕ) → at ≤ i → i < to → headAt D i ≡ headAt C i)
       → ((i : ℕ) → at ≤ i → i < to → tailAt D i ≡ tailAt C i) → KeepsAll routine W s C (map nameOf (map firstOf ds)) → KeepsAll routine W s D (map nameOf (map firstOf ds))
@@ -88,9 +90,10 @@ module _ (routine : ℕ → ℕ) (W : List Word) (s : Site) (C D : List ℕ) whe
       let long : at + 3 ≤ one .end = content-grows (sortIn W) (Parses (sortIn W)) (grows W) (one .content) in
       let behind : at + 4 ≤ n = omega (arith, one .after) in
       let low : at ≤ nameOf (firstOf x) = name-place x at (one .named) .0 in
-      let high : nameOf (firstOf x) < at + 3 = name-place x at (one .named) .1 in
-      (keeps-name (nameOf (firstOf x)) (h (nameOf (firstOf x)) low (omega arith)) (t (nameOf (firstOf x)) low (omega arith)) (k .0),
-      keeps-data more (λ i a b. h i (omega arith) b) (λ i a b. t i (omega arith) b) (k .1))
+      let high : nameOf (firstOf x) < at + 3 = name-place x at (one .named) .1 in (
+        keeps-name (nameOf (firstOf x)) (h (nameOf (firstOf x)) low (omega arith)) (t (nameOf (firstOf x)) low (omega arith)) (k .0),
+        keeps-data more (λ i a b. h i (omega arith) b) (λ i a b. t i (omega arith) b) (k .1),
+      )
 
 -- ---- chains of data, as the crates declarations and program state them
 pub rise-out : (b to : ℕ) (ds : List ℕ) → own.Rise b to ds → Rise b to ds

@@ -118,6 +118,7 @@ module _ {text values : List ℕ} {k h : ℕ} (s : Inside text values k h) where
           words = λ i x y. o .unread .loaded .words i (omega arith) (omega arith);
           last = omega (arith, o .unread .loaded .last);
           room = omega (arith, o .unread .loaded .room);
+          whole = o .unread .loaded .whole;
         };
         strings = λ i x y z. o .unread .strings i (omega arith) (omega arith) z;
         places = λ i x y. o .unread .places i (omega arith) (omega arith);

@@ -90,6 +90,8 @@ module _ (text code values : List ℕ) (result h name : ℕ) where
 
                 pub scope-done : (values₄ : List ℕ) → Leaves code₄ values₃ values₄ (name + 2) count h → length values₄ ≡ length values₃ → Scoped text code values code₄ values₄ result h name (Upto next)
                 unfolding SaysScope
-                scope-done values₄ x same = record { is = λ g.
-                  goes text code values result h name g code₁ values₁ close count (subst P q₁ y₁) long₁ code₂ values₂ at taken (subst Q q₂ y₂) long₂ code₃ values₃ next used (subst L q₃ y₃)
-                  code₄ (used - taken) f refl long₄ values₄ same x }
+                scope-done values₄ x same = record {
+                  is = λ g.
+                      goes text code values result h name g code₁ values₁ close count (subst P q₁ y₁) long₁ code₂ values₂ at taken (subst Q q₂ y₂) long₂ code₃ values₃ next used (subst L q₃ y₃)
+                      code₄ (used - taken) f refl long₄ values₄ same x;
+                }

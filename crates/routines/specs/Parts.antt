@@ -29,7 +29,7 @@ use Rattle.declarations.specs.Sites.{aRoutine, Filled}
 use Rattle.simple.specs.Around.{Unread, Apart, resultIf}
 use Rattle.statements.specs.declared.Walked as statements
 use Rattle.statements.specs.declared.Walked.the-variants as walked
-use Rattle.statements.specs.Answers.{Answer}
+use Rattle.statements.specs.Answers.{SameValues, Answer}
 use Rattle.program.specs.Routines.{wordsOfData, RawLines, RawHandler}
 use Rattle.routines.specs.declared.Walked.{Walked}
 use Rattle.routines.specs.declared.Walked.the-variants.{Upto, Faulty}
@@ -145,7 +145,7 @@ pub record ListsDone {text code values : List ℕ} {result data-words h at : ℕ
   -- nothing before them has changed but the link of the routine's second word
   pub below : (i : ℕ) → i < at * 2 → (i ≡ h * 2 + 3 → ⊥) → getD (wordsOf code′) i 0 ≡ getD (wordsOf code) i 0
   pub above : (i : ℕ) → s .inside .stands .to * 2 ≤ i → getD (wordsOf code′) i 0 ≡ getD (wordsOf code) i 0
-  pub same : values′ ≡ values
+  pub same : SameValues values values′
 
 unfoldable pub SaysLists : {text code values : List ℕ} {result data-words h at : ℕ} (s : ListsStand text code values result data-words h at) (code′ values′ : List ℕ) → statements.Walked → Type 0
 SaysLists s code′ values′ (walked.Upto next used) = ListsDone s code′ values′ next used

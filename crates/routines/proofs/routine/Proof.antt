@@ -1,4 +1,7 @@
 use borrow.Author.Needs.{needs}
+use borrow.Author.Tests.{not-true, not-false}
+use mathlib.Core.Path.{sym, _∙_}
+use Rattle.routines.proofs.Routing.{head-room, head-small, name-room, routine-taken, routine-many, routine-scope, routine-done}
 use Rattle.routines.proofs.routine.Statement.{statement}
 use Rattle.routines.proofs.routine.Tie as tie
 use Rattle.routines.proofs.routine.Reads as reads
@@ -11,15 +14,15 @@ use Rattle.routines.proofs.scope.Reads as scope-reads
 
 -- src/lib.rt:222:9
 result-of-requires : tie.Need-result-of-requires
-result-of-requires c κs = ?
+result-of-requires c κs = search (needs, head-room)
 
 -- src/lib.rt:223:9
 name-of-requires : tie.Need-name-of-requires
-name-of-requires c κs = ?
+name-of-requires c κs = search (needs, head-small)
 
 -- src/lib.rt:224:9
 meaning-requires : tie.Need-meaning-requires
-meaning-requires c κs = ?
+meaning-requires c κs = search (needs, name-room)
 
 -- src/lib.rt:225:9
 names-routine-requires : tie.Need-names-routine-requires
@@ -35,7 +38,7 @@ same-length-2 c = search needs
 
 -- src/lib.rt:226:9
 returns : tie.Need-returns
-returns c = ?
+returns c = routine-taken _ _ _ _ _ _ _ (c .before .before .before .before .before .before .result-of .ensures) (c .before .before .before .before .before .name-of .ensures) _ (c .before .before .meaning .ensures) (sym (c .before .names-routine .ensures) ∙ not-true _ (c .if1 .taken))
 
 -- src/lib.rt:229:9
 same-length-3 : tie.Need-same-length-3
@@ -47,11 +50,11 @@ same-length-4 c = search needs
 
 -- src/lib.rt:229:9
 returns-2 : tie.Need-returns-2
-returns-2 c = ?
+returns-2 c = routine-many _ _ _ _ _ _ _ (c .before .before .before .before .before .before .before .result-of .ensures) (c .before .before .before .before .before .before .name-of .ensures) _ (c .before .before .before .meaning .ensures) (sym (c .before .before .names-routine .ensures) ∙ not-false _ (c .before .if1 .left)) (c .if2 .taken)
 
 -- src/lib.rt:231:5
 scope-requires : tie.Need-scope-requires
-scope-requires c κs = ?
+scope-requires c κs = routine-scope _ _ _ _ _ _ _ (c .before .before .before .before .before .before .before .before .before .result-of .ensures) (c .before .before .before .before .before .before .before .before .name-of .ensures) _ (c .before .before .before .before .before .meaning .ensures) (sym (c .before .before .before .before .names-routine .ensures) ∙ not-false _ (c .before .before .before .if1 .left)) (c .before .before .if2 .left) (c .before .before .before .before .before .before .before .before .before .before .before .before .before .before .pre)
 
 -- src/lib.rt:218:1
 same-length-5 : tie.Need-same-length-5
@@ -63,7 +66,7 @@ same-length-6 c = search needs
 
 -- src/lib.rt:218:1
 returns-3 : tie.Need-returns-3
-returns-3 c = ?
+returns-3 c = routine-done _ _ _ _ _ _ _ (c .before .before .before .before .before .before .before .before .before .before .before .before .before .before .result-of .ensures) (c .before .before .before .before .before .before .before .before .before .before .before .before .before .name-of .ensures) _ (c .before .before .before .before .before .before .before .before .before .before .meaning .ensures) (sym (c .before .before .before .before .before .before .before .before .before .names-routine .ensures) ∙ not-false _ (c .before .before .before .before .before .before .before .before .if1 .left)) (c .before .before .before .before .before .before .before .if2 .left) _ _ _ (c .before .before .before .before .scope .ensures)
 
 pub routine-spec : {M : Type 1} → statement M
 routine-spec =
