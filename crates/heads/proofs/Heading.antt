@@ -53,9 +53,12 @@ module _ (W : List Word) (r : Routine) (h to : ℕ) (form : RoutineAt (sortIn W)
 
   pub close-inside : form .close + 1 ≤ form .end
   close-inside =
-      omega (arith, declarations-grow (sortIn W) (Parses (sortIn W)) (expression-grows (sortIn W)) (form .declared),
-      list-grows (sortIn W) (Parses (sortIn W)) (expression-grows (sortIn W)) (form .body .statements),
-      handler-grows (sortIn W) (Parses (sortIn W)) (expression-grows (sortIn W)) (form .handler))
+      omega (
+        arith,
+        declarations-grow (sortIn W) (Parses (sortIn W)) (expression-grows (sortIn W)) (form .declared),
+        list-grows (sortIn W) (Parses (sortIn W)) (expression-grows (sortIn W)) (form .body .statements),
+        handler-grows (sortIn W) (Parses (sortIn W)) (expression-grows (sortIn W)) (form .handler),
+      )
 
   pub name-before : r .name + 2 ≤ form .close
   name-before = parameters-grow (sortIn W) (Parses (sortIn W)) (expression-grows (sortIn W)) (form .parameters)

@@ -41,6 +41,16 @@ module _ (f : ℕ → ℕ) (h : ℕ) where
 same-routine : (a b : ℕ) → theRoutine a ≡ theRoutine b → a ≡ b
 same-routine a b e = cc
 
+-- protected names mean no routine
+pub protected-plain : (u : Text) (o : Meaning) → routineIn o ≡ none → routineIn (lookIn protected u o) ≡ none
+unfolding lookIn protected routineIn
+protected-plain u o h =
+    test (equalTexts (bytes "ERRNO") u) (λ t. rw (t, lookIn))
+    (λ t. rw (t, lookIn) (test (equalTexts (bytes "ERR_OVERFLOW") u) (λ a. rw (a, lookIn))
+    (λ a. rw (a, lookIn) (test (equalTexts (bytes "ERR_DIVZERO") u) (λ b. rw (b, lookIn))
+    (λ b. rw (b, lookIn) (test (equalTexts (bytes "ERR_OUTOFBND") u) (λ c. rw (c, lookIn))
+    (λ c. rw (c, lookIn) (test (equalTexts (bytes "ERR_ILLRAISE") u) (λ d. rw (d, lookIn)) (λ d. rw (d, lookIn) h)))))))))
+
 -- what a cell means, or what is left where it has no meaning
 abbrev pub pending : (routine : ℕ → ℕ) → (cell : ℕ) → (otherwise : Meaning) → Meaning
 pending f c o = if eqb c 0 then o else meaningIn f c
@@ -96,8 +106,8 @@ module _ (W : List Word) (m : Module) where
         }
 
     module _ (h : ℕ) (some : 0 < h) (number : numbered R h ≡ k) (less : k < length R) (word : getD R k noHead .word ≡ h) (Y : List ℕ) (z : cellFor W X (r .name) ≡ 0)
-      (same : (j : ℕ) → IsName W j → numberOf W j ≡ numberOf W (r .name) → cellFor W Y j ≡ 20 + 256 * h)
-      (other : (j : ℕ) → IsName W j → (numberOf W j ≡ numberOf W (r .name) → ⊥) → cellFor W Y j ≡ cellFor W X j) where
+        (same : (j : ℕ) → IsName W j → numberOf W j ≡ numberOf W (r .name) → cellFor W Y j ≡ 20 + 256 * h)
+        (other : (j : ℕ) → IsName W j → (numberOf W j ≡ numberOf W (r .name) → ⊥) → cellFor W Y j ≡ cellFor W X j) where
       abbrev text : Text
       text = spelled W (r .name)
 
@@ -249,19 +259,10 @@ module _ (W : List Word) (m : Module) where
         test (isProtected u) (λ p. ap protectsCell (cell-protected D u p) ∙ protected-guards (λ n. n) u)
         (λ p. test (isAmong D u) (λ a. ap protectsCell (cell-coming D u p a) ∙ sym p) (λ a. ap protectsCell (cell-none D u p a) ∙ sym p))
 
-    no-routine : (u : Text) (o : Meaning) → routineIn o ≡ none → routineIn (lookIn protected u o) ≡ none
-    unfolding lookIn protected routineIn
-    no-routine u o h =
-        test (equalTexts (bytes "ERRNO") u) (λ t. rw (t, lookIn))
-        (λ t. rw (t, lookIn) (test (equalTexts (bytes "ERR_OVERFLOW") u) (λ a. rw (a, lookIn))
-        (λ a. rw (a, lookIn) (test (equalTexts (bytes "ERR_DIVZERO") u) (λ b. rw (b, lookIn))
-        (λ b. rw (b, lookIn) (test (equalTexts (bytes "ERR_OUTOFBND") u) (λ c. rw (c, lookIn))
-        (λ c. rw (c, lookIn) (test (equalTexts (bytes "ERR_ILLRAISE") u) (λ d. rw (d, lookIn)) (λ d. rw (d, lookIn) h)))))))))
-
     first-exact : (u : Text) → routineIn (meaningIn (numbered R) (dataCell D u)) ≡ none
     unfolding routineIn
     first-exact u =
-        test (isProtected u) (λ p. ap (λ (c : ℕ). routineIn (meaningIn (numbered R) c)) (cell-protected D u p) ∙ ap routineIn (protected-means (numbered R) u) ∙ no-routine u unknown refl)
+        test (isProtected u) (λ p. ap (λ (c : ℕ). routineIn (meaningIn (numbered R) c)) (cell-protected D u p) ∙ ap routineIn (protected-means (numbered R) u) ∙ protected-plain u unknown refl)
         (λ p. test (isAmong D u) (λ a. ap (λ (c : ℕ). routineIn (meaningIn (numbered R) c)) (cell-coming D u p a) ∙ ap routineIn (one-unknown (numbered R)))
         (λ a. ap (λ (c : ℕ). routineIn (meaningIn (numbered R) c)) (cell-none D u p a) ∙ ap routineIn (zero-unknown (numbered R))))
 

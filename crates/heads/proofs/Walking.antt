@@ -428,7 +428,7 @@ module _ (text code values : List ℕ) (at : ℕ) (g : RoutinesStand text code v
       }
 
 module _ (text code₀ values₀ : List ℕ) (at : ℕ) (g : RoutinesStand text code₀ values₀ at) (code values : List ℕ) (i k main : ℕ) (l : RoutinesGo text code₀ values₀ at code values i k main)
-  (s : ℕ) (e : s ≡ opAt (wordsOf code) i) (b : Bool) (f : b ≡ startsRoutine s) where
+    (s : ℕ) (e : s ≡ opAt (wordsOf code) i) (b : Bool) (f : b ≡ startsRoutine s) where
   pub routines-done : b ≡ false → (values′ : List ℕ) → Cleared values values′ 0 i → (r : ℕ) → r ≡ mainWord (wordsOf code) main → Routines text code₀ values₀ at code values′ r
   routines-done t values′ c r z = record { is = λ g. routines-known g code values i k main (l .left g) s e b f t values′ c r z }
 

@@ -7,29 +7,31 @@ use Prim.Native.Nat.{ℕ, _+_, _*_, _<_, _≤_}
 use lib.ListN.{length, getD, drop}
 use Rattle.paper.specs.Words.{Word}
 use Rattle.paper.specs.Trees.{Module}
-use Rattle.paper.specs.Names.{theRoutine, nth, sortIn, spelled, isAmong, meaning}
+use Rattle.paper.specs.Names.{theRoutine, sortIn, spelled, isAmong, meaning}
 use Rattle.paper.specs.Declarations.{dataTexts, signatures}
 use Rattle.paper.specs.Checks.{mainOf}
 use Rattle.cells.specs.Words.{wordsOf}
-use Rattle.code.specs.Cells.{headAt, placeAt}
 use Rattle.code.specs.Steps.{Head, noHead, numbered}
 use Rattle.code.specs.Signatures.{Heads}
 use Rattle.names.specs.Numbers.{IsName}
 use Rattle.names.specs.Meanings.{aRoutine, cellWith, isProtected, firstMeaning, cellFor, Means}
-use Rattle.names.specs.Promises.{storeBytes, numberLimit}
-use Rattle.load.specs.Layout.{wordsIn, headOf, firstCell}
+use Rattle.names.specs.Promises.{storeBytes}
+use Rattle.load.specs.declared.Loaded.{Loaded}
+use Rattle.load.specs.Layout.{wordsIn}
+use Rattle.load.specs.Loads.{Loads}
 use Rattle.grammar.specs.Form.{Parses, Stands}
 use Rattle.heads.specs.Stores.{Kept, Marked}
 use Rattle.heads.specs.Trees.{headsFor, toCome, firstScopes}
 
--- Both stores as loading leaves them (`Loads`), and the words are a module.
+-- Both stores are as loading left them, and the words are a module.
 pub record Begins (text code values : List ℕ) : Type 0 where
   pub m : Module
   pub stands : Stands (sortIn (wordsIn text)) (Parses (sortIn (wordsIn text))) m
-  pub heads : (i : ℕ) → i < length (wordsIn text) → headAt (wordsOf code) i ≡ headOf (wordsIn text) i
-  pub places : (i : ℕ) → i < length (wordsIn text) → placeAt (wordsOf code) i ≡ nth (wordsIn text) i .place
-  pub zeros : (k : ℕ) → k < firstMeaning → getD (wordsOf values) k 0 ≡ 0
-  pub table : (i : ℕ) → i < numberLimit → getD (wordsOf values) (firstMeaning + i) 0 ≡ firstCell (wordsIn text) i
+  -- what was lent to the loading, and its answer
+  pub code₀ : List ℕ
+  pub values₀ : List ℕ
+  pub answer : Loaded
+  pub loads : Loads text code₀ values₀ answer code values
   pub code-room : storeBytes ≤ length code
   pub values-room : storeBytes ≤ length values
 
