@@ -1,6 +1,7 @@
 -- What the code store says of a routine to its callers, from before the first declaration is checked: its first word tells a PROC from a FUNC, and has how many
 -- parameters there are as its value. The word of a type has a value where the type is not asked, since what it stands at is refused.
 use mathlib.Core.Path.{_≡_}
+use mathlib.Core.Bool.{Bool, true, _||_}
 use mathlib.Core.List.{List, [], _∷_}
 use mathlib.Core.Option.{Option, none, some}
 use Prim.Native.Nat.{ℕ, zero, suc, _+_, _*_, _<_}
@@ -8,6 +9,7 @@ use lib.Dec.{eqb}
 use lib.ListN.{length, getD}
 use Rattle.paper.specs.Basics.{if_then_else_}
 use Rattle.paper.specs.Sorts.{FUNC}
+use Rattle.paper.specs.Expressions.{isType, startsRoutine}
 use Rattle.paper.specs.Names.{DataType, refusedPiece, typeOf}
 use Rattle.paper.specs.Declarations.{Signature}
 use Rattle.paper.specs.Checks.{noSignature}
@@ -37,7 +39,21 @@ signatureIn C h = record { result = resultAt C h; parameters = typesFrom C (para
 abbrev pub signatureEnd : (C : List ℕ) → (h : ℕ) → ℕ
 signatureEnd C h = parametersFrom C h + 3 * valueAt C h
 
+-- The words that it is read from: what a routine begins with, and types.
+unfoldable pub isValued : (sort : ℕ) → Bool
+isValued s = isType s || startsRoutine s
+
+pub record SignatureWords (C : List ℕ) (h : ℕ) : Type 0 where
+  pub begins : startsRoutine (opAt C h) ≡ true
+  pub result : opAt C h ≡ FUNC → isType (opAt C (h + 1)) ≡ true
+  pub types : (j : ℕ) → j < valueAt C h → isType (opAt C (parametersFrom C h + 3 * j)) ≡ true
+
+-- The routine that begins at a word has this signature.
+pub record SignatureAt (C : List ℕ) (h : ℕ) (sig : Signature) : Type 0 where
+  pub is : signatureIn C h ≡ sig
+  pub words : SignatureWords C h
+
 -- The cells say of all routines `R` what these signatures say.
 pub record Heads (C : List ℕ) (R : List Head) (sigs : List Signature) : Type 0 where
   pub as-many : length R ≡ length sigs
-  pub each : (k : ℕ) → k < length R → signatureIn C (getD R k noHead .word) ≡ getD sigs k noSignature
+  pub each : (k : ℕ) → k < length R → SignatureAt C (getD R k noHead .word) (getD sigs k noSignature)

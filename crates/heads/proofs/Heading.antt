@@ -1,36 +1,34 @@
 -- The head of one routine.
-use mathlib.Core.Path.{_≡_, refl, sym, ap, ap₂, subst, _∙_}
-use mathlib.Core.Bool.{Bool, true, false}
+use mathlib.Core.Path.{_≡_, sym, ap, ap₂, subst, _∙_}
+use mathlib.Core.Bool.{Bool, true}
 use mathlib.Core.List.{List, []}
-use mathlib.Core.Option.{Option, none, some}
-use Prim.Native.Nat.{ℕ, _+_, _*_, _<_, _≤_}
+use mathlib.Core.Option.{Option, some}
+use Prim.Native.Nat.{ℕ, zero, suc, _+_, _*_, _<_, _≤_}
 use native.Mathlib.Omega.{arith}
 use lib.Dec.{eqb}
-use lib.ListN.{length, getD}
+use lib.ListN.{length}
 use borrow.Author.Tests.{eq-eqb, ne-eqb}
-use Rattle.laws.proofs.Tests.{by-same}
+use Rattle.laws.proofs.Tests.{by-same, false-true}
 use Rattle.paper.specs.Basics.{if_then_else_}
 use Rattle.paper.specs.Sorts.{PROC, FUNC}
 use Rattle.paper.specs.Words.{Word}
-use Rattle.paper.specs.Trees.{Expr, Routine}
+use Rattle.paper.specs.Trees.{Expr, Parameter, Routine}
 use Rattle.paper.specs.Expressions.{isType, startsRoutine}
-use Rattle.paper.specs.Names.{DataType, refusedPiece, typeOf, sortIn, spelled}
-use Rattle.paper.specs.Declarations.{routineLimit, crosses, resultAsked, Signature}
+use Rattle.paper.specs.Names.{DataType, refusedPiece, typeOf, sortIn}
+use Rattle.paper.specs.Declarations.{routineLimit, resultAsked}
 use Rattle.cells.specs.Words.{wordsOf}
 use Rattle.code.specs.Cells.{headAt, opAt, valueAt}
-use Rattle.code.specs.Signatures.{typeAt, typesFrom, parametersFrom, resultAt, signatureIn, signatureEnd}
-use Rattle.code.proofs.Signatures.{type-kept, types-kept}
-use Rattle.names.specs.Numbers.{numberOf, IsName}
-use Rattle.names.specs.Promises.{storeBytes}
-use Rattle.grammar.specs.Form.{Parses, ParametersAt, HeadAt, a-proc, a-func, RoutineAt}
+use Rattle.code.specs.Signatures.{typeAt, typesFrom, parametersFrom, resultAt, signatureIn, SignatureWords}
+use Rattle.code.proofs.Signatures.{type-kept, types-kept, valued-type, valued-routine}
+use Rattle.grammar.specs.Form.{Parses, SeparatedAt, last-one, one-more, closed-at-once, closed-later, ParameterAt, ParametersAt, HeadAt, a-proc, a-func, RoutineAt}
 use Rattle.grammar.proofs.Inversions.{IsProc, IsFunc, head-proc, head-func}
 use Rattle.grammar.proofs.Places.{parameters-grow, declarations-grow, list-grows, handler-grows, head-grows}
-use Rattle.heads.specs.Stores.{Kept, isValued, Marked, Valued, Lain}
+use Rattle.heads.specs.Stores.{Marked, Valued, Lain}
 use Rattle.heads.specs.Trees.{givenTypes, givenSignature}
-use Rattle.heads.specs.Parts.{markOf, ParametersStand, Sees, ParametersMarked, Parameters, Names, RoutineStands, RoutineKnown, Begun}
+use Rattle.heads.specs.Parts.{markOf, ParametersStand, ParametersMarked, Parameters, Names, RoutineStands, RoutineKnown, Begun}
 use Rattle.heads.proofs.Inner.{expression-grows}
 use Rattle.heads.proofs.Given.{crosses-one}
-use Rattle.heads.proofs.Frames.{kept-wider, marked-same, marked-on, marked-wider, head-below, lain-kept, valued-value, valued-op, valued-other, valued-marked, valued-type, valued-routine}
+use Rattle.heads.proofs.Frames.{kept-wider, marked-same, marked-on, marked-wider, head-below, lain-kept, valued-value, valued-op, valued-other, valued-marked}
 use Rattle.heads.proofs.Marking.{sort-inside, type-marked}
 
 closing-some : {W : ℕ → ℕ} {E : (d at : ℕ) → Expr → (to : ℕ) → Type 0} {result : Option ℕ} {closing at name : ℕ} → HeadAt W E result closing at name → 0 < closing
@@ -45,6 +43,23 @@ starts-head (a-func p t k n c) = rw p
 type-of : (C : List ℕ) (i : ℕ) (b : Bool) (s : ℕ) → valueAt C i ≡ markOf b → opAt C i ≡ s → typeAt C i ≡ (if b then refusedPiece else typeOf s)
 unfolding typeAt
 type-of C i b s e f = type-marked (valueAt C i) (opAt C i) b e ∙ ap (λ (x : ℕ). if b then refusedPiece else typeOf x) f
+
+-- the types of parameters are types
+type-some : (s : ℕ) → isType s ≡ true → 0 < s
+unfolding isType
+type-some zero h = false-true h
+type-some (suc s) h = omega arith
+
+separated-types : {W : ℕ → ℕ} {ps : List Parameter} {at to : ℕ} → SeparatedAt W (ParameterAt W (Parses W)) ps at to → (j : ℕ) → j < length ps → isType (W (at + 3 * j)) ≡ true
+separated-types {W = W} (last-one {at = at} k f) zero h = let z : at + 3 * 0 ≡ at = omega arith in ap (λ (x : ℕ). isType (W x)) z ∙ k .typed
+separated-types (last-one k f) (suc j) h = absurd (omega arith)
+separated-types {W = W} (one-more {at = at} k c q) zero h = let z : at + 3 * 0 ≡ at = omega arith in ap (λ (x : ℕ). isType (W x)) z ∙ k .typed
+separated-types {W = W} (one-more {at = at} {n = n} k c q) (suc j) h =
+    let z : at + 3 * suc j ≡ n + 1 + 3 * j = omega (arith, k .after) in ap (λ (x : ℕ). isType (W x)) z ∙ separated-types q j (omega arith)
+
+types-in : {W : ℕ → ℕ} {ps : List Parameter} {at to : ℕ} → ParametersAt W (Parses W) ps at to → (j : ℕ) → j < length ps → isType (W (at + 3 * j)) ≡ true
+types-in (closed-at-once c e) j h = absurd (omega arith)
+types-in (closed-later f q) j h = separated-types q j h
 
 -- ---- where it stands
 module _ (W : List Word) (r : Routine) (h to : ℕ) (form : RoutineAt (sortIn W) (Parses (sortIn W)) r h to) where
@@ -182,8 +197,22 @@ module _ (code values : List ℕ) (h k : ℕ) (g : RoutineStands code values h k
       types₃ : typesFrom (wordsOf code₃) (parametersFrom (wordsOf code₃) h) (valueAt (wordsOf code₃) h) ≡ givenTypes (g .W) [] 0 (t .parameters)
       types₃ =
           ap₂ (typesFrom (wordsOf code₃)) from₃ value₃
-          ∙ types-kept (wordsOf code₂) (wordsOf code₃) (n + 2) count (λ j a b. valued-other h count v room₂ j (λ e. omega (arith, name-behind (g .W) (g .r) h (g .to) (g .form), named-is)))
+          ∙ types-kept (wordsOf code₂) (wordsOf code₃) (n + 2) count (λ j b. valued-other h count v room₂ (n + 2 + 3 * j) (λ e. omega (arith, name-behind (g .W) (g .r) h (g .to) (g .form), named-is)))
           ∙ p .types
+
+      third : Marked code code₃ h (g .to)
+      third = marked-on second (marked-wider (valued-marked h count v room₂ (valued-routine _ (ap startsRoutine op₂ ∙ starts-head (g .form .head)))) h (g .to) (omega arith) (omega (arith, name-behind (g .W) (g .r) h (g .to) (g .form), name-before (g .W) (g .r) h (g .to) (g .form), close-inside (g .W) (g .r) h (g .to) (g .form), g .form .after)))
+
+      sort₃ : (i : ℕ) → isType (sortIn (g .W) i) ≡ true → isType (opAt (wordsOf code₃) i) ≡ true
+      sort₃ i q = ap isType (third .ops i ∙ g .lain .sorts i (sort-inside (g .W) i (type-some (sortIn (g .W) i) q))) ∙ q
+
+      worded₃ : SignatureWords (wordsOf code₃) h
+      worded₃ = record {
+        begins = ap startsRoutine op₃ ∙ starts-head (g .form .head);
+        result = λ f. sort₃ (h + 1) (func (g .W) (g .r) h (g .to) (g .form) (sym op₃ ∙ f) .typed);
+        types = λ j l. let z : parametersFrom (wordsOf code₃) h + 3 * j ≡ t .name + 2 + 3 * j = omega (arith, from₃, named-is) in
+            rw z (sort₃ (t .name + 2 + 3 * j) (types-in (g .form .parameters) j (omega (arith, value₃, p .count))));
+      }
 
       all : RoutineKnown (g .W) (g .r) (g .to) code values h k code₃ values′ n
       unfolding signatureIn givenSignature
@@ -191,8 +220,9 @@ module _ (code values : List ℕ) (h k : ℕ) (g : RoutineStands code values h k
         name = named-is;
         signature = ap₂ (λ (o : Option DataType) (l : List DataType). record { result = o; parameters = l })
             (result-is (g .W) (g .r) h (g .to) (g .form) k code (g .lain) code₁ n named (wordsOf code₃) op₃ second₃) types₃;
+        worded = worded₃;
         ends = omega (arith, from₃, value₃, p .ends, close-inside (g .W) (g .r) h (g .to) (g .form), g .form .after);
-        marked = marked-on second (marked-wider (valued-marked h count v room₂ (valued-routine _ (ap startsRoutine op₂ ∙ starts-head (g .form .head)))) h (g .to) (omega arith) (omega (arith, name-behind (g .W) (g .r) h (g .to) (g .form), name-before (g .W) (g .r) h (g .to) (g .form), close-inside (g .W) (g .r) h (g .to) (g .form), g .form .after)));
+        marked = third;
         kept = kept-wider (p .kept) 0 (g .to) (omega arith) (omega (arith, close-inside (g .W) (g .r) h (g .to) (g .form), g .form .after));
         sees = p .sees;
       }

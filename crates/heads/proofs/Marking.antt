@@ -1,25 +1,25 @@
 -- The parameters of a routine, one after another.
 use mathlib.Core.Path.{_≡_, refl, sym, ap, ap₂, subst, _∙_}
 use mathlib.Core.Bool.{Bool, true, false, _||_}
-use mathlib.Core.List.{List, [], _∷_, _++_, map, append-assoc}
+use mathlib.Core.List.{List, [], _∷_, _++_, append-assoc}
 use Prim.Native.Nat.{ℕ, zero, suc, _+_, _*_, _<_, _≤_}
 use native.Mathlib.Omega.{arith}
 use native.Mathlib.Numerals.{add-one}
 use lib.Dec.{eqb}
 use lib.ListN.{length, getD}
 use borrow.Author.Tests.{eq-eqb, ne-eqb}
-use Rattle.laws.proofs.Tests.{test, by-same}
+use Rattle.laws.proofs.Tests.{by-same}
 use Rattle.paper.specs.Basics.{if_then_else_}
-use Rattle.paper.specs.Sorts.{equalTexts, NAME, comma, closeParen}
+use Rattle.paper.specs.Sorts.{comma}
 use Rattle.paper.specs.Words.{Word}
 use Rattle.paper.specs.Trees.{Parameter}
 use Rattle.paper.specs.Expressions.{isType}
 use Rattle.paper.specs.Names.{DataType, refusedPiece, typeOf, Text, noWord, nth, sortIn, spelled, isAmong, cannotDeclare}
 use Rattle.cells.specs.Words.{wordsOf, Put}
-use Rattle.cells.proofs.Kept.{put-same, put-other, put-length}
-use Rattle.code.specs.Cells.{headAt, opAt, valueAt}
+use Rattle.cells.proofs.Kept.{put-same, put-other}
+use Rattle.code.specs.Cells.{opAt, valueAt}
 use Rattle.code.specs.Signatures.{typeAt, typesFrom}
-use Rattle.code.proofs.Signatures.{types-more, types-kept}
+use Rattle.code.proofs.Signatures.{types-more, types-kept, valued-type}
 use Rattle.names.specs.Numbers.{numberOf, IsName}
 use Rattle.names.specs.Meanings.{isProtected, protectsCell, firstMeaning, cellFor}
 use Rattle.names.specs.Promises.{storeBytes, numberAt, meaningAt}
@@ -27,11 +27,11 @@ use Rattle.names.proofs.Spellings.{texts-same, texts-differ, numbers-same, spel
 use Rattle.grammar.specs.Form.{Parses, SeparatedAt, last-one, one-more, ParameterAt}
 use Rattle.grammar.proofs.Inversions.{FirstOf, separated-first, closed-none, closed-some}
 use Rattle.grammar.proofs.Places.{parameters-grow}
-use Rattle.heads.specs.Stores.{Kept, isValued, Marked, Valued, Lain}
+use Rattle.heads.specs.Stores.{Kept, Marked, Lain}
 use Rattle.heads.specs.Trees.{givenTypes}
 use Rattle.heads.specs.Parts.{refuses, markOf, Marks, ParametersStand, Sees, ParametersMarked, Parameters}
 use Rattle.heads.proofs.Inner.{expression-grows}
-use Rattle.heads.proofs.Frames.{kept-same, kept-on, put-kept, marked-same, marked-on, marked-wider, lain-kept, valued-value, valued-op, valued-other, valued-marked, valued-type}
+use Rattle.heads.proofs.Frames.{kept-same, kept-on, put-kept, marked-same, marked-on, marked-wider, lain-kept, valued-value, valued-op, valued-other, valued-marked}
 
 -- a word has a sort
 pub sort-inside : (W : List Word) (i : ℕ) → 0 < sortIn W i → i < length W
@@ -150,7 +150,7 @@ module _ {code₀ values₀ : List ℕ} {h at : ℕ} (g : ParametersStand code�
       (valued-op i _ (k .mark) room ∙ lain .sorts i (omega (arith, inside, bounds)) ∙ sym (first .one .type))
 
   types-so-far : typesFrom (wordsOf code′) at count ≡ typesFrom (wordsOf code) at count
-  types-so-far = types-kept (wordsOf code) (wordsOf code′) at count (λ j a b. valued-other i _ (k .mark) room j (λ e. omega (arith, l .place)))
+  types-so-far = types-kept (wordsOf code) (wordsOf code′) at count (λ j b. valued-other i _ (k .mark) room (at + 3 * j) (λ e. omega (arith, l .place)))
 
   types-then : typesFrom (wordsOf code′) at (count + 1) ≡ typesFrom (wordsOf code) at count ++ (typeAt (wordsOf code′) i ∷ [])
   types-then =

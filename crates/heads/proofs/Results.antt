@@ -1,34 +1,33 @@
 -- What later passes take from this one: the words are still known, and rule 10 at a routine's name is told by its cell.
-use mathlib.Core.Path.{_≡_, refl, sym, ap, subst, _∙_}
+use mathlib.Core.Path.{_≡_, refl, sym, ap, _∙_}
 use mathlib.Core.Bool.{true, false}
 use mathlib.Core.List.{List, [], _∷_}
 use mathlib.Core.Option.{none, some}
-use Prim.Native.Nat.{ℕ, zero, suc, _+_, _*_, _/_, _%_, _<_, _≤_}
+use Prim.Native.Nat.{ℕ, zero, suc, _+_, _*_, _/_, _<_}
 use native.Mathlib.Omega.{arith}
-use lib.ListN.{length, getD, drop}
-use borrow.Author.Tests.{eq-eqb, ne-eqb}
+use lib.ListN.{length, drop}
+use borrow.Author.Tests.{ne-eqb}
 use Rattle.laws.proofs.Tests.{test, apart, false-true}
-use Rattle.paper.specs.Basics.{if_then_else_}
 use Rattle.paper.specs.Sorts.{equalTexts, NAME, NUMBER, STRING}
 use Rattle.paper.specs.Words.{Word}
 use Rattle.paper.specs.Trees.{Routine, Module}
 use Rattle.paper.specs.Expressions.{isType, startsRoutine}
-use Rattle.paper.specs.Names.{Meaning, unknown, theRoutine, routineIn, Text, Names, nth, sortIn, spelled, lookIn, protected, isAmong, meaning, cannotDeclare}
+use Rattle.paper.specs.Names.{Meaning, unknown, variable, array, constant, loop, theRoutine, theErrno, errorNumber, routineIn, Text, Names, nth, sortIn, spelled, lookIn, protected, isAmong, meaning, cannotDeclare}
 use Rattle.paper.specs.Declarations.{dataTexts, routineNames, moduleScopes}
 use Rattle.cells.specs.Words.{wordsOf}
 use Rattle.code.specs.Cells.{opAt, valueAt}
+use Rattle.code.specs.Signatures.{isValued}
 use Rattle.names.specs.Numbers.{numberOf, IsName}
 use Rattle.names.specs.Meanings.{isProtected}
 use Rattle.names.specs.Promises.{numberAt}
 use Rattle.names.proofs.Spellings.{same-texts, texts-same}
 use Rattle.load.specs.Layout.{headValue, wordsIn}
 use Rattle.load.proofs.Bounds.{reading-good}
-use Rattle.heads.specs.Stores.{isValued}
 use Rattle.heads.specs.Trees.{firstScopes, earlierOf}
 use Rattle.heads.specs.Reads.{Begins, Foretells}
 use Rattle.heads.proofs.Frames.{lain-kept}
 use Rattle.heads.proofs.Announcing.{not-found}
-use Rattle.heads.proofs.Scoping.{look-here, look-further, look-found, names-taken, names-new, names-skip, cannot-protected, cannot-among, cannot-shielded, routine-meant}
+use Rattle.heads.proofs.Scoping.{look-here, look-further, look-found, names-taken, names-new, cannot-protected, cannot-among, cannot-shielded, routine-meant}
 use Rattle.heads.proofs.Taking.{protected-plain}
 use Rattle.heads.proofs.Whole.{begins-lain}
 
@@ -55,7 +54,26 @@ shielded-plain : (u : Text) → isProtected u ≡ true → (o : Meaning) → rou
 unfolding routineIn
 shielded-plain u p o = ap routineIn (look-found protected u o unknown p) ∙ protected-plain u unknown refl
 
+routine-is : (x : Meaning) (k : ℕ) → routineIn x ≡ some k → x ≡ theRoutine k
+unfolding routineIn
+routine-is unknown k e = apart (cc)
+routine-is (variable t r) k e = apart (cc)
+routine-is (array t r n) k e = apart (cc)
+routine-is (constant t r) k e = apart (cc)
+routine-is (loop r) k e = apart (cc)
+routine-is (theRoutine q) k e = cc
+routine-is theErrno k e = apart (cc)
+routine-is (errorNumber n) k e = apart (cc)
+
 module _ (W : List Word) where
+  -- the names before the next routine
+  pub earlier-next : (b : List Text) (k : ℕ) (rs : List Routine) (r : Routine) (rest : List Routine) → drop k rs ≡ r ∷ rest → earlierOf W b (suc k) rs ≡ spelled W (r .name) ∷ earlierOf W b k rs
+  unfolding earlierOf
+  earlier-next b zero [] r rest e = apart (cc)
+  earlier-next b (suc k) [] r rest e = apart (cc)
+  earlier-next b zero (x ∷ rs) r rest e = let q : x ≡ r = cc in ap (λ (y : Routine). spelled W (y .name) ∷ b) q
+  earlier-next b (suc k) (x ∷ rs) r rest e = earlier-next (spelled W (x .name) ∷ b) k rs r rest e
+
   -- what came before, in both forms: by the names that were taken, and by all
   record Alike (a b : List Text) : Type 0 where
     pub same : (u : Text) → isProtected u ≡ false → isAmong a u ≡ isAmong b u
@@ -173,3 +191,12 @@ module _ (W : List Word) where
       where
         apart-none : {A : Type 0} {x : ℕ} → none ≡ some x → A
         apart-none z = apart (cc)
+
+    -- the same beside the module's data
+    pub own-name-then : cannotDeclare earlier (spelled W (r .name)) ≡ false → meaning (moduleScopes W m) (spelled W (r .name)) ≡ theRoutine k
+    unfolding routineIn
+    own-name-then c = routine-is (meaning (moduleScopes W m) (spelled W (r .name))) k (routine-meant W m (spelled W (r .name)) ∙ ap routineIn (own-name c))
+
+    pub other-name-then : cannotDeclare earlier (spelled W (r .name)) ≡ true → meaning (moduleScopes W m) (spelled W (r .name)) ≡ theRoutine k → ⊥
+    unfolding routineIn
+    other-name-then c q = other-name c (routine-is (meaning (firstScopes W m) (spelled W (r .name))) k (sym (routine-meant W m (spelled W (r .name))) ∙ ap routineIn q))

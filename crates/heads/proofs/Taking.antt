@@ -1,24 +1,24 @@
 -- The names of routines, one after another: what the table says, and what it will say.
 use mathlib.Core.Path.{_≡_, refl, sym, ap, ap₂, subst, _∙_}
 use mathlib.Core.Bool.{Bool, true, false, not}
-use mathlib.Core.List.{List, [], _∷_, map}
-use mathlib.Core.Option.{Option, none, some}
-use Prim.Native.Nat.{ℕ, zero, suc, _+_, _*_, _%_, _<_, _≤_}
+use mathlib.Core.List.{List, [], _∷_}
+use mathlib.Core.Option.{none, some}
+use Prim.Native.Nat.{ℕ, suc, _+_, _*_, _%_, _<_}
 use native.Mathlib.Omega.{arith}
-use lib.Dec.{eqb, leb}
+use lib.Dec.{eqb}
 use lib.ListN.{length, getD}
-use borrow.Author.Tests.{eq-eqb, ne-eqb, eqb-true, eqb-false}
-use Rattle.laws.proofs.Tests.{test, by-same, apart, false-true}
+use borrow.Author.Tests.{eq-eqb, ne-eqb}
+use Rattle.laws.proofs.Tests.{test, by-same, apart}
 use Rattle.paper.specs.Basics.{if_then_else_}
 use Rattle.paper.specs.Sorts.{bytes, equalTexts}
 use Rattle.paper.specs.Words.{Word}
 use Rattle.paper.specs.Trees.{Routine, Module}
-use Rattle.paper.specs.Names.{Meaning, unknown, theRoutine, theErrno, errorNumber, routineIn, Text, Names, textOf, spelled, lookIn, protected, isAmong, meaning, cannotDeclare}
+use Rattle.paper.specs.Names.{Meaning, unknown, theRoutine, routineIn, Text, Names, spelled, lookIn, protected, isAmong, meaning, cannotDeclare}
 use Rattle.paper.specs.Declarations.{dataTexts, routineNames}
 use Rattle.code.specs.Steps.{Head, noHead, numbered}
 use Rattle.names.specs.Numbers.{numberOf, IsName}
-use Rattle.names.specs.Meanings.{aRoutine, cellWith, meaningWith, meaningIn, isProtected, protectedCell, protectsCell, cellFor, Means}
-use Rattle.names.proofs.Spellings.{same-texts, texts-same, texts-differ, numbers-same, spellings-same}
+use Rattle.names.specs.Meanings.{meaningWith, meaningIn, isProtected, protectedCell, protectsCell, cellFor}
+use Rattle.names.proofs.Spellings.{texts-same, texts-differ, numbers-same, spellings-same}
 use Rattle.names.proofs.Shields.{protected-means, protected-guards}
 use Rattle.names.proofs.Tables.{meaning-with}
 use Rattle.heads.specs.Trees.{headsFor, dataCell, firstScopes}

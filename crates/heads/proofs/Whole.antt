@@ -1,19 +1,16 @@
 -- The whole pass over a module that was loaded.
-use mathlib.Core.Path.{_≡_, refl, sym, ap, ap₂, subst, _∙_}
-use mathlib.Core.Bool.{true, false}
+use mathlib.Core.Path.{_≡_, sym, ap, ap₂, subst, _∙_}
 use mathlib.Core.List.{List, map}
-use Prim.Native.Nat.{ℕ, _+_, _-_, _*_, _/_, _%_, _<_, _≤_}
+use Prim.Native.Nat.{ℕ, _+_, _-_, _*_, _/_, _<_, _≤_}
 use native.Mathlib.Omega.{arith}
-use lib.ListN.{length, getD, take, drop}
+use lib.ListN.{length, take, drop}
 use borrow.Author.Tests.{eq-eqb}
-use Rattle.paper.specs.Basics.{if_then_else_}
-use Rattle.paper.specs.Sorts.{folded, NAME, ENDMODULE}
+use Rattle.paper.specs.Sorts.{folded, NAME}
 use Rattle.paper.specs.Words.{Word}
 use Rattle.paper.specs.Names.{nth, sortIn, spelled}
 use Rattle.cells.specs.Words.{wordsOf}
-use Rattle.code.specs.Cells.{valueAt, placeAt}
 use Rattle.names.specs.Numbers.{firstNamed, numberOf, IsName}
-use Rattle.names.specs.Meanings.{protectedCell, firstMeaning, cellFor}
+use Rattle.names.specs.Meanings.{protectedCell, cellFor}
 use Rattle.names.proofs.Spellings.{name-inside, number-most, number-named}
 use Rattle.load.specs.Layout.{headValue, firstCell, wordsIn}
 use Rattle.load.proofs.Bounds.{reading-good, reading-most}
@@ -21,7 +18,7 @@ use Rattle.load.proofs.Chains.{true-first}
 use Rattle.load.proofs.Results.{loads-sorts, loads-numbers}
 use Rattle.grammar.specs.Form.{Parses, RoutinesAt}
 use Rattle.grammar.proofs.Places.{declarations-grow, routines-grow}
-use Rattle.heads.specs.Stores.{Kept, Marked, Lain, lengthAt, spelledAt, Spells}
+use Rattle.heads.specs.Stores.{Lain, lengthAt, Spells}
 use Rattle.heads.specs.Parts.{DataStand, DataKnown, Data, RoutinesStand, RoutinesKnown, Routines}
 use Rattle.heads.specs.Reads.{Begins, Foretells, Reads}
 use Rattle.heads.proofs.Inner.{expression-grows}

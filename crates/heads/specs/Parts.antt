@@ -14,7 +14,7 @@ use Rattle.paper.specs.Declarations.{routineLimit, routineWordLimit, dataTexts,
 use Rattle.paper.specs.Checks.{mainOf}
 use Rattle.cells.specs.Words.{wordsOf, Put}
 use Rattle.code.specs.Cells.{opAt, valueAt}
-use Rattle.code.specs.Signatures.{typesFrom, signatureIn, signatureEnd, Heads}
+use Rattle.code.specs.Signatures.{typesFrom, signatureIn, signatureEnd, SignatureWords, Heads}
 use Rattle.names.specs.Numbers.{numberOf, IsName}
 use Rattle.names.specs.Meanings.{aRoutine, cellWith, isProtected, protectedCell, protectsCell, firstMeaning, cellFor}
 use Rattle.names.specs.Promises.{storeBytes, numberLimit, numberAt, meaningAt}
@@ -133,6 +133,7 @@ pub record RoutineStands (code values : List ℕ) (h k : ℕ) : Type 0 where
 pub record RoutineKnown (W : List Word) (t : Routine) (to : ℕ) (code values : List ℕ) (h k : ℕ) (code′ values′ : List ℕ) (r : ℕ) : Type 0 where
   pub name : r ≡ t .name
   pub signature : signatureIn (wordsOf code′) h ≡ givenSignature W k t
+  pub worded : SignatureWords (wordsOf code′) h
   pub ends : signatureEnd (wordsOf code′) h ≤ to
   pub marked : Marked code code′ h to
   pub kept : Kept values values′ 0 to

@@ -3,7 +3,7 @@ use mathlib.Core.Path.{_≡_}
 use mathlib.Core.Bool.{true, false}
 use mathlib.Core.List.{List}
 use mathlib.Core.Option.{Option, none, some}
-use Prim.Native.Nat.{ℕ, _+_, _*_, _<_, _≤_}
+use Prim.Native.Nat.{ℕ, _<_, _≤_}
 use lib.ListN.{length, getD, drop}
 use Rattle.paper.specs.Words.{Word}
 use Rattle.paper.specs.Trees.{Module}
@@ -20,7 +20,7 @@ use Rattle.load.specs.declared.Loaded.{Loaded}
 use Rattle.load.specs.Layout.{wordsIn}
 use Rattle.load.specs.Loads.{Loads}
 use Rattle.grammar.specs.Form.{Parses, Stands}
-use Rattle.heads.specs.Stores.{Kept, Marked}
+use Rattle.heads.specs.Stores.{Marked}
 use Rattle.heads.specs.Trees.{headsFor, toCome, firstScopes}
 
 -- Both stores are as loading left them, and the words are a module.

@@ -1,15 +1,15 @@
 -- What of both stores stays as it was.
 use mathlib.Core.Path.{_≡_}
-use mathlib.Core.Bool.{Bool, false, _||_}
+use mathlib.Core.Bool.{false}
 use mathlib.Core.List.{List, map}
 use Prim.Native.Nat.{ℕ, _+_, _*_, _/_, _<_, _≤_}
 use lib.ListN.{length, take, drop}
 use Rattle.paper.specs.Sorts.{folded}
 use Rattle.paper.specs.Words.{Word, wordLimit}
-use Rattle.paper.specs.Expressions.{isType, startsRoutine}
 use Rattle.paper.specs.Names.{Text, sortIn, spelled}
 use Rattle.cells.specs.Words.{wordsOf, Put}
 use Rattle.code.specs.Cells.{headAt, tailAt, opAt, valueAt, placeAt}
+use Rattle.code.specs.Signatures.{isValued}
 use Rattle.names.specs.Numbers.{numberOf, IsName}
 use Rattle.names.specs.Promises.{storeBytes, numberLimit, numberAt}
 
@@ -20,11 +20,7 @@ pub record Kept (before after : List ℕ) (from to : ℕ) : Type 0 where
   pub long : length after ≡ length before
 
 -- ---- the code store
--- words that are given values: types, and those that routines begin with
-unfoldable pub isValued : (sort : ℕ) → Bool
-isValued s = isType s || startsRoutine s
-
--- Nothing but the values of such words from `from` up to `to` has changed.
+-- Nothing but the values of words that have one for a signature has changed, from `from` up to `to`.
 pub record Marked (before after : List ℕ) (from to : ℕ) : Type 0 where
   pub kept : Kept before after (from * 2) (to * 2)
   pub ops : (i : ℕ) → opAt (wordsOf after) i ≡ opAt (wordsOf before) i

@@ -1,3 +1,4 @@
+-- `heads::announce` meets its contract.
 use Rattle.heads.proofs.Leaves.{announce-taken, announce-free}
 use borrow.Author.Needs.{needs}
 use Rattle.heads.proofs.announce.Statement.{statement}

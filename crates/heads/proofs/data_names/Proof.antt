@@ -1,3 +1,4 @@
+-- `heads::data_names` meets its contract.
 use Prim.Native.Nat.{_-_}
 use lib.ListN.{length}
 use borrow.Author.Tests.{not-true, not-false}

@@ -1,3 +1,4 @@
+-- `heads::head` meets its contract.
 use native.Mathlib.Omega.{arith}
 use Rattle.heads.proofs.Heading.{head-room, head-small, name-small, head-parameters, head-begun}
 use borrow.Author.Needs.{needs}

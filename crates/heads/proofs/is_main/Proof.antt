@@ -1,3 +1,4 @@
+-- `heads::is_main` meets its contract.
 use Rattle.heads.proofs.Leaves.{is-main-law}
 use borrow.Author.Needs.{needs}
 use Rattle.heads.proofs.is_main.Statement.{statement}

@@ -1,3 +1,4 @@
+-- `heads::main_of` meets its contract.
 use Rattle.heads.proofs.Leaves.{main-none, main-function, main-asks, main-found}
 use borrow.Author.Needs.{needs}
 use Rattle.heads.proofs.main_of.Statement.{statement}

@@ -1,3 +1,4 @@
+-- `heads::mark` meets its contract.
 use Rattle.heads.proofs.Leaves.{mark-protected, mark-seen, mark-last, mark-none}
 use borrow.Author.Needs.{needs}
 use Rattle.heads.proofs.mark.Statement.{statement}

@@ -1,3 +1,4 @@
+-- `heads::name_of` meets its contract.
 use Rattle.heads.proofs.Leaves.{names-plain, names-last, names-asked}
 use borrow.Author.Needs.{needs}
 use Rattle.heads.proofs.name_of.Statement.{statement}

@@ -1,5 +1,5 @@
+-- `heads::next` meets its contract.
 use Prim.Native.Nat.{_-_}
-use native.Mathlib.Omega.{arith}
 use lib.ListN.{length}
 use Rattle.heads.proofs.Leaves.{Going, going-start, going-first, going-second, going-on}
 use borrow.Author.Needs.{needs}

@@ -1,3 +1,4 @@
+-- `heads::parameter` meets its contract.
 use Rattle.heads.proofs.Leaves.{marks}
 use borrow.Author.Needs.{needs}
 use Rattle.heads.proofs.parameter.Statement.{statement}

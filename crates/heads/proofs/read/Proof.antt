@@ -1,3 +1,4 @@
+-- `heads::read` meets its contract.
 use Rattle.heads.proofs.Whole.{read-data, routines-asked, read-done}
 use borrow.Author.Needs.{needs}
 use Rattle.heads.proofs.read.Statement.{statement}

@@ -1,3 +1,4 @@
+-- `heads::set_value` meets its contract.
 use Rattle.heads.proofs.Leaves.{valued}
 use borrow.Author.Needs.{needs}
 use Rattle.heads.proofs.set_value.Statement.{statement}

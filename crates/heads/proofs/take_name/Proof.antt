@@ -1,3 +1,4 @@
+-- `heads::take_name` meets its contract.
 use Rattle.heads.proofs.Leaves.{takes-nothing, takes-second, takes-main, takes-other}
 use borrow.Author.Needs.{needs}
 use Rattle.heads.proofs.take_name.Statement.{statement}
