@@ -1,16 +1,13 @@
 -- The names of module data, one after another.
-use mathlib.Core.Path.{_≡_, refl, sym, ap, ap₂, subst, _∙_}
+use mathlib.Core.Path.{_≡_, refl, sym, ap, subst, _∙_}
 use mathlib.Core.Bool.{Bool, true, false, not, _||_}
 use mathlib.Core.List.{List, [], _∷_, map}
-use Prim.Native.Nat.{ℕ, zero, suc, _+_, _*_, _<_, _≤_}
+use Prim.Native.Nat.{ℕ, _+_, _*_, _<_, _≤_}
 use native.Mathlib.Omega.{arith}
-use lib.Dec.{eqb, leb}
+use lib.Dec.{eqb}
 use lib.ListN.{length, getD}
-use borrow.Author.Tests.{eq-eqb, ne-eqb, eqb-true}
-use Rattle.laws.proofs.Tests.{test, by-same, by-less, apart, false-true}
-use Rattle.paper.specs.Basics.{if_then_else_}
-use Rattle.paper.specs.Sorts.{equalTexts, NAME, semicolon}
-use Rattle.paper.specs.Words.{Word}
+use Rattle.laws.proofs.Tests.{test, by-same, by-less, false-true}
+use Rattle.paper.specs.Sorts.{equalTexts}
 use Rattle.paper.specs.Trees.{Declared}
 use Rattle.paper.specs.Expressions.{startsData}
 use Rattle.paper.specs.Names.{Meaning, unknown, Text, Names, textOf, lookIn, protected, sortIn, spelled, isAmong}
@@ -26,8 +23,8 @@ use Rattle.names.proofs.Shields.{protected-guards}
 use Rattle.grammar.specs.Form.{Parses, DeclaredAt, DeclarationsAt}
 use Rattle.grammar.proofs.Inversions.{NextOf, repeated-next, repeated-none}
 use Rattle.grammar.proofs.Places.{content-grows, declarations-grow}
-use Rattle.heads.specs.Stores.{Kept, Lain}
-use Rattle.heads.specs.Trees.{toCome, dataCell}
+use Rattle.heads.specs.Stores.{Kept}
+use Rattle.heads.specs.Trees.{dataCell}
 use Rattle.heads.specs.Parts.{storeCells, isOneOf, Has, Next, Announces, DataStand, DataKnown, Data}
 use Rattle.heads.proofs.Inner.{noSemicolon, content-words, expression-grows}
 use Rattle.heads.proofs.Frames.{kept-same, kept-on, put-kept}

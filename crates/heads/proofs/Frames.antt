@@ -1,24 +1,22 @@
 -- What stays as it was, put together; and what of the words of a text stays known.
 use mathlib.Core.Path.{_≡_, refl, sym, ap, ap₂, subst, _∙_}
-use mathlib.Core.Bool.{Bool, true, false}
+use mathlib.Core.Bool.{true}
 use mathlib.Core.List.{List, map}
 use Prim.Native.Nat.{ℕ, _+_, _-_, _*_, _/_, _%_, _<_, _≤_}
 use native.Mathlib.Omega.{arith}
 use lib.ListN.{length, take, drop, getD}
 use lib.Seq.{take-take, drop-drop, getD-take, getD-drop}
-use Rattle.laws.proofs.Tests.{test, by-same, by-less, false-true}
-use Rattle.paper.specs.Sorts.{folded, NAME}
+use Rattle.laws.proofs.Tests.{test, by-same, false-true}
+use Rattle.paper.specs.Sorts.{folded}
 use Rattle.paper.specs.Words.{Word}
 use Rattle.paper.specs.Expressions.{isType, startsRoutine}
-use Rattle.paper.specs.Names.{sortIn, spelled}
-use Rattle.cells.specs.Words.{wordsOf, Put, Cleared}
+use Rattle.cells.specs.Words.{wordsOf, Put}
 use Rattle.cells.proofs.Laws.{words-take, words-drop}
 use Rattle.cells.proofs.Kept.{put-length, put-take, put-drop, put-same, put-other}
 use Rattle.code.specs.Cells.{opIn, valueIn, headAt, tailAt, opAt, valueAt}
-use Rattle.names.specs.Numbers.{numberOf, IsName}
-use Rattle.names.specs.Promises.{numberAt}
+use Rattle.names.specs.Numbers.{IsName}
 use Rattle.names.proofs.Spellings.{name-inside}
-use Rattle.heads.specs.Stores.{Kept, isValued, Marked, Valued, Lain, spelledAt, Spells}
+use Rattle.heads.specs.Stores.{Kept, isValued, Marked, Valued, Lain, Spells}
 
 -- ---- cells outside
 module _ {before after : List ℕ} {from to : ℕ} (k : Kept before after from to) where

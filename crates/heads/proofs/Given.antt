@@ -2,24 +2,23 @@
 use mathlib.Core.Path.{_≡_, refl, sym, ap, ap₂, subst, _∙_}
 use mathlib.Core.Bool.{Bool, true, false, _||_}
 use mathlib.Core.List.{List, [], _∷_, _++_, map, append-assoc}
-use mathlib.Core.Option.{Option}
-use Prim.Native.Nat.{ℕ, _+_, _<_, _≤_}
+use Prim.Native.Nat.{ℕ, _+_, _≤_}
 use native.Mathlib.Omega.{arith}
-use lib.Dec.{eqb, ltb}
+use lib.Dec.{eqb}
 use lib.ListN.{length, length-append}
-use lib.IntN.{ℤ, pos}
+use lib.IntN.{pos}
 use borrow.Author.Tests.{eq-eqb, ne-eqb, lt-ltb, le-ltb}
-use Rattle.laws.proofs.Tests.{test, by-same, by-less, false-true}
+use Rattle.laws.proofs.Tests.{test, by-same, by-less}
 use Rattle.paper.specs.Basics.{if_then_else_}
 use Rattle.paper.specs.Sorts.{equalTexts}
 use Rattle.paper.specs.Words.{Word}
 use Rattle.paper.specs.Trees.{Parameter, Routine, Module}
-use Rattle.paper.specs.Names.{DataType, refusedPiece, typeOf, Meaning, variable, Text, Names, textOf, sortIn, spelled, isAmong, protected, cannotDeclare, declare}
+use Rattle.paper.specs.Names.{DataType, refusedPiece, typeOf, Meaning, variable, Text, Names, textOf, sortIn, spelled, isAmong, cannotDeclare, declare}
 use Rattle.paper.specs.Types.{Fault, fault, faultIf}
-use Rattle.paper.specs.Declarations.{routineWordLimit, crosses, isRefused, Data, Filling, declareName, declareParameters, noData, Signature, routineFilling, parameterTypes, resultAsked, signature}
+use Rattle.paper.specs.Declarations.{routineWordLimit, crosses, isRefused, Data, Filling, declareName, declareParameters, noData, routineFilling, parameterTypes, resultAsked, signature}
 use Rattle.names.specs.Meanings.{isProtected}
 use Rattle.names.proofs.Spellings.{same-texts}
-use Rattle.grammar.specs.Form.{Parses, SeparatedAt, last-one, one-more, ClosedAt, closed-at-once, closed-later, ParameterAt, ParametersAt}
+use Rattle.grammar.specs.Form.{Parses, SeparatedAt, last-one, one-more, closed-at-once, closed-later, ParameterAt, ParametersAt}
 use Rattle.heads.specs.Trees.{givenTypes, givenSignature}
 
 -- ---- faults by their words

@@ -1,12 +1,12 @@
 -- The head of one routine.
-use mathlib.Core.Path.{_≡_, refl, sym, ap, ap₂, subst, _∙_}
-use mathlib.Core.Bool.{Bool, true, false}
+use mathlib.Core.Path.{_≡_, sym, ap, ap₂, subst, _∙_}
+use mathlib.Core.Bool.{Bool, true}
 use mathlib.Core.List.{List, []}
-use mathlib.Core.Option.{Option, none, some}
+use mathlib.Core.Option.{Option, some}
 use Prim.Native.Nat.{ℕ, _+_, _*_, _<_, _≤_}
 use native.Mathlib.Omega.{arith}
 use lib.Dec.{eqb}
-use lib.ListN.{length, getD}
+use lib.ListN.{length}
 use borrow.Author.Tests.{eq-eqb, ne-eqb}
 use Rattle.laws.proofs.Tests.{by-same}
 use Rattle.paper.specs.Basics.{if_then_else_}
@@ -14,24 +14,23 @@ use Rattle.paper.specs.Sorts.{PROC, FUNC}
 use Rattle.paper.specs.Words.{Word}
 use Rattle.paper.specs.Trees.{Expr, Routine}
 use Rattle.paper.specs.Expressions.{isType, startsRoutine}
-use Rattle.paper.specs.Names.{DataType, refusedPiece, typeOf, sortIn, spelled}
-use Rattle.paper.specs.Declarations.{routineLimit, crosses, resultAsked, Signature}
+use Rattle.paper.specs.Names.{DataType, refusedPiece, typeOf, sortIn}
+use Rattle.paper.specs.Declarations.{routineLimit, resultAsked}
+use Rattle.paper.specs.Checks.{isSome}
 use Rattle.cells.specs.Words.{wordsOf}
 use Rattle.code.specs.Cells.{headAt, opAt, valueAt}
-use Rattle.code.specs.Signatures.{typeAt, resultAt, signatureIn, signatureEnd, firstParameter}
-use Rattle.heads.specs.Stores.{typesFrom, parametersFrom}
+use Rattle.code.specs.Signatures.{typeAt, typesAt, firstParameter, resultAt, headIn, signatureIn}
 use Rattle.code.proofs.Signatures.{type-kept, types-kept}
-use Rattle.names.specs.Numbers.{numberOf, IsName}
-use Rattle.names.specs.Promises.{storeBytes}
 use Rattle.grammar.specs.Form.{Parses, ParametersAt, HeadAt, a-proc, a-func, RoutineAt}
 use Rattle.grammar.proofs.Inversions.{IsProc, IsFunc, head-proc, head-func}
 use Rattle.grammar.proofs.Places.{parameters-grow, declarations-grow, list-grows, handler-grows, head-grows}
-use Rattle.heads.specs.Stores.{Kept, isValued, Marked, Valued, Lain}
-use Rattle.heads.specs.Trees.{givenTypes, givenSignature}
-use Rattle.heads.specs.Parts.{markOf, ParametersStand, Sees, ParametersMarked, Parameters, Names, RoutineStands, RoutineKnown, Begun}
+use Rattle.heads.specs.Stores.{Marked, Valued, Lain}
+use Rattle.heads.specs.Trees.{headFor, givenTypes, givenSignature}
+use Rattle.heads.specs.Parts.{markOf, ParametersStand, ParametersMarked, Parameters, Names, RoutineStands, RoutineKnown, Begun}
 use Rattle.heads.proofs.Inner.{expression-grows}
 use Rattle.heads.proofs.Given.{crosses-one}
 use Rattle.heads.proofs.Frames.{kept-wider, marked-same, marked-on, marked-wider, head-below, lain-kept, valued-value, valued-op, valued-other, valued-marked, valued-type, valued-routine}
+use Rattle.heads.proofs.Numbering.{word-at}
 use Rattle.heads.proofs.Marking.{sort-inside, type-marked}
 
 closing-some : {W : ℕ → ℕ} {E : (d at : ℕ) → Expr → (to : ℕ) → Type 0} {result : Option ℕ} {closing at name : ℕ} → HeadAt W E result closing at name → 0 < closing
@@ -74,12 +73,20 @@ module _ (W : List Word) (r : Routine) (h to : ℕ) (form : RoutineAt (sortIn W)
   proc d = by-same (sortIn W h) PROC (λ p. head-proc (sortIn W) (Parses (sortIn W)) (form .head) p) (λ q. absurd (d (head-func (sortIn W) (Parses (sortIn W)) (form .head) q .opens)))
 
   -- the first parameter
-  params-from : (C : List ℕ) → opAt C h ≡ sortIn W h → parametersFrom C h ≡ r .name + 2
+  params-from : (C : List ℕ) → opAt C h ≡ sortIn W h → firstParameter C h ≡ r .name + 2
   unfolding firstParameter
   params-from C e =
       by-same (sortIn W h) FUNC
       (λ f. rw (eq-eqb (opAt C h) FUNC (e ∙ f)) (omega (arith, func f .name-at)))
       (λ d. rw (ne-eqb (opAt C h) FUNC (λ z. d (sym e ∙ z))) (omega (arith, proc d .name-at)))
+
+  -- it has a result
+  function-is : (C : List ℕ) → opAt C h ≡ sortIn W h → isSome (r .result) ≡ eqb (opAt C h) FUNC
+  unfolding isSome
+  function-is C e =
+      by-same (sortIn W h) FUNC
+      (λ f. rw (eq-eqb (opAt C h) FUNC (e ∙ f), func f .is))
+      (λ d. rw (ne-eqb (opAt C h) FUNC (λ z. d (sym e ∙ z)), proc d .is))
 
   module _ (k : ℕ) (code : List ℕ) (lain : Lain W code) (code₁ : List ℕ) (n : ℕ) (named : Names code h k code₁ n) where
     room : h * 8 + 16 ≤ length code
@@ -177,19 +184,26 @@ module _ (code values : List ℕ) (h k : ℕ) (g : RoutineStands code values h k
           valued-other h count v room₂ (h + 1) (λ e. omega arith)
           ∙ head-below (p .marked) (h + 1) (omega (arith, name-behind (g .W) (g .r) h (g .to) (g .form), named-is))
 
-      from₃ : parametersFrom (wordsOf code₃) h ≡ n + 2
+      from₃ : firstParameter (wordsOf code₃) h ≡ n + 2
       from₃ = params-from (g .W) (g .r) h (g .to) (g .form) (wordsOf code₃) op₃ ∙ ap (λ (x : ℕ). x + 2) (sym named-is)
 
-      types₃ : typesFrom (wordsOf code₃) (parametersFrom (wordsOf code₃) h) (valueAt (wordsOf code₃) h) ≡ givenTypes (g .W) [] 0 (t .parameters)
+      types₃ : typesAt (wordsOf code₃) (valueAt (wordsOf code₃) h) (firstParameter (wordsOf code₃) h) ≡ givenTypes (g .W) [] 0 (t .parameters)
       types₃ =
-          ap₂ (typesFrom (wordsOf code₃)) from₃ value₃
+          ap₂ (typesAt (wordsOf code₃)) value₃ from₃
           ∙ types-kept (wordsOf code₂) (wordsOf code₃) (n + 2) count (λ j a b. valued-other h count v room₂ j (λ e. omega (arith, name-behind (g .W) (g .r) h (g .to) (g .form), named-is)))
           ∙ p .types
+
+      head₃ : headFor t ≡ headIn (wordsOf code₃) h
+      unfolding headFor headIn
+      head₃ =
+          ap₂ (λ (w n : ℕ). record { word = w; parameters = n; function = isSome (t .result) }) (word-at (sortIn (g .W)) t h (g .to) (g .form)) (sym (value₃ ∙ p .count))
+          ∙ ap (λ (b : Bool). record { word = h; parameters = valueAt (wordsOf code₃) h; function = b }) (function-is (g .W) t h (g .to) (g .form) (wordsOf code₃) op₃)
 
       all : RoutineKnown (g .W) (g .r) (g .to) code values h k code₃ values′ n
       unfolding signatureIn givenSignature
       all = record {
         name = named-is;
+        head = head₃;
         signature = ap₂ (λ (o : Option DataType) (l : List DataType). record { result = o; parameters = l })
             (result-is (g .W) (g .r) h (g .to) (g .form) k code (g .lain) code₁ n named (wordsOf code₃) op₃ second₃) types₃;
         ends = omega (arith, from₃, value₃, p .ends, close-inside (g .W) (g .r) h (g .to) (g .form), g .form .after);

@@ -6,19 +6,19 @@ use mathlib.Core.Option.{Option}
 use Prim.Native.Nat.{ℕ, zero, suc, _+_, _-_, _<_, _≤_}
 use native.Mathlib.Omega.{arith}
 use lib.Dec.{eqb, ltb}
-use borrow.Author.Tests.{eqb-true, eqb-false, eq-eqb, lt-ltb}
+use borrow.Author.Tests.{eqb-true, eqb-false, lt-ltb}
 use Rattle.laws.proofs.Tests.{test, by-less, false-true}
-use Rattle.paper.specs.Sorts.{NAME, NUMBER, NOT, TRUE, FALSE, NUM, BOOL, plus, minusSign, openParen, closeParen, openBrace, closeBrace, semicolon, ENDPROC, ENDFUNC}
-use Rattle.paper.specs.Trees.{Expr, leaf, element, nested, signed, joined, Target, Simple, Statement, Statements, Arms, Cases, Content, Declared, Parameter, RoutineList, Routine}
-use Rattle.paper.specs.Expressions.{Parsed, got, no, _>>=_, parts, relations, disjunctions, nestings, chain, prefixed, level, levelOf, standsBefore, isLiteral, isType, operand, exprIn}
+use Rattle.paper.specs.Sorts.{NAME, NOT, plus, minusSign, openParen, closeParen, openBrace, closeBrace, semicolon, ENDPROC, ENDFUNC}
+use Rattle.paper.specs.Trees.{Expr, leaf, signed, joined, Target, Simple, Statement, Statements, Arms, Cases, Content, Declared, Parameter, RoutineList, Routine}
+use Rattle.paper.specs.Expressions.{Parsed, got, parts, relations, disjunctions, nestings, chain, prefixed, level, levelOf, standsBefore, isLiteral, isType, operand, exprIn}
 use Rattle.climb.proofs.Climb.{got-no, went, after, chain-on, chain-stop}
 use Rattle.climb.proofs.Operands.{got-same, op-paren, op-element, op-name, op-literal, op-none, deeper}
-use Rattle.climb.proofs.Places.{spans-grow, spans-first, stands}
+use Rattle.climb.proofs.Places.{spans-grow, stands}
 use Rattle.grammar.specs.Form.{Parses, SeparatedAt, last-one, one-more, ClosedAt, closed-at-once, closed-later, RepeatedAt, none-starts, one-starts}
 use Rattle.grammar.specs.Form.{ExprAt, ExprsAt, ArgumentsAt, IndexAt, no-index, in-braces, TargetAt, OptionalAt, no-value, a-value, NumberAt, no-number, a-number}
 use Rattle.grammar.specs.Form.{SimpleAt, assigning, assigning-call, calling, returning, raising, exiting, retrying, trying-next, writing, reading, StepAt, no-step, a-step, ForHeadAt}
 use Rattle.grammar.specs.Form.{StatementAt, plain, compact, full, counting, looping, testing, ListAt, ended, begun, ArmsAt, last-arm, more-arms, ElseAt, no-else, an-else, CasesAt, no-more-cases, one-case, DefaultAt, no-default, a-default}
-use Rattle.grammar.specs.Form.{ContentAt, no-content, initial, sized, constant, DeclaredAt, DeclarationsAt, ParameterAt, ParametersAt, RoutineListAt, HandlerAt, no-handler, a-handler, HeadAt, a-proc, a-func, RoutineAt, RoutinesAt}
+use Rattle.grammar.specs.Form.{ContentAt, no-content, initial, sized, constant, DeclaredAt, ParameterAt, HandlerAt, no-handler, a-handler, RoutineAt}
 use Rattle.heads.specs.Parts.{isOneOf}
 
 -- ---- words from a on and before b

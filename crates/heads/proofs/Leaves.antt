@@ -5,13 +5,11 @@ use mathlib.Core.List.{List, [], _∷_, map}
 use Prim.Native.Nat.{ℕ, _+_, _-_, _*_, _/_, _%_, _<_, _≤_}
 use native.Mathlib.Omega.{arith}
 use lib.Dec.{eqb}
-use lib.ListN.{length, getD, take, drop}
+use lib.ListN.{getD, take, drop}
 use borrow.Author.Tests.{eq-eqb, ne-eqb}
 use Rattle.laws.proofs.Tests.{by-last, by-less, by-same, false-true}
-use Rattle.paper.specs.Basics.{if_then_else_}
 use Rattle.paper.specs.Sorts.{bytes, folded, equalTexts, PROC, FUNC, VAR, CONST}
 use Rattle.paper.specs.Expressions.{startsData, startsRoutine}
-use Rattle.paper.specs.Declarations.{routineLimit}
 use Rattle.cells.specs.Words.{wordsOf, Got, Put}
 use Rattle.code.specs.Cells.{opAt, valueAt}
 use Rattle.names.specs.Meanings.{firstMeaning, protectsCell}

@@ -9,3 +9,5 @@ pub mod Numbering
 pub mod Scoping
 pub mod Taking
 pub mod Walking
+pub mod Whole
+pub mod Results

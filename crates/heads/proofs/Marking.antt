@@ -1,25 +1,24 @@
 -- The parameters of a routine, one after another.
 use mathlib.Core.Path.{_≡_, refl, sym, ap, ap₂, subst, _∙_}
 use mathlib.Core.Bool.{Bool, true, false, _||_}
-use mathlib.Core.List.{List, [], _∷_, _++_, map, append-assoc}
+use mathlib.Core.List.{List, [], _∷_, _++_, append-assoc}
 use Prim.Native.Nat.{ℕ, zero, suc, _+_, _*_, _<_, _≤_}
 use native.Mathlib.Omega.{arith}
 use native.Mathlib.Numerals.{add-one}
 use lib.Dec.{eqb}
 use lib.ListN.{length, getD}
 use borrow.Author.Tests.{eq-eqb, ne-eqb}
-use Rattle.laws.proofs.Tests.{test, by-same}
+use Rattle.laws.proofs.Tests.{by-same}
 use Rattle.paper.specs.Basics.{if_then_else_}
-use Rattle.paper.specs.Sorts.{equalTexts, NAME, comma, closeParen}
+use Rattle.paper.specs.Sorts.{comma}
 use Rattle.paper.specs.Words.{Word}
 use Rattle.paper.specs.Trees.{Parameter}
 use Rattle.paper.specs.Expressions.{isType}
 use Rattle.paper.specs.Names.{DataType, refusedPiece, typeOf, Text, noWord, nth, sortIn, spelled, isAmong, cannotDeclare}
 use Rattle.cells.specs.Words.{wordsOf, Put}
-use Rattle.cells.proofs.Kept.{put-same, put-other, put-length}
-use Rattle.code.specs.Cells.{headAt, opAt, valueAt}
+use Rattle.cells.proofs.Kept.{put-same, put-other}
+use Rattle.code.specs.Cells.{opAt, valueAt}
 use Rattle.code.specs.Signatures.{typeAt, typesAt}
-use Rattle.heads.specs.Stores.{typesFrom}
 use Rattle.code.proofs.Signatures.{types-more, types-kept}
 use Rattle.names.specs.Numbers.{numberOf, IsName}
 use Rattle.names.specs.Meanings.{isProtected, protectsCell, firstMeaning, cellFor}
@@ -28,7 +27,7 @@ use Rattle.names.proofs.Spellings.{texts-same, texts-differ, numbers-same, spel
 use Rattle.grammar.specs.Form.{Parses, SeparatedAt, last-one, one-more, ParameterAt}
 use Rattle.grammar.proofs.Inversions.{FirstOf, separated-first, closed-none, closed-some}
 use Rattle.grammar.proofs.Places.{parameters-grow}
-use Rattle.heads.specs.Stores.{Kept, isValued, Marked, Valued, Lain}
+use Rattle.heads.specs.Stores.{Kept, Marked, Lain}
 use Rattle.heads.specs.Trees.{givenTypes}
 use Rattle.heads.specs.Parts.{refuses, markOf, Marks, ParametersStand, Sees, ParametersMarked, Parameters}
 use Rattle.heads.proofs.Inner.{expression-grows}
@@ -57,7 +56,7 @@ pub record ParamsLeft {code₀ values₀ : List ℕ} {h at : ℕ} (g : Parameter
   pub form : SeparatedAt (sortIn (g .W)) (ParameterAt (sortIn (g .W)) (Parses (sortIn (g .W)))) rest i (g .close)
   pub earlier : List Text
   pub place : i ≡ at + 3 * count
-  pub left : givenTypes (g .W) [] 0 (g .ps) ≡ typesFrom (wordsOf code) at count ++ givenTypes (g .W) earlier count rest
+  pub left : givenTypes (g .W) [] 0 (g .ps) ≡ typesAt (wordsOf code) count at ++ givenTypes (g .W) earlier count rest
   pub many : length (g .ps) ≡ count + length rest
   pub seen : (j : ℕ) → IsName (g .W) j → isAmong earlier (spelled (g .W) j) ≡ eqb (getD (wordsOf values) (numberOf (g .W) j) 0) h
   pub guards : (j : ℕ) → IsName (g .W) j → protectsCell (cellFor (g .W) (wordsOf values) j) ≡ isProtected (spelled (g .W) j)
@@ -150,24 +149,24 @@ module _ {code₀ values₀ : List ℕ} {h at : ℕ} (g : ParametersStand code�
       ∙ ap (λ (s : ℕ). if cannotDeclare (l .earlier) text || eqb count 64 then refusedPiece else typeOf s)
       (valued-op i _ (k .mark) room ∙ lain .sorts i (omega (arith, inside, bounds)) ∙ sym (first .one .type))
 
-  types-so-far : typesFrom (wordsOf code′) at count ≡ typesFrom (wordsOf code) at count
+  types-so-far : typesAt (wordsOf code′) count at ≡ typesAt (wordsOf code) count at
   types-so-far = types-kept (wordsOf code) (wordsOf code′) at count (λ j a b. valued-other i _ (k .mark) room j (λ e. omega (arith, l .place)))
 
-  types-then : typesFrom (wordsOf code′) at (count + 1) ≡ typesFrom (wordsOf code) at count ++ (typeAt (wordsOf code′) i ∷ [])
+  types-then : typesAt (wordsOf code′) (count + 1) at ≡ typesAt (wordsOf code) count at ++ (typeAt (wordsOf code′) i ∷ [])
   types-then =
-      ap (typesFrom (wordsOf code′) at) (add-one count) ∙ types-more (wordsOf code′) at count
+      ap (λ (n : ℕ). typesAt (wordsOf code′) n at) (add-one count) ∙ types-more (wordsOf code′) at count
       ∙ ap₂ (λ (a : List DataType) (b : ℕ). a ++ (typeAt (wordsOf code′) b ∷ [])) types-so-far (sym (l .place))
 
   name-is : first .a .name ≡ i + 1
   name-is = first .one .named
 
-  left-then : givenTypes (g .W) [] 0 (g .ps) ≡ typesFrom (wordsOf code′) at (count + 1) ++ givenTypes (g .W) (text ∷ l .earlier) (count + 1) (first .rest)
+  left-then : givenTypes (g .W) [] 0 (g .ps) ≡ typesAt (wordsOf code′) (count + 1) at ++ givenTypes (g .W) (text ∷ l .earlier) (count + 1) (first .rest)
   unfolding givenTypes text
   left-then =
-      l .left ∙ ap (λ (r : List Parameter). typesFrom (wordsOf code) at count ++ givenTypes (g .W) (l .earlier) count r) (first .is)
-      ∙ ap (λ (n : ℕ). typesFrom (wordsOf code) at count ++ ((if cannotDeclare (l .earlier) (spelled (g .W) n) || eqb count 64 then refusedPiece else typeOf (first .a .type)) ∷ givenTypes (g .W) (spelled (g .W) n ∷ l .earlier) (count + 1) (first .rest))) name-is
-      ∙ ap (λ (t : DataType). typesFrom (wordsOf code) at count ++ (t ∷ givenTypes (g .W) (text ∷ l .earlier) (count + 1) (first .rest))) (sym type-is)
-      ∙ sym (append-assoc (typesFrom (wordsOf code) at count) (typeAt (wordsOf code′) i ∷ []) (givenTypes (g .W) (text ∷ l .earlier) (count + 1) (first .rest)))
+      l .left ∙ ap (λ (r : List Parameter). typesAt (wordsOf code) count at ++ givenTypes (g .W) (l .earlier) count r) (first .is)
+      ∙ ap (λ (n : ℕ). typesAt (wordsOf code) count at ++ ((if cannotDeclare (l .earlier) (spelled (g .W) n) || eqb count 64 then refusedPiece else typeOf (first .a .type)) ∷ givenTypes (g .W) (spelled (g .W) n ∷ l .earlier) (count + 1) (first .rest))) name-is
+      ∙ ap (λ (t : DataType). typesAt (wordsOf code) count at ++ (t ∷ givenTypes (g .W) (text ∷ l .earlier) (count + 1) (first .rest))) (sym type-is)
+      ∙ sym (append-assoc (typesAt (wordsOf code) count at) (typeAt (wordsOf code′) i ∷ []) (givenTypes (g .W) (text ∷ l .earlier) (count + 1) (first .rest)))
       ∙ ap (λ (a : List DataType). a ++ givenTypes (g .W) (text ∷ l .earlier) (count + 1) (first .rest)) (sym types-then)
 
   seen-then : (j : ℕ) → IsName (g .W) j → isAmong (text ∷ l .earlier) (spelled (g .W) j) ≡ eqb (getD (wordsOf values′) (numberOf (g .W) j) 0) h
@@ -185,7 +184,7 @@ module _ {code₀ values₀ : List ℕ} {h at : ℕ} (g : ParametersStand code�
     pub more : sortIn (g .W) (i + 2) ≡ comma → SeparatedAt (sortIn (g .W)) One rest (i + 3) (g .close)
     pub done : (sortIn (g .W) (i + 2) ≡ comma → ⊥) → (rest ≡ []) × (g .close ≡ i + 2)
     pub sort : (s : ℕ) → s ≡ opAt (wordsOf code′) (i + 2) → s ≡ sortIn (g .W) (i + 2)
-    pub left : givenTypes (g .W) [] 0 (g .ps) ≡ typesFrom (wordsOf code′) at (count + 1) ++ givenTypes (g .W) (text ∷ l .earlier) (count + 1) rest
+    pub left : givenTypes (g .W) [] 0 (g .ps) ≡ typesAt (wordsOf code′) (count + 1) at ++ givenTypes (g .W) (text ∷ l .earlier) (count + 1) rest
     pub many : length (g .ps) ≡ count + 1 + length rest
     pub marked : Marked code₀ code′ at (g .close)
     pub kept : Kept values₀ values′ 0 (g .close)
@@ -233,7 +232,7 @@ module _ {code₀ values₀ : List ℕ} {h at : ℕ} (g : ParametersStand code�
       let d = q .done (λ z. c (q .sort s e ∙ z)) in
       record {
         count = sym (q .many ∙ ap (λ (r : List Parameter). count + 1 + length r) (d .0) ∙ omega arith);
-        types = sym (q .left ∙ ap (λ (r : List Parameter). typesFrom (wordsOf code′) at (count + 1) ++ givenTypes (g .W) (text ∷ l .earlier) (count + 1) r) (d .0) ∙ nothing (typesFrom (wordsOf code′) at (count + 1)));
+        types = sym (q .left ∙ ap (λ (r : List Parameter). typesAt (wordsOf code′) (count + 1) at ++ givenTypes (g .W) (text ∷ l .earlier) (count + 1) r) (d .0) ∙ nothing (typesAt (wordsOf code′) (count + 1) at));
         ends = omega (arith, l .place, d .1);
         marked = q .marked;
         kept = q .kept;

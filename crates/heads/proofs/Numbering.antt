@@ -1,21 +1,18 @@
 -- Routines by their numbers, and by the words that they begin with.
-use mathlib.Core.Path.{_≡_, refl, sym, ap, subst, _∙_}
-use mathlib.Core.Bool.{true, false}
+use mathlib.Core.Path.{_≡_, refl, sym, ap, _∙_}
 use mathlib.Core.List.{List, [], _∷_}
 use mathlib.Core.Option.{Option, none, some}
 use Prim.Native.Nat.{ℕ, zero, suc, _+_, _-_, _<_, _≤_}
 use native.Mathlib.Omega.{arith}
-use lib.Dec.{eqb}
 use lib.ListN.{length, getD, drop}
 use borrow.Author.Tests.{eq-eqb, ne-eqb}
-use Rattle.laws.proofs.Tests.{test, by-same, apart}
+use Rattle.laws.proofs.Tests.{by-same, apart}
 use Rattle.paper.specs.Words.{Word}
-use Rattle.paper.specs.Trees.{Expr, Routine, Module}
-use Rattle.paper.specs.Expressions.{startsRoutine}
-use Rattle.paper.specs.Declarations.{Signature, signature, signatures}
+use Rattle.paper.specs.Trees.{Routine, Module}
+use Rattle.paper.specs.Declarations.{signature, signatures}
 use Rattle.paper.specs.Checks.{noSignature}
 use Rattle.code.specs.Steps.{Head, noHead, numbered}
-use Rattle.grammar.specs.Form.{Parses, RepeatedAt, none-starts, one-starts, HeadAt, a-proc, a-func, RoutineAt, RoutinesAt}
+use Rattle.grammar.specs.Form.{Parses, none-starts, one-starts, HeadAt, a-proc, a-func, RoutineAt, RoutinesAt}
 use Rattle.grammar.proofs.Places.{routine-grows}
 use Rattle.heads.specs.Trees.{wordOf, headFor, headsFor}
 use Rattle.heads.proofs.Inner.{expression-grows}

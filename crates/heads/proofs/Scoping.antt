@@ -1,25 +1,21 @@
 -- The names of routines, and what they mean beside those of module data.
-use mathlib.Core.Path.{_≡_, refl, sym, ap, subst, _∙_}
-use mathlib.Core.Bool.{Bool, true, false, not, _||_}
+use mathlib.Core.Path.{_≡_, refl, sym, ap, _∙_}
+use mathlib.Core.Bool.{true, false}
 use mathlib.Core.List.{List, [], _∷_, map}
-use mathlib.Core.Option.{Option, none, some}
-use Prim.Native.Nat.{ℕ, zero, suc, _+_, _<_}
-use native.Mathlib.Omega.{arith}
-use lib.Dec.{eqb}
+use mathlib.Core.Option.{none}
+use Prim.Native.Nat.{ℕ, suc}
 use lib.IntN.{ℤ}
-use Rattle.laws.proofs.Tests.{test, apart, false-true}
-use Rattle.paper.specs.Basics.{if_then_else_}
-use Rattle.paper.specs.Sorts.{bytes, equalTexts}
+use Rattle.laws.proofs.Tests.{test, false-true}
+use Rattle.paper.specs.Sorts.{equalTexts}
 use Rattle.paper.specs.Words.{Word}
 use Rattle.paper.specs.Terms.{Ref}
 use Rattle.paper.specs.Trees.{Content, variableData, initialData, arrayData, constantData, Declared, Routine, Module}
-use Rattle.paper.specs.Names.{DataType, typeOf, Meaning, unknown, variable, array, constant, theRoutine, routineIn, Text, Names, textOf, Scopes, spelled, lookIn, protected, isAmong, meaning, cannotDeclare, declare}
+use Rattle.paper.specs.Names.{DataType, typeOf, Meaning, unknown, variable, array, constant, theRoutine, routineIn, Text, Names, textOf, spelled, lookIn, protected, isAmong, meaning, cannotDeclare, declare}
 use Rattle.paper.specs.Types.{Fault}
 use Rattle.paper.specs.Declarations.{Data, Filling, declareName, declareContent, declareData, noData, dataTexts, routineNames, moduleFilling, moduleData, moduleScopes}
 use Rattle.names.specs.Meanings.{isProtected}
 use Rattle.names.proofs.Spellings.{same-texts, texts-same}
 use Rattle.heads.specs.Trees.{firstScopes}
-use Rattle.heads.proofs.Announcing.{not-found}
 
 -- ---- looking up
 module _ (text : Text) (m : Meaning) (N : Names) where

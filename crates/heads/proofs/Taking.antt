@@ -1,24 +1,24 @@
 -- The names of routines, one after another: what the table says, and what it will say.
 use mathlib.Core.Path.{_≡_, refl, sym, ap, ap₂, subst, _∙_}
 use mathlib.Core.Bool.{Bool, true, false, not}
-use mathlib.Core.List.{List, [], _∷_, map}
-use mathlib.Core.Option.{Option, none, some}
-use Prim.Native.Nat.{ℕ, zero, suc, _+_, _*_, _%_, _<_, _≤_}
+use mathlib.Core.List.{List, [], _∷_}
+use mathlib.Core.Option.{none, some}
+use Prim.Native.Nat.{ℕ, suc, _+_, _*_, _%_, _<_}
 use native.Mathlib.Omega.{arith}
-use lib.Dec.{eqb, leb}
+use lib.Dec.{eqb}
 use lib.ListN.{length, getD}
-use borrow.Author.Tests.{eq-eqb, ne-eqb, eqb-true, eqb-false}
-use Rattle.laws.proofs.Tests.{test, by-same, apart, false-true}
+use borrow.Author.Tests.{eq-eqb, ne-eqb}
+use Rattle.laws.proofs.Tests.{test, by-same, apart}
 use Rattle.paper.specs.Basics.{if_then_else_}
 use Rattle.paper.specs.Sorts.{bytes, equalTexts}
 use Rattle.paper.specs.Words.{Word}
 use Rattle.paper.specs.Trees.{Routine, Module}
-use Rattle.paper.specs.Names.{Meaning, unknown, theRoutine, theErrno, errorNumber, routineIn, Text, Names, textOf, spelled, lookIn, protected, isAmong, meaning, cannotDeclare}
+use Rattle.paper.specs.Names.{Meaning, unknown, theRoutine, routineIn, Text, Names, spelled, lookIn, protected, isAmong, meaning, cannotDeclare}
 use Rattle.paper.specs.Declarations.{dataTexts, routineNames}
 use Rattle.code.specs.Steps.{Head, noHead, numbered}
 use Rattle.names.specs.Numbers.{numberOf, IsName}
-use Rattle.names.specs.Meanings.{aRoutine, cellWith, meaningWith, meaningIn, isProtected, protectedCell, protectsCell, cellFor, Means}
-use Rattle.names.proofs.Spellings.{same-texts, texts-same, texts-differ, numbers-same, spellings-same}
+use Rattle.names.specs.Meanings.{meaningWith, meaningIn, isProtected, protectedCell, protectsCell, cellFor}
+use Rattle.names.proofs.Spellings.{texts-same, texts-differ, numbers-same, spellings-same}
 use Rattle.names.proofs.Shields.{protected-means, protected-guards}
 use Rattle.names.proofs.Tables.{meaning-with}
 use Rattle.heads.specs.Trees.{headsFor, dataCell, firstScopes}
@@ -40,6 +40,16 @@ module _ (f : ℕ → ℕ) (h : ℕ) where
 
 same-routine : (a b : ℕ) → theRoutine a ≡ theRoutine b → a ≡ b
 same-routine a b e = cc
+
+-- protected names mean no routine
+pub protected-plain : (u : Text) (o : Meaning) → routineIn o ≡ none → routineIn (lookIn protected u o) ≡ none
+unfolding lookIn protected routineIn
+protected-plain u o h =
+    test (equalTexts (bytes "ERRNO") u) (λ t. rw (t, lookIn))
+    (λ t. rw (t, lookIn) (test (equalTexts (bytes "ERR_OVERFLOW") u) (λ a. rw (a, lookIn))
+    (λ a. rw (a, lookIn) (test (equalTexts (bytes "ERR_DIVZERO") u) (λ b. rw (b, lookIn))
+    (λ b. rw (b, lookIn) (test (equalTexts (bytes "ERR_OUTOFBND") u) (λ c. rw (c, lookIn))
+    (λ c. rw (c, lookIn) (test (equalTexts (bytes "ERR_ILLRAISE") u) (λ d. rw (d, lookIn)) (λ d. rw (d, lookIn) h)))))))))
 
 -- what a cell means, or what is left where it has no meaning
 abbrev pub pending : (routine : ℕ → ℕ) → (cell : ℕ) → (otherwise : Meaning) → Meaning
@@ -249,19 +259,10 @@ module _ (W : List Word) (m : Module) where
         test (isProtected u) (λ p. ap protectsCell (cell-protected D u p) ∙ protected-guards (λ n. n) u)
         (λ p. test (isAmong D u) (λ a. ap protectsCell (cell-coming D u p a) ∙ sym p) (λ a. ap protectsCell (cell-none D u p a) ∙ sym p))
 
-    no-routine : (u : Text) (o : Meaning) → routineIn o ≡ none → routineIn (lookIn protected u o) ≡ none
-    unfolding lookIn protected routineIn
-    no-routine u o h =
-        test (equalTexts (bytes "ERRNO") u) (λ t. rw (t, lookIn))
-        (λ t. rw (t, lookIn) (test (equalTexts (bytes "ERR_OVERFLOW") u) (λ a. rw (a, lookIn))
-        (λ a. rw (a, lookIn) (test (equalTexts (bytes "ERR_DIVZERO") u) (λ b. rw (b, lookIn))
-        (λ b. rw (b, lookIn) (test (equalTexts (bytes "ERR_OUTOFBND") u) (λ c. rw (c, lookIn))
-        (λ c. rw (c, lookIn) (test (equalTexts (bytes "ERR_ILLRAISE") u) (λ d. rw (d, lookIn)) (λ d. rw (d, lookIn) h)))))))))
-
     first-exact : (u : Text) → routineIn (meaningIn (numbered R) (dataCell D u)) ≡ none
     unfolding routineIn
     first-exact u =
-        test (isProtected u) (λ p. ap (λ (c : ℕ). routineIn (meaningIn (numbered R) c)) (cell-protected D u p) ∙ ap routineIn (protected-means (numbered R) u) ∙ no-routine u unknown refl)
+        test (isProtected u) (λ p. ap (λ (c : ℕ). routineIn (meaningIn (numbered R) c)) (cell-protected D u p) ∙ ap routineIn (protected-means (numbered R) u) ∙ protected-plain u unknown refl)
         (λ p. test (isAmong D u) (λ a. ap (λ (c : ℕ). routineIn (meaningIn (numbered R) c)) (cell-coming D u p a) ∙ ap routineIn (one-unknown (numbered R)))
         (λ a. ap (λ (c : ℕ). routineIn (meaningIn (numbered R) c)) (cell-none D u p a) ∙ ap routineIn (zero-unknown (numbered R))))
 

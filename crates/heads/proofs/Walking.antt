@@ -1,40 +1,39 @@
 -- The routines, one after another.
-use mathlib.Core.Path.{_≡_, refl, sym, ap, ap₂, subst, _∙_}
+use mathlib.Core.Path.{_≡_, refl, sym, ap, subst, _∙_}
 use mathlib.Core.Bool.{Bool, true, false, not}
 use mathlib.Core.List.{List, [], _∷_}
 use mathlib.Core.Option.{Option, none, some}
-use Prim.Native.Nat.{ℕ, zero, suc, _+_, _*_, _<_, _≤_}
+use Prim.Native.Nat.{ℕ, suc, _+_, _*_, _<_, _≤_}
 use native.Mathlib.Omega.{arith}
 use native.Mathlib.Numerals.{add-one}
 use lib.Dec.{eqb}
 use lib.ListN.{length, getD, drop}
 use borrow.Author.Tests.{eq-eqb, ne-eqb}
-use Rattle.laws.proofs.Tests.{test, by-same, by-less, by-last, apart, false-true}
+use Rattle.laws.proofs.Tests.{test, by-same, by-less, by-last, false-true}
 use Rattle.paper.specs.Basics.{if_then_else_}
 use Rattle.paper.specs.Sorts.{bytes, equalTexts, FUNC, ENDPROC, ENDFUNC}
 use Rattle.paper.specs.Words.{Word}
 use Rattle.paper.specs.Trees.{Expr, Routine, Module}
 use Rattle.paper.specs.Expressions.{startsRoutine}
-use Rattle.paper.specs.Names.{DataType, Meaning, unknown, theRoutine, routineIn, Text, sortIn, spelled, lookIn, protected, meaning}
-use Rattle.paper.specs.Declarations.{Signature, dataTexts, routineNames, moduleScopes, signature, signatures}
+use Rattle.paper.specs.Names.{Meaning, unknown, theRoutine, routineIn, Text, sortIn, spelled, lookIn, protected, meaning}
+use Rattle.paper.specs.Declarations.{Signature, dataTexts, routineNames, signature, signatures}
 use Rattle.paper.specs.Checks.{noSignature, isMain, mainIn, mainOf}
 use Rattle.cells.specs.Words.{wordsOf, Put, Cleared}
 use Rattle.cells.proofs.Kept.{put-same, put-other, clear-length, clear-drop, clear-in, clear-above}
 use Rattle.code.specs.Cells.{headAt, opAt, valueAt, placeAt}
 use Rattle.code.specs.Steps.{Head, noHead, numbered}
-use Rattle.code.specs.Signatures.{resultAt, signatureIn, signatureEnd, Heads, firstParameter}
-use Rattle.heads.specs.Stores.{parametersFrom}
+use Rattle.code.specs.Signatures.{firstParameter, resultAt, headIn, signatureIn, signatureEnd, SignatureAt}
 use Rattle.code.proofs.Signatures.{types-length, signature-kept}
 use Rattle.names.specs.Numbers.{numberOf, IsName}
-use Rattle.names.specs.Meanings.{aRoutine, cellWith, firstMeaning, cellFor}
+use Rattle.names.specs.Meanings.{firstMeaning, cellFor}
 use Rattle.names.specs.Promises.{storeBytes, numberAt, meaningAt}
 use Rattle.names.proofs.Spellings.{number-most, name-inside}
 use Rattle.grammar.specs.Form.{Parses, HeadAt, a-proc, a-func, RoutineAt, RoutinesAt}
 use Rattle.grammar.proofs.Inversions.{NextOf, repeated-next, repeated-none}
-use Rattle.grammar.proofs.Places.{routines-grow, routine-grows}
+use Rattle.grammar.proofs.Places.{routines-grow}
 use Rattle.heads.specs.Stores.{Kept, Marked, Lain, lengthAt, spelledAt, Spells}
 use Rattle.heads.specs.Trees.{wordOf, headFor, headsFor, firstScopes}
-use Rattle.heads.specs.Reads.{MainAt, Filled}
+use Rattle.heads.specs.Reads.{MainAt}
 use Rattle.heads.specs.Parts.{storeCells, isOneOf, Has, Next, RoutineStands, RoutineKnown, Begun, mainAfter, Takes, mainWord, RoutinesStand, RoutinesKnown, Routines}
 use Rattle.heads.proofs.Inner.{inRoutine, routine-words, expression-grows}
 use Rattle.heads.proofs.Given.{signature-given}
@@ -46,13 +45,23 @@ use Rattle.heads.proofs.Scoping.{routine-meant}
 use Rattle.heads.proofs.Taking.{NamesLeft, names-kept, names-still, names-then, names-start, names-tables, main-missing, main-there}
 
 -- ---- signatures
-pub end-kept : (C D : List ℕ) (h : ℕ) → headAt D h ≡ headAt C h → signatureEnd D h ≡ signatureEnd C h
+head-kept : (C D : List ℕ) (h : ℕ) → headAt D h ≡ headAt C h → headIn D h ≡ headIn C h
+unfolding headIn
+head-kept C D h e = rw e
+
+end-kept : (C D : List ℕ) (h : ℕ) → headAt D h ≡ headAt C h → signatureEnd D h ≡ signatureEnd C h
 unfolding firstParameter
 end-kept C D h e = rw e
 
 begins-inside : (C : List ℕ) (h : ℕ) → h < signatureEnd C h
 unfolding firstParameter
 begins-inside C h = test (eqb (opAt C h) FUNC) (λ t. rw t (omega arith)) (λ t. rw t (omega arith))
+
+signed-at : (C : List ℕ) (h : Head) (sig : Signature) (end : ℕ) → h ≡ headIn C (h .word) → signatureIn C (h .word) ≡ sig → signatureEnd C (h .word) ≤ end → end ≤ 8192 → SignatureAt C h sig
+unfolding headIn
+signed-at C h sig end e s u l =
+    let n : h .parameters ≡ valueAt C (h .word) = ap (λ (x : Head). x .parameters) e in
+    record { head-is = e; signature-is = sym s; inside = omega (arith, n) }
 
 closing-one : {W : ℕ → ℕ} {E : (d at : ℕ) → Expr → (to : ℕ) → Type 0} {result : Option ℕ} {closing at name : ℕ} → HeadAt W E result closing at name → isOneOf ENDPROC ENDFUNC closing ≡ true
 unfolding isOneOf
@@ -85,7 +94,7 @@ module _ (W : List Word) (m : Module) (C : List ℕ) where
   unfolding isMain signatureIn resultAt
   is-main-in h =
       test (eqb (opAt C h) FUNC) (λ t. rw (t, isMain))
-      (λ t. rw (t, isMain) (ap (λ (n : ℕ). eqb n 0) (types-length C (parametersFrom C h) (valueAt C h))))
+      (λ t. rw (t, isMain) (ap (λ (n : ℕ). eqb n 0) (types-length C (firstParameter C h) (valueAt C h))))
 
   pub main-at : (main r : ℕ) → r ≡ mainWord C main
       → (main ≡ 0 → lookIn (routineNames W (dataTexts W (m .declared)) 0 (m .routines)) (bytes "MAIN") unknown ≡ unknown)
@@ -136,6 +145,7 @@ pub record RoutinesLeft {text code₀ values₀ : List ℕ} {at : ℕ} (g : Rout
   pub dropped : drop k (g .m .routines) ≡ rest
   pub earlier : List Text
   pub names : NamesLeft (g .W) (g .m) (wordsOf values) earlier k rest main
+  pub headed : (q : ℕ) → q < k → getD (headsFor (g .m .routines)) q noHead ≡ headIn (wordsOf code) (getD (headsFor (g .m .routines)) q noHead .word)
   pub signed : (q : ℕ) → q < k → signatureIn (wordsOf code) (getD (headsFor (g .m .routines)) q noHead .word) ≡ getD (signatures (g .W) (g .m) 0 (g .m .routines)) q noSignature
   pub ended : (q : ℕ) → q < k → signatureEnd (wordsOf code) (getD (headsFor (g .m .routines)) q noHead .word) ≤ i
   -- what was seen, and where nothing was
@@ -207,6 +217,11 @@ module _ {text code₀ values₀ : List ℕ} {at : ℕ} (g : RoutinesStand text 
       each : (q : ℕ) → q < length (headsFor rs) → signatureIn (wordsOf code) (getD (headsFor rs) q noHead .word) ≡ getD (signatures W (g .m) 0 rs) q noSignature
       each q h = l .signed q (omega (arith, all-done, heads-length rs))
 
+      signature-each : (q : ℕ) → q < length (headsFor rs) → SignatureAt (wordsOf code) (getD (headsFor rs) q noHead) (getD (signatures W (g .m) 0 rs) q noSignature)
+      signature-each q h =
+          let d : q < k = omega (arith, all-done, heads-length rs) in
+          signed-at (wordsOf code) (getD (headsFor rs) q noHead) (getD (signatures W (g .m) 0 rs) q noSignature) i (l .headed q d) (each q h) (l .ended q d) (omega (arith, here, g .lain .most))
+
       routines-known : RoutinesKnown W (g .m) (g .end) code₀ values₀ at code values′ r
       routines-known = record {
         tables = names-tables W (g .m) (wordsOf values′) (l .earlier) k main names-last;
@@ -215,7 +230,7 @@ module _ {text code₀ values₀ : List ℕ} {at : ℕ} (g : RoutinesStand text 
           beyond = clear-drop c clear-room 65536 (omega (arith, here, g .lain .most)) ∙ l .kept .above;
           long = clear-length c clear-room ∙ l .kept .long;
         };
-        heads = record { as-many = heads-length rs ∙ sym (signatures-length W (g .m) 0 rs); each = each };
+        heads = record { as-many = heads-length rs ∙ sym (signatures-length W (g .m) 0 rs); each = signature-each };
         marked = subst (Marked code₀ code at) (sym (none-left .1)) (l .marked);
         main = main-at W (g .m) (wordsOf code) main r z (main-missing W (g .m) (wordsOf values′) (l .earlier) k main names-last) (main-there W (g .m) (wordsOf values′) (l .earlier) k main names-last)
             (names-last .main-less) (names-last .main-word) each;
@@ -372,7 +387,15 @@ module _ {text code₀ values₀ : List ℕ} {at : ℕ} (g : RoutinesStand text 
           signed-then q h =
               by-last q k h
               (λ e. rw e (ap (signatureIn (wordsOf code′)) head-word-is ∙ p .signature ∙ signature-given W (g .m) k (one .a) (one .a .name + 2) (one .one .close) (one .one .parameters) ∙ sym (signature-at W (g .m) rs k (one .a) (one .rest) at-k)))
-              (λ u. signature-kept (wordsOf code) (wordsOf code′) (getD (headsFor rs) q noHead .word) (λ x a b. head-same x (omega (arith, l .ended q u))) ∙ l .signed q u)
+              (λ u. let w = getD (headsFor rs) q noHead .word in
+              signature-kept (wordsOf code) (wordsOf code′) w (λ j a b. head-same j (omega (arith, l .ended q u))) ∙ l .signed q u)
+
+          headed-then : (q : ℕ) → q < suc k → getD (headsFor rs) q noHead ≡ headIn (wordsOf code′) (getD (headsFor rs) q noHead .word)
+          headed-then q h =
+              by-last q k h
+              (λ e. rw e (head-at rs k (one .a) (one .rest) at-k ∙ p .head ∙ ap (headIn (wordsOf code′)) (sym head-word-is)))
+              (λ u. let w = getD (headsFor rs) q noHead .word in
+              l .headed q u ∙ sym (head-kept (wordsOf code) (wordsOf code′) w (head-same w (omega (arith, begins-inside (wordsOf code) w, l .ended q u)))))
 
           ended-then : (q : ℕ) → q < suc k → signatureEnd (wordsOf code′) (getD (headsFor rs) q noHead .word) ≤ one .n
           ended-then q h =
@@ -395,6 +418,7 @@ module _ {text code₀ values₀ : List ℕ} {at : ℕ} (g : RoutinesStand text 
                 earlier = took .earlier;
                 names = took .names;
                 signed = signed-then;
+                headed = headed-then;
                 ended = ended-then;
                 low = λ n h. subst (λ (u : ℕ). u < one .n) (sym (took .below n h)) (p .sees (one .n) far (λ q u. omega (arith, l .low q u)) n h);
                 untouched = λ n a h. took .below n h ∙ cell-above (p .kept) n a ∙ l .untouched n (omega arith) h;
@@ -418,6 +442,7 @@ module _ (text code values : List ℕ) (at : ℕ) (g : RoutinesStand text code v
         earlier = dataTexts (g .W) (g .m .declared);
         names = names-start (g .W) (g .m) (wordsOf values) (g .cells);
         signed = λ q h. absurd (omega arith);
+        headed = λ q h. absurd (omega arith);
         ended = λ q h. absurd (omega arith);
         low = λ n h. subst (λ (x : ℕ). x < at) (sym (g .zeros n h)) (g .some);
         untouched = λ n a h. g .zeros n h;

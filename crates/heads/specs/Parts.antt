@@ -14,14 +14,13 @@ use Rattle.paper.specs.Declarations.{routineLimit, routineWordLimit, dataTexts,
 use Rattle.paper.specs.Checks.{mainOf}
 use Rattle.cells.specs.Words.{wordsOf, Put}
 use Rattle.code.specs.Cells.{opAt, valueAt}
-use Rattle.code.specs.Signatures.{signatureIn, signatureEnd, Heads}
-use Rattle.heads.specs.Stores.{typesFrom}
+use Rattle.code.specs.Signatures.{typesAt, headIn, signatureIn, signatureEnd, Heads}
 use Rattle.names.specs.Numbers.{numberOf, IsName}
 use Rattle.names.specs.Meanings.{aRoutine, cellWith, isProtected, protectedCell, protectsCell, firstMeaning, cellFor}
 use Rattle.names.specs.Promises.{storeBytes, numberLimit, numberAt, meaningAt}
 use Rattle.grammar.specs.Form.{Parses, DeclarationsAt, ParametersAt, RoutineAt, RoutinesAt}
 use Rattle.heads.specs.Stores.{Kept, Marked, Valued, Lain, spelledAt, Spells}
-use Rattle.heads.specs.Trees.{headsFor, toCome, dataCell, givenTypes, givenSignature}
+use Rattle.heads.specs.Trees.{headFor, headsFor, toCome, dataCell, givenTypes, givenSignature}
 use Rattle.heads.specs.Reads.{MainAt, Tables, Filled}
 
 abbrev pub storeCells : ℕ
@@ -101,7 +100,7 @@ Sees values values′ h = (b : ℕ) → h < b → ((n : ℕ) → n < numberLimit
 
 pub record ParametersMarked (W : List Word) (ps : List Parameter) (close : ℕ) (code values : List ℕ) (h at : ℕ) (code′ values′ : List ℕ) (r : ℕ) : Type 0 where
   pub count : r ≡ length ps
-  pub types : typesFrom (wordsOf code′) at r ≡ givenTypes W [] 0 ps
+  pub types : typesAt (wordsOf code′) r at ≡ givenTypes W [] 0 ps
   pub ends : at + 3 * r ≤ close + 1
   pub marked : Marked code code′ at close
   pub kept : Kept values values′ 0 close
@@ -133,6 +132,7 @@ pub record RoutineStands (code values : List ℕ) (h k : ℕ) : Type 0 where
 
 pub record RoutineKnown (W : List Word) (t : Routine) (to : ℕ) (code values : List ℕ) (h k : ℕ) (code′ values′ : List ℕ) (r : ℕ) : Type 0 where
   pub name : r ≡ t .name
+  pub head : headFor t ≡ headIn (wordsOf code′) h
   pub signature : signatureIn (wordsOf code′) h ≡ givenSignature W k t
   pub ends : signatureEnd (wordsOf code′) h ≤ to
   pub marked : Marked code code′ h to

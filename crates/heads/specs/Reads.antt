@@ -3,7 +3,7 @@ use mathlib.Core.Path.{_≡_}
 use mathlib.Core.Bool.{true, false}
 use mathlib.Core.List.{List}
 use mathlib.Core.Option.{Option, none, some}
-use Prim.Native.Nat.{ℕ, _+_, _*_, _<_, _≤_}
+use Prim.Native.Nat.{ℕ, _+_, _<_, _≤_}
 use lib.ListN.{length, getD, drop}
 use Rattle.paper.specs.Words.{Word}
 use Rattle.paper.specs.Trees.{Module}
@@ -19,10 +19,10 @@ use Rattle.names.specs.Meanings.{aRoutine, cellWith, isProtected, firstMeaning,
 use Rattle.names.specs.Promises.{storeBytes, numberLimit}
 use Rattle.load.specs.Layout.{wordsIn, headOf, firstCell}
 use Rattle.grammar.specs.Form.{Parses, Stands}
-use Rattle.heads.specs.Stores.{Kept, Marked}
+use Rattle.heads.specs.Stores.{Marked}
 use Rattle.heads.specs.Trees.{headsFor, toCome, firstScopes}
 
--- Both stores as loading leaves them (`Loads`), and the words are a module.
+-- Both stores are as loading leaves them (`Loads`), and the words are a module.
 pub record Begins (text code values : List ℕ) : Type 0 where
   pub m : Module
   pub stands : Stands (sortIn (wordsIn text)) (Parses (sortIn (wordsIn text))) m

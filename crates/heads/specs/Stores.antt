@@ -7,10 +7,9 @@ use lib.ListN.{length, take, drop}
 use Rattle.paper.specs.Sorts.{folded}
 use Rattle.paper.specs.Words.{Word, wordLimit}
 use Rattle.paper.specs.Expressions.{isType, startsRoutine}
-use Rattle.paper.specs.Names.{DataType, Text, sortIn, spelled}
+use Rattle.paper.specs.Names.{Text, sortIn, spelled}
 use Rattle.cells.specs.Words.{wordsOf, Put}
 use Rattle.code.specs.Cells.{headAt, tailAt, opAt, valueAt, placeAt}
-use Rattle.code.specs.Signatures.{typesAt, firstParameter}
 use Rattle.names.specs.Numbers.{numberOf, IsName}
 use Rattle.names.specs.Promises.{storeBytes, numberLimit, numberAt}
 
@@ -21,7 +20,7 @@ pub record Kept (before after : List ℕ) (from to : ℕ) : Type 0 where
   pub long : length after ≡ length before
 
 -- ---- the code store
--- words that are given values: types, and those that routines begin with
+-- words that have a value for a signature: types, and those that routines begin with
 unfoldable pub isValued : (sort : ℕ) → Bool
 isValued s = isType s || startsRoutine s
 
@@ -54,10 +53,3 @@ spelledAt text C i = map folded (take (lengthAt C i) (drop (placeAt C i) text))
 pub record Spells (text : List ℕ) (W : List Word) (code : List ℕ) : Type 0 where
   pub inside : (i : ℕ) → IsName W i → placeAt (wordsOf code) i + lengthAt (wordsOf code) i ≤ length text
   pub is : (i : ℕ) → IsName W i → spelledAt text (wordsOf code) i ≡ spelled W i
-
--- the types of so many parameters, from the first one's type on; and that word
-abbrev pub typesFrom : (C : List ℕ) → (i n : ℕ) → List DataType
-typesFrom C i n = typesAt C n i
-
-abbrev pub parametersFrom : (C : List ℕ) → (h : ℕ) → ℕ
-parametersFrom C h = firstParameter C h

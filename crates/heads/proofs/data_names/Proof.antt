@@ -1,3 +1,4 @@
+-- `heads::data_names` meets its contract.
 use Prim.Native.Nat.{_-_}
 use lib.ListN.{length}
 use borrow.Author.Tests.{not-true, not-false}
@@ -5,12 +6,6 @@ use Rattle.heads.proofs.Announcing.{DataGo, data-start, data-done, data
 use borrow.Author.Needs.{needs}
 use Rattle.heads.proofs.data_names.Statement.{statement}
 use Rattle.heads.proofs.data_names.Tie as tie
-use Rattle.heads.proofs.data_names.Reads as reads
-use Rattle.heads.proofs.data_names.Lts as lts
-use Rattle.heads.proofs.announce.Reads as announce-reads
-use Rattle.heads.proofs.next.Reads as next-reads
-use Rattle.heads.proofs.sort.Reads as sort-reads
-use Rattle.heads.proofs.starts_data.Reads as starts-data-reads
 
 abbrev Inv-loop : tie.InvT-loop
 Inv-loop code values₀ at i₀ values i = DataGo code values₀ at values i
@@ -18,51 +13,39 @@ Inv-loop code values₀ at i₀ values i = DataGo code values₀ at values i
 abbrev μ-loop : tie.MeasureT-loop
 μ-loop code values₀ at i₀ values i = length code - i
 
--- src/lib.rt:102:5
 loop-holds : tie.Need-loop-holds Inv-loop μ-loop
 loop-holds c = search (needs, data-start)
 
--- src/lib.rt:103:25
 sort-requires : tie.Need-sort-requires Inv-loop μ-loop
 sort-requires c κs = search needs
 
--- src/lib.rt:103:13
 starts-data-requires : tie.Need-starts-data-requires Inv-loop μ-loop
 starts-data-requires c κs = search needs
 
--- src/lib.rt:104:13
 same-length : tie.Need-same-length Inv-loop μ-loop
 same-length c = search needs
 
--- src/lib.rt:104:13
 returns : tie.Need-returns Inv-loop μ-loop
 returns c = data-done _ _ _ (c .before .before .before .before .before .before .pre) _ _ (c .before .before .before .loop .inv) _ (c .before .before .sort .ensures) _ (c .before .starts-data .ensures) (not-true _ (c .if1 .taken))
 
--- src/lib.rt:106:32
 add-announce : tie.Need-add-announce Inv-loop μ-loop
 add-announce c = search needs
 
--- src/lib.rt:106:9
 announce-requires : tie.Need-announce-requires Inv-loop μ-loop
 announce-requires c κs = data-announce _ _ _ (c .before .before .before .before .before .before .before .pre) _ _ (c .before .before .before .before .loop .inv) _ (c .before .before .before .sort .ensures) _ (c .before .before .starts-data .ensures) (not-false _ (c .before .if1 .left))
 
--- src/lib.rt:107:24
 add-next : tie.Need-add-next Inv-loop μ-loop
 add-next c = search needs
 
--- src/lib.rt:107:13
 next-requires : tie.Need-next-requires Inv-loop μ-loop
 next-requires c κs = data-ends _ _ _ (c .before .before .before .before .before .before .before .before .before .before .pre) _ _ (c .before .before .before .before .before .before .before .loop .inv) _ (c .before .before .before .before .before .before .sort .ensures) _ (c .before .before .before .before .before .starts-data .ensures) (not-false _ (c .before .before .before .before .if1 .left))
 
--- src/lib.rt:107:13
 add-i : tie.Need-add-i Inv-loop μ-loop
 add-i c = search needs
 
--- src/lib.rt:102:5
 loop-less : tie.Need-loop-less Inv-loop μ-loop
 loop-less c = search needs
 
--- src/lib.rt:102:5
 loop-again : tie.Need-loop-again Inv-loop μ-loop
 loop-again c = data-again _ _ _ (c .before .before .before .before .before .before .before .before .before .before .before .pre) _ _ (c .before .before .before .before .before .before .before .before .loop .inv) _ (c .before .before .before .before .before .before .before .sort .ensures) _ (c .before .before .before .before .before .before .starts-data .ensures) (not-false _ (c .before .before .before .before .before .if1 .left)) _ (c .before .before .before .announce .ensures) _ (c .next .ensures)
 

@@ -1,28 +1,21 @@
+-- `heads::mark` meets its contract.
 use Rattle.heads.proofs.Leaves.{mark-protected, mark-seen, mark-last, mark-none}
 use borrow.Author.Needs.{needs}
 use Rattle.heads.proofs.mark.Statement.{statement}
 use Rattle.heads.proofs.mark.Tie as tie
-use Rattle.heads.proofs.mark.Reads as reads
-use Rattle.heads.proofs.mark.Lts as lts
-use Rattle.names.proofs.is_protected.Reads as is-protected-reads
 
--- src/lib.rt:101:8
 is-protected-requires : tie.Need-is-protected-requires
 is-protected-requires c κs = search needs
 
--- src/lib.rt:102:9
 returns : tie.Need-returns
 returns c = (search (needs, mark-protected), search needs)
 
--- src/lib.rt:105:9
 returns-2 : tie.Need-returns-2
 returns-2 c = (search (needs, mark-seen), search needs)
 
--- src/lib.rt:108:9
 returns-3 : tie.Need-returns-3
 returns-3 c = (search (needs, mark-last), search needs)
 
--- src/lib.rt:98:1
 returns-4 : tie.Need-returns-4
 returns-4 c = (search (needs, mark-none), search needs)
 

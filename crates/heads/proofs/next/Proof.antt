@@ -1,13 +1,10 @@
+-- `heads::next` meets its contract.
 use Prim.Native.Nat.{_-_}
-use native.Mathlib.Omega.{arith}
 use lib.ListN.{length}
 use Rattle.heads.proofs.Leaves.{Going, going-start, going-first, going-second, going-on}
 use borrow.Author.Needs.{needs}
 use Rattle.heads.proofs.next.Statement.{statement}
 use Rattle.heads.proofs.next.Tie as tie
-use Rattle.heads.proofs.next.Reads as reads
-use Rattle.heads.proofs.next.Lts as lts
-use Rattle.heads.proofs.sort.Reads as sort-reads
 
 abbrev Inv-loop : tie.InvT-loop
 Inv-loop code at a b i₀ i = Going code at a b i
@@ -15,31 +12,24 @@ Inv-loop code at a b i₀ i = Going code at a b i
 abbrev μ-loop : tie.MeasureT-loop
 μ-loop code at a b i₀ i = length code - i
 
--- src/lib.rt:52:5
 loop-holds : tie.Need-loop-holds Inv-loop μ-loop
 loop-holds c = search (needs, going-start)
 
--- src/lib.rt:53:13
 sort-requires : tie.Need-sort-requires Inv-loop μ-loop
 sort-requires c κs = search needs
 
--- src/lib.rt:55:13
 returns : tie.Need-returns Inv-loop μ-loop
 returns c = search (needs, going-first)
 
--- src/lib.rt:58:13
 returns-2 : tie.Need-returns-2 Inv-loop μ-loop
 returns-2 c = search (needs, going-second)
 
--- src/lib.rt:60:9
 add-i : tie.Need-add-i Inv-loop μ-loop
 add-i c = search needs
 
--- src/lib.rt:52:5
 loop-less : tie.Need-loop-less Inv-loop μ-loop
 loop-less c = search needs
 
--- src/lib.rt:52:5
 loop-again : tie.Need-loop-again Inv-loop μ-loop
 loop-again c = search (needs, going-on)
 

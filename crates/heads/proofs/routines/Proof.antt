@@ -1,3 +1,4 @@
+-- `heads::routines` meets its contract.
 use Prim.Native.Nat.{_-_}
 use native.Mathlib.Omega.{arith}
 use lib.ListN.{length}
@@ -6,15 +7,6 @@ use Rattle.heads.proofs.Walking.{RoutinesGo, routines-start, routines-d
 use borrow.Author.Needs.{needs}
 use Rattle.heads.proofs.routines.Statement.{statement}
 use Rattle.heads.proofs.routines.Tie as tie
-use Rattle.heads.proofs.routines.Reads as reads
-use Rattle.heads.proofs.routines.Lts as lts
-use Rattle.cells.proofs.clear.Reads as clear-reads
-use Rattle.heads.proofs.head.Reads as head-reads
-use Rattle.heads.proofs.main_of.Reads as main-of-reads
-use Rattle.heads.proofs.next.Reads as next-reads
-use Rattle.heads.proofs.sort.Reads as sort-reads
-use Rattle.heads.proofs.starts_routine.Reads as starts-routine-reads
-use Rattle.heads.proofs.take_name.Reads as take-name-reads
 
 abbrev Inv-loop : tie.InvT-loop
 Inv-loop text code₀ values₀ at i₀ k₀ main₀ code values i k main = RoutinesGo text code₀ values₀ at code values i k main
@@ -22,63 +14,48 @@ Inv-loop text code₀ values₀ at i₀ k₀ main₀ code values i k main = Rout
 abbrev μ-loop : tie.MeasureT-loop
 μ-loop text code₀ values₀ at i₀ k₀ main₀ code values i k main = length code - i
 
--- src/lib.rt:254:5
 loop-holds : tie.Need-loop-holds Inv-loop μ-loop
 loop-holds c = routines-start _ _ _ _ (c .before .before .before .pre)
 
--- src/lib.rt:255:28
 sort-requires : tie.Need-sort-requires Inv-loop μ-loop
 sort-requires c κs = search needs
 
--- src/lib.rt:255:13
 starts-routine-requires : tie.Need-starts-routine-requires Inv-loop μ-loop
 starts-routine-requires c κs = search needs
 
--- src/lib.rt:256:13
 clear-requires : tie.Need-clear-requires Inv-loop μ-loop
 clear-requires c κs = search needs
 
--- src/lib.rt:257:13
 main-of-requires : tie.Need-main-of-requires Inv-loop μ-loop
 main-of-requires c κs = search needs
 
--- src/lib.rt:257:13
 same-length : tie.Need-same-length Inv-loop μ-loop
 same-length c = search needs
 
--- src/lib.rt:257:13
 same-length-2 : tie.Need-same-length-2 Inv-loop μ-loop
 same-length-2 c = search needs
 
--- src/lib.rt:257:13
 returns : tie.Need-returns Inv-loop μ-loop
 returns c = routines-done _ _ _ _ (c .before .before .before .before .before .before .before .before .before .before .before .before .before .before .pre) _ _ _ _ _ (c .before .before .before .before .before .before .before .before .before .before .loop .inv) _ (c .before .before .before .before .before .before .before .before .sort .ensures) _ (c .before .before .before .before .before .before .before .starts-routine .ensures) (not-true _ (c .before .before .before .before .before .before .if1 .taken)) _ (c .before .before .before .before .clear .ensures) _ (c .main-of .ensures)
 
--- src/lib.rt:259:13
 head-requires : tie.Need-head-requires Inv-loop μ-loop
 head-requires c κs = head-asks _ _ _ _ (c .before .before .before .before .before .before .before .before .before .before .pre) _ _ _ _ _ (c .before .before .before .before .before .before .loop .inv) _ (c .before .before .before .before .sort .ensures) _ (c .before .before .before .starts-routine .ensures) (not-false _ (c .before .before .if1 .left))
 
--- src/lib.rt:260:9
 take-name-requires : tie.Need-take-name-requires Inv-loop μ-loop
 take-name-requires c κs = name-asks _ _ _ _ (c .before .before .before .before .before .before .before .before .before .before .before .before .before .before .before .before .before .pre) _ _ _ _ _ (c .before .before .before .before .before .before .before .before .before .before .before .before .before .loop .inv) _ (c .before .before .before .before .before .before .before .before .before .before .before .sort .ensures) _ (c .before .before .before .before .before .before .before .before .before .before .starts-routine .ensures) (not-false _ (c .before .before .before .before .before .before .before .before .before .if1 .left)) _ _ _ (c .before .before .before .before .before .before .head .ensures)
 
--- src/lib.rt:261:13
 next-requires : tie.Need-next-requires Inv-loop μ-loop
 next-requires c κs = next-asks _ _ _ _ (c .before .before .before .before .before .before .before .before .before .before .before .before .before .before .before .before .before .before .before .before .before .pre) _ _ _ _ _ (c .before .before .before .before .before .before .before .before .before .before .before .before .before .before .before .before .before .loop .inv) _ (c .before .before .before .before .before .before .before .before .before .before .before .before .before .before .before .sort .ensures) _ (c .before .before .before .before .before .before .before .before .before .before .before .before .before .before .starts-routine .ensures) (not-false _ (c .before .before .before .before .before .before .before .before .before .before .before .before .before .if1 .left)) _ _ _ (c .before .before .before .before .before .before .before .before .before .before .head .ensures)
 
--- src/lib.rt:261:13
 add-i : tie.Need-add-i Inv-loop μ-loop
 add-i c = search needs
 
--- src/lib.rt:262:9
 add-k : tie.Need-add-k Inv-loop μ-loop
 add-k c = search needs
 
--- src/lib.rt:254:5
 loop-less : tie.Need-loop-less Inv-loop μ-loop
 loop-less c = omega (arith, name-further _ _ _ _ (c .before .before .before .before .before .before .before .before .before .before .before .before .before .before .before .before .before .before .before .before .before .before .pre) _ _ _ _ _ (c .before .before .before .before .before .before .before .before .before .before .before .before .before .before .before .before .before .before .loop .inv) _ (c .before .before .before .before .before .before .before .before .before .before .before .before .before .before .before .before .sort .ensures) _ (c .before .before .before .before .before .before .before .before .before .before .before .before .before .before .before .starts-routine .ensures) (not-false _ (c .before .before .before .before .before .before .before .before .before .before .before .before .before .before .if1 .left)) _ _ _ (c .before .before .before .before .before .before .before .before .before .before .before .head .ensures))
 
--- src/lib.rt:254:5
 loop-again : tie.Need-loop-again Inv-loop μ-loop
 loop-again c = routines-again _ _ _ _ (c .before .before .before .before .before .before .before .before .before .before .before .before .before .before .before .before .before .before .before .before .before .before .pre) _ _ _ _ _ (c .before .before .before .before .before .before .before .before .before .before .before .before .before .before .before .before .before .before .loop .inv) _ (c .before .before .before .before .before .before .before .before .before .before .before .before .before .before .before .before .sort .ensures) _ (c .before .before .before .before .before .before .before .before .before .before .before .before .before .before .before .starts-routine .ensures) (not-false _ (c .before .before .before .before .before .before .before .before .before .before .before .before .before .before .if1 .left)) _ _ _ (c .before .before .before .before .before .before .before .before .before .before .before .head .ensures) _ _ (c .before .before .before .before .take-name .ensures) _ (c .next .ensures)
 

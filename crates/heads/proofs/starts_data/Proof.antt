@@ -1,3 +1,4 @@
+-- `heads::starts_data` meets its contract.
 use Rattle.heads.proofs.Leaves.{data-var, data-const}
 use borrow.Author.Needs.{needs}
 use Rattle.heads.proofs.starts_data.Statement.{statement}

@@ -1,3 +1,4 @@
+-- `heads::starts_routine` meets its contract.
 use Rattle.heads.proofs.Leaves.{routine-proc, routine-func}
 use borrow.Author.Needs.{needs}
 use Rattle.heads.proofs.starts_routine.Statement.{statement}

@@ -1,0 +1,24 @@
+-- `heads::read` meets its contract.
+use Rattle.heads.proofs.Whole.{read-data, routines-asked, read-done}
+use borrow.Author.Needs.{needs}
+use Rattle.heads.proofs.read.Statement.{statement}
+use Rattle.heads.proofs.read.Tie as tie
+
+data-names-requires : tie.Need-data-names-requires
+data-names-requires c κs = read-data (c .before .before .before .before .before .pre)
+
+routines-requires : tie.Need-routines-requires
+routines-requires c κs = routines-asked _ _ _ (c .before .before .before .before .before .before .before .before .before .before .pre) _ _ (c .before .before .before .before .data-names .ensures)
+
+same-length : tie.Need-same-length
+same-length c = search needs
+
+same-length-2 : tie.Need-same-length-2
+same-length-2 c = search needs
+
+returns : tie.Need-returns
+returns c = read-done _ _ _ (c .before .before .before .before .before .before .before .before .before .before .before .before .before .before .before .pre) _ _ (c .before .before .before .before .before .before .before .before .before .data-names .ensures) _ _ _ (c .before .before .before .before .routines .ensures)
+
+pub read-spec : {M : Type 1} → statement M
+read-spec =
+    tie.close (tie.spec data-names-requires routines-requires same-length same-length-2 returns)
