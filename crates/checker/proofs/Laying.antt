@@ -122,6 +122,7 @@ module _ (text code values : List ℕ) (words : ℕ) (l : Laid text code values 
         words = λ i a b. fresh-word i (omega arith);
         last = omega (arith, reading-most text);
         room = omega (arith, reading-most text, k .kept .long, l .code-room);
+        whole = ap (λ (x : ℕ). x % 8) (k .kept .long ∙ l .code-room);
       };
       strings = λ i a b e. ap (λ (x : ℕ). x / 256) (same-head i STRING (omega arith) e plain-string) ∙ length-of i (omega arith) e;
       places = λ i a b. ap (λ (x : ℕ). x % 65536) (k .tails i) ∙ l .loads .places i (omega arith);
@@ -141,6 +142,7 @@ unread-kept W code code′ at low to h same e u = record {
         };
     last = u .loaded .last;
     room = omega (arith, u .loaded .room);
+    whole = ap (λ (x : ℕ). x % 8) e ∙ u .loaded .whole;
   };
   strings = λ i a b q. ap (λ (x : ℕ). x / 256) (same (i * 2) (omega arith)) ∙ u .strings i (omega arith) b q;
   places = λ i a b. ap (λ (x : ℕ). x % 65536) (same (i * 2 + 1) (omega arith)) ∙ u .places i (omega arith) b;
@@ -149,7 +151,7 @@ unread-kept W code code′ at low to h same e u = record {
 -- fewer words
 pub unread-less : (W : List Word) (code : List ℕ) (at to end : ℕ) → to ≤ end → Unread W code at end → Unread W code at to
 unread-less W code at to end h u = record {
-  loaded = record { words = λ i a b. u .loaded .words i a (omega arith); last = omega (arith, u .loaded .last); room = omega (arith, u .loaded .room) };
+  loaded = record { words = λ i a b. u .loaded .words i a (omega arith); last = omega (arith, u .loaded .last); room = omega (arith, u .loaded .room); whole = u .loaded .whole };
   strings = λ i a b q. u .strings i a (omega arith) q;
   places = λ i a b. u .places i a (omega arith);
 }

@@ -1,7 +1,7 @@
 -- What a change of some words leaves as it was, and what is known of the words behind them.
 use mathlib.Core.Path.{_≡_, refl, sym, ap, subst, _∙_}
 use mathlib.Core.List.{List}
-use Prim.Native.Nat.{ℕ, _+_, _*_, _<_, _≤_}
+use Prim.Native.Nat.{ℕ, _+_, _*_, _%_, _<_, _≤_}
 use native.Mathlib.Omega.{arith}
 use lib.ListN.{length, getD}
 use Rattle.laws.proofs.Tests.{by-less}
@@ -77,6 +77,7 @@ module _ (W : List Word) (before after : List ℕ) {a b : ℕ} (o : Outside (wor
       words = λ i l m. fresh-behind i (omega arith) (u .loaded .words i (omega arith) (omega arith));
       last = omega (arith, u .loaded .last);
       room = omega (arith, u .loaded .room, long);
+      whole = ap (λ (x : ℕ). x % 8) long ∙ u .loaded .whole;
     };
     strings = λ i l m q. ap valueIn (head-behind o i (omega arith)) ∙ u .strings i (omega arith) (omega arith) q;
     places = λ i l m. ap placeIn (tail-behind o i (omega arith)) ∙ u .places i (omega arith) (omega arith);

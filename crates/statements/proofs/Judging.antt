@@ -48,6 +48,7 @@ module _ (text code values : List ℕ) (g : Around text values) (k : Setting) (u
     words = λ i l m. h .unread .loaded .words i (omega arith) (omega arith);
     last = omega (arith, h .unread .loaded .last);
     room = omega (arith, h .unread .loaded .room);
+    whole = h .unread .loaded .whole;
   }
 
   pub expression-stands : Stands code values 5 a

@@ -138,6 +138,7 @@ module _ (code values : List ℕ) (c : ℕ) (now : List ℕ) (w op : ℕ) (inv :
           words = λ i l m. x .here .unread .loaded .words i (omega arith) (omega (arith, within, last));
           last = omega (arith, within, last);
           room = omega (arith, within, last, x .here .unread .loaded .room);
+          whole = x .here .unread .loaded .whole;
         };
       };
       M = a .M;
