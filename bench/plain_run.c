@@ -18,7 +18,7 @@ struct call {
     struct limit limits[ROUTINE_WORDS]; /* of the FOR whose variable is that word */
 };
 
-static struct call calls[RAPID_DEPTH_LIMIT];
+static struct call calls[RAPID_DEPTH_LIMIT + 1]; /* one more, for the arguments of a call beyond the depth */
 static int32_t *data;
 static int32_t error; /* ERRNO */
 
@@ -43,79 +43,51 @@ static int32_t element(const struct node *n, const int32_t *words, const int32_t
     return index < 1 || index > n->size ? RAISED + ERR_OUTOFBND : in[n->value + index - 1];
 }
 
+/* Both operands, the left one first; an error ends the expression. */
+#define LEFT int32_t left = operand(n->left, words); if (left >= RAISED) return left
+#define BOTH_SIDES LEFT; int32_t right = operand(n->right, words); if (right >= RAISED) return right
+
 static int32_t worth(const struct node *n, const int32_t *words) {
     switch (n->op) {
-    case CONSTANT:
-        return n->value;
-    case LOCAL:
-        return words[n->value];
-    case GLOBAL:
-        return data[n->value];
-    case ERRNO:
-        return error;
-    case LOCAL_ELEMENT:
-        return element(n, words, words);
-    case GLOBAL_ELEMENT:
-        return element(n, words, data);
-    default:
-        break;
-    }
-    int32_t left = operand(n->left, words);
-    if (left >= RAISED)
-        return left;
-    switch (n->op) {
-    case NEGATE:
-        return ranged(-(int64_t)left);
-    case INVERT:
-        return !left;
-    case BOTH:
-        return left ? operand(n->right, words) : 0;
-    case EITHER:
-        return left ? 1 : operand(n->right, words);
-    default:
-        break;
-    }
-    int32_t right = operand(n->right, words);
-    if (right >= RAISED)
-        return right;
-    switch (n->op) {
-    case ADD:
-        return ranged((int64_t)left + right);
-    case SUBTRACT:
-        return ranged((int64_t)left - right);
-    case MULTIPLY:
-        return ranged((int64_t)left * right);
-    case DIVIDE:
-        return right == 0 ? RAISED + ERR_DIVZERO : ranged(left / right);
-    case MODULO:
-        return right == 0 ? RAISED + ERR_DIVZERO : left % right;
-    case LESS:
-        return left < right;
-    case LESS_EQUAL:
-        return left <= right;
-    case GREATER:
-        return left > right;
-    case GREATER_EQUAL:
-        return left >= right;
-    case EQUAL:
-        return left == right;
-    default: /* of num UNEQUAL, of bool also ONE_OF */
-        return left != right;
+    case CONSTANT: return n->value;
+    case LOCAL: return words[n->value];
+    case GLOBAL: return data[n->value];
+    case ERRNO: return error;
+    case LOCAL_ELEMENT: return element(n, words, words);
+    case GLOBAL_ELEMENT: return element(n, words, data);
+    case NEGATE: { LEFT; return ranged(-left); }
+    case INVERT: { LEFT; return !left; }
+    case BOTH: { LEFT; return left ? operand(n->right, words) : 0; }
+    case EITHER: { LEFT; return left ? 1 : operand(n->right, words); }
+    case ADD: { BOTH_SIDES; return ranged(left + right); }
+    case SUBTRACT: { BOTH_SIDES; return ranged(left - right); }
+    case MULTIPLY: { BOTH_SIDES; return ranged((int64_t)left * right); }
+    case DIVIDE: { BOTH_SIDES; return right == 0 ? RAISED + ERR_DIVZERO : ranged(left / right); }
+    case MODULO: { BOTH_SIDES; return right == 0 ? RAISED + ERR_DIVZERO : left % right; }
+    case LESS: { BOTH_SIDES; return left < right; }
+    case LESS_EQUAL: { BOTH_SIDES; return left <= right; }
+    case GREATER: { BOTH_SIDES; return left > right; }
+    case GREATER_EQUAL: { BOTH_SIDES; return left >= right; }
+    case EQUAL: { BOTH_SIDES; return left == right; }
+    default: { BOTH_SIDES; return left != right; } /* UNEQUAL, and ONE_OF, which takes bool */
     }
 }
 
 int32_t plain_constant(const struct node *node) { return worth(node, NULL); }
 
-/* Where a target is; NULL, and *raised, where its index is outside. */
-static int32_t *spot(const struct node *target, int32_t *words, int32_t *raised) {
-    int32_t *in = target->op == LOCAL || target->op == LOCAL_ELEMENT ? words : data;
-    if (target->op == LOCAL || target->op == GLOBAL)
-        return in + target->value;
+/* Where an element is; NULL, and *raised, where its index is outside. */
+static int32_t *element_spot(const struct node *target, int32_t *words, int32_t *raised) {
     int32_t index = operand(target->left, words);
     if (index >= 1 && index <= target->size)
-        return in + target->value + index - 1;
+        return (target->op == LOCAL_ELEMENT ? words : data) + target->value + index - 1;
     *raised = index >= RAISED ? index : RAISED + ERR_OUTOFBND;
     return NULL;
+}
+
+static inline int32_t *spot(const struct node *target, int32_t *words, int32_t *raised) {
+    if (target->op == LOCAL)
+        return words + target->value;
+    return target->op == GLOBAL ? data + target->value : element_spot(target, words, raised);
 }
 
 /* ---- output */
@@ -215,20 +187,19 @@ void plain_perform(const struct module *module, int32_t *module_data, struct run
             *target = value;
             break;
         case CALL: {
-            int32_t arguments[ROUTINE_WORDS], *result = NULL;
+            const struct routine *routine = s->routine;
+            target = NULL;
             if (s->target)
-                SPOT(result, s->target);
-            for (int i = 0; i < s->routine->parameters; i++)
-                VALUE(arguments[i], s->arguments[i]);
+                SPOT(target, s->target);
+            for (int i = 0; i < routine->parameters; i++)
+                VALUE(top[1].words[i], s->arguments[i]);
             if (top == last)
                 END(RAPID_DEPTH_SPENT, s->callee);
             top->at = s;
             top++;
             words = top->words;
-            for (int i = 0; i < s->routine->parameters; i++)
-                words[i] = arguments[i];
-            begin(top, s->routine, result);
-            s = s->routine->first;
+            begin(top, routine, target);
+            s = routine->first;
             continue;
         }
         case RETURN_VALUE:

@@ -9,7 +9,10 @@
 #include <string.h>
 #include <time.h>
 
-enum { LESSON = 16384, ROUNDS = 100, TURN = 1 << 19 };
+#ifndef ROUNDS
+#define ROUNDS 100
+#endif
+enum { LESSON = 16384, TURN = 1 << 19 };
 enum reading { PROVED, SHIFTED, PLAIN, KEYED, LISTINGS, ASK = LISTINGS, READINGS };
 static const char *const names[READINGS] = {"proved", "shifted", "plain", "keyed", "ask"};
 
