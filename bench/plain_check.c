@@ -1,181 +1,8 @@
-/* Checks a module as one would write it in C: words (plain_words.c), then tokens, then one recursive descent that looks at form, names and types and
- * makes the tree. Refusals 8 and 9 end it at once; of 10 to 17 the least is kept. */
-#include "plain_tree.h"
-#include "plain_words.h"
-#include "../host/rapid.h"
+/* Checks a module as one would write it in C: one recursive descent over the tokens that looks at form, names and types and makes the tree. Refusals 8 and 9
+ * end it at once; of 10 to 17 the least is kept. */
+#include "plain_tokens.h"
 #include <setjmp.h>
 #include <string.h>
-
-/* ---- tokens */
-/* Signs as in `signs`, reserved words as in `reserved`; those that no rule of the form asks for are OTHER. */
-enum sort {
-    S_END, S_NAME, S_NUMBER, S_STRING,
-    S_SEMICOLON, S_COMMA, S_OPEN, S_CLOSE, S_OPEN_BRACE, S_CLOSE_BRACE, S_COLON, S_BECOMES, S_EQUAL, S_LESS, S_LESS_EQUAL, S_UNEQUAL, S_GREATER, S_GREATER_EQUAL,
-    S_PLUS, S_MINUS, S_TIMES, S_BACKSLASH,
-    S_AND, S_BOOL, S_CASE, S_CONST, S_DEFAULT, S_DIV, S_DO, S_ELSE, S_ELSEIF, S_ENDFOR, S_ENDFUNC, S_ENDIF, S_ENDMODULE, S_ENDPROC, S_ENDTEST, S_ENDWHILE, S_ERROR,
-    S_EXIT, S_FALSE, S_FOR, S_FROM, S_FUNC, S_IF, S_MOD, S_MODULE, S_NOT, S_NUM, S_OR, S_PROC, S_RAISE, S_RETRY, S_RETURN, S_STEP, S_TEST, S_THEN, S_TO,
-    S_TPREADNUM, S_TPWRITE, S_TRUE, S_TRYNEXT, S_VAR, S_WHILE, S_XOR, S_OTHER, SORTS
-};
-
-static const char *const reserved[] = {
-    "and", "bool", "case", "const", "default", "div", "do", "else", "elseif", "endfor", "endfunc", "endif", "endmodule", "endproc", "endtest", "endwhile", "error",
-    "exit", "false", "for", "from", "func", "if", "mod", "module", "not", "num", "or", "proc", "raise", "retry", "return", "step", "test", "then", "to",
-    "tpreadnum", "tpwrite", "true", "trynext", "var", "while", "xor",
-    "alias", "backward", "connect", "endrecord", "endtrap", "goto", "inout", "local", "nostepin", "noview", "pers", "readonly", "record", "sysmodule", "trap", "undo",
-    "viewonly", "with",
-};
-enum { RESERVED_WORDS = sizeof reserved / sizeof *reserved };
-
-static const char *const known_names[] = {"errno", "err_overflow", "err_divzero", "err_outofbnd", "err_illraise", "main"};
-/* Names are numbered from 1 on: reserved words, protected names, main, and then those of the text. */
-enum { PROTECTED = 5, FIRST_PROTECTED = RESERVED_WORDS + 1, MAIN_NAME = FIRST_PROTECTED + PROTECTED };
-
-struct token {
-    uint8_t sort, length;
-    uint16_t place;
-    int32_t value; /* of a number; a name's index */
-};
-
-/* A spelling, letter case apart. */
-struct name {
-    const uint8_t *text;
-    uint32_t hash;
-    uint16_t length, next; /* of the same bucket; 0 at its end */
-    uint16_t symbol;       /* what it means here, 0 for nothing */
-    uint16_t parameter_of; /* the last routine head that has it as a parameter, from 1 on */
-    uint8_t sort, is_data; /* declared as module data somewhere */
-};
-
-enum { BUCKETS = 1024 };
-static struct name names[MAIN_NAME + WORD_LIMIT + 1];
-static uint16_t buckets[BUCKETS], first_buckets[BUCKETS];
-static size_t name_count;
-
-static struct token tokens[WORD_LIMIT + 2];
-static uint8_t entries[RAPID_ENTRY_BYTES * WORD_LIMIT];
-static uint8_t strings[RAPID_TEXT_LIMIT];
-static size_t string_bytes;
-
-/* Letters in one case; digits and `_` stay apart. */
-static uint8_t fold(uint8_t b) { return b | 0x20; }
-
-static int same_spelling(const uint8_t *a, const uint8_t *b, size_t n) {
-    for (size_t i = 0; i < n; i++)
-        if (fold(a[i]) != fold(b[i]))
-            return 0;
-    return 1;
-}
-
-/* The index of a spelling, which is entered where it is new. */
-static size_t name_index(const uint8_t *text, size_t length) {
-    uint32_t hash = (uint32_t)length;
-    for (size_t i = 0; i < length; i++)
-        hash = hash * 31 + fold(text[i]);
-    uint16_t *bucket = &buckets[(hash ^ hash >> 10) % BUCKETS];
-    for (size_t i = *bucket; i; i = names[i].next)
-        if (names[i].hash == hash && names[i].length == length && same_spelling(names[i].text, text, length))
-            return i;
-    names[++name_count] = (struct name){.text = text, .hash = hash, .length = (uint16_t)length, .next = *bucket, .sort = S_NAME};
-    *bucket = (uint16_t)name_count;
-    return name_count;
-}
-
-static void enter_first_names(void) {
-    for (int i = 0; i < RESERVED_WORDS; i++) {
-        size_t index = name_index((const uint8_t *)reserved[i], strlen(reserved[i]));
-        names[index].sort = (uint8_t)(S_AND + i < S_OTHER ? S_AND + i : S_OTHER);
-    }
-    for (size_t i = 0; i < sizeof known_names / sizeof *known_names; i++)
-        name_index((const uint8_t *)known_names[i], strlen(known_names[i]));
-    memcpy(first_buckets, buckets, sizeof buckets);
-    keyed_start();
-}
-
-/* For each check: only the first names. */
-static void forget_names(void) {
-    if (name_count == 0)
-        enter_first_names();
-    memcpy(buckets, first_buckets, sizeof buckets);
-    name_count = MAIN_NAME;
-    names[MAIN_NAME].symbol = names[MAIN_NAME].parameter_of = names[MAIN_NAME].is_data = 0;
-}
-
-static uint8_t sign_sort(const uint8_t *t, size_t length) {
-    switch (t[0]) {
-    case ';': return S_SEMICOLON;
-    case ',': return S_COMMA;
-    case '(': return S_OPEN;
-    case ')': return S_CLOSE;
-    case '{': return S_OPEN_BRACE;
-    case '}': return S_CLOSE_BRACE;
-    case ':': return length == 2 ? S_BECOMES : S_COLON;
-    case '=': return S_EQUAL;
-    case '<': return length == 1 ? S_LESS : t[1] == '=' ? S_LESS_EQUAL : S_UNEQUAL;
-    case '>': return length == 1 ? S_GREATER : S_GREATER_EQUAL;
-    case '+': return S_PLUS;
-    case '-': return S_MINUS;
-    case '*': return S_TIMES;
-    default: return S_BACKSLASH;
-    }
-}
-
-static int32_t number_value(const uint8_t *t, size_t length) {
-    int32_t value = 0;
-    for (size_t i = 0; i < length; i++)
-        value = value * 10 + (t[i] - '0');
-    return value;
-}
-
-/* A string's characters, `""` as one quote; returns how many. */
-static uint8_t keep_string(const uint8_t *t, size_t length) {
-    size_t began = string_bytes;
-    for (size_t i = 1; i < length - 1; i++) {
-        strings[string_bytes++] = t[i];
-        if (t[i] == '"')
-            i++;
-    }
-    return (uint8_t)(string_bytes - began);
-}
-
-static struct token token_of(const uint8_t *text, uint32_t kind, uint32_t place, uint32_t length) {
-    const uint8_t *t = text + place;
-    struct token token = {.place = (uint16_t)place};
-    switch (kind) {
-    case RAPID_NUMBER:
-        token.sort = S_NUMBER;
-        token.value = number_value(t, length);
-        break;
-    case RAPID_STRING:
-        token.sort = S_STRING;
-        token.value = (int32_t)string_bytes;
-        token.length = keep_string(t, length);
-        break;
-    case RAPID_SIGN:
-        token.sort = sign_sort(t, length);
-        break;
-    default:
-        token.value = (int32_t)name_index(t, length);
-        token.sort = names[token.value].sort;
-    }
-    return token;
-}
-
-/* Reads the text; refusals 3 to 7. */
-static struct refusal read_tokens(const uint8_t *text, size_t length) {
-    uint32_t answer[3], entry[3];
-    forget_names();
-    string_bytes = 0;
-    keyed_list(text, length, entries, sizeof entries, (uint8_t *)answer);
-    if (answer[1])
-        return (struct refusal){answer[1], answer[2]};
-    for (uint32_t i = 0; i < answer[0]; i++) {
-        memcpy(entry, entries + RAPID_ENTRY_BYTES * i, sizeof entry);
-        tokens[i] = token_of(text, entry[0], entry[1], entry[2]);
-    }
-    /* one more, so that a look at the next token is always allowed */
-    tokens[answer[0]] = tokens[answer[0] + 1] = (struct token){.sort = S_END, .place = (uint16_t)length};
-    return (struct refusal){0, 0};
-}
 
 /* ---- what the check keeps */
 static const struct token *now;
@@ -246,7 +73,7 @@ static int level;
 
 static void protect(int name, enum meaning meaning, int32_t value) {
     symbols[++symbol_count] = (struct symbol){.meaning = (uint8_t)meaning, .type = NUM, .level = EVERYWHERE, .name = (uint16_t)name, .value = value};
-    names[name].symbol = (uint16_t)symbol_count;
+    plain_names[name].symbol = (uint16_t)symbol_count;
 }
 
 static void protect_names(void) {
@@ -258,7 +85,7 @@ static void protect_names(void) {
 
 /* What a name means here; NULL, and a fault, where it means nothing. */
 static const struct symbol *look_up(const struct token *name) {
-    size_t symbol = names[name->value].symbol;
+    size_t symbol = plain_names[name->value].symbol;
     if (symbol == 0)
         fault(RAPID_UNKNOWN_NAME, name->place);
     return symbol ? &symbols[symbol] : NULL;
@@ -266,7 +93,7 @@ static const struct symbol *look_up(const struct token *name) {
 
 /* May a name be declared in this scope? */
 static int declarable(const struct token *name) {
-    size_t known = names[name->value].symbol;
+    size_t known = plain_names[name->value].symbol;
     if (known == 0 || (symbols[known].level != EVERYWHERE && symbols[known].level != level))
         return 1;
     fault(RAPID_DECLARED_TWICE, name->place);
@@ -274,7 +101,7 @@ static int declarable(const struct token *name) {
 }
 
 static void declare(const struct token *name, struct symbol symbol) {
-    struct name *n = &names[name->value];
+    struct name *n = &plain_names[name->value];
     symbol.level = (int8_t)level;
     symbol.name = (uint16_t)name->value;
     symbol.outer = n->symbol;
@@ -285,7 +112,7 @@ static void declare(const struct token *name, struct symbol symbol) {
 /* Leaves a scope: what was declared since goes. */
 static void forget_back_to(size_t count) {
     while (symbol_count > count) {
-        names[symbols[symbol_count].name].symbol = symbols[symbol_count].outer;
+        plain_names[symbols[symbol_count].name].symbol = symbols[symbol_count].outer;
         symbol_count--;
     }
 }
@@ -642,7 +469,7 @@ static struct step *word_alone(enum kind kind, int barred) {
 
 static void string(struct step *s) {
     const struct token *token = expect(S_STRING);
-    s->string = strings + token->value;
+    s->string = plain_strings + token->value;
     s->length = token->length;
 }
 
@@ -856,7 +683,7 @@ static void parameters(void) {
 
 /* Was this name known as this routine from the start? */
 static void routine_name(const struct token *name, size_t number) {
-    const struct symbol *symbol = &symbols[names[name->value].symbol];
+    const struct symbol *symbol = &symbols[plain_names[name->value].symbol];
     if (symbol->meaning != M_ROUTINE || symbol->value != (int32_t)number)
         fault(RAPID_DECLARED_TWICE, name->place);
     if (number == ROUTINE_LIMIT)
@@ -900,11 +727,11 @@ static const struct token *routine_head(const struct token *t, size_t number, en
         r->result = NO_TYPE;
     if (t->sort != S_NAME || t[1].sort != S_OPEN)
         return t;
-    struct name *name = &names[t->value];
+    struct name *name = &plain_names[t->value];
     if (!name->is_data && name->symbol == 0)
         declare(t, (struct symbol){.meaning = M_ROUTINE, .value = (int32_t)number});
     for (t += 2; (t->sort == S_NUM || t->sort == S_BOOL) && t[1].sort == S_NAME; t++) {
-        struct name *parameter = &names[t[1].value];
+        struct name *parameter = &plain_names[t[1].value];
         int refused = parameter->parameter_of == number + 1 || (parameter->symbol && symbols[parameter->symbol].level == EVERYWHERE) || r->parameters == ROUTINE_WORDS;
         parameter->parameter_of = (uint16_t)(number + 1);
         types[r->parameters++] = refused ? NO_TYPE : t->sort == S_NUM ? NUM : BOOL;
@@ -918,10 +745,10 @@ static const struct token *routine_head(const struct token *t, size_t number, en
 /* What is known from the first word on: which names are the module's data, and the routines. */
 static void heads(void) {
     enum type *types = parameter_types;
-    const struct token *t = tokens;
+    const struct token *t = plain_tokens;
     for (; t->sort != S_END && t->sort != S_PROC && t->sort != S_FUNC; t++)
         if ((t->sort == S_VAR || t->sort == S_CONST) && t[1].sort != S_END && t[2].sort == S_NAME)
-            names[t[2].value].is_data = 1;
+            plain_names[t[2].value].is_data = 1;
     routine_count = 0;
     while (t->sort != S_END)
         if (t->sort == S_PROC || t->sort == S_FUNC) {
@@ -939,7 +766,7 @@ static void start_tables(struct module *module) {
     next_arm = arms;
     next_argument = arguments;
     next_case_value = case_values;
-    now = tokens;
+    now = plain_tokens;
     least_fault = NO_FAULT;
     level = MODULE_LEVEL;
     constant_only = 0;
@@ -961,7 +788,7 @@ static void whole_module(struct module *module) {
 }
 
 struct refusal plain_check(const uint8_t *text, size_t length, struct module *module) {
-    struct refusal refusal = read_tokens(text, length);
+    struct refusal refusal = plain_read(text, length);
     if (refusal.number)
         return refusal;
     start_tables(module);
@@ -971,7 +798,7 @@ struct refusal plain_check(const uint8_t *text, size_t length, struct module *mo
     whole_module(module);
     if (least_fault != NO_FAULT)
         return (struct refusal){least_fault & ((1 << NUMBER_BITS) - 1), least_fault >> NUMBER_BITS};
-    const struct symbol *main_symbol = &symbols[names[MAIN_NAME].symbol];
+    const struct symbol *main_symbol = &symbols[plain_names[MAIN_NAME].symbol];
     module->main = &routines[main_symbol->value];
     if (main_symbol->meaning != M_ROUTINE || module->main->is_func || module->main->parameters)
         return (struct refusal){RAPID_NO_MAIN, 0};

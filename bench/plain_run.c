@@ -19,6 +19,14 @@ struct call {
 };
 
 static struct call calls[RAPID_DEPTH_LIMIT + 1]; /* one more, for the arguments of a call beyond the depth */
+
+struct machine {
+    struct call *top, *last; /* the live call, and the last that there may be */
+    int32_t *words;          /* of the live call */
+    int32_t raised;          /* by a step that failed; 0 where it ended the run */
+    struct run *run;
+};
+
 static int32_t *data;
 static int32_t error; /* ERRNO */
 
@@ -75,19 +83,43 @@ static int32_t worth(const struct node *n, const int32_t *words) {
 
 int32_t plain_constant(const struct node *node) { return worth(node, NULL); }
 
-/* Where an element is; NULL, and *raised, where its index is outside. */
-static int32_t *element_spot(const struct node *target, int32_t *words, int32_t *raised) {
-    int32_t index = operand(target->left, words);
-    if (index >= 1 && index <= target->size)
-        return (target->op == LOCAL_ELEMENT ? words : data) + target->value + index - 1;
-    *raised = index >= RAISED ? index : RAISED + ERR_OUTOFBND;
+/* ---- how a step fails */
+static inline const struct step *raises(struct machine *m, int32_t number) {
+    m->raised = number;
     return NULL;
 }
 
-static inline int32_t *spot(const struct node *target, int32_t *words, int32_t *raised) {
+static inline const struct step *ends(struct machine *m, uint32_t ending, uint32_t place) {
+    m->raised = 0;
+    m->run->ending = ending;
+    m->run->place = place;
+    return NULL;
+}
+
+/* Puts an expression's value into *value; 0 where it raises an error. */
+static inline int worked_out(struct machine *m, const struct node *n, int32_t *value) {
+    *value = operand(n, m->words);
+    if (*value < RAISED)
+        return 1;
+    m->raised = *value - RAISED;
+    return 0;
+}
+
+static int32_t *element_spot(struct machine *m, const struct node *target) {
+    int32_t index;
+    if (!worked_out(m, target->left, &index))
+        return NULL;
+    if (index >= 1 && index <= target->size)
+        return (target->op == LOCAL_ELEMENT ? m->words : data) + target->value + index - 1;
+    m->raised = ERR_OUTOFBND;
+    return NULL;
+}
+
+/* Where a target is; NULL where its index raises an error. */
+static inline int32_t *spot(struct machine *m, const struct node *target) {
     if (target->op == LOCAL)
-        return words + target->value;
-    return target->op == GLOBAL ? data + target->value : element_spot(target, words, raised);
+        return m->words + target->value;
+    return target->op == GLOBAL ? data + target->value : element_spot(m, target);
 }
 
 /* ---- output */
@@ -118,33 +150,134 @@ static inline void write_line(struct run *run, const struct step *s, const uint8
     run->written += s->length + count + 1;
 }
 
-/* ---- steps */
-/* Enters a routine; its arguments are there already. */
-static void begin(struct call *call, const struct routine *routine, int32_t *result) {
-    call->routine = routine;
-    call->in_handler = 0;
-    call->result = result;
-    for (int w = routine->parameters; w < routine->words; w++)
-        call->words[w] = routine->start[w];
+/* ---- steps: each function gives the next one, or NULL where its step fails or ends the run */
+static inline const struct step *assign(struct machine *m, const struct step *s) {
+    int32_t value, *target = spot(m, s->target);
+    if (target == NULL || !worked_out(m, s->value, &value))
+        return NULL;
+    *target = value;
+    return s->next;
 }
 
-/* The handler of the nearest call from `top` down that has one, and that call in *top; NULL where the run dies. */
-static const struct step *handler(struct call **top) {
-    struct call *c = *top;
-    while (!c->routine->has_handler) {
-        if (c == calls)
-            return NULL;
-        c--;
-    }
-    if (c->in_handler)
+/* Enters a routine whose arguments are in its words already. */
+static inline const struct step *enter(struct machine *m, const struct routine *routine, int32_t *result) {
+    m->words = m->top->words;
+    m->top->routine = routine;
+    m->top->in_handler = 0;
+    m->top->result = result;
+    for (int w = routine->parameters; w < routine->words; w++)
+        m->words[w] = routine->start[w];
+    return routine->first;
+}
+
+static inline const struct step *call(struct machine *m, const struct step *s) {
+    int32_t *result = s->target ? spot(m, s->target) : NULL;
+    if (s->target && result == NULL)
         return NULL;
+    for (int i = 0; i < s->routine->parameters; i++)
+        if (!worked_out(m, s->arguments[i], &m->top[1].words[i]))
+            return NULL;
+    if (m->top == m->last)
+        return ends(m, RAPID_DEPTH_SPENT, s->callee);
+    m->top->at = s;
+    m->top++;
+    return enter(m, s->routine, result);
+}
+
+static inline const struct step *leave(struct machine *m) {
+    if (m->top == calls)
+        return ends(m, RAPID_RETURNED, 0);
+    m->top--;
+    m->words = m->top->words;
+    return m->top->at->next;
+}
+
+/* A FUNC has a caller, since main is none. */
+static inline const struct step *give_back(struct machine *m, const struct step *s) {
+    int32_t value;
+    if (!worked_out(m, s->value, &value))
+        return NULL;
+    *m->top->result = value;
+    return leave(m);
+}
+
+static inline const struct step *raise(struct machine *m, const struct step *s) {
+    int32_t value;
+    if (!worked_out(m, s->value, &value))
+        return NULL;
+    return raises(m, value >= 1 && value <= LARGEST_RAISE ? value : ERR_ILLRAISE);
+}
+
+/* The handler of the nearest call, from the live one down, that has one; the calls above it are dropped. `s` is where the error arose. */
+static const struct step *handled(struct machine *m, const struct step *s) {
+    struct call *c = m->top;
+    while (!c->routine->has_handler && c != calls)
+        c--;
+    if (!c->routine->has_handler || c->in_handler)
+        return ends(m, RAPID_ERROR_UNHANDLED, s->place);
     c->in_handler = 1;
     c->failed = c->at;
-    *top = c;
+    m->top = c;
+    m->words = c->words;
     return c->routine->handler;
 }
 
-static inline int goes_on(int32_t value, struct limit limit) { return limit.step >= 0 ? value <= limit.end : value >= limit.end; }
+static inline const struct step *hand_on(struct machine *m, const struct step *s) {
+    if (m->top == calls)
+        return ends(m, RAPID_ERROR_UNHANDLED, s->place);
+    m->top--;
+    return handled(m, s);
+}
+
+static inline const struct step *leave_handler(struct machine *m) {
+    m->top->in_handler = 0;
+    return m->top->failed;
+}
+
+static inline const struct step *write(struct machine *m, const struct step *s) {
+    uint8_t digits[DIGITS];
+    size_t count = 0;
+    int32_t value;
+    if (s->value) {
+        if (!worked_out(m, s->value, &value))
+            return NULL;
+        count = decimal(value, digits);
+    }
+    if (!fits(m->run, s, count))
+        return ends(m, RAPID_NO_OUTPUT_ROOM, s->place);
+    write_line(m->run, s, digits + DIGITS - count, count);
+    return s->next;
+}
+
+static inline const struct step *read(struct machine *m, const struct step *s) {
+    struct run *run = m->run;
+    int32_t value, *target = spot(m, s->target);
+    if (target == NULL)
+        return NULL;
+    if (!fits(run, s, 0))
+        return ends(m, RAPID_NO_OUTPUT_ROOM, s->place);
+    if (run->read == run->input_count)
+        return ends(m, RAPID_NO_INPUT_LEFT, s->place);
+    write_line(run, s, NULL, 0);
+    memcpy(&value, run->inputs + 4 * run->read++, sizeof value);
+    if (value < LEAST_NUM || value > LARGEST_NUM)
+        return raises(m, ERR_OVERFLOW);
+    *target = value;
+    return s->next;
+}
+
+static inline const struct step *choose(struct machine *m, const struct step *s) {
+    int32_t value;
+    for (const struct arm *arm = s->arms; arm; arm = arm->next) {
+        if (arm->condition == NULL)
+            return arm->first;
+        if (!worked_out(m, arm->condition, &value))
+            return NULL;
+        if (value)
+            return arm->first;
+    }
+    return s->next;
+}
 
 static inline int is_case(const struct arm *arm, int32_t value) {
     for (size_t i = 0; i < arm->count; i++)
@@ -153,176 +286,95 @@ static inline int is_case(const struct arm *arm, int32_t value) {
     return 0;
 }
 
-static int32_t input_at(const struct run *run, size_t index) {
-    int32_t n;
-    memcpy(&n, run->inputs + 4 * index, sizeof n);
-    return n;
+static inline const struct step *test(struct machine *m, const struct step *s) {
+    const struct arm *arm = s->arms;
+    int32_t value;
+    if (!worked_out(m, s->value, &value))
+        return NULL;
+    while (arm && !is_case(arm, value))
+        arm = arm->next;
+    return arm ? arm->first : s->first;
+}
+
+static inline const struct step *while_test(struct machine *m, const struct step *s) {
+    int32_t value;
+    if (!worked_out(m, s->value, &value))
+        return NULL;
+    return value ? s->first : s->next;
+}
+
+static inline int goes_on(int32_t value, struct limit limit) { return limit.step >= 0 ? value <= limit.end : value >= limit.end; }
+
+static inline const struct step *for_head(struct machine *m, const struct step *s) {
+    struct limit limit = {0, 1};
+    int32_t start;
+    if (!worked_out(m, s->arguments[0], &start) || !worked_out(m, s->arguments[1], &limit.end))
+        return NULL;
+    if (s->arguments[2] && !worked_out(m, s->arguments[2], &limit.step))
+        return NULL;
+    m->words[s->word] = start;
+    m->top->limits[s->word] = limit;
+    return goes_on(start, limit) ? s->first : s->next;
+}
+
+static inline const struct step *for_next(struct machine *m, const struct step *s) {
+    struct limit limit = m->top->limits[s->word];
+    int32_t value = m->words[s->word] + limit.step;
+    if (!goes_on(value, limit))
+        return s->next;
+    m->words[s->word] = value;
+    return s->first;
+}
+
+static inline const struct step *perform(struct machine *m, const struct step *s) {
+    switch (s->kind) {
+    case ASSIGN: return assign(m, s);
+    case CALL: return call(m, s);
+    case RETURN: return leave(m);
+    case RETURN_VALUE: return give_back(m, s);
+    case RAISE_VALUE: return raise(m, s);
+    case RAISE_ON: return hand_on(m, s);
+    case EXIT: return ends(m, RAPID_EXITED, s->place);
+    case RETRY: return leave_handler(m);
+    case TRYNEXT: return leave_handler(m)->next;
+    case WRITE: return write(m, s);
+    case READ: return read(m, s);
+    case CHOOSE: return choose(m, s);
+    case WHILE: return while_test(m, s);
+    case FOR: return for_head(m, s);
+    case FOR_NEXT: return for_next(m, s);
+    case TEST: return test(m, s);
+    case END_OF_PROC: return leave(m);
+    default: return ends(m, RAPID_FUNCTION_ENDED, s->place); /* END_OF_FUNC */
+    }
+}
+
+/* After a step that failed: NULL where the run is over. */
+static const struct step *after_failure(struct machine *m, const struct step *s) {
+    if (m->raised == 0)
+        return NULL;
+    error = m->raised;
+    m->top->at = s;
+    return handled(m, s);
 }
 
 /* Does an ending count the step that it ends? */
 static uint32_t counts_step(uint32_t ending) { return ending < RAPID_STEPS_SPENT; }
 
-/* What a step comes to, besides going on. */
-#define RAISE(number) do { raised = (number); goto raise; } while (0)
-#define END(number, at) do { run->ending = (number); run->place = (at); goto end; } while (0)
-#define VALUE(into, node) do { into = operand(node, words); if (into >= RAISED) RAISE(into - RAISED); } while (0)
-#define SPOT(into, node) do { into = spot(node, words, &raised); if (into == NULL) RAISE(raised - RAISED); } while (0)
-
 void plain_perform(const struct module *module, int32_t *module_data, struct run *run) {
-    struct call *top = calls, *last = calls + run->depth - 1;
-    int32_t *words = top->words, raised = 0;
-    uint32_t left = run->allowance;
+    struct machine m = {.top = calls, .last = calls + run->depth - 1, .run = run};
     data = module_data;
     error = 0;
-    begin(top, module->main, NULL);
-    const struct step *s = module->main->first;
-    for (;; left--) {
-        int32_t value, *target;
-        if (left == 0)
-            END(RAPID_STEPS_SPENT, s->place);
-        switch (s->kind) {
-        case ASSIGN:
-            SPOT(target, s->target);
-            VALUE(value, s->value);
-            *target = value;
+    const struct step *s = enter(&m, module->main, NULL), *next;
+    uint32_t left = run->allowance;
+    for (; left; left--) {
+        next = perform(&m, s);
+        if (next == NULL && (next = after_failure(&m, s)) == NULL)
             break;
-        case CALL: {
-            const struct routine *routine = s->routine;
-            target = NULL;
-            if (s->target)
-                SPOT(target, s->target);
-            for (int i = 0; i < routine->parameters; i++)
-                VALUE(top[1].words[i], s->arguments[i]);
-            if (top == last)
-                END(RAPID_DEPTH_SPENT, s->callee);
-            top->at = s;
-            top++;
-            words = top->words;
-            begin(top, routine, target);
-            s = routine->first;
-            continue;
-        }
-        case RETURN_VALUE:
-            VALUE(value, s->value);
-            *top->result = value; /* main is no FUNC */
-            top--;
-            words = top->words;
-            s = top->at;
-            break;
-        case END_OF_PROC:
-        case RETURN:
-            if (top == calls)
-                END(RAPID_RETURNED, 0);
-            top--;
-            words = top->words;
-            s = top->at;
-            break;
-        case END_OF_FUNC:
-            END(RAPID_FUNCTION_ENDED, s->place);
-        case RAISE_VALUE:
-            VALUE(value, s->value);
-            RAISE(value >= 1 && value <= 90 ? value : ERR_ILLRAISE);
-        case RAISE_ON: {
-            uint32_t place = s->place;
-            struct call *caller = top - 1;
-            s = top == calls ? NULL : handler(&caller);
-            if (s == NULL)
-                END(RAPID_ERROR_UNHANDLED, place);
-            top = caller;
-            words = top->words;
-            continue;
-        }
-        case EXIT:
-            END(RAPID_EXITED, s->place);
-        case RETRY:
-            top->in_handler = 0;
-            s = top->failed;
-            continue;
-        case TRYNEXT:
-            top->in_handler = 0;
-            s = top->failed;
-            break;
-        case WRITE: {
-            uint8_t digits[DIGITS];
-            size_t count = 0;
-            if (s->value) {
-                VALUE(value, s->value);
-                count = decimal(value, digits);
-            }
-            if (!fits(run, s, count))
-                END(RAPID_NO_OUTPUT_ROOM, s->place);
-            write_line(run, s, digits + DIGITS - count, count);
-            break;
-        }
-        case READ:
-            SPOT(target, s->target);
-            if (!fits(run, s, 0))
-                END(RAPID_NO_OUTPUT_ROOM, s->place);
-            if (run->read == run->input_count)
-                END(RAPID_NO_INPUT_LEFT, s->place);
-            write_line(run, s, NULL, 0);
-            value = input_at(run, run->read++);
-            if (value < LEAST_NUM || value > LARGEST_NUM)
-                RAISE(ERR_OVERFLOW);
-            *target = value;
-            break;
-        case CHOOSE: {
-            const struct arm *arm = s->arms;
-            for (; arm; arm = arm->next) {
-                if (arm->condition == NULL)
-                    break;
-                VALUE(value, arm->condition);
-                if (value)
-                    break;
-            }
-            s = arm ? arm->first : s->next;
-            continue;
-        }
-        case WHILE:
-            VALUE(value, s->value);
-            s = value ? s->first : s->next;
-            continue;
-        case FOR: {
-            struct limit limit = {0, 1};
-            VALUE(value, s->arguments[0]);
-            VALUE(limit.end, s->arguments[1]);
-            if (s->arguments[2])
-                VALUE(limit.step, s->arguments[2]);
-            words[s->word] = value;
-            top->limits[s->word] = limit;
-            s = goes_on(value, limit) ? s->first : s->next;
-            continue;
-        }
-        case FOR_NEXT: {
-            struct limit limit = top->limits[s->word];
-            value = words[s->word] + limit.step;
-            if (!goes_on(value, limit))
-                break;
-            words[s->word] = value;
-            s = s->first;
-            continue;
-        }
-        default: { /* TEST */
-            const struct arm *arm = s->arms;
-            VALUE(value, s->value);
-            while (arm && !is_case(arm, value))
-                arm = arm->next;
-            s = arm ? arm->first : s->first;
-            continue;
-        }
-        }
-        s = s->next;
-        continue;
-    raise:
-        error = raised;
-        top->at = s;
-        uint32_t place = s->place;
-        s = handler(&top);
-        if (s == NULL)
-            END(RAPID_ERROR_UNHANDLED, place);
-        words = top->words;
+        s = next;
     }
-end:
+    if (left == 0)
+        ends(&m, RAPID_STEPS_SPENT, s->place);
     run->steps = run->allowance - left + counts_step(run->ending);
     run->error = (uint32_t)error;
 }

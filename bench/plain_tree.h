@@ -15,7 +15,7 @@ enum {
     NESTING = 16
 };
 
-enum { ERR_OVERFLOW = 1001, ERR_DIVZERO = 1002, ERR_OUTOFBND = 1003, ERR_ILLRAISE = 1004 };
+enum { LARGEST_RAISE = 90, ERR_OVERFLOW = 1001, ERR_DIVZERO = 1002, ERR_OUTOFBND = 1003, ERR_ILLRAISE = 1004 };
 
 /* No num is as large: a value from here on says which error was raised. */
 enum { RAISED = 1 << 30 };
