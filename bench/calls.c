@@ -1,6 +1,7 @@
 /* calls: nanoseconds of processor time of the whole call, the proved one (rapid_run) beside the plain one (plain_run), which take short turns, so that a machine
  * that slows down slows both; the best of all turns counts. Records, outputs and both stores are compared.
  * calls check ROUNDS TEXT..: the call with an allowance of 0, that is the check, a byte of each text.
+ * calls floor ROUNDS TEXT: the same, a call: what the shortest text costs, where both stores are emptied.
  * calls run ROUNDS LUA LESSON..: lessons from their first step to their last, a step; LUA is a command that runs a lesson's twin, - for none.
  * calls growth ROUNDS MOST LESSON: the first 10,000 to MOST steps of a lesson that has as many, a step.
  * calls once proved|plain ALLOWANCE TIMES TEXT: untimed, for counting instructions; prints the steps made. */
@@ -54,8 +55,8 @@ static void label(char into[32], const char *path) {
 
 static void call(enum which w, uint32_t allowance) {
     struct lent *l = &lent[w];
-    uint32_t (*run)(const uint8_t *, size_t, uint32_t, uint32_t, const uint8_t *, size_t, uint8_t *, size_t, uint8_t *, size_t, uint8_t *, size_t, uint8_t *, size_t) = w == PROVED ? rapid_run : plain_run;
-    if (run(text, length, allowance, RAPID_DEPTH_LIMIT, NULL, 0, l->output, sizeof l->output, l->code, sizeof l->code, l->values, sizeof l->values, (uint8_t *)&l->record, sizeof l->record) != 1)
+    if ((w == PROVED ? rapid_run : plain_run)(text, length, allowance, RAPID_DEPTH_LIMIT, NULL, 0, l->output, sizeof l->output, l->code, sizeof l->code, l->values,
+                                              sizeof l->values, (uint8_t *)&l->record, sizeof l->record) != 1)
         fail(names[w], "did not return 1");
 }
 
@@ -77,7 +78,8 @@ static void compare(const char *path, uint64_t ending) {
     const struct lent *a = &lent[PROVED], *b = &lent[PLAIN];
     if (a->record.ending != ending)
         fail(path, a->record.ending == RAPID_REFUSED ? "refused" : "another ending than the one meant");
-    if (memcmp(&a->record, &b->record, sizeof a->record) || memcmp(a->output, b->output, a->record.output) || memcmp(a->values, b->values, sizeof a->values) || memcmp(a->code, b->code, sizeof a->code))
+    if (memcmp(&a->record, &b->record, sizeof a->record) || memcmp(a->output, b->output, a->record.output) || memcmp(a->values, b->values, sizeof a->values) ||
+        memcmp(a->code, b->code, sizeof a->code))
         fail(path, "the proved call and the plain one differ");
 }
 
@@ -153,7 +155,8 @@ static void print_table(const char *unit, const struct row *rows, int count, int
 }
 
 /* ---- what is measured */
-static void check(struct row *row, int rounds, const char *path) {
+/* The check, a call or a byte. */
+static void check(struct row *row, int rounds, int by_call, const char *path) {
     double best[CALLS];
     load(path);
     label(row->label, path);
@@ -161,7 +164,7 @@ static void check(struct row *row, int rounds, const char *path) {
     best_of(rounds, 0, TURN_BYTES / (int)(length + 1024) + 1, best);
     compare(path, RAPID_STEPS_SPENT);
     for (int w = 0; w < CALLS; w++)
-        row->pace[w] = best[w] / row->size;
+        row->pace[w] = by_call ? best[w] : best[w] / row->size;
 }
 
 static void run(struct row *row, int rounds, const char *lua, const char *path) {
@@ -195,35 +198,52 @@ static void growth(struct row *row, int rounds, uint32_t allowance, const char *
         row->pace[w] = best[w] / row->size;
 }
 
-static int once(char **argv) {
-    load(argv[5]);
-    enum which w = strcmp(argv[2], names[PROVED]) == 0 ? PROVED : PLAIN;
-    for (int i = 0; i < atoi(argv[4]); i++)
-        call(w, (uint32_t)strtoul(argv[3], NULL, 10));
+static void once(enum which w, uint32_t allowance, int times, const char *path) {
+    load(path);
+    for (int i = 0; i < times; i++)
+        call(w, allowance);
     printf("%llu\n", (unsigned long long)lent[w].record.steps);
-    return 0;
+}
+
+/* ---- the commands, from their rounds on */
+static struct row rows[MOST_ROWS];
+
+static void check_texts(int by_call, int count, char **words) {
+    for (int i = 1; i < count; i++)
+        check(&rows[i - 1], atoi(words[0]), by_call, words[i]);
+    print_table("bytes", rows, count - 1, 0);
+}
+
+static void run_lessons(int count, char **words) {
+    for (int i = 2; i < count; i++)
+        run(&rows[i - 2], atoi(words[0]), words[1], words[i]);
+    print_table("steps", rows, count - 2, strcmp(words[1], "-") != 0);
+}
+
+static void grow(char **words) {
+    int count = 0;
+    unsigned long most = strtoul(words[1], NULL, 10);
+    load(words[2]);
+    for (uint64_t steps = FIRST_GROWTH; steps <= most && steps <= UINT32_MAX; steps *= 10)
+        growth(&rows[count++], atoi(words[0]), (uint32_t)steps, words[2]);
+    print_table("steps", rows, count, 0);
 }
 
 int main(int argc, char **argv) {
-    static struct row rows[MOST_ROWS];
-    int count = 0, rounds = argc > 4 ? atoi(argv[2]) : 0;
-    if (argc == 6 && strcmp(argv[1], "once") == 0)
-        return once(argv);
-    if (argc > 3 && argc < MOST_ROWS && strcmp(argv[1], "check") == 0) {
-        for (int i = 3; i < argc; i++)
-            check(&rows[count++], atoi(argv[2]), argv[i]);
-        print_table("bytes", rows, count, 0);
-    } else if (argc > 4 && argc < MOST_ROWS && strcmp(argv[1], "run") == 0) {
-        for (int i = 4; i < argc; i++)
-            run(&rows[count++], rounds, argv[3], argv[i]);
-        print_table("steps", rows, count, strcmp(argv[3], "-") != 0);
-    } else if (argc == 5 && strcmp(argv[1], "growth") == 0) {
-        load(argv[4]);
-        for (uint64_t steps = FIRST_GROWTH; steps <= strtoul(argv[3], NULL, 10); steps *= 10)
-            growth(&rows[count++], rounds, (uint32_t)steps, argv[4]);
-        print_table("steps", rows, count, 0);
-    } else {
-        return 1;
-    }
+    const char *command = argc > 1 ? argv[1] : "";
+    int count = argc - 2;
+    char **words = argv + 2;
+    if (strcmp(command, "check") == 0 && count > 1 && count <= MOST_ROWS)
+        check_texts(0, count, words);
+    else if (strcmp(command, "floor") == 0 && count == 2)
+        check_texts(1, count, words);
+    else if (strcmp(command, "run") == 0 && count > 2 && count <= MOST_ROWS)
+        run_lessons(count, words);
+    else if (strcmp(command, "growth") == 0 && count == 3)
+        grow(words);
+    else if (strcmp(command, "once") == 0 && count == 4)
+        once(strcmp(words[0], names[PROVED]) == 0 ? PROVED : PLAIN, (uint32_t)strtoul(words[1], NULL, 10), atoi(words[2]), words[3]);
+    else
+        fail("calls", "no such command");
     return 0;
 }

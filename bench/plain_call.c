@@ -27,8 +27,8 @@ static void answer(uint8_t *record, const struct run *run) {
     put_field(record, 7, module.words);
 }
 
-uint32_t plain_run(const uint8_t *text, size_t text_length, uint32_t steps, uint32_t depth, const uint8_t *inputs, size_t inputs_length, uint8_t *output, size_t output_length, uint8_t *code,
-                   size_t code_length, uint8_t *values, size_t values_length, uint8_t *record, size_t record_length) {
+uint32_t plain_run(const uint8_t *text, size_t text_length, uint32_t steps, uint32_t depth, const uint8_t *inputs, size_t inputs_length, uint8_t *output,
+                   size_t output_length, uint8_t *code, size_t code_length, uint8_t *values, size_t values_length, uint8_t *record, size_t record_length) {
     if (record_length < RAPID_RECORD_BYTES)
         return 0;
     if (code_length < RAPID_STORE_BYTES || values_length < RAPID_STORE_BYTES) {
