@@ -9,7 +9,8 @@ static const struct token *now;
 static jmp_buf refused_form;
 static struct refusal form_refusal;
 static uint32_t least_fault; /* of 10 to 17: its place and then its number */
-enum { NUMBER_BITS = 5, NO_FAULT = UINT32_MAX };
+#define NO_FAULT UINT32_MAX
+enum { NUMBER_BITS = 5 };
 
 static _Noreturn void refuse_form(uint32_t number, uint32_t place) {
     form_refusal = (struct refusal){number, place};
