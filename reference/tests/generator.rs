@@ -10,8 +10,12 @@ fn lines(seed: u64, count: usize, kind: Kind, size: Size) -> Vec<String> {
 
 #[test]
 fn valid_modules_are_accepted() {
-    for (count, size) in [(3_000, Size::Short), (100, Size::Long)] {
-        for line in lines(7, count, Kind::Valid, size) {
+    for (count, kind, size) in [
+        (3_000, Kind::Valid, Size::Short),
+        (100, Kind::Valid, Size::Long),
+        (500, Kind::Courses, Size::Short),
+    ] {
+        for line in lines(7, count, kind, size) {
             let answer = answer_line(&line);
             assert!(!answer.starts_with("0 "), "{line}\n{answer}");
         }
@@ -49,7 +53,7 @@ fn the_same_seed_gives_the_same_lines() {
 #[test]
 fn every_line_is_a_case_line() {
     for name in [
-        "valid", "mistyped", "words", "bytes", "limits", "listing", "all",
+        "valid", "courses", "mistyped", "words", "bytes", "limits", "listing", "all",
     ] {
         let kind = Kind::named(name).expect("a kind of cases");
         for (count, size) in [(1_000, Size::Short), (20, Size::Long)] {

@@ -2,6 +2,7 @@
 
 mod author;
 mod chains;
+mod courses;
 mod damage;
 mod layout;
 mod limits;
@@ -20,6 +21,7 @@ const STORE_WORDS: u64 = 16_384;
 #[derive(Clone, Copy, PartialEq, Eq)]
 pub enum Kind {
     Valid,
+    Courses,
     Mistyped,
     Words,
     Bytes,
@@ -32,6 +34,7 @@ impl Kind {
     pub fn named(name: &str) -> Option<Self> {
         Some(match name {
             "valid" => Kind::Valid,
+            "courses" => Kind::Courses,
             "mistyped" => Kind::Mistyped,
             "words" => Kind::Words,
             "bytes" => Kind::Bytes,
@@ -113,6 +116,7 @@ fn case_line(random: &mut Random, kind: Kind, size: Size) -> String {
         Kind::All => mixed_line(random, size),
         Kind::Listing => listing_line(random, size),
         Kind::Limits => show_run(&limits::limit_case(random, size)),
+        Kind::Courses => show_run(&course_case(random)),
         _ => {
             let text = text_of(random, kind, size);
             show_run(&lend(random, text))
@@ -155,6 +159,21 @@ fn text_of(random: &mut Random, kind: Kind, size: Size) -> Vec<u8> {
         damage::damage_bytes(random, &mut text);
     }
     text
+}
+
+/// A module that runs long, with allowances that mostly let it.
+fn course_case(random: &mut Random) -> Lent {
+    let words = courses::course(random);
+    let text = write_out(random, &words);
+    let mut lent = lend(random, text);
+    if random.chance(85) {
+        lent.steps = random.pick(&[2_000, 10_000, 10_000, 10_000, 50_000]);
+        lent.depth = random.pick(&[16, 16, 64]);
+        lent.output_room = random.pick(&[4_096, 65_536]);
+    }
+    lent.inputs
+        .extend((0..random.below(40)).map(|_| random.below(20) as i32));
+    lent
 }
 
 /// A call for a text, with allowances that are sometimes scarce.
