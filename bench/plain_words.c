@@ -1,7 +1,7 @@
 /* A plain scanner of the same rules, as one would write it in C: nothing about it is proved. It is here to be measured against. It is compiled twice:
  * with BY_KEYS it tells reserved words as the proved one does, without it by halving a sorted table. */
 #include "plain_words.h"
-#include "../host/rapid_words.h"
+#include "../host/rapid.h"
 #include <string.h>
 #ifdef BY_KEYS
 #include "reserved_keys.h"

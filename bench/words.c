@@ -2,7 +2,7 @@
  * place, on a text of 1 to 32 kB made of a lesson from standard input. `shifted` is the proved scanner's same code 16 bytes further on in memory.
  * words KB: of that size only.
  * words KB proved|plain|keyed TIMES: that one only, untimed, for counting instructions. */
-#include "../host/rapid_words.h"
+#include "../host/rapid.h"
 #include "plain_words.h"
 #include <stdio.h>
 #include <stdlib.h>

@@ -51,14 +51,20 @@ struct guarded guarded_make(size_t most) {
         give_up("its pages cannot be opened");
     if (!is_guarded(begins - 1) || !is_guarded(begins + room) || is_guarded(begins) || is_guarded(begins + room - 1))
         give_up("its guards do not guard");
-    return (struct guarded){begins, room, begins, 0, 0};
+    return (struct guarded){begins, room, begins, 0, 0, NULL};
 }
 
 uint8_t *guarded_lend(struct guarded *g, size_t length, enum edge edge) {
     if (length > g->room - MARGIN)
         give_up("more is asked for than there is room");
     g->length = length;
-    if (edge == LAST_BYTE_GUARDED) {
+    free(g->of_heap);
+    g->of_heap = NULL;
+    if (edge == UNWRITTEN) {
+        g->lent = g->of_heap = malloc(length ? length : 1);
+        if (g->lent == NULL)
+            give_up("the heap has none");
+    } else if (edge == LAST_BYTE_GUARDED) {
         g->pattern = 0xa5;
         g->lent = g->begins + g->room - length;
         memset(g->lent - MARGIN, g->pattern, MARGIN + length);
@@ -71,6 +77,8 @@ uint8_t *guarded_lend(struct guarded *g, size_t length, enum edge edge) {
 }
 
 int guarded_kept(const struct guarded *g, size_t written) {
+    if (g->of_heap)
+        return 1;
     const uint8_t *b = g->lent == g->begins ? g->lent : g->lent - MARGIN, *end = b + MARGIN + g->length;
     for (; b < end; b++)
         if (*b != g->pattern && !(g->lent <= b && b < g->lent + written))

@@ -8,13 +8,15 @@ mod layout;
 mod limits;
 mod phrases;
 mod random;
+mod rooms;
 mod statements;
 
 use crate::bench::Lent;
 use crate::lines::{show_bytes, show_run};
 use crate::scan::list;
 use layout::{write_out, Token};
-use random::Random;
+pub use random::Random;
+pub use rooms::{less_room, more_room};
 
 const STORE_WORDS: u64 = 16_384;
 
