@@ -73,12 +73,12 @@ static void expect_same(void) {
 }
 
 /* Fewer than 64 bytes for the record: 0, and nothing is touched. */
-static void call_without_record(void) {
-    memcpy(guarded_lend(&lent_text, asked.text_length, LAST_BYTE_GUARDED), asked.text, asked.text_length);
-    guarded_lend(&lent_output, asked.room, LAST_BYTE_GUARDED);
-    guarded_lend(&lent_code, 4 * asked.code_words, LAST_BYTE_GUARDED);
-    guarded_lend(&lent_values, 4 * asked.value_words, LAST_BYTE_GUARDED);
-    guarded_lend(&lent_record, RAPID_RECORD_BYTES - 1, LAST_BYTE_GUARDED);
+static void call_without_record(enum edge edge) {
+    memcpy(guarded_lend(&lent_text, asked.text_length, edge), asked.text, asked.text_length);
+    guarded_lend(&lent_output, asked.room, edge);
+    guarded_lend(&lent_code, 4 * asked.code_words, edge);
+    guarded_lend(&lent_values, 4 * asked.value_words, edge);
+    guarded_lend(&lent_record, RAPID_RECORD_BYTES - 1, edge);
     int returned = (int)rapid_run(lent_text.lent, asked.text_length, asked.steps, asked.depth, NULL, 0, lent_output.lent, asked.room, lent_code.lent, 4 * asked.code_words, lent_values.lent, 4 * asked.value_words,
                                   lent_record.lent, RAPID_RECORD_BYTES - 1);
     expect(returned == 0, "rapid_run did not return 0 for too short a record");
@@ -96,29 +96,35 @@ static void print_answer(void) {
     puts(fields[7] ? "" : "-");
 }
 
-int main(int count, char **words) {
-    /* `unwritten`: for valgrind */
-    int unwritten = count == 2 && strcmp(words[1], "unwritten") == 0;
-    /* by lines, so that what was answered before a touched guard is seen */
-    setvbuf(stdout, NULL, _IOLBF, BUFSIZ);
+static void make_guards(void) {
     lent_text = guarded_make(MOST_TEXT);
     lent_inputs = guarded_make(4 * MOST_INPUTS + 4);
     lent_output = guarded_make(MOST_OUTPUT);
     lent_code = guarded_make(MOST_STORE_BYTES);
     lent_values = guarded_make(MOST_STORE_BYTES);
     lent_record = guarded_make(RAPID_RECORD_BYTES + 4);
+}
+
+/* With the word `unwritten`, for valgrind, unwritten memory is lent in place of that between guards. */
+int main(int count, char **words) {
+    int unwritten = count == 2 && strcmp(words[1], "unwritten") == 0;
+    enum edge one = unwritten ? UNWRITTEN : LAST_BYTE_GUARDED, other = unwritten ? UNWRITTEN : FIRST_BYTE_GUARDED;
+    if (!unwritten)
+        make_guards();
+    /* by lines, so that what was answered before a touched guard is seen */
+    setvbuf(stdout, NULL, _IOLBF, BUFSIZ);
     while (fgets(line, sizeof line, stdin)) {
         line_number++;
         if (!case_read(line, &asked)) {
             puts("bad line");
             continue;
         }
-        call_once(unwritten ? UNWRITTEN : LAST_BYTE_GUARDED, 0);
+        call_once(one, 0);
         keep_answer();
-        call_once(unwritten ? UNWRITTEN : FIRST_BYTE_GUARDED, 3);
+        call_once(other, 3);
         expect_same();
         if (line_number % 16 == 0)
-            call_without_record();
+            call_without_record(one);
         print_answer();
     }
     return 0;

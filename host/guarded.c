@@ -55,7 +55,7 @@ struct guarded guarded_make(size_t most) {
 }
 
 uint8_t *guarded_lend(struct guarded *g, size_t length, enum edge edge) {
-    if (length > g->room - MARGIN)
+    if (edge != UNWRITTEN && length + MARGIN > g->room)
         give_up("more is asked for than there is room");
     g->length = length;
     free(g->of_heap);

@@ -10,7 +10,7 @@ enum edge {
     LAST_BYTE_GUARDED,
     FIRST_BYTE_GUARDED,
     EDGES,
-    /* Of the heap, exactly as many bytes, none of them written. For valgrind, which knows such memory's ends and whatever depends on a byte that nobody wrote. */
+    /* Of the heap, exactly as many bytes, none of them written, whatever guards were made. For valgrind, which knows such memory's ends and whatever depends on a byte that nobody wrote. */
     UNWRITTEN
 };
 
