@@ -23,10 +23,26 @@ host_cc() { # as cc
     fi
 }
 
+host_ar() { # as ar
+    if [ "$(uname -m)" = x86_64 ]; then ar "$@"; else x86_64-linux-gnu-ar "$@"; fi
+}
+
+host_program() { # PROGRAM SOURCES..: makes a program that runs by its name, under the emulator where it must
+    local program=$1 compiled=$1
+    shift
+    [ "$(uname -m)" = x86_64 ] || compiled=$program.x86-64
+    host_cc -std=c11 -pedantic -O2 -o "$compiled" "$@"
+    [ "$compiled" = "$program" ] && return
+    printf '#!/bin/sh\nexec "%s" "%s" "$@"\n' "$(host_emulator)" "$(readlink -f "$compiled")" >"$program"
+    chmod +x "$program"
+}
+
+host_emulator() { echo "$(dirname "$(dirname "$(readlink -f "$(command -v rt)")")")/on/$(uname -m)/toolchain/bin/qemu-x86_64"; }
+
 host_run() { # PROGRAM WORDS..
     if [ "$(uname -m)" = x86_64 ]; then
         "$@"
     else
-        "$(dirname "$(dirname "$(readlink -f "$(command -v rt)")")")/on/$(uname -m)/toolchain/bin/qemu-x86_64" "$@"
+        "$(host_emulator)" "$@"
     fi
 }

@@ -19,6 +19,7 @@ extern "C" {
 enum {
     RAPID_TEXT_LIMIT = 32768,  /* bytes of a text */
     RAPID_WORD_LIMIT = 8192,   /* words of a text */
+    RAPID_NAME_LIMIT = 32,     /* characters of a name */
     RAPID_STORE_WORDS = 16384, /* words that each store must have */
     RAPID_STORE_BYTES = 65536, /* the same in bytes */
     RAPID_RECORD_BYTES = 64,   /* the record, eight bytes a field */
