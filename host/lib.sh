@@ -12,8 +12,9 @@ host_packages() { # the Debian packages that this machine lacks for a C host
     fi
 }
 
-host_library() { # NAME: makes target/staticlib/libNAME.a; what rt says is shown only where it fails
+host_library() { # NAME: makes target/staticlib/libNAME.a, for which rt proves its crate once more; where HOST_BUILT is set, the one that is there is taken. What rt says is shown only where it fails
     local said
+    if [ -n "${HOST_BUILT:-}" ] && [ -f "target/staticlib/lib$1.a" ]; then return; fi
     said=$(rt staticlib "$1" 2>&1) || { printf '%s\n' "$said"; echo "no static library of $1"; return 1; }
 }
 
