@@ -14,6 +14,8 @@ fn main() -> ExitCode {
     };
     match write_pairs(seed) {
         Ok(()) => ExitCode::SUCCESS,
+        // A reader that has seen enough is no mistake.
+        Err(error) if error.kind() == io::ErrorKind::BrokenPipe => ExitCode::SUCCESS,
         Err(error) => {
             eprintln!("{error}");
             ExitCode::FAILURE
