@@ -10,7 +10,7 @@
 #include <unistd.h>
 
 enum { FINISHED = 0, REFUSED = 1, ENDED_OTHERWISE = 2, USAGE = 64 };
-enum { MOST_TEXT = 1 << 20, MOST_INPUTS = 10000, MOST_ROOM = 1 << 24, MOST_TRACED = 100000 };
+enum { MOST_TEXT = 1 << 20, MOST_INPUTS = 10000, MOST_ROOM = 1 << 24, MOST_TRACED = 20000 };
 enum { STEPS = 10000, DEPTH = 16, ROOM = 4096, TRACED = 200 }; /* where no option says otherwise */
 
 static const char help[] =
@@ -286,7 +286,7 @@ static int trace(void) {
     uint32_t most = asked.steps_given ? asked.steps : TRACED;
     size_t before = 0;
     if (most > MOST_TRACED)
-        give_up("--steps: a trace shows at most 100,000 steps", NULL);
+        give_up("--steps: a trace shows at most 20,000 steps", NULL);
     for (uint32_t n = 0;; n++) {
         struct rapid_record r = called(n);
         if (told_refusal(&r))

@@ -141,6 +141,9 @@ fn mixed_line(random: &mut Random, size: Size) -> String {
 
 /// The words of an accepted module of one sort or the other.
 fn module_words(random: &mut Random, size: Size) -> Vec<Token> {
+    if size == Size::Long && random.chance(40) {
+        return courses::course(random);
+    }
     if random.chance(25) {
         return chains::chain(random);
     }
