@@ -30,12 +30,21 @@ pub enum Event {
     HandedOn,
     Retry,
     TryNext,
+    FailedChoice,
+    FailedWhile,
+    FailedFor,
+    FailedCall,
+    FailedReturn,
+    FailedWrite,
+    FailedRead,
+    RetryOfCompound,
+    TryNextInLoop,
     ErrorInError,
     CallInError,
     LoopInError,
 }
 
-const NAMES: [&str; 30] = [
+const NAMES: [&str; 39] = [
     "assignment",
     "element of an array stored",
     "line written",
@@ -63,14 +72,29 @@ const NAMES: [&str; 30] = [
     "error handed on by RAISE",
     "RETRY",
     "TRYNEXT",
+    "error in the condition or selector of an IF or TEST",
+    "error in a WHILE test",
+    "error in a FOR head",
+    "error in a call's index or arguments",
+    "error in a RETURN",
+    "error in a TPWrite",
+    "error in a TPReadNum",
+    "RETRY of an IF, TEST, WHILE or FOR",
+    "TRYNEXT into a loop",
     "error in an ERROR list",
     "call from an ERROR list",
     "loop in an ERROR list",
 ];
 
 /// How often each event came up.
-#[derive(Clone, Debug, Default, PartialEq, Eq)]
+#[derive(Clone, Debug, PartialEq, Eq)]
 pub struct Counts([u64; NAMES.len()]);
+
+impl Default for Counts {
+    fn default() -> Self {
+        Counts([0; NAMES.len()])
+    }
+}
 
 impl Counts {
     pub fn add(&mut self, event: Event) {
@@ -82,7 +106,6 @@ impl Counts {
 const STEP_BOUNDS: [u32; 7] = [1, 10, 100, 1_000, 10_000, 100_000, u32::MAX];
 
 /// The counts of many runs.
-#[derive(Default)]
 pub struct Measures {
     runs: u64,
     steps: u64,
@@ -90,6 +113,19 @@ pub struct Measures {
     by_steps: [u64; STEP_BOUNDS.len()],
     events: [u64; NAMES.len()],
     runs_with: [u64; NAMES.len()],
+}
+
+impl Default for Measures {
+    fn default() -> Self {
+        Measures {
+            runs: 0,
+            steps: 0,
+            longest: 0,
+            by_steps: [0; STEP_BOUNDS.len()],
+            events: [0; NAMES.len()],
+            runs_with: [0; NAMES.len()],
+        }
+    }
 }
 
 impl Measures {

@@ -171,7 +171,10 @@ impl<'m> Machine<'m> {
             self.steps += 1;
             let settled = match done {
                 Ok(()) => Ok(()),
-                Err(Halt::Error(number)) => self.raise(number, next.place()),
+                Err(Halt::Error(number)) => {
+                    self.count_failed(next);
+                    self.raise(number, next.place())
+                }
                 Err(Halt::HandOn) => {
                     self.counts.add(Event::HandedOn);
                     self.calls.pop();
@@ -183,6 +186,25 @@ impl<'m> Machine<'m> {
                 return ending;
             }
         }
+    }
+
+    /// Counts by its form a statement that an error arose in.
+    fn count_failed(&mut self, next: Next<'m>) {
+        let Next::Statement(statement) = next else {
+            return;
+        };
+        self.counts.add(match &statement.action {
+            Action::If { .. } | Action::CompactIf { .. } | Action::Test { .. } => {
+                Event::FailedChoice
+            }
+            Action::While { .. } => Event::FailedWhile,
+            Action::For(_) => Event::FailedFor,
+            Action::Compute(..) | Action::Invoke(_) => Event::FailedCall,
+            Action::Return(_) => Event::FailedReturn,
+            Action::Write { .. } => Event::FailedWrite,
+            Action::Read { .. } => Event::FailedRead,
+            _ => return,
+        });
     }
 
     fn live(&mut self) -> &mut Live<'m> {
@@ -293,6 +315,17 @@ impl<'m> Machine<'m> {
         live.failed = Some(std::mem::replace(&mut live.levels, handler));
         Ok(())
     }
+}
+
+fn is_compound(statement: &Statement) -> bool {
+    matches!(
+        statement.action,
+        Action::CompactIf { .. }
+            | Action::If { .. }
+            | Action::Test { .. }
+            | Action::While { .. }
+            | Action::For(_)
+    )
 }
 
 /// What is counted of an error.
@@ -431,10 +464,17 @@ impl<'m> Machine<'m> {
             Action::Retry => {
                 self.counts.add(Event::Retry);
                 self.resume();
+                let level = self.level();
+                if level.list.get(level.at).is_some_and(is_compound) {
+                    self.counts.add(Event::RetryOfCompound);
+                }
             }
             Action::TryNext => {
                 self.counts.add(Event::TryNext);
                 self.resume();
+                if self.level().repeat.is_loop() {
+                    self.counts.add(Event::TryNextInLoop);
+                }
                 self.level().at += 1;
             }
             Action::Assign(..) | Action::Write { .. } | Action::Read { .. } => {

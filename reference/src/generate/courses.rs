@@ -11,6 +11,16 @@ const NUMS: [&str; 5] = ["n", "k", "u", "v", "d"];
 /// By how many loops are around.
 const COUNTERS: [&str; 4] = ["i", "j", "m", "h"];
 const WHILE_COUNTERS: [&str; 3] = ["w1", "w2", "w3"];
+/// ERROR lists after which the work goes on.
+const MENDING: [&str; 5] = [
+    "k := k + 1 ; TRYNEXT ;",
+    "d := d + 1 ; IF d < 4 RETRY ; TRYNEXT ;",
+    "IF ERRNO = ERR_DIVZERO THEN d := 2 ; u := 3 ; ELSEIF ERRNO = ERR_OUTOFBND THEN TRYNEXT ; ENDIF \
+     v := 1 ; TRYNEXT ;",
+    "TEST ERRNO CASE ERR_OVERFLOW , ERR_ILLRAISE : u := 1 ; TRYNEXT ; \
+     CASE 1 , 2 , 3 : TRYNEXT ; DEFAULT : d := d + 3 ; ENDTEST TRYNEXT ;",
+    "FOR e FROM 1 TO 2 DO u := u + e ; ENDFOR TRYNEXT ;",
+];
 const DEEPEST_NEST: usize = 4;
 /// A routine has at most 64 words; these are left for FOR variables.
 const MOST_LOOPS: usize = 30;
@@ -133,12 +143,9 @@ impl Course<'_> {
         if self.random.chance(15) {
             self.list(1, 1);
         }
-        match self.random.weighted(&[25, 20, 15, 12, 8, 8, if self.rank == 0 { 0 } else { 12 }]) {
-            0 => self.put("k := k + 1 ; TRYNEXT ;"),
-            1 => self.put("d := d + 1 ; IF d < 4 RETRY ; TRYNEXT ;"),
-            2 => self.put("IF ERRNO = ERR_DIVZERO THEN d := 2 ; u := 3 ; ELSEIF ERRNO = ERR_OUTOFBND THEN TRYNEXT ; ENDIF v := 1 ; TRYNEXT ;"),
-            3 => self.put("TEST ERRNO CASE ERR_OVERFLOW , ERR_ILLRAISE : u := 1 ; TRYNEXT ; CASE 1 , 2 , 3 : TRYNEXT ; DEFAULT : d := d + 3 ; ENDTEST TRYNEXT ;"),
-            4 => self.put("FOR e FROM 1 TO 2 DO u := u + e ; ENDFOR TRYNEXT ;"),
+        let hands_on = if self.rank == 0 { 0 } else { 25 };
+        match self.random.weighted(&[25, 20, 15, 12, 8, 8, hands_on]) {
+            way if way < MENDING.len() => self.put(MENDING[way]),
             5 => {
                 self.call();
                 self.put("TRYNEXT ;");
@@ -160,7 +167,7 @@ impl Course<'_> {
 
     fn statement(&mut self) {
         let nests = self.nest < DEEPEST_NEST;
-        match self.random.weighted(&[30, 14, 6, 10, 16]) {
+        match self.random.weighted(&[30, 14, 8, 10, 16]) {
             0 if nests => self.compound(),
             1 => self.call(),
             2 => self.trouble(),
@@ -234,12 +241,12 @@ impl Course<'_> {
         match self.sorts[callee - 1] {
             Sort::Proc => {
                 self.put(&format!("s{callee}"));
-                self.num(0);
+                self.argument();
                 self.put(";");
             }
             Sort::Bool => {
                 self.put(&format!("on := s{callee} ("));
-                self.num(0);
+                self.argument();
                 self.put(") ;");
             }
             Sort::Num | Sort::Recursive => {
@@ -247,22 +254,35 @@ impl Course<'_> {
                     .random
                     .pick(&["u", "n", "v", "a { 2 }", "c { 1 + k MOD 3 }"]);
                 self.put(&format!("{target} := s{callee} ("));
-                self.num(0);
+                self.argument();
                 self.put(") ;");
             }
         }
     }
 
+    fn argument(&mut self) {
+        if self.random.chance(6) {
+            return self.put("7 DIV d");
+        }
+        self.num(0);
+    }
+
     /// A statement that fails for some values.
     fn trouble(&mut self) {
         let name = self.random.pick(&NUMS);
-        let words = match self.random.below(7) {
+        let gives_num = matches!(self.sort(), Sort::Num | Sort::Recursive);
+        let words = match self.random.below(13) {
             0 => format!("u := 12 DIV {name} ;"),
             1 => format!("v := 7 MOD ( {name} - 2 ) ;"),
             2 => format!("a {{ {name} }} := 1 ;"),
             3 => format!("u := 8388600 + {name} ;"),
             4 => format!("FOR e FROM 1 TO 6 DIV {name} DO v := e ; ENDFOR"),
-            5 if !self.in_error => format!("IF {name} MOD 3 = 1 RAISE {name} ;"),
+            5 | 6 if !self.in_error => format!("IF {name} MOD 3 = 1 RAISE {name} ;"),
+            7 if !self.in_error => format!("IF {name} > 4 RAISE {name} * 20 ;"),
+            8 => format!("WHILE 12 DIV {name} > 4 DO {name} := {name} + 1 ; ENDWHILE"),
+            9 => format!("TPWrite \"q=\" \\ num := 9 DIV {name} ;"),
+            10 if gives_num => format!("IF {name} < 3 RETURN 5 MOD ( {name} - 1 ) ;"),
+            11 => format!("TEST 5 MOD {name} CASE 1 : u := 2 ; ENDTEST"),
             _ => format!("IF c {{ {name} }} > 1 THEN u := 1 ; ENDIF"),
         };
         self.loops += 1;
