@@ -28,9 +28,8 @@ static void expect(int holds, const char *otherwise) {
 /* A store after the call: so many words kept, zeros up to its 16,384th word, and beyond them what was lent. A refused store that is too small is untouched. */
 static void expect_store(struct guarded *g, size_t words, size_t kept_words, int touched, const char *otherwise) {
     size_t end = touched ? RAPID_STORE_BYTES : 0;
-    for (size_t i = 4 * kept_words; i < end; i++)
-        expect(g->lent[i] == 0, otherwise);
     expect(!touched || words >= RAPID_STORE_WORDS, "a store that is too small was accepted");
+    expect(!touched || all_are(0, g->lent + 4 * kept_words, end - 4 * kept_words), otherwise);
     expect(guarded_kept(g, end), otherwise);
 }
 

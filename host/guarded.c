@@ -76,12 +76,12 @@ uint8_t *guarded_lend(struct guarded *g, size_t length, enum edge edge) {
     return g->lent;
 }
 
+int all_are(uint8_t value, const uint8_t *bytes, size_t count) { return count == 0 || (bytes[0] == value && memcmp(bytes, bytes + 1, count - 1) == 0); }
+
 int guarded_kept(const struct guarded *g, size_t written) {
     if (g->of_heap)
         return 1;
-    const uint8_t *b = g->lent == g->begins ? g->lent : g->lent - MARGIN, *end = b + MARGIN + g->length;
-    for (; b < end; b++)
-        if (*b != g->pattern && !(g->lent <= b && b < g->lent + written))
-            return 0;
-    return 1;
+    int begins_at_guard = g->lent == g->begins;
+    const uint8_t *rest = g->lent + written, *end = g->lent + g->length + (begins_at_guard ? MARGIN : 0);
+    return all_are(g->pattern, rest, (size_t)(end - rest)) && (begins_at_guard || all_are(g->pattern, g->lent - MARGIN, MARGIN));
 }
