@@ -1,23 +1,22 @@
 /* Answers case lines `run TEXT STEPS DEPTH INPUTS OUTLEN CODELEN VALUELEN` (reference/README.md has their form) by the whole call, so that `diff` compares
  * it with the independent program. Everything is lent between guard pages (guarded.h), at each of its edges; the host ends with a message and status 1
  * where a call returns anything else than the paper says, leaves another store than module words and zeros, or writes a byte that it may not. */
+#include "case_lines.h"
 #include "guarded.h"
 #include "rapid.h"
 #include <stdio.h>
 #include <stdlib.h>
 #include <string.h>
 
-enum { MOST_TEXT = 1 << 17, MOST_INPUTS = 1 << 12, MOST_OUT = 1 << 20, MOST_STORE = 1 << 18, STORE_WORDS = 16384 };
-static char line[2 * MOST_TEXT + 16 * MOST_INPUTS + 256];
+static char line[MOST_LINE];
 static unsigned long line_number;
-static uint8_t text[MOST_TEXT], inputs[4 * MOST_INPUTS];
-static struct guarded lent_text, lent_inputs, lent_out, lent_code, lent_values, lent_record;
+static struct guarded lent_text, lent_inputs, lent_output, lent_code, lent_values, lent_record;
 
 /* One case, and the first call's answer to it. */
-static struct { size_t length, inputs, room, code, values; uint32_t steps, depth; } asked;
+static struct call_case asked;
 static uint64_t fields[8];
-static uint8_t *output;
-static int32_t *kept;
+static uint8_t output[MOST_OUTPUT];
+static int32_t kept[RAPID_MODULE_WORD_LIMIT];
 
 static void expect(int holds, const char *otherwise) {
     if (holds)
@@ -26,106 +25,40 @@ static void expect(int holds, const char *otherwise) {
     exit(1);
 }
 
-static uint64_t number_at(const uint8_t *b, int bytes) {
-    uint64_t n = 0;
-    while (bytes--)
-        n = n << 8 | b[bytes];
-    return n;
-}
-
-static int nibble(char c) { return c >= '0' && c <= '9' ? c - '0' : c >= 'a' && c <= 'f' ? c - 'a' + 10 : -1; }
-
-/* The fields of a line; each returns where the next one begins, or NULL where the line is none. */
-static const char *read_text(const char *field) {
-    asked.length = 0;
-    if (*field == '-')
-        return field[1] == ' ' ? field + 2 : NULL;
-    while (nibble(field[0]) >= 0 && nibble(field[1]) >= 0 && asked.length < MOST_TEXT) {
-        text[asked.length++] = (uint8_t)(nibble(field[0]) * 16 + nibble(field[1]));
-        field += 2;
-    }
-    return *field == ' ' ? field + 1 : NULL;
-}
-
-static const char *read_count(const char *field, uint64_t *count) {
-    char *end;
-    if (field == NULL || *field < '0' || *field > '9')
-        return NULL;
-    *count = strtoull(field, &end, 10);
-    return *end == ' ' || *end == '\n' ? end + 1 : NULL;
-}
-
-static const char *read_inputs(const char *field) {
-    asked.inputs = 0;
-    if (field == NULL)
-        return NULL;
-    if (*field == '-' && field[1] == ' ')
-        return field + 2;
-    for (;;) {
-        char *end;
-        uint32_t n = (uint32_t)strtol(field, &end, 10);
-        expect(asked.inputs < MOST_INPUTS, "too many inputs for this host");
-        for (int i = 0; i < 4; i++)
-            inputs[4 * asked.inputs + i] = (uint8_t)(n >> 8 * i);
-        asked.inputs++;
-        if (*end == ' ')
-            return end + 1;
-        if (*end != ',')
-            return NULL;
-        field = end + 1;
-    }
-}
-
-static int read_case(void) {
-    uint64_t steps, depth, room, code, values;
-    const char *at = strncmp(line, "run ", 4) == 0 ? read_text(line + 4) : NULL;
-    at = read_count(read_count(at, &steps), &depth);
-    at = read_count(read_count(read_count(read_inputs(at), &room), &code), &values);
-    if (at == NULL)
-        return 0;
-    asked.steps = (uint32_t)steps;
-    asked.depth = (uint32_t)depth;
-    asked.room = room;
-    asked.code = code;
-    asked.values = values;
-    return 1;
-}
-
 /* A store after the call: so many words kept, zeros up to its 16,384th word, and beyond them what was lent. A refused store that is too small is untouched. */
 static void expect_store(struct guarded *g, size_t words, size_t kept_words, int touched, const char *otherwise) {
-    size_t end = touched ? 4 * STORE_WORDS : 0;
-    for (size_t i = 4 * kept_words; i < end; i++)
-        expect(g->lent[i] == 0, otherwise);
-    expect(!touched || words >= STORE_WORDS, "a store that is too small was accepted");
+    size_t end = touched ? RAPID_STORE_BYTES : 0;
+    expect(!touched || words >= RAPID_STORE_WORDS, "a store that is too small was accepted");
+    expect(!touched || all_are(0, g->lent + 4 * kept_words, end - 4 * kept_words), otherwise);
     expect(guarded_kept(g, end), otherwise);
 }
 
 /* One call. `part` bytes more than whole words are lent of inputs and stores: a part word is left out. */
 static void call_once(enum edge edge, size_t part) {
-    memcpy(guarded_lend(&lent_text, asked.length, edge), text, asked.length);
-    memcpy(guarded_lend(&lent_inputs, 4 * asked.inputs + part, edge), inputs, 4 * asked.inputs);
-    guarded_lend(&lent_out, asked.room, edge);
-    guarded_lend(&lent_code, 4 * asked.code + part, edge);
-    guarded_lend(&lent_values, 4 * asked.values + part, edge);
+    memcpy(guarded_lend(&lent_text, asked.text_length, edge), asked.text, asked.text_length);
+    memcpy(guarded_lend(&lent_inputs, 4 * asked.input_count + part, edge), asked.inputs, 4 * asked.input_count);
+    guarded_lend(&lent_output, asked.room, edge);
+    guarded_lend(&lent_code, 4 * asked.code_words + part, edge);
+    guarded_lend(&lent_values, 4 * asked.value_words + part, edge);
     guarded_lend(&lent_record, RAPID_RECORD_BYTES + part, edge);
-    int returned = (int)rapid_run(lent_text.lent, asked.length, asked.steps, asked.depth, lent_inputs.lent, 4 * asked.inputs + part, lent_out.lent, asked.room, lent_code.lent,
-                                  4 * asked.code + part, lent_values.lent, 4 * asked.values + part, lent_record.lent, RAPID_RECORD_BYTES + part);
+    int returned = (int)rapid_run(lent_text.lent, asked.text_length, asked.steps, asked.depth, lent_inputs.lent, 4 * asked.input_count + part, lent_output.lent, asked.room, lent_code.lent,
+                                  4 * asked.code_words + part, lent_values.lent, 4 * asked.value_words + part, lent_record.lent, RAPID_RECORD_BYTES + part);
     expect(returned == 1, "rapid_run did not return 1");
-    expect(memcmp(lent_text.lent, text, asked.length) == 0 && guarded_kept(&lent_text, asked.length), "the text was written to");
-    expect(memcmp(lent_inputs.lent, inputs, 4 * asked.inputs) == 0 && guarded_kept(&lent_inputs, 4 * asked.inputs), "the inputs were written to");
+    expect(memcmp(lent_text.lent, asked.text, asked.text_length) == 0 && guarded_kept(&lent_text, asked.text_length), "the text was written to");
+    expect(memcmp(lent_inputs.lent, asked.inputs, 4 * asked.input_count) == 0 && guarded_kept(&lent_inputs, 4 * asked.input_count), "the inputs were written to");
     expect(guarded_kept(&lent_record, RAPID_RECORD_BYTES), "bytes beside the record were written");
     size_t written = (size_t)number_at(lent_record.lent + 40, 8), words = (size_t)number_at(lent_record.lent + 56, 8);
-    expect(written <= asked.room && guarded_kept(&lent_out, written), "output past the count was written");
-    expect(words <= 1024, "more module words than there can be");
+    expect(written <= asked.room && guarded_kept(&lent_output, written), "output past the count was written");
+    expect(words <= RAPID_MODULE_WORD_LIMIT, "more module words than there can be");
     int touched = number_at(lent_record.lent + 8, 8) != 1;
-    expect_store(&lent_code, asked.code, 0, touched, "the code store is not as the paper says");
-    expect_store(&lent_values, asked.values, touched ? words : 0, touched, "the value store is not as the paper says");
+    expect_store(&lent_code, asked.code_words, 0, touched, "the code store is not as the paper says");
+    expect_store(&lent_values, asked.value_words, touched ? words : 0, touched, "the value store is not as the paper says");
 }
 
 static void keep_answer(void) {
     for (int i = 0; i < 8; i++)
         fields[i] = number_at(lent_record.lent + 8 * i, 8);
-    memcpy(output, lent_out.lent, fields[5]);
+    memcpy(output, lent_output.lent, fields[5]);
     for (size_t i = 0; i < fields[7]; i++)
         kept[i] = (int32_t)number_at(lent_values.lent + 4 * i, 4);
 }
@@ -133,22 +66,22 @@ static void keep_answer(void) {
 static void expect_same(void) {
     for (int i = 0; i < 8; i++)
         expect(fields[i] == number_at(lent_record.lent + 8 * i, 8), "other memory, another record");
-    expect(memcmp(output, lent_out.lent, fields[5]) == 0, "other memory, another output");
+    expect(memcmp(output, lent_output.lent, fields[5]) == 0, "other memory, another output");
     for (size_t i = 0; i < fields[7]; i++)
         expect(kept[i] == (int32_t)number_at(lent_values.lent + 4 * i, 4), "other memory, other data");
 }
 
 /* Fewer than 64 bytes for the record: 0, and nothing is touched. */
-static void call_without_record(void) {
-    memcpy(guarded_lend(&lent_text, asked.length, LAST_BYTE_GUARDED), text, asked.length);
-    guarded_lend(&lent_out, asked.room, LAST_BYTE_GUARDED);
-    guarded_lend(&lent_code, 4 * asked.code, LAST_BYTE_GUARDED);
-    guarded_lend(&lent_values, 4 * asked.values, LAST_BYTE_GUARDED);
-    guarded_lend(&lent_record, RAPID_RECORD_BYTES - 1, LAST_BYTE_GUARDED);
-    int returned = (int)rapid_run(lent_text.lent, asked.length, asked.steps, asked.depth, NULL, 0, lent_out.lent, asked.room, lent_code.lent, 4 * asked.code, lent_values.lent, 4 * asked.values,
+static void call_without_record(enum edge edge) {
+    memcpy(guarded_lend(&lent_text, asked.text_length, edge), asked.text, asked.text_length);
+    guarded_lend(&lent_output, asked.room, edge);
+    guarded_lend(&lent_code, 4 * asked.code_words, edge);
+    guarded_lend(&lent_values, 4 * asked.value_words, edge);
+    guarded_lend(&lent_record, RAPID_RECORD_BYTES - 1, edge);
+    int returned = (int)rapid_run(lent_text.lent, asked.text_length, asked.steps, asked.depth, NULL, 0, lent_output.lent, asked.room, lent_code.lent, 4 * asked.code_words, lent_values.lent, 4 * asked.value_words,
                                   lent_record.lent, RAPID_RECORD_BYTES - 1);
     expect(returned == 0, "rapid_run did not return 0 for too short a record");
-    expect(guarded_kept(&lent_out, 0) && guarded_kept(&lent_code, 0) && guarded_kept(&lent_values, 0) && guarded_kept(&lent_record, 0), "touched without a record");
+    expect(guarded_kept(&lent_output, 0) && guarded_kept(&lent_code, 0) && guarded_kept(&lent_values, 0) && guarded_kept(&lent_record, 0), "touched without a record");
 }
 
 static void print_answer(void) {
@@ -162,29 +95,35 @@ static void print_answer(void) {
     puts(fields[7] ? "" : "-");
 }
 
-int main(void) {
-    /* by lines, so that what was answered before a touched guard is seen */
-    setvbuf(stdout, NULL, _IOLBF, BUFSIZ);
+static void make_guards(void) {
     lent_text = guarded_make(MOST_TEXT);
     lent_inputs = guarded_make(4 * MOST_INPUTS + 4);
-    lent_out = guarded_make(MOST_OUT);
-    lent_code = guarded_make(MOST_STORE);
-    lent_values = guarded_make(MOST_STORE);
+    lent_output = guarded_make(MOST_OUTPUT);
+    lent_code = guarded_make(MOST_STORE_BYTES);
+    lent_values = guarded_make(MOST_STORE_BYTES);
     lent_record = guarded_make(RAPID_RECORD_BYTES + 4);
-    output = malloc(MOST_OUT);
-    kept = malloc(1024 * sizeof *kept);
+}
+
+/* With the word `unwritten`, for valgrind, unwritten memory is lent in place of that between guards. */
+int main(int count, char **words) {
+    int unwritten = count == 2 && strcmp(words[1], "unwritten") == 0;
+    enum edge one = unwritten ? UNWRITTEN : LAST_BYTE_GUARDED, other = unwritten ? UNWRITTEN : FIRST_BYTE_GUARDED;
+    if (!unwritten)
+        make_guards();
+    /* by lines, so that what was answered before a touched guard is seen */
+    setvbuf(stdout, NULL, _IOLBF, BUFSIZ);
     while (fgets(line, sizeof line, stdin)) {
         line_number++;
-        if (!read_case()) {
+        if (!case_read(line, &asked)) {
             puts("bad line");
             continue;
         }
-        call_once(LAST_BYTE_GUARDED, 0);
+        call_once(one, 0);
         keep_answer();
-        call_once(FIRST_BYTE_GUARDED, 3);
+        call_once(other, 3);
         expect_same();
         if (line_number % 16 == 0)
-            call_without_record();
+            call_without_record(one);
         print_answer();
     }
     return 0;

@@ -51,14 +51,20 @@ struct guarded guarded_make(size_t most) {
         give_up("its pages cannot be opened");
     if (!is_guarded(begins - 1) || !is_guarded(begins + room) || is_guarded(begins) || is_guarded(begins + room - 1))
         give_up("its guards do not guard");
-    return (struct guarded){begins, room, begins, 0, 0};
+    return (struct guarded){begins, room, begins, 0, 0, NULL};
 }
 
 uint8_t *guarded_lend(struct guarded *g, size_t length, enum edge edge) {
-    if (length > g->room - MARGIN)
+    if (edge != UNWRITTEN && length + MARGIN > g->room)
         give_up("more is asked for than there is room");
     g->length = length;
-    if (edge == LAST_BYTE_GUARDED) {
+    free(g->of_heap);
+    g->of_heap = NULL;
+    if (edge == UNWRITTEN) {
+        g->lent = g->of_heap = malloc(length ? length : 1);
+        if (g->lent == NULL)
+            give_up("the heap has none");
+    } else if (edge == LAST_BYTE_GUARDED) {
         g->pattern = 0xa5;
         g->lent = g->begins + g->room - length;
         memset(g->lent - MARGIN, g->pattern, MARGIN + length);
@@ -70,10 +76,12 @@ uint8_t *guarded_lend(struct guarded *g, size_t length, enum edge edge) {
     return g->lent;
 }
 
+int all_are(uint8_t value, const uint8_t *bytes, size_t count) { return count == 0 || (bytes[0] == value && memcmp(bytes, bytes + 1, count - 1) == 0); }
+
 int guarded_kept(const struct guarded *g, size_t written) {
-    const uint8_t *b = g->lent == g->begins ? g->lent : g->lent - MARGIN, *end = b + MARGIN + g->length;
-    for (; b < end; b++)
-        if (*b != g->pattern && !(g->lent <= b && b < g->lent + written))
-            return 0;
-    return 1;
+    if (g->of_heap)
+        return 1;
+    int begins_at_guard = g->lent == g->begins;
+    const uint8_t *rest = g->lent + written, *end = g->lent + g->length + (begins_at_guard ? MARGIN : 0);
+    return all_are(g->pattern, rest, (size_t)(end - rest)) && (begins_at_guard || all_are(g->pattern, g->lent - MARGIN, MARGIN));
 }

@@ -5,28 +5,48 @@
 host_packages() { # the Debian packages that this machine lacks for a C host
     if [ "$(uname -m)" = x86_64 ]; then
         command -v gcc >/dev/null 2>&1 || echo gcc libc6-dev
+        command -v g++ >/dev/null 2>&1 || echo g++
     else
         command -v x86_64-linux-gnu-gcc >/dev/null 2>&1 || echo gcc-x86-64-linux-gnu libc6-dev-amd64-cross
+        command -v x86_64-linux-gnu-g++ >/dev/null 2>&1 || echo g++-x86-64-linux-gnu
     fi
 }
 
-host_library() { # NAME: makes target/staticlib/libNAME.a; what rt says is shown only where it fails
+host_library() { # NAME: makes target/staticlib/libNAME.a, for which rt proves its crate once more; where HOST_BUILT is set, the one that is there is taken. What rt says is shown only where it fails
     local said
+    if [ -n "${HOST_BUILT:-}" ] && [ -f "target/staticlib/lib$1.a" ]; then return; fi
     said=$(rt staticlib "$1" 2>&1) || { printf '%s\n' "$said"; echo "no static library of $1"; return 1; }
 }
 
-host_cc() { # as cc
+host_compile() { # gcc|g++ WORDS..
     if [ "$(uname -m)" = x86_64 ]; then
-        gcc -Wall -Wextra -Werror "$@"
+        "$1" -Wall -Wextra -Werror "${@:2}"
     else
-        x86_64-linux-gnu-gcc -static -Wall -Wextra -Werror "$@"
+        "x86_64-linux-gnu-$1" -static -Wall -Wextra -Werror "${@:2}"
     fi
 }
+
+host_cc() { host_compile gcc "$@"; } # as cc
+
+host_ar() { # as ar
+    if [ "$(uname -m)" = x86_64 ]; then ar "$@"; else x86_64-linux-gnu-ar "$@"; fi
+}
+
+host_program() { # PROGRAM gcc|g++ WORDS..: makes a program that runs by its name, under the emulator where it must
+    local program=$1 compiled=$1
+    [ "$(uname -m)" = x86_64 ] || compiled=$program.x86-64
+    host_compile "$2" -pedantic -O2 -o "$compiled" "${@:3}"
+    [ "$compiled" = "$program" ] && return
+    printf '#!/bin/sh\nexec "%s" "%s" "$@"\n' "$(host_emulator)" "$(readlink -f "$compiled")" >"$program"
+    chmod +x "$program"
+}
+
+host_emulator() { echo "$(dirname "$(dirname "$(readlink -f "$(command -v rt)")")")/on/$(uname -m)/toolchain/bin/qemu-x86_64"; }
 
 host_run() { # PROGRAM WORDS..
     if [ "$(uname -m)" = x86_64 ]; then
         "$@"
     else
-        "$(dirname "$(dirname "$(readlink -f "$(command -v rt)")")")/on/$(uname -m)/toolchain/bin/qemu-x86_64" "$@"
+        "$(host_emulator)" "$@"
     fi
 }

@@ -1,35 +1,25 @@
 #include "rapid.h"
 
-static uint64_t field(const uint8_t *record, int i) {
-    uint64_t n = 0;
-    for (int k = 7; k >= 0; k--)
-        n = n << 8 | record[8 * i + k];
-    return n;
-}
+/* Numbers are lent as the machine has them: the low byte first, as the library wants it, since it is compiled for no other machine; and without gaps. */
+_Static_assert(sizeof(struct rapid_record) == RAPID_RECORD_BYTES && sizeof(struct rapid_word) == RAPID_ENTRY_BYTES && sizeof(struct rapid_listing) == RAPID_ANSWER_BYTES,
+               "the library's numbers stand side by side");
 
-static int is_slice(const void *bytes, size_t length) { return bytes != NULL || length == 0; }
+static int is_slice(const void *first, size_t count, size_t size) { return (first != NULL || count == 0) && count <= SIZE_MAX / size; }
 
-/* Words are lent as the machine has them: it has the low byte first, as the library wants it, since the library runs on no other. */
 int rapid_call(const struct rapid_lent *lent, struct rapid_record *record) {
-    uint8_t bytes[RAPID_RECORD_BYTES];
     if (lent == NULL || record == NULL)
         return 0;
-    if (!is_slice(lent->text, lent->text_length) || !is_slice(lent->inputs, lent->input_count) || !is_slice(lent->output, lent->output_length) || !is_slice(lent->code, lent->code_words) ||
-        !is_slice(lent->values, lent->value_words))
+    if (!is_slice(lent->text, lent->text_length, 1) || !is_slice(lent->inputs, lent->input_count, 4) || !is_slice(lent->output, lent->output_length, 1) ||
+        !is_slice(lent->code, lent->code_words, 4) || !is_slice(lent->values, lent->value_words, 4))
         return 0;
-    if (lent->input_count > SIZE_MAX / 4 || lent->code_words > SIZE_MAX / 4 || lent->value_words > SIZE_MAX / 4)
+    return (int)rapid_run(lent->text, lent->text_length, lent->steps, lent->depth, (const uint8_t *)lent->inputs, 4 * lent->input_count, lent->output, lent->output_length,
+                          (uint8_t *)lent->code, 4 * lent->code_words, (uint8_t *)lent->values, 4 * lent->value_words, (uint8_t *)record, sizeof *record);
+}
+
+int rapid_words(const uint8_t *text, size_t text_length, struct rapid_word *words, size_t room, struct rapid_listing *listing) {
+    if (listing == NULL || !is_slice(text, text_length, 1) || !is_slice(words, room, sizeof *words))
         return 0;
-    rapid_run(lent->text, lent->text_length, lent->steps, lent->depth, (const uint8_t *)lent->inputs, 4 * lent->input_count, lent->output, lent->output_length, (uint8_t *)lent->code,
-              4 * lent->code_words, (uint8_t *)lent->values, 4 * lent->value_words, bytes, sizeof bytes);
-    record->ending = field(bytes, 0);
-    record->refusal = field(bytes, 1);
-    record->offset = field(bytes, 2);
-    record->steps = field(bytes, 3);
-    record->error = field(bytes, 4);
-    record->output = field(bytes, 5);
-    record->inputs = field(bytes, 6);
-    record->module_words = field(bytes, 7);
-    return 1;
+    return (int)rapid_list(text, text_length, (uint8_t *)words, room * sizeof *words, (uint8_t *)listing, sizeof *listing);
 }
 
 static const char *const endings[] = {
@@ -46,25 +36,24 @@ static const char *const endings[] = {
 
 static const char *const refusals[] = {
     NULL,
-    "a store has fewer than 16,384 words",
-    "the call depth is not 1 to 64",
-    "the text is longer than 32,768 bytes",
-    "this byte is not permitted",
-    "malformed word: a name of more than 32 characters, a string that does not end on its line or has more than 80 characters, or a number with letters behind it",
-    "number too large: 8,388,608 is the largest",
+    "a store under 16,384 words",
+    "call depth not 1..64",
+    "text too long: 32,768 bytes are allowed",
+    "byte not permitted",
+    "malformed word: a name of more than 32 characters, a string that is unclosed, too long or has a backslash, a number with a letter, _ or . directly after it, or no start of a word",
+    "number too large: 8,388,608 at most",
     "more than 8,192 words",
-    "no well-formed module could have this word here",
-    "nested too deep: 16 compound statements, or parentheses and braces, may nest",
-    "name declared twice in its scope, or protected (ERRNO and the ERR_ names are)",
+    "word that no well-formed module could have here",
+    "nesting 17: compound statements nest to 16, parentheses and braces in an expression too",
+    "name declared twice, or protected: ERRNO and the ERR_ names cannot be declared anew",
     "unknown name",
-    "name of the wrong kind: an array needs an index and nothing else has one; constants, FOR variables and ERRNO can't be targets; a constant expression has no variables; a routine is no "
-    "value, a PROC gives none, and a FUNC's can't be left out",
-    "wrong type: + - * DIV MOD < <= > >= take num, NOT AND OR XOR and conditions take bool, = and <> two of one type; a value must be of its target's or parameter's type",
-    "wrong number of arguments",
-    "this constant expression would raise an error, or an array's size is not 1 to 512",
-    "this name crosses a limit: 64 routines, 1,024 words of module data, or 64 words of a routine's parameters, data and FOR variables",
-    "not here: RETRY, TRYNEXT and plain RAISE stand in an ERROR list only, RAISE with a number outside it only; RETURN has a value in a FUNC and none in a PROC",
-    "there is no PROC main without parameters",
+    "name of wrong kind: array without index, index on a scalar, barred target, variable in a constant expression, routine for data, or PROC for FUNC and the reverse",
+    "wrong type: + - * DIV MOD < <= > >= take num, = and <> two of one type, NOT AND OR XOR and conditions take bool; a value must be of its target's or parameter's type",
+    "wrong argument count",
+    "constant expression that would raise an error, or size outside 1..512",
+    "over 64 routines, 1,024 module words, or 64 words a routine (parameters, data, each FOR variable)",
+    "barred here: RETRY, TRYNEXT or plain RAISE outside ERROR, RAISE with a value in it, RETURN with a value in a PROC or without one in a FUNC",
+    "no PROC main without parameters",
 };
 
 static const char *const errors[] = {"ERR_OVERFLOW", "ERR_DIVZERO", "ERR_OUTOFBND", "ERR_ILLRAISE"};

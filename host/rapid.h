@@ -1,8 +1,8 @@
-/* The RAPID lesson bench for C and C++: check and run a module's text, list its words, and ask about a place in it.
+/* The RAPID lesson bench for C and C++: check and run a module's text, list its words, and ask about a place in it. docs/EMBEDDING.md shows how it is used.
  *
- * Behind it stand three proved libraries, each a static library of one function: `pendant` (rapid_run), `listing` (rapid_list) and `asking` (rapid_ask).
- * rapid.c has the thin wrapper `rapid_call` and the sentences; nothing else stands between a caller and the proved code. No memory is used but what is
- * lent, and some stack (docs/EMBEDDING.md says how much).
+ * Behind it stand three proved libraries of one function each: `pendant` (rapid_run), `listing` (rapid_list) and `asking` (rapid_ask). rapid.c has thin wrappers
+ * on C's own types and the sentences; nothing else stands between a caller and the proved code. host/build puts all of it into one librapid.a. No memory is used but
+ * what is lent, and some stack. Nothing is kept between calls: with memory of its own each thread may call at any time.
  *
  * A byte slice is a pointer and its length. It must be readable, or writable where it is not const, over its whole length, and no two slices of one call may
  * overlap. A slice of length 0 may have any pointer, NULL too: nothing is read or written through it. */
@@ -19,6 +19,7 @@ extern "C" {
 enum {
     RAPID_TEXT_LIMIT = 32768,  /* bytes of a text */
     RAPID_WORD_LIMIT = 8192,   /* words of a text */
+    RAPID_NAME_LIMIT = 32,     /* characters of a name */
     RAPID_STORE_WORDS = 16384, /* words that each store must have */
     RAPID_STORE_BYTES = 65536, /* the same in bytes */
     RAPID_RECORD_BYTES = 64,   /* the record, eight bytes a field */
@@ -118,9 +119,25 @@ const char *rapid_error_name(uint64_t error);
 /* The kind of a word. */
 enum rapid_kind { RAPID_NAME, RAPID_RESERVED, RAPID_NUMBER, RAPID_STRING, RAPID_SIGN };
 
-/* Lists a text. All numbers are written as four bytes, low byte first.
- * `output`: for each word an entry: its kind, its place and its length. As many entries as fit whole; no byte after them is touched. No text has more words than
- * bytes, so entries for the lesser of its length and RAPID_WORD_LIMIT are always enough.
+struct rapid_word {
+    uint32_t kind;   /* enum rapid_kind */
+    uint32_t place;  /* where it starts in the text */
+    uint32_t length; /* in bytes */
+};
+
+/* The end of a listing. */
+struct rapid_listing {
+    uint32_t words;   /* how many there are before the first refusal, those without room too */
+    uint32_t refusal; /* 3 to 7, or RAPID_NOT_REFUSED */
+    uint32_t offset;  /* of the refusal */
+};
+
+/* Lists a text into an array with room for so many words; as many as fit are written. No text has more words than bytes, so room for the lesser of its length and
+ * RAPID_WORD_LIMIT is always enough. 1; or 0, and nothing is touched, where `listing` is NULL, or a pointer is NULL whose length is not 0. */
+int rapid_words(const uint8_t *text, size_t text_length, struct rapid_word *words, size_t room, struct rapid_listing *listing);
+
+/* The same, as the proved code takes it. All numbers are written as four bytes, low byte first.
+ * `output`: for each word an entry: its kind, its place and its length. As many entries as fit whole; no byte after them is touched.
  * `answer`: how many words there are before the first refusal of 3 to 7 (entries that did not fit count too), the refusal and its offset. Bytes after these
  * twelve are not touched.
  * Returns 1, whether the text is refused or not; or 0 where `answer` has fewer than RAPID_ANSWER_BYTES: then nothing is touched. */

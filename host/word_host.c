@@ -1,16 +1,17 @@
 /* Answers case lines `list TEXT` and `at TEXT PLACE` (reference/README.md has their form) by the proved library, so that `diff` compares it with the
  * independent program. Everything is lent between guard pages (guarded.h), at each of its edges, and with different room; the host ends with a message
- * and status 1 where a call returns or writes anything else than rapid_words.h says. */
+ * and status 1 where a call returns or writes anything else than rapid.h says. */
+#include "case_lines.h"
 #include "guarded.h"
-#include "rapid_words.h"
+#include "rapid.h"
 #include <stdio.h>
 #include <stdlib.h>
 #include <string.h>
 
-enum { MOST_BYTES = 1 << 17, MOST_ANSWER = 64 };
-static char line[2 * MOST_BYTES + 64];
+enum { MOST_ANSWER = 64 };
+static char line[2 * MOST_TEXT + 64];
 static unsigned long line_number;
-static uint8_t text[MOST_BYTES];
+static uint8_t text[MOST_TEXT];
 static struct guarded lent_text, lent_out, lent_answer;
 
 /* What the first call for a text wrote: every other call must write the same. */
@@ -23,26 +24,9 @@ static void expect(int holds, const char *otherwise) {
     exit(1);
 }
 
-static uint32_t word32(const uint8_t *b) { return b[0] | (uint32_t)b[1] << 8 | (uint32_t)b[2] << 16 | (uint32_t)b[3] << 24; }
+static uint32_t word32(const uint8_t *b) { return (uint32_t)number_at(b, 4); }
 
 static size_t least(size_t a, size_t b) { return a < b ? a : b; }
-
-static int nibble(char c) { return c >= '0' && c <= '9' ? c - '0' : c >= 'a' && c <= 'f' ? c - 'a' + 10 : -1; }
-
-/* Reads the text's hexadecimal digits; returns its length, or -1 where it has none, and where the field ends. */
-static long read_text(const char *field, const char **end) {
-    long n = 0;
-    if (*field == '-') {
-        *end = field + 1;
-        return 0;
-    }
-    while (nibble(field[0]) >= 0 && nibble(field[1]) >= 0 && n < MOST_BYTES) {
-        text[n++] = (uint8_t)(nibble(field[0]) * 16 + nibble(field[1]));
-        field += 2;
-    }
-    *end = field;
-    return n == 0 ? -1 : n;
-}
 
 static const uint8_t *lend_text(size_t length, enum edge edge) { return memcpy(guarded_lend(&lent_text, length, edge), text, length); }
 
@@ -124,16 +108,16 @@ static void ask(size_t length, size_t place) {
 int main(void) {
     /* by lines, so that what was answered before a touched guard is seen */
     setvbuf(stdout, NULL, _IOLBF, BUFSIZ);
-    lent_text = guarded_make(MOST_BYTES);
+    lent_text = guarded_make(MOST_TEXT);
     lent_out = guarded_make(sizeof entries + RAPID_ENTRY_BYTES);
     lent_answer = guarded_make(MOST_ANSWER);
     while (fgets(line, sizeof line, stdin)) {
         const char *end = line;
         long length = -1;
         line_number++;
-        if (strncmp(line, "list ", 5) == 0 && (length = read_text(line + 5, &end)) >= 0 && *end == '\n')
+        if (strncmp(line, "list ", 5) == 0 && (length = case_text(line + 5, text, MOST_TEXT, &end)) >= 0 && *end == '\n')
             list((size_t)length);
-        else if (strncmp(line, "at ", 3) == 0 && (length = read_text(line + 3, &end)) >= 0 && *end == ' ')
+        else if (strncmp(line, "at ", 3) == 0 && (length = case_text(line + 3, text, MOST_TEXT, &end)) >= 0 && *end == ' ')
             ask((size_t)length, strtoul(end + 1, NULL, 10));
         else
             puts("bad line");

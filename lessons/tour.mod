@@ -45,3 +45,5 @@ FUNC bool is_light(num weight)
     RETURN weight < 250 AND weight > 0 OR weight = -1;
 ENDFUNC
 ENDMODULE
+! Teaches: how the parts of a module work together: constants, an array as a tray, a loop that asks, TEST by weight, a routine that returns from inside two loops, and an error of its own.
+! What students get wrong: they leave out RETURN after the part is placed, and it fills every free slot; and they forget that RAISE 17 comes only where no slot was free.

@@ -1,5 +1,6 @@
 //! The whole call: refusals in their order, then the run.
 
+use crate::counts::Counts;
 use crate::form::form;
 use crate::names::settle;
 use crate::run::{run, Allowance};
@@ -30,6 +31,8 @@ pub struct Answer {
     pub inputs_used: usize,
     pub output: Vec<u8>,
     pub words: Vec<i64>,
+    /// What the run came across; no part of the paper's answer.
+    pub counts: Counts,
 }
 
 impl Answer {
@@ -101,5 +104,6 @@ fn accepted(lent: &Lent) -> Result<Answer, Refusal> {
         inputs_used: run.inputs_used,
         output: run.output,
         words: run.words,
+        counts: run.counts,
     })
 }

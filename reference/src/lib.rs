@@ -6,6 +6,7 @@
 //! `generate` makes case lines.
 
 pub mod bench;
+pub mod counts;
 pub mod form;
 pub mod generate;
 pub mod hand;

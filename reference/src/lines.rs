@@ -29,6 +29,15 @@ fn reply(line: &str) -> Option<String> {
     }
 }
 
+/// What a `run` line lends; `None` for any other line.
+pub fn lent_of(line: &str) -> Option<Lent> {
+    let fields: Vec<&str> = line.split(' ').collect();
+    match fields.as_slice() {
+        ["run", rest @ ..] => read_run(rest),
+        _ => None,
+    }
+}
+
 fn read_run(fields: &[&str]) -> Option<Lent> {
     let [text, steps, depth, inputs, output, code, values] = fields else {
         return None;

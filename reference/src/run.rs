@@ -1,7 +1,8 @@
 //! The run of an accepted module, one step after another.
 
+use crate::counts::{Counts, Event};
 use crate::tree::*;
-use crate::value::{element, evaluate, in_range, Memory, ILLRAISE, OVERFLOW};
+use crate::value::{element, evaluate, in_range, Memory, DIVZERO, ILLRAISE, OUTOFBND, OVERFLOW};
 
 /// What a run is allowed and lent.
 pub struct Allowance<'a> {
@@ -20,6 +21,7 @@ pub struct Run {
     pub inputs_used: usize,
     pub output: Vec<u8>,
     pub words: Vec<i64>,
+    pub counts: Counts,
 }
 
 pub fn run(module: &Module, main: usize, allowance: &Allowance) -> Run {
@@ -32,6 +34,7 @@ pub fn run(module: &Module, main: usize, allowance: &Allowance) -> Run {
         steps: 0,
         inputs_used: 0,
         output: Vec::new(),
+        counts: Counts::default(),
     };
     machine.enter(main, &[], None);
     let (ending, place) = machine.go();
@@ -43,6 +46,7 @@ pub fn run(module: &Module, main: usize, allowance: &Allowance) -> Run {
         inputs_used: machine.inputs_used,
         output: machine.output,
         words: machine.words,
+        counts: machine.counts,
     }
 }
 
@@ -70,6 +74,12 @@ enum Repeat<'m> {
         last: i64,
         step: i64,
     },
+}
+
+impl Repeat<'_> {
+    fn is_loop(&self) -> bool {
+        matches!(self, Repeat::Test | Repeat::Count { .. })
+    }
 }
 
 /// A word that gets a value.
@@ -132,6 +142,7 @@ struct Machine<'m> {
     steps: u32,
     inputs_used: usize,
     output: Vec<u8>,
+    counts: Counts,
 }
 
 impl<'m> Level<'m> {
@@ -160,8 +171,12 @@ impl<'m> Machine<'m> {
             self.steps += 1;
             let settled = match done {
                 Ok(()) => Ok(()),
-                Err(Halt::Error(number)) => self.raise(number, next.place()),
+                Err(Halt::Error(number)) => {
+                    self.count_failed(next);
+                    self.raise(number, next.place())
+                }
                 Err(Halt::HandOn) => {
+                    self.counts.add(Event::HandedOn);
                     self.calls.pop();
                     self.raise(self.errno, next.place())
                 }
@@ -171,6 +186,25 @@ impl<'m> Machine<'m> {
                 return ending;
             }
         }
+    }
+
+    /// Counts by its form a statement that an error arose in.
+    fn count_failed(&mut self, next: Next<'m>) {
+        let Next::Statement(statement) = next else {
+            return;
+        };
+        self.counts.add(match &statement.action {
+            Action::If { .. } | Action::CompactIf { .. } | Action::Test { .. } => {
+                Event::FailedChoice
+            }
+            Action::While { .. } => Event::FailedWhile,
+            Action::For(_) => Event::FailedFor,
+            Action::Compute(..) | Action::Invoke(_) => Event::FailedCall,
+            Action::Return(_) => Event::FailedReturn,
+            Action::Write { .. } => Event::FailedWrite,
+            Action::Read { .. } => Event::FailedRead,
+            _ => return,
+        });
     }
 
     fn live(&mut self) -> &mut Live<'m> {
@@ -219,7 +253,23 @@ impl<'m> Machine<'m> {
     }
 
     fn begin(&mut self, list: &'m [Statement], repeat: Repeat<'m>) {
+        if repeat.is_loop() {
+            self.count_loop();
+        }
         self.live().levels.push(Level::start(list, repeat));
+    }
+
+    /// Counts a loop that begins inside another one, or in an ERROR list.
+    fn count_loop(&mut self) {
+        let live = self.live();
+        let in_loop = live.levels.iter().any(|level| level.repeat.is_loop());
+        let in_error = live.failed.is_some();
+        if in_loop {
+            self.counts.add(Event::LoopInLoop);
+        }
+        if in_error {
+            self.counts.add(Event::LoopInError);
+        }
     }
 
     fn perform(&mut self, next: Next<'m>) -> Done {
@@ -239,20 +289,53 @@ impl<'m> Machine<'m> {
     /// Hands an error to the nearest live call that has an ERROR list.
     fn raise(&mut self, number: i64, place: usize) -> Result<(), (u32, usize)> {
         self.errno = number;
+        self.counts.add(event_of(number));
+        let live_before = self.calls.len();
         while self
             .calls
             .last()
             .is_some_and(|live| live.routine.error.is_none())
         {
             self.calls.pop();
+            self.counts.add(Event::RoutineDropped);
+        }
+        let dropped = self.calls.len() < live_before;
+        if self.calls.last().is_some_and(|live| live.failed.is_some()) {
+            self.counts.add(Event::ErrorInError);
         }
         let Some(live) = self.calls.last_mut().filter(|live| live.failed.is_none()) else {
             return Err((3, place));
         };
+        self.counts.add(Event::Handled);
+        if dropped {
+            self.counts.add(Event::HandledAbove);
+        }
         let list = live.routine.error.as_ref().expect("the others are dropped");
         let handler = vec![Level::start(list, Repeat::Never)];
         live.failed = Some(std::mem::replace(&mut live.levels, handler));
         Ok(())
+    }
+}
+
+fn is_compound(statement: &Statement) -> bool {
+    matches!(
+        statement.action,
+        Action::CompactIf { .. }
+            | Action::If { .. }
+            | Action::Test { .. }
+            | Action::While { .. }
+            | Action::For(_)
+    )
+}
+
+/// What is counted of an error.
+fn event_of(number: i64) -> Event {
+    match number {
+        OVERFLOW => Event::Overflow,
+        DIVZERO => Event::DivisionByZero,
+        OUTOFBND => Event::OutOfBounds,
+        ILLRAISE => Event::IllegalRaise,
+        _ => Event::OwnError,
     }
 }
 
@@ -277,6 +360,10 @@ impl<'m> Machine<'m> {
         let Some(live) = self.calls.pop() else {
             unreachable!("a step belongs to a live call");
         };
+        self.counts.add(Event::Return);
+        if live.levels.iter().any(|level| level.repeat.is_loop()) {
+            self.counts.add(Event::ReturnInLoop);
+        }
         if self.calls.is_empty() {
             return Err(Halt::Ending(1, 0));
         }
@@ -330,8 +417,26 @@ impl<'m> Machine<'m> {
         let Meaning::Routine(index) = call.callee.meaning else {
             unreachable!("another callee is refused by rule 12");
         };
+        self.count_call(index, result.is_some());
         self.enter(index, &arguments, result);
         Ok(())
+    }
+
+    fn count_call(&mut self, index: usize, of_function: bool) {
+        let routine = &self.module.routines[index];
+        let again = |live: &Live| std::ptr::eq(live.routine, routine);
+        let is_live = self.calls.iter().any(again);
+        let in_error = self.live().failed.is_some();
+        self.counts.add(Event::Call);
+        for (happened, event) in [
+            (of_function, Event::FunctionCall),
+            (is_live, Event::CallAgain),
+            (in_error, Event::CallInError),
+        ] {
+            if happened {
+                self.counts.add(event);
+            }
+        }
     }
 }
 
@@ -356,9 +461,20 @@ impl<'m> Machine<'m> {
                 return Err(Halt::Error(if legal { value } else { ILLRAISE }));
             }
             Action::Exit => return Err(Halt::Ending(2, statement.place)),
-            Action::Retry => self.resume(),
-            Action::TryNext => {
+            Action::Retry => {
+                self.counts.add(Event::Retry);
                 self.resume();
+                let level = self.level();
+                if level.list.get(level.at).is_some_and(is_compound) {
+                    self.counts.add(Event::RetryOfCompound);
+                }
+            }
+            Action::TryNext => {
+                self.counts.add(Event::TryNext);
+                self.resume();
+                if self.level().repeat.is_loop() {
+                    self.counts.add(Event::TryNextInLoop);
+                }
                 self.level().at += 1;
             }
             Action::Assign(..) | Action::Write { .. } | Action::Read { .. } => {
@@ -382,6 +498,10 @@ impl<'m> Machine<'m> {
             Action::Assign(target, right) => {
                 let slot = self.slot(target)?;
                 let value = self.evaluate(right)?;
+                self.counts.add(Event::Assignment);
+                if target.index.is_some() {
+                    self.counts.add(Event::ElementStored);
+                }
                 self.store(slot, value);
             }
             Action::Write { string, number } => {
@@ -400,6 +520,7 @@ impl<'m> Machine<'m> {
                 };
                 self.write_line(string);
                 self.inputs_used += 1;
+                self.counts.add(Event::InputTaken);
                 let input = i64::from(*input);
                 if !in_range(input) {
                     return Err(Halt::Error(OVERFLOW));
@@ -422,12 +543,15 @@ impl<'m> Machine<'m> {
     fn write_line(&mut self, line: &[u8]) {
         self.output.extend_from_slice(line);
         self.output.push(b'\n');
+        self.counts.add(Event::Line);
     }
 
     fn compound(&mut self, statement: &'m Statement) -> Done {
         match &statement.action {
             Action::CompactIf { condition, inner } => {
-                if self.evaluate(condition)? == 1 {
+                let holds = self.evaluate(condition)? == 1;
+                self.counts.add(Event::Choice);
+                if holds {
                     self.begin(inner, Repeat::Leave);
                 } else {
                     self.level().at += 1;
@@ -435,6 +559,7 @@ impl<'m> Machine<'m> {
             }
             Action::If { arms, otherwise } => {
                 let chosen = self.choose_arm(arms, otherwise)?;
+                self.counts.add(Event::Choice);
                 self.begin(chosen, Repeat::Leave);
             }
             Action::Test {
@@ -444,10 +569,17 @@ impl<'m> Machine<'m> {
             } => {
                 let number = self.evaluate(selector)?;
                 let matching = cases.iter().find(|case| case.numbers.contains(&number));
+                self.counts.add(Event::Choice);
+                if matching.is_some() {
+                    self.counts.add(Event::CaseTaken);
+                }
                 self.begin(matching.map_or(default, |case| &case.body), Repeat::Leave);
             }
             Action::While { condition, body } => {
-                if self.evaluate(condition)? == 1 {
+                let holds = self.evaluate(condition)? == 1;
+                self.counts.add(Event::WhileTest);
+                if holds {
+                    self.counts.add(Event::WhileRound);
                     self.begin(body, Repeat::Test);
                 } else {
                     self.level().at += 1;
@@ -483,7 +615,9 @@ impl<'m> Machine<'m> {
         let Meaning::Local { slot: variable, .. } = counted.variable.meaning else {
             unreachable!("a FOR variable is a word of its routine");
         };
+        self.counts.add(Event::ForHead);
         if goes_on(start, last, step) {
+            self.counts.add(Event::ForRound);
             self.store(Slot::Local(variable), start);
             self.begin(
                 &counted.body,
@@ -513,6 +647,7 @@ impl<'m> Machine<'m> {
         };
         let sum = self.live().words[variable] + step;
         if goes_on(sum, last, step) {
+            self.counts.add(Event::ForRound);
             self.store(Slot::Local(variable), sum);
             self.level().at = 0;
         } else {

@@ -1,7 +1,9 @@
 //! The generator keeps its promises.
 
-use reference::generate::{Cases, Kind, Size};
-use reference::lines::answer_line;
+use reference::bench::answer;
+use reference::counts::Measures;
+use reference::generate::{less_room, more_room, Cases, Kind, Random, Size};
+use reference::lines::{answer_line, lent_of};
 use reference::tally::Tally;
 
 fn lines(seed: u64, count: usize, kind: Kind, size: Size) -> Vec<String> {
@@ -10,8 +12,12 @@ fn lines(seed: u64, count: usize, kind: Kind, size: Size) -> Vec<String> {
 
 #[test]
 fn valid_modules_are_accepted() {
-    for (count, size) in [(3_000, Size::Short), (100, Size::Long)] {
-        for line in lines(7, count, Kind::Valid, size) {
+    for (count, kind, size) in [
+        (3_000, Kind::Valid, Size::Short),
+        (100, Kind::Valid, Size::Long),
+        (500, Kind::Courses, Size::Short),
+    ] {
+        for line in lines(7, count, kind, size) {
             let answer = answer_line(&line);
             assert!(!answer.starts_with("0 "), "{line}\n{answer}");
         }
@@ -49,7 +55,7 @@ fn the_same_seed_gives_the_same_lines() {
 #[test]
 fn every_line_is_a_case_line() {
     for name in [
-        "valid", "mistyped", "words", "bytes", "limits", "listing", "all",
+        "valid", "courses", "mistyped", "words", "bytes", "limits", "listing", "all",
     ] {
         let kind = Kind::named(name).expect("a kind of cases");
         for (count, size) in [(1_000, Size::Short), (20, Size::Long)] {
@@ -58,4 +64,36 @@ fn every_line_is_a_case_line() {
             }
         }
     }
+}
+
+#[test]
+fn a_second_room_is_as_large() {
+    let mut random = Random::new(3);
+    let mut scarce = 0;
+    for line in lines(3, 1_000, Kind::Valid, Size::Short) {
+        let mut second = lent_of(&line).expect("a run line");
+        more_room(&mut random, &mut second);
+        let first = less_room(&mut random, &second).expect("inside the bounds");
+        assert_eq!(first.text, second.text);
+        assert!(first.steps <= second.steps && first.depth <= second.depth);
+        assert!(first.output_room <= second.output_room);
+        assert!(second.inputs.starts_with(&first.inputs));
+        scarce += usize::from((5..=8).contains(&answer(&first).ending));
+    }
+    assert!(scarce > 300, "only {scarce} of 1,000 first runs broke off");
+}
+
+/// Modules as a course has them run long and come across everything that is counted.
+#[test]
+fn courses_miss_nothing() {
+    let mut measures = Measures::default();
+    for line in lines(3, 1_500, Kind::Courses, Size::Short) {
+        let answer = answer(&lent_of(&line).expect("a run line"));
+        measures.count(answer.steps, &answer.counts);
+    }
+    assert!(
+        !measures.show().contains(": 0, in 0 runs"),
+        "{}",
+        measures.show()
+    );
 }

@@ -137,7 +137,7 @@ fn handler(random: &mut Random, link: &Link) -> String {
 }
 
 /// Marks the words after a semicolon that start a statement.
-fn mark_starts(mut words: Vec<Token>) -> Vec<Token> {
+pub fn mark_starts(mut words: Vec<Token>) -> Vec<Token> {
     for place in 1..words.len() {
         let word = &words[place];
         let starts = word.is_name() || word.is("IF") || word.is("TPWrite") || word.is("RAISE");

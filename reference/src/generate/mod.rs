@@ -2,24 +2,28 @@
 
 mod author;
 mod chains;
+mod courses;
 mod damage;
 mod layout;
 mod limits;
 mod phrases;
 mod random;
+mod rooms;
 mod statements;
 
 use crate::bench::Lent;
 use crate::lines::{show_bytes, show_run};
 use crate::scan::list;
 use layout::{write_out, Token};
-use random::Random;
+pub use random::Random;
+pub use rooms::{less_room, more_room};
 
 const STORE_WORDS: u64 = 16_384;
 
 #[derive(Clone, Copy, PartialEq, Eq)]
 pub enum Kind {
     Valid,
+    Courses,
     Mistyped,
     Words,
     Bytes,
@@ -32,6 +36,7 @@ impl Kind {
     pub fn named(name: &str) -> Option<Self> {
         Some(match name {
             "valid" => Kind::Valid,
+            "courses" => Kind::Courses,
             "mistyped" => Kind::Mistyped,
             "words" => Kind::Words,
             "bytes" => Kind::Bytes,
@@ -113,6 +118,7 @@ fn case_line(random: &mut Random, kind: Kind, size: Size) -> String {
         Kind::All => mixed_line(random, size),
         Kind::Listing => listing_line(random, size),
         Kind::Limits => show_run(&limits::limit_case(random, size)),
+        Kind::Courses => show_run(&course_case(random)),
         _ => {
             let text = text_of(random, kind, size);
             show_run(&lend(random, text))
@@ -135,6 +141,9 @@ fn mixed_line(random: &mut Random, size: Size) -> String {
 
 /// The words of an accepted module of one sort or the other.
 fn module_words(random: &mut Random, size: Size) -> Vec<Token> {
+    if size == Size::Long && random.chance(40) {
+        return courses::course(random);
+    }
     if random.chance(25) {
         return chains::chain(random);
     }
@@ -155,6 +164,21 @@ fn text_of(random: &mut Random, kind: Kind, size: Size) -> Vec<u8> {
         damage::damage_bytes(random, &mut text);
     }
     text
+}
+
+/// A module that runs long, with allowances that mostly let it.
+fn course_case(random: &mut Random) -> Lent {
+    let words = courses::course(random);
+    let text = write_out(random, &words);
+    let mut lent = lend(random, text);
+    if random.chance(85) {
+        lent.steps = random.pick(&[2_000, 10_000, 10_000, 10_000, 50_000]);
+        lent.depth = random.pick(&[16, 16, 64]);
+        lent.output_room = random.pick(&[4_096, 65_536]);
+    }
+    lent.inputs
+        .extend((0..random.below(40)).map(|_| random.below(20) as i32));
+    lent
 }
 
 /// A call for a text, with allowances that are sometimes scarce.

@@ -1,0 +1,221 @@
+#include "rapid_reason.h"
+#include <stdio.h>
+#include <string.h>
+
+static const uint8_t *text;
+static struct rapid_word words[RAPID_WORD_LIMIT];
+static size_t count;
+
+/* ---- words by their index; there is none past the last, and NO_WORD stands before the first */
+enum { NO_WORD = RAPID_WORD_LIMIT };
+
+static size_t before(size_t i) { return i == 0 || i == NO_WORD ? NO_WORD : i - 1; }
+
+static int has_kind(size_t i, enum rapid_kind kind) { return i < count && words[i].kind == (uint32_t)kind; }
+
+static char upper(char c) { return c >= 'a' && c <= 'z' ? (char)(c - 'a' + 'A') : c; }
+
+static int is(size_t i, const char *spelling) {
+    if (i >= count || words[i].length != strlen(spelling))
+        return 0;
+    for (size_t k = 0; k < words[i].length; k++)
+        if (upper((char)text[words[i].place + k]) != upper(spelling[k]))
+            return 0;
+    return 1;
+}
+
+/* The one of some spellings, the last of which is NULL, that a word has; or NULL. */
+static const char *one_of(size_t i, const char *const *spellings) {
+    for (; *spellings; spellings++)
+        if (is(i, *spellings))
+            return *spellings;
+    return NULL;
+}
+
+static const char *const of_nums[] = {"+", "-", "*", "DIV", "MOD", "<", "<=", ">", ">=", NULL};
+static const char *const of_bools[] = {"NOT", "AND", "OR", "XOR", NULL};
+static const char *const of_one_type[] = {"=", "<>", NULL};
+static const char *const conditions[] = {"IF", "ELSEIF", "WHILE", NULL};
+static const char *const num_statements[] = {"RAISE", "TEST", "CASE", "TPReadNum", NULL};
+static const char *const for_values[] = {"FROM", "TO", "STEP", NULL};
+static const char *const truths[] = {"TRUE", "FALSE", NULL};
+
+/* The word behind the parenthesis or brace that closes the one at i. */
+static size_t behind_closing(size_t i) {
+    size_t open = 0;
+    for (; i < count; i++) {
+        open += is(i, "(") || is(i, "{");
+        if (is(i, ")") || is(i, "}"))
+            if (--open == 0)
+                return i + 1;
+    }
+    return NO_WORD;
+}
+
+/* The word behind the operand that begins at i. */
+static size_t behind_operand(size_t i) {
+    if (is(i, "("))
+        return behind_closing(i);
+    return is(i + 1, "{") ? behind_closing(i + 1) : i + 1;
+}
+
+/* Whether the parenthesis at i is a call's. */
+static int opens_call(size_t i) { return is(i, "(") && has_kind(before(i), RAPID_NAME) && is(before(before(i)), ":="); }
+
+/* ---- the type of an operand; of one in parentheses it is not asked */
+enum type { UNKNOWN, NUM, BOOL };
+
+static int same_name(size_t i, size_t k) {
+    char name[RAPID_NAME_LIMIT + 1];
+    if (!has_kind(i, RAPID_NAME) || words[i].length >= sizeof name)
+        return 0;
+    memcpy(name, text + words[i].place, words[i].length);
+    name[words[i].length] = 0;
+    return is(k, name);
+}
+
+/* The word that begins the first routine, behind the module's data. */
+static size_t first_routine(void) {
+    size_t i = 0;
+    while (i < count && !is(i, "PROC") && !is(i, "FUNC"))
+        i++;
+    return i;
+}
+
+/* The type of the data name at i by its declaration: it stands before the name, in its routine or else in the module. A FOR variable is known up to its ENDFOR. */
+static enum type declared(size_t i) {
+    size_t loops_behind = 0;
+    for (size_t k = before(i); k < count; k = before(k)) {
+        if (is(k, "PROC") || is(k, "FUNC"))
+            k = first_routine();
+        else if (is(k, "ENDFOR"))
+            loops_behind++;
+        else if (is(k, "FOR") && loops_behind > 0)
+            loops_behind--;
+        else if (is(k, "FOR") && same_name(i, k + 1))
+            return NUM;
+        else if ((is(k, "num") || is(k, "bool")) && same_name(i, k + 1))
+            return is(k, "num") ? NUM : BOOL;
+    }
+    return NUM; /* ERRNO and the ERR_ names, which nobody declares */
+}
+
+static enum type operand_type(size_t i) {
+    if (has_kind(i, RAPID_NUMBER))
+        return NUM;
+    if (one_of(i, truths))
+        return BOOL;
+    return has_kind(i, RAPID_NAME) ? declared(i) : UNKNOWN;
+}
+
+/* ---- 13: what takes another type; NULL where that is not said */
+static const char *case_or_argument(size_t i) {
+    static const char *const begins[] = {";", ":=", "THEN", "DO", "ELSE", ":", NULL};
+    for (; i < count && !one_of(i, begins); i = before(i))
+        if (is(i, "CASE"))
+            return "CASE takes num";
+    return "an argument must be of its parameter's type";
+}
+
+static const char *takes(const char *word, const char *type, char *sentence, size_t room) {
+    snprintf(sentence, room, "%s takes %s", word, type);
+    return sentence;
+}
+
+/* The whole expression that begins at i is of the wrong type for what stands before it. */
+static const char *by_what_is_before(size_t i, char *sentence, size_t room) {
+    size_t p = before(i);
+    const char *word = one_of(p, num_statements);
+    if (word != NULL)
+        return takes(word, "num", sentence, room);
+    if (one_of(p, conditions))
+        return "conditions take bool";
+    if (one_of(p, for_values))
+        return "FOR values take num";
+    if ((word = one_of(p, of_one_type)) != NULL)
+        return takes(word, "two of one type", sentence, room);
+    if (is(p, "{"))
+        return "indices and array sizes take num";
+    if (is(p, ":="))
+        return is(before(p), "num") && is(before(before(p)), "\\") ? "\\Num takes num" : "the value is not of its target's type";
+    if (is(p, "RETURN"))
+        return "the value is not of its function's type";
+    if (opens_call(p) || has_kind(p, RAPID_NAME))
+        return "an argument must be of its parameter's type";
+    return is(p, ",") ? case_or_argument(p) : NULL;
+}
+
+/* An operand of the wrong type for the operator before or behind it, or else a whole expression for what stands before it. */
+static const char *wrong_type(size_t i, char *sentence, size_t room) {
+    size_t p = before(i), n = behind_operand(i);
+    const char *left = one_of(p, of_nums), *right;
+    enum type type = operand_type(i);
+    if (left != NULL)
+        return takes(left, "num", sentence, room);
+    if (has_kind(i, RAPID_NAME) && is(i + 1, "("))
+        return "the function's result is not of its target's type";
+    if ((right = one_of(n, of_nums)) != NULL && type != NUM)
+        return type == BOOL ? takes(right, "num", sentence, room) : NULL;
+    if ((left = one_of(p, of_bools)) != NULL)
+        return takes(left, "bool", sentence, room);
+    if ((right = one_of(n, of_bools)) != NULL && type != BOOL && !one_of(p, of_one_type))
+        return type == NUM ? takes(right, "bool", sentence, room) : NULL;
+    return by_what_is_before(i, sentence, room);
+}
+
+/* ---- the other rules */
+static const char *malformed(uint8_t first) {
+    if (first == '"')
+        return "malformed word: a string ends on its line, has at most 80 characters and no backslash";
+    if (first >= '0' && first <= '9')
+        return "malformed word: a letter, _ or . stands directly after the number";
+    return upper((char)first) >= 'A' && upper((char)first) <= 'Z' ? "malformed word: a name has at most 32 characters" : "malformed word: no word starts so";
+}
+
+static const char *barred(size_t i) {
+    if (is(i, "RETURN"))
+        return is(i + 1, ";") ? "RETURN without a value in a FUNC" : "RETURN with a value in a PROC";
+    if (is(i, "RAISE"))
+        return is(i + 1, ";") ? "plain RAISE outside ERROR" : "RAISE with a value in ERROR";
+    return is(i, "RETRY") ? "RETRY outside ERROR" : "TRYNEXT outside ERROR";
+}
+
+static size_t index_of(size_t offset) {
+    size_t i = 0;
+    while (i < count && words[i].place != offset)
+        i++;
+    return i;
+}
+
+/* A narrower sentence, or NULL. */
+static const char *narrower(uint64_t refusal, size_t i, char *sentence, size_t room) {
+    static const char *const protected_names[] = {"ERRNO", "ERR_OVERFLOW", "ERR_DIVZERO", "ERR_OUTOFBND", "ERR_ILLRAISE", NULL};
+    switch (refusal) {
+    case RAPID_DECLARED_TWICE:
+        return one_of(i, protected_names) ? "protected name" : "name declared twice";
+    case RAPID_NESTED_TOO_DEEP:
+        return is(i, "(") || is(i, "{") ? "nesting 17: parentheses and braces in an expression nest to 16" : "nesting 17: compound statements nest to 16";
+    case RAPID_WRONG_TYPE:
+        return wrong_type(i, sentence, room);
+    case RAPID_BARRED_HERE:
+        return barred(i);
+    default:
+        return NULL;
+    }
+}
+
+const char *rapid_reason(const uint8_t *lent, size_t text_length, uint64_t refusal, size_t offset, char *sentence, size_t room) {
+    struct rapid_listing listing = {0, 0, 0};
+    char part[64];
+    text = lent;
+    rapid_words(text, text_length, words, RAPID_WORD_LIMIT, &listing);
+    count = listing.words;
+    const char *said = narrower(refusal, index_of(offset), part, sizeof part);
+    if (refusal == RAPID_MALFORMED_WORD && offset < text_length)
+        said = malformed(text[offset]);
+    if (refusal == RAPID_WORD_OUT_OF_PLACE && offset == text_length)
+        said = "the text ends where a well-formed module goes on";
+    int of_type = said != NULL && refusal == RAPID_WRONG_TYPE;
+    snprintf(sentence, room, "%s%s", of_type ? "wrong type: " : "", said ? said : rapid_refusal_sentence(refusal));
+    return sentence;
+}

@@ -1,0 +1,87 @@
+/* What rapid.h says of its wrappers and sentences: which calls are made, and which are not and touch nothing. */
+#include "rapid.h"
+#include <stdio.h>
+#include <stdlib.h>
+#include <string.h>
+
+static const char module[] = "MODULE m VAR num n := 3; VAR bool b := TRUE; PROC main() TPReadNum n, \"n\"; ENDPROC ENDMODULE";
+static const int32_t inputs[] = {-5};
+static int32_t code[RAPID_STORE_WORDS], values[RAPID_STORE_WORDS];
+static uint8_t output[16];
+static struct rapid_lent good;
+static struct rapid_record record;
+
+static void expect(int holds, const char *what) {
+    if (holds)
+        return;
+    fprintf(stderr, "not so: %s\n", what);
+    exit(1);
+}
+
+/* A call that is not made leaves the record as it was. */
+static void expect_not_made(struct rapid_lent lent, const char *what) {
+    struct rapid_record before;
+    memset(&record, 0x5a, sizeof record);
+    before = record;
+    expect(rapid_call(&lent, &record) == 0 && memcmp(&before, &record, sizeof record) == 0, what);
+}
+
+static void test_call(void) {
+    expect(rapid_call(&good, &record) == 1, "a call is made");
+    expect(record.ending == RAPID_RETURNED && record.inputs == 1 && record.output == 2 && memcmp(output, "n\n", 2) == 0, "it returns, with input and output");
+    expect(record.module_words == 2 && values[0] == -5 && values[1] == 1 && values[2] == 0, "the module's data stand in the value store");
+    expect(rapid_call(NULL, &record) == 0 && rapid_call(&good, NULL) == 0, "nothing lent, or no record");
+    struct rapid_lent lent = good;
+    lent.text = NULL;
+    expect_not_made(lent, "no text");
+    lent.text_length = 0;
+    expect(rapid_call(&lent, &record) == 1 && record.refusal == RAPID_WORD_OUT_OF_PLACE && record.offset == 0, "an empty text may be NULL: 8 at 0");
+    lent = good, lent.inputs = NULL;
+    expect_not_made(lent, "no inputs");
+    lent.input_count = 0;
+    expect(rapid_call(&lent, &record) == 1 && record.ending == RAPID_NO_INPUT_LEFT, "no inputs may be NULL");
+    lent = good, lent.output = NULL;
+    expect_not_made(lent, "no output");
+    lent.output_length = 0;
+    expect(rapid_call(&lent, &record) == 1 && record.ending == RAPID_NO_OUTPUT_ROOM, "no output may be NULL");
+    lent = good, lent.code = NULL;
+    expect_not_made(lent, "no code store");
+    lent = good, lent.values = NULL;
+    expect_not_made(lent, "no value store");
+    lent = good, lent.input_count = SIZE_MAX / 2;
+    expect_not_made(lent, "more inputs than memory has");
+    lent = good, lent.value_words--;
+    expect(rapid_call(&lent, &record) == 1 && record.refusal == RAPID_STORE_TOO_SMALL, "a small store is refused by the bench itself");
+}
+
+static void test_words(void) {
+    struct rapid_word words[2] = {{9, 9, 9}, {9, 9, 9}};
+    struct rapid_listing listing;
+    const uint8_t *text = (const uint8_t *)"n := 5x";
+    expect(rapid_words(text, 7, words, 1, &listing) == 1 && listing.words == 2 && listing.refusal == RAPID_MALFORMED_WORD && listing.offset == 5, "a listing that ends with a refusal");
+    expect(words[0].kind == RAPID_NAME && words[0].place == 0 && words[0].length == 1 && words[1].kind == 9, "a word that fits, and nothing behind it");
+    expect(rapid_words(text, 7, NULL, 0, &listing) == 1 && listing.words == 2, "no room may be NULL");
+    expect(rapid_words(text, 7, NULL, 1, &listing) == 0 && rapid_words(NULL, 7, words, 2, &listing) == 0 && rapid_words(text, 7, words, 2, NULL) == 0, "NULL where it may not be");
+    expect(rapid_ask(text, 7, 2) == 2 && rapid_ask(text, 7, 3) == 0 && rapid_ask(text, 7, 5) == 0 && rapid_ask(NULL, 0, 0) == 0, "words that start at a place");
+}
+
+static void test_sentences(void) {
+    for (uint64_t i = 0; i <= RAPID_NO_OUTPUT_ROOM; i++)
+        expect(rapid_ending_sentence(i) != NULL, "a sentence for each ending");
+    for (uint64_t i = 1; i <= RAPID_NO_MAIN; i++)
+        expect(rapid_refusal_sentence(i) != NULL, "a sentence for each refusal");
+    for (uint64_t i = RAPID_ERR_OVERFLOW; i <= RAPID_ERR_ILLRAISE; i++)
+        expect(rapid_error_name(i) != NULL, "a name for each error");
+    expect(!rapid_ending_sentence(RAPID_NO_OUTPUT_ROOM + 1) && !rapid_refusal_sentence(RAPID_NOT_REFUSED) && !rapid_refusal_sentence(RAPID_NO_MAIN + 1), "NULL for any other number");
+    expect(!rapid_error_name(7) && !rapid_error_name(1000) && !rapid_error_name(1005) && !rapid_ending_sentence(UINT64_MAX), "NULL for any other number");
+}
+
+int main(void) {
+    struct rapid_lent lent = {(const uint8_t *)module, sizeof module - 1, 100, 4, inputs, 1, output, sizeof output, code, RAPID_STORE_WORDS, values, RAPID_STORE_WORDS};
+    good = lent;
+    test_call();
+    test_words();
+    test_sentences();
+    puts("rapid.h: calls, words and sentences as it says");
+    return 0;
+}

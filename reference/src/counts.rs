@@ -1,0 +1,158 @@
+//! What a run came across, counted: whether generated modules do what real ones do.
+
+/// Something that a run does.
+#[derive(Clone, Copy)]
+pub enum Event {
+    Assignment,
+    ElementStored,
+    Line,
+    InputTaken,
+    Choice,
+    CaseTaken,
+    WhileTest,
+    WhileRound,
+    ForHead,
+    ForRound,
+    LoopInLoop,
+    Call,
+    FunctionCall,
+    CallAgain,
+    Return,
+    ReturnInLoop,
+    Overflow,
+    DivisionByZero,
+    OutOfBounds,
+    IllegalRaise,
+    OwnError,
+    Handled,
+    RoutineDropped,
+    HandledAbove,
+    HandedOn,
+    Retry,
+    TryNext,
+    FailedChoice,
+    FailedWhile,
+    FailedFor,
+    FailedCall,
+    FailedReturn,
+    FailedWrite,
+    FailedRead,
+    RetryOfCompound,
+    TryNextInLoop,
+    ErrorInError,
+    CallInError,
+    LoopInError,
+}
+
+const NAMES: [&str; 39] = [
+    "assignment",
+    "element of an array stored",
+    "line written",
+    "input taken",
+    "choice of an IF or TEST",
+    "CASE taken",
+    "WHILE test",
+    "WHILE round",
+    "FOR head",
+    "FOR round",
+    "loop entered in a loop (a WHILE at each round)",
+    "call",
+    "call of a FUNC",
+    "call of a routine that is live",
+    "return",
+    "return from inside a loop",
+    "ERR_OVERFLOW",
+    "ERR_DIVZERO",
+    "ERR_OUTOFBND",
+    "ERR_ILLRAISE",
+    "error of one's own",
+    "error handled",
+    "routine dropped by an error",
+    "error handled by a caller",
+    "error handed on by RAISE",
+    "RETRY",
+    "TRYNEXT",
+    "error in the condition or selector of an IF or TEST",
+    "error in a WHILE test",
+    "error in a FOR head",
+    "error in a call's index or arguments",
+    "error in a RETURN",
+    "error in a TPWrite",
+    "error in a TPReadNum",
+    "RETRY of an IF, TEST, WHILE or FOR",
+    "TRYNEXT into a loop",
+    "error in an ERROR list",
+    "call from an ERROR list",
+    "loop in an ERROR list",
+];
+
+/// How often each event came up.
+#[derive(Clone, Debug, PartialEq, Eq)]
+pub struct Counts([u64; NAMES.len()]);
+
+impl Default for Counts {
+    fn default() -> Self {
+        Counts([0; NAMES.len()])
+    }
+}
+
+impl Counts {
+    pub fn add(&mut self, event: Event) {
+        self.0[event as usize] += 1;
+    }
+}
+
+/// The bounds below which numbers of steps are counted together.
+const STEP_BOUNDS: [u32; 7] = [1, 10, 100, 1_000, 10_000, 100_000, u32::MAX];
+
+/// The counts of many runs.
+pub struct Measures {
+    runs: u64,
+    steps: u64,
+    longest: u32,
+    by_steps: [u64; STEP_BOUNDS.len()],
+    events: [u64; NAMES.len()],
+    runs_with: [u64; NAMES.len()],
+}
+
+impl Default for Measures {
+    fn default() -> Self {
+        Measures {
+            runs: 0,
+            steps: 0,
+            longest: 0,
+            by_steps: [0; STEP_BOUNDS.len()],
+            events: [0; NAMES.len()],
+            runs_with: [0; NAMES.len()],
+        }
+    }
+}
+
+impl Measures {
+    pub fn count(&mut self, steps: u32, counts: &Counts) {
+        self.runs += 1;
+        self.steps += u64::from(steps);
+        self.longest = self.longest.max(steps);
+        let bound = STEP_BOUNDS.iter().position(|bound| steps < *bound);
+        self.by_steps[bound.unwrap_or(STEP_BOUNDS.len() - 1)] += 1;
+        for (event, times) in counts.0.iter().enumerate() {
+            self.events[event] += times;
+            self.runs_with[event] += u64::from(*times > 0);
+        }
+    }
+
+    pub fn show(&self) -> String {
+        let mut shown = format!(
+            "runs: {}, steps: {}, longest run: {} steps\n",
+            self.runs, self.steps, self.longest
+        );
+        for (bound, runs) in STEP_BOUNDS.iter().zip(self.by_steps) {
+            shown += &format!("under {bound} steps: {runs} runs\n");
+        }
+        for (event, name) in NAMES.iter().enumerate() {
+            let (times, runs) = (self.events[event], self.runs_with[event]);
+            shown += &format!("{name}: {times}, in {runs} runs\n");
+        }
+        shown
+    }
+}
