@@ -1,11 +1,11 @@
 -- Steps that only decide where to go on, and RAISE: one law for each place where the code returns, and for what it asks of its callees.
 use mathlib.Core.Path.{_≡_, refl, sym, ap, subst, _∙_}
-use mathlib.Core.Bool.{Bool, true, false, _||_}
+use mathlib.Core.Bool.{true, false}
 use mathlib.Core.List.{List, [], _∷_}
-use mathlib.Core.Option.{Option, none, some}
-use Prim.Native.Nat.{ℕ, zero, suc, _+_, _-_, _*_, _/_, _%_, _<_, _≤_}
+use mathlib.Core.Option.{some}
+use Prim.Native.Nat.{ℕ, _+_, _-_, _*_, _<_, _≤_}
 use native.Mathlib.Omega.{arith}
-use lib.ListN.{length, getD}
+use lib.ListN.{length}
 use lib.IntN.{ℤ, pos, negsuc, natAbs, _+ℤ_}
 use lib.Signed.{ltZ, leZ}
 use mir.Syntax.{w64}
@@ -14,20 +14,20 @@ use mir.Facts.{toZ-ofZ}
 use borrow.Author.Tests.{ltb-false}
 use Rattle.laws.proofs.Tests.{false-true}
 use Rattle.paper.specs.Basics.{if_then_else_}
-use Rattle.paper.specs.Numbers.{Value, value, error, isZero, illRaise}
+use Rattle.paper.specs.Numbers.{Value, isZero, illRaise}
 use Rattle.paper.specs.Terms.{Term, worth}
 use Rattle.paper.specs.Steps.{Action, Step, choose, testWhile, raise}
-use Rattle.paper.specs.States.{Call, State, Rooms, Effect, made, failing, goTo, onTop, memoryOf, withValue}
-use Rattle.paper.specs.Running.{perform, choosing, raised, highestRaised}
+use Rattle.paper.specs.States.{Call, Rooms, Effect, made, failing, goTo, onTop, memoryOf, withValue}
+use Rattle.paper.specs.Running.{perform, choosing, raised}
 use Rattle.cells.specs.Words.{wordsOf}
 use Rattle.numbers.proofs.Whole.{read}
 use Rattle.code.specs.Cells.{valueAt, linkAt}
 use Rattle.code.specs.Spans.{termIn}
-use Rattle.code.specs.Closed.{isNamed, Named, whereOf, targetsOf}
+use Rattle.code.specs.Closed.{isNamed, Named, targetsOf}
 use Rattle.evaluation.specs.Answers.{firstError, Stands, Evaluated}
 use Rattle.evaluation.proofs.Places.{value-in}
 use Rattle.reading.specs.Reading.{valueEnd, halfEnd, Part}
-use Rattle.machine.specs.Machine.{Here, Comes, fails, effectAt, Performs, Says}
+use Rattle.machine.specs.Machine.{Here, fails, effectAt, Performs, Says}
 use Rattle.machine.proofs.Actions.{Expression, reads-while, reads-compact-if, reads-raise-of}
 use Rattle.raised.proofs.Raised.{raised-low}
 use Rattle.machine.proofs.Current.{codeHere, stepHere, m, n, callHere, stateHere, action-here, whole-here, stands-here, named-after, named-targets, small-name, step-in, effect-here, value-here, failed-here, goes-here, told-error, told-value, told-zero, told-other, performs}

@@ -3,27 +3,27 @@ use mathlib.Core.Path.{_≡_, refl, sym, ap, ap₂, subst, _∙_}
 use mathlib.Core.Bool.{Bool, true, false}
 use mathlib.Core.List.{List}
 use mathlib.Core.Option.{Option, none, some}
-use Prim.Native.Nat.{ℕ, _+_, _-_, _*_, _%_, _<_, _≤_}
+use Prim.Native.Nat.{ℕ, _+_, _-_, _*_, _<_, _≤_}
 use native.Mathlib.Omega.{arith}
 use lib.ListN.{length, getD, set, length-set}
 use lib.IntN.{ℤ, pos, natAbs}
-use lib.Signed.{ltZ, leZ}
+use lib.Signed.{leZ}
 use mir.Syntax.{w32, w64}
 use mir.Val.{SFits, toZ, ofZ}
 use mir.Facts.{toZ-ofZ}
 use mir.ValLaws.{toZ-pos}
 use Rattle.laws.proofs.Tests.{by-same, apart}
 use Rattle.paper.specs.Basics.{if_then_else_}
-use Rattle.paper.specs.Numbers.{Value, value, error}
+use Rattle.paper.specs.Numbers.{Value, error}
 use Rattle.paper.specs.Terms.{Term, Memory, worth}
 use Rattle.paper.specs.Steps.{Code, Action, enterFor}
-use Rattle.paper.specs.States.{Loop, Call, State, Rooms, Effect, made, failing, goTo, setWord, setLoop, onTop, memoryOf, withValue}
+use Rattle.paper.specs.States.{Loop, State, Rooms, Effect, made, goTo, setWord, setLoop, onTop, memoryOf, withValue}
 use Rattle.paper.specs.Running.{passes, looping, withStep, entering, perform}
 use Rattle.cells.specs.Words.{wordsOf}
 use Rattle.numbers.proofs.Whole.{read}
 use Rattle.code.specs.Cells.{opAt, valueAt, linkAt, windowOf}
 use Rattle.code.specs.Spans.{termIn, memoryIn}
-use Rattle.code.specs.Steps.{aStep, parts, forStep}
+use Rattle.code.specs.Steps.{aStep, forStep}
 use Rattle.code.specs.Closed.{isNamed, Named, targetsOf, LoopFits}
 use Rattle.code.specs.Windows.{routineCell, stateIn}
 use Rattle.code.proofs.Spanning.{span-grows}

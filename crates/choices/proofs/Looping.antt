@@ -1,15 +1,14 @@
 -- FOR: its test, its step and its DO, and what each test of a loop does.
 use mathlib.Core.Path.{_≡_, refl, sym, ap, ap₂, subst, _∙_}
 use mathlib.Core.Bool.{Bool, true, false, not}
-use mathlib.Core.List.{List, [], _∷_, _++_}
-use mathlib.Core.Option.{Option, none, some}
+use mathlib.Core.List.{List, [], _++_}
 use Prim.Native.Nat.{ℕ, zero, suc, _+_, _-_, _*_, _/_, _%_, _<_, _≤_}
 use native.Mathlib.Omega.{arith}
 use lib.Dec.{ltb}
 use lib.ListN.{length, getD, set, replicate, length-replicate}
 use lib.Seq.{getD-append-add}
 use lib.IntN.{ℤ, pos, negsuc, _+ℤ_}
-use lib.Signed.{ltZ, leZ}
+use lib.Signed.{ltZ}
 use mir.Syntax.{w32, w64}
 use mir.Val.{SFits, toZ, ofZ}
 use mir.Facts.{toZ-ofZ}
@@ -17,22 +16,21 @@ use mir.ValLaws.{toZ-pos}
 use borrow.Author.Tests.{ltb-false, le-ltb, not-true}
 use Rattle.laws.proofs.Tests.{false-true}
 use Rattle.paper.specs.Basics.{if_then_else_}
-use Rattle.paper.specs.Numbers.{value}
-use Rattle.paper.specs.Terms.{Term, ofRoutine, Memory, load}
-use Rattle.paper.specs.Steps.{Program, Code, Action, repeatFor}
-use Rattle.paper.specs.States.{Loop, Call, State, Rooms, Effect, made, goTo, setWord, onTop, memoryOf}
-use Rattle.paper.specs.Running.{idle, codeAt, passes, looping, repeating, perform}
+use Rattle.paper.specs.Terms.{ofRoutine, Memory, load}
+use Rattle.paper.specs.Steps.{Program, Action, repeatFor}
+use Rattle.paper.specs.States.{Loop, Rooms, Effect, made, goTo, setWord, onTop, memoryOf}
+use Rattle.paper.specs.Running.{idle, passes, looping, repeating, perform}
 use Rattle.cells.specs.Words.{wordsOf}
 use Rattle.numbers.proofs.Whole.{read, sub-cases}
 use Rattle.code.specs.Cells.{headAt, opAt, valueAt, linkAt, windowOf}
 use Rattle.code.specs.Spans.{termIn}
-use Rattle.code.specs.Steps.{Head, aStep, parts}
+use Rattle.code.specs.Steps.{Head, parts}
 use Rattle.code.specs.Closed.{isNamed, Named, targetsOf, LoopFits}
-use Rattle.code.specs.Windows.{endsCell, stepsCell, routineCell, writtenCell, usedCell, loopsFrom, callIn, stateIn}
+use Rattle.code.specs.Windows.{endsCell, stepsCell, loopsFrom, callIn, stateIn}
 use Rattle.evaluation.specs.Answers.{Stands, Evaluated}
 use Rattle.evaluation.specs.Answers as answers
 use Rattle.evaluation.proofs.Places.{link-in}
-use Rattle.evaluation.proofs.Numbers.{small-value, is-value}
+use Rattle.evaluation.proofs.Numbers.{is-value}
 use Rattle.evaluation.proofs.Operators.{sum-fits}
 use Rattle.evaluation.proofs.Operands.{load-call}
 use Rattle.reading.specs.Reading.{halfEnd, Part, Stored, Loaded}

@@ -1,26 +1,26 @@
 -- TEST: the words with its values are walked along, up to one with the value, or to what follows them.
 use mathlib.Core.Path.{_≡_, refl, sym, ap, ap₂, subst, _∙_}
 use mathlib.Core.Bool.{Bool, true, false, not}
-use mathlib.Core.List.{List, [], _∷_, map}
-use mathlib.Core.Option.{Option, none, some}
+use mathlib.Core.List.{List, [], _∷_}
+use mathlib.Core.Option.{Option, some}
 use Prim.Native.Nat.{ℕ, zero, suc, _+_, _-_, _*_, _/_, _%_, _<_, _≤_}
 use native.Mathlib.Omega.{arith}
 use lib.Dec.{eqb}
 use lib.ListN.{length}
 use lib.IntN.{ℤ, pos, _+ℤ_, _-ℤ_, +ℤ-negℤ-cancel, -ℤ-+ℤ-cancel}
 use mir.Syntax.{w32, w64}
-use mir.Val.{SFits, toZ, ofZ}
-use mir.Facts.{toZ-ofZ, sfits-widen}
+use mir.Val.{SFits, ofZ}
+use mir.Facts.{toZ-ofZ}
 use borrow.Author.Tests.{eq-eqb, ne-eqb, eqb-true}
 use Rattle.laws.proofs.Tests.{test, by-same}
 use Rattle.paper.specs.Numbers.{same}
 use Rattle.paper.specs.Running.{holds, matching}
 use Rattle.cells.specs.Words.{wordsOf}
 use Rattle.numbers.proofs.Whole.{read, bits-same, minus-cases}
-use Rattle.code.specs.Cells.{headAt, opAt, valueAt, placeAt, linkAt}
-use Rattle.code.specs.Spans.{guard, _then_, bias}
+use Rattle.code.specs.Cells.{headAt, opAt, placeAt, linkAt}
+use Rattle.code.specs.Spans.{_then_, bias}
 use Rattle.code.specs.Steps.{Head, parts, aCase, aNextValue, anOtherwise, constantAt, valuesIn, casesIn}
-use Rattle.code.proofs.Options.{none-some, same-some, guarded, went}
+use Rattle.code.proofs.Options.{none-some, guarded, went}
 use Rattle.evaluation.proofs.Places.{op-in}
 use Rattle.evaluation.proofs.Numbers.{same-bits}
 use Rattle.evaluation.proofs.Operators.{sum-fits}

@@ -1,18 +1,18 @@
 -- TEST: its expression, and where it goes on.
 use mathlib.Core.Path.{_≡_, refl, sym, ap, subst, _∙_}
-use mathlib.Core.Bool.{Bool, true, false}
+use mathlib.Core.Bool.{true, false}
 use mathlib.Core.List.{List, [], _∷_, map}
 use mathlib.Core.Option.{some}
 use Prim.Native.Nat.{ℕ, _+_}
 use native.Mathlib.Omega.{arith}
 use lib.IntN.{ℤ, pos}
 use lib.Signed.{leZ}
-use mir.Syntax.{w32, w64}
+use mir.Syntax.{w64}
 use mir.Val.{SFits, toZ}
 use mir.Facts.{toZ-ofZ}
 use Rattle.laws.proofs.Tests.{test}
 use Rattle.paper.specs.Steps.{Action, Step, select}
-use Rattle.paper.specs.States.{Rooms, made, goTo, onTop}
+use Rattle.paper.specs.States.{made, goTo, onTop}
 use Rattle.paper.specs.Running.{perform, holds, matching}
 use Rattle.cells.specs.Words.{wordsOf}
 use Rattle.numbers.proofs.Whole.{read}
@@ -23,7 +23,7 @@ use Rattle.evaluation.specs.Answers.{firstError, Stands, Evaluated}
 use Rattle.machine.specs.Machine.{Here, Comes, effectAt, Performs, Says}
 use Rattle.choices.specs.Choices.{Cases, Matches}
 use Rattle.machine.proofs.Actions.{Selects, reads-test}
-use Rattle.machine.proofs.Current.{codeHere, stepHere, m, n, stateHere, action-here, whole-here, named-targets, effect-here, goes-here, told-value, performs}
+use Rattle.machine.proofs.Current.{codeHere, stepHere, m, n, stateHere, action-here, whole-here, named-targets, effect-here, goes-here, performs}
 use Rattle.choices.proofs.Choosing.{stepsHere, Going, Deciding, decided-stands, decided-fails, decided}
 
 -- wherever it goes is a step

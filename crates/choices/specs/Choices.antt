@@ -10,7 +10,6 @@ use Rattle.paper.specs.Numbers.{Value, value}
 use Rattle.paper.specs.Terms.{Term, Memory, worth}
 use Rattle.paper.specs.Running.{matching}
 use Rattle.cells.specs.Words.{wordsOf}
-use Rattle.code.specs.Cells.{opAt, valueAt}
 use Rattle.code.specs.Steps.{Head, parts, forStep, casesIn}
 use Rattle.evaluation.specs.Answers.{decoded, Small, Counts, memoryOf}
 use Rattle.reading.specs.Reading.{halfEnd}

@@ -1,11 +1,10 @@
 -- The step that comes next: what the table says of it, what the cells say, and where it leads.
 use mathlib.Core.Path.{_≡_, refl, sym, ap, subst, _∙_}
-use mathlib.Core.Bool.{Bool, true, false, not}
-use mathlib.Core.List.{List, [], _∷_, map}
-use mathlib.Core.Option.{Option, none, some}
-use Prim.Native.Nat.{ℕ, zero, suc, _+_, _-_, _*_, _/_, _%_, _<_, _≤_}
+use mathlib.Core.Bool.{true, false}
+use mathlib.Core.List.{List, [], _∷_}
+use mathlib.Core.Option.{some}
+use Prim.Native.Nat.{ℕ, _+_, _-_, _*_, _%_, _<_, _≤_}
 use native.Mathlib.Omega.{arith}
-use lib.Dec.{eqb}
 use lib.ListN.{length, getD}
 use lib.IntN.{ℤ, pos, negsuc, natAbs}
 use lib.Signed.{ltZ, leZ}
@@ -17,22 +16,22 @@ use borrow.Author.Tests.{eq-eqb, ne-eqb, ltb-false, not-true, not-false}
 use Rattle.laws.proofs.Tests.{by-same, false-true}
 use Rattle.paper.specs.Numbers.{Value, value, error, isZero}
 use Rattle.paper.specs.Terms.{Term, Memory, worth}
-use Rattle.paper.specs.Steps.{Action, Step, Code, Program}
-use Rattle.paper.specs.States.{Call, State, Rooms, Effect, made, failing, memoryOf, goTo, onTop, withValue}
-use Rattle.paper.specs.Running.{codeAt, stepNamed, stepOf, nextStep, perform}
+use Rattle.paper.specs.Steps.{Action, Step, Code}
+use Rattle.paper.specs.States.{Call, State, Rooms, Effect, made, memoryOf, goTo, onTop, withValue}
+use Rattle.paper.specs.Running.{stepNamed, stepOf, nextStep, perform}
 use Rattle.cells.specs.Words.{wordsOf}
-use Rattle.code.specs.Cells.{windowOf, opAt, placeAt}
-use Rattle.code.specs.Spans.{_then_, termIn, memoryIn}
-use Rattle.code.specs.Steps.{Head, noHead, parts, actionIn, stepIn}
+use Rattle.code.specs.Cells.{windowOf, placeAt}
+use Rattle.code.specs.Spans.{termIn, memoryIn}
+use Rattle.code.specs.Steps.{noHead, parts, actionIn, stepIn}
 use Rattle.code.specs.Steps as steps
-use Rattle.code.specs.Closed.{Every, done, also, isNamed, Named, targetsOf, GoesOn, SmallName, OwnLoop}
+use Rattle.code.specs.Closed.{Every, done, also, isNamed, Named, targetsOf, OwnLoop}
 use Rattle.code.specs.Holds.{known, CalleeIn, HoldsRoutine}
 use Rattle.code.specs.Windows.{callIn, waiting, stateIn}
 use Rattle.code.proofs.Options.{same-some, went}
 use Rattle.evaluation.specs.Answers.{firstError, decoded, Counts, Stores, Stands, Evaluated}
 use Rattle.evaluation.proofs.Numbers.{is-value, is-error, not-less, zero-bits}
 use Rattle.numbers.proofs.Whole.{read}
-use Rattle.machine.specs.Live.{Live, wordsOfCall, routineOfCall, codeOfCall}
+use Rattle.machine.specs.Live.{wordsOfCall, routineOfCall, codeOfCall}
 use Rattle.machine.specs.Machine.{Here, effectAt, Comes, goesOn, fails, Performs}
 use Rattle.machine.proofs.States.{goes-to}
 use Rattle.machine.proofs.Living.{live-next}

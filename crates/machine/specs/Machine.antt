@@ -7,7 +7,7 @@ use lib.IntN.{ℤ, pos}
 use mir.Syntax.{w32}
 use mir.Val.{toZ}
 use Rattle.paper.specs.Steps.{Program}
-use Rattle.paper.specs.States.{State, Call, Rooms, Effect, made, failing, handing, ending, lacking}
+use Rattle.paper.specs.States.{Rooms, Effect, made, failing, handing, ending, lacking}
 use Rattle.paper.specs.Running.{nextStep, perform}
 use Rattle.cells.specs.Words.{wordsOf}
 use Rattle.code.specs.Cells.{windowOf, opAt, valueAt, placeAt}
