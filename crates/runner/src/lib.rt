@@ -5,15 +5,6 @@ ghost use lib.ListN.{length};
 ghost use Rattle.cells.specs.Words.{wordsOf};
 ghost use Rattle.code.specs.Cells.{placeAt};
 ghost use Rattle.runner.specs.Runs.{Stops, Stopped, MayBegin, Begun, Begins, Ran};
-
-pub mod calls;
-pub mod choices;
-pub mod errors;
-pub mod output;
-pub mod reading;
-pub mod stepping;
-pub mod targets;
-
 use calls::start_words;
 use errors::arise;
 use reading::link;

@@ -24,12 +24,12 @@ use Rattle.evaluation.proofs.+enclosed+evaluate.Lts-evaluate as evaluat
 use Rattle.evaluation.proofs.close.Reads as close-reads
 use Rattle.evaluation.proofs.ends.Reads as ends-reads
 use Rattle.evaluation.proofs.failure.Reads as failure-reads
-use Rattle.evaluation.proofs.head.Reads as head-reads
+use Rattle.reading.proofs.head.Reads as head-reads
 use Rattle.evaluation.proofs.is_failing.Reads as is-failing-reads
 use Rattle.evaluation.proofs.is_known.Reads as is-known-reads
 use Rattle.evaluation.proofs.is_value.Reads as is-value-reads
 use Rattle.evaluation.proofs.leaf.Reads as leaf-reads
-use Rattle.evaluation.proofs.link.Reads as link-reads
+use Rattle.reading.proofs.link.Reads as link-reads
 use Rattle.evaluation.proofs.opens.Reads as opens-reads
 use Rattle.evaluation.proofs.operate.Reads as operate-reads
 use Rattle.evaluation.proofs.+enclosed+evaluate.{statement}
@@ -75,11 +75,11 @@ sided t c =
     ⊎-elim
     (λ k. subst₂ (λ (b r : ℕ). Sided (now (c .before .before .before .before .before .before .before .before .before .args .code)) (now (c .before .before .before .before .before .before .before .before .before .args .values)) (c .before .before .before .before .before .before .before .before .before .args .base) (c .before .before .before .before .before .before .before .before .before .args .from) (c .before .before .before .before .before .before .before .before .before .args .to) (toZ w64 (c .before .before .before .before .loop .acc)) (c .before .before .before .before .loop .i) (c .before .before .before .before .loop .inv) (c .before .before .before .loop-test .taken) (c .before .before .head2 .result) (c .before .before .head2 .ensures) (toZ w64 b) r) (sym (k .7)) (sym (k .8))
     (sided-read (now (c .before .before .before .before .before .before .before .before .before .args .code)) (now (c .before .before .before .before .before .before .before .before .before .args .values)) (c .before .before .before .before .before .before .before .before .before .args .base) (c .before .before .before .before .before .before .before .before .before .args .from) (c .before .before .before .before .before .before .before .before .before .args .to) (toZ w64 (c .before .before .before .before .loop .acc)) (c .before .before .before .before .loop .i) (c .before .before .before .before .loop .inv) (c .before .before .before .loop-test .taken) (c .before .before .head2 .result) (c .before .before .head2 .ensures) (k .4 .result) (k .1 .result) (search needs)
-    (side-span (now (c .before .before .before .before .before .before .before .before .before .args .code)) (now (c .before .before .before .before .before .before .before .before .before .args .values)) (c .before .before .before .before .before .before .before .before .before .args .base) (c .before .before .before .before .before .before .before .before .before .args .from) (c .before .before .before .before .before .before .before .before .before .args .to) (toZ w64 (c .before .before .before .before .loop .acc)) (c .before .before .before .before .loop .i) (c .before .before .before .before .loop .inv) (c .before .before .before .loop-test .taken) (c .before .before .head2 .result) (c .before .before .head2 .ensures) (k .0 .taken) (k .1 .result) (k .1 .ensures .is) (k .2 .result) (k .2 .ensures) (k .4 .result) (k .4 .ensures)
+    (side-span (now (c .before .before .before .before .before .before .before .before .before .args .code)) (now (c .before .before .before .before .before .before .before .before .before .args .values)) (c .before .before .before .before .before .before .before .before .before .args .base) (c .before .before .before .before .before .before .before .before .before .args .from) (c .before .before .before .before .before .before .before .before .before .args .to) (toZ w64 (c .before .before .before .before .loop .acc)) (c .before .before .before .before .loop .i) (c .before .before .before .before .loop .inv) (c .before .before .before .loop-test .taken) (c .before .before .head2 .result) (c .before .before .head2 .ensures) (k .0 .taken) (k .1 .result) (k .1 .ensures .same) (k .2 .result) (k .2 .ensures) (k .4 .result) (k .4 .ensures)
     (told (k .4 .result) (k .5 .result) true (search needs) (k .5 .ensures) (not-false _ (k .6 .left))))))
     (λ m. ⊎-elim
     (λ k. subst₂ (λ (b r : ℕ). Sided (now (c .before .before .before .before .before .before .before .before .before .args .code)) (now (c .before .before .before .before .before .before .before .before .before .args .values)) (c .before .before .before .before .before .before .before .before .before .args .base) (c .before .before .before .before .before .before .before .before .before .args .from) (c .before .before .before .before .before .before .before .before .before .args .to) (toZ w64 (c .before .before .before .before .loop .acc)) (c .before .before .before .before .loop .i) (c .before .before .before .before .loop .inv) (c .before .before .before .loop-test .taken) (c .before .before .head2 .result) (c .before .before .head2 .ensures) (toZ w64 b) r) (sym (k .4)) (sym (k .5))
-    (side-known (now (c .before .before .before .before .before .before .before .before .before .args .code)) (now (c .before .before .before .before .before .before .before .before .before .args .values)) (c .before .before .before .before .before .before .before .before .before .args .base) (c .before .before .before .before .before .before .before .before .before .args .from) (c .before .before .before .before .before .before .before .before .before .args .to) (toZ w64 (c .before .before .before .before .loop .acc)) (c .before .before .before .before .loop .i) (c .before .before .before .before .loop .inv) (c .before .before .before .loop-test .taken) (c .before .before .head2 .result) (c .before .before .head2 .ensures) (k .0 .taken) (k .1 .result) (k .1 .ensures .is) (k .2 .result) (k .2 .ensures) (not-false _ (k .3 .left))))
+    (side-known (now (c .before .before .before .before .before .before .before .before .before .args .code)) (now (c .before .before .before .before .before .before .before .before .before .args .values)) (c .before .before .before .before .before .before .before .before .before .args .base) (c .before .before .before .before .before .before .before .before .before .args .from) (c .before .before .before .before .before .before .before .before .before .args .to) (toZ w64 (c .before .before .before .before .loop .acc)) (c .before .before .before .before .loop .i) (c .before .before .before .before .loop .inv) (c .before .before .before .loop-test .taken) (c .before .before .head2 .result) (c .before .before .head2 .ensures) (k .0 .taken) (k .1 .result) (k .1 .ensures .same) (k .2 .result) (k .2 .ensures) (not-false _ (k .3 .left))))
     (λ k. subst₂ (λ (b r : ℕ). Sided (now (c .before .before .before .before .before .before .before .before .before .args .code)) (now (c .before .before .before .before .before .before .before .before .before .args .values)) (c .before .before .before .before .before .before .before .before .before .args .base) (c .before .before .before .before .before .before .before .before .before .args .from) (c .before .before .before .before .before .before .before .before .before .args .to) (toZ w64 (c .before .before .before .before .loop .acc)) (c .before .before .before .before .loop .i) (c .before .before .before .before .loop .inv) (c .before .before .before .loop-test .taken) (c .before .before .head2 .result) (c .before .before .head2 .ensures) (toZ w64 b) r) (sym (k .2)) (sym (k .3))
     (sided-read (now (c .before .before .before .before .before .before .before .before .before .args .code)) (now (c .before .before .before .before .before .before .before .before .before .args .values)) (c .before .before .before .before .before .before .before .before .before .args .base) (c .before .before .before .before .before .before .before .before .before .args .from) (c .before .before .before .before .before .before .before .before .before .args .to) (toZ w64 (c .before .before .before .before .loop .acc)) (c .before .before .before .before .loop .i) (c .before .before .before .before .loop .inv) (c .before .before .before .loop-test .taken) (c .before .before .head2 .result) (c .before .before .head2 .ensures) (k .1 .result) _ (search needs) (side-leaf (now (c .before .before .before .before .before .before .before .before .before .args .code)) (now (c .before .before .before .before .before .before .before .before .before .args .values)) (c .before .before .before .before .before .before .before .before .before .args .base) (c .before .before .before .before .before .before .before .before .before .args .from) (c .before .before .before .before .before .before .before .before .before .args .to) (toZ w64 (c .before .before .before .before .loop .acc)) (c .before .before .before .before .loop .i) (c .before .before .before .before .loop .inv) (c .before .before .before .loop-test .taken) (c .before .before .head2 .result) (c .before .before .head2 .ensures) (k .0 .left) (k .1 .result) (k .1 .ensures))))
     m)
@@ -127,14 +127,14 @@ evaluate-link-requires : (t : ℕ) → evaluate-lts.Need-link-requires (calls-ev
 evaluate-link-requires t c κs = search (needs, stands-in)
 
 evaluate-enclosed-requires : (t : ℕ) → evaluate-lts.Need-enclosed-requires (calls-evaluate t) (evaluate-at t) evaluate.Post Inv-loop μ-loop
-evaluate-enclosed-requires t c κs = (omega (arith, encloses-on (now (c .before .before .before .before .before .args .code)) (now (c .before .before .before .before .before .args .values)) (c .before .before .before .before .before .args .base) (c .before .before .before .before .before .args .from) (c .before .before .before .before .before .args .to) (c .before .before .before .before .before .pre .1 .1) (c .before .before .head .result) (c .before .before .head .ensures) (c .before .if1 .left) (c .link .result) (c .link .ensures .is)), (c .before .before .before .before .before .pre .1 .0, encloses (now (c .before .before .before .before .before .args .code)) (now (c .before .before .before .before .before .args .values)) (c .before .before .before .before .before .args .base) (c .before .before .before .before .before .args .from) (c .before .before .before .before .before .args .to) (c .before .before .before .before .before .pre .1 .1) (c .before .before .head .result) (c .before .before .head .ensures) (c .before .if1 .left) (c .link .result) (c .link .ensures .is)))
+evaluate-enclosed-requires t c κs = (omega (arith, encloses-on (now (c .before .before .before .before .before .args .code)) (now (c .before .before .before .before .before .args .values)) (c .before .before .before .before .before .args .base) (c .before .before .before .before .before .args .from) (c .before .before .before .before .before .args .to) (c .before .before .before .before .before .pre .1 .1) (c .before .before .head .result) (c .before .before .head .ensures) (c .before .if1 .left) (c .link .result) (c .link .ensures .same)), (c .before .before .before .before .before .pre .1 .0, encloses (now (c .before .before .before .before .before .args .code)) (now (c .before .before .before .before .before .args .values)) (c .before .before .before .before .before .args .base) (c .before .before .before .before .before .args .from) (c .before .before .before .before .before .args .to) (c .before .before .before .before .before .pre .1 .1) (c .before .before .head .result) (c .before .before .head .ensures) (c .before .if1 .left) (c .link .result) (c .link .ensures .same)))
 
 evaluate-is-value-requires : (t : ℕ) → evaluate-lts.Need-is-value-requires (calls-evaluate t) (evaluate-at t) evaluate.Post Inv-loop μ-loop
 evaluate-is-value-requires t c κs = search needs
 
 evaluate-returns : (t : ℕ) → evaluate-lts.Need-returns (calls-evaluate t) (evaluate-at t) evaluate.Post Inv-loop μ-loop
 evaluate-returns t c =
-    run-fails (now (c .before .before .before .before .before .before .before .before .args .code)) (now (c .before .before .before .before .before .before .before .before .args .values)) (c .before .before .before .before .before .before .before .before .args .base) (c .before .before .before .before .before .before .before .before .args .from) (c .before .before .before .before .before .before .before .before .args .to) _ _ (start-enclosed (now (c .before .before .before .before .before .before .before .before .args .code)) (now (c .before .before .before .before .before .before .before .before .args .values)) (c .before .before .before .before .before .before .before .before .args .base) (c .before .before .before .before .before .before .before .before .args .from) (c .before .before .before .before .before .before .before .before .args .to) (c .before .before .before .before .before .before .before .before .pre .1 .1) (c .before .before .before .before .before .head .result) (c .before .before .before .before .before .head .ensures) (c .before .before .before .before .if1 .left) (c .before .before .before .link .result) (c .before .before .before .link .ensures .is) (c .before .before .enclosed .result) (search needs) (c .before .before .enclosed .ensures))
+    run-fails (now (c .before .before .before .before .before .before .before .before .args .code)) (now (c .before .before .before .before .before .before .before .before .args .values)) (c .before .before .before .before .before .before .before .before .args .base) (c .before .before .before .before .before .before .before .before .args .from) (c .before .before .before .before .before .before .before .before .args .to) _ _ (start-enclosed (now (c .before .before .before .before .before .before .before .before .args .code)) (now (c .before .before .before .before .before .before .before .before .args .values)) (c .before .before .before .before .before .before .before .before .args .base) (c .before .before .before .before .before .before .before .before .args .from) (c .before .before .before .before .before .before .before .before .args .to) (c .before .before .before .before .before .before .before .before .pre .1 .1) (c .before .before .before .before .before .head .result) (c .before .before .before .before .before .head .ensures) (c .before .before .before .before .if1 .left) (c .before .before .before .link .result) (c .before .before .before .link .ensures .same) (c .before .before .enclosed .result) (search needs) (c .before .before .enclosed .ensures))
     (sym (c .before .is-value .ensures) ∙ not-true _ (c .if2 .taken))
 
 evaluate-ends-requires : (t : ℕ) → evaluate-lts.Need-ends-requires (calls-evaluate t) (evaluate-at t) evaluate.Post Inv-loop μ-loop
@@ -146,7 +146,7 @@ evaluate-loop-holds t c =
     (λ k. subst₂ (λ (a i : ℕ). Going (now (c .before .before .before .before .args .code)) (now (c .before .before .before .before .args .values)) (c .before .before .before .before .args .base) (c .before .before .before .before .args .from) (c .before .before .before .before .args .to) (toZ w64 a) i) (sym (k .2)) (sym (k .3))
     (start-leaf (now (c .before .before .before .before .args .code)) (now (c .before .before .before .before .args .values)) (c .before .before .before .before .args .base) (c .before .before .before .before .args .from) (c .before .before .before .before .args .to) (c .before .before .before .before .pre .1 .1) (c .before .head .result) (c .before .head .ensures) (k .0 .taken) (k .1 .result) (search needs) (k .1 .ensures)))
     (λ k. subst₂ (λ (a i : ℕ). Going (now (c .before .before .before .before .args .code)) (now (c .before .before .before .before .args .values)) (c .before .before .before .before .args .base) (c .before .before .before .before .args .from) (c .before .before .before .before .args .to) (toZ w64 a) i) (sym (k .6)) (sym (k .7 ∙ k .5 .ensures))
-    (goes-value _ _ _ _ _ _ _ (start-enclosed (now (c .before .before .before .before .args .code)) (now (c .before .before .before .before .args .values)) (c .before .before .before .before .args .base) (c .before .before .before .before .args .from) (c .before .before .before .before .args .to) (c .before .before .before .before .pre .1 .1) (c .before .head .result) (c .before .head .ensures) (k .0 .left) (k .1 .result) (k .1 .ensures .is) (k .2 .result) (search needs) (k .2 .ensures))
+    (goes-value _ _ _ _ _ _ _ (start-enclosed (now (c .before .before .before .before .args .code)) (now (c .before .before .before .before .args .values)) (c .before .before .before .before .args .base) (c .before .before .before .before .args .from) (c .before .before .before .before .args .to) (c .before .before .before .before .pre .1 .1) (c .before .head .result) (c .before .head .ensures) (k .0 .left) (k .1 .result) (k .1 .ensures .same) (k .2 .result) (search needs) (k .2 .ensures))
     (sym (k .3 .ensures) ∙ not-false _ (k .4 .left))))
     (c .if1 .came)
 
@@ -168,7 +168,7 @@ evaluate-add-evaluate t c = omega (arith, turn-in (now (c .before .before .befor
 evaluate-evaluate-requires : (t : ℕ) → evaluate-lts.Need-evaluate-requires (calls-evaluate t) (evaluate-at t) evaluate.Post Inv-loop μ-loop
 evaluate-evaluate-requires t c κs =
     let l = c .before .before .link2 in
-    (omega (arith, span-less (now (c .before .before .before .before .before .before .before .before .before .before .before .before .args .code)) (now (c .before .before .before .before .before .before .before .before .before .before .before .before .args .values)) (c .before .before .before .before .before .before .before .before .before .before .before .before .args .base) (c .before .before .before .before .before .before .before .before .before .before .before .before .args .from) (c .before .before .before .before .before .before .before .before .before .before .before .before .args .to) (toZ w64 (c .before .before .before .before .before .before .before .loop .acc)) (c .before .before .before .before .before .before .before .loop .i) (c .before .before .before .before .before .before .before .loop .inv) (c .before .before .before .before .before .before .loop-test .taken) (c .before .before .before .before .before .head2 .result) (c .before .before .before .before .before .head2 .ensures) (c .before .before .before .if3 .taken) (l .result) (l .ensures .is)), (c .before .before .before .before .before .before .before .before .before .before .before .before .pre .1 .0, span-stands (now (c .before .before .before .before .before .before .before .before .before .before .before .before .args .code)) (now (c .before .before .before .before .before .before .before .before .before .before .before .before .args .values)) (c .before .before .before .before .before .before .before .before .before .before .before .before .args .base) (c .before .before .before .before .before .before .before .before .before .before .before .before .args .from) (c .before .before .before .before .before .before .before .before .before .before .before .before .args .to) (toZ w64 (c .before .before .before .before .before .before .before .loop .acc)) (c .before .before .before .before .before .before .before .loop .i) (c .before .before .before .before .before .before .before .loop .inv) (c .before .before .before .before .before .before .loop-test .taken) (c .before .before .before .before .before .head2 .result) (c .before .before .before .before .before .head2 .ensures) (c .before .before .before .if3 .taken) (l .result) (l .ensures .is)))
+    (omega (arith, span-less (now (c .before .before .before .before .before .before .before .before .before .before .before .before .args .code)) (now (c .before .before .before .before .before .before .before .before .before .before .before .before .args .values)) (c .before .before .before .before .before .before .before .before .before .before .before .before .args .base) (c .before .before .before .before .before .before .before .before .before .before .before .before .args .from) (c .before .before .before .before .before .before .before .before .before .before .before .before .args .to) (toZ w64 (c .before .before .before .before .before .before .before .loop .acc)) (c .before .before .before .before .before .before .before .loop .i) (c .before .before .before .before .before .before .before .loop .inv) (c .before .before .before .before .before .before .loop-test .taken) (c .before .before .before .before .before .head2 .result) (c .before .before .before .before .before .head2 .ensures) (c .before .before .before .if3 .taken) (l .result) (l .ensures .same)), (c .before .before .before .before .before .before .before .before .before .before .before .before .pre .1 .0, span-stands (now (c .before .before .before .before .before .before .before .before .before .before .before .before .args .code)) (now (c .before .before .before .before .before .before .before .before .before .before .before .before .args .values)) (c .before .before .before .before .before .before .before .before .before .before .before .before .args .base) (c .before .before .before .before .before .before .before .before .before .before .before .before .args .from) (c .before .before .before .before .before .before .before .before .before .before .before .before .args .to) (toZ w64 (c .before .before .before .before .before .before .before .loop .acc)) (c .before .before .before .before .before .before .before .loop .i) (c .before .before .before .before .before .before .before .loop .inv) (c .before .before .before .before .before .before .loop-test .taken) (c .before .before .before .before .before .head2 .result) (c .before .before .before .before .before .head2 .ensures) (c .before .before .before .if3 .taken) (l .result) (l .ensures .same)))
 
 evaluate-is-value-requires-2 : (t : ℕ) → evaluate-lts.Need-is-value-requires-2 (calls-evaluate t) (evaluate-at t) evaluate.Post Inv-loop μ-loop
 evaluate-is-value-requires-2 t c κs = search needs
@@ -177,7 +177,7 @@ evaluate-returns-2 : (t : ℕ) → evaluate-lts.Need-returns-2 (calls-evaluate t
 evaluate-returns-2 t c =
     let b = c .before .before .evaluate in
     evaluated-read _ _ _ _ _ (b .result) (search needs)
-    (right-fails (now (c .before .before .before .before .before .before .before .before .before .before .before .before .before .before .before .args .code)) (now (c .before .before .before .before .before .before .before .before .before .before .before .before .before .before .before .args .values)) (c .before .before .before .before .before .before .before .before .before .before .before .before .before .before .before .args .base) (c .before .before .before .before .before .before .before .before .before .before .before .before .before .before .before .args .from) (c .before .before .before .before .before .before .before .before .before .before .before .before .before .before .before .args .to) (toZ w64 (c .before .before .before .before .before .before .before .before .before .before .loop .acc)) (c .before .before .before .before .before .before .before .before .before .before .loop .i) (c .before .before .before .before .before .before .before .before .before .before .loop .inv) (c .before .before .before .before .before .before .before .before .before .loop-test .taken) (c .before .before .before .before .before .before .before .before .head2 .result) (c .before .before .before .before .before .before .before .before .head2 .ensures) (c .before .before .before .before .before .before .if3 .taken) (c .before .before .before .before .before .link2 .result) (c .before .before .before .before .before .link2 .ensures .is) (c .before .before .before .before .is-known .result) (c .before .before .before .before .is-known .ensures) (b .result) (b .ensures)
+    (right-fails (now (c .before .before .before .before .before .before .before .before .before .before .before .before .before .before .before .args .code)) (now (c .before .before .before .before .before .before .before .before .before .before .before .before .before .before .before .args .values)) (c .before .before .before .before .before .before .before .before .before .before .before .before .before .before .before .args .base) (c .before .before .before .before .before .before .before .before .before .before .before .before .before .before .before .args .from) (c .before .before .before .before .before .before .before .before .before .before .before .before .before .before .before .args .to) (toZ w64 (c .before .before .before .before .before .before .before .before .before .before .loop .acc)) (c .before .before .before .before .before .before .before .before .before .before .loop .i) (c .before .before .before .before .before .before .before .before .before .before .loop .inv) (c .before .before .before .before .before .before .before .before .before .loop-test .taken) (c .before .before .before .before .before .before .before .before .head2 .result) (c .before .before .before .before .before .before .before .before .head2 .ensures) (c .before .before .before .before .before .before .if3 .taken) (c .before .before .before .before .before .link2 .result) (c .before .before .before .before .before .link2 .ensures .same) (c .before .before .before .before .is-known .result) (c .before .before .before .before .is-known .ensures) (b .result) (b .ensures)
     (not-true _ (c .before .before .before .if4 .taken)) (told (b .result) (c .before .is-value2 .result) false (search needs) (c .before .is-value2 .ensures) (not-true _ (c .if5 .taken))))
 
 evaluate-leaf-requires-2 : (t : ℕ) → evaluate-lts.Need-leaf-requires-2 (calls-evaluate t) (evaluate-at t) evaluate.Post Inv-loop μ-loop
