@@ -1,5 +1,5 @@
 -- Numbers put into a line, one behind the other.
-use mathlib.Core.Path.{_≡_, refl, sym, ap, ap₂, _∙_}
+use mathlib.Core.Path.{_≡_, refl, sym, ap, ap₂, subst, _∙_}
 use mathlib.Core.List.{List, [], _∷_, _++_, append-assoc}
 use Prim.Native.Nat.{ℕ, suc, _+_, _≤_, _<_}
 use native.Mathlib.Numerals.{add-one}
@@ -13,12 +13,13 @@ use borrow.Author.Tests.{lt-ltb}
 use Rattle.laws.specs.Lists.{replaced}
 use Rattle.laws.proofs.Lists.{replaced-length, replaced-drop}
 use Rattle.paper.specs.Numbers.{decimal}
+use Rattle.cells.specs.Words.{Got}
 use Rattle.decimals.specs.Placed.{PutsNumber}
 use Rattle.decimals.specs.declared.Put.{Put}
 use Rattle.decimals.specs.declared.Put.the-variants.{Done, NoRoom}
 use Rattle.decimals.proofs.Answers.{Whole, None, was-done, had-none}
 use Rattle.decimals.proofs.Digits.{few}
-use Rattle.screen.specs.Screen.{fieldRoom, lineRoom, numbered, lineOf, PutOne, PutLine}
+use Rattle.screen.specs.Screen.{fieldRoom, lineRoom, numbered, lineOf, lowFields, PutOne, PutLine}
 
 few-digits : (n : ℕ) → length (decimal (pos n)) ≤ 20
 unfolding decimal
@@ -114,3 +115,11 @@ line-law l₀ l₁ l₂ l₃ l₄ l₅ l₆ l₇ l₈ a b c d e f g h p₁ p₂ 
       near = omega arith;
       size = omega arith;
     }
+
+-- the line of the words that were got
+pub fields-line : (before after fields : List ℕ) (a b c d e f g h r : ℕ)
+    → Got fields 0 a → Got fields 2 b → Got fields 4 c → Got fields 6 d → Got fields 8 e → Got fields 10 f → Got fields 12 g → Got fields 14 h
+    → PutLine before after (a ∷ b ∷ c ∷ d ∷ e ∷ f ∷ g ∷ h ∷ []) r → PutLine before after (lowFields fields) r
+fields-line before after fields a b c d e f g h r ga gb gc gd ge gf gg gh p =
+    let same : _≡_ {A = List ℕ} (a ∷ b ∷ c ∷ d ∷ e ∷ f ∷ g ∷ h ∷ []) (lowFields fields) = λ i. ga i ∷ gb i ∷ gc i ∷ gd i ∷ ge i ∷ gf i ∷ gg i ∷ gh i ∷ [] in
+    subst (λ (x : List ℕ). PutLine before after x r) same p
