@@ -3,10 +3,10 @@ use mathlib.Core.Path.{_≡_}
 use mathlib.Core.List.{List, [], _∷_, _++_}
 use Prim.Native.Nat.{ℕ, _+_, _≤_, _<_}
 use lib.IntN.{pos}
-use lib.ListN.{length, getD, take, drop}
+use lib.ListN.{length, getD, drop}
 use Rattle.laws.specs.Lists.{replaced}
 use Rattle.paper.specs.Numbers.{decimal}
-use Rattle.paper.specs.Answer.{Record, Answer, answer, LentBytes, lentOf, bytesAfter}
+use Rattle.paper.specs.Answer.{Record, Result, answer, LentBytes, lentOf, bytesAfter}
 use Rattle.cells.specs.Words.{wordsOf}
 use Rattle.screen.specs.declared.Shown.{Shown}
 
@@ -58,8 +58,8 @@ lowFields bytes =
 
 -- ---- what is shown of a call
 -- "prints the output, then the eight fields of the record"
-unfoldable pub screenOf : Answer → List ℕ
-screenOf a = take (a .fields .output) (a .output) ++ recordLine (a .fields)
+unfoldable pub screenOf : Result → List ℕ
+screenOf r = r .written ++ recordLine (r .fields)
 
 -- What is asked of who lends: lengths of 32 bits, which a program's memory has, and room for the line.
 pub record Lends (text inputs out line : List ℕ) : Type 0 where
