@@ -5,3 +5,4 @@ pub mod Parting
 pub mod Calling
 pub mod Going
 pub mod Naming
+pub mod Unique

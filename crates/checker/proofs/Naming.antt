@@ -302,6 +302,7 @@ module _ (text code values : List ℕ) (words : ℕ) (f : Formed text code value
                   g = groundOf text W m;
                   text-is = refl;
                   words-are = refl;
+                  heads-are = refl;
                   offset-is = offset-same text;
                   number = k;
                   main-is = foretold .main .found z;

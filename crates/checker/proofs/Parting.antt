@@ -88,6 +88,7 @@ checked-parts text code values r code′ values′ g h j =
         empty-long l a n e = ap length (e ∙ ap (λ (x : List ℕ). replicate storeBytes 0 ++ x) (nothing-past (take storeBytes l) (part l n)) ∙ append-nil (replicate storeBytes 0)) ∙ length-replicate {A = ℕ} storeBytes 0 ∙ sym (part l n)
     go (accepted a) k = record {
       R = k .R;
+      heads-are = k .heads-are;
       answer = k .answer;
       holds = subst (λ (x : List ℕ). Holds text (k .R) (offsetOf text (a .words)) (wordsOf x) (a .program)) (take-all storeBytes code′ (omega (arith, k .code-long, part code g)) ∙ sym (whole-part code code′ g (k .code-long))) (k .holds);
       there = k .there;

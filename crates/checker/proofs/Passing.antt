@@ -47,6 +47,7 @@ use Rattle.links.specs.Resolved.{Resolved}
 use Rattle.links.specs.Raw.{Ground}
 use Rattle.program.specs.Routines.{RawModule}
 use Rattle.program.proofs.Holding.{module-holds}
+use Rattle.heads.specs.Trees.{headsFor}
 use Rattle.grammar.proofs.Reading.{formed-parses}
 use Rattle.checker.proofs.Laying.{module-words}
 use Rattle.checker.proofs.Placing.{offsets-same}
@@ -54,7 +55,7 @@ use Rattle.checker.specs.declared.Checked.{Checked}
 use Rattle.checker.specs.declared.Checked.the-variants as checked
 use Rattle.checker.specs.declared.Found.{Found}
 use Rattle.checker.specs.declared.Found.the-variants.{Main, NoMain, Faulty}
-use Rattle.checker.specs.Checks.{storeBytes, Ready, Refused, Emptied, Judges}
+use Rattle.checker.specs.Checks.{storeBytes, headsIn, Ready, Refused, Emptied, Judges}
 use Rattle.checker.specs.Walks.{Laid, Formed, Named, Nameless, Finds, Walks}
 use Rattle.checker.specs.Passes.{Whole, Clean, Turned, Settles, Formal}
 
@@ -72,6 +73,7 @@ module _ (text code values code′ values′ : List ℕ) (w : Whole code values)
   settled-before (refusedBy f) r code″ values″ s = record { answer = s .answer; code-long = s .code-long ∙ a; values-long = s .values-long ∙ b }
   settled-before (accepted x) r code″ values″ s = record {
     R = s .R;
+    heads-are = s .heads-are;
     answer = s .answer;
     holds = s .holds;
     there = s .there;
@@ -148,6 +150,10 @@ module _ (text code values : List ℕ) (words : ℕ) (f : Formed text code value
           let q : length W ≡ at .end + 1 = module-words text (f .m) (formed-parses (sortIn W) (f .m) (f .form)) in
           rw (take-all storeBytes code″ (omega (arith, code-whole))) (offsets-same (length W) (n .g .offset) (offsetOf text W) (n .offset-is) W (f .m) text (n .g .R) (wordsOf code″) (at .begin) (at .end) (at .routines) (omega arith) k)
 
+      heads-here : headsIn W ≡ headsFor (f .m .routines)
+      unfolding headsIn
+      heads-here = rw (f .form, headsIn)
+
       words-here : map (toZ w32) (take count (wordsOf values″)) ≡ moduleData W (f .m) .words
       words-here =
           ap (map (toZ w32)) (sym (words-take count values″) ∙ ap wordsOf (clear-take cleared count-fits (count * 4) (omega arith)) ∙ words-take count values′) ∙ named .values-are
@@ -160,6 +166,7 @@ module _ (text code values : List ℕ) (words : ℕ) (f : Formed text code value
           = ap (judgeForm text W) (f .form) ∙ ap (judgeModule text W (f .m)) (least-none (faults W (f .m)) (n .clear)) ∙ ap (judgeMain W (f .m)) (n .main-is) in
           rw v (record {
             R = n .g .R;
+            heads-are = n .heads-are ∙ sym heads-here;
             answer = ap₂ (λ (a b : ℕ). checked.Accepted a b main) (f .laid .many) (n .count-is) ∙ ap (λ (x : ℕ). checked.Accepted (length W) (length (moduleData W (f .m) .words)) x) (sym (n .begins));
             holds = holds-here;
             there = n .there;

@@ -1,17 +1,21 @@
 -- What the check of a module promises: the paper's verdict, and every lent word after it.
 use mathlib.Core.Path.{_≡_}
 use mathlib.Core.Bool.{true, false, _||_}
-use mathlib.Core.List.{List, _++_, map}
+use mathlib.Core.List.{List, [], _++_, map}
 use Prim.Native.Nat.{ℕ, _<_, _≤_}
 use lib.Dec.{ltb}
 use lib.ListN.{length, getD, take, drop, replicate}
 use mir.Syntax.{w32}
 use mir.Val.{toZ}
-use Rattle.paper.specs.Words.{Refusal}
+use Rattle.paper.specs.Words.{Word, Refusal}
+use Rattle.paper.specs.Expressions.{got, no}
+use Rattle.paper.specs.Form.{formed}
+use Rattle.paper.specs.Names.{sortIn}
 use Rattle.paper.specs.Answer.{Accepted, Verdict, refusedBy, accepted, verdict, offsetOf}
 use Rattle.cells.specs.Words.{wordsOf}
 use Rattle.code.specs.Steps.{Head, noHead}
 use Rattle.code.specs.Holds.{Holds}
+use Rattle.heads.specs.Trees.{headsFor}
 use Rattle.checker.specs.declared.Checked.{Checked}
 use Rattle.checker.specs.declared.Checked.the-variants as checked
 
@@ -23,9 +27,14 @@ storeBytes = 65536
 abbrev pub Emptied : (before after : List ℕ) → Type 0
 Emptied before after = after ≡ replicate storeBytes 0 ++ drop storeBytes before
 
+-- the routines of the module that the words form, in the order of the text
+unfoldable pub headsIn : List Word → List Head
+headsIn W = elim (formed (sortIn W)) [ got m ↦ headsFor (m .routines) | no number i ↦ [] ]
+
 -- An accepted module: how many words it has, how many words of data, and the word that main begins with. The code store holds its program, and the value store its words.
 pub record Ready (text code values : List ℕ) (a : Accepted) (r : Checked) (code′ values′ : List ℕ) : Type 0 where
   pub R : List Head
+  pub heads-are : R ≡ headsIn (a .words)
   pub answer : r ≡ checked.Accepted (length (a .words)) (length (a .program .words)) (getD R (a .main) noHead .word)
   pub holds : Holds text R (offsetOf text (a .words)) (wordsOf (take storeBytes code′)) (a .program)
   pub there : a .main < length R

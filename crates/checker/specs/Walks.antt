@@ -57,6 +57,7 @@ pub record Named (text : List ℕ) (m : Module) (count main : ℕ) (code′ valu
   pub g : Ground
   pub text-is : g .text ≡ text
   pub words-are : g .W ≡ wordsIn text
+  pub heads-are : g .R ≡ headsFor (m .routines)
   pub offset-is : (i : ℕ) → i < length (wordsIn text) → g .offset i ≡ offsetOf text (wordsIn text) i
   pub number : ℕ
   pub main-is : mainOf (wordsIn text) m ≡ some number

@@ -16,7 +16,7 @@ use Rattle.load.specs.Loads.{Ready, Loads}
 use Rattle.load.proofs.Fronts.{front-bytes}
 
 -- two stores of the same words in front, and the same bytes behind
-same-store : (n : ℕ) (v w : List ℕ) → Bytes v → Bytes w → length v ≡ length w → n * 4 ≤ length v → ((k : ℕ) → k < n → getD (wordsOf v) k 0 ≡ getD (wordsOf w) k 0) → drop (n * 4) v ≡ drop (n * 4) w → v ≡ w
+pub same-store : (n : ℕ) (v w : List ℕ) → Bytes v → Bytes w → length v ≡ length w → n * 4 ≤ length v → ((k : ℕ) → k < n → getD (wordsOf v) k 0 ≡ getD (wordsOf w) k 0) → drop (n * 4) v ≡ drop (n * 4) w → v ≡ w
 same-store n v w b d e h same rest =
     let sizes : length (take n (wordsOf v)) ≡ n = length-take-le n (wordsOf v) (omega (arith, length-words v)) in
     let others : length (take n (wordsOf w)) ≡ n = length-take-le n (wordsOf w) (omega (arith, length-words w)) in

@@ -56,6 +56,7 @@ module _ (text code values fields : List ℕ) (room : Rooms code values fields) 
             judged = q;
             ready = record {
               R = j .R;
+              heads-are = j .heads-are;
               answer = sym e ∙ j .answer;
               holds = j .holds;
               there = j .there;
