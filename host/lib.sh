@@ -15,8 +15,11 @@ host_packages() { # the Debian packages that this machine lacks for a C host
 host_library() { # NAME: makes target/staticlib/libNAME.a, for which rt proves its crate once more; where HOST_BUILT is set, the one that is there is taken. What rt says is shown only where it fails
     local said
     if [ -n "${HOST_BUILT:-}" ] && [ -f "target/staticlib/lib$1.a" ]; then return; fi
+    if [ -n "${HOST_ARCHIVES:-}" ]; then return; fi
     said=$(rt staticlib "$1" 2>&1) || { printf '%s\n' "$said"; echo "no static library of $1"; return 1; }
 }
+
+host_archive() { echo "${HOST_ARCHIVES:-target/staticlib}/lib$1.a"; } # NAME: where its library is; HOST_ARCHIVES is a folder of other ones (tools/faults)
 
 host_compile() { # gcc|g++ WORDS..
     if [ "$(uname -m)" = x86_64 ]; then
@@ -30,6 +33,10 @@ host_cc() { host_compile gcc "$@"; } # as cc
 
 host_ar() { # as ar
     if [ "$(uname -m)" = x86_64 ]; then ar "$@"; else x86_64-linux-gnu-ar "$@"; fi
+}
+
+host_objcopy() { # as objcopy
+    if [ "$(uname -m)" = x86_64 ]; then objcopy "$@"; else x86_64-linux-gnu-objcopy "$@"; fi
 }
 
 host_program() { # PROGRAM gcc|g++ WORDS..: makes a program that runs by its name, under the emulator where it must

@@ -39,6 +39,7 @@ static const char *const conditions[] = {"IF", "ELSEIF", "WHILE", NULL};
 static const char *const num_statements[] = {"RAISE", "TEST", "CASE", "TPReadNum", NULL};
 static const char *const for_values[] = {"FROM", "TO", "STEP", NULL};
 static const char *const truths[] = {"TRUE", "FALSE", NULL};
+static const char *const protected_names[] = {"ERRNO", "ERR_OVERFLOW", "ERR_DIVZERO", "ERR_OUTOFBND", "ERR_ILLRAISE", NULL};
 
 /* The word behind the parenthesis or brace that closes the one at i. */
 static size_t behind_closing(size_t i) {
@@ -82,22 +83,29 @@ static size_t first_routine(void) {
     return i;
 }
 
-/* The type of the data name at i by its declaration: it stands before the name, in its routine or else in the module. A FOR variable is known up to its ENDFOR. */
-static enum type declared(size_t i) {
+/* Whether the name declared behind the type at k is data, and is known at i: its semicolon is passed. A parameter has none, and is known in all of its routine. */
+static int declares(size_t k, int semicolon_passed) {
+    int of_data = is(before(k), "VAR") || is(before(k), "CONST");
+    return of_data ? semicolon_passed : !is(before(k), "FUNC");
+}
+
+/* What the data name at i is declared by: the word before its declaration, num, bool or FOR, in its routine or else in the module. A FOR variable is known up to its ENDFOR. NO_WORD of a
+ * routine's name, and of those that nobody declares. */
+static size_t declaration(size_t i) {
     size_t loops_behind = 0;
+    int semicolon_passed = 0;
     for (size_t k = before(i); k < count; k = before(k)) {
+        semicolon_passed |= is(k, ";");
         if (is(k, "PROC") || is(k, "FUNC"))
             k = first_routine();
         else if (is(k, "ENDFOR"))
             loops_behind++;
         else if (is(k, "FOR") && loops_behind > 0)
             loops_behind--;
-        else if (is(k, "FOR") && same_name(i, k + 1))
-            return NUM;
-        else if ((is(k, "num") || is(k, "bool")) && same_name(i, k + 1))
-            return is(k, "num") ? NUM : BOOL;
+        else if (same_name(i, k + 1) && (is(k, "FOR") || ((is(k, "num") || is(k, "bool")) && declares(k, semicolon_passed))))
+            return k;
     }
-    return NUM; /* ERRNO and the ERR_ names, which nobody declares */
+    return NO_WORD;
 }
 
 static enum type operand_type(size_t i) {
@@ -105,7 +113,9 @@ static enum type operand_type(size_t i) {
         return NUM;
     if (one_of(i, truths))
         return BOOL;
-    return has_kind(i, RAPID_NAME) ? declared(i) : UNKNOWN;
+    if (!has_kind(i, RAPID_NAME))
+        return UNKNOWN;
+    return is(declaration(i), "bool") ? BOOL : NUM; /* ERRNO and the ERR_ names, which nobody declares, are num */
 }
 
 /* ---- 13: what takes another type; NULL where that is not said */
@@ -163,6 +173,41 @@ static const char *wrong_type(size_t i, char *sentence, size_t room) {
     return by_what_is_before(i, sentence, room);
 }
 
+/* ---- 12: what a name is, and is taken for */
+static int in_constant_expression(size_t i) {
+    static const char *const holders[] = {"VAR", "CONST", "CASE", NULL}, *const ends[] = {";", ":", "THEN", "DO", "ELSE", "ERROR", NULL};
+    for (i = before(i); i < count && !one_of(i, ends); i = before(i))
+        if (one_of(i, holders))
+            return 1;
+    return 0;
+}
+
+static int is_target(size_t i) { return is(before(i), "TPReadNum") || is(behind_operand(i), ":="); }
+
+/* A statement also begins behind a compact IF's condition, which ends with an operand; but behind a name that begins one, there is its first argument. */
+static int begins_statement(size_t i) {
+    static const char *const ends[] = {";", ":", "THEN", "DO", "ELSE", "ERROR", ")", "}", "TRUE", "FALSE", NULL};
+    size_t p = before(i);
+    return one_of(p, ends) || has_kind(p, RAPID_NUMBER) || (has_kind(p, RAPID_NAME) && !begins_statement(p));
+}
+
+static const char *wrong_kind(size_t i) {
+    size_t d = declaration(i);
+    int has_index = is(i + 1, "{"), is_data = d < count || one_of(i, protected_names) != NULL;
+    int as_proc = begins_statement(i) && !is_target(i), as_func = is(i + 1, "(") && is(before(i), ":=");
+    if (as_proc || as_func)
+        return is_data ? "data for a routine" : as_func ? "PROC for FUNC" : "FUNC for PROC";
+    if (!is_data)
+        return "routine for data";
+    if (in_constant_expression(i))
+        return "variable in a constant expression";
+    if (is(d + 2, "{"))
+        return "array without index";
+    if (has_index)
+        return "index on a scalar";
+    return is_target(i) ? "barred target: ERRNO, constants and FOR variables cannot be targets" : NULL;
+}
+
 /* ---- the other rules */
 static const char *malformed(uint8_t first) {
     if (first == '"')
@@ -189,12 +234,13 @@ static size_t index_of(size_t offset) {
 
 /* A narrower sentence, or NULL. */
 static const char *narrower(uint64_t refusal, size_t i, char *sentence, size_t room) {
-    static const char *const protected_names[] = {"ERRNO", "ERR_OVERFLOW", "ERR_DIVZERO", "ERR_OUTOFBND", "ERR_ILLRAISE", NULL};
     switch (refusal) {
     case RAPID_DECLARED_TWICE:
         return one_of(i, protected_names) ? "protected name" : "name declared twice";
     case RAPID_NESTED_TOO_DEEP:
         return is(i, "(") || is(i, "{") ? "nesting 17: parentheses and braces in an expression nest to 16" : "nesting 17: compound statements nest to 16";
+    case RAPID_WRONG_KIND:
+        return wrong_kind(i);
     case RAPID_WRONG_TYPE:
         return wrong_type(i, sentence, room);
     case RAPID_BARRED_HERE:
@@ -215,7 +261,7 @@ const char *rapid_reason(const uint8_t *lent, size_t text_length, uint64_t refus
         said = malformed(text[offset]);
     if (refusal == RAPID_WORD_OUT_OF_PLACE && offset == text_length)
         said = "the text ends where a well-formed module goes on";
-    int of_type = said != NULL && refusal == RAPID_WRONG_TYPE;
-    snprintf(sentence, room, "%s%s", of_type ? "wrong type: " : "", said ? said : rapid_refusal_sentence(refusal));
+    const char *rule = said == NULL ? "" : refusal == RAPID_WRONG_TYPE ? "wrong type: " : refusal == RAPID_WRONG_KIND ? "name of wrong kind: " : "";
+    snprintf(sentence, room, "%s%s", rule, said ? said : rapid_refusal_sentence(refusal));
     return sentence;
 }

@@ -1,6 +1,6 @@
 MODULE factorials
 ! Teaches: a routine may call itself; each call has words of its own. A num goes up to 8,388,608, and what is larger raises ERR_OVERFLOW (1001).
-! What students get wrong: they forget the call that ends it (ending 6: a call beyond the depth).
+! What students get wrong: they forget the way out, and the routine calls itself until a call goes beyond the depth (ending 6).
 VAR num n;
 PROC main()
 VAR num f;

@@ -1,6 +1,6 @@
 MODULE slots
 ! Teaches: arrays count from 1, and an index outside raises ERR_OUTOFBND (1003).
-! What students get wrong: they start at 0.
+! What students get wrong: they start at 0, as in C, or count one slot too many: a tray of 4 has the slots 1 to 4.
 CONST num size := 4;
 VAR num slot{size};
 VAR num filled;
