@@ -203,7 +203,7 @@ fn enter<'a>(
     cells::put(values, base + WAITS, i as u32);
     cells::put(values, base + AFTER, after as u32);
     let h = value(code, callee);
-    start_words(code, values, link(code, h), n);
+    start_words(&*code, values, link(code, h), n);
     cells::put(values, base + WINDOW + ROUTINE, h as u32);
     cells::put(values, base + WINDOW + FAILED, 0);
     cells::put(values, base + WINDOW + RESULT, result as u32);
@@ -216,13 +216,22 @@ pub fn call_of<'a>(code: &'a [u8], values: &'a mut [u8], base: usize, last: usiz
     ensures { λ r. ⌜ Calls (now (code .entry)) (now (values .entry)) (now (values .exit)) base last i r ⌝ }
 {
     let room = base < last;
-    let r = arguments(code, values, base, room, i + 1, link(code, i));
+    let r = arguments(&*code, values, base, room, i + 1, link(code, i));
     if FIRST_ERROR <= r {
         return r;
     }
     if room {
         let k = r as usize;
-        return enter(code, values, base, i, i, 0, link(code, k % HALF), k / HALF);
+        return enter(
+            &*code,
+            values,
+            base,
+            i,
+            i,
+            0,
+            link(code, k % HALF),
+            k / HALF,
+        );
     }
     (LACKS + i) as i64
 }
@@ -242,13 +251,13 @@ fn call_to<'a>(
 {
     let room = base < last;
     let callee = next + 1;
-    let r = arguments(code, values, base, room, callee + 2, link(code, callee));
+    let r = arguments(&*code, values, base, room, callee + 2, link(code, callee));
     if FIRST_ERROR <= r {
         return r;
     }
     if room {
         return enter(
-            code,
+            &*code,
             values,
             base,
             i,
@@ -273,7 +282,7 @@ pub fn call_for<'a>(
     requires { ⌜ Here (now code) (now values) base i × Deepest last × WordAt (wordsOf (now code)) base aCallTarget i cell ⌝ }
     ensures { λ r. ⌜ Calls (now (code .entry)) (now (values .entry)) (now (values .exit)) base last i r ⌝ }
 {
-    call_to(code, values, base, last, i, i + 1, cell)
+    call_to(&*code, values, base, last, i, i + 1, cell)
 }
 
 // A call for a result that goes to an element of the array whose first cell is given.
@@ -292,7 +301,7 @@ pub fn call_for_element<'a>(
     let end = link(code, i + 1);
     let k = element(&*code, &*values, base, first, size, i, end);
     if k < FIRST_ERROR {
-        return call_to(code, values, base, last, i, end + 1, k as usize);
+        return call_to(&*code, values, base, last, i, end + 1, k as usize);
     }
     k
 }

@@ -48,7 +48,7 @@ pub fn test_if<'a>(code: &'a [u8], values: &'a [u8], base: usize, i: usize, t: u
     requires { ⌜ Here (now code) (now values) base i × Says (now code) i 147 t ⌝ }
     ensures { λ r. ⌜ Performs (now (code .entry)) (now (values .entry)) (now (values .entry)) base i r ⌝ }
 {
-    let v = worth(code, values, base, i + 1, t);
+    let v = worth(&*code, &*values, base, i + 1, t);
     if FIRST_ERROR <= v {
         return v;
     }
@@ -66,7 +66,7 @@ pub fn choose<'a>(code: &'a [u8], values: &'a [u8], base: usize, i: usize, w: us
     let mut j = i;
     let mut t = w;
     loop {
-        let v = worth(code, values, base, j + 1, t);
+        let v = worth(&*code, &*values, base, j + 1, t);
         if FIRST_ERROR <= v {
             return v;
         }
@@ -89,7 +89,7 @@ pub fn test_while<'a>(code: &'a [u8], values: &'a [u8], base: usize, i: usize, t
     requires { ⌜ Here (now code) (now values) base i × Says (now code) i 149 t ⌝ }
     ensures { λ r. ⌜ Performs (now (code .entry)) (now (values .entry)) (now (values .entry)) base i r ⌝ }
 {
-    let v = worth(code, values, base, i + 1, t);
+    let v = worth(&*code, &*values, base, i + 1, t);
     if FIRST_ERROR <= v {
         return v;
     }
@@ -132,7 +132,7 @@ fn step_of<'a>(code: &'a [u8], values: &'a [u8], base: usize, s: usize) -> i64
     ensures { λ r. ⌜ StepGiven (now (code .entry)) (now (values .entry)) base s r ⌝ }
 {
     if head(code, s) % OPS == STEP {
-        return worth(code, values, base, s + 1, link(code, s));
+        return worth(&*code, &*values, base, s + 1, link(code, s));
     }
     1
 }
@@ -203,7 +203,7 @@ pub fn select<'a>(code: &'a [u8], values: &'a [u8], base: usize, i: usize, t: us
     requires { ⌜ Here (now code) (now values) base i × Says (now code) i 152 t ⌝ }
     ensures { λ r. ⌜ Performs (now (code .entry)) (now (values .entry)) (now (values .entry)) base i r ⌝ }
 {
-    let v = worth(code, values, base, i + 1, t);
+    let v = worth(&*code, &*values, base, i + 1, t);
     if FIRST_ERROR <= v {
         return v;
     }
@@ -217,7 +217,7 @@ pub fn raise<'a>(code: &'a [u8], values: &'a [u8], base: usize, i: usize, t: usi
     requires { ⌜ Here (now code) (now values) base i × Says (now code) i 139 t ⌝ }
     ensures { λ r. ⌜ Performs (now (code .entry)) (now (values .entry)) (now (values .entry)) base i r ⌝ }
 {
-    let v = worth(code, values, base, i + 1, t);
+    let v = worth(&*code, &*values, base, i + 1, t);
     if FIRST_ERROR <= v {
         return v;
     }

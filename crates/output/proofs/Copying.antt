@@ -1,4 +1,4 @@
--- The characters of a string, copied one by one.
+-- The characters of a string, copied one by one; and as they stand, where no quote is among them.
 use mathlib.Core.Path.{_≡_, refl, sym, ap, ap₂, _∙_}
 use mathlib.Core.Bool.{true, false}
 use mathlib.Core.List.{List, [], _∷_, _++_}
@@ -6,14 +6,14 @@ use Prim.Native.Nat.{ℕ, zero, suc, _+_, _-_, _*_, _≤_, _<_}
 use native.Mathlib.Omega.{arith}
 use native.Mathlib.Numerals.{add-one}
 use lib.Dec.{eqb}
-use lib.ListN.{length, getD, take, drop, set, length-set, drop-of-length-le}
+use lib.ListN.{length, getD, take, drop, set, length-set, length-take, drop-of-length-le}
 use lib.Seq.{take-suc, drop-cons, take-all, take-nil, drop-nil, drop-drop, set-at, append-snoc, length-take-le}
 use borrow.Author.Tests.{eq-eqb, ne-eqb}
 use Rattle.laws.proofs.Tests.{test, by-less, apart}
 use Rattle.paper.specs.Basics.{if_then_else_}
 use Rattle.paper.specs.Words.{QUOTE}
 use Rattle.paper.specs.Steps.{unquoted}
-use Rattle.output.specs.Output.{Copies, Copied}
+use Rattle.output.specs.Output.{Copies, Copied, Spelled}
 
 -- ---- characters
 abbrev pub widthOf : ℕ → ℕ
@@ -126,3 +126,68 @@ copy-end text before out count k p s h = record {
       let q : k ≡ count = omega (arith, s .within) in
       s .left m e .written ∙ ap₂ (λ (x : List ℕ) (j : ℕ). x ++ drop j before) (take-all k (unquoted (take m text)) (omega arith)) q;
 }
+
+-- ---- no quote
+shorter : (l : List ℕ) → length (unquoted l) ≤ length l
+unfolding unquoted
+shorter [] = omega arith
+shorter (b ∷ []) = omega arith
+shorter (b ∷ c ∷ r) = test (eqb b 34) (λ e. rw (e, length) (omega (arith, shorter r))) (λ e. rw (e, length) (omega (arith, shorter (c ∷ r))))
+
+-- as many characters as bytes: they are the bytes
+as-it-stands : (l : List ℕ) → length l ≤ length (unquoted l) → unquoted l ≡ l
+unfolding unquoted
+as-it-stands [] h = refl
+as-it-stands (b ∷ []) h = refl
+as-it-stands (b ∷ c ∷ r) h =
+    two-first b c r
+    ∙ test (eqb b 34)
+    (λ e. absurd (omega (arith, shorter r, (rw (e, length) at h))))
+    (λ e. rw e (ap (λ (l : List ℕ). b ∷ l) (as-it-stands (c ∷ r) (omega (arith, (rw (e, length) at h))))))
+
+module _ (text out : List ℕ) (count bytes : ℕ) (s : Spelled text out count bytes) where
+  pub quoted-copies : Copies text out count
+  quoted-copies = record { bytes = bytes - 2; many = s .many; room = s .room }
+
+  pub quoted-done : (after : List ℕ) → Copied text out after count → after ≡ unquoted (take (bytes - 2) text) ++ drop count out
+  quoted-done after c = c .is (bytes - 2) (s .many)
+
+  module _ (q : bytes ≡ count + 2) where
+    same-bytes : bytes - 2 ≡ count
+    same-bytes = omega arith
+
+    plain : length (unquoted (take count text)) ≡ count
+    plain = ap (λ (k : ℕ). length (unquoted (take k text))) (sym same-bytes) ∙ s .many
+
+    pub plain-in : count ≤ length text
+    plain-in = omega (arith, shorter (take count text), plain, length-take count text)
+
+    pub plain-done : (after : List ℕ) → after ≡ take count text ++ drop count out → after ≡ unquoted (take (bytes - 2) text) ++ drop count out
+    plain-done after e =
+        e
+        ∙ ap (λ (x : List ℕ). x ++ drop count out)
+        (sym (as-it-stands (take count text) (omega (arith, plain, length-take count text))) ∙ ap (λ (k : ℕ). unquoted (take k text)) (sym same-bytes))
+
+-- what the loop keeps
+pub record Plainly (text before out : List ℕ) (count k : ℕ) : Type 0 where
+  pub within : k ≤ count
+  pub long : length out ≡ length before
+  pub is : out ≡ take k text ++ drop k before
+
+pub plainly-start : (text out : List ℕ) (count : ℕ) → Plainly text out out count 0
+plainly-start text out count = record { within = omega arith; long = refl; is = refl }
+
+pub plainly-step : (text before out : List ℕ) (count k : ℕ) → Plainly text before out count k → k < count → count ≤ length text → count ≤ length before
+    → Plainly text before (set out k (getD text k 0)) count (k + 1)
+plainly-step text before out count k s h g f = record {
+  within = omega arith;
+  long = length-set out k (getD text k 0) ∙ s .long;
+  is =
+      ap (λ (x : List ℕ). set x k (getD text k 0)) (s .is ∙ ap (λ (x : List ℕ). take k text ++ x) (drop-cons before k 0 (omega arith)))
+      ∙ set-at (take k text) (getD before k 0) (drop (suc k) before) (getD text k 0) k (length-take-le k text (omega arith))
+      ∙ sym (append-snoc (take k text) (getD text k 0) (drop (suc k) before))
+      ∙ rw add-one (ap (λ (x : List ℕ). x ++ drop (suc k) before) (sym (take-suc text k 0 (omega arith))));
+}
+
+pub plainly-end : (text before out : List ℕ) (count k : ℕ) → Plainly text before out count k → count ≤ k → out ≡ take count text ++ drop count before
+plainly-end text before out count k s h = let q : k ≡ count = omega (arith, s .within) in s .is ∙ ap (λ (j : ℕ). take j text ++ drop j before) q

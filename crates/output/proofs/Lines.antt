@@ -1,6 +1,5 @@
 -- Lines: the bytes of one, and what is written then.
 use mathlib.Core.Path.{_≡_, refl, sym, ap, ap₂, _∙_}
-use mathlib.Core.Bool.{true}
 use mathlib.Core.List.{List, [], _∷_, _++_, append-nil}
 use Prim.Native.Nat.{ℕ, _+_, _-_, _*_, _/_, _%_, _≤_, _<_}
 use native.Mathlib.Nat.{add-zero}
@@ -12,7 +11,6 @@ use lib.IntN.{ℤ}
 use mir.Syntax.{w64}
 use mir.Val.{SFits}
 use mir.Facts.{toZ-ofZ}
-use borrow.Author.Tests.{le-leb}
 use borrow.Rule.Slice.PartMut.{midOf, putMid}
 use Rattle.laws.specs.Lists.{replaced}
 use Rattle.laws.proofs.Lists.{part-rest, replaced-length, replaced-on}
@@ -24,13 +22,11 @@ use Rattle.cells.specs.Words.{wordsOf, Put}
 use Rattle.cells.proofs.Laws.{length-words}
 use Rattle.cells.proofs.Kept.{put-length}
 use Rattle.numbers.proofs.Whole.{read}
-use Rattle.decimals.specs.declared.Put as decimals
-use Rattle.decimals.specs.Placed.{fit, placed, PutsNumber}
 use Rattle.decimals.proofs.Parts.{put-front}
 use Rattle.code.specs.Cells.{valueAt, placeAt}
 use Rattle.reading.specs.Reading.{cellValues}
 use Rattle.evaluation.proofs.Places.{value-in}
-use Rattle.output.specs.Output.{countIn, withCount, Counted, Copies, Copied, charactersAt, Placed, lineAt, lineOf, HasRoom, Added}
+use Rattle.output.specs.Output.{countIn, withCount, Counted, Spelled, charactersAt, Placed, lineAt, lineOf, HasRoom, Added}
 
 pub counted : (before mid after : List ℕ) (n : ℕ) → 5048 ≤ length before → Put before mid 1260 (n % cellValues) → Put mid after 1261 (n / cellValues) → Counted before after n
 counted before mid after n h p q =
@@ -80,17 +76,34 @@ module _ (text C : List ℕ) (i n : ℕ) (en : n ≡ valueAt C i / 256) (many : 
       count : n ≡ length (charactersAt text C i)
       count = en ∙ many
 
-      pub string-copies : Copies (midOf (p + 1) (length text - (p + 1)) text) (midOf at (length out - at) out) n
-      string-copies = record { bytes = valueAt C i % 256 - 2; many = many-in; room = rw (part-rest out at, length-drop) (omega (arith, count)) }
+      pub string-spelled : (v : ℕ) → v ≡ valueAt C i → Spelled (midOf (p + 1) (length text - (p + 1)) text) (midOf at (length out - at) out) n (v % 256)
+      string-spelled v ev = record { many = rw ev many-in; room = rw (part-rest out at, length-drop) (omega (arith, count)); few = omega arith }
 
-      pub string-done : (ys : List ℕ) → Copied (midOf (p + 1) (length text - (p + 1)) text) (midOf at (length out - at) out) ys n
+      pub string-done : (v : ℕ) → v ≡ valueAt C i → (ys : List ℕ)
+          → ys ≡ unquoted (take (v % 256 - 2) (midOf (p + 1) (length text - (p + 1)) text)) ++ drop n (midOf at (length out - at) out)
           → Placed out (putMid at (length out - at) out ys) at (charactersAt text C i) (at + n)
-      string-done ys c = record {
-        bytes = ap (putMid at (length out - at) out) (c .is (valueAt C i % 256 - 2) many-in ∙ ap (λ (s : List ℕ). s ++ drop n (midOf at (length out - at) out)) characters-in)
+      string-done v ev ys c = record {
+        bytes = ap (putMid at (length out - at) out) (c ∙ ap (λ (x : ℕ). unquoted (take (x % 256 - 2) (midOf (p + 1) (length text - (p + 1)) text)) ++ drop n (midOf at (length out - at) out)) ev ∙ ap (λ (s : List ℕ). s ++ drop n (midOf at (length out - at) out)) characters-in)
             ∙ put-front out (charactersAt text C i) at n (omega arith)
             ∙ ap (replaced out at (charactersAt text C i)) count;
         place = omega (arith, count);
       }
+
+-- ---- a number
+module _ (out : List ℕ) (at n : ℕ) (z : ℤ) (s : SFits w64 z) (e : n ≡ length (decimal z)) (h : at + n ≤ length out) where
+  pub number-room : n ≤ length (midOf at (length out - at) out)
+  number-room = rw (part-rest out at, length-drop) (omega arith)
+
+  pub number-takes : (n ≡ length (decimal (read z))) × (n ≤ length (midOf at (length out - at) out))
+  number-takes = (e ∙ ap (λ (y : ℤ). length (decimal y)) (sym (toZ-ofZ s)), number-room)
+
+  pub number-put : (ys : List ℕ) → ys ≡ decimal (read z) ++ drop n (midOf at (length out - at) out) → Placed out (putMid at (length out - at) out ys) at (decimal z) (at + n)
+  number-put ys q = record {
+    bytes = ap (putMid at (length out - at) out) (q ∙ ap (λ (y : ℤ). decimal y ++ drop n (midOf at (length out - at) out)) (toZ-ofZ s))
+        ∙ put-front out (decimal z) at n (omega arith)
+        ∙ ap (replaced out at (decimal z)) e;
+    place = ap (λ (k : ℕ). at + k) e;
+  }
 
 -- ---- a line
 set-is : (l : List ℕ) (j b : ℕ) → j < length l → set l j b ≡ replaced l j (b ∷ []) 1
@@ -150,15 +163,19 @@ module _ (text C values out : List ℕ) (i : ℕ) (z : ℤ) (s : SFits w64 z) (f
     pub of-fits-first : length out < 18446744073709551616 → e + n < 18446744073709551616
     of-fits-first h = omega (arith, of-fits h)
 
-    module _ (out2 : List ℕ) (r : decimals.Put) (q : PutsNumber out1 out2 e (read z) r) where
+    pub of-number : e + n ≤ length out1
+    of-number = omega (arith, of1-length, f .room, of-length, p .place, n-is)
+
+    pub of-takes : (n ≡ length (decimal (read z))) × (e + n ≤ length out1)
+    of-takes = (n-is ∙ ap (λ (y : ℤ). length (decimal y)) (sym (toZ-ofZ s)), of-number)
+
+    module _ (out2 : List ℕ) (q : Placed out1 out2 e (decimal (read z)) (e + n)) where
       number-placed : out2 ≡ replaced out w (charactersAt text C i ++ decimal z) (length (charactersAt text C i ++ decimal z))
-      unfolding placed
       number-placed =
           let c = charactersAt text C i in
           let d = decimal z in
-          let t : fit out1 e d ≡ true = le-leb (e + length d) (length out1) (omega (arith, of1-length, f .room, of-length, p .place)) in
-          let b : out2 ≡ placed out1 e d = (rw (toZ-ofZ s) at q) .bytes in
-          b ∙ rw (t, placed) refl
+          q .bytes
+          ∙ ap (λ (y : ℤ). replaced out1 e (decimal y) (length (decimal y))) (toZ-ofZ s)
           ∙ ap₂ (λ (x : List ℕ) (j : ℕ). replaced x j d (length d)) (p .bytes) (p .place)
           ∙ replaced-on out c w (length c) refl (omega (arith, of-string w ew)) d (length d)
           ∙ ap (replaced out w (c ++ d)) (sym (length-append c d))

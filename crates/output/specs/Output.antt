@@ -39,6 +39,12 @@ pub record Copies (text out : List ℕ) (count : ℕ) : Type 0 where
 pub record Copied (text out out′ : List ℕ) (count : ℕ) : Type 0 where
   pub is : (bytes : ℕ) → length (unquoted (take bytes text)) ≡ count → out′ ≡ unquoted (take bytes text) ++ drop count out
 
+-- They are the characters of a string that takes so many bytes with the quotes around it.
+pub record Spelled (text out : List ℕ) (count bytes : ℕ) : Type 0 where
+  pub many : length (unquoted (take (bytes - 2) text)) ≡ count
+  pub room : count ≤ length out
+  pub few : bytes < 256
+
 -- what the string at a word says, whose value has its bytes, quotes included, and above them its characters
 unfoldable pub charactersAt : (text C : List ℕ) → (i : ℕ) → List ℕ
 charactersAt text C i = unquoted (take (valueAt C i % 256 - 2) (drop (placeAt C i + 1) text))

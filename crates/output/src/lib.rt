@@ -1,16 +1,19 @@
 // Output: strings, lines, and what is written so far.
 ghost use mathlib.Core.Path.{_≡_};
+ghost use mathlib.Core.List.{_++_};
 ghost use mathlib.Core.Bool.{true, false};
-ghost use Prim.Native.Nat.{_+_, _*_, _/_, _%_, _<_, _≤_};
+ghost use Prim.Native.Nat.{_+_, _-_, _*_, _/_, _%_, _<_, _≤_};
 ghost use lib.Dec.{eqb};
-ghost use lib.ListN.{length};
+ghost use lib.ListN.{length, take, drop};
 ghost use Rattle.paper.specs.Basics.{if_then_else_};
+ghost use Rattle.paper.specs.Numbers.{decimal};
 ghost use Rattle.paper.specs.Words.{QUOTE};
+ghost use Rattle.paper.specs.Steps.{unquoted};
 ghost use Rattle.cells.specs.Words.{wordsOf};
 ghost use Rattle.code.specs.Cells.{valueAt};
 ghost use Rattle.machine.specs.Machine.{Says};
 ghost use Rattle.decimals.specs.Placed as decimals;
-ghost use Rattle.output.specs.Output.{countIn, Counted, Copies, Copied, charactersAt, Spells, Placed, lineAt, lineOf, HasRoom, Added, Prints, Writes, Wrote, WroteOf, Takes, Took, Reads, WasRead};
+ghost use Rattle.output.specs.Output.{countIn, Counted, Copies, Copied, Spelled, charactersAt, Spells, Placed, lineAt, lineOf, HasRoom, Added, Prints, Writes, Wrote, WroteOf, Takes, Took, Reads, WasRead};
 use machine::worth;
 use reading::link;
 use reading::load;
@@ -69,8 +72,20 @@ fn width(b: u8) -> usize
     1
 }
 
+// So many bytes of a text to the front of what is lent.
+fn copy_plain<'a>(text: &'a [u8], out: &'a mut [u8], count: usize)
+    requires { ⌜ (count ≤ length (now text)) × (count ≤ length (now out)) ⌝ }
+    ensures { λ _. ⌜ now (out .exit) ≡ take count (now (text .entry)) ++ drop count (now (out .entry)) ⌝ }
+{
+    let mut k = 0;
+    while k < count {
+        out[k] = text[k];
+        k += 1;
+    }
+}
+
 // So many characters of a text to the front of what is lent.
-fn copy<'a>(text: &'a [u8], out: &'a mut [u8], count: usize)
+fn copy_quoted<'a>(text: &'a [u8], out: &'a mut [u8], count: usize)
     requires { ⌜ Copies (now text) (now out) count ⌝ }
     ensures { λ _. ⌜ Copied (now (text .entry)) (now (out .entry)) (now (out .exit)) count ⌝ }
 {
@@ -81,6 +96,19 @@ fn copy<'a>(text: &'a [u8], out: &'a mut [u8], count: usize)
         out[k] = b;
         p += width(b);
         k += 1;
+    }
+}
+
+// A string of so many characters, which takes so many bytes with the quotes around it: one with no quote inside is copied as it stands, since there a byte
+// need not wait for the one before it to be known.
+fn copy<'a>(text: &'a [u8], out: &'a mut [u8], count: usize, bytes: usize)
+    requires { ⌜ Spelled (now text) (now out) count bytes ⌝ }
+    ensures { λ _. ⌜ now (out .exit) ≡ unquoted (take (bytes - 2) (now (text .entry))) ++ drop count (now (out .entry)) ⌝ }
+{
+    if bytes == count + 2 {
+        copy_plain(text, out, count);
+    } else {
+        copy_quoted(text, out, count);
     }
 }
 
@@ -105,8 +133,17 @@ fn string<'a>(text: &'a [u8], code: &'a [u8], out: &'a mut [u8], at: usize, i: u
         return at;
     }
     let p = place(code, i) + 1;
-    copy(&text[p..], &mut out[at..], n);
+    let bytes = value(code, i) % BYTES;
+    copy(&text[p..], &mut out[at..], n, bytes);
     at + n
+}
+
+// A number, which takes n bytes.
+fn number(out: &mut [u8], at: usize, z: i64, n: usize)
+    requires { ⌜ decimals.Takes z n × (at + n ≤ length (now out)) ⌝ }
+    ensures { λ _. ⌜ Placed (now (out .entry)) (now (out .exit)) at (decimal z) (at + n) ⌝ }
+{
+    decimals::write_number(&mut out[at..], z, n);
 }
 
 // ---- lines
@@ -135,7 +172,7 @@ fn add_of<'a>(
     ensures { λ _. ⌜ Added (now (values .entry)) (now (values .exit)) (now (out .entry)) (now (out .exit)) (lineOf (now (text .entry)) (wordsOf (now (code .entry))) i v) ⌝ }
 {
     let e = string(text, code, out, written(values), i);
-    decimals::put_number(out, e, v);
+    number(out, e, v, n);
     out[e + n] = b'\n';
     set_written(values, e + n + 1);
 }

@@ -100,7 +100,7 @@ pub fn store<'a>(code: &'a [u8], values: &'a mut [u8], base: usize, i: usize, ce
     requires { ⌜ Here (now code) (now values) base i × WordAt (wordsOf (now code)) base aTarget i cell ⌝ }
     ensures { λ r. ⌜ Performs (now (code .entry)) (now (values .entry)) (now (values .exit)) base i r ⌝ }
 {
-    assign(code, values, base, i, i + 1, cell)
+    assign(&*code, values, base, i, i + 1, cell)
 }
 
 // A store to an element of the array whose first cell is given.
@@ -118,7 +118,7 @@ pub fn store_element<'a>(
     let end = link(code, i + 1);
     let k = element(&*code, &*values, base, first, size, i, end);
     if k < FIRST_ERROR {
-        return assign(code, values, base, i, end + 1, k as usize);
+        return assign(&*code, values, base, i, end + 1, k as usize);
     }
     k
 }

@@ -1,6 +1,6 @@
 use mathlib.Core.Path.{_∙_}
 use lib.ListN.{length-set}
-use Rattle.output.proofs.Lines.{of-string, of-fits, of-fits-first, of-room, of-done}
+use Rattle.output.proofs.Lines.{of-string, of-fits, of-fits-first, of-number, of-takes, of-room, of-done}
 use borrow.Author.Needs.{needs}
 use Rattle.output.proofs.add_of.Statement.{statement}
 use Rattle.output.proofs.add_of.Tie as tie
@@ -11,14 +11,14 @@ written-requires c κs = search needs
 string-requires : tie.Need-string-requires
 string-requires c κs = search (needs, of-string)
 
-put-number-requires : tie.Need-put-number-requires
-put-number-requires c κs = search needs
+number-requires : tie.Need-number-requires
+number-requires c κs = search (needs, of-number, of-takes)
 
 add-out : tie.Need-add-out
 add-out c = search (needs, of-fits-first)
 
 slice-write-out : tie.Need-slice-write-out
-slice-write-out c = let s = c .before .before .before .before .before .before .before .before .before .before .before .before .before .before in of-room _ _ _ _ _ _ (s .fits .v) (s .pre .1) _ (c .before .before .before .before .before .before .before .written .ensures) _ _ (c .before .before .before .before .before .before .string .ensures) _ (s .pre .2) _ _ (c .before .before .put-number .ensures)
+slice-write-out c = let s = c .before .before .before .before .before .before .before .before .before .before .before .before .before .before in of-room _ _ _ _ _ _ (s .fits .v) (s .pre .1) _ (c .before .before .before .before .before .before .before .written .ensures) _ _ (c .before .before .before .before .before .before .string .ensures) _ (s .pre .2) _ (c .before .before .number .ensures)
 
 add-set-written : tie.Need-add-set-written
 add-set-written c = search (needs, of-fits-first)
@@ -33,10 +33,10 @@ same-length : tie.Need-same-length
 same-length c = search needs
 
 same-length-2 : tie.Need-same-length-2
-same-length-2 c = simp length-set (c .before .before .before .before .before .before .put-number .kept .0 ∙ c .before .before .before .before .before .before .before .before .before .before .string .kept .1 .1 .0)
+same-length-2 c = simp length-set (c .before .before .before .before .before .before .number .kept .0 ∙ c .before .before .before .before .before .before .before .before .before .before .string .kept .1 .1 .0)
 
 returns : tie.Need-returns
-returns c = let s = c .before .before .before .before .before .before .before .before .before .before .before .before .before .before .before .before .before .before in of-done _ _ _ _ _ _ (s .fits .v) (s .pre .1) _ (c .before .before .before .before .before .before .before .before .before .before .before .written .ensures) _ _ (c .before .before .before .before .before .before .before .before .before .before .string .ensures) _ (s .pre .2) _ _ (c .before .before .before .before .before .before .put-number .ensures) _ (c .before .before .set-written .ensures)
+returns c = let s = c .before .before .before .before .before .before .before .before .before .before .before .before .before .before .before .before .before .before in of-done _ _ _ _ _ _ (s .fits .v) (s .pre .1) _ (c .before .before .before .before .before .before .before .before .before .before .before .written .ensures) _ _ (c .before .before .before .before .before .before .before .before .before .before .string .ensures) _ (s .pre .2) _ (c .before .before .before .before .before .before .number .ensures) _ (c .before .before .set-written .ensures)
 
 pub add-of-spec : {M : Type 1} → statement M
 add-of-spec =
@@ -44,7 +44,7 @@ add-of-spec =
     (tie.spec
     written-requires
     string-requires
-    put-number-requires
+    number-requires
     add-out
     slice-write-out
     add-set-written

@@ -1,60 +1,37 @@
-use Prim.Native.Nat.{_-_}
+use Rattle.output.proofs.Copying.{quoted-copies, quoted-done, plain-in, plain-done}
 use borrow.Author.Needs.{needs}
-use Rattle.output.proofs.Copying.{Copying, copy-start, copy-in, copy-fits, copy-step, copy-end}
 use Rattle.output.proofs.copy.Statement.{statement}
 use Rattle.output.proofs.copy.Tie as tie
 
-abbrev Inv-loop : tie.InvT-loop
-Inv-loop text out₀ count k₀ p₀ out k p = Copying text out₀ out count k p
+add-if1 : tie.Need-add-if1
+add-if1 c = search needs
 
-abbrev μ-loop : tie.MeasureT-loop
-μ-loop text out₀ count k₀ p₀ out k p = count - k
+copy-plain-requires : tie.Need-copy-plain-requires
+copy-plain-requires c κs = search (needs, plain-in)
 
-loop-holds : tie.Need-loop-holds Inv-loop μ-loop
-loop-holds c = copy-start _ _ _
+copy-quoted-requires : tie.Need-copy-quoted-requires
+copy-quoted-requires c κs = search needs
 
-shared-slice-read-b : tie.Need-shared-slice-read-b Inv-loop μ-loop
-shared-slice-read-b c = search (needs, copy-in)
+same-length : tie.Need-same-length
+same-length c = search needs
 
-slice-write-out : tie.Need-slice-write-out Inv-loop μ-loop
-slice-write-out c = search (needs, copy-in, copy-step, copy-end)
+returns : tie.Need-returns
+returns c = search (needs, plain-done)
 
-width-requires : tie.Need-width-requires Inv-loop μ-loop
-width-requires c κs = search needs
+same-length-2 : tie.Need-same-length-2
+same-length-2 c = search needs
 
-add-p : tie.Need-add-p Inv-loop μ-loop
-add-p c =
-    let s = c .before .before .before .before .before .before in
-    record { fits = copy-fits _ _ _ _ _ _ (c .before .before .before .loop .inv) (c .before .before .loop-test .taken) (s .pre) _ (c .width .ensures) (s .good .0 .1) }
-
-add-k : tie.Need-add-k Inv-loop μ-loop
-add-k c = search (needs, copy-in, copy-step, copy-end)
-
-loop-less : tie.Need-loop-less Inv-loop μ-loop
-loop-less c = search (needs, copy-in, copy-step, copy-end)
-
-loop-again : tie.Need-loop-again Inv-loop μ-loop
-loop-again c = search (needs, copy-in, copy-step, copy-end)
-
-same-length : tie.Need-same-length Inv-loop μ-loop
-same-length c = search (needs, copy-in, copy-step, copy-end)
-
-returns : tie.Need-returns Inv-loop μ-loop
-returns c = search (needs, copy-in, copy-step, copy-end)
+returns-2 : tie.Need-returns-2
+returns-2 c = search (needs, quoted-done)
 
 pub copy-spec : {M : Type 1} → statement M
 copy-spec =
     tie.close
     (tie.spec
-    Inv-loop
-    μ-loop
-    loop-holds
-    shared-slice-read-b
-    slice-write-out
-    width-requires
-    add-p
-    add-k
-    loop-less
-    loop-again
+    add-if1
+    copy-plain-requires
+    copy-quoted-requires
     same-length
-    returns)
+    returns
+    same-length-2
+    returns-2)

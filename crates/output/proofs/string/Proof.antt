@@ -1,4 +1,4 @@
-use Rattle.output.proofs.Lines.{string-none, string-there, string-in, string-copies, string-done}
+use Rattle.output.proofs.Lines.{string-none, string-there, string-in, string-spelled, string-done}
 use borrow.Author.Needs.{needs}
 use Rattle.output.proofs.string.Statement.{statement}
 use Rattle.output.proofs.string.Tie as tie
@@ -14,6 +14,9 @@ place-requires c κs = search (needs, string-there)
 
 add-p : tie.Need-add-p
 add-p c = search needs
+
+value-requires : tie.Need-value-requires
+value-requires c κs = search (needs, string-there)
 
 sub-copy : tie.Need-sub-copy
 sub-copy c = search (needs, string-in)
@@ -34,7 +37,7 @@ part-copy-end-2 : tie.Need-part-copy-end-2
 part-copy-end-2 c = search needs
 
 copy-requires : tie.Need-copy-requires
-copy-requires c κs = search (needs, string-copies)
+copy-requires c κs = search (needs, string-spelled)
 
 add-result : tie.Need-add-result
 add-result c = search needs
@@ -53,6 +56,7 @@ string-spec =
     returns
     place-requires
     add-p
+    value-requires
     sub-copy
     part-copy-start
     part-copy-end
