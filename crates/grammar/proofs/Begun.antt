@@ -644,3 +644,23 @@ module _ (W : ℕ → ℕ) where
       both-then W (λ U. routines U (ds .1)) _ [] (ENDMODULE ∷ NOTHING ∷ []) NOTHING (ds .1) (routines-both ENDMODULE (ds .1) refl) (λ rs _.
       expect-both W (NOTHING ∷ []) NOTHING (rs .1) _ ENDMODULE (
       expect-both W [] NOTHING (rs .1 + 1) _ NOTHING (done W NOTHING (rs .1 + 1 + 1) (record { declared = ds .0; routines = rs .0 })))))))
+
+-- ---- what `formed` keeps of it
+unfoldable pub kept : {A : Type 0} → Parsed (A × ℕ) → Parsed A
+kept (got x) = got (x .0)
+kept (no k j) = no k j
+
+kept-then : {A B : Type 0} (p : Parsed A) (f : A → Parsed (B × ℕ)) (g : A → Parsed B) → ((a : A) → g a ≡ kept (f a)) → (p >>= g) ≡ kept (p >>= f)
+unfolding _>>=_ kept
+kept-then (got a) f g h = h a
+kept-then (no k j) f g h = refl
+
+pub formed-kept : (U : ℕ → ℕ) → formed U ≡ kept (Formed U)
+unfolding formed kept
+formed-kept U =
+    kept-then (expect U MODULE 0) _ _ (λ n₁.
+    kept-then (expect U NAME n₁) _ _ (λ n₂.
+    kept-then (declarations U n₂) _ _ (λ ds.
+    kept-then (routines U (ds .1)) _ _ (λ rs.
+    kept-then (expect U ENDMODULE (rs .1)) _ _ (λ n₅.
+    kept-then (expect U NOTHING n₅) _ _ (λ n₆. refl))))))

@@ -1,23 +1,30 @@
--- The parser reads what the grammar derives, and nothing else.
-use mathlib.Core.Path.{_≡_, sym, ap, _∙_}
+-- The parser reads what the grammar derives, and nothing else; and it refuses the first word with which no module begins.
+use mathlib.Core.Path.{_≡_, refl, sym, ap, subst, _∙_}
 use mathlib.Core.Bool.{Bool, true, false}
+use mathlib.Core.List.{List, [], _∷_, _++_}
 use mathlib.Core.Logic.{_↔_, inl, inr}
-use Prim.Native.Nat.{ℕ, _<_, _≤_}
+use Prim.Native.Nat.{ℕ, suc, _+_, _-_, _<_, _≤_}
 use native.Mathlib.Omega.{arith}
+use lib.Dec.{ltb}
+use lib.ListN.{getD}
+use borrow.Author.Tests.{lt-ltb, le-ltb}
 use Rattle.laws.proofs.Tests.{by-less, false-true}
-use Rattle.paper.specs.Sorts.{NOTHING, ENDMODULE}
+use Rattle.paper.specs.Basics.{if_then_else_}
+use Rattle.paper.specs.Sorts.{NOTHING, NAME, NUM, VAR, MODULE, ENDMODULE, semicolon}
 use Rattle.paper.specs.Words.{wordLimit}
-use Rattle.paper.specs.Trees.{Expr, Module}
-use Rattle.paper.specs.Expressions.{Parsed, got, no, nestings, parts}
-use Rattle.paper.specs.Form.{formed}
+use Rattle.paper.specs.Trees.{Expr, variableData, Module}
+use Rattle.paper.specs.Expressions.{Parsed, got, no, _>>=_, nestings, parts, expect, expectType, isType, startsData, startsRoutine, repeated}
+use Rattle.paper.specs.Form.{varPart, datum, declaration, declarations, routines, formed}
 use Rattle.grammar.specs.Form.{StandsIn}
-use Rattle.grammar.specs.Grammar.{DisjunctionAt, Derives, Short, IsModule, HasForm}
+use Rattle.grammar.specs.Grammar.{DisjunctionAt, Derives, Short, IsModule, HasForm, Begins}
 use Rattle.grammar.proofs.Reading.{formed-stands}
 use Rattle.grammar.proofs.Steps.{Comes, exactly, too-deep, too-long}
 use Rattle.grammar.proofs.Levels.{disjunction-grows, derived-reads}
 use Rattle.grammar.proofs.Derived.{parses-derives}
 use Rattle.grammar.proofs.Completing.{stands-formed}
 use Rattle.grammar.proofs.Local.{refused-alike}
+use Rattle.grammar.proofs.Completions.{behind, Spells, yes-if, no-if, Reads, GoesBy, Completed}
+use Rattle.grammar.proofs.Begun.{Formed, kept, formed-kept, module-both}
 
 module _ (W : ℕ → ℕ) where
   derives-grows : (d at : ℕ) (e : Expr) (to : ℕ) → Derives W d at e to → at < to
@@ -106,3 +113,71 @@ refused W U i l e same m h = by (form-comes U (λ j. wordLimit < j) (h .stands .
     by (exactly k) = no-got 8 i m (sym (refused-alike W U i same e) ∙ k)
     by (too-deep j d k) = eight-nine (sym (refused-alike W U i same e) ∙ k)
     by (too-long j d k) = omega (arith, d, same-place (sym (refused-alike W U i same e) ∙ k))
+
+-- ---- and no word too early
+-- the words before i, and then these
+abbrev followed : (W : ℕ → ℕ) → (i : ℕ) → List ℕ → ℕ → ℕ
+followed W i k j = if ltb j i then W j else getD k (j - i) NOTHING
+
+followed-spells : (U : ℕ → ℕ) (at : ℕ) (k : List ℕ) → ((n : ℕ) → U (at + n) ≡ getD k n NOTHING) → Spells U at k NOTHING
+followed-spells U at [] h = let z : at ≡ at + 0 = omega arith in ap U z ∙ h 0
+followed-spells U at (w ∷ k) h =
+    let z : at ≡ at + 0 = omega arith in
+    (ap U z ∙ h 0, followed-spells U (at + 1) k (λ n. let y : at + 1 + n ≡ at + suc n = omega arith in ap U y ∙ h (suc n)))
+
+module _ (W : ℕ → ℕ) (i : ℕ) (l : i ≤ wordLimit) (e : formed W ≡ no 8 i) where
+  can-go-on : (h : List ℕ) (p : Parsed (Module × ℕ)) → kept p ≡ no 8 i → GoesBy W h NOTHING 0 p Formed → Completed W NOTHING i Formed
+  unfolding kept number place
+  can-go-on h (got x) z g = absurd (no-got 8 i (x .0) (sym z))
+  can-go-on h (no k j) z g =
+      let y : j ≡ i = ap place z in
+      subst (λ (n : ℕ). Completed W NOTHING n Formed) y (g (ap number z) .1 (omega arith) .done)
+
+  -- The parser reads some words that begin with these i.
+  goes-on : Begins (λ U m. formed U ≡ got m) W i
+  unfolding kept
+  goes-on = record { words = U; tree = r .value; same = before; is = formed-kept U ∙ ap kept (r .is) }
+    where
+      d : Completed W NOTHING i Formed
+      d = can-go-on (MODULE ∷ NAME ∷ ENDMODULE ∷ NOTHING ∷ []) (Formed W) (sym (formed-kept W) ∙ e) (module-both W .goes .steps)
+
+      U : ℕ → ℕ
+      U = followed W i (d .words)
+
+      before : (j : ℕ) → j < i → U j ≡ W j
+      before j m = yes-if (ltb j i) _ _ (lt-ltb j i m)
+
+      onward : (n : ℕ) → U (i + n) ≡ getD (d .words) n NOTHING
+      onward n = let z : i + n - i ≡ n = omega arith in no-if (ltb (i + n) i) _ _ (le-ltb (i + n) i (omega arith)) ∙ ap (λ (t : ℕ). getD (d .words) t NOTHING) z
+
+      r : Reads (Formed U) (behind i (d .words))
+      r = d .reads U before (followed-spells U i (d .words) onward)
+
+begins-as : {Is Also : (ℕ → ℕ) → Module → Type 0} {W : ℕ → ℕ} {n : ℕ} → ((U : ℕ → ℕ) (m : Module) → Is U m → Also U m) → (b : Begins Is W n) → (k : ℕ) → k ≤ n → Begins Also W k
+begins-as f b k l = record { words = b .words; tree = b .tree; same = λ j m. b .same j (omega arith); is = f (b .words) (b .tree) (b .is) }
+
+-- Where the parser says 8 of word i, some module begins with the i words before it, nesting at most 16 deep. (It may have more than 8,192 words.)
+pub begun : (W : ℕ → ℕ) (i : ℕ) → i ≤ wordLimit → formed W ≡ no 8 i → Begins IsModule W i
+begun W i l e = begins-as sound (goes-on W i l e) i (omega arith)
+
+-- "8: word that no well-formed module could have here": where the parser says so of word i, the first n words begin a module exactly where n is at most i.
+pub first-refused : (W : ℕ → ℕ) (i : ℕ) → i ≤ wordLimit → formed W ≡ no 8 i → (n : ℕ) → Begins HasForm W n ↔ (n ≤ i)
+first-refused W i l e n = (no-more, begins-as sound-form (goes-on W i l e) n)
+  where
+    no-more : Begins HasForm W n → n ≤ i
+    no-more b = by-less i n (λ m. absurd (refused W (b .words) i l e (λ j k. b .same j (omega arith)) (b .tree) (b .is))) (λ m. m)
+
+-- An instance: `MODULE m VAR num` is refused at its end, and some module begins so, for one with `n; ENDMODULE` behind it.
+abbrev unfinished : List ℕ
+unfinished = MODULE ∷ NAME ∷ VAR ∷ NUM ∷ []
+
+unfinished-refused : formed (λ j. getD unfinished j NOTHING) ≡ no 8 4
+unfolding formed expect _>>=_ declarations repeated startsData declaration datum expectType isType
+unfinished-refused = refl
+
+unfinished-goes-on : Begins IsModule (λ j. getD unfinished j NOTHING) 4
+unfinished-goes-on = begun _ 4 (omega arith) unfinished-refused
+
+finished : formed (λ j. getD (unfinished ++ NAME ∷ semicolon ∷ ENDMODULE ∷ []) j NOTHING) ≡ got (record { declared = record { type = NUM; name = 4; content = variableData } ∷ []; routines = [] })
+unfolding formed expect _>>=_ declarations repeated startsData declaration datum expectType isType varPart routines startsRoutine
+finished = refl
