@@ -1,24 +1,24 @@
 -- What the paper's parser refuses with 8 can be completed: one law for each thing that is read, with the shortest that it reads and the words that may be behind it.
 use mathlib.Core.Path.{_≡_, refl, sym, ap, subst, _∙_}
-use mathlib.Core.Bool.{Bool, true, false, _&&_, _||_}
+use mathlib.Core.Bool.{Bool, true, false, _||_}
 use mathlib.Core.List.{List, [], _∷_, _++_}
 use mathlib.Core.Logic.{_⊎_, inl, inr}
 use mathlib.Core.Option.{Option, none, some}
-use Prim.Native.Nat.{ℕ, zero, suc, _+_, _-_, _<_, _≤_}
+use Prim.Native.Nat.{ℕ, zero, suc, _+_, _<_, _≤_}
 use native.Mathlib.Omega.{arith}
 use lib.Dec.{eqb}
-use borrow.Author.Tests.{eqb-true, eqb-false, eq-eqb, ne-eqb}
+use borrow.Author.Tests.{eqb-true, eq-eqb, ne-eqb}
 use Rattle.laws.proofs.Tests.{test, false-true}
 use Rattle.paper.specs.Basics.{if_then_else_}
 use Rattle.paper.specs.Sorts.{NAME, NUMBER, STRING, NUM, NOTHING, closeBrace, closeParen, openBrace, openParen, comma, semicolon, becomes, colon, backslash, CASE, DEFAULT, DO, ELSE, ELSEIF, ENDFOR, ENDFUNC, ENDIF, ENDMODULE, ENDPROC, ENDTEST, ENDWHILE, ERROR, EXIT, FOR, FROM, IF, MODULE, PROC, RAISE, RETRY, RETURN, STEP, TEST, THEN, TO, TPREADNUM, TPWRITE, TRYNEXT, VAR, WHILE}
 use Rattle.paper.specs.Words.{wordLimit}
-use Rattle.paper.specs.Trees.{variableData, initialData, arrayData, constantData, Expr, leaf, element, nested, signed, joined, Target, Simple, assign, assignCall, call, returns, raises, exits, retries, triesNext, writes, reads, Statement, Statements, Arms, Cases, simple, compactIf, fullIf, for, while, empty, _then_, noArm, arm, noCase, case, Content, Declared, Parameter, RoutineList, Routine, Module}
+use Rattle.paper.specs.Trees.{variableData, initialData, arrayData, constantData, Expr, leaf, element, nested, signed, joined, Target, Simple, assign, assignCall, call, returns, raises, exits, retries, triesNext, writes, reads, Statement, Statements, Cases, simple, compactIf, fullIf, for, while, empty, _then_, noArm, arm, noCase, case, Content, Module}
 use Rattle.paper.specs.Trees.{test as testTree}
-use Rattle.paper.specs.Expressions.{Parsed, Parser, got, no, _>>=_, parts, nestings, relations, disjunctions, levelOf, standsBefore, isLiteral, isType, startsData, startsRoutine, startsSimple, startsStatement, expect, expectType, inParentheses, indexed, named, operand, chain, prefixed, level, exprIn, expr, unless, separated, repeated, exprs, arguments}
+use Rattle.paper.specs.Expressions.{Parsed, Parser, got, no, _>>=_, parts, nestings, relations, disjunctions, levelOf, standsBefore, isLiteral, startsData, startsRoutine, startsSimple, startsStatement, expect, inParentheses, indexed, named, operand, chain, prefixed, level, exprIn, expr, unless, separated, repeated, exprs, arguments}
 use Rattle.paper.specs.Statements.{targetIndex, target, valueSide, callSide, rightSide, assignment, procedureCall, startedByName, withOptional, written, tpWrite, tpReadNum, simpleWord, simpleStatement, elsePart, lastArm, arms, ifThen, ifSimple, ifStatement, stepPart, forStatement, whileStatement, defaultPart, lastCase, cases, testStatement, opening, plainStatement, statement, statements, listIn, list}
 use Rattle.paper.specs.Form.{initialPart, sizePart, varPart, constPart, datum, declaration, declarations, parameter, parameters, errorPart, routineFrom, function, routine, routines, formed}
 use Rattle.grammar.proofs.Completing.{both-true, not-both-false}
-use Rattle.grammar.proofs.Completions.{headOf, Family, Reads, Made, reads-as, yes-if, no-if, yes-when, no-when, then-made, Agrees, GoesBy, Goes, PastBy, Past, Both, then-goes, then-past, goes-then, both-then, goes-last, both-last, past-then, start, begun, goes-as, past-as, later, filled, refused-here, done-both, done, past-if, if-else, if-then, when-else, when-then, expect-made, expect-goes, expect-both, type-both}
+use Rattle.grammar.proofs.Completions.{Family, Made, reads-as, yes-if, no-if, yes-when, no-when, then-made, Agrees, GoesBy, Goes, PastBy, Past, Both, then-goes, then-past, goes-then, both-then, goes-last, both-last, start, begun, goes-as, later, filled, refused-here, done-both, done, past-if, if-else, if-then, when-else, when-then, expect-made, expect-goes, expect-both, type-both}
 
 -- A word behind an expression that is completed.
 pub record Ender (c : ℕ) : Type 0 where

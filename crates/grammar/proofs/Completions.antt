@@ -4,10 +4,10 @@ use mathlib.Core.Path.{_≡_, refl, sym, ap, subst, _∙_}
 use mathlib.Core.Bool.{Bool, true, false}
 use mathlib.Core.List.{List, [], _∷_, _++_, append-nil}
 use mathlib.Core.Logic.{_⊎_, inl, inr}
-use Prim.Native.Nat.{ℕ, zero, suc, _+_, _<_, _≤_}
+use Prim.Native.Nat.{ℕ, _+_, _<_, _≤_}
 use native.Mathlib.Omega.{arith}
 use lib.Dec.{eqb}
-use borrow.Author.Tests.{eqb-true, eqb-false, eq-eqb, ne-eqb}
+use borrow.Author.Tests.{eq-eqb}
 use Rattle.laws.proofs.Tests.{test, by-less, by-same, false-true}
 use Rattle.paper.specs.Basics.{if_then_else_}
 use Rattle.paper.specs.Sorts.{NUM}
@@ -259,9 +259,6 @@ module _ (W : ℕ → ℕ) where
 
     pub goes-last : (i : List ℕ) (c s : ℕ) → Goes i c s q → ((x : A × ℕ) → s ≤ x .1 → Both [] c (x .1) (λ U. k U x)) → Goes i c s (λ U. q U >>= k U)
     goes-last i c s h rest = subst (λ (l : List ℕ). Goes l c s (λ U. q U >>= k U)) (append-nil i) (goes-then i [] c s h rest)
-
-    pub past-then : (l : List ℕ) (c s : ℕ) → Past (headOf l c) s q → ((x : A × ℕ) → s ≤ x .1 → Both l c (x .1) (λ U. k U x)) → Past c s (λ U. q U >>= k U)
-    past-then l c s h rest = then-past l c s (λ _ x m. rest x m .made) h (λ x m. rest x (omega arith) .goes)
 
   -- ---- from one to the other
   module _ {A : Type 0} where
