@@ -10,22 +10,22 @@ use lib.Dec.{eqb}
 use borrow.Author.Tests.{eqb-true, eq-eqb, ne-eqb}
 use Rattle.laws.proofs.Tests.{test, false-true}
 use Rattle.paper.specs.Basics.{if_then_else_}
-use Rattle.paper.specs.Sorts.{NAME, NUMBER, STRING, NUM, NOTHING, closeBrace, closeParen, openBrace, openParen, comma, semicolon, becomes, colon, backslash, CASE, DEFAULT, DO, ELSE, ELSEIF, ENDFOR, ENDFUNC, ENDIF, ENDMODULE, ENDPROC, ENDTEST, ENDWHILE, ERROR, EXIT, FOR, FROM, IF, MODULE, PROC, RAISE, RETRY, RETURN, STEP, TEST, THEN, TO, TPREADNUM, TPWRITE, TRYNEXT, VAR, WHILE}
+use Rattle.paper.specs.Sorts.{NOT, plus, minusSign, NAME, NUMBER, STRING, NUM, NOTHING, closeBrace, closeParen, openBrace, openParen, comma, semicolon, becomes, colon, backslash, CASE, DEFAULT, DO, ELSE, ELSEIF, ENDFOR, ENDFUNC, ENDIF, ENDMODULE, ENDPROC, ENDTEST, ENDWHILE, ERROR, EXIT, FOR, FROM, IF, MODULE, PROC, RAISE, RETRY, RETURN, STEP, TEST, THEN, TO, TPREADNUM, TPWRITE, TRYNEXT, VAR, WHILE}
 use Rattle.paper.specs.Words.{wordLimit}
 use Rattle.paper.specs.Trees.{variableData, initialData, arrayData, constantData, Expr, leaf, element, nested, signed, joined, Target, Simple, assign, assignCall, call, returns, raises, exits, retries, triesNext, writes, reads, Statement, Statements, Cases, simple, compactIf, fullIf, for, while, empty, _then_, noArm, arm, noCase, case, Content, Module}
 use Rattle.paper.specs.Trees.{test as testTree}
-use Rattle.paper.specs.Expressions.{Parsed, Parser, got, no, _>>=_, parts, nestings, relations, disjunctions, levelOf, standsBefore, isLiteral, startsData, startsRoutine, startsSimple, startsStatement, expect, inParentheses, indexed, named, operand, chain, prefixed, level, exprIn, expr, unless, separated, repeated, exprs, arguments}
+use Rattle.paper.specs.Expressions.{Parsed, Parser, got, no, _>>=_, parts, nestings, sums, relations, disjunctions, levelOf, standsBefore, isLiteral, startsData, startsRoutine, startsSimple, startsStatement, expect, inParentheses, indexed, named, operand, chain, prefixed, level, exprIn, expr, unless, separated, repeated, exprs, arguments}
 use Rattle.paper.specs.Statements.{targetIndex, target, valueSide, callSide, rightSide, assignment, procedureCall, startedByName, withOptional, written, tpWrite, tpReadNum, simpleWord, simpleStatement, elsePart, lastArm, arms, ifThen, ifSimple, ifStatement, stepPart, forStatement, whileStatement, defaultPart, lastCase, cases, testStatement, opening, plainStatement, statement, statements, listIn, list}
 use Rattle.paper.specs.Form.{initialPart, sizePart, varPart, constPart, datum, declaration, declarations, parameter, parameters, errorPart, routineFrom, function, routine, routines, formed}
-use Rattle.grammar.proofs.Completing.{both-true, not-both-false}
-use Rattle.grammar.proofs.Completions.{Family, Made, reads-as, yes-if, no-if, yes-when, no-when, then-made, Agrees, GoesBy, Goes, PastBy, Past, Both, then-goes, then-past, goes-then, both-then, goes-last, both-last, start, begun, goes-as, later, filled, refused-here, done-both, done, past-if, if-else, if-then, when-else, when-then, expect-made, expect-goes, expect-both, type-both}
+use Rattle.grammar.proofs.Completing.{both-true, not-both-false, neither-false}
+use Rattle.grammar.proofs.Completions.{Family, Made, reads-as, yes-if, no-if, yes-when, no-when, then-made, Agrees, Real, GoesBy, Goes, PastBy, Past, Both, then-goes, then-past, goes-then, both-then, goes-last, both-last, start, begun, goes-as, later, filled, refused-here, done-both, done, far, real-word, real-join, past-if, if-else, if-then, when-else, when-then, expect-made, expect-goes, expect-both, type-both}
 
 -- A word behind an expression that is completed.
 pub record Ender (c : ℕ) : Type 0 where
   pub loose : levelOf c ≡ 0
   pub brace : eqb c openBrace ≡ false
 
--- The module, with the place behind NOTHING.
+-- The module up to its end, with the place there.
 abbrev pub Formed : (ℕ → ℕ) → Parsed (Module × ℕ)
 Formed U = do
   n₁ ← expect U MODULE 0
@@ -33,31 +33,26 @@ Formed U = do
   (ds, n₃) ← declarations U n₂
   (rs, n₄) ← routines U n₃
   n₅ ← expect U ENDMODULE n₄
-  n₆ ← expect U NOTHING n₅
-  got (record { declared = ds; routines = rs }, n₆)
+  got (record { declared = ds; routines = rs }, n₅)
 
 -- a parser of each text
 abbrev Parsers : Type 0 → Type 0
 Parsers A = (ℕ → ℕ) → Parser A
 
 -- no sign stands before it
-no-sign : (i s : ℕ) → (s ≡ NUMBER) ⊎ (s ≡ NAME) → standsBefore i s ≡ false
+no-sign : (i s : ℕ) → eqb s NOT ≡ false → eqb s plus ≡ false → eqb s minusSign ≡ false → standsBefore i s ≡ false
 unfolding standsBefore
-no-sign i s h = by h
+no-sign i s x y z = by (eqb i disjunctions) (eqb i sums)
   where
-    never : (a b : Bool) → (if a then false else if b then false else false) ≡ false
-    never true b = refl
-    never false true = refl
-    never false false = refl
-
-    by : (s ≡ NUMBER) ⊎ (s ≡ NAME) → standsBefore i s ≡ false
-    by (inl e) = rw (e, standsBefore) (never (eqb i 5) (eqb i 2))
-    by (inr e) = rw (e, standsBefore) (never (eqb i 5) (eqb i 2))
+    by : (a b : Bool) → (if a then eqb s NOT else if b then eqb s plus || eqb s minusSign else false) ≡ false
+    by true b = x
+    by false true = neither-false _ _ y z
+    by false false = refl
 
 module _ (W : ℕ → ℕ) where
   -- A refusal past the most words that a text may have.
   worn : {A : Type 0} (inh : List ℕ) (c s : ℕ) (q : Family A) → q W ≡ no 8 s → parts ≤ s → Goes W inh c s q
-  worn {A} inh c s q e l = record { steps = subst (λ (p : Parsed (A × ℕ)). GoesBy W inh c s p q) (sym e) (λ _. (omega arith, λ w. absurd (omega arith))) }
+  worn {A} inh c s q e l = record { steps = subst (λ (p : Parsed (A × ℕ)). GoesBy W inh c s p q) (sym e) (λ _. (omega arith, λ w. absurd (omega arith), λ j l m _. omega arith)) }
 
   -- ---- expressions
   module _ (c : ℕ) (ender : Ender c) (inner : Parsers Expr) (in-parens : (at : ℕ) → Goes W (NUMBER ∷ []) closeParen at (λ U. inner U at)) (in-braces : (at : ℕ) → Goes W (NUMBER ∷ []) closeBrace at (λ U. inner U at)) where
@@ -65,19 +60,19 @@ module _ (W : ℕ → ℕ) where
     named-both : (at : ℕ) → Both W [] c (at + 1) (λ U. named U (inner U) at)
     unfolding named indexed
     named-both at =
-        if-else W (λ s. eqb s openBrace) [] c (at + 1) (λ U. indexed U (inner U) at) (λ U. got (leaf at, at + 1)) (ender .brace)
-        (λ t. later W (NUMBER ∷ closeBrace ∷ []) c (at + 1) (at + 2) _ (omega arith) (goes-then W (λ U. inner U (at + 2)) _ (NUMBER ∷ []) (closeBrace ∷ []) c (at + 2) (in-braces (at + 2)) (λ x l.
-        expect-both W [] c (x .1) _ closeBrace (done W c (x .1 + 1) (element at (x .0))))))
+        if-else W (λ s. eqb s openBrace) [] c (at + 1) (λ U. indexed U (inner U) at) (λ U. got (leaf at, at + 1)) (ender .brace) refl
+        (λ t r. later W (NUMBER ∷ closeBrace ∷ []) c (at + 1) (at + 2) _ (omega arith) r (goes-then W (λ U. inner U (at + 2)) _ (NUMBER ∷ []) (closeBrace ∷ []) c (at + 2) (in-braces (at + 2)) (λ x l.
+        expect-both W [] c (x .1) _ closeBrace refl (done W c (x .1 + 1) (element at (x .0))))))
         (done W c (at + 1) (leaf at))
 
     operand-past : (at : ℕ) → Past W c at (λ U. operand U (inner U) at)
-    unfolding operand inParentheses
+    unfolding operand inParentheses isLiteral
     operand-past at =
-        past-if W (λ s. eqb s openParen) c at (λ U. inParentheses U (inner U) at) _
-        (λ t. later W (NUMBER ∷ closeParen ∷ []) c at (at + 1) _ (omega arith) (goes-then W (λ U. inner U (at + 1)) _ (NUMBER ∷ []) (closeParen ∷ []) c (at + 1) (in-parens (at + 1)) (λ x l.
-        expect-both W [] c (x .1) _ closeParen (done W c (x .1 + 1) (nested at (x .0))))))
-        (λ _. past-if W (λ s. eqb s NAME) c at (λ U. named U (inner U) at) _ (λ t. later W [] c at (at + 1) _ (omega arith) (named-both at .goes))
-        (λ _. past-if W isLiteral c at (λ U. got (leaf at, at + 1)) (λ U. no 8 at) (λ t. later W [] c at (at + 1) _ (omega arith) (done W c (at + 1) (leaf at) .goes)) (λ _. refused-here W c at (λ U. no 8 at) refl)))
+        past-if W (λ s. eqb s openParen) c at (λ U. inParentheses U (inner U) at) _ refl
+        (λ t r. later W (NUMBER ∷ closeParen ∷ []) c at (at + 1) _ (omega arith) r (goes-then W (λ U. inner U (at + 1)) _ (NUMBER ∷ []) (closeParen ∷ []) c (at + 1) (in-parens (at + 1)) (λ x l.
+        expect-both W [] c (x .1) _ closeParen refl (done W c (x .1 + 1) (nested at (x .0))))))
+        (λ _. past-if W (λ s. eqb s NAME) c at (λ U. named U (inner U) at) _ refl (λ t r. later W [] c at (at + 1) _ (omega arith) r (named-both at .goes))
+        (λ _. past-if W isLiteral c at (λ U. got (leaf at, at + 1)) (λ U. no 8 at) refl (λ t r. later W [] c at (at + 1) _ (omega arith) r (done W c (at + 1) (leaf at) .goes)) (λ _. refused-here W c at (λ U. no 8 at) refl)))
 
     operand-both : (at : ℕ) → Both W (NUMBER ∷ []) c at (λ U. operand U (inner U) at)
     unfolding operand isLiteral
@@ -89,6 +84,10 @@ module _ (W : ℕ → ℕ) where
     named-operand at e = goes-as W [] c (at + 1) (λ U. named U (inner U) at) _ (λ U a _. rw (a at (omega arith) ∙ e, operand)) (named-both at .goes)
 
     module _ (j : ℕ) (sub : Parsers Expr) (inside : (at : ℕ) → Both W (NUMBER ∷ []) c at (λ U. sub U at)) where
+      no-level : eqb (levelOf NOTHING) (suc j) ≡ false
+      unfolding levelOf
+      no-level = ne-eqb 0 (suc j) (λ z. omega arith)
+
       no-operator : eqb (levelOf c) (suc j) ≡ false
       no-operator = ne-eqb (levelOf c) (suc j) (λ z. omega (arith, z, ender .loose))
 
@@ -101,8 +100,8 @@ module _ (W : ℕ → ℕ) where
       unfolding chain
       chain-goes zero at e l = worn [] c at _ refl (omega arith)
       chain-goes (suc p) at e l =
-          when-else W (λ s. eqb (levelOf s) (suc j)) [] c at _ (λ U. got (e, at)) no-operator
-          (λ t. later W (NUMBER ∷ []) c at (at + 1) _ (omega arith) (then-goes W (λ U. sub U (at + 1)) _ (NUMBER ∷ []) [] c (at + 1)
+          when-else W (λ s. eqb (levelOf s) (suc j)) [] c at _ (λ U. got (e, at)) no-operator no-level
+          (λ t r. later W (NUMBER ∷ []) c at (at + 1) _ (omega arith) r (then-goes W (λ U. sub U (at + 1)) _ (NUMBER ∷ []) [] c (at + 1)
           (λ w x m. made (eqb (suc j) relations) x (omega arith))
           (inside (at + 1) .goes)
           (λ x m. goes (eqb (suc j) relations) x (chain-goes p (x .1) (joined at e (x .0)) (omega arith)))))
@@ -123,8 +122,8 @@ module _ (W : ℕ → ℕ) where
       prefixed-both : (at : ℕ) → Both W (NUMBER ∷ []) c at (λ U. prefixed U (suc j) (sub U) at)
       unfolding prefixed
       prefixed-both at =
-          when-else W (standsBefore (suc j)) (NUMBER ∷ []) c at _ (λ U. sub U at) (no-sign (suc j) NUMBER (inl refl))
-          (λ t. later W (NUMBER ∷ []) c at (at + 1) _ (omega arith) (goes-then W (λ U. sub U (at + 1)) _ (NUMBER ∷ []) [] c (at + 1) (inside (at + 1) .goes) (λ x l. done W c (x .1) (signed at (x .0)))))
+          when-else W (standsBefore (suc j)) (NUMBER ∷ []) c at _ (λ U. sub U at) (no-sign (suc j) NUMBER refl refl refl) (no-sign (suc j) NOTHING refl refl refl)
+          (λ t r. later W (NUMBER ∷ []) c at (at + 1) _ (omega arith) r (goes-then W (λ U. sub U (at + 1)) _ (NUMBER ∷ []) [] c (at + 1) (inside (at + 1) .goes) (λ x l. done W c (x .1) (signed at (x .0)))))
           (inside at)
 
       next-level : (at : ℕ) → Both W (NUMBER ∷ []) c at (λ U. prefixed U (suc j) (sub U) at >>= λ x. chain U parts (suc j) (sub U) (x .0) (x .1))
@@ -134,7 +133,7 @@ module _ (W : ℕ → ℕ) where
       unfolding prefixed
       named-next at e h =
           goes-then W (λ U. prefixed U (suc j) (sub U) at) _ [] [] c (at + 1)
-          (goes-as W [] c (at + 1) (λ U. sub U at) (λ U. prefixed U (suc j) (sub U) at) (λ U a _. no-when (standsBefore (suc j) (U at)) _ _ (no-sign (suc j) (U at) (inr (a at (omega arith) ∙ e)))) h) (λ x l. chain-both (x .1) (x .0))
+          (goes-as W [] c (at + 1) (λ U. sub U at) (λ U. prefixed U (suc j) (sub U) at) (λ U a _. no-when (standsBefore (suc j) (U at)) _ _ (ap (standsBefore (suc j)) (a at (omega arith) ∙ e) ∙ no-sign (suc j) NAME refl refl refl)) h) (λ x l. chain-both (x .1) (x .0))
 
     level-both : (j at : ℕ) → Both W (NUMBER ∷ []) c at (λ U. level U (inner U) j at)
     unfolding level
@@ -179,8 +178,8 @@ module _ (W : ℕ → ℕ) where
 
     separated-rest : (p : ℕ) (x : A × ℕ) → Goes W (v ∷ i) c (x .1 + 1) (λ U. separated U p (one U) (x .1 + 1)) → Both W [] c (x .1) (SeparatedRest p x)
     separated-rest p x h =
-        when-else W (λ s. eqb s comma) [] c (x .1) (λ U. separated U p (one U) (x .1 + 1) >>= λ y. got (x .0 ∷ y .0, y .1)) (λ U. got (x .0 ∷ [], x .1)) no-comma
-        (λ t. later W (v ∷ i) c (x .1) (x .1 + 1) _ (omega arith) (goes-last W (λ U. separated U p (one U) (x .1 + 1)) _ (v ∷ i) c (x .1 + 1) h (λ y l. done W c (y .1) (x .0 ∷ y .0))))
+        when-else W (λ s. eqb s comma) [] c (x .1) (λ U. separated U p (one U) (x .1 + 1) >>= λ y. got (x .0 ∷ y .0, y .1)) (λ U. got (x .0 ∷ [], x .1)) no-comma refl
+        (λ t r. later W (v ∷ i) c (x .1) (x .1 + 1) _ (omega arith) r (goes-last W (λ U. separated U p (one U) (x .1 + 1)) _ (v ∷ i) c (x .1 + 1) h (λ y l. done W c (y .1) (x .0 ∷ y .0))))
         (done W c (x .1) (x .0 ∷ []))
 
     separated-goes : (p at : ℕ) → parts ≤ p + at → Goes W (v ∷ i) c at (λ U. separated U p (one U) at)
@@ -198,7 +197,7 @@ module _ (W : ℕ → ℕ) where
   closed-both one v i closing no-comma h at =
       if-then W (λ s. eqb s closing) [] closing at (λ U. separated U parts (one U) at) (λ U. got ([], at)) (eq-eqb closing closing refl) (λ _. filled W v i closing at _ (separated-both one v i closing no-comma h at .goes)) (done W closing at [])
 
-  module _ {A : Type 0} (one : Parsers A) (starts : ℕ → Bool) (c : ℕ) (ends : starts c ≡ false) (inside : (at : ℕ) → starts (W at) ≡ true → Past W c at (λ U. one U at)) where
+  module _ {A : Type 0} (one : Parsers A) (starts : ℕ → Bool) (real : starts NOTHING ≡ false) (c : ℕ) (ends : starts c ≡ false) (inside : (at : ℕ) → Real W at (at + 1) → Past W c at (λ U. one U at)) where
     repeated-made : (p at : ℕ) → 0 < p → Made [] c at (λ U. repeated U p starts (one U) at)
     unfolding repeated
     repeated-made zero at l = absurd (omega arith)
@@ -208,10 +207,10 @@ module _ (W : ℕ → ℕ) where
     unfolding repeated
     repeated-goes zero at l = worn [] c at _ refl (omega arith)
     repeated-goes (suc p) at l =
-        when-else W starts [] c at (λ U. one U at >>= λ x. repeated U p starts (one U) (x .1) >>= λ y. got (x .0 ∷ y .0, y .1)) (λ U. got ([], at)) ends
-        (λ t. then-past W (λ U. one U at) _ [] c at
+        when-else W starts [] c at (λ U. one U at >>= λ x. repeated U p starts (one U) (x .1) >>= λ y. got (x .0 ∷ y .0, y .1)) (λ U. got ([], at)) ends real
+        (λ t r. then-past W (λ U. one U at) _ [] c at
         (λ w x m. then-made (λ U. repeated U p starts (one U) (x .1)) _ [] [] c (x .1) (repeated-made p (x .1) (omega arith)) (λ y _. done W c (y .1) (x .0 ∷ y .0) .made))
-        (inside at t)
+        (inside at r)
         (λ x m. goes-then W (λ U. repeated U p starts (one U) (x .1)) _ [] [] c (x .1) (repeated-goes p (x .1) (omega arith)) (λ y _. done W c (y .1) (x .0 ∷ y .0))))
         (done W c at []) .goes
 
@@ -233,9 +232,9 @@ module _ (W : ℕ → ℕ) where
   target-from c at b e =
       let r : Family Target = λ U. elim (eqb (U (at + 1)) openBrace) [ true ↦ targetIndex U at | false ↦ got (record { name = at; index = none }, at + 1) ] in
       goes-as W [] c (at + 1) r _ (λ U a _. yes-when (eqb (U at) NAME) _ _ (eq-eqb (U at) NAME (a at (omega arith) ∙ e)))
-      (when-else W (λ s. eqb s openBrace) [] c (at + 1) (λ U. targetIndex U at) (λ U. got (record { name = at; index = none }, at + 1)) b
-      (λ t. later W (NUMBER ∷ closeBrace ∷ []) c (at + 1) (at + 2) _ (omega arith) (goes-then W (λ U. exprIn U nestings (at + 2)) _ (NUMBER ∷ []) (closeBrace ∷ []) c (at + 2) (expr-in-goes nestings closeBrace (at + 2) brace-ender) (λ x l.
-      expect-both W [] c (x .1) _ closeBrace (done W c (x .1 + 1) (record { name = at; index = some (x .0) })))))
+      (when-else W (λ s. eqb s openBrace) [] c (at + 1) (λ U. targetIndex U at) (λ U. got (record { name = at; index = none }, at + 1)) b refl
+      (λ t r. later W (NUMBER ∷ closeBrace ∷ []) c (at + 1) (at + 2) _ (omega arith) r (goes-then W (λ U. exprIn U nestings (at + 2)) _ (NUMBER ∷ []) (closeBrace ∷ []) c (at + 2) (expr-in-goes nestings closeBrace (at + 2) brace-ender) (λ x l.
+      expect-both W [] c (x .1) _ closeBrace refl (done W c (x .1 + 1) (record { name = at; index = some (x .0) })))))
       (done W c (at + 1) (record { name = at; index = none })) .goes)
 
   target-both : (c at : ℕ) → eqb c openBrace ≡ false → Both W (NAME ∷ []) c at (λ U. target U at)
@@ -243,7 +242,7 @@ module _ (W : ℕ → ℕ) where
   target-both c at b =
       begun W (NAME ∷ []) c at _
       (λ U t. record { value = record { name = at; index = none }; is = yes-when (eqb (U at) NAME) _ _ (eq-eqb (U at) NAME (t .0)) ∙ no-when (eqb (U (at + 1)) openBrace) _ _ (ap (λ (s : ℕ). eqb s openBrace) (t .1) ∙ b) })
-      (test (eqb (W at) NAME) (λ t. later W [] c at (at + 1) _ (omega arith) (target-from c at b (eqb-true (W at) NAME t))) (λ t. refused-here W c at _ (no-when (eqb (W at) NAME) _ _ t)))
+      (test (eqb (W at) NAME) (λ t. later W [] c at (at + 1) _ (omega arith) (real-word W (λ s. eqb s NAME) at t refl) (target-from c at b (eqb-true (W at) NAME t))) (λ t. refused-here W c at _ (no-when (eqb (W at) NAME) _ _ t)))
 
   semicolon-ender : Ender semicolon
   unfolding levelOf
@@ -260,7 +259,7 @@ module _ (W : ℕ → ℕ) where
 
     call-side : Both W (closeParen ∷ []) semicolon (at + 2) (λ U. callSide U t at)
     unfolding callSide
-    call-side = both-then W (λ U. arguments U closeParen (at + 2)) _ [] (closeParen ∷ []) semicolon (at + 2) (arguments-both closeParen (at + 2) paren-ender refl) (λ x l. expect-both W [] semicolon (x .1) _ closeParen (done W semicolon (x .1 + 1) (assignCall t at (x .0))))
+    call-side = both-then W (λ U. arguments U closeParen (at + 2)) _ [] (closeParen ∷ []) semicolon (at + 2) (arguments-both closeParen (at + 2) paren-ender refl) (λ x l. expect-both W [] semicolon (x .1) _ closeParen refl (done W semicolon (x .1 + 1) (assignCall t at (x .0))))
 
     -- a word that is as before, or the one of a completion
     stays-false : (f : ℕ → Bool) (s : ℕ) (v w : ℕ) → f w ≡ false → f v ≡ false → (s ≡ w) ⊎ (s ≡ v) → f s ≡ false
@@ -277,19 +276,22 @@ module _ (W : ℕ → ℕ) where
         no-name : eqb (W at) NAME ≡ false → Goes W (NUMBER ∷ []) semicolon at (λ U. rightSide U t at)
         no-name n = goes-as W (NUMBER ∷ []) semicolon at (λ U. valueSide U t at) _ (λ U a e. no-if _ _ _ (not-both-false (eqb (U at) NAME) (eqb (U (at + 1)) openParen) (λ b _. false-true (sym (stays-false (λ s. eqb s NAME) (U at) NUMBER (W at) n refl e) ∙ b)))) (value-side .goes)
 
+        two : eqb (W at) NAME ≡ true → eqb (W (at + 1)) openParen ≡ true → Real W at (at + 2)
+        two n o = let z : at + 1 + 1 ≡ at + 2 = omega arith in real-join W at (at + 1) (at + 2) (real-word W (λ s. eqb s NAME) at n refl) (subst (Real W (at + 1)) z (real-word W (λ s. eqb s openParen) (at + 1) o refl))
+
         by-paren : eqb (W at) NAME ≡ true → Past W semicolon at (λ U. rightSide U t at)
         by-paren n =
             test (eqb (W (at + 1)) openParen)
-            (λ o. later W (closeParen ∷ []) semicolon at (at + 2) (λ U. rightSide U t at) (omega arith) (goes-as W (closeParen ∷ []) semicolon (at + 2) (λ U. callSide U t at) (λ U. rightSide U t at) (λ U a _.
+            (λ o. far W (closeParen ∷ []) semicolon at (at + 2) (λ U. rightSide U t at) (omega arith) (two n o) (goes-as W (closeParen ∷ []) semicolon (at + 2) (λ U. callSide U t at) (λ U. rightSide U t at) (λ U a _.
             yes-if _ _ _ (both-true (eqb (U at) NAME) (eqb (U (at + 1)) openParen) (ap (λ (s : ℕ). eqb s NAME) (a at (omega arith)) ∙ n) (ap (λ (s : ℕ). eqb s openParen) (a (at + 1) (omega arith)) ∙ o))) (call-side .goes)))
-            (λ o. later W [] semicolon at (at + 1) (λ U. rightSide U t at) (omega arith) (goes-as W [] semicolon (at + 1) (λ U. valueSide U t at) (λ U. rightSide U t at) (λ U a e.
+            (λ o. later W [] semicolon at (at + 1) (λ U. rightSide U t at) (omega arith) (real-word W (λ s. eqb s NAME) at n refl) (goes-as W [] semicolon (at + 1) (λ U. valueSide U t at) (λ U. rightSide U t at) (λ U a e.
             no-if _ _ _ (not-both-false (eqb (U at) NAME) (eqb (U (at + 1)) openParen) (λ _ b. false-true (sym (stays-false (λ s. eqb s openParen) (U (at + 1)) semicolon (W (at + 1)) o refl e) ∙ b)))) (named-side (eqb-true (W at) NAME n))))
 
   module _ (at : ℕ) where
     assignment-goes : W at ≡ NAME → Goes W (becomes ∷ NUMBER ∷ []) semicolon (at + 1) (λ U. assignment U at)
     unfolding assignment
     assignment-goes e =
-        goes-then W (λ U. target U at) _ [] (becomes ∷ NUMBER ∷ []) semicolon (at + 1) (target-from becomes at refl e) (λ x l. expect-both W (NUMBER ∷ []) semicolon (x .1) _ becomes (right-side (x .0) (x .1 + 1)))
+        goes-then W (λ U. target U at) _ [] (becomes ∷ NUMBER ∷ []) semicolon (at + 1) (target-from becomes at refl e) (λ x l. expect-both W (NUMBER ∷ []) semicolon (x .1) _ becomes refl (right-side (x .0) (x .1 + 1)))
 
     procedure-call : Both W [] semicolon (at + 1) (λ U. procedureCall U at)
     unfolding procedureCall
@@ -298,7 +300,7 @@ module _ (W : ℕ → ℕ) where
     by-name : W at ≡ NAME → Both W [] semicolon (at + 1) (λ U. startedByName U at)
     unfolding startedByName
     by-name e =
-        if-else W (λ s. eqb s becomes || eqb s openBrace) [] semicolon (at + 1) (λ U. assignment U at) (λ U. procedureCall U at) refl (λ t. filled W becomes (NUMBER ∷ []) semicolon (at + 1) _ (assignment-goes e)) procedure-call
+        if-else W (λ s. eqb s becomes || eqb s openBrace) [] semicolon (at + 1) (λ U. assignment U at) (λ U. procedureCall U at) refl refl (λ t r. filled W becomes (NUMBER ∷ []) semicolon (at + 1) _ (assignment-goes e)) procedure-call
 
     unless-both : Both W [] semicolon at (λ U. unless U semicolon at)
     unfolding unless
@@ -310,10 +312,10 @@ module _ (W : ℕ → ℕ) where
     written-both : Both W [] semicolon at (λ U. written U at)
     unfolding written
     written-both =
-        when-else W (λ s. eqb s backslash) [] semicolon at _ (λ U. got (none, at)) refl
-        (λ t. later W (NUM ∷ becomes ∷ NUMBER ∷ []) semicolon at (at + 1) _ (omega arith) (
-        expect-both W (becomes ∷ NUMBER ∷ []) semicolon (at + 1) _ NUM (
-        expect-both W (NUMBER ∷ []) semicolon (at + 1 + 1) _ becomes (
+        when-else W (λ s. eqb s backslash) [] semicolon at _ (λ U. got (none, at)) refl refl
+        (λ t r. later W (NUM ∷ becomes ∷ NUMBER ∷ []) semicolon at (at + 1) _ (omega arith) r (
+        expect-both W (becomes ∷ NUMBER ∷ []) semicolon (at + 1) _ NUM refl (
+        expect-both W (NUMBER ∷ []) semicolon (at + 1 + 1) _ becomes refl (
         both-then W (λ U. expr U (at + 1 + 1 + 1)) _ (NUMBER ∷ []) [] semicolon (at + 1 + 1 + 1) (expr-both semicolon (at + 1 + 1 + 1) semicolon-ender) (λ x l. done W semicolon (x .1) (some (x .0))))) .goes))
         (done W semicolon at none)
 
@@ -323,25 +325,25 @@ module _ (W : ℕ → ℕ) where
 
   write-both : (at : ℕ) → Both W (STRING ∷ []) semicolon (at + 1) (λ U. tpWrite U at)
   unfolding tpWrite
-  write-both at = expect-both W [] semicolon (at + 1) _ STRING (both-then W (λ U. written U (at + 1 + 1)) _ [] [] semicolon (at + 1 + 1) (written-both (at + 1 + 1)) (λ x l. done W semicolon (x .1) (writes at (at + 1) (x .0))))
+  write-both at = expect-both W [] semicolon (at + 1) _ STRING refl (both-then W (λ U. written U (at + 1 + 1)) _ [] [] semicolon (at + 1 + 1) (written-both (at + 1 + 1)) (λ x l. done W semicolon (x .1) (writes at (at + 1) (x .0))))
 
   read-both : (at : ℕ) → Both W (NAME ∷ comma ∷ STRING ∷ []) semicolon (at + 1) (λ U. tpReadNum U at)
   unfolding tpReadNum
   read-both at =
       both-then W (λ U. target U (at + 1)) _ (NAME ∷ []) (comma ∷ STRING ∷ []) semicolon (at + 1) (target-both comma (at + 1) refl) (λ x l.
-      expect-both W (STRING ∷ []) semicolon (x .1) _ comma (expect-both W [] semicolon (x .1 + 1) _ STRING (done W semicolon (x .1 + 1 + 1) (reads at (x .0) (x .1 + 1)))))
+      expect-both W (STRING ∷ []) semicolon (x .1) _ comma refl (expect-both W [] semicolon (x .1 + 1) _ STRING refl (done W semicolon (x .1 + 1 + 1) (reads at (x .0) (x .1 + 1)))))
 
   simple-past : (at : ℕ) → Past W semicolon at (λ U. simpleWord U at)
   unfolding simpleWord
   simple-past at =
-      past-if W (λ s. eqb s NAME) semicolon at (λ U. startedByName U at) _ (λ t. later W [] semicolon at (at + 1) _ (omega arith) (by-name at (eqb-true _ _ t) .goes)) (λ _.
-      past-if W (λ s. eqb s RETURN) semicolon at (λ U. withOptional U returns at) _ (λ _. later W [] semicolon at (at + 1) _ (omega arith) (optional-both returns at .goes)) (λ _.
-      past-if W (λ s. eqb s RAISE) semicolon at (λ U. withOptional U raises at) _ (λ _. later W [] semicolon at (at + 1) _ (omega arith) (optional-both raises at .goes)) (λ _.
-      past-if W (λ s. eqb s EXIT) semicolon at (λ U. got (exits at, at + 1)) _ (λ _. later W [] semicolon at (at + 1) _ (omega arith) (done W semicolon (at + 1) (exits at) .goes)) (λ _.
-      past-if W (λ s. eqb s RETRY) semicolon at (λ U. got (retries at, at + 1)) _ (λ _. later W [] semicolon at (at + 1) _ (omega arith) (done W semicolon (at + 1) (retries at) .goes)) (λ _.
-      past-if W (λ s. eqb s TRYNEXT) semicolon at (λ U. got (triesNext at, at + 1)) _ (λ _. later W [] semicolon at (at + 1) _ (omega arith) (done W semicolon (at + 1) (triesNext at) .goes)) (λ _.
-      past-if W (λ s. eqb s TPWRITE) semicolon at (λ U. tpWrite U at) _ (λ _. later W (STRING ∷ []) semicolon at (at + 1) _ (omega arith) (write-both at .goes)) (λ _.
-      past-if W (λ s. eqb s TPREADNUM) semicolon at (λ U. tpReadNum U at) (λ U. no 8 at) (λ _. later W (NAME ∷ comma ∷ STRING ∷ []) semicolon at (at + 1) _ (omega arith) (read-both at .goes)) (λ _.
+      past-if W (λ s. eqb s NAME) semicolon at (λ U. startedByName U at) _ refl (λ t r. later W [] semicolon at (at + 1) _ (omega arith) r (by-name at (eqb-true _ _ t) .goes)) (λ _.
+      past-if W (λ s. eqb s RETURN) semicolon at (λ U. withOptional U returns at) _ refl (λ _ r. later W [] semicolon at (at + 1) _ (omega arith) r (optional-both returns at .goes)) (λ _.
+      past-if W (λ s. eqb s RAISE) semicolon at (λ U. withOptional U raises at) _ refl (λ _ r. later W [] semicolon at (at + 1) _ (omega arith) r (optional-both raises at .goes)) (λ _.
+      past-if W (λ s. eqb s EXIT) semicolon at (λ U. got (exits at, at + 1)) _ refl (λ _ r. later W [] semicolon at (at + 1) _ (omega arith) r (done W semicolon (at + 1) (exits at) .goes)) (λ _.
+      past-if W (λ s. eqb s RETRY) semicolon at (λ U. got (retries at, at + 1)) _ refl (λ _ r. later W [] semicolon at (at + 1) _ (omega arith) r (done W semicolon (at + 1) (retries at) .goes)) (λ _.
+      past-if W (λ s. eqb s TRYNEXT) semicolon at (λ U. got (triesNext at, at + 1)) _ refl (λ _ r. later W [] semicolon at (at + 1) _ (omega arith) r (done W semicolon (at + 1) (triesNext at) .goes)) (λ _.
+      past-if W (λ s. eqb s TPWRITE) semicolon at (λ U. tpWrite U at) _ refl (λ _ r. later W (STRING ∷ []) semicolon at (at + 1) _ (omega arith) r (write-both at .goes)) (λ _.
+      past-if W (λ s. eqb s TPREADNUM) semicolon at (λ U. tpReadNum U at) (λ U. no 8 at) refl (λ _ r. later W (NAME ∷ comma ∷ STRING ∷ []) semicolon at (at + 1) _ (omega arith) r (read-both at .goes)) (λ _.
       refused-here W semicolon at (λ U. no 8 at) refl))))))))
 
   simple-both : (c at : ℕ) → Both W (EXIT ∷ semicolon ∷ []) c at (λ U. simpleStatement U at)
@@ -349,7 +351,7 @@ module _ (W : ℕ → ℕ) where
   simple-both c at =
       both-then W (λ U. simpleWord U at) _ (EXIT ∷ []) (semicolon ∷ []) c at
       (begun W (EXIT ∷ []) semicolon at (λ U. simpleWord U at) (λ U t. record { value = exits at; is = rw (t .0, simpleWord) }) (simple-past at))
-      (λ x l. expect-both W [] c (x .1) _ semicolon (done W c (x .1 + 1) (x .0)))
+      (λ x l. expect-both W [] c (x .1) _ semicolon refl (done W c (x .1 + 1) (x .0)))
 
   -- ---- compound statements
   word-ender : (c : ℕ) → levelOf c ≡ 0 → eqb c openBrace ≡ false → Ender c
@@ -358,8 +360,8 @@ module _ (W : ℕ → ℕ) where
   step-both : (at : ℕ) → Both W [] DO at (λ U. stepPart U at)
   unfolding stepPart levelOf
   step-both at =
-      when-else W (λ s. eqb s STEP) [] DO at (λ U. expr U (at + 1) >>= λ x. got (some (x .0), x .1)) (λ U. got (none, at)) refl
-      (λ t. later W (NUMBER ∷ []) DO at (at + 1) _ (omega arith) (goes-then W (λ U. expr U (at + 1)) _ (NUMBER ∷ []) [] DO (at + 1) (expr-both DO (at + 1) (word-ender DO refl refl) .goes) (λ x l. done W DO (x .1) (some (x .0)))))
+      when-else W (λ s. eqb s STEP) [] DO at (λ U. expr U (at + 1) >>= λ x. got (some (x .0), x .1)) (λ U. got (none, at)) refl refl
+      (λ t r. later W (NUMBER ∷ []) DO at (at + 1) _ (omega arith) r (goes-then W (λ U. expr U (at + 1)) _ (NUMBER ∷ []) [] DO (at + 1) (expr-both DO (at + 1) (word-ender DO refl refl) .goes) (λ x l. done W DO (x .1) (some (x .0)))))
       (done W DO at none)
 
   -- "compact `IF e` with one of these"
@@ -371,11 +373,11 @@ module _ (W : ℕ → ℕ) where
   module _ (list : Parsers Statements) (inside : (c at : ℕ) → startsStatement c ≡ false → Both W [] c at (λ U. list U at)) where
     else-both : (at : ℕ) → Both W [] ENDIF at (λ U. elsePart U (list U) at)
     unfolding elsePart startsStatement startsSimple
-    else-both at = when-else W (λ s. eqb s ELSE) [] ENDIF at (λ U. list U (at + 1)) (λ U. got (empty, at)) refl (λ t. later W [] ENDIF at (at + 1) _ (omega arith) (inside ENDIF (at + 1) refl .goes)) (done W ENDIF at empty)
+    else-both at = when-else W (λ s. eqb s ELSE) [] ENDIF at (λ U. list U (at + 1)) (λ U. got (empty, at)) refl refl (λ t r. later W [] ENDIF at (at + 1) _ (omega arith) r (inside ENDIF (at + 1) refl .goes)) (done W ENDIF at empty)
 
     last-arm : (c : ℕ) (e : Expr) (b : Statements) (at : ℕ) → Both W (ENDIF ∷ []) c at (λ U. lastArm U (list U) e b at)
     unfolding lastArm
-    last-arm c e b at = both-then W (λ U. elsePart U (list U) at) _ [] (ENDIF ∷ []) c at (else-both at) (λ x l. expect-both W [] c (x .1) _ ENDIF (done W c (x .1 + 1) (arm e b noArm, x .0)))
+    last-arm c e b at = both-then W (λ U. elsePart U (list U) at) _ [] (ENDIF ∷ []) c at (else-both at) (λ x l. expect-both W [] c (x .1) _ ENDIF refl (done W c (x .1 + 1) (arm e b noArm, x .0)))
 
     arms-made : (c p at : ℕ) (e : Expr) → 0 < p → Made (ENDIF ∷ []) c at (λ U. arms U p (list U) e at)
     unfolding arms startsStatement startsSimple
@@ -388,12 +390,12 @@ module _ (W : ℕ → ℕ) where
     arms-goes c zero at e l = worn (ENDIF ∷ []) c at _ refl (omega arith)
     arms-goes c (suc p) at e l =
         goes-then W (λ U. list U at) _ [] (ENDIF ∷ []) c at (inside ENDIF at refl .goes) (λ x m.
-        when-else W (λ s. eqb s ELSEIF) (ENDIF ∷ []) c (x .1) _ (λ U. lastArm U (list U) e (x .0) (x .1)) refl
-        (λ _. later W (NUMBER ∷ THEN ∷ ENDIF ∷ []) c (x .1) (x .1 + 1) _ (omega arith) (
+        when-else W (λ s. eqb s ELSEIF) (ENDIF ∷ []) c (x .1) _ (λ U. lastArm U (list U) e (x .0) (x .1)) refl refl
+        (λ _ r. later W (NUMBER ∷ THEN ∷ ENDIF ∷ []) c (x .1) (x .1 + 1) _ (omega arith) r (
         then-goes W (λ U. expr U (x .1 + 1)) _ (NUMBER ∷ []) (THEN ∷ ENDIF ∷ []) c (x .1 + 1)
-        (λ w y o. expect-made W (ENDIF ∷ []) c (y .1) _ THEN (then-made (λ U. arms U p (list U) (y .0) (y .1 + 1)) _ (ENDIF ∷ []) [] c (y .1 + 1) (arms-made c p (y .1 + 1) (y .0) (omega arith)) (λ z _. done W c (z .1) (arm e (x .0) (z .0 .0), z .0 .1) .made)))
+        (λ w y o. expect-made W (ENDIF ∷ []) c (y .1) _ THEN refl (then-made (λ U. arms U p (list U) (y .0) (y .1 + 1)) _ (ENDIF ∷ []) [] c (y .1 + 1) (arms-made c p (y .1 + 1) (y .0) (omega arith)) (λ z _. done W c (z .1) (arm e (x .0) (z .0 .0), z .0 .1) .made)))
         (expr-both THEN (x .1 + 1) (word-ender THEN refl refl) .goes)
-        (λ y o. expect-goes W (ENDIF ∷ []) c (y .1) _ THEN
+        (λ y o. expect-goes W (ENDIF ∷ []) c (y .1) _ THEN refl
         (λ w. then-made (λ U. arms U p (list U) (y .0) (y .1 + 1)) _ (ENDIF ∷ []) [] c (y .1 + 1) (arms-made c p (y .1 + 1) (y .0) (omega arith)) (λ z _. done W c (z .1) (arm e (x .0) (z .0 .0), z .0 .1) .made))
         (goes-then W (λ U. arms U p (list U) (y .0) (y .1 + 1)) _ (ENDIF ∷ []) [] c (y .1 + 1) (arms-goes c p (y .1 + 1) (y .0) (omega arith)) (λ z _. done W c (z .1) (arm e (x .0) (z .0 .0), z .0 .1))))))
         (last-arm c e (x .0) (x .1)))
@@ -408,34 +410,34 @@ module _ (W : ℕ → ℕ) where
     for-both : (c at : ℕ) → Both W (NAME ∷ FROM ∷ NUMBER ∷ TO ∷ NUMBER ∷ DO ∷ ENDFOR ∷ []) c (at + 1) (λ U. forStatement U (list U) at)
     unfolding forStatement startsStatement startsSimple levelOf
     for-both c at =
-        expect-both W (FROM ∷ NUMBER ∷ TO ∷ NUMBER ∷ DO ∷ ENDFOR ∷ []) c (at + 1) _ NAME (
-        expect-both W (NUMBER ∷ TO ∷ NUMBER ∷ DO ∷ ENDFOR ∷ []) c (at + 1 + 1) _ FROM (
+        expect-both W (FROM ∷ NUMBER ∷ TO ∷ NUMBER ∷ DO ∷ ENDFOR ∷ []) c (at + 1) _ NAME refl (
+        expect-both W (NUMBER ∷ TO ∷ NUMBER ∷ DO ∷ ENDFOR ∷ []) c (at + 1 + 1) _ FROM refl (
         both-then W (λ U. expr U (at + 1 + 1 + 1)) _ (NUMBER ∷ []) (TO ∷ NUMBER ∷ DO ∷ ENDFOR ∷ []) c (at + 1 + 1 + 1) (expr-both TO (at + 1 + 1 + 1) (word-ender TO refl refl)) (λ a _.
-        expect-both W (NUMBER ∷ DO ∷ ENDFOR ∷ []) c (a .1) _ TO (
+        expect-both W (NUMBER ∷ DO ∷ ENDFOR ∷ []) c (a .1) _ TO refl (
         both-then W (λ U. expr U (a .1 + 1)) _ (NUMBER ∷ []) (DO ∷ ENDFOR ∷ []) c (a .1 + 1) (expr-both DO (a .1 + 1) (word-ender DO refl refl)) (λ b _.
         both-then W (λ U. stepPart U (b .1)) _ [] (DO ∷ ENDFOR ∷ []) c (b .1) (step-both (b .1)) (λ s _.
-        expect-both W (ENDFOR ∷ []) c (s .1) _ DO (
+        expect-both W (ENDFOR ∷ []) c (s .1) _ DO refl (
         both-then W (λ U. list U (s .1 + 1)) _ [] (ENDFOR ∷ []) c (s .1 + 1) (inside ENDFOR (s .1 + 1) refl) (λ x _.
-        expect-both W [] c (x .1) _ ENDFOR (done W c (x .1 + 1) (for at (at + 1) (a .0) (b .0) (s .0) (x .0) (x .1)))))))))))
+        expect-both W [] c (x .1) _ ENDFOR refl (done W c (x .1 + 1) (for at (at + 1) (a .0) (b .0) (s .0) (x .0) (x .1)))))))))))
 
     while-both : (c at : ℕ) → Both W (NUMBER ∷ DO ∷ ENDWHILE ∷ []) c (at + 1) (λ U. whileStatement U (list U) at)
     unfolding whileStatement startsStatement startsSimple levelOf
     while-both c at =
         both-then W (λ U. expr U (at + 1)) _ (NUMBER ∷ []) (DO ∷ ENDWHILE ∷ []) c (at + 1) (expr-both DO (at + 1) (word-ender DO refl refl)) (λ e _.
-        expect-both W (ENDWHILE ∷ []) c (e .1) _ DO (
+        expect-both W (ENDWHILE ∷ []) c (e .1) _ DO refl (
         both-then W (λ U. list U (e .1 + 1)) _ [] (ENDWHILE ∷ []) c (e .1 + 1) (inside ENDWHILE (e .1 + 1) refl) (λ x _.
-        expect-both W [] c (x .1) _ ENDWHILE (done W c (x .1 + 1) (while at (e .0) (x .0))))))
+        expect-both W [] c (x .1) _ ENDWHILE refl (done W c (x .1 + 1) (while at (e .0) (x .0))))))
 
     default-both : (at : ℕ) → Both W [] ENDTEST at (λ U. defaultPart U (list U) at)
     unfolding defaultPart startsStatement startsSimple
     default-both at =
-        when-else W (λ s. eqb s DEFAULT) [] ENDTEST at (λ U. expect U colon (at + 1) >>= λ n. list U n) (λ U. got (empty, at)) refl
-        (λ t. later W (colon ∷ []) ENDTEST at (at + 1) _ (omega arith) (expect-both W [] ENDTEST (at + 1) (λ U n. list U n) colon (inside ENDTEST (at + 1 + 1) refl) .goes))
+        when-else W (λ s. eqb s DEFAULT) [] ENDTEST at (λ U. expect U colon (at + 1) >>= λ n. list U n) (λ U. got (empty, at)) refl refl
+        (λ t r. later W (colon ∷ []) ENDTEST at (at + 1) _ (omega arith) r (expect-both W [] ENDTEST (at + 1) (λ U n. list U n) colon refl (inside ENDTEST (at + 1 + 1) refl) .goes))
         (done W ENDTEST at empty)
 
     last-case : (c at : ℕ) → Both W (ENDTEST ∷ []) c at (λ U. lastCase U (list U) at)
     unfolding lastCase
-    last-case c at = both-then W (λ U. defaultPart U (list U) at) _ [] (ENDTEST ∷ []) c at (default-both at) (λ x l. expect-both W [] c (x .1) _ ENDTEST (done W c (x .1 + 1) (noCase, x .0)))
+    last-case c at = both-then W (λ U. defaultPart U (list U) at) _ [] (ENDTEST ∷ []) c at (default-both at) (λ x l. expect-both W [] c (x .1) _ ENDTEST refl (done W c (x .1 + 1) (noCase, x .0)))
 
     cases-made : (c p at : ℕ) → 0 < p → Made (ENDTEST ∷ []) c at (λ U. cases U p (list U) at)
     unfolding cases
@@ -453,12 +455,12 @@ module _ (W : ℕ → ℕ) where
     unfolding cases startsStatement startsSimple levelOf
     cases-goes c zero at l = worn (ENDTEST ∷ []) c at _ refl (omega arith)
     cases-goes c (suc p) at l =
-        when-else W (λ s. eqb s CASE) (ENDTEST ∷ []) c at _ (λ U. lastCase U (list U) at) refl
-        (λ _. later W (NUMBER ∷ colon ∷ ENDTEST ∷ []) c at (at + 1) _ (omega arith) (
+        when-else W (λ s. eqb s CASE) (ENDTEST ∷ []) c at _ (λ U. lastCase U (list U) at) refl refl
+        (λ _ r. later W (NUMBER ∷ colon ∷ ENDTEST ∷ []) c at (at + 1) _ (omega arith) r (
         then-goes W (λ U. exprs U (at + 1)) _ (NUMBER ∷ []) (colon ∷ ENDTEST ∷ []) c (at + 1)
-        (λ w y o. expect-made W (ENDTEST ∷ []) c (y .1) _ colon (case-made c p (y .0) (y .1 + 1) (omega arith)))
+        (λ w y o. expect-made W (ENDTEST ∷ []) c (y .1) _ colon refl (case-made c p (y .0) (y .1 + 1) (omega arith)))
         (exprs-both colon (at + 1) (word-ender colon refl refl) refl .goes)
-        (λ y o. expect-goes W (ENDTEST ∷ []) c (y .1) _ colon (λ w. case-made c p (y .0) (y .1 + 1) (omega arith)) (
+        (λ y o. expect-goes W (ENDTEST ∷ []) c (y .1) _ colon refl (λ w. case-made c p (y .0) (y .1 + 1) (omega arith)) (
         then-goes W (λ U. list U (y .1 + 1)) _ [] (ENDTEST ∷ []) c (y .1 + 1)
         (λ w b _. then-made (λ U. cases U p (list U) (b .1)) _ (ENDTEST ∷ []) [] c (b .1) (cases-made c p (b .1) (omega arith)) (λ z _. done W c (z .1) (case (y .0) (b .0) (z .0 .0), z .0 .1) .made))
         (inside ENDTEST (y .1 + 1) refl .goes)
@@ -475,50 +477,50 @@ module _ (W : ℕ → ℕ) where
 
   -- The compound statements, with what stands deeper if anything may.
   record Nests (deeper : (ℕ → ℕ) → Option (Parser Statements)) : Type 0 where
-    an-if : (c at : ℕ) → Past W c at (λ U. ifStatement U (deeper U) at)
-    a-for : (c at : ℕ) → Past W c at (λ U. opening U (deeper U) (forStatement U) at)
-    a-while : (c at : ℕ) → Past W c at (λ U. opening U (deeper U) (whileStatement U) at)
-    a-test : (c at : ℕ) → Past W c at (λ U. opening U (deeper U) (testStatement U) at)
+    an-if : (c at : ℕ) → Real W at (at + 1) → Past W c at (λ U. ifStatement U (deeper U) at)
+    a-for : (c at : ℕ) → Real W at (at + 1) → Past W c at (λ U. opening U (deeper U) (forStatement U) at)
+    a-while : (c at : ℕ) → Real W at (at + 1) → Past W c at (λ U. opening U (deeper U) (whileStatement U) at)
+    a-test : (c at : ℕ) → Real W at (at + 1) → Past W c at (λ U. opening U (deeper U) (testStatement U) at)
 
   -- a refusal with 9
   too-deep : {A : Type 0} (c s j : ℕ) (q : Family A) → q W ≡ no 9 j → Past W c s q
   too-deep {A} c s j q e = record { steps = subst (λ (p : Parsed (A × ℕ)). PastBy W c s p q) (sym e) (λ z. absurd (omega (arith, z))) }
 
-  if-past : (deeper : (ℕ → ℕ) → Option (Parser Statements)) (c at : ℕ) → ((e : Expr) (n : ℕ) → Past W {A = Statement} c n (λ U. elim (deeper U) [ none ↦ no 9 n | some within ↦ ifThen U at within e n ])) → Past W c at (λ U. ifStatement U (deeper U) at)
+  if-past : (deeper : (ℕ → ℕ) → Option (Parser Statements)) (c at : ℕ) → Real W at (at + 1) → ((e : Expr) (n : ℕ) → Real W n (n + 1) → Past W {A = Statement} c n (λ U. elim (deeper U) [ none ↦ no 9 n | some within ↦ ifThen U at within e n ])) → Past W c at (λ U. ifStatement U (deeper U) at)
   unfolding ifStatement levelOf
-  if-past deeper c at h =
-      later W (NUMBER ∷ EXIT ∷ semicolon ∷ []) c at (at + 1) _ (omega arith) (
+  if-past deeper c at r h =
+      later W (NUMBER ∷ EXIT ∷ semicolon ∷ []) c at (at + 1) _ (omega arith) r (
       goes-then W (λ U. expr U (at + 1)) _ (NUMBER ∷ []) (EXIT ∷ semicolon ∷ []) c (at + 1) (expr-both EXIT (at + 1) (word-ender EXIT refl refl) .goes) (λ x _.
-      if-else W (λ s. eqb s THEN) (EXIT ∷ semicolon ∷ []) c (x .1) _ (λ U. ifSimple U at (x .0) (x .1)) refl (λ _. h (x .0) (x .1)) (compact-both c at (x .0) (x .1))))
+      if-else W (λ s. eqb s THEN) (EXIT ∷ semicolon ∷ []) c (x .1) _ (λ U. ifSimple U at (x .0) (x .1)) refl refl (λ _ r. h (x .0) (x .1) r) (compact-both c at (x .0) (x .1))))
 
   none-nests : Nests (λ U. none)
   unfolding opening
   none-nests =
       record {
-        an-if = λ c at. if-past (λ U. none) c at (λ e n. too-deep c n n _ refl);
-        a-for = λ c at. too-deep c at at _ refl;
-        a-while = λ c at. too-deep c at at _ refl;
-        a-test = λ c at. too-deep c at at _ refl;
+        an-if = λ c at r. if-past (λ U. none) c at r (λ e n _. too-deep c n n _ refl);
+        a-for = λ c at _. too-deep c at at _ refl;
+        a-while = λ c at _. too-deep c at at _ refl;
+        a-test = λ c at _. too-deep c at at _ refl;
       }
 
   some-nests : (list : Parsers Statements) → ((c at : ℕ) → startsStatement c ≡ false → Both W [] c at (λ U. list U at)) → Nests (λ U. some (list U))
   unfolding opening
   some-nests within h =
       record {
-        an-if = λ c at. if-past (λ U. some (within U)) c at (λ e n. later W (ENDIF ∷ []) c n (n + 1) _ (omega arith) (then-both within h c at e n .goes));
-        a-for = λ c at. later W (NAME ∷ FROM ∷ NUMBER ∷ TO ∷ NUMBER ∷ DO ∷ ENDFOR ∷ []) c at (at + 1) _ (omega arith) (for-both within h c at .goes);
-        a-while = λ c at. later W (NUMBER ∷ DO ∷ ENDWHILE ∷ []) c at (at + 1) _ (omega arith) (while-both within h c at .goes);
-        a-test = λ c at. later W (NUMBER ∷ ENDTEST ∷ []) c at (at + 1) _ (omega arith) (test-both within h c at .goes);
+        an-if = λ c at r. if-past (λ U. some (within U)) c at r (λ e n v. later W (ENDIF ∷ []) c n (n + 1) _ (omega arith) v (then-both within h c at e n .goes));
+        a-for = λ c at r. later W (NAME ∷ FROM ∷ NUMBER ∷ TO ∷ NUMBER ∷ DO ∷ ENDFOR ∷ []) c at (at + 1) _ (omega arith) r (for-both within h c at .goes);
+        a-while = λ c at r. later W (NUMBER ∷ DO ∷ ENDWHILE ∷ []) c at (at + 1) _ (omega arith) r (while-both within h c at .goes);
+        a-test = λ c at r. later W (NUMBER ∷ ENDTEST ∷ []) c at (at + 1) _ (omega arith) r (test-both within h c at .goes);
       }
 
   module _ (deeper : (ℕ → ℕ) → Option (Parser Statements)) (nests : Nests deeper) where
     statement-past : (c at : ℕ) → Past W c at (λ U. statement U (deeper U) at)
     unfolding statement plainStatement
     statement-past c at =
-        past-if W (λ s. eqb s IF) c at (λ U. ifStatement U (deeper U) at) _ (λ _. nests .an-if c at) (λ _.
-        past-if W (λ s. eqb s FOR) c at (λ U. opening U (deeper U) (forStatement U) at) _ (λ _. nests .a-for c at) (λ _.
-        past-if W (λ s. eqb s WHILE) c at (λ U. opening U (deeper U) (whileStatement U) at) _ (λ _. nests .a-while c at) (λ _.
-        past-if W (λ s. eqb s TEST) c at (λ U. opening U (deeper U) (testStatement U) at) (λ U. plainStatement U at) (λ _. nests .a-test c at) (λ _.
+        past-if W (λ s. eqb s IF) c at (λ U. ifStatement U (deeper U) at) _ refl (λ _ r. nests .an-if c at r) (λ _.
+        past-if W (λ s. eqb s FOR) c at (λ U. opening U (deeper U) (forStatement U) at) _ refl (λ _ r. nests .a-for c at r) (λ _.
+        past-if W (λ s. eqb s WHILE) c at (λ U. opening U (deeper U) (whileStatement U) at) _ refl (λ _ r. nests .a-while c at r) (λ _.
+        past-if W (λ s. eqb s TEST) c at (λ U. opening U (deeper U) (testStatement U) at) (λ U. plainStatement U at) refl (λ _ r. nests .a-test c at r) (λ _.
         filled W EXIT (semicolon ∷ []) c at _ (goes-then W (λ U. simpleStatement U at) _ (EXIT ∷ semicolon ∷ []) [] c at (simple-both c at .goes) (λ x _. done W c (x .1) (simple (x .0))))))))
 
     module _ (c : ℕ) (ends : startsStatement c ≡ false) where
@@ -528,11 +530,11 @@ module _ (W : ℕ → ℕ) where
       statements-made (suc p) at l = λ U t. record { value = empty; is = no-when (startsStatement (U at)) _ _ (ap startsStatement t ∙ ends) }
 
       statements-goes : (p at : ℕ) → parts ≤ p + at → Goes W [] c at (λ U. statements U p (deeper U) at)
-      unfolding statements
+      unfolding statements startsStatement startsSimple
       statements-goes zero at l = worn [] c at _ refl (omega arith)
       statements-goes (suc p) at l =
-          when-else W startsStatement [] c at _ (λ U. got (empty, at)) ends
-          (λ _. then-past W (λ U. statement U (deeper U) at) _ [] c at
+          when-else W startsStatement [] c at _ (λ U. got (empty, at)) ends refl
+          (λ _ _. then-past W (λ U. statement U (deeper U) at) _ [] c at
           (λ w x _. then-made (λ U. statements U p (deeper U) (x .1)) _ [] [] c (x .1) (statements-made p (x .1) (omega arith)) (λ y _. done W c (y .1) (x .0 then y .0) .made))
           (statement-past c at)
           (λ x m. goes-then W (λ U. statements U p (deeper U) (x .1)) _ [] [] c (x .1) (statements-goes p (x .1) (omega arith)) (λ y _. done W c (y .1) (x .0 then y .0))))
@@ -554,45 +556,45 @@ module _ (W : ℕ → ℕ) where
   var-both : (at : ℕ) → Both W [] semicolon at (λ U. varPart U at)
   unfolding varPart initialPart sizePart
   var-both at =
-      if-else W (λ s. eqb s becomes) [] semicolon at (λ U. initialPart U (at + 1)) _ refl
-      (λ _. later W (NUMBER ∷ []) semicolon at (at + 1) _ (omega arith) (goes-then W (λ U. expr U (at + 1)) _ (NUMBER ∷ []) [] semicolon (at + 1) (expr-both semicolon (at + 1) semicolon-ender .goes) (λ x _. done W semicolon (x .1) (initialData (x .0)))))
-      (if-else W (λ s. eqb s openBrace) [] semicolon at (λ U. sizePart U (at + 1)) (λ U. got (variableData, at)) refl
-      (λ _. later W (NUMBER ∷ closeBrace ∷ []) semicolon at (at + 1) _ (omega arith) (goes-then W (λ U. expr U (at + 1)) _ (NUMBER ∷ []) (closeBrace ∷ []) semicolon (at + 1) (expr-both closeBrace (at + 1) brace-ender .goes) (λ x _.
-      expect-both W [] semicolon (x .1) _ closeBrace (done W semicolon (x .1 + 1) (arrayData (x .0))))))
+      if-else W (λ s. eqb s becomes) [] semicolon at (λ U. initialPart U (at + 1)) _ refl refl
+      (λ _ r. later W (NUMBER ∷ []) semicolon at (at + 1) _ (omega arith) r (goes-then W (λ U. expr U (at + 1)) _ (NUMBER ∷ []) [] semicolon (at + 1) (expr-both semicolon (at + 1) semicolon-ender .goes) (λ x _. done W semicolon (x .1) (initialData (x .0)))))
+      (if-else W (λ s. eqb s openBrace) [] semicolon at (λ U. sizePart U (at + 1)) (λ U. got (variableData, at)) refl refl
+      (λ _ r. later W (NUMBER ∷ closeBrace ∷ []) semicolon at (at + 1) _ (omega arith) r (goes-then W (λ U. expr U (at + 1)) _ (NUMBER ∷ []) (closeBrace ∷ []) semicolon (at + 1) (expr-both closeBrace (at + 1) brace-ender .goes) (λ x _.
+      expect-both W [] semicolon (x .1) _ closeBrace refl (done W semicolon (x .1 + 1) (arrayData (x .0))))))
       (done W semicolon at variableData))
 
   const-both : (at : ℕ) → Both W (becomes ∷ NUMBER ∷ []) semicolon at (λ U. constPart U at)
   unfolding constPart
   const-both at =
-      expect-both W (NUMBER ∷ []) semicolon at _ becomes (
+      expect-both W (NUMBER ∷ []) semicolon at _ becomes refl (
       both-then W (λ U. expr U (at + 1)) _ (NUMBER ∷ []) [] semicolon (at + 1) (expr-both semicolon (at + 1) semicolon-ender) (λ x _. done W semicolon (x .1) (constantData (x .0))))
 
   datum-both : (content : Parsers Content) (i : List ℕ) → ((at : ℕ) → Both W i semicolon at (λ U. content U at)) → (c at : ℕ) → Both W (NUM ∷ NAME ∷ i ++ semicolon ∷ []) c (at + 1) (λ U. datum U (content U) at)
   unfolding datum
   datum-both content i h c at =
       type-both W (NAME ∷ i ++ semicolon ∷ []) c (at + 1) _ (
-      expect-both W (i ++ semicolon ∷ []) c (at + 1 + 1) _ NAME (
+      expect-both W (i ++ semicolon ∷ []) c (at + 1 + 1) _ NAME refl (
       both-then W (λ U. content U (at + 1 + 1 + 1)) _ i (semicolon ∷ []) c (at + 1 + 1 + 1) (h (at + 1 + 1 + 1)) (λ x l.
-      expect-both W [] c (x .1) _ semicolon (done-both W c (x .1 + 1) (λ U. record { type = U (at + 1); name = at + 2; content = x .0 }) (λ U a.
+      expect-both W [] c (x .1) _ semicolon refl (done-both W c (x .1 + 1) (λ U. record { type = U (at + 1); name = at + 2; content = x .0 }) (λ U a.
       ap (λ (t : ℕ). record { type = t; name = at + 2; content = x .0 }) (a (at + 1) (omega arith)))))))
 
-  declaration-past : (c at : ℕ) → Past W c at (λ U. declaration U at)
+  declaration-past : (c at : ℕ) → Real W at (at + 1) → Past W c at (λ U. declaration U at)
   unfolding declaration
-  declaration-past c at =
-      past-if W (λ s. eqb s VAR) c at (λ U. datum U (varPart U) at) (λ U. datum U (constPart U) at)
-      (λ _. later W (NUM ∷ NAME ∷ semicolon ∷ []) c at (at + 1) _ (omega arith) (datum-both varPart [] var-both c at .goes))
-      (λ _. later W (NUM ∷ NAME ∷ becomes ∷ NUMBER ∷ semicolon ∷ []) c at (at + 1) _ (omega arith) (datum-both constPart (becomes ∷ NUMBER ∷ []) const-both c at .goes))
+  declaration-past c at r =
+      past-if W (λ s. eqb s VAR) c at (λ U. datum U (varPart U) at) (λ U. datum U (constPart U) at) refl
+      (λ _ _. later W (NUM ∷ NAME ∷ semicolon ∷ []) c at (at + 1) _ (omega arith) r (datum-both varPart [] var-both c at .goes))
+      (λ _. later W (NUM ∷ NAME ∷ becomes ∷ NUMBER ∷ semicolon ∷ []) c at (at + 1) _ (omega arith) r (datum-both constPart (becomes ∷ NUMBER ∷ []) const-both c at .goes))
 
   declarations-both : (c at : ℕ) → startsData c ≡ false → Both W [] c at (λ U. declarations U at)
-  unfolding declarations
-  declarations-both c at e = repeated-both declaration startsData c e (λ n _. declaration-past c n) at
+  unfolding declarations startsData
+  declarations-both c at e = repeated-both declaration startsData refl c e (λ n r. declaration-past c n r) at
 
   -- ---- routines
   parameter-both : (c at : ℕ) → Both W (NUM ∷ NAME ∷ []) c at (λ U. parameter U at)
   unfolding parameter
   parameter-both c at =
       type-both W (NAME ∷ []) c at _ (
-      expect-both W [] c (at + 1) _ NAME (done-both W c (at + 1 + 1) (λ U. record { type = U at; name = at + 1 }) (λ U a. ap (λ (t : ℕ). record { type = t; name = at + 1 }) (a at (omega arith)))))
+      expect-both W [] c (at + 1) _ NAME refl (done-both W c (at + 1 + 1) (λ U. record { type = U at; name = at + 1 }) (λ U a. ap (λ (t : ℕ). record { type = t; name = at + 1 }) (a at (omega arith)))))
 
   parameters-both : (at : ℕ) → Both W [] closeParen at (λ U. parameters U at)
   unfolding parameters
@@ -601,66 +603,63 @@ module _ (W : ℕ → ℕ) where
   error-both : (c at : ℕ) → eqb c ERROR ≡ false → startsStatement c ≡ false → Both W [] c at (λ U. errorPart U at)
   unfolding errorPart
   error-both c at r s =
-      when-else W (λ w. eqb w ERROR) [] c at _ (λ U. got (none, at)) r
-      (λ _. later W [] c at (at + 1) _ (omega arith) (goes-then W (λ U. list U (at + 1)) _ [] [] c (at + 1) (list-both c (at + 1) s .goes) (λ x _. done W c (x .1) (some (record { statements = x .0; closes = x .1 })))))
+      when-else W (λ w. eqb w ERROR) [] c at _ (λ U. got (none, at)) r refl
+      (λ _ r. later W [] c at (at + 1) _ (omega arith) r (goes-then W (λ U. list U (at + 1)) _ [] [] c (at + 1) (list-both c (at + 1) s .goes) (λ x _. done W c (x .1) (some (record { statements = x .0; closes = x .1 })))))
       (done W c at none)
 
   -- From the routine's name on; `result` is what the words before it tell.
-  from-both : (result : (ℕ → ℕ) → Option ℕ) (closing c at : ℕ) → ((U : ℕ → ℕ) → Agrees W U at → result U ≡ result W) → eqb closing ERROR ≡ false → startsStatement closing ≡ false → startsData closing ≡ false
+  from-both : (result : (ℕ → ℕ) → Option ℕ) (closing c at : ℕ) → ((U : ℕ → ℕ) → Agrees W U at → result U ≡ result W) → eqb NOTHING closing ≡ false → eqb closing ERROR ≡ false → startsStatement closing ≡ false → startsData closing ≡ false
       → Both W (NAME ∷ openParen ∷ closeParen ∷ closing ∷ []) c at (λ U. routineFrom U (result U) closing at)
   unfolding routineFrom
-  from-both result closing c at same r s d =
-      expect-both W (openParen ∷ closeParen ∷ closing ∷ []) c at _ NAME (
-      expect-both W (closeParen ∷ closing ∷ []) c (at + 1) _ openParen (
+  from-both result closing c at same v r s d =
+      expect-both W (openParen ∷ closeParen ∷ closing ∷ []) c at _ NAME refl (
+      expect-both W (closeParen ∷ closing ∷ []) c (at + 1) _ openParen refl (
       both-then W (λ U. parameters U (at + 1 + 1)) _ [] (closeParen ∷ closing ∷ []) c (at + 1 + 1) (parameters-both (at + 1 + 1)) (λ ps l₁.
-      expect-both W (closing ∷ []) c (ps .1) _ closeParen (
+      expect-both W (closing ∷ []) c (ps .1) _ closeParen refl (
       both-then W (λ U. declarations U (ps .1 + 1)) _ [] (closing ∷ []) c (ps .1 + 1) (declarations-both closing (ps .1 + 1) d) (λ ds l₂.
       both-then W (λ U. list U (ds .1)) _ [] (closing ∷ []) c (ds .1) (list-both closing (ds .1) s) (λ ss l₃.
       both-then W (λ U. errorPart U (ss .1)) _ [] (closing ∷ []) c (ss .1) (error-both closing (ss .1) r s) (λ h l₄.
-      expect-both W [] c (h .1) _ closing (
+      expect-both W [] c (h .1) _ closing v (
       done-both W c (h .1 + 1) (λ U. record { name = at; result = result U; parameters = ps .0; declared = ds .0; body = record { statements = ss .0; closes = ss .1 }; handler = h .0 }) (λ U a.
       ap (λ (t : Option ℕ). record { name = at; result = t; parameters = ps .0; declared = ds .0; body = record { statements = ss .0; closes = ss .1 }; handler = h .0 }) (same U (λ j m. a j (omega arith))))))))))))
 
-  routine-past : (c at : ℕ) → Past W c at (λ U. routine U at)
+  routine-past : (c at : ℕ) → Real W at (at + 1) → Past W c at (λ U. routine U at)
   unfolding routine function startsStatement startsSimple startsData
-  routine-past c at =
-      past-if W (λ s. eqb s PROC) c at (λ U. routineFrom U none ENDPROC (at + 1)) (λ U. function U (at + 1))
-      (λ _. later W (NAME ∷ openParen ∷ closeParen ∷ ENDPROC ∷ []) c at (at + 1) _ (omega arith) (from-both (λ U. none) ENDPROC c (at + 1) (λ U a. refl) refl refl refl .goes))
-      (λ _. later W (NUM ∷ NAME ∷ openParen ∷ closeParen ∷ ENDFUNC ∷ []) c at (at + 1) _ (omega arith) (
+  routine-past c at r =
+      past-if W (λ s. eqb s PROC) c at (λ U. routineFrom U none ENDPROC (at + 1)) (λ U. function U (at + 1)) refl
+      (λ _ _. later W (NAME ∷ openParen ∷ closeParen ∷ ENDPROC ∷ []) c at (at + 1) _ (omega arith) r (from-both (λ U. none) ENDPROC c (at + 1) (λ U a. refl) refl refl refl refl .goes))
+      (λ _. later W (NUM ∷ NAME ∷ openParen ∷ closeParen ∷ ENDFUNC ∷ []) c at (at + 1) _ (omega arith) r (
       type-both W (NAME ∷ openParen ∷ closeParen ∷ ENDFUNC ∷ []) c (at + 1) _ (
-      from-both (λ U. some (U (at + 1))) ENDFUNC c (at + 1 + 1) (λ U a. ap some (a (at + 1) (omega arith))) refl refl refl) .goes))
+      from-both (λ U. some (U (at + 1))) ENDFUNC c (at + 1 + 1) (λ U a. ap some (a (at + 1) (omega arith))) refl refl refl refl) .goes))
 
   routines-both : (c at : ℕ) → startsRoutine c ≡ false → Both W [] c at (λ U. routines U at)
-  unfolding routines
-  routines-both c at e = repeated-both routine startsRoutine c e (λ n _. routine-past c n) at
+  unfolding routines startsRoutine
+  routines-both c at e = repeated-both routine startsRoutine refl c e (λ n r. routine-past c n r) at
 
   -- ---- the module
-  pub module-both : Both W (MODULE ∷ NAME ∷ ENDMODULE ∷ NOTHING ∷ []) NOTHING 0 Formed
+  pub module-both : Both W (MODULE ∷ NAME ∷ ENDMODULE ∷ []) NOTHING 0 Formed
   unfolding startsRoutine startsData
   module-both =
-      expect-both W (NAME ∷ ENDMODULE ∷ NOTHING ∷ []) NOTHING 0 _ MODULE (
-      expect-both W (ENDMODULE ∷ NOTHING ∷ []) NOTHING 1 _ NAME (
-      both-then W (λ U. declarations U 2) _ [] (ENDMODULE ∷ NOTHING ∷ []) NOTHING 2 (declarations-both ENDMODULE 2 refl) (λ ds _.
-      both-then W (λ U. routines U (ds .1)) _ [] (ENDMODULE ∷ NOTHING ∷ []) NOTHING (ds .1) (routines-both ENDMODULE (ds .1) refl) (λ rs _.
-      expect-both W (NOTHING ∷ []) NOTHING (rs .1) _ ENDMODULE (
-      expect-both W [] NOTHING (rs .1 + 1) _ NOTHING (done W NOTHING (rs .1 + 1 + 1) (record { declared = ds .0; routines = rs .0 })))))))
+      expect-both W (NAME ∷ ENDMODULE ∷ []) NOTHING 0 _ MODULE refl (
+      expect-both W (ENDMODULE ∷ []) NOTHING 1 _ NAME refl (
+      both-then W (λ U. declarations U 2) _ [] (ENDMODULE ∷ []) NOTHING 2 (declarations-both ENDMODULE 2 refl) (λ ds _.
+      both-then W (λ U. routines U (ds .1)) _ [] (ENDMODULE ∷ []) NOTHING (ds .1) (routines-both ENDMODULE (ds .1) refl) (λ rs _.
+      expect-both W [] NOTHING (rs .1) _ ENDMODULE refl (done W NOTHING (rs .1 + 1) (record { declared = ds .0; routines = rs .0 }))))))
 
--- ---- what `formed` keeps of it
-unfoldable pub kept : {A : Type 0} → Parsed (A × ℕ) → Parsed A
-kept (got x) = got (x .0)
-kept (no k j) = no k j
+-- "then nothing"
+abbrev pub ended : (U : ℕ → ℕ) → Module × ℕ → Parsed Module
+ended U x = expect U NOTHING (x .1) >>= λ n. got (x .0)
 
-kept-then : {A B : Type 0} (p : Parsed A) (f : A → Parsed (B × ℕ)) (g : A → Parsed B) → ((a : A) → g a ≡ kept (f a)) → (p >>= g) ≡ kept (p >>= f)
-unfolding _>>=_ kept
-kept-then (got a) f g h = h a
-kept-then (no k j) f g h = refl
+then-ended : {A B C : Type 0} (p : Parsed A) (f : A → Parsed B) (h : B → Parsed C) (g : A → Parsed C) → ((a : A) → g a ≡ (f a >>= h)) → (p >>= g) ≡ ((p >>= f) >>= h)
+unfolding _>>=_
+then-ended (got a) f h g e = e a
+then-ended (no k j) f h g e = refl
 
-pub formed-kept : (U : ℕ → ℕ) → formed U ≡ kept (Formed U)
-unfolding formed kept
-formed-kept U =
-    kept-then (expect U MODULE 0) _ _ (λ n₁.
-    kept-then (expect U NAME n₁) _ _ (λ n₂.
-    kept-then (declarations U n₂) _ _ (λ ds.
-    kept-then (routines U (ds .1)) _ _ (λ rs.
-    kept-then (expect U ENDMODULE (rs .1)) _ _ (λ n₅.
-    kept-then (expect U NOTHING n₅) _ _ (λ n₆. refl))))))
+pub formed-ended : (U : ℕ → ℕ) → formed U ≡ (Formed U >>= ended U)
+unfolding formed _>>=_
+formed-ended U =
+    then-ended (expect U MODULE 0) _ (ended U) _ (λ n₁.
+    then-ended (expect U NAME n₁) _ (ended U) _ (λ n₂.
+    then-ended (declarations U n₂) _ (ended U) _ (λ ds.
+    then-ended (routines U (ds .1)) _ (ended U) _ (λ rs.
+    then-ended (expect U ENDMODULE (rs .1)) _ (ended U) _ (λ n₅. refl)))))

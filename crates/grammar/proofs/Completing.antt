@@ -35,7 +35,7 @@ not-both-false true true h = absurd (h refl refl)
 not-both-false true false h = refl
 not-both-false false b h = refl
 
-neither-false : (a b : Bool) → a ≡ false → b ≡ false → (a || b) ≡ false
+pub neither-false : (a b : Bool) → a ≡ false → b ≡ false → (a || b) ≡ false
 neither-false true b e f = false-true (sym e)
 neither-false false b e f = f
 

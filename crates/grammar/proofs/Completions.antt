@@ -10,7 +10,7 @@ use lib.Dec.{eqb}
 use borrow.Author.Tests.{eq-eqb}
 use Rattle.laws.proofs.Tests.{test, by-less, by-same, false-true}
 use Rattle.paper.specs.Basics.{if_then_else_}
-use Rattle.paper.specs.Sorts.{NUM}
+use Rattle.paper.specs.Sorts.{NOTHING, NUM}
 use Rattle.paper.specs.Words.{wordLimit}
 use Rattle.paper.specs.Expressions.{Parsed, got, no, _>>=_, isType, expect, expectType}
 
@@ -38,6 +38,10 @@ least at (w ∷ k) = at + 1
 spells-head : (U : ℕ → ℕ) (at : ℕ) (k : List ℕ) (c : ℕ) → Spells U at k c → U at ≡ headOf k c
 spells-head U at [] c h = h
 spells-head U at (w ∷ k) c h = h .0
+
+pub spells-last : (U : ℕ → ℕ) (at : ℕ) (k : List ℕ) (c : ℕ) → Spells U at k c → U (behind at k) ≡ c
+spells-last U at [] c h = h
+spells-last U at (w ∷ k) c h = spells-last U (at + 1) k c (h .1)
 
 spells-split : (U : ℕ → ℕ) (at : ℕ) (k l : List ℕ) (c : ℕ) → Spells U at (k ++ l) c → Spells U at k (headOf l c) × Spells U (behind at k) l c
 spells-split U at [] l c h = (spells-head U at l c h, h)
@@ -132,6 +136,19 @@ module _ (W : ℕ → ℕ) where
   abbrev pub Agrees : (U : ℕ → ℕ) → (n : ℕ) → Type 0
   Agrees U n = (j : ℕ) → j < n → U j ≡ W j
 
+  -- There are words from a up to b.
+  abbrev pub Real : (a b : ℕ) → Type 0
+  Real a b = (j : ℕ) → a ≤ j → j < b → W j ≡ NOTHING → ⊥
+
+  real-none : (a : ℕ) → Real a a
+  real-none a j l m e = omega arith
+
+  pub real-join : (a b c : ℕ) → Real a b → Real b c → Real a c
+  real-join a b c h g j l m = by-less j b (λ k. h j l k) (λ k. g j k m)
+
+  pub real-word : (f : ℕ → Bool) (s : ℕ) → f (W s) ≡ true → f NOTHING ≡ false → Real s (s + 1)
+  real-word f s t z j l m e = let k : s ≡ j = omega arith in false-true (sym z ∙ ap f (sym (ap W k ∙ e)) ∙ t)
+
   -- x is read of all words that agree before its end, where the same word or c stands there.
   abbrev pub Stays : {A : Type 0} → (c : ℕ) → A × ℕ → Family A → Type 0
   Stays c x q = (U : ℕ → ℕ) → Agrees U (x .1) → (U (x .1) ≡ W (x .1)) ⊎ (U (x .1) ≡ c) → q U ≡ got x
@@ -148,16 +165,16 @@ module _ (W : ℕ → ℕ) where
 
   -- q reads from s on: what it reads of W stays, and where it refuses a word with 8 it can be completed.
   abbrev pub GoesBy : {A : Type 0} → List ℕ → (c s : ℕ) → Parsed (A × ℕ) → Family A → Type 0
-  GoesBy inh c s (got x) q = (least s inh ≤ x .1) × Stays c x q
-  GoesBy inh c s (no k j) q = k ≡ 8 → (s ≤ j) × (j ≤ wordLimit → Stuck inh c s j q)
+  GoesBy inh c s (got x) q = (least s inh ≤ x .1) × Stays c x q × Real s (x .1)
+  GoesBy inh c s (no k j) q = k ≡ 8 → (s ≤ j) × (j ≤ wordLimit → Stuck inh c s j q) × Real s j
 
   pub record Goes {A : Type 0} (inh : List ℕ) (c s : ℕ) (q : Family A) : Type 0 where
     pub steps : GoesBy inh c s (q W) q
 
   -- The same behind the word at s: nothing is said of a refusal of that one.
   abbrev pub PastBy : {A : Type 0} → (c s : ℕ) → Parsed (A × ℕ) → Family A → Type 0
-  PastBy c s (got x) q = (s < x .1) × Stays c x q
-  PastBy c s (no k j) q = k ≡ 8 → (s ≤ j) × (s < j → j ≤ wordLimit → Completed c j q)
+  PastBy c s (got x) q = (s < x .1) × Stays c x q × Real s (x .1)
+  PastBy c s (no k j) q = k ≡ 8 → (s ≤ j) × (s < j → j ≤ wordLimit → Completed c j q) × Real s j
 
   pub record Past {A : Type 0} (c s : ℕ) (q : Family A) : Type 0 where
     pub steps : PastBy c s (q W) q
@@ -195,11 +212,11 @@ module _ (W : ℕ → ℕ) where
         subst (Reads (q U >>= k U)) (behind-append j (d .words) l) (then-reads q k U (behind j (d .words)) _ u (g (u .value, behind j (d .words)) (behind-grows j (d .words)) U (r .1)))
 
     module _ (i l : List ℕ) (c s : ℕ) (made : s ≤ wordLimit → (x : A × ℕ) → s ≤ x .1 → Made l c (x .1) (λ U. k U x)) where
-      goes-on : (x : A × ℕ) (p : Parsed (B × ℕ)) → least s i ≤ x .1 → Stays (headOf l c) x q → GoesBy l c (x .1) p (λ U. k U x) → GoesBy (i ++ l) c s p (λ U. q U >>= k U)
+      goes-on : (x : A × ℕ) (p : Parsed (B × ℕ)) → least s i ≤ x .1 → Stays (headOf l c) x q → Real s (x .1) → GoesBy l c (x .1) p (λ U. k U x) → GoesBy (i ++ l) c s p (λ U. q U >>= k U)
       unfolding stays-stuck
-      goes-on x (got y) h a g =
-          (least-append s (x .1) (y .1) i l h (g .0), stays-then (headOf l c) c x y a (omega (arith, least-grows (x .1) l, g .0)) (λ m. sym (emptied (x .1) l c (omega (arith, g .0)))) (g .1))
-      goes-on x (no n j) h a g =
+      goes-on x (got y) h a r g =
+          (least-append s (x .1) (y .1) i l h (g .0), stays-then (headOf l c) c x y a (omega (arith, least-grows (x .1) l, g .0)) (λ m. sym (emptied (x .1) l c (omega (arith, g .0)))) (g .1), real-join s (x .1) (y .1) r (g .2))
+      goes-on x (no n j) h a r g =
           λ e. (
             omega (arith, least-grows s i, g e .0),
             λ w.
@@ -207,6 +224,7 @@ module _ (W : ℕ → ℕ) where
                   done = stays-stuck (headOf l c) c j x a (g e .0) (g e .1 w .done) (g e .1 w .first);
                   first = λ z. g e .1 w .first (omega (arith, least-grows s i, g e .0)) ∙ emptied-first s i l c (omega (arith, g e .0));
                 },
+            real-join s (x .1) j r (g e .2),
           )
 
       pub then-goes : Goes i (headOf l c) s q → ((x : A × ℕ) → least s i ≤ x .1 → Goes l c (x .1) (λ U. k U x)) → Goes (i ++ l) c s (λ U. q U >>= k U)
@@ -214,7 +232,7 @@ module _ (W : ℕ → ℕ) where
       then-goes h rest = record { steps = by (q W) (h .steps) }
         where
           by : (p : Parsed (A × ℕ)) → GoesBy i (headOf l c) s p q → GoesBy (i ++ l) c s (p >>= k W) (λ U. q U >>= k U)
-          by (got x) g = goes-on x (k W x) (g .0) (g .1) (rest x (g .0) .steps)
+          by (got x) g = goes-on x (k W x) (g .0) (g .1) (g .2) (rest x (g .0) .steps)
           by (no n j) g =
               λ e. (
                 g e .0,
@@ -224,26 +242,28 @@ module _ (W : ℕ → ℕ) where
                       done = record { words = d .words ++ l; reads = stuck-reads l c j d (λ x m. made (omega (arith, g e .0)) x (omega (arith, g e .0))) };
                       first = λ z. head-append (d .words) l c ∙ g e .1 w .first z ∙ sym (head-append i l c);
                     },
+                g e .2,
               )
 
     module _ (l : List ℕ) (c s : ℕ) where
-      past-on : (x : A × ℕ) (p : Parsed (B × ℕ)) → s < x .1 → Stays (headOf l c) x q → GoesBy l c (x .1) p (λ U. k U x) → PastBy c s p (λ U. q U >>= k U)
-      past-on x (got y) h a g =
-          (omega (arith, least-grows (x .1) l, g .0), stays-then (headOf l c) c x y a (omega (arith, least-grows (x .1) l, g .0)) (λ m. sym (emptied (x .1) l c (omega (arith, g .0)))) (g .1))
-      past-on x (no n j) h a g = λ e. (omega (arith, g e .0), λ m w. stays-stuck (headOf l c) c j x a (g e .0) (g e .1 w .done) (g e .1 w .first))
+      past-on : (x : A × ℕ) (p : Parsed (B × ℕ)) → s < x .1 → Stays (headOf l c) x q → Real s (x .1) → GoesBy l c (x .1) p (λ U. k U x) → PastBy c s p (λ U. q U >>= k U)
+      past-on x (got y) h a r g =
+          (omega (arith, least-grows (x .1) l, g .0), stays-then (headOf l c) c x y a (omega (arith, least-grows (x .1) l, g .0)) (λ m. sym (emptied (x .1) l c (omega (arith, g .0)))) (g .1), real-join s (x .1) (y .1) r (g .2))
+      past-on x (no n j) h a r g = λ e. (omega (arith, g e .0), λ m w. stays-stuck (headOf l c) c j x a (g e .0) (g e .1 w .done) (g e .1 w .first), real-join s (x .1) j r (g e .2))
 
       pub then-past : (s < wordLimit → (x : A × ℕ) → s ≤ x .1 → Made l c (x .1) (λ U. k U x)) → Past (headOf l c) s q → ((x : A × ℕ) → s < x .1 → Goes l c (x .1) (λ U. k U x)) → Past c s (λ U. q U >>= k U)
       unfolding _>>=_
       then-past made h rest = record { steps = by (q W) (h .steps) }
         where
           by : (p : Parsed (A × ℕ)) → PastBy (headOf l c) s p q → PastBy c s (p >>= k W) (λ U. q U >>= k U)
-          by (got x) g = past-on x (k W x) (g .0) (g .1) (rest x (g .0) .steps)
+          by (got x) g = past-on x (k W x) (g .0) (g .1) (g .2) (rest x (g .0) .steps)
           by (no n j) g =
               λ e. (
                 g e .0,
                 λ m w.
                     let d = g e .1 m w in
                     record { words = d .words ++ l; reads = stuck-reads l c j d (λ x v. made (omega arith) x (omega arith)) },
+                g e .2,
               )
 
     -- the same with what follows in one
@@ -267,7 +287,7 @@ module _ (W : ℕ → ℕ) where
     start inh c s q made h = record { steps = by (q W) (h .steps) }
       where
         by : (p : Parsed (A × ℕ)) → PastBy c s p q → GoesBy inh c s p q
-        by (got x) g = (omega (arith, least-next s inh, g .0), g .1)
+        by (got x) g = (omega (arith, least-next s inh, g .0), g .1, g .2)
         by (no n j) g =
             λ e. (
               g e .0,
@@ -275,6 +295,7 @@ module _ (W : ℕ → ℕ) where
                   by-same j s
                   (λ z. record { done = record { words = inh; reads = λ U same t. subst (λ (i : ℕ). Made inh c i q) (sym z) (made (omega arith)) U t }; first = λ _. refl })
                   (λ d. record { done = g e .1 (omega (arith, g e .0, d)) w; first = λ z. absurd (d z) }),
+              g e .2,
             )
 
     pub begun : (inh : List ℕ) (c s : ℕ) (q : Family A) → Made inh c s q → Past c s q → Both inh c s q
@@ -287,7 +308,7 @@ module _ (W : ℕ → ℕ) where
     goes-of : (inh : List ℕ) (c s : ℕ) (q r : Family A) → ((U : ℕ → ℕ) → Agrees U s → (U s ≡ W s) ⊎ (U s ≡ headOf inh c) → r U ≡ q U) → (p : Parsed (A × ℕ)) → GoesBy inh c s p q → GoesBy inh c s p r
     unfolding completed-as
     goes-of inh c s q r same (got x) g =
-        (g .0, λ U a e. same U (λ j m. a j (omega (arith, least-grows s inh, g .0))) (word U a e) ∙ g .1 U a e)
+        (g .0, λ U a e. same U (λ j m. a j (omega (arith, least-grows s inh, g .0))) (word U a e) ∙ g .1 U a e, g .2)
       where
         word : (U : ℕ → ℕ) → Agrees U (x .1) → (U (x .1) ≡ W (x .1)) ⊎ (U (x .1) ≡ c) → (U s ≡ W s) ⊎ (U s ≡ headOf inh c)
         word U a e =
@@ -302,6 +323,7 @@ module _ (W : ℕ → ℕ) where
                 done = completed-as c j q r (g e .1 w .done) (λ U a t. same U (λ i m. a i (omega (arith, g e .0))) (word e w U a t));
                 first = g e .1 w .first;
               },
+          g e .2,
         )
       where
         word : (e : n ≡ 8) (w : j ≤ wordLimit) (U : ℕ → ℕ) → Agrees U j → U j ≡ headOf (g e .1 w .done .words) c → (U s ≡ W s) ⊎ (U s ≡ headOf inh c)
@@ -314,43 +336,47 @@ module _ (W : ℕ → ℕ) where
     goes-as inh c s q r same h = record { steps = goes-of inh c s q r same (r W) (subst (λ (p : Parsed (A × ℕ)). GoesBy inh c s p q) (sym (same W (λ j m. refl) (inl refl))) (h .steps)) }
 
     past-of : (c s : ℕ) (q r : Family A) → ((U : ℕ → ℕ) → Agrees U (s + 1) → r U ≡ q U) → (p : Parsed (A × ℕ)) → PastBy c s p q → PastBy c s p r
-    past-of c s q r same (got x) g = (g .0, λ U a e. same U (λ j m. a j (omega (arith, g .0))) ∙ g .1 U a e)
-    past-of c s q r same (no n j) g = λ e. (g e .0, λ m w. completed-as c j q r (g e .1 m w) (λ U a _. same U (λ i v. a i (omega arith))))
+    past-of c s q r same (got x) g = (g .0, λ U a e. same U (λ j m. a j (omega (arith, g .0))) ∙ g .1 U a e, g .2)
+    past-of c s q r same (no n j) g = λ e. (g e .0, λ m w. completed-as c j q r (g e .1 m w) (λ U a _. same U (λ i v. a i (omega arith))), g e .2)
 
     pub past-as : (c s : ℕ) (q r : Family A) → ((U : ℕ → ℕ) → Agrees U (s + 1) → r U ≡ q U) → Past c s q → Past c s r
     past-as c s q r same h = record { steps = past-of c s q r same (r W) (subst (λ (p : Parsed (A × ℕ)). PastBy c s p q) (sym (same W (λ j m. refl))) (h .steps)) }
 
     -- what begins later
-    pub later : (inh : List ℕ) (c s t : ℕ) (q : Family A) → s < t → Goes inh c t q → Past c s q
-    later inh c s t q l h = record { steps = by (q W) (h .steps) }
+    pub far : (inh : List ℕ) (c s t : ℕ) (q : Family A) → s < t → Real s t → Goes inh c t q → Past c s q
+    far inh c s t q l r h = record { steps = by (q W) (h .steps) }
       where
         by : (p : Parsed (A × ℕ)) → GoesBy inh c t p q → PastBy c s p q
-        by (got x) g = (omega (arith, least-grows t inh, g .0), g .1)
-        by (no n j) g = λ e. (omega (arith, g e .0), λ m w. g e .1 w .done)
+        by (got x) g = (omega (arith, least-grows t inh, g .0), g .1, real-join s t (x .1) r (g .2))
+        by (no n j) g = λ e. (omega (arith, g e .0), λ m w. g e .1 w .done, real-join s t j r (g e .2))
+
+    -- behind the word at s
+    pub later : (inh : List ℕ) (c s t : ℕ) (q : Family A) → t ≡ s + 1 → Real s (s + 1) → Goes inh c t q → Past c s q
+    later inh c s t q e r h = far inh c s t q (omega arith) (subst (Real s) (sym e) r) h
 
     -- what is never empty
     pub filled : (v : ℕ) (inh : List ℕ) (c s : ℕ) (q : Family A) → Goes (v ∷ inh) c s q → Past c s q
     filled v inh c s q h = record { steps = by (q W) (h .steps) }
       where
         by : (p : Parsed (A × ℕ)) → GoesBy (v ∷ inh) c s p q → PastBy c s p q
-        by (got x) g = (omega (arith, g .0), g .1)
-        by (no n j) g = λ e. (g e .0, λ m w. g e .1 w .done)
+        by (got x) g = (omega (arith, g .0), g .1, g .2)
+        by (no n j) g = λ e. (g e .0, λ m w. g e .1 w .done, g e .2)
 
     pub refused-here : (c s : ℕ) (q : Family A) → q W ≡ no 8 s → Past c s q
-    refused-here c s q e = record { steps = subst (λ (p : Parsed (A × ℕ)). PastBy c s p q) (sym e) (λ _. (omega arith, λ m w. absurd (omega arith))) }
+    refused-here c s q e = record { steps = subst (λ (p : Parsed (A × ℕ)). PastBy c s p q) (sym e) (λ _. (omega arith, λ m w. absurd (omega arith), real-none s)) }
 
     pub done-both : (c n : ℕ) (f : (ℕ → ℕ) → A) → ((U : ℕ → ℕ) → Agrees U n → f U ≡ f W) → Both [] c n (λ U. got (f U, n))
-    done-both c n f same = record { made = λ U t. record { value = f U; is = refl }; goes = record { steps = (omega arith, λ U a e. ap (λ (x : A). got (x, n)) (same U a)) } }
+    done-both c n f same = record { made = λ U t. record { value = f U; is = refl }; goes = record { steps = (omega arith, λ U a e. ap (λ (x : A). got (x, n)) (same U a), real-none n) } }
 
     -- the same whatever the words are
     pub done : (c n : ℕ) (a : A) → Both [] c n (λ U. got (a, n))
     done c n a = done-both c n (λ U. a) (λ U _. refl)
 
     -- ---- tests of the word at hand
-    pub past-if : (f : ℕ → Bool) (c s : ℕ) (x y : Family A) → (f (W s) ≡ true → Past c s x) → (f (W s) ≡ false → Past c s y) → Past c s (λ U. if f (U s) then x U else y U)
-    past-if f c s x y h g =
+    pub past-if : (f : ℕ → Bool) (c s : ℕ) (x y : Family A) → f NOTHING ≡ false → (f (W s) ≡ true → Real s (s + 1) → Past c s x) → (f (W s) ≡ false → Past c s y) → Past c s (λ U. if f (U s) then x U else y U)
+    past-if f c s x y z h g =
         test (f (W s))
-        (λ t. past-as c s x _ (λ U a. yes-if (f (U s)) (x U) (y U) (ap f (a s (omega arith)) ∙ t)) (h t))
+        (λ t. past-as c s x _ (λ U a. yes-if (f (U s)) (x U) (y U) (ap f (a s (omega arith)) ∙ t)) (h t (real-word f s t z)))
         (λ t. past-as c s y _ (λ U a. no-if (f (U s)) (x U) (y U) (ap f (a s (omega arith)) ∙ t)) (g t))
 
     -- r where the test says v, as it does of the word that completes r; x otherwise
@@ -372,14 +398,14 @@ module _ (W : ℕ → ℕ) where
         decide false false f g = f refl
 
     module _ (f : ℕ → Bool) (inh : List ℕ) (c s : ℕ) (x r : Family A) where
-      pub if-else : f (headOf inh c) ≡ false → (f (W s) ≡ true → Past c s x) → Both inh c s r → Both inh c s (λ U. if f (U s) then x U else r U)
-      if-else e past h = choose f false inh c s _ x r (λ U t. no-if _ _ _ t) (λ U t d. yes-if _ _ _ (t ∙ not-false _ d)) e (λ d. past (not-false _ d)) h
+      pub if-else : f (headOf inh c) ≡ false → f NOTHING ≡ false → (f (W s) ≡ true → Real s (s + 1) → Past c s x) → Both inh c s r → Both inh c s (λ U. if f (U s) then x U else r U)
+      if-else e z past h = choose f false inh c s _ x r (λ U t. no-if _ _ _ t) (λ U t d. yes-if _ _ _ (t ∙ not-false _ d)) e (λ d. past (not-false _ d) (real-word f s (not-false _ d) z)) h
 
       pub if-then : f (headOf inh c) ≡ true → (f (W s) ≡ false → Past c s x) → Both inh c s r → Both inh c s (λ U. if f (U s) then r U else x U)
       if-then e past h = choose f true inh c s _ x r (λ U t. yes-if _ _ _ t) (λ U t d. no-if _ _ _ (t ∙ not-true _ d)) e (λ d. past (not-true _ d)) h
 
-      pub when-else : f (headOf inh c) ≡ false → (f (W s) ≡ true → Past c s x) → Both inh c s r → Both {A = A} inh c s (λ U. elim (f (U s)) [ true ↦ x U | false ↦ r U ])
-      when-else e past h = choose f false inh c s _ x r (λ U t. no-when _ _ _ t) (λ U t d. yes-when _ _ _ (t ∙ not-false _ d)) e (λ d. past (not-false _ d)) h
+      pub when-else : f (headOf inh c) ≡ false → f NOTHING ≡ false → (f (W s) ≡ true → Real s (s + 1) → Past c s x) → Both inh c s r → Both {A = A} inh c s (λ U. elim (f (U s)) [ true ↦ x U | false ↦ r U ])
+      when-else e z past h = choose f false inh c s _ x r (λ U t. no-when _ _ _ t) (λ U t d. yes-when _ _ _ (t ∙ not-false _ d)) e (λ d. past (not-false _ d) (real-word f s (not-false _ d) z)) h
 
       pub when-then : f (headOf inh c) ≡ true → (f (W s) ≡ false → Past c s x) → Both inh c s r → Both {A = A} inh c s (λ U. elim (f (U s)) [ true ↦ r U | false ↦ x U ])
       when-then e past h = choose f true inh c s _ x r (λ U t. yes-when _ _ _ t) (λ U t d. no-when _ _ _ (t ∙ not-true _ d)) e (λ d. past (not-true _ d)) h
@@ -387,7 +413,7 @@ module _ (W : ℕ → ℕ) where
   -- ---- a word that is asked for
   module _ {B : Type 0} (inh : List ℕ) (c at : ℕ) (k : (ℕ → ℕ) → ℕ → Parsed (B × ℕ)) where
     -- f tells the words that will do, v is one of them
-    module _ (f : ℕ → Bool) (v : ℕ) (q : Family B) (on : (U : ℕ → ℕ) → f (U at) ≡ true → q U ≡ k U (at + 1)) (off : f (W at) ≡ false → q W ≡ no 8 at) (e : f v ≡ true) where
+    module _ (f : ℕ → Bool) (v : ℕ) (q : Family B) (on : (U : ℕ → ℕ) → f (U at) ≡ true → q U ≡ k U (at + 1)) (off : f (W at) ≡ false → q W ≡ no 8 at) (e : f v ≡ true) (z : f NOTHING ≡ false) where
       asked-made : Made inh c (at + 1) (λ U. k U (at + 1)) → Made (v ∷ inh) c at q
       asked-made h U t = reads-as (on U (ap f (t .0) ∙ e)) (h U (t .1))
 
@@ -395,13 +421,13 @@ module _ (W : ℕ → ℕ) where
       asked-goes made h =
           start (v ∷ inh) c at q (λ w. asked-made (made w))
           (test (f (W at))
-          (λ t. past-as c at (λ U. k U (at + 1)) q (λ U a. on U (ap f (a at (omega arith)) ∙ t)) (later inh c at (at + 1) (λ U. k U (at + 1)) (omega arith) h))
+          (λ t. past-as c at (λ U. k U (at + 1)) q (λ U a. on U (ap f (a at (omega arith)) ∙ t)) (later inh c at (at + 1) (λ U. k U (at + 1)) refl (real-word f at t z) h))
           (λ t. refused-here c at q (off t)))
 
       asked-both : Both inh c (at + 1) (λ U. k U (at + 1)) → Both (v ∷ inh) c at q
       asked-both h = record { made = asked-made (h .made); goes = asked-goes (λ _. h .made) (h .goes) }
 
-    module _ (sort : ℕ) where
+    module _ (sort : ℕ) (word : eqb NOTHING sort ≡ false) where
       expect-yes : (U : ℕ → ℕ) → eqb (U at) sort ≡ true → (expect U sort at >>= k U) ≡ k U (at + 1)
       unfolding expect _>>=_
       expect-yes U t = ap (λ r. r >>= k U) (yes-if (eqb (U at) sort) _ _ t)
@@ -411,14 +437,14 @@ module _ (W : ℕ → ℕ) where
       expect-no t = ap (λ r. r >>= k W) (no-if (eqb (W at) sort) _ _ t)
 
       pub expect-made : Made inh c (at + 1) (λ U. k U (at + 1)) → Made (sort ∷ inh) c at (λ U. expect U sort at >>= k U)
-      expect-made = asked-made (λ s. eqb s sort) sort _ expect-yes expect-no (eq-eqb sort sort refl)
+      expect-made = asked-made (λ s. eqb s sort) sort _ expect-yes expect-no (eq-eqb sort sort refl) word
 
       pub expect-goes : (at ≤ wordLimit → Made inh c (at + 1) (λ U. k U (at + 1))) → Goes inh c (at + 1) (λ U. k U (at + 1)) → Goes (sort ∷ inh) c at (λ U. expect U sort at >>= k U)
-      expect-goes = asked-goes (λ s. eqb s sort) sort _ expect-yes expect-no (eq-eqb sort sort refl)
+      expect-goes = asked-goes (λ s. eqb s sort) sort _ expect-yes expect-no (eq-eqb sort sort refl) word
 
       pub expect-both : Both inh c (at + 1) (λ U. k U (at + 1)) → Both (sort ∷ inh) c at (λ U. expect U sort at >>= k U)
-      expect-both = asked-both (λ s. eqb s sort) sort _ expect-yes expect-no (eq-eqb sort sort refl)
+      expect-both = asked-both (λ s. eqb s sort) sort _ expect-yes expect-no (eq-eqb sort sort refl) word
 
     pub type-both : Both inh c (at + 1) (λ U. k U (at + 1)) → Both (NUM ∷ inh) c at (λ U. expectType U at >>= k U)
     unfolding expectType isType _>>=_
-    type-both = asked-both isType NUM _ (λ U t. ap (λ r. r >>= k U) (yes-if (isType (U at)) _ _ t)) (λ t. ap (λ r. r >>= k W) (no-if (isType (W at)) _ _ t)) refl
+    type-both = asked-both isType NUM _ (λ U t. ap (λ r. r >>= k U) (yes-if (isType (U at)) _ _ t)) (λ t. ap (λ r. r >>= k W) (no-if (isType (W at)) _ _ t)) refl refl
