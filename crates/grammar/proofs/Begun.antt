@@ -18,7 +18,7 @@ use Rattle.paper.specs.Expressions.{Parsed, Parser, got, no, _>>=_, parts, nest
 use Rattle.paper.specs.Statements.{targetIndex, target, valueSide, callSide, rightSide, assignment, procedureCall, startedByName, withOptional, written, tpWrite, tpReadNum, simpleWord, simpleStatement, elsePart, lastArm, arms, ifThen, ifSimple, ifStatement, stepPart, forStatement, whileStatement, defaultPart, lastCase, cases, testStatement, opening, plainStatement, statement, statements, listIn, list}
 use Rattle.paper.specs.Form.{initialPart, sizePart, varPart, constPart, datum, declaration, declarations, parameter, parameters, errorPart, routineFrom, function, routine, routines, formed}
 use Rattle.grammar.proofs.Completing.{both-true, not-both-false, neither-false}
-use Rattle.grammar.proofs.Completions.{Family, Made, reads-as, yes-if, no-if, yes-when, no-when, then-made, Agrees, Real, GoesBy, Goes, PastBy, Past, Both, then-goes, then-past, goes-then, both-then, goes-last, both-last, start, begun, goes-as, later, filled, refused-here, done-both, done, far, real-word, real-join, past-if, if-else, if-then, when-else, when-then, expect-made, expect-goes, expect-both, type-both}
+use Rattle.grammar.proofs.Completions.{Family, Made, reads-as, yes-if, no-if, yes-when, no-when, then-made, Agrees, Real, GoesBy, Goes, PastBy, Past, Both, then-goes, then-past, goes-then, both-then, goes-last, both-last, start, begun, goes-as, later, filled, refused-here, done-both, done, far, real-word, real-join, past-if, if-else, if-then, when-else, when-then, mapped, mapped-goes, last-word, expect-made, expect-goes, expect-both, type-both}
 
 -- A word behind an expression that is completed.
 pub record Ender (c : ℕ) : Type 0 where
@@ -62,7 +62,7 @@ module _ (W : ℕ → ℕ) where
     named-both at =
         if-else W (λ s. eqb s openBrace) [] c (at + 1) (λ U. indexed U (inner U) at) (λ U. got (leaf at, at + 1)) (ender .brace) refl
         (λ t r. later W (NUMBER ∷ closeBrace ∷ []) c (at + 1) (at + 2) _ (omega arith) r (goes-then W (λ U. inner U (at + 2)) _ (NUMBER ∷ []) (closeBrace ∷ []) c (at + 2) (in-braces (at + 2)) (λ x l.
-        expect-both W [] c (x .1) _ closeBrace refl (done W c (x .1 + 1) (element at (x .0))))))
+        last-word W c (x .1) closeBrace refl (element at (x .0)))))
         (done W c (at + 1) (leaf at))
 
     operand-past : (at : ℕ) → Past W c at (λ U. operand U (inner U) at)
@@ -70,7 +70,7 @@ module _ (W : ℕ → ℕ) where
     operand-past at =
         past-if W (λ s. eqb s openParen) c at (λ U. inParentheses U (inner U) at) _ refl
         (λ t r. later W (NUMBER ∷ closeParen ∷ []) c at (at + 1) _ (omega arith) r (goes-then W (λ U. inner U (at + 1)) _ (NUMBER ∷ []) (closeParen ∷ []) c (at + 1) (in-parens (at + 1)) (λ x l.
-        expect-both W [] c (x .1) _ closeParen refl (done W c (x .1 + 1) (nested at (x .0))))))
+        last-word W c (x .1) closeParen refl (nested at (x .0)))))
         (λ _. past-if W (λ s. eqb s NAME) c at (λ U. named U (inner U) at) _ refl (λ t r. later W [] c at (at + 1) _ (omega arith) r (named-both at .goes))
         (λ _. past-if W isLiteral c at (λ U. got (leaf at, at + 1)) (λ U. no 8 at) refl (λ t r. later W [] c at (at + 1) _ (omega arith) r (done W c (at + 1) (leaf at) .goes)) (λ _. refused-here W c at (λ U. no 8 at) refl)))
 
@@ -123,7 +123,7 @@ module _ (W : ℕ → ℕ) where
       unfolding prefixed
       prefixed-both at =
           when-else W (standsBefore (suc j)) (NUMBER ∷ []) c at _ (λ U. sub U at) (no-sign (suc j) NUMBER refl refl refl) (no-sign (suc j) NOTHING refl refl refl)
-          (λ t r. later W (NUMBER ∷ []) c at (at + 1) _ (omega arith) r (goes-then W (λ U. sub U (at + 1)) _ (NUMBER ∷ []) [] c (at + 1) (inside (at + 1) .goes) (λ x l. done W c (x .1) (signed at (x .0)))))
+          (λ t r. later W (NUMBER ∷ []) c at (at + 1) _ (omega arith) r (mapped-goes W (λ U. sub U (at + 1)) (NUMBER ∷ []) c (at + 1) (inside (at + 1) .goes) (λ x. signed at (x .0))))
           (inside at)
 
       next-level : (at : ℕ) → Both W (NUMBER ∷ []) c at (λ U. prefixed U (suc j) (sub U) at >>= λ x. chain U parts (suc j) (sub U) (x .0) (x .1))
@@ -211,7 +211,7 @@ module _ (W : ℕ → ℕ) where
         (λ t r. then-past W (λ U. one U at) _ [] c at
         (λ w x m. then-made (λ U. repeated U p starts (one U) (x .1)) _ [] [] c (x .1) (repeated-made p (x .1) (omega arith)) (λ y _. done W c (y .1) (x .0 ∷ y .0) .made))
         (inside at r)
-        (λ x m. goes-then W (λ U. repeated U p starts (one U) (x .1)) _ [] [] c (x .1) (repeated-goes p (x .1) (omega arith)) (λ y _. done W c (y .1) (x .0 ∷ y .0))))
+        (λ x m. mapped-goes W (λ U. repeated U p starts (one U) (x .1)) [] c (x .1) (repeated-goes p (x .1) (omega arith)) (λ y. x .0 ∷ y .0)))
         (done W c at []) .goes
 
     repeated-both : (at : ℕ) → Both W [] c at (λ U. repeated U parts starts (one U) at)
@@ -234,7 +234,7 @@ module _ (W : ℕ → ℕ) where
       goes-as W [] c (at + 1) r _ (λ U a _. yes-when (eqb (U at) NAME) _ _ (eq-eqb (U at) NAME (a at (omega arith) ∙ e)))
       (when-else W (λ s. eqb s openBrace) [] c (at + 1) (λ U. targetIndex U at) (λ U. got (record { name = at; index = none }, at + 1)) b refl
       (λ t r. later W (NUMBER ∷ closeBrace ∷ []) c (at + 1) (at + 2) _ (omega arith) r (goes-then W (λ U. exprIn U nestings (at + 2)) _ (NUMBER ∷ []) (closeBrace ∷ []) c (at + 2) (expr-in-goes nestings closeBrace (at + 2) brace-ender) (λ x l.
-      expect-both W [] c (x .1) _ closeBrace refl (done W c (x .1 + 1) (record { name = at; index = some (x .0) })))))
+      last-word W c (x .1) closeBrace refl (record { name = at; index = some (x .0) }))))
       (done W c (at + 1) (record { name = at; index = none })) .goes)
 
   target-both : (c at : ℕ) → eqb c openBrace ≡ false → Both W (NAME ∷ []) c at (λ U. target U at)
@@ -251,15 +251,15 @@ module _ (W : ℕ → ℕ) where
   module _ (t : Target) (at : ℕ) where
     value-side : Both W (NUMBER ∷ []) semicolon at (λ U. valueSide U t at)
     unfolding valueSide
-    value-side = both-then W (λ U. expr U at) _ (NUMBER ∷ []) [] semicolon at (expr-both semicolon at semicolon-ender) (λ x l. done W semicolon (x .1) (assign t (x .0)))
+    value-side = mapped W (λ U. expr U at) (NUMBER ∷ []) semicolon at (expr-both semicolon at semicolon-ender) (λ x. assign t (x .0))
 
     named-side : W at ≡ NAME → Goes W [] semicolon (at + 1) (λ U. valueSide U t at)
     unfolding valueSide
-    named-side e = goes-then W (λ U. expr U at) _ [] [] semicolon (at + 1) (named-expr semicolon at semicolon-ender e) (λ x l. done W semicolon (x .1) (assign t (x .0)))
+    named-side e = mapped-goes W (λ U. expr U at) [] semicolon (at + 1) (named-expr semicolon at semicolon-ender e) (λ x. assign t (x .0))
 
     call-side : Both W (closeParen ∷ []) semicolon (at + 2) (λ U. callSide U t at)
     unfolding callSide
-    call-side = both-then W (λ U. arguments U closeParen (at + 2)) _ [] (closeParen ∷ []) semicolon (at + 2) (arguments-both closeParen (at + 2) paren-ender refl) (λ x l. expect-both W [] semicolon (x .1) _ closeParen refl (done W semicolon (x .1 + 1) (assignCall t at (x .0))))
+    call-side = both-then W (λ U. arguments U closeParen (at + 2)) _ [] (closeParen ∷ []) semicolon (at + 2) (arguments-both closeParen (at + 2) paren-ender refl) (λ x l. last-word W semicolon (x .1) closeParen refl (assignCall t at (x .0)))
 
     -- a word that is as before, or the one of a completion
     stays-false : (f : ℕ → Bool) (s : ℕ) (v w : ℕ) → f w ≡ false → f v ≡ false → (s ≡ w) ⊎ (s ≡ v) → f s ≡ false
@@ -295,7 +295,7 @@ module _ (W : ℕ → ℕ) where
 
     procedure-call : Both W [] semicolon (at + 1) (λ U. procedureCall U at)
     unfolding procedureCall
-    procedure-call = both-then W (λ U. arguments U semicolon (at + 1)) _ [] [] semicolon (at + 1) (arguments-both semicolon (at + 1) semicolon-ender refl) (λ x l. done W semicolon (x .1) (call at (x .0)))
+    procedure-call = mapped W (λ U. arguments U semicolon (at + 1)) [] semicolon (at + 1) (arguments-both semicolon (at + 1) semicolon-ender refl) (λ x. call at (x .0))
 
     by-name : W at ≡ NAME → Both W [] semicolon (at + 1) (λ U. startedByName U at)
     unfolding startedByName
@@ -306,7 +306,7 @@ module _ (W : ℕ → ℕ) where
     unfolding unless
     unless-both =
         when-then W (λ s. eqb s semicolon) [] semicolon at (λ U. expr U at >>= λ x. got (some (x .0), x .1)) (λ U. got (none, at)) refl
-        (λ t. filled W NUMBER [] semicolon at _ (goes-then W (λ U. expr U at) _ (NUMBER ∷ []) [] semicolon at (expr-both semicolon at semicolon-ender .goes) (λ x l. done W semicolon (x .1) (some (x .0)))))
+        (λ t. filled W NUMBER [] semicolon at _ (mapped-goes W (λ U. expr U at) (NUMBER ∷ []) semicolon at (expr-both semicolon at semicolon-ender .goes) (λ x. some (x .0))))
         (done W semicolon at none)
 
     written-both : Both W [] semicolon at (λ U. written U at)
@@ -316,22 +316,22 @@ module _ (W : ℕ → ℕ) where
         (λ t r. later W (NUM ∷ becomes ∷ NUMBER ∷ []) semicolon at (at + 1) _ (omega arith) r (
         expect-both W (becomes ∷ NUMBER ∷ []) semicolon (at + 1) _ NUM refl (
         expect-both W (NUMBER ∷ []) semicolon (at + 1 + 1) _ becomes refl (
-        both-then W (λ U. expr U (at + 1 + 1 + 1)) _ (NUMBER ∷ []) [] semicolon (at + 1 + 1 + 1) (expr-both semicolon (at + 1 + 1 + 1) semicolon-ender) (λ x l. done W semicolon (x .1) (some (x .0))))) .goes))
+        mapped W (λ U. expr U (at + 1 + 1 + 1)) (NUMBER ∷ []) semicolon (at + 1 + 1 + 1) (expr-both semicolon (at + 1 + 1 + 1) semicolon-ender) (λ x. some (x .0)))) .goes))
         (done W semicolon at none)
 
   optional-both : (make : ℕ → Option Expr → Simple) (at : ℕ) → Both W [] semicolon (at + 1) (λ U. withOptional U make at)
   unfolding withOptional
-  optional-both make at = both-then W (λ U. unless U semicolon (at + 1)) _ [] [] semicolon (at + 1) (unless-both (at + 1)) (λ x l. done W semicolon (x .1) (make at (x .0)))
+  optional-both make at = mapped W (λ U. unless U semicolon (at + 1)) [] semicolon (at + 1) (unless-both (at + 1)) (λ x. make at (x .0))
 
   write-both : (at : ℕ) → Both W (STRING ∷ []) semicolon (at + 1) (λ U. tpWrite U at)
   unfolding tpWrite
-  write-both at = expect-both W [] semicolon (at + 1) _ STRING refl (both-then W (λ U. written U (at + 1 + 1)) _ [] [] semicolon (at + 1 + 1) (written-both (at + 1 + 1)) (λ x l. done W semicolon (x .1) (writes at (at + 1) (x .0))))
+  write-both at = expect-both W [] semicolon (at + 1) _ STRING refl (mapped W (λ U. written U (at + 1 + 1)) [] semicolon (at + 1 + 1) (written-both (at + 1 + 1)) (λ x. writes at (at + 1) (x .0)))
 
   read-both : (at : ℕ) → Both W (NAME ∷ comma ∷ STRING ∷ []) semicolon (at + 1) (λ U. tpReadNum U at)
   unfolding tpReadNum
   read-both at =
       both-then W (λ U. target U (at + 1)) _ (NAME ∷ []) (comma ∷ STRING ∷ []) semicolon (at + 1) (target-both comma (at + 1) refl) (λ x l.
-      expect-both W (STRING ∷ []) semicolon (x .1) _ comma refl (expect-both W [] semicolon (x .1 + 1) _ STRING refl (done W semicolon (x .1 + 1 + 1) (reads at (x .0) (x .1 + 1)))))
+      expect-both W (STRING ∷ []) semicolon (x .1) _ comma refl (last-word W semicolon (x .1 + 1) STRING refl (reads at (x .0) (x .1 + 1))))
 
   simple-past : (at : ℕ) → Past W semicolon at (λ U. simpleWord U at)
   unfolding simpleWord
@@ -351,7 +351,7 @@ module _ (W : ℕ → ℕ) where
   simple-both c at =
       both-then W (λ U. simpleWord U at) _ (EXIT ∷ []) (semicolon ∷ []) c at
       (begun W (EXIT ∷ []) semicolon at (λ U. simpleWord U at) (λ U t. record { value = exits at; is = rw (t .0, simpleWord) }) (simple-past at))
-      (λ x l. expect-both W [] c (x .1) _ semicolon refl (done W c (x .1 + 1) (x .0)))
+      (λ x l. last-word W c (x .1) semicolon refl (x .0))
 
   -- ---- compound statements
   word-ender : (c : ℕ) → levelOf c ≡ 0 → eqb c openBrace ≡ false → Ender c
@@ -361,13 +361,13 @@ module _ (W : ℕ → ℕ) where
   unfolding stepPart levelOf
   step-both at =
       when-else W (λ s. eqb s STEP) [] DO at (λ U. expr U (at + 1) >>= λ x. got (some (x .0), x .1)) (λ U. got (none, at)) refl refl
-      (λ t r. later W (NUMBER ∷ []) DO at (at + 1) _ (omega arith) r (goes-then W (λ U. expr U (at + 1)) _ (NUMBER ∷ []) [] DO (at + 1) (expr-both DO (at + 1) (word-ender DO refl refl) .goes) (λ x l. done W DO (x .1) (some (x .0)))))
+      (λ t r. later W (NUMBER ∷ []) DO at (at + 1) _ (omega arith) r (mapped-goes W (λ U. expr U (at + 1)) (NUMBER ∷ []) DO (at + 1) (expr-both DO (at + 1) (word-ender DO refl refl) .goes) (λ x. some (x .0))))
       (done W DO at none)
 
   -- "compact `IF e` with one of these"
   compact-both : (c at : ℕ) (e : Expr) (n : ℕ) → Both W (EXIT ∷ semicolon ∷ []) c n (λ U. ifSimple U at e n)
   unfolding ifSimple
-  compact-both c at e n = both-then W (λ U. simpleStatement U n) _ (EXIT ∷ semicolon ∷ []) [] c n (simple-both c n) (λ x l. done W c (x .1) (compactIf at e (x .0)))
+  compact-both c at e n = mapped W (λ U. simpleStatement U n) (EXIT ∷ semicolon ∷ []) c n (simple-both c n) (λ x. compactIf at e (x .0))
 
   -- `list` reads the statements inside.
   module _ (list : Parsers Statements) (inside : (c at : ℕ) → startsStatement c ≡ false → Both W [] c at (λ U. list U at)) where
@@ -377,7 +377,7 @@ module _ (W : ℕ → ℕ) where
 
     last-arm : (c : ℕ) (e : Expr) (b : Statements) (at : ℕ) → Both W (ENDIF ∷ []) c at (λ U. lastArm U (list U) e b at)
     unfolding lastArm
-    last-arm c e b at = both-then W (λ U. elsePart U (list U) at) _ [] (ENDIF ∷ []) c at (else-both at) (λ x l. expect-both W [] c (x .1) _ ENDIF refl (done W c (x .1 + 1) (arm e b noArm, x .0)))
+    last-arm c e b at = both-then W (λ U. elsePart U (list U) at) _ [] (ENDIF ∷ []) c at (else-both at) (λ x l. last-word W c (x .1) ENDIF refl (arm e b noArm, x .0))
 
     arms-made : (c p at : ℕ) (e : Expr) → 0 < p → Made (ENDIF ∷ []) c at (λ U. arms U p (list U) e at)
     unfolding arms startsStatement startsSimple
@@ -397,15 +397,13 @@ module _ (W : ℕ → ℕ) where
         (expr-both THEN (x .1 + 1) (word-ender THEN refl refl) .goes)
         (λ y o. expect-goes W (ENDIF ∷ []) c (y .1) _ THEN refl
         (λ w. then-made (λ U. arms U p (list U) (y .0) (y .1 + 1)) _ (ENDIF ∷ []) [] c (y .1 + 1) (arms-made c p (y .1 + 1) (y .0) (omega arith)) (λ z _. done W c (z .1) (arm e (x .0) (z .0 .0), z .0 .1) .made))
-        (goes-then W (λ U. arms U p (list U) (y .0) (y .1 + 1)) _ (ENDIF ∷ []) [] c (y .1 + 1) (arms-goes c p (y .1 + 1) (y .0) (omega arith)) (λ z _. done W c (z .1) (arm e (x .0) (z .0 .0), z .0 .1))))))
+        (mapped-goes W (λ U. arms U p (list U) (y .0) (y .1 + 1)) (ENDIF ∷ []) c (y .1 + 1) (arms-goes c p (y .1 + 1) (y .0) (omega arith)) (λ z. (arm e (x .0) (z .0 .0), z .0 .1))))))
         (last-arm c e (x .0) (x .1)))
 
     then-both : (c at : ℕ) (e : Expr) (n : ℕ) → Both W (ENDIF ∷ []) c (n + 1) (λ U. ifThen U at (list U) e n)
     unfolding ifThen
     then-both c at e n =
-        both-then W (λ U. arms U parts (list U) e (n + 1)) _ (ENDIF ∷ []) [] c (n + 1)
-        (record { made = arms-made c parts (n + 1) e (omega arith); goes = arms-goes c parts (n + 1) e (omega arith) })
-        (λ x l. done W c (x .1) (fullIf at (x .0 .0) (x .0 .1)))
+        mapped W (λ U. arms U parts (list U) e (n + 1)) (ENDIF ∷ []) c (n + 1) (record { made = arms-made c parts (n + 1) e (omega arith); goes = arms-goes c parts (n + 1) e (omega arith) }) (λ x. fullIf at (x .0 .0) (x .0 .1))
 
     for-both : (c at : ℕ) → Both W (NAME ∷ FROM ∷ NUMBER ∷ TO ∷ NUMBER ∷ DO ∷ ENDFOR ∷ []) c (at + 1) (λ U. forStatement U (list U) at)
     unfolding forStatement startsStatement startsSimple levelOf
@@ -418,7 +416,7 @@ module _ (W : ℕ → ℕ) where
         both-then W (λ U. stepPart U (b .1)) _ [] (DO ∷ ENDFOR ∷ []) c (b .1) (step-both (b .1)) (λ s _.
         expect-both W (ENDFOR ∷ []) c (s .1) _ DO refl (
         both-then W (λ U. list U (s .1 + 1)) _ [] (ENDFOR ∷ []) c (s .1 + 1) (inside ENDFOR (s .1 + 1) refl) (λ x _.
-        expect-both W [] c (x .1) _ ENDFOR refl (done W c (x .1 + 1) (for at (at + 1) (a .0) (b .0) (s .0) (x .0) (x .1)))))))))))
+        last-word W c (x .1) ENDFOR refl (for at (at + 1) (a .0) (b .0) (s .0) (x .0) (x .1))))))))))
 
     while-both : (c at : ℕ) → Both W (NUMBER ∷ DO ∷ ENDWHILE ∷ []) c (at + 1) (λ U. whileStatement U (list U) at)
     unfolding whileStatement startsStatement startsSimple levelOf
@@ -426,7 +424,7 @@ module _ (W : ℕ → ℕ) where
         both-then W (λ U. expr U (at + 1)) _ (NUMBER ∷ []) (DO ∷ ENDWHILE ∷ []) c (at + 1) (expr-both DO (at + 1) (word-ender DO refl refl)) (λ e _.
         expect-both W (ENDWHILE ∷ []) c (e .1) _ DO refl (
         both-then W (λ U. list U (e .1 + 1)) _ [] (ENDWHILE ∷ []) c (e .1 + 1) (inside ENDWHILE (e .1 + 1) refl) (λ x _.
-        expect-both W [] c (x .1) _ ENDWHILE refl (done W c (x .1 + 1) (while at (e .0) (x .0))))))
+        last-word W c (x .1) ENDWHILE refl (while at (e .0) (x .0)))))
 
     default-both : (at : ℕ) → Both W [] ENDTEST at (λ U. defaultPart U (list U) at)
     unfolding defaultPart startsStatement startsSimple
@@ -437,7 +435,7 @@ module _ (W : ℕ → ℕ) where
 
     last-case : (c at : ℕ) → Both W (ENDTEST ∷ []) c at (λ U. lastCase U (list U) at)
     unfolding lastCase
-    last-case c at = both-then W (λ U. defaultPart U (list U) at) _ [] (ENDTEST ∷ []) c at (default-both at) (λ x l. expect-both W [] c (x .1) _ ENDTEST refl (done W c (x .1 + 1) (noCase, x .0)))
+    last-case c at = both-then W (λ U. defaultPart U (list U) at) _ [] (ENDTEST ∷ []) c at (default-both at) (λ x l. last-word W c (x .1) ENDTEST refl (noCase, x .0))
 
     cases-made : (c p at : ℕ) → 0 < p → Made (ENDTEST ∷ []) c at (λ U. cases U p (list U) at)
     unfolding cases
@@ -464,16 +462,14 @@ module _ (W : ℕ → ℕ) where
         then-goes W (λ U. list U (y .1 + 1)) _ [] (ENDTEST ∷ []) c (y .1 + 1)
         (λ w b _. then-made (λ U. cases U p (list U) (b .1)) _ (ENDTEST ∷ []) [] c (b .1) (cases-made c p (b .1) (omega arith)) (λ z _. done W c (z .1) (case (y .0) (b .0) (z .0 .0), z .0 .1) .made))
         (inside ENDTEST (y .1 + 1) refl .goes)
-        (λ b m. goes-then W (λ U. cases U p (list U) (b .1)) _ (ENDTEST ∷ []) [] c (b .1) (cases-goes c p (b .1) (omega arith)) (λ z _. done W c (z .1) (case (y .0) (b .0) (z .0 .0), z .0 .1)))))))
+        (λ b m. mapped-goes W (λ U. cases U p (list U) (b .1)) (ENDTEST ∷ []) c (b .1) (cases-goes c p (b .1) (omega arith)) (λ z. (case (y .0) (b .0) (z .0 .0), z .0 .1)))))))
         (last-case c at) .goes
 
     test-both : (c at : ℕ) → Both W (NUMBER ∷ ENDTEST ∷ []) c (at + 1) (λ U. testStatement U (list U) at)
     unfolding testStatement levelOf
     test-both c at =
         both-then W (λ U. expr U (at + 1)) _ (NUMBER ∷ []) (ENDTEST ∷ []) c (at + 1) (expr-both ENDTEST (at + 1) (word-ender ENDTEST refl refl)) (λ e _.
-        both-then W (λ U. cases U parts (list U) (e .1)) _ (ENDTEST ∷ []) [] c (e .1)
-        (record { made = cases-made c parts (e .1) (omega arith); goes = cases-goes c parts (e .1) (omega arith) })
-        (λ x _. done W c (x .1) (testTree at (e .0) (x .0 .0) (x .0 .1))))
+        mapped W (λ U. cases U parts (list U) (e .1)) (ENDTEST ∷ []) c (e .1) (record { made = cases-made c parts (e .1) (omega arith); goes = cases-goes c parts (e .1) (omega arith) }) (λ x. testTree at (e .0) (x .0 .0) (x .0 .1)))
 
   -- The compound statements, with what stands deeper if anything may.
   record Nests (deeper : (ℕ → ℕ) → Option (Parser Statements)) : Type 0 where
@@ -521,7 +517,7 @@ module _ (W : ℕ → ℕ) where
         past-if W (λ s. eqb s FOR) c at (λ U. opening U (deeper U) (forStatement U) at) _ refl (λ _ r. nests .a-for c at r) (λ _.
         past-if W (λ s. eqb s WHILE) c at (λ U. opening U (deeper U) (whileStatement U) at) _ refl (λ _ r. nests .a-while c at r) (λ _.
         past-if W (λ s. eqb s TEST) c at (λ U. opening U (deeper U) (testStatement U) at) (λ U. plainStatement U at) refl (λ _ r. nests .a-test c at r) (λ _.
-        filled W EXIT (semicolon ∷ []) c at _ (goes-then W (λ U. simpleStatement U at) _ (EXIT ∷ semicolon ∷ []) [] c at (simple-both c at .goes) (λ x _. done W c (x .1) (simple (x .0))))))))
+        filled W EXIT (semicolon ∷ []) c at _ (mapped-goes W (λ U. simpleStatement U at) (EXIT ∷ semicolon ∷ []) c at (simple-both c at .goes) (λ x. simple (x .0)))))))
 
     module _ (c : ℕ) (ends : startsStatement c ≡ false) where
       statements-made : (p at : ℕ) → 0 < p → Made [] c at (λ U. statements U p (deeper U) at)
@@ -537,7 +533,7 @@ module _ (W : ℕ → ℕ) where
           (λ _ _. then-past W (λ U. statement U (deeper U) at) _ [] c at
           (λ w x _. then-made (λ U. statements U p (deeper U) (x .1)) _ [] [] c (x .1) (statements-made p (x .1) (omega arith)) (λ y _. done W c (y .1) (x .0 then y .0) .made))
           (statement-past c at)
-          (λ x m. goes-then W (λ U. statements U p (deeper U) (x .1)) _ [] [] c (x .1) (statements-goes p (x .1) (omega arith)) (λ y _. done W c (y .1) (x .0 then y .0))))
+          (λ x m. mapped-goes W (λ U. statements U p (deeper U) (x .1)) [] c (x .1) (statements-goes p (x .1) (omega arith)) (λ y. x .0 then y .0)))
           (done W c at empty) .goes
 
       statements-both : (at : ℕ) → Both W [] c at (λ U. statements U parts (deeper U) at)
@@ -557,17 +553,17 @@ module _ (W : ℕ → ℕ) where
   unfolding varPart initialPart sizePart
   var-both at =
       if-else W (λ s. eqb s becomes) [] semicolon at (λ U. initialPart U (at + 1)) _ refl refl
-      (λ _ r. later W (NUMBER ∷ []) semicolon at (at + 1) _ (omega arith) r (goes-then W (λ U. expr U (at + 1)) _ (NUMBER ∷ []) [] semicolon (at + 1) (expr-both semicolon (at + 1) semicolon-ender .goes) (λ x _. done W semicolon (x .1) (initialData (x .0)))))
+      (λ _ r. later W (NUMBER ∷ []) semicolon at (at + 1) _ (omega arith) r (mapped-goes W (λ U. expr U (at + 1)) (NUMBER ∷ []) semicolon (at + 1) (expr-both semicolon (at + 1) semicolon-ender .goes) (λ x. initialData (x .0))))
       (if-else W (λ s. eqb s openBrace) [] semicolon at (λ U. sizePart U (at + 1)) (λ U. got (variableData, at)) refl refl
       (λ _ r. later W (NUMBER ∷ closeBrace ∷ []) semicolon at (at + 1) _ (omega arith) r (goes-then W (λ U. expr U (at + 1)) _ (NUMBER ∷ []) (closeBrace ∷ []) semicolon (at + 1) (expr-both closeBrace (at + 1) brace-ender .goes) (λ x _.
-      expect-both W [] semicolon (x .1) _ closeBrace refl (done W semicolon (x .1 + 1) (arrayData (x .0))))))
+      last-word W semicolon (x .1) closeBrace refl (arrayData (x .0)))))
       (done W semicolon at variableData))
 
   const-both : (at : ℕ) → Both W (becomes ∷ NUMBER ∷ []) semicolon at (λ U. constPart U at)
   unfolding constPart
   const-both at =
       expect-both W (NUMBER ∷ []) semicolon at _ becomes refl (
-      both-then W (λ U. expr U (at + 1)) _ (NUMBER ∷ []) [] semicolon (at + 1) (expr-both semicolon (at + 1) semicolon-ender) (λ x _. done W semicolon (x .1) (constantData (x .0))))
+      mapped W (λ U. expr U (at + 1)) (NUMBER ∷ []) semicolon (at + 1) (expr-both semicolon (at + 1) semicolon-ender) (λ x. constantData (x .0)))
 
   datum-both : (content : Parsers Content) (i : List ℕ) → ((at : ℕ) → Both W i semicolon at (λ U. content U at)) → (c at : ℕ) → Both W (NUM ∷ NAME ∷ i ++ semicolon ∷ []) c (at + 1) (λ U. datum U (content U) at)
   unfolding datum
@@ -604,7 +600,7 @@ module _ (W : ℕ → ℕ) where
   unfolding errorPart
   error-both c at r s =
       when-else W (λ w. eqb w ERROR) [] c at _ (λ U. got (none, at)) r refl
-      (λ _ r. later W [] c at (at + 1) _ (omega arith) r (goes-then W (λ U. list U (at + 1)) _ [] [] c (at + 1) (list-both c (at + 1) s .goes) (λ x _. done W c (x .1) (some (record { statements = x .0; closes = x .1 })))))
+      (λ _ r. later W [] c at (at + 1) _ (omega arith) r (mapped-goes W (λ U. list U (at + 1)) [] c (at + 1) (list-both c (at + 1) s .goes) (λ x. some (record { statements = x .0; closes = x .1 }))))
       (done W c at none)
 
   -- From the routine's name on; `result` is what the words before it tell.
@@ -644,7 +640,7 @@ module _ (W : ℕ → ℕ) where
       expect-both W (ENDMODULE ∷ []) NOTHING 1 _ NAME refl (
       both-then W (λ U. declarations U 2) _ [] (ENDMODULE ∷ []) NOTHING 2 (declarations-both ENDMODULE 2 refl) (λ ds _.
       both-then W (λ U. routines U (ds .1)) _ [] (ENDMODULE ∷ []) NOTHING (ds .1) (routines-both ENDMODULE (ds .1) refl) (λ rs _.
-      expect-both W [] NOTHING (rs .1) _ ENDMODULE refl (done W NOTHING (rs .1 + 1) (record { declared = ds .0; routines = rs .0 }))))))
+      last-word W NOTHING (rs .1) ENDMODULE refl (record { declared = ds .0; routines = rs .0 })))))
 
 -- "then nothing"
 abbrev pub ended : (U : ℕ → ℕ) → Module × ℕ → Parsed Module

@@ -410,6 +410,14 @@ module _ (W : ℕ → ℕ) where
       pub when-then : f (headOf inh c) ≡ true → (f (W s) ≡ false → Past c s x) → Both inh c s r → Both {A = A} inh c s (λ U. elim (f (U s)) [ true ↦ r U | false ↦ x U ])
       when-then e past h = choose f true inh c s _ x r (λ U t. yes-when _ _ _ t) (λ U t d. no-when _ _ _ (t ∙ not-true _ d)) e (λ d. past (not-true _ d)) h
 
+  -- something made of what is read
+  module _ {A B : Type 0} (q : Family A) (inh : List ℕ) (c s : ℕ) where
+    pub mapped : Both inh c s q → (f : A × ℕ → B) → Both inh c s (λ U. q U >>= λ x. got (f x, x .1))
+    mapped h f = both-last q (λ U x. got (f x, x .1)) inh c s h (λ x _. done c (x .1) (f x))
+
+    pub mapped-goes : Goes inh c s q → (f : A × ℕ → B) → Goes inh c s (λ U. q U >>= λ x. got (f x, x .1))
+    mapped-goes h f = goes-last q (λ U x. got (f x, x .1)) inh c s h (λ x _. done c (x .1) (f x))
+
   -- ---- a word that is asked for
   module _ {B : Type 0} (inh : List ℕ) (c at : ℕ) (k : (ℕ → ℕ) → ℕ → Parsed (B × ℕ)) where
     -- f tells the words that will do, v is one of them
@@ -448,3 +456,7 @@ module _ (W : ℕ → ℕ) where
     pub type-both : Both inh c (at + 1) (λ U. k U (at + 1)) → Both (NUM ∷ inh) c at (λ U. expectType U at >>= k U)
     unfolding expectType isType _>>=_
     type-both = asked-both isType NUM _ (λ U t. ap (λ r. r >>= k U) (yes-if (isType (U at)) _ _ t)) (λ t. ap (λ r. r >>= k W) (no-if (isType (W at)) _ _ t)) refl refl
+
+  -- the last word
+  pub last-word : {B : Type 0} (c at sort : ℕ) → eqb NOTHING sort ≡ false → (b : B) → Both (sort ∷ []) c at (λ U. expect U sort at >>= λ n. got (b, n))
+  last-word c at sort word b = expect-both [] c at (λ U n. got (b, n)) sort word (done c (at + 1) b)
