@@ -18,7 +18,7 @@ use Rattle.paper.specs.Expressions.{Parsed, Parser, got, no, _>>=_, parts, nest
 use Rattle.paper.specs.Statements.{targetIndex, target, valueSide, callSide, rightSide, assignment, procedureCall, startedByName, withOptional, written, tpWrite, tpReadNum, simpleWord, simpleStatement, elsePart, lastArm, arms, ifThen, ifSimple, ifStatement, stepPart, forStatement, whileStatement, defaultPart, lastCase, cases, testStatement, opening, plainStatement, statement, statements, listIn, list}
 use Rattle.paper.specs.Form.{initialPart, sizePart, varPart, constPart, datum, declaration, declarations, parameter, parameters, errorPart, routineFrom, function, routine, routines, formed}
 use Rattle.grammar.proofs.Completing.{both-true, not-both-false, neither-false}
-use Rattle.grammar.proofs.Completions.{Family, Made, reads-as, yes-if, no-if, yes-when, no-when, then-made, Agrees, Real, GoesBy, Goes, PastBy, Past, Both, then-goes, then-past, goes-then, both-then, goes-last, both-last, start, begun, goes-as, later, filled, refused-here, done-both, done, far, real-word, real-join, past-if, if-else, if-then, when-else, when-then, mapped, mapped-goes, last-word, expect-made, expect-goes, expect-both, type-both}
+use Rattle.grammar.proofs.Completions.{Family, Made, reads-as, yes-if, no-if, yes-when, no-when, then-made, Agrees, Real, GoesBy, Goes, PastBy, Past, Both, then-goes, then-past, goes-then, both-then, goes-last, both-last, start, begun, goes-as, later, next, filled, refused-here, done-both, done, far, real-word, real-join, past-if, if-else, if-then, when-else, when-then, mapped, mapped-goes, last-word, expect-made, expect-goes, expect-both, type-both}
 
 -- A word behind an expression that is completed.
 pub record Ender (c : ℕ) : Type 0 where
@@ -69,10 +69,10 @@ module _ (W : ℕ → ℕ) where
     unfolding operand inParentheses isLiteral
     operand-past at =
         past-if W (λ s. eqb s openParen) c at (λ U. inParentheses U (inner U) at) _ refl
-        (λ t r. later W (NUMBER ∷ closeParen ∷ []) c at (at + 1) _ (omega arith) r (goes-then W (λ U. inner U (at + 1)) _ (NUMBER ∷ []) (closeParen ∷ []) c (at + 1) (in-parens (at + 1)) (λ x l.
+        (λ t r. next W (NUMBER ∷ closeParen ∷ []) c at _ r (goes-then W (λ U. inner U (at + 1)) _ (NUMBER ∷ []) (closeParen ∷ []) c (at + 1) (in-parens (at + 1)) (λ x l.
         last-word W c (x .1) closeParen refl (nested at (x .0)))))
-        (λ _. past-if W (λ s. eqb s NAME) c at (λ U. named U (inner U) at) _ refl (λ t r. later W [] c at (at + 1) _ (omega arith) r (named-both at .goes))
-        (λ _. past-if W isLiteral c at (λ U. got (leaf at, at + 1)) (λ U. no 8 at) refl (λ t r. later W [] c at (at + 1) _ (omega arith) r (done W c (at + 1) (leaf at) .goes)) (λ _. refused-here W c at (λ U. no 8 at) refl)))
+        (λ _. past-if W (λ s. eqb s NAME) c at (λ U. named U (inner U) at) _ refl (λ t r. next W [] c at _ r (named-both at .goes))
+        (λ _. past-if W isLiteral c at (λ U. got (leaf at, at + 1)) (λ U. no 8 at) refl (λ t r. next W [] c at _ r (done W c (at + 1) (leaf at) .goes)) (λ _. refused-here W c at (λ U. no 8 at) refl)))
 
     operand-both : (at : ℕ) → Both W (NUMBER ∷ []) c at (λ U. operand U (inner U) at)
     unfolding operand isLiteral
@@ -101,7 +101,7 @@ module _ (W : ℕ → ℕ) where
       chain-goes zero at e l = worn [] c at _ refl (omega arith)
       chain-goes (suc p) at e l =
           when-else W (λ s. eqb (levelOf s) (suc j)) [] c at _ (λ U. got (e, at)) no-operator no-level
-          (λ t r. later W (NUMBER ∷ []) c at (at + 1) _ (omega arith) r (then-goes W (λ U. sub U (at + 1)) _ (NUMBER ∷ []) [] c (at + 1)
+          (λ t r. next W (NUMBER ∷ []) c at _ r (then-goes W (λ U. sub U (at + 1)) _ (NUMBER ∷ []) [] c (at + 1)
           (λ w x m. made (eqb (suc j) relations) x (omega arith))
           (inside (at + 1) .goes)
           (λ x m. goes (eqb (suc j) relations) x (chain-goes p (x .1) (joined at e (x .0)) (omega arith)))))
@@ -123,7 +123,7 @@ module _ (W : ℕ → ℕ) where
       unfolding prefixed
       prefixed-both at =
           when-else W (standsBefore (suc j)) (NUMBER ∷ []) c at _ (λ U. sub U at) (no-sign (suc j) NUMBER refl refl refl) (no-sign (suc j) NOTHING refl refl refl)
-          (λ t r. later W (NUMBER ∷ []) c at (at + 1) _ (omega arith) r (mapped-goes W (λ U. sub U (at + 1)) (NUMBER ∷ []) c (at + 1) (inside (at + 1) .goes) (λ x. signed at (x .0))))
+          (λ t r. next W (NUMBER ∷ []) c at _ r (mapped-goes W (λ U. sub U (at + 1)) (NUMBER ∷ []) c (at + 1) (inside (at + 1) .goes) (λ x. signed at (x .0))))
           (inside at)
 
       next-level : (at : ℕ) → Both W (NUMBER ∷ []) c at (λ U. prefixed U (suc j) (sub U) at >>= λ x. chain U parts (suc j) (sub U) (x .0) (x .1))
@@ -179,7 +179,7 @@ module _ (W : ℕ → ℕ) where
     separated-rest : (p : ℕ) (x : A × ℕ) → Goes W (v ∷ i) c (x .1 + 1) (λ U. separated U p (one U) (x .1 + 1)) → Both W [] c (x .1) (SeparatedRest p x)
     separated-rest p x h =
         when-else W (λ s. eqb s comma) [] c (x .1) (λ U. separated U p (one U) (x .1 + 1) >>= λ y. got (x .0 ∷ y .0, y .1)) (λ U. got (x .0 ∷ [], x .1)) no-comma refl
-        (λ t r. later W (v ∷ i) c (x .1) (x .1 + 1) _ (omega arith) r (goes-last W (λ U. separated U p (one U) (x .1 + 1)) _ (v ∷ i) c (x .1 + 1) h (λ y l. done W c (y .1) (x .0 ∷ y .0))))
+        (λ t r. next W (v ∷ i) c (x .1) _ r (goes-last W (λ U. separated U p (one U) (x .1 + 1)) _ (v ∷ i) c (x .1 + 1) h (λ y l. done W c (y .1) (x .0 ∷ y .0))))
         (done W c (x .1) (x .0 ∷ []))
 
     separated-goes : (p at : ℕ) → parts ≤ p + at → Goes W (v ∷ i) c at (λ U. separated U p (one U) at)
@@ -242,7 +242,7 @@ module _ (W : ℕ → ℕ) where
   target-both c at b =
       begun W (NAME ∷ []) c at _
       (λ U t. record { value = record { name = at; index = none }; is = yes-when (eqb (U at) NAME) _ _ (eq-eqb (U at) NAME (t .0)) ∙ no-when (eqb (U (at + 1)) openBrace) _ _ (ap (λ (s : ℕ). eqb s openBrace) (t .1) ∙ b) })
-      (test (eqb (W at) NAME) (λ t. later W [] c at (at + 1) _ (omega arith) (real-word W (λ s. eqb s NAME) at t refl) (target-from c at b (eqb-true (W at) NAME t))) (λ t. refused-here W c at _ (no-when (eqb (W at) NAME) _ _ t)))
+      (test (eqb (W at) NAME) (λ t. next W [] c at _ (real-word W (λ s. eqb s NAME) at t refl) (target-from c at b (eqb-true (W at) NAME t))) (λ t. refused-here W c at _ (no-when (eqb (W at) NAME) _ _ t)))
 
   semicolon-ender : Ender semicolon
   unfolding levelOf
@@ -284,7 +284,7 @@ module _ (W : ℕ → ℕ) where
             test (eqb (W (at + 1)) openParen)
             (λ o. far W (closeParen ∷ []) semicolon at (at + 2) (λ U. rightSide U t at) (omega arith) (two n o) (goes-as W (closeParen ∷ []) semicolon (at + 2) (λ U. callSide U t at) (λ U. rightSide U t at) (λ U a _.
             yes-if _ _ _ (both-true (eqb (U at) NAME) (eqb (U (at + 1)) openParen) (ap (λ (s : ℕ). eqb s NAME) (a at (omega arith)) ∙ n) (ap (λ (s : ℕ). eqb s openParen) (a (at + 1) (omega arith)) ∙ o))) (call-side .goes)))
-            (λ o. later W [] semicolon at (at + 1) (λ U. rightSide U t at) (omega arith) (real-word W (λ s. eqb s NAME) at n refl) (goes-as W [] semicolon (at + 1) (λ U. valueSide U t at) (λ U. rightSide U t at) (λ U a e.
+            (λ o. next W [] semicolon at (λ U. rightSide U t at) (real-word W (λ s. eqb s NAME) at n refl) (goes-as W [] semicolon (at + 1) (λ U. valueSide U t at) (λ U. rightSide U t at) (λ U a e.
             no-if _ _ _ (not-both-false (eqb (U at) NAME) (eqb (U (at + 1)) openParen) (λ _ b. false-true (sym (stays-false (λ s. eqb s openParen) (U (at + 1)) semicolon (W (at + 1)) o refl e) ∙ b)))) (named-side (eqb-true (W at) NAME n))))
 
   module _ (at : ℕ) where
@@ -313,7 +313,7 @@ module _ (W : ℕ → ℕ) where
     unfolding written
     written-both =
         when-else W (λ s. eqb s backslash) [] semicolon at _ (λ U. got (none, at)) refl refl
-        (λ t r. later W (NUM ∷ becomes ∷ NUMBER ∷ []) semicolon at (at + 1) _ (omega arith) r (
+        (λ t r. next W (NUM ∷ becomes ∷ NUMBER ∷ []) semicolon at _ r (
         expect-both W (becomes ∷ NUMBER ∷ []) semicolon (at + 1) _ NUM refl (
         expect-both W (NUMBER ∷ []) semicolon (at + 1 + 1) _ becomes refl (
         mapped W (λ U. expr U (at + 1 + 1 + 1)) (NUMBER ∷ []) semicolon (at + 1 + 1 + 1) (expr-both semicolon (at + 1 + 1 + 1) semicolon-ender) (λ x. some (x .0)))) .goes))
@@ -336,14 +336,14 @@ module _ (W : ℕ → ℕ) where
   simple-past : (at : ℕ) → Past W semicolon at (λ U. simpleWord U at)
   unfolding simpleWord
   simple-past at =
-      past-if W (λ s. eqb s NAME) semicolon at (λ U. startedByName U at) _ refl (λ t r. later W [] semicolon at (at + 1) _ (omega arith) r (by-name at (eqb-true _ _ t) .goes)) (λ _.
-      past-if W (λ s. eqb s RETURN) semicolon at (λ U. withOptional U returns at) _ refl (λ _ r. later W [] semicolon at (at + 1) _ (omega arith) r (optional-both returns at .goes)) (λ _.
-      past-if W (λ s. eqb s RAISE) semicolon at (λ U. withOptional U raises at) _ refl (λ _ r. later W [] semicolon at (at + 1) _ (omega arith) r (optional-both raises at .goes)) (λ _.
-      past-if W (λ s. eqb s EXIT) semicolon at (λ U. got (exits at, at + 1)) _ refl (λ _ r. later W [] semicolon at (at + 1) _ (omega arith) r (done W semicolon (at + 1) (exits at) .goes)) (λ _.
-      past-if W (λ s. eqb s RETRY) semicolon at (λ U. got (retries at, at + 1)) _ refl (λ _ r. later W [] semicolon at (at + 1) _ (omega arith) r (done W semicolon (at + 1) (retries at) .goes)) (λ _.
-      past-if W (λ s. eqb s TRYNEXT) semicolon at (λ U. got (triesNext at, at + 1)) _ refl (λ _ r. later W [] semicolon at (at + 1) _ (omega arith) r (done W semicolon (at + 1) (triesNext at) .goes)) (λ _.
-      past-if W (λ s. eqb s TPWRITE) semicolon at (λ U. tpWrite U at) _ refl (λ _ r. later W (STRING ∷ []) semicolon at (at + 1) _ (omega arith) r (write-both at .goes)) (λ _.
-      past-if W (λ s. eqb s TPREADNUM) semicolon at (λ U. tpReadNum U at) (λ U. no 8 at) refl (λ _ r. later W (NAME ∷ comma ∷ STRING ∷ []) semicolon at (at + 1) _ (omega arith) r (read-both at .goes)) (λ _.
+      past-if W (λ s. eqb s NAME) semicolon at (λ U. startedByName U at) _ refl (λ t r. next W [] semicolon at _ r (by-name at (eqb-true _ _ t) .goes)) (λ _.
+      past-if W (λ s. eqb s RETURN) semicolon at (λ U. withOptional U returns at) _ refl (λ _ r. next W [] semicolon at _ r (optional-both returns at .goes)) (λ _.
+      past-if W (λ s. eqb s RAISE) semicolon at (λ U. withOptional U raises at) _ refl (λ _ r. next W [] semicolon at _ r (optional-both raises at .goes)) (λ _.
+      past-if W (λ s. eqb s EXIT) semicolon at (λ U. got (exits at, at + 1)) _ refl (λ _ r. next W [] semicolon at _ r (done W semicolon (at + 1) (exits at) .goes)) (λ _.
+      past-if W (λ s. eqb s RETRY) semicolon at (λ U. got (retries at, at + 1)) _ refl (λ _ r. next W [] semicolon at _ r (done W semicolon (at + 1) (retries at) .goes)) (λ _.
+      past-if W (λ s. eqb s TRYNEXT) semicolon at (λ U. got (triesNext at, at + 1)) _ refl (λ _ r. next W [] semicolon at _ r (done W semicolon (at + 1) (triesNext at) .goes)) (λ _.
+      past-if W (λ s. eqb s TPWRITE) semicolon at (λ U. tpWrite U at) _ refl (λ _ r. next W (STRING ∷ []) semicolon at _ r (write-both at .goes)) (λ _.
+      past-if W (λ s. eqb s TPREADNUM) semicolon at (λ U. tpReadNum U at) (λ U. no 8 at) refl (λ _ r. next W (NAME ∷ comma ∷ STRING ∷ []) semicolon at _ r (read-both at .goes)) (λ _.
       refused-here W semicolon at (λ U. no 8 at) refl))))))))
 
   simple-both : (c at : ℕ) → Both W (EXIT ∷ semicolon ∷ []) c at (λ U. simpleStatement U at)
@@ -361,7 +361,7 @@ module _ (W : ℕ → ℕ) where
   unfolding stepPart levelOf
   step-both at =
       when-else W (λ s. eqb s STEP) [] DO at (λ U. expr U (at + 1) >>= λ x. got (some (x .0), x .1)) (λ U. got (none, at)) refl refl
-      (λ t r. later W (NUMBER ∷ []) DO at (at + 1) _ (omega arith) r (mapped-goes W (λ U. expr U (at + 1)) (NUMBER ∷ []) DO (at + 1) (expr-both DO (at + 1) (word-ender DO refl refl) .goes) (λ x. some (x .0))))
+      (λ t r. next W (NUMBER ∷ []) DO at _ r (mapped-goes W (λ U. expr U (at + 1)) (NUMBER ∷ []) DO (at + 1) (expr-both DO (at + 1) (word-ender DO refl refl) .goes) (λ x. some (x .0))))
       (done W DO at none)
 
   -- "compact `IF e` with one of these"
@@ -373,7 +373,7 @@ module _ (W : ℕ → ℕ) where
   module _ (list : Parsers Statements) (inside : (c at : ℕ) → startsStatement c ≡ false → Both W [] c at (λ U. list U at)) where
     else-both : (at : ℕ) → Both W [] ENDIF at (λ U. elsePart U (list U) at)
     unfolding elsePart startsStatement startsSimple
-    else-both at = when-else W (λ s. eqb s ELSE) [] ENDIF at (λ U. list U (at + 1)) (λ U. got (empty, at)) refl refl (λ t r. later W [] ENDIF at (at + 1) _ (omega arith) r (inside ENDIF (at + 1) refl .goes)) (done W ENDIF at empty)
+    else-both at = when-else W (λ s. eqb s ELSE) [] ENDIF at (λ U. list U (at + 1)) (λ U. got (empty, at)) refl refl (λ t r. next W [] ENDIF at _ r (inside ENDIF (at + 1) refl .goes)) (done W ENDIF at empty)
 
     last-arm : (c : ℕ) (e : Expr) (b : Statements) (at : ℕ) → Both W (ENDIF ∷ []) c at (λ U. lastArm U (list U) e b at)
     unfolding lastArm
@@ -391,7 +391,7 @@ module _ (W : ℕ → ℕ) where
     arms-goes c (suc p) at e l =
         goes-then W (λ U. list U at) _ [] (ENDIF ∷ []) c at (inside ENDIF at refl .goes) (λ x m.
         when-else W (λ s. eqb s ELSEIF) (ENDIF ∷ []) c (x .1) _ (λ U. lastArm U (list U) e (x .0) (x .1)) refl refl
-        (λ _ r. later W (NUMBER ∷ THEN ∷ ENDIF ∷ []) c (x .1) (x .1 + 1) _ (omega arith) r (
+        (λ _ r. next W (NUMBER ∷ THEN ∷ ENDIF ∷ []) c (x .1) _ r (
         then-goes W (λ U. expr U (x .1 + 1)) _ (NUMBER ∷ []) (THEN ∷ ENDIF ∷ []) c (x .1 + 1)
         (λ w y o. expect-made W (ENDIF ∷ []) c (y .1) _ THEN refl (then-made (λ U. arms U p (list U) (y .0) (y .1 + 1)) _ (ENDIF ∷ []) [] c (y .1 + 1) (arms-made c p (y .1 + 1) (y .0) (omega arith)) (λ z _. done W c (z .1) (arm e (x .0) (z .0 .0), z .0 .1) .made)))
         (expr-both THEN (x .1 + 1) (word-ender THEN refl refl) .goes)
@@ -430,7 +430,7 @@ module _ (W : ℕ → ℕ) where
     unfolding defaultPart startsStatement startsSimple
     default-both at =
         when-else W (λ s. eqb s DEFAULT) [] ENDTEST at (λ U. expect U colon (at + 1) >>= λ n. list U n) (λ U. got (empty, at)) refl refl
-        (λ t r. later W (colon ∷ []) ENDTEST at (at + 1) _ (omega arith) r (expect-both W [] ENDTEST (at + 1) (λ U n. list U n) colon refl (inside ENDTEST (at + 1 + 1) refl) .goes))
+        (λ t r. next W (colon ∷ []) ENDTEST at _ r (expect-both W [] ENDTEST (at + 1) (λ U n. list U n) colon refl (inside ENDTEST (at + 1 + 1) refl) .goes))
         (done W ENDTEST at empty)
 
     last-case : (c at : ℕ) → Both W (ENDTEST ∷ []) c at (λ U. lastCase U (list U) at)
@@ -454,7 +454,7 @@ module _ (W : ℕ → ℕ) where
     cases-goes c zero at l = worn (ENDTEST ∷ []) c at _ refl (omega arith)
     cases-goes c (suc p) at l =
         when-else W (λ s. eqb s CASE) (ENDTEST ∷ []) c at _ (λ U. lastCase U (list U) at) refl refl
-        (λ _ r. later W (NUMBER ∷ colon ∷ ENDTEST ∷ []) c at (at + 1) _ (omega arith) r (
+        (λ _ r. next W (NUMBER ∷ colon ∷ ENDTEST ∷ []) c at _ r (
         then-goes W (λ U. exprs U (at + 1)) _ (NUMBER ∷ []) (colon ∷ ENDTEST ∷ []) c (at + 1)
         (λ w y o. expect-made W (ENDTEST ∷ []) c (y .1) _ colon refl (case-made c p (y .0) (y .1 + 1) (omega arith)))
         (exprs-both colon (at + 1) (word-ender colon refl refl) refl .goes)
@@ -485,7 +485,7 @@ module _ (W : ℕ → ℕ) where
   if-past : (deeper : (ℕ → ℕ) → Option (Parser Statements)) (c at : ℕ) → Real W at (at + 1) → ((e : Expr) (n : ℕ) → Real W n (n + 1) → Past W {A = Statement} c n (λ U. elim (deeper U) [ none ↦ no 9 n | some within ↦ ifThen U at within e n ])) → Past W c at (λ U. ifStatement U (deeper U) at)
   unfolding ifStatement levelOf
   if-past deeper c at r h =
-      later W (NUMBER ∷ EXIT ∷ semicolon ∷ []) c at (at + 1) _ (omega arith) r (
+      next W (NUMBER ∷ EXIT ∷ semicolon ∷ []) c at _ r (
       goes-then W (λ U. expr U (at + 1)) _ (NUMBER ∷ []) (EXIT ∷ semicolon ∷ []) c (at + 1) (expr-both EXIT (at + 1) (word-ender EXIT refl refl) .goes) (λ x _.
       if-else W (λ s. eqb s THEN) (EXIT ∷ semicolon ∷ []) c (x .1) _ (λ U. ifSimple U at (x .0) (x .1)) refl refl (λ _ r. h (x .0) (x .1) r) (compact-both c at (x .0) (x .1))))
 
@@ -503,10 +503,10 @@ module _ (W : ℕ → ℕ) where
   unfolding opening
   some-nests within h =
       record {
-        an-if = λ c at r. if-past (λ U. some (within U)) c at r (λ e n v. later W (ENDIF ∷ []) c n (n + 1) _ (omega arith) v (then-both within h c at e n .goes));
-        a-for = λ c at r. later W (NAME ∷ FROM ∷ NUMBER ∷ TO ∷ NUMBER ∷ DO ∷ ENDFOR ∷ []) c at (at + 1) _ (omega arith) r (for-both within h c at .goes);
-        a-while = λ c at r. later W (NUMBER ∷ DO ∷ ENDWHILE ∷ []) c at (at + 1) _ (omega arith) r (while-both within h c at .goes);
-        a-test = λ c at r. later W (NUMBER ∷ ENDTEST ∷ []) c at (at + 1) _ (omega arith) r (test-both within h c at .goes);
+        an-if = λ c at r. if-past (λ U. some (within U)) c at r (λ e n v. next W (ENDIF ∷ []) c n _ v (then-both within h c at e n .goes));
+        a-for = λ c at r. next W (NAME ∷ FROM ∷ NUMBER ∷ TO ∷ NUMBER ∷ DO ∷ ENDFOR ∷ []) c at _ r (for-both within h c at .goes);
+        a-while = λ c at r. next W (NUMBER ∷ DO ∷ ENDWHILE ∷ []) c at _ r (while-both within h c at .goes);
+        a-test = λ c at r. next W (NUMBER ∷ ENDTEST ∷ []) c at _ r (test-both within h c at .goes);
       }
 
   module _ (deeper : (ℕ → ℕ) → Option (Parser Statements)) (nests : Nests deeper) where
@@ -553,9 +553,9 @@ module _ (W : ℕ → ℕ) where
   unfolding varPart initialPart sizePart
   var-both at =
       if-else W (λ s. eqb s becomes) [] semicolon at (λ U. initialPart U (at + 1)) _ refl refl
-      (λ _ r. later W (NUMBER ∷ []) semicolon at (at + 1) _ (omega arith) r (mapped-goes W (λ U. expr U (at + 1)) (NUMBER ∷ []) semicolon (at + 1) (expr-both semicolon (at + 1) semicolon-ender .goes) (λ x. initialData (x .0))))
+      (λ _ r. next W (NUMBER ∷ []) semicolon at _ r (mapped-goes W (λ U. expr U (at + 1)) (NUMBER ∷ []) semicolon (at + 1) (expr-both semicolon (at + 1) semicolon-ender .goes) (λ x. initialData (x .0))))
       (if-else W (λ s. eqb s openBrace) [] semicolon at (λ U. sizePart U (at + 1)) (λ U. got (variableData, at)) refl refl
-      (λ _ r. later W (NUMBER ∷ closeBrace ∷ []) semicolon at (at + 1) _ (omega arith) r (goes-then W (λ U. expr U (at + 1)) _ (NUMBER ∷ []) (closeBrace ∷ []) semicolon (at + 1) (expr-both closeBrace (at + 1) brace-ender .goes) (λ x _.
+      (λ _ r. next W (NUMBER ∷ closeBrace ∷ []) semicolon at _ r (goes-then W (λ U. expr U (at + 1)) _ (NUMBER ∷ []) (closeBrace ∷ []) semicolon (at + 1) (expr-both closeBrace (at + 1) brace-ender .goes) (λ x _.
       last-word W semicolon (x .1) closeBrace refl (arrayData (x .0)))))
       (done W semicolon at variableData))
 
@@ -578,8 +578,8 @@ module _ (W : ℕ → ℕ) where
   unfolding declaration
   declaration-past c at r =
       past-if W (λ s. eqb s VAR) c at (λ U. datum U (varPart U) at) (λ U. datum U (constPart U) at) refl
-      (λ _ _. later W (NUM ∷ NAME ∷ semicolon ∷ []) c at (at + 1) _ (omega arith) r (datum-both varPart [] var-both c at .goes))
-      (λ _. later W (NUM ∷ NAME ∷ becomes ∷ NUMBER ∷ semicolon ∷ []) c at (at + 1) _ (omega arith) r (datum-both constPart (becomes ∷ NUMBER ∷ []) const-both c at .goes))
+      (λ _ _. next W (NUM ∷ NAME ∷ semicolon ∷ []) c at _ r (datum-both varPart [] var-both c at .goes))
+      (λ _. next W (NUM ∷ NAME ∷ becomes ∷ NUMBER ∷ semicolon ∷ []) c at _ r (datum-both constPart (becomes ∷ NUMBER ∷ []) const-both c at .goes))
 
   declarations-both : (c at : ℕ) → startsData c ≡ false → Both W [] c at (λ U. declarations U at)
   unfolding declarations startsData
@@ -600,7 +600,7 @@ module _ (W : ℕ → ℕ) where
   unfolding errorPart
   error-both c at r s =
       when-else W (λ w. eqb w ERROR) [] c at _ (λ U. got (none, at)) r refl
-      (λ _ r. later W [] c at (at + 1) _ (omega arith) r (mapped-goes W (λ U. list U (at + 1)) [] c (at + 1) (list-both c (at + 1) s .goes) (λ x. some (record { statements = x .0; closes = x .1 }))))
+      (λ _ r. next W [] c at _ r (mapped-goes W (λ U. list U (at + 1)) [] c (at + 1) (list-both c (at + 1) s .goes) (λ x. some (record { statements = x .0; closes = x .1 }))))
       (done W c at none)
 
   -- From the routine's name on; `result` is what the words before it tell.
@@ -623,8 +623,8 @@ module _ (W : ℕ → ℕ) where
   unfolding routine function startsStatement startsSimple startsData
   routine-past c at r =
       past-if W (λ s. eqb s PROC) c at (λ U. routineFrom U none ENDPROC (at + 1)) (λ U. function U (at + 1)) refl
-      (λ _ _. later W (NAME ∷ openParen ∷ closeParen ∷ ENDPROC ∷ []) c at (at + 1) _ (omega arith) r (from-both (λ U. none) ENDPROC c (at + 1) (λ U a. refl) refl refl refl refl .goes))
-      (λ _. later W (NUM ∷ NAME ∷ openParen ∷ closeParen ∷ ENDFUNC ∷ []) c at (at + 1) _ (omega arith) r (
+      (λ _ _. next W (NAME ∷ openParen ∷ closeParen ∷ ENDPROC ∷ []) c at _ r (from-both (λ U. none) ENDPROC c (at + 1) (λ U a. refl) refl refl refl refl .goes))
+      (λ _. next W (NUM ∷ NAME ∷ openParen ∷ closeParen ∷ ENDFUNC ∷ []) c at _ r (
       type-both W (NAME ∷ openParen ∷ closeParen ∷ ENDFUNC ∷ []) c (at + 1) _ (
       from-both (λ U. some (U (at + 1))) ENDFUNC c (at + 1 + 1) (λ U a. ap some (a (at + 1) (omega arith))) refl refl refl refl) .goes))
 

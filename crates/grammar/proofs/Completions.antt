@@ -354,6 +354,9 @@ module _ (W : ℕ → ℕ) where
     pub later : (inh : List ℕ) (c s t : ℕ) (q : Family A) → t ≡ s + 1 → Real s (s + 1) → Goes inh c t q → Past c s q
     later inh c s t q e r h = far inh c s t q (omega arith) (subst (Real s) (sym e) r) h
 
+    pub next : (inh : List ℕ) (c s : ℕ) (q : Family A) → Real s (s + 1) → Goes inh c (s + 1) q → Past c s q
+    next inh c s q r h = far inh c s (s + 1) q (omega arith) r h
+
     -- what is never empty
     pub filled : (v : ℕ) (inh : List ℕ) (c s : ℕ) (q : Family A) → Goes (v ∷ inh) c s q → Past c s q
     filled v inh c s q h = record { steps = by (q W) (h .steps) }
@@ -429,7 +432,7 @@ module _ (W : ℕ → ℕ) where
       asked-goes made h =
           start (v ∷ inh) c at q (λ w. asked-made (made w))
           (test (f (W at))
-          (λ t. past-as c at (λ U. k U (at + 1)) q (λ U a. on U (ap f (a at (omega arith)) ∙ t)) (later inh c at (at + 1) (λ U. k U (at + 1)) refl (real-word f at t z) h))
+          (λ t. past-as c at (λ U. k U (at + 1)) q (λ U a. on U (ap f (a at (omega arith)) ∙ t)) (next inh c at (λ U. k U (at + 1)) (real-word f at t z) h))
           (λ t. refused-here c at q (off t)))
 
       asked-both : Both inh c (at + 1) (λ U. k U (at + 1)) → Both (v ∷ inh) c at q
