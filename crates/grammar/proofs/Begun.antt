@@ -61,7 +61,8 @@ module _ (W : ℕ → ℕ) where
     unfolding named indexed
     named-both at =
         if-else W (λ s. eqb s openBrace) [] c (at + 1) (λ U. indexed U (inner U) at) (λ U. got (leaf at, at + 1)) (ender .brace) refl
-        (λ t r. later W (NUMBER ∷ closeBrace ∷ []) c (at + 1) (at + 2) _ (omega arith) r (goes-then W (λ U. inner U (at + 2)) _ (NUMBER ∷ []) (closeBrace ∷ []) c (at + 2) (in-braces (at + 2)) (λ x l.
+        (λ t r. later W (NUMBER ∷ closeBrace ∷ []) c (at + 1) (at + 2) _ (omega arith) r (goes-then W (λ U. inner U (at + 2)) _ (NUMBER ∷ []) (closeBrace ∷ []) c
+        (at + 2) (in-braces (at + 2)) (λ x l.
         last-word W c (x .1) closeBrace refl (element at (x .0)))))
         (done W c (at + 1) (leaf at))
 
@@ -72,7 +73,8 @@ module _ (W : ℕ → ℕ) where
         (λ t r. next W (NUMBER ∷ closeParen ∷ []) c at _ r (goes-then W (λ U. inner U (at + 1)) _ (NUMBER ∷ []) (closeParen ∷ []) c (at + 1) (in-parens (at + 1)) (λ x l.
         last-word W c (x .1) closeParen refl (nested at (x .0)))))
         (λ _. past-if W (λ s. eqb s NAME) c at (λ U. named U (inner U) at) _ refl (λ t r. next W [] c at _ r (named-both at .goes))
-        (λ _. past-if W isLiteral c at (λ U. got (leaf at, at + 1)) (λ U. no 8 at) refl (λ t r. next W [] c at _ r (done W c (at + 1) (leaf at) .goes)) (λ _. refused-here W c at (λ U. no 8 at) refl)))
+        (λ _. past-if W isLiteral c at (λ U. got (leaf at, at + 1)) (λ U. no 8 at) refl (λ t r. next W [] c at _ r (done W c (at + 1) (leaf at) .goes))
+        (λ _. refused-here W c at (λ U. no 8 at) refl)))
 
     operand-both : (at : ℕ) → Both W (NUMBER ∷ []) c at (λ U. operand U (inner U) at)
     unfolding operand isLiteral
@@ -129,11 +131,13 @@ module _ (W : ℕ → ℕ) where
       next-level : (at : ℕ) → Both W (NUMBER ∷ []) c at (λ U. prefixed U (suc j) (sub U) at >>= λ x. chain U parts (suc j) (sub U) (x .0) (x .1))
       next-level at = both-then W (λ U. prefixed U (suc j) (sub U) at) _ (NUMBER ∷ []) [] c at (prefixed-both at) (λ x l. chain-both (x .1) (x .0))
 
-      named-next : (at : ℕ) → W at ≡ NAME → Goes W [] c (at + 1) (λ U. sub U at) → Goes W [] c (at + 1) (λ U. prefixed U (suc j) (sub U) at >>= λ x. chain U parts (suc j) (sub U) (x .0) (x .1))
+      named-next : (at : ℕ) → W at ≡ NAME → Goes W [] c (at + 1) (λ U. sub U at)
+          → Goes W [] c (at + 1) (λ U. prefixed U (suc j) (sub U) at >>= λ x. chain U parts (suc j) (sub U) (x .0) (x .1))
       unfolding prefixed
       named-next at e h =
           goes-then W (λ U. prefixed U (suc j) (sub U) at) _ [] [] c (at + 1)
-          (goes-as W [] c (at + 1) (λ U. sub U at) (λ U. prefixed U (suc j) (sub U) at) (λ U a _. no-when (standsBefore (suc j) (U at)) _ _ (ap (standsBefore (suc j)) (a at (omega arith) ∙ e) ∙ no-sign (suc j) NAME refl refl refl)) h) (λ x l. chain-both (x .1) (x .0))
+          (goes-as W [] c (at + 1) (λ U. sub U at) (λ U. prefixed U (suc j) (sub U) at) (λ U a _. no-when (standsBefore (suc j) (U at)) _ _
+          (ap (standsBefore (suc j)) (a at (omega arith) ∙ e) ∙ no-sign (suc j) NAME refl refl refl)) h) (λ x l. chain-both (x .1) (x .0))
 
     level-both : (j at : ℕ) → Both W (NUMBER ∷ []) c at (λ U. level U (inner U) j at)
     unfolding level
@@ -156,7 +160,8 @@ module _ (W : ℕ → ℕ) where
   expr-in-goes : (d c at : ℕ) → Ender c → Goes W (NUMBER ∷ []) c at (λ U. exprIn U d at)
   unfolding exprIn
   expr-in-goes zero c at ender = record { steps = λ e. absurd (omega (arith, e)) }
-  expr-in-goes (suc d) c at ender = level-both c ender (λ U. exprIn U d) (λ n. expr-in-goes d closeParen n paren-ender) (λ n. expr-in-goes d closeBrace n brace-ender) disjunctions at .goes
+  expr-in-goes (suc d) c at ender =
+      level-both c ender (λ U. exprIn U d) (λ n. expr-in-goes d closeParen n paren-ender) (λ n. expr-in-goes d closeBrace n brace-ender) disjunctions at .goes
 
   expr-in-both : (d c at : ℕ) → Ender c → Both W (NUMBER ∷ []) c at (λ U. exprIn U (suc d) at)
   unfolding exprIn
@@ -169,7 +174,8 @@ module _ (W : ℕ → ℕ) where
   -- an expression that begins with a name
   named-expr : (c at : ℕ) → Ender c → W at ≡ NAME → Goes W [] c (at + 1) (λ U. expr U at)
   unfolding expr exprIn
-  named-expr c at ender e = named-level c ender (λ U. exprIn U nestings) (λ n. expr-in-goes nestings closeParen n paren-ender) (λ n. expr-in-goes nestings closeBrace n brace-ender) disjunctions at e
+  named-expr c at ender e =
+      named-level c ender (λ U. exprIn U nestings) (λ n. expr-in-goes nestings closeParen n paren-ender) (λ n. expr-in-goes nestings closeBrace n brace-ender) disjunctions at e
 
   -- ---- sequences
   module _ {A : Type 0} (one : Parsers A) (v : ℕ) (i : List ℕ) (c : ℕ) (no-comma : eqb c comma ≡ false) (inside : (at : ℕ) → Both W (v ∷ i) c at (λ U. one U at)) where
@@ -195,7 +201,8 @@ module _ (W : ℕ → ℕ) where
   closed-both : {A : Type 0} (one : Parsers A) (v : ℕ) (i : List ℕ) (closing : ℕ) → eqb closing comma ≡ false → ((at : ℕ) → Both W (v ∷ i) closing at (λ U. one U at)) → (at : ℕ)
       → Both W [] closing at (λ U. if eqb (U at) closing then got ([], at) else separated U parts (one U) at)
   closed-both one v i closing no-comma h at =
-      if-then W (λ s. eqb s closing) [] closing at (λ U. separated U parts (one U) at) (λ U. got ([], at)) (eq-eqb closing closing refl) (λ _. filled W v i closing at _ (separated-both one v i closing no-comma h at .goes)) (done W closing at [])
+      if-then W (λ s. eqb s closing) [] closing at (λ U. separated U parts (one U) at) (λ U. got ([], at)) (eq-eqb closing closing refl)
+      (λ _. filled W v i closing at _ (separated-both one v i closing no-comma h at .goes)) (done W closing at [])
 
   module _ {A : Type 0} (one : Parsers A) (starts : ℕ → Bool) (real : starts NOTHING ≡ false) (c : ℕ) (ends : starts c ≡ false) (inside : (at : ℕ) → Real W at (at + 1) → Past W c at (λ U. one U at)) where
     repeated-made : (p at : ℕ) → 0 < p → Made [] c at (λ U. repeated U p starts (one U) at)
@@ -233,7 +240,8 @@ module _ (W : ℕ → ℕ) where
       let r : Family Target = λ U. elim (eqb (U (at + 1)) openBrace) [ true ↦ targetIndex U at | false ↦ got (record { name = at; index = none }, at + 1) ] in
       goes-as W [] c (at + 1) r _ (λ U a _. yes-when (eqb (U at) NAME) _ _ (eq-eqb (U at) NAME (a at (omega arith) ∙ e)))
       (when-else W (λ s. eqb s openBrace) [] c (at + 1) (λ U. targetIndex U at) (λ U. got (record { name = at; index = none }, at + 1)) b refl
-      (λ t r. later W (NUMBER ∷ closeBrace ∷ []) c (at + 1) (at + 2) _ (omega arith) r (goes-then W (λ U. exprIn U nestings (at + 2)) _ (NUMBER ∷ []) (closeBrace ∷ []) c (at + 2) (expr-in-goes nestings closeBrace (at + 2) brace-ender) (λ x l.
+      (λ t r. later W (NUMBER ∷ closeBrace ∷ []) c (at + 1) (at + 2) _ (omega arith) r (goes-then W (λ U. exprIn U nestings (at + 2)) _ (NUMBER ∷ [])
+      (closeBrace ∷ []) c (at + 2) (expr-in-goes nestings closeBrace (at + 2) brace-ender) (λ x l.
       last-word W c (x .1) closeBrace refl (record { name = at; index = some (x .0) }))))
       (done W c (at + 1) (record { name = at; index = none })) .goes)
 
@@ -241,8 +249,13 @@ module _ (W : ℕ → ℕ) where
   unfolding target
   target-both c at b =
       begun W (NAME ∷ []) c at _
-      (λ U t. record { value = record { name = at; index = none }; is = yes-when (eqb (U at) NAME) _ _ (eq-eqb (U at) NAME (t .0)) ∙ no-when (eqb (U (at + 1)) openBrace) _ _ (ap (λ (s : ℕ). eqb s openBrace) (t .1) ∙ b) })
-      (test (eqb (W at) NAME) (λ t. next W [] c at _ (real-word W (λ s. eqb s NAME) at t refl) (target-from c at b (eqb-true (W at) NAME t))) (λ t. refused-here W c at _ (no-when (eqb (W at) NAME) _ _ t)))
+      (λ U t. record {
+        value = record { name = at; index = none };
+        is = yes-when (eqb (U at) NAME) _ _ (eq-eqb (U at) NAME (t .0)) ∙ no-when
+            (eqb (U (at + 1)) openBrace) _ _ (ap (λ (s : ℕ). eqb s openBrace) (t .1) ∙ b);
+      })
+      (test (eqb (W at) NAME) (λ t. next W [] c at _ (real-word W (λ s. eqb s NAME) at t refl) (target-from c at b (eqb-true (W at) NAME t)))
+      (λ t. refused-here W c at _ (no-when (eqb (W at) NAME) _ _ t)))
 
   semicolon-ender : Ender semicolon
   unfolding levelOf
@@ -259,7 +272,9 @@ module _ (W : ℕ → ℕ) where
 
     call-side : Both W (closeParen ∷ []) semicolon (at + 2) (λ U. callSide U t at)
     unfolding callSide
-    call-side = both-then W (λ U. arguments U closeParen (at + 2)) _ [] (closeParen ∷ []) semicolon (at + 2) (arguments-both closeParen (at + 2) paren-ender refl) (λ x l. last-word W semicolon (x .1) closeParen refl (assignCall t at (x .0)))
+    call-side =
+        both-then W (λ U. arguments U closeParen (at + 2)) _ [] (closeParen ∷ []) semicolon (at + 2) (arguments-both closeParen (at + 2) paren-ender refl)
+        (λ x l. last-word W semicolon (x .1) closeParen refl (assignCall t at (x .0)))
 
     -- a word that is as before, or the one of a completion
     stays-false : (f : ℕ → Bool) (s : ℕ) (v w : ℕ) → f w ≡ false → f v ≡ false → (s ≡ w) ⊎ (s ≡ v) → f s ≡ false
@@ -271,27 +286,38 @@ module _ (W : ℕ → ℕ) where
     right-side = record { made = made; goes = test (eqb (W at) NAME) (λ n. start W (NUMBER ∷ []) semicolon at _ (λ _. made) (by-paren n)) no-name }
       where
         made : Made (NUMBER ∷ []) semicolon at (λ U. rightSide U t at)
-        made U h = reads-as (no-if _ _ _ (not-both-false (eqb (U at) NAME) (eqb (U (at + 1)) openParen) (λ a _. false-true (sym (ap (λ (s : ℕ). eqb s NAME) (h .0)) ∙ a)))) (value-side .made U h)
+        made U h =
+            reads-as (no-if _ _ _ (not-both-false (eqb (U at) NAME) (eqb (U (at + 1)) openParen) (λ a _. false-true (sym (ap (λ (s : ℕ). eqb s NAME) (h .0)) ∙ a))))
+            (value-side .made U h)
 
         no-name : eqb (W at) NAME ≡ false → Goes W (NUMBER ∷ []) semicolon at (λ U. rightSide U t at)
-        no-name n = goes-as W (NUMBER ∷ []) semicolon at (λ U. valueSide U t at) _ (λ U a e. no-if _ _ _ (not-both-false (eqb (U at) NAME) (eqb (U (at + 1)) openParen) (λ b _. false-true (sym (stays-false (λ s. eqb s NAME) (U at) NUMBER (W at) n refl e) ∙ b)))) (value-side .goes)
+        no-name n =
+            goes-as W (NUMBER ∷ []) semicolon at (λ U. valueSide U t at) _ (λ U a e. no-if _ _ _
+            (not-both-false (eqb (U at) NAME) (eqb (U (at + 1)) openParen) (λ b _. false-true (sym (stays-false (λ s. eqb s NAME) (U at) NUMBER (W at) n refl e) ∙ b)))) (value-side .goes)
 
         two : eqb (W at) NAME ≡ true → eqb (W (at + 1)) openParen ≡ true → Real W at (at + 2)
-        two n o = let z : at + 1 + 1 ≡ at + 2 = omega arith in real-join W at (at + 1) (at + 2) (real-word W (λ s. eqb s NAME) at n refl) (subst (Real W (at + 1)) z (real-word W (λ s. eqb s openParen) (at + 1) o refl))
+        two n o =
+            let z : at + 1 + 1 ≡ at + 2 = omega arith in real-join W at (at + 1) (at + 2) (real-word W (λ s. eqb s NAME) at n refl)
+            (subst (Real W (at + 1)) z (real-word W (λ s. eqb s openParen) (at + 1) o refl))
 
         by-paren : eqb (W at) NAME ≡ true → Past W semicolon at (λ U. rightSide U t at)
         by-paren n =
             test (eqb (W (at + 1)) openParen)
-            (λ o. far W (closeParen ∷ []) semicolon at (at + 2) (λ U. rightSide U t at) (omega arith) (two n o) (goes-as W (closeParen ∷ []) semicolon (at + 2) (λ U. callSide U t at) (λ U. rightSide U t at) (λ U a _.
-            yes-if _ _ _ (both-true (eqb (U at) NAME) (eqb (U (at + 1)) openParen) (ap (λ (s : ℕ). eqb s NAME) (a at (omega arith)) ∙ n) (ap (λ (s : ℕ). eqb s openParen) (a (at + 1) (omega arith)) ∙ o))) (call-side .goes)))
-            (λ o. next W [] semicolon at (λ U. rightSide U t at) (real-word W (λ s. eqb s NAME) at n refl) (goes-as W [] semicolon (at + 1) (λ U. valueSide U t at) (λ U. rightSide U t at) (λ U a e.
-            no-if _ _ _ (not-both-false (eqb (U at) NAME) (eqb (U (at + 1)) openParen) (λ _ b. false-true (sym (stays-false (λ s. eqb s openParen) (U (at + 1)) semicolon (W (at + 1)) o refl e) ∙ b)))) (named-side (eqb-true (W at) NAME n))))
+            (λ o. far W (closeParen ∷ []) semicolon at (at + 2) (λ U. rightSide U t at) (omega arith) (two n o)
+            (goes-as W (closeParen ∷ []) semicolon (at + 2) (λ U. callSide U t at) (λ U. rightSide U t at) (λ U a _.
+            yes-if _ _ _ (both-true (eqb (U at) NAME) (eqb (U (at + 1)) openParen) (ap (λ (s : ℕ). eqb s NAME) (a at (omega arith)) ∙ n)
+            (ap (λ (s : ℕ). eqb s openParen) (a (at + 1) (omega arith)) ∙ o))) (call-side .goes)))
+            (λ o. next W [] semicolon at (λ U. rightSide U t at) (real-word W (λ s. eqb s NAME) at n refl)
+            (goes-as W [] semicolon (at + 1) (λ U. valueSide U t at) (λ U. rightSide U t at) (λ U a e.
+            no-if _ _ _ (not-both-false (eqb (U at) NAME) (eqb (U (at + 1)) openParen) (λ _ b. false-true
+            (sym (stays-false (λ s. eqb s openParen) (U (at + 1)) semicolon (W (at + 1)) o refl e) ∙ b)))) (named-side (eqb-true (W at) NAME n))))
 
   module _ (at : ℕ) where
     assignment-goes : W at ≡ NAME → Goes W (becomes ∷ NUMBER ∷ []) semicolon (at + 1) (λ U. assignment U at)
     unfolding assignment
     assignment-goes e =
-        goes-then W (λ U. target U at) _ [] (becomes ∷ NUMBER ∷ []) semicolon (at + 1) (target-from becomes at refl e) (λ x l. expect-both W (NUMBER ∷ []) semicolon (x .1) _ becomes refl (right-side (x .0) (x .1 + 1)))
+        goes-then W (λ U. target U at) _ [] (becomes ∷ NUMBER ∷ []) semicolon (at + 1) (target-from becomes at refl e)
+        (λ x l. expect-both W (NUMBER ∷ []) semicolon (x .1) _ becomes refl (right-side (x .0) (x .1 + 1)))
 
     procedure-call : Both W [] semicolon (at + 1) (λ U. procedureCall U at)
     unfolding procedureCall
@@ -300,7 +326,8 @@ module _ (W : ℕ → ℕ) where
     by-name : W at ≡ NAME → Both W [] semicolon (at + 1) (λ U. startedByName U at)
     unfolding startedByName
     by-name e =
-        if-else W (λ s. eqb s becomes || eqb s openBrace) [] semicolon (at + 1) (λ U. assignment U at) (λ U. procedureCall U at) refl refl (λ t r. filled W becomes (NUMBER ∷ []) semicolon (at + 1) _ (assignment-goes e)) procedure-call
+        if-else W (λ s. eqb s becomes || eqb s openBrace) [] semicolon (at + 1) (λ U. assignment U at) (λ U. procedureCall U at) refl refl
+        (λ t r. filled W becomes (NUMBER ∷ []) semicolon (at + 1) _ (assignment-goes e)) procedure-call
 
     unless-both : Both W [] semicolon at (λ U. unless U semicolon at)
     unfolding unless
@@ -325,7 +352,8 @@ module _ (W : ℕ → ℕ) where
 
   write-both : (at : ℕ) → Both W (STRING ∷ []) semicolon (at + 1) (λ U. tpWrite U at)
   unfolding tpWrite
-  write-both at = expect-both W [] semicolon (at + 1) _ STRING refl (mapped W (λ U. written U (at + 1 + 1)) [] semicolon (at + 1 + 1) (written-both (at + 1 + 1)) (λ x. writes at (at + 1) (x .0)))
+  write-both at =
+      expect-both W [] semicolon (at + 1) _ STRING refl (mapped W (λ U. written U (at + 1 + 1)) [] semicolon (at + 1 + 1) (written-both (at + 1 + 1)) (λ x. writes at (at + 1) (x .0)))
 
   read-both : (at : ℕ) → Both W (NAME ∷ comma ∷ STRING ∷ []) semicolon (at + 1) (λ U. tpReadNum U at)
   unfolding tpReadNum
@@ -373,7 +401,9 @@ module _ (W : ℕ → ℕ) where
   module _ (list : Parsers Statements) (inside : (c at : ℕ) → startsStatement c ≡ false → Both W [] c at (λ U. list U at)) where
     else-both : (at : ℕ) → Both W [] ENDIF at (λ U. elsePart U (list U) at)
     unfolding elsePart startsStatement startsSimple
-    else-both at = when-else W (λ s. eqb s ELSE) [] ENDIF at (λ U. list U (at + 1)) (λ U. got (empty, at)) refl refl (λ t r. next W [] ENDIF at _ r (inside ENDIF (at + 1) refl .goes)) (done W ENDIF at empty)
+    else-both at =
+        when-else W (λ s. eqb s ELSE) [] ENDIF at (λ U. list U (at + 1)) (λ U. got (empty, at)) refl refl
+        (λ t r. next W [] ENDIF at _ r (inside ENDIF (at + 1) refl .goes)) (done W ENDIF at empty)
 
     last-arm : (c : ℕ) (e : Expr) (b : Statements) (at : ℕ) → Both W (ENDIF ∷ []) c at (λ U. lastArm U (list U) e b at)
     unfolding lastArm
@@ -383,7 +413,8 @@ module _ (W : ℕ → ℕ) where
     unfolding arms startsStatement startsSimple
     arms-made c zero at e l = absurd (omega arith)
     arms-made c (suc p) at e l =
-        then-made (λ U. list U at) _ [] (ENDIF ∷ []) c at (inside ENDIF at refl .made) (λ x m U t. reads-as (no-when (eqb (U (x .1)) ELSEIF) _ _ (ap (λ (s : ℕ). eqb s ELSEIF) (t .0))) (last-arm c e (x .0) (x .1) .made U t))
+        then-made (λ U. list U at) _ [] (ENDIF ∷ []) c at (inside ENDIF at refl .made) (λ x m U t. reads-as
+        (no-when (eqb (U (x .1)) ELSEIF) _ _ (ap (λ (s : ℕ). eqb s ELSEIF) (t .0))) (last-arm c e (x .0) (x .1) .made U t))
 
     arms-goes : (c p at : ℕ) (e : Expr) → parts ≤ p + at → Goes W (ENDIF ∷ []) c at (λ U. arms U p (list U) e at)
     unfolding arms startsStatement startsSimple levelOf
@@ -393,17 +424,23 @@ module _ (W : ℕ → ℕ) where
         when-else W (λ s. eqb s ELSEIF) (ENDIF ∷ []) c (x .1) _ (λ U. lastArm U (list U) e (x .0) (x .1)) refl refl
         (λ _ r. next W (NUMBER ∷ THEN ∷ ENDIF ∷ []) c (x .1) _ r (
         then-goes W (λ U. expr U (x .1 + 1)) _ (NUMBER ∷ []) (THEN ∷ ENDIF ∷ []) c (x .1 + 1)
-        (λ w y o. expect-made W (ENDIF ∷ []) c (y .1) _ THEN refl (then-made (λ U. arms U p (list U) (y .0) (y .1 + 1)) _ (ENDIF ∷ []) [] c (y .1 + 1) (arms-made c p (y .1 + 1) (y .0) (omega arith)) (λ z _. done W c (z .1) (arm e (x .0) (z .0 .0), z .0 .1) .made)))
+        (λ w y o. expect-made W (ENDIF ∷ []) c (y .1) _ THEN refl (then-made (λ U. arms U p (list U) (y .0) (y .1 + 1)) _ (ENDIF ∷ []) [] c (y .1 + 1)
+        (arms-made c p (y .1 + 1) (y .0) (omega arith)) (λ z _. done W c (z .1) (arm e (x .0) (z .0 .0), z .0 .1) .made)))
         (expr-both THEN (x .1 + 1) (word-ender THEN refl refl) .goes)
         (λ y o. expect-goes W (ENDIF ∷ []) c (y .1) _ THEN refl
-        (λ w. then-made (λ U. arms U p (list U) (y .0) (y .1 + 1)) _ (ENDIF ∷ []) [] c (y .1 + 1) (arms-made c p (y .1 + 1) (y .0) (omega arith)) (λ z _. done W c (z .1) (arm e (x .0) (z .0 .0), z .0 .1) .made))
+        (λ w. then-made (λ U. arms U p (list U) (y .0) (y .1 + 1)) _ (ENDIF ∷ []) [] c (y .1 + 1) (arms-made c p (y .1 + 1) (y .0) (omega arith))
+        (λ z _. done W c (z .1) (arm e (x .0) (z .0 .0), z .0 .1) .made))
         (mapped-goes W (λ U. arms U p (list U) (y .0) (y .1 + 1)) (ENDIF ∷ []) c (y .1 + 1) (arms-goes c p (y .1 + 1) (y .0) (omega arith)) (λ z. (arm e (x .0) (z .0 .0), z .0 .1))))))
         (last-arm c e (x .0) (x .1)))
 
     then-both : (c at : ℕ) (e : Expr) (n : ℕ) → Both W (ENDIF ∷ []) c (n + 1) (λ U. ifThen U at (list U) e n)
     unfolding ifThen
     then-both c at e n =
-        mapped W (λ U. arms U parts (list U) e (n + 1)) (ENDIF ∷ []) c (n + 1) (record { made = arms-made c parts (n + 1) e (omega arith); goes = arms-goes c parts (n + 1) e (omega arith) }) (λ x. fullIf at (x .0 .0) (x .0 .1))
+        mapped W (λ U. arms U parts (list U) e (n + 1)) (ENDIF ∷ []) c (n + 1) (record {
+          made = arms-made c parts (n + 1) e (omega arith);
+          goes = arms-goes c parts
+              (n + 1) e (omega arith);
+        }) (λ x. fullIf at (x .0 .0) (x .0 .1))
 
     for-both : (c at : ℕ) → Both W (NAME ∷ FROM ∷ NUMBER ∷ TO ∷ NUMBER ∷ DO ∷ ENDFOR ∷ []) c (at + 1) (λ U. forStatement U (list U) at)
     unfolding forStatement startsStatement startsSimple levelOf
@@ -460,7 +497,8 @@ module _ (W : ℕ → ℕ) where
         (exprs-both colon (at + 1) (word-ender colon refl refl) refl .goes)
         (λ y o. expect-goes W (ENDTEST ∷ []) c (y .1) _ colon refl (λ w. case-made c p (y .0) (y .1 + 1) (omega arith)) (
         then-goes W (λ U. list U (y .1 + 1)) _ [] (ENDTEST ∷ []) c (y .1 + 1)
-        (λ w b _. then-made (λ U. cases U p (list U) (b .1)) _ (ENDTEST ∷ []) [] c (b .1) (cases-made c p (b .1) (omega arith)) (λ z _. done W c (z .1) (case (y .0) (b .0) (z .0 .0), z .0 .1) .made))
+        (λ w b _. then-made (λ U. cases U p (list U) (b .1)) _ (ENDTEST ∷ []) [] c (b .1) (cases-made c p (b .1) (omega arith))
+        (λ z _. done W c (z .1) (case (y .0) (b .0) (z .0 .0), z .0 .1) .made))
         (inside ENDTEST (y .1 + 1) refl .goes)
         (λ b m. mapped-goes W (λ U. cases U p (list U) (b .1)) (ENDTEST ∷ []) c (b .1) (cases-goes c p (b .1) (omega arith)) (λ z. (case (y .0) (b .0) (z .0 .0), z .0 .1)))))))
         (last-case c at) .goes
@@ -469,7 +507,11 @@ module _ (W : ℕ → ℕ) where
     unfolding testStatement levelOf
     test-both c at =
         both-then W (λ U. expr U (at + 1)) _ (NUMBER ∷ []) (ENDTEST ∷ []) c (at + 1) (expr-both ENDTEST (at + 1) (word-ender ENDTEST refl refl)) (λ e _.
-        mapped W (λ U. cases U parts (list U) (e .1)) (ENDTEST ∷ []) c (e .1) (record { made = cases-made c parts (e .1) (omega arith); goes = cases-goes c parts (e .1) (omega arith) }) (λ x. testTree at (e .0) (x .0 .0) (x .0 .1)))
+        mapped W (λ U. cases U parts (list U) (e .1)) (ENDTEST ∷ []) c (e .1) (record {
+          made = cases-made c parts (e .1) (omega arith);
+          goes = cases-goes c parts (e .1)
+              (omega arith);
+        }) (λ x. testTree at (e .0) (x .0 .0) (x .0 .1)))
 
   -- The compound statements, with what stands deeper if anything may.
   record Nests (deeper : (ℕ → ℕ) → Option (Parser Statements)) : Type 0 where
@@ -482,7 +524,8 @@ module _ (W : ℕ → ℕ) where
   too-deep : {A : Type 0} (c s j : ℕ) (q : Family A) → q W ≡ no 9 j → Past W c s q
   too-deep {A} c s j q e = record { steps = subst (λ (p : Parsed (A × ℕ)). PastBy W c s p q) (sym e) (λ z. absurd (omega (arith, z))) }
 
-  if-past : (deeper : (ℕ → ℕ) → Option (Parser Statements)) (c at : ℕ) → Real W at (at + 1) → ((e : Expr) (n : ℕ) → Real W n (n + 1) → Past W {A = Statement} c n (λ U. elim (deeper U) [ none ↦ no 9 n | some within ↦ ifThen U at within e n ])) → Past W c at (λ U. ifStatement U (deeper U) at)
+  if-past : (deeper : (ℕ → ℕ) → Option (Parser Statements)) (c at : ℕ) → Real W at (at + 1)
+      → ((e : Expr) (n : ℕ) → Real W n (n + 1) → Past W {A = Statement} c n (λ U. elim (deeper U) [ none ↦ no 9 n | some within ↦ ifThen U at within e n ])) → Past W c at (λ U. ifStatement U (deeper U) at)
   unfolding ifStatement levelOf
   if-past deeper c at r h =
       next W (NUMBER ∷ EXIT ∷ semicolon ∷ []) c at _ r (
@@ -553,9 +596,11 @@ module _ (W : ℕ → ℕ) where
   unfolding varPart initialPart sizePart
   var-both at =
       if-else W (λ s. eqb s becomes) [] semicolon at (λ U. initialPart U (at + 1)) _ refl refl
-      (λ _ r. next W (NUMBER ∷ []) semicolon at _ r (mapped-goes W (λ U. expr U (at + 1)) (NUMBER ∷ []) semicolon (at + 1) (expr-both semicolon (at + 1) semicolon-ender .goes) (λ x. initialData (x .0))))
+      (λ _ r. next W (NUMBER ∷ []) semicolon at _ r (mapped-goes W (λ U. expr U (at + 1)) (NUMBER ∷ []) semicolon (at + 1)
+      (expr-both semicolon (at + 1) semicolon-ender .goes) (λ x. initialData (x .0))))
       (if-else W (λ s. eqb s openBrace) [] semicolon at (λ U. sizePart U (at + 1)) (λ U. got (variableData, at)) refl refl
-      (λ _ r. next W (NUMBER ∷ closeBrace ∷ []) semicolon at _ r (goes-then W (λ U. expr U (at + 1)) _ (NUMBER ∷ []) (closeBrace ∷ []) semicolon (at + 1) (expr-both closeBrace (at + 1) brace-ender .goes) (λ x _.
+      (λ _ r. next W (NUMBER ∷ closeBrace ∷ []) semicolon at _ r (goes-then W (λ U. expr U (at + 1)) _ (NUMBER ∷ []) (closeBrace ∷ []) semicolon (at + 1)
+      (expr-both closeBrace (at + 1) brace-ender .goes) (λ x _.
       last-word W semicolon (x .1) closeBrace refl (arrayData (x .0)))))
       (done W semicolon at variableData))
 
@@ -565,7 +610,8 @@ module _ (W : ℕ → ℕ) where
       expect-both W (NUMBER ∷ []) semicolon at _ becomes refl (
       mapped W (λ U. expr U (at + 1)) (NUMBER ∷ []) semicolon (at + 1) (expr-both semicolon (at + 1) semicolon-ender) (λ x. constantData (x .0)))
 
-  datum-both : (content : Parsers Content) (i : List ℕ) → ((at : ℕ) → Both W i semicolon at (λ U. content U at)) → (c at : ℕ) → Both W (NUM ∷ NAME ∷ i ++ semicolon ∷ []) c (at + 1) (λ U. datum U (content U) at)
+  datum-both : (content : Parsers Content) (i : List ℕ) → ((at : ℕ) → Both W i semicolon at (λ U. content U at)) → (c at : ℕ)
+      → Both W (NUM ∷ NAME ∷ i ++ semicolon ∷ []) c (at + 1) (λ U. datum U (content U) at)
   unfolding datum
   datum-both content i h c at =
       type-both W (NAME ∷ i ++ semicolon ∷ []) c (at + 1) _ (
@@ -590,7 +636,8 @@ module _ (W : ℕ → ℕ) where
   unfolding parameter
   parameter-both c at =
       type-both W (NAME ∷ []) c at _ (
-      expect-both W [] c (at + 1) _ NAME refl (done-both W c (at + 1 + 1) (λ U. record { type = U at; name = at + 1 }) (λ U a. ap (λ (t : ℕ). record { type = t; name = at + 1 }) (a at (omega arith)))))
+      expect-both W [] c (at + 1) _ NAME refl (done-both W c (at + 1 + 1) (λ U. record { type = U at; name = at + 1 })
+      (λ U a. ap (λ (t : ℕ). record { type = t; name = at + 1 }) (a at (omega arith)))))
 
   parameters-both : (at : ℕ) → Both W [] closeParen at (λ U. parameters U at)
   unfolding parameters
@@ -604,7 +651,8 @@ module _ (W : ℕ → ℕ) where
       (done W c at none)
 
   -- From the routine's name on; `result` is what the words before it tell.
-  from-both : (result : (ℕ → ℕ) → Option ℕ) (closing c at : ℕ) → ((U : ℕ → ℕ) → Agrees W U at → result U ≡ result W) → eqb NOTHING closing ≡ false → eqb closing ERROR ≡ false → startsStatement closing ≡ false → startsData closing ≡ false
+  from-both : (result : (ℕ → ℕ) → Option ℕ) (closing c at : ℕ) → ((U : ℕ → ℕ) → Agrees W U at → result U ≡ result W) → eqb NOTHING closing ≡ false
+      → eqb closing ERROR ≡ false → startsStatement closing ≡ false → startsData closing ≡ false
       → Both W (NAME ∷ openParen ∷ closeParen ∷ closing ∷ []) c at (λ U. routineFrom U (result U) closing at)
   unfolding routineFrom
   from-both result closing c at same v r s d =

@@ -192,7 +192,8 @@ module _ (W : ℕ → ℕ) where
     stays-then : (h c : ℕ) (x : A × ℕ) (y : B × ℕ) → Stays h x q → x .1 ≤ y .1 → (y .1 ≤ x .1 → c ≡ h) → Stays c y (λ U. k U x) → Stays c y (λ U. q U >>= k U)
     unfolding _>>=_
     stays-then h c x y a l z b U same e =
-        ap (λ r. r >>= k U) (a U (λ j m. same j (omega arith)) (by-less (x .1) (y .1) (λ m. inl (same (x .1) m)) (λ m. either-at U (x .1) (y .1) c h (omega arith) (z m) e))) ∙ b U same e
+        ap (λ r. r >>= k U) (a U (λ j m. same j (omega arith)) (by-less (x .1) (y .1) (λ m. inl (same (x .1) m))
+        (λ m. either-at U (x .1) (y .1) c h (omega arith) (z m) e))) ∙ b U same e
 
     stays-stuck : (h c j : ℕ) (x : A × ℕ) → Stays h x q → x .1 ≤ j → (d : Completed c j (λ U. k U x)) → (j ≡ x .1 → headOf (d .words) c ≡ h) → Completed c j (λ U. q U >>= k U)
     unfolding _>>=_
@@ -212,10 +213,15 @@ module _ (W : ℕ → ℕ) where
         subst (Reads (q U >>= k U)) (behind-append j (d .words) l) (then-reads q k U (behind j (d .words)) _ u (g (u .value, behind j (d .words)) (behind-grows j (d .words)) U (r .1)))
 
     module _ (i l : List ℕ) (c s : ℕ) (made : s ≤ wordLimit → (x : A × ℕ) → s ≤ x .1 → Made l c (x .1) (λ U. k U x)) where
-      goes-on : (x : A × ℕ) (p : Parsed (B × ℕ)) → least s i ≤ x .1 → Stays (headOf l c) x q → Real s (x .1) → GoesBy l c (x .1) p (λ U. k U x) → GoesBy (i ++ l) c s p (λ U. q U >>= k U)
+      goes-on : (x : A × ℕ) (p : Parsed (B × ℕ)) → least s i ≤ x .1 → Stays (headOf l c) x q → Real s (x .1) → GoesBy l c (x .1) p (λ U. k U x)
+          → GoesBy (i ++ l) c s p (λ U. q U >>= k U)
       unfolding stays-stuck
-      goes-on x (got y) h a r g =
-          (least-append s (x .1) (y .1) i l h (g .0), stays-then (headOf l c) c x y a (omega (arith, least-grows (x .1) l, g .0)) (λ m. sym (emptied (x .1) l c (omega (arith, g .0)))) (g .1), real-join s (x .1) (y .1) r (g .2))
+      goes-on x (got y) h a r g = (
+        least-append s (x .1) (y .1) i l h (g .0),
+        stays-then (headOf l c) c x y a (omega (arith, least-grows (x .1) l, g .0))
+            (λ m. sym (emptied (x .1) l c (omega (arith, g .0)))) (g .1),
+        real-join s (x .1) (y .1) r (g .2),
+      )
       goes-on x (no n j) h a r g =
           λ e. (
             omega (arith, least-grows s i, g e .0),
@@ -247,11 +253,16 @@ module _ (W : ℕ → ℕ) where
 
     module _ (l : List ℕ) (c s : ℕ) where
       past-on : (x : A × ℕ) (p : Parsed (B × ℕ)) → s < x .1 → Stays (headOf l c) x q → Real s (x .1) → GoesBy l c (x .1) p (λ U. k U x) → PastBy c s p (λ U. q U >>= k U)
-      past-on x (got y) h a r g =
-          (omega (arith, least-grows (x .1) l, g .0), stays-then (headOf l c) c x y a (omega (arith, least-grows (x .1) l, g .0)) (λ m. sym (emptied (x .1) l c (omega (arith, g .0)))) (g .1), real-join s (x .1) (y .1) r (g .2))
+      past-on x (got y) h a r g = (
+        omega (arith, least-grows (x .1) l, g .0),
+        stays-then (headOf l c) c x y a (omega (arith, least-grows (x .1) l, g .0))
+            (λ m. sym (emptied (x .1) l c (omega (arith, g .0)))) (g .1),
+        real-join s (x .1) (y .1) r (g .2),
+      )
       past-on x (no n j) h a r g = λ e. (omega (arith, g e .0), λ m w. stays-stuck (headOf l c) c j x a (g e .0) (g e .1 w .done) (g e .1 w .first), real-join s (x .1) j r (g e .2))
 
-      pub then-past : (s < wordLimit → (x : A × ℕ) → s ≤ x .1 → Made l c (x .1) (λ U. k U x)) → Past (headOf l c) s q → ((x : A × ℕ) → s < x .1 → Goes l c (x .1) (λ U. k U x)) → Past c s (λ U. q U >>= k U)
+      pub then-past : (s < wordLimit → (x : A × ℕ) → s ≤ x .1 → Made l c (x .1) (λ U. k U x)) → Past (headOf l c) s q
+          → ((x : A × ℕ) → s < x .1 → Goes l c (x .1) (λ U. k U x)) → Past c s (λ U. q U >>= k U)
       unfolding _>>=_
       then-past made h rest = record { steps = by (q W) (h .steps) }
         where
@@ -305,7 +316,8 @@ module _ (W : ℕ → ℕ) where
     completed-as : (c j : ℕ) (q r : Family A) (d : Completed c j q) → ((U : ℕ → ℕ) → Agrees U j → U j ≡ headOf (d .words) c → r U ≡ q U) → Completed c j r
     completed-as c j q r d same = record { words = d .words; reads = λ U a t. reads-as (same U a (spells-head U j (d .words) c t)) (d .reads U a t) }
 
-    goes-of : (inh : List ℕ) (c s : ℕ) (q r : Family A) → ((U : ℕ → ℕ) → Agrees U s → (U s ≡ W s) ⊎ (U s ≡ headOf inh c) → r U ≡ q U) → (p : Parsed (A × ℕ)) → GoesBy inh c s p q → GoesBy inh c s p r
+    goes-of : (inh : List ℕ) (c s : ℕ) (q r : Family A) → ((U : ℕ → ℕ) → Agrees U s → (U s ≡ W s) ⊎ (U s ≡ headOf inh c) → r U ≡ q U) → (p : Parsed (A × ℕ))
+        → GoesBy inh c s p q → GoesBy inh c s p r
     unfolding completed-as
     goes-of inh c s q r same (got x) g =
         (g .0, λ U a e. same U (λ j m. a j (omega (arith, least-grows s inh, g .0))) (word U a e) ∙ g .1 U a e, g .2)
@@ -333,7 +345,10 @@ module _ (W : ℕ → ℕ) where
             inr (ap U (sym z) ∙ t ∙ g e .1 w .first z))
 
     pub goes-as : (inh : List ℕ) (c s : ℕ) (q r : Family A) → ((U : ℕ → ℕ) → Agrees U s → (U s ≡ W s) ⊎ (U s ≡ headOf inh c) → r U ≡ q U) → Goes inh c s q → Goes inh c s r
-    goes-as inh c s q r same h = record { steps = goes-of inh c s q r same (r W) (subst (λ (p : Parsed (A × ℕ)). GoesBy inh c s p q) (sym (same W (λ j m. refl) (inl refl))) (h .steps)) }
+    goes-as inh c s q r same h = record {
+      steps = goes-of inh c s q r same (r W) (subst (λ (p : Parsed (A × ℕ)). GoesBy inh c s p q)
+          (sym (same W (λ j m. refl) (inl refl))) (h .steps));
+    }
 
     past-of : (c s : ℕ) (q r : Family A) → ((U : ℕ → ℕ) → Agrees U (s + 1) → r U ≡ q U) → (p : Parsed (A × ℕ)) → PastBy c s p q → PastBy c s p r
     past-of c s q r same (got x) g = (g .0, λ U a e. same U (λ j m. a j (omega (arith, g .0))) ∙ g .1 U a e, g .2)
@@ -369,23 +384,35 @@ module _ (W : ℕ → ℕ) where
     refused-here c s q e = record { steps = subst (λ (p : Parsed (A × ℕ)). PastBy c s p q) (sym e) (λ _. (omega arith, λ m w. absurd (omega arith), real-none s)) }
 
     pub done-both : (c n : ℕ) (f : (ℕ → ℕ) → A) → ((U : ℕ → ℕ) → Agrees U n → f U ≡ f W) → Both [] c n (λ U. got (f U, n))
-    done-both c n f same = record { made = λ U t. record { value = f U; is = refl }; goes = record { steps = (omega arith, λ U a e. ap (λ (x : A). got (x, n)) (same U a), real-none n) } }
+    done-both c n f same = record {
+      made = λ U t. record { value = f U; is = refl };
+      goes = record {
+        steps =
+            (omega arith, λ U a e. ap (λ (x : A). got (x, n)) (same U a), real-none n);
+      };
+    }
 
     -- the same whatever the words are
     pub done : (c n : ℕ) (a : A) → Both [] c n (λ U. got (a, n))
     done c n a = done-both c n (λ U. a) (λ U _. refl)
 
     -- ---- tests of the word at hand
-    pub past-if : (f : ℕ → Bool) (c s : ℕ) (x y : Family A) → f NOTHING ≡ false → (f (W s) ≡ true → Real s (s + 1) → Past c s x) → (f (W s) ≡ false → Past c s y) → Past c s (λ U. if f (U s) then x U else y U)
+    pub past-if : (f : ℕ → Bool) (c s : ℕ) (x y : Family A) → f NOTHING ≡ false → (f (W s) ≡ true → Real s (s + 1) → Past c s x) → (f (W s) ≡ false → Past c s y)
+        → Past c s (λ U. if f (U s) then x U else y U)
     past-if f c s x y z h g =
         test (f (W s))
         (λ t. past-as c s x _ (λ U a. yes-if (f (U s)) (x U) (y U) (ap f (a s (omega arith)) ∙ t)) (h t (real-word f s t z)))
         (λ t. past-as c s y _ (λ U a. no-if (f (U s)) (x U) (y U) (ap f (a s (omega arith)) ∙ t)) (g t))
 
     -- r where the test says v, as it does of the word that completes r; x otherwise
-    choose : (f : ℕ → Bool) (v : Bool) (inh : List ℕ) (c s : ℕ) (q x r : Family A) → ((U : ℕ → ℕ) → f (U s) ≡ v → q U ≡ r U) → ((U : ℕ → ℕ) → f (U s) ≡ f (W s) → (f (W s) ≡ v → ⊥) → q U ≡ x U)
+    choose : (f : ℕ → Bool) (v : Bool) (inh : List ℕ) (c s : ℕ) (q x r : Family A) → ((U : ℕ → ℕ) → f (U s) ≡ v → q U ≡ r U)
+        → ((U : ℕ → ℕ) → f (U s) ≡ f (W s) → (f (W s) ≡ v → ⊥) → q U ≡ x U)
         → f (headOf inh c) ≡ v → ((f (W s) ≡ v → ⊥) → Past c s x) → Both inh c s r → Both inh c s q
-    choose f v inh c s q x r as-r as-x e past h = record { made = made; goes = decide (f (W s)) v (λ t. goes-as inh c s r q (λ U a. as-said U t) (h .goes)) (λ d. start inh c s q (λ _. made) (past-as c s x q (λ U a. as-x U (ap f (a s (omega arith))) d) (past d))) }
+    choose f v inh c s q x r as-r as-x e past h = record {
+      made = made;
+      goes = decide (f (W s)) v (λ t. goes-as inh c s r q (λ U a. as-said U t) (h .goes))
+          (λ d. start inh c s q (λ _. made) (past-as c s x q (λ U a. as-x U (ap f (a s (omega arith))) d) (past d)));
+    }
       where
         made : Made inh c s q
         made U t = reads-as (as-r U (ap f (spells-head U s inh c t) ∙ e)) (h .made U t)
@@ -402,13 +429,16 @@ module _ (W : ℕ → ℕ) where
 
     module _ (f : ℕ → Bool) (inh : List ℕ) (c s : ℕ) (x r : Family A) where
       pub if-else : f (headOf inh c) ≡ false → f NOTHING ≡ false → (f (W s) ≡ true → Real s (s + 1) → Past c s x) → Both inh c s r → Both inh c s (λ U. if f (U s) then x U else r U)
-      if-else e z past h = choose f false inh c s _ x r (λ U t. no-if _ _ _ t) (λ U t d. yes-if _ _ _ (t ∙ not-false _ d)) e (λ d. past (not-false _ d) (real-word f s (not-false _ d) z)) h
+      if-else e z past h =
+          choose f false inh c s _ x r (λ U t. no-if _ _ _ t) (λ U t d. yes-if _ _ _ (t ∙ not-false _ d)) e (λ d. past (not-false _ d) (real-word f s (not-false _ d) z)) h
 
       pub if-then : f (headOf inh c) ≡ true → (f (W s) ≡ false → Past c s x) → Both inh c s r → Both inh c s (λ U. if f (U s) then r U else x U)
       if-then e past h = choose f true inh c s _ x r (λ U t. yes-if _ _ _ t) (λ U t d. no-if _ _ _ (t ∙ not-true _ d)) e (λ d. past (not-true _ d)) h
 
-      pub when-else : f (headOf inh c) ≡ false → f NOTHING ≡ false → (f (W s) ≡ true → Real s (s + 1) → Past c s x) → Both inh c s r → Both {A = A} inh c s (λ U. elim (f (U s)) [ true ↦ x U | false ↦ r U ])
-      when-else e z past h = choose f false inh c s _ x r (λ U t. no-when _ _ _ t) (λ U t d. yes-when _ _ _ (t ∙ not-false _ d)) e (λ d. past (not-false _ d) (real-word f s (not-false _ d) z)) h
+      pub when-else : f (headOf inh c) ≡ false → f NOTHING ≡ false → (f (W s) ≡ true → Real s (s + 1) → Past c s x) → Both inh c s r
+          → Both {A = A} inh c s (λ U. elim (f (U s)) [ true ↦ x U | false ↦ r U ])
+      when-else e z past h =
+          choose f false inh c s _ x r (λ U t. no-when _ _ _ t) (λ U t d. yes-when _ _ _ (t ∙ not-false _ d)) e (λ d. past (not-false _ d) (real-word f s (not-false _ d) z)) h
 
       pub when-then : f (headOf inh c) ≡ true → (f (W s) ≡ false → Past c s x) → Both inh c s r → Both {A = A} inh c s (λ U. elim (f (U s)) [ true ↦ r U | false ↦ x U ])
       when-then e past h = choose f true inh c s _ x r (λ U t. yes-when _ _ _ t) (λ U t d. no-when _ _ _ (t ∙ not-true _ d)) e (λ d. past (not-true _ d)) h

@@ -157,7 +157,13 @@ module _ (W : ℕ → ℕ) (i : ℕ) (e : formed W ≡ no 8 i) where
   -- The parser reads some words that begin with these i.
   goes-on : Short W → Begins (λ U m. formed U ≡ got m) W i
   unfolding _>>=_
-  goes-on s = record { words = U; tree = r .value; same = before; is = formed-ended U ∙ ap (λ p. p >>= ended U) (r .is) ∙ ended-here U (r .value, behind i (d .words)) (eq-eqb _ _ (spells-last U i (d .words) NOTHING spelled)) }
+  goes-on s = record {
+    words = U;
+    tree = r .value;
+    same = before;
+    is = formed-ended U ∙ ap (λ p. p >>= ended U) (r .is) ∙ ended-here U (r .value, behind i (d .words))
+        (eq-eqb _ _ (spells-last U i (d .words) NOTHING spelled));
+  }
     where
       d : Completed W NOTHING i Formed
       d = here .1 (refused-within s)
