@@ -160,7 +160,7 @@ module _ (W : ℕ → ℕ) (i : ℕ) (e : formed W ≡ no 8 i) where
   goes-on s = record {
     words = U;
     tree = r .value;
-    same = before;
+    same = λ j m. before j (omega arith);
     is = formed-ended U ∙ ap (λ p. p >>= ended U) (r .is) ∙ ended-here U (r .value, behind i (d .words))
         (eq-eqb _ _ (spells-last U i (d .words) NOTHING spelled));
   }
