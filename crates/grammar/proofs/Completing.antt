@@ -26,16 +26,16 @@ use Rattle.grammar.proofs.Levels.{Ends, closing-ends}
 use Rattle.grammar.proofs.Inversions.{target-behind, Behind, behind-name, behind-brace}
 use Rattle.grammar.proofs.Places.{separated-grows, repeated-grows, exprs-grow, arguments-grow, index-grows, target-grows, optional-grows, number-grows, simple-grows, step-grows, for-head-grows, statement-grows, list-grows, arms-grow, else-grows, cases-grow, default-grows, content-grows, declared-grows, declarations-grow, parameter-grows, parameters-grow, handler-grows, head-grows, routine-grows, routines-grow}
 
-both-true : (a b : Bool) → a ≡ true → b ≡ true → (a && b) ≡ true
+pub both-true : (a b : Bool) → a ≡ true → b ≡ true → (a && b) ≡ true
 both-true true b e f = f
 both-true false b e f = false-true e
 
-not-both-false : (a b : Bool) → (a ≡ true → b ≡ true → ⊥) → (a && b) ≡ false
+pub not-both-false : (a b : Bool) → (a ≡ true → b ≡ true → ⊥) → (a && b) ≡ false
 not-both-false true true h = absurd (h refl refl)
 not-both-false true false h = refl
 not-both-false false b h = refl
 
-neither-false : (a b : Bool) → a ≡ false → b ≡ false → (a || b) ≡ false
+pub neither-false : (a b : Bool) → a ≡ false → b ≡ false → (a || b) ≡ false
 neither-false true b e f = false-true (sym e)
 neither-false false b e f = f
 

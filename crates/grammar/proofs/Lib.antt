@@ -7,3 +7,5 @@ pub mod Derived
 pub mod Completing
 pub mod Grammar
 pub mod Local
+pub mod Completions
+pub mod Begun

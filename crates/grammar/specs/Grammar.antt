@@ -1,5 +1,5 @@
 -- The paper, "Form of a module": the grammar. Expressions are derived here, a level at a time; with them the relation of Form is the grammar of modules.
--- proofs/Grammar has what it is for: the parser gives a tree exactly where the words are that module, and what it refuses with 8 begins no module.
+-- proofs/Grammar has what it is for: the parser gives a tree exactly where the words are that module, and it says 8 of the first word with which no module begins.
 use mathlib.Core.Path.{_≡_}
 use mathlib.Core.Bool.{true}
 use mathlib.Core.Logic.{_⊎_}
@@ -76,3 +76,10 @@ IsModule W m = Stands W (Derives W) m
 pub record HasForm (W : ℕ → ℕ) (m : Module) : Type 0 where
   pub nesting : ℕ
   pub stands : StandsIn W (λ d at e to. DisjunctionAt W e at to) nesting m
+
+-- The first n of the words begin a module: with some words behind them they are one. `Is` says what a module is.
+pub record Begins (Is : (ℕ → ℕ) → Module → Type 0) (W : ℕ → ℕ) (n : ℕ) : Type 0 where
+  pub words : ℕ → ℕ
+  pub tree : Module
+  pub same : (j : ℕ) → j < n → words j ≡ W j
+  pub is : Is words tree
