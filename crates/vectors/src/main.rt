@@ -1,0 +1,148 @@
+// Runs stored cases, one after another from standard input, and prints for each the output and the eight fields of the record. `tools/vectors` writes the
+// cases and says what must be printed.
+//
+// A case is a line of seven numbers, then its inputs, a line each, then its text and a line end. A number has ten digits and a byte behind them.
+use libc::STDIN_FILENO;
+use libc::STDOUT_FILENO;
+ghost use Prim.Native.Nat.{_+_, _*_, _≤_, _<_};
+ghost use lib.ListN.{length};
+
+// The digits of a number, with the byte behind them, and the bytes of a case's first line.
+const DIGITS: usize = 10;
+
+const NUMBER: usize = 11;
+
+const HEADER: usize = 77;
+
+// The most that a case is lent: bytes of text, inputs, bytes of output and of a store; and the bytes of the line that shows a record.
+const TEXT: usize = 32832;
+
+const INPUTS: usize = 16;
+
+const INPUT_BYTES: usize = 64;
+
+const OUTPUT: usize = 4096;
+
+const STORE: usize = 65600;
+
+const LINE: usize = 168;
+
+// More cases than there are.
+const CASES: u32 = 100000;
+
+fn wide(x: u8) -> u64
+    ensures { λ r. ⌜ r < 256 ⌝ }
+{
+    x as u64
+}
+
+// The number at a place.
+fn number(s: &[u8], at: usize) -> u64
+    requires { ⌜ at + 10 ≤ length (now s) ⌝ }
+{
+    let mut v: u64 = 0;
+    let mut i = 0;
+    while i < DIGITS {
+        v = v % 1000000000 * 10 + wide(s[at + i]) % 16;
+        i += 1;
+    }
+    v
+}
+
+// The same as a word of 32 bits.
+fn word(s: &[u8], at: usize) -> u32
+    requires { ⌜ at + 10 ≤ length (now s) ⌝ }
+{
+    (number(s, at) % 4294967296) as u32
+}
+
+// The same as a count of at most so many.
+fn count(s: &[u8], at: usize, most: usize) -> usize
+    requires { ⌜ at + 10 ≤ length (now s) ⌝ }
+    ensures { λ r. ⌜ r ≤ most ⌝ }
+{
+    let n = number(s, at) as usize;
+    if n < most { n } else { most }
+}
+
+// Reads so many inputs into words of 32 bits.
+fn read_inputs(inputs: &mut [u8], n: usize)
+    requires { ⌜ n * 4 ≤ length (now inputs) ⌝ }
+{
+    let mut digits = [0u8; NUMBER];
+    let mut i = 0;
+    while i < n {
+        io::read_full(STDIN_FILENO, &mut digits);
+        cells::put(inputs, i, word(&digits, 0));
+        i += 1;
+    }
+}
+
+// Reads so many bytes to the front of what is lent.
+fn read_part(part: &mut [u8], n: usize)
+    requires { ⌜ n ≤ length (now part) ⌝ }
+{
+    io::read_full(STDIN_FILENO, &mut part[..n]);
+}
+
+// Makes the call, and prints its output and its record.
+fn print_call<'a>(
+    text: &'a [u8],
+    steps: u32,
+    depth: u32,
+    inputs: &'a [u8],
+    out: &mut [u8],
+    code: &mut [u8],
+    values: &mut [u8],
+)
+    requires { ⌜ (length (now text) < 4294967296) × ((length (now inputs) < 4294967296) × (length (now out) < 4294967296)) ⌝ }
+{
+    let mut line = [0u8; LINE];
+    let shown = screen::show(text, steps, depth, inputs, out, code, values, &mut line);
+    let written = shown.output;
+    let told = shown.line;
+    io::write_all(STDOUT_FILENO, &out[..written]);
+    io::write_all(STDOUT_FILENO, &line[..told]);
+}
+
+// Reads what is left of a case, and runs it.
+fn run(header: &[u8; HEADER]) {
+    let steps = word(header, 0);
+    let depth = word(header, 11);
+    let room = count(header, 22, OUTPUT);
+    let code_bytes = count(header, 33, STORE);
+    let value_bytes = count(header, 44, STORE);
+    let input_count = count(header, 55, INPUTS);
+    let text_bytes = count(header, 66, TEXT);
+    let mut inputs = [0u8; INPUT_BYTES];
+    read_inputs(&mut inputs, input_count);
+    let mut text = [0u8; TEXT];
+    read_part(&mut text, text_bytes);
+    let mut line_end = [0u8; 1];
+    io::read_full(STDIN_FILENO, &mut line_end);
+    let mut out = [0u8; OUTPUT];
+    let mut code = [0u8; STORE];
+    let mut values = [0u8; STORE];
+    let input_bytes = input_count * 4;
+    print_call(
+        &text[..text_bytes],
+        steps,
+        depth,
+        &inputs[..input_bytes],
+        &mut out[..room],
+        &mut code[..code_bytes],
+        &mut values[..value_bytes],
+    );
+}
+
+fn main() {
+    let mut left = CASES;
+    while 0 < left {
+        let mut header = [0u8; HEADER];
+        if io::read_full(STDIN_FILENO, &mut header) < HEADER {
+            return;
+        }
+        run(&header);
+        left -= 1;
+    }
+}
