@@ -27,7 +27,7 @@ use Rattle.names.specs.Numbers.{numberOf}
 use Rattle.names.specs.Meanings.{typeWith, meaningIn, isProtected, protectsCell, Keeps}
 use Rattle.names.specs.Promises.{numberAt}
 use Rattle.names.proofs.Tables.{declare-keeps}
-use Rattle.names.proofs.Rewriting.{rewritten-other}
+use Rattle.store.proofs.Rewriting.{rewritten-other}
 use Rattle.grammar.specs.Form.{Parses}
 use Rattle.grammar.proofs.Places.{content-grows}
 use Rattle.faults.specs.Added.{contentWords}

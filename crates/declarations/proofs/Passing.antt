@@ -19,7 +19,7 @@ use Rattle.names.specs.Numbers.{numberOf}
 use Rattle.names.specs.Meanings.{typeWith, refWith, meaningWith, meaningIn}
 use Rattle.names.specs.Promises.{numberAt}
 use Rattle.names.proofs.Tables.{meaning-with, declare-keeps}
-use Rattle.names.proofs.Rewriting.{rewritten-other}
+use Rattle.store.proofs.Rewriting.{rewritten-other}
 use Rattle.grammar.specs.Form.{Parses, SeparatedAt, ParameterAt}
 use Rattle.grammar.proofs.Inversions.{FirstOf, separated-first, closed-none, closed-some}
 use Rattle.grammar.proofs.Places.{separated-grows, closed-grows, parameter-grows}

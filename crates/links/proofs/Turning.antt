@@ -10,7 +10,7 @@ use Rattle.laws.proofs.Tests.{by-less, by-same, false-true}
 use Rattle.cells.specs.Words.{wordsOf, Got, Put}
 use Rattle.code.specs.Cells.{opIn, valueIn, placeIn, linkIn, headAt, tailAt, opAt, valueAt, placeAt, linkAt}
 use Rattle.code.specs.Steps.{aTarget, anElseIf, aCase, aThen}
-use Rattle.names.proofs.Rewriting.{two-puts, rewritten-length, rewritten-drop, rewritten-head, rewritten-tail, rewritten-heads, rewritten-tails}
+use Rattle.store.proofs.Rewriting.{two-puts, rewritten-length, rewritten-drop, rewritten-head, rewritten-tail, rewritten-heads, rewritten-tails}
 use Rattle.links.specs.Resolved.{goesByLink, goesByValue, goesByPlace, beyond, Follows, Led, Resolved, LedValue, LedPlace, LedLink, Turned}
 use Rattle.links.proofs.Ops.{link-low, low-value, low-place, beyond-step, beyond-case, beyond-close}
 

@@ -13,7 +13,8 @@ use words::Word;
 ghost use mathlib.Core.Path.{_≡_};
 ghost use Prim.Native.Nat.{_+_, _*_, _<_, _≤_};
 ghost use lib.ListN.{length};
-ghost use Rattle.names.specs.Promises.{storeBytes, tailWith, Rewritten};
+ghost use Rattle.names.specs.Promises.{storeBytes};
+ghost use Rattle.store.specs.Promises.{tailWith, Rewritten};
 ghost use Rattle.load.specs.Layout.{Chain, Finds, Loading, NameComes, Comes, Goes, Valued, valueOf};
 ghost use Rattle.load.specs.Loads.{Ready, Loads};
 

@@ -12,8 +12,8 @@ use Rattle.paper.specs.Names.{sortIn}
 use Rattle.paper.specs.Types.{Fault}
 use Rattle.paper.specs.Checks.{forsInList, listFaults}
 use Rattle.code.specs.Cells.{opIn, placeIn, linkIn, headAt, tailAt, opAt, placeAt, linkAt}
-use Rattle.names.specs.Promises.{tailWith, Rewritten}
-use Rattle.names.proofs.Rewriting.{rewritten-length, rewritten-head, rewritten-tail}
+use Rattle.store.specs.Promises.{tailWith, Rewritten}
+use Rattle.store.proofs.Rewriting.{rewritten-length, rewritten-head, rewritten-tail}
 use Rattle.grammar.specs.Form.{Parses, DefaultAt, ListAt}
 use Rattle.grammar.proofs.Inversions.{default-some, default-none}
 use Rattle.grammar.proofs.Places.{default-grows, list-grows}

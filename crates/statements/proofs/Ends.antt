@@ -4,7 +4,7 @@ use mathlib.Core.List.{List}
 use Prim.Native.Nat.{ℕ, _+_, _*_}
 use Rattle.cells.specs.Words.{wordsOf}
 use Rattle.code.specs.Cells.{placeAt}
-use Rattle.names.specs.Promises.{tailWith, Rewritten}
+use Rattle.store.specs.Promises.{tailWith, Rewritten}
 use Rattle.expressions.specs.Parts.{Linked}
 use Rattle.statements.specs.Parts.{ForEnded}
 

@@ -18,7 +18,7 @@ use Rattle.code.specs.Cells.{opIn, valueIn, placeIn, linkIn, headAt, tailAt, pl
 use Rattle.names.specs.Numbers.{numberOf}
 use Rattle.names.specs.Meanings.{isProtected}
 use Rattle.names.specs.Promises.{numberAt, Declared, Left}
-use Rattle.names.proofs.Rewriting.{rewritten-length, rewritten-head, rewritten-tail}
+use Rattle.store.proofs.Rewriting.{rewritten-length, rewritten-head, rewritten-tail}
 use Rattle.grammar.specs.Form.{Parses}
 use Rattle.grammar.proofs.Inversions.{IsFor, statement-for}
 use Rattle.grammar.proofs.Places.{list-grows, step-grows}

@@ -21,7 +21,8 @@ use Rattle.constants.specs.Answers.{HeldAs}
 use Rattle.code.specs.Steps.{aWhile, aFor, aForTest, aCase, aNextValue, aThen, aDo, aPass, constantAt}
 use Rattle.evaluation.specs.Answers.{callWords}
 use Rattle.names.specs.Meanings.{isProtected}
-use Rattle.names.specs.Promises.{storeBytes, tailWith, Rewritten}
+use Rattle.names.specs.Promises.{storeBytes}
+use Rattle.store.specs.Promises.{tailWith, Rewritten}
 use Rattle.grammar.specs.Form.{Parses, ExprAt, SimpleAt, StepAt, ForHeadAt, ExprsAt, ListAt, ArmsAt, ElseAt, CasesAt, DefaultAt}
 use Rattle.expressions.specs.declared.Judged.{Judged}
 use Rattle.expressions.specs.Parts.{Linked}

@@ -11,7 +11,7 @@ ghost use Rattle.paper.specs.Expressions.{startsStatement};
 ghost use Rattle.cells.specs.Words.{wordsOf};
 ghost use Rattle.code.specs.Cells.{headAt, placeAt};
 ghost use Rattle.constants.specs.Answers.{InNum};
-ghost use Rattle.names.specs.Promises.{tailWith, Rewritten};
+ghost use Rattle.store.specs.Promises.{tailWith, Rewritten};
 ghost use Rattle.statements.specs.Answers.{Stands, Stated, Lists, Listed, Begins, Begun};
 ghost use Rattle.statements.specs.Parts.{Plain, Plainly, WhileEnded, Bounds, Bounded, Steps, Stepped, ForHeads, ForHeaded, ForEnded, Compacts, Compacted, Thens, Thened, BehindElse, ArmEnded, Elses, Elsed, Held, CaseValues, CaseValued, Chained, ValuesLinked, Defaults, Defaulted, Chooses, Chosen};
 

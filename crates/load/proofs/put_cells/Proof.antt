@@ -1,5 +1,5 @@
 -- `load::put_cells` meets its contract.
-use Rattle.names.proofs.Rewriting.{two-puts}
+use Rattle.store.proofs.Rewriting.{two-puts}
 use borrow.Author.Needs.{needs}
 use Rattle.load.proofs.put_cells.Statement.{statement}
 use Rattle.load.proofs.put_cells.Tie as tie

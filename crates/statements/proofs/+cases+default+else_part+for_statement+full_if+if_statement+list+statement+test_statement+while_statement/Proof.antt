@@ -12,7 +12,7 @@ use Rattle.statements.proofs.Fors.{for-heads, for-declares, for-spare, 
 use Rattle.statements.proofs.Defaulting.{default-room, default-lists, default-closes, default-no, default-wrong, default-yes}
 use Rattle.statements.proofs.Choosing.{Casings, cases-begin, case-room, case-long, case-values-long, case-defaults, case-values-stand, case-lists, case-colon, case-closes, case-links, cases-finished, case-wrong, case-list-wrong, cases-go}
 use Rattle.statements.proofs.Tests.{test-selector, test-chooses, test-forward, test-room, test-wrong, test-cases-wrong, test-finished}
-use Rattle.names.proofs.Rewriting.{rewritten-length}
+use Rattle.store.proofs.Rewriting.{rewritten-length}
 use Prim.Native.Nat.{ℕ, _<_}
 use borrow.Fn.Kinds.{In}
 use borrow.Fn.PlainCycle.{Measures, is, falls, and}

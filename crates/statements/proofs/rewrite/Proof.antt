@@ -1,5 +1,5 @@
 use borrow.Author.Needs.{needs}
-use Rattle.names.proofs.Rewriting.{two-puts}
+use Rattle.store.proofs.Rewriting.{two-puts}
 use Rattle.statements.proofs.rewrite.Statement.{statement}
 use Rattle.statements.proofs.rewrite.Tie as tie
 use Rattle.statements.proofs.rewrite.Reads as reads
