@@ -62,7 +62,7 @@ pub fn declare(code: &mut [u8], values: &mut [u8], i: usize, m: u32)
     let n = number(code, i);
     let before = cells::get(values, MEANINGS + n);
     let place = reading::place(code, i);
-    store::rewrite(code, i, before, place as u32, n);
+    store::rewrite(code, i, before, place, n);
     cells::put(values, MEANINGS + n, m);
 }
 

@@ -36,12 +36,12 @@ pub fn set_value(code: &mut [u8], i: usize, value: u32)
     cells::put(code, i * 2, op + VALUE * value);
 }
 
-pub fn set_place(code: &mut [u8], i: usize, place: u32)
+pub fn set_place(code: &mut [u8], i: usize, place: usize)
     requires { ⌜ (i * 8 + 8 ≤ length (now code)) × (place < 65536) ⌝ }
     ensures { λ _. ⌜ Put (now (code .entry)) (now (code .exit)) (i * 2 + 1) (tailWith place (linkAt (wordsOf (now (code .entry))) i)) ⌝ }
 {
     let old = reading::link(code, i);
-    cells::put(code, i * 2 + 1, place + LINK * (old as u32));
+    cells::put(code, i * 2 + 1, (place as u32) + LINK * (old as u32));
 }
 
 pub fn set_link(code: &mut [u8], i: usize, link: usize)
@@ -57,14 +57,14 @@ pub fn set_word(code: &mut [u8], i: usize, op: u32, value: u32, link: usize)
     ensures { λ _. ⌜ Linked (now (code .entry)) (now (code .exit)) i op value link ⌝ }
 {
     let old = reading::place(code, i);
-    rewrite(code, i, op + VALUE * value, old as u32, link);
+    rewrite(code, i, op + VALUE * value, old, link);
 }
 
 // A word's two cells: its head, and its tail with this place and link.
-pub fn rewrite(code: &mut [u8], i: usize, head: u32, place: u32, link: usize)
+pub fn rewrite(code: &mut [u8], i: usize, head: u32, place: usize, link: usize)
     requires { ⌜ (i * 8 + 8 ≤ length (now code)) × (place < 65536) × (link < 65536) ⌝ }
     ensures { λ _. ⌜ Rewritten (now (code .entry)) (now (code .exit)) i head (tailWith place link) ⌝ }
 {
     cells::put(code, i * 2, head);
-    cells::put(code, i * 2 + 1, place + LINK * (link as u32));
+    cells::put(code, i * 2 + 1, (place as u32) + LINK * (link as u32));
 }

@@ -10,8 +10,6 @@ get-requires : tie.Need-get-requires
 get-requires c κs = search needs
 place-requires : tie.Need-place-requires
 place-requires c κs = search needs
-cast-rewrite : tie.Need-cast-rewrite
-cast-rewrite c = search needs
 rewrite-requires : tie.Need-rewrite-requires
 rewrite-requires c κs = search needs
 add-put : tie.Need-add-put
@@ -33,7 +31,6 @@ declare-spec =
     add-get
     get-requires
     place-requires
-    cast-rewrite
     rewrite-requires
     add-put
     put-requires

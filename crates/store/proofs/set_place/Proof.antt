@@ -10,6 +10,8 @@ add-put : tie.Need-add-put
 add-put c = search needs
 cast-put : tie.Need-cast-put
 cast-put c = search needs
+cast-put-2 : tie.Need-cast-put-2
+cast-put-2 c = search needs
 mul-put-2 : tie.Need-mul-put-2
 mul-put-2 c = search needs
 add-put-2 : tie.Need-add-put-2
@@ -29,6 +31,7 @@ set-place-spec =
     mul-put
     add-put
     cast-put
+    cast-put-2
     mul-put-2
     add-put-2
     put-requires

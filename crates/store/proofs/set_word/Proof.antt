@@ -8,8 +8,6 @@ mul-rewrite : tie.Need-mul-rewrite
 mul-rewrite c = search needs
 add-rewrite : tie.Need-add-rewrite
 add-rewrite c = search needs
-cast-rewrite : tie.Need-cast-rewrite
-cast-rewrite c = search needs
 rewrite-requires : tie.Need-rewrite-requires
 rewrite-requires c κs = search needs
 same-length : tie.Need-same-length
@@ -20,11 +18,4 @@ returns c = search (needs, word-written)
 pub set-word-spec : {M : Type 1} → statement M
 set-word-spec =
     tie.close
-    (tie.spec
-    place-requires
-    mul-rewrite
-    add-rewrite
-    cast-rewrite
-    rewrite-requires
-    same-length
-    returns)
+    (tie.spec place-requires mul-rewrite add-rewrite rewrite-requires same-length returns)
