@@ -26,8 +26,8 @@ use Rattle.faults.specs.Added.{contentWords, contentFaults, declaredFaults}
 use Rattle.faults.proofs.Expressions.{grows}
 use Rattle.faults.proofs.First.{every-one, nothing-in-both}
 use Rattle.faults.proofs.Declarations.{name-taken, name-crosses, name-fits, found-in-name, found-in-content}
-use Rattle.expressions.specs.Answers.{Kept}
-use Rattle.expressions.proofs.Keeping.{cell-below, cell-above}
+use Rattle.store.specs.Promises.{Kept}
+use Rattle.store.proofs.Keeping.{cell-below, cell-above}
 use Rattle.constants.specs.declared.Sized.the-variants as sizes-of
 use Rattle.constants.specs.declared.Sized.{Sized as Size}
 use Rattle.constants.specs.Answers.{Asks, Sizes, Counted}

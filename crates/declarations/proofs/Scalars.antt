@@ -31,7 +31,7 @@ use Rattle.grammar.specs.Form as form
 use Rattle.faults.specs.First.{First}
 use Rattle.faults.specs.Added.{contentWords, contentFaults}
 use Rattle.expressions.specs.Answers.{typeIf}
-use Rattle.expressions.proofs.Keeping.{kept-same}
+use Rattle.store.proofs.Keeping.{kept-same}
 use Rattle.expressions.proofs.Leaves.{type-with}
 use Rattle.constants.specs.declared.Valued.{Valued}
 use Rattle.constants.specs.declared.Valued.the-variants as values-of

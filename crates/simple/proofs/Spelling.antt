@@ -13,7 +13,7 @@ use Rattle.paper.specs.Words.{QUOTE}
 use Rattle.paper.specs.Steps.{unquoted}
 use Rattle.cells.specs.Words.{wordsOf, Got}
 use Rattle.code.specs.Cells.{valueIn, placeIn, headAt, linkAt}
-use Rattle.expressions.specs.Parts.{Linked}
+use Rattle.store.specs.Promises.{Linked}
 use Rattle.simple.specs.Parts.{Width, Characters, Strings, Spelled}
 
 unquoted-quote : (b : ℕ) (r : List ℕ) → b ≡ QUOTE → length (unquoted (b ∷ r)) ≡ suc (length (unquoted (drop 1 r)))

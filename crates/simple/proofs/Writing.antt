@@ -11,8 +11,9 @@ use Rattle.cells.specs.Words.{wordsOf, Got, Put}
 use Rattle.cells.proofs.Kept.{put-other}
 use Rattle.code.specs.Cells.{linkIn, opAt, valueAt, linkAt}
 use Rattle.expressions.specs.declared.Judged.the-variants.{Typed, Faulty}
-use Rattle.expressions.specs.Parts.{Linked}
-use Rattle.expressions.proofs.Keeping.{kept-same, set-headed, set-linked}
+use Rattle.store.specs.Promises.{Linked}
+use Rattle.store.proofs.Keeping.{kept-same}
+use Rattle.expressions.proofs.Keeping.{set-headed, set-linked}
 use Rattle.simple.specs.Parts.{Alone}
 
 pub head-written : (before after : List ℕ) (i op value : ℕ) → i * 8 + 8 ≤ length before → op < 256 → value < 16777216 → Put before after (i * 2) (op + 256 * value)

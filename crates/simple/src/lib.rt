@@ -8,7 +8,7 @@ ghost use Rattle.cells.specs.Words.{wordsOf};
 ghost use Rattle.code.specs.Cells.{headAt, opAt, valueAt, placeAt, linkAt};
 ghost use Rattle.code.specs.Signatures.{firstParameter};
 ghost use Rattle.expressions.specs.Answers as expressions;
-ghost use Rattle.expressions.specs.Parts.{Linked};
+ghost use Rattle.store.specs.Promises.{Linked};
 ghost use Rattle.simple.specs.Answers.{Statement, Stated};
 ghost use Rattle.simple.specs.Parts.{Begins, Begun, BeginsIn, BegunIn, BeginsOf, BegunOf, Assigns, Assigned, CallsOf, CalledOf, WrongName, TypeDiffers, IsCall};
 ghost use Rattle.simple.specs.Parts.{Targets, TargetJudged, Elements, ElementJudged, ValueSide, ValueAssigned, Callees, CalleeTold, Passed, More, MoreJudged, Commas, Counts, Counted, CallSide, CallJudged, ForCalls, ForJudged, CallAssigns, CallAssigned, Alone, Values, Valued, Width, Characters, Strings, Spelled};

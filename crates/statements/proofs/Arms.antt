@@ -25,9 +25,9 @@ use Rattle.grammar.proofs.Inversions.{FirstArm, arms-first}
 use Rattle.grammar.proofs.Places.{list-grows, arms-grow, else-grows}
 use Rattle.expressions.specs.declared.Judged.{Judged}
 use Rattle.expressions.specs.declared.Judged.the-variants as judged
-use Rattle.expressions.specs.Answers.{Kept, typeIf, OfType}
+use Rattle.store.specs.Promises.{Kept, Linked}
+use Rattle.expressions.specs.Answers.{typeIf, OfType}
 use Rattle.expressions.specs.Answers as expressions
-use Rattle.expressions.specs.Parts.{Linked}
 use Rattle.faults.specs.First.{First, Inside, no-fault}
 use Rattle.faults.proofs.First.{_and_, widen, every-none, first-before, first-after, nothing-in-both}
 use Rattle.faults.proofs.Expressions.{grows, of-type-inside}

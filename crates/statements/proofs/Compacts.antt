@@ -17,8 +17,7 @@ use Rattle.grammar.proofs.Inversions.{statement-plain}
 use Rattle.grammar.proofs.Places.{simple-grows}
 use Rattle.expressions.specs.declared.Judged.{Judged}
 use Rattle.expressions.specs.declared.Judged.the-variants as judged
-use Rattle.expressions.specs.Answers.{Kept}
-use Rattle.expressions.specs.Parts.{Linked}
+use Rattle.store.specs.Promises.{Kept, Linked}
 use Rattle.faults.specs.First.{First}
 use Rattle.faults.proofs.Expressions.{grows}
 use Rattle.links.specs.Raw.{RawWord, RawTerm, RawSimple, RawStatement}

@@ -12,12 +12,11 @@ use Rattle.paper.specs.Names.{sortIn}
 use Rattle.paper.specs.Types.{Fault}
 use Rattle.paper.specs.Checks.{forsInList, listFaults}
 use Rattle.code.specs.Cells.{opIn, placeIn, linkIn, headAt, tailAt, opAt, placeAt, linkAt}
-use Rattle.store.specs.Promises.{tailWith, Rewritten}
+use Rattle.store.specs.Promises.{tailWith, Rewritten, Linked}
 use Rattle.store.proofs.Rewriting.{rewritten-length, rewritten-head, rewritten-tail}
 use Rattle.grammar.specs.Form.{Parses, DefaultAt, ListAt}
 use Rattle.grammar.proofs.Inversions.{default-some, default-none}
 use Rattle.grammar.proofs.Places.{default-grows, list-grows}
-use Rattle.expressions.specs.Parts.{Linked}
 use Rattle.faults.specs.First.{First}
 use Rattle.faults.proofs.Expressions.{grows}
 use Rattle.links.specs.Raw.{RawWord, Ends, at-once, closed, RawDefault, RawList}

@@ -15,7 +15,7 @@ use Rattle.code.specs.Cells.{opAt}
 use Rattle.grammar.specs.Form.{Parses, ElseAt, ListAt}
 use Rattle.grammar.proofs.Inversions.{else-some, else-none}
 use Rattle.grammar.proofs.Places.{else-grows, list-grows}
-use Rattle.expressions.specs.Parts.{Linked}
+use Rattle.store.specs.Promises.{Linked}
 use Rattle.faults.specs.First.{First}
 use Rattle.faults.proofs.Expressions.{grows}
 use Rattle.links.specs.Raw.{RawWord, an-else, no-else, RawElse, RawList}

@@ -24,7 +24,7 @@ use Rattle.grammar.proofs.Inversions.{IsFor, statement-for}
 use Rattle.grammar.proofs.Places.{list-grows, step-grows}
 use Rattle.expressions.specs.declared.Judged.{Judged}
 use Rattle.expressions.specs.declared.Judged.the-variants as judged
-use Rattle.expressions.specs.Answers.{Kept}
+use Rattle.store.specs.Promises.{Kept}
 use Rattle.faults.specs.First.{First, Inside}
 use Rattle.faults.proofs.First.{first-before, first-after, nothing-in-both}
 use Rattle.faults.proofs.Expressions.{grows}

@@ -21,7 +21,8 @@ use Rattle.grammar.proofs.Inversions.{CompactIf, FullIf, IsIf, statement-if, si
 use Rattle.grammar.proofs.Places.{simple-grows, else-grows}
 use Rattle.expressions.specs.declared.Judged.{Judged}
 use Rattle.expressions.specs.declared.Judged.the-variants as judged
-use Rattle.expressions.specs.Answers.{Kept, typeIf, OfType}
+use Rattle.store.specs.Promises.{Kept}
+use Rattle.expressions.specs.Answers.{typeIf, OfType}
 use Rattle.expressions.specs.Answers as expressions
 use Rattle.faults.specs.First.{First, Inside}
 use Rattle.faults.proofs.First.{first-before}

@@ -26,10 +26,10 @@ use Rattle.grammar.proofs.Places.{separated-grows}
 use Rattle.expressions.specs.declared.Judged.{Judged}
 use Rattle.expressions.specs.declared.Judged.the-variants as judged
 use Rattle.expressions.specs.Known.{Known}
-use Rattle.expressions.specs.Answers.{Kept, typeIf}
+use Rattle.store.specs.Promises.{Kept, Linked}
+use Rattle.expressions.specs.Answers.{typeIf}
 use Rattle.expressions.specs.Answers as expressions
-use Rattle.expressions.specs.Parts.{Linked}
-use Rattle.expressions.proofs.Keeping.{kept-same, kept-wider, kept-on}
+use Rattle.store.proofs.Keeping.{kept-same, kept-wider, kept-on}
 use Rattle.constants.specs.declared.Valued.{Valued}
 use Rattle.constants.specs.declared.Valued.the-variants as valued
 use Rattle.constants.specs.Answers.{InNum, Asks, Right, Says, Values}

@@ -18,7 +18,8 @@ use Rattle.grammar.proofs.Inversions.{IsWhile, statement-while}
 use Rattle.grammar.proofs.Places.{list-grows}
 use Rattle.expressions.specs.declared.Judged.{Judged}
 use Rattle.expressions.specs.declared.Judged.the-variants as judged
-use Rattle.expressions.specs.Answers.{Kept, typeIf, OfType}
+use Rattle.store.specs.Promises.{Kept}
+use Rattle.expressions.specs.Answers.{typeIf, OfType}
 use Rattle.expressions.specs.Answers as expressions
 use Rattle.faults.specs.First.{First, Inside}
 use Rattle.faults.proofs.First.{first-before, first-after, nothing-in-both}

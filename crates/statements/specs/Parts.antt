@@ -22,10 +22,9 @@ use Rattle.code.specs.Steps.{aWhile, aFor, aForTest, aCase, aNextValue, aThen, 
 use Rattle.evaluation.specs.Answers.{callWords}
 use Rattle.names.specs.Meanings.{isProtected}
 use Rattle.names.specs.Promises.{storeBytes}
-use Rattle.store.specs.Promises.{tailWith, Rewritten}
+use Rattle.store.specs.Promises.{tailWith, Rewritten, Linked}
 use Rattle.grammar.specs.Form.{Parses, ExprAt, SimpleAt, StepAt, ForHeadAt, ExprsAt, ListAt, ArmsAt, ElseAt, CasesAt, DefaultAt}
 use Rattle.expressions.specs.declared.Judged.{Judged}
-use Rattle.expressions.specs.Parts.{Linked}
 use Rattle.links.specs.Resolved.{isLed}
 use Rattle.links.specs.Raw.{Ground, SameWords, RawTerm, RawBound, RawStep, RawElse, RawConstants, RawDefault, RawStatement, RawList, RawCases}
 use Rattle.simple.specs.declared.Setting.{Setting}

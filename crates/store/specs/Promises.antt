@@ -32,3 +32,7 @@ pub record Linked (before after : List ℕ) (i op value link : ℕ) : Type 0 whe
   pub value-is : valueAt (wordsOf after) i ≡ value
   pub link-is : linkAt (wordsOf after) i ≡ link
   pub kept : Kept before after i (i + 1)
+
+-- Its head alone has changed.
+abbrev pub Headed : (before after : List ℕ) (i op value : ℕ) → Type 0
+Headed before after i op value = Linked before after i op value (linkAt (wordsOf before) i)

@@ -4,7 +4,7 @@ ghost use Prim.Native.Nat.{_+_, _*_, _<_, _≤_};
 ghost use lib.ListN.{length};
 ghost use Rattle.cells.specs.Words.{wordsOf, Put};
 ghost use Rattle.code.specs.Cells.{opAt, valueAt, linkAt};
-ghost use Rattle.store.specs.Promises.{headWith, tailWith, Rewritten, Linked};
+ghost use Rattle.store.specs.Promises.{headWith, tailWith, Rewritten, Linked, Headed};
 
 // A head is an op, and a value above it; a tail is a place, and a link above it.
 pub const VALUE: u32 = 256;
@@ -23,7 +23,7 @@ pub fn sort(code: &[u8], i: usize) -> u32
 
 pub fn set_head(code: &mut [u8], i: usize, op: u32, value: u32)
     requires { ⌜ (i * 8 + 8 ≤ length (now code)) × (op < 256) × (value < 16777216) ⌝ }
-    ensures { λ _. ⌜ Linked (now (code .entry)) (now (code .exit)) i op value (linkAt (wordsOf (now (code .entry))) i) ⌝ }
+    ensures { λ _. ⌜ Headed (now (code .entry)) (now (code .exit)) i op value ⌝ }
 {
     cells::put(code, i * 2, op + VALUE * value);
 }
