@@ -36,7 +36,7 @@ use Rattle.expressions.specs.Known.{Loaded, Within, Known}
 use Rattle.expressions.proofs.Starts.{loaded-part}
 use Rattle.constants.specs.Answers.{Fine, Asks}
 use Rattle.declarations.specs.Sites.{Site, theModule, aRoutine, filling, ownOf, scopesOf, memoryOf, Placed, owned, Filled}
-use Rattle.declarations.specs.Chains.{Changed}
+use Rattle.declarations.specs.Answers.{Changed}
 use Rattle.declarations.specs.Answers.{outerOf, KeepsName, Begins, Free, after, Written}
 use Rattle.declarations.specs.Parts.{baseOf, Fills, Makes, Starts}
 use Rattle.declarations.proofs.Sitting.{may-declare, own-small, filled-on}

@@ -55,7 +55,7 @@ pub fn meaning<'a>(code: &'a [u8], values: &'a [u8], i: usize) -> u32
 }
 
 // The name at a word means m from now on. What it meant is kept in the word's head, and its number in the word's link.
-pub fn declare(code: &mut [u8], values: &mut [u8], i: usize, m: u32)
+fn declare(code: &mut [u8], values: &mut [u8], i: usize, m: u32)
     requires { ⌜ (i * 8 + 8 ≤ length (now code)) × (storeBytes ≤ length (now values)) ⌝ }
     ensures { λ _. ⌜ Declared (now (code .entry)) (now (values .entry)) i m (now (code .exit)) (now (values .exit)) ⌝ }
 {
@@ -67,7 +67,7 @@ pub fn declare(code: &mut [u8], values: &mut [u8], i: usize, m: u32)
 }
 
 // The name that a word declared means again what it meant before.
-pub fn leave(code: &[u8], values: &mut [u8], i: usize)
+fn leave(code: &[u8], values: &mut [u8], i: usize)
     requires { ⌜ (i * 8 + 8 ≤ length (now code)) × (storeBytes ≤ length (now values)) × Links (now code) i ⌝ }
     ensures { λ _. ⌜ Left (now (code .entry)) (now (values .entry)) i (now (values .exit)) ⌝ }
 {

@@ -10,7 +10,7 @@ use Rattle.cells.specs.Words.{wordsOf, Put}
 use Rattle.cells.proofs.Laws.{length-words}
 use Rattle.cells.proofs.Kept.{put-length, put-take, put-drop}
 use Rattle.code.specs.Cells.{opIn, valueIn, placeIn, linkIn, headAt, tailAt, opAt, valueAt, placeAt, linkAt}
-use Rattle.store.specs.Promises.{headWith, tailWith, Rewritten, Linked}
+use Rattle.store.specs.Promises.{headWith, tailWith, Rewritten, Linked, Relinked}
 use Rattle.store.proofs.Rewriting.{rewritten-length, rewritten-take, rewritten-drop}
 
 high-part : (t link : ℕ) → (t % 65536 + 65536 * link) / 65536 ≡ link
@@ -18,6 +18,9 @@ high-part t link = omega arith
 
 low-part : (t link : ℕ) → (t % 65536 + 65536 * link) % 65536 ≡ t % 65536
 low-part t link = omega arith
+
+head-whole : (C : List ℕ) (i : ℕ) → headWith (opAt C i) (valueAt C i) ≡ headAt C i
+head-whole C i = omega arith
 
 -- a word's new cells, with the bytes around them as they were
 module _ (before after : List ℕ) (i op value link : ℕ) (room : i * 8 + 8 ≤ length before) (small : op < 256)
@@ -67,7 +70,7 @@ module _ (before after : List ℕ) (i : ℕ) (room : i * 8 + 8 ≤ length before
       tail-is = omega arith
 
   pub link-written : (link place : ℕ) → place ≡ placeAt (wordsOf before) i → Put before after (i * 2 + 1) (place + 65536 * link)
-      → Linked before after i (opAt (wordsOf before) i) (valueAt (wordsOf before) i) link
+      → Relinked before after i link
   link-written link place e p =
       linked before after i (opAt (wordsOf before) i) (valueAt (wordsOf before) i) link room (omega arith)
       (p .words ∙ ap₂ (λ (l : List ℕ) (x : ℕ). set l (i * 2 + 1) (x + 65536 * link)) (sym (ap (set (wordsOf before) (i * 2)) head-is ∙ set-getD (wordsOf before) (i * 2) 0)) e)
@@ -76,7 +79,7 @@ module _ (before after : List ℕ) (i : ℕ) (room : i * 8 + 8 ≤ length before
       (put-length p (omega arith))
     where
       head-is : headWith (opAt (wordsOf before) i) (valueAt (wordsOf before) i) ≡ headAt (wordsOf before) i
-      head-is = omega arith
+      head-is = head-whole (wordsOf before) i
 
   pub word-written : (op value link place : ℕ) → op < 256 → place ≡ placeAt (wordsOf before) i → Rewritten before after i (op + 256 * value) (place + 65536 * link)
       → Linked before after i op value link
@@ -94,3 +97,10 @@ value-written before after i value op e p = subst (λ (x : ℕ). Put before afte
 pub place-written : (before after : List ℕ) (i place link : ℕ) → link ≡ linkAt (wordsOf before) i → Put before after (i * 2 + 1) (place + 65536 * link)
     → Put before after (i * 2 + 1) (tailWith place (linkAt (wordsOf before) i))
 place-written before after i place link e p = subst (λ (x : ℕ). Put before after (i * 2 + 1) (place + 65536 * x)) e p
+
+-- where a link alone has changed, every other cell is as it was
+pub relinked-others : {before after : List ℕ} {i link : ℕ} → Relinked before after i link → (k : ℕ) → (k ≡ i * 2 + 1 → ⊥) → getD (wordsOf after) k 0 ≡ getD (wordsOf before) k 0
+relinked-others {before} {after} {i} {link} l k d =
+    ap (λ (x : List ℕ). getD x k 0) (l .words)
+    ∙ getD-set-other (set (wordsOf before) (i * 2) (headWith (opAt (wordsOf before) i) (valueAt (wordsOf before) i))) (i * 2 + 1) k _ 0 d
+    ∙ ap (λ (x : List ℕ). getD x k 0) (ap (set (wordsOf before) (i * 2)) (head-whole (wordsOf before) i) ∙ set-getD (wordsOf before) (i * 2) 0)

@@ -36,3 +36,7 @@ pub record Linked (before after : List ℕ) (i op value link : ℕ) : Type 0 whe
 -- Its head alone has changed.
 abbrev pub Headed : (before after : List ℕ) (i op value : ℕ) → Type 0
 Headed before after i op value = Linked before after i op value (linkAt (wordsOf before) i)
+
+-- Its link alone has changed.
+abbrev pub Relinked : (before after : List ℕ) (i link : ℕ) → Type 0
+Relinked before after i link = Linked before after i (opAt (wordsOf before) i) (valueAt (wordsOf before) i) link

@@ -3,8 +3,8 @@ ghost use mathlib.Core.Path.{_≡_};
 ghost use Prim.Native.Nat.{_+_, _*_, _<_, _≤_};
 ghost use lib.ListN.{length};
 ghost use Rattle.cells.specs.Words.{wordsOf, Put};
-ghost use Rattle.code.specs.Cells.{opAt, valueAt, linkAt};
-ghost use Rattle.store.specs.Promises.{headWith, tailWith, Rewritten, Linked, Headed};
+ghost use Rattle.code.specs.Cells.{opAt, linkAt};
+ghost use Rattle.store.specs.Promises.{headWith, tailWith, Rewritten, Linked, Headed, Relinked};
 
 // A head is an op, and a value above it; a tail is a place, and a link above it.
 pub const VALUE: u32 = 256;
@@ -46,7 +46,7 @@ pub fn set_place(code: &mut [u8], i: usize, place: usize)
 
 pub fn set_link(code: &mut [u8], i: usize, link: usize)
     requires { ⌜ (i * 8 + 8 ≤ length (now code)) × (link < 65536) ⌝ }
-    ensures { λ _. ⌜ Linked (now (code .entry)) (now (code .exit)) i (opAt (wordsOf (now (code .entry))) i) (valueAt (wordsOf (now (code .entry))) i) link ⌝ }
+    ensures { λ _. ⌜ Relinked (now (code .entry)) (now (code .exit)) i link ⌝ }
 {
     let old = reading::place(code, i);
     cells::put(code, i * 2 + 1, (old as u32) + LINK * (link as u32));

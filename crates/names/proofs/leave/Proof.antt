@@ -2,16 +2,22 @@ use borrow.Author.Needs.{needs}
 use Rattle.names.proofs.Answering.{left}
 use Rattle.names.proofs.leave.Statement.{statement}
 use Rattle.names.proofs.leave.Tie as tie
+
 link-requires : tie.Need-link-requires
 link-requires c κs = search needs
+
 add-put : tie.Need-add-put
 add-put c = search needs
+
 head-requires : tie.Need-head-requires
 head-requires c κs = search needs
+
 put-requires : tie.Need-put-requires
 put-requires c κs = search needs
+
 same-length : tie.Need-same-length
 same-length c = search needs
+
 returns : tie.Need-returns
 returns c = search (needs, left)
 

@@ -2,12 +2,16 @@ use borrow.Author.Needs.{needs}
 use Rattle.names.proofs.Answering.{meant}
 use Rattle.names.proofs.meaning.Statement.{statement}
 use Rattle.names.proofs.meaning.Tie as tie
+
 number-requires : tie.Need-number-requires
 number-requires c κs = search needs
+
 add-get : tie.Need-add-get
 add-get c = search needs
+
 get-requires : tie.Need-get-requires
 get-requires c κs = search needs
+
 returns : tie.Need-returns
 returns c = search (needs, meant)
 
