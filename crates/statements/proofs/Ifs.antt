@@ -32,7 +32,7 @@ use Rattle.links.specs.Raw.{RawTerm, RawStatement}
 use Rattle.simple.specs.declared.Setting.{Setting}
 use Rattle.simple.specs.Around.{Around, groundOf, offsetIn}
 use Rattle.statements.specs.declared.Walked.{Walked}
-use Rattle.statements.specs.declared.Walked.the-variants.{Upto, Faulty}
+use Rattle.statements.specs.declared.Walked.the-variants.{Faulty}
 use Rattle.statements.specs.Answers.{Outside, Here, Stands, Answer, StatementAnswer, Begins, Begun}
 use Rattle.statements.specs.Parts.{Compacts, Compacted, ThenAt, Thens, Thened}
 use Rattle.statements.proofs.Frames.{outside-wider, kept-outside, here-on, calls-behind}
