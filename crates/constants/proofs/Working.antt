@@ -29,7 +29,8 @@ use Rattle.faults.specs.First.{Every, no-fault, _also_, Inside, First}
 use Rattle.faults.proofs.First.{every-one, widen, leads-same-if, first-fault, first-rising, first-left, first-alone}
 use Rattle.expressions.specs.declared.Judged.{Judged}
 use Rattle.expressions.specs.declared.Judged.the-variants.{Typed, Faulty}
-use Rattle.expressions.specs.Answers.{Kept, typeIf, Sound, ofType, OfType}
+use Rattle.store.specs.Promises.{Kept}
+use Rattle.expressions.specs.Answers.{typeIf, Sound, ofType, OfType}
 use Rattle.expressions.proofs.Judging.{append-none}
 use Rattle.expressions.proofs.Order.{Rising, rising-wanted}
 use Rattle.expressions.proofs.Around.{says-faulty}

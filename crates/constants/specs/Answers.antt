@@ -21,7 +21,8 @@ use Rattle.code.specs.Spans.{bias}
 use Rattle.evaluation.specs.Answers.{callWords, firstNegative}
 use Rattle.faults.specs.First.{First}
 use Rattle.expressions.specs.Known.{largest, InRoom}
-use Rattle.expressions.specs.Answers.{Kept, typeIf, Stands}
+use Rattle.store.specs.Promises.{Kept}
+use Rattle.expressions.specs.Answers.{typeIf, Stands}
 use Rattle.constants.specs.declared.Valued.{Valued}
 use Rattle.constants.specs.declared.Valued.the-variants as values-of
 use Rattle.constants.specs.declared.Sized.{Sized}

@@ -1,6 +1,6 @@
 // Constant expressions: checked as any expression is, and worked out from the words that constants have so far.
 ghost use mathlib.Core.Path.{_≡_};
-ghost use Rattle.constants.specs.Answers.{Asks, Values, Sizes};
+ghost use Rattle.constants.specs.Answers.{InNum, HeldAs, Asks, Values, Sizes};
 use expressions::Judged;
 
 pub enum Valued {
@@ -25,8 +25,19 @@ const LARGEST_SIZE: i64 = 512;
 // an evaluation's answer from here on is the number of an error
 const FIRST_ERROR: i64 = 4294967296;
 
+// how far the numbers that a head holds are from those they stand for
+const BIAS: i64 = 8388607;
+
 // The cell of the first word of the routine that is being checked.
 const WINDOW: usize = 1024;
+
+// A number of num as a head holds it.
+pub fn held(v: i64) -> u32
+    requires { ⌜ InNum v ⌝ }
+    ensures { λ r. ⌜ HeldAs v r ⌝ }
+{
+    (v + BIAS) as u32
+}
 
 // A constant expression of a type: bool, or num.
 pub fn constant(code: &mut [u8], values: &[u8], wants: bool, at: usize) -> Valued

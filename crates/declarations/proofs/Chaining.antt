@@ -17,9 +17,10 @@ use Rattle.cells.specs.Words.{wordsOf}
 use Rattle.names.specs.Meanings.{meaningIn, protectsCell}
 use Rattle.expressions.proofs.Judging.{append-none}
 use Rattle.declarations.specs.Sites.{Site}
-use Rattle.declarations.specs.Chains.{Leads, lastOf, startsIn, Rise}
+use Rattle.store.specs.Chains.{Leads, lastOf, startsIn, Rise}
 use Rattle.declarations.specs.Answers.{KeepsName, KeepsAll}
-use Rattle.declarations.specs.Parts.{SetLink}
+use Rattle.store.specs.Promises.{Relinked}
+use Rattle.store.proofs.Writing.{relinked-others}
 
 -- ---- words that stay but for one link
 pub record Agrees (C E : List ℕ) (i last : ℕ) : Type 0 where
@@ -27,13 +28,13 @@ pub record Agrees (C E : List ℕ) (i last : ℕ) : Type 0 where
   pub places : (j : ℕ) → j < i → placeAt E j ≡ placeAt C j
   pub links : (j : ℕ) → j < i → (j ≡ last → ⊥) → linkAt E j ≡ linkAt C j
 
-pub agrees-changed : (code mid after : List ℕ) (i last link : ℕ) → ((k : ℕ) → k < i * 2 → getD (wordsOf mid) k 0 ≡ getD (wordsOf code) k 0) → SetLink mid after last link → Agrees (wordsOf code) (wordsOf after) i last
+pub agrees-changed : (code mid after : List ℕ) (i last link : ℕ) → ((k : ℕ) → k < i * 2 → getD (wordsOf mid) k 0 ≡ getD (wordsOf code) k 0) → Relinked mid after last link → Agrees (wordsOf code) (wordsOf after) i last
 agrees-changed code mid after i last link below s = record {
-  heads = λ j l. s .others (j * 2) (λ e. omega arith) ∙ below (j * 2) (omega arith);
+  heads = λ j l. relinked-others s (j * 2) (λ e. omega arith) ∙ below (j * 2) (omega arith);
   places = λ j l. by-same j last
-      (λ e. subst (λ (k : ℕ). placeAt (wordsOf after) k ≡ placeAt (wordsOf code) k) (sym e) (s .place-is ∙ ap placeIn (below (last * 2 + 1) (omega arith))))
-      (λ d. ap placeIn (s .others (j * 2 + 1) (λ e. d (omega arith)) ∙ below (j * 2 + 1) (omega arith)));
-  links = λ j l d. ap linkIn (s .others (j * 2 + 1) (λ e. d (omega arith)) ∙ below (j * 2 + 1) (omega arith));
+      (λ e. subst (λ (k : ℕ). placeAt (wordsOf after) k ≡ placeAt (wordsOf code) k) (sym e) (s .kept .places last ∙ ap placeIn (below (last * 2 + 1) (omega arith))))
+      (λ d. ap placeIn (relinked-others s (j * 2 + 1) (λ e. d (omega arith)) ∙ below (j * 2 + 1) (omega arith)));
+  links = λ j l d. ap linkIn (relinked-others s (j * 2 + 1) (λ e. d (omega arith)) ∙ below (j * 2 + 1) (omega arith));
 }
 
 -- ---- what rises

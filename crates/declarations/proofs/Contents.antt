@@ -26,16 +26,17 @@ use Rattle.faults.specs.Added.{contentWords, contentFaults, declaredFaults}
 use Rattle.faults.proofs.Expressions.{grows}
 use Rattle.faults.proofs.First.{every-one, nothing-in-both}
 use Rattle.faults.proofs.Declarations.{name-taken, name-crosses, name-fits, found-in-name, found-in-content}
-use Rattle.expressions.specs.Answers.{Kept}
-use Rattle.expressions.proofs.Keeping.{cell-below, cell-above}
+use Rattle.store.specs.Promises.{Kept}
+use Rattle.store.proofs.Keeping.{cell-below, cell-above}
 use Rattle.constants.specs.declared.Sized.the-variants as sizes-of
 use Rattle.constants.specs.declared.Sized.{Sized as Size}
 use Rattle.constants.specs.Answers.{Asks, Sizes, Counted}
 use Rattle.constants.specs.Answers as constants
+use Rattle.names.specs.declared.Scope.{Scope}
 use Rattle.declarations.specs.declared.Walked.{Walked}
 use Rattle.declarations.specs.declared.Walked.the-variants.{Upto, Faulty}
 use Rattle.declarations.specs.Sites.{filling, ownOf, scopesOf, memoryOf, Placed, owned, Owns}
-use Rattle.declarations.specs.Answers.{Begins, Free, after, faultsOf, Says, Declares}
+use Rattle.declarations.specs.Answers.{upto, Begins, Free, after, faultsOf, Says, Declares}
 use Rattle.declarations.specs.Parts.{Near, Taken, Makes, Starts, DeclaresFree}
 use Rattle.declarations.proofs.Sitting.{site-ref, own-small, own-here, among-new, limit-most, used-most}
 use Rattle.declarations.proofs.Declaring.{asks-of, contentMeaning, content-used, Around, name-keeps, words-changed, words-written, now-filled}
@@ -224,10 +225,10 @@ module _ {code values : List ℕ} {own limit used i : ℕ} (brace : opAt (wordsO
             subst (λ (x : Content). Placed (F b .memoryWith (b .D .words ++ vs)) (contentMeaning (b .W) (F b) (type b) x (b .D) (F b .ref (length (b .D .words))))) (sym (sized b .is))
             (record { room = among-new (b .W) (b .s) (b .D .words) vs (length (b .D .words)) _ (omega (arith, long-is b, k .is)); some = omega (arith, k .some, k .is) })
 
-        pub array-goes : DeclaresFree code values code′ values′ own limit used i (Upto (next + 2) (used + count))
+        pub array-goes : (scope : Scope) → scope ≡ record { used = used + count } → DeclaresFree code values code′ values′ own limit used i (Upto (next + 2) scope)
         unfolding Says contentFaults
-        array-goes = record {
-          is = λ b free.
+        array-goes scope e = record {
+          is = λ b free. subst (λ (s : Scope). Says b code′ values′ (Upto (next + 2) s)) (sym e) (
               let k = count-is b in
               let around = around-kept code mid i (i + 4) (sized b .n) (b .to) (omega arith) (before-end b) (o .kept (size-asks b)) in
               record {
@@ -239,7 +240,7 @@ module _ {code values : List ℕ} {own limit used i : ℕ} (brace : opAt (wordsO
                 keeps = name-keeps b free mid code₂ code′ values₂ values′ 8 (used + 1024 * count) count 0 8388607 (pos 0) around made started;
                 written = words-written b free mid code₂ code′ values₂ values′ 8 (used + 1024 * count) count 0 8388607 (pos 0) around made started (words-are b) refl;
                 changed = words-changed b free mid code₂ code′ values₂ values′ 8 (used + 1024 * count) count 0 8388607 (pos 0) around made started;
-              };
+              });
         }
 
 -- ---- by its name

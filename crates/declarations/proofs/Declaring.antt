@@ -27,7 +27,7 @@ use Rattle.names.specs.Numbers.{numberOf}
 use Rattle.names.specs.Meanings.{typeWith, meaningIn, isProtected, protectsCell, Keeps}
 use Rattle.names.specs.Promises.{numberAt}
 use Rattle.names.proofs.Tables.{declare-keeps}
-use Rattle.names.proofs.Rewriting.{rewritten-other}
+use Rattle.store.proofs.Rewriting.{rewritten-other}
 use Rattle.grammar.specs.Form.{Parses}
 use Rattle.grammar.proofs.Places.{content-grows}
 use Rattle.faults.specs.Added.{contentWords}
@@ -36,7 +36,7 @@ use Rattle.expressions.specs.Known.{Loaded, Within, Known}
 use Rattle.expressions.proofs.Starts.{loaded-part}
 use Rattle.constants.specs.Answers.{Fine, Asks}
 use Rattle.declarations.specs.Sites.{Site, theModule, aRoutine, filling, ownOf, scopesOf, memoryOf, Placed, owned, Filled}
-use Rattle.declarations.specs.Chains.{Changed}
+use Rattle.declarations.specs.Answers.{Changed}
 use Rattle.declarations.specs.Answers.{outerOf, KeepsName, Begins, Free, after, Written}
 use Rattle.declarations.specs.Parts.{baseOf, Fills, Makes, Starts}
 use Rattle.declarations.proofs.Sitting.{may-declare, own-small, filled-on}

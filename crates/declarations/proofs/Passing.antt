@@ -19,7 +19,7 @@ use Rattle.names.specs.Numbers.{numberOf}
 use Rattle.names.specs.Meanings.{typeWith, refWith, meaningWith, meaningIn}
 use Rattle.names.specs.Promises.{numberAt}
 use Rattle.names.proofs.Tables.{meaning-with, declare-keeps}
-use Rattle.names.proofs.Rewriting.{rewritten-other}
+use Rattle.store.proofs.Rewriting.{rewritten-other}
 use Rattle.grammar.specs.Form.{Parses, SeparatedAt, ParameterAt}
 use Rattle.grammar.proofs.Inversions.{FirstOf, separated-first, closed-none, closed-some}
 use Rattle.grammar.proofs.Places.{separated-grows, closed-grows, parameter-grows}
@@ -29,10 +29,11 @@ use Rattle.faults.proofs.Expressions.{grows}
 use Rattle.faults.proofs.Declarations.{name-taken, name-crosses, name-fits, parameters-on, parameters-found}
 use Rattle.expressions.specs.Known.{Loaded}
 use Rattle.expressions.proofs.Starts.{loaded-part}
+use Rattle.names.specs.declared.Scope.{Scope}
 use Rattle.declarations.specs.declared.Walked.{Walked}
 use Rattle.declarations.specs.declared.Walked.the-variants.{Upto, Faulty}
 use Rattle.declarations.specs.Sites.{aRoutine, filling, ownOf, scopesOf, Owns, Placed, owned, Filled}
-use Rattle.declarations.specs.Answers.{KeepsAll, OtherWords, nameWords, ParametersStand, parametersAfter, ParametersFilled, SaysParameters, DeclaresParameters}
+use Rattle.declarations.specs.Answers.{upto, KeepsAll, OtherWords, nameWords, ParametersStand, parametersAfter, ParametersFilled, SaysParameters, DeclaresParameters}
 use Rattle.declarations.specs.Parts.{baseOf, Fills, Taken, Makes, ParameterBegins, parameterAfter, ParameterGoes, SaysParameter, DeclaresParameter}
 use Rattle.declarations.proofs.Sitting.{site-ref, own-here, among-new, used-most, filled-on}
 use Rattle.declarations.proofs.Declaring.{data-plain, keeps-outer, not-among}
@@ -150,9 +151,11 @@ module _ (code values : List ℕ) (used i : ℕ) (t : Bool) (taken : Taken code 
   }
 
   pub parameter-goes : t ≡ false → used < 64 → (code′ mid values′ : List ℕ) → Makes code values code′ mid (i + 1) 4 1 used → Fills mid values′ (1024 + used) 1 0
-      → DeclaresParameter code values code′ values′ used i (Upto (i + 2) (used + 1))
+      → (scope : Scope) → scope ≡ record { used = used + 1 } → DeclaresParameter code values code′ values′ used i (Upto (i + 2) scope)
   unfolding SaysParameter
-  parameter-goes h fits code′ mid values′ made fills = record { is = λ b. goes b code′ mid values′ (sym (taken-is b t taken) ∙ h) fits made fills }
+  parameter-goes h fits code′ mid values′ made fills scope e = record {
+    is = λ b. subst (λ (s : Scope). SaysParameter b code′ values′ (Upto (i + 2) s)) (sym e) (goes b code′ mid values′ (sym (taken-is b t taken) ∙ h) fits made fills);
+  }
 
 -- ---- the words of their names
 pub names-more : (first n : ℕ) → nameWords first (suc n) ≡ nameWords first n ++ (first + 3 * n + 1) ∷ []
@@ -196,7 +199,7 @@ module _ (code values : List ℕ) (at s : ℕ) (s-is : s ≡ opAt (wordsOf code)
   sort-at : (b : ParametersStand code values at) → sortIn (b .W) at ≡ s
   sort-at b = sym (s-is ∙ b .loaded .words at (omega arith) (at-on b) .sort)
 
-  pub parameters-none : s ≡ 7 → DeclaresParameters code values code values at (Upto at 0)
+  pub parameters-none : s ≡ 7 → DeclaresParameters code values code values at (upto at 0)
   unfolding SaysParameters KeepsAll nameWords parameterFaults declareParameters
   parameters-none h = record {
     is = λ b.
@@ -368,7 +371,7 @@ module _ {code₀ values₀ : List ℕ} {at : ℕ} (b : ParametersStand code₀ 
           others = others;
         }
 
-says-goes : {code values : List ℕ} {used i : ℕ} (b : ParameterBegins code values used i) (code′ values′ : List ℕ) (r : Walked) (n used′ : ℕ) → r ≡ Upto n used′ → SaysParameter b code′ values′ r → ParameterGoes b code′ values′ n used′
+says-goes : {code values : List ℕ} {used i : ℕ} (b : ParameterBegins code values used i) (code′ values′ : List ℕ) (r : Walked) (n used′ : ℕ) → r ≡ upto n used′ → SaysParameter b code′ values′ r → ParameterGoes b code′ values′ n used′
 unfolding SaysParameter
 says-goes b code′ values′ r n used′ q h = subst (SaysParameter b code′ values′) q h
 
@@ -395,7 +398,7 @@ module _ (code₀ values₀ : List ℕ) (at : ℕ) (code values : List ℕ) (i u
       is = λ b. found b (m .passed b) (record { number = number; at = word }) (says-faulty (begins b (m .passed b)) code′ values′ r number word q (d .is (begins b (m .passed b))));
     }
 
-    module _ (n used′ : ℕ) (q : r ≡ Upto n used′) where
+    module _ (n used′ : ℕ) (q : r ≡ upto n used′) where
       went : (b : ParametersStand code₀ values₀ at) → ParameterGoes (begins b (m .passed b)) code′ values′ n used′
       went b = says-goes (begins b (m .passed b)) code′ values′ r n used′ q (d .is (begins b (m .passed b)))
 
@@ -411,8 +414,8 @@ module _ (code₀ values₀ : List ℕ) (at : ℕ) (code values : List ℕ) (i u
       pub end-near : ParametersStand code₀ values₀ at → n < 8192
       end-near b = let l = m .passed b .loaded .last in omega (arith, l, n-on b)
 
-      pub parameters-fall : ParametersStand code₀ values₀ at → 8192 - (n + 1) < 8192 - i
-      parameters-fall b = omega (arith, n-is b, end-near b)
+      fall : ParametersStand code₀ values₀ at → 8192 - (n + 1) < 8192 - i
+      fall b = omega (arith, n-is b, end-near b)
 
       others-on : ParametersStand code₀ values₀ at → OtherWords (wordsOf code₀) (wordsOf code′) at used′
       others-on b = record {
@@ -425,7 +428,7 @@ module _ (code₀ values₀ : List ℕ) (at : ℕ) (code values : List ℕ) (i u
             let p = m .passed b in
             sym (s-is ∙ ap opIn (went b .others .is (n * 2) (λ j l e. omega (arith, e, l, n-is b))) ∙ p .loaded .words n (omega (arith, n-is b)) (n-on b) .sort)
 
-        pub parameters-done : (s ≡ 5 → ⊥) → DeclaresParameters code₀ values₀ code′ values′ at (Upto n used′)
+        pub parameters-done : (s ≡ 5 → ⊥) → DeclaresParameters code₀ values₀ code′ values′ at (upto n used′)
         unfolding SaysParameters
         parameters-done last = record {
           is = λ b. all b (m .passed b) code′ values′ n used′ (went b) long (m .place) (λ e. last (sym (sort-end b) ∙ e)) (others-on b);
@@ -439,3 +442,6 @@ module _ (code₀ values₀ : List ℕ) (at : ℕ) (code values : List ℕ) (i u
           place = omega (arith, n-is b₀, m .place, went b₀ .used-is);
           others = others-on b₀;
         }
+
+    pub parameters-fall : (n : ℕ) (scope : Scope) → r ≡ Upto n scope → ParametersStand code₀ values₀ at → 8192 - (n + 1) < 8192 - i
+    parameters-fall n scope q b = fall n (scope .used) q b

@@ -16,12 +16,15 @@ use Rattle.cells.specs.Words.{wordsOf}
 use Rattle.code.specs.Cells.{opIn, placeIn, opAt, valueAt, placeAt, linkAt}
 use Rattle.code.specs.Spans.{bias}
 use Rattle.code.specs.Steps.{constantAt}
+use Rattle.names.specs.declared.Scope.{Scope}
 use Rattle.declarations.specs.declared.Walked.{Walked}
 use Rattle.declarations.specs.declared.Walked.the-variants.{Upto, Faulty}
 use Rattle.declarations.specs.Sites.{aRoutine, filling, ownOf, Filled}
-use Rattle.declarations.specs.Chains.{Leads, lastOf, startsIn, Rise}
-use Rattle.declarations.specs.Answers.{outerOf, KeepsName, KeepsAll, Begins, after, Goes, Declares, firstOf, nameOf, RoutineStands, RoutineFilled, SaysRoutine, DeclaresRoutine}
-use Rattle.declarations.specs.Parts.{Near, SetLink}
+use Rattle.store.specs.Chains.{Leads, lastOf, startsIn, Rise}
+use Rattle.declarations.specs.Answers.{upto, outerOf, KeepsName, KeepsAll, Begins, after, Goes, Declares, firstOf, nameOf, RoutineStands, RoutineFilled, SaysRoutine, DeclaresRoutine}
+use Rattle.store.specs.Promises.{Relinked}
+use Rattle.store.proofs.Writing.{relinked-others}
+use Rattle.declarations.specs.Parts.{Near}
 use Rattle.expressions.proofs.Judging.{append-none}
 use Rattle.declarations.proofs.Declaring.{content-shape, keeps-same}
 use Rattle.declarations.proofs.Contents.{near, far}
@@ -95,13 +98,13 @@ module _ {code₀ values₀ : List ℕ} {head used₀ at : ℕ} (b : RoutineStan
   abbrev pub chain-begins : Begins code values 1 64 used i
   chain-begins = walk-begins w starts (own-routine (b .m)) (limit-routine (b .W) (b .m))
 
-  module _ (mid code′ values′ : List ℕ) (n used′ : ℕ) (g : Goes chain-begins mid values′ n used′) (s : SetLink mid code′ last i) (long : length code′ ≡ length code) where
+  module _ (mid code′ values′ : List ℕ) (n used′ : ℕ) (g : Goes chain-begins mid values′ n used′) (s : Relinked mid code′ last i) (long : length code′ ≡ length code) where
     agrees : Agrees (wordsOf code) (wordsOf code′) i (lastOf head (h .done))
     agrees = subst (Agrees (wordsOf code) (wordsOf code′) i) (h .last-now) (agrees-changed code mid code′ i last i (g .changed .below) s)
 
     -- what the datum has written stays
     stays : (k : ℕ) → i * 2 ≤ k → getD (wordsOf code′) k 0 ≡ getD (wordsOf mid) k 0
-    stays k l = s .others k (λ e. omega (arith, e, l, last-before))
+    stays k l = relinked-others s k (λ e. omega (arith, e, l, last-before))
 
     beyond : (k : ℕ) → next w starts .n * 2 ≤ k → getD (wordsOf code′) k 0 ≡ getD (wordsOf code) k 0
     beyond k l = stays k (omega (arith, l, next-grows w starts)) ∙ g .changed .above k l
@@ -166,15 +169,15 @@ module _ {code₀ values₀ : List ℕ} {head used₀ at : ℕ} (b : RoutineStan
           (keeps-more (b .routine) (b .W) (aRoutine (b .m)) (wordsOf code) (wordsOf code′) i last (agrees-changed code mid code′ i last i (g .changed .below) s) (map nameOf (h .done)) (i + 2) (h .settled) (h .keeps) name-kept);
       covers = covers-more;
       below = λ k l d. by-same last head
-          (λ e. s .others k (λ q. d (omega (arith, q, e))) ∙ g .changed .below k (omega (arith, l, begun)) ∙ h .below k l d)
-          (λ e. let f = last-new e in s .others k (λ q. omega (arith, q, l, f)) ∙ g .changed .below k (omega (arith, l, begun)) ∙ h .below k l d);
+          (λ e. relinked-others s k (λ q. d (omega (arith, q, e))) ∙ g .changed .below k (omega (arith, l, begun)) ∙ h .below k l d)
+          (λ e. let f = last-new e in relinked-others s k (λ q. omega (arith, q, l, f)) ∙ g .changed .below k (omega (arith, l, begun)) ∙ h .below k l d);
       place-is = agrees-changed code mid code′ i last i (g .changed .below) s .places head (omega (arith, b .before, begun)) ∙ h .place-is;
       above = λ k l. beyond k (omega (arith, l, g .next-is)) ∙ h .above k (omega (arith, l, gap));
     }
 
 -- ---- the last link
 module _ {code₀ values₀ : List ℕ} {head used₀ at : ℕ} (b : RoutineStands code₀ values₀ head used₀ at) {code values : List ℕ} {i used last : ℕ} (h : Chained b code values i used last)
-    (begun : at ≤ i) (last-new : (last ≡ head → ⊥) → at ≤ last) (last-before : last < i) (stops : startsData (sortIn (b .W) i) ≡ false) (code′ : List ℕ) (opens : ℕ) (s : SetLink code code′ last opens) where
+    (begun : at ≤ i) (last-new : (last ≡ head → ⊥) → at ≤ last) (last-before : last < i) (stops : startsData (sortIn (b .W) i) ≡ false) (code′ : List ℕ) (opens : ℕ) (s : Relinked code code′ last opens) where
   same : Agrees (wordsOf code) (wordsOf code′) i last
   same = agrees-changed code code code′ i last opens (λ k l. refl) s
 
@@ -205,10 +208,10 @@ module _ {code₀ values₀ : List ℕ} {head used₀ at : ℕ} (b : RoutineStan
           is = λ u p q. ap (λ (D : Data). isAmong (map textOf (D .names)) u) e ∙ h .covers u p (subst (λ (l : List ℕ). isAmong (map (spelled (b .W)) (map nameOf l)) u ≡ false) all-done q);
         };
         below = λ k l d. by-same last head
-            (λ y. s .others k (λ q. d (omega (arith, q, y))) ∙ h .below k l d)
-            (λ y. let f = last-new y in s .others k (λ q. omega (arith, q, l, f)) ∙ h .below k l d);
+            (λ y. relinked-others s k (λ q. d (omega (arith, q, y))) ∙ h .below k l d)
+            (λ y. let f = last-new y in relinked-others s k (λ q. omega (arith, q, l, f)) ∙ h .below k l d);
         place-is = same .places head (omega (arith, b .before, begun)) ∙ h .place-is;
-        above = λ k l. s .others k (λ q. omega (arith, q, l, last-before, done-at (h .walk) stops)) ∙ h .above k (omega (arith, l, done-at (h .walk) stops));
+        above = λ k l. relinked-others s k (λ q. omega (arith, q, l, last-before, done-at (h .walk) stops)) ∙ h .above k (omega (arith, l, done-at (h .walk) stops));
       }
 
 -- ---- the loop
@@ -249,7 +252,7 @@ module _ (code₀ values₀ : List ℕ) (head used₀ at : ℕ) (code values : L
           is = λ b. walk-found (m .chained b .walk) (starts-is b ∙ yes) (own-routine (b .m)) (limit-routine (b .W) (b .m)) (record { number = number; at = word }) (says-faulty (begins b) mid values′ r number word q (d .is (begins b)));
         }
 
-        module _ (n used′ : ℕ) (q : r ≡ Upto n used′) where
+        module _ (n used′ : ℕ) (q : r ≡ upto n used′) where
           goes : (b : RoutineStands code₀ values₀ head used₀ at) → Goes (begins b) mid values′ n used′
           goes b = says-goes (begins b) mid values′ r n used′ q (d .is (begins b))
 
@@ -259,10 +262,10 @@ module _ (code₀ values₀ : List ℕ) (head used₀ at : ℕ) (code values : L
               let w = m .chained b .walk in
               (omega (arith, y, next-grows w (starts-is b ∙ yes)), omega (arith, y, next-on w (starts-is b ∙ yes), w .loaded .last))
 
-          pub routine-falls : RoutineStands code₀ values₀ head used₀ at → 8192 - n < 8192 - i
-          routine-falls b = omega (arith, routine-less b .0, routine-less b .1)
+          falls : RoutineStands code₀ values₀ head used₀ at → 8192 - n < 8192 - i
+          falls b = omega (arith, routine-less b .0, routine-less b .1)
 
-          pub routine-on : RoutineStands code₀ values₀ head used₀ at → (code′ : List ℕ) → SetLink mid code′ last i → length code′ ≡ length code → length values′ ≡ length values
+          pub routine-on : RoutineStands code₀ values₀ head used₀ at → (code′ : List ℕ) → Relinked mid code′ last i → length code′ ≡ length code → length values′ ≡ length values
               → RoutineWalk code₀ values₀ head used₀ at code′ values′ n used′ i
           routine-on b₀ code′ s long long-values = record {
             long = long ∙ m .long;
@@ -273,6 +276,9 @@ module _ (code₀ values₀ : List ℕ) (head used₀ at : ℕ) (code values : L
             last-before = routine-less b₀ .0;
           }
 
-    pub routine-done : t ≡ false → (code′ : List ℕ) (opens : ℕ) → SetLink code code′ last opens → DeclaresRoutine code₀ values₀ code′ values opens head used₀ at (Upto i used)
+        pub routine-falls : (n : ℕ) (scope : Scope) → r ≡ Upto n scope → RoutineStands code₀ values₀ head used₀ at → 8192 - n < 8192 - i
+        routine-falls n scope q b = falls n (scope .used) q b
+
+    pub routine-done : t ≡ false → (code′ : List ℕ) (opens : ℕ) → Relinked code code′ last opens → DeclaresRoutine code₀ values₀ code′ values opens head used₀ at (upto i used)
     unfolding SaysRoutine
     routine-done stops code′ opens s = record { is = λ b. chain-done b (m .chained b) (m .begun) (m .last-new) (m .last-before) (starts-is b ∙ stops) code′ opens s }

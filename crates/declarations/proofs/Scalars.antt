@@ -31,17 +31,18 @@ use Rattle.grammar.specs.Form as form
 use Rattle.faults.specs.First.{First}
 use Rattle.faults.specs.Added.{contentWords, contentFaults}
 use Rattle.expressions.specs.Answers.{typeIf}
-use Rattle.expressions.proofs.Keeping.{kept-same}
+use Rattle.store.proofs.Keeping.{kept-same}
 use Rattle.expressions.proofs.Leaves.{type-with}
 use Rattle.constants.specs.declared.Valued.{Valued}
 use Rattle.constants.specs.declared.Valued.the-variants as values-of
 use Rattle.constants.specs.Answers.{InNum, Asks, Values}
 use Rattle.constants.specs.Answers as constants
 use Rattle.constants.proofs.Terms.{in-num-small}
+use Rattle.names.specs.declared.Scope.{Scope}
 use Rattle.declarations.specs.declared.Walked.{Walked}
 use Rattle.declarations.specs.declared.Walked.the-variants.{Upto, Faulty}
 use Rattle.declarations.specs.Sites.{ownOf, scopesOf, memoryOf, Placed, owned}
-use Rattle.declarations.specs.Answers.{Begins, Free, after, Goes, Says}
+use Rattle.declarations.specs.Answers.{upto, Begins, Free, after, Goes, Says}
 use Rattle.declarations.specs.Parts.{TypeBit, scalarOp, HeldAs, Makes, Starts, FitValue, Fit, PlacedAs, Placing, DeclaresFree}
 use Rattle.declarations.proofs.Words.{in-num-32, in-num-64}
 use Rattle.declarations.proofs.Sitting.{own-here, among-new, load-new}
@@ -178,9 +179,10 @@ module _ (code values code′ values′ : List ℕ) (own used op i : ℕ) (c : V
   placing-faulty number word q = record { is = rw q (record { answer = refl; same-code = refl; same-values = refl }) }
 
   pub placing-value : (v : ℤ) (next : ℕ) → c ≡ values-of.Value v next → Fit c → (mid-code mid-values : List ℕ) → Makes code values mid-code mid-values (i + 2) op own used → (word held : ℕ) → word ≡ ofZ w32 (read v)
-      → HeldAs (read v) held → Starts mid-code mid-values code′ values′ own used 1 word held i → Placing code values code′ values′ own used op i c (Upto (next + 1) (used + 1))
+      → HeldAs (read v) held → Starts mid-code mid-values code′ values′ own used 1 word held i → (scope : Scope) → scope ≡ record { used = used + 1 }
+      → Placing code values code′ values′ own used op i c (Upto (next + 1) scope)
   unfolding PlacedAs
-  placing-value v next q f mid-code mid-values made word held w h started =
+  placing-value v next q f mid-code mid-values made word held w h started scope e =
       let y : read v ≡ v = toZ-ofZ (in-num-64 v (fit-value c v next q f .ranged)) in
       record {
         is = rw q (
@@ -194,7 +196,7 @@ module _ (code values code′ values′ : List ℕ) (own used op i : ℕ) (c : V
             held-is = subst (λ (z : ℤ). HeldAs z held) y h;
             started = started;
           },
-          refl,
+          ap (Upto (next + 1)) e,
         );
       }
 
@@ -213,14 +215,14 @@ module _ {code values : List ℕ} {own limit used i : ℕ} (plain : opAt (wordsO
     op-here b = op-is ∙ ap scalarOp (s0-is ∙ opens-is b)
 
     pub scalar-plain : (s3 ≡ 11 → ⊥) → (code₂ code′ values₂ values′ : List ℕ) → Makes code values code₂ values₂ (i + 2) op own used → Starts code₂ values₂ code′ values′ own used 1 0 8388607 i
-        → DeclaresFree code values code′ values′ own limit used i (Upto (i + 4) (used + 1))
+        → (scope : Scope) → scope ≡ record { used = used + 1 } → DeclaresFree code values code′ values′ own limit used i (Upto (i + 4) scope)
     unfolding Says
-    scalar-plain none code₂ code′ values₂ values′ made started = record {
-      is = λ b free.
+    scalar-plain none code₂ code′ values₂ values′ made started scope e = record {
+      is = λ b free. subst (λ (s : Scope). Says b code′ values′ (Upto (i + 4) s)) (sym e) (
           let n = no-value (b .W) (F b) (type b) (b .D) (b .stands .content) (not-brace b) (λ e. none (s3-is ∙ sort-is b 3 (omega arith) ∙ e)) in
           scalar-done b free op (op-here b) (pos 0) (in-num-small 0 (omega arith)) (n .words-are) (n .faults-are) (n .means-are) fits
           code code₂ code′ values₂ values′ 0 8388607 (i + 4) (around-kept code code i (i + 3) (i + 3) (b .to) (omega arith) (omega (arith, far b)) (kept-same code (i + 3) (i + 3))) made started
-          refl refl (omega (arith, n .end-is, b .stands .after));
+          refl refl (omega (arith, n .end-is, b .stands .after)));
     }
 
     module _ (some : s3 ≡ 11) where

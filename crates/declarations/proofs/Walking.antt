@@ -22,10 +22,11 @@ use Rattle.faults.proofs.Expressions.{grows}
 use Rattle.faults.proofs.Declarations.{data-on, data-found}
 use Rattle.expressions.specs.Known.{Loaded}
 use Rattle.expressions.proofs.Starts.{loaded-part}
+use Rattle.names.specs.declared.Scope.{Scope}
 use Rattle.declarations.specs.declared.Walked.{Walked}
 use Rattle.declarations.specs.declared.Walked.the-variants.{Upto, Faulty}
 use Rattle.declarations.specs.Sites.{Site, theModule, filling, ownOf, Filled}
-use Rattle.declarations.specs.Answers.{Begins, after, faultsOf, Goes, Says, Declares, DataStand, SaysModule, DeclaresModule}
+use Rattle.declarations.specs.Answers.{upto, Begins, after, faultsOf, Goes, Says, Declares, DataStand, SaysModule, DeclaresModule}
 use Rattle.declarations.specs.Parts.{Near}
 use Rattle.declarations.proofs.Contents.{near}
 
@@ -132,7 +133,7 @@ module _ {W : List Word} {routine : ℕ → ℕ} {s : Site} {D₀ : Data} {ds : 
     pub done-rest : w .rest ≡ []
     done-rest = repeated-none (sortIn W) (DeclaredAt (sortIn W) (Parses (sortIn W))) (w .stand) stops .0
 
-pub says-goes : {code values : List ℕ} {own limit used i : ℕ} (b : Begins code values own limit used i) (code′ values′ : List ℕ) (r : Walked) (next used′ : ℕ) → r ≡ Upto next used′ → Says b code′ values′ r → Goes b code′ values′ next used′
+pub says-goes : {code values : List ℕ} {own limit used i : ℕ} (b : Begins code values own limit used i) (code′ values′ : List ℕ) (r : Walked) (next used′ : ℕ) → r ≡ upto next used′ → Says b code′ values′ r → Goes b code′ values′ next used′
 unfolding Says
 says-goes b code′ values′ r next used′ q h = subst (Says b code′ values′) q h
 
@@ -199,7 +200,7 @@ module _ (code₀ values₀ : List ℕ) (at : ℕ) (code values : List ℕ) (i u
           is = λ b. walk-found (m .walks b) (starts-is b ∙ yes) (own-here b) (limit-here b) (record { number = number; at = word }) (says-faulty (begins b) code′ values′ r number word q (d .is (begins b)));
         }
 
-        module _ (next used′ : ℕ) (q : r ≡ Upto next used′) where
+        module _ (next used′ : ℕ) (q : r ≡ upto next used′) where
           goes : (b : DataStand code₀ values₀ at) → Goes (begins b) code′ values′ next used′
           goes b = says-goes (begins b) code′ values′ r next used′ q (d .is (begins b))
 
@@ -212,8 +213,8 @@ module _ (code₀ values₀ : List ℕ) (at : ℕ) (code values : List ℕ) (i u
               let l = m .walks b .loaded .last in
               (omega (arith, n, g), omega (arith, n, h, l))
 
-          pub module-falls : DataStand code₀ values₀ at → 8192 - next < 8192 - i
-          module-falls b = omega (arith, module-less b .0, module-less b .1)
+          falls : DataStand code₀ values₀ at → 8192 - next < 8192 - i
+          falls b = omega (arith, module-less b .0, module-less b .1)
 
           pub module-on : DataStand code₀ values₀ at → length code′ ≡ length code → length values′ ≡ length values → ModuleWalk code₀ values₀ at code′ values′ next used′
           module-on b₀ long long-values = record {
@@ -225,16 +226,19 @@ module _ (code₀ values₀ : List ℕ) (at : ℕ) (code values : List ℕ) (i u
             above = λ k h. goes b₀ .changed .above k (omega (arith, goes b₀ .next-is)) ∙ m .above k (omega (arith, module-less b₀ .0));
           }
 
-    pub module-done : t ≡ false → DeclaresModule code₀ values₀ code values at (Upto i used)
+        pub module-falls : (next : ℕ) (scope : Scope) → r ≡ Upto next scope → DataStand code₀ values₀ at → 8192 - next < 8192 - i
+        module-falls next scope q b = falls next (scope .used) q b
+
+    pub module-done : t ≡ false → (scope : Scope) → scope .used ≡ used → DeclaresModule code₀ values₀ code values at (Upto i scope)
     unfolding SaysModule
-    module-done ended = record {
+    module-done ended scope u = record {
       is = λ b.
           let w = m .walks b in
           let e = starts-is b ∙ ended in
           record {
             none = done-none w e;
             next-is = sym (done-at w e);
-            used-is = w .used-is ∙ sym (ap (λ (D : Data). length (D .words)) (done-is w e));
+            used-is = u ∙ w .used-is ∙ sym (ap (λ (D : Data). length (D .words)) (done-is w e));
             filled = subst (λ (D : Data). Filled (b .W) (b .routine) (theModule (b .routines)) D values) (sym (done-is w e)) (w .filled);
             changed = record { below = m .below; above = λ k h. m .above k (omega (arith, done-at w e)) };
           };

@@ -16,16 +16,19 @@ use Rattle.laws.proofs.Tests.{by-same}
 use Rattle.paper.specs.Numbers.{num}
 use Rattle.paper.specs.Names.{typeOf}
 use Rattle.paper.specs.Expressions.{startsData}
-use Rattle.cells.specs.Words.{wordsOf, Got, Put}
+use Rattle.cells.specs.Words.{wordsOf, Put}
 use Rattle.cells.proofs.Kept.{put-length, put-same, put-other}
-use Rattle.code.specs.Cells.{headAt, opIn, valueIn, placeIn, linkIn, opAt}
+use Rattle.code.specs.Cells.{opIn, valueIn, placeIn, opAt}
 use Rattle.code.specs.Spans.{bias}
-use Rattle.names.specs.Promises as names
+use Rattle.names.specs.declared.Scope.{Scope}
+use Rattle.names.specs.Scopes.{Declares}
+use Rattle.store.specs.Promises.{Rewritten}
+use Rattle.store.proofs.Rewriting.{rewritten-head, rewritten-tail, rewritten-other}
 use Rattle.numbers.proofs.Whole.{read, sub-cases}
 use Rattle.numbers.proofs.Complement.{widened}
 use Rattle.constants.specs.Answers.{InNum}
-pub use Rattle.constants.proofs.Holding.{in-num-32, in-num-64, held-fits, held-cast, held-is}
-use Rattle.declarations.specs.Parts.{TypeBit, scalarOp, baseOf, Fills, SetDatum, SetLink, Makes, Starts}
+pub use Rattle.constants.proofs.Holding.{in-num-32, in-num-64}
+use Rattle.declarations.specs.Parts.{TypeBit, scalarOp, baseOf, Fills, SetDatum, MakesIn, Starts}
 
 -- ---- sorts
 pub type-num : (s : ℕ) → s ≡ 89 → TypeBit s 0
@@ -91,43 +94,31 @@ fills-long before after from count v f = f .long
 pub fills-done : (before after : List ℕ) (from count k v : ℕ) → Fills before after from k v → k ≤ count → count ≤ k → Fills before after from count v
 fills-done before after from count k v f h g = let e : k ≡ count = omega arith in subst (λ (n : ℕ). Fills before after from n v) e f
 
-pub datum-set : (before mid after : List ℕ) (i count held : ℕ) → i * 8 + 8 ≤ length before → count < 65536 → held < 16777216 → Put before mid (i * 2) (160 + 256 * held) → Put mid after (i * 2 + 1) count
+datum-set : (before after : List ℕ) (i count held : ℕ) → i * 8 + 8 ≤ length before → count < 65536 → Rewritten before after i (160 + 256 * held) (count + 65536 * 0)
     → SetDatum before after i count held
-datum-set before mid after i count held room hc hh p q =
-    let r : i * 2 * 4 + 4 ≤ length before = omega arith in
-    let s : (i * 2 + 1) * 4 + 4 ≤ length mid = omega (arith, put-length p r) in
-    let head : headAt (wordsOf after) i ≡ 160 + 256 * held = put-other q s (i * 2) (λ e. omega arith) ∙ put-same p r in
-    record {
-      op-is = ap opIn head ∙ omega arith;
-      value-is = ap valueIn head ∙ omega arith;
-      place-is = ap placeIn (put-same q s) ∙ omega arith;
-      others = λ k d e. put-other q s k e ∙ put-other p r k d;
-    }
-
-pub link-set : (before after : List ℕ) (i link tail : ℕ) → i * 8 + 8 ≤ length before → link < 65536 → Got before (i * 2 + 1) tail → Put before after (i * 2 + 1) (tail % 65536 + 65536 * link) → SetLink before after i link
-link-set before after i link tail room h g p =
-    let r : (i * 2 + 1) * 4 + 4 ≤ length before = omega arith in
-    record {
-      link-is = ap linkIn (put-same p r) ∙ omega arith;
-      place-is = ap placeIn (put-same p r) ∙ low (tail % 65536) ∙ ap placeIn g;
-      others = λ k d. put-other p r k d;
-    }
-  where
-    low : (a : ℕ) → (tail % 65536 + 65536 * link) % 65536 ≡ tail % 65536
-    low a = omega arith
+datum-set before after i count held room few r = record {
+  op-is = ap opIn (rewritten-head r room) ∙ omega arith;
+  value-is = ap valueIn (rewritten-head r room) ∙ omega arith;
+  place-is = ap placeIn (rewritten-tail r room) ∙ omega arith;
+  others = rewritten-other r room;
+}
 
 -- ---- a name
-pub makes : (code values code′ values′ : List ℕ) (i op own value s bool : ℕ) → s ≡ opAt (wordsOf code) (i - 1) → TypeBit s bool → names.Declared code values i (op + 2 * bool + own + 256 * value) code′ values′
-    → Makes code values code′ values′ i op own value
-makes code values code′ values′ i op own value s bool e t d = record { bool = bool; type = subst (λ (k : ℕ). TypeBit k bool) e t; declared = d }
+pub makes : (scope r : Scope) (code values code′ values′ : List ℕ) (i op own value words s bool : ℕ) → s ≡ opAt (wordsOf code) (i - 1) → TypeBit s bool
+    → Declares scope code values i (op + 2 * bool + own + 256 * value) words code′ values′ r → MakesIn scope code values code′ values′ i op own value words r
+makes scope r code values code′ values′ i op own value words s bool e t d = record {
+  makes = record { bool = bool; type = subst (λ (k : ℕ). TypeBit k bool) e t; declared = d .known };
+  scope-is = d .used;
+}
 
 -- ---- the words of a datum
 module _ (code values values′ : List ℕ) (own used count word held i base : ℕ) (b : base ≡ baseOf own) (f : Fills values values′ (base + used) count word) where
   here : Fills values values′ (baseOf own + used) count word
   here = subst (λ (k : ℕ). Fills values values′ (k + used) count word) b f
 
-  pub starts-routine : (code′ : List ℕ) → own ≡ 1 → SetDatum code code′ i count held → Starts code values code′ values′ own used count word held i
-  starts-routine code′ o d = record { fills = here; own-datum = λ e. d; untouched = λ e. absurd (e o) }
+  pub starts-routine : (code′ : List ℕ) → own ≡ 1 → i * 8 + 8 ≤ length code → used + count ≤ 1024 → Rewritten code code′ i (160 + 256 * held) (count + 65536 * 0)
+      → Starts code values code′ values′ own used count word held i
+  starts-routine code′ o room few r = record { fills = here; own-datum = λ e. datum-set code code′ i count held room (omega arith) r; untouched = λ e. absurd (e o) }
 
   pub starts-module : (own ≡ 1 → ⊥) → Starts code values code values′ own used count word held i
   starts-module o = record { fills = here; own-datum = λ e. absurd (o e); untouched = λ e. refl }

@@ -16,6 +16,7 @@ use Rattle.code.specs.Steps.{constantAt, aDatum}
 use Rattle.names.specs.Numbers.{IsName}
 use Rattle.names.specs.Meanings.{firstMeaning, isProtected, protectsCell, meaningIn, cellFor, Means, Keeps}
 use Rattle.names.specs.Promises.{storeBytes}
+use Rattle.names.specs.declared.Scope.{Scope}
 use Rattle.grammar.specs.Form.{Parses, DeclaredAt, DeclarationsAt, ParametersAt}
 use Rattle.faults.specs.First.{First}
 use Rattle.faults.specs.Added.{declaredFaults, dataFaults, parameterFaults}
@@ -23,7 +24,11 @@ use Rattle.expressions.specs.Known.{Loaded}
 use Rattle.declarations.specs.declared.Walked.{Walked}
 use Rattle.declarations.specs.declared.Walked.the-variants.{Upto, Faulty}
 use Rattle.declarations.specs.Sites.{Site, theModule, aRoutine, filling, ownOf, Filled}
-use Rattle.declarations.specs.Chains.{Changed, Chain, startsIn, Rise}
+use Rattle.store.specs.Chains.{Chain, startsIn, Rise}
+
+-- so many words are used up to a word
+abbrev pub upto : (next used : ℕ) → Walked
+upto next used = Upto next (record { used = used })
 
 -- the scopes before any name of a site is declared
 abbrev pub outerOf : List Word → Site → Scopes
@@ -34,6 +39,11 @@ pub record KeepsName (routine : ℕ → ℕ) (W : List Word) (s : Site) (C : Lis
   pub near : i < wordLimit
   pub name : IsName W i
   pub keeps : Keeps routine W (outerOf W s) C i
+
+-- No cell changes but those of the words from `from` up to `to`.
+pub record Changed (C D : List ℕ) (from to : ℕ) : Type 0 where
+  pub below : (k : ℕ) → k < from * 2 → getD D k 0 ≡ getD C k 0
+  pub above : (k : ℕ) → to * 2 ≤ k → getD D k 0 ≡ getD C k 0
 
 -- ---- one declaration
 -- It stands from word i on, and of its words none has been changed. `own`, `limit` and `used` are those of the site.
@@ -78,7 +88,7 @@ pub record Goes {code values : List ℕ} {own limit used i : ℕ} (b : Begins co
   pub changed : Changed (wordsOf code) (wordsOf code′) i (b .to)
 
 unfoldable pub Says : {code values : List ℕ} {own limit used i : ℕ} (b : Begins code values own limit used i) (code′ values′ : List ℕ) → Walked → Type 0
-Says b code′ values′ (Upto next used′) = Goes b code′ values′ next used′
+Says b code′ values′ (Upto next scope) = Goes b code′ values′ next (scope .used)
 Says b code′ values′ (Faulty number word) = First (record { number = number; at = word }) (faultsOf b)
 
 pub record Declares (code values code′ values′ : List ℕ) (own limit used i : ℕ) (r : Walked) : Type 0 where
@@ -103,7 +113,7 @@ pub record ModuleFilled {code values : List ℕ} {at : ℕ} (b : DataStand code 
   pub changed : Changed (wordsOf code) (wordsOf code′) at (b .to)
 
 unfoldable pub SaysModule : {code values : List ℕ} {at : ℕ} (b : DataStand code values at) (code′ values′ : List ℕ) → Walked → Type 0
-SaysModule b code′ values′ (Upto next used) = ModuleFilled b code′ values′ next used
+SaysModule b code′ values′ (Upto next scope) = ModuleFilled b code′ values′ next (scope .used)
 SaysModule b code′ values′ (Faulty number word) =
     First (record { number = number; at = word }) (dataFaults (b .W) (filling (b .W) (theModule (b .routines))) (b .ds) noData)
 
@@ -159,7 +169,7 @@ pub record RoutineFilled {code values : List ℕ} {head used at : ℕ} (b : Rout
   pub above : (k : ℕ) → b .to * 2 ≤ k → getD (wordsOf code′) k 0 ≡ getD (wordsOf code) k 0
 
 unfoldable pub SaysRoutine : {code values : List ℕ} {head used at : ℕ} (b : RoutineStands code values head used at) (code′ values′ : List ℕ) (opens : ℕ) → Walked → Type 0
-SaysRoutine b code′ values′ opens (Upto next used′) = RoutineFilled b code′ values′ opens next used′
+SaysRoutine b code′ values′ opens (Upto next scope) = RoutineFilled b code′ values′ opens next (scope .used)
 SaysRoutine b code′ values′ opens (Faulty number word) =
     First (record { number = number; at = word }) (dataFaults (b .W) (filling (b .W) (aRoutine (b .m))) (b .ds) (b .D))
 
@@ -201,7 +211,7 @@ pub record ParametersFilled {code values : List ℕ} {at : ℕ} (b : ParametersS
   pub others : OtherWords (wordsOf code) (wordsOf code′) at used
 
 unfoldable pub SaysParameters : {code values : List ℕ} {at : ℕ} (b : ParametersStand code values at) (code′ values′ : List ℕ) → Walked → Type 0
-SaysParameters b code′ values′ (Upto next used) = ParametersFilled b code′ values′ next used
+SaysParameters b code′ values′ (Upto next scope) = ParametersFilled b code′ values′ next (scope .used)
 SaysParameters b code′ values′ (Faulty number word) =
     First (record { number = number; at = word }) (parameterFaults (b .W) (filling (b .W) (aRoutine (b .m))) (b .ps) noData)
 
@@ -238,6 +248,7 @@ pub record Leaving (code values : List ℕ) (first count head : ℕ) : Type 0 wh
   pub others : MeansBut (map (spelled W) (nameWords first count ++ map nameOf ds)) routine W (outerOf W s) (wordsOf values)
 
 -- Then the table says of every name what it means outside.
-pub record Leaves (code values values′ : List ℕ) (first count head : ℕ) : Type 0 where
+pub record Leaves (scope : Scope) (code values values′ : List ℕ) (first count head : ℕ) (r : Scope) : Type 0 where
   pub means : (l : Leaving code values first count head) → Means (l .routine) (l .W) (outerOf (l .W) (l .s)) (wordsOf values′)
   pub same : SameWords values values′
+  pub scope-is : r ≡ scope

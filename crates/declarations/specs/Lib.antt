@@ -1,4 +1,3 @@
 pub mod Sites
-pub mod Chains
 pub mod Answers
 pub mod Parts

@@ -20,6 +20,7 @@ use Rattle.names.specs.Numbers.{numberOf, IsName}
 use Rattle.names.specs.Meanings.{typeWith, Means}
 use Rattle.names.specs.Promises.{storeBytes, numberAt}
 use Rattle.names.specs.Promises as names
+use Rattle.names.specs.declared.Scope.{Scope}
 use Rattle.grammar.specs.Form.{Parses, ParameterAt}
 use Rattle.faults.specs.First.{First}
 use Rattle.faults.specs.Added.{nameFaults}
@@ -33,8 +34,8 @@ pub use Rattle.constants.specs.Answers.{HeldAs}
 use Rattle.declarations.specs.declared.Walked.{Walked}
 use Rattle.declarations.specs.declared.Walked.the-variants.{Upto, Faulty}
 use Rattle.declarations.specs.Sites.{Site, aRoutine, filling, Owns, Filled}
-use Rattle.declarations.specs.Chains.{Chain, Rise}
-use Rattle.declarations.specs.Answers.{outerOf, KeepsName, KeepsAll, nameOf, nameWords, OtherWords, MeansBut, SameWords, Begins, Free, Says}
+use Rattle.store.specs.Chains.{Chain, Rise}
+use Rattle.declarations.specs.Answers.{upto, outerOf, KeepsName, KeepsAll, nameOf, nameWords, OtherWords, MeansBut, SameWords, Begins, Free, Says}
 
 -- ---- words
 -- r is 0 for num, 1 for bool
@@ -65,11 +66,6 @@ pub record SetDatum (before after : List ℕ) (i count held : ℕ) : Type 0 wher
   pub place-is : placeAt (wordsOf after) i ≡ count
   pub others : (k : ℕ) → (k ≡ i * 2 → ⊥) → (k ≡ i * 2 + 1 → ⊥) → getD (wordsOf after) k 0 ≡ getD (wordsOf before) k 0
 
-pub record SetLink (before after : List ℕ) (i link : ℕ) : Type 0 where
-  pub link-is : linkAt (wordsOf after) i ≡ link
-  pub place-is : placeAt (wordsOf after) i ≡ placeAt (wordsOf before) i
-  pub others : (k : ℕ) → (k ≡ i * 2 + 1 → ⊥) → getD (wordsOf after) k 0 ≡ getD (wordsOf before) k 0
-
 -- ---- a name
 -- r says whether the name at a word cannot be declared beside the names of a scope.
 pub record Taken (code values : List ℕ) (own i : ℕ) (r : Bool) : Type 0 where
@@ -81,6 +77,11 @@ pub record Makes (code values code′ values′ : List ℕ) (i op own value : �
   pub bool : ℕ
   pub type : TypeBit (opAt (wordsOf code) (i - 1)) bool
   pub declared : names.Declared code values i (op + 2 * bool + own + 256 * value) code′ values′
+
+-- So it does in a scope, and has so many of its words.
+pub record MakesIn (scope : Scope) (code values code′ values′ : List ℕ) (i op own value words : ℕ) (r : Scope) : Type 0 where
+  pub makes : Makes code values code′ values′ i op own value
+  pub scope-is : r ≡ record { used = scope .used + words }
 
 -- So many words are used from now on, and start with a word; a routine's datum says so in its first word.
 pub record Starts (code values code′ values′ : List ℕ) (own used count word held i : ℕ) : Type 0 where
@@ -115,7 +116,7 @@ pub record Unplaced (code values code′ values′ : List ℕ) (r s : Walked) : 
   pub same-values : values′ ≡ values
 
 unfoldable pub PlacedAs : (code values code′ values′ : List ℕ) (own used op i : ℕ) → Valued → Walked → Type 0
-PlacedAs code values code′ values′ own used op i (values-of.Value v next) r = PlacedValue code values code′ values′ own used op i v × (r ≡ Upto (next + 1) (used + 1))
+PlacedAs code values code′ values′ own used op i (values-of.Value v next) r = PlacedValue code values code′ values′ own used op i v × (r ≡ upto (next + 1) (used + 1))
 PlacedAs code values code′ values′ own used op i (values-of.Faulty number word) r = Unplaced code values code′ values′ r (Faulty number word)
 
 pub record Placing (code values code′ values′ : List ℕ) (own used op i : ℕ) (c : Valued) (r : Walked) : Type 0 where
@@ -154,7 +155,7 @@ pub record ParameterGoes {code values : List ℕ} {used i : ℕ} (b : ParameterB
   pub others : OtherWords (wordsOf code) (wordsOf code′) i 1
 
 unfoldable pub SaysParameter : {code values : List ℕ} {used i : ℕ} (b : ParameterBegins code values used i) (code′ values′ : List ℕ) → Walked → Type 0
-SaysParameter b code′ values′ (Upto next used′) = ParameterGoes b code′ values′ next used′
+SaysParameter b code′ values′ (Upto next scope) = ParameterGoes b code′ values′ next (scope .used)
 SaysParameter b code′ values′ (Faulty number word) = First (record { number = number; at = word }) (nameFaults (b .W) (filling (b .W) (aRoutine (b .m))) (b .p .name) (pos 0 ∷ []) (b .D))
 
 pub record DeclaresParameter (code values code′ values′ : List ℕ) (used i : ℕ) (r : Walked) : Type 0 where
@@ -173,9 +174,10 @@ pub record ParametersKept (code values : List ℕ) (first count : ℕ) : Type 0 
   pub keeps : KeepsAll routine W s (wordsOf code) (nameWords first count)
   pub others : MeansBut (map (spelled W) (nameWords first count) ++ texts) routine W (outerOf W s) (wordsOf values)
 
-pub record LeavesParameters (code values values′ : List ℕ) (first count : ℕ) : Type 0 where
+pub record LeavesParameters (scope : Scope) (code values values′ : List ℕ) (first count : ℕ) (r : Scope) : Type 0 where
   pub others : (b : ParametersKept code values first count) → MeansBut (b .texts) (b .routine) (b .W) (outerOf (b .W) (b .s)) (wordsOf values′)
   pub same : SameWords values values′
+  pub scope-is : r ≡ scope
 
 -- the same of data that a word leads to, and no text more
 pub record DataKept (code values : List ℕ) (head : ℕ) : Type 0 where
@@ -194,6 +196,7 @@ pub record DataKept (code values : List ℕ) (head : ℕ) : Type 0 where
   pub keeps : KeepsAll routine W s (wordsOf code) (map nameOf ds)
   pub others : MeansBut (map (spelled W) (map nameOf ds)) routine W (outerOf W s) (wordsOf values)
 
-pub record LeavesData (code values values′ : List ℕ) (head : ℕ) : Type 0 where
+pub record LeavesData (scope : Scope) (code values values′ : List ℕ) (head : ℕ) (r : Scope) : Type 0 where
   pub means : (b : DataKept code values head) → Means (b .routine) (b .W) (outerOf (b .W) (b .s)) (wordsOf values′)
   pub same : SameWords values values′
+  pub scope-is : r ≡ scope

@@ -7,17 +7,22 @@ ghost use mir.Val.{SFits, ofZ};
 ghost use Rattle.paper.specs.Sorts.{openBrace};
 ghost use Rattle.paper.specs.Expressions.{startsData};
 ghost use Rattle.cells.specs.Words.{wordsOf};
-ghost use Rattle.code.specs.Cells.{opAt, linkAt};
+ghost use Rattle.code.specs.Cells.{opAt};
 ghost use Rattle.names.specs.Promises.{storeBytes};
+ghost use Rattle.names.specs.Scopes.{Fits};
 ghost use Rattle.constants.specs.Answers.{InNum};
 ghost use Rattle.declarations.specs.Answers.{Begins, Declares, DataStand, DeclaresModule, RoutineStands, DeclaresRoutine, ParametersStand, DeclaresParameters, Leaving, Leaves};
-ghost use Rattle.declarations.specs.Parts.{Near, TypeBit, scalarOp, baseOf, HeldAs, Fills, SetDatum, SetLink, Taken, Makes, Starts, Fit, Placing, DeclaresFree, ParameterBegins, DeclaresParameter, ParametersKept, LeavesParameters, DataKept, LeavesData};
+ghost use Rattle.declarations.specs.Parts.{Near, TypeBit, scalarOp, baseOf, Fills, Taken, MakesIn, Starts, Fit, Placing, DeclaresFree, ParameterBegins, DeclaresParameter, ParametersKept, LeavesParameters, DataKept, LeavesData};
 use constants::Sized;
 use constants::Valued;
+use names::Scope;
+use store::rewrite;
+use store::set_link;
+use store::sort;
 
 pub enum Walked {
-    // the word after it, and how many words are used
-    Upto(usize, u32),
+    // the word after it, and the scope with what is declared
+    Upto(usize, Scope),
     // the rule broken, and its word
     Faulty(u32, usize),
 }
@@ -47,14 +52,6 @@ const SIZE: u32 = 1024;
 const OF_MODULE: u32 = 0;
 
 // ---- words
-
-// The op of a word, which is its sort as long as the check has not come to it.
-fn sort(code: &[u8], i: usize) -> u32
-    requires { ⌜ i * 8 + 8 ≤ length (now code) ⌝ }
-    ensures { λ r. ⌜ r ≡ opAt (wordsOf (now (code .entry))) i ⌝ }
-{
-    cells::get(code, i * 2) % 256
-}
 
 fn type_bit(s: u32) -> u32
     ensures { λ r. ⌜ TypeBit s r ⌝ }
@@ -92,19 +89,12 @@ fn starts_data(s: u32) -> bool
     s == sorts::CONST
 }
 
-// A number of num as a word, and as a head has it.
+// A number of num as a word.
 fn word_of(v: i64) -> u32
     requires { ⌜ InNum v ⌝ }
     ensures { λ r. ⌜ r ≡ ofZ w32 v ⌝ }
 {
     numbers::to_word(v as i32)
-}
-
-fn held_of(v: i64) -> u32
-    requires { ⌜ InNum v ⌝ }
-    ensures { λ r. ⌜ HeldAs v r ⌝ }
-{
-    (v + BIAS as i64) as u32
 }
 
 // ---- cells
@@ -118,22 +108,6 @@ fn fill(values: &mut [u8], from: usize, count: u32, v: u32)
         cells::put(values, from + k as usize, v);
         k += 1;
     }
-}
-
-fn set_datum(code: &mut [u8], i: usize, count: u32, held: u32)
-    requires { ⌜ (i * 8 + 8 ≤ length (now code)) × (count < 65536) × (held < 16777216) ⌝ }
-    ensures { λ _. ⌜ SetDatum (now (code .entry)) (now (code .exit)) i count held ⌝ }
-{
-    cells::put(code, i * 2, DATUM + 256 * held);
-    cells::put(code, i * 2 + 1, count);
-}
-
-fn set_link(code: &mut [u8], i: usize, link: usize)
-    requires { ⌜ (i * 8 + 8 ≤ length (now code)) × (link < 65536) ⌝ }
-    ensures { λ _. ⌜ SetLink (now (code .entry)) (now (code .exit)) i link ⌝ }
-{
-    let place = cells::get(code, i * 2 + 1) % names::LINK;
-    cells::put(code, i * 2 + 1, place + names::LINK * (link as u32));
 }
 
 // ---- a name
@@ -156,18 +130,23 @@ fn is_taken<'a>(code: &'a [u8], values: &'a [u8], own: u32, i: usize) -> bool
     m % 2 == own
 }
 
-// The name at a word becomes known: its type stands before it.
-fn known(code: &mut [u8], values: &mut [u8], i: usize, op: u32, own: u32, value: u32)
-    requires { ⌜ (0 < i) × (i * 8 + 8 ≤ length (now code)) × (storeBytes ≤ length (now values)) × (op < 16) × (own < 2) × (value < 1048576) ⌝ }
-    ensures { λ _. ⌜ Makes (now (code .entry)) (now (values .entry)) (now (code .exit)) (now (values .exit)) i op own value ⌝ }
+// The name at a word becomes known in a scope, and has so many of its words: its type stands before it.
+fn known(
+    scope: Scope,
+    code: &mut [u8],
+    values: &mut [u8],
+    i: usize,
+    op: u32,
+    own: u32,
+    value: u32,
+    words: u32,
+) -> Scope
+    requires { ⌜ (0 < i) × (i * 8 + 8 ≤ length (now code)) × (storeBytes ≤ length (now values)) × (op < 16) × (own < 2) × (value < 1048576) × Fits scope words ⌝ }
+    ensures { λ r. ⌜ MakesIn scope (now (code .entry)) (now (values .entry)) (now (code .exit)) (now (values .exit)) i op own value words r ⌝ }
 {
     let bool = type_bit(sort(code, i - 1));
-    names::declare(
-        code,
-        values,
-        i,
-        op + names::IS_BOOL * bool + own + names::VALUE * value,
-    );
+    let m = op + names::IS_BOOL * bool + own + names::VALUE * value;
+    scope.declare(code, values, i, m, words)
 }
 
 // ---- data
@@ -188,15 +167,16 @@ fn start(
 {
     fill(values, base_of(own) + used as usize, count, word);
     if own == names::OF_ROUTINE {
-        set_datum(code, i, count, held);
+        rewrite(code, i, DATUM + 256 * held, count as usize, 0);
     }
 }
 
 // VAR type name{c};
-fn array(code: &mut [u8], values: &mut [u8], own: u32, limit: u32, used: u32, i: usize) -> Walked
-    requires { ⌜ Begins (now code) (now values) own limit used i × Near (now code) (now values) own limit used i × (opAt (wordsOf (now code)) (i + 3) ≡ openBrace) ⌝ }
-    ensures { λ r. ⌜ DeclaresFree (now (code .entry)) (now (values .entry)) (now (code .exit)) (now (values .exit)) own limit used i r ⌝ }
+fn array(scope: Scope, code: &mut [u8], values: &mut [u8], own: u32, limit: u32, i: usize) -> Walked
+    requires { ⌜ Begins (now code) (now values) own limit (scope .used) i × Near (now code) (now values) own limit (scope .used) i × (opAt (wordsOf (now code)) (i + 3) ≡ openBrace) ⌝ }
+    ensures { λ r. ⌜ DeclaresFree (now (code .entry)) (now (values .entry)) (now (code .exit)) (now (values .exit)) own limit (scope .used) i r ⌝ }
 {
+    let used = scope.used;
     let c = constants::size(code, values, i + 4);
     match c {
         Sized::Unsized(number, word) => Walked::Faulty(number, word),
@@ -204,66 +184,93 @@ fn array(code: &mut [u8], values: &mut [u8], own: u32, limit: u32, used: u32, i:
             if limit < used + count {
                 return Walked::Faulty(TOO_MANY, i + 2);
             }
-            known(code, values, i + 2, names::ARRAY, own, used + SIZE * count);
+            let filled = known(
+                scope,
+                code,
+                values,
+                i + 2,
+                names::ARRAY,
+                own,
+                used + SIZE * count,
+                count,
+            );
             start(code, values, own, used, count, 0, BIAS, i);
-            Walked::Upto(next + 2, used + count)
+            Walked::Upto(next + 2, filled)
         }
     }
 }
 
 // A scalar whose constant expression was answered so.
 fn valued(
+    scope: Scope,
     code: &mut [u8],
     values: &mut [u8],
     own: u32,
-    used: u32,
     op: u32,
     c: Valued,
     i: usize,
 ) -> Walked
-    requires { ⌜ (i * 8 + 40 ≤ length (now code)) × (storeBytes ≤ length (now values)) × (i < 8192) × (own < 2) × (used < 1024) × (op < 16) × Fit c ⌝ }
-    ensures { λ r. ⌜ Placing (now (code .entry)) (now (values .entry)) (now (code .exit)) (now (values .exit)) own used op i c r ⌝ }
+    requires { ⌜ (i * 8 + 40 ≤ length (now code)) × (storeBytes ≤ length (now values)) × (i < 8192) × (own < 2) × (scope .used < 1024) × (op < 16) × Fit c ⌝ }
+    ensures { λ r. ⌜ Placing (now (code .entry)) (now (values .entry)) (now (code .exit)) (now (values .exit)) own (scope .used) op i c r ⌝ }
 {
     match c {
         Valued::Faulty(number, word) => Walked::Faulty(number, word),
         Valued::Value(v, next) => {
-            known(code, values, i + 2, op, own, used);
-            start(code, values, own, used, 1, word_of(v), held_of(v), i);
-            Walked::Upto(next + 1, used + 1)
+            let used = scope.used;
+            let filled = known(scope, code, values, i + 2, op, own, used, 1);
+            start(
+                code,
+                values,
+                own,
+                used,
+                1,
+                word_of(v),
+                constants::held(v),
+                i,
+            );
+            Walked::Upto(next + 1, filled)
         }
     }
 }
 
 // VAR type name [:= c]; CONST type name := c;
-fn scalar(code: &mut [u8], values: &mut [u8], own: u32, limit: u32, used: u32, i: usize) -> Walked
-    requires { ⌜ Begins (now code) (now values) own limit used i × Near (now code) (now values) own limit used i × (opAt (wordsOf (now code)) (i + 3) ≡ openBrace → ⊥) ⌝ }
-    ensures { λ r. ⌜ DeclaresFree (now (code .entry)) (now (values .entry)) (now (code .exit)) (now (values .exit)) own limit used i r ⌝ }
+fn scalar(
+    scope: Scope,
+    code: &mut [u8],
+    values: &mut [u8],
+    own: u32,
+    limit: u32,
+    i: usize,
+) -> Walked
+    requires { ⌜ Begins (now code) (now values) own limit (scope .used) i × Near (now code) (now values) own limit (scope .used) i × (opAt (wordsOf (now code)) (i + 3) ≡ openBrace → ⊥) ⌝ }
+    ensures { λ r. ⌜ DeclaresFree (now (code .entry)) (now (values .entry)) (now (code .exit)) (now (values .exit)) own limit (scope .used) i r ⌝ }
 {
+    let used = scope.used;
     if limit <= used {
         return Walked::Faulty(TOO_MANY, i + 2);
     }
     let op = scalar_op(sort(code, i));
     if sort(code, i + 3) != sorts::BECOMES {
-        known(code, values, i + 2, op, own, used);
+        let filled = known(scope, code, values, i + 2, op, own, used, 1);
         start(code, values, own, used, 1, 0, BIAS, i);
-        return Walked::Upto(i + 4, used + 1);
+        return Walked::Upto(i + 4, filled);
     }
     let wants = type_bit(sort(code, i + 1)) == 1;
     let c = constants::constant(code, values, wants, i + 4);
-    valued(code, values, own, used, op, c, i)
+    valued(scope, code, values, own, op, c, i)
 }
 
-fn datum(code: &mut [u8], values: &mut [u8], own: u32, limit: u32, used: u32, i: usize) -> Walked
-    requires { ⌜ Begins (now code) (now values) own limit used i × Near (now code) (now values) own limit used i ⌝ }
-    ensures { λ r. ⌜ Declares (now (code .entry)) (now (values .entry)) (now (code .exit)) (now (values .exit)) own limit used i r ⌝ }
+fn datum(scope: Scope, code: &mut [u8], values: &mut [u8], own: u32, limit: u32, i: usize) -> Walked
+    requires { ⌜ Begins (now code) (now values) own limit (scope .used) i × Near (now code) (now values) own limit (scope .used) i ⌝ }
+    ensures { λ r. ⌜ Declares (now (code .entry)) (now (values .entry)) (now (code .exit)) (now (values .exit)) own limit (scope .used) i r ⌝ }
 {
     if is_taken(code, values, own, i + 2) {
         return Walked::Faulty(TAKEN, i + 2);
     }
     if sort(code, i + 3) == sorts::OPEN_BRACE {
-        return array(code, values, own, limit, used, i);
+        return array(scope, code, values, own, limit, i);
     }
-    scalar(code, values, own, limit, used, i)
+    scalar(scope, code, values, own, limit, i)
 }
 
 // The module's data.
@@ -272,73 +279,76 @@ pub fn module_data(code: &mut [u8], values: &mut [u8], at: usize) -> Walked
     ensures { λ r. ⌜ DeclaresModule (now (code .entry)) (now (values .entry)) (now (code .exit)) (now (values .exit)) at r ⌝ }
 {
     let mut i = at;
-    let mut used = 0;
+    let mut scope = Scope { used: 0 };
     while starts_data(sort(code, i)) {
-        let d = datum(code, values, OF_MODULE, MODULE_WORDS, used, i);
+        let d = datum(scope, code, values, OF_MODULE, MODULE_WORDS, i);
         match d {
             Walked::Faulty(number, word) => return Walked::Faulty(number, word),
             Walked::Upto(next, more) => {
                 i = next;
-                used = more;
+                scope = more;
             }
         }
     }
-    Walked::Upto(i, used)
+    Walked::Upto(i, scope)
 }
 
 // A routine's data. The routine's first word, `head`, leads to the first of them by its link, and each to the next; the parenthesis at `opens` ends them.
 pub fn routine_data(
+    before: Scope,
     code: &mut [u8],
     values: &mut [u8],
     opens: usize,
     head: usize,
-    before: u32,
     at: usize,
 ) -> Walked
-    requires { ⌜ RoutineStands (now code) (now values) head before at × (opens < 65536) ⌝ }
-    ensures { λ r. ⌜ DeclaresRoutine (now (code .entry)) (now (values .entry)) (now (code .exit)) (now (values .exit)) opens head before at r ⌝ }
+    requires { ⌜ RoutineStands (now code) (now values) head (before .used) at × (opens < 65536) ⌝ }
+    ensures { λ r. ⌜ DeclaresRoutine (now (code .entry)) (now (values .entry)) (now (code .exit)) (now (values .exit)) opens head (before .used) at r ⌝ }
 {
     let mut i = at;
-    let mut used = before;
+    let mut scope = before;
     let mut last = head;
     while starts_data(sort(code, i)) {
-        let d = datum(code, values, names::OF_ROUTINE, ROUTINE_WORDS, used, i);
+        let d = datum(scope, code, values, names::OF_ROUTINE, ROUTINE_WORDS, i);
         match d {
             Walked::Faulty(number, word) => return Walked::Faulty(number, word),
             Walked::Upto(next, more) => {
                 set_link(code, last, i);
                 last = i;
                 i = next;
-                used = more;
+                scope = more;
             }
         }
     }
     set_link(code, last, opens);
-    Walked::Upto(i, used)
+    Walked::Upto(i, scope)
 }
 
 // ---- parameters
 
-fn parameter(code: &mut [u8], values: &mut [u8], used: u32, i: usize) -> Walked
-    requires { ⌜ ParameterBegins (now code) (now values) used i ⌝ }
-    ensures { λ r. ⌜ DeclaresParameter (now (code .entry)) (now (values .entry)) (now (code .exit)) (now (values .exit)) used i r ⌝ }
+fn parameter(scope: Scope, code: &mut [u8], values: &mut [u8], i: usize) -> Walked
+    requires { ⌜ ParameterBegins (now code) (now values) (scope .used) i ⌝ }
+    ensures { λ r. ⌜ DeclaresParameter (now (code .entry)) (now (values .entry)) (now (code .exit)) (now (values .exit)) (scope .used) i r ⌝ }
 {
+    let used = scope.used;
     if is_taken(code, values, names::OF_ROUTINE, i + 1) {
         return Walked::Faulty(TAKEN, i + 1);
     }
     if ROUTINE_WORDS <= used {
         return Walked::Faulty(TOO_MANY, i + 1);
     }
-    known(
+    let filled = known(
+        scope,
         code,
         values,
         i + 1,
         names::VARIABLE,
         names::OF_ROUTINE,
         used,
+        1,
     );
     fill(values, WINDOW + used as usize, 1, 0);
-    Walked::Upto(i + 2, used + 1)
+    Walked::Upto(i + 2, filled)
 }
 
 // The parameters of a routine, from the first one's type up to the parenthesis behind them.
@@ -347,12 +357,12 @@ pub fn parameters(code: &mut [u8], values: &mut [u8], at: usize) -> Walked
     ensures { λ r. ⌜ DeclaresParameters (now (code .entry)) (now (values .entry)) (now (code .exit)) (now (values .exit)) at r ⌝ }
 {
     if sort(code, at) == sorts::CLOSE_PAREN {
-        return Walked::Upto(at, 0);
+        return Walked::Upto(at, Scope { used: 0 });
     }
     let mut i = at;
-    let mut used = 0;
+    let mut scope = Scope { used: 0 };
     loop {
-        let d = parameter(code, values, used, i);
+        let d = parameter(scope, code, values, i);
         match d {
             Walked::Faulty(number, word) => return Walked::Faulty(number, word),
             Walked::Upto(next, more) => {
@@ -360,7 +370,7 @@ pub fn parameters(code: &mut [u8], values: &mut [u8], at: usize) -> Walked
                     return Walked::Upto(next, more);
                 }
                 i = next + 1;
-                used = more;
+                scope = more;
             }
         }
     }
@@ -368,42 +378,46 @@ pub fn parameters(code: &mut [u8], values: &mut [u8], at: usize) -> Walked
 
 // ---- leaving
 
-fn link(code: &[u8], i: usize) -> usize
-    requires { ⌜ i * 8 + 8 ≤ length (now code) ⌝ }
-    ensures { λ r. ⌜ r ≡ linkAt (wordsOf (now (code .entry))) i ⌝ }
-{
-    (cells::get(code, i * 2 + 1) / names::LINK) as usize
-}
-
-fn leave_parameters(code: &[u8], values: &mut [u8], first: usize, count: u32)
+fn leave_parameters(scope: Scope, code: &[u8], values: &mut [u8], first: usize, count: u32) -> Scope
     requires { ⌜ ParametersKept (now code) (now values) first count ⌝ }
-    ensures { λ _. ⌜ LeavesParameters (now (code .entry)) (now (values .entry)) (now (values .exit)) first count ⌝ }
+    ensures { λ r. ⌜ LeavesParameters scope (now (code .entry)) (now (values .entry)) (now (values .exit)) first count r ⌝ }
 {
+    let mut own = scope;
     let mut at = first;
     let mut left = count;
     while 0 < left {
-        names::leave(code, values, at + 1);
+        own = own.leave(code, values, at + 1);
         at += 3;
         left -= 1;
     }
+    own
 }
 
-fn leave_data(code: &[u8], values: &mut [u8], head: usize)
+fn leave_data(scope: Scope, code: &[u8], values: &mut [u8], head: usize) -> Scope
     requires { ⌜ DataKept (now code) (now values) head ⌝ }
-    ensures { λ _. ⌜ LeavesData (now (code .entry)) (now (values .entry)) (now (values .exit)) head ⌝ }
+    ensures { λ r. ⌜ LeavesData scope (now (code .entry)) (now (values .entry)) (now (values .exit)) head r ⌝ }
 {
-    let mut i = link(code, head);
+    let mut own = scope;
+    let mut i = reading::link(code, head);
     while sort(code, i) == DATUM {
-        names::leave(code, values, i + 2);
-        i = link(code, i);
+        own = own.leave(code, values, i + 2);
+        i = reading::link(code, i);
     }
+    own
 }
 
 // The names of parameters and data mean again what they meant before the routine: of `count` parameters from the first one's type on, and of the data that `head` leads to.
-pub fn leave_routine(code: &[u8], values: &mut [u8], first: usize, count: u32, head: usize)
+pub fn leave_routine(
+    scope: Scope,
+    code: &[u8],
+    values: &mut [u8],
+    first: usize,
+    count: u32,
+    head: usize,
+) -> Scope
     requires { ⌜ Leaving (now code) (now values) first count head ⌝ }
-    ensures { λ _. ⌜ Leaves (now (code .entry)) (now (values .entry)) (now (values .exit)) first count head ⌝ }
+    ensures { λ r. ⌜ Leaves scope (now (code .entry)) (now (values .entry)) (now (values .exit)) first count head r ⌝ }
 {
-    leave_parameters(code, values, first, count);
-    leave_data(code, values, head);
+    let own = leave_parameters(scope, code, values, first, count);
+    leave_data(own, code, values, head)
 }

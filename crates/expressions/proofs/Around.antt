@@ -29,8 +29,10 @@ use Rattle.expressions.specs.declared.Judged.{Judged}
 use Rattle.expressions.specs.declared.Judged.the-variants.{Typed, Faulty}
 use Rattle.expressions.specs.Known.{InRoom, Within}
 use Rattle.expressions.specs.Answers.{typeIf, Sound, Refused, Says, Judges}
-use Rattle.expressions.specs.Parts.{askedOf, resultOf, Numbered, isPrefix, Prefixes, Differ, Headed, Linked, Tied, Meant, Short, Nested, Signed, Indexed, Right, Joined}
-use Rattle.expressions.proofs.Keeping.{kept-same, kept-wider, kept-rewritten, low-written, term-below, term-above}
+use Rattle.store.specs.Promises.{Headed, Linked}
+use Rattle.expressions.specs.Parts.{askedOf, resultOf, Numbered, isPrefix, Prefixes, Differ, Tied, Meant, Short, Nested, Signed, Indexed, Right, Joined}
+use Rattle.store.proofs.Keeping.{kept-same, kept-wider, kept-rewritten, term-below, term-above}
+use Rattle.expressions.proofs.Keeping.{low-written}
 use Rattle.expressions.proofs.Judging.{judged-faults, judged-term, judged-type, wanted-none, wanted-wrong, wanted-first, joined-is, signed-is, element-is}
 use Rattle.expressions.proofs.Leaves.{judges-refused, type-with}
 

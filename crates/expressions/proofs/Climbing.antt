@@ -28,7 +28,8 @@ use Rattle.expressions.specs.declared.Judged.{Judged}
 use Rattle.expressions.specs.declared.Judged.the-variants.{Typed, Faulty}
 use Rattle.expressions.specs.Answers.{typeIf, Sound, Refused, Says, Judges, Stands, Checked, ofType, OfType}
 use Rattle.expressions.specs.Parts.{askedOf, resultOf, Asks, Differ, Right, Joined, Begins, Began}
-use Rattle.expressions.proofs.Keeping.{low-on, term-below, kept-wider, kept-on}
+use Rattle.store.proofs.Keeping.{term-below, kept-wider, kept-on}
+use Rattle.expressions.proofs.Keeping.{low-on}
 use Rattle.expressions.proofs.Judging.{wanted-first, wanted-wrong, wanted-none, joined-is}
 use Rattle.expressions.proofs.Around.{says-faulty, says-typed, refused-as}
 use Rattle.expressions.proofs.Starts.{loaded-part, loaded-after, judges-on}

@@ -23,12 +23,14 @@ use Rattle.code.specs.Cells.{opIn, valueIn, headAt, errnoCell, firstWindow}
 use Rattle.code.specs.Spans.{aLiteral, aModuleWord, aCallWord, bias, guard, moduleLeaf, leafTerm}
 use Rattle.code.proofs.Composing.{leaf-span}
 use Rattle.names.specs.Meanings.{typeWith, refWith, meaningWith, meaningIn}
+use Rattle.store.specs.Promises.{Headed}
 use Rattle.expressions.specs.declared.Judged.{Judged}
 use Rattle.expressions.specs.declared.Judged.the-variants.{Typed, Faulty}
 use Rattle.expressions.specs.Known.{Fresh, InRoom, Within}
 use Rattle.expressions.specs.Answers.{typeIf, Refused, Sound, Says, Judges}
-use Rattle.expressions.specs.Parts.{Headed, Meant, faultOf, BreaksAlone, BreaksIndexed, Alone, Literal}
-use Rattle.expressions.proofs.Keeping.{kept-same, low-same, low-written}
+use Rattle.expressions.specs.Parts.{Meant, faultOf, BreaksAlone, BreaksIndexed, Alone, Literal}
+use Rattle.store.proofs.Keeping.{kept-same}
+use Rattle.expressions.proofs.Keeping.{low-same, low-written}
 use Rattle.expressions.proofs.Judging.{judged-faults, judged-term, judged-type}
 
 -- ---- answers

@@ -26,9 +26,11 @@ use Rattle.names.specs.Promises as promises
 use Rattle.expressions.specs.declared.Judged.{Judged}
 use Rattle.expressions.specs.declared.Judged.the-variants.{Typed, Faulty}
 use Rattle.expressions.specs.Known.{Fresh, Loaded, Within}
-use Rattle.expressions.specs.Answers.{Kept, Low, Refused, Says, Judges, Stands, Checked}
+use Rattle.store.specs.Promises.{Kept}
+use Rattle.expressions.specs.Answers.{Low, Refused, Says, Judges, Stands, Checked}
 use Rattle.expressions.specs.Parts.{isPrefix, Meant, BreaksIndexed, Alone, SmallNumber, Literal, Short, Nested, Signed, Indexed, Begins, Began}
-use Rattle.expressions.proofs.Keeping.{head-above, kept-wider, kept-on, low-on}
+use Rattle.store.proofs.Keeping.{head-above, kept-wider, kept-on}
+use Rattle.expressions.proofs.Keeping.{low-on}
 use Rattle.expressions.proofs.Leaves.{judges-refused}
 
 -- ---- words as they were loaded

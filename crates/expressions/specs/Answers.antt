@@ -4,27 +4,20 @@ use mathlib.Core.Bool.{Bool, true, false}
 use mathlib.Core.List.{List, [], _∷_}
 use mathlib.Core.Option.{some}
 use Prim.Native.Nat.{ℕ, _+_, _*_, _<_, _≤_}
-use lib.ListN.{length, take, drop}
 use Rattle.paper.specs.Trees.{Expr, first}
 use Rattle.paper.specs.Expressions.{got, disjunctions, level, levelOf, exprIn}
 use Rattle.paper.specs.Names.{DataType, aNum, aBool, sortIn}
 use Rattle.paper.specs.Types.{Fault, wanted, judge}
 use Rattle.paper.specs.Types as types
 use Rattle.cells.specs.Words.{wordsOf}
-use Rattle.code.specs.Cells.{opAt, placeAt}
+use Rattle.code.specs.Cells.{opAt}
 use Rattle.code.specs.Spans.{termIn}
+use Rattle.store.specs.Promises.{Kept}
 use Rattle.expressions.specs.declared.Judged.{Judged}
 use Rattle.expressions.specs.declared.Judged.the-variants.{Typed, Faulty}
 use Rattle.expressions.specs.Known.{Loaded, Known}
 
 -- ---- the code store
--- Nothing but the words from `from` up to `to` has changed, and no word's place.
-pub record Kept (before after : List ℕ) (from to : ℕ) : Type 0 where
-  pub below : take (from * 8) after ≡ take (from * 8) before
-  pub above : drop (to * 8) after ≡ drop (to * 8) before
-  pub long : length after ≡ length before
-  pub places : (i : ℕ) → placeAt (wordsOf after) i ≡ placeAt (wordsOf before) i
-
 -- No word gets an op as high as those of steps, so that an expression's words are no steps.
 pub record Low (before after : List ℕ) : Type 0 where
   pub stays : (i : ℕ) → opAt (wordsOf before) i < 128 → opAt (wordsOf after) i < 128

@@ -22,7 +22,8 @@ use Rattle.names.specs.Meanings.{anArray, meaningWith, meaningIn}
 use Rattle.expressions.specs.declared.Judged.{Judged}
 use Rattle.expressions.specs.declared.Judged.the-variants.{Typed, Faulty}
 use Rattle.expressions.specs.Known.{Fresh, Loaded, largest, Within, Known}
-use Rattle.expressions.specs.Answers.{Kept, typeIf, Sound, Refused, Says, Judges}
+use Rattle.store.specs.Promises.{Kept}
+use Rattle.expressions.specs.Answers.{typeIf, Sound, Refused, Says, Judges}
 
 -- ---- operators
 -- the type that an operator asks of both sides, by that of the left one
@@ -56,18 +57,6 @@ pub record Prefixes (s r : ℕ) : Type 0 where
 pub record Differ (a b r : Bool) : Type 0 where
   pub yes : r ≡ true → a ≡ b → ⊥
   pub no : r ≡ false → a ≡ b
-
--- ---- cells
-pub record Headed (before after : List ℕ) (i op value : ℕ) : Type 0 where
-  pub op-is : opAt (wordsOf after) i ≡ op
-  pub value-is : valueAt (wordsOf after) i ≡ value
-  pub kept : Kept before after i (i + 1)
-
-pub record Linked (before after : List ℕ) (i op value link : ℕ) : Type 0 where
-  pub op-is : opAt (wordsOf after) i ≡ op
-  pub value-is : valueAt (wordsOf after) i ≡ value
-  pub link-is : linkAt (wordsOf after) i ≡ link
-  pub kept : Kept before after i (i + 1)
 
 -- an operator's word, whose right side ends at n
 pub record Tied (before after : List ℕ) (s i n : ℕ) : Type 0 where

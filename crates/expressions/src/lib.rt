@@ -1,4 +1,7 @@
 // The check of an expression: names, types and links, by precedence climbing over the words of the code store in place.
+use store::set_head;
+use store::set_word;
+use store::sort;
 ghost use mathlib.Core.Path.{_≡_};
 ghost use Prim.Native.Nat.{_+_, _-_, _*_, _<_, _≤_};
 ghost use lib.ListN.{length};
@@ -7,7 +10,7 @@ ghost use Rattle.cells.specs.Words.{wordsOf};
 ghost use Rattle.code.specs.Cells.{headAt, opAt};
 ghost use Rattle.climb.specs.Rise.{height};
 ghost use Rattle.expressions.specs.Answers.{Stands, Checked, OfType};
-ghost use Rattle.expressions.specs.Parts.{Asks, Numbered, Prefixes, Differ, Headed, Linked, Tied, Meant, BreaksAlone, BreaksIndexed, Alone, SmallNumber, Literal, Short, Nested, Signed, Indexed, Right, Joined, Begins, Began};
+ghost use Rattle.expressions.specs.Parts.{Asks, Numbered, Prefixes, Differ, Tied, Meant, BreaksAlone, BreaksIndexed, Alone, SmallNumber, Literal, Short, Nested, Signed, Indexed, Right, Joined, Begins, Began};
 
 pub enum Judged {
     // whether it is a bool, and the word after it
@@ -151,39 +154,6 @@ fn differ(a: bool, b: bool) -> bool
     b
 }
 
-// ---- cells
-
-fn head(code: &[u8], i: usize) -> u32
-    requires { ⌜ i * 8 + 8 ≤ length (now code) ⌝ }
-    ensures { λ r. ⌜ r ≡ headAt (wordsOf (now (code .entry))) i ⌝ }
-{
-    cells::get(code, i * 2)
-}
-
-// The op of a word, which is its sort as long as the check has not come to it.
-fn sort(code: &[u8], i: usize) -> u32
-    requires { ⌜ i * 8 + 8 ≤ length (now code) ⌝ }
-    ensures { λ r. ⌜ r ≡ opAt (wordsOf (now (code .entry))) i ⌝ }
-{
-    head(code, i) % 256
-}
-
-fn set_head(code: &mut [u8], i: usize, op: u32, value: u32)
-    requires { ⌜ (i * 8 + 8 ≤ length (now code)) × (op < 256) × (value < 16777216) ⌝ }
-    ensures { λ _. ⌜ Headed (now (code .entry)) (now (code .exit)) i op value ⌝ }
-{
-    cells::put(code, i * 2, op + 256 * value);
-}
-
-fn set_word(code: &mut [u8], i: usize, op: u32, value: u32, link: usize)
-    requires { ⌜ (i * 8 + 8 ≤ length (now code)) × (op < 256) × (value < 16777216) × (link < 65536) ⌝ }
-    ensures { λ _. ⌜ Linked (now (code .entry)) (now (code .exit)) i op value link ⌝ }
-{
-    let place = cells::get(code, i * 2 + 1) % 65536;
-    set_head(code, i, op, value);
-    cells::put(code, i * 2 + 1, place + 65536 * (link as u32));
-}
-
 // ---- operands of one word
 
 // The rule that a name of this kind breaks where it stands alone, 0 for none.
@@ -231,7 +201,7 @@ fn literal(code: &mut [u8], at: usize) -> Judged
     requires { ⌜ (at * 8 + 8 ≤ length (now code)) × SmallNumber (headAt (wordsOf (now code)) at) ⌝ }
     ensures { λ r. ⌜ Literal (now (code .entry)) (now (code .exit)) at r ⌝ }
 {
-    let w = head(code, at);
+    let w = reading::head(code, at);
     if w % 256 == sorts::NUMBER {
         set_head(code, at, LITERAL, w / 256 + BIAS);
         return Judged::Typed(false, at + 1);
@@ -315,7 +285,7 @@ fn tie(code: &mut [u8], s: u32, i: usize, n: usize)
 {
     let op = OPERATOR + number_of(s);
     if n == i + 2 {
-        let w = head(code, i + 1);
+        let w = reading::head(code, i + 1);
         set_head(code, i, op + 16 * (w % 256), w / 256);
     } else {
         set_word(code, i, op, 0, n);

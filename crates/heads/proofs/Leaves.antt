@@ -11,16 +11,13 @@ use Rattle.laws.proofs.Tests.{by-last, by-less, by-same, false-true}
 use Rattle.paper.specs.Sorts.{bytes, folded, equalTexts, PROC, FUNC, VAR, CONST}
 use Rattle.paper.specs.Expressions.{startsData, startsRoutine}
 use Rattle.cells.specs.Words.{wordsOf, Got, Put}
-use Rattle.code.specs.Cells.{opAt, valueAt}
+use Rattle.code.specs.Cells.{opAt, valueAt, placeAt}
 use Rattle.names.specs.Meanings.{firstMeaning, protectsCell}
 use Rattle.names.specs.Promises.{Number, Meant, Protects, numberAt, meaningAt}
 use Rattle.heads.specs.Stores.{Valued, spelledAt}
 use Rattle.heads.specs.Parts.{isOneOf, Has, Next, Announces, refuses, markOf, Marks, Names, mainAfter, Takes, mainWord}
 
 -- ---- words
-pub valued : (code after : List ℕ) (i v w : ℕ) → Got code (i * 2) w → Put code after (i * 2) (w % 256 + 256 * v) → Valued code after i v
-valued code after i v w g p = subst (λ (x : ℕ). Put code after (i * 2) (x % 256 + 256 * v)) g p
-
 -- the walk to a word has passed none of the two sorts
 pub record Going (code : List ℕ) (at a b i : ℕ) : Type 0 where
   pub has : Has code i a b
@@ -156,25 +153,22 @@ module _ (code : List ℕ) (h : ℕ) where
     unfolding mainWord
     main-function p = rw (ne-eqb h 0 some) (rw (eq-eqb (opAt (wordsOf code) h) FUNC (sym e ∙ p)))
 
-    module _ (d : s ≡ FUNC → ⊥) (w : ℕ) (g : Got code (h * 2) w) where
-      pub main-asks : (w / 256 ≡ 0 → ⊥) → 0 ≡ mainWord (wordsOf code) h
+    module _ (d : s ≡ FUNC → ⊥) (v : ℕ) (g : v ≡ valueAt (wordsOf code) h) where
+      pub main-asks : (v ≡ 0 → ⊥) → 0 ≡ mainWord (wordsOf code) h
       unfolding mainWord
-      main-asks f =
-          rw (ne-eqb h 0 some) (rw (ne-eqb (opAt (wordsOf code) h) FUNC (λ z. d (e ∙ z))) (rw (ne-eqb (valueAt (wordsOf code) h) 0 (λ z. f (ap (λ (x : ℕ). x / 256) g ∙ z)))))
+      main-asks f = rw (ne-eqb h 0 some) (rw (ne-eqb (opAt (wordsOf code) h) FUNC (λ z. d (e ∙ z))) (rw (ne-eqb (valueAt (wordsOf code) h) 0 (λ z. f (g ∙ z)))))
 
-      pub main-found : w / 256 ≡ 0 → h ≡ mainWord (wordsOf code) h
+      pub main-found : v ≡ 0 → h ≡ mainWord (wordsOf code) h
       unfolding mainWord
-      main-found z =
-          rw (ne-eqb h 0 some) (rw (ne-eqb (opAt (wordsOf code) h) FUNC (λ z. d (e ∙ z))) (rw (eq-eqb (valueAt (wordsOf code) h) 0 (sym (ap (λ (x : ℕ). x / 256) g) ∙ z))))
+      main-found z = rw (ne-eqb h 0 some) (rw (ne-eqb (opAt (wordsOf code) h) FUNC (λ z. d (e ∙ z))) (rw (eq-eqb (valueAt (wordsOf code) h) 0 (sym g ∙ z))))
 
-pub is-main-law : (text code : List ℕ) (i w v : ℕ) (b : Bool) → Got code (i * 2 + 1) w → Got code (i * 2) v
-    → b ≡ equalTexts (map folded (take (w % 65536 + v / 256 / 8192 - w % 65536) (drop (w % 65536) text))) (map folded (77 ∷ 65 ∷ 73 ∷ 78 ∷ []))
-    → b ≡ equalTexts (spelledAt text (wordsOf code) i) (bytes "MAIN")
+pub is-main-law : (text code : List ℕ) (i p v : ℕ) (b : Bool) → p ≡ placeAt (wordsOf code) i → v ≡ valueAt (wordsOf code) i
+    → b ≡ equalTexts (map folded (take (p + v / 8192 - p) (drop p text))) (map folded (77 ∷ 65 ∷ 73 ∷ 78 ∷ [])) → b ≡ equalTexts (spelledAt text (wordsOf code) i) (bytes "MAIN")
 unfolding bytes folded
-is-main-law text code i w v b g k e =
-    let n : w % 65536 + v / 256 / 8192 - w % 65536 ≡ v / 256 / 8192 = omega arith in
-    e ∙ ap (λ (x : ℕ). equalTexts (map folded (take x (drop (w % 65536) text))) (bytes "MAIN")) (n ∙ ap (λ (x : ℕ). x / 256 / 8192) k)
-    ∙ ap (λ (x : ℕ). equalTexts (map folded (take (getD (wordsOf code) (i * 2) 0 / 256 / 8192) (drop (x % 65536) text))) (bytes "MAIN")) g
+is-main-law text code i p v b g k e =
+    let n : p + v / 8192 - p ≡ v / 8192 = omega arith in
+    e ∙ ap (λ (x : ℕ). equalTexts (map folded (take x (drop p text))) (bytes "MAIN")) (n ∙ ap (λ (x : ℕ). x / 8192) k)
+    ∙ ap (λ (x : ℕ). equalTexts (map folded (take (valueAt (wordsOf code) i / 8192) (drop x text))) (bytes "MAIN")) g
 
 -- ---- what a word starts
 pub data-var : (s : ℕ) → s ≡ VAR → true ≡ startsData s

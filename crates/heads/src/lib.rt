@@ -1,19 +1,20 @@
 // The checker's third pass: what is known before its declaration. Names of module data are to come; each routine's first word has how many parameters it has, its
 // types are marked where they are not asked, and its name means it.
 use load::spelling::same;
-use names::LINK;
 use names::MEANINGS;
 use names::VALUE;
 use sorts::*;
+use store::set_value;
+use store::sort;
 ghost use mathlib.Core.Path.{_≡_};
 ghost use Prim.Native.Nat.{_+_, _*_, _<_, _≤_};
 ghost use lib.ListN.{length};
 ghost use Rattle.paper.specs.Sorts.{bytes, equalTexts};
 ghost use Rattle.paper.specs.Expressions.{startsData, startsRoutine};
 ghost use Rattle.cells.specs.Words.{wordsOf};
-ghost use Rattle.code.specs.Cells.{opAt, placeAt};
+ghost use Rattle.code.specs.Cells.{placeAt};
 ghost use Rattle.names.specs.Promises.{storeBytes};
-ghost use Rattle.heads.specs.Stores.{Valued, lengthAt, spelledAt};
+ghost use Rattle.heads.specs.Stores.{lengthAt, spelledAt};
 ghost use Rattle.heads.specs.Parts.{Has, Next, Announces, DataStand, Data, refuses, markOf, Marks, ParametersStand, Parameters, Names, RoutineStands, Begun, Takes, mainWord, RoutinesStand, Routines};
 ghost use Rattle.heads.specs.Reads.{Begins, Reads};
 
@@ -27,13 +28,6 @@ const LENGTHS: usize = 8192;
 const FIRST: usize = 2;
 
 // ---- words
-
-fn sort(code: &[u8], i: usize) -> u32
-    requires { ⌜ i * 8 + 8 ≤ length (now code) ⌝ }
-    ensures { λ r. ⌜ r ≡ opAt (wordsOf (now (code .entry))) i ⌝ }
-{
-    cells::get(code, i * 2) % VALUE
-}
 
 fn starts_data(s: u32) -> bool
     ensures { λ r. ⌜ r ≡ startsData s ⌝ }
@@ -51,15 +45,6 @@ fn starts_routine(s: u32) -> bool
         return true;
     }
     s == FUNC
-}
-
-// Gives a word a value; its sort stays.
-fn set_value(code: &mut [u8], i: usize, v: u32)
-    requires { ⌜ (i * 8 + 8 ≤ length (now code)) × (v < 16777216) ⌝ }
-    ensures { λ _. ⌜ Valued (now (code .entry)) (now (code .exit)) i v ⌝ }
-{
-    let s = cells::get(code, i * 2) % VALUE;
-    cells::put(code, i * 2, s + VALUE * v);
 }
 
 // The first word from `at` on that is of one of two sorts.
@@ -192,8 +177,8 @@ fn is_main(text: &[u8], code: &[u8], i: usize) -> bool
     requires { ⌜ (i * 8 + 8 ≤ length (now code)) × (placeAt (wordsOf (now code)) i + lengthAt (wordsOf (now code)) i ≤ length (now text)) ⌝ }
     ensures { λ r. ⌜ r ≡ equalTexts (spelledAt (now (text .entry)) (wordsOf (now (code .entry))) i) (bytes "MAIN") ⌝ }
 {
-    let place = (cells::get(code, i * 2 + 1) % LINK) as usize;
-    let end = place + (cells::get(code, i * 2) / VALUE) as usize / LENGTHS;
+    let place = reading::place(code, i);
+    let end = place + reading::value(code, i) / LENGTHS;
     same(&text[place..end], b"MAIN")
 }
 
@@ -237,7 +222,7 @@ fn main_of(code: &[u8], h: usize) -> usize
     if sort(code, h) == FUNC {
         return 0;
     }
-    if cells::get(code, h * 2) / VALUE != 0 {
+    if reading::value(code, h) != 0 {
         return 0;
     }
     h

@@ -8,9 +8,10 @@ use lib.Dec.{eqb, ltb}
 use borrow.Author.Tests.{ne-eqb, eq-eqb, lt-ltb, le-ltb, not-true, not-false}
 use Rattle.laws.proofs.Tests.{false-true}
 use Rattle.paper.specs.Basics.{if_then_else_}
-use Rattle.cells.specs.Words.{wordsOf, Got}
+use Rattle.cells.specs.Words.{wordsOf}
 use Rattle.code.specs.Cells.{opAt, linkAt, linkIn}
 use Rattle.code.specs.Steps.{aTarget, anElseIf, aCase, aThen}
+use Rattle.reading.specs.Reading.{halfEnd, Part}
 use Rattle.links.specs.Resolved.{goesByLink, goesByValue, goesByPlace, isLed, beyond, Beyond, LedValue, LedPlace, LedLink}
 use Rattle.links.specs.Raw.{Quiet}
 
@@ -89,18 +90,14 @@ module _ (code : List ℕ) (words : ℕ) where
   pub goes-step : (z op : ℕ) → z < 16777216 → op ≡ opAt (wordsOf code) z → op < 155 → Beyond code words z z
   goes-step z op h e g = record { is = λ k. sym (beyond-step (wordsOf code) (wordsOf code) z (omega arith)); as-link = λ k. k; as-value = h }
 
-  pub goes-case : (z op tail : ℕ) → op ≡ opAt (wordsOf code) z → op ≡ 157 → Got code ((z + 1) * 2 + 1) tail → tail < 4294967296 → Beyond code words z (tail / 65536)
-  goes-case z op tail e h g k = record {
-    is = λ i. ap linkIn g ∙ sym (beyond-case (wordsOf code) (wordsOf code) z (sym e ∙ h));
-    as-link = λ i. omega arith;
-    as-value = omega arith;
-  }
+  pub goes-case : (z op r : ℕ) → op ≡ opAt (wordsOf code) z → op ≡ 157 → Part halfEnd (linkAt (wordsOf code) (z + 1)) r → Beyond code words z r
+  goes-case z op r e h g = record { is = λ i. g .same ∙ sym (beyond-case (wordsOf code) (wordsOf code) z (sym e ∙ h)); as-link = λ i. g .small; as-value = omega (arith, g .small) }
 
-  pub goes-close : (z op tail : ℕ) → op ≡ opAt (wordsOf code) z → 155 ≤ op → (op ≡ 157 → ⊥) → Got code (z * 2 + 1) tail → tail < 4294967296 → Beyond code words z (tail / 65536)
-  goes-close z op tail e h d g k = record {
-    is = λ i. ap linkIn g ∙ sym (beyond-close (wordsOf code) (wordsOf code) z (omega arith) (λ q. d (e ∙ q)));
-    as-link = λ i. omega arith;
-    as-value = omega arith;
+  pub goes-close : (z op r : ℕ) → op ≡ opAt (wordsOf code) z → 155 ≤ op → (op ≡ 157 → ⊥) → Part halfEnd (linkAt (wordsOf code) z) r → Beyond code words z r
+  goes-close z op r e h d g = record {
+    is = λ i. g .same ∙ sym (beyond-close (wordsOf code) (wordsOf code) z (omega arith) (λ q. d (e ∙ q)));
+    as-link = λ i. g .small;
+    as-value = omega (arith, g .small);
   }
 
   module _ (op : ℕ) (b : Bool) (t : b ≡ true) where

@@ -7,19 +7,20 @@ use native.Mathlib.Omega.{arith}
 use lib.ListN.{length, drop, getD}
 use borrow.Author.Tests.{ne-eqb}
 use Rattle.laws.proofs.Tests.{by-less, by-same, false-true}
-use Rattle.cells.specs.Words.{wordsOf, Got, Put}
+use Rattle.cells.specs.Words.{wordsOf}
 use Rattle.code.specs.Cells.{opIn, valueIn, placeIn, linkIn, headAt, tailAt, opAt, valueAt, placeAt, linkAt}
 use Rattle.code.specs.Steps.{aTarget, anElseIf, aCase, aThen}
-use Rattle.names.proofs.Rewriting.{two-puts, rewritten-length, rewritten-drop, rewritten-head, rewritten-tail, rewritten-heads, rewritten-tails}
+use Rattle.store.specs.Promises.{Rewritten}
+use Rattle.store.proofs.Rewriting.{rewritten-length, rewritten-drop, rewritten-head, rewritten-tail, rewritten-heads, rewritten-tails}
 use Rattle.links.specs.Resolved.{goesByLink, goesByValue, goesByPlace, beyond, Follows, Led, Resolved, LedValue, LedPlace, LedLink, Turned}
 use Rattle.links.proofs.Ops.{link-low, low-value, low-place, beyond-step, beyond-case, beyond-close}
 
 -- ---- one word
 -- a word of an expression
-pub turned-low : (code : List ℕ) (words i head : ℕ) → Got code (i * 2) head → head % 256 < 128 → Turned code code words i
-turned-low code words i head e h =
+pub turned-low : (code : List ℕ) (words i op : ℕ) → op ≡ opAt (wordsOf code) i → op < 128 → Turned code code words i
+turned-low code words i op e h =
     let C = wordsOf code in
-    let low : opAt C i < 128 = subst (λ (w : ℕ). w % 256 < 128) e h in
+    let low : opAt C i < 128 = subst (λ (w : ℕ). w < 128) e h in
     record {
       led = record {
         op = refl;
@@ -38,7 +39,7 @@ turned-low code words i head e h =
     }
 
 -- a word whose three parts are known
-module _ (head tail op v p l : ℕ) where
+module _ (op v p l : ℕ) where
   op-of : op < 256 → (op + 256 * v) % 256 ≡ op
   op-of h = omega arith
 
@@ -51,26 +52,26 @@ module _ (head tail op v p l : ℕ) where
   link-of : p < 65536 → (p + 65536 * l) / 65536 ≡ l
   link-of h = omega arith
 
-pub turned : (code a b : List ℕ) (words i head tail v p l : ℕ) → words * 8 ≤ length code → i < words → Got code (i * 2) head → Got code (i * 2 + 1) tail
-    → LedValue code words (head % 256) (head / 256) v → LedPlace code words (head % 256) (tail % 65536) p → LedLink code words (head % 256) (tail / 65536) l
-    → Put code a (i * 2) (head % 256 + 256 * v) → Put a b (i * 2 + 1) (p + 65536 * l) → Turned code b words i
-turned code a b words i head tail v p l h g eh et gv gp gl put put2 =
+pub turned : (code b : List ℕ) (words i op value place link v p l : ℕ) → words * 8 ≤ length code → i < words → op ≡ opAt (wordsOf code) i
+    → value ≡ valueAt (wordsOf code) i → place ≡ placeAt (wordsOf code) i → link ≡ linkAt (wordsOf code) i
+    → LedValue code words op value v → LedPlace code words op place p → LedLink code words op link l → Rewritten code b i (op + 256 * v) (p + 65536 * l) → Turned code b words i
+turned code b words i op value place link v p l h g eo ev ep el gv gp gl w =
     let C = wordsOf code in
     let D = wordsOf b in
-    let w = two-puts code a b i (head % 256 + 256 * v) (p + 65536 * l) (omega arith) put put2 in
+    let small : op < 256 = subst (λ (x : ℕ). x < 256) (sym eo) (below (headAt C i)) in
     let room : i * 8 + 8 ≤ length code = omega arith in
-    let hd : headAt D i ≡ head % 256 + 256 * v = rewritten-head w room in
+    let hd : headAt D i ≡ op + 256 * v = rewritten-head w room in
     let tl : tailAt D i ≡ p + 65536 * l = rewritten-tail w room in
-    let o : opAt C i ≡ head % 256 = ap opIn (sym eh) in
-    let vo : valueAt C i ≡ head / 256 = ap valueIn (sym eh) in
-    let po : placeAt C i ≡ tail % 65536 = ap placeIn (sym et) in
-    let lo : linkAt C i ≡ tail / 65536 = ap linkIn (sym et) in
-    let dv : valueAt D i ≡ v = ap valueIn hd ∙ value-of head tail (head % 256) v p l (omega arith) in
-    let dp : placeAt D i ≡ p = ap placeIn tl ∙ place-of head tail (head % 256) v p l (gp .small) in
-    let dl : linkAt D i ≡ l = ap linkIn tl ∙ link-of head tail (head % 256) v p l (gp .small) in
+    let o : opAt C i ≡ op = sym eo in
+    let vo : valueAt C i ≡ value = sym ev in
+    let po : placeAt C i ≡ place = sym ep in
+    let lo : linkAt C i ≡ link = sym el in
+    let dv : valueAt D i ≡ v = ap valueIn hd ∙ value-of op v p l small in
+    let dp : placeAt D i ≡ p = ap placeIn tl ∙ place-of op v p l (gp .small) in
+    let dl : linkAt D i ≡ l = ap linkIn tl ∙ link-of op v p l (gp .small) in
     record {
       led = record {
-        op = ap opIn hd ∙ op-of head tail (head % 256) v p l (omega arith) ∙ sym o;
+        op = ap opIn hd ∙ op-of op v p l small ∙ sym o;
         value = λ f. dv ∙ gv .same (sym (ap goesByValue o) ∙ f) ∙ sym vo;
         value-on = λ f k. dv ∙ gv .on (sym (ap goesByValue o) ∙ f) (subst (λ (z : ℕ). z + 1 < words) vo (k .inside)) ∙ ap (beyond C C) (sym vo);
         place = λ f. dp ∙ gp .same (sym (ap goesByPlace o) ∙ f) ∙ sym po;
@@ -86,6 +87,9 @@ turned code a b words i head tail v p l h g eh et gv gp gl put put2 =
       past = rewritten-drop w room (words * 8) (omega arith);
       long = rewritten-length w room;
     }
+  where
+    below : (x : ℕ) → x % 256 < 256
+    below x = omega arith
 
 -- ---- stores that say the same
 -- Where a list goes on is asked of words behind i alone, or of steps.

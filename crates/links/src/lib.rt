@@ -1,16 +1,10 @@
 // From the last word to the first: what leads to a word that only closes a list leads on to where that list goes on.
+use store::sort;
 ghost use mathlib.Core.Path.{_≡_};
 ghost use mathlib.Core.Bool.{true};
 ghost use Prim.Native.Nat.{_+_, _*_, _<_, _≤_};
 ghost use lib.ListN.{length};
-ghost use Rattle.cells.specs.Words.{wordsOf};
-ghost use Rattle.code.specs.Cells.{opAt};
 ghost use Rattle.links.specs.Resolved.{goesByLink, goesByValue, goesByPlace, Beyond, LedValue, LedPlace, LedLink, Turned, Resolved};
-
-// A head is an op, and a value above it; a tail is a place, and a link above it.
-const VALUE: u32 = 256;
-
-const LINK: u32 = 65536;
 
 // ---- ops, as the specs of code have them
 
@@ -76,13 +70,6 @@ fn goes_by_place(op: u32) -> bool
     op == OTHERWISE
 }
 
-fn op_at(code: &[u8], i: usize) -> u32
-    requires { ⌜ i * 8 + 8 ≤ length (now code) ⌝ }
-    ensures { λ r. ⌜ r ≡ opAt (wordsOf (now (code .entry))) i ⌝ }
-{
-    cells::get(code, i * 2) % VALUE
-}
-
 // Where a list goes on that ends at word z, or z itself where it is a step. What leads out of the words stays.
 fn beyond(code: &[u8], words: usize, z: usize) -> usize
     requires { ⌜ (words * 8 ≤ length (now code)) × (z < 16777216) ⌝ }
@@ -91,14 +78,14 @@ fn beyond(code: &[u8], words: usize, z: usize) -> usize
     if words <= z + 1 {
         return z;
     }
-    let op = op_at(code, z);
+    let op = sort(code, z);
     if op < ELSE_IF {
         return z;
     }
     if op == CASE {
-        return (cells::get(code, (z + 1) * 2 + 1) / LINK) as usize;
+        return reading::link(code, z + 1);
     }
-    (cells::get(code, z * 2 + 1) / LINK) as usize
+    reading::link(code, z)
 }
 
 fn led_value(code: &[u8], words: usize, op: u32, v: usize) -> usize
@@ -135,7 +122,7 @@ fn led_link(code: &[u8], words: usize, op: u32, l: usize) -> usize
     if op != THEN {
         return beyond(code, words, l);
     }
-    if op_at(code, l) == ELSE_IF {
+    if sort(code, l) == ELSE_IF {
         return l;
     }
     beyond(code, words, l)
@@ -145,17 +132,14 @@ fn resolve_word(code: &mut [u8], words: usize, i: usize)
     requires { ⌜ (words * 8 ≤ length (now code)) × (i < words) ⌝ }
     ensures { λ _. ⌜ Turned (now (code .entry)) (now (code .exit)) words i ⌝ }
 {
-    let head = cells::get(code, i * 2);
-    let op = head % VALUE;
+    let op = sort(code, i);
     if op < TARGET {
         return;
     }
-    let tail = cells::get(code, i * 2 + 1);
-    let v = led_value(code, words, op, (head / VALUE) as usize);
-    let p = led_place(code, words, op, (tail % LINK) as usize);
-    let l = led_link(code, words, op, (tail / LINK) as usize);
-    cells::put(code, i * 2, op + VALUE * (v as u32));
-    cells::put(code, i * 2 + 1, (p as u32) + LINK * (l as u32));
+    let v = led_value(code, words, op, reading::value(code, i));
+    let p = led_place(code, words, op, reading::place(code, i));
+    let l = led_link(code, words, op, reading::link(code, i));
+    store::rewrite(code, i, op + store::VALUE * (v as u32), p, l);
 }
 
 // Makes the links of a text's words lead to steps.

@@ -16,9 +16,10 @@ use Rattle.words.specs.declared.Word as declared
 use Rattle.words.proofs.Places.{lies-is}
 use Rattle.names.specs.Numbers.{numberOf, IsName}
 use Rattle.names.specs.Meanings.{protectedCell}
-use Rattle.names.specs.Promises.{storeBytes, tailWith, Rewritten}
+use Rattle.names.specs.Promises.{storeBytes}
+use Rattle.store.specs.Promises.{tailWith, Rewritten}
 use Rattle.names.proofs.Spellings.{name-inside, number-most}
-use Rattle.names.proofs.Rewriting.{rewritten-length, rewritten-drop}
+use Rattle.store.proofs.Rewriting.{rewritten-length, rewritten-drop}
 use Rattle.load.specs.Hash.{hashOf}
 use Rattle.load.specs.Layout.{headValue, headOf, isFirst, latest, knownAs, firstBucket, Written, wordsIn, Loading, Keeping, Goes, Comes, valueOf, NameComes, Chain, Finds}
 use Rattle.load.proofs.Hashing.{hash-folded}

@@ -14,8 +14,9 @@ use Rattle.paper.specs.Words.{Word}
 use Rattle.paper.specs.Names.{nth, spelled}
 use Rattle.code.specs.Cells.{placeAt, linkAt}
 use Rattle.names.specs.Meanings.{protectedCell, firstMeaning}
-use Rattle.names.specs.Promises.{storeBytes, numberLimit, tailWith, Rewritten}
-use Rattle.names.proofs.Rewriting.{rewritten-head, rewritten-tail, rewritten-heads, rewritten-tails}
+use Rattle.names.specs.Promises.{storeBytes, numberLimit}
+use Rattle.store.specs.Promises.{tailWith, Rewritten}
+use Rattle.store.proofs.Rewriting.{rewritten-head, rewritten-tail, rewritten-heads, rewritten-tails}
 use Rattle.load.specs.Hash.{buckets, hashOf}
 use Rattle.load.specs.Layout.{headOf, isFirst, firstCell, opens, latest, firstBucket, Written, Tabled}
 

@@ -1,19 +1,20 @@
 // The checker's first pass: the words of a text go into the code store, two cells each, and names get their numbers.
 pub mod spelling;
 
-use names::LINK;
 use names::MEANINGS;
 use names::VALUE;
 use spelling::hash;
 use spelling::protected;
 use spelling::same;
+use store::LINK;
+use store::rewrite;
 use words::Cursor;
 use words::Step;
 use words::Word;
 ghost use mathlib.Core.Path.{_≡_};
 ghost use Prim.Native.Nat.{_+_, _*_, _<_, _≤_};
 ghost use lib.ListN.{length};
-ghost use Rattle.names.specs.Promises.{storeBytes, tailWith, Rewritten};
+ghost use Rattle.names.specs.Promises.{storeBytes};
 ghost use Rattle.load.specs.Layout.{Chain, Finds, Loading, NameComes, Comes, Goes, Valued, valueOf};
 ghost use Rattle.load.specs.Loads.{Ready, Loads};
 
@@ -24,18 +25,6 @@ const BUCKETS: usize = 2048;
 
 // A name's head has its number below this, and its length above.
 const LENGTHS: usize = 8192;
-
-// Places are below this in a word's tail, and its link above.
-const PLACES: usize = 65536;
-
-// Makes a word's two cells be its head, and its place and link.
-fn put_cells(code: &mut [u8], i: usize, head: u32, place: usize, link: usize)
-    requires { ⌜ (i * 8 + 8 ≤ length (now code)) × (place < 65536) × (link < 65536) ⌝ }
-    ensures { λ _. ⌜ Rewritten (now (code .entry)) (now (code .exit)) i head (tailWith place link) ⌝ }
-{
-    cells::put(code, i * 2, head);
-    cells::put(code, i * 2 + 1, (place + PLACES * link) as u32);
-}
 
 // The first name with a text in the chain that begins as given: its index and 1, or 0 where there is none.
 fn find<'a>(text: &'a [u8], code: &'a [u8], name: &'a [u8], first: usize) -> usize
@@ -66,7 +55,7 @@ fn load_name(text: &[u8], code: &mut [u8], values: &mut [u8], i: usize, place: u
     let first = cells::get(values, bucket) as usize;
     let found = find(text, code, &text[place..end], first);
     if found != 0 {
-        put_cells(
+        rewrite(
             code,
             i,
             sorts::NAME + VALUE * ((found - 1 + LENGTHS * length) as u32),
@@ -76,7 +65,7 @@ fn load_name(text: &[u8], code: &mut [u8], values: &mut [u8], i: usize, place: u
         return;
     }
     let meaning = protected(&text[place..end]);
-    put_cells(
+    rewrite(
         code,
         i,
         sorts::NAME + VALUE * ((i + LENGTHS * length) as u32),
@@ -107,7 +96,7 @@ fn load_word(text: &[u8], code: &mut [u8], values: &mut [u8], i: usize, w: Word)
         load_name(text, code, values, i, w.place, w.length);
         return;
     }
-    put_cells(code, i, w.sort + VALUE * value_of(w), w.place, 0);
+    rewrite(code, i, w.sort + VALUE * value_of(w), w.place, 0);
 }
 
 pub enum Loaded {

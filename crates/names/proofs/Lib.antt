@@ -1,4 +1,4 @@
-pub mod Rewriting
+pub mod Answering
 pub mod Spellings
 pub mod Tables
 pub mod Unique

@@ -18,7 +18,7 @@ use Rattle.names.specs.Numbers.{numberOf, IsName}
 use Rattle.names.specs.Meanings.{cellWith, meaningWith, meaningIn, isProtected, protectsCell, firstMeaning, cellFor, Means, Apart, Hides, Keeps}
 use Rattle.names.specs.Promises.{storeBytes, numberAt, Declared, Left}
 use Rattle.names.proofs.Spellings.{numbers-same, spellings-same, texts-same, texts-differ}
-use Rattle.names.proofs.Rewriting.{rewritten-head, rewritten-tail}
+use Rattle.store.proofs.Rewriting.{rewritten-head, rewritten-tail}
 
 -- ---- a cell
 pub meaning-with : (routine : ℕ → ℕ) (kind bool own value : ℕ) → kind < 64 → bool < 2 → own < 2 → meaningIn routine (cellWith kind bool own value) ≡ meaningWith routine kind bool own value

@@ -1,12 +1,12 @@
 -- What the functions promise: every cell, and every byte, after the call.
 use mathlib.Core.Path.{_≡_}
 use mathlib.Core.Bool.{Bool}
-use mathlib.Core.List.{List, [], _∷_}
-use Prim.Native.Nat.{ℕ, _+_, _*_, _%_, _<_}
-use lib.ListN.{getD, set}
-use Rattle.laws.specs.Lists.{replaced}
-use Rattle.cells.specs.Words.{wordsOf, bytesOf, Put}
+use mathlib.Core.List.{List}
+use Prim.Native.Nat.{ℕ, _+_, _%_, _<_}
+use lib.ListN.{getD}
+use Rattle.cells.specs.Words.{wordsOf, Put}
 use Rattle.code.specs.Cells.{headAt, valueAt, placeAt, linkAt}
+use Rattle.store.specs.Promises.{tailWith, Rewritten}
 use Rattle.names.specs.Meanings.{firstMeaning, protectsCell}
 
 -- a store's 16,384 cells
@@ -23,14 +23,6 @@ numberAt C i = valueAt C i % numberLimit
 
 abbrev pub meaningAt : (C X : List ℕ) → ℕ → ℕ
 meaningAt C X i = getD X (firstMeaning + numberAt C i) 0
-
-abbrev pub tailWith : (place link : ℕ) → ℕ
-tailWith place link = place + 65536 * link
-
--- Word i has this head and this tail now, and every byte outside its two cells is as it was.
-pub record Rewritten (before after : List ℕ) (i head tail : ℕ) : Type 0 where
-  pub bytes : after ≡ replaced before (i * 8) (bytesOf (head ∷ tail ∷ [])) 8
-  pub words : wordsOf after ≡ set (set (wordsOf before) (i * 2) head) (i * 2 + 1) tail
 
 -- ---- promises
 abbrev pub Number : (code : List ℕ) (i r : ℕ) → Type 0

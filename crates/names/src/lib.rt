@@ -9,12 +9,10 @@ ghost use Rattle.names.specs.Scopes.{Fits, Declares, Enters, Leaves};
 pub const MEANINGS: usize = 8192;
 
 // Numbers of names are below this.
-pub const NUMBERS: u32 = 8192;
+pub const NUMBERS: usize = 8192;
 
-// A cell is an op, and a value above it; a tail is a place, and a link above it.
+// A cell is an op, and a value above it.
 pub const VALUE: u32 = 256;
-
-pub const LINK: u32 = 65536;
 
 // The ops of meanings. A bool has IS_BOOL more, a word of the routine OF_ROUTINE.
 pub const UNKNOWN: u32 = 0;
@@ -45,7 +43,7 @@ pub fn number(code: &[u8], i: usize) -> usize
     requires { ⌜ i * 8 + 8 ≤ length (now code) ⌝ }
     ensures { λ r. ⌜ Number (now (code .entry)) i r ⌝ }
 {
-    (cells::get(code, i * 2) / VALUE % NUMBERS) as usize
+    reading::value(code, i) % NUMBERS
 }
 
 // What the name at a word means.
@@ -57,25 +55,24 @@ pub fn meaning<'a>(code: &'a [u8], values: &'a [u8], i: usize) -> u32
 }
 
 // The name at a word means m from now on. What it meant is kept in the word's head, and its number in the word's link.
-pub fn declare(code: &mut [u8], values: &mut [u8], i: usize, m: u32)
+fn declare(code: &mut [u8], values: &mut [u8], i: usize, m: u32)
     requires { ⌜ (i * 8 + 8 ≤ length (now code)) × (storeBytes ≤ length (now values)) ⌝ }
     ensures { λ _. ⌜ Declared (now (code .entry)) (now (values .entry)) i m (now (code .exit)) (now (values .exit)) ⌝ }
 {
     let n = number(code, i);
     let before = cells::get(values, MEANINGS + n);
-    let place = cells::get(code, i * 2 + 1) % LINK;
-    cells::put(code, i * 2, before);
-    cells::put(code, i * 2 + 1, place + LINK * (n as u32));
+    let place = reading::place(code, i);
+    store::rewrite(code, i, before, place, n);
     cells::put(values, MEANINGS + n, m);
 }
 
 // The name that a word declared means again what it meant before.
-pub fn leave(code: &[u8], values: &mut [u8], i: usize)
+fn leave(code: &[u8], values: &mut [u8], i: usize)
     requires { ⌜ (i * 8 + 8 ≤ length (now code)) × (storeBytes ≤ length (now values)) × Links (now code) i ⌝ }
     ensures { λ _. ⌜ Left (now (code .entry)) (now (values .entry)) i (now (values .exit)) ⌝ }
 {
-    let n = (cells::get(code, i * 2 + 1) / LINK) as usize;
-    cells::put(values, MEANINGS + n, cells::get(code, i * 2));
+    let n = reading::link(code, i);
+    cells::put(values, MEANINGS + n, reading::head(code, i));
 }
 
 // A meaning is that of a protected name.

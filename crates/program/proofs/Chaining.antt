@@ -16,7 +16,7 @@ use Rattle.code.specs.Holds.{dataIn}
 use Rattle.links.specs.Resolved.{goesByLink, goesByValue, goesByPlace, isLed, Resolved}
 use Rattle.links.specs.Raw.{Ground, SameWords}
 use Rattle.links.proofs.Walked.{head-stays, tail-stays}
-use Rattle.program.specs.Chains.{Leads, lastOf, Chain, startsIn, Rise}
+use Rattle.store.specs.Chains.{Leads, lastOf, Chain, startsIn, Rise}
 
 -- ---- ops that do not lead on
 pub datum-still : (op : ℕ) → op ≡ aDatum → isLed op ≡ false

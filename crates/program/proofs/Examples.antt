@@ -21,7 +21,7 @@ use Rattle.code.specs.Holds.{Holds}
 use Rattle.grammar.specs.Form.{Parses, closed-at-once, none-starts, one-starts, no-index, assigning, plain, ended, begun, initial, no-handler, a-proc, RoutineAt}
 use Rattle.links.specs.Resolved.{goesByLink, goesByValue, goesByPlace, isLed, Resolved}
 use Rattle.links.specs.Raw.{Ground, Quiet, endOf, RawDoes, RawSimple, RawStatement, RawList}
-use Rattle.program.specs.Chains.{Leads, lastOf, startsIn, Rise}
+use Rattle.store.specs.Chains.{Leads, lastOf, startsIn, Rise}
 use Rattle.program.specs.Routines.{groundFor, RawHandler, RawRoutine, no-routine, a-routine, RawModule}
 use Rattle.program.proofs.Holding.{module-holds}
 

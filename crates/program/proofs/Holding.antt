@@ -29,7 +29,7 @@ use Rattle.faults.proofs.Expressions.{grows}
 use Rattle.links.specs.Resolved.{Resolved}
 use Rattle.links.specs.Raw.{Ground}
 use Rattle.links.proofs.Walked.{every-both, steps-read, callees-read, starts-at}
-use Rattle.program.specs.Chains.{startsIn}
+use Rattle.store.specs.Chains.{startsIn}
 use Rattle.program.specs.Routines.{groundFor, wordsOfData, wordsInAll, RawHandler, RawRoutine, RawRoutines, no-routine, a-routine, RawModule}
 use Rattle.program.proofs.Closing.{closed, loops-fit}
 use Rattle.program.proofs.Chaining.{parameters-still, rise-all, rise-on, chain-reads, Stays, stays-resolved, data-stay, chain-kept, starts-kept}

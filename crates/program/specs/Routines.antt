@@ -17,7 +17,7 @@ use Rattle.grammar.specs.Form.{Parses, RoutineAt}
 use Rattle.faults.specs.Parts.{memoryOf}
 use Rattle.links.specs.Resolved.{isLed}
 use Rattle.links.specs.Raw.{Ground, RawRoutineList}
-use Rattle.program.specs.Chains.{Chain, startsIn, Rise}
+use Rattle.store.specs.Chains.{Chain, startsIn, Rise}
 
 -- The ground of one of the module's routines: from routine to routine only this differs, whether it is a FUNC and what its constants read.
 unfoldable pub groundFor : Ground → Module → Routine → Ground

@@ -36,7 +36,7 @@ use Rattle.declarations.specs.Answers.{outerOf, firstOf, nameOf, nameWords, Kee
 use Rattle.statements.specs.declared.Walked as statements
 use Rattle.statements.specs.Answers.{SameValues}
 use Rattle.statements.specs.declared.Walked.the-variants as walked
-use Rattle.program.specs.Chains.{Chain, Rise, startsIn}
+use Rattle.store.specs.Chains.{Chain, Rise, startsIn}
 use Rattle.program.specs.Routines.{wordsInAll, RawLines, RawHandler, RawRoutine}
 use Rattle.program.proofs.Framing.{lines-frame}
 use Rattle.program.proofs.Chaining.{DataStay, chain-kept, starts-kept}

@@ -28,7 +28,7 @@ use Rattle.faults.proofs.Expressions.{grows}
 use Rattle.grammar.proofs.Inversions.{HasHandler, handler-some, handler-none}
 use Rattle.faults.specs.First.{First}
 use Rattle.faults.specs.Parts.{memoryOf, inHandler}
-use Rattle.expressions.specs.Parts.{Linked}
+use Rattle.store.specs.Promises.{Linked}
 use Rattle.links.specs.Raw.{Ground, RawList, endOf}
 use Rattle.simple.specs.declared.Setting as simple-setting
 use Rattle.simple.specs.Around.{offsetIn, resultIf, Tells}

@@ -22,9 +22,8 @@ use Rattle.evaluation.specs.Answers.{callWords}
 use Rattle.grammar.specs.Form.{Parses, ListAt, RoutineListAt}
 use Rattle.faults.specs.Parts.{memoryOf}
 use Rattle.expressions.specs.Known.{Fresh}
-use Rattle.expressions.specs.Answers.{Kept}
-use Rattle.expressions.specs.Parts.{Linked}
-use Rattle.expressions.proofs.Keeping.{cell-below, cell-above}
+use Rattle.store.specs.Promises.{Kept, Linked}
+use Rattle.store.proofs.Keeping.{cell-below, cell-above}
 use Rattle.links.specs.Raw.{Ground, RawList, endOf}
 use Rattle.links.proofs.Framing.{same-cells, list-frame}
 use Rattle.simple.specs.declared.Setting.{Setting}

@@ -11,7 +11,7 @@ use Rattle.paper.specs.Basics.{if_then_else_}
 use Rattle.cells.specs.Words.{wordsOf, Got, Put}
 use Rattle.cells.proofs.Kept.{put-same, put-other}
 use Rattle.code.specs.Cells.{opAt, placeAt, linkAt}
-use Rattle.expressions.specs.Parts.{Linked}
+use Rattle.store.specs.Promises.{Linked}
 use Rattle.links.specs.Raw.{endOf}
 use Rattle.routines.specs.Parts.{namesRoutine, resultIn, nameWith, leadsTo, SetPlace, SetParameters, Finishes}
 

@@ -26,8 +26,8 @@ use Rattle.grammar.specs.Form.{Parses, RoutineListAt, HandlerAt, no-handler, a-
 use Rattle.faults.specs.First.{First}
 use Rattle.faults.specs.Parts.{memoryOf, inBody, inHandler}
 use Rattle.faults.proofs.Routines.{found-in-body, found-in-handler, nothing-in-routine}
-use Rattle.expressions.specs.Parts.{Linked}
-use Rattle.expressions.proofs.Keeping.{cell-below, cell-above}
+use Rattle.store.specs.Promises.{Linked}
+use Rattle.store.proofs.Keeping.{cell-below, cell-above}
 use Rattle.links.specs.Raw.{Ground, SameWords, RawList, endOf}
 use Rattle.links.proofs.Framing.{same-cells, list-frame}
 use Rattle.heads.specs.Trees.{headsFor}

@@ -25,7 +25,7 @@ use Rattle.links.specs.Raw.{Ground, SameWords}
 use Rattle.declarations.specs.Sites.{Site}
 use Rattle.declarations.specs.Chains as own
 use Rattle.declarations.specs.Answers.{firstOf, nameOf, nameWords, KeepsName, KeepsAll}
-use Rattle.program.specs.Chains.{Leads, lastOf, Chain, startsIn, Rise}
+use Rattle.store.specs.Chains.{Leads, lastOf, Chain, startsIn, Rise}
 use Rattle.program.specs.Routines.{RawHandler}
 use Rattle.program.proofs.Framing.{lines-frame}
 

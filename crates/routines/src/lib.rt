@@ -7,7 +7,7 @@ ghost use lib.ListN.{length};
 ghost use Rattle.cells.specs.Words.{wordsOf};
 ghost use Rattle.code.specs.Cells.{linkAt};
 ghost use Rattle.links.specs.Raw.{endOf};
-ghost use Rattle.expressions.specs.Parts.{Linked};
+ghost use Rattle.store.specs.Promises.{Linked};
 ghost use Rattle.routines.specs.Answers.{Begins, Checks};
 ghost use Rattle.routines.specs.Parts.{namesRoutine, resultIn, nameWith, SetPlace, SetParameters, Finishes, leadsTo, ErrorsStand, Errors, ListsStand, Lists, ScopeStands, Scoped};
 

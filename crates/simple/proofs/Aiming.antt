@@ -29,10 +29,10 @@ use Rattle.grammar.proofs.Inversions.{InBraces, index-some, index-none}
 use Rattle.expressions.specs.declared.Judged.{Judged}
 use Rattle.expressions.specs.declared.Judged.the-variants.{Typed, Faulty}
 use Rattle.expressions.specs.Known.{Loaded, InRoom, Within}
-use Rattle.expressions.specs.Answers.{Kept, typeIf, OfType}
+use Rattle.store.specs.Promises.{Kept, Linked}
+use Rattle.expressions.specs.Answers.{typeIf, OfType}
 use Rattle.expressions.specs.Answers as answers
-use Rattle.expressions.specs.Parts.{Linked}
-use Rattle.expressions.proofs.Keeping.{head-below, head-above, kept-wider, kept-on, term-above}
+use Rattle.store.proofs.Keeping.{head-below, head-above, kept-wider, kept-on, term-above}
 use Rattle.expressions.proofs.Judging.{judged-faults, judged-term, judged-type, element-is}
 use Rattle.expressions.proofs.Leaves.{type-with}
 use Rattle.expressions.proofs.Starts.{loaded-part}

@@ -20,10 +20,10 @@ use Rattle.grammar.specs.Form.{Parses}
 use Rattle.expressions.specs.declared.Judged.{Judged}
 use Rattle.expressions.specs.declared.Judged.the-variants.{Typed, Faulty}
 use Rattle.expressions.specs.Known.{Loaded, Known}
-use Rattle.expressions.specs.Answers.{Kept, typeIf, Judges, OfType}
+use Rattle.store.specs.Promises.{Kept, Linked}
+use Rattle.expressions.specs.Answers.{typeIf, Judges, OfType}
 use Rattle.expressions.specs.Answers as expressions
-use Rattle.expressions.specs.Parts.{Linked}
-use Rattle.expressions.proofs.Keeping.{head-below, head-above, kept-wider, kept-on, term-above}
+use Rattle.store.proofs.Keeping.{head-below, head-above, kept-wider, kept-on, term-above}
 use Rattle.expressions.proofs.Around.{says-typed, says-faulty}
 use Rattle.faults.specs.First.{First}
 use Rattle.faults.proofs.Expressions.{grows, of-type-first}

@@ -24,9 +24,9 @@ use Rattle.grammar.specs.Form.{Parses}
 use Rattle.grammar.proofs.Places.{arguments-grow}
 use Rattle.expressions.specs.declared.Judged.{Judged}
 use Rattle.expressions.specs.declared.Judged.the-variants.{Typed, Faulty}
-use Rattle.expressions.specs.Answers.{Kept, typeIf}
-use Rattle.expressions.specs.Parts.{Linked}
-use Rattle.expressions.proofs.Keeping.{cell-above, head-below, kept-wider, kept-on}
+use Rattle.store.specs.Promises.{Kept, Linked}
+use Rattle.expressions.specs.Answers.{typeIf}
+use Rattle.store.proofs.Keeping.{cell-above, head-below, kept-wider, kept-on}
 use Rattle.expressions.proofs.Judging.{append-none}
 use Rattle.faults.specs.First.{First, Leads}
 use Rattle.faults.proofs.First.{_and_, every-none, first-fault, first-if, first-left, first-right, leads-later, leads-same-if}

@@ -22,8 +22,8 @@ use Rattle.grammar.proofs.Inversions as inversions
 use Rattle.expressions.specs.declared.Judged.{Judged}
 use Rattle.expressions.specs.declared.Judged.the-variants.{Typed, Faulty}
 use Rattle.expressions.specs.Answers.{typeIf}
-use Rattle.expressions.specs.Parts.{Linked}
-use Rattle.expressions.proofs.Keeping.{head-below, head-above, kept-wider, kept-on}
+use Rattle.store.specs.Promises.{Linked}
+use Rattle.store.proofs.Keeping.{head-below, head-above, kept-wider, kept-on}
 use Rattle.expressions.proofs.Judging.{append-none}
 use Rattle.expressions.proofs.Starts.{loaded-part}
 use Rattle.faults.specs.First.{First}

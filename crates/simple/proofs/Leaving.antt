@@ -23,7 +23,7 @@ use Rattle.grammar.proofs.Inversions.{WithOptional, Given, Alone, simple-return
 use Rattle.expressions.specs.declared.Judged.{Judged}
 use Rattle.expressions.specs.declared.Judged.the-variants.{Faulty}
 use Rattle.expressions.specs.Answers.{typeIf}
-use Rattle.expressions.proofs.Keeping.{kept-wider}
+use Rattle.store.proofs.Keeping.{kept-wider}
 use Rattle.expressions.proofs.Starts.{loaded-part}
 use Rattle.faults.specs.First.{First}
 use Rattle.faults.proofs.First.{first-fault, first-if, first-left, leads-later}

@@ -19,8 +19,8 @@ use Rattle.grammar.proofs.Places.{arguments-grow}
 use Rattle.grammar.proofs.Inversions as inversions
 use Rattle.expressions.specs.declared.Judged.{Judged}
 use Rattle.expressions.specs.declared.Judged.the-variants.{Typed, Faulty}
-use Rattle.expressions.specs.Parts.{Linked}
-use Rattle.expressions.proofs.Keeping.{head-below, kept-wider, kept-on}
+use Rattle.store.specs.Promises.{Linked}
+use Rattle.store.proofs.Keeping.{head-below, kept-wider, kept-on}
 use Rattle.faults.specs.First.{First}
 use Rattle.faults.proofs.First.{first-fault, first-left, leads-later}
 use Rattle.faults.proofs.Expressions.{grows}

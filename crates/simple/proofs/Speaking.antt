@@ -25,8 +25,8 @@ use Rattle.grammar.proofs.Inversions as inversions
 use Rattle.expressions.specs.declared.Judged.{Judged}
 use Rattle.expressions.specs.declared.Judged.the-variants.{Typed}
 use Rattle.expressions.specs.Answers.{typeIf}
-use Rattle.expressions.specs.Parts.{Linked}
-use Rattle.expressions.proofs.Keeping.{head-above, kept-wider, kept-on}
+use Rattle.store.specs.Promises.{Linked}
+use Rattle.store.proofs.Keeping.{head-above, kept-wider, kept-on}
 use Rattle.expressions.proofs.Starts.{loaded-part, loaded-after}
 use Rattle.faults.proofs.Expressions.{grows}
 use Rattle.links.specs.Raw.{RawText, RawDoes}

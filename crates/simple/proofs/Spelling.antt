@@ -11,9 +11,9 @@ use Rattle.laws.proofs.Lists.{part-length}
 use Rattle.paper.specs.Sorts.{STRING}
 use Rattle.paper.specs.Words.{QUOTE}
 use Rattle.paper.specs.Steps.{unquoted}
-use Rattle.cells.specs.Words.{wordsOf, Got}
-use Rattle.code.specs.Cells.{valueIn, placeIn, headAt, linkAt}
-use Rattle.expressions.specs.Parts.{Linked}
+use Rattle.cells.specs.Words.{wordsOf}
+use Rattle.code.specs.Cells.{valueAt, placeAt}
+use Rattle.store.specs.Promises.{Headed}
 use Rattle.simple.specs.Parts.{Width, Characters, Strings, Spelled}
 
 unquoted-quote : (b : ℕ) (r : List ℕ) → b ≡ QUOTE → length (unquoted (b ∷ r)) ≡ suc (length (unquoted (drop 1 r)))
@@ -88,28 +88,18 @@ counting-done text first n k count room c h =
     record { is = omega (arith, c .left, ap (λ (l : List ℕ). length (unquoted l)) e, none-left); most = c .most }
 
 -- ---- the string at a word
-module _ (text code : List ℕ) (i h tail : ℕ) (eh : h ≡ headAt (wordsOf code) i) (et : Got code (i * 2 + 1) tail) where
+module _ (text code : List ℕ) (i v p : ℕ) (ev : v ≡ valueAt (wordsOf code) i) (ep : p ≡ placeAt (wordsOf code) i) where
   module _ (g : Strings text code i) where
-    bytes-are : h / 256 ≡ length (g .w .covers)
-    bytes-are = ap valueIn eh ∙ g .value
+    bytes-are : v ≡ length (g .w .covers)
+    bytes-are = ev ∙ g .value
 
-    first-is : tail % 65536 ≡ g .w .place
-    first-is = ap placeIn et ∙ g .place
+    first-is : p ≡ g .w .place
+    first-is = ep ∙ g .place
 
-    pub string-least : 2 ≤ h / 256
-    string-least = omega (arith, bytes-are, g .quoted .least)
-
-    pub string-asks : (tail % 65536 + 1 + (h / 256 - 2) ≤ length text) × (h / 256 - 2 < 256) × (tail % 65536 + 1 ≤ 65536)
-    string-asks =
-        (omega (arith, bytes-are, first-is, g .quoted .inside, g .quoted .least), omega (arith, bytes-are, g .quoted .most), omega arith)
-
-    pub string-small : (n : ℕ) → Characters text (tail % 65536 + 1) (h / 256 - 2) n → (h / 256 ≤ 162) × (n ≤ 162)
-    string-small n c = (omega (arith, bytes-are, g .quoted .most), omega (arith, bytes-are, g .quoted .most, c .most))
-
-  pub string-spelled : (after : List ℕ) (n : ℕ) → Characters text (tail % 65536 + 1) (h / 256 - 2) n → Linked code after i 3 (h / 256 + 256 * n) (linkAt (wordsOf code) i) → Spelled text code after i
+  pub string-spelled : (after : List ℕ) (n : ℕ) → Characters text (p + 1) (v - 2) n → Headed code after i 3 (v + 256 * n) → Spelled text code after i
   string-spelled after n c l = record {
     is = λ g.
-        let e : h / 256 + 256 * n ≡ length (g .w .covers) + 256 * length (unquoted (take (length (g .w .covers) - 2) (drop (g .w .place + 1) text))) =
-        ap₂ (λ (b p : ℕ). b + 256 * p) (bytes-are g) (c .is ∙ ap₂ (λ (b p : ℕ). length (unquoted (take (b - 2) (drop (p + 1) text)))) (bytes-are g) (first-is g)) in
-        subst (λ (v : ℕ). Linked code after i STRING v (linkAt (wordsOf code) i)) e l;
+        let e : v + 256 * n ≡ length (g .w .covers) + 256 * length (unquoted (take (length (g .w .covers) - 2) (drop (g .w .place + 1) text))) =
+        ap₂ (λ (b k : ℕ). b + 256 * k) (bytes-are g) (c .is ∙ ap₂ (λ (b k : ℕ). length (unquoted (take (b - 2) (drop (k + 1) text)))) (bytes-are g) (first-is g)) in
+        subst (λ (x : ℕ). Headed code after i STRING x) e l;
   }

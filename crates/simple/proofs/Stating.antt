@@ -15,7 +15,7 @@ use Rattle.grammar.specs.Form.{Parses}
 use Rattle.grammar.proofs.Places.{simple-first, simple-grows}
 use Rattle.expressions.specs.declared.Judged.{Judged}
 use Rattle.expressions.specs.declared.Judged.the-variants.{Typed, Faulty}
-use Rattle.expressions.specs.Answers.{Kept}
+use Rattle.store.specs.Promises.{Kept}
 use Rattle.faults.specs.First.{First}
 use Rattle.faults.proofs.Expressions.{grows}
 use Rattle.links.specs.Raw.{RawDoes, RawSimple}

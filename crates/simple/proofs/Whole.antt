@@ -24,8 +24,9 @@ use Rattle.grammar.proofs.Inversions as inversions
 use Rattle.grammar.proofs.Inversions.{behind-name, behind-brace}
 use Rattle.expressions.specs.declared.Judged.{Judged}
 use Rattle.expressions.specs.declared.Judged.the-variants.{Typed, Faulty}
-use Rattle.expressions.specs.Answers.{Kept, typeIf}
-use Rattle.expressions.proofs.Keeping.{head-above, kept-wider, kept-on}
+use Rattle.store.specs.Promises.{Kept}
+use Rattle.expressions.specs.Answers.{typeIf}
+use Rattle.store.proofs.Keeping.{head-above, kept-wider, kept-on}
 use Rattle.expressions.proofs.Starts.{loaded-part}
 use Rattle.faults.specs.First.{Inside, First}
 use Rattle.faults.proofs.First.{widen, first-inside, first-left, leads-later}

@@ -12,7 +12,7 @@ use Rattle.cells.specs.Words.{wordsOf}
 use Rattle.grammar.specs.Form.{Parses, SimpleAt}
 use Rattle.expressions.specs.declared.Judged.{Judged}
 use Rattle.expressions.specs.declared.Judged.the-variants.{Typed, Faulty}
-use Rattle.expressions.specs.Answers.{Kept}
+use Rattle.store.specs.Promises.{Kept}
 use Rattle.faults.specs.First.{First}
 use Rattle.links.specs.Raw.{RawSimple}
 use Rattle.simple.specs.declared.Setting.{Setting}

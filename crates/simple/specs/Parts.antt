@@ -32,7 +32,7 @@ use Rattle.expressions.specs.declared.Judged.the-variants.{Typed, Faulty}
 use Rattle.expressions.specs.Known.{Fresh, Loaded, InRoom, Known}
 use Rattle.expressions.specs.Answers.{typeIf, Judges}
 use Rattle.expressions.specs.Answers as expressions
-use Rattle.expressions.specs.Parts.{Linked}
+use Rattle.store.specs.Promises.{Linked}
 use Rattle.faults.specs.First.{First}
 use Rattle.links.specs.Resolved.{isLed}
 use Rattle.links.specs.Raw.{Quiet, RawArguments, RawCallee, RawAssign, RawAssignCall, RawValued}

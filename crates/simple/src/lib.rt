@@ -1,5 +1,9 @@
 // The check of a simple statement: its names, its types, its place, and what a run has to know of it, written over its words in the code store.
 use expressions::Judged;
+use store::set_head;
+use store::set_link;
+use store::set_word;
+use store::sort;
 ghost use mathlib.Core.Path.{_≡_};
 ghost use Prim.Native.Nat.{_+_, _*_, _/_, _%_, _<_, _≤_};
 ghost use lib.ListN.{length};
@@ -8,7 +12,6 @@ ghost use Rattle.cells.specs.Words.{wordsOf};
 ghost use Rattle.code.specs.Cells.{headAt, opAt, valueAt, placeAt, linkAt};
 ghost use Rattle.code.specs.Signatures.{firstParameter};
 ghost use Rattle.expressions.specs.Answers as expressions;
-ghost use Rattle.expressions.specs.Parts.{Linked};
 ghost use Rattle.simple.specs.Answers.{Statement, Stated};
 ghost use Rattle.simple.specs.Parts.{Begins, Begun, BeginsIn, BegunIn, BeginsOf, BegunOf, Assigns, Assigned, CallsOf, CalledOf, WrongName, TypeDiffers, IsCall};
 ghost use Rattle.simple.specs.Parts.{Targets, TargetJudged, Elements, ElementJudged, ValueSide, ValueAssigned, Callees, CalleeTold, Passed, More, MoreJudged, Commas, Counts, Counted, CallSide, CallJudged, ForCalls, ForJudged, CallAssigns, CallAssigned, Alone, Values, Valued, Width, Characters, Strings, Spelled};
@@ -72,47 +75,6 @@ const ROUTINE: u32 = 5;
 
 // the level of all operators
 const DISJUNCTIONS: u32 = 5;
-
-// ---- cells
-
-fn head(code: &[u8], i: usize) -> u32
-    requires { ⌜ i * 8 + 8 ≤ length (now code) ⌝ }
-    ensures { λ r. ⌜ r ≡ headAt (wordsOf (now (code .entry))) i ⌝ }
-{
-    cells::get(code, i * 2)
-}
-
-// The op of a word, which is its sort as long as the check has not come to it.
-pub fn sort(code: &[u8], i: usize) -> u32
-    requires { ⌜ i * 8 + 8 ≤ length (now code) ⌝ }
-    ensures { λ r. ⌜ r ≡ opAt (wordsOf (now (code .entry))) i ⌝ }
-{
-    head(code, i) % 256
-}
-
-pub fn set_word(code: &mut [u8], i: usize, op: u32, value: u32, link: usize)
-    requires { ⌜ (i * 8 + 8 ≤ length (now code)) × (op < 256) × (value < 16777216) × (link < 65536) ⌝ }
-    ensures { λ _. ⌜ Linked (now (code .entry)) (now (code .exit)) i op value link ⌝ }
-{
-    let place = cells::get(code, i * 2 + 1) % 65536;
-    cells::put(code, i * 2, op + 256 * value);
-    cells::put(code, i * 2 + 1, place + 65536 * (link as u32));
-}
-
-pub fn set_head(code: &mut [u8], i: usize, op: u32, value: u32)
-    requires { ⌜ (i * 8 + 8 ≤ length (now code)) × (op < 256) × (value < 16777216) ⌝ }
-    ensures { λ _. ⌜ Linked (now (code .entry)) (now (code .exit)) i op value (linkAt (wordsOf (now (code .entry))) i) ⌝ }
-{
-    cells::put(code, i * 2, op + 256 * value);
-}
-
-pub fn set_link(code: &mut [u8], i: usize, link: usize)
-    requires { ⌜ (i * 8 + 8 ≤ length (now code)) × (link < 65536) ⌝ }
-    ensures { λ _. ⌜ Linked (now (code .entry)) (now (code .exit)) i (opAt (wordsOf (now (code .entry))) i) (valueAt (wordsOf (now (code .entry))) i) link ⌝ }
-{
-    let place = cells::get(code, i * 2 + 1) % 65536;
-    cells::put(code, i * 2 + 1, place + 65536 * (link as u32));
-}
 
 // ---- names and types
 
@@ -240,7 +202,7 @@ fn argument(code: &mut [u8], values: &[u8], p: usize, at: usize) -> Judged
     requires { ⌜ (p * 8 + 8 ≤ length (now code)) × expressions.Stands (now code) (now values) 5 at ⌝ }
     ensures { λ r. ⌜ Passed (now (code .entry)) (now (values .entry)) (now (code .exit)) p at r ⌝ }
 {
-    let asked = head(code, p);
+    let asked = reading::head(code, p);
     let r = expressions::expression(code, values, false, DISJUNCTIONS, at);
     let Judged::Typed(bool, end) = r else {
         return r;
@@ -294,7 +256,7 @@ fn call(
     ensures { λ r. ⌜ CallJudged (now (code .entry)) (now (values .entry)) (now (code .exit)) op h callee first closing r ⌝ }
 {
     let count = count_arguments(code, first, closing);
-    if count != head(code, h) / 256 {
+    if count != reading::head(code, h) / 256 {
         return Judged::Faulty(14, callee);
     }
     if count == 0 {
@@ -318,7 +280,7 @@ fn call_for(code: &mut [u8], values: &[u8], wants: bool, i: usize) -> Judged
     match callee_at(code, values, true, i) {
         Callee::Wrong(number) => Judged::Faulty(number, i),
         Callee::At(h) => {
-            if differs(head(code, h + 1), wants) {
+            if differs(reading::head(code, h + 1), wants) {
                 return Judged::Faulty(13, i);
             }
             call(code, values, sorts::NAME, h, i, i + 2, sorts::CLOSE_PAREN)
@@ -367,7 +329,7 @@ fn assign_call(code: &mut [u8], values: &[u8], wants: bool, i: usize, b: usize) 
     let Judged::Typed(bool, end) = r else {
         return r;
     };
-    let w = head(code, i);
+    let w = reading::head(code, i);
     set_word(code, i, w % 256 + FOR_A_CALL, w / 256, end + 2);
     Judged::Typed(bool, end + 2)
 }
@@ -497,10 +459,10 @@ fn string(text: &[u8], code: &mut [u8], i: usize)
     requires { ⌜ Strings (now text) (now code) i ⌝ }
     ensures { λ _. ⌜ Spelled (now (text .entry)) (now (code .entry)) (now (code .exit)) i ⌝ }
 {
-    let bytes = head(code, i) / 256;
-    let first = (cells::get(code, i * 2 + 1) % 65536) as usize + 1;
-    let count = characters(text, first, bytes as usize - 2);
-    set_head(code, i, sorts::STRING, bytes + 256 * (count as u32));
+    let bytes = reading::value(code, i);
+    let first = reading::place(code, i) + 1;
+    let count = characters(text, first, bytes - 2);
+    set_head(code, i, sorts::STRING, (bytes + 256 * count) as u32);
 }
 
 fn writes(text: &[u8], code: &mut [u8], values: &[u8], i: usize) -> Judged

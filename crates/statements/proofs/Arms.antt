@@ -25,9 +25,9 @@ use Rattle.grammar.proofs.Inversions.{FirstArm, arms-first}
 use Rattle.grammar.proofs.Places.{list-grows, arms-grow, else-grows}
 use Rattle.expressions.specs.declared.Judged.{Judged}
 use Rattle.expressions.specs.declared.Judged.the-variants as judged
-use Rattle.expressions.specs.Answers.{Kept, typeIf, OfType}
+use Rattle.store.specs.Promises.{Kept, Linked}
+use Rattle.expressions.specs.Answers.{typeIf, OfType}
 use Rattle.expressions.specs.Answers as expressions
-use Rattle.expressions.specs.Parts.{Linked}
 use Rattle.faults.specs.First.{First, Inside, no-fault}
 use Rattle.faults.proofs.First.{_and_, widen, every-none, first-before, first-after, nothing-in-both}
 use Rattle.faults.proofs.Expressions.{grows, of-type-inside}
@@ -38,8 +38,8 @@ use Rattle.links.proofs.Orders.{last-order, list-order}
 use Rattle.simple.specs.declared.Setting.{Setting}
 use Rattle.simple.specs.Around.{Around, groundOf, offsetIn, Calls}
 use Rattle.statements.specs.declared.Walked.{Walked}
-use Rattle.statements.specs.declared.Walked.the-variants.{Upto, Faulty}
-use Rattle.statements.specs.Answers.{Outside, Here, SameValues, Lists, Done, Answer, Listed}
+use Rattle.statements.specs.declared.Walked.the-variants.{Faulty}
+use Rattle.statements.specs.Answers.{upto, Outside, Here, SameValues, Lists, Done, Answer, Listed}
 use Rattle.statements.specs.Parts.{ThenAt, Thens, Thened, BehindElse, ArmEnded, Elses, ElseWritten, Elsed}
 use Rattle.statements.proofs.Same.{same-values, lists-as, elses-as, expression-as, of-type-as, answer-as}
 use Rattle.statements.proofs.Frames.{outside-same, outside-wider, outside-on, kept-outside, same-before, same-behind, same-on, head-before, head-behind, tail-before, here-from, here-on, here-part, calls-behind, unread-behind, term-same, list-same, op-same, value-same, link-same, word-same, linked-outside, linked-word}
@@ -208,7 +208,7 @@ module _ (text code values : List ℕ) (k : Setting) (used i first : ℕ) (now v
           let f2 = first-before f (inside-both i1 i2 (omega (arith, order)) (omega (arith, order))) else-in (omega arith) in
           faulty-answer _ _ _ _ _ _ _ _ _ r number word q (subst (First (record { number = number; at = word })) (sym (x .faults-are)) f2) (inner .long ∙ x .long)
 
-      module _ (e u : ℕ) (q : r ≡ Upto e u) where
+      module _ (e u : ℕ) (q : r ≡ upto e u) where
         done : Done (listFaults (a .known .W) (a .K) (a .M) (x .b) (a .known .S) n) now one values values″ (t + 1) (x .is .m) (n + forsInList (x .b)) e u
             (RawList (groundOf a) (a .known .n) (wordsOf one) (x .b) (a .known .S) n (t + 1) (x .is .m))
         done = upto-done r inner e u q
@@ -361,7 +361,7 @@ module _ (text code values : List ℕ) (k : Setting) (used i first : ℕ) (now v
                     (subst (λ (v : ℕ). First (record { number = number; at = word }) (listFaults (a .known .W) (a .K) (a .M) (g .o) (a .known .S) v)) counted (faulty-first r2 last-answer number word q2)))
                     (last-answer .long ∙ arm-long)
 
-                module _ (z v : ℕ) (q2 : r2 ≡ Upto z v) where
+                module _ (z v : ℕ) (q2 : r2 ≡ upto z v) where
                   ends : Done (listFaults (a .known .W) (a .K) (a .M) (g .o) (a .known .S) (n + forsInList (x .b))) two three values values‴ m (g .to) (n + forsInList (x .b) + forsInList (g .o)) z v
                       (ElseWritten (sortIn (a .known .W))
                       (λ (first : ℕ). RawElse (groundOf a) (a .known .n) (wordsOf three) (λ (x2 y2 : ℕ). RawList (groundOf a) (a .known .n) (wordsOf three) (g .o) (a .known .S) (n + forsInList (x .b)) x2 y2) m first (g .to)) m)
@@ -428,7 +428,7 @@ module _ (text code values : List ℕ) (k : Setting) (used i first : ℕ) (now v
                         last-same {z3} (an-else w3 e3) s3 o3 r3 = an-else (word-same s3 m (omega arith) (omega arith) _ z3 w3) e3
                         last-same (no-else d3 e3) s3 o3 r3 = no-else d3 e3
 
-                    finished : ForIf four values‴ (Upto z v)
+                    finished : ForIf four values‴ (upto z v)
                     unfolding RawStatement total else-faults groundOf forsInArms
                     finished =
                         done-answer _ _ _ _ _ _ _ _ _ _ _
@@ -590,12 +590,12 @@ module _ (text code values : List ℕ) (k : Setting) (used i first : ℕ) (now v
     pub arm-list-wrong : (number word : ℕ) → r ≡ Faulty number word → Thened text code values one values″ k used i first r
     arm-list-wrong number word q = record { is = λ g. list-wrong g one values″ r l number word q }
 
-    module _ (e u : ℕ) (q : r ≡ Upto e u) (two : List ℕ) (ended : ArmEnded one two op c t e) (s : ℕ) (es : s ≡ opAt (wordsOf two) e) where
+    module _ (e u : ℕ) (q : r ≡ upto e u) (two : List ℕ) (ended : ArmEnded one two op c t e) (s : ℕ) (es : s ≡ opAt (wordsOf two) e) where
       module _ (f : s ≡ ELSEIF → ⊥) (three values‴ : List ℕ) (r2 : Walked) (el : Elsed text two values″ three values‴ k u e r2) where
         pub arm-else-wrong : (number word : ℕ) → r2 ≡ Faulty number word → Thened text code values three values‴ k used i first r2
         arm-else-wrong number word q2 = record { is = λ g. else-wrong g one values″ r l e u q two ended s es f three values‴ r2 el number word q2 }
 
-        pub arms-finished : (z v : ℕ) → r2 ≡ Upto z v → (four : List ℕ) → Linked three four i (opAt (wordsOf three) i) (valueAt (wordsOf three) i) z → Thened text code values four values‴ k used i first (Upto z v)
+        pub arms-finished : (z v : ℕ) → r2 ≡ upto z v → (four : List ℕ) → Linked three four i (opAt (wordsOf three) i) (valueAt (wordsOf three) i) z → Thened text code values four values‴ k used i first (upto z v)
         arms-finished z v q2 four l2 = record { is = λ g. finished g one values″ r l e u q two ended s es f three values‴ r2 el z v q2 four l2 }
 
       module _ (h : s ≡ ELSEIF) (three : List ℕ) (j : Judged) (o2 : OfType two values″ three false true (e + 1) j) where

@@ -24,9 +24,9 @@ use Rattle.grammar.proofs.Inversions.{FirstCase, cases-first, cases-none, defau
 use Rattle.grammar.proofs.Places.{exprs-grow, list-grows, cases-grow, default-grows}
 use Rattle.expressions.specs.declared.Judged.{Judged}
 use Rattle.expressions.specs.declared.Judged.the-variants as judged
-use Rattle.expressions.specs.Answers.{Kept, typeIf, OfType}
+use Rattle.store.specs.Promises.{Kept, Linked}
+use Rattle.expressions.specs.Answers.{typeIf, OfType}
 use Rattle.expressions.specs.Answers as expressions
-use Rattle.expressions.specs.Parts.{Linked}
 use Rattle.faults.specs.First.{First, Inside}
 use Rattle.faults.proofs.First.{first-before, first-after, nothing-in-both}
 use Rattle.faults.proofs.Expressions.{grows, of-type-inside}
@@ -38,7 +38,7 @@ use Rattle.simple.specs.Around.{Around, groundOf, offsetIn}
 use Rattle.simple.specs.Answers as simples
 use Rattle.statements.specs.declared.Walked.{Walked}
 use Rattle.statements.specs.declared.Walked.the-variants.{Upto, Faulty}
-use Rattle.statements.specs.Answers.{Outside, SameValues, Here, Stands, Lists, Done, Tell, Answer, StatementAnswer, Listed, Begins, Begun}
+use Rattle.statements.specs.Answers.{upto, Outside, SameValues, Here, Stands, Lists, Done, Tell, Answer, StatementAnswer, Listed, Begins, Begun}
 use Rattle.statements.specs.Parts.{Chain, CaseChain, CaseValues, CaseValued, Chained, ValuesLinked, Defaults, Defaulted, Chooses, CasesWritten, Chosen}
 use Rattle.statements.proofs.Same.{same-values, same-then, around-as, here-as, lists-as, answer-as}
 use Rattle.statements.proofs.Frames.{outside-same, outside-wider, outside-on, kept-outside, same-before, same-behind, same-on, here-on, here-part, term-same, list-same, op-same, value-same, place-same, link-same, word-same, linked-outside, linked-word}
@@ -346,7 +346,7 @@ module _ (text code values : List ℕ) (k : Setting) (used first : ℕ) (now val
               list-wrong number word e =
                   faulty-answer _ _ _ _ _ _ _ _ _ r number word e (subst (First (record { number = number; at = word })) (sym whole) (behind-list _ (first-after (v .none) (faulty-first r inner number word e)))) (inner .long ∙ va .long ∙ x .long)
 
-              module _ (e u : ℕ) (q2 : r ≡ Upto e u) where
+              module _ (e u : ℕ) (q2 : r ≡ upto e u) where
                 done : Done list-faults one two values values″ (f .n + 1) (f .m) (n + forsInList (f .b)) e u (RawList (groundOf a) (a .known .n) (wordsOf two) (f .b) (a .known .S) n (f .n + 1) (f .m))
                 done = upto-done r inner e u q2
 
@@ -446,5 +446,5 @@ module _ (text code values : List ℕ) (k : Setting) (used first : ℕ) (now val
         pub case-list-wrong : (number word : ℕ) → r ≡ Faulty number word → Chosen text code values two values″ k used first r
         case-list-wrong number word e = record { is = λ g. list-wrong g s es h one j cv bool colon q two values″ r l number word e }
 
-        pub cases-go : (e u : ℕ) → r ≡ Upto e u → (three : List ℕ) → Linked two three (c + 1) 164 0 e → (four : List ℕ) → ValuesLinked three four colon e c → Casings text code values k used first four values″ e u
+        pub cases-go : (e u : ℕ) → r ≡ upto e u → (three : List ℕ) → Linked two three (c + 1) 164 0 e → (four : List ℕ) → ValuesLinked three four colon e c → Casings text code values k used first four values″ e u
         cases-go e u q2 three lk four vl = record { is = λ g. goes-on g s es h one j cv bool colon q two values″ r l e u q2 three lk four vl }

@@ -17,8 +17,7 @@ use Rattle.grammar.proofs.Inversions.{statement-plain}
 use Rattle.grammar.proofs.Places.{simple-grows}
 use Rattle.expressions.specs.declared.Judged.{Judged}
 use Rattle.expressions.specs.declared.Judged.the-variants as judged
-use Rattle.expressions.specs.Answers.{Kept}
-use Rattle.expressions.specs.Parts.{Linked}
+use Rattle.store.specs.Promises.{Kept, Linked}
 use Rattle.faults.specs.First.{First}
 use Rattle.faults.proofs.Expressions.{grows}
 use Rattle.links.specs.Raw.{RawWord, RawTerm, RawSimple, RawStatement}
@@ -26,13 +25,14 @@ use Rattle.links.proofs.Framing.{simple-frame}
 use Rattle.simple.specs.declared.Setting.{Setting}
 use Rattle.simple.specs.Around.{Around, groundOf, offsetIn}
 use Rattle.simple.specs.Answers as simples
+use Rattle.names.specs.declared.Scope.{Scope}
 use Rattle.statements.specs.declared.Walked.{Walked}
 use Rattle.statements.specs.declared.Walked.the-variants.{Upto, Faulty}
-use Rattle.statements.specs.Answers.{Outside, Here, Stands, Answer, StatementAnswer}
+use Rattle.statements.specs.Answers.{upto, Outside, Here, Stands, Answer, StatementAnswer}
 use Rattle.statements.specs.Parts.{Plain, Plainly, Compacts, Compacted}
 use Rattle.statements.proofs.Same.{same-values}
 use Rattle.statements.proofs.Frames.{outside-wider, outside-on, kept-outside, same-before, same-behind, same-on, here-part, term-same, linked-outside, linked-word}
-use Rattle.statements.proofs.Walking.{done-answer, first-answer}
+use Rattle.statements.proofs.Walking.{as-scope, done-answer, first-answer}
 
 -- ---- what the check of a simple statement answers
 module _ {fs : List Fault} {before after : List ℕ} {at to : ℕ} {holds : Type 0} (j : Judged) (x : simples.Answer fs before after at to holds j) where
@@ -91,11 +91,11 @@ module _ (text code values : List ℕ) (k : Setting) (used i : ℕ) (g : Plain t
     unfolding statementFaults
     wrong number word q = subst (ForStatement one (Faulty number word)) (sym (w .is)) (first-answer _ _ _ _ _ _ _ _ number word _ (faulty-found j answers number word q) (answers .long))
 
-    right : (bool : Bool) (next : ℕ) → j ≡ judged.Typed bool next → StatementAnswer (g .stands) one values (Upto next used)
+    right : (bool : Bool) (next : ℕ) → j ≡ judged.Typed bool next → StatementAnswer (g .stands) one values (upto next used)
     unfolding statementFaults forsIn RawStatement
     right bool next q =
         let f = typed-fine j answers bool next q in
-        subst (ForStatement one (Upto next used)) (sym (w .is))
+        subst (ForStatement one (upto next used)) (sym (w .is))
         (done-answer _ _ _ _ _ _ _ _ _ _ _
         (record {
           none = f .none;
@@ -112,8 +112,8 @@ module _ (text code values : List ℕ) (k : Setting) (used i : ℕ) (one : List 
   pub plain-wrong : (number word : ℕ) → j ≡ judged.Faulty number word → Plainly text code values one k used i (Faulty number word)
   plain-wrong number word q = record { is = λ g. wrong text code values k used i g one j x number word q }
 
-  pub plain-right : (bool : Bool) (next : ℕ) → j ≡ judged.Typed bool next → Plainly text code values one k used i (Upto next used)
-  plain-right bool next q = record { is = λ g. right text code values k used i g one j x bool next q }
+  pub plain-right : (bool : Bool) (next : ℕ) → j ≡ judged.Typed bool next → (scope : Scope) → scope .used ≡ used → Plainly text code values one k used i (Upto next scope)
+  plain-right bool next q scope u = as-scope (Plainly text code values one k used i) next scope u (record { is = λ g. right text code values k used i g one j x bool next q })
 
 -- ---- behind a condition
 module _ (text code values : List ℕ) (k : Setting) (used i t : ℕ) (g : Compacts text code values k used i t) where
@@ -145,7 +145,7 @@ module _ (text code values : List ℕ) (k : Setting) (used i t : ℕ) (g : Compa
       compact-next = (omega (arith, f .next-is, g .after, g .here .unread .loaded .last), found .long)
 
       compact-yes : (two : List ℕ) → Linked one two i 147 t next → Answer (simpleFaults (b .known .W) (b .K) (b .known .S) (g .s)) code two values values i (g .to) used
-          (RawStatement (groundOf b) (b .known .n) (wordsOf two) (compactIf i (g .e) (g .s)) (b .known .S) used i (g .to)) (Upto next used)
+          (RawStatement (groundOf b) (b .known .n) (wordsOf two) (compactIf i (g .e) (g .s)) (b .known .S) used i (g .to)) (upto next used)
       unfolding RawStatement groundOf offsetIn
       compact-yes two l =
           let o = linked-outside l in
@@ -175,5 +175,5 @@ module _ (text code values : List ℕ) (k : Setting) (used i t : ℕ) (one : Lis
   pub compact-wrong : (number word : ℕ) → j ≡ judged.Faulty number word → Compacted text code values one k used i t (Faulty number word)
   compact-wrong number word q = record { is = λ g. compact-no text code values k used i t g one j x number word q }
 
-  pub compact-right : (bool : Bool) (next : ℕ) → j ≡ judged.Typed bool next → (two : List ℕ) → Linked one two i 147 t next → Compacted text code values two k used i t (Upto next used)
-  compact-right bool next q two l = record { is = λ g. compact-yes text code values k used i t g one j x bool next q two l }
+  pub compact-right : (bool : Bool) (next : ℕ) → j ≡ judged.Typed bool next → (two : List ℕ) → Linked one two i 147 t next → (scope : Scope) → scope .used ≡ used → Compacted text code values two k used i t (Upto next scope)
+  compact-right bool next q two l scope u = as-scope (Compacted text code values two k used i t) next scope u (record { is = λ g. compact-yes text code values k used i t g one j x bool next q two l })

@@ -12,24 +12,24 @@ use Rattle.paper.specs.Names.{sortIn}
 use Rattle.paper.specs.Types.{Fault}
 use Rattle.paper.specs.Checks.{forsInList, listFaults}
 use Rattle.code.specs.Cells.{opIn, placeIn, linkIn, headAt, tailAt, opAt, placeAt, linkAt}
-use Rattle.names.specs.Promises.{tailWith, Rewritten}
-use Rattle.names.proofs.Rewriting.{rewritten-length, rewritten-head, rewritten-tail}
+use Rattle.store.specs.Promises.{tailWith, Rewritten, Linked}
+use Rattle.store.proofs.Rewriting.{rewritten-length, rewritten-head, rewritten-tail}
 use Rattle.grammar.specs.Form.{Parses, DefaultAt, ListAt}
 use Rattle.grammar.proofs.Inversions.{default-some, default-none}
 use Rattle.grammar.proofs.Places.{default-grows, list-grows}
-use Rattle.expressions.specs.Parts.{Linked}
 use Rattle.faults.specs.First.{First}
 use Rattle.faults.proofs.Expressions.{grows}
 use Rattle.links.specs.Raw.{RawWord, Ends, at-once, closed, RawDefault, RawList}
 use Rattle.simple.specs.declared.Setting.{Setting}
 use Rattle.simple.specs.Around.{Around, groundOf}
+use Rattle.names.specs.declared.Scope.{Scope}
 use Rattle.statements.specs.declared.Walked.{Walked}
 use Rattle.statements.specs.declared.Walked.the-variants.{Upto, Faulty}
-use Rattle.statements.specs.Answers.{Outside, Here, Lists, Done, Answer, Listed}
+use Rattle.statements.specs.Answers.{upto, Outside, Here, Lists, Done, Answer, Listed}
 use Rattle.statements.specs.Parts.{Defaults, Defaulted}
 use Rattle.statements.proofs.Same.{same-values}
 use Rattle.statements.proofs.Frames.{outside-wider, outside-on, same-before, same-behind, same-on, here-part, list-same, op-same, place-same, word-same, linked-outside, linked-word}
-use Rattle.statements.proofs.Walking.{upto-done, faulty-first, done-answer, faulty-answer}
+use Rattle.statements.proofs.Walking.{as-scope, upto-done, faulty-first, done-answer, faulty-answer}
 use Rattle.statements.proofs.Entering.{rewritten-outside}
 
 -- a word that is written with its place
@@ -65,7 +65,7 @@ module _ (text code values : List ℕ) (k : Setting) (used c : ℕ) (g : Default
     sort-is : sortIn (a .known .W) c ≡ s
     sort-is = sym (es ∙ g .here .unread .loaded .words c (omega arith) (omega (arith, order, g .after)) .sort)
 
-    no : (s ≡ DEFAULT → ⊥) → (one : List ℕ) → Rewritten code one c 165 (tailWith (c + 1) (c + 1)) → ForDefault one values (Upto (c + 1) used)
+    no : (s ≡ DEFAULT → ⊥) → (one : List ℕ) → Rewritten code one c 165 (tailWith (c + 1) (c + 1)) → ForDefault one values (upto (c + 1) used)
     unfolding listFaults forsInList RawList
     no f one l =
         let q = default-none (sortIn (a .known .W)) (Parses (sortIn (a .known .W))) (g .is) (λ e. f (sym sort-is ∙ e)) in
@@ -120,7 +120,7 @@ module _ (text code values : List ℕ) (k : Setting) (used c : ℕ) (g : Default
         wrong : (number word : ℕ) → r ≡ Faulty number word → ForDefault one values′ r
         wrong number word q = faulty-answer _ _ _ _ _ _ _ _ _ r number word q (faulty-first r inner number word q) (inner .long)
 
-        module _ (z n : ℕ) (q : r ≡ Upto z n) where
+        module _ (z n : ℕ) (q : r ≡ upto z n) where
           done : Done (listFaults (a .known .W) (a .K) (a .M) (g .o) (a .known .S) used) code one values values′ (c + 2) (g .z) (used + forsInList (g .o)) z n
               (RawList (groundOf a) (a .known .n) (wordsOf one) (g .o) (a .known .S) used (c + 2) (g .z))
           done = upto-done r inner z n q
@@ -128,7 +128,7 @@ module _ (text code values : List ℕ) (k : Setting) (used c : ℕ) (g : Default
           pub default-closes : (c + 1 < z) × (z < 8191) × (c * 8 + 8 ≤ length one) × (65536 ≤ length one)
           default-closes = (omega (arith, listed, done .next-is), omega (arith, done .next-is, last, g .after), omega (arith, default-room, inner .long), omega (arith, default-room, inner .long))
 
-          yes : (two three : List ℕ) → Rewritten one two c 165 (tailWith (c + 2) z) → Linked two three z 164 0 (z + 1) → ForDefault three values′ (Upto (z + 1) n)
+          yes : (two three : List ℕ) → Rewritten one two c 165 (tailWith (c + 2) z) → Linked two three z 164 0 (z + 1) → ForDefault three values′ (upto (z + 1) n)
           yes two three x y =
               let zi = done .next-is in
               let o = rewritten-outside x (default-closes .2) in
@@ -161,12 +161,13 @@ module _ (text code values : List ℕ) (k : Setting) (used c : ℕ) (g : Default
 
 -- ---- for whatever it is
 module _ (text code values : List ℕ) (k : Setting) (used c s : ℕ) (es : s ≡ opAt (wordsOf code) c) where
-  pub default-no : (s ≡ DEFAULT → ⊥) → (one : List ℕ) → Rewritten code one c 165 (tailWith (c + 1) (c + 1)) → Defaulted text code values one values k used c (Upto (c + 1) used)
-  default-no f one l = record { is = λ g. no text code values k used c g s es f one l }
+  pub default-no : (s ≡ DEFAULT → ⊥) → (one : List ℕ) → Rewritten code one c 165 (tailWith (c + 1) (c + 1)) → (scope : Scope) → scope .used ≡ used
+      → Defaulted text code values one values k used c (Upto (c + 1) scope)
+  default-no f one l scope u = as-scope (Defaulted text code values one values k used c) (c + 1) scope u (record { is = λ g. no text code values k used c g s es f one l })
 
   module _ (e : s ≡ DEFAULT) (one values′ : List ℕ) (r : Walked) (l : Listed text code values one values′ k used (c + 2) r) where
     pub default-wrong : (number word : ℕ) → r ≡ Faulty number word → Defaulted text code values one values′ k used c r
     default-wrong number word q = record { is = λ g. wrong text code values k used c g s es e one values′ r l number word q }
 
-    pub default-yes : (z n : ℕ) → r ≡ Upto z n → (two three : List ℕ) → Rewritten one two c 165 (tailWith (c + 2) z) → Linked two three z 164 0 (z + 1) → Defaulted text code values three values′ k used c (Upto (z + 1) n)
+    pub default-yes : (z n : ℕ) → r ≡ upto z n → (two three : List ℕ) → Rewritten one two c 165 (tailWith (c + 2) z) → Linked two three z 164 0 (z + 1) → Defaulted text code values three values′ k used c (upto (z + 1) n)
     default-yes z n q two three x y = record { is = λ g. yes text code values k used c g s es e one values′ r l z n q two three x y }

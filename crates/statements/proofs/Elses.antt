@@ -15,19 +15,20 @@ use Rattle.code.specs.Cells.{opAt}
 use Rattle.grammar.specs.Form.{Parses, ElseAt, ListAt}
 use Rattle.grammar.proofs.Inversions.{else-some, else-none}
 use Rattle.grammar.proofs.Places.{else-grows, list-grows}
-use Rattle.expressions.specs.Parts.{Linked}
+use Rattle.store.specs.Promises.{Linked}
 use Rattle.faults.specs.First.{First}
 use Rattle.faults.proofs.Expressions.{grows}
 use Rattle.links.specs.Raw.{RawWord, an-else, no-else, RawElse, RawList}
 use Rattle.simple.specs.declared.Setting.{Setting}
 use Rattle.simple.specs.Around.{Around, groundOf}
+use Rattle.names.specs.declared.Scope.{Scope}
 use Rattle.statements.specs.declared.Walked.{Walked}
 use Rattle.statements.specs.declared.Walked.the-variants.{Upto, Faulty}
-use Rattle.statements.specs.Answers.{Outside, Here, Lists, Done, Answer, Listed}
+use Rattle.statements.specs.Answers.{upto, Outside, Here, Lists, Done, Answer, Listed}
 use Rattle.statements.specs.Parts.{Elses, ElseWritten, Elsed}
 use Rattle.statements.proofs.Same.{same-values}
 use Rattle.statements.proofs.Frames.{outside-wider, outside-on, same-before, same-behind, same-on, here-part, list-same, word-same, linked-outside, linked-word}
-use Rattle.statements.proofs.Walking.{upto-done, faulty-first, done-answer, faulty-answer}
+use Rattle.statements.proofs.Walking.{as-scope, upto-done, faulty-first, done-answer, faulty-answer}
 
 module _ (text code values : List ℕ) (k : Setting) (used c : ℕ) (g : Elses text code values k used c) where
   abbrev a : Around text values
@@ -52,7 +53,7 @@ module _ (text code values : List ℕ) (k : Setting) (used c : ℕ) (g : Elses t
     sort-is : sortIn (a .known .W) c ≡ s
     sort-is = sym (es ∙ g .here .unread .loaded .words c (omega arith) (omega (arith, order, g .after)) .sort)
 
-    no : (s ≡ ELSE → ⊥) → (one : List ℕ) → Linked code one c 164 0 (c + 1) → ForElse one values (Upto (c + 1) used)
+    no : (s ≡ ELSE → ⊥) → (one : List ℕ) → Linked code one c 164 0 (c + 1) → ForElse one values (upto (c + 1) used)
     unfolding listFaults forsInList RawList
     no f one l =
         let q = else-none (sortIn (a .known .W)) (Parses (sortIn (a .known .W))) (g .is) (λ e. f (sym sort-is ∙ e)) in
@@ -109,7 +110,7 @@ module _ (text code values : List ℕ) (k : Setting) (used c : ℕ) (g : Elses t
         wrong : (number word : ℕ) → r ≡ Faulty number word → ForElse one values′ r
         wrong number word q = faulty-answer _ _ _ _ _ _ _ _ _ r number word q (faulty-first r inner number word q) (inner .long)
 
-        module _ (z n : ℕ) (q : r ≡ Upto z n) where
+        module _ (z n : ℕ) (q : r ≡ upto z n) where
           done : Done (listFaults (a .known .W) (a .K) (a .M) (g .o) (a .known .S) used) code one values values′ (c + 1) (g .z) (used + forsInList (g .o)) z n
               (RawList (groundOf a) (a .known .n) (wordsOf one) (g .o) (a .known .S) used (c + 1) (g .z))
           done = upto-done r inner z n q
@@ -117,7 +118,7 @@ module _ (text code values : List ℕ) (k : Setting) (used c : ℕ) (g : Elses t
           pub else-closes : (c < z) × (z < 8191) × (length one ≡ length code)
           else-closes = (omega (arith, listed, done .next-is), omega (arith, done .next-is, last, g .after), inner .long)
 
-          yes : (two three : List ℕ) → Linked one two c 164 0 z → Linked two three z 164 0 (z + 1) → ForElse three values′ (Upto (z + 1) n)
+          yes : (two three : List ℕ) → Linked one two c 164 0 z → Linked two three z 164 0 (z + 1) → ForElse three values′ (upto (z + 1) n)
           yes two three x y =
               let zi = done .next-is in
               let o = linked-outside x in
@@ -152,12 +153,12 @@ module _ (text code values : List ℕ) (k : Setting) (used c : ℕ) (g : Elses t
 
 -- ---- for whatever it is
 module _ (text code values : List ℕ) (k : Setting) (used c s : ℕ) (es : s ≡ opAt (wordsOf code) c) where
-  pub else-no : (s ≡ ELSE → ⊥) → (one : List ℕ) → Linked code one c 164 0 (c + 1) → Elsed text code values one values k used c (Upto (c + 1) used)
-  else-no f one l = record { is = λ g. no text code values k used c g s es f one l }
+  pub else-no : (s ≡ ELSE → ⊥) → (one : List ℕ) → Linked code one c 164 0 (c + 1) → (scope : Scope) → scope .used ≡ used → Elsed text code values one values k used c (Upto (c + 1) scope)
+  else-no f one l scope u = as-scope (Elsed text code values one values k used c) (c + 1) scope u (record { is = λ g. no text code values k used c g s es f one l })
 
   module _ (e : s ≡ ELSE) (one values′ : List ℕ) (r : Walked) (l : Listed text code values one values′ k used (c + 1) r) where
     pub else-wrong : (number word : ℕ) → r ≡ Faulty number word → Elsed text code values one values′ k used c r
     else-wrong number word q = record { is = λ g. wrong text code values k used c g s es e one values′ r l number word q }
 
-    pub else-yes : (z n : ℕ) → r ≡ Upto z n → (two three : List ℕ) → Linked one two c 164 0 z → Linked two three z 164 0 (z + 1) → Elsed text code values three values′ k used c (Upto (z + 1) n)
+    pub else-yes : (z n : ℕ) → r ≡ upto z n → (two three : List ℕ) → Linked one two c 164 0 z → Linked two three z 164 0 (z + 1) → Elsed text code values three values′ k used c (upto (z + 1) n)
     else-yes z n q two three x y = record { is = λ g. yes text code values k used c g s es e one values′ r l z n q two three x y }

@@ -4,8 +4,7 @@ use mathlib.Core.List.{List}
 use Prim.Native.Nat.{ℕ, _+_, _*_}
 use Rattle.cells.specs.Words.{wordsOf}
 use Rattle.code.specs.Cells.{placeAt}
-use Rattle.names.specs.Promises.{tailWith, Rewritten}
-use Rattle.expressions.specs.Parts.{Linked}
+use Rattle.store.specs.Promises.{tailWith, Rewritten, Linked}
 use Rattle.statements.specs.Parts.{ForEnded}
 
 pub for-ended : (before one two after : List ℕ) (used i d e p : ℕ) → Linked before one d 163 (d + 1) 0 → Linked one two i 150 used (e + 1) → p ≡ placeAt (wordsOf two) i

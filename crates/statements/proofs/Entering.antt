@@ -18,10 +18,11 @@ use Rattle.paper.specs.Names.{Meaning, unknown, variable, array, constant, loop
 use Rattle.code.specs.Cells.{opIn, headAt, tailAt, linkAt, placeAt}
 use Rattle.names.specs.Numbers.{numberOf, IsName}
 use Rattle.names.specs.Meanings.{cellWith, meaningWith, meaningIn, isProtected, protectsCell, firstMeaning, Means, Hides}
-use Rattle.names.specs.Promises.{numberAt, meaningAt, tailWith, Rewritten, Declared, Left}
+use Rattle.names.specs.Promises.{numberAt, meaningAt, Declared, Left}
+use Rattle.store.specs.Promises.{tailWith, Rewritten}
 use Rattle.names.proofs.Spellings.{same-texts, differing}
 use Rattle.names.proofs.Tables.{meaning-with, declare-means, enter-hides}
-use Rattle.names.proofs.Rewriting.{rewritten-length, rewritten-head, rewritten-tail, rewritten-other}
+use Rattle.store.proofs.Rewriting.{rewritten-length, rewritten-head, rewritten-tail, rewritten-other}
 use Rattle.expressions.specs.Known.{InRoom, Within, Known}
 use Rattle.constants.specs.Answers.{cellOf, Worth, Fine}
 use Rattle.simple.specs.declared.Setting.{Setting}

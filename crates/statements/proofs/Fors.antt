@@ -18,13 +18,14 @@ use Rattle.code.specs.Cells.{opIn, valueIn, placeIn, linkIn, headAt, tailAt, pl
 use Rattle.names.specs.Numbers.{numberOf}
 use Rattle.names.specs.Meanings.{isProtected}
 use Rattle.names.specs.Promises.{numberAt, Declared, Left}
-use Rattle.names.proofs.Rewriting.{rewritten-length, rewritten-head, rewritten-tail}
+use Rattle.names.specs.declared.Scope.{Scope}
+use Rattle.store.proofs.Rewriting.{rewritten-length, rewritten-head, rewritten-tail}
 use Rattle.grammar.specs.Form.{Parses}
 use Rattle.grammar.proofs.Inversions.{IsFor, statement-for}
 use Rattle.grammar.proofs.Places.{list-grows, step-grows}
 use Rattle.expressions.specs.declared.Judged.{Judged}
 use Rattle.expressions.specs.declared.Judged.the-variants as judged
-use Rattle.expressions.specs.Answers.{Kept}
+use Rattle.store.specs.Promises.{Kept}
 use Rattle.faults.specs.First.{First, Inside}
 use Rattle.faults.proofs.First.{first-before, first-after, nothing-in-both}
 use Rattle.faults.proofs.Expressions.{grows}
@@ -36,7 +37,7 @@ use Rattle.simple.specs.Around.{Around, groundOf, offsetIn}
 use Rattle.simple.specs.Answers as simples
 use Rattle.statements.specs.declared.Walked.{Walked}
 use Rattle.statements.specs.declared.Walked.the-variants.{Upto, Faulty}
-use Rattle.statements.specs.Answers.{Outside, SameValues, Here, Stands, Lists, Done, Answer, StatementAnswer, Listed, Begins, Begun}
+use Rattle.statements.specs.Answers.{upto, Outside, SameValues, Here, Stands, Lists, Done, Answer, StatementAnswer, Listed, Begins, Begun}
 use Rattle.statements.specs.Parts.{ForHeads, RawHead, ForMay, ForHeaded, ForEnded}
 use Rattle.statements.proofs.Frames.{outside-wider, outside-on, kept-outside, same-before, same-behind, same-on, head-before, tail-before, bound-same, list-same, op-same, value-same, place-same, word-same, linked-outside, linked-word}
 use Rattle.statements.proofs.Walking.{upto-done, faulty-first, done-answer, first-answer, faulty-answer}
@@ -176,8 +177,9 @@ module _ (text code values : List ℕ) (k : Setting) (used i : ℕ) (g : Begins 
           room = omega (arith, counted);
         }
 
-        pub for-lists : Lists text two values′ k (used + 1) (d + 1)
-        for-lists = subst (λ (v : ℕ). Lists text two values′ k (used + 1) (v + 1)) (sym (f .next-is)) lists
+        pub for-lists : (inside : Scope) → inside ≡ record { used = used + 1 } → Lists text two values′ k (inside .used) (d + 1)
+        for-lists inside e =
+            subst (λ (s : Scope). Lists text two values′ k (s .used) (d + 1)) (sym e) (subst (λ (v : ℕ). Lists text two values′ k (used + 1) (v + 1)) (sym (f .next-is)) lists)
 
         module _ (three values″ : List ℕ) (r : Walked) (l : Listed text two values′ three values″ k (used + 1) (d + 1) r) where
           body : Answer (body-faults (used + 1)) two three values′ values″ (w .doAt + 1) (w .end) (used + 1 + forsInList (w .body))
@@ -191,7 +193,7 @@ module _ (text code values : List ℕ) (k : Setting) (used i : ℕ) (g : Begins 
               subst (ForStatement three values″ r) (sym (w .is))
               (faulty-answer _ _ _ _ _ _ _ _ _ r number word e (first-after (f .none) (subst (λ (v : ℕ). First (record { number = number; at = word }) (body-faults v)) next-is (faulty-first r body number word e))) (body .long ∙ long-two))
 
-          module _ (e n : ℕ) (q2 : r ≡ Upto e n) where
+          module _ (e n : ℕ) (q2 : r ≡ upto e n) where
             done : Done (body-faults (used + 1)) two three values′ values″ (w .doAt + 1) (w .end) (used + 1 + forsInList (w .body)) e n
                 (RawList (groundOf a) (a .known .n) (wordsOf three) (w .body) S′ (used + 1) (w .doAt + 1) (w .end))
             done = upto-done r body e n q2
@@ -296,10 +298,10 @@ module _ (text code values : List ℕ) (k : Setting) (used i : ℕ) (g : Begins 
                   (outside-wider i (s .to) at-do (omega (arith, orders)) (omega (arith, orders, last)))) (outside-wider i (s .to) at-for (omega arith) (omega (arith, orders, last))))
                   (outside-wider i (s .to) at-end (omega (arith, orders)) (omega (arith, last)))
 
-              finished : StatementAnswer (g .stands) four values‴ (Upto (e + 1) n)
+              finished : StatementAnswer (g .stands) four values‴ (upto (e + 1) n)
               unfolding statementFaults forsIn RawStatement groundOf
               finished =
-                  subst (ForStatement four values‴ (Upto (e + 1) n)) (sym (w .is))
+                  subst (ForStatement four values‴ (upto (e + 1) n)) (sym (w .is))
                   (done-answer _ _ _ _ _ _ _ _ _ _ _
                   (record {
                     none = nothing-in-both (f .none) (subst (λ (v : ℕ). body-faults v ≡ []) next-is (done .none));
@@ -312,15 +314,27 @@ module _ (text code values : List ℕ) (k : Setting) (used i : ℕ) (g : Begins 
                   })
                   for-long)
 
+-- the list is answered in the scope that was entered
+pub for-listed : {text code values after values′ : List ℕ} {k : Setting} {n at : ℕ} {r : Walked} {inside : Scope} → inside ≡ record { used = n } → Listed text code values after values′ k (inside .used) at r
+    → Listed text code values after values′ k n at r
+for-listed {text} {code} {values} {after} {values′} {k} {n} {at} {r} e l = subst (λ (s : Scope). Listed text code values after values′ k (s .used) at r) e l
+
 -- ---- for whatever the statement is
 module _ (text code values : List ℕ) (k : Setting) (used i : ℕ) (one : List ℕ) (j : Judged) (h : ForHeaded code values one used i j) where
   pub for-wrong : (number word : ℕ) → j ≡ judged.Faulty number word → Begun FOR text code values one values k used i (Faulty number word)
   for-wrong number word q = record { is = λ g. wrong text code values k used i g one j h number word q }
 
   module _ (bool : Bool) (d : ℕ) (q : j ≡ judged.Typed bool d) (m : ℕ) (em : m ≡ 17 + 256 * used) (two values′ : List ℕ) (dec : Declared one values (i + 1) m two values′)
-      (three values″ : List ℕ) (r : Walked) (l : Listed text two values′ three values″ k (used + 1) (d + 1) r) where
+      (inside : Scope) (ei : inside ≡ record { used = used + 1 }) (three values″ : List ℕ) (r : Walked) (listed : Listed text two values′ three values″ k (inside .used) (d + 1) r) where
+    l : Listed text two values′ three values″ k (used + 1) (d + 1) r
+    l = for-listed ei listed
+
     pub for-list-wrong : (number word : ℕ) → r ≡ Faulty number word → Begun FOR text code values three values″ k used i r
     for-list-wrong number word e = record { is = λ g. list-wrong text code values k used i g one j h bool d q m em two values′ dec three values″ r l number word e }
 
-    pub for-finished : (e n : ℕ) → r ≡ Upto e n → (four values‴ : List ℕ) → Left three values″ (i + 1) values‴ → ForEnded three four used i d e → Begun FOR text code values four values‴ k used i (Upto (e + 1) n)
-    for-finished e n q2 four values‴ left x = record { is = λ g. finished text code values k used i g one j h bool d q m em two values′ dec three values″ r l e n q2 four values‴ left x }
+    pub for-finished : (e n : ℕ) → r ≡ upto e n → (four values‴ : List ℕ) → Left three values″ (i + 1) values‴ → (outside : Scope) → outside ≡ record { used = n } → ForEnded three four used i d e
+        → Begun FOR text code values four values‴ k used i (Upto (e + 1) outside)
+    for-finished e n q2 four values‴ left outside eo x = record {
+      is = λ g. subst (λ (s : Scope). StatementAnswer (g .stands) four values‴ (Upto (e + 1) s)) (sym eo)
+          (finished text code values k used i g one j h bool d q m em two values′ dec three values″ r l e n q2 four values‴ left x);
+    }

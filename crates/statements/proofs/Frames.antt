@@ -12,10 +12,9 @@ use Rattle.paper.specs.Trees.{Expr, Statements}
 use Rattle.paper.specs.Names.{Scopes, Meaning, unknown, variable, array, constant, loop, theRoutine, theErrno, errorNumber, Text, sortIn}
 use Rattle.code.specs.Cells.{opIn, valueIn, placeIn, linkIn, headAt, tailAt, opAt, valueAt, placeAt, linkAt}
 use Rattle.expressions.specs.Known.{Fresh, Loaded, InRoom, Within, Known}
-use Rattle.expressions.specs.Answers.{Kept}
-use Rattle.expressions.proofs.Keeping.{cell-below, cell-above}
+use Rattle.store.specs.Promises.{Kept, Linked}
+use Rattle.store.proofs.Keeping.{cell-below, cell-above}
 use Rattle.constants.specs.Answers.{Worth, Fine}
-use Rattle.expressions.specs.Parts.{Linked}
 use Rattle.links.specs.Raw.{Ground, SameWords, RawWord, RawTerm, RawBound, RawList}
 use Rattle.links.proofs.Framing.{same-cells, same-moves, list-frame}
 use Rattle.links.proofs.Moving.{term-moves, bound-moves}

@@ -27,10 +27,10 @@ use Rattle.grammar.proofs.Inversions.{Given, step-none, step-some}
 use Rattle.grammar.proofs.Places.{step-grows, for-head-grows}
 use Rattle.expressions.specs.declared.Judged.{Judged}
 use Rattle.expressions.specs.declared.Judged.the-variants.{Typed, Faulty}
-use Rattle.expressions.specs.Answers.{Kept, typeIf, OfType}
+use Rattle.store.specs.Promises.{Kept, Linked}
+use Rattle.expressions.specs.Answers.{typeIf, OfType}
 use Rattle.expressions.specs.Answers as expressions
-use Rattle.expressions.specs.Parts.{Linked}
-use Rattle.expressions.proofs.Keeping.{kept-same, kept-wider, kept-on}
+use Rattle.store.proofs.Keeping.{kept-same, kept-wider, kept-on}
 use Rattle.faults.specs.First.{First, Inside}
 use Rattle.faults.proofs.First.{inside-if, first-if, first-lower, first-higher, neither-rule, first-before, first-after, nothing-in-both}
 use Rattle.faults.proofs.Expressions.{grows, of-type-inside}

@@ -8,8 +8,7 @@ use mir.Syntax.{w64}
 use mir.Val.{toZ, ofZ, SFits}
 use mir.Facts.{toZ-ofZ}
 use Rattle.paper.specs.Numbers.{num}
-use Rattle.constants.specs.Answers.{InNum}
-use Rattle.statements.specs.Parts.{Held}
+use Rattle.constants.specs.Answers.{InNum, HeldAs}
 
 in-num-fits : (z : ℤ) → InNum z → SFits w64 z
 unfolding num
@@ -19,5 +18,5 @@ in-num-fits (negsuc n) h = record { sfits = omega (arith, ltb-false 8388606 n (h
 pub read-in-num : (v : ℤ) → InNum v → InNum (toZ w64 (ofZ w64 v))
 read-in-num v h = subst InNum (sym (toZ-ofZ (in-num-fits v h))) h
 
-pub held-as : (v : ℤ) (r : ℕ) → InNum v → Held (toZ w64 (ofZ w64 v)) r → Held v r
-held-as v r h x = subst (λ (z : ℤ). Held z r) (toZ-ofZ (in-num-fits v h)) x
+pub held-as : (v : ℤ) (r : ℕ) → InNum v → HeldAs (toZ w64 (ofZ w64 v)) r → HeldAs v r
+held-as v r h x = subst (λ (z : ℤ). HeldAs z r) (toZ-ofZ (in-num-fits v h)) x

@@ -21,7 +21,8 @@ use Rattle.grammar.proofs.Inversions.{CompactIf, FullIf, IsIf, statement-if, si
 use Rattle.grammar.proofs.Places.{simple-grows, else-grows}
 use Rattle.expressions.specs.declared.Judged.{Judged}
 use Rattle.expressions.specs.declared.Judged.the-variants as judged
-use Rattle.expressions.specs.Answers.{Kept, typeIf, OfType}
+use Rattle.store.specs.Promises.{Kept}
+use Rattle.expressions.specs.Answers.{typeIf, OfType}
 use Rattle.expressions.specs.Answers as expressions
 use Rattle.faults.specs.First.{First, Inside}
 use Rattle.faults.proofs.First.{first-before}
@@ -31,7 +32,7 @@ use Rattle.links.specs.Raw.{RawTerm, RawStatement}
 use Rattle.simple.specs.declared.Setting.{Setting}
 use Rattle.simple.specs.Around.{Around, groundOf, offsetIn}
 use Rattle.statements.specs.declared.Walked.{Walked}
-use Rattle.statements.specs.declared.Walked.the-variants.{Upto, Faulty}
+use Rattle.statements.specs.declared.Walked.the-variants.{Faulty}
 use Rattle.statements.specs.Answers.{Outside, Here, Stands, Answer, StatementAnswer, Begins, Begun}
 use Rattle.statements.specs.Parts.{Compacts, Compacted, ThenAt, Thens, Thened}
 use Rattle.statements.proofs.Frames.{outside-wider, kept-outside, here-on, calls-behind}

@@ -19,7 +19,8 @@ use Rattle.grammar.specs.Form.{Parses, ExprAt}
 use Rattle.expressions.specs.declared.Judged.{Judged}
 use Rattle.expressions.specs.declared.Judged.the-variants.{Typed, Faulty}
 use Rattle.expressions.specs.Known.{Loaded}
-use Rattle.expressions.specs.Answers.{Kept, typeIf, Sound, Judges, Stands, OfType}
+use Rattle.store.specs.Promises.{Kept}
+use Rattle.expressions.specs.Answers.{typeIf, Sound, Judges, Stands, OfType}
 use Rattle.expressions.proofs.Around.{says-typed, says-faulty}
 use Rattle.faults.specs.First.{First, Inside}
 use Rattle.faults.proofs.First.{_and_, widen}

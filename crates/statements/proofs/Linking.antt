@@ -16,8 +16,8 @@ use Rattle.paper.specs.Types.{constantValue}
 use Rattle.code.specs.Cells.{opIn, valueIn, placeIn, linkIn, headAt, tailAt, opAt, valueAt, placeAt, linkAt}
 use Rattle.code.specs.Spans.{bias}
 use Rattle.code.specs.Steps.{constantAt}
-use Rattle.names.specs.Promises.{tailWith, Rewritten}
-use Rattle.names.proofs.Rewriting.{rewritten-length, rewritten-head, rewritten-tail}
+use Rattle.store.specs.Promises.{tailWith, Rewritten}
+use Rattle.store.proofs.Rewriting.{rewritten-length, rewritten-head, rewritten-tail}
 use Rattle.links.specs.Raw.{Ground, SameWords, RawValues, RawConstants}
 use Rattle.statements.specs.Answers.{Outside}
 use Rattle.statements.specs.Parts.{Chain, CaseChain, Chained, ValuesLinked}

@@ -24,9 +24,9 @@ use Rattle.grammar.proofs.Inversions.{FirstCase, cases-first, cases-none, defau
 use Rattle.grammar.proofs.Places.{exprs-grow, list-grows, cases-grow, default-grows}
 use Rattle.expressions.specs.declared.Judged.{Judged}
 use Rattle.expressions.specs.declared.Judged.the-variants as judged
-use Rattle.expressions.specs.Answers.{Kept, typeIf, OfType}
+use Rattle.store.specs.Promises.{Kept, Linked}
+use Rattle.expressions.specs.Answers.{typeIf, OfType}
 use Rattle.expressions.specs.Answers as expressions
-use Rattle.expressions.specs.Parts.{Linked}
 use Rattle.faults.specs.First.{First, Inside}
 use Rattle.faults.proofs.First.{first-before, first-after, nothing-in-both}
 use Rattle.faults.proofs.Expressions.{grows, of-type-inside}
@@ -38,8 +38,8 @@ use Rattle.simple.specs.declared.Setting.{Setting}
 use Rattle.simple.specs.Around.{Around, groundOf, offsetIn}
 use Rattle.simple.specs.Answers as simples
 use Rattle.statements.specs.declared.Walked.{Walked}
-use Rattle.statements.specs.declared.Walked.the-variants.{Upto, Faulty}
-use Rattle.statements.specs.Answers.{Outside, SameValues, Here, Stands, Lists, Done, Tell, Answer, StatementAnswer, Listed, Begins, Begun}
+use Rattle.statements.specs.declared.Walked.the-variants.{Faulty}
+use Rattle.statements.specs.Answers.{upto, Outside, SameValues, Here, Stands, Lists, Done, Tell, Answer, StatementAnswer, Listed, Begins, Begun}
 use Rattle.statements.specs.Parts.{Chain, CaseChain, CaseValues, CaseValued, Chained, ValuesLinked, Defaults, Defaulted, Chooses, CasesWritten, Chosen}
 use Rattle.statements.proofs.Same.{same-values, same-then, around-as, here-as, lists-as, answer-as}
 use Rattle.statements.proofs.Frames.{outside-same, outside-wider, outside-on, kept-outside, same-before, same-behind, same-on, here-on, here-part, term-same, list-same, op-same, value-same, place-same, link-same, word-same, linked-outside, linked-word}
@@ -151,7 +151,7 @@ module _ (text code values : List ℕ) (k : Setting) (used i : ℕ) (g : Begins 
             subst (ForStatement two values′ r) (sym (w .is))
             (faulty-answer _ _ _ _ _ _ _ _ _ r number word e (subst (First (record { number = number; at = word })) (sym together) (faulty-first r inner number word e)) (inner .long ∙ kept .long))
 
-        module _ (z n : ℕ) (q2 : r ≡ Upto z n) where
+        module _ (z n : ℕ) (q2 : r ≡ upto z n) where
           done : Done (casesFaults (a .known .W) (a .K) (a .M) (w .c) (a .known .S) used ++ listFaults (a .known .W) (a .K) (a .M) (w .default) (a .known .S) (used + forsInCases (w .c)))
               one two values values′ (w .n) (s .to) (used + (forsInCases (w .c) + forsInList (w .default))) z n
               (CasesWritten
@@ -207,10 +207,10 @@ module _ (text code values : List ℕ) (k : Setting) (used i : ℕ) (g : Begins 
                 ends-same (at-once e) s3 = at-once e
                 ends-same {z3} (closed w3 e) s3 = closed (word-same s3 z3 (omega arith) (omega arith) _ (s .to) w3) e
 
-            finished : StatementAnswer (g .stands) three values′ (Upto z n)
+            finished : StatementAnswer (g .stands) three values′ (upto z n)
             unfolding statementFaults forsIn RawStatement
             finished =
-                subst (ForStatement three values′ (Upto z n)) (sym (w .is))
+                subst (ForStatement three values′ (upto z n)) (sym (w .is))
                 (done-answer _ _ _ _ _ _ _ _ _ _ _
                 (record {
                   none = together ∙ done .none;
@@ -233,5 +233,5 @@ module _ (text code values : List ℕ) (k : Setting) (used i : ℕ) (one : List 
     pub test-cases-wrong : (number word : ℕ) → r ≡ Faulty number word → Begun TEST text code values two values′ k used i r
     test-cases-wrong number word e = record { is = λ g. cases-wrong text code values k used i g one j c bool t q two values′ r x number word e }
 
-    pub test-finished : (z n : ℕ) → r ≡ Upto z n → (three : List ℕ) → Linked two three i 152 t z → Begun TEST text code values three values′ k used i (Upto z n)
+    pub test-finished : (z n : ℕ) → r ≡ upto z n → (three : List ℕ) → Linked two three i 152 t z → Begun TEST text code values three values′ k used i (upto z n)
     test-finished z n q2 three l = record { is = λ g. finished text code values k used i g one j c bool t q two values′ r x z n q2 three l }

@@ -26,13 +26,13 @@ use Rattle.grammar.proofs.Places.{separated-grows}
 use Rattle.expressions.specs.declared.Judged.{Judged}
 use Rattle.expressions.specs.declared.Judged.the-variants as judged
 use Rattle.expressions.specs.Known.{Known}
-use Rattle.expressions.specs.Answers.{Kept, typeIf}
+use Rattle.store.specs.Promises.{Kept, Linked}
+use Rattle.expressions.specs.Answers.{typeIf}
 use Rattle.expressions.specs.Answers as expressions
-use Rattle.expressions.specs.Parts.{Linked}
-use Rattle.expressions.proofs.Keeping.{kept-same, kept-wider, kept-on}
+use Rattle.store.proofs.Keeping.{kept-same, kept-wider, kept-on}
 use Rattle.constants.specs.declared.Valued.{Valued}
 use Rattle.constants.specs.declared.Valued.the-variants as valued
-use Rattle.constants.specs.Answers.{InNum, Asks, Right, Says, Values}
+use Rattle.constants.specs.Answers.{HeldAs, InNum, Asks, Right, Says, Values}
 use Rattle.faults.specs.First.{First, Inside}
 use Rattle.faults.proofs.First.{widen, every-none, first-before, nothing-in-both}
 use Rattle.faults.proofs.Expressions.{grows, constant-inside}
@@ -41,7 +41,7 @@ use Rattle.links.specs.Raw.{SameWords}
 use Rattle.simple.specs.Answers as simples
 use Rattle.simple.specs.Around.{Around}
 use Rattle.statements.specs.Answers.{Outside, Here}
-use Rattle.statements.specs.Parts.{Held, Chain, ChainValue, CaseChain, CaseValues, CaseValued}
+use Rattle.statements.specs.Parts.{Chain, ChainValue, CaseChain, CaseValues, CaseValued}
 use Rattle.statements.proofs.Frames.{outside-same, outside-wider, outside-on, kept-outside, same-before, here-on, op-same, value-same, link-same, linked-outside}
 use Rattle.statements.proofs.Heads.{fine-answer, found-answer}
 
@@ -202,7 +202,7 @@ module _ (code values : List ℕ) (c : ℕ) (now : List ℕ) (w op : ℕ) (inv :
         pub value-next : (w + 1 < n) × (n < 8192) × (n * 8 + 8 ≤ length one) × (w * 8 + 8 ≤ length one)
         value-next = (omega (arith, right .next-is, span), omega (arith, right .next-is, within, last), omega (arith, right .next-is, within, last, kept-one .long, x .here .unread .loaded .room), omega (arith, value-room, kept-one .long))
 
-        module _ (hv : ℕ) (held : Held v hv) (two : List ℕ) (l : Linked one two w op hv n) where
+        module _ (hv : ℕ) (held : HeldAs v hv) (two : List ℕ) (l : Linked one two w op hv n) where
           m : n ≡ f .n
           m = right .next-is
 
@@ -283,7 +283,7 @@ module _ (code values : List ℕ) (c : ℕ) (now : List ℕ) (w op : ℕ) (inv :
     pub value-wrong : (number word : ℕ) → r ≡ valued.Faulty number word → CaseValued code values one c (judged.Faulty number word)
     value-wrong number word q = record { is = λ g. wrong g one r vs number word q }
 
-    module _ (v : ℤ) (n : ℕ) (q : r ≡ valued.Value v n) (hv : ℕ) (held : Held v hv) (two : List ℕ) (l : Linked one two w op hv n) (s : ℕ) (es : s ≡ opAt (wordsOf two) n) where
+    module _ (v : ℤ) (n : ℕ) (q : r ≡ valued.Value v n) (hv : ℕ) (held : HeldAs v hv) (two : List ℕ) (l : Linked one two w op hv n) (s : ℕ) (es : s ≡ opAt (wordsOf two) n) where
       pub values-end : (s ≡ comma → ⊥) → CaseValued code values two c (judged.Typed false n)
       values-end h = record { is = λ g. ends g one r vs v n q hv held two l s es h }
 

@@ -23,15 +23,20 @@ use Rattle.links.specs.Raw.{RawStatement, RawList}
 use Rattle.links.proofs.Framing.{statement-frame}
 use Rattle.simple.specs.declared.Setting.{Setting}
 use Rattle.simple.specs.Around.{Around, groundOf}
+use Rattle.names.specs.declared.Scope.{Scope}
 use Rattle.statements.specs.declared.Walked.{Walked}
 use Rattle.statements.specs.declared.Walked.the-variants.{Upto, Faulty}
-use Rattle.statements.specs.Answers.{Outside, Here, SameValues, Stands, Lists, Done, Tell, Answer, StatementAnswer, Stated, Listed}
+use Rattle.statements.specs.Answers.{upto, Outside, Here, SameValues, Stands, Lists, Done, Tell, Answer, StatementAnswer, Stated, Listed}
 use Rattle.statements.proofs.Same.{same-values, stands-as, answer-as}
 use Rattle.statements.proofs.Frames.{outside-same, outside-wider, outside-on, same-before, here-on, here-part}
 
+-- an answer with so many words taken is the answer with the scope that has taken them
+pub as-scope : (P : Walked → Type 0) (x : ℕ) {used : ℕ} (scope : Scope) → scope .used ≡ used → P (upto x used) → P (Upto x scope)
+as-scope P x scope e p = subst (λ (n : ℕ). P (upto x n)) (sym e) p
+
 -- ---- answers
 module _ {fs : List Fault} {before after values values′ : List ℕ} {at to count : ℕ} {holds : Type 0} (r : Walked) (a : Answer fs before after values values′ at to count holds r) where
-  pub upto-done : (next u : ℕ) → r ≡ Upto next u → Done fs before after values values′ at to count next u holds
+  pub upto-done : (next u : ℕ) → r ≡ upto next u → Done fs before after values values′ at to count next u holds
   unfolding Tell
   upto-done next u e = subst (Tell fs before after values values′ at to count holds) e (a .tells)
 
@@ -40,7 +45,7 @@ module _ {fs : List Fault} {before after values values′ : List ℕ} {at to cou
   faulty-first number word e = subst (Tell fs before after values values′ at to count holds) e (a .tells)
 
 pub done-answer : (fs : List Fault) (before after values values′ : List ℕ) (at to count next u : ℕ) (holds : Type 0) → Done fs before after values values′ at to count next u holds → length after ≡ length before
-    → Answer fs before after values values′ at to count holds (Upto next u)
+    → Answer fs before after values values′ at to count holds (upto next u)
 unfolding Tell
 done-answer fs before after values values′ at to count next u holds d long = record { tells = d; long = long }
 
@@ -132,7 +137,7 @@ module _ (text code values : List ℕ) (k : Setting) (used at : ℕ) (now values
 
     -- ---- the list has ended
     ends-here : (g : Lists text code values k used at) → b ≡ false → Answer (listFaults (g .around .known .W) (g .around .K) (g .around .M) (g .l) (g .around .known .S) used) code now values values′ at (g .to) (used + forsInList (g .l))
-        (RawList (groundOf (g .around)) (g .around .known .n) (wordsOf now) (g .l) (g .around .known .S) used at (g .to)) (Upto i n)
+        (RawList (groundOf (g .around)) (g .around .known .n) (wordsOf now) (g .l) (g .around .known .S) used at (g .to)) (upto i n)
     unfolding listFaults forsInList RawList
     ends-here g f =
         let x = inv .is g in
@@ -151,8 +156,8 @@ module _ (text code values : List ℕ) (k : Setting) (used at : ℕ) (now values
         })
         (x .long)
 
-    pub list-ends : b ≡ false → Listed text code values now values′ k used at (Upto i n)
-    list-ends f = record { is = λ g. ends-here g f }
+    pub list-ends : b ≡ false → (scope : Scope) → scope .used ≡ n → Listed text code values now values′ k used at (Upto i scope)
+    list-ends f scope u = as-scope (Listed text code values now values′ k used at) i scope u (record { is = λ g. ends-here g f })
 
     -- ---- a statement follows
     module _ (t : b ≡ true) (g : Lists text code values k used at) where
@@ -214,13 +219,13 @@ module _ (text code values : List ℕ) (k : Setting) (used at : ℕ) (now values
             (list-inside (g .around .known .W) (g .around .K) (g .around .M) (f .more) (g .around .known .S) (n + forsIn (f .s))) (omega arith)))
             (answer .long ∙ x .long)
 
-        module _ (m u : ℕ) (e : r ≡ Upto m u) where
+        module _ (m u : ℕ) (e : r ≡ upto m u) where
           done : Done first-faults now after values values″ i (f .n) (n + forsIn (f .s)) m u (RawStatement (groundOf (g .around)) (g .around .known .n) (wordsOf after) (f .s) (g .around .known .S) n i (f .n))
           unfolding one first-faults
           done = upto-done r answer m u e
 
-          pub list-less : 8192 - m < 8192 - i
-          list-less = omega (arith, done .next-is, forward, behind, x .here .unread .loaded .last)
+          less : 8192 - m < 8192 - i
+          less = omega (arith, done .next-is, forward, behind, x .here .unread .loaded .last)
 
           goes : Going g after values″ (f .n) (n + forsIn (f .s))
           unfolding first-faults other-faults listFaults RawList
@@ -253,5 +258,8 @@ module _ (text code values : List ℕ) (k : Setting) (used at : ℕ) (now values
       pub list-faulty : (number word : ℕ) → r ≡ Faulty number word → Listed text code values after values″ k used at r
       list-faulty number word e = record { is = λ g. faulty-is t g after values″ r st number word e }
 
-      pub list-goes : (m u : ℕ) → r ≡ Upto m u → Goings text code values k used at after values″ m u
+      pub list-less : Lists text code values k used at → (m : ℕ) (scope : Scope) → r ≡ Upto m scope → 8192 - m < 8192 - i
+      list-less g m scope e = less t g after values″ r st m (scope .used) e
+
+      pub list-goes : (m u : ℕ) → r ≡ upto m u → Goings text code values k used at after values″ m u
       list-goes m u e = record { is = λ g. goes-on t g after values″ r st m u e }

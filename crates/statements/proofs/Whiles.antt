@@ -18,7 +18,8 @@ use Rattle.grammar.proofs.Inversions.{IsWhile, statement-while}
 use Rattle.grammar.proofs.Places.{list-grows}
 use Rattle.expressions.specs.declared.Judged.{Judged}
 use Rattle.expressions.specs.declared.Judged.the-variants as judged
-use Rattle.expressions.specs.Answers.{Kept, typeIf, OfType}
+use Rattle.store.specs.Promises.{Kept}
+use Rattle.expressions.specs.Answers.{typeIf, OfType}
 use Rattle.expressions.specs.Answers as expressions
 use Rattle.faults.specs.First.{First, Inside}
 use Rattle.faults.proofs.First.{first-before, first-after, nothing-in-both}
@@ -27,9 +28,10 @@ use Rattle.faults.proofs.Statements.{list-inside}
 use Rattle.links.specs.Raw.{RawWord, RawDo, RawTerm, RawList, RawWhile, RawStatement}
 use Rattle.simple.specs.declared.Setting.{Setting}
 use Rattle.simple.specs.Around.{Around, groundOf, offsetIn}
+use Rattle.names.specs.declared.Scope.{Scope}
 use Rattle.statements.specs.declared.Walked.{Walked}
 use Rattle.statements.specs.declared.Walked.the-variants.{Upto, Faulty}
-use Rattle.statements.specs.Answers.{Outside, Here, Stands, Lists, Done, Answer, StatementAnswer, Listed, Begins, Begun}
+use Rattle.statements.specs.Answers.{upto, Outside, Here, Stands, Lists, Done, Answer, StatementAnswer, Listed, Begins, Begun}
 use Rattle.statements.specs.Parts.{WhileEnded}
 use Rattle.statements.proofs.Frames.{outside-wider, outside-on, kept-outside, same-before, same-behind, same-on, tail-before, here-on, term-same, list-same, op-same, value-same, word-same, linked-outside, linked-word}
 use Rattle.statements.proofs.Judging.{expression-stands, judged-faulty, judged-long, judged-none, judged-next, judged-term, judged-kept}
@@ -127,7 +129,7 @@ module _ (text code values : List ℕ) (k : Setting) (used i : ℕ) (g : Begins 
             subst (ForStatement two values′ r) (sym (w .is))
             (faulty-answer _ _ _ _ _ _ _ _ _ r number word e (first-after fine (faulty-first r body number word e)) (body .long ∙ kept .long))
 
-        module _ (e n : ℕ) (q2 : r ≡ Upto e n) where
+        module _ (e n : ℕ) (q2 : r ≡ upto e n) where
           done : Done (listFaults (a .known .W) (a .K) (a .M) (w .body) (a .known .S) used) one two values values′ (w .doAt + 1) (w .end) (used + forsInList (w .body)) e n
               (RawList (groundOf a) (a .known .n) (wordsOf two) (w .body) (a .known .S) used (w .doAt + 1) (w .end))
           done = upto-done r body e n q2
@@ -188,10 +190,10 @@ module _ (text code values : List ℕ) (k : Setting) (used i : ℕ) (g : Begins 
                 (outside-wider i (s .to) from-mid (omega (arith, begins, listed)) (omega (arith, w .after))))
                 (outside-wider i (s .to) from-last (omega arith) (omega (arith, begins, listed, w .after)))
 
-            finished : StatementAnswer (g .stands) three values′ (Upto (e + 1) n)
+            finished : StatementAnswer (g .stands) three values′ (upto (e + 1) n)
             unfolding statementFaults forsIn RawStatement
             finished =
-                subst (ForStatement three values′ (Upto (e + 1) n)) (sym (w .is))
+                subst (ForStatement three values′ (upto (e + 1) n)) (sym (w .is))
                 (done-answer _ _ _ _ _ _ _ _ _ _ _
                 (record {
                   none = nothing-in-both fine (done .none);
@@ -213,5 +215,5 @@ module _ (text code values : List ℕ) (k : Setting) (used i : ℕ) (one : List 
     pub while-list-wrong : (number word : ℕ) → r ≡ Faulty number word → Begun WHILE text code values two values′ k used i r
     while-list-wrong number word e = record { is = λ g. list-wrong text code values k used i g one j c bool d q two values′ r l number word e }
 
-    pub while-finished : (e n : ℕ) → r ≡ Upto e n → (three : List ℕ) → WhileEnded two three i d e → Begun WHILE text code values three values′ k used i (Upto (e + 1) n)
-    while-finished e n q2 three x = record { is = λ g. finished text code values k used i g one j c bool d q two values′ r l e n q2 three x }
+    pub while-finished : (e : ℕ) (scope : Scope) → r ≡ Upto e scope → (three : List ℕ) → WhileEnded two three i d e → Begun WHILE text code values three values′ k used i (Upto (e + 1) scope)
+    while-finished e scope q2 three x = record { is = λ g. finished text code values k used i g one j c bool d q two values′ r l e (scope .used) q2 three x }

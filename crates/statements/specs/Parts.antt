@@ -17,14 +17,13 @@ use Rattle.paper.specs.Declarations.{routineWordLimit, crosses}
 use Rattle.paper.specs.Checks.{forsInList, forsInArms, forsInCases, optionalNum, simpleFaults, caseFaults, listFaults, armFaults, casesFaults}
 use Rattle.cells.specs.Words.{wordsOf}
 use Rattle.code.specs.Cells.{opAt, placeAt, linkAt}
-use Rattle.constants.specs.Answers.{HeldAs}
 use Rattle.code.specs.Steps.{aWhile, aFor, aForTest, aCase, aNextValue, aThen, aDo, aPass, constantAt}
 use Rattle.evaluation.specs.Answers.{callWords}
 use Rattle.names.specs.Meanings.{isProtected}
-use Rattle.names.specs.Promises.{storeBytes, tailWith, Rewritten}
+use Rattle.names.specs.Promises.{storeBytes}
+use Rattle.store.specs.Promises.{tailWith, Rewritten, Linked}
 use Rattle.grammar.specs.Form.{Parses, ExprAt, SimpleAt, StepAt, ForHeadAt, ExprsAt, ListAt, ArmsAt, ElseAt, CasesAt, DefaultAt}
 use Rattle.expressions.specs.declared.Judged.{Judged}
-use Rattle.expressions.specs.Parts.{Linked}
 use Rattle.links.specs.Resolved.{isLed}
 use Rattle.links.specs.Raw.{Ground, SameWords, RawTerm, RawBound, RawStep, RawElse, RawConstants, RawDefault, RawStatement, RawList, RawCases}
 use Rattle.simple.specs.declared.Setting.{Setting}
@@ -246,10 +245,6 @@ pub record Elsed (text code values after values′ : List ℕ) (k : Setting) (us
       (λ (x y : ℕ). RawList (groundOf (g .around)) (g .around .known .n) (wordsOf after) (g .o) (g .around .known .S) used x y) c first (g .to)) c) r
 
 -- ---- TEST
--- A head's value that holds a number.
-abbrev pub Held : (v : ℤ) (r : ℕ) → Type 0
-Held v r = HeldAs v r
-
 -- A value of a CASE behind the one at w, at its comma.
 pub record ChainValue (C : List ℕ) (value : ℤ) (more : ℕ → Type 0) (colon w : ℕ) : Type 0 where
   pub v : ℕ

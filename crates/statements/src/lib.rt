@@ -2,22 +2,25 @@
 // steps of them.
 use constants::Valued;
 use expressions::Judged;
+use names::Scope;
 use simple::Setting;
+use store::rewrite;
+use store::set_head;
+use store::set_link;
+use store::set_word;
+use store::sort;
 ghost use mathlib.Core.Path.{_≡_};
 ghost use Prim.Native.Nat.{_+_, _*_, _<_, _≤_};
 ghost use lib.ListN.{length};
 ghost use Rattle.paper.specs.Sorts.{IF, FOR, WHILE, TEST};
 ghost use Rattle.paper.specs.Expressions.{startsStatement};
 ghost use Rattle.cells.specs.Words.{wordsOf};
-ghost use Rattle.code.specs.Cells.{headAt, placeAt};
-ghost use Rattle.constants.specs.Answers.{InNum};
-ghost use Rattle.names.specs.Promises.{tailWith, Rewritten};
 ghost use Rattle.statements.specs.Answers.{Stands, Stated, Lists, Listed, Begins, Begun};
-ghost use Rattle.statements.specs.Parts.{Plain, Plainly, WhileEnded, Bounds, Bounded, Steps, Stepped, ForHeads, ForHeaded, ForEnded, Compacts, Compacted, Thens, Thened, BehindElse, ArmEnded, Elses, Elsed, Held, CaseValues, CaseValued, Chained, ValuesLinked, Defaults, Defaulted, Chooses, Chosen};
+ghost use Rattle.statements.specs.Parts.{Plain, Plainly, WhileEnded, Bounds, Bounded, Steps, Stepped, ForHeads, ForHeaded, ForEnded, Compacts, Compacted, Thens, Thened, BehindElse, ArmEnded, Elses, Elsed, CaseValues, CaseValued, Chained, ValuesLinked, Defaults, Defaulted, Chooses, Chosen};
 
 pub enum Walked {
-    // the word after it, and how many words of the routine are taken
-    Upto(usize, u32),
+    // the word after it, and the routine's scope with what is taken of it
+    Upto(usize, Scope),
     // the rule broken, and its word
     Faulty(u32, usize),
 }
@@ -55,27 +58,6 @@ const OTHERWISE: u32 = 165;
 // how many words of data a routine may have
 const ROUTINE_WORDS: u32 = 64;
 
-// how far the numbers that a head holds are from those they stand for
-const BIAS: i64 = 8388607;
-
-// ---- cells
-
-// A word's head, and its tail with this place.
-fn rewrite(code: &mut [u8], i: usize, head: u32, place: u32, link: usize)
-    requires { ⌜ (i * 8 + 8 ≤ length (now code)) × (place < 65536) × (link < 65536) ⌝ }
-    ensures { λ _. ⌜ Rewritten (now (code .entry)) (now (code .exit)) i head (tailWith place link) ⌝ }
-{
-    cells::put(code, i * 2, head);
-    cells::put(code, i * 2 + 1, place + 65536 * (link as u32));
-}
-
-fn place(code: &[u8], i: usize) -> u32
-    requires { ⌜ i * 8 + 8 ≤ length (now code) ⌝ }
-    ensures { λ r. ⌜ r ≡ placeAt (wordsOf (now (code .entry))) i ⌝ }
-{
-    cells::get(code, i * 2 + 1) % 65536
-}
-
 // ---- WHILE
 
 // WHILE at i, whose DO is at d and whose ENDWHILE at e.
@@ -83,9 +65,9 @@ fn while_end(code: &mut [u8], i: usize, d: usize, e: usize)
     requires { ⌜ (i < d) × (d < e) × (e < 8192) × (65536 ≤ length (now code)) ⌝ }
     ensures { λ _. ⌜ WhileEnded (now (code .entry)) (now (code .exit)) i d e ⌝ }
 {
-    simple::set_word(code, d, DO, (d + 1) as u32, 0);
-    simple::set_word(code, e, PASS, 0, i);
-    simple::set_word(code, i, WHILE, d as u32, e + 1);
+    set_word(code, d, DO, (d + 1) as u32, 0);
+    set_word(code, e, PASS, 0, i);
+    set_word(code, i, WHILE, d as u32, e + 1);
 }
 
 fn while_statement(
@@ -93,17 +75,17 @@ fn while_statement(
     code: &mut [u8],
     values: &mut [u8],
     k: Setting,
-    used: u32,
+    scope: Scope,
     i: usize,
 ) -> Walked
-    requires { ⌜ Begins WHILE (now text) (now code) (now values) k used i ⌝ }
-    ensures { λ r. ⌜ Begun WHILE (now (text .entry)) (now (code .entry)) (now (values .entry)) (now (code .exit)) (now (values .exit)) k used i r ⌝ }
+    requires { ⌜ Begins WHILE (now text) (now code) (now values) k (scope .used) i ⌝ }
+    ensures { λ r. ⌜ Begun WHILE (now (text .entry)) (now (code .entry)) (now (values .entry)) (now (code .exit)) (now (values .exit)) k (scope .used) i r ⌝ }
 {
     let j = expressions::of_type(code, values, false, true, i + 1);
     match j {
         Judged::Faulty(number, word) => Walked::Faulty(number, word),
         Judged::Typed(_, d) => {
-            let r = list(text, code, values, k, used, d + 1);
+            let r = list(text, code, values, k, scope, d + 1);
             let Walked::Upto(e, n) = r else {
                 return r;
             };
@@ -124,7 +106,7 @@ fn bound(code: &mut [u8], values: &[u8], i: usize) -> Judged
     let Judged::Typed(t, n) = j else {
         return j;
     };
-    simple::set_link(code, i, n);
+    set_link(code, i, n);
     Judged::Typed(t, n)
 }
 
@@ -133,10 +115,10 @@ fn for_step(code: &mut [u8], values: &[u8], s: usize) -> Judged
     requires { ⌜ Steps (now code) (now values) s ⌝ }
     ensures { λ r. ⌜ Stepped (now (code .entry)) (now (values .entry)) (now (code .exit)) s r ⌝ }
 {
-    if simple::sort(code, s) != sorts::STEP {
+    if sort(code, s) != sorts::STEP {
         return Judged::Typed(false, s);
     }
-    simple::set_head(code, s, STEP, 0);
+    set_head(code, s, STEP, 0);
     bound(code, values, s)
 }
 
@@ -168,9 +150,9 @@ fn for_end(code: &mut [u8], used: u32, i: usize, d: usize, e: usize)
     requires { ⌜ (used < 64) × (i < d) × (d < e) × (e < 8192) × (65536 ≤ length (now code)) ⌝ }
     ensures { λ _. ⌜ ForEnded (now (code .entry)) (now (code .exit)) used i d e ⌝ }
 {
-    simple::set_word(code, d, DO, (d + 1) as u32, 0);
-    simple::set_word(code, i, FOR, used, e + 1);
-    let p = place(code, i);
+    set_word(code, d, DO, (d + 1) as u32, 0);
+    set_word(code, i, FOR, used, e + 1);
+    let p = reading::place(code, i);
     rewrite(
         code,
         e,
@@ -185,29 +167,25 @@ fn for_statement(
     code: &mut [u8],
     values: &mut [u8],
     k: Setting,
-    used: u32,
+    scope: Scope,
     i: usize,
 ) -> Walked
-    requires { ⌜ Begins FOR (now text) (now code) (now values) k used i ⌝ }
-    ensures { λ r. ⌜ Begun FOR (now (text .entry)) (now (code .entry)) (now (values .entry)) (now (code .exit)) (now (values .exit)) k used i r ⌝ }
+    requires { ⌜ Begins FOR (now text) (now code) (now values) k (scope .used) i ⌝ }
+    ensures { λ r. ⌜ Begun FOR (now (text .entry)) (now (code .entry)) (now (values .entry)) (now (code .exit)) (now (values .exit)) k (scope .used) i r ⌝ }
 {
+    let used = scope.used;
     let j = for_head(code, values, used, i);
     match j {
         Judged::Faulty(number, word) => Walked::Faulty(number, word),
         Judged::Typed(_, d) => {
-            names::declare(
-                code,
-                values,
-                i + 1,
-                names::LOOP + names::OF_ROUTINE + 256 * used,
-            );
-            let r = list(text, code, values, k, used + 1, d + 1);
+            let inner = scope.enter(code, values, i + 1);
+            let r = list(text, code, values, k, inner, d + 1);
             let Walked::Upto(e, n) = r else {
                 return r;
             };
-            names::leave(code, values, i + 1);
+            let outer = n.leave(code, values, i + 1);
             for_end(code, used, i, d, e);
-            Walked::Upto(e + 1, n)
+            Walked::Upto(e + 1, outer)
         }
     }
 }
@@ -220,19 +198,19 @@ fn compact_if(
     code: &mut [u8],
     values: &[u8],
     k: Setting,
-    used: u32,
+    scope: Scope,
     i: usize,
     t: usize,
 ) -> Walked
-    requires { ⌜ Compacts (now text) (now code) (now values) k used i t ⌝ }
-    ensures { λ r. ⌜ Compacted (now (text .entry)) (now (code .entry)) (now (values .entry)) (now (code .exit)) k used i t r ⌝ }
+    requires { ⌜ Compacts (now text) (now code) (now values) k (scope .used) i t ⌝ }
+    ensures { λ r. ⌜ Compacted (now (text .entry)) (now (code .entry)) (now (values .entry)) (now (code .exit)) k (scope .used) i t r ⌝ }
 {
     let j = simple::statement(text, code, values, k, t);
     match j {
         Judged::Faulty(number, word) => Walked::Faulty(number, word),
         Judged::Typed(_, n) => {
-            simple::set_word(code, i, COMPACT_IF, t as u32, n);
-            Walked::Upto(n, used)
+            set_word(code, i, COMPACT_IF, t as u32, n);
+            Walked::Upto(n, scope)
         }
     }
 }
@@ -242,7 +220,7 @@ fn behind_else(code: &[u8], e: usize) -> usize
     requires { ⌜ (e < 8192) × (65536 ≤ length (now code)) ⌝ }
     ensures { λ r. ⌜ BehindElse (now (code .entry)) e r ⌝ }
 {
-    if simple::sort(code, e) == sorts::ELSE {
+    if sort(code, e) == sorts::ELSE {
         return e + 1;
     }
     e
@@ -254,8 +232,8 @@ fn arm_end(code: &mut [u8], op: u32, c: usize, t: usize, e: usize)
     ensures { λ _. ⌜ ArmEnded (now (code .entry)) (now (code .exit)) op c t e ⌝ }
 {
     let link = behind_else(code, e);
-    simple::set_word(code, t, THEN, (t + 1) as u32, link);
-    simple::set_word(code, c, op, t as u32, e);
+    set_word(code, t, THEN, (t + 1) as u32, link);
+    set_word(code, c, op, t as u32, e);
 }
 
 // ELSE with its list, or ENDIF.
@@ -264,22 +242,22 @@ fn else_part(
     code: &mut [u8],
     values: &mut [u8],
     k: Setting,
-    used: u32,
+    scope: Scope,
     c: usize,
 ) -> Walked
-    requires { ⌜ Elses (now text) (now code) (now values) k used c ⌝ }
-    ensures { λ r. ⌜ Elsed (now (text .entry)) (now (code .entry)) (now (values .entry)) (now (code .exit)) (now (values .exit)) k used c r ⌝ }
+    requires { ⌜ Elses (now text) (now code) (now values) k (scope .used) c ⌝ }
+    ensures { λ r. ⌜ Elsed (now (text .entry)) (now (code .entry)) (now (values .entry)) (now (code .exit)) (now (values .exit)) k (scope .used) c r ⌝ }
 {
-    if simple::sort(code, c) != sorts::ELSE {
-        simple::set_word(code, c, PASS, 0, c + 1);
-        return Walked::Upto(c + 1, used);
+    if sort(code, c) != sorts::ELSE {
+        set_word(code, c, PASS, 0, c + 1);
+        return Walked::Upto(c + 1, scope);
     }
-    let r = list(text, code, values, k, used, c + 1);
+    let r = list(text, code, values, k, scope, c + 1);
     let Walked::Upto(z, n) = r else {
         return r;
     };
-    simple::set_word(code, c, PASS, 0, z);
-    simple::set_word(code, z, PASS, 0, z + 1);
+    set_word(code, c, PASS, 0, z);
+    set_word(code, z, PASS, 0, z + 1);
     Walked::Upto(z + 1, n)
 }
 
@@ -289,29 +267,29 @@ fn full_if(
     code: &mut [u8],
     values: &mut [u8],
     k: Setting,
-    used: u32,
+    scope: Scope,
     i: usize,
     first: usize,
 ) -> Walked
-    requires { ⌜ Thens (now text) (now code) (now values) k used i first ⌝ }
-    ensures { λ r. ⌜ Thened (now (text .entry)) (now (code .entry)) (now (values .entry)) (now (code .exit)) (now (values .exit)) k used i first r ⌝ }
+    requires { ⌜ Thens (now text) (now code) (now values) k (scope .used) i first ⌝ }
+    ensures { λ r. ⌜ Thened (now (text .entry)) (now (code .entry)) (now (values .entry)) (now (code .exit)) (now (values .exit)) k (scope .used) i first r ⌝ }
 {
     let mut op = IF;
     let mut c = i;
     let mut t = first;
-    let mut n = used;
+    let mut n = scope;
     loop {
         let r = list(text, code, values, k, n, t + 1);
         let Walked::Upto(e, u) = r else {
             return r;
         };
         arm_end(code, op, c, t, e);
-        if simple::sort(code, e) != sorts::ELSEIF {
+        if sort(code, e) != sorts::ELSEIF {
             let r = else_part(text, code, values, k, u, e);
             let Walked::Upto(z, v) = r else {
                 return r;
             };
-            simple::set_link(code, i, z);
+            set_link(code, i, z);
             return Walked::Upto(z, v);
         }
         let j = expressions::of_type(code, values, false, true, e + 1);
@@ -332,33 +310,25 @@ fn if_statement(
     code: &mut [u8],
     values: &mut [u8],
     k: Setting,
-    used: u32,
+    scope: Scope,
     i: usize,
 ) -> Walked
-    requires { ⌜ Begins IF (now text) (now code) (now values) k used i ⌝ }
-    ensures { λ r. ⌜ Begun IF (now (text .entry)) (now (code .entry)) (now (values .entry)) (now (code .exit)) (now (values .exit)) k used i r ⌝ }
+    requires { ⌜ Begins IF (now text) (now code) (now values) k (scope .used) i ⌝ }
+    ensures { λ r. ⌜ Begun IF (now (text .entry)) (now (code .entry)) (now (values .entry)) (now (code .exit)) (now (values .exit)) k (scope .used) i r ⌝ }
 {
     let j = expressions::of_type(code, values, false, true, i + 1);
     match j {
         Judged::Faulty(number, word) => Walked::Faulty(number, word),
         Judged::Typed(_, t) => {
-            if simple::sort(code, t) != sorts::THEN {
-                return compact_if(text, code, values, k, used, i, t);
+            if sort(code, t) != sorts::THEN {
+                return compact_if(text, code, values, k, scope, i, t);
             }
-            full_if(text, code, values, k, used, i, t)
+            full_if(text, code, values, k, scope, i, t)
         }
     }
 }
 
 // ---- TEST
-
-// A number as a head holds it.
-fn held(v: i64) -> u32
-    requires { ⌜ InNum v ⌝ }
-    ensures { λ r. ⌜ Held v r ⌝ }
-{
-    (v + BIAS) as u32
-}
 
 // The values of one CASE, from its word on, each in the word before it; the colon behind them.
 fn case_values(code: &mut [u8], values: &[u8], c: usize) -> Judged
@@ -372,8 +342,8 @@ fn case_values(code: &mut [u8], values: &[u8], c: usize) -> Judged
         match v {
             Valued::Faulty(number, word) => return Judged::Faulty(number, word),
             Valued::Value(v, n) => {
-                simple::set_word(code, w, op, held(v), n);
-                if simple::sort(code, n) != sorts::COMMA {
+                set_word(code, w, op, constants::held(v), n);
+                if sort(code, n) != sorts::COMMA {
                     return Judged::Typed(false, n);
                 }
                 w = n;
@@ -393,10 +363,10 @@ fn link_values(code: &mut [u8], c: usize, colon: usize, next: usize)
         let h = cells::get(code, w * 2);
         let n = (cells::get(code, w * 2 + 1) / 65536) as usize;
         if n == colon {
-            rewrite(code, w, h, (colon + 1) as u32, next);
+            rewrite(code, w, h, colon + 1, next);
             return;
         }
-        rewrite(code, w, h, (colon + 1) as u32, n);
+        rewrite(code, w, h, colon + 1, n);
         w = n;
     }
 }
@@ -407,22 +377,22 @@ fn default(
     code: &mut [u8],
     values: &mut [u8],
     k: Setting,
-    used: u32,
+    scope: Scope,
     c: usize,
 ) -> Walked
-    requires { ⌜ Defaults (now text) (now code) (now values) k used c ⌝ }
-    ensures { λ r. ⌜ Defaulted (now (text .entry)) (now (code .entry)) (now (values .entry)) (now (code .exit)) (now (values .exit)) k used c r ⌝ }
+    requires { ⌜ Defaults (now text) (now code) (now values) k (scope .used) c ⌝ }
+    ensures { λ r. ⌜ Defaulted (now (text .entry)) (now (code .entry)) (now (values .entry)) (now (code .exit)) (now (values .exit)) k (scope .used) c r ⌝ }
 {
-    if simple::sort(code, c) != sorts::DEFAULT {
-        rewrite(code, c, OTHERWISE, (c + 1) as u32, c + 1);
-        return Walked::Upto(c + 1, used);
+    if sort(code, c) != sorts::DEFAULT {
+        rewrite(code, c, OTHERWISE, c + 1, c + 1);
+        return Walked::Upto(c + 1, scope);
     }
-    let r = list(text, code, values, k, used, c + 2);
+    let r = list(text, code, values, k, scope, c + 2);
     let Walked::Upto(z, n) = r else {
         return r;
     };
-    rewrite(code, c, OTHERWISE, (c + 2) as u32, z);
-    simple::set_word(code, z, PASS, 0, z + 1);
+    rewrite(code, c, OTHERWISE, c + 2, z);
+    set_word(code, z, PASS, 0, z + 1);
     Walked::Upto(z + 1, n)
 }
 
@@ -432,16 +402,16 @@ fn cases(
     code: &mut [u8],
     values: &mut [u8],
     k: Setting,
-    used: u32,
+    scope: Scope,
     first: usize,
 ) -> Walked
-    requires { ⌜ Chooses (now text) (now code) (now values) k used first ⌝ }
-    ensures { λ r. ⌜ Chosen (now (text .entry)) (now (code .entry)) (now (values .entry)) (now (code .exit)) (now (values .exit)) k used first r ⌝ }
+    requires { ⌜ Chooses (now text) (now code) (now values) k (scope .used) first ⌝ }
+    ensures { λ r. ⌜ Chosen (now (text .entry)) (now (code .entry)) (now (values .entry)) (now (code .exit)) (now (values .exit)) k (scope .used) first r ⌝ }
 {
     let mut c = first;
-    let mut n = used;
+    let mut n = scope;
     loop {
-        if simple::sort(code, c) != sorts::CASE {
+        if sort(code, c) != sorts::CASE {
             return default(text, code, values, k, n, c);
         }
         let j = case_values(code, values, c);
@@ -453,7 +423,7 @@ fn cases(
                     return r;
                 };
                 // where a list goes on that ends at this CASE is found behind it
-                simple::set_word(code, c + 1, PASS, 0, e);
+                set_word(code, c + 1, PASS, 0, e);
                 link_values(code, c, colon, e);
                 c = e;
                 n = u;
@@ -467,21 +437,21 @@ fn test_statement(
     code: &mut [u8],
     values: &mut [u8],
     k: Setting,
-    used: u32,
+    scope: Scope,
     i: usize,
 ) -> Walked
-    requires { ⌜ Begins TEST (now text) (now code) (now values) k used i ⌝ }
-    ensures { λ r. ⌜ Begun TEST (now (text .entry)) (now (code .entry)) (now (values .entry)) (now (code .exit)) (now (values .exit)) k used i r ⌝ }
+    requires { ⌜ Begins TEST (now text) (now code) (now values) k (scope .used) i ⌝ }
+    ensures { λ r. ⌜ Begun TEST (now (text .entry)) (now (code .entry)) (now (values .entry)) (now (code .exit)) (now (values .exit)) k (scope .used) i r ⌝ }
 {
     let j = expressions::of_type(code, values, false, false, i + 1);
     match j {
         Judged::Faulty(number, word) => Walked::Faulty(number, word),
         Judged::Typed(_, c) => {
-            let r = cases(text, code, values, k, used, c);
+            let r = cases(text, code, values, k, scope, c);
             let Walked::Upto(z, n) = r else {
                 return r;
             };
-            simple::set_word(code, i, TEST, c as u32, z);
+            set_word(code, i, TEST, c as u32, z);
             Walked::Upto(z, n)
         }
     }
@@ -494,16 +464,16 @@ fn simple_statement(
     code: &mut [u8],
     values: &[u8],
     k: Setting,
-    used: u32,
+    scope: Scope,
     i: usize,
 ) -> Walked
-    requires { ⌜ Plain (now text) (now code) (now values) k used i ⌝ }
-    ensures { λ r. ⌜ Plainly (now (text .entry)) (now (code .entry)) (now (values .entry)) (now (code .exit)) k used i r ⌝ }
+    requires { ⌜ Plain (now text) (now code) (now values) k (scope .used) i ⌝ }
+    ensures { λ r. ⌜ Plainly (now (text .entry)) (now (code .entry)) (now (values .entry)) (now (code .exit)) k (scope .used) i r ⌝ }
 {
     let j = simple::statement(text, code, values, k, i);
     match j {
         Judged::Faulty(number, word) => Walked::Faulty(number, word),
-        Judged::Typed(_, n) => Walked::Upto(n, used),
+        Judged::Typed(_, n) => Walked::Upto(n, scope),
     }
 }
 
@@ -512,26 +482,26 @@ fn statement(
     code: &mut [u8],
     values: &mut [u8],
     k: Setting,
-    used: u32,
+    scope: Scope,
     i: usize,
 ) -> Walked
-    requires { ⌜ Stands (now text) (now code) (now values) k used i ⌝ }
-    ensures { λ r. ⌜ Stated (now (text .entry)) (now (code .entry)) (now (values .entry)) (now (code .exit)) (now (values .exit)) k used i r ⌝ }
+    requires { ⌜ Stands (now text) (now code) (now values) k (scope .used) i ⌝ }
+    ensures { λ r. ⌜ Stated (now (text .entry)) (now (code .entry)) (now (values .entry)) (now (code .exit)) (now (values .exit)) k (scope .used) i r ⌝ }
 {
-    let s = simple::sort(code, i);
+    let s = sort(code, i);
     if s == sorts::IF {
-        return if_statement(text, code, values, k, used, i);
+        return if_statement(text, code, values, k, scope, i);
     }
     if s == sorts::FOR {
-        return for_statement(text, code, values, k, used, i);
+        return for_statement(text, code, values, k, scope, i);
     }
     if s == sorts::WHILE {
-        return while_statement(text, code, values, k, used, i);
+        return while_statement(text, code, values, k, scope, i);
     }
     if s == sorts::TEST {
-        return test_statement(text, code, values, k, used, i);
+        return test_statement(text, code, values, k, scope, i);
     }
-    simple_statement(text, code, values, k, used, i)
+    simple_statement(text, code, values, k, scope, i)
 }
 
 fn starts_statement(s: u32) -> bool
@@ -560,16 +530,16 @@ pub fn list(
     code: &mut [u8],
     values: &mut [u8],
     k: Setting,
-    used: u32,
+    scope: Scope,
     at: usize,
 ) -> Walked
-    requires { ⌜ Lists (now text) (now code) (now values) k used at ⌝ }
-    ensures { λ r. ⌜ Listed (now (text .entry)) (now (code .entry)) (now (values .entry)) (now (code .exit)) (now (values .exit)) k used at r ⌝ }
+    requires { ⌜ Lists (now text) (now code) (now values) k (scope .used) at ⌝ }
+    ensures { λ r. ⌜ Listed (now (text .entry)) (now (code .entry)) (now (values .entry)) (now (code .exit)) (now (values .exit)) k (scope .used) at r ⌝ }
 {
     let mut i = at;
-    let mut n = used;
+    let mut n = scope;
     loop {
-        let s = simple::sort(code, i);
+        let s = sort(code, i);
         if starts_statement(s) {
             let r = statement(text, code, values, k, n, i);
             let Walked::Upto(m, u) = r else {

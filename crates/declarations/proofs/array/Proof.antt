@@ -20,8 +20,8 @@ enum-known-c-2 c = search needs
 add-if1 : tie.Need-add-if1
 add-if1 c = let h : c .before .c2 .given .0 .0 ≤ 512 = search (needs, count-most, array-asks) in omega (arith, h)
 
-add-t20 : tie.Need-add-t20
-add-t20 c = search needs
+add-t22 : tie.Need-add-t22
+add-t22 c = search needs
 
 same-length : tie.Need-same-length
 same-length c = search needs
@@ -42,16 +42,13 @@ add-known-2 : tie.Need-add-known-2
 add-known-2 c = let h : c .before .before .before .before .c2 .given .0 .0 ≤ 512 = search (needs, count-most, array-asks) in omega (arith, h)
 
 known-requires : tie.Need-known-requires
-known-requires c κs = let h : c .before .before .before .before .c2 .given .0 .0 ≤ 512 = search (needs, count-most, array-asks) in (search needs, search needs, search needs, search needs, search needs, omega (arith, h))
+known-requires c κs = let h : c .before .before .before .before .c2 .given .0 .0 ≤ 512 = search (needs, count-most, array-asks) in (search needs, search needs, search needs, search needs, search needs, omega (arith, h), omega (arith, h))
 
 start-requires : tie.Need-start-requires
 start-requires c κs = (search needs, search needs, search needs, search needs)
 
-add-t26 : tie.Need-add-t26
-add-t26 c = let h : c .before .before .before .before .before .before .before .before .before .before .before .before .before .before .before .before .c2 .given .0 .1 .0 < 8192 = search (needs, count-next, array-asks) in omega (arith, h)
-
 add-t27 : tie.Need-add-t27
-add-t27 c = search needs
+add-t27 c = let h : c .before .before .before .before .before .before .before .before .before .before .before .before .before .before .before .before .c2 .given .0 .1 .0 < 8192 = search (needs, count-next, array-asks) in omega (arith, h)
 
 same-length-3 : tie.Need-same-length-3
 same-length-3 c = search needs
@@ -70,7 +67,7 @@ same-length-6 c = search needs
 
 returns-3 : tie.Need-returns-3
 returns-3 c =
-    array-goes (c .before .before .before .before .before .before .before .before .before .before .before .before .before .before .before .before .before .before .before .before .before .before .before .before .before .pre .2) _ _ (c .before .before .before .before .before .before .before .before .before .before .before .before .before .before .before .before .before .before .before .before .size .ensures) _ _ (c .before .before .before .before .before .before .before .before .before .before .before .before .before .before .before .before .c2 .given .1) (c .before .before .before .before .before .before .before .before .before .before .before .before .before .before .if1 .left) _ _ _ _ (c .before .before .before .before .before .before .before .before .before .before .before .known .ensures) (c .before .before .before .before .start .ensures)
+    array-goes (c .before .before .before .before .before .before .before .before .before .before .before .before .before .before .before .before .before .before .before .before .before .before .before .before .before .pre .2) _ _ (c .before .before .before .before .before .before .before .before .before .before .before .before .before .before .before .before .before .before .before .before .size .ensures) _ _ (c .before .before .before .before .before .before .before .before .before .before .before .before .before .before .before .before .c2 .given .1) (c .before .before .before .before .before .before .before .before .before .before .before .before .before .before .if1 .left) _ _ _ _ (c .before .before .before .before .before .before .before .before .before .before .before .known .ensures .makes) (c .before .before .before .before .start .ensures) _ (c .before .before .before .before .before .before .before .before .before .before .before .known .ensures .scope-is)
 
 pub array-spec : {M : Type 1} → statement M
 array-spec =
@@ -81,7 +78,7 @@ array-spec =
     enum-known-c
     enum-known-c-2
     add-if1
-    add-t20
+    add-t22
     same-length
     same-length-2
     returns
@@ -90,7 +87,6 @@ array-spec =
     add-known-2
     known-requires
     start-requires
-    add-t26
     add-t27
     same-length-3
     same-length-4

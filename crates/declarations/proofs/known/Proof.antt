@@ -12,20 +12,20 @@ sort-requires c κs = search needs
 type-bit-requires : tie.Need-type-bit-requires
 type-bit-requires c κs = search needs
 
-mul-declare : tie.Need-mul-declare
-mul-declare c = search needs
+mul-m : tie.Need-mul-m
+mul-m c = search needs
 
-add-declare : tie.Need-add-declare
-add-declare c = search needs
+add-m : tie.Need-add-m
+add-m c = search needs
 
-add-declare-2 : tie.Need-add-declare-2
-add-declare-2 c = search needs
+add-m-2 : tie.Need-add-m-2
+add-m-2 c = search needs
 
-mul-declare-2 : tie.Need-mul-declare-2
-mul-declare-2 c = search needs
+mul-m-2 : tie.Need-mul-m-2
+mul-m-2 c = search needs
 
-add-declare-3 : tie.Need-add-declare-3
-add-declare-3 c = search needs
+add-m-3 : tie.Need-add-m-3
+add-m-3 c = search needs
 
 declare-requires : tie.Need-declare-requires
 declare-requires c κs = search needs
@@ -46,11 +46,11 @@ known-spec =
     sub-sort
     sort-requires
     type-bit-requires
-    mul-declare
-    add-declare
-    add-declare-2
-    mul-declare-2
-    add-declare-3
+    mul-m
+    add-m
+    add-m-2
+    mul-m-2
+    add-m-3
     declare-requires
     same-length
     same-length-2

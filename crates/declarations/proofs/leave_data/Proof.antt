@@ -7,10 +7,10 @@ use Rattle.declarations.proofs.leave_data.Statement.{statement}
 use Rattle.declarations.proofs.leave_data.Tie as tie
 
 abbrev Inv-loop : tie.InvT-loop
-Inv-loop code values₀ head i₀ values i = DataLeft code values₀ head values i
+Inv-loop code values₀ head own₀ i₀ values own i = DataLeft own₀ own code values₀ head values i
 
 abbrev μ-loop : tie.MeasureT-loop
-μ-loop code values₀ head i₀ values i = chainLength (wordsOf code) 8192 i
+μ-loop code values₀ head own₀ i₀ values own i = chainLength (wordsOf code) 8192 i
 
 link-requires : tie.Need-link-requires Inv-loop μ-loop
 link-requires c κs = search (needs, head-room)
@@ -22,7 +22,7 @@ sort-requires : tie.Need-sort-requires Inv-loop μ-loop
 sort-requires c κs = search (needs, datum-room)
 
 add-leave : tie.Need-add-leave Inv-loop μ-loop
-add-leave c = let h = name-near _ _ _ _ _ (c .before .before .before .loop .inv) _ (c .before .before .sort .ensures) (c .before .before .before .before .before .before .before .pre) (c .before .if1 .taken) in omega (arith, h)
+add-leave c = let h = name-near _ _ _ _ _ _ _ (c .before .before .before .loop .inv) _ (c .before .before .sort .ensures) (c .before .before .before .before .before .before .before .pre) (c .before .if1 .taken) in omega (arith, h)
 
 leave-requires : tie.Need-leave-requires Inv-loop μ-loop
 leave-requires c κs = (search (needs, name-room), search (needs, name-table), search (needs, name-links))

@@ -6,22 +6,22 @@ use Rattle.declarations.proofs.leave_parameters.Statement.{statement}
 use Rattle.declarations.proofs.leave_parameters.Tie as tie
 
 abbrev Inv-loop : tie.InvT-loop
-Inv-loop code values₀ first count at₀ left₀ values at left = ParametersLeft code values₀ first count values at left
+Inv-loop code values₀ first count own₀ at₀ left₀ values own at left = ParametersLeft own₀ own code values₀ first count values at left
 
 abbrev μ-loop : tie.MeasureT-loop
-μ-loop code values₀ first count at₀ left₀ values at left = left
+μ-loop code values₀ first count own₀ at₀ left₀ values own at left = left
 
 loop-holds : tie.Need-loop-holds Inv-loop μ-loop
 loop-holds c = search (needs, parameters-kept)
 
 add-leave : tie.Need-add-leave Inv-loop μ-loop
-add-leave c = let h = leave-near _ _ _ _ _ _ _ (c .before .before .loop .inv) (c .before .before .before .before .before .pre) (c .before .loop-test .taken) in omega (arith, h)
+add-leave c = let h = leave-near _ _ _ _ _ _ _ _ _ (c .before .before .loop .inv) (c .before .before .before .before .before .pre) (c .before .loop-test .taken) in omega (arith, h)
 
 leave-requires : tie.Need-leave-requires Inv-loop μ-loop
 leave-requires c κs = (search (needs, leave-room), search (needs, leave-table), search (needs, leave-links))
 
 add-at : tie.Need-add-at Inv-loop μ-loop
-add-at c = let h = leave-near _ _ _ _ _ _ _ (c .before .before .before .before .before .loop .inv) (c .before .before .before .before .before .before .before .before .pre) (c .before .before .before .before .loop-test .taken) in omega (arith, h)
+add-at c = let h = leave-near _ _ _ _ _ _ _ _ _ (c .before .before .before .before .before .loop .inv) (c .before .before .before .before .before .before .before .before .pre) (c .before .before .before .before .loop-test .taken) in omega (arith, h)
 
 sub-left : tie.Need-sub-left Inv-loop μ-loop
 sub-left c = search needs

@@ -6,10 +6,10 @@ use Rattle.declarations.proofs.module_data.Statement.{statement}
 use Rattle.declarations.proofs.module_data.Tie as tie
 
 abbrev Inv-loop : tie.InvT-loop
-Inv-loop code₀ values₀ at i₀ used₀ code values i used = ModuleWalk code₀ values₀ at code values i used
+Inv-loop code₀ values₀ at i₀ scope₀ code values i scope = ModuleWalk code₀ values₀ at code values i (scope .used)
 
 abbrev μ-loop : tie.MeasureT-loop
-μ-loop code₀ values₀ at i₀ used₀ code values i used = 8192 - i
+μ-loop code₀ values₀ at i₀ scope₀ code values i scope = 8192 - i
 
 loop-holds : tie.Need-loop-holds Inv-loop μ-loop
 loop-holds c = search (needs, module-begun)

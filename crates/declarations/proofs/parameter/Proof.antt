@@ -9,8 +9,8 @@ add-is-taken c = search needs
 is-taken-requires : tie.Need-is-taken-requires
 is-taken-requires c κs = search needs
 
-add-t11 : tie.Need-add-t11
-add-t11 c = search needs
+add-t13 : tie.Need-add-t13
+add-t13 c = search needs
 
 same-length : tie.Need-same-length
 same-length c = search needs
@@ -21,8 +21,8 @@ same-length-2 c = search needs
 returns : tie.Need-returns
 returns c = search (needs, parameter-taken)
 
-add-t13 : tie.Need-add-t13
-add-t13 c = search needs
+add-t15 : tie.Need-add-t15
+add-t15 c = search needs
 
 same-length-3 : tie.Need-same-length-3
 same-length-3 c = search needs
@@ -39,17 +39,17 @@ add-known c = search needs
 known-requires : tie.Need-known-requires
 known-requires c κs = search needs
 
+cast-fill : tie.Need-cast-fill
+cast-fill c = search needs
+
 add-fill : tie.Need-add-fill
 add-fill c = search needs
 
 fill-requires : tie.Need-fill-requires
 fill-requires c κs = search needs
 
-add-t10 : tie.Need-add-t10
-add-t10 c = search needs
-
-add-t22 : tie.Need-add-t22
-add-t22 c = search needs
+add-t12 : tie.Need-add-t12
+add-t12 c = search needs
 
 same-length-5 : tie.Need-same-length-5
 same-length-5 c = search needs
@@ -66,20 +66,20 @@ parameter-spec =
     (tie.spec
     add-is-taken
     is-taken-requires
-    add-t11
+    add-t13
     same-length
     same-length-2
     returns
-    add-t13
+    add-t15
     same-length-3
     same-length-4
     returns-2
     add-known
     known-requires
+    cast-fill
     add-fill
     fill-requires
-    add-t10
-    add-t22
+    add-t12
     same-length-5
     same-length-6
     returns-3)

@@ -6,10 +6,10 @@ use Rattle.declarations.proofs.parameters.Statement.{statement}
 use Rattle.declarations.proofs.parameters.Tie as tie
 
 abbrev Inv-loop : tie.InvT-loop
-Inv-loop code₀ values₀ at i₀ used₀ code values i used = ParametersWalk code₀ values₀ at code values i used
+Inv-loop code₀ values₀ at i₀ scope₀ code values i scope = ParametersWalk code₀ values₀ at code values i (scope .used)
 
 abbrev μ-loop : tie.MeasureT-loop
-μ-loop code₀ values₀ at i₀ used₀ code values i used = 8192 - i
+μ-loop code₀ values₀ at i₀ scope₀ code values i scope = 8192 - i
 
 sort-requires : tie.Need-sort-requires Inv-loop μ-loop
 sort-requires c κs = search (needs, parameters-room)

@@ -6,10 +6,10 @@ use Rattle.declarations.proofs.routine_data.Statement.{statement}
 use Rattle.declarations.proofs.routine_data.Tie as tie
 
 abbrev Inv-loop : tie.InvT-loop
-Inv-loop code₀ values₀ opens head before at i₀ used₀ last₀ code values i used last = RoutineWalk code₀ values₀ head before at code values i used last
+Inv-loop code₀ values₀ opens head at i₀ scope₀ last₀ code values i scope last = RoutineWalk code₀ values₀ head (scope₀ .used) at code values i (scope .used) last
 
 abbrev μ-loop : tie.MeasureT-loop
-μ-loop code₀ values₀ opens head before at i₀ used₀ last₀ code values i used last = 8192 - i
+μ-loop code₀ values₀ opens head at i₀ scope₀ last₀ code values i scope last = 8192 - i
 
 loop-holds : tie.Need-loop-holds Inv-loop μ-loop
 loop-holds c = search (needs, routine-begun)

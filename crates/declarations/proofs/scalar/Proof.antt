@@ -3,8 +3,8 @@ use Rattle.declarations.proofs.Scalars.{op-low, scalar-asks, scalar-fit
 use Rattle.declarations.proofs.scalar.Statement.{statement}
 use Rattle.declarations.proofs.scalar.Tie as tie
 
-add-t11 : tie.Need-add-t11
-add-t11 c = search needs
+add-t13 : tie.Need-add-t13
+add-t13 c = search needs
 
 returns : tie.Need-returns
 returns c = search (needs, scalar-crosses)
@@ -25,16 +25,13 @@ add-known : tie.Need-add-known
 add-known c = search needs
 
 known-requires : tie.Need-known-requires
-known-requires c κs = (search needs, search needs, search needs, search (needs, op-low), search needs, search needs)
+known-requires c κs = (search needs, search needs, search needs, search (needs, op-low), search needs, search needs, search needs)
 
 start-requires : tie.Need-start-requires
 start-requires c κs = search needs
 
-add-t23 : tie.Need-add-t23
-add-t23 c = search needs
-
-add-t28 : tie.Need-add-t28
-add-t28 c = search needs
+add-t24 : tie.Need-add-t24
+add-t24 c = search needs
 
 same-length : tie.Need-same-length
 same-length c = search needs
@@ -76,7 +73,7 @@ pub scalar-spec : {M : Type 1} → statement M
 scalar-spec =
     tie.close
     (tie.spec
-    add-t11
+    add-t13
     returns
     sort-requires
     scalar-op-requires
@@ -85,8 +82,7 @@ scalar-spec =
     add-known
     known-requires
     start-requires
-    add-t23
-    add-t28
+    add-t24
     same-length
     same-length-2
     returns-2

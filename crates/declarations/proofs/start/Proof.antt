@@ -13,8 +13,14 @@ add-fill c = omega (arith, base-small _ _ (c .base-of .ensures))
 fill-requires : tie.Need-fill-requires
 fill-requires c κs = let h = base-small _ _ (c .base-of .ensures) in (omega (arith, h), omega (arith, h))
 
-set-datum-requires : tie.Need-set-datum-requires
-set-datum-requires c κs = search needs
+mul-rewrite : tie.Need-mul-rewrite
+mul-rewrite c = search needs
+
+add-rewrite : tie.Need-add-rewrite
+add-rewrite c = search needs
+
+rewrite-requires : tie.Need-rewrite-requires
+rewrite-requires c κs = search needs
 
 same-length : tie.Need-same-length
 same-length c = search needs
@@ -38,7 +44,9 @@ start-spec =
     base-of-requires
     add-fill
     fill-requires
-    set-datum-requires
+    mul-rewrite
+    add-rewrite
+    rewrite-requires
     same-length
     same-length-2
     returns

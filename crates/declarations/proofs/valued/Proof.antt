@@ -20,17 +20,14 @@ known-requires c κs = search needs
 word-of-requires : tie.Need-word-of-requires
 word-of-requires c κs = search (needs, fit-read)
 
-held-of-requires : tie.Need-held-of-requires
-held-of-requires c κs = search (needs, fit-read)
+held-requires : tie.Need-held-requires
+held-requires c κs = search (needs, fit-read)
 
 start-requires : tie.Need-start-requires
 start-requires c κs = search needs
 
-add-t18 : tie.Need-add-t18
-add-t18 c = let h : c .before .before .before .before .before .before .before .before .before .before .before .before .before .before .before .before .before .c2 .given .0 .1 .0 < 8192 = search (needs, fit-next) in omega (arith, h)
-
-add-t24 : tie.Need-add-t24
-add-t24 c = search needs
+add-t19 : tie.Need-add-t19
+add-t19 c = let h : c .before .before .before .before .before .before .before .before .before .before .before .before .before .before .before .before .before .c2 .given .0 .1 .0 < 8192 = search (needs, fit-next) in omega (arith, h)
 
 returns : tie.Need-returns
 returns c = search (needs, placing-faulty)
@@ -53,10 +50,9 @@ valued-spec =
     add-known
     known-requires
     word-of-requires
-    held-of-requires
+    held-requires
     start-requires
-    add-t18
-    add-t24
+    add-t19
     returns
     same-length
     same-length-2

@@ -25,7 +25,7 @@ use Rattle.expressions.proofs.literal.Reads as literal-reads
 use Rattle.expressions.proofs.nested.Reads as nested-reads
 use Rattle.expressions.proofs.plain.Reads as plain-reads
 use Rattle.expressions.proofs.signed.Reads as signed-reads
-use Rattle.expressions.proofs.sort.Reads as sort-reads
+use Rattle.store.proofs.sort.Reads as sort-reads
 use Rattle.names.proofs.meaning.Reads as meaning-reads
 use Rattle.expressions.proofs.+begin+expression.{statement}
 use Rattle.expressions.proofs.+begin+expression.Tie.{close}

@@ -1,6 +1,5 @@
--- `heads::main_of` meets its contract.
-use Rattle.heads.proofs.Leaves.{main-none, main-function, main-asks, main-found}
 use borrow.Author.Needs.{needs}
+use Rattle.heads.proofs.Leaves.{main-none, main-function, main-asks, main-found}
 use Rattle.heads.proofs.main_of.Statement.{statement}
 use Rattle.heads.proofs.main_of.Tie as tie
 
@@ -13,18 +12,15 @@ sort-requires c κs = search needs
 returns-2 : tie.Need-returns-2
 returns-2 c = search (needs, main-function)
 
-mul-get : tie.Need-mul-get
-mul-get c = search needs
-
-get-requires : tie.Need-get-requires
-get-requires c κs = search needs
+value-requires : tie.Need-value-requires
+value-requires c κs = search needs
 
 returns-3 : tie.Need-returns-3
 returns-3 c = search (needs, main-asks)
 
 returns-4 : tie.Need-returns-4
-returns-4 c = main-found _ _ (c .before .before .before .before .if1 .left) _ (c .before .before .before .sort .ensures) (c .before .before .if2 .left) _ (c .before .get .ensures) (c .if3 .left)
+returns-4 c = search (needs, main-found)
 
 pub main-of-spec : {M : Type 1} → statement M
 main-of-spec =
-    tie.close (tie.spec returns sort-requires returns-2 mul-get get-requires returns-3 returns-4)
+    tie.close (tie.spec returns sort-requires returns-2 value-requires returns-3 returns-4)

@@ -19,8 +19,8 @@ beyond-requires c κs = search needs
 returns-3 : tie.Need-returns-3
 returns-3 c = search (needs, link-goes-other)
 
-op-at-requires : tie.Need-op-at-requires
-op-at-requires c κs = search needs
+sort-requires : tie.Need-sort-requires
+sort-requires c κs = search needs
 
 returns-4 : tie.Need-returns-4
 returns-4 c = search (needs, link-to-else)
@@ -40,7 +40,7 @@ led-link-spec =
     returns-2
     beyond-requires
     returns-3
-    op-at-requires
+    sort-requires
     returns-4
     beyond-requires-2
     returns-5)

@@ -40,26 +40,26 @@ part-find-end c = search needs
 find-requires : tie.Need-find-requires
 find-requires c κs = search (needs, name-chain)
 
-sub-put-cells : tie.Need-sub-put-cells
-sub-put-cells c = search needs
+sub-rewrite : tie.Need-sub-rewrite
+sub-rewrite c = search needs
 
-mul-put-cells : tie.Need-mul-put-cells
-mul-put-cells c = search needs
+mul-rewrite : tie.Need-mul-rewrite
+mul-rewrite c = search needs
 
-add-put-cells : tie.Need-add-put-cells
-add-put-cells c = search needs
+add-rewrite : tie.Need-add-rewrite
+add-rewrite c = search needs
 
-cast-put-cells : tie.Need-cast-put-cells
-cast-put-cells c = search needs
+cast-rewrite : tie.Need-cast-rewrite
+cast-rewrite c = search needs
 
-mul-put-cells-2 : tie.Need-mul-put-cells-2
-mul-put-cells-2 c = search needs
+mul-rewrite-2 : tie.Need-mul-rewrite-2
+mul-rewrite-2 c = search needs
 
-add-put-cells-2 : tie.Need-add-put-cells-2
-add-put-cells-2 c = search needs
+add-rewrite-2 : tie.Need-add-rewrite-2
+add-rewrite-2 c = search needs
 
-put-cells-requires : tie.Need-put-cells-requires
-put-cells-requires c κs = search needs
+rewrite-requires : tie.Need-rewrite-requires
+rewrite-requires c κs = search needs
 
 same-length : tie.Need-same-length
 same-length c = search needs
@@ -82,23 +82,23 @@ part-protected-end c = search needs
 protected-requires : tie.Need-protected-requires
 protected-requires c κs = search needs
 
-mul-put-cells-3 : tie.Need-mul-put-cells-3
-mul-put-cells-3 c = search needs
+mul-rewrite-3 : tie.Need-mul-rewrite-3
+mul-rewrite-3 c = search needs
 
-add-put-cells-3 : tie.Need-add-put-cells-3
-add-put-cells-3 c = search needs
+add-rewrite-3 : tie.Need-add-rewrite-3
+add-rewrite-3 c = search needs
 
-cast-put-cells-2 : tie.Need-cast-put-cells-2
-cast-put-cells-2 c = search needs
+cast-rewrite-2 : tie.Need-cast-rewrite-2
+cast-rewrite-2 c = search needs
 
-mul-put-cells-4 : tie.Need-mul-put-cells-4
-mul-put-cells-4 c = search needs
+mul-rewrite-4 : tie.Need-mul-rewrite-4
+mul-rewrite-4 c = search needs
 
-add-put-cells-4 : tie.Need-add-put-cells-4
-add-put-cells-4 c = search needs
+add-rewrite-4 : tie.Need-add-rewrite-4
+add-rewrite-4 c = search needs
 
-put-cells-requires-2 : tie.Need-put-cells-requires-2
-put-cells-requires-2 c κs = search needs
+rewrite-requires-2 : tie.Need-rewrite-requires-2
+rewrite-requires-2 c κs = search needs
 
 add-put : tie.Need-add-put
 add-put c = search needs
@@ -140,13 +140,13 @@ load-name-spec =
     part-find-start
     part-find-end
     find-requires
-    sub-put-cells
-    mul-put-cells
-    add-put-cells
-    cast-put-cells
-    mul-put-cells-2
-    add-put-cells-2
-    put-cells-requires
+    sub-rewrite
+    mul-rewrite
+    add-rewrite
+    cast-rewrite
+    mul-rewrite-2
+    add-rewrite-2
+    rewrite-requires
     same-length
     same-length-2
     returns
@@ -154,12 +154,12 @@ load-name-spec =
     part-protected-start
     part-protected-end
     protected-requires
-    mul-put-cells-3
-    add-put-cells-3
-    cast-put-cells-2
-    mul-put-cells-4
-    add-put-cells-4
-    put-cells-requires-2
+    mul-rewrite-3
+    add-rewrite-3
+    cast-rewrite-2
+    mul-rewrite-4
+    add-rewrite-4
+    rewrite-requires-2
     add-put
     cast-put
     put-requires

@@ -19,14 +19,14 @@ returns c = search needs
 value-of-requires : tie.Need-value-of-requires
 value-of-requires c κs = search needs
 
-mul-put-cells : tie.Need-mul-put-cells
-mul-put-cells c = search needs
+mul-rewrite : tie.Need-mul-rewrite
+mul-rewrite c = search needs
 
-add-put-cells : tie.Need-add-put-cells
-add-put-cells c = search needs
+add-rewrite : tie.Need-add-rewrite
+add-rewrite c = search needs
 
-put-cells-requires : tie.Need-put-cells-requires
-put-cells-requires c κs = search needs
+rewrite-requires : tie.Need-rewrite-requires
+rewrite-requires c κs = search needs
 
 same-length-3 : tie.Need-same-length-3
 same-length-3 c = search needs
@@ -43,8 +43,8 @@ load-word-spec =
     same-length-2
     returns
     value-of-requires
-    mul-put-cells
-    add-put-cells
-    put-cells-requires
+    mul-rewrite
+    add-rewrite
+    rewrite-requires
     same-length-3
     returns-2)

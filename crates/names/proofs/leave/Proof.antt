@@ -1,29 +1,16 @@
--- `names::leave` meets its contract.
-use Rattle.names.proofs.Rewriting.{left}
 use borrow.Author.Needs.{needs}
+use Rattle.names.proofs.Answering.{left}
 use Rattle.names.proofs.leave.Statement.{statement}
 use Rattle.names.proofs.leave.Tie as tie
 
-mul-get : tie.Need-mul-get
-mul-get c = search needs
-
-add-get : tie.Need-add-get
-add-get c = search needs
-
-get-requires : tie.Need-get-requires
-get-requires c κs = search needs
-
-cast-n : tie.Need-cast-n
-cast-n c = search needs
+link-requires : tie.Need-link-requires
+link-requires c κs = search needs
 
 add-put : tie.Need-add-put
 add-put c = search needs
 
-mul-get-2 : tie.Need-mul-get-2
-mul-get-2 c = search needs
-
-get-requires-2 : tie.Need-get-requires-2
-get-requires-2 c κs = search needs
+head-requires : tie.Need-head-requires
+head-requires c κs = search needs
 
 put-requires : tie.Need-put-requires
 put-requires c κs = search needs
@@ -36,15 +23,4 @@ returns c = search (needs, left)
 
 pub leave-spec : {M : Type 1} → statement M
 leave-spec =
-    tie.close
-    (tie.spec
-    mul-get
-    add-get
-    get-requires
-    cast-n
-    add-put
-    mul-get-2
-    get-requires-2
-    put-requires
-    same-length
-    returns)
+    tie.close (tie.spec link-requires add-put head-requires put-requires same-length returns)

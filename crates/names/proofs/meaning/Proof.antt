@@ -1,6 +1,5 @@
--- `names::meaning` meets its contract.
-use Rattle.names.proofs.Rewriting.{meant}
 use borrow.Author.Needs.{needs}
+use Rattle.names.proofs.Answering.{meant}
 use Rattle.names.proofs.meaning.Statement.{statement}
 use Rattle.names.proofs.meaning.Tie as tie
 

@@ -8,11 +8,11 @@ use Rattle.statements.proofs.Elses.{else-room, else-lists, else-closes,
 use Rattle.statements.proofs.Arms.{Armings, arms-begin, arm-lists, arm-values, arm-long-so, arm-after, arm-wide, arm-place, arm-closes, arm-long, arm-elses, arm-ends, arm-condition, arm-less, arm-list-wrong, arm-else-wrong, arms-finished, arm-wrong, arms-go}
 use Rattle.statements.proofs.Ifs.{if-condition, if-room, if-forward, if-compacts, if-thens, if-wrong, if-compact, if-full}
 use mathlib.Core.Path.{refl}
-use Rattle.statements.proofs.Fors.{for-heads, for-declares, for-spare, for-lists, for-closes, for-leaves, for-wrong, for-list-wrong, for-long, for-finished}
+use Rattle.statements.proofs.Fors.{for-heads, for-declares, for-spare, for-lists, for-listed, for-closes, for-leaves, for-wrong, for-list-wrong, for-long, for-finished}
 use Rattle.statements.proofs.Defaulting.{default-room, default-lists, default-closes, default-no, default-wrong, default-yes}
 use Rattle.statements.proofs.Choosing.{Casings, cases-begin, case-room, case-long, case-values-long, case-defaults, case-values-stand, case-lists, case-colon, case-closes, case-links, cases-finished, case-wrong, case-list-wrong, cases-go}
 use Rattle.statements.proofs.Tests.{test-selector, test-chooses, test-forward, test-room, test-wrong, test-cases-wrong, test-finished}
-use Rattle.names.proofs.Rewriting.{rewritten-length}
+use Rattle.store.proofs.Rewriting.{rewritten-length}
 use Prim.Native.Nat.{ℕ, _<_}
 use borrow.Fn.Kinds.{In}
 use borrow.Fn.PlainCycle.{Measures, is, falls, and}
@@ -47,18 +47,18 @@ use Rattle.statements.proofs.while_statement.Reads as while-statement
 use Rattle.statements.proofs.while_statement.Kinds as while-statement-kinds
 use Rattle.statements.proofs.+cases+default+else_part+for_statement+full_if+if_statement+list+statement+test_statement+while_statement.Lts-while_statement as while-statement-lts
 use Rattle.expressions.proofs.of_type.Reads as of-type-reads
-use Rattle.names.proofs.declare.Reads as declare-reads
-use Rattle.names.proofs.leave.Reads as leave-reads
-use Rattle.simple.proofs.set_link.Reads as set-link-reads
-use Rattle.simple.proofs.set_word.Reads as set-word-reads
-use Rattle.simple.proofs.sort.Reads as sort-reads
+use Rattle.names.proofs.Scope.enter.Reads as enter-reads
+use Rattle.names.proofs.Scope.leave.Reads as leave-reads
+use Rattle.store.proofs.set_link.Reads as set-link-reads
+use Rattle.store.proofs.set_word.Reads as set-word-reads
+use Rattle.store.proofs.sort.Reads as sort-reads
 use Rattle.statements.proofs.arm_end.Reads as arm-end-reads
 use Rattle.statements.proofs.case_values.Reads as case-values-reads
 use Rattle.statements.proofs.compact_if.Reads as compact-if-reads
 use Rattle.statements.proofs.for_end.Reads as for-end-reads
 use Rattle.statements.proofs.for_head.Reads as for-head-reads
 use Rattle.statements.proofs.link_values.Reads as link-values-reads
-use Rattle.statements.proofs.rewrite.Reads as rewrite-reads
+use Rattle.store.proofs.rewrite.Reads as rewrite-reads
 use Rattle.statements.proofs.simple_statement.Reads as simple-statement-reads
 use Rattle.statements.proofs.starts_statement.Reads as starts-statement-reads
 use Rattle.statements.proofs.while_end.Reads as while-end-reads
@@ -204,7 +204,7 @@ abbrev calls-else-part : ℕ → else-part-lts.Claims
 calls-else-part t = (sort-reads.Asked, sort-reads.Learnt, set-word-reads.Asked, set-word-reads.Learnt, list-below t, list.Post)
 
 abbrev calls-for-statement : ℕ → for-statement-lts.Claims
-calls-for-statement t = (for-head-reads.Asked, for-head-reads.Learnt, declare-reads.Asked, declare-reads.Learnt, list-below t, list.Post, leave-reads.Asked, leave-reads.Learnt, for-end-reads.Asked, for-end-reads.Learnt)
+calls-for-statement t = (for-head-reads.Asked, for-head-reads.Learnt, enter-reads.Asked, enter-reads.Learnt, list-below t, list.Post, leave-reads.Asked, leave-reads.Learnt, for-end-reads.Asked, for-end-reads.Learnt)
 
 abbrev calls-full-if : ℕ → full-if-lts.Claims
 calls-full-if t = (list-below t, list.Post, arm-end-reads.Asked, arm-end-reads.Learnt, sort-reads.Asked, sort-reads.Learnt, else-part-below t, else-part.Post, set-link-reads.Asked, set-link-reads.Learnt, of-type-reads.Asked, of-type-reads.Learnt)
@@ -225,10 +225,10 @@ abbrev calls-while-statement : ℕ → while-statement-lts.Claims
 calls-while-statement t = (of-type-reads.Asked, of-type-reads.Learnt, list-below t, list.Post, while-end-reads.Asked, while-end-reads.Learnt)
 
 abbrev cases-Inv-loop : cases-lts.InvT-loop
-cases-Inv-loop text code₀ values₀ k used first c₀ n₀ code values c n = Casings text code₀ values₀ k used first code values c n
+cases-Inv-loop text code₀ values₀ k first c₀ n₀ code values c n = Casings text code₀ values₀ k (n₀ .used) first code values c (n .used)
 
 abbrev cases-μ-loop : cases-lts.MeasureT-loop
-cases-μ-loop text code₀ values₀ k used first c₀ n₀ code values c n = 8192 - c
+cases-μ-loop text code₀ values₀ k first c₀ n₀ code values c n = 8192 - c
 
 cases-loop-holds : (t : ℕ) → cases-lts.Need-loop-holds (calls-cases t) (cases-at t) cases.Post cases-Inv-loop cases-μ-loop
 cases-loop-holds t c = search (needs, cases-begin)
@@ -308,9 +308,6 @@ default-sort-requires t c κs = omega (arith, default-room _ _ _ _ _ _ (c .befor
 default-add-rewrite : (t : ℕ) → default-lts.Need-add-rewrite (calls-default t) (default-at t) default.Post
 default-add-rewrite t c = omega (arith, default-room _ _ _ _ _ _ (c .before .before .before .before .before .before .before .pre .1))
 
-default-cast-rewrite : (t : ℕ) → default-lts.Need-cast-rewrite (calls-default t) (default-at t) default.Post
-default-cast-rewrite t c = omega (arith, default-room _ _ _ _ _ _ (c .before .before .before .before .before .before .before .pre .1))
-
 default-add-rewrite-2 : (t : ℕ) → default-lts.Need-add-rewrite-2 (calls-default t) (default-at t) default.Post
 default-add-rewrite-2 t c = omega (arith, default-room _ _ _ _ _ _ (c .before .before .before .before .before .before .before .pre .1))
 
@@ -350,9 +347,6 @@ default-returns-2 t c = search (needs, default-wrong)
 default-add-rewrite-3 : (t : ℕ) → default-lts.Need-add-rewrite-3 (calls-default t) (default-at t) default.Post
 default-add-rewrite-3 t c = omega (arith, default-room _ _ _ _ _ _ (c .before .before .before .before .before .before .before .before .before .before .before .before .before .before .before .before .before .pre .1))
 
-default-cast-rewrite-2 : (t : ℕ) → default-lts.Need-cast-rewrite-2 (calls-default t) (default-at t) default.Post
-default-cast-rewrite-2 t c = omega (arith, default-room _ _ _ _ _ _ (c .before .before .before .before .before .before .before .before .before .before .before .before .before .before .before .before .before .pre .1))
-
 default-rewrite-requires-2 : (t : ℕ) → default-lts.Need-rewrite-requires-2 (calls-default t) (default-at t) default.Post
 default-rewrite-requires-2 t c κs = let z = default-closes _ _ _ _ _ _ (c .before .before .before .before .before .before .before .before .before .before .before .before .before .before .before .before .before .pre .1) _ (c .before .before .before .before .before .before .before .before .before .before .before .before .sort .ensures) (c .before .before .before .before .before .before .before .before .before .before .before .if1 .left) _ _ _ (c .before .before .before .before .before .before .before .before .list .ensures) _ _ (c .before .before .r .given .1) in let y = default-room _ _ _ _ _ _ (c .before .before .before .before .before .before .before .before .before .before .before .before .before .before .before .before .before .pre .1) in (omega (arith, z), omega (arith, y), omega (arith, z))
 
@@ -362,8 +356,8 @@ default-add-set-word t c = omega (arith, default-closes _ _ _ _ _ _ (c .before .
 default-set-word-requires : (t : ℕ) → default-lts.Need-set-word-requires (calls-default t) (default-at t) default.Post
 default-set-word-requires t c κs = let z = default-closes _ _ _ _ _ _ (c .before .before .before .before .before .before .before .before .before .before .before .before .before .before .before .before .before .before .before .before .before .pre .1) _ (c .before .before .before .before .before .before .before .before .before .before .before .before .before .before .before .before .sort .ensures) (c .before .before .before .before .before .before .before .before .before .before .before .before .before .before .before .if1 .left) _ _ _ (c .before .before .before .before .before .before .before .before .before .before .before .before .list .ensures) _ _ (c .before .before .before .before .before .before .r .given .1) in let y = rewritten-length (c .before .before .before .rewrite2 .ensures) (z .2) in (omega (arith, z, y), omega arith, omega arith, omega (arith, z))
 
-default-add-t24 : (t : ℕ) → default-lts.Need-add-t24 (calls-default t) (default-at t) default.Post
-default-add-t24 t c = omega (arith, default-closes _ _ _ _ _ _ (c .before .before .before .before .before .before .before .before .before .before .before .before .before .before .before .before .before .before .before .before .before .before .before .before .pre .1) _ (c .before .before .before .before .before .before .before .before .before .before .before .before .before .before .before .before .before .before .before .sort .ensures) (c .before .before .before .before .before .before .before .before .before .before .before .before .before .before .before .before .before .before .if1 .left) _ _ _ (c .before .before .before .before .before .before .before .before .before .before .before .before .before .before .before .list .ensures) _ _ (c .before .before .before .before .before .before .before .before .before .r .given .1))
+default-add-t23 : (t : ℕ) → default-lts.Need-add-t23 (calls-default t) (default-at t) default.Post
+default-add-t23 t c = omega (arith, default-closes _ _ _ _ _ _ (c .before .before .before .before .before .before .before .before .before .before .before .before .before .before .before .before .before .before .before .before .before .before .before .before .pre .1) _ (c .before .before .before .before .before .before .before .before .before .before .before .before .before .before .before .before .before .before .before .sort .ensures) (c .before .before .before .before .before .before .before .before .before .before .before .before .before .before .before .before .before .before .if1 .left) _ _ _ (c .before .before .before .before .before .before .before .before .before .before .before .before .before .before .before .list .ensures) _ _ (c .before .before .before .before .before .before .before .before .before .r .given .1))
 
 default-same-length-4 : (t : ℕ) → default-lts.Need-same-length-4 (calls-default t) (default-at t) default.Post
 default-same-length-4 t c = search needs
@@ -443,29 +437,17 @@ for-statement-enum-known-j t c = search needs
 for-statement-enum-known-j-2 : (t : ℕ) → for-statement-lts.Need-enum-known-j-2 (calls-for-statement t) (for-statement-at t) for-statement.Post
 for-statement-enum-known-j-2 t c = search needs
 
-for-statement-add-declare : (t : ℕ) → for-statement-lts.Need-add-declare (calls-for-statement t) (for-statement-at t) for-statement.Post
-for-statement-add-declare t c = omega (arith, for-spare _ _ _ _ _ _ (c .before .before .before .before .before .before .before .before .before .before .before .before .before .pre .1) _ _ (c .before .before .before .before .before .before .before .for-head .ensures) _ _ (c .before .before .before .j2 .given .1))
+for-statement-add-enter : (t : ℕ) → for-statement-lts.Need-add-enter (calls-for-statement t) (for-statement-at t) for-statement.Post
+for-statement-add-enter t c = omega (arith, for-spare _ _ _ _ _ _ (c .before .before .before .before .before .before .before .before .before .before .before .before .before .pre .1) _ _ (c .before .before .before .before .before .before .before .for-head .ensures) _ _ (c .before .before .before .j2 .given .1))
 
-for-statement-add-declare-2 : (t : ℕ) → for-statement-lts.Need-add-declare-2 (calls-for-statement t) (for-statement-at t) for-statement.Post
-for-statement-add-declare-2 t c = omega (arith, for-spare _ _ _ _ _ _ (c .before .before .before .before .before .before .before .before .before .before .before .before .before .pre .1) _ _ (c .before .before .before .before .before .before .before .for-head .ensures) _ _ (c .before .before .before .j2 .given .1))
-
-for-statement-mul-declare : (t : ℕ) → for-statement-lts.Need-mul-declare (calls-for-statement t) (for-statement-at t) for-statement.Post
-for-statement-mul-declare t c = omega (arith, for-spare _ _ _ _ _ _ (c .before .before .before .before .before .before .before .before .before .before .before .before .before .pre .1) _ _ (c .before .before .before .before .before .before .before .for-head .ensures) _ _ (c .before .before .before .j2 .given .1))
-
-for-statement-add-declare-3 : (t : ℕ) → for-statement-lts.Need-add-declare-3 (calls-for-statement t) (for-statement-at t) for-statement.Post
-for-statement-add-declare-3 t c = omega (arith, for-spare _ _ _ _ _ _ (c .before .before .before .before .before .before .before .before .before .before .before .before .before .pre .1) _ _ (c .before .before .before .before .before .before .before .for-head .ensures) _ _ (c .before .before .before .j2 .given .1))
-
-for-statement-declare-requires : (t : ℕ) → for-statement-lts.Need-declare-requires (calls-for-statement t) (for-statement-at t) for-statement.Post
-for-statement-declare-requires t c κs = for-declares _ _ _ _ _ _ (c .before .before .before .before .before .before .before .before .before .before .before .before .before .pre .1) _ _ (c .before .before .before .before .before .before .before .for-head .ensures) _ _ (c .before .before .before .j2 .given .1)
+for-statement-enter-requires : (t : ℕ) → for-statement-lts.Need-enter-requires (calls-for-statement t) (for-statement-at t) for-statement.Post
+for-statement-enter-requires t c κs = let z = for-declares _ _ _ _ _ _ (c .before .before .before .before .before .before .before .before .before .before .before .before .before .pre .1) _ _ (c .before .before .before .before .before .before .before .for-head .ensures) _ _ (c .before .before .before .j2 .given .1) in (z .0, z .1, omega (arith, for-spare _ _ _ _ _ _ (c .before .before .before .before .before .before .before .before .before .before .before .before .before .pre .1) _ _ (c .before .before .before .before .before .before .before .for-head .ensures) _ _ (c .before .before .before .j2 .given .1)))
 
 for-statement-add-list : (t : ℕ) → for-statement-lts.Need-add-list (calls-for-statement t) (for-statement-at t) for-statement.Post
 for-statement-add-list t c = omega (arith, for-spare _ _ _ _ _ _ (c .before .before .before .before .before .before .before .before .before .before .before .before .before .before .before .before .before .before .before .before .pre .1) _ _ (c .before .before .before .before .before .before .before .before .before .before .before .before .before .before .for-head .ensures) _ _ (c .before .before .before .before .before .before .before .before .before .before .j2 .given .1))
 
-for-statement-add-list-2 : (t : ℕ) → for-statement-lts.Need-add-list-2 (calls-for-statement t) (for-statement-at t) for-statement.Post
-for-statement-add-list-2 t c = omega (arith, for-spare _ _ _ _ _ _ (c .before .before .before .before .before .before .before .before .before .before .before .before .before .before .before .before .before .before .before .before .pre .1) _ _ (c .before .before .before .before .before .before .before .before .before .before .before .before .before .before .for-head .ensures) _ _ (c .before .before .before .before .before .before .before .before .before .before .j2 .given .1))
-
 for-statement-list-requires : (t : ℕ) → for-statement-lts.Need-list-requires (calls-for-statement t) (for-statement-at t) for-statement.Post
-for-statement-list-requires t c κs = (omega (arith, for-spare _ _ _ _ _ _ (c .before .before .before .before .before .before .before .before .before .before .before .before .before .before .before .before .before .before .before .before .pre .1) _ _ (c .before .before .before .before .before .before .before .before .before .before .before .before .before .before .for-head .ensures) _ _ (c .before .before .before .before .before .before .before .before .before .before .j2 .given .1), c .before .before .before .before .before .before .before .before .before .before .before .before .before .before .before .before .before .before .before .before .pre .0), for-lists _ _ _ _ _ _ (c .before .before .before .before .before .before .before .before .before .before .before .before .before .before .before .before .before .before .before .before .pre .1) _ _ (c .before .before .before .before .before .before .before .before .before .before .before .before .before .before .for-head .ensures) _ _ (c .before .before .before .before .before .before .before .before .before .before .j2 .given .1) _ (omega arith) _ _ (c .before .before .before .before .before .before .declare .ensures))
+for-statement-list-requires t c κs = (omega (arith, for-spare _ _ _ _ _ _ (c .before .before .before .before .before .before .before .before .before .before .before .before .before .before .before .before .before .before .before .before .pre .1) _ _ (c .before .before .before .before .before .before .before .before .before .before .before .before .before .before .for-head .ensures) _ _ (c .before .before .before .before .before .before .before .before .before .before .j2 .given .1), c .before .before .before .before .before .before .before .before .before .before .before .before .before .before .before .before .before .before .before .before .pre .0), for-lists _ _ _ _ _ _ (c .before .before .before .before .before .before .before .before .before .before .before .before .before .before .before .before .before .before .before .before .pre .1) _ _ (c .before .before .before .before .before .before .before .before .before .before .before .before .before .before .for-head .ensures) _ _ (c .before .before .before .before .before .before .before .before .before .before .j2 .given .1) _ (omega arith) _ _ (c .before .before .before .before .before .before .enter .ensures .known) _ (c .before .before .before .before .before .before .enter .ensures .used))
 
 for-statement-enum-known-r : (t : ℕ) → for-statement-lts.Need-enum-known-r (calls-for-statement t) (for-statement-at t) for-statement.Post
 for-statement-enum-known-r t c = search needs
@@ -480,19 +462,19 @@ for-statement-same-length-2 : (t : ℕ) → for-statement-lts.Need-same-length-2
 for-statement-same-length-2 t c = search needs
 
 for-statement-returns : (t : ℕ) → for-statement-lts.Need-returns (calls-for-statement t) (for-statement-at t) for-statement.Post
-for-statement-returns t c = for-list-wrong _ _ _ _ _ _ _ _ (c .before .before .before .before .before .before .before .before .before .before .before .before .before .before .before .before .before .before .before .before .before .for-head .ensures) _ _ (c .before .before .before .before .before .before .before .before .before .before .before .before .before .before .before .before .before .j2 .given .1) _ (omega arith) _ _ (c .before .before .before .before .before .before .before .before .before .before .before .before .before .declare .ensures) _ _ _ (c .before .before .before .before .before .before .list .ensures) _ _ (c .enum-told .given .1)
+for-statement-returns t c = for-list-wrong _ _ _ _ _ _ _ _ (c .before .before .before .before .before .before .before .before .before .before .before .before .before .before .before .before .before .before .before .before .before .for-head .ensures) _ _ (c .before .before .before .before .before .before .before .before .before .before .before .before .before .before .before .before .before .j2 .given .1) _ (omega arith) _ _ (c .before .before .before .before .before .before .before .before .before .before .before .before .before .enter .ensures .known) _ (c .before .before .before .before .before .before .before .before .before .before .before .before .before .enter .ensures .used) _ _ _ (c .before .before .before .before .before .before .list .ensures) _ _ (c .enum-told .given .1)
 
 for-statement-add-leave : (t : ℕ) → for-statement-lts.Need-add-leave (calls-for-statement t) (for-statement-at t) for-statement.Post
 for-statement-add-leave t c = omega (arith, for-spare _ _ _ _ _ _ (c .before .before .before .before .before .before .before .before .before .before .before .before .before .before .before .before .before .before .before .before .before .before .before .before .before .before .before .before .before .before .pre .1) _ _ (c .before .before .before .before .before .before .before .before .before .before .before .before .before .before .before .before .before .before .before .before .before .before .before .before .for-head .ensures) _ _ (c .before .before .before .before .before .before .before .before .before .before .before .before .before .before .before .before .before .before .before .before .j2 .given .1))
 
 for-statement-leave-requires : (t : ℕ) → for-statement-lts.Need-leave-requires (calls-for-statement t) (for-statement-at t) for-statement.Post
-for-statement-leave-requires t c κs = for-leaves _ _ _ _ _ _ (c .before .before .before .before .before .before .before .before .before .before .before .before .before .before .before .before .before .before .before .before .before .before .before .before .before .before .before .before .before .before .pre .1) _ _ (c .before .before .before .before .before .before .before .before .before .before .before .before .before .before .before .before .before .before .before .before .before .before .before .before .for-head .ensures) _ _ (c .before .before .before .before .before .before .before .before .before .before .before .before .before .before .before .before .before .before .before .before .j2 .given .1) _ (omega arith) _ _ (c .before .before .before .before .before .before .before .before .before .before .before .before .before .before .before .before .declare .ensures) _ _ _ (c .before .before .before .before .before .before .before .before .before .list .ensures) _ _ (c .before .before .before .r .given .1)
+for-statement-leave-requires t c κs = for-leaves _ _ _ _ _ _ (c .before .before .before .before .before .before .before .before .before .before .before .before .before .before .before .before .before .before .before .before .before .before .before .before .before .before .before .before .before .before .pre .1) _ _ (c .before .before .before .before .before .before .before .before .before .before .before .before .before .before .before .before .before .before .before .before .before .before .before .before .for-head .ensures) _ _ (c .before .before .before .before .before .before .before .before .before .before .before .before .before .before .before .before .before .before .before .before .j2 .given .1) _ (omega arith) _ _ (c .before .before .before .before .before .before .before .before .before .before .before .before .before .before .before .before .enter .ensures .known) _ _ _ (for-listed (c .before .before .before .before .before .before .before .before .before .before .before .before .before .before .before .before .enter .ensures .used) (c .before .before .before .before .before .before .before .before .before .list .ensures)) _ _ (c .before .before .before .r .given .1)
 
 for-statement-for-end-requires : (t : ℕ) → for-statement-lts.Need-for-end-requires (calls-for-statement t) (for-statement-at t) for-statement.Post
-for-statement-for-end-requires t c κs = for-closes _ _ _ _ _ _ (c .before .before .before .before .before .before .before .before .before .before .before .before .before .before .before .before .before .before .before .before .before .before .before .before .before .before .before .before .before .before .before .before .before .before .pre .1) _ _ (c .before .before .before .before .before .before .before .before .before .before .before .before .before .before .before .before .before .before .before .before .before .before .before .before .before .before .before .before .for-head .ensures) _ _ (c .before .before .before .before .before .before .before .before .before .before .before .before .before .before .before .before .before .before .before .before .before .before .before .before .j2 .given .1) _ (omega arith) _ _ (c .before .before .before .before .before .before .before .before .before .before .before .before .before .before .before .before .before .before .before .before .declare .ensures) _ _ _ (c .before .before .before .before .before .before .before .before .before .before .before .before .before .list .ensures) _ _ (c .before .before .before .before .before .before .before .r .given .1)
+for-statement-for-end-requires t c κs = for-closes _ _ _ _ _ _ (c .before .before .before .before .before .before .before .before .before .before .before .before .before .before .before .before .before .before .before .before .before .before .before .before .before .before .before .before .before .before .before .before .before .before .pre .1) _ _ (c .before .before .before .before .before .before .before .before .before .before .before .before .before .before .before .before .before .before .before .before .before .before .before .before .before .before .before .before .for-head .ensures) _ _ (c .before .before .before .before .before .before .before .before .before .before .before .before .before .before .before .before .before .before .before .before .before .before .before .before .j2 .given .1) _ (omega arith) _ _ (c .before .before .before .before .before .before .before .before .before .before .before .before .before .before .before .before .before .before .before .before .enter .ensures .known) _ _ _ (for-listed (c .before .before .before .before .before .before .before .before .before .before .before .before .before .before .before .before .before .before .before .before .enter .ensures .used) (c .before .before .before .before .before .before .before .before .before .before .before .before .before .list .ensures)) _ _ (c .before .before .before .before .before .before .before .r .given .1)
 
-for-statement-add-t24 : (t : ℕ) → for-statement-lts.Need-add-t24 (calls-for-statement t) (for-statement-at t) for-statement.Post
-for-statement-add-t24 t c = omega (arith, for-closes _ _ _ _ _ _ (c .before .before .before .before .before .before .before .before .before .before .before .before .before .before .before .before .before .before .before .before .before .before .before .before .before .before .before .before .before .before .before .before .before .before .before .before .before .pre .1) _ _ (c .before .before .before .before .before .before .before .before .before .before .before .before .before .before .before .before .before .before .before .before .before .before .before .before .before .before .before .before .before .before .before .for-head .ensures) _ _ (c .before .before .before .before .before .before .before .before .before .before .before .before .before .before .before .before .before .before .before .before .before .before .before .before .before .before .before .j2 .given .1) _ (omega arith) _ _ (c .before .before .before .before .before .before .before .before .before .before .before .before .before .before .before .before .before .before .before .before .before .before .before .declare .ensures) _ _ _ (c .before .before .before .before .before .before .before .before .before .before .before .before .before .before .before .before .list .ensures) _ _ (c .before .before .before .before .before .before .before .before .before .before .r .given .1))
+for-statement-add-t26 : (t : ℕ) → for-statement-lts.Need-add-t26 (calls-for-statement t) (for-statement-at t) for-statement.Post
+for-statement-add-t26 t c = omega (arith, for-closes _ _ _ _ _ _ (c .before .before .before .before .before .before .before .before .before .before .before .before .before .before .before .before .before .before .before .before .before .before .before .before .before .before .before .before .before .before .before .before .before .before .before .before .before .pre .1) _ _ (c .before .before .before .before .before .before .before .before .before .before .before .before .before .before .before .before .before .before .before .before .before .before .before .before .before .before .before .before .before .before .before .for-head .ensures) _ _ (c .before .before .before .before .before .before .before .before .before .before .before .before .before .before .before .before .before .before .before .before .before .before .before .before .before .before .before .j2 .given .1) _ (omega arith) _ _ (c .before .before .before .before .before .before .before .before .before .before .before .before .before .before .before .before .before .before .before .before .before .before .before .enter .ensures .known) _ _ _ (for-listed (c .before .before .before .before .before .before .before .before .before .before .before .before .before .before .before .before .before .before .before .before .before .before .before .enter .ensures .used) (c .before .before .before .before .before .before .before .before .before .before .before .before .before .before .before .before .list .ensures)) _ _ (c .before .before .before .before .before .before .before .before .before .before .r .given .1))
 
 for-statement-same-length-3 : (t : ℕ) → for-statement-lts.Need-same-length-3 (calls-for-statement t) (for-statement-at t) for-statement.Post
 for-statement-same-length-3 t c = search needs
@@ -504,19 +486,19 @@ for-statement-returns-2 : (t : ℕ) → for-statement-lts.Need-returns-2 (calls-
 for-statement-returns-2 t c = search (needs, for-wrong)
 
 for-statement-same-length-5 : (t : ℕ) → for-statement-lts.Need-same-length-5 (calls-for-statement t) (for-statement-at t) for-statement.Post
-for-statement-same-length-5 t c = let z = for-long _ _ _ _ _ _ (c .before .before .before .before .before .before .before .before .before .before .before .before .before .before .before .before .before .before .before .before .before .before .before .before .before .before .before .before .before .before .before .before .before .before .before .before .before .pre .1) _ _ (c .before .before .before .before .before .before .before .before .before .before .before .before .before .before .before .before .before .before .before .before .before .before .before .before .before .before .before .before .before .before .before .for-head .ensures) _ _ (c .before .before .before .before .before .before .before .before .before .before .before .before .before .before .before .before .before .before .before .before .before .before .before .before .before .before .before .j2 .given .1) _ (omega arith) _ _ (c .before .before .before .before .before .before .before .before .before .before .before .before .before .before .before .before .before .before .before .before .before .before .before .declare .ensures) _ _ _ (c .before .before .before .before .before .before .before .before .before .before .before .before .before .before .before .before .list .ensures) _ _ (c .before .before .before .before .before .before .before .before .before .before .r .given .1) _ _ (c .before .before .before .before .before .before .leave .ensures) (c .before .before .for-end .ensures) in search needs
+for-statement-same-length-5 t c = let z = for-long _ _ _ _ _ _ (c .before .before .before .before .before .before .before .before .before .before .before .before .before .before .before .before .before .before .before .before .before .before .before .before .before .before .before .before .before .before .before .before .before .before .before .before .before .pre .1) _ _ (c .before .before .before .before .before .before .before .before .before .before .before .before .before .before .before .before .before .before .before .before .before .before .before .before .before .before .before .before .before .before .before .for-head .ensures) _ _ (c .before .before .before .before .before .before .before .before .before .before .before .before .before .before .before .before .before .before .before .before .before .before .before .before .before .before .before .j2 .given .1) _ (omega arith) _ _ (c .before .before .before .before .before .before .before .before .before .before .before .before .before .before .before .before .before .before .before .before .before .before .before .enter .ensures .known) _ _ _ (for-listed (c .before .before .before .before .before .before .before .before .before .before .before .before .before .before .before .before .before .before .before .before .before .before .before .enter .ensures .used) (c .before .before .before .before .before .before .before .before .before .before .before .before .before .before .before .before .list .ensures)) _ _ (c .before .before .before .before .before .before .before .before .before .before .r .given .1) _ _ (c .before .before .before .before .before .before .leave .ensures .known) (c .before .before .for-end .ensures) in search needs
 
 for-statement-same-length-6 : (t : ℕ) → for-statement-lts.Need-same-length-6 (calls-for-statement t) (for-statement-at t) for-statement.Post
 for-statement-same-length-6 t c = search needs
 
 for-statement-returns-3 : (t : ℕ) → for-statement-lts.Need-returns-3 (calls-for-statement t) (for-statement-at t) for-statement.Post
-for-statement-returns-3 t c = for-finished _ _ _ _ _ _ _ _ (c .before .before .before .before .before .before .before .before .before .before .before .before .before .before .before .before .before .before .before .before .before .before .before .before .before .before .before .before .before .before .before .for-head .ensures) _ _ (c .before .before .before .before .before .before .before .before .before .before .before .before .before .before .before .before .before .before .before .before .before .before .before .before .before .before .before .j2 .given .1) _ (omega arith) _ _ (c .before .before .before .before .before .before .before .before .before .before .before .before .before .before .before .before .before .before .before .before .before .before .before .declare .ensures) _ _ _ (c .before .before .before .before .before .before .before .before .before .before .before .before .before .before .before .before .list .ensures) _ _ (c .before .before .before .before .before .before .before .before .before .before .r .given .1) _ _ (c .before .before .before .before .before .before .leave .ensures) (c .before .before .for-end .ensures)
+for-statement-returns-3 t c = for-finished _ _ _ _ _ _ _ _ (c .before .before .before .before .before .before .before .before .before .before .before .before .before .before .before .before .before .before .before .before .before .before .before .before .before .before .before .before .before .before .before .for-head .ensures) _ _ (c .before .before .before .before .before .before .before .before .before .before .before .before .before .before .before .before .before .before .before .before .before .before .before .before .before .before .before .j2 .given .1) _ (omega arith) _ _ (c .before .before .before .before .before .before .before .before .before .before .before .before .before .before .before .before .before .before .before .before .before .before .before .enter .ensures .known) _ (c .before .before .before .before .before .before .before .before .before .before .before .before .before .before .before .before .before .before .before .before .before .before .before .enter .ensures .used) _ _ _ (c .before .before .before .before .before .before .before .before .before .before .before .before .before .before .before .before .list .ensures) _ _ (c .before .before .before .before .before .before .before .before .before .before .r .given .1) _ _ (c .before .before .before .before .before .before .leave .ensures .known) _ (c .before .before .before .before .before .before .leave .ensures .used) (c .before .before .for-end .ensures)
 
 abbrev full-if-Inv-loop : full-if-lts.InvT-loop
-full-if-Inv-loop text code₀ values₀ k used i first op₀ c₀ t₀ n₀ code values op c t n = Armings text code₀ values₀ k used i first code values op c t n
+full-if-Inv-loop text code₀ values₀ k i first op₀ c₀ t₀ n₀ code values op c t n = Armings text code₀ values₀ k (n₀ .used) i first code values op c t (n .used)
 
 abbrev full-if-μ-loop : full-if-lts.MeasureT-loop
-full-if-μ-loop text code₀ values₀ k used i first op₀ c₀ t₀ n₀ code values op c t n = 8192 - t
+full-if-μ-loop text code₀ values₀ k i first op₀ c₀ t₀ n₀ code values op c t n = 8192 - t
 
 full-if-loop-holds : (t : ℕ) → full-if-lts.Need-loop-holds (calls-full-if t) (full-if-at t) full-if.Post full-if-Inv-loop full-if-μ-loop
 full-if-loop-holds t c = search (needs, arms-begin)
@@ -564,13 +546,13 @@ full-if-same-length-4 : (t : ℕ) → full-if-lts.Need-same-length-4 (calls-full
 full-if-same-length-4 t c = let z = arm-values _ _ _ _ _ _ _ _ _ _ _ _ _ (c .before .before .before .before .before .before .before .before .before .before .before .before .before .before .before .before .before .before .before .before .before .before .before .before .before .before .loop .inv) (c .before .before .before .before .before .before .before .before .before .before .before .before .before .before .before .before .before .before .before .before .before .before .before .before .before .before .before .before .before .before .pre .1) in search needs
 
 full-if-returns-2 : (t : ℕ) → full-if-lts.Need-returns-2 (calls-full-if t) (full-if-at t) full-if.Post full-if-Inv-loop full-if-μ-loop
-full-if-returns-2 t c = search (needs, arm-else-wrong)
+full-if-returns-2 t c = arm-else-wrong _ _ _ _ _ _ _ _ _ _ _ _ _ (c .before .before .before .before .before .before .before .before .before .before .before .before .before .before .before .before .before .before .before .before .before .before .before .before .before .before .loop .inv) _ _ _ (c .before .before .before .before .before .before .before .before .before .before .before .before .before .before .before .before .before .before .before .before .before .before .before .list .ensures) _ _ (c .before .before .before .before .before .before .before .before .before .before .before .before .before .before .before .before .before .r .given .1) _ (c .before .before .before .before .before .before .before .before .before .before .before .before .before .before .arm-end .ensures) _ (c .before .before .before .before .before .before .before .before .before .before .sort .ensures) (c .before .before .before .before .before .before .before .before .before .if1 .taken) _ _ _ (c .before .before .before .before .before .before .else-part .ensures) _ _ (c .enum-told2 .given .1)
 
 full-if-set-link-requires : (t : ℕ) → full-if-lts.Need-set-link-requires (calls-full-if t) (full-if-at t) full-if.Post full-if-Inv-loop full-if-μ-loop
 full-if-set-link-requires t c κs = arm-ends _ _ _ _ _ _ _ _ _ _ _ _ _ (c .before .before .before .before .before .before .before .before .before .before .before .before .before .before .before .before .before .before .before .before .before .before .before .before .before .before .before .before .loop .inv) (c .before .before .before .before .before .before .before .before .before .before .before .before .before .before .before .before .before .before .before .before .before .before .before .before .before .before .before .before .before .before .before .before .pre .1) _ _ _ (c .before .before .before .before .before .before .before .before .before .before .before .before .before .before .before .before .before .before .before .before .before .before .before .before .before .list .ensures) _ _ (c .before .before .before .before .before .before .before .before .before .before .before .before .before .before .before .before .before .before .before .r .given .1) _ (c .before .before .before .before .before .before .before .before .before .before .before .before .before .before .before .before .arm-end .ensures) _ (c .before .before .before .before .before .before .before .before .before .before .before .before .sort .ensures) (c .before .before .before .before .before .before .before .before .before .before .before .if1 .taken) _ _ _ (c .before .before .before .before .before .before .before .before .else-part .ensures) _ _ (c .before .before .r2 .given .1)
 
 full-if-same-length-5 : (t : ℕ) → full-if-lts.Need-same-length-5 (calls-full-if t) (full-if-at t) full-if.Post full-if-Inv-loop full-if-μ-loop
-full-if-same-length-5 t c = let z = arm-long-so _ _ _ _ _ _ _ _ _ _ _ _ _ (c .before .before .before .before .before .before .before .before .before .before .before .before .before .before .before .before .before .before .before .before .before .before .before .before .before .before .before .before .before .before .before .loop .inv) (c .before .before .before .before .before .before .before .before .before .before .before .before .before .before .before .before .before .before .before .before .before .before .before .before .before .before .before .before .before .before .before .before .before .before .before .pre .1) in search needs
+full-if-same-length-5 t c = let z = arms-finished _ _ _ _ _ _ _ _ _ _ _ _ _ (c .before .before .before .before .before .before .before .before .before .before .before .before .before .before .before .before .before .before .before .before .before .before .before .before .before .before .before .before .before .before .before .loop .inv) _ _ _ (c .before .before .before .before .before .before .before .before .before .before .before .before .before .before .before .before .before .before .before .before .before .before .before .before .before .before .before .before .list .ensures) _ _ (c .before .before .before .before .before .before .before .before .before .before .before .before .before .before .before .before .before .before .before .before .before .before .r .given .1) _ (c .before .before .before .before .before .before .before .before .before .before .before .before .before .before .before .before .before .before .before .arm-end .ensures) _ (c .before .before .before .before .before .before .before .before .before .before .before .before .before .before .before .sort .ensures) (c .before .before .before .before .before .before .before .before .before .before .before .before .before .before .if1 .taken) _ _ _ (c .before .before .before .before .before .before .before .before .before .before .before .else-part .ensures) _ _ (c .before .before .before .before .before .r2 .given .1) _ (c .before .before .set-link .ensures) .is (c .before .before .before .before .before .before .before .before .before .before .before .before .before .before .before .before .before .before .before .before .before .before .before .before .before .before .before .before .before .before .before .before .before .before .before .pre .1) .long in search needs
 
 full-if-same-length-6 : (t : ℕ) → full-if-lts.Need-same-length-6 (calls-full-if t) (full-if-at t) full-if.Post full-if-Inv-loop full-if-μ-loop
 full-if-same-length-6 t c = let z = arm-values _ _ _ _ _ _ _ _ _ _ _ _ _ (c .before .before .before .before .before .before .before .before .before .before .before .before .before .before .before .before .before .before .before .before .before .before .before .before .before .before .before .before .before .before .before .loop .inv) (c .before .before .before .before .before .before .before .before .before .before .before .before .before .before .before .before .before .before .before .before .before .before .before .before .before .before .before .before .before .before .before .before .before .before .before .pre .1) in search needs
@@ -654,10 +636,10 @@ if-statement-returns-3 : (t : ℕ) → if-statement-lts.Need-returns-3 (calls-if
 if-statement-returns-3 t c = if-full _ _ _ _ _ _ _ _ (c .before .before .before .before .before .before .before .before .before .before .before .before .before .before .before .of-type .ensures) _ _ (c .before .before .before .before .before .before .before .before .before .before .before .j2 .given .1) _ (c .before .before .before .before .before .before .before .before .sort .ensures) (c .before .before .before .before .before .before .before .if1 .left) _ _ _ (c .before .before .before .before .full-if .ensures)
 
 abbrev list-Inv-loop : list-lts.InvT-loop
-list-Inv-loop text code₀ values₀ k used at i₀ n₀ code values i n = Goings text code₀ values₀ k used at code values i n
+list-Inv-loop text code₀ values₀ k at i₀ n₀ code values i n = Goings text code₀ values₀ k (n₀ .used) at code values i (n .used)
 
 abbrev list-μ-loop : list-lts.MeasureT-loop
-list-μ-loop text code₀ values₀ k used at i₀ n₀ code values i n = 8192 - i
+list-μ-loop text code₀ values₀ k at i₀ n₀ code values i n = 8192 - i
 
 list-loop-holds : (t : ℕ) → list-lts.Need-loop-holds (calls-list t) (list-at t) list.Post list-Inv-loop list-μ-loop
 list-loop-holds t c = search (needs, list-begins)
@@ -923,7 +905,6 @@ pub +cases+default+else-part+for-statement+full-if+if-statement+list+statement+t
     default.Post
     (default-sort-requires t)
     (default-add-rewrite t)
-    (default-cast-rewrite t)
     (default-add-rewrite-2 t)
     (default-rewrite-requires t)
     (default-add-t17 t)
@@ -937,11 +918,10 @@ pub +cases+default+else-part+for-statement+full-if+if-statement+list+statement+t
     (default-same-length-3 t)
     (default-returns-2 t)
     (default-add-rewrite-3 t)
-    (default-cast-rewrite-2 t)
     (default-rewrite-requires-2 t)
     (default-add-set-word t)
     (default-set-word-requires t)
-    (default-add-t24 t)
+    (default-add-t23 t)
     (default-same-length-4 t)
     (default-same-length-5 t)
     (default-returns-3 t))
@@ -974,13 +954,9 @@ pub +cases+default+else-part+for-statement+full-if+if-statement+list+statement+t
     (for-statement-for-head-requires t)
     (for-statement-enum-known-j t)
     (for-statement-enum-known-j-2 t)
-    (for-statement-add-declare t)
-    (for-statement-add-declare-2 t)
-    (for-statement-mul-declare t)
-    (for-statement-add-declare-3 t)
-    (for-statement-declare-requires t)
+    (for-statement-add-enter t)
+    (for-statement-enter-requires t)
     (for-statement-add-list t)
-    (for-statement-add-list-2 t)
     (for-statement-list-requires t)
     (for-statement-enum-known-r t)
     (for-statement-enum-told t)
@@ -990,7 +966,7 @@ pub +cases+default+else-part+for-statement+full-if+if-statement+list+statement+t
     (for-statement-add-leave t)
     (for-statement-leave-requires t)
     (for-statement-for-end-requires t)
-    (for-statement-add-t24 t)
+    (for-statement-add-t26 t)
     (for-statement-same-length-3 t)
     (for-statement-same-length-4 t)
     (for-statement-returns-2 t)

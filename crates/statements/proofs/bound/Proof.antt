@@ -6,7 +6,7 @@ use Rattle.statements.proofs.bound.Tie as tie
 use Rattle.statements.proofs.bound.Reads as reads
 use Rattle.statements.proofs.bound.Lts as lts
 use Rattle.expressions.proofs.of_type.Reads as of-type-reads
-use Rattle.simple.proofs.set_link.Reads as set-link-reads
+use Rattle.store.proofs.set_link.Reads as set-link-reads
 
 add-of-type : tie.Need-add-of-type
 add-of-type c = omega (arith, bound-room _ _ _ (c .before .before .before .pre))

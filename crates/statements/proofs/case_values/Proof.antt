@@ -8,9 +8,9 @@ use Rattle.statements.proofs.case_values.Tie as tie
 use Rattle.statements.proofs.case_values.Reads as reads
 use Rattle.statements.proofs.case_values.Lts as lts
 use Rattle.constants.proofs.constant.Reads as constant-reads
-use Rattle.simple.proofs.set_word.Reads as set-word-reads
-use Rattle.simple.proofs.sort.Reads as sort-reads
-use Rattle.statements.proofs.held.Reads as held-reads
+use Rattle.store.proofs.set_word.Reads as set-word-reads
+use Rattle.store.proofs.sort.Reads as sort-reads
+use Rattle.constants.proofs.held.Reads as held-reads
 
 abbrev Inv-loop : tie.InvT-loop
 Inv-loop code₀ values c w₀ op₀ code w op = Valuings code₀ values c code w op

@@ -5,7 +5,7 @@ use Rattle.statements.proofs.compact_if.Statement.{statement}
 use Rattle.statements.proofs.compact_if.Tie as tie
 use Rattle.statements.proofs.compact_if.Reads as reads
 use Rattle.statements.proofs.compact_if.Lts as lts
-use Rattle.simple.proofs.set_word.Reads as set-word-reads
+use Rattle.store.proofs.set_word.Reads as set-word-reads
 use Rattle.simple.proofs.statement.Reads as statement-reads
 
 statement-requires : tie.Need-statement-requires
@@ -27,13 +27,13 @@ same-length : tie.Need-same-length
 same-length c = search needs
 
 returns : tie.Need-returns
-returns c = search (needs, compact-wrong, compact-right)
+returns c = search (needs, compact-wrong)
 
 same-length-2 : tie.Need-same-length-2
 same-length-2 c = search needs
 
 returns-2 : tie.Need-returns-2
-returns-2 c = search (needs, compact-wrong, compact-right)
+returns-2 c = search (needs, compact-right)
 
 pub compact-if-spec : {M : Type 1} → statement M
 compact-if-spec =

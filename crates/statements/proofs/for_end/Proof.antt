@@ -4,9 +4,9 @@ use Rattle.statements.proofs.for_end.Statement.{statement}
 use Rattle.statements.proofs.for_end.Tie as tie
 use Rattle.statements.proofs.for_end.Reads as reads
 use Rattle.statements.proofs.for_end.Lts as lts
-use Rattle.simple.proofs.set_word.Reads as set-word-reads
-use Rattle.statements.proofs.place.Reads as place-reads
-use Rattle.statements.proofs.rewrite.Reads as rewrite-reads
+use Rattle.store.proofs.set_word.Reads as set-word-reads
+use Rattle.reading.proofs.place.Reads as place-reads
+use Rattle.store.proofs.rewrite.Reads as rewrite-reads
 
 add-set-word : tie.Need-add-set-word
 add-set-word c = search needs

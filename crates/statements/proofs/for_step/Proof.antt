@@ -5,8 +5,8 @@ use Rattle.statements.proofs.for_step.Statement.{statement}
 use Rattle.statements.proofs.for_step.Tie as tie
 use Rattle.statements.proofs.for_step.Reads as reads
 use Rattle.statements.proofs.for_step.Lts as lts
-use Rattle.simple.proofs.set_head.Reads as set-head-reads
-use Rattle.simple.proofs.sort.Reads as sort-reads
+use Rattle.store.proofs.set_head.Reads as set-head-reads
+use Rattle.store.proofs.sort.Reads as sort-reads
 use Rattle.statements.proofs.bound.Reads as bound-reads
 
 sort-requires : tie.Need-sort-requires

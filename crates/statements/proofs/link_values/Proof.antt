@@ -8,7 +8,7 @@ use Rattle.statements.proofs.link_values.Tie as tie
 use Rattle.statements.proofs.link_values.Reads as reads
 use Rattle.statements.proofs.link_values.Lts as lts
 use Rattle.cells.proofs.get.Reads as get-reads
-use Rattle.statements.proofs.rewrite.Reads as rewrite-reads
+use Rattle.store.proofs.rewrite.Reads as rewrite-reads
 
 abbrev Inv-loop : tie.InvT-loop
 Inv-loop code₀ c colon next w₀ code w = Linkings code₀ code colon next c w
@@ -40,9 +40,6 @@ cast-n c = search needs
 add-rewrite : tie.Need-add-rewrite Inv-loop μ-loop
 add-rewrite c = omega (arith, c .before .before .before .before .before .before .before .before .pre .0 .last)
 
-cast-rewrite : tie.Need-cast-rewrite Inv-loop μ-loop
-cast-rewrite c = omega (arith, c .before .before .before .before .before .before .before .before .pre .0 .last)
-
 rewrite-requires : tie.Need-rewrite-requires Inv-loop μ-loop
 rewrite-requires c κs = (omega (arith, link-room _ _ _ _ _ _ (c .before .before .before .before .before .before .loop .inv) (c .before .before .before .before .before .before .before .before .pre .0)), omega (arith, c .before .before .before .before .before .before .before .before .pre .0 .last), omega (arith, c .before .before .before .before .before .before .before .before .pre .1))
 
@@ -54,9 +51,6 @@ returns c = link-ends _ _ _ _ _ _ (c .before .before .before .before .before .be
 
 add-rewrite-2 : tie.Need-add-rewrite-2 Inv-loop μ-loop
 add-rewrite-2 c = omega (arith, c .before .before .before .before .before .before .before .before .pre .0 .last)
-
-cast-rewrite-2 : tie.Need-cast-rewrite-2 Inv-loop μ-loop
-cast-rewrite-2 c = omega (arith, c .before .before .before .before .before .before .before .before .pre .0 .last)
 
 rewrite-requires-2 : tie.Need-rewrite-requires-2 Inv-loop μ-loop
 rewrite-requires-2 c κs = (omega (arith, link-room _ _ _ _ _ _ (c .before .before .before .before .before .before .loop .inv) (c .before .before .before .before .before .before .before .before .pre .0)), omega (arith, c .before .before .before .before .before .before .before .before .pre .0 .last), omega (arith, c .before .before .before .before .before .before .before .before .pre .0 .last, link-next _ _ _ _ _ _ (c .before .before .before .before .before .before .loop .inv) _ _ _ (c .before .before .before .before .get .ensures) (c .before .before .get2 .ensures) refl (c .before .before .before .before .before .before .before .before .pre .0) (c .before .if1 .left)))
@@ -81,12 +75,10 @@ link-values-spec =
     get-requires-2
     cast-n
     add-rewrite
-    cast-rewrite
     rewrite-requires
     same-length
     returns
     add-rewrite-2
-    cast-rewrite-2
     rewrite-requires-2
     loop-less
     loop-again)

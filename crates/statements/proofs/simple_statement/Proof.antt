@@ -19,13 +19,13 @@ same-length : tie.Need-same-length
 same-length c = search needs
 
 returns : tie.Need-returns
-returns c = search (needs, plain-wrong, plain-right)
+returns c = search (needs, plain-wrong)
 
 same-length-2 : tie.Need-same-length-2
 same-length-2 c = search needs
 
 returns-2 : tie.Need-returns-2
-returns-2 c = search (needs, plain-wrong, plain-right)
+returns-2 c = search (needs, plain-right)
 
 pub simple-statement-spec : {M : Type 1} → statement M
 simple-statement-spec =

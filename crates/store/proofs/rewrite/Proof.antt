@@ -1,8 +1,7 @@
--- `load::put_cells` meets its contract.
-use Rattle.names.proofs.Rewriting.{two-puts}
 use borrow.Author.Needs.{needs}
-use Rattle.load.proofs.put_cells.Statement.{statement}
-use Rattle.load.proofs.put_cells.Tie as tie
+use Rattle.store.proofs.Rewriting.{two-puts}
+use Rattle.store.proofs.rewrite.Statement.{statement}
+use Rattle.store.proofs.rewrite.Tie as tie
 
 mul-put : tie.Need-mul-put
 mul-put c = search needs
@@ -16,14 +15,17 @@ mul-put-2 c = search needs
 add-put : tie.Need-add-put
 add-put c = search needs
 
+cast-put : tie.Need-cast-put
+cast-put c = search needs
+
+cast-put-2 : tie.Need-cast-put-2
+cast-put-2 c = search needs
+
 mul-put-3 : tie.Need-mul-put-3
 mul-put-3 c = search needs
 
 add-put-2 : tie.Need-add-put-2
 add-put-2 c = search needs
-
-cast-put : tie.Need-cast-put
-cast-put c = search needs
 
 put-requires-2 : tie.Need-put-requires-2
 put-requires-2 c κs = search needs
@@ -34,17 +36,18 @@ same-length c = search needs
 returns : tie.Need-returns
 returns c = search (needs, two-puts)
 
-pub put-cells-spec : {M : Type 1} → statement M
-put-cells-spec =
+pub rewrite-spec : {M : Type 1} → statement M
+rewrite-spec =
     tie.close
     (tie.spec
     mul-put
     put-requires
     mul-put-2
     add-put
+    cast-put
+    cast-put-2
     mul-put-3
     add-put-2
-    cast-put
     put-requires-2
     same-length
     returns)

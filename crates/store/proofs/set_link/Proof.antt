@@ -1,16 +1,10 @@
 use borrow.Author.Needs.{needs}
-use Rattle.simple.proofs.Writing.{link-written}
-use Rattle.simple.proofs.set_link.Statement.{statement}
-use Rattle.simple.proofs.set_link.Tie as tie
+use Rattle.store.proofs.Writing.{link-written}
+use Rattle.store.proofs.set_link.Statement.{statement}
+use Rattle.store.proofs.set_link.Tie as tie
 
-mul-get : tie.Need-mul-get
-mul-get c = search needs
-
-add-get : tie.Need-add-get
-add-get c = search needs
-
-get-requires : tie.Need-get-requires
-get-requires c κs = search needs
+place-requires : tie.Need-place-requires
+place-requires c κs = search needs
 
 mul-put : tie.Need-mul-put
 mul-put c = search needs
@@ -20,6 +14,9 @@ add-put c = search needs
 
 cast-put : tie.Need-cast-put
 cast-put c = search needs
+
+cast-put-2 : tie.Need-cast-put-2
+cast-put-2 c = search needs
 
 mul-put-2 : tie.Need-mul-put-2
 mul-put-2 c = search needs
@@ -40,12 +37,11 @@ pub set-link-spec : {M : Type 1} → statement M
 set-link-spec =
     tie.close
     (tie.spec
-    mul-get
-    add-get
-    get-requires
+    place-requires
     mul-put
     add-put
     cast-put
+    cast-put-2
     mul-put-2
     add-put-2
     put-requires

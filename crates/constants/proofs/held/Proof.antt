@@ -1,7 +1,7 @@
 use borrow.Author.Needs.{needs}
 use Rattle.constants.proofs.Holding.{held-fits, held-cast, held-is}
-use Rattle.statements.proofs.held.Statement.{statement}
-use Rattle.statements.proofs.held.Tie as tie
+use Rattle.constants.proofs.held.Statement.{statement}
+use Rattle.constants.proofs.held.Tie as tie
 
 add-result : tie.Need-add-result
 add-result c = search (needs, held-fits)

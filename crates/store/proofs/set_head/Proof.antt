@@ -1,7 +1,7 @@
 use borrow.Author.Needs.{needs}
-use Rattle.simple.proofs.Writing.{head-written}
-use Rattle.simple.proofs.set_head.Statement.{statement}
-use Rattle.simple.proofs.set_head.Tie as tie
+use Rattle.store.proofs.Writing.{head-written}
+use Rattle.store.proofs.set_head.Statement.{statement}
+use Rattle.store.proofs.set_head.Tie as tie
 
 mul-put : tie.Need-mul-put
 mul-put c = search needs

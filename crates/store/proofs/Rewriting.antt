@@ -1,17 +1,16 @@
--- A word's two cells written, and the other cells of both stores.
-use mathlib.Core.Path.{_≡_, refl, ap, ap₂, subst, _∙_}
+-- A word's two cells written, and the other cells.
+use mathlib.Core.Path.{_≡_, refl, ap, ap₂, _∙_}
 use mathlib.Core.List.{List, [], _∷_}
-use Prim.Native.Nat.{ℕ, _+_, _*_, _/_, _%_, _≤_}
+use Prim.Native.Nat.{ℕ, _+_, _*_, _≤_}
 use native.Mathlib.Omega.{arith}
-use lib.ListN.{length, drop, set, getD, length-set}
+use lib.ListN.{length, take, drop, set, getD, length-set}
 use lib.Seq.{getD-set-same, getD-set-other}
 use Rattle.laws.specs.Lists.{replaced}
-use Rattle.laws.proofs.Lists.{replaced-on, replaced-length, replaced-drop}
-use Rattle.cells.specs.Words.{wordsOf, bytesOf, Got, Put}
+use Rattle.laws.proofs.Lists.{replaced-on, replaced-length, replaced-take, replaced-drop}
+use Rattle.cells.specs.Words.{wordsOf, bytesOf, Put}
 use Rattle.cells.proofs.Laws.{length-words}
-use Rattle.code.specs.Cells.{headAt, tailAt, placeAt}
-use Rattle.names.specs.Meanings.{firstMeaning}
-use Rattle.names.specs.Promises.{numberAt, meaningAt, tailWith, Rewritten, Number, Meant, Declared, Left}
+use Rattle.code.specs.Cells.{headAt, tailAt}
+use Rattle.store.specs.Promises.{Rewritten}
 
 -- ---- a word is its head and its tail
 pub two-puts : (a b c : List ℕ) (i head tail : ℕ) → i * 8 + 8 ≤ length a → Put a b (i * 2) head → Put b c (i * 2 + 1) tail → Rewritten a c i head tail
@@ -33,6 +32,9 @@ module _ {before after : List ℕ} {i head tail : ℕ} (p : Rewritten before aft
 
   pub rewritten-length : length after ≡ length before
   rewritten-length = ap length (p .bytes) ∙ replaced-length before (bytesOf (head ∷ tail ∷ [])) (i * 8) 8 eight-bytes h
+
+  pub rewritten-take : (k : ℕ) → k ≤ i * 8 → take k after ≡ take k before
+  rewritten-take k g = ap (take k) (p .bytes) ∙ replaced-take before (bytesOf (head ∷ tail ∷ [])) (i * 8) 8 eight-bytes h k g
 
   pub rewritten-drop : (k : ℕ) → i * 8 + 8 ≤ k → drop k after ≡ drop k before
   rewritten-drop k g = ap (drop k) (p .bytes) ∙ replaced-drop before (bytesOf (head ∷ tail ∷ [])) (i * 8) 8 eight-bytes h k g
@@ -61,19 +63,3 @@ module _ {before after : List ℕ} {i head tail : ℕ} (p : Rewritten before aft
 
     pub rewritten-tails : tailAt (wordsOf after) j ≡ tailAt (wordsOf before) j
     rewritten-tails = rewritten-other (j * 2 + 1) (λ e. omega arith) (λ e. d (omega arith))
-
--- ---- the functions
-pub meant : (code values : List ℕ) (i n r : ℕ) → Number code i n → Got values (8192 + n) r → Meant code values i r
-meant code values i n r e g = g ∙ ap (λ (k : ℕ). getD (wordsOf values) (firstMeaning + k) 0) e
-
-pub declared : (code a b values values′ : List ℕ) (i m n old tail : ℕ) → i * 8 + 8 ≤ length code → Number code i n → Got values (8192 + n) old → Got code (i * 2 + 1) tail
-    → Put code a (i * 2) old → Put a b (i * 2 + 1) (tail % 65536 + 65536 * n) → Put values values′ (8192 + n) m → Declared code values i m b values′
-declared code a b values values′ i m n old tail h e g t p q w = record {
-  word = two-puts code a b i (meaningAt (wordsOf code) (wordsOf values) i) (tailWith (placeAt (wordsOf code) i) (numberAt (wordsOf code) i)) h
-      (subst (Put code a (i * 2)) (meant code values i n old e g) p)
-      (subst (Put a b (i * 2 + 1)) (ap₂ (λ (x k : ℕ). tailWith (x % 65536) k) t e) q);
-  table = subst (λ (k : ℕ). Put values values′ (firstMeaning + k) m) e w;
-}
-
-pub left : (code values values′ : List ℕ) (i tail head : ℕ) → Got code (i * 2 + 1) tail → Got code (i * 2) head → Put values values′ (8192 + tail / 65536) head → Left code values i values′
-left code values values′ i tail head t e p = subst (λ (k : ℕ). Put values values′ (firstMeaning + k / 65536) (headAt (wordsOf code) i)) t (subst (Put values values′ (firstMeaning + tail / 65536)) e p)

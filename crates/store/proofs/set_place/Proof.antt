@@ -1,16 +1,10 @@
 use borrow.Author.Needs.{needs}
-use Rattle.declarations.proofs.Words.{link-set}
-use Rattle.declarations.proofs.set_link.Statement.{statement}
-use Rattle.declarations.proofs.set_link.Tie as tie
+use Rattle.store.proofs.Writing.{place-written}
+use Rattle.store.proofs.set_place.Statement.{statement}
+use Rattle.store.proofs.set_place.Tie as tie
 
-mul-get : tie.Need-mul-get
-mul-get c = search needs
-
-add-get : tie.Need-add-get
-add-get c = search needs
-
-get-requires : tie.Need-get-requires
-get-requires c κs = search needs
+link-requires : tie.Need-link-requires
+link-requires c κs = search needs
 
 mul-put : tie.Need-mul-put
 mul-put c = search needs
@@ -20,6 +14,9 @@ add-put c = search needs
 
 cast-put : tie.Need-cast-put
 cast-put c = search needs
+
+cast-put-2 : tie.Need-cast-put-2
+cast-put-2 c = search needs
 
 mul-put-2 : tie.Need-mul-put-2
 mul-put-2 c = search needs
@@ -34,18 +31,17 @@ same-length : tie.Need-same-length
 same-length c = search needs
 
 returns : tie.Need-returns
-returns c = search (needs, link-set)
+returns c = search (needs, place-written)
 
-pub set-link-spec : {M : Type 1} → statement M
-set-link-spec =
+pub set-place-spec : {M : Type 1} → statement M
+set-place-spec =
     tie.close
     (tie.spec
-    mul-get
-    add-get
-    get-requires
+    link-requires
     mul-put
     add-put
     cast-put
+    cast-put-2
     mul-put-2
     add-put-2
     put-requires

@@ -1,0 +1,4 @@
+pub mod Rewriting
+pub mod Keeping
+pub mod Writing
+pub mod Unique
