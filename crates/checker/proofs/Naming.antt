@@ -50,7 +50,7 @@ use Rattle.heads.specs.Reads as heads
 use Rattle.declarations.specs.Sites.{theModule, filling, ownOf, owned, Placed, scopesOf, memoryOf, Filled}
 use Rattle.declarations.specs.declared.Walked as declarations
 use Rattle.declarations.specs.declared.Walked.the-variants as declared
-use Rattle.declarations.specs.Answers.{DataStand, ModuleFilled, SaysModule, DeclaresModule}
+use Rattle.declarations.specs.Answers.{upto, DataStand, ModuleFilled, SaysModule, DeclaresModule}
 use Rattle.simple.specs.Around.{Unread, offsetIn}
 use Rattle.routines.specs.declared.Walked.{Walked}
 use Rattle.routines.specs.declared.Walked.the-variants as routines
@@ -238,7 +238,7 @@ module _ (text code values : List ℕ) (words : ℕ) (f : Formed text code value
       values-long = b;
     }
 
-    module _ (at count : ℕ) (e : d ≡ declared.Upto at count) where
+    module _ (at count : ℕ) (e : d ≡ upto at count) where
       filled : ModuleFilled data-stand code₂ values₂ at count
       unfolding SaysModule
       filled = says _ e

@@ -67,7 +67,7 @@ fn names_and_types(text: &[u8], code: &mut [u8], values: &mut [u8], words: usize
     let d = declarations::module_data(code, values, FIRST);
     match d {
         Declared::Faulty(number, word) => Found::Faulty(number, word),
-        Declared::Upto(at, count) => {
+        Declared::Upto(at, data) => {
             let r = all_routines(text, code, values, at, words - 1);
             match r {
                 Walked::Faulty(number, word) => Found::Faulty(number, word),
@@ -75,7 +75,7 @@ fn names_and_types(text: &[u8], code: &mut [u8], values: &mut [u8], words: usize
                     if main == 0 {
                         return Found::NoMain;
                     }
-                    Found::Main(count as usize, main)
+                    Found::Main(data.used as usize, main)
                 }
             }
         }

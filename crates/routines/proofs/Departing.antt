@@ -31,7 +31,7 @@ use Rattle.heads.proofs.Numbering.{word-at}
 use Rattle.declarations.specs.declared.Walked as declared-walked
 use Rattle.declarations.specs.declared.Walked.the-variants as data-walked
 use Rattle.declarations.specs.Sites.{aRoutine, filling, scopesOf, Filled}
-use Rattle.declarations.specs.Chains as chains
+use Rattle.declarations.proofs.Chaining.{rise-wider}
 use Rattle.declarations.specs.Answers.{outerOf, firstOf, nameOf, nameWords, KeepsAll, MeansBut, DeclaresParameters, DeclaresRoutine, Leaving, Leaves}
 use Rattle.statements.specs.declared.Walked as statements
 use Rattle.statements.specs.Answers.{SameValues}
@@ -40,12 +40,15 @@ use Rattle.store.specs.Chains.{Chain, Rise, startsIn}
 use Rattle.program.specs.Routines.{wordsInAll, RawLines, RawHandler, RawRoutine}
 use Rattle.program.proofs.Framing.{lines-frame}
 use Rattle.program.proofs.Chaining.{DataStay, chain-kept, starts-kept}
+use Rattle.declarations.specs.Answers as data-answers
+use Rattle.statements.specs.Answers as answers
+use Rattle.names.specs.declared.Scope.{Scope}
 use Rattle.routines.specs.declared.Walked.{Walked}
 use Rattle.routines.specs.declared.Walked.the-variants.{Upto, Faulty}
 use Rattle.routines.specs.Answers.{groundOf, ModuleFilled, Spares, Begins, Goes}
 use Rattle.routines.specs.Parts.{Finishes, Inside, groundIn, ListsStand, ListsDone, SaysLists, Lists, ScopeStands, SaysScope, Scoped}
 use Rattle.routines.proofs.Filling.{filled-same, routine-left}
-use Rattle.routines.proofs.Parting.{spelled-apart, keeps-parameters, keeps-data, rise-out, rise-far, chain-out, chain-in, starts-same, handler-moves}
+use Rattle.routines.proofs.Parting.{spelled-apart, keeps-parameters, keeps-data, handler-moves}
 use Rattle.routines.proofs.Entering.{Order, order, parameters-stand, parameters-faulty, Entered, entered, data-stand, data-faulty, Declared, declared, low₂, high₂, type₂, spares-from, inside, lists-stand}
 
 -- ---- names that are none of the routine's own mean what they mean outside
@@ -55,8 +58,8 @@ outer-meaning W m N u h =
     ap (lookIn protected u) (not-found N u (lookIn (moduleScopes W m .globals) u (lookIn (moduleScopes W m .routines) u unknown)) h)
 
 module _ (text code values : List ℕ) (result h name : ℕ) (g : ScopeStands text code values result h name)
-    (code₁ values₁ : List ℕ) (close count : ℕ) (x₁ : DeclaresParameters code values code₁ values₁ (name + 2) (data-walked.Upto close count)) (long₁ : length code₁ ≡ length code)
-    (code₂ values₂ : List ℕ) (at taken : ℕ) (x₂ : DeclaresRoutine code₁ values₁ code₂ values₂ (name + 1) h count (close + 1) (data-walked.Upto at taken)) (long₂ : length code₂ ≡ length code) where
+    (code₁ values₁ : List ℕ) (close count : ℕ) (x₁ : DeclaresParameters code values code₁ values₁ (name + 2) (data-answers.upto close count)) (long₁ : length code₁ ≡ length code)
+    (code₂ values₂ : List ℕ) (at taken : ℕ) (x₂ : DeclaresRoutine code₁ values₁ code₂ values₂ (name + 1) h count (close + 1) (data-answers.upto at taken)) (long₂ : length code₂ ≡ length code) where
   abbrev W : List Word
   W = g .begins .stands .W
 
@@ -103,7 +106,7 @@ module _ (text code values : List ℕ) (result h name : ℕ) (g : ScopeStands te
       let q : opAt (wordsOf code₂) i ≡ sortIn W i = ap opIn (low (i * 2) (omega arith) (omega arith) (λ z. omega arith)) ∙ g .begins .unread .loaded .words i a (omega arith) .sort in
       omega (arith, g .begins .stands .sorts i)
 
-  module _ (code₃ values₃ : List ℕ) (next used : ℕ) (x₃ : Lists text code₂ values₂ code₃ values₃ result taken h at (walked.Upto next used)) where
+  module _ (code₃ values₃ : List ℕ) (next used : ℕ) (x₃ : Lists text code₂ values₂ code₃ values₃ result taken h at (answers.upto next used)) where
     l : ListsDone scope-lists code₃ values₃ next used
     unfolding SaysLists
     l = x₃ .is scope-lists
@@ -175,16 +178,16 @@ module _ (text code values : List ℕ) (result h name : ℕ) (g : ScopeStands te
           }
 
       rise₄ : Rise h (form .begin) ds
-      rise₄ = rise-out h (form .begin) ds (d .rises)
+      rise₄ = d .rises
 
       chain₂ : Chain (wordsOf code₂) h ds (name + 1)
-      chain₂ = chain-out (wordsOf code₂) h ds (name + 1) (d .chain)
+      chain₂ = d .chain
 
       chain₄ : Chain (wordsOf code₄) h ds (name + 1)
       chain₄ = chain-kept (wordsOf code₂) (wordsOf code₄) (form .begin) h ds (name + 1) stay rise₄ chain₂
 
-      starts₄ : chains.startsIn (wordsOf code₂) ds ≡ startsIn (wordsOf code₄) ds
-      starts₄ = starts-same (wordsOf code₂) ds ∙ sym (starts-kept (wordsOf code₂) (wordsOf code₄) (form .begin) h ds stay rise₄ (chain₂ .leads))
+      starts₄ : startsIn (wordsOf code₂) ds ≡ startsIn (wordsOf code₄) ds
+      starts₄ = sym (starts-kept (wordsOf code₂) (wordsOf code₄) (form .begin) h ds stay rise₄ (chain₂ .leads))
 
       -- ---- leaving
       others : MeansBut (map (spelled W) (nameWords (name + 2) count ++ map nameOf ds)) (numbered R) W (outerOf W (aRoutine m)) (wordsOf values₃)
@@ -213,8 +216,8 @@ module _ (text code values : List ℕ) (result h name : ℕ) (g : ScopeStands te
             table = omega (arith, listed .same .long, d .filled .table);
             near = omega arith;
             before = omega arith;
-            rises = rise-far h (form .begin) 8192 ds (omega arith) (d .rises);
-            chain = chain-in (wordsOf code₄) h ds (name + 1) chain₄;
+            rises = rise-wider h (form .begin) 8192 ds (omega arith) (d .rises);
+            chain = chain₄;
             inside = omega arith;
             stops = λ q. omega (arith, f .op-is);
             keeps-parameters = keeps-parameters (numbered R) W (aRoutine m) (wordsOf code₁) (wordsOf code₄) (name + 2) count
@@ -250,7 +253,7 @@ module _ (text code values : List ℕ) (result h name : ℕ) (g : ScopeStands te
             ds = ds;
             chain = subst (λ (x : ℕ). Chain (wordsOf code₄) h ds (x + 1)) n chain₄;
             rise = rise₄;
-            words = d .words ∙ ap (λ (x : List ℤ). x ++ chains.startsIn (wordsOf code₂) ds) (e .words) ∙ ap (λ (x : List ℤ). replicate (length (r .parameters)) (pos 0) ++ x) starts₄;
+            words = d .words ∙ ap (λ (x : List ℤ). x ++ startsIn (wordsOf code₂) ds) (e .words) ∙ ap (λ (x : List ℤ). replicate (length (r .parameters)) (pos 0) ++ x) starts₄;
             opens = subst (λ (x : ℕ). opAt (wordsOf code₄) (x + 1) ≡ theParameters) n (f .op-is);
             fors = subst (λ (x : ℕ). placeAt (wordsOf code₄) (x + 1) ≡ forsOf W r) n (f .fors-is ∙ fors-is ∙ omega arith);
             room = omega (arith, listed .few);
@@ -260,7 +263,7 @@ module _ (text code values : List ℕ) (result h name : ℕ) (g : ScopeStands te
       unfolding headFor
       head-is = ap (λ (w : ℕ). record { word = w; parameters = length (r .parameters); function = isSome (r .result) }) (sym (word-at (sortIn W) r h to form))
 
-      pub goes : (values₄ : List ℕ) → length values₄ ≡ length values₃ → Leaves code₄ values₃ values₄ (name + 2) count h → Goes (g .begins) code₄ values₄ next
+      pub goes : (values₄ : List ℕ) → length values₄ ≡ length values₃ → {all left : Scope} → Leaves all code₄ values₃ values₄ (name + 2) count h left → Goes (g .begins) code₄ values₄ next
       unfolding leaving
       goes values₄ same-long v = record {
         next-is = listed .next-is;

@@ -26,10 +26,10 @@ use Rattle.faults.proofs.Routines.{found-in-parameters, found-in-data, nothing-
 use Rattle.expressions.specs.Known.{Fresh, Loaded}
 use Rattle.heads.specs.Trees.{headsFor}
 use Rattle.declarations.specs.declared.Walked.{Walked}
-use Rattle.declarations.specs.declared.Walked.the-variants.{Upto, Faulty}
+use Rattle.declarations.specs.declared.Walked.the-variants.{Faulty}
 use Rattle.declarations.specs.Sites.{aRoutine, filling, Filled}
-use Rattle.declarations.specs.Chains as chains
-use Rattle.declarations.specs.Answers.{firstOf, nameOf, nameWords, KeepsAll, OtherWords, CoversData, ParametersStand, ParametersFilled, SaysParameters, DeclaresParameters, RoutineStands, RoutineFilled, SaysRoutine, DeclaresRoutine}
+use Rattle.store.specs.Chains.{Chain, startsIn, Rise}
+use Rattle.declarations.specs.Answers.{upto, firstOf, nameOf, nameWords, KeepsAll, OtherWords, CoversData, ParametersStand, ParametersFilled, SaysParameters, DeclaresParameters, RoutineStands, RoutineFilled, SaysRoutine, DeclaresRoutine}
 use Rattle.simple.specs.Around.{Unread, Apart}
 use Rattle.program.proofs.Orders.{lies}
 use Rattle.routines.specs.declared.Walked as mine
@@ -121,7 +121,7 @@ module _ (text code values : List ℕ) (result h name : ℕ) where
     unfolding SaysParameters parameters-stand filling
     parameters-faulty code₁ values₁ number word x = found-in-parameters W m sigs (g .k) form (x .is parameters-stand)
 
-    module _ (code₁ values₁ : List ℕ) (close count : ℕ) (x₁ : DeclaresParameters code values code₁ values₁ (name + 2) (Upto close count)) (long₁ : length code₁ ≡ length code) where
+    module _ (code₁ values₁ : List ℕ) (close count : ℕ) (x₁ : DeclaresParameters code values code₁ values₁ (name + 2) (upto close count)) (long₁ : length code₁ ≡ length code) where
       pub record Entered : Type 0 where
         pub close-is : close ≡ form .close
         pub count-is : count ≡ length (r .parameters)
@@ -174,7 +174,7 @@ module _ (text code values : List ℕ) (result h name : ℕ) where
       unfolding SaysRoutine data-stand filling
       data-faulty code₂ values₂ number word x = found-in-data W m sigs (g .k) form (entered .none) (x .is data-stand)
 
-      module _ (code₂ values₂ : List ℕ) (at taken : ℕ) (x₂ : DeclaresRoutine code₁ values₁ code₂ values₂ (name + 1) h count (close + 1) (Upto at taken)) (long₂ : length code₂ ≡ length code) where
+      module _ (code₂ values₂ : List ℕ) (at taken : ℕ) (x₂ : DeclaresRoutine code₁ values₁ code₂ values₂ (name + 1) h count (close + 1) (upto at taken)) (long₂ : length code₂ ≡ length code) where
         abbrev ds : List ℕ
         ds = map firstOf (r .declared)
 
@@ -183,9 +183,9 @@ module _ (text code values : List ℕ) (result h name : ℕ) where
           pub none : inData W m r ≡ []
           pub taken-is : taken ≡ length (routineData W m r .words)
           pub filled : Filled W (numbered R) (aRoutine m) (routineData W m r) values₂
-          pub chain : chains.Chain (wordsOf code₂) h ds (name + 1)
-          pub rises : chains.Rise h (form .begin) ds
-          pub words : routineData W m r .words ≡ D₁ .words ++ chains.startsIn (wordsOf code₂) ds
+          pub chain : Chain (wordsOf code₂) h ds (name + 1)
+          pub rises : Rise h (form .begin) ds
+          pub words : routineData W m r .words ≡ D₁ .words ++ startsIn (wordsOf code₂) ds
           pub keeps : KeepsAll (numbered R) W (aRoutine m) (wordsOf code₂) (map nameOf ds)
           pub covers : CoversData W D₁ (routineData W m r) (r .declared)
           pub below : (i : ℕ) → i < (close + 1) * 2 → (i ≡ h * 2 + 1 → ⊥) → getD (wordsOf code₂) i 0 ≡ getD (wordsOf code₁) i 0

@@ -34,7 +34,7 @@ use Rattle.simple.specs.declared.Setting as simple-setting
 use Rattle.simple.specs.Around.{offsetIn, resultIf, Tells}
 use Rattle.statements.specs.declared.Walked.{Walked}
 use Rattle.statements.specs.declared.Walked.the-variants.{Upto, Faulty}
-use Rattle.statements.specs.Answers.{Outside, Lists, Listed, Tell, Answer}
+use Rattle.statements.specs.Answers.{upto, Outside, Lists, Listed, Tell, Answer}
 use Rattle.program.specs.Routines.{wordsOfData, wordsInAll, groundFor, RawLines}
 use Rattle.program.proofs.Orders.{lies}
 use Rattle.routines.specs.Answers.{groundOf}
@@ -192,7 +192,7 @@ module _ (text code values : List ℕ) (result used e leads : ℕ) where
 
   -- ---- answers
   pub errors-none : {f : Bool} (mid : List ℕ) → f ≡ not (eqb result 0) → leads ≡ 0 → Linked code mid e (endOf f) 0 (linkAt (wordsOf code) e)
-      → Errors text code values mid values result used e leads (Upto (e + 1) used)
+      → Errors text code values mid values result used e leads (upto (e + 1) used)
   unfolding Tell groundOf offsetIn
   errors-none mid fl z c = record {
     is = λ g. record {
@@ -225,24 +225,24 @@ module _ (text code values : List ℕ) (result used e leads : ℕ) where
       };
     }
 
-    module _ (next u : ℕ) (x : Listed text mid values after values′ (record { result = result; handler = true }) used leads (Upto next u)) where
+    module _ (next u : ℕ) (x : Listed text mid values after values′ (record { result = result; handler = true }) used leads (upto next u)) where
       next-room-so : ErrorsStand text code values result used e leads → next * 8 + 8 ≤ length after
       unfolding Tell
       next-room-so g =
-          let a = answered g z mid (endOf f) c after values′ (Upto next u) x in
+          let a = answered g z mid (endOf f) c after values′ (upto next u) x in
           omega (arith, a .tells .next-is, g .onward .unread .loaded .room, a .long, c .kept .long)
 
       next-small-so : ErrorsStand text code values result used e leads → next < 8192
       unfolding Tell
       next-small-so g =
-          let a = answered g z mid (endOf f) c after values′ (Upto next u) x in
+          let a = answered g z mid (endOf f) c after values′ (upto next u) x in
           omega (arith, a .tells .next-is, g .onward .unread .loaded .last)
 
-      errors-some-so : (last : List ℕ) → Linked after last next (endOf f) 0 (linkAt (wordsOf after) next) → Errors text code values last values′ result used e leads (Upto (next + 1) u)
+      errors-some-so : (last : List ℕ) → Linked after last next (endOf f) 0 (linkAt (wordsOf after) next) → Errors text code values last values′ result used e leads (upto (next + 1) u)
       unfolding Tell groundOf offsetIn
       errors-some-so last q = record {
         is = λ g.
-            let a = answered g z mid (endOf f) c after values′ (Upto next u) x in
+            let a = answered g z mid (endOf f) c after values′ (upto next u) x in
             let d = a .tells in
             let n : next ≡ end g = d .next-is in
             let to-is : g .inside .stands .to ≡ end g + 1 = g .inside .stands .form .after in
@@ -279,12 +279,12 @@ module _ (text code values : List ℕ) (result used e leads : ℕ) where
     pub errors-faulty : (x : Walked) → L x → (number word : ℕ) → x ≡ Faulty number word → Errors text code values after values′ result used e leads x
     errors-faulty x y number word q = subst (λ (w : Walked). Errors text code values after values′ result used e leads w) (sym q) (errors-faulty-so number word (subst L q y))
 
-    module _ (x : Walked) (y : L x) (next u : ℕ) (q : x ≡ Upto next u) where
+    module _ (x : Walked) (y : L x) (next u : ℕ) (q : x ≡ upto next u) where
       pub next-room : ErrorsStand text code values result used e leads → next * 8 + 8 ≤ length after
       next-room g = next-room-so next u (subst L q y) g
 
       pub next-small : ErrorsStand text code values result used e leads → next < 8192
       next-small g = next-small-so next u (subst L q y) g
 
-      pub errors-some : (last : List ℕ) → Linked after last next (endOf f) 0 (linkAt (wordsOf after) next) → Errors text code values last values′ result used e leads (Upto (next + 1) u)
+      pub errors-some : (last : List ℕ) → Linked after last next (endOf f) 0 (linkAt (wordsOf after) next) → Errors text code values last values′ result used e leads (upto (next + 1) u)
       errors-some last k = errors-some-so next u (subst L q y) last k

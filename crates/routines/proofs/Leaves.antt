@@ -8,12 +8,13 @@ use lib.Dec.{eqb}
 use lib.ListN.{length, getD}
 use borrow.Author.Tests.{eq-eqb, ne-eqb}
 use Rattle.paper.specs.Basics.{if_then_else_}
-use Rattle.cells.specs.Words.{wordsOf, Got, Put}
-use Rattle.cells.proofs.Kept.{put-same, put-other}
-use Rattle.code.specs.Cells.{opAt, placeAt, linkAt}
-use Rattle.store.specs.Promises.{Linked}
+use Rattle.cells.specs.Words.{wordsOf, Put}
+use Rattle.cells.proofs.Kept.{put-length, put-same, put-other}
+use Rattle.code.specs.Cells.{opAt, linkAt}
+use Rattle.store.specs.Promises.{tailWith, Rewritten, Linked}
+use Rattle.store.proofs.Rewriting.{rewritten-head, rewritten-tail, rewritten-other}
 use Rattle.links.specs.Raw.{endOf}
-use Rattle.routines.specs.Parts.{namesRoutine, resultIn, nameWith, leadsTo, SetPlace, SetParameters, Finishes}
+use Rattle.routines.specs.Parts.{namesRoutine, resultIn, nameWith, leadsTo, Finishes}
 
 -- ---- the head
 module _ (m h : ℕ) where
@@ -60,40 +61,25 @@ module _ (C : List ℕ) (e : ℕ) {s : ℕ} (o : s ≡ opAt C e) where
   leads-nowhere d = rw (ne-eqb (opAt C e) 52 (λ q. d (o ∙ q)))
 
 -- ---- words
-pub place-set : (before after : List ℕ) (i place tail : ℕ) → i * 8 + 8 ≤ length before → place < 65536 → Got before (i * 2 + 1) tail → Put before after (i * 2 + 1) (place + 65536 * (tail / 65536))
-    → SetPlace before after i place
-place-set before after i place tail room few g p =
-    let near : (i * 2 + 1) * 4 + 4 ≤ length before = omega arith in
-    let is : getD (wordsOf after) (i * 2 + 1) 0 ≡ place + 65536 * (tail / 65536) = put-same p near in
+pub finished : (before mid after : List ℕ) (h opens at fors : ℕ) → h < opens → opens * 8 + 8 ≤ length before → at < 65536 → fors < 65536
+    → Put before mid (h * 2 + 1) (tailWith at (linkAt (wordsOf before) h)) → Rewritten mid after opens 161 (tailWith fors 0) → Finishes before after h opens at fors
+finished before mid after h opens at fors o room near few p q =
+    let first : (h * 2 + 1) * 4 + 4 ≤ length before = omega arith in
+    let second : opens * 8 + 8 ≤ length mid = omega (arith, put-length p first) in
+    let tail : getD (wordsOf after) (h * 2 + 1) 0 ≡ at + 65536 * linkAt (wordsOf before) h = rewritten-other q second (h * 2 + 1) (λ e. omega arith) (λ e. omega arith) ∙ put-same p first in
     record {
-      place-is = ap (λ (w : ℕ). w % 65536) is ∙ omega arith;
-      link-is = ap (λ (w : ℕ). w / 65536) is ∙ omega (arith, g);
-      others = λ k d. put-other p near k d;
+      place-is = ap (λ (w : ℕ). w % 65536) tail ∙ low (linkAt (wordsOf before) h);
+      link-is = ap (λ (w : ℕ). w / 65536) tail ∙ high (linkAt (wordsOf before) h);
+      op-is = ap (λ (w : ℕ). w % 256) (rewritten-head q second);
+      fors-is = ap (λ (w : ℕ). w % 65536) (rewritten-tail q second) ∙ omega arith;
+      others = λ k a b c. rewritten-other q second k b c ∙ put-other p first k a;
     }
+  where
+    low : (x : ℕ) → (at + 65536 * x) % 65536 ≡ at
+    low x = omega arith
 
-pub parameters-set : (before mid after : List ℕ) (i fors : ℕ) → i * 8 + 8 ≤ length before → length mid ≡ length before → fors < 65536 → Put before mid (i * 2) 161 → Put mid after (i * 2 + 1) fors
-    → SetParameters before after i fors
-parameters-set before mid after i fors room long few p q =
-    let first : i * 2 * 4 + 4 ≤ length before = omega arith in
-    let second : (i * 2 + 1) * 4 + 4 ≤ length mid = omega arith in
-    let head : getD (wordsOf after) (i * 2) 0 ≡ 161 = put-other q second (i * 2) (λ e. omega arith) ∙ put-same p first in
-    let tail : getD (wordsOf after) (i * 2 + 1) 0 ≡ fors = put-same q second in
-    record {
-      op-is = ap (λ (w : ℕ). w % 256) head;
-      fors-is = ap (λ (w : ℕ). w % 65536) tail ∙ omega arith;
-      others = λ k d e. put-other q second k e ∙ put-other p first k d;
-    }
-
-pub finished : (before mid after : List ℕ) (h opens at fors : ℕ) → h < opens → SetPlace before mid h at → SetParameters mid after opens fors → Finishes before after h opens at fors
-finished before mid after h opens at fors o p q =
-    let tail : getD (wordsOf after) (h * 2 + 1) 0 ≡ getD (wordsOf mid) (h * 2 + 1) 0 = q .others (h * 2 + 1) (λ e. omega arith) (λ e. omega arith) in
-    record {
-      place-is = ap (λ (w : ℕ). w % 65536) tail ∙ p .place-is;
-      link-is = ap (λ (w : ℕ). w / 65536) tail ∙ p .link-is;
-      op-is = q .op-is;
-      fors-is = q .fors-is;
-      others = λ k a b c. q .others k b c ∙ p .others k a;
-    }
+    high : (x : ℕ) → (at + 65536 * x) / 65536 ≡ x
+    high x = omega arith
 
 module _ (before after : List ℕ) (e : ℕ) where
   pub a-function-end : {f : Bool} → f ≡ true → Linked before after e 154 0 (linkAt (wordsOf before) e) → Linked before after e (endOf f) 0 (linkAt (wordsOf before) e)

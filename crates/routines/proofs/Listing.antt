@@ -34,9 +34,9 @@ use Rattle.heads.specs.Trees.{headsFor}
 use Rattle.declarations.specs.Sites.{aRoutine, filling, Filled}
 use Rattle.simple.specs.Around.{offsetIn, resultIf, Tells}
 use Rattle.statements.specs.declared.Walked.{Walked}
-use Rattle.statements.specs.declared.Walked.the-variants.{Upto, Faulty}
+use Rattle.statements.specs.declared.Walked.the-variants.{Faulty}
 use Rattle.routines.proofs.Filling.{filled-same}
-use Rattle.statements.specs.Answers.{SameValues, Outside, Lists, Listed, Tell, Answer}
+use Rattle.statements.specs.Answers.{upto, SameValues, Outside, Lists, Listed, Tell, Answer}
 use Rattle.program.specs.Routines as program
 use Rattle.program.specs.Routines.{wordsOfData, wordsInAll, groundFor, RawLines, RawHandler}
 use Rattle.program.proofs.Orders.{lies}
@@ -132,13 +132,13 @@ module _ (text code values : List ℕ) (result taken h at : ℕ) where
     body-faults = ap (listFaults W (settingIn W sigs (g .k) r theBody) (memoryOf W m r) (r .body .statements) (routineScopes W m r)) (g .used-is)
 
     -- ---- behind the first list
-    module _ (code₁ values₁ : List ℕ) (e n : ℕ) (x : L code₁ values₁ (Upto e n)) where
+    module _ (code₁ values₁ : List ℕ) (e n : ℕ) (x : L code₁ values₁ (upto e n)) where
       first : Tell (listFaults W (settingIn W sigs (g .k) r theBody) (memoryOf W m r) (r .body .statements) (routineScopes W m r) taken) code code₁ values values₁ at closes
-          (taken + forsInList (r .body .statements)) (RawList (groundFor (groundIn s) m r) (wordsInAll (groundIn s) m r) (wordsOf code₁) (r .body .statements) (routineScopes W m r) taken at closes) (Upto e n)
-      first = answered code₁ values₁ (Upto e n) x .tells
+          (taken + forsInList (r .body .statements)) (RawList (groundFor (groundIn s) m r) (wordsInAll (groundIn s) m r) (wordsOf code₁) (r .body .statements) (routineScopes W m r) taken at closes) (upto e n)
+      first = answered code₁ values₁ (upto e n) x .tells
 
       long₁ : length code₁ ≡ length code
-      long₁ = answered code₁ values₁ (Upto e n) x .long
+      long₁ = answered code₁ values₁ (upto e n) x .long
 
       e-is : e ≡ closes
       unfolding Tell
@@ -205,8 +205,8 @@ module _ (text code values : List ℕ) (result taken h at : ℕ) where
           body-none = sym body-faults ∙ first .none
 
           -- ---- and the word that leads to the second
-          module _ (code₃ : List ℕ) (z used : ℕ) (q : y ≡ Upto z used) (k : Linked code₂ code₃ (h + 1) (opAt (wordsOf code₂) (h + 1)) (valueAt (wordsOf code₂) (h + 1)) leads) where
-            both : Tell (inHandler W m sigs (g .k) r) code₁ code₂ values₁ values₂ e (s .stands .to) (dataWords s + forsOf W r) (Ended (groundIn s) (wordsOf code₂) m r) (Upto z used)
+          module _ (code₃ : List ℕ) (z used : ℕ) (q : y ≡ upto z used) (k : Linked code₂ code₃ (h + 1) (opAt (wordsOf code₂) (h + 1)) (valueAt (wordsOf code₂) (h + 1)) leads) where
+            both : Tell (inHandler W m sigs (g .k) r) code₁ code₂ values₁ values₂ e (s .stands .to) (dataWords s + forsOf W r) (Ended (groundIn s) (wordsOf code₂) m r) (upto z used)
             both = subst (Tell (inHandler W m sigs (g .k) r) code₁ code₂ values₁ values₂ e (s .stands .to) (dataWords s + forsOf W r) (Ended (groundIn s) (wordsOf code₂) m r)) q (second .tells)
 
             after-is : s .stands .to ≡ end + 1
@@ -270,7 +270,7 @@ module _ (text code values : List ℕ) (result taken h at : ℕ) where
           (subst (First (record { number = number; at = word })) (body-faults g) (answered g code₁ values₁ (Faulty number word) (subst (L g code₁ values₁) q l) .tells)));
     }
 
-    module _ (e n : ℕ) (q : x ≡ Upto e n) where
+    module _ (e n : ℕ) (q : x ≡ upto e n) where
       pub e-room : ListsStand text code values result taken h at → e * 8 + 8 ≤ length code₁
       e-room g = leads-room g code₁ values₁ e n (subst (L g code₁ values₁) q l)
 
@@ -291,14 +291,14 @@ module _ (text code values : List ℕ) (result taken h at : ℕ) where
                 subst (SaysLists g code₂ values₂) (sym p) (found-in-handler (W g) (m g) (sigs g) (g .k) (s g .stands .form) (s g .none) (body-none g code₁ values₁ e n l′ leads t code₂ values₂ y x₂) (f .tells));
           }
 
-          module _ (z used : ℕ) (p : y ≡ Upto z used) where
+          module _ (z used : ℕ) (p : y ≡ upto z used) where
             pub link-room : ListsStand text code values result taken h at → length code₂ ≡ length code → (h + 1) * 8 + 8 ≤ length code₂
             link-room g long =
                 let o = lies (W g) (s g .stands .form) in
                 omega (arith, g .begins, o .name, o .opens, o .body, o .end, g .onward .unread .loaded .room)
 
             pub lists-done : (code₃ : List ℕ) → Linked code₂ code₃ (h + 1) (opAt (wordsOf code₂) (h + 1)) (valueAt (wordsOf code₂) (h + 1)) leads
-                → parts.Lists text code values code₃ values₂ result taken h at (Upto z used)
+                → parts.Lists text code values code₃ values₂ result taken h at (upto z used)
             unfolding SaysLists
             lists-done code₃ k = record { is = λ g. lists-so g code₁ values₁ e n (subst (L g code₁ values₁) q l) leads t code₂ values₂ y x₂ code₃ z used p k }
 

@@ -23,9 +23,7 @@ use Rattle.grammar.proofs.Places.{content-grows, declarations-grow}
 use Rattle.faults.proofs.Expressions.{grows}
 use Rattle.links.specs.Raw.{Ground, SameWords}
 use Rattle.declarations.specs.Sites.{Site}
-use Rattle.declarations.specs.Chains as own
 use Rattle.declarations.specs.Answers.{firstOf, nameOf, nameWords, KeepsName, KeepsAll}
-use Rattle.store.specs.Chains.{Leads, lastOf, Chain, startsIn, Rise}
 use Rattle.program.specs.Routines.{RawHandler}
 use Rattle.program.proofs.Framing.{lines-frame}
 
@@ -94,43 +92,6 @@ module _ (routine : ℕ → ℕ) (W : List Word) (s : Site) (C D : List ℕ) whe
         keeps-name (nameOf (firstOf x)) (h (nameOf (firstOf x)) low (omega arith)) (t (nameOf (firstOf x)) low (omega arith)) (k .0),
         keeps-data more (λ i a b. h i (omega arith) b) (λ i a b. t i (omega arith) b) (k .1),
       )
-
--- ---- chains of data, as the crates declarations and program state them
-pub rise-out : (b to : ℕ) (ds : List ℕ) → own.Rise b to ds → Rise b to ds
-unfolding own.Rise Rise
-rise-out b to [] h = h
-rise-out b to (d ∷ r) h = (h .0, rise-out d to r (h .1))
-
-pub rise-far : (b to far : ℕ) (ds : List ℕ) → to ≤ far → own.Rise b to ds → own.Rise b far ds
-unfolding own.Rise
-rise-far b to far [] l h = omega arith
-rise-far b to far (d ∷ r) l h = (h .0, rise-far d to far r l (h .1))
-
-leads-out : (C : List ℕ) (b : ℕ) (ds : List ℕ) → own.Leads C b ds → Leads C b ds
-unfolding own.Leads Leads
-leads-out C b [] h = h
-leads-out C b (d ∷ r) h = (h .0, h .1, leads-out C d r (h .2))
-
-leads-in : (C : List ℕ) (b : ℕ) (ds : List ℕ) → Leads C b ds → own.Leads C b ds
-unfolding own.Leads Leads
-leads-in C b [] h = h
-leads-in C b (d ∷ r) h = (h .0, h .1, leads-in C d r (h .2))
-
-last-same : (b : ℕ) (ds : List ℕ) → own.lastOf b ds ≡ lastOf b ds
-unfolding own.lastOf lastOf
-last-same b [] = refl
-last-same b (d ∷ r) = last-same d r
-
-pub chain-out : (C : List ℕ) (b : ℕ) (ds : List ℕ) (end : ℕ) → own.Chain C b ds end → Chain C b ds end
-chain-out C b ds end c = record { leads = leads-out C b ds (c .leads); ends = sym (ap (linkAt C) (last-same b ds)) ∙ c .ends }
-
-pub chain-in : (C : List ℕ) (b : ℕ) (ds : List ℕ) (end : ℕ) → Chain C b ds end → own.Chain C b ds end
-chain-in C b ds end c = record { leads = leads-in C b ds (c .leads); ends = ap (linkAt C) (last-same b ds) ∙ c .ends }
-
-pub starts-same : (C : List ℕ) (ds : List ℕ) → own.startsIn C ds ≡ startsIn C ds
-unfolding own.startsIn startsIn
-starts-same C [] = refl
-starts-same C (d ∷ r) = ap (λ (l : List ℤ). replicate (placeAt C d) (constantAt C d) ++ l) (starts-same C r)
 
 -- ---- an ERROR list
 pub handler-moves : (W : List Word) (g : Ground) (C D : List ℕ) (m : Module) (r : Routine) (o : Option RoutineList) (leader end : ℕ) → HandlerAt (sortIn W) (Parses (sortIn W)) o (r .body .closes) end

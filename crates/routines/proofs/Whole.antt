@@ -12,6 +12,9 @@ use Rattle.declarations.specs.declared.Walked.the-variants as data-walked
 use Rattle.declarations.specs.Answers.{ParametersStand, DeclaresParameters, RoutineStands, DeclaresRoutine, Leaving, Leaves}
 use Rattle.statements.specs.declared.Walked as statements
 use Rattle.statements.specs.declared.Walked.the-variants as walked
+use Rattle.declarations.specs.Answers as data-answers
+use Rattle.statements.specs.Answers as answers
+use Rattle.names.specs.declared.Scope.{Scope}
 use Rattle.routines.specs.declared.Walked.the-variants.{Upto, Faulty}
 use Rattle.routines.specs.Parts.{Finishes, ListsStand, SaysLists, Lists, ScopeStands, SaysScope, Scoped}
 use Rattle.routines.proofs.Entering.{order, parameters-stand, parameters-faulty, entered, data-stand, data-faulty, declared, lists-stand, inside}
@@ -41,7 +44,7 @@ module _ (text code values : List ℕ) (result h name : ℕ) where
     unfolding SaysScope
     parameters-so number word q = record { is = λ g. parameters-faulty text code values result h name g code₁ values₁ number word (subst P q y₁) }
 
-    module _ (close count : ℕ) (q₁ : p ≡ data-walked.Upto close count) (long₁ : length code₁ ≡ length code) where
+    module _ (close count : ℕ) (q₁ : p ≡ data-answers.upto close count) (long₁ : length code₁ ≡ length code) where
       pub scope-data : G → RoutineStands code₁ values₁ h count (close + 1)
       scope-data g = data-stand text code values result h name g code₁ values₁ close count (subst P q₁ y₁) long₁
 
@@ -58,7 +61,7 @@ module _ (text code values : List ℕ) (result h name : ℕ) where
         unfolding SaysScope
         data-so number word q = record { is = λ g. data-faulty text code values result h name g code₁ values₁ close count (subst P q₁ y₁) long₁ code₂ values₂ number word (subst Q q y₂) }
 
-        module _ (at taken : ℕ) (q₂ : w ≡ data-walked.Upto at taken) (long₂ : length code₂ ≡ length code) where
+        module _ (at taken : ℕ) (q₂ : w ≡ data-answers.upto at taken) (long₂ : length code₂ ≡ length code) where
           pub lists-here : G → ListsStand text code₂ values₂ result taken h at
           lists-here g = scope-lists text code values result h name g code₁ values₁ close count (subst P q₁ y₁) long₁ code₂ values₂ at taken (subst Q q₂ y₂) long₂
 
@@ -75,7 +78,7 @@ module _ (text code values : List ℕ) (result h name : ℕ) where
             unfolding SaysScope SaysLists scope-lists lists-stand inside lists-here
             lists-so number word q = record { is = λ g. subst L q y₃ .is (lists-here g) }
 
-            module _ (next used : ℕ) (q₃ : v ≡ walked.Upto next used) where
+            module _ (next used : ℕ) (q₃ : v ≡ answers.upto next used) where
               pub used-few : G → used - taken < 65536
               used-few g = finish-few text code values result h name g code₁ values₁ close count (subst P q₁ y₁) long₁ code₂ values₂ at taken (subst Q q₂ y₂) long₂ code₃ values₃ next used (subst L q₃ y₃)
 
@@ -88,7 +91,7 @@ module _ (text code values : List ℕ) (result h name : ℕ) where
                     leaving text code values result h name g code₁ values₁ close count (subst P q₁ y₁) long₁ code₂ values₂ at taken (subst Q q₂ y₂) long₂ code₃ values₃ next used (subst L q₃ y₃)
                     code₄ (used - taken) f refl long₄
 
-                pub scope-done : (values₄ : List ℕ) → Leaves code₄ values₃ values₄ (name + 2) count h → length values₄ ≡ length values₃ → Scoped text code values code₄ values₄ result h name (Upto next)
+                pub scope-done : (values₄ : List ℕ) {all left : Scope} → Leaves all code₄ values₃ values₄ (name + 2) count h left → length values₄ ≡ length values₃ → Scoped text code values code₄ values₄ result h name (Upto next)
                 unfolding SaysScope
                 scope-done values₄ x same = record {
                   is = λ g.

@@ -48,20 +48,7 @@ resultIn C h = if eqb (opAt C h) PROC then 0 else if eqb (opAt C (h + 1)) BOOL t
 unfoldable pub nameWith : (result h : ℕ) → ℕ
 nameWith result h = if eqb result 0 then h + 1 else h + 2
 
--- ---- words
--- Word i has this place now, and nothing else has changed.
-pub record SetPlace (before after : List ℕ) (i place : ℕ) : Type 0 where
-  pub place-is : placeAt (wordsOf after) i ≡ place
-  pub link-is : linkAt (wordsOf after) i ≡ linkAt (wordsOf before) i
-  pub others : (k : ℕ) → (k ≡ i * 2 + 1 → ⊥) → getD (wordsOf after) k 0 ≡ getD (wordsOf before) k 0
-
--- The parenthesis before the parameters ends the data, and has how many FOR variables there are as its place.
-pub record SetParameters (before after : List ℕ) (i fors : ℕ) : Type 0 where
-  pub op-is : opAt (wordsOf after) i ≡ theParameters
-  pub fors-is : placeAt (wordsOf after) i ≡ fors
-  pub others : (k : ℕ) → (k ≡ i * 2 → ⊥) → (k ≡ i * 2 + 1 → ⊥) → getD (wordsOf after) k 0 ≡ getD (wordsOf before) k 0
-
--- both; the routine's first word has the first word of its list as its place
+-- The parenthesis before the parameters ends the data, and has how many FOR variables there are as its place; the routine's first word has the first word of its list as its place.
 pub record Finishes (before after : List ℕ) (h opens at fors : ℕ) : Type 0 where
   pub place-is : placeAt (wordsOf after) h ≡ at
   pub link-is : linkAt (wordsOf after) h ≡ linkAt (wordsOf before) h
@@ -148,7 +135,7 @@ pub record ListsDone {text code values : List ℕ} {result data-words h at : ℕ
   pub same : SameValues values values′
 
 unfoldable pub SaysLists : {text code values : List ℕ} {result data-words h at : ℕ} (s : ListsStand text code values result data-words h at) (code′ values′ : List ℕ) → statements.Walked → Type 0
-SaysLists s code′ values′ (walked.Upto next used) = ListsDone s code′ values′ next used
+SaysLists s code′ values′ (walked.Upto next scope) = ListsDone s code′ values′ next (scope .used)
 SaysLists s code′ values′ (walked.Faulty number word) = First (record { number = number; at = word }) (faultsIn (s .inside))
 
 pub record Lists (text code values code′ values′ : List ℕ) (result data-words h at : ℕ) (r : statements.Walked) : Type 0 where

@@ -1,6 +1,10 @@
 // The check of a routine: its name, parameters, data, list and ERROR list. What a run has to know of it is written over its words in the code store; when its scope is left the table
 // of meanings says again what names mean in the module.
+use names::Scope;
 use simple::Setting;
+use store::set_head;
+use store::set_link;
+use store::sort;
 ghost use mathlib.Core.Path.{_≡_};
 ghost use Prim.Native.Nat.{_+_, _*_, _<_, _≤_};
 ghost use lib.ListN.{length};
@@ -9,7 +13,7 @@ ghost use Rattle.code.specs.Cells.{linkAt};
 ghost use Rattle.links.specs.Raw.{endOf};
 ghost use Rattle.store.specs.Promises.{Linked};
 ghost use Rattle.routines.specs.Answers.{Begins, Checks};
-ghost use Rattle.routines.specs.Parts.{namesRoutine, resultIn, nameWith, SetPlace, SetParameters, Finishes, leadsTo, ErrorsStand, Errors, ListsStand, Lists, ScopeStands, Scoped};
+ghost use Rattle.routines.specs.Parts.{namesRoutine, resultIn, nameWith, Finishes, leadsTo, ErrorsStand, Errors, ListsStand, Lists, ScopeStands, Scoped};
 
 pub enum Walked {
     // the word after it
@@ -53,10 +57,10 @@ fn result_of(code: &[u8], h: usize) -> u32
     requires { ⌜ h * 8 + 16 ≤ length (now code) ⌝ }
     ensures { λ r. ⌜ r ≡ resultIn (wordsOf (now (code .entry))) h ⌝ }
 {
-    if simple::sort(code, h) == sorts::PROC {
+    if sort(code, h) == sorts::PROC {
         return 0;
     }
-    if simple::sort(code, h + 1) == sorts::BOOL {
+    if sort(code, h + 1) == sorts::BOOL {
         return 2;
     }
     1
@@ -74,29 +78,13 @@ fn name_of(result: u32, h: usize) -> usize
 
 // ---- words
 
-fn set_place(code: &mut [u8], i: usize, place: u32)
-    requires { ⌜ (i * 8 + 8 ≤ length (now code)) × (place < 65536) ⌝ }
-    ensures { λ _. ⌜ SetPlace (now (code .entry)) (now (code .exit)) i place ⌝ }
-{
-    let link = cells::get(code, i * 2 + 1) / names::LINK;
-    cells::put(code, i * 2 + 1, place + names::LINK * link);
-}
-
-fn set_parameters(code: &mut [u8], i: usize, fors: u32)
-    requires { ⌜ (i * 8 + 8 ≤ length (now code)) × (fors < 65536) ⌝ }
-    ensures { λ _. ⌜ SetParameters (now (code .entry)) (now (code .exit)) i fors ⌝ }
-{
-    cells::put(code, i * 2, PARAMETERS);
-    cells::put(code, i * 2 + 1, fors);
-}
-
 // What a run has to know of the routine that begins at h: the first word of its list, and how many FOR variables it has.
 fn finish(code: &mut [u8], h: usize, opens: usize, at: usize, fors: u32)
     requires { ⌜ (h < opens) × (opens * 8 + 8 ≤ length (now code)) × (at < 65536) × (fors < 65536) ⌝ }
     ensures { λ _. ⌜ Finishes (now (code .entry)) (now (code .exit)) h opens at fors ⌝ }
 {
-    set_place(code, h, at as u32);
-    set_parameters(code, opens, fors);
+    store::set_place(code, h, at);
+    store::rewrite(code, opens, PARAMETERS, fors as usize, 0);
 }
 
 // The word e is a list's end.
@@ -105,9 +93,9 @@ fn end_list(code: &mut [u8], function: bool, e: usize)
     ensures { λ _. ⌜ Linked (now (code .entry)) (now (code .exit)) e (endOf function) 0 (linkAt (wordsOf (now (code .entry))) e) ⌝ }
 {
     if function {
-        simple::set_head(code, e, FUNCTION_END, 0);
+        set_head(code, e, FUNCTION_END, 0);
     } else {
-        simple::set_head(code, e, END, 0);
+        set_head(code, e, END, 0);
     }
 }
 
@@ -118,7 +106,7 @@ fn leads_to(code: &[u8], e: usize) -> usize
     requires { ⌜ (e * 8 + 8 ≤ length (now code)) × (e < 8192) ⌝ }
     ensures { λ r. ⌜ r ≡ leadsTo (wordsOf (now (code .entry))) e ⌝ }
 {
-    if simple::sort(code, e) == sorts::ERROR {
+    if sort(code, e) == sorts::ERROR {
         return e + 1;
     }
     0
@@ -130,22 +118,22 @@ fn errors(
     code: &mut [u8],
     values: &mut [u8],
     result: u32,
-    used: u32,
+    scope: Scope,
     e: usize,
     leads: usize,
 ) -> statements::Walked
-    requires { ⌜ ErrorsStand (now text) (now code) (now values) result used e leads ⌝ }
-    ensures { λ r. ⌜ Errors (now (text .entry)) (now (code .entry)) (now (values .entry)) (now (code .exit)) (now (values .exit)) result used e leads r ⌝ }
+    requires { ⌜ ErrorsStand (now text) (now code) (now values) result (scope .used) e leads ⌝ }
+    ensures { λ r. ⌜ Errors (now (text .entry)) (now (code .entry)) (now (values .entry)) (now (code .exit)) (now (values .exit)) result (scope .used) e leads r ⌝ }
 {
     end_list(code, result != 0, e);
     if leads == 0 {
-        return statements::Walked::Upto(e + 1, used);
+        return statements::Walked::Upto(e + 1, scope);
     }
     let setting = Setting {
         result: result,
         handler: true,
     };
-    let r = statements::list(text, code, values, setting, used, leads);
+    let r = statements::list(text, code, values, setting, scope, leads);
     let statements::Walked::Upto(z, n) = r else {
         return r;
     };
@@ -159,18 +147,18 @@ fn lists(
     code: &mut [u8],
     values: &mut [u8],
     result: u32,
-    taken: u32,
+    scope: Scope,
     h: usize,
     at: usize,
 ) -> statements::Walked
-    requires { ⌜ ListsStand (now text) (now code) (now values) result taken h at ⌝ }
-    ensures { λ r. ⌜ Lists (now (text .entry)) (now (code .entry)) (now (values .entry)) (now (code .exit)) (now (values .exit)) result taken h at r ⌝ }
+    requires { ⌜ ListsStand (now text) (now code) (now values) result (scope .used) h at ⌝ }
+    ensures { λ r. ⌜ Lists (now (text .entry)) (now (code .entry)) (now (values .entry)) (now (code .exit)) (now (values .exit)) result (scope .used) h at r ⌝ }
 {
     let setting = Setting {
         result: result,
         handler: false,
     };
-    let r = statements::list(text, code, values, setting, taken, at);
+    let r = statements::list(text, code, values, setting, scope, at);
     let statements::Walked::Upto(e, n) = r else {
         return r;
     };
@@ -179,7 +167,7 @@ fn lists(
     let statements::Walked::Upto(z, used) = r else {
         return r;
     };
-    simple::set_link(code, h + 1, leads);
+    set_link(code, h + 1, leads);
     statements::Walked::Upto(z, used)
 }
 
@@ -200,17 +188,17 @@ fn scope(
     let p = declarations::parameters(code, values, name + 2);
     match p {
         declarations::Walked::Faulty(number, word) => Walked::Faulty(number, word),
-        declarations::Walked::Upto(close, count) => {
-            let d = declarations::routine_data(code, values, name + 1, h, count, close + 1);
+        declarations::Walked::Upto(close, own) => {
+            let d = declarations::routine_data(own, code, values, name + 1, h, close + 1);
             match d {
                 declarations::Walked::Faulty(number, word) => Walked::Faulty(number, word),
                 declarations::Walked::Upto(at, data) => {
                     let l = lists(text, code, values, result, data, h, at);
                     match l {
                         statements::Walked::Faulty(number, word) => Walked::Faulty(number, word),
-                        statements::Walked::Upto(next, used) => {
-                            finish(code, h, name + 1, at, used - data);
-                            declarations::leave_routine(code, values, name + 2, count, h);
+                        statements::Walked::Upto(next, all) => {
+                            finish(code, h, name + 1, at, all.used - data.used);
+                            declarations::leave_routine(all, code, values, name + 2, own.used, h);
                             Walked::Upto(next)
                         }
                     }

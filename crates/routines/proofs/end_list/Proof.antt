@@ -4,7 +4,7 @@ use Rattle.routines.proofs.end_list.Statement.{statement}
 use Rattle.routines.proofs.end_list.Tie as tie
 use Rattle.routines.proofs.end_list.Reads as reads
 use Rattle.routines.proofs.end_list.Lts as lts
-use Rattle.simple.proofs.set_head.Reads as set-head-reads
+use Rattle.store.proofs.set_head.Reads as set-head-reads
 
 -- src/lib.rt:108:9
 set-head-requires : tie.Need-set-head-requires

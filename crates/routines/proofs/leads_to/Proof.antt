@@ -4,7 +4,7 @@ use Rattle.routines.proofs.leads_to.Statement.{statement}
 use Rattle.routines.proofs.leads_to.Tie as tie
 use Rattle.routines.proofs.leads_to.Reads as reads
 use Rattle.routines.proofs.leads_to.Lts as lts
-use Rattle.simple.proofs.sort.Reads as sort-reads
+use Rattle.store.proofs.sort.Reads as sort-reads
 
 -- src/lib.rt:121:8
 sort-requires : tie.Need-sort-requires

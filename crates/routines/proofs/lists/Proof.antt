@@ -7,7 +7,7 @@ use Rattle.routines.proofs.lists.Reads as reads
 use Rattle.routines.proofs.lists.Lts as lts
 use Rattle.routines.proofs.errors.Reads as errors-reads
 use Rattle.routines.proofs.leads_to.Reads as leads-to-reads
-use Rattle.simple.proofs.set_link.Reads as set-link-reads
+use Rattle.store.proofs.set_link.Reads as set-link-reads
 use Rattle.statements.proofs.list.Reads as list-reads
 
 -- src/lib.rt:167:9

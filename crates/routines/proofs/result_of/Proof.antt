@@ -4,7 +4,7 @@ use Rattle.routines.proofs.result_of.Statement.{statement}
 use Rattle.routines.proofs.result_of.Tie as tie
 use Rattle.routines.proofs.result_of.Reads as reads
 use Rattle.routines.proofs.result_of.Lts as lts
-use Rattle.simple.proofs.sort.Reads as sort-reads
+use Rattle.store.proofs.sort.Reads as sort-reads
 
 -- src/lib.rt:56:8
 sort-requires : tie.Need-sort-requires
