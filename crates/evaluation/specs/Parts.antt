@@ -15,7 +15,7 @@ use Rattle.paper.specs.Numbers.{num, Value, value, error, isZero, overflow, div
 use Rattle.paper.specs.Terms.{Term, unary, known, combined, worth}
 use Rattle.cells.specs.Words.{wordsOf}
 use Rattle.code.specs.Cells.{opIn, valueIn, linkAt}
-use Rattle.code.specs.Spans.{aCallElement, aParenthesis, prefixIn, operatorOf, leafTerm, elementTerm}
+use Rattle.code.specs.Spans.{aCallElement, aParenthesis, rightIn, prefixIn, operatorOf, operatorIn, leafTerm, elementTerm}
 use Rattle.evaluation.specs.Answers.{decoded, Small, Counts, termOf, memoryOf}
 
 -- ---- operators
@@ -86,6 +86,11 @@ pub record Leaf (op v : ℕ) : Type 0 where
 pub record Read (values : List ℕ) (base op v : ℕ) (z : ℤ) : Type 0 where
   pub is : (c : Counts) (t : Term) → leafTerm (c .m) (c .n) op v ≡ some t → worth (memoryOf c values base) t ≡ value z
   pub small : SFits w32 z
+
+-- what the operator with an op gives, whose right side is the leaf of that class with the value v
+pub record Fused (values : List ℕ) (base op v : ℕ) (a r : ℤ) : Type 0 where
+  pub is : (c : Counts) (t : Term) → leafTerm (c .m) (c .n) (rightIn op) v ≡ some t → decoded r ≡ joined (operatorIn op) (value a) (worth (memoryOf c values base) t)
+  pub small : Small r
 
 -- the cell of a word with an op: the op `own` is the module's
 unfoldable pub cellOf : (base op own word : ℕ) → ℕ
