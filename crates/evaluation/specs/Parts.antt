@@ -3,7 +3,7 @@ use mathlib.Core.Path.{_≡_}
 use mathlib.Core.Bool.{Bool, true, false}
 use mathlib.Core.List.{List}
 use mathlib.Core.Option.{Option, some}
-use Prim.Native.Nat.{ℕ, _+_, _%_, _<_}
+use Prim.Native.Nat.{ℕ, _+_, _%_, _<_, _≤_}
 use lib.Dec.{eqb, leb, ltb}
 use lib.ListN.{length}
 use lib.IntN.{ℤ}
@@ -14,8 +14,8 @@ use Rattle.paper.specs.Basics.{if_then_else_}
 use Rattle.paper.specs.Numbers.{num, Value, value, error, isZero, overflow, divZero}
 use Rattle.paper.specs.Terms.{Term, unary, known, combined, worth}
 use Rattle.cells.specs.Words.{wordsOf}
-use Rattle.code.specs.Cells.{opIn, valueIn, linkAt}
-use Rattle.code.specs.Spans.{aCallElement, aParenthesis, rightIn, prefixIn, operatorOf, operatorIn, leafTerm, elementTerm}
+use Rattle.code.specs.Cells.{opIn, valueIn, opAt, linkAt}
+use Rattle.code.specs.Spans.{aSpan, aCallWord, aCallElement, aParenthesis, rightIn, prefixIn, operatorOf, operatorIn, leafTerm, elementTerm}
 use Rattle.evaluation.specs.Answers.{decoded, Small, Counts, termOf, memoryOf}
 
 -- ---- operators
@@ -130,6 +130,12 @@ pub record Closed (values : List ℕ) (base w : ℕ) (x r : ℤ) : Type 0 where
   pub is : (c : Counts) (t u : Term) → closedTerm c (opIn w) (valueIn w) t ≡ some u → decoded x ≡ worth (memoryOf c values base) t
       → decoded r ≡ worth (memoryOf c values base) u
   pub small : Small r
+
+-- where r is true, one operator stands between two words
+pub record Shorts (code : List ℕ) (from to : ℕ) (r : Bool) : Type 0 where
+  pub end : r ≡ true → to ≡ from + 3
+  pub first : r ≡ true → opAt (wordsOf code) from ≤ aCallWord
+  pub carried : r ≡ true → rightIn (opAt (wordsOf code) (from + 1)) ≡ aSpan → ⊥
 
 -- an operand of several words begins at a word with the head w: what stands inside it ends at l
 pub record Encloses (code : List ℕ) (at w l : ℕ) : Type 0 where

@@ -1,5 +1,6 @@
 // What an expression is worth, worked out from the linked words of the code store in place.
 ghost use mathlib.Core.Path.{_≡_};
+ghost use mathlib.Core.Bool.{true};
 ghost use Prim.Native.Nat.{_+_, _*_, _<_, _≤_};
 ghost use lib.ListN.{length, getD};
 ghost use lib.IntN.{pos};
@@ -12,7 +13,7 @@ ghost use Rattle.cells.specs.Words.{wordsOf};
 ghost use Rattle.code.specs.Cells.{headAt};
 ghost use Rattle.code.specs.Spans.{rightIn, prefixIn, operatorOf};
 ghost use Rattle.evaluation.specs.Answers.{firstError, decoded, Small, Gives, Stores, Stands, Evaluated};
-ghost use Rattle.evaluation.specs.Parts.{joined, failureOf, failing, Worked, Divided, addresses, Linked, Loaded, Leaf, Read, cellOf, opensAt, endsAt, Fused, Array, Indexed, Closes, Closed, Encloses, Entered};
+ghost use Rattle.evaluation.specs.Parts.{joined, failureOf, failing, Worked, Divided, addresses, Linked, Loaded, Leaf, Read, cellOf, opensAt, endsAt, Fused, Array, Indexed, Closes, Closed, Shorts, Encloses, Entered};
 ghost use Rattle.evaluation.specs.Parts as parts;
 
 // ---- ops, as the specs of code have them
@@ -418,7 +419,40 @@ fn enclosed<'a>(code: &'a [u8], values: &'a [u8], base: usize, at: usize, w: u32
     close(values, base, w, whole(&*code, &*values, base, s, l))
 }
 
-// The same, of any expression. What fails leaves at once, so that the loop goes on with values only.
+// One operator between two words, the form of most expressions: only then true.
+fn is_short(code: &[u8], from: usize, to: usize) -> bool
+    requires { ⌜ Stands (now code) from to ⌝ }
+    ensures { λ r. ⌜ Shorts (now (code .entry)) from to r ⌝ }
+{
+    if to == from + 3 {
+        let w = head(&*code, from);
+        if w % 256 <= CALL_WORD {
+            let x = head(&*code, from + 1);
+            if x / 16 % 4 != SPAN {
+                return true;
+            }
+        }
+    }
+    false
+}
+
+// Such an expression's worth. This calls nothing that calls it, and uses its slices as `&*code` and `&*values` alone: so they are passed in registers.
+fn short<'a>(code: &'a [u8], values: &'a [u8], base: usize, from: usize, to: usize) -> i64
+    requires { ⌜ Stores (now values) base × Stands (now code) from to × Shorts (now code) from to true ⌝ }
+    ensures { λ r. ⌜ Evaluated (now (code .entry)) (now (values .entry)) base from to r ⌝ }
+{
+    let w = head(&*code, from);
+    let x = head(&*code, from + 1);
+    fused(
+        &*values,
+        base,
+        x % 64,
+        x / 256,
+        leaf(&*values, base, w % 256, w / 256),
+    )
+}
+
+// What any expression is worth. What fails leaves at once, so that the loop goes on with values only.
 // `&*code` and `&*values` have a slice's two halves loaded one by one: a caller makes them anew for each call, the value store's at least, to which it
 // writes, and a load of both halves at once would wait for its stores.
 fn whole<'a>(code: &'a [u8], values: &'a [u8], base: usize, from: usize, to: usize) -> i64
@@ -447,7 +481,7 @@ fn whole<'a>(code: &'a [u8], values: &'a [u8], base: usize, from: usize, to: usi
         if op / 16 % 4 == SPAN {
             r = link(code, i);
             if !is_known(op % 16, acc) {
-                b = evaluate(&*code, &*values, base, i + 1, r);
+                b = part(&*code, &*values, base, i + 1, r);
                 if !is_value(b) {
                     return b;
                 }
@@ -465,26 +499,21 @@ fn whole<'a>(code: &'a [u8], values: &'a [u8], base: usize, from: usize, to: usi
     acc
 }
 
-// What the expression is worth that stands in the words from `from` up to `to`. Most have one operator between two words: they are done with no loop and
-// hardly a register saved.
+// What stands in a part of an expression.
+fn part<'a>(code: &'a [u8], values: &'a [u8], base: usize, from: usize, to: usize) -> i64
+    requires { ⌜ Stores (now values) base × Stands (now code) from to ⌝ }
+    ensures { λ r. ⌜ Evaluated (now (code .entry)) (now (values .entry)) base from to r ⌝ }
+{
+    if is_short(&*code, from, to) {
+        return short(&*code, &*values, base, from, to);
+    }
+    whole(&*code, &*values, base, from, to)
+}
+
+// What the expression is worth that stands in the words from `from` up to `to`.
 pub fn evaluate<'a>(code: &'a [u8], values: &'a [u8], base: usize, from: usize, to: usize) -> i64
     requires { ⌜ Stores (now values) base × Stands (now code) from to ⌝ }
     ensures { λ r. ⌜ Evaluated (now (code .entry)) (now (values .entry)) base from to r ⌝ }
 {
-    if to == from + 3 {
-        let w = head(code, from);
-        if w % 256 <= CALL_WORD {
-            let x = head(code, from + 1);
-            if x / 16 % 4 != SPAN {
-                return fused(
-                    values,
-                    base,
-                    x % 64,
-                    x / 256,
-                    leaf(values, base, w % 256, w / 256),
-                );
-            }
-        }
-    }
-    whole(&*code, &*values, base, from, to)
+    part(&*code, &*values, base, from, to)
 }

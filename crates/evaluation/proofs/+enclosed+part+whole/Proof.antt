@@ -11,33 +11,34 @@ use borrow.Author.Needs.{needs}
 use borrow.Author.Tests.{not-true, not-false}
 use borrow.Fn.Kinds.{In}
 use borrow.Fn.PlainCycle.{Measures, is, falls, and}
-use Rattle.evaluation.proofs.Numbers.{told, narrowed}
+use Rattle.evaluation.proofs.Numbers.{told}
 use Rattle.evaluation.proofs.Operators.{failing-is}
 use Rattle.evaluation.proofs.Operands.{small-read, small-leaf}
-use Rattle.evaluation.proofs.Steps.{Going, Sided, sided-read, subst₂, evaluated-read, going-read, goes-value, stands-in, first-leaf, start-leaf, encloses-on, encloses, start-enclosed, at-room, closes, inside-stands, inside-in, inside-less, short-leaf, entered, entered-short, run-fails, ends, turn-in, span-stands, span-less, side-known, side-span, right-fails, fused-leaf, side-leaf, turn-less, goes, turn-fails, second-in, second-leaf, short}
+use Rattle.evaluation.proofs.Steps.{Going, Sided, sided-read, subst₂, evaluated-read, going-read, goes-value, stands-in, first-leaf, start-leaf, encloses-on, encloses, start-enclosed, at-room, closes, inside-stands, inside-in, inside-less, short-leaf, entered, entered-short, run-fails, ends, turn-in, span-stands, span-less, side-known, side-span, right-fails, fused-leaf, side-leaf, turn-less, goes, turn-fails, shorts-told}
 use Rattle.evaluation.proofs.enclosed.Reads as enclosed
 use Rattle.evaluation.proofs.enclosed.Kinds as enclosed-kinds
-use Rattle.evaluation.proofs.+enclosed+evaluate+whole.Lts-enclosed as enclosed-lts
-use Rattle.evaluation.proofs.evaluate.Reads as evaluate
-use Rattle.evaluation.proofs.evaluate.Kinds as evaluate-kinds
-use Rattle.evaluation.proofs.+enclosed+evaluate+whole.Lts-evaluate as evaluate-lts
+use Rattle.evaluation.proofs.+enclosed+part+whole.Lts-enclosed as enclosed-lts
+use Rattle.evaluation.proofs.part.Reads as part
+use Rattle.evaluation.proofs.part.Kinds as part-kinds
+use Rattle.evaluation.proofs.+enclosed+part+whole.Lts-part as part-lts
 use Rattle.evaluation.proofs.whole.Reads as whole
 use Rattle.evaluation.proofs.whole.Kinds as whole-kinds
-use Rattle.evaluation.proofs.+enclosed+evaluate+whole.Lts-whole as whole-lts
+use Rattle.evaluation.proofs.+enclosed+part+whole.Lts-whole as whole-lts
 use Rattle.evaluation.proofs.close.Reads as close-reads
 use Rattle.evaluation.proofs.ends.Reads as ends-reads
 use Rattle.evaluation.proofs.failure.Reads as failure-reads
-use Rattle.evaluation.proofs.fused.Reads as fused-reads
 use Rattle.evaluation.proofs.head.Reads as head-reads
 use Rattle.evaluation.proofs.is_failing.Reads as is-failing-reads
 use Rattle.evaluation.proofs.is_known.Reads as is-known-reads
+use Rattle.evaluation.proofs.is_short.Reads as is-short-reads
 use Rattle.evaluation.proofs.is_value.Reads as is-value-reads
 use Rattle.evaluation.proofs.leaf.Reads as leaf-reads
 use Rattle.evaluation.proofs.link.Reads as link-reads
 use Rattle.evaluation.proofs.opens.Reads as opens-reads
 use Rattle.evaluation.proofs.operate.Reads as operate-reads
-use Rattle.evaluation.proofs.+enclosed+evaluate+whole.{statement}
-use Rattle.evaluation.proofs.+enclosed+evaluate+whole.Tie.{close}
+use Rattle.evaluation.proofs.short.Reads as short-reads
+use Rattle.evaluation.proofs.+enclosed+part+whole.{statement}
+use Rattle.evaluation.proofs.+enclosed+part+whole.Tie.{close}
 
 abbrev μ-enclosed : Measures 1 enclosed-kinds.ps ℕ
 μ-enclosed κs a = (a .1 .1 .1 .1 .1 .0 - a .1 .1 .1 .0) * 3
@@ -45,8 +46,8 @@ abbrev μ-enclosed : Measures 1 enclosed-kinds.ps ℕ
 abbrev μ-whole : Measures 1 whole-kinds.ps ℕ
 μ-whole κs a = (a .1 .1 .1 .1 .0 - a .1 .1 .1 .0) * 3 + 1
 
-abbrev μ-evaluate : Measures 1 evaluate-kinds.ps ℕ
-μ-evaluate κs a = (a .1 .1 .1 .1 .0 - a .1 .1 .1 .0) * 3 + 2
+abbrev μ-part : Measures 1 part-kinds.ps ℕ
+μ-part κs a = (a .1 .1 .1 .1 .0 - a .1 .1 .1 .0) * 3 + 2
 
 abbrev enclosed-at : ℕ → In 1 enclosed-kinds.ps
 enclosed-at t = and 1 enclosed-kinds.ps (is 1 enclosed-kinds.ps μ-enclosed t) enclosed.Pre
@@ -54,11 +55,11 @@ enclosed-at t = and 1 enclosed-kinds.ps (is 1 enclosed-kinds.ps μ-enclosed t) e
 abbrev enclosed-below : ℕ → In 1 enclosed-kinds.ps
 enclosed-below t = and 1 enclosed-kinds.ps (falls 1 enclosed-kinds.ps _<_ μ-enclosed t) enclosed.Pre
 
-abbrev evaluate-at : ℕ → In 1 evaluate-kinds.ps
-evaluate-at t = and 1 evaluate-kinds.ps (is 1 evaluate-kinds.ps μ-evaluate t) evaluate.Pre
+abbrev part-at : ℕ → In 1 part-kinds.ps
+part-at t = and 1 part-kinds.ps (is 1 part-kinds.ps μ-part t) part.Pre
 
-abbrev evaluate-below : ℕ → In 1 evaluate-kinds.ps
-evaluate-below t = and 1 evaluate-kinds.ps (falls 1 evaluate-kinds.ps _<_ μ-evaluate t) evaluate.Pre
+abbrev part-below : ℕ → In 1 part-kinds.ps
+part-below t = and 1 part-kinds.ps (falls 1 part-kinds.ps _<_ μ-part t) part.Pre
 
 abbrev whole-at : ℕ → In 1 whole-kinds.ps
 whole-at t = and 1 whole-kinds.ps (is 1 whole-kinds.ps μ-whole t) whole.Pre
@@ -76,11 +77,11 @@ abbrev μ-loop : whole-lts.MeasureT-loop
 abbrev calls-enclosed : ℕ → enclosed-lts.Claims
 calls-enclosed t = (opens-reads.Asked, opens-reads.Learnt, head-reads.Asked, head-reads.Learnt, leaf-reads.Asked, leaf-reads.Learnt, close-reads.Asked, close-reads.Learnt, whole-below t, whole.Post)
 
-abbrev calls-evaluate : ℕ → evaluate-lts.Claims
-calls-evaluate t = (head-reads.Asked, head-reads.Learnt, leaf-reads.Asked, leaf-reads.Learnt, fused-reads.Asked, fused-reads.Learnt, whole-below t, whole.Post)
+abbrev calls-part : ℕ → part-lts.Claims
+calls-part t = (is-short-reads.Asked, is-short-reads.Learnt, short-reads.Asked, short-reads.Learnt, whole-below t, whole.Post)
 
 abbrev calls-whole : ℕ → whole-lts.Claims
-calls-whole t = (head-reads.Asked, head-reads.Learnt, leaf-reads.Asked, leaf-reads.Learnt, link-reads.Asked, link-reads.Learnt, enclosed-below t, enclosed.Post, is-value-reads.Asked, is-value-reads.Learnt, ends-reads.Asked, ends-reads.Learnt, is-known-reads.Asked, is-known-reads.Learnt, evaluate-below t, evaluate.Post, operate-reads.Asked, operate-reads.Learnt, is-failing-reads.Asked, is-failing-reads.Learnt, failure-reads.Asked, failure-reads.Learnt)
+calls-whole t = (head-reads.Asked, head-reads.Learnt, leaf-reads.Asked, leaf-reads.Learnt, link-reads.Asked, link-reads.Learnt, enclosed-below t, enclosed.Post, is-value-reads.Asked, is-value-reads.Learnt, ends-reads.Asked, ends-reads.Learnt, is-known-reads.Asked, is-known-reads.Learnt, part-below t, part.Post, operate-reads.Asked, operate-reads.Learnt, is-failing-reads.Asked, is-failing-reads.Learnt, failure-reads.Asked, failure-reads.Learnt)
 
 -- ---- the right side was read: evaluated, not wanted, or a leaf
 abbrev Siding : ℕ → Type 0
@@ -178,11 +179,11 @@ whole-link-requires-2 t c κs = search (needs, turn-in)
 whole-is-known-requires : (t : ℕ) → whole-lts.Need-is-known-requires (calls-whole t) (whole-at t) whole.Post Inv-loop μ-loop
 whole-is-known-requires t c κs = search needs
 
-whole-add-evaluate : (t : ℕ) → whole-lts.Need-add-evaluate (calls-whole t) (whole-at t) whole.Post Inv-loop μ-loop
-whole-add-evaluate t c = omega (arith, turn-in (now (c .before .before .before .before .before .before .before .before .before .before .before .before .args .code)) (now (c .before .before .before .before .before .before .before .before .before .before .before .before .args .values)) (c .before .before .before .before .before .before .before .before .before .before .before .before .args .base) (c .before .before .before .before .before .before .before .before .before .before .before .before .args .from) (c .before .before .before .before .before .before .before .before .before .before .before .before .args .to) (toZ w64 (c .before .before .before .before .before .before .before .loop .acc)) (c .before .before .before .before .before .before .before .loop .i) (c .before .before .before .before .before .before .before .loop .inv) (c .before .before .before .before .before .before .loop-test .taken))
+whole-add-part : (t : ℕ) → whole-lts.Need-add-part (calls-whole t) (whole-at t) whole.Post Inv-loop μ-loop
+whole-add-part t c = omega (arith, turn-in (now (c .before .before .before .before .before .before .before .before .before .before .before .before .args .code)) (now (c .before .before .before .before .before .before .before .before .before .before .before .before .args .values)) (c .before .before .before .before .before .before .before .before .before .before .before .before .args .base) (c .before .before .before .before .before .before .before .before .before .before .before .before .args .from) (c .before .before .before .before .before .before .before .before .before .before .before .before .args .to) (toZ w64 (c .before .before .before .before .before .before .before .loop .acc)) (c .before .before .before .before .before .before .before .loop .i) (c .before .before .before .before .before .before .before .loop .inv) (c .before .before .before .before .before .before .loop-test .taken))
 
-whole-evaluate-requires : (t : ℕ) → whole-lts.Need-evaluate-requires (calls-whole t) (whole-at t) whole.Post Inv-loop μ-loop
-whole-evaluate-requires t c κs =
+whole-part-requires : (t : ℕ) → whole-lts.Need-part-requires (calls-whole t) (whole-at t) whole.Post Inv-loop μ-loop
+whole-part-requires t c κs =
     let l = c .before .before .link2 in
     (omega (arith, span-less (now (c .before .before .before .before .before .before .before .before .before .before .before .before .args .code)) (now (c .before .before .before .before .before .before .before .before .before .before .before .before .args .values)) (c .before .before .before .before .before .before .before .before .before .before .before .before .args .base) (c .before .before .before .before .before .before .before .before .before .before .before .before .args .from) (c .before .before .before .before .before .before .before .before .before .before .before .before .args .to) (toZ w64 (c .before .before .before .before .before .before .before .loop .acc)) (c .before .before .before .before .before .before .before .loop .i) (c .before .before .before .before .before .before .before .loop .inv) (c .before .before .before .before .before .before .loop-test .taken) (c .before .before .before .before .before .head2 .result) (c .before .before .before .before .before .head2 .ensures) (c .before .before .before .if3 .taken) (l .result) (l .ensures .is)), (c .before .before .before .before .before .before .before .before .before .before .before .before .pre .1 .0, span-stands (now (c .before .before .before .before .before .before .before .before .before .before .before .before .args .code)) (now (c .before .before .before .before .before .before .before .before .before .before .before .before .args .values)) (c .before .before .before .before .before .before .before .before .before .before .before .before .args .base) (c .before .before .before .before .before .before .before .before .before .before .before .before .args .from) (c .before .before .before .before .before .before .before .before .before .before .before .before .args .to) (toZ w64 (c .before .before .before .before .before .before .before .loop .acc)) (c .before .before .before .before .before .before .before .loop .i) (c .before .before .before .before .before .before .before .loop .inv) (c .before .before .before .before .before .before .loop-test .taken) (c .before .before .before .before .before .head2 .result) (c .before .before .before .before .before .head2 .ensures) (c .before .before .before .if3 .taken) (l .result) (l .ensures .is)))
 
@@ -191,7 +192,7 @@ whole-is-value-requires-2 t c κs = search needs
 
 whole-returns-2 : (t : ℕ) → whole-lts.Need-returns-2 (calls-whole t) (whole-at t) whole.Post Inv-loop μ-loop
 whole-returns-2 t c =
-    let b = c .before .before .evaluate in
+    let b = c .before .before .part in
     evaluated-read _ _ _ _ _ (b .result) (search needs)
     (right-fails (now (c .before .before .before .before .before .before .before .before .before .before .before .before .before .before .before .args .code)) (now (c .before .before .before .before .before .before .before .before .before .before .before .before .before .before .before .args .values)) (c .before .before .before .before .before .before .before .before .before .before .before .before .before .before .before .args .base) (c .before .before .before .before .before .before .before .before .before .before .before .before .before .before .before .args .from) (c .before .before .before .before .before .before .before .before .before .before .before .before .before .before .before .args .to) (toZ w64 (c .before .before .before .before .before .before .before .before .before .before .loop .acc)) (c .before .before .before .before .before .before .before .before .before .before .loop .i) (c .before .before .before .before .before .before .before .before .before .before .loop .inv) (c .before .before .before .before .before .before .before .before .before .loop-test .taken) (c .before .before .before .before .before .before .before .before .head2 .result) (c .before .before .before .before .before .before .before .before .head2 .ensures) (c .before .before .before .before .before .before .if3 .taken) (c .before .before .before .before .before .link2 .result) (c .before .before .before .before .before .link2 .ensures .is) (c .before .before .before .before .is-known .result) (c .before .before .before .before .is-known .ensures) (b .result) (b .ensures)
     (not-true _ (c .before .before .before .if4 .taken)) (told (b .result) (c .before .is-value2 .result) false (search needs) (c .before .is-value2 .ensures) (not-true _ (c .if5 .taken))))
@@ -226,37 +227,25 @@ whole-loop-again t c =
 whole-returns-4 : (t : ℕ) → whole-lts.Need-returns-4 (calls-whole t) (whole-at t) whole.Post Inv-loop μ-loop
 whole-returns-4 t c = search (needs, ends)
 
--- ---- one operator between two words
-evaluate-add-if1 : (t : ℕ) → evaluate-lts.Need-add-if1 (calls-evaluate t) (evaluate-at t) evaluate.Post
-evaluate-add-if1 t c = omega (arith, stands-in (now (c .before .before .args .code)) (now (c .before .before .args .values)) (c .before .before .args .base) (c .before .before .args .from) (c .before .before .args .to) (c .before .before .pre .1 .1))
+-- ---- a part
+part-is-short-requires : (t : ℕ) → part-lts.Need-is-short-requires (calls-part t) (part-at t) part.Post
+part-is-short-requires t c κs = search needs
 
-evaluate-head-requires : (t : ℕ) → evaluate-lts.Need-head-requires (calls-evaluate t) (evaluate-at t) evaluate.Post
-evaluate-head-requires t c κs = search (needs, stands-in)
+part-short-requires : (t : ℕ) → part-lts.Need-short-requires (calls-part t) (part-at t) part.Post
+part-short-requires t c κs = (search needs, search needs, search (needs, shorts-told))
 
-evaluate-add-head : (t : ℕ) → evaluate-lts.Need-add-head (calls-evaluate t) (evaluate-at t) evaluate.Post
-evaluate-add-head t c = search needs
+part-returns : (t : ℕ) → part-lts.Need-returns (calls-part t) (part-at t) part.Post
+part-returns t c = search (needs, evaluated-read)
 
-evaluate-head-requires-2 : (t : ℕ) → evaluate-lts.Need-head-requires-2 (calls-evaluate t) (evaluate-at t) evaluate.Post
-evaluate-head-requires-2 t c κs = search (needs, second-in)
+part-whole-requires : (t : ℕ) → part-lts.Need-whole-requires (calls-part t) (part-at t) part.Post
+part-whole-requires t c κs = search needs
 
-evaluate-leaf-requires : (t : ℕ) → evaluate-lts.Need-leaf-requires (calls-evaluate t) (evaluate-at t) evaluate.Post
-evaluate-leaf-requires t c κs = (search needs, search (needs, first-leaf))
+part-returns-2 : (t : ℕ) → part-lts.Need-returns-2 (calls-part t) (part-at t) part.Post
+part-returns-2 t c = search (needs, evaluated-read)
 
-evaluate-fused-requires : (t : ℕ) → evaluate-lts.Need-fused-requires (calls-evaluate t) (evaluate-at t) evaluate.Post
-evaluate-fused-requires t c κs = (search needs, search (needs, second-leaf), search needs, search needs)
-
-evaluate-returns : (t : ℕ) → evaluate-lts.Need-returns (calls-evaluate t) (evaluate-at t) evaluate.Post
-evaluate-returns t c = search (needs, short)
-
-evaluate-whole-requires : (t : ℕ) → evaluate-lts.Need-whole-requires (calls-evaluate t) (evaluate-at t) evaluate.Post
-evaluate-whole-requires t c κs = search needs
-
-evaluate-returns-2 : (t : ℕ) → evaluate-lts.Need-returns-2 (calls-evaluate t) (evaluate-at t) evaluate.Post
-evaluate-returns-2 t c = search (needs, evaluated-read)
-
-pub +enclosed+evaluate+whole-spec : {M : Type 1} → statement M
-+enclosed+evaluate+whole-spec =
-    close μ-enclosed μ-evaluate μ-whole
+pub +enclosed+part+whole-spec : {M : Type 1} → statement M
++enclosed+part+whole-spec =
+    close μ-enclosed μ-part μ-whole
     (λ t. enclosed-lts.spec (calls-enclosed t) (enclosed-at t) enclosed.Post
     (enclosed-opens-requires t)
     (enclosed-add-if1 t)
@@ -267,16 +256,12 @@ pub +enclosed+evaluate+whole-spec : {M : Type 1} → statement M
     (enclosed-whole-requires t)
     (enclosed-close-requires-2 t)
     (enclosed-returns-2 t))
-    (λ t. evaluate-lts.spec (calls-evaluate t) (evaluate-at t) evaluate.Post
-    (evaluate-add-if1 t)
-    (evaluate-head-requires t)
-    (evaluate-add-head t)
-    (evaluate-head-requires-2 t)
-    (evaluate-leaf-requires t)
-    (evaluate-fused-requires t)
-    (evaluate-returns t)
-    (evaluate-whole-requires t)
-    (evaluate-returns-2 t))
+    (λ t. part-lts.spec (calls-part t) (part-at t) part.Post
+    (part-is-short-requires t)
+    (part-short-requires t)
+    (part-returns t)
+    (part-whole-requires t)
+    (part-returns-2 t))
     λ t. whole-lts.spec (calls-whole t) (whole-at t) whole.Post Inv-loop μ-loop
     (whole-head-requires t)
     (whole-add-i t)
@@ -291,8 +276,8 @@ pub +enclosed+evaluate+whole-spec : {M : Type 1} → statement M
     (whole-add-r t)
     (whole-link-requires-2 t)
     (whole-is-known-requires t)
-    (whole-add-evaluate t)
-    (whole-evaluate-requires t)
+    (whole-add-part t)
+    (whole-part-requires t)
     (whole-is-value-requires-2 t)
     (whole-returns-2 t)
     (whole-leaf-requires-2 t)
