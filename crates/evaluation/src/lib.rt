@@ -510,10 +510,13 @@ fn part<'a>(code: &'a [u8], values: &'a [u8], base: usize, from: usize, to: usiz
     whole(&*code, &*values, base, from, to)
 }
 
-// What the expression is worth that stands in the words from `from` up to `to`.
+// What the expression is worth that stands in the words from `from` up to `to`. As `part`, but outside the cycle of calls, so that slices are passed to it in registers.
 pub fn evaluate<'a>(code: &'a [u8], values: &'a [u8], base: usize, from: usize, to: usize) -> i64
     requires { ⌜ Stores (now values) base × Stands (now code) from to ⌝ }
     ensures { λ r. ⌜ Evaluated (now (code .entry)) (now (values .entry)) base from to r ⌝ }
 {
-    part(&*code, &*values, base, from, to)
+    if is_short(&*code, from, to) {
+        return short(&*code, &*values, base, from, to);
+    }
+    whole(&*code, &*values, base, from, to)
 }
