@@ -60,7 +60,7 @@ fn write_negative(out: &mut [u8], n: u64, count: usize)
 }
 
 // Writes z, of count bytes, to the front of what is lent.
-fn write_number(out: &mut [u8], z: i64, count: usize)
+pub fn write_number(out: &mut [u8], z: i64, count: usize)
     requires { ⌜ (count ≡ length (decimal z)) × (count ≤ length (now out)) ⌝ }
     ensures { λ _. ⌜ now (out .exit) ≡ decimal z ++ drop count (now (out .entry)) ⌝ }
 {

@@ -19,7 +19,7 @@ use Rattle.paper.specs.Names.{DataType, aNum, aBool, refusedPiece, Meaning, unk
 use Rattle.paper.specs.Types.{Fault, fault, faultIf, leastOf, least, comesFirst, Judged, judged, judgedNothing, differs, wanted, judgeName, judgeElement, judgeJoined, judgeSigned, judgeLeaf, judge, faultsOf, ofType, constantWorth, constantFaults, raisesError, isNoSize}
 use Rattle.paper.specs.Declarations.{moduleWordLimit, crosses, Data, Filling, declareName, declareContent, declareData, declareParameters, noData, Signature, dataTexts, routineNames, routineNameFaults, moduleFilling, moduleData, routineFilling, routineData}
 use Rattle.paper.specs.Checks.{Setting, isOtherKind, noSignature, judgeScalarTarget, judgeTarget, argumentFaults, signatureFaults, calleeFaults, callFaults, resultFaults, returnFaults, optionalNum, simpleFaults, caseFaults, statementFaults, listFaults, armFaults, casesFaults, handlerFaults, routineFaults, allRoutineFaults, faults}
-use Rattle.demands.proofs.Choices.{chosen, forked}
+use Rattle.raised.proofs.Choices.{chosen, forked}
 use Rattle.demands.proofs.Parsing.{Is, is-by, ExprIn, first-in, OptionalIn, SortsOfTarget, SimpleSorts, Sorts, SortsOfList, SortsOfArms, SortsOfCases, SortsOfHandler, ContentIn, DeclaredIn, ParameterIn, SortsOfRoutine, SortsOfModule}
 use Rattle.demands.proofs.Alls.{_and_, first-of, rest-of}
 use Rattle.demands.specs.Vocabulary.{All, nothing, _also_}

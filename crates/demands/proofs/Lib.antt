@@ -1,4 +1,3 @@
-pub mod Choices
 pub mod Alls
 pub mod Errors
 pub mod Effects

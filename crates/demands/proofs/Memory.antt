@@ -12,7 +12,7 @@ use borrow.Author.Tests.{ltb-false}
 use Rattle.laws.proofs.Tests.{test, false-true}
 use Rattle.paper.specs.Declarations.{moduleWordLimit}
 use Rattle.paper.specs.Answer.{storeWords, Record, Result, refusedWith, tooSmall, result, Lent, Answer, questionOf, storeAfter, answer}
-use Rattle.demands.proofs.Choices.{forked}
+use Rattle.raised.proofs.Choices.{forked}
 use Rattle.demands.proofs.Records.{Sound, small-allowed, result-1, result-sound}
 use Rattle.demands.proofs.MoreRoom.{Counted, result-counted}
 use Rattle.demands.specs.Demands.{Allowed, refused, ended, Touched, Demand1}

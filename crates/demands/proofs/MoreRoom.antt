@@ -12,7 +12,7 @@ use Rattle.paper.specs.Words.{Word, Refusal}
 use Rattle.paper.specs.States.{State, Rooms}
 use Rattle.paper.specs.Running.{Ended, started}
 use Rattle.paper.specs.Answer.{depthLimit, Verdict, refusedBy, accepted, verdict, Record, Question, Result, refusedWith, endedWith, ranTo, carriedOut, tooSmall, badDepth, result, Lent, questionOf, storeAfter, answer}
-use Rattle.demands.proofs.Choices.{forked}
+use Rattle.raised.proofs.Choices.{forked}
 use Rattle.demands.proofs.Growing.{begins-self, ran}
 use Rattle.demands.proofs.Effects.{RoomsAtLeast}
 use Rattle.demands.proofs.Runs.{Precedes, SameOrBrokeOff, ended-alike, broke-off, run-more}

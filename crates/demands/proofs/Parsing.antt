@@ -14,7 +14,7 @@ use Rattle.paper.specs.Expressions.{Parsed, Parser, got, no, _>>=_, parts, nest
 use Rattle.paper.specs.Statements.{targetIndex, target, valueSide, callSide, rightSide, assignment, procedureCall, startedByName, withOptional, written, tpWrite, tpReadNum, simpleWord, simpleStatement, elsePart, lastArm, arms, ifThen, ifSimple, ifStatement, stepPart, forStatement, whileStatement, defaultPart, lastCase, cases, testStatement, opening, plainStatement, statement, statements, listIn, list}
 use Rattle.paper.specs.Form.{initialPart, sizePart, varPart, constPart, datum, declaration, declarations, parameter, parameters, errorPart, routineFrom, function, routine, routines, formed}
 use Rattle.paper.specs.Checks.{isSome}
-use Rattle.demands.proofs.Choices.{chosen, forked, chosen-by, forked-by}
+use Rattle.raised.proofs.Choices.{chosen, forked, chosen-by, forked-by}
 use Rattle.demands.specs.Vocabulary.{All, nothing, _also_, Closes, by-error, by-endproc, by-endfunc}
 
 -- The word i is there.

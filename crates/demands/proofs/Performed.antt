@@ -15,7 +15,7 @@ use Rattle.paper.specs.Terms.{Term, Memory, Located, at, fails, locate, worth}
 use Rattle.paper.specs.Steps.{Spot, scalar, elementOf, Action, store, callFor, callOf, giveBack, raise, handOn, exit, retry, tryNext, write, read, choose, select, testWhile, enterFor, repeatFor, endList, Program}
 use Rattle.paper.specs.States.{Loop, Location, moduleWord, callWord, Call, State, Rooms, Effect, made, failing, handing, ending, lacking, withValue, withSpot, withValues, withCalls, withWords, withOutput, withInput, locationOf, onTop, onDepth, goTo, setWord, setLoop, setFailed, storeAt}
 use Rattle.paper.specs.Running.{newCall, calling, storeResult, returning, retrying, tryingNext, adding, taking, writing, readNum, choosing, holds, matching, looping, passes, withStep, entering, repeating, ending-list, perform, codeAt, stepOf}
-use Rattle.demands.proofs.Choices.{chosen, chosen-by, forked}
+use Rattle.raised.proofs.Choices.{chosen, chosen-by, forked}
 use Rattle.demands.proofs.Errors.{Sound, SoundPlace, locate-sound, worth-sound, ranged-sound, raised-number}
 use Rattle.demands.specs.Vocabulary.{ErrorNumber, bare, CallsRoutine, for-result, for-nothing, Among, here, there, waysOf, GoesOn, CallsAfter, goes-on, begins, returns, retries, tries-next}
 

@@ -10,7 +10,7 @@ use lib.ListN.{length, getD, take, drop, length-take, length-drop}
 use borrow.Author.Tests.{ltb-true}
 use Rattle.paper.specs.Sorts.{signSort}
 use Rattle.paper.specs.Words.{textLimit, wordLimit, nameLimit, stringLimit, largestNumber, QUOTE, EXCLAMATION, LF, permitted, permittedInside, letter, digit, inName, separates, spoilsNumber, barredInString, leading, Scan, word, refused, scanName, valueOf, scanNumber, stringEnd, scanString, scanSign, scan, Gap, upTo, badByte, gap, placeAfter, Refusal, Next, next, ended, refusal, scanned, wordAt, following, Reading, readFrom, reading}
-use Rattle.demands.proofs.Choices.{forked, forked-by}
+use Rattle.raised.proofs.Choices.{forked, forked-by}
 use Rattle.demands.specs.Vocabulary.{All, nothing, _also_}
 
 -- ---- a word

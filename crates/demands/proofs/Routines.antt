@@ -12,7 +12,7 @@ use Rattle.paper.specs.Names.{DataType, Meaning, unknown, variable, array, cons
 use Rattle.paper.specs.Types.{Fault}
 use Rattle.paper.specs.Declarations.{Data, Filling, declareName, declareContent, declareData, declareParameters, noData, routineNames, moduleData, moduleScopes, routineFilling, routineData, routineScopes}
 use Rattle.paper.specs.Steps.{routineOf}
-use Rattle.demands.proofs.Choices.{chosen, forked}
+use Rattle.raised.proofs.Choices.{chosen, forked}
 use Rattle.demands.proofs.Alls.{_and_, first-of, rest-of}
 use Rattle.demands.specs.Vocabulary.{All, nothing, _also_}
 

@@ -13,7 +13,7 @@ use Rattle.paper.specs.Expressions.{Parser, got, _>>=_, parts, products, relati
 use Rattle.paper.specs.Terms.{Term, unary, binary}
 use Rattle.paper.specs.Names.{DataType, Scopes, sortIn}
 use Rattle.paper.specs.Types.{Fault, Judged, judged, judge, judgeSigned, judgeJoined, termOf}
-use Rattle.demands.proofs.Choices.{chosen}
+use Rattle.raised.proofs.Choices.{chosen}
 use Rattle.demands.specs.Demands.{ExpressionLesson}
 
 module _ (W : ℕ → ℕ) (inner : Parser Expr) where

@@ -14,7 +14,7 @@ use Rattle.paper.specs.Names.{sortIn}
 use Rattle.paper.specs.Steps.{Action, store, callFor, callOf, giveBack, raise, handOn, exit, retry, tryNext, write, read, choose, select, testWhile, enterFor, repeatFor, endList, Step, Program}
 use Rattle.paper.specs.States.{Location, Call, State, Rooms, Effect, made, failing, handing, ending, lacking, withCalls, withErrno, counted, goTo, setFailed}
 use Rattle.paper.specs.Running.{Ended, Outcome, goesOn, stopped, stopping, noCode, codeAt, stepOf, nextStep, newCall, resume, takes, caught, returning, ending-list, perform, arising, settled, takeStep, nextPlace, run, started}
-use Rattle.demands.proofs.Choices.{chosen}
+use Rattle.raised.proofs.Choices.{chosen}
 use Rattle.demands.proofs.Alls.{first-of, rest-of, back-of, one-among, one-at}
 use Rattle.demands.proofs.Tables.{Starts, StandsAt, CallsIn, Fits, Known, known-step, CodeFits, ProgramFits}
 use Rattle.demands.proofs.Performed.{Performed, makes, fails-with, ends, lacks, performed, OwnEnding, returned, exited, unreturned, Callee, of-function, of-procedure, Writes, by-write, by-read, Lacking, no-depth, no-input, no-room}

@@ -19,7 +19,7 @@ use Rattle.paper.specs.Types.{termOf}
 use Rattle.paper.specs.Declarations.{routineScopes}
 use Rattle.paper.specs.Steps.{optionalTerm, conditions, constants, begin, firstWord, firstStep, Action, store, callFor, callOf, giveBack, raise, handOn, exit, retry, tryNext, write, read, choose, select, testWhile, enterFor, repeatFor, endList, Step, step, actionOf, simpleStep, stepsOf, stepsOfList, stepsOfArms, stepsOfCases, Code, Program, listSteps, codeOf, programOf}
 use Rattle.paper.specs.Running.{stepNamed}
-use Rattle.demands.proofs.Choices.{forked, forked-by}
+use Rattle.raised.proofs.Choices.{forked, forked-by}
 use Rattle.demands.proofs.Alls.{_and_, first-of, rest-of, front-of, back-of, all-map}
 use Rattle.demands.proofs.Routines.{ScopesIn, meaning-in, routine-in, enter-in, scopes-in}
 use Rattle.demands.proofs.Parsing.{SimpleSorts, Sorts, SortsOfList, SortsOfArms, SortsOfCases, SortsOfRoutineList, SortsOfHandler, SortsOfRoutine}

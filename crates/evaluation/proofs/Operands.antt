@@ -24,14 +24,12 @@ use Rattle.code.specs.Cells.{opIn, valueIn, errnoCell}
 use Rattle.code.specs.Spans.{bias, aLiteral, aModuleWord, aCallWord, aModuleElement, aCallElement, aParenthesis, firstIn, sizeIn, prefixIn, leafTerm, elementTerm, memoryIn}
 use Rattle.code.proofs.Options.{same-some}
 use Rattle.code.proofs.Operands.{leaf-literal, leaf-errno, leaf-module, leaf-call, by-leaf, arrayIn, roomIn, Shaped, shaped}
+use Rattle.reading.specs.Reading.{cellValues, Loaded}
 use Rattle.evaluation.specs.Answers.{firstError, decoded, Small, Gives, Counts, memoryOf, Stores}
-use Rattle.evaluation.specs.Parts.{cellValues, Loaded, Leaf, Read, cellOf, closedTerm, opensAt, endsAt, Array, Indexed, Closes, Closed}
+use Rattle.evaluation.specs.Parts.{Leaf, Read, cellOf, closedTerm, opensAt, endsAt, Array, Indexed, Closes, Closed}
 use Rattle.evaluation.proofs.Numbers.{is-value, is-error, gives-value, gives-error, gives-same, told}
 
 -- ---- a word
-pub loads : (k n : ℕ) → k < cellValues → k ≡ n → (z : ℤ) → SFits w64 z → z ≡ toZ w32 k → Loaded n (read z)
-loads k n h e z s q = rw (toZ-ofZ s) (record { is = q ∙ ap (toZ w32) e; small = rw q (toZ-fits w32 k (record { fits = h })) })
-
 map-at : (X : List ℕ) (k : ℕ) → getD (map (toZ w32) X) k (pos 0) ≡ toZ w32 (getD X k 0)
 map-at X k = List·getD-map (toZ w32) X k 0
 

@@ -22,8 +22,9 @@ use Rattle.code.specs.Cells.{opIn, valueIn, headAt, opAt, linkAt}
 use Rattle.code.specs.Spans.{rightIn, operatorOf, operatorIn, leafTerm, operandTerm, rightEnd, rightTerm, chain, termIn}
 use Rattle.code.proofs.Operands.{of-any, of-leaf}
 use Rattle.code.proofs.Spanning.{end-span, end-leaf, right-span, right-leaf, chain-done, Step, chain-step, right-moves, Begun, begun, span-grows, single}
+use Rattle.reading.specs.Reading.{cellValues}
 use Rattle.evaluation.specs.Answers.{firstError, decoded, Small, Gives, Counts, termOf, memoryOf, Stands, Evaluated}
-use Rattle.evaluation.specs.Parts.{cellValues, joined, failureOf, failing, Worked, Leaf, Read, Fused, Shorts, closedTerm, opensAt, endsAt, Closes, Closed, Encloses, Entered}
+use Rattle.evaluation.specs.Parts.{joined, failureOf, failing, Worked, Leaf, Read, Fused, Shorts, closedTerm, opensAt, endsAt, Closes, Closed, Encloses, Entered}
 use Rattle.evaluation.proofs.Numbers.{is-value, is-error, small-value}
 use Rattle.evaluation.proofs.Places.{head-in, operand-some, right-in}
 

@@ -9,13 +9,14 @@ use lib.ListN.{length}
 use lib.IntN.{ℤ}
 use lib.Signed.{ltZ}
 use mir.Syntax.{w32}
-use mir.Val.{SFits, toZ}
+use mir.Val.{SFits}
 use Rattle.paper.specs.Basics.{if_then_else_}
 use Rattle.paper.specs.Numbers.{num, Value, value, error, isZero, overflow, divZero}
 use Rattle.paper.specs.Terms.{Term, unary, known, combined, worth}
 use Rattle.cells.specs.Words.{wordsOf}
-use Rattle.code.specs.Cells.{opIn, valueIn, opAt, linkAt}
+use Rattle.code.specs.Cells.{opIn, valueIn, opAt}
 use Rattle.code.specs.Spans.{aSpan, aCallWord, aCallElement, aParenthesis, rightIn, prefixIn, operatorOf, operatorIn, leafTerm, elementTerm}
+use Rattle.reading.specs.Reading.{valueEnd}
 use Rattle.evaluation.specs.Answers.{decoded, Small, Counts, termOf, memoryOf}
 
 -- ---- operators
@@ -56,32 +57,11 @@ pub record Divided (b exact z : ℤ) : Type 0 where
 abbrev pub addresses : ℕ
 addresses = 18446744073709551616
 
--- what a cell counts to, and the value that a head has above its op
-abbrev pub cellValues : ℕ
-cellValues = 4294967296
-
-abbrev pub headValues : ℕ
-headValues = 16777216
-
--- what a link counts to
-abbrev pub links : ℕ
-links = 65536
-
--- a link that was read
-pub record Linked (code : List ℕ) (i l : ℕ) : Type 0 where
-  pub is : l ≡ linkAt (wordsOf code) i
-  pub small : l < links
-
--- a word that was loaded
-pub record Loaded (k : ℕ) (z : ℤ) : Type 0 where
-  pub is : z ≡ toZ w32 k
-  pub small : SFits w32 z
-
 pub record Leaf (op v : ℕ) : Type 0 where
   pub c : Counts
   pub t : Term
   pub is : leafTerm (c .m) (c .n) op v ≡ some t
-  pub bits : v < headValues
+  pub bits : v < valueEnd
 
 pub record Read (values : List ℕ) (base op v : ℕ) (z : ℤ) : Type 0 where
   pub is : (c : Counts) (t : Term) → leafTerm (c .m) (c .n) op v ≡ some t → worth (memoryOf c values base) t ≡ value z

@@ -1,20 +1,20 @@
 // What an expression is worth, worked out from the linked words of the code store in place.
 ghost use mathlib.Core.Path.{_≡_};
 ghost use mathlib.Core.Bool.{true};
-ghost use Prim.Native.Nat.{_+_, _*_, _<_, _≤_};
-ghost use lib.ListN.{length, getD};
+ghost use Prim.Native.Nat.{_+_, _<_};
 ghost use lib.IntN.{pos};
 ghost use lib.Signed.{ltZ, quotZ, remZ};
 ghost use mir.Syntax.{w32};
 ghost use mir.Val.{SFits};
 ghost use Rattle.paper.specs.Numbers.{value, error, isZero, same};
 ghost use Rattle.paper.specs.Terms.{truth, applied, known};
-ghost use Rattle.cells.specs.Words.{wordsOf};
-ghost use Rattle.code.specs.Cells.{headAt};
 ghost use Rattle.code.specs.Spans.{rightIn, prefixIn, operatorOf};
 ghost use Rattle.evaluation.specs.Answers.{firstError, decoded, Small, Gives, Stores, Stands, Evaluated};
-ghost use Rattle.evaluation.specs.Parts.{joined, failureOf, failing, Worked, Divided, addresses, Linked, Loaded, Leaf, Read, cellOf, opensAt, endsAt, Fused, Array, Indexed, Closes, Closed, Shorts, Encloses, Entered};
+ghost use Rattle.evaluation.specs.Parts.{joined, failureOf, failing, Worked, Divided, addresses, Leaf, Read, cellOf, opensAt, endsAt, Fused, Array, Indexed, Closes, Closed, Shorts, Encloses, Entered};
 ghost use Rattle.evaluation.specs.Parts as parts;
+use reading::head;
+use reading::link;
+use reading::load;
 
 // ---- ops, as the specs of code have them
 
@@ -46,9 +46,6 @@ const OR: u32 = 13;
 
 // the first operator that can divide
 const DIV: u32 = 3;
-
-// a tail has its link above its place
-const PLACES: u32 = 65536;
 
 // ---- numbers
 
@@ -259,13 +256,6 @@ fn apply(op: u32, a: i64) -> i64
 
 // ---- operands
 
-fn load(values: &[u8], i: usize) -> i64
-    requires { ⌜ i * 4 + 4 ≤ length (now values) ⌝ }
-    ensures { λ z. ⌜ Loaded (getD (wordsOf (now (values .entry))) i 0) z ⌝ }
-{
-    numbers::number_of(cells::get(values, i))
-}
-
 // The cell of a word: those with the op `own` are the module's, and any other the call's.
 fn cell(base: usize, op: u32, own: u32, word: usize) -> usize
     requires { ⌜ base + word < addresses ⌝ }
@@ -391,20 +381,6 @@ fn ends(op: u32, link: usize) -> usize
 }
 
 // ---- spans
-
-fn head(code: &[u8], i: usize) -> u32
-    requires { ⌜ i * 8 + 8 ≤ length (now code) ⌝ }
-    ensures { λ r. ⌜ r ≡ headAt (wordsOf (now (code .entry))) i ⌝ }
-{
-    cells::get(code, i * 2)
-}
-
-fn link(code: &[u8], i: usize) -> usize
-    requires { ⌜ i * 8 + 8 ≤ length (now code) ⌝ }
-    ensures { λ r. ⌜ Linked (now (code .entry)) i r ⌝ }
-{
-    (cells::get(code, i * 2 + 1) / PLACES) as usize
-}
 
 // An operand of several words that begins at a word with the head w, and what stands inside it ends at l. A word alone is read without a call.
 fn enclosed<'a>(code: &'a [u8], values: &'a [u8], base: usize, at: usize, w: u32, l: usize) -> i64

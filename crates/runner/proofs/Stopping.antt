@@ -11,7 +11,7 @@ use Rattle.paper.specs.Basics.{if_then_else_}
 use Rattle.cells.specs.Words.{wordsOf}
 use Rattle.cells.proofs.Laws.{length-words}
 use Rattle.code.specs.Cells.{placeAt}
-use Rattle.runner.specs.Machine.{lackedBy}
+use Rattle.machine.specs.Machine.{lackedBy}
 use Rattle.runner.specs.Runs.{Stops, byStep, byLack, Stopped}
 
 pub no-place : (code : List ℕ) (i : ℕ) → length code % 8 ≡ 0 → length code / 8 ≤ i → 0 ≡ placeAt (wordsOf code) i

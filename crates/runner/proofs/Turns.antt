@@ -24,17 +24,18 @@ use Rattle.cells.specs.Words.{wordsOf}
 use Rattle.code.specs.Cells.{windowOf, placeAt, errnoCell}
 use Rattle.code.specs.Steps.{Head}
 use Rattle.code.specs.Windows.{writtenCell, usedCell, callIn, waiting, writtenIn, stateIn}
+use Rattle.reading.specs.Reading.{cellValues}
 use Rattle.evaluation.specs.Answers.{firstError}
 use Rattle.runner.specs.declared.Ended.{Ended}
-use Rattle.runner.specs.declared.errors.Taken.{Taken}
-use Rattle.runner.specs.Live.{Live}
-use Rattle.runner.specs.Machine.{depthLimit, entered, left, ended, lackedBy, handed, Here, LastWindow, Lends, Comes, goesOn, enters, leaves, fails, hands, ends, lacks, Steps, Stepped, effectAt}
-use Rattle.runner.specs.Errors.{Raises, raises, handsOn, Settles, stops, resumes, Arisen}
-use Rattle.runner.specs.Output.{cellValues, countIn}
+use Rattle.errors.specs.declared.Taken.{Taken}
+use Rattle.machine.specs.Live.{Live}
+use Rattle.machine.specs.Machine.{depthLimit, entered, left, ended, lackedBy, handed, Here, LastWindow, Lends, Comes, goesOn, enters, leaves, fails, hands, ends, lacks, Steps, Stepped, effectAt}
+use Rattle.errors.specs.Errors.{Raises, raises, handsOn, Settles, stops, resumes, Arisen}
+use Rattle.output.specs.Output.{countIn}
 use Rattle.runner.specs.Runs.{Begins, Begun, MayBegin, Stops, byStep, byLack, Stopped, Ran}
 use Rattle.runner.specs.Runs as runs
-use Rattle.runner.proofs.Current.{place-here, small-name}
-use Rattle.runner.proofs.Printing.{count-is}
+use Rattle.machine.proofs.Current.{place-here, small-name}
+use Rattle.output.proofs.Printing.{count-is}
 
 -- ---- one step of the paper's run
 module _ (P : Program) (rooms : Rooms) (n : ℕ) (s : State) where

@@ -17,8 +17,8 @@ use Rattle.code.specs.Steps.{Head, noHead}
 use Rattle.code.specs.Holds.{Holds}
 use Rattle.code.specs.Windows.{writtenIn, usedCell, stateIn}
 use Rattle.runner.specs.declared.Ended.{Ended}
-use Rattle.runner.specs.Live.{Live}
-use Rattle.runner.specs.Machine.{storeBytes, depthLimit, ended, lackedBy, Lends}
+use Rattle.machine.specs.Live.{Live}
+use Rattle.machine.specs.Machine.{storeBytes, depthLimit, ended, lackedBy, Lends}
 
 -- The code store holds a program, of which main begins at word h; the value store has the module's words as a run begins, and zeros.
 pub record Begins (text code values : List ℕ) (h depth : ℕ) : Type 0 where

@@ -5,15 +5,6 @@ ghost use lib.ListN.{length};
 ghost use Rattle.cells.specs.Words.{wordsOf};
 ghost use Rattle.code.specs.Cells.{placeAt};
 ghost use Rattle.runner.specs.Runs.{Stops, Stopped, MayBegin, Begun, Begins, Ran};
-
-pub mod calls;
-pub mod choices;
-pub mod errors;
-pub mod output;
-pub mod reading;
-pub mod stepping;
-pub mod targets;
-
 use calls::start_words;
 use errors::arise;
 use reading::link;
@@ -98,7 +89,7 @@ fn begin<'a>(code: &'a [u8], values: &'a mut [u8], h: usize)
     ensures { λ _. ⌜ Begun (now (code .entry)) (now (values .entry)) (now (values .exit)) h ⌝ }
 {
     cells::put(values, MAIN_ROUTINE, h as u32);
-    start_words(code, values, link(code, h), FIRST);
+    start_words(&*code, values, link(code, h), FIRST);
 }
 
 // A run of the module whose main begins at word h.
@@ -115,14 +106,14 @@ pub fn run<'a>(
     requires { ⌜ Begins (now text) (now code) (now values) h depth ⌝ }
     ensures { λ r. ⌜ Ran (now (text .entry)) (now (code .entry)) (now (values .entry)) (now (values .exit)) (now (inputs .entry)) (now (out .entry)) (now (out .exit)) h steps depth r ⌝ }
 {
-    begin(code, values, h);
+    begin(&*code, values, h);
     let last = FIRST + WINDOW * (depth as usize - 1);
     let mut i = place(code, h);
     let mut base = FIRST;
     let mut left = steps;
     while 0 < left {
         left -= 1;
-        let r = step(text, code, values, inputs, out, base, last, i);
+        let r = step(text, &*code, values, inputs, out, base, last, i);
         if r < ENTERED {
             i = r as usize;
         } else if r < LEFT {
@@ -134,7 +125,7 @@ pub fn run<'a>(
         } else if r < HANDED {
             return ending(code, i, r as usize, left);
         } else {
-            let t = arise(code, values, base, i, r);
+            let t = arise(&*code, values, base, i, r);
             let next = t.next;
             if next == 0 {
                 return Ended {

@@ -27,13 +27,13 @@ use Rattle.evaluation.proofs.+enclosed+part+whole.Lts-whole as whole-lt
 use Rattle.evaluation.proofs.close.Reads as close-reads
 use Rattle.evaluation.proofs.ends.Reads as ends-reads
 use Rattle.evaluation.proofs.failure.Reads as failure-reads
-use Rattle.evaluation.proofs.head.Reads as head-reads
+use Rattle.reading.proofs.head.Reads as head-reads
 use Rattle.evaluation.proofs.is_failing.Reads as is-failing-reads
 use Rattle.evaluation.proofs.is_known.Reads as is-known-reads
 use Rattle.evaluation.proofs.is_short.Reads as is-short-reads
 use Rattle.evaluation.proofs.is_value.Reads as is-value-reads
 use Rattle.evaluation.proofs.leaf.Reads as leaf-reads
-use Rattle.evaluation.proofs.link.Reads as link-reads
+use Rattle.reading.proofs.link.Reads as link-reads
 use Rattle.evaluation.proofs.opens.Reads as opens-reads
 use Rattle.evaluation.proofs.operate.Reads as operate-reads
 use Rattle.evaluation.proofs.short.Reads as short-reads
@@ -92,11 +92,11 @@ sided t c =
     ⊎-elim
     (λ k. subst₂ (λ (b r : ℕ). Sided (now (c .before .before .before .before .before .before .before .before .before .args .code)) (now (c .before .before .before .before .before .before .before .before .before .args .values)) (c .before .before .before .before .before .before .before .before .before .args .base) (c .before .before .before .before .before .before .before .before .before .args .from) (c .before .before .before .before .before .before .before .before .before .args .to) (toZ w64 (c .before .before .before .before .loop .acc)) (c .before .before .before .before .loop .i) (c .before .before .before .before .loop .inv) (c .before .before .before .loop-test .taken) (c .before .before .head2 .result) (c .before .before .head2 .ensures) (toZ w64 b) r) (sym (k .7)) (sym (k .8))
     (sided-read (now (c .before .before .before .before .before .before .before .before .before .args .code)) (now (c .before .before .before .before .before .before .before .before .before .args .values)) (c .before .before .before .before .before .before .before .before .before .args .base) (c .before .before .before .before .before .before .before .before .before .args .from) (c .before .before .before .before .before .before .before .before .before .args .to) (toZ w64 (c .before .before .before .before .loop .acc)) (c .before .before .before .before .loop .i) (c .before .before .before .before .loop .inv) (c .before .before .before .loop-test .taken) (c .before .before .head2 .result) (c .before .before .head2 .ensures) (k .4 .result) (k .1 .result) (search needs)
-    (side-span (now (c .before .before .before .before .before .before .before .before .before .args .code)) (now (c .before .before .before .before .before .before .before .before .before .args .values)) (c .before .before .before .before .before .before .before .before .before .args .base) (c .before .before .before .before .before .before .before .before .before .args .from) (c .before .before .before .before .before .before .before .before .before .args .to) (toZ w64 (c .before .before .before .before .loop .acc)) (c .before .before .before .before .loop .i) (c .before .before .before .before .loop .inv) (c .before .before .before .loop-test .taken) (c .before .before .head2 .result) (c .before .before .head2 .ensures) (k .0 .taken) (k .1 .result) (k .1 .ensures .is) (k .2 .result) (k .2 .ensures) (k .4 .result) (k .4 .ensures)
+    (side-span (now (c .before .before .before .before .before .before .before .before .before .args .code)) (now (c .before .before .before .before .before .before .before .before .before .args .values)) (c .before .before .before .before .before .before .before .before .before .args .base) (c .before .before .before .before .before .before .before .before .before .args .from) (c .before .before .before .before .before .before .before .before .before .args .to) (toZ w64 (c .before .before .before .before .loop .acc)) (c .before .before .before .before .loop .i) (c .before .before .before .before .loop .inv) (c .before .before .before .loop-test .taken) (c .before .before .head2 .result) (c .before .before .head2 .ensures) (k .0 .taken) (k .1 .result) (k .1 .ensures .same) (k .2 .result) (k .2 .ensures) (k .4 .result) (k .4 .ensures)
     (told (k .4 .result) (k .5 .result) true (search needs) (k .5 .ensures) (not-false _ (k .6 .left))))))
     (λ m. ⊎-elim
     (λ k. subst₂ (λ (b r : ℕ). Sided (now (c .before .before .before .before .before .before .before .before .before .args .code)) (now (c .before .before .before .before .before .before .before .before .before .args .values)) (c .before .before .before .before .before .before .before .before .before .args .base) (c .before .before .before .before .before .before .before .before .before .args .from) (c .before .before .before .before .before .before .before .before .before .args .to) (toZ w64 (c .before .before .before .before .loop .acc)) (c .before .before .before .before .loop .i) (c .before .before .before .before .loop .inv) (c .before .before .before .loop-test .taken) (c .before .before .head2 .result) (c .before .before .head2 .ensures) (toZ w64 b) r) (sym (k .4)) (sym (k .5))
-    (side-known (now (c .before .before .before .before .before .before .before .before .before .args .code)) (now (c .before .before .before .before .before .before .before .before .before .args .values)) (c .before .before .before .before .before .before .before .before .before .args .base) (c .before .before .before .before .before .before .before .before .before .args .from) (c .before .before .before .before .before .before .before .before .before .args .to) (toZ w64 (c .before .before .before .before .loop .acc)) (c .before .before .before .before .loop .i) (c .before .before .before .before .loop .inv) (c .before .before .before .loop-test .taken) (c .before .before .head2 .result) (c .before .before .head2 .ensures) (k .0 .taken) (k .1 .result) (k .1 .ensures .is) (k .2 .result) (k .2 .ensures) (not-false _ (k .3 .left))))
+    (side-known (now (c .before .before .before .before .before .before .before .before .before .args .code)) (now (c .before .before .before .before .before .before .before .before .before .args .values)) (c .before .before .before .before .before .before .before .before .before .args .base) (c .before .before .before .before .before .before .before .before .before .args .from) (c .before .before .before .before .before .before .before .before .before .args .to) (toZ w64 (c .before .before .before .before .loop .acc)) (c .before .before .before .before .loop .i) (c .before .before .before .before .loop .inv) (c .before .before .before .loop-test .taken) (c .before .before .head2 .result) (c .before .before .head2 .ensures) (k .0 .taken) (k .1 .result) (k .1 .ensures .same) (k .2 .result) (k .2 .ensures) (not-false _ (k .3 .left))))
     (λ k. subst₂ (λ (b r : ℕ). Sided (now (c .before .before .before .before .before .before .before .before .before .args .code)) (now (c .before .before .before .before .before .before .before .before .before .args .values)) (c .before .before .before .before .before .before .before .before .before .args .base) (c .before .before .before .before .before .before .before .before .before .args .from) (c .before .before .before .before .before .before .before .before .before .args .to) (toZ w64 (c .before .before .before .before .loop .acc)) (c .before .before .before .before .loop .i) (c .before .before .before .before .loop .inv) (c .before .before .before .loop-test .taken) (c .before .before .head2 .result) (c .before .before .head2 .ensures) (toZ w64 b) r) (sym (k .2)) (sym (k .3))
     (sided-read (now (c .before .before .before .before .before .before .before .before .before .args .code)) (now (c .before .before .before .before .before .before .before .before .before .args .values)) (c .before .before .before .before .before .before .before .before .before .args .base) (c .before .before .before .before .before .before .before .before .before .args .from) (c .before .before .before .before .before .before .before .before .before .args .to) (toZ w64 (c .before .before .before .before .loop .acc)) (c .before .before .before .before .loop .i) (c .before .before .before .before .loop .inv) (c .before .before .before .loop-test .taken) (c .before .before .head2 .result) (c .before .before .head2 .ensures) (k .1 .result) _ (search needs) (side-leaf (now (c .before .before .before .before .before .before .before .before .before .args .code)) (now (c .before .before .before .before .before .before .before .before .before .args .values)) (c .before .before .before .before .before .before .before .before .before .args .base) (c .before .before .before .before .before .before .before .before .before .args .from) (c .before .before .before .before .before .before .before .before .before .args .to) (toZ w64 (c .before .before .before .before .loop .acc)) (c .before .before .before .before .loop .i) (c .before .before .before .before .loop .inv) (c .before .before .before .loop-test .taken) (c .before .before .head2 .result) (c .before .before .head2 .ensures) (k .0 .left) (k .1 .result) (k .1 .ensures))))
     m)
@@ -144,14 +144,14 @@ whole-link-requires : (t : ℕ) → whole-lts.Need-link-requires (calls-whole t)
 whole-link-requires t c κs = search (needs, stands-in)
 
 whole-enclosed-requires : (t : ℕ) → whole-lts.Need-enclosed-requires (calls-whole t) (whole-at t) whole.Post Inv-loop μ-loop
-whole-enclosed-requires t c κs = (omega (arith, encloses-on (now (c .before .before .before .before .before .args .code)) (now (c .before .before .before .before .before .args .values)) (c .before .before .before .before .before .args .base) (c .before .before .before .before .before .args .from) (c .before .before .before .before .before .args .to) (c .before .before .before .before .before .pre .1 .1) (c .before .before .head .result) (c .before .before .head .ensures) (c .before .if1 .left) (c .link .result) (c .link .ensures .is)), (c .before .before .before .before .before .pre .1 .0, encloses (now (c .before .before .before .before .before .args .code)) (now (c .before .before .before .before .before .args .values)) (c .before .before .before .before .before .args .base) (c .before .before .before .before .before .args .from) (c .before .before .before .before .before .args .to) (c .before .before .before .before .before .pre .1 .1) (c .before .before .head .result) (c .before .before .head .ensures) (c .before .if1 .left) (c .link .result) (c .link .ensures .is)))
+whole-enclosed-requires t c κs = (omega (arith, encloses-on (now (c .before .before .before .before .before .args .code)) (now (c .before .before .before .before .before .args .values)) (c .before .before .before .before .before .args .base) (c .before .before .before .before .before .args .from) (c .before .before .before .before .before .args .to) (c .before .before .before .before .before .pre .1 .1) (c .before .before .head .result) (c .before .before .head .ensures) (c .before .if1 .left) (c .link .result) (c .link .ensures .same)), (c .before .before .before .before .before .pre .1 .0, encloses (now (c .before .before .before .before .before .args .code)) (now (c .before .before .before .before .before .args .values)) (c .before .before .before .before .before .args .base) (c .before .before .before .before .before .args .from) (c .before .before .before .before .before .args .to) (c .before .before .before .before .before .pre .1 .1) (c .before .before .head .result) (c .before .before .head .ensures) (c .before .if1 .left) (c .link .result) (c .link .ensures .same)))
 
 whole-is-value-requires : (t : ℕ) → whole-lts.Need-is-value-requires (calls-whole t) (whole-at t) whole.Post Inv-loop μ-loop
 whole-is-value-requires t c κs = search needs
 
 whole-returns : (t : ℕ) → whole-lts.Need-returns (calls-whole t) (whole-at t) whole.Post Inv-loop μ-loop
 whole-returns t c =
-    run-fails (now (c .before .before .before .before .before .before .before .before .args .code)) (now (c .before .before .before .before .before .before .before .before .args .values)) (c .before .before .before .before .before .before .before .before .args .base) (c .before .before .before .before .before .before .before .before .args .from) (c .before .before .before .before .before .before .before .before .args .to) _ _ (start-enclosed (now (c .before .before .before .before .before .before .before .before .args .code)) (now (c .before .before .before .before .before .before .before .before .args .values)) (c .before .before .before .before .before .before .before .before .args .base) (c .before .before .before .before .before .before .before .before .args .from) (c .before .before .before .before .before .before .before .before .args .to) (c .before .before .before .before .before .before .before .before .pre .1 .1) (c .before .before .before .before .before .head .result) (c .before .before .before .before .before .head .ensures) (c .before .before .before .before .if1 .left) (c .before .before .before .link .result) (c .before .before .before .link .ensures .is) (c .before .before .enclosed .result) (search needs) (c .before .before .enclosed .ensures))
+    run-fails (now (c .before .before .before .before .before .before .before .before .args .code)) (now (c .before .before .before .before .before .before .before .before .args .values)) (c .before .before .before .before .before .before .before .before .args .base) (c .before .before .before .before .before .before .before .before .args .from) (c .before .before .before .before .before .before .before .before .args .to) _ _ (start-enclosed (now (c .before .before .before .before .before .before .before .before .args .code)) (now (c .before .before .before .before .before .before .before .before .args .values)) (c .before .before .before .before .before .before .before .before .args .base) (c .before .before .before .before .before .before .before .before .args .from) (c .before .before .before .before .before .before .before .before .args .to) (c .before .before .before .before .before .before .before .before .pre .1 .1) (c .before .before .before .before .before .head .result) (c .before .before .before .before .before .head .ensures) (c .before .before .before .before .if1 .left) (c .before .before .before .link .result) (c .before .before .before .link .ensures .same) (c .before .before .enclosed .result) (search needs) (c .before .before .enclosed .ensures))
     (sym (c .before .is-value .ensures) ∙ not-true _ (c .if2 .taken))
 
 whole-ends-requires : (t : ℕ) → whole-lts.Need-ends-requires (calls-whole t) (whole-at t) whole.Post Inv-loop μ-loop
@@ -163,7 +163,7 @@ whole-loop-holds t c =
     (λ k. subst₂ (λ (a i : ℕ). Going (now (c .before .before .before .before .args .code)) (now (c .before .before .before .before .args .values)) (c .before .before .before .before .args .base) (c .before .before .before .before .args .from) (c .before .before .before .before .args .to) (toZ w64 a) i) (sym (k .2)) (sym (k .3))
     (start-leaf (now (c .before .before .before .before .args .code)) (now (c .before .before .before .before .args .values)) (c .before .before .before .before .args .base) (c .before .before .before .before .args .from) (c .before .before .before .before .args .to) (c .before .before .before .before .pre .1 .1) (c .before .head .result) (c .before .head .ensures) (k .0 .taken) (k .1 .result) (search needs) (k .1 .ensures)))
     (λ k. subst₂ (λ (a i : ℕ). Going (now (c .before .before .before .before .args .code)) (now (c .before .before .before .before .args .values)) (c .before .before .before .before .args .base) (c .before .before .before .before .args .from) (c .before .before .before .before .args .to) (toZ w64 a) i) (sym (k .6)) (sym (k .7 ∙ k .5 .ensures))
-    (goes-value _ _ _ _ _ _ _ (start-enclosed (now (c .before .before .before .before .args .code)) (now (c .before .before .before .before .args .values)) (c .before .before .before .before .args .base) (c .before .before .before .before .args .from) (c .before .before .before .before .args .to) (c .before .before .before .before .pre .1 .1) (c .before .head .result) (c .before .head .ensures) (k .0 .left) (k .1 .result) (k .1 .ensures .is) (k .2 .result) (search needs) (k .2 .ensures))
+    (goes-value _ _ _ _ _ _ _ (start-enclosed (now (c .before .before .before .before .args .code)) (now (c .before .before .before .before .args .values)) (c .before .before .before .before .args .base) (c .before .before .before .before .args .from) (c .before .before .before .before .args .to) (c .before .before .before .before .pre .1 .1) (c .before .head .result) (c .before .head .ensures) (k .0 .left) (k .1 .result) (k .1 .ensures .same) (k .2 .result) (search needs) (k .2 .ensures))
     (sym (k .3 .ensures) ∙ not-false _ (k .4 .left))))
     (c .if1 .came)
 
@@ -185,7 +185,7 @@ whole-add-part t c = omega (arith, turn-in (now (c .before .before .before .befo
 whole-part-requires : (t : ℕ) → whole-lts.Need-part-requires (calls-whole t) (whole-at t) whole.Post Inv-loop μ-loop
 whole-part-requires t c κs =
     let l = c .before .before .link2 in
-    (omega (arith, span-less (now (c .before .before .before .before .before .before .before .before .before .before .before .before .args .code)) (now (c .before .before .before .before .before .before .before .before .before .before .before .before .args .values)) (c .before .before .before .before .before .before .before .before .before .before .before .before .args .base) (c .before .before .before .before .before .before .before .before .before .before .before .before .args .from) (c .before .before .before .before .before .before .before .before .before .before .before .before .args .to) (toZ w64 (c .before .before .before .before .before .before .before .loop .acc)) (c .before .before .before .before .before .before .before .loop .i) (c .before .before .before .before .before .before .before .loop .inv) (c .before .before .before .before .before .before .loop-test .taken) (c .before .before .before .before .before .head2 .result) (c .before .before .before .before .before .head2 .ensures) (c .before .before .before .if3 .taken) (l .result) (l .ensures .is)), (c .before .before .before .before .before .before .before .before .before .before .before .before .pre .1 .0, span-stands (now (c .before .before .before .before .before .before .before .before .before .before .before .before .args .code)) (now (c .before .before .before .before .before .before .before .before .before .before .before .before .args .values)) (c .before .before .before .before .before .before .before .before .before .before .before .before .args .base) (c .before .before .before .before .before .before .before .before .before .before .before .before .args .from) (c .before .before .before .before .before .before .before .before .before .before .before .before .args .to) (toZ w64 (c .before .before .before .before .before .before .before .loop .acc)) (c .before .before .before .before .before .before .before .loop .i) (c .before .before .before .before .before .before .before .loop .inv) (c .before .before .before .before .before .before .loop-test .taken) (c .before .before .before .before .before .head2 .result) (c .before .before .before .before .before .head2 .ensures) (c .before .before .before .if3 .taken) (l .result) (l .ensures .is)))
+    (omega (arith, span-less (now (c .before .before .before .before .before .before .before .before .before .before .before .before .args .code)) (now (c .before .before .before .before .before .before .before .before .before .before .before .before .args .values)) (c .before .before .before .before .before .before .before .before .before .before .before .before .args .base) (c .before .before .before .before .before .before .before .before .before .before .before .before .args .from) (c .before .before .before .before .before .before .before .before .before .before .before .before .args .to) (toZ w64 (c .before .before .before .before .before .before .before .loop .acc)) (c .before .before .before .before .before .before .before .loop .i) (c .before .before .before .before .before .before .before .loop .inv) (c .before .before .before .before .before .before .loop-test .taken) (c .before .before .before .before .before .head2 .result) (c .before .before .before .before .before .head2 .ensures) (c .before .before .before .if3 .taken) (l .result) (l .ensures .same)), (c .before .before .before .before .before .before .before .before .before .before .before .before .pre .1 .0, span-stands (now (c .before .before .before .before .before .before .before .before .before .before .before .before .args .code)) (now (c .before .before .before .before .before .before .before .before .before .before .before .before .args .values)) (c .before .before .before .before .before .before .before .before .before .before .before .before .args .base) (c .before .before .before .before .before .before .before .before .before .before .before .before .args .from) (c .before .before .before .before .before .before .before .before .before .before .before .before .args .to) (toZ w64 (c .before .before .before .before .before .before .before .loop .acc)) (c .before .before .before .before .before .before .before .loop .i) (c .before .before .before .before .before .before .before .loop .inv) (c .before .before .before .before .before .before .loop-test .taken) (c .before .before .before .before .before .head2 .result) (c .before .before .before .before .before .head2 .ensures) (c .before .before .before .if3 .taken) (l .result) (l .ensures .same)))
 
 whole-is-value-requires-2 : (t : ℕ) → whole-lts.Need-is-value-requires-2 (calls-whole t) (whole-at t) whole.Post Inv-loop μ-loop
 whole-is-value-requires-2 t c κs = search needs
@@ -194,7 +194,7 @@ whole-returns-2 : (t : ℕ) → whole-lts.Need-returns-2 (calls-whole t) (whole-
 whole-returns-2 t c =
     let b = c .before .before .part in
     evaluated-read _ _ _ _ _ (b .result) (search needs)
-    (right-fails (now (c .before .before .before .before .before .before .before .before .before .before .before .before .before .before .before .args .code)) (now (c .before .before .before .before .before .before .before .before .before .before .before .before .before .before .before .args .values)) (c .before .before .before .before .before .before .before .before .before .before .before .before .before .before .before .args .base) (c .before .before .before .before .before .before .before .before .before .before .before .before .before .before .before .args .from) (c .before .before .before .before .before .before .before .before .before .before .before .before .before .before .before .args .to) (toZ w64 (c .before .before .before .before .before .before .before .before .before .before .loop .acc)) (c .before .before .before .before .before .before .before .before .before .before .loop .i) (c .before .before .before .before .before .before .before .before .before .before .loop .inv) (c .before .before .before .before .before .before .before .before .before .loop-test .taken) (c .before .before .before .before .before .before .before .before .head2 .result) (c .before .before .before .before .before .before .before .before .head2 .ensures) (c .before .before .before .before .before .before .if3 .taken) (c .before .before .before .before .before .link2 .result) (c .before .before .before .before .before .link2 .ensures .is) (c .before .before .before .before .is-known .result) (c .before .before .before .before .is-known .ensures) (b .result) (b .ensures)
+    (right-fails (now (c .before .before .before .before .before .before .before .before .before .before .before .before .before .before .before .args .code)) (now (c .before .before .before .before .before .before .before .before .before .before .before .before .before .before .before .args .values)) (c .before .before .before .before .before .before .before .before .before .before .before .before .before .before .before .args .base) (c .before .before .before .before .before .before .before .before .before .before .before .before .before .before .before .args .from) (c .before .before .before .before .before .before .before .before .before .before .before .before .before .before .before .args .to) (toZ w64 (c .before .before .before .before .before .before .before .before .before .before .loop .acc)) (c .before .before .before .before .before .before .before .before .before .before .loop .i) (c .before .before .before .before .before .before .before .before .before .before .loop .inv) (c .before .before .before .before .before .before .before .before .before .loop-test .taken) (c .before .before .before .before .before .before .before .before .head2 .result) (c .before .before .before .before .before .before .before .before .head2 .ensures) (c .before .before .before .before .before .before .if3 .taken) (c .before .before .before .before .before .link2 .result) (c .before .before .before .before .before .link2 .ensures .same) (c .before .before .before .before .is-known .result) (c .before .before .before .before .is-known .ensures) (b .result) (b .ensures)
     (not-true _ (c .before .before .before .if4 .taken)) (told (b .result) (c .before .is-value2 .result) false (search needs) (c .before .is-value2 .ensures) (not-true _ (c .if5 .taken))))
 
 whole-leaf-requires-2 : (t : ℕ) → whole-lts.Need-leaf-requires-2 (calls-whole t) (whole-at t) whole.Post Inv-loop μ-loop

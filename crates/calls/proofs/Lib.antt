@@ -1,0 +1,9 @@
+pub mod Passing
+pub mod CallSteps
+pub mod CallTargets
+pub mod Called
+pub mod DataWords
+pub mod Entering
+pub mod Fresh
+pub mod Returning
+pub mod Writing

@@ -1,0 +1,19 @@
+use borrow.Author.Needs.{needs}
+use Rattle.calls.proofs.Passing.{packed-is}
+use Rattle.calls.proofs.packed.Statement.{statement}
+use Rattle.calls.proofs.packed.Tie as tie
+
+mul-result : tie.Need-mul-result
+mul-result c = search needs
+
+add-result : tie.Need-add-result
+add-result c = search needs
+
+cast-result : tie.Need-cast-result
+cast-result c = search needs
+
+returns : tie.Need-returns
+returns c = search (needs, packed-is)
+
+pub packed-spec : {M : Type 1} → statement M
+packed-spec = tie.close (tie.spec mul-result add-result cast-result returns)

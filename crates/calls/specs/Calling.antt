@@ -1,0 +1,166 @@
+-- Calls and returns: what their parts ask and promise.
+use mathlib.Core.Path.{_≡_}
+use mathlib.Core.Bool.{Bool, true, false}
+use mathlib.Core.List.{List, _∷_, map}
+use mathlib.Core.Option.{some}
+use Prim.Native.Nat.{ℕ, suc, _+_, _*_, _%_, _<_, _≤_}
+use lib.ListN.{length, getD, take, drop, replicate}
+use lib.IntN.{ℤ, pos}
+use mir.Syntax.{w32}
+use mir.Val.{toZ}
+use Rattle.paper.specs.Terms.{Term}
+use Rattle.paper.specs.States.{State, Rooms, Effect, failing, withCalls, withValues}
+use Rattle.paper.specs.Running.{codeAt, stepNamed, newCall}
+use Rattle.cells.specs.Words.{wordsOf}
+use Rattle.code.specs.Cells.{opAt, placeAt, valueAt, firstWindow, windowCells}
+use Rattle.code.specs.Steps.{Head, noHead, numbered, parts, aCallTarget, aProcedureCall, aReturn, anEnd, anyArguments}
+use Rattle.code.specs.Holds.{dataIn}
+use Rattle.code.specs.Windows.{stepsCell, writtenCell, usedCell, resultIn, stateIn}
+use Rattle.evaluation.specs.Answers.{firstError, callWords, Counts, memoryOf, Stores}
+use Rattle.machine.specs.Live.{codeOfCall, ResultFits, Live}
+use Rattle.reading.specs.Reading.{Stored}
+use Rattle.machine.specs.Machine.{Here, Comes, effectAt, entered, depthLimit, LastWindow}
+use Rattle.targets.specs.Targets.{Aims}
+
+-- ---- cells that hold numbers
+-- The cells from a on hold these numbers.
+abbrev pub Holding : (X : List ℕ) → (a : ℕ) → List ℤ → Type 0
+Holding X a zs = map (toZ w32) (take (length zs) (drop a X)) ≡ zs
+
+-- They were written, and no other cell.
+pub record Wrote (before after : List ℕ) (a : ℕ) (zs : List ℤ) : Type 0 where
+  pub long : length after ≡ length before
+  pub holds : Holding (wordsOf after) a zs
+  pub kept : (c : ℕ) → (a ≤ c → c < a + length zs → ⊥) → getD (wordsOf after) c 0 ≡ getD (wordsOf before) c 0
+
+pub record Filled (before after : List ℕ) (at count : ℕ) (v : ℤ) (r : ℕ) : Type 0 where
+  pub wrote : Wrote before after at (replicate count v)
+  pub next : r ≡ at + count
+
+-- ---- the words of a new call
+-- The FOR variables from a cell on are 0, and so are the cells of their loops; cells before them and behind are as they were.
+pub record Idled (before after : List ℕ) (at fors : ℕ) : Type 0 where
+  pub long : length after ≡ length before
+  pub zeros : (j : ℕ) → j < fors → getD (wordsOf after) (at + j) 0 ≡ 0
+  pub ends : (j : ℕ) → j < fors → getD (wordsOf after) (at + j + 64) 0 ≡ 0
+  pub steps : (j : ℕ) → j < fors → getD (wordsOf after) (at + j + 128) 0 ≡ 0
+  pub below : (c : ℕ) → c < at → getD (wordsOf after) c 0 ≡ getD (wordsOf before) c 0
+  pub above : (c : ℕ) → at + fors + stepsCell ≤ c → getD (wordsOf after) c 0 ≡ getD (wordsOf before) c 0
+
+-- The data of a routine begin at a word, and there are cells for them from `at` on.
+pub record Starts (code values : List ℕ) (first at : ℕ) : Type 0 where
+  pub starts : List ℤ
+  pub opens : ℕ
+  pub reads : dataIn (wordsOf code) parts first ≡ some (starts, opens)
+  pub whole : length code % 8 ≡ 0
+  pub room : (at + length starts + placeAt (wordsOf code) opens + stepsCell) * 4 ≤ length values
+
+pub record Started (code before after : List ℕ) (first at : ℕ) : Type 0 where
+  pub long : length after ≡ length before
+  pub is : (starts : List ℤ) (opens : ℕ) → dataIn (wordsOf code) parts first ≡ some (starts, opens) → Holding (wordsOf after) at starts
+  pub idle : (starts : List ℤ) (opens j : ℕ) → dataIn (wordsOf code) parts first ≡ some (starts, opens) → j < placeAt (wordsOf code) opens →
+      (getD (wordsOf after) (at + length starts + j) 0 ≡ 0) × (getD (wordsOf after) (at + length starts + j + 64) 0 ≡ 0) × (getD (wordsOf after) (at + length starts + j + 128) 0 ≡ 0)
+  pub below : (c : ℕ) → c < at → getD (wordsOf after) c 0 ≡ getD (wordsOf before) c 0
+  pub above : (starts : List ℤ) (opens c : ℕ) → dataIn (wordsOf code) parts first ≡ some (starts, opens) → at + length starts + placeAt (wordsOf code) opens + stepsCell ≤ c →
+      getD (wordsOf after) c 0 ≡ getD (wordsOf before) c 0
+
+-- ---- arguments
+-- The arguments from `first` on, the first of which ends at `end`. Where there is room, they go to the next window.
+pub record Passes (code values : List ℕ) (base first end : ℕ) (room : Bool) : Type 0 where
+  pub c : Counts
+  pub function : Bool
+  pub text : List ℕ
+  pub R : List Head
+  pub es : List Term
+  pub closes : ℕ
+  pub reads : anyArguments (c .m) (c .n) function text R (wordsOf code) first end ≡ some (es, closes)
+  pub few : length es ≤ callWords
+  pub stores : Stores values base
+  pub cells : room ≡ true → (base + windowCells + callWords) * 4 ≤ length values
+  pub low : firstWindow ≤ base
+  pub high : base < 16384
+  pub code-size : length code ≡ 65536
+  pub small : end < 65536
+
+-- What the answer r says of them: the word that closes them and, above it, the cell behind those that they go to; or the error of one.
+pub data Argued (c : Counts) (values after : List ℕ) (base : ℕ) (room : Bool) (es : List Term) (closes : ℕ) (r : ℤ) : Type 0 where
+  given : (zs : List ℤ) → length zs ≡ length es → ((S : State) (go : List ℤ → Effect) → withValues (memoryOf c values base) es S go ≡ go zs)
+      → (room ≡ true → Holding (wordsOf after) (base + windowCells) zs) → closes < 65536 → r ≡ pos (closes + 65536 * (base + windowCells + length es)) → Argued c values after base room es closes r
+  raises : (e : ℕ) → e < 65536 → ((S : State) (go : List ℤ → Effect) → withValues (memoryOf c values base) es S go ≡ failing e S) → r ≡ pos (firstError + e) → Argued c values after base room es closes r
+
+-- One of them, with its value: it goes to a cell where there is room.
+pub record Let (before after : List ℕ) (room : Bool) (n : ℕ) (v : ℤ) : Type 0 where
+  pub long : length after ≡ length before
+  pub stored : room ≡ true → Stored before after n v
+  pub same : room ≡ false → after ≡ before
+
+pub record Passed (code values after : List ℕ) (base first end : ℕ) (room : Bool) (r : ℤ) : Type 0 where
+  pub long : length after ≡ length values
+  pub below : (c : ℕ) → c < base + windowCells → getD (wordsOf after) c 0 ≡ getD (wordsOf values) c 0
+  pub idle : room ≡ false → wordsOf after ≡ wordsOf values
+  pub is : (c : Counts) (function : Bool) (text : List ℕ) (R : List Head) (es : List Term) (closes : ℕ) → anyArguments (c .m) (c .n) function text R (wordsOf code) first end ≡ some (es, closes)
+      → Argued c values after base room es closes r
+
+-- ---- a new call
+module _ (code values : List ℕ) (base i : ℕ) where
+  -- The routine that the word `callee` names is called with these arguments, which stand in the next window: n is the cell behind them.
+  pub record Enters (h : Here code values base i) (callee result after n : ℕ) : Type 0 where
+    pub deep : suc (h .d) < depthLimit
+    pub inside : callee * 8 + 8 ≤ length code
+    pub k : ℕ
+    pub number : k ≡ numbered (h .R) (valueAt (wordsOf code) callee)
+    pub there : k < length (h .R)
+    pub word : getD (h .R) k noHead .word ≡ valueAt (wordsOf code) callee
+    pub zs : List ℤ
+    pub as-many : length zs ≡ getD (h .R) k noHead .parameters
+    pub holds : Holding (wordsOf values) (base + windowCells) zs
+    pub next : n ≡ base + windowCells + length zs
+    pub result-fits : ResultFits (h .P) (h .R) (wordsOf values) (suc (h .d)) result
+    pub after-is : after ≡ stepNamed (codeOfCall (h .P) (h .R) (wordsOf values) (h .d) .steps) i .after
+
+  pub record MayEnter (callee result after n : ℕ) : Type 0 where
+    pub here : Here code values base i
+    pub enters : Enters here callee result after n
+
+  -- It is the newest call then, and its caller waits.
+  pub record Entered (callee result after n : ℕ) (after′ : List ℕ) (r : ℤ) : Type 0 where
+    pub long : length after′ ≡ length values
+    pub kept : (c : ℕ) → writtenCell ≤ c → c ≤ usedCell → getD (wordsOf after′) c 0 ≡ getD (wordsOf values) c 0
+    pub answer : (h : Here code values base i) (e : Enters h callee result after n) → r ≡ pos (entered + codeAt (h .P) (e .k) .start)
+    pub live : (h : Here code values base i) (e : Enters h callee result after n) → Live (h .P) (h .R) (wordsOf after′) (suc (h .d)) (codeAt (h .P) (e .k) .start)
+    pub state : (h : Here code values base i) (e : Enters h callee result after n) (steps : ℕ) (out : List ℕ) →
+        stateIn (h .P) (h .R) (wordsOf after′) (suc (h .d)) (codeAt (h .P) (e .k) .start) steps out
+        ≡ withCalls (newCall (h .P) (e .k) (e .zs) (resultIn (h .P) (h .R) (wordsOf values) result) ∷ stateIn (h .P) (h .R) (wordsOf values) (h .d) i steps out .calls)
+        (stateIn (h .P) (h .R) (wordsOf values) (h .d) i steps out)
+
+  -- ---- a call whose result goes to a cell that is known
+  pub record CallsFor (last next cell : ℕ) : Type 0 where
+    pub here : Here code values base i
+    pub rooms : Rooms
+    pub deepest : LastWindow rooms last
+    pub low : aCallTarget ≤ opAt (wordsOf code) i
+    pub high : opAt (wordsOf code) i < aProcedureCall
+    pub aims : Aims code values base i here aCallTarget cell next
+
+  pub record CalledFor (last next cell : ℕ) (after : List ℕ) (r : ℤ) : Type 0 where
+    pub long : length after ≡ length values
+    pub does : (h : Here code values base i) → Aims code values base i h aCallTarget cell next → (rooms : Rooms) → LastWindow rooms last → (steps : ℕ) (out : List ℕ) →
+        Comes (h .P) (h .R) (wordsOf code) (h .offset) (h .d) i steps (wordsOf values) (wordsOf after) out out (effectAt (h .P) (h .R) rooms (wordsOf values) (h .d) i steps out) r
+    pub kept : (c : ℕ) → writtenCell ≤ c → c ≤ usedCell → getD (wordsOf after) c 0 ≡ getD (wordsOf values) c 0
+
+-- The depth lent admits calls up to this window.
+pub record Deepest (last : ℕ) : Type 0 where
+  pub rooms : Rooms
+  pub is : LastWindow rooms last
+
+-- ---- returns
+-- A result goes to the cell that is 1 below, or nowhere.
+pub record Gave (before after : List ℕ) (cell : ℕ) (v : ℤ) : Type 0 where
+  pub long : length after ≡ length before
+  pub stored : (c : ℕ) → cell ≡ suc c → Stored before after c v
+  pub same : cell ≡ 0 → after ≡ before
+
+-- The step returns, and gives nothing back.
+pub data Returns (C : List ℕ) (i : ℕ) : Type 0 where
+  byReturn : opAt C i ≡ aReturn → Returns C i
+  byEnd : opAt C i ≡ anEnd → Returns C i

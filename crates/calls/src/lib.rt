@@ -1,0 +1,348 @@
+// Calls and returns.
+ghost use mathlib.Core.Path.{_≡_};
+ghost use mathlib.Core.Bool.{true};
+ghost use Prim.Native.Nat.{_+_, _*_, _<_, _≤_};
+ghost use lib.Dec.{eqb};
+ghost use lib.ListN.{length};
+ghost use lib.IntN.{pos};
+ghost use mir.Syntax.{w32};
+ghost use mir.Val.{SFits};
+ghost use Rattle.cells.specs.Words.{wordsOf};
+ghost use Rattle.code.specs.Cells.{opAt};
+ghost use Rattle.code.specs.Steps.{aNextArgument, aProcedureCall, aCallTarget};
+ghost use Rattle.code.specs.Windows.{stepsCell};
+ghost use Rattle.machine.specs.Machine.{Here, Performs, Calls, Says};
+ghost use Rattle.targets.specs.Targets.{WordAt, ArrayAt};
+ghost use Rattle.calls.specs.Calling.{Filled, Idled, Starts, Started, Let, Passes, Passed, MayEnter, Entered, CallsFor, CalledFor, Deepest, Gave, Returns};
+use machine::worth;
+use reading::head;
+use reading::link;
+use reading::place;
+use reading::put;
+use reading::value;
+use targets::element;
+
+// where the loop of a word of the call ends, and its step, counted from the word's cell
+const ENDS: usize = 64;
+
+const STEPS: usize = 128;
+
+// an answer from here on is an error's
+const FIRST_ERROR: i64 = 4294967296;
+
+// what an answer that is no error has in its low half counts to
+const HALF: usize = 65536;
+
+// a step of a routine that is entered has this in the half above it
+const ENTERED: usize = 65536;
+
+// the same for a caller's step, and the end of main
+const LEFT: usize = 131072;
+
+const MAIN_RETURNED: i64 = 196609;
+
+// a call beyond the depth has this in the half above its callee
+const LACKS: usize = 262144;
+
+// the window of main
+const FIRST: usize = 1024;
+
+// cells of a window, and some of them
+const WINDOW: usize = 240;
+
+const ROUTINE: usize = 192;
+
+const WAITS: usize = 193;
+
+const AFTER: usize = 194;
+
+const FAILED: usize = 195;
+
+const RESULT: usize = 196;
+
+// words of the code store
+const WORDS: usize = 8192;
+
+// a head has its value above its op
+const OPS: u32 = 256;
+
+// a comma between two arguments
+const NEXT_ARGUMENT: u32 = 159;
+
+// VAR or CONST of a routine
+const DATUM: u32 = 160;
+
+// how far the numbers that a head holds are from those they stand for
+const BIAS: i64 = 8388607;
+
+// ---- the words of a new call
+
+// Makes `count` cells from `at` on hold v: the cell behind them.
+fn fill(values: &mut [u8], at: usize, count: usize, v: i64) -> usize
+    requires { ⌜ ((at + count) * 4 ≤ length (now values)) × SFits w32 v ⌝ }
+    ensures { λ r. ⌜ Filled (now (values .entry)) (now (values .exit)) at count v r ⌝ }
+{
+    let mut k = 0;
+    while k < count {
+        put(values, at + k, v);
+        k += 1;
+    }
+    at + count
+}
+
+// The FOR variables, which begin at a cell: no loop is live.
+fn start_loops(values: &mut [u8], at: usize, fors: usize)
+    requires { ⌜ (at + fors + stepsCell) * 4 ≤ length (now values) ⌝ }
+    ensures { λ _. ⌜ Idled (now (values .entry)) (now (values .exit)) at fors ⌝ }
+{
+    let mut k = 0;
+    while k < fors {
+        put(values, at + k, 0);
+        put(values, at + k + ENDS, 0);
+        put(values, at + k + STEPS, 0);
+        k += 1;
+    }
+}
+
+// The words of a new call behind its arguments: its routine's data, which begin at the word `first`, from a cell on, and its FOR variables.
+pub fn start_words<'a>(code: &'a [u8], values: &'a mut [u8], first: usize, at: usize)
+    requires { ⌜ Starts (now code) (now values) first at ⌝ }
+    ensures { λ _. ⌜ Started (now (code .entry)) (now (values .entry)) (now (values .exit)) first at ⌝ }
+{
+    let mut q = first;
+    let mut n = at;
+    let mut w = head(code, q);
+    while w % OPS == DATUM {
+        n = fill(values, n, place(code, q), (w / OPS) as i64 - BIAS);
+        q = link(code, q);
+        w = head(code, q);
+    }
+    start_loops(values, n, place(code, q));
+}
+
+// ---- arguments
+
+// Two numbers in one.
+fn packed(low: usize, high: usize) -> i64
+    requires { ⌜ (low < 65536) × (high < 65536) ⌝ }
+    ensures { λ r. ⌜ r ≡ pos (low + 65536 * high) ⌝ }
+{
+    (low + HALF * high) as i64
+}
+
+// A comma stands at a word, which may lie past the store.
+fn is_comma(code: &[u8], b: usize) -> bool
+    requires { ⌜ length (now code) ≡ 65536 ⌝ }
+    ensures { λ r. ⌜ r ≡ eqb (opAt (wordsOf (now (code .entry))) b) aNextArgument ⌝ }
+{
+    if b < WORDS {
+        return head(code, b) % OPS == NEXT_ARGUMENT;
+    }
+    false
+}
+
+fn pass(values: &mut [u8], room: bool, n: usize, v: i64)
+    requires { ⌜ (room ≡ true → n * 4 + 4 ≤ length (now values)) × SFits w32 v ⌝ }
+    ensures { λ _. ⌜ Let (now (values .entry)) (now (values .exit)) room n v ⌝ }
+{
+    if room {
+        put(values, n, v);
+    }
+}
+
+// The arguments from `first` on, the first of which ends at `end`, into the next window where there is room: the word that closes them and, above it, the
+// cell behind them; or an error.
+fn arguments<'a>(
+    code: &'a [u8],
+    values: &'a mut [u8],
+    base: usize,
+    room: bool,
+    first: usize,
+    end: usize,
+) -> i64
+    requires { ⌜ Passes (now code) (now values) base first end room ⌝ }
+    ensures { λ r. ⌜ Passed (now (code .entry)) (now (values .entry)) (now (values .exit)) base first end room r ⌝ }
+{
+    let mut n = base + WINDOW;
+    if first == end {
+        return packed(end, n);
+    }
+    let mut a = first;
+    let mut b = end;
+    loop {
+        let v = worth(&*code, &*values, base, a, b);
+        if FIRST_ERROR <= v {
+            return v;
+        }
+        pass(values, room, n, v);
+        n += 1;
+        if !is_comma(code, b) {
+            return packed(b, n);
+        }
+        a = b + 1;
+        b = link(code, b);
+    }
+}
+
+// ---- calls
+
+// A call of the routine that the word `callee` names, of which the arguments stand in the next window up to the cell n.
+fn enter<'a>(
+    code: &'a [u8],
+    values: &'a mut [u8],
+    base: usize,
+    i: usize,
+    callee: usize,
+    result: usize,
+    after: usize,
+    n: usize,
+) -> i64
+    requires { ⌜ MayEnter (now code) (now values) base i callee result after n ⌝ }
+    ensures { λ r. ⌜ Entered (now (code .entry)) (now (values .entry)) base i callee result after n (now (values .exit)) r ⌝ }
+{
+    cells::put(values, base + WAITS, i as u32);
+    cells::put(values, base + AFTER, after as u32);
+    let h = value(code, callee);
+    start_words(&*code, values, link(code, h), n);
+    cells::put(values, base + WINDOW + ROUTINE, h as u32);
+    cells::put(values, base + WINDOW + FAILED, 0);
+    cells::put(values, base + WINDOW + RESULT, result as u32);
+    (ENTERED + place(code, h)) as i64
+}
+
+// A procedure call; `last` is the window of the last call that the depth lent admits.
+pub fn call_of<'a>(code: &'a [u8], values: &'a mut [u8], base: usize, last: usize, i: usize) -> i64
+    requires { ⌜ Here (now code) (now values) base i × Deepest last × (opAt (wordsOf (now code)) i ≡ aProcedureCall) ⌝ }
+    ensures { λ r. ⌜ Calls (now (code .entry)) (now (values .entry)) (now (values .exit)) base last i r ⌝ }
+{
+    let room = base < last;
+    let r = arguments(&*code, values, base, room, i + 1, link(code, i));
+    if FIRST_ERROR <= r {
+        return r;
+    }
+    if room {
+        let k = r as usize;
+        return enter(
+            &*code,
+            values,
+            base,
+            i,
+            i,
+            0,
+            link(code, k % HALF),
+            k / HALF,
+        );
+    }
+    (LACKS + i) as i64
+}
+
+// A call for a result that goes to a cell. Its target is followed by the word `next`, and that by the callee.
+fn call_to<'a>(
+    code: &'a [u8],
+    values: &'a mut [u8],
+    base: usize,
+    last: usize,
+    i: usize,
+    next: usize,
+    cell: usize,
+) -> i64
+    requires { ⌜ CallsFor (now code) (now values) base i last next cell ⌝ }
+    ensures { λ r. ⌜ CalledFor (now (code .entry)) (now (values .entry)) base i last next cell (now (values .exit)) r ⌝ }
+{
+    let room = base < last;
+    let callee = next + 1;
+    let r = arguments(&*code, values, base, room, callee + 2, link(code, callee));
+    if FIRST_ERROR <= r {
+        return r;
+    }
+    if room {
+        return enter(
+            &*code,
+            values,
+            base,
+            i,
+            callee,
+            cell + 1,
+            link(code, i),
+            r as usize / HALF,
+        );
+    }
+    (LACKS + callee) as i64
+}
+
+// A call for a result that goes to the word at a cell.
+pub fn call_for<'a>(
+    code: &'a [u8],
+    values: &'a mut [u8],
+    base: usize,
+    last: usize,
+    i: usize,
+    cell: usize,
+) -> i64
+    requires { ⌜ Here (now code) (now values) base i × Deepest last × WordAt (wordsOf (now code)) base aCallTarget i cell ⌝ }
+    ensures { λ r. ⌜ Calls (now (code .entry)) (now (values .entry)) (now (values .exit)) base last i r ⌝ }
+{
+    call_to(&*code, values, base, last, i, i + 1, cell)
+}
+
+// A call for a result that goes to an element of the array whose first cell is given.
+pub fn call_for_element<'a>(
+    code: &'a [u8],
+    values: &'a mut [u8],
+    base: usize,
+    last: usize,
+    i: usize,
+    first: usize,
+    size: usize,
+) -> i64
+    requires { ⌜ Here (now code) (now values) base i × Deepest last × ArrayAt (wordsOf (now code)) base aCallTarget i first size ⌝ }
+    ensures { λ r. ⌜ Calls (now (code .entry)) (now (values .entry)) (now (values .exit)) base last i r ⌝ }
+{
+    let end = link(code, i + 1);
+    let k = element(&*code, &*values, base, first, size, i, end);
+    if k < FIRST_ERROR {
+        return call_to(&*code, values, base, last, i, end + 1, k as usize);
+    }
+    k
+}
+
+// ---- returns
+
+// A result into the cell that is 1 below; 0 is nowhere.
+fn give(values: &mut [u8], cell: usize, v: i64)
+    requires { ⌜ (cell * 4 ≤ length (now values)) × SFits w32 v ⌝ }
+    ensures { λ _. ⌜ Gave (now (values .entry)) (now (values .exit)) cell v ⌝ }
+{
+    if cell != 0 {
+        put(values, cell - 1, v);
+    }
+}
+
+// RETURN with a value, which stands from the next word up to t.
+pub fn give_back<'a>(code: &'a [u8], values: &'a mut [u8], base: usize, i: usize, t: usize) -> i64
+    requires { ⌜ Here (now code) (now values) base i × Says (now code) i 137 t ⌝ }
+    ensures { λ r. ⌜ Performs (now (code .entry)) (now (values .entry)) (now (values .exit)) base i r ⌝ }
+{
+    let v = worth(&*code, &*values, base, i + 1, t);
+    if FIRST_ERROR <= v {
+        return v;
+    }
+    if base == FIRST {
+        return MAIN_RETURNED;
+    }
+    let next = cells::get(values, base - WINDOW + AFTER) as usize;
+    let cell = cells::get(values, base + RESULT) as usize;
+    give(values, cell, v);
+    (LEFT + next) as i64
+}
+
+// A return with nothing: the caller goes on.
+pub fn back<'a>(code: &'a [u8], values: &'a [u8], base: usize, i: usize) -> i64
+    requires { ⌜ Here (now code) (now values) base i × Returns (wordsOf (now code)) i ⌝ }
+    ensures { λ r. ⌜ Performs (now (code .entry)) (now (values .entry)) (now (values .entry)) base i r ⌝ }
+{
+    if base == FIRST {
+        return MAIN_RETURNED;
+    }
+    (LEFT + cells::get(values, base - WINDOW + AFTER) as usize) as i64
+}

@@ -1,0 +1,63 @@
+-- What the functions that choose where a run goes on ask and tell.
+use mathlib.Core.Path.{_≡_}
+use mathlib.Core.Bool.{Bool}
+use mathlib.Core.List.{List}
+use mathlib.Core.Option.{Option, none, some}
+use Prim.Native.Nat.{ℕ, _+_, _*_, _%_, _<_, _≤_}
+use lib.ListN.{length}
+use lib.IntN.{ℤ, pos}
+use Rattle.paper.specs.Numbers.{Value, value}
+use Rattle.paper.specs.Terms.{Term, Memory, worth}
+use Rattle.paper.specs.Running.{matching}
+use Rattle.cells.specs.Words.{wordsOf}
+use Rattle.code.specs.Steps.{Head, parts, forStep, casesIn}
+use Rattle.evaluation.specs.Answers.{decoded, Small, Counts, memoryOf}
+use Rattle.reading.specs.Reading.{halfEnd}
+
+-- ---- FOR
+-- A FOR's STEP, or its DO, stands at s.
+pub record ForSteps (code : List ℕ) (s : ℕ) : Type 0 where
+  pub c : Counts
+  pub function : Bool
+  pub text : List ℕ
+  pub R : List Head
+  pub step : Option Term
+  pub d : ℕ
+  pub is : forStep (c .m) (c .n) function text R (wordsOf code) s ≡ some (step, d)
+  pub inside : s * 8 + 8 ≤ length code
+  pub whole : length code % 8 ≡ 0
+
+-- "Without STEP the step is 1."
+unfoldable pub stepWorth : Memory → Option Term → Value
+stepWorth M none = value (pos 1)
+stepWorth M (some e) = worth M e
+
+-- r is what the step is worth.
+pub record StepGiven (code values : List ℕ) (base s : ℕ) (r : ℤ) : Type 0 where
+  pub is : (c : Counts) (function : Bool) (text : List ℕ) (R : List Head) (step : Option Term) (d : ℕ)
+      → forStep (c .m) (c .n) function text R (wordsOf code) s ≡ some (step, d) → decoded r ≡ stepWorth (memoryOf c values base) step
+  pub small : Small r
+
+-- r is the DO.
+pub record DoAt (code : List ℕ) (s r : ℕ) : Type 0 where
+  pub is : (c : Counts) (function : Bool) (text : List ℕ) (R : List Head) (step : Option Term) (d : ℕ)
+      → forStep (c .m) (c .n) function text R (wordsOf code) s ≡ some (step, d) → r ≡ d
+
+-- ---- TEST
+-- The cases of a TEST stand at a word.
+pub record Cases (code : List ℕ) (first : ℕ) : Type 0 where
+  pub m : ℕ
+  pub n : ℕ
+  pub function : Bool
+  pub text : List ℕ
+  pub R : List Head
+  pub cs : List (List ℤ × ℕ)
+  pub o : ℕ
+  pub is : casesIn m n function text R (wordsOf code) parts first ≡ some (cs, o)
+  pub whole : length code % 8 ≡ 0
+
+-- r is where they go on for v.
+pub record Matches (code : List ℕ) (first : ℕ) (v : ℤ) (r : ℕ) : Type 0 where
+  pub is : (m n : ℕ) (function : Bool) (text : List ℕ) (R : List Head) (cs : List (List ℤ × ℕ)) (o : ℕ)
+      → casesIn m n function text R (wordsOf code) parts first ≡ some (cs, o) → r ≡ matching v cs o
+  pub small : r < halfEnd

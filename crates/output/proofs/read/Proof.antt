@@ -1,0 +1,121 @@
+use Rattle.output.proofs.Prompting.{read-in, read-next, read-sum, read-sum-7, read-answer, read-answer-7, read-target, read-fails, read-lacks, read-none, read-adds, read-cast, read-takes, read-out, read-done}
+use borrow.Author.Needs.{needs}
+use Rattle.output.proofs.read.Statement.{statement}
+use Rattle.output.proofs.read.Tie as tie
+
+add-target-cell : tie.Need-add-target-cell
+add-target-cell c = search (needs, read-next)
+
+target-cell-requires : tie.Need-target-cell-requires
+target-cell-requires c κs = read-target _ _ _ _ _ _ _ _ (c .before .before .before .before .before .before .pre .0) (c .before .before .before .before .before .before .pre .1)
+
+same-length : tie.Need-same-length
+same-length c = search needs
+
+returns : tie.Need-returns
+returns c = read-fails _ _ _ _ _ _ _ _ (c .before .before .before .before .before .before .before .before .pre .0) (c .before .before .before .before .before .before .before .before .pre .1) _ record { sfits = c .before .target-cell .ok } (c .before .target-cell .ensures) (c .if1 .taken)
+
+written-requires : tie.Need-written-requires
+written-requires c κs = search needs
+
+sub-if2 : tie.Need-sub-if2
+sub-if2 c = search needs
+
+characters-requires : tie.Need-characters-requires
+characters-requires c κs = search needs
+
+add-result : tie.Need-add-result
+add-result c = search (needs, read-sum)
+
+cast-result : tie.Need-cast-result
+cast-result c = search (needs, read-answer)
+
+same-length-2 : tie.Need-same-length-2
+same-length-2 c = search needs
+
+returns-2 : tie.Need-returns-2
+returns-2 c = read-lacks _ _ _ _ _ _ _ _ (c .before .before .before .before .before .before .before .before .before .before .before .before .pre .0) (c .before .before .before .before .before .before .before .before .before .before .before .before .pre .1) _ record { sfits = c .before .before .before .before .before .target-cell .ok } (c .before .before .before .before .before .target-cell .ensures) (c .before .before .before .before .if1 .left) _ (c .before .before .written .ensures) _ (c .before .characters .ensures .0) (c .if2 .taken)
+
+get-requires : tie.Need-get-requires
+get-requires c κs = search needs
+
+cast-if3 : tie.Need-cast-if3
+cast-if3 c = search needs
+
+add-result-2 : tie.Need-add-result-2
+add-result-2 c = search (needs, read-sum-7)
+
+cast-result-2 : tie.Need-cast-result-2
+cast-result-2 c = search (needs, read-answer-7)
+
+same-length-3 : tie.Need-same-length-3
+same-length-3 c = search needs
+
+returns-3 : tie.Need-returns-3
+returns-3 c = read-none _ _ _ _ _ _ _ _ (c .before .before .before .before .before .before .before .before .before .before .before .before .before .before .before .pre .0) (c .before .before .before .before .before .before .before .before .before .before .before .before .before .before .before .pre .1) _ record { sfits = c .before .before .before .before .before .before .before .before .target-cell .ok } (c .before .before .before .before .before .before .before .before .target-cell .ensures) (c .before .before .before .before .before .before .before .if1 .left) _ (c .before .before .before .before .before .written .ensures) _ (c .before .before .before .before .characters .ensures .0) (c .before .before .before .if2 .left) _ (c .before .get .ensures) (c .if3 .taken)
+
+add-requires : tie.Need-add-requires
+add-requires c κs = read-adds _ _ _ _ _ _ _ _ (c .before .before .before .before .before .before .before .before .before .before .before .before .before .before .before .before .before .pre .0) (c .before .before .before .before .before .before .before .before .before .before .before .before .before .before .before .before .before .pre .1) _ record { sfits = c .before .before .before .before .before .before .before .before .before .before .target-cell .ok } (c .before .before .before .before .before .before .before .before .before .before .target-cell .ensures) (c .before .before .before .before .before .before .before .before .before .if1 .left) _ (c .before .before .before .before .before .before .before .written .ensures) _ (c .before .before .before .before .before .before .characters .ensures .0) (c .before .before .before .before .before .if2 .left) _ (c .before .before .before .get .ensures)
+
+cast-take : tie.Need-cast-take
+cast-take c = read-cast _ _ _ _ _ _ _ _ (c .before .before .before .before .before .before .before .before .before .before .before .before .before .before .before .before .before .before .before .before .before .before .before .pre .0) (c .before .before .before .before .before .before .before .before .before .before .before .before .before .before .before .before .before .before .before .before .before .before .before .pre .1) _ record { sfits = c .before .before .before .before .before .before .before .before .before .before .before .before .before .before .before .before .target-cell .ok } (c .before .before .before .before .before .before .before .before .before .before .before .before .before .before .before .before .target-cell .ensures) (c .before .before .before .before .before .before .before .before .before .before .before .before .before .before .before .if1 .left) _ (c .before .before .before .before .before .before .before .before .before .before .before .before .before .written .ensures) _ (c .before .before .before .before .before .before .before .before .before .before .before .before .characters .ensures .0) (c .before .before .before .before .before .before .before .before .before .before .before .if2 .left) _ (c .before .before .before .before .before .before .before .before .before .get .ensures) (c .before .before .before .before .before .before .before .before .if3 .left) _ _ (c .before .before .before .before .before .add .ensures)
+
+take-requires : tie.Need-take-requires
+take-requires c κs = read-takes _ _ _ _ _ _ _ _ (c .before .before .before .before .before .before .before .before .before .before .before .before .before .before .before .before .before .before .before .before .before .before .before .pre .0) (c .before .before .before .before .before .before .before .before .before .before .before .before .before .before .before .before .before .before .before .before .before .before .before .pre .1) _ record { sfits = c .before .before .before .before .before .before .before .before .before .before .before .before .before .before .before .before .target-cell .ok } (c .before .before .before .before .before .before .before .before .before .before .before .before .before .before .before .before .target-cell .ensures) (c .before .before .before .before .before .before .before .before .before .before .before .before .before .before .before .if1 .left) _ (c .before .before .before .before .before .before .before .before .before .before .before .before .before .written .ensures) _ (c .before .before .before .before .before .before .before .before .before .before .before .before .characters .ensures .0) (c .before .before .before .before .before .before .before .before .before .before .before .if2 .left) _ (c .before .before .before .before .before .before .before .before .before .get .ensures) (c .before .before .before .before .before .before .before .before .if3 .left) _ _ (c .before .before .before .before .before .add .ensures)
+
+link-requires : tie.Need-link-requires
+link-requires c κs = search (needs, read-in)
+
+cast-result-3 : tie.Need-cast-result-3
+cast-result-3 c = search needs
+
+same-length-4 : tie.Need-same-length-4
+same-length-4 c = search needs
+
+same-length-5 : tie.Need-same-length-5
+same-length-5 c = search needs
+
+returns-4 : tie.Need-returns-4
+returns-4 c = read-done _ _ _ _ _ _ _ _ (c .before .before .before .before .before .before .before .before .before .before .before .before .before .before .before .before .before .before .before .before .before .before .before .before .before .before .before .before .pre .0) (c .before .before .before .before .before .before .before .before .before .before .before .before .before .before .before .before .before .before .before .before .before .before .before .before .before .before .before .before .pre .1) _ record { sfits = c .before .before .before .before .before .before .before .before .before .before .before .before .before .before .before .before .before .before .before .before .before .target-cell .ok } (c .before .before .before .before .before .before .before .before .before .before .before .before .before .before .before .before .before .before .before .before .before .target-cell .ensures) (c .before .before .before .before .before .before .before .before .before .before .before .before .before .before .before .before .before .before .before .before .if1 .left) _ (c .before .before .before .before .before .before .before .before .before .before .before .before .before .before .before .before .before .before .written .ensures) _ (c .before .before .before .before .before .before .before .before .before .before .before .before .before .before .before .before .before .characters .ensures .0) (c .before .before .before .before .before .before .before .before .before .before .before .before .before .before .before .before .if2 .left) _ (c .before .before .before .before .before .before .before .before .before .before .before .before .before .before .get .ensures) (c .before .before .before .before .before .before .before .before .before .before .before .before .before .if3 .left) _ _ (c .before .before .before .before .before .before .before .before .before .before .add .ensures) _ _ (c .before .before .before .before .take .ensures) (c .before .if4 .taken) _ (c .link .ensures .same)
+
+same-length-6 : tie.Need-same-length-6
+same-length-6 c = search needs
+
+same-length-7 : tie.Need-same-length-7
+same-length-7 c = search needs
+
+returns-5 : tie.Need-returns-5
+returns-5 c = read-out _ _ _ _ _ _ _ _ (c .before .before .before .before .before .before .before .before .before .before .before .before .before .before .before .before .before .before .before .before .before .before .before .before .before .before .before .pre .0) (c .before .before .before .before .before .before .before .before .before .before .before .before .before .before .before .before .before .before .before .before .before .before .before .before .before .before .before .pre .1) _ record { sfits = c .before .before .before .before .before .before .before .before .before .before .before .before .before .before .before .before .before .before .before .before .target-cell .ok } (c .before .before .before .before .before .before .before .before .before .before .before .before .before .before .before .before .before .before .before .before .target-cell .ensures) (c .before .before .before .before .before .before .before .before .before .before .before .before .before .before .before .before .before .before .before .if1 .left) _ (c .before .before .before .before .before .before .before .before .before .before .before .before .before .before .before .before .before .written .ensures) _ (c .before .before .before .before .before .before .before .before .before .before .before .before .before .before .before .before .characters .ensures .0) (c .before .before .before .before .before .before .before .before .before .before .before .before .before .before .before .if2 .left) _ (c .before .before .before .before .before .before .before .before .before .before .before .before .before .get .ensures) (c .before .before .before .before .before .before .before .before .before .before .before .before .if3 .left) _ _ (c .before .before .before .before .before .before .before .before .before .add .ensures) _ _ (c .before .before .before .take .ensures) (c .if4 .left)
+
+pub read-spec : {M : Type 1} → statement M
+read-spec =
+    tie.close
+    (tie.spec
+    add-target-cell
+    target-cell-requires
+    same-length
+    returns
+    written-requires
+    sub-if2
+    characters-requires
+    add-result
+    cast-result
+    same-length-2
+    returns-2
+    get-requires
+    cast-if3
+    add-result-2
+    cast-result-2
+    same-length-3
+    returns-3
+    add-requires
+    cast-take
+    take-requires
+    link-requires
+    cast-result-3
+    same-length-4
+    same-length-5
+    returns-4
+    same-length-6
+    same-length-7
+    returns-5)

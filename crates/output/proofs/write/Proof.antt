@@ -1,0 +1,69 @@
+use Rattle.output.proofs.Printing.{write-in, write-next, write-sum, write-fits, write-lacks, write-adds, write-done}
+use borrow.Author.Needs.{needs}
+use Rattle.output.proofs.write.Statement.{statement}
+use Rattle.output.proofs.write.Tie as tie
+
+written-requires : tie.Need-written-requires
+written-requires c κs = search needs
+
+sub-if1 : tie.Need-sub-if1
+sub-if1 c = search needs
+
+add-characters : tie.Need-add-characters
+add-characters c = search (needs, write-next)
+
+characters-requires : tie.Need-characters-requires
+characters-requires c κs = search needs
+
+add-result : tie.Need-add-result
+add-result c = search (needs, write-sum)
+
+cast-result : tie.Need-cast-result
+cast-result c = search (needs, write-fits)
+
+same-length : tie.Need-same-length
+same-length c = search needs
+
+returns : tie.Need-returns
+returns c = write-lacks _ _ _ _ _ (c .before .before .before .before .before .before .before .before .pre) _ (c .before .before .written .ensures) _ (c .before .characters .ensures .0) (c .if1 .taken)
+
+add-add : tie.Need-add-add
+add-add c = search (needs, write-next)
+
+add-requires : tie.Need-add-requires
+add-requires c κs = write-adds _ _ _ _ _ (c .before .before .before .before .before .before .before .before .before .before .pre) _ (c .before .before .before .before .written .ensures) _ (c .before .before .before .characters .ensures .0) (c .before .before .if1 .left)
+
+link-requires : tie.Need-link-requires
+link-requires c κs = search (needs, write-in)
+
+cast-result-2 : tie.Need-cast-result-2
+cast-result-2 c = search needs
+
+same-length-2 : tie.Need-same-length-2
+same-length-2 c = search needs
+
+same-length-3 : tie.Need-same-length-3
+same-length-3 c = search needs
+
+returns-2 : tie.Need-returns-2
+returns-2 c = write-done _ _ _ _ _ (c .before .before .before .before .before .before .before .before .before .before .before .before .before .before .before .before .pre) _ (c .before .before .before .before .before .before .before .before .before .before .written .ensures) _ (c .before .before .before .before .before .before .before .before .before .characters .ensures .0) (c .before .before .before .before .before .before .before .before .if1 .left) _ _ (c .before .before .before .before .before .add .ensures) _ (c .link .ensures .same)
+
+pub write-spec : {M : Type 1} → statement M
+write-spec =
+    tie.close
+    (tie.spec
+    written-requires
+    sub-if1
+    add-characters
+    characters-requires
+    add-result
+    cast-result
+    same-length
+    returns
+    add-add
+    add-requires
+    link-requires
+    cast-result-2
+    same-length-2
+    same-length-3
+    returns-2)

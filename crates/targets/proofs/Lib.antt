@@ -1,0 +1,5 @@
+pub mod Assigning
+pub mod Elements
+pub mod References
+pub mod StoreSteps
+pub mod Targeting
