@@ -320,6 +320,23 @@ module _ (a b : ℤ) (sa : SFits w64 a) (sb : SFits w64 b) (fa : SFits w32 a) (f
   unfolding joined known combined operated operatorOf operators
   either-left h = rw (toZ-ofZ sa) (side 13 a b a (omega arith) fa (rw (left-is false h, joined)))
 
+-- ---- what an operator gives, by what was worked out
+module _ (number : ℕ) (a b : ℤ) (sa : SFits w64 a) (sb : SFits w64 b) (z : ℤ) (sz : SFits w64 z) (k : Worked number (read a) (read b) z) (t : Bool) (e : t ≡ failing number (read z)) where
+  sides : joined (operatorOf number) (value (read a)) (value (read b)) ≡ joined (operatorOf number) (value a) (value b)
+  sides = rw (toZ-ofZ sa, toZ-ofZ sb)
+
+  fails-as : (u : Bool) → t ≡ u → failing number z ≡ u
+  fails-as u h = rw (toZ-ofZ sz) at (sym e ∙ h)
+
+  pub combine-value : t ≡ false → Gives (joined (operatorOf number) (value a) (value b)) (read z)
+  combine-value h =
+      rw (toZ-ofZ sz)
+      (gives-as (value z) (joined (operatorOf number) (value a) (value b)) z (sym (k .is (fails-as false h)) ∙ sides) (gives-value z (k .small (fails-as false h))))
+
+  pub combine-error : t ≡ true → (f : ℤ) → SFits w64 f → Gives (error (failureOf number (read b))) f → Gives (joined (operatorOf number) (value a) (value b)) (read f)
+  combine-error h f s g =
+      rw (toZ-ofZ s) (gives-as (error (failureOf number (read b))) (joined (operatorOf number) (value a) (value b)) f (sym (k .fails (fails-as true h)) ∙ sides) g)
+
 -- ---- NOT and the signs
 module _ (op : ℕ) (a : ℤ) (sa : SFits w64 a) (sm : Small a) (t : Bool) (e : t ≡ ltZ (read a) (pos firstError)) where
   module _ (h : t ≡ true) where

@@ -5,7 +5,7 @@ use mathlib.Core.List.{List}
 use mathlib.Core.Option.{some}
 use Prim.Native.Nat.{ℕ, zero, suc, _+_, _-_, _*_, _/_, _%_, _<_, _≤_}
 use native.Mathlib.Omega.{arith}
-use lib.Dec.{leb}
+use lib.Dec.{T, leb}
 use lib.ListN.{length}
 use lib.IntN.{ℤ, pos, natAbs}
 use lib.Signed.{ltZ}
@@ -24,7 +24,7 @@ use Rattle.code.proofs.Operands.{of-any, of-leaf}
 use Rattle.code.proofs.Spanning.{end-span, end-leaf, right-span, right-leaf, chain-done, Step, chain-step, right-moves, Begun, begun, span-grows, single}
 use Rattle.reading.specs.Reading.{cellValues}
 use Rattle.evaluation.specs.Answers.{firstError, decoded, Small, Gives, Counts, termOf, memoryOf, Stands, Evaluated}
-use Rattle.evaluation.specs.Parts.{joined, failureOf, failing, Worked, Leaf, Read, closedTerm, opensAt, endsAt, Closes, Closed, Encloses, Entered}
+use Rattle.evaluation.specs.Parts.{joined, failureOf, failing, Worked, Leaf, Read, Fused, Shorts, closedTerm, opensAt, endsAt, Closes, Closed, Encloses, Entered}
 use Rattle.evaluation.proofs.Numbers.{is-value, is-error, small-value}
 use Rattle.evaluation.proofs.Places.{head-in, operand-some, right-in}
 
@@ -231,7 +231,7 @@ module _ (code values : List ℕ) (base : ℕ) where
       pub inside-in : s * 8 + 8 ≤ length code
       inside-in = stands-in s l inside-stands
 
-      pub inside-less : (l - s) * 2 + 1 < (l - at) * 2
+      pub inside-less : (l - s) * 3 + 1 < (l - at) * 3
       inside-less = omega (arith, opens-low s es, stands-less s l inside-stands)
 
       module _ (k : l ≡ s + 1) (v : ℕ) (ev : v ≡ headAt (wordsOf code) s) where
@@ -436,3 +436,88 @@ module _ (code values : List ℕ) (base : ℕ) where
                   g .is ∙ sym (chain-error c code values base (failureOf (w % 256 % 16) b) (next c t e .p)
                   (binary (operatorIn (opAt (wordsOf code) i)) (go .run .left c t e .u) (next c t e .u)) (rightEnd (wordsOf code) i) to t (next c t e .rest) (worth-is c t e ∙ k .fails o));
             }
+
+  -- ---- one operator between two words
+  module _ (from to : ℕ) (sd : Stands code from to) (l : to ≡ from + 3) (w : ℕ) (ew : w ≡ headAt (wordsOf code) from) (h : w % 256 ≤ 3) where
+    pub second-in : (from + 1) * 8 + 8 ≤ length code
+    second-in =
+        let b = begins from to sd (sd .c) (sd .t) (sd .is) in
+        let q : b .x .1 ≡ from + 1 = leaf-at from to sd w ew h (sd .c) (b .x) (b .first) .1 in
+        let s = chain-step (sd .c .m) (sd .c .n) (wordsOf code) (termIn (sd .c .m) (sd .c .n) (wordsOf code)) (b .g) (b .x .0) (b .x .1) to (sd .t) (λ z. omega arith) (b .rest) in
+        let r = right-in code (b .x .1) (sd .whole) (sd .c .m) (sd .c .n) (termIn (sd .c .m) (sd .c .n) (wordsOf code)) (span-grows (sd .c .m) (sd .c .n) (wordsOf code)) (s .u) (s .right) in
+        omega (arith, q, r)
+
+    module _ (x : ℕ) (ex : x ≡ headAt (wordsOf code) (from + 1)) (k : x / 16 % 4 ≡ 0 → ⊥) (a : ℤ) (sa : SFits w64 a) (ra : Read values base (w % 256) (w / 256) a) where
+      going : Going code values base from to (read a) (from + 1)
+      going = start-leaf from to sd w ew h a sa ra
+
+      class-low : x % 256 / 16 % 4 ≡ x % 64 / 16 % 4
+      class-low = omega arith
+
+      carried : x % 256 / 16 % 4 ≡ 0 → ⊥
+      carried z = k (omega arith)
+
+      pub second-leaf : x < cellValues → Leaf (x % 64 / 16 % 4) (x / 256)
+      second-leaf b = subst (λ (j : ℕ). Leaf j (x / 256)) class-low (fused-leaf from to (read a) (from + 1) going (omega arith) x ex carried b)
+
+      pub short : (r : ℤ) → SFits w64 r → Fused values base (x % 64) (x / 256) (read a) r → Evaluated code values base from to (read r)
+      short r sr f =
+          rw (toZ-ofZ sr) (record {
+            small = f .small;
+            is = λ c t e.
+                let g = going .run .left c t e in
+                let s = next from to (read a) (from + 1) going (omega arith) c t e in
+                let o : x % 64 % 16 ≡ opAt (wordsOf code) (from + 1) % 16 = let q : x % 64 % 16 ≡ x % 256 % 16 = omega arith in q ∙ ap (λ (j : ℕ). j % 256 % 16) ex in
+                f .is c (s .u) (ap (λ (j : ℕ). leafTerm (c .m) (c .n) j (x / 256)) (sym class-low) ∙ fused-is from to (read a) (from + 1) going (omega arith) x ex carried c (s .u) (s .right))
+                ∙ ap (λ (j : ℕ). joined (operatorOf j) (value (read a)) (worth (memoryOf c values base) (s .u))) o
+                ∙ ap (λ (v : Value). joined (operatorIn (opAt (wordsOf code) (from + 1))) v (worth (memoryOf c values base) (s .u))) (sym (left-is from to (read a) (from + 1) going c t e))
+                ∙ sym (worth-joined (memoryOf c values base) (operatorIn (opAt (wordsOf code) (from + 1))) (g .u) (s .u))
+                ∙ ap (worth (memoryOf c values base)) (chain-done (c .m) (c .n) (wordsOf code) (termIn (c .m) (c .n) (wordsOf code)) (s .p) (binary (operatorIn (opAt (wordsOf code) (from + 1))) (g .u) (s .u)) (rightEnd (wordsOf code) (from + 1)) to t
+                (end-leaf (wordsOf code) (from + 1) (λ z. carried (ap (λ (j : ℕ). j % 256 / 16 % 4) ex ∙ z)) ∙ omega arith) (s .rest));
+          })
+
+  -- ---- and told to be that
+  module _ (from to : ℕ) (sd : Stands code from to) where
+    module _ (sh : Shorts code from to true) where
+      first-word : (w : ℕ) → w ≡ headAt (wordsOf code) from → w % 256 ≤ 3
+      first-word w ew = omega (arith, ew, sh .first refl)
+
+      second-word : (x : ℕ) → x ≡ headAt (wordsOf code) (from + 1) → x / 16 % 4 ≡ 0 → ⊥
+      second-word x ex z = sh .carried refl (omega (arith, ex))
+
+      pub short-second : (from + 1) * 8 + 8 ≤ length code
+      short-second = second-in from to sd (sh .end refl) (headAt (wordsOf code) from) refl (sh .first refl)
+
+      module _ (w : ℕ) (ew : w ≡ headAt (wordsOf code) from) where
+        pub short-first : w < cellValues → Leaf (w % 256) (w / 256)
+        short-first b = first-leaf from to sd w ew (first-word w ew) b
+
+        module _ (x : ℕ) (ex : x ≡ headAt (wordsOf code) (from + 1)) (a : ℤ) (sa : SFits w64 a) (ra : Read values base (w % 256) (w / 256) a) where
+          pub short-carried : x < cellValues → Leaf (x % 64 / 16 % 4) (x / 256)
+          short-carried b = second-leaf from to sd (sh .end refl) w ew (first-word w ew) x ex (second-word x ex) a sa ra b
+
+          pub short-done : (r : ℤ) → SFits w64 r → Fused values base (x % 64) (x / 256) (read a) r → Evaluated code values base from to (read r)
+          short-done r sr f = short from to sd (sh .end refl) w ew (first-word w ew) x ex (second-word x ex) a sa ra r sr f
+
+-- ---- whether an expression is one operator between two words
+module _ (code : List ℕ) (from to : ℕ) where
+  pub shorts-not : Shorts code from to false
+  shorts-not = record { end = λ q. absurd (subst T (sym q) tt); first = λ q. absurd (subst T (sym q) tt); carried = λ q. absurd (subst T (sym q) tt) }
+
+  pub shorts-told : (r : Bool) → Shorts code from to r → r ≡ true → Shorts code from to true
+  shorts-told r s q = subst (Shorts code from to) q s
+
+  module _ (sd : Stands code from to) where
+    pub shorts-first : from * 8 + 8 ≤ length code
+    shorts-first = stands-in code code 0 from to sd
+
+    module _ (l : to ≡ from + 3) (w : ℕ) (ew : w ≡ headAt (wordsOf code) from) (h : w % 256 ≤ 3) where
+      pub shorts-second : (from + 1) * 8 + 8 ≤ length code
+      shorts-second = second-in code code 0 from to sd l w ew h
+
+      pub shorts-is : (x : ℕ) → x ≡ headAt (wordsOf code) (from + 1) → (x / 16 % 4 ≡ 0 → ⊥) → Shorts code from to true
+      shorts-is x ex k = record {
+        end = λ q. l;
+        first = λ q. omega (arith, ew);
+        carried = λ q z. k (omega (arith, ex));
+      }

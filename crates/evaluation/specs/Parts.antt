@@ -3,7 +3,7 @@ use mathlib.Core.Path.{_≡_}
 use mathlib.Core.Bool.{Bool, true, false}
 use mathlib.Core.List.{List}
 use mathlib.Core.Option.{Option, some}
-use Prim.Native.Nat.{ℕ, _+_, _%_, _<_}
+use Prim.Native.Nat.{ℕ, _+_, _%_, _<_, _≤_}
 use lib.Dec.{eqb, leb, ltb}
 use lib.ListN.{length}
 use lib.IntN.{ℤ}
@@ -13,8 +13,9 @@ use mir.Val.{SFits}
 use Rattle.paper.specs.Basics.{if_then_else_}
 use Rattle.paper.specs.Numbers.{num, Value, value, error, isZero, overflow, divZero}
 use Rattle.paper.specs.Terms.{Term, unary, known, combined, worth}
-use Rattle.code.specs.Cells.{opIn, valueIn}
-use Rattle.code.specs.Spans.{aCallElement, aParenthesis, prefixIn, operatorOf, leafTerm, elementTerm}
+use Rattle.cells.specs.Words.{wordsOf}
+use Rattle.code.specs.Cells.{opIn, valueIn, opAt}
+use Rattle.code.specs.Spans.{aSpan, aCallWord, aCallElement, aParenthesis, rightIn, prefixIn, operatorOf, operatorIn, leafTerm, elementTerm}
 use Rattle.reading.specs.Reading.{valueEnd}
 use Rattle.evaluation.specs.Answers.{decoded, Small, Counts, termOf, memoryOf}
 
@@ -66,6 +67,11 @@ pub record Read (values : List ℕ) (base op v : ℕ) (z : ℤ) : Type 0 where
   pub is : (c : Counts) (t : Term) → leafTerm (c .m) (c .n) op v ≡ some t → worth (memoryOf c values base) t ≡ value z
   pub small : SFits w32 z
 
+-- what the operator with an op gives, whose right side is the leaf of that class with the value v
+pub record Fused (values : List ℕ) (base op v : ℕ) (a r : ℤ) : Type 0 where
+  pub is : (c : Counts) (t : Term) → leafTerm (c .m) (c .n) (rightIn op) v ≡ some t → decoded r ≡ joined (operatorIn op) (value a) (worth (memoryOf c values base) t)
+  pub small : Small r
+
 -- the cell of a word with an op: the op `own` is the module's
 unfoldable pub cellOf : (base op own word : ℕ) → ℕ
 cellOf base op own k = if eqb op own then k else base + k
@@ -104,6 +110,12 @@ pub record Closed (values : List ℕ) (base w : ℕ) (x r : ℤ) : Type 0 where
   pub is : (c : Counts) (t u : Term) → closedTerm c (opIn w) (valueIn w) t ≡ some u → decoded x ≡ worth (memoryOf c values base) t
       → decoded r ≡ worth (memoryOf c values base) u
   pub small : Small r
+
+-- where r is true, one operator stands between two words
+pub record Shorts (code : List ℕ) (from to : ℕ) (r : Bool) : Type 0 where
+  pub end : r ≡ true → to ≡ from + 3
+  pub first : r ≡ true → opAt (wordsOf code) from ≤ aCallWord
+  pub carried : r ≡ true → rightIn (opAt (wordsOf code) (from + 1)) ≡ aSpan → ⊥
 
 -- an operand of several words begins at a word with the head w: what stands inside it ends at l
 pub record Encloses (code : List ℕ) (at w l : ℕ) : Type 0 where

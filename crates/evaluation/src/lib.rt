@@ -1,18 +1,16 @@
 // What an expression is worth, worked out from the linked words of the code store in place.
 ghost use mathlib.Core.Path.{_≡_};
-ghost use Prim.Native.Nat.{_+_, _*_, _<_, _≤_};
-ghost use lib.ListN.{length, getD};
+ghost use mathlib.Core.Bool.{true};
+ghost use Prim.Native.Nat.{_+_, _<_};
 ghost use lib.IntN.{pos};
 ghost use lib.Signed.{ltZ, quotZ, remZ};
 ghost use mir.Syntax.{w32};
 ghost use mir.Val.{SFits};
 ghost use Rattle.paper.specs.Numbers.{value, error, isZero, same};
 ghost use Rattle.paper.specs.Terms.{truth, applied, known};
-ghost use Rattle.cells.specs.Words.{wordsOf};
-ghost use Rattle.code.specs.Cells.{headAt};
-ghost use Rattle.code.specs.Spans.{prefixIn, operatorOf};
+ghost use Rattle.code.specs.Spans.{rightIn, prefixIn, operatorOf};
 ghost use Rattle.evaluation.specs.Answers.{firstError, decoded, Small, Gives, Stores, Stands, Evaluated};
-ghost use Rattle.evaluation.specs.Parts.{failureOf, failing, Worked, Divided, addresses, Leaf, Read, cellOf, opensAt, endsAt, Array, Indexed, Closes, Closed, Encloses, Entered};
+ghost use Rattle.evaluation.specs.Parts.{joined, failureOf, failing, Worked, Divided, addresses, Leaf, Read, cellOf, opensAt, endsAt, Fused, Array, Indexed, Closes, Closed, Shorts, Encloses, Entered};
 ghost use Rattle.evaluation.specs.Parts as parts;
 use reading::head;
 use reading::link;
@@ -37,6 +35,9 @@ const PARENTHESIS: u32 = 6;
 const NOT: u32 = 7;
 
 const MINUS: u32 = 9;
+
+// the number of XOR; those past the last operator are XOR too
+const XOR: u32 = 11;
 
 // the numbers of the operators that skip
 const AND: u32 = 12;
@@ -208,6 +209,18 @@ fn failure(number: u32, b: i64) -> i64
     OVERFLOW
 }
 
+// What an operator gives.
+fn combine(number: u32, a: i64, b: i64) -> i64
+    requires { ⌜ SFits w32 a × SFits w32 b ⌝ }
+    ensures { λ r. ⌜ Gives (joined (operatorOf number) (value a) (value b)) r ⌝ }
+{
+    let z = operate(number, a, b);
+    if is_failing(number, z) {
+        return failure(number, b);
+    }
+    z
+}
+
 // The left side tells the answer.
 fn is_known(number: u32, a: i64) -> bool
     ensures { λ r. ⌜ r ≡ known (operatorOf number) (value a) ⌝ }
@@ -262,6 +275,58 @@ fn leaf(values: &[u8], base: usize, op: u32, v: u32) -> i64
         return v as i64 - BIAS;
     }
     load(values, cell(base, op, MODULE_WORD, v as usize))
+}
+
+// What an operator gives that carries its right side: one choice among operators and kinds of right sides, each arm with code of its own.
+fn fused(values: &[u8], base: usize, op: u32, v: u32, a: i64) -> i64
+    requires { ⌜ Stores (now values) base × Leaf (rightIn op) v × SFits w32 a × (op < 64) ⌝ }
+    ensures { λ r. ⌜ Fused (now (values .entry)) base op v a r ⌝ }
+{
+    match op {
+        16 => combine(0, a, leaf(values, base, 1, v)),
+        17 => combine(1, a, leaf(values, base, 1, v)),
+        18 => combine(2, a, leaf(values, base, 1, v)),
+        19 => combine(3, a, leaf(values, base, 1, v)),
+        20 => combine(4, a, leaf(values, base, 1, v)),
+        21 => combine(5, a, leaf(values, base, 1, v)),
+        22 => combine(6, a, leaf(values, base, 1, v)),
+        23 => combine(7, a, leaf(values, base, 1, v)),
+        24 => combine(8, a, leaf(values, base, 1, v)),
+        25 => combine(9, a, leaf(values, base, 1, v)),
+        26 => combine(10, a, leaf(values, base, 1, v)),
+        27 => combine(11, a, leaf(values, base, 1, v)),
+        28 => combine(12, a, leaf(values, base, 1, v)),
+        29 => combine(13, a, leaf(values, base, 1, v)),
+        32 => combine(0, a, leaf(values, base, 2, v)),
+        33 => combine(1, a, leaf(values, base, 2, v)),
+        34 => combine(2, a, leaf(values, base, 2, v)),
+        35 => combine(3, a, leaf(values, base, 2, v)),
+        36 => combine(4, a, leaf(values, base, 2, v)),
+        37 => combine(5, a, leaf(values, base, 2, v)),
+        38 => combine(6, a, leaf(values, base, 2, v)),
+        39 => combine(7, a, leaf(values, base, 2, v)),
+        40 => combine(8, a, leaf(values, base, 2, v)),
+        41 => combine(9, a, leaf(values, base, 2, v)),
+        42 => combine(10, a, leaf(values, base, 2, v)),
+        43 => combine(11, a, leaf(values, base, 2, v)),
+        44 => combine(12, a, leaf(values, base, 2, v)),
+        45 => combine(13, a, leaf(values, base, 2, v)),
+        48 => combine(0, a, leaf(values, base, 3, v)),
+        49 => combine(1, a, leaf(values, base, 3, v)),
+        50 => combine(2, a, leaf(values, base, 3, v)),
+        51 => combine(3, a, leaf(values, base, 3, v)),
+        52 => combine(4, a, leaf(values, base, 3, v)),
+        53 => combine(5, a, leaf(values, base, 3, v)),
+        54 => combine(6, a, leaf(values, base, 3, v)),
+        55 => combine(7, a, leaf(values, base, 3, v)),
+        56 => combine(8, a, leaf(values, base, 3, v)),
+        57 => combine(9, a, leaf(values, base, 3, v)),
+        58 => combine(10, a, leaf(values, base, 3, v)),
+        59 => combine(11, a, leaf(values, base, 3, v)),
+        60 => combine(12, a, leaf(values, base, 3, v)),
+        61 => combine(13, a, leaf(values, base, 3, v)),
+        _ => combine(XOR, a, leaf(values, base, op / 16 % 4, v)),
+    }
 }
 
 fn element(values: &[u8], base: usize, w: u32, x: i64) -> i64
@@ -327,13 +392,46 @@ fn enclosed<'a>(code: &'a [u8], values: &'a [u8], base: usize, at: usize, w: u32
         let x = head(code, s);
         return close(values, base, w, leaf(values, base, x % 256, x / 256));
     }
-    close(values, base, w, evaluate(&*code, &*values, base, s, l))
+    close(values, base, w, whole(&*code, &*values, base, s, l))
 }
 
-// What the expression is worth that stands in the words from `from` up to `to`. What fails leaves at once, so that the loop goes on with values only.
+// One operator between two words, the form of most expressions: only then true.
+fn is_short(code: &[u8], from: usize, to: usize) -> bool
+    requires { ⌜ Stands (now code) from to ⌝ }
+    ensures { λ r. ⌜ Shorts (now (code .entry)) from to r ⌝ }
+{
+    if to == from + 3 {
+        let w = head(&*code, from);
+        if w % 256 <= CALL_WORD {
+            let x = head(&*code, from + 1);
+            if x / 16 % 4 != SPAN {
+                return true;
+            }
+        }
+    }
+    false
+}
+
+// Such an expression's worth. This calls nothing that calls it, and uses its slices as `&*code` and `&*values` alone: so they are passed in registers.
+fn short<'a>(code: &'a [u8], values: &'a [u8], base: usize, from: usize, to: usize) -> i64
+    requires { ⌜ Stores (now values) base × Stands (now code) from to × Shorts (now code) from to true ⌝ }
+    ensures { λ r. ⌜ Evaluated (now (code .entry)) (now (values .entry)) base from to r ⌝ }
+{
+    let w = head(&*code, from);
+    let x = head(&*code, from + 1);
+    fused(
+        &*values,
+        base,
+        x % 64,
+        x / 256,
+        leaf(&*values, base, w % 256, w / 256),
+    )
+}
+
+// What any expression is worth. What fails leaves at once, so that the loop goes on with values only.
 // `&*code` and `&*values` have a slice's two halves loaded one by one: a caller makes them anew for each call, the value store's at least, to which it
 // writes, and a load of both halves at once would wait for its stores.
-pub fn evaluate<'a>(code: &'a [u8], values: &'a [u8], base: usize, from: usize, to: usize) -> i64
+fn whole<'a>(code: &'a [u8], values: &'a [u8], base: usize, from: usize, to: usize) -> i64
     requires { ⌜ Stores (now values) base × Stands (now code) from to ⌝ }
     ensures { λ r. ⌜ Evaluated (now (code .entry)) (now (values .entry)) base from to r ⌝ }
 {
@@ -359,7 +457,7 @@ pub fn evaluate<'a>(code: &'a [u8], values: &'a [u8], base: usize, from: usize, 
         if op / 16 % 4 == SPAN {
             r = link(code, i);
             if !is_known(op % 16, acc) {
-                b = evaluate(&*code, &*values, base, i + 1, r);
+                b = part(&*code, &*values, base, i + 1, r);
                 if !is_value(b) {
                     return b;
                 }
@@ -375,4 +473,26 @@ pub fn evaluate<'a>(code: &'a [u8], values: &'a [u8], base: usize, from: usize, 
         i = r;
     }
     acc
+}
+
+// What stands in a part of an expression.
+fn part<'a>(code: &'a [u8], values: &'a [u8], base: usize, from: usize, to: usize) -> i64
+    requires { ⌜ Stores (now values) base × Stands (now code) from to ⌝ }
+    ensures { λ r. ⌜ Evaluated (now (code .entry)) (now (values .entry)) base from to r ⌝ }
+{
+    if is_short(&*code, from, to) {
+        return short(&*code, &*values, base, from, to);
+    }
+    whole(&*code, &*values, base, from, to)
+}
+
+// What the expression is worth that stands in the words from `from` up to `to`. As `part`, but outside the cycle of calls, so that slices are passed to it in registers.
+pub fn evaluate<'a>(code: &'a [u8], values: &'a [u8], base: usize, from: usize, to: usize) -> i64
+    requires { ⌜ Stores (now values) base × Stands (now code) from to ⌝ }
+    ensures { λ r. ⌜ Evaluated (now (code .entry)) (now (values .entry)) base from to r ⌝ }
+{
+    if is_short(&*code, from, to) {
+        return short(&*code, &*values, base, from, to);
+    }
+    whole(&*code, &*values, base, from, to)
 }
