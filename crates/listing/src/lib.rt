@@ -69,14 +69,14 @@ struct Summary {
     offset: usize,
 }
 
-// Lists a text, one word after another.
+// Lists a text, one word after another, by the word reader.
 fn list(text: &[u8], out: &mut [u8]) -> Summary
     ensures { λ r. ⌜ Listed·all (now (text .entry)) (now (out .entry)) (now (out .exit)) r ⌝ }
 {
     let mut c = Cursor::start();
     loop {
         let words = c.words;
-        match c.step(text) {
+        match reader::read(text, c.place, words) {
             Step::Word(word, next) => {
                 put_entry(out, words, word);
                 c = next;

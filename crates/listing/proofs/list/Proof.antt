@@ -19,8 +19,8 @@ start-requires c κs = search needs
 loop-holds : tie.Need-loop-holds Inv-loop μ-loop
 loop-holds c = search (needs, lists-start)
 
-step-requires : tie.Need-step-requires Inv-loop μ-loop
-step-requires c κs = search needs
+read-requires : tie.Need-read-requires Inv-loop μ-loop
+read-requires c κs = search needs
 
 enum-known-word : tie.Need-enum-known-word Inv-loop μ-loop
 enum-known-word c = search needs
@@ -60,7 +60,7 @@ list-spec =
     μ-loop
     start-requires
     loop-holds
-    step-requires
+    read-requires
     enum-known-word
     put-entry-requires
     loop-less
