@@ -57,7 +57,7 @@ fn put_line(
     put_one(line, g, words, LINE_END)
 }
 
-// Writes the record's fields, of which each is below 2^32, as a line. How many bytes it has.
+// Writes the record's fields as a line, each by its low word, the first of its two: no field of an answer is larger. How many bytes it has.
 fn put_record(line: &mut [u8], fields: &[u8]) -> usize
     requires { ⌜ (lineRoom ≤ length (now line)) × (recordSize ≤ length (now fields)) ⌝ }
     ensures { λ r. ⌜ PutLine (now (line .entry)) (now (line .exit)) (lowFields (now (fields .entry))) r ⌝ }

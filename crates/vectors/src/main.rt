@@ -14,6 +14,19 @@ const NUMBER: usize = 11;
 
 const HEADER: usize = 77;
 
+// Where the numbers of the first line stand behind the steps: depth, bytes of output, of code and of values, how many inputs, bytes of text.
+const DEPTH_AT: usize = 11;
+
+const OUTPUT_AT: usize = 22;
+
+const CODE_AT: usize = 33;
+
+const VALUES_AT: usize = 44;
+
+const INPUTS_AT: usize = 55;
+
+const TEXT_AT: usize = 66;
+
 // The most that a case is lent: bytes of text, inputs, bytes of output and of a store; and the bytes of the line that shows a record.
 const TEXT: usize = 32832;
 
@@ -108,12 +121,12 @@ fn print_call<'a>(
 // Reads what is left of a case, and runs it.
 fn run(header: &[u8; HEADER]) {
     let steps = word(header, 0);
-    let depth = word(header, 11);
-    let room = count(header, 22, OUTPUT);
-    let code_bytes = count(header, 33, STORE);
-    let value_bytes = count(header, 44, STORE);
-    let input_count = count(header, 55, INPUTS);
-    let text_bytes = count(header, 66, TEXT);
+    let depth = word(header, DEPTH_AT);
+    let room = count(header, OUTPUT_AT, OUTPUT);
+    let code_bytes = count(header, CODE_AT, STORE);
+    let value_bytes = count(header, VALUES_AT, STORE);
+    let input_count = count(header, INPUTS_AT, INPUTS);
+    let text_bytes = count(header, TEXT_AT, TEXT);
     let mut inputs = [0u8; INPUT_BYTES];
     read_inputs(&mut inputs, input_count);
     let mut text = [0u8; TEXT];
