@@ -412,7 +412,7 @@ fn is_short(code: &[u8], from: usize, to: usize) -> bool
     false
 }
 
-// Such an expression's worth. This calls nothing that calls it, and uses its slices as `&*code` and `&*values` alone: so they are passed in registers.
+// Such an expression's worth, with no loop and hardly a register saved.
 fn short<'a>(code: &'a [u8], values: &'a [u8], base: usize, from: usize, to: usize) -> i64
     requires { ⌜ Stores (now values) base × Stands (now code) from to × Shorts (now code) from to true ⌝ }
     ensures { λ r. ⌜ Evaluated (now (code .entry)) (now (values .entry)) base from to r ⌝ }
@@ -475,7 +475,7 @@ fn whole<'a>(code: &'a [u8], values: &'a [u8], base: usize, from: usize, to: usi
     acc
 }
 
-// What stands in a part of an expression.
+// What stands in an expression or in a part of it.
 fn part<'a>(code: &'a [u8], values: &'a [u8], base: usize, from: usize, to: usize) -> i64
     requires { ⌜ Stores (now values) base × Stands (now code) from to ⌝ }
     ensures { λ r. ⌜ Evaluated (now (code .entry)) (now (values .entry)) base from to r ⌝ }
@@ -486,13 +486,10 @@ fn part<'a>(code: &'a [u8], values: &'a [u8], base: usize, from: usize, to: usiz
     whole(&*code, &*values, base, from, to)
 }
 
-// What the expression is worth that stands in the words from `from` up to `to`. As `part`, but outside the cycle of calls, so that slices are passed to it in registers.
+// What the expression is worth that stands in the words from `from` up to `to`.
 pub fn evaluate<'a>(code: &'a [u8], values: &'a [u8], base: usize, from: usize, to: usize) -> i64
     requires { ⌜ Stores (now values) base × Stands (now code) from to ⌝ }
     ensures { λ r. ⌜ Evaluated (now (code .entry)) (now (values .entry)) base from to r ⌝ }
 {
-    if is_short(&*code, from, to) {
-        return short(&*code, &*values, base, from, to);
-    }
-    whole(&*code, &*values, base, from, to)
+    part(&*code, &*values, base, from, to)
 }
