@@ -238,13 +238,13 @@ module _ (text code values : List ℕ) (words : ℕ) (f : Formed text code value
       values-long = b;
     }
 
+    pub one-less : 1 ≤ words
+    one-less = omega (arith, f .laid .many, all-words)
+
     module _ (at count : ℕ) (e : d ≡ upto at count) where
       filled : ModuleFilled data-stand code₂ values₂ at count
       unfolding SaysModule
       filled = says _ e
-
-      pub one-less : 1 ≤ words
-      one-less = omega (arith, f .laid .many, all-words)
 
       last-word : words - 1 ≡ stands .form .end
       last-word = omega (arith, f .laid .many, all-words)

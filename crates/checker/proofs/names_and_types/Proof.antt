@@ -92,14 +92,14 @@ same-length-8 c = search needs
 
 returns-4 : tie.Need-returns-4
 returns-4 c =
-    let r = c .before .before .before .before .before .before .before in
+    let r = c .before .before .before .before .before .before .before .before in
     let d = r .before .before .before .before .before .before .before .before .before .before in
     let h = d .before .before .before .before .before .before .before in
-    main-some _ _ _ _ (h .before .before .before .before .before .before .pre) _ _ _ (h .read .ensures) _ _ _ (d .module-data .ensures) _ _ (r .before .before .before .before .d2 .given .1) (omega (arith, c .before .before .before .before .before .before .before .before .before .before .before .before .before .before .before .before .code2 .given))
+    main-some _ _ _ _ (h .before .before .before .before .before .before .pre) _ _ _ (h .read .ensures) _ _ _ (d .module-data .ensures) _ _ (r .before .before .before .before .d2 .given .1) (omega (arith, c .before .before .before .before .before .before .before .before .before .before .before .before .before .before .before .before .before .code2 .given))
     _ _ _ (r .all-routines .ensures)
-    (omega (arith, c .before .before .before .before .before .before .code3 .given, c .before .before .before .before .before .before .before .before .before .before .before .before .before .before .before .before .code2 .given, c .before .before .before .before .before .before .before .before .before .before .before .before .before .before .before .before .before .before .before .before .before .before .before .code .given))
-    (omega (arith, c .before .before .before .before .values3 .given, c .before .before .before .before .before .before .before .before .before .before .before .before .before .before .values2 .given, c .before .before .before .before .before .before .before .before .before .before .before .before .before .before .before .before .before .before .before .before .before .values .given))
-    _ (c .before .enum-told .given .1) (c .if1 .left)
+    (omega (arith, c .before .before .before .before .before .before .before .code3 .given, c .before .before .before .before .before .before .before .before .before .before .before .before .before .before .before .before .before .code2 .given, c .before .before .before .before .before .before .before .before .before .before .before .before .before .before .before .before .before .before .before .before .before .before .before .before .code .given))
+    (omega (arith, c .before .before .before .before .before .values3 .given, c .before .before .before .before .before .before .before .before .before .before .before .before .before .before .before .values2 .given, c .before .before .before .before .before .before .before .before .before .before .before .before .before .before .before .before .before .before .before .before .before .before .values .given))
+    _ (c .before .before .enum-told .given .1) (c .before .if1 .left)
 
 pub names-and-types-spec : {M : Type 1} → statement M
 names-and-types-spec =
