@@ -47,10 +47,11 @@ use Rattle.links.specs.Raw.{Ground}
 use Rattle.program.specs.Routines.{RawModule}
 use Rattle.heads.specs.Trees.{headsFor}
 use Rattle.heads.specs.Reads as heads
-use Rattle.declarations.specs.Sites.{theModule, filling, ownOf, owned, Placed, scopesOf, memoryOf, Filled}
-use Rattle.declarations.specs.declared.Walked as declarations
-use Rattle.declarations.specs.declared.Walked.the-variants as declared
-use Rattle.declarations.specs.Answers.{upto, DataStand, ModuleFilled, SaysModule, DeclaresModule}
+use Rattle.sites.specs.Sites.{theModule, filling, ownOf, owned, Placed, scopesOf, memoryOf, Filled}
+use Rattle.sites.specs.declared.Walked as declarations
+use Rattle.sites.specs.declared.Walked.the-variants as declared
+use Rattle.sites.specs.Walks.{upto}
+use Rattle.declarations.specs.Answers.{DataStand, ModuleFilled, SaysModule, DeclaresModule}
 use Rattle.simple.specs.Around.{Unread, offsetIn}
 use Rattle.routines.specs.declared.Walked.{Walked}
 use Rattle.routines.specs.declared.Walked.the-variants as routines

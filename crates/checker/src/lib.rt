@@ -1,8 +1,8 @@
 // The checker: from a text to a code store that is ready to run, or the first rule broken and its place.
-use declarations::Walked as Declared;
 use form::Verdict;
 use load::Loaded;
 use routines::Walked;
+use sites::Walked as Declared;
 ghost use Rattle.paper.specs.Answer.{verdict};
 ghost use Rattle.checker.specs.Checks.{Judges, Checks};
 ghost use Rattle.checker.specs.Walks.{Laid, Formed, RoutinesStand, RoutinesWalk, Walks};

@@ -1,11 +1,2 @@
-pub mod Words
-pub mod Taking
-pub mod Sitting
-pub mod Declaring
-pub mod Contents
-pub mod Scalars
 pub mod Walking
-pub mod Chaining
 pub mod Routing
-pub mod Passing
-pub mod Parting

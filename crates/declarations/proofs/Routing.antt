@@ -7,29 +7,31 @@ use native.Mathlib.Omega.{arith}
 use lib.ListN.{length, getD, replicate}
 use lib.IntN.{ℤ, pos, _-ℤ_}
 use Rattle.laws.proofs.Tests.{by-same}
-use Rattle.paper.specs.Words.{Word}
-use Rattle.paper.specs.Trees.{Declared, Module}
+use Rattle.paper.specs.Trees.{Declared}
 use Rattle.paper.specs.Expressions.{startsData}
 use Rattle.paper.specs.Names.{Text, textOf, sortIn, spelled, isAmong, typeOf}
-use Rattle.paper.specs.Declarations.{Data, routineFilling}
+use Rattle.paper.specs.Declarations.{Data}
 use Rattle.cells.specs.Words.{wordsOf}
 use Rattle.code.specs.Cells.{opIn, placeIn, opAt, valueAt, placeAt, linkAt}
 use Rattle.code.specs.Spans.{bias}
 use Rattle.code.specs.Steps.{constantAt}
 use Rattle.names.specs.declared.Scope.{Scope}
-use Rattle.declarations.specs.declared.Walked.{Walked}
-use Rattle.declarations.specs.declared.Walked.the-variants.{Upto, Faulty}
-use Rattle.declarations.specs.Sites.{aRoutine, filling, ownOf, Filled}
+use Rattle.sites.specs.declared.Walked.{Walked}
+use Rattle.sites.specs.declared.Walked.the-variants.{Upto, Faulty}
+use Rattle.sites.specs.Sites.{aRoutine, filling, Filled}
 use Rattle.store.specs.Chains.{Leads, lastOf, startsIn, Rise}
-use Rattle.declarations.specs.Answers.{upto, outerOf, KeepsName, KeepsAll, Begins, after, Goes, Declares, firstOf, nameOf, RoutineStands, RoutineFilled, SaysRoutine, DeclaresRoutine}
+use Rattle.sites.specs.Walks.{upto, outerOf, KeepsName, KeepsAll, nameOf}
+use Rattle.datum.specs.Answers.{Begins, after, Goes, Declares, Near}
+use Rattle.declarations.specs.Answers.{firstOf, RoutineStands, RoutineFilled, SaysRoutine, DeclaresRoutine}
 use Rattle.store.specs.Promises.{Relinked}
 use Rattle.store.proofs.Writing.{relinked-others}
-use Rattle.declarations.specs.Parts.{Near}
 use Rattle.expressions.proofs.Judging.{append-none}
-use Rattle.declarations.proofs.Declaring.{content-shape, keeps-same}
-use Rattle.declarations.proofs.Contents.{near, far}
+use Rattle.datum.proofs.Declaring.{content-shape}
+use Rattle.sites.proofs.Keeping.{keeps-same}
+use Rattle.datum.proofs.Contents.{near, far}
 use Rattle.declarations.proofs.Walking.{Walk, walk-room, walk-near, sort-here, next, next-on, next-grows, walk-begins, walk-found, walk-on, done-none, done-is, done-at, done-rest, says-goes, says-faulty}
-use Rattle.declarations.proofs.Chaining.{Agrees, agrees-changed, rise-more, last-is, leads-kept, leads-more, starts-kept, starts-append, Settled, Each, settled-more, keeps-kept, keeps-more, among-append, among-declared, map-append}
+use Rattle.sites.proofs.Chaining.{Agrees, agrees-changed, rise-more, last-is, leads-kept, leads-more, starts-kept, starts-append, Settled, Each, settled-more, keeps-kept, keeps-more, among-append, among-declared, map-append}
+use Rattle.sites.proofs.Sitting.{own-routine, limit-routine}
 
 -- ---- how far the chain has come
 pub record Chained {code₀ values₀ : List ℕ} {head used₀ at : ℕ} (b : RoutineStands code₀ values₀ head used₀ at) (code values : List ℕ) (i used last : ℕ) : Type 0 where
@@ -80,14 +82,6 @@ routine-begun code values head used at b₀ = record {
   last-new = λ d. absurd (d refl);
   last-before = b₀ .before;
 }
-
-pub own-routine : (m : Module) → 1 ≡ ownOf (aRoutine m)
-unfolding ownOf
-own-routine m = refl
-
-pub limit-routine : (W : List Word) (m : Module) → 64 ≡ filling W (aRoutine m) .limit
-unfolding filling routineFilling
-limit-routine W m = refl
 
 -- ---- one datum more, and its link
 module _ {code₀ values₀ : List ℕ} {head used₀ at : ℕ} (b : RoutineStands code₀ values₀ head used₀ at) {code values : List ℕ} {i used last : ℕ} (h : Chained b code values i used last)

@@ -1,18 +1,21 @@
 -- A walk over declarations: what is left of them.
 use mathlib.Core.Path.{_≡_, refl, sym, ap, subst, _∙_}
-use mathlib.Core.Bool.{Bool, true, false}
+use mathlib.Core.Bool.{true, Bool, false}
 use mathlib.Core.List.{List, []}
-use Prim.Native.Nat.{ℕ, _+_, _-_, _*_, _%_, _<_, _≤_}
+use Prim.Native.Nat.{ℕ, _+_, _-_, _*_, _<_, _≤_}
 use native.Mathlib.Omega.{arith}
+use lib.Dec.{eqb}
 use lib.ListN.{length, getD}
+use borrow.Author.Tests.{ne-eqb}
+use Rattle.paper.specs.Expressions.{startsData}
+use Rattle.cells.specs.Words.{wordsOf}
+use Rattle.code.specs.Cells.{opAt}
+use Rattle.names.specs.declared.Scope.{Scope}
 use Rattle.paper.specs.Words.{Word}
 use Rattle.paper.specs.Trees.{Declared}
-use Rattle.paper.specs.Expressions.{startsData}
 use Rattle.paper.specs.Names.{sortIn}
 use Rattle.paper.specs.Types.{Fault}
 use Rattle.paper.specs.Declarations.{Data, noData, declareData, moduleFilling}
-use Rattle.cells.specs.Words.{wordsOf}
-use Rattle.code.specs.Cells.{opIn, valueIn, opAt}
 use Rattle.grammar.specs.Form.{Parses, DeclaredAt, DeclarationsAt}
 use Rattle.grammar.proofs.Inversions.{NextOf, repeated-next, repeated-none}
 use Rattle.grammar.proofs.Places.{declared-grows, declarations-grow}
@@ -22,26 +25,23 @@ use Rattle.faults.proofs.Expressions.{grows}
 use Rattle.faults.proofs.Declarations.{data-on, data-found}
 use Rattle.expressions.specs.Known.{Loaded}
 use Rattle.expressions.proofs.Starts.{loaded-part}
-use Rattle.names.specs.declared.Scope.{Scope}
-use Rattle.declarations.specs.declared.Walked.{Walked}
-use Rattle.declarations.specs.declared.Walked.the-variants.{Upto, Faulty}
-use Rattle.declarations.specs.Sites.{Site, theModule, filling, ownOf, Filled}
-use Rattle.declarations.specs.Answers.{upto, Begins, after, faultsOf, Goes, Says, Declares, DataStand, SaysModule, DeclaresModule}
-use Rattle.declarations.specs.Parts.{Near}
-use Rattle.declarations.proofs.Contents.{near}
+use Rattle.sites.specs.declared.Walked.{Walked}
+use Rattle.sites.specs.declared.Walked.the-variants.{Upto, Faulty}
+use Rattle.sites.specs.Sites.{Site, theModule, filling, ownOf, Filled}
+use Rattle.sites.specs.Walks.{upto}
+use Rattle.datum.specs.Answers.{Begins, after, faultsOf, Goes, Says, Declares, Near}
+use Rattle.declarations.specs.Answers.{DataStand, SaysModule, DeclaresModule}
+use Rattle.datum.proofs.Contents.{near}
+use Rattle.sites.proofs.Keeping.{loaded-changed}
 
--- ---- words that are still as they were loaded
-pub loaded-changed : (W : List Word) (code code′ : List ℕ) (from i to : ℕ) → length code′ ≡ length code → ((k : ℕ) → from * 2 ≤ k → getD (wordsOf code′) k 0 ≡ getD (wordsOf code) k 0) → from ≤ i → Loaded W code i to
-    → Loaded W code′ i to
-loaded-changed W code code′ from i to long same h l = record {
-  words = λ j lo hi.
-      let f = l .words j lo hi in
-      let e = same (j * 2) (omega arith) in
-      record { sort = ap opIn e ∙ f .sort; value = λ n. ap valueIn e ∙ f .value n; number = λ n. ap (λ (w : ℕ). valueIn w % 8192) e ∙ f .number n };
-  last = l .last;
-  room = omega (arith, l .room, long);
-  whole = ap (λ (x : ℕ). x % 8) long ∙ l .whole;
-}
+-- ---- words that data begin with
+pub starts-var : (s : ℕ) → s ≡ 84 → true ≡ startsData s
+unfolding startsData
+starts-var s h = rw h refl
+
+pub starts-const : (s : ℕ) → (s ≡ 84 → ⊥) → eqb s 37 ≡ startsData s
+unfolding startsData
+starts-const s h = rw (ne-eqb s 84 h) refl
 
 -- ---- what is left of declarations `ds` up to word `to`, of which D₀ is declared before them
 pub record Walk (W : List Word) (routine : ℕ → ℕ) (s : Site) (D₀ : Data) (ds : List Declared) (to : ℕ) (code values : List ℕ) (i used : ℕ) : Type 0 where

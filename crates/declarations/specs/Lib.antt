@@ -1,3 +1,1 @@
-pub mod Sites
 pub mod Answers
-pub mod Parts

@@ -28,11 +28,12 @@ use Rattle.links.proofs.Ops.{low-still}
 use Rattle.heads.specs.Trees.{wordOf, headFor, headsFor}
 use Rattle.heads.proofs.Announcing.{not-found}
 use Rattle.heads.proofs.Numbering.{word-at}
-use Rattle.declarations.specs.declared.Walked as declared-walked
-use Rattle.declarations.specs.declared.Walked.the-variants as data-walked
-use Rattle.declarations.specs.Sites.{aRoutine, filling, scopesOf, Filled}
-use Rattle.declarations.proofs.Chaining.{rise-wider}
-use Rattle.declarations.specs.Answers.{outerOf, firstOf, nameOf, nameWords, KeepsAll, MeansBut, DeclaresParameters, DeclaresRoutine, Leaving, Leaves}
+use Rattle.sites.specs.Sites.{aRoutine, filling, Filled}
+use Rattle.sites.proofs.Chaining.{rise-wider}
+use Rattle.sites.specs.Walks.{outerOf, nameOf, nameWords}
+use Rattle.declarations.specs.Answers.{firstOf, DeclaresRoutine}
+use Rattle.leaving.specs.Answers.{MeansBut, Leaving, Leaves}
+use Rattle.parameters.specs.Answers.{DeclaresParameters}
 use Rattle.statements.specs.declared.Walked as statements
 use Rattle.statements.specs.Answers.{SameValues}
 use Rattle.statements.specs.declared.Walked.the-variants as walked
@@ -40,7 +41,7 @@ use Rattle.store.specs.Chains.{Chain, Rise, startsIn}
 use Rattle.program.specs.Routines.{wordsInAll, RawLines, RawHandler, RawRoutine}
 use Rattle.program.proofs.Framing.{lines-frame}
 use Rattle.program.proofs.Chaining.{DataStay, chain-kept, starts-kept}
-use Rattle.declarations.specs.Answers as data-answers
+use Rattle.sites.specs.Walks as data-walks
 use Rattle.statements.specs.Answers as answers
 use Rattle.names.specs.declared.Scope.{Scope}
 use Rattle.routines.specs.declared.Walked.{Walked}
@@ -58,8 +59,8 @@ outer-meaning W m N u h =
     ap (lookIn protected u) (not-found N u (lookIn (moduleScopes W m .globals) u (lookIn (moduleScopes W m .routines) u unknown)) h)
 
 module _ (text code values : List ℕ) (result h name : ℕ) (g : ScopeStands text code values result h name)
-    (code₁ values₁ : List ℕ) (close count : ℕ) (x₁ : DeclaresParameters code values code₁ values₁ (name + 2) (data-answers.upto close count)) (long₁ : length code₁ ≡ length code)
-    (code₂ values₂ : List ℕ) (at taken : ℕ) (x₂ : DeclaresRoutine code₁ values₁ code₂ values₂ (name + 1) h count (close + 1) (data-answers.upto at taken)) (long₂ : length code₂ ≡ length code) where
+    (code₁ values₁ : List ℕ) (close count : ℕ) (x₁ : DeclaresParameters code values code₁ values₁ (name + 2) (data-walks.upto close count)) (long₁ : length code₁ ≡ length code)
+    (code₂ values₂ : List ℕ) (at taken : ℕ) (x₂ : DeclaresRoutine code₁ values₁ code₂ values₂ (name + 1) h count (close + 1) (data-walks.upto at taken)) (long₂ : length code₂ ≡ length code) where
   abbrev W : List Word
   W = g .begins .stands .W
 

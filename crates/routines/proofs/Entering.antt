@@ -25,11 +25,12 @@ use Rattle.faults.proofs.Expressions.{grows}
 use Rattle.faults.proofs.Routines.{found-in-parameters, found-in-data, nothing-in-data}
 use Rattle.expressions.specs.Known.{Fresh, Loaded}
 use Rattle.heads.specs.Trees.{headsFor}
-use Rattle.declarations.specs.declared.Walked.{Walked}
-use Rattle.declarations.specs.declared.Walked.the-variants.{Faulty}
-use Rattle.declarations.specs.Sites.{aRoutine, filling, Filled}
+use Rattle.sites.specs.declared.Walked.the-variants.{Faulty}
+use Rattle.sites.specs.Sites.{aRoutine, filling, Filled}
 use Rattle.store.specs.Chains.{Chain, startsIn, Rise}
-use Rattle.declarations.specs.Answers.{upto, firstOf, nameOf, nameWords, KeepsAll, OtherWords, CoversData, ParametersStand, ParametersFilled, SaysParameters, DeclaresParameters, RoutineStands, RoutineFilled, SaysRoutine, DeclaresRoutine}
+use Rattle.sites.specs.Walks.{upto, nameOf, nameWords, KeepsAll}
+use Rattle.declarations.specs.Answers.{firstOf, CoversData, RoutineStands, SaysRoutine, DeclaresRoutine}
+use Rattle.parameters.specs.Answers.{OtherWords, ParametersStand, SaysParameters, DeclaresParameters}
 use Rattle.simple.specs.Around.{Unread, Apart}
 use Rattle.program.proofs.Orders.{lies}
 use Rattle.routines.specs.declared.Walked as mine

@@ -22,8 +22,8 @@ use Rattle.expressions.specs.Known.{largest, InRoom, Within}
 use Rattle.constants.specs.Answers.{cellOf, Worth, Fine}
 use Rattle.heads.specs.Trees.{headsFor}
 use Rattle.statements.specs.Answers.{SameValues}
-use Rattle.declarations.specs.Sites.{Site, theModule, aRoutine, filling, ownOf, scopesOf, memoryOf, Among, Elements, Steady, Placed, isOwn, owned, Owns, Filled}
-use Rattle.declarations.specs.Answers.{SameWords}
+use Rattle.sites.specs.Sites.{Site, theModule, aRoutine, filling, ownOf, scopesOf, memoryOf, Among, Placed, isOwn, owned, Filled}
+use Rattle.leaving.specs.Answers.{SameWords}
 use Rattle.routines.specs.Answers.{ModuleFilled}
 
 -- ---- meanings by their words

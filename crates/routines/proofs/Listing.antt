@@ -31,7 +31,7 @@ use Rattle.store.proofs.Keeping.{cell-below, cell-above}
 use Rattle.links.specs.Raw.{Ground, SameWords, RawList, endOf}
 use Rattle.links.proofs.Framing.{same-cells, list-frame}
 use Rattle.heads.specs.Trees.{headsFor}
-use Rattle.declarations.specs.Sites.{aRoutine, filling, Filled}
+use Rattle.sites.specs.Sites.{aRoutine, filling}
 use Rattle.simple.specs.Around.{offsetIn, resultIf, Tells}
 use Rattle.statements.specs.declared.Walked.{Walked}
 use Rattle.statements.specs.declared.Walked.the-variants.{Faulty}

@@ -22,8 +22,9 @@ use Rattle.grammar.specs.Form.{ParameterAt, ParametersAt, DeclaredAt, Declarati
 use Rattle.grammar.proofs.Places.{content-grows, declarations-grow}
 use Rattle.faults.proofs.Expressions.{grows}
 use Rattle.links.specs.Raw.{Ground, SameWords}
-use Rattle.declarations.specs.Sites.{Site}
-use Rattle.declarations.specs.Answers.{firstOf, nameOf, nameWords, KeepsName, KeepsAll}
+use Rattle.sites.specs.Sites.{Site}
+use Rattle.declarations.specs.Answers.{firstOf}
+use Rattle.sites.specs.Walks.{nameOf, nameWords, KeepsName, KeepsAll}
 use Rattle.program.specs.Routines.{RawHandler}
 use Rattle.program.proofs.Framing.{lines-frame}
 

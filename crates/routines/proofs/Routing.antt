@@ -28,7 +28,7 @@ use Rattle.faults.proofs.Routines.{head-taken, head-crosses, head-fits, found-i
 use Rattle.expressions.specs.Answers.{typeIf}
 use Rattle.heads.specs.Trees.{wordOf, headFor, headsFor, earlierOf}
 use Rattle.heads.proofs.Numbering.{drop-less, heads-length, head-at, word-at, numbered-back}
-use Rattle.declarations.specs.Sites.{filling}
+use Rattle.sites.specs.Sites.{filling}
 use Rattle.simple.specs.Around.{resultIf}
 use Rattle.program.proofs.Orders.{lies}
 use Rattle.routines.specs.declared.Walked.{Walked}

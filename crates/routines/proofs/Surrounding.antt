@@ -24,7 +24,7 @@ use Rattle.expressions.specs.Known.{Loaded, Known}
 use Rattle.heads.specs.Trees.{headsFor}
 use Rattle.heads.proofs.Announcing.{not-found}
 use Rattle.heads.proofs.Scoping.{look-found}
-use Rattle.declarations.specs.Sites.{aRoutine, filling, ownOf, owned, Filled}
+use Rattle.sites.specs.Sites.{filling, ownOf, owned}
 use Rattle.simple.specs.declared.Setting.{Setting}
 use Rattle.simple.specs.Around.{Around, Unread, Apart, Calls, resultIf, Tells}
 use Rattle.simple.specs.Around as simple

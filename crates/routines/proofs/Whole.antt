@@ -7,12 +7,14 @@ use lib.ListN.{length}
 use Rattle.paper.specs.Checks.{routineFaults}
 use Rattle.names.specs.Promises.{storeBytes}
 use Rattle.faults.specs.First.{First}
-use Rattle.declarations.specs.declared.Walked as declared-walked
-use Rattle.declarations.specs.declared.Walked.the-variants as data-walked
-use Rattle.declarations.specs.Answers.{ParametersStand, DeclaresParameters, RoutineStands, DeclaresRoutine, Leaving, Leaves}
+use Rattle.sites.specs.declared.Walked as declared-walked
+use Rattle.sites.specs.declared.Walked.the-variants as data-walked
+use Rattle.parameters.specs.Answers.{ParametersStand, DeclaresParameters}
+use Rattle.declarations.specs.Answers.{RoutineStands, DeclaresRoutine}
+use Rattle.leaving.specs.Answers.{Leaving, Leaves}
 use Rattle.statements.specs.declared.Walked as statements
 use Rattle.statements.specs.declared.Walked.the-variants as walked
-use Rattle.declarations.specs.Answers as data-answers
+use Rattle.sites.specs.Walks as data-walks
 use Rattle.statements.specs.Answers as answers
 use Rattle.names.specs.declared.Scope.{Scope}
 use Rattle.routines.specs.declared.Walked.the-variants.{Upto, Faulty}
@@ -44,7 +46,7 @@ module _ (text code values : List ℕ) (result h name : ℕ) where
     unfolding SaysScope
     parameters-so number word q = record { is = λ g. parameters-faulty text code values result h name g code₁ values₁ number word (subst P q y₁) }
 
-    module _ (close count : ℕ) (q₁ : p ≡ data-answers.upto close count) (long₁ : length code₁ ≡ length code) where
+    module _ (close count : ℕ) (q₁ : p ≡ data-walks.upto close count) (long₁ : length code₁ ≡ length code) where
       pub scope-data : G → RoutineStands code₁ values₁ h count (close + 1)
       scope-data g = data-stand text code values result h name g code₁ values₁ close count (subst P q₁ y₁) long₁
 
@@ -61,7 +63,7 @@ module _ (text code values : List ℕ) (result h name : ℕ) where
         unfolding SaysScope
         data-so number word q = record { is = λ g. data-faulty text code values result h name g code₁ values₁ close count (subst P q₁ y₁) long₁ code₂ values₂ number word (subst Q q y₂) }
 
-        module _ (at taken : ℕ) (q₂ : w ≡ data-answers.upto at taken) (long₂ : length code₂ ≡ length code) where
+        module _ (at taken : ℕ) (q₂ : w ≡ data-walks.upto at taken) (long₂ : length code₂ ≡ length code) where
           pub lists-here : G → ListsStand text code₂ values₂ result taken h at
           lists-here g = scope-lists text code values result h name g code₁ values₁ close count (subst P q₁ y₁) long₁ code₂ values₂ at taken (subst Q q₂ y₂) long₂
 

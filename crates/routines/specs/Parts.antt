@@ -25,7 +25,7 @@ use Rattle.faults.specs.First.{First}
 use Rattle.faults.specs.Parts.{inHandler}
 use Rattle.links.specs.Raw.{Ground, endOf}
 use Rattle.heads.specs.Trees.{headsFor}
-use Rattle.declarations.specs.Sites.{aRoutine, Filled}
+use Rattle.sites.specs.Sites.{aRoutine, Filled}
 use Rattle.simple.specs.Around.{Unread, Apart, resultIf}
 use Rattle.statements.specs.declared.Walked as statements
 use Rattle.statements.specs.declared.Walked.the-variants as walked

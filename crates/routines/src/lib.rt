@@ -185,20 +185,20 @@ fn scope(
     requires { ⌜ ScopeStands (now text) (now code) (now values) result h name ⌝ }
     ensures { λ r. ⌜ Scoped (now (text .entry)) (now (code .entry)) (now (values .entry)) (now (code .exit)) (now (values .exit)) result h name r ⌝ }
 {
-    let p = declarations::parameters(code, values, name + 2);
+    let p = parameters::parameters(code, values, name + 2);
     match p {
-        declarations::Walked::Faulty(number, word) => Walked::Faulty(number, word),
-        declarations::Walked::Upto(close, own) => {
+        sites::Walked::Faulty(number, word) => Walked::Faulty(number, word),
+        sites::Walked::Upto(close, own) => {
             let d = declarations::routine_data(own, code, values, name + 1, h, close + 1);
             match d {
-                declarations::Walked::Faulty(number, word) => Walked::Faulty(number, word),
-                declarations::Walked::Upto(at, data) => {
+                sites::Walked::Faulty(number, word) => Walked::Faulty(number, word),
+                sites::Walked::Upto(at, data) => {
                     let l = lists(text, code, values, result, data, h, at);
                     match l {
                         statements::Walked::Faulty(number, word) => Walked::Faulty(number, word),
                         statements::Walked::Upto(next, all) => {
                             finish(code, h, name + 1, at, all.used - data.used);
-                            declarations::leave_routine(all, code, values, name + 2, own.used, h);
+                            leaving::leave_routine(all, code, values, name + 2, own.used, h);
                             Walked::Upto(next)
                         }
                     }

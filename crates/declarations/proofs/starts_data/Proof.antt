@@ -1,5 +1,5 @@
 use borrow.Author.Needs.{needs}
-use Rattle.declarations.proofs.Words.{starts-var, starts-const}
+use Rattle.declarations.proofs.Walking.{starts-var, starts-const}
 use Rattle.declarations.proofs.starts_data.Statement.{statement}
 use Rattle.declarations.proofs.starts_data.Tie as tie
 

@@ -5,9 +5,6 @@ use Rattle.routines.proofs.scope.Statement.{statement}
 use Rattle.routines.proofs.scope.Tie as tie
 use Rattle.routines.proofs.scope.Reads as reads
 use Rattle.routines.proofs.scope.Lts as lts
-use Rattle.declarations.proofs.leave_routine.Reads as leave-routine-reads
-use Rattle.declarations.proofs.parameters.Reads as parameters-reads
-use Rattle.declarations.proofs.routine_data.Reads as routine-data-reads
 use Rattle.routines.proofs.finish.Reads as finish-reads
 use Rattle.routines.proofs.lists.Reads as lists-reads
 

@@ -1,0 +1,4 @@
+pub mod Words
+pub mod Declaring
+pub mod Contents
+pub mod Scalars

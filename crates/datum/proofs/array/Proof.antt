@@ -1,0 +1,96 @@
+use borrow.Author.Needs.{needs}
+use native.Mathlib.Omega.{arith}
+use Prim.Native.Nat.{_<_, _≤_}
+use Rattle.datum.proofs.Contents.{array-asks, count-most, count-next, array-faulty, array-crosses, array-goes}
+use Rattle.datum.proofs.array.Statement.{statement}
+use Rattle.datum.proofs.array.Tie as tie
+
+add-size : tie.Need-add-size
+add-size c = search needs
+
+size-requires : tie.Need-size-requires
+size-requires c κs = search (needs, array-asks)
+
+enum-known-c : tie.Need-enum-known-c
+enum-known-c c = search needs
+
+enum-known-c-2 : tie.Need-enum-known-c-2
+enum-known-c-2 c = search needs
+
+add-if1 : tie.Need-add-if1
+add-if1 c = let h : c .before .c2 .given .0 .0 ≤ 512 = search (needs, count-most, array-asks) in omega (arith, h)
+
+add-t22 : tie.Need-add-t22
+add-t22 c = search needs
+
+same-length : tie.Need-same-length
+same-length c = search needs
+
+same-length-2 : tie.Need-same-length-2
+same-length-2 c = search needs
+
+returns : tie.Need-returns
+returns c = search (needs, array-crosses)
+
+add-known : tie.Need-add-known
+add-known c = search needs
+
+mul-known : tie.Need-mul-known
+mul-known c = let h : c .before .before .before .before .c2 .given .0 .0 ≤ 512 = search (needs, count-most, array-asks) in omega (arith, h)
+
+add-known-2 : tie.Need-add-known-2
+add-known-2 c = let h : c .before .before .before .before .c2 .given .0 .0 ≤ 512 = search (needs, count-most, array-asks) in omega (arith, h)
+
+known-requires : tie.Need-known-requires
+known-requires c κs = let h : c .before .before .before .before .c2 .given .0 .0 ≤ 512 = search (needs, count-most, array-asks) in (search needs, search needs, search needs, search needs, search needs, omega (arith, h), omega (arith, h))
+
+start-requires : tie.Need-start-requires
+start-requires c κs = (search needs, search needs, search needs, search needs)
+
+add-t27 : tie.Need-add-t27
+add-t27 c = let h : c .before .before .before .before .before .before .before .before .before .before .before .before .before .before .before .before .c2 .given .0 .1 .0 < 8192 = search (needs, count-next, array-asks) in omega (arith, h)
+
+same-length-3 : tie.Need-same-length-3
+same-length-3 c = search needs
+
+same-length-4 : tie.Need-same-length-4
+same-length-4 c = search needs
+
+returns-2 : tie.Need-returns-2
+returns-2 c = search (needs, array-faulty)
+
+same-length-5 : tie.Need-same-length-5
+same-length-5 c = search needs
+
+same-length-6 : tie.Need-same-length-6
+same-length-6 c = search needs
+
+returns-3 : tie.Need-returns-3
+returns-3 c =
+    array-goes (c .before .before .before .before .before .before .before .before .before .before .before .before .before .before .before .before .before .before .before .before .before .before .before .before .before .pre .2) _ _ (c .before .before .before .before .before .before .before .before .before .before .before .before .before .before .before .before .before .before .before .before .size .ensures) _ _ (c .before .before .before .before .before .before .before .before .before .before .before .before .before .before .before .before .c2 .given .1) (c .before .before .before .before .before .before .before .before .before .before .before .before .before .before .if1 .left) _ _ _ _ (c .before .before .before .before .before .before .before .before .before .before .before .known .ensures .makes) (c .before .before .before .before .start .ensures) _ (c .before .before .before .before .before .before .before .before .before .before .before .known .ensures .scope-is)
+
+pub array-spec : {M : Type 1} → statement M
+array-spec =
+    tie.close
+    (tie.spec
+    add-size
+    size-requires
+    enum-known-c
+    enum-known-c-2
+    add-if1
+    add-t22
+    same-length
+    same-length-2
+    returns
+    add-known
+    mul-known
+    add-known-2
+    known-requires
+    start-requires
+    add-t27
+    same-length-3
+    same-length-4
+    returns-2
+    same-length-5
+    same-length-6
+    returns-3)

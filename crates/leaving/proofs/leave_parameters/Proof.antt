@@ -1,0 +1,55 @@
+use borrow.Author.Needs.{needs}
+use Prim.Native.Nat.{_-_, _<_, _≤_}
+use native.Mathlib.Omega.{arith}
+use Rattle.leaving.proofs.Parting.{ParametersLeft, parameters-kept, leave-room, leave-table, leave-links, leave-near, parameters-leave, left-values, parameters-left}
+use Rattle.leaving.proofs.leave_parameters.Statement.{statement}
+use Rattle.leaving.proofs.leave_parameters.Tie as tie
+
+abbrev Inv-loop : tie.InvT-loop
+Inv-loop code values₀ first count own₀ at₀ left₀ values own at left = ParametersLeft own₀ own code values₀ first count values at left
+
+abbrev μ-loop : tie.MeasureT-loop
+μ-loop code values₀ first count own₀ at₀ left₀ values own at left = left
+
+loop-holds : tie.Need-loop-holds Inv-loop μ-loop
+loop-holds c = search (needs, parameters-kept)
+
+add-leave : tie.Need-add-leave Inv-loop μ-loop
+add-leave c = let h = leave-near _ _ _ _ _ _ _ _ _ (c .before .before .loop .inv) (c .before .before .before .before .before .pre) (c .before .loop-test .taken) in omega (arith, h)
+
+leave-requires : tie.Need-leave-requires Inv-loop μ-loop
+leave-requires c κs = (search (needs, leave-room), search (needs, leave-table), search (needs, leave-links))
+
+add-at : tie.Need-add-at Inv-loop μ-loop
+add-at c = let h = leave-near _ _ _ _ _ _ _ _ _ (c .before .before .before .before .before .loop .inv) (c .before .before .before .before .before .before .before .before .pre) (c .before .before .before .before .loop-test .taken) in omega (arith, h)
+
+sub-left : tie.Need-sub-left Inv-loop μ-loop
+sub-left c = search needs
+
+loop-less : tie.Need-loop-less Inv-loop μ-loop
+loop-less c = search needs
+
+loop-again : tie.Need-loop-again Inv-loop μ-loop
+loop-again c = search (needs, parameters-leave)
+
+same-length : tie.Need-same-length Inv-loop μ-loop
+same-length c = search (needs, left-values)
+
+returns : tie.Need-returns Inv-loop μ-loop
+returns c = search (needs, parameters-left)
+
+pub leave-parameters-spec : {M : Type 1} → statement M
+leave-parameters-spec =
+    tie.close
+    (tie.spec
+    Inv-loop
+    μ-loop
+    loop-holds
+    add-leave
+    leave-requires
+    add-at
+    sub-left
+    loop-less
+    loop-again
+    same-length
+    returns)

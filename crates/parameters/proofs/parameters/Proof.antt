@@ -1,0 +1,87 @@
+use borrow.Author.Needs.{needs}
+use Prim.Native.Nat.{_-_, _<_, _≤_}
+use native.Mathlib.Omega.{arith}
+use Rattle.parameters.proofs.Passing.{ParametersWalk, parameters-room, parameters-none, parameters-begun, parameters-next, parameters-long, parameters-long-values, parameters-faulty, end-room, end-near, parameters-fall, parameters-done, parameters-go}
+use Rattle.parameters.proofs.parameters.Statement.{statement}
+use Rattle.parameters.proofs.parameters.Tie as tie
+
+abbrev Inv-loop : tie.InvT-loop
+Inv-loop code₀ values₀ at i₀ scope₀ code values i scope = ParametersWalk code₀ values₀ at code values i (scope .used)
+
+abbrev μ-loop : tie.MeasureT-loop
+μ-loop code₀ values₀ at i₀ scope₀ code values i scope = 8192 - i
+
+sort-requires : tie.Need-sort-requires Inv-loop μ-loop
+sort-requires c κs = search (needs, parameters-room)
+
+same-length : tie.Need-same-length Inv-loop μ-loop
+same-length c = search needs
+
+returns : tie.Need-returns Inv-loop μ-loop
+returns c = search (needs, parameters-none)
+
+loop-holds : tie.Need-loop-holds Inv-loop μ-loop
+loop-holds c = search (needs, parameters-begun)
+
+parameter-requires : tie.Need-parameter-requires Inv-loop μ-loop
+parameter-requires c κs = search (needs, parameters-next)
+
+enum-known-d : tie.Need-enum-known-d Inv-loop μ-loop
+enum-known-d c = search needs
+
+same-length-2 : tie.Need-same-length-2 Inv-loop μ-loop
+same-length-2 c = search (needs, parameters-long, parameters-long-values)
+
+same-length-3 : tie.Need-same-length-3 Inv-loop μ-loop
+same-length-3 c = search (needs, parameters-long, parameters-long-values)
+
+returns-2 : tie.Need-returns-2 Inv-loop μ-loop
+returns-2 c = search (needs, parameters-faulty)
+
+enum-known-d-2 : tie.Need-enum-known-d-2 Inv-loop μ-loop
+enum-known-d-2 c = search needs
+
+sort-requires-2 : tie.Need-sort-requires-2 Inv-loop μ-loop
+sort-requires-2 c κs = let h = end-room _ _ _ _ _ _ _ (c .before .before .before .before .before .before .before .before .before .before .before .loop .inv) _ _ _ (c .before .before .before .before .before .before .before .before .parameter .ensures) _ _ (c .before .before .d2 .given .1) (c .before .before .before .before .before .before .before .before .before .before .before .before .before .before .before .before .before .pre) in omega (arith, h)
+
+same-length-4 : tie.Need-same-length-4 Inv-loop μ-loop
+same-length-4 c = search (needs, parameters-long, parameters-long-values)
+
+same-length-5 : tie.Need-same-length-5 Inv-loop μ-loop
+same-length-5 c = search (needs, parameters-long, parameters-long-values)
+
+returns-3 : tie.Need-returns-3 Inv-loop μ-loop
+returns-3 c = parameters-done _ _ _ _ _ _ _ (c .before .before .before .before .before .before .before .before .before .before .before .before .before .loop .inv) _ _ _ (c .before .before .before .before .before .before .before .before .before .before .parameter .ensures) _ _ (c .before .before .before .before .d2 .given .1) _ (c .before .sort2 .ensures) (search needs) (c .if2 .taken)
+
+add-i : tie.Need-add-i Inv-loop μ-loop
+add-i c = let h = end-near _ _ _ _ _ _ _ (c .before .before .before .before .before .before .before .before .before .before .before .before .before .loop .inv) _ _ _ (c .before .before .before .before .before .before .before .before .before .before .parameter .ensures) _ _ (c .before .before .before .before .d2 .given .1) (c .before .before .before .before .before .before .before .before .before .before .before .before .before .before .before .before .before .before .before .pre) in omega (arith, h)
+
+loop-less : tie.Need-loop-less Inv-loop μ-loop
+loop-less c = search (needs, parameters-fall)
+
+loop-again : tie.Need-loop-again Inv-loop μ-loop
+loop-again c = parameters-go _ _ _ _ _ _ _ (c .before .before .before .before .before .before .before .before .before .before .before .before .before .loop .inv) _ _ _ (c .before .before .before .before .before .before .before .before .before .before .parameter .ensures) _ _ (c .before .before .before .before .d2 .given .1) _ (c .before .sort2 .ensures) (search needs) (c .if2 .left) (c .before .before .before .before .before .before .before .before .before .before .before .before .before .before .before .before .before .before .before .pre) (search needs)
+
+pub parameters-spec : {M : Type 1} → statement M
+parameters-spec =
+    tie.close
+    (tie.spec
+    Inv-loop
+    μ-loop
+    sort-requires
+    same-length
+    returns
+    loop-holds
+    parameter-requires
+    enum-known-d
+    same-length-2
+    same-length-3
+    returns-2
+    enum-known-d-2
+    sort-requires-2
+    same-length-4
+    same-length-5
+    returns-3
+    add-i
+    loop-less
+    loop-again)

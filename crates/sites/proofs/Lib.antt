@@ -1,0 +1,5 @@
+pub mod Words
+pub mod Taking
+pub mod Sitting
+pub mod Keeping
+pub mod Chaining
