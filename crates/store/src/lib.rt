@@ -32,8 +32,8 @@ pub fn set_value(code: &mut [u8], i: usize, value: u32)
     requires { ⌜ (i * 8 + 8 ≤ length (now code)) × (value < 16777216) ⌝ }
     ensures { λ _. ⌜ Put (now (code .entry)) (now (code .exit)) (i * 2) (headWith (opAt (wordsOf (now (code .entry))) i) value) ⌝ }
 {
-    let op = sort(code, i);
-    cells::put(code, i * 2, op + VALUE * value);
+    let old = sort(code, i);
+    cells::put(code, i * 2, old + VALUE * value);
 }
 
 pub fn set_place(code: &mut [u8], i: usize, place: usize)
