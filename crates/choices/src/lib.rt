@@ -1,5 +1,5 @@
 // Choices and loops: what decides where a run goes on, and RAISE.
-use machine::worth;
+use evaluation::worth;
 use reading::head;
 use reading::link;
 use reading::load;

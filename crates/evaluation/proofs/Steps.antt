@@ -229,6 +229,20 @@ module _ (code values : List ℕ) (base : ℕ) where
           pub start-fails : ltZ z (pos firstError) ≡ false → Evaluated code values base from to z
           start-fails h = fails z (endsAt (w % 256) l) entered-as (d .small) h
 
+  -- ---- a word alone
+  module _ (from to : ℕ) (sd : Stands code from to) (k : to ≡ from + 1) (v : ℕ) (ev : v ≡ headAt (wordsOf code) from) where
+    alone-is : (c : Counts) (t : Term) → termOf c code from to ≡ some t → leafTerm (c .m) (c .n) (v % 256) (v / 256) ≡ some t
+    alone-is c t e = ap (λ (j : ℕ). leafTerm (c .m) (c .n) (j % 256) (j / 256)) ev ∙ single (c .m) (c .n) (wordsOf code) from to t k e
+
+    pub alone-leaf : v < cellValues → Leaf (v % 256) (v / 256)
+    alone-leaf b = record { c = sd .c; t = sd .t; is = alone-is (sd .c) (sd .t) (sd .is); bits = omega arith }
+
+    pub alone-evaluated : (x : ℤ) → Read values base (v % 256) (v / 256) x → Evaluated code values base from to x
+    alone-evaluated x r = record { is = λ c t e. is-value x (small-value x (r .small)) ∙ sym (r .is c t (alone-is c t e)); small = λ q. r .small }
+
+    pub alone-read : (x : ℤ) → SFits w64 x → Read values base (v % 256) (v / 256) x → Evaluated code values base from to (read x)
+    alone-read x s r = evaluated-read code values base from to x s (alone-evaluated x r)
+
   -- ---- inside an operand
   module _ (at w l : ℕ) (en : Encloses code at w l) where
     opens-low : (s : ℕ) → s ≡ opensAt (w % 256) at → at < s
@@ -256,16 +270,8 @@ module _ (code values : List ℕ) (base : ℕ) where
       pub inside-less : (l - s) * 3 + 1 < (l - at) * 3
       inside-less = omega (arith, opens-low s es, stands-less s l inside-stands)
 
-      module _ (k : l ≡ s + 1) (v : ℕ) (ev : v ≡ headAt (wordsOf code) s) where
-        short-is : (c : Counts) (t : Term) → termOf c code s l ≡ some t → leafTerm (c .m) (c .n) (v % 256) (v / 256) ≡ some t
-        short-is c t e = ap (λ (j : ℕ). leafTerm (c .m) (c .n) (j % 256) (j / 256)) ev ∙ single (c .m) (c .n) (wordsOf code) s l t k e
-
-        pub short-leaf : v < cellValues → Leaf (v % 256) (v / 256)
-        unfolding inside-stands
-        short-leaf b = record { c = en .c; t = en .t; is = short-is (en .c) (en .t) (inside-stands .is); bits = omega arith }
-
-        pub short-evaluated : (x : ℤ) → Read values base (v % 256) (v / 256) x → Evaluated code values base s l x
-        short-evaluated x r = record { is = λ c t e. is-value x (small-value x (r .small)) ∙ sym (r .is c t (short-is c t e)); small = λ q. r .small }
+      pub short-leaf : l ≡ s + 1 → (v : ℕ) → v ≡ headAt (wordsOf code) s → v < cellValues → Leaf (v % 256) (v / 256)
+      short-leaf k v ev b = alone-leaf s l inside-stands k v ev b
 
       pub entered : (x : ℤ) → SFits w64 x → Evaluated code values base s l x → (z : ℤ) → SFits w64 z → Closed values base w (read x) z → Entered code values base at w l (read z)
       entered x sx v z sz k =
@@ -277,7 +283,7 @@ module _ (code values : List ℕ) (base : ℕ) where
 
       pub entered-short : l ≡ s + 1 → (v : ℕ) → v ≡ headAt (wordsOf code) s → (x : ℤ) → SFits w64 x → Read values base (v % 256) (v / 256) x → (z : ℤ) → SFits w64 z
           → Closed values base w (read x) z → Entered code values base at w l (read z)
-      entered-short k v ev x sx r z sz d = entered x sx (short-evaluated k v ev x r) z sz d
+      entered-short k v ev x sx r z sz d = entered x sx (alone-evaluated s l inside-stands k v ev x r) z sz d
 
   -- ---- a turn
   pub goes-first : (first : ℤ) (start to : ℕ) → Follows code values base first start to → Going code values base first start to first start

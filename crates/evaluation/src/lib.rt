@@ -544,10 +544,22 @@ fn part<'a, 'b>(
     whole(code, values, base, from, to)
 }
 
-// What the expression is worth that stands in the words from `from` up to `to`.
-pub fn evaluate<'a>(code: &'a [u8], values: &'a [u8], base: usize, from: usize, to: usize) -> i64
+// The stores are lent to the cycle from here.
+fn evaluate<'a>(code: &'a [u8], values: &'a [u8], base: usize, from: usize, to: usize) -> i64
     requires { ⌜ Stores (now values) base × Stands (now code) from to ⌝ }
     ensures { λ r. ⌜ Evaluated (now (code .entry)) (now (values .entry)) base from to r ⌝ }
 {
     part(&code, &values, base, from, to)
+}
+
+// What the expression is worth that stands in the words from `from` up to `to`. A word alone is read without a call.
+pub fn worth<'a>(code: &'a [u8], values: &'a [u8], base: usize, from: usize, to: usize) -> i64
+    requires { ⌜ Stores (now values) base × Stands (now code) from to ⌝ }
+    ensures { λ r. ⌜ Evaluated (now (code .entry)) (now (values .entry)) base from to r ⌝ }
+{
+    if to == from + 1 {
+        let w = head(code, from);
+        return leaf(values, base, w % 256, w / 256);
+    }
+    evaluate(&*code, &*values, base, from, to)
 }
