@@ -1,7 +1,7 @@
 use borrow.Author.Needs.{needs}
-use Rattle.choices.proofs.passes.Statement.{statement}
-use Rattle.choices.proofs.passes.Tie as tie
-use Rattle.choices.proofs.Looping.{passes-down, passes-up}
+use Rattle.loops.proofs.passes.Statement.{statement}
+use Rattle.loops.proofs.passes.Tie as tie
+use Rattle.loops.proofs.Looping.{passes-down, passes-up}
 
 returns : tie.Need-returns
 returns c = search (needs, passes-down)

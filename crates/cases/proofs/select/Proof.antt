@@ -1,11 +1,10 @@
 use borrow.Author.Needs.{needs}
-use Rattle.choices.proofs.select.Statement.{statement}
-use Rattle.choices.proofs.select.Tie as tie
+use Rattle.cases.proofs.select.Statement.{statement}
+use Rattle.cases.proofs.select.Tie as tie
 use native.Mathlib.Omega.{arith}
 use Rattle.machine.proofs.Current.{stores-here}
-use Rattle.choices.proofs.Choosing.{word-in}
-use Rattle.choices.proofs.ForHeads.{value-small}
-use Rattle.choices.proofs.TestSteps.{test-stands, test-cases, test-fails, test-goes}
+use Rattle.choices.proofs.Choosing.{word-in, value-small}
+use Rattle.cases.proofs.TestSteps.{test-stands, test-cases, test-fails, test-goes}
 
 add-worth : tie.Need-add-worth
 add-worth c = omega (arith, word-in _ _ _ _ (c .before .before .pre .0))

@@ -25,7 +25,7 @@ use Rattle.evaluation.proofs.Places.{op-in}
 use Rattle.evaluation.proofs.Numbers.{same-bits}
 use Rattle.evaluation.proofs.Operators.{sum-fits}
 use Rattle.reading.specs.Reading.{halfEnd, Part}
-use Rattle.choices.specs.Choices.{Cases, Matches}
+use Rattle.cases.specs.Cases.{Cases, Matches}
 use Rattle.machine.proofs.Actions.{first-is, second-is}
 use Rattle.machine.proofs.Hops.{hops, hops-on, hops-end, hops-more, hops-less}
 

@@ -1,10 +1,10 @@
 use mir.Syntax.{w64}
 use mir.Val.{toZ}
 use borrow.Author.Needs.{needs}
-use Rattle.choices.proofs.Selecting.{Searching, wordsLeft}
-use Rattle.choices.proofs.matching.Statement.{statement}
-use Rattle.choices.proofs.matching.Tie as tie
-use Rattle.choices.proofs.Selecting.{key-fits, search-begins, search-in, search-ends, search-finds, search-on, search-less}
+use Rattle.cases.proofs.Selecting.{Searching, wordsLeft}
+use Rattle.cases.proofs.matching.Statement.{statement}
+use Rattle.cases.proofs.matching.Tie as tie
+use Rattle.cases.proofs.Selecting.{key-fits, search-begins, search-in, search-ends, search-finds, search-on, search-less}
 
 abbrev Inv-loop : tie.InvT-loop
 Inv-loop code first v key j₀ j = Searching code first (toZ w64 v) j

@@ -36,13 +36,13 @@ use Rattle.evaluation.proofs.Operands.{load-call}
 use Rattle.reading.specs.Reading.{halfEnd, Part, Stored, Loaded}
 use Rattle.machine.specs.Live.{wordsOfCall, codeOfCall, routineOfCall, Live}
 use Rattle.machine.specs.Machine.{Here, Comes, goesOn, effectAt, Performs, Says}
-use Rattle.choices.specs.Choices.{ForSteps, stepWorth, StepGiven, DoAt}
+use Rattle.loops.specs.Loops.{ForSteps, stepWorth, StepGiven, DoAt}
 use Rattle.machine.proofs.Actions.{given-step, no-step, RepeatsFor, reads-for-test}
 use Rattle.machine.proofs.Agreeing.{codeIn, set-same}
 use Rattle.machine.proofs.States.{Roomy, roomy, goes-to, call-word}
 use Rattle.machine.proofs.Living.{live-next, live-call}
 use Rattle.machine.proofs.Current.{codeHere, stepHere, m, n, callHere, stateHere, action-here, routine-holds, whole-here, memory-here, named-after, named-targets, loop-here, small-name, effect-here, goes-here, performs}
 use Rattle.choices.proofs.Choosing.{stepsHere}
 
 -- ---- the test
 module _ (z end step : ℤ) (sz : SFits w64 z) (se : SFits w64 end) (ss : SFits w64 step) where

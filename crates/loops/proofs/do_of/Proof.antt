@@ -1,7 +1,7 @@
 use borrow.Author.Needs.{needs}
-use Rattle.choices.proofs.do_of.Statement.{statement}
-use Rattle.choices.proofs.do_of.Tie as tie
-use Rattle.choices.proofs.Looping.{do-behind, do-here}
+use Rattle.loops.proofs.do_of.Statement.{statement}
+use Rattle.loops.proofs.do_of.Tie as tie
+use Rattle.loops.proofs.Looping.{do-behind, do-here}
 
 head-requires : tie.Need-head-requires
 head-requires c κs = search needs

@@ -1,7 +1,7 @@
 use borrow.Author.Needs.{needs}
-use Rattle.choices.proofs.step_of.Statement.{statement}
-use Rattle.choices.proofs.step_of.Tie as tie
-use Rattle.choices.proofs.Looping.{step-stands, step-given, step-one}
+use Rattle.loops.proofs.step_of.Statement.{statement}
+use Rattle.loops.proofs.step_of.Tie as tie
+use Rattle.loops.proofs.Looping.{step-stands, step-given, step-one}
 
 head-requires : tie.Need-head-requires
 head-requires c κs = search needs

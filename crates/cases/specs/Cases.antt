@@ -1,4 +1,4 @@
--- What the functions that choose where a run goes on ask and tell.
+-- What the search among a TEST's cases asks and tells.
 use mathlib.Core.Path.{_≡_}
 use mathlib.Core.Bool.{Bool}
 use mathlib.Core.List.{List}
@@ -14,36 +14,6 @@ use Rattle.code.specs.Steps.{Head, parts, forStep, casesIn}
 use Rattle.evaluation.specs.Answers.{decoded, Small, Counts, memoryOf}
 use Rattle.reading.specs.Reading.{halfEnd}
 
--- ---- FOR
--- A FOR's STEP, or its DO, stands at s.
-pub record ForSteps (code : List ℕ) (s : ℕ) : Type 0 where
-  pub c : Counts
-  pub function : Bool
-  pub text : List ℕ
-  pub R : List Head
-  pub step : Option Term
-  pub d : ℕ
-  pub is : forStep (c .m) (c .n) function text R (wordsOf code) s ≡ some (step, d)
-  pub inside : s * 8 + 8 ≤ length code
-  pub whole : length code % 8 ≡ 0
-
--- "Without STEP the step is 1."
-unfoldable pub stepWorth : Memory → Option Term → Value
-stepWorth M none = value (pos 1)
-stepWorth M (some e) = worth M e
-
--- r is what the step is worth.
-pub record StepGiven (code values : List ℕ) (base s : ℕ) (r : ℤ) : Type 0 where
-  pub is : (c : Counts) (function : Bool) (text : List ℕ) (R : List Head) (step : Option Term) (d : ℕ)
-      → forStep (c .m) (c .n) function text R (wordsOf code) s ≡ some (step, d) → decoded r ≡ stepWorth (memoryOf c values base) step
-  pub small : Small r
-
--- r is the DO.
-pub record DoAt (code : List ℕ) (s r : ℕ) : Type 0 where
-  pub is : (c : Counts) (function : Bool) (text : List ℕ) (R : List Head) (step : Option Term) (d : ℕ)
-      → forStep (c .m) (c .n) function text R (wordsOf code) s ≡ some (step, d) → r ≡ d
-
--- ---- TEST
 -- The cases of a TEST stand at a word.
 pub record Cases (code : List ℕ) (first : ℕ) : Type 0 where
   pub m : ℕ

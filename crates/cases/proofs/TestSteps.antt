@@ -21,10 +21,10 @@ use Rattle.code.specs.Steps.{parts, casesIn}
 use Rattle.code.specs.Closed.{isNamed, Named, caseOf, targetsOf}
 use Rattle.evaluation.specs.Answers.{firstError, Stands, Evaluated}
 use Rattle.machine.specs.Machine.{Here, Comes, effectAt, Performs, Says}
-use Rattle.choices.specs.Choices.{Cases, Matches}
+use Rattle.cases.specs.Cases.{Cases, Matches}
 use Rattle.machine.proofs.Actions.{Selects, reads-test}
 use Rattle.machine.proofs.Current.{codeHere, stepHere, m, n, stateHere, action-here, whole-here, named-targets, effect-here, goes-here, performs}
 use Rattle.choices.proofs.Choosing.{stepsHere, Going, Deciding, decided-stands, decided-fails, decided}
 
 -- wherever it goes is a step
 matching-named : (S : List Step) (z : ℤ) (cs : List (List ℤ × ℕ)) (o : ℕ) → Named S (o ∷ map caseOf cs) → isNamed S (matching z cs o) ≡ true

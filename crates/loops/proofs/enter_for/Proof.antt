@@ -1,10 +1,10 @@
 use borrow.Author.Needs.{needs}
-use Rattle.choices.proofs.enter_for.Statement.{statement}
-use Rattle.choices.proofs.enter_for.Tie as tie
+use Rattle.loops.proofs.enter_for.Statement.{statement}
+use Rattle.loops.proofs.enter_for.Tie as tie
 use native.Mathlib.Omega.{arith}
 use Rattle.machine.proofs.Current.{stores-here}
-use Rattle.choices.proofs.Choosing.{word-in}
-use Rattle.choices.proofs.ForHeads.{from-in, for-inside, for-end-inside, from-stands, to-in, from-fails, to-stands, for-steps, to-fails, step-fails, value-small, step-small, first-inside, second-inside, for-skips, for-enters, do-in}
+use Rattle.choices.proofs.Choosing.{word-in, value-small}
+use Rattle.loops.proofs.ForHeads.{from-in, for-inside, for-end-inside, from-stands, to-in, from-fails, to-stands, for-steps, to-fails, step-fails, step-small, first-inside, second-inside, for-skips, for-enters, do-in}
 
 add-link : tie.Need-add-link
 add-link c = omega (arith, word-in _ _ _ _ (c .before .before .pre .0))

@@ -33,15 +33,15 @@ use Rattle.evaluation.proofs.Numbers.{is-value, is-error}
 use Rattle.reading.specs.Reading.{valueEnd, halfEnd, Part, Stored}
 use Rattle.machine.specs.Live.{wordsOfCall, codeOfCall, Live}
 use Rattle.machine.specs.Machine.{Here, Comes, goesOn, fails, effectAt, Performs, Says}
-use Rattle.choices.specs.Choices.{ForSteps, stepWorth, StepGiven, DoAt}
+use Rattle.loops.specs.Loops.{ForSteps, stepWorth, StepGiven, DoAt}
 use Rattle.raised.proofs.Raised.{errors, worth-error}
 use Rattle.machine.proofs.Actions.{EntersFor, reads-for, no-step}
 use Rattle.machine.proofs.Agreeing.{Same, set-same}
 use Rattle.machine.proofs.States.{Roomy, roomy, goes-to, call-loop}
 use Rattle.machine.proofs.Living.{routine-code, live-next, live-call}
 use Rattle.machine.proofs.Current.{codeHere, stepHere, m, n, callHere, stateHere, action-here, routine-holds, whole-here, counts-here, stands-here, memory-here, named-after, named-targets, loop-here, small-name, effect-here, value-here, failed-here, error-is, told-error, told-value, performs}
-use Rattle.choices.proofs.Choosing.{stepsHere}
-use Rattle.choices.proofs.Looping.{word-goes}
+use Rattle.choices.proofs.Choosing.{stepsHere, value-small}
+use Rattle.loops.proofs.Looping.{word-goes}
 
 -- ---- the step, given or not
 step-as : (M : Memory) (c : Option Term) (s : State) (go : ℤ → Effect) → withStep M c s go ≡ withValue (stepWorth M c) s go
@@ -55,9 +55,6 @@ step-error M none e q = apart (cc)
 step-error M (some t) e q = worth-error M t e q
 
 -- ---- values have 32 bits
-pub value-small : (code values : List ℕ) (base from to : ℕ) (r : ℤ) → SFits w64 r → Evaluated code values base from to r → leZ (pos firstError) (read r) ≡ false → SFits w32 (read r)
-value-small code values base from to r s v k = rw (toZ-ofZ s) (v .small (told-value r s k))
-
 pub step-small : (code values : List ℕ) (base s : ℕ) (r : ℤ) → SFits w64 r → StepGiven code values base s r → leZ (pos firstError) (read r) ≡ false → SFits w32 (read r)
 step-small code values base s r f v k = rw (toZ-ofZ f) (v .small (told-value r f k))
 
