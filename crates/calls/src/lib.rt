@@ -14,7 +14,7 @@ ghost use Rattle.code.specs.Windows.{stepsCell};
 ghost use Rattle.machine.specs.Machine.{Here, Performs, Calls, Says};
 ghost use Rattle.targets.specs.Targets.{WordAt, ArrayAt};
 ghost use Rattle.calls.specs.Calling.{Filled, Idled, Starts, Started, Let, Passes, Passed, MayEnter, Entered, CallsFor, CalledFor, Deepest, Gave, Returns};
-use machine::worth;
+use evaluation::worth;
 use reading::head;
 use reading::link;
 use reading::place;

@@ -8,7 +8,7 @@ use native.Mathlib.Omega.{arith}
 use lib.ListN.{length}
 use lib.IntN.{ℤ, pos, negsuc, natAbs, _+ℤ_}
 use lib.Signed.{ltZ, leZ}
-use mir.Syntax.{w64}
+use mir.Syntax.{w32, w64}
 use mir.Val.{SFits, toZ, ofZ}
 use mir.Facts.{toZ-ofZ}
 use borrow.Author.Tests.{ltb-false}
@@ -31,6 +31,10 @@ use Rattle.machine.specs.Machine.{Here, fails, effectAt, Performs, Says}
 use Rattle.machine.proofs.Actions.{Expression, reads-while, reads-compact-if, reads-raise-of}
 use Rattle.raised.proofs.Raised.{raised-low}
 use Rattle.machine.proofs.Current.{codeHere, stepHere, m, n, callHere, stateHere, action-here, whole-here, stands-here, named-after, named-targets, small-name, step-in, effect-here, value-here, failed-here, goes-here, told-error, told-value, told-zero, told-other, performs}
+
+-- ---- values have 32 bits
+pub value-small : (code values : List ℕ) (base from to : ℕ) (r : ℤ) → SFits w64 r → Evaluated code values base from to r → leZ (pos firstError) (read r) ≡ false → SFits w32 (read r)
+value-small code values base from to r s v k = rw (toZ-ofZ s) (v .small (told-value r s k))
 
 module _ (code values : List ℕ) (base i : ℕ) where
   pub word-in : Here code values base i → i * 8 + 8 ≤ length code

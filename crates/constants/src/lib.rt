@@ -48,7 +48,7 @@ pub fn constant(code: &mut [u8], values: &[u8], wants: bool, at: usize) -> Value
     match j {
         Judged::Faulty(number, word) => Valued::Faulty(number, word),
         Judged::Typed(_, next) => {
-            let v = evaluation::evaluate(code, values, WINDOW, at, next);
+            let v = evaluation::worth(code, values, WINDOW, at, next);
             if v < FIRST_ERROR {
                 return Valued::Value(v, next);
             }

@@ -11,16 +11,16 @@ use lib.Signed.{ltZ, leZ, quotZ, remZ, natAbs-le}
 use mir.Syntax.{w32, w64}
 use mir.Val.{SFits}
 use mir.Facts.{toZ-ofZ}
-use borrow.Author.Tests.{ne-eqb, le-leb, lt-leb, lt-ltb, le-ltb}
+use borrow.Author.Tests.{ne-eqb, eqb-true, eqb-false, le-leb, lt-leb, lt-ltb, le-ltb}
 use Rattle.laws.proofs.Tests.{test, by-less, by-last}
 use Rattle.paper.specs.Sorts.{AND, OR, XOR}
 use Rattle.paper.specs.Numbers as paper
-use Rattle.paper.specs.Numbers.{num, value, error, add, subtract, multiply, divide, modulo, isZero, same, overflow, divZero}
+use Rattle.paper.specs.Numbers.{num, Value, value, error, add, subtract, multiply, divide, modulo, isZero, same, overflow, divZero}
 use Rattle.paper.specs.Terms.{truth, applied, known, combined, operated}
 use Rattle.numbers.proofs.Whole.{read, sub-cases, mag-abs, abs-neg, abs-mul, rem-is}
 use Rattle.code.specs.Spans.{operators, operatorOf, prefixIn}
 use Rattle.evaluation.specs.Answers.{firstError, decoded, Small, Gives}
-use Rattle.evaluation.specs.Parts.{outside, joined, failureOf, firstLogic, failing, Worked, Divided}
+use Rattle.evaluation.specs.Parts.{outside, joined, failureOf, firstLogic, failing, Worked, Skips, Divided}
 use Rattle.evaluation.proofs.Numbers.{not-less, ranged-inside, ranged-outside, truth-inside, truth-small, is-value, is-error, gives-value, gives-error, gives-as, gives-same, told, inside-small, outside-is}
 
 -- ---- operators by their numbers
@@ -319,6 +319,30 @@ module _ (a b : ℤ) (sa : SFits w64 a) (sb : SFits w64 b) (fa : SFits w32 a) (f
   pub either-left : t ≡ false → Worked 13 a b (read a)
   unfolding joined known combined operated operatorOf operators
   either-left h = rw (toZ-ofZ sa) (side 13 a b a (omega arith) fa (rw (left-is false h, joined)))
+
+-- ---- AND and OR, where the left side does not tell the answer
+right-of-and : (a : ℤ) (b : Value) → known (operatorOf 12) (value a) ≡ false → joined (operatorOf 12) (value a) b ≡ b
+unfolding joined combined operated operatorOf operators
+right-of-and a (value b) h = rw (h, joined)
+right-of-and a (error e) h = rw (h, joined)
+
+right-of-or : (a : ℤ) (b : Value) → known (operatorOf 13) (value a) ≡ false → joined (operatorOf 13) (value a) b ≡ b
+unfolding joined combined operated operatorOf operators
+right-of-or a (value b) h = rw (h, joined)
+right-of-or a (error e) h = rw (h, joined)
+
+skips-as : (k j : ℕ) → k ≡ j → ((a : ℤ) (b : Value) → known (operatorOf j) (value a) ≡ false → joined (operatorOf j) (value a) b ≡ b)
+    → (a : ℤ) (b : Value) → known (operatorOf k) (value a) ≡ false → joined (operatorOf k) (value a) b ≡ b
+skips-as k j e f a b = subst (λ (i : ℕ). known (operatorOf i) (value a) ≡ false → joined (operatorOf i) (value a) b ≡ b) (sym e) (f a b)
+
+pub skips-and : (k : ℕ) → k ≡ 12 → Skips k true
+skips-and k e = record { right = λ q. skips-as k 12 e right-of-and; plain = λ q. absurd (subst T q tt) }
+
+pub skips-or : (k : ℕ) → (k ≡ 12 → ⊥) → Skips k (eqb k 13)
+skips-or k n = record {
+  right = λ q. skips-as k 13 (eqb-true k 13 q) right-of-or;
+  plain = λ q a. sym (known-none k a n (eqb-false k 13 q));
+}
 
 -- ---- what an operator gives, by what was worked out
 module _ (number : ℕ) (a b : ℤ) (sa : SFits w64 a) (sb : SFits w64 b) (z : ℤ) (sz : SFits w64 z) (k : Worked number (read a) (read b) z) (t : Bool) (e : t ≡ failing number (read z)) where

@@ -21,33 +21,22 @@ use Rattle.numbers.proofs.Whole.{read}
 use Rattle.code.specs.Cells.{opIn, valueIn, headAt, opAt, linkAt}
 use Rattle.code.specs.Spans.{rightIn, operatorOf, operatorIn, leafTerm, operandTerm, rightEnd, rightTerm, chain, termIn}
 use Rattle.code.proofs.Operands.{of-any, of-leaf}
-use Rattle.code.proofs.Spanning.{end-span, end-leaf, right-span, right-leaf, chain-done, Step, chain-step, right-moves, Begun, begun, span-grows, single}
+use Rattle.code.proofs.Spanning.{end-span, end-leaf, right-span, right-leaf, chain-done, Step, chain-step, chain-on, right-moves, Begun, begun, span-grows, single}
 use Rattle.reading.specs.Reading.{cellValues}
 use Rattle.evaluation.specs.Answers.{firstError, decoded, Small, Gives, Counts, termOf, memoryOf, Stands, Evaluated}
-use Rattle.evaluation.specs.Parts.{joined, failureOf, failing, Worked, Leaf, Read, Fused, Shorts, closedTerm, opensAt, endsAt, Closes, Closed, Encloses, Entered}
+use Rattle.evaluation.specs.Parts.{joined, failureOf, failing, Worked, Leaf, Read, Fused, Shorts, closedTerm, opensAt, endsAt, Closes, Closed, Encloses, Entered, Left, Follows, Followed}
 use Rattle.evaluation.proofs.Numbers.{is-value, is-error, small-value}
 use Rattle.evaluation.proofs.Places.{head-in, operand-some, right-in}
 
 -- ---- what the loop keeps
 
--- the answer so far is that of the part before i, for every reading of the whole
-pub record Left (c : Counts) (code values : List ℕ) (base : ℕ) (a : ℤ) (i to : ℕ) (t : Term) : Type 0 where
-  pub u : Term
-  pub is : decoded a ≡ worth (memoryOf c values base) u
-  pub g : ℕ
-  pub rest : chain (c .m) (c .n) (wordsOf code) (termIn (c .m) (c .n) (wordsOf code)) g u i to ≡ some t
-
-pub record Run (code values : List ℕ) (base from to : ℕ) (a : ℤ) (i : ℕ) : Type 0 where
-  pub stands : Stands code from to
-  pub left : (c : Counts) (t : Term) → termOf c code from to ≡ some t → Left c code values base a i to t
-  pub small : Small a
-  pub after : from < i
-  pub on : i ≤ to
-
--- and a value
-pub record Going (code values : List ℕ) (base from to : ℕ) (a : ℤ) (i : ℕ) : Type 0 where
-  pub run : Run code values base from to a i
+-- the operators before i are worked out, for every reading of all
+pub record Going (code values : List ℕ) (base : ℕ) (first : ℤ) (start to : ℕ) (a : ℤ) (i : ℕ) : Type 0 where
+  pub asked : Follows code values base first start to
+  pub left : (c : Counts) (t : Term) → Left c code values base first start to t → Left c code values base a i to t
   pub small : SFits w32 a
+  pub after : start ≤ i
+  pub on : i ≤ to
 
 -- ---- what the machine reads back of a local
 pub subst₂ : (P : ℕ → ℕ → Type 0) {a b i j : ℕ} → a ≡ b → i ≡ j → P a i → P b j
@@ -56,12 +45,15 @@ subst₂ P {a} {b} {i} {j} p q x = subst (P b) q (subst (λ (k : ℕ). P k i) p 
 pub evaluated-read : (code values : List ℕ) (base from to : ℕ) (z : ℤ) → SFits w64 z → Evaluated code values base from to z → Evaluated code values base from to (read z)
 evaluated-read code values base from to z s e = rw (toZ-ofZ s) e
 
-pub going-read : (code values : List ℕ) (base from to : ℕ) (z : ℤ) (i : ℕ) → SFits w64 z → Going code values base from to z i → Going code values base from to (read z) i
-going-read code values base from to z i s g = rw (toZ-ofZ s) g
+pub followed-first : (code values : List ℕ) (base : ℕ) (first : ℤ) (start to : ℕ) (z : ℤ) → SFits w64 first → Followed code values base (read first) start to z → Followed code values base first start to z
+followed-first code values base first start to z s e = rw (toZ-ofZ s) at e
 
--- an answer that was told to be a value
-pub goes-value : (code values : List ℕ) (base from to : ℕ) (a : ℤ) (i : ℕ) → Run code values base from to a i → ltZ a (pos firstError) ≡ true → Going code values base from to a i
-goes-value code values base from to a i r h = record { run = r; small = r .small h }
+pub followed-read : (code values : List ℕ) (base : ℕ) (first : ℤ) (start to : ℕ) → SFits w64 first → (z : ℤ) → SFits w64 z → Followed code values base (read first) start to z
+    → Followed code values base first start to (read z)
+followed-read code values base first start to sf z s e = rw (toZ-ofZ s) (followed-first code values base first start to z sf e)
+
+pub going-read : (code values : List ℕ) (base : ℕ) (first : ℤ) (start to : ℕ) (z : ℤ) (i : ℕ) → SFits w64 z → Going code values base first start to z i → Going code values base first start to (read z) i
+going-read code values base first start to z i s g = rw (toZ-ofZ s) g
 
 -- ---- two sides
 joined-known : (op : ℕ) (a b : Value) → known op a ≡ true → joined op a b ≡ a
@@ -114,23 +106,46 @@ module _ (code values : List ℕ) (base : ℕ) where
         let b = begins (sd .c) (sd .t) (sd .is) in
         head-in code from (sd .whole) (operand-some (sd .c .m) (sd .c .n) (wordsOf code) (termIn (sd .c .m) (sd .c .n) (wordsOf code)) from (b .x) (b .first))
 
-    -- from the first operand on
-    starts : (a : ℤ) (i : ℕ) → Small a
-        → ((c : Counts) (x : Term × ℕ) → operandTerm (c .m) (c .n) (wordsOf code) (termIn (c .m) (c .n) (wordsOf code)) from ≡ some x → (decoded a ≡ worth (memoryOf c values base) (x .0)) × (i ≡ x .1))
-        → Run code values base from to a i
-    starts a i s f =
-        let h = begins (sd .c) (sd .t) (sd .is) in
-        let q : i ≡ h .x .1 = f (sd .c) (h .x) (h .first) .1 in
-        record {
-          stands = sd;
-          small = s;
-          after = omega (arith, h .after);
-          on = omega (arith, h .on);
-          left = λ c t e.
-              let b = begins c t e in
-              let o = f c (b .x) (b .first) in
-              record { u = b .x .0; is = o .0; g = b .g; rest = ap (λ (j : ℕ). chain (c .m) (c .n) (wordsOf code) (termIn (c .m) (c .n) (wordsOf code)) (b .g) (b .x .0) j to) (o .1) ∙ b .rest };
-        }
+    -- the first operand is worth a, and i is the word after it
+    pub record Opened (a : ℤ) (i : ℕ) : Type 0 where
+      pub left : (c : Counts) (t : Term) → termOf c code from to ≡ some t → Left c code values base a i to t
+      pub small : SFits w32 a
+      pub after : from < i
+      pub on : i ≤ to
+
+    module _ (a : ℤ) (i : ℕ)
+        (f : (c : Counts) (x : Term × ℕ) → operandTerm (c .m) (c .n) (wordsOf code) (termIn (c .m) (c .n) (wordsOf code)) from ≡ some x → (decoded a ≡ worth (memoryOf c values base) (x .0)) × (i ≡ x .1))
+        (s : Small a) where
+      opens : ltZ a (pos firstError) ≡ true → Opened a i
+      opens h =
+          let b = begins (sd .c) (sd .t) (sd .is) in
+          let q : i ≡ b .x .1 = f (sd .c) (b .x) (b .first) .1 in
+          record {
+            small = s h;
+            after = omega (arith, b .after);
+            on = omega (arith, b .on);
+            left = λ c t e.
+                let d = begins c t e in
+                let o = f c (d .x) (d .first) in
+                record { u = d .x .0; is = sym (o .0) ∙ is-value a h; g = d .g; rest = ap (λ (j : ℕ). chain (c .m) (c .n) (wordsOf code) (termIn (c .m) (c .n) (wordsOf code)) (d .g) (d .x .0) j to) (o .1) ∙ d .rest };
+          }
+
+      -- an error leaves at once
+      fails : ltZ a (pos firstError) ≡ false → Evaluated code values base from to a
+      fails h = record {
+        small = s;
+        is = λ c t e.
+            let d = begins c t e in
+            is-error a h ∙ sym (chain-error c code values base (natAbs a - firstError) (d .g) (d .x .0) (d .x .1) to t (d .rest) (sym (f c (d .x) (d .first) .0) ∙ is-error a h));
+      }
+
+    -- what follows it
+    module _ (a : ℤ) (i : ℕ) (o : Opened a i) where
+      pub opened-follows : Follows code values base a i to
+      opened-follows = record { c = sd .c; t = sd .t; left = o .left (sd .c) (sd .t) (sd .is); small = o .small; whole = sd .whole }
+
+      pub opened-evaluated : (r : ℤ) → Followed code values base a i to r → Evaluated code values base from to r
+      opened-evaluated r d = record { is = λ c t e. d .is c t (o .left c t e); small = d .small }
 
     module _ (w : ℕ) (ew : w ≡ headAt (wordsOf code) from) where
       op-is : w % 256 ≡ opAt (wordsOf code) from
@@ -147,12 +162,10 @@ module _ (code values : List ℕ) (base : ℕ) where
           let b = begins (sd .c) (sd .t) (sd .is) in
           record { c = sd .c; t = b .x .0; is = leaf-at h (sd .c) (b .x) (b .first) .0; bits = omega arith }
 
-      pub start-leaf : w % 256 ≤ 3 → (z : ℤ) → SFits w64 z → Read values base (w % 256) (w / 256) z → Going code values base from to (read z) (from + 1)
+      pub start-leaf : w % 256 ≤ 3 → (z : ℤ) → SFits w64 z → Read values base (w % 256) (w / 256) z → Opened (read z) (from + 1)
       start-leaf h z s r =
-          rw (toZ-ofZ s) (record {
-            small = r .small;
-            run = starts z (from + 1) (λ q. r .small) (λ c x e. let g = leaf-at h c x e in (is-value z (small-value z (r .small)) ∙ sym (r .is c (x .0) (g .0)), sym (g .1)));
-          })
+          rw (toZ-ofZ s)
+          (opens z (from + 1) (λ c x e. let g = leaf-at h c x e in (is-value z (small-value z (r .small)) ∙ sym (r .is c (x .0) (g .0)), sym (g .1))) (λ q. r .small) (small-value z (r .small)))
 
       -- an operand of several words: what stands inside it, and what it makes of that
       record Enclosed (c : Counts) (x : Term × ℕ) (l : ℕ) : Type 0 where
@@ -206,9 +219,29 @@ module _ (code values : List ℕ) (base : ℕ) where
           whole = sd .whole;
         }
 
-        pub start-enclosed : (z : ℤ) → SFits w64 z → Entered code values base from w l z → Run code values base from to (read z) (endsAt (w % 256) l)
-        start-enclosed z sz d =
-            rw (toZ-ofZ sz) (starts z (endsAt (w % 256) l) (d .small) (λ c y e. let g = enclosed c y e in (d .is c (g .t) (y .0) (g .inside) (g .is), sym (g .end))))
+        module _ (z : ℤ) (d : Entered code values base from w l z) where
+          entered-as : (c : Counts) (x : Term × ℕ) → operandTerm (c .m) (c .n) (wordsOf code) (termIn (c .m) (c .n) (wordsOf code)) from ≡ some x → (decoded z ≡ worth (memoryOf c values base) (x .0)) × (endsAt (w % 256) l ≡ x .1)
+          entered-as c x e = let g = enclosed c x e in (d .is c (g .t) (x .0) (g .inside) (g .is), sym (g .end))
+
+          pub start-enclosed : SFits w64 z → ltZ z (pos firstError) ≡ true → Opened (read z) (endsAt (w % 256) l)
+          start-enclosed sz h = rw (toZ-ofZ sz) (opens z (endsAt (w % 256) l) entered-as (d .small) h)
+
+          pub start-fails : ltZ z (pos firstError) ≡ false → Evaluated code values base from to z
+          start-fails h = fails z (endsAt (w % 256) l) entered-as (d .small) h
+
+  -- ---- a word alone
+  module _ (from to : ℕ) (sd : Stands code from to) (k : to ≡ from + 1) (v : ℕ) (ev : v ≡ headAt (wordsOf code) from) where
+    alone-is : (c : Counts) (t : Term) → termOf c code from to ≡ some t → leafTerm (c .m) (c .n) (v % 256) (v / 256) ≡ some t
+    alone-is c t e = ap (λ (j : ℕ). leafTerm (c .m) (c .n) (j % 256) (j / 256)) ev ∙ single (c .m) (c .n) (wordsOf code) from to t k e
+
+    pub alone-leaf : v < cellValues → Leaf (v % 256) (v / 256)
+    alone-leaf b = record { c = sd .c; t = sd .t; is = alone-is (sd .c) (sd .t) (sd .is); bits = omega arith }
+
+    pub alone-evaluated : (x : ℤ) → Read values base (v % 256) (v / 256) x → Evaluated code values base from to x
+    alone-evaluated x r = record { is = λ c t e. is-value x (small-value x (r .small)) ∙ sym (r .is c t (alone-is c t e)); small = λ q. r .small }
+
+    pub alone-read : (x : ℤ) → SFits w64 x → Read values base (v % 256) (v / 256) x → Evaluated code values base from to (read x)
+    alone-read x s r = evaluated-read code values base from to x s (alone-evaluated x r)
 
   -- ---- inside an operand
   module _ (at w l : ℕ) (en : Encloses code at w l) where
@@ -216,10 +249,10 @@ module _ (code values : List ℕ) (base : ℕ) where
     unfolding opensAt
     opens-low s es = test (leb (w % 256) 5) (λ t. let q : s ≡ at + 2 = es ∙ rw (t, opensAt) in omega arith) (λ t. let q : s ≡ at + 1 = es ∙ rw (t, opensAt) in omega arith)
 
-    pub at-room : at * 8 + 8 ≤ length code
+    pub at-room : at + 2 ≤ l
     at-room =
         let g : Stands code (opensAt (w % 256) at) l = record { c = en .c; t = en .t; is = en .inside; whole = en .whole } in
-        omega (arith, opens-low (opensAt (w % 256) at) refl, stands-in (opensAt (w % 256) at) l g)
+        omega (arith, opens-low (opensAt (w % 256) at) refl, stands-less (opensAt (w % 256) at) l g)
 
     pub closes : Closes w
     closes = record { c = en .c; t = en .t; u = en .u; is = en .is }
@@ -231,19 +264,14 @@ module _ (code values : List ℕ) (base : ℕ) where
       pub inside-in : s * 8 + 8 ≤ length code
       inside-in = stands-in s l inside-stands
 
+      pub inside-room : s + 1 ≤ l
+      inside-room = omega (arith, stands-less s l inside-stands)
+
       pub inside-less : (l - s) * 3 + 1 < (l - at) * 3
       inside-less = omega (arith, opens-low s es, stands-less s l inside-stands)
 
-      module _ (k : l ≡ s + 1) (v : ℕ) (ev : v ≡ headAt (wordsOf code) s) where
-        short-is : (c : Counts) (t : Term) → termOf c code s l ≡ some t → leafTerm (c .m) (c .n) (v % 256) (v / 256) ≡ some t
-        short-is c t e = ap (λ (j : ℕ). leafTerm (c .m) (c .n) (j % 256) (j / 256)) ev ∙ single (c .m) (c .n) (wordsOf code) s l t k e
-
-        pub short-leaf : v < cellValues → Leaf (v % 256) (v / 256)
-        unfolding inside-stands
-        short-leaf b = record { c = en .c; t = en .t; is = short-is (en .c) (en .t) (inside-stands .is); bits = omega arith }
-
-        pub short-evaluated : (x : ℤ) → Read values base (v % 256) (v / 256) x → Evaluated code values base s l x
-        short-evaluated x r = record { is = λ c t e. is-value x (small-value x (r .small)) ∙ sym (r .is c t (short-is c t e)); small = λ q. r .small }
+      pub short-leaf : l ≡ s + 1 → (v : ℕ) → v ≡ headAt (wordsOf code) s → v < cellValues → Leaf (v % 256) (v / 256)
+      short-leaf k v ev b = alone-leaf s l inside-stands k v ev b
 
       pub entered : (x : ℤ) → SFits w64 x → Evaluated code values base s l x → (z : ℤ) → SFits w64 z → Closed values base w (read x) z → Entered code values base at w l (read z)
       entered x sx v z sz k =
@@ -255,54 +283,54 @@ module _ (code values : List ℕ) (base : ℕ) where
 
       pub entered-short : l ≡ s + 1 → (v : ℕ) → v ≡ headAt (wordsOf code) s → (x : ℤ) → SFits w64 x → Read values base (v % 256) (v / 256) x → (z : ℤ) → SFits w64 z
           → Closed values base w (read x) z → Entered code values base at w l (read z)
-      entered-short k v ev x sx r z sz d = entered x sx (short-evaluated k v ev x r) z sz d
-
-  -- ---- an error leaves at once
-  pub run-fails : (from to : ℕ) (a : ℤ) (i : ℕ) → Run code values base from to a i → ltZ a (pos firstError) ≡ false → Evaluated code values base from to a
-  run-fails from to a i r h =
-      let q = is-error a h in
-      record {
-        small = r .small;
-        is = λ c t e.
-            let l = r .left c t e in
-            q ∙ sym (chain-error c code values base (natAbs a - firstError) (l .g) (l .u) i to t (l .rest) (sym (l .is) ∙ q));
-      }
+      entered-short k v ev x sx r z sz d = entered x sx (alone-evaluated s l inside-stands k v ev x r) z sz d
 
   -- ---- a turn
-  module _ (from to : ℕ) (a : ℤ) (i : ℕ) (go : Going code values base from to a i) where
-    pub ends : to ≤ i → Evaluated code values base from to a
+  pub goes-first : (first : ℤ) (start to : ℕ) → Follows code values base first start to → Going code values base first start to first start
+  goes-first first start to f = record {
+    asked = f;
+    left = λ c t e. e;
+    small = f .small;
+    after = omega arith;
+    on = chain-on (f .c .m) (f .c .n) (wordsOf code) (termIn (f .c .m) (f .c .n) (wordsOf code)) (span-grows (f .c .m) (f .c .n) (wordsOf code)) (f .left .g) (f .left .u) start to (f .t) (f .left .rest);
+  }
+
+  pub goes-begun : (first : ℤ) (start to : ℕ) → SFits w64 first → Follows code values base first start to → Going code values base (read first) start to (read first) start
+  goes-begun first start to s f = rw (toZ-ofZ s) (goes-first first start to f)
+
+  module _ (first : ℤ) (start to : ℕ) (a : ℤ) (i : ℕ) (go : Going code values base first start to a i) where
+    pub ends : to ≤ i → Followed code values base first start to a
     ends h = record {
-      small = go .run .small;
+      small = λ q. go .small;
       is = λ c t e.
-          let l = go .run .left c t e in
-          l .is ∙ ap (worth (memoryOf c values base)) (chain-done (c .m) (c .n) (wordsOf code) (termIn (c .m) (c .n) (wordsOf code)) (l .g) (l .u) i to t (omega (arith, go .run .on)) (l .rest));
+          let l = go .left c t e in
+          is-value a (small-value a (go .small)) ∙ sym (l .is)
+          ∙ ap (worth (memoryOf c values base)) (chain-done (c .m) (c .n) (wordsOf code) (termIn (c .m) (c .n) (wordsOf code)) (l .g) (l .u) i to t (omega (arith, go .on)) (l .rest));
     }
 
-    left-is : (c : Counts) (t : Term) (e : termOf c code from to ≡ some t) → worth (memoryOf c values base) (go .run .left c t e .u) ≡ value a
-    left-is c t e = sym (go .run .left c t e .is) ∙ is-value a (small-value a (go .small))
-
     module _ (h : i < to) where
-      next : (c : Counts) (t : Term) (e : termOf c code from to ≡ some t)
-          → Step (c .m) (c .n) (wordsOf code) (termIn (c .m) (c .n) (wordsOf code)) (go .run .left c t e .g) (go .run .left c t e .u) i to t
-      next c t e =
-          chain-step (c .m) (c .n) (wordsOf code) (termIn (c .m) (c .n) (wordsOf code)) (go .run .left c t e .g) (go .run .left c t e .u) i to t (λ q. omega arith) (go .run .left c t e .rest)
+      next : (c : Counts) (t : Term) (e : Left c code values base first start to t) → Step (c .m) (c .n) (wordsOf code) (termIn (c .m) (c .n) (wordsOf code)) (go .left c t e .g) (go .left c t e .u) i to t
+      next c t e = chain-step (c .m) (c .n) (wordsOf code) (termIn (c .m) (c .n) (wordsOf code)) (go .left c t e .g) (go .left c t e .u) i to t (λ q. omega arith) (go .left c t e .rest)
 
-      ghost-next : Step (go .run .stands .c .m) (go .run .stands .c .n) (wordsOf code) (termIn (go .run .stands .c .m) (go .run .stands .c .n) (wordsOf code))
-          (go .run .left (go .run .stands .c) (go .run .stands .t) (go .run .stands .is) .g) (go .run .left (go .run .stands .c) (go .run .stands .t) (go .run .stands .is) .u) i to (go .run .stands .t)
-      ghost-next = next (go .run .stands .c) (go .run .stands .t) (go .run .stands .is)
+      ghost-next : Step (go .asked .c .m) (go .asked .c .n) (wordsOf code) (termIn (go .asked .c .m) (go .asked .c .n) (wordsOf code))
+          (go .left (go .asked .c) (go .asked .t) (go .asked .left) .g) (go .left (go .asked .c) (go .asked .t) (go .asked .left) .u) i to (go .asked .t)
+      ghost-next = next (go .asked .c) (go .asked .t) (go .asked .left)
 
       right-on : rightEnd (wordsOf code) i ≤ to
       right-on = ghost-next .on
 
       right-more : i + 1 < rightEnd (wordsOf code) i
       right-more =
-          right-moves (go .run .stands .c .m) (go .run .stands .c .n) (wordsOf code) (termIn (go .run .stands .c .m) (go .run .stands .c .n) (wordsOf code))
-          (span-grows (go .run .stands .c .m) (go .run .stands .c .n) (wordsOf code)) i (ghost-next .u) (ghost-next .right)
+          right-moves (go .asked .c .m) (go .asked .c .n) (wordsOf code) (termIn (go .asked .c .m) (go .asked .c .n) (wordsOf code))
+          (span-grows (go .asked .c .m) (go .asked .c .n) (wordsOf code)) i (ghost-next .u) (ghost-next .right)
+
+      pub turn-room : i + 2 ≤ to
+      turn-room = omega (arith, right-more, right-on)
 
       pub turn-in : i * 8 + 8 ≤ length code
       turn-in =
-          right-in code i (go .run .stands .whole) (go .run .stands .c .m) (go .run .stands .c .n) (termIn (go .run .stands .c .m) (go .run .stands .c .n) (wordsOf code))
-          (span-grows (go .run .stands .c .m) (go .run .stands .c .n) (wordsOf code)) (ghost-next .u) (ghost-next .right)
+          right-in code i (go .asked .whole) (go .asked .c .m) (go .asked .c .n) (termIn (go .asked .c .m) (go .asked .c .n) (wordsOf code))
+          (span-grows (go .asked .c .m) (go .asked .c .n) (wordsOf code)) (ghost-next .u) (ghost-next .right)
 
       module _ (w : ℕ) (ew : w ≡ headAt (wordsOf code) i) where
         number : ℕ
@@ -332,48 +360,47 @@ module _ (code values : List ℕ) (base : ℕ) where
 
           pub span-stands : Stands code (i + 1) r
           span-stands = record {
-            c = go .run .stands .c;
+            c = go .asked .c;
             t = ghost-next .u;
-            is = right-is (go .run .stands .c) (ghost-next .u) (ghost-next .right);
-            whole = go .run .stands .whole;
+            is = right-is (go .asked .c) (ghost-next .u) (ghost-next .right);
+            whole = go .asked .whole;
           }
 
-          pub span-less : r - (i + 1) < to - from
-          span-less = omega (arith, end-is, right-on, right-more, go .run .after)
+          pub span-less : r - (i + 1) < to - start
+          span-less = omega (arith, end-is, right-on, right-more, go .after)
 
-          module _ (y : Bool) (ey : y ≡ known (operatorOf (w % 256 % 16)) (value a)) where
-            known-is : (z : Bool) → y ≡ z → known (operatorOf (w % 256 % 16)) (value a) ≡ z
-            known-is z q = sym ey ∙ q
+          pub span-past : to - r < to - i
+          span-past = omega (arith, end-is, right-on, right-more)
 
-            pub side-known : y ≡ true → Sided a r
-            side-known q = record {
+          side-known : known (operatorOf (w % 256 % 16)) (value a) ≡ true → Sided a r
+          side-known q = record {
+            end = end-is;
+            small = go .small;
+            is = λ c u e. joined-known (operatorOf (w % 256 % 16)) (value a) (value a) q ∙ sym (joined-known (operatorOf (w % 256 % 16)) (value a) (worth (memoryOf c values base) u) q);
+          }
+
+          module _ (b : ℤ) (v : Evaluated code values base (i + 1) r b) where
+            pub side-span : ltZ b (pos firstError) ≡ true → Sided b r
+            side-span q = record {
               end = end-is;
-              small = go .small;
-              is = λ c u e. joined-known (operatorOf (w % 256 % 16)) (value a) (value a) (known-is true q) ∙ sym (joined-known (operatorOf (w % 256 % 16)) (value a) (worth (memoryOf c values base) u) (known-is true q));
+              small = v .small q;
+              is = λ c u e. ap (joined (operatorOf (w % 256 % 16)) (value a)) (sym (is-value b q) ∙ v .is c u (right-is c u e));
             }
 
-            module _ (b : ℤ) (v : Evaluated code values base (i + 1) r b) where
-              pub side-span : ltZ b (pos firstError) ≡ true → Sided b r
-              side-span q = record {
-                end = end-is;
-                small = v .small q;
-                is = λ c u e. ap (joined (operatorOf (w % 256 % 16)) (value a)) (sym (is-value b q) ∙ v .is c u (right-is c u e));
-              }
-
-              pub right-fails : y ≡ false → ltZ b (pos firstError) ≡ false → Evaluated code values base from to b
-              unfolding combined
-              right-fails n q = record {
-                small = v .small;
-                is = λ c t e.
-                    let l = go .run .left c t e in
-                    let s = next c t e in
-                    let d = is-error b q in
-                    d ∙ sym (chain-error c code values base (natAbs b - firstError) (s .p) (binary (operatorIn (opAt (wordsOf code) i)) (l .u) (s .u)) (rightEnd (wordsOf code) i) to t (s .rest)
-                    (worth-joined (memoryOf c values base) (operatorIn (opAt (wordsOf code) i)) (l .u) (s .u)
-                    ∙ ap₂ (joined (operatorIn (opAt (wordsOf code) i))) (left-is c t e) (sym (v .is c (s .u) (right-is c (s .u) (s .right))) ∙ d)
-                    ∙ ap (λ (j : ℕ). joined (operatorOf (j % 256 % 16)) (value a) (error (natAbs b - firstError))) (sym ew)
-                    ∙ joined-not (operatorOf (w % 256 % 16)) (value a) (error (natAbs b - firstError)) (known-is false n)));
-              }
+            pub right-fails : known (operatorOf (w % 256 % 16)) (value a) ≡ false → ltZ b (pos firstError) ≡ false → Followed code values base first start to b
+            unfolding combined
+            right-fails n q = record {
+              small = v .small;
+              is = λ c t e.
+                  let l = go .left c t e in
+                  let s = next c t e in
+                  let d = is-error b q in
+                  d ∙ sym (chain-error c code values base (natAbs b - firstError) (s .p) (binary (operatorIn (opAt (wordsOf code) i)) (l .u) (s .u)) (rightEnd (wordsOf code) i) to t (s .rest)
+                  (worth-joined (memoryOf c values base) (operatorIn (opAt (wordsOf code) i)) (l .u) (s .u)
+                  ∙ ap₂ (joined (operatorIn (opAt (wordsOf code) i))) (l .is) (sym (v .is c (s .u) (right-is c (s .u) (s .right))) ∙ d)
+                  ∙ ap (λ (j : ℕ). joined (operatorOf (j % 256 % 16)) (value a) (error (natAbs b - firstError))) (sym ew)
+                  ∙ joined-not (operatorOf (w % 256 % 16)) (value a) (error (natAbs b - firstError)) n));
+            }
 
         -- a leaf
         module _ (k : w % 256 / 16 % 4 ≡ 0 → ⊥) where
@@ -383,7 +410,7 @@ module _ (code values : List ℕ) (base : ℕ) where
               ∙ sym (right-leaf (wordsOf code) i (c .m) (c .n) (termIn (c .m) (c .n) (wordsOf code)) (λ z. k (class-is ∙ z))) ∙ e
 
           pub fused-leaf : w < cellValues → Leaf (w % 256 / 16 % 4) (w / 256)
-          fused-leaf b = record { c = go .run .stands .c; t = ghost-next .u; is = fused-is (go .run .stands .c) (ghost-next .u) (ghost-next .right); bits = omega arith }
+          fused-leaf b = record { c = go .asked .c; t = ghost-next .u; is = fused-is (go .asked .c) (ghost-next .u) (ghost-next .right); bits = omega arith }
 
           pub side-leaf : (b : ℤ) → Read values base (w % 256 / 16 % 4) (w / 256) b → Sided b (i + 2)
           side-leaf b r = record {
@@ -400,42 +427,68 @@ module _ (code values : List ℕ) (base : ℕ) where
           pub turn-less : to - r < to - i
           turn-less = omega (arith, sd .end, right-on, right-more)
 
-          worth-is : (c : Counts) (t : Term) (e : termOf c code from to ≡ some t)
-              → worth (memoryOf c values base) (binary (operatorIn (opAt (wordsOf code) i)) (go .run .left c t e .u) (next c t e .u)) ≡ joined (operatorOf (w % 256 % 16)) (value a) (value b)
+          worth-is : (c : Counts) (t : Term) (e : Left c code values base first start to t)
+              → worth (memoryOf c values base) (binary (operatorIn (opAt (wordsOf code) i)) (go .left c t e .u) (next c t e .u)) ≡ joined (operatorOf (w % 256 % 16)) (value a) (value b)
           worth-is c t e =
-              worth-joined (memoryOf c values base) (operatorIn (opAt (wordsOf code) i)) (go .run .left c t e .u) (next c t e .u)
-              ∙ ap (λ (v : Value). joined (operatorIn (opAt (wordsOf code) i)) v (worth (memoryOf c values base) (next c t e .u))) (left-is c t e)
+              worth-joined (memoryOf c values base) (operatorIn (opAt (wordsOf code) i)) (go .left c t e .u) (next c t e .u)
+              ∙ ap (λ (v : Value). joined (operatorIn (opAt (wordsOf code) i)) v (worth (memoryOf c values base) (next c t e .u))) (go .left c t e .is)
               ∙ ap (λ (j : ℕ). joined (operatorOf (j % 256 % 16)) (value a) (worth (memoryOf c values base) (next c t e .u))) (sym ew)
               ∙ sym (sd .is c (next c t e .u) (next c t e .right))
 
-          goes-on : (z : ℤ) → SFits w32 z → joined (operatorOf (w % 256 % 16)) (value a) (value b) ≡ value z → Going code values base from to z r
+          pub goes-on : (z : ℤ) → SFits w32 z → joined (operatorOf (w % 256 % 16)) (value a) (value b) ≡ value z → Going code values base first start to z r
           goes-on z s q = record {
+            asked = go .asked;
             small = s;
-            run = record {
-              stands = go .run .stands;
-              small = λ y. s;
-              after = omega (arith, sd .end, right-more, go .run .after);
-              on = turn-on;
-              left = λ c t e. record {
-                u = binary (operatorIn (opAt (wordsOf code) i)) (go .run .left c t e .u) (next c t e .u);
-                is = is-value z (small-value z s) ∙ sym (worth-is c t e ∙ q);
-                g = next c t e .p;
-                rest = ap (λ (j : ℕ). chain (c .m) (c .n) (wordsOf code) (termIn (c .m) (c .n) (wordsOf code)) (next c t e .p) (binary (operatorIn (opAt (wordsOf code) i)) (go .run .left c t e .u) (next c t e .u)) j to) (sd .end) ∙ next c t e .rest;
-              };
+            after = omega (arith, sd .end, right-more, go .after);
+            on = turn-on;
+            left = λ c t e. record {
+              u = binary (operatorIn (opAt (wordsOf code) i)) (go .left c t e .u) (next c t e .u);
+              is = worth-is c t e ∙ q;
+              g = next c t e .p;
+              rest = ap (λ (j : ℕ). chain (c .m) (c .n) (wordsOf code) (termIn (c .m) (c .n) (wordsOf code)) (next c t e .p) (binary (operatorIn (opAt (wordsOf code) i)) (go .left c t e .u) (next c t e .u)) j to) (sd .end) ∙ next c t e .rest;
             };
           }
 
           module _ (z : ℤ) (k : Worked (w % 256 % 16) a b z) where
-            pub goes : failing (w % 256 % 16) z ≡ false → Going code values base from to z r
+            pub goes : failing (w % 256 % 16) z ≡ false → Going code values base first start to z r
             goes o = goes-on z (k .small o) (k .is o)
 
-            pub turn-fails : failing (w % 256 % 16) z ≡ true → (f : ℤ) → Gives (error (failureOf (w % 256 % 16) b)) f → Evaluated code values base from to f
+            pub turn-fails : failing (w % 256 % 16) z ≡ true → (f : ℤ) → Gives (error (failureOf (w % 256 % 16) b)) f → Followed code values base first start to f
             turn-fails o f g = record {
               small = g .small;
               is = λ c t e.
                   g .is ∙ sym (chain-error c code values base (failureOf (w % 256 % 16) b) (next c t e .p)
-                  (binary (operatorIn (opAt (wordsOf code) i)) (go .run .left c t e .u) (next c t e .u)) (rightEnd (wordsOf code) i) to t (next c t e .rest) (worth-is c t e ∙ k .fails o));
+                  (binary (operatorIn (opAt (wordsOf code) i)) (go .left c t e .u) (next c t e .u)) (rightEnd (wordsOf code) i) to t (next c t e .rest) (worth-is c t e ∙ k .fails o));
             }
+
+        -- AND and OR with a span
+        module _ (k : w % 256 / 16 % 4 ≡ 0) (r : ℕ) (er : r ≡ linkAt (wordsOf code) i) where
+          -- the left side tells the answer
+          pub skip-known : known (operatorOf (w % 256 % 16)) (value a) ≡ true → Going code values base first start to a r
+          skip-known q = goes-on a r (side-known k r er q) a (go .small) (joined-known (operatorOf (w % 256 % 16)) (value a) (value a) q)
+
+          -- it does not: the right side's answer is that of both
+          module _ (sk : (v : Value) → joined (operatorOf (w % 256 % 16)) (value a) v ≡ v) (b : ℤ) where
+            pub skip-on : Evaluated code values base (i + 1) r b → ltZ b (pos firstError) ≡ true → Going code values base first start to b r
+            skip-on v q = goes-on b r (side-span k r er b v q) b (v .small q) (sk (value b))
+
+            -- and it comes last
+            pub skip-last : r ≡ to → Evaluated code values base (i + 1) to b → Followed code values base first start to b
+            skip-last z v = record {
+              small = v .small;
+              is = λ c t e.
+                  let l = go .left c t e in
+                  let s = next c t e in
+                  v .is c (s .u) (ap (termOf c code (i + 1)) (sym z) ∙ right-is k r er c (s .u) (s .right))
+                  ∙ sym (sk (worth (memoryOf c values base) (s .u)))
+                  ∙ ap (λ (j : ℕ). joined (operatorOf (j % 256 % 16)) (value a) (worth (memoryOf c values base) (s .u))) ew
+                  ∙ ap (λ (x : Value). joined (operatorIn (opAt (wordsOf code) i)) x (worth (memoryOf c values base) (s .u))) (sym (l .is))
+                  ∙ sym (worth-joined (memoryOf c values base) (operatorIn (opAt (wordsOf code) i)) (l .u) (s .u))
+                  ∙ ap (worth (memoryOf c values base)) (chain-done (c .m) (c .n) (wordsOf code) (termIn (c .m) (c .n) (wordsOf code)) (s .p) (binary (operatorIn (opAt (wordsOf code) i)) (l .u) (s .u)) (rightEnd (wordsOf code) i) to t (sym (end-is k r er) ∙ z) (s .rest));
+            }
+
+          pub last-stands : r ≡ to → Stands code (i + 1) to
+          last-stands z = subst (Stands code (i + 1)) z (span-stands k r er)
 
   -- ---- one operator between two words
   module _ (from to : ℕ) (sd : Stands code from to) (l : to ≡ from + 3) (w : ℕ) (ew : w ≡ headAt (wordsOf code) from) (h : w % 256 ≤ 3) where
@@ -448,8 +501,11 @@ module _ (code values : List ℕ) (base : ℕ) where
         omega (arith, q, r)
 
     module _ (x : ℕ) (ex : x ≡ headAt (wordsOf code) (from + 1)) (k : x / 16 % 4 ≡ 0 → ⊥) (a : ℤ) (sa : SFits w64 a) (ra : Read values base (w % 256) (w / 256) a) where
-      going : Going code values base from to (read a) (from + 1)
-      going = start-leaf from to sd w ew h a sa ra
+      opened : Opened from to sd (read a) (from + 1)
+      opened = start-leaf from to sd w ew h a sa ra
+
+      going : Going code values base (read a) (from + 1) to (read a) (from + 1)
+      going = goes-first (read a) (from + 1) to (opened-follows from to sd (read a) (from + 1) opened)
 
       class-low : x % 256 / 16 % 4 ≡ x % 64 / 16 % 4
       class-low = omega arith
@@ -458,19 +514,20 @@ module _ (code values : List ℕ) (base : ℕ) where
       carried z = k (omega arith)
 
       pub second-leaf : x < cellValues → Leaf (x % 64 / 16 % 4) (x / 256)
-      second-leaf b = subst (λ (j : ℕ). Leaf j (x / 256)) class-low (fused-leaf from to (read a) (from + 1) going (omega arith) x ex carried b)
+      second-leaf b = subst (λ (j : ℕ). Leaf j (x / 256)) class-low (fused-leaf (read a) (from + 1) to (read a) (from + 1) going (omega arith) x ex carried b)
 
       pub short : (r : ℤ) → SFits w64 r → Fused values base (x % 64) (x / 256) (read a) r → Evaluated code values base from to (read r)
+      unfolding going goes-first
       short r sr f =
           rw (toZ-ofZ sr) (record {
             small = f .small;
             is = λ c t e.
-                let g = going .run .left c t e in
-                let s = next from to (read a) (from + 1) going (omega arith) c t e in
+                let g = opened .left c t e in
+                let s = next (read a) (from + 1) to (read a) (from + 1) going (omega arith) c t g in
                 let o : x % 64 % 16 ≡ opAt (wordsOf code) (from + 1) % 16 = let q : x % 64 % 16 ≡ x % 256 % 16 = omega arith in q ∙ ap (λ (j : ℕ). j % 256 % 16) ex in
-                f .is c (s .u) (ap (λ (j : ℕ). leafTerm (c .m) (c .n) j (x / 256)) (sym class-low) ∙ fused-is from to (read a) (from + 1) going (omega arith) x ex carried c (s .u) (s .right))
+                f .is c (s .u) (ap (λ (j : ℕ). leafTerm (c .m) (c .n) j (x / 256)) (sym class-low) ∙ fused-is (read a) (from + 1) to (read a) (from + 1) going (omega arith) x ex carried c (s .u) (s .right))
                 ∙ ap (λ (j : ℕ). joined (operatorOf j) (value (read a)) (worth (memoryOf c values base) (s .u))) o
-                ∙ ap (λ (v : Value). joined (operatorIn (opAt (wordsOf code) (from + 1))) v (worth (memoryOf c values base) (s .u))) (sym (left-is from to (read a) (from + 1) going c t e))
+                ∙ ap (λ (v : Value). joined (operatorIn (opAt (wordsOf code) (from + 1))) v (worth (memoryOf c values base) (s .u))) (sym (g .is))
                 ∙ sym (worth-joined (memoryOf c values base) (operatorIn (opAt (wordsOf code) (from + 1))) (g .u) (s .u))
                 ∙ ap (worth (memoryOf c values base)) (chain-done (c .m) (c .n) (wordsOf code) (termIn (c .m) (c .n) (wordsOf code)) (s .p) (binary (operatorIn (opAt (wordsOf code) (from + 1))) (g .u) (s .u)) (rightEnd (wordsOf code) (from + 1)) to t
                 (end-leaf (wordsOf code) (from + 1) (λ z. carried (ap (λ (j : ℕ). j % 256 / 16 % 4) ex ∙ z)) ∙ omega arith) (s .rest));

@@ -31,6 +31,6 @@ same-answer a b e =
     let k : natAbs a - firstError ≡ natAbs b - firstError = cc in
     above a s .0 ∙ ap pos (omega (arith, above a s .1, above b t .1)) ∙ sym (above b t .0)))
 
-pub evaluate-unique : (code values : List ℕ) (base from to : ℕ) (a b : ℤ) → Stands code from to
+pub worth-unique : (code values : List ℕ) (base from to : ℕ) (a b : ℤ) → Stands code from to
     → Evaluated code values base from to a → Evaluated code values base from to b → a ≡ b
-evaluate-unique code values base from to a b s p q = same-answer a b (p .is (s .c) (s .t) (s .is) ∙ sym (q .is (s .c) (s .t) (s .is)))
+worth-unique code values base from to a b s p q = same-answer a b (p .is (s .c) (s .t) (s .is) ∙ sym (q .is (s .c) (s .t) (s .is)))

@@ -15,7 +15,7 @@ use Rattle.paper.specs.Numbers.{num, Value, value, error, isZero, overflow, div
 use Rattle.paper.specs.Terms.{Term, unary, known, combined, worth}
 use Rattle.cells.specs.Words.{wordsOf}
 use Rattle.code.specs.Cells.{opIn, valueIn, opAt}
-use Rattle.code.specs.Spans.{aSpan, aCallWord, aCallElement, aParenthesis, rightIn, prefixIn, operatorOf, operatorIn, leafTerm, elementTerm}
+use Rattle.code.specs.Spans.{aSpan, aCallWord, aCallElement, aParenthesis, rightIn, prefixIn, operatorOf, operatorIn, leafTerm, elementTerm, chain, termIn}
 use Rattle.reading.specs.Reading.{valueEnd}
 use Rattle.evaluation.specs.Answers.{decoded, Small, Counts, termOf, memoryOf}
 
@@ -46,6 +46,11 @@ pub record Worked (number : ℕ) (a b z : ℤ) : Type 0 where
   pub is : failing number z ≡ false → joined (operatorOf number) (value a) (value b) ≡ value z
   pub small : failing number z ≡ false → SFits w32 z
   pub fails : failing number z ≡ true → joined (operatorOf number) (value a) (value b) ≡ error (failureOf number b)
+
+-- y: an operator with this number answers by its right side alone, unless its left one tells the answer; no other operator's left side does
+pub record Skips (number : ℕ) (y : Bool) : Type 0 where
+  pub right : y ≡ true → (a : ℤ) (b : Value) → known (operatorOf number) (value a) ≡ false → joined (operatorOf number) (value a) b ≡ b
+  pub plain : y ≡ false → (a : ℤ) → known (operatorOf number) (value a) ≡ false
 
 -- z is the exact quotient or remainder, and outside where there is none
 pub record Divided (b exact z : ℤ) : Type 0 where
@@ -129,4 +134,23 @@ pub record Encloses (code : List ℕ) (at w l : ℕ) : Type 0 where
 pub record Entered (code values : List ℕ) (base at w l : ℕ) (r : ℤ) : Type 0 where
   pub is : (c : Counts) (t u : Term) → termOf c code (opensAt (opIn w) at) l ≡ some t → closedTerm c (opIn w) (valueIn w) t ≡ some u
       → decoded r ≡ worth (memoryOf c values base) u
+  pub small : Small r
+
+-- ---- operators after an operand
+-- a term that is worth a, and the operators from i on, up to `to`, read as t
+pub record Left (c : Counts) (code values : List ℕ) (base : ℕ) (a : ℤ) (i to : ℕ) (t : Term) : Type 0 where
+  pub u : Term
+  pub is : worth (memoryOf c values base) u ≡ value a
+  pub g : ℕ
+  pub rest : chain (c .m) (c .n) (wordsOf code) (termIn (c .m) (c .n) (wordsOf code)) g u i to ≡ some t
+
+pub record Follows (code values : List ℕ) (base : ℕ) (a : ℤ) (i to : ℕ) : Type 0 where
+  pub c : Counts
+  pub t : Term
+  pub left : Left c code values base a i to t
+  pub small : SFits w32 a
+  pub whole : length code % 8 ≡ 0
+
+pub record Followed (code values : List ℕ) (base : ℕ) (a : ℤ) (i to : ℕ) (r : ℤ) : Type 0 where
+  pub is : (c : Counts) (t : Term) → Left c code values base a i to t → decoded r ≡ worth (memoryOf c values base) t
   pub small : Small r

@@ -10,7 +10,7 @@ ghost use Rattle.paper.specs.Numbers.{value, error, isZero, same};
 ghost use Rattle.paper.specs.Terms.{truth, applied, known};
 ghost use Rattle.code.specs.Spans.{rightIn, prefixIn, operatorOf};
 ghost use Rattle.evaluation.specs.Answers.{firstError, decoded, Small, Gives, Stores, Stands, Evaluated};
-ghost use Rattle.evaluation.specs.Parts.{joined, failureOf, failing, Worked, Divided, addresses, Leaf, Read, cellOf, opensAt, endsAt, Fused, Array, Indexed, Closes, Closed, Shorts, Encloses, Entered};
+ghost use Rattle.evaluation.specs.Parts.{joined, failureOf, failing, Worked, Divided, addresses, Leaf, Read, cellOf, opensAt, endsAt, Fused, Array, Indexed, Closes, Closed, Shorts, Encloses, Entered, Skips, Follows, Followed};
 ghost use Rattle.evaluation.specs.Parts as parts;
 use reading::head;
 use reading::link;
@@ -221,6 +221,16 @@ fn combine(number: u32, a: i64, b: i64) -> i64
     z
 }
 
+// AND and OR, which do without their right side where the left one tells the answer.
+fn skips(number: u32) -> bool
+    ensures { λ r. ⌜ Skips number r ⌝ }
+{
+    if number == AND {
+        return true;
+    }
+    number == OR
+}
+
 // The left side tells the answer.
 fn is_known(number: u32, a: i64) -> bool
     ensures { λ r. ⌜ r ≡ known (operatorOf number) (value a) ⌝ }
@@ -382,17 +392,27 @@ fn ends(op: u32, link: usize) -> usize
 
 // ---- spans
 
+// The stores go through the calls of this cycle behind a reference each: a slice is two words, and a function that calls itself would copy both stores' for
+// each call, where a reference stays in its register.
+
 // An operand of several words that begins at a word with the head w, and what stands inside it ends at l. A word alone is read without a call.
-fn enclosed<'a>(code: &'a [u8], values: &'a [u8], base: usize, at: usize, w: u32, l: usize) -> i64
-    requires { ⌜ Stores (now values) base × Encloses (now code) at w l ⌝ }
-    ensures { λ r. ⌜ Entered (now (code .entry)) (now (values .entry)) base at w l r ⌝ }
+fn enclosed<'a, 'b>(
+    code: &'a &'b [u8],
+    values: &'a &'b [u8],
+    base: usize,
+    at: usize,
+    w: u32,
+    l: usize,
+) -> i64
+    requires { ⌜ Stores (now (now values)) base × Encloses (now (now code)) at w l ⌝ }
+    ensures { λ r. ⌜ Entered (now (now (code .entry))) (now (now (values .entry))) base at w l r ⌝ }
 {
     let s = opens(w % 256, at);
     if l == s + 1 {
-        let x = head(code, s);
-        return close(values, base, w, leaf(values, base, x % 256, x / 256));
+        let x = head(*code, s);
+        return close(*values, base, w, leaf(*values, base, x % 256, x / 256));
     }
-    close(values, base, w, whole(&*code, &*values, base, s, l))
+    close(*values, base, w, whole(code, values, base, s, l))
 }
 
 // One operator between two words, the form of most expressions: only then true.
@@ -428,42 +448,47 @@ fn short<'a>(code: &'a [u8], values: &'a [u8], base: usize, from: usize, to: usi
     )
 }
 
-// What any expression is worth. What fails leaves at once, so that the loop goes on with values only.
-// `&*code` and `&*values` have a slice's two halves loaded one by one: a caller makes them anew for each call, the value store's at least, to which it
-// writes, and a load of both halves at once would wait for its stores.
-fn whole<'a>(code: &'a [u8], values: &'a [u8], base: usize, from: usize, to: usize) -> i64
-    requires { ⌜ Stores (now values) base × Stands (now code) from to ⌝ }
-    ensures { λ r. ⌜ Evaluated (now (code .entry)) (now (values .entry)) base from to r ⌝ }
+// The operators from `start` on, up to `to`, after an operand that is worth `first`. What fails leaves at once, so that the loop goes on with values only.
+fn rest<'a, 'b>(
+    code: &'a &'b [u8],
+    values: &'a &'b [u8],
+    base: usize,
+    start: usize,
+    to: usize,
+    first: i64,
+) -> i64
+    requires { ⌜ Stores (now (now values)) base × Follows (now (now code)) (now (now values)) base first start to ⌝ }
+    ensures { λ r. ⌜ Followed (now (now (code .entry))) (now (now (values .entry))) base first start to r ⌝ }
 {
-    let w = head(code, from);
-    let mut acc = 0;
-    let mut i = from + 1;
-    if w % 256 <= CALL_WORD {
-        acc = leaf(values, base, w % 256, w / 256);
-    } else {
-        let l = link(code, from);
-        acc = enclosed(&*code, &*values, base, from, w, l);
-        if !is_value(acc) {
-            return acc;
-        }
-        i = ends(w % 256, l);
-    }
+    let mut acc = first;
+    let mut i = start;
     while i < to {
-        let w = head(code, i);
+        let w = head(*code, i);
         let op = w % 256;
-        // a left side that tells the answer stands for the right one too, which gives it back
         let mut b = acc;
         let mut r = i + 2;
         if op / 16 % 4 == SPAN {
-            r = link(code, i);
-            if !is_known(op % 16, acc) {
-                b = part(&*code, &*values, base, i + 1, r);
-                if !is_value(b) {
-                    return b;
+            r = link(*code, i);
+            if skips(op % 16) {
+                // a left side that tells the answer stays; else the right one stands for both, and where it comes last it is the answer
+                if !is_known(op % 16, acc) {
+                    if r == to {
+                        return whole(code, values, base, i + 1, to);
+                    }
+                    acc = part(code, values, base, i + 1, r);
+                    if !is_value(acc) {
+                        return acc;
+                    }
                 }
+                i = r;
+                continue;
+            }
+            b = part(code, values, base, i + 1, r);
+            if !is_value(b) {
+                return b;
             }
         } else {
-            b = leaf(values, base, op / 16 % 4, w / 256);
+            b = leaf(*values, base, op / 16 % 4, w / 256);
         }
         let z = operate(op % 16, acc, b);
         if is_failing(op % 16, z) {
@@ -475,21 +500,66 @@ fn whole<'a>(code: &'a [u8], values: &'a [u8], base: usize, from: usize, to: usi
     acc
 }
 
-// What stands in an expression or in a part of it.
-fn part<'a>(code: &'a [u8], values: &'a [u8], base: usize, from: usize, to: usize) -> i64
-    requires { ⌜ Stores (now values) base × Stands (now code) from to ⌝ }
-    ensures { λ r. ⌜ Evaluated (now (code .entry)) (now (values .entry)) base from to r ⌝ }
+// What any expression is worth.
+fn whole<'a, 'b>(
+    code: &'a &'b [u8],
+    values: &'a &'b [u8],
+    base: usize,
+    from: usize,
+    to: usize,
+) -> i64
+    requires { ⌜ Stores (now (now values)) base × Stands (now (now code)) from to ⌝ }
+    ensures { λ r. ⌜ Evaluated (now (now (code .entry))) (now (now (values .entry))) base from to r ⌝ }
 {
-    if is_short(&*code, from, to) {
-        return short(&*code, &*values, base, from, to);
+    let w = head(*code, from);
+    let mut acc = 0;
+    let mut i = from + 1;
+    if w % 256 <= CALL_WORD {
+        acc = leaf(*values, base, w % 256, w / 256);
+    } else {
+        let l = link(*code, from);
+        acc = enclosed(code, values, base, from, w, l);
+        if !is_value(acc) {
+            return acc;
+        }
+        i = ends(w % 256, l);
     }
-    whole(&*code, &*values, base, from, to)
+    rest(code, values, base, i, to, acc)
 }
 
-// What the expression is worth that stands in the words from `from` up to `to`.
-pub fn evaluate<'a>(code: &'a [u8], values: &'a [u8], base: usize, from: usize, to: usize) -> i64
+// What stands in an expression or in a part of it.
+fn part<'a, 'b>(
+    code: &'a &'b [u8],
+    values: &'a &'b [u8],
+    base: usize,
+    from: usize,
+    to: usize,
+) -> i64
+    requires { ⌜ Stores (now (now values)) base × Stands (now (now code)) from to ⌝ }
+    ensures { λ r. ⌜ Evaluated (now (now (code .entry))) (now (now (values .entry))) base from to r ⌝ }
+{
+    if is_short(*code, from, to) {
+        return short(*code, *values, base, from, to);
+    }
+    whole(code, values, base, from, to)
+}
+
+// The stores are lent to the cycle from here.
+fn evaluate<'a>(code: &'a [u8], values: &'a [u8], base: usize, from: usize, to: usize) -> i64
     requires { ⌜ Stores (now values) base × Stands (now code) from to ⌝ }
     ensures { λ r. ⌜ Evaluated (now (code .entry)) (now (values .entry)) base from to r ⌝ }
 {
-    part(&*code, &*values, base, from, to)
+    part(&code, &values, base, from, to)
+}
+
+// What the expression is worth that stands in the words from `from` up to `to`. A word alone is read without a call.
+pub fn worth<'a>(code: &'a [u8], values: &'a [u8], base: usize, from: usize, to: usize) -> i64
+    requires { ⌜ Stores (now values) base × Stands (now code) from to ⌝ }
+    ensures { λ r. ⌜ Evaluated (now (code .entry)) (now (values .entry)) base from to r ⌝ }
+{
+    if to == from + 1 {
+        let w = head(code, from);
+        return leaf(values, base, w % 256, w / 256);
+    }
+    evaluate(&*code, &*values, base, from, to)
 }

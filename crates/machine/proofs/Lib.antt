@@ -4,4 +4,3 @@ pub mod Current
 pub mod Living
 pub mod States
 pub mod Hops
-pub mod Worths

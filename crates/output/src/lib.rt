@@ -14,7 +14,7 @@ ghost use Rattle.code.specs.Cells.{valueAt};
 ghost use Rattle.machine.specs.Machine.{Says};
 ghost use Rattle.decimals.specs.Placed as decimals;
 ghost use Rattle.output.specs.Output.{countIn, Counted, Copies, Copied, Spelled, charactersAt, Spells, Placed, lineAt, lineOf, HasRoom, Added, Prints, Writes, Wrote, WroteOf, Takes, Took, Reads, WasRead};
-use machine::worth;
+use evaluation::worth;
 use reading::link;
 use reading::load;
 use reading::place;

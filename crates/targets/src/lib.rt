@@ -4,7 +4,7 @@ ghost use Rattle.code.specs.Steps.{aTarget};
 ghost use Rattle.evaluation.specs.Answers.{Stores};
 ghost use Rattle.machine.specs.Machine.{Here, Performs};
 ghost use Rattle.targets.specs.Targets.{Indexes, Found, Target, Spotted, WordAt, ArrayAt, Assigns, Assigned};
-use machine::worth;
+use evaluation::worth;
 use reading::head;
 use reading::link;
 use reading::put;

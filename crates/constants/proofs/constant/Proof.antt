@@ -12,8 +12,8 @@ enum-known-j c = search needs
 enum-known-j-2 : tie.Need-enum-known-j-2
 enum-known-j-2 c = search needs
 
-evaluate-requires : tie.Need-evaluate-requires
-evaluate-requires c κs = (search (needs, stores), search (needs, evaluable))
+worth-requires : tie.Need-worth-requires
+worth-requires c κs = (search (needs, stores), search (needs, evaluable))
 
 same-length : tie.Need-same-length
 same-length c = search needs
@@ -40,7 +40,7 @@ constant-spec =
     of-type-requires
     enum-known-j
     enum-known-j-2
-    evaluate-requires
+    worth-requires
     same-length
     returns
     same-length-2

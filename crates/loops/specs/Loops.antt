@@ -1,0 +1,43 @@
+-- What the functions of a FOR ask and tell.
+use mathlib.Core.Path.{_≡_}
+use mathlib.Core.Bool.{Bool}
+use mathlib.Core.List.{List}
+use mathlib.Core.Option.{Option, none, some}
+use Prim.Native.Nat.{ℕ, _+_, _*_, _%_, _<_, _≤_}
+use lib.ListN.{length}
+use lib.IntN.{ℤ, pos}
+use Rattle.paper.specs.Numbers.{Value, value}
+use Rattle.paper.specs.Terms.{Term, Memory, worth}
+use Rattle.paper.specs.Running.{matching}
+use Rattle.cells.specs.Words.{wordsOf}
+use Rattle.code.specs.Steps.{Head, parts, forStep, casesIn}
+use Rattle.evaluation.specs.Answers.{decoded, Small, Counts, memoryOf}
+use Rattle.reading.specs.Reading.{halfEnd}
+
+-- A FOR's STEP, or its DO, stands at s.
+pub record ForSteps (code : List ℕ) (s : ℕ) : Type 0 where
+  pub c : Counts
+  pub function : Bool
+  pub text : List ℕ
+  pub R : List Head
+  pub step : Option Term
+  pub d : ℕ
+  pub is : forStep (c .m) (c .n) function text R (wordsOf code) s ≡ some (step, d)
+  pub inside : s * 8 + 8 ≤ length code
+  pub whole : length code % 8 ≡ 0
+
+-- "Without STEP the step is 1."
+unfoldable pub stepWorth : Memory → Option Term → Value
+stepWorth M none = value (pos 1)
+stepWorth M (some e) = worth M e
+
+-- r is what the step is worth.
+pub record StepGiven (code values : List ℕ) (base s : ℕ) (r : ℤ) : Type 0 where
+  pub is : (c : Counts) (function : Bool) (text : List ℕ) (R : List Head) (step : Option Term) (d : ℕ)
+      → forStep (c .m) (c .n) function text R (wordsOf code) s ≡ some (step, d) → decoded r ≡ stepWorth (memoryOf c values base) step
+  pub small : Small r
+
+-- r is the DO.
+pub record DoAt (code : List ℕ) (s r : ℕ) : Type 0 where
+  pub is : (c : Counts) (function : Bool) (text : List ℕ) (R : List Head) (step : Option Term) (d : ℕ)
+      → forStep (c .m) (c .n) function text R (wordsOf code) s ≡ some (step, d) → r ≡ d
