@@ -27,7 +27,8 @@ use Rattle.evaluation.specs.Answers.{firstError, callWords, Counts}
 use Rattle.evaluation.specs.Answers as answers
 use Rattle.machine.specs.Live.{codeOfCall, ResultFits, Live}
 use Rattle.machine.specs.Machine.{Here, Comes, enters, fails, lacks, lackedBy, effectAt, LastWindow}
-use Rattle.calls.specs.Calling.{Holding, Passes, Argued, given, raises, Passed, Enters, Entered}
+use Rattle.starting.specs.Starting.{Holding}
+use Rattle.calls.specs.Calling.{Passes, Argued, given, raises, Passed, Enters, Entered}
 use Rattle.machine.proofs.Agreeing.{SameIn}
 use Rattle.machine.proofs.States.{roomy, depth-is, past}
 use Rattle.machine.proofs.Living.{routine-code, fits-same, live-past}

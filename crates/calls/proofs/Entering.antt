@@ -25,12 +25,13 @@ use Rattle.evaluation.specs.Answers.{callWords}
 use Rattle.reading.specs.Reading.{valueEnd, halfEnd, Part}
 use Rattle.machine.specs.Live.{wordsOfCall, codeOfCall, ResultFits, nowhere, inModule, inCaller, noneFailed, Sane, Waits, Below, Live}
 use Rattle.machine.specs.Machine.{Here, entered, depthLimit}
-use Rattle.calls.specs.Calling.{Holding, Starts, Started, Enters, MayEnter, Entered}
+use Rattle.starting.specs.Starting.{Holding, Starts, Started}
+use Rattle.calls.specs.Calling.{Enters, MayEnter, Entered}
 use Rattle.machine.proofs.Agreeing.{Same, SameIn, set-same}
 use Rattle.machine.proofs.States.{storeWords, Roomy, roomy, entered-state, past, call-waits}
 use Rattle.machine.proofs.Living.{routine-code, fits-same, live-waits, live-past}
-use Rattle.calls.proofs.Writing.{holding-append, holding-same, holding-zeros}
-use Rattle.calls.proofs.Fresh.{FreshIn, call-fresh}
+use Rattle.starting.proofs.Writing.{holding-append, holding-same, holding-zeros}
+use Rattle.starting.proofs.Fresh.{FreshIn, call-fresh}
 use Rattle.machine.proofs.Current as here
 
 -- a result goes to a cell that a word can name

@@ -1,9 +1,5 @@
 pub mod Passing
+pub mod Entering
+pub mod Called
 pub mod CallSteps
 pub mod CallTargets
-pub mod Called
-pub mod DataWords
-pub mod Entering
-pub mod Fresh
-pub mod Returning
-pub mod Writing

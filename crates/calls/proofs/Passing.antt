@@ -14,8 +14,7 @@ use mir.Syntax.{w32, w64}
 use mir.Val.{Fits, SFits, toZ, ofZ}
 use mir.Facts.{toZ-ofZ}
 use mir.ValLaws.{toZ-pos}
-use borrow.Author.Tests.{eq-eqb, ne-eqb, eqb-true, eqb-false}
-use borrow.Author.Tests.{not-true, not-false}
+use borrow.Author.Tests.{eq-eqb, ne-eqb, eqb-true, eqb-false, not-true, not-false}
 use Rattle.laws.proofs.Tests.{test, by-same, false-true}
 use Rattle.paper.specs.Numbers.{Value, error}
 use Rattle.paper.specs.Terms.{Term, Memory, worth}
@@ -30,13 +29,14 @@ use Rattle.evaluation.specs.Answers.{firstError, firstNegative, decoded, Counts
 use Rattle.evaluation.proofs.Numbers.{is-value, is-error}
 use Rattle.evaluation.proofs.Places.{op-in}
 use Rattle.reading.specs.Reading.{halfEnd, Part, Stored}
-use Rattle.calls.specs.Calling.{Holding, Let, Passes, given, raises, Passed}
+use Rattle.starting.specs.Starting.{Holding}
+use Rattle.calls.specs.Calling.{Let, Passes, given, raises, Passed}
 use Rattle.machine.proofs.Actions.{argument-more, argument-last, arguments-some, no-arguments, some-arguments}
 use Rattle.machine.proofs.Agreeing.{set-same, part-same}
 use Rattle.raised.proofs.Raised.{worth-error}
 use Rattle.machine.proofs.Current.{error-is, told-error, told-value}
 use Rattle.machine.proofs.Hops.{hops, hops-on, hops-end, hops-less}
-use Rattle.calls.proofs.Writing.{holding-one}
+use Rattle.starting.proofs.Writing.{holding-one}
 
 -- ---- two numbers in one
 pub packed-is : (low high : ℕ) → low < 65536 → high < 65536 → toZ w64 (low + 65536 * high) ≡ pos (low + 65536 * high)

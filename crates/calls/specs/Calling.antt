@@ -1,68 +1,24 @@
--- Calls and returns: what their parts ask and promise.
+-- Calls: what their parts ask and promise.
 use mathlib.Core.Path.{_≡_}
 use mathlib.Core.Bool.{Bool, true, false}
-use mathlib.Core.List.{List, _∷_, map}
+use mathlib.Core.List.{List, _∷_}
 use mathlib.Core.Option.{some}
-use Prim.Native.Nat.{ℕ, suc, _+_, _*_, _%_, _<_, _≤_}
-use lib.ListN.{length, getD, take, drop, replicate}
+use Prim.Native.Nat.{ℕ, suc, _+_, _*_, _<_, _≤_}
+use lib.ListN.{length, getD}
 use lib.IntN.{ℤ, pos}
-use mir.Syntax.{w32}
-use mir.Val.{toZ}
 use Rattle.paper.specs.Terms.{Term}
 use Rattle.paper.specs.States.{State, Rooms, Effect, failing, withCalls, withValues}
 use Rattle.paper.specs.Running.{codeAt, stepNamed, newCall}
 use Rattle.cells.specs.Words.{wordsOf}
-use Rattle.code.specs.Cells.{opAt, placeAt, valueAt, firstWindow, windowCells}
-use Rattle.code.specs.Steps.{Head, noHead, numbered, parts, aCallTarget, aProcedureCall, aReturn, anEnd, anyArguments}
-use Rattle.code.specs.Holds.{dataIn}
-use Rattle.code.specs.Windows.{stepsCell, writtenCell, usedCell, resultIn, stateIn}
+use Rattle.code.specs.Cells.{opAt, valueAt, firstWindow, windowCells}
+use Rattle.code.specs.Steps.{Head, noHead, numbered, aCallTarget, aProcedureCall, anyArguments}
+use Rattle.code.specs.Windows.{writtenCell, usedCell, resultIn, stateIn}
 use Rattle.evaluation.specs.Answers.{firstError, callWords, Counts, memoryOf, Stores}
 use Rattle.machine.specs.Live.{codeOfCall, ResultFits, Live}
 use Rattle.reading.specs.Reading.{Stored}
 use Rattle.machine.specs.Machine.{Here, Comes, effectAt, entered, depthLimit, LastWindow}
 use Rattle.targets.specs.Targets.{Aims}
-
--- ---- cells that hold numbers
--- The cells from a on hold these numbers.
-abbrev pub Holding : (X : List ℕ) → (a : ℕ) → List ℤ → Type 0
-Holding X a zs = map (toZ w32) (take (length zs) (drop a X)) ≡ zs
-
--- They were written, and no other cell.
-pub record Wrote (before after : List ℕ) (a : ℕ) (zs : List ℤ) : Type 0 where
-  pub long : length after ≡ length before
-  pub holds : Holding (wordsOf after) a zs
-  pub kept : (c : ℕ) → (a ≤ c → c < a + length zs → ⊥) → getD (wordsOf after) c 0 ≡ getD (wordsOf before) c 0
-
-pub record Filled (before after : List ℕ) (at count : ℕ) (v : ℤ) (r : ℕ) : Type 0 where
-  pub wrote : Wrote before after at (replicate count v)
-  pub next : r ≡ at + count
-
--- ---- the words of a new call
--- The FOR variables from a cell on are 0, and so are the cells of their loops; cells before them and behind are as they were.
-pub record Idled (before after : List ℕ) (at fors : ℕ) : Type 0 where
-  pub long : length after ≡ length before
-  pub zeros : (j : ℕ) → j < fors → getD (wordsOf after) (at + j) 0 ≡ 0
-  pub ends : (j : ℕ) → j < fors → getD (wordsOf after) (at + j + 64) 0 ≡ 0
-  pub steps : (j : ℕ) → j < fors → getD (wordsOf after) (at + j + 128) 0 ≡ 0
-  pub below : (c : ℕ) → c < at → getD (wordsOf after) c 0 ≡ getD (wordsOf before) c 0
-  pub above : (c : ℕ) → at + fors + stepsCell ≤ c → getD (wordsOf after) c 0 ≡ getD (wordsOf before) c 0
-
--- The data of a routine begin at a word, and there are cells for them from `at` on.
-pub record Starts (code values : List ℕ) (first at : ℕ) : Type 0 where
-  pub starts : List ℤ
-  pub opens : ℕ
-  pub reads : dataIn (wordsOf code) parts first ≡ some (starts, opens)
-  pub whole : length code % 8 ≡ 0
-  pub room : (at + length starts + placeAt (wordsOf code) opens + stepsCell) * 4 ≤ length values
-
-pub record Started (code before after : List ℕ) (first at : ℕ) : Type 0 where
-  pub long : length after ≡ length before
-  pub is : (starts : List ℤ) (opens : ℕ) → dataIn (wordsOf code) parts first ≡ some (starts, opens) → Holding (wordsOf after) at starts
-  pub idle : (starts : List ℤ) (opens j : ℕ) → dataIn (wordsOf code) parts first ≡ some (starts, opens) → j < placeAt (wordsOf code) opens →
-      (getD (wordsOf after) (at + length starts + j) 0 ≡ 0) × (getD (wordsOf after) (at + length starts + j + 64) 0 ≡ 0) × (getD (wordsOf after) (at + length starts + j + 128) 0 ≡ 0)
-  pub below : (c : ℕ) → c < at → getD (wordsOf after) c 0 ≡ getD (wordsOf before) c 0
-  pub above : (starts : List ℤ) (opens c : ℕ) → dataIn (wordsOf code) parts first ≡ some (starts, opens) → at + length starts + placeAt (wordsOf code) opens + stepsCell ≤ c →
-      getD (wordsOf after) c 0 ≡ getD (wordsOf before) c 0
+use Rattle.starting.specs.Starting.{Holding}
 
 -- ---- arguments
 -- The arguments from `first` on, the first of which ends at `end`. Where there is room, they go to the next window.
@@ -152,15 +108,3 @@ module _ (code values : List ℕ) (base i : ℕ) where
 pub record Deepest (last : ℕ) : Type 0 where
   pub rooms : Rooms
   pub is : LastWindow rooms last
-
--- ---- returns
--- A result goes to the cell that is 1 below, or nowhere.
-pub record Gave (before after : List ℕ) (cell : ℕ) (v : ℤ) : Type 0 where
-  pub long : length after ≡ length before
-  pub stored : (c : ℕ) → cell ≡ suc c → Stored before after c v
-  pub same : cell ≡ 0 → after ≡ before
-
--- The step returns, and gives nothing back.
-pub data Returns (C : List ℕ) (i : ℕ) : Type 0 where
-  byReturn : opAt C i ≡ aReturn → Returns C i
-  byEnd : opAt C i ≡ anEnd → Returns C i

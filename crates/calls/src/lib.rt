@@ -1,4 +1,4 @@
-// Calls and returns.
+// Calls.
 ghost use mathlib.Core.Path.{_≡_};
 ghost use mathlib.Core.Bool.{true};
 ghost use Prim.Native.Nat.{_+_, _*_, _<_, _≤_};
@@ -10,22 +10,17 @@ ghost use mir.Val.{SFits};
 ghost use Rattle.cells.specs.Words.{wordsOf};
 ghost use Rattle.code.specs.Cells.{opAt};
 ghost use Rattle.code.specs.Steps.{aNextArgument, aProcedureCall, aCallTarget};
-ghost use Rattle.code.specs.Windows.{stepsCell};
-ghost use Rattle.machine.specs.Machine.{Here, Performs, Calls, Says};
+ghost use Rattle.machine.specs.Machine.{Here, Calls};
 ghost use Rattle.targets.specs.Targets.{WordAt, ArrayAt};
-ghost use Rattle.calls.specs.Calling.{Filled, Idled, Starts, Started, Let, Passes, Passed, MayEnter, Entered, CallsFor, CalledFor, Deepest, Gave, Returns};
+ghost use Rattle.calls.specs.Calling.{Let, Passes, Passed, MayEnter, Entered, CallsFor, CalledFor, Deepest};
 use evaluation::worth;
 use reading::head;
 use reading::link;
 use reading::place;
 use reading::put;
 use reading::value;
+use starting::start_words;
 use targets::element;
-
-// where the loop of a word of the call ends, and its step, counted from the word's cell
-const ENDS: usize = 64;
-
-const STEPS: usize = 128;
 
 // an answer from here on is an error's
 const FIRST_ERROR: i64 = 4294967296;
@@ -36,16 +31,8 @@ const HALF: usize = 65536;
 // a step of a routine that is entered has this in the half above it
 const ENTERED: usize = 65536;
 
-// the same for a caller's step, and the end of main
-const LEFT: usize = 131072;
-
-const MAIN_RETURNED: i64 = 196609;
-
 // a call beyond the depth has this in the half above its callee
 const LACKS: usize = 262144;
-
-// the window of main
-const FIRST: usize = 1024;
 
 // cells of a window, and some of them
 const WINDOW: usize = 240;
@@ -68,57 +55,6 @@ const OPS: u32 = 256;
 
 // a comma between two arguments
 const NEXT_ARGUMENT: u32 = 159;
-
-// VAR or CONST of a routine
-const DATUM: u32 = 160;
-
-// how far the numbers that a head holds are from those they stand for
-const BIAS: i64 = 8388607;
-
-// ---- the words of a new call
-
-// Makes `count` cells from `at` on hold v: the cell behind them.
-fn fill(values: &mut [u8], at: usize, count: usize, v: i64) -> usize
-    requires { ⌜ ((at + count) * 4 ≤ length (now values)) × SFits w32 v ⌝ }
-    ensures { λ r. ⌜ Filled (now (values .entry)) (now (values .exit)) at count v r ⌝ }
-{
-    let mut k = 0;
-    while k < count {
-        put(values, at + k, v);
-        k += 1;
-    }
-    at + count
-}
-
-// The FOR variables, which begin at a cell: no loop is live.
-fn start_loops(values: &mut [u8], at: usize, fors: usize)
-    requires { ⌜ (at + fors + stepsCell) * 4 ≤ length (now values) ⌝ }
-    ensures { λ _. ⌜ Idled (now (values .entry)) (now (values .exit)) at fors ⌝ }
-{
-    let mut k = 0;
-    while k < fors {
-        put(values, at + k, 0);
-        put(values, at + k + ENDS, 0);
-        put(values, at + k + STEPS, 0);
-        k += 1;
-    }
-}
-
-// The words of a new call behind its arguments: its routine's data, which begin at the word `first`, from a cell on, and its FOR variables.
-pub fn start_words<'a>(code: &'a [u8], values: &'a mut [u8], first: usize, at: usize)
-    requires { ⌜ Starts (now code) (now values) first at ⌝ }
-    ensures { λ _. ⌜ Started (now (code .entry)) (now (values .entry)) (now (values .exit)) first at ⌝ }
-{
-    let mut q = first;
-    let mut n = at;
-    let mut w = head(code, q);
-    while w % OPS == DATUM {
-        n = fill(values, n, place(code, q), (w / OPS) as i64 - BIAS);
-        q = link(code, q);
-        w = head(code, q);
-    }
-    start_loops(values, n, place(code, q));
-}
 
 // ---- arguments
 
@@ -304,45 +240,4 @@ pub fn call_for_element<'a>(
         return call_to(&*code, values, base, last, i, end + 1, k as usize);
     }
     k
-}
-
-// ---- returns
-
-// A result into the cell that is 1 below; 0 is nowhere.
-fn give(values: &mut [u8], cell: usize, v: i64)
-    requires { ⌜ (cell * 4 ≤ length (now values)) × SFits w32 v ⌝ }
-    ensures { λ _. ⌜ Gave (now (values .entry)) (now (values .exit)) cell v ⌝ }
-{
-    if cell != 0 {
-        put(values, cell - 1, v);
-    }
-}
-
-// RETURN with a value, which stands from the next word up to t.
-pub fn give_back<'a>(code: &'a [u8], values: &'a mut [u8], base: usize, i: usize, t: usize) -> i64
-    requires { ⌜ Here (now code) (now values) base i × Says (now code) i 137 t ⌝ }
-    ensures { λ r. ⌜ Performs (now (code .entry)) (now (values .entry)) (now (values .exit)) base i r ⌝ }
-{
-    let v = worth(&*code, &*values, base, i + 1, t);
-    if FIRST_ERROR <= v {
-        return v;
-    }
-    if base == FIRST {
-        return MAIN_RETURNED;
-    }
-    let next = cells::get(values, base - WINDOW + AFTER) as usize;
-    let cell = cells::get(values, base + RESULT) as usize;
-    give(values, cell, v);
-    (LEFT + next) as i64
-}
-
-// A return with nothing: the caller goes on.
-pub fn back<'a>(code: &'a [u8], values: &'a [u8], base: usize, i: usize) -> i64
-    requires { ⌜ Here (now code) (now values) base i × Returns (wordsOf (now code)) i ⌝ }
-    ensures { λ r. ⌜ Performs (now (code .entry)) (now (values .entry)) (now (values .entry)) base i r ⌝ }
-{
-    if base == FIRST {
-        return MAIN_RETURNED;
-    }
-    (LEFT + cells::get(values, base - WINDOW + AFTER) as usize) as i64
 }

@@ -21,12 +21,12 @@ use Rattle.code.specs.Closed.{isNamed}
 use Rattle.code.specs.Holds.{dataIn, HoldsRoutine}
 use Rattle.code.specs.Windows.{endsCell, stepsCell, writtenCell, usedCell, resultIn, callIn, waiting, writtenIn, stateIn}
 use Rattle.machine.specs.Live.{Live, Below, nowhere, noneFailed, codeOfCall}
-use Rattle.calls.specs.Calling.{Holding, Starts, Started}
+use Rattle.starting.specs.Starting.{Holding, Starts, Started}
 use Rattle.runner.specs.Runs.{Begins, MayBegin, Begun}
 use Rattle.machine.proofs.Agreeing.{state-eq}
 use Rattle.machine.proofs.States.{module-same}
-use Rattle.calls.proofs.Writing.{holding-append, holding-zeros}
-use Rattle.calls.proofs.Fresh.{FreshIn, call-fresh}
+use Rattle.starting.proofs.Writing.{holding-append, holding-zeros}
+use Rattle.starting.proofs.Fresh.{FreshIn, call-fresh}
 
 module _ (code values : List ℕ) (h : ℕ) where
   -- ---- what is asked

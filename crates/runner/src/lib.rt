@@ -5,10 +5,10 @@ ghost use lib.ListN.{length};
 ghost use Rattle.cells.specs.Words.{wordsOf};
 ghost use Rattle.code.specs.Cells.{placeAt};
 ghost use Rattle.runner.specs.Runs.{Stops, Stopped, MayBegin, Begun, Begins, Ran};
-use calls::start_words;
 use errors::arise;
 use reading::link;
 use reading::place;
+use starting::start_words;
 use stepping::step;
 
 // the windows of calls, main's first, and the cell that has its routine

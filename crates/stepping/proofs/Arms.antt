@@ -21,7 +21,7 @@ use Rattle.code.specs.Steps.{aTarget, aCallTarget}
 use Rattle.code.specs.Windows.{callIn, waiting}
 use Rattle.machine.specs.Machine.{Here, hands, ends, effectAt, Performs, Calls, Steps, Stepped}
 use Rattle.targets.specs.Targets.{WordAt, ofModuleWord, ofCallWord, ArrayAt, ofModuleArray, ofCallArray}
-use Rattle.calls.specs.Calling.{Returns, byReturn, byEnd}
+use Rattle.returns.specs.Returning.{Returns, byReturn, byEnd}
 use Rattle.output.specs.Output.{countIn, Prints, Writes, Wrote, WroteOf, Reads, WasRead}
 use Rattle.machine.proofs.Actions.{reads-raise, reads-exit, reads-function-end, function-end-function, op-low, op-high}
 use Rattle.machine.proofs.Current as here

@@ -1,10 +1,8 @@
 // One step of the machine, by the op of its word.
 ghost use Rattle.machine.specs.Machine.{Steps, Stepped};
-use calls::back;
 use calls::call_for;
 use calls::call_for_element;
 use calls::call_of;
-use calls::give_back;
 use cases::select;
 use choices::choose;
 use choices::raise;
@@ -18,6 +16,8 @@ use output::read;
 use output::write;
 use output::write_of;
 use reading::head;
+use returns::back;
+use returns::give_back;
 use targets::store;
 use targets::store_element;
 

@@ -30,7 +30,7 @@ use Rattle.reading.specs.Reading.{Stored}
 use Rattle.machine.specs.Live.{wordsOfCall, cellOfCall, codeOfCall, ResultFits, nowhere, inModule, inCaller, Waits, Live}
 use Rattle.machine.specs.Machine.{Here, Comes, leaves, ends, effectAt, Performs, Says}
 use Rattle.targets.specs.Targets.{refCell, RefFits}
-use Rattle.calls.specs.Calling.{Gave, Returns, byReturn, byEnd}
+use Rattle.returns.specs.Returning.{Gave, Returns, byReturn, byEnd}
 use Rattle.machine.proofs.Actions.{reads-return-of, reads-return, reads-end, end-function}
 use Rattle.machine.proofs.Actions as reads
 use Rattle.machine.proofs.Current as here

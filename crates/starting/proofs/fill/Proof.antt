@@ -2,9 +2,9 @@ use borrow.Author.Needs.{needs}
 use Prim.Native.Nat.{_-_}
 use mir.Syntax.{w64}
 use mir.Val.{toZ}
-use Rattle.calls.proofs.Writing.{Filling, fill-start, fill-inside, fill-on, fill-end, filled-read}
-use Rattle.calls.proofs.fill.Statement.{statement}
-use Rattle.calls.proofs.fill.Tie as tie
+use Rattle.starting.proofs.Writing.{Filling, fill-start, fill-inside, fill-on, fill-end, filled-read}
+use Rattle.starting.proofs.fill.Statement.{statement}
+use Rattle.starting.proofs.fill.Tie as tie
 
 abbrev Inv-loop : tie.InvT-loop
 Inv-loop values₀ at count v k₀ values k = Filling values₀ values at count (toZ w64 v) k

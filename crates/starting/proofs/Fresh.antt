@@ -15,7 +15,7 @@ use Rattle.code.specs.Steps.{Head, numbered}
 use Rattle.code.specs.Holds.{optionally}
 use Rattle.code.specs.Windows.{endsCell, stepsCell, routineCell, failedCell, resultCell, resultIn, loopsFrom, callIn}
 use Rattle.machine.specs.Live.{wordsOfCall}
-use Rattle.calls.specs.Calling.{Holding}
+use Rattle.starting.specs.Starting.{Holding}
 use Rattle.machine.proofs.Agreeing.{call-eq, result-any}
 
 module _ (P : Program) (R : List Head) where

@@ -1,8 +1,8 @@
 use borrow.Author.Needs.{needs}
 use Prim.Native.Nat.{_-_}
-use Rattle.calls.proofs.Writing.{Idling, idle-start, idle-inside, idle-inside-ends, idle-inside-steps, idle-on, idle-end}
-use Rattle.calls.proofs.start_loops.Statement.{statement}
-use Rattle.calls.proofs.start_loops.Tie as tie
+use Rattle.starting.proofs.Writing.{Idling, idle-start, idle-inside, idle-inside-ends, idle-inside-steps, idle-on, idle-end}
+use Rattle.starting.proofs.start_loops.Statement.{statement}
+use Rattle.starting.proofs.start_loops.Tie as tie
 
 abbrev Inv-loop : tie.InvT-loop
 Inv-loop values₀ at fors k₀ values k = Idling values₀ values at fors k

@@ -1,7 +1,7 @@
 use borrow.Author.Needs.{needs}
-use Rattle.calls.proofs.Returning.{gave-stored, gave-nothing}
-use Rattle.calls.proofs.give.Statement.{statement}
-use Rattle.calls.proofs.give.Tie as tie
+use Rattle.returns.proofs.Returning.{gave-stored, gave-nothing}
+use Rattle.returns.proofs.give.Statement.{statement}
+use Rattle.returns.proofs.give.Tie as tie
 
 sub-put : tie.Need-sub-put
 sub-put c = search needs

@@ -25,10 +25,10 @@ use Rattle.code.specs.Windows.{stepsCell}
 use Rattle.code.proofs.Options.{none-some, same-some, went}
 use Rattle.evaluation.proofs.Places.{op-in}
 use Rattle.reading.specs.Reading.{halfEnd, Part, cellValues}
-use Rattle.calls.specs.Calling.{Holding, Wrote, Filled, Idled, Starts, Started}
+use Rattle.starting.specs.Starting.{Holding, Wrote, Filled, Idled, Starts, Started}
 use Rattle.machine.proofs.Actions.{first-is, second-is}
 use Rattle.machine.proofs.Hops.{hops, hops-on, hops-end, hops-less}
-use Rattle.calls.proofs.Writing.{wrote-none, wrote-more, holding-same}
+use Rattle.starting.proofs.Writing.{wrote-none, wrote-more, holding-same}
 
 -- ---- what a datum's word says
 module _ (C : List ℕ) where

@@ -16,7 +16,7 @@ use Rattle.cells.proofs.Laws.{length-words}
 use Rattle.numbers.proofs.Whole.{read}
 use Rattle.code.specs.Windows.{stepsCell}
 use Rattle.reading.specs.Reading.{Stored}
-use Rattle.calls.specs.Calling.{Holding, Wrote, Filled, Idled}
+use Rattle.starting.specs.Starting.{Holding, Wrote, Filled, Idled}
 use Rattle.machine.proofs.Agreeing.{SameIn, set-same, part-same}
 
 -- ---- numbers in cells

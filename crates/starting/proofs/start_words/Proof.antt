@@ -1,8 +1,8 @@
 use borrow.Author.Needs.{needs}
 use Rattle.cells.specs.Words.{wordsOf}
-use Rattle.calls.proofs.DataWords.{Starting, dataLeft, starts-in, starts-begin, datum-in, number-fits, number-small, datum-room, datum-next, datum-less, datum-on, fors-room, started}
-use Rattle.calls.proofs.start_words.Statement.{statement}
-use Rattle.calls.proofs.start_words.Tie as tie
+use Rattle.starting.proofs.DataWords.{Starting, dataLeft, starts-in, starts-begin, datum-in, number-fits, number-small, datum-room, datum-next, datum-less, datum-on, fors-room, started}
+use Rattle.starting.proofs.start_words.Statement.{statement}
+use Rattle.starting.proofs.start_words.Tie as tie
 
 abbrev Inv-loop : tie.InvT-loop
 Inv-loop code values₀ first at q₀ n₀ w₀ values q n w = Starting code values₀ values first at q n w

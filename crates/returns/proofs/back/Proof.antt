@@ -1,7 +1,7 @@
 use borrow.Author.Needs.{needs}
-use Rattle.calls.proofs.Returning.{back-main, back-caller}
-use Rattle.calls.proofs.back.Statement.{statement}
-use Rattle.calls.proofs.back.Tie as tie
+use Rattle.returns.proofs.Returning.{back-main, back-caller}
+use Rattle.returns.proofs.back.Statement.{statement}
+use Rattle.returns.proofs.back.Tie as tie
 
 returns : tie.Need-returns
 returns c = search (needs, back-main)

@@ -1,9 +1,9 @@
 use borrow.Author.Needs.{needs}
 use Rattle.targets.proofs.StoreSteps.{after-fits}
 use Rattle.machine.proofs.Current.{stores-here}
-use Rattle.calls.proofs.Returning.{return-stands, return-fails, return-main, return-inside, return-small, return-done}
-use Rattle.calls.proofs.give_back.Statement.{statement}
-use Rattle.calls.proofs.give_back.Tie as tie
+use Rattle.returns.proofs.Returning.{return-stands, return-fails, return-main, return-inside, return-small, return-done}
+use Rattle.returns.proofs.give_back.Statement.{statement}
+use Rattle.returns.proofs.give_back.Tie as tie
 
 add-worth : tie.Need-add-worth
 add-worth c = search (needs, after-fits)

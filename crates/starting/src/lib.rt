@@ -1,0 +1,68 @@
+// The words of a new call: its data and its FOR variables.
+ghost use Prim.Native.Nat.{_+_, _*_, _≤_};
+ghost use lib.ListN.{length};
+ghost use mir.Syntax.{w32};
+ghost use mir.Val.{SFits};
+ghost use Rattle.code.specs.Windows.{stepsCell};
+ghost use Rattle.starting.specs.Starting.{Filled, Idled, Starts, Started};
+use reading::head;
+use reading::link;
+use reading::place;
+use reading::put;
+
+// where the loop of a word of the call ends, and its step, counted from the word's cell
+const ENDS: usize = 64;
+
+const STEPS: usize = 128;
+
+// a head has its value above its op
+const OPS: u32 = 256;
+
+// VAR or CONST of a routine
+const DATUM: u32 = 160;
+
+// how far the numbers that a head holds are from those they stand for
+const BIAS: i64 = 8388607;
+
+// Makes `count` cells from `at` on hold v: the cell behind them.
+fn fill(values: &mut [u8], at: usize, count: usize, v: i64) -> usize
+    requires { ⌜ ((at + count) * 4 ≤ length (now values)) × SFits w32 v ⌝ }
+    ensures { λ r. ⌜ Filled (now (values .entry)) (now (values .exit)) at count v r ⌝ }
+{
+    let mut k = 0;
+    while k < count {
+        put(values, at + k, v);
+        k += 1;
+    }
+    at + count
+}
+
+// The FOR variables, which begin at a cell: no loop is live.
+fn start_loops(values: &mut [u8], at: usize, fors: usize)
+    requires { ⌜ (at + fors + stepsCell) * 4 ≤ length (now values) ⌝ }
+    ensures { λ _. ⌜ Idled (now (values .entry)) (now (values .exit)) at fors ⌝ }
+{
+    let mut k = 0;
+    while k < fors {
+        put(values, at + k, 0);
+        put(values, at + k + ENDS, 0);
+        put(values, at + k + STEPS, 0);
+        k += 1;
+    }
+}
+
+// The words of a new call behind its arguments: its routine's data, which begin at the word `first`, from a cell on, and its FOR variables.
+pub fn start_words<'a>(code: &'a [u8], values: &'a mut [u8], first: usize, at: usize)
+    requires { ⌜ Starts (now code) (now values) first at ⌝ }
+    ensures { λ _. ⌜ Started (now (code .entry)) (now (values .entry)) (now (values .exit)) first at ⌝ }
+{
+    let mut q = first;
+    let mut n = at;
+    let mut w = head(code, q);
+    while w % OPS == DATUM {
+        n = fill(values, n, place(code, q), (w / OPS) as i64 - BIAS);
+        q = link(code, q);
+        w = head(code, q);
+    }
+    start_loops(values, n, place(code, q));
+}
