@@ -1,3 +1,2 @@
-pub mod Following
-pub mod Resuming
+pub mod Cases
 pub mod Unwinding

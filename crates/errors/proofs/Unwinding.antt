@@ -36,7 +36,7 @@ use Rattle.errors.specs.Errors.{HasRoutine, handlerAt, Seeks, Nearest, T
 use Rattle.machine.proofs.States.{roomy, goes-to, call-failed, errno-cell}
 use Rattle.machine.proofs.Living.{live-next, live-left, live-failed, live-errno}
 use Rattle.machine.proofs.Current.{codeHere, routine-holds, small-name}
-use Rattle.errors.proofs.Resuming.{none-case, some-case, positive}
+use Rattle.errors.proofs.Cases.{none-case, some-case, positive}
 
 -- ---- a call's routine
 module _ (code values : List ℕ) (base i : ℕ) (h : Here code values base i) where

@@ -1,14 +1,7 @@
-// Errors: which call takes one, and how a run goes on after it.
+// Errors: which call takes one.
 ghost use mathlib.Core.Path.{_≡_};
-ghost use Prim.Native.Nat.{_+_, _*_, _≤_};
-ghost use lib.ListN.{length};
-ghost use Rattle.cells.specs.Words.{wordsOf};
-ghost use Rattle.code.specs.Cells.{opAt};
-ghost use Rattle.code.specs.Steps.{aRetry, aTryNext};
-ghost use Rattle.code.specs.Windows.{failedCell};
-ghost use Rattle.machine.specs.Machine.{Here, Performs};
-ghost use Rattle.errors.specs.Errors.{Closes, Closing, StepAt, After, Forgot, HasRoutine, handlerAt, Nearest, Unwound, Raises, Arisen};
-use reading::head;
+ghost use Rattle.machine.specs.Machine.{Here};
+ghost use Rattle.errors.specs.Errors.{HasRoutine, handlerAt, Nearest, Unwound, Raises, Arisen};
 use reading::link;
 
 // an error's answer is above all others
@@ -30,84 +23,11 @@ const FAILED: usize = 195;
 
 const ERRNO: usize = 1263;
 
-// a comma between two arguments
-const NEXT_ARGUMENT: u32 = 159;
-
-// a FOR test's value has its FOR above the variable's word
-const FORS: u32 = 65536;
-
 // The step that takes an error, 0 where the run dies of it, and the window of its call.
 pub struct Taken {
     pub next: usize,
     pub base: usize,
 }
-
-// ---- RETRY and TRYNEXT
-
-// The word that closes the arguments from `first` on, the first of which ends at `end`.
-fn closing(code: &[u8], first: usize, end: usize) -> usize
-    requires { ⌜ Closes (now code) first end ⌝ }
-    ensures { λ r. ⌜ Closing (now (code .entry)) first end r ⌝ }
-{
-    if first == end {
-        return end;
-    }
-    let mut b = end;
-    while head(code, b) % 256 == NEXT_ARGUMENT {
-        b = link(code, b);
-    }
-    b
-}
-
-// The step after a step's statement. A procedure call has it in the word that closes it, a later FOR test in its FOR; the end of a list is its own.
-fn after(code: &[u8], i: usize) -> usize
-    requires { ⌜ StepAt (now code) i ⌝ }
-    ensures { λ r. ⌜ After (now (code .entry)) i r ⌝ }
-{
-    let w = head(code, i);
-    let op = w % 256;
-    match op {
-        136 => link(code, closing(code, i + 1, link(code, i))),
-        151 => link(code, (w / FORS) as usize),
-        153 => i,
-        154 => i,
-        _ => link(code, i),
-    }
-}
-
-// The failed step of a call, which is in its ERROR list no more.
-fn forget(values: &mut [u8], base: usize) -> usize
-    requires { ⌜ (base + failedCell) * 4 + 4 ≤ length (now values) ⌝ }
-    ensures { λ r. ⌜ Forgot (now (values .entry)) (now (values .exit)) base r ⌝ }
-{
-    let f = cells::get(values, base + FAILED);
-    cells::put(values, base + FAILED, 0);
-    f as usize
-}
-
-pub fn retry<'a>(code: &'a [u8], values: &'a mut [u8], base: usize, i: usize) -> i64
-    requires { ⌜ Here (now code) (now values) base i × (opAt (wordsOf (now code)) i ≡ aRetry) ⌝ }
-    ensures { λ r. ⌜ Performs (now (code .entry)) (now (values .entry)) (now (values .exit)) base i r ⌝ }
-{
-    let f = forget(values, base);
-    if f == 0 {
-        return i as i64;
-    }
-    f as i64
-}
-
-pub fn try_next<'a>(code: &'a [u8], values: &'a mut [u8], base: usize, i: usize) -> i64
-    requires { ⌜ Here (now code) (now values) base i × (opAt (wordsOf (now code)) i ≡ aTryNext) ⌝ }
-    ensures { λ r. ⌜ Performs (now (code .entry)) (now (values .entry)) (now (values .exit)) base i r ⌝ }
-{
-    let f = forget(values, base);
-    if f == 0 {
-        return i as i64;
-    }
-    after(code, f) as i64
-}
-
-// ---- an error
 
 // Where the ERROR list begins of the call with its window at b, or 0.
 fn handler<'a>(code: &'a [u8], values: &'a [u8], b: usize) -> usize

@@ -1,5 +1,7 @@
 // One step of the machine, by the op of its word.
 ghost use Rattle.machine.specs.Machine.{Steps, Stepped};
+use assignments::store;
+use assignments::store_element;
 use calls::call_for;
 use calls::call_for_element;
 use calls::call_of;
@@ -8,18 +10,16 @@ use choices::choose;
 use choices::raise;
 use choices::test_if;
 use choices::test_while;
-use errors::retry;
-use errors::try_next;
 use loops::enter_for;
 use loops::for_test;
 use output::read;
 use output::write;
 use output::write_of;
 use reading::head;
+use resuming::retry;
+use resuming::try_next;
 use returns::back;
 use returns::give_back;
-use targets::store;
-use targets::store_element;
 
 // a head has its value above its op
 const OPS: u32 = 256;

@@ -1,7 +1,7 @@
 use borrow.Author.Needs.{needs}
-use Rattle.errors.proofs.Resuming.{answer-fits, step-fits, next-low, failed-step, try-none, try-again}
-use Rattle.errors.proofs.try_next.Statement.{statement}
-use Rattle.errors.proofs.try_next.Tie as tie
+use Rattle.resuming.proofs.Resuming.{answer-fits, step-fits, next-low, failed-step, try-none, try-again}
+use Rattle.resuming.proofs.try_next.Statement.{statement}
+use Rattle.resuming.proofs.try_next.Tie as tie
 
 forget-requires : tie.Need-forget-requires
 forget-requires c κs = search needs

@@ -13,8 +13,8 @@ use Rattle.code.specs.Cells.{headAt, opAt, valueAt, linkAt}
 use Rattle.code.specs.Steps.{Head, argumentsIn}
 use Rattle.code.proofs.Spanning.{span-grows}
 use Rattle.evaluation.proofs.Places.{op-in, link-in}
-use Rattle.errors.specs.Errors.{Closes, Closing, StepAt, After}
-use Rattle.machine.proofs.Actions
+use Rattle.resuming.specs.Resuming.{Closes, Closing, StepAt, After}
+use Rattle.machine.proofs.Actions as Actions
 
 -- ---- the word that closes arguments
 -- the arguments from some word on, of which the first ends at b, are closed by the same word

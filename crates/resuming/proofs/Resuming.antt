@@ -2,8 +2,8 @@
 use mathlib.Core.Path.{_≡_, refl, sym, ap, subst, _∙_}
 use mathlib.Core.Bool.{true}
 use mathlib.Core.List.{List, _∷_}
-use mathlib.Core.Option.{Option, none, some}
-use Prim.Native.Nat.{ℕ, zero, suc, _+_, _<_}
+use mathlib.Core.Option.{none, some}
+use Prim.Native.Nat.{ℕ, _+_, _<_}
 use native.Mathlib.Omega.{arith}
 use lib.ListN.{length, getD, set}
 use lib.Seq.{getD-set-other, set-getD}
@@ -20,14 +20,15 @@ use Rattle.code.specs.Cells.{windowOf, opAt}
 use Rattle.code.specs.Closed.{isNamed}
 use Rattle.code.specs.Holds.{optionally}
 use Rattle.code.specs.Windows.{failedCell, callIn, waiting, stateIn}
-use Rattle.code.proofs.Options.{none-some, same-some}
 use Rattle.machine.specs.Live.{Live, FailedFits, noneFailed, hasFailed}
 use Rattle.machine.specs.Machine.{Here, Comes, goesOn, Performs, effectAt}
-use Rattle.errors.specs.Errors.{StepAt, After, Forgot, KeepsRun}
+use Rattle.resuming.specs.Resuming.{StepAt, After, Forgot}
+use Rattle.errors.specs.Errors.{KeepsRun}
 use Rattle.machine.proofs.States.{roomy, goes-to, call-failed}
 use Rattle.machine.proofs.Living.{live-next, live-failed}
-use Rattle.machine.proofs.Actions
+use Rattle.machine.proofs.Actions as Actions
 use Rattle.machine.proofs.Current.{codeHere, stepHere, action-here, effect-here, small-name, named-after}
+use Rattle.errors.proofs.Cases.{none-case, some-case, positive}
 
 -- ---- answers
 pub answer-fits : (n : ℕ) → n < 8192 → SFits w64 (pos n)
@@ -58,21 +59,6 @@ module _ (code values : List ℕ) (base i : ℕ) (h : Here code values base i) w
     base-is = h .base-is;
     live = live-next (h .P) (h .R) (wordsOf values) (h .d) i n (h .live) e;
   }
-
--- a choice by what may be missing
-pub none-case : {A B : Type 0} (o : Option A) (a : B) (b : A → B) → o ≡ none → (elim o as (λ _. B) [ none ↦ a | some f ↦ b f ]) ≡ a
-none-case none a b e = refl
-none-case (some f) a b e = none-some f (sym e)
-
-pub some-case : {A B : Type 0} (o : Option A) (f : A) (a : B) (b : A → B) → o ≡ some f → (elim o as (λ _. B) [ none ↦ a | some f ↦ b f ]) ≡ b f
-some-case none f a b e = none-some f e
-some-case (some g) f a b e = ap b (same-some g f e)
-
--- a name of a step is no 0
-pub positive : (f : ℕ) → (f ≡ 0 → ⊥) → optionally f ≡ some f
-unfolding optionally
-positive zero d = absurd (d refl)
-positive (suc f) d = refl
 
 -- ---- the failed step
 module _ (code values after : List ℕ) (base i f : ℕ) (g : Forgot values after base f) (h : Here code values base i) where

@@ -1,8 +1,8 @@
 use Prim.Native.Nat.{_-_}
 use borrow.Author.Needs.{needs}
-use Rattle.errors.proofs.Following.{Closed, closed-none, closed-start, closed-in, closed-less, closed-next, closed-end}
-use Rattle.errors.proofs.closing.Statement.{statement}
-use Rattle.errors.proofs.closing.Tie as tie
+use Rattle.resuming.proofs.Following.{Closed, closed-none, closed-start, closed-in, closed-less, closed-next, closed-end}
+use Rattle.resuming.proofs.closing.Statement.{statement}
+use Rattle.resuming.proofs.closing.Tie as tie
 
 abbrev Inv-loop : tie.InvT-loop
 Inv-loop code first end b₀ b = Closed code first end b

@@ -1,7 +1,7 @@
 use borrow.Author.Needs.{needs}
-use Rattle.errors.proofs.Resuming.{answer-fits, step-fits, failed-low, retry-none, retry-again}
-use Rattle.errors.proofs.retry.Statement.{statement}
-use Rattle.errors.proofs.retry.Tie as tie
+use Rattle.resuming.proofs.Resuming.{answer-fits, step-fits, failed-low, retry-none, retry-again}
+use Rattle.resuming.proofs.retry.Statement.{statement}
+use Rattle.resuming.proofs.retry.Tie as tie
 
 forget-requires : tie.Need-forget-requires
 forget-requires c κs = search needs

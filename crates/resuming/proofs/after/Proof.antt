@@ -1,7 +1,7 @@
 use borrow.Author.Needs.{needs}
-use Rattle.errors.proofs.Following.{step-in, step-small, call-closes, call-in, call-after, for-in, for-after, end-after, function-end-after, plain-after}
-use Rattle.errors.proofs.after.Statement.{statement}
-use Rattle.errors.proofs.after.Tie as tie
+use Rattle.resuming.proofs.Following.{step-in, step-small, call-closes, call-in, call-after, for-in, for-after, end-after, function-end-after, plain-after}
+use Rattle.resuming.proofs.after.Statement.{statement}
+use Rattle.resuming.proofs.after.Tie as tie
 
 head-requires : tie.Need-head-requires
 head-requires c κs = search (needs, step-in)
