@@ -1,9 +1,9 @@
 // The checker's third pass: what is known before its declaration. Names of module data are to come; each routine's first word has how many parameters it has, its
 // types are marked where they are not asked, and its name means it.
-use load::spelling::same;
 use names::MEANINGS;
 use names::VALUE;
 use sorts::*;
+use spelling::same;
 use store::set_value;
 use store::sort;
 ghost use mathlib.Core.Path.{_≡_};

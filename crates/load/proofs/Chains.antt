@@ -15,10 +15,10 @@ use Rattle.paper.specs.Names.{Text, nth, sortIn, spelled}
 use Rattle.words.proofs.Places.{Lies, lies-is}
 use Rattle.names.specs.Numbers.{firstNamed, numberOf, IsName}
 use Rattle.names.proofs.Spellings.{name-inside, first-found, same-texts, differing}
-use Rattle.load.specs.Hash.{hashOf}
+use Rattle.spelling.specs.Hash.{hashOf}
 use Rattle.load.specs.Layout.{headValue, isFirst, opens, latest, knownAs, wordsIn, Chain, Finds}
-use Rattle.load.proofs.Letters.{sameNames}
-use Rattle.load.proofs.Hashing.{hash-folded}
+use Rattle.spelling.proofs.Letters.{sameNames}
+use Rattle.spelling.proofs.Hashing.{hash-folded}
 use Rattle.load.proofs.Bounds.{text-short, reading-good}
 
 -- ---- first names

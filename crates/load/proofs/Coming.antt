@@ -20,9 +20,9 @@ use Rattle.names.specs.Promises.{storeBytes}
 use Rattle.store.specs.Promises.{tailWith, Rewritten}
 use Rattle.names.proofs.Spellings.{name-inside, number-most}
 use Rattle.store.proofs.Rewriting.{rewritten-length, rewritten-drop}
-use Rattle.load.specs.Hash.{hashOf}
+use Rattle.spelling.specs.Hash.{hashOf}
 use Rattle.load.specs.Layout.{headValue, headOf, isFirst, latest, knownAs, firstBucket, Written, wordsIn, Loading, Keeping, Goes, Comes, valueOf, NameComes, Chain, Finds}
-use Rattle.load.proofs.Hashing.{hash-folded}
+use Rattle.spelling.proofs.Hashing.{hash-folded}
 use Rattle.load.proofs.Bounds.{reading-good}
 use Rattle.load.proofs.Chains.{latest-most, latest-itself, known-some, known-zero, known-latest}
 use Rattle.load.proofs.Filling.{written-on, tabled-same, tabled-new}

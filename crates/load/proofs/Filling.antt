@@ -17,7 +17,7 @@ use Rattle.names.specs.Meanings.{protectedCell, firstMeaning}
 use Rattle.names.specs.Promises.{storeBytes, numberLimit}
 use Rattle.store.specs.Promises.{tailWith, Rewritten}
 use Rattle.store.proofs.Rewriting.{rewritten-head, rewritten-tail, rewritten-heads, rewritten-tails}
-use Rattle.load.specs.Hash.{buckets, hashOf}
+use Rattle.spelling.specs.Hash.{buckets, hashOf}
 use Rattle.load.specs.Layout.{headOf, isFirst, firstCell, opens, latest, firstBucket, Written, Tabled}
 
 -- ---- the code store

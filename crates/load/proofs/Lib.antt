@@ -1,7 +1,3 @@
-pub mod Letters
-pub mod Fronts
-pub mod Hashing
-pub mod Protected
 pub mod Bounds
 pub mod Chains
 pub mod Filling

@@ -13,7 +13,7 @@ use Rattle.names.specs.Meanings.{firstMeaning}
 use Rattle.load.specs.declared.Loaded.{Loaded}
 use Rattle.load.specs.Layout.{wordsIn}
 use Rattle.load.specs.Loads.{Ready, Loads}
-use Rattle.load.proofs.Fronts.{front-bytes}
+use Rattle.spelling.proofs.Fronts.{front-bytes}
 
 -- two stores of the same words in front, and the same bytes behind
 pub same-store : (n : ℕ) (v w : List ℕ) → Bytes v → Bytes w → length v ≡ length w → n * 4 ≤ length v → ((k : ℕ) → k < n → getD (wordsOf v) k 0 ≡ getD (wordsOf w) k 0) → drop (n * 4) v ≡ drop (n * 4) w → v ≡ w

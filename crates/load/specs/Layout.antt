@@ -16,13 +16,7 @@ use Rattle.words.specs.Answers.{wordOf}
 use Rattle.names.specs.Numbers.{firstNamed, numberOf, IsName}
 use Rattle.names.specs.Meanings.{protectedCell, firstMeaning}
 use Rattle.names.specs.Promises.{storeBytes, numberLimit}
-use Rattle.load.specs.Hash.{buckets, hashOf}
-
--- ---- texts
--- So many fours of bytes, from the front on, are equal, as words of 32 bits.
-pub record Fours (a b : List ℕ) (r : ℕ) : Type 0 where
-  pub inside : r * 4 ≤ length a
-  pub same : take r (wordsOf a) ≡ take r (wordsOf b)
+use Rattle.spelling.specs.Hash.{buckets, hashOf}
 
 -- ---- heads
 -- The value in a word's head: of a name its number, and its length above it; of a string its length; of a number its value, and 0 of any other.

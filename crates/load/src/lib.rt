@@ -1,6 +1,4 @@
 // The checker's first pass: the words of a text go into the code store, two cells each, and names get their numbers.
-pub mod spelling;
-
 use names::MEANINGS;
 use names::VALUE;
 use spelling::hash;

@@ -1,0 +1,4 @@
+pub mod Letters
+pub mod Fronts
+pub mod Hashing
+pub mod ProtectedNames
