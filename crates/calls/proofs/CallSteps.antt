@@ -264,10 +264,10 @@ module _ (code values : List ℕ) (base i : ℕ) where
     pub to-first : Fits w64 (next + 3)
     to-first = record { fits = omega (arith, callee-at, cf .here .code-size) }
 
-    pub to-cell : Fits w64 (cell + 1)
+    pub to-cell : cell < 1048576
     to-cell =
         let a = cf .aims (cf .here) in
-        record { fits = omega (arith, a .cell-is, cf .here .base-is, cf .here .deep, cell-most (length (cf .here .P .words)) (wordsOfCall (codeOfCall (cf .here .P) (cf .here .R) (wordsOf values) (cf .here .d))) base (a .w) 1 (a .fits) (cf .here .holds .room) (here.routine-holds code values base i (cf .here) .room)) }
+        omega (arith, a .cell-is, cf .here .base-is, cf .here .deep, cell-most (length (cf .here .P .words)) (wordsOfCall (codeOfCall (cf .here .P) (cf .here .R) (wordsOf values) (cf .here .d))) base (a .w) 1 (a .fits) (cf .here .holds .room) (here.routine-holds code values base i (cf .here) .room))
 
     pub to-may : MayCall code values base i last (next + 1) (next + 3) (cell + 1)
     to-may = record { here = cf .here; deepest = cf .deepest; calls = λ h. for-calling next cell (cf .low) (cf .high) h (cf .aims h) }

@@ -1,11 +1,12 @@
 use borrow.Author.Needs.{needs}
-use Rattle.targets.proofs.StoreSteps.{after-fits}
+use native.Mathlib.Omega.{arith}
+use Rattle.machine.proofs.Current.{step-in}
 use Rattle.calls.proofs.CallSteps.{of-may}
 use Rattle.calls.proofs.call_of.Statement.{statement}
 use Rattle.calls.proofs.call_of.Tie as tie
 
 add-call : tie.Need-add-call
-add-call c = search (needs, after-fits)
+add-call c = omega (arith, step-in _ _ _ _ (c .before .before .before .pre .0), c .before .before .before .pre .0 .code-size)
 
 call-requires : tie.Need-call-requires
 call-requires c κs = search (needs, of-may)

@@ -1,4 +1,5 @@
 use borrow.Author.Needs.{needs}
+use native.Mathlib.Omega.{arith}
 use Rattle.calls.proofs.CallSteps.{to-callee, to-first, to-cell, to-may}
 use Rattle.calls.proofs.call_to.Statement.{statement}
 use Rattle.calls.proofs.call_to.Tie as tie
@@ -10,7 +11,7 @@ add-call-2 : tie.Need-add-call-2
 add-call-2 c = search (needs, to-first)
 
 add-call-3 : tie.Need-add-call-3
-add-call-3 c = search (needs, to-cell)
+add-call-3 c = omega (arith, to-cell _ _ _ _ _ _ _ (c .before .before .before .pre))
 
 call-requires : tie.Need-call-requires
 call-requires c κs = search (needs, to-may)
