@@ -23,7 +23,7 @@ use Rattle.evaluation.specs.Answers.{firstError}
 use Rattle.reading.specs.Reading.{halfEnd, Part}
 use Rattle.machine.specs.Machine.{Here, effectAt, Calls}
 use Rattle.targets.specs.Targets.{Indexes, Found, WordAt, ofModuleWord, ofCallWord, ArrayAt, ofModuleArray, ofCallArray, Aims}
-use Rattle.calls.specs.Calling.{CallsFor, CalledFor, Deepest}
+use Rattle.calls.specs.Calling.{Deepest, CallsFor}
 use Rattle.machine.proofs.Current as here
 use Rattle.targets.proofs.StoreSteps.{word-aims, brace-inside, element-indexes, element-aims, element-signed, element-small, element-fails}
 use Rattle.calls.proofs.CallSteps.{for-read}
@@ -43,10 +43,7 @@ module _ (code values : List ℕ) (base last i : ℕ) (dp : Deepest last) where
     aims-word h = let g = for-read code values base i h (word-low w) (word-high w) in word-aims code values base i h aCallTarget (g .s) (g .j) (g .target) cell w
 
     pub word-calls : Here code values base i → CallsFor code values base i last (i + 1) cell
-    word-calls h = record { here = h; rooms = dp .rooms; deepest = dp .is; low = word-low w; high = word-high w; aims = aims-word h }
-
-    pub word-called : (after : List ℕ) (r : ℤ) → SFits w64 r → CalledFor code values base i last (i + 1) cell after r → Calls code values after base last i (read r)
-    word-called after r s c = rw (toZ-ofZ s) (record { long = c .long; kept = c .kept; does = λ h rooms lw steps out. c .does h (aims-word h) rooms lw steps out })
+    word-calls h = record { here = h; deepest = dp; low = word-low w; high = word-high w; aims = aims-word }
 
   -- ---- an element
   module _ (first size : ℕ) (a : ArrayAt (wordsOf code) base aCallTarget i first size) where
@@ -86,10 +83,7 @@ module _ (code values : List ℕ) (base last i : ℕ) (dp : Deepest last) where
               rw (toZ-ofZ s) (record { fits = omega (arith, element-small code values base i h aCallTarget (g .s) (g .j) (g .target) first size a end p k f less) })
 
           pub element-calls : Here code values base i → CallsFor code values base i last (end + 1) (natAbs (read k))
-          element-calls h = record { here = h; rooms = dp .rooms; deepest = dp .is; low = array-low a; high = array-high a; aims = aims-element h }
-
-          pub element-called : (after : List ℕ) (r : ℤ) → SFits w64 r → CalledFor code values base i last (end + 1) (natAbs (read k)) after r → Calls code values after base last i (read r)
-          element-called after r u c = rw (toZ-ofZ u) (record { long = c .long; kept = c .kept; does = λ h rooms lw steps out. c .does h (aims-element h) rooms lw steps out })
+          element-calls h = record { here = h; deepest = dp; low = array-low a; high = array-high a; aims = aims-element }
 
         pub element-refused : ltZ (read k) (pos firstError) ≡ false → Calls code values values base last i (read k)
         unfolding perform

@@ -20,15 +20,15 @@ use Rattle.paper.specs.Steps.{Code}
 use Rattle.paper.specs.Running.{codeAt, stepNamed, newCall, calling}
 use Rattle.cells.specs.Words.{wordsOf}
 use Rattle.cells.proofs.Laws.{length-words}
-use Rattle.code.specs.Cells.{placeAt, valueAt, windowOf, windowCells}
-use Rattle.code.specs.Steps.{noHead, numbered, anyArguments}
-use Rattle.code.specs.Windows.{routineCell, resultIn, stateIn}
+use Rattle.code.specs.Cells.{windowOf, windowCells}
+use Rattle.code.specs.Steps.{noHead}
+use Rattle.code.specs.Windows.{routineCell, stateIn}
 use Rattle.evaluation.specs.Answers.{firstError, callWords, Counts}
 use Rattle.evaluation.specs.Answers as answers
-use Rattle.machine.specs.Live.{codeOfCall, ResultFits, Live}
+use Rattle.machine.specs.Live.{codeOfCall, Live}
 use Rattle.machine.specs.Machine.{Here, Comes, enters, fails, lacks, lackedBy, effectAt, LastWindow}
 use Rattle.starting.specs.Starting.{Holding}
-use Rattle.calls.specs.Calling.{Passes, Argued, given, raises, Passed, Enters, Entered}
+use Rattle.calls.specs.Calling.{Passes, Argued, given, raises, Passed, Enters, Entered, Calling}
 use Rattle.machine.proofs.Agreeing.{SameIn}
 use Rattle.machine.proofs.States.{roomy, depth-is, past}
 use Rattle.machine.proofs.Living.{routine-code, fits-same, live-past}
@@ -65,27 +65,10 @@ module _ (c : Counts) (values after : List ℕ) (base : ℕ) (room : Bool) (es :
 
 -- ---- a call, as the table says it
 module _ (code values : List ℕ) (base i : ℕ) where
-  pub record Calling (h : Here code values base i) (first end callee result : ℕ) : Type 0 where
-    pub es : List Term
-    pub closes : ℕ
-    pub arguments : anyArguments (here.m code values base i h) (here.n code values base i h) (here.codeHere code values base i h .function) (h .text) (h .R) (wordsOf code) first end ≡ some (es, closes)
-    pub inside : callee * 8 + 8 ≤ length code
-    pub k : ℕ
-    pub number : k ≡ numbered (h .R) (valueAt (wordsOf code) callee)
-    pub there : k < length (h .R)
-    pub word : getD (h .R) k noHead .word ≡ valueAt (wordsOf code) callee
-    pub as-many : length es ≡ getD (h .R) k noHead .parameters
-    pub place : placeAt (wordsOf code) callee ≡ h .offset callee
-    pub result-fits : ResultFits (h .P) (h .R) (wordsOf values) (suc (h .d)) result
-    pub location : Option Location
-    pub location-is : (Z : List ℕ) → resultIn (h .P) (h .R) Z result ≡ location
-    pub effect : (rooms : Rooms) (steps : ℕ) (out : List ℕ) → effectAt (h .P) (h .R) rooms (wordsOf values) (h .d) i steps out
-        ≡ calling (h .P) rooms (memoryOf (here.stateHere code values base i h rooms steps out) (here.callHere code values base i h rooms steps out)) callee k es location (here.stateHere code values base i h rooms steps out)
-
   base-low : (h : Here code values base i) → base < 16384
   base-low h = omega (arith, h .base-is, h .deep)
 
-  few : (h : Here code values base i) (first end callee result : ℕ) (g : Calling h first end callee result) → length (g .es) ≤ callWords
+  few : (h : Here code values base i) (first end callee result : ℕ) (g : Calling code values base i h first end callee result) → length (g .es) ≤ callWords
   few h first end callee result g =
       let r = h .holds .routines (g .k) (g .there) in
       omega (arith, g .as-many, ap length (r .words-are), length-append (replicate (getD (h .R) (g .k) noHead .parameters) (pos 0)) (r .starts), length-replicate (getD (h .R) (g .k) noHead .parameters) (pos 0), r .room)
@@ -98,7 +81,7 @@ module _ (code values : List ℕ) (base i : ℕ) where
     pub no-room : ltb base last ≡ false → rooms .depth ≤ suc (h .d)
     no-room t = omega (arith, ltb-false base last t, h .base-is, lw .is, lw .some)
 
-    pub call-passes : (first end callee result : ℕ) → Calling h first end callee result → end < 65536 → Passes code values base first end (ltb base last)
+    pub call-passes : (first end callee result : ℕ) → Calling code values base i h first end callee result → end < 65536 → Passes code values base first end (ltb base last)
     call-passes first end callee result g s = record {
       c = here.counts-here code values base i h;
       function = here.codeHere code values base i h .function;
@@ -152,7 +135,7 @@ module _ (code values : List ℕ) (base i : ℕ) where
         live = live-same;
       }
 
-    module _ (h : Here code values base i) (callee result : ℕ) (g : Calling h first end callee result) where
+    module _ (h : Here code values base i) (callee result : ℕ) (g : Calling code values base i h first end callee result) where
       argued : Argued (here.counts-here code values base i h) values after base (ltb base last) (g .es) (g .closes) r
       argued = ps .is (here.counts-here code values base i h) (here.codeHere code values base i h .function) (h .text) (h .R) (g .es) (g .closes) (g .arguments)
 

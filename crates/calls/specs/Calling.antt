@@ -2,21 +2,24 @@
 use mathlib.Core.Path.{_≡_}
 use mathlib.Core.Bool.{Bool, true, false}
 use mathlib.Core.List.{List, _∷_}
-use mathlib.Core.Option.{some}
+use mathlib.Core.Option.{Option, some}
 use Prim.Native.Nat.{ℕ, suc, _+_, _*_, _<_, _≤_}
+use lib.Dec.{eqb}
 use lib.ListN.{length, getD}
 use lib.IntN.{ℤ, pos}
+use Rattle.paper.specs.Basics.{if_then_else_}
 use Rattle.paper.specs.Terms.{Term}
-use Rattle.paper.specs.States.{State, Rooms, Effect, failing, withCalls, withValues}
-use Rattle.paper.specs.Running.{codeAt, stepNamed, newCall}
+use Rattle.paper.specs.States.{Location, State, Rooms, Effect, failing, withCalls, withValues}
+use Rattle.paper.specs.States as states
+use Rattle.paper.specs.Running.{codeAt, stepNamed, newCall, calling}
 use Rattle.cells.specs.Words.{wordsOf}
-use Rattle.code.specs.Cells.{opAt, valueAt, firstWindow, windowCells}
+use Rattle.code.specs.Cells.{opAt, linkAt, placeAt, valueAt, firstWindow, windowOf, windowCells}
 use Rattle.code.specs.Steps.{Head, noHead, numbered, aCallTarget, aProcedureCall, anyArguments}
-use Rattle.code.specs.Windows.{writtenCell, usedCell, resultIn, stateIn}
+use Rattle.code.specs.Windows.{writtenCell, usedCell, resultIn, callIn, stateIn}
 use Rattle.evaluation.specs.Answers.{firstError, callWords, Counts, memoryOf, Stores}
-use Rattle.machine.specs.Live.{codeOfCall, ResultFits, Live}
+use Rattle.machine.specs.Live.{wordsOfCall, codeOfCall, ResultFits, Live}
 use Rattle.reading.specs.Reading.{Stored}
-use Rattle.machine.specs.Machine.{Here, Comes, effectAt, entered, depthLimit, LastWindow}
+use Rattle.machine.specs.Machine.{Here, effectAt, entered, depthLimit, LastWindow}
 use Rattle.targets.specs.Targets.{Aims}
 use Rattle.starting.specs.Starting.{Holding}
 
@@ -57,6 +60,15 @@ pub record Passed (code values after : List ℕ) (base first end : ℕ) (room : 
   pub is : (c : Counts) (function : Bool) (text : List ℕ) (R : List Head) (es : List Term) (closes : ℕ) → anyArguments (c .m) (c .n) function text R (wordsOf code) first end ≡ some (es, closes)
       → Argued c values after base room es closes r
 
+-- The depth lent admits calls up to this window.
+pub record Deepest (last : ℕ) : Type 0 where
+  pub rooms : Rooms
+  pub is : LastWindow rooms last
+
+-- The word whose link is where the caller goes on: the call's own where a result is wanted, else the one that closes the arguments.
+unfoldable pub goesOnAt : (i closes result : ℕ) → ℕ
+goesOnAt i closes result = if eqb result 0 then closes else i
+
 -- ---- a new call
 module _ (code values : List ℕ) (base i : ℕ) where
   -- The routine that the word `callee` names is called with these arguments, which stand in the next window: n is the cell behind them.
@@ -89,22 +101,38 @@ module _ (code values : List ℕ) (base i : ℕ) where
         ≡ withCalls (newCall (h .P) (e .k) (e .zs) (resultIn (h .P) (h .R) (wordsOf values) result) ∷ stateIn (h .P) (h .R) (wordsOf values) (h .d) i steps out .calls)
         (stateIn (h .P) (h .R) (wordsOf values) (h .d) i steps out)
 
-  -- ---- a call whose result goes to a cell that is known
+  -- ---- a call
+  -- As the table says it: the word `callee` names the routine, and `first` and `end` bound its first argument.
+  pub record Calling (h : Here code values base i) (first end callee result : ℕ) : Type 0 where
+    pub es : List Term
+    pub closes : ℕ
+    pub arguments : let c = codeOfCall (h .P) (h .R) (wordsOf values) (h .d) in
+        anyArguments (length (h .P .words)) (wordsOfCall c) (c .function) (h .text) (h .R) (wordsOf code) first end ≡ some (es, closes)
+    pub inside : callee * 8 + 8 ≤ length code
+    pub k : ℕ
+    pub number : k ≡ numbered (h .R) (valueAt (wordsOf code) callee)
+    pub there : k < length (h .R)
+    pub word : getD (h .R) k noHead .word ≡ valueAt (wordsOf code) callee
+    pub as-many : length es ≡ getD (h .R) k noHead .parameters
+    pub place : placeAt (wordsOf code) callee ≡ h .offset callee
+    pub result-fits : ResultFits (h .P) (h .R) (wordsOf values) (suc (h .d)) result
+    pub location : Option Location
+    pub location-is : (Z : List ℕ) → resultIn (h .P) (h .R) Z result ≡ location
+    pub effect : (rooms : Rooms) (steps : ℕ) (out : List ℕ) →
+        let S = stateIn (h .P) (h .R) (wordsOf values) (h .d) i steps out in
+        effectAt (h .P) (h .R) rooms (wordsOf values) (h .d) i steps out
+        ≡ calling (h .P) rooms (states.memoryOf S (callIn (h .P) (h .R) (wordsOf values) (windowOf (h .d)) i)) callee k es location S
+    pub after-is : stepNamed (codeOfCall (h .P) (h .R) (wordsOf values) (h .d) .steps) i .after ≡ linkAt (wordsOf code) (goesOnAt i closes result)
+
+  pub record MayCall (last callee first result : ℕ) : Type 0 where
+    pub here : Here code values base i
+    pub deepest : Deepest last
+    pub calls : (h : Here code values base i) → Calling h first (linkAt (wordsOf code) callee) callee result
+
+  -- Its result goes to a cell that is known.
   pub record CallsFor (last next cell : ℕ) : Type 0 where
     pub here : Here code values base i
-    pub rooms : Rooms
-    pub deepest : LastWindow rooms last
+    pub deepest : Deepest last
     pub low : aCallTarget ≤ opAt (wordsOf code) i
     pub high : opAt (wordsOf code) i < aProcedureCall
-    pub aims : Aims code values base i here aCallTarget cell next
-
-  pub record CalledFor (last next cell : ℕ) (after : List ℕ) (r : ℤ) : Type 0 where
-    pub long : length after ≡ length values
-    pub does : (h : Here code values base i) → Aims code values base i h aCallTarget cell next → (rooms : Rooms) → LastWindow rooms last → (steps : ℕ) (out : List ℕ) →
-        Comes (h .P) (h .R) (wordsOf code) (h .offset) (h .d) i steps (wordsOf values) (wordsOf after) out out (effectAt (h .P) (h .R) rooms (wordsOf values) (h .d) i steps out) r
-    pub kept : (c : ℕ) → writtenCell ≤ c → c ≤ usedCell → getD (wordsOf after) c 0 ≡ getD (wordsOf values) c 0
-
--- The depth lent admits calls up to this window.
-pub record Deepest (last : ℕ) : Type 0 where
-  pub rooms : Rooms
-  pub is : LastWindow rooms last
+    pub aims : (h : Here code values base i) → Aims code values base i h aCallTarget cell next

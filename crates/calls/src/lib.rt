@@ -12,7 +12,7 @@ ghost use Rattle.code.specs.Cells.{opAt};
 ghost use Rattle.code.specs.Steps.{aNextArgument, aProcedureCall, aCallTarget};
 ghost use Rattle.machine.specs.Machine.{Here, Calls};
 ghost use Rattle.targets.specs.Targets.{WordAt, ArrayAt};
-ghost use Rattle.calls.specs.Calling.{Let, Passes, Passed, MayEnter, Entered, CallsFor, CalledFor, Deepest};
+ghost use Rattle.calls.specs.Calling.{Let, Passes, Passed, MayEnter, Entered, goesOnAt, MayCall, CallsFor, Deepest};
 use evaluation::worth;
 use reading::head;
 use reading::link;
@@ -58,12 +58,12 @@ const NEXT_ARGUMENT: u32 = 159;
 
 // ---- arguments
 
-// Two numbers in one.
+// Two numbers in one. It goes through 32 bits, by which the compiler sees that it is no error.
 fn packed(low: usize, high: usize) -> i64
     requires { ⌜ (low < 65536) × (high < 65536) ⌝ }
     ensures { λ r. ⌜ r ≡ pos (low + 65536 * high) ⌝ }
 {
-    (low + HALF * high) as i64
+    (low + HALF * high) as u32 as i64
 }
 
 // A comma stands at a word, which may lie past the store.
@@ -146,30 +146,58 @@ fn enter<'a>(
     (ENTERED + place(code, h)) as i64
 }
 
-// A procedure call; `last` is the window of the last call that the depth lent admits.
-pub fn call_of<'a>(code: &'a [u8], values: &'a mut [u8], base: usize, last: usize, i: usize) -> i64
-    requires { ⌜ Here (now code) (now values) base i × Deepest last × (opAt (wordsOf (now code)) i ≡ aProcedureCall) ⌝ }
+// The word whose link is where the caller goes on: the call's own where a result is wanted, else the one that closes the arguments.
+fn goes_on(i: usize, closes: usize, result: usize) -> usize
+    ensures { λ r. ⌜ r ≡ goesOnAt i closes result ⌝ }
+{
+    if result == 0 {
+        return closes;
+    }
+    i
+}
+
+// A call of the routine that the word `callee` names, with the arguments from `first` on. All calls come here, so that one frame holds the work of each.
+fn call<'a>(
+    code: &'a [u8],
+    values: &'a mut [u8],
+    base: usize,
+    last: usize,
+    i: usize,
+    callee: usize,
+    first: usize,
+    result: usize,
+) -> i64
+    requires { ⌜ MayCall (now code) (now values) base i last callee first result ⌝ }
     ensures { λ r. ⌜ Calls (now (code .entry)) (now (values .entry)) (now (values .exit)) base last i r ⌝ }
 {
     let room = base < last;
-    let r = arguments(&*code, values, base, room, i + 1, link(code, i));
+    let r = arguments(&*code, values, base, room, first, link(code, callee));
     if FIRST_ERROR <= r {
         return r;
     }
     if room {
         let k = r as usize;
+        let at = goes_on(i, k % HALF, result);
         return enter(
             &*code,
             values,
             base,
             i,
-            i,
-            0,
-            link(code, k % HALF),
+            callee,
+            result,
+            link(code, at),
             k / HALF,
         );
     }
-    (LACKS + i) as i64
+    (LACKS + callee) as i64
+}
+
+// A procedure call; `last` is the window of the last call that the depth lent admits.
+pub fn call_of<'a>(code: &'a [u8], values: &'a mut [u8], base: usize, last: usize, i: usize) -> i64
+    requires { ⌜ Here (now code) (now values) base i × Deepest last × (opAt (wordsOf (now code)) i ≡ aProcedureCall) ⌝ }
+    ensures { λ r. ⌜ Calls (now (code .entry)) (now (values .entry)) (now (values .exit)) base last i r ⌝ }
+{
+    call(&*code, values, base, last, i, i, i + 1, 0)
 }
 
 // A call for a result that goes to a cell. Its target is followed by the word `next`, and that by the callee.
@@ -183,27 +211,9 @@ fn call_to<'a>(
     cell: usize,
 ) -> i64
     requires { ⌜ CallsFor (now code) (now values) base i last next cell ⌝ }
-    ensures { λ r. ⌜ CalledFor (now (code .entry)) (now (values .entry)) base i last next cell (now (values .exit)) r ⌝ }
+    ensures { λ r. ⌜ Calls (now (code .entry)) (now (values .entry)) (now (values .exit)) base last i r ⌝ }
 {
-    let room = base < last;
-    let callee = next + 1;
-    let r = arguments(&*code, values, base, room, callee + 2, link(code, callee));
-    if FIRST_ERROR <= r {
-        return r;
-    }
-    if room {
-        return enter(
-            &*code,
-            values,
-            base,
-            i,
-            callee,
-            cell + 1,
-            link(code, i),
-            r as usize / HALF,
-        );
-    }
-    (LACKS + callee) as i64
+    call(&*code, values, base, last, i, next + 1, next + 3, cell + 1)
 }
 
 // A call for a result that goes to the word at a cell.

@@ -108,6 +108,12 @@ module _ (before now : List ℕ) (at count k : ℕ) (v : ℤ) (f : Filling befor
 pub filled-read : (before now : List ℕ) (at count r : ℕ) (v : ℤ) → SFits w64 v → Filled before now at count (read v) r → Filled before now at count v r
 filled-read before now at count r v s f = rw (toZ-ofZ s) at f
 
+pub fill-one : (before after : List ℕ) (at count : ℕ) (v : ℤ) → SFits w64 v → SFits w32 v → (at + count) * 4 ≤ length before → count ≡ 1 → Stored before after at (read v) → Filled before after at count v (at + 1)
+fill-one before after at count v s t h e st =
+    let here : at ≡ at + 0 = omega arith in
+    let f = fill-on before before at count 0 (read v) (fill-start before at count v s t) after h (omega arith) (subst (λ (c : ℕ). Stored before after c (read v)) here st) in
+    filled-read before after at count (at + 1) v s (record { wrote = subst (λ (j : ℕ). Wrote before after at (replicate j (read v))) (sym e) (f .wrote); next = omega arith })
+
 -- ---- loops
 -- so many of them are idle
 pub record Idling (before now : List ℕ) (at fors k : ℕ) : Type 0 where

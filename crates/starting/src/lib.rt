@@ -24,11 +24,15 @@ const DATUM: u32 = 160;
 // how far the numbers that a head holds are from those they stand for
 const BIAS: i64 = 8388607;
 
-// Makes `count` cells from `at` on hold v: the cell behind them.
+// Makes `count` cells from `at` on hold v: the cell behind them. Most data are one word, for which a loop is long.
 fn fill(values: &mut [u8], at: usize, count: usize, v: i64) -> usize
     requires { ⌜ ((at + count) * 4 ≤ length (now values)) × SFits w32 v ⌝ }
     ensures { λ r. ⌜ Filled (now (values .entry)) (now (values .exit)) at count v r ⌝ }
 {
+    if count == 1 {
+        put(values, at, v);
+        return at + 1;
+    }
     let mut k = 0;
     while k < count {
         put(values, at + k, v);

@@ -1,6 +1,6 @@
 use borrow.Author.Needs.{needs}
 use Rattle.targets.proofs.StoreSteps.{after-fits}
-use Rattle.calls.proofs.CallTargets.{word-calls, word-called}
+use Rattle.calls.proofs.CallTargets.{word-calls}
 use Rattle.calls.proofs.call_for.Statement.{statement}
 use Rattle.calls.proofs.call_for.Tie as tie
 
@@ -14,7 +14,7 @@ same-length : tie.Need-same-length
 same-length c = search needs
 
 returns : tie.Need-returns
-returns c = search (needs, word-called)
+returns c = search needs
 
 pub call-for-spec : {M : Type 1} → statement M
 call-for-spec = tie.close (tie.spec add-call-to call-to-requires same-length returns)

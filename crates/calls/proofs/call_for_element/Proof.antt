@@ -1,7 +1,7 @@
 use borrow.Author.Needs.{needs}
 use Rattle.targets.proofs.StoreSteps.{after-fits}
 use Rattle.machine.proofs.Current.{stores-here}
-use Rattle.calls.proofs.CallTargets.{call-brace, call-indexes, call-signed, call-small, element-calls, element-called, element-refused}
+use Rattle.calls.proofs.CallTargets.{call-brace, call-indexes, call-signed, call-small, element-calls, element-refused}
 use Rattle.calls.proofs.call_for_element.Statement.{statement}
 use Rattle.calls.proofs.call_for_element.Tie as tie
 
@@ -27,7 +27,7 @@ same-length : tie.Need-same-length
 same-length c = search needs
 
 returns : tie.Need-returns
-returns c = search (needs, element-called)
+returns c = search needs
 
 same-length-2 : tie.Need-same-length-2
 same-length-2 c = search needs

@@ -12,8 +12,11 @@ add-result c = search needs
 cast-result : tie.Need-cast-result
 cast-result c = search needs
 
+cast-result-2 : tie.Need-cast-result-2
+cast-result-2 c = search needs
+
 returns : tie.Need-returns
 returns c = search (needs, packed-is)
 
 pub packed-spec : {M : Type 1} → statement M
-packed-spec = tie.close (tie.spec mul-result add-result cast-result returns)
+packed-spec = tie.close (tie.spec mul-result add-result cast-result cast-result-2 returns)

@@ -2,7 +2,7 @@ use borrow.Author.Needs.{needs}
 use Prim.Native.Nat.{_-_}
 use mir.Syntax.{w64}
 use mir.Val.{toZ}
-use Rattle.starting.proofs.Writing.{Filling, fill-start, fill-inside, fill-on, fill-end, filled-read}
+use Rattle.starting.proofs.Writing.{Filling, fill-start, fill-inside, fill-on, fill-end, filled-read, fill-one}
 use Rattle.starting.proofs.fill.Statement.{statement}
 use Rattle.starting.proofs.fill.Tie as tie
 
@@ -12,23 +12,8 @@ Inv-loop values₀ at count v k₀ values k = Filling values₀ values at count 
 abbrev μ-loop : tie.MeasureT-loop
 μ-loop values₀ at count v k₀ values k = count - k
 
-loop-holds : tie.Need-loop-holds Inv-loop μ-loop
-loop-holds c = search (needs, fill-start)
-
-add-put : tie.Need-add-put Inv-loop μ-loop
-add-put c = search needs
-
 put-requires : tie.Need-put-requires Inv-loop μ-loop
-put-requires c κs = search (needs, fill-inside)
-
-add-k : tie.Need-add-k Inv-loop μ-loop
-add-k c = search needs
-
-loop-less : tie.Need-loop-less Inv-loop μ-loop
-loop-less c = search needs
-
-loop-again : tie.Need-loop-again Inv-loop μ-loop
-loop-again c = fill-on _ _ _ _ _ _ (c .before .before .before .before .before .loop .inv) _ (c .before .before .before .before .before .before .before .pre .0) (search needs) (c .before .before .put .ensures)
+put-requires c κs = search needs
 
 add-result : tie.Need-add-result Inv-loop μ-loop
 add-result c = search needs
@@ -37,7 +22,34 @@ same-length : tie.Need-same-length Inv-loop μ-loop
 same-length c = search needs
 
 returns : tie.Need-returns Inv-loop μ-loop
-returns c = search (needs, fill-end, filled-read)
+returns c = search (needs, fill-one)
+
+loop-holds : tie.Need-loop-holds Inv-loop μ-loop
+loop-holds c = search (needs, fill-start)
+
+add-put : tie.Need-add-put Inv-loop μ-loop
+add-put c = search needs
+
+put-requires-2 : tie.Need-put-requires-2 Inv-loop μ-loop
+put-requires-2 c κs = search (needs, fill-inside)
+
+add-k : tie.Need-add-k Inv-loop μ-loop
+add-k c = search needs
+
+loop-less : tie.Need-loop-less Inv-loop μ-loop
+loop-less c = search needs
+
+loop-again : tie.Need-loop-again Inv-loop μ-loop
+loop-again c = fill-on _ _ _ _ _ _ (c .before .before .before .before .before .loop .inv) _ (c .before .before .before .before .before .before .before .before .pre .0) (search needs) (c .before .before .put2 .ensures)
+
+add-result-2 : tie.Need-add-result-2 Inv-loop μ-loop
+add-result-2 c = search needs
+
+same-length-2 : tie.Need-same-length-2 Inv-loop μ-loop
+same-length-2 c = search needs
+
+returns-2 : tie.Need-returns-2 Inv-loop μ-loop
+returns-2 c = search (needs, fill-end, filled-read)
 
 pub fill-spec : {M : Type 1} → statement M
 fill-spec =
@@ -45,12 +57,16 @@ fill-spec =
     (tie.spec
     Inv-loop
     μ-loop
+    put-requires
+    add-result
+    same-length
+    returns
     loop-holds
     add-put
-    put-requires
+    put-requires-2
     add-k
     loop-less
     loop-again
-    add-result
-    same-length
-    returns)
+    add-result-2
+    same-length-2
+    returns-2)
