@@ -1,0 +1,53 @@
+-- The constants of the code, in its order, by the names that the definitions give them.
+use mathlib.Core.List.{List, [], _∷_, map}
+use Prim.Native.Nat.{ℕ, _*_}
+use lib.IntN.{ℤ, pos}
+use Rattle.layout.specs.Rules.{smallStore, wrongDepth, longText, badByte, malformed, tooLarge, manyWords, noForm, deepNesting, takenName, unknownName, wrongKind, wrongType, wrongCount, noValue, tooMany, barred, noMain, mainReturned, exited, unhandled, fellOff, stepsSpent, beyondDepth, noInput, noRoom}
+use Rattle.layout.specs.Answers.{entered, left, ended, lacked, handed, firstError}
+use Rattle.layout.specs.Kinds.{aVariable, anArray, aConstant, aLoop, aRoutine, anErrno, anErrorNumber}
+use Rattle.layout.specs.Types.{noType, numType, boolType}
+use Rattle.layout.specs.Parts.{valuePart, linkPart, sizePart, charactersPart, loopPart, spelledPart}
+use Rattle.paper.specs.Words.{textLimit, wordLimit}
+use Rattle.paper.specs.Types.{elementLimit}
+use Rattle.paper.specs.Declarations.{routineLimit, moduleWordLimit, routineWordLimit}
+use Rattle.paper.specs.Answer.{depthLimit, storeWords}
+use Rattle.code.specs.Cells.{firstWindow, windowCells, errnoCell}
+use Rattle.code.specs.Windows.{endsCell, stepsCell, routineCell, waitsCell, afterCell, failedCell, resultCell, writtenCell, usedCell}
+use Rattle.code.specs.Spans.{bias, aLiteral, aModuleWord, aCallWord, aModuleElement, aCallElement, aParenthesis, aNot, aPlus, aMinus, anOperator}
+use Rattle.code.specs.Steps.{aTarget, aCallTarget, aProcedureCall, aReturnOf, aReturn, aRaiseOf, aRaise, anExit, aRetry, aTryNext, aWrite, aWriteOf, aRead, aCompactIf, anIf, aWhile, aFor, aForTest, aTest, anEnd, aFunctionEnd, anElseIf, aStep, aCase, aNextValue, aNextArgument, aDatum, theParameters, aThen, aDo, aPass, anOtherwise, aClose}
+
+abbrev pub ops : List ℕ
+ops =
+    aLiteral ∷ aModuleWord ∷ aCallWord ∷ aModuleElement ∷ aCallElement ∷ aParenthesis ∷ aNot ∷ aPlus ∷ aMinus ∷ anOperator ∷ aTarget ∷ aCallTarget ∷ aProcedureCall ∷ aReturnOf ∷ aReturn ∷ aRaiseOf ∷ aRaise ∷ anExit ∷ aRetry ∷ aTryNext ∷ aWrite ∷ aWriteOf ∷ aRead ∷ aCompactIf ∷ anIf ∷ aWhile ∷ aFor ∷ aForTest ∷ aTest ∷ anEnd ∷ aFunctionEnd ∷ anElseIf ∷ aStep ∷ aCase ∷ aNextValue ∷ aNextArgument ∷ aDatum ∷ theParameters ∷ aThen ∷ aDo ∷ aPass ∷ anOtherwise ∷ aClose ∷ []
+
+abbrev pub cells : List ℕ
+cells =
+    firstWindow ∷ windowCells ∷ endsCell ∷ stepsCell ∷ routineCell ∷ waitsCell ∷ afterCell ∷ failedCell ∷ resultCell ∷ writtenCell ∷ usedCell ∷ errnoCell ∷ []
+
+abbrev pub answers : List ℤ
+answers = pos entered ∷ pos left ∷ pos ended ∷ pos lacked ∷ pos handed ∷ pos firstError ∷ []
+
+abbrev pub kinds : List ℕ
+kinds =
+    aVariable ∷ anArray ∷ aConstant ∷ aLoop ∷ aRoutine ∷ anErrno ∷ anErrorNumber ∷ []
+
+abbrev pub rules : List ℕ
+rules =
+    smallStore ∷ wrongDepth ∷ longText ∷ badByte ∷ malformed ∷ tooLarge ∷ manyWords ∷ noForm ∷ deepNesting ∷ takenName ∷ unknownName ∷ wrongKind ∷ wrongType ∷ wrongCount ∷ noValue ∷ tooMany ∷ barred ∷ noMain ∷ []
+
+abbrev pub endings : List ℕ
+endings =
+    mainReturned ∷ exited ∷ unhandled ∷ fellOff ∷ stepsSpent ∷ beyondDepth ∷ noInput ∷ noRoom ∷ []
+
+-- four bytes a cell
+abbrev pub storeBytes : ℕ
+storeBytes = 4 * storeWords
+
+abbrev pub types : List ℕ
+types = noType ∷ numType ∷ boolType ∷ []
+
+abbrev pub parts : List ℕ
+parts = valuePart ∷ linkPart ∷ sizePart ∷ charactersPart ∷ loopPart ∷ spelledPart ∷ bias ∷ []
+
+abbrev pub limits : List ℕ
+limits = textLimit ∷ wordLimit ∷ routineLimit ∷ moduleWordLimit ∷ routineWordLimit ∷ elementLimit ∷ depthLimit ∷ storeWords ∷ storeBytes ∷ []

@@ -1,0 +1,54 @@
+// Cells of the value store (code/specs/Cells.antt, Windows.antt): the module's words, then a window for each live call; in main's window also what the run counts.
+ghost use mathlib.Core.Path.{_≡_};
+ghost use Rattle.layout.specs.Named.{cells};
+
+// main's window, and how many cells a window has
+pub const FIRST_WINDOW: usize = 1024;
+
+pub const WINDOW: usize = 240;
+
+// ---- cells of a window, behind the call's words: where the loop of a variable's word ends, and its step
+pub const ENDS: usize = 64;
+
+pub const STEPS: usize = 128;
+
+// the word that its routine begins with
+pub const ROUTINE: usize = 192;
+
+// the call statement that it waits for, and the step after that one
+pub const WAITS: usize = 193;
+
+pub const AFTER: usize = 194;
+
+// the failed step, 0 while it is not in its ERROR list
+pub const FAILED: usize = 195;
+
+// 1 more than the cell that its result goes to, 0 if it is not called for one
+pub const RESULT: usize = 196;
+
+// ---- cells of the run: bytes of output written, in two cells, the low half first; inputs used; ERRNO
+pub const WRITTEN: usize = 1260;
+
+pub const USED: usize = 1262;
+
+pub const ERRNO: usize = 1263;
+
+// All of them, as the specs name them: a wrong one breaks this contract.
+pub fn all() -> [usize; 12]
+    ensures { λ r. ⌜ r ≡ cells ⌝ }
+{
+    [
+        FIRST_WINDOW,
+        WINDOW,
+        ENDS,
+        STEPS,
+        ROUTINE,
+        WAITS,
+        AFTER,
+        FAILED,
+        RESULT,
+        WRITTEN,
+        USED,
+        ERRNO,
+    ]
+}
