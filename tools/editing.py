@@ -90,6 +90,11 @@ def crate_of(path):
     return Crate(path, items, imported, outside)
 
 
+def path_of(item):
+    """The names on the way to an item, its own last."""
+    return [*item.module, *([item.owner] if item.owner else []), item.name]
+
+
 def names(crate, item, file, text):
     """Whether a text of a file of the crate names an item: a method behind a dot or its type, anything else by its name alone where it is at home or imported, or behind its module's."""
     called = r"\(" if item.kind == "function" else r"\b"
