@@ -18,7 +18,9 @@ use Rattle.paper.specs.Expressions.{startsStatement, startsSimple}
 use Rattle.paper.specs.Names.{sortIn, spelled, enter, Scopes}
 use Rattle.paper.specs.Types.{termOf}
 use Rattle.paper.specs.Declarations.{routineScopes}
-use Rattle.paper.specs.Steps.{optionalTerm, conditions, constants, begin, firstWord, firstStep, Action, store, callFor, callOf, giveBack, raise, handOn, exit, retry, tryNext, write, read, choose, select, testWhile, enterFor, repeatFor, endList, partsOf, Step, step, actionOf, simpleStep, stepsOf, stepsOfList, stepsOfArms, stepsOfCases, Code, Program, listSteps, codeOf, programOf}
+use Rattle.paper.specs.Steps.{optionalTerm, conditions, constants, begin, firstWord, firstStep, Action, store, callFor, callOf, giveBack, raise, handOn, exit, retry, tryNext, write, read, choose}
+use Rattle.paper.specs.Steps.{select, testWhile, enterFor, repeatFor, endList, partsOf, Step, step, actionOf, simpleStep, stepsOf, stepsOfList, stepsOfArms, stepsOfCases, Code, Program, listSteps}
+use Rattle.paper.specs.Steps.{codeOf, programOf}
 use Rattle.paper.specs.Running.{stepNamed}
 use Rattle.raised.proofs.Choices.{forked, forked-by}
 use Rattle.demands.proofs.Alls.{_and_, first-of, rest-of, front-of, back-of, all-map}
