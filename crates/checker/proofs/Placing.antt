@@ -1,19 +1,19 @@
 -- The places of a module's steps, and the words that call, are words of the module: how offsets past its last word are counted does not matter.
 use mathlib.Core.Path.{_≡_, refl, sym, ap, subst, _∙_}
-use mathlib.Core.Bool.{Bool, true, false}
 use mathlib.Core.List.{List, [], _∷_, _++_, map}
 use mathlib.Core.Option.{Option, none, some}
 use Prim.Native.Nat.{ℕ, zero, suc, _+_, _<_, _≤_}
 use native.Mathlib.Omega.{arith}
 use lib.ListN.{length, getD}
+use Rattle.laws.specs.Options.{WhereSome}
+use Rattle.laws.proofs.Options.{where-both}
 use Rattle.paper.specs.Words.{Word}
 use Rattle.paper.specs.Terms.{Memory}
 use Rattle.paper.specs.Trees.{Expr, Target, Simple, firstSimple, assign, assignCall, call, returns, raises, exits, retries, triesNext, writes, reads, Statement, Statements, Arms, Cases, RoutineList, Routine, Module}
 use Rattle.paper.specs.Names.{Scopes, sortIn}
 use Rattle.paper.specs.Declarations.{moduleData}
-use Rattle.paper.specs.Steps.{Action, store, callFor, callOf, giveBack, raise, handOn, exit, retry, tryNext, write, read, choose, select, testWhile, enterFor, repeatFor, endList, Step, Code, Program, step, actionOf, simpleStep, stepsOf, stepsOfList, stepsOfArms, stepsOfCases, listSteps, codeOf, programOf}
+use Rattle.paper.specs.Steps.{Action, partsOf, Step, Code, step, actionOf, simpleStep, stepsOf, stepsOfList, stepsOfArms, stepsOfCases, listSteps, codeOf, programOf}
 use Rattle.paper.specs.Running.{noCode, codeAt}
-use Rattle.code.specs.Cells.{placeAt}
 use Rattle.code.specs.Steps.{Head, noHead, stepIn}
 use Rattle.code.specs.Closed.{Every, done, also}
 use Rattle.code.specs.Holds.{known, CalleeIn, HoldsRoutine, Holds}
@@ -25,23 +25,7 @@ use Rattle.faults.proofs.Expressions.{grows}
 
 -- ---- steps of the first n words
 unfoldable CallsIn : (n : ℕ) → Action → Type 0
-CallsIn n (callFor t i k es) = i < n
-CallsIn n (callOf i k es) = i < n
-CallsIn n (store t e) = Unit {0}
-CallsIn n (giveBack e) = Unit {0}
-CallsIn n (raise e) = Unit {0}
-CallsIn n handOn = Unit {0}
-CallsIn n exit = Unit {0}
-CallsIn n retry = Unit {0}
-CallsIn n tryNext = Unit {0}
-CallsIn n (write s e) = Unit {0}
-CallsIn n (read t s) = Unit {0}
-CallsIn n (choose cs o) = Unit {0}
-CallsIn n (select e cs o) = Unit {0}
-CallsIn n (testWhile e b) = Unit {0}
-CallsIn n (enterFor k a b c d) = Unit {0}
-CallsIn n (repeatFor k b) = Unit {0}
-CallsIn n endList = Unit {0}
+CallsIn n a = WhereSome (λ c. c .0 < n) (partsOf a .callee)
 
 record Inward (n : ℕ) (s : Step) : Type 0 where
   place : s .place < n
@@ -161,23 +145,7 @@ module _ (n : ℕ) (o p : ℕ → ℕ) (same : (i : ℕ) → i < n → o i ≡ p
 
   callee-same : (R : List Head) (C : List ℕ) (a : Action) → CallsIn n a → CalleeIn R o C a → CalleeIn R p C a
   unfolding CalleeIn CallsIn
-  callee-same R C (callFor t i k es) h x = (x .0 ∙ same i h, x .1)
-  callee-same R C (callOf i k es) h x = (x .0 ∙ same i h, x .1)
-  callee-same R C (store t e) h x = tt
-  callee-same R C (giveBack e) h x = tt
-  callee-same R C (raise e) h x = tt
-  callee-same R C handOn h x = tt
-  callee-same R C exit h x = tt
-  callee-same R C retry h x = tt
-  callee-same R C tryNext h x = tt
-  callee-same R C (write s e) h x = tt
-  callee-same R C (read t s) h x = tt
-  callee-same R C (choose cs d) h x = tt
-  callee-same R C (select e cs d) h x = tt
-  callee-same R C (testWhile e d) h x = tt
-  callee-same R C (enterFor k a b c d) h x = tt
-  callee-same R C (repeatFor k d) h x = tt
-  callee-same R C endList h x = tt
+  callee-same R C a = where-both (partsOf a .callee) (λ c h x. (x .0 ∙ same (c .0) h, x .1))
 
   routine-same : (m : ℕ) (text : List ℕ) (R : List Head) (C : List ℕ) (h : Head) (c : Code) → Every (Inward n) (c .steps) → HoldsRoutine m text R o C h c → HoldsRoutine m text R p C h c
   routine-same m text R C h c i x = record {

@@ -1,13 +1,14 @@
 -- The code store holds a program: what a run reads from its cells is what the paper's table of steps says. This is all that the runner knows of the checker.
 use mathlib.Core.Path.{_≡_}
-use mathlib.Core.Bool.{Bool, true, false}
-use mathlib.Core.List.{List, [], _∷_, _++_}
+use mathlib.Core.Bool.{true, false}
+use mathlib.Core.List.{List, [], _++_}
 use mathlib.Core.Option.{Option, none, some}
 use Prim.Native.Nat.{ℕ, zero, suc, _+_, _<_, _≤_}
 use lib.Dec.{eqb}
 use lib.ListN.{length, getD, replicate}
 use lib.IntN.{ℤ, pos}
-use Rattle.paper.specs.Steps.{Action, store, callFor, callOf, giveBack, raise, handOn, exit, retry, tryNext, write, read, choose, select, testWhile, enterFor, repeatFor, endList, Step, Code, Program}
+use Rattle.laws.specs.Options.{WhereSome}
+use Rattle.paper.specs.Steps.{Action, partsOf, Step, Code, Program}
 use Rattle.paper.specs.Running.{codeAt}
 use Rattle.code.specs.Cells.{opAt, placeAt, linkAt}
 use Rattle.code.specs.Spans.{_then_}
@@ -35,23 +36,7 @@ dataIn C (suc f) i =
 
 -- a callee's word has its own offset, and is the name of one of the routines
 unfoldable pub CalleeIn : (R : List Head) → (offset : ℕ → ℕ) → (C : List ℕ) → Action → Type 0
-CalleeIn R offset C (callFor t i k es) = (placeAt C i ≡ offset i) × (k < length R)
-CalleeIn R offset C (callOf i k es) = (placeAt C i ≡ offset i) × (k < length R)
-CalleeIn R offset C (store t e) = Unit {0}
-CalleeIn R offset C (giveBack e) = Unit {0}
-CalleeIn R offset C (raise e) = Unit {0}
-CalleeIn R offset C handOn = Unit {0}
-CalleeIn R offset C exit = Unit {0}
-CalleeIn R offset C retry = Unit {0}
-CalleeIn R offset C tryNext = Unit {0}
-CalleeIn R offset C (write s e) = Unit {0}
-CalleeIn R offset C (read t s) = Unit {0}
-CalleeIn R offset C (choose cs o) = Unit {0}
-CalleeIn R offset C (select e cs o) = Unit {0}
-CalleeIn R offset C (testWhile e b) = Unit {0}
-CalleeIn R offset C (enterFor k a b c d) = Unit {0}
-CalleeIn R offset C (repeatFor k b) = Unit {0}
-CalleeIn R offset C endList = Unit {0}
+CalleeIn R offset C a = WhereSome (λ c. (placeAt C (c .0) ≡ offset (c .0)) × (c .1 < length R)) (partsOf a .callee)
 
 -- A routine that begins at a word, in a module of m words.
 module _ (m : ℕ) (text : List ℕ) (R : List Head) (offset : ℕ → ℕ) (C : List ℕ) where

@@ -1,6 +1,5 @@
 -- What the value store says of a run: the state of the paper's machine, read from its cells. Each live call has a window of cells of its own.
 use mathlib.Core.Path.{_≡_}
-use mathlib.Core.Bool.{Bool, true, false}
 use mathlib.Core.List.{List, [], _∷_, _++_, map}
 use mathlib.Core.Option.{Option, none, some}
 use Prim.Native.Nat.{ℕ, zero, suc, _+_, _-_, _*_, _/_, _%_}
@@ -10,7 +9,7 @@ use lib.IntN.{ℤ}
 use mir.Syntax.{w32}
 use mir.Val.{toZ}
 use Rattle.paper.specs.Basics.{if_then_else_}
-use Rattle.paper.specs.Steps.{Code, Program}
+use Rattle.paper.specs.Steps.{Program}
 use Rattle.paper.specs.States.{Loop, Location, moduleWord, callWord, Call, State}
 use Rattle.paper.specs.Running.{codeAt, stepOf, idle}
 use Rattle.code.specs.Cells.{windowCells, firstWindow, windowOf, errnoCell}

@@ -155,7 +155,7 @@ module _ (m n : ℕ) (X : List ℕ) (M : Memory) where
   name-constantly unknown i f h = some-fault _ _ h
   name-constantly (variable t r) i f h = some-fault _ _ h
   name-constantly (array t r k) i f h = some-fault _ _ h
-  name-constantly (constant t r) i f h = a-word f
+  name-constantly (constant t r) i f h = a-word (f refl)
   name-constantly (loop r) i f h = some-fault _ _ h
   name-constantly (theRoutine k) i f h = some-fault _ _ h
   name-constantly theErrno i f h = some-fault _ _ h

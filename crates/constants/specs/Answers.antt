@@ -1,6 +1,6 @@
 -- What a constant expression is worth, and what its check asks of the two stores.
 use mathlib.Core.Path.{_≡_}
-use mathlib.Core.Bool.{Bool, false}
+use mathlib.Core.Bool.{Bool, true, false}
 use mathlib.Core.List.{List, []}
 use Prim.Native.Nat.{ℕ, _+_, _<_, _≤_}
 use lib.ListN.{getD}
@@ -13,14 +13,14 @@ use Rattle.paper.specs.Terms.{Ref, ofModule, ofRoutine, Memory, load}
 use Rattle.paper.specs.Trees.{Expr}
 use Rattle.paper.specs.Words.{Word}
 use Rattle.paper.specs.Expressions.{disjunctions}
-use Rattle.paper.specs.Names.{DataType, aNum, Meaning, unknown, variable, array, constant, loop, theRoutine, theErrno, errorNumber, Text, Scopes, meaning}
+use Rattle.paper.specs.Names.{DataType, aNum, Meaning, Text, Scopes, meaning}
 use Rattle.paper.specs.Types.{constantFaults, constantValue, sizeOf, raisesError, isNoSize, elementLimit}
 use Rattle.cells.specs.Words.{wordsOf}
 use Rattle.code.specs.Cells.{firstWindow, errnoCell}
 use Rattle.code.specs.Spans.{bias}
 use Rattle.evaluation.specs.Answers.{callWords, firstNegative}
 use Rattle.faults.specs.First.{First}
-use Rattle.expressions.specs.Known.{largest, InRoom}
+use Rattle.expressions.specs.Known.{largest, InRoom, Holds, heldBy}
 use Rattle.store.specs.Promises.{Kept}
 use Rattle.expressions.specs.Answers.{typeIf, Stands}
 use Rattle.constants.specs.declared.Valued.{Valued}
@@ -50,16 +50,9 @@ pub record Worth (m n : ℕ) (X : List ℕ) (M : Memory) (r : Ref) : Type 0 wher
   pub is : toZ w32 (getD X (cellOf r) 0) ≡ load M r
   pub ranged : InNum (load M r)
 
--- What a constant expression has to know of a name's meaning.
+-- What a constant expression has to know of a name's meaning: what a constant is worth.
 unfoldable pub Fine : (m n : ℕ) (X : List ℕ) (M : Memory) → Meaning → Type 0
-Fine m n X M unknown = Unit {0}
-Fine m n X M (variable t r) = Unit {0}
-Fine m n X M (array t r size) = Unit {0}
-Fine m n X M (constant t r) = Worth m n X M r
-Fine m n X M (loop r) = Unit {0}
-Fine m n X M (theRoutine k) = Unit {0}
-Fine m n X M theErrno = Unit {0}
-Fine m n X M (errorNumber k) = k ≤ largest
+Fine m n X M a = Holds (λ w. w .fixed ≡ true → Worth m n X M (w .first)) (λ k. k ≤ largest) (heldBy a)
 
 -- ---- what is asked
 -- An expression stands at a word; the routine's words are those of a window, and ERRNO, which no constant expression reads, is no large number.

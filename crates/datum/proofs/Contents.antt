@@ -6,6 +6,7 @@ use Prim.Native.Nat.{ℕ, suc, _+_, _*_, _/_, _%_, _<_, _≤_}
 use native.Mathlib.Omega.{arith}
 use lib.ListN.{length, replicate, length-replicate}
 use lib.IntN.{pos}
+use Rattle.laws.proofs.Tests.{false-true}
 use Rattle.paper.specs.Words.{Word}
 use Rattle.paper.specs.Terms.{Ref, Memory}
 use Rattle.paper.specs.Trees.{Expr, Content}
@@ -214,7 +215,7 @@ module _ {code values : List ℕ} {own limit used i : ℕ} (brace : opAt (wordsO
             let k = count-is b in
             let vs = contentWords (b .W) (F b) (content b) (b .D) in
             subst (λ (x : Content). Placed (F b .memoryWith (b .D .words ++ vs)) (contentMeaning (b .W) (F b) (type b) x (b .D) (F b .ref (length (b .D .words))))) (sym (sized b .is))
-            (record { room = among-new (b .W) (b .s) (b .D .words) vs (length (b .D .words)) _ (omega (arith, long-is b, k .is)); some = omega (arith, k .some, k .is) })
+            (record { room = among-new (b .W) (b .s) (b .D .words) vs (length (b .D .words)) _ (omega (arith, long-is b, k .is)); some = omega (arith, k .some, k .is); ranged = λ e. false-true e })
 
         pub array-goes : (scope : Scope) → scope ≡ record { used = used + count } → DeclaresFree code values code′ values′ own limit used i (Upto (next + 2) scope)
         unfolding Says contentFaults

@@ -13,7 +13,7 @@ use Rattle.paper.specs.Words.{Word}
 use Rattle.paper.specs.Terms.{Ref, Memory}
 use Rattle.paper.specs.Trees.{Expr, Content, variableData, initialData, arrayData, constantData}
 use Rattle.paper.specs.Expressions.{nestings, levelOf}
-use Rattle.paper.specs.Names.{DataType, Meaning, unknown, variable, array, constant, loop, theRoutine, theErrno, errorNumber, typeOf, textOf, sortIn, spelled, meaning, declare}
+use Rattle.paper.specs.Names.{DataType, Meaning, variable, array, constant, typeOf, textOf, sortIn, spelled, meaning, declare}
 use Rattle.paper.specs.Types.{sizeOf}
 use Rattle.paper.specs.Declarations.{Data, Filling, declareName, declareContent}
 use Rattle.cells.specs.Words.{wordsOf}
@@ -30,10 +30,11 @@ use Rattle.grammar.specs.Form.{Parses}
 use Rattle.grammar.proofs.Places.{content-grows}
 use Rattle.faults.specs.Added.{contentWords}
 use Rattle.faults.proofs.Expressions.{grows}
-use Rattle.expressions.specs.Known.{Loaded, Within, Known}
+use Rattle.expressions.specs.Known.{Loaded, HeldWords, heldBy, Within, Known}
+use Rattle.expressions.proofs.Holding.{holds, room-one}
 use Rattle.expressions.proofs.Starts.{loaded-part}
-use Rattle.constants.specs.Answers.{Fine, Asks}
-use Rattle.sites.specs.Sites.{Site, filling, ownOf, scopesOf, memoryOf, Placed, owned, Filled}
+use Rattle.constants.specs.Answers.{Worth, Fine, Asks}
+use Rattle.sites.specs.Sites.{Site, filling, ownOf, scopesOf, memoryOf, InPlace, Placed, owned, Filled}
 use Rattle.sites.specs.Walks.{Changed, outerOf, KeepsName}
 use Rattle.datum.specs.Answers.{Begins, Free, after, Written}
 use Rattle.sites.specs.Parts.{baseOf, Fills, Makes}
@@ -44,26 +45,18 @@ use Rattle.sites.proofs.Keeping.{keeps-same, not-among, keeps-outer, data-plain
 -- ---- what expressions know
 pub placed-within : (M : Memory) (a : Meaning) → Placed M a → Within (length (M .module-words)) (length (M .routine-words)) a
 unfolding Placed Within
-placed-within M unknown p = p
-placed-within M (variable t r) p = p
-placed-within M (array t r size) p = p .room
-placed-within M (constant t r) p = p .room
-placed-within M (loop r) p = p
-placed-within M (theRoutine k) p = p
-placed-within M theErrno p = p
-placed-within M (errorNumber k) p = p
+placed-within M a = holds (heldBy a) (λ w p. p .room) (λ k h. h)
 
 module _ (W : List Word) (routine : ℕ → ℕ) (s : Site) (D : Data) (values : List ℕ) (f : Filled W routine s D values) where
   pub placed-fine : (a : Meaning) → Placed (memoryOf W s D) a → Fine (length (memoryOf W s D .module-words)) (length (memoryOf W s D .routine-words)) (wordsOf values) (memoryOf W s D) a
   unfolding Placed Fine
-  placed-fine unknown p = tt
-  placed-fine (variable t r) p = tt
-  placed-fine (array t r size) p = tt
-  placed-fine (constant t r) p = record { room = p .room; is = f .cells r (p .room); ranged = p .ranged }
-  placed-fine (loop r) p = tt
-  placed-fine (theRoutine k) p = tt
-  placed-fine theErrno p = tt
-  placed-fine (errorNumber k) p = p
+  placed-fine a = holds (heldBy a) fine (λ k h. h)
+    where
+      fine : (w : HeldWords) → InPlace (memoryOf W s D) w → w .fixed ≡ true
+          → Worth (length (memoryOf W s D .module-words)) (length (memoryOf W s D .routine-words)) (wordsOf values) (memoryOf W s D) (w .first)
+      fine w p e =
+          let room = room-one _ _ (w .first) (w .size) (p .some) (p .room) in
+          record { room = room; is = f .cells (w .first) room; ranged = p .ranged e }
 
   abbrev pub known-of : Known values
   known-of = record {

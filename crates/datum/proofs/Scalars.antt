@@ -11,7 +11,7 @@ use mir.Syntax.{w32}
 use mir.Val.{toZ, ofZ}
 use mir.Facts.{toZ-ofZ}
 use borrow.Author.Tests.{ne-eqb}
-use Rattle.laws.proofs.Tests.{test, by-same}
+use Rattle.laws.proofs.Tests.{test, by-same, false-true}
 use Rattle.paper.specs.Basics.{if_then_else_}
 use Rattle.paper.specs.Words.{Word}
 use Rattle.paper.specs.Terms.{Ref, Memory, load}
@@ -140,7 +140,8 @@ module _ {code values : List ℕ} {own limit used i : ℕ} (b : Begins code valu
       let z : length (b .D .words) + 0 ≡ length (b .D .words) = omega arith in
       let l : load (F b .memoryWith (b .D .words ++ vs)) (F b .ref (length (b .D .words))) ≡ v =
       ap (λ (k : ℕ). load (F b .memoryWith (b .D .words ++ vs)) (F b .ref k)) (sym z) ∙ load-new (b .W) (b .s) (b .D .words) vs 0 ∙ ap (λ (k : List ℤ). getD k 0 (pos 0)) words-are in
-      test (eqb op 12) (λ t. rw (t, scalarMeaning) (record { room = room; ranged = subst InNum (sym l) small })) (λ t. rw (t, scalarMeaning) room)
+      test (eqb op 12) (λ t. rw (t, scalarMeaning) (record { room = room; some = omega arith; ranged = λ e. subst InNum (sym l) small }))
+      (λ t. rw (t, scalarMeaning) (record { room = room; some = omega arith; ranged = λ e. false-true e }))
 
   scalar-done : (mid code₂ code′ values₂ values′ : List ℕ) (word held next : ℕ) → Around code mid i (b .to) → Makes mid values code₂ values₂ (i + 2) op own used
       → Starts code₂ values₂ code′ values′ own used 1 word held i → toZ w32 word ≡ v → pos held -ℤ pos bias ≡ v → next ≡ b .to → Goes b code′ values′ next (used + 1)

@@ -16,7 +16,9 @@ use Rattle.paper.specs.Computing.{computed}
 use Rattle.paper.specs.Examples.{fields, lines, moduleOf}
 use Rattle.paper.specs.Answer.{Accepted, Verdict, refusedBy, accepted, verdict, Result, refusedWith, carriedOut, ranTo, tooSmall, badDepth, result, Lent, Answer, questionOf, storeAfter, answer}
 use Rattle.demands.proofs.Instances.{lent}
-use Rattle.demands.specs.Fakes.{Bench, AnswersAsDefined, withText, withSteps, withInputs, withCount, RefusesEvery, refuser, SameRecord, repeater, TouchesNoOutput, silent, TouchesNoData, idler, firstStepOf, Plain, assigns, tpwrites, BeginsPlain, upToSecond, FakesWhatFollows, closedAfterFirst, skipper, FakesWhatIsRead, returned, pretender, InventsSteps, inventor, HasWhatItShould, Demand2}
+use Rattle.demands.specs.Fakes.{Bench, AnswersAsDefined, withText, withSteps, withInputs, withCount, RefusesEvery, refuser, SameRecord, repeater, TouchesNoOutput, silent, TouchesNoData, idler}
+use Rattle.demands.specs.Fakes.{firstStepOf, Plain, assigns, tpwrites, BeginsPlain, upToSecond, FakesWhatFollows, closedAfterFirst, skipper, FakesWhatIsRead, returned, pretender, InventsSteps}
+use Rattle.demands.specs.Fakes.{inventor, HasWhatItShould, Demand2}
 
 -- ---- a plain first statement does the same whatever there is to read
 module _ (P : Program) (d o : ℕ) (i j : List ℤ) where

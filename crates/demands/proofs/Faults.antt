@@ -13,12 +13,15 @@ use Rattle.laws.proofs.Tests.{apart}
 use Rattle.paper.specs.Sorts.{NAME, NUMBER, TRUE, FALSE, NOT, equal, unequal}
 use Rattle.paper.specs.Words.{Word}
 use Rattle.paper.specs.Terms.{Ref, Term, stored, Memory}
-use Rattle.paper.specs.Trees.{Expr, leaf, element, nested, signed, joined, first, Target, Simple, assign, assignCall, call, returns, raises, exits, retries, triesNext, writes, reads, Statement, Statements, Arms, Cases, simple, compactIf, fullIf, for, while, test, empty, _then_, noArm, arm, noCase, case, Content, variableData, initialData, arrayData, constantData, Declared, Parameter, RoutineList, Routine, Module}
+use Rattle.paper.specs.Trees.{Expr, leaf, element, nested, signed, joined, first, Target, Simple, assign, assignCall, call, returns, raises, exits, retries, triesNext, writes, reads, Statement}
+use Rattle.paper.specs.Trees.{Statements, Arms, Cases, simple, compactIf, fullIf, for, while, test, empty, _then_, noArm, arm, noCase, case, Content, variableData, initialData, arrayData}
+use Rattle.paper.specs.Trees.{constantData, Declared, Parameter, RoutineList, Routine, Module}
 use Rattle.paper.specs.Expressions.{levelOf, relations, conjunctions}
-use Rattle.paper.specs.Names.{DataType, aNum, aBool, refusedPiece, Meaning, unknown, variable, array, constant, loop, theRoutine, theErrno, errorNumber, routineIn, arrayIn, variableIn, wrongName, Text, textOf, Scopes, sortIn, spelled, meaning, cannotDeclare}
+use Rattle.paper.specs.Names.{DataType, aNum, aBool, refusedPiece, Meaning, unknown, variable, array, constant, loop, theRoutine, theErrno, errorNumber, usesOf, routineIn, arrayIn, variableIn, wrongName, Text, textOf, Scopes, sortIn, spelled, meaning, cannotDeclare}
 use Rattle.paper.specs.Types.{Fault, fault, faultIf, leastOf, least, comesFirst, Judged, judged, judgedNothing, differs, wanted, judgeName, judgeElement, judgeJoined, judgeSigned, judgeLeaf, judge, faultsOf, ofType, constantWorth, constantFaults, raisesError, isNoSize}
 use Rattle.paper.specs.Declarations.{moduleWordLimit, crosses, Data, Filling, declareName, declareContent, declareData, declareParameters, noData, Signature, dataTexts, routineNames, routineNameFaults, moduleFilling, moduleData, routineFilling, routineData}
-use Rattle.paper.specs.Checks.{Setting, isOtherKind, noSignature, judgeScalarTarget, judgeTarget, argumentFaults, signatureFaults, calleeFaults, callFaults, resultFaults, returnFaults, optionalNum, simpleFaults, caseFaults, statementFaults, listFaults, armFaults, casesFaults, handlerFaults, routineFaults, allRoutineFaults, faults}
+use Rattle.paper.specs.Checks.{Setting, isOtherKind, noSignature, judgeScalarTarget, judgeTarget, argumentFaults, signatureFaults, calleeFaults, callFaults, resultFaults, returnFaults, optionalNum}
+use Rattle.paper.specs.Checks.{simpleFaults, caseFaults, statementFaults, listFaults, armFaults, casesFaults, handlerFaults, routineFaults, allRoutineFaults, faults}
 use Rattle.raised.proofs.Choices.{chosen, forked}
 use Rattle.demands.proofs.Parsing.{Is, is-by, ExprIn, first-in, OptionalIn, SortsOfTarget, SimpleSorts, Sorts, SortsOfList, SortsOfArms, SortsOfCases, SortsOfHandler, ContentIn, DeclaredIn, ParameterIn, SortsOfRoutine, SortsOfModule}
 use Rattle.demands.proofs.Alls.{_and_, first-of, rest-of}
@@ -87,14 +90,7 @@ module _ (W : List Word) where
 
   wrong-ranked : (m : Meaning) (i : ℕ) → IsWord i → Ranked (fault (wrongName m) i)
   unfolding wrongName
-  wrong-ranked unknown i w = fault-ranked 11 i (tt, tt) w
-  wrong-ranked (variable t r) i w = fault-ranked 12 i (tt, tt) w
-  wrong-ranked (array t r n) i w = fault-ranked 12 i (tt, tt) w
-  wrong-ranked (constant t r) i w = fault-ranked 12 i (tt, tt) w
-  wrong-ranked (loop r) i w = fault-ranked 12 i (tt, tt) w
-  wrong-ranked (theRoutine k) i w = fault-ranked 12 i (tt, tt) w
-  wrong-ranked theErrno i w = fault-ranked 12 i (tt, tt) w
-  wrong-ranked (errorNumber n) i w = fault-ranked 12 i (tt, tt) w
+  wrong-ranked m i w = chosen (λ k. Ranked (fault k i)) (usesOf m .known) 12 11 (fault-ranked 12 i (tt, tt) w) (fault-ranked 11 i (tt, tt) w)
 
   element-ranked : (c : Bool) (m : Meaning) (i : ℕ) (e : Expr) (j : Judged) → IsWord i → In e → Ranked (j .faults) → Ranked (judgeElement c m i e j .faults)
   unfolding judgeElement

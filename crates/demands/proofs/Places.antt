@@ -9,7 +9,9 @@ use lib.Dec.{T, eqb, ltb, leb, leb→le}
 use lib.ListN.{length, getD, take, drop, length-take, length-drop}
 use borrow.Author.Tests.{ltb-true}
 use Rattle.paper.specs.Sorts.{signSort}
-use Rattle.paper.specs.Words.{textLimit, wordLimit, nameLimit, stringLimit, largestNumber, QUOTE, EXCLAMATION, LF, permitted, permittedInside, letter, digit, inName, separates, spoilsNumber, barredInString, leading, Scan, word, refused, scanName, valueOf, scanNumber, stringEnd, scanString, scanSign, scan, Gap, upTo, badByte, gap, placeAfter, Refusal, Next, next, ended, refusal, scanned, wordAt, following, Reading, readFrom, reading}
+use Rattle.paper.specs.Words.{textLimit, wordLimit, nameLimit, stringLimit, largestNumber, QUOTE, EXCLAMATION, LF, permitted, permittedInside, letter, digit, inName, separates, spoilsNumber}
+use Rattle.paper.specs.Words.{barredInString, leading, Scan, word, refused, scanName, valueOf, scanNumber, stringEnd, scanString, scanSign, scan, Gap, upTo, badByte, gap, placeAfter, Refusal, Next}
+use Rattle.paper.specs.Words.{next, ended, refusal, scanned, wordAt, following, Reading, readFrom, reading}
 use Rattle.raised.proofs.Choices.{forked, forked-by}
 use Rattle.demands.specs.Vocabulary.{All, nothing, _also_}
 

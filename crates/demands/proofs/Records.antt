@@ -15,7 +15,7 @@ use Rattle.paper.specs.Words.{textLimit, Word, Refusal, reading}
 use Rattle.paper.specs.Trees.{Module}
 use Rattle.paper.specs.Expressions.{Parsed, got, no, startsStatement, startsSimple}
 use Rattle.paper.specs.Form.{formed}
-use Rattle.paper.specs.Names.{Meaning, unknown, variable, array, constant, loop, theRoutine, theErrno, errorNumber, routineIn, noWord, nth, sortIn}
+use Rattle.paper.specs.Names.{Meaning, routineIn, noWord, nth, sortIn}
 use Rattle.paper.specs.Types.{Fault, least}
 use Rattle.paper.specs.Declarations.{moduleWordLimit, Signature, moduleScopes}
 use Rattle.paper.specs.Checks.{faults, isMain, noSignature, mainIn, mainOf}
@@ -115,14 +115,7 @@ main-named W sigs (some j) k e = by-test (isMain W (getD sigs j noSignature)) e
 
 routine-below : (n : ℕ) (m : Meaning) (k : ℕ) → InRange n m → routineIn m ≡ some k → k < n
 unfolding routineIn
-routine-below n unknown k h e = apart (cc)
-routine-below n (variable t r) k h e = apart (cc)
-routine-below n (array t r j) k h e = apart (cc)
-routine-below n (constant t r) k h e = apart (cc)
-routine-below n (loop r) k h e = apart (cc)
-routine-below n (theRoutine j) k h e = let q : j ≡ k = cc in rw q at h
-routine-below n theErrno k h e = apart (cc)
-routine-below n (errorNumber j) k h e = apart (cc)
+routine-below n m k h e = rw e at h
 
 main-below : (W : List Word) (m : Module) (k : ℕ) → mainOf W m ≡ some k → k < length (m .routines)
 unfolding mainOf

@@ -4,11 +4,13 @@ use Prim.Native.Nat.{ℕ, suc, _+_, _≤_, _<_}
 use native.Mathlib.Omega.{arith}
 use lib.ListN.{length}
 use lib.IntN.{ℤ}
+use mathlib.Core.Option.{Option, none, some}
+use Rattle.laws.specs.Options.{WhereSome}
 use Rattle.paper.specs.Sorts.{equalTexts}
 use Rattle.paper.specs.Words.{Word}
 use Rattle.paper.specs.Terms.{Ref}
 use Rattle.paper.specs.Trees.{Content, variableData, initialData, arrayData, constantData, Declared, Parameter, Routine, Module}
-use Rattle.paper.specs.Names.{DataType, Meaning, unknown, variable, array, constant, loop, theRoutine, theErrno, errorNumber, routineIn, Text, Names, textOf, Scopes, lookIn, protected, meaning, cannotDeclare, declare, enter, spelled}
+use Rattle.paper.specs.Names.{DataType, Meaning, unknown, loop, usesOf, routineIn, Text, Names, textOf, Scopes, lookIn, protected, meaning, cannotDeclare, declare, enter, spelled}
 use Rattle.paper.specs.Types.{Fault}
 use Rattle.paper.specs.Declarations.{Data, Filling, declareName, declareContent, declareData, declareParameters, noData, routineNames, moduleData, moduleScopes, routineFilling, routineData, routineScopes}
 use Rattle.paper.specs.Steps.{routineOf}
@@ -18,14 +20,7 @@ use Rattle.demands.specs.Vocabulary.{All, nothing, _also_}
 
 module _ (n : ℕ) where
   abbrev pub InRange : Meaning → Type 0
-  InRange unknown = Unit
-  InRange (variable t r) = Unit
-  InRange (array t r k) = Unit
-  InRange (constant t r) = Unit
-  InRange (loop r) = Unit
-  InRange (theRoutine k) = k < n
-  InRange theErrno = Unit
-  InRange (errorNumber e) = Unit
+  InRange m = WhereSome (λ k. k < n) (usesOf m .routine)
 
   abbrev pub NamesIn : Names → Type 0
   NamesIn names = All (λ x. InRange (x .1)) names
@@ -54,14 +49,11 @@ module _ (n : ℕ) where
   -- The routine of a callee, if it is one; else 0.
   pub routine-in : (m : Meaning) → InRange m → 0 < n → routineOf (routineIn m) < n
   unfolding routineIn routineOf
-  routine-in unknown h z = z
-  routine-in (variable t r) h z = z
-  routine-in (array t r k) h z = z
-  routine-in (constant t r) h z = z
-  routine-in (loop r) h z = z
-  routine-in (theRoutine k) h z = h
-  routine-in theErrno h z = z
-  routine-in (errorNumber e) h z = z
+  routine-in m h z = by-routine (usesOf m .routine) h
+    where
+      by-routine : (o : Option ℕ) → WhereSome (λ k. k < n) o → routineOf o < n
+      by-routine none f = z
+      by-routine (some k) f = f
 
   -- ---- declarations
   declare-in : (text : Text) (m : Meaning) (names : Names) → InRange m → NamesIn names → NamesIn (declare text m names)

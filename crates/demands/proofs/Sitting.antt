@@ -21,7 +21,8 @@ use Rattle.demands.proofs.Performed.{Performed, makes, fails-with, ends
 use Rattle.demands.proofs.Performed as steps
 use Rattle.demands.proofs.Calls.{calls-after, all-bare, from, step-from}
 use Rattle.demands.proofs.Growing.{run-goes, run-stops}
-use Rattle.demands.specs.Vocabulary.{All, nothing, _also_, bare, CallsRoutine, for-result, for-nothing, Taken, CallsAfter, goes-on, begins, returns, retries, tries-next, fails, hands-on, Closes, WritesLine, by-tpwrite, by-tpreadnum, Next, a-statement, the-end, EndsWith, at-exit, at-statement, at-list-end, at-next, at-callee, at-read, at-line}
+use Rattle.demands.specs.Vocabulary.{All, nothing, _also_, bare, CallsRoutine, for-result, for-nothing, Taken, CallsAfter, goes-on, begins, returns, retries, tries-next, fails, hands-on, Closes}
+use Rattle.demands.specs.Vocabulary.{WritesLine, by-tpwrite, by-tpreadnum, Next, a-statement, the-end, EndsWith, at-exit, at-statement, at-list-end, at-next, at-callee, at-read, at-line}
 
 -- The step a calls a routine below n.
 calls-below : (W : List Word) (function : Bool) (n : ℕ) (N : ℕ → Type 0) (k : ℕ) (a : Action) → CallsRoutine k a → CallsIn W function n N a → k < n

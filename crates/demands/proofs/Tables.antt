@@ -8,6 +8,7 @@ use lib.Dec.{eqb}
 use borrow.Author.Tests.{eqb-false}
 use lib.ListN.{length, length-map}
 use lib.IntN.{ℤ}
+use Rattle.laws.specs.Options.{WhereSome}
 use Rattle.laws.proofs.Tests.{apart}
 use Rattle.paper.specs.Sorts.{NAME, IF, FOR, WHILE, TEST, RETURN, RAISE, EXIT, RETRY, TRYNEXT, TPWRITE, TPREADNUM}
 use Rattle.paper.specs.Words.{Word}
@@ -17,7 +18,9 @@ use Rattle.paper.specs.Expressions.{startsStatement, startsSimple}
 use Rattle.paper.specs.Names.{sortIn, spelled, enter, Scopes}
 use Rattle.paper.specs.Types.{termOf}
 use Rattle.paper.specs.Declarations.{routineScopes}
-use Rattle.paper.specs.Steps.{optionalTerm, conditions, constants, begin, firstWord, firstStep, Action, store, callFor, callOf, giveBack, raise, handOn, exit, retry, tryNext, write, read, choose, select, testWhile, enterFor, repeatFor, endList, Step, step, actionOf, simpleStep, stepsOf, stepsOfList, stepsOfArms, stepsOfCases, Code, Program, listSteps, codeOf, programOf}
+use Rattle.paper.specs.Steps.{optionalTerm, conditions, constants, begin, firstWord, firstStep, Action, store, callFor, callOf, giveBack, raise, handOn, exit, retry, tryNext, write, read, choose}
+use Rattle.paper.specs.Steps.{select, testWhile, enterFor, repeatFor, endList, partsOf, Step, step, actionOf, simpleStep, stepsOf, stepsOfList, stepsOfArms, stepsOfCases, Code, Program, listSteps}
+use Rattle.paper.specs.Steps.{codeOf, programOf}
 use Rattle.paper.specs.Running.{stepNamed}
 use Rattle.raised.proofs.Choices.{forked, forked-by}
 use Rattle.demands.proofs.Alls.{_and_, first-of, rest-of, front-of, back-of, all-map}
@@ -76,23 +79,7 @@ module _ (W : List Word) (function : Bool) where
   -- ---- all that a step has to fit: n is the number of routines, N tells the names of the steps of its table.
   module _ (n : ℕ) (N : ℕ → Type 0) where
     abbrev pub CallsIn : Action → Type 0
-    CallsIn (store t e) = Unit
-    CallsIn (callFor t callee k es) = k < n
-    CallsIn (callOf callee k es) = k < n
-    CallsIn (giveBack e) = Unit
-    CallsIn (raise e) = Unit
-    CallsIn handOn = Unit
-    CallsIn exit = Unit
-    CallsIn retry = Unit
-    CallsIn tryNext = Unit
-    CallsIn (write text e) = Unit
-    CallsIn (read t text) = Unit
-    CallsIn (choose arms otherwise) = Unit
-    CallsIn (select e cs otherwise) = Unit
-    CallsIn (testWhile e body) = Unit
-    CallsIn (enterFor k from to d body) = Unit
-    CallsIn (repeatFor k body) = Unit
-    CallsIn endList = Unit
+    CallsIn a = WhereSome (λ c. c .1 < n) (partsOf a .callee)
 
     pub record Fits (s : Step) : Type 0 where
       pub stands : Stands s

@@ -11,7 +11,7 @@ use Rattle.paper.specs.Words.{Word}
 use Rattle.paper.specs.Expressions.{startsStatement}
 use Rattle.paper.specs.Names.{nth, sortIn}
 use Rattle.paper.specs.Terms.{Term}
-use Rattle.paper.specs.Steps.{Spot, Action, store, callFor, callOf, giveBack, raise, handOn, exit, retry, tryNext, write, read, choose, select, testWhile, enterFor, repeatFor, endList, Program}
+use Rattle.paper.specs.Steps.{Spot, Action, callFor, callOf, handOn, retry, tryNext, partsOf, Program}
 use Rattle.paper.specs.States.{Location, Call, State, Rooms, Effect, goTo, setFailed}
 use Rattle.paper.specs.Running.{codeAt, stepOf, nextStep, newCall, resume, takes, perform, goesOn, takeStep, started}
 
@@ -130,23 +130,7 @@ pub record Taken (P : Program) (before after : List Call) : Type 0 where
 
 -- Where a step says itself that its call goes on, besides the step after its statement.
 unfoldable pub waysOf : Action → List ℕ
-waysOf (store t e) = []
-waysOf (callFor t callee k es) = []
-waysOf (callOf callee k es) = []
-waysOf (giveBack e) = []
-waysOf (raise e) = []
-waysOf handOn = []
-waysOf exit = []
-waysOf retry = []
-waysOf tryNext = []
-waysOf (write text e) = []
-waysOf (read t text) = []
-waysOf (choose arms otherwise) = otherwise ∷ map (λ a. a .1) arms
-waysOf (select e cs otherwise) = otherwise ∷ map (λ c. c .1) cs
-waysOf (testWhile e body) = body ∷ []
-waysOf (enterFor k from to d body) = body ∷ []
-waysOf (repeatFor k body) = body ∷ []
-waysOf endList = []
+waysOf a = partsOf a .ways
 
 -- The newest call goes on in its routine; its callers are as they were, but that a word of theirs may have been stored.
 pub record GoesOn (c : Call) (r : List Call) (ways : List ℕ) (after : List Call) : Type 0 where

@@ -1,4 +1,5 @@
 pub mod Keeping
+pub mod Holding
 pub mod Judging
 pub mod Order
 pub mod Operators

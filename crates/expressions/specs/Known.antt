@@ -1,5 +1,6 @@
 -- What the check of an expression knows: the words of the text as they were loaded, and what names mean.
 use mathlib.Core.Path.{_≡_}
+use mathlib.Core.Bool.{Bool, true, false}
 use mathlib.Core.List.{List}
 use Prim.Native.Nat.{ℕ, _+_, _*_, _%_, _<_, _≤_}
 use lib.ListN.{length}
@@ -38,15 +39,40 @@ unfoldable pub InRoom : (m n : ℕ) → Ref → (size : ℕ) → Type 0
 InRoom m n (ofModule k) size = k + size ≤ m
 InRoom m n (ofRoutine k) size = k + size ≤ n
 
+-- Words that a name stands for.
+pub record HeldWords : Type 0 where
+  pub first : Ref
+  pub size : ℕ
+  -- a constant's
+  pub fixed : Bool
+  -- declared by a scope's data or parameters, and not by a FOR
+  pub declared : Bool
+
+-- What a name holds, by what it means: words, a number, or nothing that is in a store.
+pub data Held : Type 0 where
+  nothing : Held
+  words : HeldWords → Held
+  number : ℕ → Held
+
+abbrev pub heldBy : Meaning → Held
+heldBy unknown = nothing
+heldBy (variable t r) = words (record { first = r; size = 1; fixed = false; declared = true })
+heldBy (array t r size) = words (record { first = r; size = size; fixed = false; declared = true })
+heldBy (constant t r) = words (record { first = r; size = 1; fixed = true; declared = true })
+heldBy (loop r) = words (record { first = r; size = 1; fixed = false; declared = false })
+heldBy (theRoutine k) = nothing
+heldBy theErrno = nothing
+heldBy (errorNumber k) = number k
+
+-- What is asked of a name that holds words, and of one that is a number.
+abbrev pub Holds : (HeldWords → Type 0) → (ℕ → Type 0) → Held → Type 0
+Holds F G nothing = Unit {0}
+Holds F G (words w) = F w
+Holds F G (number k) = G k
+
+-- Its words are among those of the module and of the routine; a number is one that a text can have.
 unfoldable pub Within : (m n : ℕ) → Meaning → Type 0
-Within m n unknown = Unit {0}
-Within m n (variable t r) = InRoom m n r 1
-Within m n (array t r size) = InRoom m n r size
-Within m n (constant t r) = InRoom m n r 1
-Within m n (loop r) = InRoom m n r 1
-Within m n (theRoutine k) = Unit {0}
-Within m n theErrno = Unit {0}
-Within m n (errorNumber k) = k ≤ largest
+Within m n a = Holds (λ w. InRoom m n (w .first) (w .size)) (λ k. k ≤ largest) (heldBy a)
 
 -- The text's words, what its names mean by the table in the value store, and how many words of data there are.
 pub record Known (values : List ℕ) : Type 0 where

@@ -11,6 +11,7 @@ use borrow.Author.Tests.{eqb-true, eqb-false, eq-eqb, ne-eqb}
 use Rattle.laws.proofs.Tests.{test, by-same, apart}
 use Rattle.paper.specs.Basics.{if_then_else_}
 use Rattle.paper.specs.Expressions.{levelOf, isLiteral, standsBefore}
+use Rattle.layout.specs.Rules.{deepNesting}
 use Rattle.form.specs.declared.Read.{Read}
 use Rattle.form.specs.declared.Read.the-variants.{Upto, Refused}
 use Rattle.form.specs.Places.{Lent, sortsIn, _▸_, turns, word, operand, chainTurn, chain, prefixed, level, expressionIn, behindNot, behindSign, rest}
@@ -243,11 +244,11 @@ module _ (code : List ℕ) (words : ℕ) where
 
   -- ---- nesting
 
-  pub nest-out : (d at c : ℕ) → d ≡ 0 → Refused 9 at ≡ (expressionIn (sortsIn code words) d (at + 1) ▸ word (sortsIn code words) c)
+  pub nest-out : (d at c : ℕ) → d ≡ 0 → Refused deepNesting at ≡ (expressionIn (sortsIn code words) d (at + 1) ▸ word (sortsIn code words) c)
   unfolding expressionIn _▸_
   nest-out d at c h = let q : at + 1 - 1 ≡ at = omega arith in rw (h, q)
 
-  pub nest-out-2 : (d at c : ℕ) → d ≡ 0 → Refused 9 (at + 1) ≡ (expressionIn (sortsIn code words) d (at + 2) ▸ word (sortsIn code words) c)
+  pub nest-out-2 : (d at c : ℕ) → d ≡ 0 → Refused deepNesting (at + 1) ≡ (expressionIn (sortsIn code words) d (at + 2) ▸ word (sortsIn code words) c)
   unfolding expressionIn _▸_
   nest-out-2 d at c h = let q : at + 2 - 1 ≡ at + 1 = omega arith in rw (h, q)
 

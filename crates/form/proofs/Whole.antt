@@ -13,6 +13,7 @@ use Rattle.paper.specs.Expressions as paper
 use Rattle.paper.specs.Expressions.{Parsed, Parser, got, no, _>>=_, startsData, startsRoutine}
 use Rattle.paper.specs.Statements as statements
 use Rattle.paper.specs.Form as modules
+use Rattle.layout.specs.Rules.{noForm}
 use Rattle.form.specs.declared.Read.{Read}
 use Rattle.form.specs.declared.Read.the-variants.{Upto, Refused}
 use Rattle.form.specs.declared.Verdict.{Verdict}
@@ -72,7 +73,7 @@ module _ (W : ℕ → ℕ) where
 
 -- a verdict of a reading that came to the last word
 unfoldable pub judged : (W : ℕ → ℕ) → Read → Verdict
-judged W (Upto n) = if eqb (W n) 0 then verdict.Formed else verdict.Refused 8 n
+judged W (Upto n) = if eqb (W n) 0 then verdict.Formed else verdict.Refused noForm n
 judged W (Refused k i) = verdict.Refused k i
 
 over : {A : Type 0} {q : Read} (W : ℕ → ℕ) (at : A → ℕ) (p : Parsed A) (f : A → Parsed Module) (g : ℕ → Read) (K : Read → Read) → ((k i : ℕ) → K (Refused k i) ≡ Refused k i)
@@ -143,7 +144,7 @@ module _ (code : List ℕ) (words : ℕ) (lent : Lent code words) where
       unfolding judged
       form-formed z = sym (formed-is ∙ rw (sym e ∙ h, eq-eqb (W n) 0 (sym w ∙ z)))
 
-      pub form-more : (v ≡ 0 → ⊥) → Judged code words (verdict.Refused 8 n)
+      pub form-more : (v ≡ 0 → ⊥) → Judged code words (verdict.Refused noForm n)
       unfolding judged
       form-more z = sym (formed-is ∙ rw (sym e ∙ h, ne-eqb (W n) 0 (λ q. z (w ∙ q))))
 

@@ -10,6 +10,7 @@ use Rattle.paper.specs.Sorts.{NOTHING, NAME, STRING, semicolon, comma, openPare
 use Rattle.paper.specs.Sorts.{CASE, CONST, DEFAULT, DO, ELSE, ELSEIF, ENDFOR, ENDFUNC, ENDIF, ENDMODULE, ENDPROC, ENDTEST, ENDWHILE, ERROR, EXIT, FOR, FROM, FUNC, IF, MODULE, NOT, PROC, RAISE, RETRY, RETURN, STEP, TEST, THEN, TO, TRYNEXT, VAR, WHILE, NUM, TPWRITE, TPREADNUM}
 use Rattle.paper.specs.Words.{wordLimit}
 use Rattle.paper.specs.Expressions.{parts, nestings, relations, conjunctions, disjunctions, levelOf, standsBefore, isLiteral, isType, startsData, startsRoutine, startsSimple, startsStatement}
+use Rattle.layout.specs.Rules.{noForm, deepNesting}
 use Rattle.cells.specs.Words.{wordsOf}
 use Rattle.form.specs.declared.Read.{Read}
 use Rattle.form.specs.declared.Read.the-variants.{Upto, Refused}
@@ -45,15 +46,15 @@ startsCompound s = eqb s IF || eqb s FOR || eqb s WHILE || eqb s TEST
 
 -- A loop of the parser, of that many turns at most.
 unfoldable pub turns : (turn : (again : ℕ → Read) → ℕ → Read) → (parts : ℕ) → ℕ → Read
-turns turn zero at = Refused 8 at
+turns turn zero at = Refused noForm at
 turns turn (suc p) at = turn (turns turn p) at
 
 module _ (W : ℕ → ℕ) where
   unfoldable pub word : (sort : ℕ) → ℕ → Read
-  word s at = if eqb (W at) s then Upto (at + 1) else Refused 8 at
+  word s at = if eqb (W at) s then Upto (at + 1) else Refused noForm at
 
   unfoldable pub typeWord : ℕ → Read
-  typeWord at = if isType (W at) then Upto (at + 1) else Refused 8 at
+  typeWord at = if isType (W at) then Upto (at + 1) else Refused noForm at
 
   -- ---- expressions
   unfoldable pub operand : (inner : ℕ → Read) → ℕ → Read
@@ -61,7 +62,7 @@ module _ (W : ℕ → ℕ) where
       if eqb (W at) NAME then (if eqb (W (at + 1)) openBrace then inner (at + 2) ▸ word closeBrace else Upto (at + 1))
       else if eqb (W at) openParen then inner (at + 1) ▸ word closeParen
       else if isLiteral (W at) then Upto (at + 1)
-      else Refused 8 at
+      else Refused noForm at
 
   unfoldable pub chainTurn : (j : ℕ) → (sub again : ℕ → Read) → ℕ → Read
   chainTurn j sub again at =
@@ -78,7 +79,7 @@ module _ (W : ℕ → ℕ) where
   level inner (suc j) at = prefixed (suc j) (level inner j) at ▸ chain (suc j) (level inner j)
 
   unfoldable pub expressionIn : (d : ℕ) → ℕ → Read
-  expressionIn zero at = Refused 9 (at - 1)
+  expressionIn zero at = Refused deepNesting (at - 1)
   expressionIn (suc d) at = level (expressionIn d) disjunctions at
 
   abbrev pub expression : ℕ → Read
@@ -113,7 +114,7 @@ module _ (W : ℕ → ℕ) where
   unfoldable pub target : ℕ → Read
   target at =
       if eqb (W at) NAME then (if eqb (W (at + 1)) openBrace then expressionIn nestings (at + 2) ▸ word closeBrace else Upto (at + 1))
-      else Refused 8 at
+      else Refused noForm at
 
   unfoldable pub rightSide : ℕ → Read
   rightSide at =
@@ -143,7 +144,7 @@ module _ (W : ℕ → ℕ) where
       else if eqb (W at) TRYNEXT then Upto (at + 1)
       else if eqb (W at) TPWRITE then writing (at + 1)
       else if eqb (W at) TPREADNUM then wanting (at + 1)
-      else Refused 8 at
+      else Refused noForm at
 
   unfoldable pub simple : ℕ → Read
   simple at = simpleWord at ▸ word semicolon
@@ -173,7 +174,7 @@ module _ (W : ℕ → ℕ) where
 
   unfoldable pub condition : (deeper : ℕ) → ℕ → Part
   condition d at =
-      if eqb (W at) THEN then (if eqb d 0 then part.Refused 9 at else part.Inside ELSEIF (at + 1)) else simple at ▹ part.Whole
+      if eqb (W at) THEN then (if eqb d 0 then part.Refused deepNesting at else part.Inside ELSEIF (at + 1)) else simple at ▹ part.Whole
 
   unfoldable pub ifHead : (deeper : ℕ) → ℕ → Part
   ifHead d at = expression at ▹ condition d
@@ -184,7 +185,7 @@ module _ (W : ℕ → ℕ) where
   unfoldable pub opened : (deeper : ℕ) → ℕ → Part
   opened d at =
       if eqb (W at) IF then ifHead d (at + 1)
-      else if eqb d 0 then part.Refused 9 at
+      else if eqb d 0 then part.Refused deepNesting at
       else if eqb (W at) FOR then forHead (at + 1) ▹ part.Inside ENDFOR
       else if eqb (W at) WHILE then expression (at + 1) ▸ word DO ▹ part.Inside ENDWHILE
       else testHead (at + 1)
@@ -230,7 +231,7 @@ module _ (W : ℕ → ℕ) where
 
   -- A list in which compound statements nest less deep than d; with d = 0 there is none.
   unfoldable pub listBelow : (d : ℕ) → ℕ → Read
-  listBelow zero at = Refused 9 at
+  listBelow zero at = Refused deepNesting at
   listBelow (suc d) at = turns (listTurn (λ n. resume (listBelow d) (opened d n))) parts at
 
   unfoldable pub compound : (deeper : ℕ) → ℕ → Read
@@ -241,7 +242,7 @@ module _ (W : ℕ → ℕ) where
   content s at =
       if eqb (W at) becomes then expression (at + 1)
       else if eqb s VAR then (if eqb (W at) openBrace then expression (at + 1) ▸ word closeBrace else Upto at)
-      else Refused 8 at
+      else Refused noForm at
 
   unfoldable pub declaration : (starts : ℕ) → ℕ → Read
   declaration s at = typeWord at ▸ word NAME ▸ content s ▸ word semicolon

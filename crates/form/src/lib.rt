@@ -1,23 +1,19 @@
 // The checker's second pass: whether the words of a text form a module, read by their sorts from the first on. What is refused first is answered, by its
 // number and the index of its word: 8, a word that no well-formed module could have there, or 9, nesting 17.
+use layout::levels;
+use layout::limits::NESTINGS;
+use layout::parts;
+use layout::rules;
 use sorts::*;
 ghost use mathlib.Core.Path.{_≡_};
 ghost use Prim.Native.Nat.{suc, _<_};
-ghost use Rattle.paper.specs.Expressions.{levelOf, startsData, startsRoutine, startsSimple};
+ghost use Rattle.paper.specs.Expressions.{levelOf, startsSimple};
 ghost use Rattle.form.specs.Places.{Lent, sortsIn, _▸_, _▹_, word, typeWord, expressionIn, expression, expressions, arguments, optional};
 ghost use Rattle.form.specs.Places.{target, rightSide, assigns, startedByName, writing, wanting, simpleWord, simple, stepPart, forHead};
 ghost use Rattle.form.specs.Places.{startsCompound, armEnd, caseEnd, listEnd, ifHead, testHead, opened, compound, listBelow};
 ghost use Rattle.form.specs.Places.{content, declaration, declarations, parameters, errorPart, routineFrom, routine, routines};
 ghost use Rattle.form.specs.Places.{operand, behindNot, behindSign};
 ghost use Rattle.form.specs.Judged.{Judged};
-
-// Refusals.
-const FORM: u32 = 8;
-
-const NESTING: u32 = 9;
-
-// How deep lists, and parentheses and braces, may nest.
-const NESTINGS: usize = 16;
 
 pub enum Verdict {
     Formed,
@@ -49,7 +45,7 @@ fn sort(code: &[u8], words: usize, at: usize) -> u32
     ensures { λ r. ⌜ r ≡ sortsIn (now (code .entry)) words at ⌝ }
 {
     if at < words {
-        return cells::get(code, 2 * at) % 256;
+        return cells::get(code, 2 * at) % parts::VALUE;
     }
     NOTHING
 }
@@ -62,7 +58,7 @@ fn expect(code: &[u8], words: usize, at: usize, s: u32) -> Read
     if sort(code, words, at) == s {
         return Read::Upto(at + 1);
     }
-    Read::Refused(FORM, at)
+    Read::Refused(rules::NO_FORM, at)
 }
 
 fn expect_type(code: &[u8], words: usize, at: usize) -> Read
@@ -76,7 +72,7 @@ fn expect_type(code: &[u8], words: usize, at: usize) -> Read
     if s == BOOL {
         return Read::Upto(at + 1);
     }
-    Read::Refused(FORM, at)
+    Read::Refused(rules::NO_FORM, at)
 }
 
 // What follows a reading.
@@ -104,38 +100,25 @@ impl Read {
 
 // ---- expressions
 
-// Levels of operators, from the tightest on.
-const NO_OPERATOR: u32 = 0;
-
-const PRODUCTS: u32 = 1;
-
-const SUMS: u32 = 2;
-
-const RELATIONS: u32 = 3;
-
-const CONJUNCTIONS: u32 = 4;
-
-const DISJUNCTIONS: u32 = 5;
-
 fn level(s: u32) -> u32
     ensures { λ r. ⌜ r ≡ levelOf s ⌝ }
 {
     match s {
-        TIMES => PRODUCTS,
-        DIV => PRODUCTS,
-        MOD => PRODUCTS,
-        PLUS => SUMS,
-        MINUS_SIGN => SUMS,
-        EQUAL => RELATIONS,
-        UNEQUAL => RELATIONS,
-        LESS => RELATIONS,
-        LESS_EQUAL => RELATIONS,
-        GREATER => RELATIONS,
-        GREATER_EQUAL => RELATIONS,
-        AND => CONJUNCTIONS,
-        OR => DISJUNCTIONS,
-        XOR => DISJUNCTIONS,
-        _ => NO_OPERATOR,
+        TIMES => levels::PRODUCTS,
+        DIV => levels::PRODUCTS,
+        MOD => levels::PRODUCTS,
+        PLUS => levels::SUMS,
+        MINUS_SIGN => levels::SUMS,
+        EQUAL => levels::RELATIONS,
+        UNEQUAL => levels::RELATIONS,
+        LESS => levels::RELATIONS,
+        LESS_EQUAL => levels::RELATIONS,
+        GREATER => levels::RELATIONS,
+        GREATER_EQUAL => levels::RELATIONS,
+        AND => levels::CONJUNCTIONS,
+        OR => levels::DISJUNCTIONS,
+        XOR => levels::DISJUNCTIONS,
+        _ => levels::NONE,
     }
 }
 
@@ -174,13 +157,13 @@ fn operand(code: &[u8], words: usize, at: usize, nesting: usize) -> Read
             return Read::Upto(at + 1);
         }
         if nesting == 0 {
-            return Read::Refused(NESTING, at + 1);
+            return Read::Refused(rules::DEEP_NESTING, at + 1);
         }
         return expression(code, words, at + 2, nesting - 1).word(code, words, CLOSE_BRACE);
     }
     if s == OPEN_PAREN {
         if nesting == 0 {
-            return Read::Refused(NESTING, at);
+            return Read::Refused(rules::DEEP_NESTING, at);
         }
         return expression(code, words, at + 1, nesting - 1).word(code, words, CLOSE_PAREN);
     }
@@ -193,7 +176,7 @@ fn operand(code: &[u8], words: usize, at: usize, nesting: usize) -> Read
     if s == FALSE {
         return Read::Upto(at + 1);
     }
-    Read::Refused(FORM, at)
+    Read::Refused(rules::NO_FORM, at)
 }
 
 // Operands and operators in turn. An operator's level says what may follow: NOT only at the beginning, a sign there and behind a relation, AND, OR and XOR,
@@ -210,14 +193,14 @@ fn expression(code: &[u8], words: usize, at: usize, nesting: usize) -> Read
             return r;
         };
         let k = level(sort(code, words, m));
-        if k == NO_OPERATOR {
+        if k == levels::NONE {
             return r;
         }
-        if k < RELATIONS {
+        if k < levels::RELATIONS {
             n = m + 1;
             continue;
         }
-        if k == RELATIONS {
+        if k == levels::RELATIONS {
             if related {
                 return r;
             }
@@ -266,7 +249,7 @@ fn target(code: &[u8], words: usize, at: usize) -> Read
     ensures { λ r. ⌜ r ≡ target (sortsIn (now (code .entry)) words) at ⌝ }
 {
     if sort(code, words, at) != NAME {
-        return Read::Refused(FORM, at);
+        return Read::Refused(rules::NO_FORM, at);
     }
     if sort(code, words, at + 1) != OPEN_BRACE {
         return Read::Upto(at + 1);
@@ -381,7 +364,7 @@ fn simple_word(code: &[u8], words: usize, at: usize) -> Read
     if s == TPREADNUM {
         return wanted(code, words, at + 1);
     }
-    Read::Refused(FORM, at)
+    Read::Refused(rules::NO_FORM, at)
 }
 
 fn simple(code: &[u8], words: usize, at: usize) -> Read
@@ -503,7 +486,7 @@ fn if_head(code: &[u8], words: usize, at: usize, deeper: usize) -> Part
         return simple(code, words, n).whole();
     }
     if deeper == 0 {
-        return Part::Refused(NESTING, n);
+        return Part::Refused(rules::DEEP_NESTING, n);
     }
     Part::Inside(ELSEIF, n + 1)
 }
@@ -530,7 +513,7 @@ fn open(code: &[u8], words: usize, at: usize, deeper: usize) -> Part
         return if_head(code, words, at + 1, deeper);
     }
     if deeper == 0 {
-        return Part::Refused(NESTING, at);
+        return Part::Refused(rules::DEEP_NESTING, at);
     }
     if s == FOR {
         return for_head(code, words, at + 1).inside(ENDFOR);
@@ -650,7 +633,7 @@ impl Read {
             return expression(code, words, n + 1, NESTINGS);
         }
         if s != VAR {
-            return Read::Refused(FORM, n);
+            return Read::Refused(rules::NO_FORM, n);
         }
         if t != OPEN_BRACE {
             return self;
@@ -680,15 +663,6 @@ impl Read {
             return Read::Upto(n);
         }
     }
-}
-
-fn starts_data(s: u32) -> bool
-    ensures { λ r. ⌜ r ≡ startsData s ⌝ }
-{
-    if s == VAR {
-        return true;
-    }
-    s == CONST
 }
 
 // From behind VAR or CONST on.
@@ -791,15 +765,6 @@ impl Read {
     }
 }
 
-fn starts_routine(s: u32) -> bool
-    ensures { λ r. ⌜ r ≡ startsRoutine s ⌝ }
-{
-    if s == PROC {
-        return true;
-    }
-    s == FUNC
-}
-
 // From behind PROC or FUNC on.
 fn routine(code: &[u8], words: usize, at: usize, s: u32) -> Read
     requires { ⌜ Lent (now code) words ⌝ }
@@ -828,7 +793,7 @@ pub fn form(code: &[u8], words: usize) -> Verdict
             if sort(code, words, n) == NOTHING {
                 return Verdict::Formed;
             }
-            Verdict::Refused(FORM, n)
+            Verdict::Refused(rules::NO_FORM, n)
         }
     }
 }

@@ -10,15 +10,23 @@ use lib.Dec.{eqb}
 use borrow.Author.Tests.{eqb-true, eq-eqb, ne-eqb}
 use Rattle.laws.proofs.Tests.{test, false-true}
 use Rattle.paper.specs.Basics.{if_then_else_}
-use Rattle.paper.specs.Sorts.{NOT, plus, minusSign, NAME, NUMBER, STRING, NUM, NOTHING, closeBrace, closeParen, openBrace, openParen, comma, semicolon, becomes, colon, backslash, CASE, DEFAULT, DO, ELSE, ELSEIF, ENDFOR, ENDFUNC, ENDIF, ENDMODULE, ENDPROC, ENDTEST, ENDWHILE, ERROR, EXIT, FOR, FROM, IF, MODULE, PROC, RAISE, RETRY, RETURN, STEP, TEST, THEN, TO, TPREADNUM, TPWRITE, TRYNEXT, VAR, WHILE}
+use Rattle.paper.specs.Sorts.{NOT, plus, minusSign, NAME, NUMBER, STRING, NUM, NOTHING, closeBrace, closeParen, openBrace, openParen, comma, semicolon, becomes, colon, backslash, CASE, DEFAULT, DO}
+use Rattle.paper.specs.Sorts.{ELSE, ELSEIF, ENDFOR, ENDFUNC, ENDIF, ENDMODULE, ENDPROC, ENDTEST, ENDWHILE, ERROR, EXIT, FOR, FROM, IF, MODULE, PROC, RAISE, RETRY, RETURN, STEP, TEST, THEN, TO}
+use Rattle.paper.specs.Sorts.{TPREADNUM, TPWRITE, TRYNEXT, VAR, WHILE}
 use Rattle.paper.specs.Words.{wordLimit}
-use Rattle.paper.specs.Trees.{variableData, initialData, arrayData, constantData, Expr, leaf, element, nested, signed, joined, Target, Simple, assign, assignCall, call, returns, raises, exits, retries, triesNext, writes, reads, Statement, Statements, Cases, simple, compactIf, fullIf, for, while, empty, _then_, noArm, arm, noCase, case, Content, Module}
+use Rattle.paper.specs.Trees.{variableData, initialData, arrayData, constantData, Expr, leaf, element, nested, signed, joined, Target, Simple, assign, assignCall, call, returns, raises, exits}
+use Rattle.paper.specs.Trees.{retries, triesNext, writes, reads, Statement, Statements, Cases, simple, compactIf, fullIf, for, while, empty, _then_, noArm, arm, noCase, case, Content, Module}
 use Rattle.paper.specs.Trees.{test as testTree}
-use Rattle.paper.specs.Expressions.{Parsed, Parser, got, no, _>>=_, parts, nestings, sums, relations, disjunctions, levelOf, standsBefore, isLiteral, startsData, startsRoutine, startsSimple, startsStatement, expect, inParentheses, indexed, named, operand, chain, prefixed, level, exprIn, expr, unless, separated, repeated, exprs, arguments}
-use Rattle.paper.specs.Statements.{targetIndex, target, valueSide, callSide, rightSide, assignment, procedureCall, startedByName, withOptional, written, tpWrite, tpReadNum, simpleWord, simpleStatement, elsePart, lastArm, arms, ifThen, ifSimple, ifStatement, stepPart, forStatement, whileStatement, defaultPart, lastCase, cases, testStatement, opening, plainStatement, statement, statements, listIn, list}
+use Rattle.paper.specs.Expressions.{Parsed, Parser, got, no, _>>=_, parts, nestings, sums, relations, disjunctions, levelOf, standsBefore, isLiteral, startsData, startsRoutine, startsSimple}
+use Rattle.paper.specs.Expressions.{startsStatement, expect, inParentheses, indexed, named, operand, chain, prefixed, level, exprIn, expr, unless, separated, repeated, exprs, arguments}
+use Rattle.paper.specs.Statements.{targetIndex, target, valueSide, callSide, rightSide, assignment, procedureCall, startedByName, withOptional, written, tpWrite, tpReadNum, simpleWord}
+use Rattle.paper.specs.Statements.{simpleStatement, elsePart, lastArm, arms, ifThen, ifSimple, ifStatement, stepPart, forStatement, whileStatement, defaultPart, lastCase, cases, testStatement}
+use Rattle.paper.specs.Statements.{opening, plainStatement, statement, statements, listIn, list}
 use Rattle.paper.specs.Form.{initialPart, sizePart, varPart, constPart, datum, declaration, declarations, parameter, parameters, errorPart, routineFrom, function, routine, routines, formed}
 use Rattle.grammar.proofs.Completing.{both-true, not-both-false, neither-false}
-use Rattle.grammar.proofs.Completions.{Family, Made, reads-as, yes-if, no-if, yes-when, no-when, then-made, Agrees, Real, GoesBy, Goes, PastBy, Past, Both, then-goes, then-past, goes-then, both-then, goes-last, both-last, start, begun, goes-as, later, next, filled, refused-here, done-both, done, far, real-word, real-join, past-if, if-else, if-then, when-else, when-then, mapped, mapped-goes, last-word, expect-made, expect-goes, expect-both, type-both}
+use Rattle.grammar.proofs.Completions.{Family, Made, reads-as, yes-if, no-if, yes-when, no-when, then-made, Agrees, Real, GoesBy, Goes, PastBy, Past, Both, then-goes, then-past, goes-then}
+use Rattle.grammar.proofs.Completions.{both-then, goes-last, both-last, start, begun, goes-as, later, next, filled, refused-here, done-both, done, far, real-word, real-join, past-if, if-else}
+use Rattle.grammar.proofs.Completions.{if-then, when-else, when-then, mapped, mapped-goes, last-word, expect-made, expect-goes, expect-both, type-both}
 
 -- A word behind an expression that is completed.
 pub record Ender (c : ℕ) : Type 0 where

@@ -1,17 +1,18 @@
 -- What the parser reads as an expression is derived, within the limits.
-use mathlib.Core.Path.{_≡_, refl, sym, _∙_}
-use mathlib.Core.Bool.{true, false, _||_}
+use mathlib.Core.Path.{_≡_, refl}
+use mathlib.Core.Bool.{true}
 use mathlib.Core.Logic.{_⊎_, inl, inr}
 use Prim.Native.Nat.{ℕ, zero, suc, _+_, _-_, _<_}
 use native.Mathlib.Omega.{arith}
 use lib.Dec.{eqb}
 use borrow.Author.Tests.{eqb-true}
 use Rattle.laws.proofs.Tests.{false-true}
-use Rattle.paper.specs.Sorts.{NAME, NOT, plus, minusSign, openParen, closeParen, openBrace, closeBrace}
-use Rattle.paper.specs.Trees.{Expr, leaf, element, nested, signed, joined}
-use Rattle.paper.specs.Expressions.{Parsed, Parser, got, no, parts, products, sums, relations, conjunctions, disjunctions, levelOf, standsBefore, isLiteral, inParentheses, indexed, named, operand, chain, prefixed, level, exprIn}
+use Rattle.paper.specs.Sorts.{NAME, plus, minusSign, openParen, closeParen, openBrace, closeBrace}
+use Rattle.paper.specs.Trees.{Expr, signed, joined}
+use Rattle.paper.specs.Expressions.{Parsed, Parser, parts, products, sums, relations, conjunctions, disjunctions, levelOf, standsBefore, isLiteral, inParentheses, indexed, named, operand, chain, prefixed, level, exprIn}
 use Rattle.grammar.specs.Form.{Parses}
-use Rattle.grammar.specs.Grammar.{DisjunctionAt, a-conjunction, negated, or-xor, ConjunctionAt, a-relation, and, RelationAt, a-sum, compared, SumAt, a-product, with-sign, plus-minus, ProductAt, an-operand, times-div-mod, OperandAt, a-literal, a-name, an-element, in-parentheses, NestsTo, Derives}
+use Rattle.grammar.specs.Grammar.{DisjunctionAt, a-conjunction, negated, or-xor, ConjunctionAt, a-relation, and, RelationAt, a-sum, compared, SumAt, a-product, with-sign, plus-minus, ProductAt}
+use Rattle.grammar.specs.Grammar.{an-operand, times-div-mod, OperandAt, a-literal, a-name, an-element, in-parentheses, NestsTo, Derives}
 use Rattle.grammar.proofs.Steps.{either-true}
 use Rattle.grammar.proofs.Reading.{Gives, gives-got, weaker, then-gives, chosen-gives, forked-gives, expect-then}
 

@@ -1,15 +1,17 @@
 -- A derivation taken apart by the word at hand: what a walk over the words knows after each of its tests.
 use mathlib.Core.Path.{_≡_, refl, sym, ap, ap₂, subst, _∙_}
-use mathlib.Core.Bool.{Bool, true, false, _||_}
+use mathlib.Core.Bool.{Bool, true, false}
 use mathlib.Core.List.{List, [], _∷_}
 use mathlib.Core.Option.{Option, none, some}
-use Prim.Native.Nat.{ℕ, suc, _+_, _-_, _<_}
+use Prim.Native.Nat.{ℕ, _+_, _-_, _<_}
 use native.Mathlib.Omega.{arith}
 use lib.Dec.{eqb}
 use borrow.Author.Tests.{ne-eqb}
 use Rattle.laws.proofs.Tests.{false-true}
-use Rattle.paper.specs.Sorts.{NAME, STRING, NUM, CONST, FUNC, closeBrace, closeParen, openBrace, openParen, comma, semicolon, becomes, colon, backslash, CASE, DEFAULT, DO, ELSE, ELSEIF, ENDFOR, ENDFUNC, ENDIF, ENDPROC, ENDTEST, ENDWHILE, ERROR, EXIT, FOR, IF, PROC, RAISE, RETRY, RETURN, STEP, TEST, THEN, TPREADNUM, TPWRITE, TRYNEXT, VAR, WHILE}
-use Rattle.paper.specs.Trees.{variableData, initialData, arrayData, constantData, Expr, Target, Simple, assign, assignCall, call, returns, raises, exits, retries, triesNext, writes, reads, Statement, Statements, Arms, Cases, simple, compactIf, fullIf, for, while, test, empty, _then_, noArm, arm, noCase, case, Content, RoutineList}
+use Rattle.paper.specs.Sorts.{NAME, STRING, CONST, FUNC, closeBrace, closeParen, openBrace, openParen, comma, semicolon, becomes, colon, backslash, CASE, DEFAULT, DO, ELSE, ELSEIF, ENDFOR, ENDFUNC}
+use Rattle.paper.specs.Sorts.{ENDIF, ENDPROC, ENDTEST, ENDWHILE, ERROR, EXIT, FOR, IF, PROC, RAISE, RETRY, RETURN, STEP, TEST, THEN, TPREADNUM, TPWRITE, TRYNEXT, VAR, WHILE}
+use Rattle.paper.specs.Trees.{variableData, initialData, arrayData, constantData, Expr, Target, Simple, assign, assignCall, call, returns, raises, exits, retries, triesNext, writes, reads, Statement}
+use Rattle.paper.specs.Trees.{Statements, Arms, Cases, simple, compactIf, fullIf, for, while, test, empty, _then_, noArm, arm, noCase, case, Content, RoutineList}
 use Rattle.paper.specs.Expressions.{nestings, isType, startsSimple, startsStatement}
 use Rattle.grammar.specs.Form.{SeparatedAt, last-one, one-more, ClosedAt, closed-at-once, closed-later, RepeatedAt, none-starts, one-starts}
 use Rattle.grammar.specs.Form.{ExprAt, ExprsAt, ArgumentsAt, IndexAt, no-index, in-braces, TargetAt, OptionalAt, no-value, a-value, NumberAt, no-number, a-number}

@@ -1,19 +1,17 @@
 -- An expression that the grammar derives is what the parser reads, where the word behind it goes on no expression; and what the parser reads is derived.
 use mathlib.Core.Path.{_≡_, refl, sym, ap, subst, _∙_}
-use mathlib.Core.Bool.{Bool, true, false, _||_}
+use mathlib.Core.Bool.{true, false, _||_}
 use mathlib.Core.Logic.{_⊎_, inl, inr}
 use Prim.Native.Nat.{ℕ, zero, suc, _+_, _-_, _<_, _≤_}
 use native.Mathlib.Omega.{arith}
 use lib.Dec.{eqb}
-use borrow.Author.Tests.{eqb-true, eqb-false, eq-eqb, ne-eqb}
+use borrow.Author.Tests.{eqb-true, eq-eqb, ne-eqb}
 use Rattle.laws.proofs.Tests.{false-true}
-use Rattle.paper.specs.Basics.{if_then_else_}
 use Rattle.paper.specs.Sorts.{NAME, NUMBER, TRUE, FALSE, NOT, plus, minusSign, openParen, closeParen, openBrace, closeBrace}
-use Rattle.paper.specs.Words.{wordLimit}
-use Rattle.paper.specs.Trees.{Expr, leaf, element, nested, signed, joined}
-use Rattle.paper.specs.Expressions.{Parsed, Parser, got, no, _>>=_, parts, products, sums, relations, conjunctions, disjunctions, levelOf, standsBefore, isLiteral, expect, inParentheses, indexed, named, operand, chain, prefixed, level, exprIn}
-use Rattle.grammar.specs.Grammar.{DisjunctionAt, a-conjunction, negated, or-xor, ConjunctionAt, a-relation, and, RelationAt, a-sum, compared, SumAt, a-product, with-sign, plus-minus, ProductAt, an-operand, times-div-mod, OperandAt, a-literal, a-name, an-element, in-parentheses, NestsTo, Derives}
-use Rattle.grammar.proofs.Steps.{Comes, exactly, too-deep, too-long, done, through, and-then, bind-got, if-true, if-false, when-true, when-false, either-true, expect-on}
+use Rattle.paper.specs.Trees.{Expr, signed, joined}
+use Rattle.paper.specs.Expressions.{Parser, got, parts, products, sums, relations, conjunctions, disjunctions, levelOf, standsBefore, isLiteral, inParentheses, indexed, named, operand, chain, prefixed, level, exprIn}
+use Rattle.grammar.specs.Grammar.{DisjunctionAt, a-conjunction, negated, or-xor, ConjunctionAt, a-relation, and, RelationAt, a-sum, compared, SumAt, a-product, with-sign, plus-minus, ProductAt, an-operand, times-div-mod, OperandAt, a-literal, a-name, an-element, in-parentheses, NestsTo}
+use Rattle.grammar.proofs.Steps.{Comes, too-deep, too-long, done, and-then, bind-got, if-true, if-false, when-true, when-false, either-true, expect-on}
 
 -- ---- words
 -- A word behind an expression: it goes on none of the levels up to j.

@@ -1,19 +1,24 @@
 -- The parser judges words in order: what it has read up to a word, and a refusal of a word, depend on no later word.
-use mathlib.Core.Path.{_≡_, refl, sym, ap, ap₂, subst, _∙_}
+use mathlib.Core.Path.{_≡_, refl, sym, ap, subst, _∙_}
 use mathlib.Core.Bool.{Bool, true, false, _&&_, _||_}
-use mathlib.Core.List.{List, [], _∷_}
+use mathlib.Core.List.{List, []}
 use mathlib.Core.Option.{Option, none, some}
-use Prim.Native.Nat.{ℕ, zero, suc, _+_, _-_, _<_, _≤_}
+use Prim.Native.Nat.{ℕ, zero, suc, _+_, _<_, _≤_}
 use native.Mathlib.Omega.{arith}
 use lib.Dec.{eqb}
-use borrow.Author.Tests.{eqb-true, eqb-false, eq-eqb, ne-eqb}
+use borrow.Author.Tests.{eqb-true, eqb-false}
 use Rattle.laws.proofs.Tests.{false-true, by-most, by-same}
 use Rattle.paper.specs.Basics.{if_then_else_}
-use Rattle.paper.specs.Sorts.{NAME, STRING, NUM, NOTHING, CONST, FUNC, closeBrace, closeParen, openBrace, openParen, comma, semicolon, becomes, colon, backslash, CASE, DEFAULT, DO, ELSE, ELSEIF, ENDFOR, ENDFUNC, ENDIF, ENDMODULE, ENDPROC, ENDTEST, ENDWHILE, ERROR, EXIT, FOR, FROM, IF, MODULE, PROC, RAISE, RETRY, RETURN, STEP, TEST, THEN, TO, TPREADNUM, TPWRITE, TRYNEXT, VAR, WHILE}
-use Rattle.paper.specs.Trees.{variableData, initialData, arrayData, constantData, Expr, leaf, element, nested, signed, joined, Target, Simple, assign, assignCall, call, returns, raises, exits, retries, triesNext, writes, reads, Statement, Statements, Arms, Cases, simple, compactIf, fullIf, for, while, test, empty, _then_, noArm, arm, noCase, case, Content, Declared, Parameter, RoutineList, Routine, Module}
-use Rattle.paper.specs.Statements.{targetIndex, target, valueSide, callSide, rightSide, assignment, procedureCall, startedByName, withOptional, written, tpWrite, tpReadNum, simpleWord, simpleStatement, elsePart, lastArm, arms, ifThen, ifSimple, ifStatement, stepPart, forStatement, whileStatement, defaultPart, lastCase, cases, testStatement, opening, plainStatement, statement, statements, listIn, list}
+use Rattle.paper.specs.Sorts.{NAME, STRING, NUM, NOTHING, closeBrace, closeParen, openBrace, openParen, comma, semicolon, becomes, colon, backslash, CASE, DEFAULT, DO, ELSE, ELSEIF, ENDFOR, ENDFUNC}
+use Rattle.paper.specs.Sorts.{ENDIF, ENDMODULE, ENDPROC, ENDTEST, ENDWHILE, ERROR, EXIT, FOR, FROM, IF, MODULE, PROC, RAISE, RETRY, RETURN, STEP, TEST, THEN, TO, TPREADNUM, TPWRITE, TRYNEXT, VAR}
+use Rattle.paper.specs.Sorts.{WHILE}
+use Rattle.paper.specs.Trees.{Expr, joined, Target, Simple, returns, raises, Statement, Statements, _then_, Content, Declared, Routine, Module}
+use Rattle.paper.specs.Statements.{targetIndex, target, valueSide, callSide, rightSide, assignment, procedureCall, startedByName, withOptional, written, tpWrite, tpReadNum, simpleWord}
+use Rattle.paper.specs.Statements.{simpleStatement, elsePart, lastArm, arms, ifThen, ifSimple, ifStatement, stepPart, forStatement, whileStatement, defaultPart, lastCase, cases, testStatement}
+use Rattle.paper.specs.Statements.{opening, plainStatement, statement, statements, listIn, list}
 use Rattle.paper.specs.Form.{initialPart, sizePart, varPart, constPart, datum, declaration, declarations, parameter, parameters, errorPart, routineFrom, function, routine, routines, formed}
-use Rattle.paper.specs.Expressions.{Parsed, Parser, got, no, _>>=_, parts, nestings, relations, disjunctions, levelOf, standsBefore, isLiteral, isType, startsData, startsRoutine, startsStatement, expect, expectType, inParentheses, indexed, named, operand, chain, prefixed, level, exprIn, expr, unless, separated, repeated, exprs, arguments}
+use Rattle.paper.specs.Expressions.{Parsed, Parser, got, no, _>>=_, parts, nestings, relations, disjunctions, levelOf, standsBefore, isLiteral, isType, startsData, startsRoutine, startsStatement}
+use Rattle.paper.specs.Expressions.{expect, expectType, inParentheses, indexed, named, operand, chain, prefixed, level, exprIn, expr, unless, separated, repeated, exprs, arguments}
 
 module _ (i : ℕ) where
   -- p reads the words on from s, and q others that are the same up to word i: what p reads up to there, or refuses there, q does too.
@@ -335,7 +340,10 @@ module _ (W U : ℕ → ℕ) (i : ℕ) (same : (j : ℕ) → j ≤ i → U j ≡
 
   step-sees : Follows (stepPart W) (stepPart U)
   unfolding stepPart
-  step-sees at = when-sees i _ at (eqb (W at) STEP) (eqb (U at) STEP) _ _ _ _ (same-test (λ (s : ℕ). eqb s STEP) at at (omega arith)) (λ _. read-on at (at + 1) (expr W (at + 1)) (expr U (at + 1)) _ _ (omega arith) (expr-sees (at + 1)) (λ x _. same-sees (x .1) (x .1) _ (omega arith))) (λ _. same-sees at at _ (omega arith))
+  step-sees at =
+      when-sees i _ at (eqb (W at) STEP) (eqb (U at) STEP) _ _ _ _ (same-test (λ (s : ℕ). eqb s STEP) at at (omega arith))
+      (λ _. read-on at (at + 1) (expr W (at + 1)) (expr U (at + 1)) _ _ (omega arith) (expr-sees (at + 1)) (λ x _. same-sees (x .1) (x .1) _ (omega arith)))
+      (λ _. same-sees at at _ (omega arith))
 
   module _ (list mist : Parser Statements) (h : Follows list mist) where
     else-sees : Follows (elsePart W list) (elsePart U mist)
@@ -461,8 +469,11 @@ module _ (W U : ℕ → ℕ) (i : ℕ) (same : (j : ℕ) → j ≤ i → U j ≡
   var-sees : Follows (varPart W) (varPart U)
   unfolding varPart initialPart sizePart
   var-sees at =
-      if-sees i _ at (eqb (W at) becomes) (eqb (U at) becomes) _ _ _ _ (same-test (λ (s : ℕ). eqb s becomes) at at (omega arith)) (λ _. read-on at (at + 1) (expr W (at + 1)) (expr U (at + 1)) _ _ (omega arith) (expr-sees (at + 1)) (λ x _. same-sees (x .1) (x .1) _ (omega arith))) (λ _.
-      if-sees i _ at (eqb (W at) openBrace) (eqb (U at) openBrace) _ _ _ _ (same-test (λ (s : ℕ). eqb s openBrace) at at (omega arith)) (λ _. read-on at (at + 1) (expr W (at + 1)) (expr U (at + 1)) _ _ (omega arith) (expr-sees (at + 1)) (λ x _. expect-on closeBrace (x .1) _ _ (λ n _. same-sees n n _ (omega arith)))) (λ _. same-sees at at _ (omega arith)))
+      if-sees i _ at (eqb (W at) becomes) (eqb (U at) becomes) _ _ _ _ (same-test (λ (s : ℕ). eqb s becomes) at at (omega arith))
+      (λ _. read-on at (at + 1) (expr W (at + 1)) (expr U (at + 1)) _ _ (omega arith) (expr-sees (at + 1)) (λ x _. same-sees (x .1) (x .1) _ (omega arith)))
+      (λ _. if-sees i _ at (eqb (W at) openBrace) (eqb (U at) openBrace) _ _ _ _ (same-test (λ (s : ℕ). eqb s openBrace) at at (omega arith))
+      (λ _. read-on at (at + 1) (expr W (at + 1)) (expr U (at + 1)) _ _ (omega arith) (expr-sees (at + 1)) (λ x _. expect-on closeBrace (x .1) _ _ (λ n _. same-sees n n _ (omega arith))))
+      (λ _. same-sees at at _ (omega arith)))
 
   const-sees : Follows (constPart W) (constPart U)
   unfolding constPart
@@ -498,7 +509,10 @@ module _ (W U : ℕ → ℕ) (i : ℕ) (same : (j : ℕ) → j ≤ i → U j ≡
 
   error-sees : Follows (errorPart W) (errorPart U)
   unfolding errorPart
-  error-sees at = when-sees i _ at (eqb (W at) ERROR) (eqb (U at) ERROR) _ _ _ _ (same-test (λ (s : ℕ). eqb s ERROR) at at (omega arith)) (λ _. read-on at (at + 1) (list W (at + 1)) (list U (at + 1)) _ _ (omega arith) (list-sees (at + 1)) (λ x _. same-sees (x .1) (x .1) _ (omega arith))) (λ _. same-sees at at _ (omega arith))
+  error-sees at =
+      when-sees i _ at (eqb (W at) ERROR) (eqb (U at) ERROR) _ _ _ _ (same-test (λ (s : ℕ). eqb s ERROR) at at (omega arith))
+      (λ _. read-on at (at + 1) (list W (at + 1)) (list U (at + 1)) _ _ (omega arith) (list-sees (at + 1)) (λ x _. same-sees (x .1) (x .1) _ (omega arith)))
+      (λ _. same-sees at at _ (omega arith))
 
   from-sees : (result other : Option ℕ) (closing at : ℕ) → (at ≤ i → other ≡ result) → Sees2 i at (routineFrom W result closing at) (routineFrom U other closing at)
   unfolding routineFrom

@@ -6,6 +6,7 @@ use Prim.Native.Nat.{ℕ, _+_, _*_, _<_, _≤_}
 use native.Mathlib.Omega.{arith}
 use lib.Dec.{eqb}
 use lib.ListN.{length, getD}
+use borrow.Author.Tests.{not-true, not-false}
 use Rattle.laws.proofs.Tests.{test, by-same, by-less, false-true}
 use Rattle.paper.specs.Sorts.{equalTexts}
 use Rattle.paper.specs.Trees.{Declared}
@@ -270,10 +271,13 @@ data-start code values at g = record { plain = data-plain g values at (starts g)
     }
 
 module _ (code values₀ : List ℕ) (at : ℕ) (g : DataStand code values₀ at) (values : List ℕ) (i : ℕ) (l : DataGo code values₀ at values i) (s : ℕ) (e : s ≡ opAt (wordsOf code) i) (b : Bool) (f : b ≡ startsData s) where
-  pub data-done : b ≡ false → Data code values₀ at values i
-  data-done t = record { is = λ g. data-end g values i (l .left g) s e b f t }
+  pub data-done : not b ≡ true → Data code values₀ at values i
+  data-done t = record { is = λ g. data-end g values i (l .left g) s e b f (not-true b t) }
 
-  module _ (t : b ≡ true) where
+  module _ (u : not b ≡ false) where
+    t : b ≡ true
+    t = not-false b u
+
     pub data-announce : ((i + 2) * 8 + 8 ≤ length code) × (storeBytes ≤ length values)
     data-announce = (data-name g values i (l .left g) s e b f t, l .plain .values-room)
 

@@ -207,7 +207,8 @@ module _ (code values : List ℕ) (h k : ℕ) (g : RoutineStands code values h k
         signature = ap₂ (λ (o : Option DataType) (l : List DataType). record { result = o; parameters = l })
             (result-is (g .W) (g .r) h (g .to) (g .form) k code (g .lain) code₁ n named (wordsOf code₃) op₃ second₃) types₃;
         ends = omega (arith, from₃, value₃, p .ends, close-inside (g .W) (g .r) h (g .to) (g .form), g .form .after);
-        marked = marked-on second (marked-wider (valued-marked h count v room₂ (valued-routine _ (ap startsRoutine op₂ ∙ starts-head (g .form .head)))) h (g .to) (omega arith) (omega (arith, name-behind (g .W) (g .r) h (g .to) (g .form), name-before (g .W) (g .r) h (g .to) (g .form), close-inside (g .W) (g .r) h (g .to) (g .form), g .form .after)));
+        marked = marked-on second (marked-wider (valued-marked h count v room₂ (valued-routine _ (ap startsRoutine op₂ ∙ starts-head (g .form .head)))) h (g .to) (omega arith)
+            (omega (arith, name-behind (g .W) (g .r) h (g .to) (g .form), name-before (g .W) (g .r) h (g .to) (g .form), close-inside (g .W) (g .r) h (g .to) (g .form), g .form .after)));
         kept = kept-wider (p .kept) 0 (g .to) (omega arith) (omega (arith, close-inside (g .W) (g .r) h (g .to) (g .form), g .form .after));
         sees = p .sees;
       }

@@ -2,14 +2,13 @@
 use mathlib.Core.Path.{_≡_, refl, sym, ap, subst, _∙_}
 use mathlib.Core.Bool.{Bool, true, false, _||_}
 use mathlib.Core.List.{List, [], _∷_, map}
-use Prim.Native.Nat.{ℕ, _+_, _-_, _*_, _/_, _%_, _<_, _≤_}
+use Prim.Native.Nat.{ℕ, _+_, _-_, _*_, _/_, _<_, _≤_}
 use native.Mathlib.Omega.{arith}
 use lib.Dec.{eqb}
 use lib.ListN.{getD, take, drop}
 use borrow.Author.Tests.{eq-eqb, ne-eqb}
 use Rattle.laws.proofs.Tests.{by-last, by-less, by-same, false-true}
-use Rattle.paper.specs.Sorts.{bytes, folded, equalTexts, PROC, FUNC, VAR, CONST}
-use Rattle.paper.specs.Expressions.{startsData, startsRoutine}
+use Rattle.paper.specs.Sorts.{bytes, folded, equalTexts, FUNC}
 use Rattle.cells.specs.Words.{wordsOf, Got, Put}
 use Rattle.code.specs.Cells.{opAt, valueAt, placeAt}
 use Rattle.names.specs.Meanings.{firstMeaning, protectsCell}
@@ -169,23 +168,6 @@ is-main-law text code i p v b g k e =
     let n : p + v / 8192 - p ≡ v / 8192 = omega arith in
     e ∙ ap (λ (x : ℕ). equalTexts (map folded (take x (drop p text))) (bytes "MAIN")) (n ∙ ap (λ (x : ℕ). x / 8192) k)
     ∙ ap (λ (x : ℕ). equalTexts (map folded (take (valueAt (wordsOf code) i / 8192) (drop x text))) (bytes "MAIN")) g
-
--- ---- what a word starts
-pub data-var : (s : ℕ) → s ≡ VAR → true ≡ startsData s
-unfolding startsData
-data-var s e = rw e
-
-pub data-const : (s : ℕ) → (s ≡ VAR → ⊥) → eqb s CONST ≡ startsData s
-unfolding startsData
-data-const s d = rw (ne-eqb s VAR d)
-
-pub routine-proc : (s : ℕ) → s ≡ PROC → true ≡ startsRoutine s
-unfolding startsRoutine
-routine-proc s e = rw e
-
-pub routine-func : (s : ℕ) → (s ≡ PROC → ⊥) → eqb s FUNC ≡ startsRoutine s
-unfolding startsRoutine
-routine-func s d = rw (ne-eqb s PROC d)
 
 -- the first is the one that no other is before
 pub next-is : (code : List ℕ) (at a b r e : ℕ) → Next code at a b r → at ≤ e → isOneOf a b (opAt (wordsOf code) e) ≡ true → ((k : ℕ) → at ≤ k → k < e → isOneOf a b (opAt (wordsOf code) k) ≡ false) → r ≡ e

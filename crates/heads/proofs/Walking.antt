@@ -8,7 +8,7 @@ use native.Mathlib.Omega.{arith}
 use native.Mathlib.Numerals.{add-one}
 use lib.Dec.{eqb}
 use lib.ListN.{length, getD, drop}
-use borrow.Author.Tests.{eq-eqb, ne-eqb}
+use borrow.Author.Tests.{eq-eqb, ne-eqb, not-true, not-false}
 use Rattle.laws.proofs.Tests.{test, by-same, by-less, by-last, false-true}
 use Rattle.paper.specs.Basics.{if_then_else_}
 use Rattle.paper.specs.Sorts.{bytes, equalTexts, FUNC, ENDPROC, ENDFUNC}
@@ -455,10 +455,13 @@ module _ (text code values : List ℕ) (at : ℕ) (g : RoutinesStand text code v
 
 module _ (text code₀ values₀ : List ℕ) (at : ℕ) (g : RoutinesStand text code₀ values₀ at) (code values : List ℕ) (i k main : ℕ) (l : RoutinesGo text code₀ values₀ at code values i k main)
     (s : ℕ) (e : s ≡ opAt (wordsOf code) i) (b : Bool) (f : b ≡ startsRoutine s) where
-  pub routines-done : b ≡ false → (values′ : List ℕ) → Cleared values values′ 0 i → (r : ℕ) → r ≡ mainWord (wordsOf code) main → Routines text code₀ values₀ at code values′ r
-  routines-done t values′ c r z = record { is = λ g. routines-known g code values i k main (l .left g) s e b f t values′ c r z }
+  pub routines-done : not b ≡ true → (values′ : List ℕ) → Cleared values values′ 0 i → (r : ℕ) → r ≡ mainWord (wordsOf code) main → Routines text code₀ values₀ at code values′ r
+  routines-done t values′ c r z = record { is = λ g. routines-known g code values i k main (l .left g) s e b f (not-true b t) values′ c r z }
 
-  module _ (t : b ≡ true) where
+  module _ (u : not b ≡ false) where
+    t : b ≡ true
+    t = not-false b u
+
     pub head-asks : RoutineStands code values i k
     head-asks = routine-stands g code values i k main (l .left g) s e b f t
 

@@ -1,7 +1,8 @@
 // The checker's third pass: what is known before its declaration. Names of module data are to come; each routine's first word has how many parameters it has, its
 // types are marked where they are not asked, and its name means it.
+use layout::limits;
+use layout::parts;
 use names::MEANINGS;
-use names::VALUE;
 use sorts::*;
 use spelling::same;
 use store::set_value;
@@ -10,7 +11,6 @@ ghost use mathlib.Core.Path.{_≡_};
 ghost use Prim.Native.Nat.{_+_, _*_, _<_, _≤_};
 ghost use lib.ListN.{length};
 ghost use Rattle.paper.specs.Sorts.{bytes, equalTexts};
-ghost use Rattle.paper.specs.Expressions.{startsData, startsRoutine};
 ghost use Rattle.cells.specs.Words.{wordsOf};
 ghost use Rattle.code.specs.Cells.{placeAt};
 ghost use Rattle.names.specs.Promises.{storeBytes};
@@ -18,34 +18,10 @@ ghost use Rattle.heads.specs.Stores.{lengthAt, spelledAt};
 ghost use Rattle.heads.specs.Parts.{Has, Next, Announces, DataStand, Data, refuses, markOf, Marks, ParametersStand, Parameters, Names, RoutineStands, Begun, Takes, mainWord, RoutinesStand, Routines};
 ghost use Rattle.heads.specs.Reads.{Begins, Reads};
 
-// The 65th routine, and the 65th word of a routine, by how many are before.
-const MOST: usize = 64;
-
-// A name's head has its number below this, and its length above.
-const LENGTHS: usize = 8192;
-
 // The word behind MODULE and its name.
 const FIRST: usize = 2;
 
 // ---- words
-
-fn starts_data(s: u32) -> bool
-    ensures { λ r. ⌜ r ≡ startsData s ⌝ }
-{
-    if s == VAR {
-        return true;
-    }
-    s == CONST
-}
-
-fn starts_routine(s: u32) -> bool
-    ensures { λ r. ⌜ r ≡ startsRoutine s ⌝ }
-{
-    if s == PROC {
-        return true;
-    }
-    s == FUNC
-}
 
 // The first word from `at` on that is of one of two sorts.
 fn next(code: &[u8], at: usize, a: u32, b: u32) -> usize
@@ -105,7 +81,7 @@ fn mark(m: u32, seen: u32, h: u32, count: usize) -> u32
     if seen == h {
         return 1;
     }
-    if count == MOST {
+    if count == limits::ROUTINE_WORDS {
         return 1;
     }
     0
@@ -153,7 +129,7 @@ fn name_of(code: &mut [u8], h: usize, k: usize) -> usize
     if sort(code, h) != FUNC {
         return h + 1;
     }
-    if k == MOST {
+    if k == limits::ROUTINES {
         set_value(code, h + 1, 1);
         return h + 2;
     }
@@ -178,7 +154,7 @@ fn is_main(text: &[u8], code: &[u8], i: usize) -> bool
     ensures { λ r. ⌜ r ≡ equalTexts (spelledAt (now (text .entry)) (wordsOf (now (code .entry))) i) (bytes "MAIN") ⌝ }
 {
     let place = reading::place(code, i);
-    let end = place + reading::value(code, i) / LENGTHS;
+    let end = place + reading::value(code, i) / parts::SPELLED_AT;
     same(&text[place..end], b"MAIN")
 }
 
@@ -200,7 +176,7 @@ fn take_name(
     cells::put(
         values,
         MEANINGS + names::number(code, name),
-        names::ROUTINE + VALUE * (h as u32),
+        names::ROUTINE + parts::VALUE * (h as u32),
     );
     if main != 0 {
         return main;

@@ -7,7 +7,8 @@ use Rattle.layout.specs.Answers.{entered, left, ended, lacked, handed, f
 use Rattle.layout.specs.Kinds.{aVariable, anArray, aConstant, aLoop, aRoutine, anErrno, anErrorNumber}
 use Rattle.layout.specs.Types.{noType, numType, boolType}
 use Rattle.layout.specs.Parts.{valuePart, linkPart, sizePart, charactersPart, loopPart, spelledPart}
-use Rattle.paper.specs.Words.{textLimit, wordLimit}
+use Rattle.paper.specs.Words.{textLimit, wordLimit, nameLimit, largestNumber, stringLimit}
+use Rattle.paper.specs.Expressions.{nestings, noOperator, products, sums, relations, conjunctions, disjunctions}
 use Rattle.paper.specs.Types.{elementLimit}
 use Rattle.paper.specs.Declarations.{routineLimit, moduleWordLimit, routineWordLimit}
 use Rattle.paper.specs.Answer.{depthLimit, storeWords}
@@ -50,4 +51,7 @@ abbrev pub parts : List ℕ
 parts = valuePart ∷ linkPart ∷ sizePart ∷ charactersPart ∷ loopPart ∷ spelledPart ∷ bias ∷ []
 
 abbrev pub limits : List ℕ
-limits = textLimit ∷ wordLimit ∷ routineLimit ∷ moduleWordLimit ∷ routineWordLimit ∷ elementLimit ∷ depthLimit ∷ storeWords ∷ storeBytes ∷ []
+limits = textLimit ∷ wordLimit ∷ routineLimit ∷ moduleWordLimit ∷ routineWordLimit ∷ elementLimit ∷ depthLimit ∷ storeWords ∷ storeBytes ∷ nameLimit ∷ stringLimit ∷ largestNumber ∷ nestings ∷ []
+
+abbrev pub levels : List ℕ
+levels = noOperator ∷ products ∷ sums ∷ relations ∷ conjunctions ∷ disjunctions ∷ []

@@ -4,6 +4,7 @@ pub mod answers;
 pub mod cells;
 pub mod endings;
 pub mod kinds;
+pub mod levels;
 pub mod limits;
 pub mod ops;
 pub mod parts;

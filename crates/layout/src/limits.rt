@@ -24,8 +24,24 @@ pub const STORE_CELLS: usize = 16384;
 
 pub const STORE_BYTES: usize = 65536;
 
+// letters of a name, characters of a string, the largest number of a text, how deep statements nest, and how deep expressions
+pub const NAME: usize = 32;
+
+pub const STRING: usize = 80;
+
+pub const NUMBER: usize = 8388608;
+
+pub const NESTINGS: usize = 16;
+
+// The same as a reading counts them.
+pub const WORDS_READ: u32 = WORDS as u32;
+
+pub const STRING_READ: u32 = STRING as u32;
+
+pub const NUMBER_READ: u64 = NUMBER as u64;
+
 // All of them, as the specs name them: a wrong one breaks this contract.
-pub fn all() -> [usize; 9]
+pub fn all() -> [usize; 13]
     ensures { λ r. ⌜ r ≡ limits ⌝ }
 {
     [
@@ -38,5 +54,9 @@ pub fn all() -> [usize; 9]
         DEPTH,
         STORE_CELLS,
         STORE_BYTES,
+        NAME,
+        STRING,
+        NUMBER,
+        NESTINGS,
     ]
 }

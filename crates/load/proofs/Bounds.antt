@@ -13,7 +13,9 @@ use lib.Seq.{length-take-le}
 use borrow.Author.Tests.{ltb-false, le-ltb, eqb-false}
 use Rattle.laws.proofs.Tests.{test, apart}
 use Rattle.paper.specs.Sorts.{bytes, folded, signs, reserved, equalTexts, numberIn, signSort, nameSort, NAME, STRING}
-use Rattle.paper.specs.Words.{Scan, word, refused, scanName, scanNumber, scanString, scanSign, scan, leading, inName, digit, valueOf, spoilsNumber, permittedInside, stringEnd, stringLimit, barredInString, QUOTE, letter, permitted, Gap, upTo, badByte, gap, Word, Next, next, ended, refusal, scanned, wordAt, following, Reading, noWords, readFrom, reading, placeAfter, textLimit, wordLimit, nameLimit, largestNumber}
+use Rattle.paper.specs.Words.{Scan, word, refused, scanName, scanNumber, scanString, scanSign, scan, leading, inName, digit, valueOf, spoilsNumber, permittedInside, stringEnd, stringLimit}
+use Rattle.paper.specs.Words.{barredInString, QUOTE, letter, permitted, Gap, upTo, badByte, gap, Word, Next, next, ended, refusal, scanned, wordAt, following, Reading, noWords, readFrom, reading}
+use Rattle.paper.specs.Words.{placeAfter, textLimit, wordLimit, nameLimit, largestNumber}
 use Rattle.paper.specs.Names.{nth}
 use Rattle.words.proofs.Places.{Lies, NextLies, lies-nearer, following-lies}
 use Rattle.load.specs.Layout.{wordsIn}

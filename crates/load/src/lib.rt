@@ -1,10 +1,9 @@
 // The checker's first pass: the words of a text go into the code store, two cells each, and names get their numbers.
+use layout::parts;
 use names::MEANINGS;
-use names::VALUE;
 use spelling::hash;
 use spelling::protected;
 use spelling::same;
-use store::LINK;
 use store::rewrite;
 use words::Cursor;
 use words::Step;
@@ -21,9 +20,6 @@ const FIRST_BUCKET: usize = 4096;
 
 const BUCKETS: usize = 2048;
 
-// A name's head has its number below this, and its length above.
-const LENGTHS: usize = 8192;
-
 // The first name with a text in the chain that begins as given: its index and 1, or 0 where there is none.
 fn find<'a>(text: &'a [u8], code: &'a [u8], name: &'a [u8], first: usize) -> usize
     requires { ⌜ Chain (now text) (now code) (now name) first ⌝ }
@@ -33,12 +29,12 @@ fn find<'a>(text: &'a [u8], code: &'a [u8], name: &'a [u8], first: usize) -> usi
     while j != 0 {
         let i = j - 1;
         let tail = cells::get(code, i * 2 + 1);
-        let place = (tail % LINK) as usize;
-        let end = place + (cells::get(code, i * 2) / VALUE) as usize / LENGTHS;
+        let place = (tail % parts::LINK) as usize;
+        let end = place + (cells::get(code, i * 2) / parts::VALUE) as usize / parts::SPELLED_AT;
         if same(&text[place..end], name) {
             return j;
         }
-        j = (tail / LINK) as usize;
+        j = (tail / parts::LINK) as usize;
     }
     0
 }
@@ -56,7 +52,7 @@ fn load_name(text: &[u8], code: &mut [u8], values: &mut [u8], i: usize, place: u
         rewrite(
             code,
             i,
-            sorts::NAME + VALUE * ((found - 1 + LENGTHS * length) as u32),
+            sorts::NAME + parts::VALUE * ((found - 1 + parts::SPELLED_AT * length) as u32),
             place,
             0,
         );
@@ -66,7 +62,7 @@ fn load_name(text: &[u8], code: &mut [u8], values: &mut [u8], i: usize, place: u
     rewrite(
         code,
         i,
-        sorts::NAME + VALUE * ((i + LENGTHS * length) as u32),
+        sorts::NAME + parts::VALUE * ((i + parts::SPELLED_AT * length) as u32),
         place,
         first,
     );
@@ -94,7 +90,7 @@ fn load_word(text: &[u8], code: &mut [u8], values: &mut [u8], i: usize, w: Word)
         load_name(text, code, values, i, w.place, w.length);
         return;
     }
-    rewrite(code, i, w.sort + VALUE * value_of(w), w.place, 0);
+    rewrite(code, i, w.sort + parts::VALUE * value_of(w), w.place, 0);
 }
 
 pub enum Loaded {

@@ -8,7 +8,7 @@ use lib.ListN.{length, getD, replicate, length-replicate, replicate-append-repli
 use lib.IntN.{ℤ, pos}
 use mir.Syntax.{w32}
 use mir.Val.{toZ}
-use Rattle.laws.proofs.Tests.{by-same}
+use Rattle.laws.proofs.Tests.{by-same, false-true}
 use Rattle.paper.specs.Trees.{Parameter}
 use Rattle.paper.specs.Names.{DataType, variable, Text, textOf, sortIn, spelled, isAmong, cannotDeclare, typeOf}
 use Rattle.paper.specs.Types.{Fault}
@@ -100,7 +100,7 @@ module _ {code values : List ℕ} {used i : ℕ} (b : ParameterBegins code value
 
     placed-is : Placed (F .memoryWith (b .D .words ++ pos 0 ∷ [])) (variable type (F .ref (length (b .D .words))))
     unfolding Placed
-    placed-is = among-new (b .W) (aRoutine (b .m)) (b .D .words) (pos 0 ∷ []) (length (b .D .words)) 1 (omega arith)
+    placed-is = record { room = among-new (b .W) (aRoutine (b .m)) (b .D .words) (pos 0 ∷ []) (length (b .D .words)) 1 (omega arith); some = omega arith; ranged = λ e. false-true e }
 
     starts-is : (j : ℕ) → j < 1 → getD (pos 0 ∷ []) j (pos 0) ≡ toZ w32 0
     starts-is zero l = refl

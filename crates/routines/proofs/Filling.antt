@@ -4,25 +4,26 @@ use mathlib.Core.Bool.{Bool, true, false}
 use mathlib.Core.List.{List, [], map}
 use Prim.Native.Nat.{ℕ, _+_, _<_, _≤_}
 use native.Mathlib.Omega.{arith}
-use lib.Dec.{eqb}
 use lib.ListN.{length, getD}
 use mir.Syntax.{w32}
 use mir.Val.{toZ}
+use Rattle.paper.specs.Basics.{if_then_else_}
 use Rattle.paper.specs.Words.{Word}
 use Rattle.paper.specs.Terms.{Ref, ofModule, ofRoutine, Memory, load}
 use Rattle.paper.specs.Trees.{Module}
-use Rattle.paper.specs.Names.{Meaning, unknown, variable, array, constant, loop, theRoutine, theErrno, errorNumber, Text, Names, textOf, isAmong, meaning}
+use Rattle.paper.specs.Names.{Meaning, isAmong, meaning}
 use Rattle.paper.specs.Declarations.{Data, noData, dataTexts, routineNames, moduleFilling, moduleData, moduleScopes, routineFilling}
 use Rattle.cells.specs.Words.{wordsOf}
 use Rattle.code.specs.Cells.{firstWindow, errnoCell}
 use Rattle.code.specs.Steps.{numbered}
 use Rattle.names.specs.Meanings.{Means}
 use Rattle.names.specs.Promises.{storeBytes}
-use Rattle.expressions.specs.Known.{largest, InRoom, Within}
+use Rattle.expressions.specs.Known.{largest, InRoom, HeldWords, Held, nothing, words, number, heldBy, Holds, Within}
+use Rattle.expressions.proofs.Holding.{holds, room-more, room-one}
 use Rattle.constants.specs.Answers.{cellOf, Worth, Fine}
 use Rattle.heads.specs.Trees.{headsFor}
 use Rattle.statements.specs.Answers.{SameValues}
-use Rattle.sites.specs.Sites.{Site, theModule, aRoutine, filling, ownOf, scopesOf, memoryOf, Among, Placed, isOwn, owned, Filled}
+use Rattle.sites.specs.Sites.{Site, theModule, aRoutine, filling, ownOf, scopesOf, memoryOf, Among, InPlace, Placed, isOwn, owned, Filled}
 use Rattle.leaving.specs.Answers.{SameWords}
 use Rattle.routines.specs.Answers.{ModuleFilled}
 
@@ -33,50 +34,34 @@ unfolding isOwn InRoom
 not-own M (ofModule k) e a = refl
 not-own M (ofRoutine k) e a = absurd (omega (arith, ap length e))
 
-unfoldable some-among : (M : Memory) (r : Ref) (size : ℕ) → 0 < size → Among M r size → Among M r 1
-unfolding InRoom
-some-among M (ofModule k) size s a = omega arith
-some-among M (ofRoutine k) size s a = omega arith
-
 pub none-owned : (M : Memory) (m : Meaning) → M .routine-words ≡ [] → Placed M m → owned 1 m ≡ false
 unfolding owned Placed
-none-owned M unknown e p = refl
-none-owned M (variable t r) e p = not-own M r e p
-none-owned M (array t r size) e p = not-own M r e (some-among M r size (p .some) (p .room))
-none-owned M (constant t r) e p = not-own M r e (p .room)
-none-owned M (loop r) e p = refl
-none-owned M (theRoutine k) e p = refl
-none-owned M theErrno e p = refl
-none-owned M (errorNumber k) e p = refl
+none-owned M m e = by-held (heldBy m)
+  where
+    by-declared : {b : Bool} (declared : Bool) → b ≡ false → (if declared then b else false) ≡ false
+    by-declared true q = q
+    by-declared false q = refl
 
-room-on : (m n q : ℕ) (r : Ref) (size : ℕ) → n ≤ q → InRoom m n r size → InRoom m q r size
-unfolding InRoom
-room-on m n q (ofModule k) size h a = a
-room-on m n q (ofRoutine k) size h a = omega arith
+    by-held : (a : Held) → Holds (InPlace M) (λ k. k ≤ largest) a
+        → (elim a [ nothing ↦ false | words w ↦ if w .declared then isOwn 1 (w .first) else false | number k ↦ false ]) ≡ false
+    by-held nothing p = refl
+    by-held (words w) p = by-declared (w .declared) (not-own M (w .first) e (room-one _ _ (w .first) (w .size) (p .some) (p .room)))
+    by-held (number k) p = refl
 
 -- a name's words are words of the module, or of the routine, which may get more
 pub within-placed : (M : Memory) (q : ℕ) (m : Meaning) → length (M .routine-words) ≤ q → Placed M m → Within (length (M .module-words)) q m
 unfolding Placed Within
-within-placed M q unknown h p = p
-within-placed M q (variable t r) h p = room-on _ _ q r 1 h p
-within-placed M q (array t r size) h p = room-on _ _ q r size h (p .room)
-within-placed M q (constant t r) h p = room-on _ _ q r 1 h (p .room)
-within-placed M q (loop r) h p = room-on _ _ q r 1 h p
-within-placed M q (theRoutine k) h p = p
-within-placed M q theErrno h p = p
-within-placed M q (errorNumber k) h p = p
+within-placed M q m h = holds (heldBy m) (λ w p. room-more _ _ q (w .first) (w .size) h (p .room)) (λ k g. g)
 
 pub fine-placed : (M : Memory) (X : List ℕ) → ((r : Ref) → Among M r 1 → toZ w32 (getD X (cellOf r) 0) ≡ load M r) → (q : ℕ) (m : Meaning) → length (M .routine-words) ≤ q → Placed M m
     → Fine (length (M .module-words)) q X M m
 unfolding Placed Fine
-fine-placed M X c q unknown h p = p
-fine-placed M X c q (variable t r) h p = record {}
-fine-placed M X c q (array t r size) h p = record {}
-fine-placed M X c q (constant t r) h p = record { room = room-on _ _ q r 1 h (p .room); is = c r (p .room); ranged = p .ranged }
-fine-placed M X c q (loop r) h p = record {}
-fine-placed M X c q (theRoutine k) h p = p
-fine-placed M X c q theErrno h p = p
-fine-placed M X c q (errorNumber k) h p = p
+fine-placed M X c q m h = holds (heldBy m) fine (λ k g. g)
+  where
+    fine : (w : HeldWords) → InPlace M w → w .fixed ≡ true → Worth (length (M .module-words)) q X M (w .first)
+    fine w p e =
+        let room = room-one _ _ (w .first) (w .size) (p .some) (p .room) in
+        record { room = room-more _ _ q (w .first) 1 h room; is = c (w .first) room; ranged = p .ranged e }
 
 -- ---- cells that are as they were
 pub filled-same : (W : List Word) (routine : ℕ → ℕ) (s : Site) (D : Data) (values values′ : List ℕ) → SameValues values values′ → Filled W routine s D values → Filled W routine s D values′

@@ -8,6 +8,7 @@ use lib.ListN.{length, getD}
 use Rattle.laws.proofs.Tests.{test}
 use Rattle.paper.specs.Sorts.{signSort}
 use Rattle.paper.specs.Words.{permitted, scanSign, word, refused, malformed}
+use Rattle.layout.specs.Rules.{badByte}
 use Rattle.scanner.specs.Answers.{pairSort, signOrNone}
 use Rattle.scanner.proofs.Bytes.{unpaired-below, unpaired-above, sign-permitted}
 
@@ -83,6 +84,6 @@ module _ (text : List ℕ) (p s : ℕ) (some : 0 < length text) (e : p ≡ pairS
     unfolding signOrNone
     none-told g = rw (sym is ∙ g, signOrNone) (sign-none text p s some e z i y)
 
-    pub bad-told : t ≡ false → refused 4 0 ≡ signOrNone text
+    pub bad-told : t ≡ false → refused badByte 0 ≡ signOrNone text
     unfolding signOrNone
     bad-told g = rw (sym is ∙ g, signOrNone)

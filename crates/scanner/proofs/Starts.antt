@@ -7,6 +7,7 @@ use native.Mathlib.Omega.{arith}
 use lib.ListN.{length, getD}
 use borrow.Author.Tests.{eq-eqb, ne-eqb, lt-ltb, le-ltb}
 use Rattle.paper.specs.Words.{Scan, word, refused, malformed, nameLimit, largestNumber, leading, inName, between, permitted, letter, digit, scanName, scanNumber, scanString, scan}
+use Rattle.layout.specs.Rules.{badByte}
 use Rattle.laws.proofs.Tests.{test}
 use Rattle.reserved.specs.declared.Name.{Name}
 use Rattle.reserved.specs.Promise.{Named}
@@ -16,7 +17,7 @@ use Rattle.scanner.proofs.Bytes.{letter-permitted, digit-permitted, quo
 abbrev front : List ℕ → ℕ
 front text = getD text 0 0
 
-pub nothing : (text : List ℕ) → length text ≡ 0 → refused 4 0 ≡ scan largestNumber (front text) text
+pub nothing : (text : List ℕ) → length text ≡ 0 → refused badByte 0 ≡ scan largestNumber (front text) text
 unfolding scan permitted between
 nothing [] h = refl
 nothing (b ∷ r) h = absurd (omega arith)

@@ -12,6 +12,7 @@ use Rattle.laws.proofs.Tests.{test, false-true, apart, by-less, by-same}
 use Rattle.laws.proofs.Lists.{rest, Reached, reached-here, reached-on}
 use Rattle.paper.specs.Sorts.{STRING}
 use Rattle.paper.specs.Words.{Scan, stringLimit, leading, permittedInside, barredInString, stringEnd, scanString, word, refused, malformed}
+use Rattle.layout.specs.Rules.{badByte}
 use Rattle.scanner.specs.Answers.{noted, closedString}
 use Rattle.reserved.proofs.Ranges.{passed}
 use Rattle.scanner.proofs.Bytes.{quote-permitted}
@@ -123,7 +124,7 @@ unfolding closedString
 closed-good n zero h = refl
 closed-good n (suc m) h = absurd (omega arith)
 
-pub closed-bad : (n bad : ℕ) → (bad ≡ 0 → ⊥) → refused 4 bad ≡ closedString n bad
+pub closed-bad : (n bad : ℕ) → (bad ≡ 0 → ⊥) → refused badByte bad ≡ closedString n bad
 unfolding closedString
 closed-bad n zero h = absurd (h refl)
 closed-bad n (suc m) h = refl

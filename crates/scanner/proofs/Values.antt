@@ -11,6 +11,7 @@ use borrow.Author.Tests.{lt-ltb, le-ltb}
 use Rattle.laws.proofs.Tests.{by-less}
 use Rattle.paper.specs.Sorts.{NUMBER}
 use Rattle.paper.specs.Words.{largestNumber, between, letter, leading, digit, valueOf, spoilsNumber, scanNumber, word, refused, malformed}
+use Rattle.layout.specs.Rules.{tooLarge}
 use Rattle.scanner.specs.Answers.{capped, valueBound, Digits·of}
 use Rattle.reserved.proofs.Ranges.{range}
 use Rattle.reserved.proofs.Runs.{Run, run-start, run-more, run-stop, run-out}
@@ -93,7 +94,7 @@ module _ (text : List ℕ) (n v : ℕ) (t : Bool) (d : Digits·of text n v) (is 
   unfolding scanNumber
   number-spoiled h = rw (sym spoiled-is ∙ h, scanNumber)
 
-  pub number-large : t ≡ false → largestNumber < v → refused 6 0 ≡ scanNumber largestNumber text
+  pub number-large : t ≡ false → largestNumber < v → refused tooLarge 0 ≡ scanNumber largestNumber text
   unfolding scanNumber
   number-large h g =
       let big = capped-is (valueOf (take n text) 0) v (sym (d .worth)) .1 g in

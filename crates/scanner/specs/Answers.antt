@@ -7,6 +7,7 @@ use lib.Dec.{ltb}
 use lib.ListN.{getD, take, drop}
 use Rattle.paper.specs.Sorts.{STRING, signSort}
 use Rattle.paper.specs.Words as paper
+use Rattle.layout.specs.Rules.{badByte}
 use Rattle.reserved.specs.Runs.{Counted}
 use Rattle.scanner.specs.declared.Scan.{Scan}
 use Rattle.scanner.specs.declared.Scan.the-variants.{Word, Refused}
@@ -38,7 +39,7 @@ noted bad at false = elim bad [ zero ↦ at | suc m ↦ suc m ]
 -- a string of n bytes that is well formed but for that byte
 unfoldable pub closedString : (n bad : ℕ) → paper.Scan
 closedString n zero = paper.word STRING n 0
-closedString n (suc m) = paper.refused 4 (suc m)
+closedString n (suc m) = paper.refused badByte (suc m)
 
 -- What follows a comment that is open at a place is as if a gap began there anew; or the comment holds a byte that is permitted nowhere.
 unfoldable pub Commented : List ℕ → (at : ℕ) → Gap → Type 0
@@ -65,4 +66,4 @@ pairSort (b ∷ c ∷ r) = signSort (b ∷ c ∷ [])
 
 -- the word of a text that begins with no letter, digit or quote
 unfoldable pub signOrNone : List ℕ → paper.Scan
-signOrNone l = elim (paper.permitted (getD l 0 0)) [ true ↦ paper.scanSign l | false ↦ paper.refused 4 0 ]
+signOrNone l = elim (paper.permitted (getD l 0 0)) [ true ↦ paper.scanSign l | false ↦ paper.refused badByte 0 ]

@@ -7,16 +7,10 @@ mod string;
 
 use classes::is_permitted_inside;
 use classes::is_separator;
+use layout::rules;
 use reserved::classes::is_digit;
 use reserved::classes::is_letter;
 ghost use Rattle.scanner.specs.Answers.{Scanned, Skipped, Commented};
-
-// Refusals of a word, by their numbers in the paper.
-pub const BAD_BYTE: u32 = 4;
-
-pub const MALFORMED: u32 = 5;
-
-pub const TOO_LARGE: u32 = 6;
 
 pub enum Scan {
     // its sort, its length and, of a number, its value
@@ -31,7 +25,7 @@ pub fn scan_word(text: &[u8]) -> Scan
     ensures { λ r. ⌜ Scanned (now (text .entry)) r ⌝ }
 {
     if text.len() == 0 {
-        return Scan::Refused(0, BAD_BYTE);
+        return Scan::Refused(0, rules::BAD_BYTE);
     }
     let b = text[0];
     if is_letter(b) {

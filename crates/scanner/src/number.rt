@@ -1,16 +1,14 @@
 // A number.
-use super::MALFORMED;
 use super::Scan;
-use super::TOO_LARGE;
 use super::classes::is_spoiling;
+use layout::limits;
+use layout::rules;
 use reserved::classes::is_digit;
 ghost use mathlib.Core.Path.{_≡_};
 ghost use Prim.Native.Nat.{_+_, _*_, _-_, _≤_, _<_};
 ghost use Rattle.paper.specs.Words.{largestNumber, spoilsNumber, scanNumber};
 ghost use lib.ListN.{getD};
 ghost use Rattle.scanner.specs.Answers.{scanOf, capped, valueBound, Digits·of};
-
-const LARGEST: u64 = 8388608;
 
 // Digits: how many, and the number that they write, or some number above the largest in its place.
 struct Digits {
@@ -23,7 +21,7 @@ fn with_digit(value: u64, b: u8) -> u64
     requires { ⌜ (48 ≤ b) × (b ≤ 57) × (value < valueBound) ⌝ }
     ensures { λ r. ⌜ (capped r ≡ capped (value * 10 + (b - 48))) × (r < valueBound) ⌝ }
 {
-    if LARGEST < value {
+    if limits::NUMBER_READ < value {
         return value;
     }
     value * 10 + ((b - b'0') as u64)
@@ -63,10 +61,10 @@ pub(crate) fn scan_number(text: &[u8]) -> Scan
     let length = d.length;
     let value = d.value;
     if is_spoiled(text, length) {
-        return Scan::Refused(0, MALFORMED);
+        return Scan::Refused(0, rules::MALFORMED);
     }
-    if LARGEST < value {
-        return Scan::Refused(0, TOO_LARGE);
+    if limits::NUMBER_READ < value {
+        return Scan::Refused(0, rules::TOO_LARGE);
     }
     Scan::Word(sorts::NUMBER, length, value)
 }

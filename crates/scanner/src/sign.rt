@@ -1,10 +1,9 @@
 // A sign, or no word at all.
-use super::BAD_BYTE;
-use super::MALFORMED;
 use super::Scan;
 use super::classes::is_permitted;
 use super::classes::one_sign;
 use super::classes::two_signs;
+use layout::rules;
 ghost use mathlib.Core.Path.{_≡_};
 ghost use Prim.Native.Nat.{_<_};
 ghost use lib.ListN.{length};
@@ -45,7 +44,7 @@ pub(crate) fn scan_sign(text: &[u8]) -> Scan
     }
     // what begins a word is permitted, so only the other bytes are asked
     if is_permitted(text[0]) {
-        return Scan::Refused(0, MALFORMED);
+        return Scan::Refused(0, rules::MALFORMED);
     }
-    Scan::Refused(0, BAD_BYTE)
+    Scan::Refused(0, rules::BAD_BYTE)
 }

@@ -1,17 +1,15 @@
 // A string.
-use super::BAD_BYTE;
-use super::MALFORMED;
 use super::Scan;
 use super::classes::is_barred;
 use super::classes::is_permitted_inside;
+use layout::limits;
+use layout::rules;
 ghost use mathlib.Core.Path.{_≡_};
 ghost use mathlib.Core.Bool.{not};
 ghost use lib.Dec.{eqb};
 ghost use lib.ListN.{getD};
 ghost use Rattle.paper.specs.Words.{permittedInside, scanString};
 ghost use Rattle.scanner.specs.Answers.{scanOf, noted, closedString};
-
-const STRING_LIMIT: u32 = 80;
 
 // The place of the first byte that is permitted nowhere, or 0, once the byte at a place is passed too.
 fn note(bad: usize, at: usize, b: u8) -> usize
@@ -43,7 +41,7 @@ fn closed(n: usize, bad: usize) -> Scan
     if bad == 0 {
         return Scan::Word(sorts::STRING, n, 0);
     }
-    Scan::Refused(bad, BAD_BYTE)
+    Scan::Refused(bad, rules::BAD_BYTE)
 }
 
 // The string that a text begins with, in one pass: a byte that is permitted nowhere counts only in a string that is closed, so its place is kept.
@@ -51,7 +49,7 @@ pub(crate) fn scan_string(text: &[u8]) -> Scan
     requires { ⌜ getD (now text) 0 0 ≡ 34 ⌝ }
     ensures { λ r. ⌜ scanOf r ≡ scanString (now (text .entry)) ⌝ }
 {
-    let mut room = STRING_LIMIT;
+    let mut room = limits::STRING_READ;
     let mut bad = 0;
     let mut n = 1;
     while n < text.len() {
@@ -63,16 +61,16 @@ pub(crate) fn scan_string(text: &[u8]) -> Scan
             }
         } else {
             if is_barred(b) {
-                return Scan::Refused(0, MALFORMED);
+                return Scan::Refused(0, rules::MALFORMED);
             }
             bad = note(bad, n, b);
         }
         // the byte at n is the character's last
         if room == 0 {
-            return Scan::Refused(0, MALFORMED);
+            return Scan::Refused(0, rules::MALFORMED);
         }
         room -= 1;
         n += 1;
     }
-    Scan::Refused(0, MALFORMED)
+    Scan::Refused(0, rules::MALFORMED)
 }

@@ -9,8 +9,9 @@ use lib.Dec.{eqb}
 use lib.ListN.{length, getD}
 use borrow.Author.Tests.{eq-eqb, ne-eqb}
 use Rattle.laws.proofs.Tests.{test, false-true}
+use Rattle.paper.specs.Basics.{if_then_else_}
 use Rattle.paper.specs.Sorts.{FUNC}
-use Rattle.paper.specs.Names.{DataType, Meaning, unknown, variable, array, constant, loop, theRoutine, theErrno, errorNumber, routineIn, wrongName, spelled, meaning, sortIn}
+use Rattle.paper.specs.Names.{DataType, Meaning, theRoutine, usesOf, routineIn, wrongName, spelled, meaning, sortIn}
 use Rattle.paper.specs.Types.{fault}
 use Rattle.paper.specs.Declarations.{Signature}
 use Rattle.paper.specs.Checks.{noSignature, isOtherKind, signatureFaults, calleeFaults, signatureOf}
@@ -46,14 +47,11 @@ no-routine routine kind bool own value d =
 
 wrong-low : (m : Meaning) → wrongName m ≤ 12
 unfolding wrongName
-wrong-low unknown = omega arith
-wrong-low (variable t r) = omega arith
-wrong-low (array t r n) = omega arith
-wrong-low (constant t r) = omega arith
-wrong-low (loop r) = omega arith
-wrong-low (theRoutine k) = omega arith
-wrong-low theErrno = omega arith
-wrong-low (errorNumber n) = omega arith
+wrong-low m = by-known (usesOf m .known)
+  where
+    by-known : (known : Bool) → (if known then 12 else 11) ≤ 12
+    by-known true = omega arith
+    by-known false = omega arith
 
 same-kind : (function : Bool) (o : Option DataType) → function ≡ true → o ≡ none → isOtherKind function o ≡ true
 unfolding isOtherKind

@@ -13,7 +13,7 @@ use Rattle.laws.proofs.Tests.{test, apart, by-less}
 use Rattle.paper.specs.Sorts.{equalTexts}
 use Rattle.paper.specs.Words.{Word}
 use Rattle.paper.specs.Terms.{Ref, ofModule, ofRoutine, load}
-use Rattle.paper.specs.Names.{Meaning, unknown, variable, array, constant, loop, theRoutine, theErrno, errorNumber, Text, Names, textOf, Scopes, spelled, isAmong, meaning, cannotDeclare, declare}
+use Rattle.paper.specs.Names.{Meaning, Text, Names, textOf, Scopes, spelled, isAmong, meaning, cannotDeclare, declare}
 use Rattle.paper.specs.Types.{Fault}
 use Rattle.paper.specs.Declarations.{Data, moduleFilling, routineFilling, crosses}
 use Rattle.cells.specs.Words.{wordsOf}
@@ -24,9 +24,10 @@ use Rattle.names.specs.Promises.{numberAt}
 use Rattle.names.specs.Promises as names
 use Rattle.names.proofs.Spellings.{same-texts, texts-same, differing}
 use Rattle.names.proofs.Tables.{declare-means, own-hides, globals-hides}
-use Rattle.expressions.specs.Known.{InRoom}
+use Rattle.expressions.specs.Known.{InRoom, HeldWords, heldBy}
+use Rattle.expressions.proofs.Holding.{holds, room-one}
 use Rattle.constants.specs.Answers.{cellOf, InNum}
-use Rattle.sites.specs.Sites.{Site, theModule, aRoutine, filling, ownOf, Among, Placed, isOwn, owned, Filled}
+use Rattle.sites.specs.Sites.{Site, theModule, aRoutine, filling, ownOf, Among, InPlace, Placed, isOwn, owned, Filled}
 use Rattle.sites.specs.Parts.{baseOf, Fills}
 use borrow.Author.Tests.{lt-ltb, le-ltb}
 use Rattle.paper.specs.Trees.{Declared, Module}
@@ -151,14 +152,14 @@ module _ (W : List Word) where
 
   placed-more : (s : Site) (ws vs : List ℤ) (a : Meaning) → Placed (filling W s .memoryWith ws) a → Placed (filling W s .memoryWith (ws ++ vs)) a
   unfolding Placed
-  placed-more s ws vs unknown p = p
-  placed-more s ws vs (variable t r) p = among-more s ws vs r 1 p
-  placed-more s ws vs (array t r size) p = record { room = among-more s ws vs r size (p .room); some = p .some }
-  placed-more s ws vs (constant t r) p = record { room = among-more s ws vs r 1 (p .room); ranged = subst InNum (sym (load-more s ws vs r (p .room))) (p .ranged) }
-  placed-more s ws vs (loop r) p = among-more s ws vs r 1 p
-  placed-more s ws vs (theRoutine k) p = p
-  placed-more s ws vs theErrno p = p
-  placed-more s ws vs (errorNumber k) p = p
+  placed-more s ws vs a = holds (heldBy a) more (λ k h. h)
+    where
+      more : (w : HeldWords) → InPlace (filling W s .memoryWith ws) w → InPlace (filling W s .memoryWith (ws ++ vs)) w
+      more w p = record {
+        room = among-more s ws vs (w .first) (w .size) (p .room);
+        some = p .some;
+        ranged = λ e. subst InNum (sym (load-more s ws vs (w .first) (room-one _ _ (w .first) (w .size) (p .some) (p .room)))) (p .ranged e);
+      }
 
 -- ---- the table, where no cell of it changes
 pub means-same : (routine : ℕ → ℕ) (W : List Word) (S : Scopes) (X Y : List ℕ) → ((k : ℕ) → firstMeaning ≤ k → getD Y k 0 ≡ getD X k 0) → Means routine W S X → Means routine W S Y

@@ -1,24 +1,25 @@
 -- The scope that a walk over declarations fills, and what the value store says of it.
 use mathlib.Core.Path.{_≡_}
-use mathlib.Core.Bool.{Bool, false}
+use mathlib.Core.Bool.{Bool, true, false}
 use mathlib.Core.List.{List, map}
 use Prim.Native.Nat.{ℕ, _<_, _≤_}
 use lib.Dec.{eqb}
 use lib.ListN.{length, getD}
 use mir.Syntax.{w32}
 use mir.Val.{toZ}
+use Rattle.paper.specs.Basics.{if_then_else_}
 use Rattle.paper.specs.Sorts.{NUMBER}
 use Rattle.paper.specs.Words.{Word}
 use Rattle.paper.specs.Terms.{Ref, ofModule, ofRoutine, Memory, load}
 use Rattle.paper.specs.Trees.{Module}
-use Rattle.paper.specs.Names.{Meaning, unknown, variable, array, constant, loop, theRoutine, theErrno, errorNumber, Text, Names, textOf, Scopes, nth, sortIn, isAmong, meaning}
+use Rattle.paper.specs.Names.{Meaning, Text, Names, textOf, Scopes, nth, sortIn, isAmong, meaning}
 use Rattle.paper.specs.Declarations.{Data, Filling, moduleFilling, routineFilling}
 use Rattle.cells.specs.Words.{wordsOf}
 use Rattle.code.specs.Cells.{firstWindow, errnoCell}
 use Rattle.names.specs.Meanings.{isProtected, Means}
 use Rattle.names.specs.Promises.{storeBytes}
 use Rattle.evaluation.specs.Answers.{callWords}
-use Rattle.expressions.specs.Known.{largest, InRoom}
+use Rattle.expressions.specs.Known.{largest, InRoom, HeldWords, nothing, words, number, heldBy, Holds}
 use Rattle.constants.specs.Answers.{cellOf, InNum}
 
 -- ---- the two scopes that data are declared in
@@ -47,24 +48,14 @@ memoryOf W s D = filling W s .memoryWith (D .words)
 abbrev pub Among : Memory → Ref → (size : ℕ) → Type 0
 Among M r size = InRoom (length (M .module-words)) (length (M .routine-words)) r size
 
-pub record Elements (M : Memory) (r : Ref) (size : ℕ) : Type 0 where
-  pub room : Among M r size
-  pub some : 0 < size
-
-pub record Steady (M : Memory) (r : Ref) : Type 0 where
-  pub room : Among M r 1
-  pub ranged : InNum (load M r)
-
 -- What a name means has its words among those declared, and a constant's is a number of num.
+pub record InPlace (M : Memory) (w : HeldWords) : Type 0 where
+  pub room : Among M (w .first) (w .size)
+  pub some : 0 < w .size
+  pub ranged : w .fixed ≡ true → InNum (load M (w .first))
+
 unfoldable pub Placed : Memory → Meaning → Type 0
-Placed M unknown = Unit {0}
-Placed M (variable t r) = Among M r 1
-Placed M (array t r size) = Elements M r size
-Placed M (constant t r) = Steady M r
-Placed M (loop r) = Among M r 1
-Placed M (theRoutine k) = Unit {0}
-Placed M theErrno = Unit {0}
-Placed M (errorNumber k) = k ≤ largest
+Placed M a = Holds (InPlace M) (λ k. k ≤ largest) (heldBy a)
 
 -- Data of the module, if own is 0, or of the routine.
 unfoldable pub isOwn : (own : ℕ) → Ref → Bool
@@ -72,14 +63,7 @@ isOwn own (ofModule k) = eqb own 0
 isOwn own (ofRoutine k) = eqb own 1
 
 unfoldable pub owned : (own : ℕ) → Meaning → Bool
-owned own unknown = false
-owned own (variable t r) = isOwn own r
-owned own (array t r size) = isOwn own r
-owned own (constant t r) = isOwn own r
-owned own (loop r) = false
-owned own (theRoutine k) = false
-owned own theErrno = false
-owned own (errorNumber k) = false
+owned own a = elim (heldBy a) [ nothing ↦ false | words w ↦ if w .declared then isOwn own (w .first) else false | number k ↦ false ]
 
 -- The names of a scope are those, of all that are not protected, that mean its data.
 pub record Owns (own : ℕ) (N : Names) (S : Scopes) : Type 0 where

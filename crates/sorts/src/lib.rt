@@ -1,5 +1,6 @@
 // The sorts of words by name. A constant has no name in antt, so one function tells them all, and its contract ties them to the paper.
 ghost use mathlib.Core.Path.{_≡_};
+ghost use Rattle.paper.specs.Expressions.{startsData, startsRoutine};
 ghost use Rattle.sorts.specs.Named.{named};
 
 pub const NOTHING: u32 = 0;
@@ -264,4 +265,24 @@ fn all() -> [u32; 85]
         TPWRITE,
         TPREADNUM,
     ]
+}
+
+// A declaration of data begins with a word of that sort.
+pub fn starts_data(s: u32) -> bool
+    ensures { λ r. ⌜ r ≡ startsData s ⌝ }
+{
+    if s == VAR {
+        return true;
+    }
+    s == CONST
+}
+
+// A routine begins with a word of that sort.
+pub fn starts_routine(s: u32) -> bool
+    ensures { λ r. ⌜ r ≡ startsRoutine s ⌝ }
+{
+    if s == PROC {
+        return true;
+    }
+    s == FUNC
 }

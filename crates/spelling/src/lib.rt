@@ -1,4 +1,5 @@
 // Names by their spelling, letter case folded.
+use layout::parts;
 ghost use mathlib.Core.Path.{_≡_};
 ghost use mathlib.Core.List.{map};
 ghost use Prim.Native.Nat.{_+_, _*_, _%_, _<_, _≤_};
@@ -156,16 +157,16 @@ pub fn protected(name: &[u8]) -> u32
         return names::ERRNO;
     }
     if same(b"ERR_OVERFLOW", name) {
-        return names::ERROR_NUMBER + names::VALUE * OVERFLOW;
+        return names::ERROR_NUMBER + parts::VALUE * OVERFLOW;
     }
     if same(b"ERR_DIVZERO", name) {
-        return names::ERROR_NUMBER + names::VALUE * DIV_ZERO;
+        return names::ERROR_NUMBER + parts::VALUE * DIV_ZERO;
     }
     if same(b"ERR_OUTOFBND", name) {
-        return names::ERROR_NUMBER + names::VALUE * OUT_OF_BOUND;
+        return names::ERROR_NUMBER + parts::VALUE * OUT_OF_BOUND;
     }
     if same(b"ERR_ILLRAISE", name) {
-        return names::ERROR_NUMBER + names::VALUE * ILL_RAISE;
+        return names::ERROR_NUMBER + parts::VALUE * ILL_RAISE;
     }
     names::UNKNOWN
 }

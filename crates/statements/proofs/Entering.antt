@@ -4,17 +4,15 @@ use mathlib.Core.Bool.{Bool, true, false}
 use mathlib.Core.List.{List, [], _∷_}
 use Prim.Native.Nat.{ℕ, zero, suc, _+_, _-_, _*_, _/_, _%_, _<_, _≤_}
 use native.Mathlib.Omega.{arith}
-use lib.Dec.{eqb, leb}
 use lib.ListN.{length, getD, set}
 use mir.Syntax.{w32}
 use mir.Val.{toZ}
-use Rattle.laws.proofs.Tests.{test, by-same, apart}
+use Rattle.laws.proofs.Tests.{test, apart, false-true}
 use Rattle.cells.specs.Words.{wordsOf, Put}
 use Rattle.cells.proofs.Kept.{put-length, put-other}
 use Rattle.paper.specs.Sorts.{equalTexts}
-use Rattle.paper.specs.Words.{Word}
 use Rattle.paper.specs.Terms.{Ref, ofModule, ofRoutine, Memory, load}
-use Rattle.paper.specs.Names.{Meaning, unknown, variable, array, constant, loop, theRoutine, theErrno, errorNumber, Text, Scopes, spelled, meaning, enter, sortIn}
+use Rattle.paper.specs.Names.{Meaning, loop, theRoutine, Text, spelled, meaning, enter}
 use Rattle.code.specs.Cells.{opIn, headAt, tailAt, linkAt, placeAt}
 use Rattle.names.specs.Numbers.{numberOf, IsName}
 use Rattle.names.specs.Meanings.{cellWith, meaningWith, meaningIn, isProtected, protectsCell, firstMeaning, Means, Hides}
@@ -23,8 +21,9 @@ use Rattle.store.specs.Promises.{tailWith, Rewritten}
 use Rattle.names.proofs.Spellings.{same-texts, differing}
 use Rattle.names.proofs.Tables.{meaning-with, declare-means, enter-hides}
 use Rattle.store.proofs.Rewriting.{rewritten-length, rewritten-head, rewritten-tail, rewritten-other}
-use Rattle.expressions.specs.Known.{InRoom, Within, Known}
-use Rattle.constants.specs.Answers.{cellOf, Worth, Fine}
+use Rattle.expressions.specs.Known.{InRoom, heldBy, Within}
+use Rattle.expressions.proofs.Holding.{holds}
+use Rattle.constants.specs.Answers.{cellOf, Fine}
 use Rattle.simple.specs.declared.Setting.{Setting}
 use Rattle.simple.specs.Around.{Around, Calls}
 use Rattle.statements.specs.Answers.{Outside, SameValues, Here}
@@ -106,18 +105,12 @@ module _ {text values : List ℕ} (a : Around text values) (one two values′ : 
 
   fine-on : (x y : ℕ) (z : Meaning) → x ≤ 1024 → y ≤ 64 → Fine x y (wordsOf values) (a .M) z → Fine x y (wordsOf values′) (a .M) z
   unfolding Fine
-  fine-on x y unknown q r f = f
-  fine-on x y (variable t c) q r f = f
-  fine-on x y (array t c n) q r f = f
-  fine-on x y (constant t c) q r f = record { room = f .room; is = ap (toZ w32) (data-cell x y c (f .room) q r) ∙ f .is; ranged = f .ranged }
-  fine-on x y (loop c) q r f = f
-  fine-on x y (theRoutine k) q r f = f
-  fine-on x y theErrno q r f = f
-  fine-on x y (errorNumber k) q r f = f
+  fine-on x y z q r =
+      holds (heldBy z) (λ w v e. record { room = v e .room; is = ap (toZ w32) (data-cell x y (w .first) (v e .room) q r) ∙ v e .is; ranged = v e .ranged }) (λ k g. g)
 
   loop-fine : (x y : ℕ) (X : List ℕ) → Fine x y X (a .M) (loop (ofRoutine used))
   unfolding Fine
-  loop-fine x y X = tt
+  loop-fine x y X e = false-true e
 
   -- ---- the words of the list
   pub enters : (n : used < a .known .n) (code : List ℕ) (k : Setting) (at to x y : ℕ) {p q : ℕ} → Here a code k used at to → used < 64 → Outside (wordsOf code) (wordsOf two) p q → length two ≡ length code

@@ -4,17 +4,16 @@ use mathlib.Core.List.{List}
 use Prim.Native.Nat.{ℕ, _+_, _*_, _%_, _<_, _≤_}
 use native.Mathlib.Omega.{arith}
 use lib.ListN.{length, getD}
-use Rattle.laws.proofs.Tests.{by-less}
 use Rattle.cells.specs.Words.{wordsOf}
 use Rattle.paper.specs.Words.{Word}
-use Rattle.paper.specs.Terms.{ofModule, ofRoutine}
 use Rattle.paper.specs.Trees.{Expr, Statements}
-use Rattle.paper.specs.Names.{Scopes, Meaning, unknown, variable, array, constant, loop, theRoutine, theErrno, errorNumber, Text, sortIn}
+use Rattle.paper.specs.Names.{Scopes, Meaning}
 use Rattle.code.specs.Cells.{opIn, valueIn, placeIn, linkIn, headAt, tailAt, opAt, valueAt, placeAt, linkAt}
-use Rattle.expressions.specs.Known.{Fresh, Loaded, InRoom, Within, Known}
+use Rattle.expressions.specs.Known.{Fresh, heldBy, Within}
+use Rattle.expressions.proofs.Holding.{holds, room-more}
 use Rattle.store.specs.Promises.{Kept, Linked}
 use Rattle.store.proofs.Keeping.{cell-below, cell-above}
-use Rattle.constants.specs.Answers.{Worth, Fine}
+use Rattle.constants.specs.Answers.{Fine}
 use Rattle.links.specs.Raw.{Ground, SameWords, RawWord, RawTerm, RawBound, RawList}
 use Rattle.links.proofs.Framing.{same-cells, same-moves, list-frame}
 use Rattle.links.proofs.Moving.{term-moves, bound-moves}
@@ -94,31 +93,12 @@ calls-behind g o long x y c h k l m = record {
 
 -- ---- more words of the routine are taken
 pub within-more : (m n p : ℕ) (x : Meaning) → n ≤ p → Within m n x → Within m p x
-unfolding Within InRoom
-within-more m n p unknown h w = w
-within-more m n p (variable t (ofModule k)) h w = w
-within-more m n p (variable t (ofRoutine k)) h w = omega (arith, w)
-within-more m n p (array t (ofModule k) size) h w = w
-within-more m n p (array t (ofRoutine k) size) h w = omega (arith, w)
-within-more m n p (constant t (ofModule k)) h w = w
-within-more m n p (constant t (ofRoutine k)) h w = omega (arith, w)
-within-more m n p (loop (ofModule k)) h w = w
-within-more m n p (loop (ofRoutine k)) h w = omega (arith, w)
-within-more m n p (theRoutine k) h w = w
-within-more m n p theErrno h w = w
-within-more m n p (errorNumber k) h w = w
+unfolding Within
+within-more m n p x h = holds (heldBy x) (λ w. room-more m n p (w .first) (w .size) h) (λ k g. g)
 
 pub fine-more : (m n p : ℕ) (X : List ℕ) (M : Rattle.paper.specs.Terms.Memory) (x : Meaning) → n ≤ p → Fine m n X M x → Fine m p X M x
-unfolding Fine InRoom
-fine-more m n p X M unknown h w = w
-fine-more m n p X M (variable t r) h w = w
-fine-more m n p X M (array t r size) h w = w
-fine-more m n p X M (constant t (ofModule k)) h w = record { room = w .room; is = w .is; ranged = w .ranged }
-fine-more m n p X M (constant t (ofRoutine k)) h w = record { room = omega (arith, w .room); is = w .is; ranged = w .ranged }
-fine-more m n p X M (loop r) h w = w
-fine-more m n p X M (theRoutine k) h w = w
-fine-more m n p X M theErrno h w = w
-fine-more m n p X M (errorNumber k) h w = w
+unfolding Fine
+fine-more m n p X M x h = holds (heldBy x) (λ w v e. record { room = room-more m n p (w .first) 1 h (v e .room); is = v e .is; ranged = v e .ranged }) (λ k g. g)
 
 -- ---- further on
 -- The words up to b have been written, and the routine has used p words: what is known of the words from x up to y.

@@ -13,6 +13,7 @@ use Rattle.laws.proofs.Lists.{part-rest}
 use Rattle.scanner.proofs.Bounds.{Within, scan-within}
 use Rattle.paper.specs.Words as paper
 use Rattle.paper.specs.Words.{scan, scanned, wordAt, following, gap, textLimit, wordLimit, largestNumber}
+use Rattle.layout.specs.Rules.{badByte, longText, manyWords}
 use Rattle.scanner.specs.declared.Scan.{Scan}
 use Rattle.scanner.specs.declared.Scan.the-variants as scans
 use Rattle.scanner.specs.declared.Gap.{Gap}
@@ -34,7 +35,7 @@ module _ (place : ℕ) (full : Bool) (s : Scan) where
     unfolding scanned
     refused-first f z = rw (e, f) (rw (eq-eqb a 0 z, scanned))
 
-    pub refused-later : full ≡ true → (a ≡ 0 → ⊥) → RefusedAt place full s (Refused 7 place)
+    pub refused-later : full ≡ true → (a ≡ 0 → ⊥) → RefusedAt place full s (Refused manyWords place)
     unfolding scanned
     refused-later f z = rw (e, f) (rw (ne-eqb a 0 z, scanned))
 
@@ -85,7 +86,7 @@ module _ (text : List ℕ) (place words : ℕ) (h : place < length text) (s : Sc
     pub word-fits : length text < 2 ^ 64 → place + n < 2 ^ 64
     word-fits room = let w : n ≤ length text - place = rw length-drop at (word-within .1) in omega arith
 
-    pub word-full : wordLimit ≤ words → Here text place words (Refused 7 place)
+    pub word-full : wordLimit ≤ words → Here text place words (Refused manyWords place)
     unfolding scanned
     word-full f = sym (ap (stepOf words) here ∙ rw (le-leb wordLimit words f, e))
 
@@ -96,7 +97,7 @@ module _ (text : List ℕ) (place words : ℕ) (h : place < length text) (s : Sc
         sym (ap (stepOf words) here ∙ rw (lt-leb wordLimit words f, e) (rw size))
 
 -- ---- a step
-pub step-long : (text : List ℕ) (c : Cursor) → textLimit < length text → Stepped text c (Refused 3 textLimit)
+pub step-long : (text : List ℕ) (c : Cursor) → textLimit < length text → Stepped text c (Refused longText textLimit)
 unfolding nextAt
 step-long text c h = rw (lt-ltb textLimit (length text) h, nextAt)
 
@@ -105,7 +106,7 @@ module _ (text : List ℕ) (c : Cursor) (h : length text ≤ textLimit) (g : Gap
   unfolding nextAt
   follows x e = rw (le-ltb textLimit (length text) h, nextAt) (rw e)
 
-  pub step-bad : g ≡ gaps.BadByte q → Stepped text c (Refused 4 q)
+  pub step-bad : g ≡ gaps.BadByte q → Stepped text c (Refused badByte q)
   unfolding following
   step-bad e = follows (paper.refusalAt 4 q) (rw (sym is ∙ ap gapOf e, following))
 

@@ -1,20 +1,11 @@
 // The words of a text, read one after another from the first byte, and the word that starts at a place.
-use scanner::BAD_BYTE;
+use layout::limits;
+use layout::rules;
 use scanner::Gap;
 use scanner::Scan;
 use scanner::scan_word;
 use scanner::skip_gap;
 ghost use Rattle.words.specs.Answers.{Refuses, RefusedAt, Here, Started, Stepped, FoundAt, PartAt};
-
-// As many bytes as a text may have, and as many words.
-const TEXT_LIMIT: usize = 32768;
-
-const WORD_LIMIT: u32 = 8192;
-
-// Two refusals by their numbers; the scanner has the others.
-const TEXT_TOO_LONG: u32 = 3;
-
-const TOO_MANY_WORDS: u32 = 7;
 
 pub struct Word {
     pub sort: u32,
@@ -50,7 +41,7 @@ fn refused_at(s: Scan, place: usize, full: bool) -> Step
         if after == 0 {
             return Step::Refused(number, place);
         }
-        return Step::Refused(TOO_MANY_WORDS, place);
+        return Step::Refused(rules::MANY_WORDS, place);
     }
     Step::Refused(number, place + after)
 }
@@ -64,10 +55,10 @@ fn word_here(text: &[u8], place: usize, words: u32) -> Step
     }
     let s = scan_word(&text[place..]);
     let Scan::Word(sort, length, value) = s else {
-        return refused_at(s, place, WORD_LIMIT <= words);
+        return refused_at(s, place, limits::WORDS_READ <= words);
     };
-    if WORD_LIMIT <= words {
-        return Step::Refused(TOO_MANY_WORDS, place);
+    if limits::WORDS_READ <= words {
+        return Step::Refused(rules::MANY_WORDS, place);
     }
     Step::Word(
         Word {
@@ -94,12 +85,12 @@ impl Cursor {
     pub fn step(self, text: &[u8]) -> Step
         ensures { λ r. ⌜ Stepped (now (text .entry)) self r ⌝ }
     {
-        if TEXT_LIMIT < text.len() {
-            return Step::Refused(TEXT_TOO_LONG, TEXT_LIMIT);
+        if limits::TEXT < text.len() {
+            return Step::Refused(rules::LONG_TEXT, limits::TEXT);
         }
         match skip_gap(text, self.place) {
             Gap::UpTo(place) => word_here(text, place, self.words),
-            Gap::BadByte(place) => Step::Refused(BAD_BYTE, place),
+            Gap::BadByte(place) => Step::Refused(rules::BAD_BYTE, place),
         }
     }
 }

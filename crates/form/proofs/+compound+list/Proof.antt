@@ -80,7 +80,8 @@ compound-sub-list t c = search (needs, deep)
 
 compound-list-requires : (t : ℕ) → compound-lts.Need-list-requires (calls-compound t) (compound-at t) compound.Post compound-Inv-loop compound-μ-loop
 compound-list-requires t c κs =
-    let h : 0 < c .before .before .before .before .before .before .args .deeper = search (needs, deep) in
+    let start = c .before .before .before .before .before .before in
+    let h : 0 < start .args .deeper = search (needs, deep) in
     (omega arith, search needs)
 
 compound-enum-known-r : (t : ℕ) → compound-lts.Need-enum-known-r (calls-compound t) (compound-at t) compound.Post compound-Inv-loop compound-μ-loop

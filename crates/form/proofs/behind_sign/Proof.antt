@@ -7,29 +7,23 @@ use Rattle.form.proofs.behind_sign.Reads as reads
 use Rattle.form.proofs.behind_sign.Lts as lts
 use Rattle.form.proofs.sort.Reads as sort-reads
 
--- src/lib.rt:93:9
 sort-requires : tie.Need-sort-requires
 sort-requires c κs = search needs
 
--- src/lib.rt:95:16
 add-result : tie.Need-add-result
 add-result c = search (needs, fits)
 
--- src/lib.rt:95:9
 returns : tie.Need-returns
 unfolding behindSign
 returns c = search (needs, branches)
 
--- src/lib.rt:98:16
 add-result-2 : tie.Need-add-result-2
 add-result-2 c = search (needs, fits)
 
--- src/lib.rt:98:9
 returns-2 : tie.Need-returns-2
 unfolding behindSign
 returns-2 c = search (needs, branches)
 
--- src/lib.rt:89:1
 returns-3 : tie.Need-returns-3
 unfolding behindSign
 returns-3 c = search (needs, branches)

@@ -7,20 +7,16 @@ use Rattle.form.proofs.expect.Reads as reads
 use Rattle.form.proofs.expect.Lts as lts
 use Rattle.form.proofs.sort.Reads as sort-reads
 
--- src/lib.rt:51:8
 sort-requires : tie.Need-sort-requires
 sort-requires c κs = search needs
 
--- src/lib.rt:52:27
 add-t7 : tie.Need-add-t7
 add-t7 c = search (needs, fits)
 
--- src/lib.rt:52:9
 returns : tie.Need-returns
 unfolding word
 returns c = search (needs, branches)
 
--- src/lib.rt:47:1
 returns-2 : tie.Need-returns-2
 unfolding word
 returns-2 c = search (needs, branches)

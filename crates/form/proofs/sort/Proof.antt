@@ -6,19 +6,15 @@ use Rattle.form.proofs.sort.Reads as reads
 use Rattle.form.proofs.sort.Lts as lts
 use Rattle.cells.proofs.get.Reads as get-reads
 
--- src/lib.rt:39:33
 mul-get : tie.Need-mul-get
 mul-get c = search needs
 
--- src/lib.rt:39:16
 get-requires : tie.Need-get-requires
 get-requires c κs = search needs
 
--- src/lib.rt:39:9
 returns : tie.Need-returns
 returns c = search (needs, sort-in)
 
--- src/lib.rt:34:1
 returns-2 : tie.Need-returns-2
 returns-2 c = search (needs, sort-past)
 

@@ -1,7 +1,6 @@
 -- `heads::data_names` meets its contract.
 use Prim.Native.Nat.{_-_}
 use lib.ListN.{length}
-use borrow.Author.Tests.{not-true, not-false}
 use Rattle.heads.proofs.Announcing.{DataGo, data-start, data-done, data-announce, data-ends, data-again}
 use borrow.Author.Needs.{needs}
 use Rattle.heads.proofs.data_names.Statement.{statement}
@@ -26,19 +25,23 @@ same-length : tie.Need-same-length Inv-loop μ-loop
 same-length c = search needs
 
 returns : tie.Need-returns Inv-loop μ-loop
-returns c = data-done _ _ _ (c .before .before .before .before .before .before .pre) _ _ (c .before .before .before .loop .inv) _ (c .before .before .sort .ensures) _ (c .before .starts-data .ensures) (not-true _ (c .if1 .taken))
+returns c = search (needs, data-done)
 
 add-announce : tie.Need-add-announce Inv-loop μ-loop
 add-announce c = search needs
 
 announce-requires : tie.Need-announce-requires Inv-loop μ-loop
-announce-requires c κs = data-announce _ _ _ (c .before .before .before .before .before .before .before .pre) _ _ (c .before .before .before .before .loop .inv) _ (c .before .before .before .sort .ensures) _ (c .before .before .starts-data .ensures) (not-false _ (c .before .if1 .left))
+announce-requires c κs =
+    let turn = c .before in
+    data-announce _ _ _ (turn .before .before .before .before .before .before .pre) _ _ (turn .before .before .before .loop .inv) _ (turn .before .before .sort .ensures) _ (turn .before .starts-data .ensures) (turn .if1 .left)
 
 add-next : tie.Need-add-next Inv-loop μ-loop
 add-next c = search needs
 
 next-requires : tie.Need-next-requires Inv-loop μ-loop
-next-requires c κs = data-ends _ _ _ (c .before .before .before .before .before .before .before .before .before .before .pre) _ _ (c .before .before .before .before .before .before .before .loop .inv) _ (c .before .before .before .before .before .before .sort .ensures) _ (c .before .before .before .before .before .starts-data .ensures) (not-false _ (c .before .before .before .before .if1 .left))
+next-requires c κs =
+    let turn = c .before .before .before .before in
+    data-ends _ _ _ (turn .before .before .before .before .before .before .pre) _ _ (turn .before .before .before .loop .inv) _ (turn .before .before .sort .ensures) _ (turn .before .starts-data .ensures) (turn .if1 .left)
 
 add-i : tie.Need-add-i Inv-loop μ-loop
 add-i c = search needs
@@ -47,7 +50,9 @@ loop-less : tie.Need-loop-less Inv-loop μ-loop
 loop-less c = search needs
 
 loop-again : tie.Need-loop-again Inv-loop μ-loop
-loop-again c = data-again _ _ _ (c .before .before .before .before .before .before .before .before .before .before .before .pre) _ _ (c .before .before .before .before .before .before .before .before .loop .inv) _ (c .before .before .before .before .before .before .before .sort .ensures) _ (c .before .before .before .before .before .before .starts-data .ensures) (not-false _ (c .before .before .before .before .before .if1 .left)) _ (c .before .before .before .announce .ensures) _ (c .next .ensures)
+loop-again c =
+    let turn = c .before .before .before .before .before in
+    data-again _ _ _ (turn .before .before .before .before .before .before .pre) _ _ (turn .before .before .before .loop .inv) _ (turn .before .before .sort .ensures) _ (turn .before .starts-data .ensures) (turn .if1 .left) _ (c .before .before .before .announce .ensures) _ (c .next .ensures)
 
 pub data-names-spec : {M : Type 1} → statement M
 data-names-spec =

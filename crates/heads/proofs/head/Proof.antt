@@ -6,22 +6,28 @@ use Rattle.heads.proofs.head.Statement.{statement}
 use Rattle.heads.proofs.head.Tie as tie
 
 name-of-requires : tie.Need-name-of-requires
-name-of-requires c κs = head-room _ _ _ _ (c .before .before .before .pre)
+name-of-requires c κs = search (needs, head-room)
 
 cast-parameters : tie.Need-cast-parameters
-cast-parameters c = omega (arith, head-small _ _ _ _ (c .before .before .before .before .before .before .before .before .pre))
+cast-parameters c = search (needs, head-small)
 
 add-parameters : tie.Need-add-parameters
-add-parameters c = omega (arith, name-small _ _ _ _ (c .before .before .before .before .before .before .before .before .pre) _ _ (c .before .before .before .before .name-of .ensures))
+add-parameters c =
+    let named = c .before .before .before .before in
+    let start = named .before .before .before .before .pre in
+    omega (arith, name-small _ _ _ _ start _ _ (named .name-of .ensures))
 
 parameters-requires : tie.Need-parameters-requires
-parameters-requires c κs = head-parameters _ _ _ _ (c .before .before .before .before .before .before .before .before .pre) _ _ (c .before .before .before .before .name-of .ensures)
+parameters-requires c κs = search (needs, head-parameters)
 
 cast-set-value : tie.Need-cast-set-value
 cast-set-value c = search needs
 
 set-value-requires : tie.Need-set-value-requires
-set-value-requires c κs = (omega (arith, head-room _ _ _ _ (c .before .before .before .before .before .before .before .before .before .before .before .before .before .before .pre)), omega (arith, c .before .before .before .before .before .parameters .ensures .few))
+set-value-requires c κs =
+    let marked = c .before .before .before .before .before in
+    let named = marked .before .before .before .before .before in
+    (omega (arith, head-room _ _ _ _ (named .before .before .before .before .pre)), omega (arith, marked .parameters .ensures .few))
 
 same-length : tie.Need-same-length
 same-length c = search needs
@@ -30,7 +36,10 @@ same-length-2 : tie.Need-same-length-2
 same-length-2 c = search needs
 
 returns : tie.Need-returns
-returns c = head-begun _ _ _ _ (c .before .before .before .before .before .before .before .before .before .before .before .before .before .before .before .before .before .pre) _ _ (c .before .before .before .before .before .before .before .before .before .before .before .before .before .name-of .ensures) _ _ _ (c .before .before .before .before .before .before .before .before .parameters .ensures) _ (c .before .before .set-value .ensures)
+returns c =
+    let marked = c .before .before .before .before .before .before .before .before in
+    let named = marked .before .before .before .before .before in
+    head-begun _ _ _ _ (named .before .before .before .before .pre) _ _ (named .name-of .ensures) _ _ _ (marked .parameters .ensures) _ (c .before .before .set-value .ensures)
 
 pub head-spec : {M : Type 1} → statement M
 head-spec =

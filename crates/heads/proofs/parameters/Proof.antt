@@ -1,6 +1,5 @@
 -- `heads::parameters` meets its contract.
 use Prim.Native.Nat.{_-_}
-use native.Mathlib.Omega.{arith}
 use lib.ListN.{length}
 use Rattle.heads.proofs.Marking.{ParamsGo, params-room, params-none, params-start, params-on, params-end}
 use borrow.Author.Needs.{needs}
@@ -14,7 +13,7 @@ abbrev μ-loop : tie.MeasureT-loop
 μ-loop code₀ values₀ h at i₀ count₀ code values i count = length code - i
 
 sort-requires : tie.Need-sort-requires Inv-loop μ-loop
-sort-requires c κs = omega (arith, params-room _ _ _ _ (c .before .before .before .pre))
+sort-requires c κs = search (needs, params-room)
 
 same-length : tie.Need-same-length Inv-loop μ-loop
 same-length c = search needs
@@ -44,7 +43,10 @@ same-length-3 : tie.Need-same-length-3 Inv-loop μ-loop
 same-length-3 c = search needs
 
 returns-2 : tie.Need-returns-2 Inv-loop μ-loop
-returns-2 c = params-end _ _ _ _ (c .before .before .before .before .before .before .before .before .before .before .before .before .before .before .before .before .pre) _ _ _ _ _ _ _ (c .before .before .before .before .before .before .before .before .before .before .loop .inv) (c .before .before .before .before .before .before .before .parameter .ensures) (c .before .sort2 .ensures) (c .if2 .taken)
+returns-2 c =
+    let turn = c .before .before .before .before .before .before .before .before .before .before in
+    let marked = c .before .before .before .before .before .before .before in
+    params-end _ _ _ _ (turn .before .before .before .before .before .before .pre) _ _ _ _ _ _ _ (turn .loop .inv) (marked .parameter .ensures) (c .before .sort2 .ensures) (c .if2 .taken)
 
 add-i : tie.Need-add-i Inv-loop μ-loop
 add-i c = search needs
@@ -53,7 +55,10 @@ loop-less : tie.Need-loop-less Inv-loop μ-loop
 loop-less c = search needs
 
 loop-again : tie.Need-loop-again Inv-loop μ-loop
-loop-again c = params-on _ _ _ _ (c .before .before .before .before .before .before .before .before .before .before .before .before .before .before .before .before .pre) _ _ _ _ _ _ _ (c .before .before .before .before .before .before .before .before .before .before .loop .inv) (c .before .before .before .before .before .before .before .parameter .ensures) (c .before .sort2 .ensures) (c .if2 .left)
+loop-again c =
+    let turn = c .before .before .before .before .before .before .before .before .before .before in
+    let marked = c .before .before .before .before .before .before .before in
+    params-on _ _ _ _ (turn .before .before .before .before .before .before .pre) _ _ _ _ _ _ _ (turn .loop .inv) (marked .parameter .ensures) (c .before .sort2 .ensures) (c .if2 .left)
 
 pub parameters-spec : {M : Type 1} → statement M
 parameters-spec =

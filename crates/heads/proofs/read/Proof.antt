@@ -5,10 +5,12 @@ use Rattle.heads.proofs.read.Statement.{statement}
 use Rattle.heads.proofs.read.Tie as tie
 
 data-names-requires : tie.Need-data-names-requires
-data-names-requires c κs = read-data (c .before .before .before .before .before .pre)
+data-names-requires c κs = search (needs, read-data)
 
 routines-requires : tie.Need-routines-requires
-routines-requires c κs = routines-asked _ _ _ (c .before .before .before .before .before .before .before .before .before .before .pre) _ _ (c .before .before .before .before .data-names .ensures)
+routines-requires c κs =
+    let announced = c .before .before .before .before in
+    routines-asked _ _ _ (announced .before .before .before .before .before .before .pre) _ _ (announced .data-names .ensures)
 
 same-length : tie.Need-same-length
 same-length c = search needs
@@ -17,7 +19,9 @@ same-length-2 : tie.Need-same-length-2
 same-length-2 c = search needs
 
 returns : tie.Need-returns
-returns c = read-done _ _ _ (c .before .before .before .before .before .before .before .before .before .before .before .before .before .before .before .pre) _ _ (c .before .before .before .before .before .before .before .before .before .data-names .ensures) _ _ _ (c .before .before .before .before .routines .ensures)
+returns c =
+    let announced = c .before .before .before .before .before .before .before .before .before in
+    read-done _ _ _ (announced .before .before .before .before .before .before .pre) _ _ (announced .data-names .ensures) _ _ _ (c .before .before .before .before .routines .ensures)
 
 pub read-spec : {M : Type 1} → statement M
 read-spec =

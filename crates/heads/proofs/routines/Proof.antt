@@ -2,7 +2,6 @@
 use Prim.Native.Nat.{_-_}
 use native.Mathlib.Omega.{arith}
 use lib.ListN.{length}
-use borrow.Author.Tests.{not-true, not-false}
 use Rattle.heads.proofs.Walking.{RoutinesGo, routines-start, routines-done, head-asks, name-asks, next-asks, name-further, routines-again}
 use borrow.Author.Needs.{needs}
 use Rattle.heads.proofs.routines.Statement.{statement}
@@ -15,7 +14,7 @@ abbrev μ-loop : tie.MeasureT-loop
 μ-loop text code₀ values₀ at i₀ k₀ main₀ code values i k main = length code - i
 
 loop-holds : tie.Need-loop-holds Inv-loop μ-loop
-loop-holds c = routines-start _ _ _ _ (c .before .before .before .pre)
+loop-holds c = search (needs, routines-start)
 
 sort-requires : tie.Need-sort-requires Inv-loop μ-loop
 sort-requires c κs = search needs
@@ -36,16 +35,42 @@ same-length-2 : tie.Need-same-length-2 Inv-loop μ-loop
 same-length-2 c = search needs
 
 returns : tie.Need-returns Inv-loop μ-loop
-returns c = routines-done _ _ _ _ (c .before .before .before .before .before .before .before .before .before .before .before .before .before .before .pre) _ _ _ _ _ (c .before .before .before .before .before .before .before .before .before .before .loop .inv) _ (c .before .before .before .before .before .before .before .before .sort .ensures) _ (c .before .before .before .before .before .before .before .starts-routine .ensures) (not-true _ (c .before .before .before .before .before .before .if1 .taken)) _ (c .before .before .before .before .clear .ensures) _ (c .main-of .ensures)
+returns c =
+    let turn = c .before .before .before .before .before .before in
+    let begun = turn .before .before .before .before in
+    let start = begun .before .before .before .before .pre in
+    let sort = turn .before .before .sort .ensures in
+    let starts = turn .before .starts-routine .ensures in
+    routines-done _ _ _ _ start _ _ _ _ _ (begun .loop .inv) _ sort _ starts (turn .if1 .taken) _ (c .before .before .before .before .clear .ensures) _ (c .main-of .ensures)
 
 head-requires : tie.Need-head-requires Inv-loop μ-loop
-head-requires c κs = head-asks _ _ _ _ (c .before .before .before .before .before .before .before .before .before .before .pre) _ _ _ _ _ (c .before .before .before .before .before .before .loop .inv) _ (c .before .before .before .before .sort .ensures) _ (c .before .before .before .starts-routine .ensures) (not-false _ (c .before .before .if1 .left))
+head-requires c κs =
+    let turn = c .before .before in
+    let begun = turn .before .before .before .before in
+    let start = begun .before .before .before .before .pre in
+    let sort = turn .before .before .sort .ensures in
+    let starts = turn .before .starts-routine .ensures in
+    head-asks _ _ _ _ start _ _ _ _ _ (begun .loop .inv) _ sort _ starts (turn .if1 .left)
 
 take-name-requires : tie.Need-take-name-requires Inv-loop μ-loop
-take-name-requires c κs = name-asks _ _ _ _ (c .before .before .before .before .before .before .before .before .before .before .before .before .before .before .before .before .before .pre) _ _ _ _ _ (c .before .before .before .before .before .before .before .before .before .before .before .before .before .loop .inv) _ (c .before .before .before .before .before .before .before .before .before .before .before .sort .ensures) _ (c .before .before .before .before .before .before .before .before .before .before .starts-routine .ensures) (not-false _ (c .before .before .before .before .before .before .before .before .before .if1 .left)) _ _ _ (c .before .before .before .before .before .before .head .ensures)
+take-name-requires c κs =
+    let headed = c .before .before .before .before .before .before in
+    let turn = headed .before .before .before in
+    let begun = turn .before .before .before .before in
+    let start = begun .before .before .before .before .pre in
+    let sort = turn .before .before .sort .ensures in
+    let starts = turn .before .starts-routine .ensures in
+    name-asks _ _ _ _ start _ _ _ _ _ (begun .loop .inv) _ sort _ starts (turn .if1 .left) _ _ _ (headed .head .ensures)
 
 next-requires : tie.Need-next-requires Inv-loop μ-loop
-next-requires c κs = next-asks _ _ _ _ (c .before .before .before .before .before .before .before .before .before .before .before .before .before .before .before .before .before .before .before .before .before .pre) _ _ _ _ _ (c .before .before .before .before .before .before .before .before .before .before .before .before .before .before .before .before .before .loop .inv) _ (c .before .before .before .before .before .before .before .before .before .before .before .before .before .before .before .sort .ensures) _ (c .before .before .before .before .before .before .before .before .before .before .before .before .before .before .starts-routine .ensures) (not-false _ (c .before .before .before .before .before .before .before .before .before .before .before .before .before .if1 .left)) _ _ _ (c .before .before .before .before .before .before .before .before .before .before .head .ensures)
+next-requires c κs =
+    let headed = c .before .before .before .before .before .before .before .before .before .before in
+    let turn = headed .before .before .before in
+    let begun = turn .before .before .before .before in
+    let start = begun .before .before .before .before .pre in
+    let sort = turn .before .before .sort .ensures in
+    let starts = turn .before .starts-routine .ensures in
+    next-asks _ _ _ _ start _ _ _ _ _ (begun .loop .inv) _ sort _ starts (turn .if1 .left) _ _ _ (headed .head .ensures)
 
 add-i : tie.Need-add-i Inv-loop μ-loop
 add-i c = search needs
@@ -54,10 +79,24 @@ add-k : tie.Need-add-k Inv-loop μ-loop
 add-k c = search needs
 
 loop-less : tie.Need-loop-less Inv-loop μ-loop
-loop-less c = omega (arith, name-further _ _ _ _ (c .before .before .before .before .before .before .before .before .before .before .before .before .before .before .before .before .before .before .before .before .before .before .pre) _ _ _ _ _ (c .before .before .before .before .before .before .before .before .before .before .before .before .before .before .before .before .before .before .loop .inv) _ (c .before .before .before .before .before .before .before .before .before .before .before .before .before .before .before .before .sort .ensures) _ (c .before .before .before .before .before .before .before .before .before .before .before .before .before .before .before .starts-routine .ensures) (not-false _ (c .before .before .before .before .before .before .before .before .before .before .before .before .before .before .if1 .left)) _ _ _ (c .before .before .before .before .before .before .before .before .before .before .before .head .ensures))
+loop-less c =
+    let headed = c .before .before .before .before .before .before .before .before .before .before .before in
+    let turn = headed .before .before .before in
+    let begun = turn .before .before .before .before in
+    let start = begun .before .before .before .before .pre in
+    let sort = turn .before .before .sort .ensures in
+    let starts = turn .before .starts-routine .ensures in
+    omega (arith, name-further _ _ _ _ start _ _ _ _ _ (begun .loop .inv) _ sort _ starts (turn .if1 .left) _ _ _ (headed .head .ensures))
 
 loop-again : tie.Need-loop-again Inv-loop μ-loop
-loop-again c = routines-again _ _ _ _ (c .before .before .before .before .before .before .before .before .before .before .before .before .before .before .before .before .before .before .before .before .before .before .pre) _ _ _ _ _ (c .before .before .before .before .before .before .before .before .before .before .before .before .before .before .before .before .before .before .loop .inv) _ (c .before .before .before .before .before .before .before .before .before .before .before .before .before .before .before .before .sort .ensures) _ (c .before .before .before .before .before .before .before .before .before .before .before .before .before .before .before .starts-routine .ensures) (not-false _ (c .before .before .before .before .before .before .before .before .before .before .before .before .before .before .if1 .left)) _ _ _ (c .before .before .before .before .before .before .before .before .before .before .before .head .ensures) _ _ (c .before .before .before .before .take-name .ensures) _ (c .next .ensures)
+loop-again c =
+    let headed = c .before .before .before .before .before .before .before .before .before .before .before in
+    let turn = headed .before .before .before in
+    let begun = turn .before .before .before .before in
+    let start = begun .before .before .before .before .pre in
+    let sort = turn .before .before .sort .ensures in
+    let starts = turn .before .starts-routine .ensures in
+    routines-again _ _ _ _ start _ _ _ _ _ (begun .loop .inv) _ sort _ starts (turn .if1 .left) _ _ _ (headed .head .ensures) _ _ (c .before .before .before .before .take-name .ensures) _ (c .next .ensures)
 
 pub routines-spec : {M : Type 1} → statement M
 routines-spec =

@@ -49,7 +49,8 @@ part-same-start c = search needs
 
 part-same-end : tie.Need-part-same-end Inv-loop μ-loop
 part-same-end c =
-    omega (arith, part-inside _ _ _ _ (c .before .before .before .before .before .before .before .pre) _ (c .before .before .before .loop .inv) (c .before .before .loop-test .taken) _ _ (c .before .get .ensures) (c .get2 .ensures))
+    let turn = c .before .before .before in
+    omega (arith, part-inside _ _ _ _ (turn .before .before .before .before .pre) _ (turn .loop .inv) (c .before .before .loop-test .taken) _ _ (c .before .get .ensures) (c .get2 .ensures))
 
 same-requires : tie.Need-same-requires Inv-loop μ-loop
 same-requires c κs = search needs

@@ -7,24 +7,19 @@ use Rattle.form.proofs.Read.word.Reads as reads
 use Rattle.form.proofs.Read.word.Lts as lts
 use Rattle.form.proofs.expect.Reads as expect-reads
 
--- src/lib.rt:61:24
 enum-known-self : tie.Need-enum-known-self
 enum-known-self c = search needs
 
--- src/lib.rt:62:13
 enum-told : tie.Need-enum-told
 enum-told c = search needs
 
--- src/lib.rt:62:13
 returns : tie.Need-returns
 unfolding _▸_
 returns c = search needs
 
--- src/lib.rt:64:9
 expect-requires : tie.Need-expect-requires
 expect-requires c κs = search needs
 
--- src/lib.rt:57:5
 returns-2 : tie.Need-returns-2
 returns-2 c = search (needs, goes-on)
 

@@ -17,7 +17,9 @@ unfolding signSort numberIn signs equalTexts bytes folded
 returns-3 c = a-pair _ _ 62 61 (c .if4 .taken) (c .before .before .before .if1 .taken)
 
 returns-4 : tie.Need-returns-4
-returns-4 c = no-pair-equal _ _ (c .before .before .before .before .fits .b .fits) (c .before .before .before .if1 .taken) (c .before .before .if2 .left) (c .before .if3 .left) (c .if4 .left)
+returns-4 c =
+    let first = c .before .before .before in
+    no-pair-equal _ _ (first .before .fits .b .fits) (first .if1 .taken) (c .before .before .if2 .left) (c .before .if3 .left) (c .if4 .left)
 
 returns-5 : tie.Need-returns-5
 unfolding signSort numberIn signs equalTexts bytes folded

@@ -43,7 +43,7 @@ note-requires : tie.Need-note-requires Inv-loop μ-loop
 note-requires c κs = search needs
 
 -- where a quote that is doubled and any other byte meet
-joined : (c : tie.Joined1 Inv-loop μ-loop) → Passing (now (c .before .before .before .before .before .args .text)) (c .before .before .before .loop .room) (c .if1 .bad) (c .if1 .n)
+joined : (c : tie.Joined1 Inv-loop μ-loop) → let turn = c .before .before .before in Passing (now (turn .before .before .args .text)) (turn .loop .room) (c .if1 .bad) (c .if1 .n)
 joined c =
     ⊎-elim
     (λ w. rw (w .3, w .4) (quote-twice _ _ _ _ (c .before .before .before .loop .inv) (c .before .before .loop-test .taken) (w .0 .taken) _ (w .1 .ensures) (w .2 .left)))
@@ -60,7 +60,9 @@ sub-room : tie.Need-sub-room Inv-loop μ-loop
 sub-room c = search needs
 
 add-n-2 : tie.Need-add-n-2 Inv-loop μ-loop
-add-n-2 c = record { fits = omega (arith, joined (c .before .before) .place, c .before .before .before .before .before .before .before .good .0) }
+add-n-2 c =
+    let test = c .before .before in
+    record { fits = omega (arith, joined test .place, test .before .before .before .before .before .good .0) }
 
 loop-less : tie.Need-loop-less Inv-loop μ-loop
 loop-less c = omega (arith, joined (c .before .before) .place, onward (c .before .before))

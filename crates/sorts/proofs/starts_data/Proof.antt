@@ -1,8 +1,8 @@
--- `heads::starts_data` meets its contract.
-use Rattle.heads.proofs.Leaves.{data-var, data-const}
+-- `sorts::starts_data` meets its contract.
 use borrow.Author.Needs.{needs}
-use Rattle.heads.proofs.starts_data.Statement.{statement}
-use Rattle.heads.proofs.starts_data.Tie as tie
+use Rattle.sorts.proofs.Starting.{data-var, data-const}
+use Rattle.sorts.proofs.starts_data.Statement.{statement}
+use Rattle.sorts.proofs.starts_data.Tie as tie
 
 returns : tie.Need-returns
 returns c = search (needs, data-var)

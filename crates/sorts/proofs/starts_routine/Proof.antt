@@ -1,8 +1,8 @@
--- `heads::starts_routine` meets its contract.
-use Rattle.heads.proofs.Leaves.{routine-proc, routine-func}
+-- `sorts::starts_routine` meets its contract.
 use borrow.Author.Needs.{needs}
-use Rattle.heads.proofs.starts_routine.Statement.{statement}
-use Rattle.heads.proofs.starts_routine.Tie as tie
+use Rattle.sorts.proofs.Starting.{routine-proc, routine-func}
+use Rattle.sorts.proofs.starts_routine.Statement.{statement}
+use Rattle.sorts.proofs.starts_routine.Tie as tie
 
 returns : tie.Need-returns
 returns c = search (needs, routine-proc)
