@@ -20,7 +20,7 @@ use Rattle.paper.specs.Terms.{truth, applied, known, combined, operated}
 use Rattle.numbers.proofs.Whole.{read, sub-cases, mag-abs, abs-neg, abs-mul, rem-is}
 use Rattle.code.specs.Spans.{operators, operatorOf, prefixIn}
 use Rattle.evaluation.specs.Answers.{firstError, decoded, Small, Gives}
-use Rattle.evaluation.specs.Parts.{outside, joined, failureOf, firstLogic, failing, Worked, Skips, Divided}
+use Rattle.evaluation.specs.Parts.{outside, joined, failureOf, andNumber, failing, Worked, Skips, Divided}
 use Rattle.evaluation.proofs.Numbers.{not-less, ranged-inside, ranged-outside, truth-inside, truth-small, is-value, is-error, gives-value, gives-error, gives-as, gives-same, told, inside-small, outside-is}
 
 -- ---- operators by their numbers
@@ -110,11 +110,11 @@ module _ (number : ℕ) (b : ℤ) where
 
 -- ---- whether a result fails
 module _ (k : ℕ) (z : ℤ) where
-  pub holds-inside : k < firstLogic → failing k z ≡ false → outside z ≡ false
+  pub holds-inside : k < andNumber → failing k z ≡ false → outside z ≡ false
   unfolding failing
   holds-inside h f =
       test (outside z)
-      (λ t. let q : ltb k firstLogic ≡ false = rw (t, failing) at f in absurd (subst T (sym (lt-ltb k firstLogic h) ∙ q) tt))
+      (λ t. let q : ltb k andNumber ≡ false = rw (t, failing) at f in absurd (subst T (sym (lt-ltb k andNumber h) ∙ q) tt))
       (λ t. t)
 
   pub fails-outside : failing k z ≡ true → outside z ≡ true
@@ -125,9 +125,9 @@ module _ (k : ℕ) (z : ℤ) where
   unfolding failing
   inside-holds t = rw (t, failing)
 
-  pub logic-holds : firstLogic ≤ k → failing k z ≡ false
+  pub logic-holds : andNumber ≤ k → failing k z ≡ false
   unfolding failing
-  logic-holds h = test (outside z) (λ t. rw (t, failing) (le-ltb k firstLogic h)) inside-holds
+  logic-holds h = test (outside z) (λ t. rw (t, failing) (le-ltb k andNumber h)) inside-holds
 
 module _ (k : ℕ) (z : ℤ) (s : SFits w64 z) (t : Bool) (e : t ≡ outside (read z)) where
   pub failing-outside : t ≡ true → ltb k 12 ≡ failing k z
@@ -164,7 +164,7 @@ module _ (a b : ℤ) (sa : SFits w64 a) (sb : SFits w64 b) (fa : SFits w32 a) (f
   product-fits = rw (toZ-ofZ sa, toZ-ofZ sb) (wide (a *ℤ b) (let h = mul-le-mul (abs-size a fa) (abs-size b fb) in omega (arith, abs-mul a b)))
 
 -- a number that num holds or not
-held : (k : ℕ) (a b z : ℤ) → k < firstLogic → failureOf k b ≡ overflow → joined (operatorOf k) (value a) (value b) ≡ paper.ranged num z → Worked k a b z
+held : (k : ℕ) (a b z : ℤ) → k < andNumber → failureOf k b ≡ overflow → joined (operatorOf k) (value a) (value b) ≡ paper.ranged num z → Worked k a b z
 held k a b z h f e = record {
   is = λ o. e ∙ ranged-inside z (holds-inside k z h o);
   small = λ o. inside-small z (holds-inside k z h o);
@@ -178,11 +178,11 @@ whole k a b z s f e = record { is = λ o. e; small = λ o. s; fails = λ o. absu
 true-is : (k : ℕ) (a b : ℤ) (t : Bool) → joined (operatorOf k) (value a) (value b) ≡ value (truth t) → Worked k a b (truth t)
 true-is k a b t e = whole k a b (truth t) (truth-small t) (inside-holds k (truth t) (truth-inside t)) e
 
-side : (k : ℕ) (a b z : ℤ) → firstLogic ≤ k → SFits w32 z → joined (operatorOf k) (value a) (value b) ≡ value z → Worked k a b z
+side : (k : ℕ) (a b z : ℤ) → andNumber ≤ k → SFits w32 z → joined (operatorOf k) (value a) (value b) ≡ value z → Worked k a b z
 side k a b z h s e = whole k a b z s (logic-holds k z h) e
 
 -- a quotient or a remainder
-quotients : (k : ℕ) (a b z exact : ℤ) → k < firstLogic → 3 ≤ k → Divided b exact z
+quotients : (k : ℕ) (a b z exact : ℤ) → k < andNumber → 3 ≤ k → Divided b exact z
     → (isZero b ≡ true → joined (operatorOf k) (value a) (value b) ≡ error divZero)
     → (isZero b ≡ false → joined (operatorOf k) (value a) (value b) ≡ paper.ranged num exact)
     → Worked k a b z

@@ -5,18 +5,19 @@ ghost use lib.ListN.{length};
 ghost use Rattle.cells.specs.Words.{wordsOf, Put};
 ghost use Rattle.code.specs.Cells.{opAt, linkAt};
 ghost use Rattle.store.specs.Promises.{headWith, tailWith, Rewritten, Linked, Headed, Relinked};
+use layout::parts;
 
-// A head is an op, and a value above it; a tail is a place, and a link above it.
-pub const VALUE: u32 = 256;
+// as callers name them
+pub const VALUE: u32 = parts::VALUE;
 
-pub const LINK: u32 = 65536;
+pub const LINK: u32 = parts::LINK;
 
 // The op of a word, which is its sort as long as the check has not come to it.
 pub fn sort(code: &[u8], i: usize) -> u32
     requires { ⌜ i * 8 + 8 ≤ length (now code) ⌝ }
     ensures { λ r. ⌜ r ≡ opAt (wordsOf (now (code .entry))) i ⌝ }
 {
-    reading::head(code, i) % VALUE
+    reading::head(code, i) % parts::VALUE
 }
 
 // ---- writing: the other parts of the word stay, and all other words
@@ -25,7 +26,7 @@ pub fn set_head(code: &mut [u8], i: usize, op: u32, value: u32)
     requires { ⌜ (i * 8 + 8 ≤ length (now code)) × (op < 256) × (value < 16777216) ⌝ }
     ensures { λ _. ⌜ Headed (now (code .entry)) (now (code .exit)) i op value ⌝ }
 {
-    cells::put(code, i * 2, op + VALUE * value);
+    cells::put(code, i * 2, op + parts::VALUE * value);
 }
 
 pub fn set_value(code: &mut [u8], i: usize, value: u32)
@@ -33,7 +34,7 @@ pub fn set_value(code: &mut [u8], i: usize, value: u32)
     ensures { λ _. ⌜ Put (now (code .entry)) (now (code .exit)) (i * 2) (headWith (opAt (wordsOf (now (code .entry))) i) value) ⌝ }
 {
     let old = sort(code, i);
-    cells::put(code, i * 2, old + VALUE * value);
+    cells::put(code, i * 2, old + parts::VALUE * value);
 }
 
 pub fn set_place(code: &mut [u8], i: usize, place: usize)
@@ -41,7 +42,7 @@ pub fn set_place(code: &mut [u8], i: usize, place: usize)
     ensures { λ _. ⌜ Put (now (code .entry)) (now (code .exit)) (i * 2 + 1) (tailWith place (linkAt (wordsOf (now (code .entry))) i)) ⌝ }
 {
     let old = reading::link(code, i);
-    cells::put(code, i * 2 + 1, (place as u32) + LINK * (old as u32));
+    cells::put(code, i * 2 + 1, (place as u32) + parts::LINK * (old as u32));
 }
 
 pub fn set_link(code: &mut [u8], i: usize, link: usize)
@@ -49,7 +50,7 @@ pub fn set_link(code: &mut [u8], i: usize, link: usize)
     ensures { λ _. ⌜ Relinked (now (code .entry)) (now (code .exit)) i link ⌝ }
 {
     let old = reading::place(code, i);
-    cells::put(code, i * 2 + 1, (old as u32) + LINK * (link as u32));
+    cells::put(code, i * 2 + 1, (old as u32) + parts::LINK * (link as u32));
 }
 
 pub fn set_word(code: &mut [u8], i: usize, op: u32, value: u32, link: usize)
@@ -57,7 +58,7 @@ pub fn set_word(code: &mut [u8], i: usize, op: u32, value: u32, link: usize)
     ensures { λ _. ⌜ Linked (now (code .entry)) (now (code .exit)) i op value link ⌝ }
 {
     let old = reading::place(code, i);
-    rewrite(code, i, op + VALUE * value, old, link);
+    rewrite(code, i, op + parts::VALUE * value, old, link);
 }
 
 // A word's two cells: its head, and its tail with this place and link.
@@ -66,5 +67,9 @@ pub fn rewrite(code: &mut [u8], i: usize, head: u32, place: usize, link: usize)
     ensures { λ _. ⌜ Rewritten (now (code .entry)) (now (code .exit)) i head (tailWith place link) ⌝ }
 {
     cells::put(code, i * 2, head);
-    cells::put(code, i * 2 + 1, (place as u32) + LINK * (link as u32));
+    cells::put(
+        code,
+        i * 2 + 1,
+        (place as u32) + parts::LINK * (link as u32),
+    );
 }
