@@ -25,7 +25,7 @@ use Rattle.code.specs.Cells.{opAt, valueAt, linkAt, windowOf}
 use Rattle.code.specs.Spans.{termIn, memoryIn}
 use Rattle.code.specs.Steps.{aStep, forStep, aFor}
 use Rattle.code.specs.Closed.{isNamed, Named, targetsOf, LoopFits}
-use Rattle.code.specs.Windows.{routineCell, stateIn, endsCell, stepsCell}
+use Rattle.code.specs.Windows.{routineCell, stateIn, endsCell, stepsCell, writtenCell, usedCell}
 use Rattle.code.proofs.Spanning.{span-grows}
 use Rattle.evaluation.specs.Answers.{firstError, decoded, Stands, Evaluated}
 use Rattle.evaluation.proofs.Places.{op-in, value-in, link-in}
@@ -39,7 +39,8 @@ use Rattle.machine.proofs.Actions.{EntersFor, reads-for, no-step}
 use Rattle.machine.proofs.Agreeing.{Same, set-same}
 use Rattle.machine.proofs.States.{Roomy, roomy, goes-to, call-loop}
 use Rattle.machine.proofs.Living.{routine-code, live-next, live-call}
-use Rattle.machine.proofs.Current.{codeHere, stepHere, m, n, callHere, stateHere, action-here, routine-holds, whole-here, counts-here, stands-here, memory-here, named-after, named-targets, loop-here, small-name, step-in, effect-here, value-here, failed-here, error-is, told-error, told-value, performs}
+use Rattle.machine.proofs.Current.{codeHere, stepHere, m, n, callHere, stateHere, action-here, routine-holds, whole-here, counts-here, stands-here, memory-here}
+use Rattle.machine.proofs.Current.{named-after, named-targets, loop-here, small-name, step-in, effect-here, value-here, failed-here, error-is, told-error, told-value, performs}
 use Rattle.machine.proofs.Deciding.{stepsHere}
 use Rattle.loops.proofs.Looping.{word-goes}
 
@@ -285,7 +286,7 @@ module _ (code values : List ℕ) (base i t : ℕ) (q : Says code i aFor t) wher
                       Y-code : codeOfCall (h .P) (h .R) Y (h .d) ≡ codeHere code values base i h
                       Y-code = routine-code (h .P) (h .R) (wordsOf values) Y (h .d) (Y-same (windowOf (h .d) + routineCell) (λ e. omega (arith, t-room, h .base-is)) (λ e. omega (arith, t-room, h .base-is)))
 
-                      Y-kept : (j : ℕ) → 1260 ≤ j → j ≤ 1262 → Same (wordsOf values) Y j
+                      Y-kept : (j : ℕ) → writtenCell ≤ j → j ≤ usedCell → Same (wordsOf values) Y j
                       Y-kept j x y = Y-same j (λ e. omega (arith, t-room, h .base-is)) (λ e. omega (arith, t-room, h .base-is))
 
                       Y-state : (rooms : Rooms) (steps : ℕ) (out : List ℕ) → onTop (setLoop t (record { end = b; step = c })) (S h rooms steps out) ≡ stateIn (h .P) (h .R) Y (h .d) i steps out

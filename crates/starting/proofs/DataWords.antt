@@ -25,7 +25,7 @@ use Rattle.code.specs.Windows.{stepsCell, endsCell}
 use Rattle.code.proofs.Options.{none-some, same-some, went}
 use Rattle.evaluation.proofs.Places.{op-in}
 use Rattle.reading.specs.Reading.{halfEnd, Part, cellValues}
-use Rattle.starting.specs.Starting.{Holding, Wrote, Filled, Idled, Starts, Started}
+use Rattle.starting.specs.Starting.{Holding, Wrote, Filled, Idle, Idled, Starts, Started}
 use Rattle.machine.proofs.Actions.{first-is, second-is}
 use Rattle.machine.proofs.Hops.{hops, hops-on, hops-end, hops-less}
 use Rattle.starting.proofs.Writing.{wrote-none, wrote-more, holding-same}
@@ -239,10 +239,10 @@ module _ (code before now : List ℕ) (first at q n w : ℕ) (g : Starting code 
               (subst (Holding (wordsOf after) at) (sym starts-are)
               (holding-same (wordsOf now) (wordsOf after) at (g .done) cells-long (λ c x y. id .below c (omega (arith, g .next))) (g .wrote .holds)));
           idle = λ starts opens j e h.
-              subst (λ (y : List ℤ × ℕ). j < placeAt (wordsOf code) (y .1) → (getD (wordsOf after) (at + length (y .0) + j) 0 ≡ 0) × (getD (wordsOf after) (at + length (y .0) + j + endsCell) 0 ≡ 0) × (getD (wordsOf after) (at + length (y .0) + j + stepsCell) 0 ≡ 0)) (same-reading starts opens e)
+              subst (λ (y : List ℤ × ℕ). j < placeAt (wordsOf code) (y .1) → Idle (wordsOf after) (at + length (y .0) + j)) (same-reading starts opens e)
               (λ k.
               let r : j < p = omega (arith, fors-are) in
-              subst (λ (x : ℕ). (getD (wordsOf after) (x + j) 0 ≡ 0) × (getD (wordsOf after) (x + j + endsCell) 0 ≡ 0) × (getD (wordsOf after) (x + j + stepsCell) 0 ≡ 0)) n-is (id .zeros j r, id .ends j r, id .steps j r)) h;
+              subst (λ (x : ℕ). Idle (wordsOf after) (x + j)) n-is (id .zeros j r, id .ends j r, id .steps j r)) h;
           below = λ c h. id .below c (omega (arith, g .next)) ∙ g .wrote .kept c (λ x y. omega arith);
           above = λ starts opens c e h.
               subst (λ (y : List ℤ × ℕ). at + length (y .0) + placeAt (wordsOf code) (y .1) + stepsCell ≤ c → getD (wordsOf after) c 0 ≡ getD (wordsOf before) c 0) (same-reading starts opens e)

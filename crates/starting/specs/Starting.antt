@@ -29,6 +29,10 @@ pub record Filled (before after : List ℕ) (at count : ℕ) (v : ℤ) (r : ℕ)
   pub next : r ≡ at + count
 
 -- ---- the words of a new call
+-- a FOR variable's cell, and those of its loop
+abbrev pub Idle : (X : List ℕ) (cell : ℕ) → Type 0
+Idle X c = (getD X c 0 ≡ 0) × (getD X (c + endsCell) 0 ≡ 0) × (getD X (c + stepsCell) 0 ≡ 0)
+
 -- The FOR variables from a cell on are 0, and so are the cells of their loops; cells before them and behind are as they were.
 pub record Idled (before after : List ℕ) (at fors : ℕ) : Type 0 where
   pub long : length after ≡ length before
@@ -50,7 +54,7 @@ pub record Started (code before after : List ℕ) (first at : ℕ) : Type 0 wher
   pub long : length after ≡ length before
   pub is : (starts : List ℤ) (opens : ℕ) → dataIn (wordsOf code) parts first ≡ some (starts, opens) → Holding (wordsOf after) at starts
   pub idle : (starts : List ℤ) (opens j : ℕ) → dataIn (wordsOf code) parts first ≡ some (starts, opens) → j < placeAt (wordsOf code) opens →
-      (getD (wordsOf after) (at + length starts + j) 0 ≡ 0) × (getD (wordsOf after) (at + length starts + j + endsCell) 0 ≡ 0) × (getD (wordsOf after) (at + length starts + j + stepsCell) 0 ≡ 0)
+      Idle (wordsOf after) (at + length starts + j)
   pub below : (c : ℕ) → c < at → getD (wordsOf after) c 0 ≡ getD (wordsOf before) c 0
   pub above : (starts : List ℤ) (opens c : ℕ) → dataIn (wordsOf code) parts first ≡ some (starts, opens) → at + length starts + placeAt (wordsOf code) opens + stepsCell ≤ c →
       getD (wordsOf after) c 0 ≡ getD (wordsOf before) c 0
