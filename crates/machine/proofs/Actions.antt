@@ -16,7 +16,8 @@ use Rattle.paper.specs.Steps.{Spot, scalar, elementOf, Action, store, callFor, 
 use Rattle.code.specs.Cells.{opAt, valueAt, placeAt, linkAt}
 use Rattle.code.specs.Spans.{guard, _then_, firstIn, sizeIn, termIn}
 use Rattle.code.specs.Steps.{aTarget, aCallTarget, anElseIf, aStep, aNextArgument, aProcedureCall, aReturnOf, aReturn, aRaiseOf, aRaise, anExit, aRetry, aTryNext, aWrite, aWriteOf, aRead, aCompactIf, anIf, aWhile, aFor, aForTest, aTest, anEnd, aFunctionEnd}
-use Rattle.code.specs.Steps.{Head, noHead, numbered, agree, parts, scalarIn, elementIn, targetIn, argumentsIn, anyArguments, calleeIn, charactersIn, conditionsIn, casesIn, forStep, forIn, linked, storeIn, callForIn, callOfIn, withTerm, writeIn, writeOfIn, readIn, compactIfIn, ifIn, whileIn, forTestIn, testIn, actionIn}
+use Rattle.code.specs.Steps.{Head, noHead, numbered, agree, parts, scalarIn, elementIn, targetIn, argumentsIn, anyArguments, calleeIn, charactersIn, conditionsIn, casesIn, forStep, forIn}
+use Rattle.code.specs.Steps.{linked, storeIn, callForIn, callOfIn, withTerm, writeIn, writeOfIn, readIn, compactIfIn, ifIn, whileIn, forTestIn, testIn, actionIn}
 use Rattle.code.proofs.Options.{none-some, same-some, guarded, went}
 
 pub first-is : {A B : Type 0} (a : A) (b : B) (x : A × B) → some (a, b) ≡ some x → x .0 ≡ a
