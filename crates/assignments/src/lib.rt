@@ -4,12 +4,10 @@ ghost use Rattle.code.specs.Steps.{aTarget};
 ghost use Rattle.machine.specs.Machine.{Here, Performs};
 ghost use Rattle.targets.specs.Targets.{WordAt, ArrayAt, Assigns, Assigned};
 use evaluation::worth;
+use layout::answers::FIRST_ERROR;
 use reading::link;
 use reading::put;
 use targets::element;
-
-// an answer from here on is an error's
-const FIRST_ERROR: i64 = 4294967296;
 
 // What stands behind the word `at`, which follows the target of the step at i, into a cell.
 fn assign<'a>(

@@ -24,7 +24,7 @@ use Rattle.code.proofs.Options.{none-some, guarded, went}
 use Rattle.evaluation.proofs.Places.{op-in}
 use Rattle.evaluation.proofs.Numbers.{same-bits}
 use Rattle.evaluation.proofs.Operators.{sum-fits}
-use Rattle.reading.specs.Reading.{halfEnd, Part}
+use Rattle.reading.specs.Reading.{halfEnd, Part, cellValues}
 use Rattle.cases.specs.Cases.{Cases, Matches}
 use Rattle.machine.proofs.Actions.{first-is, second-is}
 use Rattle.machine.proofs.Hops.{hops, hops-on, hops-end, hops-more, hops-less}
@@ -375,11 +375,11 @@ module _ (code : List ℕ) (first : ℕ) (v : ℤ) where
           → Matches code first v r
       found r p f = record { is = λ m n function text R cs o e. p .same ∙ f m n function text R cs o e; small = p .small }
 
-      ends-there : w % 256 ≡ 165 → (r : ℕ) → Part halfEnd (placeAt (wordsOf code) j) r → Matches code first v r
+      ends-there : w % 256 ≡ anOtherwise → (r : ℕ) → Part halfEnd (placeAt (wordsOf code) j) r → Matches code first v r
       ends-there k r p =
           found r p (λ m n function text R cs o e. rest-ends m n function text R (wordsOf code) v (matching v cs o) j (l .left m n function text R cs o e) (sym op-is ∙ k))
 
-      module _ (k : w % 256 ≡ 165 → ⊥) (hw : w < 4294967296) where
+      module _ (k : w % 256 ≡ anOtherwise → ⊥) (hw : w < cellValues) where
         same-constant : (b : Bool) → same v (pos (w / 256) -ℤ pos bias) ≡ b → same v (constantAt (wordsOf code) j) ≡ b
         unfolding constantAt
         same-constant b e = ap (λ (y : ℕ). same v (pos (y / 256) -ℤ pos bias)) (sym ew) ∙ e
@@ -420,14 +420,14 @@ module _ (code : List ℕ) (first : ℕ) (v : ℤ) (sv : SFits w64 v) where
         op-in code j (c .whole) (rest-op (c .m) (c .n) (c .function) (c .text) (c .R) (wordsOf code) (read v) (matching (read v) (c .cs) (c .o)) j (l .left (c .m) (c .n) (c .function) (c .text) (c .R) (c .cs) (c .o) (c .is)))
 
     module _ (fv : SFits w32 v) (w : ℕ) (ew : w ≡ headAt (wordsOf code) j) where
-      pub search-ends : w % 256 ≡ 165 → (r : ℕ) → Part halfEnd (placeAt (wordsOf code) j) r → Matches code first v r
+      pub search-ends : w % 256 ≡ anOtherwise → (r : ℕ) → Part halfEnd (placeAt (wordsOf code) j) r → Matches code first v r
       search-ends k r p = ends-there code first v sv fv j unread w ew k r p
 
-      module _ (k : w % 256 ≡ 165 → ⊥) (hw : w < 4294967296) where
-        pub search-finds : w / 256 ≡ ofZ w64 (read v +ℤ pos 8388607) → (r : ℕ) → Part halfEnd (placeAt (wordsOf code) j) r → Matches code first v r
+      module _ (k : w % 256 ≡ anOtherwise → ⊥) (hw : w < cellValues) where
+        pub search-finds : w / 256 ≡ ofZ w64 (read v +ℤ pos bias) → (r : ℕ) → Part halfEnd (placeAt (wordsOf code) j) r → Matches code first v r
         search-finds e r p = finds-there code first v sv fv j unread w ew k hw e r p
 
-        module _ (e : w / 256 ≡ ofZ w64 (read v +ℤ pos 8388607) → ⊥) (b : ℕ) (p : Part halfEnd (linkAt (wordsOf code) j) b) where
+        module _ (e : w / 256 ≡ ofZ w64 (read v +ℤ pos bias) → ⊥) (b : ℕ) (p : Part halfEnd (linkAt (wordsOf code) j) b) where
           pub search-on : Searching code first (read v) b
           search-on = rw (p .same, toZ-ofZ sv) (goes-on code first v sv fv j unread w ew k hw e)
 

@@ -17,14 +17,14 @@ use Rattle.paper.specs.Running.{perform, holds, matching}
 use Rattle.cells.specs.Words.{wordsOf}
 use Rattle.numbers.proofs.Whole.{read}
 use Rattle.code.specs.Spans.{termIn}
-use Rattle.code.specs.Steps.{parts, casesIn}
+use Rattle.code.specs.Steps.{parts, casesIn, aTest}
 use Rattle.code.specs.Closed.{isNamed, Named, caseOf, targetsOf}
 use Rattle.evaluation.specs.Answers.{firstError, Stands, Evaluated}
 use Rattle.machine.specs.Machine.{Here, Comes, effectAt, Performs, Says}
 use Rattle.cases.specs.Cases.{Cases, Matches}
 use Rattle.machine.proofs.Actions.{Selects, reads-test}
 use Rattle.machine.proofs.Current.{codeHere, stepHere, m, n, stateHere, action-here, whole-here, named-targets, effect-here, goes-here, performs}
-use Rattle.choices.proofs.Choosing.{stepsHere, Going, Deciding, decided-stands, decided-fails, decided}
+use Rattle.machine.proofs.Deciding.{stepsHere, Going, Deciding, decided-stands, decided-fails, decided}
 
 -- wherever it goes is a step
 matching-named : (S : List Step) (z : ℤ) (cs : List (List ℤ × ℕ)) (o : ℕ) → Named S (o ∷ map caseOf cs) → isNamed S (matching z cs o) ≡ true
@@ -33,7 +33,7 @@ matching-named S z [] o k = k .0
 matching-named S z (c ∷ cs) o k =
     test (holds z (c .0)) (λ t. rw (t, matching) (k .1 .0)) (λ t. rw (t, matching) (matching-named S z cs o (k .0, k .1 .1)))
 
-module _ (code values : List ℕ) (base i t : ℕ) (q : Says code i 152 t) where
+module _ (code values : List ℕ) (base i t : ℕ) (q : Says code i aTest t) where
   selects : (h : Here code values base i) → Selects (m code values base i h) (n code values base i h) (codeHere code values base i h .function) (h .text) (h .R) (wordsOf code) i
       (stepHere code values base i h .after) (stepHere code values base i h .does)
   selects h = reads-test _ _ _ _ _ _ i _ _ (action-here code values base i h) (q .op-is)

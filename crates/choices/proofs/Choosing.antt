@@ -24,6 +24,8 @@ use Rattle.numbers.proofs.Whole.{read}
 use Rattle.code.specs.Cells.{valueAt, linkAt}
 use Rattle.code.specs.Spans.{termIn}
 use Rattle.code.specs.Closed.{isNamed, Named, targetsOf}
+use Rattle.code.specs.Steps.{aRaiseOf, aCompactIf, aWhile, parts}
+use Rattle.layout.specs.Answers.{answers}
 use Rattle.evaluation.specs.Answers.{firstError, Stands, Evaluated}
 use Rattle.evaluation.proofs.Places.{value-in}
 use Rattle.reading.specs.Reading.{valueEnd, halfEnd, Part}
@@ -31,137 +33,76 @@ use Rattle.machine.specs.Machine.{Here, fails, effectAt, Performs, Says}
 use Rattle.machine.proofs.Actions.{Expression, reads-while, reads-compact-if, reads-raise-of}
 use Rattle.raised.proofs.Raised.{raised-low}
 use Rattle.machine.proofs.Current.{codeHere, stepHere, m, n, callHere, stateHere, action-here, whole-here, stands-here, named-after, named-targets, small-name, step-in, effect-here, value-here, failed-here, goes-here, told-error, told-value, told-zero, told-other, performs}
-
--- ---- values have 32 bits
-pub value-small : (code values : List ℕ) (base from to : ℕ) (r : ℤ) → SFits w64 r → Evaluated code values base from to r → leZ (pos firstError) (read r) ≡ false → SFits w32 (read r)
-value-small code values base from to r s v k = rw (toZ-ofZ s) (v .small (told-value r s k))
+use Rattle.machine.proofs.Deciding.{stepsHere, Going, Deciding, decides, decided-stands, decided-fails, decided, decided-goes, action-named}
 
 module _ (code values : List ℕ) (base i : ℕ) where
-  pub word-in : Here code values base i → i * 8 + 8 ≤ length code
-  word-in h = step-in code values base i h
-
-  abbrev pub stepsHere : Here code values base i → List Step
-  stepsHere h = codeHere code values base i h .steps
-
-  -- ---- a step with one expression, which stands from the next word up to t, and what is done with its value
-  abbrev pub Going : Type 0
-  Going = (h : Here code values base i) (rooms : Rooms) (steps : ℕ) (out : List ℕ) → ℤ → Effect
-
-  pub record Deciding (t : ℕ) (go : Going) (h : Here code values base i) : Type 0 where
-    pub e : Term
-    pub reads : termIn (m code values base i h) (n code values base i h) (wordsOf code) (i + 1) t ≡ some e
-    pub effect : (rooms : Rooms) (steps : ℕ) (out : List ℕ) → effectAt (h .P) (h .R) rooms (wordsOf values) (h .d) i steps out
-        ≡ withValue (worth (memoryOf (stateHere code values base i h rooms steps out) (callHere code values base i h rooms steps out)) e) (stateHere code values base i h rooms steps out) (go h rooms steps out)
-
-  -- such a step, as its word is read
-  decides : (t op : ℕ) (q : Says code i op t) (f : Term → Action) (go : Going) (h : Here code values base i)
-      → (x : Expression (m code values base i h) (n code values base i h) (codeHere code values base i h .function) (h .text) (h .R) (wordsOf code) i
-      (stepHere code values base i h .after) (stepHere code values base i h .does) f)
-      → ((rooms : Rooms) (steps : ℕ) (out : List ℕ) (c : Call) (rest : List Call) (place : ℕ) → perform (h .P) rooms c rest place (linkAt (wordsOf code) i) (f (x .e)) (stateHere code values base i h rooms steps out)
-      ≡ withValue (worth (memoryOf (stateHere code values base i h rooms steps out) c) (x .e)) (stateHere code values base i h rooms steps out) (go h rooms steps out))
-      → Deciding t go h
-  decides t op q f go h x p = record {
-    e = x .e;
-    reads = ap (termIn (m code values base i h) (n code values base i h) (wordsOf code) (i + 1)) (q .value-is) ∙ x .reads;
-    effect = λ rooms steps out. effect-here code values base i h rooms steps out (linkAt (wordsOf code) i) (f (x .e)) (x .after-is) (x .does-is) ∙ p rooms steps out _ _ _;
-  }
-
-  module _ (t : ℕ) (go : Going) (d : (h : Here code values base i) → Deciding t go h) where
-    pub decided-stands : Here code values base i → Stands code (i + 1) t
-    decided-stands h = stands-here code values base i h (i + 1) t (d h .e) (d h .reads)
-
-    module _ (r : ℤ) (s : SFits w64 r) (v : Evaluated code values base (i + 1) t r) where
-      pub decided-fails : leZ (pos firstError) (read r) ≡ true → Performs code values values base i (read r)
-      decided-fails k =
-          rw (toZ-ofZ s) (performs code values base i r (λ h rooms steps out.
-          failed-here code values base i h rooms steps out (i + 1) t (d h .e) (d h .reads) r v (told-error r s k) (go h rooms steps out) _ (d h .effect rooms steps out)))
-
-      pub decided : leZ (pos firstError) (read r) ≡ false → (h : Here code values base i) (rooms : Rooms) (steps : ℕ) (out : List ℕ)
-          → effectAt (h .P) (h .R) rooms (wordsOf values) (h .d) i steps out ≡ go h rooms steps out r
-      unfolding withValue
-      decided k h rooms steps out =
-          d h .effect rooms steps out ∙ ap (λ (y : Value). withValue y (stateHere code values base i h rooms steps out) (go h rooms steps out))
-          (value-here code values base i h rooms steps out (i + 1) t (d h .e) (d h .reads) r v (told-value r s k))
-
-      -- it goes on with b
-      decided-goes : (k : leZ (pos firstError) (read r) ≡ false) (b c : ℕ) → b ≡ c → ((h : Here code values base i) → isNamed (stepsHere h) c ≡ true)
-          → ((h : Here code values base i) (rooms : Rooms) (steps : ℕ) (out : List ℕ) → go h rooms steps out r ≡ made (onTop (goTo c) (stateHere code values base i h rooms steps out)))
-          → Performs code values values base i (toZ w64 b)
-      decided-goes k b c e a g =
-          rw e (performs code values base i (toZ w64 c) (λ h rooms steps out.
-          goes-here code values base i h rooms steps out c _ (a h) (decided k h rooms steps out ∙ g h rooms steps out)))
-
-  -- where an action can go on
-  action-named : (h : Here code values base i) (a : Action) → stepHere code values base i h .does ≡ a → Named (stepsHere h) (targetsOf a)
-  action-named h a e = subst (λ (x : Action). Named (stepsHere h) (targetsOf x)) e (named-targets code values base i h)
-
   -- ---- a compact IF
-  module _ (t : ℕ) (q : Says code i 147 t) where
+  module _ (t : ℕ) (q : Says code i aCompactIf t) where
     if-here : (h : Here code values base i) → Expression (m code values base i h) (n code values base i h) (codeHere code values base i h .function) (h .text) (h .R) (wordsOf code) i
         (stepHere code values base i h .after) (stepHere code values base i h .does) (λ e. choose ((e, valueAt (wordsOf code) i) ∷ []) (linkAt (wordsOf code) i))
     if-here h = reads-compact-if _ _ _ _ _ _ i _ _ (action-here code values base i h) (q .op-is)
 
-    if-goes : Going
+    if-goes : Going code values base i
     if-goes h rooms steps out z =
         elim (isZero z) [
           | true ↦ made (onTop (goTo (linkAt (wordsOf code) i)) (stateHere code values base i h rooms steps out))
           | false ↦ made (onTop (goTo (valueAt (wordsOf code) i)) (stateHere code values base i h rooms steps out))
         ]
 
-    if-decides : (h : Here code values base i) → Deciding t if-goes h
+    if-decides : (h : Here code values base i) → Deciding code values base i t if-goes h
     unfolding if-goes perform choosing
-    if-decides h = decides t 147 q (λ e. choose ((e, valueAt (wordsOf code) i) ∷ []) (linkAt (wordsOf code) i)) if-goes h (if-here h) (λ rooms steps out c rest place. refl)
+    if-decides h = decides code values base i t aCompactIf q (λ e. choose ((e, valueAt (wordsOf code) i) ∷ []) (linkAt (wordsOf code) i)) if-goes h (if-here h) (λ rooms steps out c rest place. refl)
 
-    if-named : (h : Here code values base i) → (isNamed (stepsHere h) (linkAt (wordsOf code) i) ≡ true) × (isNamed (stepsHere h) (valueAt (wordsOf code) i) ≡ true)
+    if-named : (h : Here code values base i) → (isNamed (stepsHere code values base i h) (linkAt (wordsOf code) i) ≡ true) × (isNamed (stepsHere code values base i h) (valueAt (wordsOf code) i) ≡ true)
     unfolding Named targetsOf
     if-named h =
-        let g = action-named h (choose ((if-here h .e, valueAt (wordsOf code) i) ∷ []) (linkAt (wordsOf code) i)) (if-here h .does-is) in
+        let g = action-named code values base i h (choose ((if-here h .e, valueAt (wordsOf code) i) ∷ []) (linkAt (wordsOf code) i)) (if-here h .does-is) in
         (g .0, g .1 .0)
 
     pub if-stands : Here code values base i → Stands code (i + 1) t
-    if-stands h = decided-stands t if-goes if-decides h
+    if-stands h = decided-stands code values base i t if-goes if-decides h
 
-    pub if-small : Here code values base i → t < 8192
+    pub if-small : Here code values base i → t < parts
     if-small h = omega (arith, q .value-is, small-name code values base i h (valueAt (wordsOf code) i) (if-named h .1) .1)
 
     module _ (r : ℤ) (s : SFits w64 r) (v : Evaluated code values base (i + 1) t r) where
       pub if-fails : leZ (pos firstError) (read r) ≡ true → Performs code values values base i (read r)
-      if-fails k = decided-fails t if-goes if-decides r s v k
+      if-fails k = decided-fails code values base i t if-goes if-decides r s v k
 
       module _ (k : leZ (pos firstError) (read r) ≡ false) where
         pub if-then : (ofZ w64 r ≡ 0 → ⊥) → Performs code values values base i (toZ w64 t)
         unfolding if-goes
         if-then z =
-            decided-goes t if-goes if-decides r s v k t (valueAt (wordsOf code) i) (q .value-is) (λ h. if-named h .1) (λ h rooms steps out. rw (told-other r s z, if-goes))
+            decided-goes code values base i t if-goes if-decides r s v k t (valueAt (wordsOf code) i) (q .value-is) (λ h. if-named h .1) (λ h rooms steps out. rw (told-other r s z, if-goes))
 
         pub if-else : ofZ w64 r ≡ 0 → (b : ℕ) → Part halfEnd (linkAt (wordsOf code) i) b → Performs code values values base i (toZ w64 b)
         unfolding if-goes
         if-else z b p =
-            decided-goes t if-goes if-decides r s v k b (linkAt (wordsOf code) i) (p .same) (λ h. if-named h .0) (λ h rooms steps out. rw (told-zero r s z, if-goes))
+            decided-goes code values base i t if-goes if-decides r s v k b (linkAt (wordsOf code) i) (p .same) (λ h. if-named h .0) (λ h rooms steps out. rw (told-zero r s z, if-goes))
 
   -- ---- WHILE
-  module _ (t : ℕ) (q : Says code i 149 t) where
+  module _ (t : ℕ) (q : Says code i aWhile t) where
     while-here : (h : Here code values base i) → Expression (m code values base i h) (n code values base i h) (codeHere code values base i h .function) (h .text) (h .R) (wordsOf code) i
         (stepHere code values base i h .after) (stepHere code values base i h .does) (λ e. testWhile e (valueAt (wordsOf code) (valueAt (wordsOf code) i)))
     while-here h = reads-while _ _ _ _ _ _ i _ _ (action-here code values base i h) (q .op-is)
 
-    while-goes : Going
+    while-goes : Going code values base i
     while-goes h rooms steps out z =
         made (onTop (goTo (if isZero z then linkAt (wordsOf code) i else valueAt (wordsOf code) (valueAt (wordsOf code) i))) (stateHere code values base i h rooms steps out))
 
-    while-decides : (h : Here code values base i) → Deciding t while-goes h
+    while-decides : (h : Here code values base i) → Deciding code values base i t while-goes h
     unfolding while-goes perform
-    while-decides h = decides t 149 q (λ e. testWhile e (valueAt (wordsOf code) (valueAt (wordsOf code) i))) while-goes h (while-here h) (λ rooms steps out c rest place. refl)
+    while-decides h = decides code values base i t aWhile q (λ e. testWhile e (valueAt (wordsOf code) (valueAt (wordsOf code) i))) while-goes h (while-here h) (λ rooms steps out c rest place. refl)
 
     body-is : valueAt (wordsOf code) t ≡ valueAt (wordsOf code) (valueAt (wordsOf code) i)
     body-is = ap (valueAt (wordsOf code)) (q .value-is)
 
-    body-named : (h : Here code values base i) → isNamed (stepsHere h) (valueAt (wordsOf code) (valueAt (wordsOf code) i)) ≡ true
+    body-named : (h : Here code values base i) → isNamed (stepsHere code values base i h) (valueAt (wordsOf code) (valueAt (wordsOf code) i)) ≡ true
     unfolding Named targetsOf
-    body-named h = action-named h (testWhile (while-here h .e) (valueAt (wordsOf code) (valueAt (wordsOf code) i))) (while-here h .does-is) .0
+    body-named h = action-named code values base i h (testWhile (while-here h .e) (valueAt (wordsOf code) (valueAt (wordsOf code) i))) (while-here h .does-is) .0
 
     pub while-stands : Here code values base i → Stands code (i + 1) t
-    while-stands h = decided-stands t while-goes while-decides h
+    while-stands h = decided-stands code values base i t while-goes while-decides h
 
     pub while-body-in : Here code values base i → t * 8 + 8 ≤ length code
     while-body-in h =
@@ -170,48 +111,48 @@ module _ (code values : List ℕ) (base i : ℕ) where
 
     module _ (r : ℤ) (s : SFits w64 r) (v : Evaluated code values base (i + 1) t r) where
       pub while-fails : leZ (pos firstError) (read r) ≡ true → Performs code values values base i (read r)
-      while-fails k = decided-fails t while-goes while-decides r s v k
+      while-fails k = decided-fails code values base i t while-goes while-decides r s v k
 
       module _ (k : leZ (pos firstError) (read r) ≡ false) where
         pub while-body : (ofZ w64 r ≡ 0 → ⊥) → (b : ℕ) → Part valueEnd (valueAt (wordsOf code) t) b → Performs code values values base i (toZ w64 b)
         unfolding while-goes
         while-body z b p =
-            decided-goes t while-goes while-decides r s v k b (valueAt (wordsOf code) (valueAt (wordsOf code) i)) (p .same ∙ body-is) body-named
+            decided-goes code values base i t while-goes while-decides r s v k b (valueAt (wordsOf code) (valueAt (wordsOf code) i)) (p .same ∙ body-is) body-named
             (λ h rooms steps out. rw (told-other r s z, while-goes))
 
         pub while-after : ofZ w64 r ≡ 0 → (b : ℕ) → Part halfEnd (linkAt (wordsOf code) i) b → Performs code values values base i (toZ w64 b)
         unfolding while-goes
         while-after z b p =
-            decided-goes t while-goes while-decides r s v k b (linkAt (wordsOf code) i) (p .same)
-            (λ h. subst (λ (j : ℕ). isNamed (stepsHere h) j ≡ true) (while-here h .after-is) (named-after code values base i h))
+            decided-goes code values base i t while-goes while-decides r s v k b (linkAt (wordsOf code) i) (p .same)
+            (λ h. subst (λ (j : ℕ). isNamed (stepsHere code values base i h) j ≡ true) (while-here h .after-is) (named-after code values base i h))
             (λ h rooms steps out. rw (told-zero r s z, while-goes))
 
   -- ---- RAISE
-  module _ (t : ℕ) (q : Says code i 139 t) where
-    raise-goes : Going
+  module _ (t : ℕ) (q : Says code i aRaiseOf t) where
+    raise-goes : Going code values base i
     raise-goes h rooms steps out z = failing (raised z) (stateHere code values base i h rooms steps out)
 
-    raise-decides : (h : Here code values base i) → Deciding t raise-goes h
+    raise-decides : (h : Here code values base i) → Deciding code values base i t raise-goes h
     unfolding raise-goes perform
     raise-decides h =
-        decides t 139 q raise raise-goes h (reads-raise-of _ _ _ _ _ _ i _ _ (action-here code values base i h) (q .op-is)) (λ rooms steps out c rest place. refl)
+        decides code values base i t aRaiseOf q raise raise-goes h (reads-raise-of _ _ _ _ _ _ i _ _ (action-here code values base i h) (q .op-is)) (λ rooms steps out c rest place. refl)
 
     pub raise-stands : Here code values base i → Stands code (i + 1) t
-    raise-stands h = decided-stands t raise-goes raise-decides h
+    raise-stands h = decided-stands code values base i t raise-goes raise-decides h
 
     module _ (r : ℤ) (s : SFits w64 r) (v : Evaluated code values base (i + 1) t r) where
       pub raise-fails : leZ (pos firstError) (read r) ≡ true → Performs code values values base i (read r)
-      raise-fails k = decided-fails t raise-goes raise-decides r s v k
+      raise-fails k = decided-fails code values base i t raise-goes raise-decides r s v k
 
       module _ (k : leZ (pos firstError) (read r) ≡ false) where
         raises : (e : ℕ) → raised r ≡ e → Performs code values values base i (pos (firstError + e))
         unfolding raise-goes
         raises e w =
             performs code values base i (pos (firstError + e)) (λ h rooms steps out.
-            fails e refl (subst (λ (j : ℕ). j < 65536) w (raised-low r)) (h .live)
-            (decided t raise-goes raise-decides r s v k h rooms steps out ∙ ap (λ (j : ℕ). failing j (stateHere code values base i h rooms steps out)) w))
+            fails e refl (subst (λ (j : ℕ). j < answers) w (raised-low r)) (h .live)
+            (decided code values base i t raise-goes raise-decides r s v k h rooms steps out ∙ ap (λ (j : ℕ). failing j (stateHere code values base i h rooms steps out)) w))
 
-        pub raise-low : ltZ (read r) (pos 1) ≡ true → Performs code values values base i (pos 4294968300)
+        pub raise-low : ltZ (read r) (pos 1) ≡ true → Performs code values values base i (pos (firstError + illRaise))
         unfolding raised
         raise-low l = let g : ltZ r (pos 1) ≡ true = rw (toZ-ofZ s) at l in raises illRaise (rw (g, raised))
 
@@ -219,7 +160,7 @@ module _ (code values : List ℕ) (base i : ℕ) where
           low-is : ltZ r (pos 1) ≡ false
           low-is = rw (toZ-ofZ s) at l
 
-          pub raise-high : ltZ (pos 90) (read r) ≡ true → Performs code values values base i (pos 4294968300)
+          pub raise-high : ltZ (pos 90) (read r) ≡ true → Performs code values values base i (pos (firstError + illRaise))
           unfolding raised
           raise-high u = let g : ltZ (pos 90) r ≡ true = rw (toZ-ofZ s) at u in raises illRaise (rw (low-is, raised) (rw g))
 
@@ -240,12 +181,12 @@ module _ (code values : List ℕ) (base i : ℕ) where
             within : Within
             within = within-of r refl low-is high-is
 
-            sum-is : pos 4294967296 +ℤ read r ≡ pos (4294967296 + within .j)
-            sum-is = ap (λ (z : ℤ). pos 4294967296 +ℤ z) (toZ-ofZ s ∙ within .is)
+            sum-is : pos firstError +ℤ read r ≡ pos (firstError + within .j)
+            sum-is = ap (λ (z : ℤ). pos firstError +ℤ z) (toZ-ofZ s ∙ within .is)
 
-            pub raise-fits : SFits w64 (pos 4294967296 +ℤ read r)
+            pub raise-fits : SFits w64 (pos firstError +ℤ read r)
             raise-fits = rw sum-is (record { sfits = omega (arith, within .high) })
 
-            pub raise-given : Performs code values values base i (read (pos 4294967296 +ℤ read r))
+            pub raise-given : Performs code values values base i (read (pos firstError +ℤ read r))
             unfolding raised
             raise-given = rw (toZ-ofZ raise-fits) (rw sum-is (raises (within .j) (rw (low-is, raised) (rw high-is (ap natAbs (within .is))))))

@@ -23,7 +23,7 @@ use Rattle.cells.specs.Words.{wordsOf}
 use Rattle.numbers.proofs.Whole.{read}
 use Rattle.code.specs.Cells.{headAt, opAt, valueAt, linkAt}
 use Rattle.code.specs.Spans.{termIn}
-use Rattle.code.specs.Steps.{anElseIf, parts, conditionsIn}
+use Rattle.code.specs.Steps.{anElseIf, parts, conditionsIn, anIf}
 use Rattle.code.specs.Closed.{isNamed, Named, whereOf, targetsOf}
 use Rattle.evaluation.specs.Answers.{firstError, Stores, Stands, Evaluated}
 use Rattle.evaluation.proofs.Places.{op-in, value-in}
@@ -32,7 +32,7 @@ use Rattle.reading.specs.Reading.{valueEnd, halfEnd, Part}
 use Rattle.machine.specs.Machine.{Here, effectAt, Performs, Says}
 use Rattle.machine.proofs.Actions.{reads-if, conditions-some, condition-more, condition-last}
 use Rattle.machine.proofs.Current.{codeHere, stepHere, m, n, callHere, stateHere, action-here, whole-here, stores-here, stands-here, named-targets, small-name, effect-here, value-here, failed-here, goes-here, told-error, told-value, told-zero, told-other, performs}
-use Rattle.choices.proofs.Choosing.{stepsHere}
+use Rattle.machine.proofs.Deciding.{stepsHere}
 use Rattle.machine.proofs.Hops.{hops, hops-on, hops-end, hops-less}
 
 -- ---- the measure: behind a THEN there is another condition, or there is none
@@ -155,14 +155,14 @@ module _ (code values : List ℕ) (base i : ℕ) where
     pub here : Here code values base i
     pub left : (h : Here code values base i) → Left h j t
 
-  pub starts : (w : ℕ) → Says code i 148 w → Here code values base i → Trying i w
+  pub starts : (w : ℕ) → Says code i anIf w → Here code values base i → Trying i w
   unfolding perform targetsOf
   starts w q here = record {
     here = here;
     left = λ h.
         let g = reads-if _ _ _ _ _ _ i _ _ (action-here code values base i h) (q .op-is) in
         record {
-          f = 8191;
+          f = parts - 1;
           within = omega arith;
           cs = g .cs;
           o = g .o;
@@ -213,7 +213,7 @@ module _ (code values : List ℕ) (base i : ℕ) where
           op-is = ap (λ (y : ℕ). y % 256) head-is
 
           -- no other follows
-          pub none-holds : (w % 256 ≡ 155 → ⊥) → Performs code values values base i (toZ w64 b)
+          pub none-holds : (w % 256 ≡ anElseIf → ⊥) → Performs code values values base i (toZ w64 b)
           unfolding going choosing last
           none-holds x =
               let o : opAt (wordsOf code) (linkAt (wordsOf code) t) ≡ anElseIf → ⊥ = λ y. x (op-is ∙ y) in
@@ -222,7 +222,7 @@ module _ (code values : List ℕ) (base i : ℕ) where
               (goes j t (λ h. last h j t o (l .left h)) r s v k true (told-zero r s z) h rooms steps out
               ∙ ap (λ (y : ℕ). made (onTop (goTo y) (stateHere code values base i h rooms steps out))) (condition-last _ _ _ _ _ _ j t (l .left h .cs) (l .left h .o) (l .left h .f) (l .left h .reads) o .o-is))))
 
-          module _ (x : w % 256 ≡ 155) where
+          module _ (x : w % 256 ≡ anElseIf) where
             other : opAt (wordsOf code) (linkAt (wordsOf code) t) ≡ anElseIf
             other = sym op-is ∙ x
 

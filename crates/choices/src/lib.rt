@@ -1,24 +1,19 @@
 // IF, WHILE and RAISE: what decides where a run goes on.
 use evaluation::worth;
+use layout::answers::FIRST_ERROR;
+use layout::ops;
+use layout::parts;
 use reading::head;
 use reading::link;
 use reading::value;
+ghost use Rattle.code.specs.Steps.{aRaiseOf, aCompactIf, anIf, aWhile};
 ghost use Rattle.machine.specs.Machine.{Here, Performs, Says};
-
-// ---- ops, as the specs of code have them
-
-const OPS: u32 = 256;
-
-const ELSE_IF: u32 = 155;
-
-// an answer from here on is an error's
-const FIRST_ERROR: i64 = 4294967296;
 
 // ---- IF
 
 // A compact IF whose statement is at t.
 pub fn test_if<'a>(code: &'a [u8], values: &'a [u8], base: usize, i: usize, t: usize) -> i64
-    requires { ⌜ Here (now code) (now values) base i × Says (now code) i 147 t ⌝ }
+    requires { ⌜ Here (now code) (now values) base i × Says (now code) i aCompactIf t ⌝ }
     ensures { λ r. ⌜ Performs (now (code .entry)) (now (values .entry)) (now (values .entry)) base i r ⌝ }
 {
     let v = worth(&*code, &*values, base, i + 1, t);
@@ -33,7 +28,7 @@ pub fn test_if<'a>(code: &'a [u8], values: &'a [u8], base: usize, i: usize, t: u
 
 // An IF whose first THEN is at w: the first condition that holds says where to go on, or what follows the last.
 pub fn choose<'a>(code: &'a [u8], values: &'a [u8], base: usize, i: usize, w: usize) -> i64
-    requires { ⌜ Here (now code) (now values) base i × Says (now code) i 148 w ⌝ }
+    requires { ⌜ Here (now code) (now values) base i × Says (now code) i anIf w ⌝ }
     ensures { λ r. ⌜ Performs (now (code .entry)) (now (values .entry)) (now (values .entry)) base i r ⌝ }
 {
     let mut j = i;
@@ -48,10 +43,10 @@ pub fn choose<'a>(code: &'a [u8], values: &'a [u8], base: usize, i: usize, w: us
         }
         j = link(code, t);
         let h = head(code, j);
-        if h % OPS != ELSE_IF {
+        if h % parts::VALUE != ops::ELSE_IF {
             return j as i64;
         }
-        t = (h / OPS) as usize;
+        t = (h / parts::VALUE) as usize;
     }
 }
 
@@ -59,7 +54,7 @@ pub fn choose<'a>(code: &'a [u8], values: &'a [u8], base: usize, i: usize, w: us
 
 // A WHILE whose DO is at t.
 pub fn test_while<'a>(code: &'a [u8], values: &'a [u8], base: usize, i: usize, t: usize) -> i64
-    requires { ⌜ Here (now code) (now values) base i × Says (now code) i 149 t ⌝ }
+    requires { ⌜ Here (now code) (now values) base i × Says (now code) i aWhile t ⌝ }
     ensures { λ r. ⌜ Performs (now (code .entry)) (now (values .entry)) (now (values .entry)) base i r ⌝ }
 {
     let v = worth(&*code, &*values, base, i + 1, t);
@@ -74,20 +69,27 @@ pub fn test_while<'a>(code: &'a [u8], values: &'a [u8], base: usize, i: usize, t
 
 // ---- RAISE
 
+// what can be raised: "1..90"
+const LOWEST_RAISED: i64 = 1;
+
+const HIGHEST_RAISED: i64 = 90;
+
+const ILL_RAISE: i64 = FIRST_ERROR + numbers::ERR_ILLRAISE as i64;
+
 // RAISE of an expression that ends at t.
 pub fn raise<'a>(code: &'a [u8], values: &'a [u8], base: usize, i: usize, t: usize) -> i64
-    requires { ⌜ Here (now code) (now values) base i × Says (now code) i 139 t ⌝ }
+    requires { ⌜ Here (now code) (now values) base i × Says (now code) i aRaiseOf t ⌝ }
     ensures { λ r. ⌜ Performs (now (code .entry)) (now (values .entry)) (now (values .entry)) base i r ⌝ }
 {
     let v = worth(&*code, &*values, base, i + 1, t);
     if FIRST_ERROR <= v {
         return v;
     }
-    if v < 1 {
-        return FIRST_ERROR + 1004;
+    if v < LOWEST_RAISED {
+        return ILL_RAISE;
     }
-    if 90 < v {
-        return FIRST_ERROR + 1004;
+    if HIGHEST_RAISED < v {
+        return ILL_RAISE;
     }
     FIRST_ERROR + v
 }

@@ -207,23 +207,28 @@ module _ (a b : ℤ) (sa : SFits w64 a) (sb : SFits w64 b) (fa : SFits w32 a) (f
     pub divisor-ok : (0 < ofZ w32 (read b)) × SFits w32 (quotZ (toZ w32 (ofZ w32 (read a))) (toZ w32 (ofZ w32 (read b))))
     divisor-ok = (rw (toZ-ofZ sb) (bits-not b fb (λ q. absurd (subst T (sym q ∙ not-zero) tt))), rw (back-a, back-b) quot-ok)
 
+    -- either operation, worked out with 32 bits
+    module _ (op : ℤ → ℤ → ℤ) (ok : SFits w32 (op a b)) where
+      abbrev narrow : ℤ
+      narrow = toZ w32 (ofZ w32 (op (toZ w32 (ofZ w32 (read a))) (toZ w32 (ofZ w32 (read b)))))
+
+      wide : SFits w64 narrow
+      wide = rw (back-a, back-b, toZ-ofZ ok) (widened (op a b) ok)
+
+      done : Divided b (op a b) (read narrow)
+      done = divided (op a b) (read narrow) (toZ-ofZ wide ∙ rw (back-a, back-b) (toZ-ofZ ok))
+
     pub quot-wide : SFits w64 (toZ w32 (ofZ w32 (quotZ (toZ w32 (ofZ w32 (read a))) (toZ w32 (ofZ w32 (read b))))))
-    quot-wide = rw (back-a, back-b, toZ-ofZ quot-ok) (widened (quotZ a b) quot-ok)
+    quot-wide = wide quotZ quot-ok
 
     pub rem-wide : SFits w64 (toZ w32 (ofZ w32 (remZ (toZ w32 (ofZ w32 (read a))) (toZ w32 (ofZ w32 (read b))))))
-    rem-wide = rw (back-a, back-b, toZ-ofZ (rem-small a b fa)) (widened (remZ a b) (rem-small a b fa))
+    rem-wide = wide remZ (rem-small a b fa)
 
     pub quot-done : Divided b (quotZ a b) (read (toZ w32 (ofZ w32 (quotZ (toZ w32 (ofZ w32 (read a))) (toZ w32 (ofZ w32 (read b)))))))
-    quot-done =
-        divided (quotZ a b) (read (toZ w32 (ofZ w32 (quotZ (toZ w32 (ofZ w32 (read a))) (toZ w32 (ofZ w32 (read b)))))))
-        (toZ-ofZ quot-wide
-        ∙ rw (back-a, back-b) (toZ-ofZ quot-ok))
+    quot-done = done quotZ quot-ok
 
     pub rem-done : Divided b (remZ a b) (read (toZ w32 (ofZ w32 (remZ (toZ w32 (ofZ w32 (read a))) (toZ w32 (ofZ w32 (read b)))))))
-    rem-done =
-        divided (remZ a b) (read (toZ w32 (ofZ w32 (remZ (toZ w32 (ofZ w32 (read a))) (toZ w32 (ofZ w32 (read b)))))))
-        (toZ-ofZ rem-wide
-        ∙ rw (back-a, back-b) (toZ-ofZ (rem-small a b fa)))
+    rem-done = done remZ (rem-small a b fa)
 
 -- a test whether a number is outside
 pub outside-is : (z : ℤ) (t u : Bool) → SFits w64 z → t ≡ outside (read z) → t ≡ u → outside z ≡ u

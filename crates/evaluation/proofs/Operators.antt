@@ -20,7 +20,7 @@ use Rattle.paper.specs.Terms.{truth, applied, known, combined, operated}
 use Rattle.numbers.proofs.Whole.{read, sub-cases, mag-abs, abs-neg, abs-mul, rem-is}
 use Rattle.code.specs.Spans.{operators, operatorOf, prefixIn}
 use Rattle.evaluation.specs.Answers.{firstError, decoded, Small, Gives}
-use Rattle.evaluation.specs.Parts.{outside, joined, failureOf, firstLogic, failing, Worked, Skips, Divided}
+use Rattle.evaluation.specs.Parts.{outside, joined, failureOf, divNumber, andNumber, orNumber, failing, Worked, Skips, Divided}
 use Rattle.evaluation.proofs.Numbers.{not-less, ranged-inside, ranged-outside, truth-inside, truth-small, is-value, is-error, gives-value, gives-error, gives-as, gives-same, told, inside-small, outside-is}
 
 -- ---- operators by their numbers
@@ -54,7 +54,7 @@ past-of k n0 n1 n2 n3 n4 n5 n6 n7 n8 n9 n10 n11 n12 n13 =
 abbrev Plain : ℕ → Type 0
 Plain op = (eqb op AND ≡ false) × (eqb op OR ≡ false)
 
-plain : (k : ℕ) → (k ≡ 12 → ⊥) → (k ≡ 13 → ⊥) → Plain (operatorOf k)
+plain : (k : ℕ) → (k ≡ andNumber → ⊥) → (k ≡ orNumber → ⊥) → Plain (operatorOf k)
 unfolding operatorOf operators
 plain k p q =
     by-less k 14 (λ h.
@@ -78,43 +78,43 @@ module _ (number : ℕ) (a : ℤ) (s : SFits w64 a) (t : Bool) (e : t ≡ isZero
   zero-is : t ≡ isZero a
   zero-is = e ∙ ap isZero (toZ-ofZ s)
 
-  pub known-and : number ≡ 12 → t ≡ known (operatorOf number) (value a)
+  pub known-and : number ≡ andNumber → t ≡ known (operatorOf number) (value a)
   unfolding known operatorOf operators
   known-and k = rw k zero-is
 
-  pub known-or : (number ≡ 12 → ⊥) → number ≡ 13 → not t ≡ known (operatorOf number) (value a)
+  pub known-or : (number ≡ andNumber → ⊥) → number ≡ orNumber → not t ≡ known (operatorOf number) (value a)
   unfolding known operatorOf operators
   known-or j k = rw k (ap not zero-is)
 
-pub known-none : (number : ℕ) (a : ℤ) → (number ≡ 12 → ⊥) → (number ≡ 13 → ⊥) → false ≡ known (operatorOf number) (value a)
+pub known-none : (number : ℕ) (a : ℤ) → (number ≡ andNumber → ⊥) → (number ≡ orNumber → ⊥) → false ≡ known (operatorOf number) (value a)
 unfolding known
 known-none number a p q = let h = plain number p q in rw (h .0, known) (rw (h .1))
 
 -- ---- what fails
 module _ (number : ℕ) (b : ℤ) where
-  pub fails-early : number < 3 → Gives (error (failureOf number b)) (pos (firstError + overflow))
+  pub fails-early : number < divNumber → Gives (error (failureOf number b)) (pos (firstError + overflow))
   unfolding failureOf
-  fails-early h = rw (lt-leb 3 number h, failureOf) (gives-error overflow)
+  fails-early h = rw (lt-leb divNumber number h, failureOf) (gives-error overflow)
 
-  module _ (h : 3 ≤ number) (s : SFits w64 b) (t : Bool) (e : t ≡ isZero (read b)) where
+  module _ (h : divNumber ≤ number) (s : SFits w64 b) (t : Bool) (e : t ≡ isZero (read b)) where
     divisor-is : (u : Bool) → t ≡ u → isZero b ≡ u
     divisor-is u q = rw (toZ-ofZ s) at (sym e ∙ q)
 
     pub fails-zero : t ≡ true → Gives (error (failureOf number b)) (pos (firstError + divZero))
     unfolding failureOf
-    fails-zero q = rw (le-leb 3 number h, failureOf) (rw (divisor-is true q) (gives-error divZero))
+    fails-zero q = rw (le-leb divNumber number h, failureOf) (rw (divisor-is true q) (gives-error divZero))
 
     pub fails-over : t ≡ false → Gives (error (failureOf number b)) (pos (firstError + overflow))
     unfolding failureOf
-    fails-over q = rw (le-leb 3 number h, failureOf) (rw (divisor-is false q) (gives-error overflow))
+    fails-over q = rw (le-leb divNumber number h, failureOf) (rw (divisor-is false q) (gives-error overflow))
 
 -- ---- whether a result fails
 module _ (k : ℕ) (z : ℤ) where
-  pub holds-inside : k < firstLogic → failing k z ≡ false → outside z ≡ false
+  pub holds-inside : k < andNumber → failing k z ≡ false → outside z ≡ false
   unfolding failing
   holds-inside h f =
       test (outside z)
-      (λ t. let q : ltb k firstLogic ≡ false = rw (t, failing) at f in absurd (subst T (sym (lt-ltb k firstLogic h) ∙ q) tt))
+      (λ t. let q : ltb k andNumber ≡ false = rw (t, failing) at f in absurd (subst T (sym (lt-ltb k andNumber h) ∙ q) tt))
       (λ t. t)
 
   pub fails-outside : failing k z ≡ true → outside z ≡ true
@@ -125,12 +125,12 @@ module _ (k : ℕ) (z : ℤ) where
   unfolding failing
   inside-holds t = rw (t, failing)
 
-  pub logic-holds : firstLogic ≤ k → failing k z ≡ false
+  pub logic-holds : andNumber ≤ k → failing k z ≡ false
   unfolding failing
-  logic-holds h = test (outside z) (λ t. rw (t, failing) (le-ltb k firstLogic h)) inside-holds
+  logic-holds h = test (outside z) (λ t. rw (t, failing) (le-ltb k andNumber h)) inside-holds
 
 module _ (k : ℕ) (z : ℤ) (s : SFits w64 z) (t : Bool) (e : t ≡ outside (read z)) where
-  pub failing-outside : t ≡ true → ltb k 12 ≡ failing k z
+  pub failing-outside : t ≡ true → ltb k andNumber ≡ failing k z
   unfolding failing
   failing-outside h = rw (outside-is z t true s e h, failing)
 
@@ -164,7 +164,7 @@ module _ (a b : ℤ) (sa : SFits w64 a) (sb : SFits w64 b) (fa : SFits w32 a) (f
   product-fits = rw (toZ-ofZ sa, toZ-ofZ sb) (wide (a *ℤ b) (let h = mul-le-mul (abs-size a fa) (abs-size b fb) in omega (arith, abs-mul a b)))
 
 -- a number that num holds or not
-held : (k : ℕ) (a b z : ℤ) → k < firstLogic → failureOf k b ≡ overflow → joined (operatorOf k) (value a) (value b) ≡ paper.ranged num z → Worked k a b z
+held : (k : ℕ) (a b z : ℤ) → k < andNumber → failureOf k b ≡ overflow → joined (operatorOf k) (value a) (value b) ≡ paper.ranged num z → Worked k a b z
 held k a b z h f e = record {
   is = λ o. e ∙ ranged-inside z (holds-inside k z h o);
   small = λ o. inside-small z (holds-inside k z h o);
@@ -178,11 +178,11 @@ whole k a b z s f e = record { is = λ o. e; small = λ o. s; fails = λ o. absu
 true-is : (k : ℕ) (a b : ℤ) (t : Bool) → joined (operatorOf k) (value a) (value b) ≡ value (truth t) → Worked k a b (truth t)
 true-is k a b t e = whole k a b (truth t) (truth-small t) (inside-holds k (truth t) (truth-inside t)) e
 
-side : (k : ℕ) (a b z : ℤ) → firstLogic ≤ k → SFits w32 z → joined (operatorOf k) (value a) (value b) ≡ value z → Worked k a b z
+side : (k : ℕ) (a b z : ℤ) → andNumber ≤ k → SFits w32 z → joined (operatorOf k) (value a) (value b) ≡ value z → Worked k a b z
 side k a b z h s e = whole k a b z s (logic-holds k z h) e
 
 -- a quotient or a remainder
-quotients : (k : ℕ) (a b z exact : ℤ) → k < firstLogic → 3 ≤ k → Divided b exact z
+quotients : (k : ℕ) (a b z exact : ℤ) → k < andNumber → divNumber ≤ k → Divided b exact z
     → (isZero b ≡ true → joined (operatorOf k) (value a) (value b) ≡ error divZero)
     → (isZero b ≡ false → joined (operatorOf k) (value a) (value b) ≡ paper.ranged num exact)
     → Worked k a b z
@@ -192,9 +192,9 @@ quotients k a b z exact h j d f g =
     (λ t. record {
       is = λ o. absurd (subst T (sym (d .none t) ∙ holds-inside k z h o) tt);
       small = λ o. absurd (subst T (sym (d .none t) ∙ holds-inside k z h o) tt);
-      fails = λ o. f t ∙ ap error (sym (rw (le-leb 3 k j, failureOf) (rw t)));
+      fails = λ o. f t ∙ ap error (sym (rw (le-leb divNumber k j, failureOf) (rw t)));
     })
-    (λ t. held k a b z h (rw (le-leb 3 k j, failureOf) (rw t)) (g t ∙ ap (paper.ranged num) (sym (d .is t))))
+    (λ t. held k a b z h (rw (le-leb divNumber k j, failureOf) (rw t)) (g t ∙ ap (paper.ranged num) (sym (d .is t))))
 
 -- the result is what the machine reads back
 worked-as : (k j : ℕ) (a b y z : ℤ) → k ≡ j → y ≡ z → Worked j a b z → Worked k a b y
@@ -220,11 +220,11 @@ module _ (number : ℕ) (a b : ℤ) (sa : SFits w64 a) (sb : SFits w64 b) (fa : 
       (held 2 a b (a *ℤ b) (omega arith) refl refl)
 
   module _ (z : ℤ) (s : SFits w64 z) where
-    pub work-divide : number ≡ 3 → Divided (read b) (quotZ (read a) (read b)) z → Worked number a b (read z)
+    pub work-divide : number ≡ divNumber → Divided (read b) (quotZ (read a) (read b)) z → Worked number a b (read z)
     unfolding joined known combined operated divide operatorOf operators
     work-divide k d =
-        worked-as number 3 a b (read z) z k (toZ-ofZ s)
-        (quotients 3 a b z (quotZ a b) (omega arith) (omega arith) (rw (toZ-ofZ sa, toZ-ofZ sb) at d) (λ t. rw (t, divide)) (λ t. rw (t, divide)))
+        worked-as number divNumber a b (read z) z k (toZ-ofZ s)
+        (quotients divNumber a b z (quotZ a b) (omega arith) (omega arith) (rw (toZ-ofZ sa, toZ-ofZ sb) at d) (λ t. rw (t, divide)) (λ t. rw (t, divide)))
 
     pub work-modulo : number ≡ 4 → Divided (read b) (remZ (read a) (read b)) z → Worked number a b (read z)
     unfolding joined known combined operated modulo operatorOf operators
@@ -232,11 +232,11 @@ module _ (number : ℕ) (a b : ℤ) (sa : SFits w64 a) (sb : SFits w64 b) (fa : 
         worked-as number 4 a b (read z) z k (toZ-ofZ s)
         (quotients 4 a b z (remZ a b) (omega arith) (omega arith) (rw (toZ-ofZ sa, toZ-ofZ sb) at d) (λ t. rw (t, modulo)) (λ t. rw (t, modulo) (ap (paper.ranged num) (rem-is a b))))
 
-    pub work-both : number ≡ 12 → Worked 12 (read a) (read b) z → Worked number a b (read z)
-    work-both k w = worked-as number 12 a b (read z) z k (toZ-ofZ s) (rw (toZ-ofZ sa, toZ-ofZ sb) at w)
+    pub work-both : number ≡ andNumber → Worked andNumber (read a) (read b) z → Worked number a b (read z)
+    work-both k w = worked-as number andNumber a b (read z) z k (toZ-ofZ s) (rw (toZ-ofZ sa, toZ-ofZ sb) at w)
 
-    pub work-either : number ≡ 13 → Worked 13 (read a) (read b) z → Worked number a b (read z)
-    work-either k w = worked-as number 13 a b (read z) z k (toZ-ofZ s) (rw (toZ-ofZ sa, toZ-ofZ sb) at w)
+    pub work-either : number ≡ orNumber → Worked orNumber (read a) (read b) z → Worked number a b (read z)
+    work-either k w = worked-as number orNumber a b (read z) z k (toZ-ofZ s) (rw (toZ-ofZ sa, toZ-ofZ sb) at w)
 
     module _ (t : Bool) where
       -- what a comparison's function told, of a and b themselves
@@ -295,7 +295,7 @@ module _ (number : ℕ) (a b : ℤ) (sa : SFits w64 a) (sb : SFits w64 b) (fa : 
       work-15 k e q = work-past (omega arith) e q
 
       pub work-rest : (number ≡ 0 → ⊥) → (number ≡ 1 → ⊥) → (number ≡ 2 → ⊥) → (number ≡ 3 → ⊥) → (number ≡ 4 → ⊥) → (number ≡ 5 → ⊥) → (number ≡ 6 → ⊥) → (number ≡ 7 → ⊥)
-          → (number ≡ 8 → ⊥) → (number ≡ 9 → ⊥) → (number ≡ 10 → ⊥) → (number ≡ 11 → ⊥) → (number ≡ 12 → ⊥) → (number ≡ 13 → ⊥)
+          → (number ≡ 8 → ⊥) → (number ≡ 9 → ⊥) → (number ≡ 10 → ⊥) → (number ≡ 11 → ⊥) → (number ≡ andNumber → ⊥) → (number ≡ orNumber → ⊥)
           → t ≡ same (read a) (read b) → z ≡ truth (not t) → Worked number a b (read z)
       work-rest n0 n1 n2 n3 n4 n5 n6 n7 n8 n9 n10 n11 n12 n13 e q = work-past (past-of number n0 n1 n2 n3 n4 n5 n6 n7 n8 n9 n10 n11 n12 n13) e q
 
@@ -304,29 +304,29 @@ module _ (a b : ℤ) (sa : SFits w64 a) (sb : SFits w64 b) (fa : SFits w32 a) (f
   left-is : (u : Bool) → t ≡ u → isZero a ≡ u
   left-is u h = rw (toZ-ofZ sa) at (sym e ∙ h)
 
-  pub both-left : t ≡ true → Worked 12 a b (read a)
+  pub both-left : t ≡ true → Worked andNumber a b (read a)
   unfolding joined known combined operated operatorOf operators
-  both-left h = rw (toZ-ofZ sa) (side 12 a b a (omega arith) fa (rw (left-is true h, joined)))
+  both-left h = rw (toZ-ofZ sa) (side andNumber a b a (omega arith) fa (rw (left-is true h, joined)))
 
-  pub both-right : t ≡ false → Worked 12 a b (read b)
+  pub both-right : t ≡ false → Worked andNumber a b (read b)
   unfolding joined known combined operated operatorOf operators
-  both-right h = rw (toZ-ofZ sb) (side 12 a b b (omega arith) fb (rw (left-is false h, joined)))
+  both-right h = rw (toZ-ofZ sb) (side andNumber a b b (omega arith) fb (rw (left-is false h, joined)))
 
-  pub either-right : t ≡ true → Worked 13 a b (read b)
+  pub either-right : t ≡ true → Worked orNumber a b (read b)
   unfolding joined known combined operated operatorOf operators
-  either-right h = rw (toZ-ofZ sb) (side 13 a b b (omega arith) fb (rw (left-is true h, joined)))
+  either-right h = rw (toZ-ofZ sb) (side orNumber a b b (omega arith) fb (rw (left-is true h, joined)))
 
-  pub either-left : t ≡ false → Worked 13 a b (read a)
+  pub either-left : t ≡ false → Worked orNumber a b (read a)
   unfolding joined known combined operated operatorOf operators
-  either-left h = rw (toZ-ofZ sa) (side 13 a b a (omega arith) fa (rw (left-is false h, joined)))
+  either-left h = rw (toZ-ofZ sa) (side orNumber a b a (omega arith) fa (rw (left-is false h, joined)))
 
 -- ---- AND and OR, where the left side does not tell the answer
-right-of-and : (a : ℤ) (b : Value) → known (operatorOf 12) (value a) ≡ false → joined (operatorOf 12) (value a) b ≡ b
+right-of-and : (a : ℤ) (b : Value) → known (operatorOf andNumber) (value a) ≡ false → joined (operatorOf andNumber) (value a) b ≡ b
 unfolding joined combined operated operatorOf operators
 right-of-and a (value b) h = rw (h, joined)
 right-of-and a (error e) h = rw (h, joined)
 
-right-of-or : (a : ℤ) (b : Value) → known (operatorOf 13) (value a) ≡ false → joined (operatorOf 13) (value a) b ≡ b
+right-of-or : (a : ℤ) (b : Value) → known (operatorOf orNumber) (value a) ≡ false → joined (operatorOf orNumber) (value a) b ≡ b
 unfolding joined combined operated operatorOf operators
 right-of-or a (value b) h = rw (h, joined)
 right-of-or a (error e) h = rw (h, joined)

@@ -14,12 +14,10 @@ use Rattle.paper.specs.Terms.{Term, Memory, worth}
 use Rattle.cells.specs.Words.{wordsOf}
 use Rattle.code.specs.Cells.{firstWindow, errnoCell}
 use Rattle.code.specs.Spans.{termIn, memoryIn}
+pub use Rattle.layout.specs.Answers.{firstError}
 
 -- ---- answers
 -- An answer is one number of 64 bits: a value, or the number of an error above all values.
-abbrev pub firstError : ℕ
-firstError = 4294967296
-
 unfoldable pub decoded : ℤ → Value
 decoded z = elim (ltZ z (pos firstError)) [ true ↦ value z | false ↦ error (natAbs z - firstError) ]
 

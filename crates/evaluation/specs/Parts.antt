@@ -28,18 +28,25 @@ outside z = if ltZ z (num .low) then true else ltZ (num .high) z
 unfoldable pub joined : (operator : ℕ) → (left right : Value) → Value
 joined op a b = elim (known op a) [ true ↦ a | false ↦ combined op a b ]
 
--- what fails where an operator's result is outside: DIV and MOD, the first that can, by zero
+-- operators by their numbers: DIV is the first that can divide; AND and OR are the last
+abbrev pub divNumber : ℕ
+divNumber = 3
+
+abbrev pub andNumber : ℕ
+andNumber = 12
+
+abbrev pub orNumber : ℕ
+orNumber = 13
+
+-- what fails where an operator's result is outside: DIV and MOD by zero
 unfoldable pub failureOf : (number : ℕ) → ℤ → ℕ
 failureOf k b =
-    if leb 3 k then (if isZero b then divZero else overflow)
+    if leb divNumber k then (if isZero b then divZero else overflow)
     else overflow
 
--- AND and OR, the last, give one of their sides, which need not be in num
-abbrev pub firstLogic : ℕ
-firstLogic = 12
-
+-- AND and OR give one of their sides, which need not be in num
 unfoldable pub failing : (number : ℕ) → ℤ → Bool
-failing k z = if outside z then ltb k firstLogic else false
+failing k z = if outside z then ltb k andNumber else false
 
 -- z, worked out with no regard to num, tells what the operator gives between a and b.
 pub record Worked (number : ℕ) (a b z : ℤ) : Type 0 where

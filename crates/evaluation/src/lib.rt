@@ -10,63 +10,30 @@ ghost use Rattle.paper.specs.Numbers.{value, error, isZero, same};
 ghost use Rattle.paper.specs.Terms.{truth, applied, known};
 ghost use Rattle.code.specs.Spans.{rightIn, prefixIn, operatorOf};
 ghost use Rattle.evaluation.specs.Answers.{firstError, decoded, Small, Gives, Stores, Stands, Evaluated};
-ghost use Rattle.evaluation.specs.Parts.{joined, failureOf, failing, Worked, Divided, addresses, Leaf, Read, cellOf, opensAt, endsAt, Fused, Array, Indexed, Closes, Closed, Shorts, Encloses, Entered, Skips, Follows, Followed};
+ghost use Rattle.evaluation.specs.Parts.{joined, andNumber, orNumber, failureOf, failing, Worked, Divided, addresses, Leaf, Read, cellOf, opensAt, endsAt, Fused, Array, Indexed, Closes, Closed, Shorts, Encloses, Entered, Skips, Follows, Followed};
 ghost use Rattle.evaluation.specs.Parts as parts;
+use layout::answers::FIRST_ERROR;
+use layout::ops;
+use layout::parts;
+use numbers::HIGHEST_NUM;
+use numbers::LOWEST_NUM;
 use reading::head;
 use reading::link;
 use reading::load;
 
-// ---- ops, as the specs of code have them
-
-const SPAN: u32 = 0;
-
-const LITERAL: u32 = 1;
-
-const MODULE_WORD: u32 = 2;
-
-const CALL_WORD: u32 = 3;
-
-const MODULE_ELEMENT: u32 = 4;
-
-const CALL_ELEMENT: u32 = 5;
-
-const PARENTHESIS: u32 = 6;
-
-const NOT: u32 = 7;
-
-const MINUS: u32 = 9;
-
-// the number of XOR; those past the last operator are XOR too
-const XOR: u32 = 11;
-
-// the numbers of the operators that skip
-const AND: u32 = 12;
-
-const OR: u32 = 13;
-
-// the first operator that can divide
-const DIV: u32 = 3;
+mod carried;
 
 // ---- numbers
 
-// how far the numbers that a head holds are from those they stand for
-const BIAS: i64 = 8388607;
+// a number past the ends of num
+const BEYOND: i64 = HIGHEST_NUM + 1;
 
-// the ends of num, and a number past them
-const LOWEST: i64 = -8388607;
-
-const HIGHEST: i64 = 8388608;
-
-const BEYOND: i64 = 8388609;
-
-// an answer from here on is an error's
-const FIRST_ERROR: i64 = 4294967296;
-
+// answers that are errors
 const OVERFLOW: i64 = FIRST_ERROR + numbers::ERR_OVERFLOW as i64;
 
 const DIV_ZERO: i64 = FIRST_ERROR + numbers::ERR_DIVZERO as i64;
 
-const OUT_OF_BOUND: i64 = FIRST_ERROR + 1003;
+const OUT_OF_BOUND: i64 = FIRST_ERROR + numbers::ERR_OUTOFBND as i64;
 
 fn is_zero(a: i64) -> bool
     ensures { λ r. ⌜ r ≡ isZero a ⌝ }
@@ -96,10 +63,10 @@ fn is_value(a: i64) -> bool
 fn outside(z: i64) -> bool
     ensures { λ r. ⌜ r ≡ parts.outside z ⌝ }
 {
-    if z < LOWEST {
+    if z < LOWEST_NUM {
         return true;
     }
-    HIGHEST < z
+    HIGHEST_NUM < z
 }
 
 fn truth_of(b: bool) -> i64
@@ -143,7 +110,7 @@ fn remainder(a: i64, b: i64) -> i64
 // a AND b, a OR b
 fn both(a: i64, b: i64) -> i64
     requires { ⌜ SFits w32 a × SFits w32 b ⌝ }
-    ensures { λ z. ⌜ Worked 12 a b z ⌝ }
+    ensures { λ z. ⌜ Worked andNumber a b z ⌝ }
 {
     if is_zero(a) {
         return a;
@@ -153,7 +120,7 @@ fn both(a: i64, b: i64) -> i64
 
 fn either(a: i64, b: i64) -> i64
     requires { ⌜ SFits w32 a × SFits w32 b ⌝ }
-    ensures { λ z. ⌜ Worked 13 a b z ⌝ }
+    ensures { λ z. ⌜ Worked orNumber a b z ⌝ }
 {
     if is_zero(a) {
         return b;
@@ -167,20 +134,20 @@ fn operate(number: u32, a: i64, b: i64) -> i64
     ensures { λ z. ⌜ Worked number a b z ⌝ }
 {
     match number {
-        0 => a + b,
-        1 => a - b,
-        2 => a * b,
-        3 => quotient(a, b),
-        4 => remainder(a, b),
-        5 => truth_of(is_less(a, b)),
-        6 => truth_of(!is_less(b, a)),
-        7 => truth_of(is_less(b, a)),
-        8 => truth_of(!is_less(a, b)),
-        9 => truth_of(is_same(a, b)),
-        10 => truth_of(!is_same(a, b)),
-        11 => truth_of(!is_same(a, b)),
-        12 => both(a, b),
-        13 => either(a, b),
+        ops::SUM => a + b,
+        ops::DIFFERENCE => a - b,
+        ops::PRODUCT => a * b,
+        ops::DIV => quotient(a, b),
+        ops::MOD => remainder(a, b),
+        ops::LESS => truth_of(is_less(a, b)),
+        ops::LESS_EQUAL => truth_of(!is_less(b, a)),
+        ops::GREATER => truth_of(is_less(b, a)),
+        ops::GREATER_EQUAL => truth_of(!is_less(a, b)),
+        ops::EQUAL => truth_of(is_same(a, b)),
+        ops::UNEQUAL => truth_of(!is_same(a, b)),
+        ops::XOR => truth_of(!is_same(a, b)),
+        ops::AND => both(a, b),
+        ops::OR => either(a, b),
         14 => truth_of(!is_same(a, b)),
         15 => truth_of(!is_same(a, b)),
         _ => truth_of(!is_same(a, b)),
@@ -192,7 +159,7 @@ fn is_failing(number: u32, z: i64) -> bool
     ensures { λ r. ⌜ r ≡ failing number z ⌝ }
 {
     if outside(z) {
-        return number < AND;
+        return number < ops::AND;
     }
     false
 }
@@ -200,7 +167,7 @@ fn is_failing(number: u32, z: i64) -> bool
 fn failure(number: u32, b: i64) -> i64
     ensures { λ r. ⌜ Gives (error (failureOf number b)) r ⌝ }
 {
-    if DIV <= number {
+    if ops::DIV <= number {
         if is_zero(b) {
             return DIV_ZERO;
         }
@@ -225,20 +192,20 @@ fn combine(number: u32, a: i64, b: i64) -> i64
 fn skips(number: u32) -> bool
     ensures { λ r. ⌜ Skips number r ⌝ }
 {
-    if number == AND {
+    if number == ops::AND {
         return true;
     }
-    number == OR
+    number == ops::OR
 }
 
 // The left side tells the answer.
 fn is_known(number: u32, a: i64) -> bool
     ensures { λ r. ⌜ r ≡ known (operatorOf number) (value a) ⌝ }
 {
-    if number == AND {
+    if number == ops::AND {
         return is_zero(a);
     }
-    if number == OR {
+    if number == ops::OR {
         return !is_zero(a);
     }
     false
@@ -250,10 +217,10 @@ fn apply(op: u32, a: i64) -> i64
     ensures { λ r. ⌜ Gives (applied (prefixIn op) (decoded a)) r ⌝ }
 {
     if is_value(a) {
-        if op == NOT {
+        if op == ops::NOT {
             return truth_of(is_zero(a));
         }
-        if op == MINUS {
+        if op == ops::MINUS {
             if outside(0 - a) {
                 return OVERFLOW;
             }
@@ -281,10 +248,10 @@ fn leaf(values: &[u8], base: usize, op: u32, v: u32) -> i64
     requires { ⌜ Stores (now values) base × Leaf op v ⌝ }
     ensures { λ z. ⌜ Read (now (values .entry)) base op v z ⌝ }
 {
-    if op == LITERAL {
-        return v as i64 - BIAS;
+    if op == ops::LITERAL {
+        return v as i64 - parts::SIGNED_BIAS;
     }
-    load(values, cell(base, op, MODULE_WORD, v as usize))
+    load(values, cell(base, op, ops::MODULE_WORD, v as usize))
 }
 
 // What an operator gives that carries its right side: one choice among operators and kinds of right sides, each arm with code of its own.
@@ -293,49 +260,117 @@ fn fused(values: &[u8], base: usize, op: u32, v: u32, a: i64) -> i64
     ensures { λ r. ⌜ Fused (now (values .entry)) base op v a r ⌝ }
 {
     match op {
-        16 => combine(0, a, leaf(values, base, 1, v)),
-        17 => combine(1, a, leaf(values, base, 1, v)),
-        18 => combine(2, a, leaf(values, base, 1, v)),
-        19 => combine(3, a, leaf(values, base, 1, v)),
-        20 => combine(4, a, leaf(values, base, 1, v)),
-        21 => combine(5, a, leaf(values, base, 1, v)),
-        22 => combine(6, a, leaf(values, base, 1, v)),
-        23 => combine(7, a, leaf(values, base, 1, v)),
-        24 => combine(8, a, leaf(values, base, 1, v)),
-        25 => combine(9, a, leaf(values, base, 1, v)),
-        26 => combine(10, a, leaf(values, base, 1, v)),
-        27 => combine(11, a, leaf(values, base, 1, v)),
-        28 => combine(12, a, leaf(values, base, 1, v)),
-        29 => combine(13, a, leaf(values, base, 1, v)),
-        32 => combine(0, a, leaf(values, base, 2, v)),
-        33 => combine(1, a, leaf(values, base, 2, v)),
-        34 => combine(2, a, leaf(values, base, 2, v)),
-        35 => combine(3, a, leaf(values, base, 2, v)),
-        36 => combine(4, a, leaf(values, base, 2, v)),
-        37 => combine(5, a, leaf(values, base, 2, v)),
-        38 => combine(6, a, leaf(values, base, 2, v)),
-        39 => combine(7, a, leaf(values, base, 2, v)),
-        40 => combine(8, a, leaf(values, base, 2, v)),
-        41 => combine(9, a, leaf(values, base, 2, v)),
-        42 => combine(10, a, leaf(values, base, 2, v)),
-        43 => combine(11, a, leaf(values, base, 2, v)),
-        44 => combine(12, a, leaf(values, base, 2, v)),
-        45 => combine(13, a, leaf(values, base, 2, v)),
-        48 => combine(0, a, leaf(values, base, 3, v)),
-        49 => combine(1, a, leaf(values, base, 3, v)),
-        50 => combine(2, a, leaf(values, base, 3, v)),
-        51 => combine(3, a, leaf(values, base, 3, v)),
-        52 => combine(4, a, leaf(values, base, 3, v)),
-        53 => combine(5, a, leaf(values, base, 3, v)),
-        54 => combine(6, a, leaf(values, base, 3, v)),
-        55 => combine(7, a, leaf(values, base, 3, v)),
-        56 => combine(8, a, leaf(values, base, 3, v)),
-        57 => combine(9, a, leaf(values, base, 3, v)),
-        58 => combine(10, a, leaf(values, base, 3, v)),
-        59 => combine(11, a, leaf(values, base, 3, v)),
-        60 => combine(12, a, leaf(values, base, 3, v)),
-        61 => combine(13, a, leaf(values, base, 3, v)),
-        _ => combine(XOR, a, leaf(values, base, op / 16 % 4, v)),
+        carried::SUM_LITERAL => combine(ops::SUM, a, leaf(values, base, ops::LITERAL, v)),
+        carried::DIFFERENCE_LITERAL => combine(
+            ops::DIFFERENCE,
+            a,
+            leaf(values, base, ops::LITERAL, v),
+        ),
+        carried::PRODUCT_LITERAL => combine(ops::PRODUCT, a, leaf(values, base, ops::LITERAL, v)),
+        carried::DIV_LITERAL => combine(ops::DIV, a, leaf(values, base, ops::LITERAL, v)),
+        carried::MOD_LITERAL => combine(ops::MOD, a, leaf(values, base, ops::LITERAL, v)),
+        carried::LESS_LITERAL => combine(ops::LESS, a, leaf(values, base, ops::LITERAL, v)),
+        carried::LESS_EQUAL_LITERAL => combine(
+            ops::LESS_EQUAL,
+            a,
+            leaf(values, base, ops::LITERAL, v),
+        ),
+        carried::GREATER_LITERAL => combine(ops::GREATER, a, leaf(values, base, ops::LITERAL, v)),
+        carried::GREATER_EQUAL_LITERAL => combine(
+            ops::GREATER_EQUAL,
+            a,
+            leaf(values, base, ops::LITERAL, v),
+        ),
+        carried::EQUAL_LITERAL => combine(ops::EQUAL, a, leaf(values, base, ops::LITERAL, v)),
+        carried::UNEQUAL_LITERAL => combine(ops::UNEQUAL, a, leaf(values, base, ops::LITERAL, v)),
+        carried::XOR_LITERAL => combine(ops::XOR, a, leaf(values, base, ops::LITERAL, v)),
+        carried::AND_LITERAL => combine(ops::AND, a, leaf(values, base, ops::LITERAL, v)),
+        carried::OR_LITERAL => combine(ops::OR, a, leaf(values, base, ops::LITERAL, v)),
+        carried::SUM_MODULE_WORD => combine(ops::SUM, a, leaf(values, base, ops::MODULE_WORD, v)),
+        carried::DIFFERENCE_MODULE_WORD => combine(
+            ops::DIFFERENCE,
+            a,
+            leaf(values, base, ops::MODULE_WORD, v),
+        ),
+        carried::PRODUCT_MODULE_WORD => combine(
+            ops::PRODUCT,
+            a,
+            leaf(values, base, ops::MODULE_WORD, v),
+        ),
+        carried::DIV_MODULE_WORD => combine(ops::DIV, a, leaf(values, base, ops::MODULE_WORD, v)),
+        carried::MOD_MODULE_WORD => combine(ops::MOD, a, leaf(values, base, ops::MODULE_WORD, v)),
+        carried::LESS_MODULE_WORD => combine(ops::LESS, a, leaf(values, base, ops::MODULE_WORD, v)),
+        carried::LESS_EQUAL_MODULE_WORD => combine(
+            ops::LESS_EQUAL,
+            a,
+            leaf(values, base, ops::MODULE_WORD, v),
+        ),
+        carried::GREATER_MODULE_WORD => combine(
+            ops::GREATER,
+            a,
+            leaf(values, base, ops::MODULE_WORD, v),
+        ),
+        carried::GREATER_EQUAL_MODULE_WORD => combine(
+            ops::GREATER_EQUAL,
+            a,
+            leaf(values, base, ops::MODULE_WORD, v),
+        ),
+        carried::EQUAL_MODULE_WORD => combine(
+            ops::EQUAL,
+            a,
+            leaf(values, base, ops::MODULE_WORD, v),
+        ),
+        carried::UNEQUAL_MODULE_WORD => combine(
+            ops::UNEQUAL,
+            a,
+            leaf(values, base, ops::MODULE_WORD, v),
+        ),
+        carried::XOR_MODULE_WORD => combine(ops::XOR, a, leaf(values, base, ops::MODULE_WORD, v)),
+        carried::AND_MODULE_WORD => combine(ops::AND, a, leaf(values, base, ops::MODULE_WORD, v)),
+        carried::OR_MODULE_WORD => combine(ops::OR, a, leaf(values, base, ops::MODULE_WORD, v)),
+        carried::SUM_CALL_WORD => combine(ops::SUM, a, leaf(values, base, ops::CALL_WORD, v)),
+        carried::DIFFERENCE_CALL_WORD => combine(
+            ops::DIFFERENCE,
+            a,
+            leaf(values, base, ops::CALL_WORD, v),
+        ),
+        carried::PRODUCT_CALL_WORD => combine(
+            ops::PRODUCT,
+            a,
+            leaf(values, base, ops::CALL_WORD, v),
+        ),
+        carried::DIV_CALL_WORD => combine(ops::DIV, a, leaf(values, base, ops::CALL_WORD, v)),
+        carried::MOD_CALL_WORD => combine(ops::MOD, a, leaf(values, base, ops::CALL_WORD, v)),
+        carried::LESS_CALL_WORD => combine(ops::LESS, a, leaf(values, base, ops::CALL_WORD, v)),
+        carried::LESS_EQUAL_CALL_WORD => combine(
+            ops::LESS_EQUAL,
+            a,
+            leaf(values, base, ops::CALL_WORD, v),
+        ),
+        carried::GREATER_CALL_WORD => combine(
+            ops::GREATER,
+            a,
+            leaf(values, base, ops::CALL_WORD, v),
+        ),
+        carried::GREATER_EQUAL_CALL_WORD => combine(
+            ops::GREATER_EQUAL,
+            a,
+            leaf(values, base, ops::CALL_WORD, v),
+        ),
+        carried::EQUAL_CALL_WORD => combine(ops::EQUAL, a, leaf(values, base, ops::CALL_WORD, v)),
+        carried::UNEQUAL_CALL_WORD => combine(
+            ops::UNEQUAL,
+            a,
+            leaf(values, base, ops::CALL_WORD, v),
+        ),
+        carried::XOR_CALL_WORD => combine(ops::XOR, a, leaf(values, base, ops::CALL_WORD, v)),
+        carried::AND_CALL_WORD => combine(ops::AND, a, leaf(values, base, ops::CALL_WORD, v)),
+        carried::OR_CALL_WORD => combine(ops::OR, a, leaf(values, base, ops::CALL_WORD, v)),
+        _ => combine(
+            ops::XOR,
+            a,
+            leaf(values, base, op / parts::RIGHT % parts::RIGHTS, v),
+        ),
     }
 }
 
@@ -347,13 +382,13 @@ fn element(values: &[u8], base: usize, w: u32, x: i64) -> i64
         if x < 1 {
             return OUT_OF_BOUND;
         }
-        if ((w / 256 / 1024) as i64) < x {
+        if ((w / parts::VALUE / parts::SIZE) as i64) < x {
             return OUT_OF_BOUND;
         }
-        let first = (w / 256 % 1024) as usize;
+        let first = (w / parts::VALUE % parts::SIZE) as usize;
         return load(
             values,
-            cell(base, w % 256, MODULE_ELEMENT, first) + (x as usize - 1),
+            cell(base, w % parts::VALUE, ops::MODULE_ELEMENT, first) + (x as usize - 1),
         );
     }
     x
@@ -364,17 +399,17 @@ fn close(values: &[u8], base: usize, w: u32, x: i64) -> i64
     requires { ⌜ Stores (now values) base × Closes w × Small x ⌝ }
     ensures { λ r. ⌜ Closed (now (values .entry)) base w x r ⌝ }
 {
-    if w % 256 <= CALL_ELEMENT {
+    if w % parts::VALUE <= ops::CALL_ELEMENT {
         return element(values, base, w, x);
     }
-    apply(w % 256, x)
+    apply(w % parts::VALUE, x)
 }
 
 fn opens(op: u32, at: usize) -> usize
     requires { ⌜ at + 2 < addresses ⌝ }
     ensures { λ r. ⌜ r ≡ opensAt op at ⌝ }
 {
-    if op <= CALL_ELEMENT {
+    if op <= ops::CALL_ELEMENT {
         return at + 2;
     }
     at + 1
@@ -384,7 +419,7 @@ fn ends(op: u32, link: usize) -> usize
     requires { ⌜ link + 1 < addresses ⌝ }
     ensures { λ r. ⌜ r ≡ endsAt op link ⌝ }
 {
-    if op <= PARENTHESIS {
+    if op <= ops::PARENTHESIS {
         return link + 1;
     }
     link
@@ -407,10 +442,15 @@ fn enclosed<'a, 'b>(
     requires { ⌜ Stores (now (now values)) base × Encloses (now (now code)) at w l ⌝ }
     ensures { λ r. ⌜ Entered (now (now (code .entry))) (now (now (values .entry))) base at w l r ⌝ }
 {
-    let s = opens(w % 256, at);
+    let s = opens(w % parts::VALUE, at);
     if l == s + 1 {
         let x = head(*code, s);
-        return close(*values, base, w, leaf(*values, base, x % 256, x / 256));
+        return close(
+            *values,
+            base,
+            w,
+            leaf(*values, base, x % parts::VALUE, x / parts::VALUE),
+        );
     }
     close(*values, base, w, whole(code, values, base, s, l))
 }
@@ -422,9 +462,9 @@ fn is_short(code: &[u8], from: usize, to: usize) -> bool
 {
     if to == from + 3 {
         let w = head(&*code, from);
-        if w % 256 <= CALL_WORD {
+        if w % parts::VALUE <= ops::CALL_WORD {
             let x = head(&*code, from + 1);
-            if x / 16 % 4 != SPAN {
+            if x / parts::RIGHT % parts::RIGHTS != ops::SPAN {
                 return true;
             }
         }
@@ -442,9 +482,9 @@ fn short<'a>(code: &'a [u8], values: &'a [u8], base: usize, from: usize, to: usi
     fused(
         &*values,
         base,
-        x % 64,
-        x / 256,
-        leaf(&*values, base, w % 256, w / 256),
+        x % ops::OPERATOR,
+        x / parts::VALUE,
+        leaf(&*values, base, w % parts::VALUE, w / parts::VALUE),
     )
 }
 
@@ -464,14 +504,14 @@ fn rest<'a, 'b>(
     let mut i = start;
     while i < to {
         let w = head(*code, i);
-        let op = w % 256;
+        let op = w % parts::VALUE;
         let mut b = acc;
         let mut r = i + 2;
-        if op / 16 % 4 == SPAN {
+        if op / parts::RIGHT % parts::RIGHTS == ops::SPAN {
             r = link(*code, i);
-            if skips(op % 16) {
+            if skips(op % parts::RIGHT) {
                 // a left side that tells the answer stays; else the right one stands for both, and where it comes last it is the answer
-                if !is_known(op % 16, acc) {
+                if !is_known(op % parts::RIGHT, acc) {
                     if r == to {
                         return whole(code, values, base, i + 1, to);
                     }
@@ -488,11 +528,16 @@ fn rest<'a, 'b>(
                 return b;
             }
         } else {
-            b = leaf(*values, base, op / 16 % 4, w / 256);
+            b = leaf(
+                *values,
+                base,
+                op / parts::RIGHT % parts::RIGHTS,
+                w / parts::VALUE,
+            );
         }
-        let z = operate(op % 16, acc, b);
-        if is_failing(op % 16, z) {
-            return failure(op % 16, b);
+        let z = operate(op % parts::RIGHT, acc, b);
+        if is_failing(op % parts::RIGHT, z) {
+            return failure(op % parts::RIGHT, b);
         }
         acc = z;
         i = r;
@@ -514,15 +559,15 @@ fn whole<'a, 'b>(
     let w = head(*code, from);
     let mut acc = 0;
     let mut i = from + 1;
-    if w % 256 <= CALL_WORD {
-        acc = leaf(*values, base, w % 256, w / 256);
+    if w % parts::VALUE <= ops::CALL_WORD {
+        acc = leaf(*values, base, w % parts::VALUE, w / parts::VALUE);
     } else {
         let l = link(*code, from);
         acc = enclosed(code, values, base, from, w, l);
         if !is_value(acc) {
             return acc;
         }
-        i = ends(w % 256, l);
+        i = ends(w % parts::VALUE, l);
     }
     rest(code, values, base, i, to, acc)
 }
@@ -559,7 +604,7 @@ pub fn worth<'a>(code: &'a [u8], values: &'a [u8], base: usize, from: usize, to:
 {
     if to == from + 1 {
         let w = head(code, from);
-        return leaf(values, base, w % 256, w / 256);
+        return leaf(values, base, w % parts::VALUE, w / parts::VALUE);
     }
     evaluate(&*code, &*values, base, from, to)
 }

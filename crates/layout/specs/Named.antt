@@ -6,7 +6,7 @@ use Rattle.layout.specs.Rules.{smallStore, wrongDepth, longText, badByte
 use Rattle.layout.specs.Answers.{entered, left, ended, lacked, handed, firstError}
 use Rattle.layout.specs.Kinds.{aVariable, anArray, aConstant, aLoop, aRoutine, anErrno, anErrorNumber}
 use Rattle.layout.specs.Types.{noType, numType, boolType}
-use Rattle.layout.specs.Parts.{valuePart, linkPart, sizePart, charactersPart, loopPart, spelledPart}
+use Rattle.layout.specs.Parts.{valuePart, linkPart, sizePart, charactersPart, loopPart, spelledPart, rightPart, rightWays}
 use Rattle.paper.specs.Words.{textLimit, wordLimit, nameLimit, largestNumber, stringLimit}
 use Rattle.paper.specs.Expressions.{nestings, noOperator, products, sums, relations, conjunctions, disjunctions}
 use Rattle.paper.specs.Types.{elementLimit}
@@ -14,12 +14,12 @@ use Rattle.paper.specs.Declarations.{routineLimit, moduleWordLimit, routineWord
 use Rattle.paper.specs.Answer.{depthLimit, storeWords}
 use Rattle.code.specs.Cells.{firstWindow, windowCells, errnoCell}
 use Rattle.code.specs.Windows.{endsCell, stepsCell, routineCell, waitsCell, afterCell, failedCell, resultCell, writtenCell, usedCell}
-use Rattle.code.specs.Spans.{bias, aLiteral, aModuleWord, aCallWord, aModuleElement, aCallElement, aParenthesis, aNot, aPlus, aMinus, anOperator}
+use Rattle.code.specs.Spans.{bias, aLiteral, aModuleWord, aCallWord, aModuleElement, aCallElement, aParenthesis, aNot, aPlus, aMinus, anOperator, aSpan}
 use Rattle.code.specs.Steps.{aTarget, aCallTarget, aProcedureCall, aReturnOf, aReturn, aRaiseOf, aRaise, anExit, aRetry, aTryNext, aWrite, aWriteOf, aRead, aCompactIf, anIf, aWhile, aFor, aForTest, aTest, anEnd, aFunctionEnd, anElseIf, aStep, aCase, aNextValue, aNextArgument, aDatum, theParameters, aThen, aDo, aPass, anOtherwise, aClose}
 
 abbrev pub ops : List ℕ
 ops =
-    aLiteral ∷ aModuleWord ∷ aCallWord ∷ aModuleElement ∷ aCallElement ∷ aParenthesis ∷ aNot ∷ aPlus ∷ aMinus ∷ anOperator ∷ aTarget ∷ aCallTarget ∷ aProcedureCall ∷ aReturnOf ∷ aReturn ∷ aRaiseOf ∷ aRaise ∷ anExit ∷ aRetry ∷ aTryNext ∷ aWrite ∷ aWriteOf ∷ aRead ∷ aCompactIf ∷ anIf ∷ aWhile ∷ aFor ∷ aForTest ∷ aTest ∷ anEnd ∷ aFunctionEnd ∷ anElseIf ∷ aStep ∷ aCase ∷ aNextValue ∷ aNextArgument ∷ aDatum ∷ theParameters ∷ aThen ∷ aDo ∷ aPass ∷ anOtherwise ∷ aClose ∷ []
+    aLiteral ∷ aModuleWord ∷ aCallWord ∷ aModuleElement ∷ aCallElement ∷ aParenthesis ∷ aNot ∷ aPlus ∷ aMinus ∷ anOperator ∷ aTarget ∷ aCallTarget ∷ aProcedureCall ∷ aReturnOf ∷ aReturn ∷ aRaiseOf ∷ aRaise ∷ anExit ∷ aRetry ∷ aTryNext ∷ aWrite ∷ aWriteOf ∷ aRead ∷ aCompactIf ∷ anIf ∷ aWhile ∷ aFor ∷ aForTest ∷ aTest ∷ anEnd ∷ aFunctionEnd ∷ anElseIf ∷ aStep ∷ aCase ∷ aNextValue ∷ aNextArgument ∷ aDatum ∷ theParameters ∷ aThen ∷ aDo ∷ aPass ∷ anOtherwise ∷ aClose ∷ aSpan ∷ []
 
 abbrev pub cells : List ℕ
 cells =
@@ -48,7 +48,7 @@ abbrev pub types : List ℕ
 types = noType ∷ numType ∷ boolType ∷ []
 
 abbrev pub parts : List ℕ
-parts = valuePart ∷ linkPart ∷ sizePart ∷ charactersPart ∷ loopPart ∷ spelledPart ∷ bias ∷ []
+parts = valuePart ∷ linkPart ∷ sizePart ∷ charactersPart ∷ loopPart ∷ spelledPart ∷ rightPart ∷ rightWays ∷ bias ∷ []
 
 abbrev pub limits : List ℕ
 limits = textLimit ∷ wordLimit ∷ routineLimit ∷ moduleWordLimit ∷ routineWordLimit ∷ elementLimit ∷ depthLimit ∷ storeWords ∷ storeBytes ∷ nameLimit ∷ stringLimit ∷ largestNumber ∷ nestings ∷ []

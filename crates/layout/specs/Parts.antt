@@ -24,3 +24,10 @@ loopPart = 256
 -- a name's value: its length above its number
 abbrev pub spelledPart : ℕ
 spelledPart = 8192
+
+-- an operator's op: how its right side is given above its number; so many ways there are
+abbrev pub rightPart : ℕ
+rightPart = 16
+
+abbrev pub rightWays : ℕ
+rightWays = 4

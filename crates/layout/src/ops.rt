@@ -1,5 +1,7 @@
 // Ops: what the low byte of a word's head says once the check has passed it (code/specs/Spans.antt, Steps.antt).
 ghost use mathlib.Core.Path.{_≡_};
+ghost use mathlib.Core.List.{map};
+ghost use Rattle.code.specs.Spans.{operatorOf, operators};
 ghost use Rattle.layout.specs.Named.{ops};
 
 // ---- operands of one word
@@ -100,6 +102,38 @@ pub const OTHERWISE: u32 = 165;
 // the semicolon of a procedure call
 pub const CLOSE: u32 = 166;
 
+// ---- how an operator's right side is given: as a span up to its link; else as an operand of one word, by that one's op
+pub const SPAN: u32 = 0;
+
+// ---- the numbers of the operators, in the order of code/specs/Spans.antt
+pub const SUM: u32 = 0;
+
+pub const DIFFERENCE: u32 = 1;
+
+pub const PRODUCT: u32 = 2;
+
+pub const DIV: u32 = 3;
+
+pub const MOD: u32 = 4;
+
+pub const LESS: u32 = 5;
+
+pub const LESS_EQUAL: u32 = 6;
+
+pub const GREATER: u32 = 7;
+
+pub const GREATER_EQUAL: u32 = 8;
+
+pub const EQUAL: u32 = 9;
+
+pub const UNEQUAL: u32 = 10;
+
+pub const XOR: u32 = 11;
+
+pub const AND: u32 = 12;
+
+pub const OR: u32 = 13;
+
 // the targets one by one, which patterns name
 pub const TARGET_IN_CALL: u32 = TARGET + 1;
 
@@ -114,7 +148,7 @@ pub const CALL_TARGET_ELEMENT: u32 = CALL_TARGET + 2;
 pub const CALL_TARGET_ELEMENT_IN_CALL: u32 = CALL_TARGET + 3;
 
 // All of them, as the specs name them: a wrong one breaks this contract.
-pub fn all() -> [u32; 43]
+pub fn all() -> [u32; 44]
     ensures { λ r. ⌜ r ≡ ops ⌝ }
 {
     [
@@ -161,5 +195,28 @@ pub fn all() -> [u32; 43]
         PASS,
         OTHERWISE,
         CLOSE,
+        SPAN,
+    ]
+}
+
+// The numbers of the operators: each is the place of its operator among the specs' ones.
+pub fn numbers() -> [u32; 14]
+    ensures { λ r. ⌜ map operatorOf r ≡ operators ⌝ }
+{
+    [
+        SUM,
+        DIFFERENCE,
+        PRODUCT,
+        DIV,
+        MOD,
+        LESS,
+        LESS_EQUAL,
+        GREATER,
+        GREATER_EQUAL,
+        EQUAL,
+        UNEQUAL,
+        XOR,
+        AND,
+        OR,
     ]
 }

@@ -20,15 +20,34 @@ pub const LOOP: u32 = 256;
 // a name's value: its length above its number
 pub const SPELLED: u32 = 8192;
 
+// an operator's op: how its right side is given above its number; so many ways there are
+pub const RIGHT: u32 = 16;
+
+pub const RIGHTS: u32 = 4;
+
 // what a number is held above: how far it is from the lowest
 pub const BIAS: u32 = 8388607;
 
 // The same as indices are counted.
 pub const SPELLED_AT: usize = SPELLED as usize;
+// The same as numbers, and as words count.
+pub const SIGNED_BIAS: i64 = BIAS as i64;
+
+pub const LOOPS: usize = LOOP as usize;
 
 // All of them, as the specs name them: a wrong one breaks this contract.
-pub fn all() -> [u32; 7]
+pub fn all() -> [u32; 9]
     ensures { λ r. ⌜ r ≡ parts ⌝ }
 {
-    [VALUE, LINK, SIZE, CHARACTERS, LOOP, SPELLED, BIAS]
+    [
+        VALUE,
+        LINK,
+        SIZE,
+        CHARACTERS,
+        LOOP,
+        SPELLED,
+        RIGHT,
+        RIGHTS,
+        BIAS,
+    ]
 }

@@ -1,13 +1,13 @@
 -- FOR: from, to and step are worked out once, then comes the first test.
 use mathlib.Core.Path.{_≡_, refl, sym, ap, ap₂, subst, _∙_}
-use mathlib.Core.Bool.{Bool, true, false}
+use mathlib.Core.Bool.{Bool, true, false, not}
 use mathlib.Core.List.{List}
 use mathlib.Core.Option.{Option, none, some}
 use Prim.Native.Nat.{ℕ, _+_, _-_, _*_, _<_, _≤_}
 use native.Mathlib.Omega.{arith}
 use lib.ListN.{length, getD, set, length-set}
 use lib.IntN.{ℤ, pos, natAbs}
-use lib.Signed.{leZ}
+use lib.Signed.{ltZ, leZ}
 use mir.Syntax.{w32, w64}
 use mir.Val.{SFits, toZ, ofZ}
 use mir.Facts.{toZ-ofZ}
@@ -23,24 +23,25 @@ use Rattle.cells.specs.Words.{wordsOf}
 use Rattle.numbers.proofs.Whole.{read}
 use Rattle.code.specs.Cells.{opAt, valueAt, linkAt, windowOf}
 use Rattle.code.specs.Spans.{termIn, memoryIn}
-use Rattle.code.specs.Steps.{aStep, forStep}
+use Rattle.code.specs.Steps.{aStep, forStep, aFor}
 use Rattle.code.specs.Closed.{isNamed, Named, targetsOf, LoopFits}
-use Rattle.code.specs.Windows.{routineCell, stateIn}
+use Rattle.code.specs.Windows.{routineCell, stateIn, endsCell, stepsCell, writtenCell, usedCell}
 use Rattle.code.proofs.Spanning.{span-grows}
 use Rattle.evaluation.specs.Answers.{firstError, decoded, Stands, Evaluated}
 use Rattle.evaluation.proofs.Places.{op-in, value-in, link-in}
-use Rattle.evaluation.proofs.Numbers.{is-value, is-error}
+use Rattle.evaluation.proofs.Numbers.{is-value, is-error, not-less}
 use Rattle.reading.specs.Reading.{valueEnd, halfEnd, Part, Stored}
 use Rattle.machine.specs.Live.{wordsOfCall, codeOfCall, Live}
 use Rattle.machine.specs.Machine.{Here, Comes, goesOn, fails, effectAt, Performs, Says}
-use Rattle.loops.specs.Loops.{ForSteps, stepWorth, StepGiven, DoAt}
+use Rattle.loops.specs.Loops.{ForSteps, stepWorth, StepGiven, DoAt, Begins}
 use Rattle.raised.proofs.Raised.{errors, worth-error}
 use Rattle.machine.proofs.Actions.{EntersFor, reads-for, no-step}
 use Rattle.machine.proofs.Agreeing.{Same, set-same}
 use Rattle.machine.proofs.States.{Roomy, roomy, goes-to, call-loop}
 use Rattle.machine.proofs.Living.{routine-code, live-next, live-call}
-use Rattle.machine.proofs.Current.{codeHere, stepHere, m, n, callHere, stateHere, action-here, routine-holds, whole-here, counts-here, stands-here, memory-here, named-after, named-targets, loop-here, small-name, effect-here, value-here, failed-here, error-is, told-error, told-value, performs}
-use Rattle.choices.proofs.Choosing.{stepsHere, value-small}
+use Rattle.machine.proofs.Current.{codeHere, stepHere, m, n, callHere, stateHere, action-here, routine-holds, whole-here, counts-here, stands-here, memory-here}
+use Rattle.machine.proofs.Current.{named-after, named-targets, loop-here, small-name, step-in, effect-here, value-here, failed-here, error-is, told-error, told-value, performs}
+use Rattle.machine.proofs.Deciding.{stepsHere}
 use Rattle.loops.proofs.Looping.{word-goes}
 
 -- ---- the step, given or not
@@ -54,11 +55,7 @@ unfolding stepWorth
 step-error M none e q = apart (cc)
 step-error M (some t) e q = worth-error M t e q
 
--- ---- values have 32 bits
-pub step-small : (code values : List ℕ) (base s : ℕ) (r : ℤ) → SFits w64 r → StepGiven code values base s r → leZ (pos firstError) (read r) ≡ false → SFits w32 (read r)
-step-small code values base s r f v k = rw (toZ-ofZ f) (v .small (told-value r f k))
-
-module _ (code values : List ℕ) (base i t : ℕ) (q : Says code i 150 t) where
+module _ (code values : List ℕ) (base i t : ℕ) (q : Says code i aFor t) where
   module _ (h : Here code values base i) where
     abbrev m-here : ℕ
     m-here = m code values base i h
@@ -116,18 +113,8 @@ module _ (code values : List ℕ) (base i t : ℕ) (q : Says code i 150 t) where
               (λ k. omega (arith, do-at, no-step m-here n-here (codeHere code values base i h .function) (h .text) (h .R) (wordsOf code) s (enter .c) (enter .d) g k .do-is));
         }
 
-    pub for-inside : (base + t + 128) * 4 + 4 ≤ length values
+    for-inside : (base + t + stepsCell) * 4 + 4 ≤ length values
     for-inside = omega (arith, t-fits, routine-holds code values base i h .room, h .base-is, h .deep, h .values-size)
-
-    pub for-end-inside : (base + t + 64) * 4 + 4 ≤ length values
-    for-end-inside = omega (arith, for-inside)
-
-    module _ (v1 : List ℕ) (z1 : ℤ) (d1 : Stored values v1 (base + t + 64) z1) where
-      pub first-inside : (base + t + 128) * 4 + 4 ≤ length v1
-      first-inside = omega (arith, for-inside, d1 .long)
-
-      pub second-inside : (v2 : List ℕ) (z2 : ℤ) → Stored v1 v2 (base + t + 128) z2 → (base + t) * 4 + 4 ≤ length v2
-      second-inside v2 z2 d2 = omega (arith, for-inside, d1 .long, d2 .long)
 
     -- ---- what it does
     module _ (rooms : Rooms) (steps : ℕ) (out : List ℕ) where
@@ -180,7 +167,7 @@ module _ (code values : List ℕ) (base i t : ℕ) (q : Says code i 150 t) where
       for-steps h = steps-at h s s-is
 
       -- the DO
-      pub do-in : Here code values base i → (o : ℕ) → DoAt code s o → o * 8 + 8 ≤ length code
+      do-in : Here code values base i → (o : ℕ) → DoAt code s o → o * 8 + 8 ≤ length code
       do-in h o po =
           let e = po .is (counts-here code values base i h) (codeHere code values base i h .function) (h .text) (h .R) (enter h .c) (enter h .d)
           (ap (forStep (m-here h) (n-here h) (codeHere code values base i h .function) (h .text) (h .R) (wordsOf code)) s-is ∙ enter h .step) in
@@ -232,6 +219,21 @@ module _ (code values : List ℕ) (base i t : ℕ) (q : Says code i 150 t) where
                     (to-given h rooms steps out ∙ ap (λ (y : Value). withValue y (S h rooms steps out) (enters-with h rooms steps out a b)) w)))
 
                 module _ (kc : leZ (pos firstError) (read c) ≡ false) where
+                  pub head-begins : Here code values base i → Begins code values base i t s (read a) (read b) (read c)
+                  head-begins h = record {
+                    here = h;
+                    says = q;
+                    to = to;
+                    to-is = pt;
+                    s-is = ps;
+                    from-given = rw (toZ-ofZ sa) va;
+                    from-value = rw (toZ-ofZ sa) (told-value a sa ka);
+                    to-given = rw (toZ-ofZ sb) vb;
+                    to-value = rw (toZ-ofZ sb) (told-value b sb kb);
+                    step-given = rw (toZ-ofZ sc) vc;
+                    step-value = rw (toZ-ofZ sc) (told-value c sc kc);
+                  }
+
                   step-is : (h : Here code values base i) (rooms : Rooms) (steps : ℕ) (out : List ℕ) → effectAt (h .P) (h .R) rooms (wordsOf values) (h .d) i steps out ≡ enters-with h rooms steps out a b c
                   unfolding withValue
                   step-is h rooms steps out =
@@ -246,14 +248,14 @@ module _ (code values : List ℕ) (base i t : ℕ) (q : Says code i 150 t) where
                   c-small : SFits w32 c
                   c-small = vc .small (told-value c sc kc)
 
-                  module _ (v1 v2 : List ℕ) (d1 : Stored values v1 (base + t + 64) (read b)) (d2 : Stored v1 v2 (base + t + 128) (read c)) where
+                  module _ (v1 v2 : List ℕ) (d1 : Stored values v1 (base + t + endsCell) (read b)) (d2 : Stored v1 v2 (base + t + stepsCell) (read c)) where
                     -- the store with the loop in it
-                    Y-is : wordsOf v2 ≡ set (set (wordsOf values) (base + t + 64) (ofZ w32 b)) (base + t + 128) (ofZ w32 c)
+                    Y-is : wordsOf v2 ≡ set (set (wordsOf values) (base + t + endsCell) (ofZ w32 b)) (base + t + stepsCell) (ofZ w32 c)
                     Y-is =
-                        d2 .words ∙ ap₂ (λ (Z : List ℕ) (z : ℤ). set Z (base + t + 128) (ofZ w32 z)) (d1 .words ∙ ap (λ (z : ℤ). set (wordsOf values) (base + t + 64) (ofZ w32 z)) (toZ-ofZ sb)) (toZ-ofZ sc)
+                        d2 .words ∙ ap₂ (λ (Z : List ℕ) (z : ℤ). set Z (base + t + stepsCell) (ofZ w32 z)) (d1 .words ∙ ap (λ (z : ℤ). set (wordsOf values) (base + t + endsCell) (ofZ w32 z)) (toZ-ofZ sb)) (toZ-ofZ sc)
 
                     Y : List ℕ
-                    Y = set (set (wordsOf values) (base + t + 64) (ofZ w32 b)) (base + t + 128) (ofZ w32 c)
+                    Y = set (set (wordsOf values) (base + t + endsCell) (ofZ w32 b)) (base + t + stepsCell) (ofZ w32 c)
 
                     module _ (h : Here code values base i) where
                       t-room : t < 64
@@ -264,7 +266,7 @@ module _ (code values : List ℕ) (base i t : ℕ) (q : Says code i 150 t) where
                       Y-roomy =
                           let g = roomy h in
                           record {
-                            long = length-set (set (wordsOf values) (base + t + 64) (ofZ w32 b)) (base + t + 128) (ofZ w32 c) ∙ length-set (wordsOf values) (base + t + 64) (ofZ w32 b) ∙ g .long;
+                            long = length-set (set (wordsOf values) (base + t + endsCell) (ofZ w32 b)) (base + t + stepsCell) (ofZ w32 c) ∙ length-set (wordsOf values) (base + t + endsCell) (ofZ w32 b) ∙ g .long;
                             deep = g .deep;
                             words = g .words;
                             calls = g .calls;
@@ -273,25 +275,25 @@ module _ (code values : List ℕ) (base i t : ℕ) (q : Says code i 150 t) where
                       Y-live : Live (h .P) (h .R) Y (h .d) i
                       unfolding Y
                       Y-live =
-                          live-call (h .P) (h .R) (set (wordsOf values) (base + t + 64) (ofZ w32 b)) (h .d) (base + t + 128) (ofZ w32 c) i
-                          (live-call (h .P) (h .R) (wordsOf values) (h .d) (base + t + 64) (ofZ w32 b) i (h .live) (h .d) (t + 64) (omega (arith, t-room)) (omega (arith, h .base-is)))
-                          (h .d) (t + 128) (omega (arith, t-room)) (omega (arith, h .base-is))
+                          live-call (h .P) (h .R) (set (wordsOf values) (base + t + endsCell) (ofZ w32 b)) (h .d) (base + t + stepsCell) (ofZ w32 c) i
+                          (live-call (h .P) (h .R) (wordsOf values) (h .d) (base + t + endsCell) (ofZ w32 b) i (h .live) (h .d) (t + endsCell) (omega (arith, t-room)) (omega (arith, h .base-is)))
+                          (h .d) (t + stepsCell) (omega (arith, t-room)) (omega (arith, h .base-is))
 
-                      Y-same : (j : ℕ) → (j ≡ base + t + 64 → ⊥) → (j ≡ base + t + 128 → ⊥) → Same (wordsOf values) Y j
+                      Y-same : (j : ℕ) → (j ≡ base + t + endsCell → ⊥) → (j ≡ base + t + stepsCell → ⊥) → Same (wordsOf values) Y j
                       unfolding Y
-                      Y-same j x y = set-same (set (wordsOf values) (base + t + 64) (ofZ w32 b)) (base + t + 128) (ofZ w32 c) j y ∙ set-same (wordsOf values) (base + t + 64) (ofZ w32 b) j x
+                      Y-same j x y = set-same (set (wordsOf values) (base + t + endsCell) (ofZ w32 b)) (base + t + stepsCell) (ofZ w32 c) j y ∙ set-same (wordsOf values) (base + t + endsCell) (ofZ w32 b) j x
 
                       Y-code : codeOfCall (h .P) (h .R) Y (h .d) ≡ codeHere code values base i h
                       Y-code = routine-code (h .P) (h .R) (wordsOf values) Y (h .d) (Y-same (windowOf (h .d) + routineCell) (λ e. omega (arith, t-room, h .base-is)) (λ e. omega (arith, t-room, h .base-is)))
 
-                      Y-kept : (j : ℕ) → 1260 ≤ j → j ≤ 1262 → Same (wordsOf values) Y j
+                      Y-kept : (j : ℕ) → writtenCell ≤ j → j ≤ usedCell → Same (wordsOf values) Y j
                       Y-kept j x y = Y-same j (λ e. omega (arith, t-room, h .base-is)) (λ e. omega (arith, t-room, h .base-is))
 
                       Y-state : (rooms : Rooms) (steps : ℕ) (out : List ℕ) → onTop (setLoop t (record { end = b; step = c })) (S h rooms steps out) ≡ stateIn (h .P) (h .R) Y (h .d) i steps out
                       unfolding Y
                       Y-state rooms steps out =
                           ap (λ (l : Loop). onTop (setLoop t l) (S h rooms steps out)) (λ j. record { end = sym (toZ-ofZ b-small) j; step = sym (toZ-ofZ c-small) j })
-                          ∙ sym (call-loop (h .P) (h .R) (wordsOf values) (h .d) (roomy h) t (ofZ w32 b) (ofZ w32 c) (base + t + 64) (base + t + 128) (omega (arith, h .base-is)) (omega (arith, h .base-is)) i steps out (t-own h) (t-fits h))
+                          ∙ sym (call-loop (h .P) (h .R) (wordsOf values) (h .d) (roomy h) t (ofZ w32 b) (ofZ w32 c) (base + t + endsCell) (base + t + stepsCell) (omega (arith, h .base-is)) (omega (arith, h .base-is)) i steps out (t-own h) (t-fits h))
 
                     module _ (x : Bool) (ex : x ≡ passes (read a) (record { end = read b; step = read c })) where
                       told : (y : Bool) → x ≡ y → passes a (record { end = b; step = c }) ≡ y
@@ -299,7 +301,7 @@ module _ (code values : List ℕ) (base i t : ℕ) (q : Says code i 150 t) where
                           let loops : _≡_ {A = Loop} (record { end = read b; step = read c }) (record { end = b; step = c }) = λ j. record { end = toZ-ofZ sb j; step = toZ-ofZ sc j } in
                           ap₂ (λ (z : ℤ) (l : Loop). passes z l) (sym (toZ-ofZ sa)) (sym loops) ∙ sym ex ∙ e
 
-                      pub for-skips : x ≡ false → Here code values base i → (k : ℕ) → Part halfEnd (linkAt (wordsOf code) i) k → Performs code values v2 base i (toZ w64 k)
+                      for-skips : x ≡ false → Here code values base i → (k : ℕ) → Part halfEnd (linkAt (wordsOf code) i) k → Performs code values v2 base i (toZ w64 k)
                       unfolding looping enters-with Y
                       for-skips y here k p = record {
                         long = d2 .long ∙ d1 .long;
@@ -313,7 +315,7 @@ module _ (code values : List ℕ) (base i t : ℕ) (q : Says code i 150 t) where
                             (step-is h rooms steps out ∙ rw (told false y, looping) (ap (λ (T : State). made (onTop (goTo f) T)) (Y-state h rooms steps out)) ∙ ap made (sym (goes-to (h .P) (h .R) Y (h .d) i steps out f)))));
                       }
 
-                      pub for-enters : x ≡ true → Here code values base i → (v3 : List ℕ) → Stored v2 v3 (base + t) (read a) → (o : ℕ) → DoAt code s o → (k : ℕ) → Part valueEnd (valueAt (wordsOf code) o) k
+                      for-enters : x ≡ true → Here code values base i → (v3 : List ℕ) → Stored v2 v3 (base + t) (read a) → (o : ℕ) → DoAt code s o → (k : ℕ) → Part valueEnd (valueAt (wordsOf code) o) k
                           → Performs code values v3 base i (toZ w64 k)
                       unfolding looping enters-with Y
                       for-enters y here v3 d3 o po k p = record {
@@ -337,3 +339,53 @@ module _ (code values : List ℕ) (base i t : ℕ) (q : Says code i 150 t) where
                           k-is h =
                               p .same ∙ ap (valueAt (wordsOf code)) (po .is (counts-here code values base i h) (codeHere code values base i h .function) (h .text) (h .R) (enter h .c) (enter h .d)
                               (ap (forStep (m-here h) (n-here h) (codeHere code values base i h .function) (h .text) (h .R) (wordsOf code)) (s-is s ps) ∙ enter h .step))
+
+-- ---- the first test, once the head is worked out
+untold : (r : ℤ) → SFits w64 r → ltZ r (pos firstError) ≡ true → leZ (pos firstError) (read r) ≡ false
+untold r s h = rw (toZ-ofZ s) (sym (not-less (pos firstError) r) ∙ ap not h)
+
+module _ (code values : List ℕ) (base i t s : ℕ) (a b c : ℤ) (g : Begins code values base i t s a b c) where
+  pub loop-inside : (base + t + stepsCell) * 4 + 4 ≤ length values
+  loop-inside = for-inside code values base i t (g .says) (g .here)
+
+  pub end-inside : (base + t + endsCell) * 4 + 4 ≤ length values
+  end-inside = omega (arith, loop-inside)
+
+  pub first-steps : ForSteps code s
+  first-steps = for-steps code values base i t (g .says) (g .to) (g .to-is) s (g .s-is) (g .here)
+
+  pub first-do-in : (o : ℕ) → DoAt code s o → o * 8 + 8 ≤ length code
+  first-do-in = do-in code values base i t (g .says) (g .to) (g .to-is) s (g .s-is) (g .here)
+
+  pub for-in : i * 8 + 8 ≤ length code
+  for-in = step-in code values base i (g .here)
+
+  -- values have 32 bits
+  pub from-small : SFits w64 a → SFits w32 (read a)
+  from-small f = rw (toZ-ofZ f) (g .from-given .small (g .from-value))
+
+  pub to-small : SFits w64 b → SFits w32 (read b)
+  to-small f = rw (toZ-ofZ f) (g .to-given .small (g .to-value))
+
+  pub step-small : SFits w64 c → SFits w32 (read c)
+  step-small f = rw (toZ-ofZ f) (g .step-given .small (g .step-value))
+
+  module _ (v1 : List ℕ) (d1 : Stored values v1 (base + t + endsCell) (read b)) where
+    pub step-inside : (base + t + stepsCell) * 4 + 4 ≤ length v1
+    step-inside = omega (arith, loop-inside, d1 .long)
+
+    module _ (v2 : List ℕ) (d2 : Stored v1 v2 (base + t + stepsCell) (read c)) where
+      pub word-inside : (base + t) * 4 + 4 ≤ length v2
+      word-inside = omega (arith, loop-inside, d1 .long, d2 .long)
+
+      module _ (sa : SFits w64 a) (sb : SFits w64 b) (sc : SFits w64 c) (x : Bool) (ex : x ≡ passes (read a) (record { end = read b; step = read c })) where
+        pub begin-skips : x ≡ false → (k : ℕ) → Part halfEnd (linkAt (wordsOf code) i) k → Performs code values v2 base i (toZ w64 k)
+        begin-skips y k p =
+            for-skips code values base i t (g .says) (g .to) (g .to-is) a sa (g .from-given) (untold a sa (g .from-value)) s (g .s-is) b sb (g .to-given) (untold b sb (g .to-value))
+            c sc (g .step-given) (untold c sc (g .step-value)) v1 v2 d1 d2 x ex y (g .here) k p
+
+        pub begin-enters : x ≡ true → (v3 : List ℕ) → Stored v2 v3 (base + t) (read a) → (o : ℕ) → DoAt code s o → (k : ℕ) → Part valueEnd (valueAt (wordsOf code) o) k
+            → Performs code values v3 base i (toZ w64 k)
+        begin-enters y v3 d3 o po k p =
+            for-enters code values base i t (g .says) (g .to) (g .to-is) a sa (g .from-given) (untold a sa (g .from-value)) s (g .s-is) b sb (g .to-given) (untold b sb (g .to-value))
+            c sc (g .step-given) (untold c sc (g .step-value)) v1 v2 d1 d2 x ex y (g .here) v3 d3 o po k p

@@ -24,9 +24,10 @@ use Rattle.cells.specs.Words.{wordsOf}
 use Rattle.numbers.proofs.Whole.{read, sub-cases}
 use Rattle.code.specs.Cells.{headAt, opAt, valueAt, linkAt, windowOf}
 use Rattle.code.specs.Spans.{termIn}
-use Rattle.code.specs.Steps.{Head, parts}
+use Rattle.code.specs.Steps.{Head, parts, aForTest, aStep}
 use Rattle.code.specs.Closed.{isNamed, Named, targetsOf, LoopFits}
 use Rattle.code.specs.Windows.{endsCell, stepsCell, loopsFrom, callIn, stateIn}
+use Rattle.layout.specs.Answers.{answers}
 use Rattle.evaluation.specs.Answers.{Stands, Evaluated}
 use Rattle.evaluation.specs.Answers as answers
 use Rattle.evaluation.proofs.Places.{link-in}
@@ -42,7 +43,7 @@ use Rattle.machine.proofs.Agreeing.{codeIn, set-same}
 use Rattle.machine.proofs.States.{Roomy, roomy, goes-to, call-word}
 use Rattle.machine.proofs.Living.{live-next, live-call}
 use Rattle.machine.proofs.Current.{codeHere, stepHere, m, n, callHere, stateHere, action-here, routine-holds, whole-here, memory-here, named-after, named-targets, loop-here, small-name, effect-here, goes-here, performs}
-use Rattle.choices.proofs.Choosing.{stepsHere}
+use Rattle.machine.proofs.Deciding.{stepsHere}
 
 -- ---- the test
 module _ (z end step : ℤ) (sz : SFits w64 z) (se : SFits w64 end) (ss : SFits w64 step) where
@@ -70,14 +71,14 @@ module _ (code : List ℕ) (s w : ℕ) (ew : w ≡ headAt (wordsOf code) s) wher
   op-is : w % 256 ≡ opAt (wordsOf code) s
   op-is = ap (λ (y : ℕ). y % 256) ew
 
-  pub do-behind : w % 256 ≡ 156 → (r : ℕ) → Part halfEnd (linkAt (wordsOf code) s) r → DoAt code s r
+  pub do-behind : w % 256 ≡ aStep → (r : ℕ) → Part halfEnd (linkAt (wordsOf code) s) r → DoAt code s r
   do-behind k r p = record { is = λ c function text R step d e. p .same ∙ sym (given-step (c .m) (c .n) function text R (wordsOf code) s step d e (sym op-is ∙ k) .do-is) }
 
-  pub do-here : (w % 256 ≡ 156 → ⊥) → DoAt code s s
+  pub do-here : (w % 256 ≡ aStep → ⊥) → DoAt code s s
   do-here k = record { is = λ c function text R step d e. sym (no-step (c .m) (c .n) function text R (wordsOf code) s step d e (λ z. k (op-is ∙ z)) .do-is) }
 
   module _ (values : List ℕ) (base : ℕ) where
-    module _ (k : w % 256 ≡ 156) (t : ℕ) (p : Part halfEnd (linkAt (wordsOf code) s) t) where
+    module _ (k : w % 256 ≡ aStep) (t : ℕ) (p : Part halfEnd (linkAt (wordsOf code) s) t) where
       pub step-stands : ForSteps code s → Stands code (s + 1) t
       step-stands f =
           let g = given-step (f .c .m) (f .c .n) (f .function) (f .text) (f .R) (wordsOf code) s (f .step) (f .d) (f .is) (sym op-is ∙ k) in
@@ -92,7 +93,7 @@ module _ (code : List ℕ) (s w : ℕ) (ew : w ≡ headAt (wordsOf code) s) wher
             v .is c (g .e) (ap (termIn (c .m) (c .n) (wordsOf code) (s + 1)) (p .same) ∙ g .reads) ∙ ap (stepWorth (answers.memoryOf c values base)) (sym (g .is));
       })
 
-    pub step-one : (w % 256 ≡ 156 → ⊥) → StepGiven code values base s (pos 1)
+    pub step-one : (w % 256 ≡ aStep → ⊥) → StepGiven code values base s (pos 1)
     unfolding stepWorth
     step-one k = record {
       small = λ q. record { sfits = omega arith };
@@ -136,7 +137,7 @@ word-goes P R C offset X Y d i steps out g l k z b f s a small E e =
     ∙ ap (λ (y : ℤ). onTop (setWord k y) (stateIn P R Y d i steps out)) (toZ-ofZ s)))))
 
 -- ---- each later test
-module _ (code values : List ℕ) (base i t : ℕ) (q : Says code i 151 t) where
+module _ (code values : List ℕ) (base i t : ℕ) (q : Says code i aForTest t) where
   module _ (h : Here code values base i) where
     again : RepeatsFor (m code values base i h) (n code values base i h) (codeHere code values base i h .function) (h .text) (h .R) (wordsOf code) i
         (stepHere code values base i h .after) (stepHere code values base i h .does)
@@ -153,10 +154,10 @@ module _ (code values : List ℕ) (base i t : ℕ) (q : Says code i 151 t) where
     unfolding LoopFits
     k-own = omega (arith, k-is, subst (LoopFits (length (codeHere code values base i h .words))) (again .does-is) (loop-here code values base i h))
 
-    pub for-inside : (base + t % 256 + 128) * 4 + 4 ≤ length values
+    pub for-inside : (base + t % 256 + stepsCell) * 4 + 4 ≤ length values
     for-inside = omega (arith, k-fits, routine-holds code values base i h .room, h .base-is, h .deep, h .values-size)
 
-    pub for-end-inside : (base + t % 256 + 64) * 4 + 4 ≤ length values
+    pub for-end-inside : (base + t % 256 + endsCell) * 4 + 4 ≤ length values
     for-end-inside = omega (arith, for-inside)
 
     pub for-word-inside : (base + t % 256) * 4 + 4 ≤ length values
@@ -177,12 +178,12 @@ module _ (code values : List ℕ) (base i t : ℕ) (q : Says code i 151 t) where
     for-word-in = link-in code (t / 256) (whole-here code values base i h) (λ z. omega (arith, small-name code values base i h (linkAt (wordsOf code) (t / 256)) done-named .0))
 
     module _ (rooms : Rooms) (steps : ℕ) (out : List ℕ) (a end step : ℤ) (la : Loaded (getD (wordsOf values) (base + t % 256) 0) a)
-        (le : Loaded (getD (wordsOf values) (base + t % 256 + 64) 0) end) (ls : Loaded (getD (wordsOf values) (base + t % 256 + 128) 0) step) where
+        (le : Loaded (getD (wordsOf values) (base + t % 256 + endsCell) 0) end) (ls : Loaded (getD (wordsOf values) (base + t % 256 + stepsCell) 0) step) where
       loop-is : getD (callHere code values base i h rooms steps out .loops) (t % 256) idle ≡ record { end = end; step = step }
       loop-is =
           let X = wordsOf values in
-          let e : windowOf (h .d) + endsCell + t % 256 ≡ base + t % 256 + 64 = omega (arith, h .base-is) in
-          let s : windowOf (h .d) + stepsCell + t % 256 ≡ base + t % 256 + 128 = omega (arith, h .base-is) in
+          let e : windowOf (h .d) + endsCell + t % 256 ≡ base + t % 256 + endsCell = omega (arith, h .base-is) in
+          let s : windowOf (h .d) + stepsCell + t % 256 ≡ base + t % 256 + stepsCell = omega (arith, h .base-is) in
           loop-at (h .P) (h .R) X (windowOf (h .d)) i (t % 256) k-own k-fits
           ∙ (λ j. record { end = (ap (λ (c : ℕ). toZ w32 (getD X c 0)) e ∙ sym (le .is)) j; step = (ap (λ (c : ℕ). toZ w32 (getD X c 0)) s ∙ sym (ls .is)) j })
 
@@ -200,7 +201,7 @@ module _ (code values : List ℕ) (base i t : ℕ) (q : Says code i 151 t) where
           (again .does-is ∙ ap (λ (v : ℕ). repeatFor (v % 256) (linkAt (wordsOf code) i)) (sym (q .value-is)))
           ∙ ap₂ (λ (y : ℤ) (l : Loop). looping (t % 256) (y +ℤ l .step) l (linkAt (wordsOf code) i) (linkAt (wordsOf code) (t / 256)) (stateHere code values base i h rooms steps out)) word-is loop-is
 
-  module _ (step : ℤ) (ss : SFits w64 step) (ls : Loaded (getD (wordsOf values) (base + t % 256 + 128) 0) step)
+  module _ (step : ℤ) (ss : SFits w64 step) (ls : Loaded (getD (wordsOf values) (base + t % 256 + stepsCell) 0) step)
       (a : ℤ) (sa : SFits w64 a) (la : Loaded (getD (wordsOf values) (base + t % 256) 0) a) where
     pub for-sum : SFits w64 (read a +ℤ read step)
     for-sum = sum-fits a step sa ss (la .small) (ls .small)
@@ -208,7 +209,7 @@ module _ (code values : List ℕ) (base i t : ℕ) (q : Says code i 151 t) where
     sum-is : read (read a +ℤ read step) ≡ a +ℤ step
     sum-is = toZ-ofZ for-sum ∙ ap₂ _+ℤ_ (toZ-ofZ sa) (toZ-ofZ ss)
 
-    module _ (end : ℤ) (se : SFits w64 end) (le : Loaded (getD (wordsOf values) (base + t % 256 + 64) 0) end)
+    module _ (end : ℤ) (se : SFits w64 end) (le : Loaded (getD (wordsOf values) (base + t % 256 + endsCell) 0) end)
         (b : Bool) (eb : b ≡ passes (read (read a +ℤ read step)) (record { end = read end; step = read step })) where
       told : (y : Bool) → b ≡ y → passes (a +ℤ step) (record { end = end; step = step }) ≡ y
       told y e =

@@ -1,5 +1,10 @@
 // FOR and ENDFOR.
 use evaluation::worth;
+use layout::answers::FIRST_ERROR;
+use layout::cells::ENDS;
+use layout::cells::STEPS;
+use layout::ops;
+use layout::parts;
 use reading::head;
 use reading::link;
 use reading::load;
@@ -7,27 +12,10 @@ use reading::put;
 use reading::value;
 ghost use mathlib.Core.Path.{_≡_};
 ghost use Rattle.paper.specs.Running as running;
+ghost use Rattle.code.specs.Steps.{aFor, aForTest};
 ghost use Rattle.evaluation.specs.Answers.{Stores};
 ghost use Rattle.machine.specs.Machine.{Here, Performs, Says};
-ghost use Rattle.loops.specs.Loops.{ForSteps, StepGiven, DoAt};
-
-// ---- ops, as the specs of code have them
-
-const OPS: u32 = 256;
-
-const STEP: u32 = 156;
-
-// an ENDFOR's value has the FOR above the variable's word
-const FOR_WORDS: usize = 256;
-
-// ---- cells of a window, as the specs of code have them
-
-const ENDS: usize = 64;
-
-const STEPS: usize = 128;
-
-// an answer from here on is an error's
-const FIRST_ERROR: i64 = 4294967296;
+ghost use Rattle.loops.specs.Loops.{ForSteps, StepGiven, DoAt, Begins};
 
 // "Step 0 or more: go on while not above the end; below 0: while not below."
 fn passes(z: i64, end: i64, step: i64) -> bool
@@ -41,17 +29,17 @@ fn passes(z: i64, end: i64, step: i64) -> bool
 
 // An ENDFOR whose value is t: the variable's word, and above it the FOR.
 pub fn for_test<'a>(code: &'a [u8], values: &'a mut [u8], base: usize, i: usize, t: usize) -> i64
-    requires { ⌜ Here (now code) (now values) base i × Says (now code) i 151 t ⌝ }
+    requires { ⌜ Here (now code) (now values) base i × Says (now code) i aForTest t ⌝ }
     ensures { λ r. ⌜ Performs (now (code .entry)) (now (values .entry)) (now (values .exit)) base i r ⌝ }
 {
-    let k = base + t % FOR_WORDS;
+    let k = base + t % parts::LOOPS;
     let step = load(&*values, k + STEPS);
     let z = load(&*values, k) + step;
     if passes(z, load(&*values, k + ENDS), step) {
         put(values, k, z);
         return link(code, i) as i64;
     }
-    link(code, t / FOR_WORDS) as i64
+    link(code, t / parts::LOOPS) as i64
 }
 
 // What the step of a FOR is worth whose STEP or DO is at s: without STEP it is 1.
@@ -59,7 +47,7 @@ fn step_of<'a>(code: &'a [u8], values: &'a [u8], base: usize, s: usize) -> i64
     requires { ⌜ Stores (now values) base × ForSteps (now code) s ⌝ }
     ensures { λ r. ⌜ StepGiven (now (code .entry)) (now (values .entry)) base s r ⌝ }
 {
-    if head(code, s) % OPS == STEP {
+    if head(code, s) % parts::VALUE == ops::STEP {
         return worth(&*code, &*values, base, s + 1, link(code, s));
     }
     1
@@ -70,7 +58,7 @@ fn do_of(code: &[u8], s: usize) -> usize
     requires { ⌜ ForSteps (now code) s ⌝ }
     ensures { λ r. ⌜ DoAt (now (code .entry)) s r ⌝ }
 {
-    if head(code, s) % OPS == STEP {
+    if head(code, s) % parts::VALUE == ops::STEP {
         return link(code, s);
     }
     s
@@ -78,7 +66,7 @@ fn do_of(code: &[u8], s: usize) -> usize
 
 // A FOR whose variable is the call's word t.
 pub fn enter_for<'a>(code: &'a [u8], values: &'a mut [u8], base: usize, i: usize, t: usize) -> i64
-    requires { ⌜ Here (now code) (now values) base i × Says (now code) i 150 t ⌝ }
+    requires { ⌜ Here (now code) (now values) base i × Says (now code) i aFor t ⌝ }
     ensures { λ r. ⌜ Performs (now (code .entry)) (now (values .entry)) (now (values .exit)) base i r ⌝ }
 {
     let to = link(code, i + 2);
@@ -95,6 +83,24 @@ pub fn enter_for<'a>(code: &'a [u8], values: &'a mut [u8], base: usize, i: usize
     if FIRST_ERROR <= c {
         return c;
     }
+    begin(&*code, values, base, i, t, s, a, b, c)
+}
+
+// A FOR whose head is worked out: its loop goes from a to b by c, and its STEP or DO is at s.
+fn begin<'a>(
+    code: &'a [u8],
+    values: &'a mut [u8],
+    base: usize,
+    i: usize,
+    t: usize,
+    s: usize,
+    a: i64,
+    b: i64,
+    c: i64,
+) -> i64
+    requires { ⌜ Begins (now code) (now values) base i t s a b c ⌝ }
+    ensures { λ r. ⌜ Performs (now (code .entry)) (now (values .entry)) (now (values .exit)) base i r ⌝ }
+{
     let k = base + t;
     put(values, k + ENDS, b);
     put(values, k + STEPS, c);

@@ -15,7 +15,9 @@ use Rattle.paper.specs.Terms.{ofModule, ofRoutine, Term}
 use Rattle.paper.specs.Steps.{Spot, scalar, elementOf, Action, store, callFor, callOf, giveBack, raise, handOn, exit, retry, tryNext, write, read, choose, select, testWhile, enterFor, repeatFor, endList, unquoted}
 use Rattle.code.specs.Cells.{opAt, valueAt, placeAt, linkAt}
 use Rattle.code.specs.Spans.{guard, _then_, firstIn, sizeIn, termIn}
-use Rattle.code.specs.Steps.{aTarget, aCallTarget, anElseIf, aStep, aNextArgument, Head, noHead, numbered, agree, parts, scalarIn, elementIn, targetIn, argumentsIn, anyArguments, calleeIn, charactersIn, conditionsIn, casesIn, forStep, forIn, linked, storeIn, callForIn, callOfIn, withTerm, writeIn, writeOfIn, readIn, compactIfIn, ifIn, whileIn, forTestIn, testIn, actionIn}
+use Rattle.code.specs.Steps.{aTarget, aCallTarget, anElseIf, aStep, aNextArgument, aProcedureCall, aReturnOf, aReturn, aRaiseOf, aRaise, anExit, aRetry, aTryNext, aWrite, aWriteOf, aRead, aCompactIf, anIf, aWhile, aFor, aForTest, aTest, anEnd, aFunctionEnd}
+use Rattle.code.specs.Steps.{Head, noHead, numbered, agree, parts, scalarIn, elementIn, targetIn, argumentsIn, anyArguments, calleeIn, charactersIn, conditionsIn, casesIn, forStep, forIn}
+use Rattle.code.specs.Steps.{linked, storeIn, callForIn, callOfIn, withTerm, writeIn, writeOfIn, readIn, compactIfIn, ifIn, whileIn, forTestIn, testIn, actionIn}
 use Rattle.code.proofs.Options.{none-some, same-some, guarded, went}
 
 pub first-is : {A B : Type 0} (a : A) (b : B) (x : A × B) → some (a, b) ≡ some x → x .0 ≡ a
@@ -147,7 +149,7 @@ module _ (m n : ℕ) (function : Bool) (text : List ℕ) (R : List Head) (C : Li
     arguments-some (suc f) e = omega arith
 
     module _ (f : ℕ) (e : argumentsIn m n function text R C (suc f) a b ≡ some (es, closes)) where
-      pub argument-more : opAt C b ≡ 159 → Argument f
+      pub argument-more : opAt C b ≡ aNextArgument → Argument f
       unfolding argumentsIn
       argument-more h =
           let g = went (termIn m n C a b) (λ t. elim (eqb (opAt C b) aNextArgument) [
@@ -163,7 +165,7 @@ module _ (m n : ℕ) (function : Bool) (text : List ℕ) (R : List Head) (C : Li
             more = d .first ∙ ap (λ (k : ℕ). some (d .a .0, k)) (sym (second-is (g .a ∷ d .a .0) (d .a .1) (es, closes) (d .next)));
           }
 
-      pub argument-last : (opAt C b ≡ 159 → ⊥) → LastArgument
+      pub argument-last : (opAt C b ≡ aNextArgument → ⊥) → LastArgument
       unfolding argumentsIn
       argument-last h =
           let g = went (termIn m n C a b) (λ t. elim (eqb (opAt C b) aNextArgument) [
@@ -244,7 +246,7 @@ module _ (m n : ℕ) (function : Bool) (text : List ℕ) (R : List Head) (C : Li
     conditions-some (suc f) e = omega arith
 
     module _ (f : ℕ) (e : conditionsIn m n function text R C (suc f) i t ≡ some (cs, o)) where
-      pub condition-more : opAt C (linkAt C t) ≡ 155 → Condition f
+      pub condition-more : opAt C (linkAt C t) ≡ anElseIf → Condition f
       unfolding conditionsIn
       condition-more h =
           let g = went (termIn m n C (i + 1) t) (λ e. elim (eqb (opAt C (linkAt C t)) anElseIf) [
@@ -261,7 +263,7 @@ module _ (m n : ℕ) (function : Bool) (text : List ℕ) (R : List Head) (C : Li
             more = d .first ∙ ap (λ (k : ℕ). some (d .a .0, k)) (sym (second-is ((g .a, valueAt C t) ∷ d .a .0) (d .a .1) (cs, o) (d .next)));
           }
 
-      pub condition-last : (opAt C (linkAt C t) ≡ 155 → ⊥) → LastCondition
+      pub condition-last : (opAt C (linkAt C t) ≡ anElseIf → ⊥) → LastCondition
       unfolding conditionsIn
       condition-last h =
           let g = went (termIn m n C (i + 1) t) (λ e. elim (eqb (opAt C (linkAt C t)) anElseIf) [
@@ -283,13 +285,13 @@ module _ (m n : ℕ) (function : Bool) (text : List ℕ) (R : List Head) (C : Li
       pub is : c ≡ none
       pub do-is : d ≡ i
 
-    pub given-step : opAt C i ≡ 156 → GivenStep
+    pub given-step : opAt C i ≡ aStep → GivenStep
     unfolding forStep
     given-step h =
         let g = went (termIn m n C (i + 1) (linkAt C i)) (λ c. some (some c, linkAt C i)) (c, d) (rw (eq-eqb (opAt C i) aStep h, forStep) at q) in
         record { e = g .a; reads = g .first; is = first-is (some (g .a)) (linkAt C i) (c, d) (g .next); do-is = second-is (some (g .a)) (linkAt C i) (c, d) (g .next) }
 
-    pub no-step : (opAt C i ≡ 156 → ⊥) → NoStep
+    pub no-step : (opAt C i ≡ aStep → ⊥) → NoStep
     unfolding forStep
     no-step h =
         let z : _≡_ {A = Option (Option Term × ℕ)} (some (none, i)) (some (c, d)) = rw (ne-eqb (opAt C i) aStep h, forStep) at q in
@@ -410,20 +412,20 @@ module _ (m n : ℕ) (function : Bool) (text : List ℕ) (R : List Head) (C : Li
       pub does-is : does ≡ endList
 
     module _ (e : actionIn m n function text R C i ≡ some (after, does)) where
-      pub reads-store : 128 ≤ opAt C i → opAt C i < 132 → Stores
+      pub reads-store : aTarget ≤ opAt C i → opAt C i < aCallTarget → Stores
       unfolding actionIn storeIn linked
       reads-store h k =
-          let q : storeIn m n function text R C i ≡ some (after, does) = rw (lt-ltb (opAt C i) 132 k) at (rw (le-ltb (opAt C i) 128 h, actionIn) at e) in
+          let q : storeIn m n function text R C i ≡ some (after, does) = rw (lt-ltb (opAt C i) aCallTarget k) at (rw (le-ltb (opAt C i) aTarget h, actionIn) at e) in
           let g = went (targetIn m n function text R C aTarget i) (λ s. termIn m n C (s .1 + 1) (linkAt C (s .1)) then (λ e. some (linked m n function text R C i (store (s .0) e)))) (after, does) q in
           let d = went (termIn m n C (g .a .1 + 1) (linkAt C (g .a .1))) (λ e. some (linked m n function text R C i (store (g .a .0) e))) (after, does) (g .next) in
           let p = plain (store (g .a .0) (d .a)) (d .next) in
           record { s = g .a .0; j = g .a .1; target = g .first; e = d .a; reads = d .first; after-is = p .after-is; does-is = p .does-is }
 
-      pub reads-call-for : 132 ≤ opAt C i → opAt C i < 136 → CallsFor
+      pub reads-call-for : aCallTarget ≤ opAt C i → opAt C i < aProcedureCall → CallsFor
       unfolding actionIn callForIn linked
       reads-call-for h k =
           let q : callForIn m n function text R C i ≡ some (after, does) =
-          rw (lt-ltb (opAt C i) 136 k) at (rw (le-ltb (opAt C i) 132 h) at (rw (le-ltb (opAt C i) 128 (omega arith), actionIn) at e)) in
+          rw (lt-ltb (opAt C i) aProcedureCall k) at (rw (le-ltb (opAt C i) aCallTarget h) at (rw (le-ltb (opAt C i) aTarget (omega arith), actionIn) at e)) in
           let g = went (targetIn m n function text R C aCallTarget i)
           (λ s. anyArguments m n function text R C (s .1 + 3) (linkAt C (s .1 + 1)) then (λ es.
           calleeIn m n function text R C true (s .1 + 1) (es .0) then (λ k. some (linked m n function text R C i (callFor (s .0) (s .1 + 1) k (es .0)))))) (after, does) q in
@@ -444,7 +446,7 @@ module _ (m n : ℕ) (function : Bool) (text : List ℕ) (R : List Head) (C : Li
             does-is = p .does-is;
           }
 
-      pub reads-call-of : opAt C i ≡ 136 → CallsOf
+      pub reads-call-of : opAt C i ≡ aProcedureCall → CallsOf
       unfolding actionIn callOfIn
       reads-call-of h =
           let q : callOfIn m n function text R C i ≡ some (after, does) = rw (h, actionIn) at e in
@@ -461,57 +463,57 @@ module _ (m n : ℕ) (function : Bool) (text : List ℕ) (R : List Head) (C : Li
           }
 
       -- RETURN with a value, and the routine is a function; without
-      return-of : opAt C i ≡ 137 → (function ≡ true) × Expression (λ t. giveBack (some t))
+      return-of : opAt C i ≡ aReturnOf → (function ≡ true) × Expression (λ t. giveBack (some t))
       unfolding actionIn
       return-of h =
           let g = went (guard function i) (λ j. withTerm m n function text R C j (λ t. giveBack (some t))) (after, does) (rw (h, actionIn) at e) in
           let d = guarded function i (g .a) (g .first) in
           (d .holds, expression (λ t. giveBack (some t)) (subst (λ (j : ℕ). withTerm m n function text R C j (λ t. giveBack (some t)) ≡ some (after, does)) (sym (d .is)) (g .next)))
 
-      pub returns-function : opAt C i ≡ 137 → function ≡ true
+      pub returns-function : opAt C i ≡ aReturnOf → function ≡ true
       returns-function h = return-of h .0
 
-      pub reads-return-of : opAt C i ≡ 137 → Expression (λ t. giveBack (some t))
+      pub reads-return-of : opAt C i ≡ aReturnOf → Expression (λ t. giveBack (some t))
       reads-return-of h = return-of h .1
 
-      pub reads-return : opAt C i ≡ 138 → Plain (giveBack none)
+      pub reads-return : opAt C i ≡ aReturn → Plain (giveBack none)
       unfolding actionIn linked
       reads-return h =
           let g = guarded (not function) (linked m n function text R C i (giveBack none)) (after, does) (rw (h, actionIn) at e) in
           plain (giveBack none) (ap some (g .is))
 
-      pub return-function : opAt C i ≡ 138 → function ≡ false
+      pub return-function : opAt C i ≡ aReturn → function ≡ false
       unfolding actionIn
       return-function h = not-is function (guarded (not function) (linked m n function text R C i (giveBack none)) (after, does) (rw (h, actionIn) at e) .holds)
 
-      pub reads-raise-of : opAt C i ≡ 139 → Expression raise
+      pub reads-raise-of : opAt C i ≡ aRaiseOf → Expression raise
       unfolding actionIn
       reads-raise-of h = expression raise (rw (h, actionIn) at e)
 
-      pub reads-raise : opAt C i ≡ 140 → Plain handOn
+      pub reads-raise : opAt C i ≡ aRaise → Plain handOn
       unfolding actionIn linked
       reads-raise h = plain handOn (rw (h, actionIn) at e)
 
-      pub reads-exit : opAt C i ≡ 141 → Plain exit
+      pub reads-exit : opAt C i ≡ anExit → Plain exit
       unfolding actionIn linked
       reads-exit h = plain exit (rw (h, actionIn) at e)
 
-      pub reads-retry : opAt C i ≡ 142 → Plain retry
+      pub reads-retry : opAt C i ≡ aRetry → Plain retry
       unfolding actionIn linked
       reads-retry h = plain retry (rw (h, actionIn) at e)
 
-      pub reads-try-next : opAt C i ≡ 143 → Plain tryNext
+      pub reads-try-next : opAt C i ≡ aTryNext → Plain tryNext
       unfolding actionIn linked
       reads-try-next h = plain tryNext (rw (h, actionIn) at e)
 
-      pub reads-write : opAt C i ≡ 144 → Writes
+      pub reads-write : opAt C i ≡ aWrite → Writes
       unfolding actionIn writeIn linked
       reads-write h =
           let g = went (charactersIn m n function text R C (i + 1)) (λ s. some (linked m n function text R C i (write s none))) (after, does) (rw (h, actionIn) at e) in
           let p = plain (write (g .a) none) (g .next) in
           record { s = g .a; says = g .first; after-is = p .after-is; does-is = p .does-is }
 
-      pub reads-write-of : opAt C i ≡ 145 → WritesOf
+      pub reads-write-of : opAt C i ≡ aWriteOf → WritesOf
       unfolding actionIn writeOfIn linked
       reads-write-of h =
           let g = went (charactersIn m n function text R C (i + 1)) (λ s. termIn m n C (i + 5) (valueAt C i) then (λ e. some (linked m n function text R C i (write s (some e))))) (after, does) (rw (h, actionIn) at e) in
@@ -519,7 +521,7 @@ module _ (m n : ℕ) (function : Bool) (text : List ℕ) (R : List Head) (C : Li
           let p = plain (write (g .a) (some (d .a))) (d .next) in
           record { s = g .a; says = g .first; e = d .a; reads = d .first; after-is = p .after-is; does-is = p .does-is }
 
-      pub reads-read : opAt C i ≡ 146 → ReadsNum
+      pub reads-read : opAt C i ≡ aRead → ReadsNum
       unfolding actionIn readIn linked
       reads-read h =
           let g = went (targetIn m n function text R C aTarget (i + 1)) (λ s. charactersIn m n function text R C (valueAt C i) then (λ t. some (linked m n function text R C i (read (s .0) t)))) (after, does) (rw (h, actionIn) at e) in
@@ -527,22 +529,22 @@ module _ (m n : ℕ) (function : Bool) (text : List ℕ) (R : List Head) (C : Li
           let p = plain (read (g .a .0) (d .a)) (d .next) in
           record { t = g .a .0; j = g .a .1; target = g .first; s = d .a; says = d .first; after-is = p .after-is; does-is = p .does-is }
 
-      pub reads-compact-if : opAt C i ≡ 147 → Expression (λ t. choose ((t, valueAt C i) ∷ []) (linkAt C i))
+      pub reads-compact-if : opAt C i ≡ aCompactIf → Expression (λ t. choose ((t, valueAt C i) ∷ []) (linkAt C i))
       unfolding actionIn compactIfIn
       reads-compact-if h = expression (λ t. choose ((t, valueAt C i) ∷ []) (linkAt C i)) (rw (h, actionIn) at e)
 
-      pub reads-if : opAt C i ≡ 148 → Chooses
+      pub reads-if : opAt C i ≡ anIf → Chooses
       unfolding actionIn ifIn linked
       reads-if h =
           let g = went (conditionsIn m n function text R C parts i (valueAt C i)) (λ r. some (linked m n function text R C i (choose (r .0) (r .1)))) (after, does) (rw (h, actionIn) at e) in
           let p = plain (choose (g .a .0) (g .a .1)) (g .next) in
           record { cs = g .a .0; o = g .a .1; conditions = g .first; after-is = p .after-is; does-is = p .does-is }
 
-      pub reads-while : opAt C i ≡ 149 → Expression (λ t. testWhile t (valueAt C (valueAt C i)))
+      pub reads-while : opAt C i ≡ aWhile → Expression (λ t. testWhile t (valueAt C (valueAt C i)))
       unfolding actionIn whileIn
       reads-while h = expression (λ t. testWhile t (valueAt C (valueAt C i))) (rw (h, actionIn) at e)
 
-      pub reads-for : opAt C i ≡ 150 → EntersFor
+      pub reads-for : opAt C i ≡ aFor → EntersFor
       unfolding actionIn forIn linked
       reads-for h =
           let b = linkAt C (i + 2) in
@@ -567,7 +569,7 @@ module _ (m n : ℕ) (function : Bool) (text : List ℕ) (R : List Head) (C : Li
             does-is = p .does-is ∙ sym (x .is);
           }
 
-      pub reads-for-test : opAt C i ≡ 151 → RepeatsFor
+      pub reads-for-test : opAt C i ≡ aForTest → RepeatsFor
       unfolding actionIn forTestIn
       reads-for-test h =
           let v = valueAt C i in
@@ -578,7 +580,7 @@ module _ (m n : ℕ) (function : Bool) (text : List ℕ) (R : List Head) (C : Li
             does-is = sym (ap (λ (y : ℕ × Action). y .1) (g .is));
           }
 
-      pub reads-test : opAt C i ≡ 152 → Selects
+      pub reads-test : opAt C i ≡ aTest → Selects
       unfolding actionIn testIn linked
       reads-test h =
           let g = went (termIn m n C (i + 1) (valueAt C i)) (λ e. casesIn m n function text R C parts (valueAt C i) then (λ r. some (linked m n function text R C i (select e (r .0) (r .1))))) (after, does) (rw (h, actionIn) at e) in
@@ -591,49 +593,49 @@ module _ (m n : ℕ) (function : Bool) (text : List ℕ) (R : List Head) (C : Li
           let g = guarded b (i, endList) (after, does) q in
           (g .holds, record { after-is = sym (ap (λ (y : ℕ × Action). y .0) (g .is)); does-is = sym (ap (λ (y : ℕ × Action). y .1) (g .is)) })
 
-      pub reads-end : opAt C i ≡ 153 → Ends
+      pub reads-end : opAt C i ≡ anEnd → Ends
       unfolding actionIn
       reads-end h = ends-with (not function) (rw (h, actionIn) at e) .1
 
-      pub end-function : opAt C i ≡ 153 → function ≡ false
+      pub end-function : opAt C i ≡ anEnd → function ≡ false
       unfolding actionIn
       end-function h = not-is function (ends-with (not function) (rw (h, actionIn) at e) .0)
 
-      pub reads-function-end : opAt C i ≡ 154 → Ends
+      pub reads-function-end : opAt C i ≡ aFunctionEnd → Ends
       unfolding actionIn
       reads-function-end h = ends-with function (rw (h, actionIn) at e) .1
 
-      pub function-end-function : opAt C i ≡ 154 → function ≡ true
+      pub function-end-function : opAt C i ≡ aFunctionEnd → function ≡ true
       unfolding actionIn
       function-end-function h = ends-with function (rw (h, actionIn) at e) .0
 
       -- a step's op is one of these
-      pub op-low : 128 ≤ opAt C i
+      pub op-low : aTarget ≤ opAt C i
       unfolding actionIn
-      op-low = test (ltb (opAt C i) 128) (λ t. none-some (after, does) (rw (t, actionIn) at e)) (λ t. omega (arith, ltb-false (opAt C i) 128 t))
+      op-low = test (ltb (opAt C i) aTarget) (λ t. none-some (after, does) (rw (t, actionIn) at e)) (λ t. omega (arith, ltb-false (opAt C i) aTarget t))
 
-      pub op-high : opAt C i ≤ 154
+      pub op-high : opAt C i ≤ aFunctionEnd
       unfolding actionIn
-      op-high = by-most (opAt C i) 154 (λ h. h) (λ h. none-some (after, does) (rw (
-        le-ltb (opAt C i) 132 (omega arith),
-        le-ltb (opAt C i) 136 (omega arith),
-        ne-eqb (opAt C i) 136 (λ q. omega arith),
-        ne-eqb (opAt C i) 137 (λ q. omega arith),
-        ne-eqb (opAt C i) 138 (λ q. omega arith),
-        ne-eqb (opAt C i) 139 (λ q. omega arith),
-        ne-eqb (opAt C i) 140 (λ q. omega arith),
-        ne-eqb (opAt C i) 141 (λ q. omega arith),
-        ne-eqb (opAt C i) 142 (λ q. omega arith),
-        ne-eqb (opAt C i) 143 (λ q. omega arith),
-        ne-eqb (opAt C i) 144 (λ q. omega arith),
-        ne-eqb (opAt C i) 145 (λ q. omega arith),
-        ne-eqb (opAt C i) 146 (λ q. omega arith),
-        ne-eqb (opAt C i) 147 (λ q. omega arith),
-        ne-eqb (opAt C i) 148 (λ q. omega arith),
-        ne-eqb (opAt C i) 149 (λ q. omega arith),
-        ne-eqb (opAt C i) 150 (λ q. omega arith),
-        ne-eqb (opAt C i) 151 (λ q. omega arith),
-        ne-eqb (opAt C i) 152 (λ q. omega arith),
-        ne-eqb (opAt C i) 153 (λ q. omega arith),
-        ne-eqb (opAt C i) 154 (λ q. omega arith),
-      ) at (rw (le-ltb (opAt C i) 128 (omega arith), actionIn) at e)))
+      op-high = by-most (opAt C i) aFunctionEnd (λ h. h) (λ h. none-some (after, does) (rw (
+        le-ltb (opAt C i) aCallTarget (omega arith),
+        le-ltb (opAt C i) aProcedureCall (omega arith),
+        ne-eqb (opAt C i) aProcedureCall (λ q. omega arith),
+        ne-eqb (opAt C i) aReturnOf (λ q. omega arith),
+        ne-eqb (opAt C i) aReturn (λ q. omega arith),
+        ne-eqb (opAt C i) aRaiseOf (λ q. omega arith),
+        ne-eqb (opAt C i) aRaise (λ q. omega arith),
+        ne-eqb (opAt C i) anExit (λ q. omega arith),
+        ne-eqb (opAt C i) aRetry (λ q. omega arith),
+        ne-eqb (opAt C i) aTryNext (λ q. omega arith),
+        ne-eqb (opAt C i) aWrite (λ q. omega arith),
+        ne-eqb (opAt C i) aWriteOf (λ q. omega arith),
+        ne-eqb (opAt C i) aRead (λ q. omega arith),
+        ne-eqb (opAt C i) aCompactIf (λ q. omega arith),
+        ne-eqb (opAt C i) anIf (λ q. omega arith),
+        ne-eqb (opAt C i) aWhile (λ q. omega arith),
+        ne-eqb (opAt C i) aFor (λ q. omega arith),
+        ne-eqb (opAt C i) aForTest (λ q. omega arith),
+        ne-eqb (opAt C i) aTest (λ q. omega arith),
+        ne-eqb (opAt C i) anEnd (λ q. omega arith),
+        ne-eqb (opAt C i) aFunctionEnd (λ q. omega arith),
+      ) at (rw (le-ltb (opAt C i) aTarget (omega arith), actionIn) at e)))

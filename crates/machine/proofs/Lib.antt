@@ -4,3 +4,4 @@ pub mod Current
 pub mod Living
 pub mod States
 pub mod Hops
+pub mod Deciding

@@ -20,6 +20,7 @@ use Rattle.code.specs.Cells.{windowOf, firstWindow, errnoCell}
 use Rattle.code.specs.Steps.{Head, numbered}
 use Rattle.code.specs.Holds.{optionally, Holds}
 use Rattle.code.specs.Windows.{endsCell, stepsCell, routineCell, waitsCell, afterCell, failedCell, resultCell, writtenCell, usedCell, loopsFrom, callIn, waiting, writtenIn, stateIn}
+use Rattle.reading.specs.Reading.{cellValues}
 use Rattle.evaluation.specs.Answers.{callWords}
 use Rattle.machine.specs.Live.{wordsOfCall, cellOfCall, codeOfCall, Waits}
 use Rattle.machine.specs.Machine.{depthLimit, Here}
@@ -72,7 +73,7 @@ run-in X Y s = record {
 
 pub written-same : (P : Program) (R : List Head) (X Y : List ℕ) → Same X Y writtenCell → Same X Y (suc writtenCell) → writtenIn P R Y ≡ writtenIn P R X
 unfolding writtenIn
-written-same P R X Y a b = ap₂ (λ (x y : ℕ). x + 4294967296 * y) a b
+written-same P R X Y a b = ap₂ (λ (x y : ℕ). x + cellValues * y) a b
 
 pub module-same : (P : Program) (X Y : List ℕ) → length Y ≡ length X → SameIn X Y 0 (length (P .words)) → map (toZ w32) (take (length (P .words)) Y) ≡ map (toZ w32) (take (length (P .words)) X)
 module-same P X Y long s = ap (map (toZ w32)) (part-same X Y long 0 (length (P .words)) (λ c l m. s c l (omega arith)))
@@ -349,7 +350,7 @@ module _ (P : Program) (R : List Head) (X : List ℕ) (d : ℕ) (g : Roomy P X d
 
   -- bytes written, and output whose first bytes are those
   pub written-cells : (a b i steps : ℕ) (out out′ : List ℕ)
-      → stateIn P R (set (set X writtenCell a) (suc writtenCell) b) d i steps out′ ≡ withOutput (take (a + 4294967296 * b) out′) (stateIn P R X d i steps out)
+      → stateIn P R (set (set X writtenCell a) (suc writtenCell) b) d i steps out′ ≡ withOutput (take (a + cellValues * b) out′) (stateIn P R X d i steps out)
   unfolding stateIn writtenIn
   written-cells a b i steps out out′ =
       let Z : List ℕ = set X writtenCell a in
@@ -358,10 +359,10 @@ module _ (P : Program) (R : List Head) (X : List ℕ) (d : ℕ) (g : Roomy P X d
       let o : (c : ℕ) → (c ≡ writtenCell → ⊥) → (c ≡ suc writtenCell → ⊥) → Same X Y c = λ c x y. set-same Z (suc writtenCell) b c y ∙ set-same X writtenCell a c x in
       let ea : getD Y writtenCell 0 ≡ a = set-same Z (suc writtenCell) b writtenCell (λ q. omega arith) ∙ getD-set-same X writtenCell a 0 (omega (arith, g .long)) in
       let eb : getD Y (suc writtenCell) 0 ≡ b = getD-set-same Z (suc writtenCell) b 0 (omega (arith, length-set X writtenCell a, g .long)) in
-      state-eq (stateIn P R Y d i steps out′) (withOutput (take (a + 4294967296 * b) out′) (stateIn P R X d i steps out))
+      state-eq (stateIn P R Y d i steps out′) (withOutput (take (a + cellValues * b) out′) (stateIn P R X d i steps out))
       (module-same P X Y long (λ c l m. o c (λ q. omega (arith, g .words)) (λ q. omega (arith, g .words))))
       (calls-same Y long (λ e m c x y. o c (λ q. omega arith) (λ q. omega arith)) i)
       refl
       (o errnoCell (λ q. omega arith) (λ q. omega arith))
-      (ap₂ (λ (x y : ℕ). take (x + 4294967296 * y) out′) ea eb)
+      (ap₂ (λ (x y : ℕ). take (x + cellValues * y) out′) ea eb)
       (o usedCell (λ q. omega arith) (λ q. omega arith))

@@ -14,34 +14,15 @@ use Rattle.code.specs.Cells.{windowOf, opAt, valueAt, placeAt}
 use Rattle.code.specs.Steps.{Head}
 use Rattle.code.specs.Holds.{Holds}
 use Rattle.code.specs.Windows.{callIn, waiting, writtenIn, stateIn, writtenCell, usedCell}
-use Rattle.evaluation.specs.Answers.{firstError}
+use Rattle.reading.specs.Reading.{cellValues}
+use Rattle.layout.specs.Answers.{firstError, answers}
+use Rattle.layout.specs.Rules.{fellOff, beyondDepth, noRoom}
+-- the sizes of what is lent, and what a step answers
+pub use Rattle.paper.specs.Answer.{depthLimit}
+pub use Rattle.layout.specs.Named.{storeBytes}
+pub use Rattle.layout.specs.Answers.{entered, left, ended, handed}
+unfoldable pub use Rattle.layout.specs.Answers.{lackedBy}
 use Rattle.machine.specs.Live.{Live}
-
--- "16,384 words" of four bytes
-abbrev pub storeBytes : ℕ
-storeBytes = 65536
-
--- live calls at most
-abbrev pub depthLimit : ℕ
-depthLimit = 64
-
--- ---- what a step answers: one number. The next step; or, in the half above, one of these with a step, an ending or a word's index below it; or an error.
-abbrev pub entered : ℕ
-entered = 65536
-
-abbrev pub left : ℕ
-left = 131072
-
-abbrev pub ended : ℕ
-ended = 196608
-
--- 65536 * n lower than an ending from 6 to 8 is
-unfoldable pub lackedBy : (ending : ℕ) → ℕ
-lackedBy n = 262144 + 65536 * (n - 6)
-
--- plain RAISE
-abbrev pub handed : ℕ
-handed = 458752
 
 -- ---- the state
 -- What the next step of the newest call, which has d callers, does.
@@ -57,11 +38,11 @@ module _ (P : Program) (R : List Head) (C : List ℕ) (offset : ℕ → ℕ) (d 
     goesOn : (n : ℕ) → r ≡ pos n → Live P R X′ d n → E ≡ made (stateIn P R X′ d n steps out′) → Comes E r
     enters : (n : ℕ) → r ≡ pos (entered + n) → suc d < depthLimit → Live P R X′ (suc d) n → E ≡ made (stateIn P R X′ (suc d) n steps out′) → Comes E r
     leaves : (c n : ℕ) → r ≡ pos (left + n) → d ≡ suc c → Live P R X′ c n → E ≡ made (stateIn P R X′ c n steps out′) → Comes E r
-    fails : (e : ℕ) → r ≡ pos (firstError + e) → e < 65536 → Live P R X′ d i → E ≡ failing e (stateIn P R X′ d i steps out′) → Comes E r
+    fails : (e : ℕ) → r ≡ pos (firstError + e) → e < answers → Live P R X′ d i → E ≡ failing e (stateIn P R X′ d i steps out′) → Comes E r
     hands : r ≡ pos handed → X′ ≡ X → out′ ≡ out → E ≡ handing (stateIn P R X d i steps out) → Comes E r
-    ends : (n : ℕ) → r ≡ pos (ended + n) → n ≤ 4 → X′ ≡ X → out′ ≡ out → E ≡ ending n (stateIn P R X d i steps out) → Comes E r
+    ends : (n : ℕ) → r ≡ pos (ended + n) → n ≤ fellOff → X′ ≡ X → out′ ≡ out → E ≡ ending n (stateIn P R X d i steps out) → Comes E r
     -- w has the offset of the word that it is at
-    lacks : (n w at : ℕ) → r ≡ pos (lackedBy n + w) → 6 ≤ n → n ≤ 8 → w < 65536 → placeAt C w ≡ offset at → X′ ≡ X → out′ ≡ out → E ≡ lacking n at → Comes E r
+    lacks : (n w at : ℕ) → r ≡ pos (lackedBy n + w) → beyondDepth ≤ n → n ≤ noRoom → w < answers → placeAt C w ≡ offset at → X′ ≡ X → out′ ≡ out → E ≡ lacking n at → Comes E r
 
 -- ---- what a step asks
 -- The code store holds a program, and the value store a state of its run: the window of the newest call is at `base`, its next step is i.
@@ -118,7 +99,7 @@ pub record Steps (text code values out : List ℕ) (base last i : ℕ) : Type 0 
   pub deepest : LastWindow rooms last
   pub written : writtenIn (here .P) (here .R) (wordsOf values) ≤ length out
   -- another one can be counted
-  pub used : getD (wordsOf values) usedCell 0 + 1 < 4294967296
+  pub used : getD (wordsOf values) usedCell 0 + 1 < cellValues
 
 pub record Stepped (text code values after inputs out out′ : List ℕ) (base last i : ℕ) (r : ℤ) : Type 0 where
   pub long : length after ≡ length values

@@ -133,11 +133,15 @@ module _ (a b : ℤ) (ha : SFits w64 a) (hb : SFits w64 b) (hz : ofZ w64 b ≡ 0
     pub divisor-fits : SFits w64 (quotZ (read a) (read b))
     divisor-fits = rw (toZ-ofZ ha, toZ-ofZ hb) quotient-fits
 
+    -- either operation, with its sides as they were read
+    done : (op : ℤ → ℤ → ℤ) → SFits w64 (op a b) → (R : paper.Range) (n : Num) → valueOf n ≡ ranged R (read (op (read a) (read b))) → valueOf n ≡ ranged R (op a b)
+    done op f R n g = rw (toZ-ofZ ha, toZ-ofZ hb, toZ-ofZ f) at g
+
     pub divide-done : (R : paper.Range) (n : Num) → valueOf n ≡ ranged R (read (quotZ (read a) (read b))) → valueOf n ≡ divide R a b
-    divide-done R n g = (rw (toZ-ofZ ha, toZ-ofZ hb, toZ-ofZ quotient-fits) at g) ∙ sym (divide-is R a b not-zero)
+    divide-done R n g = done quotZ quotient-fits R n g ∙ sym (divide-is R a b not-zero)
 
     pub modulo-done : (R : paper.Range) (n : Num) → valueOf n ≡ ranged R (read (remZ (read a) (read b))) → valueOf n ≡ modulo R a b
-    modulo-done R n g = (rw (toZ-ofZ ha, toZ-ofZ hb, toZ-ofZ (rem-fits a b ha)) at g) ∙ sym (modulo-is R a b not-zero)
+    modulo-done R n g = done remZ (rem-fits a b ha) R n g ∙ sym (modulo-is R a b not-zero)
 
 -- ---- order
 

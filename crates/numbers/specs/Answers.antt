@@ -1,6 +1,7 @@
 -- What the enums and structs of this crate stand for in the paper, and what each function promises.
 use mathlib.Core.Path.{_≡_}
 use mathlib.Core.Bool.{Bool, true, false}
+use mathlib.Core.List.{List, [], _∷_}
 use Prim.Native.Nat.{ℕ}
 use lib.IntN.{ℤ, natAbs}
 use lib.Signed.{ltZ}
@@ -23,6 +24,10 @@ valueOf (Error e) = paper.error e
 -- r is the range of num.
 abbrev pub NumRange : Range → Type 0
 NumRange r = rangeOf r ≡ paper.num
+
+-- the errors that have a name
+abbrev pub errorNumbers : List ℕ
+errorNumbers = paper.overflow ∷ paper.divZero ∷ paper.outOfBound ∷ paper.illRaise ∷ []
 
 -- n is z, held to the range r. In the same way n is the exact sum of a and b, held to r, and so on: what the paper gives.
 abbrev pub Held : (r : Range) (z : ℤ) (n : Num) → Type 0

@@ -2,13 +2,23 @@
 // ends of the range. A result that leaves 64 bits lies outside every such range, so it is an overflow.
 ghost use mathlib.Core.Path.{_≡_};
 ghost use lib.IntN.{_+ℤ_, _-ℤ_, _*ℤ_};
-ghost use Rattle.numbers.specs.Answers.{NumRange, Held, Sum, Difference, Product, Opposite, Quotient, Remainder, Size, Compared, NumberOf, WordOf};
+ghost use Rattle.numbers.specs.Answers.{NumRange, errorNumbers, Held, Sum, Difference, Product, Opposite, Quotient, Remainder, Size, Compared, NumberOf, WordOf};
 ghost use Rattle.numbers.specs.Inner.{fits64, Limit};
 
-// The numbers of the errors that arithmetic raises.
+// The numbers of the paper's errors. Those that arithmetic raises:
 pub const ERR_OVERFLOW: u32 = 1001;
 
 pub const ERR_DIVZERO: u32 = 1002;
+
+// an index that its array has no element for, and RAISE of a number that is none of an error's
+pub const ERR_OUTOFBND: u32 = 1003;
+
+pub const ERR_ILLRAISE: u32 = 1004;
+
+// The ends of num.
+pub const LOWEST_NUM: i64 = -8388607;
+
+pub const HIGHEST_NUM: i64 = 8388608;
 
 // The ends of an i64.
 const LOWEST: i64 = -9223372036854775808;
@@ -51,9 +61,16 @@ pub fn num_range() -> Range
     ensures { λ r. ⌜ NumRange r ⌝ }
 {
     Range {
-        low: -8388607,
-        high: 8388608,
+        low: LOWEST_NUM,
+        high: HIGHEST_NUM,
     }
+}
+
+// The numbers of the errors, as the paper names them: a wrong one breaks this contract.
+pub fn errors() -> [u32; 4]
+    ensures { λ r. ⌜ r ≡ errorNumbers ⌝ }
+{
+    [ERR_OVERFLOW, ERR_DIVZERO, ERR_OUTOFBND, ERR_ILLRAISE]
 }
 
 // A number held to the range.

@@ -7,6 +7,7 @@ use lib.IntN.{ℤ}
 use mir.Syntax.{w32}
 use mir.Val.{SFits, toZ, ofZ}
 use Rattle.cells.specs.Words.{wordsOf}
+use Rattle.layout.specs.Parts.{linkPart}
 
 -- what a cell counts to, the value in it above its op, and a place or a link
 abbrev pub cellValues : ℕ
@@ -16,7 +17,7 @@ abbrev pub valueEnd : ℕ
 valueEnd = 16777216
 
 abbrev pub halfEnd : ℕ
-halfEnd = 65536
+halfEnd = linkPart
 
 -- A part of a cell that was read.
 pub record Part (bound is r : ℕ) : Type 0 where

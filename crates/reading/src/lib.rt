@@ -7,11 +7,7 @@ ghost use mir.Val.{SFits};
 ghost use Rattle.cells.specs.Words.{wordsOf};
 ghost use Rattle.code.specs.Cells.{headAt, valueAt, placeAt, linkAt};
 ghost use Rattle.reading.specs.Reading.{valueEnd, halfEnd, Part, Loaded, Stored};
-
-// a head has its value above its op, a tail its link above its place
-const OPS: u32 = 256;
-
-const PLACES: u32 = 65536;
+use layout::parts;
 
 pub fn head(code: &[u8], i: usize) -> u32
     requires { ⌜ i * 8 + 8 ≤ length (now code) ⌝ }
@@ -24,21 +20,21 @@ pub fn value(code: &[u8], i: usize) -> usize
     requires { ⌜ i * 8 + 8 ≤ length (now code) ⌝ }
     ensures { λ r. ⌜ Part valueEnd (valueAt (wordsOf (now (code .entry))) i) r ⌝ }
 {
-    (cells::get(code, i * 2) / OPS) as usize
+    (cells::get(code, i * 2) / parts::VALUE) as usize
 }
 
 pub fn link(code: &[u8], i: usize) -> usize
     requires { ⌜ i * 8 + 8 ≤ length (now code) ⌝ }
     ensures { λ r. ⌜ Part halfEnd (linkAt (wordsOf (now (code .entry))) i) r ⌝ }
 {
-    (cells::get(code, i * 2 + 1) / PLACES) as usize
+    (cells::get(code, i * 2 + 1) / parts::LINK) as usize
 }
 
 pub fn place(code: &[u8], i: usize) -> usize
     requires { ⌜ i * 8 + 8 ≤ length (now code) ⌝ }
     ensures { λ r. ⌜ Part halfEnd (placeAt (wordsOf (now (code .entry))) i) r ⌝ }
 {
-    (cells::get(code, i * 2 + 1) % PLACES) as usize
+    (cells::get(code, i * 2 + 1) % parts::LINK) as usize
 }
 
 pub fn load(values: &[u8], i: usize) -> i64

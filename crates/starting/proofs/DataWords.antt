@@ -21,11 +21,11 @@ use Rattle.code.specs.Cells.{headAt, opAt, placeAt, linkAt}
 use Rattle.code.specs.Spans.{bias}
 use Rattle.code.specs.Steps.{parts, aDatum, theParameters, constantAt}
 use Rattle.code.specs.Holds.{dataIn}
-use Rattle.code.specs.Windows.{stepsCell}
+use Rattle.code.specs.Windows.{stepsCell, endsCell}
 use Rattle.code.proofs.Options.{none-some, same-some, went}
 use Rattle.evaluation.proofs.Places.{op-in}
 use Rattle.reading.specs.Reading.{halfEnd, Part, cellValues}
-use Rattle.starting.specs.Starting.{Holding, Wrote, Filled, Idled, Starts, Started}
+use Rattle.starting.specs.Starting.{Holding, Wrote, Filled, Idle, Idled, Starts, Started}
 use Rattle.machine.proofs.Actions.{first-is, second-is}
 use Rattle.machine.proofs.Hops.{hops, hops-on, hops-end, hops-less}
 use Rattle.starting.proofs.Writing.{wrote-none, wrote-more, holding-same}
@@ -38,12 +38,12 @@ module _ (C : List ℕ) where
     pub is : xs ≡ replicate (placeAt C i) (constantAt C i) ++ rest
 
   pub record LastDatum (i : ℕ) (xs : List ℤ) (opens : ℕ) : Type 0 where
-    pub op : opAt C i ≡ 161
+    pub op : opAt C i ≡ theParameters
     pub is : xs ≡ []
     pub opens-is : opens ≡ i
 
   module _ (f i : ℕ) (xs : List ℤ) (opens : ℕ) (e : dataIn C (suc f) i ≡ some (xs, opens)) where
-    pub datum : opAt C i ≡ 160 → Datum f i xs opens
+    pub datum : opAt C i ≡ aDatum → Datum f i xs opens
     unfolding dataIn
     datum h =
         let g = went (dataIn C f (linkAt C i)) (λ r. some (replicate (placeAt C i) (constantAt C i) ++ r .0, r .1)) (xs, opens) (rw (eq-eqb (opAt C i) aDatum h, dataIn) at e) in
@@ -54,7 +54,7 @@ module _ (C : List ℕ) where
           is = first-is b (g .a .1) (xs, opens) (g .next);
         }
 
-    pub last-datum : (opAt C i ≡ 160 → ⊥) → LastDatum i xs opens
+    pub last-datum : (opAt C i ≡ aDatum → ⊥) → LastDatum i xs opens
     unfolding dataIn
     last-datum h =
         let d = rw (ne-eqb (opAt C i) aDatum h, dataIn) at e in
@@ -68,7 +68,7 @@ module _ (C : List ℕ) where
   pub data-op : (f i : ℕ) (xs : List ℤ) (opens : ℕ) → dataIn C f i ≡ some (xs, opens) → opAt C i ≡ 0 → ⊥
   unfolding dataIn
   data-op zero i xs opens e z = none-some (xs, opens) e
-  data-op (suc f) i xs opens e z = by-same (opAt C i) 160 (λ q. omega arith) (λ q. omega (arith, last-datum f i xs opens e q .op))
+  data-op (suc f) i xs opens e z = by-same (opAt C i) aDatum (λ q. omega arith) (λ q. omega (arith, last-datum f i xs opens e q .op))
 
   -- ---- how many are left
   abbrev pub isDatum : ℕ → Bool
@@ -81,11 +81,11 @@ module _ (C : List ℕ) where
   unfolding dataIn
   data-hops zero i xs opens e = none-some (xs, opens) e
   data-hops (suc f) i xs opens e =
-      by-same (opAt C i) 160
+      by-same (opAt C i) aDatum
       (λ q. let d = datum f i xs opens e q in omega (arith, hops-on isDatum (linkAt C) f i (eq-eqb (opAt C i) aDatum q), data-hops f (linkAt C i) (d .rest) opens (d .more)))
       (λ q. omega (arith, hops-end isDatum (linkAt C) f i (ne-eqb (opAt C i) aDatum q)))
 
-  pub data-less : (f i : ℕ) (xs : List ℤ) (opens : ℕ) → dataIn C (suc f) i ≡ some (xs, opens) → suc f ≤ parts → opAt C i ≡ 160 → dataLeft (linkAt C i) < dataLeft i
+  pub data-less : (f i : ℕ) (xs : List ℤ) (opens : ℕ) → dataIn C (suc f) i ≡ some (xs, opens) → suc f ≤ parts → opAt C i ≡ aDatum → dataLeft (linkAt C i) < dataLeft i
   data-less f i xs opens e l q =
       let d = datum f i xs opens e q in
       hops-less isDatum (linkAt C) f parts i (eq-eqb (opAt C i) aDatum q) (data-hops f (linkAt C i) (d .rest) opens (d .more)) (omega arith)
@@ -133,21 +133,21 @@ module _ (code before now : List ℕ) (first at q n w : ℕ) (g : Starting code 
   count : length (g .asks .starts) ≡ length (g .done) + length (g .rest)
   count = ap length (g .is) ∙ length-append (g .done) (g .rest)
 
-  pub number-fits : SFits w64 (toZ w64 (w / 256) -ℤ pos 8388607)
+  pub number-fits : SFits w64 (toZ w64 (w / 256) -ℤ pos bias)
   number-fits =
       rw (toZ-pos w64 (w / 256) (omega (arith, g .small)))
       (minus-cases (λ z. SFits w64 z) (w / 256) bias (λ h. record { sfits = omega arith }) (λ h. record { sfits = omega (arith, g .small) }))
 
-  number-is : read (toZ w64 (w / 256) -ℤ pos 8388607) ≡ constantAt (wordsOf code) q
+  number-is : read (toZ w64 (w / 256) -ℤ pos bias) ≡ constantAt (wordsOf code) q
   unfolding constantAt
   number-is = toZ-ofZ number-fits ∙ ap (λ (z : ℤ). z -ℤ pos bias) (toZ-pos w64 (w / 256) (omega (arith, g .small)) ∙ ap (λ (x : ℕ). pos (x / 256)) (g .head))
 
-  pub number-small : SFits w32 (read (toZ w64 (w / 256) -ℤ pos 8388607))
+  pub number-small : SFits w32 (read (toZ w64 (w / 256) -ℤ pos bias))
   number-small =
       rw (toZ-ofZ number-fits, toZ-pos w64 (w / 256) (omega (arith, g .small)))
       (minus-cases (λ z. SFits w32 z) (w / 256) bias (λ h. record { sfits = omega arith }) (λ h. record { sfits = omega (arith, g .small) }))
 
-  module _ (t : w % 256 ≡ 160) where
+  module _ (t : w % 256 ≡ aDatum) where
     here : Datum (wordsOf code) (g .f) q (g .rest) (g .asks .opens)
     here = datum (wordsOf code) (g .f) q (g .rest) (g .asks .opens) (g .left) (sym op-is ∙ t)
 
@@ -180,11 +180,11 @@ module _ (code before now : List ℕ) (first at q n w : ℕ) (g : Starting code 
           subst (λ (j : ℕ). dataLeft (wordsOf code) j < dataLeft (wordsOf code) q) (sym (el .same))
           (data-less (wordsOf code) (g .f) q (g .rest) (g .asks .opens) (g .left) (g .fuel) (sym op-is ∙ t))
 
-      module _ (p : ℕ) (ep : Part halfEnd (placeAt (wordsOf code) q) p) (after : List ℕ) (n′ : ℕ) (fd : Filled now after n p (read (toZ w64 (w / 256) -ℤ pos 8388607)) n′) where
+      module _ (p : ℕ) (ep : Part halfEnd (placeAt (wordsOf code) q) p) (after : List ℕ) (n′ : ℕ) (fd : Filled now after n p (read (toZ w64 (w / 256) -ℤ pos bias)) n′) where
         block : List ℤ
         block = replicate (placeAt (wordsOf code) q) (constantAt (wordsOf code) q)
 
-        block-is : replicate p (read (toZ w64 (w / 256) -ℤ pos 8388607)) ≡ block
+        block-is : replicate p (read (toZ w64 (w / 256) -ℤ pos bias)) ≡ block
         unfolding block
         block-is = ap₂ (λ (k : ℕ) (z : ℤ). replicate k z) (ep .same) number-is
 
@@ -207,7 +207,7 @@ module _ (code before now : List ℕ) (first at q n w : ℕ) (g : Starting code 
               small = b;
             }
 
-  module _ (t : w % 256 ≡ 160 → ⊥) where
+  module _ (t : w % 256 ≡ aDatum → ⊥) where
     last : LastDatum (wordsOf code) q (g .rest) (g .asks .opens)
     last = last-datum (wordsOf code) (g .f) q (g .rest) (g .asks .opens) (g .left) (λ z. t (op-is ∙ z))
 
@@ -218,7 +218,7 @@ module _ (code before now : List ℕ) (first at q n w : ℕ) (g : Starting code 
       fors-are : p ≡ placeAt (wordsOf code) (g .asks .opens)
       fors-are = ep .same ∙ ap (placeAt (wordsOf code)) (sym (last .opens-is))
 
-      pub fors-room : (n + p + 128) * 4 ≤ length now
+      pub fors-room : (n + p + stepsCell) * 4 ≤ length now
       fors-room = omega (arith, g .next, g .wrote .long, g .asks .room, ap length starts-are, fors-are)
 
       module _ (after : List ℕ) (id : Idled now after n p) where
@@ -239,10 +239,10 @@ module _ (code before now : List ℕ) (first at q n w : ℕ) (g : Starting code 
               (subst (Holding (wordsOf after) at) (sym starts-are)
               (holding-same (wordsOf now) (wordsOf after) at (g .done) cells-long (λ c x y. id .below c (omega (arith, g .next))) (g .wrote .holds)));
           idle = λ starts opens j e h.
-              subst (λ (y : List ℤ × ℕ). j < placeAt (wordsOf code) (y .1) → (getD (wordsOf after) (at + length (y .0) + j) 0 ≡ 0) × (getD (wordsOf after) (at + length (y .0) + j + 64) 0 ≡ 0) × (getD (wordsOf after) (at + length (y .0) + j + 128) 0 ≡ 0)) (same-reading starts opens e)
+              subst (λ (y : List ℤ × ℕ). j < placeAt (wordsOf code) (y .1) → Idle (wordsOf after) (at + length (y .0) + j)) (same-reading starts opens e)
               (λ k.
               let r : j < p = omega (arith, fors-are) in
-              subst (λ (x : ℕ). (getD (wordsOf after) (x + j) 0 ≡ 0) × (getD (wordsOf after) (x + j + 64) 0 ≡ 0) × (getD (wordsOf after) (x + j + 128) 0 ≡ 0)) n-is (id .zeros j r, id .ends j r, id .steps j r)) h;
+              subst (λ (x : ℕ). Idle (wordsOf after) (x + j)) n-is (id .zeros j r, id .ends j r, id .steps j r)) h;
           below = λ c h. id .below c (omega (arith, g .next)) ∙ g .wrote .kept c (λ x y. omega arith);
           above = λ starts opens c e h.
               subst (λ (y : List ℤ × ℕ). at + length (y .0) + placeAt (wordsOf code) (y .1) + stepsCell ≤ c → getD (wordsOf after) c 0 ≡ getD (wordsOf before) c 0) (same-reading starts opens e)

@@ -14,7 +14,7 @@ use Rattle.laws.proofs.Tests.{by-less, by-same, by-last}
 use Rattle.cells.specs.Words.{wordsOf}
 use Rattle.cells.proofs.Laws.{length-words}
 use Rattle.numbers.proofs.Whole.{read}
-use Rattle.code.specs.Windows.{stepsCell}
+use Rattle.code.specs.Windows.{stepsCell, endsCell}
 use Rattle.reading.specs.Reading.{Stored}
 use Rattle.starting.specs.Starting.{Holding, Wrote, Filled, Idled}
 use Rattle.machine.proofs.Agreeing.{SameIn, set-same, part-same}
@@ -146,17 +146,17 @@ module _ (before now : List ℕ) (at fors k : ℕ) (i : Idling before now at for
   idle-inside = omega (arith, i .idled .long)
 
   module _ (one : List ℕ) (s1 : Stored now one (at + k) (pos 0)) where
-    pub idle-inside-ends : (at + k + 64) * 4 + 4 ≤ length one
+    pub idle-inside-ends : (at + k + endsCell) * 4 + 4 ≤ length one
     idle-inside-ends = omega (arith, i .idled .long, s1 .long)
 
-    module _ (two : List ℕ) (s2 : Stored one two (at + k + 64) (pos 0)) where
-      pub idle-inside-steps : (at + k + 128) * 4 + 4 ≤ length two
+    module _ (two : List ℕ) (s2 : Stored one two (at + k + endsCell) (pos 0)) where
+      pub idle-inside-steps : (at + k + stepsCell) * 4 + 4 ≤ length two
       idle-inside-steps = omega (arith, i .idled .long, s1 .long, s2 .long)
 
-      module _ (three : List ℕ) (s3 : Stored two three (at + k + 128) (pos 0)) where
-        words-are : wordsOf three ≡ set (set (set (wordsOf now) (at + k) 0) (at + k + 64) 0) (at + k + 128) 0
+      module _ (three : List ℕ) (s3 : Stored two three (at + k + stepsCell) (pos 0)) where
+        words-are : wordsOf three ≡ set (set (set (wordsOf now) (at + k) 0) (at + k + endsCell) 0) (at + k + stepsCell) 0
         words-are =
-            s3 .words ∙ ap (λ (Y : List ℕ). set Y (at + k + 128) 0) (s2 .words ∙ ap (λ (Y : List ℕ). set Y (at + k + 64) 0) (s1 .words))
+            s3 .words ∙ ap (λ (Y : List ℕ). set Y (at + k + stepsCell) 0) (s2 .words ∙ ap (λ (Y : List ℕ). set Y (at + k + endsCell) 0) (s1 .words))
 
         X : List ℕ
         X = wordsOf now
@@ -170,31 +170,31 @@ module _ (before now : List ℕ) (at fors k : ℕ) (i : Idling before now at for
         unfolding X
         was c h =
             ap (λ (Y : List ℕ). getD Y c 0) words-are
-            ∙ zero-stays (set (set X (at + k) 0) (at + k + 64) 0) (at + k + 128) c (zero-stays (set X (at + k) 0) (at + k + 64) c (zero-stays X (at + k) c h))
+            ∙ zero-stays (set (set X (at + k) 0) (at + k + endsCell) 0) (at + k + stepsCell) c (zero-stays (set X (at + k) 0) (at + k + endsCell) c (zero-stays X (at + k) c h))
 
-        other : (c : ℕ) → (c ≡ at + k → ⊥) → (c ≡ at + k + 64 → ⊥) → (c ≡ at + k + 128 → ⊥) → getD (wordsOf three) c 0 ≡ getD X c 0
+        other : (c : ℕ) → (c ≡ at + k → ⊥) → (c ≡ at + k + endsCell → ⊥) → (c ≡ at + k + stepsCell → ⊥) → getD (wordsOf three) c 0 ≡ getD X c 0
         unfolding X
         other c a b d =
             ap (λ (Y : List ℕ). getD Y c 0) words-are
-            ∙ set-same (set (set X (at + k) 0) (at + k + 64) 0) (at + k + 128) 0 c d ∙ set-same (set X (at + k) 0) (at + k + 64) 0 c b ∙ set-same X (at + k) 0 c a
+            ∙ set-same (set (set X (at + k) 0) (at + k + endsCell) 0) (at + k + stepsCell) 0 c d ∙ set-same (set X (at + k) 0) (at + k + endsCell) 0 c b ∙ set-same X (at + k) 0 c a
 
         new : getD (wordsOf three) (at + k) 0 ≡ 0
         unfolding X
         new =
             ap (λ (Y : List ℕ). getD Y (at + k) 0) words-are
-            ∙ zero-stays (set (set X (at + k) 0) (at + k + 64) 0) (at + k + 128) (at + k) (zero-stays (set X (at + k) 0) (at + k + 64) (at + k) (zero-in X (at + k) (at + k) (omega (arith, long-is))))
+            ∙ zero-stays (set (set X (at + k) 0) (at + k + endsCell) 0) (at + k + stepsCell) (at + k) (zero-stays (set X (at + k) 0) (at + k + endsCell) (at + k) (zero-in X (at + k) (at + k) (omega (arith, long-is))))
 
-        new-end : getD (wordsOf three) (at + k + 64) 0 ≡ 0
+        new-end : getD (wordsOf three) (at + k + endsCell) 0 ≡ 0
         unfolding X
         new-end =
-            ap (λ (Y : List ℕ). getD Y (at + k + 64) 0) words-are
-            ∙ zero-stays (set (set X (at + k) 0) (at + k + 64) 0) (at + k + 128) (at + k + 64) (zero-in (set X (at + k) 0) (at + k + 64) (at + k + 64) (omega (arith, long-is, length-set X (at + k) 0)))
+            ap (λ (Y : List ℕ). getD Y (at + k + endsCell) 0) words-are
+            ∙ zero-stays (set (set X (at + k) 0) (at + k + endsCell) 0) (at + k + stepsCell) (at + k + endsCell) (zero-in (set X (at + k) 0) (at + k + endsCell) (at + k + endsCell) (omega (arith, long-is, length-set X (at + k) 0)))
 
-        new-step : getD (wordsOf three) (at + k + 128) 0 ≡ 0
+        new-step : getD (wordsOf three) (at + k + stepsCell) 0 ≡ 0
         unfolding X
         new-step =
-            ap (λ (Y : List ℕ). getD Y (at + k + 128) 0) words-are
-            ∙ zero-in (set (set X (at + k) 0) (at + k + 64) 0) (at + k + 128) (at + k + 128) (omega (arith, long-is, length-set (set X (at + k) 0) (at + k + 64) 0, length-set X (at + k) 0))
+            ap (λ (Y : List ℕ). getD Y (at + k + stepsCell) 0) words-are
+            ∙ zero-in (set (set X (at + k) 0) (at + k + endsCell) 0) (at + k + stepsCell) (at + k + stepsCell) (omega (arith, long-is, length-set (set X (at + k) 0) (at + k + endsCell) 0, length-set X (at + k) 0))
 
         pub idle-on : Idling before three at fors (k + 1)
         unfolding X
@@ -203,8 +203,8 @@ module _ (before now : List ℕ) (at fors k : ℕ) (i : Idling before now at for
           idled = record {
             long = s3 .long ∙ s2 .long ∙ s1 .long ∙ i .idled .long;
             zeros = λ j h. by-last j k (omega arith) (λ q. ap (λ (n : ℕ). getD (wordsOf three) (at + n) 0) q ∙ new) (λ l. was (at + j) (i .idled .zeros j l));
-            ends = λ j h. by-last j k (omega arith) (λ q. ap (λ (n : ℕ). getD (wordsOf three) (at + n + 64) 0) q ∙ new-end) (λ l. was (at + j + 64) (i .idled .ends j l));
-            steps = λ j h. by-last j k (omega arith) (λ q. ap (λ (n : ℕ). getD (wordsOf three) (at + n + 128) 0) q ∙ new-step) (λ l. was (at + j + 128) (i .idled .steps j l));
+            ends = λ j h. by-last j k (omega arith) (λ q. ap (λ (n : ℕ). getD (wordsOf three) (at + n + endsCell) 0) q ∙ new-end) (λ l. was (at + j + endsCell) (i .idled .ends j l));
+            steps = λ j h. by-last j k (omega arith) (λ q. ap (λ (n : ℕ). getD (wordsOf three) (at + n + stepsCell) 0) q ∙ new-step) (λ l. was (at + j + stepsCell) (i .idled .steps j l));
             below = λ c h. other c (λ q. omega arith) (λ q. omega arith) (λ q. omega arith) ∙ i .idled .below c h;
             above = λ c h. other c (λ q. omega arith) (λ q. omega arith) (λ q. omega arith) ∙ i .idled .above c (omega arith);
           };

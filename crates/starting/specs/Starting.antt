@@ -11,7 +11,7 @@ use Rattle.cells.specs.Words.{wordsOf}
 use Rattle.code.specs.Cells.{placeAt}
 use Rattle.code.specs.Steps.{parts}
 use Rattle.code.specs.Holds.{dataIn}
-use Rattle.code.specs.Windows.{stepsCell}
+use Rattle.code.specs.Windows.{stepsCell, endsCell}
 
 -- ---- cells that hold numbers
 -- The cells from a on hold these numbers.
@@ -29,12 +29,16 @@ pub record Filled (before after : List ℕ) (at count : ℕ) (v : ℤ) (r : ℕ)
   pub next : r ≡ at + count
 
 -- ---- the words of a new call
+-- a FOR variable's cell, and those of its loop
+abbrev pub Idle : (X : List ℕ) (cell : ℕ) → Type 0
+Idle X c = (getD X c 0 ≡ 0) × (getD X (c + endsCell) 0 ≡ 0) × (getD X (c + stepsCell) 0 ≡ 0)
+
 -- The FOR variables from a cell on are 0, and so are the cells of their loops; cells before them and behind are as they were.
 pub record Idled (before after : List ℕ) (at fors : ℕ) : Type 0 where
   pub long : length after ≡ length before
   pub zeros : (j : ℕ) → j < fors → getD (wordsOf after) (at + j) 0 ≡ 0
-  pub ends : (j : ℕ) → j < fors → getD (wordsOf after) (at + j + 64) 0 ≡ 0
-  pub steps : (j : ℕ) → j < fors → getD (wordsOf after) (at + j + 128) 0 ≡ 0
+  pub ends : (j : ℕ) → j < fors → getD (wordsOf after) (at + j + endsCell) 0 ≡ 0
+  pub steps : (j : ℕ) → j < fors → getD (wordsOf after) (at + j + stepsCell) 0 ≡ 0
   pub below : (c : ℕ) → c < at → getD (wordsOf after) c 0 ≡ getD (wordsOf before) c 0
   pub above : (c : ℕ) → at + fors + stepsCell ≤ c → getD (wordsOf after) c 0 ≡ getD (wordsOf before) c 0
 
@@ -50,7 +54,7 @@ pub record Started (code before after : List ℕ) (first at : ℕ) : Type 0 wher
   pub long : length after ≡ length before
   pub is : (starts : List ℤ) (opens : ℕ) → dataIn (wordsOf code) parts first ≡ some (starts, opens) → Holding (wordsOf after) at starts
   pub idle : (starts : List ℤ) (opens j : ℕ) → dataIn (wordsOf code) parts first ≡ some (starts, opens) → j < placeAt (wordsOf code) opens →
-      (getD (wordsOf after) (at + length starts + j) 0 ≡ 0) × (getD (wordsOf after) (at + length starts + j + 64) 0 ≡ 0) × (getD (wordsOf after) (at + length starts + j + 128) 0 ≡ 0)
+      Idle (wordsOf after) (at + length starts + j)
   pub below : (c : ℕ) → c < at → getD (wordsOf after) c 0 ≡ getD (wordsOf before) c 0
   pub above : (starts : List ℤ) (opens c : ℕ) → dataIn (wordsOf code) parts first ≡ some (starts, opens) → at + length starts + placeAt (wordsOf code) opens + stepsCell ≤ c →
       getD (wordsOf after) c 0 ≡ getD (wordsOf before) c 0

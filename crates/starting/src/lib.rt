@@ -5,24 +5,14 @@ ghost use mir.Syntax.{w32};
 ghost use mir.Val.{SFits};
 ghost use Rattle.code.specs.Windows.{stepsCell};
 ghost use Rattle.starting.specs.Starting.{Filled, Idled, Starts, Started};
+use layout::cells::ENDS;
+use layout::cells::STEPS;
+use layout::ops;
+use layout::parts;
 use reading::head;
 use reading::link;
 use reading::place;
 use reading::put;
-
-// where the loop of a word of the call ends, and its step, counted from the word's cell
-const ENDS: usize = 64;
-
-const STEPS: usize = 128;
-
-// a head has its value above its op
-const OPS: u32 = 256;
-
-// VAR or CONST of a routine
-const DATUM: u32 = 160;
-
-// how far the numbers that a head holds are from those they stand for
-const BIAS: i64 = 8388607;
 
 // Makes `count` cells from `at` on hold v: the cell behind them. Most data are one word, for which a loop is long.
 fn fill(values: &mut [u8], at: usize, count: usize, v: i64) -> usize
@@ -63,8 +53,13 @@ pub fn start_words<'a>(code: &'a [u8], values: &'a mut [u8], first: usize, at: u
     let mut q = first;
     let mut n = at;
     let mut w = head(code, q);
-    while w % OPS == DATUM {
-        n = fill(values, n, place(code, q), (w / OPS) as i64 - BIAS);
+    while w % parts::VALUE == ops::DATUM {
+        n = fill(
+            values,
+            n,
+            place(code, q),
+            (w / parts::VALUE) as i64 - parts::SIGNED_BIAS,
+        );
         q = link(code, q);
         w = head(code, q);
     }

@@ -18,6 +18,7 @@ use Rattle.paper.specs.Numbers.{value, error, outOfBound}
 use Rattle.paper.specs.Terms.{Ref, ofModule, ofRoutine, onward, Term, at, fails, locate, worth}
 use Rattle.cells.specs.Words.{wordsOf}
 use Rattle.numbers.proofs.Whole.{read}
+use Rattle.code.specs.Cells.{firstWindow}
 use Rattle.code.proofs.Spanning.{span-grows}
 use Rattle.evaluation.specs.Answers.{firstError, Counts, callWords, termOf, memoryOf, Stores, Evaluated}
 use Rattle.evaluation.specs.Parts.{addresses}
@@ -38,12 +39,12 @@ module _ (m n base : ℕ) where
   fits-onward (ofModule j) k size h l = omega arith
   fits-onward (ofRoutine j) k size h l = omega arith
 
-  pub size-most : (a : Ref) (size : ℕ) → RefFits m n a size → m ≤ 1024 → n ≤ callWords → size ≤ 1024
+  pub size-most : (a : Ref) (size : ℕ) → RefFits m n a size → m ≤ firstWindow → n ≤ callWords → size ≤ 1024
   unfolding RefFits
   size-most (ofModule j) size h p q = omega arith
   size-most (ofRoutine j) size h p q = omega arith
 
-  pub cell-most : (a : Ref) (size : ℕ) → RefFits m n a size → m ≤ 1024 → n ≤ callWords → refCell base a + size ≤ base + 1024
+  pub cell-most : (a : Ref) (size : ℕ) → RefFits m n a size → m ≤ firstWindow → n ≤ callWords → refCell base a + size ≤ base + 1024
   unfolding RefFits refCell
   cell-most (ofModule j) size h p q = omega arith
   cell-most (ofRoutine j) size h p q = omega arith

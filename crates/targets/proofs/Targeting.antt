@@ -20,11 +20,12 @@ use Rattle.paper.specs.Terms.{Ref, ofModule, ofRoutine, Term, Located, at, fail
 use Rattle.paper.specs.Steps.{Spot, scalar, elementOf}
 use Rattle.cells.specs.Words.{wordsOf}
 use Rattle.numbers.proofs.Whole.{read}
-use Rattle.code.specs.Cells.{headAt, opAt, valueAt, linkAt}
+use Rattle.code.specs.Cells.{headAt, opAt, valueAt, linkAt, firstWindow}
 use Rattle.code.specs.Spans.{firstIn, sizeIn, termIn}
 use Rattle.code.specs.Steps.{Head, aTarget, scalarIn, targetIn}
 use Rattle.code.proofs.Options.{guarded, went}
 use Rattle.code.proofs.Spanning.{span-grows}
+use Rattle.layout.specs.Answers.{answers}
 use Rattle.evaluation.specs.Answers.{firstError, Counts, callWords, termOf, memoryOf, Stores}
 use Rattle.evaluation.specs.Parts.{addresses}
 use Rattle.evaluation.proofs.Places.{link-in}
@@ -146,7 +147,7 @@ told-less m n base l r (lost e q f z) h =
     let t : ltb (firstError + e) firstError ≡ true = subst (λ (y : ℤ). ltZ y (pos firstError) ≡ true) z h in
     absurd (omega (arith, ltb-true (firstError + e) firstError t))
 
-pub told-error : (m n base : ℕ) (l : Located) (r : ℤ) → m ≤ 1024 → n ≤ callWords → base < 1048576 → Tells m n base l r → ltZ r (pos firstError) ≡ false → (e : ℕ) × (l ≡ fails e) × (e < 65536) × (r ≡ pos (firstError + e))
+pub told-error : (m n base : ℕ) (l : Located) (r : ℤ) → m ≤ firstWindow → n ≤ callWords → base < 1048576 → Tells m n base l r → ltZ r (pos firstError) ≡ false → (e : ℕ) × (l ≡ fails e) × (e < answers) × (r ≡ pos (firstError + e))
 told-error m n base l r x y b (lost e q f z) h = (e, q, f, z)
 told-error m n base l r x y b (found w q f z) h =
     let t : ltb (refCell base w) firstError ≡ false = subst (λ (y : ℤ). ltZ y (pos firstError) ≡ false) z h in
@@ -157,7 +158,7 @@ module _ (code values : List ℕ) (base i : ℕ) (st : Stores values base) (t : 
   op-is : w % 256 ≡ opAt (wordsOf code) i
   op-is = ap (λ (x : ℕ). x % 256) ew
 
-  pub target-module : w % 256 ≡ 128 → w < cellValues → Spotted code values base i (toZ w64 (w / 256))
+  pub target-module : w % 256 ≡ aTarget → w < cellValues → Spotted code values base i (toZ w64 (w / 256))
   target-module h b =
       rw (toZ-pos w64 (w / 256) (omega arith)) (record {
         is = λ c f x R s j e.
@@ -165,7 +166,7 @@ module _ (code values : List ℕ) (base i : ℕ) (st : Stores values base) (t : 
             (word-of-module (c .m) (c .n) f x R (wordsOf code) base aTarget i s j e (sym op-is ∙ h) (w / 256) (ap (λ (x : ℕ). x / 256) ew));
       })
 
-  pub target-call : (w % 256 ≡ 128 → ⊥) → w % 256 ≤ 129 → w < cellValues → length values < addresses → Spotted code values base i (toZ w64 (base + w / 256))
+  pub target-call : (w % 256 ≡ aTarget → ⊥) → w % 256 ≤ aTarget + 1 → w < cellValues → length values < addresses → Spotted code values base i (toZ w64 (base + w / 256))
   target-call h k b l =
       rw (toZ-pos w64 (base + w / 256) (omega (arith, st .call))) (record {
         is = λ c f x R s j e.
@@ -173,28 +174,28 @@ module _ (code values : List ℕ) (base i : ℕ) (st : Stores values base) (t : 
             (word-of-call (c .m) (c .n) f x R (wordsOf code) base aTarget i s j e (λ q. h (op-is ∙ q)) (omega (arith, op-is)) (base + w / 256) (ap (λ (x : ℕ). base + x / 256) ew));
       })
 
-  module _ (k : 129 < w % 256) where
+  module _ (k : aTarget + 1 < w % 256) where
     array-at : (c : Counts) (f : Bool) (x : List ℕ) (R : List Head) (s : Spot) (j : ℕ) (e : targetIn (c .m) (c .n) f x R (wordsOf code) aTarget i ≡ some (s, j)) (first : ℕ)
-        → (w % 256 ≡ 130 → first ≡ w / 256 % 1024) → ((w % 256 ≡ 130 → ⊥) → first ≡ base + w / 256 % 1024)
+        → (w % 256 ≡ aTarget + 2 → first ≡ w / 256 % 1024) → ((w % 256 ≡ aTarget + 2 → ⊥) → first ≡ base + w / 256 % 1024)
         → ArrayRead (c .m) (c .n) f x R (wordsOf code) base aTarget i s j e first (w / 256 / 1024)
     array-at c f x R s j e first a b =
-        by-same (w % 256) 130
+        by-same (w % 256) (aTarget + 2)
         (λ q. array-of-module (c .m) (c .n) f x R (wordsOf code) base aTarget i s j e (sym op-is ∙ q) first (w / 256 / 1024) (a q ∙ ap (λ (y : ℕ). y / 256 % 1024) ew) (ap (λ (y : ℕ). y / 256 / 1024) ew))
         (λ q. array-of-call (c .m) (c .n) f x R (wordsOf code) base aTarget i s j e (omega (arith, op-is, q)) first (w / 256 / 1024) (b q ∙ ap (λ (y : ℕ). base + y / 256 % 1024) ew) (ap (λ (y : ℕ). y / 256 / 1024) ew))
 
     -- whichever it is
-    either : ArrayRead (t .c .m) (t .c .n) (t .function) (t .text) (t .R) (wordsOf code) base aTarget i (t .s) (t .next) (t .reads) (if eqb (w % 256) 130 then w / 256 % 1024 else base + w / 256 % 1024) (w / 256 / 1024)
+    either : ArrayRead (t .c .m) (t .c .n) (t .function) (t .text) (t .R) (wordsOf code) base aTarget i (t .s) (t .next) (t .reads) (if eqb (w % 256) (aTarget + 2) then w / 256 % 1024 else base + w / 256 % 1024) (w / 256 / 1024)
     either =
-        array-at (t .c) (t .function) (t .text) (t .R) (t .s) (t .next) (t .reads) (if eqb (w % 256) 130 then w / 256 % 1024 else base + w / 256 % 1024)
-        (λ q. rw (eq-eqb (w % 256) 130 q)) (λ q. rw (ne-eqb (w % 256) 130 q))
+        array-at (t .c) (t .function) (t .text) (t .R) (t .s) (t .next) (t .reads) (if eqb (w % 256) (aTarget + 2) then w / 256 % 1024 else base + w / 256 % 1024)
+        (λ q. rw (eq-eqb (w % 256) (aTarget + 2) q)) (λ q. rw (ne-eqb (w % 256) (aTarget + 2) q))
 
     pub target-link : (i + 1) * 8 + 8 ≤ length code
     target-link =
         link-in code (i + 1) (t .whole)
-        (λ z. omega (arith, array-more (t .c) (t .function) (t .text) (t .R) code values base aTarget i (t .s) (t .next) (t .reads) (if eqb (w % 256) 130 then w / 256 % 1024 else base + w / 256 % 1024) (w / 256 / 1024) either))
+        (λ z. omega (arith, array-more (t .c) (t .function) (t .text) (t .R) code values base aTarget i (t .s) (t .next) (t .reads) (if eqb (w % 256) (aTarget + 2) then w / 256 % 1024 else base + w / 256 % 1024) (w / 256 / 1024) either))
 
     module _ (end : ℕ) (p : Part halfEnd (linkAt (wordsOf code) (i + 1)) end) where
-      module _ (q : w % 256 ≡ 130) where
+      module _ (q : w % 256 ≡ aTarget + 2) where
         at-module : (c : Counts) (f : Bool) (x : List ℕ) (R : List Head) (s : Spot) (j : ℕ) (e : targetIn (c .m) (c .n) f x R (wordsOf code) aTarget i ≡ some (s, j))
             → ArrayRead (c .m) (c .n) f x R (wordsOf code) base aTarget i s j e (w / 256 % 1024) (w / 256 / 1024)
         at-module c f x R s j e = array-at c f x R s j e (w / 256 % 1024) (λ y. refl) (λ y. absurd (y q))
@@ -209,7 +210,7 @@ module _ (code values : List ℕ) (base i : ℕ) (st : Stores values base) (t : 
           is = λ c g x R y j e. array-tells c g x R code values base aTarget i y j e (w / 256 % 1024) (w / 256 / 1024) (at-module c g x R y j e) end p r f;
         })
 
-      module _ (q : w % 256 ≡ 130 → ⊥) where
+      module _ (q : w % 256 ≡ aTarget + 2 → ⊥) where
         at-call : (c : Counts) (f : Bool) (x : List ℕ) (R : List Head) (s : Spot) (j : ℕ) (e : targetIn (c .m) (c .n) f x R (wordsOf code) aTarget i ≡ some (s, j))
             → ArrayRead (c .m) (c .n) f x R (wordsOf code) base aTarget i s j e (base + w / 256 % 1024) (w / 256 / 1024)
         at-call c f x R s j e = array-at c f x R s j e (base + w / 256 % 1024) (λ y. absurd (q y)) (λ y. refl)

@@ -14,6 +14,7 @@ use Rattle.code.specs.Cells.{opAt, valueAt}
 use Rattle.code.specs.Spans.{firstIn, sizeIn, memoryIn}
 use Rattle.code.specs.Steps.{Head, aTarget, aCallTarget, targetIn}
 use Rattle.code.specs.Windows.{writtenCell, usedCell}
+use Rattle.layout.specs.Answers.{answers}
 use Rattle.evaluation.specs.Answers.{firstError, Counts, termOf, memoryOf}
 use Rattle.machine.specs.Live.{wordsOfCall, codeOfCall}
 use Rattle.machine.specs.Machine.{Here, Comes, effectAt}
@@ -37,7 +38,7 @@ spotIn M (elementOf r n e) = locate r n (worth M e)
 -- r tells it: its cell, or an error.
 pub data Tells (m n base : ℕ) (l : Located) (r : ℤ) : Type 0 where
   found : (w : Ref) → l ≡ at w → RefFits m n w 1 → r ≡ pos (refCell base w) → Tells m n base l r
-  lost : (e : ℕ) → l ≡ fails e → e < 65536 → r ≡ pos (firstError + e) → Tells m n base l r
+  lost : (e : ℕ) → l ≡ fails e → e < answers → r ≡ pos (firstError + e) → Tells m n base l r
 
 -- An element of the array of `size` words whose first cell is given: its index stands from i + 2 up to `end`.
 pub record Indexes (code : List ℕ) (base first size i end : ℕ) : Type 0 where

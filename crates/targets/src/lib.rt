@@ -2,25 +2,13 @@
 ghost use Rattle.evaluation.specs.Answers.{Stores};
 ghost use Rattle.targets.specs.Targets.{Indexes, Found, Target, Spotted};
 use evaluation::worth;
+use layout::answers::FIRST_ERROR;
+use layout::ops;
+use layout::parts;
 use reading::head;
 use reading::link;
 
-// an answer from here on is an error's
-const FIRST_ERROR: i64 = 4294967296;
-
-const OUT_OF_BOUND: i64 = FIRST_ERROR + 1003;
-
-// a head has its value above its op, and that an array's size above its first word
-const OPS: u32 = 256;
-
-const FIRSTS: u32 = 1024;
-
-// a word of the module, of the call; an element of the module's
-const MODULE_WORD: u32 = 128;
-
-const CALL_WORD: u32 = 129;
-
-const MODULE_ELEMENT: u32 = 130;
+const OUT_OF_BOUND: i64 = FIRST_ERROR + numbers::ERR_OUTOFBND as i64;
 
 // The cell of an element, or an error. Its array's first cell is given, and its size.
 pub fn element<'a>(
@@ -54,18 +42,18 @@ pub fn target_cell<'a>(code: &'a [u8], values: &'a [u8], base: usize, i: usize) 
     ensures { λ r. ⌜ Spotted (now (code .entry)) (now (values .entry)) base i r ⌝ }
 {
     let w = head(code, i);
-    let op = w % OPS;
-    let v = (w / OPS) as usize;
-    if op == MODULE_WORD {
+    let op = w % parts::VALUE;
+    let v = (w / parts::VALUE) as usize;
+    if op == ops::TARGET {
         return v as i64;
     }
-    if op <= CALL_WORD {
+    if op <= ops::TARGET_IN_CALL {
         return (base + v) as i64;
     }
-    let first = (w / OPS % FIRSTS) as usize;
-    let size = (w / OPS / FIRSTS) as usize;
+    let first = (w / parts::VALUE % parts::SIZE) as usize;
+    let size = (w / parts::VALUE / parts::SIZE) as usize;
     let end = link(code, i + 1);
-    if op == MODULE_ELEMENT {
+    if op == ops::TARGET_ELEMENT {
         return element(&*code, &*values, base, first, size, i, end);
     }
     element(&*code, &*values, base, base + first, size, i, end)

@@ -3,7 +3,7 @@ use Rattle.cases.proofs.select.Statement.{statement}
 use Rattle.cases.proofs.select.Tie as tie
 use native.Mathlib.Omega.{arith}
 use Rattle.machine.proofs.Current.{stores-here}
-use Rattle.choices.proofs.Choosing.{word-in, value-small}
+use Rattle.machine.proofs.Deciding.{word-in, value-small}
 use Rattle.cases.proofs.TestSteps.{test-stands, test-cases, test-fails, test-goes}
 
 add-worth : tie.Need-add-worth

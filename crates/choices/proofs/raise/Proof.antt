@@ -3,7 +3,8 @@ use Rattle.choices.proofs.raise.Statement.{statement}
 use Rattle.choices.proofs.raise.Tie as tie
 use native.Mathlib.Omega.{arith}
 use Rattle.machine.proofs.Current.{stores-here}
-use Rattle.choices.proofs.Choosing.{word-in, raise-stands, raise-fails, raise-low, raise-high, raise-fits, raise-given}
+use Rattle.machine.proofs.Deciding.{word-in}
+use Rattle.choices.proofs.Choosing.{raise-stands, raise-fails, raise-low, raise-high, raise-fits, raise-given}
 
 add-worth : tie.Need-add-worth
 add-worth c = omega (arith, word-in _ _ _ _ (c .before .before .pre .0))
@@ -14,20 +15,14 @@ worth-requires c κs = search (needs, stores-here, raise-stands)
 returns : tie.Need-returns
 returns c = search (needs, raise-fails)
 
-add-result : tie.Need-add-result
-add-result c = search needs
-
 returns-2 : tie.Need-returns-2
 returns-2 c = search (needs, raise-low)
-
-add-result-2 : tie.Need-add-result-2
-add-result-2 c = search needs
 
 returns-3 : tie.Need-returns-3
 returns-3 c = search (needs, raise-high)
 
-add-result-3 : tie.Need-add-result-3
-add-result-3 c = search (needs, raise-fits)
+add-result : tie.Need-add-result
+add-result c = search (needs, raise-fits)
 
 returns-4 : tie.Need-returns-4
 returns-4 c = search (needs, raise-given)
@@ -39,9 +34,7 @@ raise-spec =
     add-worth
     worth-requires
     returns
-    add-result
     returns-2
-    add-result-2
     returns-3
-    add-result-3
+    add-result
     returns-4)

@@ -3,7 +3,8 @@ use Rattle.choices.proofs.test_if.Statement.{statement}
 use Rattle.choices.proofs.test_if.Tie as tie
 use native.Mathlib.Omega.{arith}
 use Rattle.machine.proofs.Current.{stores-here}
-use Rattle.choices.proofs.Choosing.{word-in, if-stands, if-small, if-fails, if-then, if-else}
+use Rattle.machine.proofs.Deciding.{word-in}
+use Rattle.choices.proofs.Choosing.{if-stands, if-small, if-fails, if-then, if-else}
 
 add-worth : tie.Need-add-worth
 add-worth c = omega (arith, word-in _ _ _ _ (c .before .before .pre .0))

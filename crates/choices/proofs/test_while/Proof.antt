@@ -3,7 +3,8 @@ use Rattle.choices.proofs.test_while.Statement.{statement}
 use Rattle.choices.proofs.test_while.Tie as tie
 use native.Mathlib.Omega.{arith}
 use Rattle.machine.proofs.Current.{stores-here}
-use Rattle.choices.proofs.Choosing.{word-in, while-stands, while-body-in, while-fails, while-body, while-after}
+use Rattle.machine.proofs.Deciding.{word-in}
+use Rattle.choices.proofs.Choosing.{while-stands, while-body-in, while-fails, while-body, while-after}
 
 add-worth : tie.Need-add-worth
 add-worth c = omega (arith, word-in _ _ _ _ (c .before .before .pre .0))

@@ -4,8 +4,9 @@ use mathlib.Core.Bool.{true, false}
 use mathlib.Core.Logic.{⊎-elim}
 use Prim.Native.Nat.{ℕ, _+_, _-_, _*_, _<_, _≤_}
 use native.Mathlib.Omega.{arith}
+use lib.IntN.{ℤ}
 use mir.Syntax.{w64}
-use mir.Val.{toZ}
+use mir.Val.{SFits, toZ}
 use denote.Ref.{now}
 use borrow.Author.Needs.{needs}
 use borrow.Author.Tests.{not-true, not-false}
@@ -15,7 +16,10 @@ use Rattle.numbers.proofs.Whole.{read}
 use Rattle.evaluation.proofs.Numbers.{told}
 use Rattle.evaluation.proofs.Operators.{failing-is}
 use Rattle.evaluation.proofs.Operands.{small-read, small-leaf}
-use Rattle.evaluation.proofs.Steps.{Going, Opened, Sided, sided-read, subst₂, evaluated-read, followed-read, followed-first, going-read, stands-in, stands-less, first-leaf, start-leaf, encloses-on, encloses, start-enclosed, start-fails, opened-follows, opened-evaluated, at-room, closes, inside-stands, inside-in, inside-room, inside-less, short-leaf, entered, entered-short, goes-begun, ends, turn-in, turn-room, span-stands, span-less, side-span, right-fails, fused-leaf, side-leaf, turn-less, span-past, goes, turn-fails, skip-known, skip-on, skip-last, last-stands, shorts-told}
+use Rattle.evaluation.proofs.Steps.{encloses-on, encloses, start-enclosed, start-fails, at-room, closes, inside-stands, inside-in, inside-room, inside-less, short-leaf, entered, entered-short}
+use Rattle.evaluation.proofs.Steps.{Going, Opened, Sided, sided-read, subst₂, evaluated-read, followed-read, followed-first, going-read, stands-in, stands-less, first-leaf, start-leaf, opened-follows, opened-evaluated}
+use Rattle.evaluation.proofs.Steps.{goes-begun, ends, turn-in, turn-room, fused-leaf, side-leaf, turn-less, goes, turn-fails, shorts-told}
+use Rattle.evaluation.proofs.Steps.{span-stands, span-less, side-span, right-fails, span-past, skip-known, skip-on, skip-last, last-stands}
 use Rattle.evaluation.specs.Parts.{addresses}
 use Rattle.evaluation.proofs.enclosed.Reads as enclosed
 use Rattle.evaluation.proofs.enclosed.Kinds as enclosed-kinds
@@ -96,19 +100,63 @@ abbrev calls-part : ℕ → part-lts.Claims
 calls-part t = (is-short-reads.Asked, is-short-reads.Learnt, short-reads.Asked, short-reads.Learnt, whole-below t, whole.Post)
 
 abbrev calls-rest : ℕ → rest-lts.Claims
-calls-rest t = (head-reads.Asked, head-reads.Learnt, link-reads.Asked, link-reads.Learnt, skips-reads.Asked, skips-reads.Learnt, is-known-reads.Asked, is-known-reads.Learnt, whole-below t, whole.Post, part-below t, part.Post, is-value-reads.Asked, is-value-reads.Learnt, leaf-reads.Asked, leaf-reads.Learnt, operate-reads.Asked, operate-reads.Learnt, is-failing-reads.Asked, is-failing-reads.Learnt, failure-reads.Asked, failure-reads.Learnt)
+calls-rest t = (
+  head-reads.Asked,
+  head-reads.Learnt,
+  link-reads.Asked,
+  link-reads.Learnt,
+  skips-reads.Asked,
+  skips-reads.Learnt,
+  is-known-reads.Asked,
+  is-known-reads.Learnt,
+  whole-below t,
+  whole.Post,
+  part-below t,
+  part.Post,
+  is-value-reads.Asked,
+  is-value-reads.Learnt,
+  leaf-reads.Asked,
+  leaf-reads.Learnt,
+  operate-reads.Asked,
+  operate-reads.Learnt,
+  is-failing-reads.Asked,
+  is-failing-reads.Learnt,
+  failure-reads.Asked,
+  failure-reads.Learnt,
+)
 
 abbrev calls-whole : ℕ → whole-lts.Claims
-calls-whole t = (head-reads.Asked, head-reads.Learnt, leaf-reads.Asked, leaf-reads.Learnt, link-reads.Asked, link-reads.Learnt, enclosed-below t, enclosed.Post, is-value-reads.Asked, is-value-reads.Learnt, ends-reads.Asked, ends-reads.Learnt, rest-below t, rest.Post)
+calls-whole t = (
+  head-reads.Asked,
+  head-reads.Learnt,
+  leaf-reads.Asked,
+  leaf-reads.Learnt,
+  link-reads.Asked,
+  link-reads.Learnt,
+  enclosed-below t,
+  enclosed.Post,
+  is-value-reads.Asked,
+  is-value-reads.Learnt,
+  ends-reads.Asked,
+  ends-reads.Learnt,
+  rest-below t,
+  rest.Post,
+)
 
 -- ---- an operand of several words
 enclosed-opens-requires : (t : ℕ) → enclosed-lts.Need-opens-requires (calls-enclosed t) (enclosed-at t) enclosed.Post
-enclosed-opens-requires t c κs = let f : c .args .l < addresses = c .fits .l .fits in let r : c .args .at + 2 ≤ c .args .l = at-room _ (now (now (c .args .values))) (c .args .base) _ _ _ (c .pre .1 .1) in let q : c .args .at + 2 < addresses = omega arith in q
+enclosed-opens-requires t c κs =
+    let f : c .args .l < addresses = c .fits .l .fits in
+    let r : c .args .at + 2 ≤ c .args .l = at-room _ (now (now (c .args .values))) (c .args .base) _ _ _ (c .pre .1 .1) in
+    let q : c .args .at + 2 < addresses = omega arith in
+    q
 
 enclosed-add-if1 : (t : ℕ) → enclosed-lts.Need-add-if1 (calls-enclosed t) (enclosed-at t) enclosed.Post
 enclosed-add-if1 t c =
     let s = c .before in
-    let f : s .args .l < addresses = s .fits .l .fits in let r : c .opens .result + 1 ≤ s .args .l = inside-room _ (now (now (s .args .values))) (s .args .base) _ _ _ (s .pre .1 .1) _ (c .opens .ensures) in record { fits = omega arith }
+    let f : s .args .l < addresses = s .fits .l .fits in
+    let r : c .opens .result + 1 ≤ s .args .l = inside-room _ (now (now (s .args .values))) (s .args .base) _ _ _ (s .pre .1 .1) _ (c .opens .ensures) in
+    record { fits = omega arith }
 
 enclosed-head-requires : (t : ℕ) → enclosed-lts.Need-head-requires (calls-enclosed t) (enclosed-at t) enclosed.Post
 enclosed-head-requires t c κs =
@@ -118,7 +166,9 @@ enclosed-head-requires t c κs =
 enclosed-leaf-requires : (t : ℕ) → enclosed-lts.Need-leaf-requires (calls-enclosed t) (enclosed-at t) enclosed.Post
 enclosed-leaf-requires t c κs =
     let s = c .before .before .before .before .before .before in
-    (s .pre .1 .0, short-leaf _ (now (now (s .args .values))) (s .args .base) _ _ _ (s .pre .1 .1) _ (c .before .before .before .before .before .opens .ensures) (c .before .before .before .before .if1 .taken) _ (c .before .before .head .ensures) (search needs))
+    let opens = c .before .before .before .before .before .opens in
+    let one = c .before .before .before .before .if1 .taken in
+    (s .pre .1 .0, short-leaf _ (now (now (s .args .values))) (s .args .base) _ _ _ (s .pre .1 .1) _ (opens .ensures) one _ (c .before .before .head .ensures) (search needs))
 
 enclosed-close-requires : (t : ℕ) → enclosed-lts.Need-close-requires (calls-enclosed t) (enclosed-at t) enclosed.Post
 enclosed-close-requires t c κs =
@@ -131,7 +181,9 @@ enclosed-returns t c = search (needs, entered-short)
 enclosed-whole-requires : (t : ℕ) → enclosed-lts.Need-whole-requires (calls-enclosed t) (enclosed-at t) enclosed.Post
 enclosed-whole-requires t c κs =
     let s = c .before .before .before in
-    let q : (s .args .l - c .before .before .opens .result) * 3 + 1 < (s .args .l - s .args .at) * 3 = inside-less _ (now (now (s .args .values))) (s .args .base) _ _ _ (s .pre .1 .1) _ (c .before .before .opens .ensures) in (omega (arith, q), (s .pre .1 .0, inside-stands _ (now (now (s .args .values))) (s .args .base) _ _ _ (s .pre .1 .1) _ (c .before .before .opens .ensures)))
+    let opens = c .before .before .opens in
+    let q : (s .args .l - opens .result) * 3 + 1 < (s .args .l - s .args .at) * 3 = inside-less _ (now (now (s .args .values))) (s .args .base) _ _ _ (s .pre .1 .1) _ (opens .ensures) in
+    (omega (arith, q), (s .pre .1 .0, inside-stands _ (now (now (s .args .values))) (s .args .base) _ _ _ (s .pre .1 .1) _ (opens .ensures)))
 
 enclosed-close-requires-2 : (t : ℕ) → enclosed-lts.Need-close-requires-2 (calls-enclosed t) (enclosed-at t) enclosed.Post
 enclosed-close-requires-2 t c κs =
@@ -157,33 +209,51 @@ part-whole-requires t c κs = search needs
 part-returns-2 : (t : ℕ) → part-lts.Need-returns-2 (calls-part t) (part-at t) part.Post
 part-returns-2 t c = search (needs, evaluated-read)
 
--- ---- operators: the right side was read, a span or a leaf
-abbrev Siding : ℕ → Type 0
-Siding t = rest-lts.Joined1 (calls-rest t) (rest-at t) rest.Post Inv-loop μ-loop
-
-abbrev IsSided : (t : ℕ) (c : Siding t) (b r : ℕ) → Type 0
-IsSided t c b r = Sided (now (now (c .before .before .before .before .before .args .code))) (now (now (c .before .before .before .before .before .args .values))) (c .before .before .before .before .before .args .base) (read (c .before .before .before .before .before .args .first)) (c .before .before .before .before .before .args .start) (c .before .before .before .before .before .args .to) (toZ w64 (c .before .before .before .before .loop .acc)) (c .before .before .before .before .loop .i) (c .before .before .before .before .loop .inv) (c .before .before .before .loop-test .taken) (c .before .head .result) (c .before .head .ensures) (toZ w64 b) r
-
-sided : (t : ℕ) (c : Siding t) → IsSided t c (c .if1 .b) (c .if1 .r)
-sided t c =
-    ⊎-elim
-    (λ k. subst₂ (IsSided t c) (sym (k .8)) (sym (k .9))
-    (sided-read (now (now (c .before .before .before .before .before .args .code))) (now (now (c .before .before .before .before .before .args .values))) (c .before .before .before .before .before .args .base) (read (c .before .before .before .before .before .args .first)) (c .before .before .before .before .before .args .start) (c .before .before .before .before .before .args .to) (toZ w64 (c .before .before .before .before .loop .acc)) (c .before .before .before .before .loop .i) (c .before .before .before .before .loop .inv) (c .before .before .before .loop-test .taken) (c .before .head .result) (c .before .head .ensures) (k .5 .result) (k .2 .result) (search needs)
-    (side-span (now (now (c .before .before .before .before .before .args .code))) (now (now (c .before .before .before .before .before .args .values))) (c .before .before .before .before .before .args .base) (read (c .before .before .before .before .before .args .first)) (c .before .before .before .before .before .args .start) (c .before .before .before .before .before .args .to) (toZ w64 (c .before .before .before .before .loop .acc)) (c .before .before .before .before .loop .i) (c .before .before .before .before .loop .inv) (c .before .before .before .loop-test .taken) (c .before .head .result) (c .before .head .ensures) (k .0 .taken) (k .2 .result) (k .2 .ensures .same) (k .5 .result) (k .5 .ensures)
-    (told (k .5 .result) (k .6 .result) true (search needs) (k .6 .ensures) (not-false _ (k .7 .left))))))
-    (λ k. subst₂ (IsSided t c) (sym (k .3)) (sym (k .4))
-    (sided-read (now (now (c .before .before .before .before .before .args .code))) (now (now (c .before .before .before .before .before .args .values))) (c .before .before .before .before .before .args .base) (read (c .before .before .before .before .before .args .first)) (c .before .before .before .before .before .args .start) (c .before .before .before .before .before .args .to) (toZ w64 (c .before .before .before .before .loop .acc)) (c .before .before .before .before .loop .i) (c .before .before .before .before .loop .inv) (c .before .before .before .loop-test .taken) (c .before .head .result) (c .before .head .ensures) (k .2 .result) _ (search needs) (side-leaf (now (now (c .before .before .before .before .before .args .code))) (now (now (c .before .before .before .before .before .args .values))) (c .before .before .before .before .before .args .base) (read (c .before .before .before .before .before .args .first)) (c .before .before .before .before .before .args .start) (c .before .before .before .before .before .args .to) (toZ w64 (c .before .before .before .before .loop .acc)) (c .before .before .before .before .loop .i) (c .before .before .before .before .loop .inv) (c .before .before .before .loop-test .taken) (c .before .head .result) (c .before .head .ensures) (k .0 .left) (k .2 .result) (k .2 .ensures))))
-    (c .if1 .came)
-
 -- ---- a turn
 abbrev Turn : ℕ → Type 0
 Turn t = rest-lts.After-head (calls-rest t) (rest-at t) rest.Post Inv-loop μ-loop
 
 turn-fits : (t : ℕ) (h : Turn t) → h .before .before .before .loop .i + 2 < addresses
 turn-fits t h =
-    let f : h .before .before .before .before .args .to < addresses = h .before .before .before .before .fits .to .fits in
-    let r : h .before .before .before .loop .i + 2 ≤ h .before .before .before .before .args .to = turn-room _ _ _ _ _ _ _ _ (h .before .before .before .loop .inv) (h .before .before .loop-test .taken) in
+    let s = h .before .before .before .before in
+    let l = h .before .before .before .loop in
+    let f : s .args .to < addresses = s .fits .to .fits in
+    let r : l .i + 2 ≤ s .args .to = turn-room _ _ _ _ _ _ _ _ (l .inv) (h .before .before .loop-test .taken) in
     omega arith
+
+-- ---- operators: the right side was read, a span or a leaf
+abbrev Siding : ℕ → Type 0
+Siding t = rest-lts.Joined1 (calls-rest t) (rest-at t) rest.Post Inv-loop μ-loop
+
+abbrev IsSided : (t : ℕ) (h : Turn t) (b : ℤ) (r : ℕ) → Type 0
+IsSided t h b r =
+    let s = h .before .before .before .before .args in
+    let l = h .before .before .before .loop in
+    Sided (now (now (s .code))) (now (now (s .values))) (s .base) (read (s .first)) (s .start) (s .to) (toZ w64 (l .acc)) (l .i) (l .inv) (h .before .before .loop-test .taken)
+    (h .head .result) (h .head .ensures) b r
+
+-- as it is handed on
+sided-so : (t : ℕ) (h : Turn t) (b : ℤ) (r : ℕ) → SFits w64 b → IsSided t h b r → IsSided t h (read b) r
+sided-so t h b r f d =
+    let s = h .before .before .before .before .args in
+    let l = h .before .before .before .loop in
+    sided-read (now (now (s .code))) (now (now (s .values))) (s .base) (read (s .first)) (s .start) (s .to) (toZ w64 (l .acc)) (l .i) (l .inv) (h .before .before .loop-test .taken)
+    (h .head .result) (h .head .ensures) b r f d
+
+sided : (t : ℕ) (c : Siding t) → IsSided t (c .before) (toZ w64 (c .if1 .b)) (c .if1 .r)
+sided t c =
+    let h = c .before in
+    let s = h .before .before .before .before .args in
+    let l = h .before .before .before .loop in
+    ⊎-elim
+    (λ k. subst₂ (λ (b r : ℕ). IsSided t h (toZ w64 b) r) (sym (k .8)) (sym (k .9)) (sided-so t h (k .5 .result) (k .2 .result) (search needs)
+    (side-span (now (now (s .code))) (now (now (s .values))) (s .base) (read (s .first)) (s .start) (s .to) (toZ w64 (l .acc)) (l .i) (l .inv) (h .before .before .loop-test .taken)
+    (h .head .result) (h .head .ensures) (k .0 .taken) (k .2 .result) (k .2 .ensures .same) (k .5 .result) (k .5 .ensures)
+    (told (k .5 .result) (k .6 .result) true (search needs) (k .6 .ensures) (not-false _ (k .7 .left))))))
+    (λ k. subst₂ (λ (b r : ℕ). IsSided t h (toZ w64 b) r) (sym (k .3)) (sym (k .4)) (sided-so t h (k .2 .result) _ (search needs)
+    (side-leaf (now (now (s .code))) (now (now (s .values))) (s .base) (read (s .first)) (s .start) (s .to) (toZ w64 (l .acc)) (l .i) (l .inv) (h .before .before .loop-test .taken)
+    (h .head .result) (h .head .ensures) (k .0 .left) (k .2 .result) (k .2 .ensures))))
+    (c .if1 .came)
 
 rest-loop-holds : (t : ℕ) → rest-lts.Need-loop-holds (calls-rest t) (rest-at t) rest.Post Inv-loop μ-loop
 rest-loop-holds t c = goes-begun _ _ _ (c .args .first) _ _ (search needs) (c .pre .1 .1)
@@ -204,74 +274,156 @@ rest-is-known-requires : (t : ℕ) → rest-lts.Need-is-known-requires (calls-re
 rest-is-known-requires t c κs = search needs
 
 rest-add-whole : (t : ℕ) → rest-lts.Need-add-whole (calls-rest t) (rest-at t) rest.Post Inv-loop μ-loop
-rest-add-whole t c = let q = turn-fits t (c .before .before .before .before .before .before .before .before) in record { fits = omega arith }
+rest-add-whole t c =
+    let turn = c .before .before .before .before .before .before .before .before in
+    let q = turn-fits t turn in
+    record { fits = omega arith }
 
 rest-whole-requires : (t : ℕ) → rest-lts.Need-whole-requires (calls-rest t) (rest-at t) rest.Post Inv-loop μ-loop
 rest-whole-requires t c κs =
-    let h = c .before .before .before .before .before .before .before .before in
-    (omega (arith, c .if4 .taken, span-less _ _ _ _ _ _ _ _ (h .before .before .before .loop .inv) (h .before .before .loop-test .taken) _ (h .head .ensures) (c .before .before .before .before .before .before .before .if1 .taken) _ (c .before .before .before .before .before .link .ensures .same)), (h .before .before .before .before .pre .1 .0, last-stands _ _ _ _ _ _ _ _ (h .before .before .before .loop .inv) (h .before .before .loop-test .taken) _ (h .head .ensures) (c .before .before .before .before .before .before .before .if1 .taken) _ (c .before .before .before .before .before .link .ensures .same) (c .if4 .taken)))
+    let turn = c .before .before .before .before .before .before .before .before in
+    let going = turn .before .before .before .loop .inv in
+    let more = turn .before .before .loop-test .taken in
+    let word = turn .head .ensures in
+    let spans = c .before .before .before .before .before .before .before .if1 .taken in
+    let linked = c .before .before .before .before .before .link .ensures .same in
+    let stores = turn .before .before .before .before .pre .1 .0 in
+    (omega (arith, c .if4 .taken, span-less _ _ _ _ _ _ _ _ going more _ word spans _ linked), (stores, last-stands _ _ _ _ _ _ _ _ going more _ word spans _ linked (c .if4 .taken)))
 
 rest-returns : (t : ℕ) → rest-lts.Need-returns (calls-rest t) (rest-at t) rest.Post Inv-loop μ-loop
 rest-returns t c =
-    let h = c .before .before .before .before .before .before .before .before .before in
-    followed-read _ _ _ _ _ _ (search needs) (c .whole .result) (search needs) (skip-last _ _ _ _ _ _ _ _ (h .before .before .before .loop .inv) (h .before .before .loop-test .taken) _ (h .head .ensures) (c .before .before .before .before .before .before .before .before .if1 .taken) _ (c .before .before .before .before .before .before .link .ensures .same) (λ b. c .before .before .before .before .before .skips .ensures .right (c .before .before .before .before .if2 .taken) _ b (sym (c .before .before .before .is-known .ensures) ∙ not-true _ (c .before .before .if3 .taken))) (c .whole .result) (c .before .if4 .taken) (c .whole .ensures))
+    let turn = c .before .before .before .before .before .before .before .before .before in
+    let going = turn .before .before .before .loop .inv in
+    let more = turn .before .before .loop-test .taken in
+    let word = turn .head .ensures in
+    let spans = c .before .before .before .before .before .before .before .before .if1 .taken in
+    let linked = c .before .before .before .before .before .before .link .ensures .same in
+    let skips = c .before .before .before .before .before .skips .ensures .right (c .before .before .before .before .if2 .taken) in
+    let unknown = sym (c .before .before .before .is-known .ensures) ∙ not-true _ (c .before .before .if3 .taken) in
+    followed-read _ _ _ _ _ _ (search needs) (c .whole .result) (search needs)
+    (skip-last _ _ _ _ _ _ _ _ going more _ word spans _ linked (λ b. skips _ b unknown) (c .whole .result) (c .before .if4 .taken) (c .whole .ensures))
 
 rest-add-part : (t : ℕ) → rest-lts.Need-add-part (calls-rest t) (rest-at t) rest.Post Inv-loop μ-loop
-rest-add-part t c = let q = turn-fits t (c .before .before .before .before .before .before .before .before) in record { fits = omega arith }
+rest-add-part t c =
+    let turn = c .before .before .before .before .before .before .before .before in
+    let q = turn-fits t turn in
+    record { fits = omega arith }
 
 rest-part-requires : (t : ℕ) → rest-lts.Need-part-requires (calls-rest t) (rest-at t) rest.Post Inv-loop μ-loop
 rest-part-requires t c κs =
-    let h = c .before .before .before .before .before .before .before .before in
-    (omega (arith, span-less _ _ _ _ _ _ _ _ (h .before .before .before .loop .inv) (h .before .before .loop-test .taken) _ (h .head .ensures) (c .before .before .before .before .before .before .before .if1 .taken) _ (c .before .before .before .before .before .link .ensures .same)), (h .before .before .before .before .pre .1 .0, span-stands _ _ _ _ _ _ _ _ (h .before .before .before .loop .inv) (h .before .before .loop-test .taken) _ (h .head .ensures) (c .before .before .before .before .before .before .before .if1 .taken) _ (c .before .before .before .before .before .link .ensures .same)))
+    let turn = c .before .before .before .before .before .before .before .before in
+    let going = turn .before .before .before .loop .inv in
+    let more = turn .before .before .loop-test .taken in
+    let word = turn .head .ensures in
+    let spans = c .before .before .before .before .before .before .before .if1 .taken in
+    let linked = c .before .before .before .before .before .link .ensures .same in
+    let stores = turn .before .before .before .before .pre .1 .0 in
+    (omega (arith, span-less _ _ _ _ _ _ _ _ going more _ word spans _ linked), (stores, span-stands _ _ _ _ _ _ _ _ going more _ word spans _ linked))
 
 rest-is-value-requires : (t : ℕ) → rest-lts.Need-is-value-requires (calls-rest t) (rest-at t) rest.Post Inv-loop μ-loop
 rest-is-value-requires t c κs = search needs
 
 rest-returns-2 : (t : ℕ) → rest-lts.Need-returns-2 (calls-rest t) (rest-at t) rest.Post Inv-loop μ-loop
 rest-returns-2 t c =
-    let h = c .before .before .before .before .before .before .before .before .before .before .before in
-    followed-read _ _ _ _ _ _ (search needs) (c .before .before .part .result) (search needs) (right-fails _ _ _ _ _ _ _ _ (h .before .before .before .loop .inv) (h .before .before .loop-test .taken) _ (h .head .ensures) (c .before .before .before .before .before .before .before .before .before .before .if1 .taken) _ (c .before .before .before .before .before .before .before .before .link .ensures .same) (c .before .before .part .result) (c .before .before .part .ensures) (sym (c .before .before .before .before .before .is-known .ensures) ∙ not-true _ (c .before .before .before .before .if3 .taken)) (told (c .before .before .part .result) (c .before .is-value .result) false (search needs) (c .before .is-value .ensures) (not-true _ (c .if5 .taken))))
+    let turn = c .before .before .before .before .before .before .before .before .before .before .before in
+    let going = turn .before .before .before .loop .inv in
+    let more = turn .before .before .loop-test .taken in
+    let word = turn .head .ensures in
+    let spans = c .before .before .before .before .before .before .before .before .before .before .if1 .taken in
+    let linked = c .before .before .before .before .before .before .before .before .link .ensures .same in
+    let part = c .before .before .part in
+    let value = c .before .is-value in
+    let unknown = sym (c .before .before .before .before .before .is-known .ensures) ∙ not-true _ (c .before .before .before .before .if3 .taken) in
+    followed-read _ _ _ _ _ _ (search needs) (part .result) (search needs)
+    (right-fails _ _ _ _ _ _ _ _ going more _ word spans _ linked (part .result) (part .ensures) unknown
+    (told (part .result) (value .result) false (search needs) (value .ensures) (not-true _ (c .if5 .taken))))
 
 rest-loop-less : (t : ℕ) → rest-lts.Need-loop-less (calls-rest t) (rest-at t) rest.Post Inv-loop μ-loop
 rest-loop-less t c =
-    let h = c .before .before .before .before .before .before .before .before .before .before .before in
-    span-past _ _ _ _ _ _ _ _ (h .before .before .before .loop .inv) (h .before .before .loop-test .taken) _ (h .head .ensures) (c .before .before .before .before .before .before .before .before .before .before .if1 .taken) _ (c .before .before .before .before .before .before .before .before .link .ensures .same)
+    let turn = c .before .before .before .before .before .before .before .before .before .before .before in
+    let going = turn .before .before .before .loop .inv in
+    let more = turn .before .before .loop-test .taken in
+    let word = turn .head .ensures in
+    let spans = c .before .before .before .before .before .before .before .before .before .before .if1 .taken in
+    let linked = c .before .before .before .before .before .before .before .before .link .ensures .same in
+    span-past _ _ _ _ _ _ _ _ going more _ word spans _ linked
 
 rest-loop-again : (t : ℕ) → rest-lts.Need-loop-again (calls-rest t) (rest-at t) rest.Post Inv-loop μ-loop
 rest-loop-again t c =
-    let h = c .before .before .before .before .before .before .before .before .before .before .before in
-    going-read _ _ _ _ _ _ (c .before .before .part .result) _ (search needs) (skip-on _ _ _ _ _ _ _ _ (h .before .before .before .loop .inv) (h .before .before .loop-test .taken) _ (h .head .ensures) (c .before .before .before .before .before .before .before .before .before .before .if1 .taken) _ (c .before .before .before .before .before .before .before .before .link .ensures .same) (λ b. c .before .before .before .before .before .before .before .skips .ensures .right (c .before .before .before .before .before .before .if2 .taken) _ b (sym (c .before .before .before .before .before .is-known .ensures) ∙ not-true _ (c .before .before .before .before .if3 .taken))) (c .before .before .part .result) (c .before .before .part .ensures) (told (c .before .before .part .result) (c .before .is-value .result) true (search needs) (c .before .is-value .ensures) (not-false _ (c .if5 .left))))
+    let turn = c .before .before .before .before .before .before .before .before .before .before .before in
+    let going = turn .before .before .before .loop .inv in
+    let more = turn .before .before .loop-test .taken in
+    let word = turn .head .ensures in
+    let spans = c .before .before .before .before .before .before .before .before .before .before .if1 .taken in
+    let linked = c .before .before .before .before .before .before .before .before .link .ensures .same in
+    let part = c .before .before .part in
+    let value = c .before .is-value in
+    let skips = c .before .before .before .before .before .before .before .skips .ensures .right (c .before .before .before .before .before .before .if2 .taken) in
+    let unknown = sym (c .before .before .before .before .before .is-known .ensures) ∙ not-true _ (c .before .before .before .before .if3 .taken) in
+    going-read _ _ _ _ _ _ (part .result) _ (search needs)
+    (skip-on _ _ _ _ _ _ _ _ going more _ word spans _ linked (λ b. skips _ b unknown) (part .result) (part .ensures)
+    (told (part .result) (value .result) true (search needs) (value .ensures) (not-false _ (c .if5 .left))))
 
 rest-loop-less-2 : (t : ℕ) → rest-lts.Need-loop-less-2 (calls-rest t) (rest-at t) rest.Post Inv-loop μ-loop
 rest-loop-less-2 t c =
-    let h = c .before .before .before .before .before .before .before in
-    span-past _ _ _ _ _ _ _ _ (h .before .before .before .loop .inv) (h .before .before .loop-test .taken) _ (h .head .ensures) (c .before .before .before .before .before .before .if1 .taken) _ (c .before .before .before .before .link .ensures .same)
+    let turn = c .before .before .before .before .before .before .before in
+    let going = turn .before .before .before .loop .inv in
+    let more = turn .before .before .loop-test .taken in
+    let word = turn .head .ensures in
+    let spans = c .before .before .before .before .before .before .if1 .taken in
+    let linked = c .before .before .before .before .link .ensures .same in
+    span-past _ _ _ _ _ _ _ _ going more _ word spans _ linked
 
 rest-loop-again-2 : (t : ℕ) → rest-lts.Need-loop-again-2 (calls-rest t) (rest-at t) rest.Post Inv-loop μ-loop
 rest-loop-again-2 t c =
-    let h = c .before .before .before .before .before .before .before in
-    skip-known _ _ _ _ _ _ _ _ (h .before .before .before .loop .inv) (h .before .before .loop-test .taken) _ (h .head .ensures) (c .before .before .before .before .before .before .if1 .taken) _ (c .before .before .before .before .link .ensures .same) (sym (c .before .is-known .ensures) ∙ not-false _ (c .if3 .left))
+    let turn = c .before .before .before .before .before .before .before in
+    let going = turn .before .before .before .loop .inv in
+    let more = turn .before .before .loop-test .taken in
+    let word = turn .head .ensures in
+    let spans = c .before .before .before .before .before .before .if1 .taken in
+    let linked = c .before .before .before .before .link .ensures .same in
+    skip-known _ _ _ _ _ _ _ _ going more _ word spans _ linked (sym (c .before .is-known .ensures) ∙ not-false _ (c .if3 .left))
 
 rest-add-part-2 : (t : ℕ) → rest-lts.Need-add-part-2 (calls-rest t) (rest-at t) rest.Post Inv-loop μ-loop
 rest-add-part-2 t c = let q = turn-fits t (c .before .before .before .before .before) in record { fits = omega arith }
 
 rest-part-requires-2 : (t : ℕ) → rest-lts.Need-part-requires-2 (calls-rest t) (rest-at t) rest.Post Inv-loop μ-loop
 rest-part-requires-2 t c κs =
-    let h = c .before .before .before .before .before in
-    (omega (arith, span-less _ _ _ _ _ _ _ _ (h .before .before .before .loop .inv) (h .before .before .loop-test .taken) _ (h .head .ensures) (c .before .before .before .before .if1 .taken) _ (c .before .before .link .ensures .same)), (h .before .before .before .before .pre .1 .0, span-stands _ _ _ _ _ _ _ _ (h .before .before .before .loop .inv) (h .before .before .loop-test .taken) _ (h .head .ensures) (c .before .before .before .before .if1 .taken) _ (c .before .before .link .ensures .same)))
+    let turn = c .before .before .before .before .before in
+    let going = turn .before .before .before .loop .inv in
+    let more = turn .before .before .loop-test .taken in
+    let word = turn .head .ensures in
+    let spans = c .before .before .before .before .if1 .taken in
+    let linked = c .before .before .link .ensures .same in
+    let stores = turn .before .before .before .before .pre .1 .0 in
+    (omega (arith, span-less _ _ _ _ _ _ _ _ going more _ word spans _ linked), (stores, span-stands _ _ _ _ _ _ _ _ going more _ word spans _ linked))
 
 rest-is-value-requires-2 : (t : ℕ) → rest-lts.Need-is-value-requires-2 (calls-rest t) (rest-at t) rest.Post Inv-loop μ-loop
 rest-is-value-requires-2 t c κs = search needs
 
 rest-returns-3 : (t : ℕ) → rest-lts.Need-returns-3 (calls-rest t) (rest-at t) rest.Post Inv-loop μ-loop
 rest-returns-3 t c =
-    let h = c .before .before .before .before .before .before .before .before in
-    followed-read _ _ _ _ _ _ (search needs) (c .before .before .part2 .result) (search needs) (right-fails _ _ _ _ _ _ _ _ (h .before .before .before .loop .inv) (h .before .before .loop-test .taken) _ (h .head .ensures) (c .before .before .before .before .before .before .before .if1 .taken) _ (c .before .before .before .before .before .link .ensures .same) (c .before .before .part2 .result) (c .before .before .part2 .ensures) (c .before .before .before .before .skips .ensures .plain (c .before .before .before .if2 .left) _) (told (c .before .before .part2 .result) (c .before .is-value2 .result) false (search needs) (c .before .is-value2 .ensures) (not-true _ (c .if6 .taken))))
+    let turn = c .before .before .before .before .before .before .before .before in
+    let going = turn .before .before .before .loop .inv in
+    let more = turn .before .before .loop-test .taken in
+    let word = turn .head .ensures in
+    let spans = c .before .before .before .before .before .before .before .if1 .taken in
+    let linked = c .before .before .before .before .before .link .ensures .same in
+    let part = c .before .before .part2 in
+    let value = c .before .is-value2 in
+    let unknown = c .before .before .before .before .skips .ensures .plain (c .before .before .before .if2 .left) _ in
+    followed-read _ _ _ _ _ _ (search needs) (part .result) (search needs)
+    (right-fails _ _ _ _ _ _ _ _ going more _ word spans _ linked (part .result) (part .ensures) unknown
+    (told (part .result) (value .result) false (search needs) (value .ensures) (not-true _ (c .if6 .taken))))
 
 rest-leaf-requires : (t : ℕ) → rest-lts.Need-leaf-requires (calls-rest t) (rest-at t) rest.Post Inv-loop μ-loop
 rest-leaf-requires t c κs =
-    let h = c .before .before in
-    (h .before .before .before .before .pre .1 .0, fused-leaf _ _ _ _ _ _ _ _ (h .before .before .before .loop .inv) (h .before .before .loop-test .taken) _ (h .head .ensures) (c .before .if1 .left) (search needs))
+    let turn = c .before .before in
+    let going = turn .before .before .before .loop .inv in
+    let more = turn .before .before .loop-test .taken in
+    let word = turn .head .ensures in
+    let stores = turn .before .before .before .before .pre .1 .0 in
+    (stores, fused-leaf _ _ _ _ _ _ _ _ going more _ word (c .before .if1 .left) (search needs))
 
 rest-operate-requires : (t : ℕ) → rest-lts.Need-operate-requires (calls-rest t) (rest-at t) rest.Post Inv-loop μ-loop
 rest-operate-requires t c κs = (c .before .before .before .before .loop .inv .small, sided t c .small)
@@ -284,18 +436,35 @@ rest-failure-requires t c κs = search needs
 
 rest-returns-4 : (t : ℕ) → rest-lts.Need-returns-4 (calls-rest t) (rest-at t) rest.Post Inv-loop μ-loop
 rest-returns-4 t c =
-    let h = c .before .before .before .before .before in
-    followed-read _ _ _ _ _ _ (search needs) (c .failure .result) (search needs) (turn-fails _ _ _ _ _ _ _ _ (h .before .before .before .loop .inv) (h .before .before .loop-test .taken) _ (h .head .ensures) _ _ (sided t (c .before .before .before .before)) (c .before .before .before .operate .result) (c .before .before .before .operate .ensures) (failing-is _ (c .before .before .before .operate .result) (c .before .before .is-failing .result) true (search needs) (c .before .before .is-failing .ensures) (c .before .if7 .taken)) (c .failure .result) (c .failure .ensures))
+    let turn = c .before .before .before .before .before in
+    let going = turn .before .before .before .loop .inv in
+    let more = turn .before .before .loop-test .taken in
+    let word = turn .head .ensures in
+    let worked = c .before .before .before .operate in
+    let failing = c .before .before .is-failing in
+    followed-read _ _ _ _ _ _ (search needs) (c .failure .result) (search needs)
+    (turn-fails _ _ _ _ _ _ _ _ going more _ word _ _ (sided t (c .before .before .before .before)) (worked .result) (worked .ensures)
+    (failing-is _ (worked .result) (failing .result) true (search needs) (failing .ensures) (c .before .if7 .taken)) (c .failure .result) (c .failure .ensures))
 
 rest-loop-less-3 : (t : ℕ) → rest-lts.Need-loop-less-3 (calls-rest t) (rest-at t) rest.Post Inv-loop μ-loop
 rest-loop-less-3 t c =
-    let h = c .before .before .before .before in
-    turn-less _ _ _ _ _ _ _ _ (h .before .before .before .loop .inv) (h .before .before .loop-test .taken) _ (h .head .ensures) _ _ (sided t (c .before .before .before))
+    let turn = c .before .before .before .before in
+    let going = turn .before .before .before .loop .inv in
+    let more = turn .before .before .loop-test .taken in
+    let word = turn .head .ensures in
+    turn-less _ _ _ _ _ _ _ _ going more _ word _ _ (sided t (c .before .before .before))
 
 rest-loop-again-3 : (t : ℕ) → rest-lts.Need-loop-again-3 (calls-rest t) (rest-at t) rest.Post Inv-loop μ-loop
 rest-loop-again-3 t c =
-    let h = c .before .before .before .before in
-    going-read _ _ _ _ _ _ (c .before .before .operate .result) _ (search needs) (goes _ _ _ _ _ _ _ _ (h .before .before .before .loop .inv) (h .before .before .loop-test .taken) _ (h .head .ensures) _ _ (sided t (c .before .before .before)) (c .before .before .operate .result) (c .before .before .operate .ensures) (failing-is _ (c .before .before .operate .result) (c .before .is-failing .result) false (search needs) (c .before .is-failing .ensures) (c .if7 .left)))
+    let turn = c .before .before .before .before in
+    let going = turn .before .before .before .loop .inv in
+    let more = turn .before .before .loop-test .taken in
+    let word = turn .head .ensures in
+    let worked = c .before .before .operate in
+    let failing = c .before .is-failing in
+    going-read _ _ _ _ _ _ (worked .result) _ (search needs)
+    (goes _ _ _ _ _ _ _ _ going more _ word _ _ (sided t (c .before .before .before)) (worked .result) (worked .ensures)
+    (failing-is _ (worked .result) (failing .result) false (search needs) (failing .ensures) (c .if7 .left)))
 
 rest-returns-5 : (t : ℕ) → rest-lts.Need-returns-5 (calls-rest t) (rest-at t) rest.Post Inv-loop μ-loop
 rest-returns-5 t c = followed-first _ _ _ _ _ _ _ (search needs) (ends _ _ _ _ _ _ _ _ (c .before .loop .inv) (c .loop-test .left))
@@ -320,7 +489,10 @@ whole-link-requires t c κs = search (needs, stands-in)
 whole-enclosed-requires : (t : ℕ) → whole-lts.Need-enclosed-requires (calls-whole t) (whole-at t) whole.Post
 whole-enclosed-requires t c κs =
     let s = c .before .before .before .before .before in
-    (omega (arith, encloses-on _ (now (now (s .args .values))) (s .args .base) _ _ (s .pre .1 .1) _ (c .before .before .before .head .ensures) (c .before .before .if1 .left) _ (c .link .ensures .same)), (s .pre .1 .0, encloses _ (now (now (s .args .values))) (s .args .base) _ _ (s .pre .1 .1) _ (c .before .before .before .head .ensures) (c .before .before .if1 .left) _ (c .link .ensures .same)))
+    let word = c .before .before .before .head .ensures in
+    let inside = c .before .before .if1 .left in
+    let linked = c .link .ensures .same in
+    (omega (arith, encloses-on _ (now (now (s .args .values))) (s .args .base) _ _ (s .pre .1 .1) _ word inside _ linked), (s .pre .1 .0, encloses _ (now (now (s .args .values))) (s .args .base) _ _ (s .pre .1 .1) _ word inside _ linked))
 
 whole-is-value-requires : (t : ℕ) → whole-lts.Need-is-value-requires (calls-whole t) (whole-at t) whole.Post
 whole-is-value-requires t c κs = search needs
@@ -328,7 +500,14 @@ whole-is-value-requires t c κs = search needs
 whole-returns : (t : ℕ) → whole-lts.Need-returns (calls-whole t) (whole-at t) whole.Post
 whole-returns t c =
     let s = c .before .before .before .before .before .before .before .before in
-    evaluated-read _ _ _ _ _ (c .before .before .enclosed .result) (search needs) (start-fails _ (now (now (s .args .values))) (s .args .base) _ _ (s .pre .1 .1) _ (c .before .before .before .before .before .before .head .ensures) (c .before .before .before .before .before .if1 .left) _ (c .before .before .before .link .ensures .same) (c .before .before .enclosed .result) (c .before .before .enclosed .ensures) (told (c .before .before .enclosed .result) (c .before .is-value .result) false (search needs) (c .before .is-value .ensures) (not-true _ (c .if2 .taken))))
+    let word = c .before .before .before .before .before .before .head .ensures in
+    let inside = c .before .before .before .before .before .if1 .left in
+    let linked = c .before .before .before .link .ensures .same in
+    let enclosed = c .before .before .enclosed in
+    let value = c .before .is-value in
+    evaluated-read _ _ _ _ _ (enclosed .result) (search needs)
+    (start-fails _ (now (now (s .args .values))) (s .args .base) _ _ (s .pre .1 .1) _ word inside _ linked (enclosed .result) (enclosed .ensures)
+    (told (enclosed .result) (value .result) false (search needs) (value .ensures) (not-true _ (c .if2 .taken))))
 
 whole-ends-requires : (t : ℕ) → whole-lts.Need-ends-requires (calls-whole t) (whole-at t) whole.Post
 whole-ends-requires t c κs = omega (arith, c .before .before .before .link .ensures .small)
@@ -341,11 +520,14 @@ IsOpened t c a i = Opened _ (now (now (c .before .before .before .args .values))
 
 opened : (t : ℕ) (c : Opening t) → IsOpened t c (c .if1 .acc) (c .if1 .i)
 opened t c =
+    let s = c .before .before .before in
+    let word = c .before .head in
     ⊎-elim
     (λ k. subst₂ (IsOpened t c) (sym (k .3)) (sym (k .4))
-    (start-leaf _ (now (now (c .before .before .before .args .values))) (c .before .before .before .args .base) _ _ (c .before .before .before .pre .1 .1) (c .before .head .result) (c .before .head .ensures) (k .0 .taken) (k .2 .result) (search needs) (k .2 .ensures)))
+    (start-leaf _ (now (now (s .args .values))) (s .args .base) _ _ (s .pre .1 .1) (word .result) (word .ensures) (k .0 .taken) (k .2 .result) (search needs) (k .2 .ensures)))
     (λ k. subst₂ (IsOpened t c) (sym (k .7)) (sym (k .8 ∙ k .6 .ensures))
-    (start-enclosed _ (now (now (c .before .before .before .args .values))) (c .before .before .before .args .base) _ _ (c .before .before .before .pre .1 .1) (c .before .head .result) (c .before .head .ensures) (k .0 .left) (k .2 .result) (k .2 .ensures .same) (k .3 .result) (k .3 .ensures) (search needs)
+    (start-enclosed _ (now (now (s .args .values))) (s .args .base) _ _ (s .pre .1 .1) (word .result) (word .ensures) (k .0 .left) (k .2 .result) (k .2 .ensures .same)
+    (k .3 .result) (k .3 .ensures) (search needs)
     (told (k .3 .result) (k .4 .result) true (search needs) (k .4 .ensures) (not-false _ (k .5 .left)))))
     (c .if1 .came)
 

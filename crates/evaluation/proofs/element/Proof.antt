@@ -26,7 +26,10 @@ cell-requires c κs = search needs
 cast-load : tie.Need-cast-load
 cast-load c =
     let s = c .before .before .before .before .before .before in
-    index-cast (now (s .args .values)) (s .args .base) (s .args .w) (s .args .x) (s .pre .0) (s .pre .1) (s .pre .2) (s .fits .x) (c .before .before .before .before .is-value .result) (c .before .before .before .before .is-value .ensures) (c .before .before .before .if1 .taken) (c .before .before .if2 .left) (search needs) (c .before .if3 .left)
+    let value = c .before .before .before .before .is-value in
+    let told = c .before .before .before .if1 .taken in
+    let some = c .before .before .if2 .left in
+    index-cast (now (s .args .values)) (s .args .base) (s .args .w) (s .args .x) (s .pre .0) (s .pre .1) (s .pre .2) (s .fits .x) (value .result) (value .ensures) told some (search needs) (c .before .if3 .left)
 
 sub-load : tie.Need-sub-load
 sub-load c = search (needs, index-some)
@@ -34,7 +37,10 @@ sub-load c = search (needs, index-some)
 add-load : tie.Need-add-load
 add-load c =
     let s = c .before .before .before .before .before .before in
-    omega (arith, index-inside (now (s .args .values)) (s .args .base) (s .args .w) (s .args .x) (s .pre .0) (s .pre .1) (s .pre .2) (s .fits .x) (c .before .before .before .before .is-value .result) (c .before .before .before .before .is-value .ensures) (c .before .before .before .if1 .taken) (c .before .before .if2 .left) (search needs) (c .before .if3 .left) (c .cell .result) (c .cell .ensures))
+    let value = c .before .before .before .before .is-value in
+    let told = c .before .before .before .if1 .taken in
+    let some = c .before .before .if2 .left in
+    omega (arith, index-inside (now (s .args .values)) (s .args .base) (s .args .w) (s .args .x) (s .pre .0) (s .pre .1) (s .pre .2) (s .fits .x) (value .result) (value .ensures) told some (search needs) (c .before .if3 .left) (c .cell .result) (c .cell .ensures))
 
 load-requires : tie.Need-load-requires
 load-requires c κs = search (needs, index-inside)

@@ -1,6 +1,7 @@
 use borrow.Author.Needs.{needs}
 use Rattle.evaluation.proofs.Numbers.{narrowed}
-use Rattle.evaluation.proofs.Operators.{sum-fits, difference-fits, product-fits, work-add, work-subtract, work-multiply, work-divide, work-modulo, work-less, work-less-equal, work-greater, work-greater-equal, work-equal, work-unequal, work-xor, work-both, work-either, work-14, work-15, work-rest}
+use Rattle.evaluation.proofs.Operators.{sum-fits, difference-fits, product-fits, work-add, work-subtract, work-multiply, work-divide, work-modulo}
+use Rattle.evaluation.proofs.Operators.{work-less, work-less-equal, work-greater, work-greater-equal, work-equal, work-unequal, work-xor, work-both, work-either, work-14, work-15, work-rest}
 use Rattle.evaluation.proofs.operate.Statement.{statement}
 use Rattle.evaluation.proofs.operate.Tie as tie
 

@@ -1,7 +1,7 @@
 use borrow.Author.Needs.{needs}
 use Rattle.loops.proofs.for_test.Statement.{statement}
 use Rattle.loops.proofs.for_test.Tie as tie
-use Rattle.choices.proofs.Choosing.{word-in}
+use Rattle.machine.proofs.Deciding.{word-in}
 use Rattle.loops.proofs.Looping.{for-inside, for-end-inside, for-word-inside, for-word-in, for-sum, for-small, for-again, for-done}
 
 add-k : tie.Need-add-k

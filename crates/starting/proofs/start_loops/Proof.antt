@@ -44,7 +44,12 @@ loop-less : tie.Need-loop-less Inv-loop μ-loop
 loop-less c = search needs
 
 loop-again : tie.Need-loop-again Inv-loop μ-loop
-loop-again c = idle-on _ _ _ _ _ (c .before .before .before .before .before .before .before .before .before .before .before .before .before .loop .inv) (c .before .before .before .before .before .before .before .before .before .before .before .before .before .before .before .pre) (search needs) _ (c .before .before .before .before .before .before .before .before .before .before .put .ensures) _ (c .before .before .before .before .before .before .put2 .ensures) _ (c .before .before .put3 .ensures)
+loop-again c =
+    let room = c .before .before .before .before .before .before .before .before .before .before .before .before .before .before .before .pre in
+    let idled = c .before .before .before .before .before .before .before .before .before .before .before .before .before .loop .inv in
+    let word = c .before .before .before .before .before .before .before .before .before .before .put .ensures in
+    let end = c .before .before .before .before .before .before .put2 .ensures in
+    idle-on _ _ _ _ _ idled room (search needs) _ word _ end _ (c .before .before .put3 .ensures)
 
 same-length : tie.Need-same-length Inv-loop μ-loop
 same-length c = search needs

@@ -9,26 +9,8 @@ mul-put c = search needs
 put-requires : tie.Need-put-requires
 put-requires c κs = search needs
 
-mul-put-2 : tie.Need-mul-put-2
-mul-put-2 c = search needs
-
-add-put : tie.Need-add-put
-add-put c = search needs
-
-cast-put : tie.Need-cast-put
-cast-put c = search needs
-
-cast-put-2 : tie.Need-cast-put-2
-cast-put-2 c = search needs
-
-mul-put-3 : tie.Need-mul-put-3
-mul-put-3 c = search needs
-
-add-put-2 : tie.Need-add-put-2
-add-put-2 c = search needs
-
-put-requires-2 : tie.Need-put-requires-2
-put-requires-2 c κs = search needs
+put-tail-requires : tie.Need-put-tail-requires
+put-tail-requires c κs = search needs
 
 same-length : tie.Need-same-length
 same-length c = search needs
@@ -37,17 +19,4 @@ returns : tie.Need-returns
 returns c = search (needs, two-puts)
 
 pub rewrite-spec : {M : Type 1} → statement M
-rewrite-spec =
-    tie.close
-    (tie.spec
-    mul-put
-    put-requires
-    mul-put-2
-    add-put
-    cast-put
-    cast-put-2
-    mul-put-3
-    add-put-2
-    put-requires-2
-    same-length
-    returns)
+rewrite-spec = tie.close (tie.spec mul-put put-requires put-tail-requires same-length returns)

@@ -6,26 +6,8 @@ use Rattle.store.proofs.set_place.Tie as tie
 link-requires : tie.Need-link-requires
 link-requires c κs = search needs
 
-mul-put : tie.Need-mul-put
-mul-put c = search needs
-
-add-put : tie.Need-add-put
-add-put c = search needs
-
-cast-put : tie.Need-cast-put
-cast-put c = search needs
-
-cast-put-2 : tie.Need-cast-put-2
-cast-put-2 c = search needs
-
-mul-put-2 : tie.Need-mul-put-2
-mul-put-2 c = search needs
-
-add-put-2 : tie.Need-add-put-2
-add-put-2 c = search needs
-
-put-requires : tie.Need-put-requires
-put-requires c κs = search needs
+put-tail-requires : tie.Need-put-tail-requires
+put-tail-requires c κs = search needs
 
 same-length : tie.Need-same-length
 same-length c = search needs
@@ -34,16 +16,4 @@ returns : tie.Need-returns
 returns c = search (needs, place-written)
 
 pub set-place-spec : {M : Type 1} → statement M
-set-place-spec =
-    tie.close
-    (tie.spec
-    link-requires
-    mul-put
-    add-put
-    cast-put
-    cast-put-2
-    mul-put-2
-    add-put-2
-    put-requires
-    same-length
-    returns)
+set-place-spec = tie.close (tie.spec link-requires put-tail-requires same-length returns)
