@@ -6,11 +6,11 @@ use Rattle.layout.specs.Rules.{smallStore, wrongDepth, longText, badByte
 use Rattle.layout.specs.Answers.{entered, left, ended, lacked, handed, firstError}
 use Rattle.layout.specs.Kinds.{aVariable, anArray, aConstant, aLoop, aRoutine, anErrno, anErrorNumber}
 use Rattle.layout.specs.Types.{noType, numType, boolType}
-use Rattle.layout.specs.Parts.{valuePart, linkPart, sizePart, charactersPart, loopPart, spelledPart}
+use Rattle.layout.specs.Parts.{valuePart, linkPart, sizePart, charactersPart, loopPart, spelledPart, halfPart}
 use Rattle.paper.specs.Words.{textLimit, wordLimit}
 use Rattle.paper.specs.Types.{elementLimit}
 use Rattle.paper.specs.Declarations.{routineLimit, moduleWordLimit, routineWordLimit}
-use Rattle.paper.specs.Answer.{depthLimit, storeWords}
+use Rattle.paper.specs.Answer.{depthLimit, storeWords, recordSize}
 use Rattle.code.specs.Cells.{firstWindow, windowCells, errnoCell}
 use Rattle.code.specs.Windows.{endsCell, stepsCell, routineCell, waitsCell, afterCell, failedCell, resultCell, writtenCell, usedCell}
 use Rattle.code.specs.Spans.{bias, aLiteral, aModuleWord, aCallWord, aModuleElement, aCallElement, aParenthesis, aNot, aPlus, aMinus, anOperator}
@@ -22,7 +22,7 @@ ops =
 
 abbrev pub cells : List ℕ
 cells =
-    firstWindow ∷ windowCells ∷ endsCell ∷ stepsCell ∷ routineCell ∷ waitsCell ∷ afterCell ∷ failedCell ∷ resultCell ∷ writtenCell ∷ usedCell ∷ errnoCell ∷ []
+    firstWindow ∷ windowCells ∷ endsCell ∷ stepsCell ∷ routineCell ∷ waitsCell ∷ afterCell ∷ failedCell ∷ resultCell ∷ writtenCell ∷ usedCell ∷ errnoCell ∷ halfPart ∷ []
 
 abbrev pub answers : List ℤ
 answers = pos entered ∷ pos left ∷ pos ended ∷ pos lacked ∷ pos handed ∷ pos firstError ∷ []
@@ -50,4 +50,4 @@ abbrev pub parts : List ℕ
 parts = valuePart ∷ linkPart ∷ sizePart ∷ charactersPart ∷ loopPart ∷ spelledPart ∷ bias ∷ []
 
 abbrev pub limits : List ℕ
-limits = textLimit ∷ wordLimit ∷ routineLimit ∷ moduleWordLimit ∷ routineWordLimit ∷ elementLimit ∷ depthLimit ∷ storeWords ∷ storeBytes ∷ []
+limits = textLimit ∷ wordLimit ∷ routineLimit ∷ moduleWordLimit ∷ routineWordLimit ∷ elementLimit ∷ depthLimit ∷ storeWords ∷ storeBytes ∷ recordSize ∷ []

@@ -24,3 +24,7 @@ loopPart = 256
 -- a name's value: its length above its number
 abbrev pub spelledPart : ℕ
 spelledPart = 8192
+
+-- a number in two cells: its high half above its low one
+abbrev pub halfPart : ℕ
+halfPart = 4294967296

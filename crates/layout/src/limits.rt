@@ -24,8 +24,14 @@ pub const STORE_CELLS: usize = 16384;
 
 pub const STORE_BYTES: usize = 65536;
 
+// bytes of the record
+pub const RECORD_BYTES: usize = 64;
+
+// live calls, as a call counts them
+pub const DEEPEST: u32 = DEPTH as u32;
+
 // All of them, as the specs name them: a wrong one breaks this contract.
-pub fn all() -> [usize; 9]
+pub fn all() -> [usize; 10]
     ensures { λ r. ⌜ r ≡ limits ⌝ }
 {
     [
@@ -38,5 +44,6 @@ pub fn all() -> [usize; 9]
         DEPTH,
         STORE_CELLS,
         STORE_BYTES,
+        RECORD_BYTES,
     ]
 }

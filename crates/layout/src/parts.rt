@@ -23,6 +23,14 @@ pub const SPELLED: u32 = 8192;
 // what a number is held above: how far it is from the lowest
 pub const BIAS: u32 = 8388607;
 
+// the same as words count
+pub const SIZE_AT: usize = SIZE as usize;
+
+pub const CHARACTERS_AT: usize = CHARACTERS as usize;
+
+// the FOR of an ENDFOR, where the op stands below its value
+pub const LOOP_IN_HEAD: u32 = VALUE * LOOP;
+
 // All of them, as the specs name them: a wrong one breaks this contract.
 pub fn all() -> [u32; 7]
     ensures { λ r. ⌜ r ≡ parts ⌝ }
