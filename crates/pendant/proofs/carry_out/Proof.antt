@@ -42,10 +42,14 @@ empty-requires c κs =
     empties (start .pre) (at-run .run .ensures)
 
 same-length : tie.Need-same-length
-same-length c = search needs
+same-length c =
+    let at-run = c .before .before .before .before .before .before .before .before .before .before .before .before .before .before .before .before .before in
+    at-run .run .kept .1 .1 .1 .1 .0
 
 same-length-2 : tie.Need-same-length-2
-same-length-2 c = search needs
+same-length-2 c =
+    let at-empty = c .before .before .before .before in
+    at-empty .empty .kept .0
 
 same-length-3 : tie.Need-same-length-3
 same-length-3 c =
@@ -55,7 +59,9 @@ same-length-3 c =
     at-empty .empty .kept .1 .0 ∙ whole-size (start .pre) (at-run .run .ensures)
 
 same-length-4 : tie.Need-same-length-4
-same-length-4 c = search needs
+same-length-4 c =
+    let at-report = c .before .before .before .before .before .before .before .before .before in
+    at-report .report .kept .1 .0
 
 returns : tie.Need-returns
 returns c =
