@@ -22,7 +22,7 @@ use Rattle.paper.specs.Running.{perform, calling}
 use Rattle.cells.specs.Words.{wordsOf}
 use Rattle.numbers.proofs.Whole.{read}
 use Rattle.code.specs.Cells.{opAt, linkAt, windowOf}
-use Rattle.code.specs.Steps.{Head, aCallTarget, anyArguments}
+use Rattle.code.specs.Steps.{Head, aCallTarget, anyArguments, aNextArgument, aProcedureCall}
 use Rattle.code.specs.Holds.{CalleeIn}
 use Rattle.code.specs.Windows.{writtenCell, usedCell, resultIn}
 use Rattle.code.proofs.Options.{same-some}
@@ -42,6 +42,7 @@ use Rattle.targets.proofs.Elements.{cell-most}
 use Rattle.machine.proofs.States.{roomy, depth-is}
 use Rattle.targets.proofs.References.{spot-found, ref-location}
 use Rattle.targets.proofs.Assigning.{memory-is}
+use Rattle.layout.specs.Answers.{answers, lacked}
 use Rattle.calls.proofs.Called.{call-passes, here-after, call-fails, answer-signed, answer-fits, answer-closes, call-lacks, call-may, call-enters}
 
 -- ---- any call
@@ -52,10 +53,10 @@ module _ (code values : List ℕ) (base last i callee first result : ℕ) (mc : 
   pub call-inside : callee * 8 + 8 ≤ length code
   call-inside = own .inside
 
-  pub lack-fits : Fits w64 (262144 + callee)
+  pub lack-fits : Fits w64 (lacked + callee)
   lack-fits = record { fits = omega (arith, call-inside, mc .here .code-size) }
 
-  pub lack-signed : SFits w64 (pos (262144 + callee))
+  pub lack-signed : SFits w64 (pos (lacked + callee))
   lack-signed = record { sfits = omega (arith, call-inside, mc .here .code-size) }
 
   module _ (l : ℕ) (pl : Part halfEnd (linkAt (wordsOf code) callee) l) where
@@ -87,11 +88,11 @@ module _ (code values : List ℕ) (base last i callee first result : ℕ) (mc : 
         pub fits : Fits w64 (natAbs (read r))
         fits = rw (toZ-ofZ s) (answer-fits code values base i last first l after r ps (mc .here) callee result (begins (mc .here)) less)
 
-        closes-is : (h : Here code values base i) → natAbs (read r) % 65536 ≡ begins h .closes
+        closes-is : (h : Here code values base i) → natAbs (read r) % answers ≡ begins h .closes
         closes-is h = rw (toZ-ofZ s) (answer-closes code values base i last first l after r ps h callee result (begins h) less)
 
         -- where the caller goes on
-        module _ (w : ℕ) (e : w ≡ goesOnAt i (natAbs (read r) % 65536) result) where
+        module _ (w : ℕ) (e : w ≡ goesOnAt i (natAbs (read r) % answers) result) where
           leads : (h : Here code values base i) → linkAt (wordsOf code) w ≡ here.stepHere code values base i h .after
           leads h = ap (linkAt (wordsOf code)) (e ∙ ap (λ (c : ℕ). goesOnAt i c result) (closes-is h)) ∙ sym (begins h .after-is)
 
@@ -104,20 +105,20 @@ module _ (code values : List ℕ) (base last i callee first result : ℕ) (mc : 
             goes : (h : Here code values base i) → l2 ≡ here.stepHere code values base i h .after
             goes h = p2 .same ∙ leads h
 
-            pub may : MayEnter code after base i callee result l2 (natAbs (read r) / 65536)
+            pub may : MayEnter code after base i callee result l2 (natAbs (read r) / answers)
             may = rw (toZ-ofZ s) (record {
               here = here-after code values base i last first l after r ps (mc .here);
               enters = call-may code values base i last first l after r ps (mc .here) callee result (begins (mc .here)) less (mc .deepest .rooms) (mc .deepest .is) u l2 (goes (mc .here));
             })
 
-            pub enters-done : (after2 : List ℕ) (r2 : ℤ) → SFits w64 r2 → Entered code after base i callee result l2 (natAbs (read r) / 65536) after2 r2 → Calls code values after2 base last i (read r2)
+            pub enters-done : (after2 : List ℕ) (r2 : ℤ) → SFits w64 r2 → Entered code after base i callee result l2 (natAbs (read r) / answers) after2 r2 → Calls code values after2 base last i (read r2)
             enters-done after2 r2 s2 en = rw (toZ-ofZ s2) (record {
               long = en .long ∙ ps .long;
               kept = λ c x y. en .kept c x y ∙ kept-below c x y;
               does = λ h rooms lw steps out. call-enters code values base i last first l after r ps h callee result (begins h) less rooms lw u l2 (goes h) after2 r2 (rw (toZ-ofZ s) at en) steps out;
             })
 
-        pub lacks-done : ltb base last ≡ false → Calls code values after base last i (toZ w64 (262144 + callee))
+        pub lacks-done : ltb base last ≡ false → Calls code values after base last i (toZ w64 (lacked + callee))
         lacks-done u = record {
           long = ps .long;
           kept = kept-below;
@@ -135,13 +136,13 @@ goes-own i closes result z = rw (ne-eqb result 0 z)
 
 -- ---- a procedure call
 module _ (code values : List ℕ) (base i : ℕ) where
-  of-read : (h : Here code values base i) → opAt (wordsOf code) i ≡ 136
+  of-read : (h : Here code values base i) → opAt (wordsOf code) i ≡ aProcedureCall
       → reads.CallsOf (here.m code values base i h) (here.n code values base i h) (here.codeHere code values base i h .function) (h .text) (h .R) (wordsOf code) i (here.stepHere code values base i h .after) (here.stepHere code values base i h .does)
   of-read h op =
       let s = here.stepHere code values base i h in
       reads-call-of (here.m code values base i h) (here.n code values base i h) (here.codeHere code values base i h .function) (h .text) (h .R) (wordsOf code) i (s .after) (s .does) (here.action-here code values base i h) op
 
-  module _ (op : opAt (wordsOf code) i ≡ 136) where
+  module _ (op : opAt (wordsOf code) i ≡ aProcedureCall) where
     of-calling : (h : Here code values base i) → Calling code values base i h (i + 1) (linkAt (wordsOf code) i) i 0
     unfolding perform CalleeIn resultIn
     of-calling h =
@@ -170,7 +171,7 @@ module _ (code values : List ℕ) (base i : ℕ) where
 
 -- ---- a call for a result
 module _ (code values : List ℕ) (base i : ℕ) where
-  pub for-read : (h : Here code values base i) → 132 ≤ opAt (wordsOf code) i → opAt (wordsOf code) i < 136
+  pub for-read : (h : Here code values base i) → aCallTarget ≤ opAt (wordsOf code) i → opAt (wordsOf code) i < aProcedureCall
       → reads.CallsFor (here.m code values base i h) (here.n code values base i h) (here.codeHere code values base i h .function) (h .text) (h .R) (wordsOf code) i (here.stepHere code values base i h .after) (here.stepHere code values base i h .does)
   for-read h low high =
       let s = here.stepHere code values base i h in
@@ -182,7 +183,7 @@ module _ (code values : List ℕ) (base i : ℕ) where
   goes-fits P R X d cell (ofModule k) f q = inModule k (omega arith) (omega arith)
   goes-fits P R X d cell (ofRoutine k) f q = inCaller d k refl (omega arith) (omega arith)
 
-  module _ (next cell : ℕ) (low : 132 ≤ opAt (wordsOf code) i) (high : opAt (wordsOf code) i < 136) where
+  module _ (next cell : ℕ) (low : aCallTarget ≤ opAt (wordsOf code) i) (high : opAt (wordsOf code) i < aProcedureCall) where
     module _ (h : Here code values base i) (a : Aims code values base i h aCallTarget cell next) where
       read-at : reads.CallsFor (here.m code values base i h) (here.n code values base i h) (here.codeHere code values base i h .function) (h .text) (h .R) (wordsOf code) i (here.stepHere code values base i h .after) (here.stepHere code values base i h .does)
       read-at = for-read h low high
@@ -208,7 +209,7 @@ module _ (code values : List ℕ) (base i : ℕ) where
           let e : linkAt (wordsOf code) (read-at .j + 1) ≡ 0 = ap (λ (x : ℕ). linkAt (wordsOf code) (x + 1)) next-is ∙ z in
           let q : anyArguments m n f (h .text) (h .R) (wordsOf code) (read-at .j + 3) 0 ≡ some (read-at .es, read-at .closes) = ap (anyArguments m n f (h .text) (h .R) (wordsOf code) (read-at .j + 3)) (sym e) ∙ read-at .arguments in
           let p = some-arguments m n f (h .text) (h .R) (wordsOf code) (read-at .j + 3) 0 (read-at .es) (read-at .closes) (λ y. omega arith) q in
-          by-same (opAt (wordsOf code) 0) 159
+          by-same (opAt (wordsOf code) 0) aNextArgument
           (λ y. let x = argument-more m n f (h .text) (h .R) (wordsOf code) (read-at .j + 3) 0 (read-at .es) (read-at .closes) 8191 p y in omega (arith, span-grows m n (wordsOf code) (read-at .j + 3) 0 (x .e) (x .reads)))
           (λ y. let x = argument-last m n f (h .text) (h .R) (wordsOf code) (read-at .j + 3) 0 (read-at .es) (read-at .closes) 8191 p y in omega (arith, span-grows m n (wordsOf code) (read-at .j + 3) 0 (x .e) (x .reads)))
 

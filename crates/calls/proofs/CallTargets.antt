@@ -18,7 +18,7 @@ use Rattle.paper.specs.Running.{perform, calling}
 use Rattle.cells.specs.Words.{wordsOf}
 use Rattle.numbers.proofs.Whole.{read}
 use Rattle.code.specs.Cells.{opAt, linkAt}
-use Rattle.code.specs.Steps.{aCallTarget}
+use Rattle.code.specs.Steps.{aCallTarget, aProcedureCall}
 use Rattle.evaluation.specs.Answers.{firstError}
 use Rattle.reading.specs.Reading.{halfEnd, Part}
 use Rattle.machine.specs.Machine.{Here, effectAt, Calls}
@@ -31,11 +31,11 @@ use Rattle.calls.proofs.CallSteps.{for-read}
 module _ (code values : List ℕ) (base last i : ℕ) (dp : Deepest last) where
   -- ---- a word
   module _ (cell : ℕ) (w : WordAt (wordsOf code) base aCallTarget i cell) where
-    word-low : (x : WordAt (wordsOf code) base aCallTarget i cell) → 132 ≤ opAt (wordsOf code) i
+    word-low : (x : WordAt (wordsOf code) base aCallTarget i cell) → aCallTarget ≤ opAt (wordsOf code) i
     word-low (ofModuleWord q z) = omega arith
     word-low (ofCallWord q z) = omega arith
 
-    word-high : (x : WordAt (wordsOf code) base aCallTarget i cell) → opAt (wordsOf code) i < 136
+    word-high : (x : WordAt (wordsOf code) base aCallTarget i cell) → opAt (wordsOf code) i < aProcedureCall
     word-high (ofModuleWord q z) = omega arith
     word-high (ofCallWord q z) = omega arith
 
@@ -47,11 +47,11 @@ module _ (code values : List ℕ) (base last i : ℕ) (dp : Deepest last) where
 
   -- ---- an element
   module _ (first size : ℕ) (a : ArrayAt (wordsOf code) base aCallTarget i first size) where
-    array-low : (x : ArrayAt (wordsOf code) base aCallTarget i first size) → 132 ≤ opAt (wordsOf code) i
+    array-low : (x : ArrayAt (wordsOf code) base aCallTarget i first size) → aCallTarget ≤ opAt (wordsOf code) i
     array-low (ofModuleArray q z y) = omega arith
     array-low (ofCallArray q z y) = omega arith
 
-    array-high : (x : ArrayAt (wordsOf code) base aCallTarget i first size) → opAt (wordsOf code) i < 136
+    array-high : (x : ArrayAt (wordsOf code) base aCallTarget i first size) → opAt (wordsOf code) i < aProcedureCall
     array-high (ofModuleArray q z y) = omega arith
     array-high (ofCallArray q z y) = omega arith
 

@@ -33,6 +33,9 @@ use Rattle.machine.proofs.Agreeing.{SameIn}
 use Rattle.machine.proofs.States.{roomy, depth-is, past}
 use Rattle.machine.proofs.Living.{routine-code, fits-same, live-past}
 use Rattle.machine.proofs.Current as here
+use Rattle.layout.specs.Answers.{answers, lacked}
+use Rattle.paper.specs.Answer.{storeWords}
+use Rattle.paper.specs.Words.{wordLimit}
 use Rattle.targets.proofs.Assigning.{memory-is}
 
 -- ---- what the answer for the arguments tells
@@ -42,7 +45,7 @@ pub record Given (c : Counts) (values after : List ℕ) (base : ℕ) (room : Boo
   pub goes : (S : State) (go : List ℤ → Effect) → withValues (answers.memoryOf c values base) es S go ≡ go zs
   pub holds : room ≡ true → Holding (wordsOf after) (base + windowCells) zs
   pub small : closes < 65536
-  pub is : r ≡ pos (closes + 65536 * (base + windowCells + length es))
+  pub is : r ≡ pos (closes + answers * (base + windowCells + length es))
 
 pub record Raised (c : Counts) (values : List ℕ) (base : ℕ) (es : List Term) (r : ℤ) : Type 0 where
   pub e : ℕ
@@ -57,15 +60,15 @@ module _ (c : Counts) (values after : List ℕ) (base : ℕ) (room : Bool) (es :
       let y : ltb (firstError + e) firstError ≡ true = subst (λ (x : ℤ). ltZ x (pos firstError) ≡ true) z t in
       absurd (omega (arith, ltb-true (firstError + e) firstError y))
 
-  pub argued-raised : base < 16384 → length es ≤ callWords → Argued c values after base room es closes r → ltZ r (pos firstError) ≡ false → Raised c values base es r
+  pub argued-raised : base < storeWords → length es ≤ callWords → Argued c values after base room es closes r → ltZ r (pos firstError) ≡ false → Raised c values base es r
   argued-raised b l (raises e s g z) t = record { e = e; small = s; goes = g; is = z }
   argued-raised b l (given zs q g h s e) t =
-      let y : ltb (closes + 65536 * (base + windowCells + length es)) firstError ≡ false = subst (λ (x : ℤ). ltZ x (pos firstError) ≡ false) e t in
-      absurd (omega (arith, ltb-false (closes + 65536 * (base + windowCells + length es)) firstError y))
+      let y : ltb (closes + answers * (base + windowCells + length es)) firstError ≡ false = subst (λ (x : ℤ). ltZ x (pos firstError) ≡ false) e t in
+      absurd (omega (arith, ltb-false (closes + answers * (base + windowCells + length es)) firstError y))
 
 -- ---- a call, as the table says it
 module _ (code values : List ℕ) (base i : ℕ) where
-  base-low : (h : Here code values base i) → base < 16384
+  base-low : (h : Here code values base i) → base < storeWords
   base-low h = omega (arith, h .base-is, h .deep)
 
   few : (h : Here code values base i) (first end callee result : ℕ) (g : Calling code values base i h first end callee result) → length (g .es) ≤ callWords
@@ -162,16 +165,16 @@ module _ (code values : List ℕ) (base i : ℕ) where
         pub answer-signed : T (nonNeg r)
         answer-signed = subst (λ (z : ℤ). T (nonNeg z)) (sym (values-of .is)) tt
 
-        answer-is : natAbs r ≡ g .closes + 65536 * (base + windowCells + length (g .es))
+        answer-is : natAbs r ≡ g .closes + answers * (base + windowCells + length (g .es))
         answer-is = ap natAbs (values-of .is)
 
         pub answer-fits : Fits w64 (natAbs r)
         answer-fits = record { fits = omega (arith, answer-is, values-of .small, base-low h, few h first end callee result g) }
 
-        pub answer-closes : natAbs r % 65536 ≡ g .closes
+        pub answer-closes : natAbs r % answers ≡ g .closes
         answer-closes = omega (arith, answer-is, values-of .small)
 
-        pub answer-next : natAbs r / 65536 ≡ base + windowCells + length (g .es)
+        pub answer-next : natAbs r / answers ≡ base + windowCells + length (g .es)
         answer-next = omega (arith, answer-is, values-of .small)
 
         effect-is : (rooms : Rooms) (steps : ℕ) (out : List ℕ) (y : Bool) → ltb (length (here.stateHere code values base i h rooms steps out .calls)) (rooms .depth) ≡ y
@@ -188,18 +191,18 @@ module _ (code values : List ℕ) (base i : ℕ) where
 
         -- no room
         pub call-lacks : (rooms : Rooms) → LastWindow rooms last → ltb base last ≡ false → (steps : ℕ) (out : List ℕ)
-            → Comes (h .P) (h .R) (wordsOf code) (h .offset) (h .d) i steps (wordsOf values) (wordsOf after) out out (effectAt (h .P) (h .R) rooms (wordsOf values) (h .d) i steps out) (toZ w64 (262144 + callee))
+            → Comes (h .P) (h .R) (wordsOf code) (h .offset) (h .d) i steps (wordsOf values) (wordsOf after) out out (effectAt (h .P) (h .R) rooms (wordsOf values) (h .d) i steps out) (toZ w64 (lacked + callee))
         unfolding lackedBy
         call-lacks rooms lw u steps out =
             let S = here.stateHere code values base i h rooms steps out in
-            let s : callee < 8192 = omega (arith, g .inside, h .code-size) in
-            rw (toZ-pos w64 (262144 + callee) (omega arith))
+            let s : callee < wordLimit = omega (arith, g .inside, h .code-size) in
+            rw (toZ-pos w64 (lacked + callee) (omega arith))
             (lacks 6 callee callee (ap pos (omega arith)) (omega arith) (omega arith) (omega arith) (g .place) (ps .idle u) refl
             (effect-is rooms steps out false (le-ltb (length (S .calls)) (rooms .depth) (omega (arith, depth-is (h .P) (h .R) (wordsOf values) (h .d) i steps out, no-room h last rooms lw u)))))
 
         -- room
         module _ (rooms : Rooms) (lw : LastWindow rooms last) (u : ltb base last ≡ true) (after′ : ℕ) (ea : after′ ≡ here.stepHere code values base i h .after) where
-          pub call-may : Enters code after base i (here-after h) callee result after′ (natAbs r / 65536)
+          pub call-may : Enters code after base i (here-after h) callee result after′ (natAbs r / answers)
           call-may = record {
             deep = omega (arith, room-deep h last rooms lw u, lw .most);
             inside = g .inside;
@@ -216,7 +219,7 @@ module _ (code values : List ℕ) (base i : ℕ) where
             after-is = ea ∙ sym (ap (λ (c : Code). stepNamed (c .steps) i .after) (code-same h));
           }
 
-          pub call-enters : (after2 : List ℕ) (r2 : ℤ) → Entered code after base i callee result after′ (natAbs r / 65536) after2 r2 → (steps : ℕ) (out : List ℕ)
+          pub call-enters : (after2 : List ℕ) (r2 : ℤ) → Entered code after base i callee result after′ (natAbs r / answers) after2 r2 → (steps : ℕ) (out : List ℕ)
               → Comes (h .P) (h .R) (wordsOf code) (h .offset) (h .d) i steps (wordsOf values) (wordsOf after2) out out (effectAt (h .P) (h .R) rooms (wordsOf values) (h .d) i steps out) r2
           unfolding call-may
           call-enters after2 r2 en steps out =

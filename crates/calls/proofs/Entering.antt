@@ -20,7 +20,7 @@ use Rattle.code.specs.Cells.{placeAt, valueAt, linkAt, windowOf, windowCells}
 use Rattle.code.specs.Steps.{Head, noHead, numbered, parts}
 use Rattle.code.specs.Closed.{isNamed}
 use Rattle.code.specs.Holds.{dataIn, HoldsRoutine}
-use Rattle.code.specs.Windows.{endsCell, stepsCell, routineCell, waitsCell, afterCell, resultIn, stateIn}
+use Rattle.code.specs.Windows.{endsCell, stepsCell, routineCell, waitsCell, afterCell, resultIn, stateIn, failedCell, resultCell}
 use Rattle.evaluation.specs.Answers.{callWords}
 use Rattle.reading.specs.Reading.{valueEnd, halfEnd, Part}
 use Rattle.machine.specs.Live.{wordsOfCall, codeOfCall, ResultFits, nowhere, inModule, inCaller, noneFailed, Sane, Waits, Below, Live}
@@ -32,10 +32,11 @@ use Rattle.machine.proofs.States.{storeWords, Roomy, roomy, entered-state, past
 use Rattle.machine.proofs.Living.{routine-code, fits-same, live-waits, live-past}
 use Rattle.starting.proofs.Writing.{holding-append, holding-same, holding-zeros}
 use Rattle.starting.proofs.Fresh.{FreshIn, call-fresh}
+use Rattle.paper.specs.Declarations.{moduleWordLimit}
 use Rattle.machine.proofs.Current as here
 
 -- a result goes to a cell that a word can name
-pub result-small : (P : Program) (R : List Head) (X : List ℕ) (e r : ℕ) → length (P .words) ≤ 1024 → ((k : ℕ) → wordsOfCall (codeAt P k) ≤ callWords) → e < depthLimit → ResultFits P R X e r → r < 65536
+pub result-small : (P : Program) (R : List Head) (X : List ℕ) (e r : ℕ) → length (P .words) ≤ moduleWordLimit → ((k : ℕ) → wordsOfCall (codeAt P k) ≤ callWords) → e < depthLimit → ResultFits P R X e r → r < 65536
 result-small P R X e r m n d (nowhere z) = omega arith
 result-small P R X e r m n d (inModule k h z) = omega arith
 result-small P R X e r m n d (inCaller c k q h z) = omega (arith, n (numbered R (getD X (windowOf c + routineCell) 0)))
@@ -86,12 +87,12 @@ module _ (code values : List ℕ) (base i callee result after n : ℕ) where
     low-cell : (c : ℕ) → c < base + windowCells + windowCells → c * 4 + 4 ≤ length values
     low-cell c h = omega (arith, q .here .base-is, q .enters .deep, q .here .values-size)
 
-    module _ (v1 v2 : List ℕ) (p1 : Put values v1 (base + 193) i) (p2 : Put v1 v2 (base + 194) after) where
+    module _ (v1 v2 : List ℕ) (p1 : Put values v1 (base + waitsCell) i) (p2 : Put v1 v2 (base + afterCell) after) where
       long1 : length v1 ≡ length values
-      long1 = put-length p1 (low-cell (base + 193) (omega arith))
+      long1 = put-length p1 (low-cell (base + waitsCell) (omega arith))
 
       long2 : length v2 ≡ length values
-      long2 = put-length p2 (subst (λ (x : ℕ). (base + 194) * 4 + 4 ≤ x) (sym long1) (low-cell (base + 194) (omega arith))) ∙ long1
+      long2 = put-length p2 (subst (λ (x : ℕ). (base + afterCell) * 4 + 4 ≤ x) (sym long1) (low-cell (base + afterCell) (omega arith))) ∙ long1
 
       module _ (v : ℕ) (pv : Part valueEnd (valueAt (wordsOf code) callee) v) (l : ℕ) (pl : Part halfEnd (linkAt (wordsOf code) v) l) where
         pub enter-starts : Starts code v2 l n
@@ -106,65 +107,65 @@ module _ (code values : List ℕ) (base i callee result after n : ℕ) where
             }
 
         -- ---- and what is made
-        module _ (v3 v4 v5 v6 : List ℕ) (st : Started code v2 v3 l n) (p3 : Put v3 v4 (base + 240 + 192) v) (p4 : Put v4 v5 (base + 240 + 195) 0) (p5 : Put v5 v6 (base + 240 + 196) result) where
+        module _ (v3 v4 v5 v6 : List ℕ) (st : Started code v2 v3 l n) (p3 : Put v3 v4 (base + windowCells + routineCell) v) (p4 : Put v4 v5 (base + windowCells + failedCell) 0) (p5 : Put v5 v6 (base + windowCells + resultCell) result) where
           long3 : length v3 ≡ length values
           long3 = st .long ∙ long2
 
           long4 : length v4 ≡ length values
-          long4 = put-length p3 (subst (λ (x : ℕ). (base + 240 + 192) * 4 + 4 ≤ x) (sym long3) (low-cell (base + 240 + 192) (omega arith))) ∙ long3
+          long4 = put-length p3 (subst (λ (x : ℕ). (base + windowCells + routineCell) * 4 + 4 ≤ x) (sym long3) (low-cell (base + windowCells + routineCell) (omega arith))) ∙ long3
 
           long5 : length v5 ≡ length values
-          long5 = put-length p4 (subst (λ (x : ℕ). (base + 240 + 195) * 4 + 4 ≤ x) (sym long4) (low-cell (base + 240 + 195) (omega arith))) ∙ long4
+          long5 = put-length p4 (subst (λ (x : ℕ). (base + windowCells + failedCell) * 4 + 4 ≤ x) (sym long4) (low-cell (base + windowCells + failedCell) (omega arith))) ∙ long4
 
           long6 : length v6 ≡ length values
-          long6 = put-length p5 (subst (λ (x : ℕ). (base + 240 + 196) * 4 + 4 ≤ x) (sym long5) (low-cell (base + 240 + 196) (omega arith))) ∙ long5
+          long6 = put-length p5 (subst (λ (x : ℕ). (base + windowCells + resultCell) * 4 + 4 ≤ x) (sym long5) (low-cell (base + windowCells + resultCell) (omega arith))) ∙ long5
 
           words-long : (x : List ℕ) → length x ≡ length values → length (wordsOf x) ≡ storeWords
           words-long x e = length-words x ∙ omega (arith, e, q .here .values-size)
 
           -- the last three
-          marks : wordsOf v6 ≡ set (set (set (wordsOf v3) (base + 240 + 192) v) (base + 240 + 195) 0) (base + 240 + 196) result
+          marks : wordsOf v6 ≡ set (set (set (wordsOf v3) (base + windowCells + routineCell) v) (base + windowCells + failedCell) 0) (base + windowCells + resultCell) result
           marks =
-              p5 .words ∙ ap (λ (x : List ℕ). set x (base + 240 + 196) result) (p4 .words ∙ ap (λ (x : List ℕ). set x (base + 240 + 195) 0) (p3 .words))
+              p5 .words ∙ ap (λ (x : List ℕ). set x (base + windowCells + resultCell) result) (p4 .words ∙ ap (λ (x : List ℕ). set x (base + windowCells + failedCell) 0) (p3 .words))
 
-          other : (c : ℕ) → (c ≡ base + 240 + 192 → ⊥) → (c ≡ base + 240 + 195 → ⊥) → (c ≡ base + 240 + 196 → ⊥) → Same (wordsOf v3) (wordsOf v6) c
+          other : (c : ℕ) → (c ≡ base + windowCells + routineCell → ⊥) → (c ≡ base + windowCells + failedCell → ⊥) → (c ≡ base + windowCells + resultCell → ⊥) → Same (wordsOf v3) (wordsOf v6) c
           other c x y z =
               ap (λ (w : List ℕ). getD w c 0) marks
-              ∙ set-same (set (set (wordsOf v3) (base + 240 + 192) v) (base + 240 + 195) 0) (base + 240 + 196) result c z
-              ∙ set-same (set (wordsOf v3) (base + 240 + 192) v) (base + 240 + 195) 0 c y ∙ set-same (wordsOf v3) (base + 240 + 192) v c x
+              ∙ set-same (set (set (wordsOf v3) (base + windowCells + routineCell) v) (base + windowCells + failedCell) 0) (base + windowCells + resultCell) result c z
+              ∙ set-same (set (wordsOf v3) (base + windowCells + routineCell) v) (base + windowCells + failedCell) 0 c y ∙ set-same (wordsOf v3) (base + windowCells + routineCell) v c x
 
           room : (c : ℕ) → c < base + windowCells + windowCells → (x : List ℕ) → length x ≡ storeWords → c < length x
           room c h x e = omega (arith, e, q .here .base-is, q .enters .deep)
 
-          routine-cell : getD (wordsOf v6) (base + 240 + 192) 0 ≡ v
+          routine-cell : getD (wordsOf v6) (base + windowCells + routineCell) 0 ≡ v
           routine-cell =
-              ap (λ (w : List ℕ). getD w (base + 240 + 192) 0) marks
-              ∙ set-same (set (set (wordsOf v3) (base + 240 + 192) v) (base + 240 + 195) 0) (base + 240 + 196) result (base + 240 + 192) (λ z. omega arith)
-              ∙ set-same (set (wordsOf v3) (base + 240 + 192) v) (base + 240 + 195) 0 (base + 240 + 192) (λ z. omega arith)
-              ∙ getD-set-same (wordsOf v3) (base + 240 + 192) v 0 (room (base + 240 + 192) (omega arith) (wordsOf v3) (words-long v3 long3))
+              ap (λ (w : List ℕ). getD w (base + windowCells + routineCell) 0) marks
+              ∙ set-same (set (set (wordsOf v3) (base + windowCells + routineCell) v) (base + windowCells + failedCell) 0) (base + windowCells + resultCell) result (base + windowCells + routineCell) (λ z. omega arith)
+              ∙ set-same (set (wordsOf v3) (base + windowCells + routineCell) v) (base + windowCells + failedCell) 0 (base + windowCells + routineCell) (λ z. omega arith)
+              ∙ getD-set-same (wordsOf v3) (base + windowCells + routineCell) v 0 (room (base + windowCells + routineCell) (omega arith) (wordsOf v3) (words-long v3 long3))
 
-          failed-cell : getD (wordsOf v6) (base + 240 + 195) 0 ≡ 0
+          failed-cell : getD (wordsOf v6) (base + windowCells + failedCell) 0 ≡ 0
           failed-cell =
-              ap (λ (w : List ℕ). getD w (base + 240 + 195) 0) marks
-              ∙ set-same (set (set (wordsOf v3) (base + 240 + 192) v) (base + 240 + 195) 0) (base + 240 + 196) result (base + 240 + 195) (λ z. omega arith)
-              ∙ getD-set-same (set (wordsOf v3) (base + 240 + 192) v) (base + 240 + 195) 0 0
-              (room (base + 240 + 195) (omega arith) (set (wordsOf v3) (base + 240 + 192) v) (length-set (wordsOf v3) (base + 240 + 192) v ∙ words-long v3 long3))
+              ap (λ (w : List ℕ). getD w (base + windowCells + failedCell) 0) marks
+              ∙ set-same (set (set (wordsOf v3) (base + windowCells + routineCell) v) (base + windowCells + failedCell) 0) (base + windowCells + resultCell) result (base + windowCells + failedCell) (λ z. omega arith)
+              ∙ getD-set-same (set (wordsOf v3) (base + windowCells + routineCell) v) (base + windowCells + failedCell) 0 0
+              (room (base + windowCells + failedCell) (omega arith) (set (wordsOf v3) (base + windowCells + routineCell) v) (length-set (wordsOf v3) (base + windowCells + routineCell) v ∙ words-long v3 long3))
 
-          result-cell : getD (wordsOf v6) (base + 240 + 196) 0 ≡ result
+          result-cell : getD (wordsOf v6) (base + windowCells + resultCell) 0 ≡ result
           result-cell =
-              ap (λ (w : List ℕ). getD w (base + 240 + 196) 0) (p5 .words)
-              ∙ getD-set-same (wordsOf v5) (base + 240 + 196) result 0 (room (base + 240 + 196) (omega arith) (wordsOf v5) (words-long v5 long5))
+              ap (λ (w : List ℕ). getD w (base + windowCells + resultCell) 0) (p5 .words)
+              ∙ getD-set-same (wordsOf v5) (base + windowCells + resultCell) result 0 (room (base + windowCells + resultCell) (omega arith) (wordsOf v5) (words-long v5 long5))
 
           -- the first two
           X2 : List ℕ
-          X2 = set (set (wordsOf values) (base + 193) i) (base + 194) after
+          X2 = set (set (wordsOf values) (base + waitsCell) i) (base + afterCell) after
 
           X2-is : wordsOf v2 ≡ X2
           unfolding X2
-          X2-is = p2 .words ∙ ap (λ (x : List ℕ). set x (base + 194) after) (p1 .words)
+          X2-is = p2 .words ∙ ap (λ (x : List ℕ). set x (base + afterCell) after) (p1 .words)
 
           module _ (h : Here code values base i) (e : Enters code values base i h callee result after n) where
-            base-is : base + 240 ≡ windowOf (suc (h .d))
+            base-is : base + windowCells ≡ windowOf (suc (h .d))
             base-is = omega (arith, h .base-is)
 
             -- below the arguments' end
@@ -173,13 +174,13 @@ module _ (code values : List ℕ) (base i callee result after n : ℕ) where
                 other c (λ z. omega (arith, e .next, words-count h e, routine h e .room)) (λ z. omega (arith, e .next, words-count h e, routine h e .room)) (λ z. omega (arith, e .next, words-count h e, routine h e .room))
                 ∙ st .below c k ∙ ap (λ (x : List ℕ). getD x c 0) X2-is
 
-            arguments-are : Holding (wordsOf v6) (base + 240) (e .zs)
+            arguments-are : Holding (wordsOf v6) (base + windowCells) (e .zs)
             unfolding X2
             arguments-are =
-                holding-same (wordsOf values) (wordsOf v6) (base + 240) (e .zs) (words-long v6 long6 ∙ sym (words-long values refl))
+                holding-same (wordsOf values) (wordsOf v6) (base + windowCells) (e .zs) (words-long v6 long6 ∙ sym (words-long values refl))
                 (λ c x y.
                 low c (omega (arith, e .next))
-                ∙ set-same (set (wordsOf values) (base + 193) i) (base + 194) after c (λ z. omega arith) ∙ set-same (wordsOf values) (base + 193) i c (λ z. omega arith))
+                ∙ set-same (set (wordsOf values) (base + waitsCell) i) (base + afterCell) after c (λ z. omega arith) ∙ set-same (wordsOf values) (base + waitsCell) i c (λ z. omega arith))
                 (e .holds)
 
             data-are : Holding (wordsOf v6) n (routine h e .starts)
@@ -191,10 +192,10 @@ module _ (code values : List ℕ) (base i callee result after n : ℕ) where
             fors : ℕ
             fors = codeAt (h .P) (e .k) .fors
 
-            idle-at : (j : ℕ) → j < fors → (c : ℕ) → c < base + 240 + 192 → getD (wordsOf v3) c 0 ≡ 0 → getD (wordsOf v6) c 0 ≡ 0
+            idle-at : (j : ℕ) → j < fors → (c : ℕ) → c < base + windowCells + routineCell → getD (wordsOf v3) c 0 ≡ 0 → getD (wordsOf v6) c 0 ≡ 0
             idle-at j k c m z = other c (λ y. omega arith) (λ y. omega arith) (λ y. omega arith) ∙ z
 
-            idles : (j : ℕ) → j < fors → (getD (wordsOf v3) (n + length (routine h e .starts) + j) 0 ≡ 0) × (getD (wordsOf v3) (n + length (routine h e .starts) + j + 64) 0 ≡ 0) × (getD (wordsOf v3) (n + length (routine h e .starts) + j + 128) 0 ≡ 0)
+            idles : (j : ℕ) → j < fors → (getD (wordsOf v3) (n + length (routine h e .starts) + j) 0 ≡ 0) × (getD (wordsOf v3) (n + length (routine h e .starts) + j + endsCell) 0 ≡ 0) × (getD (wordsOf v3) (n + length (routine h e .starts) + j + stepsCell) 0 ≡ 0)
             unfolding fors
             idles j k = st .idle (routine h e .starts) (routine h e .opens) j (reading h e v pv l pl) (omega (arith, routine h e .fors-are))
 
@@ -205,30 +206,30 @@ module _ (code values : List ℕ) (base i callee result after n : ℕ) where
                 (omega (arith, words-long v6 long6, e .next, words-count h e, routine h e .room, q .here .base-is, q .enters .deep))
                 (λ j k. idle-at j k (n + length (routine h e .starts) + j) (omega (arith, e .next, words-count h e, routine h e .room)) (idles j k .0))
 
-            fresh : FreshIn (h .P) (h .R) (wordsOf v6) (base + 240) (e .k) result (e .zs)
+            fresh : FreshIn (h .P) (h .R) (wordsOf v6) (base + windowCells) (e .k) result (e .zs)
             unfolding fors
             fresh = record {
               routine = ap (numbered (h .R)) (routine-cell ∙ pv .same) ∙ sym (e .number);
               starts = routine h e .starts;
               words-are = routine h e .words-are ∙ ap (λ (x : ℕ). replicate x (pos 0) ++ routine h e .starts) (sym (e .as-many));
-              holds = holding-append (wordsOf v6) (base + 240) (e .zs ++ routine h e .starts) (replicate (codeAt (h .P) (e .k) .fors) (pos 0))
-                  (holding-append (wordsOf v6) (base + 240) (e .zs) (routine h e .starts) arguments-are (subst (λ (x : ℕ). Holding (wordsOf v6) x (routine h e .starts)) (e .next) data-are))
+              holds = holding-append (wordsOf v6) (base + windowCells) (e .zs ++ routine h e .starts) (replicate (codeAt (h .P) (e .k) .fors) (pos 0))
+                  (holding-append (wordsOf v6) (base + windowCells) (e .zs) (routine h e .starts) arguments-are (subst (λ (x : ℕ). Holding (wordsOf v6) x (routine h e .starts)) (e .next) data-are))
                   (subst (λ (x : ℕ). Holding (wordsOf v6) x (replicate (codeAt (h .P) (e .k) .fors) (pos 0))) ends-at fors-are);
               idle-are = λ j k. (
-                ap (λ (c : ℕ). getD (wordsOf v6) c 0) (at-end j) ∙ idle-at j k (n + length (routine h e .starts) + j + 64) (omega (arith, e .next, words-count h e, routine h e .room)) (idles j k .1),
-                ap (λ (c : ℕ). getD (wordsOf v6) c 0) (at-step j) ∙ idle-at j k (n + length (routine h e .starts) + j + 128) (omega (arith, e .next, words-count h e, routine h e .room)) (idles j k .2),
+                ap (λ (c : ℕ). getD (wordsOf v6) c 0) (at-end j) ∙ idle-at j k (n + length (routine h e .starts) + j + endsCell) (omega (arith, e .next, words-count h e, routine h e .room)) (idles j k .1),
+                ap (λ (c : ℕ). getD (wordsOf v6) c 0) (at-step j) ∙ idle-at j k (n + length (routine h e .starts) + j + stepsCell) (omega (arith, e .next, words-count h e, routine h e .room)) (idles j k .2),
               );
               failed = failed-cell;
               result-is = result-cell;
             }
               where
-                ends-at : n + length (routine h e .starts) ≡ base + 240 + length (e .zs ++ routine h e .starts)
+                ends-at : n + length (routine h e .starts) ≡ base + windowCells + length (e .zs ++ routine h e .starts)
                 ends-at = omega (arith, e .next, length-append (e .zs) (routine h e .starts))
 
-                at-end : (j : ℕ) → base + 240 + endsCell + (length (codeAt (h .P) (e .k) .words) + j) ≡ n + length (routine h e .starts) + j + 64
+                at-end : (j : ℕ) → base + windowCells + endsCell + (length (codeAt (h .P) (e .k) .words) + j) ≡ n + length (routine h e .starts) + j + endsCell
                 at-end j = omega (arith, e .next, words-count h e)
 
-                at-step : (j : ℕ) → base + 240 + stepsCell + (length (codeAt (h .P) (e .k) .words) + j) ≡ n + length (routine h e .starts) + j + 128
+                at-step : (j : ℕ) → base + windowCells + stepsCell + (length (codeAt (h .P) (e .k) .words) + j) ≡ n + length (routine h e .starts) + j + stepsCell
                 at-step j = omega (arith, e .next, words-count h e)
 
             -- the caller waits for the step that it was in
@@ -237,7 +238,7 @@ module _ (code values : List ℕ) (base i callee result after n : ℕ) where
 
             caller-is : X2 ≡ caller
             unfolding X2 caller
-            caller-is = ap (λ (b : ℕ). set (set (wordsOf values) (b + 193) i) (b + 194) after) (h .base-is)
+            caller-is = ap (λ (b : ℕ). set (set (wordsOf values) (b + waitsCell) i) (b + afterCell) after) (h .base-is)
 
             first-set : List ℕ
             first-set = set (wordsOf values) (windowOf (h .d) + waitsCell) i
@@ -303,7 +304,7 @@ module _ (code values : List ℕ) (base i callee result after n : ℕ) where
             fresh-at = subst (λ (b : ℕ). FreshIn (h .P) (h .R) (wordsOf v6) b (e .k) result (e .zs)) base-is fresh
 
             cell-is : getD (wordsOf v6) (windowOf (suc (h .d)) + routineCell) 0 ≡ valueAt (wordsOf code) callee
-            cell-is = ap (λ (b : ℕ). getD (wordsOf v6) (b + 192) 0) (sym base-is) ∙ routine-cell ∙ pv .same
+            cell-is = ap (λ (b : ℕ). getD (wordsOf v6) (b + routineCell) 0) (sym base-is) ∙ routine-cell ∙ pv .same
 
             sane : Sane (h .P) (h .R) (wordsOf v6) (suc (h .d))
             sane = record {
@@ -330,13 +331,13 @@ module _ (code values : List ℕ) (base i callee result after n : ℕ) where
                 ∙ ap₂ (λ (c : Call) (S : State). withCalls (c ∷ S .calls) S)
                 (call-fresh (h .P) (h .R) (wordsOf v6) (windowOf (suc (h .d))) (e .k) result (e .zs) fresh-at (wordsOf values)) (state-low steps out)
 
-          pub enter-done : (p : ℕ) → Part halfEnd (placeAt (wordsOf code) v) p → Entered code values base i callee result after n v6 (toZ w64 (65536 + p))
+          pub enter-done : (p : ℕ) → Part halfEnd (placeAt (wordsOf code) v) p → Entered code values base i callee result after n v6 (toZ w64 (entered + p))
           unfolding X2
-          enter-done p pp = rw (toZ-pos w64 (65536 + p) (omega (arith, pp .small))) (record {
+          enter-done p pp = rw (toZ-pos w64 (entered + p) (omega (arith, pp .small))) (record {
             long = long6;
             kept = λ c x y.
                 low (q .here) (q .enters) c (omega (arith, q .enters .next, q .here .base-is))
-                ∙ set-same (set (wordsOf values) (base + 193) i) (base + 194) after c (λ z. omega (arith, q .here .base-is)) ∙ set-same (wordsOf values) (base + 193) i c (λ z. omega (arith, q .here .base-is));
+                ∙ set-same (set (wordsOf values) (base + waitsCell) i) (base + afterCell) after c (λ z. omega (arith, q .here .base-is)) ∙ set-same (wordsOf values) (base + waitsCell) i c (λ z. omega (arith, q .here .base-is));
             answer = λ h e. ap (λ (x : ℕ). pos (entered + x)) (start-is h e v pv p pp);
             live = λ h e. live-new h e;
             state = λ h e steps out. state-new h e steps out;

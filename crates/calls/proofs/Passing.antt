@@ -22,7 +22,7 @@ use Rattle.paper.specs.States.{State, Effect, withValue, withValues}
 use Rattle.cells.specs.Words.{wordsOf}
 use Rattle.cells.proofs.Laws.{length-words}
 use Rattle.numbers.proofs.Whole.{read}
-use Rattle.code.specs.Cells.{headAt, opAt, linkAt, firstWindow, windowCells, errnoCell}
+use Rattle.code.specs.Cells.{headAt, opAt, linkAt, firstWindow, windowCells, errnoCell, opIn}
 use Rattle.code.specs.Spans.{memoryIn}
 use Rattle.code.specs.Steps.{Head, parts, aNextArgument, argumentsIn, anyArguments}
 use Rattle.evaluation.specs.Answers.{firstError, firstNegative, decoded, Counts, termOf, memoryOf, Stores, Stands, Evaluated}
@@ -36,20 +36,23 @@ use Rattle.machine.proofs.Agreeing.{set-same, part-same}
 use Rattle.raised.proofs.Raised.{worth-error}
 use Rattle.machine.proofs.Current.{error-is, told-error, told-value}
 use Rattle.machine.proofs.Hops.{hops, hops-on, hops-end, hops-less}
+use Rattle.layout.specs.Answers.{answers}
+use Rattle.layout.specs.Named.{storeBytes}
+use Rattle.paper.specs.Words.{wordLimit}
 use Rattle.starting.proofs.Writing.{holding-one}
 
 -- ---- two numbers in one
-pub packed-is : (low high : ℕ) → low < 65536 → high < 65536 → toZ w64 (low + 65536 * high) ≡ pos (low + 65536 * high)
-packed-is low high a b = toZ-pos w64 (low + 65536 * high) (omega arith)
+pub packed-is : (low high : ℕ) → low < 65536 → high < 65536 → toZ w64 (low + answers * high) ≡ pos (low + answers * high)
+packed-is low high a b = toZ-pos w64 (low + answers * high) (omega arith)
 
 -- ---- a comma
-pub comma-in : (code : List ℕ) (b w : ℕ) → w ≡ headAt (wordsOf code) b → eqb (w % 256) 159 ≡ eqb (opAt (wordsOf code) b) aNextArgument
-comma-in code b w e = ap (λ (x : ℕ). eqb (x % 256) 159) e
+pub comma-in : (code : List ℕ) (b w : ℕ) → w ≡ headAt (wordsOf code) b → eqb (opIn w) aNextArgument ≡ eqb (opAt (wordsOf code) b) aNextArgument
+comma-in code b w e = ap (λ (x : ℕ). eqb (opIn x) aNextArgument) e
 
-pub comma-past : (code : List ℕ) (b : ℕ) → length code ≡ 65536 → 8192 ≤ b → false ≡ eqb (opAt (wordsOf code) b) aNextArgument
+pub comma-past : (code : List ℕ) (b : ℕ) → length code ≡ storeBytes → wordLimit ≤ b → false ≡ eqb (opAt (wordsOf code) b) aNextArgument
 comma-past code b l h =
     let z : headAt (wordsOf code) b ≡ 0 = List·getD-eq-default (wordsOf code) 0 (omega (arith, length-words code)) in
-    sym (ap (λ (x : ℕ). eqb (x % 256) aNextArgument) z)
+    sym (ap (λ (x : ℕ). eqb (opIn x) aNextArgument) z)
 
 -- ---- one with its value
 module _ (before : List ℕ) (room : Bool) (n : ℕ) (v : ℤ) (s : SFits w64 v) where
@@ -87,17 +90,17 @@ module _ (C : List ℕ) where
   module _ (m n : ℕ) (function : Bool) (text : List ℕ) (R : List Head) where
     enough : (f a b : ℕ) (es : List Term) (closes : ℕ) → argumentsIn m n function text R C (suc f) a b ≡ some (es, closes) → hops isComma (linkAt C) (suc f) b < suc f
     enough zero a b es closes e =
-        by-same (opAt C b) 159
+        by-same (opAt C b) aNextArgument
         (λ q. let g = argument-more m n function text R C a b es closes zero e q in absurd (omega (arith, arguments-some m n function text R C (b + 1) (linkAt C b) (g .rest) closes zero (g .more))))
         (λ q. omega (arith, hops-end isComma (linkAt C) zero b (ne-eqb (opAt C b) aNextArgument q)))
     enough (suc f) a b es closes e =
-        by-same (opAt C b) 159
+        by-same (opAt C b) aNextArgument
         (λ q.
         let g = argument-more m n function text R C a b es closes (suc f) e q in
         omega (arith, hops-on isComma (linkAt C) (suc f) b (eq-eqb (opAt C b) aNextArgument q), enough f (b + 1) (linkAt C b) (g .rest) closes (g .more)))
         (λ q. omega (arith, hops-end isComma (linkAt C) (suc f) b (ne-eqb (opAt C b) aNextArgument q)))
 
-    pub argument-less : (f a b : ℕ) (es : List Term) (closes : ℕ) → argumentsIn m n function text R C (suc f) a b ≡ some (es, closes) → suc f ≤ parts → opAt C b ≡ 159 → argumentsLeft (linkAt C b) < argumentsLeft b
+    pub argument-less : (f a b : ℕ) (es : List Term) (closes : ℕ) → argumentsIn m n function text R C (suc f) a b ≡ some (es, closes) → suc f ≤ parts → opAt C b ≡ aNextArgument → argumentsLeft (linkAt C b) < argumentsLeft b
     argument-less zero a b es closes e l q =
         let g = argument-more m n function text R C a b es closes zero e q in
         absurd (omega (arith, arguments-some m n function text R C (b + 1) (linkAt C b) (g .rest) closes zero (g .more)))
@@ -132,7 +135,7 @@ module _ (code before : List ℕ) (base : ℕ) (room : Bool) where
     pub next-small : base + windowCells < 65536
     next-small = omega (arith, p .high)
 
-    pub none-passed : first ≡ end → (r : ℤ) → SFits w64 r → r ≡ pos (end + 65536 * (base + windowCells)) → Passed code before before base first end room (read r)
+    pub none-passed : first ≡ end → (r : ℤ) → SFits w64 r → r ≡ pos (end + answers * (base + windowCells)) → Passed code before before base first end room (read r)
     unfolding withValues
     none-passed h r s e = rw (toZ-ofZ s) (record {
       long = refl;
@@ -180,7 +183,7 @@ module _ (code before : List ℕ) (base : ℕ) (room : Bool) where
 
     first-of : (c : Counts) (function : Bool) (text : List ℕ) (R : List Head) (es : List Term) (closes : ℕ) (l : Left c function text R es closes now a b n) → First c function text R es closes l
     first-of c f t R es closes l =
-        by-same (opAt (wordsOf code) b) 159
+        by-same (opAt (wordsOf code) b) aNextArgument
         (λ q. let x = argument-more (c .m) (c .n) f t R (wordsOf code) a b (l .rest) closes (l .f) (l .reads) q in record { e = x .e; reads = x .reads; others = x .rest; is = x .es-is })
         (λ q. let x = argument-last (c .m) (c .n) f t R (wordsOf code) a b (l .rest) closes (l .f) (l .reads) q in record { e = x .e; reads = x .reads; others = []; is = x .es-is })
 
@@ -208,10 +211,10 @@ module _ (code before : List ℕ) (base : ℕ) (room : Bool) where
 
     -- the word that ends it is a comma, or none
     module _ (y : Bool) (ey : y ≡ eqb (opAt (wordsOf code) b) aNextArgument) where
-      comma-is : not y ≡ false → opAt (wordsOf code) b ≡ 159
+      comma-is : not y ≡ false → opAt (wordsOf code) b ≡ aNextArgument
       comma-is t = eqb-true (opAt (wordsOf code) b) aNextArgument (sym ey ∙ not-false y t)
 
-      no-comma : not y ≡ true → opAt (wordsOf code) b ≡ 159 → ⊥
+      no-comma : not y ≡ true → opAt (wordsOf code) b ≡ aNextArgument → ⊥
       no-comma t = eqb-false (opAt (wordsOf code) b) aNextArgument (sym ey ∙ not-true y t)
 
       pub comma-inside : not y ≡ false → b * 8 + 8 ≤ length code
@@ -295,7 +298,7 @@ module _ (code before : List ℕ) (base : ℕ) (room : Bool) where
             zs-count = length-append (l .zs) (v ∷ [])
 
           module _ (y : Bool) (ey : y ≡ eqb (opAt (wordsOf code) b) aNextArgument) where
-            pub pass-last : not y ≡ true → (r : ℤ) → SFits w64 r → r ≡ pos (b + 65536 * (n + 1)) → Passed code before after base first end room (read r)
+            pub pass-last : not y ≡ true → (r : ℤ) → SFits w64 r → r ≡ pos (b + answers * (n + 1)) → Passed code before after base first end room (read r)
             unfolding withValues
             pass-last u r sr er = rw (toZ-ofZ sr) (record {
               long = long-is;

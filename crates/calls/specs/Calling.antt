@@ -21,6 +21,9 @@ use Rattle.machine.specs.Live.{wordsOfCall, codeOfCall, ResultFits, Live}
 use Rattle.reading.specs.Reading.{Stored}
 use Rattle.machine.specs.Machine.{Here, effectAt, entered, depthLimit, LastWindow}
 use Rattle.targets.specs.Targets.{Aims}
+use Rattle.layout.specs.Answers.{answers}
+use Rattle.layout.specs.Named.{storeBytes}
+use Rattle.paper.specs.Answer.{storeWords}
 use Rattle.starting.specs.Starting.{Holding}
 
 -- ---- arguments
@@ -37,14 +40,14 @@ pub record Passes (code values : List ℕ) (base first end : ℕ) (room : Bool) 
   pub stores : Stores values base
   pub cells : room ≡ true → (base + windowCells + callWords) * 4 ≤ length values
   pub low : firstWindow ≤ base
-  pub high : base < 16384
-  pub code-size : length code ≡ 65536
+  pub high : base < storeWords
+  pub code-size : length code ≡ storeBytes
   pub small : end < 65536
 
 -- What the answer r says of them: the word that closes them and, above it, the cell behind those that they go to; or the error of one.
 pub data Argued (c : Counts) (values after : List ℕ) (base : ℕ) (room : Bool) (es : List Term) (closes : ℕ) (r : ℤ) : Type 0 where
   given : (zs : List ℤ) → length zs ≡ length es → ((S : State) (go : List ℤ → Effect) → withValues (memoryOf c values base) es S go ≡ go zs)
-      → (room ≡ true → Holding (wordsOf after) (base + windowCells) zs) → closes < 65536 → r ≡ pos (closes + 65536 * (base + windowCells + length es)) → Argued c values after base room es closes r
+      → (room ≡ true → Holding (wordsOf after) (base + windowCells) zs) → closes < 65536 → r ≡ pos (closes + answers * (base + windowCells + length es)) → Argued c values after base room es closes r
   raises : (e : ℕ) → e < 65536 → ((S : State) (go : List ℤ → Effect) → withValues (memoryOf c values base) es S go ≡ failing e S) → r ≡ pos (firstError + e) → Argued c values after base room es closes r
 
 -- One of them, with its value: it goes to a cell where there is room.

@@ -14,6 +14,16 @@ ghost use Rattle.machine.specs.Machine.{Here, Calls};
 ghost use Rattle.targets.specs.Targets.{WordAt, ArrayAt};
 ghost use Rattle.calls.specs.Calling.{Let, Passes, Passed, MayEnter, Entered, goesOnAt, MayCall, CallsFor, Deepest};
 use evaluation::worth;
+use layout::answers;
+use layout::cells::AFTER;
+use layout::cells::FAILED;
+use layout::cells::RESULT;
+use layout::cells::ROUTINE;
+use layout::cells::WAITS;
+use layout::cells::WINDOW;
+use layout::limits;
+use layout::ops;
+use layout::parts;
 use reading::head;
 use reading::link;
 use reading::place;
@@ -22,40 +32,6 @@ use reading::value;
 use starting::start_words;
 use targets::element;
 
-// an answer from here on is an error's
-const FIRST_ERROR: i64 = 4294967296;
-
-// what an answer that is no error has in its low half counts to
-const HALF: usize = 65536;
-
-// a step of a routine that is entered has this in the half above it
-const ENTERED: usize = 65536;
-
-// a call beyond the depth has this in the half above its callee
-const LACKS: usize = 262144;
-
-// cells of a window, and some of them
-const WINDOW: usize = 240;
-
-const ROUTINE: usize = 192;
-
-const WAITS: usize = 193;
-
-const AFTER: usize = 194;
-
-const FAILED: usize = 195;
-
-const RESULT: usize = 196;
-
-// words of the code store
-const WORDS: usize = 8192;
-
-// a head has its value above its op
-const OPS: u32 = 256;
-
-// a comma between two arguments
-const NEXT_ARGUMENT: u32 = 159;
-
 // ---- arguments
 
 // Two numbers in one. It goes through 32 bits, by which the compiler sees that it is no error.
@@ -63,7 +39,7 @@ fn packed(low: usize, high: usize) -> i64
     requires { ⌜ (low < 65536) × (high < 65536) ⌝ }
     ensures { λ r. ⌜ r ≡ pos (low + 65536 * high) ⌝ }
 {
-    (low + HALF * high) as u32 as i64
+    (low + answers::ANSWERS * high) as u32 as i64
 }
 
 // A comma stands at a word, which may lie past the store.
@@ -71,8 +47,8 @@ fn is_comma(code: &[u8], b: usize) -> bool
     requires { ⌜ length (now code) ≡ 65536 ⌝ }
     ensures { λ r. ⌜ r ≡ eqb (opAt (wordsOf (now (code .entry))) b) aNextArgument ⌝ }
 {
-    if b < WORDS {
-        return head(code, b) % OPS == NEXT_ARGUMENT;
+    if b < limits::WORDS {
+        return head(code, b) % parts::VALUE == ops::NEXT_ARGUMENT;
     }
     false
 }
@@ -107,7 +83,7 @@ fn arguments<'a>(
     let mut b = end;
     loop {
         let v = worth(&*code, &*values, base, a, b);
-        if FIRST_ERROR <= v {
+        if answers::FIRST_ERROR <= v {
             return v;
         }
         pass(values, room, n, v);
@@ -143,7 +119,7 @@ fn enter<'a>(
     cells::put(values, base + WINDOW + ROUTINE, h as u32);
     cells::put(values, base + WINDOW + FAILED, 0);
     cells::put(values, base + WINDOW + RESULT, result as u32);
-    (ENTERED + place(code, h)) as i64
+    (answers::ENTRIES + place(code, h)) as i64
 }
 
 // The word whose link is where the caller goes on: the call's own where a result is wanted, else the one that closes the arguments.
@@ -172,12 +148,12 @@ fn call<'a>(
 {
     let room = base < last;
     let r = arguments(&*code, values, base, room, first, link(code, callee));
-    if FIRST_ERROR <= r {
+    if answers::FIRST_ERROR <= r {
         return r;
     }
     if room {
         let k = r as usize;
-        let at = goes_on(i, k % HALF, result);
+        let at = goes_on(i, k % answers::ANSWERS, result);
         return enter(
             &*code,
             values,
@@ -186,10 +162,10 @@ fn call<'a>(
             callee,
             result,
             link(code, at),
-            k / HALF,
+            k / answers::ANSWERS,
         );
     }
-    (LACKS + callee) as i64
+    (answers::LACKS + callee) as i64
 }
 
 // A procedure call; `last` is the window of the last call that the depth lent admits.
@@ -246,7 +222,7 @@ pub fn call_for_element<'a>(
 {
     let end = link(code, i + 1);
     let k = element(&*code, &*values, base, first, size, i, end);
-    if k < FIRST_ERROR {
+    if k < answers::FIRST_ERROR {
         return call_to(&*code, values, base, last, i, end + 1, k as usize);
     }
     k

@@ -22,7 +22,7 @@ use Rattle.numbers.proofs.Whole.{read}
 use Rattle.cells.specs.Words.{wordsOf, Put}
 use Rattle.cells.proofs.Laws.{length-words}
 use Rattle.cells.proofs.Kept.{put-length}
-use Rattle.code.specs.Cells.{windowOf, linkAt, errnoCell}
+use Rattle.code.specs.Cells.{windowOf, linkAt, errnoCell, firstWindow, windowCells}
 use Rattle.code.specs.Steps.{Head, noHead}
 use Rattle.code.specs.Closed.{isNamed}
 use Rattle.code.specs.Holds.{optionally}
@@ -36,6 +36,7 @@ use Rattle.errors.specs.Errors.{HasRoutine, handlerAt, Seeks, Nearest, T
 use Rattle.machine.proofs.States.{roomy, goes-to, call-failed, errno-cell}
 use Rattle.machine.proofs.Living.{live-next, live-left, live-failed, live-errno}
 use Rattle.machine.proofs.Current.{codeHere, routine-holds, small-name}
+use Rattle.reading.specs.Reading.{cellValues}
 use Rattle.errors.proofs.Cases.{none-case, some-case, positive}
 
 -- ---- a call's routine
@@ -55,7 +56,7 @@ module _ (code values : List ℕ) (base i : ℕ) (h : Here code values base i) w
   pub handler-is : codeHere code values base i h .handler ≡ optionally (handlerAt code values base)
   handler-is = routine-holds code values base i h .handler-is ∙ ap (λ (w : ℕ). optionally (linkAt (wordsOf code) (w + 1))) (sym word-is)
 
-  pub window-in : (base + 240) * 4 ≤ length values
+  pub window-in : (base + windowCells) * 4 ≤ length values
   window-in = omega (arith, h .values-size, h .base-is, h .deep)
 
 -- ---- the calls that may take an error
@@ -113,11 +114,11 @@ module _ (code values : List ℕ) (base i b s : ℕ) (k : Seeking code values ba
   pub seek-routine : HasRoutine code values b
   seek-routine = has-routine code values b s come
 
-  pub seek-in : (b + 240) * 4 ≤ length values
+  pub seek-in : (b + windowCells) * 4 ≤ length values
   seek-in = window-in code values b s come
 
   -- past main's window there is a caller's
-  module _ (d : b ≡ 1024 → ⊥) where
+  module _ (d : b ≡ firstWindow → ⊥) where
     pub seek-above : 1264 ≤ b
     seek-above = above (k h .e) (k h .base-is)
       where
@@ -125,30 +126,30 @@ module _ (code values : List ℕ) (base i b s : ℕ) (k : Seeking code values ba
         above zero z = absurd (d z)
         above (suc e) z = omega arith
 
-  pub seek-get : (j : ℕ) → j < 240 → (b - 240 + j) * 4 + 4 ≤ length values
+  pub seek-get : (j : ℕ) → j < windowCells → (b - windowCells + j) * 4 + 4 ≤ length values
   seek-get j l = omega (arith, seek-in)
 
-  pub seek-add : (j : ℕ) → j < 240 → b - 240 + j < 18446744073709551616
+  pub seek-add : (j : ℕ) → j < windowCells → b - windowCells + j < 18446744073709551616
   seek-add j l = omega (arith, seek-in, h .values-size)
 
-  pub seek-sub : (b ≡ 1024 → ⊥) → 240 ≤ b
+  pub seek-sub : (b ≡ firstWindow → ⊥) → windowCells ≤ b
   seek-sub d = omega (arith, seek-above d)
 
-  pub seek-less : (b ≡ 1024 → ⊥) → b - 240 < b
+  pub seek-less : (b ≡ firstWindow → ⊥) → b - windowCells < b
   seek-less d = omega (arith, seek-above d)
 
   handler-here : codeAt (h .P) (callIn (h .P) (h .R) (wordsOf values) (windowOf (k h .e)) s .routine) .handler ≡ optionally (handlerAt code values b)
   unfolding callIn come
   handler-here = handler-is code values b s come
 
-module _ (code values : List ℕ) (base i b s : ℕ) (k : Seeking code values base i b s) (g : handlerAt code values b ≡ 0) (d : b ≡ 1024 → ⊥) where
+module _ (code values : List ℕ) (base i b s : ℕ) (k : Seeking code values base i b s) (g : handlerAt code values b ≡ 0) (d : b ≡ firstWindow → ⊥) where
   up-one : (h : Here code values base i) (q : Seeks (h .P) (h .R) (wordsOf values) (h .d) i b s) (e : ℕ) → q .e ≡ suc e
       → codeAt (h .P) (callIn (h .P) (h .R) (wordsOf values) (windowOf (q .e)) s .routine) .handler ≡ none
-      → Seeks (h .P) (h .R) (wordsOf values) (h .d) i (b - 240) (getD (wordsOf values) (b - 240 + waitsCell) 0)
+      → Seeks (h .P) (h .R) (wordsOf values) (h .d) i (b - windowCells) (getD (wordsOf values) (b - windowCells + waitsCell) 0)
   unfolding waiting
   up-one h q e z n =
       let w = live-left (h .P) (h .R) (wordsOf values) (q .e) e s z (q .live) in
-      let a : b - 240 ≡ windowOf e = omega (arith, q .base-is) in
+      let a : b - windowCells ≡ windowOf e = omega (arith, q .base-is) in
       let l : Live (h .P) (h .R) (wordsOf values) e (getD (wordsOf values) (windowOf e + waitsCell) 0) = record { top = w .0 .sane; named = w .0 .waits; below = w .1; errno = q .live .errno } in
       record {
         e = e;
@@ -160,15 +161,15 @@ module _ (code values : List ℕ) (base i b s : ℕ) (k : Seeking code values ba
             ∙ ap (λ (j : ℕ). caught (h .P) (callIn (h .P) (h .R) (wordsOf values) (windowOf e) (getD (wordsOf values) (j + waitsCell) 0) ∷ waiting (h .P) (h .R) (wordsOf values) e)) (sym a);
       }
 
-  pub seek-next : (x : ℕ) → x ≡ getD (wordsOf values) (b - 240 + waitsCell) 0 → Seeking code values base i (b - 240) x
+  pub seek-next : (x : ℕ) → x ≡ getD (wordsOf values) (b - windowCells + waitsCell) 0 → Seeking code values base i (b - windowCells) x
   seek-next x ex h =
-      subst (Seeks (h .P) (h .R) (wordsOf values) (h .d) i (b - 240)) (sym ex)
+      subst (Seeks (h .P) (h .R) (wordsOf values) (h .d) i (b - windowCells)) (sym ex)
       (go (k h .e) refl)
     where
       no : codeAt (h .P) (callIn (h .P) (h .R) (wordsOf values) (windowOf (k h .e)) s .routine) .handler ≡ none
       no = handler-here code values base i b s k h ∙ ap optionally g ∙ zero-handler
 
-      go : (e : ℕ) → k h .e ≡ e → Seeks (h .P) (h .R) (wordsOf values) (h .d) i (b - 240) (getD (wordsOf values) (b - 240 + waitsCell) 0)
+      go : (e : ℕ) → k h .e ≡ e → Seeks (h .P) (h .R) (wordsOf values) (h .d) i (b - windowCells) (getD (wordsOf values) (b - windowCells + waitsCell) 0)
       go zero z = absurd (d (k h .base-is ∙ ap windowOf z))
       go (suc e) z = up-one h (k h) e z no
 
@@ -177,10 +178,10 @@ module _ (code values : List ℕ) (base i b s : ℕ) (k : Seeking code values ba
   pub nearest-found : (x : ℕ) → x ≡ handlerAt code values b → (x ≡ 0 → ⊥) → Nearest code values base i (record { next = s; base = b })
   nearest-found x e d = record { is = k; main = λ z. absurd (d (e ∙ z)) }
 
-  pub nearest-main : b ≡ 1024 → Nearest code values base i (record { next = s; base = b })
+  pub nearest-main : b ≡ firstWindow → Nearest code values base i (record { next = s; base = b })
   nearest-main m = record { is = k; main = λ z. m }
 
-  pub seek-on : (x : ℕ) → x ≡ handlerAt code values b → x ≡ 0 → (b ≡ 1024 → ⊥) → (w : ℕ) → w ≡ getD (wordsOf values) (b - 240 + waitsCell) 0 → Seeking code values base i (b - 240) w
+  pub seek-on : (x : ℕ) → x ≡ handlerAt code values b → x ≡ 0 → (b ≡ firstWindow → ⊥) → (w : ℕ) → w ≡ getD (wordsOf values) (b - windowCells + waitsCell) 0 → Seeking code values base i (b - windowCells) w
   seek-on x e z d w ew = seek-next code values base i b s k (sym e ∙ z) d w ew
 
 -- ---- the call that was found
@@ -192,16 +193,16 @@ module _ (code values : List ℕ) (base i : ℕ) (t : Taken) (nr : Nearest code 
     pub found-routine : HasRoutine code values (t .base)
     found-routine = seek-routine code values base i (t .base) (t .next) (nr .is) h
 
-    pub found-in : (t .base + 240) * 4 ≤ length values
+    pub found-in : (t .base + windowCells) * 4 ≤ length values
     found-in = seek-in code values base i (t .base) (t .next) (nr .is) h
 
-    pub found-get : (j : ℕ) → j < 240 → (t .base + j) * 4 + 4 ≤ length values
+    pub found-get : (j : ℕ) → j < windowCells → (t .base + j) * 4 + 4 ≤ length values
     found-get j l = omega (arith, found-in)
 
-    pub found-add : (j : ℕ) → j < 240 → t .base + j < 18446744073709551616
+    pub found-add : (j : ℕ) → j < windowCells → t .base + j < 18446744073709551616
     found-add j l = omega (arith, found-in, h .values-size)
 
-    pub found-small : t .next < 4294967296
+    pub found-small : t .next < cellValues
     found-small = omega (arith, small-name code values (t .base) (t .next) at-call (t .next) (at-call .live .named) .1)
 
   module _ (x : ℕ) (ex : x ≡ handlerAt code values (t .base)) where
@@ -324,10 +325,10 @@ module _ (r : ℤ) (f : SFits w64 r) (a : Raises r) where
     pub low : e < 65536
     pub is : r ≡ pos (firstError + e)
 
-  module _ (t : leZ (pos 4294967296) (read r) ≡ true) where
+  module _ (t : leZ (pos firstError) (read r) ≡ true) where
     raised-of : (q : Raises r) → Raised
     raised-of (raises e l z) = record { e = e; low = l; is = z }
-    raised-of (handsOn z) = let g : leZ (pos 4294967296) (pos 458752) ≡ true = rw (read-is, z) at t in false-true g
+    raised-of (handsOn z) = let g : leZ (pos firstError) (pos handed) ≡ true = rw (read-is, z) at t in false-true g
 
     pub raised : Raised
     raised = raised-of a
@@ -338,28 +339,28 @@ module _ (r : ℤ) (f : SFits w64 r) (a : Raises r) where
         let l = q .low in
         rw (read-is, q .is) (tt, record { fits = omega arith })
 
-    pub raised-sub : 4294967296 ≤ natAbs (read r)
+    pub raised-sub : firstError ≤ natAbs (read r)
     raised-sub = let q = raised in rw (read-is, q .is) (omega arith)
 
-    pub raised-is : natAbs (read r) - 4294967296 ≡ raised .e
-    raised-is = let q = raised in rw (read-is) (ap (λ (z : ℤ). natAbs z - 4294967296) (q .is) ∙ omega arith)
+    pub raised-is : natAbs (read r) - firstError ≡ raised .e
+    raised-is = let q = raised in rw (read-is) (ap (λ (z : ℤ). natAbs z - firstError) (q .is) ∙ omega arith)
 
-    pub raised-small : natAbs (read r) - 4294967296 < 4294967296
+    pub raised-small : natAbs (read r) - firstError < cellValues
     raised-small = omega (arith, raised-is, raised .low)
 
-    raised-same : (e : ℕ) → r ≡ pos (firstError + e) → e ≡ natAbs (read r) - 4294967296
-    raised-same e z = sym (rw (read-is) (ap (λ (z : ℤ). natAbs z - 4294967296) z ∙ omega arith))
+    raised-same : (e : ℕ) → r ≡ pos (firstError + e) → e ≡ natAbs (read r) - firstError
+    raised-same e z = sym (rw (read-is) (ap (λ (z : ℤ). natAbs z - firstError) z ∙ omega arith))
 
     raised-not : {A : Type 0} → r ≡ pos handed → A
-    raised-not z = let g : leZ (pos 4294967296) (pos 458752) ≡ true = rw (read-is, z) at t in false-true g
+    raised-not z = let g : leZ (pos firstError) (pos handed) ≡ true = rw (read-is, z) at t in false-true g
 
-  handed-not : {A : Type 0} (e : ℕ) → leZ (pos 4294967296) (read r) ≡ false → r ≡ pos (firstError + e) → A
+  handed-not : {A : Type 0} (e : ℕ) → leZ (pos firstError) (read r) ≡ false → r ≡ pos (firstError + e) → A
   handed-not e t z =
-      let g : leb 4294967296 (firstError + e) ≡ false = rw (read-is, z) at t in
-      absurd (omega (arith, leb-false 4294967296 (firstError + e) g))
+      let g : leb firstError (firstError + e) ≡ false = rw (read-is, z) at t in
+      absurd (omega (arith, leb-false firstError (firstError + e) g))
 
 -- ERRNO is set
-module _ (code values mid : List ℕ) (base i e : ℕ) (p : Put values mid 1263 e) (h : Here code values base i) (l : e < 65536) where
+module _ (code values mid : List ℕ) (base i e : ℕ) (p : Put values mid errnoCell e) (h : Here code values base i) (l : e < 65536) where
   pub errno-here : Here code mid base i
   errno-here = record {
     text = h .text;
@@ -372,7 +373,7 @@ module _ (code values mid : List ℕ) (base i e : ℕ) (p : Put values mid 1263 
     d = h .d;
     deep = h .deep;
     base-is = h .base-is;
-    live = rw (p .words) (live-errno (h .P) (h .R) (wordsOf values) (h .d) 1263 e i (h .live) refl (omega (arith, length-words values, h .values-size)) (omega arith));
+    live = rw (p .words) (live-errno (h .P) (h .R) (wordsOf values) (h .d) errnoCell e i (h .live) refl (omega (arith, length-words values, h .values-size)) (omega arith));
   }
 
   errno-state : (steps : ℕ) (out : List ℕ) → stateIn (h .P) (h .R) (wordsOf mid) (h .d) i steps out ≡ withErrno e (stateIn (h .P) (h .R) (wordsOf values) (h .d) i steps out)
@@ -408,28 +409,28 @@ with-errno P R X d i steps out = refl
 
 -- ---- each return of `arise`
 module _ (code values : List ℕ) (base i : ℕ) (r : ℤ) (f : SFits w64 r) (a : Raises r) where
-  module _ (t : leZ (pos 4294967296) (read r) ≡ true) (mid : List ℕ) (p : Put values mid 1263 (natAbs (read r) - 4294967296)) where
+  module _ (t : leZ (pos firstError) (read r) ≡ true) (mid : List ℕ) (p : Put values mid errnoCell (natAbs (read r) - firstError)) where
     pub arise-here : Here code values base i → Here code mid base i
-    arise-here h = errno-here code values mid base i (natAbs (read r) - 4294967296) p h (omega (arith, raised-is r f a t, raised r f a t .low))
+    arise-here h = errno-here code values mid base i (natAbs (read r) - firstError) p h (omega (arith, raised-is r f a t, raised r f a t .low))
 
     pub arise-fails : Here code values base i → (after : List ℕ) (k : Taken) → Unwound code mid after base i k → Arisen code values after base i r k
     unfolding arise-here errno-here
     arise-fails h₀ after k u = record {
       long = u .long ∙ put-length p (omega (arith, h₀ .values-size));
-      kept = λ c x y. u .kept c x y ∙ ap (λ (w : List ℕ). getD w c 0) (p .words) ∙ getD-set-other (wordsOf values) 1263 c (natAbs (read r) - 4294967296) 0 (λ z. omega arith);
+      kept = λ c x y. u .kept c x y ∙ ap (λ (w : List ℕ). getD w c 0) (p .words) ∙ getD-set-other (wordsOf values) errnoCell c (natAbs (read r) - firstError) 0 (λ z. omega arith);
       hands = λ h z steps place out. raised-not r f a t z;
       fails = λ h e z steps place out.
-          let e-is : e ≡ natAbs (read r) - 4294967296 = raised-same r f a t e z in
+          let e-is : e ≡ natAbs (read r) - firstError = raised-same r f a t e z in
           let s = stateIn (h .P) (h .R) (wordsOf values) (h .d) i steps out in
-          let low : natAbs (read r) - 4294967296 < 65536 = omega (arith, raised-is r f a t, raised r f a t .low) in
-          let st = errno-state code values mid base i (natAbs (read r) - 4294967296) p h low steps out in
+          let low : natAbs (read r) - firstError < 65536 = omega (arith, raised-is r f a t, raised r f a t .low) in
+          let st = errno-state code values mid base i (natAbs (read r) - firstError) p h low steps out in
           subst (λ (cs : List Call). Settles (h .P) (h .R) (wordsOf after) (h .d) i steps place out k (arising (h .P) e place cs s))
           (sym (calls-of (h .P) (h .R) (wordsOf mid) (h .d) i steps out) ∙ ap (λ (x : State). x .calls) st)
           (settles (h .P) (h .R) (wordsOf mid) (wordsOf after) (h .d) i (h .d) i steps place out k e s (ap (λ (x : ℕ). withErrno x s) e-is ∙ sym st) (u .does (arise-here h)));
     }
 
-  module _ (t : leZ (pos 4294967296) (read r) ≡ false) where
-    pub arise-main : base ≡ 1024 → Arisen code values values base i r (record { next = 0; base = base })
+  module _ (t : leZ (pos firstError) (read r) ≡ false) where
+    pub arise-main : base ≡ firstWindow → Arisen code values values base i r (record { next = 0; base = base })
     unfolding waiting
     arise-main m = record {
       long = refl;
@@ -442,15 +443,15 @@ module _ (code values : List ℕ) (base i : ℕ) (r : ℤ) (f : SFits w64 r) (a 
           stops refl (arising-none (h .P) (getD (wordsOf values) errnoCell 0) place (waiting (h .P) (h .R) (wordsOf values) (h .d)) s n ∙ ap (stopping true 3 place) (with-errno (h .P) (h .R) (wordsOf values) (h .d) i steps out));
     }
 
-    module _ (m : base ≡ 1024 → ⊥) (w : ℕ) (ew : w ≡ getD (wordsOf values) (base - 240 + waitsCell) 0) where
+    module _ (m : base ≡ firstWindow → ⊥) (w : ℕ) (ew : w ≡ getD (wordsOf values) (base - windowCells + waitsCell) 0) where
       caller : (h : Here code values base i) (e : ℕ) → h .d ≡ suc e → Live (h .P) (h .R) (wordsOf values) e w
       caller h e z =
           let q = live-left (h .P) (h .R) (wordsOf values) (h .d) e i z (h .live) in
-          let b : base - 240 ≡ windowOf e = omega (arith, h .base-is) in
+          let b : base - windowCells ≡ windowOf e = omega (arith, h .base-is) in
           let ws : w ≡ getD (wordsOf values) (windowOf e + waitsCell) 0 = ew ∙ ap (λ (j : ℕ). getD (wordsOf values) (j + waitsCell) 0) b in
           subst (Live (h .P) (h .R) (wordsOf values) e) (sym ws) (record { top = q .0 .sane; named = q .0 .waits; below = q .1; errno = h .live .errno })
 
-      one-up : (h : Here code values base i) (e : ℕ) → h .d ≡ suc e → Here code values (base - 240) w
+      one-up : (h : Here code values base i) (e : ℕ) → h .d ≡ suc e → Here code values (base - windowCells) w
       one-up h e z = record {
         text = h .text;
         P = h .P;
@@ -465,20 +466,20 @@ module _ (code values : List ℕ) (base i : ℕ) (r : ℤ) (f : SFits w64 r) (a 
         live = caller h e z;
       }
 
-      above : (h : Here code values base i) (d : ℕ) → h .d ≡ d → Here code values (base - 240) w
+      above : (h : Here code values base i) (d : ℕ) → h .d ≡ d → Here code values (base - windowCells) w
       above h zero z = absurd (m (h .base-is ∙ ap windowOf z))
       above h (suc e) z = one-up h e z
 
-      pub arise-up : Here code values base i → Here code values (base - 240) w
+      pub arise-up : Here code values base i → Here code values (base - windowCells) w
       arise-up h = above h (h .d) refl
 
-      hands-on : (after : List ℕ) (k : Taken) → Unwound code values after (base - 240) w k → (h : Here code values base i) (d : ℕ) → h .d ≡ d → (steps place : ℕ) (out : List ℕ)
+      hands-on : (after : List ℕ) (k : Taken) → Unwound code values after (base - windowCells) w k → (h : Here code values base i) (d : ℕ) → h .d ≡ d → (steps place : ℕ) (out : List ℕ)
           → Settles (h .P) (h .R) (wordsOf after) (h .d) i steps place out k
           (arising (h .P) (getD (wordsOf values) errnoCell 0) place (waiting (h .P) (h .R) (wordsOf values) (h .d)) (stateIn (h .P) (h .R) (wordsOf values) (h .d) i steps out))
       unfolding waiting one-up
       hands-on after k u h zero z steps place out = absurd (m (h .base-is ∙ ap windowOf z))
       hands-on after k u h (suc e) z steps place out =
-          let b : base - 240 ≡ windowOf e = omega (arith, h .base-is) in
+          let b : base - windowCells ≡ windowOf e = omega (arith, h .base-is) in
           let ws : w ≡ getD (wordsOf values) (windowOf e + waitsCell) 0 = ew ∙ ap (λ (j : ℕ). getD (wordsOf values) (j + waitsCell) 0) b in
           let s = stateIn (h .P) (h .R) (wordsOf values) (h .d) i steps out in
           let q : callIn (h .P) (h .R) (wordsOf values) (windowOf e) w ∷ waiting (h .P) (h .R) (wordsOf values) e ≡ waiting (h .P) (h .R) (wordsOf values) (h .d) =
@@ -486,7 +487,7 @@ module _ (code values : List ℕ) (base i : ℕ) (r : ℤ) (f : SFits w64 r) (a 
           subst (λ (cs : List Call). Settles (h .P) (h .R) (wordsOf after) (h .d) i steps place out k (arising (h .P) (getD (wordsOf values) errnoCell 0) place cs s)) q
           (settles (h .P) (h .R) (wordsOf values) (wordsOf after) e w (h .d) i steps place out k (getD (wordsOf values) errnoCell 0) s (with-errno (h .P) (h .R) (wordsOf values) (h .d) i steps out) (u .does (one-up h e z)))
 
-      pub arise-hands : (after : List ℕ) (k : Taken) → Unwound code values after (base - 240) w k → Arisen code values after base i r k
+      pub arise-hands : (after : List ℕ) (k : Taken) → Unwound code values after (base - windowCells) w k → Arisen code values after base i r k
       arise-hands after k u = record {
         long = u .long;
         kept = u .kept;

@@ -2,26 +2,14 @@
 ghost use mathlib.Core.Path.{_≡_};
 ghost use Rattle.machine.specs.Machine.{Here};
 ghost use Rattle.errors.specs.Errors.{HasRoutine, handlerAt, Nearest, Unwound, Raises, Arisen};
+use layout::answers;
+use layout::cells::ERRNO;
+use layout::cells::FAILED;
+use layout::cells::FIRST_WINDOW;
+use layout::cells::ROUTINE;
+use layout::cells::WAITS;
+use layout::cells::WINDOW;
 use reading::link;
-
-// an error's answer is above all others
-const FIRST_ERROR: i64 = 4294967296;
-
-const ERRORS: usize = 4294967296;
-
-// the windows of calls, main's first
-const FIRST: usize = 1024;
-
-const WINDOW: usize = 240;
-
-// cells of a window
-const ROUTINE: usize = 192;
-
-const WAITS: usize = 193;
-
-const FAILED: usize = 195;
-
-const ERRNO: usize = 1263;
 
 // The step that takes an error, 0 where the run dies of it, and the window of its call.
 pub struct Taken {
@@ -45,7 +33,7 @@ fn nearest<'a>(code: &'a [u8], values: &'a [u8], base: usize, i: usize) -> Taken
     let mut b = base;
     let mut s = i;
     while handler(code, values, b) == 0 {
-        if b == FIRST {
+        if b == FIRST_WINDOW {
             return Taken { next: s, base: b };
         }
         b -= WINDOW;
@@ -77,12 +65,12 @@ pub fn arise<'a>(code: &'a [u8], values: &'a mut [u8], base: usize, i: usize, r:
     requires { ⌜ Here (now code) (now values) base i × Raises r ⌝ }
     ensures { λ t. ⌜ Arisen (now (code .entry)) (now (values .entry)) (now (values .exit)) base i r t ⌝ }
 {
-    if FIRST_ERROR <= r {
-        let e = r as usize - ERRORS;
+    if answers::FIRST_ERROR <= r {
+        let e = r as usize - answers::ERRORS;
         cells::put(values, ERRNO, e as u32);
         return unwind(code, values, base, i);
     }
-    if base == FIRST {
+    if base == FIRST_WINDOW {
         return Taken { next: 0, base };
     }
     let b = base - WINDOW;

@@ -1,6 +1,6 @@
 -- What an evaluation answers, and what a step answers: one number of 64 bits.
 use Prim.Native.Nat.{ℕ, _+_, _*_, _-_}
-use Rattle.layout.specs.Rules.{beyondDepth}
+use Rattle.layout.specs.Rules.{beyondDepth, noInput, noRoom}
 
 -- ---- an evaluation: a value, or the number of an error above all values. A step that fails answers an error too.
 abbrev pub firstError : ℕ
@@ -30,3 +30,10 @@ lackedBy n = lacked + answers * (n - beyondDepth)
 -- plain RAISE
 abbrev pub handed : ℕ
 handed = 458752
+
+-- the two that output gives
+abbrev pub inputLacked : ℕ
+inputLacked = lacked + answers * (noInput - beyondDepth)
+
+abbrev pub roomLacked : ℕ
+roomLacked = lacked + answers * (noRoom - beyondDepth)

@@ -6,12 +6,12 @@ use Rattle.layout.specs.Rules.{smallStore, wrongDepth, longText, badByte
 use Rattle.layout.specs.Answers.{entered, left, ended, lacked, handed, firstError}
 use Rattle.layout.specs.Kinds.{aVariable, anArray, aConstant, aLoop, aRoutine, anErrno, anErrorNumber}
 use Rattle.layout.specs.Types.{noType, numType, boolType}
-use Rattle.layout.specs.Parts.{valuePart, linkPart, sizePart, charactersPart, loopPart, spelledPart, rightPart, rightWays}
+use Rattle.layout.specs.Parts.{valuePart, linkPart, sizePart, charactersPart, loopPart, spelledPart, rightPart, rightWays, halfPart}
 use Rattle.paper.specs.Words.{textLimit, wordLimit, nameLimit, largestNumber, stringLimit}
 use Rattle.paper.specs.Expressions.{nestings, noOperator, products, sums, relations, conjunctions, disjunctions}
 use Rattle.paper.specs.Types.{elementLimit}
 use Rattle.paper.specs.Declarations.{routineLimit, moduleWordLimit, routineWordLimit}
-use Rattle.paper.specs.Answer.{depthLimit, storeWords}
+use Rattle.paper.specs.Answer.{depthLimit, storeWords, recordSize}
 use Rattle.code.specs.Cells.{firstWindow, windowCells, errnoCell}
 use Rattle.code.specs.Windows.{endsCell, stepsCell, routineCell, waitsCell, afterCell, failedCell, resultCell, writtenCell, usedCell}
 use Rattle.code.specs.Spans.{bias, aLiteral, aModuleWord, aCallWord, aModuleElement, aCallElement, aParenthesis, aNot, aPlus, aMinus, anOperator, aSpan}
@@ -23,7 +23,7 @@ ops =
 
 abbrev pub cells : List ℕ
 cells =
-    firstWindow ∷ windowCells ∷ endsCell ∷ stepsCell ∷ routineCell ∷ waitsCell ∷ afterCell ∷ failedCell ∷ resultCell ∷ writtenCell ∷ usedCell ∷ errnoCell ∷ []
+    firstWindow ∷ windowCells ∷ endsCell ∷ stepsCell ∷ routineCell ∷ waitsCell ∷ afterCell ∷ failedCell ∷ resultCell ∷ writtenCell ∷ usedCell ∷ errnoCell ∷ halfPart ∷ []
 
 abbrev pub answers : List ℤ
 answers = pos entered ∷ pos left ∷ pos ended ∷ pos lacked ∷ pos handed ∷ pos firstError ∷ []
@@ -51,7 +51,7 @@ abbrev pub parts : List ℕ
 parts = valuePart ∷ linkPart ∷ sizePart ∷ charactersPart ∷ loopPart ∷ spelledPart ∷ rightPart ∷ rightWays ∷ bias ∷ []
 
 abbrev pub limits : List ℕ
-limits = textLimit ∷ wordLimit ∷ routineLimit ∷ moduleWordLimit ∷ routineWordLimit ∷ elementLimit ∷ depthLimit ∷ storeWords ∷ storeBytes ∷ nameLimit ∷ stringLimit ∷ largestNumber ∷ nestings ∷ []
+limits = textLimit ∷ wordLimit ∷ routineLimit ∷ moduleWordLimit ∷ routineWordLimit ∷ elementLimit ∷ depthLimit ∷ storeWords ∷ storeBytes ∷ nameLimit ∷ stringLimit ∷ largestNumber ∷ nestings ∷ recordSize ∷ []
 
 abbrev pub levels : List ℕ
 levels = noOperator ∷ products ∷ sums ∷ relations ∷ conjunctions ∷ disjunctions ∷ []

@@ -31,3 +31,7 @@ rightPart = 16
 
 abbrev pub rightWays : ℕ
 rightWays = 4
+
+-- a number in two cells: its high half above its low one
+abbrev pub halfPart : ℕ
+halfPart = 4294967296

@@ -33,8 +33,16 @@ pub const USED: usize = 1262;
 
 pub const ERRNO: usize = 1263;
 
+// what a cell counts to: a number in two cells has its high half above it
+pub const HALF: usize = 4294967296;
+
+// the cell of main's window that has its routine, and the high half of the bytes written
+pub const MAIN_ROUTINE: usize = FIRST_WINDOW + ROUTINE;
+
+pub const WRITTEN_HIGH: usize = WRITTEN + 1;
+
 // All of them, as the specs name them: a wrong one breaks this contract.
-pub fn all() -> [usize; 12]
+pub fn all() -> [usize; 13]
     ensures { λ r. ⌜ r ≡ cells ⌝ }
 {
     [
@@ -50,5 +58,6 @@ pub fn all() -> [usize; 12]
         WRITTEN,
         USED,
         ERRNO,
+        HALF,
     ]
 }

@@ -18,6 +18,9 @@ pub const NO_INPUT: u32 = 7;
 
 pub const NO_ROOM: u32 = 8;
 
+// the first that lacks something, as words count
+pub const BEYOND_DEPTH_AT: usize = BEYOND_DEPTH as usize;
+
 // All of them, as the specs name them: a wrong one breaks this contract.
 pub fn all() -> [u32; 8]
     ensures { λ r. ⌜ r ≡ endings ⌝ }

@@ -40,8 +40,14 @@ pub const STRING_READ: u32 = STRING as u32;
 
 pub const NUMBER_READ: u64 = NUMBER as u64;
 
+// bytes of the record
+pub const RECORD_BYTES: usize = 64;
+
+// live calls, as a call counts them
+pub const DEEPEST: u32 = DEPTH as u32;
+
 // All of them, as the specs name them: a wrong one breaks this contract.
-pub fn all() -> [usize; 13]
+pub fn all() -> [usize; 14]
     ensures { λ r. ⌜ r ≡ limits ⌝ }
 {
     [
@@ -58,5 +64,6 @@ pub fn all() -> [usize; 13]
         STRING,
         NUMBER,
         NESTINGS,
+        RECORD_BYTES,
     ]
 }

@@ -28,12 +28,19 @@ pub const RIGHTS: u32 = 4;
 // what a number is held above: how far it is from the lowest
 pub const BIAS: u32 = 8388607;
 
-// The same as indices are counted.
-pub const SPELLED_AT: usize = SPELLED as usize;
-// The same as numbers, and as words count.
+// The same with a sign, and as words count.
 pub const SIGNED_BIAS: i64 = BIAS as i64;
 
+pub const SPELLED_AT: usize = SPELLED as usize;
+
 pub const LOOPS: usize = LOOP as usize;
+
+pub const SIZE_AT: usize = SIZE as usize;
+
+pub const CHARACTERS_AT: usize = CHARACTERS as usize;
+
+// the FOR of an ENDFOR, where the op stands below its value
+pub const LOOP_IN_HEAD: u32 = VALUE * LOOP;
 
 // All of them, as the specs name them: a wrong one breaks this contract.
 pub fn all() -> [u32; 9]

@@ -6,7 +6,7 @@ use native.Mathlib.Omega.{arith}
 use lib.ListN.{length, take, length-map}
 use mir.Syntax.{w32}
 use mir.Val.{toZ}
-use Rattle.paper.specs.Answer.{Question, questionOf, lentOf, Result, refusedWith, result, wordsOf}
+use Rattle.paper.specs.Answer.{Question, questionOf, lentOf, Result, refusedWith, result, wordsOf, storeWords}
 use Rattle.paper.specs.Numbers.{decimal, digits}
 use Rattle.paper.specs.Sorts.{bytes}
 use Rattle.paper.specs.Examples.{lines, tray, asking, row, fields, examples}
@@ -18,18 +18,19 @@ use Rattle.pendant.specs.Calls.{lent}
 use Rattle.screen.specs.declared.Shown.{Shown}
 use Rattle.screen.specs.Screen.{lineOf, recordLine, screenOf, Shows}
 use Rattle.screen.proofs.Screens.{shows-screen}
+use Rattle.layout.specs.Named.{storeBytes}
 use Rattle.lesson.specs.Bench.{asks, Benched}
 
-store-words : (bytes : List ℕ) → 65536 ≡ length bytes → length (wordsOf bytes) ≡ 16384
+store-words : (bytes : List ℕ) → storeBytes ≡ length bytes → length (wordsOf bytes) ≡ storeWords
 store-words bytes e = ap length (words-paper bytes) ∙ length-map (cells.wordsOf bytes) (toZ w32) ∙ omega (arith, length-words bytes)
 
-asks-is : (text out code values : List ℕ) → 4096 ≡ length out → 65536 ≡ length code → 65536 ≡ length values
+asks-is : (text out code values : List ℕ) → 4096 ≡ length out → storeBytes ≡ length code → storeBytes ≡ length values
     → questionOf (lentOf (lent text 10000 16 (take 0 text) out code values [])) ≡ asks text
 unfolding questionOf lentOf lent asks wordsOf
 asks-is text out code values o c v = λ i.
     record { text = text; steps = 10000; depth = 16; inputs = []; room = sym o i; code = store-words code c i; values = store-words values v i }
 
-pub bench-law : (text out code values line : List ℕ) (r : Shown) (out′ code′ values′ line′ : List ℕ) → 4096 ≡ length out → 65536 ≡ length code → 65536 ≡ length values
+pub bench-law : (text out code values line : List ℕ) (r : Shown) (out′ code′ values′ line′ : List ℕ) → 4096 ≡ length out → storeBytes ≡ length code → storeBytes ≡ length values
     → Shows (lent text 10000 16 (take 0 text) out code values []) line r out′ code′ values′ line′ → Benched text r out′ line′
 bench-law text out code values line r out′ code′ values′ line′ o c v s = record {
   screen = shows-screen (lent text 10000 16 (take 0 text) out code values []) line r out′ code′ values′ line′ s ∙ ap (λ (q : Question). screenOf (result q)) (asks-is text out code values o c v);

@@ -1,4 +1,5 @@
 // The bench program of the paper: reads a module text from standard input, carries it out, prints the output and then the eight fields of the record.
+use layout::limits;
 use libc::STDIN_FILENO;
 use libc::STDOUT_FILENO;
 use screen::Shown;
@@ -7,7 +8,7 @@ ghost use lib.ListN.{length};
 ghost use Rattle.lesson.specs.Bench.{textRoom, Benched};
 
 // The bytes that a text may have and one more, by which a longer text is known.
-const TEXT: usize = 32769;
+const TEXT: usize = limits::TEXT + 1;
 
 // "allows 10,000 steps, depth 16, no inputs, 4,096 output bytes"
 const STEPS: u32 = 10000;
@@ -16,18 +17,13 @@ const DEPTH: u32 = 16;
 
 const OUTPUT: usize = 4096;
 
-// The bytes of a store, and of the line that shows the record.
-const STORE: usize = 65536;
-
-const LINE: usize = 168;
-
 // Carries out a text: what is to be printed then stands in front of the output and of the line.
-fn bench(text: &[u8], out: &mut [u8; OUTPUT], line: &mut [u8; LINE]) -> Shown
+fn bench(text: &[u8], out: &mut [u8; OUTPUT], line: &mut [u8; screen::LINE]) -> Shown
     requires { ⌜ length (now text) ≤ textRoom ⌝ }
     ensures { λ r. ⌜ Benched (now (text .entry)) r (now (out .exit)) (now (line .exit)) ⌝ }
 {
-    let mut code = [0u8; STORE];
-    let mut values = [0u8; STORE];
+    let mut code = [0u8; limits::STORE_BYTES];
+    let mut values = [0u8; limits::STORE_BYTES];
     screen::show(
         text,
         STEPS,
@@ -44,7 +40,7 @@ fn main() {
     let mut text = [0u8; TEXT];
     let n = io::read_full(STDIN_FILENO, &mut text);
     let mut out = [0u8; OUTPUT];
-    let mut line = [0u8; LINE];
+    let mut line = [0u8; screen::LINE];
     let shown = bench(&text[..n], &mut out, &mut line);
     let written = shown.output;
     let told = shown.line;

@@ -1,7 +1,7 @@
 -- Lines: the bytes of one, and what is written then.
 use mathlib.Core.Path.{_≡_, refl, sym, ap, ap₂, _∙_}
 use mathlib.Core.List.{List, [], _∷_, _++_, append-nil}
-use Prim.Native.Nat.{ℕ, _+_, _-_, _*_, _/_, _%_, _≤_, _<_}
+use Prim.Native.Nat.{ℕ, suc, _+_, _-_, _*_, _/_, _%_, _≤_, _<_}
 use native.Mathlib.Nat.{add-zero}
 use native.Mathlib.Numerals.{add-one}
 use native.Mathlib.Omega.{arith}
@@ -26,25 +26,27 @@ use Rattle.decimals.proofs.Parts.{put-front}
 use Rattle.code.specs.Cells.{valueAt, placeAt}
 use Rattle.reading.specs.Reading.{cellValues}
 use Rattle.evaluation.proofs.Places.{value-in}
+use Rattle.layout.specs.Parts.{charactersPart}
+use Rattle.code.specs.Windows.{writtenCell}
 use Rattle.output.specs.Output.{countIn, withCount, Counted, Spelled, charactersAt, Placed, lineAt, lineOf, HasRoom, Added}
 
-pub counted : (before mid after : List ℕ) (n : ℕ) → 5048 ≤ length before → Put before mid 1260 (n % cellValues) → Put mid after 1261 (n / cellValues) → Counted before after n
+pub counted : (before mid after : List ℕ) (n : ℕ) → suc (suc writtenCell) * 4 ≤ length before → Put before mid writtenCell (n % cellValues) → Put mid after (suc writtenCell) (n / cellValues) → Counted before after n
 counted before mid after n h p q =
     let l : length mid ≡ length before = put-length p (omega arith) in
-    record { words = q .words ∙ ap (λ (x : List ℕ). set x 1261 (n / cellValues)) (p .words); long = put-length q (omega arith) ∙ l }
+    record { words = q .words ∙ ap (λ (x : List ℕ). set x (suc writtenCell) (n / cellValues)) (p .words); long = put-length q (omega arith) ∙ l }
 
 empty-of : (l : List ℕ) → length l ≡ 0 → l ≡ []
 empty-of [] e = refl
 empty-of (x ∷ l) e = absurd (omega arith)
 
 -- ---- a string
-pub no-characters : (code : List ℕ) (i : ℕ) → length code % 8 ≡ 0 → length code / 8 ≤ i → (0 ≡ valueAt (wordsOf code) i / 256) × (0 < 65536)
-no-characters code i w h = (sym (ap (λ (x : ℕ). x / 256 / 256) (List·getD-eq-default (wordsOf code) 0 {n = i * 2} (omega (arith, length-words code)))), omega arith)
+pub no-characters : (code : List ℕ) (i : ℕ) → length code % 8 ≡ 0 → length code / 8 ≤ i → (0 ≡ valueAt (wordsOf code) i / charactersPart) × (0 < 65536)
+no-characters code i w h = (sym (ap (λ (x : ℕ). x / charactersPart / charactersPart) (List·getD-eq-default (wordsOf code) 0 {n = i * 2} (omega (arith, length-words code)))), omega arith)
 
-pub string-there : (code : List ℕ) (i n : ℕ) → n ≡ valueAt (wordsOf code) i / 256 → length code % 8 ≡ 0 → (n ≡ 0 → ⊥) → i * 8 + 8 ≤ length code
-string-there code i n e w d = value-in code i w (λ z. d (e ∙ ap (λ (x : ℕ). x / 256) z))
+pub string-there : (code : List ℕ) (i n : ℕ) → n ≡ valueAt (wordsOf code) i / charactersPart → length code % 8 ≡ 0 → (n ≡ 0 → ⊥) → i * 8 + 8 ≤ length code
+string-there code i n e w d = value-in code i w (λ z. d (e ∙ ap (λ (x : ℕ). x / charactersPart) z))
 
-module _ (text C : List ℕ) (i n : ℕ) (en : n ≡ valueAt C i / 256) (many : valueAt C i / 256 ≡ length (charactersAt text C i)) where
+module _ (text C : List ℕ) (i n : ℕ) (en : n ≡ valueAt C i / charactersPart) (many : valueAt C i / charactersPart ≡ length (charactersAt text C i)) where
   -- none of its bytes is read where it is empty, wherever it stands
   pub string-none : n ≡ 0 → (out : List ℕ) (at : ℕ) → Placed out out at (charactersAt text C i) at
   string-none z out at =
@@ -60,30 +62,30 @@ module _ (text C : List ℕ) (i n : ℕ) (en : n ≡ valueAt C i / 256) (many : 
     unfolding charactersAt unquoted
     string-in =
         by-most (p + 1) (length text) (λ h. h)
-        (λ h. absurd (some (en ∙ many ∙ ap (λ (l : List ℕ). length (unquoted l)) (ap (take (valueAt C i % 256 - 2)) (ap (λ (k : ℕ). drop (k + 1) text) (sym ep) ∙ drop-of-length-le text {i = p + 1} (omega arith)) ∙ take-nil (valueAt C i % 256 - 2)))))
+        (λ h. absurd (some (en ∙ many ∙ ap (λ (l : List ℕ). length (unquoted l)) (ap (take (valueAt C i % charactersPart - 2)) (ap (λ (k : ℕ). drop (k + 1) text) (sym ep) ∙ drop-of-length-le text {i = p + 1} (omega arith)) ∙ take-nil (valueAt C i % charactersPart - 2)))))
 
     rest-is : midOf (p + 1) (length text - (p + 1)) text ≡ drop (placeAt C i + 1) text
     rest-is = part-rest text (p + 1) ∙ ap (λ (k : ℕ). drop (k + 1) text) ep
 
-    characters-in : unquoted (take (valueAt C i % 256 - 2) (midOf (p + 1) (length text - (p + 1)) text)) ≡ charactersAt text C i
+    characters-in : unquoted (take (valueAt C i % charactersPart - 2) (midOf (p + 1) (length text - (p + 1)) text)) ≡ charactersAt text C i
     unfolding charactersAt
-    characters-in = ap (λ (l : List ℕ). unquoted (take (valueAt C i % 256 - 2) l)) rest-is
+    characters-in = ap (λ (l : List ℕ). unquoted (take (valueAt C i % charactersPart - 2) l)) rest-is
 
-    many-in : length (unquoted (take (valueAt C i % 256 - 2) (midOf (p + 1) (length text - (p + 1)) text))) ≡ n
+    many-in : length (unquoted (take (valueAt C i % charactersPart - 2) (midOf (p + 1) (length text - (p + 1)) text))) ≡ n
     many-in = ap length characters-in ∙ sym many ∙ sym en
 
     module _ (out : List ℕ) (at : ℕ) (h : at + length (charactersAt text C i) ≤ length out) where
       count : n ≡ length (charactersAt text C i)
       count = en ∙ many
 
-      pub string-spelled : (v : ℕ) → v ≡ valueAt C i → Spelled (midOf (p + 1) (length text - (p + 1)) text) (midOf at (length out - at) out) n (v % 256)
+      pub string-spelled : (v : ℕ) → v ≡ valueAt C i → Spelled (midOf (p + 1) (length text - (p + 1)) text) (midOf at (length out - at) out) n (v % charactersPart)
       string-spelled v ev = record { many = rw ev many-in; room = rw (part-rest out at, length-drop) (omega (arith, count)); few = omega arith }
 
       pub string-done : (v : ℕ) → v ≡ valueAt C i → (ys : List ℕ)
-          → ys ≡ unquoted (take (v % 256 - 2) (midOf (p + 1) (length text - (p + 1)) text)) ++ drop n (midOf at (length out - at) out)
+          → ys ≡ unquoted (take (v % charactersPart - 2) (midOf (p + 1) (length text - (p + 1)) text)) ++ drop n (midOf at (length out - at) out)
           → Placed out (putMid at (length out - at) out ys) at (charactersAt text C i) (at + n)
       string-done v ev ys c = record {
-        bytes = ap (putMid at (length out - at) out) (c ∙ ap (λ (x : ℕ). unquoted (take (x % 256 - 2) (midOf (p + 1) (length text - (p + 1)) text)) ++ drop n (midOf at (length out - at) out)) ev ∙ ap (λ (s : List ℕ). s ++ drop n (midOf at (length out - at) out)) characters-in)
+        bytes = ap (putMid at (length out - at) out) (c ∙ ap (λ (x : ℕ). unquoted (take (x % charactersPart - 2) (midOf (p + 1) (length text - (p + 1)) text)) ++ drop n (midOf at (length out - at) out)) ev ∙ ap (λ (s : List ℕ). s ++ drop n (midOf at (length out - at) out)) characters-in)
             ∙ put-front out (charactersAt text C i) at n (omega arith)
             ∙ ap (replaced out at (charactersAt text C i)) count;
         place = omega (arith, count);

@@ -15,14 +15,14 @@ use mir.Facts.{toZ-pos}
 use borrow.Author.Tests.{le-leb, lt-leb}
 use Rattle.laws.proofs.Lists.{replaced-length, replaced-drop}
 use Rattle.paper.specs.Basics.{if_then_else_}
-use Rattle.paper.specs.Words.{LF}
+use Rattle.paper.specs.Words.{LF, wordLimit}
 use Rattle.paper.specs.Steps.{Program, write}
 use Rattle.paper.specs.States.{State, Rooms, Effect, made, lacking, withOutput, goTo, onTop}
 use Rattle.paper.specs.Running.{perform, adding, writing}
 use Rattle.cells.specs.Words.{wordsOf}
 use Rattle.cells.proofs.Laws.{length-words}
 use Rattle.code.specs.Cells.{opAt, valueAt, linkAt}
-use Rattle.code.specs.Steps.{Head}
+use Rattle.code.specs.Steps.{Head, aWrite}
 use Rattle.code.specs.Windows.{writtenCell, usedCell, writtenIn, stateIn}
 use Rattle.reading.specs.Reading.{cellValues}
 use Rattle.machine.specs.Live.{Live}
@@ -32,6 +32,10 @@ use Rattle.machine.proofs.States.{roomy, goes-to, written-cells}
 use Rattle.machine.proofs.Living.{live-next, live-run}
 use Rattle.machine.proofs.Actions
 use Rattle.machine.proofs.Current as here
+use Rattle.layout.specs.Parts.{charactersPart}
+use Rattle.layout.specs.Answers.{roomLacked}
+use Rattle.layout.specs.Named.{storeBytes}
+use Rattle.paper.specs.Answer.{storeWords}
 use Rattle.machine.proofs.Current.{codeHere, stepHere, action-here, place-here, effect-here, small-name, named-after}
 
 -- ---- what is written
@@ -43,7 +47,7 @@ split-is : (n : ℕ) → n % cellValues + cellValues * (n / cellValues) ≡ n
 split-is n = omega arith
 
 -- the two cells of the count
-module _ (X : List ℕ) (n : ℕ) (long : length X ≡ 16384) where
+module _ (X : List ℕ) (n : ℕ) (long : length X ≡ storeWords) where
   pub count-set : countIn (withCount X n) ≡ n
   count-set =
       let Z = set X writtenCell (n % cellValues) in
@@ -58,8 +62,8 @@ module _ (X : List ℕ) (n : ℕ) (long : length X ≡ 16384) where
       ∙ getD-set-other X writtenCell usedCell (n % cellValues) 0 (λ q. omega arith)
 
 -- ---- a line was added
-module _ (values after out out′ line : List ℕ) (a : Added values after out out′ line) (long : length values ≡ 65536) (fits : countIn (wordsOf values) + length line ≤ length out) where
-  words-long : length (wordsOf values) ≡ 16384
+module _ (values after out out′ line : List ℕ) (a : Added values after out out′ line) (long : length values ≡ storeBytes) (fits : countIn (wordsOf values) + length line ≤ length out) where
+  words-long : length (wordsOf values) ≡ storeWords
   words-long = omega (arith, length-words values)
 
   pub added-count : countIn (wordsOf after) ≡ countIn (wordsOf values) + length line
@@ -143,7 +147,7 @@ module _ (text code values after inputs out : List ℕ) (base last i : ℕ) (r :
   }
 
 -- ---- a step that adds a line
-module _ (text code values after inputs out out′ line : List ℕ) (base last i : ℕ) (r : ℤ) (a : Added values after out out′ line) (long : length values ≡ 65536)
+module _ (text code values after inputs out out′ line : List ℕ) (base last i : ℕ) (r : ℤ) (a : Added values after out out′ line) (long : length values ≡ storeBytes)
     (fits : countIn (wordsOf values) + length line ≤ length out) where
   pub lined : ((h : Here code values base i) → h .text ≡ text → (rooms : Rooms) → LastWindow rooms last → Lends rooms inputs out → (steps : ℕ) →
       Comes (h .P) (h .R) (wordsOf code) (h .offset) (h .d) i steps (wordsOf values) (wordsOf after) out out′ (effectAt (h .P) (h .R) rooms (wordsOf values) (h .d) i steps out) r)
@@ -159,20 +163,20 @@ module _ (text code values after inputs out out′ line : List ℕ) (base last i
   }
 
 -- ---- answers
-pub no-room : (i : ℕ) → i < 8192 → toZ w64 (393216 + i) ≡ pos (lackedBy 8 + i)
+pub no-room : (i : ℕ) → i < wordLimit → toZ w64 (roomLacked + i) ≡ pos (lackedBy 8 + i)
 unfolding lackedBy
-no-room i h = toZ-pos w64 {n = 393216 + i} (omega arith)
+no-room i h = toZ-pos w64 {n = roomLacked + i} (omega arith)
 
-pub no-room-fits : (i : ℕ) → i < 8192 → SFits w64 (pos (393216 + i))
+pub no-room-fits : (i : ℕ) → i < wordLimit → SFits w64 (pos (roomLacked + i))
 no-room-fits i h = record { sfits = omega arith }
 
 module _ (code values : List ℕ) (base i : ℕ) (h : Here code values base i) where
-  pub low-step : i < 8192
+  pub low-step : i < wordLimit
   low-step = small-name code values base i h i (h .live .named) .1
 
   -- what lacks room
   pub lacks-room : (steps : ℕ) (out : List ℕ) (E : Effect) → E ≡ lacking 8 (stepHere code values base i h .place)
-      → Comes (h .P) (h .R) (wordsOf code) (h .offset) (h .d) i steps (wordsOf values) (wordsOf values) out out E (toZ w64 (393216 + i))
+      → Comes (h .P) (h .R) (wordsOf code) (h .offset) (h .d) i steps (wordsOf values) (wordsOf values) out out E (toZ w64 (roomLacked + i))
   lacks-room steps out E e =
       lacks 8 i (stepHere code values base i h .place) (no-room i low-step) (omega arith) (omega arith) (omega (arith, low-step)) (place-here code values base i h) refl refl e
 
@@ -193,7 +197,7 @@ module _ (code values : List ℕ) (base i : ℕ) (h : Here code values base i) w
       ∙ sym (ap (λ (k : ℕ). stateIn (h .P) (h .R) (wordsOf after) (h .d) k steps out′) en)))
 
 -- ---- TPWrite
-module _ (code values : List ℕ) (base i : ℕ) (h : Here code values base i) (o : opAt (wordsOf code) i ≡ 144) where
+module _ (code values : List ℕ) (base i : ℕ) (h : Here code values base i) (o : opAt (wordsOf code) i ≡ aWrite) where
   reads : Actions.Writes (here.m code values base i h) (here.n code values base i h) (codeHere code values base i h .function) (h .text) (h .R) (wordsOf code) i (stepHere code values base i h .after) (stepHere code values base i h .does)
   reads = Actions.reads-write _ _ _ _ _ _ i _ _ (action-here code values base i h) o
 
@@ -220,10 +224,10 @@ module _ (code values : List ℕ) (base i : ℕ) (h : Here code values base i) (
 
 -- ---- each return of `write`
 module _ (text code values out : List ℕ) (i : ℕ) (w : Writes text code values out i) where
-  op-at : opAt (wordsOf code) i ≡ 144
+  op-at : opAt (wordsOf code) i ≡ aWrite
   op-at = w .op
 
-  pub write-low : i < 8192
+  pub write-low : i < wordLimit
   write-low = low-step code values (w .base) i (w .prints .here)
 
   pub write-in : i * 8 + 8 ≤ length code
@@ -232,22 +236,22 @@ module _ (text code values out : List ℕ) (i : ℕ) (w : Writes text code value
   pub write-next : i + 1 < 18446744073709551616
   write-next = omega (arith, write-low)
 
-  pub write-sum : 393216 + i < 18446744073709551616
+  pub write-sum : roomLacked + i < 18446744073709551616
   write-sum = omega (arith, write-low)
 
-  pub write-fits : SFits w64 (pos (393216 + i))
+  pub write-fits : SFits w64 (pos (roomLacked + i))
   write-fits = no-room-fits i write-low
 
   spells-text : Spells text code (i + 1)
   spells-text = subst (λ (t : List ℕ). Spells t code (i + 1)) (w .prints .text-is) (write-spells code values (w .base) i (w .prints .here) (w .op))
 
-  module _ (at : ℕ) (ea : at ≡ countIn (wordsOf values)) (n : ℕ) (en : n ≡ valueAt (wordsOf code) (i + 1) / 256) where
+  module _ (at : ℕ) (ea : at ≡ countIn (wordsOf values)) (n : ℕ) (en : n ≡ valueAt (wordsOf code) (i + 1) / charactersPart) where
     line-long : length (lineAt text (wordsOf code) (i + 1)) ≡ n + 1
     line-long = length-append (charactersAt text (wordsOf code) (i + 1)) (LF ∷ []) ∙ ap (λ (k : ℕ). k + 1) (sym (en ∙ spells-text .many))
 
-    pub write-lacks : length out - at ≤ n → Wrote text code values values out out i (toZ w64 (393216 + i))
+    pub write-lacks : length out - at ≤ n → Wrote text code values values out out i (toZ w64 (roomLacked + i))
     write-lacks g = record {
-      steps = λ inputs base last. silent text code values values inputs out base last i (toZ w64 (393216 + i)) refl (λ c x y. refl) (w .prints .written)
+      steps = λ inputs base last. silent text code values values inputs out base last i (toZ w64 (roomLacked + i)) refl (λ c x y. refl) (w .prints .written)
           (λ h t rooms lw l steps. lacks-room code values base i h steps out _
           (write-effect code values base i h (w .op) rooms steps out
           ∙ adding-lacks code values base i h out (w .prints .written) rooms (l .room) (stepHere code values base i h .place) steps (lineAt (h .text) (wordsOf code) (i + 1)) _

@@ -11,7 +11,7 @@ use lib.Signed.{ltZ, leZ}
 use mir.Syntax.{w64}
 use mir.Val.{SFits, toZ}
 use mir.Facts.{toZ-ofZ}
-use Rattle.paper.specs.Words.{LF}
+use Rattle.paper.specs.Words.{LF, wordLimit}
 use Rattle.paper.specs.Numbers.{Value, decimal}
 use Rattle.paper.specs.Terms.{worth}
 use Rattle.paper.specs.Steps.{write}
@@ -29,10 +29,13 @@ use Rattle.output.specs.Output.{countIn, charactersAt, Spells, lineOf, H
 use Rattle.machine.proofs.Actions
 use Rattle.machine.proofs.Current as here
 use Rattle.machine.proofs.Current.{codeHere, stepHere, stateHere, callHere, action-here, effect-here, stands-here, value-here, failed-here, told-error, told-value}
+use Rattle.code.specs.Steps.{aWriteOf}
+use Rattle.layout.specs.Parts.{charactersPart}
+use Rattle.layout.specs.Answers.{roomLacked}
 use Rattle.output.proofs.Printing.{low-step, no-room-fits, silent, lined, lacks-room, goes-lined, adding-fits, adding-lacks}
 
 -- ---- the step, by the cells
-module _ (code values : List ℕ) (base i : ℕ) (h : Here code values base i) (o : opAt (wordsOf code) i ≡ 145) where
+module _ (code values : List ℕ) (base i : ℕ) (h : Here code values base i) (o : opAt (wordsOf code) i ≡ aWriteOf) where
   pub reads : Actions.WritesOf (here.m code values base i h) (here.n code values base i h) (codeHere code values base i h .function) (h .text) (h .R) (wordsOf code) i (stepHere code values base i h .after) (stepHere code values base i h .does)
   reads = Actions.reads-write-of _ _ _ _ _ _ i _ _ (action-here code values base i h) o
 
@@ -83,8 +86,8 @@ pub of-short : (n m : ℕ) (z : ℤ) → n < 65536 → m ≡ length (decimal z) 
 of-short n m z h e = omega (arith, short z)
 
 -- ---- each return of `write_of`
-module _ (text code values out : List ℕ) (base i t : ℕ) (p : Prints text code values out base i) (q : Says code i 145 t) where
-  pub of-low : i < 8192
+module _ (text code values out : List ℕ) (base i t : ℕ) (p : Prints text code values out base i) (q : Says code i aWriteOf t) where
+  pub of-low : i < wordLimit
   of-low = low-step code values base i (p .here)
 
   pub of-in : i * 8 + 8 ≤ length code
@@ -96,10 +99,10 @@ module _ (text code values out : List ℕ) (base i t : ℕ) (p : Prints text cod
   pub of-from : i + 5 < 18446744073709551616
   of-from = omega (arith, of-low)
 
-  pub of-sum : 393216 + i < 18446744073709551616
+  pub of-sum : roomLacked + i < 18446744073709551616
   of-sum = omega (arith, of-low)
 
-  pub of-answer : SFits w64 (pos (393216 + i))
+  pub of-answer : SFits w64 (pos (roomLacked + i))
   of-answer = no-room-fits i of-low
 
   pub of-stands : Stands code (i + 5) t
@@ -109,13 +112,13 @@ module _ (text code values out : List ℕ) (base i t : ℕ) (p : Prints text cod
   spells-text = subst (λ (x : List ℕ). Spells x code (i + 1)) (p .text-is) (spells code values base i (p .here) (q .op-is))
 
   module _ (r : ℤ) (s : SFits w64 r) (v : Evaluated code values base (i + 5) t r) where
-    pub of-fails : leZ (pos 4294967296) (read r) ≡ true → WroteOf text code values values out out base i (read r)
+    pub of-fails : leZ (pos firstError) (read r) ≡ true → WroteOf text code values values out out base i (read r)
     of-fails k = rw (toZ-ofZ s) (record {
       steps = λ inputs last. silent text code values values inputs out base last i r refl (λ c x y. refl) (p .written)
           (λ h x rooms lw l steps. failed-here code values base i h rooms steps out (i + 5) t (reads code values base i h (q .op-is) .e) (term-at code values base i h (q .op-is) t (q .value-is)) r v (told-error r s k) _ _ (of-effect code values base i h (q .op-is) rooms steps out));
     })
 
-    module _ (k : leZ (pos 4294967296) (read r) ≡ false) (m : ℕ) (em : m ≡ length (decimal (read r))) (at : ℕ) (ea : at ≡ countIn (wordsOf values)) (n : ℕ) (en : n ≡ valueAt (wordsOf code) (i + 1) / 256) where
+    module _ (k : leZ (pos firstError) (read r) ≡ false) (m : ℕ) (em : m ≡ length (decimal (read r))) (at : ℕ) (ea : at ≡ countIn (wordsOf values)) (n : ℕ) (en : n ≡ valueAt (wordsOf code) (i + 1) / charactersPart) where
       line-long : length (lineOf text (wordsOf code) (i + 1) r) ≡ n + m + 1
       line-long =
           let c = charactersAt text (wordsOf code) (i + 1) in
@@ -123,9 +126,9 @@ module _ (text code values out : List ℕ) (base i t : ℕ) (p : Prints text cod
           let b : length (decimal r) ≡ m = sym (rw (toZ-ofZ s) at em) in
           length-append (c ++ decimal r) (LF ∷ []) ∙ ap (λ (x : ℕ). x + 1) (length-append c (decimal r)) ∙ omega (arith, a, b)
 
-      pub of-lacks : length out - at ≤ n + m → WroteOf text code values values out out base i (toZ w64 (393216 + i))
+      pub of-lacks : length out - at ≤ n + m → WroteOf text code values values out out base i (toZ w64 (roomLacked + i))
       of-lacks g = record {
-        steps = λ inputs last. silent text code values values inputs out base last i (toZ w64 (393216 + i)) refl (λ c x y. refl) (p .written)
+        steps = λ inputs last. silent text code values values inputs out base last i (toZ w64 (roomLacked + i)) refl (λ c x y. refl) (p .written)
             (λ h x rooms lw l steps. lacks-room code values base i h steps out _
             (of-value code values base i h (q .op-is) t (q .value-is) r v rooms steps out (told-value r s k)
             ∙ adding-lacks code values base i h out (p .written) rooms (l .room) (stepHere code values base i h .place) steps (lineOf (h .text) (wordsOf code) (i + 1) r) _

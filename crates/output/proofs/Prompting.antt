@@ -12,7 +12,7 @@ use lib.Signed.{ltZ, leZ, nonNeg}
 use mir.Syntax.{w32, w64}
 use mir.Val.{Fits, SFits, toZ, ofZ}
 use mir.Facts.{toZ-ofZ, toZ-pos}
-use Rattle.paper.specs.Words.{LF}
+use Rattle.paper.specs.Words.{LF, wordLimit}
 use Rattle.paper.specs.Numbers.{num, Value, value, error, ranged, overflow}
 use Rattle.paper.specs.Terms.{Ref, Memory, at, fails}
 use Rattle.paper.specs.Steps.{read}
@@ -40,10 +40,14 @@ use Rattle.targets.proofs.Assigning.{memory-is}
 use Rattle.targets.proofs.Targeting as targeting
 use Rattle.machine.proofs.Current as here
 use Rattle.machine.proofs.Current.{codeHere, stepHere, stateHere, callHere, counts-here, action-here, place-here, effect-here, whole-here, stores-here, small-name, small-next, named-after, told-error, told-value}
+use Rattle.code.specs.Steps.{aRead}
+use Rattle.layout.specs.Parts.{charactersPart}
+use Rattle.layout.specs.Answers.{inputLacked, roomLacked}
+use Rattle.paper.specs.Answer.{storeWords}
 use Rattle.output.proofs.Printing.{count-is, low-step, silent, added-count, added-used, added-long, added-past, added-live, added-state, adding-fits, adding-lacks, lacks-room, no-room-fits}
 
 -- ---- the step, by the cells
-module _ (code values : List ℕ) (base i : ℕ) (h : Here code values base i) (o : opAt (wordsOf code) i ≡ 146) where
+module _ (code values : List ℕ) (base i : ℕ) (h : Here code values base i) (o : opAt (wordsOf code) i ≡ aRead) where
   pub reads : Actions.ReadsNum (here.m code values base i h) (here.n code values base i h) (codeHere code values base i h .function) (h .text) (h .R) (wordsOf code) i (stepHere code values base i h .after) (stepHere code values base i h .does)
   reads = Actions.reads-read _ _ _ _ _ _ i _ _ (action-here code values base i h) o
 
@@ -153,7 +157,7 @@ module _ (code values : List ℕ) (base i : ℕ) (h : Here code values base i) (
   abbrev Y : List ℕ
   Y = set (wordsOf mid) usedCell (used + 1)
 
-  mid-long : length (wordsOf mid) ≡ 16384
+  mid-long : length (wordsOf mid) ≡ storeWords
   mid-long = omega (arith, length-words mid, a .count .long, h .values-size)
 
   mid-roomy : Roomy (h .P) (wordsOf mid) (h .d)
@@ -214,8 +218,8 @@ module _ (code values : List ℕ) (base i : ℕ) (h : Here code values base i) (
     }
 
 -- ---- each return of `read`
-module _ (text code values inputs out : List ℕ) (base i s : ℕ) (p : Reads text code values inputs out base i) (q : Says code i 146 s) where
-  pub read-low : i < 8192
+module _ (text code values inputs out : List ℕ) (base i s : ℕ) (p : Reads text code values inputs out base i) (q : Says code i aRead s) where
+  pub read-low : i < wordLimit
   read-low = low-step code values base i (p .prints .here)
 
   pub read-in : i * 8 + 8 ≤ length code
@@ -224,16 +228,16 @@ module _ (text code values inputs out : List ℕ) (base i s : ℕ) (p : Reads te
   pub read-next : i + 1 < 18446744073709551616
   read-next = omega (arith, read-low)
 
-  pub read-sum : 393216 + i < 18446744073709551616
+  pub read-sum : roomLacked + i < 18446744073709551616
   read-sum = omega (arith, read-low)
 
-  pub read-sum-7 : 327680 + i < 18446744073709551616
+  pub read-sum-7 : inputLacked + i < 18446744073709551616
   read-sum-7 = omega (arith, read-low)
 
-  pub read-answer : SFits w64 (pos (393216 + i))
+  pub read-answer : SFits w64 (pos (roomLacked + i))
   read-answer = no-room-fits i read-low
 
-  pub read-answer-7 : SFits w64 (pos (327680 + i))
+  pub read-answer-7 : SFits w64 (pos (inputLacked + i))
   read-answer-7 = let l = read-low in record { sfits = omega arith }
 
   pub read-target : Stores values base × Target code (i + 1)
@@ -243,13 +247,13 @@ module _ (text code values inputs out : List ℕ) (base i s : ℕ) (p : Reads te
   spells-text = subst (λ (x : List ℕ). Spells x code s) (p .prints .text-is) (spells code values base i (p .prints .here) (q .op-is) s (q .value-is))
 
   module _ (k : ℤ) (fk : SFits w64 k) (sp : Spotted code values base (i + 1) k) where
-    pub read-fails : leZ (pos 4294967296) (whole.read k) ≡ true → WasRead text code values values inputs out out base i (whole.read k)
+    pub read-fails : leZ (pos firstError) (whole.read k) ≡ true → WasRead text code values values inputs out out base i (whole.read k)
     read-fails g = rw (toZ-ofZ fk) (record {
       steps = λ last. silent text code values values inputs out base last i k refl (λ c x y. refl) (p .prints .written)
           (λ h x rooms lw l steps. read-lost code values base i h (q .op-is) k sp (told-error k fk g) s (q .value-is) rooms steps out);
     })
 
-    module _ (g : leZ (pos 4294967296) (whole.read k) ≡ false) (at : ℕ) (ea : at ≡ countIn (wordsOf values)) (n : ℕ) (en : n ≡ valueAt (wordsOf code) s / 256) where
+    module _ (g : leZ (pos firstError) (whole.read k) ≡ false) (at : ℕ) (ea : at ≡ countIn (wordsOf values)) (n : ℕ) (en : n ≡ valueAt (wordsOf code) s / charactersPart) where
       aim : (h : Here code values base i) → Aimed code values base i h (q .op-is) k sp (told-value k fk g)
       aim h = aimed code values base i h (q .op-is) k sp (told-value k fk g)
 
@@ -270,9 +274,9 @@ module _ (text code values inputs out : List ℕ) (base i s : ℕ) (p : Reads te
           found-effect code values base i h (q .op-is) k sp (told-value k fk g) s (q .value-is) rooms steps out
           ∙ ap (λ (y : List ℕ). adding rooms (stepHere code values base i h .place) (lineAt y (wordsOf code) s) (stateHere code values base i h rooms steps out) (takes-on h rooms steps)) x
 
-      pub read-lacks : length out - at ≤ n → WasRead text code values values inputs out out base i (toZ w64 (393216 + i))
+      pub read-lacks : length out - at ≤ n → WasRead text code values values inputs out out base i (toZ w64 (roomLacked + i))
       read-lacks f = record {
-        steps = λ last. silent text code values values inputs out base last i (toZ w64 (393216 + i)) refl (λ c x y. refl) (p .prints .written)
+        steps = λ last. silent text code values values inputs out base last i (toZ w64 (roomLacked + i)) refl (λ c x y. refl) (p .prints .written)
             (λ h x rooms lw l steps. lacks-room code values base i h steps out _
             (effect-is h x rooms steps
             ∙ adding-lacks code values base i h out (p .prints .written) rooms (l .room) (stepHere code values base i h .place) steps line _ (omega (arith, line-long, p .prints .written))));
@@ -291,12 +295,12 @@ module _ (text code values inputs out : List ℕ) (base i s : ℕ) (p : Reads te
         added-effect h x rooms l steps =
             effect-is h x rooms steps ∙ adding-fits code values base i h out (p .prints .written) rooms (l .room) (stepHere code values base i h .place) steps line (takes-on h rooms steps) room
 
-        pub read-none : length inputs / 4 ≤ used → WasRead text code values values inputs out out base i (toZ w64 (327680 + i))
+        pub read-none : length inputs / 4 ≤ used → WasRead text code values values inputs out out base i (toZ w64 (inputLacked + i))
         unfolding lackedBy
         read-none e = record {
-          steps = λ last. silent text code values values inputs out base last i (toZ w64 (327680 + i)) refl (λ c x y. refl) (p .prints .written)
+          steps = λ last. silent text code values values inputs out base last i (toZ w64 (inputLacked + i)) refl (λ c x y. refl) (p .prints .written)
               (λ h x rooms lw l steps.
-              lacks 7 i (stepHere code values base i h .place) (toZ-pos w64 {n = 327680 + i} (omega (arith, read-low))) (omega arith) (omega arith) (omega (arith, read-low)) (place-here code values base i h) refl refl
+              lacks 7 i (stepHere code values base i h .place) (toZ-pos w64 {n = inputLacked + i} (omega (arith, read-low))) (omega arith) (omega arith) (omega (arith, read-low)) (place-here code values base i h) refl refl
               (added-effect h x rooms l steps
               ∙ taking-none _ _ _ (drop (stateHere code values base i h rooms steps out .used) (rooms .inputs)) _ (inputs-are h rooms l steps ∙ no-input inputs used e)));
         }

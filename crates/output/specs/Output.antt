@@ -16,6 +16,7 @@ use Rattle.code.specs.Cells.{opAt, valueAt, placeAt}
 use Rattle.code.specs.Steps.{aWrite}
 use Rattle.code.specs.Windows.{writtenCell, usedCell}
 use Rattle.reading.specs.Reading.{cellValues}
+use Rattle.layout.specs.Parts.{charactersPart}
 use Rattle.machine.specs.Machine.{Here, Stepped}
 
 -- ---- how many bytes are written
@@ -43,15 +44,15 @@ pub record Copied (text out out′ : List ℕ) (count : ℕ) : Type 0 where
 pub record Spelled (text out : List ℕ) (count bytes : ℕ) : Type 0 where
   pub many : length (unquoted (take (bytes - 2) text)) ≡ count
   pub room : count ≤ length out
-  pub few : bytes < 256
+  pub few : bytes < charactersPart
 
 -- what the string at a word says, whose value has its bytes, quotes included, and above them its characters
 unfoldable pub charactersAt : (text C : List ℕ) → (i : ℕ) → List ℕ
-charactersAt text C i = unquoted (take (valueAt C i % 256 - 2) (drop (placeAt C i + 1) text))
+charactersAt text C i = unquoted (take (valueAt C i % charactersPart - 2) (drop (placeAt C i + 1) text))
 
 -- A string stands at word i: an empty one where there is no such word.
 pub record Spells (text code : List ℕ) (i : ℕ) : Type 0 where
-  pub many : valueAt (wordsOf code) i / 256 ≡ length (charactersAt text (wordsOf code) i)
+  pub many : valueAt (wordsOf code) i / charactersPart ≡ length (charactersAt text (wordsOf code) i)
   pub whole : length code % 8 ≡ 0
 
 -- The bytes s stand from `at` on, and r is the place after them.

@@ -2,7 +2,7 @@
 ghost use mathlib.Core.Path.{_≡_};
 ghost use mathlib.Core.List.{_++_};
 ghost use mathlib.Core.Bool.{true, false};
-ghost use Prim.Native.Nat.{_+_, _-_, _*_, _/_, _%_, _<_, _≤_};
+ghost use Prim.Native.Nat.{suc, _+_, _-_, _*_, _/_, _%_, _<_, _≤_};
 ghost use lib.Dec.{eqb};
 ghost use lib.ListN.{length, take, drop};
 ghost use Rattle.paper.specs.Basics.{if_then_else_};
@@ -11,10 +11,19 @@ ghost use Rattle.paper.specs.Words.{QUOTE};
 ghost use Rattle.paper.specs.Steps.{unquoted};
 ghost use Rattle.cells.specs.Words.{wordsOf};
 ghost use Rattle.code.specs.Cells.{valueAt};
+ghost use Rattle.code.specs.Steps.{aWriteOf, aRead};
 ghost use Rattle.machine.specs.Machine.{Says};
 ghost use Rattle.decimals.specs.Placed as decimals;
 ghost use Rattle.output.specs.Output.{countIn, Counted, Copies, Copied, Spelled, charactersAt, Spells, Placed, lineAt, lineOf, HasRoom, Added, Prints, Writes, Wrote, WroteOf, Takes, Took, Reads, WasRead};
+ghost use Rattle.layout.specs.Parts.{charactersPart};
+ghost use Rattle.code.specs.Windows.{writtenCell};
 use evaluation::worth;
+use layout::answers;
+use layout::cells::HALF;
+use layout::cells::USED;
+use layout::cells::WRITTEN;
+use layout::cells::WRITTEN_HIGH;
+use layout::parts;
 use reading::link;
 use reading::load;
 use reading::place;
@@ -22,44 +31,27 @@ use reading::put;
 use reading::value;
 use targets::target_cell;
 
-// what a step answers: an error, and what it lacks, with the step below
-const FIRST_ERROR: i64 = 4294967296;
-
-const OVERFLOW: i64 = FIRST_ERROR + 1001;
-
-const NO_INPUT: usize = 327680;
-
-const NO_ROOM: usize = 393216;
+// the answer of an input beyond num
+const OVERFLOW: i64 = answers::FIRST_ERROR + numbers::ERR_OVERFLOW as i64;
 
 // the ends of num
 const LOWEST: i64 = -8388607;
 
 const HIGHEST: i64 = 8388608;
 
-// inputs used
-const USED: usize = 1262;
-
-// how many bytes are written, low half first
-const WRITTEN: usize = 1260;
-
-const HALF: usize = 4294967296;
-
-// a string's value has its characters above its bytes
-const BYTES: usize = 256;
-
 fn written(values: &[u8]) -> usize
-    requires { ⌜ 5048 ≤ length (now values) ⌝ }
+    requires { ⌜ suc (suc writtenCell) * 4 ≤ length (now values) ⌝ }
     ensures { λ r. ⌜ r ≡ countIn (wordsOf (now (values .entry))) ⌝ }
 {
-    cells::get(values, WRITTEN) as usize + HALF * (cells::get(values, WRITTEN + 1) as usize)
+    cells::get(values, WRITTEN) as usize + HALF * (cells::get(values, WRITTEN_HIGH) as usize)
 }
 
 fn set_written(values: &mut [u8], n: usize)
-    requires { ⌜ 5048 ≤ length (now values) ⌝ }
+    requires { ⌜ suc (suc writtenCell) * 4 ≤ length (now values) ⌝ }
     ensures { λ _. ⌜ Counted (now (values .entry)) (now (values .exit)) n ⌝ }
 {
     cells::put(values, WRITTEN, (n % HALF) as u32);
-    cells::put(values, WRITTEN + 1, (n / HALF) as u32);
+    cells::put(values, WRITTEN_HIGH, (n / HALF) as u32);
 }
 
 // How many bytes a character takes that begins with b: a quote stands twice.
@@ -115,12 +107,12 @@ fn copy<'a>(text: &'a [u8], out: &'a mut [u8], count: usize, bytes: usize)
 // How many characters the string at word i has: none where there is no such word.
 fn characters(code: &[u8], i: usize) -> usize
     requires { ⌜ length (now code) % 8 ≡ 0 ⌝ }
-    ensures { λ r. ⌜ (r ≡ valueAt (wordsOf (now (code .entry))) i / 256) × (r < 65536) ⌝ }
+    ensures { λ r. ⌜ (r ≡ valueAt (wordsOf (now (code .entry))) i / charactersPart) × (r < 65536) ⌝ }
 {
     if code.len() / 8 <= i {
         return 0;
     }
-    value(code, i) / BYTES
+    value(code, i) / parts::CHARACTERS_AT
 }
 
 // The string at word i.
@@ -133,7 +125,7 @@ fn string<'a>(text: &'a [u8], code: &'a [u8], out: &'a mut [u8], at: usize, i: u
         return at;
     }
     let p = place(code, i) + 1;
-    let bytes = value(code, i) % BYTES;
+    let bytes = value(code, i) % parts::CHARACTERS_AT;
     copy(&text[p..], &mut out[at..], n, bytes);
     at + n
 }
@@ -190,7 +182,7 @@ pub fn write<'a>(
     ensures { λ r. ⌜ Wrote (now (text .entry)) (now (code .entry)) (now (values .entry)) (now (values .exit)) (now (out .entry)) (now (out .exit)) i r ⌝ }
 {
     if out.len() - written(&*values) <= characters(code, i + 1) {
-        return (NO_ROOM + i) as i64;
+        return (answers::NO_ROOM + i) as i64;
     }
     add(text, code, values, out, i + 1);
     link(code, i) as i64
@@ -206,16 +198,16 @@ pub fn write_of<'a>(
     i: usize,
     t: usize,
 ) -> i64
-    requires { ⌜ Prints (now text) (now code) (now values) (now out) base i × Says (now code) i 145 t ⌝ }
+    requires { ⌜ Prints (now text) (now code) (now values) (now out) base i × Says (now code) i aWriteOf t ⌝ }
     ensures { λ r. ⌜ WroteOf (now (text .entry)) (now (code .entry)) (now (values .entry)) (now (values .exit)) (now (out .entry)) (now (out .exit)) base i r ⌝ }
 {
     let v = worth(&*code, &*values, base, i + 5, t);
-    if FIRST_ERROR <= v {
+    if answers::FIRST_ERROR <= v {
         return v;
     }
     let n = decimals::number_length(v);
     if out.len() - written(&*values) <= characters(code, i + 1) + n {
-        return (NO_ROOM + i) as i64;
+        return (answers::NO_ROOM + i) as i64;
     }
     add_of(text, code, values, out, i + 1, v, n);
     link(code, i) as i64
@@ -251,19 +243,19 @@ pub fn read<'a>(
     i: usize,
     s: usize,
 ) -> i64
-    requires { ⌜ Reads (now text) (now code) (now values) (now inputs) (now out) base i × Says (now code) i 146 s ⌝ }
+    requires { ⌜ Reads (now text) (now code) (now values) (now inputs) (now out) base i × Says (now code) i aRead s ⌝ }
     ensures { λ r. ⌜ WasRead (now (text .entry)) (now (code .entry)) (now (values .entry)) (now (values .exit)) (now (inputs .entry)) (now (out .entry)) (now (out .exit)) base i r ⌝ }
 {
     let k = target_cell(&*code, &*values, base, i + 1);
-    if FIRST_ERROR <= k {
+    if answers::FIRST_ERROR <= k {
         return k;
     }
     if out.len() - written(&*values) <= characters(code, s) {
-        return (NO_ROOM + i) as i64;
+        return (answers::NO_ROOM + i) as i64;
     }
     let used = cells::get(&*values, USED);
     if inputs.len() / 4 <= used as usize {
-        return (NO_INPUT + i) as i64;
+        return (answers::NO_INPUT + i) as i64;
     }
     add(text, code, values, out, s);
     if take(values, inputs, used, k as usize) {

@@ -14,8 +14,10 @@ use Rattle.cells.specs.Words.{wordsOf}
 use Rattle.cells.proofs.Laws.{length-words}
 use Rattle.cells.proofs.Paper.{words-paper}
 use Rattle.checker.specs.Checks.{storeBytes}
+use Rattle.layout.specs.Rules.{smallStore, wrongDepth}
+use Rattle.records.specs.Records.{refusedFields, Written}
 use Rattle.pendant.specs.Calls.{lent, Calls}
-use Rattle.pendant.specs.Carries.{asked, refusedFields, Written, Refuses, Tells}
+use Rattle.pendant.specs.Carries.{asked, Refuses, Tells}
 use Rattle.pendant.proofs.Stores.{AllBytes, left-bytes, same-bytes}
 use Rattle.pendant.proofs.Depths.{isBad}
 use Rattle.pendant.proofs.Judging.{refusal-tells}
@@ -36,13 +38,13 @@ module _ (text : List ℕ) (steps depth : ℕ) (inputs out code values fields : 
   call-short h = record { is = rw (lt-ltb (length fields) recordSize h, pendantCall) }
 
   -- ---- a store is too small
-  call-small : recordSize ≤ length fields → tooSmall question ≡ true → (fields′ : List ℕ) → Written fields fields′ (refusedFields 1 0) → AllBytes code → AllBytes values
+  call-small : recordSize ≤ length fields → tooSmall question ≡ true → (fields′ : List ℕ) → Written fields fields′ (refusedFields smallStore 0) → AllBytes code → AllBytes values
       → Calls all 1 out code values fields′
   unfolding lent lentOf pendantCall spread answer result refusedFields
   call-small h t fields′ w c v =
-      let e : result question ≡ refusedWith (record { number = 1; offset = 0 }) = rw (t, result) in
+      let e : result question ≡ refusedWith (record { number = smallStore; offset = 0 }) = rw (t, result) in
       let p : pendantCall all ≡ spread (answer (lentOf all)) all = rw (le-ltb (length fields) recordSize h, pendantCall) in
-      let q : answer (lentOf all) ≡ record { fields = refusedFields 1 0; output = out; code = paper.wordsOf code; values = paper.wordsOf values } = rw (t, answer) (rw e) in
+      let q : answer (lentOf all) ≡ record { fields = refusedFields smallStore 0; output = out; code = paper.wordsOf code; values = paper.wordsOf values } = rw (t, answer) (rw e) in
       let x = w .bytes in
       let y = same-bytes code c in
       let z = same-bytes values v in
@@ -51,12 +53,12 @@ module _ (text : List ℕ) (steps depth : ℕ) (inputs out code values fields : 
             ∙ sym (p ∙ ap (λ (b : paper.Answer). spread b all) q);
       }
 
-  pub small-code : recordSize ≤ length fields → length code < storeBytes → (fields′ : List ℕ) → Written fields fields′ (refusedFields 1 0) → AllBytes code → AllBytes values
+  pub small-code : recordSize ≤ length fields → length code < storeBytes → (fields′ : List ℕ) → Written fields fields′ (refusedFields smallStore 0) → AllBytes code → AllBytes values
       → Calls all 1 out code values fields′
   unfolding lent lentOf questionOf tooSmall
   small-code h s = call-small h (rw (lt-ltb (length (paper.wordsOf code)) storeWords (omega (arith, word-count code))))
 
-  pub small-values : recordSize ≤ length fields → storeBytes ≤ length code → length values < storeBytes → (fields′ : List ℕ) → Written fields fields′ (refusedFields 1 0) → AllBytes code → AllBytes values
+  pub small-values : recordSize ≤ length fields → storeBytes ≤ length code → length values < storeBytes → (fields′ : List ℕ) → Written fields fields′ (refusedFields smallStore 0) → AllBytes code → AllBytes values
       → Calls all 1 out code values fields′
   unfolding lent lentOf questionOf tooSmall
   small-values h l s =
@@ -85,11 +87,11 @@ module _ (text : List ℕ) (steps depth : ℕ) (inputs out code values fields : 
               ∙ sym (p ∙ ap (λ (b : paper.Answer). spread b all) q);
         }
 
-    pub call-deep : true ≡ isBad depth → (code′ values′ fields′ : List ℕ) → Refuses 2 0 code values fields code′ values′ fields′
+    pub call-deep : true ≡ isBad depth → (code′ values′ fields′ : List ℕ) → Refuses wrongDepth 0 code values fields code′ values′ fields′
         → AllBytes code′ → AllBytes values′ → Calls all 1 out code′ values′ fields′
     unfolding lent lentOf questionOf result badDepth
     call-deep b code′ values′ fields′ f =
-        call-tells _ (rw (not-small, result) (rw (sym b))) out code′ values′ fields′ (refusal-tells out 2 0 f)
+        call-tells _ (rw (not-small, result) (rw (sym b))) out code′ values′ fields′ (refusal-tells out wrongDepth 0 f)
 
     asked-same : (v : Verdict) → carriedOut question v ≡ carriedOut (asked text steps depth inputs out) v
     unfolding carriedOut asked lent lentOf questionOf

@@ -13,7 +13,7 @@ use Rattle.paper.specs.Answer as paper
 use Rattle.paper.specs.Answer.{storeWords, Record, lentOf, questionOf, verdict, accepted, endedWith, ranTo, carriedOut, offsetOf}
 use Rattle.paper.specs.States.{Rooms}
 use Rattle.paper.specs.Running as running
-use Rattle.cells.specs.Words.{wordsOf, Cleared}
+use Rattle.cells.specs.Words.{wordsOf}
 use Rattle.cells.proofs.Laws.{length-words, words-take, words-append}
 use Rattle.cells.proofs.Paper.{words-paper}
 use Rattle.code.specs.Cells.{errnoCell}
@@ -24,7 +24,10 @@ use Rattle.checker.specs.Checks.{storeBytes}
 use Rattle.runner.specs.declared.Ended.{Ended}
 use Rattle.runner.specs.Runs.{Begins, Comes, Ran}
 use Rattle.pendant.specs.Calls.{lent}
-use Rattle.pendant.specs.Carries.{asked, reported, Written, Reports, Accepts, Tells}
+use Rattle.pendant.specs.Carries.{asked, Accepts, Tells}
+use Rattle.layout.specs.Parts.{halfPart}
+use Rattle.records.specs.Records.{reported, Written, Reports, Empties, Emptied}
+use Rattle.paper.specs.Declarations.{moduleWordLimit}
 use Rattle.pendant.proofs.Stores.{left-cleared, left-empty}
 
 -- ---- what the check's answer says
@@ -45,7 +48,7 @@ module _ {text code values fields : List ℕ} {words main depth : ℕ} (a : Acce
   unfolding wordsIn
   words-are = ap wordsIn (a .ready .answer)
 
-  pub few-words : words ≤ 1024
+  few-words : words ≤ moduleWordLimit
   few-words = rw words-are (a .ready .holds .room)
 
   many : storeWords ≤ length (wordsOf values)
@@ -54,7 +57,7 @@ module _ {text code values fields : List ℕ} {words main depth : ℕ} (a : Acce
   pub begins : Begins text (take storeBytes code) (take storeBytes values) main depth
   unfolding mainIn
   begins =
-      let few : length (a .a .program .words) ≤ 1024 = a .ready .holds .room in
+      let few : length (a .a .program .words) ≤ moduleWordLimit = a .ready .holds .room in
       record {
         P = a .a .program;
         R = a .ready .R;
@@ -101,9 +104,6 @@ module _ {text code values fields : List ℕ} {words main depth : ℕ} (a : Acce
         ∙ sym (length-append (take storeBytes values) (drop storeBytes values))
         ∙ ap length (take-append-drop storeBytes values)
 
-    pub room-for : (n : ℕ) → n ≤ storeBytes → n ≤ length (after ++ drop storeBytes values)
-    room-for n h = omega (arith, whole-size, a .rooms .values-room)
-
     whole-past : drop storeBytes (after ++ drop storeBytes values) ≡ drop storeBytes values
     whole-past = drop-at after (drop storeBytes values) storeBytes after-size
 
@@ -134,35 +134,41 @@ module _ {text code values fields : List ℕ} {words main depth : ℕ} (a : Acce
         ∙ ap (λ (m : ℕ). length (take m (wordsOf after))) (sym words-are)
         ∙ length-take-le words (wordsOf after) (rw after-words (omega (arith, few-words)))
 
-    fields-are : reported e steps (after ++ drop storeBytes values) words ≡ ranTo text (a .a .words) ended .fields
+    fields-are : reported (e .ending) (e .place) (steps - e .left) (after ++ drop storeBytes values) words ≡ ranTo text (a .a .words) ended .fields
     unfolding reported ranTo endedWith writtenIn
     fields-are =
         let e₁ = comes .ending in
         let e₂ = comes .place in
         let e₃ = sym (comes .counted) in
         let e₄ = cell errnoCell (omega arith) ∙ comes .errno in
-        let e₅ = ap₂ (λ (x y : ℕ). x + 4294967296 * y) (cell writtenCell (omega arith)) (cell (suc writtenCell) (omega arith)) ∙ comes .written (a .ready .R) in
+        let e₅ = ap₂ (λ (x y : ℕ). x + halfPart * y) (cell writtenCell (omega arith)) (cell (suc writtenCell) (omega arith)) ∙ comes .written (a .ready .R) in
         let e₆ = cell usedCell (omega arith) ∙ comes .used in
         let e₇ = sym kept-many in
         λ i. record { ending = e₁ i; refusal = 0; offset = e₂ i; steps = e₃ i; errno = e₄ i; output = e₅ i; inputs = e₆ i; words = e₇ i }
 
-    tells : {code′ values′ fields′ : List ℕ} → Written fields fields′ (reported e steps (after ++ drop storeBytes values) words)
-        → Cleared code code′ 0 storeWords → Cleared (after ++ drop storeBytes values) values′ words (storeWords - words)
+    tells : {code′ values′ fields′ : List ℕ} → Written fields fields′ (reported (e .ending) (e .place) (steps - e .left) (after ++ drop storeBytes values) words)
+        → Emptied code (after ++ drop storeBytes values) code′ values′ words
         → Tells (ranTo text (a .a .words) ended) out code values fields out′ code′ values′ fields′
     unfolding ranTo endedWith
-    tells {code′} {values′} {fields′} w c v =
+    tells {code′} {values′} {fields′} w z =
         record {
           output = sym (take-append-drop (length (ended .state .output)) out′) ∙ ap₂ _++_ (comes .output) (comes .past);
-          code-left = left-empty code code′ (a .rooms .code-room) c;
-          values-left = left-cleared values (after ++ drop storeBytes values) values′ words v (omega (arith, few-words)) (a .rooms .values-room) whole-size whole-past (ended .state .words) kept-many kept-are;
-          told = record { bytes = w .bytes ∙ ap (λ (f : Record). paper.recordBytes f ++ drop 64 fields) fields-are };
+          code-left = left-empty code code′ (a .rooms .code-room) (z .code-cleared);
+          values-left = left-cleared values (after ++ drop storeBytes values) values′ words (z .values-cleared) (omega (arith, few-words)) (a .rooms .values-room) whole-size whole-past (ended .state .words) kept-many kept-are;
+          told = record { bytes = w .bytes ∙ ap (λ (f : Record). paper.recordBytes f ++ drop paper.recordSize fields) fields-are };
         }
 
-    pub carried : {code′ values′ fields′ : List ℕ} → Written fields fields′ (reported e steps (after ++ drop storeBytes values) words)
-        → Cleared code code′ 0 storeWords → Cleared (after ++ drop storeBytes values) values′ words (storeWords - words)
+    pub carried : {code′ values′ fields′ : List ℕ} → Written fields fields′ (reported (e .ending) (e .place) (steps - e .left) (after ++ drop storeBytes values) words)
+        → Emptied code (after ++ drop storeBytes values) code′ values′ words
         → Tells (carriedOut (asked text steps depth inputs out) (verdict text)) out code values fields out′ code′ values′ fields′
     unfolding asked questionOf lentOf lent carriedOut rooms ended
-    carried w c v = rw (a .judged) (tells w c v)
+    carried w z = rw (a .judged) (tells w z)
 
-    pub reports : Reports (after ++ drop storeBytes values) fields e steps
-    reports = record { values-room = rw whole-size (a .rooms .values-room); fields-room = a .rooms .fields-room; left = comes .left }
+    pub reports : Reports (after ++ drop storeBytes values) fields
+    reports = record { values-room = rw whole-size (a .rooms .values-room); fields-room = a .rooms .fields-room }
+
+    pub steps-left : e .left ≤ steps
+    steps-left = comes .left
+
+    pub empties : Empties code (after ++ drop storeBytes values) words
+    empties = record { code-room = a .rooms .code-room; values-room = rw whole-size (a .rooms .values-room); few = omega (arith, few-words) }

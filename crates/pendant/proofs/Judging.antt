@@ -3,23 +3,28 @@ use mathlib.Core.Path.{_≡_, refl, sym, ap₂, _∙_}
 use mathlib.Core.Bool.{Bool, true, false, _||_}
 use mathlib.Core.List.{List, _++_}
 use Prim.Native.Nat.{ℕ, _≤_, _<_}
+use native.Mathlib.Omega.{arith}
 use lib.Dec.{ltb}
 use lib.ListN.{length, drop}
 use borrow.Author.Tests.{le-ltb}
 use Rattle.laws.proofs.Tests.{apart, false-true}
-use Rattle.paper.specs.Answer.{storeWords, recordSize, recordBytes, depthLimit, Verdict, refusedBy, accepted, verdict, refusedWith, carriedOut}
-use Rattle.cells.specs.Words.{Cleared}
+use Rattle.paper.specs.Answer.{recordSize, recordBytes, depthLimit, Verdict, refusedBy, accepted, verdict, refusedWith, carriedOut}
 use Rattle.checker.specs.declared.Checked.{Checked}
 use Rattle.checker.specs.declared.Checked.the-variants as checked
 use Rattle.checker.specs.Checks.{storeBytes, TooSmall, Judges, Checks}
-use Rattle.pendant.specs.Carries.{asked, refusedFields, Rooms, Written, Refuses, Accepts, Tells}
+use Rattle.layout.specs.Rules.{wrongDepth}
+use Rattle.records.specs.Records.{refusedFields, Written, Empties, Emptied}
+use Rattle.pendant.specs.Carries.{asked, Rooms, Refuses, Accepts, Tells}
 use Rattle.pendant.proofs.Stores.{left-empty, left-emptied, left-on}
 
 -- ---- a refusal
-pub deep-refused : (code values fields code′ values′ fields′ : List ℕ) → Rooms code values fields → Cleared code code′ 0 storeWords → Cleared values values′ 0 storeWords
-    → Written fields fields′ (refusedFields 2 0) → Refuses 2 0 code values fields code′ values′ fields′
-deep-refused code values fields code′ values′ fields′ r c v w =
-    record { code-left = left-empty code code′ (r .code-room) c; values-left = left-empty values values′ (r .values-room) v; told = w }
+pub deep-empties : (code values fields : List ℕ) → Rooms code values fields → Empties code values 0
+deep-empties code values fields r = record { code-room = r .code-room; values-room = r .values-room; few = omega arith }
+
+pub deep-refused : (code values fields code′ values′ fields′ : List ℕ) → Rooms code values fields → Emptied code values code′ values′ 0
+    → Written fields fields′ (refusedFields wrongDepth 0) → Refuses wrongDepth 0 code values fields code′ values′ fields′
+deep-refused code values fields code′ values′ fields′ r e w =
+    record { code-left = left-empty code code′ (r .code-room) (e .code-cleared); values-left = left-empty values values′ (r .values-room) (e .values-cleared); told = w }
 
 pub refusal-tells : {code values fields code′ values′ fields′ : List ℕ} (out : List ℕ) (number offset : ℕ) → Refuses number offset code values fields code′ values′ fields′
     → Tells (refusedWith (record { number = number; offset = offset })) out code values fields out code′ values′ fields′

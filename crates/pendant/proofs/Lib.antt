@@ -1,4 +1,3 @@
-pub mod Records
 pub mod Stores
 pub mod Depths
 pub mod Carrying

@@ -9,11 +9,12 @@ use lib.ListN.{length}
 use Rattle.laws.proofs.Tests.{by-less, by-same}
 use Rattle.paper.specs.Terms.{Term}
 use Rattle.cells.specs.Words.{wordsOf}
-use Rattle.code.specs.Cells.{headAt, opAt, valueAt, linkAt}
-use Rattle.code.specs.Steps.{Head, argumentsIn}
+use Rattle.code.specs.Cells.{headAt, opAt, valueAt, linkAt, opIn}
+use Rattle.code.specs.Steps.{Head, argumentsIn, aCallTarget, aCompactIf, aFor, aForTest, aFunctionEnd, aNextArgument, aProcedureCall, aRaise, aRaiseOf, aRead, aRetry, aReturn, aReturnOf, aTarget, aTest, aTryNext, aWhile, aWrite, aWriteOf, anEnd, anExit, anIf}
 use Rattle.code.proofs.Spanning.{span-grows}
 use Rattle.evaluation.proofs.Places.{op-in, link-in}
 use Rattle.resuming.specs.Resuming.{Closes, Closing, StepAt, After}
+use Rattle.paper.specs.Words.{wordLimit}
 use Rattle.machine.proofs.Actions as Actions
 
 -- ---- the word that closes arguments
@@ -31,7 +32,7 @@ Closed code first end b = (c : Closes code first end) → Rest code first end c 
 grows : (m n : ℕ) (function : Bool) (text : List ℕ) (R : List Head) (C : List ℕ) (f a b : ℕ) (es : List Term) (closes : ℕ) → argumentsIn m n function text R C f a b ≡ some (es, closes) → a < b
 grows m n function text R C zero a b es closes e = absurd (omega (arith, Actions.arguments-some m n function text R C a b es closes zero e))
 grows m n function text R C (suc f) a b es closes e =
-    by-same (opAt C b) 159
+    by-same (opAt C b) aNextArgument
     (λ h. let g = Actions.argument-more m n function text R C a b es closes f e h in span-grows m n C a b (g .e) (g .reads))
     (λ h. let g = Actions.argument-last m n function text R C a b es closes f e h in span-grows m n C a b (g .e) (g .reads))
 
@@ -44,7 +45,7 @@ module _ (code : List ℕ) (first end : ℕ) where
       record { f = 8191; a = first; es = c .terms; is = Actions.some-arguments (c .m) (c .n) (c .function) (c .text) (c .R) (wordsOf code) first end (c .terms) (c .closing) d (c .is) }
 
   module _ (b : ℕ) (k : Closed code first end b) (c : Closes code first end) where
-    last : (opAt (wordsOf code) b ≡ 159 → ⊥) → c .closing ≡ b
+    last : (opAt (wordsOf code) b ≡ aNextArgument → ⊥) → c .closing ≡ b
     last d = let r = k c in Actions.argument-last (c .m) (c .n) (c .function) (c .text) (c .R) (wordsOf code) (r .a) b (r .es) (c .closing) (r .f) (r .is) d .closes-is
 
     whole : length code % 8 ≡ 0
@@ -52,16 +53,16 @@ module _ (code : List ℕ) (first end : ℕ) where
 
     pub closed-in : b * 8 + 8 ≤ length code
     closed-in =
-        by-same (opAt (wordsOf code) b) 159
+        by-same (opAt (wordsOf code) b) aNextArgument
         (λ e. op-in code b whole (λ z. absurd (omega arith)))
         (λ d. link-in code b whole (λ z. let q = ap (linkAt (wordsOf code)) (last d) in absurd (omega (arith, c .linked))))
 
-  pub closed-end : (b w : ℕ) → w ≡ headAt (wordsOf code) b → (w % 256 ≡ 159 → ⊥) → Closed code first end b → Closing code first end b
-  closed-end b w e d k = record { is = λ c. sym (last b k c (λ z. d (ap (λ (x : ℕ). x % 256) e ∙ z))) }
+  pub closed-end : (b w : ℕ) → w ≡ headAt (wordsOf code) b → (opIn w ≡ aNextArgument → ⊥) → Closed code first end b → Closing code first end b
+  closed-end b w e d k = record { is = λ c. sym (last b k c (λ z. d (ap (λ (x : ℕ). opIn x) e ∙ z))) }
 
-  module _ (b w : ℕ) (ew : w ≡ headAt (wordsOf code) b) (h : w % 256 ≡ 159) (k : Closed code first end b) (l : ℕ) (el : l ≡ linkAt (wordsOf code) b) where
-    op-is : opAt (wordsOf code) b ≡ 159
-    op-is = sym (ap (λ (x : ℕ). x % 256) ew) ∙ h
+  module _ (b w : ℕ) (ew : w ≡ headAt (wordsOf code) b) (h : opIn w ≡ aNextArgument) (k : Closed code first end b) (l : ℕ) (el : l ≡ linkAt (wordsOf code) b) where
+    op-is : opAt (wordsOf code) b ≡ aNextArgument
+    op-is = sym (ap (λ (x : ℕ). opIn x) ew) ∙ h
 
     module _ (c : Closes code first end) where
       more : Actions.Argument (c .m) (c .n) (c .function) (c .text) (c .R) (wordsOf code) (k c .a) b (k c .es) (c .closing) (k c .f)
@@ -75,7 +76,7 @@ module _ (code : List ℕ) (first end : ℕ) where
       next : Rest code first end c (linkAt (wordsOf code) b)
       next = next-fuel (k c .f) (more .more)
 
-    pub closed-less : Closes code first end → 8192 - l < 8192 - b
+    pub closed-less : Closes code first end → wordLimit - l < wordLimit - b
     closed-less c =
         let g = grows (c .m) (c .n) (c .function) (c .text) (c .R) (wordsOf code) (k c .f) (b + 1) (linkAt (wordsOf code) b) (more c .rest) (c .closing) (more c .more) in
         omega (arith, g, closed-in b k c, c .size)
@@ -95,8 +96,8 @@ module _ (code : List ℕ) (i w : ℕ) (ew : w ≡ headAt (wordsOf code) i) wher
   abbrev C : List ℕ
   C = wordsOf code
 
-  op-at : (k : ℕ) → w % 256 ≡ k → opAt C i ≡ k
-  op-at k e = sym (ap (λ (x : ℕ). x % 256) ew) ∙ e
+  op-at : (k : ℕ) → opIn w ≡ k → opAt C i ≡ k
+  op-at k e = sym (ap (λ (x : ℕ). opIn x) ew) ∙ e
 
   module _ (s : StepAt code i) where
     step-whole : length code % 8 ≡ 0
@@ -106,7 +107,7 @@ module _ (code : List ℕ) (i w : ℕ) (ew : w ≡ headAt (wordsOf code) i) wher
     linked-in : (j : ℕ) → s .next ≡ linkAt C j → j * 8 + 8 ≤ length code
     linked-in j e = link-in code j step-whole (λ z. absurd (omega (arith, s .goes-on)))
 
-    module _ (h : opAt C i ≡ 136) where
+    module _ (h : opAt C i ≡ aProcedureCall) where
       of-call : Actions.CallsOf (s .m) (s .n) (s .function) (s .text) (s .R) C i (s .next) (s .does)
       of-call = Actions.reads-call-of (s .m) (s .n) (s .function) (s .text) (s .R) C i (s .next) (s .does) (s .is) h
 
@@ -130,37 +131,37 @@ module _ (code : List ℕ) (i w : ℕ) (ew : w ≡ headAt (wordsOf code) i) wher
       unfolding closes-of of-call
       closed-at l e r c = of-call .after-is ∙ sym (ap (linkAt C) (c .is (closes-of l e)))
 
-    module _ (h : opAt C i ≡ 151) where
+    module _ (h : opAt C i ≡ aForTest) where
       for-at : s .next ≡ linkAt C (w / 65536)
       for-at =
           let g = Actions.reads-for-test (s .m) (s .n) (s .function) (s .text) (s .R) C i (s .next) (s .does) (s .is) h in
           let q : valueAt C i / 256 ≡ w / 65536 = omega arith in
           g .after-is ∙ ap (linkAt C) q
 
-    module _ (low : 128 ≤ opAt C i) (high : opAt C i ≤ 154) (call : opAt C i ≡ 136 → ⊥) (test : opAt C i ≡ 151 → ⊥) (end : opAt C i ≡ 153 → ⊥) (last : opAt C i ≡ 154 → ⊥) where
+    module _ (low : aTarget ≤ opAt C i) (high : opAt C i ≤ aFunctionEnd) (call : opAt C i ≡ aProcedureCall → ⊥) (test : opAt C i ≡ aForTest → ⊥) (end : opAt C i ≡ anEnd → ⊥) (last : opAt C i ≡ aFunctionEnd → ⊥) where
       plain-at : s .next ≡ linkAt C i
       plain-at =
-          by-less (opAt C i) 132 (λ h. Actions.reads-store (s .m) (s .n) (s .function) (s .text) (s .R) C i (s .next) (s .does) (s .is) low h .after-is) (λ k.
-          by-less (opAt C i) 136 (λ h. Actions.reads-call-for (s .m) (s .n) (s .function) (s .text) (s .R) C i (s .next) (s .does) (s .is) k h .after-is) (λ l136.
-          by-next (opAt C i) 136 l136 (λ h. absurd (call h)) (λ l137.
-          by-next (opAt C i) 137 l137 (λ h. Actions.reads-return-of (s .m) (s .n) (s .function) (s .text) (s .R) C i (s .next) (s .does) (s .is) h .after-is) (λ l138.
-          by-next (opAt C i) 138 l138 (λ h. Actions.reads-return (s .m) (s .n) (s .function) (s .text) (s .R) C i (s .next) (s .does) (s .is) h .after-is) (λ l139.
-          by-next (opAt C i) 139 l139 (λ h. Actions.reads-raise-of (s .m) (s .n) (s .function) (s .text) (s .R) C i (s .next) (s .does) (s .is) h .after-is) (λ l140.
-          by-next (opAt C i) 140 l140 (λ h. Actions.reads-raise (s .m) (s .n) (s .function) (s .text) (s .R) C i (s .next) (s .does) (s .is) h .after-is) (λ l141.
-          by-next (opAt C i) 141 l141 (λ h. Actions.reads-exit (s .m) (s .n) (s .function) (s .text) (s .R) C i (s .next) (s .does) (s .is) h .after-is) (λ l142.
-          by-next (opAt C i) 142 l142 (λ h. Actions.reads-retry (s .m) (s .n) (s .function) (s .text) (s .R) C i (s .next) (s .does) (s .is) h .after-is) (λ l143.
-          by-next (opAt C i) 143 l143 (λ h. Actions.reads-try-next (s .m) (s .n) (s .function) (s .text) (s .R) C i (s .next) (s .does) (s .is) h .after-is) (λ l144.
-          by-next (opAt C i) 144 l144 (λ h. Actions.reads-write (s .m) (s .n) (s .function) (s .text) (s .R) C i (s .next) (s .does) (s .is) h .after-is) (λ l145.
-          by-next (opAt C i) 145 l145 (λ h. Actions.reads-write-of (s .m) (s .n) (s .function) (s .text) (s .R) C i (s .next) (s .does) (s .is) h .after-is) (λ l146.
-          by-next (opAt C i) 146 l146 (λ h. Actions.reads-read (s .m) (s .n) (s .function) (s .text) (s .R) C i (s .next) (s .does) (s .is) h .after-is) (λ l147.
-          by-next (opAt C i) 147 l147 (λ h. Actions.reads-compact-if (s .m) (s .n) (s .function) (s .text) (s .R) C i (s .next) (s .does) (s .is) h .after-is) (λ l148.
-          by-next (opAt C i) 148 l148 (λ h. Actions.reads-if (s .m) (s .n) (s .function) (s .text) (s .R) C i (s .next) (s .does) (s .is) h .after-is) (λ l149.
-          by-next (opAt C i) 149 l149 (λ h. Actions.reads-while (s .m) (s .n) (s .function) (s .text) (s .R) C i (s .next) (s .does) (s .is) h .after-is) (λ l150.
-          by-next (opAt C i) 150 l150 (λ h. Actions.reads-for (s .m) (s .n) (s .function) (s .text) (s .R) C i (s .next) (s .does) (s .is) h .after-is) (λ l151.
-          by-next (opAt C i) 151 l151 (λ h. absurd (test h)) (λ l152.
-          by-next (opAt C i) 152 l152 (λ h. Actions.reads-test (s .m) (s .n) (s .function) (s .text) (s .R) C i (s .next) (s .does) (s .is) h .after-is) (λ l153.
-          by-next (opAt C i) 153 l153 (λ h. absurd (end h)) (λ l154.
-          by-next (opAt C i) 154 l154 (λ h. absurd (last h)) (λ l155.
+          by-less (opAt C i) aCallTarget (λ h. Actions.reads-store (s .m) (s .n) (s .function) (s .text) (s .R) C i (s .next) (s .does) (s .is) low h .after-is) (λ k.
+          by-less (opAt C i) aProcedureCall (λ h. Actions.reads-call-for (s .m) (s .n) (s .function) (s .text) (s .R) C i (s .next) (s .does) (s .is) k h .after-is) (λ l136.
+          by-next (opAt C i) aProcedureCall l136 (λ h. absurd (call h)) (λ l137.
+          by-next (opAt C i) aReturnOf l137 (λ h. Actions.reads-return-of (s .m) (s .n) (s .function) (s .text) (s .R) C i (s .next) (s .does) (s .is) h .after-is) (λ l138.
+          by-next (opAt C i) aReturn l138 (λ h. Actions.reads-return (s .m) (s .n) (s .function) (s .text) (s .R) C i (s .next) (s .does) (s .is) h .after-is) (λ l139.
+          by-next (opAt C i) aRaiseOf l139 (λ h. Actions.reads-raise-of (s .m) (s .n) (s .function) (s .text) (s .R) C i (s .next) (s .does) (s .is) h .after-is) (λ l140.
+          by-next (opAt C i) aRaise l140 (λ h. Actions.reads-raise (s .m) (s .n) (s .function) (s .text) (s .R) C i (s .next) (s .does) (s .is) h .after-is) (λ l141.
+          by-next (opAt C i) anExit l141 (λ h. Actions.reads-exit (s .m) (s .n) (s .function) (s .text) (s .R) C i (s .next) (s .does) (s .is) h .after-is) (λ l142.
+          by-next (opAt C i) aRetry l142 (λ h. Actions.reads-retry (s .m) (s .n) (s .function) (s .text) (s .R) C i (s .next) (s .does) (s .is) h .after-is) (λ l143.
+          by-next (opAt C i) aTryNext l143 (λ h. Actions.reads-try-next (s .m) (s .n) (s .function) (s .text) (s .R) C i (s .next) (s .does) (s .is) h .after-is) (λ l144.
+          by-next (opAt C i) aWrite l144 (λ h. Actions.reads-write (s .m) (s .n) (s .function) (s .text) (s .R) C i (s .next) (s .does) (s .is) h .after-is) (λ l145.
+          by-next (opAt C i) aWriteOf l145 (λ h. Actions.reads-write-of (s .m) (s .n) (s .function) (s .text) (s .R) C i (s .next) (s .does) (s .is) h .after-is) (λ l146.
+          by-next (opAt C i) aRead l146 (λ h. Actions.reads-read (s .m) (s .n) (s .function) (s .text) (s .R) C i (s .next) (s .does) (s .is) h .after-is) (λ l147.
+          by-next (opAt C i) aCompactIf l147 (λ h. Actions.reads-compact-if (s .m) (s .n) (s .function) (s .text) (s .R) C i (s .next) (s .does) (s .is) h .after-is) (λ l148.
+          by-next (opAt C i) anIf l148 (λ h. Actions.reads-if (s .m) (s .n) (s .function) (s .text) (s .R) C i (s .next) (s .does) (s .is) h .after-is) (λ l149.
+          by-next (opAt C i) aWhile l149 (λ h. Actions.reads-while (s .m) (s .n) (s .function) (s .text) (s .R) C i (s .next) (s .does) (s .is) h .after-is) (λ l150.
+          by-next (opAt C i) aFor l150 (λ h. Actions.reads-for (s .m) (s .n) (s .function) (s .text) (s .R) C i (s .next) (s .does) (s .is) h .after-is) (λ l151.
+          by-next (opAt C i) aForTest l151 (λ h. absurd (test h)) (λ l152.
+          by-next (opAt C i) aTest l152 (λ h. Actions.reads-test (s .m) (s .n) (s .function) (s .text) (s .R) C i (s .next) (s .does) (s .is) h .after-is) (λ l153.
+          by-next (opAt C i) anEnd l153 (λ h. absurd (end h)) (λ l154.
+          by-next (opAt C i) aFunctionEnd l154 (λ h. absurd (last h)) (λ l155.
           absurd (omega arith))))))))))))))))))))))
 
 -- ---- what the code does with it
@@ -174,34 +175,34 @@ module _ (code : List ℕ) (i : ℕ) where
   step-small s = omega (arith, step-in s, s .size)
 
   module _ (w : ℕ) (ew : w ≡ headAt (wordsOf code) i) where
-    module _ (h : w % 256 ≡ 136) (l : ℕ) (el : l ≡ linkAt (wordsOf code) i) where
+    module _ (h : opIn w ≡ aProcedureCall) (l : ℕ) (el : l ≡ linkAt (wordsOf code) i) where
       pub call-closes : StepAt code i → Closes code (i + 1) l
-      call-closes s = closes-of code i w ew s (op-at code i w ew 136 h) l el
+      call-closes s = closes-of code i w ew s (op-at code i w ew aProcedureCall h) l el
 
       module _ (r : ℕ) (c : Closing code (i + 1) l r) where
         pub call-in : StepAt code i → r * 8 + 8 ≤ length code
-        call-in s = linked-in code i w ew s r (closed-at code i w ew s (op-at code i w ew 136 h) l el r c)
+        call-in s = linked-in code i w ew s r (closed-at code i w ew s (op-at code i w ew aProcedureCall h) l el r c)
 
         pub call-after : (q : ℕ) → q ≡ linkAt (wordsOf code) r → After code i q
-        call-after q e = record { is = λ s. e ∙ sym (closed-at code i w ew s (op-at code i w ew 136 h) l el r c) }
+        call-after q e = record { is = λ s. e ∙ sym (closed-at code i w ew s (op-at code i w ew aProcedureCall h) l el r c) }
 
-    module _ (h : w % 256 ≡ 151) where
+    module _ (h : opIn w ≡ aForTest) where
       pub for-in : StepAt code i → w / 65536 * 8 + 8 ≤ length code
-      for-in s = linked-in code i w ew s (w / 65536) (for-at code i w ew s (op-at code i w ew 151 h))
+      for-in s = linked-in code i w ew s (w / 65536) (for-at code i w ew s (op-at code i w ew aForTest h))
 
       pub for-after : (q : ℕ) → q ≡ linkAt (wordsOf code) (w / 65536) → After code i q
-      for-after q e = record { is = λ s. e ∙ sym (for-at code i w ew s (op-at code i w ew 151 h)) }
+      for-after q e = record { is = λ s. e ∙ sym (for-at code i w ew s (op-at code i w ew aForTest h)) }
 
-    pub end-after : w % 256 ≡ 153 → After code i i
-    end-after h = record { is = λ s. sym (Actions.reads-end (s .m) (s .n) (s .function) (s .text) (s .R) (wordsOf code) i (s .next) (s .does) (s .is) (op-at code i w ew 153 h) .after-is) }
+    pub end-after : opIn w ≡ anEnd → After code i i
+    end-after h = record { is = λ s. sym (Actions.reads-end (s .m) (s .n) (s .function) (s .text) (s .R) (wordsOf code) i (s .next) (s .does) (s .is) (op-at code i w ew anEnd h) .after-is) }
 
-    pub function-end-after : w % 256 ≡ 154 → After code i i
+    pub function-end-after : opIn w ≡ aFunctionEnd → After code i i
     function-end-after h =
-        record { is = λ s. sym (Actions.reads-function-end (s .m) (s .n) (s .function) (s .text) (s .R) (wordsOf code) i (s .next) (s .does) (s .is) (op-at code i w ew 154 h) .after-is) }
+        record { is = λ s. sym (Actions.reads-function-end (s .m) (s .n) (s .function) (s .text) (s .R) (wordsOf code) i (s .next) (s .does) (s .is) (op-at code i w ew aFunctionEnd h) .after-is) }
 
-    pub plain-after : (w % 256 ≡ 136 → ⊥) → (w % 256 ≡ 151 → ⊥) → (w % 256 ≡ 153 → ⊥) → (w % 256 ≡ 154 → ⊥) → (q : ℕ) → q ≡ linkAt (wordsOf code) i → After code i q
+    pub plain-after : (opIn w ≡ aProcedureCall → ⊥) → (opIn w ≡ aForTest → ⊥) → (opIn w ≡ anEnd → ⊥) → (opIn w ≡ aFunctionEnd → ⊥) → (q : ℕ) → q ≡ linkAt (wordsOf code) i → After code i q
     plain-after d1 d2 d3 d4 q e =
-        let o : opAt (wordsOf code) i ≡ w % 256 = op-at code i w ew (w % 256) refl in
+        let o : opAt (wordsOf code) i ≡ opIn w = op-at code i w ew (opIn w) refl in
         record {
           is = λ s. e ∙ sym (plain-at code i w ew s
               (Actions.op-low (s .m) (s .n) (s .function) (s .text) (s .R) (wordsOf code) i (s .next) (s .does) (s .is))

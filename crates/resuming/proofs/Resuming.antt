@@ -28,17 +28,19 @@ use Rattle.machine.proofs.States.{roomy, goes-to, call-failed}
 use Rattle.machine.proofs.Living.{live-next, live-failed}
 use Rattle.machine.proofs.Actions as Actions
 use Rattle.machine.proofs.Current.{codeHere, stepHere, action-here, effect-here, small-name, named-after}
+use Rattle.code.specs.Steps.{aRetry, aTryNext}
+use Rattle.paper.specs.Words.{wordLimit}
 use Rattle.errors.proofs.Cases.{none-case, some-case, positive}
 
 -- ---- answers
-pub answer-fits : (n : ℕ) → n < 8192 → SFits w64 (pos n)
+pub answer-fits : (n : ℕ) → n < wordLimit → SFits w64 (pos n)
 answer-fits n h = record { sfits = omega arith }
 
-pub answer-is : (n : ℕ) → n < 8192 → toZ w64 n ≡ pos n
+pub answer-is : (n : ℕ) → n < wordLimit → toZ w64 n ≡ pos n
 answer-is n h = toZ-pos w64 {n = n} (omega arith)
 
 module _ (code values : List ℕ) (base i : ℕ) (h : Here code values base i) where
-  pub step-low : i < 8192
+  pub step-low : i < wordLimit
   step-low = small-name code values base i h i (h .live .named) .1
 
   pub step-fits : SFits w64 (pos i)
@@ -86,7 +88,7 @@ module _ (code values after : List ℕ) (base i f : ℕ) (g : Forgot values afte
   pub failed-named : (f ≡ 0 → ⊥) → isNamed (codeHere code values base i h .steps) f ≡ true
   failed-named d = fits-named (subst (FailedFits (h .P) (h .R) (wordsOf values) (h .d)) (sym f-is) (h .live .top .failed)) d
 
-  pub failed-low : (f ≡ 0 → ⊥) → f < 8192
+  pub failed-low : (f ≡ 0 → ⊥) → f < wordLimit
   failed-low d = small-name code values base i h f (failed-named d) .1
 
   module _ (rooms : Rooms) (steps : ℕ) (out : List ℕ) where
@@ -152,7 +154,7 @@ module _ (code values after : List ℕ) (base i f : ℕ) (g : Forgot values afte
 
 -- ---- each return
 module _ (code values : List ℕ) (base i : ℕ) (h : Here code values base i) where
-  retry-effect : opAt (wordsOf code) i ≡ 142 → (rooms : Rooms) (steps : ℕ) (out : List ℕ)
+  retry-effect : opAt (wordsOf code) i ≡ aRetry → (rooms : Rooms) (steps : ℕ) (out : List ℕ)
       → effectAt (h .P) (h .R) rooms (wordsOf values) (h .d) i steps out ≡ made (onTop retrying (stateIn (h .P) (h .R) (wordsOf values) (h .d) i steps out))
   unfolding perform
   retry-effect o rooms steps out =
@@ -161,7 +163,7 @@ module _ (code values : List ℕ) (base i : ℕ) (h : Here code values base i) w
       let q = Actions.reads-retry _ _ _ _ _ _ i (s .after) (s .does) (action-here code values base i h) o in
       effect-here code values base i h rooms steps out (s .after) retry refl (q .does-is)
 
-  try-effect : opAt (wordsOf code) i ≡ 143 → (rooms : Rooms) (steps : ℕ) (out : List ℕ)
+  try-effect : opAt (wordsOf code) i ≡ aTryNext → (rooms : Rooms) (steps : ℕ) (out : List ℕ)
       → effectAt (h .P) (h .R) rooms (wordsOf values) (h .d) i steps out ≡ made (onTop (tryingNext (h .P)) (stateIn (h .P) (h .R) (wordsOf values) (h .d) i steps out))
   unfolding perform
   try-effect o rooms steps out =
@@ -170,7 +172,7 @@ module _ (code values : List ℕ) (base i : ℕ) (h : Here code values base i) w
       effect-here code values base i h rooms steps out (s .after) tryNext refl (q .does-is)
 
 module _ (code values after : List ℕ) (base i f : ℕ) (g : Forgot values after base f) where
-  pub retry-none : Here code values base i → opAt (wordsOf code) i ≡ 142 → f ≡ 0 → Performs code values after base i (toZ w64 i)
+  pub retry-none : Here code values base i → opAt (wordsOf code) i ≡ aRetry → f ≡ 0 → Performs code values after base i (toZ w64 i)
   retry-none h₀ o z = record {
     long = g .long;
     kept = forgot-keeps code values after base i f g h₀;
@@ -178,7 +180,7 @@ module _ (code values after : List ℕ) (base i f : ℕ) (g : Forgot values afte
         (retry-stays code values after base i f g h _ (not-failed code values after base i f g h z)) z;
   }
 
-  pub retry-again : Here code values base i → opAt (wordsOf code) i ≡ 142 → (f ≡ 0 → ⊥) → Performs code values after base i (toZ w64 f)
+  pub retry-again : Here code values base i → opAt (wordsOf code) i ≡ aRetry → (f ≡ 0 → ⊥) → Performs code values after base i (toZ w64 f)
   retry-again h₀ o d = record {
     long = g .long;
     kept = forgot-keeps code values after base i f g h₀;
@@ -186,7 +188,7 @@ module _ (code values after : List ℕ) (base i f : ℕ) (g : Forgot values afte
         (retry-goes code values after base i f g h _ (has-failed code values after base i f g h d)) (failed-named code values after base i f g h d);
   }
 
-  pub try-none : Here code values base i → opAt (wordsOf code) i ≡ 143 → f ≡ 0 → Performs code values after base i (toZ w64 i)
+  pub try-none : Here code values base i → opAt (wordsOf code) i ≡ aTryNext → f ≡ 0 → Performs code values after base i (toZ w64 i)
   try-none h₀ o z = record {
     long = g .long;
     kept = forgot-keeps code values after base i f g h₀;
@@ -223,10 +225,10 @@ module _ (code values after : List ℕ) (base i f : ℕ) (g : Forgot values afte
         let k = here-at code values base i h f (failed-named code values after base i f g h d) in
         subst (λ (j : ℕ). isNamed (codeHere code values base i h .steps) j ≡ true) (sym (a .is (failed-step h d))) (named-after code values base f k)
 
-    pub next-low : Here code values base i → (f ≡ 0 → ⊥) → n < 8192
+    pub next-low : Here code values base i → (f ≡ 0 → ⊥) → n < wordLimit
     next-low h d = small-name code values base i h n (next-named h d) .1
 
-    pub try-again : Here code values base i → opAt (wordsOf code) i ≡ 143 → (f ≡ 0 → ⊥) → Performs code values after base i (toZ w64 n)
+    pub try-again : Here code values base i → opAt (wordsOf code) i ≡ aTryNext → (f ≡ 0 → ⊥) → Performs code values after base i (toZ w64 n)
     try-again h₀ o d = record {
       long = g .long;
       kept = forgot-keeps code values after base i f g h₀;

@@ -8,17 +8,11 @@ ghost use Rattle.code.specs.Steps.{aRetry, aTryNext};
 ghost use Rattle.code.specs.Windows.{failedCell};
 ghost use Rattle.machine.specs.Machine.{Here, Performs};
 ghost use Rattle.resuming.specs.Resuming.{Closes, Closing, StepAt, After, Forgot};
+use layout::cells::FAILED;
+use layout::ops;
+use layout::parts;
 use reading::head;
 use reading::link;
-
-// the cell of a window that names the step that failed
-const FAILED: usize = 195;
-
-// a comma between two arguments
-const NEXT_ARGUMENT: u32 = 159;
-
-// a FOR test's value has its FOR above the variable's word
-const FORS: u32 = 65536;
 
 // The word that closes the arguments from `first` on, the first of which ends at `end`.
 fn closing(code: &[u8], first: usize, end: usize) -> usize
@@ -29,7 +23,7 @@ fn closing(code: &[u8], first: usize, end: usize) -> usize
         return end;
     }
     let mut b = end;
-    while head(code, b) % 256 == NEXT_ARGUMENT {
+    while head(code, b) % parts::VALUE == ops::NEXT_ARGUMENT {
         b = link(code, b);
     }
     b
@@ -41,12 +35,12 @@ fn after(code: &[u8], i: usize) -> usize
     ensures { λ r. ⌜ After (now (code .entry)) i r ⌝ }
 {
     let w = head(code, i);
-    let op = w % 256;
+    let op = w % parts::VALUE;
     match op {
-        136 => link(code, closing(code, i + 1, link(code, i))),
-        151 => link(code, (w / FORS) as usize),
-        153 => i,
-        154 => i,
+        ops::PROCEDURE_CALL => link(code, closing(code, i + 1, link(code, i))),
+        ops::FOR_TEST => link(code, (w / parts::LOOP_IN_HEAD) as usize),
+        ops::END => i,
+        ops::FUNCTION_END => i,
         _ => link(code, i),
     }
 }

@@ -21,7 +21,7 @@ use Rattle.paper.specs.States.{Location, locationOf, Call, State, Rooms, Effect
 use Rattle.paper.specs.Running.{perform, storeResult, returning, ending-list}
 use Rattle.cells.specs.Words.{wordsOf, Got}
 use Rattle.numbers.proofs.Whole.{read}
-use Rattle.code.specs.Cells.{windowOf}
+use Rattle.code.specs.Cells.{windowOf, firstWindow, windowCells}
 use Rattle.code.specs.Spans.{termIn}
 use Rattle.code.specs.Closed.{isNamed}
 use Rattle.code.specs.Windows.{waitsCell, afterCell, resultCell, writtenCell, usedCell, resultIn, callIn, waiting, stateIn}
@@ -36,6 +36,10 @@ use Rattle.machine.proofs.Actions as reads
 use Rattle.machine.proofs.Current as here
 use Rattle.machine.proofs.States.{Roomy, roomy, depth-is, left-state}
 use Rattle.machine.proofs.Living.{live-next, live-left}
+use Rattle.code.specs.Steps.{aReturnOf}
+use Rattle.layout.specs.Answers.{ended, left}
+use Rattle.layout.specs.Rules.{mainReturned}
+use Rattle.paper.specs.Words.{wordLimit}
 use Rattle.targets.proofs.References.{ref-inside, ref-word, ref-live, ref-kept, ref-location}
 
 -- ---- the caller
@@ -70,7 +74,7 @@ module _ (code values : List ℕ) (base i : ℕ) (h : Here code values base i) (
       ap (isNamed (codeOfCall (h .P) (h .R) (wordsOf values) e .steps)) (waits .after)
       ∙ here.named-after code values (windowOf e) (cellOfCall (h .P) (h .R) (wordsOf values) e waitsCell) caller-here
 
-  pub after-small : cellOfCall (h .P) (h .R) (wordsOf values) e afterCell < 8192
+  pub after-small : cellOfCall (h .P) (h .R) (wordsOf values) e afterCell < wordLimit
   after-small = here.small-name code values (windowOf e) (cellOfCall (h .P) (h .R) (wordsOf values) e waitsCell) caller-here (cellOfCall (h .P) (h .R) (wordsOf values) e afterCell) after-named .1
 
   live-back : Live (h .P) (h .R) (wordsOf values) e (cellOfCall (h .P) (h .R) (wordsOf values) e afterCell)
@@ -119,7 +123,7 @@ module _ (code values : List ℕ) (base i : ℕ) (h : Here code values base i) (
   cell-fits (away z) = omega arith
   cell-fits (to w f z) = omega (arith, h .values-size, ref-inside (h .P) (h .R) (wordsOf values) e room-back w f)
 
-  pub result-inside : (c : ℕ) → c ≡ getD (wordsOf values) (base + 196) 0 → c * 4 ≤ length values
+  pub result-inside : (c : ℕ) → c ≡ getD (wordsOf values) (base + resultCell) 0 → c * 4 ≤ length values
   result-inside c q = subst (λ (x : ℕ). x * 4 ≤ length values) (sym q) (cell-fits goes)
 
   -- a value stored there
@@ -160,19 +164,19 @@ module _ (code values : List ℕ) (base i : ℕ) (h : Here code values base i) (
     placed = placed-of goes
 
   -- the cell of the caller's next step
-  next-is : (n : ℕ) → n ≡ getD (wordsOf values) (base - 240 + 194) 0 → n ≡ cellOfCall (h .P) (h .R) (wordsOf values) e afterCell
+  next-is : (n : ℕ) → n ≡ getD (wordsOf values) (base - windowCells + afterCell) 0 → n ≡ cellOfCall (h .P) (h .R) (wordsOf values) e afterCell
   next-is n q = q ∙ ap (λ (c : ℕ). getD (wordsOf values) c 0) at
     where
-      at : base - 240 + 194 ≡ windowOf e + afterCell
+      at : base - windowCells + afterCell ≡ windowOf e + afterCell
       at = omega (arith, h .base-is, de)
 
-  module _ (n : ℕ) (q : n ≡ getD (wordsOf values) (base - 240 + 194) 0) where
-    step-fits : toZ w64 (131072 + n) ≡ pos (131072 + n)
-    step-fits = toZ-pos w64 (131072 + n) (omega (arith, next-is n q, after-small))
+  module _ (n : ℕ) (q : n ≡ getD (wordsOf values) (base - windowCells + afterCell) 0) where
+    step-fits : toZ w64 (left + n) ≡ pos (left + n)
+    step-fits = toZ-pos w64 (left + n) (omega (arith, next-is n q, after-small))
 
     -- ---- a return with nothing
     pub leaves-plain : (E : Effect) (steps : ℕ) (out : List ℕ) (c : Call) → E ≡ returning (h .P) c (waiting (h .P) (h .R) (wordsOf values) (h .d)) none (stateIn (h .P) (h .R) (wordsOf values) (h .d) i steps out)
-        → Comes (h .P) (h .R) (wordsOf code) (h .offset) (h .d) i steps (wordsOf values) (wordsOf values) out out E (toZ w64 (131072 + n))
+        → Comes (h .P) (h .R) (wordsOf code) (h .offset) (h .d) i steps (wordsOf values) (wordsOf values) out out E (toZ w64 (left + n))
     unfolding storeResult
     leaves-plain E steps out c z =
         rw step-fits (leaves e n refl de (subst (Live (h .P) (h .R) (wordsOf values) e) (sym (next-is n q)) live-back)
@@ -187,7 +191,7 @@ module _ (code values : List ℕ) (base i : ℕ) (h : Here code values base i) (
     -- ---- a return with a value
     pub leaves-with : (after : List ℕ) (v : ℤ) (s : SFits w32 v) (gv : Gave values after result-cell v) (E : Effect) (steps : ℕ) (out : List ℕ)
         → E ≡ returning (h .P) (callIn (h .P) (h .R) (wordsOf values) (windowOf (h .d)) i) (waiting (h .P) (h .R) (wordsOf values) (h .d)) (some v) (stateIn (h .P) (h .R) (wordsOf values) (h .d) i steps out)
-        → Comes (h .P) (h .R) (wordsOf code) (h .offset) (h .d) i steps (wordsOf values) (wordsOf after) out out E (toZ w64 (131072 + n))
+        → Comes (h .P) (h .R) (wordsOf code) (h .offset) (h .d) i steps (wordsOf values) (wordsOf after) out out E (toZ w64 (left + n))
     leaves-with after v s gv E steps out z =
         let t = placed after v s gv in
         rw step-fits (leaves e n refl de (subst (Live (h .P) (h .R) (wordsOf after) e) (sym (next-is n q)) (t .live))
@@ -199,16 +203,16 @@ module _ (code values : List ℕ) (base i : ℕ) (h : Here code values base i) (
 -- ---- the steps
 module _ (code values : List ℕ) (base i : ℕ) where
   -- who has a caller
-  no-caller : (h : Here code values base i) → base ≡ 1024 → h .d ≡ 0
+  no-caller : (h : Here code values base i) → base ≡ firstWindow → h .d ≡ 0
   no-caller h q = omega (arith, h .base-is)
 
-  has-caller : (h : Here code values base i) → (base ≡ 1024 → ⊥) → h .d ≡ suc (h .d - 1)
+  has-caller : (h : Here code values base i) → (base ≡ firstWindow → ⊥) → h .d ≡ suc (h .d - 1)
   has-caller h q = by-same (h .d) 0 (λ z. absurd (q (omega (arith, h .base-is)))) (λ z. omega (arith, z))
 
   -- main returns
-  main-returns : (h : Here code values base i) → base ≡ 1024 → (E : Effect) (r : Option ℤ) (steps : ℕ) (out : List ℕ) (c : Call)
+  main-returns : (h : Here code values base i) → base ≡ firstWindow → (E : Effect) (r : Option ℤ) (steps : ℕ) (out : List ℕ) (c : Call)
       → E ≡ returning (h .P) c (waiting (h .P) (h .R) (wordsOf values) (h .d)) r (stateIn (h .P) (h .R) (wordsOf values) (h .d) i steps out)
-      → Comes (h .P) (h .R) (wordsOf code) (h .offset) (h .d) i steps (wordsOf values) (wordsOf values) out out E (pos 196609)
+      → Comes (h .P) (h .R) (wordsOf code) (h .offset) (h .d) i steps (wordsOf values) (wordsOf values) out out E (pos (ended + mainReturned))
   unfolding returning waiting
   main-returns h q E r steps out c z =
       ends 1 refl (omega arith) refl refl (z ∙ ap (λ (x : ℕ). returning (h .P) c (waiting (h .P) (h .R) (wordsOf values) x) r (stateIn (h .P) (h .R) (wordsOf values) (h .d) i steps out)) (no-caller h q))
@@ -231,7 +235,7 @@ module _ (code values : List ℕ) (base i : ℕ) where
         here.effect-here code values base i h rooms steps out (s .after) action.endList refl (g .does-is)
         ∙ ap (λ (b : Bool). if b then ending 4 S else returning (h .P) (here.callHere code values base i h rooms steps out) (waiting (h .P) (h .R) (wordsOf values) (h .d)) none S) f
 
-    pub back-main : base ≡ 1024 → Performs code values values base i (pos 196609)
+    pub back-main : base ≡ firstWindow → Performs code values values base i (pos (ended + mainReturned))
     back-main q = record {
       long = refl;
       kept = λ c x y. refl;
@@ -239,7 +243,7 @@ module _ (code values : List ℕ) (base i : ℕ) where
           main-returns h q (effectAt (h .P) (h .R) rooms (wordsOf values) (h .d) i steps out) none steps out (here.callHere code values base i h rooms steps out) (plain-effect h rooms steps out rt);
     }
 
-    pub back-caller : (base ≡ 1024 → ⊥) → (n : ℕ) → Got values (base - 240 + 194) n → Performs code values values base i (toZ w64 (131072 + n))
+    pub back-caller : (base ≡ firstWindow → ⊥) → (n : ℕ) → Got values (base - windowCells + afterCell) n → Performs code values values base i (toZ w64 (left + n))
     back-caller q n z = record {
       long = refl;
       kept = λ c x y. refl;
@@ -249,7 +253,7 @@ module _ (code values : List ℕ) (base i : ℕ) where
     }
 
   -- ---- with a value
-  module _ (t : ℕ) (sy : Says code i 137 t) where
+  module _ (t : ℕ) (sy : Says code i aReturnOf t) where
     value-read : (h : Here code values base i)
         → reads.Expression (here.m code values base i h) (here.n code values base i h) (here.codeHere code values base i h .function) (h .text) (h .R) (wordsOf code) i (here.stepHere code values base i h .after) (here.stepHere code values base i h .does) (λ x. action.giveBack (some x))
     value-read h =
@@ -296,7 +300,7 @@ module _ (code values : List ℕ) (base i : ℕ) where
             value-effect h rooms steps out
             ∙ ap (λ (y : Value). withValue y (here.stateHere code values base i h rooms steps out) (go h rooms steps out)) (here.value-here code values base i h rooms steps out (i + 1) t (value-read h .e) (term-at h) v ev (here.told-value v s k))
 
-        pub return-main : base ≡ 1024 → Performs code values values base i (pos 196609)
+        pub return-main : base ≡ firstWindow → Performs code values values base i (pos (ended + mainReturned))
         return-main q = record {
           long = refl;
           kept = λ c x y. refl;
@@ -304,11 +308,11 @@ module _ (code values : List ℕ) (base i : ℕ) where
               main-returns h q (effectAt (h .P) (h .R) rooms (wordsOf values) (h .d) i steps out) (some v) steps out (here.callHere code values base i h rooms steps out) (given-effect h rooms steps out);
         }
 
-        module _ (q : base ≡ 1024 → ⊥) (cell : ℕ) (ec : Got values (base + 196) cell) where
+        module _ (q : base ≡ firstWindow → ⊥) (cell : ℕ) (ec : Got values (base + resultCell) cell) where
           pub return-inside : Here code values base i → cell * 4 ≤ length values
           return-inside h = result-inside code values base i h (h .d - 1) (has-caller h q) cell ec
 
-          pub return-done : Here code values base i → (n : ℕ) → Got values (base - 240 + 194) n → (after : List ℕ) → Gave values after cell (read v) → Performs code values after base i (toZ w64 (131072 + n))
+          pub return-done : Here code values base i → (n : ℕ) → Got values (base - windowCells + afterCell) n → (after : List ℕ) → Gave values after cell (read v) → Performs code values after base i (toZ w64 (left + n))
           return-done own n z after gv =
               let gave : Gave values after (getD (wordsOf values) (base + resultCell) 0) v = subst (λ (x : ℕ). Gave values after x v) ec (rw (toZ-ofZ s) at gv) in
               record {

@@ -15,17 +15,20 @@ use Rattle.paper.specs.Running.{codeAt, newCall, started}
 use Rattle.cells.specs.Words.{wordsOf, Put}
 use Rattle.cells.proofs.Laws.{length-words}
 use Rattle.cells.proofs.Kept.{put-length}
-use Rattle.code.specs.Cells.{placeAt, linkAt, errnoCell}
+use Rattle.code.specs.Cells.{placeAt, linkAt, errnoCell, firstWindow}
 use Rattle.code.specs.Steps.{Head, noHead, numbered, parts}
 use Rattle.code.specs.Closed.{isNamed}
 use Rattle.code.specs.Holds.{dataIn, HoldsRoutine}
-use Rattle.code.specs.Windows.{endsCell, stepsCell, writtenCell, usedCell, resultIn, callIn, waiting, writtenIn, stateIn}
+use Rattle.code.specs.Windows.{endsCell, stepsCell, writtenCell, usedCell, resultIn, callIn, waiting, writtenIn, stateIn, routineCell}
 use Rattle.machine.specs.Live.{Live, Below, nowhere, noneFailed, codeOfCall}
 use Rattle.starting.specs.Starting.{Holding, Starts, Started}
 use Rattle.runner.specs.Runs.{Begins, MayBegin, Begun}
 use Rattle.machine.proofs.Agreeing.{state-eq}
 use Rattle.machine.proofs.States.{module-same}
 use Rattle.starting.proofs.Writing.{holding-append, holding-zeros}
+use Rattle.reading.specs.Reading.{cellValues}
+use Rattle.layout.specs.Parts.{halfPart}
+use Rattle.paper.specs.Words.{wordLimit}
 use Rattle.starting.proofs.Fresh.{FreshIn, call-fresh}
 
 module _ (code values : List ℕ) (h : ℕ) where
@@ -34,7 +37,7 @@ module _ (code values : List ℕ) (h : ℕ) where
     routine : HoldsRoutine (length (b .P .words)) text (b .R) (b .offset) (wordsOf code) (getD (b .R) (b .main) noHead) (codeAt (b .P) (b .main))
     routine = b .holds .routines (b .main) (b .there)
 
-    pub word-small : h + 1 < 8192
+    pub word-small : h + 1 < wordLimit
     word-small = omega (arith, routine .head-small, b .main-is)
 
     words-are : codeAt (b .P) (b .main) .words ≡ routine .starts
@@ -46,18 +49,18 @@ module _ (code values : List ℕ) (h : ℕ) where
     count : length (routine .starts) + placeAt (wordsOf code) (routine .opens) ≤ 64
     count = omega (arith, routine .room, routine .fors-are, ap length words-are)
 
-  pub begin-low : MayBegin code values h → h < 4294967296
+  pub begin-low : MayBegin code values h → h < cellValues
   begin-low m = omega (arith, word-small (m .text) (m .depth) (m .begins))
 
   pub begin-in : MayBegin code values h → h * 8 + 8 ≤ length code
   begin-in m = omega (arith, word-small (m .text) (m .depth) (m .begins), m .begins .code-size)
 
-  module _ (mid : List ℕ) (p : Put values mid 1216 h) (l : ℕ) (el : l ≡ linkAt (wordsOf code) h) where
+  module _ (mid : List ℕ) (p : Put values mid (firstWindow + routineCell) h) (l : ℕ) (el : l ≡ linkAt (wordsOf code) h) where
     module _ (text : List ℕ) (depth : ℕ) (b : Begins text code values h depth) where
       mid-long : length mid ≡ length values
       mid-long = put-length p (omega (arith, b .values-size))
 
-      starts-mid : Starts code mid l 1024
+      starts-mid : Starts code mid l firstWindow
       starts-mid = record {
         starts = routine text depth b .starts;
         opens = routine text depth b .opens;
@@ -66,11 +69,11 @@ module _ (code values : List ℕ) (h : ℕ) where
         room = omega (arith, count text depth b, mid-long, b .values-size);
       }
 
-    pub begin-starts : MayBegin code values h → Starts code mid l 1024
+    pub begin-starts : MayBegin code values h → Starts code mid l firstWindow
     begin-starts m = starts-mid (m .text) (m .depth) (m .begins)
 
     -- ---- what is made
-    module _ (after : List ℕ) (st : Started code mid after l 1024) where
+    module _ (after : List ℕ) (st : Started code mid after l firstWindow) where
       module _ (text : List ℕ) (depth : ℕ) (b : Begins text code values h depth) where
         X : List ℕ
         X = wordsOf after
@@ -87,21 +90,21 @@ module _ (code values : List ℕ) (h : ℕ) where
         few = count text depth b
 
         -- a cell behind the loops
-        behind : (c : ℕ) → 1216 ≤ c → getD (wordsOf after) c 0 ≡ getD (wordsOf mid) c 0
+        behind : (c : ℕ) → (firstWindow + routineCell) ≤ c → getD (wordsOf after) c 0 ≡ getD (wordsOf mid) c 0
         behind c q = st .above (r .starts) (r .opens) c reads-at (omega (arith, few))
 
-        zero-behind : (c : ℕ) → 1216 < c → getD (wordsOf after) c 0 ≡ 0
+        zero-behind : (c : ℕ) → (firstWindow + routineCell) < c → getD (wordsOf after) c 0 ≡ 0
         zero-behind c q =
             behind c (omega arith)
-            ∙ ap (λ (x : List ℕ). getD x c 0) (p .words) ∙ getD-set-other (wordsOf values) 1216 c h 0 (λ z. omega arith)
+            ∙ ap (λ (x : List ℕ). getD x c 0) (p .words) ∙ getD-set-other (wordsOf values) (firstWindow + routineCell) c h 0 (λ z. omega arith)
             ∙ b .zeros c (omega (arith, b .holds .room))
 
-        routine-cell : getD (wordsOf after) 1216 0 ≡ h
+        routine-cell : getD (wordsOf after) (firstWindow + routineCell) 0 ≡ h
         routine-cell =
-            behind 1216 (omega arith) ∙ ap (λ (x : List ℕ). getD x 1216 0) (p .words)
-            ∙ getD-set-same (wordsOf values) 1216 h 0 (omega (arith, length-words values, b .values-size))
+            behind (firstWindow + routineCell) (omega arith) ∙ ap (λ (x : List ℕ). getD x (firstWindow + routineCell) 0) (p .words)
+            ∙ getD-set-same (wordsOf values) (firstWindow + routineCell) h 0 (omega (arith, length-words values, b .values-size))
 
-        number : numbered (b .R) (getD (wordsOf after) 1216 0) ≡ b .main
+        number : numbered (b .R) (getD (wordsOf after) (firstWindow + routineCell) 0) ≡ b .main
         number = ap (numbered (b .R)) (routine-cell ∙ sym (b .main-is)) ∙ b .holds .apart (b .main) (b .there)
 
         fors-are : codeAt (b .P) (b .main) .fors ≡ placeAt (wordsOf code) (r .opens)
@@ -111,23 +114,23 @@ module _ (code values : List ℕ) (h : ℕ) where
         unfolding r
         words-count = ap length (words-are text depth b)
 
-        zero-words : Holding (wordsOf after) (1024 + length (r .starts)) (replicate (codeAt (b .P) (b .main) .fors) (pos 0))
+        zero-words : Holding (wordsOf after) (firstWindow + length (r .starts)) (replicate (codeAt (b .P) (b .main) .fors) (pos 0))
         zero-words =
-            holding-zeros (wordsOf after) (1024 + length (r .starts)) (codeAt (b .P) (b .main) .fors)
+            holding-zeros (wordsOf after) (firstWindow + length (r .starts)) (codeAt (b .P) (b .main) .fors)
             (omega (arith, few, fors-are, length-words after, st .long, mid-long text depth b, b .values-size))
             (λ j q. st .idle (r .starts) (r .opens) j reads-at (omega (arith, fors-are)) .0)
 
-        fresh : FreshIn (b .P) (b .R) (wordsOf after) 1024 (b .main) 0 []
+        fresh : FreshIn (b .P) (b .R) (wordsOf after) firstWindow (b .main) 0 []
         unfolding r
         fresh = record {
           routine = number;
           starts = r .starts;
           words-are = words-are text depth b;
-          holds = holding-append (wordsOf after) 1024 (r .starts) (replicate (codeAt (b .P) (b .main) .fors) (pos 0)) (st .is (r .starts) (r .opens) reads-at) zero-words;
+          holds = holding-append (wordsOf after) firstWindow (r .starts) (replicate (codeAt (b .P) (b .main) .fors) (pos 0)) (st .is (r .starts) (r .opens) reads-at) zero-words;
           idle-are = λ j q.
               let i = st .idle (r .starts) (r .opens) j reads-at (omega (arith, fors-are)) in
-              let e : 1024 + length (r .starts) + j + 64 ≡ 1024 + endsCell + (length (codeAt (b .P) (b .main) .words) + j) = omega (arith, words-count) in
-              let s : 1024 + length (r .starts) + j + 128 ≡ 1024 + stepsCell + (length (codeAt (b .P) (b .main) .words) + j) = omega (arith, words-count) in
+              let e : firstWindow + length (r .starts) + j + endsCell ≡ firstWindow + endsCell + (length (codeAt (b .P) (b .main) .words) + j) = omega (arith, words-count) in
+              let s : firstWindow + length (r .starts) + j + stepsCell ≡ firstWindow + stepsCell + (length (codeAt (b .P) (b .main) .words) + j) = omega (arith, words-count) in
               (sym (ap (λ (c : ℕ). getD (wordsOf after) c 0) e) ∙ i .1, sym (ap (λ (c : ℕ). getD (wordsOf after) c 0) s) ∙ i .2);
           failed = zero-behind 1219 (omega arith);
           result-is = zero-behind 1220 (omega arith);
@@ -136,13 +139,13 @@ module _ (code values : List ℕ) (h : ℕ) where
         start-is : placeAt (wordsOf code) h ≡ codeAt (b .P) (b .main) .start
         start-is = ap (placeAt (wordsOf code)) (sym (b .main-is)) ∙ sym (r .start-is)
 
-        call-is : callIn (b .P) (b .R) (wordsOf after) 1024 (placeAt (wordsOf code) h) ≡ newCall (b .P) (b .main) [] none
+        call-is : callIn (b .P) (b .R) (wordsOf after) firstWindow (placeAt (wordsOf code) h) ≡ newCall (b .P) (b .main) [] none
         unfolding resultIn
-        call-is = ap (callIn (b .P) (b .R) (wordsOf after) 1024) start-is ∙ call-fresh (b .P) (b .R) (wordsOf after) 1024 (b .main) 0 [] fresh (wordsOf after)
+        call-is = ap (callIn (b .P) (b .R) (wordsOf after) firstWindow) start-is ∙ call-fresh (b .P) (b .R) (wordsOf after) firstWindow (b .main) 0 [] fresh (wordsOf after)
 
         pub begun-written : (P : Program) (R : List Head) → writtenIn P R (wordsOf after) ≡ 0
         unfolding writtenIn
-        begun-written P R = ap₂ (λ (x y : ℕ). x + 4294967296 * y) (zero-behind writtenCell (omega arith)) (zero-behind (suc writtenCell) (omega arith))
+        begun-written P R = ap₂ (λ (x y : ℕ). x + halfPart * y) (zero-behind writtenCell (omega arith)) (zero-behind (suc writtenCell) (omega arith))
 
         pub begun-used : getD (wordsOf after) usedCell 0 ≡ 0
         begun-used = zero-behind usedCell (omega arith)
@@ -150,7 +153,7 @@ module _ (code values : List ℕ) (h : ℕ) where
         module-is : map (toZ w32) (take (length (b .P .words)) (wordsOf after)) ≡ b .P .words
         module-is =
             module-same (b .P) (wordsOf values) (wordsOf after) (length-words after ∙ ap (λ (n : ℕ). n / 4) (st .long ∙ mid-long text depth b) ∙ sym (length-words values))
-            (λ c x y. st .below c (omega (arith, b .holds .room)) ∙ ap (λ (z : List ℕ). getD z c 0) (p .words) ∙ getD-set-other (wordsOf values) 1216 c h 0 (λ z. omega (arith, b .holds .room)))
+            (λ c x y. st .below c (omega (arith, b .holds .room)) ∙ ap (λ (z : List ℕ). getD z c 0) (p .words) ∙ getD-set-other (wordsOf values) (firstWindow + routineCell) c h 0 (λ z. omega (arith, b .holds .room)))
             ∙ b .words
 
         pub begun-state : (out : List ℕ) → stateIn (b .P) (b .R) (wordsOf after) 0 (placeAt (wordsOf code) h) 0 out ≡ started (b .P) (b .main)

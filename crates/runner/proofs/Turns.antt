@@ -21,7 +21,7 @@ use Rattle.paper.specs.Running.{nextStep, stepOf, Outcome, stopped, settled, ta
 use Rattle.paper.specs.Running as running
 use Rattle.numbers.proofs.Whole.{read}
 use Rattle.cells.specs.Words.{wordsOf}
-use Rattle.code.specs.Cells.{windowOf, placeAt, errnoCell}
+use Rattle.code.specs.Cells.{windowOf, placeAt, errnoCell, firstWindow, windowCells}
 use Rattle.code.specs.Steps.{Head}
 use Rattle.code.specs.Windows.{writtenCell, usedCell, callIn, waiting, writtenIn, stateIn}
 use Rattle.reading.specs.Reading.{cellValues}
@@ -35,6 +35,9 @@ use Rattle.output.specs.Output.{countIn}
 use Rattle.runner.specs.Runs.{Begins, Begun, MayBegin, Stops, byStep, byLack, Stopped, Ran}
 use Rattle.runner.specs.Runs as runs
 use Rattle.machine.proofs.Current.{place-here, small-name}
+use Rattle.layout.specs.Answers.{answers, lacked}
+use Rattle.layout.specs.Rules.{beyondDepth}
+use Rattle.paper.specs.Words.{wordLimit}
 use Rattle.output.proofs.Printing.{count-is}
 
 -- ---- one step of the paper's run
@@ -115,7 +118,7 @@ pub record Given (text code values₀ inputs out₀ : List ℕ) (base₀ i₀ la
 
 pub record Turning (text code values₀ inputs out₀ : List ℕ) (base₀ i₀ steps last : ℕ) (values out : List ℕ) (base i n : ℕ) : Type 0 where
   pub given : Given text code values₀ inputs out₀ base₀ i₀ last
-  pub small : steps < 4294967296
+  pub small : steps < cellValues
   pub long : length values ≡ length values₀
   pub out-long : length out ≡ length out₀
   pub on : n ≤ steps
@@ -149,7 +152,7 @@ past-on c d out out₀ h e =
     let q : c + (d - c) ≡ d = omega arith in
     sym (ap (λ (k : ℕ). drop k out) q) ∙ sym (drop-drop (d - c) c out) ∙ ap (drop (d - c)) e ∙ drop-drop (d - c) c out₀ ∙ ap (λ (k : ℕ). drop k out₀) q
 
-lackedBy-is : (n : ℕ) → lackedBy n ≡ 262144 + 65536 * (n - 6)
+lackedBy-is : (n : ℕ) → lackedBy n ≡ lacked + answers * (n - beyondDepth)
 unfolding lackedBy
 lackedBy-is n = refl
 
@@ -223,7 +226,7 @@ module _ (text code values₀ inputs out₀ : List ℕ) (base₀ i₀ steps last
         live = lv;
       }
 
-      low : (e m : ℕ) → e < depthLimit → Live (h .P) (h .R) (wordsOf after) e m → m < 8192
+      low : (e m : ℕ) → e < depthLimit → Live (h .P) (h .R) (wordsOf after) e m → m < wordLimit
       unfolding after-here
       low e m de lv = small-name code after (windowOf e) m (after-here (windowOf e) e m de refl lv) m (lv .named) .1
 
@@ -299,70 +302,70 @@ module _ (text code values₀ inputs out₀ : List ℕ) (base₀ i₀ steps last
       answer-pos (lacks m w at e f k j pl a b q) = (lackedBy m + w, e)
 
       -- the next step
-      arm-goes : ltZ (read r) (pos 65536) ≡ true → Came h x rooms lw l → Rest (h .P) (h .R) rooms (wordsOf values₀) out₀ (h .d) i₀ steps (wordsOf after) out′ base (natAbs (read r)) (n - 1)
+      arm-goes : ltZ (read r) (pos entered) ≡ true → Came h x rooms lw l → Rest (h .P) (h .R) rooms (wordsOf values₀) out₀ (h .d) i₀ steps (wordsOf after) out′ base (natAbs (read r)) (n - 1)
       arm-goes z (goesOn m e lv q) =
           subst (λ (j : ℕ). Rest (h .P) (h .R) rooms (wordsOf values₀) out₀ (h .d) i₀ steps (wordsOf after) out′ base j (n - 1)) (sym (answer-is r s m e))
           (onward-made h x rooms lw l d m q base (t .is h x rooms lw l .deep) (t .is h x rooms lw l .base-is) lv)
-      arm-goes z (enters m e de lv q) = absurd (omega (arith, answer-below r s (entered + m) e 65536 z))
-      arm-goes z (leaves c m e y lv q) = absurd (omega (arith, answer-below r s (left + m) e 65536 z))
-      arm-goes z (fails e y f lv q) = absurd (omega (arith, answer-below r s (firstError + e) y 65536 z))
-      arm-goes z (hands e a b q) = absurd (omega (arith, answer-below r s handed e 65536 z))
-      arm-goes z (ends m e f a b q) = absurd (omega (arith, answer-below r s (ended + m) e 65536 z))
-      arm-goes z (lacks m w at e f k j pl a b q) = absurd (omega (arith, answer-below r s (lackedBy m + w) e 65536 z, lackedBy-is m))
+      arm-goes z (enters m e de lv q) = absurd (omega (arith, answer-below r s (entered + m) e entered z))
+      arm-goes z (leaves c m e y lv q) = absurd (omega (arith, answer-below r s (left + m) e entered z))
+      arm-goes z (fails e y f lv q) = absurd (omega (arith, answer-below r s (firstError + e) y entered z))
+      arm-goes z (hands e a b q) = absurd (omega (arith, answer-below r s handed e entered z))
+      arm-goes z (ends m e f a b q) = absurd (omega (arith, answer-below r s (ended + m) e entered z))
+      arm-goes z (lacks m w at e f k j pl a b q) = absurd (omega (arith, answer-below r s (lackedBy m + w) e entered z, lackedBy-is m))
 
       -- a call is entered
-      module _ (z : ltZ (read r) (pos 65536) ≡ false) where
-        arm-enters : ltZ (read r) (pos 131072) ≡ true → Came h x rooms lw l
-            → Rest (h .P) (h .R) rooms (wordsOf values₀) out₀ (h .d) i₀ steps (wordsOf after) out′ (base + 240) (natAbs (read r) - 65536) (n - 1)
-        arm-enters y (goesOn m e lv q) = absurd (omega (arith, answer-above r s m e 65536 z, low h x rooms lw l d m (t .is h x rooms lw l .deep) lv))
+      module _ (z : ltZ (read r) (pos entered) ≡ false) where
+        arm-enters : ltZ (read r) (pos left) ≡ true → Came h x rooms lw l
+            → Rest (h .P) (h .R) rooms (wordsOf values₀) out₀ (h .d) i₀ steps (wordsOf after) out′ (base + windowCells) (natAbs (read r) - entered) (n - 1)
+        arm-enters y (goesOn m e lv q) = absurd (omega (arith, answer-above r s m e entered z, low h x rooms lw l d m (t .is h x rooms lw l .deep) lv))
         arm-enters y (enters m e de lv q) =
-            let k : natAbs (read r) - 65536 ≡ m = omega (arith, answer-is r s (entered + m) e) in
-            subst (λ (j : ℕ). Rest (h .P) (h .R) rooms (wordsOf values₀) out₀ (h .d) i₀ steps (wordsOf after) out′ (base + 240) j (n - 1)) (sym k)
-            (onward-made h x rooms lw l (suc d) m q (base + 240) de (omega (arith, t .is h x rooms lw l .base-is)) lv)
-        arm-enters y (leaves c m e o lv q) = absurd (omega (arith, answer-below r s (left + m) e 131072 y))
-        arm-enters y (fails e o f lv q) = absurd (omega (arith, answer-below r s (firstError + e) o 131072 y))
-        arm-enters y (hands e a b q) = absurd (omega (arith, answer-below r s handed e 131072 y))
-        arm-enters y (ends m e f a b q) = absurd (omega (arith, answer-below r s (ended + m) e 131072 y))
-        arm-enters y (lacks m w at e f k j pl a b q) = absurd (omega (arith, answer-below r s (lackedBy m + w) e 131072 y, lackedBy-is m))
+            let k : natAbs (read r) - entered ≡ m = omega (arith, answer-is r s (entered + m) e) in
+            subst (λ (j : ℕ). Rest (h .P) (h .R) rooms (wordsOf values₀) out₀ (h .d) i₀ steps (wordsOf after) out′ (base + windowCells) j (n - 1)) (sym k)
+            (onward-made h x rooms lw l (suc d) m q (base + windowCells) de (omega (arith, t .is h x rooms lw l .base-is)) lv)
+        arm-enters y (leaves c m e o lv q) = absurd (omega (arith, answer-below r s (left + m) e left y))
+        arm-enters y (fails e o f lv q) = absurd (omega (arith, answer-below r s (firstError + e) o left y))
+        arm-enters y (hands e a b q) = absurd (omega (arith, answer-below r s handed e left y))
+        arm-enters y (ends m e f a b q) = absurd (omega (arith, answer-below r s (ended + m) e left y))
+        arm-enters y (lacks m w at e f k j pl a b q) = absurd (omega (arith, answer-below r s (lackedBy m + w) e left y, lackedBy-is m))
 
         -- a call is left
-        module _ (y : ltZ (read r) (pos 131072) ≡ false) where
-          arm-leaves : ltZ (read r) (pos 196608) ≡ true → Came h x rooms lw l
-              → (240 ≤ base) × Rest (h .P) (h .R) rooms (wordsOf values₀) out₀ (h .d) i₀ steps (wordsOf after) out′ (base - 240) (natAbs (read r) - 131072) (n - 1)
-          arm-leaves v (goesOn m e lv q) = absurd (omega (arith, answer-above r s m e 65536 z, low h x rooms lw l d m (t .is h x rooms lw l .deep) lv))
-          arm-leaves v (enters m e de lv q) = absurd (omega (arith, answer-above r s (entered + m) e 131072 y, low h x rooms lw l (suc d) m de lv))
+        module _ (y : ltZ (read r) (pos left) ≡ false) where
+          arm-leaves : ltZ (read r) (pos ended) ≡ true → Came h x rooms lw l
+              → (windowCells ≤ base) × Rest (h .P) (h .R) rooms (wordsOf values₀) out₀ (h .d) i₀ steps (wordsOf after) out′ (base - windowCells) (natAbs (read r) - left) (n - 1)
+          arm-leaves v (goesOn m e lv q) = absurd (omega (arith, answer-above r s m e entered z, low h x rooms lw l d m (t .is h x rooms lw l .deep) lv))
+          arm-leaves v (enters m e de lv q) = absurd (omega (arith, answer-above r s (entered + m) e left y, low h x rooms lw l (suc d) m de lv))
           arm-leaves v (leaves c m e o lv q) =
-              let k : natAbs (read r) - 131072 ≡ m = omega (arith, answer-is r s (left + m) e) in (
+              let k : natAbs (read r) - left ≡ m = omega (arith, answer-is r s (left + m) e) in (
                 omega (arith, t .is h x rooms lw l .base-is),
-                subst (λ (j : ℕ). Rest (h .P) (h .R) rooms (wordsOf values₀) out₀ (h .d) i₀ steps (wordsOf after) out′ (base - 240) j (n - 1)) (sym k)
-                    (onward-made h x rooms lw l c m q (base - 240) (omega (arith, t .is h x rooms lw l .deep)) (omega (arith, t .is h x rooms lw l .base-is)) lv),
+                subst (λ (j : ℕ). Rest (h .P) (h .R) rooms (wordsOf values₀) out₀ (h .d) i₀ steps (wordsOf after) out′ (base - windowCells) j (n - 1)) (sym k)
+                    (onward-made h x rooms lw l c m q (base - windowCells) (omega (arith, t .is h x rooms lw l .deep)) (omega (arith, t .is h x rooms lw l .base-is)) lv),
               )
-          arm-leaves v (fails e o f lv q) = absurd (omega (arith, answer-below r s (firstError + e) o 196608 v))
-          arm-leaves v (hands e a b q) = absurd (omega (arith, answer-below r s handed e 196608 v))
-          arm-leaves v (ends m e f a b q) = absurd (omega (arith, answer-below r s (ended + m) e 196608 v))
-          arm-leaves v (lacks m w at e f k j pl a b q) = absurd (omega (arith, answer-below r s (lackedBy m + w) e 196608 v, lackedBy-is m))
+          arm-leaves v (fails e o f lv q) = absurd (omega (arith, answer-below r s (firstError + e) o ended v))
+          arm-leaves v (hands e a b q) = absurd (omega (arith, answer-below r s handed e ended v))
+          arm-leaves v (ends m e f a b q) = absurd (omega (arith, answer-below r s (ended + m) e ended v))
+          arm-leaves v (lacks m w at e f k j pl a b q) = absurd (omega (arith, answer-below r s (lackedBy m + w) e ended v, lackedBy-is m))
 
-          module _ (v : ltZ (read r) (pos 196608) ≡ false) where
+          module _ (v : ltZ (read r) (pos ended) ≡ false) where
             -- it ends the run
-            arm-stops : ltZ (read r) (pos 458752) ≡ true → Came h x rooms lw l → Stops code (natAbs (read r)) (n - 1)
-            arm-stops u (goesOn m e lv q) = absurd (omega (arith, answer-above r s m e 65536 z, low h x rooms lw l d m (t .is h x rooms lw l .deep) lv))
-            arm-stops u (enters m e de lv q) = absurd (omega (arith, answer-above r s (entered + m) e 131072 y, low h x rooms lw l (suc d) m de lv))
-            arm-stops u (leaves c m e o lv q) = absurd (omega (arith, answer-above r s (left + m) e 196608 v, low h x rooms lw l c m (omega (arith, t .is h x rooms lw l .deep)) lv))
-            arm-stops u (fails e o f lv q) = absurd (omega (arith, answer-below r s (firstError + e) o 458752 u))
-            arm-stops u (hands e a b q) = absurd (omega (arith, answer-below r s handed e 458752 u))
+            arm-stops : ltZ (read r) (pos handed) ≡ true → Came h x rooms lw l → Stops code (natAbs (read r)) (n - 1)
+            arm-stops u (goesOn m e lv q) = absurd (omega (arith, answer-above r s m e entered z, low h x rooms lw l d m (t .is h x rooms lw l .deep) lv))
+            arm-stops u (enters m e de lv q) = absurd (omega (arith, answer-above r s (entered + m) e left y, low h x rooms lw l (suc d) m de lv))
+            arm-stops u (leaves c m e o lv q) = absurd (omega (arith, answer-above r s (left + m) e ended v, low h x rooms lw l c m (omega (arith, t .is h x rooms lw l .deep)) lv))
+            arm-stops u (fails e o f lv q) = absurd (omega (arith, answer-below r s (firstError + e) o handed u))
+            arm-stops u (hands e a b q) = absurd (omega (arith, answer-below r s handed e handed u))
             arm-stops u (ends m e f a b q) = byStep m f (answer-is r s (ended + m) e) (h .code-size)
             arm-stops u (lacks m w at e f k j pl a b q) = byLack m w f k j (answer-is r s (lackedBy m + w) e) (omega (arith, t .on, t .small)) (h .code-size)
 
             -- it raises an error
-            arm-raises : ltZ (read r) (pos 458752) ≡ false → Came h x rooms lw l → Here code after base i × Raises r
-            arm-raises u (goesOn m e lv q) = absurd (omega (arith, answer-above r s m e 65536 z, low h x rooms lw l d m (t .is h x rooms lw l .deep) lv))
-            arm-raises u (enters m e de lv q) = absurd (omega (arith, answer-above r s (entered + m) e 131072 y, low h x rooms lw l (suc d) m de lv))
-            arm-raises u (leaves c m e o lv q) = absurd (omega (arith, answer-above r s (left + m) e 196608 v, low h x rooms lw l c m (omega (arith, t .is h x rooms lw l .deep)) lv))
+            arm-raises : ltZ (read r) (pos handed) ≡ false → Came h x rooms lw l → Here code after base i × Raises r
+            arm-raises u (goesOn m e lv q) = absurd (omega (arith, answer-above r s m e entered z, low h x rooms lw l d m (t .is h x rooms lw l .deep) lv))
+            arm-raises u (enters m e de lv q) = absurd (omega (arith, answer-above r s (entered + m) e left y, low h x rooms lw l (suc d) m de lv))
+            arm-raises u (leaves c m e o lv q) = absurd (omega (arith, answer-above r s (left + m) e ended v, low h x rooms lw l c m (omega (arith, t .is h x rooms lw l .deep)) lv))
             arm-raises u (fails e o f lv q) = (after-here h x rooms lw l base d i (t .is h x rooms lw l .deep) (t .is h x rooms lw l .base-is) lv, raises e f o)
             arm-raises u (hands e a b q) =
                 (after-here h x rooms lw l base d i (t .is h x rooms lw l .deep) (t .is h x rooms lw l .base-is) (subst (λ (w : List ℕ). Live (h .P) (h .R) w d i) (sym a) (t .is h x rooms lw l .live)), handsOn e)
-            arm-raises u (ends m e f a b q) = absurd (omega (arith, answer-above r s (ended + m) e 458752 u))
-            arm-raises u (lacks m w at e f k j pl a b q) = absurd (omega (arith, answer-above r s (lackedBy m + w) e 458752 u, lackedBy-is m))
+            arm-raises u (ends m e f a b q) = absurd (omega (arith, answer-above r s (ended + m) e handed u))
+            arm-raises u (lacks m w at e f k j pl a b q) = absurd (omega (arith, answer-above r s (lackedBy m + w) e handed u, lackedBy-is m))
 
     -- ---- what the code does with it
     abbrev here-came : Came (g .here) (g .text-is) (g .rooms) (g .deepest) (g .lends)
@@ -374,34 +377,34 @@ module _ (text code values₀ inputs out₀ : List ℕ) (base₀ i₀ steps last
     turn-sub : (c : ℕ) → ltZ (read r) (pos c) ≡ false → c ≤ natAbs (read r)
     turn-sub c z = let q = answer-pos (g .here) (g .text-is) (g .rooms) (g .deepest) (g .lends) here-came in omega (arith, answer-above r s (q .0) (q .1) c z, answer-is r s (q .0) (q .1))
 
-    pub turn-goes : ltZ (read r) (pos 65536) ≡ true → Turning text code values₀ inputs out₀ base₀ i₀ steps last after out′ base (natAbs (read r)) (n - 1)
+    pub turn-goes : ltZ (read r) (pos entered) ≡ true → Turning text code values₀ inputs out₀ base₀ i₀ steps last after out′ base (natAbs (read r)) (n - 1)
     turn-goes z = turned base (natAbs (read r)) (λ h x rooms lw l. arm-goes h x rooms lw l z (came h x rooms lw l))
 
-    pub turn-up : base + 240 < 18446744073709551616
+    pub turn-up : base + windowCells < 18446744073709551616
     turn-up = omega (arith, turn-here .base-is, turn-here .deep)
 
-    module _ (z : ltZ (read r) (pos 65536) ≡ false) where
-      pub turn-sub-1 : 65536 ≤ natAbs (read r)
-      turn-sub-1 = turn-sub 65536 z
+    module _ (z : ltZ (read r) (pos entered) ≡ false) where
+      pub turn-sub-1 : entered ≤ natAbs (read r)
+      turn-sub-1 = turn-sub entered z
 
-      pub turn-enters : ltZ (read r) (pos 131072) ≡ true → Turning text code values₀ inputs out₀ base₀ i₀ steps last after out′ (base + 240) (natAbs (read r) - 65536) (n - 1)
-      turn-enters y = turned (base + 240) (natAbs (read r) - 65536) (λ h x rooms lw l. arm-enters h x rooms lw l z y (came h x rooms lw l))
+      pub turn-enters : ltZ (read r) (pos left) ≡ true → Turning text code values₀ inputs out₀ base₀ i₀ steps last after out′ (base + windowCells) (natAbs (read r) - entered) (n - 1)
+      turn-enters y = turned (base + windowCells) (natAbs (read r) - entered) (λ h x rooms lw l. arm-enters h x rooms lw l z y (came h x rooms lw l))
 
-      module _ (y : ltZ (read r) (pos 131072) ≡ false) where
-        pub turn-sub-2 : 131072 ≤ natAbs (read r)
-        turn-sub-2 = turn-sub 131072 y
+      module _ (y : ltZ (read r) (pos left) ≡ false) where
+        pub turn-sub-2 : left ≤ natAbs (read r)
+        turn-sub-2 = turn-sub left y
 
-        pub turn-down : ltZ (read r) (pos 196608) ≡ true → 240 ≤ base
+        pub turn-down : ltZ (read r) (pos ended) ≡ true → windowCells ≤ base
         turn-down v = arm-leaves (g .here) (g .text-is) (g .rooms) (g .deepest) (g .lends) z y v here-came .0
 
-        pub turn-leaves : ltZ (read r) (pos 196608) ≡ true → Turning text code values₀ inputs out₀ base₀ i₀ steps last after out′ (base - 240) (natAbs (read r) - 131072) (n - 1)
-        turn-leaves v = turned (base - 240) (natAbs (read r) - 131072) (λ h x rooms lw l. arm-leaves h x rooms lw l z y v (came h x rooms lw l) .1)
+        pub turn-leaves : ltZ (read r) (pos ended) ≡ true → Turning text code values₀ inputs out₀ base₀ i₀ steps last after out′ (base - windowCells) (natAbs (read r) - left) (n - 1)
+        turn-leaves v = turned (base - windowCells) (natAbs (read r) - left) (λ h x rooms lw l. arm-leaves h x rooms lw l z y v (came h x rooms lw l) .1)
 
-        module _ (v : ltZ (read r) (pos 196608) ≡ false) where
-          pub turn-stops : ltZ (read r) (pos 458752) ≡ true → Stops code (natAbs (read r)) (n - 1)
+        module _ (v : ltZ (read r) (pos ended) ≡ false) where
+          pub turn-stops : ltZ (read r) (pos handed) ≡ true → Stops code (natAbs (read r)) (n - 1)
           turn-stops u = arm-stops (g .here) (g .text-is) (g .rooms) (g .deepest) (g .lends) z y v u here-came
 
-          pub turn-raises : ltZ (read r) (pos 458752) ≡ false → Here code after base i × Raises (read r)
+          pub turn-raises : ltZ (read r) (pos handed) ≡ false → Here code after base i × Raises (read r)
           turn-raises u = let q = arm-raises (g .here) (g .text-is) (g .rooms) (g .deepest) (g .lends) z y v u here-came in (q .0, subst Raises (sym (toZ-ofZ s)) (q .1))
 
 -- ---- the end of a run
@@ -467,12 +470,12 @@ module _ (text code values₀ inputs out₀ : List ℕ) (base₀ i₀ steps last
       refl (ep ∙ now-place h x rooms lw l ∙ sym (ap (h .offset) (next-place (h .P) (h .R) (wordsOf values) (q .d) i (steps - n) out))) (t .on) refl (t .written) (t .past))
 
   module _ (p : 0 < n) (after out′ : List ℕ) (r : ℤ) (s : SFits w64 r) (sd : Stepped text code values after inputs out out′ base last i r)
-      (z : ltZ (read r) (pos 65536) ≡ false) (y : ltZ (read r) (pos 131072) ≡ false) (v : ltZ (read r) (pos 196608) ≡ false) where
+      (z : ltZ (read r) (pos entered) ≡ false) (y : ltZ (read r) (pos left) ≡ false) (v : ltZ (read r) (pos ended) ≡ false) where
     abbrev cm : (h : Here code values₀ base₀ i₀) (x : h .text ≡ text) (rooms : Rooms) (lw : LastWindow rooms last) (l : Lends rooms inputs out₀)
         → Came text code values₀ inputs out₀ base₀ i₀ steps last values out base i n t p after out′ r s sd h x rooms lw l
     cm h x rooms lw l = came text code values₀ inputs out₀ base₀ i₀ steps last values out base i n t p after out′ r s sd h x rooms lw l
 
-    abbrev lw-of : (h : Here code values₀ base₀ i₀) (x : h .text ≡ text) (rooms : Rooms) (lw : LastWindow rooms last) (l : Lends rooms inputs out₀) (e m : ℕ) → e < depthLimit → Live (h .P) (h .R) (wordsOf after) e m → m < 8192
+    abbrev lw-of : (h : Here code values₀ base₀ i₀) (x : h .text ≡ text) (rooms : Rooms) (lw : LastWindow rooms last) (l : Lends rooms inputs out₀) (e m : ℕ) → e < depthLimit → Live (h .P) (h .R) (wordsOf after) e m → m < wordLimit
     lw-of h x rooms lw l e m de lv = low text code values₀ inputs out₀ base₀ i₀ steps last values out base i n t p after out′ r s sd h x rooms lw l e m de lv
 
     n-suc : suc (n - 1) ≡ n
@@ -488,7 +491,7 @@ module _ (text code values₀ inputs out₀ : List ℕ) (base₀ i₀ steps last
         ∙ q
 
     -- it was ended by the step
-    module _ (u : ltZ (read r) (pos 458752) ≡ true) (rec : Ended) (st : Stopped code i (natAbs (read r)) (n - 1) rec) where
+    module _ (u : ltZ (read r) (pos handed) ≡ true) (rec : Ended) (st : Stopped code i (natAbs (read r)) (n - 1) rec) where
       module _ (h : Here code values₀ base₀ i₀) (x : h .text ≡ text) (rooms : Rooms) (lw : LastWindow rooms last) (l : Lends rooms inputs out₀) where
         abbrev q : Rest (h .P) (h .R) rooms (wordsOf values₀) out₀ (h .d) i₀ steps (wordsOf values) out base i n
         q = t .is h x rooms lw l
@@ -513,11 +516,11 @@ module _ (text code values₀ inputs out₀ : List ℕ) (base₀ i₀ steps last
 
         ended-at : Came text code values₀ inputs out₀ base₀ i₀ steps last values out base i n t p after out′ r s sd h x rooms lw l
             → runs.Comes (h .P) (h .offset) after out₀ out′ steps (run (h .P) rooms steps (stateIn (h .P) (h .R) (wordsOf values₀) (h .d) i₀ 0 out₀)) rec
-        ended-at (goesOn m e lv o) = absurd (omega (arith, answer-above r s m e 65536 z, lw-of h x rooms lw l (q .d) m (q .deep) lv))
-        ended-at (enters m e de lv o) = absurd (omega (arith, answer-above r s (entered + m) e 131072 y, lw-of h x rooms lw l (suc (q .d)) m de lv))
-        ended-at (leaves c m e w lv o) = absurd (omega (arith, answer-above r s (left + m) e 196608 v, lw-of h x rooms lw l c m (omega (arith, q .deep)) lv))
-        ended-at (fails e w f lv o) = absurd (omega (arith, answer-below r s (firstError + e) w 458752 u))
-        ended-at (hands e a b o) = absurd (omega (arith, answer-below r s handed e 458752 u))
+        ended-at (goesOn m e lv o) = absurd (omega (arith, answer-above r s m e entered z, lw-of h x rooms lw l (q .d) m (q .deep) lv))
+        ended-at (enters m e de lv o) = absurd (omega (arith, answer-above r s (entered + m) e left y, lw-of h x rooms lw l (suc (q .d)) m de lv))
+        ended-at (leaves c m e w lv o) = absurd (omega (arith, answer-above r s (left + m) e ended v, lw-of h x rooms lw l c m (omega (arith, q .deep)) lv))
+        ended-at (fails e w f lv o) = absurd (omega (arith, answer-below r s (firstError + e) w handed u))
+        ended-at (hands e a b o) = absurd (omega (arith, answer-below r s handed e handed u))
         ended-at (ends m e f a b o) =
             let g = st .by-step m f (answer-is r s (ended + m) e) in
             let place = nextStep (h .P) (callIn (h .P) (h .R) (wordsOf values) (windowOf (q .d)) i) .place in
@@ -543,7 +546,7 @@ module _ (text code values₀ inputs out₀ : List ℕ) (base₀ i₀ steps last
       stopped-run h x rooms lw l = ended-at h x rooms lw l (cm h x rooms lw l)
 
     -- an error arose
-    module _ (u : ltZ (read r) (pos 458752) ≡ false) (after2 : List ℕ) (k : Taken) (ar : Arisen code after after2 base i (read r) k) where
+    module _ (u : ltZ (read r) (pos handed) ≡ false) (after2 : List ℕ) (k : Taken) (ar : Arisen code after after2 base i (read r) k) where
       ar-is : Arisen code after after2 base i r k
       ar-is = rw (toZ-ofZ s) at ar
 
@@ -565,9 +568,9 @@ module _ (text code values₀ inputs out₀ : List ℕ) (base₀ i₀ steps last
         settles : Came text code values₀ inputs out₀ base₀ i₀ steps last values out base i n t p after out′ r s sd h x rooms lw l
             → Settles (h .P) (h .R) (wordsOf after2) (now .d) i (steps - n + 1) place out′ k now-settled
         unfolding at-after after-here
-        settles (goesOn m e lv o) = absurd (omega (arith, answer-above r s m e 65536 z, lw-of h x rooms lw l (now .d) m (now .deep) lv))
-        settles (enters m e de lv o) = absurd (omega (arith, answer-above r s (entered + m) e 131072 y, lw-of h x rooms lw l (suc (now .d)) m de lv))
-        settles (leaves c m e w lv o) = absurd (omega (arith, answer-above r s (left + m) e 196608 v, lw-of h x rooms lw l c m (omega (arith, now .deep)) lv))
+        settles (goesOn m e lv o) = absurd (omega (arith, answer-above r s m e entered z, lw-of h x rooms lw l (now .d) m (now .deep) lv))
+        settles (enters m e de lv o) = absurd (omega (arith, answer-above r s (entered + m) e left y, lw-of h x rooms lw l (suc (now .d)) m de lv))
+        settles (leaves c m e w lv o) = absurd (omega (arith, answer-above r s (left + m) e ended v, lw-of h x rooms lw l c m (omega (arith, now .deep)) lv))
         settles (fails e w f lv o) =
             subst (Settles (h .P) (h .R) (wordsOf after2) (now .d) i (steps - n + 1) place out′ k)
             (sym (ap (settled (h .P) place (waiting (h .P) (h .R) (wordsOf values) (now .d)) (stateIn (h .P) (h .R) (wordsOf values) (now .d) i (steps - n) out)) o
@@ -580,8 +583,8 @@ module _ (text code values₀ inputs out₀ : List ℕ) (base₀ i₀ steps last
             ∙ settled-hands (h .P) place (h .R) (wordsOf values) (now .d) i (steps - n) out
             ∙ sym (ap₂ (λ (w y : List ℕ). arising (h .P) (getD w errnoCell 0) place (waiting (h .P) (h .R) w (now .d)) (stateIn (h .P) (h .R) w (now .d) i (steps - n + 1) y)) a b)))
             (ar-is .hands (at-after lv) e (steps - n + 1) place out′)
-        settles (ends m e f a b o) = absurd (omega (arith, answer-above r s (ended + m) e 458752 u))
-        settles (lacks m w at e f j d pl a b o) = absurd (omega (arith, answer-above r s (lackedBy m + w) e 458752 u, lackedBy-is m))
+        settles (ends m e f a b o) = absurd (omega (arith, answer-above r s (ended + m) e handed u))
+        settles (lacks m w at e f j d pl a b o) = absurd (omega (arith, answer-above r s (lackedBy m + w) e handed u, lackedBy-is m))
 
         settled-now : Settles (h .P) (h .R) (wordsOf after2) (now .d) i (steps - n + 1) place out′ k now-settled
         settled-now = settles (cm h x rooms lw l)
@@ -655,7 +658,7 @@ run-begins text code values h depth b = record { text = text; depth = depth; beg
 
 module _ (text code values inputs out : List ℕ) (h steps depth : ℕ) (b : Begins text code values h depth) where
   module _ (values₀ : List ℕ) (bg : Begun code values values₀ h) (i₀ : ℕ) (ei : i₀ ≡ placeAt (wordsOf code) h) where
-    first-here : Begins text code values h depth → Here code values₀ 1024 i₀
+    first-here : Begins text code values h depth → Here code values₀ firstWindow i₀
     first-here c = record {
       text = text;
       P = c .P;
@@ -670,13 +673,13 @@ module _ (text code values inputs out : List ℕ) (h steps depth : ℕ) (b : Beg
       live = subst (Live (c .P) (c .R) (wordsOf values₀) 0) (sym ei) (bg .live text depth c);
     }
 
-    last-of : (c : Begins text code values h depth) (rooms : Rooms) → rooms .depth ≡ depth → LastWindow rooms (1024 + 240 * (depth - 1))
-    last-of c rooms e = record { some = omega (arith, c .some); most = omega (arith, c .most); is = sym (ap (λ (n : ℕ). 1024 + 240 * (n - 1)) e) }
+    last-of : (c : Begins text code values h depth) (rooms : Rooms) → rooms .depth ≡ depth → LastWindow rooms (firstWindow + windowCells * (depth - 1))
+    last-of c rooms e = record { some = omega (arith, c .some); most = omega (arith, c .most); is = sym (ap (λ (n : ℕ). firstWindow + windowCells * (n - 1)) e) }
 
     lent : Rooms
     lent = record { depth = depth; output = length out; inputs = map (toZ w32) (wordsOf inputs) }
 
-    pub run-starts : steps < 4294967296 → Turning text code values₀ inputs out 1024 i₀ steps (1024 + 240 * (depth - 1)) values₀ out 1024 i₀ steps
+    pub run-starts : steps < cellValues → Turning text code values₀ inputs out firstWindow i₀ steps (firstWindow + windowCells * (depth - 1)) values₀ out firstWindow i₀ steps
     unfolding lent first-here
     run-starts sm =
         let w : countIn (wordsOf values₀) ≡ 0 = sym (count-is (b .P) (b .R) (wordsOf values₀)) ∙ bg .written (b .P) (b .R) text depth b in
@@ -700,7 +703,7 @@ module _ (text code values inputs out : List ℕ) (h steps depth : ℕ) (b : Beg
         }
 
     pub run-ran : (after out′ : List ℕ) (rec : Ended) → length after ≡ length values₀ → length out′ ≡ length out
-        → Finishes text code values₀ inputs out 1024 i₀ steps (1024 + 240 * (depth - 1)) after out′ rec → Ran text code values after inputs out out′ h steps depth rec
+        → Finishes text code values₀ inputs out firstWindow i₀ steps (firstWindow + windowCells * (depth - 1)) after out′ rec → Ran text code values after inputs out out′ h steps depth rec
     unfolding first-here
     run-ran after out′ rec la lo f = record {
       long = la ∙ bg .long;

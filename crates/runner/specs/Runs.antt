@@ -18,6 +18,8 @@ use Rattle.code.specs.Holds.{Holds}
 use Rattle.code.specs.Windows.{writtenIn, usedCell, stateIn}
 use Rattle.runner.specs.declared.Ended.{Ended}
 use Rattle.machine.specs.Live.{Live}
+use Rattle.layout.specs.Rules.{beyondDepth}
+use Rattle.reading.specs.Reading.{cellValues}
 use Rattle.machine.specs.Machine.{storeBytes, depthLimit, ended, lackedBy, Lends}
 
 -- The code store holds a program, of which main begins at word h; the value store has the module's words as a run begins, and zeros.
@@ -60,11 +62,11 @@ pub record Ran (text code values after inputs out out′ : List ℕ) (h steps de
 -- a step's answer that ends the run
 pub data Stops (code : List ℕ) (answer left : ℕ) : Type 0 where
   byStep : (n : ℕ) → n ≤ 4 → answer ≡ ended + n → length code ≡ storeBytes → Stops code answer left
-  byLack : (n w : ℕ) → 6 ≤ n → n ≤ 8 → w < 65536 → answer ≡ lackedBy n + w → left + 1 < 4294967296 → length code ≡ storeBytes → Stops code answer left
+  byLack : (n w : ℕ) → beyondDepth ≤ n → n ≤ 8 → w < 65536 → answer ≡ lackedBy n + w → left + 1 < cellValues → length code ≡ storeBytes → Stops code answer left
 
 pub record Stopped (code : List ℕ) (i answer left : ℕ) (e : Ended) : Type 0 where
   pub by-step : (n : ℕ) → n ≤ 4 → answer ≡ ended + n → (e .ending ≡ n) × (e .place ≡ (if eqb n 1 then 0 else placeAt (wordsOf code) i)) × (e .left ≡ left)
-  pub by-lack : (n w : ℕ) → 6 ≤ n → n ≤ 8 → w < 65536 → answer ≡ lackedBy n + w → (e .ending ≡ n) × (e .place ≡ placeAt (wordsOf code) w) × (e .left ≡ left + 1)
+  pub by-lack : (n w : ℕ) → beyondDepth ≤ n → n ≤ 8 → w < 65536 → answer ≡ lackedBy n + w → (e .ending ≡ n) × (e .place ≡ placeAt (wordsOf code) w) × (e .left ≡ left + 1)
 
 pub record MayBegin (code values : List ℕ) (h : ℕ) : Type 0 where
   pub text : List ℕ

@@ -6,37 +6,15 @@ ghost use Rattle.cells.specs.Words.{wordsOf};
 ghost use Rattle.code.specs.Cells.{placeAt};
 ghost use Rattle.runner.specs.Runs.{Stops, Stopped, MayBegin, Begun, Begins, Ran};
 use errors::arise;
+use layout::answers;
+use layout::cells::FIRST_WINDOW;
+use layout::cells::MAIN_ROUTINE;
+use layout::cells::WINDOW;
+use layout::endings;
 use reading::link;
 use reading::place;
 use starting::start_words;
 use stepping::step;
-
-// the windows of calls, main's first, and the cell that has its routine
-const FIRST: usize = 1024;
-
-const WINDOW: usize = 240;
-
-const MAIN_ROUTINE: usize = 1216;
-
-// ---- what a step answers: the next step, or one of these
-const ENTERED: i64 = 65536;
-
-const LEFT: i64 = 131072;
-
-const ENDED: i64 = 196608;
-
-const HANDED: i64 = 458752;
-
-// the same without a sign, and what lacks room first; each has so many answers
-const ENTRIES: usize = 65536;
-
-const LEAVINGS: usize = 131072;
-
-const ENDINGS: usize = 196608;
-
-const LACKS: usize = 262144;
-
-const ANSWERS: usize = 65536;
 
 // How a run ended: the ending, the offset of its place, and how many steps of the allowance are left.
 pub struct Ended {
@@ -61,24 +39,24 @@ fn ending(code: &[u8], i: usize, answer: usize, left: u32) -> Ended
     requires { ⌜ Stops (now code) answer left ⌝ }
     ensures { λ e. ⌜ Stopped (now (code .entry)) i answer left e ⌝ }
 {
-    if answer < LACKS {
-        if answer == ENDINGS + 1 {
+    if answer < answers::LACKS {
+        if answer == answers::MAIN_RETURNED as usize {
             return Ended {
-                ending: 1,
+                ending: endings::MAIN_RETURNED,
                 place: 0,
                 left,
             };
         }
         return Ended {
-            ending: (answer - ENDINGS) as u32,
+            ending: (answer - answers::ENDINGS) as u32,
             place: place_of(code, i),
             left,
         };
     }
     // the step is not counted
     Ended {
-        ending: (6 + (answer - LACKS) / ANSWERS) as u32,
-        place: place_of(code, answer % ANSWERS),
+        ending: (endings::BEYOND_DEPTH_AT + (answer - answers::LACKS) / answers::ANSWERS) as u32,
+        place: place_of(code, answer % answers::ANSWERS),
         left: left + 1,
     }
 }
@@ -89,7 +67,7 @@ fn begin<'a>(code: &'a [u8], values: &'a mut [u8], h: usize)
     ensures { λ _. ⌜ Begun (now (code .entry)) (now (values .entry)) (now (values .exit)) h ⌝ }
 {
     cells::put(values, MAIN_ROUTINE, h as u32);
-    start_words(&*code, values, link(code, h), FIRST);
+    start_words(&*code, values, link(code, h), FIRST_WINDOW);
 }
 
 // A run of the module whose main begins at word h.
@@ -107,29 +85,29 @@ pub fn run<'a>(
     ensures { λ r. ⌜ Ran (now (text .entry)) (now (code .entry)) (now (values .entry)) (now (values .exit)) (now (inputs .entry)) (now (out .entry)) (now (out .exit)) h steps depth r ⌝ }
 {
     begin(&*code, values, h);
-    let last = FIRST + WINDOW * (depth as usize - 1);
+    let last = FIRST_WINDOW + WINDOW * (depth as usize - 1);
     let mut i = place(code, h);
-    let mut base = FIRST;
+    let mut base = FIRST_WINDOW;
     let mut left = steps;
     while 0 < left {
         left -= 1;
         let r = step(text, &*code, values, inputs, out, base, last, i);
-        if r < ENTERED {
+        if r < answers::ENTERED {
             i = r as usize;
-        } else if r < LEFT {
+        } else if r < answers::LEFT {
             base += WINDOW;
-            i = r as usize - ENTRIES;
-        } else if r < ENDED {
+            i = r as usize - answers::ENTRIES;
+        } else if r < answers::ENDED {
             base -= WINDOW;
-            i = r as usize - LEAVINGS;
-        } else if r < HANDED {
+            i = r as usize - answers::LEAVINGS;
+        } else if r < answers::HANDED {
             return ending(code, i, r as usize, left);
         } else {
             let t = arise(&*code, values, base, i, r);
             let next = t.next;
             if next == 0 {
                 return Ended {
-                    ending: 3,
+                    ending: endings::UNHANDLED,
                     place: place(code, i),
                     left,
                 };
@@ -139,7 +117,7 @@ pub fn run<'a>(
         }
     }
     Ended {
-        ending: 5,
+        ending: endings::STEPS_SPENT,
         place: place(code, i),
         left,
     }

@@ -1,25 +1,26 @@
 -- Numbers put into a line, one behind the other.
 use mathlib.Core.Path.{_≡_, refl, sym, ap, ap₂, subst, _∙_}
 use mathlib.Core.List.{List, [], _∷_, _++_, append-assoc}
-use Prim.Native.Nat.{ℕ, suc, _+_, _≤_, _<_}
+use Prim.Native.Nat.{ℕ, zero, suc, _+_, _*_, _≤_, _<_}
 use native.Mathlib.Numerals.{add-one}
 use native.Mathlib.Omega.{arith}
 use lib.IntN.{ℤ, pos}
-use lib.ListN.{length, take, drop, set, length-append, length-drop}
+use lib.ListN.{length, getD, take, drop, set, length-append, length-drop}
 use lib.Seq.{take-at, drop-at, drop-drop, length-take-le, set-split}
 use mir.Syntax.{w32, w64}
 use mir.Val.{toZ, Fits}
-use borrow.Author.Tests.{lt-ltb}
+use borrow.Author.Tests.{lt-ltb, eq-eqb, ne-eqb}
 use Rattle.laws.specs.Lists.{replaced}
 use Rattle.laws.proofs.Lists.{replaced-length, replaced-drop}
+use Rattle.paper.specs.Answer.{recordSize}
 use Rattle.paper.specs.Numbers.{decimal}
-use Rattle.cells.specs.Words.{Got}
+use Rattle.cells.specs.Words.{wordsOf, Got}
 use Rattle.decimals.specs.Placed.{PutsNumber}
 use Rattle.decimals.specs.declared.Put.{Put}
 use Rattle.decimals.specs.declared.Put.the-variants.{Done, NoRoom}
 use Rattle.decimals.proofs.Answers.{Whole, None, was-done, had-none}
 use Rattle.decimals.proofs.Digits.{few}
-use Rattle.screen.specs.Screen.{fieldRoom, lineRoom, numbered, lineOf, lowFields, PutOne, PutLine}
+use Rattle.screen.specs.Screen.{fieldRoom, lineRoom, numbered, lineOf, behindAt, lowFields, PutOne, PutLine}
 
 few-digits : (n : ℕ) → length (decimal (pos n)) ≤ 20
 unfolding decimal
@@ -72,7 +73,7 @@ module _ (before mid : List ℕ) (at n : ℕ) (h : Fits w32 n) (room : at + fiel
 
 -- ---- one number behind another
 -- The bytes s stand in front, and what lies behind them is as it was.
-record Begun (before after s : List ℕ) (at : ℕ) : Type 0 where
+pub record Begun (before after s : List ℕ) (at : ℕ) : Type 0 where
   pub bytes : after ≡ s ++ drop at before
   pub place : at ≡ length s
 
@@ -91,35 +92,60 @@ begun-more {before} {mid} {after} {s} {at} {n} {behind} {r} b p =
       place = p .place ∙ omega (arith, b .place, length-append s t);
     }
 
--- eight of them make a line
-pub line-law : (l₀ l₁ l₂ l₃ l₄ l₅ l₆ l₇ l₈ : List ℕ) (a b c d e f g h : ℕ) (p₁ p₂ p₃ p₄ p₅ p₆ p₇ p₈ : ℕ) → lineRoom ≤ length l₀
-    → PutOne l₀ l₁ 0 a 32 p₁ → PutOne l₁ l₂ p₁ b 32 p₂ → PutOne l₂ l₃ p₂ c 32 p₃ → PutOne l₃ l₄ p₃ d 32 p₄
-    → PutOne l₄ l₅ p₄ e 32 p₅ → PutOne l₅ l₆ p₅ f 32 p₆ → PutOne l₆ l₇ p₆ g 32 p₇ → PutOne l₇ l₈ p₇ h 10 p₈
-    → PutLine l₀ l₈ (a ∷ b ∷ c ∷ d ∷ e ∷ f ∷ g ∷ h ∷ []) p₈
-unfolding lineOf
-line-law l₀ l₁ l₂ l₃ l₄ l₅ l₆ l₇ l₈ a b c d e f g h p₁ p₂ p₃ p₄ p₅ p₆ p₇ p₈ room q₁ q₂ q₃ q₄ q₅ q₆ q₇ q₈ =
-    let b₁ = begun-more (begun-none l₀) q₁ in
-    let b₂ = begun-more b₁ q₂ in
-    let b₃ = begun-more b₂ q₃ in
-    let b₄ = begun-more b₃ q₄ in
-    let b₅ = begun-more b₄ q₅ in
-    let b₆ = begun-more b₅ q₆ in
-    let b₇ = begun-more b₆ q₇ in
-    let b₈ = begun-more b₇ q₈ in
-    let is : ((((((([] ++ numbered a 32) ++ numbered b 32) ++ numbered c 32) ++ numbered d 32) ++ numbered e 32) ++ numbered f 32) ++ numbered g 32) ++ numbered h 10
-    ≡ lineOf (a ∷ b ∷ c ∷ d ∷ e ∷ f ∷ g ∷ h ∷ []) = simp append-assoc in
-    let long = b₈ .place ∙ ap length is in
-    record {
-      bytes = b₈ .bytes ∙ ap₂ (λ (x : List ℕ) (k : ℕ). x ++ drop k l₀) is long;
-      place = long;
-      near = omega arith;
-      size = omega arith;
-    }
+-- ---- the fields of the record, one behind the other
+pub behind-last : (k : ℕ) → k ≡ 7 → 10 ≡ behindAt k
+unfolding behindAt
+behind-last k e = rw (eq-eqb k 7 e, behindAt)
 
--- the line of the words that were got
-pub fields-line : (before after fields : List ℕ) (a b c d e f g h r : ℕ)
-    → Got fields 0 a → Got fields 2 b → Got fields 4 c → Got fields 6 d → Got fields 8 e → Got fields 10 f → Got fields 12 g → Got fields 14 h
-    → PutLine before after (a ∷ b ∷ c ∷ d ∷ e ∷ f ∷ g ∷ h ∷ []) r → PutLine before after (lowFields fields) r
-fields-line before after fields a b c d e f g h r ga gb gc gd ge gf gg gh p =
-    let same : _≡_ {A = List ℕ} (a ∷ b ∷ c ∷ d ∷ e ∷ f ∷ g ∷ h ∷ []) (lowFields fields) = λ i. ga i ∷ gb i ∷ gc i ∷ gd i ∷ ge i ∷ gf i ∷ gg i ∷ gh i ∷ [] in
-    subst (λ (x : List ℕ). PutLine before after x r) same p
+pub behind-other : (k : ℕ) → (k ≡ 7 → ⊥) → 32 ≡ behindAt k
+unfolding behindAt
+behind-other k e = rw (ne-eqb k 7 e, behindAt)
+
+-- the first k of them
+unfoldable pub firstOf : (W : List ℕ) → (k : ℕ) → List ℕ
+firstOf W zero = []
+firstOf W (suc k) = firstOf W k ++ numbered (getD W (k * 2) 0) (behindAt k)
+
+all-fields : (fields : List ℕ) → firstOf (wordsOf fields) 8 ≡ lineOf (lowFields fields)
+unfolding firstOf lineOf behindAt
+all-fields fields = simp append-assoc
+
+-- The first k fields stand in front of the line.
+pub record Lined (before line fields : List ℕ) (k at : ℕ) : Type 0 where
+  pub few : k ≤ 8
+  pub near : at ≤ 21 * k
+  pub size : length line ≡ length before
+  pub begun : Begun before line (firstOf (wordsOf fields) k) at
+
+pub lined-none : (line fields : List ℕ) → Lined line line fields 0 0
+unfolding firstOf
+lined-none line fields = record { few = omega arith; near = omega arith; size = refl; begun = begun-none line }
+
+module _ (before line fields : List ℕ) (k at : ℕ) (l : Lined before line fields k at) (more : k ≤ 7) where
+  pub lined-get : recordSize ≤ length fields → k * 2 * 4 + 4 ≤ length fields
+  lined-get room = omega arith
+
+  pub lined-room : lineRoom ≤ length before → at + fieldRoom ≤ length line
+  lined-room room = omega (arith, l .near, l .size)
+
+  pub lined-more : (n b : ℕ) → Got fields (k * 2) n → b ≡ behindAt k → (after : List ℕ) (r : ℕ) → PutOne line after at n b r → Lined before after fields (k + 1) r
+  unfolding firstOf
+  lined-more n b g e after r p =
+      let q : PutOne line after at (getD (wordsOf fields) (k * 2) 0) (behindAt k) r = subst (λ (x : ℕ). PutOne line after at x (behindAt k) r) g (subst (λ (x : ℕ). PutOne line after at n x r) e p) in
+      record {
+        few = omega arith;
+        near = omega (arith, p .near, l .near);
+        size = p .size ∙ l .size;
+        begun = rw (add-one k) (begun-more (l .begun) q);
+      }
+
+pub lined-all : (before line fields : List ℕ) (k at : ℕ) → Lined before line fields k at → 7 < k → PutLine before line (lowFields fields) at
+lined-all before line fields k at l past =
+    let eight : k ≡ 8 = omega (arith, l .few) in
+    let b : Begun before line (lineOf (lowFields fields)) at = subst (λ (s : List ℕ). Begun before line s at) (ap (firstOf (wordsOf fields)) eight ∙ all-fields fields) (l .begun) in
+    record {
+      bytes = b .bytes ∙ ap (λ (n : ℕ). lineOf (lowFields fields) ++ drop n before) (b .place);
+      place = b .place;
+      near = omega (arith, l .near, l .few);
+      size = l .size;
+    }

@@ -2,9 +2,11 @@
 use mathlib.Core.Path.{_≡_}
 use mathlib.Core.List.{List, [], _∷_, _++_}
 use Prim.Native.Nat.{ℕ, _+_, _≤_, _<_}
+use lib.Dec.{eqb}
 use lib.IntN.{pos}
 use lib.ListN.{length, getD, drop}
 use Rattle.laws.specs.Lists.{replaced}
+use Rattle.paper.specs.Basics.{if_then_else_}
 use Rattle.paper.specs.Numbers.{decimal}
 use Rattle.paper.specs.Answer.{Record, Result, answer, LentBytes, lentOf, bytesAfter}
 use Rattle.cells.specs.Words.{wordsOf}
@@ -27,6 +29,10 @@ unfoldable pub lineOf : List ℕ → List ℕ
 lineOf [] = []
 lineOf (n ∷ []) = numbered n 10
 lineOf (n ∷ m ∷ r) = numbered n 32 ++ lineOf (m ∷ r)
+
+-- Field k of the record has a blank behind it, and the last one LF.
+unfoldable pub behindAt : (k : ℕ) → ℕ
+behindAt k = if eqb k 7 then 10 else 32
 
 -- A number is put at a place, with the byte behind it.
 pub record PutOne (before after : List ℕ) (at n behind r : ℕ) : Type 0 where

@@ -1,20 +1,24 @@
 // What the bench programs print of a call: the output, then the eight fields of the record.
 use decimals::Put;
+use layout::limits;
 ghost use mathlib.Core.Path.{_≡_};
-ghost use mathlib.Core.List.{[], _∷_};
+ghost use mathlib.Core.List.{[]};
 ghost use Prim.Native.Nat.{_+_, _≤_};
 ghost use lib.ListN.{length};
 ghost use Rattle.paper.specs.Answer.{recordSize};
 ghost use Rattle.pendant.specs.Calls.{lent};
-ghost use Rattle.screen.specs.Screen.{lineRoom, fieldRoom, PutOne, PutLine, lowFields, Lends, Shows};
+ghost use Rattle.screen.specs.Screen.{lineRoom, fieldRoom, behindAt, PutOne, PutLine, lowFields, Lends, Shows};
+
+// The bytes of a line that has room for any record.
+pub const LINE: usize = 168;
 
 // What stands behind a field, and behind the last one.
 const BLANK: u8 = 32;
 
 const LINE_END: u8 = 10;
 
-// The bytes of the record, and the word of it that counts the output.
-const RECORD: usize = 64;
+// The last field of the record, and the word of it that counts the output.
+const LAST: usize = 7;
 
 const OUTPUT: usize = 10;
 
@@ -32,29 +36,14 @@ fn put_one(line: &mut [u8], at: usize, n: u32, behind: u8) -> usize
     }
 }
 
-// Writes eight numbers as a line. How many bytes it has.
-fn put_line(
-    line: &mut [u8],
-    ending: u32,
-    refusal: u32,
-    offset: u32,
-    steps: u32,
-    errno: u32,
-    output: u32,
-    inputs: u32,
-    words: u32,
-) -> usize
-    requires { ⌜ lineRoom ≤ length (now line) ⌝ }
-    ensures { λ r. ⌜ PutLine (now (line .entry)) (now (line .exit)) (ending ∷ refusal ∷ offset ∷ steps ∷ errno ∷ output ∷ inputs ∷ words ∷ []) r ⌝ }
+// What stands behind field k.
+fn behind(k: usize) -> u8
+    ensures { λ r. ⌜ r ≡ behindAt k ⌝ }
 {
-    let a = put_one(line, 0, ending, BLANK);
-    let b = put_one(line, a, refusal, BLANK);
-    let c = put_one(line, b, offset, BLANK);
-    let d = put_one(line, c, steps, BLANK);
-    let e = put_one(line, d, errno, BLANK);
-    let f = put_one(line, e, output, BLANK);
-    let g = put_one(line, f, inputs, BLANK);
-    put_one(line, g, words, LINE_END)
+    if k == LAST {
+        return LINE_END;
+    }
+    BLANK
 }
 
 // Writes the record's fields as a line, each by its low word, the first of its two: no field of an answer is larger. How many bytes it has.
@@ -62,17 +51,13 @@ fn put_record(line: &mut [u8], fields: &[u8]) -> usize
     requires { ⌜ (lineRoom ≤ length (now line)) × (recordSize ≤ length (now fields)) ⌝ }
     ensures { λ r. ⌜ PutLine (now (line .entry)) (now (line .exit)) (lowFields (now (fields .entry))) r ⌝ }
 {
-    put_line(
-        line,
-        cells::get(fields, 0),
-        cells::get(fields, 2),
-        cells::get(fields, 4),
-        cells::get(fields, 6),
-        cells::get(fields, 8),
-        cells::get(fields, OUTPUT),
-        cells::get(fields, 12),
-        cells::get(fields, 14),
-    )
+    let mut at = 0;
+    let mut k = 0;
+    while k <= LAST {
+        at = put_one(line, at, cells::get(fields, k * 2), behind(k));
+        k += 1;
+    }
+    at
 }
 
 // How much there is to show of a call: bytes of the output, and of the line.
@@ -95,7 +80,7 @@ pub fn show<'a>(
     requires { ⌜ Lends (now text) (now inputs) (now out) (now line) ⌝ }
     ensures { λ r. ⌜ Shows (lent (now (text .entry)) steps depth (now (inputs .entry)) (now (out .entry)) (now (code .entry)) (now (values .entry)) []) (now (line .entry)) r (now (out .exit)) (now (code .exit)) (now (values .exit)) (now (line .exit)) ⌝ }
 {
-    let mut fields = [0u8; RECORD];
+    let mut fields = [0u8; limits::RECORD_BYTES];
     pendant::rapid_run(text, steps, depth, inputs, out, code, values, &mut fields);
     let n = put_record(line, &fields);
     Shown {

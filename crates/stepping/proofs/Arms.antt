@@ -16,8 +16,8 @@ use Rattle.paper.specs.States.{Rooms, Effect, ending, handing}
 use Rattle.paper.specs.Running.{perform, returning, ending-list}
 use Rattle.cells.specs.Words.{wordsOf}
 use Rattle.numbers.proofs.Whole.{read}
-use Rattle.code.specs.Cells.{opAt, valueAt, headAt}
-use Rattle.code.specs.Steps.{aTarget, aCallTarget}
+use Rattle.code.specs.Cells.{opAt, valueAt, headAt, opIn, valueIn}
+use Rattle.code.specs.Steps.{aTarget, aCallTarget, aFunctionEnd, aRaise, aReturn, aWrite, anEnd, anExit}
 use Rattle.code.specs.Windows.{callIn, waiting}
 use Rattle.machine.specs.Machine.{Here, hands, ends, effectAt, Performs, Calls, Steps, Stepped}
 use Rattle.targets.specs.Targets.{WordAt, ofModuleWord, ofCallWord, ArrayAt, ofModuleArray, ofCallArray}
@@ -25,14 +25,17 @@ use Rattle.returns.specs.Returning.{Returns, byReturn, byEnd}
 use Rattle.output.specs.Output.{countIn, Prints, Writes, Wrote, WroteOf, Reads, WasRead}
 use Rattle.machine.proofs.Actions.{reads-raise, reads-exit, reads-function-end, function-end-function, op-low, op-high}
 use Rattle.machine.proofs.Current as here
+use Rattle.layout.specs.Answers.{ended, handed}
+use Rattle.layout.specs.Rules.{exited, fellOff}
+use Rattle.layout.specs.Parts.{sizePart}
 use Rattle.output.proofs.Printing.{count-is, silent}
 
 -- ---- what the last arm knows: the op is none of the k from 128 on
 unfoldable pub NoneOf : (op k : ℕ) → Type 0
 NoneOf op zero = Unit {0}
-NoneOf op (suc k) = NoneOf op k × (op ≡ 128 + k → ⊥)
+NoneOf op (suc k) = NoneOf op k × (op ≡ aTarget + k → ⊥)
 
-past-all : (op k : ℕ) → 128 ≤ op → NoneOf op k → 128 + k ≤ op
+past-all : (op k : ℕ) → aTarget ≤ op → NoneOf op k → aTarget + k ≤ op
 unfolding NoneOf
 past-all op zero low n = omega arith
 past-all op (suc k) low n = let e = n .1 in omega (arith, past-all op k low (n .0))
@@ -42,14 +45,14 @@ module _ (code values : List ℕ) (base i : ℕ) (h : Here code values base i) (
   abbrev E : Effect
   E = effectAt (h .P) (h .R) rooms (wordsOf values) (h .d) i steps out
 
-  raise-hands : opAt (wordsOf code) i ≡ 140 → E ≡ handing (here.stateHere code values base i h rooms steps out)
+  raise-hands : opAt (wordsOf code) i ≡ aRaise → E ≡ handing (here.stateHere code values base i h rooms steps out)
   unfolding perform
   raise-hands o =
       let s = here.stepHere code values base i h in
       here.effect-here code values base i h rooms steps out (s .after) action.handOn refl
       (reads-raise (here.m code values base i h) (here.n code values base i h) (here.codeHere code values base i h .function) (h .text) (h .R) (wordsOf code) i (s .after) (s .does) (here.action-here code values base i h) o .does-is)
 
-  exit-ends : opAt (wordsOf code) i ≡ 141 → E ≡ ending 2 (here.stateHere code values base i h rooms steps out)
+  exit-ends : opAt (wordsOf code) i ≡ anExit → E ≡ ending exited (here.stateHere code values base i h rooms steps out)
   unfolding perform
   exit-ends o =
       let s = here.stepHere code values base i h in
@@ -57,7 +60,7 @@ module _ (code values : List ℕ) (base i : ℕ) (h : Here code values base i) (
       (reads-exit (here.m code values base i h) (here.n code values base i h) (here.codeHere code values base i h .function) (h .text) (h .R) (wordsOf code) i (s .after) (s .does) (here.action-here code values base i h) o .does-is)
 
   -- a FUNC must not come to the end of its list
-  function-ends : opAt (wordsOf code) i ≡ 154 → E ≡ ending 4 (here.stateHere code values base i h rooms steps out)
+  function-ends : opAt (wordsOf code) i ≡ aFunctionEnd → E ≡ ending fellOff (here.stateHere code values base i h rooms steps out)
   unfolding perform ending-list callIn
   function-ends o =
       let s = here.stepHere code values base i h in
@@ -67,7 +70,7 @@ module _ (code values : List ℕ) (base i : ℕ) (h : Here code values base i) (
       ∙ ap (λ (b : Bool). if b then ending 4 S else returning (h .P) (here.callHere code values base i h rooms steps out) (waiting (h .P) (h .R) (wordsOf values) (h .d)) none S)
       (function-end-function (here.m code values base i h) (here.n code values base i h) (here.codeHere code values base i h .function) (h .text) (h .R) (wordsOf code) i (s .after) (s .does) (here.action-here code values base i h) o)
 
-last-op : (code values : List ℕ) (base i : ℕ) → Here code values base i → NoneOf (opAt (wordsOf code) i) 26 → opAt (wordsOf code) i ≡ 154
+last-op : (code values : List ℕ) (base i : ℕ) → Here code values base i → NoneOf (opAt (wordsOf code) i) 26 → opAt (wordsOf code) i ≡ aFunctionEnd
 last-op code values base i h n =
     let s = here.stepHere code values base i h in
     let low = op-low (here.m code values base i h) (here.n code values base i h) (here.codeHere code values base i h .function) (h .text) (h .R) (wordsOf code) i (s .after) (s .does) (here.action-here code values base i h) in
@@ -76,41 +79,41 @@ last-op code values base i h n =
 
 -- ---- what a word says, by its op
 module _ (code : List ℕ) (base i w : ℕ) (ew : w ≡ headAt (wordsOf code) i) where
-  op-at : (n : ℕ) → w % 256 ≡ n → opAt (wordsOf code) i ≡ n
-  op-at n o = ap (λ (x : ℕ). x % 256) (sym ew) ∙ o
+  op-at : (n : ℕ) → opIn w ≡ n → opAt (wordsOf code) i ≡ n
+  op-at n o = ap (λ (x : ℕ). opIn x) (sym ew) ∙ o
 
-  value-is : w / 256 ≡ valueAt (wordsOf code) i
-  value-is = ap (λ (x : ℕ). x / 256) ew
+  value-is : valueIn w ≡ valueAt (wordsOf code) i
+  value-is = ap (λ (x : ℕ). valueIn x) ew
 
-  pub to-module-word : w % 256 ≡ 128 → WordAt (wordsOf code) base aTarget i (w / 256)
-  to-module-word o = ofModuleWord (op-at 128 o) value-is
+  pub to-module-word : opIn w ≡ aTarget → WordAt (wordsOf code) base aTarget i (valueIn w)
+  to-module-word o = ofModuleWord (op-at aTarget o) value-is
 
-  pub to-call-word : w % 256 ≡ 129 → WordAt (wordsOf code) base aTarget i (base + w / 256)
-  to-call-word o = ofCallWord (op-at 129 o) (ap (λ (v : ℕ). base + v) value-is)
+  pub to-call-word : opIn w ≡ (aTarget + 1) → WordAt (wordsOf code) base aTarget i (base + valueIn w)
+  to-call-word o = ofCallWord (op-at (aTarget + 1) o) (ap (λ (v : ℕ). base + v) value-is)
 
-  pub to-module-element : w % 256 ≡ 130 → ArrayAt (wordsOf code) base aTarget i (w / 256 % 1024) (w / 256 / 1024)
-  to-module-element o = ofModuleArray (op-at 130 o) (ap (λ (v : ℕ). v % 1024) value-is) (ap (λ (v : ℕ). v / 1024) value-is)
+  pub to-module-element : opIn w ≡ (aTarget + 2) → ArrayAt (wordsOf code) base aTarget i (valueIn w % sizePart) (valueIn w / sizePart)
+  to-module-element o = ofModuleArray (op-at (aTarget + 2) o) (ap (λ (v : ℕ). v % sizePart) value-is) (ap (λ (v : ℕ). v / sizePart) value-is)
 
-  pub to-call-element : w % 256 ≡ 131 → ArrayAt (wordsOf code) base aTarget i (base + w / 256 % 1024) (w / 256 / 1024)
-  to-call-element o = ofCallArray (op-at 131 o) (ap (λ (v : ℕ). base + v % 1024) value-is) (ap (λ (v : ℕ). v / 1024) value-is)
+  pub to-call-element : opIn w ≡ (aTarget + 3) → ArrayAt (wordsOf code) base aTarget i (base + valueIn w % sizePart) (valueIn w / sizePart)
+  to-call-element o = ofCallArray (op-at (aTarget + 3) o) (ap (λ (v : ℕ). base + v % sizePart) value-is) (ap (λ (v : ℕ). v / sizePart) value-is)
 
-  pub for-module-word : w % 256 ≡ 132 → WordAt (wordsOf code) base aCallTarget i (w / 256)
-  for-module-word o = ofModuleWord (op-at 132 o) value-is
+  pub for-module-word : opIn w ≡ aCallTarget → WordAt (wordsOf code) base aCallTarget i (valueIn w)
+  for-module-word o = ofModuleWord (op-at aCallTarget o) value-is
 
-  pub for-call-word : w % 256 ≡ 133 → WordAt (wordsOf code) base aCallTarget i (base + w / 256)
-  for-call-word o = ofCallWord (op-at 133 o) (ap (λ (v : ℕ). base + v) value-is)
+  pub for-call-word : opIn w ≡ (aCallTarget + 1) → WordAt (wordsOf code) base aCallTarget i (base + valueIn w)
+  for-call-word o = ofCallWord (op-at (aCallTarget + 1) o) (ap (λ (v : ℕ). base + v) value-is)
 
-  pub for-module-element : w % 256 ≡ 134 → ArrayAt (wordsOf code) base aCallTarget i (w / 256 % 1024) (w / 256 / 1024)
-  for-module-element o = ofModuleArray (op-at 134 o) (ap (λ (v : ℕ). v % 1024) value-is) (ap (λ (v : ℕ). v / 1024) value-is)
+  pub for-module-element : opIn w ≡ (aCallTarget + 2) → ArrayAt (wordsOf code) base aCallTarget i (valueIn w % sizePart) (valueIn w / sizePart)
+  for-module-element o = ofModuleArray (op-at (aCallTarget + 2) o) (ap (λ (v : ℕ). v % sizePart) value-is) (ap (λ (v : ℕ). v / sizePart) value-is)
 
-  pub for-call-element : w % 256 ≡ 135 → ArrayAt (wordsOf code) base aCallTarget i (base + w / 256 % 1024) (w / 256 / 1024)
-  for-call-element o = ofCallArray (op-at 135 o) (ap (λ (v : ℕ). base + v % 1024) value-is) (ap (λ (v : ℕ). v / 1024) value-is)
+  pub for-call-element : opIn w ≡ (aCallTarget + 3) → ArrayAt (wordsOf code) base aCallTarget i (base + valueIn w % sizePart) (valueIn w / sizePart)
+  for-call-element o = ofCallArray (op-at (aCallTarget + 3) o) (ap (λ (v : ℕ). base + v % sizePart) value-is) (ap (λ (v : ℕ). v / sizePart) value-is)
 
-  pub by-return : w % 256 ≡ 138 → Returns (wordsOf code) i
-  by-return o = byReturn (op-at 138 o)
+  pub by-return : opIn w ≡ aReturn → Returns (wordsOf code) i
+  by-return o = byReturn (op-at aReturn o)
 
-  pub by-end : w % 256 ≡ 153 → Returns (wordsOf code) i
-  by-end o = byEnd (op-at 153 o)
+  pub by-end : opIn w ≡ anEnd → Returns (wordsOf code) i
+  by-end o = byEnd (op-at anEnd o)
 
 -- ---- a step
 module _ (text code values out : List ℕ) (base last i : ℕ) (s : Steps text code values out base last i) where
@@ -150,21 +153,21 @@ module _ (text code values out : List ℕ) (base last i : ℕ) (s : Steps text c
 
   -- ---- by its word
   module _ (w : ℕ) (ew : w ≡ headAt (wordsOf code) i) where
-    pub writes : w % 256 ≡ 144 → Writes text code values out i
-    writes o = record { base = base; prints = prints; op = op-at code base i w ew 144 o }
+    pub writes : opIn w ≡ aWrite → Writes text code values out i
+    writes o = record { base = base; prints = prints; op = op-at code base i w ew aWrite o }
 
-    pub handed-on : w % 256 ≡ 140 → (inputs : List ℕ) → Stepped text code values values inputs out out base last i (pos 458752)
+    pub handed-on : opIn w ≡ aRaise → (inputs : List ℕ) → Stepped text code values values inputs out out base last i (pos handed)
     handed-on o inputs =
-        silent text code values values inputs out base last i (pos 458752) refl (λ c x y. refl) count
-        (λ h t rooms lw l steps. hands refl refl refl (raise-hands code values base i h rooms steps out (op-at code base i w ew 140 o)))
+        silent text code values values inputs out base last i (pos handed) refl (λ c x y. refl) count
+        (λ h t rooms lw l steps. hands refl refl refl (raise-hands code values base i h rooms steps out (op-at code base i w ew aRaise o)))
 
-    pub exited : w % 256 ≡ 141 → (inputs : List ℕ) → Stepped text code values values inputs out out base last i (pos 196610)
-    exited o inputs =
-        silent text code values values inputs out base last i (pos 196610) refl (λ c x y. refl) count
-        (λ h t rooms lw l steps. ends 2 refl (omega arith) refl refl (exit-ends code values base i h rooms steps out (op-at code base i w ew 141 o)))
+    pub exits : opIn w ≡ anExit → (inputs : List ℕ) → Stepped text code values values inputs out out base last i (pos (ended + exited))
+    exits o inputs =
+        silent text code values values inputs out base last i (pos (ended + exited)) refl (λ c x y. refl) count
+        (λ h t rooms lw l steps. ends exited refl (omega arith) refl refl (exit-ends code values base i h rooms steps out (op-at code base i w ew anExit o)))
 
-    pub fell-off : NoneOf (w % 256) 26 → (inputs : List ℕ) → Stepped text code values values inputs out out base last i (pos 196612)
+    pub fell-off : NoneOf (opIn w) 26 → (inputs : List ℕ) → Stepped text code values values inputs out out base last i (pos (ended + fellOff))
     fell-off n inputs =
-        let o = last-op code values base i (s .here) (subst (λ (x : ℕ). NoneOf (x % 256) 26) ew n) in
-        silent text code values values inputs out base last i (pos 196612) refl (λ c x y. refl) count
-        (λ h t rooms lw l steps. ends 4 refl (omega arith) refl refl (function-ends code values base i h rooms steps out o))
+        let o = last-op code values base i (s .here) (subst (λ (x : ℕ). NoneOf (opIn x) 26) ew n) in
+        silent text code values values inputs out base last i (pos (ended + fellOff)) refl (λ c x y. refl) count
+        (λ h t rooms lw l steps. ends fellOff refl (omega arith) refl refl (function-ends code values base i h rooms steps out o))

@@ -10,6 +10,9 @@ use choices::choose;
 use choices::raise;
 use choices::test_if;
 use choices::test_while;
+use layout::answers;
+use layout::ops;
+use layout::parts;
 use loops::enter_for;
 use loops::for_test;
 use output::read;
@@ -20,19 +23,6 @@ use resuming::retry;
 use resuming::try_next;
 use returns::back;
 use returns::give_back;
-
-// a head has its value above its op
-const OPS: u32 = 256;
-
-// an array's value has its size above its first word
-const WORDS: usize = 1024;
-
-// what plain RAISE answers, EXIT, and the end of a FUNC's list
-const HANDED: i64 = 458752;
-
-const EXITED: i64 = 196610;
-
-const FELL_OFF: i64 = 196612;
 
 // Step i of the call with its window at `base`. `last` is the window of the last call that the depth lent admits.
 pub fn step<'a>(
@@ -49,35 +39,65 @@ pub fn step<'a>(
     ensures { λ r. ⌜ Stepped (now (text .entry)) (now (code .entry)) (now (values .entry)) (now (values .exit)) (now (inputs .entry)) (now (out .entry)) (now (out .exit)) base last i r ⌝ }
 {
     let w = head(code, i);
-    let v = (w / OPS) as usize;
-    let op = w % OPS;
+    let v = (w / parts::VALUE) as usize;
+    let op = w % parts::VALUE;
     match op {
-        128 => store(&*code, values, base, i, v),
-        129 => store(&*code, values, base, i, base + v),
-        130 => store_element(&*code, values, base, i, v % WORDS, v / WORDS),
-        131 => store_element(&*code, values, base, i, base + v % WORDS, v / WORDS),
-        132 => call_for(&*code, values, base, last, i, v),
-        133 => call_for(&*code, values, base, last, i, base + v),
-        134 => call_for_element(&*code, values, base, last, i, v % WORDS, v / WORDS),
-        135 => call_for_element(&*code, values, base, last, i, base + v % WORDS, v / WORDS),
-        136 => call_of(&*code, values, base, last, i),
-        137 => give_back(&*code, values, base, i, v),
-        138 => back(&*code, &*values, base, i),
-        139 => raise(&*code, &*values, base, i, v),
-        140 => HANDED,
-        141 => EXITED,
-        142 => retry(&*code, values, base, i),
-        143 => try_next(&*code, values, base, i),
-        144 => write(text, &*code, values, out, i),
-        145 => write_of(text, &*code, values, out, base, i, v),
-        146 => read(text, &*code, values, inputs, out, base, i, v),
-        147 => test_if(&*code, &*values, base, i, v),
-        148 => choose(&*code, &*values, base, i, v),
-        149 => test_while(&*code, &*values, base, i, v),
-        150 => enter_for(&*code, values, base, i, v),
-        151 => for_test(&*code, values, base, i, v),
-        152 => select(&*code, &*values, base, i, v),
-        153 => back(&*code, &*values, base, i),
-        _ => FELL_OFF,
+        ops::TARGET => store(code, values, base, i, v),
+        ops::TARGET_IN_CALL => store(code, values, base, i, base + v),
+        ops::TARGET_ELEMENT => store_element(
+            code,
+            values,
+            base,
+            i,
+            v % parts::SIZE_AT,
+            v / parts::SIZE_AT,
+        ),
+        ops::TARGET_ELEMENT_IN_CALL => store_element(
+            code,
+            values,
+            base,
+            i,
+            base + v % parts::SIZE_AT,
+            v / parts::SIZE_AT,
+        ),
+        ops::CALL_TARGET => call_for(code, values, base, last, i, v),
+        ops::CALL_TARGET_IN_CALL => call_for(code, values, base, last, i, base + v),
+        ops::CALL_TARGET_ELEMENT => call_for_element(
+            code,
+            values,
+            base,
+            last,
+            i,
+            v % parts::SIZE_AT,
+            v / parts::SIZE_AT,
+        ),
+        ops::CALL_TARGET_ELEMENT_IN_CALL => call_for_element(
+            code,
+            values,
+            base,
+            last,
+            i,
+            base + v % parts::SIZE_AT,
+            v / parts::SIZE_AT,
+        ),
+        ops::PROCEDURE_CALL => call_of(code, values, base, last, i),
+        ops::RETURN_OF => give_back(code, values, base, i, v),
+        ops::RETURN => back(code, &*values, base, i),
+        ops::RAISE_OF => raise(code, &*values, base, i, v),
+        ops::RAISE => answers::HANDED,
+        ops::EXIT => answers::EXITED,
+        ops::RETRY => retry(code, values, base, i),
+        ops::TRY_NEXT => try_next(code, values, base, i),
+        ops::WRITE => write(text, code, values, out, i),
+        ops::WRITE_OF => write_of(text, code, values, out, base, i, v),
+        ops::READ => read(text, code, values, inputs, out, base, i, v),
+        ops::COMPACT_IF => test_if(code, &*values, base, i, v),
+        ops::IF => choose(code, &*values, base, i, v),
+        ops::WHILE => test_while(code, &*values, base, i, v),
+        ops::FOR => enter_for(code, values, base, i, v),
+        ops::FOR_TEST => for_test(code, values, base, i, v),
+        ops::TEST => select(code, &*values, base, i, v),
+        ops::END => back(code, &*values, base, i),
+        _ => answers::FELL_OFF,
     }
 }

@@ -2,10 +2,12 @@
 // cases and says what must be printed.
 //
 // A case is a line of seven numbers, then its inputs, a line each, then its text and a line end. A number has ten digits and a byte behind them.
+use layout::limits;
 use libc::STDIN_FILENO;
 use libc::STDOUT_FILENO;
 ghost use Prim.Native.Nat.{_+_, _*_, _≤_, _<_};
 ghost use lib.ListN.{length};
+ghost use Rattle.vectors.specs.Cases.{Lends, Asks};
 
 // The digits of a number, with the byte behind them, and the bytes of a case's first line.
 const DIGITS: usize = 10;
@@ -27,8 +29,10 @@ const INPUTS_AT: usize = 55;
 
 const TEXT_AT: usize = 66;
 
-// The most that a case is lent: bytes of text, inputs, bytes of output and of a store; and the bytes of the line that shows a record.
-const TEXT: usize = 32832;
+// The most that a case is lent: bytes of text, inputs, bytes of output and of a store. Texts and stores may be larger than they need be.
+const BEYOND: usize = 64;
+
+const TEXT: usize = limits::TEXT + BEYOND;
 
 const INPUTS: usize = 16;
 
@@ -36,9 +40,7 @@ const INPUT_BYTES: usize = 64;
 
 const OUTPUT: usize = 4096;
 
-const STORE: usize = 65600;
-
-const LINE: usize = 168;
+const STORE: usize = limits::STORE_BYTES + BEYOND;
 
 // More cases than there are.
 const CASES: u32 = 100000;
@@ -110,7 +112,7 @@ fn print_call<'a>(
 )
     requires { ⌜ (length (now text) < 4294967296) × ((length (now inputs) < 4294967296) × (length (now out) < 4294967296)) ⌝ }
 {
-    let mut line = [0u8; LINE];
+    let mut line = [0u8; screen::LINE];
     let shown = screen::show(text, steps, depth, inputs, out, code, values, &mut line);
     let written = shown.output;
     let told = shown.line;
@@ -118,33 +120,72 @@ fn print_call<'a>(
     io::write_all(STDOUT_FILENO, &line[..told]);
 }
 
-// Reads what is left of a case, and runs it.
-fn run(header: &[u8; HEADER]) {
-    let steps = word(header, 0);
-    let depth = word(header, DEPTH_AT);
-    let room = count(header, OUTPUT_AT, OUTPUT);
-    let code_bytes = count(header, CODE_AT, STORE);
-    let value_bytes = count(header, VALUES_AT, STORE);
-    let input_count = count(header, INPUTS_AT, INPUTS);
-    let text_bytes = count(header, TEXT_AT, TEXT);
-    let mut inputs = [0u8; INPUT_BYTES];
-    read_inputs(&mut inputs, input_count);
-    let mut text = [0u8; TEXT];
-    read_part(&mut text, text_bytes);
-    let mut line_end = [0u8; 1];
-    io::read_full(STDIN_FILENO, &mut line_end);
+// Lends as much as a case asks for, so many bytes of output, of code and of values, and makes the call.
+fn lend<'a>(
+    text: &'a [u8],
+    steps: u32,
+    depth: u32,
+    inputs: &'a [u8],
+    room: usize,
+    codes: usize,
+    worths: usize,
+)
+    requires { ⌜ Lends (now text) (now inputs) room codes worths ⌝ }
+{
     let mut out = [0u8; OUTPUT];
     let mut code = [0u8; STORE];
     let mut values = [0u8; STORE];
-    let input_bytes = input_count * 4;
     print_call(
-        &text[..text_bytes],
+        text,
         steps,
         depth,
-        &inputs[..input_bytes],
+        inputs,
         &mut out[..room],
-        &mut code[..code_bytes],
-        &mut values[..value_bytes],
+        &mut code[..codes],
+        &mut values[..worths],
+    );
+}
+
+// Reads a case's inputs and its text, which is so long, and runs it.
+fn read_case(
+    steps: u32,
+    depth: u32,
+    room: usize,
+    codes: usize,
+    worths: usize,
+    many: usize,
+    long: usize,
+)
+    requires { ⌜ Asks room codes worths many long ⌝ }
+{
+    let mut inputs = [0u8; INPUT_BYTES];
+    read_inputs(&mut inputs, many);
+    let mut text = [0u8; TEXT];
+    read_part(&mut text, long);
+    let mut line_end = [0u8; 1];
+    io::read_full(STDIN_FILENO, &mut line_end);
+    let lent = many * 4;
+    lend(
+        &text[..long],
+        steps,
+        depth,
+        &inputs[..lent],
+        room,
+        codes,
+        worths,
+    );
+}
+
+// Reads what a case asks for, and then the rest of it.
+fn run(header: &[u8; HEADER]) {
+    read_case(
+        word(header, 0),
+        word(header, DEPTH_AT),
+        count(header, OUTPUT_AT, OUTPUT),
+        count(header, CODE_AT, STORE),
+        count(header, VALUES_AT, STORE),
+        count(header, INPUTS_AT, INPUTS),
+        count(header, TEXT_AT, TEXT),
     );
 }
 

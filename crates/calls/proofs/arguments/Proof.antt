@@ -47,19 +47,36 @@ same-length-2 : tie.Need-same-length-2 Inv-loop μ-loop
 same-length-2 c = search needs
 
 returns-3 : tie.Need-returns-3 Inv-loop μ-loop
-returns-3 c = pass-last _ _ _ _ _ _ _ _ _ _ (c .before .before .before .before .before .before .before .before .before .before .loop .inv) _ (record { sfits = c .before .before .before .before .before .before .before .before .worth .ok }) (c .before .before .before .before .before .before .before .before .worth .ensures) (c .before .before .before .before .before .before .before .if2 .left) _ (c .before .before .before .before .before .pass .ensures) _ (c .before .before .is-comma .ensures) (c .before .if3 .taken) _ (record { sfits = c .packed2 .ok }) (c .packed2 .ensures)
+returns-3 c =
+    let at-pass = c .before .before .before .before .before in
+    let at-if2 = at-pass .before .before in
+    let at-worth = at-if2 .before in
+    let at-loop = at-worth .before .before in
+    pass-last _ _ _ _ _ _ _ _ _ _ (at-loop .loop .inv) _ (record { sfits = at-worth .worth .ok }) (at-worth .worth .ensures) (at-if2 .if2 .left) _
+    (at-pass .pass .ensures) _ (c .before .before .is-comma .ensures) (c .before .if3 .taken) _ (record { sfits = c .packed2 .ok })
+    (c .packed2 .ensures)
 
 add-a : tie.Need-add-a Inv-loop μ-loop
 add-a c = search (needs, comma-next)
 
 link-requires : tie.Need-link-requires Inv-loop μ-loop
-link-requires c κs = comma-inside _ _ _ _ _ _ _ _ _ _ (c .before .before .before .before .before .before .before .before .before .loop .inv) _ (c .before .is-comma .ensures) (c .if3 .left)
+link-requires c κs =
+    let at-loop = c .before .before .before .before .before .before .before .before .before in
+    comma-inside _ _ _ _ _ _ _ _ _ _ (at-loop .loop .inv) _ (c .before .is-comma .ensures) (c .if3 .left)
 
 loop-less : tie.Need-loop-less Inv-loop μ-loop
-loop-less c = comma-less _ _ _ _ _ _ _ _ _ _ (c .before .before .before .before .before .before .before .before .before .before .loop .inv) _ (c .before .before .is-comma .ensures) (c .before .if3 .left) _ (c .link .ensures)
+loop-less c =
+    let at-loop = c .before .before .before .before .before .before .before .before .before .before in
+    comma-less _ _ _ _ _ _ _ _ _ _ (at-loop .loop .inv) _ (c .before .before .is-comma .ensures) (c .before .if3 .left) _ (c .link .ensures)
 
 loop-again : tie.Need-loop-again Inv-loop μ-loop
-loop-again c = pass-on _ _ _ _ _ _ _ _ _ _ (c .before .before .before .before .before .before .before .before .before .before .loop .inv) _ (record { sfits = c .before .before .before .before .before .before .before .before .worth .ok }) (c .before .before .before .before .before .before .before .before .worth .ensures) (c .before .before .before .before .before .before .before .if2 .left) _ (c .before .before .before .before .before .pass .ensures) _ (c .before .before .is-comma .ensures) (c .before .if3 .left) _ (c .link .ensures)
+loop-again c =
+    let at-pass = c .before .before .before .before .before in
+    let at-if2 = at-pass .before .before in
+    let at-worth = at-if2 .before in
+    let at-loop = at-worth .before .before in
+    pass-on _ _ _ _ _ _ _ _ _ _ (at-loop .loop .inv) _ (record { sfits = at-worth .worth .ok }) (at-worth .worth .ensures) (at-if2 .if2 .left) _
+    (at-pass .pass .ensures) _ (c .before .before .is-comma .ensures) (c .before .if3 .left) _ (c .link .ensures)
 
 pub arguments-spec : {M : Type 1} → statement M
 arguments-spec =

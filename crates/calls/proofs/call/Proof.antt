@@ -25,7 +25,13 @@ link-requires-2 : tie.Need-link-requires-2
 link-requires-2 c κs = search (needs, leads-inside)
 
 enter-requires : tie.Need-enter-requires
-enter-requires c κs = may _ _ _ _ _ _ _ _ (c .before .before .before .before .before .before .before .before .before .before .before .before .pre) _ (c .before .before .before .before .before .before .before .before .link .ensures) _ _ (record { sfits = c .before .before .before .before .before .before .before .arguments .ok }) (c .before .before .before .before .before .before .before .arguments .ensures) (c .before .before .before .before .if1 .left) _ (c .before .before .goes-on .ensures) (c .before .before .before .if2 .taken) _ (c .link2 .ensures)
+enter-requires c κs =
+    let at-arguments = c .before .before .before .before .before .before .before in
+    let at-link = at-arguments .before in
+    let start = at-link .before .before .before .before in
+    may _ _ _ _ _ _ _ _ (start .pre) _ (at-link .link .ensures) _ _ (record { sfits = at-arguments .arguments .ok })
+    (at-arguments .arguments .ensures) (c .before .before .before .before .if1 .left) _ (c .before .before .goes-on .ensures)
+    (c .before .before .before .if2 .taken) _ (c .link2 .ensures)
 
 same-length-2 : tie.Need-same-length-2
 same-length-2 c = search needs

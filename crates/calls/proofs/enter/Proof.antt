@@ -28,7 +28,12 @@ link-requires : tie.Need-link-requires
 link-requires c κs = search (needs, word-inside)
 
 start-words-requires : tie.Need-start-words-requires
-start-words-requires c κs = enter-starts _ _ _ _ _ _ _ _ (c .before .before .before .before .before .before .before .before .before .before .before .before .before .pre) _ _ (c .before .before .before .before .before .before .before .before .before .put .ensures) (c .before .before .before .before .before .put2 .ensures) _ (c .before .before .value .ensures) _ (c .link .ensures)
+start-words-requires c κs =
+    let at-put2 = c .before .before .before .before .before in
+    let at-put = at-put2 .before .before .before .before in
+    let start = at-put .before .before .before .before in
+    enter-starts _ _ _ _ _ _ _ _ (start .pre) _ _ (at-put .put .ensures) (at-put2 .put2 .ensures) _ (c .before .before .value .ensures) _
+    (c .link .ensures)
 
 add-put-3 : tie.Need-add-put-3
 add-put-3 c = search needs
@@ -76,7 +81,18 @@ same-length : tie.Need-same-length
 same-length c = search needs
 
 returns : tie.Need-returns
-returns c = enter-done _ _ _ _ _ _ _ _ (c .before .before .before .before .before .before .before .before .before .before .before .before .before .before .before .before .before .before .before .before .before .before .before .before .before .before .before .before .before .pre) _ _ (c .before .before .before .before .before .before .before .before .before .before .before .before .before .before .before .before .before .before .before .before .before .before .before .before .before .put .ensures) (c .before .before .before .before .before .before .before .before .before .before .before .before .before .before .before .before .before .before .before .before .before .put2 .ensures) _ (c .before .before .before .before .before .before .before .before .before .before .before .before .before .before .before .before .before .before .value .ensures) _ (c .before .before .before .before .before .before .before .before .before .before .before .before .before .before .before .before .link .ensures) _ _ _ _ (c .before .before .before .before .before .before .before .before .before .before .before .before .before .before .before .start-words .ensures) (c .before .before .before .before .before .before .before .before .before .before .before .put3 .ensures) (c .before .before .before .before .before .before .before .put4 .ensures) (c .before .before .before .put5 .ensures) _ (c .place .ensures)
+returns c =
+    let at-put4 = c .before .before .before .before .before .before .before in
+    let at-put3 = at-put4 .before .before .before .before in
+    let at-start-words = at-put3 .before .before .before .before in
+    let at-link = at-start-words .before in
+    let at-value = at-link .before .before in
+    let at-put2 = at-value .before .before .before in
+    let at-put = at-put2 .before .before .before .before in
+    let start = at-put .before .before .before .before in
+    enter-done _ _ _ _ _ _ _ _ (start .pre) _ _ (at-put .put .ensures) (at-put2 .put2 .ensures) _ (at-value .value .ensures) _
+    (at-link .link .ensures) _ _ _ _ (at-start-words .start-words .ensures) (at-put3 .put3 .ensures) (at-put4 .put4 .ensures)
+    (c .before .before .before .put5 .ensures) _ (c .place .ensures)
 
 pub enter-spec : {M : Type 1} → statement M
 enter-spec =

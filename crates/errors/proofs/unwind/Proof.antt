@@ -31,7 +31,10 @@ add-put : tie.Need-add-put
 add-put c = search (needs, found-add)
 
 cast-put : tie.Need-cast-put
-cast-put c = record { fits = found-small _ _ _ _ _ (c .before .before .before .before .before .before .before .before .nearest .ensures) (c .before .before .before .before .before .before .before .before .before .before .before .before .pre) }
+cast-put c =
+    let at-nearest = c .before .before .before .before .before .before .before .before in
+    let start = at-nearest .before .before .before .before in
+    record { fits = found-small _ _ _ _ _ (at-nearest .nearest .ensures) (start .pre) }
 
 put-requires : tie.Need-put-requires
 put-requires c κs = search (needs, found-get)

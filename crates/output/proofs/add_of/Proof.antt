@@ -18,7 +18,12 @@ add-out : tie.Need-add-out
 add-out c = search (needs, of-fits-first)
 
 slice-write-out : tie.Need-slice-write-out
-slice-write-out c = let s = c .before .before .before .before .before .before .before .before .before .before .before .before .before .before in of-room _ _ _ _ _ _ (s .fits .v) (s .pre .1) _ (c .before .before .before .before .before .before .before .written .ensures) _ _ (c .before .before .before .before .before .before .string .ensures) _ (s .pre .2) _ (c .before .before .number .ensures)
+slice-write-out c =
+    let at-string = c .before .before .before .before .before .before in
+    let at-written = at-string .before in
+    let s = c .before .before .before .before .before .before .before .before .before .before .before .before .before .before in
+    of-room _ _ _ _ _ _ (s .fits .v) (s .pre .1) _ (at-written .written .ensures) _ _ (at-string .string .ensures) _ (s .pre .2) _
+    (c .before .before .number .ensures)
 
 add-set-written : tie.Need-add-set-written
 add-set-written c = search (needs, of-fits-first)
@@ -33,10 +38,19 @@ same-length : tie.Need-same-length
 same-length c = search needs
 
 same-length-2 : tie.Need-same-length-2
-same-length-2 c = simp length-set (c .before .before .before .before .before .before .number .kept .0 ∙ c .before .before .before .before .before .before .before .before .before .before .string .kept .1 .1 .0)
+same-length-2 c =
+    let at-number = c .before .before .before .before .before .before in
+    let at-string = at-number .before .before .before .before in
+    simp length-set (at-number .number .kept .0 ∙ at-string .string .kept .1 .1 .0)
 
 returns : tie.Need-returns
-returns c = let s = c .before .before .before .before .before .before .before .before .before .before .before .before .before .before .before .before .before .before in of-done _ _ _ _ _ _ (s .fits .v) (s .pre .1) _ (c .before .before .before .before .before .before .before .before .before .before .before .written .ensures) _ _ (c .before .before .before .before .before .before .before .before .before .before .string .ensures) _ (s .pre .2) _ (c .before .before .before .before .before .before .number .ensures) _ (c .before .before .set-written .ensures)
+returns c =
+    let at-number = c .before .before .before .before .before .before in
+    let at-string = at-number .before .before .before .before in
+    let at-written = at-string .before in
+    let s = c .before .before .before .before .before .before .before .before .before .before .before .before .before .before .before .before .before .before in
+    of-done _ _ _ _ _ _ (s .fits .v) (s .pre .1) _ (at-written .written .ensures) _ _ (at-string .string .ensures) _ (s .pre .2) _
+    (at-number .number .ensures) _ (c .before .before .set-written .ensures)
 
 pub add-of-spec : {M : Type 1} → statement M
 add-of-spec =

@@ -7,13 +7,18 @@ add-target-cell : tie.Need-add-target-cell
 add-target-cell c = search (needs, read-next)
 
 target-cell-requires : tie.Need-target-cell-requires
-target-cell-requires c κs = read-target _ _ _ _ _ _ _ _ (c .before .before .before .before .before .before .pre .0) (c .before .before .before .before .before .before .pre .1)
+target-cell-requires c κs =
+    let start = c .before .before .before .before .before .before in
+    read-target _ _ _ _ _ _ _ _ (start .pre .0) (start .pre .1)
 
 same-length : tie.Need-same-length
 same-length c = search needs
 
 returns : tie.Need-returns
-returns c = read-fails _ _ _ _ _ _ _ _ (c .before .before .before .before .before .before .before .before .pre .0) (c .before .before .before .before .before .before .before .before .pre .1) _ record { sfits = c .before .target-cell .ok } (c .before .target-cell .ensures) (c .if1 .taken)
+returns c =
+    let start = c .before .before .before .before .before .before .before .before in
+    read-fails _ _ _ _ _ _ _ _ (start .pre .0) (start .pre .1) _ record { sfits = c .before .target-cell .ok } (c .before .target-cell .ensures)
+    (c .if1 .taken)
 
 written-requires : tie.Need-written-requires
 written-requires c κs = search needs
@@ -34,7 +39,12 @@ same-length-2 : tie.Need-same-length-2
 same-length-2 c = search needs
 
 returns-2 : tie.Need-returns-2
-returns-2 c = read-lacks _ _ _ _ _ _ _ _ (c .before .before .before .before .before .before .before .before .before .before .before .before .pre .0) (c .before .before .before .before .before .before .before .before .before .before .before .before .pre .1) _ record { sfits = c .before .before .before .before .before .target-cell .ok } (c .before .before .before .before .before .target-cell .ensures) (c .before .before .before .before .if1 .left) _ (c .before .before .written .ensures) _ (c .before .characters .ensures .0) (c .if2 .taken)
+returns-2 c =
+    let at-target-cell = c .before .before .before .before .before in
+    let start = at-target-cell .before .before .before .before .before .before .before in
+    read-lacks _ _ _ _ _ _ _ _ (start .pre .0) (start .pre .1) _ record { sfits = at-target-cell .target-cell .ok }
+    (at-target-cell .target-cell .ensures) (c .before .before .before .before .if1 .left) _ (c .before .before .written .ensures) _
+    (c .before .characters .ensures .0) (c .if2 .taken)
 
 get-requires : tie.Need-get-requires
 get-requires c κs = search needs
@@ -52,16 +62,57 @@ same-length-3 : tie.Need-same-length-3
 same-length-3 c = search needs
 
 returns-3 : tie.Need-returns-3
-returns-3 c = read-none _ _ _ _ _ _ _ _ (c .before .before .before .before .before .before .before .before .before .before .before .before .before .before .before .pre .0) (c .before .before .before .before .before .before .before .before .before .before .before .before .before .before .before .pre .1) _ record { sfits = c .before .before .before .before .before .before .before .before .target-cell .ok } (c .before .before .before .before .before .before .before .before .target-cell .ensures) (c .before .before .before .before .before .before .before .if1 .left) _ (c .before .before .before .before .before .written .ensures) _ (c .before .before .before .before .characters .ensures .0) (c .before .before .before .if2 .left) _ (c .before .get .ensures) (c .if3 .taken)
+returns-3 c =
+    let at-characters = c .before .before .before .before in
+    let at-written = at-characters .before in
+    let at-if1 = at-written .before .before in
+    let at-target-cell = at-if1 .before in
+    let start = at-target-cell .before .before .before .before .before .before .before in
+    read-none _ _ _ _ _ _ _ _ (start .pre .0) (start .pre .1) _ record { sfits = at-target-cell .target-cell .ok }
+    (at-target-cell .target-cell .ensures) (at-if1 .if1 .left) _ (at-written .written .ensures) _ (at-characters .characters .ensures .0)
+    (c .before .before .before .if2 .left) _ (c .before .get .ensures) (c .if3 .taken)
 
 add-requires : tie.Need-add-requires
-add-requires c κs = read-adds _ _ _ _ _ _ _ _ (c .before .before .before .before .before .before .before .before .before .before .before .before .before .before .before .before .before .pre .0) (c .before .before .before .before .before .before .before .before .before .before .before .before .before .before .before .before .before .pre .1) _ record { sfits = c .before .before .before .before .before .before .before .before .before .before .target-cell .ok } (c .before .before .before .before .before .before .before .before .before .before .target-cell .ensures) (c .before .before .before .before .before .before .before .before .before .if1 .left) _ (c .before .before .before .before .before .before .before .written .ensures) _ (c .before .before .before .before .before .before .characters .ensures .0) (c .before .before .before .before .before .if2 .left) _ (c .before .before .before .get .ensures)
+add-requires c κs =
+    let at-if2 = c .before .before .before .before .before in
+    let at-characters = at-if2 .before in
+    let at-written = at-characters .before in
+    let at-if1 = at-written .before .before in
+    let at-target-cell = at-if1 .before in
+    let start = at-target-cell .before .before .before .before .before .before .before in
+    read-adds _ _ _ _ _ _ _ _ (start .pre .0) (start .pre .1) _ record { sfits = at-target-cell .target-cell .ok }
+    (at-target-cell .target-cell .ensures) (at-if1 .if1 .left) _ (at-written .written .ensures) _ (at-characters .characters .ensures .0)
+    (at-if2 .if2 .left) _ (c .before .before .before .get .ensures)
 
 cast-take : tie.Need-cast-take
-cast-take c = read-cast _ _ _ _ _ _ _ _ (c .before .before .before .before .before .before .before .before .before .before .before .before .before .before .before .before .before .before .before .before .before .before .before .pre .0) (c .before .before .before .before .before .before .before .before .before .before .before .before .before .before .before .before .before .before .before .before .before .before .before .pre .1) _ record { sfits = c .before .before .before .before .before .before .before .before .before .before .before .before .before .before .before .before .target-cell .ok } (c .before .before .before .before .before .before .before .before .before .before .before .before .before .before .before .before .target-cell .ensures) (c .before .before .before .before .before .before .before .before .before .before .before .before .before .before .before .if1 .left) _ (c .before .before .before .before .before .before .before .before .before .before .before .before .before .written .ensures) _ (c .before .before .before .before .before .before .before .before .before .before .before .before .characters .ensures .0) (c .before .before .before .before .before .before .before .before .before .before .before .if2 .left) _ (c .before .before .before .before .before .before .before .before .before .get .ensures) (c .before .before .before .before .before .before .before .before .if3 .left) _ _ (c .before .before .before .before .before .add .ensures)
+cast-take c =
+    let at-add = c .before .before .before .before .before in
+    let at-if3 = at-add .before .before .before in
+    let at-get = at-if3 .before in
+    let at-if2 = at-get .before .before in
+    let at-characters = at-if2 .before in
+    let at-written = at-characters .before in
+    let at-if1 = at-written .before .before in
+    let at-target-cell = at-if1 .before in
+    let start = at-target-cell .before .before .before .before .before .before .before in
+    read-cast _ _ _ _ _ _ _ _ (start .pre .0) (start .pre .1) _ record { sfits = at-target-cell .target-cell .ok }
+    (at-target-cell .target-cell .ensures) (at-if1 .if1 .left) _ (at-written .written .ensures) _ (at-characters .characters .ensures .0)
+    (at-if2 .if2 .left) _ (at-get .get .ensures) (at-if3 .if3 .left) _ _ (at-add .add .ensures)
 
 take-requires : tie.Need-take-requires
-take-requires c κs = read-takes _ _ _ _ _ _ _ _ (c .before .before .before .before .before .before .before .before .before .before .before .before .before .before .before .before .before .before .before .before .before .before .before .pre .0) (c .before .before .before .before .before .before .before .before .before .before .before .before .before .before .before .before .before .before .before .before .before .before .before .pre .1) _ record { sfits = c .before .before .before .before .before .before .before .before .before .before .before .before .before .before .before .before .target-cell .ok } (c .before .before .before .before .before .before .before .before .before .before .before .before .before .before .before .before .target-cell .ensures) (c .before .before .before .before .before .before .before .before .before .before .before .before .before .before .before .if1 .left) _ (c .before .before .before .before .before .before .before .before .before .before .before .before .before .written .ensures) _ (c .before .before .before .before .before .before .before .before .before .before .before .before .characters .ensures .0) (c .before .before .before .before .before .before .before .before .before .before .before .if2 .left) _ (c .before .before .before .before .before .before .before .before .before .get .ensures) (c .before .before .before .before .before .before .before .before .if3 .left) _ _ (c .before .before .before .before .before .add .ensures)
+take-requires c κs =
+    let at-add = c .before .before .before .before .before in
+    let at-if3 = at-add .before .before .before in
+    let at-get = at-if3 .before in
+    let at-if2 = at-get .before .before in
+    let at-characters = at-if2 .before in
+    let at-written = at-characters .before in
+    let at-if1 = at-written .before .before in
+    let at-target-cell = at-if1 .before in
+    let start = at-target-cell .before .before .before .before .before .before .before in
+    read-takes _ _ _ _ _ _ _ _ (start .pre .0) (start .pre .1) _ record { sfits = at-target-cell .target-cell .ok }
+    (at-target-cell .target-cell .ensures) (at-if1 .if1 .left) _ (at-written .written .ensures) _ (at-characters .characters .ensures .0)
+    (at-if2 .if2 .left) _ (at-get .get .ensures) (at-if3 .if3 .left) _ _ (at-add .add .ensures)
 
 link-requires : tie.Need-link-requires
 link-requires c κs = search (needs, read-in)
@@ -76,7 +127,20 @@ same-length-5 : tie.Need-same-length-5
 same-length-5 c = search needs
 
 returns-4 : tie.Need-returns-4
-returns-4 c = read-done _ _ _ _ _ _ _ _ (c .before .before .before .before .before .before .before .before .before .before .before .before .before .before .before .before .before .before .before .before .before .before .before .before .before .before .before .before .pre .0) (c .before .before .before .before .before .before .before .before .before .before .before .before .before .before .before .before .before .before .before .before .before .before .before .before .before .before .before .before .pre .1) _ record { sfits = c .before .before .before .before .before .before .before .before .before .before .before .before .before .before .before .before .before .before .before .before .before .target-cell .ok } (c .before .before .before .before .before .before .before .before .before .before .before .before .before .before .before .before .before .before .before .before .before .target-cell .ensures) (c .before .before .before .before .before .before .before .before .before .before .before .before .before .before .before .before .before .before .before .before .if1 .left) _ (c .before .before .before .before .before .before .before .before .before .before .before .before .before .before .before .before .before .before .written .ensures) _ (c .before .before .before .before .before .before .before .before .before .before .before .before .before .before .before .before .before .characters .ensures .0) (c .before .before .before .before .before .before .before .before .before .before .before .before .before .before .before .before .if2 .left) _ (c .before .before .before .before .before .before .before .before .before .before .before .before .before .before .get .ensures) (c .before .before .before .before .before .before .before .before .before .before .before .before .before .if3 .left) _ _ (c .before .before .before .before .before .before .before .before .before .before .add .ensures) _ _ (c .before .before .before .before .take .ensures) (c .before .if4 .taken) _ (c .link .ensures .same)
+returns-4 c =
+    let at-add = c .before .before .before .before .before .before .before .before .before .before in
+    let at-if3 = at-add .before .before .before in
+    let at-get = at-if3 .before in
+    let at-if2 = at-get .before .before in
+    let at-characters = at-if2 .before in
+    let at-written = at-characters .before in
+    let at-if1 = at-written .before .before in
+    let at-target-cell = at-if1 .before in
+    let start = at-target-cell .before .before .before .before .before .before .before in
+    read-done _ _ _ _ _ _ _ _ (start .pre .0) (start .pre .1) _ record { sfits = at-target-cell .target-cell .ok }
+    (at-target-cell .target-cell .ensures) (at-if1 .if1 .left) _ (at-written .written .ensures) _ (at-characters .characters .ensures .0)
+    (at-if2 .if2 .left) _ (at-get .get .ensures) (at-if3 .if3 .left) _ _ (at-add .add .ensures) _ _
+    (c .before .before .before .before .take .ensures) (c .before .if4 .taken) _ (c .link .ensures .same)
 
 same-length-6 : tie.Need-same-length-6
 same-length-6 c = search needs
@@ -85,7 +149,20 @@ same-length-7 : tie.Need-same-length-7
 same-length-7 c = search needs
 
 returns-5 : tie.Need-returns-5
-returns-5 c = read-out _ _ _ _ _ _ _ _ (c .before .before .before .before .before .before .before .before .before .before .before .before .before .before .before .before .before .before .before .before .before .before .before .before .before .before .before .pre .0) (c .before .before .before .before .before .before .before .before .before .before .before .before .before .before .before .before .before .before .before .before .before .before .before .before .before .before .before .pre .1) _ record { sfits = c .before .before .before .before .before .before .before .before .before .before .before .before .before .before .before .before .before .before .before .before .target-cell .ok } (c .before .before .before .before .before .before .before .before .before .before .before .before .before .before .before .before .before .before .before .before .target-cell .ensures) (c .before .before .before .before .before .before .before .before .before .before .before .before .before .before .before .before .before .before .before .if1 .left) _ (c .before .before .before .before .before .before .before .before .before .before .before .before .before .before .before .before .before .written .ensures) _ (c .before .before .before .before .before .before .before .before .before .before .before .before .before .before .before .before .characters .ensures .0) (c .before .before .before .before .before .before .before .before .before .before .before .before .before .before .before .if2 .left) _ (c .before .before .before .before .before .before .before .before .before .before .before .before .before .get .ensures) (c .before .before .before .before .before .before .before .before .before .before .before .before .if3 .left) _ _ (c .before .before .before .before .before .before .before .before .before .add .ensures) _ _ (c .before .before .before .take .ensures) (c .if4 .left)
+returns-5 c =
+    let at-add = c .before .before .before .before .before .before .before .before .before in
+    let at-if3 = at-add .before .before .before in
+    let at-get = at-if3 .before in
+    let at-if2 = at-get .before .before in
+    let at-characters = at-if2 .before in
+    let at-written = at-characters .before in
+    let at-if1 = at-written .before .before in
+    let at-target-cell = at-if1 .before in
+    let start = at-target-cell .before .before .before .before .before .before .before in
+    read-out _ _ _ _ _ _ _ _ (start .pre .0) (start .pre .1) _ record { sfits = at-target-cell .target-cell .ok }
+    (at-target-cell .target-cell .ensures) (at-if1 .if1 .left) _ (at-written .written .ensures) _ (at-characters .characters .ensures .0)
+    (at-if2 .if2 .left) _ (at-get .get .ensures) (at-if3 .if3 .left) _ _ (at-add .add .ensures) _ _ (c .before .before .before .take .ensures)
+    (c .if4 .left)
 
 pub read-spec : {M : Type 1} → statement M
 read-spec =

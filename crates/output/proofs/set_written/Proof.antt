@@ -9,9 +9,6 @@ cast-put c = search needs
 put-requires : tie.Need-put-requires
 put-requires c κs = search needs
 
-add-put : tie.Need-add-put
-add-put c = search needs
-
 cast-put-2 : tie.Need-cast-put-2
 cast-put-2 c = search needs
 
@@ -27,4 +24,4 @@ returns c = search (needs, counted)
 pub set-written-spec : {M : Type 1} → statement M
 set-written-spec =
     tie.close
-    (tie.spec cast-put put-requires add-put cast-put-2 put-requires-2 same-length returns)
+    (tie.spec cast-put put-requires cast-put-2 put-requires-2 same-length returns)

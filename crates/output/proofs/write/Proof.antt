@@ -25,13 +25,18 @@ same-length : tie.Need-same-length
 same-length c = search needs
 
 returns : tie.Need-returns
-returns c = write-lacks _ _ _ _ _ (c .before .before .before .before .before .before .before .before .pre) _ (c .before .before .written .ensures) _ (c .before .characters .ensures .0) (c .if1 .taken)
+returns c =
+    let start = c .before .before .before .before .before .before .before .before in
+    write-lacks _ _ _ _ _ (start .pre) _ (c .before .before .written .ensures) _ (c .before .characters .ensures .0) (c .if1 .taken)
 
 add-add : tie.Need-add-add
 add-add c = search (needs, write-next)
 
 add-requires : tie.Need-add-requires
-add-requires c κs = write-adds _ _ _ _ _ (c .before .before .before .before .before .before .before .before .before .before .pre) _ (c .before .before .before .before .written .ensures) _ (c .before .before .before .characters .ensures .0) (c .before .before .if1 .left)
+add-requires c κs =
+    let start = c .before .before .before .before .before .before .before .before .before .before in
+    write-adds _ _ _ _ _ (start .pre) _ (c .before .before .before .before .written .ensures) _ (c .before .before .before .characters .ensures .0)
+    (c .before .before .if1 .left)
 
 link-requires : tie.Need-link-requires
 link-requires c κs = search (needs, write-in)
@@ -46,7 +51,14 @@ same-length-3 : tie.Need-same-length-3
 same-length-3 c = search needs
 
 returns-2 : tie.Need-returns-2
-returns-2 c = write-done _ _ _ _ _ (c .before .before .before .before .before .before .before .before .before .before .before .before .before .before .before .before .pre) _ (c .before .before .before .before .before .before .before .before .before .before .written .ensures) _ (c .before .before .before .before .before .before .before .before .before .characters .ensures .0) (c .before .before .before .before .before .before .before .before .if1 .left) _ _ (c .before .before .before .before .before .add .ensures) _ (c .link .ensures .same)
+returns-2 c =
+    let at-add = c .before .before .before .before .before in
+    let at-if1 = at-add .before .before .before in
+    let at-characters = at-if1 .before in
+    let at-written = at-characters .before in
+    let start = at-written .before .before .before .before .before .before in
+    write-done _ _ _ _ _ (start .pre) _ (at-written .written .ensures) _ (at-characters .characters .ensures .0) (at-if1 .if1 .left) _ _
+    (at-add .add .ensures) _ (c .link .ensures .same)
 
 pub write-spec : {M : Type 1} → statement M
 write-spec =

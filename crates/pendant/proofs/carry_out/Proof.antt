@@ -2,7 +2,7 @@ use borrow.Author.Needs.{needs}
 use mathlib.Core.Path.{_∙_}
 use native.Mathlib.Omega.{arith}
 use lib.ListN.{length-take}
-use Rattle.pendant.proofs.Carrying.{few-words, begins, whole-size, room-for, reports, carried}
+use Rattle.pendant.proofs.Carrying.{begins, steps-left, reports, empties, whole-size, carried}
 use Rattle.pendant.proofs.carry_out.Statement.{statement}
 use Rattle.pendant.proofs.carry_out.Tie as tie
 
@@ -19,34 +19,57 @@ slice-aggregate-run-2 : tie.Need-slice-aggregate-run-2
 slice-aggregate-run-2 c = simp length-take (omega arith)
 
 run-requires : tie.Need-run-requires
-run-requires c κs = begins (c .before .before .before .before .before .before .before .before .before .pre)
+run-requires c κs =
+    let start = c .before .before .before .before .before .before .before .before .before in
+    begins (start .pre)
+
+sub-report : tie.Need-sub-report
+sub-report c =
+    let at-run = c .before .before .before .before .before .before .before in
+    let start = at-run .before .before .before .before .before .before .before .before .before .before in
+    steps-left (start .pre) (at-run .run .ensures)
 
 report-requires : tie.Need-report-requires
-report-requires c κs = reports (c .before .before .before .before .before .before .before .before .before .before .before .before .before .before .before .before .pre) (c .before .before .before .before .before .before .run .ensures)
+report-requires c κs =
+    let at-run = c .before .before .before .before .before .before .before in
+    let start = at-run .before .before .before .before .before .before .before .before .before .before in
+    reports (start .pre) (at-run .run .ensures)
 
-clear-requires : tie.Need-clear-requires
-clear-requires c κs = search needs
-
-sub-clear : tie.Need-sub-clear
-sub-clear c = omega (arith, few-words (c .before .before .before .before .before .before .before .before .before .before .before .before .before .before .before .before .before .before .before .before .before .before .before .before .pre))
-
-clear-requires-2 : tie.Need-clear-requires-2
-clear-requires-2 c κs = omega (arith, few-words (c .before .before .before .before .before .before .before .before .before .before .before .before .before .before .before .before .before .before .before .before .before .before .before .before .pre), room-for (c .before .before .before .before .before .before .before .before .before .before .before .before .before .before .before .before .before .before .before .before .before .before .before .before .pre) (c .before .before .before .before .before .before .before .before .before .before .before .before .before .before .run .ensures) 65536 (omega arith))
+empty-requires : tie.Need-empty-requires
+empty-requires c κs =
+    let at-run = c .before .before .before .before .before .before .before .before .before .before .before .before in
+    let start = at-run .before .before .before .before .before .before .before .before .before .before in
+    empties (start .pre) (at-run .run .ensures)
 
 same-length : tie.Need-same-length
-same-length c = search needs
+same-length c =
+    let at-run = c .before .before .before .before .before .before .before .before .before .before .before .before .before .before .before .before .before in
+    at-run .run .kept .1 .1 .1 .1 .0
 
 same-length-2 : tie.Need-same-length-2
-same-length-2 c = search needs
+same-length-2 c =
+    let at-empty = c .before .before .before .before in
+    at-empty .empty .kept .0
 
 same-length-3 : tie.Need-same-length-3
-same-length-3 c = c .before .before .clear2 .kept .0 ∙ whole-size (c .before .before .before .before .before .before .before .before .before .before .before .before .before .before .before .before .before .before .before .before .before .before .before .before .before .before .before .pre) (c .before .before .before .before .before .before .before .before .before .before .before .before .before .before .before .before .before .run .ensures)
+same-length-3 c =
+    let at-empty = c .before .before .before .before in
+    let at-run = at-empty .before .before .before .before .before .before .before .before .before .before .before .before .before in
+    let start = at-run .before .before .before .before .before .before .before .before .before .before in
+    at-empty .empty .kept .1 .0 ∙ whole-size (start .pre) (at-run .run .ensures)
 
 same-length-4 : tie.Need-same-length-4
-same-length-4 c = search needs
+same-length-4 c =
+    let at-report = c .before .before .before .before .before .before .before .before .before in
+    at-report .report .kept .1 .0
 
 returns : tie.Need-returns
-returns c = carried (c .before .before .before .before .before .before .before .before .before .before .before .before .before .before .before .before .before .before .before .before .before .before .before .before .before .before .before .pre) (c .before .before .before .before .before .before .before .before .before .before .before .before .before .before .before .before .before .run .ensures) (c .before .before .before .before .before .before .before .before .before .before .report .ensures) (c .before .before .before .before .before .before .clear .ensures) (c .before .before .clear2 .ensures)
+returns c =
+    let at-empty = c .before .before .before .before in
+    let at-report = at-empty .before .before .before .before .before in
+    let at-run = at-report .before .before .before .before .before .before .before .before in
+    let start = at-run .before .before .before .before .before .before .before .before .before .before in
+    carried (start .pre) (at-run .run .ensures) (at-report .report .ensures) (at-empty .empty .ensures)
 
 pub carry-out-spec : {M : Type 1} → statement M
 carry-out-spec =
@@ -57,10 +80,9 @@ carry-out-spec =
     slice-relend-prefix-run
     slice-aggregate-run-2
     run-requires
+    sub-report
     report-requires
-    clear-requires
-    sub-clear
-    clear-requires-2
+    empty-requires
     same-length
     same-length-2
     same-length-3

@@ -16,9 +16,7 @@ enum-known-words : tie.Need-enum-known-words
 enum-known-words c = search needs
 
 carry-out-requires : tie.Need-carry-out-requires
-carry-out-requires c κs =
-    let p = c .before .before .before .before .before .before .before .before .before .before .before .before .before .before .before .before .before .before .before .before .pre in
-    accepts _ _ _ _ (p .0) _ _ _ _ _ _ _ (p .1) (p .2) (c .before .before .before .before .before .before .before .before .before .before .before .check .ensures) (c .before .before .before .before .before .words .given .1)
+carry-out-requires c κs = search (needs, accepts)
 
 same-length : tie.Need-same-length
 same-length c = search needs
@@ -30,7 +28,7 @@ same-length-3 : tie.Need-same-length-3
 same-length-3 c = search needs
 
 returns : tie.Need-returns
-returns c = judged-refused _ _ _ _ (c .before .before .before .before .before .before .before .before .before .before .before .before .before .before .before .before .before .before .before .before .pre .0) _ _ _ _ _ _ _ _ _ _ (c .before .before .before .before .before .before .before .before .before .before .before .check .ensures) (c .before .before .before .before .before .number .given .1) (c .before .before .refuse .ensures)
+returns c = search (needs, judged-refused)
 
 same-length-4 : tie.Need-same-length-4
 same-length-4 c = search needs
@@ -45,7 +43,7 @@ same-length-7 : tie.Need-same-length-7
 same-length-7 c = search needs
 
 returns-2 : tie.Need-returns-2
-returns-2 c = judged-carried _ _ _ _ (c .before .before .before .before .before .before .before .before .before .before .before .before .before .before .before .before .before .before .before .before .before .before .before .before .before .before .before .before .before .pre .0) _ _ _ _ _ _ _ _ _ _ _ _ _ _ (c .before .before .before .before .before .before .before .before .before .before .before .before .before .before .before .before .before .before .before .before .check .ensures) (c .before .before .before .before .before .before .before .before .before .before .before .before .before .before .words .given .1) (c .before .before .before .before .before .before .before .before .carry-out .ensures)
+returns-2 c = search (needs, judged-carried)
 
 pub judge-spec : {M : Type 1} → statement M
 judge-spec =

@@ -17,9 +17,11 @@ same-length c = search needs
 
 returns-2 : tie.Need-returns-2
 returns-2 c =
-    small-code _ _ _ _ _ _ _ _ (c .before .before .before .before .before .if1 .left) (c .before .before .before .before .if2 .taken) _ (c .before .before .refuse .ensures)
-    (c .before .before .before .before .before .before .before .before .slice-known2 .given)
-    (c .before .before .before .before .before .before .before .slice-known3 .given)
+    let at-if1 = c .before .before .before .before .before in
+    let at-slice-known3 = at-if1 .before .before in
+    let at-slice-known2 = at-slice-known3 .before in
+    small-code _ _ _ _ _ _ _ _ (at-if1 .if1 .left) (c .before .before .before .before .if2 .taken) _ (c .before .before .refuse .ensures)
+    (at-slice-known2 .slice-known2 .given) (at-slice-known3 .slice-known3 .given)
 
 refuse-requires-2 : tie.Need-refuse-requires-2
 refuse-requires-2 c κs = search needs
@@ -29,15 +31,22 @@ same-length-2 c = search needs
 
 returns-3 : tie.Need-returns-3
 returns-3 c =
-    small-values _ _ _ _ _ _ _ _ (c .before .before .before .before .before .before .if1 .left) (c .before .before .before .before .before .if2 .left) (c .before .before .before .before .if3 .taken) _ (c .before .before .refuse2 .ensures)
-    (c .before .before .before .before .before .before .before .before .before .slice-known2 .given)
-    (c .before .before .before .before .before .before .before .before .slice-known3 .given)
+    let at-if2 = c .before .before .before .before .before in
+    let at-if1 = at-if2 .before in
+    let at-slice-known3 = at-if1 .before .before in
+    let at-slice-known2 = at-slice-known3 .before in
+    small-values _ _ _ _ _ _ _ _ (at-if1 .if1 .left) (at-if2 .if2 .left) (c .before .before .before .before .if3 .taken) _
+    (c .before .before .refuse2 .ensures) (at-slice-known2 .slice-known2 .given) (at-slice-known3 .slice-known3 .given)
 
 bad-depth-requires : tie.Need-bad-depth-requires
 bad-depth-requires c κs = search needs
 
 refuse-depth-requires : tie.Need-refuse-depth-requires
-refuse-depth-requires c κs = record { code-room = c .before .before .before .before .before .before .if2 .left; values-room = c .before .before .before .before .before .if3 .left; fields-room = c .before .before .before .before .before .before .before .if1 .left }
+refuse-depth-requires c κs =
+    let at-if3 = c .before .before .before .before .before in
+    let at-if2 = at-if3 .before in
+    let at-if1 = at-if2 .before in
+    record { code-room = at-if2 .if2 .left; values-room = at-if3 .if3 .left; fields-room = at-if1 .if1 .left }
 
 same-length-3 : tie.Need-same-length-3
 same-length-3 c = search needs
@@ -50,11 +59,12 @@ same-length-5 c = search needs
 
 returns-4 : tie.Need-returns-4
 returns-4 c =
+    let at-refuse-depth = c .before .before .before .before .before .before in
+    let at-if4 = at-refuse-depth .before .before .before .before in
     let b = c .before .before .before .before .before .before .before .before .before .before .before in
-    call-deep _ _ _ _ _ _ _ _ (b .before .before .before .if1 .left) (b .before .before .if2 .left) (b .before .if3 .left) (sym (c .before .before .before .before .before .before .before .before .before .before .if4 .taken) ∙ b .bad-depth .ensures) _ _ _
-    (c .before .before .before .before .before .before .refuse-depth .ensures)
-    (c .before .before .before .before .slice-known7 .given)
-    (c .before .before .slice-known8 .given)
+    call-deep _ _ _ _ _ _ _ _ (b .before .before .before .if1 .left) (b .before .before .if2 .left) (b .before .if3 .left)
+    (sym (at-if4 .if4 .taken) ∙ b .bad-depth .ensures) _ _ _ (at-refuse-depth .refuse-depth .ensures)
+    (c .before .before .before .before .slice-known7 .given) (c .before .before .slice-known8 .given)
 
 judge-requires : tie.Need-judge-requires
 judge-requires c κs =
@@ -76,10 +86,11 @@ same-length-9 c = search needs
 
 returns-5 : tie.Need-returns-5
 returns-5 c =
+    let at-judge = c .before .before .before .before .before .before .before .before in
+    let at-if4 = at-judge .before .before .before .before .before in
     let b = c .before .before .before .before .before .before .before .before .before .before .before .before .before .before in
-    call-judged _ _ _ _ _ _ _ _ (b .before .before .before .if1 .left) (b .before .before .if2 .left) (b .before .if3 .left) (sym (c .before .before .before .before .before .before .before .before .before .before .before .before .before .if4 .left) ∙ b .bad-depth .ensures) _ _ _ _
-    (c .before .before .before .before .before .before .before .before .judge .ensures)
-    (c .before .before .before .before .slice-known11 .given)
+    call-judged _ _ _ _ _ _ _ _ (b .before .before .before .if1 .left) (b .before .before .if2 .left) (b .before .if3 .left)
+    (sym (at-if4 .if4 .left) ∙ b .bad-depth .ensures) _ _ _ _ (at-judge .judge .ensures) (c .before .before .before .before .slice-known11 .given)
     (c .before .before .slice-known12 .given)
 
 pub rapid-run-spec : {M : Type 1} → statement M

@@ -2,13 +2,14 @@ use Prim.Native.Nat.{_-_}
 use borrow.Author.Needs.{needs}
 use Rattle.resuming.proofs.Following.{Closed, closed-none, closed-start, closed-in, closed-less, closed-next, closed-end}
 use Rattle.resuming.proofs.closing.Statement.{statement}
+use Rattle.paper.specs.Words.{wordLimit}
 use Rattle.resuming.proofs.closing.Tie as tie
 
 abbrev Inv-loop : tie.InvT-loop
 Inv-loop code first end b₀ b = Closed code first end b
 
 abbrev μ-loop : tie.MeasureT-loop
-μ-loop code first end b₀ b = 8192 - b
+μ-loop code first end b₀ b = wordLimit - b
 
 returns : tie.Need-returns Inv-loop μ-loop
 returns c = search (needs, closed-none)

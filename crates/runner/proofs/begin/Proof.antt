@@ -13,13 +13,18 @@ link-requires : tie.Need-link-requires
 link-requires c κs = search (needs, begin-in)
 
 start-words-requires : tie.Need-start-words-requires
-start-words-requires c κs = begin-starts _ _ _ _ (c .before .before .before .before .put .ensures) _ (c .link .ensures .same) (c .before .before .before .before .before .before .before .before .pre)
+start-words-requires c κs =
+    let start = c .before .before .before .before .before .before .before .before in
+    begin-starts _ _ _ _ (c .before .before .before .before .put .ensures) _ (c .link .ensures .same) (start .pre)
 
 same-length : tie.Need-same-length
 same-length c = search needs
 
 returns : tie.Need-returns
-returns c = begun _ _ _ _ (c .before .before .before .before .before .before .before .put .ensures) _ (c .before .before .before .link .ensures .same) _ (c .before .before .start-words .ensures) (c .before .before .before .before .before .before .before .before .before .before .before .pre)
+returns c =
+    let at-put = c .before .before .before .before .before .before .before in
+    let start = at-put .before .before .before .before in
+    begun _ _ _ _ (at-put .put .ensures) _ (c .before .before .before .link .ensures .same) _ (c .before .before .start-words .ensures) (start .pre)
 
 pub begin-spec : {M : Type 1} → statement M
 begin-spec =

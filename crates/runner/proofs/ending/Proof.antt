@@ -3,8 +3,8 @@ use borrow.Author.Needs.{needs}
 use Rattle.runner.proofs.ending.Statement.{statement}
 use Rattle.runner.proofs.ending.Tie as tie
 
-add-if2 : tie.Need-add-if2
-add-if2 c = search needs
+cast-if2 : tie.Need-cast-if2
+cast-if2 c = search needs
 
 returns : tie.Need-returns
 returns c = search (needs, stopped-main)
@@ -40,7 +40,7 @@ pub ending-spec : {M : Type 1} → statement M
 ending-spec =
     tie.close
     (tie.spec
-    add-if2
+    cast-if2
     returns
     sub-t6
     cast-t8

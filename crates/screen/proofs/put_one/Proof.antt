@@ -22,7 +22,8 @@ slice-write-line c = search (needs, one-inside)
 
 add-result : tie.Need-add-result
 add-result c =
-    let h : c .before .next .given .0 .0 + 1 ≤ length (now (c .before .before .before .before .before .before .before .before .args .line)) = search (needs, one-near) in
+    let at-args = c .before .before .before .before .before .before .before .before in
+    let h : c .before .next .given .0 .0 + 1 ≤ length (now (at-args .args .line)) = search (needs, one-near) in
     record { fits = omega arith }
 
 enum-told : tie.Need-enum-told

@@ -1,54 +1,59 @@
--- `screen::put_record` meets its contract.
-use Rattle.screen.proofs.Lines.{fields-line}
+-- `screen::put_record` meets its contract. The loop's invariant: the first k fields stand in front of the line.
+use Prim.Native.Nat.{_-_}
 use borrow.Author.Needs.{needs}
+use Rattle.screen.proofs.Lines.{Lined, lined-none, lined-get, lined-room, lined-more, lined-all}
 use Rattle.screen.proofs.put_record.Statement.{statement}
 use Rattle.screen.proofs.put_record.Tie as tie
 
-get-requires : tie.Need-get-requires
-get-requires c κs = search needs
+abbrev Inv-loop : tie.InvT-loop
+Inv-loop line₀ fields at₀ k₀ line at k = Lined line₀ line fields k at
 
-get-requires-2 : tie.Need-get-requires-2
-get-requires-2 c κs = search needs
+abbrev μ-loop : tie.MeasureT-loop
+μ-loop line₀ fields at₀ k₀ line at k = 8 - k
 
-get-requires-3 : tie.Need-get-requires-3
-get-requires-3 c κs = search needs
+loop-holds : tie.Need-loop-holds Inv-loop μ-loop
+loop-holds c = lined-none _ _
 
-get-requires-4 : tie.Need-get-requires-4
-get-requires-4 c κs = search needs
+mul-get : tie.Need-mul-get Inv-loop μ-loop
+mul-get c = search needs
 
-get-requires-5 : tie.Need-get-requires-5
-get-requires-5 c κs = search needs
+get-requires : tie.Need-get-requires Inv-loop μ-loop
+get-requires c κs = search (needs, lined-get)
 
-get-requires-6 : tie.Need-get-requires-6
-get-requires-6 c κs = search needs
+behind-requires : tie.Need-behind-requires Inv-loop μ-loop
+behind-requires c κs = search needs
 
-get-requires-7 : tie.Need-get-requires-7
-get-requires-7 c κs = search needs
+put-one-requires : tie.Need-put-one-requires Inv-loop μ-loop
+put-one-requires c κs = search (needs, lined-room)
 
-get-requires-8 : tie.Need-get-requires-8
-get-requires-8 c κs = search needs
+add-k : tie.Need-add-k Inv-loop μ-loop
+add-k c = search needs
 
-put-line-requires : tie.Need-put-line-requires
-put-line-requires c κs = search needs
+loop-less : tie.Need-loop-less Inv-loop μ-loop
+loop-less c = search needs
 
-same-length : tie.Need-same-length
+loop-again : tie.Need-loop-again Inv-loop μ-loop
+loop-again c = search (needs, lined-more)
+
+same-length : tie.Need-same-length Inv-loop μ-loop
 same-length c = search needs
 
-returns : tie.Need-returns
-returns c = search (needs, fields-line)
+returns : tie.Need-returns Inv-loop μ-loop
+returns c = search (needs, lined-all)
 
 pub put-record-spec : {M : Type 1} → statement M
 put-record-spec =
     tie.close
     (tie.spec
+    Inv-loop
+    μ-loop
+    loop-holds
+    mul-get
     get-requires
-    get-requires-2
-    get-requires-3
-    get-requires-4
-    get-requires-5
-    get-requires-6
-    get-requires-7
-    get-requires-8
-    put-line-requires
+    behind-requires
+    put-one-requires
+    add-k
+    loop-less
+    loop-again
     same-length
     returns)

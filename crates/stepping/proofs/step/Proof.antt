@@ -1,5 +1,6 @@
 use borrow.Author.Needs.{needs}
-use Rattle.stepping.proofs.Arms.{NoneOf, by-end, by-return, called, exited, fell-off, for-call-element, for-call-word, for-module-element, for-module-word, handed-on, performed, reads-num, step-inside, to-call-element, to-call-word, to-module-element, to-module-word, was-read, prints, writes, wrote, wrote-of}
+use Rattle.stepping.proofs.Arms.{NoneOf, by-end, by-return, called, exits, fell-off, for-call-element, for-call-word, for-module-element, for-module-word, handed-on}
+use Rattle.stepping.proofs.Arms.{performed, reads-num, step-inside, to-call-element, to-call-word, to-module-element, to-module-word, was-read, prints, writes, wrote, wrote-of}
 use Rattle.stepping.proofs.step.Statement.{statement}
 use Rattle.stepping.proofs.step.Tie as tie
 
@@ -169,7 +170,7 @@ returns-13 : tie.Need-returns-13
 returns-13 c = search (needs, handed-on)
 
 returns-14 : tie.Need-returns-14
-returns-14 c = search (needs, exited)
+returns-14 c = search (needs, exits)
 
 same-length-13 : tie.Need-same-length-13
 same-length-13 c = search needs
@@ -254,7 +255,9 @@ returns-26 c = search (needs, performed)
 
 returns-27 : tie.Need-returns-27
 unfolding NoneOf
-returns-27 c = fell-off _ _ _ _ _ _ _ (c .before .before .before .before .before .before .before .pre) _ (c .before .head .ensures) (c .match .rest) _
+returns-27 c =
+    let start = c .before .before .before .before .before .before .before in
+    fell-off _ _ _ _ _ _ _ (start .pre) _ (c .before .head .ensures) (c .match .rest) _
 
 pub step-spec : {M : Type 1} → statement M
 step-spec =

@@ -6,10 +6,10 @@ use lib.ListN.{length, drop}
 use Rattle.paper.specs.Answer.{recordSize, Record, recordBytes, refusedWith}
 use Rattle.code.specs.Cells.{errnoCell}
 use Rattle.code.specs.Windows.{writtenCell, usedCell}
-use Rattle.runner.specs.declared.Ended.{Ended}
 use Rattle.cells.specs.Words.{Got, PutField}
 use Rattle.cells.proofs.Paper.{record-law}
-use Rattle.pendant.specs.Carries.{fieldsOf, refusedFields, reported, Written}
+use Rattle.layout.specs.Parts.{halfPart}
+use Rattle.records.specs.Records.{fieldsOf, refusedFields, reported, Written}
 
 pub fields-written : (a b c d e f g h i : List ℕ) (ending refusal offset steps errno output inputs words : ℕ) → recordSize ≤ length a
     → PutField a b 0 ending → PutField b c 1 refusal → PutField c d 2 offset → PutField d e 3 steps
@@ -22,12 +22,12 @@ pub refusal-written : (before after : List ℕ) (number offset : ℕ) → Writte
 unfolding refusedFields refusedWith
 refusal-written before after number offset w = w
 
-pub report-written : (fields fields′ values : List ℕ) (e : Ended) (steps words errno low high output used : ℕ)
-    → Got values errnoCell errno → Got values writtenCell low → Got values (suc writtenCell) high → output ≡ low + 4294967296 * high → Got values usedCell used
-    → Written fields fields′ (fieldsOf (e .ending) 0 (e .place) (steps - e .left) errno output used words) → Written fields fields′ (reported e steps values words)
+pub report-written : (fields fields′ values : List ℕ) (ending place made words errno low high output used : ℕ)
+    → Got values errnoCell errno → Got values writtenCell low → Got values (suc writtenCell) high → output ≡ low + halfPart * high → Got values usedCell used
+    → Written fields fields′ (fieldsOf ending 0 place made errno output used words) → Written fields fields′ (reported ending place made values words)
 unfolding reported
-report-written fields fields′ values e steps words errno low high output used a b c d u w =
-    let o = d ∙ ap₂ (λ (x y : ℕ). x + 4294967296 * y) b c in
-    let f : fieldsOf (e .ending) 0 (e .place) (steps - e .left) errno output used words ≡ reported e steps values words =
-    λ i. record { ending = e .ending; refusal = 0; offset = e .place; steps = steps - e .left; errno = a i; output = o i; inputs = u i; words = words } in
+report-written fields fields′ values ending place made words errno low high output used a b c d u w =
+    let o = d ∙ ap₂ (λ (x y : ℕ). x + halfPart * y) b c in
+    let f : fieldsOf ending 0 place made errno output used words ≡ reported ending place made values words =
+    λ i. record { ending = ending; refusal = 0; offset = place; steps = made; errno = a i; output = o i; inputs = u i; words = words } in
     record { bytes = w .bytes ∙ ap (λ (x : Record). recordBytes x ++ drop recordSize fields) f }

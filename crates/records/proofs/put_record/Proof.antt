@@ -1,45 +1,35 @@
 use borrow.Author.Needs.{needs}
-use Rattle.pendant.proofs.Records.{fields-written}
-use Rattle.pendant.proofs.put_record.Statement.{statement}
-use Rattle.pendant.proofs.put_record.Tie as tie
+use Rattle.records.proofs.Records.{fields-written}
+use Rattle.records.proofs.put_record.Statement.{statement}
+use Rattle.records.proofs.put_record.Tie as tie
 
--- src/lib.rt:62:5
 put-field-requires : tie.Need-put-field-requires
 put-field-requires c κs = search needs
 
--- src/lib.rt:63:5
 put-field-requires-2 : tie.Need-put-field-requires-2
 put-field-requires-2 c κs = search needs
 
--- src/lib.rt:64:5
 put-field-requires-3 : tie.Need-put-field-requires-3
 put-field-requires-3 c κs = search needs
 
--- src/lib.rt:65:5
 put-field-requires-4 : tie.Need-put-field-requires-4
 put-field-requires-4 c κs = search needs
 
--- src/lib.rt:66:5
 put-field-requires-5 : tie.Need-put-field-requires-5
 put-field-requires-5 c κs = search needs
 
--- src/lib.rt:67:5
 put-field-requires-6 : tie.Need-put-field-requires-6
 put-field-requires-6 c κs = search needs
 
--- src/lib.rt:68:5
 put-field-requires-7 : tie.Need-put-field-requires-7
 put-field-requires-7 c κs = search needs
 
--- src/lib.rt:69:5
 put-field-requires-8 : tie.Need-put-field-requires-8
 put-field-requires-8 c κs = search needs
 
--- src/lib.rt:48:1
 same-length : tie.Need-same-length
 same-length c = search needs
 
--- src/lib.rt:48:1
 returns : tie.Need-returns
 returns c =
     let c8 = c .before .before in
