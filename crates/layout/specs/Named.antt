@@ -6,7 +6,7 @@ use Rattle.layout.specs.Rules.{smallStore, wrongDepth, longText, badByte
 use Rattle.layout.specs.Answers.{entered, left, ended, lacked, handed, firstError}
 use Rattle.layout.specs.Kinds.{aVariable, anArray, aConstant, aLoop, aRoutine, anErrno, anErrorNumber}
 use Rattle.layout.specs.Types.{noType, numType, boolType}
-use Rattle.layout.specs.Parts.{valuePart, linkPart, sizePart, charactersPart, loopPart, spelledPart, rightPart, rightWays, halfPart}
+use Rattle.layout.specs.Parts.{valuePart, linkPart, sizePart, charactersPart, loopPart, spelledPart, rightPart, rightWays, halfPart, kindPart, typePart}
 use Rattle.paper.specs.Words.{textLimit, wordLimit, nameLimit, largestNumber, stringLimit}
 use Rattle.paper.specs.Expressions.{nestings, noOperator, products, sums, relations, conjunctions, disjunctions}
 use Rattle.paper.specs.Types.{elementLimit}
@@ -48,7 +48,7 @@ abbrev pub types : List ℕ
 types = noType ∷ numType ∷ boolType ∷ []
 
 abbrev pub parts : List ℕ
-parts = valuePart ∷ linkPart ∷ sizePart ∷ charactersPart ∷ loopPart ∷ spelledPart ∷ rightPart ∷ rightWays ∷ bias ∷ []
+parts = valuePart ∷ linkPart ∷ sizePart ∷ charactersPart ∷ loopPart ∷ spelledPart ∷ rightPart ∷ rightWays ∷ bias ∷ kindPart ∷ typePart ∷ []
 
 abbrev pub limits : List ℕ
 limits = textLimit ∷ wordLimit ∷ routineLimit ∷ moduleWordLimit ∷ routineWordLimit ∷ elementLimit ∷ depthLimit ∷ storeWords ∷ storeBytes ∷ nameLimit ∷ stringLimit ∷ largestNumber ∷ nestings ∷ recordSize ∷ []

@@ -35,3 +35,10 @@ rightWays = 4
 -- a number in two cells: its high half above its low one
 abbrev pub halfPart : ℕ
 halfPart = 4294967296
+
+-- a meaning's op: its kind above its type's bit, and that above the bit of a routine's word
+abbrev pub kindPart : ℕ
+kindPart = 4
+
+abbrev pub typePart : ℕ
+typePart = 2

@@ -41,6 +41,9 @@ pub const MAIN_ROUTINE: usize = FIRST_WINDOW + ROUTINE;
 
 pub const WRITTEN_HIGH: usize = WRITTEN + 1;
 
+// as a word's value has it
+pub const ERRNO_VALUE: u32 = ERRNO as u32;
+
 // All of them, as the specs name them: a wrong one breaks this contract.
 pub fn all() -> [usize; 13]
     ensures { λ r. ⌜ r ≡ cells ⌝ }

@@ -16,6 +16,13 @@ pub const ROUTINE_WORDS: usize = 64;
 
 pub const ELEMENTS: usize = 512;
 
+// the same where words are counted, and where a size is still a number
+pub const MODULE_COUNT: u32 = MODULE_WORDS as u32;
+
+pub const ROUTINE_COUNT: u32 = ROUTINE_WORDS as u32;
+
+pub const ELEMENT_COUNT: i64 = ELEMENTS as i64;
+
 // live calls
 pub const DEPTH: usize = 64;
 

@@ -28,6 +28,11 @@ pub const RIGHTS: u32 = 4;
 // what a number is held above: how far it is from the lowest
 pub const BIAS: u32 = 8388607;
 
+// a meaning's op: its kind above its type's bit, and that above the bit of a routine's word
+pub const KIND: u32 = 4;
+
+pub const TYPE: u32 = 2;
+
 // The same with a sign, and as words count.
 pub const SIGNED_BIAS: i64 = BIAS as i64;
 
@@ -43,7 +48,7 @@ pub const CHARACTERS_AT: usize = CHARACTERS as usize;
 pub const LOOP_IN_HEAD: u32 = VALUE * LOOP;
 
 // All of them, as the specs name them: a wrong one breaks this contract.
-pub fn all() -> [u32; 9]
+pub fn all() -> [u32; 11]
     ensures { λ r. ⌜ r ≡ parts ⌝ }
 {
     [
@@ -56,5 +61,7 @@ pub fn all() -> [u32; 9]
         RIGHT,
         RIGHTS,
         BIAS,
+        KIND,
+        TYPE,
     ]
 }
