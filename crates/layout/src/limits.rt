@@ -24,6 +24,11 @@ pub const STORE_CELLS: usize = 16384;
 
 pub const STORE_BYTES: usize = 65536;
 
+// The same where words and routines are counted in 32 bits.
+pub const ROUTINES_32: u32 = ROUTINES as u32;
+
+pub const ROUTINE_WORDS_32: u32 = ROUTINE_WORDS as u32;
+
 // All of them, as the specs name them: a wrong one breaks this contract.
 pub fn all() -> [usize; 9]
     ensures { λ r. ⌜ r ≡ limits ⌝ }

@@ -23,6 +23,9 @@ pub const SPELLED: u32 = 8192;
 // what a number is held above: how far it is from the lowest
 pub const BIAS: u32 = 8388607;
 
+// The same where a string's bytes are counted as the text counts them.
+pub const CHARACTERS_AT: usize = CHARACTERS as usize;
+
 // All of them, as the specs name them: a wrong one breaks this contract.
 pub fn all() -> [u32; 7]
     ensures { λ r. ⌜ r ≡ parts ⌝ }
