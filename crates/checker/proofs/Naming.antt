@@ -52,7 +52,7 @@ use Rattle.sites.specs.declared.Walked as declarations
 use Rattle.sites.specs.declared.Walked.the-variants as declared
 use Rattle.sites.specs.Walks.{upto}
 use Rattle.declarations.specs.Answers.{DataStand, ModuleFilled, SaysModule, DeclaresModule}
-use Rattle.simple.specs.Around.{Unread, offsetIn}
+use Rattle.around.specs.Around.{Unread, offsetIn}
 use Rattle.routines.specs.declared.Walked.{Walked}
 use Rattle.routines.specs.declared.Walked.the-variants as routines
 use Rattle.routines.specs.Answers.{groundOf}

@@ -11,7 +11,8 @@ use Rattle.paper.specs.Terms.{Memory}
 use Rattle.paper.specs.Trees.{Expr, Target, Simple, firstSimple, assign, assignCall, call, returns, raises, exits, retries, triesNext, writes, reads, Statement, Statements, Arms, Cases, RoutineList, Routine, Module}
 use Rattle.paper.specs.Names.{Scopes, sortIn}
 use Rattle.paper.specs.Declarations.{moduleData}
-use Rattle.paper.specs.Steps.{Action, store, callFor, callOf, giveBack, raise, handOn, exit, retry, tryNext, write, read, choose, select, testWhile, enterFor, repeatFor, endList, Step, Code, Program, step, actionOf, simpleStep, stepsOf, stepsOfList, stepsOfArms, stepsOfCases, listSteps, codeOf, programOf}
+use Rattle.paper.specs.Steps.{Action, store, callFor, callOf, giveBack, raise, handOn, exit, retry, tryNext, write, read, choose, select, testWhile}
+use Rattle.paper.specs.Steps.{enterFor, repeatFor, endList, Step, Code, Program, step, actionOf, simpleStep, stepsOf, stepsOfList, stepsOfArms, stepsOfCases, listSteps, codeOf, programOf}
 use Rattle.paper.specs.Running.{noCode, codeAt}
 use Rattle.code.specs.Cells.{placeAt}
 use Rattle.code.specs.Steps.{Head, noHead, stepIn}

@@ -31,7 +31,7 @@ use Rattle.store.specs.Chains.{Chain, startsIn, Rise}
 use Rattle.sites.specs.Walks.{upto, nameOf, nameWords, KeepsAll}
 use Rattle.declarations.specs.Answers.{firstOf, CoversData, RoutineStands, SaysRoutine, DeclaresRoutine}
 use Rattle.parameters.specs.Answers.{OtherWords, ParametersStand, SaysParameters, DeclaresParameters}
-use Rattle.simple.specs.Around.{Unread, Apart}
+use Rattle.around.specs.Around.{Unread, Apart}
 use Rattle.program.proofs.Orders.{lies}
 use Rattle.routines.specs.declared.Walked as mine
 use Rattle.routines.specs.declared.Walked.the-variants as answers

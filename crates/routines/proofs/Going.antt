@@ -26,11 +26,12 @@ use Rattle.store.specs.Promises.{Kept, Linked}
 use Rattle.store.proofs.Keeping.{cell-below, cell-above}
 use Rattle.links.specs.Raw.{Ground, RawList, endOf}
 use Rattle.links.proofs.Framing.{same-cells, list-frame}
-use Rattle.simple.specs.declared.Setting.{Setting}
-use Rattle.simple.specs.Around.{Apart, resultIf, Tells}
-use Rattle.simple.specs.Around as simple
+use Rattle.around.specs.declared.Setting.{Setting}
+use Rattle.around.specs.Around.{Apart, resultIf, Tells}
+use Rattle.around.specs.Around as simple
 use Rattle.statements.specs.declared.Walked.{Walked}
-use Rattle.statements.specs.Answers.{Outside, Lists, Listed, Answer}
+use Rattle.compounds.specs.Here.{Outside}
+use Rattle.statements.specs.Answers.{Lists, Listed, Answer}
 use Rattle.program.specs.Routines.{wordsInAll, groundFor, RawLines}
 use Rattle.program.proofs.Orders.{lies}
 use Rattle.routines.specs.Answers.{groundOf}

@@ -29,13 +29,15 @@ use Rattle.expressions.specs.Answers.{typeIf}
 use Rattle.heads.specs.Trees.{wordOf, headFor, headsFor, earlierOf}
 use Rattle.heads.proofs.Numbering.{drop-less, heads-length, head-at, word-at, numbered-back}
 use Rattle.sites.specs.Sites.{filling}
-use Rattle.simple.specs.Around.{resultIf}
+use Rattle.around.specs.Around.{resultIf}
 use Rattle.program.proofs.Orders.{lies}
 use Rattle.routines.specs.declared.Walked.{Walked}
 use Rattle.routines.specs.declared.Walked.the-variants.{Upto, Faulty}
 use Rattle.routines.specs.Answers.{Begins, Goes, Walks, Says, Checks}
 use Rattle.routines.specs.Parts.{namesRoutine, resultIn, nameWith, ScopeStands, SaysScope, Scoped}
 use Rattle.routines.proofs.Naming.{kind-routine, only-routine, name-means, name-other}
+use Rattle.layout.specs.Rules.{takenName, tooMany}
+use Rattle.layout.specs.Kinds as kinds
 
 -- ---- the head
 type-bool : (s : ℕ) → s ≡ 90 → typeOf s ≡ aBool
@@ -60,11 +62,11 @@ unfolding resultIn
 read-num C h d e = rw (ne-eqb (opAt C h) 69 d) (rw (ne-eqb (opAt C (h + 1)) 90 e))
 
 -- a cell that names the routine
-names-so : (cell h : ℕ) → opIn cell / 4 ≡ 5 → valueIn cell ≡ h → namesRoutine cell h ≡ true
+names-so : (cell h : ℕ) → opIn cell / 4 ≡ kinds.aRoutine → valueIn cell ≡ h → namesRoutine cell h ≡ true
 unfolding namesRoutine
 names-so cell h a b = rw (eq-eqb (opIn cell / 4) 5 a) (eq-eqb (valueIn cell) h b)
 
-names-kind : (cell h : ℕ) → namesRoutine cell h ≡ true → opIn cell / 4 ≡ 5
+names-kind : (cell h : ℕ) → namesRoutine cell h ≡ true → opIn cell / 4 ≡ kinds.aRoutine
 unfolding namesRoutine
 names-kind cell h q = by-same (opIn cell / 4) 5 (λ e. e) (λ d. false-true (rw (ne-eqb (opIn cell / 4) 5 d) at q))
 
@@ -164,19 +166,19 @@ module _ (text code values : List ℕ) (k h : ℕ) where
           ∙ numbered-back R k (valueIn cell) inside (p .1) in
           false-true (sym q ∙ names-so cell h (p .0) (sym v)))
 
-      pub routine-taken : namesRoutine cell h ≡ false → Checks text code values code values k h (Faulty 10 name)
+      pub routine-taken : namesRoutine cell h ≡ false → Checks text code values code values k h (Faulty takenName name)
       unfolding Says
       routine-taken q = record {
         is = λ b.
-            subst (λ (i : ℕ). Says b code values (Faulty 10 i)) (sym (name-so b))
+            subst (λ (i : ℕ). Says b code values (Faulty takenName i)) (sym (name-so b))
             (found-in-head (b .stands .W) (b .stands .m) (b .stands .earlier) k (b .stands .form) (head-taken (b .stands .W) (b .stands .earlier) k (b .stands .r) (taken b q)));
       }
 
-      pub routine-many : namesRoutine cell h ≡ true → k ≡ 64 → Checks text code values code values k h (Faulty 16 name)
+      pub routine-many : namesRoutine cell h ≡ true → k ≡ 64 → Checks text code values code values k h (Faulty tooMany name)
       unfolding Says
       routine-many q e = record {
         is = λ b.
-            subst (λ (i : ℕ). Says b code values (Faulty 16 i)) (sym (name-so b))
+            subst (λ (i : ℕ). Says b code values (Faulty tooMany i)) (sym (name-so b))
             (found-in-head (b .stands .W) (b .stands .m) (b .stands .earlier) k (b .stands .form) (head-crosses (b .stands .W) (b .stands .earlier) k (b .stands .r) (free b q) (crosses-here k e)));
       }
 

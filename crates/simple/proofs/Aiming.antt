@@ -41,11 +41,13 @@ use Rattle.faults.proofs.Expressions.{grows}
 use Rattle.faults.proofs.Statements.{target-first}
 use Rattle.links.specs.Raw.{Quiet}
 use Rattle.links.proofs.Ops.{low-still}
-use Rattle.simple.specs.Answers.{Fine}
+use Rattle.around.specs.Answers.{Fine}
 use Rattle.simple.specs.Parts.{WrongName, scalar-aims, element-aims, Targets, Aimed, AimTells, AimAnswer, TargetJudged, Elements, ElementJudged}
 use Rattle.simple.proofs.Asking.{no-operator, level-brace, quiet-above, Told, asks, typed-told, typed-first, typed-long}
 use Rattle.simple.proofs.Arguing.{quiet-append, quiet-word}
 use Rattle.simple.proofs.Naming.{name-means}
+use Rattle.code.specs.Steps.{aTarget}
+use Rattle.layout.specs.Kinds.{aVariable, anArray}
 
 -- ---- answers by their cases
 module _ (m n : ℕ) (j : types.Judged) (spot : Spot) (before after : List ℕ) (at to : ℕ) where
@@ -67,7 +69,7 @@ module _ (m n : ℕ) (j : types.Judged) (spot : Spot) (before after : List ℕ) 
     aimed-first number word e = subst (AimTells m n j spot before after at to) e (a .tells)
 
 -- ---- kinds of names
-no-variable : (routine : ℕ → ℕ) (kind bool own value : ℕ) → (kind ≡ 1 → ⊥) → variableIn (meaningWith routine kind bool own value) ≡ none
+no-variable : (routine : ℕ → ℕ) (kind bool own value : ℕ) → (kind ≡ aVariable → ⊥) → variableIn (meaningWith routine kind bool own value) ≡ none
 unfolding meaningWith variableIn
 no-variable routine kind bool own value d =
     let z = ne-eqb kind 1 d in
@@ -79,7 +81,7 @@ no-variable routine kind bool own value d =
     (λ g. test (eqb kind 7) (λ t. rw (z, meaningWith) (rw b (rw c (rw e (rw f (rw g (rw t)))))))
     (λ h. rw (z, meaningWith) (rw b (rw c (rw e (rw f (rw g (rw h))))))))))))
 
-no-array : (routine : ℕ → ℕ) (kind bool own value : ℕ) → (kind ≡ 2 → ⊥) → arrayIn (meaningWith routine kind bool own value) ≡ none
+no-array : (routine : ℕ → ℕ) (kind bool own value : ℕ) → (kind ≡ anArray → ⊥) → arrayIn (meaningWith routine kind bool own value) ≡ none
 unfolding meaningWith arrayIn
 no-array routine kind bool own value d =
     let z = ne-eqb kind 2 d in
@@ -152,7 +154,7 @@ module _ (code values : List ℕ) (at : ℕ) (g : Targets code values at) where
         plain-is : (g .t .index ≡ none) × (g .to ≡ at + 1)
         plain-is = index-none (sortIn (g .known .W)) (Parses (sortIn (g .known .W))) (g .is .index) (λ q. no (next-sort ∙ q))
 
-        plain-wrong : (number : ℕ) → (cell % 256 / 4 ≡ 1 → ⊥) → WrongName (cell % 256 / 4) number → First (record { number = number; at = at }) (judgeTarget (g .known .W) (g .known .S) (g .t) .faults)
+        plain-wrong : (number : ℕ) → (cell % 256 / 4 ≡ aVariable → ⊥) → WrongName (cell % 256 / 4) number → First (record { number = number; at = at }) (judgeTarget (g .known .W) (g .known .S) (g .t) .faults)
         plain-wrong number d w =
             let M = meaning (g .known .S) (spelled (g .known .W) at) in
             target-first (g .known .W) (g .known .S) (record { number = number; at = at }) [] (g .is)
@@ -160,7 +162,7 @@ module _ (code values : List ℕ) (at : ℕ) (g : Targets code values at) where
             ∙ scalar-wrong M at number (ap variableIn (sym means) ∙ no-variable (g .known .routine) (cell % 256 / 4) (cell / 2 % 2) (cell % 2) (cell / 256) d)
             (ap wrongName (sym means) ∙ w .is (g .known .routine) (cell / 2 % 2) (cell % 2) (cell / 256)))
 
-        module _ (k : cell % 256 / 4 ≡ 1) where
+        module _ (k : cell % 256 / 4 ≡ aVariable) where
           plain-means : variableIn (meaning (g .known .S) (spelled (g .known .W) at)) ≡ some (typeWith (cell / 2 % 2), refWith (cell % 2) (cell / 256))
           unfolding meaningWith variableIn
           plain-means = ap variableIn (sym means) ∙ rw k
@@ -174,7 +176,7 @@ module _ (code values : List ℕ) (at : ℕ) (g : Targets code values at) where
               judged-scalar (g .known .W) (g .known .S) (g .t) at (g .is .named) (plain-is .0)
               ∙ scalar-right (meaning (g .known .S) (spelled (g .known .W) at)) at (typeWith (cell / 2 % 2)) (refWith (cell % 2) (cell / 256)) plain-means
 
-          plain-fine : (after : List ℕ) → Linked code after at (128 + cell % 2) (cell / 256) (linkAt (wordsOf code) at)
+          plain-fine : (after : List ℕ) → Linked code after at (aTarget + cell % 2) (cell / 256) (linkAt (wordsOf code) at)
               → Fine (judgeTarget (g .known .W) (g .known .S) (g .t) .faults) code after at (g .to) (at + 1)
               (Aimed (g .known .m) (g .known .n) (wordsOf after) (judgeTarget (g .known .W) (g .known .S) (g .t)) (spotOf (g .known .W) (g .known .S) (g .t)) at (g .to) (eqb (cell / 2 % 2) 1))
           plain-fine after l =
@@ -207,10 +209,10 @@ module _ (code values : List ℕ) (at cell : ℕ) (ec : cell ≡ meaningAt (word
   target-element b after r j = record { is = λ g. j .is (element-stands code values at g cell ec s es b) }
 
   module _ (no : s ≡ 8 → ⊥) where
-    pub target-wrong : (number : ℕ) → (cell % 256 / 4 ≡ 1 → ⊥) → WrongName (cell % 256 / 4) number → TargetJudged code values code at (Faulty number at)
+    pub target-wrong : (number : ℕ) → (cell % 256 / 4 ≡ aVariable → ⊥) → WrongName (cell % 256 / 4) number → TargetJudged code values code at (Faulty number at)
     target-wrong number d w = record { is = λ g. aim-first _ _ _ _ code code at (g .to) (Faulty number at) number at refl refl (plain-wrong code values at g cell ec s es no number d w) }
 
-    pub target-right : cell % 256 / 4 ≡ 1 → (after : List ℕ) → Linked code after at (128 + cell % 2) (cell / 256) (linkAt (wordsOf code) at) → TargetJudged code values after at (Typed (eqb (cell / 2 % 2) 1) (at + 1))
+    pub target-right : cell % 256 / 4 ≡ aVariable → (after : List ℕ) → Linked code after at (aTarget + cell % 2) (cell / 256) (linkAt (wordsOf code) at) → TargetJudged code values after at (Typed (eqb (cell / 2 % 2) 1) (at + 1))
     target-right k after l = record { is = λ g. aim-fine _ _ _ _ code after at (g .to) (eqb (cell / 2 % 2) 1) (at + 1) (plain-fine code values at g cell ec s es no k after l) }
 
 -- ---- an element
@@ -237,7 +239,7 @@ module _ (code values : List ℕ) (cell at : ℕ) (g : Elements code values cell
   pub element-small : at + 2 < 8192
   element-small = omega (arith, index-on, index-load .last)
 
-  array-wrong : (number : ℕ) → (cell % 256 / 4 ≡ 2 → ⊥) → WrongName (cell % 256 / 4) number
+  array-wrong : (number : ℕ) → (cell % 256 / 4 ≡ anArray → ⊥) → WrongName (cell % 256 / 4) number
       → First (record { number = number; at = at }) (judgeTarget (g .targets .known .W) (g .targets .known .S) (g .targets .t) .faults)
   array-wrong number d w =
       let W = g .targets .known .W in
@@ -248,7 +250,7 @@ module _ (code values : List ℕ) (cell at : ℕ) (g : Elements code values cell
       ∙ element-wrong M at number (braces .e) (judge W false S (braces .e)) (ap arrayIn (sym (g .means)) ∙ no-array (g .targets .known .routine) (cell % 256 / 4) (cell / 2 % 2) (cell % 2) (cell / 256) d)
       (ap wrongName (sym (g .means)) ∙ w .is (g .targets .known .routine) (cell / 2 % 2) (cell % 2) (cell / 256)))
 
-  module _ (k : cell % 256 / 4 ≡ 2) where
+  module _ (k : cell % 256 / 4 ≡ anArray) where
     array-means : arrayIn (meaning (g .targets .known .S) (spelled (g .targets .known .W) at)) ≡ some (typeWith (cell / 2 % 2), refWith (cell % 2) (cell / 256 % 1024), cell / 256 / 1024)
     unfolding meaningWith arrayIn
     array-means = ap arrayIn (sym (g .means)) ∙ rw k
@@ -283,7 +285,7 @@ module _ (code values : List ℕ) (cell at : ℕ) (g : Elements code values cell
         index-end =
             (omega (arith, index-told .next-is, index-load .last), omega (arith, index-on, index-load .room, index-long), omega (arith, index-on, index-load .room, index-long))
 
-        module _ (one : List ℕ) (l : Linked mid one at (128 + 2 + cell % 2) (cell / 256) (linkAt (wordsOf mid) at)) (after : List ℕ)
+        module _ (one : List ℕ) (l : Linked mid one at (aTarget + 2 + cell % 2) (cell / 256) (linkAt (wordsOf mid) at)) (after : List ℕ)
             (x : Linked one after (at + 1) (opAt (wordsOf one) (at + 1)) (valueAt (wordsOf one) (at + 1)) end) where
           -- the brace's word has its op still
           brace-op : opAt (wordsOf after) (at + 1) ≡ openBrace
@@ -346,16 +348,16 @@ module _ (code values : List ℕ) (cell at : ℕ) (g : Elements code values cell
               }
 
 module _ (code values : List ℕ) (cell at : ℕ) where
-  pub element-no-array : (number : ℕ) → (cell % 256 / 4 ≡ 2 → ⊥) → WrongName (cell % 256 / 4) number → ElementJudged code values code cell at (Faulty number at)
+  pub element-no-array : (number : ℕ) → (cell % 256 / 4 ≡ anArray → ⊥) → WrongName (cell % 256 / 4) number → ElementJudged code values code cell at (Faulty number at)
   element-no-array number d w = record { is = λ g. aim-first _ _ _ _ code code at (g .targets .to) (Faulty number at) number at refl refl (array-wrong code values cell at g number d w) }
 
-  module _ (k : cell % 256 / 4 ≡ 2) (mid : List ℕ) (r : Judged) (o : OfType code values mid false false (at + 2) r) where
+  module _ (k : cell % 256 / 4 ≡ anArray) (mid : List ℕ) (r : Judged) (o : OfType code values mid false false (at + 2) r) where
     pub element-faulty : (number word : ℕ) → r ≡ Faulty number word → ElementJudged code values mid cell at r
     element-faulty number word e = record {
       is = λ g. aim-first _ _ _ _ code mid at (g .targets .to) r number word e (index-long code values cell at g k mid r o) (index-first code values cell at g k mid r o number word e);
     }
 
-    pub element-typed : (b : Bool) (end : ℕ) → r ≡ Typed b end → (one : List ℕ) → Linked mid one at (128 + 2 + cell % 2) (cell / 256) (linkAt (wordsOf mid) at) → (after : List ℕ)
+    pub element-typed : (b : Bool) (end : ℕ) → r ≡ Typed b end → (one : List ℕ) → Linked mid one at (aTarget + 2 + cell % 2) (cell / 256) (linkAt (wordsOf mid) at) → (after : List ℕ)
         → Linked one after (at + 1) (opAt (wordsOf one) (at + 1)) (valueAt (wordsOf one) (at + 1)) end → ElementJudged code values after cell at (Typed (eqb (cell / 2 % 2) 1) (end + 1))
     element-typed b end e one l after x = record {
       is = λ g. aim-fine _ _ _ _ code after at (g .targets .to) (eqb (cell / 2 % 2) 1) (end + 1) (element-fine code values cell at g k mid r o b end e one l after x);

@@ -36,7 +36,7 @@ use Rattle.faults.proofs.Expressions.{grows, of-type-inside}
 use Rattle.faults.proofs.Statements.{exprs-inside}
 use Rattle.links.specs.Resolved.{isLed, goesByLink, goesByValue, goesByPlace}
 use Rattle.links.specs.Raw.{Quiet}
-use Rattle.simple.specs.Around.{Around, Unread, Apart}
+use Rattle.around.specs.Around.{Around, Unread, Apart}
 use Rattle.simple.specs.Parts.{passed, Passed, Reads, reads-one, reads-more, Rest, More, MoreJudged}
 use Rattle.simple.proofs.Asking.{no-operator, level-comma, quiet-below, quiet-above, Told, asks, told, told-first, answer-first, answer-fine}
 
@@ -230,7 +230,7 @@ module _ {text values : List ℕ} (around : Around text values) (a b₀ z : ℕ)
         next-end =
             (omega (arith, next-told .next-is, next-in, r .unread .loaded .last), omega (arith, next-told .next-is, next-on), omega (arith, rest-room, next-long), omega (arith, next-told .next-is, next-in))
 
-        module _ (after : List ℕ) (l : Linked mid after end 159 0 n) where
+        module _ (after : List ℕ) (l : Linked mid after end aNextArgument 0 n) where
           next-kept : Kept now after end (next .n)
           next-kept = kept-on (kept-wider (next-told .kept) end (next .n) (omega arith) (omega arith)) (kept-wider (l .kept) end (next .n) (omega arith) (omega (arith, next-on)))
 
@@ -348,7 +348,7 @@ module _ (code values now : List ℕ) (p b q end : ℕ) (run : Runs code values 
               let x = next-end (g .around) (g .a) (g .b₀) (g .z) now q end _ _ _ (run .is g .is) (comma-here g) mid j h bool n e in
               (x .0, x .1, x .2)
 
-          pub run-on : (after : List ℕ) → Linked mid after end 159 0 n → Runs code values after p b (q + 3) n
+          pub run-on : (after : List ℕ) → Linked mid after end aNextArgument 0 n → Runs code values after p b (q + 3) n
           run-on after l = record {
             is = λ g.
                 let r = run .is g .is in

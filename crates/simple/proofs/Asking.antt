@@ -30,9 +30,10 @@ use Rattle.faults.proofs.Expressions.{grows, of-type-first}
 use Rattle.links.specs.Resolved.{isLed}
 use Rattle.links.specs.Raw.{Quiet, RawTerm}
 use Rattle.links.proofs.Ops.{quiet-low}
-use Rattle.simple.specs.Around.{Around, groundOf}
-use Rattle.simple.specs.Answers.{Answer, Fine, Tell}
+use Rattle.around.specs.Around.{Around, groundOf}
+use Rattle.around.specs.Answers.{Answer, Fine, Tell}
 use Rattle.simple.specs.Parts.{Values, Valued}
+use Rattle.code.specs.Steps.{aTarget}
 
 -- ---- no operator follows
 pub no-operator : (s k : ℕ) → s ≡ k → levelOf k ≡ 0 → levelOf s ≡ 0
@@ -70,7 +71,7 @@ pub record Told {values : List ℕ} (k : Known values) (fs : List Fault) (before
   pub kept : Kept before after at to
   pub quiet : Quiet (wordsOf after) at to
 
-module _ {code values : List ℕ} (k : Known values) (sorts : (i : ℕ) → sortIn (k .W) i < 128) (d at : ℕ) (e : Expr) (to : ℕ) (p : Parses (sortIn (k .W)) d at e to) (l : Loaded (k .W) code at to)
+module _ {code values : List ℕ} (k : Known values) (sorts : (i : ℕ) → sortIn (k .W) i < aTarget) (d at : ℕ) (e : Expr) (to : ℕ) (p : Parses (sortIn (k .W)) d at e to) (l : Loaded (k .W) code at to)
     (no : levelOf (sortIn (k .W) to) ≡ 0) where
   unfoldable pub asks : expressions.Stands code values 5 at
   asks = record {
@@ -84,8 +85,8 @@ module _ {code values : List ℕ} (k : Known values) (sorts : (i : ℕ) → sort
     loaded = l;
   }
 
-  low-before : (i : ℕ) → at ≤ i → i < to → opAt (wordsOf code) i < 128
-  low-before i h g = subst (λ (o : ℕ). o < 128) (sym (l .words i h (omega arith) .sort)) (sorts i)
+  low-before : (i : ℕ) → at ≤ i → i < to → opAt (wordsOf code) i < aTarget
+  low-before i h g = subst (λ (o : ℕ). o < aTarget) (sym (l .words i h (omega arith) .sort)) (sorts i)
 
   module _ (after : List ℕ) (t : DataType) (j : types.Judged) (q : j .faults ≡ ofType (k .W) t (k .S) e) (x : j .term ≡ termOf (k .W) (k .S) e) (r : Judged) (h : Judges (k .m) (k .n) code after at to j r) where
     pub told : (b : Bool) (next : ℕ) → r ≡ Typed b next → Told k (ofType (k .W) t (k .S) e) code after e at to next

@@ -33,8 +33,8 @@ use Rattle.faults.specs.First.{First}
 use Rattle.faults.proofs.Expressions.{grows}
 use Rattle.links.specs.Raw.{Quiet, RawTarget, RawAssign}
 use Rattle.links.proofs.Ops.{low-still}
-use Rattle.simple.specs.Around.{Around, groundOf}
-use Rattle.simple.specs.Answers.{Fine}
+use Rattle.around.specs.Around.{Around, groundOf}
+use Rattle.around.specs.Answers.{Fine}
 use Rattle.simple.specs.Parts.{Aims, scalar-aims, element-aims, ValueSide, ValueAssigned}
 use Rattle.simple.proofs.Asking.{no-operator, level-semicolon, quiet-below, quiet-above, Told, asks, typed-told, typed-first, typed-long, answer-first, answer-fine, raw-term, raw-term-after}
 use Rattle.simple.proofs.Arguing.{link-below}

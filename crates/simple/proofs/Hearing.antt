@@ -15,7 +15,7 @@ use Rattle.paper.specs.Checks.{judgeTarget, simpleFaults}
 use Rattle.paper.specs.Steps.{unquoted, spotOf}
 use Rattle.cells.specs.Words.{wordsOf}
 use Rattle.code.specs.Cells.{opIn, valueIn, valueAt, linkAt}
-use Rattle.code.specs.Steps.{aTarget}
+use Rattle.code.specs.Steps.{aTarget, aRead}
 use Rattle.grammar.specs.Form.{Parses}
 use Rattle.grammar.proofs.Places.{target-grows}
 use Rattle.grammar.proofs.Inversions as inversions
@@ -31,14 +31,16 @@ use Rattle.faults.proofs.First.{first-fault}
 use Rattle.faults.proofs.Expressions.{grows}
 use Rattle.faults.proofs.Statements.{target-orderly}
 use Rattle.links.specs.Raw.{RawDoes, RawText}
-use Rattle.simple.specs.Around.{groundOf}
-use Rattle.simple.specs.Answers.{Fine, Answers}
+use Rattle.around.specs.Around.{groundOf}
+use Rattle.around.specs.Answers.{Fine}
+use Rattle.simple.specs.Answers.{Answers}
 use Rattle.simple.specs.Parts.{Begins, BeginsOf, BegunOf, Targets, Aimed, AimAnswer, TargetJudged, Strings, Spelled}
 use Rattle.simple.proofs.Asking.{quiet-below, quiet-above}
 use Rattle.simple.proofs.Aiming.{aimed-fine, aimed-first}
 use Rattle.simple.proofs.Assigning.{aims-below, aims-above, raw-target}
 use Rattle.simple.proofs.Stating.{stands-room, stated-first, stated-fine}
 use Rattle.simple.proofs.Speaking.{string-at, raw-text}
+use Rattle.layout.specs.Rules.{wrongType}
 
 -- ---- a target that has to be a num
 no-first : {A : Type 0} (f : Fault) → First f [] → A
@@ -48,7 +50,7 @@ wanted-refused : (j : types.Judged) (i : ℕ) → j .type ≡ refusedPiece → w
 unfolding wanted differs faultIf
 wanted-refused j i t = rw (t, wanted) (append-none (j .faults))
 
-wanted-bool : (j : types.Judged) (i : ℕ) → j .faults ≡ [] → j .type ≡ aBool → wanted aNum i j ≡ fault 13 i
+wanted-bool : (j : types.Judged) (i : ℕ) → j .faults ≡ [] → j .type ≡ aBool → wanted aNum i j ≡ fault wrongType i
 unfolding wanted differs faultIf
 wanted-bool j i n t = rw (n, t, wanted)
 
@@ -107,13 +109,13 @@ module _ (code values : List ℕ) (i : ℕ) (c : Begins 92 code values i) where
       pub read-end : (b + 3 < 8200) × (i * 8 + 8 ≤ length mid)
       read-end = (omega (arith, aimed .next-is, read-is .after, c .stands .unread .loaded .last), omega (arith, stands-room code values i (c .stands) .0, read-answer .long))
 
-      read-wrong : bool ≡ true → Answers (c .stands) mid (Faulty 13 (i + 1))
+      read-wrong : bool ≡ true → Answers (c .stands) mid (Faulty wrongType (i + 1))
       unfolding simpleFaults typeIf
       read-wrong y =
-          stated-first code values i (c .stands) (reads i (read-is .t) (read-is .n + 1)) (read-is .is) mid (Faulty 13 (i + 1)) 13 (i + 1) refl (read-answer .long)
-          (subst (First (record { number = 13; at = i + 1 }))
+          stated-first code values i (c .stands) (reads i (read-is .t) (read-is .n + 1)) (read-is .is) mid (Faulty wrongType (i + 1)) wrongType (i + 1) refl (read-answer .long)
+          (subst (First (record { number = wrongType; at = i + 1 }))
           (sym (wanted-bool (judgeTarget (c .stands .around .known .W) (c .stands .around .known .S) (read-is .t)) (read-is .t .name) (aimed .none) (aimed .written .type-is ∙ ap typeIf y) ∙ ap (fault 13) (read-is .target .named)))
-          (first-fault 13 (i + 1)))
+          (first-fault wrongType (i + 1)))
 
       module _ (n : bool ≡ false) where
         pub read-string : Strings (c .stands .text) mid (b + 1)
@@ -135,7 +137,7 @@ module _ (code values : List ℕ) (i : ℕ) (c : Begins 92 code values i) where
           pub read-room : (i * 8 + 8 ≤ length one) × (length one ≡ length code)
           read-room = (omega (arith, read-end .1, read-linked .kept .long), read-linked .kept .long ∙ read-answer .long)
 
-          read-right : (after : List ℕ) → Linked one after i 146 (b + 1) (b + 3) → Answers (c .stands) after (Typed bool (b + 3))
+          read-right : (after : List ℕ) → Linked one after i aRead (b + 1) (b + 3) → Answers (c .stands) after (Typed bool (b + 3))
           unfolding simpleFaults RawDoes typeIf
           read-right after l =
               let g = c .stands in
@@ -193,8 +195,8 @@ module _ (text code values : List ℕ) (i : ℕ) (mid : List ℕ) (r : Judged) (
   heard-faulty number word e = record { is = λ c. read-faulty code values i (c .begins) mid r t number word e }
 
   module _ (bool : Bool) (b : ℕ) (e : r ≡ Typed bool b) where
-    pub heard-wrong : bool ≡ true → BegunOf 92 text code values mid i (Faulty 13 (i + 1))
+    pub heard-wrong : bool ≡ true → BegunOf 92 text code values mid i (Faulty wrongType (i + 1))
     heard-wrong y = record { is = λ c. read-wrong code values i (c .begins) mid r t bool b e y }
 
-    pub heard-right : bool ≡ false → (one : List ℕ) → Spelled text mid one (b + 1) → (after : List ℕ) → Linked one after i 146 (b + 1) (b + 3) → BegunOf 92 text code values after i (Typed bool (b + 3))
+    pub heard-right : bool ≡ false → (one : List ℕ) → Spelled text mid one (b + 1) → (after : List ℕ) → Linked one after i aRead (b + 1) (b + 3) → BegunOf 92 text code values after i (Typed bool (b + 3))
     heard-right n one sp after l = record { is = λ c. read-right code values i (c .begins) mid r t bool b e n one (spelled-there text code values i c mid r t bool b e n one sp) after l }

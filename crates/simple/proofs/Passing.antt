@@ -17,6 +17,7 @@ use Rattle.expressions.specs.Answers.{typeIf, Says, Judges, Checked}
 use Rattle.expressions.proofs.Judging.{wanted-first}
 use Rattle.expressions.proofs.Around.{says-typed, says-faulty}
 use Rattle.simple.specs.Parts.{typeIn, TypeDiffers, passed, Passed}
+use Rattle.layout.specs.Rules.{wrongType}
 
 pub type-at : (C : List ℕ) (p asked : ℕ) → asked ≡ headAt C p → typeIn asked ≡ typeAt C p
 unfolding typeIn typeAt
@@ -26,7 +27,7 @@ wanted-fine : (t : DataType) (i : ℕ) (j : types.Judged) → j .faults ≡ [] �
 unfolding wanted faultIf
 wanted-fine t i j n d = rw (n, d, wanted)
 
-wanted-bad : (t : DataType) (i : ℕ) (j : types.Judged) → j .faults ≡ [] → differs t (j .type) ≡ true → wanted t i j ≡ fault 13 i
+wanted-bad : (t : DataType) (i : ℕ) (j : types.Judged) → j .faults ≡ [] → differs t (j .type) ≡ true → wanted t i j ≡ fault wrongType i
 unfolding wanted faultIf
 wanted-bad t i j n d = rw (n, d, wanted)
 
@@ -41,7 +42,7 @@ module _ (code values after : List ℕ) (p at asked : ℕ) (e : asked ≡ headAt
         subst (Judges (s .known .m) (s .known .n) code after at (s .to) (passed t (first (s .e)) j)) (sym q)
         (record {
           says = record {
-            others = f .others ++ faultIf (differs t (j .type)) 13 (first (s .e));
+            others = f .others ++ faultIf (differs t (j .type)) wrongType (first (s .e));
             faults-are = wanted-first t (first (s .e)) j (record { number = number; at = word }) (f .others) (f .faults-are);
           };
           kept = c .is s .kept;
@@ -53,7 +54,7 @@ module _ (code values after : List ℕ) (p at asked : ℕ) (e : asked ≡ headAt
     differs-is : (x : DataType) → x ≡ typeIf bool → differs (typeAt (wordsOf code) p) x ≡ t
     differs-is x z = ap (differs (typeAt (wordsOf code) p)) z ∙ sym (ap (λ (y : DataType). differs y (typeIf bool)) (type-at (wordsOf code) p asked e)) ∙ d .is
 
-    pub passed-wrong : t ≡ true → Passed code values after p at (Faulty 13 at)
+    pub passed-wrong : t ≡ true → Passed code values after p at (Faulty wrongType at)
     unfolding Says fault
     passed-wrong y = record {
       is = λ s.

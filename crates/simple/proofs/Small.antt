@@ -15,13 +15,15 @@ use Rattle.code.specs.Signatures.{firstParameter}
 use Rattle.names.specs.Meanings.{meaningWith}
 use Rattle.expressions.specs.Answers.{typeIf}
 use Rattle.simple.specs.Parts.{WrongName, typeIn, TypeDiffers, IsCall}
+use Rattle.layout.specs.Rules.{unknownName, wrongKind}
+use Rattle.layout.specs.Kinds.{anErrorNumber}
 
 -- ---- names of a wrong kind
-pub wrong-none : (kind : ℕ) → kind ≡ 0 → WrongName kind 11
+pub wrong-none : (kind : ℕ) → kind ≡ 0 → WrongName kind unknownName
 unfolding meaningWith wrongName
 wrong-none kind e = record { is = λ routine bool own value. rw e }
 
-unknown-kind : (kind : ℕ) → 7 < kind → (routine : ℕ → ℕ) (bool own value : ℕ) → wrongName (meaningWith routine kind bool own value) ≡ 11
+unknown-kind : (kind : ℕ) → anErrorNumber < kind → (routine : ℕ → ℕ) (bool own value : ℕ) → wrongName (meaningWith routine kind bool own value) ≡ unknownName
 unfolding meaningWith wrongName
 unknown-kind kind h routine bool own value =
     rw (
@@ -35,29 +37,29 @@ unknown-kind kind h routine bool own value =
       meaningWith,
     )
 
-pub wrong-high : (kind : ℕ) → 7 < kind → WrongName kind 11
+pub wrong-high : (kind : ℕ) → anErrorNumber < kind → WrongName kind unknownName
 wrong-high kind h = record { is = unknown-kind kind h }
 
 above : (k n : ℕ) → n ≤ k → (k ≡ n → ⊥) → suc n ≤ k
 above k n h d = omega (arith, h, d)
 
-pub wrong-other : (kind : ℕ) → (kind ≡ 0 → ⊥) → kind ≤ 7 → WrongName kind 12
+pub wrong-other : (kind : ℕ) → (kind ≡ 0 → ⊥) → kind ≤ anErrorNumber → WrongName kind wrongKind
 unfolding meaningWith wrongName
 wrong-other kind z h = from-one (above kind 0 (omega arith) z)
   where
-    from-five : 5 ≤ kind → WrongName kind 12
+    from-five : 5 ≤ kind → WrongName kind wrongKind
     from-five l =
         by-same kind 5 (λ e. record { is = λ routine bool own value. rw e })
         (λ a. by-same kind 6 (λ e. record { is = λ routine bool own value. rw e })
         (λ b. let m = above kind 6 (above kind 5 l a) b in let e : kind ≡ 7 = omega (arith, m, h) in record { is = λ routine bool own value. rw e }))
 
-    from-three : 3 ≤ kind → WrongName kind 12
+    from-three : 3 ≤ kind → WrongName kind wrongKind
     from-three l =
         by-same kind 3 (λ e. record { is = λ routine bool own value. rw e })
         (λ a. by-same kind 4 (λ e. record { is = λ routine bool own value. rw e })
         (λ b. from-five (above kind 4 (above kind 3 l a) b)))
 
-    from-one : 1 ≤ kind → WrongName kind 12
+    from-one : 1 ≤ kind → WrongName kind wrongKind
     from-one l =
         by-same kind 1 (λ e. record { is = λ routine bool own value. rw e })
         (λ a. by-same kind 2 (λ e. record { is = λ routine bool own value. rw e })

@@ -19,8 +19,9 @@ use Rattle.store.specs.Promises.{Kept}
 use Rattle.faults.specs.First.{First}
 use Rattle.faults.proofs.Expressions.{grows}
 use Rattle.links.specs.Raw.{RawDoes, RawSimple}
-use Rattle.simple.specs.Around.{offsetIn, groundOf}
-use Rattle.simple.specs.Answers.{Fine, Answer, Stands, Answers}
+use Rattle.around.specs.Around.{offsetIn, groundOf}
+use Rattle.around.specs.Answers.{Fine, Answer}
+use Rattle.simple.specs.Answers.{Stands, Answers}
 use Rattle.simple.proofs.Asking.{answer-first, answer-fine, answered-fine, answered-first}
 
 module _ (code values : List ℕ) (at : ℕ) (g : Stands code values at) where

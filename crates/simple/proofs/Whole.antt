@@ -33,9 +33,10 @@ use Rattle.faults.proofs.First.{widen, first-inside, first-left, leads-later}
 use Rattle.faults.proofs.Expressions.{grows, of-type-inside}
 use Rattle.faults.proofs.Statements.{arguments-inside, target-inside, call-inside, result-inside}
 use Rattle.links.specs.Raw.{RawDoes}
-use Rattle.simple.specs.declared.Setting.{Setting}
-use Rattle.simple.specs.Around.{Around, groundOf, Unread, Calls}
-use Rattle.simple.specs.Answers.{Fine, Answers, Statement, Stated}
+use Rattle.around.specs.declared.Setting.{Setting}
+use Rattle.around.specs.Around.{Around, groundOf, Unread, Calls}
+use Rattle.around.specs.Answers.{Fine}
+use Rattle.simple.specs.Answers.{Answers, Statement, Stated}
 use Rattle.simple.specs.Parts.{Begins, Begun, BeginsIn, BegunIn, BeginsOf, BegunOf, Assigns, Assigned, CallsOf, CalledOf, IsCall, Targets, Aimed, AimAnswer, TargetJudged, ValueSide, ValueAssigned, ArgumentsStand, CallAssigns, CallAssigned}
 use Rattle.simple.proofs.Arguing.{unread-part, unread-after, apart-kept}
 use Rattle.simple.proofs.Aiming.{aimed-fine, aimed-first}

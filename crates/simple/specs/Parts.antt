@@ -36,11 +36,13 @@ use Rattle.store.specs.Promises.{Linked}
 use Rattle.faults.specs.First.{First}
 use Rattle.links.specs.Resolved.{isLed}
 use Rattle.links.specs.Raw.{Quiet, RawArguments, RawCallee, RawAssign, RawAssignCall, RawValued}
-use Rattle.simple.specs.declared.Setting.{Setting}
+use Rattle.around.specs.declared.Setting.{Setting}
 use Rattle.simple.specs.declared.Callee.{Callee}
 use Rattle.simple.specs.declared.Callee.the-variants.{At, Wrong}
-use Rattle.simple.specs.Around.{Quoted, Around, groundOf, Unread, Apart, Calls, Tells}
-use Rattle.simple.specs.Answers.{Fine, Answer, Stands, Answers}
+use Rattle.around.specs.Around.{Quoted, Around, groundOf, Unread, Apart, Calls, Tells}
+use Rattle.around.specs.Answers.{Fine, Answer}
+use Rattle.simple.specs.Answers.{Stands, Answers}
+use Rattle.layout.specs.Rules.{barred}
 
 -- ---- a statement by its first word
 pub record Begins (sort : ℕ) (code values : List ℕ) (at : ℕ) : Type 0 where
@@ -374,7 +376,7 @@ pub record CallAssigned (code values after : List ℕ) (wants : Bool) (i b : ℕ
 -- a statement of one word
 pub record Alone (before after : List ℕ) (op : ℕ) (fine : Bool) (i : ℕ) (r : Judged) : Type 0 where
   pub yes : fine ≡ true → Linked before after i op 0 (i + 2) × (r ≡ Typed false (i + 2))
-  pub no : fine ≡ false → (after ≡ before) × (r ≡ Faulty 17 i)
+  pub no : fine ≡ false → (after ≡ before) × (r ≡ Faulty barred i)
 
 -- a statement at i with an expression of a type, from a word on up to its semicolon
 pub record Values (code values : List ℕ) (from i : ℕ) : Type 0 where

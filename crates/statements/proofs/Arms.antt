@@ -1,13 +1,12 @@
 -- A full IF is walked arm by arm: what is left of it, and what has been written so far.
-use mathlib.Core.Path.{_≡_, refl, sym, ap, ap₂, subst, _∙_}
+use mathlib.Core.Path.{_≡_, refl, sym, ap, subst, _∙_}
 use mathlib.Core.Bool.{Bool, true, false}
 use mathlib.Core.List.{List, [], _++_}
 use mathlib.Core.Option.{Option, none, some}
 use Prim.Native.Nat.{ℕ, _+_, _-_, _*_, _/_, _%_, _<_, _≤_}
 use native.Mathlib.Omega.{arith}
-use lib.Dec.{eqb}
 use lib.ListN.{length}
-use Rattle.laws.proofs.Tests.{by-same, by-less}
+use Rattle.laws.proofs.Tests.{by-same}
 use Rattle.cells.specs.Words.{wordsOf}
 use Rattle.paper.specs.Sorts.{ELSE, ELSEIF}
 use Rattle.paper.specs.Words.{Word}
@@ -18,9 +17,9 @@ use Rattle.paper.specs.Terms.{Memory}
 use Rattle.paper.specs.Types.{Fault, ofType}
 use Rattle.paper.specs.Checks.{forsInList, forsInArms, listFaults, armFaults}
 use Rattle.paper.specs.Checks as checks
-use Rattle.code.specs.Cells.{opIn, valueIn, headAt, tailAt, opAt, valueAt, placeAt, linkAt}
+use Rattle.code.specs.Cells.{opIn, valueIn, headAt, opAt, valueAt, placeAt, linkAt}
 use Rattle.code.specs.Steps.{anIf, anElseIf}
-use Rattle.grammar.specs.Form.{Parses, ListAt, ArmsAt, ElseAt}
+use Rattle.grammar.specs.Form.{Parses, ElseAt}
 use Rattle.grammar.proofs.Inversions.{FirstArm, arms-first}
 use Rattle.grammar.proofs.Places.{list-grows, arms-grow, else-grows}
 use Rattle.expressions.specs.declared.Judged.{Judged}
@@ -28,22 +27,25 @@ use Rattle.expressions.specs.declared.Judged.the-variants as judged
 use Rattle.store.specs.Promises.{Kept, Linked}
 use Rattle.expressions.specs.Answers.{typeIf, OfType}
 use Rattle.expressions.specs.Answers as expressions
-use Rattle.faults.specs.First.{First, Inside, no-fault}
-use Rattle.faults.proofs.First.{_and_, widen, every-none, first-before, first-after, nothing-in-both}
+use Rattle.faults.specs.First.{First, Inside}
+use Rattle.faults.proofs.First.{_and_, widen, every-none, first-before}
 use Rattle.faults.proofs.Expressions.{grows, of-type-inside}
 use Rattle.faults.proofs.Statements.{list-inside, arms-inside, else-inside}
-use Rattle.links.specs.Raw.{Ground, SameWords, RawWord, RawTerm, RawList, LastOf, an-else, no-else, RawArms, Begins, NoMore, RawElse, RawStatement}
+use Rattle.links.specs.Raw.{SameWords, RawWord, RawTerm, RawList, LastOf, an-else, no-else, RawArms, Begins, NoMore, RawElse, RawStatement}
 use Rattle.links.proofs.Framing.{same-part}
 use Rattle.links.proofs.Orders.{last-order, list-order}
-use Rattle.simple.specs.declared.Setting.{Setting}
-use Rattle.simple.specs.Around.{Around, groundOf, offsetIn, Calls}
+use Rattle.around.specs.declared.Setting.{Setting}
+use Rattle.around.specs.Around.{Around, groundOf, offsetIn}
 use Rattle.statements.specs.declared.Walked.{Walked}
 use Rattle.statements.specs.declared.Walked.the-variants.{Faulty}
-use Rattle.statements.specs.Answers.{upto, Outside, Here, SameValues, Lists, Done, Answer, Listed}
-use Rattle.statements.specs.Parts.{ThenAt, Thens, Thened, BehindElse, ArmEnded, Elses, ElseWritten, Elsed}
+use Rattle.statements.specs.Answers.{upto, SameValues, Lists, Done, Answer, Listed}
+use Rattle.compounds.specs.Here.{Outside, Here}
+use Rattle.statements.specs.Parts.{ThenAt, Thens, Thened, Elses, ElseWritten, Elsed}
+use Rattle.compounds.specs.Parts.{ArmEnded}
 use Rattle.statements.proofs.Same.{same-values, lists-as, elses-as, expression-as, of-type-as, answer-as}
-use Rattle.statements.proofs.Frames.{outside-same, outside-wider, outside-on, kept-outside, same-before, same-behind, same-on, head-before, head-behind, tail-before, here-from, here-on, here-part, calls-behind, unread-behind, term-same, list-same, op-same, value-same, link-same, word-same, linked-outside, linked-word}
-use Rattle.statements.proofs.Judging.{inside-both, expression-stands, judged-faulty, judged-long, judged-none, judged-next, judged-term, judged-kept}
+use Rattle.compounds.proofs.Frames.{outside-same, outside-wider, outside-on, kept-outside, same-before, same-behind, same-on, head-before, head-behind, tail-before, here-from}
+use Rattle.compounds.proofs.Frames.{here-on, here-part, calls-behind, term-same, list-same, op-same, value-same, link-same, word-same, linked-outside, linked-word}
+use Rattle.compounds.proofs.Judging.{inside-both, expression-stands, judged-faulty, judged-long, judged-none, judged-next, judged-term, judged-kept}
 use Rattle.statements.proofs.Walking.{upto-done, faulty-first, done-answer, first-answer, faulty-answer}
 
 -- ---- the words of what is left
@@ -100,7 +102,7 @@ pub record Arming {text code values : List ℕ} {k : Setting} {used i first : �
 pub record Armings (text code values : List ℕ) (k : Setting) (used i first : ℕ) (now values′ : List ℕ) (op c t n : ℕ) : Type 0 where
   pub is : (g : Thens text code values k used i first) → Arming g now values′ op c t n
 
-pub arms-begin : (text code values : List ℕ) (k : Setting) (used i first : ℕ) → Armings text code values k used i first code values 148 i first used
+pub arms-begin : (text code values : List ℕ) (k : Setting) (used i first : ℕ) → Armings text code values k used i first code values anIf i first used
 unfolding Opened
 arms-begin text code values k used i first = record {
   is = λ g. record {
@@ -447,7 +449,9 @@ module _ (text code values : List ℕ) (k : Setting) (used i first : ℕ) (now v
                             first = ends .written .first;
                             arms-are = x .on (wordsOf four) (ends .written .first) (kept-on (wordsOf four) to-four) (λ h. head-kept h ∙ head-four)
                                 (arm-raw (wordsOf four) (ends .written .first) to-four head-four no-more);
-                            otherwise-is = subst (λ (c3 : ℕ). RawElse (groundOf a) (a .known .n) (wordsOf four) (λ (x2 y2 : ℕ). RawList (groundOf a) (a .known .n) (wordsOf four) (g .o) (a .known .S) (used + (forsInList (g .b) + forsInArms (g .rest))) x2 y2) c3 (ends .written .first) (g .to)) (sym (none-left .1))
+                            otherwise-is = subst (λ (c3 : ℕ). RawElse (groundOf a) (a .known .n) (wordsOf four)
+                                (λ (x2 y2 : ℕ). RawList (groundOf a) (a .known .n) (wordsOf four) (g .o) (a .known .S) (used + (forsInList (g .b) + forsInArms (g .rest))) x2 y2) c3 (ends .written .first) (g .to))
+                                (sym (none-left .1))
                                 (subst (λ (u3 : ℕ). RawElse (groundOf a) (a .known .n) (wordsOf four) (λ (x2 y2 : ℕ). RawList (groundOf a) (a .known .n) (wordsOf four) (g .o) (a .known .S) u3 x2 y2) m (ends .written .first) (g .to)) counted else-same);
                           };
                           outside = outside-on (outside-on (outside-wider i (g .to) changed (omega arith) (omega (arith, order, ending))) (outside-wider i (g .to) (ends .outside) (omega (arith, x .low, x .next, order)) (omega arith)))
@@ -542,7 +546,7 @@ module _ (text code values : List ℕ) (k : Setting) (used i first : ℕ) (now v
                   unfolding forsInArms
                   new-count = let z : forsInArms (x .rest) ≡ forsInList (f .b) + forsInArms (f .rest) = ap forsInArms (f .is) in omega (arith, x .count, z)
 
-                  goes : Arming g three values″ 155 m (f .n) (n + forsInList (x .b))
+                  goes : Arming g three values″ anElseIf m (f .n) (n + forsInList (x .b))
                   unfolding Opened total else-faults
                   goes = record {
                     same = done .same;
@@ -580,10 +584,10 @@ module _ (text code values : List ℕ) (k : Setting) (used i first : ℕ) (now v
                       sort-one : opAt (wordsOf one) m ≡ sortIn (a .known .W) m
                       sort-one = ap opIn (head-behind (done .outside) m (omega arith)) ∙ x .here .unread .loaded .words m (omega (arith, order)) (omega (arith, order, ending)) .sort
 
-                  goes-on : Arming g three values″ 155 e m2 u
+                  goes-on : Arming g three values″ anElseIf e m2 u
                   goes-on =
-                      subst (λ (v : ℕ). Arming g three values″ 155 e m2 v) (sym (done .used-is))
-                      (subst (λ (v : ℕ). Arming g three values″ 155 e v (n + forsInList (x .b))) (sym then-at) (subst (λ (v : ℕ). Arming g three values″ 155 v (f .n) (n + forsInList (x .b))) (sym (done .next-is)) goes))
+                      subst (λ (v : ℕ). Arming g three values″ anElseIf e m2 v) (sym (done .used-is))
+                      (subst (λ (v : ℕ). Arming g three values″ anElseIf e v (n + forsInList (x .b))) (sym then-at) (subst (λ (v : ℕ). Arming g three values″ anElseIf v (f .n) (n + forsInList (x .b))) (sym (done .next-is)) goes))
 
   -- ---- for whatever the statement is
   module _ (one values″ : List ℕ) (r : Walked) (l : Listed text now values′ one values″ k n (t + 1) r) where
@@ -602,5 +606,5 @@ module _ (text code values : List ℕ) (k : Setting) (used i first : ℕ) (now v
         pub arm-wrong : (number word : ℕ) → j ≡ judged.Faulty number word → Thened text code values three values″ k used i first (Faulty number word)
         arm-wrong number word q2 = record { is = λ g. condition-wrong g one values″ r l e u q two ended s es h three j o2 number word q2 }
 
-        pub arms-go : (bool : Bool) (m2 : ℕ) → j ≡ judged.Typed bool m2 → Armings text code values k used i first three values″ 155 e m2 u
+        pub arms-go : (bool : Bool) (m2 : ℕ) → j ≡ judged.Typed bool m2 → Armings text code values k used i first three values″ anElseIf e m2 u
         arms-go bool m2 q2 = record { is = λ g. goes-on g one values″ r l e u q two ended s es h three j o2 bool m2 q2 }

@@ -4,13 +4,12 @@ use mathlib.Core.Bool.{Bool, true, false}
 use mathlib.Core.List.{List, [], _++_}
 use Prim.Native.Nat.{ℕ, _+_, _-_, _*_, _<_, _≤_}
 use native.Mathlib.Omega.{arith}
-use lib.Dec.{eqb}
 use lib.ListN.{length}
 use borrow.Author.Tests.{ne-eqb}
 use Rattle.laws.proofs.Tests.{false-true, by-same}
 use Rattle.cells.specs.Words.{wordsOf}
 use Rattle.paper.specs.Sorts.{NAME, RETURN, RAISE, EXIT, RETRY, TRYNEXT, TPWRITE, TPREADNUM, IF, THEN}
-use Rattle.paper.specs.Trees.{Statement, compactIf, fullIf, arm}
+use Rattle.paper.specs.Trees.{Statement}
 use Rattle.paper.specs.Expressions.{levelOf, startsSimple}
 use Rattle.paper.specs.Names.{aBool, sortIn}
 use Rattle.paper.specs.Types.{Fault, ofType}
@@ -24,19 +23,20 @@ use Rattle.expressions.specs.declared.Judged.the-variants as judged
 use Rattle.store.specs.Promises.{Kept}
 use Rattle.expressions.specs.Answers.{typeIf, OfType}
 use Rattle.expressions.specs.Answers as expressions
-use Rattle.faults.specs.First.{First, Inside}
+use Rattle.faults.specs.First.{Inside}
 use Rattle.faults.proofs.First.{first-before}
 use Rattle.faults.proofs.Expressions.{grows, of-type-inside}
 use Rattle.faults.proofs.Statements.{simple-inside, list-inside, else-inside}
 use Rattle.links.specs.Raw.{RawTerm, RawStatement}
-use Rattle.simple.specs.declared.Setting.{Setting}
-use Rattle.simple.specs.Around.{Around, groundOf, offsetIn}
+use Rattle.around.specs.declared.Setting.{Setting}
+use Rattle.around.specs.Around.{Around, groundOf, offsetIn}
 use Rattle.statements.specs.declared.Walked.{Walked}
 use Rattle.statements.specs.declared.Walked.the-variants.{Faulty}
-use Rattle.statements.specs.Answers.{Outside, Here, Stands, Answer, StatementAnswer, Begins, Begun}
+use Rattle.compounds.specs.Here.{Outside, Here}
+use Rattle.statements.specs.Answers.{Stands, Answer, StatementAnswer, Begins, Begun}
 use Rattle.statements.specs.Parts.{Compacts, Compacted, ThenAt, Thens, Thened}
-use Rattle.statements.proofs.Frames.{outside-wider, kept-outside, here-on, calls-behind}
-use Rattle.statements.proofs.Judging.{inside-both, expression-stands, judged-faulty, judged-long, judged-none, judged-next, judged-term, judged-kept}
+use Rattle.compounds.proofs.Frames.{outside-wider, kept-outside, here-on, calls-behind}
+use Rattle.compounds.proofs.Judging.{inside-both, expression-stands, judged-faulty, judged-long, judged-none, judged-next, judged-term, judged-kept}
 use Rattle.statements.proofs.Walking.{first-answer, answer-behind}
 use Rattle.statements.proofs.Arms.{then-order, rest-inside}
 

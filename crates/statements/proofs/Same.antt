@@ -1,12 +1,10 @@
 -- What is known with a value store is known with another that has the same cells.
-use mathlib.Core.Path.{_≡_, refl, sym, ap, subst, _∙_}
+use mathlib.Core.Path.{refl, sym, subst, _∙_}
 use mathlib.Core.Bool.{Bool}
 use mathlib.Core.List.{List}
-use Prim.Native.Nat.{ℕ, _+_, _≤_, _<_}
-use native.Mathlib.Omega.{arith}
-use lib.ListN.{length, getD}
-use Rattle.cells.specs.Words.{wordsOf}
-use Rattle.paper.specs.Names.{Text, meaning}
+use Prim.Native.Nat.{ℕ, _≤_, _<_}
+use lib.ListN.{getD}
+use Rattle.paper.specs.Names.{meaning}
 use Rattle.paper.specs.Types.{Fault}
 use Rattle.names.specs.Meanings.{Means}
 use Rattle.expressions.specs.declared.Judged.{Judged}
@@ -14,12 +12,12 @@ use Rattle.expressions.specs.Known.{Known}
 use Rattle.expressions.specs.Answers.{OfType}
 use Rattle.expressions.specs.Answers as expressions
 use Rattle.constants.specs.Answers.{Fine}
-use Rattle.faults.specs.First.{First}
-use Rattle.simple.specs.declared.Setting.{Setting}
-use Rattle.simple.specs.Around.{Around, Calls}
+use Rattle.around.specs.declared.Setting.{Setting}
+use Rattle.around.specs.Around.{Around}
 use Rattle.statements.specs.declared.Walked.{Walked}
 use Rattle.statements.specs.declared.Walked.the-variants.{Upto, Faulty}
-use Rattle.statements.specs.Answers.{SameValues, Here, Stands, Lists, Done, Tell, Answer}
+use Rattle.statements.specs.Answers.{SameValues, Stands, Lists, Tell, Answer}
+use Rattle.compounds.specs.Here.{Here}
 use Rattle.statements.specs.Parts.{Elses}
 
 pub same-values : (values : List ℕ) → SameValues values values

@@ -1,16 +1,16 @@
 -- WHILE: its condition, its list, and what is written of it.
 use mathlib.Core.Path.{_≡_, refl, sym, ap, subst, _∙_}
 use mathlib.Core.Bool.{Bool, true, false}
-use mathlib.Core.List.{List, [], _++_}
-use Prim.Native.Nat.{ℕ, _+_, _-_, _*_, _%_, _<_, _≤_}
+use mathlib.Core.List.{List, []}
+use Prim.Native.Nat.{ℕ, _+_, _-_, _%_, _<_, _≤_}
 use native.Mathlib.Omega.{arith}
 use lib.ListN.{length}
 use Rattle.cells.specs.Words.{wordsOf}
 use Rattle.paper.specs.Sorts.{WHILE}
-use Rattle.paper.specs.Trees.{Statement, while}
-use Rattle.paper.specs.Expressions.{nestings, levelOf}
+use Rattle.paper.specs.Trees.{Statement}
+use Rattle.paper.specs.Expressions.{levelOf}
 use Rattle.paper.specs.Names.{aBool, sortIn}
-use Rattle.paper.specs.Types.{Fault, ofType}
+use Rattle.paper.specs.Types.{ofType}
 use Rattle.paper.specs.Checks.{forsIn, forsInList, statementFaults, listFaults}
 use Rattle.code.specs.Cells.{placeAt}
 use Rattle.grammar.specs.Form.{Parses}
@@ -21,21 +21,23 @@ use Rattle.expressions.specs.declared.Judged.the-variants as judged
 use Rattle.store.specs.Promises.{Kept}
 use Rattle.expressions.specs.Answers.{typeIf, OfType}
 use Rattle.expressions.specs.Answers as expressions
-use Rattle.faults.specs.First.{First, Inside}
+use Rattle.faults.specs.First.{Inside}
 use Rattle.faults.proofs.First.{first-before, first-after, nothing-in-both}
 use Rattle.faults.proofs.Expressions.{grows, of-type-inside}
 use Rattle.faults.proofs.Statements.{list-inside}
 use Rattle.links.specs.Raw.{RawWord, RawDo, RawTerm, RawList, RawWhile, RawStatement}
-use Rattle.simple.specs.declared.Setting.{Setting}
-use Rattle.simple.specs.Around.{Around, groundOf, offsetIn}
+use Rattle.around.specs.declared.Setting.{Setting}
+use Rattle.around.specs.Around.{Around, groundOf, offsetIn}
 use Rattle.names.specs.declared.Scope.{Scope}
 use Rattle.statements.specs.declared.Walked.{Walked}
 use Rattle.statements.specs.declared.Walked.the-variants.{Upto, Faulty}
-use Rattle.statements.specs.Answers.{upto, Outside, Here, Stands, Lists, Done, Answer, StatementAnswer, Listed, Begins, Begun}
-use Rattle.statements.specs.Parts.{WhileEnded}
-use Rattle.statements.proofs.Frames.{outside-wider, outside-on, kept-outside, same-before, same-behind, same-on, tail-before, here-on, term-same, list-same, op-same, value-same, word-same, linked-outside, linked-word}
-use Rattle.statements.proofs.Judging.{expression-stands, judged-faulty, judged-long, judged-none, judged-next, judged-term, judged-kept}
+use Rattle.statements.specs.Answers.{upto, Stands, Lists, Done, Answer, StatementAnswer, Listed, Begins, Begun}
+use Rattle.compounds.specs.Here.{Outside}
+use Rattle.compounds.specs.Parts.{WhileEnded}
+use Rattle.compounds.proofs.Frames.{outside-wider, outside-on, kept-outside, same-before, same-behind, same-on, tail-before, here-on, term-same, list-same, op-same, value-same, word-same, linked-outside, linked-word}
+use Rattle.compounds.proofs.Judging.{expression-stands, judged-faulty, judged-long, judged-none, judged-next, judged-term, judged-kept}
 use Rattle.statements.proofs.Walking.{upto-done, faulty-first, done-answer, first-answer, faulty-answer}
+use Rattle.code.specs.Steps.{aWhile}
 
 module _ (text code values : List ℕ) (k : Setting) (used i : ℕ) (g : Begins WHILE text code values k used i) where
   abbrev s : Stands text code values k used i
@@ -165,7 +167,7 @@ module _ (text code values : List ℕ) (k : Setting) (used i : ℕ) (g : Begins 
             raw =
                 let v = y .head .value-is in
                 record {
-                  head = record { first = refl; place = place; word = subst (λ (t : ℕ). RawWord (wordsOf three) 149 i t) (sym (w .after)) (linked-word (y .head)) };
+                  head = record { first = refl; place = place; word = subst (λ (t : ℕ). RawWord (wordsOf three) aWhile i t) (sym (w .after)) (linked-word (y .head)) };
                   term = subst (λ (t : ℕ). RawTerm (groundOf a) (a .known .n) (wordsOf three) (a .known .S) (w .e) (i + 1) t) (sym v)
                       (term-same (groundOf a) (a .known .n) (wordsOf one) (wordsOf three) (a .known .S) (w .e) (i + 1) (w .doAt)
                       (same-on (same-on (same-on (same-before (i + 1) (w .doAt) (done .outside) (omega arith)) (same-before (i + 1) (w .doAt) from-two (omega arith)))
