@@ -1,11 +1,9 @@
 -- What is known where statements are checked: the routine's words and names, the routines that can be called, and the text.
 use mathlib.Core.Path.{_≡_}
 use mathlib.Core.List.{List}
-use mathlib.Core.Option.{Option, none, some}
+use mathlib.Core.Option.{Option, none}
 use Prim.Native.Nat.{ℕ, _+_, _<_, _≤_}
-use lib.Dec.{eqb}
 use lib.ListN.{length, take, drop}
-use Rattle.paper.specs.Basics.{if_then_else_}
 use Rattle.paper.specs.Sorts.{STRING}
 use Rattle.paper.specs.Words.{Word}
 use Rattle.paper.specs.Terms.{Memory}
@@ -19,7 +17,7 @@ use Rattle.code.specs.Signatures.{Heads}
 use Rattle.names.specs.Numbers.{IsName}
 use Rattle.names.specs.Promises.{storeBytes}
 use Rattle.expressions.specs.Known.{Loaded, Known}
-use Rattle.expressions.specs.Answers.{typeIf}
+use Rattle.layout.specs.Types.{noType, typeIn}
 use Rattle.links.specs.Raw.{Ground}
 use Rattle.around.specs.declared.Setting.{Setting}
 
@@ -78,10 +76,11 @@ pub record Calls {text values : List ℕ} (a : Around text values) (code : List 
   pub room : storeBytes ≤ length code
 
 -- ---- the setting
--- 0 for a PROC, 1 for a FUNC of num and 2 for one of bool
-unfoldable pub resultIf : (result : ℕ) → Option DataType
-resultIf r = if eqb r 0 then none else some (typeIf (eqb r 2))
+-- a type by its number, and no type by noType
+pub record ResultIs (o : Option DataType) (result : ℕ) : Type 0 where
+  pub is : o ≡ typeIn result
+  pub plain : o ≡ none → result ≡ noType
 
 pub record Tells (k : Setting) (K : checks.Setting) : Type 0 where
-  pub result : K .result ≡ resultIf (k .result)
+  pub result : ResultIs (K .result) (k .result)
   pub handler : k .handler ≡ inError (K .list)

@@ -48,8 +48,8 @@ use Rattle.program.specs.Routines.{RawModule}
 use Rattle.heads.specs.Trees.{headsFor}
 use Rattle.heads.specs.Reads as heads
 use Rattle.sites.specs.Sites.{theModule, filling, ownOf, owned, Placed, scopesOf, memoryOf, Filled}
-use Rattle.sites.specs.declared.Walked as declarations
-use Rattle.sites.specs.declared.Walked.the-variants as declared
+use Rattle.names.specs.declared.Walked as declarations
+use Rattle.names.specs.declared.Walked.the-variants as declared
 use Rattle.sites.specs.Walks.{upto}
 use Rattle.declarations.specs.Answers.{DataStand, ModuleFilled, SaysModule, DeclaresModule}
 use Rattle.around.specs.Around.{Unread, offsetIn}

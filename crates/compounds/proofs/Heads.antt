@@ -26,7 +26,7 @@ use Rattle.grammar.proofs.Places.{step-grows}
 use Rattle.expressions.specs.declared.Judged.{Judged}
 use Rattle.expressions.specs.declared.Judged.the-variants.{Typed, Faulty}
 use Rattle.store.specs.Promises.{Kept, Linked}
-use Rattle.expressions.specs.Answers.{typeIf, OfType}
+use Rattle.expressions.specs.Answers.{OfType}
 use Rattle.expressions.specs.Answers as expressions
 use Rattle.store.proofs.Keeping.{kept-same, kept-wider, kept-on}
 use Rattle.faults.specs.First.{First, Inside}
@@ -46,6 +46,8 @@ use Rattle.compounds.proofs.Telling.{fine-answer, found-answer, found-a
 use Rattle.code.specs.Steps.{aTarget, aStep}
 use Rattle.layout.specs.Rules.{takenName, tooMany}
 use Rattle.links.proofs.Ops.{low-still}
+use Rattle.layout.specs.Types.{noType, numType}
+use Rattle.layout.proofs.Typing.{num-in}
 
 -- ---- a bound behind the word i
 module _ (code values : List ℕ) (i : ℕ) (g : Bounds code values i) where
@@ -64,48 +66,46 @@ module _ (code values : List ℕ) (i : ℕ) (g : Bounds code values i) where
   abbrev ForBound : (after : List ℕ) → Judged → Type 0
   ForBound after r = Answer (ofType (a .known .W) aNum (a .known .S) (g .e)) code after i (g .z) (BoundWritten (RawBound (groundOf a) (a .known .n) (wordsOf after) (a .known .S) (g .e) i (g .z)) code after i) r
 
-  module _ (one : List ℕ) (j : Judged) (c : OfType code values one false false (i + 1) j) where
+  module _ (one : List ℕ) (j : Judged) (c : OfType code values one false numType (i + 1) j) where
     bound-no : (number word : ℕ) → j ≡ Faulty number word → ForBound one j
-    unfolding typeIf
     bound-no number word q =
         found-as _ _ _ _ _ _ j number word q
-        (judged-faulty (g .text) code values a (g .k) (g .used) (i + 1) (g .to) (g .here) (g .e) (i + 1) (g .z) (g .is) (g .ends) (omega arith) (g .inside) one false j c number word q)
-        (judged-long (g .text) code values a (g .k) (g .used) (i + 1) (g .to) (g .here) (g .e) (i + 1) (g .z) (g .is) (g .ends) (omega arith) (g .inside) one false j c)
+        (judged-faulty (g .text) code values a (g .k) (g .used) (i + 1) (g .to) (g .here) (g .e) (i + 1) (g .z) (g .is) (g .ends) (omega arith) (g .inside) one numType aNum num-in j c number word q)
+        (judged-long (g .text) code values a (g .k) (g .used) (i + 1) (g .to) (g .here) (g .e) (i + 1) (g .z) (g .is) (g .ends) (omega arith) (g .inside) one numType aNum num-in j c)
 
-    module _ (bool : Bool) (n : ℕ) (q : j ≡ Typed bool n) where
+    module _ (bool : ℕ) (n : ℕ) (q : j ≡ Typed bool n) where
       at-is : n ≡ g .z
-      at-is = judged-next (g .text) code values a (g .k) (g .used) (i + 1) (g .to) (g .here) (g .e) (i + 1) (g .z) (g .is) (g .ends) (omega arith) (g .inside) one false j c bool n q
+      at-is = judged-next (g .text) code values a (g .k) (g .used) (i + 1) (g .to) (g .here) (g .e) (i + 1) (g .z) (g .is) (g .ends) (omega arith) (g .inside) one numType aNum num-in j c bool n q
 
       kept : Kept code one (i + 1) (g .z)
-      kept = judged-kept (g .text) code values a (g .k) (g .used) (i + 1) (g .to) (g .here) (g .e) (i + 1) (g .z) (g .is) (g .ends) (omega arith) (g .inside) one false j c bool n q
+      kept = judged-kept (g .text) code values a (g .k) (g .used) (i + 1) (g .to) (g .here) (g .e) (i + 1) (g .z) (g .is) (g .ends) (omega arith) (g .inside) one numType aNum num-in j c bool n q
 
       pub bound-links : (i * 8 + 8 ≤ length one) × (n < 65536)
       bound-links = (omega (arith, bound-room, kept .long), omega (arith, at-is, g .inside, g .here .unread .loaded .last))
 
       bound-yes : (two : List ℕ) → Linked one two i (opAt (wordsOf one) i) (valueAt (wordsOf one) i) n → ForBound two (Typed bool n)
-      unfolding typeIf
       bound-yes two l =
           let op-is : opAt (wordsOf two) i ≡ opAt (wordsOf code) i = l .op-is ∙ ap opIn (head-before (kept-outside kept) i (omega arith)) in
           fine-answer _ _ _ _ _ _ bool n (record {
-            none = judged-none (g .text) code values a (g .k) (g .used) (i + 1) (g .to) (g .here) (g .e) (i + 1) (g .z) (g .is) (g .ends) (omega arith) (g .inside) one false j c bool n q;
+            none = judged-none (g .text) code values a (g .k) (g .used) (i + 1) (g .to) (g .here) (g .e) (i + 1) (g .z) (g .is) (g .ends) (omega arith) (g .inside) one numType aNum num-in j c bool n q;
             next-is = at-is;
             written = record {
               is = record {
                 link = l .link-is ∙ at-is;
                 still = ap isLed op-is ∙ g .still;
                 term = term-same (groundOf a) (a .known .n) (wordsOf one) (wordsOf two) (a .known .S) (g .e) (i + 1) (g .z) (same-behind (i + 1) (g .z) (linked-outside l) (omega arith))
-                    (judged-term (g .text) code values a (g .k) (g .used) (i + 1) (g .to) (g .here) (g .e) (i + 1) (g .z) (g .is) (g .ends) (omega arith) (g .inside) one false j c bool n q);
+                    (judged-term (g .text) code values a (g .k) (g .used) (i + 1) (g .to) (g .here) (g .e) (i + 1) (g .z) (g .is) (g .ends) (omega arith) (g .inside) one numType aNum num-in j c bool n q);
               };
               op = op-is;
             };
             kept = kept-on (kept-wider kept i (g .z) (omega arith) (omega arith)) (kept-wider (l .kept) i (g .z) (omega arith) (omega (arith, forward)));
           })
 
-module _ (code values : List ℕ) (i : ℕ) (one : List ℕ) (j : Judged) (c : OfType code values one false false (i + 1) j) where
+module _ (code values : List ℕ) (i : ℕ) (one : List ℕ) (j : Judged) (c : OfType code values one false numType (i + 1) j) where
   pub bound-wrong : (number word : ℕ) → j ≡ Faulty number word → Bounded code values one i j
   bound-wrong number word q = record { is = λ g. bound-no code values i g one j c number word q }
 
-  pub bound-right : (bool : Bool) (n : ℕ) → j ≡ Typed bool n → (two : List ℕ) → Linked one two i (opAt (wordsOf one) i) (valueAt (wordsOf one) i) n → Bounded code values two i (Typed bool n)
+  pub bound-right : (bool : ℕ) (n : ℕ) → j ≡ Typed bool n → (two : List ℕ) → Linked one two i (opAt (wordsOf one) i) (valueAt (wordsOf one) i) n → Bounded code values two i (Typed bool n)
   bound-right bool n q two l = record { is = λ g. bound-yes code values i g one j c bool n q two l }
 
 -- ---- STEP
@@ -130,11 +130,11 @@ module _ (code values : List ℕ) (s : ℕ) (g : Steps code values s) where
     sort-is : sortIn (b .known .W) s ≡ v
     sort-is = sym (ev ∙ g .here .unread .loaded .words s (omega arith) (omega (arith, order, g .inside)) .sort)
 
-    step-no : (v ≡ STEP → ⊥) → ForStep code (Typed false s)
+    step-no : (v ≡ STEP → ⊥) → ForStep code (Typed noType s)
     unfolding optionalNum RawStep
     step-no f =
         let q = step-none (sortIn (b .known .W)) (Parses (sortIn (b .known .W))) (g .is) (λ e. f (sym sort-is ∙ e)) in
-        fine-answer _ _ _ _ _ _ false s (record {
+        fine-answer _ _ _ _ _ _ noType s (record {
           none = ap (optionalNum (b .known .W) (b .known .S)) (q .0);
           next-is = sym (q .1);
           written = subst (λ (o : Option Expr). RawStep (groundOf b) (b .known .n) (wordsOf code) (b .known .S) o s (g .d)) (sym (q .0)) (sym (q .1));
@@ -178,7 +178,7 @@ module _ (code values : List ℕ) (s : ℕ) (g : Steps code values s) where
           by-answer (Faulty number word) y = record { tells = y .tells; long = y .long ∙ l .kept .long }
 
 module _ (code values : List ℕ) (s v : ℕ) (ev : v ≡ opAt (wordsOf code) s) where
-  pub no-step : (v ≡ STEP → ⊥) → Stepped code values code s (Typed false s)
+  pub no-step : (v ≡ STEP → ⊥) → Stepped code values code s (Typed noType s)
   no-step f = record { is = λ g. step-no code values s g v ev f }
 
   pub a-step : v ≡ STEP → (one : List ℕ) → Linked code one s aStep 0 (linkAt (wordsOf code) s) → (two : List ℕ) (j : Judged) → Bounded one values two s j → Stepped code values two s j
@@ -321,7 +321,7 @@ module _ (code values : List ℕ) (used i : ℕ) (g : ForHeads code values used 
           lower-wrong : (number word : ℕ) → j ≡ Faulty number word → ForHead one j
           lower-wrong number word q = found-as _ _ _ _ _ _ j number word q (with-lower _ (first-after no-name (faulty-found j a1 number word q))) (a1 .long)
 
-          module _ (bool : Bool) (to : ℕ) (q : j ≡ Typed bool to) where
+          module _ (bool : ℕ) (to : ℕ) (q : j ≡ Typed bool to) where
             f1 : Fine lower-faults code one (i + 2) (x .toAt) to (BoundWritten (RawBound (groundOf e) (e .known .n) (wordsOf one) (e .known .S) (g .a) (i + 2) (x .toAt)) code one (i + 2))
             f1 = typed-fine j a1 bool to q
 
@@ -370,7 +370,7 @@ module _ (code values : List ℕ) (used i : ℕ) (g : ForHeads code values used 
               upper-wrong : (number word : ℕ) → j2 ≡ Faulty number word → ForHead two j2
               upper-wrong number word q2 = found-as _ _ _ _ _ _ j2 number word q2 (with-upper _ (first-after no-lower (faulty-found j2 a2 number word q2))) (a2 .long ∙ a1 .long)
 
-              module _ (bool2 : Bool) (s : ℕ) (q2 : j2 ≡ Typed bool2 s) where
+              module _ (bool2 : ℕ) (s : ℕ) (q2 : j2 ≡ Typed bool2 s) where
                 f2 : Fine upper-faults one two (x .toAt) (x .stepAt) s (BoundWritten (RawBound (groundOf e) (e .known .n) (wordsOf two) (e .known .S) (g .b) (x .toAt) (x .stepAt)) one two (x .toAt))
                 f2 = typed-fine j2 a2 bool2 s q2
 
@@ -436,9 +436,9 @@ module _ (code values : List ℕ) (used i : ℕ) (m : ℕ) (b : Bool) (em : Mean
       pub head-lower-wrong : (number word : ℕ) → j ≡ Faulty number word → ForHeaded code values one used i j
       head-lower-wrong number word q = record { is = λ g. lower-wrong code values used i g m b em eb f u one j b1 number word q }
 
-      module _ (bool : Bool) (to : ℕ) (q : j ≡ Typed bool to) (two : List ℕ) (j2 : Judged) (b2 : Bounded one values two to j2) where
+      module _ (bool : ℕ) (to : ℕ) (q : j ≡ Typed bool to) (two : List ℕ) (j2 : Judged) (b2 : Bounded one values two to j2) where
         pub head-upper-wrong : (number word : ℕ) → j2 ≡ Faulty number word → ForHeaded code values two used i j2
         head-upper-wrong number word q2 = record { is = λ g. upper-wrong code values used i g m b em eb f u one j b1 bool to q two j2 b2 number word q2 }
 
-        pub head-finished : (bool2 : Bool) (s : ℕ) → j2 ≡ Typed bool2 s → (three : List ℕ) (j3 : Judged) → Stepped two values three s j3 → ForHeaded code values three used i j3
+        pub head-finished : (bool2 : ℕ) (s : ℕ) → j2 ≡ Typed bool2 s → (three : List ℕ) (j3 : Judged) → Stepped two values three s j3 → ForHeaded code values three used i j3
         head-finished bool2 s q2 three j3 b3 = record { is = λ g. head-done code values used i g m b em eb f u one j b1 bool to q two j2 b2 bool2 s q2 three j3 b3 }

@@ -16,7 +16,7 @@ use Rattle.expressions.specs.declared.Judged.{Judged}
 use Rattle.expressions.specs.declared.Judged.the-variants.{Typed, Faulty}
 use Rattle.expressions.specs.Known.{Loaded}
 use Rattle.store.specs.Promises.{Kept}
-use Rattle.expressions.specs.Answers.{typeIf, Sound, Judges, Stands, OfType}
+use Rattle.expressions.specs.Answers.{Sound, Judges, Stands, OfType}
 use Rattle.expressions.proofs.Around.{says-typed, says-faulty}
 use Rattle.faults.specs.First.{First, Inside}
 use Rattle.faults.proofs.First.{_and_, widen}
@@ -27,6 +27,9 @@ use Rattle.around.specs.Around.{Around, groundOf}
 use Rattle.compounds.specs.Here.{Here}
 use Rattle.code.specs.Steps.{aTarget}
 use Rattle.links.proofs.Ops.{low-still}
+use Rattle.layout.specs.Types.{typeIn}
+use Rattle.paper.specs.Names.{DataType}
+use mathlib.Core.Option.{some}
 
 -- the faults of two pieces, one after the other
 pub inside-both : {a b c d : ℕ} {xs ys : List Fault} → Inside a b xs → Inside c d ys → a ≤ c → b ≤ d → Inside a d (xs ++ ys)
@@ -54,25 +57,25 @@ module _ (text code values : List ℕ) (g : Around text values) (k : Setting) (u
     loaded = loaded;
   }
 
-  module _ (after : List ℕ) (wants : Bool) (r : Judged) (c : OfType code values after false wants a r) where
-    judges : Judges (g .known .m) (g .known .n) code after a z (record { type = typeIf wants; faults = ofType (g .known .W) (typeIf wants) (g .known .S) e; term = termOf (g .known .W) (g .known .S) e }) r
+  module _ (after : List ℕ) (wants : ℕ) (t : DataType) (w : typeIn wants ≡ some t) (r : Judged) (c : OfType code values after false wants a r) where
+    judges : Judges (g .known .m) (g .known .n) code after a z (record { type = t; faults = ofType (g .known .W) t (g .known .S) e; term = termOf (g .known .W) (g .known .S) e }) r
     unfolding expression-stands ofType termOf
-    judges = c .is expression-stands
+    judges = c .is expression-stands t w
 
     -- what is found is the first fault
-    pub judged-faulty : (number word : ℕ) → r ≡ Faulty number word → First (record { number = number; at = word }) (ofType (g .known .W) (typeIf wants) (g .known .S) e)
+    pub judged-faulty : (number word : ℕ) → r ≡ Faulty number word → First (record { number = number; at = word }) (ofType (g .known .W) t (g .known .S) e)
     judged-faulty number word q =
         let f = says-faulty _ _ _ _ _ _ r number word q (judges .says) in
-        of-type-first (g .known .W) (suc nestings) a e z is (record { number = number; at = word }) (f .others) (typeIf wants) (g .known .S) (f .faults-are)
+        of-type-first (g .known .W) (suc nestings) a e z is (record { number = number; at = word }) (f .others) t (g .known .S) (f .faults-are)
 
     pub judged-long : length after ≡ length code
     judged-long = judges .kept .long
 
-    module _ (bool : Bool) (next : ℕ) (q : r ≡ Typed bool next) where
-      sound : Sound (g .known .m) (g .known .n) (wordsOf after) a z (record { type = typeIf wants; faults = ofType (g .known .W) (typeIf wants) (g .known .S) e; term = termOf (g .known .W) (g .known .S) e }) bool next
+    module _ (bool : ℕ) (next : ℕ) (q : r ≡ Typed bool next) where
+      sound : Sound (g .known .m) (g .known .n) (wordsOf after) a z (record { type = t; faults = ofType (g .known .W) t (g .known .S) e; term = termOf (g .known .W) (g .known .S) e }) bool next
       sound = says-typed _ _ _ _ _ _ r bool next q (judges .says)
 
-      pub judged-none : ofType (g .known .W) (typeIf wants) (g .known .S) e ≡ []
+      pub judged-none : ofType (g .known .W) t (g .known .S) e ≡ []
       judged-none = sound .none
 
       pub judged-next : next ≡ z

@@ -11,7 +11,7 @@ use Rattle.faults.specs.First.{First}
 use Rattle.around.specs.Answers.{Fine, Tell, Answer}
 
 module _ {fs : List Fault} {before after : List ℕ} {at to : ℕ} {holds : Type 0} (j : Judged) (x : Answer fs before after at to holds j) where
-  pub typed-fine : (bool : Bool) (next : ℕ) → j ≡ Typed bool next → Fine fs before after at to next holds
+  pub typed-fine : (bool : ℕ) (next : ℕ) → j ≡ Typed bool next → Fine fs before after at to next holds
   unfolding Tell
   typed-fine bool next e = subst (Tell fs before after at to holds) e (x .tells)
 
@@ -19,7 +19,7 @@ module _ {fs : List Fault} {before after : List ℕ} {at to : ℕ} {holds : Type
   unfolding Tell
   faulty-found number word e = subst (Tell fs before after at to holds) e (x .tells)
 
-pub fine-answer : (fs : List Fault) (before after : List ℕ) (at to : ℕ) (holds : Type 0) (bool : Bool) (next : ℕ) → Fine fs before after at to next holds → Answer fs before after at to holds (Typed bool next)
+pub fine-answer : (fs : List Fault) (before after : List ℕ) (at to : ℕ) (holds : Type 0) (bool : ℕ) (next : ℕ) → Fine fs before after at to next holds → Answer fs before after at to holds (Typed bool next)
 unfolding Tell
 fine-answer fs before after at to holds bool next f = record { tells = f; long = f .kept .long }
 

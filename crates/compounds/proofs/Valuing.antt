@@ -26,7 +26,6 @@ use Rattle.grammar.proofs.Places.{separated-grows}
 use Rattle.expressions.specs.declared.Judged.{Judged}
 use Rattle.expressions.specs.declared.Judged.the-variants as judged
 use Rattle.store.specs.Promises.{Kept, Linked}
-use Rattle.expressions.specs.Answers.{typeIf}
 use Rattle.store.proofs.Keeping.{kept-same, kept-wider, kept-on}
 use Rattle.constants.specs.declared.Valued.{Valued}
 use Rattle.constants.specs.declared.Valued.the-variants as valued
@@ -41,6 +40,9 @@ use Rattle.compounds.specs.Here.{Outside, Here}
 use Rattle.compounds.specs.Parts.{Chain, CaseChain, CaseValues, CaseValued}
 use Rattle.compounds.proofs.Frames.{outside-wider, outside-on, kept-outside, same-before, here-on, op-same, value-same, link-same, linked-outside}
 use Rattle.compounds.proofs.Telling.{fine-answer, found-answer}
+use Rattle.layout.specs.Types.{noType}
+use Rattle.layout.proofs.Typing.{num-in}
+use Rattle.layout.specs.Types.{numType}
 
 -- the value at w and those behind it
 unfoldable pub From : (W : List Word) (S : Scopes) (M : Memory) (C : List ℕ) → List Expr → (n w : ℕ) → Type 0
@@ -172,10 +174,10 @@ module _ (code values : List ℕ) (c : ℕ) (now : List ℕ) (w op : ℕ) (inv :
         (λ e. widen (case-inside (a .known .W) (a .known .S) (a .M) (f .more e)) (omega arith) (omega arith))
         (λ n. every-none (ap (caseFaults (a .known .W) (a .known .S) (a .M)) (f .done n .0)))
 
-    module _ (one : List ℕ) (r : Valued) (vs : Values now values one false (w + 1) r) where
+    module _ (one : List ℕ) (r : Valued) (vs : Values now values one numType (w + 1) r) where
       told : Says (a .known .W) aNum (a .known .S) (a .M) (f .a) (f .n) r
-      unfolding asks typeIf
-      told = vs .says asks
+      unfolding asks
+      told = vs .says asks aNum num-in
 
       kept-one : Kept now one (w + 1) (f .n)
       unfolding asks
@@ -227,12 +229,12 @@ module _ (code values : List ℕ) (c : ℕ) (now : List ℕ) (w op : ℕ) (inv :
             sort-is : sortIn (a .known .W) (f .n) ≡ s
             sort-is = sym (es ∙ ap (opAt (wordsOf two)) m ∙ next-here .unread .loaded .words (f .n) (omega arith) (omega (arith, within, last)) .sort)
 
-            ends : (s ≡ comma → ⊥) → ForValues two (judged.Typed false n)
+            ends : (s ≡ comma → ⊥) → ForValues two (judged.Typed noType n)
             unfolding From Chain rest-faults own-faults caseFaults
             ends h =
                 let d = f .done (λ e. h (sym sort-is ∙ e)) in
                 let alone : x .es ≡ f .a ∷ [] = f .is ∙ ap (λ (t : List Expr). f .a ∷ t) (d .0) in
-                fine-answer _ _ _ _ _ _ false n (record {
+                fine-answer _ _ _ _ _ _ noType n (record {
                   none = all-faults ∙ nothing-in-both (right .none) (ap (caseFaults (a .known .W) (a .known .S) (a .M)) (d .0));
                   next-is = m ∙ sym (d .1);
                   written = x .on (wordsOf two) (outside-wider w (g .n) changed (omega arith) within) (l .op-is)
@@ -276,12 +278,12 @@ module _ (code values : List ℕ) (c : ℕ) (now : List ℕ) (w op : ℕ) (inv :
               goes-on = subst (λ (t : ℕ). Valuing g two t aNextValue) (sym m) goes
 
   -- ---- for whatever the case is
-  module _ (one : List ℕ) (r : Valued) (vs : Values now values one false (w + 1) r) where
+  module _ (one : List ℕ) (r : Valued) (vs : Values now values one numType (w + 1) r) where
     pub value-wrong : (number word : ℕ) → r ≡ valued.Faulty number word → CaseValued code values one c (judged.Faulty number word)
     value-wrong number word q = record { is = λ g. wrong g one r vs number word q }
 
     module _ (v : ℤ) (n : ℕ) (q : r ≡ valued.Value v n) (hv : ℕ) (held : HeldAs v hv) (two : List ℕ) (l : Linked one two w op hv n) (s : ℕ) (es : s ≡ opAt (wordsOf two) n) where
-      pub values-end : (s ≡ comma → ⊥) → CaseValued code values two c (judged.Typed false n)
+      pub values-end : (s ≡ comma → ⊥) → CaseValued code values two c (judged.Typed noType n)
       values-end h = record { is = λ g. ends g one r vs v n q hv held two l s es h }
 
       pub values-go : s ≡ comma → Valuings code values c two n aNextValue

@@ -5,6 +5,7 @@ use layout::limits;
 use layout::ops;
 use layout::parts;
 use layout::rules;
+use layout::types;
 use store::rewrite;
 use store::set_head;
 use store::set_link;
@@ -33,7 +34,7 @@ fn bound(code: &mut [u8], values: &[u8], i: usize) -> Judged
     requires { ⌜ Bounds (now code) (now values) i ⌝ }
     ensures { λ r. ⌜ Bounded (now (code .entry)) (now (values .entry)) (now (code .exit)) i r ⌝ }
 {
-    let j = expressions::of_type(code, values, false, false, i + 1);
+    let j = expressions::of_type(code, values, false, types::NUM, i + 1);
     let Judged::Typed(t, n) = j else {
         return j;
     };
@@ -47,7 +48,7 @@ fn for_step(code: &mut [u8], values: &[u8], s: usize) -> Judged
     ensures { λ r. ⌜ Stepped (now (code .entry)) (now (values .entry)) (now (code .exit)) s r ⌝ }
 {
     if sort(code, s) != sorts::STEP {
-        return Judged::Typed(false, s);
+        return Judged::Typed(types::NONE, s);
     }
     set_head(code, s, ops::STEP, 0);
     bound(code, values, s)
@@ -62,7 +63,7 @@ pub fn for_head(code: &mut [u8], values: &[u8], used: u32, i: usize) -> Judged
     if names::is_protected(m) {
         return Judged::Faulty(rules::TAKEN_NAME, i + 1);
     }
-    if used == limits::ROUTINE_WORDS_32 {
+    if used == limits::ROUTINE_COUNT {
         return Judged::Faulty(rules::TOO_MANY, i + 1);
     }
     let j = bound(code, values, i + 2);
@@ -126,13 +127,13 @@ pub fn case_values(code: &mut [u8], values: &[u8], c: usize) -> Judged
     let mut w = c;
     let mut op = ops::CASE;
     loop {
-        let v = constants::constant(code, values, false, w + 1);
+        let v = constants::constant(code, values, types::NUM, w + 1);
         match v {
             Valued::Faulty(number, word) => return Judged::Faulty(number, word),
             Valued::Value(v, n) => {
                 set_word(code, w, op, constants::held(v), n);
                 if sort(code, n) != sorts::COMMA {
-                    return Judged::Typed(false, n);
+                    return Judged::Typed(types::NONE, n);
                 }
                 w = n;
                 op = ops::NEXT_VALUE;

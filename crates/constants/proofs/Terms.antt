@@ -26,8 +26,7 @@ use Rattle.paper.specs.Types as types
 use Rattle.code.specs.Cells.{firstWindow}
 use Rattle.code.specs.Spans.{memoryIn}
 use Rattle.expressions.specs.Known.{largest, InRoom}
-use Rattle.expressions.specs.Answers.{typeIf}
-use Rattle.expressions.specs.Parts.{askedOf, resultOf}
+use Rattle.expressions.specs.Parts.{askedOf, resultOf, signedOf}
 use Rattle.expressions.proofs.Judging.{judged-faults, judged-term, joined-is, signed-is}
 use Rattle.constants.specs.Answers.{cellOf, InNum, Worth, Fine}
 
@@ -189,7 +188,7 @@ module _ (m n : ℕ) (X : List ℕ) (M : Memory) where
     constantly (nested i e) h = constantly e h
     constantly (signed i e) h =
         let j = judge W true S e in
-        let t = typeIf (eqb (sortIn W i) NOT) in
+        let t = signedOf (sortIn W i) in
         let q = signed-is (sortIn W i) e j in
         let g : wanted t (first e) j ≡ [] = sym (judged-faults t _ (unary (sortIn W i) (j .term))) ∙ sym (ap (λ (y : types.Judged). y .faults) q) ∙ h in
         subst (Constantly (Worth m n X M)) (sym (ap (λ (y : types.Judged). y .term) q ∙ judged-term t (wanted t (first e) j) (unary (sortIn W i) (j .term))))

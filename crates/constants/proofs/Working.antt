@@ -18,9 +18,13 @@ use Rattle.paper.specs.Numbers.{num, Value, value, error}
 use Rattle.paper.specs.Terms.{Memory, Term, worth}
 use Rattle.paper.specs.Trees.{Expr, first}
 use Rattle.paper.specs.Names.{DataType, aNum, Scopes, sortIn}
-use Rattle.paper.specs.Types.{Fault, fault, faultIf, wanted, differs, judge, constantWorth, constantFaults, constantValue, sizeOf, valueOr0, raisesError, isNoSize}
+use Rattle.paper.specs.Types.{Fault, fault, faultIf, wanted, differs, judge, constantWorth, constantFaults, constantValue, sizeOf, valueOr0, raisesError, isNoSize, elementLimit}
 use Rattle.cells.specs.Words.{wordsOf}
 use Rattle.climb.proofs.Places.{spans-first, stands}
+use Rattle.code.specs.Cells.{firstWindow}
+use Rattle.layout.specs.Rules.{wrongType, noValue}
+use Rattle.layout.specs.Types.{numType, typeIn, IsType}
+use Rattle.layout.proofs.Typing.{num-in}
 use Rattle.evaluation.specs.Answers.{firstError, decoded, Counts, Stores, Evaluated}
 use Rattle.evaluation.specs.Answers as evaluation
 use Rattle.evaluation.proofs.Numbers.{is-value, is-error}
@@ -30,7 +34,7 @@ use Rattle.faults.proofs.First.{every-one, widen, leads-same-if, first-fault, f
 use Rattle.expressions.specs.declared.Judged.{Judged}
 use Rattle.expressions.specs.declared.Judged.the-variants.{Typed, Faulty}
 use Rattle.store.specs.Promises.{Kept}
-use Rattle.expressions.specs.Answers.{typeIf, Sound, ofType, OfType}
+use Rattle.expressions.specs.Answers.{Sound, ofType, OfType}
 use Rattle.expressions.proofs.Judging.{append-none}
 use Rattle.expressions.proofs.Order.{Rising, rising-wanted}
 use Rattle.expressions.proofs.Around.{says-faulty}
@@ -38,8 +42,8 @@ use Rattle.expressions.proofs.Callers.{of-type-typed}
 use Rattle.constants.specs.declared.Valued.{Valued}
 use Rattle.constants.specs.declared.Valued.the-variants as values-of
 use Rattle.constants.specs.declared.Sized.the-variants as sizes-of
-use Rattle.constants.specs.Answers.{InNum, Asks, Right, Says, Values, SaysSize, Sizes}
-use Rattle.constants.proofs.Terms.{none-left, none-right, some-fault, wanted-clean, constantly, constantly-same, constantly-held}
+use Rattle.constants.specs.Answers.{InNum, Worth, Asks, Right, Says, Values, SaysSize, Sizes}
+use Rattle.constants.proofs.Terms.{Constantly, none-left, none-right, some-fault, wanted-clean, constantly, constantly-same, constantly-held}
 
 -- ---- faults that rise
 rising-inside : (low high : ℕ) (l : List Fault) → Rising low high l → Inside low high l
@@ -56,11 +60,11 @@ rising-first low high f others fs e r =
 -- a fault at a word that comes before "15" there
 record Early (i : ℕ) (f : Fault) : Type 0 where
   at-is : f .at ≡ i
-  low : f .number ≤ 15
+  low : f .number ≤ noValue
 
-early-if : (b : Bool) (i : ℕ) → Every (Early i) (faultIf b 13 i)
+early-if : (b : Bool) (i : ℕ) → Every (Early i) (faultIf b wrongType i)
 unfolding faultIf fault
-early-if true i = _also_ {f = record { number = 13; at = i }} (record { at-is = refl; low = omega arith }) no-fault
+early-if true i = _also_ {f = record { number = wrongType; at = i }} (record { at-is = refl; low = omega arith }) no-fault
 early-if false i = no-fault
 
 -- ---- a constant expression, by what is judged of it
@@ -78,7 +82,7 @@ module _ (W : List Word) (S : Scopes) (M : Memory) (e : Expr) where
     unfolding constantFaults faultIf
     faults-clean h g = rw (h, g, constantFaults)
 
-    faults-bad : wanted t (first e) (judge W true S e) ≡ [] → bad (constantWorth W S M e) ≡ true → constantFaults W bad t S M e ≡ fault 15 (first e)
+    faults-bad : wanted t (first e) (judge W true S e) ≡ [] → bad (constantWorth W S M e) ≡ true → constantFaults W bad t S M e ≡ fault noValue (first e)
     unfolding constantFaults faultIf
     faults-bad h g = rw (h, g, constantFaults)
 
@@ -101,9 +105,9 @@ module _ (W : List Word) (S : Scopes) (M : Memory) (e : Expr) where
         by-faults : (l : List Fault) → judge W true S e .faults ≡ l → First f (constantFaults W bad t S M e)
         by-faults (g ∷ r) q = first-alone h (rw (worth-none g r q) (rw calm refl))
         by-faults [] q =
-            let w : wanted t (first e) (judge W true S e) ≡ faultIf (differs t (judge W true S e .type)) 13 (first e) = rw (q, wanted) in
+            let w : wanted t (first e) (judge W true S e) ≡ faultIf (differs t (judge W true S e .type)) wrongType (first e) = rw (q, wanted) in
             let y : Early (first e) f = every-one (early-if (differs t (judge W true S e .type)) (first e)) (subst (First f) w h .among) in
-            first-left h (leads-same-if f (bad (constantWorth W S M e)) 15 (first e) (y .at-is) (y .low))
+            first-left h (leads-same-if f (bad (constantWorth W S M e)) noValue (first e) (y .at-is) (y .low))
 
 -- ---- an answer
 raises-value : (z : ℤ) (x : Option Value) → x ≡ some (value z) → raisesError x ≡ false
@@ -114,66 +118,71 @@ raises-error : (k : ℕ) (x : Option Value) → x ≡ some (error k) → raisesE
 unfolding raisesError
 raises-error k x h = rw h
 
-pub stores : (code values : List ℕ) (at : ℕ) → Asks code values at → Stores values 1024
+pub stores : (code values : List ℕ) (at : ℕ) → Asks code values at → Stores values firstWindow
 stores code values at a = let l = a .stands .known .table in record { words = omega (arith, l); call = omega (arith, l); number = a .number }
 
-module _ (code values after : List ℕ) (wants : Bool) (at : ℕ) (j : Judged) (o : OfType code values after true wants at j) where
+module _ (code values after : List ℕ) (wants at : ℕ) (j : Judged) (o : OfType code values after true wants at j) where
   first-word : (a : Asks code values at) → first (a .stands .e) ≡ at
   first-word a = spans-first (a .stands .e) at (a .stands .to) (stands (sortIn (a .stands .known .W)) (a .stands .d) 5 at (a .stands .e, a .stands .to) (a .stands .is))
 
-  kept-all : (a : Asks code values at) → Kept code after at (a .stands .to)
-  kept-all a = o .is (a .stands) .kept
+  kept-all : IsType wants → (a : Asks code values at) → Kept code after at (a .stands .to)
+  kept-all y a = o .is (a .stands) (y .type) (y .is) .kept
 
-  pub answers-faulty : (number word : ℕ) → j ≡ Faulty number word → Values code values after wants at (values-of.Faulty number word)
+  pub answers-faulty : IsType wants → (number word : ℕ) → j ≡ Faulty number word → Values code values after wants at (values-of.Faulty number word)
   unfolding Says raisesError
-  answers-faulty number word q = record {
-    says = λ a.
+  answers-faulty y number word q = record {
+    says = λ a t w.
         let W = a .stands .known .W in
         let S = a .stands .known .S in
         let e = a .stands .e in
-        let f = says-faulty _ _ _ _ _ _ j number word q (o .is (a .stands) .says) in
+        let f = says-faulty _ _ _ _ _ _ j number word q (o .is (a .stands) t w .says) in
         let s = stands (sortIn W) (a .stands .d) 5 at (e, a .stands .to) (a .stands .is) in
-        wanted-leads W S (a .M) e (typeIf wants) raisesError refl (record { number = number; at = word })
-        (rising-first at (a .stands .to) (record { number = number; at = word }) (f .others) _ (f .faults-are) (rising-wanted W true S (typeIf wants) e at (a .stands .to) s));
-    kept = kept-all;
+        wanted-leads W S (a .M) e t raisesError refl (record { number = number; at = word })
+        (rising-first at (a .stands .to) (record { number = number; at = word }) (f .others) _ (f .faults-are) (rising-wanted W true S t e at (a .stands .to) s));
+    kept = kept-all y;
   }
 
-  module _ (bool : Bool) (next : ℕ) (typed : j ≡ Typed bool next) where
+  module _ (type next : ℕ) (typed : j ≡ Typed type next) where
     counts : Asks code values at → Counts
     counts a = record { m = a .stands .known .m; n = a .stands .known .n; most = a .stands .known .most; window = a .window }
 
     term-of : Asks code values at → Term
     term-of a = judge (a .stands .known .W) true (a .stands .known .S) (a .stands .e) .term
 
-    sound : (a : Asks code values at) → Sound (a .stands .known .m) (a .stands .known .n) (wordsOf after) at (a .stands .to)
-        (ofType (typeIf wants) (first (a .stands .e)) (judge (a .stands .known .W) true (a .stands .known .S) (a .stands .e))) bool next
-    sound a = of-type-typed code values after true at j wants (a .stands) o bool next typed
+    module _ (t : DataType) (w : typeIn wants ≡ some t) where
+      sound : (a : Asks code values at) → Sound (a .stands .known .m) (a .stands .known .n) (wordsOf after) at (a .stands .to)
+          (ofType t (first (a .stands .e)) (judge (a .stands .known .W) true (a .stands .known .S) (a .stands .e))) type next
+      sound a = of-type-typed code values after true at j wants t w (a .stands) o type next typed
 
-    stands-there : (a : Asks code values at) → evaluation.termOf (counts a) after at next ≡ some (term-of a)
-    unfolding counts term-of
-    stands-there a = subst (λ (k : ℕ). evaluation.termOf (counts a) after at k ≡ some (term-of a)) (sym (sound a .next-is)) (sound a .stands)
-
-    pub evaluable : Asks code values at → evaluation.Stands after at next
-    evaluable a =
-        record { c = counts a; t = term-of a; is = stands-there a; whole = ap (λ (x : ℕ). x % 8) (kept-all a .long) ∙ a .stands .loaded .whole }
-
-    module _ (v : ℤ) (x : Evaluated after values 1024 at next v) (s : SFits w64 v) where
       clean : (a : Asks code values at) → judge (a .stands .known .W) true (a .stands .known .S) (a .stands .e) .faults ≡ []
-      clean a = wanted-clean (typeIf wants) (first (a .stands .e)) _ (sound a .none)
+      clean a = wanted-clean t (first (a .stands .e)) _ (sound a .none)
+
+    module _ (y : IsType wants) where
+      stands-there : (a : Asks code values at) → evaluation.termOf (counts a) after at next ≡ some (term-of a)
+      unfolding counts term-of
+      stands-there a = let k = sound (y .type) (y .is) a in subst (λ (k : ℕ). evaluation.termOf (counts a) after at k ≡ some (term-of a)) (sym (k .next-is)) (k .stands)
+
+      pub evaluable : Asks code values at → evaluation.Stands after at next
+      evaluable a =
+          record { c = counts a; t = term-of a; is = stands-there a; whole = ap (λ (x : ℕ). x % 8) (kept-all y a .long) ∙ a .stands .loaded .whole }
+
+    module _ (y : IsType wants) (v : ℤ) (x : Evaluated after values firstWindow at next v) (s : SFits w64 v) where
+      constant-only : (a : Asks code values at) → Constantly (Worth (a .stands .known .m) (a .stands .known .n) (wordsOf values) (a .M)) (term-of a)
+      unfolding term-of
+      constant-only a =
+          constantly (a .stands .known .m) (a .stands .known .n) (wordsOf values) (a .M) (a .stands .known .W) (a .stands .known .S) (a .stands .known .small) (a .fine) (a .stands .e) (clean (y .type) (y .is) a)
 
       worth-is : (a : Asks code values at) → constantWorth (a .stands .known .W) (a .stands .known .S) (a .M) (a .stands .e) ≡ some (decoded v)
       unfolding counts term-of
       worth-is a =
-          let c = constantly (a .stands .known .m) (a .stands .known .n) (wordsOf values) (a .M) (a .stands .known .W) (a .stands .known .S) (a .stands .known .small) (a .fine) (a .stands .e) (clean a) in
-          worth-some (a .stands .known .W) (a .stands .known .S) (a .M) (a .stands .e) (clean a)
-          ∙ ap some (constantly-same (a .stands .known .m) (a .stands .known .n) (wordsOf values) (a .M) (term-of a) c ∙ sym (x .is (counts a) (term-of a) (stands-there a)))
+          worth-some (a .stands .known .W) (a .stands .known .S) (a .M) (a .stands .e) (clean (y .type) (y .is) a)
+          ∙ ap some (constantly-same (a .stands .known .m) (a .stands .known .n) (wordsOf values) (a .M) (term-of a) (constant-only a) ∙ sym (x .is (counts a) (term-of a) (stands-there y a)))
 
       held : (a : Asks code values at) → decoded v ≡ value v → InNum v
       unfolding counts term-of
       held a d =
-          let c = constantly (a .stands .known .m) (a .stands .known .n) (wordsOf values) (a .M) (a .stands .known .W) (a .stands .known .S) (a .stands .known .small) (a .fine) (a .stands .e) (clean a) in
-          constantly-held (a .stands .known .m) (a .stands .known .n) (wordsOf values) (a .M) (term-of a) c
-          .holds v (constantly-same (a .stands .known .m) (a .stands .known .n) (wordsOf values) (a .M) (term-of a) c ∙ sym (x .is (counts a) (term-of a) (stands-there a)) ∙ d)
+          constantly-held (a .stands .known .m) (a .stands .known .n) (wordsOf values) (a .M) (term-of a) (constant-only a)
+          .holds v (constantly-same (a .stands .known .m) (a .stands .known .n) (wordsOf values) (a .M) (term-of a) (constant-only a) ∙ sym (x .is (counts a) (term-of a) (stands-there y a)) ∙ d)
 
       pub answers-value : ltZ (read v) (pos firstError) ≡ true → Values code values after wants at (values-of.Value (read v) next)
       unfolding Says constantValue valueOr0
@@ -181,34 +190,34 @@ module _ (code values after : List ℕ) (wants : Bool) (at : ℕ) (j : Judged) (
           let r : read v ≡ v = toZ-ofZ s in
           let d : decoded v ≡ value v = is-value v (rw r at h) in
           record {
-            says = λ a.
+            says = λ a t w.
                 let W = a .stands .known .W in
                 let S = a .stands .known .S in
                 let e = a .stands .e in
-                let w = worth-is a ∙ ap some d in
+                let e-worth = worth-is a ∙ ap some d in
                 record {
-                  none = faults-clean W S (a .M) e (typeIf wants) raisesError (sound a .none) (raises-value v _ w);
-                  is = r ∙ sym (ap valueOr0 w);
+                  none = faults-clean W S (a .M) e t raisesError (sound t w a .none) (raises-value v _ e-worth);
+                  is = r ∙ sym (ap valueOr0 e-worth);
                   ranged = rw r (held a d);
-                  next-is = sound a .next-is;
+                  next-is = sound t w a .next-is;
                 };
-            kept = kept-all;
+            kept = kept-all y;
           }
 
-      pub answers-error : ltZ (read v) (pos firstError) ≡ false → Values code values after wants at (values-of.Faulty 15 at)
+      pub answers-error : ltZ (read v) (pos firstError) ≡ false → Values code values after wants at (values-of.Faulty noValue at)
       unfolding Says
       answers-error h =
           let r : read v ≡ v = toZ-ofZ s in
           let d : decoded v ≡ error (natAbs v - firstError) = is-error v (rw r at h) in
           record {
-            says = λ a.
+            says = λ a t w.
                 let W = a .stands .known .W in
                 let S = a .stands .known .S in
                 let e = a .stands .e in
-                let q : constantFaults W raisesError (typeIf wants) S (a .M) e ≡ fault 15 at =
-                faults-bad W S (a .M) e (typeIf wants) raisesError (sound a .none) (raises-error (natAbs v - firstError) _ (worth-is a ∙ ap some d)) ∙ ap (fault 15) (first-word a) in
-                subst (First (record { number = 15; at = at })) (sym q) (first-fault 15 at);
-            kept = kept-all;
+                let q : constantFaults W raisesError t S (a .M) e ≡ fault noValue at =
+                faults-bad W S (a .M) e t raisesError (sound t w a .none) (raises-error (natAbs v - firstError) _ (worth-is a ∙ ap some d)) ∙ ap (fault noValue) (first-word a) in
+                subst (First (record { number = noValue; at = at })) (sym q) (first-fault noValue at);
+            kept = kept-all y;
           }
 
 -- ---- sizes
@@ -233,11 +242,11 @@ no-size-low : (x : Option Value) (z : ℤ) → x ≡ some (value z) → ltZ z (p
 unfolding isNoSize
 no-size-low x z e h = rw e (rw h refl)
 
-no-size-high : (x : Option Value) (z : ℤ) → x ≡ some (value z) → ltZ z (pos 1) ≡ false → ltZ (pos 512) z ≡ true → isNoSize x ≡ true
+no-size-high : (x : Option Value) (z : ℤ) → x ≡ some (value z) → ltZ z (pos 1) ≡ false → ltZ (pos elementLimit) z ≡ true → isNoSize x ≡ true
 unfolding isNoSize
 no-size-high x z e h g = rw e (rw h g)
 
-a-size : (x : Option Value) (z : ℤ) → x ≡ some (value z) → ltZ z (pos 1) ≡ false → ltZ (pos 512) z ≡ false → isNoSize x ≡ false
+a-size : (x : Option Value) (z : ℤ) → x ≡ some (value z) → ltZ z (pos 1) ≡ false → ltZ (pos elementLimit) z ≡ false → isNoSize x ≡ false
 unfolding isNoSize
 a-size x z e h g = rw e (rw h g)
 
@@ -255,11 +264,11 @@ module _ (W : List Word) (S : Scopes) (M : Memory) (e : Expr) where
   size-is h = rw (h, sizeOf)
 
 -- numbers of an array's size
-size-number : (z : ℤ) → ltZ z (pos 1) ≡ false → ltZ (pos 512) z ≡ false → (0 < natAbs z) × (natAbs z ≤ 512) × T (nonNeg z)
-size-number (pos n) h g = (omega (arith, ltb-false n 1 h), ltb-false 512 n g, tt)
+size-number : (z : ℤ) → ltZ z (pos 1) ≡ false → ltZ (pos elementLimit) z ≡ false → (0 < natAbs z) × (natAbs z ≤ elementLimit) × T (nonNeg z)
+size-number (pos n) h g = (omega (arith, ltb-false n 1 h), ltb-false elementLimit n g, tt)
 size-number (negsuc n) h g = false-true (sym h)
 
-pub size-cast : (v : ℤ) → ltZ (read v) (pos 1) ≡ false → ltZ (pos 512) (read v) ≡ false → T (nonNeg (read v)) × Fits w32 (natAbs (read v))
+pub size-cast : (v : ℤ) → ltZ (read v) (pos 1) ≡ false → ltZ (pos elementLimit) (read v) ≡ false → T (nonNeg (read v)) × Fits w32 (natAbs (read v))
 size-cast v h g = let n = size-number (read v) h g in (n .2, record { fits = omega (arith, n .1) })
 
 in-num-fits : (z : ℤ) → InNum z → SFits w64 z
@@ -276,19 +285,18 @@ says-first : (W : List Word) (t : DataType) (S : Scopes) (M : Memory) (e : Expr)
 unfolding Says
 says-first W t S M e to c number word q s = subst (Says W t S M e to) q s
 
-module _ (code values after : List ℕ) (at : ℕ) (c : Valued) (o : Values code values after false at c) where
+module _ (code values after : List ℕ) (at : ℕ) (c : Valued) (o : Values code values after numType at c) where
   pub size-faulty : (number word : ℕ) → c ≡ values-of.Faulty number word → Sizes code values after at (sizes-of.Unsized number word)
-  unfolding SaysSize typeIf
+  unfolding SaysSize
   size-faulty number word q = record {
     says = λ a. size-first (a .stands .known .W) (a .stands .known .S) (a .M) (a .stands .e) aNum (record { number = number; at = word })
-        (says-first (a .stands .known .W) aNum (a .stands .known .S) (a .M) (a .stands .e) (a .stands .to) c number word q (o .says a));
+        (says-first (a .stands .known .W) aNum (a .stands .known .S) (a .M) (a .stands .e) (a .stands .to) c number word q (o .says a aNum num-in));
     kept = o .kept;
   }
 
   module _ (v : ℤ) (next : ℕ) (q : c ≡ values-of.Value v next) where
     right : (a : Asks code values at) → Right (a .stands .known .W) aNum (a .stands .known .S) (a .M) (a .stands .e) (a .stands .to) v next
-    unfolding typeIf
-    right a = says-valued (a .stands .known .W) aNum (a .stands .known .S) (a .M) (a .stands .e) (a .stands .to) c v next q (o .says a)
+    right a = says-valued (a .stands .known .W) aNum (a .stands .known .S) (a .M) (a .stands .e) (a .stands .to) c v next q (o .says a aNum num-in)
 
     pub value-fits : Asks code values at → SFits w64 v
     value-fits a = in-num-fits v (right a .ranged)
@@ -305,7 +313,7 @@ module _ (code values after : List ℕ) (at : ℕ) (c : Valued) (o : Values code
         let k = wanted-clean aNum (first e) (judge W true S e) (clean-wants a) in
         value-of (constantWorth W S (a .M) e) _ (worth-some W S (a .M) e k) (clean-calm W S (a .M) e aNum raisesError (right a .none)) ∙ ap (λ (z : ℤ). some (value z)) (sym (right a .is))
 
-    no-size : ((a : Asks code values at) → isNoSize (constantWorth (a .stands .known .W) (a .stands .known .S) (a .M) (a .stands .e)) ≡ true) → Sizes code values after at (sizes-of.Unsized 15 at)
+    no-size : ((a : Asks code values at) → isNoSize (constantWorth (a .stands .known .W) (a .stands .known .S) (a .M) (a .stands .e)) ≡ true) → Sizes code values after at (sizes-of.Unsized noValue at)
     unfolding SaysSize
     no-size bad = record {
       says = λ a.
@@ -313,18 +321,18 @@ module _ (code values after : List ℕ) (at : ℕ) (c : Valued) (o : Values code
           let S = a .stands .known .S in
           let e = a .stands .e in
           let first-at = spans-first e at (a .stands .to) (stands (sortIn W) (a .stands .d) 5 at (e, a .stands .to) (a .stands .is)) in
-          let g : constantFaults W isNoSize aNum S (a .M) e ≡ fault 15 at = faults-bad W S (a .M) e aNum isNoSize (clean-wants a) (bad a) ∙ ap (fault 15) first-at in
-          subst (First (record { number = 15; at = at })) (sym g) (first-fault 15 at);
+          let g : constantFaults W isNoSize aNum S (a .M) e ≡ fault noValue at = faults-bad W S (a .M) e aNum isNoSize (clean-wants a) (bad a) ∙ ap (fault noValue) first-at in
+          subst (First (record { number = noValue; at = at })) (sym g) (first-fault noValue at);
       kept = o .kept;
     }
 
-    pub size-low : ltZ (read v) (pos 1) ≡ true → Sizes code values after at (sizes-of.Unsized 15 at)
+    pub size-low : ltZ (read v) (pos 1) ≡ true → Sizes code values after at (sizes-of.Unsized noValue at)
     size-low h = no-size (λ a. no-size-low _ v (value-is a) (rw (toZ-ofZ (value-fits a)) at h))
 
-    pub size-high : ltZ (read v) (pos 1) ≡ false → ltZ (pos 512) (read v) ≡ true → Sizes code values after at (sizes-of.Unsized 15 at)
+    pub size-high : ltZ (read v) (pos 1) ≡ false → ltZ (pos elementLimit) (read v) ≡ true → Sizes code values after at (sizes-of.Unsized noValue at)
     size-high h g = no-size (λ a. no-size-high _ v (value-is a) (rw (toZ-ofZ (value-fits a)) at h) (rw (toZ-ofZ (value-fits a)) at g))
 
-    module _ (h : ltZ (read v) (pos 1) ≡ false) (g : ltZ (pos 512) (read v) ≡ false) where
+    module _ (h : ltZ (read v) (pos 1) ≡ false) (g : ltZ (pos elementLimit) (read v) ≡ false) where
       pub size-fine : Sizes code values after at (sizes-of.Count (natAbs (read v)) next)
       unfolding SaysSize
       size-fine = record {

@@ -1,7 +1,8 @@
 -- What a constant expression is worth, and what its check asks of the two stores.
 use mathlib.Core.Path.{_≡_}
-use mathlib.Core.Bool.{Bool, false}
+use mathlib.Core.Bool.{false}
 use mathlib.Core.List.{List, []}
+use mathlib.Core.Option.{some}
 use Prim.Native.Nat.{ℕ, _+_, _<_, _≤_}
 use lib.ListN.{getD}
 use lib.IntN.{ℤ, pos, _-ℤ_}
@@ -22,7 +23,8 @@ use Rattle.evaluation.specs.Answers.{callWords, firstNegative}
 use Rattle.faults.specs.First.{First}
 use Rattle.expressions.specs.Known.{largest, InRoom}
 use Rattle.store.specs.Promises.{Kept}
-use Rattle.expressions.specs.Answers.{typeIf, Stands}
+use Rattle.layout.specs.Types.{typeIn}
+use Rattle.expressions.specs.Answers.{Stands}
 use Rattle.constants.specs.declared.Valued.{Valued}
 use Rattle.constants.specs.declared.Valued.the-variants as values-of
 use Rattle.constants.specs.declared.Sized.{Sized}
@@ -82,8 +84,8 @@ unfoldable pub Says : (W : List Word) → DataType → Scopes → Memory → Exp
 Says W t S M e to (values-of.Value v next) = Right W t S M e to v next
 Says W t S M e to (values-of.Faulty number word) = First (record { number = number; at = word }) (constantFaults W raisesError t S M e)
 
-pub record Values (code values after : List ℕ) (wants : Bool) (at : ℕ) (r : Valued) : Type 0 where
-  pub says : (a : Asks code values at) → Says (a .stands .known .W) (typeIf wants) (a .stands .known .S) (a .M) (a .stands .e) (a .stands .to) r
+pub record Values (code values after : List ℕ) (wants at : ℕ) (r : Valued) : Type 0 where
+  pub says : (a : Asks code values at) (t : DataType) → typeIn wants ≡ some t → Says (a .stands .known .W) t (a .stands .known .S) (a .M) (a .stands .e) (a .stands .to) r
   pub kept : (a : Asks code values at) → Kept code after at (a .stands .to)
 
 -- ---- sizes

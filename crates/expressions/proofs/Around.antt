@@ -8,6 +8,8 @@ use native.Mathlib.Omega.{arith}
 use lib.Dec.{eqb, leb}
 use lib.ListN.{length}
 use borrow.Author.Tests.{eqb-true, eqb-false, le-leb, leb-true, leb-false}
+use mir.Syntax.{w64}
+use mir.Val.{Fits}
 use Rattle.laws.proofs.Tests.{test, by-same, by-last, by-most, false-true}
 use Rattle.paper.specs.Basics.{if_then_else_}
 use Rattle.paper.specs.Sorts.{NOT}
@@ -20,21 +22,26 @@ use Rattle.paper.specs.Types.{Fault, fault, faultIf, judged, differs, wanted, j
 use Rattle.paper.specs.Types as types
 use Rattle.cells.specs.Words.{wordsOf}
 use Rattle.code.specs.Cells.{opIn, valueIn, headAt, opAt, valueAt, linkAt}
-use Rattle.code.specs.Spans.{aSpan, aCallWord, aModuleElement, anOperator, guard, opOf, rightIn, operatorIn, operatorOf, leafTerm, elementTerm, firstIn, sizeIn, termIn}
+use Rattle.code.specs.Spans.{aSpan, aCallWord, aModuleElement, aParenthesis, anOperator, guard, opOf, rightIn, operatorIn, operatorOf, leafTerm, elementTerm, firstIn, sizeIn, termIn}
 use Rattle.code.proofs.Operands.{by-leaf}
 use Rattle.code.proofs.Spanning.{span-grows, single}
 use Rattle.code.proofs.Composing.{nested-span, element-span, prefix-span, number-of-op, right-of-op, operator-of-op, written-span, written-leaf}
-use Rattle.names.specs.Meanings.{anArray, typeWith, refWith, meaningWith, meaningIn}
+use Rattle.layout.specs.Parts.{linkPart}
+use Rattle.layout.specs.Rules.{wrongType}
+use Rattle.layout.specs.Types.{numType, typeIn}
+use Rattle.layout.proofs.Typing.{num-in, same-types}
+use Rattle.names.specs.Meanings.{anArray, kindIn, boolIn, ownIn, typeWith, refWith, meaningWith, meaningIn}
+use Rattle.names.specs.Promises.{TypeOf}
 use Rattle.expressions.specs.declared.Judged.{Judged}
 use Rattle.expressions.specs.declared.Judged.the-variants.{Typed, Faulty}
 use Rattle.expressions.specs.Known.{InRoom, Within}
-use Rattle.expressions.specs.Answers.{typeIf, Sound, Refused, Says, Judges}
+use Rattle.expressions.specs.Answers.{Sound, Refused, Says, Judges}
 use Rattle.store.specs.Promises.{Headed, Linked}
-use Rattle.expressions.specs.Parts.{askedOf, resultOf, Numbered, isPrefix, Prefixes, Differ, Tied, Meant, Short, Nested, Signed, Indexed, Right, Joined}
+use Rattle.expressions.specs.Parts.{askedOf, resultOf, Numbered, isPrefix, Prefixes, SignType, Gives, signedOf, Tied, Meant, Short, Nested, Signed, Indexed, Right, Joined}
 use Rattle.store.proofs.Keeping.{kept-same, kept-wider, kept-rewritten, term-below, term-above}
 use Rattle.expressions.proofs.Keeping.{low-written}
 use Rattle.expressions.proofs.Judging.{judged-faults, judged-term, judged-type, wanted-none, wanted-wrong, wanted-first, joined-is, signed-is, element-is}
-use Rattle.expressions.proofs.Leaves.{judges-refused, type-with}
+use Rattle.expressions.proofs.Leaves.{judges-refused}
 
 -- ---- answers by their cases
 module _ (m n : ℕ) (C : List ℕ) (at to : ℕ) (j : types.Judged) (r : Judged) where
@@ -42,9 +49,9 @@ module _ (m n : ℕ) (C : List ℕ) (at to : ℕ) (j : types.Judged) (r : Judged
   unfolding Says
   says-faulty number word e s = subst (Says m n C at to j) e s
 
-  pub says-typed : (b : Bool) (next : ℕ) → r ≡ Typed b next → Says m n C at to j r → Sound m n C at to j b next
+  pub says-typed : (type next : ℕ) → r ≡ Typed type next → Says m n C at to j r → Sound m n C at to j type next
   unfolding Says
-  says-typed b next e s = subst (Says m n C at to j) e s
+  says-typed type next e s = subst (Says m n C at to j) e s
 
 pub faulty-judges : (m n : ℕ) (code : List ℕ) (at to : ℕ) (j : types.Judged) (r : Judged) (number word : ℕ) → r ≡ Faulty number word → Refused j number word → Judges m n code code at to j r
 faulty-judges m n code at to j r number word e f = subst (Judges m n code code at to j) (sym e) (judges-refused m n code at to j number word f)
@@ -54,10 +61,10 @@ module _ (j : types.Judged) (t : DataType) (fs : List Fault) (x : Term) (q : j �
   pub refused-as : (number word : ℕ) (others : List Fault) → fs ≡ record { number = number; at = word } ∷ others → Refused j number word
   refused-as number word others e = record { others = others; faults-are = ap (λ (k : types.Judged). k .faults) q ∙ judged-faults t fs x ∙ e }
 
-  pub sound-as : (m n : ℕ) (C : List ℕ) (at to : ℕ) (b : Bool) (next : ℕ) → fs ≡ [] → t ≡ typeIf b → next ≡ to → termIn m n C at to ≡ some x → Sound m n C at to j b next
-  sound-as m n C at to b next e ty h s = record {
+  pub sound-as : (m n : ℕ) (C : List ℕ) (at to type next : ℕ) → fs ≡ [] → typeIn type ≡ some t → next ≡ to → termIn m n C at to ≡ some x → Sound m n C at to j type next
+  sound-as m n C at to type next e ty h s = record {
     none = ap (λ (k : types.Judged). k .faults) q ∙ judged-faults t fs x ∙ e;
-    type-is = ap (λ (k : types.Judged). k .type) q ∙ judged-type t fs x e ∙ ty;
+    type-is = ty ∙ ap some (sym (ap (λ (k : types.Judged). k .type) q ∙ judged-type t fs x e));
     next-is = h;
     stands = s ∙ ap some (sym (judged-term t fs x) ∙ sym (ap (λ (k : types.Judged). k .term) q));
   }
@@ -68,7 +75,7 @@ nested-faulty code inner at number word e = record {
   is = λ m n to j s. faulty-judges m n code at (to + 1) j inner number word e (says-faulty m n (wordsOf code) (at + 1) to j inner number word e s);
 }
 
-pub nested-typed : (before after : List ℕ) (inner : Judged) (at : ℕ) (b : Bool) (end : ℕ) → inner ≡ Typed b end → Linked before after at 6 0 end → Nested before after inner at (Typed b (end + 1))
+pub nested-typed : (before after : List ℕ) (inner : Judged) (at b end : ℕ) → inner ≡ Typed b end → Linked before after at aParenthesis 0 end → Nested before after inner at (Typed b (end + 1))
 unfolding Says
 nested-typed before after inner at b end e l = record {
   is = λ m n to j s.
@@ -92,36 +99,35 @@ module _ (s : ℕ) (inner : Judged) (at : ℕ) where
   signed-faulty code number word e = record {
     is = λ m n to x j p f u.
         let r = says-faulty m n (wordsOf code) (at + 1) to j inner number word e u in
-        let w : DataType = typeIf (eqb s NOT) in
+        let w = signedOf s in
         faulty-judges m n code at to (judgeSigned s x j) inner number word e
-        (refused-as (judgeSigned s x j) w (wanted w (first x) j) (unary s (j .term)) (signed-is s x j) number word (r .others ++ faultIf (differs w (j .type)) 13 (first x))
+        (refused-as (judgeSigned s x j) w (wanted w (first x) j) (unary s (j .term)) (signed-is s x j) number word (r .others ++ faultIf (differs w (j .type)) wrongType (first x))
         (wanted-first w (first x) j (record { number = number; at = word }) (r .others) (r .faults-are)));
   }
 
-  pub signed-wrong : (code : List ℕ) (b : Bool) (end : ℕ) → inner ≡ Typed b end → (t : Bool) → Differ b (eqb s 65) t → t ≡ true → Signed code code s inner at (Faulty 13 (at + 1))
+  pub signed-wrong : (code : List ℕ) (b end : ℕ) → inner ≡ Typed b end → (wants : ℕ) → SignType s wants → (b ≡ wants → ⊥) → Signed code code s inner at (Faulty wrongType (at + 1))
   unfolding fault
-  signed-wrong code b end e v df y = record {
+  signed-wrong code b end e wants y d = record {
     is = λ m n to x j p f u.
         let t = says-typed m n (wordsOf code) (at + 1) to j inner b end e u in
-        let w : DataType = typeIf (eqb s NOT) in
-        judges-refused m n code at to (judgeSigned s x j) 13 (at + 1)
-        (refused-as (judgeSigned s x j) w (wanted w (first x) j) (unary s (j .term)) (signed-is s x j) 13 (at + 1) []
-        (wanted-wrong w (first x) j (eqb s NOT) b refl (t .type-is) (λ z. df .yes y (sym z)) (t .none) ∙ ap (fault 13) f));
+        let w = signedOf s in
+        judges-refused m n code at to (judgeSigned s x j) wrongType (at + 1)
+        (refused-as (judgeSigned s x j) w (wanted w (first x) j) (unary s (j .term)) (signed-is s x j) wrongType (at + 1) []
+        (wanted-wrong w (first x) j b wants (y .is) (t .type-is) d (t .none) ∙ ap (fault wrongType) f));
   }
 
-  pub signed-typed : (before after : List ℕ) (b : Bool) (end op : ℕ) → inner ≡ Typed b end → (t : Bool) → Differ b (eqb s 65) t → t ≡ false → Prefixes s op → Linked before after at op 0 end → Signed before after s inner at (Typed b end)
+  pub signed-typed : (before after : List ℕ) (b end op : ℕ) → inner ≡ Typed b end → (wants : ℕ) → SignType s wants → b ≡ wants → Prefixes s op → Linked before after at op 0 end → Signed before after s inner at (Typed b end)
   unfolding Says
-  signed-typed before after b end op e v df y p l = record {
+  signed-typed before after b end op e wants y h p l = record {
     is = λ m n to x j k f u.
-        let h = df .no y in
         let t = says-typed m n (wordsOf before) (at + 1) to j inner b end e u in
         let g = span-grows m n (wordsOf before) (at + 1) to (j .term) (t .stands) in
-        let w : DataType = typeIf (eqb s NOT) in
-        let o : 6 < opAt (wordsOf after) at = omega (arith, l .op-is, p .op) in
+        let w = signedOf s in
+        let o : aParenthesis < opAt (wordsOf after) at = omega (arith, l .op-is, p .op) in
         record {
           says = sound-as (judgeSigned s x j) w (wanted w (first x) j) (unary s (j .term)) (signed-is s x j) m n (wordsOf after) at to b end
-              (wanted-none w (first x) j (t .none) (ap typeIf (sym h) ∙ sym (t .type-is)))
-              (ap typeIf (sym h)) (t .next-is)
+              (wanted-none w (first x) j (t .none) (same-types wants b w (j .type) (y .is) (t .type-is) (sym h)))
+              (ap typeIn h ∙ y .is) (t .next-is)
               (prefix-span m n (wordsOf after) at to (j .term) o (l .link-is ∙ t .next-is) (term-above (l .kept) m n (at + 1) to (j .term) (omega arith) (t .stands))
               ∙ ap (λ (q : ℕ). some (unary q (j .term))) (rw (l .op-is) (p .is k)));
           kept = kept-wider (l .kept) at to (omega arith) (omega arith);
@@ -131,12 +137,12 @@ module _ (s : ℕ) (inner : Judged) (at : ℕ) where
 
 -- ---- elements
 module _ (cell : ℕ) (inner : Judged) (at : ℕ) where
-  array-is : (routine : ℕ → ℕ) → opIn cell / 4 ≡ anArray
-      → arrayIn (meaningIn routine cell) ≡ some (typeWith (cell / 2 % 2), refWith (cell % 2) (valueIn cell % 1024), valueIn cell / 1024)
+  array-is : (routine : ℕ → ℕ) → kindIn cell ≡ anArray
+      → arrayIn (meaningIn routine cell) ≡ some (typeWith (boolIn cell), refWith (ownIn cell) (valueIn cell % 1024), valueIn cell / 1024)
   unfolding meaningIn meaningWith arrayIn
   array-is routine e = rw e
 
-  array-room : (g : Meant cell) → opIn cell / 4 ≡ anArray → InRoom (g .m) (g .n) (refWith (cell % 2) (valueIn cell % 1024)) (valueIn cell / 1024)
+  array-room : (g : Meant cell) → kindIn cell ≡ anArray → InRoom (g .m) (g .n) (refWith (ownIn cell) (valueIn cell % 1024)) (valueIn cell / 1024)
   unfolding meaningIn meaningWith Within
   array-room g e = rw e at (g .within)
 
@@ -147,65 +153,66 @@ module _ (cell : ℕ) (inner : Judged) (at : ℕ) where
       (λ e. rw (e, le-leb (v % 1024 + v / 1024) n (rw e at r)))
       (λ e. let z : own ≡ 0 = omega arith in rw (z, le-leb (v % 1024 + v / 1024) m (rw z at r)))
 
-  module _ (g : Meant cell) (x : Expr) (j : types.Judged) (k : opIn cell / 4 ≡ anArray) where
+  module _ (g : Meant cell) (x : Expr) (j : types.Judged) (k : kindIn cell ≡ anArray) where
     indexed-as : judgeElement false (meaningIn (g .routine) cell) at x j
-        ≡ judged (typeWith (cell / 2 % 2)) (wanted aNum (first x) j) (elementAt (refWith (cell % 2) (valueIn cell % 1024)) (valueIn cell / 1024) (j .term))
-    indexed-as = element-is (meaningIn (g .routine) cell) at x j (typeWith (cell / 2 % 2), refWith (cell % 2) (valueIn cell % 1024), valueIn cell / 1024) (array-is (g .routine) k)
+        ≡ judged (typeWith (boolIn cell)) (wanted aNum (first x) j) (elementAt (refWith (ownIn cell) (valueIn cell % 1024)) (valueIn cell / 1024) (j .term))
+    indexed-as = element-is (meaningIn (g .routine) cell) at x j (typeWith (boolIn cell), refWith (ownIn cell) (valueIn cell % 1024), valueIn cell / 1024) (array-is (g .routine) k)
 
     indexed-refused : (number word : ℕ) (others : List Fault) → wanted aNum (first x) j ≡ record { number = number; at = word } ∷ others
         → Refused (judgeElement false (meaningIn (g .routine) cell) at x j) number word
     indexed-refused number word others e =
-        refused-as (judgeElement false (meaningIn (g .routine) cell) at x j) (typeWith (cell / 2 % 2)) (wanted aNum (first x) j)
-        (elementAt (refWith (cell % 2) (valueIn cell % 1024)) (valueIn cell / 1024) (j .term)) indexed-as number word others e
+        refused-as (judgeElement false (meaningIn (g .routine) cell) at x j) (typeWith (boolIn cell)) (wanted aNum (first x) j)
+        (elementAt (refWith (ownIn cell) (valueIn cell % 1024)) (valueIn cell / 1024) (j .term)) indexed-as number word others e
 
   pub indexed-faulty : (code : List ℕ) (number word : ℕ) → inner ≡ Faulty number word → Indexed code code cell inner at inner
   indexed-faulty code number word e = record {
     is = λ g to x j k f u.
         let r = says-faulty (g .m) (g .n) (wordsOf code) (at + 2) to j inner number word e u in
         faulty-judges (g .m) (g .n) code at (to + 1) (judgeElement false (meaningIn (g .routine) cell) at x j) inner number word e
-        (indexed-refused g x j k number word (r .others ++ faultIf (differs aNum (j .type)) 13 (first x))
+        (indexed-refused g x j k number word (r .others ++ faultIf (differs aNum (j .type)) wrongType (first x))
         (wanted-first aNum (first x) j (record { number = number; at = word }) (r .others) (r .faults-are)));
   }
 
-  pub indexed-wrong : (code : List ℕ) (b : Bool) (end : ℕ) → inner ≡ Typed b end → b ≡ true → Indexed code code cell inner at (Faulty 13 (at + 2))
-  unfolding fault typeIf
+  pub indexed-wrong : (code : List ℕ) (b end : ℕ) → inner ≡ Typed b end → (b ≡ numType → ⊥) → Indexed code code cell inner at (Faulty wrongType (at + 2))
+  unfolding fault
   indexed-wrong code b end e d = record {
     is = λ g to x j k f u.
         let t = says-typed (g .m) (g .n) (wordsOf code) (at + 2) to j inner b end e u in
-        judges-refused (g .m) (g .n) code at (to + 1) (judgeElement false (meaningIn (g .routine) cell) at x j) 13 (at + 2)
-        (indexed-refused g x j k 13 (at + 2) []
-        (wanted-wrong aNum (first x) j false true refl (t .type-is ∙ ap typeIf d) (λ z. false-true z) (t .none) ∙ ap (fault 13) f));
+        judges-refused (g .m) (g .n) code at (to + 1) (judgeElement false (meaningIn (g .routine) cell) at x j) wrongType (at + 2)
+        (indexed-refused g x j k wrongType (at + 2) []
+        (wanted-wrong aNum (first x) j b numType num-in (t .type-is) d (t .none) ∙ ap (fault wrongType) f));
   }
 
-  pub indexed-typed : (before after : List ℕ) (b : Bool) (end : ℕ) → inner ≡ Typed b end → b ≡ false → Linked before after at (4 + cell % 2) (cell / 256) end
-      → Indexed before after cell inner at (Typed (eqb (cell / 2 % 2) 1) (end + 1))
-  unfolding Says typeIf
-  indexed-typed before after b end e d l = record {
+  pub indexed-typed : (before after : List ℕ) (b end : ℕ) → inner ≡ Typed b end → b ≡ numType → (own value type : ℕ) → own ≡ ownIn cell → value ≡ valueIn cell → TypeOf cell type
+      → Linked before after at (aModuleElement + own) value end → Indexed before after cell inner at (Typed type (end + 1))
+  unfolding Says
+  indexed-typed before after b end e d own value type o v y l = record {
     is = λ g to x j k f u.
         let t = says-typed (g .m) (g .n) (wordsOf before) (at + 2) to j inner b end e u in
         let h = span-grows (g .m) (g .n) (wordsOf before) (at + 2) to (j .term) (t .stands) in
-        let y : Term = elementAt (refWith (cell % 2) (valueIn cell % 1024)) (valueIn cell / 1024) (j .term) in
+        let z : Term = elementAt (refWith (ownIn cell) (valueIn cell % 1024)) (valueIn cell / 1024) (j .term) in
         record {
-          says = sound-as (judgeElement false (meaningIn (g .routine) cell) at x j) (typeWith (cell / 2 % 2)) (wanted aNum (first x) j) y (indexed-as g x j k) (g .m) (g .n) (wordsOf after) at (to + 1) (eqb (cell / 2 % 2) 1) (end + 1)
-              (wanted-none aNum (first x) j (t .none) (sym (t .type-is ∙ ap typeIf d)))
-              (type-with (cell / 2 % 2) (omega arith)) (ap (λ (q : ℕ). q + 1) (t .next-is))
-              (element-span (g .m) (g .n) (wordsOf after) at to (j .term) y (omega (arith, l .op-is)) (omega (arith, l .op-is)) (l .link-is ∙ t .next-is)
+          says = sound-as (judgeElement false (meaningIn (g .routine) cell) at x j) (typeWith (boolIn cell)) (wanted aNum (first x) j) z (indexed-as g x j k) (g .m) (g .n) (wordsOf after) at (to + 1) type (end + 1)
+              (wanted-none aNum (first x) j (t .none) (same-types numType b aNum (j .type) num-in (t .type-is) (sym d)))
+              (y .is) (ap (λ (q : ℕ). q + 1) (t .next-is))
+              (element-span (g .m) (g .n) (wordsOf after) at to (j .term) z (omega (arith, l .op-is)) (omega (arith, l .op-is, o)) (l .link-is ∙ t .next-is)
               (term-above (l .kept) (g .m) (g .n) (at + 2) to (j .term) (omega arith) (t .stands))
-              (rw (l .op-is, l .value-is) (element-term (g .m) (g .n) (cell % 2) (cell / 256) (j .term) (omega arith) (array-room g k))));
+              (rw (l .op-is, l .value-is, o, v) (element-term (g .m) (g .n) (ownIn cell) (valueIn cell) (j .term) (omega arith) (array-room g k))));
           kept = kept-wider (l .kept) at (to + 1) (omega arith) (omega arith);
-          low = low-written before after at (l .kept) (omega (arith, l .op-is));
+          low = low-written before after at (l .kept) (omega (arith, l .op-is, o));
         };
   }
 
 -- ---- an operator's word
-pub tie-small : (C : List ℕ) (i w number : ℕ) → w ≡ headAt C (i + 1) → opAt C (i + 1) < 4 → number < 16 → 64 + number + 16 * (w % 256) < 128
-tie-small C i w number e h k = let f : w % 256 < 4 = rw e h in omega arith
+pub tie-small : (C : List ℕ) (i w number : ℕ) → w ≡ headAt C (i + 1) → opAt C (i + 1) ≤ aCallWord → number < 16 → anOperator + number + 16 * (w % 256) < 128
+tie-small C i w number e h k = let f : w % 256 ≤ aCallWord = rw e h in omega arith
 
 module _ (before after : List ℕ) (s i n number : ℕ) (k : Numbered s number) where
-  pub tie-leaf : (w : ℕ) → w ≡ headAt (wordsOf before) (i + 1) → n ≡ i + 2 → (n ≡ i + 2 → opAt (wordsOf before) (i + 1) < 4) → Headed before after i (64 + number + 16 * (w % 256)) (w / 256) → Tied before after s i n
+  pub tie-leaf : (w : ℕ) → w ≡ headAt (wordsOf before) (i + 1) → n ≡ i + 2 → (n ≡ i + 2 → opAt (wordsOf before) (i + 1) ≤ aCallWord) → Headed before after i (anOperator + number + 16 * (w % 256)) (w / 256) → Tied before after s i n
   tie-leaf w e q small h =
       let o : opAt (wordsOf after) i ≡ opOf number (w % 256) = h .op-is ∙ omega arith in
-      let f : w % 256 < 4 = rw e (small q) in
+      let leaf : w % 256 ≤ aCallWord = rw e (small q) in
+      let f : w % 256 < 4 = omega arith in
       record {
         operator-is = ap operatorIn o ∙ operator-of-op number (w % 256) (k .small) f ∙ k .is;
         leaf-op = λ _. ap rightIn o ∙ right-of-op number (w % 256) (k .small) f ∙ ap opIn e;
@@ -216,7 +223,7 @@ module _ (before after : List ℕ) (s i n number : ℕ) (k : Numbered s number) 
         kept = h .kept;
       }
 
-  pub tie-span : (n ≡ i + 2 → ⊥) → Linked before after i (64 + number) 0 n → Tied before after s i n
+  pub tie-span : (n ≡ i + 2 → ⊥) → Linked before after i (anOperator + number) 0 n → Tied before after s i n
   tie-span d l =
       let o : opAt (wordsOf after) i ≡ opOf number 0 = l .op-is ∙ omega arith in
       record {
@@ -231,41 +238,41 @@ module _ (before after : List ℕ) (s i n number : ℕ) (k : Numbered s number) 
 
 -- ---- two sides
 -- a right side of one word is a leaf
-leaf-small : (m n op v : ℕ) (t : Term) → leafTerm m n op v ≡ some t → (op ≡ 0 → ⊥) × (op < 4)
+leaf-small : (m n op v : ℕ) (t : Term) → leafTerm m n op v ≡ some t → (op ≡ 0 → ⊥) × (op ≤ aCallWord)
 leaf-small m n op v t e = (λ z. by-leaf m n op v t e (λ h. omega arith) (λ h. omega arith) (λ h. omega arith), by-leaf m n op v t e (λ h. omega arith) (λ h. omega arith) (λ h. omega arith))
 
 module _ (s l i : ℕ) (right : Judged) where
-  pub right-leaf : (code : List ℕ) (b : Bool) (end : ℕ) → Right code s l i right → right ≡ Typed b end → end ≡ i + 2 → opAt (wordsOf code) (i + 1) < 4
+  pub right-leaf : (code : List ℕ) (b end : ℕ) → Right code s l i right → right ≡ Typed b end → end ≡ i + 2 → opAt (wordsOf code) (i + 1) ≤ aCallWord
   right-leaf code b end r e h =
       let t = says-typed (r .m) (r .n) (wordsOf code) (i + 1) (r .to) (r .j) right b end e (r .says) in
       leaf-small (r .m) (r .n) (opAt (wordsOf code) (i + 1)) (valueAt (wordsOf code) (i + 1)) (r .j .term)
       (single (r .m) (r .n) (wordsOf code) (i + 1) (r .to) (r .j .term) (omega (arith, t .next-is)) (t .stands)) .1
 
   -- where it ends
-  pub right-ends : (code : List ℕ) (b : Bool) (end : ℕ) → Right code s l i right → right ≡ Typed b end → (i + 1 < end) × (end < wordLimit) × (end * 8 + 8 ≤ length code)
+  pub right-ends : (code : List ℕ) (b end : ℕ) → Right code s l i right → right ≡ Typed b end → (i + 1 < end) × (end < wordLimit) × (end * 8 + 8 ≤ length code)
   right-ends code b end r e =
       let t = says-typed (r .m) (r .n) (wordsOf code) (i + 1) (r .to) (r .j) right b end e (r .says) in
       let g = span-grows (r .m) (r .n) (wordsOf code) (i + 1) (r .to) (r .j .term) (t .stands) in
       (omega (arith, t .next-is), omega (arith, t .next-is, r .last), omega (arith, t .next-is, r .room))
 
-  pub right-ties : (code : List ℕ) (b : Bool) (end : ℕ) → Right code s l i right → right ≡ Typed b end
-      → (i * 8 + 16 ≤ length code) × (end < 65536) × (0 < levelOf s) × (end ≡ i + 2 → opAt (wordsOf code) (i + 1) < 4)
-  right-ties code b end r e =
-      let g = right-ends code b end r e in
-      (omega (arith, g .0, g .2), omega (arith, g .1), omega (arith, r .level-is, r .some), right-leaf code b end r e)
+  pub right-room : (code : List ℕ) (b end : ℕ) → Right code s l i right → right ≡ Typed b end → i * 8 + 16 ≤ length code
+  right-room code b end r e = let g = right-ends code b end r e in omega (arith, g .0, g .2)
 
-module _ (s l i : ℕ) (wants : Bool) (right : Judged) where
+  pub right-near : (code : List ℕ) (b end : ℕ) → Right code s l i right → right ≡ Typed b end → end < linkPart
+  right-near code b end r e = omega (arith, right-ends code b end r e .1)
+
+  pub right-some : (code : List ℕ) → Right code s l i right → 0 < levelOf s
+  right-some code r = omega (arith, r .level-is, r .some)
+
+module _ (s l i wants : ℕ) (right : Judged) where
   -- what the left side leaves of the faults
-  module _ (m n at : ℕ) (C : List ℕ) (a b : Expr) (ja jb : types.Judged) (left : Sound m n C at i ja wants i) (asks : askedOf s (typeIf wants) ≡ typeIf wants) where
-    asked-left : askedOf s (ja .type) ≡ typeIf wants
-    asked-left = ap (askedOf s) (left .type-is) ∙ asks
-
-    joined-faults : wanted (askedOf s (ja .type)) (first a) ja ++ wanted (askedOf s (ja .type)) (first b) jb ≡ wanted (typeIf wants) (first b) jb
+  module _ (m n at : ℕ) (C : List ℕ) (a b : Expr) (ja jb : types.Judged) (left : Sound m n C at i ja wants i) (asks : askedOf s (ja .type) ≡ ja .type) where
+    joined-faults : wanted (askedOf s (ja .type)) (first a) ja ++ wanted (askedOf s (ja .type)) (first b) jb ≡ wanted (ja .type) (first b) jb
     joined-faults =
-        ap (λ (t : DataType). wanted t (first a) ja ++ wanted t (first b) jb) asked-left
-        ∙ ap (λ (f : List Fault). f ++ wanted (typeIf wants) (first b) jb) (wanted-none (typeIf wants) (first a) ja (left .none) (sym (left .type-is)))
+        ap (λ (t : DataType). wanted t (first a) ja ++ wanted t (first b) jb) asks
+        ∙ ap (λ (f : List Fault). f ++ wanted (ja .type) (first b) jb) (wanted-none (ja .type) (first a) ja (left .none) refl)
 
-    joined-refused : (number word : ℕ) (others : List Fault) → wanted (typeIf wants) (first b) jb ≡ record { number = number; at = word } ∷ others → Refused (judgeJoined s a b ja jb) number word
+    joined-refused : (number word : ℕ) (others : List Fault) → wanted (ja .type) (first b) jb ≡ record { number = number; at = word } ∷ others → Refused (judgeJoined s a b ja jb) number word
     joined-refused number word others e =
         refused-as (judgeJoined s a b ja jb) (resultOf s) (wanted (askedOf s (ja .type)) (first a) ja ++ wanted (askedOf s (ja .type)) (first b) jb) (binary s (ja .term) (jb .term))
         (joined-is s a b ja jb) number word others (joined-faults ∙ e)
@@ -275,46 +282,41 @@ module _ (s l i : ℕ) (wants : Bool) (right : Judged) where
     is = λ m n at to a b ja jb left asks f u.
         let r = says-faulty m n (wordsOf code) (i + 1) to jb right number word e u in
         faulty-judges m n code at to (judgeJoined s a b ja jb) right number word e
-        (joined-refused m n at (wordsOf code) a b ja jb left asks number word (r .others ++ faultIf (differs (typeIf wants) (jb .type)) 13 (first b))
-        (wanted-first (typeIf wants) (first b) jb (record { number = number; at = word }) (r .others) (r .faults-are)));
+        (joined-refused m n at (wordsOf code) a b ja jb left asks number word (r .others ++ faultIf (differs (ja .type) (jb .type)) wrongType (first b))
+        (wanted-first (ja .type) (first b) jb (record { number = number; at = word }) (r .others) (r .faults-are)));
   }
 
-  pub join-wrong : (code : List ℕ) (bool : Bool) (end : ℕ) → right ≡ Typed bool end → (t : Bool) → Differ bool wants t → t ≡ true → Joined code code s wants i right (Faulty 13 (i + 1))
+  pub join-wrong : (code : List ℕ) (b end : ℕ) → right ≡ Typed b end → (b ≡ wants → ⊥) → Joined code code s wants i right (Faulty wrongType (i + 1))
   unfolding fault
-  join-wrong code bool end e v df y = record {
+  join-wrong code t end e d = record {
     is = λ m n at to a b ja jb left asks f u.
-        let t = says-typed m n (wordsOf code) (i + 1) to jb right bool end e u in
-        judges-refused m n code at to (judgeJoined s a b ja jb) 13 (i + 1)
-        (joined-refused m n at (wordsOf code) a b ja jb left asks 13 (i + 1) []
-        (wanted-wrong (typeIf wants) (first b) jb wants bool refl (t .type-is) (λ z. df .yes y (sym z)) (t .none) ∙ ap (fault 13) f));
+        let r = says-typed m n (wordsOf code) (i + 1) to jb right t end e u in
+        judges-refused m n code at to (judgeJoined s a b ja jb) wrongType (i + 1)
+        (joined-refused m n at (wordsOf code) a b ja jb left asks wrongType (i + 1) []
+        (wanted-wrong (ja .type) (first b) jb t wants (left .type-is) (r .type-is) d (r .none) ∙ ap (fault wrongType) f));
   }
 
-  result-is : l ≡ levelOf s → resultOf s ≡ typeIf (leb 3 l)
-  unfolding resultOf typeIf
-  result-is e = test (leb relations (levelOf s)) (λ t. rw (e, t, resultOf)) (λ t. rw (e, t, resultOf))
-
-  pub join-typed : (before after : List ℕ) (bool : Bool) (end : ℕ) → right ≡ Typed bool end → (t : Bool) → Differ bool wants t → t ≡ false → l ≡ levelOf s → Tied before after s i end → Joined before after s wants i right (Typed (leb 3 l) end)
+  pub join-typed : (before after : List ℕ) (b end : ℕ) → right ≡ Typed b end → b ≡ wants → l ≡ levelOf s → (type : ℕ) → Gives l type → Tied before after s i end → Joined before after s wants i right (Typed type end)
   unfolding Says
-  join-typed before after bool end e v df y lv t = record {
+  join-typed before after k end e q lv type y t = record {
     is = λ m n at to a b ja jb left asks f u.
-        let q = df .no y in
-        let r = says-typed m n (wordsOf before) (i + 1) to jb right bool end e u in
+        let r = says-typed m n (wordsOf before) (i + 1) to jb right k end e u in
         let g = span-grows m n (wordsOf before) at i (ja .term) (left .stands) in
         let h = span-grows m n (wordsOf before) (i + 1) to (jb .term) (r .stands) in
         let rew = kept-rewritten before after i (t .kept) in
         let op : some (binary (operatorIn (opAt (wordsOf after) i)) (ja .term) (jb .term)) ≡ some (binary s (ja .term) (jb .term)) = ap (λ (o : ℕ). some (binary o (ja .term) (jb .term))) (t .operator-is) in
         record {
           says = sound-as (judgeJoined s a b ja jb) (resultOf s) (wanted (askedOf s (ja .type)) (first a) ja ++ wanted (askedOf s (ja .type)) (first b) jb) (binary s (ja .term) (jb .term)) (joined-is s a b ja jb)
-              m n (wordsOf after) at to (leb 3 l) end
-              (joined-faults m n at (wordsOf before) a b ja jb left asks ∙ wanted-none (typeIf wants) (first b) jb (r .none) (sym (r .type-is ∙ ap typeIf q)))
-              (result-is lv) (r .next-is)
+              m n (wordsOf after) at to type end
+              (joined-faults m n at (wordsOf before) a b ja jb left asks ∙ wanted-none (ja .type) (first b) jb (r .none) (same-types wants k (ja .type) (jb .type) (left .type-is) (r .type-is) (sym q)))
+              (y .is s lv) (r .next-is)
               (by-same end (i + 2)
               (λ z.
               let sg = single m n (wordsOf before) (i + 1) to (jb .term) (omega (arith, r .next-is)) (r .stands) in
               let to2 : i + 2 ≡ to = omega (arith, r .next-is) in
               subst (λ (p : ℕ). termIn m n (wordsOf after) at p ≡ some (binary s (ja .term) (jb .term))) to2
               (written-leaf m n (wordsOf before) (wordsOf after) i rew at (ja .term) (jb .term)
-              (λ y. leaf-small m n (opAt (wordsOf before) (i + 1)) (valueAt (wordsOf before) (i + 1)) (jb .term) sg .0 (sym (t .leaf-op z) ∙ y))
+              (λ h0. leaf-small m n (opAt (wordsOf before) (i + 1)) (valueAt (wordsOf before) (i + 1)) (jb .term) sg .0 (sym (t .leaf-op z) ∙ h0))
               (left .stands) (rw (t .leaf-op z, t .leaf-value z) sg) ∙ op))
               (λ z. written-span m n (wordsOf before) (wordsOf after) i rew at to (ja .term) (jb .term) (t .span-op z) (t .span-link z ∙ r .next-is) (left .stands) (r .stands) ∙ op));
           kept = kept-wider (t .kept) at to (omega arith) (omega arith);
@@ -322,6 +324,17 @@ module _ (s l i : ℕ) (wants : Bool) (right : Judged) where
         };
   }
 
-pub short-end : (inner : Judged) (b : Bool) (end : ℕ) → Short inner → inner ≡ Typed b end → end < wordLimit
-unfolding Short
-short-end inner b end s e = subst Short e s
+-- ---- where what is answered ends
+module _ (inner : Judged) (b end : ℕ) (s : Short inner) (e : inner ≡ Typed b end) where
+  short-end : end < wordLimit
+  unfolding Short
+  short-end = subst Short e s
+
+  pub short-link : end < linkPart
+  short-link = omega (arith, short-end)
+
+  pub short-next : Fits w64 (end + 1)
+  short-next = record { fits = omega (arith, short-end) }
+
+pub right-next : (code : List ℕ) (s l i : ℕ) (right : Judged) (b end : ℕ) → Right code s l i right → right ≡ Typed b end → Fits w64 (i + 1)
+right-next code s l i right b end r e = let g = right-ends s l i right code b end r e in record { fits = omega (arith, g .0, g .1) }

@@ -6,22 +6,23 @@ use mathlib.Core.Option.{some}
 use Prim.Native.Nat.{ℕ, _-_}
 use native.Mathlib.Omega.{arith}
 use Rattle.paper.specs.Trees.{Expr, first}
-use Rattle.paper.specs.Expressions.{got, levelOf, exprIn}
-use Rattle.paper.specs.Names.{sortIn}
+use Rattle.paper.specs.Expressions.{got, disjunctions, levelOf, exprIn}
+use Rattle.paper.specs.Names.{DataType, sortIn}
 use Rattle.paper.specs.Types.{least, wanted, judge}
 use Rattle.cells.specs.Words.{wordsOf}
+use Rattle.layout.specs.Types.{typeIn}
 use Rattle.climb.proofs.Operands.{deeper}
 use Rattle.climb.proofs.Places.{stands}
 use Rattle.expressions.specs.declared.Judged.{Judged}
 use Rattle.expressions.specs.declared.Judged.the-variants.{Typed, Faulty}
 use Rattle.expressions.specs.Known.{Loaded, Known}
-use Rattle.expressions.specs.Answers.{typeIf, Sound, Stands, Checked, ofType, OfType}
+use Rattle.expressions.specs.Answers.{Sound, Stands, Checked, ofType, OfType}
 use Rattle.expressions.proofs.Order.{Rising, rising-least, rising-wanted, least-is}
 use Rattle.expressions.proofs.Around.{says-typed, says-faulty}
 
 -- A whole expression stands where the paper reads one that no operator follows.
 pub expr-stands : (code values : List ℕ) (known : Known values) (d at to : ℕ) (e : Expr) → exprIn (sortIn (known .W)) d at ≡ got (e, to) → levelOf (sortIn (known .W) to) ≡ 0
-    → Loaded (known .W) code at to → Stands code values 5 at
+    → Loaded (known .W) code at to → Stands code values disjunctions at
 expr-stands code values known d at to e h none l = record {
   known = known;
   d = d - 1;
@@ -35,22 +36,22 @@ expr-stands code values known d at to e h none l = record {
 
 module _ (code values after : List ℕ) (only : Bool) (at : ℕ) (r : Judged) where
   module _ (top : ℕ) (s : Stands code values top at) (c : Checked code values after only top at r) where
-    pub checked-typed : (bool : Bool) (next : ℕ) → r ≡ Typed bool next → Sound (s .known .m) (s .known .n) (wordsOf after) at (s .to) (judge (s .known .W) only (s .known .S) (s .e)) bool next
-    checked-typed bool next e = says-typed _ _ _ _ _ _ r bool next e (c .is s .says)
+    pub checked-typed : (type next : ℕ) → r ≡ Typed type next → Sound (s .known .m) (s .known .n) (wordsOf after) at (s .to) (judge (s .known .W) only (s .known .S) (s .e)) type next
+    checked-typed type next e = says-typed _ _ _ _ _ _ r type next e (c .is s .says)
 
     -- the fault that is answered is the least
     pub checked-faulty : (number word : ℕ) → r ≡ Faulty number word → least (judge (s .known .W) only (s .known .S) (s .e) .faults) ≡ some (record { number = number; at = word })
     checked-faulty number word e =
         least-is (s .known .W) only (s .known .S) (s .d) top at (s .to) (s .e) number word (s .is) (says-faulty _ _ _ _ _ _ r number word e (c .is s .says))
 
-  module _ (wants : Bool) (s : Stands code values 5 at) (c : OfType code values after only wants at r) where
-    pub of-type-typed : (bool : Bool) (next : ℕ) → r ≡ Typed bool next
-        → Sound (s .known .m) (s .known .n) (wordsOf after) at (s .to) (ofType (typeIf wants) (first (s .e)) (judge (s .known .W) only (s .known .S) (s .e))) bool next
-    of-type-typed bool next e = says-typed _ _ _ _ _ _ r bool next e (c .is s .says)
+  module _ (wants : ℕ) (t : DataType) (w : typeIn wants ≡ some t) (s : Stands code values disjunctions at) (c : OfType code values after only wants at r) where
+    pub of-type-typed : (type next : ℕ) → r ≡ Typed type next
+        → Sound (s .known .m) (s .known .n) (wordsOf after) at (s .to) (ofType t (first (s .e)) (judge (s .known .W) only (s .known .S) (s .e))) type next
+    of-type-typed type next e = says-typed _ _ _ _ _ _ r type next e (c .is s t w .says)
 
     pub of-type-faulty : (number word : ℕ) → r ≡ Faulty number word
-        → least (wanted (typeIf wants) (first (s .e)) (judge (s .known .W) only (s .known .S) (s .e))) ≡ some (record { number = number; at = word })
+        → least (wanted t (first (s .e)) (judge (s .known .W) only (s .known .S) (s .e))) ≡ some (record { number = number; at = word })
     of-type-faulty number word e =
-        let f = says-faulty _ _ _ _ _ _ r number word e (c .is s .says) in
-        let q = rising-wanted (s .known .W) only (s .known .S) (typeIf wants) (s .e) at (s .to) (stands (sortIn (s .known .W)) (s .d) 5 at (s .e, s .to) (s .is)) in
+        let f = says-faulty _ _ _ _ _ _ r number word e (c .is s t w .says) in
+        let q = rising-wanted (s .known .W) only (s .known .S) t (s .e) at (s .to) (stands (sortIn (s .known .W)) (s .d) 5 at (s .e, s .to) (s .is)) in
         ap least (f .faults-are) ∙ rising-least at (s .to) (record { number = number; at = word }) (f .others) (subst (Rising at (s .to)) (f .faults-are) q)

@@ -8,6 +8,8 @@ use native.Mathlib.Omega.{arith}
 use lib.Dec.{eqb}
 use lib.ListN.{length}
 use borrow.Author.Tests.{eqb-true}
+use mir.Syntax.{w64}
+use mir.Val.{Fits}
 use Rattle.laws.proofs.Tests.{test, by-most}
 use Rattle.paper.specs.Sorts.{NOT, plus, minusSign}
 use Rattle.paper.specs.Words.{Word, wordLimit}
@@ -19,6 +21,9 @@ use Rattle.paper.specs.Types.{Fault, fault, faultIf, differs, wanted, judgeJoin
 use Rattle.cells.specs.Words.{wordsOf}
 use Rattle.code.specs.Cells.{opAt}
 use Rattle.code.specs.Spans.{termIn}
+use Rattle.layout.specs.Rules.{wrongType}
+use Rattle.layout.specs.Types.{typeIn}
+use Rattle.layout.proofs.Typing.{same-types}
 use Rattle.climb.specs.Rise.{rise, next, lowest}
 use Rattle.climb.specs.Places.{Spans}
 use Rattle.climb.proofs.Climb.{rise-stop, Joins, rise-join, Begun, begun}
@@ -26,8 +31,8 @@ use Rattle.climb.proofs.Operands.{got-same}
 use Rattle.climb.proofs.Places.{spans-grow, spans-first, stands, begins, rises, rise-keeps}
 use Rattle.expressions.specs.declared.Judged.{Judged}
 use Rattle.expressions.specs.declared.Judged.the-variants.{Typed, Faulty}
-use Rattle.expressions.specs.Answers.{typeIf, Sound, Refused, Says, Judges, Stands, Checked, ofType, OfType}
-use Rattle.expressions.specs.Parts.{askedOf, resultOf, Asks, Differ, Right, Joined, Begins, Began}
+use Rattle.expressions.specs.Answers.{Sound, Refused, Says, Judges, Stands, Checked, ofType, OfType}
+use Rattle.expressions.specs.Parts.{askedOf, resultOf, Asks, Right, Joined, Begins, Began}
 use Rattle.store.proofs.Keeping.{term-below, kept-wider, kept-on}
 use Rattle.expressions.proofs.Keeping.{low-on}
 use Rattle.expressions.proofs.Judging.{wanted-first, wanted-wrong, wanted-none, joined-is}
@@ -51,16 +56,16 @@ module _ (W : List Word) (only : Bool) (S : Scopes) (i : ℕ) (a b : Expr) where
   pub refused-joined : (number word : ℕ) → Refused (judge W only S a) number word → Refused (judge W only S (joined i a b)) number word
   refused-joined number word r =
       let t = askedOf (sortIn W i) (judge W only S a .type) in
-      left-refused number word (r .others ++ faultIf (differs t (judge W only S a .type)) 13 (first a))
+      left-refused number word (r .others ++ faultIf (differs t (judge W only S a .type)) wrongType (first a))
       (wanted-first t (first a) (judge W only S a) (record { number = number; at = word }) (r .others) (r .faults-are))
 
   -- the left side is of a wrong type
-  pub wrong-joined : (bool wants : Bool) → judge W only S a .faults ≡ [] → judge W only S a .type ≡ typeIf bool → askedOf (sortIn W i) (typeIf bool) ≡ typeIf wants → (bool ≡ wants → ⊥)
-      → Refused (judge W only S (joined i a b)) 13 (first a)
+  pub wrong-joined : (type wants : ℕ) → judge W only S a .faults ≡ [] → typeIn type ≡ some (judge W only S a .type) → typeIn wants ≡ some (askedOf (sortIn W i) (judge W only S a .type)) → (type ≡ wants → ⊥)
+      → Refused (judge W only S (joined i a b)) wrongType (first a)
   unfolding fault
-  wrong-joined bool wants none type asks d =
-      left-refused 13 (first a) []
-      (wanted-wrong (askedOf (sortIn W i) (judge W only S a .type)) (first a) (judge W only S a) wants bool (ap (askedOf (sortIn W i)) type ∙ asks) type (λ q. d (sym q)) none)
+  wrong-joined type wants none is asks d =
+      left-refused wrongType (first a) []
+      (wanted-wrong (askedOf (sortIn W i) (judge W only S a .type)) (first a) (judge W only S a) type wants asks is d none)
 
 -- ---- what follows
 lowest-some : (s : ℕ) → 0 < lowest s
@@ -152,9 +157,9 @@ module _ (code values : List ℕ) (top at : ℕ) (s : Stands code values top at)
         subst (λ (r : Judged). Judges (s .known .m) (s .known .n) code now at (s .to) (judge (s .known .W) only (s .known .S) (s .e)) r) (sym e)
         (going-faulty number word (going-refused (g .e) (g .i) (g .f) (g .low) number word (g .rest) (says-faulty _ _ _ _ _ _ left number word e (g .judges .says))))
 
-    module _ (bool : Bool) (i : ℕ) (e : left ≡ Typed bool i) where
-      left-sound : Sound (s .known .m) (s .known .n) (wordsOf now) at (g .i) (judge (s .known .W) only (s .known .S) (g .e)) bool i
-      left-sound = says-typed _ _ _ _ _ _ left bool i e (g .judges .says)
+    module _ (type i : ℕ) (e : left ≡ Typed type i) where
+      left-sound : Sound (s .known .m) (s .known .n) (wordsOf now) at (g .i) (judge (s .known .W) only (s .known .S) (g .e)) type i
+      left-sound = says-typed _ _ _ _ _ _ left type i e (g .judges .says)
 
       end-is : g .i ≡ i
       end-is = sym (left-sound .next-is)
@@ -176,9 +181,9 @@ module _ (code values : List ℕ) (top at : ℕ) (s : Stands code values top at)
         level-is = el ∙ ap levelOf operator-is
 
         -- no operator follows that goes on
-        stop-is : (0 < l → l ≤ top → ⊥) → Judges (s .known .m) (s .known .n) code now at (s .to) (judge (s .known .W) only (s .known .S) (s .e)) (Typed bool i)
+        stop-is : (0 < l → l ≤ top → ⊥) → Judges (s .known .m) (s .known .n) code now at (s .to) (judge (s .known .W) only (s .known .S) (s .e)) (Typed type i)
         stop-is h =
-            subst (λ (y : Expr × ℕ). Judges (s .known .m) (s .known .n) code now at (y .1) (judge (s .known .W) only (s .known .S) (y .0)) (Typed bool i))
+            subst (λ (y : Expr × ℕ). Judges (s .known .m) (s .known .n) code now at (y .1) (judge (s .known .W) only (s .known .S) (y .0)) (Typed type i))
             (got-same (g .e, g .i) (s .e, s .to)
             (sym (rise-stop (sortIn (s .known .W)) (exprIn (sortIn (s .known .W)) (s .d)) (g .f) (g .low) (g .e) (g .i) (λ a b. h (omega (arith, level-is, g .some)) (omega (arith, level-is, g .width)))) ∙ g .rest))
             (subst (λ (r : Judged). Judges (s .known .m) (s .known .n) code now at (g .i) (judge (s .known .W) only (s .known .S) (g .e)) r) e (g .judges))
@@ -228,19 +233,20 @@ module _ (code values : List ℕ) (top at : ℕ) (s : Stands code values top at)
                     (loaded-part (s .known .W) code at (s .to) (i + 1) (joins .m) (s .loaded) (omega (arith, z .0)) right-within) (g .judges .kept) (omega (arith, end-is));
               }
 
-          module _ (wants : Bool) (asks : Asks w bool wants) where
-            asks-here : askedOf (sortIn (s .known .W) (g .i)) (typeIf bool) ≡ typeIf wants
-            asks-here = ap (λ (o : ℕ). askedOf o (typeIf bool)) (sym operator-is) ∙ asks .is
+          module _ (wants : ℕ) (asks : Asks w type wants) where
+            asks-here : typeIn wants ≡ some (askedOf w (judge (s .known .W) only (s .known .S) (g .e) .type))
+            asks-here = asks .is (judge (s .known .W) only (s .known .S) (g .e) .type) (left-sound .type-is)
 
             -- the left side is of a wrong type
-            wrong-is : (bool ≡ wants → ⊥) → Judges (s .known .m) (s .known .n) code now at (s .to) (judge (s .known .W) only (s .known .S) (s .e)) (Faulty 13 at)
+            wrong-is : (type ≡ wants → ⊥) → Judges (s .known .m) (s .known .n) code now at (s .to) (judge (s .known .W) only (s .known .S) (s .e)) (Faulty wrongType at)
             wrong-is d =
-                going-faulty 13 at
-                (going-refused (joined (g .i) (g .e) (joins .u)) (joins .m) (joins .f) (next (levelOf (sortIn (s .known .W) (g .i)))) 13 at (joins .rest)
-                (subst (λ (k : ℕ). Refused (judge (s .known .W) only (s .known .S) (joined (g .i) (g .e) (joins .u))) 13 k) (spans-first (g .e) at (g .i) (g .spans))
-                (wrong-joined (s .known .W) only (s .known .S) (g .i) (g .e) (joins .u) bool wants (left-sound .none) (left-sound .type-is) asks-here d)))
+                going-faulty wrongType at
+                (going-refused (joined (g .i) (g .e) (joins .u)) (joins .m) (joins .f) (next (levelOf (sortIn (s .known .W) (g .i)))) wrongType at (joins .rest)
+                (subst (λ (k : ℕ). Refused (judge (s .known .W) only (s .known .S) (joined (g .i) (g .e) (joins .u))) wrongType k) (spans-first (g .e) at (g .i) (g .spans))
+                (wrong-joined (s .known .W) only (s .known .S) (g .i) (g .e) (joins .u) type wants (left-sound .none) (left-sound .type-is)
+                (asks-here ∙ ap (λ (o : ℕ). some (askedOf o (judge (s .known .W) only (s .known .S) (g .e) .type))) operator-is) d)))
 
-            module _ (same : bool ≡ wants) (mid : List ℕ) (right : Judged) (c : Checked now values mid only (l - 1) (i + 1) right) where
+            module _ (same : type ≡ wants) (mid : List ℕ) (right : Judged) (c : Checked now values mid only (l - 1) (i + 1) right) where
               right-judges : Judges (s .known .m) (s .known .n) now mid (i + 1) (joins .m) (judge (s .known .W) only (s .known .S) (joins .u)) right
               unfolding right-stands
               right-judges = c .is right-stands
@@ -261,7 +267,7 @@ module _ (code values : List ℕ) (top at : ℕ) (s : Stands code values top at)
               left-still : Sound (s .known .m) (s .known .n) (wordsOf mid) at i (judge (s .known .W) only (s .known .S) (g .e)) wants i
               left-still = record {
                 none = left-sound .none;
-                type-is = left-sound .type-is ∙ ap typeIf same;
+                type-is = ap typeIn (sym same) ∙ left-sound .type-is;
                 next-is = refl;
                 stands = term-below (right-judges .kept) (s .known .m) (s .known .n) at i (judge (s .known .W) only (s .known .S) (g .e) .term) (omega arith)
                     (subst (λ (k : ℕ). termIn (s .known .m) (s .known .n) (wordsOf now) at k ≡ some (judge (s .known .W) only (s .known .S) (g .e) .term)) end-is (left-sound .stands));
@@ -274,8 +280,8 @@ module _ (code values : List ℕ) (top at : ℕ) (s : Stands code values top at)
                     let z = going-in in
                     let r = spans-grow (joins .u) (g .i + 1) (joins .m) right-spans in
                     let start : first (joins .u) ≡ i + 1 = spans-first (joins .u) (g .i + 1) (joins .m) right-spans ∙ ap (λ (k : ℕ). k + 1) end-is in
-                    let asks-same : askedOf w (typeIf wants) ≡ typeIf wants = subst (λ (b : Bool). askedOf w (typeIf b) ≡ typeIf wants) same (asks .is) in
                     let ja = judge (s .known .W) only (s .known .S) (g .e) in
+                    let asks-same : askedOf w (ja .type) ≡ ja .type = same-types wants type (askedOf w (ja .type)) (ja .type) asks-here (left-sound .type-is) (sym same) in
                     let jb = judge (s .known .W) only (s .known .S) (joins .u) in
                     let q = x .is (s .known .m) (s .known .n) at (joins .m) (g .e) (joins .u) ja jb left-still asks-same start (right-judges .says) in
                     let kept = kept-on (kept-wider (g .judges .kept) at (joins .m) (omega arith) (omega (arith, r))) (kept-wider (right-judges .kept) at (joins .m) (omega (arith, z .0)) (omega arith)) in
@@ -295,7 +301,7 @@ module _ (code values : List ℕ) (top at : ℕ) (s : Stands code values top at)
                   judges = joined-judges;
                 }
 
-                going-grows : (b : Bool) (k : ℕ) → left′ ≡ Typed b k → i < k
+                going-grows : (b k : ℕ) → left′ ≡ Typed b k → i < k
                 going-grows b k q =
                     let r = spans-grow (joins .u) (g .i + 1) (joins .m) right-spans in
                     omega (arith, r, end-is, says-typed _ _ _ _ _ _ left′ b k q (joined-judges .says) .next-is)
@@ -310,10 +316,10 @@ runs-first values now only top at left = record { is = λ code b s. first-going 
 
 -- the words that are left
 unfoldable pub wordsLeft : (words : ℕ) → Judged → ℕ
-wordsLeft n (Typed bool i) = suc (n - i)
+wordsLeft n (Typed type i) = suc (n - i)
 wordsLeft n (Faulty number word) = 0
 
-fewer : (n i : ℕ) (r : Judged) → i < n → ((b : Bool) (k : ℕ) → r ≡ Typed b k → i < k) → wordsLeft n r < suc (n - i)
+fewer : (n i : ℕ) (r : Judged) → i < n → ((b k : ℕ) → r ≡ Typed b k → i < k) → wordsLeft n r < suc (n - i)
 unfolding wordsLeft
 fewer n i (Typed b k) h f = omega (arith, f b k refl)
 fewer n i (Faulty number word) h f = omega arith
@@ -325,55 +331,60 @@ module _ (values begun now : List ℕ) (only : Bool) (top at : ℕ) (part left :
   pub run-long : (code : List ℕ) → Began code values begun only at part → Stands code values top at → length now ≡ length code
   run-long code b s = run .is code b s .judges .kept .long
 
-  module _ (bool : Bool) (i : ℕ) (e : left ≡ Typed bool i) where
+  module _ (type i : ℕ) (e : left ≡ Typed type i) where
     pub run-room : (code : List ℕ) → Began code values begun only at part → Stands code values top at → i * 8 + 8 ≤ length now
-    run-room code b s = going-in code values top at s now only left (run .is code b s) bool i e .3
+    run-room code b s = going-in code values top at s now only left (run .is code b s) type i e .3
 
-    pub run-in : (code : List ℕ) → Began code values begun only at part → Stands code values top at → (at < i) × (i < 8192)
-    run-in code b s = let z = going-in code values top at s now only left (run .is code b s) bool i e in (z .0, z .2)
+    pub run-in : (code : List ℕ) → Began code values begun only at part → Stands code values top at → (at < i) × (i < wordLimit)
+    run-in code b s = let z = going-in code values top at s now only left (run .is code b s) type i e in (z .0, z .2)
+
+    pub run-add : (code : List ℕ) → Began code values begun only at part → Stands code values top at → Fits w64 (i + 1)
+    run-add code b s = record { fits = omega (arith, run-in code b s .1) }
+
+    pub run-falls : (code : List ℕ) (t : ℕ) → Began code values begun only at part → Stands code values top at → (wordLimit - at) * 2 + 1 ≡ t → (wordLimit - (i + 1)) * 2 + 1 < t
+    run-falls code t b s e = let z = run-in code b s in omega (arith, z .0, z .1)
 
     module _ (w l : ℕ) (ew : w ≡ opAt (wordsOf now) i) (el : l ≡ levelOf w) where
-      pub run-none : (code : List ℕ) → Began code values begun only at part → l ≡ 0 → Checked code values now only top at (Typed bool i)
-      run-none code b z = record { is = λ s. stop-is code values top at s now only left (run .is code b s) bool i e w l ew el (λ h g. omega arith) }
+      pub run-none : (code : List ℕ) → Began code values begun only at part → l ≡ 0 → Checked code values now only top at (Typed type i)
+      run-none code b z = record { is = λ s. stop-is code values top at s now only left (run .is code b s) type i e w l ew el (λ h g. omega arith) }
 
-      pub run-loose : (code : List ℕ) → Began code values begun only at part → top < l → Checked code values now only top at (Typed bool i)
-      run-loose code b h = record { is = λ s. stop-is code values top at s now only left (run .is code b s) bool i e w l ew el (λ f g. omega arith) }
+      pub run-loose : (code : List ℕ) → Began code values begun only at part → top < l → Checked code values now only top at (Typed type i)
+      run-loose code b h = record { is = λ s. stop-is code values top at s now only left (run .is code b s) type i e w l ew el (λ f g. omega arith) }
 
       module _ (ne : l ≡ 0 → ⊥) (le : l ≤ top) where
         pub run-right : (code : List ℕ) → Began code values begun only at part → Stands code values top at → Stands now values (l - 1) (i + 1)
-        run-right code b s = right-stands code values top at s now only left (run .is code b s) bool i e w l ew el ne le
+        run-right code b s = right-stands code values top at s now only left (run .is code b s) type i e w l ew el ne le
 
-        module _ (wants : Bool) (asks : Asks w bool wants) (t : Bool) (df : Differ bool wants t) where
-          pub run-wrong : (code : List ℕ) → Began code values begun only at part → t ≡ true → Checked code values now only top at (Faulty 13 at)
-          run-wrong code b y = record { is = λ s. wrong-is code values top at s now only left (run .is code b s) bool i e w l ew el ne le wants asks (df .yes y) }
+        module _ (wants : ℕ) (asks : Asks w type wants) where
+          pub run-wrong : (code : List ℕ) → Began code values begun only at part → (type ≡ wants → ⊥) → Checked code values now only top at (Faulty wrongType at)
+          run-wrong code b d = record { is = λ s. wrong-is code values top at s now only left (run .is code b s) type i e w l ew el ne le wants asks d }
 
-          module _ (y : t ≡ false) (mid : List ℕ) (right : Judged) (c : Checked now values mid only (l - 1) (i + 1) right) where
+          module _ (y : type ≡ wants) (mid : List ℕ) (right : Judged) (c : Checked now values mid only (l - 1) (i + 1) right) where
             pub run-joins : (code : List ℕ) → Began code values begun only at part → Stands code values top at → Right mid w l i right
-            run-joins code b s = right-is code values top at s now only left (run .is code b s) bool i e w l ew el ne le wants asks (df .no y) mid right c
+            run-joins code b s = right-is code values top at s now only left (run .is code b s) type i e w l ew el ne le wants asks y mid right c
 
             module _ (after : List ℕ) (left′ : Judged) (x : Joined mid after w wants i right left′) where
               pub run-on : Runs values begun after only top at part left′
-              run-on = record { is = λ code b s. going-on code values top at s now only left (run .is code b s) bool i e w l ew el ne le wants asks (df .no y) mid right c after left′ x }
+              run-on = record { is = λ code b s. going-on code values top at s now only left (run .is code b s) type i e w l ew el ne le wants asks y mid right c after left′ x }
 
-              pub run-less : (code : List ℕ) → Began code values begun only at part → Stands code values top at → wordsLeft 8192 left′ < wordsLeft 8192 left
+              pub run-less : (code : List ℕ) → Began code values begun only at part → Stands code values top at → wordsLeft wordLimit left′ < wordsLeft wordLimit left
               unfolding wordsLeft
               run-less code b s =
                   let z = run-in code b s in
-                  rw e (fewer 8192 i left′ (z .1) (going-grows code values top at s now only left (run .is code b s) bool i e w l ew el ne le wants asks (df .no y) mid right c after left′ x))
+                  rw e (fewer wordLimit i left′ (z .1) (going-grows code values top at s now only left (run .is code b s) type i e w l ew el ne le wants asks y mid right c after left′ x))
 
 -- ---- an expression of a type
-module _ (code values after : List ℕ) (only wants : Bool) (at : ℕ) (r : Judged) (c : Checked code values after only 5 at r) where
+module _ (code values after : List ℕ) (only : Bool) (wants at : ℕ) (r : Judged) (c : Checked code values after only 5 at r) where
   pub typed-faulty : (number word : ℕ) → r ≡ Faulty number word → OfType code values after only wants at r
   unfolding Says
   typed-faulty number word e = record {
-    is = λ s.
+    is = λ s t w.
         let j = judge (s .known .W) only (s .known .S) (s .e) in
         let f = says-faulty _ _ _ _ _ _ r number word e (c .is s .says) in
-        let t = typeIf wants in
         subst (Judges (s .known .m) (s .known .n) code after at (s .to) (ofType t (first (s .e)) j)) (sym e)
         (record {
           says = record {
-            others = f .others ++ faultIf (differs t (j .type)) 13 (first (s .e));
+            others = f .others ++ faultIf (differs t (j .type)) wrongType (first (s .e));
             faults-are = wanted-first t (first (s .e)) j (record { number = number; at = word }) (f .others) (f .faults-are);
           };
           kept = c .is s .kept;
@@ -381,35 +392,34 @@ module _ (code values after : List ℕ) (only wants : Bool) (at : ℕ) (r : Judg
         });
   }
 
-  module _ (bool : Bool) (end : ℕ) (e : r ≡ Typed bool end) (t : Bool) (df : Differ bool wants t) where
-    pub typed-wrong : t ≡ true → OfType code values after only wants at (Faulty 13 at)
+  module _ (type end : ℕ) (e : r ≡ Typed type end) where
+    pub typed-wrong : (type ≡ wants → ⊥) → OfType code values after only wants at (Faulty wrongType at)
     unfolding Says fault
-    typed-wrong y = record {
-      is = λ s.
+    typed-wrong d = record {
+      is = λ s t w.
           let j = judge (s .known .W) only (s .known .S) (s .e) in
-          let q = says-typed _ _ _ _ _ _ r bool end e (c .is s .says) in
+          let q = says-typed _ _ _ _ _ _ r type end e (c .is s .says) in
           let start = spans-first (s .e) at (s .to) (stands (sortIn (s .known .W)) (s .d) 5 at (s .e, s .to) (s .is)) in
           record {
             says = record {
               others = [];
-              faults-are = wanted-wrong (typeIf wants) (first (s .e)) j wants bool refl (q .type-is) (λ z. df .yes y (sym z)) (q .none) ∙ ap (fault 13) start;
+              faults-are = wanted-wrong t (first (s .e)) j type wants w (q .type-is) d (q .none) ∙ ap (fault wrongType) start;
             };
             kept = c .is s .kept;
             low = c .is s .low;
           };
     }
 
-    pub typed-right : t ≡ false → OfType code values after only wants at (Typed bool end)
+    pub typed-right : type ≡ wants → OfType code values after only wants at (Typed type end)
     unfolding Says
     typed-right y = record {
-      is = λ s.
+      is = λ s t w.
           let j = judge (s .known .W) only (s .known .S) (s .e) in
-          let q = says-typed _ _ _ _ _ _ r bool end e (c .is s .says) in
-          let same = ap typeIf (df .no y) in
+          let q = says-typed _ _ _ _ _ _ r type end e (c .is s .says) in
           record {
             says = record {
-              none = wanted-none (typeIf wants) (first (s .e)) j (q .none) (sym (q .type-is ∙ same));
-              type-is = sym same;
+              none = wanted-none t (first (s .e)) j (q .none) (same-types wants type t (j .type) w (q .type-is) (sym y));
+              type-is = ap typeIn y ∙ w;
               next-is = q .next-is;
               stands = q .stands;
             };

@@ -16,8 +16,11 @@ use Rattle.paper.specs.Expressions.{relations, conjunctions, levelOf}
 use Rattle.paper.specs.Names.{DataType, aNum, aBool, refusedPiece, Meaning, arrayIn}
 use Rattle.paper.specs.Types.{Fault, fault, faultIf, judged, differs, wanted, judgeElement, judgeJoined, judgeSigned}
 use Rattle.paper.specs.Types as types
-use Rattle.expressions.specs.Answers.{typeIf, Refused}
-use Rattle.expressions.specs.Parts.{askedOf, resultOf}
+use Rattle.layout.specs.Rules.{wrongType}
+use Rattle.layout.specs.Types.{typeIn}
+use Rattle.layout.proofs.Typing.{types-differ}
+use Rattle.expressions.specs.Answers.{Refused}
+use Rattle.expressions.specs.Parts.{askedOf, resultOf, signedOf}
 
 -- ---- pieces
 pub judged-faults : (t : DataType) (fs : List Fault) (x : Term) → judged t fs x .faults ≡ fs
@@ -45,13 +48,6 @@ differs-same aNum = refl
 differs-same aBool = refl
 differs-same refusedPiece = refl
 
-pub differs-other : (a b : Bool) → (a ≡ b → ⊥) → differs (typeIf a) (typeIf b) ≡ true
-unfolding differs typeIf
-differs-other true true d = absurd (d refl)
-differs-other true false d = refl
-differs-other false true d = refl
-differs-other false false d = absurd (d refl)
-
 -- ---- what a place wants
 pub append-none : {A : Type 0} (l : List A) → l ++ [] ≡ l
 append-none [] = refl
@@ -65,11 +61,12 @@ module _ (t : DataType) (i : ℕ) (j : types.Judged) where
   pub wanted-none : j .faults ≡ [] → t ≡ j .type → wanted t i j ≡ []
   wanted-none n e = wanted-same e ∙ n
 
-  pub wanted-wrong : (a b : Bool) → t ≡ typeIf a → j .type ≡ typeIf b → (a ≡ b → ⊥) → j .faults ≡ [] → wanted t i j ≡ fault 13 i
+  -- it has another type
+  pub wanted-wrong : (type wants : ℕ) → typeIn wants ≡ some t → typeIn type ≡ some (j .type) → (type ≡ wants → ⊥) → j .faults ≡ [] → wanted t i j ≡ fault wrongType i
   unfolding wanted faultIf
-  wanted-wrong a b e g d n = rw (n, e, g, differs-other a b d, wanted)
+  wanted-wrong type wants e g d n = rw (n, types-differ wants type t (j .type) e g (λ q. d (sym q)), wanted)
 
-  pub wanted-first : (f : Fault) (r : List Fault) → j .faults ≡ f ∷ r → wanted t i j ≡ f ∷ (r ++ faultIf (differs t (j .type)) 13 i)
+  pub wanted-first : (f : Fault) (r : List Fault) → j .faults ≡ f ∷ r → wanted t i j ≡ f ∷ (r ++ faultIf (differs t (j .type)) wrongType i)
   unfolding wanted
   wanted-first f r e = rw (e, wanted)
 
@@ -100,8 +97,8 @@ module _ (s : ℕ) (a b : Expr) (ja jb : types.Judged) where
       (λ v. joined-told aBool aNum (rw (le-leb relations (levelOf s) (omega (arith, eqb-true (levelOf s) relations v)), resultOf)) (rw (t, u, askedOf)) (rw (t, u, v, judgeJoined)))
       (λ v. joined-told aNum aNum (rw (lt-leb relations (levelOf s) (omega (arith, leb-false conjunctions (levelOf s) u, eqb-false (levelOf s) relations v)), resultOf)) (rw (t, u, askedOf)) (rw (t, u, v, judgeJoined)))))
 
-pub signed-is : (s : ℕ) (e : Expr) (j : types.Judged) → judgeSigned s e j ≡ judged (typeIf (eqb s NOT)) (wanted (typeIf (eqb s NOT)) (first e) j) (unary s (j .term))
-unfolding judgeSigned typeIf
+pub signed-is : (s : ℕ) (e : Expr) (j : types.Judged) → judgeSigned s e j ≡ judged (signedOf s) (wanted (signedOf s) (first e) j) (unary s (j .term))
+unfolding judgeSigned signedOf
 signed-is s e j = test (eqb s NOT) (λ t. rw (t, judgeSigned)) (λ t. rw (t, judgeSigned))
 
 pub element-is : (m : Meaning) (i : ℕ) (e : Expr) (j : types.Judged) (a : DataType × Ref × ℕ) → arrayIn m ≡ some a

@@ -1,18 +1,21 @@
 -- The tables of operators.
 use mathlib.Core.Path.{_≡_, refl, sym, ap, _∙_}
-use mathlib.Core.Bool.{Bool, true, false, not, _||_}
+use mathlib.Core.Bool.{Bool, true, false, _||_}
+use mathlib.Core.Option.{some}
 use Prim.Native.Nat.{ℕ, _+_, _-_, _<_, _≤_}
 use native.Mathlib.Omega.{arith}
-use lib.Dec.{eqb, ltb, leb}
-use borrow.Author.Tests.{eqb-true, eqb-false, ne-eqb, eq-eqb, le-leb, lt-leb, lt-ltb, le-ltb}
-use Rattle.laws.proofs.Tests.{test, by-less, apart, false-true}
+use lib.Dec.{eqb, leb}
+use borrow.Author.Tests.{eqb-true, eqb-false, ne-eqb, eq-eqb, le-leb, lt-leb}
+use Rattle.laws.proofs.Tests.{test, false-true}
 use Rattle.paper.specs.Basics.{if_then_else_}
 use Rattle.paper.specs.Sorts.{NOT, XOR, plus, minusSign, equal, unequal}
 use Rattle.paper.specs.Expressions.{relations, conjunctions, levelOf}
+use Rattle.paper.specs.Names.{DataType, aNum, aBool}
 use Rattle.code.specs.Spans.{operators, operatorOf, prefixIn}
 use Rattle.climb.specs.Rise.{height}
-use Rattle.expressions.specs.Answers.{typeIf}
-use Rattle.expressions.specs.Parts.{askedOf, Asks, Numbered, isPrefix, Prefixes, Differ}
+use Rattle.layout.specs.Types.{numType, boolType, typeIn}
+use Rattle.layout.proofs.Typing.{num-in, bool-in}
+use Rattle.expressions.specs.Parts.{askedOf, resultOf, signedOf, Asks, Gives, Numbered, isPrefix, Prefixes, SignType}
 use Rattle.expressions.proofs.Judging.{level-equal}
 
 pub level-here : (s k : ℕ) → s ≡ k → levelOf k ≡ levelOf s
@@ -34,27 +37,43 @@ pub number-here : (s k r : ℕ) → s ≡ k → r < 16 → operatorOf r ≡ k �
 number-here s k r e h o = record { small = h; is = o ∙ sym e }
 
 -- ---- what an operator asks
-module _ (s l : ℕ) (left : Bool) (e : l ≡ levelOf s) where
-  pub asks-level : (l ≡ 3 → ⊥) → Asks s left (ltb 3 l)
-  unfolding askedOf typeIf
-  asks-level d =
-      test (eqb s equal || eqb s unequal)
-      (λ t. absurd (d (e ∙ level-equal s t)))
-      (λ t. by-less 3 l
-      (λ h. record { is = rw (t, askedOf) (rw (le-leb conjunctions (levelOf s) (omega arith), lt-ltb 3 l h)) })
-      (λ h. record { is = rw (t, askedOf) (rw (lt-leb conjunctions (levelOf s) (omega (arith, d)), le-ltb 3 l h)) }))
+-- where it asks for what it asks of every left side
+asks-type : (s left r : ℕ) (u : DataType) → typeIn r ≡ some u → ((t : DataType) → askedOf s t ≡ u) → Asks s left r
+asks-type s left r u e f = record { is = λ t _. e ∙ ap some (sym (f t)) }
 
-  pub asks-equal : s ≡ 12 → Asks s left left
+module _ (s l left : ℕ) (e : l ≡ levelOf s) where
+  no-equal : (l ≡ relations → ⊥) → (eqb s equal || eqb s unequal) ≡ false
+  no-equal d = test (eqb s equal || eqb s unequal) (λ t. absurd (d (e ∙ level-equal s t))) (λ t. t)
+
+  pub asks-sums : l < relations → Asks s left numType
   unfolding askedOf
-  asks-equal h = record { is = rw (eq-eqb s 12 h, askedOf) }
+  asks-sums h = asks-type s left numType aNum num-in (λ t. rw (no-equal (λ q. omega arith), askedOf) (rw (lt-leb conjunctions (levelOf s) (omega arith))))
 
-  pub asks-unequal : s ≡ 15 → Asks s left left
+  pub asks-truths : relations < l → Asks s left boolType
   unfolding askedOf
-  asks-unequal h = record { is = rw (h, askedOf) }
+  asks-truths h = asks-type s left boolType aBool bool-in (λ t. rw (no-equal (λ q. omega arith), askedOf) (rw (le-leb conjunctions (levelOf s) (omega arith))))
 
-  pub asks-numbers : l ≡ 3 → (s ≡ 12 → ⊥) → (s ≡ 15 → ⊥) → Asks s left false
-  unfolding askedOf typeIf
-  asks-numbers q a b = record { is = rw (ne-eqb s 12 a, ne-eqb s 15 b, askedOf) (rw (lt-leb conjunctions (levelOf s) (omega arith))) }
+  pub asks-equal : s ≡ equal → Asks s left left
+  unfolding askedOf
+  asks-equal h = record { is = λ t g. g ∙ ap some (sym (rw (eq-eqb s equal h, askedOf) refl)) }
+
+  pub asks-unequal : s ≡ unequal → Asks s left left
+  unfolding askedOf
+  asks-unequal h = record { is = λ t g. g ∙ ap some (sym (rw (h, askedOf) refl)) }
+
+  pub asks-numbers : relations ≤ l → l ≤ relations → (s ≡ equal → ⊥) → (s ≡ unequal → ⊥) → Asks s left numType
+  unfolding askedOf
+  asks-numbers g h a b =
+      asks-type s left numType aNum num-in (λ t. rw (ne-eqb s equal a, ne-eqb s unequal b, askedOf) (rw (lt-leb conjunctions (levelOf s) (omega arith))))
+
+-- ---- what it gives
+pub gives-number : (l : ℕ) → l < relations → Gives l numType
+unfolding resultOf
+gives-number l h = record { is = λ s e. num-in ∙ ap some (sym (rw (lt-leb relations (levelOf s) (omega arith), resultOf) refl)) }
+
+pub gives-truth : (l : ℕ) → relations ≤ l → Gives l boolType
+unfolding resultOf
+gives-truth l h = record { is = λ s e. bool-in ∙ ap some (sym (rw (le-leb relations (levelOf s) (omega arith), resultOf) refl)) }
 
 -- ---- what stands before
 pub height-here : (s k : ℕ) → s ≡ k → height k - 1 ≡ height s - 1
@@ -75,11 +94,10 @@ prefix-plus s a b = record {
   is = λ h. test (eqb s plus) (λ t. sym (eqb-true s plus t)) (λ t. false-true (rw (ne-eqb s 65 a, t, ne-eqb s 19 b, isPrefix) at h));
 }
 
--- ---- truth values
-pub differ-not : (a b : Bool) → a ≡ true → Differ a b (not b)
-differ-not a true h = record { yes = λ e. false-true e; no = λ e. h }
-differ-not a false h = record { yes = λ e q. false-true (sym q ∙ h); no = λ e. false-true (sym e) }
+pub sign-not : (s : ℕ) → s ≡ NOT → SignType s boolType
+unfolding signedOf
+sign-not s e = record { is = bool-in ∙ ap some (sym (rw (e, signedOf) refl)) }
 
-pub differ-other : (a b : Bool) → a ≡ false → Differ a b b
-differ-other a true h = record { yes = λ e q. false-true (sym h ∙ q); no = λ e. false-true (sym e) }
-differ-other a false h = record { yes = λ e. false-true e; no = λ e. h }
+pub sign-other : (s : ℕ) → (s ≡ NOT → ⊥) → SignType s numType
+unfolding signedOf
+sign-other s d = record { is = num-in ∙ ap some (sym (rw (ne-eqb s NOT d, signedOf) refl)) }

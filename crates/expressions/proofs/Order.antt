@@ -19,8 +19,9 @@ use Rattle.paper.specs.Types.{Fault, fault, faultIf, comesFirst, leastOf, least
 use Rattle.paper.specs.Types as types
 use Rattle.climb.specs.Places.{Spans}
 use Rattle.climb.proofs.Places.{spans-grow, spans-first, stands}
-use Rattle.expressions.specs.Answers.{typeIf, Refused}
-use Rattle.expressions.specs.Parts.{askedOf, resultOf}
+use Rattle.layout.specs.Rules.{wrongType}
+use Rattle.expressions.specs.Answers.{Refused}
+use Rattle.expressions.specs.Parts.{askedOf, resultOf, signedOf}
 use Rattle.expressions.proofs.Judging.{append-none, judged-faults, judged-refused, joined-is, signed-is}
 
 -- Their words are from low up to high, and each comes before the next.
@@ -99,7 +100,7 @@ wanted-rising : (t : DataType) (i low high : ℕ) (j : types.Judged) → low ≤
 unfolding wanted faultIf
 wanted-rising t i low high j h g k r =
     by-faults (j .faults)
-    (λ e. rw (e, wanted) (rising-wider i (suc i) low high (faultIf (differs t (j .type)) 13 i) h g (rising-if (differs t (j .type)) 13 i)))
+    (λ e. rw (e, wanted) (rising-wider i (suc i) low high (faultIf (differs t (j .type)) wrongType i) h g (rising-if (differs t (j .type)) wrongType i)))
     (λ f s e. rw (k f s e, differs-refused t, wanted) (rw (append-none (j .faults)) r))
 
 -- ---- expressions
@@ -167,7 +168,7 @@ module _ (W : List Word) (c : Bool) (S : Scopes) where
   rising (nested i e) a b s = rising-wider (a + 1) (b - 1) a b (judge W c S e .faults) (omega arith) (omega arith) (rising e (a + 1) (b - 1) (s .1))
   rising (signed i e) a b s =
       let g = spans-grow e (a + 1) b (s .1) in
-      let t = typeIf (eqb (sortIn W i) NOT) in
+      let t = signedOf (sortIn W i) in
       rw (signed-is (sortIn W i) e (judge W c S e)) (rising-judged a b _ _ _
       (wanted-rising t (first e) a b (judge W c S e) (omega (arith, spans-first e (a + 1) b (s .1))) (omega (arith, spans-first e (a + 1) b (s .1))) (refuses e)
       (rising-wider (a + 1) b a b (judge W c S e .faults) (omega arith) (omega arith) (rising e (a + 1) b (s .1)))))

@@ -7,8 +7,10 @@ use native.Mathlib.Omega.{arith}
 use lib.Dec.{eqb}
 use lib.ListN.{length, getD}
 use borrow.Author.Tests.{ne-eqb}
+use mir.Syntax.{w64}
+use mir.Val.{Fits}
 use Rattle.laws.proofs.Tests.{test}
-use Rattle.paper.specs.Sorts.{NAME, NUMBER, NOT, plus, minusSign, openParen, closeParen, closeBrace}
+use Rattle.paper.specs.Sorts.{NAME, NUMBER, NOT, plus, minusSign, openParen, closeParen, openBrace, closeBrace}
 use Rattle.paper.specs.Words.{Word, wordLimit}
 use Rattle.paper.specs.Trees.{Expr, leaf, element, nested, signed, first}
 use Rattle.paper.specs.Expressions.{Parsed, got, levelOf, isLiteral, level, operand, exprIn}
@@ -21,8 +23,9 @@ use Rattle.climb.specs.Rise.{height, lowest, behind, begin}
 use Rattle.climb.proofs.Climb.{Went, went}
 use Rattle.climb.proofs.Operands.{Inside, got-same, op-paren, op-element, op-name, op-literal, op-none, Deeper, deeper}
 use Rattle.climb.proofs.Places.{spans-grow, spans-first, stands, begins}
-use Rattle.names.specs.Meanings.{firstMeaning, meaningIn}
+use Rattle.names.specs.Meanings.{firstMeaning, kindIn, boolIn, ownIn, meaningIn}
 use Rattle.names.specs.Promises as promises
+use Rattle.names.specs.Promises.{numberLimit}
 use Rattle.expressions.specs.declared.Judged.{Judged}
 use Rattle.expressions.specs.declared.Judged.the-variants.{Typed, Faulty}
 use Rattle.expressions.specs.Known.{Fresh, Loaded, Within}
@@ -38,7 +41,7 @@ fresh-same : (W : List Word) (C D : List ℕ) (i : ℕ) → headAt D i ≡ headA
 fresh-same W C D i e f = record {
   sort = ap opIn e ∙ f .sort;
   value = λ s. ap valueIn e ∙ f .value s;
-  number = λ s. ap (λ (h : ℕ). valueIn h % 8192) e ∙ f .number s;
+  number = λ s. ap (λ (h : ℕ). valueIn h % numberLimit) e ∙ f .number s;
 }
 
 -- some of them
@@ -116,8 +119,24 @@ module _ (code values : List ℕ) (at : ℕ) (b : Begins code values at) where
   pub begins-next : (at + 1) * 8 + 8 ≤ length code
   begins-next = omega (arith, begins-on, b .loaded .room)
 
-  pub begins-short : at + 1 < 8192
+  pub begins-short : at + 1 < wordLimit
   begins-short = omega (arith, begins-on, b .loaded .last)
+
+  -- the words ahead are words of the store, and fewer
+  pub begins-add : Fits w64 (at + 1)
+  begins-add = record { fits = omega (arith, begins-short) }
+
+  pub begins-add-2 : Fits w64 (at + 2)
+  begins-add-2 = record { fits = omega (arith, begins-short) }
+
+  pub begins-near : at < wordLimit
+  begins-near = omega (arith, begins-short)
+
+  pub begins-falls : (t : ℕ) → (wordLimit - at) * 2 ≡ t → (wordLimit - (at + 1)) * 2 + 1 < t
+  begins-falls t e = omega (arith, begins-short)
+
+  pub begins-falls-2 : (t : ℕ) → (wordLimit - at) * 2 ≡ t → (wordLimit - (at + 2)) * 2 + 1 < t
+  begins-falls-2 t e = omega (arith, begins-short)
 
   pub fresh-first : Fresh (b .known .W) (wordsOf code) at
   fresh-first = b .loaded .words at (omega arith) (omega (arith, begins-on))
@@ -167,11 +186,11 @@ module _ (code values : List ℕ) (at : ℕ) (b : Begins code values at) where
     sort-first : s ≡ sortIn (b .known .W) at
     sort-first = es ∙ fresh-first .sort
 
-    module _ (name : s ≡ 1) where
+    module _ (name : s ≡ NAME) where
       name-first : sortIn (b .known .W) at ≡ NAME
       name-first = sym sort-first ∙ name
 
-      module _ (v : ℕ) (ev : v ≡ opAt (wordsOf code) (at + 1)) (brace : v ≡ 8) where
+      module _ (v : ℕ) (ev : v ≡ opAt (wordsOf code) (at + 1)) (brace : v ≡ openBrace) where
         element-inside : Inside (sortIn (b .known .W)) (exprIn (sortIn (b .known .W)) (b .d)) (at + 2) closeBrace (element at) (b .e, b .to)
         element-inside =
             op-element (sortIn (b .known .W)) (exprIn (sortIn (b .known .W)) (b .d)) at (b .e, b .to) name-first (sym (fresh-next .sort) ∙ sym ev ∙ brace)
@@ -210,7 +229,7 @@ module _ (code values : List ℕ) (at : ℕ) (b : Begins code values at) where
         }
 
         module _ (only : Bool) (v : ℕ) (ev : v ≡ opAt (wordsOf code) (at + 1)) where
-          alone-is : (v ≡ 8 → ⊥) → (after : List ℕ) (r : Judged) → Alone code after m only at r
+          alone-is : (v ≡ openBrace → ⊥) → (after : List ℕ) (r : Judged) → Alone code after m only at r
               → Judges (b .known .m) (b .known .n) code after at (b .to) (judge (b .known .W) only (b .known .S) (b .e)) r
           unfolding judge judgeLeaf name-meant
           alone-is h after r a =
@@ -219,7 +238,7 @@ module _ (code values : List ℕ) (at : ℕ) (b : Begins code values at) where
               whole-as only code after r (leaf at, at + 1) (got-same (b .e, b .to) (leaf at, at + 1) (sym (operand-is NAME name-first (λ q. omega arith) (λ q. omega arith) (λ q. omega arith)) ∙ named))
               (subst (λ (j : types.Judged). Judges (b .known .m) (b .known .n) code after at (at + 1) j r) same (a .is name-meant))
 
-          module _ (brace : v ≡ 8) (broken : ℕ) (br : BreaksIndexed (m % 256 / 4) only broken) where
+          module _ (brace : v ≡ openBrace) (broken : ℕ) (br : BreaksIndexed (kindIn m) only broken) where
             element-judged : judgeElement only (meaningIn (b .known .routine) m) at (element-inside v ev brace .e) (judge (b .known .W) only (b .known .S) (element-inside v ev brace .e))
                 ≡ judge (b .known .W) only (b .known .S) (element at (element-inside v ev brace .e))
             unfolding judge
@@ -232,7 +251,7 @@ module _ (code values : List ℕ) (at : ℕ) (b : Begins code values at) where
                 whole-as only code code (Faulty broken at) (element at (i .e), i .n + 1) (i .whole)
                 (judges-refused (b .known .m) (b .known .n) code at (i .n + 1) (judge (b .known .W) only (b .known .S) (element at (i .e))) broken at
                 (subst (λ (j : types.Judged). Refused j broken at) element-judged
-                (br .wrong d (b .known .routine) (m / 2 % 2) (m % 2) (m / 256) at (i .e) (judge (b .known .W) only (b .known .S) (i .e)))))
+                (br .wrong d (b .known .routine) (boolIn m) (ownIn m) (valueIn m) at (i .e) (judge (b .known .W) only (b .known .S) (i .e)))))
 
             element-is : broken ≡ 0 → (mid after : List ℕ) (index r : Judged) → Checked code values mid only 5 (at + 2) index → Indexed mid after m index at r
                 → Judges (b .known .m) (b .known .n) code after at (b .to) (judge (b .known .W) only (b .known .S) (b .e)) r
@@ -250,7 +269,7 @@ module _ (code values : List ℕ) (at : ℕ) (b : Begins code values at) where
                 (subst (λ (q : types.Judged). Judges (b .known .m) (b .known .n) mid after at (i .n + 1) q r) told judged))
 
     -- ---- parentheses
-    module _ (paren : s ≡ 6) where
+    module _ (paren : s ≡ openParen) where
       paren-inside : Inside (sortIn (b .known .W)) (exprIn (sortIn (b .known .W)) (b .d)) (at + 1) closeParen (nested at) (b .e, b .to)
       paren-inside =
           let here : sortIn (b .known .W) at ≡ openParen = sym sort-first ∙ paren in
@@ -333,7 +352,7 @@ module _ (code values : List ℕ) (at : ℕ) (b : Begins code values at) where
               (subst (λ (q : ℕ). Judges (b .known .m) (b .known .n) mid after at (part-went .a .1) (judgeSigned q (part-went .a .0) j) r) sort-first judged))
 
       -- ---- literals
-      module _ (z : l ≡ 0) (name : s ≡ 1 → ⊥) (paren : s ≡ 6 → ⊥) where
+      module _ (z : l ≡ 0) (name : s ≡ NAME → ⊥) (paren : s ≡ openParen → ⊥) where
         bare-is : operand (sortIn (b .known .W)) (exprIn (sortIn (b .known .W)) (b .d)) at ≡ got (b .e, b .to)
         bare-is = sym (bare (sortIn (b .known .W)) (exprIn (sortIn (b .known .W)) (b .d)) at (sym z ∙ height-first)) ∙ b .is
 
@@ -356,24 +375,31 @@ module _ (code values : List ℕ) (at : ℕ) (b : Begins code values at) where
 
 -- ---- the answers, one for each place where the first part is answered
 module _ (code values after : List ℕ) (only : Bool) (at : ℕ) (r : Judged) (s : ℕ) (es : s ≡ opAt (wordsOf code) at) where
-  module _ (name : s ≡ 1) (m : ℕ) (em : promises.Meant code values at m) (v : ℕ) (ev : v ≡ opAt (wordsOf code) (at + 1)) where
-    pub began-name : (v ≡ 8 → ⊥) → Alone code after m only at r → Began code values after only at r
+  module _ (name : s ≡ NAME) (m : ℕ) (em : promises.Meant code values at m) (v : ℕ) (ev : v ≡ opAt (wordsOf code) (at + 1)) where
+    pub began-name : (v ≡ openBrace → ⊥) → Alone code after m only at r → Began code values after only at r
     began-name h a = record { is = λ b. alone-is code values at b s es name m em only v ev h after r a }
 
-    pub began-element : v ≡ 8 → (broken : ℕ) → BreaksIndexed (m % 256 / 4) only broken → broken ≡ 0 → (mid : List ℕ) (index : Judged) → Checked code values mid only 5 (at + 2) index → Indexed mid after m index at r
+    pub began-element : v ≡ openBrace → (kind broken : ℕ) → kind ≡ kindIn m → BreaksIndexed kind only broken → broken ≡ 0 → (mid : List ℕ) (index : Judged) → Checked code values mid only 5 (at + 2) index → Indexed mid after m index at r
         → Began code values after only at r
-    began-element brace broken br z mid index k x = record { is = λ b. element-is code values at b s es name m em only v ev brace broken br z mid after index r k x }
+    began-element brace kind broken ek br z mid index k x = record {
+      is = λ b. element-is code values at b s es name m em only v ev brace broken (subst (λ (q : ℕ). BreaksIndexed q only broken) ek br) z mid after index r k x;
+    }
 
-  pub began-paren : s ≡ 6 → (mid : List ℕ) (inner : Judged) → Checked code values mid only 5 (at + 1) inner → Nested mid after inner at r → Began code values after only at r
+  pub began-paren : s ≡ openParen → (mid : List ℕ) (inner : Judged) → Checked code values mid only 5 (at + 1) inner → Nested mid after inner at r → Began code values after only at r
   began-paren paren mid inner k x = record { is = λ b. paren-is code values at b s es paren only mid inner k after r x }
 
   module _ (l : ℕ) (el : l ≡ height s - 1) where
     pub began-signed : (l ≡ 0 → ⊥) → (mid : List ℕ) (part : Judged) → Checked code values mid only l (at + 1) part → Signed mid after s part at r → Began code values after only at r
     began-signed d mid part k x = record { is = λ b. part-is code values at b s es l el d only mid part k after r x }
 
-    pub began-literal : l ≡ 0 → (s ≡ 1 → ⊥) → (s ≡ 6 → ⊥) → Literal code after at r → Began code values after only at r
+    pub began-literal : l ≡ 0 → (s ≡ NAME → ⊥) → (s ≡ openParen → ⊥) → Literal code after at r → Began code values after only at r
     began-literal z name paren x = record { is = λ b. literal-is code values at b s es l el z name paren only after r x }
 
-pub began-wrong : (code values : List ℕ) (only : Bool) (at s : ℕ) → s ≡ opAt (wordsOf code) at → s ≡ 1 → (m : ℕ) → promises.Meant code values at m → (v : ℕ) → v ≡ opAt (wordsOf code) (at + 1) → v ≡ 8
-    → (broken : ℕ) → BreaksIndexed (m % 256 / 4) only broken → (broken ≡ 0 → ⊥) → Began code values code only at (Faulty broken at)
-began-wrong code values only at s es name m em v ev brace broken br d = record { is = λ b. wrong-is code values at b s es name m em only v ev brace broken br d }
+pub began-room : (code values mid : List ℕ) (only : Bool) (top a at : ℕ) (r : Judged) → Begins code values at → Stands code values top a → Checked code values mid only top a r → at * 8 + 8 ≤ length mid
+began-room code values mid only top a at r b s k = omega (arith, begins-room code values at b, k .is s .kept .long)
+
+pub began-wrong : (code values : List ℕ) (only : Bool) (at s : ℕ) → s ≡ opAt (wordsOf code) at → s ≡ NAME → (m : ℕ) → promises.Meant code values at m → (v : ℕ) → v ≡ opAt (wordsOf code) (at + 1) → v ≡ openBrace
+    → (kind broken : ℕ) → kind ≡ kindIn m → BreaksIndexed kind only broken → (broken ≡ 0 → ⊥) → Began code values code only at (Faulty broken at)
+began-wrong code values only at s es name m em v ev brace kind broken ek br d = record {
+  is = λ b. wrong-is code values at b s es name m em only v ev brace broken (subst (λ (q : ℕ). BreaksIndexed q only broken) ek br) d;
+}

@@ -1,21 +1,19 @@
 -- What the promises allow: one answer. (What stands in the cells may differ in what no term needs, so nothing is said of it.)
 use mathlib.Core.Path.{_≡_, refl, sym, ap, ap₂, _∙_}
-use mathlib.Core.Bool.{Bool, true, false}
+use mathlib.Core.Bool.{Bool}
 use mathlib.Core.List.{List, [], _∷_}
+use mathlib.Core.Option.{some}
 use Prim.Native.Nat.{ℕ}
 use Rattle.laws.proofs.Tests.{apart}
+use Rattle.paper.specs.Expressions.{disjunctions}
+use Rattle.paper.specs.Names.{DataType}
 use Rattle.paper.specs.Types.{Fault}
+use Rattle.layout.specs.Types.{typeIn}
+use Rattle.layout.proofs.Typing.{same-codes}
 use Rattle.paper.specs.Types as types
 use Rattle.expressions.specs.declared.Judged.{Judged}
 use Rattle.expressions.specs.declared.Judged.the-variants.{Typed, Faulty}
-use Rattle.expressions.specs.Answers.{typeIf, Says, Stands, Checked, OfType}
-
-same-types : (a b : Bool) → typeIf a ≡ typeIf b → a ≡ b
-unfolding typeIf
-same-types true true e = refl
-same-types true false e = apart (cc)
-same-types false true e = apart (cc)
-same-types false false e = refl
+use Rattle.expressions.specs.Answers.{Says, Stands, Checked, OfType}
 
 no-faults : {A : Type 0} (l : List Fault) (f : Fault) (others : List Fault) → l ≡ [] → l ≡ f ∷ others → A
 no-faults l f others e q = apart (cc)
@@ -26,7 +24,7 @@ same-faults l f g a b e q = cc
 -- two answers that say what is judged are the same
 says-unique : (m n : ℕ) (C D : List ℕ) (at to : ℕ) (j : types.Judged) (r s : Judged) → Says m n C at to j r → Says m n D at to j s → r ≡ s
 unfolding Says
-says-unique m n C D at to j (Typed a x) (Typed b y) p q = ap₂ Typed (same-types a b (sym (p .type-is) ∙ q .type-is)) (p .next-is ∙ sym (q .next-is))
+says-unique m n C D at to j (Typed a x) (Typed b y) p q = ap₂ Typed (same-codes a b (j .type) (p .type-is) (q .type-is)) (p .next-is ∙ sym (q .next-is))
 says-unique m n C D at to j (Typed a x) (Faulty k i) p q = no-faults (j .faults) (record { number = k; at = i }) (q .others) (p .none) (q .faults-are)
 says-unique m n C D at to j (Faulty k i) (Typed b y) p q = no-faults (j .faults) (record { number = k; at = i }) (p .others) (q .none) (p .faults-are)
 says-unique m n C D at to j (Faulty k i) (Faulty l h) p q =
@@ -35,5 +33,5 @@ says-unique m n C D at to j (Faulty k i) (Faulty l h) p q =
 pub expression-unique : (code values c d : List ℕ) (only : Bool) (top at : ℕ) (r s : Judged) → Stands code values top at → Checked code values c only top at r → Checked code values d only top at s → r ≡ s
 expression-unique code values c d only top at r s k p q = says-unique _ _ _ _ _ _ _ r s (p .is k .says) (q .is k .says)
 
-pub of-type-unique : (code values c d : List ℕ) (only wants : Bool) (at : ℕ) (r s : Judged) → Stands code values 5 at → OfType code values c only wants at r → OfType code values d only wants at s → r ≡ s
-of-type-unique code values c d only wants at r s k p q = says-unique _ _ _ _ _ _ _ r s (p .is k .says) (q .is k .says)
+pub of-type-unique : (code values c d : List ℕ) (only : Bool) (wants at : ℕ) (t : DataType) (r s : Judged) → typeIn wants ≡ some t → Stands code values disjunctions at → OfType code values c only wants at r → OfType code values d only wants at s → r ≡ s
+of-type-unique code values c d only wants at t r s w k p q = says-unique _ _ _ _ _ _ _ r s (p .is k t w .says) (q .is k t w .says)

@@ -1,17 +1,18 @@
 -- What the check of an expression answers, and what it asks of the two stores.
 use mathlib.Core.Path.{_≡_}
-use mathlib.Core.Bool.{Bool, true, false}
+use mathlib.Core.Bool.{Bool}
 use mathlib.Core.List.{List, [], _∷_}
 use mathlib.Core.Option.{some}
 use Prim.Native.Nat.{ℕ, _+_, _*_, _<_, _≤_}
 use Rattle.paper.specs.Trees.{Expr, first}
 use Rattle.paper.specs.Expressions.{got, disjunctions, level, levelOf, exprIn}
-use Rattle.paper.specs.Names.{DataType, aNum, aBool, sortIn}
+use Rattle.paper.specs.Names.{DataType, sortIn}
 use Rattle.paper.specs.Types.{Fault, wanted, judge}
 use Rattle.paper.specs.Types as types
 use Rattle.cells.specs.Words.{wordsOf}
 use Rattle.code.specs.Cells.{opAt}
 use Rattle.code.specs.Spans.{termIn}
+use Rattle.layout.specs.Types.{typeIn}
 use Rattle.store.specs.Promises.{Kept}
 use Rattle.expressions.specs.declared.Judged.{Judged}
 use Rattle.expressions.specs.declared.Judged.the-variants.{Typed, Faulty}
@@ -23,14 +24,10 @@ pub record Low (before after : List ℕ) : Type 0 where
   pub stays : (i : ℕ) → opAt (wordsOf before) i < 128 → opAt (wordsOf after) i < 128
 
 -- ---- answers
-unfoldable pub typeIf : (bool : Bool) → DataType
-typeIf true = aBool
-typeIf false = aNum
-
--- No rule is broken: the type, the word after it, and its term that stands in the cells.
-pub record Sound (m n : ℕ) (C : List ℕ) (at to : ℕ) (j : types.Judged) (bool : Bool) (next : ℕ) : Type 0 where
+-- No rule is broken: the type's number, the word after it, and its term that stands in the cells.
+pub record Sound (m n : ℕ) (C : List ℕ) (at to : ℕ) (j : types.Judged) (type next : ℕ) : Type 0 where
   pub none : j .faults ≡ []
-  pub type-is : j .type ≡ typeIf bool
+  pub type-is : typeIn type ≡ some (j .type)
   pub next-is : next ≡ to
   pub stands : termIn m n C at to ≡ some (j .term)
 
@@ -41,7 +38,7 @@ pub record Refused (j : types.Judged) (number word : ℕ) : Type 0 where
 
 -- what an answer says of an expression from `at` up to `to` that the paper judges so
 unfoldable pub Says : (m n : ℕ) (C : List ℕ) (at to : ℕ) → types.Judged → Judged → Type 0
-Says m n C at to j (Typed bool next) = Sound m n C at to j bool next
+Says m n C at to j (Typed type next) = Sound m n C at to j type next
 Says m n C at to j (Faulty number word) = Refused j number word
 
 pub record Judges (m n : ℕ) (before after : List ℕ) (at to : ℕ) (j : types.Judged) (r : Judged) : Type 0 where
@@ -70,6 +67,6 @@ pub record Checked (code values after : List ℕ) (only : Bool) (top at : ℕ) (
 abbrev pub ofType : DataType → (at : ℕ) → types.Judged → types.Judged
 ofType t i j = record { type = t; faults = wanted t i j; term = j .term }
 
-pub record OfType (code values after : List ℕ) (only wants : Bool) (at : ℕ) (r : Judged) : Type 0 where
-  pub is : (s : Stands code values disjunctions at)
-      → Judges (s .known .m) (s .known .n) code after at (s .to) (ofType (typeIf wants) (first (s .e)) (judge (s .known .W) only (s .known .S) (s .e))) r
+pub record OfType (code values after : List ℕ) (only : Bool) (wants at : ℕ) (r : Judged) : Type 0 where
+  pub is : (s : Stands code values disjunctions at) (t : DataType) → typeIn wants ≡ some t
+      → Judges (s .known .m) (s .known .n) code after at (s .to) (ofType t (first (s .e)) (judge (s .known .W) only (s .known .S) (s .e))) r

@@ -3,7 +3,7 @@ use mathlib.Core.Path.{_≡_}
 use mathlib.Core.Bool.{Bool, true, false, _||_}
 use mathlib.Core.List.{List, []}
 use mathlib.Core.Option.{some}
-use Prim.Native.Nat.{ℕ, _+_, _*_, _/_, _<_, _≤_}
+use Prim.Native.Nat.{ℕ, _+_, _*_, _<_, _≤_}
 use lib.Dec.{eqb, leb}
 use lib.ListN.{length}
 use Rattle.paper.specs.Basics.{if_then_else_}
@@ -18,12 +18,13 @@ use Rattle.cells.specs.Words.{wordsOf}
 use Rattle.code.specs.Cells.{firstWindow, opIn, valueIn, opAt, valueAt, linkAt}
 use Rattle.code.specs.Spans.{aSpan, aCallWord, aParenthesis, rightIn, operatorIn, operatorOf, prefixIn}
 use Rattle.climb.specs.Rise.{height, lowest, begin}
-use Rattle.names.specs.Meanings.{anArray, meaningWith, meaningIn}
+use Rattle.layout.specs.Types.{typeIn}
+use Rattle.names.specs.Meanings.{anArray, kindIn, meaningWith, meaningIn}
 use Rattle.expressions.specs.declared.Judged.{Judged}
 use Rattle.expressions.specs.declared.Judged.the-variants.{Typed, Faulty}
 use Rattle.expressions.specs.Known.{Fresh, Loaded, largest, Within, Known}
 use Rattle.store.specs.Promises.{Kept}
-use Rattle.expressions.specs.Answers.{typeIf, Sound, Refused, Says, Judges}
+use Rattle.expressions.specs.Answers.{Sound, Refused, Says, Judges}
 
 -- ---- operators
 -- the type that an operator asks of both sides, by that of the left one
@@ -37,8 +38,13 @@ askedOf s t =
 unfoldable pub resultOf : (sort : ℕ) → DataType
 resultOf s = if leb relations (levelOf s) then aBool else aNum
 
-pub record Asks (s : ℕ) (left r : Bool) : Type 0 where
-  pub is : askedOf s (typeIf left) ≡ typeIf r
+-- r is the number of the type that an operator asks for, where that of its left side is this
+pub record Asks (s left r : ℕ) : Type 0 where
+  pub is : (t : DataType) → typeIn left ≡ some t → typeIn r ≡ some (askedOf s t)
+
+-- r is that of what an operator of level l gives
+pub record Gives (l r : ℕ) : Type 0 where
+  pub is : (s : ℕ) → l ≡ levelOf s → typeIn r ≡ some (resultOf s)
 
 -- r is the number of an operator
 pub record Numbered (s r : ℕ) : Type 0 where
@@ -54,9 +60,12 @@ pub record Prefixes (s r : ℕ) : Type 0 where
   pub op : aParenthesis < r
   pub is : isPrefix s ≡ true → prefixIn r ≡ s
 
-pub record Differ (a b r : Bool) : Type 0 where
-  pub yes : r ≡ true → a ≡ b → ⊥
-  pub no : r ≡ false → a ≡ b
+-- the type that NOT or a sign asks for, and gives
+unfoldable pub signedOf : (sort : ℕ) → DataType
+signedOf s = if eqb s NOT then aBool else aNum
+
+pub record SignType (s r : ℕ) : Type 0 where
+  pub is : typeIn r ≡ some (signedOf s)
 
 -- an operator's word, whose right side ends at n
 pub record Tied (before after : List ℕ) (s i n : ℕ) : Type 0 where
@@ -105,7 +114,7 @@ pub record Literal (before after : List ℕ) (at : ℕ) (r : Judged) : Type 0 wh
 -- ---- around what has been answered
 -- the word after it is a word's index
 unfoldable pub Short : Judged → Type 0
-Short (Typed bool next) = next < wordLimit
+Short (Typed type next) = next < wordLimit
 Short (Faulty number word) = Unit {0}
 
 -- parentheses
@@ -119,7 +128,7 @@ pub record Signed (before after : List ℕ) (s : ℕ) (inner : Judged) (at : ℕ
 
 -- an array's name and braces
 pub record Indexed (before after : List ℕ) (cell : ℕ) (inner : Judged) (at : ℕ) (r : Judged) : Type 0 where
-  pub is : (g : Meant cell) (to : ℕ) (e : Expr) (j : types.Judged) → opIn cell / 4 ≡ anArray → first e ≡ at + 2 → Says (g .m) (g .n) (wordsOf before) (at + 2) to j inner
+  pub is : (g : Meant cell) (to : ℕ) (e : Expr) (j : types.Judged) → kindIn cell ≡ anArray → first e ≡ at + 2 → Says (g .m) (g .n) (wordsOf before) (at + 2) to j inner
       → Judges (g .m) (g .n) before after at (to + 1) (judgeElement false (meaningIn (g .routine) cell) at e j) r
 
 -- ---- an operator at i between two sides
@@ -134,8 +143,8 @@ pub record Right (code : List ℕ) (s l i : ℕ) (right : Judged) : Type 0 where
   pub last : to < wordLimit
   pub room : to * 8 + 8 ≤ length code
 
-pub record Joined (before after : List ℕ) (s : ℕ) (wants : Bool) (i : ℕ) (right r : Judged) : Type 0 where
-  pub is : (m n at to : ℕ) (a b : Expr) (ja jb : types.Judged) → Sound m n (wordsOf before) at i ja wants i → askedOf s (typeIf wants) ≡ typeIf wants
+pub record Joined (before after : List ℕ) (s wants i : ℕ) (right r : Judged) : Type 0 where
+  pub is : (m n at to : ℕ) (a b : Expr) (ja jb : types.Judged) → Sound m n (wordsOf before) at i ja wants i → askedOf s (ja .type) ≡ ja .type
       → first b ≡ i + 1 → Says m n (wordsOf before) (i + 1) to jb right → Judges m n before after at to (judgeJoined s a b ja jb) r
 
 -- ---- the first part of an expression

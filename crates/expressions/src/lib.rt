@@ -1,4 +1,10 @@
 // The check of an expression: names, types and links, by precedence climbing over the words of the code store in place.
+use layout::kinds;
+use layout::ops;
+use layout::parts;
+use layout::rules;
+use layout::types;
+use layout::types::Type;
 use store::set_head;
 use store::set_word;
 use store::sort;
@@ -6,41 +12,21 @@ ghost use mathlib.Core.Path.{_≡_};
 ghost use Prim.Native.Nat.{_+_, _-_, _*_, _<_, _≤_};
 ghost use lib.ListN.{length};
 ghost use Rattle.paper.specs.Expressions.{disjunctions, levelOf};
+ghost use Rattle.paper.specs.Words.{wordLimit};
 ghost use Rattle.cells.specs.Words.{wordsOf};
 ghost use Rattle.code.specs.Cells.{headAt, opAt};
+ghost use Rattle.code.specs.Spans.{aCallWord};
+ghost use Rattle.layout.specs.Parts.{linkPart};
 ghost use Rattle.climb.specs.Rise.{height};
 ghost use Rattle.expressions.specs.Answers.{Stands, Checked, OfType};
-ghost use Rattle.expressions.specs.Parts.{Asks, Numbered, Prefixes, Differ, Tied, Meant, BreaksAlone, BreaksIndexed, Alone, SmallNumber, Literal, Short, Nested, Signed, Indexed, Right, Joined, Begins, Began};
+ghost use Rattle.expressions.specs.Parts.{Asks, Numbered, Prefixes, SignType, Gives, Tied, Meant, BreaksAlone, BreaksIndexed, Alone, SmallNumber, Literal, Short, Nested, Signed, Indexed, Right, Joined, Begins, Began};
 
 pub enum Judged {
-    // whether it is a bool, and the word after it
-    Typed(bool, usize),
+    // its type, and the word after it
+    Typed(Type, usize),
     // the rule broken, and its word
     Faulty(u32, usize),
 }
-
-// ---- ops, as the specs of code have them
-
-const LITERAL: u32 = 1;
-
-const MODULE_WORD: u32 = 2;
-
-const MODULE_ELEMENT: u32 = 4;
-
-const PARENTHESIS: u32 = 6;
-
-const NOT: u32 = 7;
-
-const PLUS: u32 = 8;
-
-const MINUS: u32 = 9;
-
-const OPERATOR: u32 = 64;
-
-// how far the numbers that a head holds are from those they stand for
-const BIAS: u32 = 8388607;
-
-const ERRNO_CELL: u32 = 1263;
 
 // ---- levels, from the tightest
 
@@ -100,13 +86,16 @@ fn number_of(s: u32) -> u32
     }
 }
 
-// Whether an operator of level l asks for bool on both sides, where the left one's type is this.
-fn asked(s: u32, l: u32, left: bool) -> bool
+// The type that an operator of level l asks of both sides, where the left one's type is this.
+fn asked(s: u32, l: u32, left: Type) -> Type
     requires { ⌜ l ≡ levelOf s ⌝ }
     ensures { λ r. ⌜ Asks s left r ⌝ }
 {
-    if l != RELATIONS {
-        return RELATIONS < l;
+    if l < RELATIONS {
+        return types::NUM;
+    }
+    if RELATIONS < l {
+        return types::BOOL;
     }
     if s == sorts::EQUAL {
         return left;
@@ -114,7 +103,17 @@ fn asked(s: u32, l: u32, left: bool) -> bool
     if s == sorts::UNEQUAL {
         return left;
     }
-    false
+    types::NUM
+}
+
+// The type of what an operator of level l gives.
+fn given(l: u32) -> Type
+    ensures { λ r. ⌜ Gives l r ⌝ }
+{
+    if l < RELATIONS {
+        return types::NUM;
+    }
+    types::BOOL
 }
 
 // The level of what NOT or a sign covers; 0 for any other word.
@@ -137,21 +136,22 @@ fn prefix_of(s: u32) -> u32
     ensures { λ r. ⌜ Prefixes s r ⌝ }
 {
     if s == sorts::NOT {
-        return NOT;
+        return ops::NOT;
     }
     if s == sorts::MINUS_SIGN {
-        return MINUS;
+        return ops::MINUS;
     }
-    PLUS
+    ops::PLUS
 }
 
-fn differ(a: bool, b: bool) -> bool
-    ensures { λ r. ⌜ Differ a b r ⌝ }
+// The type that NOT or a sign asks for, and gives.
+fn sign_type(s: u32) -> Type
+    ensures { λ r. ⌜ SignType s r ⌝ }
 {
-    if a {
-        return !b;
+    if s == sorts::NOT {
+        return types::BOOL;
     }
-    b
+    types::NUM
 }
 
 // ---- operands of one word
@@ -161,14 +161,14 @@ fn breaks_alone(kind: u32, only: bool) -> u32
     ensures { λ r. ⌜ BreaksAlone kind only r ⌝ }
 {
     match kind {
-        1 => if only { 12 } else { 0 },
-        2 => 12,
-        3 => 0,
-        4 => if only { 12 } else { 0 },
-        5 => 12,
-        6 => if only { 12 } else { 0 },
-        7 => 0,
-        _ => 11,
+        kinds::VARIABLE => if only { rules::WRONG_KIND } else { 0 },
+        kinds::ARRAY => rules::WRONG_KIND,
+        kinds::CONSTANT => 0,
+        kinds::LOOP => if only { rules::WRONG_KIND } else { 0 },
+        kinds::ROUTINE => rules::WRONG_KIND,
+        kinds::ERRNO => if only { rules::WRONG_KIND } else { 0 },
+        kinds::ERROR_NUMBER => 0,
+        _ => rules::UNKNOWN_NAME,
     }
 }
 
@@ -177,24 +177,25 @@ fn plain(code: &mut [u8], m: u32, only: bool, at: usize) -> Judged
     requires { ⌜ (at * 8 + 8 ≤ length (now code)) × Meant m ⌝ }
     ensures { λ r. ⌜ Alone (now (code .entry)) (now (code .exit)) m only at r ⌝ }
 {
-    let kind = m % 256 / 4;
+    let kind = names::kind_of(m);
     let broken = breaks_alone(kind, only);
     if broken != 0 {
         return Judged::Faulty(broken, at);
     }
-    if kind == 6 {
-        set_head(code, at, MODULE_WORD, ERRNO_CELL);
-        return Judged::Typed(false, at + 1);
+    let value = names::value_of(m);
+    if kind == kinds::ERRNO {
+        set_head(code, at, ops::MODULE_WORD, layout::cells::ERRNO_VALUE);
+        return Judged::Typed(types::NUM, at + 1);
     }
-    if kind == 7 {
-        set_head(code, at, LITERAL, m / 256 + BIAS);
-        return Judged::Typed(false, at + 1);
+    if kind == kinds::ERROR_NUMBER {
+        set_head(code, at, ops::LITERAL, value + parts::BIAS);
+        return Judged::Typed(types::NUM, at + 1);
     }
-    set_head(code, at, MODULE_WORD + m % 2, m / 256);
-    if kind == 4 {
-        return Judged::Typed(false, at + 1);
+    set_head(code, at, ops::MODULE_WORD + names::own_of(m), value);
+    if kind == kinds::LOOP {
+        return Judged::Typed(types::NUM, at + 1);
     }
-    Judged::Typed(m / 2 % 2 == 1, at + 1)
+    Judged::Typed(names::type_of(m), at + 1)
 }
 
 fn literal(code: &mut [u8], at: usize) -> Judged
@@ -202,16 +203,17 @@ fn literal(code: &mut [u8], at: usize) -> Judged
     ensures { λ r. ⌜ Literal (now (code .entry)) (now (code .exit)) at r ⌝ }
 {
     let w = reading::head(code, at);
-    if w % 256 == sorts::NUMBER {
-        set_head(code, at, LITERAL, w / 256 + BIAS);
-        return Judged::Typed(false, at + 1);
+    let s = w % parts::VALUE;
+    if s == sorts::NUMBER {
+        set_head(code, at, ops::LITERAL, w / parts::VALUE + parts::BIAS);
+        return Judged::Typed(types::NUM, at + 1);
     }
-    if w % 256 == sorts::TRUE {
-        set_head(code, at, LITERAL, 1 + BIAS);
-        return Judged::Typed(true, at + 1);
+    if s == sorts::TRUE {
+        set_head(code, at, ops::LITERAL, 1 + parts::BIAS);
+        return Judged::Typed(types::BOOL, at + 1);
     }
-    set_head(code, at, LITERAL, BIAS);
-    Judged::Typed(true, at + 1)
+    set_head(code, at, ops::LITERAL, parts::BIAS);
+    Judged::Typed(types::BOOL, at + 1)
 }
 
 // ---- operands of several words, by the answer of what stands inside
@@ -220,26 +222,26 @@ fn nested(code: &mut [u8], inner: Judged, at: usize) -> Judged
     requires { ⌜ (at * 8 + 8 ≤ length (now code)) × Short inner ⌝ }
     ensures { λ r. ⌜ Nested (now (code .entry)) (now (code .exit)) inner at r ⌝ }
 {
-    let Judged::Typed(bool, end) = inner else {
+    let Judged::Typed(t, end) = inner else {
         return inner;
     };
-    set_word(code, at, PARENTHESIS, 0, end);
-    Judged::Typed(bool, end + 1)
+    set_word(code, at, ops::PARENTHESIS, 0, end);
+    Judged::Typed(t, end + 1)
 }
 
 // NOT or a sign, by its sort.
 fn signed(code: &mut [u8], s: u32, inner: Judged, at: usize) -> Judged
-    requires { ⌜ (at * 8 + 8 ≤ length (now code)) × (at < 8192) × Short inner ⌝ }
+    requires { ⌜ (at * 8 + 8 ≤ length (now code)) × (at < wordLimit) × Short inner ⌝ }
     ensures { λ r. ⌜ Signed (now (code .entry)) (now (code .exit)) s inner at r ⌝ }
 {
-    let Judged::Typed(bool, end) = inner else {
+    let Judged::Typed(t, end) = inner else {
         return inner;
     };
-    if differ(bool, s == sorts::NOT) {
-        return Judged::Faulty(13, at + 1);
+    if t != sign_type(s) {
+        return Judged::Faulty(rules::WRONG_TYPE, at + 1);
     }
     set_word(code, at, prefix_of(s), 0, end);
-    Judged::Typed(bool, end)
+    Judged::Typed(t, end)
 }
 
 // The rule that a name of this kind breaks before an index, 0 for none.
@@ -247,64 +249,70 @@ fn breaks_indexed(kind: u32, only: bool) -> u32
     ensures { λ r. ⌜ BreaksIndexed kind only r ⌝ }
 {
     if kind == 0 {
-        return 11;
+        return rules::UNKNOWN_NAME;
     }
-    if 7 < kind {
-        return 11;
+    if kinds::ERROR_NUMBER < kind {
+        return rules::UNKNOWN_NAME;
     }
-    if kind != 2 {
-        return 12;
+    if kind != kinds::ARRAY {
+        return rules::WRONG_KIND;
     }
     if only {
-        return 12;
+        return rules::WRONG_KIND;
     }
     0
 }
 
 // An array, of which the table says m, and its index.
 fn indexed(code: &mut [u8], m: u32, inner: Judged, at: usize) -> Judged
-    requires { ⌜ (at * 8 + 8 ≤ length (now code)) × (at < 8192) × Short inner ⌝ }
+    requires { ⌜ (at * 8 + 8 ≤ length (now code)) × (at < wordLimit) × Short inner ⌝ }
     ensures { λ r. ⌜ Indexed (now (code .entry)) (now (code .exit)) m inner at r ⌝ }
 {
-    let Judged::Typed(bool, end) = inner else {
+    let Judged::Typed(t, end) = inner else {
         return inner;
     };
-    if bool {
-        return Judged::Faulty(13, at + 2);
+    if t != types::NUM {
+        return Judged::Faulty(rules::WRONG_TYPE, at + 2);
     }
-    set_word(code, at, MODULE_ELEMENT + m % 2, m / 256, end);
-    Judged::Typed(m / 2 % 2 == 1, end + 1)
+    set_word(
+        code,
+        at,
+        ops::MODULE_ELEMENT + names::own_of(m),
+        names::value_of(m),
+        end,
+    );
+    Judged::Typed(names::type_of(m), end + 1)
 }
 
 // ---- an operator and its two sides
 
 // The operator at i has its right side up to n. One word there is an operand that the operator takes over.
 fn tie(code: &mut [u8], s: u32, i: usize, n: usize)
-    requires { ⌜ (i * 8 + 16 ≤ length (now code)) × (n < 65536) × (0 < levelOf s) × (n ≡ i + 2 → opAt (wordsOf (now code)) (i + 1) < 4) ⌝ }
+    requires { ⌜ (i * 8 + 16 ≤ length (now code)) × (n < linkPart) × (0 < levelOf s) × (n ≡ i + 2 → opAt (wordsOf (now code)) (i + 1) ≤ aCallWord) ⌝ }
     ensures { λ _. ⌜ Tied (now (code .entry)) (now (code .exit)) s i n ⌝ }
 {
-    let op = OPERATOR + number_of(s);
+    let op = ops::OPERATOR + number_of(s);
     if n == i + 2 {
         let w = reading::head(code, i + 1);
-        set_head(code, i, op + 16 * (w % 256), w / 256);
+        set_head(code, i, op + 16 * (w % parts::VALUE), w / parts::VALUE);
     } else {
         set_word(code, i, op, 0, n);
     }
 }
 
 // The operator at i, of level l, asks for this type, which its left side has.
-fn join(code: &mut [u8], s: u32, l: u32, wants: bool, right: Judged, i: usize) -> Judged
+fn join(code: &mut [u8], s: u32, l: u32, wants: Type, right: Judged, i: usize) -> Judged
     requires { ⌜ Right (now code) s l i right ⌝ }
     ensures { λ r. ⌜ Joined (now (code .entry)) (now (code .exit)) s wants i right r ⌝ }
 {
-    let Judged::Typed(bool, end) = right else {
+    let Judged::Typed(t, end) = right else {
         return right;
     };
-    if differ(bool, wants) {
-        return Judged::Faulty(13, i + 1);
+    if t != wants {
+        return Judged::Faulty(rules::WRONG_TYPE, i + 1);
     }
     tie(code, s, i, end);
-    Judged::Typed(RELATIONS <= l, end)
+    Judged::Typed(given(l), end)
 }
 
 // ---- expressions
@@ -320,7 +328,7 @@ fn begin(code: &mut [u8], values: &[u8], only: bool, at: usize) -> Judged
         if sort(code, at + 1) != sorts::OPEN_BRACE {
             return plain(code, m, only, at);
         }
-        let broken = breaks_indexed(m % 256 / 4, only);
+        let broken = breaks_indexed(names::kind_of(m), only);
         if broken != 0 {
             return Judged::Faulty(broken, at);
         }
@@ -346,7 +354,7 @@ pub fn expression(code: &mut [u8], values: &[u8], only: bool, level: u32, at: us
 {
     let mut left = begin(code, values, only, at);
     loop {
-        let Judged::Typed(bool, i) = left else {
+        let Judged::Typed(t, i) = left else {
             return left;
         };
         let s = sort(code, i);
@@ -357,26 +365,26 @@ pub fn expression(code: &mut [u8], values: &[u8], only: bool, level: u32, at: us
         if level < l {
             return left;
         }
-        let wants = asked(s, l, bool);
-        if differ(bool, wants) {
-            return Judged::Faulty(13, at);
+        let wants = asked(s, l, t);
+        if t != wants {
+            return Judged::Faulty(rules::WRONG_TYPE, at);
         }
         let right = expression(code, values, only, l - 1, i + 1);
         left = join(code, s, l, wants, right, i);
     }
 }
 
-// An expression of a type: bool, or num.
-pub fn of_type(code: &mut [u8], values: &[u8], only: bool, wants: bool, at: usize) -> Judged
+// An expression of a type.
+pub fn of_type(code: &mut [u8], values: &[u8], only: bool, wants: Type, at: usize) -> Judged
     requires { ⌜ Stands (now code) (now values) disjunctions at ⌝ }
     ensures { λ r. ⌜ OfType (now (code .entry)) (now (values .entry)) (now (code .exit)) only wants at r ⌝ }
 {
     let r = expression(code, values, only, DISJUNCTIONS, at);
-    let Judged::Typed(bool, end) = r else {
+    let Judged::Typed(t, end) = r else {
         return r;
     };
-    if differ(bool, wants) {
-        return Judged::Faulty(13, at);
+    if t != wants {
+        return Judged::Faulty(rules::WRONG_TYPE, at);
     }
-    Judged::Typed(bool, end)
+    Judged::Typed(t, end)
 }

@@ -1,6 +1,6 @@
 pub mod Rules
 pub mod Answers
+pub mod Parts
 pub mod Kinds
 pub mod Types
-pub mod Parts
 pub mod Named

@@ -6,7 +6,7 @@ use Rattle.layout.specs.Rules.{smallStore, wrongDepth, longText, badByte
 use Rattle.layout.specs.Answers.{entered, left, ended, lacked, handed, firstError}
 use Rattle.layout.specs.Kinds.{aVariable, anArray, aConstant, aLoop, aRoutine, anErrno, anErrorNumber}
 use Rattle.layout.specs.Types.{noType, numType, boolType}
-use Rattle.layout.specs.Parts.{valuePart, linkPart, sizePart, charactersPart, loopPart, spelledPart}
+use Rattle.layout.specs.Parts.{valuePart, linkPart, sizePart, charactersPart, loopPart, spelledPart, kindPart, typePart}
 use Rattle.paper.specs.Words.{textLimit, wordLimit}
 use Rattle.paper.specs.Types.{elementLimit}
 use Rattle.paper.specs.Declarations.{routineLimit, moduleWordLimit, routineWordLimit}
@@ -47,7 +47,7 @@ abbrev pub types : List ℕ
 types = noType ∷ numType ∷ boolType ∷ []
 
 abbrev pub parts : List ℕ
-parts = valuePart ∷ linkPart ∷ sizePart ∷ charactersPart ∷ loopPart ∷ spelledPart ∷ bias ∷ []
+parts = valuePart ∷ linkPart ∷ sizePart ∷ charactersPart ∷ loopPart ∷ spelledPart ∷ bias ∷ kindPart ∷ typePart ∷ []
 
 abbrev pub limits : List ℕ
 limits = textLimit ∷ wordLimit ∷ routineLimit ∷ moduleWordLimit ∷ routineWordLimit ∷ elementLimit ∷ depthLimit ∷ storeWords ∷ storeBytes ∷ []

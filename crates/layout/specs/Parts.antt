@@ -24,3 +24,10 @@ loopPart = 256
 -- a name's value: its length above its number
 abbrev pub spelledPart : ℕ
 spelledPart = 8192
+
+-- a meaning's op: its kind above its type's bit, and that above the bit of a routine's word
+abbrev pub kindPart : ℕ
+kindPart = 4
+
+abbrev pub typePart : ℕ
+typePart = 2

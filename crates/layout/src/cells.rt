@@ -33,6 +33,9 @@ pub const USED: usize = 1262;
 
 pub const ERRNO: usize = 1263;
 
+// as a word's value has it
+pub const ERRNO_VALUE: u32 = ERRNO as u32;
+
 // All of them, as the specs name them: a wrong one breaks this contract.
 pub fn all() -> [usize; 12]
     ensures { λ r. ⌜ r ≡ cells ⌝ }

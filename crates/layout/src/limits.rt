@@ -16,6 +16,13 @@ pub const ROUTINE_WORDS: usize = 64;
 
 pub const ELEMENTS: usize = 512;
 
+// the same where words are counted, and where a size is still a number
+pub const MODULE_COUNT: u32 = MODULE_WORDS as u32;
+
+pub const ROUTINE_COUNT: u32 = ROUTINE_WORDS as u32;
+
+pub const ELEMENT_COUNT: i64 = ELEMENTS as i64;
+
 // live calls
 pub const DEPTH: usize = 64;
 
@@ -23,11 +30,6 @@ pub const DEPTH: usize = 64;
 pub const STORE_CELLS: usize = 16384;
 
 pub const STORE_BYTES: usize = 65536;
-
-// The same where words and routines are counted in 32 bits.
-pub const ROUTINES_32: u32 = ROUTINES as u32;
-
-pub const ROUTINE_WORDS_32: u32 = ROUTINE_WORDS as u32;
 
 // All of them, as the specs name them: a wrong one breaks this contract.
 pub fn all() -> [usize; 9]

@@ -23,12 +23,27 @@ pub const SPELLED: u32 = 8192;
 // what a number is held above: how far it is from the lowest
 pub const BIAS: u32 = 8388607;
 
-// The same where a string's bytes are counted as the text counts them.
-pub const CHARACTERS_AT: usize = CHARACTERS as usize;
+// the same beside a number
+pub const WIDE_BIAS: i64 = BIAS as i64;
+
+// a meaning's op: its kind above its type's bit, and that above the bit of a routine's word
+pub const KIND: u32 = 4;
+
+pub const TYPE: u32 = 2;
 
 // All of them, as the specs name them: a wrong one breaks this contract.
-pub fn all() -> [u32; 7]
+pub fn all() -> [u32; 9]
     ensures { λ r. ⌜ r ≡ parts ⌝ }
 {
-    [VALUE, LINK, SIZE, CHARACTERS, LOOP, SPELLED, BIAS]
+    [
+        VALUE,
+        LINK,
+        SIZE,
+        CHARACTERS,
+        LOOP,
+        SPELLED,
+        BIAS,
+        KIND,
+        TYPE,
+    ]
 }

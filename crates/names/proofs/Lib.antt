@@ -3,3 +3,4 @@ pub mod Spellings
 pub mod Tables
 pub mod Unique
 pub mod Shields
+pub mod Reading

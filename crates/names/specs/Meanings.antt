@@ -11,32 +11,9 @@ use Rattle.paper.specs.Terms.{Ref, ofModule, ofRoutine}
 use Rattle.paper.specs.Names.{DataType, aNum, aBool, Meaning, unknown, variable, array, constant, loop, theRoutine, theErrno, errorNumber, Text, textOf, Scopes, spelled, lookIn, protected, isAmong, meaning}
 use Rattle.code.specs.Cells.{opIn, valueIn, headAt, linkAt}
 use Rattle.names.specs.Numbers.{numberOf, IsName}
+pub use Rattle.layout.specs.Kinds.{aVariable, anArray, aConstant, aLoop, aRoutine, anErrno, anErrorNumber, cellWith, kindIn, boolIn, ownIn}
 
--- ---- a cell: op + 256 * value. An op is kind * 4 + 2 of a bool + 1 of a word of the routine.
-abbrev pub aVariable : ℕ
-aVariable = 1
-
-abbrev pub anArray : ℕ
-anArray = 2
-
-abbrev pub aConstant : ℕ
-aConstant = 3
-
-abbrev pub aLoop : ℕ
-aLoop = 4
-
-abbrev pub aRoutine : ℕ
-aRoutine = 5
-
-abbrev pub anErrno : ℕ
-anErrno = 6
-
-abbrev pub anErrorNumber : ℕ
-anErrorNumber = 7
-
-abbrev pub cellWith : (kind bool own value : ℕ) → ℕ
-cellWith kind bool own value = kind * 4 + 2 * bool + own + 256 * value
-
+-- ---- a cell: its kind, its type's bit and that of a word of the routine, and its value
 abbrev pub typeWith : (bool : ℕ) → DataType
 typeWith bool = if eqb bool 0 then aNum else aBool
 
@@ -57,7 +34,7 @@ meaningWith routine kind bool own value =
     else unknown
 
 unfoldable pub meaningIn : (routine : ℕ → ℕ) → (cell : ℕ) → Meaning
-meaningIn routine m = meaningWith routine (opIn m / 4) (m / 2 % 2) (m % 2) (valueIn m)
+meaningIn routine m = meaningWith routine (kindIn m) (boolIn m) (ownIn m) (valueIn m)
 
 -- ---- protected names
 abbrev pub isProtected : Text → Bool

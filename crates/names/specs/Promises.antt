@@ -2,12 +2,15 @@
 use mathlib.Core.Path.{_≡_}
 use mathlib.Core.Bool.{Bool}
 use mathlib.Core.List.{List}
+use mathlib.Core.Option.{some}
 use Prim.Native.Nat.{ℕ, _+_, _%_, _<_}
 use lib.ListN.{getD}
+use Rattle.paper.specs.Names.{typeOf}
 use Rattle.cells.specs.Words.{wordsOf, Put}
 use Rattle.code.specs.Cells.{headAt, valueAt, placeAt, linkAt}
 use Rattle.store.specs.Promises.{tailWith, Rewritten}
-use Rattle.names.specs.Meanings.{firstMeaning, protectsCell}
+use Rattle.layout.specs.Types.{typeIn}
+use Rattle.names.specs.Meanings.{firstMeaning, protectsCell, typeWith, boolIn}
 
 -- a store's 16,384 cells
 abbrev pub storeBytes : ℕ
@@ -45,3 +48,12 @@ Left code values i values′ = Put values values′ (firstMeaning + linkAt (word
 
 abbrev pub Protects : (m : ℕ) → Bool → Type 0
 Protects m r = r ≡ protectsCell m
+
+-- ---- readings of a cell
+-- r is the number of the type that a cell says
+pub record TypeOf (cell r : ℕ) : Type 0 where
+  pub is : typeIn r ≡ some (typeWith (boolIn cell))
+
+-- r is the number of the type that a word of this sort names
+pub record TypeNamed (sort r : ℕ) : Type 0 where
+  pub is : typeIn r ≡ some (typeOf sort)

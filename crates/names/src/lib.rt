@@ -2,8 +2,14 @@
 ghost use mathlib.Core.Path.{_≡_};
 ghost use Prim.Native.Nat.{_+_, _*_, _<_, _≤_};
 ghost use lib.ListN.{length};
-ghost use Rattle.names.specs.Promises.{Number, Meant, Declared, Links, Left, Protects, storeBytes};
+ghost use Rattle.code.specs.Cells.{valueIn};
+ghost use Rattle.names.specs.Promises.{Number, Meant, Declared, Links, Left, Protects, TypeOf, TypeNamed, storeBytes};
 ghost use Rattle.names.specs.Scopes.{Fits, Declares, Enters, Leaves};
+ghost use Rattle.layout.specs.Kinds.{cellWith, kindIn, ownIn};
+use layout::kinds;
+use layout::parts;
+use layout::types;
+use layout::types::Type;
 
 // The table begins at this cell of the value store. The name with number n has cell MEANINGS + n.
 pub const MEANINGS: usize = 8192;
@@ -12,30 +18,21 @@ pub const MEANINGS: usize = 8192;
 pub const NUMBERS: usize = 8192;
 
 // A cell is an op, and a value above it.
-pub const VALUE: u32 = 256;
+pub const VALUE: u32 = parts::VALUE;
 
-// The ops of meanings. A bool has IS_BOOL more, a word of the routine OF_ROUTINE.
+// No meaning yet; and module data whose semicolon is still to come.
 pub const UNKNOWN: u32 = 0;
 
-// module data whose semicolon is still to come
 pub const TO_COME: u32 = 1;
 
-pub const VARIABLE: u32 = 4;
+// The ops of some meanings.
+pub const ROUTINE: u32 = kinds::ROUTINE * parts::KIND;
 
-pub const ARRAY: u32 = 8;
+pub const ERRNO: u32 = kinds::ERRNO * parts::KIND;
 
-pub const CONSTANT: u32 = 12;
+pub const ERROR_NUMBER: u32 = kinds::ERROR_NUMBER * parts::KIND;
 
-pub const LOOP: u32 = 16;
-
-pub const ROUTINE: u32 = 20;
-
-pub const ERRNO: u32 = 24;
-
-pub const ERROR_NUMBER: u32 = 28;
-
-pub const IS_BOOL: u32 = 2;
-
+// `own` of a word of the routine.
 pub const OF_ROUTINE: u32 = 1;
 
 // The number of the name at a word.
@@ -79,13 +76,66 @@ fn leave(code: &[u8], values: &mut [u8], i: usize)
 pub fn is_protected(m: u32) -> bool
     ensures { λ r. ⌜ Protects m r ⌝ }
 {
-    ERRNO <= m % VALUE
+    kinds::ERRNO <= kind_of(m)
+}
+
+// ---- types and meanings
+
+// The type that a word of this sort names.
+pub fn type_named(s: u32) -> Type
+    ensures { λ r. ⌜ TypeNamed s r ⌝ }
+{
+    if s == sorts::NUM {
+        return types::NUM;
+    }
+    types::BOOL
+}
+
+// A meaning: `bool` is 1 of a bool, `own` of a word of the routine.
+pub fn cell_with(kind: u32, bool: u32, own: u32, value: u32) -> u32
+    requires { ⌜ (kind < 8) × (bool < 2) × (own < 2) × (value < 16777216) ⌝ }
+    ensures { λ r. ⌜ r ≡ cellWith kind bool own value ⌝ }
+{
+    kind * parts::KIND + parts::TYPE * bool + own + parts::VALUE * value
+}
+
+pub fn kind_of(m: u32) -> u32
+    ensures { λ r. ⌜ r ≡ kindIn m ⌝ }
+{
+    m % parts::VALUE / parts::KIND
+}
+
+pub fn type_of(m: u32) -> Type
+    ensures { λ r. ⌜ TypeOf m r ⌝ }
+{
+    types::NUM + m / parts::TYPE % 2
+}
+
+// 1 of a word of the routine
+pub fn own_of(m: u32) -> u32
+    ensures { λ r. ⌜ r ≡ ownIn m ⌝ }
+{
+    m % 2
+}
+
+pub fn value_of(m: u32) -> u32
+    ensures { λ r. ⌜ r ≡ valueIn m ⌝ }
+{
+    m / parts::VALUE
 }
 
 // How far a scope is filled: the words of its data. It goes in by value, and what fills it hands the new state back. What its names mean does not fit a struct,
 // and stands in lent cells.
 pub struct Scope {
     pub used: u32,
+}
+
+// What a walk that fills a scope answers.
+pub enum Walked {
+    // the word after what it walked over, and the scope with what is declared
+    Upto(usize, Scope),
+    // the rule broken, and its word
+    Faulty(u32, usize),
 }
 
 impl Scope {
@@ -105,7 +155,7 @@ impl Scope {
         requires { ⌜ (i * 8 + 8 ≤ length (now code)) × (storeBytes ≤ length (now values)) × Fits self 1 ⌝ }
         ensures { λ r. ⌜ Enters self (now (code .entry)) (now (values .entry)) i (now (code .exit)) (now (values .exit)) r ⌝ }
     {
-        let m = LOOP + OF_ROUTINE + VALUE * self.used;
+        let m = kinds::LOOP * parts::KIND + OF_ROUTINE + parts::VALUE * self.used;
         self.declare(code, values, i, m, 1)
     }
 

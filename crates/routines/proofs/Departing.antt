@@ -34,9 +34,9 @@ use Rattle.sites.specs.Walks.{outerOf, nameOf, nameWords}
 use Rattle.declarations.specs.Answers.{firstOf, DeclaresRoutine}
 use Rattle.leaving.specs.Answers.{MeansBut, Leaving, Leaves}
 use Rattle.parameters.specs.Answers.{DeclaresParameters}
-use Rattle.statements.specs.declared.Walked as statements
+use Rattle.names.specs.declared.Walked as statements
 use Rattle.statements.specs.Answers.{SameValues}
-use Rattle.statements.specs.declared.Walked.the-variants as walked
+use Rattle.names.specs.declared.Walked.the-variants as walked
 use Rattle.store.specs.Chains.{Chain, Rise, startsIn}
 use Rattle.program.specs.Routines.{wordsInAll, RawLines, RawHandler, RawRoutine}
 use Rattle.program.proofs.Framing.{lines-frame}

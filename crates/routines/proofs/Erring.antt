@@ -31,9 +31,9 @@ use Rattle.faults.specs.Parts.{memoryOf, inHandler}
 use Rattle.store.specs.Promises.{Linked}
 use Rattle.links.specs.Raw.{Ground, RawList, endOf}
 use Rattle.around.specs.declared.Setting as simple-setting
-use Rattle.around.specs.Around.{offsetIn, resultIf, Tells}
-use Rattle.statements.specs.declared.Walked.{Walked}
-use Rattle.statements.specs.declared.Walked.the-variants.{Upto, Faulty}
+use Rattle.around.specs.Around.{offsetIn, Tells}
+use Rattle.names.specs.declared.Walked.{Walked}
+use Rattle.names.specs.declared.Walked.the-variants.{Upto, Faulty}
 use Rattle.statements.specs.Answers.{upto, Lists, Listed, Tell, Answer}
 use Rattle.compounds.specs.Here.{Outside}
 use Rattle.program.specs.Routines.{wordsOfData, wordsInAll, groundFor, RawLines}

@@ -25,11 +25,10 @@ use Rattle.names.specs.Promises.{storeBytes, Meant, numberAt}
 use Rattle.grammar.specs.Form.{Parses, HeadAt, a-proc, a-func, RoutineAt}
 use Rattle.faults.specs.Left.{headFaults, ownFaults}
 use Rattle.faults.proofs.Routines.{head-taken, head-crosses, head-fits, found-in-head, found-behind}
-use Rattle.expressions.specs.Answers.{typeIf}
 use Rattle.heads.specs.Trees.{wordOf, headFor, headsFor, earlierOf}
 use Rattle.heads.proofs.Numbering.{drop-less, heads-length, head-at, word-at, numbered-back}
 use Rattle.sites.specs.Sites.{filling}
-use Rattle.around.specs.Around.{resultIf}
+use Rattle.around.specs.Around.{ResultIs}
 use Rattle.program.proofs.Orders.{lies}
 use Rattle.routines.specs.declared.Walked.{Walked}
 use Rattle.routines.specs.declared.Walked.the-variants.{Upto, Faulty}
@@ -38,6 +37,9 @@ use Rattle.routines.specs.Parts.{namesRoutine, resultIn, nameWith, Scope
 use Rattle.routines.proofs.Naming.{kind-routine, only-routine, name-means, name-other}
 use Rattle.layout.specs.Rules.{takenName, tooMany}
 use Rattle.layout.specs.Kinds as kinds
+use Rattle.layout.specs.Types.{typeIn}
+use Rattle.layout.proofs.Typing.{num-in, bool-in}
+use Rattle.laws.proofs.Tests.{apart}
 
 -- ---- the head
 type-bool : (s : ℕ) → s ≡ 90 → typeOf s ≡ aBool
@@ -84,19 +86,23 @@ asked W k t f = rw f
 
 pub record HeadRead (W : List Word) (k : ℕ) (o : Option ℕ) (h name result : ℕ) : Type 0 where
   pub name-is : nameWith result h ≡ name
-  pub result-is : crosses routineLimit k 1 ≡ false → resultAsked W k o ≡ resultIf result
+  pub result-is : crosses routineLimit k 1 ≡ false → ResultIs (resultAsked W k o) result
+
+-- a type that a number says
+typed : {o : Option DataType} {result : ℕ} {t : DataType} → {w : typeIn result ≡ some t} → o ≡ some t → ResultIs o result
+typed {w = w} e = record { is = e ∙ sym w; plain = λ n. apart (cc) }
 
 pub head-read : (W : List Word) (k : ℕ) (C : List ℕ) {o : Option ℕ} {closing h name : ℕ} → HeadAt (sortIn W) (Parses (sortIn W)) o closing h name → opAt C h ≡ sortIn W h → opAt C (h + 1) ≡ sortIn W (h + 1)
     → HeadRead W k o h name (resultIn C h)
-unfolding nameWith resultIf resultAsked typeIf
+unfolding nameWith typeIn resultAsked
 head-read W k C {h = h} {name = name} (a-proc p n c) e f =
-    subst (HeadRead W k none h name) (sym (read-proc C h (e ∙ p))) (record { name-is = sym n; result-is = λ q. refl })
+    subst (HeadRead W k none h name) (sym (read-proc C h (e ∙ p))) (record { name-is = sym n; result-is = λ q. record { is = refl; plain = λ _. refl } })
 head-read W k C {h = h} {name = name} (a-func {t = t} p u ty n c) e f =
     by-same (opAt C (h + 1)) 90
     (λ q. subst (HeadRead W k (some t) h name) (sym (read-bool C h (λ z. omega (arith, e ∙ p)) q))
-    (record { name-is = sym n; result-is = λ z. asked W k t z ∙ ap some (ap typeOf u ∙ type-bool (sortIn W (h + 1)) (sym f ∙ q)) }))
+    (record { name-is = sym n; result-is = λ z. typed {w = bool-in} (asked W k t z ∙ ap some (ap typeOf u ∙ type-bool (sortIn W (h + 1)) (sym f ∙ q))) }))
     (λ q. subst (HeadRead W k (some t) h name) (sym (read-num C h (λ z. omega (arith, e ∙ p)) q))
-    (record { name-is = sym n; result-is = λ z. asked W k t z ∙ ap some (ap typeOf u ∙ type-num (sortIn W (h + 1)) ty (λ y. q (f ∙ y))) }))
+    (record { name-is = sym n; result-is = λ z. typed {w = num-in} (asked W k t z ∙ ap some (ap typeOf u ∙ type-num (sortIn W (h + 1)) ty (λ y. q (f ∙ y)))) }))
 
 -- ---- rule 16
 pub crosses-here : (k : ℕ) → k ≡ 64 → crosses routineLimit k 1 ≡ true

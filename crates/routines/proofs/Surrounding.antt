@@ -26,7 +26,7 @@ use Rattle.heads.proofs.Announcing.{not-found}
 use Rattle.heads.proofs.Scoping.{look-found}
 use Rattle.sites.specs.Sites.{filling, ownOf, owned}
 use Rattle.around.specs.declared.Setting.{Setting}
-use Rattle.around.specs.Around.{Around, Unread, Apart, Calls, resultIf, Tells}
+use Rattle.around.specs.Around.{Around, Unread, Apart, Calls, Tells}
 use Rattle.around.specs.Around as simple
 use Rattle.compounds.specs.Here.{Here}
 use Rattle.program.specs.Routines.{wordsInAll, groundFor}

@@ -7,13 +7,13 @@ use lib.ListN.{length}
 use Rattle.paper.specs.Checks.{routineFaults}
 use Rattle.names.specs.Promises.{storeBytes}
 use Rattle.faults.specs.First.{First}
-use Rattle.sites.specs.declared.Walked as declared-walked
-use Rattle.sites.specs.declared.Walked.the-variants as data-walked
+use Rattle.names.specs.declared.Walked as declared-walked
+use Rattle.names.specs.declared.Walked.the-variants as data-walked
 use Rattle.parameters.specs.Answers.{ParametersStand, DeclaresParameters}
 use Rattle.declarations.specs.Answers.{RoutineStands, DeclaresRoutine}
 use Rattle.leaving.specs.Answers.{Leaving, Leaves}
-use Rattle.statements.specs.declared.Walked as statements
-use Rattle.statements.specs.declared.Walked.the-variants as walked
+use Rattle.names.specs.declared.Walked as statements
+use Rattle.names.specs.declared.Walked.the-variants as walked
 use Rattle.sites.specs.Walks as data-walks
 use Rattle.statements.specs.Answers as answers
 use Rattle.names.specs.declared.Scope.{Scope}

@@ -26,9 +26,9 @@ use Rattle.faults.specs.Parts.{inHandler}
 use Rattle.links.specs.Raw.{Ground, endOf}
 use Rattle.heads.specs.Trees.{headsFor}
 use Rattle.sites.specs.Sites.{aRoutine, Filled}
-use Rattle.around.specs.Around.{Unread, Apart, resultIf}
-use Rattle.statements.specs.declared.Walked as statements
-use Rattle.statements.specs.declared.Walked.the-variants as walked
+use Rattle.around.specs.Around.{Unread, Apart, ResultIs}
+use Rattle.names.specs.declared.Walked as statements
+use Rattle.names.specs.declared.Walked.the-variants as walked
 use Rattle.statements.specs.Answers.{SameValues, Answer}
 use Rattle.parameters.specs.Answers.{DeclaresParameters}
 use Rattle.declarations.specs.Answers.{DeclaresRoutine}
@@ -95,7 +95,7 @@ pub record ErrorsStand (text code values : List ℕ) (result used e leads : ℕ)
   pub closes : e ≡ inside .stands .r .body .closes
   pub onward : Onward inside code e
   pub leads-is : leads ≡ leadsTo (wordsOf code) e
-  pub result-is : resultAsked (inside .stands .W) k (inside .stands .r .result) ≡ resultIf result
+  pub result-is : ResultIs (resultAsked (inside .stands .W) k (inside .stands .r .result)) result
   pub used-is : used ≡ dataWords inside + forsInList (inside .stands .r .body .statements)
   pub few : used ≤ callWords
 
@@ -122,7 +122,7 @@ pub record ListsStand (text code values : List ℕ) (result data-words h at : �
   pub inside : Inside text values k h
   pub begins : at ≡ inside .stands .form .begin
   pub onward : Onward inside code at
-  pub result-is : resultAsked (inside .stands .W) k (inside .stands .r .result) ≡ resultIf result
+  pub result-is : ResultIs (resultAsked (inside .stands .W) k (inside .stands .r .result)) result
   pub used-is : data-words ≡ dataWords inside
 
 pub record ListsDone {text code values : List ℕ} {result data-words h at : ℕ} (s : ListsStand text code values result data-words h at) (code′ values′ : List ℕ) (next used : ℕ) : Type 0 where
@@ -149,7 +149,7 @@ pub record ScopeStands (text code values : List ℕ) (result h name : ℕ) : Typ
   pub k : ℕ
   pub begins : Begins text code values k h
   pub name-is : name ≡ begins .stands .r .name
-  pub result-is : resultAsked (begins .stands .W) k (begins .stands .r .result) ≡ resultIf result
+  pub result-is : ResultIs (resultAsked (begins .stands .W) k (begins .stands .r .result)) result
   pub fits : crosses routineLimit k 1 ≡ false
 
 unfoldable pub SaysScope : {text code values : List ℕ} {result h name : ℕ} (s : ScopeStands text code values result h name) (code′ values′ : List ℕ) → Walked → Type 0

@@ -7,6 +7,7 @@ use layout::ops;
 use layout::parts;
 use layout::rules;
 use layout::types;
+use layout::types::Type;
 use names::Scope;
 use store::set_head;
 use store::set_link;
@@ -28,20 +29,23 @@ pub enum Walked {
     Faulty(u32, usize),
 }
 
+// the number that the first routine too many has
+const ROUTINES: u32 = limits::ROUTINES as u32;
+
 // ---- the head
 
 // Whether a cell of the table says that its name is the routine that begins at h.
 fn names_routine(m: u32, h: usize) -> bool
     ensures { λ r. ⌜ r ≡ namesRoutine m h ⌝ }
 {
-    if m % parts::VALUE / 4 != kinds::ROUTINE {
+    if m % parts::VALUE / parts::KIND != kinds::ROUTINE {
         return false;
     }
     (m / parts::VALUE) as usize == h
 }
 
 // The type of what it gives back.
-fn result_of(code: &[u8], h: usize) -> u32
+fn result_of(code: &[u8], h: usize) -> Type
     requires { ⌜ h * 8 + 16 ≤ length (now code) ⌝ }
     ensures { λ r. ⌜ r ≡ resultIn (wordsOf (now (code .entry))) h ⌝ }
 {
@@ -54,7 +58,7 @@ fn result_of(code: &[u8], h: usize) -> u32
     types::NUM
 }
 
-fn name_of(result: u32, h: usize) -> usize
+fn name_of(result: Type, h: usize) -> usize
     requires { ⌜ h < 8192 ⌝ }
     ensures { λ r. ⌜ r ≡ nameWith result h ⌝ }
 {
@@ -105,28 +109,28 @@ fn errors(
     text: &[u8],
     code: &mut [u8],
     values: &mut [u8],
-    result: u32,
+    result: Type,
     scope: Scope,
     e: usize,
     leads: usize,
-) -> statements::Walked
+) -> names::Walked
     requires { ⌜ ErrorsStand (now text) (now code) (now values) result (scope .used) e leads ⌝ }
     ensures { λ r. ⌜ Errors (now (text .entry)) (now (code .entry)) (now (values .entry)) (now (code .exit)) (now (values .exit)) result (scope .used) e leads r ⌝ }
 {
     end_list(code, result != types::NONE, e);
     if leads == 0 {
-        return statements::Walked::Upto(e + 1, scope);
+        return names::Walked::Upto(e + 1, scope);
     }
     let setting = Setting {
         result: result,
         handler: true,
     };
     let r = statements::list(text, code, values, setting, scope, leads);
-    let statements::Walked::Upto(z, n) = r else {
+    let names::Walked::Upto(z, n) = r else {
         return r;
     };
     end_list(code, result != types::NONE, z);
-    statements::Walked::Upto(z + 1, n)
+    names::Walked::Upto(z + 1, n)
 }
 
 // Both lists of the routine that begins at h, from the word `at` on. Its second word leads to its ERROR list.
@@ -134,11 +138,11 @@ fn lists(
     text: &[u8],
     code: &mut [u8],
     values: &mut [u8],
-    result: u32,
+    result: Type,
     scope: Scope,
     h: usize,
     at: usize,
-) -> statements::Walked
+) -> names::Walked
     requires { ⌜ ListsStand (now text) (now code) (now values) result (scope .used) h at ⌝ }
     ensures { λ r. ⌜ Lists (now (text .entry)) (now (code .entry)) (now (values .entry)) (now (code .exit)) (now (values .exit)) result (scope .used) h at r ⌝ }
 {
@@ -147,16 +151,16 @@ fn lists(
         handler: false,
     };
     let r = statements::list(text, code, values, setting, scope, at);
-    let statements::Walked::Upto(e, n) = r else {
+    let names::Walked::Upto(e, n) = r else {
         return r;
     };
     let leads = leads_to(code, e);
     let r = errors(text, code, values, result, n, e, leads);
-    let statements::Walked::Upto(z, used) = r else {
+    let names::Walked::Upto(z, used) = r else {
         return r;
     };
     set_link(code, h + 1, leads);
-    statements::Walked::Upto(z, used)
+    names::Walked::Upto(z, used)
 }
 
 // ---- a routine
@@ -166,7 +170,7 @@ fn behind_data(
     text: &[u8],
     code: &mut [u8],
     values: &mut [u8],
-    result: u32,
+    result: Type,
     parameters: u32,
     taken: Scope,
     h: usize,
@@ -178,8 +182,8 @@ fn behind_data(
 {
     let l = lists(text, code, values, result, taken, h, at);
     match l {
-        statements::Walked::Faulty(number, word) => Walked::Faulty(number, word),
-        statements::Walked::Upto(next, all) => {
+        names::Walked::Faulty(number, word) => Walked::Faulty(number, word),
+        names::Walked::Upto(next, all) => {
             finish(code, h, name + 1, at, all.used - taken.used);
             leaving::leave_routine(all, code, values, name + 2, parameters, h);
             Walked::Upto(next)
@@ -192,7 +196,7 @@ fn behind_parameters(
     text: &[u8],
     code: &mut [u8],
     values: &mut [u8],
-    result: u32,
+    result: Type,
     own: Scope,
     h: usize,
     name: usize,
@@ -203,8 +207,8 @@ fn behind_parameters(
 {
     let d = declarations::routine_data(own, code, values, name + 1, h, close + 1);
     match d {
-        sites::Walked::Faulty(number, word) => Walked::Faulty(number, word),
-        sites::Walked::Upto(at, data) => {
+        names::Walked::Faulty(number, word) => Walked::Faulty(number, word),
+        names::Walked::Upto(at, data) => {
             behind_data(text, code, values, result, own.used, data, h, name, at)
         }
     }
@@ -215,7 +219,7 @@ fn scope(
     text: &[u8],
     code: &mut [u8],
     values: &mut [u8],
-    result: u32,
+    result: Type,
     h: usize,
     name: usize,
 ) -> Walked
@@ -224,8 +228,8 @@ fn scope(
 {
     let p = parameters::parameters(code, values, name + 2);
     match p {
-        sites::Walked::Faulty(number, word) => Walked::Faulty(number, word),
-        sites::Walked::Upto(close, own) => {
+        names::Walked::Faulty(number, word) => Walked::Faulty(number, word),
+        names::Walked::Upto(close, own) => {
             behind_parameters(text, code, values, result, own, h, name, close)
         }
     }
@@ -242,7 +246,7 @@ pub fn routine(text: &[u8], code: &mut [u8], values: &mut [u8], k: u32, h: usize
     if !names_routine(m, h) {
         return Walked::Faulty(rules::TAKEN_NAME, name);
     }
-    if k == limits::ROUTINES_32 {
+    if k == ROUTINES {
         return Walked::Faulty(rules::TOO_MANY, name);
     }
     scope(text, code, values, result, h, name)

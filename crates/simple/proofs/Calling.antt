@@ -47,6 +47,7 @@ use Rattle.simple.proofs.Asking.{no-operator, level-semicolon, level-pa
 use Rattle.simple.proofs.Callees.{Known, known}
 use Rattle.simple.proofs.Arguing.{link-below, unread-part, unread-after, apart-kept, apart-same, reads-grow, reads-below, one-asks, one-long, one-told, one-first, one-is-first, one-is-fine, next-level, same-tail}
 use Rattle.layout.specs.Rules.{wrongCount}
+use Rattle.layout.specs.Types.{noType}
 
 -- ---- terms that have been read are the arguments
 module _ (m n : ℕ) (fn : Bool) (text : List ℕ) (R : List Head) (C : List ℕ) where
@@ -182,11 +183,11 @@ module _ (code values : List ℕ) (h callee first closing : ℕ) (g : CallSide c
 
       -- there are none
       none-answer : count ≡ 0 → (op : ℕ) (after : List ℕ) → Linked code after callee op h first
-          → Answer (faultIf (not (eqb (length params) (length (g .es)))) wrongCount callee ++ passing params (g .es)) code after callee (g .z) (CallWritten g (wordsOf after) op) (Typed false first)
+          → Answer (faultIf (not (eqb (length params) (length (g .es)))) wrongCount callee ++ passing params (g .es)) code after callee (g .z) (CallWritten g (wordsOf after) op) (Typed noType first)
       unfolding argumentFaults groundOf params
       none-answer zero-is op after l =
           let n = none-closed (g .stand .arguments) (sym count-is ∙ zero-is) in
-          answer-fine _ code after callee (g .z) _ false first (record {
+          answer-fine _ code after callee (g .z) _ noType first (record {
             none = all-faults ∙ ap (passing params) (n .0);
             next-is = sym (n .1);
             written = record {
@@ -257,7 +258,7 @@ module _ (code values : List ℕ) (h callee first closing : ℕ) (g : CallSide c
               (one-is-first (g .around) (typeAt (wordsOf code) p) left (one .a) (one .rest) first (one .n) (g .z) (one .one) (one .more) (one .done) (record { number = number; at = word })
               (one-first (g .around) code p first (one .a) (one .n) (one .one) one-load one-no mid j pass number word e))
 
-          module _ (b : Bool) (n : ℕ) (e : j ≡ Typed b n) where
+          module _ (b : ℕ) (n : ℕ) (e : j ≡ Typed b n) where
             first-told : Told (g .around .known) (ofType (g .around .known .W) (typeAt (wordsOf code) p) (g .around .known .S) (one .a)) code mid (one .a) first (one .n) n
             first-told = one-told (g .around) code p first (one .a) (one .n) (one .one) one-load one-no mid j pass b n e
 
@@ -343,7 +344,7 @@ module _ (code values : List ℕ) (op h callee first closing : ℕ) (count : ℕ
   }
 
   module _ (same : count ≡ w / 256) where
-    pub called-none : count ≡ 0 → (after : List ℕ) → Linked code after callee op h first → CallJudged code values after op h callee first closing (Typed false first)
+    pub called-none : count ≡ 0 → (after : List ℕ) → Linked code after callee op h first → CallJudged code values after op h callee first closing (Typed noType first)
     unfolding params
     called-none z after l = record { is = λ g. none-answer code values h callee first closing g count c w ew same z op after l }
 
@@ -356,7 +357,7 @@ module _ (code values : List ℕ) (op h callee first closing : ℕ) (count : ℕ
             (first-wrong code values h callee first closing g count c w ew same some-are p ep mid j pass number word e);
       }
 
-      pub called-on : (b : Bool) (n : ℕ) → j ≡ Typed b n → (after : List ℕ) → Linked mid after callee op h n → (final : List ℕ) (r : Judged) → MoreJudged after values final p n r
+      pub called-on : (b : ℕ) (n : ℕ) → j ≡ Typed b n → (after : List ℕ) → Linked mid after callee op h n → (final : List ℕ) (r : Judged) → MoreJudged after values final p n r
           → CallJudged code values final op h callee first closing r
       unfolding params
       called-on b n e after l final r m = record {

@@ -13,14 +13,16 @@ use Rattle.code.specs.Signatures.{typeAt}
 use Rattle.climb.proofs.Places.{spans-first, stands}
 use Rattle.expressions.specs.declared.Judged.{Judged}
 use Rattle.expressions.specs.declared.Judged.the-variants.{Typed, Faulty}
-use Rattle.expressions.specs.Answers.{typeIf, Says, Judges, Checked}
+use Rattle.expressions.specs.Answers.{Says, Judges, Checked}
 use Rattle.expressions.proofs.Judging.{wanted-first}
 use Rattle.expressions.proofs.Around.{says-typed, says-faulty}
-use Rattle.simple.specs.Parts.{typeIn, TypeDiffers, passed, Passed}
+use Rattle.simple.specs.Parts.{saidType, TypeDiffers, passed, Passed}
 use Rattle.layout.specs.Rules.{wrongType}
+use Rattle.layout.specs.Types.{typeIn}
+use mathlib.Core.Option.{some}
 
-pub type-at : (C : List ℕ) (p asked : ℕ) → asked ≡ headAt C p → typeIn asked ≡ typeAt C p
-unfolding typeIn typeAt
+pub type-at : (C : List ℕ) (p asked : ℕ) → asked ≡ headAt C p → saidType asked ≡ typeAt C p
+unfolding saidType typeAt
 type-at C p asked e = rw e
 
 wanted-fine : (t : DataType) (i : ℕ) (j : types.Judged) → j .faults ≡ [] → differs t (j .type) ≡ false → wanted t i j ≡ []
@@ -50,9 +52,9 @@ module _ (code values after : List ℕ) (p at asked : ℕ) (e : asked ≡ headAt
         });
   }
 
-  module _ (bool : Bool) (end : ℕ) (q : r ≡ Typed bool end) (t : Bool) (d : TypeDiffers asked bool t) where
-    differs-is : (x : DataType) → x ≡ typeIf bool → differs (typeAt (wordsOf code) p) x ≡ t
-    differs-is x z = ap (differs (typeAt (wordsOf code) p)) z ∙ sym (ap (λ (y : DataType). differs y (typeIf bool)) (type-at (wordsOf code) p asked e)) ∙ d .is
+  module _ (bool end : ℕ) (q : r ≡ Typed bool end) (t : Bool) (d : TypeDiffers asked bool t) where
+    differs-is : (x : DataType) → typeIn bool ≡ some x → differs (typeAt (wordsOf code) p) x ≡ t
+    differs-is x z = sym (ap (λ (y : DataType). differs y x) (type-at (wordsOf code) p asked e)) ∙ d .is x z
 
     pub passed-wrong : t ≡ true → Passed code values after p at (Faulty wrongType at)
     unfolding Says fault
@@ -64,7 +66,7 @@ module _ (code values after : List ℕ) (p at asked : ℕ) (e : asked ≡ headAt
           record {
             says = record {
               others = [];
-              faults-are = wanted-bad (typeAt (wordsOf code) p) (first (s .e)) j (x .none) (differs-is (j .type) (x .type-is) ∙ y) ∙ ap (fault 13) start;
+              faults-are = wanted-bad (typeAt (wordsOf code) p) (first (s .e)) j (x .none) (differs-is (j .type) (x .type-is) ∙ y) ∙ ap (fault wrongType) start;
             };
             kept = c .is s .kept;
             low = c .is s .low;

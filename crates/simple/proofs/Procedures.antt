@@ -125,7 +125,7 @@ module _ (code values : List ℕ) (i : ℕ) (c : CallsOf code values i) where
             stated-first code values i (c .begins .stands) (call i (of-calls .es)) (of-calls .is) mid q number word x (of-answer .long)
             (subst (First (record { number = number; at = word })) (sym of-faults) (answered-first _ _ _ _ _ _ q of-answer number word x))
 
-        module _ (bool : Bool) (end : ℕ) (x : q ≡ Typed bool end) where
+        module _ (bool : ℕ) (end : ℕ) (x : q ≡ Typed bool end) where
           of-fine : Fine
               (faultIf (not (eqb (length (signatureFor (c .begins .stands .around) h .parameters)) (length (of-calls .es)))) wrongCount i
               ++ argumentFaults (c .begins .stands .around .known .W) (c .begins .stands .around .known .S) (signatureFor (c .begins .stands .around) h .parameters) (of-calls .es))
@@ -170,5 +170,5 @@ module _ (code values : List ℕ) (i : ℕ) (r : Callee) (t : CalleeTold code va
     pub called-of-faulty : (number word : ℕ) → q ≡ Faulty number word → CalledOf code values mid i q
     called-of-faulty number word x = record { is = λ c. of-faulty code values i c r t h e mid q j number word x }
 
-    pub called-of-typed : (bool : Bool) (end : ℕ) → q ≡ Typed bool end → (after : List ℕ) → Linked mid after end aClose 0 (end + 1) → CalledOf code values after i (Typed bool (end + 1))
+    pub called-of-typed : (bool : ℕ) (end : ℕ) → q ≡ Typed bool end → (after : List ℕ) → Linked mid after end aClose 0 (end + 1) → CalledOf code values after i (Typed bool (end + 1))
     called-of-typed bool end x after l = record { is = λ c. of-typed code values i c r t h e mid q j bool end x after l }

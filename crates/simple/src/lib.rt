@@ -6,6 +6,7 @@ use layout::ops;
 use layout::parts;
 use layout::rules;
 use layout::types;
+use layout::types::Type;
 use store::set_head;
 use store::set_link;
 use store::set_word;
@@ -17,6 +18,7 @@ ghost use Rattle.paper.specs.Sorts.{NAME, RETURN, RAISE, TPWRITE, TPREADNUM};
 ghost use Rattle.cells.specs.Words.{wordsOf};
 ghost use Rattle.code.specs.Cells.{headAt, opAt, valueAt, placeAt, linkAt};
 ghost use Rattle.code.specs.Signatures.{firstParameter};
+ghost use Rattle.layout.specs.Types.{IsType};
 ghost use Rattle.expressions.specs.Answers as expressions;
 ghost use Rattle.simple.specs.Answers.{Statement, Stated};
 ghost use Rattle.simple.specs.Parts.{Begins, Begun, BeginsIn, BegunIn, BeginsOf, BegunOf, Assigns, Assigned, CallsOf, CalledOf, WrongName, TypeDiffers, IsCall};
@@ -32,6 +34,9 @@ pub enum Callee {
 
 // so much higher is the op of a target that a call's result goes to
 const FOR_A_CALL: u32 = ops::CALL_TARGET - ops::TARGET;
+
+// what a string's characters are multiplied by, as its bytes are counted
+const CHARACTERS: usize = parts::CHARACTERS as usize;
 
 // the level of all operators
 const DISJUNCTIONS: u32 = 5;
@@ -52,21 +57,18 @@ fn wrong_name(kind: u32) -> u32
 }
 
 // Whether the type that a head says, if it is asked, is not this one.
-fn differs(w: u32, bool: bool) -> bool
-    ensures { λ r. ⌜ TypeDiffers w bool r ⌝ }
+fn differs(w: u32, t: Type) -> bool
+    ensures { λ r. ⌜ TypeDiffers w t r ⌝ }
 {
     if w / parts::VALUE != 0 {
         return false;
     }
-    if w % parts::VALUE == sorts::NUM {
-        return bool;
-    }
-    !bool
+    names::type_named(w % parts::VALUE) != t
 }
 
 // ---- targets
 
-// A target: whether it is a bool, and the word after it.
+// A target: its type, and the word after it.
 fn target(code: &mut [u8], values: &[u8], at: usize) -> Judged
     requires { ⌜ Targets (now code) (now values) at ⌝ }
     ensures { λ r. ⌜ TargetJudged (now (code .entry)) (now (values .entry)) (now (code .exit)) at r ⌝ }
@@ -75,12 +77,12 @@ fn target(code: &mut [u8], values: &[u8], at: usize) -> Judged
     if sort(code, at + 1) == sorts::OPEN_BRACE {
         return element_target(code, values, m, at);
     }
-    let kind = m % parts::VALUE / 4;
+    let kind = m % parts::VALUE / parts::KIND;
     if kind != kinds::VARIABLE {
         return Judged::Faulty(wrong_name(kind), at);
     }
     set_head(code, at, ops::TARGET + m % 2, m / parts::VALUE);
-    Judged::Typed(m / 2 % 2 == 1, at + 1)
+    Judged::Typed(names::type_of(m), at + 1)
 }
 
 // An element, of whose array the table says m.
@@ -88,17 +90,17 @@ fn element_target(code: &mut [u8], values: &[u8], m: u32, at: usize) -> Judged
     requires { ⌜ Elements (now code) (now values) m at ⌝ }
     ensures { λ r. ⌜ ElementJudged (now (code .entry)) (now (values .entry)) (now (code .exit)) m at r ⌝ }
 {
-    let kind = m % parts::VALUE / 4;
+    let kind = m % parts::VALUE / parts::KIND;
     if kind != kinds::ARRAY {
         return Judged::Faulty(wrong_name(kind), at);
     }
-    let index = expressions::of_type(code, values, false, false, at + 2);
+    let index = expressions::of_type(code, values, false, types::NUM, at + 2);
     let Judged::Typed(_, end) = index else {
         return index;
     };
     set_head(code, at, ops::TARGET + 2 + m % 2, m / parts::VALUE);
     set_link(code, at + 1, end);
-    Judged::Typed(m / 2 % 2 == 1, end + 1)
+    Judged::Typed(names::type_of(m), end + 1)
 }
 
 // ---- calls
@@ -109,7 +111,7 @@ fn callee_at<'a>(code: &'a [u8], values: &'a [u8], function: bool, i: usize) -> 
     ensures { λ r. ⌜ CalleeTold (now (code .entry)) (now (values .entry)) function i r ⌝ }
 {
     let m = names::meaning(code, values, i);
-    let kind = m % parts::VALUE / 4;
+    let kind = m % parts::VALUE / parts::KIND;
     if kind != kinds::ROUTINE {
         return Callee::Wrong(wrong_name(kind));
     }
@@ -164,10 +166,10 @@ fn argument(code: &mut [u8], values: &[u8], p: usize, at: usize) -> Judged
 {
     let asked = reading::head(code, p);
     let r = expressions::expression(code, values, false, DISJUNCTIONS, at);
-    let Judged::Typed(bool, end) = r else {
+    let Judged::Typed(t, end) = r else {
         return r;
     };
-    if differs(asked, bool) {
+    if differs(asked, t) {
         return Judged::Faulty(rules::WRONG_TYPE, at);
     }
     r
@@ -189,7 +191,7 @@ fn more_arguments(code: &mut [u8], values: &[u8], p: usize, b: usize) -> Judged
         set_word(code, end, ops::NEXT_ARGUMENT, 0, n);
         end = n;
     }
-    Judged::Typed(false, end)
+    Judged::Typed(types::NONE, end)
 }
 
 fn first_parameter(code: &[u8], h: usize) -> usize
@@ -221,7 +223,7 @@ fn call(
     }
     if count == 0 {
         set_word(code, callee, op, h as u32, first);
-        return Judged::Typed(false, first);
+        return Judged::Typed(types::NONE, first);
     }
     let p = first_parameter(code, h);
     let r = argument(code, values, p, first);
@@ -233,7 +235,7 @@ fn call(
 }
 
 // The right side of an assignment to a target of a type: up to the parenthesis that closes.
-fn call_for(code: &mut [u8], values: &[u8], wants: bool, i: usize) -> Judged
+fn call_for(code: &mut [u8], values: &[u8], wants: Type, i: usize) -> Judged
     requires { ⌜ ForCalls (now code) (now values) i ⌝ }
     ensures { λ r. ⌜ ForJudged (now (code .entry)) (now (values .entry)) (now (code .exit)) wants i r ⌝ }
 {
@@ -265,36 +267,36 @@ fn call_of(code: &mut [u8], values: &[u8], i: usize) -> Judged
                 i + 1,
                 sorts::SEMICOLON,
             );
-            let Judged::Typed(bool, end) = r else {
+            let Judged::Typed(t, end) = r else {
                 return r;
             };
             set_word(code, end, ops::CLOSE, 0, end + 1);
-            Judged::Typed(bool, end + 1)
+            Judged::Typed(t, end + 1)
         }
     }
 }
 
 // ---- assignments: the target at i ends before b
 
-fn assign_value(code: &mut [u8], values: &[u8], wants: bool, i: usize, b: usize) -> Judged
+fn assign_value(code: &mut [u8], values: &[u8], wants: Type, i: usize, b: usize) -> Judged
     requires { ⌜ ValueSide (now code) (now values) wants i b ⌝ }
     ensures { λ r. ⌜ ValueAssigned (now (code .entry)) (now (values .entry)) (now (code .exit)) wants i b r ⌝ }
 {
     let r = expressions::of_type(code, values, false, wants, b + 1);
-    let Judged::Typed(bool, end) = r else {
+    let Judged::Typed(t, end) = r else {
         return r;
     };
     set_link(code, b, end);
     set_link(code, i, end + 1);
-    Judged::Typed(bool, end + 1)
+    Judged::Typed(t, end + 1)
 }
 
-fn assign_call(code: &mut [u8], values: &[u8], wants: bool, i: usize, b: usize) -> Judged
-    requires { ⌜ CallAssigns (now code) (now values) i b ⌝ }
+fn assign_call(code: &mut [u8], values: &[u8], wants: Type, i: usize, b: usize) -> Judged
+    requires { ⌜ CallAssigns (now code) (now values) i b × IsType wants ⌝ }
     ensures { λ r. ⌜ CallAssigned (now (code .entry)) (now (values .entry)) (now (code .exit)) wants i b r ⌝ }
 {
     let r = call_for(code, values, wants, b + 1);
-    let Judged::Typed(bool, end) = r else {
+    let Judged::Typed(t, end) = r else {
         return r;
     };
     let w = reading::head(code, i);
@@ -305,7 +307,7 @@ fn assign_call(code: &mut [u8], values: &[u8], wants: bool, i: usize, b: usize) 
         w / parts::VALUE,
         end + 2,
     );
-    Judged::Typed(bool, end + 2)
+    Judged::Typed(t, end + 2)
 }
 
 // Whether a name with a parenthesis behind it stands at a word.
@@ -324,13 +326,13 @@ fn assignment(code: &mut [u8], values: &[u8], i: usize) -> Judged
     ensures { λ r. ⌜ Assigned (now (code .entry)) (now (values .entry)) (now (code .exit)) i r ⌝ }
 {
     let r = target(code, values, i);
-    let Judged::Typed(bool, b) = r else {
+    let Judged::Typed(t, b) = r else {
         return r;
     };
     if is_call(code, b + 1) {
-        return assign_call(code, values, bool, i, b);
+        return assign_call(code, values, t, i, b);
     }
-    assign_value(code, values, bool, i, b)
+    assign_value(code, values, t, i, b)
 }
 
 fn started_by_name(code: &mut [u8], values: &[u8], i: usize) -> Judged
@@ -358,20 +360,20 @@ fn word(code: &mut [u8], op: u32, fine: bool, i: usize) -> Judged
         return Judged::Faulty(rules::BARRED, i);
     }
     set_word(code, i, op, 0, i + 2);
-    Judged::Typed(false, i + 2)
+    Judged::Typed(types::NONE, i + 2)
 }
 
 // A statement with an expression of a type, which stands from a word on.
-fn with_value(code: &mut [u8], values: &[u8], op: u32, wants: bool, from: usize, i: usize) -> Judged
-    requires { ⌜ Values (now code) (now values) from i × (op < 256) ⌝ }
+fn with_value(code: &mut [u8], values: &[u8], op: u32, wants: Type, from: usize, i: usize) -> Judged
+    requires { ⌜ Values (now code) (now values) from i × (op < 256) × IsType wants ⌝ }
     ensures { λ r. ⌜ Valued (now (code .entry)) (now (values .entry)) (now (code .exit)) op wants from i r ⌝ }
 {
     let r = expressions::of_type(code, values, false, wants, from);
-    let Judged::Typed(bool, end) = r else {
+    let Judged::Typed(t, end) = r else {
         return r;
     };
     set_word(code, i, op, end as u32, end + 1);
-    Judged::Typed(bool, end + 1)
+    Judged::Typed(t, end + 1)
 }
 
 fn returns(code: &mut [u8], values: &[u8], k: Setting, i: usize) -> Judged
@@ -385,14 +387,7 @@ fn returns(code: &mut [u8], values: &[u8], k: Setting, i: usize) -> Judged
     if result == types::NONE {
         return Judged::Faulty(rules::BARRED, i);
     }
-    with_value(
-        code,
-        values,
-        ops::RETURN_OF,
-        result == types::BOOL,
-        i + 1,
-        i,
-    )
+    with_value(code, values, ops::RETURN_OF, result, i + 1, i)
 }
 
 fn raises(code: &mut [u8], values: &[u8], k: Setting, i: usize) -> Judged
@@ -406,7 +401,7 @@ fn raises(code: &mut [u8], values: &[u8], k: Setting, i: usize) -> Judged
     if handler {
         return Judged::Faulty(rules::BARRED, i);
     }
-    with_value(code, values, ops::RAISE_OF, false, i + 1, i)
+    with_value(code, values, ops::RAISE_OF, types::NUM, i + 1, i)
 }
 
 // ---- strings
@@ -443,12 +438,7 @@ fn string(text: &[u8], code: &mut [u8], i: usize)
     let bytes = reading::value(code, i);
     let first = reading::place(code, i) + 1;
     let count = characters(text, first, bytes - 2);
-    set_head(
-        code,
-        i,
-        sorts::STRING,
-        (bytes + parts::CHARACTERS_AT * count) as u32,
-    );
+    set_head(code, i, sorts::STRING, (bytes + CHARACTERS * count) as u32);
 }
 
 fn writes(text: &[u8], code: &mut [u8], values: &[u8], i: usize) -> Judged
@@ -457,10 +447,10 @@ fn writes(text: &[u8], code: &mut [u8], values: &[u8], i: usize) -> Judged
 {
     string(text, code, i + 1);
     if sort(code, i + 2) == sorts::BACKSLASH {
-        return with_value(code, values, ops::WRITE_OF, false, i + 5, i);
+        return with_value(code, values, ops::WRITE_OF, types::NUM, i + 5, i);
     }
     set_word(code, i, ops::WRITE, 0, i + 3);
-    Judged::Typed(false, i + 3)
+    Judged::Typed(types::NONE, i + 3)
 }
 
 fn reads(text: &[u8], code: &mut [u8], values: &[u8], i: usize) -> Judged
@@ -468,15 +458,15 @@ fn reads(text: &[u8], code: &mut [u8], values: &[u8], i: usize) -> Judged
     ensures { λ r. ⌜ BegunOf TPREADNUM (now (text .entry)) (now (code .entry)) (now (values .entry)) (now (code .exit)) i r ⌝ }
 {
     let r = target(code, values, i + 1);
-    let Judged::Typed(bool, b) = r else {
+    let Judged::Typed(t, b) = r else {
         return r;
     };
-    if bool {
+    if t != types::NUM {
         return Judged::Faulty(rules::WRONG_TYPE, i + 1);
     }
     string(text, code, b + 1);
     set_word(code, i, ops::READ, (b + 1) as u32, b + 3);
-    Judged::Typed(bool, b + 3)
+    Judged::Typed(t, b + 3)
 }
 
 // A simple statement: the word after its semicolon.

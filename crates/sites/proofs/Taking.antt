@@ -11,8 +11,9 @@ use Rattle.laws.proofs.Tests.{by-same, by-last}
 use Rattle.paper.specs.Words.{Word}
 use Rattle.paper.specs.Names.{textOf, Scopes, spelled, isAmong, cannotDeclare}
 use Rattle.cells.specs.Words.{wordsOf}
+use Rattle.code.specs.Cells.{valueIn}
 use Rattle.names.specs.Numbers.{numberOf, IsName}
-use Rattle.names.specs.Meanings.{refWith, meaningWith, meaningIn, isProtected, protectsCell, firstMeaning, cellFor, Means}
+use Rattle.names.specs.Meanings.{aVariable, anArray, aConstant, aLoop, aRoutine, anErrno, anErrorNumber, kindIn, boolIn, ownIn, refWith, meaningWith, meaningIn, isProtected, protectsCell, firstMeaning, cellFor, Means}
 use Rattle.names.specs.Promises.{numberAt, Meant, Protects}
 use Rattle.sites.specs.Sites.{isOwn, owned}
 use Rattle.sites.specs.Parts.{Taken}
@@ -27,38 +28,30 @@ module _ (own : ℕ) (routine : ℕ → ℕ) where
       (λ e. let y : o ≡ 0 = omega arith in by-last own 1 h (λ k. rw (y, k) refl) (λ k. let z : own ≡ 0 = omega arith in rw (y, z) refl))
 
   module _ (kind bool o value : ℕ) where
-    owned-with : own < 2 → o < 2 → 0 < kind → kind < 4 → owned own (meaningWith routine kind bool o value) ≡ eqb o own
+    owned-with : own < 2 → o < 2 → aVariable ≤ kind → kind ≤ aConstant → owned own (meaningWith routine kind bool o value) ≡ eqb o own
     unfolding meaningWith owned
     owned-with h g lo hi =
-        by-same kind 1 (λ e. rw (e, meaningWith) (own-ref o value h g)) (λ a.
-        by-same kind 2 (λ e. rw (e, meaningWith) (own-ref o (value % 1024) h g)) (λ b.
-        let e : kind ≡ 3 = omega (arith, a, b) in rw (e, meaningWith) (own-ref o value h g)))
+        by-same kind aVariable (λ e. rw (e, meaningWith) (own-ref o value h g)) (λ a.
+        by-same kind anArray (λ e. rw (e, meaningWith) (own-ref o (value % 1024) h g)) (λ b.
+        let e : kind ≡ aConstant = omega (arith, a, b) in rw (e, meaningWith) (own-ref o value h g)))
 
-    owned-none : kind ≡ 0 → owned own (meaningWith routine kind bool o value) ≡ false
+    owned-none : kind < aVariable → owned own (meaningWith routine kind bool o value) ≡ false
     unfolding meaningWith owned
-    owned-none e = rw (e, meaningWith) refl
+    owned-none l = let e : kind ≡ 0 = omega arith in rw (e, meaningWith) refl
 
-    owned-other : 4 ≤ kind → owned own (meaningWith routine kind bool o value) ≡ false
+    owned-other : aConstant < kind → owned own (meaningWith routine kind bool o value) ≡ false
     unfolding meaningWith owned
     owned-other lo =
-        by-same kind 4 (λ e. rw (e, meaningWith) refl) (λ a.
-        by-same kind 5 (λ e. rw (e, meaningWith) refl) (λ b.
-        by-same kind 6 (λ e. rw (e, meaningWith) refl) (λ c.
-        by-same kind 7 (λ e. rw (e, meaningWith) refl) (λ d.
-        rw (ne-eqb kind 1 (λ e. omega arith), ne-eqb kind 2 (λ e. omega arith), ne-eqb kind 3 (λ e. omega arith), ne-eqb kind 4 a, ne-eqb kind 5 b, ne-eqb kind 6 c, ne-eqb kind 7 d, meaningWith) refl))))
+        by-same kind aLoop (λ e. rw (e, meaningWith) refl) (λ a.
+        by-same kind aRoutine (λ e. rw (e, meaningWith) refl) (λ b.
+        by-same kind anErrno (λ e. rw (e, meaningWith) refl) (λ c.
+        by-same kind anErrorNumber (λ e. rw (e, meaningWith) refl) (λ d.
+        rw (ne-eqb kind aVariable (λ e. omega arith), ne-eqb kind anArray (λ e. omega arith), ne-eqb kind aConstant (λ e. omega arith), ne-eqb kind aLoop a, ne-eqb kind aRoutine b, ne-eqb kind anErrno c, ne-eqb kind anErrorNumber d, meaningWith) refl))))
 
-  module _ (m : ℕ) where
-    owned-data : own < 2 → 4 ≤ m % 256 → m % 256 < 16 → owned own (meaningIn routine m) ≡ eqb (m % 2) own
-    unfolding meaningIn
-    owned-data h lo hi = owned-with (m % 256 / 4) (m / 2 % 2) (m % 2) (m / 256) h (omega arith) (omega arith) (omega arith)
-
-    owned-low : m % 256 < 4 → owned own (meaningIn routine m) ≡ false
-    unfolding meaningIn
-    owned-low lo = owned-none (m % 256 / 4) (m / 2 % 2) (m % 2) (m / 256) (omega arith)
-
-    owned-high : 16 ≤ m % 256 → owned own (meaningIn routine m) ≡ false
-    unfolding meaningIn
-    owned-high lo = owned-other (m % 256 / 4) (m / 2 % 2) (m % 2) (m / 256) (omega arith)
+  -- what a cell means, by its kind
+  means-as : (m kind : ℕ) → kind ≡ kindIn m → meaningIn routine m ≡ meaningWith routine kind (boolIn m) (ownIn m) (valueIn m)
+  unfolding meaningIn
+  means-as m kind e = ap (λ (k : ℕ). meaningWith routine k (boolIn m) (ownIn m) (valueIn m)) (sym e)
 
 -- ---- a name
 module _ (code values : List ℕ) (own i m : ℕ) (says : Meant code values i m) (t : Bool) (guard : Protects m t) where
@@ -81,11 +74,15 @@ module _ (code values : List ℕ) (own i m : ℕ) (says : Meant code values i m)
         sym (q ∙ owns .is (spelled W i) p ∙ ap (owned own) (sym (table .means i name) ∙ sym (ap (meaningIn routine) (cell-is W e))) ∙ o routine);
   }
 
-  pub not-known : t ≡ false → m % 256 < 4 → Taken code values own i false
-  not-known h l = taken-by h false (λ routine. owned-low own routine m l)
+  module _ (kind : ℕ) (ek : kind ≡ kindIn m) (h : t ≡ false) where
+    taken-as : (r : Bool) → ((routine : ℕ → ℕ) → owned own (meaningWith routine kind (boolIn m) (ownIn m) (valueIn m)) ≡ r) → Taken code values own i r
+    taken-as r o = taken-by h r (λ routine. ap (owned own) (means-as own routine m kind ek) ∙ o routine)
 
-  pub not-data : t ≡ false → 16 ≤ m % 256 → Taken code values own i false
-  not-data h l = taken-by h false (λ routine. owned-high own routine m l)
+    pub not-known : kind < aVariable → Taken code values own i false
+    not-known l = taken-as false (λ routine. owned-none own routine kind (boolIn m) (ownIn m) (valueIn m) l)
 
-  pub data-here : t ≡ false → own < 2 → 4 ≤ m % 256 → m % 256 < 16 → Taken code values own i (eqb (m % 2) own)
-  data-here h o lo hi = taken-by h (eqb (m % 2) own) (λ routine. owned-data own routine m o lo hi)
+    pub not-data : aConstant < kind → Taken code values own i false
+    not-data l = taken-as false (λ routine. owned-other own routine kind (boolIn m) (ownIn m) (valueIn m) l)
+
+    pub data-here : own < 2 → aVariable ≤ kind → kind ≤ aConstant → (o : ℕ) → o ≡ ownIn m → Taken code values own i (eqb o own)
+    data-here g lo hi o e = rw e (taken-as (eqb (ownIn m) own) (λ routine. owned-with own routine kind (boolIn m) (ownIn m) (valueIn m) g (omega arith) lo hi))

@@ -6,22 +6,25 @@ use native.Mathlib.Omega.{arith}
 use lib.ListN.{length, getD}
 use borrow.Author.Tests.{ne-eqb}
 use Rattle.laws.proofs.Tests.{by-same}
+use Rattle.paper.specs.Sorts.{NUM}
 use Rattle.paper.specs.Names.{typeOf}
 use Rattle.cells.specs.Words.{wordsOf, Put}
 use Rattle.cells.proofs.Kept.{put-length, put-same, put-other}
 use Rattle.code.specs.Cells.{opAt}
 use Rattle.names.specs.declared.Scope.{Scope}
+use Rattle.names.specs.Meanings.{cellWith}
+use Rattle.names.specs.Promises as names
 use Rattle.names.specs.Scopes.{Declares}
 use Rattle.sites.specs.Parts.{TypeBit, Fills, MakesIn}
 
 -- ---- sorts
-pub type-num : (s : ℕ) → s ≡ 89 → TypeBit s 0
+pub type-num : (s : ℕ) → s ≡ NUM → TypeBit s 0
 unfolding typeOf
 type-num s h = record { small = omega arith; is = rw h refl }
 
-pub type-bool : (s : ℕ) → (s ≡ 89 → ⊥) → TypeBit s 1
+pub type-bool : (s : ℕ) → (s ≡ NUM → ⊥) → TypeBit s 1
 unfolding typeOf
-type-bool s h = record { small = omega arith; is = rw (ne-eqb s 89 h) refl }
+type-bool s h = record { small = omega arith; is = rw (ne-eqb s NUM h) refl }
 
 -- ---- cells
 pub fills-none : (values : List ℕ) (from v : ℕ) → Fills values values from 0 v
@@ -44,9 +47,13 @@ pub fills-done : (before after : List ℕ) (from count k v : ℕ) → Fills befo
 fills-done before after from count k v f h g = let e : k ≡ count = omega arith in subst (λ (n : ℕ). Fills before after from n v) e f
 
 -- ---- a name
-pub makes : (scope r : Scope) (code values code′ values′ : List ℕ) (i op own value words s bool : ℕ) → s ≡ opAt (wordsOf code) (i - 1) → TypeBit s bool
-    → Declares scope code values i (op + 2 * bool + own + 256 * value) words code′ values′ r → MakesIn scope code values code′ values′ i op own value words r
-makes scope r code values code′ values′ i op own value words s bool e t d = record {
-  makes = record { bool = bool; type = subst (λ (k : ℕ). TypeBit k bool) e t; declared = d .known };
+pub makes : (scope r : Scope) (code values code′ values′ : List ℕ) (i kind own value words s bool m : ℕ) → s ≡ opAt (wordsOf code) (i - 1) → TypeBit s bool → m ≡ cellWith kind bool own value
+    → Declares scope code values i m words code′ values′ r → MakesIn scope code values code′ values′ i kind own value words r
+makes scope r code values code′ values′ i kind own value words s bool m e t q d = record {
+  makes = record { bool = bool; type = subst (λ (k : ℕ). TypeBit k bool) e t; declared = subst (λ (k : ℕ). names.Declared code values i k code′ values′) q (d .known) };
   scope-is = d .used;
 }
+
+-- a bit that a type has
+pub bit-small : (s bool : ℕ) → TypeBit s bool → bool < 2
+bit-small s bool t = t .small

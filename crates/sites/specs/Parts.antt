@@ -11,7 +11,7 @@ use Rattle.paper.specs.Names.{typeOf, Names, textOf, Scopes, spelled, cannotDec
 use Rattle.cells.specs.Words.{wordsOf}
 use Rattle.code.specs.Cells.{firstWindow, opAt}
 use Rattle.names.specs.Numbers.{numberOf, IsName}
-use Rattle.names.specs.Meanings.{typeWith, Means}
+use Rattle.names.specs.Meanings.{cellWith, typeWith, Means}
 use Rattle.names.specs.Promises.{numberAt}
 use Rattle.names.specs.Promises as names
 use Rattle.names.specs.declared.Scope.{Scope}
@@ -41,13 +41,13 @@ pub record Taken (code values : List ℕ) (own i : ℕ) (r : Bool) : Type 0 wher
   pub is : (routine : ℕ → ℕ) (W : List Word) (S : Scopes) (N : Names) → Means routine W S (wordsOf values) → IsName W i → numberAt (wordsOf code) i ≡ numberOf W i → Owns own N S
       → r ≡ cannotDeclare (map textOf N) (spelled W i)
 
--- The name at word i means, from now on, data of this op and this value, of the type that stands before it.
-pub record Makes (code values code′ values′ : List ℕ) (i op own value : ℕ) : Type 0 where
+-- The name at word i means, from now on, data of this kind and this value, of the type that stands before it.
+pub record Makes (code values code′ values′ : List ℕ) (i kind own value : ℕ) : Type 0 where
   pub bool : ℕ
   pub type : TypeBit (opAt (wordsOf code) (i - 1)) bool
-  pub declared : names.Declared code values i (op + 2 * bool + own + 256 * value) code′ values′
+  pub declared : names.Declared code values i (cellWith kind bool own value) code′ values′
 
 -- So it does in a scope, and has so many of its words.
-pub record MakesIn (scope : Scope) (code values code′ values′ : List ℕ) (i op own value words : ℕ) (r : Scope) : Type 0 where
-  pub makes : Makes code values code′ values′ i op own value
+pub record MakesIn (scope : Scope) (code values code′ values′ : List ℕ) (i kind own value words : ℕ) (r : Scope) : Type 0 where
+  pub makes : Makes code values code′ values′ i kind own value
   pub scope-is : r ≡ record { used = scope .used + words }

@@ -7,8 +7,8 @@ use Rattle.paper.specs.Words.{Word, wordLimit}
 use Rattle.paper.specs.Names.{Scopes}
 use Rattle.names.specs.Numbers.{IsName}
 use Rattle.names.specs.Meanings.{Keeps}
-use Rattle.sites.specs.declared.Walked.{Walked}
-use Rattle.sites.specs.declared.Walked.the-variants.{Upto}
+use Rattle.names.specs.declared.Walked.{Walked}
+use Rattle.names.specs.declared.Walked.the-variants.{Upto}
 use Rattle.sites.specs.Sites.{Site, filling}
 
 -- so many words are used up to a word

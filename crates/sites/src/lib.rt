@@ -1,33 +1,13 @@
 // The two scopes that data are declared in: whether a name can be declared in one, and a name and its words as they become known there.
 ghost use Prim.Native.Nat.{_+_, _*_, _<_, _≤_};
 ghost use lib.ListN.{length};
+ghost use Rattle.layout.specs.Parts.{linkPart};
 ghost use Rattle.names.specs.Promises.{storeBytes};
 ghost use Rattle.names.specs.Scopes.{Fits};
 ghost use Rattle.sites.specs.Parts.{TypeBit, Fills, Taken, MakesIn};
+use layout::kinds;
 use names::Scope;
 use store::sort;
-
-pub enum Walked {
-    // the word after it, and the scope with what is declared
-    Upto(usize, Scope),
-    // the rule broken, and its word
-    Faulty(u32, usize),
-}
-
-// "10: name declared twice or protected", "16: over [..] 1,024 module words, 64 words a routine"
-pub const TAKEN: u32 = 10;
-
-pub const TOO_MANY: u32 = 16;
-
-pub const MODULE_WORDS: u32 = 1024;
-
-pub const ROUTINE_WORDS: u32 = 64;
-
-// The cell of the first word of the routine that is being checked.
-pub const WINDOW: usize = 1024;
-
-// the op of a routine's datum, as the specs of code have it
-pub const DATUM: u32 = 160;
 
 // ---- words
 
@@ -44,7 +24,7 @@ pub fn type_bit(s: u32) -> u32
 
 // So many cells get a word.
 pub fn fill(values: &mut [u8], from: usize, count: u32, v: u32)
-    requires { ⌜ ((from + count) * 4 ≤ length (now values)) × (from + count < 65536) ⌝ }
+    requires { ⌜ ((from + count) * 4 ≤ length (now values)) × (from + count < linkPart) ⌝ }
     ensures { λ _. ⌜ Fills (now (values .entry)) (now (values .exit)) from count v ⌝ }
 {
     let mut k = 0;
@@ -65,13 +45,14 @@ pub fn is_taken<'a>(code: &'a [u8], values: &'a [u8], own: u32, i: usize) -> boo
     if names::is_protected(m) {
         return true;
     }
-    if m % 256 < names::VARIABLE {
+    let kind = names::kind_of(m);
+    if kind < kinds::VARIABLE {
         return false;
     }
-    if names::LOOP <= m % 256 {
+    if kinds::CONSTANT < kind {
         return false;
     }
-    m % 2 == own
+    names::own_of(m) == own
 }
 
 // The name at a word becomes known in a scope, and has so many of its words: its type stands before it.
@@ -80,15 +61,15 @@ pub fn known(
     code: &mut [u8],
     values: &mut [u8],
     i: usize,
-    op: u32,
+    kind: u32,
     own: u32,
     value: u32,
     words: u32,
 ) -> Scope
-    requires { ⌜ (0 < i) × (i * 8 + 8 ≤ length (now code)) × (storeBytes ≤ length (now values)) × (op < 16) × (own < 2) × (value < 1048576) × Fits scope words ⌝ }
-    ensures { λ r. ⌜ MakesIn scope (now (code .entry)) (now (values .entry)) (now (code .exit)) (now (values .exit)) i op own value words r ⌝ }
+    requires { ⌜ (0 < i) × (i * 8 + 8 ≤ length (now code)) × (storeBytes ≤ length (now values)) × (kind < 4) × (own < 2) × (value < 1048576) × Fits scope words ⌝ }
+    ensures { λ r. ⌜ MakesIn scope (now (code .entry)) (now (values .entry)) (now (code .exit)) (now (values .exit)) i kind own value words r ⌝ }
 {
     let bool = type_bit(sort(code, i - 1));
-    let m = op + names::IS_BOOL * bool + own + names::VALUE * value;
+    let m = names::cell_with(kind, bool, own, value);
     scope.declare(code, values, i, m, words)
 }

@@ -25,7 +25,7 @@ use Rattle.grammar.proofs.Places.{list-grows, arms-grow, else-grows}
 use Rattle.expressions.specs.declared.Judged.{Judged}
 use Rattle.expressions.specs.declared.Judged.the-variants as judged
 use Rattle.store.specs.Promises.{Kept, Linked}
-use Rattle.expressions.specs.Answers.{typeIf, OfType}
+use Rattle.expressions.specs.Answers.{OfType}
 use Rattle.expressions.specs.Answers as expressions
 use Rattle.faults.specs.First.{First, Inside}
 use Rattle.faults.proofs.First.{_and_, widen, every-none, first-before}
@@ -36,8 +36,8 @@ use Rattle.links.proofs.Framing.{same-part}
 use Rattle.links.proofs.Orders.{last-order, list-order}
 use Rattle.around.specs.declared.Setting.{Setting}
 use Rattle.around.specs.Around.{Around, groundOf, offsetIn}
-use Rattle.statements.specs.declared.Walked.{Walked}
-use Rattle.statements.specs.declared.Walked.the-variants.{Faulty}
+use Rattle.names.specs.declared.Walked.{Walked}
+use Rattle.names.specs.declared.Walked.the-variants.{Faulty}
 use Rattle.statements.specs.Answers.{upto, SameValues, Lists, Done, Answer, Listed}
 use Rattle.compounds.specs.Here.{Outside, Here}
 use Rattle.statements.specs.Parts.{ThenAt, Thens, Thened, Elses, ElseWritten, Elsed}
@@ -47,6 +47,8 @@ use Rattle.compounds.proofs.Frames.{outside-same, outside-wider, outside-on, ke
 use Rattle.compounds.proofs.Frames.{here-on, here-part, calls-behind, term-same, list-same, op-same, value-same, link-same, word-same, linked-outside, linked-word}
 use Rattle.compounds.proofs.Judging.{inside-both, expression-stands, judged-faulty, judged-long, judged-none, judged-next, judged-term, judged-kept}
 use Rattle.statements.proofs.Walking.{upto-done, faulty-first, done-answer, first-answer, faulty-answer}
+use Rattle.layout.specs.Types.{boolType}
+use Rattle.layout.proofs.Typing.{bool-in}
 
 -- ---- the words of what is left
 module _ (W : List Word) (d : ℕ) (b : Statements) (rest : Arms) (t last : ℕ) (x : ThenAt (sortIn W) d b rest t last) where
@@ -496,14 +498,14 @@ module _ (text code values : List ℕ) (k : Setting) (used i first : ℕ) (now v
               unfolding armFaults
               in-arm = ap (λ (r2 : Arms). armFaults (a .known .W) (a .K) (a .M) r2 (a .known .S) (n + forsInList (x .b))) (f .is)
 
-              module _ (three : List ℕ) (j : Judged) (o2 : OfType two values″ three false true (e + 1) j) where
-                o3 : OfType two values three false true (m + 1) j
-                o3 = of-type-as (done .same) (subst (λ (v : ℕ). OfType two values″ three false true (v + 1) j) (done .next-is) o2)
+              module _ (three : List ℕ) (j : Judged) (o2 : OfType two values″ three false boolType (e + 1) j) where
+                o3 : OfType two values three false boolType (m + 1) j
+                o3 = of-type-as (done .same) (subst (λ (v : ℕ). OfType two values″ three false boolType (v + 1) j) (done .next-is) o2)
 
                 condition-wrong : (number word : ℕ) → j ≡ judged.Faulty number word → ForIf three values″ (Faulty number word)
-                unfolding total else-faults typeIf
+                unfolding total else-faults
                 condition-wrong number word q2 =
-                    let c2 = judged-faulty text two values a k (n + forsInList (x .b)) m (g .to) next-here (f .e) (m + 1) (f .n) (f .condition) no-operator (omega arith) (omega (arith, next-order, ending)) three true j o3 number word q2 in
+                    let c2 = judged-faulty text two values a k (n + forsInList (x .b)) m (g .to) next-here (f .e) (m + 1) (f .n) (f .condition) no-operator (omega arith) (omega (arith, next-order, ending)) three boolType aBool bool-in j o3 number word q2 in
                     let i1 = of-type-inside (a .known .W) _ _ _ _ (f .condition) aBool (a .known .S) in
                     let i2 = list-inside (a .known .W) (a .K) (a .M) (f .list) (a .known .S) (n + forsInList (x .b)) in
                     let i3 = next-in (n + forsInList (x .b) + forsInList (f .b)) in
@@ -514,21 +516,20 @@ module _ (text code values : List ℕ) (k : Setting) (used i first : ℕ) (now v
                     let f3 = first-before f2 i5 else-in (omega arith) in
                     first-answer _ _ _ _ _ _ _ _ number word _
                     (subst (First (record { number = number; at = word })) (sym (left ∙ ap (λ (l2 : List Fault). l2 ++ else-faults) in-arm)) f3)
-                    (judged-long text two values a k (n + forsInList (x .b)) m (g .to) next-here (f .e) (m + 1) (f .n) (f .condition) no-operator (omega arith) (omega (arith, next-order, ending)) three true j o3 ∙ arm-long)
+                    (judged-long text two values a k (n + forsInList (x .b)) m (g .to) next-here (f .e) (m + 1) (f .n) (f .condition) no-operator (omega arith) (omega (arith, next-order, ending)) three boolType aBool bool-in j o3 ∙ arm-long)
 
-                module _ (bool : Bool) (m2 : ℕ) (q2 : j ≡ judged.Typed bool m2) where
+                module _ (bool : ℕ) (m2 : ℕ) (q2 : j ≡ judged.Typed bool m2) where
                   then-at : m2 ≡ f .n
-                  then-at = judged-next text two values a k (n + forsInList (x .b)) m (g .to) next-here (f .e) (m + 1) (f .n) (f .condition) no-operator (omega arith) (omega (arith, next-order, ending)) three true j o3 bool m2 q2
+                  then-at = judged-next text two values a k (n + forsInList (x .b)) m (g .to) next-here (f .e) (m + 1) (f .n) (f .condition) no-operator (omega arith) (omega (arith, next-order, ending)) three boolType aBool bool-in j o3 bool m2 q2
 
                   fine : ofType (a .known .W) aBool (a .known .S) (f .e) ≡ []
-                  unfolding typeIf
-                  fine = judged-none text two values a k (n + forsInList (x .b)) m (g .to) next-here (f .e) (m + 1) (f .n) (f .condition) no-operator (omega arith) (omega (arith, next-order, ending)) three true j o3 bool m2 q2
+                  fine = judged-none text two values a k (n + forsInList (x .b)) m (g .to) next-here (f .e) (m + 1) (f .n) (f .condition) no-operator (omega arith) (omega (arith, next-order, ending)) three boolType aBool bool-in j o3 bool m2 q2
 
                   new-term : RawTerm (groundOf a) (a .known .n) (wordsOf three) (a .known .S) (f .e) (m + 1) (f .n)
-                  new-term = judged-term text two values a k (n + forsInList (x .b)) m (g .to) next-here (f .e) (m + 1) (f .n) (f .condition) no-operator (omega arith) (omega (arith, next-order, ending)) three true j o3 bool m2 q2
+                  new-term = judged-term text two values a k (n + forsInList (x .b)) m (g .to) next-here (f .e) (m + 1) (f .n) (f .condition) no-operator (omega arith) (omega (arith, next-order, ending)) three boolType aBool bool-in j o3 bool m2 q2
 
                   kept : Kept two three (m + 1) (f .n)
-                  kept = judged-kept text two values a k (n + forsInList (x .b)) m (g .to) next-here (f .e) (m + 1) (f .n) (f .condition) no-operator (omega arith) (omega (arith, next-order, ending)) three true j o3 bool m2 q2
+                  kept = judged-kept text two values a k (n + forsInList (x .b)) m (g .to) next-here (f .e) (m + 1) (f .n) (f .condition) no-operator (omega arith) (omega (arith, next-order, ending)) three boolType aBool bool-in j o3 bool m2 q2
 
                   three-is : Outside (wordsOf two) (wordsOf three) (m + 1) (f .n)
                   three-is = kept-outside kept
@@ -602,9 +603,9 @@ module _ (text code values : List ℕ) (k : Setting) (used i first : ℕ) (now v
         pub arms-finished : (z v : ℕ) → r2 ≡ upto z v → (four : List ℕ) → Linked three four i (opAt (wordsOf three) i) (valueAt (wordsOf three) i) z → Thened text code values four values‴ k used i first (upto z v)
         arms-finished z v q2 four l2 = record { is = λ g. finished g one values″ r l e u q two ended s es f three values‴ r2 el z v q2 four l2 }
 
-      module _ (h : s ≡ ELSEIF) (three : List ℕ) (j : Judged) (o2 : OfType two values″ three false true (e + 1) j) where
+      module _ (h : s ≡ ELSEIF) (three : List ℕ) (j : Judged) (o2 : OfType two values″ three false boolType (e + 1) j) where
         pub arm-wrong : (number word : ℕ) → j ≡ judged.Faulty number word → Thened text code values three values″ k used i first (Faulty number word)
         arm-wrong number word q2 = record { is = λ g. condition-wrong g one values″ r l e u q two ended s es h three j o2 number word q2 }
 
-        pub arms-go : (bool : Bool) (m2 : ℕ) → j ≡ judged.Typed bool m2 → Armings text code values k used i first three values″ anElseIf e m2 u
+        pub arms-go : (bool : ℕ) (m2 : ℕ) → j ≡ judged.Typed bool m2 → Armings text code values k used i first three values″ anElseIf e m2 u
         arms-go bool m2 q2 = record { is = λ g. goes-on g one values″ r l e u q two ended s es h three j o2 bool m2 q2 }

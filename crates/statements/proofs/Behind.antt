@@ -18,8 +18,8 @@ use Rattle.around.specs.declared.Setting.{Setting}
 use Rattle.around.specs.Around.{Around, groundOf}
 use Rattle.compounds.specs.Here.{Outside, Here}
 use Rattle.compounds.proofs.Frames.{outside-wider, outside-on, same-before, same-behind, same-on, here-part, list-same}
-use Rattle.statements.specs.declared.Walked.{Walked}
-use Rattle.statements.specs.declared.Walked.the-variants.{Faulty}
+use Rattle.names.specs.declared.Walked.{Walked}
+use Rattle.names.specs.declared.Walked.the-variants.{Faulty}
 use Rattle.statements.specs.Answers.{upto, Lists, Done, Answer, Listed}
 use Rattle.statements.proofs.Walking.{upto-done, faulty-first, done-answer, faulty-answer}
 

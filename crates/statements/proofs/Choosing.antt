@@ -26,8 +26,8 @@ use Rattle.links.specs.Raw.{SameWords, RawWord, RawList, RawConstants, RawCases
 use Rattle.around.specs.declared.Setting.{Setting}
 use Rattle.around.specs.Around.{Around, groundOf}
 use Rattle.around.specs.Answers as answered
-use Rattle.statements.specs.declared.Walked.{Walked}
-use Rattle.statements.specs.declared.Walked.the-variants.{Upto, Faulty}
+use Rattle.names.specs.declared.Walked.{Walked}
+use Rattle.names.specs.declared.Walked.the-variants.{Upto, Faulty}
 use Rattle.statements.specs.Answers.{upto, SameValues, Lists, Done, Tell, Answer, Listed}
 use Rattle.compounds.specs.Here.{Outside, Here}
 use Rattle.compounds.specs.Parts.{CaseChain, CaseValues, CaseValued, Chained, ValuesLinked}
@@ -253,7 +253,7 @@ module _ (text code values : List ℕ) (k : Setting) (used first : ℕ) (now val
               first-answer _ _ _ _ _ _ _ _ number word _
               (subst (First (record { number = number; at = word })) (sym whole) (behind-list _ (first-before (faulty-found j va number word q) value-in list-in (omega arith)))) (va .long ∙ x .long)
 
-          module _ (bool : Bool) (colon : ℕ) (q : j ≡ judged.Typed bool colon) where
+          module _ (bool : ℕ) (colon : ℕ) (q : j ≡ judged.Typed bool colon) where
             v : answered.Fine value-faults now one c (f .n) colon (CaseChain (a .known .W) (a .known .S) (a .M) (wordsOf one) (f .cs) (f .n) c)
             v = typed-fine j va bool colon q
 
@@ -382,7 +382,7 @@ module _ (text code values : List ℕ) (k : Setting) (used first : ℕ) (now val
       pub case-wrong : (number word : ℕ) → j ≡ judged.Faulty number word → Chosen text code values one values′ k used first (Faulty number word)
       case-wrong number word q = record { is = λ g. values-wrong g s es h one j cv number word q }
 
-      module _ (bool : Bool) (colon : ℕ) (q : j ≡ judged.Typed bool colon) (two values″ : List ℕ) (r : Walked) (l : Listed text one values′ two values″ k n (colon + 1) r) where
+      module _ (bool : ℕ) (colon : ℕ) (q : j ≡ judged.Typed bool colon) (two values″ : List ℕ) (r : Walked) (l : Listed text one values′ two values″ k n (colon + 1) r) where
         pub case-list-wrong : (number word : ℕ) → r ≡ Faulty number word → Chosen text code values two values″ k used first r
         case-list-wrong number word e = record { is = λ g. list-wrong g s es h one j cv bool colon q two values″ r l number word e }
 

@@ -25,8 +25,8 @@ use Rattle.around.specs.Around.{Around, groundOf, offsetIn}
 use Rattle.simple.specs.Answers as simples
 use Rattle.around.specs.Answers as answered
 use Rattle.names.specs.declared.Scope.{Scope}
-use Rattle.statements.specs.declared.Walked.{Walked}
-use Rattle.statements.specs.declared.Walked.the-variants.{Upto, Faulty}
+use Rattle.names.specs.declared.Walked.{Walked}
+use Rattle.names.specs.declared.Walked.the-variants.{Upto, Faulty}
 use Rattle.statements.specs.Answers.{upto, Stands, Answer, StatementAnswer}
 use Rattle.compounds.specs.Here.{Here}
 use Rattle.statements.specs.Parts.{Plain, Plainly, Compacts, Compacted}
@@ -83,7 +83,7 @@ module _ (text code values : List ℕ) (k : Setting) (used i : ℕ) (g : Plain t
     unfolding statementFaults
     wrong number word q = subst (ForStatement one (Faulty number word)) (sym (w .is)) (first-answer _ _ _ _ _ _ _ _ number word _ (faulty-found j answers number word q) (answers .long))
 
-    right : (bool : Bool) (next : ℕ) → j ≡ judged.Typed bool next → StatementAnswer (g .stands) one values (upto next used)
+    right : (bool : ℕ) (next : ℕ) → j ≡ judged.Typed bool next → StatementAnswer (g .stands) one values (upto next used)
     unfolding statementFaults forsIn RawStatement
     right bool next q =
         let f = typed-fine j answers bool next q in
@@ -104,7 +104,7 @@ module _ (text code values : List ℕ) (k : Setting) (used i : ℕ) (one : List 
   pub plain-wrong : (number word : ℕ) → j ≡ judged.Faulty number word → Plainly text code values one k used i (Faulty number word)
   plain-wrong number word q = record { is = λ g. wrong text code values k used i g one j x number word q }
 
-  pub plain-right : (bool : Bool) (next : ℕ) → j ≡ judged.Typed bool next → (scope : Scope) → scope .used ≡ used → Plainly text code values one k used i (Upto next scope)
+  pub plain-right : (bool : ℕ) (next : ℕ) → j ≡ judged.Typed bool next → (scope : Scope) → scope .used ≡ used → Plainly text code values one k used i (Upto next scope)
   plain-right bool next q scope u = as-scope (Plainly text code values one k used i) next scope u (record { is = λ g. right text code values k used i g one j x bool next q })
 
 -- ---- behind a condition
@@ -129,7 +129,7 @@ module _ (text code values : List ℕ) (k : Setting) (used i t : ℕ) (g : Compa
         (RawStatement (groundOf b) (b .known .n) (wordsOf one) (compactIf i (g .e) (g .s)) (b .known .S) used i (g .to)) (Faulty number word)
     compact-no number word q = first-answer _ _ _ _ _ _ _ _ number word _ (faulty-found j found number word q) (found .long)
 
-    module _ (bool : Bool) (next : ℕ) (q : j ≡ judged.Typed bool next) where
+    module _ (bool : ℕ) (next : ℕ) (q : j ≡ judged.Typed bool next) where
       f : answered.Fine (simpleFaults (b .known .W) (b .K) (b .known .S) (g .s)) code one t (g .n + 1) next (RawSimple (groundOf b) (b .known .n) (wordsOf one) (b .known .S) (g .s) t (g .n + 1))
       f = typed-fine j found bool next q
 
@@ -167,5 +167,5 @@ module _ (text code values : List ℕ) (k : Setting) (used i t : ℕ) (one : Lis
   pub compact-wrong : (number word : ℕ) → j ≡ judged.Faulty number word → Compacted text code values one k used i t (Faulty number word)
   compact-wrong number word q = record { is = λ g. compact-no text code values k used i t g one j x number word q }
 
-  pub compact-right : (bool : Bool) (next : ℕ) → j ≡ judged.Typed bool next → (two : List ℕ) → Linked one two i aCompactIf t next → (scope : Scope) → scope .used ≡ used → Compacted text code values two k used i t (Upto next scope)
+  pub compact-right : (bool : ℕ) (next : ℕ) → j ≡ judged.Typed bool next → (two : List ℕ) → Linked one two i aCompactIf t next → (scope : Scope) → scope .used ≡ used → Compacted text code values two k used i t (Upto next scope)
   compact-right bool next q two l scope u = as-scope (Compacted text code values two k used i t) next scope u (record { is = λ g. compact-yes text code values k used i t g one j x bool next q two l })

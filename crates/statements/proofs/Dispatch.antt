@@ -15,7 +15,7 @@ use Rattle.grammar.specs.Form.{Parses}
 use Rattle.grammar.proofs.Places.{statement-grows}
 use Rattle.faults.proofs.Expressions.{grows}
 use Rattle.around.specs.declared.Setting.{Setting}
-use Rattle.statements.specs.declared.Walked.{Walked}
+use Rattle.names.specs.declared.Walked.{Walked}
 use Rattle.statements.specs.Answers.{Stands, Stated, Begins, Begun}
 use Rattle.statements.specs.Parts.{Plain, Plainly}
 

@@ -34,8 +34,8 @@ use Rattle.links.proofs.Orders.{bound-order, step-order}
 use Rattle.around.specs.declared.Setting.{Setting}
 use Rattle.around.specs.Around.{Around, groundOf, offsetIn}
 use Rattle.around.specs.Answers as answered
-use Rattle.statements.specs.declared.Walked.{Walked}
-use Rattle.statements.specs.declared.Walked.the-variants.{Upto, Faulty}
+use Rattle.names.specs.declared.Walked.{Walked}
+use Rattle.names.specs.declared.Walked.the-variants.{Upto, Faulty}
 use Rattle.statements.specs.Answers.{upto, SameValues, Stands, Lists, Done, Answer, StatementAnswer, Listed, Begins, Begun}
 use Rattle.compounds.specs.Here.{Outside}
 use Rattle.compounds.specs.Parts.{ForHeads, RawHead, ForMay, ForHeaded, ForEnded}
@@ -132,7 +132,7 @@ module _ (text code values : List ℕ) (k : Setting) (used i : ℕ) (g : Begins 
         subst (ForStatement one values (Faulty number word)) (sym (w .is))
         (first-answer _ _ _ _ _ _ _ _ number word _ (first-before (faulty-found j ha number word q) in-head (in-body (suc used)) (omega arith)) (ha .long))
 
-    module _ (bool : Bool) (d : ℕ) (q : j ≡ judged.Typed bool d) where
+    module _ (bool : ℕ) (d : ℕ) (q : j ≡ judged.Typed bool d) where
       f : answered.Fine head-faults code one (i + 2) (w .doAt) d (ForMay (groundOf a) (a .known .n) (wordsOf one) (a .known .S) used (w .a) (w .b) (w .c) i (w .doAt))
       f = typed-fine j ha bool d q
 
@@ -327,7 +327,7 @@ module _ (text code values : List ℕ) (k : Setting) (used i : ℕ) (one : List 
   pub for-wrong : (number word : ℕ) → j ≡ judged.Faulty number word → Begun FOR text code values one values k used i (Faulty number word)
   for-wrong number word q = record { is = λ g. wrong text code values k used i g one j h number word q }
 
-  module _ (bool : Bool) (d : ℕ) (q : j ≡ judged.Typed bool d) (m : ℕ) (em : m ≡ 17 + 256 * used) (two values′ : List ℕ) (dec : Declared one values (i + 1) m two values′)
+  module _ (bool : ℕ) (d : ℕ) (q : j ≡ judged.Typed bool d) (m : ℕ) (em : m ≡ 17 + 256 * used) (two values′ : List ℕ) (dec : Declared one values (i + 1) m two values′)
       (inside : Scope) (ei : inside ≡ record { used = used + 1 }) (three values″ : List ℕ) (r : Walked) (listed : Listed text two values′ three values″ k (inside .used) (d + 1) r) where
     l : Listed text two values′ three values″ k (used + 1) (d + 1) r
     l = for-listed ei listed

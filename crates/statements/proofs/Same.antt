@@ -14,8 +14,8 @@ use Rattle.expressions.specs.Answers as expressions
 use Rattle.constants.specs.Answers.{Fine}
 use Rattle.around.specs.declared.Setting.{Setting}
 use Rattle.around.specs.Around.{Around}
-use Rattle.statements.specs.declared.Walked.{Walked}
-use Rattle.statements.specs.declared.Walked.the-variants.{Upto, Faulty}
+use Rattle.names.specs.declared.Walked.{Walked}
+use Rattle.names.specs.declared.Walked.the-variants.{Upto, Faulty}
 use Rattle.statements.specs.Answers.{SameValues, Stands, Lists, Tell, Answer}
 use Rattle.compounds.specs.Here.{Here}
 use Rattle.statements.specs.Parts.{Elses}
@@ -79,8 +79,8 @@ module _ {values values′ : List ℕ} (s : SameValues values values′) where
   abbrev pub expression-as : {code : List ℕ} {top at : ℕ} → expressions.Stands code values top at → expressions.Stands code values′ top at
   expression-as g = record { known = known-as (g .known); d = g .d; e = g .e; to = g .to; tops = g .tops; is = g .is; ends = g .ends; loaded = g .loaded }
 
-  pub of-type-as : {code after : List ℕ} {only wants : Bool} {at : ℕ} {r : Judged} → OfType code values′ after only wants at r → OfType code values after only wants at r
-  of-type-as x = record { is = λ g. x .is (expression-as g) }
+  pub of-type-as : {code after : List ℕ} {only : Bool} {wants at : ℕ} {r : Judged} → OfType code values′ after only wants at r → OfType code values after only wants at r
+  of-type-as x = record { is = λ g t w. x .is (expression-as g) t w }
 
   pub answer-as : (fs : List Fault) (before after values″ : List ℕ) (at to count : ℕ) (holds : Type 0) (r : Walked) → Answer fs before after values′ values″ at to count holds r → Answer fs before after values values″ at to count holds r
   unfolding Tell

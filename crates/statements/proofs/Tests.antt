@@ -19,7 +19,7 @@ use Rattle.grammar.proofs.Places.{cases-grow, default-grows}
 use Rattle.expressions.specs.declared.Judged.{Judged}
 use Rattle.expressions.specs.declared.Judged.the-variants as judged
 use Rattle.store.specs.Promises.{Kept, Linked}
-use Rattle.expressions.specs.Answers.{typeIf, OfType}
+use Rattle.expressions.specs.Answers.{OfType}
 use Rattle.expressions.specs.Answers as expressions
 use Rattle.faults.specs.First.{First}
 use Rattle.faults.proofs.First.{first-before}
@@ -30,8 +30,8 @@ use Rattle.links.proofs.Framing.{cases-frame}
 use Rattle.links.proofs.Orders.{ends-order, list-order, cases-order}
 use Rattle.around.specs.declared.Setting.{Setting}
 use Rattle.around.specs.Around.{Around, groundOf, offsetIn}
-use Rattle.statements.specs.declared.Walked.{Walked}
-use Rattle.statements.specs.declared.Walked.the-variants.{Faulty}
+use Rattle.names.specs.declared.Walked.{Walked}
+use Rattle.names.specs.declared.Walked.the-variants.{Faulty}
 use Rattle.statements.specs.Answers.{upto, Stands, Done, Answer, StatementAnswer, Begins, Begun}
 use Rattle.compounds.specs.Here.{Outside}
 use Rattle.statements.specs.Parts.{Chooses, CasesWritten, Chosen}
@@ -40,6 +40,8 @@ use Rattle.compounds.proofs.Judging.{inside-both, expression-stands, judged-fau
 use Rattle.statements.proofs.Walking.{upto-done, faulty-first, done-answer, first-answer, faulty-answer}
 use Rattle.compounds.proofs.Frames.{tail-before}
 use Rattle.code.specs.Steps.{aTest}
+use Rattle.layout.specs.Types.{numType}
+use Rattle.layout.proofs.Typing.{num-in}
 
 module _ (text code values : List ℕ) (k : Setting) (used i : ℕ) (g : Begins TEST text code values k used i) where
   abbrev s : Stands text code values k used i
@@ -74,32 +76,31 @@ module _ (text code values : List ℕ) (k : Setting) (used i : ℕ) (g : Begins 
   ForStatement after values′ r t =
       Answer (statementFaults (a .known .W) (a .K) (a .M) t (a .known .S) used) code after values values′ i (s .to) (used + forsIn t) (RawStatement (groundOf a) (a .known .n) (wordsOf after) t (a .known .S) used i (s .to)) r
 
-  module _ (one : List ℕ) (j : Judged) (c : OfType code values one false false (i + 1) j) where
+  module _ (one : List ℕ) (j : Judged) (c : OfType code values one false numType (i + 1) j) where
     wrong : (number word : ℕ) → j ≡ judged.Faulty number word → StatementAnswer (g .stands) one values (Faulty number word)
-    unfolding statementFaults typeIf forsIn
+    unfolding statementFaults forsIn
     wrong number word q =
-        let c2 = judged-faulty text code values a k used i (s .to) (s .here) (w .e) (i + 1) (w .n) (w .selector) no-operator (omega arith) (omega (arith, orders, last)) one false j c number word q in
+        let c2 = judged-faulty text code values a k used i (s .to) (s .here) (w .e) (i + 1) (w .n) (w .selector) no-operator (omega arith) (omega (arith, orders, last)) one numType aNum num-in j c number word q in
         let i1 = of-type-inside (a .known .W) _ _ _ _ (w .selector) aNum (a .known .S) in
         let i2 = cases-inside (a .known .W) (a .K) (a .M) (w .cases) (a .known .S) used in
         let i3 = default-inside (a .known .W) (a .K) (a .M) (w .otherwise) (a .known .S) (used + forsInCases (w .c)) in
         let f1 = first-before c2 i1 i2 (omega arith) in
         let f2 = first-before f1 (inside-both i1 i2 (omega (arith, orders)) (omega (arith, orders))) i3 (omega arith) in
         subst (ForStatement one values (Faulty number word)) (sym (w .is))
-        (first-answer _ _ _ _ _ _ _ _ number word _ f2 (judged-long text code values a k used i (s .to) (s .here) (w .e) (i + 1) (w .n) (w .selector) no-operator (omega arith) (omega (arith, orders, last)) one false j c))
+        (first-answer _ _ _ _ _ _ _ _ number word _ f2 (judged-long text code values a k used i (s .to) (s .here) (w .e) (i + 1) (w .n) (w .selector) no-operator (omega arith) (omega (arith, orders, last)) one numType aNum num-in j c))
 
-    module _ (bool : Bool) (t : ℕ) (q : j ≡ judged.Typed bool t) where
+    module _ (bool : ℕ) (t : ℕ) (q : j ≡ judged.Typed bool t) where
       at-is : t ≡ w .n
-      at-is = judged-next text code values a k used i (s .to) (s .here) (w .e) (i + 1) (w .n) (w .selector) no-operator (omega arith) (omega (arith, orders, last)) one false j c bool t q
+      at-is = judged-next text code values a k used i (s .to) (s .here) (w .e) (i + 1) (w .n) (w .selector) no-operator (omega arith) (omega (arith, orders, last)) one numType aNum num-in j c bool t q
 
       fine : ofType (a .known .W) aNum (a .known .S) (w .e) ≡ []
-      unfolding typeIf
-      fine = judged-none text code values a k used i (s .to) (s .here) (w .e) (i + 1) (w .n) (w .selector) no-operator (omega arith) (omega (arith, orders, last)) one false j c bool t q
+      fine = judged-none text code values a k used i (s .to) (s .here) (w .e) (i + 1) (w .n) (w .selector) no-operator (omega arith) (omega (arith, orders, last)) one numType aNum num-in j c bool t q
 
       term : RawTerm (groundOf a) (a .known .n) (wordsOf one) (a .known .S) (w .e) (i + 1) (w .n)
-      term = judged-term text code values a k used i (s .to) (s .here) (w .e) (i + 1) (w .n) (w .selector) no-operator (omega arith) (omega (arith, orders, last)) one false j c bool t q
+      term = judged-term text code values a k used i (s .to) (s .here) (w .e) (i + 1) (w .n) (w .selector) no-operator (omega arith) (omega (arith, orders, last)) one numType aNum num-in j c bool t q
 
       kept : Kept code one (i + 1) (w .n)
-      kept = judged-kept text code values a k used i (s .to) (s .here) (w .e) (i + 1) (w .n) (w .selector) no-operator (omega arith) (omega (arith, orders, last)) one false j c bool t q
+      kept = judged-kept text code values a k used i (s .to) (s .here) (w .e) (i + 1) (w .n) (w .selector) no-operator (omega arith) (omega (arith, orders, last)) one numType aNum num-in j c bool t q
 
       chooses : Chooses text one values k used (w .n)
       unfolding forsIn
@@ -218,11 +219,11 @@ module _ (text code values : List ℕ) (k : Setting) (used i : ℕ) (g : Begins 
                 (l .kept .long ∙ inner .long ∙ kept .long))
 
 -- ---- for whatever the statement is
-module _ (text code values : List ℕ) (k : Setting) (used i : ℕ) (one : List ℕ) (j : Judged) (c : OfType code values one false false (i + 1) j) where
+module _ (text code values : List ℕ) (k : Setting) (used i : ℕ) (one : List ℕ) (j : Judged) (c : OfType code values one false numType (i + 1) j) where
   pub test-wrong : (number word : ℕ) → j ≡ judged.Faulty number word → Begun TEST text code values one values k used i (Faulty number word)
   test-wrong number word q = record { is = λ g. wrong text code values k used i g one j c number word q }
 
-  module _ (bool : Bool) (t : ℕ) (q : j ≡ judged.Typed bool t) (two values′ : List ℕ) (r : Walked) (x : Chosen text one values two values′ k used t r) where
+  module _ (bool : ℕ) (t : ℕ) (q : j ≡ judged.Typed bool t) (two values′ : List ℕ) (r : Walked) (x : Chosen text one values two values′ k used t r) where
     pub test-cases-wrong : (number word : ℕ) → r ≡ Faulty number word → Begun TEST text code values two values′ k used i r
     test-cases-wrong number word e = record { is = λ g. cases-wrong text code values k used i g one j c bool t q two values′ r x number word e }
 

@@ -24,8 +24,8 @@ use Rattle.links.proofs.Framing.{statement-frame}
 use Rattle.around.specs.declared.Setting.{Setting}
 use Rattle.around.specs.Around.{groundOf}
 use Rattle.names.specs.declared.Scope.{Scope}
-use Rattle.statements.specs.declared.Walked.{Walked}
-use Rattle.statements.specs.declared.Walked.the-variants.{Upto, Faulty}
+use Rattle.names.specs.declared.Walked.{Walked}
+use Rattle.names.specs.declared.Walked.the-variants.{Upto, Faulty}
 use Rattle.statements.specs.Answers.{upto, SameValues, Stands, Lists, Done, Tell, Answer, StatementAnswer, Stated, Listed}
 use Rattle.compounds.specs.Here.{Outside, Here}
 use Rattle.statements.proofs.Same.{same-values, stands-as, answer-as}

@@ -14,8 +14,8 @@ use Rattle.faults.specs.First.{First}
 use Rattle.links.specs.Raw.{RawStatement, RawList}
 use Rattle.around.specs.declared.Setting.{Setting}
 use Rattle.around.specs.Around.{Around, groundOf}
-use Rattle.statements.specs.declared.Walked.{Walked}
-use Rattle.statements.specs.declared.Walked.the-variants.{Upto, Faulty}
+use Rattle.names.specs.declared.Walked.{Walked}
+use Rattle.names.specs.declared.Walked.the-variants.{Upto, Faulty}
 use Rattle.compounds.specs.Here.{Outside, Here}
 
 -- ---- what is asked

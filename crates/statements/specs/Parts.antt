@@ -12,7 +12,7 @@ use Rattle.grammar.specs.Form.{Parses, SimpleAt, ListAt, ArmsAt, ElseAt, CasesA
 use Rattle.links.specs.Raw.{RawTerm, RawElse, RawDefault, RawStatement, RawList, RawCases}
 use Rattle.around.specs.declared.Setting.{Setting}
 use Rattle.around.specs.Around.{Around, groundOf, offsetIn, Calls}
-use Rattle.statements.specs.declared.Walked.{Walked}
+use Rattle.names.specs.declared.Walked.{Walked}
 use Rattle.compounds.specs.Here.{Here}
 use Rattle.statements.specs.Answers.{Stands, Answer, StatementAnswer}
 

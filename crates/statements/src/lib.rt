@@ -3,7 +3,9 @@
 use around::Setting;
 use expressions::Judged;
 use layout::ops;
+use layout::types;
 use names::Scope;
+use names::Walked;
 use store::rewrite;
 use store::set_link;
 use store::set_word;
@@ -14,13 +16,6 @@ ghost use Rattle.paper.specs.Sorts.{IF, FOR, WHILE, TEST};
 ghost use Rattle.paper.specs.Expressions.{startsStatement};
 ghost use Rattle.statements.specs.Answers.{Stands, Stated, Lists, Listed, Begins, Begun};
 ghost use Rattle.statements.specs.Parts.{Plain, Plainly, Compacts, Compacted, Thens, Thened, Elses, Elsed, Defaults, Defaulted, Chooses, Chosen};
-
-pub enum Walked {
-    // the word after it, and the routine's scope with what is taken of it
-    Upto(usize, Scope),
-    // the rule broken, and its word
-    Faulty(u32, usize),
-}
 
 // ---- WHILE
 
@@ -35,7 +30,7 @@ fn while_statement(
     requires { ⌜ Begins WHILE (now text) (now code) (now values) k (scope .used) i ⌝ }
     ensures { λ r. ⌜ Begun WHILE (now (text .entry)) (now (code .entry)) (now (values .entry)) (now (code .exit)) (now (values .exit)) k (scope .used) i r ⌝ }
 {
-    let j = expressions::of_type(code, values, false, true, i + 1);
+    let j = expressions::of_type(code, values, false, types::BOOL, i + 1);
     match j {
         Judged::Faulty(number, word) => Walked::Faulty(number, word),
         Judged::Typed(_, d) => {
@@ -160,7 +155,7 @@ fn full_if(
             set_link(code, i, z);
             return Walked::Upto(z, v);
         }
-        let j = expressions::of_type(code, values, false, true, e + 1);
+        let j = expressions::of_type(code, values, false, types::BOOL, e + 1);
         match j {
             Judged::Faulty(number, word) => return Walked::Faulty(number, word),
             Judged::Typed(_, m) => {
@@ -184,7 +179,7 @@ fn if_statement(
     requires { ⌜ Begins IF (now text) (now code) (now values) k (scope .used) i ⌝ }
     ensures { λ r. ⌜ Begun IF (now (text .entry)) (now (code .entry)) (now (values .entry)) (now (code .exit)) (now (values .exit)) k (scope .used) i r ⌝ }
 {
-    let j = expressions::of_type(code, values, false, true, i + 1);
+    let j = expressions::of_type(code, values, false, types::BOOL, i + 1);
     match j {
         Judged::Faulty(number, word) => Walked::Faulty(number, word),
         Judged::Typed(_, t) => {
@@ -270,7 +265,7 @@ fn test_statement(
     requires { ⌜ Begins TEST (now text) (now code) (now values) k (scope .used) i ⌝ }
     ensures { λ r. ⌜ Begun TEST (now (text .entry)) (now (code .entry)) (now (values .entry)) (now (code .exit)) (now (values .exit)) k (scope .used) i r ⌝ }
 {
-    let j = expressions::of_type(code, values, false, false, i + 1);
+    let j = expressions::of_type(code, values, false, types::NUM, i + 1);
     match j {
         Judged::Faulty(number, word) => Walked::Faulty(number, word),
         Judged::Typed(_, c) => {

@@ -5,6 +5,7 @@ use Prim.Native.Nat.{_-_}
 use native.Mathlib.Omega.{arith}
 use Rattle.compounds.proofs.case_values.Statement.{statement}
 use Rattle.compounds.proofs.case_values.Tie as tie
+use Rattle.layout.proofs.Typing.{num-type}
 
 abbrev Inv-loop : tie.InvT-loop
 Inv-loop code₀ values c w₀ op₀ code w op = Valuings code₀ values c code w op
@@ -19,7 +20,7 @@ add-constant : tie.Need-add-constant Inv-loop μ-loop
 add-constant c = omega (arith, value-room _ _ _ _ _ _ (c .before .loop .inv) (c .before .before .before .before .pre))
 
 constant-requires : tie.Need-constant-requires Inv-loop μ-loop
-constant-requires c κs = value-asks _ _ _ _ _ _ (c .before .loop .inv) (c .before .before .before .before .pre)
+constant-requires c κs = (value-asks _ _ _ _ _ _ (c .before .loop .inv) (c .before .before .before .before .pre), num-type)
 
 enum-known-v : tie.Need-enum-known-v Inv-loop μ-loop
 enum-known-v c = search needs

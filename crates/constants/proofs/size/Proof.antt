@@ -1,10 +1,11 @@
 use borrow.Author.Needs.{needs}
+use Rattle.layout.proofs.Typing.{num-type}
 use Rattle.constants.proofs.Working.{size-faulty, size-low, size-high, size-cast, size-fine}
 use Rattle.constants.proofs.size.Statement.{statement}
 use Rattle.constants.proofs.size.Tie as tie
 
 constant-requires : tie.Need-constant-requires
-constant-requires c κs = search needs
+constant-requires c κs = search (needs, num-type)
 
 enum-known-c : tie.Need-enum-known-c
 enum-known-c c = search needs

@@ -3,9 +3,10 @@
 use borrow.Author.Needs.{needs}
 use Prim.Native.Nat.{ℕ, _+_, _-_, _*_, _<_}
 use native.Mathlib.Omega.{arith}
-use Rattle.expressions.proofs.Starts.{begins-room, begins-next, begins-short, name-meant, element-stands, index-short, paren-stands, inner-short, part-stands, part-short, literal-small}
-use Rattle.expressions.proofs.Starts.{began-name, began-wrong, began-element, began-paren, began-signed, began-literal}
-use Rattle.expressions.proofs.Climbing.{Runs, wordsLeft, stands-begins, runs-first, run-faulty, run-long, run-room, run-in, run-none, run-loose, run-wrong, run-right, run-joins, run-less, run-on}
+use Rattle.paper.specs.Words.{wordLimit}
+use Rattle.expressions.proofs.Starts.{begins-room, begins-next, begins-add, begins-add-2, begins-near, begins-falls, begins-falls-2, name-meant, element-stands, index-short, paren-stands, inner-short, part-stands, part-short, literal-small}
+use Rattle.expressions.proofs.Starts.{began-room, began-name, began-wrong, began-element, began-paren, began-signed, began-literal}
+use Rattle.expressions.proofs.Climbing.{Runs, wordsLeft, stands-begins, runs-first, run-faulty, run-long, run-room, run-add, run-falls, run-none, run-loose, run-wrong, run-right, run-joins, run-less, run-on}
 use borrow.Fn.Kinds.{In}
 use borrow.Fn.PlainCycle.{Measures, is, falls, and}
 use Rattle.expressions.proofs.begin.Reads as begin
@@ -17,7 +18,6 @@ use Rattle.expressions.proofs.+begin+expression.Lts-expression as expre
 use Rattle.expressions.proofs.asked.Reads as asked-reads
 use Rattle.expressions.proofs.breaks_indexed.Reads as breaks-indexed-reads
 use Rattle.expressions.proofs.covered.Reads as covered-reads
-use Rattle.expressions.proofs.differ.Reads as differ-reads
 use Rattle.expressions.proofs.indexed.Reads as indexed-reads
 use Rattle.expressions.proofs.join.Reads as join-reads
 use Rattle.expressions.proofs.level_of.Reads as level-of-reads
@@ -27,14 +27,15 @@ use Rattle.expressions.proofs.plain.Reads as plain-reads
 use Rattle.expressions.proofs.signed.Reads as signed-reads
 use Rattle.store.proofs.sort.Reads as sort-reads
 use Rattle.names.proofs.meaning.Reads as meaning-reads
+use Rattle.names.proofs.kind_of.Reads as kind-of-reads
 use Rattle.expressions.proofs.+begin+expression.{statement}
 use Rattle.expressions.proofs.+begin+expression.Tie.{close}
 
 abbrev μ-begin : Measures 2 begin-kinds.ps ℕ
-μ-begin κs a = (8192 - a .1 .1 .1 .0) * 2
+μ-begin κs a = (wordLimit - a .1 .1 .1 .0) * 2
 
 abbrev μ-expression : Measures 2 expression-kinds.ps ℕ
-μ-expression κs a = (8192 - a .1 .1 .1 .1 .0) * 2 + 1
+μ-expression κs a = (wordLimit - a .1 .1 .1 .1 .0) * 2 + 1
 
 abbrev begin-at : ℕ → In 2 begin-kinds.ps
 begin-at t = and 2 begin-kinds.ps (is 2 begin-kinds.ps μ-begin t) begin.Pre
@@ -52,10 +53,10 @@ expression-below t =
 
 -- what the callees ask and ensure
 abbrev calls-begin : ℕ → begin-lts.Claims
-calls-begin t = (sort-reads.Asked, sort-reads.Learnt, meaning-reads.Asked, meaning-reads.Learnt, plain-reads.Asked, plain-reads.Learnt, breaks-indexed-reads.Asked, breaks-indexed-reads.Learnt, expression-below t, expression.Post, indexed-reads.Asked, indexed-reads.Learnt, nested-reads.Asked, nested-reads.Learnt, covered-reads.Asked, covered-reads.Learnt, signed-reads.Asked, signed-reads.Learnt, literal-reads.Asked, literal-reads.Learnt)
+calls-begin t = (sort-reads.Asked, sort-reads.Learnt, meaning-reads.Asked, meaning-reads.Learnt, plain-reads.Asked, plain-reads.Learnt, kind-of-reads.Asked, kind-of-reads.Learnt, breaks-indexed-reads.Asked, breaks-indexed-reads.Learnt, expression-below t, expression.Post, indexed-reads.Asked, indexed-reads.Learnt, nested-reads.Asked, nested-reads.Learnt, covered-reads.Asked, covered-reads.Learnt, signed-reads.Asked, signed-reads.Learnt, literal-reads.Asked, literal-reads.Learnt)
 
 abbrev calls-expression : ℕ → expression-lts.Claims
-calls-expression t = (begin-below t, begin.Post, sort-reads.Asked, sort-reads.Learnt, level-of-reads.Asked, level-of-reads.Learnt, asked-reads.Asked, asked-reads.Learnt, differ-reads.Asked, differ-reads.Learnt, expression-below t, expression.Post, join-reads.Asked, join-reads.Learnt)
+calls-expression t = (begin-below t, begin.Post, sort-reads.Asked, sort-reads.Learnt, level-of-reads.Asked, level-of-reads.Learnt, asked-reads.Asked, asked-reads.Learnt, expression-below t, expression.Post, join-reads.Asked, join-reads.Learnt)
 
 begin-sort-requires : (t : ℕ) → begin-lts.Need-sort-requires (calls-begin t) (begin-at t) begin.Post
 begin-sort-requires t c κs = search (needs, begins-room)
@@ -64,7 +65,7 @@ begin-meaning-requires : (t : ℕ) → begin-lts.Need-meaning-requires (calls-be
 begin-meaning-requires t c κs = search (needs, begins-room)
 
 begin-add-sort : (t : ℕ) → begin-lts.Need-add-sort (calls-begin t) (begin-at t) begin.Post
-begin-add-sort t c = omega (arith, begins-short _ _ _ (c .before .before .before .before .before .before .before .before .pre .1))
+begin-add-sort t c = search (needs, begins-add)
 
 begin-sort-requires-2 : (t : ℕ) → begin-lts.Need-sort-requires-2 (calls-begin t) (begin-at t) begin.Post
 begin-sort-requires-2 t c κs = search (needs, begins-next)
@@ -78,6 +79,9 @@ begin-same-length t c = search needs
 begin-returns : (t : ℕ) → begin-lts.Need-returns (calls-begin t) (begin-at t) begin.Post
 begin-returns t c = search (needs, began-name)
 
+begin-kind-of-requires : (t : ℕ) → begin-lts.Need-kind-of-requires (calls-begin t) (begin-at t) begin.Post
+begin-kind-of-requires t c κs = search needs
+
 begin-breaks-indexed-requires : (t : ℕ) → begin-lts.Need-breaks-indexed-requires (calls-begin t) (begin-at t) begin.Post
 begin-breaks-indexed-requires t c κs = search needs
 
@@ -88,18 +92,28 @@ begin-returns-2 : (t : ℕ) → begin-lts.Need-returns-2 (calls-begin t) (begin-
 begin-returns-2 t c = search (needs, began-wrong)
 
 begin-add-expression : (t : ℕ) → begin-lts.Need-add-expression (calls-begin t) (begin-at t) begin.Post
-begin-add-expression t c = omega (arith, begins-short _ _ _ (c .before .before .before .before .before .before .before .before .before .before .before .before .before .pre .1))
+begin-add-expression t c = search (needs, begins-add-2)
 
 begin-expression-requires : (t : ℕ) → begin-lts.Need-expression-requires (calls-begin t) (begin-at t) begin.Post
 begin-expression-requires t c κs =
-    let b = c .before .before .before .before .before .before .before .before .before .before .before .before .before .pre in
-    (omega (arith, begins-short _ _ _ (b .1), b .0), element-stands _ _ _ (b .1) _ (c .before .before .before .before .before .before .before .before .before .sort .ensures) (c .before .before .before .before .before .before .before .before .if1 .taken) _ (c .before .before .before .before .sort2 .ensures) (c .before .before .before .if2 .left))
+    let brace = c .before .before .before .before in
+    let second = brace .before in
+    let name = second .before .before .before .before in
+    let first = name .before in
+    let start = first .before .before .before .before in
+    let inside = element-stands _ _ _ (start .pre .1) _ (first .sort .ensures) (name .if1 .taken) _ (second .sort2 .ensures) (brace .if2 .left) in
+    (search (needs, begins-falls-2), inside)
 
 begin-indexed-requires : (t : ℕ) → begin-lts.Need-indexed-requires (calls-begin t) (begin-at t) begin.Post
 begin-indexed-requires t c κs =
-    let z = begins-room _ _ _ (c .before .before .before .before .before .before .before .before .before .before .before .before .before .before .before .before .before .pre .1) in
-    let y = begins-short _ _ _ (c .before .before .before .before .before .before .before .before .before .before .before .before .before .before .before .before .before .pre .1) in
-    (search needs, search needs, search (needs, index-short))
+    let indexed = c .before .before .before in
+    let brace = indexed .before .before .before .before .before in
+    let second = brace .before in
+    let name = second .before .before .before .before in
+    let first = name .before in
+    let start = first .before .before .before .before in
+    let inside = element-stands _ _ _ (start .pre .1) _ (first .sort .ensures) (name .if1 .taken) _ (second .sort2 .ensures) (brace .if2 .left) in
+    (began-room _ _ _ _ _ _ _ _ (start .pre .1) inside (indexed .expression .ensures), search (needs, begins-near), search (needs, index-short))
 
 begin-same-length-3 : (t : ℕ) → begin-lts.Need-same-length-3 (calls-begin t) (begin-at t) begin.Post
 begin-same-length-3 t c = search needs
@@ -108,18 +122,13 @@ begin-returns-3 : (t : ℕ) → begin-lts.Need-returns-3 (calls-begin t) (begin-
 begin-returns-3 t c = search (needs, began-element)
 
 begin-add-expression-2 : (t : ℕ) → begin-lts.Need-add-expression-2 (calls-begin t) (begin-at t) begin.Post
-begin-add-expression-2 t c = omega (arith, begins-short _ _ _ (c .before .before .before .before .before .before .before .pre .1))
+begin-add-expression-2 t c = search (needs, begins-add)
 
 begin-expression-requires-2 : (t : ℕ) → begin-lts.Need-expression-requires-2 (calls-begin t) (begin-at t) begin.Post
-begin-expression-requires-2 t c κs =
-    let b = c .before .before .before .before .before .before .before .pre in
-    (omega (arith, begins-short _ _ _ (b .1), b .0), search (needs, paren-stands))
+begin-expression-requires-2 t c κs = (search (needs, begins-falls), search (needs, paren-stands))
 
 begin-nested-requires : (t : ℕ) → begin-lts.Need-nested-requires (calls-begin t) (begin-at t) begin.Post
-begin-nested-requires t c κs =
-    let z = begins-room _ _ _ (c .before .before .before .before .before .before .before .before .before .before .before .pre .1) in
-    let y = begins-short _ _ _ (c .before .before .before .before .before .before .before .before .before .before .before .pre .1) in
-    (search needs, search (needs, inner-short))
+begin-nested-requires t c κs = (search (needs, began-room, paren-stands), search (needs, inner-short))
 
 begin-same-length-4 : (t : ℕ) → begin-lts.Need-same-length-4 (calls-begin t) (begin-at t) begin.Post
 begin-same-length-4 t c = search needs
@@ -131,18 +140,13 @@ begin-covered-requires : (t : ℕ) → begin-lts.Need-covered-requires (calls-be
 begin-covered-requires t c κs = search needs
 
 begin-add-expression-3 : (t : ℕ) → begin-lts.Need-add-expression-3 (calls-begin t) (begin-at t) begin.Post
-begin-add-expression-3 t c = omega (arith, begins-short _ _ _ (c .before .before .before .before .before .before .before .before .before .pre .1))
+begin-add-expression-3 t c = search (needs, begins-add)
 
 begin-expression-requires-3 : (t : ℕ) → begin-lts.Need-expression-requires-3 (calls-begin t) (begin-at t) begin.Post
-begin-expression-requires-3 t c κs =
-    let b = c .before .before .before .before .before .before .before .before .before .pre in
-    (omega (arith, begins-short _ _ _ (b .1), b .0), search (needs, part-stands))
+begin-expression-requires-3 t c κs = (search (needs, begins-falls), search (needs, part-stands))
 
 begin-signed-requires : (t : ℕ) → begin-lts.Need-signed-requires (calls-begin t) (begin-at t) begin.Post
-begin-signed-requires t c κs =
-    let z = begins-room _ _ _ (c .before .before .before .before .before .before .before .before .before .before .before .before .before .pre .1) in
-    let y = begins-short _ _ _ (c .before .before .before .before .before .before .before .before .before .before .before .before .before .pre .1) in
-    (search needs, search needs, search (needs, part-short))
+begin-signed-requires t c κs = (search (needs, began-room, part-stands), search (needs, begins-near), search (needs, part-short))
 
 begin-same-length-5 : (t : ℕ) → begin-lts.Need-same-length-5 (calls-begin t) (begin-at t) begin.Post
 begin-same-length-5 t c = search needs
@@ -163,7 +167,7 @@ abbrev expression-Inv-loop : expression-lts.InvT-loop
 expression-Inv-loop code₀ values only level at left₀ code left = Runs values code₀ code only level at left₀ left
 
 abbrev expression-μ-loop : expression-lts.MeasureT-loop
-expression-μ-loop code₀ values only level at left₀ code left = wordsLeft 8192 left
+expression-μ-loop code₀ values only level at left₀ code left = wordsLeft wordLimit left
 
 expression-begin-requires : (t : ℕ) → expression-lts.Need-begin-requires (calls-expression t) (expression-at t) expression.Post expression-Inv-loop expression-μ-loop
 expression-begin-requires t c κs = (omega (arith, c .before .before .before .pre .0), search (needs, stands-begins))
@@ -204,9 +208,6 @@ expression-returns-3 t c = search (needs, run-loose)
 expression-asked-requires : (t : ℕ) → expression-lts.Need-asked-requires (calls-expression t) (expression-at t) expression.Post expression-Inv-loop expression-μ-loop
 expression-asked-requires t c κs = search needs
 
-expression-differ-requires : (t : ℕ) → expression-lts.Need-differ-requires (calls-expression t) (expression-at t) expression.Post expression-Inv-loop expression-μ-loop
-expression-differ-requires t c κs = search needs
-
 expression-same-length-4 : (t : ℕ) → expression-lts.Need-same-length-4 (calls-expression t) (expression-at t) expression.Post expression-Inv-loop expression-μ-loop
 expression-same-length-4 t c = search (needs, run-long)
 
@@ -217,20 +218,26 @@ expression-sub-expression : (t : ℕ) → expression-lts.Need-sub-expression (ca
 expression-sub-expression t c = search needs
 
 expression-add-expression : (t : ℕ) → expression-lts.Need-add-expression (calls-expression t) (expression-at t) expression.Post expression-Inv-loop expression-μ-loop
-expression-add-expression t c =
-    let z = run-in _ _ _ _ _ _ _ _ (c .before .before .before .before .before .before .before .before .before .before .before .before .loop .inv) _ _ (c .before .before .before .before .before .before .before .before .before .before .left .given .1) _ (c .before .before .before .before .before .before .before .before .before .before .before .before .before .before .before .begin .ensures) (c .before .before .before .before .before .before .before .before .before .before .before .before .before .before .before .before .before .before .before .pre .1) in
-    omega (arith, z .1)
+expression-add-expression t c = search (needs, run-add)
 
 expression-expression-requires : (t : ℕ) → expression-lts.Need-expression-requires (calls-expression t) (expression-at t) expression.Post expression-Inv-loop expression-μ-loop
-expression-expression-requires t c κs =
-    let z = run-in _ _ _ _ _ _ _ _ (c .before .before .before .before .before .before .before .before .before .before .before .before .loop .inv) _ _ (c .before .before .before .before .before .before .before .before .before .before .left .given .1) _ (c .before .before .before .before .before .before .before .before .before .before .before .before .before .before .before .begin .ensures) (c .before .before .before .before .before .before .before .before .before .before .before .before .before .before .before .before .before .before .before .pre .1) in
-    (omega (arith, z .0, z .1, c .before .before .before .before .before .before .before .before .before .before .before .before .before .before .before .before .before .before .before .pre .0), search (needs, run-right))
+expression-expression-requires t c κs = (search (needs, run-falls), search (needs, run-right))
 
 expression-join-requires : (t : ℕ) → expression-lts.Need-join-requires (calls-expression t) (expression-at t) expression.Post expression-Inv-loop expression-μ-loop
 expression-join-requires t c κs =
-    run-joins _ _ _ _ _ _ _ _ (c .before .before .before .before .before .before .before .before .before .before .before .before .before .before .before .before .loop .inv) _ _ (c .before .before .before .before .before .before .before .before .before .before .before .before .before .before .left .given .1) _ _ (c .before .before .before .before .before .before .before .before .before .before .before .sort .ensures) (c .before .before .before .before .before .before .before .before .before .before .level-of .ensures) (c .before .before .before .before .before .before .before .before .before .if1 .left) (c .before .before .before .before .before .before .before .before .if2 .left)
-    _ (c .before .before .before .before .before .before .before .asked .ensures) _ (c .before .before .before .before .before .before .differ .ensures) (c .before .before .before .before .before .if3 .left) _ _ (c .before .before .before .expression .ensures)
-    _ (c .before .before .before .before .before .before .before .before .before .before .before .before .before .before .before .before .before .before .before .begin .ensures) (c .before .before .before .before .before .before .before .before .before .before .before .before .before .before .before .before .before .before .before .before .before .before .before .pre .1)
+    let right = c .before .before .before in
+    let same = right .before .before in
+    let asked = same .before in
+    let within = asked .before in
+    let some = within .before in
+    let level = some .before in
+    let word = level .before in
+    let part = word .before .before .before in
+    let loop = part .before .before in
+    let first = loop .before .before .before in
+    let start = first .before .before .before .before in
+    run-joins _ _ _ _ _ _ _ _ (loop .loop .inv) _ _ (part .left .given .1) _ _ (word .sort .ensures) (level .level-of .ensures) (some .if1 .left) (within .if2 .left)
+    _ (asked .asked .ensures) (same .if3 .left) _ _ (right .expression .ensures) _ (first .begin .ensures) (start .pre .1)
 
 expression-loop-less : (t : ℕ) → expression-lts.Need-loop-less (calls-expression t) (expression-at t) expression.Post expression-Inv-loop expression-μ-loop
 expression-loop-less t c = search (needs, run-less)
@@ -249,6 +256,7 @@ pub +begin+expression-spec : {M : Type 1} → statement M
     (begin-plain-requires t)
     (begin-same-length t)
     (begin-returns t)
+    (begin-kind-of-requires t)
     (begin-breaks-indexed-requires t)
     (begin-same-length-2 t)
     (begin-returns-2 t)
@@ -289,7 +297,6 @@ pub +begin+expression-spec : {M : Type 1} → statement M
     (expression-same-length-3 t)
     (expression-returns-3 t)
     (expression-asked-requires t)
-    (expression-differ-requires t)
     (expression-same-length-4 t)
     (expression-returns-4 t)
     (expression-sub-expression t)

@@ -1,5 +1,5 @@
 use borrow.Author.Needs.{needs}
-use Rattle.expressions.proofs.Around.{short-end, indexed-faulty, indexed-wrong, indexed-typed}
+use Rattle.expressions.proofs.Around.{short-link, short-next, indexed-faulty, indexed-wrong, indexed-typed}
 use Rattle.expressions.proofs.indexed.Statement.{statement}
 use Rattle.expressions.proofs.indexed.Tie as tie
 
@@ -18,14 +18,23 @@ add-t8 c = search needs
 returns-2 : tie.Need-returns-2
 returns-2 c = search (needs, indexed-wrong)
 
+own-of-requires : tie.Need-own-of-requires
+own-of-requires c κs = search needs
+
 add-set-word : tie.Need-add-set-word
 add-set-word c = search needs
 
+value-of-requires : tie.Need-value-of-requires
+value-of-requires c κs = search needs
+
 set-word-requires : tie.Need-set-word-requires
-set-word-requires c κs = let z = short-end _ _ _ (c .before .before .before .before .before .before .pre .2) (c .before .before .before .inner .given .1) in search needs
+set-word-requires c κs = search (needs, short-link)
+
+type-of-requires : tie.Need-type-of-requires
+type-of-requires c κs = search needs
 
 add-t15 : tie.Need-add-t15
-add-t15 c = let z = short-end _ _ _ (c .before .before .before .before .before .before .before .before .before .pre .2) (c .before .before .before .before .before .before .inner .given .1) in search needs
+add-t15 c = search (needs, short-next)
 
 same-length : tie.Need-same-length
 same-length c = search needs
@@ -42,8 +51,11 @@ indexed-spec =
     returns
     add-t8
     returns-2
+    own-of-requires
     add-set-word
+    value-of-requires
     set-word-requires
+    type-of-requires
     add-t15
     same-length
     returns-3)

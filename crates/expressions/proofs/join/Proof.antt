@@ -1,5 +1,5 @@
 use borrow.Author.Needs.{needs}
-use Rattle.expressions.proofs.Around.{right-ends, right-ties, join-faulty, join-wrong, join-typed}
+use Rattle.expressions.proofs.Around.{right-next, right-room, right-near, right-some, right-leaf, join-faulty, join-wrong, join-typed}
 use Rattle.expressions.proofs.join.Statement.{statement}
 use Rattle.expressions.proofs.join.Tie as tie
 
@@ -12,17 +12,17 @@ enum-told c = search needs
 returns : tie.Need-returns
 returns c = search (needs, join-faulty)
 
-differ-requires : tie.Need-differ-requires
-differ-requires c κs = search needs
-
 add-t10 : tie.Need-add-t10
-add-t10 c = let z = right-ends _ _ _ _ _ _ _ (c .before .before .before .before .before .before .pre) (c .before .before .before .right .given .1) in search needs
+add-t10 c = search (needs, right-next)
 
 returns-2 : tie.Need-returns-2
 returns-2 c = search (needs, join-wrong)
 
 tie-requires : tie.Need-tie-requires
-tie-requires c κs = right-ties _ _ _ _ _ _ _ (c .before .before .before .before .before .before .before .pre) (c .before .before .before .before .right .given .1)
+tie-requires c κs = search (needs, right-room, right-near, right-some, right-leaf)
+
+given-requires : tie.Need-given-requires
+given-requires c κs = search needs
 
 same-length : tie.Need-same-length
 same-length c = search needs
@@ -37,9 +37,9 @@ join-spec =
     enum-known-right
     enum-told
     returns
-    differ-requires
     add-t10
     returns-2
     tie-requires
+    given-requires
     same-length
     returns-3)

@@ -1,5 +1,5 @@
 use borrow.Author.Needs.{needs}
-use Rattle.expressions.proofs.Around.{short-end, nested-faulty, nested-typed}
+use Rattle.expressions.proofs.Around.{short-link, short-next, nested-faulty, nested-typed}
 use Rattle.expressions.proofs.nested.Statement.{statement}
 use Rattle.expressions.proofs.nested.Tie as tie
 
@@ -13,10 +13,10 @@ returns : tie.Need-returns
 returns c = search (needs, nested-faulty)
 
 set-word-requires : tie.Need-set-word-requires
-set-word-requires c κs = let z = short-end _ _ _ (c .before .before .before .before .before .pre .1) (c .before .before .inner .given .1) in search needs
+set-word-requires c κs = search (needs, short-link)
 
 add-t9 : tie.Need-add-t9
-add-t9 c = let z = short-end _ _ _ (c .before .before .before .before .before .before .before .before .pre .1) (c .before .before .before .before .before .inner .given .1) in search needs
+add-t9 c = search (needs, short-next)
 
 same-length : tie.Need-same-length
 same-length c = search needs
@@ -27,11 +27,4 @@ returns-2 c = search (needs, nested-typed)
 pub nested-spec : {M : Type 1} → statement M
 nested-spec =
     tie.close
-    (tie.spec
-    enum-known-inner
-    enum-told
-    returns
-    set-word-requires
-    add-t9
-    same-length
-    returns-2)
+    (tie.spec enum-known-inner enum-told returns set-word-requires add-t9 same-length returns-2)

@@ -18,9 +18,6 @@ same-length c = search needs
 returns : tie.Need-returns
 returns c = search (needs, typed-faulty)
 
-differ-requires : tie.Need-differ-requires
-differ-requires c κs = search needs
-
 same-length-2 : tie.Need-same-length-2
 same-length-2 c = search needs
 
@@ -42,7 +39,6 @@ of-type-spec =
     enum-told
     same-length
     returns
-    differ-requires
     same-length-2
     returns-2
     same-length-3

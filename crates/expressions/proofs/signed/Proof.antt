@@ -1,5 +1,5 @@
 use borrow.Author.Needs.{needs}
-use Rattle.expressions.proofs.Around.{short-end, signed-faulty, signed-wrong, signed-typed}
+use Rattle.expressions.proofs.Around.{short-link, signed-faulty, signed-wrong, signed-typed}
 use Rattle.expressions.proofs.signed.Statement.{statement}
 use Rattle.expressions.proofs.signed.Tie as tie
 
@@ -12,8 +12,8 @@ enum-told c = search needs
 returns : tie.Need-returns
 returns c = search (needs, signed-faulty)
 
-differ-requires : tie.Need-differ-requires
-differ-requires c κs = search needs
+sign-type-requires : tie.Need-sign-type-requires
+sign-type-requires c κs = search needs
 
 add-t9 : tie.Need-add-t9
 add-t9 c = search needs
@@ -25,7 +25,7 @@ prefix-of-requires : tie.Need-prefix-of-requires
 prefix-of-requires c κs = search needs
 
 set-word-requires : tie.Need-set-word-requires
-set-word-requires c κs = let z = short-end _ _ _ (c .before .before .before .before .before .before .before .before .pre .2) (c .before .before .before .before .before .inner .given .1) in search needs
+set-word-requires c κs = search (needs, short-link)
 
 same-length : tie.Need-same-length
 same-length c = search needs
@@ -40,7 +40,7 @@ signed-spec =
     enum-known-inner
     enum-told
     returns
-    differ-requires
+    sign-type-requires
     add-t9
     returns-2
     prefix-of-requires

@@ -1,10 +1,13 @@
--- `names::is_protected` meets its contract.
 use borrow.Author.Needs.{needs}
+use Rattle.names.proofs.Reading.{protects-by}
 use Rattle.names.proofs.is_protected.Statement.{statement}
 use Rattle.names.proofs.is_protected.Tie as tie
 
+kind-of-requires : tie.Need-kind-of-requires
+kind-of-requires c κs = search needs
+
 returns : tie.Need-returns
-returns c = search needs
+returns c = search (needs, protects-by)
 
 pub is-protected-spec : {M : Type 1} → statement M
-is-protected-spec = tie.close (tie.spec returns)
+is-protected-spec = tie.close (tie.spec kind-of-requires returns)

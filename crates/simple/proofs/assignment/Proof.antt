@@ -1,5 +1,5 @@
 use borrow.Author.Needs.{needs}
-use Rattle.simple.proofs.Whole.{assign-targets, assign-end, call-assigns, value-assigns, assigned-no-target, assigned-call, assigned-value}
+use Rattle.simple.proofs.Whole.{assign-targets, assign-end, call-assigns, call-type, value-assigns, assigned-no-target, assigned-call, assigned-value}
 use native.Mathlib.Omega.{arith}
 use Rattle.simple.proofs.assignment.Statement.{statement}
 use Rattle.simple.proofs.assignment.Tie as tie
@@ -35,8 +35,10 @@ assign-call-requires : tie.Need-assign-call-requires
 assign-call-requires c κs =
     let at-r = c .before .before .before .before .before in
     let at-target = at-r .before .before .before .before in
-    let start = at-target .before .before .before .before in
-    call-assigns _ _ _ (start .pre) _ _ (at-target .target .ensures) _ _ (at-r .r .given .1) _ (c .before .before .is-call .ensures) (c .before .if1 .taken)
+    let start = at-target .before .before .before .before in (
+      call-assigns _ _ _ (start .pre) _ _ (at-target .target .ensures) _ _ (at-r .r .given .1) _ (c .before .before .is-call .ensures) (c .before .if1 .taken),
+      call-type _ _ _ (start .pre) _ _ (at-target .target .ensures) _ _ (at-r .r .given .1) _ (c .before .before .is-call .ensures) (c .before .if1 .taken),
+    )
 
 same-length-2 : tie.Need-same-length-2
 same-length-2 c = search needs

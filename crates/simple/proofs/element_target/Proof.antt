@@ -55,9 +55,12 @@ set-link-requires c κs =
     let x = index-end _ _ _ _ (start .pre) (at-if1 .if1 .left) _ _ (at-of-type .of-type .ensures) _ _ (at-index .index .given .1) in
     (omega (arith, x .2, c .before .before .before .set-head .ensures .kept .long), omega (arith, x .0))
 
+type-of-requires : tie.Need-type-of-requires
+type-of-requires c κs = search needs
+
 add-t13 : tie.Need-add-t13
 add-t13 c =
-    let at-index = c .before .before .before .before .before .before .before .before .before in
+    let at-index = c .before .before .before .before .before .before .before .before .before .before in
     let at-of-type = at-index .before .before .before .before in
     let at-if1 = at-of-type .before .before in
     let start = at-if1 .before .before .before in
@@ -86,6 +89,7 @@ element-target-spec =
     set-head-requires
     add-set-link
     set-link-requires
+    type-of-requires
     add-t13
     same-length-2
     returns-3)

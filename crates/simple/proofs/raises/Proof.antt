@@ -1,6 +1,7 @@
 use borrow.Author.Needs.{needs}
 use Rattle.simple.proofs.Leaving.{raise-room, raise-values, raised-alone, raised-handled, raised-number}
 use native.Mathlib.Omega.{arith}
+use Rattle.layout.proofs.Typing.{num-type}
 use Rattle.simple.proofs.raises.Statement.{statement}
 use Rattle.simple.proofs.raises.Tie as tie
 
@@ -35,7 +36,7 @@ add-with-value c =
 with-value-requires : tie.Need-with-value-requires
 with-value-requires c κs =
     let start = c .before .before .before .before .before .before .before in
-    (raise-values _ _ _ _ (start .pre) _ (c .before .before .before .sort .ensures) (c .before .before .if1 .left), omega arith)
+    (raise-values _ _ _ _ (start .pre) _ (c .before .before .before .sort .ensures) (c .before .before .if1 .left), omega arith, num-type)
 
 same-length-3 : tie.Need-same-length-3
 same-length-3 c = search needs

@@ -1,6 +1,6 @@
 use borrow.Author.Needs.{needs}
 use native.Mathlib.Omega.{arith}
-use Rattle.simple.proofs.Leaving.{return-room, return-values, returned-alone, returned-proc, returned-func}
+use Rattle.simple.proofs.Leaving.{return-room, return-values, return-type, returned-alone, returned-proc, returned-func}
 use Rattle.simple.proofs.returns.Statement.{statement}
 use Rattle.simple.proofs.returns.Tie as tie
 
@@ -35,7 +35,7 @@ add-with-value c =
 with-value-requires : tie.Need-with-value-requires
 with-value-requires c κs =
     let start = c .before .before .before .before .before .before .before in
-    (return-values _ _ _ _ (start .pre) _ (c .before .before .before .sort .ensures) (c .before .before .if1 .left), omega arith)
+    (return-values _ _ _ _ (start .pre) _ (c .before .before .before .sort .ensures) (c .before .before .if1 .left), omega arith, return-type _ _ _ _ (start .pre) _ (c .before .before .before .sort .ensures) (c .before .if2 .left))
 
 same-length-3 : tie.Need-same-length-3
 same-length-3 c = search needs

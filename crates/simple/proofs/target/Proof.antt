@@ -42,9 +42,12 @@ set-head-requires c κs =
     let start = c .before .before .before .before .before .before .before .before .before in
     let x = target-room _ _ _ (start .pre) .0 in search needs
 
+type-of-requires : tie.Need-type-of-requires
+type-of-requires c κs = search needs
+
 add-t11 : tie.Need-add-t11
 add-t11 c =
-    let start = c .before .before .before .before .before .before .before .before .before .before .before .before in
+    let start = c .before .before .before .before .before .before .before .before .before .before .before .before .before in
     omega (arith, target-room _ _ _ (start .pre) .2)
 
 same-length-3 : tie.Need-same-length-3
@@ -68,6 +71,7 @@ target-spec =
     returns-2
     add-set-head
     set-head-requires
+    type-of-requires
     add-t11
     same-length-3
     returns-3)

@@ -1,5 +1,6 @@
 use borrow.Author.Needs.{needs}
 use native.Mathlib.Omega.{arith}
+use Rattle.layout.proofs.Typing.{num-type}
 use Rattle.simple.proofs.Speaking.{writes-string, writes-room, writes-mid, writes-values, writes-small, wrote-number, wrote-plain}
 use Rattle.simple.proofs.writes.Statement.{statement}
 use Rattle.simple.proofs.writes.Tie as tie
@@ -30,7 +31,7 @@ with-value-requires : tie.Need-with-value-requires
 with-value-requires c κs =
     let at-string = c .before .before .before .before .before .before in
     let start = at-string .before .before .before .before .before in
-    (writes-values _ _ _ _ (start .pre) _ (at-string .string .ensures) _ (c .before .before .sort .ensures) (c .before .if1 .taken), omega arith)
+    (writes-values _ _ _ _ (start .pre) _ (at-string .string .ensures) _ (c .before .before .sort .ensures) (c .before .if1 .taken), omega arith, num-type)
 
 same-length : tie.Need-same-length
 same-length c = search needs

@@ -1,5 +1,5 @@
 use borrow.Author.Needs.{needs}
-use Rattle.sites.proofs.Words.{makes}
+use Rattle.sites.proofs.Words.{bit-small, makes}
 use Rattle.sites.proofs.known.Statement.{statement}
 use Rattle.sites.proofs.known.Tie as tie
 
@@ -12,20 +12,8 @@ sort-requires c κs = search needs
 type-bit-requires : tie.Need-type-bit-requires
 type-bit-requires c κs = search needs
 
-mul-m : tie.Need-mul-m
-mul-m c = search needs
-
-add-m : tie.Need-add-m
-add-m c = search needs
-
-add-m-2 : tie.Need-add-m-2
-add-m-2 c = search needs
-
-mul-m-2 : tie.Need-mul-m-2
-mul-m-2 c = search needs
-
-add-m-3 : tie.Need-add-m-3
-add-m-3 c = search needs
+cell-with-requires : tie.Need-cell-with-requires
+cell-with-requires c κs = (search needs, search (needs, bit-small), search needs, search needs)
 
 declare-requires : tie.Need-declare-requires
 declare-requires c κs = search needs
@@ -46,11 +34,7 @@ known-spec =
     sub-sort
     sort-requires
     type-bit-requires
-    mul-m
-    add-m
-    add-m-2
-    mul-m-2
-    add-m-3
+    cell-with-requires
     declare-requires
     same-length
     same-length-2
