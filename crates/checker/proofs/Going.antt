@@ -31,7 +31,7 @@ use Rattle.program.specs.Routines.{RawRoutines, no-routine}
 use Rattle.program.proofs.Framing.{routines-frame, routines-on}
 use Rattle.heads.specs.Trees.{wordOf, headFor, headsFor, earlierOf}
 use Rattle.heads.proofs.Numbering.{drop-next, drop-all, word-at, numbered-at}
-use Rattle.simple.specs.Around.{Unread}
+use Rattle.around.specs.Around.{Unread}
 use Rattle.routines.specs.declared.Walked.{Walked}
 use Rattle.routines.specs.declared.Walked.the-variants as routines
 use Rattle.routines.specs.Answers.{ModuleFilled, groundOf, Spares, Begins, Says, Checks}

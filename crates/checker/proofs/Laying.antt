@@ -27,7 +27,7 @@ use Rattle.load.proofs.Results.{loads-sorts, loads-numbers}
 use Rattle.expressions.specs.Known.{Fresh, Loaded, largest}
 use Rattle.heads.specs.Stores.{Marked, isValued}
 use Rattle.heads.specs.Reads as heads
-use Rattle.simple.specs.Around.{Quoted, Unread}
+use Rattle.around.specs.Around.{Quoted, Unread}
 use Rattle.checker.specs.Walks.{Laid, Formed}
 
 -- ---- words

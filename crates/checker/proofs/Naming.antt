@@ -48,11 +48,11 @@ use Rattle.program.specs.Routines.{RawModule}
 use Rattle.heads.specs.Trees.{headsFor}
 use Rattle.heads.specs.Reads as heads
 use Rattle.sites.specs.Sites.{theModule, filling, ownOf, owned, Placed, scopesOf, memoryOf, Filled}
-use Rattle.sites.specs.declared.Walked as declarations
-use Rattle.sites.specs.declared.Walked.the-variants as declared
+use Rattle.names.specs.declared.Walked as declarations
+use Rattle.names.specs.declared.Walked.the-variants as declared
 use Rattle.sites.specs.Walks.{upto}
 use Rattle.declarations.specs.Answers.{DataStand, ModuleFilled, SaysModule, DeclaresModule}
-use Rattle.simple.specs.Around.{Unread, offsetIn}
+use Rattle.around.specs.Around.{Unread, offsetIn}
 use Rattle.routines.specs.declared.Walked.{Walked}
 use Rattle.routines.specs.declared.Walked.the-variants as routines
 use Rattle.routines.specs.Answers.{groundOf}

@@ -58,6 +58,7 @@ use Rattle.checker.specs.declared.Found.the-variants.{Main, NoMain, Faul
 use Rattle.checker.specs.Checks.{storeBytes, headsIn, Ready, Refused, Emptied, Judges}
 use Rattle.checker.specs.Walks.{Laid, Formed, Named, Nameless, Finds, Walks}
 use Rattle.checker.specs.Passes.{Whole, Clean, Turned, Settles, Formal}
+use Rattle.layout.specs.Rules.{noMain}
 
 -- ---- stores no longer than their cells
 past : (l : List ℕ) → length l ≡ storeBytes → drop storeBytes l ≡ []
@@ -104,11 +105,11 @@ module _ (text code values : List ℕ) (words : ℕ) (f : Formed text code value
       = ap (judgeForm text (wordsIn text)) (f .form) ∙ ap (judgeModule text (wordsIn text) (f .m)) (least-first (record { number = number; at = at }) (faults (wordsIn text) (f .m)) (finds _ e)) in
       rw v (record { answer = ap (checked.Refused number) p; code-long = w .code-long; values-long = w .values-long })
 
-  pub main-missing : r ≡ NoMain → Formal text code values (checked.Refused 18 0) code′ values′
+  pub main-missing : r ≡ NoMain → Formal text code values (checked.Refused noMain 0) code′ values′
   unfolding judgeForm judgeModule judgeMain Settles Finds
   main-missing e =
       let n : Nameless text (f .m) = finds _ e in
-      let v : judgeForm text (wordsIn text) (formed (sortIn (wordsIn text))) ≡ refuse 18 0
+      let v : judgeForm text (wordsIn text) (formed (sortIn (wordsIn text))) ≡ refuse noMain 0
       = ap (judgeForm text (wordsIn text)) (f .form) ∙ ap (judgeModule text (wordsIn text) (f .m)) (least-none (faults (wordsIn text) (f .m)) (n .clear)) ∙ ap (judgeMain (wordsIn text) (f .m)) (n .main-is) in
       rw v (record { answer = refl; code-long = w .code-long; values-long = w .values-long })
 

@@ -26,7 +26,7 @@ use Rattle.program.specs.Routines.{RawRoutines, RawModule}
 use Rattle.code.specs.Signatures.{Heads}
 use Rattle.grammar.specs.Form.{Parses, RoutinesAt}
 use Rattle.heads.specs.Trees.{headsFor}
-use Rattle.simple.specs.Around.{Unread}
+use Rattle.around.specs.Around.{Unread}
 use Rattle.routines.specs.declared.Walked.{Walked}
 use Rattle.routines.specs.declared.Walked.the-variants.{Upto}
 use Rattle.routines.specs.declared.Walked.the-variants as routines

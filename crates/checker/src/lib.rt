@@ -1,22 +1,14 @@
 // The checker: from a text to a code store that is ready to run, or the first rule broken and its place.
 use form::Verdict;
+use layout::limits;
+use layout::rules;
 use load::Loaded;
+use names::Walked as Declared;
 use routines::Walked;
-use sites::Walked as Declared;
 ghost use Rattle.paper.specs.Answer.{verdict};
 ghost use Rattle.checker.specs.Checks.{Judges, Checks};
 ghost use Rattle.checker.specs.Walks.{Laid, Formed, RoutinesStand, RoutinesWalk, Walks};
 ghost use Rattle.checker.specs.Passes.{Whole, Clean, Settles, Formal};
-
-// How many words a store has, and their bytes.
-const STORE_WORDS: usize = 16384;
-
-const STORE_BYTES: usize = 65536;
-
-// "1: a store under 16,384 words", "18: no PROC main without parameters"
-const SMALL_STORE: u32 = 1;
-
-const NO_MAIN: u32 = 18;
 
 pub enum Checked {
     // how many words, how many module words, and the word that main begins with
@@ -91,10 +83,10 @@ fn judge_names(text: &[u8], code: &mut [u8], values: &mut [u8], words: usize) ->
 {
     match names_and_types(text, code, values, words) {
         Found::Faulty(number, at) => Checked::Refused(number, offsets::offset_of(text, at)),
-        Found::NoMain => Checked::Refused(NO_MAIN, 0),
+        Found::NoMain => Checked::Refused(rules::NO_MAIN, 0),
         Found::Main(count, main) => {
             links::resolve(code, words);
-            cells::clear(values, count, STORE_WORDS - count);
+            cells::clear(values, count, limits::STORE_CELLS - count);
             Checked::Accepted(words, count, main)
         }
     }
@@ -127,13 +119,13 @@ fn check_cells(text: &[u8], code: &mut [u8], values: &mut [u8]) -> Checked
     requires { ⌜ Whole (now code) (now values) ⌝ }
     ensures { λ r. ⌜ Judges (now (text .entry)) (now (code .entry)) (now (values .entry)) (verdict (now (text .entry))) r (now (code .exit)) (now (values .exit)) ⌝ }
 {
-    cells::clear(values, 0, STORE_WORDS);
+    cells::clear(values, 0, limits::STORE_CELLS);
     let r = judge_text(text, code, values);
     let Checked::Refused(_, _) = r else {
         return r;
     };
-    cells::clear(code, 0, STORE_WORDS);
-    cells::clear(values, 0, STORE_WORDS);
+    cells::clear(code, 0, limits::STORE_CELLS);
+    cells::clear(values, 0, limits::STORE_CELLS);
     r
 }
 
@@ -141,11 +133,15 @@ fn check_cells(text: &[u8], code: &mut [u8], values: &mut [u8]) -> Checked
 pub fn check(text: &[u8], code: &mut [u8], values: &mut [u8]) -> Checked
     ensures { λ r. ⌜ Checks (now (text .entry)) (now (code .entry)) (now (values .entry)) r (now (code .exit)) (now (values .exit)) ⌝ }
 {
-    if code.len() < STORE_BYTES {
-        return Checked::Refused(SMALL_STORE, 0);
+    if code.len() < limits::STORE_BYTES {
+        return Checked::Refused(rules::SMALL_STORE, 0);
     }
-    if values.len() < STORE_BYTES {
-        return Checked::Refused(SMALL_STORE, 0);
+    if values.len() < limits::STORE_BYTES {
+        return Checked::Refused(rules::SMALL_STORE, 0);
     }
-    check_cells(text, &mut code[..STORE_BYTES], &mut values[..STORE_BYTES])
+    check_cells(
+        text,
+        &mut code[..limits::STORE_BYTES],
+        &mut values[..limits::STORE_BYTES],
+    )
 }

@@ -14,7 +14,8 @@ use Rattle.code.specs.Cells.{opIn, valueIn, placeIn, linkIn, headAt, tailAt, op
 use Rattle.code.specs.Spans.{bias}
 use Rattle.code.specs.Steps.{constantAt}
 use Rattle.code.proofs.Options.{none-some, same-some}
-use Rattle.links.specs.Raw.{Ground, SameWords, RawWord, RawDo, Ends, at-once, closed, LastOf, an-else, no-else, RawTerm, RawBound, RawStep, RawSimple, RawFirst, RawElseIf, RawNoMore, Begins, NoMore, RawElse, RawValue, RawValues, RawConstants, RawDefault, RawStatement, RawList, RawArms, RawCases}
+use Rattle.links.specs.Raw.{Ground, SameWords, RawWord, RawDo, Ends, at-once, closed, LastOf, an-else, no-else, RawTerm, RawBound, RawStep, RawSimple}
+use Rattle.links.specs.Raw.{RawFirst, RawElseIf, RawNoMore, Begins, NoMore, RawElse, RawValue, RawValues, RawConstants, RawDefault, RawStatement, RawList, RawArms, RawCases}
 use Rattle.links.proofs.Moving.{Moves, term-moves, bound-moves, does-move}
 use Rattle.links.proofs.Orders.{term-order, bound-order, step-order, ends-order, last-order, statement-order, list-order, arms-order, cases-order}
 

@@ -17,12 +17,13 @@ use Rattle.paper.specs.Names.{Scopes}
 use Rattle.paper.specs.Steps.{Spot, scalar, elementOf, spotOf}
 use Rattle.code.specs.Cells.{opIn, valueIn, placeIn, linkIn, headAt, tailAt, opAt, valueAt, placeAt, linkAt}
 use Rattle.code.specs.Spans.{guard, _then_, firstIn, sizeIn, termIn}
-use Rattle.code.specs.Steps.{aTarget, aCallTarget, aReturnOf, aReturn, aRaiseOf, aRaise, anExit, aRetry, aTryNext, aWrite, aWriteOf, aRead, aNextArgument, aThen, aClose, parts, Head, noHead, numbered, agree, scalarIn, elementIn, targetIn, argumentsIn, anyArguments, calleeIn, charactersIn}
+use Rattle.code.specs.Steps.{aTarget, aCallTarget, aReturnOf, aReturn, aRaiseOf, aRaise, anExit, aRetry, aTryNext, aWrite, aWriteOf, aRead, aNextArgument, aThen, aClose}
+use Rattle.code.specs.Steps.{parts, Head, noHead, numbered, agree, scalarIn, elementIn, targetIn, argumentsIn, anyArguments, calleeIn, charactersIn, aProcedureCall, aFunctionEnd, aDo}
 use Rattle.code.proofs.Options.{none-some, same-some, guarded, guards, went, goes}
 use Rattle.code.proofs.Spanning.{Agree, agree-same, span-grows}
 use Rattle.code.proofs.Composing.{framed}
 use Rattle.links.specs.Resolved.{goesByLink, goesByValue, goesByPlace, isLed}
-use Rattle.links.proofs.Ops.{link-step}
+use Rattle.links.proofs.Ops.{link-step, step-other}
 use Rattle.links.specs.Raw.{Ground, Quiet, RawWord, RawTerm, RawBound, RawTarget, RawArguments, RawCallee, RawText, RawAssign, RawAssignCall, RawCall, RawValued, RawReturn, RawReturnOf, RawWrite, RawWriteOf, RawRead, RawDoes}
 
 -- ---- what may change
@@ -52,12 +53,13 @@ head-is : (v w : ℕ) → v % 256 ≡ w % 256 → v / 256 ≡ w / 256 → v ≡ 
 head-is v w o e = omega arith
 
 -- what a head in the range of targets says
-target-op : (op ops : ℕ) → ops ≤ 132 → ops ≤ op → op < ops + 4 → goesByValue op ≡ false
+target-op : (op ops : ℕ) → ops ≤ aCallTarget → ops ≤ op → op < ops + 4 → goesByValue op ≡ false
 unfolding goesByValue
-target-op op ops h l u = rw (ne-eqb op 162 (λ e. omega arith), goesByValue) (ne-eqb op 163 (λ e. omega arith))
+target-op op ops h l u = rw (ne-eqb op aThen (λ e. omega arith), goesByValue) (ne-eqb op aDo (λ e. omega arith))
 
-target-link : (op ops : ℕ) → 128 ≤ ops → ops ≤ 132 → ops ≤ op → op < ops + 4 → goesByLink op ≡ true
-target-link op ops k h l u = sym (link-step op (omega arith) (omega arith)) ∙ ap not (ne-eqb op 136 (λ e. omega arith))
+target-link : (op ops : ℕ) → aTarget ≤ ops → ops ≤ aCallTarget → ops ≤ op → op < ops + 4 → goesByLink op ≡ true
+target-link op ops k h l u =
+    sym (link-step op (omega arith) (omega arith) true (sym (ap not (ne-eqb op aFunctionEnd (λ e. omega arith))) ∙ step-other op (λ e. omega arith) (λ e. omega arith)))
 
 room-more : {A : Type 0} (v n p : ℕ) (x s : A) → n ≤ p → guard (ltb v n) x ≡ some s → guard (ltb v p) x ≡ some s
 room-more v n p x s h e = let d = guarded (ltb v n) x s e in guards (ltb v p) x s (lt-ltb v p (omega (arith, ltb-true v n (d .holds)))) (d .is)
@@ -249,7 +251,7 @@ module _ (g : Ground) (n p : ℕ) (np : n ≤ p) (C D : List ℕ) (low high out 
           term = term-moves e (w + 1) z (omega arith) h (b .term);
         }
 
-    pub target-moves : (ops : ℕ) (t : Target) (a b : ℕ) → ops ≤ 132 → low ≤ a → a < high → b ≤ high → RawTarget g n C S ops t a b → RawTarget g p D S ops t a b
+    pub target-moves : (ops : ℕ) (t : Target) (a b : ℕ) → ops ≤ aCallTarget → low ≤ a → a < high → b ≤ high → RawTarget g n C S ops t a b → RawTarget g p D S ops t a b
     target-moves ops t a b o l k h x =
         let hd : headAt C a ≡ headAt D a = head-is (headAt C a) (headAt D a) (mv .ops a l k) (mv .values a l k (target-op (opAt C a) ops o (x .low) (x .high))) in
         record {
@@ -297,7 +299,7 @@ module _ (g : Ground) (n p : ℕ) (np : n ≤ p) (C D : List ℕ) (low high out 
       }
 
   module _ (S : Scopes) (at to : ℕ) (l : low ≤ at) (h : at < high) (k : to ≤ high) where
-    out-of : (ops : ℕ) → 128 ≤ ops → ops ≤ 132 → ops ≤ opAt C at → opAt C at < ops + 4 → linkAt C at ≡ out → linkAt D at ≡ on
+    out-of : (ops : ℕ) → aTarget ≤ ops → ops ≤ aCallTarget → ops ≤ opAt C at → opAt C at < ops + 4 → linkAt C at ≡ out → linkAt D at ≡ on
     out-of ops a b c d e = mv .outs at l h (target-link (opAt C at) ops a b c d) (λ q. omega arith) e
 
     assign-moves : (t : Target) (e : Expr) → RawAssign g n C S t e at to out → RawAssign g p D S t e at to on
@@ -336,7 +338,7 @@ module _ (g : Ground) (n p : ℕ) (np : n ≤ p) (C D : List ℕ) (low high out 
     unfolding goesByLink goesByValue goesByPlace
     call-moves q es e x =
         let v = any-on (g .m) n (g .function) (g .text) (g .R) C (at + 1) (linkAt C at) _ (x .z) (x .arguments .is) in
-        let o : opAt C q ≡ 136 = ap (opAt C) e ∙ x .op in
+        let o : opAt C q ≡ aProcedureCall = ap (opAt C) e ∙ x .op in
         record {
           z = x .z;
           op = sym (mv .ops at l h) ∙ x .op;

@@ -10,65 +10,74 @@ use Rattle.laws.proofs.Tests.{false-true}
 use Rattle.paper.specs.Basics.{if_then_else_}
 use Rattle.cells.specs.Words.{wordsOf}
 use Rattle.code.specs.Cells.{opAt, linkAt, linkIn}
-use Rattle.code.specs.Steps.{aTarget, anElseIf, aCase, aThen}
+use Rattle.code.specs.Steps.{aTarget, anElseIf, aCase, aThen, aProcedureCall, anEnd, aFunctionEnd, aNextValue, aDo, aPass, anOtherwise, aClose}
 use Rattle.reading.specs.Reading.{halfEnd, Part}
-use Rattle.links.specs.Resolved.{goesByLink, goesByValue, goesByPlace, isLed, beyond, Beyond, LedValue, LedPlace, LedLink}
+use Rattle.links.specs.Resolved.{stepByLink, goesByLink, goesByValue, goesByPlace, isLed, beyond, Beyond, LedValue, LedPlace, LedLink}
 use Rattle.links.specs.Raw.{Quiet}
 
 -- ---- ops
 module _ (op : ℕ) where
-  pub link-low : op < 128 → false ≡ goesByLink op
+  pub link-low : op < aTarget → false ≡ goesByLink op
   unfolding goesByLink
-  link-low h = rw (lt-ltb op 128 h, goesByLink)
+  link-low h = rw (lt-ltb op aTarget h, goesByLink)
 
-  pub link-step : 128 ≤ op → op < 153 → not (eqb op 136) ≡ goesByLink op
+  pub link-step : aTarget ≤ op → op < anElseIf → (b : Bool) → b ≡ stepByLink op → b ≡ goesByLink op
   unfolding goesByLink
-  link-step h g = rw (le-ltb op 128 h, goesByLink) (rw (lt-ltb op 153 g))
+  link-step h g b e = rw (le-ltb op aTarget h, goesByLink) (rw (lt-ltb op anElseIf g) e)
+
+  pub step-call : op ≡ aProcedureCall → false ≡ stepByLink op
+  step-call h = rw (eq-eqb op aProcedureCall h)
+
+  pub step-end : (op ≡ aProcedureCall → ⊥) → op ≡ anEnd → false ≡ stepByLink op
+  step-end h g = rw (ne-eqb op aProcedureCall h) (rw (eq-eqb op anEnd g))
+
+  pub step-other : (op ≡ aProcedureCall → ⊥) → (op ≡ anEnd → ⊥) → not (eqb op aFunctionEnd) ≡ stepByLink op
+  step-other h g = rw (ne-eqb op aProcedureCall h) (rw (ne-eqb op anEnd g))
 
   pub link-here : (k : ℕ) → op ≡ k → true ≡ goesByLink k → true ≡ goesByLink op
   link-here k e h = h ∙ ap goesByLink (sym e)
 
-  pub link-none : 153 ≤ op → (op ≡ 155 → ⊥) → (op ≡ 162 → ⊥) → (op ≡ 164 → ⊥) → (op ≡ 165 → ⊥) → (op ≡ 166 → ⊥) → false ≡ goesByLink op
+  pub link-none : anElseIf ≤ op → (op ≡ anElseIf → ⊥) → (op ≡ aThen → ⊥) → (op ≡ aPass → ⊥) → (op ≡ anOtherwise → ⊥) → (op ≡ aClose → ⊥) → false ≡ goesByLink op
   unfolding goesByLink
   link-none h a b c d e =
-      let l : ltb op 128 ≡ false = le-ltb op 128 (omega arith) in
-      simp (l, le-ltb op 153 h, ne-eqb op 155 a, ne-eqb op 162 b, ne-eqb op 164 c, ne-eqb op 165 d, ne-eqb op 166 e, goesByLink)
+      let l : ltb op aTarget ≡ false = le-ltb op aTarget (omega arith) in
+      simp (l, le-ltb op anElseIf h, ne-eqb op anElseIf a, ne-eqb op aThen b, ne-eqb op aPass c, ne-eqb op anOtherwise d, ne-eqb op aClose e, goesByLink)
 
-  pub value-then : op ≡ 162 → true ≡ goesByValue op
+  pub value-then : op ≡ aThen → true ≡ goesByValue op
   unfolding goesByValue
   value-then h = rw (h, goesByValue)
 
-  pub value-else : (op ≡ 162 → ⊥) → eqb op 163 ≡ goesByValue op
+  pub value-else : (op ≡ aThen → ⊥) → eqb op aDo ≡ goesByValue op
   unfolding goesByValue
-  value-else h = rw (ne-eqb op 162 h, goesByValue)
+  value-else h = rw (ne-eqb op aThen h, goesByValue)
 
-  pub place-case : op ≡ 157 → true ≡ goesByPlace op
+  pub place-case : op ≡ aCase → true ≡ goesByPlace op
   unfolding goesByPlace
   place-case h = rw (h, goesByPlace)
 
-  pub place-comma : op ≡ 158 → true ≡ goesByPlace op
+  pub place-comma : op ≡ aNextValue → true ≡ goesByPlace op
   unfolding goesByPlace
   place-comma h = rw (h, goesByPlace)
 
-  pub place-else : (op ≡ 157 → ⊥) → (op ≡ 158 → ⊥) → eqb op 165 ≡ goesByPlace op
+  pub place-else : (op ≡ aCase → ⊥) → (op ≡ aNextValue → ⊥) → eqb op anOtherwise ≡ goesByPlace op
   unfolding goesByPlace
-  place-else h g = rw (ne-eqb op 157 h, goesByPlace) (rw (ne-eqb op 158 g))
+  place-else h g = rw (ne-eqb op aCase h, goesByPlace) (rw (ne-eqb op aNextValue g))
 
   -- a word of an expression leads nowhere
-  pub low-value : op < 128 → goesByValue op ≡ false
+  pub low-value : op < aTarget → goesByValue op ≡ false
   unfolding goesByValue
-  low-value h = rw (ne-eqb op 162 (λ e. omega arith), goesByValue) (ne-eqb op 163 (λ e. omega arith))
+  low-value h = rw (ne-eqb op aThen (λ e. omega arith), goesByValue) (ne-eqb op aDo (λ e. omega arith))
 
-  pub low-place : op < 128 → goesByPlace op ≡ false
+  pub low-place : op < aTarget → goesByPlace op ≡ false
   unfolding goesByPlace
-  low-place h = rw (ne-eqb op 157 (λ e. omega arith), goesByPlace) (rw (ne-eqb op 158 (λ e. omega arith)) (ne-eqb op 165 (λ e. omega arith)))
+  low-place h = rw (ne-eqb op aCase (λ e. omega arith), goesByPlace) (rw (ne-eqb op aNextValue (λ e. omega arith)) (ne-eqb op anOtherwise (λ e. omega arith)))
 
-  pub low-still : op < 128 → isLed op ≡ false
+  pub low-still : op < aTarget → isLed op ≡ false
   unfolding isLed
   low-still h = rw (sym (link-low h), isLed) (rw (low-value h) (low-place h))
 
 -- words whose ops are as low as those of expressions lead nowhere
-pub quiet-low : (C : List ℕ) (a b : ℕ) → ((i : ℕ) → a ≤ i → i < b → opAt C i < 128) → Quiet C a b
+pub quiet-low : (C : List ℕ) (a b : ℕ) → ((i : ℕ) → a ≤ i → i < b → opAt C i < aTarget) → Quiet C a b
 quiet-low C a b f i l h = low-still (opAt C i) (f i l h)
 
 -- ---- where a list goes on
@@ -87,13 +96,13 @@ module _ (C L : List ℕ) (z : ℕ) where
 
 -- ---- the parts of the code
 module _ (code : List ℕ) (words : ℕ) where
-  pub goes-step : (z op : ℕ) → z < 16777216 → op ≡ opAt (wordsOf code) z → op < 155 → Beyond code words z z
+  pub goes-step : (z op : ℕ) → z < 16777216 → op ≡ opAt (wordsOf code) z → op < anElseIf → Beyond code words z z
   goes-step z op h e g = record { is = λ k. sym (beyond-step (wordsOf code) (wordsOf code) z (omega arith)); as-link = λ k. k; as-value = h }
 
-  pub goes-case : (z op r : ℕ) → op ≡ opAt (wordsOf code) z → op ≡ 157 → Part halfEnd (linkAt (wordsOf code) (z + 1)) r → Beyond code words z r
+  pub goes-case : (z op r : ℕ) → op ≡ opAt (wordsOf code) z → op ≡ aCase → Part halfEnd (linkAt (wordsOf code) (z + 1)) r → Beyond code words z r
   goes-case z op r e h g = record { is = λ i. g .same ∙ sym (beyond-case (wordsOf code) (wordsOf code) z (sym e ∙ h)); as-link = λ i. g .small; as-value = omega (arith, g .small) }
 
-  pub goes-close : (z op r : ℕ) → op ≡ opAt (wordsOf code) z → 155 ≤ op → (op ≡ 157 → ⊥) → Part halfEnd (linkAt (wordsOf code) z) r → Beyond code words z r
+  pub goes-close : (z op r : ℕ) → op ≡ opAt (wordsOf code) z → anElseIf ≤ op → (op ≡ aCase → ⊥) → Part halfEnd (linkAt (wordsOf code) z) r → Beyond code words z r
   goes-close z op r e h d g = record {
     is = λ i. g .same ∙ sym (beyond-close (wordsOf code) (wordsOf code) z (omega arith) (λ q. d (e ∙ q)));
     as-link = λ i. g .small;
@@ -117,15 +126,15 @@ module _ (code : List ℕ) (words : ℕ) where
   pub link-stays : (op : ℕ) (b : Bool) (l : ℕ) → not b ≡ true → b ≡ goesByLink op → l < 65536 → LedLink code words op l l
   link-stays op b l t e h = record { same = λ f. refl; stays = λ f g k. refl; on = λ f. false-true (sym (not-true b t) ∙ e ∙ f); small = h }
 
-  pub link-to-else : (op l o : ℕ) → op ≡ 162 → o ≡ opAt (wordsOf code) l → o ≡ 155 → l < 65536 → LedLink code words op l l
+  pub link-to-else : (op l o : ℕ) → op ≡ aThen → o ≡ opAt (wordsOf code) l → o ≡ anElseIf → l < 65536 → LedLink code words op l l
   link-to-else op l o e f g h = record { same = λ k. refl; stays = λ p q k. refl; on = λ p d. absurd (d e (sym f ∙ g)); small = h }
 
   module _ (op : ℕ) (b : Bool) (t : not b ≡ false) (e : b ≡ goesByLink op) (l r : ℕ) (h : l < 65536) (g : Beyond code words l r) where
-    pub link-goes : (op ≡ 162 → opAt (wordsOf code) l ≡ 155 → ⊥) → LedLink code words op l r
+    pub link-goes : (op ≡ aThen → opAt (wordsOf code) l ≡ anElseIf → ⊥) → LedLink code words op l r
     link-goes d = record { same = λ f. false-true (sym f ∙ sym e ∙ not-false b t); stays = λ p q k. absurd (d p q); on = λ f p. g .is; small = g .as-link h }
 
-    pub link-goes-other : (op ≡ 162 → ⊥) → LedLink code words op l r
+    pub link-goes-other : (op ≡ aThen → ⊥) → LedLink code words op l r
     link-goes-other d = link-goes (λ p q. d p)
 
-    pub link-goes-then : (o : ℕ) → o ≡ opAt (wordsOf code) l → (o ≡ 155 → ⊥) → LedLink code words op l r
+    pub link-goes-then : (o : ℕ) → o ≡ opAt (wordsOf code) l → (o ≡ anElseIf → ⊥) → LedLink code words op l r
     link-goes-then o f d = link-goes (λ p q. d (f ∙ q))

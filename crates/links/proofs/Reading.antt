@@ -16,7 +16,8 @@ use Rattle.paper.specs.Types.{termOf}
 use Rattle.paper.specs.Steps.{Spot, Action, store, callFor, callOf, giveBack, raise, handOn, exit, retry, tryNext, write, read, endList, routineOf, characters, spotOf, optionalTerm, actionOf}
 use Rattle.code.specs.Cells.{opAt, valueAt, placeAt, linkAt}
 use Rattle.code.specs.Spans.{guard, _then_, termIn}
-use Rattle.code.specs.Steps.{aTarget, aCallTarget, aProcedureCall, Head, Stands, targetIn, anyArguments, calleeIn, charactersIn, linked, storeIn, callForIn, callOfIn, withTerm, writeIn, writeOfIn, readIn, compactIfIn, ifIn, whileIn, forIn, forTestIn, testIn, actionIn, stepIn, aCompactIf}
+use Rattle.code.specs.Steps.{aTarget, aCallTarget, aProcedureCall, Head, Stands, targetIn, anyArguments, calleeIn, charactersIn, linked, storeIn, callForIn, callOfIn, withTerm, writeIn, writeOfIn, readIn, compactIfIn, ifIn, whileIn}
+use Rattle.code.specs.Steps.{forIn, forTestIn, testIn, actionIn, stepIn, aCompactIf, aReturnOf, aReturn, aRaiseOf, aRaise, anExit, aRetry, aTryNext, aWrite, aWriteOf, aRead, anIf, aWhile, aFor, aForTest, aTest}
 use Rattle.code.specs.Holds.{CalleeIn}
 use Rattle.code.proofs.Options.{goes}
 use Rattle.links.specs.Raw.{Ground, RawWord, RawTerm, RawBound, RawTarget, RawArguments, RawCallee, RawText, RawAssign, RawAssignCall, RawCall, RawValued, RawReturn, RawReturnOf, RawWrite, RawWriteOf, RawRead, RawDoes, endOf}
@@ -41,71 +42,71 @@ module _ (m n : ℕ) (fn : Bool) (text : List ℕ) (R : List Head) (C : List ℕ
     unfolding actionIn
     acts-call-for l h = rw (le-ltb (opAt C i) aTarget (omega arith), actionIn) (rw (le-ltb (opAt C i) aCallTarget l) (rw (lt-ltb (opAt C i) aProcedureCall h)))
 
-    acts-call-of : opAt C i ≡ 136 → actionIn m n fn text R C i ≡ callOfIn m n fn text R C i
+    acts-call-of : opAt C i ≡ aProcedureCall → actionIn m n fn text R C i ≡ callOfIn m n fn text R C i
     unfolding actionIn
     acts-call-of h = rw (h, actionIn)
 
-    acts-return-of : opAt C i ≡ 137 → actionIn m n fn text R C i ≡ guard fn i then (λ j. withTerm m n fn text R C j (λ e. giveBack (some e)))
+    acts-return-of : opAt C i ≡ aReturnOf → actionIn m n fn text R C i ≡ guard fn i then (λ j. withTerm m n fn text R C j (λ e. giveBack (some e)))
     unfolding actionIn
     acts-return-of h = rw (h, actionIn)
 
-    acts-return : opAt C i ≡ 138 → actionIn m n fn text R C i ≡ guard (not fn) (linkAt C i, giveBack none)
+    acts-return : opAt C i ≡ aReturn → actionIn m n fn text R C i ≡ guard (not fn) (linkAt C i, giveBack none)
     unfolding actionIn linked
     acts-return h = rw (h, actionIn)
 
-    acts-raise-of : opAt C i ≡ 139 → actionIn m n fn text R C i ≡ withTerm m n fn text R C i raise
+    acts-raise-of : opAt C i ≡ aRaiseOf → actionIn m n fn text R C i ≡ withTerm m n fn text R C i raise
     unfolding actionIn
     acts-raise-of h = rw (h, actionIn)
 
-    acts-raise : opAt C i ≡ 140 → actionIn m n fn text R C i ≡ some (linkAt C i, handOn)
+    acts-raise : opAt C i ≡ aRaise → actionIn m n fn text R C i ≡ some (linkAt C i, handOn)
     unfolding actionIn linked
     acts-raise h = rw (h, actionIn)
 
-    acts-exit : opAt C i ≡ 141 → actionIn m n fn text R C i ≡ some (linkAt C i, exit)
+    acts-exit : opAt C i ≡ anExit → actionIn m n fn text R C i ≡ some (linkAt C i, exit)
     unfolding actionIn linked
     acts-exit h = rw (h, actionIn)
 
-    acts-retry : opAt C i ≡ 142 → actionIn m n fn text R C i ≡ some (linkAt C i, retry)
+    acts-retry : opAt C i ≡ aRetry → actionIn m n fn text R C i ≡ some (linkAt C i, retry)
     unfolding actionIn linked
     acts-retry h = rw (h, actionIn)
 
-    acts-try-next : opAt C i ≡ 143 → actionIn m n fn text R C i ≡ some (linkAt C i, tryNext)
+    acts-try-next : opAt C i ≡ aTryNext → actionIn m n fn text R C i ≡ some (linkAt C i, tryNext)
     unfolding actionIn linked
     acts-try-next h = rw (h, actionIn)
 
-    acts-write : opAt C i ≡ 144 → actionIn m n fn text R C i ≡ writeIn m n fn text R C i
+    acts-write : opAt C i ≡ aWrite → actionIn m n fn text R C i ≡ writeIn m n fn text R C i
     unfolding actionIn
     acts-write h = rw (h, actionIn)
 
-    acts-write-of : opAt C i ≡ 145 → actionIn m n fn text R C i ≡ writeOfIn m n fn text R C i
+    acts-write-of : opAt C i ≡ aWriteOf → actionIn m n fn text R C i ≡ writeOfIn m n fn text R C i
     unfolding actionIn
     acts-write-of h = rw (h, actionIn)
 
-    acts-read : opAt C i ≡ 146 → actionIn m n fn text R C i ≡ readIn m n fn text R C i
+    acts-read : opAt C i ≡ aRead → actionIn m n fn text R C i ≡ readIn m n fn text R C i
     unfolding actionIn
     acts-read h = rw (h, actionIn)
 
-    pub acts-compact-if : opAt C i ≡ 147 → actionIn m n fn text R C i ≡ compactIfIn m n fn text R C i
+    pub acts-compact-if : opAt C i ≡ aCompactIf → actionIn m n fn text R C i ≡ compactIfIn m n fn text R C i
     unfolding actionIn
     acts-compact-if h = rw (h, actionIn)
 
-    pub acts-if : opAt C i ≡ 148 → actionIn m n fn text R C i ≡ ifIn m n fn text R C i
+    pub acts-if : opAt C i ≡ anIf → actionIn m n fn text R C i ≡ ifIn m n fn text R C i
     unfolding actionIn
     acts-if h = rw (h, actionIn)
 
-    pub acts-while : opAt C i ≡ 149 → actionIn m n fn text R C i ≡ whileIn m n fn text R C i
+    pub acts-while : opAt C i ≡ aWhile → actionIn m n fn text R C i ≡ whileIn m n fn text R C i
     unfolding actionIn
     acts-while h = rw (h, actionIn)
 
-    pub acts-for : opAt C i ≡ 150 → actionIn m n fn text R C i ≡ forIn m n fn text R C i then (λ a. some (linked m n fn text R C i a))
+    pub acts-for : opAt C i ≡ aFor → actionIn m n fn text R C i ≡ forIn m n fn text R C i then (λ a. some (linked m n fn text R C i a))
     unfolding actionIn
     acts-for h = rw (h, actionIn)
 
-    pub acts-for-test : opAt C i ≡ 151 → actionIn m n fn text R C i ≡ forTestIn m n fn text R C i
+    pub acts-for-test : opAt C i ≡ aForTest → actionIn m n fn text R C i ≡ forTestIn m n fn text R C i
     unfolding actionIn
     acts-for-test h = rw (h, actionIn)
 
-    pub acts-test : opAt C i ≡ 152 → actionIn m n fn text R C i ≡ testIn m n fn text R C i
+    pub acts-test : opAt C i ≡ aTest → actionIn m n fn text R C i ≡ testIn m n fn text R C i
     unfolding actionIn
     acts-test h = rw (h, actionIn)
 
@@ -173,14 +174,14 @@ module _ (m n : ℕ) (fn : Bool) (text : List ℕ) (R : List Head) (C : List ℕ
 
 -- ---- simple statements
 module _ (g : Ground) (n : ℕ) (C : List ℕ) (S : Scopes) (at to out : ℕ) where
-  reads-return-of : (t : Term) → opAt C at ≡ 137 → linkAt C at ≡ out → g .function ≡ true → termIn (g .m) n C (at + 1) (valueAt C at) ≡ some t
+  reads-return-of : (t : Term) → opAt C at ≡ aReturnOf → linkAt C at ≡ out → g .function ≡ true → termIn (g .m) n C (at + 1) (valueAt C at) ≡ some t
       → actionIn (g .m) n (g .function) (g .text) (g .R) C at ≡ some (out, giveBack (some t))
   unfolding guard _then_
   reads-return-of t o l f e =
       acts-return-of (g .m) n (g .function) (g .text) (g .R) C at o
       ∙ rw f (reads-with (g .m) n true (g .text) (g .R) C at out l t (λ e. giveBack (some e)) e)
 
-  reads-return : opAt C at ≡ 138 → linkAt C at ≡ out → g .function ≡ false → actionIn (g .m) n (g .function) (g .text) (g .R) C at ≡ some (out, giveBack none)
+  reads-return : opAt C at ≡ aReturn → linkAt C at ≡ out → g .function ≡ false → actionIn (g .m) n (g .function) (g .text) (g .R) C at ≡ some (out, giveBack none)
   unfolding guard
   reads-return o l f = acts-return (g .m) n (g .function) (g .text) (g .R) C at o ∙ rw (f, l)
 

@@ -15,7 +15,7 @@ use Rattle.paper.specs.Checks.{forsIn, forsInList, forsInArms, forsInCases}
 use Rattle.paper.specs.Steps.{Action, choose, select, testWhile, enterFor, repeatFor, Step, step, begin, optionalTerm, actionOf, simpleStep, conditions, constants}
 use Rattle.code.specs.Cells.{opAt, valueAt, placeAt, linkAt}
 use Rattle.code.specs.Spans.{guard, _then_, termIn}
-use Rattle.code.specs.Steps.{aCompactIf, anIf, aWhile, aFor, aForTest, aTest, anElseIf, aStep, aCase, aThen, aDo, aPass, anOtherwise, parts, conditionsIn, casesIn, forStep, forIn, linked, compactIfIn, ifIn, whileIn, forTestIn, testIn, actionIn, stepIn}
+use Rattle.code.specs.Steps.{aCompactIf, anIf, aWhile, aFor, aForTest, aTest, anElseIf, aStep, aCase, aThen, aDo, aPass, anOtherwise, parts, conditionsIn, casesIn, forStep, forIn, linked, compactIfIn, ifIn, whileIn, forTestIn, testIn, actionIn, stepIn, aNextValue}
 use Rattle.code.specs.Closed.{Every, done, also}
 use Rattle.code.specs.Holds.{known, CalleeIn}
 use Rattle.code.proofs.Options.{goes, guards}
@@ -30,7 +30,7 @@ use Rattle.links.proofs.Choosing.{term-reads, conditions-read, cases-re
 
 step-place : (op : ℕ) → op < anElseIf → goesByPlace op ≡ false
 unfolding goesByPlace
-step-place op h = rw (ne-eqb op 157 (λ e. omega arith), goesByPlace) (rw (ne-eqb op 158 (λ e. omega arith)) (ne-eqb op 165 (λ e. omega arith)))
+step-place op h = rw (ne-eqb op aCase (λ e. omega arith), goesByPlace) (rw (ne-eqb op aNextValue (λ e. omega arith)) (ne-eqb op anOtherwise (λ e. omega arith)))
 
 module _ (g : Ground) (n : ℕ) (C D : List ℕ) (words : ℕ) (led : (i : ℕ) → i < words → Led C D D words i) (few : words ≤ parts) where
   abbrev pub acts : ℕ → Option (ℕ × Action)

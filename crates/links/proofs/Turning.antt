@@ -17,10 +17,10 @@ use Rattle.links.proofs.Ops.{link-low, low-value, low-place, beyond-ste
 
 -- ---- one word
 -- a word of an expression
-pub turned-low : (code : List ℕ) (words i op : ℕ) → op ≡ opAt (wordsOf code) i → op < 128 → Turned code code words i
+pub turned-low : (code : List ℕ) (words i op : ℕ) → op ≡ opAt (wordsOf code) i → op < aTarget → Turned code code words i
 turned-low code words i op e h =
     let C = wordsOf code in
-    let low : opAt C i < 128 = subst (λ (w : ℕ). w < 128) e h in
+    let low : opAt C i < aTarget = subst (λ (w : ℕ). w < aTarget) e h in
     record {
       led = record {
         op = refl;

@@ -64,7 +64,8 @@ module _ (g : Ground) (n : ℕ) (C D : List ℕ) (words : ℕ) (led : (i : ℕ) 
         (every-both _ _
         (standing.begun g n C D words led few i at around after to _ (x .head .first) (omega (arith, w .behind, w .before, w .inside)) (omega (arith, x .head .word .is)) (x .head .place) (standing.for-reads g n C D words led few S used i v a b c body end at to after y x) tt)
         (list-stands body (enter (spelled (g .W) v) (ofRoutine used) S) (suc used) (used ∷ around) end (x .d + 1) end (x .list) (step-goes C D words led end (w .inside) (omega (arith, x .test .is)))))
-        (also (standing.stands g n C D words led few end i (used ∷ around) after _ (standing.test-place g n C D words led few end at i (omega (arith, w .inside)) (x .test .is) (x .test-place) (x .head .first)) (standing.for-test-reads g n C D words led few S used i v a b c body end at to after y x) tt) done)
+        (also (standing.stands g n C D words led few end i (used ∷ around) after _ (standing.test-place g n C D words led few end at i (omega (arith, w .inside)) (x .test .is) (x .test-place) (x .head .first))
+        (standing.for-test-reads g n C D words led few S used i v a b c body end at to after y x) tt) done)
     statement-stands (while i e body) S used around after at to x y =
         let q = list-order g n C body S used (valueAt C at + 1) (x .z) (x .list) in
         let p = term-order g n C S e (at + 1) (valueAt C at) (x .term) in

@@ -9,14 +9,20 @@ use lib.ListN.{length, drop}
 use Rattle.paper.specs.Basics.{if_then_else_}
 use Rattle.cells.specs.Words.{wordsOf}
 use Rattle.code.specs.Cells.{headAt, tailAt, opAt, valueAt, placeAt, linkAt}
-use Rattle.code.specs.Steps.{aTarget, aProcedureCall, anEnd, anElseIf, aCase, aNextValue, aThen, aDo, aPass, anOtherwise, aClose}
+use Rattle.code.specs.Steps.{aTarget, aProcedureCall, anEnd, aFunctionEnd, anElseIf, aCase, aNextValue, aThen, aDo, aPass, anOtherwise, aClose}
 
 -- ---- which words lead on, by their ops
--- A step but a procedure call, which goes on by the word that closes it, and a word that closes a list. (A THEN leads to an ELSEIF, which stays, or on.)
+-- A step but a procedure call, which goes on by the word that closes it, and a list's end; and a word that closes a list. (A THEN leads to an ELSEIF, which stays, or on.)
+abbrev pub stepByLink : (op : ℕ) → Bool
+stepByLink op =
+    if eqb op aProcedureCall then false
+    else if eqb op anEnd then false
+    else not (eqb op aFunctionEnd)
+
 unfoldable pub goesByLink : (op : ℕ) → Bool
 goesByLink op =
     if ltb op aTarget then false
-    else if ltb op anEnd then not (eqb op aProcedureCall)
+    else if ltb op anElseIf then stepByLink op
     else if eqb op anElseIf then true
     else if eqb op aThen then true
     else if eqb op aPass then true

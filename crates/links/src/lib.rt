@@ -1,50 +1,41 @@
 // From the last word to the first: what leads to a word that only closes a list leads on to where that list goes on.
+use layout::ops;
+use layout::parts;
 use store::sort;
 ghost use mathlib.Core.Path.{_≡_};
 ghost use mathlib.Core.Bool.{true};
 ghost use Prim.Native.Nat.{_+_, _*_, _<_, _≤_};
 ghost use lib.ListN.{length};
-ghost use Rattle.links.specs.Resolved.{goesByLink, goesByValue, goesByPlace, Beyond, LedValue, LedPlace, LedLink, Turned, Resolved};
+ghost use Rattle.links.specs.Resolved.{stepByLink, goesByLink, goesByValue, goesByPlace, Beyond, LedValue, LedPlace, LedLink, Turned, Resolved};
 
-// ---- ops, as the specs of code have them
-
-const TARGET: u32 = 128;
-
-const PROCEDURE_CALL: u32 = 136;
-
-const END: u32 = 153;
-
-const ELSE_IF: u32 = 155;
-
-const CASE: u32 = 157;
-
-const NEXT_VALUE: u32 = 158;
-
-const THEN: u32 = 162;
-
-const DO: u32 = 163;
-
-const PASS: u32 = 164;
-
-const OTHERWISE: u32 = 165;
-
-const CLOSE: u32 = 166;
+// Of steps: all but a procedure call, which goes on by the word that closes it, and a list's end.
+fn step_by_link(op: u32) -> bool
+    ensures { λ r. ⌜ r ≡ stepByLink op ⌝ }
+{
+    if op == ops::PROCEDURE_CALL {
+        return false;
+    }
+    if op == ops::END {
+        return false;
+    }
+    op != ops::FUNCTION_END
+}
 
 fn goes_by_link(op: u32) -> bool
     ensures { λ r. ⌜ r ≡ goesByLink op ⌝ }
 {
-    if op < TARGET {
+    if op < ops::TARGET {
         return false;
     }
-    if op < END {
-        return op != PROCEDURE_CALL;
+    if op < ops::ELSE_IF {
+        return step_by_link(op);
     }
     match op {
-        ELSE_IF => true,
-        THEN => true,
-        PASS => true,
-        OTHERWISE => true,
-        CLOSE => true,
+        ops::ELSE_IF => true,
+        ops::THEN => true,
+        ops::PASS => true,
+        ops::OTHERWISE => true,
+        ops::CLOSE => true,
         _ => false,
     }
 }
@@ -52,22 +43,22 @@ fn goes_by_link(op: u32) -> bool
 fn goes_by_value(op: u32) -> bool
     ensures { λ r. ⌜ r ≡ goesByValue op ⌝ }
 {
-    if op == THEN {
+    if op == ops::THEN {
         return true;
     }
-    op == DO
+    op == ops::DO
 }
 
 fn goes_by_place(op: u32) -> bool
     ensures { λ r. ⌜ r ≡ goesByPlace op ⌝ }
 {
-    if op == CASE {
+    if op == ops::CASE {
         return true;
     }
-    if op == NEXT_VALUE {
+    if op == ops::NEXT_VALUE {
         return true;
     }
-    op == OTHERWISE
+    op == ops::OTHERWISE
 }
 
 // Where a list goes on that ends at word z, or z itself where it is a step. What leads out of the words stays.
@@ -78,11 +69,11 @@ fn beyond(code: &[u8], words: usize, z: usize) -> usize
     if words <= z + 1 {
         return z;
     }
-    let op = sort(code, z);
-    if op < ELSE_IF {
+    let here = sort(code, z);
+    if here < ops::ELSE_IF {
         return z;
     }
-    if op == CASE {
+    if here == ops::CASE {
         return reading::link(code, z + 1);
     }
     reading::link(code, z)
@@ -119,10 +110,10 @@ fn led_link(code: &[u8], words: usize, op: u32, l: usize) -> usize
     if words <= l {
         return l;
     }
-    if op != THEN {
+    if op != ops::THEN {
         return beyond(code, words, l);
     }
-    if sort(code, l) == ELSE_IF {
+    if sort(code, l) == ops::ELSE_IF {
         return l;
     }
     beyond(code, words, l)
@@ -133,13 +124,13 @@ fn resolve_word(code: &mut [u8], words: usize, i: usize)
     ensures { λ _. ⌜ Turned (now (code .entry)) (now (code .exit)) words i ⌝ }
 {
     let op = sort(code, i);
-    if op < TARGET {
+    if op < ops::TARGET {
         return;
     }
     let v = led_value(code, words, op, reading::value(code, i));
     let p = led_place(code, words, op, reading::place(code, i));
     let l = led_link(code, words, op, reading::link(code, i));
-    store::rewrite(code, i, op + store::VALUE * (v as u32), p, l);
+    store::rewrite(code, i, op + parts::VALUE * (v as u32), p, l);
 }
 
 // Makes the links of a text's words lead to steps.

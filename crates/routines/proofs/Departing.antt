@@ -15,7 +15,7 @@ use Rattle.paper.specs.Checks.{isSome, routineFaults}
 use Rattle.paper.specs.Steps.{forsOf}
 use Rattle.cells.specs.Words.{wordsOf}
 use Rattle.code.specs.Cells.{opIn, valueIn, placeIn, linkIn, headAt, tailAt, opAt, placeAt, linkAt}
-use Rattle.code.specs.Steps.{Head, aDatum, theParameters, numbered}
+use Rattle.code.specs.Steps.{Head, aDatum, theParameters, numbered, aTarget}
 use Rattle.names.specs.Meanings.{Means}
 use Rattle.names.specs.Promises.{storeBytes}
 use Rattle.evaluation.specs.Answers.{callWords}
@@ -34,9 +34,9 @@ use Rattle.sites.specs.Walks.{outerOf, nameOf, nameWords}
 use Rattle.declarations.specs.Answers.{firstOf, DeclaresRoutine}
 use Rattle.leaving.specs.Answers.{MeansBut, Leaving, Leaves}
 use Rattle.parameters.specs.Answers.{DeclaresParameters}
-use Rattle.statements.specs.declared.Walked as statements
+use Rattle.names.specs.declared.Walked as statements
 use Rattle.statements.specs.Answers.{SameValues}
-use Rattle.statements.specs.declared.Walked.the-variants as walked
+use Rattle.names.specs.declared.Walked.the-variants as walked
 use Rattle.store.specs.Chains.{Chain, Rise, startsIn}
 use Rattle.program.specs.Routines.{wordsInAll, RawLines, RawHandler, RawRoutine}
 use Rattle.program.proofs.Framing.{lines-frame}
@@ -101,7 +101,7 @@ module _ (text code values : List ℕ) (result h name : ℕ) (g : ScopeStands te
   scope-lists = lists-stand text code values result h name g code₁ values₁ close count x₁ long₁ code₂ values₂ at taken x₂ long₂
 
   -- the words before the parameters have their sorts still
-  low-op : (i : ℕ) → h ≤ i → i ≤ name + 1 → opAt (wordsOf code₂) i < 128
+  low-op : (i : ℕ) → h ≤ i → i ≤ name + 1 → opAt (wordsOf code₂) i < aTarget
   low-op i a c =
       let o′ = o in
       let q : opAt (wordsOf code₂) i ≡ sortIn W i = ap opIn (low (i * 2) (omega arith) (omega arith) (λ z. omega arith)) ∙ g .begins .unread .loaded .words i a (omega arith) .sort in
@@ -242,8 +242,8 @@ module _ (text code values : List ℕ) (result h name : ℕ) (g : ScopeStands te
             form = form;
             parameters = refl;
             function = refl;
-            still = low-still (opAt (wordsOf code₄) h) (subst (λ (w : ℕ). opIn w < 128) (sym (head₄ h (omega arith) (λ q. omega arith))) (low-op h (omega arith) (omega arith)));
-            still-next = low-still (opAt (wordsOf code₄) (h + 1)) (subst (λ (w : ℕ). opIn w < 128) (sym (head₄ (h + 1) (omega arith) (λ q. omega arith))) (low-op (h + 1) (omega arith) (omega arith)));
+            still = low-still (opAt (wordsOf code₄) h) (subst (λ (w : ℕ). opIn w < aTarget) (sym (head₄ h (omega arith) (λ q. omega arith))) (low-op h (omega arith) (omega arith)));
+            still-next = low-still (opAt (wordsOf code₄) (h + 1)) (subst (λ (w : ℕ). opIn w < aTarget) (sym (head₄ (h + 1) (omega arith) (λ q. omega arith))) (low-op (h + 1) (omega arith) (omega arith)));
             starts = f .place-is ∙ a;
             body = lines-frame (groundOf text W m) (wordsOf code₃) (wordsOf code₄) m r (form .begin) to
                 (same-cells (wordsOf code₃) (wordsOf code₄) (form .begin) to (λ i x y. sym (lists₄ i (omega arith)))) (r .body) (length (routineData W m r .words)) (form .begin) (omega arith) (omega arith)

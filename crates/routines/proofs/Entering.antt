@@ -25,13 +25,13 @@ use Rattle.faults.proofs.Expressions.{grows}
 use Rattle.faults.proofs.Routines.{found-in-parameters, found-in-data, nothing-in-data}
 use Rattle.expressions.specs.Known.{Fresh, Loaded}
 use Rattle.heads.specs.Trees.{headsFor}
-use Rattle.sites.specs.declared.Walked.the-variants.{Faulty}
+use Rattle.names.specs.declared.Walked.the-variants.{Faulty}
 use Rattle.sites.specs.Sites.{aRoutine, filling, Filled}
 use Rattle.store.specs.Chains.{Chain, startsIn, Rise}
 use Rattle.sites.specs.Walks.{upto, nameOf, nameWords, KeepsAll}
 use Rattle.declarations.specs.Answers.{firstOf, CoversData, RoutineStands, SaysRoutine, DeclaresRoutine}
 use Rattle.parameters.specs.Answers.{OtherWords, ParametersStand, SaysParameters, DeclaresParameters}
-use Rattle.simple.specs.Around.{Unread, Apart}
+use Rattle.around.specs.Around.{Unread, Apart}
 use Rattle.program.proofs.Orders.{lies}
 use Rattle.routines.specs.declared.Walked as mine
 use Rattle.routines.specs.declared.Walked.the-variants as answers

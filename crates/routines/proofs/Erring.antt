@@ -30,11 +30,12 @@ use Rattle.faults.specs.First.{First}
 use Rattle.faults.specs.Parts.{memoryOf, inHandler}
 use Rattle.store.specs.Promises.{Linked}
 use Rattle.links.specs.Raw.{Ground, RawList, endOf}
-use Rattle.simple.specs.declared.Setting as simple-setting
-use Rattle.simple.specs.Around.{offsetIn, resultIf, Tells}
-use Rattle.statements.specs.declared.Walked.{Walked}
-use Rattle.statements.specs.declared.Walked.the-variants.{Upto, Faulty}
-use Rattle.statements.specs.Answers.{upto, Outside, Lists, Listed, Tell, Answer}
+use Rattle.around.specs.declared.Setting as simple-setting
+use Rattle.around.specs.Around.{offsetIn, Tells}
+use Rattle.names.specs.declared.Walked.{Walked}
+use Rattle.names.specs.declared.Walked.the-variants.{Upto, Faulty}
+use Rattle.statements.specs.Answers.{upto, Lists, Listed, Tell, Answer}
+use Rattle.compounds.specs.Here.{Outside}
 use Rattle.program.specs.Routines.{wordsOfData, wordsInAll, groundFor, RawLines}
 use Rattle.program.proofs.Orders.{lies}
 use Rattle.routines.specs.Answers.{groundOf}

@@ -26,16 +26,20 @@ use Rattle.store.specs.Promises.{Kept, Linked}
 use Rattle.store.proofs.Keeping.{cell-below, cell-above}
 use Rattle.links.specs.Raw.{Ground, RawList, endOf}
 use Rattle.links.proofs.Framing.{same-cells, list-frame}
-use Rattle.simple.specs.declared.Setting.{Setting}
-use Rattle.simple.specs.Around.{Apart, resultIf, Tells}
-use Rattle.simple.specs.Around as simple
-use Rattle.statements.specs.declared.Walked.{Walked}
-use Rattle.statements.specs.Answers.{Outside, Lists, Listed, Answer}
+use Rattle.around.specs.declared.Setting.{Setting}
+use Rattle.around.specs.Around.{Apart, ResultIs, Tells}
+use Rattle.around.specs.Around as simple
+use Rattle.names.specs.declared.Walked.{Walked}
+use Rattle.compounds.specs.Here.{Outside}
+use Rattle.statements.specs.Answers.{Lists, Listed, Answer}
 use Rattle.program.specs.Routines.{wordsInAll, groundFor, RawLines}
 use Rattle.program.proofs.Orders.{lies}
 use Rattle.routines.specs.Answers.{groundOf}
 use Rattle.routines.specs.Parts.{Inside, Onward, groundIn, dataWords}
 use Rattle.routines.proofs.Surrounding.{around, here, ground-is}
+use Rattle.layout.specs.Types.{typeIn}
+use borrow.Author.Tests.{eqb-true, eqb-false}
+use Rattle.laws.proofs.Tests.{false-true}
 
 -- ---- cells outside
 pub outside-kept : (before after : List ℕ) (a b : ℕ) → Kept before after a b → Outside (wordsOf before) (wordsOf after) a b
@@ -48,19 +52,25 @@ pub outside-wider : {C D : List ℕ} {a b : ℕ} (p q : ℕ) → p ≤ a → b �
 outside-wider p q h i s = record { below = λ k z. s .below k (omega arith); above = λ k z. s .above k (omega arith) }
 
 -- ---- the result
--- 0 is a PROC's
-kind-if : (result : ℕ) → isSome (resultIf result) ≡ not (eqb result 0)
-unfolding resultIf isSome
-kind-if result = test (eqb result 0) (λ t. rw t) (λ t. rw t)
-
 kind-asked : (W : List Word) (k : ℕ) (o : Option ℕ) → isSome (resultAsked W k o) ≡ isSome o
 unfolding isSome resultAsked
 kind-asked W k none = refl
 kind-asked W k (some t) = refl
 
--- the flag that the code computes
-pub function-flag : (result : ℕ) (o : Option ℕ) (W : List Word) (k : ℕ) → resultAsked W k o ≡ resultIf result → not (eqb result 0) ≡ isSome o
-function-flag result o W k e = sym (kind-if result) ∙ sym (ap isSome e) ∙ kind-asked W k o
+not-some : {A : Type 0} (o : Option A) → isSome o ≡ false → o ≡ none
+unfolding isSome
+not-some none e = refl
+not-some (some x) e = false-true (sym e)
+
+-- the flag that the code computes: noType is a PROC's
+pub function-flag : (result : ℕ) (o : Option ℕ) (W : List Word) (k : ℕ) → ResultIs (resultAsked W k o) result → not (eqb result 0) ≡ isSome o
+unfolding isSome typeIn
+function-flag result o W k e =
+    test (eqb result 0)
+    (λ z. ap not z ∙ sym (ap isSome (e .is ∙ ap typeIn (eqb-true result 0 z))) ∙ kind-asked W k o)
+    (λ z. test (isSome o)
+    (λ y. ap not z ∙ sym y)
+    (λ y. absurd (eqb-false result 0 z (e .plain (not-some (resultAsked W k o) (kind-asked W k o ∙ y))))))
 
 module _ {text values : List ℕ} {k h : ℕ} (s : Inside text values k h) where
   abbrev W : List Word

@@ -15,14 +15,16 @@ use Rattle.store.specs.Promises.{tailWith, Rewritten, Linked}
 use Rattle.store.proofs.Rewriting.{rewritten-head, rewritten-tail, rewritten-other}
 use Rattle.links.specs.Raw.{endOf}
 use Rattle.routines.specs.Parts.{namesRoutine, resultIn, nameWith, leadsTo, Finishes}
+use Rattle.code.specs.Steps.{anEnd, aFunctionEnd, theParameters}
+use Rattle.layout.specs.Kinds as kinds
 
 -- ---- the head
 module _ (m h : ℕ) where
-  pub other-kind : (m % 256 / 4 ≡ 5 → ⊥) → false ≡ namesRoutine m h
+  pub other-kind : (m % 256 / 4 ≡ kinds.aRoutine → ⊥) → false ≡ namesRoutine m h
   unfolding namesRoutine
   other-kind d = rw (ne-eqb (m % 256 / 4) 5 d)
 
-  pub of-kind : m % 256 / 4 ≡ 5 → eqb (m / 256) h ≡ namesRoutine m h
+  pub of-kind : m % 256 / 4 ≡ kinds.aRoutine → eqb (m / 256) h ≡ namesRoutine m h
   unfolding namesRoutine
   of-kind e = rw (eq-eqb (m % 256 / 4) 5 e)
 
@@ -62,7 +64,7 @@ module _ (C : List ℕ) (e : ℕ) {s : ℕ} (o : s ≡ opAt C e) where
 
 -- ---- words
 pub finished : (before mid after : List ℕ) (h opens at fors : ℕ) → h < opens → opens * 8 + 8 ≤ length before → at < 65536 → fors < 65536
-    → Put before mid (h * 2 + 1) (tailWith at (linkAt (wordsOf before) h)) → Rewritten mid after opens 161 (tailWith fors 0) → Finishes before after h opens at fors
+    → Put before mid (h * 2 + 1) (tailWith at (linkAt (wordsOf before) h)) → Rewritten mid after opens theParameters (tailWith fors 0) → Finishes before after h opens at fors
 finished before mid after h opens at fors o room near few p q =
     let first : (h * 2 + 1) * 4 + 4 ≤ length before = omega arith in
     let second : opens * 8 + 8 ≤ length mid = omega (arith, put-length p first) in
@@ -82,10 +84,10 @@ finished before mid after h opens at fors o room near few p q =
     high x = omega arith
 
 module _ (before after : List ℕ) (e : ℕ) where
-  pub a-function-end : {f : Bool} → f ≡ true → Linked before after e 154 0 (linkAt (wordsOf before) e) → Linked before after e (endOf f) 0 (linkAt (wordsOf before) e)
+  pub a-function-end : {f : Bool} → f ≡ true → Linked before after e aFunctionEnd 0 (linkAt (wordsOf before) e) → Linked before after e (endOf f) 0 (linkAt (wordsOf before) e)
   unfolding endOf
   a-function-end t l = rw t l
 
-  pub a-plain-end : {f : Bool} → f ≡ false → Linked before after e 153 0 (linkAt (wordsOf before) e) → Linked before after e (endOf f) 0 (linkAt (wordsOf before) e)
+  pub a-plain-end : {f : Bool} → f ≡ false → Linked before after e anEnd 0 (linkAt (wordsOf before) e) → Linked before after e (endOf f) 0 (linkAt (wordsOf before) e)
   unfolding endOf
   a-plain-end t l = rw t l

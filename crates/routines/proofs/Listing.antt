@@ -32,11 +32,12 @@ use Rattle.links.specs.Raw.{Ground, SameWords, RawList, endOf}
 use Rattle.links.proofs.Framing.{same-cells, list-frame}
 use Rattle.heads.specs.Trees.{headsFor}
 use Rattle.sites.specs.Sites.{aRoutine, filling}
-use Rattle.simple.specs.Around.{offsetIn, resultIf, Tells}
-use Rattle.statements.specs.declared.Walked.{Walked}
-use Rattle.statements.specs.declared.Walked.the-variants.{Faulty}
+use Rattle.around.specs.Around.{offsetIn, Tells}
+use Rattle.names.specs.declared.Walked.{Walked}
+use Rattle.names.specs.declared.Walked.the-variants.{Faulty}
 use Rattle.routines.proofs.Filling.{filled-same}
-use Rattle.statements.specs.Answers.{upto, SameValues, Outside, Lists, Listed, Tell, Answer}
+use Rattle.statements.specs.Answers.{upto, SameValues, Lists, Listed, Tell, Answer}
+use Rattle.compounds.specs.Here.{Outside}
 use Rattle.program.specs.Routines as program
 use Rattle.program.specs.Routines.{wordsOfData, wordsInAll, groundFor, RawLines, RawHandler}
 use Rattle.program.proofs.Orders.{lies}

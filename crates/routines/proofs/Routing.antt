@@ -25,17 +25,21 @@ use Rattle.names.specs.Promises.{storeBytes, Meant, numberAt}
 use Rattle.grammar.specs.Form.{Parses, HeadAt, a-proc, a-func, RoutineAt}
 use Rattle.faults.specs.Left.{headFaults, ownFaults}
 use Rattle.faults.proofs.Routines.{head-taken, head-crosses, head-fits, found-in-head, found-behind}
-use Rattle.expressions.specs.Answers.{typeIf}
 use Rattle.heads.specs.Trees.{wordOf, headFor, headsFor, earlierOf}
 use Rattle.heads.proofs.Numbering.{drop-less, heads-length, head-at, word-at, numbered-back}
 use Rattle.sites.specs.Sites.{filling}
-use Rattle.simple.specs.Around.{resultIf}
+use Rattle.around.specs.Around.{ResultIs}
 use Rattle.program.proofs.Orders.{lies}
 use Rattle.routines.specs.declared.Walked.{Walked}
 use Rattle.routines.specs.declared.Walked.the-variants.{Upto, Faulty}
 use Rattle.routines.specs.Answers.{Begins, Goes, Walks, Says, Checks}
 use Rattle.routines.specs.Parts.{namesRoutine, resultIn, nameWith, ScopeStands, SaysScope, Scoped}
 use Rattle.routines.proofs.Naming.{kind-routine, only-routine, name-means, name-other}
+use Rattle.layout.specs.Rules.{takenName, tooMany}
+use Rattle.layout.specs.Kinds as kinds
+use Rattle.layout.specs.Types.{typeIn}
+use Rattle.layout.proofs.Typing.{num-in, bool-in}
+use Rattle.laws.proofs.Tests.{apart}
 
 -- ---- the head
 type-bool : (s : ℕ) → s ≡ 90 → typeOf s ≡ aBool
@@ -60,11 +64,11 @@ unfolding resultIn
 read-num C h d e = rw (ne-eqb (opAt C h) 69 d) (rw (ne-eqb (opAt C (h + 1)) 90 e))
 
 -- a cell that names the routine
-names-so : (cell h : ℕ) → opIn cell / 4 ≡ 5 → valueIn cell ≡ h → namesRoutine cell h ≡ true
+names-so : (cell h : ℕ) → opIn cell / 4 ≡ kinds.aRoutine → valueIn cell ≡ h → namesRoutine cell h ≡ true
 unfolding namesRoutine
 names-so cell h a b = rw (eq-eqb (opIn cell / 4) 5 a) (eq-eqb (valueIn cell) h b)
 
-names-kind : (cell h : ℕ) → namesRoutine cell h ≡ true → opIn cell / 4 ≡ 5
+names-kind : (cell h : ℕ) → namesRoutine cell h ≡ true → opIn cell / 4 ≡ kinds.aRoutine
 unfolding namesRoutine
 names-kind cell h q = by-same (opIn cell / 4) 5 (λ e. e) (λ d. false-true (rw (ne-eqb (opIn cell / 4) 5 d) at q))
 
@@ -82,19 +86,23 @@ asked W k t f = rw f
 
 pub record HeadRead (W : List Word) (k : ℕ) (o : Option ℕ) (h name result : ℕ) : Type 0 where
   pub name-is : nameWith result h ≡ name
-  pub result-is : crosses routineLimit k 1 ≡ false → resultAsked W k o ≡ resultIf result
+  pub result-is : crosses routineLimit k 1 ≡ false → ResultIs (resultAsked W k o) result
+
+-- a type that a number says
+typed : {o : Option DataType} {result : ℕ} {t : DataType} → {w : typeIn result ≡ some t} → o ≡ some t → ResultIs o result
+typed {w = w} e = record { is = e ∙ sym w; plain = λ n. apart (cc) }
 
 pub head-read : (W : List Word) (k : ℕ) (C : List ℕ) {o : Option ℕ} {closing h name : ℕ} → HeadAt (sortIn W) (Parses (sortIn W)) o closing h name → opAt C h ≡ sortIn W h → opAt C (h + 1) ≡ sortIn W (h + 1)
     → HeadRead W k o h name (resultIn C h)
-unfolding nameWith resultIf resultAsked typeIf
+unfolding nameWith typeIn resultAsked
 head-read W k C {h = h} {name = name} (a-proc p n c) e f =
-    subst (HeadRead W k none h name) (sym (read-proc C h (e ∙ p))) (record { name-is = sym n; result-is = λ q. refl })
+    subst (HeadRead W k none h name) (sym (read-proc C h (e ∙ p))) (record { name-is = sym n; result-is = λ q. record { is = refl; plain = λ _. refl } })
 head-read W k C {h = h} {name = name} (a-func {t = t} p u ty n c) e f =
     by-same (opAt C (h + 1)) 90
     (λ q. subst (HeadRead W k (some t) h name) (sym (read-bool C h (λ z. omega (arith, e ∙ p)) q))
-    (record { name-is = sym n; result-is = λ z. asked W k t z ∙ ap some (ap typeOf u ∙ type-bool (sortIn W (h + 1)) (sym f ∙ q)) }))
+    (record { name-is = sym n; result-is = λ z. typed {w = bool-in} (asked W k t z ∙ ap some (ap typeOf u ∙ type-bool (sortIn W (h + 1)) (sym f ∙ q))) }))
     (λ q. subst (HeadRead W k (some t) h name) (sym (read-num C h (λ z. omega (arith, e ∙ p)) q))
-    (record { name-is = sym n; result-is = λ z. asked W k t z ∙ ap some (ap typeOf u ∙ type-num (sortIn W (h + 1)) ty (λ y. q (f ∙ y))) }))
+    (record { name-is = sym n; result-is = λ z. typed {w = num-in} (asked W k t z ∙ ap some (ap typeOf u ∙ type-num (sortIn W (h + 1)) ty (λ y. q (f ∙ y)))) }))
 
 -- ---- rule 16
 pub crosses-here : (k : ℕ) → k ≡ 64 → crosses routineLimit k 1 ≡ true
@@ -164,19 +172,19 @@ module _ (text code values : List ℕ) (k h : ℕ) where
           ∙ numbered-back R k (valueIn cell) inside (p .1) in
           false-true (sym q ∙ names-so cell h (p .0) (sym v)))
 
-      pub routine-taken : namesRoutine cell h ≡ false → Checks text code values code values k h (Faulty 10 name)
+      pub routine-taken : namesRoutine cell h ≡ false → Checks text code values code values k h (Faulty takenName name)
       unfolding Says
       routine-taken q = record {
         is = λ b.
-            subst (λ (i : ℕ). Says b code values (Faulty 10 i)) (sym (name-so b))
+            subst (λ (i : ℕ). Says b code values (Faulty takenName i)) (sym (name-so b))
             (found-in-head (b .stands .W) (b .stands .m) (b .stands .earlier) k (b .stands .form) (head-taken (b .stands .W) (b .stands .earlier) k (b .stands .r) (taken b q)));
       }
 
-      pub routine-many : namesRoutine cell h ≡ true → k ≡ 64 → Checks text code values code values k h (Faulty 16 name)
+      pub routine-many : namesRoutine cell h ≡ true → k ≡ 64 → Checks text code values code values k h (Faulty tooMany name)
       unfolding Says
       routine-many q e = record {
         is = λ b.
-            subst (λ (i : ℕ). Says b code values (Faulty 16 i)) (sym (name-so b))
+            subst (λ (i : ℕ). Says b code values (Faulty tooMany i)) (sym (name-so b))
             (found-in-head (b .stands .W) (b .stands .m) (b .stands .earlier) k (b .stands .form) (head-crosses (b .stands .W) (b .stands .earlier) k (b .stands .r) (free b q) (crosses-here k e)));
       }
 

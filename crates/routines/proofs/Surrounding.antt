@@ -25,10 +25,10 @@ use Rattle.heads.specs.Trees.{headsFor}
 use Rattle.heads.proofs.Announcing.{not-found}
 use Rattle.heads.proofs.Scoping.{look-found}
 use Rattle.sites.specs.Sites.{filling, ownOf, owned}
-use Rattle.simple.specs.declared.Setting.{Setting}
-use Rattle.simple.specs.Around.{Around, Unread, Apart, Calls, resultIf, Tells}
-use Rattle.simple.specs.Around as simple
-use Rattle.statements.specs.Answers.{Here}
+use Rattle.around.specs.declared.Setting.{Setting}
+use Rattle.around.specs.Around.{Around, Unread, Apart, Calls, Tells}
+use Rattle.around.specs.Around as simple
+use Rattle.compounds.specs.Here.{Here}
 use Rattle.program.specs.Routines.{wordsInAll, groundFor}
 use Rattle.program.proofs.Framing.{own-ground}
 use Rattle.routines.specs.Answers.{groundOf}

@@ -22,7 +22,7 @@ use Rattle.faults.specs.Left.{headFaults, ownFaults}
 use Rattle.links.specs.Raw.{Ground}
 use Rattle.heads.specs.Trees.{headFor, headsFor, earlierOf}
 use Rattle.sites.specs.Sites.{theModule, Filled}
-use Rattle.simple.specs.Around.{Quoted, offsetIn, Unread}
+use Rattle.around.specs.Around.{Quoted, offsetIn, Unread}
 use Rattle.program.specs.Routines.{RawRoutine}
 use Rattle.routines.specs.declared.Walked.{Walked}
 use Rattle.routines.specs.declared.Walked.the-variants.{Upto, Faulty}

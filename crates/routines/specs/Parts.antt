@@ -26,10 +26,13 @@ use Rattle.faults.specs.Parts.{inHandler}
 use Rattle.links.specs.Raw.{Ground, endOf}
 use Rattle.heads.specs.Trees.{headsFor}
 use Rattle.sites.specs.Sites.{aRoutine, Filled}
-use Rattle.simple.specs.Around.{Unread, Apart, resultIf}
-use Rattle.statements.specs.declared.Walked as statements
-use Rattle.statements.specs.declared.Walked.the-variants as walked
+use Rattle.around.specs.Around.{Unread, Apart, ResultIs}
+use Rattle.names.specs.declared.Walked as statements
+use Rattle.names.specs.declared.Walked.the-variants as walked
 use Rattle.statements.specs.Answers.{SameValues, Answer}
+use Rattle.parameters.specs.Answers.{DeclaresParameters}
+use Rattle.declarations.specs.Answers.{DeclaresRoutine}
+use Rattle.sites.specs.Walks as data-walks
 use Rattle.program.specs.Routines.{wordsOfData, RawLines, RawHandler}
 use Rattle.routines.specs.declared.Walked.{Walked}
 use Rattle.routines.specs.declared.Walked.the-variants.{Upto, Faulty}
@@ -92,7 +95,7 @@ pub record ErrorsStand (text code values : List ℕ) (result used e leads : ℕ)
   pub closes : e ≡ inside .stands .r .body .closes
   pub onward : Onward inside code e
   pub leads-is : leads ≡ leadsTo (wordsOf code) e
-  pub result-is : resultAsked (inside .stands .W) k (inside .stands .r .result) ≡ resultIf result
+  pub result-is : ResultIs (resultAsked (inside .stands .W) k (inside .stands .r .result)) result
   pub used-is : used ≡ dataWords inside + forsInList (inside .stands .r .body .statements)
   pub few : used ≤ callWords
 
@@ -119,7 +122,7 @@ pub record ListsStand (text code values : List ℕ) (result data-words h at : �
   pub inside : Inside text values k h
   pub begins : at ≡ inside .stands .form .begin
   pub onward : Onward inside code at
-  pub result-is : resultAsked (inside .stands .W) k (inside .stands .r .result) ≡ resultIf result
+  pub result-is : ResultIs (resultAsked (inside .stands .W) k (inside .stands .r .result)) result
   pub used-is : data-words ≡ dataWords inside
 
 pub record ListsDone {text code values : List ℕ} {result data-words h at : ℕ} (s : ListsStand text code values result data-words h at) (code′ values′ : List ℕ) (next used : ℕ) : Type 0 where
@@ -146,7 +149,7 @@ pub record ScopeStands (text code values : List ℕ) (result h name : ℕ) : Typ
   pub k : ℕ
   pub begins : Begins text code values k h
   pub name-is : name ≡ begins .stands .r .name
-  pub result-is : resultAsked (begins .stands .W) k (begins .stands .r .result) ≡ resultIf result
+  pub result-is : ResultIs (resultAsked (begins .stands .W) k (begins .stands .r .result)) result
   pub fits : crosses routineLimit k 1 ≡ false
 
 unfoldable pub SaysScope : {text code values : List ℕ} {result h name : ℕ} (s : ScopeStands text code values result h name) (code′ values′ : List ℕ) → Walked → Type 0
@@ -157,3 +160,27 @@ SaysScope s code′ values′ (Faulty number word) =
 
 pub record Scoped (text code values code′ values′ : List ℕ) (result h name : ℕ) (r : Walked) : Type 0 where
   pub is : (s : ScopeStands text code values result h name) → SaysScope s code′ values′ r
+
+-- ---- the same from a word behind the name on
+-- Its parameters are declared, `count` of them, up to the parenthesis at `close`.
+pub record ParametersDeclared (text code values : List ℕ) (result count h name close : ℕ) : Type 0 where
+  pub code₀ : List ℕ
+  pub values₀ : List ℕ
+  pub stands : ScopeStands text code₀ values₀ result h name
+  pub declares : DeclaresParameters code₀ values₀ code values (name + 2) (data-walks.upto close count)
+  pub long : length code ≡ length code₀
+
+pub record ParametersPassed (text code values code′ values′ : List ℕ) (result count h name close : ℕ) (r : Walked) : Type 0 where
+  pub is : (s : ParametersDeclared text code values result count h name close) → SaysScope (s .stands) code′ values′ r
+
+-- Its data are declared too, with `taken` words in all, up to the word `at`.
+pub record DataStand (text code values : List ℕ) (result count taken h name at : ℕ) : Type 0 where
+  pub close : ℕ
+  pub code₁ : List ℕ
+  pub values₁ : List ℕ
+  pub own : ParametersDeclared text code₁ values₁ result count h name close
+  pub declares : DeclaresRoutine code₁ values₁ code values (name + 1) h count (close + 1) (data-walks.upto at taken)
+  pub long : length code ≡ length code₁
+
+pub record DataPassed (text code values code′ values′ : List ℕ) (result count taken h name at : ℕ) (r : Walked) : Type 0 where
+  pub is : (s : DataStand text code values result count taken h name at) → SaysScope (s .own .stands) code′ values′ r

@@ -1,7 +1,14 @@
 // The check of a routine: its name, parameters, data, list and ERROR list. What a run has to know of it is written over its words in the code store; when its scope is left the table
 // of meanings says again what names mean in the module.
+use around::Setting;
+use layout::kinds;
+use layout::limits;
+use layout::ops;
+use layout::parts;
+use layout::rules;
+use layout::types;
+use layout::types::Type;
 use names::Scope;
-use simple::Setting;
 use store::set_head;
 use store::set_link;
 use store::sort;
@@ -13,7 +20,7 @@ ghost use Rattle.code.specs.Cells.{linkAt};
 ghost use Rattle.links.specs.Raw.{endOf};
 ghost use Rattle.store.specs.Promises.{Linked};
 ghost use Rattle.routines.specs.Answers.{Begins, Checks};
-ghost use Rattle.routines.specs.Parts.{namesRoutine, resultIn, nameWith, Finishes, leadsTo, ErrorsStand, Errors, ListsStand, Lists, ScopeStands, Scoped};
+ghost use Rattle.routines.specs.Parts.{namesRoutine, resultIn, nameWith, Finishes, leadsTo, ErrorsStand, Errors, ListsStand, Lists, ScopeStands, Scoped, ParametersDeclared, ParametersPassed, DataStand, DataPassed};
 
 pub enum Walked {
     // the word after it
@@ -22,23 +29,8 @@ pub enum Walked {
     Faulty(u32, usize),
 }
 
-// "10: name declared twice or protected", "16: over 64 routines"
-const TAKEN: u32 = 10;
-
-const TOO_MANY: u32 = 16;
-
-const MOST: u32 = 64;
-
-// ---- ops, as the specs of code have them
-
-const END: u32 = 153;
-
-const FUNCTION_END: u32 = 154;
-
-const PARAMETERS: u32 = 161;
-
-// the kind of a meaning, as the specs of names have it
-const ROUTINE: u32 = 5;
+// the number that the first routine too many has
+const ROUTINES: u32 = limits::ROUTINES as u32;
 
 // ---- the head
 
@@ -46,31 +38,31 @@ const ROUTINE: u32 = 5;
 fn names_routine(m: u32, h: usize) -> bool
     ensures { λ r. ⌜ r ≡ namesRoutine m h ⌝ }
 {
-    if m % 256 / 4 != ROUTINE {
+    if m % parts::VALUE / parts::KIND != kinds::ROUTINE {
         return false;
     }
-    (m / 256) as usize == h
+    (m / parts::VALUE) as usize == h
 }
 
-// 0 for a PROC, 1 for a FUNC of num, 2 for one of bool.
-fn result_of(code: &[u8], h: usize) -> u32
+// The type of what it gives back.
+fn result_of(code: &[u8], h: usize) -> Type
     requires { ⌜ h * 8 + 16 ≤ length (now code) ⌝ }
     ensures { λ r. ⌜ r ≡ resultIn (wordsOf (now (code .entry))) h ⌝ }
 {
     if sort(code, h) == sorts::PROC {
-        return 0;
+        return types::NONE;
     }
     if sort(code, h + 1) == sorts::BOOL {
-        return 2;
+        return types::BOOL;
     }
-    1
+    types::NUM
 }
 
-fn name_of(result: u32, h: usize) -> usize
+fn name_of(result: Type, h: usize) -> usize
     requires { ⌜ h < 8192 ⌝ }
     ensures { λ r. ⌜ r ≡ nameWith result h ⌝ }
 {
-    if result == 0 {
+    if result == types::NONE {
         return h + 1;
     }
     h + 2
@@ -84,7 +76,7 @@ fn finish(code: &mut [u8], h: usize, opens: usize, at: usize, fors: u32)
     ensures { λ _. ⌜ Finishes (now (code .entry)) (now (code .exit)) h opens at fors ⌝ }
 {
     store::set_place(code, h, at);
-    store::rewrite(code, opens, PARAMETERS, fors as usize, 0);
+    store::rewrite(code, opens, ops::PARAMETERS, fors as usize, 0);
 }
 
 // The word e is a list's end.
@@ -93,9 +85,9 @@ fn end_list(code: &mut [u8], function: bool, e: usize)
     ensures { λ _. ⌜ Linked (now (code .entry)) (now (code .exit)) e (endOf function) 0 (linkAt (wordsOf (now (code .entry))) e) ⌝ }
 {
     if function {
-        set_head(code, e, FUNCTION_END, 0);
+        set_head(code, e, ops::FUNCTION_END, 0);
     } else {
-        set_head(code, e, END, 0);
+        set_head(code, e, ops::END, 0);
     }
 }
 
@@ -117,28 +109,28 @@ fn errors(
     text: &[u8],
     code: &mut [u8],
     values: &mut [u8],
-    result: u32,
+    result: Type,
     scope: Scope,
     e: usize,
     leads: usize,
-) -> statements::Walked
+) -> names::Walked
     requires { ⌜ ErrorsStand (now text) (now code) (now values) result (scope .used) e leads ⌝ }
     ensures { λ r. ⌜ Errors (now (text .entry)) (now (code .entry)) (now (values .entry)) (now (code .exit)) (now (values .exit)) result (scope .used) e leads r ⌝ }
 {
-    end_list(code, result != 0, e);
+    end_list(code, result != types::NONE, e);
     if leads == 0 {
-        return statements::Walked::Upto(e + 1, scope);
+        return names::Walked::Upto(e + 1, scope);
     }
     let setting = Setting {
         result: result,
         handler: true,
     };
     let r = statements::list(text, code, values, setting, scope, leads);
-    let statements::Walked::Upto(z, n) = r else {
+    let names::Walked::Upto(z, n) = r else {
         return r;
     };
-    end_list(code, result != 0, z);
-    statements::Walked::Upto(z + 1, n)
+    end_list(code, result != types::NONE, z);
+    names::Walked::Upto(z + 1, n)
 }
 
 // Both lists of the routine that begins at h, from the word `at` on. Its second word leads to its ERROR list.
@@ -146,11 +138,11 @@ fn lists(
     text: &[u8],
     code: &mut [u8],
     values: &mut [u8],
-    result: u32,
+    result: Type,
     scope: Scope,
     h: usize,
     at: usize,
-) -> statements::Walked
+) -> names::Walked
     requires { ⌜ ListsStand (now text) (now code) (now values) result (scope .used) h at ⌝ }
     ensures { λ r. ⌜ Lists (now (text .entry)) (now (code .entry)) (now (values .entry)) (now (code .exit)) (now (values .exit)) result (scope .used) h at r ⌝ }
 {
@@ -159,26 +151,75 @@ fn lists(
         handler: false,
     };
     let r = statements::list(text, code, values, setting, scope, at);
-    let statements::Walked::Upto(e, n) = r else {
+    let names::Walked::Upto(e, n) = r else {
         return r;
     };
     let leads = leads_to(code, e);
     let r = errors(text, code, values, result, n, e, leads);
-    let statements::Walked::Upto(z, used) = r else {
+    let names::Walked::Upto(z, used) = r else {
         return r;
     };
     set_link(code, h + 1, leads);
-    statements::Walked::Upto(z, used)
+    names::Walked::Upto(z, used)
 }
 
 // ---- a routine
+
+// Behind its data: both lists, from the word `at` on. Then its scope is left, with the words of its parameters.
+fn behind_data(
+    text: &[u8],
+    code: &mut [u8],
+    values: &mut [u8],
+    result: Type,
+    parameters: u32,
+    taken: Scope,
+    h: usize,
+    name: usize,
+    at: usize,
+) -> Walked
+    requires { ⌜ DataStand (now text) (now code) (now values) result parameters (taken .used) h name at ⌝ }
+    ensures { λ r. ⌜ DataPassed (now (text .entry)) (now (code .entry)) (now (values .entry)) (now (code .exit)) (now (values .exit)) result parameters (taken .used) h name at r ⌝ }
+{
+    let l = lists(text, code, values, result, taken, h, at);
+    match l {
+        names::Walked::Faulty(number, word) => Walked::Faulty(number, word),
+        names::Walked::Upto(next, all) => {
+            finish(code, h, name + 1, at, all.used - taken.used);
+            leaving::leave_routine(all, code, values, name + 2, parameters, h);
+            Walked::Upto(next)
+        }
+    }
+}
+
+// Behind its parameters, which end at the parenthesis `close`.
+fn behind_parameters(
+    text: &[u8],
+    code: &mut [u8],
+    values: &mut [u8],
+    result: Type,
+    own: Scope,
+    h: usize,
+    name: usize,
+    close: usize,
+) -> Walked
+    requires { ⌜ ParametersDeclared (now text) (now code) (now values) result (own .used) h name close ⌝ }
+    ensures { λ r. ⌜ ParametersPassed (now (text .entry)) (now (code .entry)) (now (values .entry)) (now (code .exit)) (now (values .exit)) result (own .used) h name close r ⌝ }
+{
+    let d = declarations::routine_data(own, code, values, name + 1, h, close + 1);
+    match d {
+        names::Walked::Faulty(number, word) => Walked::Faulty(number, word),
+        names::Walked::Upto(at, data) => {
+            behind_data(text, code, values, result, own.used, data, h, name, at)
+        }
+    }
+}
 
 // All that stands behind its name.
 fn scope(
     text: &[u8],
     code: &mut [u8],
     values: &mut [u8],
-    result: u32,
+    result: Type,
     h: usize,
     name: usize,
 ) -> Walked
@@ -187,23 +228,9 @@ fn scope(
 {
     let p = parameters::parameters(code, values, name + 2);
     match p {
-        sites::Walked::Faulty(number, word) => Walked::Faulty(number, word),
-        sites::Walked::Upto(close, own) => {
-            let d = declarations::routine_data(own, code, values, name + 1, h, close + 1);
-            match d {
-                sites::Walked::Faulty(number, word) => Walked::Faulty(number, word),
-                sites::Walked::Upto(at, data) => {
-                    let l = lists(text, code, values, result, data, h, at);
-                    match l {
-                        statements::Walked::Faulty(number, word) => Walked::Faulty(number, word),
-                        statements::Walked::Upto(next, all) => {
-                            finish(code, h, name + 1, at, all.used - data.used);
-                            leaving::leave_routine(all, code, values, name + 2, own.used, h);
-                            Walked::Upto(next)
-                        }
-                    }
-                }
-            }
+        names::Walked::Faulty(number, word) => Walked::Faulty(number, word),
+        names::Walked::Upto(close, own) => {
+            behind_parameters(text, code, values, result, own, h, name, close)
         }
     }
 }
@@ -217,10 +244,10 @@ pub fn routine(text: &[u8], code: &mut [u8], values: &mut [u8], k: u32, h: usize
     let name = name_of(result, h);
     let m = names::meaning(code, values, name);
     if !names_routine(m, h) {
-        return Walked::Faulty(TAKEN, name);
+        return Walked::Faulty(rules::TAKEN_NAME, name);
     }
-    if k == MOST {
-        return Walked::Faulty(TOO_MANY, name);
+    if k == ROUTINES {
+        return Walked::Faulty(rules::TOO_MANY, name);
     }
     scope(text, code, values, result, h, name)
 }

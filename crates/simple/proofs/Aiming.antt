@@ -30,22 +30,27 @@ use Rattle.expressions.specs.declared.Judged.{Judged}
 use Rattle.expressions.specs.declared.Judged.the-variants.{Typed, Faulty}
 use Rattle.expressions.specs.Known.{Loaded, InRoom, Within}
 use Rattle.store.specs.Promises.{Kept, Linked}
-use Rattle.expressions.specs.Answers.{typeIf, OfType}
+use Rattle.expressions.specs.Answers.{OfType}
 use Rattle.expressions.specs.Answers as answers
 use Rattle.store.proofs.Keeping.{head-below, head-above, kept-wider, kept-on, term-above}
 use Rattle.expressions.proofs.Judging.{judged-faults, judged-term, judged-type, element-is}
-use Rattle.expressions.proofs.Leaves.{type-with}
 use Rattle.expressions.proofs.Starts.{loaded-part}
 use Rattle.faults.specs.First.{First}
 use Rattle.faults.proofs.Expressions.{grows}
 use Rattle.faults.proofs.Statements.{target-first}
 use Rattle.links.specs.Raw.{Quiet}
 use Rattle.links.proofs.Ops.{low-still}
-use Rattle.simple.specs.Answers.{Fine}
+use Rattle.around.specs.Answers.{Fine}
 use Rattle.simple.specs.Parts.{WrongName, scalar-aims, element-aims, Targets, Aimed, AimTells, AimAnswer, TargetJudged, Elements, ElementJudged}
 use Rattle.simple.proofs.Asking.{no-operator, level-brace, quiet-above, Told, asks, typed-told, typed-first, typed-long}
 use Rattle.simple.proofs.Arguing.{quiet-append, quiet-word}
 use Rattle.simple.proofs.Naming.{name-means}
+use Rattle.code.specs.Steps.{aTarget}
+use Rattle.layout.specs.Kinds.{aVariable, anArray}
+use Rattle.layout.specs.Types.{numType}
+use Rattle.names.specs.Promises.{TypeOf}
+use Rattle.layout.proofs.Typing.{num-in}
+use Rattle.paper.specs.Names.{aNum}
 
 -- ---- answers by their cases
 module _ (m n : ℕ) (j : types.Judged) (spot : Spot) (before after : List ℕ) (at to : ℕ) where
@@ -53,12 +58,12 @@ module _ (m n : ℕ) (j : types.Judged) (spot : Spot) (before after : List ℕ) 
   unfolding AimTells
   aim-first r number word e long f = subst (AimAnswer m n j spot before after at to) (sym e) (record { tells = f; long = long })
 
-  pub aim-fine : (b : Bool) (next : ℕ) → Fine (j .faults) before after at to next (Aimed m n (wordsOf after) j spot at to b) → AimAnswer m n j spot before after at to (Typed b next)
+  pub aim-fine : (b : ℕ) (next : ℕ) → Fine (j .faults) before after at to next (Aimed m n (wordsOf after) j spot at to b) → AimAnswer m n j spot before after at to (Typed b next)
   unfolding AimTells
   aim-fine b next f = record { tells = f; long = f .kept .long }
 
   module _ (r : Judged) (a : AimAnswer m n j spot before after at to r) where
-    pub aimed-fine : (b : Bool) (next : ℕ) → r ≡ Typed b next → Fine (j .faults) before after at to next (Aimed m n (wordsOf after) j spot at to b)
+    pub aimed-fine : (b : ℕ) (next : ℕ) → r ≡ Typed b next → Fine (j .faults) before after at to next (Aimed m n (wordsOf after) j spot at to b)
     unfolding AimTells
     aimed-fine b next e = subst (AimTells m n j spot before after at to) e (a .tells)
 
@@ -67,7 +72,7 @@ module _ (m n : ℕ) (j : types.Judged) (spot : Spot) (before after : List ℕ) 
     aimed-first number word e = subst (AimTells m n j spot before after at to) e (a .tells)
 
 -- ---- kinds of names
-no-variable : (routine : ℕ → ℕ) (kind bool own value : ℕ) → (kind ≡ 1 → ⊥) → variableIn (meaningWith routine kind bool own value) ≡ none
+no-variable : (routine : ℕ → ℕ) (kind bool own value : ℕ) → (kind ≡ aVariable → ⊥) → variableIn (meaningWith routine kind bool own value) ≡ none
 unfolding meaningWith variableIn
 no-variable routine kind bool own value d =
     let z = ne-eqb kind 1 d in
@@ -79,7 +84,7 @@ no-variable routine kind bool own value d =
     (λ g. test (eqb kind 7) (λ t. rw (z, meaningWith) (rw b (rw c (rw e (rw f (rw g (rw t)))))))
     (λ h. rw (z, meaningWith) (rw b (rw c (rw e (rw f (rw g (rw h))))))))))))
 
-no-array : (routine : ℕ → ℕ) (kind bool own value : ℕ) → (kind ≡ 2 → ⊥) → arrayIn (meaningWith routine kind bool own value) ≡ none
+no-array : (routine : ℕ → ℕ) (kind bool own value : ℕ) → (kind ≡ anArray → ⊥) → arrayIn (meaningWith routine kind bool own value) ≡ none
 unfolding meaningWith arrayIn
 no-array routine kind bool own value d =
     let z = ne-eqb kind 2 d in
@@ -152,7 +157,7 @@ module _ (code values : List ℕ) (at : ℕ) (g : Targets code values at) where
         plain-is : (g .t .index ≡ none) × (g .to ≡ at + 1)
         plain-is = index-none (sortIn (g .known .W)) (Parses (sortIn (g .known .W))) (g .is .index) (λ q. no (next-sort ∙ q))
 
-        plain-wrong : (number : ℕ) → (cell % 256 / 4 ≡ 1 → ⊥) → WrongName (cell % 256 / 4) number → First (record { number = number; at = at }) (judgeTarget (g .known .W) (g .known .S) (g .t) .faults)
+        plain-wrong : (number : ℕ) → (cell % 256 / 4 ≡ aVariable → ⊥) → WrongName (cell % 256 / 4) number → First (record { number = number; at = at }) (judgeTarget (g .known .W) (g .known .S) (g .t) .faults)
         plain-wrong number d w =
             let M = meaning (g .known .S) (spelled (g .known .W) at) in
             target-first (g .known .W) (g .known .S) (record { number = number; at = at }) [] (g .is)
@@ -160,7 +165,7 @@ module _ (code values : List ℕ) (at : ℕ) (g : Targets code values at) where
             ∙ scalar-wrong M at number (ap variableIn (sym means) ∙ no-variable (g .known .routine) (cell % 256 / 4) (cell / 2 % 2) (cell % 2) (cell / 256) d)
             (ap wrongName (sym means) ∙ w .is (g .known .routine) (cell / 2 % 2) (cell % 2) (cell / 256)))
 
-        module _ (k : cell % 256 / 4 ≡ 1) where
+        module _ (k : cell % 256 / 4 ≡ aVariable) where
           plain-means : variableIn (meaning (g .known .S) (spelled (g .known .W) at)) ≡ some (typeWith (cell / 2 % 2), refWith (cell % 2) (cell / 256))
           unfolding meaningWith variableIn
           plain-means = ap variableIn (sym means) ∙ rw k
@@ -174,16 +179,16 @@ module _ (code values : List ℕ) (at : ℕ) (g : Targets code values at) where
               judged-scalar (g .known .W) (g .known .S) (g .t) at (g .is .named) (plain-is .0)
               ∙ scalar-right (meaning (g .known .S) (spelled (g .known .W) at)) at (typeWith (cell / 2 % 2)) (refWith (cell % 2) (cell / 256)) plain-means
 
-          plain-fine : (after : List ℕ) → Linked code after at (128 + cell % 2) (cell / 256) (linkAt (wordsOf code) at)
+          plain-fine : (type : ℕ) → TypeOf cell type → (after : List ℕ) → Linked code after at (aTarget + cell % 2) (cell / 256) (linkAt (wordsOf code) at)
               → Fine (judgeTarget (g .known .W) (g .known .S) (g .t) .faults) code after at (g .to) (at + 1)
-              (Aimed (g .known .m) (g .known .n) (wordsOf after) (judgeTarget (g .known .W) (g .known .S) (g .t)) (spotOf (g .known .W) (g .known .S) (g .t)) at (g .to) (eqb (cell / 2 % 2) 1))
-          plain-fine after l =
+              (Aimed (g .known .m) (g .known .n) (wordsOf after) (judgeTarget (g .known .W) (g .known .S) (g .t)) (spotOf (g .known .W) (g .known .S) (g .t)) at (g .to) type)
+          plain-fine type ty after l =
               let term = ap (λ (x : types.Judged). x .term) plain-judged ∙ judged-term _ _ _ in
               record {
                 none = ap (λ (x : types.Judged). x .faults) plain-judged ∙ judged-faults _ _ _;
                 next-is = sym (plain-is .1);
                 written = record {
-                  type-is = ap (λ (x : types.Judged). x .type) plain-judged ∙ judged-type _ _ _ refl ∙ type-with (cell / 2 % 2) (omega arith);
+                  type-is = ty .is ∙ ap some (sym (ap (λ (x : types.Judged). x .type) plain-judged ∙ judged-type _ _ _ refl));
                   target = record {
                     k = cell % 2;
                     v = cell / 256;
@@ -207,11 +212,11 @@ module _ (code values : List ℕ) (at cell : ℕ) (ec : cell ≡ meaningAt (word
   target-element b after r j = record { is = λ g. j .is (element-stands code values at g cell ec s es b) }
 
   module _ (no : s ≡ 8 → ⊥) where
-    pub target-wrong : (number : ℕ) → (cell % 256 / 4 ≡ 1 → ⊥) → WrongName (cell % 256 / 4) number → TargetJudged code values code at (Faulty number at)
+    pub target-wrong : (number : ℕ) → (cell % 256 / 4 ≡ aVariable → ⊥) → WrongName (cell % 256 / 4) number → TargetJudged code values code at (Faulty number at)
     target-wrong number d w = record { is = λ g. aim-first _ _ _ _ code code at (g .to) (Faulty number at) number at refl refl (plain-wrong code values at g cell ec s es no number d w) }
 
-    pub target-right : cell % 256 / 4 ≡ 1 → (after : List ℕ) → Linked code after at (128 + cell % 2) (cell / 256) (linkAt (wordsOf code) at) → TargetJudged code values after at (Typed (eqb (cell / 2 % 2) 1) (at + 1))
-    target-right k after l = record { is = λ g. aim-fine _ _ _ _ code after at (g .to) (eqb (cell / 2 % 2) 1) (at + 1) (plain-fine code values at g cell ec s es no k after l) }
+    pub target-right : cell % 256 / 4 ≡ aVariable → (type : ℕ) → TypeOf cell type → (after : List ℕ) → Linked code after at (aTarget + cell % 2) (cell / 256) (linkAt (wordsOf code) at) → TargetJudged code values after at (Typed type (at + 1))
+    target-right k type ty after l = record { is = λ g. aim-fine _ _ _ _ code after at (g .to) type (at + 1) (plain-fine code values at g cell ec s es no k type ty after l) }
 
 -- ---- an element
 module _ (code values : List ℕ) (cell at : ℕ) (g : Elements code values cell at) where
@@ -237,7 +242,7 @@ module _ (code values : List ℕ) (cell at : ℕ) (g : Elements code values cell
   pub element-small : at + 2 < 8192
   element-small = omega (arith, index-on, index-load .last)
 
-  array-wrong : (number : ℕ) → (cell % 256 / 4 ≡ 2 → ⊥) → WrongName (cell % 256 / 4) number
+  array-wrong : (number : ℕ) → (cell % 256 / 4 ≡ anArray → ⊥) → WrongName (cell % 256 / 4) number
       → First (record { number = number; at = at }) (judgeTarget (g .targets .known .W) (g .targets .known .S) (g .targets .t) .faults)
   array-wrong number d w =
       let W = g .targets .known .W in
@@ -248,7 +253,7 @@ module _ (code values : List ℕ) (cell at : ℕ) (g : Elements code values cell
       ∙ element-wrong M at number (braces .e) (judge W false S (braces .e)) (ap arrayIn (sym (g .means)) ∙ no-array (g .targets .known .routine) (cell % 256 / 4) (cell / 2 % 2) (cell % 2) (cell / 256) d)
       (ap wrongName (sym (g .means)) ∙ w .is (g .targets .known .routine) (cell / 2 % 2) (cell % 2) (cell / 256)))
 
-  module _ (k : cell % 256 / 4 ≡ 2) where
+  module _ (k : cell % 256 / 4 ≡ anArray) where
     array-means : arrayIn (meaning (g .targets .known .S) (spelled (g .targets .known .W) at)) ≡ some (typeWith (cell / 2 % 2), refWith (cell % 2) (cell / 256 % 1024), cell / 256 / 1024)
     unfolding meaningWith arrayIn
     array-means = ap arrayIn (sym (g .means)) ∙ rw k
@@ -258,32 +263,32 @@ module _ (code values : List ℕ) (cell at : ℕ) (g : Elements code values cell
     array-room = rw k at (subst (Within (g .targets .known .m) (g .targets .known .n)) (sym (g .means)) (g .targets .known .within at (g .targets .is .name)))
 
     array-judged : judgeTarget (g .targets .known .W) (g .targets .known .S) (g .targets .t)
-        ≡ judged (typeWith (cell / 2 % 2)) (ofType (g .targets .known .W) (typeIf false) (g .targets .known .S) (braces .e))
+        ≡ judged (typeWith (cell / 2 % 2)) (ofType (g .targets .known .W) (aNum) (g .targets .known .S) (braces .e))
         (elementAt (refWith (cell % 2) (cell / 256 % 1024)) (cell / 256 / 1024) (termOf (g .targets .known .W) (g .targets .known .S) (braces .e)))
-    unfolding ofType termOf typeIf
+    unfolding ofType termOf
     array-judged =
         judged-element (g .targets .known .W) (g .targets .known .S) (g .targets .t) at (g .targets .is .named) (braces .e) (braces .is)
         ∙ element-is (meaning (g .targets .known .S) (spelled (g .targets .known .W) at)) at (braces .e) (judge (g .targets .known .W) false (g .targets .known .S) (braces .e))
         (typeWith (cell / 2 % 2), refWith (cell % 2) (cell / 256 % 1024), cell / 256 / 1024) array-means
 
-    module _ (mid : List ℕ) (r : Judged) (o : OfType code values mid false false (at + 2) r) where
+    module _ (mid : List ℕ) (r : Judged) (o : OfType code values mid false numType (at + 2) r) where
       index-long : length mid ≡ length code
-      index-long = typed-long (g .targets .known) (g .targets .sorts) nestings (at + 2) (braces .e) (braces .n) index-at index-load index-no mid false r o
+      index-long = typed-long (g .targets .known) (g .targets .sorts) nestings (at + 2) (braces .e) (braces .n) index-at index-load index-no mid numType aNum num-in r o
 
       index-first : (number word : ℕ) → r ≡ Faulty number word → First (record { number = number; at = word }) (judgeTarget (g .targets .known .W) (g .targets .known .S) (g .targets .t) .faults)
       index-first number word e =
           subst (First (record { number = number; at = word })) (sym (ap (λ (x : types.Judged). x .faults) array-judged ∙ judged-faults _ _ _))
-          (typed-first (g .targets .known) (g .targets .sorts) nestings (at + 2) (braces .e) (braces .n) index-at index-load index-no mid false r o number word e)
+          (typed-first (g .targets .known) (g .targets .sorts) nestings (at + 2) (braces .e) (braces .n) index-at index-load index-no mid numType aNum num-in r o number word e)
 
-      module _ (b : Bool) (end : ℕ) (e : r ≡ Typed b end) where
-        index-told : Told (g .targets .known) (ofType (g .targets .known .W) (typeIf false) (g .targets .known .S) (braces .e)) code mid (braces .e) (at + 2) (braces .n) end
-        index-told = typed-told (g .targets .known) (g .targets .sorts) nestings (at + 2) (braces .e) (braces .n) index-at index-load index-no mid false r o b end e
+      module _ (b : ℕ) (end : ℕ) (e : r ≡ Typed b end) where
+        index-told : Told (g .targets .known) (ofType (g .targets .known .W) (aNum) (g .targets .known .S) (braces .e)) code mid (braces .e) (at + 2) (braces .n) end
+        index-told = typed-told (g .targets .known) (g .targets .sorts) nestings (at + 2) (braces .e) (braces .n) index-at index-load index-no mid numType aNum num-in r o b end e
 
         pub index-end : (end < 8192) × (at * 8 + 8 ≤ length mid) × ((at + 1) * 8 + 8 ≤ length mid)
         index-end =
             (omega (arith, index-told .next-is, index-load .last), omega (arith, index-on, index-load .room, index-long), omega (arith, index-on, index-load .room, index-long))
 
-        module _ (one : List ℕ) (l : Linked mid one at (128 + 2 + cell % 2) (cell / 256) (linkAt (wordsOf mid) at)) (after : List ℕ)
+        module _ (one : List ℕ) (l : Linked mid one at (aTarget + 2 + cell % 2) (cell / 256) (linkAt (wordsOf mid) at)) (after : List ℕ)
             (x : Linked one after (at + 1) (opAt (wordsOf one) (at + 1)) (valueAt (wordsOf one) (at + 1)) end) where
           -- the brace's word has its op still
           brace-op : opAt (wordsOf after) (at + 1) ≡ openBrace
@@ -311,16 +316,16 @@ module _ (code values : List ℕ) (cell at : ℕ) (g : Elements code values cell
               (subst (λ (i : ℕ). Quiet (wordsOf after) i (braces .n + 1)) (sym q)
               (quiet-append (wordsOf after) (at + 2) (braces .n) (braces .n + 1) inner (quiet-word (wordsOf after) (braces .n) (low-still (opAt (wordsOf after) (braces .n)) (omega (arith, close-op)))))))
 
-          element-fine : Fine (judgeTarget (g .targets .known .W) (g .targets .known .S) (g .targets .t) .faults) code after at (g .targets .to) (end + 1)
-              (Aimed (g .targets .known .m) (g .targets .known .n) (wordsOf after) (judgeTarget (g .targets .known .W) (g .targets .known .S) (g .targets .t)) (spotOf (g .targets .known .W) (g .targets .known .S) (g .targets .t)) at (g .targets .to) (eqb (cell / 2 % 2) 1))
-          element-fine =
+          element-fine : (type : ℕ) → TypeOf cell type → Fine (judgeTarget (g .targets .known .W) (g .targets .known .S) (g .targets .t) .faults) code after at (g .targets .to) (end + 1)
+              (Aimed (g .targets .known .m) (g .targets .known .n) (wordsOf after) (judgeTarget (g .targets .known .W) (g .targets .known .S) (g .targets .t)) (spotOf (g .targets .known .W) (g .targets .known .S) (g .targets .t)) at (g .targets .to) type)
+          element-fine type ty =
               let f = index-told .none in
               let head = head-below (x .kept) at (omega arith) in
               record {
                 none = ap (λ (y : types.Judged). y .faults) array-judged ∙ judged-faults _ _ _ ∙ f;
                 next-is = ap (λ (i : ℕ). i + 1) (index-told .next-is) ∙ sym (braces .after);
                 written = record {
-                  type-is = ap (λ (y : types.Judged). y .type) array-judged ∙ judged-type _ _ _ f ∙ type-with (cell / 2 % 2) (omega arith);
+                  type-is = ty .is ∙ ap some (sym (ap (λ (y : types.Judged). y .type) array-judged ∙ judged-type _ _ _ f));
                   target = record {
                     k = cell % 2 + 2;
                     v = cell / 256;
@@ -346,17 +351,17 @@ module _ (code values : List ℕ) (cell at : ℕ) (g : Elements code values cell
               }
 
 module _ (code values : List ℕ) (cell at : ℕ) where
-  pub element-no-array : (number : ℕ) → (cell % 256 / 4 ≡ 2 → ⊥) → WrongName (cell % 256 / 4) number → ElementJudged code values code cell at (Faulty number at)
+  pub element-no-array : (number : ℕ) → (cell % 256 / 4 ≡ anArray → ⊥) → WrongName (cell % 256 / 4) number → ElementJudged code values code cell at (Faulty number at)
   element-no-array number d w = record { is = λ g. aim-first _ _ _ _ code code at (g .targets .to) (Faulty number at) number at refl refl (array-wrong code values cell at g number d w) }
 
-  module _ (k : cell % 256 / 4 ≡ 2) (mid : List ℕ) (r : Judged) (o : OfType code values mid false false (at + 2) r) where
+  module _ (k : cell % 256 / 4 ≡ anArray) (mid : List ℕ) (r : Judged) (o : OfType code values mid false numType (at + 2) r) where
     pub element-faulty : (number word : ℕ) → r ≡ Faulty number word → ElementJudged code values mid cell at r
     element-faulty number word e = record {
       is = λ g. aim-first _ _ _ _ code mid at (g .targets .to) r number word e (index-long code values cell at g k mid r o) (index-first code values cell at g k mid r o number word e);
     }
 
-    pub element-typed : (b : Bool) (end : ℕ) → r ≡ Typed b end → (one : List ℕ) → Linked mid one at (128 + 2 + cell % 2) (cell / 256) (linkAt (wordsOf mid) at) → (after : List ℕ)
-        → Linked one after (at + 1) (opAt (wordsOf one) (at + 1)) (valueAt (wordsOf one) (at + 1)) end → ElementJudged code values after cell at (Typed (eqb (cell / 2 % 2) 1) (end + 1))
-    element-typed b end e one l after x = record {
-      is = λ g. aim-fine _ _ _ _ code after at (g .targets .to) (eqb (cell / 2 % 2) 1) (end + 1) (element-fine code values cell at g k mid r o b end e one l after x);
+    pub element-typed : (b : ℕ) (end : ℕ) → r ≡ Typed b end → (one : List ℕ) → Linked mid one at (aTarget + 2 + cell % 2) (cell / 256) (linkAt (wordsOf mid) at) → (after : List ℕ)
+        → Linked one after (at + 1) (opAt (wordsOf one) (at + 1)) (valueAt (wordsOf one) (at + 1)) end → (type : ℕ) → TypeOf cell type → ElementJudged code values after cell at (Typed type (end + 1))
+    element-typed b end e one l after x type ty = record {
+      is = λ g. aim-fine _ _ _ _ code after at (g .targets .to) type (end + 1) (element-fine code values cell at g k mid r o b end e one l after x type ty);
     }

@@ -36,9 +36,10 @@ use Rattle.faults.proofs.Expressions.{grows, of-type-inside}
 use Rattle.faults.proofs.Statements.{exprs-inside}
 use Rattle.links.specs.Resolved.{isLed, goesByLink, goesByValue, goesByPlace}
 use Rattle.links.specs.Raw.{Quiet}
-use Rattle.simple.specs.Around.{Around, Unread, Apart}
+use Rattle.around.specs.Around.{Around, Unread, Apart}
 use Rattle.simple.specs.Parts.{passed, Passed, Reads, reads-one, reads-more, Rest, More, MoreJudged}
 use Rattle.simple.proofs.Asking.{no-operator, level-comma, quiet-below, quiet-above, Told, asks, told, told-first, answer-first, answer-fine}
+use Rattle.layout.specs.Types.{noType}
 
 -- ---- words that are not changed
 pub link-below : {before after : List ℕ} {x y : ℕ} → Kept before after x y → (i : ℕ) → i < x → linkAt (wordsOf after) i ≡ linkAt (wordsOf before) i
@@ -113,7 +114,7 @@ module _ {text values : List ℕ} (around : Around text values) (now : List ℕ)
     unfolding termOf
     passed-term = refl
 
-    pub one-told : (b : Bool) (next : ℕ) → r ≡ Typed b next → Told (around .known) (ofType (around .known .W) (typeAt (wordsOf now) p) (around .known .S) e) now mid e at n next
+    pub one-told : (b : ℕ) (next : ℕ) → r ≡ Typed b next → Told (around .known) (ofType (around .known .W) (typeAt (wordsOf now) p) (around .known .S) e) now mid e at n next
     unfolding one-asks asks
     one-told b next q =
         told (around .known) (around .sorts) (suc nestings) at e n one load no mid (typeAt (wordsOf now) p) (passed (typeAt (wordsOf now) p) (first e) (judge (around .known .W) false (around .known .S) e)) passed-faults passed-term r
@@ -222,7 +223,7 @@ module _ {text values : List ℕ} (around : Around text values) (a b₀ z : ℕ)
           (one-is-first around (typeAt (wordsOf now) (q + 3)) left (next .a) (next .rest) (end + 1) (next .n) z (next .one) (next .more) (next .done) (record { number = number; at = word })
           (one-first around now (q + 3) (end + 1) (next .a) (next .n) (next .one) next-load next-no mid j h number word e))
 
-      module _ (b : Bool) (n : ℕ) (e : j ≡ Typed b n) where
+      module _ (b : ℕ) (n : ℕ) (e : j ≡ Typed b n) where
         next-told : Told (around .known) (ofType (around .known .W) (typeAt (wordsOf now) (q + 3)) (around .known .S) (next .a)) now mid (next .a) (end + 1) (next .n) n
         next-told = one-told around now (q + 3) (end + 1) (next .a) (next .n) (next .one) next-load next-no mid j h b n e
 
@@ -230,7 +231,7 @@ module _ {text values : List ℕ} (around : Around text values) (a b₀ z : ℕ)
         next-end =
             (omega (arith, next-told .next-is, next-in, r .unread .loaded .last), omega (arith, next-told .next-is, next-on), omega (arith, rest-room, next-long), omega (arith, next-told .next-is, next-in))
 
-        module _ (after : List ℕ) (l : Linked mid after end 159 0 n) where
+        module _ (after : List ℕ) (l : Linked mid after end aNextArgument 0 n) where
           next-kept : Kept now after end (next .n)
           next-kept = kept-on (kept-wider (next-told .kept) end (next .n) (omega arith) (omega arith)) (kept-wider (l .kept) end (next .n) (omega arith) (omega (arith, next-on)))
 
@@ -303,7 +304,7 @@ module _ (code values now : List ℕ) (p b q end : ℕ) (run : Runs code values 
     here-sort : (g : More code values p b) → s ≡ sortIn (g .around .known .W) end
     here-sort g = es ∙ rest-sort (g .around) (g .a) (g .b₀) (g .z) now q end _ _ _ (run .is g .is)
 
-    pub run-done : (s ≡ 5 → ⊥) → MoreJudged code values now p b (Typed false end)
+    pub run-done : (s ≡ 5 → ⊥) → MoreJudged code values now p b (Typed noType end)
     unfolding argumentFaults
     run-done d = record {
       is = λ g.
@@ -311,7 +312,7 @@ module _ (code values now : List ℕ) (p b q end : ℕ) (run : Runs code values 
           let f = a .is .done (λ c. d (here-sort g ∙ c)) in
           let terms = termOf (g .around .known .W) (g .around .known .S) in
           let all : a .us ≡ g .us ++ map terms (g .rest) = sym (append-none (a .us)) ∙ ap (λ (l : List Expr). a .us ++ map terms l) (sym (f .0)) ∙ a .total in
-          answer-fine _ code now b (g .z) _ false end (record {
+          answer-fine _ code now b (g .z) _ noType end (record {
             none = a .faults ∙ ap (argumentFaults (g .around .known .W) (g .around .known .S) (a .ts)) (f .0);
             next-is = sym (f .1);
             written = record {
@@ -342,13 +343,13 @@ module _ (code values now : List ℕ) (p b q end : ℕ) (run : Runs code values 
               (next-faulty (g .around) (g .a) (g .b₀) (g .z) now q end _ _ _ (run .is g .is) (comma-here g) mid j h number word e));
         }
 
-        module _ (bool : Bool) (n : ℕ) (e : j ≡ Typed bool n) where
+        module _ (bool : ℕ) (n : ℕ) (e : j ≡ Typed bool n) where
           pub run-end : More code values p b → (n < 8192) × (end < n) × (end * 8 + 8 ≤ length mid)
           run-end g =
               let x = next-end (g .around) (g .a) (g .b₀) (g .z) now q end _ _ _ (run .is g .is) (comma-here g) mid j h bool n e in
               (x .0, x .1, x .2)
 
-          pub run-on : (after : List ℕ) → Linked mid after end 159 0 n → Runs code values after p b (q + 3) n
+          pub run-on : (after : List ℕ) → Linked mid after end aNextArgument 0 n → Runs code values after p b (q + 3) n
           run-on after l = record {
             is = λ g.
                 let r = run .is g .is in

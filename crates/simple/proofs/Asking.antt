@@ -21,7 +21,7 @@ use Rattle.expressions.specs.declared.Judged.{Judged}
 use Rattle.expressions.specs.declared.Judged.the-variants.{Typed, Faulty}
 use Rattle.expressions.specs.Known.{Loaded, Known}
 use Rattle.store.specs.Promises.{Kept, Linked}
-use Rattle.expressions.specs.Answers.{typeIf, Judges, OfType}
+use Rattle.expressions.specs.Answers.{Judges, OfType}
 use Rattle.expressions.specs.Answers as expressions
 use Rattle.store.proofs.Keeping.{head-below, head-above, kept-wider, kept-on, term-above}
 use Rattle.expressions.proofs.Around.{says-typed, says-faulty}
@@ -30,9 +30,11 @@ use Rattle.faults.proofs.Expressions.{grows, of-type-first}
 use Rattle.links.specs.Resolved.{isLed}
 use Rattle.links.specs.Raw.{Quiet, RawTerm}
 use Rattle.links.proofs.Ops.{quiet-low}
-use Rattle.simple.specs.Around.{Around, groundOf}
-use Rattle.simple.specs.Answers.{Answer, Fine, Tell}
+use Rattle.around.specs.Around.{Around, groundOf}
+use Rattle.around.specs.Answers.{Answer, Fine, Tell}
 use Rattle.simple.specs.Parts.{Values, Valued}
+use Rattle.code.specs.Steps.{aTarget}
+use Rattle.layout.specs.Types.{typeIn}
 
 -- ---- no operator follows
 pub no-operator : (s k : ℕ) → s ≡ k → levelOf k ≡ 0 → levelOf s ≡ 0
@@ -70,7 +72,7 @@ pub record Told {values : List ℕ} (k : Known values) (fs : List Fault) (before
   pub kept : Kept before after at to
   pub quiet : Quiet (wordsOf after) at to
 
-module _ {code values : List ℕ} (k : Known values) (sorts : (i : ℕ) → sortIn (k .W) i < 128) (d at : ℕ) (e : Expr) (to : ℕ) (p : Parses (sortIn (k .W)) d at e to) (l : Loaded (k .W) code at to)
+module _ {code values : List ℕ} (k : Known values) (sorts : (i : ℕ) → sortIn (k .W) i < aTarget) (d at : ℕ) (e : Expr) (to : ℕ) (p : Parses (sortIn (k .W)) d at e to) (l : Loaded (k .W) code at to)
     (no : levelOf (sortIn (k .W) to) ≡ 0) where
   unfoldable pub asks : expressions.Stands code values 5 at
   asks = record {
@@ -84,11 +86,11 @@ module _ {code values : List ℕ} (k : Known values) (sorts : (i : ℕ) → sort
     loaded = l;
   }
 
-  low-before : (i : ℕ) → at ≤ i → i < to → opAt (wordsOf code) i < 128
-  low-before i h g = subst (λ (o : ℕ). o < 128) (sym (l .words i h (omega arith) .sort)) (sorts i)
+  low-before : (i : ℕ) → at ≤ i → i < to → opAt (wordsOf code) i < aTarget
+  low-before i h g = subst (λ (o : ℕ). o < aTarget) (sym (l .words i h (omega arith) .sort)) (sorts i)
 
   module _ (after : List ℕ) (t : DataType) (j : types.Judged) (q : j .faults ≡ ofType (k .W) t (k .S) e) (x : j .term ≡ termOf (k .W) (k .S) e) (r : Judged) (h : Judges (k .m) (k .n) code after at to j r) where
-    pub told : (b : Bool) (next : ℕ) → r ≡ Typed b next → Told k (ofType (k .W) t (k .S) e) code after e at to next
+    pub told : (b : ℕ) (next : ℕ) → r ≡ Typed b next → Told k (ofType (k .W) t (k .S) e) code after e at to next
     told b next z =
         let s = says-typed (k .m) (k .n) (wordsOf after) at to j r b next z (h .says) in
         record {
@@ -105,26 +107,26 @@ module _ {code values : List ℕ} (k : Known values) (sorts : (i : ℕ) → sort
         of-type-first (k .W) d at e to p (record { number = number; at = word }) (s .others) t (k .S) (sym q ∙ s .faults-are)
 
   -- the same of one that has to be of a type
-  module _ (after : List ℕ) (wants : Bool) (r : Judged) (o : OfType code values after false wants at r) where
-    typed-faults : expressions.ofType (typeIf wants) (first e) (judge (k .W) false (k .S) e) .faults ≡ ofType (k .W) (typeIf wants) (k .S) e
+  module _ (after : List ℕ) (wants : ℕ) (t : DataType) (w : typeIn wants ≡ some t) (r : Judged) (o : OfType code values after false wants at r) where
+    typed-faults : expressions.ofType t (first e) (judge (k .W) false (k .S) e) .faults ≡ ofType (k .W) t (k .S) e
     unfolding ofType
     typed-faults = refl
 
-    typed-term : expressions.ofType (typeIf wants) (first e) (judge (k .W) false (k .S) e) .term ≡ termOf (k .W) (k .S) e
+    typed-term : expressions.ofType t (first e) (judge (k .W) false (k .S) e) .term ≡ termOf (k .W) (k .S) e
     unfolding termOf
     typed-term = refl
 
-    pub typed-told : (b : Bool) (next : ℕ) → r ≡ Typed b next → Told k (ofType (k .W) (typeIf wants) (k .S) e) code after e at to next
+    pub typed-told : (b : ℕ) (next : ℕ) → r ≡ Typed b next → Told k (ofType (k .W) t (k .S) e) code after e at to next
     unfolding asks
-    typed-told b next z = told after (typeIf wants) (expressions.ofType (typeIf wants) (first e) (judge (k .W) false (k .S) e)) typed-faults typed-term r (o .is asks) b next z
+    typed-told b next z = told after t (expressions.ofType t (first e) (judge (k .W) false (k .S) e)) typed-faults typed-term r (o .is asks t w) b next z
 
-    pub typed-first : (number word : ℕ) → r ≡ Faulty number word → First (record { number = number; at = word }) (ofType (k .W) (typeIf wants) (k .S) e)
+    pub typed-first : (number word : ℕ) → r ≡ Faulty number word → First (record { number = number; at = word }) (ofType (k .W) t (k .S) e)
     unfolding asks
-    typed-first number word z = told-first after (typeIf wants) (expressions.ofType (typeIf wants) (first e) (judge (k .W) false (k .S) e)) typed-faults typed-term r (o .is asks) number word z
+    typed-first number word z = told-first after t (expressions.ofType t (first e) (judge (k .W) false (k .S) e)) typed-faults typed-term r (o .is asks t w) number word z
 
     pub typed-long : length after ≡ length code
     unfolding asks
-    typed-long = o .is asks .kept .long
+    typed-long = o .is asks t w .kept .long
 
 -- ---- answers by their cases
 pub answer-first : (fs : List Fault) (before after : List ℕ) (at to : ℕ) (holds : Type 0) (r : Judged) (number word : ℕ) → r ≡ Faulty number word → length after ≡ length before
@@ -132,12 +134,12 @@ pub answer-first : (fs : List Fault) (before after : List ℕ) (at to : ℕ) (ho
 unfolding Tell
 answer-first fs before after at to holds r number word e long f = subst (Answer fs before after at to holds) (sym e) (record { tells = f; long = long })
 
-pub answer-fine : (fs : List Fault) (before after : List ℕ) (at to : ℕ) (holds : Type 0) (b : Bool) (next : ℕ) → Fine fs before after at to next holds → Answer fs before after at to holds (Typed b next)
+pub answer-fine : (fs : List Fault) (before after : List ℕ) (at to : ℕ) (holds : Type 0) (b : ℕ) (next : ℕ) → Fine fs before after at to next holds → Answer fs before after at to holds (Typed b next)
 unfolding Tell
 answer-fine fs before after at to holds b next f = record { tells = f; long = f .kept .long }
 
 module _ (fs : List Fault) (before after : List ℕ) (at to : ℕ) (holds : Type 0) (r : Judged) (a : Answer fs before after at to holds r) where
-  pub answered-fine : (b : Bool) (next : ℕ) → r ≡ Typed b next → Fine fs before after at to next holds
+  pub answered-fine : (b : ℕ) (next : ℕ) → r ≡ Typed b next → Fine fs before after at to next holds
   unfolding Tell
   answered-fine b next e = subst (Tell fs before after at to holds) e (a .tells)
 
@@ -153,15 +155,15 @@ module _ (code values : List ℕ) (from i : ℕ) (g : Values code values from i)
   values-grow : from < g .to
   values-grow = grows (g .around .known .W) (suc nestings) from (g .e) (g .to) (g .value)
 
-  module _ (mid : List ℕ) (wants : Bool) (r : Judged) (o : OfType code values mid false wants from r) where
-    values-told : (b : Bool) (end : ℕ) → r ≡ Typed b end → Told (g .around .known) (ofType (g .around .known .W) (typeIf wants) (g .around .known .S) (g .e)) code mid (g .e) from (g .to) end
-    values-told = typed-told (g .around .known) (g .around .sorts) (suc nestings) from (g .e) (g .to) (g .value) (g .loaded) (no-operator _ _ (g .ends) level-semicolon) mid wants r o
+  module _ (mid : List ℕ) (wants : ℕ) (t : DataType) (w : typeIn wants ≡ some t) (r : Judged) (o : OfType code values mid false wants from r) where
+    values-told : (b : ℕ) (end : ℕ) → r ≡ Typed b end → Told (g .around .known) (ofType (g .around .known .W) t (g .around .known .S) (g .e)) code mid (g .e) from (g .to) end
+    values-told = typed-told (g .around .known) (g .around .sorts) (suc nestings) from (g .e) (g .to) (g .value) (g .loaded) (no-operator _ _ (g .ends) level-semicolon) mid wants t w r o
 
     pub values-room : i * 8 + 8 ≤ length mid
     values-room =
-        omega (arith, typed-long (g .around .known) (g .around .sorts) (suc nestings) from (g .e) (g .to) (g .value) (g .loaded) (no-operator _ _ (g .ends) level-semicolon) mid wants r o, g .loaded .room, g .before, values-grow)
+        omega (arith, typed-long (g .around .known) (g .around .sorts) (suc nestings) from (g .e) (g .to) (g .value) (g .loaded) (no-operator _ _ (g .ends) level-semicolon) mid wants t w r o, g .loaded .room, g .before, values-grow)
 
-    pub values-end : (b : Bool) (end : ℕ) → r ≡ Typed b end → end < 8192
+    pub values-end : (b : ℕ) (end : ℕ) → r ≡ Typed b end → end < 8192
     values-end b end e = omega (arith, values-told b end e .next-is, g .loaded .last)
 
 -- a term that is told of, as the links know it
@@ -179,21 +181,21 @@ raw-term-after a mid after e at to x y k h t = record {
   quiet = quiet-above k at to h (t .quiet);
 }
 
-pub valued-faulty : (code values after : List ℕ) (op : ℕ) (wants : Bool) (from i : ℕ) (r : Judged) → OfType code values after false wants from r → (number word : ℕ) → r ≡ Faulty number word
+pub valued-faulty : (code values after : List ℕ) (op : ℕ) (wants : ℕ) (from i : ℕ) (r : Judged) → OfType code values after false wants from r → (number word : ℕ) → r ≡ Faulty number word
     → Valued code values after op wants from i r
 valued-faulty code values after op wants from i r o number word e = record {
-  is = λ g.
+  is = λ g u w.
       let no = no-operator _ _ (g .ends) level-semicolon in
       answer-first _ code after i (g .to + 1) _ r number word e
-      (typed-long (g .around .known) (g .around .sorts) (suc nestings) from (g .e) (g .to) (g .value) (g .loaded) no after wants r o)
-      (typed-first (g .around .known) (g .around .sorts) (suc nestings) from (g .e) (g .to) (g .value) (g .loaded) no after wants r o number word e);
+      (typed-long (g .around .known) (g .around .sorts) (suc nestings) from (g .e) (g .to) (g .value) (g .loaded) no after wants u w r o)
+      (typed-first (g .around .known) (g .around .sorts) (suc nestings) from (g .e) (g .to) (g .value) (g .loaded) no after wants u w r o number word e);
 }
 
-pub valued-typed : (code values mid after : List ℕ) (op : ℕ) (wants : Bool) (from i : ℕ) (r : Judged) → OfType code values mid false wants from r → (b : Bool) (end : ℕ) → r ≡ Typed b end
+pub valued-typed : (code values mid after : List ℕ) (op : ℕ) (wants : ℕ) (from i : ℕ) (r : Judged) → OfType code values mid false wants from r → (b : ℕ) (end : ℕ) → r ≡ Typed b end
     → Linked mid after i op end (end + 1) → Valued code values after op wants from i (Typed b (end + 1))
 valued-typed code values mid after op wants from i r o b end e l = record {
-  is = λ g.
-      let t = values-told code values from i g mid wants r o b end e in
+  is = λ g u w.
+      let t = values-told code values from i g mid wants u w r o b end e in
       let grow = values-grow code values from i g in
       let v : g .to ≡ valueAt (wordsOf after) i = sym (l .value-is ∙ t .next-is) in
       answer-fine _ code after i (g .to + 1) _ b (end + 1) (record {

@@ -25,7 +25,7 @@ use Rattle.expressions.specs.declared.Judged.{Judged}
 use Rattle.expressions.specs.declared.Judged.the-variants.{Typed, Faulty}
 use Rattle.expressions.specs.Known.{Loaded, InRoom}
 use Rattle.store.specs.Promises.{Kept, Linked}
-use Rattle.expressions.specs.Answers.{typeIf, OfType}
+use Rattle.expressions.specs.Answers.{OfType}
 use Rattle.expressions.specs.Answers as expressions
 use Rattle.store.proofs.Keeping.{cell-above, head-below, head-above, kept-wider, kept-on, term-below, term-above}
 use Rattle.expressions.proofs.Starts.{loaded-part}
@@ -33,8 +33,8 @@ use Rattle.faults.specs.First.{First}
 use Rattle.faults.proofs.Expressions.{grows}
 use Rattle.links.specs.Raw.{Quiet, RawTarget, RawAssign}
 use Rattle.links.proofs.Ops.{low-still}
-use Rattle.simple.specs.Around.{Around, groundOf}
-use Rattle.simple.specs.Answers.{Fine}
+use Rattle.around.specs.Around.{Around, groundOf}
+use Rattle.around.specs.Answers.{Fine}
 use Rattle.simple.specs.Parts.{Aims, scalar-aims, element-aims, ValueSide, ValueAssigned}
 use Rattle.simple.proofs.Asking.{no-operator, level-semicolon, quiet-below, quiet-above, Told, asks, typed-told, typed-first, typed-long, answer-first, answer-fine, raw-term, raw-term-after}
 use Rattle.simple.proofs.Arguing.{link-below}
@@ -121,7 +121,7 @@ raw-target a C ops t i b k v o e s q = record {
 }
 
 -- ---- target := e
-module _ (code values : List ℕ) (wants : Bool) (i b : ℕ) (g : ValueSide code values wants i b) where
+module _ (code values : List ℕ) (wants : ℕ) (i b : ℕ) (g : ValueSide code values wants i b) where
   value-load : Loaded (g .around .known .W) code (b + 1) (g .to)
   value-load = loaded-part (g .around .known .W) code b (g .to) (b + 1) (g .to) (g .unread .loaded) (omega arith) (omega arith)
 
@@ -136,15 +136,15 @@ module _ (code values : List ℕ) (wants : Bool) (i b : ℕ) (g : ValueSide code
 
   module _ (mid : List ℕ) (r : Judged) (o : OfType code values mid false wants (b + 1) r) where
     value-long : length mid ≡ length code
-    value-long = typed-long (g .around .known) (g .around .sorts) (suc nestings) (b + 1) (g .e) (g .to) (g .value) value-load (no-operator _ _ (g .ends) level-semicolon) mid wants r o
+    value-long = typed-long (g .around .known) (g .around .sorts) (suc nestings) (b + 1) (g .e) (g .to) (g .value) value-load (no-operator _ _ (g .ends) level-semicolon) mid wants (g .type) (g .wants-is) r o
 
-    value-first : (number word : ℕ) → r ≡ Faulty number word → First (record { number = number; at = word }) (ofType (g .around .known .W) (typeIf wants) (g .around .known .S) (g .e))
+    value-first : (number word : ℕ) → r ≡ Faulty number word → First (record { number = number; at = word }) (ofType (g .around .known .W) (g .type) (g .around .known .S) (g .e))
     value-first number word e =
-        typed-first (g .around .known) (g .around .sorts) (suc nestings) (b + 1) (g .e) (g .to) (g .value) value-load (no-operator _ _ (g .ends) level-semicolon) mid wants r o number word e
+        typed-first (g .around .known) (g .around .sorts) (suc nestings) (b + 1) (g .e) (g .to) (g .value) value-load (no-operator _ _ (g .ends) level-semicolon) mid wants (g .type) (g .wants-is) r o number word e
 
-    module _ (bool : Bool) (end : ℕ) (e : r ≡ Typed bool end) where
-      value-told : Told (g .around .known) (ofType (g .around .known .W) (typeIf wants) (g .around .known .S) (g .e)) code mid (g .e) (b + 1) (g .to) end
-      value-told = typed-told (g .around .known) (g .around .sorts) (suc nestings) (b + 1) (g .e) (g .to) (g .value) value-load (no-operator _ _ (g .ends) level-semicolon) mid wants r o bool end e
+    module _ (bool : ℕ) (end : ℕ) (e : r ≡ Typed bool end) where
+      value-told : Told (g .around .known) (ofType (g .around .known .W) (g .type) (g .around .known .S) (g .e)) code mid (g .e) (b + 1) (g .to) end
+      value-told = typed-told (g .around .known) (g .around .sorts) (suc nestings) (b + 1) (g .e) (g .to) (g .value) value-load (no-operator _ _ (g .ends) level-semicolon) mid wants (g .type) (g .wants-is) r o bool end e
 
       pub value-end : (end < 8192) × (b * 8 + 8 ≤ length mid) × (i * 8 + 8 ≤ length mid)
       value-end = (omega (arith, value-told .next-is, value-load .last), omega (arith, value-on, value-load .room, value-long), omega (arith, g .before, value-on, value-load .room, value-long))
@@ -163,7 +163,7 @@ module _ (code values : List ℕ) (wants : Bool) (i b : ℕ) (g : ValueSide code
             ap opIn (head-above (x .kept) b (omega (arith, g .before))) ∙ l .op-is ∙ ap opIn (head-below (value-told .kept) b (omega arith))
             ∙ g .unread .loaded .words b (omega arith) (omega (arith, value-on)) .sort ∙ g .becomes-is
 
-        value-fine : Fine (ofType (g .around .known .W) (typeIf wants) (g .around .known .S) (g .e)) code after i (g .to + 1) (end + 1)
+        value-fine : Fine (ofType (g .around .known .W) (g .type) (g .around .known .S) (g .e)) code after i (g .to + 1) (end + 1)
             (RawAssign (groundOf (g .around)) (g .around .known .n) (wordsOf after) (g .around .known .S) (g .t) (g .e) i (g .to + 1) (g .to + 1))
         value-fine =
             let known = g .around .known in
@@ -190,12 +190,12 @@ module _ (code values : List ℕ) (wants : Bool) (i b : ℕ) (g : ValueSide code
               kept = kept-on (kept-wider value-kept i (g .to + 1) (omega (arith, g .before)) (omega arith)) (kept-wider (x .kept) i (g .to + 1) (omega arith) (omega (arith, g .before, value-on)));
             }
 
-module _ (code values : List ℕ) (wants : Bool) (i b : ℕ) (mid : List ℕ) (r : Judged) (o : OfType code values mid false wants (b + 1) r) where
+module _ (code values : List ℕ) (wants : ℕ) (i b : ℕ) (mid : List ℕ) (r : Judged) (o : OfType code values mid false wants (b + 1) r) where
   pub assigned-faulty : (number word : ℕ) → r ≡ Faulty number word → ValueAssigned code values mid wants i b r
   assigned-faulty number word e = record {
     is = λ g. answer-first _ code mid i (g .to + 1) _ r number word e (value-long code values wants i b g mid r o) (value-first code values wants i b g mid r o number word e);
   }
 
-  pub assigned-typed : (bool : Bool) (end : ℕ) → r ≡ Typed bool end → (one : List ℕ) → Linked mid one b (opAt (wordsOf mid) b) (valueAt (wordsOf mid) b) end → (after : List ℕ)
+  pub assigned-typed : (bool : ℕ) (end : ℕ) → r ≡ Typed bool end → (one : List ℕ) → Linked mid one b (opAt (wordsOf mid) b) (valueAt (wordsOf mid) b) end → (after : List ℕ)
       → Linked one after i (opAt (wordsOf one) i) (valueAt (wordsOf one) i) (end + 1) → ValueAssigned code values after wants i b (Typed bool (end + 1))
   assigned-typed bool end e one l after x = record { is = λ g. answer-fine _ code after i (g .to + 1) _ bool (end + 1) (value-fine code values wants i b g mid r o bool end e one l after x) }

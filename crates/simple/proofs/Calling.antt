@@ -40,12 +40,14 @@ use Rattle.faults.proofs.Expressions.{grows}
 use Rattle.faults.proofs.Statements.{arguments-inside}
 use Rattle.links.specs.Raw.{Quiet, RawArguments}
 use Rattle.links.proofs.Moving.{argument-last, argument-next}
-use Rattle.simple.specs.Around.{Around, groundOf, Apart}
-use Rattle.simple.specs.Answers.{Fine, Answer, Tell}
+use Rattle.around.specs.Around.{Around, groundOf, Apart}
+use Rattle.around.specs.Answers.{Fine, Answer, Tell}
 use Rattle.simple.specs.Parts.{Passed, Reads, reads-one, reads-more, ReadAll, no-arguments, some-arguments, Rest, More, MoreRead, MoreJudged, Counts, Counted, CallSide, signatureFor, CallWritten, CallJudged}
 use Rattle.simple.proofs.Asking.{no-operator, level-semicolon, level-paren, quiet-above, Told, answer-first, answer-fine}
 use Rattle.simple.proofs.Callees.{Known, known}
 use Rattle.simple.proofs.Arguing.{link-below, unread-part, unread-after, apart-kept, apart-same, reads-grow, reads-below, one-asks, one-long, one-told, one-first, one-is-first, one-is-fine, next-level, same-tail}
+use Rattle.layout.specs.Rules.{wrongCount}
+use Rattle.layout.specs.Types.{noType}
 
 -- ---- terms that have been read are the arguments
 module _ (m n : ℕ) (fn : Bool) (text : List ℕ) (R : List Head) (C : List ℕ) where
@@ -163,29 +165,29 @@ module _ (code values : List ℕ) (h callee first closing : ℕ) (g : CallSide c
     unfolding params
     many-is = head-known .many ∙ sym (ap valueIn ew)
 
-    many-wrong : (count ≡ w / 256 → ⊥) → First (record { number = 14; at = callee }) (faultIf (not (eqb (length params) (length (g .es)))) 14 callee ++ passing params (g .es))
+    many-wrong : (count ≡ w / 256 → ⊥) → First (record { number = wrongCount; at = callee }) (faultIf (not (eqb (length params) (length (g .es)))) wrongCount callee ++ passing params (g .es))
     many-wrong d =
-        first-left (first-if (not (eqb (length params) (length (g .es)))) 14 callee (rw (ne-eqb (length params) (length (g .es)) (λ e. d (count-is ∙ sym e ∙ many-is)))))
-        (leads-later (record { number = 14; at = callee }) (arguments-inside (g .around .known .W) (g .around .known .S) params (g .stand .arguments)) (g .before))
+        first-left (first-if (not (eqb (length params) (length (g .es)))) wrongCount callee (rw (ne-eqb (length params) (length (g .es)) (λ e. d (count-is ∙ sym e ∙ many-is)))))
+        (leads-later (record { number = wrongCount; at = callee }) (arguments-inside (g .around .known .W) (g .around .known .S) params (g .stand .arguments)) (g .before))
 
     module _ (same : count ≡ w / 256) where
       as-many : length (g .es) ≡ length params
       as-many = sym count-is ∙ same ∙ sym many-is
 
-      many-right : faultIf (not (eqb (length params) (length (g .es)))) 14 callee ≡ []
+      many-right : faultIf (not (eqb (length params) (length (g .es)))) wrongCount callee ≡ []
       unfolding faultIf
       many-right = rw (eq-eqb (length params) (length (g .es)) (sym as-many))
 
-      all-faults : faultIf (not (eqb (length params) (length (g .es)))) 14 callee ++ passing params (g .es) ≡ passing params (g .es)
+      all-faults : faultIf (not (eqb (length params) (length (g .es)))) wrongCount callee ++ passing params (g .es) ≡ passing params (g .es)
       all-faults = ap (λ (l : List Fault). l ++ passing params (g .es)) many-right
 
       -- there are none
       none-answer : count ≡ 0 → (op : ℕ) (after : List ℕ) → Linked code after callee op h first
-          → Answer (faultIf (not (eqb (length params) (length (g .es)))) 14 callee ++ passing params (g .es)) code after callee (g .z) (CallWritten g (wordsOf after) op) (Typed false first)
+          → Answer (faultIf (not (eqb (length params) (length (g .es)))) wrongCount callee ++ passing params (g .es)) code after callee (g .z) (CallWritten g (wordsOf after) op) (Typed noType first)
       unfolding argumentFaults groundOf params
       none-answer zero-is op after l =
           let n = none-closed (g .stand .arguments) (sym count-is ∙ zero-is) in
-          answer-fine _ code after callee (g .z) _ false first (record {
+          answer-fine _ code after callee (g .z) _ noType first (record {
             none = all-faults ∙ ap (passing params) (n .0);
             next-is = sym (n .1);
             written = record {
@@ -243,20 +245,20 @@ module _ (code values : List ℕ) (h callee first closing : ℕ) (g : CallSide c
             let f : firstParameter D h ≡ p = parameter-same D (wordsOf code) h (sym (k .function) ∙ head-known .function) ∙ sym ep in
             same-tail _ _ _ _ (sym (ap₂ (typesAt D) v f) ∙ sym (k .types) ∙ types-are)
 
-        faults-are : faultIf (not (eqb (length params) (length (g .es)))) 14 callee ++ passing params (g .es) ≡ passing (typeAt (wordsOf code) p ∷ left) (one .a ∷ one .rest)
+        faults-are : faultIf (not (eqb (length params) (length (g .es)))) wrongCount callee ++ passing params (g .es) ≡ passing (typeAt (wordsOf code) p ∷ left) (one .a ∷ one .rest)
         faults-are = all-faults ∙ ap₂ passing types-are (one .is)
 
         module _ (mid : List ℕ) (j : Judged) (pass : Passed code values mid p first j) where
           first-long : length mid ≡ length code
           first-long = one-long (g .around) code p first (one .a) (one .n) (one .one) one-load one-no mid j pass
 
-          first-wrong : (number word : ℕ) → j ≡ Faulty number word → First (record { number = number; at = word }) (faultIf (not (eqb (length params) (length (g .es)))) 14 callee ++ passing params (g .es))
+          first-wrong : (number word : ℕ) → j ≡ Faulty number word → First (record { number = number; at = word }) (faultIf (not (eqb (length params) (length (g .es)))) wrongCount callee ++ passing params (g .es))
           first-wrong number word e =
               subst (First (record { number = number; at = word })) (sym faults-are)
               (one-is-first (g .around) (typeAt (wordsOf code) p) left (one .a) (one .rest) first (one .n) (g .z) (one .one) (one .more) (one .done) (record { number = number; at = word })
               (one-first (g .around) code p first (one .a) (one .n) (one .one) one-load one-no mid j pass number word e))
 
-          module _ (b : Bool) (n : ℕ) (e : j ≡ Typed b n) where
+          module _ (b : ℕ) (n : ℕ) (e : j ≡ Typed b n) where
             first-told : Told (g .around .known) (ofType (g .around .known .W) (typeAt (wordsOf code) p) (g .around .known .S) (one .a)) code mid (one .a) first (one .n) n
             first-told = one-told (g .around) code p first (one .a) (one .n) (one .one) one-load one-no mid j pass b n e
 
@@ -298,12 +300,12 @@ module _ (code values : List ℕ) (h callee first closing : ℕ) (g : CallSide c
                 is = subst (λ (i : ℕ). Rest (g .around) first (one .n) (g .z) after p i (termOf (g .around .known .W) (g .around .known .S) (one .a) ∷ []) (one .rest) left) (sym (first-told .next-is)) first-rest;
               }
 
-              fine-faults : faultIf (not (eqb (length params) (length (g .es)))) 14 callee ++ passing params (g .es) ≡ passing left (one .rest)
+              fine-faults : faultIf (not (eqb (length params) (length (g .es)))) wrongCount callee ++ passing params (g .es) ≡ passing left (one .rest)
               fine-faults = faults-are ∙ one-is-fine (g .around) (typeAt (wordsOf code) p) left (one .a) (one .rest) first (one .n) (g .z) (one .one) (one .more) (one .done) (first-told .none)
 
               module _ (final : List ℕ) (r : Judged) (m : MoreJudged after values final p n r) where
                 fine-on : (next : ℕ) → Fine (passing left (one .rest)) after final n (g .z) next (MoreRead call-more (wordsOf final))
-                    → Fine (faultIf (not (eqb (length params) (length (g .es)))) 14 callee ++ passing params (g .es)) code final callee (g .z) next (CallWritten g (wordsOf final) op)
+                    → Fine (faultIf (not (eqb (length params) (length (g .es)))) wrongCount callee ++ passing params (g .es)) code final callee (g .z) next (CallWritten g (wordsOf final) op)
                 unfolding call-more groundOf params
                 fine-on next f =
                     let below : callee < n = omega (arith, first-told .next-is, g .before, one-on) in
@@ -327,7 +329,7 @@ module _ (code values : List ℕ) (h callee first closing : ℕ) (g : CallSide c
                       kept = k;
                     }
 
-                call-answer : Answer (faultIf (not (eqb (length params) (length (g .es)))) 14 callee ++ passing params (g .es)) code final callee (g .z) (CallWritten g (wordsOf final) op) r
+                call-answer : Answer (faultIf (not (eqb (length params) (length (g .es)))) wrongCount callee ++ passing params (g .es)) code final callee (g .z) (CallWritten g (wordsOf final) op) r
                 unfolding call-more
                 call-answer =
                     answer-on (passing left (one .rest)) _ code after final n (g .z) callee (g .z) (MoreRead call-more (wordsOf final)) (CallWritten g (wordsOf final) op) r (m .is call-more) (first-kept .long)
@@ -335,14 +337,14 @@ module _ (code values : List ℕ) (h callee first closing : ℕ) (g : CallSide c
 
 -- ---- what the call answers
 module _ (code values : List ℕ) (op h callee first closing : ℕ) (count : ℕ) (c : Counted code first closing count) (w : ℕ) (ew : w ≡ headAt (wordsOf code) h) where
-  pub called-wrong : (count ≡ w / 256 → ⊥) → CallJudged code values code op h callee first closing (Faulty 14 callee)
+  pub called-wrong : (count ≡ w / 256 → ⊥) → CallJudged code values code op h callee first closing (Faulty wrongCount callee)
   unfolding params
   called-wrong d = record {
-    is = λ g. answer-first _ code code callee (g .z) _ (Faulty 14 callee) 14 callee refl refl (many-wrong code values h callee first closing g count c w ew d);
+    is = λ g. answer-first _ code code callee (g .z) _ (Faulty wrongCount callee) wrongCount callee refl refl (many-wrong code values h callee first closing g count c w ew d);
   }
 
   module _ (same : count ≡ w / 256) where
-    pub called-none : count ≡ 0 → (after : List ℕ) → Linked code after callee op h first → CallJudged code values after op h callee first closing (Typed false first)
+    pub called-none : count ≡ 0 → (after : List ℕ) → Linked code after callee op h first → CallJudged code values after op h callee first closing (Typed noType first)
     unfolding params
     called-none z after l = record { is = λ g. none-answer code values h callee first closing g count c w ew same z op after l }
 
@@ -355,7 +357,7 @@ module _ (code values : List ℕ) (op h callee first closing : ℕ) (count : ℕ
             (first-wrong code values h callee first closing g count c w ew same some-are p ep mid j pass number word e);
       }
 
-      pub called-on : (b : Bool) (n : ℕ) → j ≡ Typed b n → (after : List ℕ) → Linked mid after callee op h n → (final : List ℕ) (r : Judged) → MoreJudged after values final p n r
+      pub called-on : (b : ℕ) (n : ℕ) → j ≡ Typed b n → (after : List ℕ) → Linked mid after callee op h n → (final : List ℕ) (r : Judged) → MoreJudged after values final p n r
           → CallJudged code values final op h callee first closing r
       unfolding params
       called-on b n e after l final r m = record {

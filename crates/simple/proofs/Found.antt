@@ -21,10 +21,11 @@ use Rattle.code.specs.Spans.{guard}
 use Rattle.code.specs.Steps.{Head, noHead, numbered, agree, calleeIn}
 use Rattle.code.specs.Signatures.{typeAt, resultAt}
 use Rattle.links.specs.Raw.{RawCallee}
-use Rattle.simple.specs.Around.{Around, offsetIn, groundOf, Calls}
+use Rattle.around.specs.Around.{Around, offsetIn, groundOf, Calls}
 use Rattle.simple.specs.Parts.{CalleeFound, signatureFor}
 use Rattle.simple.proofs.Callees.{Known, known}
 use Rattle.simple.proofs.Arguing.{apart-same}
+use Rattle.layout.specs.Rules.{wrongCount}
 
 pub map-length : {A B : Type 0} (f : A → B) (l : List A) → length (map f l) ≡ length l
 map-length f [] = refl
@@ -67,7 +68,7 @@ module _ {text values : List ℕ} (a : Around text values) (code : List ℕ) (i 
   unfolding signatureOf routineIn
   found-signature = rw (f .means, signatureOf)
 
-  pub found-faults : (es : List Expr) → calleeFaults (a .known .W) (a .K) function (meaning (a .known .S) (spelled (a .known .W) i)) i es ≡ faultIf (not (eqb (length (signatureFor a h .parameters)) (length es))) 14 i
+  pub found-faults : (es : List Expr) → calleeFaults (a .known .W) (a .K) function (meaning (a .known .S) (spelled (a .known .W) i)) i es ≡ faultIf (not (eqb (length (signatureFor a h .parameters)) (length es))) wrongCount i
   unfolding calleeFaults signatureFaults routineIn
   found-faults es =
       let o : isOtherKind function (signatureFor a h .result) ≡ false = ap (isOtherKind function) (found-known .result) ∙ own-kind (wordsOf code) h function (f .kind) in

@@ -18,14 +18,13 @@ use Rattle.paper.specs.Checks.{argumentFaults, calleeFaults, signatureOf, callF
 use Rattle.paper.specs.Steps.{spotOf}
 use Rattle.cells.specs.Words.{wordsOf}
 use Rattle.code.specs.Cells.{opIn, valueIn, headAt, opAt, linkAt}
-use Rattle.code.specs.Steps.{aCallTarget, numbered}
+use Rattle.code.specs.Steps.{aCallTarget, numbered, aTarget}
 use Rattle.code.specs.Signatures.{typeAt}
 use Rattle.grammar.specs.Form.{Parses}
 use Rattle.grammar.proofs.Places.{arguments-grow}
 use Rattle.expressions.specs.declared.Judged.{Judged}
 use Rattle.expressions.specs.declared.Judged.the-variants.{Typed, Faulty}
 use Rattle.store.specs.Promises.{Kept, Linked}
-use Rattle.expressions.specs.Answers.{typeIf}
 use Rattle.store.proofs.Keeping.{cell-above, head-below, kept-wider, kept-on}
 use Rattle.expressions.proofs.Judging.{append-none}
 use Rattle.faults.specs.First.{First, Leads}
@@ -38,8 +37,8 @@ use Rattle.links.proofs.Moving.{still-value, still-place, still-moves, argument
 use Rattle.links.proofs.Framing.{same-cells, same-moves}
 use Rattle.simple.specs.declared.Callee.{Callee}
 use Rattle.simple.specs.declared.Callee.the-variants.{At, Wrong}
-use Rattle.simple.specs.Around.{Around, groundOf}
-use Rattle.simple.specs.Answers.{Fine, Answer}
+use Rattle.around.specs.Around.{Around, groundOf}
+use Rattle.around.specs.Answers.{Fine, Answer}
 use Rattle.simple.specs.Parts.{TypeDiffers, Callees, CalleeFound, CalleeWrong, CalleeSays, CalleeTold, CallSide, signatureFor, CallWritten, CallJudged, ForCalls, ForWritten, forFaults, ForJudged, CallAssigns, CallAssigned}
 use Rattle.simple.proofs.Asking.{quiet-below, quiet-above, answer-first, answer-fine, answered-fine, answered-first}
 use Rattle.simple.proofs.Passing.{type-at}
@@ -47,6 +46,9 @@ use Rattle.simple.proofs.Arguing.{unread-part}
 use Rattle.simple.proofs.Calling.{raw-arguments, answer-on, closes-low}
 use Rattle.simple.proofs.Found.{differs-turned, found-room, found-signature, found-faults, found-result, found-read}
 use Rattle.simple.proofs.Assigning.{link-above, aims-below, aims-above, aims-few, raw-target}
+use Rattle.layout.specs.Rules.{wrongType, wrongCount}
+use Rattle.layout.specs.Types.{typeIn, IsType}
+use mathlib.Core.Option.{some}
 
 -- ---- what the name of a callee is told to be
 pub told-found : {text values : List ℕ} (a : Around text values) (code : List ℕ) (function : Bool) (i : ℕ) (r : Callee) (h : ℕ) → r ≡ At h → CalleeSays a code function i r
@@ -63,7 +65,7 @@ no-result : (W : List Word) (j : types.Judged) (o : Option DataType) (i : ℕ) �
 unfolding resultFaults
 no-result W j o i e = rw e
 
-a-result : (W : List Word) (j : types.Judged) (o : Option DataType) (t : DataType) (i : ℕ) → o ≡ some t → resultFaults W j o i ≡ faultIf (differs (j .type) t) 13 i
+a-result : (W : List Word) (j : types.Judged) (o : Option DataType) (t : DataType) (i : ℕ) → o ≡ some t → resultFaults W j o i ≡ faultIf (differs (j .type) t) wrongType i
 unfolding resultFaults
 a-result W j o t i e = rw e
 
@@ -131,41 +133,40 @@ module _ (code values : List ℕ) (i : ℕ) (g : ForCalls code values i) where
       for-params : List DataType
       for-params = signatureFor (g .around) h .parameters
 
-      callee-are : calleeFaults (g .around .known .W) (g .around .K) true (meaning (g .around .known .S) (spelled (g .around .known .W) i)) i (g .es) ≡ faultIf (not (eqb (length (signatureFor (g .around) h .parameters)) (length (g .es)))) 14 i
+      callee-are : calleeFaults (g .around .known .W) (g .around .K) true (meaning (g .around .known .S) (spelled (g .around .known .W) i)) i (g .es) ≡ faultIf (not (eqb (length (signatureFor (g .around) h .parameters)) (length (g .es)))) wrongCount i
       callee-are = found-faults (g .around) code i (g .z + 1) true h for-found (g .calls) (g .es)
 
       result-are : (j : types.Judged) → resultFaults (g .around .known .W) j (signatureOf (g .around .known .W) (g .around .K) (meaning (g .around .known .S) (spelled (g .around .known .W) i)) .result) i
-          ≡ faultIf (differs (j .type) (typeAt (wordsOf code) (h + 1))) 13 i
+          ≡ faultIf (differs (j .type) (typeAt (wordsOf code) (h + 1))) wrongType i
       result-are j =
           a-result (g .around .known .W) j _ (typeAt (wordsOf code) (h + 1)) i
           (ap (λ (x : Signature). x .result) (found-signature (g .around) code i (g .z + 1) true h for-found (g .calls)) ∙ found-result (g .around) code i (g .z + 1) true h for-found (g .calls) refl)
 
-      module _ (w : ℕ) (ew : w ≡ headAt (wordsOf code) (h + 1)) (wants t : Bool) (d : TypeDiffers w wants t) (j : types.Judged) (ty : j .type ≡ typeIf wants) where
+      module _ (w : ℕ) (ew : w ≡ headAt (wordsOf code) (h + 1)) (wants : ℕ) (t : Bool) (d : TypeDiffers w wants t) (j : types.Judged) (ty : typeIn wants ≡ some (j .type)) where
         result-differs : differs (j .type) (typeAt (wordsOf code) (h + 1)) ≡ t
         result-differs =
-            ap (λ (x : DataType). differs x (typeAt (wordsOf code) (h + 1))) ty ∙ differs-turned (typeIf wants) (typeAt (wordsOf code) (h + 1))
-            ∙ sym (ap (λ (x : DataType). differs x (typeIf wants)) (type-at (wordsOf code) (h + 1) w ew)) ∙ d .is
+            differs-turned (j .type) (typeAt (wordsOf code) (h + 1)) ∙ sym (ap (λ (x : DataType). differs x (j .type)) (type-at (wordsOf code) (h + 1) w ew)) ∙ d .is (j .type) ty
 
-        for-differs-first : t ≡ true → First (record { number = 13; at = i }) (forFaults g j)
+        for-differs-first : t ≡ true → First (record { number = wrongType; at = i }) (forFaults g j)
         unfolding callFaults
         for-differs-first y =
             first-right
-            (subst (Leads (record { number = 13; at = i })) (sym callee-are) (leads-same-if (record { number = 13; at = i }) _ 14 i refl (omega arith)) and for-later 13 _)
-            (subst (First (record { number = 13; at = i })) (sym (result-are j)) (first-if _ 13 i (result-differs ∙ y)))
+            (subst (Leads (record { number = wrongType; at = i })) (sym callee-are) (leads-same-if (record { number = wrongType; at = i }) _ wrongCount i refl (omega arith)) and for-later wrongType _)
+            (subst (First (record { number = wrongType; at = i })) (sym (result-are j)) (first-if _ wrongType i (result-differs ∙ y)))
 
         -- nothing but the count and the arguments
         for-faults : t ≡ false → forFaults g j
-            ≡ faultIf (not (eqb (length (signatureFor (g .around) h .parameters)) (length (g .es)))) 14 i ++ argumentFaults (g .around .known .W) (g .around .known .S) (signatureFor (g .around) h .parameters) (g .es)
+            ≡ faultIf (not (eqb (length (signatureFor (g .around) h .parameters)) (length (g .es)))) wrongCount i ++ argumentFaults (g .around .known .W) (g .around .known .S) (signatureFor (g .around) h .parameters) (g .es)
         unfolding callFaults faultIf
         for-faults y =
             ap₂ {C = List Fault} (λ (x z : List Fault). x ++ z)
             (ap₂ {C = List Fault} (λ (x : List Fault) (s : Signature). x ++ argumentFaults (g .around .known .W) (g .around .known .S) (s .parameters) (g .es)) callee-are
             (found-signature (g .around) code i (g .z + 1) true h for-found (g .calls)))
-            (result-are j ∙ ap (λ (b : Bool). faultIf b 13 i) (result-differs ∙ y))
+            (result-are j ∙ ap (λ (b : Bool). faultIf b wrongType i) (result-differs ∙ y))
             ∙ append-none _
 
         for-written : (final : List ℕ) (next : ℕ) → t ≡ false
-            → Fine (faultIf (not (eqb (length (signatureFor (g .around) h .parameters)) (length (g .es)))) 14 i ++ argumentFaults (g .around .known .W) (g .around .known .S) (signatureFor (g .around) h .parameters) (g .es))
+            → Fine (faultIf (not (eqb (length (signatureFor (g .around) h .parameters)) (length (g .es)))) wrongCount i ++ argumentFaults (g .around .known .W) (g .around .known .S) (signatureFor (g .around) h .parameters) (g .es))
             code final i (g .z) next (CallWritten for-side (wordsOf final) 1)
             → Fine (forFaults g j) code final i (g .z) next (ForWritten g (wordsOf final))
         unfolding for-side
@@ -188,13 +189,13 @@ module _ (code values : List ℕ) (i : ℕ) (g : ForCalls code values i) where
             answer-on _ (forFaults g j) code code final i (g .z) i (g .z) (CallWritten for-side (wordsOf final) 1) (ForWritten g (wordsOf final)) q (c .is for-side) refl
             (λ x f. subst (First x) (sym (for-faults y)) f) (λ next f. for-written final next y f)
 
-module _ (code values : List ℕ) (wants : Bool) (i : ℕ) (r : Callee) (c : CalleeTold code values true i r) where
+module _ (code values : List ℕ) (wants : ℕ) (i : ℕ) (r : Callee) (c : CalleeTold code values true i r) where
   pub for-wrong : (number : ℕ) → r ≡ Wrong number → ForJudged code values code wants i (Faulty number i)
   for-wrong number e = record { is = λ g j ty. answer-first (forFaults g j) code code i (g .z) _ (Faulty number i) number i refl refl (for-wrong-first code values i g r c number e j) }
 
   module _ (h : ℕ) (e : r ≡ At h) (w : ℕ) (ew : w ≡ headAt (wordsOf code) (h + 1)) (t : Bool) (d : TypeDiffers w wants t) where
-    pub for-differs : t ≡ true → ForJudged code values code wants i (Faulty 13 i)
-    for-differs y = record { is = λ g j ty. answer-first (forFaults g j) code code i (g .z) _ (Faulty 13 i) 13 i refl refl (for-differs-first code values i g r c h e w ew wants t d j ty y) }
+    pub for-differs : t ≡ true → ForJudged code values code wants i (Faulty wrongType i)
+    for-differs y = record { is = λ g j ty. answer-first (forFaults g j) code code i (g .z) _ (Faulty wrongType i) wrongType i refl refl (for-differs-first code values i g r c h e w ew wants t d j ty y) }
 
     pub for-called : t ≡ false → (final : List ℕ) (q : Judged) → CallJudged code values final 1 h i (i + 2) 7 q → ForJudged code values final wants i q
     for-called y final q x = record { is = λ g j ty. for-answer code values i g r c h e w ew wants t d j ty final q y x }
@@ -207,14 +208,14 @@ module _ (code values : List ℕ) (i b : ℕ) (g : CallAssigns code values i b) 
   pub assign-small : b + 1 < 8192
   assign-small = omega (arith, assign-on, g .for .unread .loaded .last)
 
-  module _ (wants : Bool) (j : types.Judged) (ty : j .type ≡ typeIf wants) (mid : List ℕ) (r : Judged) (f : ForJudged code values mid wants (b + 1) r) where
+  module _ (wants : ℕ) (j : types.Judged) (ty : typeIn wants ≡ some (j .type)) (mid : List ℕ) (r : Judged) (f : ForJudged code values mid wants (b + 1) r) where
     assign-answer : Answer (forFaults (g .for) j) code mid (b + 1) (g .for .z) (ForWritten (g .for) (wordsOf mid)) r
     assign-answer = f .is (g .for) j ty
 
     assign-first : (number word : ℕ) → r ≡ Faulty number word → First (record { number = number; at = word }) (forFaults (g .for) j)
     assign-first number word e = answered-first _ _ _ _ _ _ r assign-answer number word e
 
-    module _ (bool : Bool) (end : ℕ) (e : r ≡ Typed bool end) where
+    module _ (bool : ℕ) (end : ℕ) (e : r ≡ Typed bool end) where
       assign-fine : Fine (forFaults (g .for) j) code mid (b + 1) (g .for .z) end (ForWritten (g .for) (wordsOf mid))
       assign-fine = answered-fine _ _ _ _ _ _ r assign-answer bool end e
 
@@ -258,37 +259,37 @@ module _ (code values : List ℕ) (i b : ℕ) (g : CallAssigns code values i b) 
             }
 
     -- room for what is written
-    pub assign-room : (bool : Bool) (end : ℕ) → r ≡ Typed bool end → (end + 2 < 65536) × (i * 8 + 8 ≤ length mid)
+    pub assign-room : (bool : ℕ) (end : ℕ) → r ≡ Typed bool end → (end + 2 < 65536) × (i * 8 + 8 ≤ length mid)
     assign-room bool end e =
         (omega (arith, assign-fine bool end e .next-is, g .for .unread .loaded .last), omega (arith, assign-fine bool end e .kept .long, g .before, assign-on, g .for .unread .loaded .room))
 
-    pub assign-op : (w : ℕ) → w ≡ headAt (wordsOf mid) i → (bool : Bool) (end : ℕ) → r ≡ Typed bool end → w % 256 + 4 < 256
+    pub assign-op : (w : ℕ) → w ≡ headAt (wordsOf mid) i → (bool : ℕ) (end : ℕ) → r ≡ Typed bool end → w % 256 + 4 < 256
     assign-op w ew bool end e =
-        let h : w % 256 ≡ 128 + g .target .k = ap opIn (ew ∙ head-below (assign-fine bool end e .kept) i (omega (arith, g .before))) ∙ g .target .op-is in
+        let h : w % 256 ≡ aTarget + g .target .k = ap opIn (ew ∙ head-below (assign-fine bool end e .kept) i (omega (arith, g .before))) ∙ g .target .op-is in
         omega (arith, h, aims-few (g .for .around .known .m) (g .for .around .known .n) (wordsOf code) (g .target .k) (g .target .v) _ i b (g .target .aims))
 
-module _ (code values : List ℕ) (wants : Bool) (i b : ℕ) (mid : List ℕ) (r : Judged) (f : ForJudged code values mid wants (b + 1) r) where
+module _ (code values : List ℕ) (wants : ℕ) (i b : ℕ) (mid : List ℕ) (r : Judged) (f : ForJudged code values mid wants (b + 1) r) where
   pub call-faulty : (number word : ℕ) → r ≡ Faulty number word → CallAssigned code values mid wants i b r
   call-faulty number word e = record {
     is = λ g j ty. answer-first _ code mid i (g .for .z + 2) _ r number word e (assign-answer code values i b g wants j ty mid r f .long) (assign-first code values i b g wants j ty mid r f number word e);
   }
 
-  pub call-typed : (bool : Bool) (end : ℕ) → r ≡ Typed bool end → (w : ℕ) → w ≡ headAt (wordsOf mid) i → (after : List ℕ) → Linked mid after i (w % 256 + 4) (w / 256) (end + 2)
+  pub call-typed : (bool : ℕ) (end : ℕ) → r ≡ Typed bool end → (w : ℕ) → w ≡ headAt (wordsOf mid) i → (after : List ℕ) → Linked mid after i (w % 256 + 4) (w / 256) (end + 2)
       → CallAssigned code values after wants i b (Typed bool (end + 2))
   call-typed bool end e w ew after l = record {
     is = λ g j ty. answer-fine _ code after i (g .for .z + 2) _ bool (end + 2) (call-assigned code values i b g wants j ty mid r f bool end e w ew after l);
   }
 
 -- room for what is written
-module _ (code values : List ℕ) (wants : Bool) (i b : ℕ) (g : CallAssigns code values i b) (mid : List ℕ) (r : Judged) (f : ForJudged code values mid wants (b + 1) r) (bool : Bool) (end : ℕ) (e : r ≡ Typed bool end) where
+module _ (code values : List ℕ) (wants : ℕ) (i b : ℕ) (g : CallAssigns code values i b) (mid : List ℕ) (r : Judged) (f : ForJudged code values mid wants (b + 1) r) (bool end : ℕ) (e : r ≡ Typed bool end) (k : IsType wants) where
   -- any target of the type
   of-type-wanted : types.Judged
-  of-type-wanted = record { type = typeIf wants; faults = []; term = literal (pos 0) }
+  of-type-wanted = record { type = k .type; faults = []; term = literal (pos 0) }
 
   pub assign-fits : (end + 2 < 65536) × (i * 8 + 8 ≤ length mid)
   unfolding of-type-wanted
-  assign-fits = assign-room code values i b g wants of-type-wanted refl mid r f bool end e
+  assign-fits = assign-room code values i b g wants of-type-wanted (k .is) mid r f bool end e
 
   pub assign-op-fits : (w : ℕ) → w ≡ headAt (wordsOf mid) i → w % 256 + 4 < 256
   unfolding of-type-wanted
-  assign-op-fits w ew = assign-op code values i b g wants of-type-wanted refl mid r f w ew bool end e
+  assign-op-fits w ew = assign-op code values i b g wants of-type-wanted (k .is) mid r f w ew bool end e

@@ -15,13 +15,12 @@ use Rattle.paper.specs.Checks.{judgeTarget, simpleFaults}
 use Rattle.paper.specs.Steps.{unquoted, spotOf}
 use Rattle.cells.specs.Words.{wordsOf}
 use Rattle.code.specs.Cells.{opIn, valueIn, valueAt, linkAt}
-use Rattle.code.specs.Steps.{aTarget}
+use Rattle.code.specs.Steps.{aTarget, aRead}
 use Rattle.grammar.specs.Form.{Parses}
 use Rattle.grammar.proofs.Places.{target-grows}
 use Rattle.grammar.proofs.Inversions as inversions
 use Rattle.expressions.specs.declared.Judged.{Judged}
 use Rattle.expressions.specs.declared.Judged.the-variants.{Typed, Faulty}
-use Rattle.expressions.specs.Answers.{typeIf}
 use Rattle.store.specs.Promises.{Linked}
 use Rattle.store.proofs.Keeping.{head-below, head-above, kept-wider, kept-on}
 use Rattle.expressions.proofs.Judging.{append-none}
@@ -31,14 +30,18 @@ use Rattle.faults.proofs.First.{first-fault}
 use Rattle.faults.proofs.Expressions.{grows}
 use Rattle.faults.proofs.Statements.{target-orderly}
 use Rattle.links.specs.Raw.{RawDoes, RawText}
-use Rattle.simple.specs.Around.{groundOf}
-use Rattle.simple.specs.Answers.{Fine, Answers}
+use Rattle.around.specs.Around.{groundOf}
+use Rattle.around.specs.Answers.{Fine}
+use Rattle.simple.specs.Answers.{Answers}
 use Rattle.simple.specs.Parts.{Begins, BeginsOf, BegunOf, Targets, Aimed, AimAnswer, TargetJudged, Strings, Spelled}
 use Rattle.simple.proofs.Asking.{quiet-below, quiet-above}
 use Rattle.simple.proofs.Aiming.{aimed-fine, aimed-first}
 use Rattle.simple.proofs.Assigning.{aims-below, aims-above, raw-target}
 use Rattle.simple.proofs.Stating.{stands-room, stated-first, stated-fine}
 use Rattle.simple.proofs.Speaking.{string-at, raw-text}
+use Rattle.layout.specs.Rules.{wrongType}
+use Rattle.layout.specs.Types.{numType}
+use Rattle.layout.proofs.Typing.{num-in, same-types, types-differ}
 
 -- ---- a target that has to be a num
 no-first : {A : Type 0} (f : Fault) → First f [] → A
@@ -48,8 +51,8 @@ wanted-refused : (j : types.Judged) (i : ℕ) → j .type ≡ refusedPiece → w
 unfolding wanted differs faultIf
 wanted-refused j i t = rw (t, wanted) (append-none (j .faults))
 
-wanted-bool : (j : types.Judged) (i : ℕ) → j .faults ≡ [] → j .type ≡ aBool → wanted aNum i j ≡ fault 13 i
-unfolding wanted differs faultIf
+wanted-bool : (j : types.Judged) (i : ℕ) → j .faults ≡ [] → differs aNum (j .type) ≡ true → wanted aNum i j ≡ fault wrongType i
+unfolding wanted faultIf
 wanted-bool j i n t = rw (n, t, wanted)
 
 wanted-num : (j : types.Judged) (i : ℕ) → j .faults ≡ [] → j .type ≡ aNum → wanted aNum i j ≡ []
@@ -98,7 +101,7 @@ module _ (code values : List ℕ) (i : ℕ) (c : Begins 92 code values i) where
         (wanted-first (judgeTarget (c .stands .around .known .W) (c .stands .around .known .S) (read-is .t)) (read-is .t .name) (record { number = number; at = word })
         (target-orderly (c .stands .around .known .W) (c .stands .around .known .S) (read-is .target) .refused) f)
 
-    module _ (bool : Bool) (b : ℕ) (e : r ≡ Typed bool b) where
+    module _ (bool : ℕ) (b : ℕ) (e : r ≡ Typed bool b) where
       aimed : Fine (judgeTarget (c .stands .around .known .W) (c .stands .around .known .S) (read-is .t) .faults) code mid (i + 1) (read-is .n) b
           (Aimed (c .stands .around .known .m) (c .stands .around .known .n) (wordsOf mid) (judgeTarget (c .stands .around .known .W) (c .stands .around .known .S) (read-is .t))
           (spotOf (c .stands .around .known .W) (c .stands .around .known .S) (read-is .t)) (i + 1) (read-is .n) bool)
@@ -107,15 +110,15 @@ module _ (code values : List ℕ) (i : ℕ) (c : Begins 92 code values i) where
       pub read-end : (b + 3 < 8200) × (i * 8 + 8 ≤ length mid)
       read-end = (omega (arith, aimed .next-is, read-is .after, c .stands .unread .loaded .last), omega (arith, stands-room code values i (c .stands) .0, read-answer .long))
 
-      read-wrong : bool ≡ true → Answers (c .stands) mid (Faulty 13 (i + 1))
-      unfolding simpleFaults typeIf
+      read-wrong : (bool ≡ numType → ⊥) → Answers (c .stands) mid (Faulty wrongType (i + 1))
+      unfolding simpleFaults
       read-wrong y =
-          stated-first code values i (c .stands) (reads i (read-is .t) (read-is .n + 1)) (read-is .is) mid (Faulty 13 (i + 1)) 13 (i + 1) refl (read-answer .long)
-          (subst (First (record { number = 13; at = i + 1 }))
-          (sym (wanted-bool (judgeTarget (c .stands .around .known .W) (c .stands .around .known .S) (read-is .t)) (read-is .t .name) (aimed .none) (aimed .written .type-is ∙ ap typeIf y) ∙ ap (fault 13) (read-is .target .named)))
-          (first-fault 13 (i + 1)))
+          stated-first code values i (c .stands) (reads i (read-is .t) (read-is .n + 1)) (read-is .is) mid (Faulty wrongType (i + 1)) wrongType (i + 1) refl (read-answer .long)
+          (subst (First (record { number = wrongType; at = i + 1 }))
+          (sym (wanted-bool (judgeTarget (c .stands .around .known .W) (c .stands .around .known .S) (read-is .t)) (read-is .t .name) (aimed .none) (types-differ numType bool aNum _ num-in (aimed .written .type-is) (λ q. y (sym q))) ∙ ap (fault wrongType) (read-is .target .named)))
+          (first-fault wrongType (i + 1)))
 
-      module _ (n : bool ≡ false) where
+      module _ (n : bool ≡ numType) where
         pub read-string : Strings (c .stands .text) mid (b + 1)
         read-string =
             let q : read-is .n + 1 ≡ b + 1 = ap (λ (x : ℕ). x + 1) (sym (aimed .next-is)) in
@@ -135,8 +138,8 @@ module _ (code values : List ℕ) (i : ℕ) (c : Begins 92 code values i) where
           pub read-room : (i * 8 + 8 ≤ length one) × (length one ≡ length code)
           read-room = (omega (arith, read-end .1, read-linked .kept .long), read-linked .kept .long ∙ read-answer .long)
 
-          read-right : (after : List ℕ) → Linked one after i 146 (b + 1) (b + 3) → Answers (c .stands) after (Typed bool (b + 3))
-          unfolding simpleFaults RawDoes typeIf
+          read-right : (after : List ℕ) → Linked one after i aRead (b + 1) (b + 3) → Answers (c .stands) after (Typed bool (b + 3))
+          unfolding simpleFaults RawDoes
           read-right after l =
               let g = c .stands in
               let known = g .around .known in
@@ -147,7 +150,7 @@ module _ (code values : List ℕ) (i : ℕ) (c : Begins 92 code values i) where
               let head = head-above (l .kept) (i + 1) (omega arith) ∙ head-below (read-linked .kept) (i + 1) (omega (arith, read-on)) in
               let text-head = head-above (l .kept) (read-is .n + 1) (omega (arith, read-on)) in
               stated-fine code values i g (reads i (read-is .t) (read-is .n + 1)) (read-is .is) after bool (b + 3)
-              (wanted-num (judgeTarget (known .W) (known .S) (read-is .t)) (read-is .t .name) (aimed .none) (aimed .written .type-is ∙ ap typeIf n)) three
+              (wanted-num (judgeTarget (known .W) (known .S) (read-is .t)) (read-is .t .name) (aimed .none) (same-types bool numType _ aNum (aimed .written .type-is) num-in n)) three
               (kept-on (kept-on (kept-wider (aimed .kept) i (g .to + 1) (omega arith) (omega (arith, read-is .after))) (kept-wider (read-linked .kept) i (g .to + 1) (omega (arith, read-on)) (omega (arith, read-is .after))))
               (kept-wider (l .kept) i (g .to + 1) (omega arith) (omega (arith, read-is .after, read-on))))
               (record {
@@ -173,11 +176,11 @@ module _ (text code values : List ℕ) (i : ℕ) (c : BeginsOf 92 text code valu
   pub reads-small : i + 1 < 8192
   reads-small = read-small code values i (c .begins)
 
-  module _ (mid : List ℕ) (r : Judged) (t : TargetJudged code values mid (i + 1) r) (bool : Bool) (b : ℕ) (e : r ≡ Typed bool b) where
+  module _ (mid : List ℕ) (r : Judged) (t : TargetJudged code values mid (i + 1) r) (bool : ℕ) (b : ℕ) (e : r ≡ Typed bool b) where
     pub reads-end : (b + 3 < 8200) × (i * 8 + 8 ≤ length mid)
     reads-end = read-end code values i (c .begins) mid r t bool b e
 
-    module _ (n : bool ≡ false) where
+    module _ (n : bool ≡ numType) where
       pub reads-string : Strings text mid (b + 1)
       reads-string = subst (λ (x : List ℕ). Strings x mid (b + 1)) (c .text-is) (read-string code values i (c .begins) mid r t bool b e n)
 
@@ -192,9 +195,9 @@ module _ (text code values : List ℕ) (i : ℕ) (mid : List ℕ) (r : Judged) (
   pub heard-faulty : (number word : ℕ) → r ≡ Faulty number word → BegunOf 92 text code values mid i r
   heard-faulty number word e = record { is = λ c. read-faulty code values i (c .begins) mid r t number word e }
 
-  module _ (bool : Bool) (b : ℕ) (e : r ≡ Typed bool b) where
-    pub heard-wrong : bool ≡ true → BegunOf 92 text code values mid i (Faulty 13 (i + 1))
+  module _ (bool : ℕ) (b : ℕ) (e : r ≡ Typed bool b) where
+    pub heard-wrong : (bool ≡ numType → ⊥) → BegunOf 92 text code values mid i (Faulty wrongType (i + 1))
     heard-wrong y = record { is = λ c. read-wrong code values i (c .begins) mid r t bool b e y }
 
-    pub heard-right : bool ≡ false → (one : List ℕ) → Spelled text mid one (b + 1) → (after : List ℕ) → Linked one after i 146 (b + 1) (b + 3) → BegunOf 92 text code values after i (Typed bool (b + 3))
+    pub heard-right : bool ≡ numType → (one : List ℕ) → Spelled text mid one (b + 1) → (after : List ℕ) → Linked one after i aRead (b + 1) (b + 3) → BegunOf 92 text code values after i (Typed bool (b + 3))
     heard-right n one sp after l = record { is = λ c. read-right code values i (c .begins) mid r t bool b e n one (spelled-there text code values i c mid r t bool b e n one sp) after l }

@@ -13,7 +13,7 @@ use Rattle.paper.specs.Trees.{Expr, Simple, returns, raises, exits, retries, tr
 use Rattle.paper.specs.Expressions.{nestings}
 use Rattle.paper.specs.Words.{Word}
 use Rattle.paper.specs.Names.{DataType, aNum, Scopes, sortIn}
-use Rattle.paper.specs.Types.{fault, faultIf, faultsOf, ofType}
+use Rattle.paper.specs.Types.{Fault, fault, faultIf, faultsOf, ofType}
 use Rattle.paper.specs.Checks.{isSome, inError, returnFaults, simpleFaults}
 use Rattle.paper.specs.Checks as checks
 use Rattle.cells.specs.Words.{wordsOf}
@@ -22,19 +22,22 @@ use Rattle.grammar.specs.Form.{Parses, ExprAt}
 use Rattle.grammar.proofs.Inversions.{WithOptional, Given, Alone, simple-return, simple-raise, simple-exit, simple-retry, simple-trynext, optional-none, optional-some}
 use Rattle.expressions.specs.declared.Judged.{Judged}
 use Rattle.expressions.specs.declared.Judged.the-variants.{Faulty}
-use Rattle.expressions.specs.Answers.{typeIf}
 use Rattle.store.proofs.Keeping.{kept-wider}
 use Rattle.expressions.proofs.Starts.{loaded-part}
 use Rattle.faults.specs.First.{First}
 use Rattle.faults.proofs.First.{first-fault, first-if, first-left, leads-later}
 use Rattle.faults.proofs.Expressions.{faults-of-inside, of-type-inside}
-use Rattle.links.specs.Raw.{RawWord, RawDoes}
-use Rattle.simple.specs.declared.Setting.{Setting}
-use Rattle.simple.specs.Around.{groundOf, resultIf, Tells}
+use Rattle.links.specs.Raw.{RawWord, RawValued, RawDoes}
+use Rattle.around.specs.declared.Setting.{Setting}
+use Rattle.around.specs.Around.{groundOf, Tells}
 use Rattle.simple.specs.Answers.{Stands, Answers, Statement, Stated}
 use Rattle.simple.specs.Parts.{BeginsIn, BegunIn, Values, Valued}
 use Rattle.simple.specs.Parts as parts
 use Rattle.simple.proofs.Stating.{stands-on, stands-room, stands-sort, stated-first, stated-fine, stated-on}
+use Rattle.code.specs.Steps.{aReturnOf, aReturn, aRaiseOf, aRaise, anExit, aRetry, aTryNext}
+use Rattle.layout.specs.Rules.{barred}
+use Rattle.layout.specs.Types.{noType, numType, typeIn, IsType}
+use Rattle.layout.proofs.Typing.{num-in}
 
 -- ---- one word
 module _ (code values : List ℕ) (at : ℕ) (g : Stands code values at) (s : Simple) (is : g .s ≡ s) (one : g .to ≡ at + 1) (op : ℕ) (fine : Bool) (after : List ℕ) (r : Judged) (a : parts.Alone code after op fine at r) where
@@ -46,13 +49,13 @@ module _ (code values : List ℕ) (at : ℕ) (g : Stands code values at) (s : Si
       let l = y .0 in
       let two : at + 2 ≡ g .to + 1 = omega (arith, one) in
       subst (Answers g after) (sym (y .1))
-      (stated-fine code values at g s is after false (at + 2) n two (kept-wider (l .kept) at (g .to + 1) (omega arith) (omega (arith, one))) (d (record { is = l .op-is; leaves = l .link-is ∙ two })))
+      (stated-fine code values at g s is after noType (at + 2) n two (kept-wider (l .kept) at (g .to + 1) (omega arith) (omega (arith, one))) (d (record { is = l .op-is; leaves = l .link-is ∙ two })))
 
   -- and where it may not: "17"
-  pub word-broken : fine ≡ false → First (record { number = 17; at = at }) (simpleFaults (g .around .known .W) (g .around .K) (g .around .known .S) s) → Answers g after r
+  pub word-broken : fine ≡ false → First (record { number = barred; at = at }) (simpleFaults (g .around .known .W) (g .around .K) (g .around .known .S) s) → Answers g after r
   word-broken f x =
       let n = a .no f in
-      stated-first code values at g s is after r 17 at (n .1) (ap length (n .0)) x
+      stated-first code values at g s is after r barred at (n .1) (ap length (n .0)) x
 
 -- ---- an expression behind the first word
 module _ (code values : List ℕ) (at : ℕ) (g : Stands code values at) (e : Expr) (stands : ExprAt (sortIn (g .around .known .W)) (Parses (sortIn (g .around .known .W))) e (at + 1) (g .to)) where
@@ -70,14 +73,21 @@ module _ (code values : List ℕ) (at : ℕ) (g : Stands code values at) (e : Ex
 
 -- ---- the setting
 result-none : (k : Setting) (K : checks.Setting) → Tells k K → k .result ≡ 0 → K .result ≡ none
-unfolding resultIf
-result-none k K t e = t .result ∙ rw (e, resultIf)
+unfolding typeIn
+result-none k K t e = t .result .is ∙ rw (e, typeIn)
 
-result-some : (k : Setting) (K : checks.Setting) → Tells k K → (k .result ≡ 0 → ⊥) → K .result ≡ some (typeIf (eqb (k .result) 2))
-unfolding resultIf
-result-some k K t d = t .result ∙ rw (ne-eqb (k .result) 0 d, resultIf)
+record SomeType (o : Option DataType) : Type 0 where
+  type : DataType
+  is : o ≡ some type
 
-proc-faults : (W : List Word) (K : checks.Setting) (S : Scopes) (i : ℕ) (e : Expr) → K .result ≡ none → simpleFaults W K S (returns i (some e)) ≡ fault 17 i ++ faultsOf W S e
+result-some : (k : Setting) (K : checks.Setting) → Tells k K → (k .result ≡ 0 → ⊥) → SomeType (K .result)
+result-some k K t d = by (K .result) (λ n. d (t .result .plain n))
+  where
+    by : (o : Option DataType) → (o ≡ none → ⊥) → SomeType o
+    by none f = absurd (f refl)
+    by (some x) f = record { type = x; is = refl }
+
+proc-faults : (W : List Word) (K : checks.Setting) (S : Scopes) (i : ℕ) (e : Expr) → K .result ≡ none → simpleFaults W K S (returns i (some e)) ≡ fault barred i ++ faultsOf W S e
 unfolding simpleFaults returnFaults
 proc-faults W K S i e n = rw (n, returnFaults)
 
@@ -85,137 +95,159 @@ func-faults : (W : List Word) (K : checks.Setting) (S : Scopes) (i : ℕ) (e : E
 unfolding simpleFaults returnFaults
 func-faults W K S i e t n = rw (n, returnFaults)
 
+-- ---- a word with an expression behind it, or with none: RETURN and RAISE
+module _ (code values : List ℕ) (i : ℕ) (g : Stands code values i) (make : ℕ → Option Expr → Simple)
+    (x : WithOptional (sortIn (g .around .known .W)) (Parses (sortIn (g .around .known .W))) make (g .s) i (g .to)) (s : ℕ) (es : s ≡ opAt (wordsOf code) (i + 1)) where
+  abbrev faults : Option Expr → List Fault
+  faults e = simpleFaults (g .around .known .W) (g .around .K) (g .around .known .S) (make i e)
+
+  abbrev does : (C : List ℕ) → Option Expr → Type 0
+  does C e = RawDoes (groundOf (g .around)) (g .around .known .n) C (g .around .known .S) (make i e) i (g .to + 1) (g .to + 1)
+
+  next-is : s ≡ sortIn (g .around .known .W) (i + 1)
+  next-is = es ∙ stands-sort code values i g (i + 1) (omega arith) (omega (arith, stands-on code values i g))
+
+  without : s ≡ 4 → (x .e ≡ none) × (g .to ≡ i + 1)
+  without e = optional-none (sortIn (g .around .known .W)) (Parses (sortIn (g .around .known .W))) (x .value) (sym next-is ∙ e)
+
+  -- the word alone, which may stand here or not
+  word-alone : s ≡ 4 → (op : ℕ) (fine : Bool) (after : List ℕ) (r : Judged) → parts.Alone code after op fine i r
+      → (fine ≡ true → (faults none ≡ []) × (RawWord (wordsOf after) op i (g .to + 1) → does (wordsOf after) none)) → (fine ≡ false → First (record { number = barred; at = i }) (faults none))
+      → Answers g after r
+  word-alone e op fine after r a fits breaks =
+      let is : g .s ≡ make i none = x .is ∙ ap (make i) (without e .0) in
+      test fine
+      (λ t. word-fine code values i g (make i none) is (without e .1) op fine after r a t (fits t .0) (fits t .1))
+      (λ t. word-broken code values i g (make i none) is (without e .1) op fine after r a t (breaks t))
+
+  module _ (d : s ≡ 4 → ⊥) where
+    given : Given (sortIn (g .around .known .W)) (Parses (sortIn (g .around .known .W))) (x .e) (i + 1) (g .to)
+    given = optional-some (sortIn (g .around .known .W)) (Parses (sortIn (g .around .known .W))) (x .value) (λ q. d (next-is ∙ q))
+
+    given-is : g .s ≡ make i (some (given .e))
+    given-is = x .is ∙ ap (make i) (given .is)
+
+    unfoldable given-values : Values code values (i + 1) i
+    given-values = value-side code values i g (given .e) (given .stands)
+
+    given-broken : First (record { number = barred; at = i }) (faults (some (given .e))) → Answers g code (Faulty barred i)
+    given-broken f = stated-first code values i g (make i (some (given .e))) given-is code (Faulty barred i) barred i refl refl f
+
+    given-fine : (op wants : ℕ) (t : DataType) → typeIn wants ≡ some t → faults (some (given .e)) ≡ ofType (g .around .known .W) t (g .around .known .S) (given .e) → (after : List ℕ)
+        → (RawValued (groundOf (g .around)) (g .around .known .n) (wordsOf after) (g .around .known .S) op (given .e) (i + 1) i (g .to + 1) (g .to + 1) → does (wordsOf after) (some (given .e)))
+        → (r : Judged) → Valued code values after op wants (i + 1) i r → Answers g after r
+    unfolding given-values value-side
+    given-fine op wants t w fs after raw r v =
+        stated-on code values i g (make i (some (given .e))) given-is after _ code i (g .to + 1) _ r (v .is given-values t w) refl
+        (λ y f. subst (First y) (sym fs) f)
+        (λ b next f. stated-fine code values i g (make i (some (given .e))) given-is after b next (fs ∙ f .none) (f .next-is) (f .kept) (raw (f .written .raw)))
+
 -- ---- RETURN
 module _ (k : Setting) (code values : List ℕ) (i : ℕ) (c : BeginsIn 74 k code values i) where
-  return-is : WithOptional (sortIn (c .begins .stands .around .known .W)) (Parses (sortIn (c .begins .stands .around .known .W))) returns (c .begins .stands .s) i (c .begins .stands .to)
-  return-is = simple-return (sortIn (c .begins .stands .around .known .W)) (Parses (sortIn (c .begins .stands .around .known .W))) (c .begins .stands .is) (c .begins .here)
+  abbrev g : Stands code values i
+  g = c .begins .stands
+
+  return-is : WithOptional (sortIn (g .around .known .W)) (Parses (sortIn (g .around .known .W))) returns (g .s) i (g .to)
+  return-is = simple-return (sortIn (g .around .known .W)) (Parses (sortIn (g .around .known .W))) (g .is) (c .begins .here)
 
   pub return-room : (i * 8 + 8 ≤ length code) × ((i + 1) * 8 + 8 ≤ length code) × (i + 1 < 8192)
-  return-room = stands-room code values i (c .begins .stands)
+  return-room = stands-room code values i g
 
   module _ (s : ℕ) (es : s ≡ opAt (wordsOf code) (i + 1)) where
-    return-next : s ≡ sortIn (c .begins .stands .around .known .W) (i + 1)
-    return-next = es ∙ stands-sort code values i (c .begins .stands) (i + 1) (omega arith) (omega (arith, stands-on code values i (c .begins .stands)))
+    return-alone : s ≡ 4 → (after : List ℕ) (r : Judged) → parts.Alone code after aReturn (eqb (k .result) 0) i r → Answers g after r
+    unfolding simpleFaults returnFaults isSome RawDoes groundOf faultIf
+    return-alone e after r a =
+        word-alone code values i g returns return-is s es e aReturn (eqb (k .result) 0) after r a
+        (λ t.
+        let n = result-none k (g .around .K) (c .tells) (eqb-true (k .result) 0 t) in
+        (ap (λ (o : Option DataType). faultIf (isSome o) barred i) n, λ w. record { word = w; no-function = ap isSome n }))
+        (λ t. first-if (isSome (g .around .K .result)) barred i (ap isSome (result-some k (g .around .K) (c .tells) (eqb-false (k .result) 0 t) .is)))
 
-    module _ (e : s ≡ 4) where
-      return-none : (return-is .e ≡ none) × (c .begins .stands .to ≡ i + 1)
-      return-none = optional-none (sortIn (c .begins .stands .around .known .W)) (Parses (sortIn (c .begins .stands .around .known .W))) (return-is .value) (sym return-next ∙ e)
-
-      return-alone : (after : List ℕ) (r : Judged) → parts.Alone code after 138 (eqb (k .result) 0) i r → Answers (c .begins .stands) after r
-      unfolding simpleFaults returnFaults isSome RawDoes groundOf faultIf
-      return-alone after r a =
-          let g = c .begins .stands in
-          let is : g .s ≡ returns i none = return-is .is ∙ ap (returns i) (return-none .0) in
-          test (eqb (k .result) 0)
-          (λ t.
-          let n = result-none k (g .around .K) (c .tells) (eqb-true (k .result) 0 t) in
-          word-fine code values i g (returns i none) is (return-none .1) 138 (eqb (k .result) 0) after r a t (ap (λ (o : Option DataType). faultIf (isSome o) 17 i) n) (λ w. record { word = w; no-function = ap isSome n }))
-          (λ t.
-          let n = result-some k (g .around .K) (c .tells) (eqb-false (k .result) 0 t) in
-          word-broken code values i g (returns i none) is (return-none .1) 138 (eqb (k .result) 0) after r a t (first-if (isSome (g .around .K .result)) 17 i (ap isSome n)))
+    pub return-type : (k .result ≡ 0 → ⊥) → IsType (k .result)
+    return-type z = let n = result-some k (g .around .K) (c .tells) z in record { type = n .type; is = sym (c .tells .result .is) ∙ n .is }
 
     module _ (d : s ≡ 4 → ⊥) where
-      return-some : Given (sortIn (c .begins .stands .around .known .W)) (Parses (sortIn (c .begins .stands .around .known .W))) (return-is .e) (i + 1) (c .begins .stands .to)
-      return-some = optional-some (sortIn (c .begins .stands .around .known .W)) (Parses (sortIn (c .begins .stands .around .known .W))) (return-is .value) (λ q. d (return-next ∙ q))
-
-      return-of : c .begins .stands .s ≡ returns i (some (return-some .e))
-      return-of = return-is .is ∙ ap (returns i) (return-some .is)
-
       pub return-values : Values code values (i + 1) i
-      return-values = value-side code values i (c .begins .stands) (return-some .e) (return-some .stands)
+      return-values = given-values code values i g returns return-is s es d
 
-      return-proc : k .result ≡ 0 → Answers (c .begins .stands) code (Faulty 17 i)
+      abbrev return-given : Given (sortIn (g .around .known .W)) (Parses (sortIn (g .around .known .W))) (return-is .e) (i + 1) (g .to)
+      return-given = given code values i g returns return-is s es d
+
+      return-proc : k .result ≡ 0 → Answers g code (Faulty barred i)
       return-proc z =
-          let g = c .begins .stands in
-          stated-first code values i g (returns i (some (return-some .e))) return-of code (Faulty 17 i) 17 i refl refl
-          (subst (First (record { number = 17; at = i })) (sym (proc-faults (g .around .known .W) (g .around .K) (g .around .known .S) i (return-some .e) (result-none k (g .around .K) (c .tells) z)))
-          (first-left (first-fault 17 i) (leads-later (record { number = 17; at = i }) (faults-of-inside (g .around .known .W) (suc nestings) (i + 1) (return-some .e) (g .to) (return-some .stands) (g .around .known .S)) (omega arith))))
+          given-broken code values i g returns return-is s es d
+          (subst (First (record { number = barred; at = i })) (sym (proc-faults (g .around .known .W) (g .around .K) (g .around .known .S) i (return-given .e) (result-none k (g .around .K) (c .tells) z)))
+          (first-left (first-fault barred i) (leads-later (record { number = barred; at = i }) (faults-of-inside (g .around .known .W) (suc nestings) (i + 1) (return-given .e) (g .to) (return-given .stands) (g .around .known .S)) (omega arith))))
 
-      return-func : (k .result ≡ 0 → ⊥) → (after : List ℕ) (r : Judged) → Valued code values after 137 (eqb (k .result) 2) (i + 1) i r → Answers (c .begins .stands) after r
-      unfolding isSome RawDoes groundOf return-values value-side
+      return-func : (k .result ≡ 0 → ⊥) → (after : List ℕ) (r : Judged) → Valued code values after aReturnOf (k .result) (i + 1) i r → Answers g after r
+      unfolding isSome RawDoes groundOf
       return-func z after r v =
-          let g = c .begins .stands in
           let n = result-some k (g .around .K) (c .tells) z in
-          let fs : simpleFaults (g .around .known .W) (g .around .K) (g .around .known .S) (returns i (some (return-some .e))) ≡ ofType (g .around .known .W) (typeIf (eqb (k .result) 2)) (g .around .known .S) (return-some .e) =
-          func-faults (g .around .known .W) (g .around .K) (g .around .known .S) i (return-some .e) (typeIf (eqb (k .result) 2)) n in
-          stated-on code values i g (returns i (some (return-some .e))) return-of after _ code i (g .to + 1) _ r (v .is return-values) refl
-          (λ x f. subst (First x) (sym fs) f)
-          (λ b next f. stated-fine code values i g (returns i (some (return-some .e))) return-of after b next (fs ∙ f .none) (f .next-is) (f .kept) (record { valued = f .written .raw; a-function = ap isSome n }))
+          given-fine code values i g returns return-is s es d aReturnOf (k .result) (n .type) (sym (c .tells .result .is) ∙ n .is)
+          (func-faults (g .around .known .W) (g .around .K) (g .around .known .S) i (return-given .e) (n .type) (n .is)) after
+          (λ w. record { valued = w; a-function = ap isSome (n .is) }) r v
 
 -- what it answers
 module _ (k : Setting) (code values : List ℕ) (i s : ℕ) (es : s ≡ opAt (wordsOf code) (i + 1)) where
-  pub returned-alone : s ≡ 4 → (after : List ℕ) (r : Judged) → parts.Alone code after 138 (eqb (k .result) 0) i r → BegunIn 74 k code values after i r
+  pub returned-alone : s ≡ 4 → (after : List ℕ) (r : Judged) → parts.Alone code after aReturn (eqb (k .result) 0) i r → BegunIn 74 k code values after i r
   returned-alone e after r a = record { is = λ c. return-alone k code values i c s es e after r a }
 
   module _ (d : s ≡ 4 → ⊥) where
-    pub returned-proc : k .result ≡ 0 → BegunIn 74 k code values code i (Faulty 17 i)
+    pub returned-proc : k .result ≡ 0 → BegunIn 74 k code values code i (Faulty barred i)
     returned-proc z = record { is = λ c. return-proc k code values i c s es d z }
 
-    pub returned-func : (k .result ≡ 0 → ⊥) → (after : List ℕ) (r : Judged) → Valued code values after 137 (eqb (k .result) 2) (i + 1) i r → BegunIn 74 k code values after i r
+    pub returned-func : (k .result ≡ 0 → ⊥) → (after : List ℕ) (r : Judged) → Valued code values after aReturnOf (k .result) (i + 1) i r → BegunIn 74 k code values after i r
     returned-func z after r v = record { is = λ c. return-func k code values i c s es d z after r v }
 
 -- ---- RAISE
 module _ (k : Setting) (code values : List ℕ) (i : ℕ) (c : BeginsIn 70 k code values i) where
-  raise-is : WithOptional (sortIn (c .begins .stands .around .known .W)) (Parses (sortIn (c .begins .stands .around .known .W))) raises (c .begins .stands .s) i (c .begins .stands .to)
-  raise-is = simple-raise (sortIn (c .begins .stands .around .known .W)) (Parses (sortIn (c .begins .stands .around .known .W))) (c .begins .stands .is) (c .begins .here)
+  abbrev u : Stands code values i
+  u = c .begins .stands
+
+  raise-is : WithOptional (sortIn (u .around .known .W)) (Parses (sortIn (u .around .known .W))) raises (u .s) i (u .to)
+  raise-is = simple-raise (sortIn (u .around .known .W)) (Parses (sortIn (u .around .known .W))) (u .is) (c .begins .here)
 
   pub raise-room : (i * 8 + 8 ≤ length code) × ((i + 1) * 8 + 8 ≤ length code) × (i + 1 < 8192)
-  raise-room = stands-room code values i (c .begins .stands)
+  raise-room = stands-room code values i u
 
   module _ (s : ℕ) (es : s ≡ opAt (wordsOf code) (i + 1)) where
-    raise-next : s ≡ sortIn (c .begins .stands .around .known .W) (i + 1)
-    raise-next = es ∙ stands-sort code values i (c .begins .stands) (i + 1) (omega arith) (omega (arith, stands-on code values i (c .begins .stands)))
-
-    module _ (e : s ≡ 4) where
-      raise-none : (raise-is .e ≡ none) × (c .begins .stands .to ≡ i + 1)
-      raise-none = optional-none (sortIn (c .begins .stands .around .known .W)) (Parses (sortIn (c .begins .stands .around .known .W))) (raise-is .value) (sym raise-next ∙ e)
-
-      raise-alone : (after : List ℕ) (r : Judged) → parts.Alone code after 140 (k .handler) i r → Answers (c .begins .stands) after r
-      unfolding simpleFaults RawDoes faultIf
-      raise-alone after r a =
-          let g = c .begins .stands in
-          let is : g .s ≡ raises i none = raise-is .is ∙ ap (raises i) (raise-none .0) in
-          test (k .handler)
-          (λ t. word-fine code values i g (raises i none) is (raise-none .1) 140 (k .handler) after r a t (ap (λ (b : Bool). faultIf (not b) 17 i) (sym (c .tells .handler) ∙ t)) (λ w. w))
-          (λ t. word-broken code values i g (raises i none) is (raise-none .1) 140 (k .handler) after r a t (first-if (not (inError (g .around .K .list))) 17 i (ap not (sym (c .tells .handler) ∙ t))))
+    raise-alone : s ≡ 4 → (after : List ℕ) (r : Judged) → parts.Alone code after aRaise (k .handler) i r → Answers u after r
+    unfolding simpleFaults RawDoes faultIf
+    raise-alone e after r a =
+        word-alone code values i u raises raise-is s es e aRaise (k .handler) after r a
+        (λ t. (ap (λ (b : Bool). faultIf (not b) barred i) (sym (c .tells .handler) ∙ t), λ w. w))
+        (λ t. first-if (not (inError (u .around .K .list))) barred i (ap not (sym (c .tells .handler) ∙ t)))
 
     module _ (d : s ≡ 4 → ⊥) where
-      raise-some : Given (sortIn (c .begins .stands .around .known .W)) (Parses (sortIn (c .begins .stands .around .known .W))) (raise-is .e) (i + 1) (c .begins .stands .to)
-      raise-some = optional-some (sortIn (c .begins .stands .around .known .W)) (Parses (sortIn (c .begins .stands .around .known .W))) (raise-is .value) (λ q. d (raise-next ∙ q))
-
-      raise-of : c .begins .stands .s ≡ raises i (some (raise-some .e))
-      raise-of = raise-is .is ∙ ap (raises i) (raise-some .is)
-
       pub raise-values : Values code values (i + 1) i
-      raise-values = value-side code values i (c .begins .stands) (raise-some .e) (raise-some .stands)
+      raise-values = given-values code values i u raises raise-is s es d
 
-      raise-handled : k .handler ≡ true → Answers (c .begins .stands) code (Faulty 17 i)
+      abbrev raise-given : Given (sortIn (u .around .known .W)) (Parses (sortIn (u .around .known .W))) (raise-is .e) (i + 1) (u .to)
+      raise-given = given code values i u raises raise-is s es d
+
+      raise-handled : k .handler ≡ true → Answers u code (Faulty barred i)
       unfolding simpleFaults
       raise-handled z =
-          let g = c .begins .stands in
-          stated-first code values i g (raises i (some (raise-some .e))) raise-of code (Faulty 17 i) 17 i refl refl
-          (first-left (first-if (inError (g .around .K .list)) 17 i (sym (c .tells .handler) ∙ z))
-          (leads-later (record { number = 17; at = i }) (of-type-inside (g .around .known .W) (suc nestings) (i + 1) (raise-some .e) (g .to) (raise-some .stands) aNum (g .around .known .S)) (omega arith)))
+          given-broken code values i u raises raise-is s es d
+          (first-left (first-if (inError (u .around .K .list)) barred i (sym (c .tells .handler) ∙ z))
+          (leads-later (record { number = barred; at = i }) (of-type-inside (u .around .known .W) (suc nestings) (i + 1) (raise-given .e) (u .to) (raise-given .stands) aNum (u .around .known .S)) (omega arith)))
 
-      raise-number : k .handler ≡ false → (after : List ℕ) (r : Judged) → Valued code values after 139 false (i + 1) i r → Answers (c .begins .stands) after r
-      unfolding simpleFaults RawDoes raise-values value-side faultIf typeIf
+      raise-number : k .handler ≡ false → (after : List ℕ) (r : Judged) → Valued code values after aRaiseOf numType (i + 1) i r → Answers u after r
+      unfolding simpleFaults RawDoes faultIf
       raise-number z after r v =
-          let g = c .begins .stands in
-          let fs : simpleFaults (g .around .known .W) (g .around .K) (g .around .known .S) (raises i (some (raise-some .e))) ≡ ofType (g .around .known .W) (typeIf false) (g .around .known .S) (raise-some .e) =
-          ap (λ (b : Bool). faultIf b 17 i ++ ofType (g .around .known .W) aNum (g .around .known .S) (raise-some .e)) (sym (c .tells .handler) ∙ z) in
-          stated-on code values i g (raises i (some (raise-some .e))) raise-of after _ code i (g .to + 1) _ r (v .is raise-values) refl
-          (λ x f. subst (First x) (sym fs) f)
-          (λ b next f. stated-fine code values i g (raises i (some (raise-some .e))) raise-of after b next (fs ∙ f .none) (f .next-is) (f .kept) (f .written .raw))
+          given-fine code values i u raises raise-is s es d aRaiseOf numType aNum num-in
+          (ap (λ (b : Bool). faultIf b barred i ++ ofType (u .around .known .W) aNum (u .around .known .S) (raise-given .e)) (sym (c .tells .handler) ∙ z)) after
+          (λ w. w) r v
 
 module _ (k : Setting) (code values : List ℕ) (i s : ℕ) (es : s ≡ opAt (wordsOf code) (i + 1)) where
-  pub raised-alone : s ≡ 4 → (after : List ℕ) (r : Judged) → parts.Alone code after 140 (k .handler) i r → BegunIn 70 k code values after i r
+  pub raised-alone : s ≡ 4 → (after : List ℕ) (r : Judged) → parts.Alone code after aRaise (k .handler) i r → BegunIn 70 k code values after i r
   raised-alone e after r a = record { is = λ c. raise-alone k code values i c s es e after r a }
 
   module _ (d : s ≡ 4 → ⊥) where
-    pub raised-handled : k .handler ≡ true → BegunIn 70 k code values code i (Faulty 17 i)
+    pub raised-handled : k .handler ≡ true → BegunIn 70 k code values code i (Faulty barred i)
     raised-handled z = record { is = λ c. raise-handled k code values i c s es d z }
 
-    pub raised-number : k .handler ≡ false → (after : List ℕ) (r : Judged) → Valued code values after 139 false (i + 1) i r → BegunIn 70 k code values after i r
+    pub raised-number : k .handler ≡ false → (after : List ℕ) (r : Judged) → Valued code values after aRaiseOf numType (i + 1) i r → BegunIn 70 k code values after i r
     raised-number z after r v = record { is = λ c. raise-number k code values i c s es d z after r v }
 
 -- ---- EXIT, RETRY, TRYNEXT
@@ -224,30 +256,30 @@ module _ (text code values : List ℕ) (k : Setting) (i s : ℕ) (es : s ≡ opA
     pub statement-sort : s ≡ sortIn (g .stands .around .known .W) i
     statement-sort = es ∙ stands-sort code values i (g .stands) i (omega arith) (omega (arith, stands-on code values i (g .stands)))
 
-  pub exited : s ≡ 53 → (after : List ℕ) (r : Judged) → parts.Alone code after 141 true i r → Stated text code values after k i r
+  pub exited : s ≡ 53 → (after : List ℕ) (r : Judged) → parts.Alone code after anExit true i r → Stated text code values after k i r
   unfolding simpleFaults RawDoes
   exited e after r a = record {
     is = λ g.
         let x = simple-exit (sortIn (g .stands .around .known .W)) (Parses (sortIn (g .stands .around .known .W))) (g .stands .is) (sym (statement-sort g) ∙ e) in
-        word-fine code values i (g .stands) (exits i) (x .alone) (x .after) 141 true after r a refl refl (λ w. w);
+        word-fine code values i (g .stands) (exits i) (x .alone) (x .after) anExit true after r a refl refl (λ w. w);
   }
 
-  pub retried : s ≡ 73 → (after : List ℕ) (r : Judged) → parts.Alone code after 142 (k .handler) i r → Stated text code values after k i r
+  pub retried : s ≡ 73 → (after : List ℕ) (r : Judged) → parts.Alone code after aRetry (k .handler) i r → Stated text code values after k i r
   unfolding simpleFaults RawDoes faultIf
   retried e after r a = record {
     is = λ g.
         let x = simple-retry (sortIn (g .stands .around .known .W)) (Parses (sortIn (g .stands .around .known .W))) (g .stands .is) (sym (statement-sort g) ∙ e) in
         test (k .handler)
-        (λ t. word-fine code values i (g .stands) (retries i) (x .alone) (x .after) 142 (k .handler) after r a t (ap (λ (b : Bool). faultIf (not b) 17 i) (sym (g .tells .handler) ∙ t)) (λ w. w))
-        (λ t. word-broken code values i (g .stands) (retries i) (x .alone) (x .after) 142 (k .handler) after r a t (first-if (not (inError (g .stands .around .K .list))) 17 i (ap not (sym (g .tells .handler) ∙ t))));
+        (λ t. word-fine code values i (g .stands) (retries i) (x .alone) (x .after) aRetry (k .handler) after r a t (ap (λ (b : Bool). faultIf (not b) barred i) (sym (g .tells .handler) ∙ t)) (λ w. w))
+        (λ t. word-broken code values i (g .stands) (retries i) (x .alone) (x .after) aRetry (k .handler) after r a t (first-if (not (inError (g .stands .around .K .list))) barred i (ap not (sym (g .tells .handler) ∙ t))));
   }
 
-  pub tried-next : s ≡ 82 → (after : List ℕ) (r : Judged) → parts.Alone code after 143 (k .handler) i r → Stated text code values after k i r
+  pub tried-next : s ≡ 82 → (after : List ℕ) (r : Judged) → parts.Alone code after aTryNext (k .handler) i r → Stated text code values after k i r
   unfolding simpleFaults RawDoes faultIf
   tried-next e after r a = record {
     is = λ g.
         let x = simple-trynext (sortIn (g .stands .around .known .W)) (Parses (sortIn (g .stands .around .known .W))) (g .stands .is) (sym (statement-sort g) ∙ e) in
         test (k .handler)
-        (λ t. word-fine code values i (g .stands) (triesNext i) (x .alone) (x .after) 143 (k .handler) after r a t (ap (λ (b : Bool). faultIf (not b) 17 i) (sym (g .tells .handler) ∙ t)) (λ w. w))
-        (λ t. word-broken code values i (g .stands) (triesNext i) (x .alone) (x .after) 143 (k .handler) after r a t (first-if (not (inError (g .stands .around .K .list))) 17 i (ap not (sym (g .tells .handler) ∙ t))));
+        (λ t. word-fine code values i (g .stands) (triesNext i) (x .alone) (x .after) aTryNext (k .handler) after r a t (ap (λ (b : Bool). faultIf (not b) barred i) (sym (g .tells .handler) ∙ t)) (λ w. w))
+        (λ t. word-broken code values i (g .stands) (triesNext i) (x .alone) (x .after) aTryNext (k .handler) after r a t (first-if (not (inError (g .stands .around .K .list))) barred i (ap not (sym (g .tells .handler) ∙ t))));
   }

@@ -27,6 +27,8 @@ use Rattle.simple.specs.declared.Callee.the-variants.{At, Wrong}
 use Rattle.simple.specs.Parts.{WrongName, Callees, CalleeWrong, CalleeSays, CalleeTold}
 use Rattle.simple.proofs.Callees.{Known, known}
 use Rattle.simple.proofs.Arguing.{apart-same}
+use Rattle.layout.specs.Rules.{wrongKind}
+use Rattle.layout.specs.Kinds.{aRoutine}
 
 -- ---- a name by its cell
 pub name-means : {values : List ℕ} (k : expressions.Known values) (code : List ℕ) (i m : ℕ) → sortIn (k .W) i ≡ 1 → Fresh (k .W) (wordsOf code) i → m ≡ meaningAt (wordsOf code) (wordsOf values) i
@@ -34,7 +36,7 @@ pub name-means : {values : List ℕ} (k : expressions.Known values) (code : List
 name-means {values} k code i m n f e =
     ap (meaningIn (k .routine)) (e ∙ ap (λ (x : ℕ). getD (wordsOf values) (firstMeaning + x) 0) (f .number n)) ∙ k .means .means i n
 
-no-routine : (routine : ℕ → ℕ) (kind bool own value : ℕ) → (kind ≡ 5 → ⊥) → routineIn (meaningWith routine kind bool own value) ≡ none
+no-routine : (routine : ℕ → ℕ) (kind bool own value : ℕ) → (kind ≡ aRoutine → ⊥) → routineIn (meaningWith routine kind bool own value) ≡ none
 unfolding meaningWith routineIn
 no-routine routine kind bool own value d =
     test (eqb kind 1) (λ t. rw (t, meaningWith))
@@ -45,7 +47,7 @@ no-routine routine kind bool own value d =
     (λ f. test (eqb kind 7) (λ t. rw (a, meaningWith) (rw b (rw c (rw e (rw (ne-eqb kind 5 d) (rw f (rw t)))))))
     (λ g. rw (a, meaningWith) (rw b (rw c (rw e (rw (ne-eqb kind 5 d) (rw f (rw g))))))))))))
 
-wrong-low : (m : Meaning) → wrongName m ≤ 12
+wrong-low : (m : Meaning) → wrongName m ≤ wrongKind
 unfolding wrongName
 wrong-low m = by-known (usesOf m .known)
   where
@@ -67,7 +69,7 @@ module _ (code values : List ℕ) (function : Bool) (i m : ℕ) (em : m ≡ mean
     unfolding meaningIn
     means = name-means (g .around .known) code i m (g .name) (g .fresh) em
 
-    wrong-says : (number : ℕ) → (m % 256 / 4 ≡ 5 → ⊥) → WrongName (m % 256 / 4) number
+    wrong-says : (number : ℕ) → (m % 256 / 4 ≡ aRoutine → ⊥) → WrongName (m % 256 / 4) number
         → CalleeWrong (g .around .known .W) (g .around .K) (meaning (g .around .known .S) (spelled (g .around .known .W) i)) function i number
     unfolding calleeFaults signatureOf noSignature
     wrong-says number d w =
@@ -76,11 +78,11 @@ module _ (code values : List ℕ) (function : Bool) (i m : ℕ) (em : m ≡ mean
         let n : wrongName (meaning (g .around .known .S) (spelled (g .around .known .W) i)) ≡ number = ap wrongName (sym means) ∙ w .is (g .around .known .routine) (m / 2 % 2) (m % 2) (m / 256) in
         record {
           is = λ es. rw (q, calleeFaults) (ap (λ (x : ℕ). fault x i) n);
-          low = subst (λ (x : ℕ). x ≤ 12) n (wrong-low (meaning (g .around .known .S) (spelled (g .around .known .W) i)));
+          low = subst (λ (x : ℕ). x ≤ wrongKind) n (wrong-low (meaning (g .around .known .S) (spelled (g .around .known .W) i)));
           no-result = λ _. rw (q, signatureOf);
         }
 
-    module _ (is : m % 256 / 4 ≡ 5) where
+    module _ (is : m % 256 / 4 ≡ aRoutine) where
       routine-means : meaning (g .around .known .S) (spelled (g .around .known .W) i) ≡ theRoutine (numbered (g .around .R) (m / 256))
       unfolding meaningWith
       routine-means = sym means ∙ rw is (ap theRoutine (g .around .numbers (m / 256)))
@@ -99,7 +101,7 @@ module _ (code values : List ℕ) (function : Bool) (i m : ℕ) (em : m ≡ mean
       found-says k = record { means = routine-means; among = among; kind = k }
 
       -- a routine of the other kind
-      other-says : isOtherKind function (resultAt (wordsOf code) (m / 256)) ≡ true → (function ≡ true → resultAt (wordsOf code) (m / 256) ≡ none) → CalleeSays (g .around) code function i (Wrong 12)
+      other-says : isOtherKind function (resultAt (wordsOf code) (m / 256)) ≡ true → (function ≡ true → resultAt (wordsOf code) (m / 256) ≡ none) → CalleeSays (g .around) code function i (Wrong wrongKind)
       unfolding CalleeSays calleeFaults signatureFaults signatureOf routineIn
       other-says k z =
           let sig : Signature = getD (g .around .K .routines) (numbered (g .around .R) (m / 256)) noSignature in
@@ -110,11 +112,11 @@ module _ (code values : List ℕ) (function : Bool) (i m : ℕ) (em : m ≡ mean
             no-result = λ e. rw (routine-means, signatureOf) (callee-known .result ∙ z e);
           }
 
-  pub callee-wrong : (number : ℕ) → (m % 256 / 4 ≡ 5 → ⊥) → WrongName (m % 256 / 4) number → CalleeTold code values function i (Wrong number)
+  pub callee-wrong : (number : ℕ) → (m % 256 / 4 ≡ aRoutine → ⊥) → WrongName (m % 256 / 4) number → CalleeTold code values function i (Wrong number)
   unfolding CalleeSays
   callee-wrong number d w = record { is = λ g. wrong-says g number d w }
 
-  module _ (is : m % 256 / 4 ≡ 5) (s : ℕ) (es : s ≡ opAt (wordsOf code) (m / 256)) where
+  module _ (is : m % 256 / 4 ≡ aRoutine) (s : ℕ) (es : s ≡ opAt (wordsOf code) (m / 256)) where
     func-result : s ≡ 57 → resultAt (wordsOf code) (m / 256) ≡ some (typeAt (wordsOf code) (m / 256 + 1))
     unfolding resultAt
     func-result f = rw (eq-eqb (opAt (wordsOf code) (m / 256)) FUNC (sym es ∙ f), resultAt)
@@ -123,13 +125,13 @@ module _ (code values : List ℕ) (function : Bool) (i m : ℕ) (em : m ≡ mean
     unfolding resultAt
     proc-result f = rw (ne-eqb (opAt (wordsOf code) (m / 256)) FUNC (λ q. f (es ∙ q)), resultAt)
 
-    pub callee-no-func : function ≡ true → (s ≡ 57 → ⊥) → CalleeTold code values function i (Wrong 12)
+    pub callee-no-func : function ≡ true → (s ≡ 57 → ⊥) → CalleeTold code values function i (Wrong wrongKind)
     callee-no-func t f = record { is = λ g. other-says g is (same-kind function _ t (proc-result f)) (λ _. proc-result f) }
 
     pub callee-func : function ≡ true → s ≡ 57 → CalleeTold code values function i (At (m / 256))
     callee-func t f = record { is = λ g. found-says g is (eq-eqb (opAt (wordsOf code) (m / 256)) FUNC (sym es ∙ f) ∙ sym t) }
 
-    pub callee-no-proc : function ≡ false → s ≡ 57 → CalleeTold code values function i (Wrong 12)
+    pub callee-no-proc : function ≡ false → s ≡ 57 → CalleeTold code values function i (Wrong wrongKind)
     callee-no-proc t f = record { is = λ g. other-says g is (some-kind function _ _ t (func-result f)) (λ e. false-true (sym t ∙ e)) }
 
     pub callee-proc : function ≡ false → (s ≡ 57 → ⊥) → CalleeTold code values function i (At (m / 256))

@@ -13,20 +13,23 @@ use Rattle.code.specs.Signatures.{typeAt}
 use Rattle.climb.proofs.Places.{spans-first, stands}
 use Rattle.expressions.specs.declared.Judged.{Judged}
 use Rattle.expressions.specs.declared.Judged.the-variants.{Typed, Faulty}
-use Rattle.expressions.specs.Answers.{typeIf, Says, Judges, Checked}
+use Rattle.expressions.specs.Answers.{Says, Judges, Checked}
 use Rattle.expressions.proofs.Judging.{wanted-first}
 use Rattle.expressions.proofs.Around.{says-typed, says-faulty}
-use Rattle.simple.specs.Parts.{typeIn, TypeDiffers, passed, Passed}
+use Rattle.simple.specs.Parts.{saidType, TypeDiffers, passed, Passed}
+use Rattle.layout.specs.Rules.{wrongType}
+use Rattle.layout.specs.Types.{typeIn}
+use mathlib.Core.Option.{some}
 
-pub type-at : (C : List ℕ) (p asked : ℕ) → asked ≡ headAt C p → typeIn asked ≡ typeAt C p
-unfolding typeIn typeAt
+pub type-at : (C : List ℕ) (p asked : ℕ) → asked ≡ headAt C p → saidType asked ≡ typeAt C p
+unfolding saidType typeAt
 type-at C p asked e = rw e
 
 wanted-fine : (t : DataType) (i : ℕ) (j : types.Judged) → j .faults ≡ [] → differs t (j .type) ≡ false → wanted t i j ≡ []
 unfolding wanted faultIf
 wanted-fine t i j n d = rw (n, d, wanted)
 
-wanted-bad : (t : DataType) (i : ℕ) (j : types.Judged) → j .faults ≡ [] → differs t (j .type) ≡ true → wanted t i j ≡ fault 13 i
+wanted-bad : (t : DataType) (i : ℕ) (j : types.Judged) → j .faults ≡ [] → differs t (j .type) ≡ true → wanted t i j ≡ fault wrongType i
 unfolding wanted faultIf
 wanted-bad t i j n d = rw (n, d, wanted)
 
@@ -41,7 +44,7 @@ module _ (code values after : List ℕ) (p at asked : ℕ) (e : asked ≡ headAt
         subst (Judges (s .known .m) (s .known .n) code after at (s .to) (passed t (first (s .e)) j)) (sym q)
         (record {
           says = record {
-            others = f .others ++ faultIf (differs t (j .type)) 13 (first (s .e));
+            others = f .others ++ faultIf (differs t (j .type)) wrongType (first (s .e));
             faults-are = wanted-first t (first (s .e)) j (record { number = number; at = word }) (f .others) (f .faults-are);
           };
           kept = c .is s .kept;
@@ -49,11 +52,11 @@ module _ (code values after : List ℕ) (p at asked : ℕ) (e : asked ≡ headAt
         });
   }
 
-  module _ (bool : Bool) (end : ℕ) (q : r ≡ Typed bool end) (t : Bool) (d : TypeDiffers asked bool t) where
-    differs-is : (x : DataType) → x ≡ typeIf bool → differs (typeAt (wordsOf code) p) x ≡ t
-    differs-is x z = ap (differs (typeAt (wordsOf code) p)) z ∙ sym (ap (λ (y : DataType). differs y (typeIf bool)) (type-at (wordsOf code) p asked e)) ∙ d .is
+  module _ (bool end : ℕ) (q : r ≡ Typed bool end) (t : Bool) (d : TypeDiffers asked bool t) where
+    differs-is : (x : DataType) → typeIn bool ≡ some x → differs (typeAt (wordsOf code) p) x ≡ t
+    differs-is x z = sym (ap (λ (y : DataType). differs y x) (type-at (wordsOf code) p asked e)) ∙ d .is x z
 
-    pub passed-wrong : t ≡ true → Passed code values after p at (Faulty 13 at)
+    pub passed-wrong : t ≡ true → Passed code values after p at (Faulty wrongType at)
     unfolding Says fault
     passed-wrong y = record {
       is = λ s.
@@ -63,7 +66,7 @@ module _ (code values after : List ℕ) (p at asked : ℕ) (e : asked ≡ headAt
           record {
             says = record {
               others = [];
-              faults-are = wanted-bad (typeAt (wordsOf code) p) (first (s .e)) j (x .none) (differs-is (j .type) (x .type-is) ∙ y) ∙ ap (fault 13) start;
+              faults-are = wanted-bad (typeAt (wordsOf code) p) (first (s .e)) j (x .none) (differs-is (j .type) (x .type-is) ∙ y) ∙ ap (fault wrongType) start;
             };
             kept = c .is s .kept;
             low = c .is s .low;

@@ -13,7 +13,7 @@ use Rattle.paper.specs.Declarations.{Signature}
 use Rattle.paper.specs.Checks.{argumentFaults, callFaults, simpleFaults}
 use Rattle.cells.specs.Words.{wordsOf}
 use Rattle.code.specs.Cells.{opIn, valueIn, linkAt}
-use Rattle.code.specs.Steps.{numbered}
+use Rattle.code.specs.Steps.{numbered, aProcedureCall, aClose}
 use Rattle.grammar.specs.Form.{Parses}
 use Rattle.grammar.proofs.Places.{arguments-grow}
 use Rattle.grammar.proofs.Inversions as inversions
@@ -28,8 +28,9 @@ use Rattle.faults.proofs.Statements.{arguments-inside}
 use Rattle.links.specs.Raw.{RawArguments, RawDoes}
 use Rattle.simple.specs.declared.Callee.{Callee}
 use Rattle.simple.specs.declared.Callee.the-variants.{At, Wrong}
-use Rattle.simple.specs.Around.{groundOf}
-use Rattle.simple.specs.Answers.{Fine, Answer, Answers}
+use Rattle.around.specs.Around.{groundOf}
+use Rattle.around.specs.Answers.{Fine, Answer}
+use Rattle.simple.specs.Answers.{Answers}
 use Rattle.simple.specs.Parts.{CallsOf, CalledOf, Callees, CalleeFound, CalleeSays, CalleeTold, ArgumentsStand, CallSide, signatureFor, CallWritten, CallJudged}
 use Rattle.simple.proofs.Asking.{quiet-below, answered-fine, answered-first}
 use Rattle.simple.proofs.Arguing.{link-below, unread-part}
@@ -37,6 +38,7 @@ use Rattle.simple.proofs.Calling.{raw-arguments, read-below}
 use Rattle.simple.proofs.Found.{found-signature, found-faults, found-read}
 use Rattle.simple.proofs.Functions.{told-found, told-wrong}
 use Rattle.simple.proofs.Stating.{stands-on, stated-first, stated-fine}
+use Rattle.layout.specs.Rules.{wrongCount}
 
 module _ (code values : List ℕ) (i : ℕ) (c : CallsOf code values i) where
   of-calls : inversions.Calls (sortIn (c .begins .stands .around .known .W)) (Parses (sortIn (c .begins .stands .around .known .W))) (c .begins .stands .s) i (c .begins .stands .to)
@@ -102,7 +104,7 @@ module _ (code values : List ℕ) (i : ℕ) (c : CallsOf code values i) where
 
       -- its faults are those of the count and of the arguments
       of-faults : simpleFaults (c .begins .stands .around .known .W) (c .begins .stands .around .K) (c .begins .stands .around .known .S) (call i (of-calls .es))
-          ≡ faultIf (not (eqb (length (signatureFor (c .begins .stands .around) h .parameters)) (length (of-calls .es)))) 14 i
+          ≡ faultIf (not (eqb (length (signatureFor (c .begins .stands .around) h .parameters)) (length (of-calls .es)))) wrongCount i
           ++ argumentFaults (c .begins .stands .around .known .W) (c .begins .stands .around .known .S) (signatureFor (c .begins .stands .around) h .parameters) (of-calls .es)
       unfolding simpleFaults callFaults
       of-faults =
@@ -110,11 +112,11 @@ module _ (code values : List ℕ) (i : ℕ) (c : CallsOf code values i) where
           (found-faults (c .begins .stands .around) code i (c .begins .stands .to) false h of-found (c .begins .stands .calls) (of-calls .es))
           (found-signature (c .begins .stands .around) code i (c .begins .stands .to) false h of-found (c .begins .stands .calls))
 
-      module _ (mid : List ℕ) (q : Judged) (j : CallJudged code values mid 136 h i (i + 1) 4 q) where
+      module _ (mid : List ℕ) (q : Judged) (j : CallJudged code values mid aProcedureCall h i (i + 1) 4 q) where
         of-answer : Answer
-            (faultIf (not (eqb (length (signatureFor (c .begins .stands .around) h .parameters)) (length (of-calls .es)))) 14 i
+            (faultIf (not (eqb (length (signatureFor (c .begins .stands .around) h .parameters)) (length (of-calls .es)))) wrongCount i
             ++ argumentFaults (c .begins .stands .around .known .W) (c .begins .stands .around .known .S) (signatureFor (c .begins .stands .around) h .parameters) (of-calls .es))
-            code mid i (c .begins .stands .to) (CallWritten of-side (wordsOf mid) 136) q
+            code mid i (c .begins .stands .to) (CallWritten of-side (wordsOf mid) aProcedureCall) q
         unfolding of-side
         of-answer = j .is of-side
 
@@ -123,23 +125,23 @@ module _ (code values : List ℕ) (i : ℕ) (c : CallsOf code values i) where
             stated-first code values i (c .begins .stands) (call i (of-calls .es)) (of-calls .is) mid q number word x (of-answer .long)
             (subst (First (record { number = number; at = word })) (sym of-faults) (answered-first _ _ _ _ _ _ q of-answer number word x))
 
-        module _ (bool : Bool) (end : ℕ) (x : q ≡ Typed bool end) where
+        module _ (bool : ℕ) (end : ℕ) (x : q ≡ Typed bool end) where
           of-fine : Fine
-              (faultIf (not (eqb (length (signatureFor (c .begins .stands .around) h .parameters)) (length (of-calls .es)))) 14 i
+              (faultIf (not (eqb (length (signatureFor (c .begins .stands .around) h .parameters)) (length (of-calls .es)))) wrongCount i
               ++ argumentFaults (c .begins .stands .around .known .W) (c .begins .stands .around .known .S) (signatureFor (c .begins .stands .around) h .parameters) (of-calls .es))
-              code mid i (c .begins .stands .to) end (CallWritten of-side (wordsOf mid) 136)
+              code mid i (c .begins .stands .to) end (CallWritten of-side (wordsOf mid) aProcedureCall)
           of-fine = answered-fine _ _ _ _ _ _ q of-answer bool end x
 
           pub of-end : (end < 8192) × (end * 8 + 8 ≤ length mid)
           of-end = (omega (arith, of-fine .next-is, c .begins .stands .unread .loaded .last), omega (arith, of-fine .next-is, c .begins .stands .unread .loaded .room, of-answer .long))
 
-          of-typed : (after : List ℕ) → Linked mid after end 166 0 (end + 1) → Answers (c .begins .stands) after (Typed bool (end + 1))
+          of-typed : (after : List ℕ) → Linked mid after end aClose 0 (end + 1) → Answers (c .begins .stands) after (Typed bool (end + 1))
           unfolding RawDoes of-side
           of-typed after m =
               let s = c .begins .stands in
               let known = s .around .known in
               let to-is : end ≡ s .to = of-fine .next-is in
-              let l : Linked mid after (s .to) 166 0 (s .to + 1) = subst (λ (z : ℕ). Linked mid after z 166 0 (z + 1)) to-is m in
+              let l : Linked mid after (s .to) aClose 0 (s .to + 1) = subst (λ (z : ℕ). Linked mid after z aClose 0 (z + 1)) to-is m in
               let head = head-below (l .kept) i (stands-on code values i s) in
               let w = of-fine .written in
               let link = link-below (l .kept) i (stands-on code values i s) in
@@ -164,9 +166,9 @@ module _ (code values : List ℕ) (i : ℕ) (r : Callee) (t : CalleeTold code va
     is = λ c. stated-first code values i (c .begins .stands) (call i (of-calls code values i c .es)) (of-calls code values i c .is) code (Faulty number i) number i refl refl (of-wrong-first code values i c r t number e);
   }
 
-  module _ (h : ℕ) (e : r ≡ At h) (mid : List ℕ) (q : Judged) (j : CallJudged code values mid 136 h i (i + 1) 4 q) where
+  module _ (h : ℕ) (e : r ≡ At h) (mid : List ℕ) (q : Judged) (j : CallJudged code values mid aProcedureCall h i (i + 1) 4 q) where
     pub called-of-faulty : (number word : ℕ) → q ≡ Faulty number word → CalledOf code values mid i q
     called-of-faulty number word x = record { is = λ c. of-faulty code values i c r t h e mid q j number word x }
 
-    pub called-of-typed : (bool : Bool) (end : ℕ) → q ≡ Typed bool end → (after : List ℕ) → Linked mid after end 166 0 (end + 1) → CalledOf code values after i (Typed bool (end + 1))
+    pub called-of-typed : (bool : ℕ) (end : ℕ) → q ≡ Typed bool end → (after : List ℕ) → Linked mid after end aClose 0 (end + 1) → CalledOf code values after i (Typed bool (end + 1))
     called-of-typed bool end x after l = record { is = λ c. of-typed code values i c r t h e mid q j bool end x after l }

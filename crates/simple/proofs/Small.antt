@@ -1,5 +1,5 @@
 -- Names, types and words by simple tests.
-use mathlib.Core.Path.{_≡_, sym, _∙_}
+use mathlib.Core.Path.{_≡_, sym, _∙_, refl, ap}
 use mathlib.Core.Bool.{Bool, true, false, not}
 use mathlib.Core.List.{List}
 use Prim.Native.Nat.{ℕ, suc, _+_, _/_, _%_, _<_, _≤_}
@@ -13,15 +13,22 @@ use Rattle.paper.specs.Types.{differs}
 use Rattle.code.specs.Cells.{opAt}
 use Rattle.code.specs.Signatures.{firstParameter}
 use Rattle.names.specs.Meanings.{meaningWith}
-use Rattle.expressions.specs.Answers.{typeIf}
-use Rattle.simple.specs.Parts.{WrongName, typeIn, TypeDiffers, IsCall}
+use Rattle.simple.specs.Parts.{WrongName, saidType, TypeDiffers, IsCall}
+use Rattle.layout.specs.Rules.{unknownName, wrongKind}
+use Rattle.layout.specs.Kinds.{anErrorNumber}
+use Rattle.names.specs.Promises.{TypeNamed}
+use Rattle.layout.proofs.Typing.{same-types, types-differ}
+use Rattle.layout.specs.Types.{typeIn}
+use Rattle.paper.specs.Names.{DataType, aNum, aBool, refusedPiece}
+use Rattle.laws.proofs.Tests.{test}
+use mathlib.Core.Option.{some}
 
 -- ---- names of a wrong kind
-pub wrong-none : (kind : ℕ) → kind ≡ 0 → WrongName kind 11
+pub wrong-none : (kind : ℕ) → kind ≡ 0 → WrongName kind unknownName
 unfolding meaningWith wrongName
 wrong-none kind e = record { is = λ routine bool own value. rw e }
 
-unknown-kind : (kind : ℕ) → 7 < kind → (routine : ℕ → ℕ) (bool own value : ℕ) → wrongName (meaningWith routine kind bool own value) ≡ 11
+unknown-kind : (kind : ℕ) → anErrorNumber < kind → (routine : ℕ → ℕ) (bool own value : ℕ) → wrongName (meaningWith routine kind bool own value) ≡ unknownName
 unfolding meaningWith wrongName
 unknown-kind kind h routine bool own value =
     rw (
@@ -35,49 +42,64 @@ unknown-kind kind h routine bool own value =
       meaningWith,
     )
 
-pub wrong-high : (kind : ℕ) → 7 < kind → WrongName kind 11
+pub wrong-high : (kind : ℕ) → anErrorNumber < kind → WrongName kind unknownName
 wrong-high kind h = record { is = unknown-kind kind h }
 
 above : (k n : ℕ) → n ≤ k → (k ≡ n → ⊥) → suc n ≤ k
 above k n h d = omega (arith, h, d)
 
-pub wrong-other : (kind : ℕ) → (kind ≡ 0 → ⊥) → kind ≤ 7 → WrongName kind 12
+pub wrong-other : (kind : ℕ) → (kind ≡ 0 → ⊥) → kind ≤ anErrorNumber → WrongName kind wrongKind
 unfolding meaningWith wrongName
 wrong-other kind z h = from-one (above kind 0 (omega arith) z)
   where
-    from-five : 5 ≤ kind → WrongName kind 12
+    from-five : 5 ≤ kind → WrongName kind wrongKind
     from-five l =
         by-same kind 5 (λ e. record { is = λ routine bool own value. rw e })
         (λ a. by-same kind 6 (λ e. record { is = λ routine bool own value. rw e })
         (λ b. let m = above kind 6 (above kind 5 l a) b in let e : kind ≡ 7 = omega (arith, m, h) in record { is = λ routine bool own value. rw e }))
 
-    from-three : 3 ≤ kind → WrongName kind 12
+    from-three : 3 ≤ kind → WrongName kind wrongKind
     from-three l =
         by-same kind 3 (λ e. record { is = λ routine bool own value. rw e })
         (λ a. by-same kind 4 (λ e. record { is = λ routine bool own value. rw e })
         (λ b. from-five (above kind 4 (above kind 3 l a) b)))
 
-    from-one : 1 ≤ kind → WrongName kind 12
+    from-one : 1 ≤ kind → WrongName kind wrongKind
     from-one l =
         by-same kind 1 (λ e. record { is = λ routine bool own value. rw e })
         (λ a. by-same kind 2 (λ e. record { is = λ routine bool own value. rw e })
         (λ b. from-three (above kind 2 (above kind 1 l a) b)))
 
 -- ---- types
-pub differs-unasked : (w : ℕ) (bool : Bool) → (w / 256 ≡ 0 → ⊥) → TypeDiffers w bool false
-unfolding typeIn differs typeIf
-differs-unasked w true h = record { is = rw (ne-eqb (w / 256) 0 h, typeIn) }
-differs-unasked w false h = record { is = rw (ne-eqb (w / 256) 0 h, typeIn) }
+refused-same : (t : DataType) → differs refusedPiece t ≡ false
+unfolding differs
+refused-same aNum = refl
+refused-same aBool = refl
+refused-same refusedPiece = refl
 
-pub differs-num : (w : ℕ) (bool : Bool) → w / 256 ≡ 0 → w % 256 ≡ 89 → TypeDiffers w bool bool
-unfolding typeIn differs typeIf typeOf
-differs-num w true h e = record { is = rw (h, e, typeIn) }
-differs-num w false h e = record { is = rw (h, e, typeIn) }
+same-differ : (t : DataType) → differs t t ≡ false
+unfolding differs
+same-differ aNum = refl
+same-differ aBool = refl
+same-differ refusedPiece = refl
 
-pub differs-bool : (w : ℕ) (bool : Bool) → w / 256 ≡ 0 → (w % 256 ≡ 89 → ⊥) → TypeDiffers w bool (not bool)
-unfolding typeIn differs typeIf typeOf
-differs-bool w true h e = record { is = rw (h, ne-eqb (w % 256) NUM e, typeIn) }
-differs-bool w false h e = record { is = rw (h, ne-eqb (w % 256) NUM e, typeIn) }
+pub differs-unasked : (w type : ℕ) → (w / 256 ≡ 0 → ⊥) → TypeDiffers w type false
+unfolding saidType differs
+differs-unasked w type h = record { is = λ t e. rw (ne-eqb (w / 256) 0 h, saidType) (refused-same t) }
+
+module _ (w type : ℕ) (h : w / 256 ≡ 0) (r : ℕ) (n : TypeNamed (w % 256) r) where
+  said : saidType w ≡ typeOf (w % 256)
+  unfolding saidType
+  said = rw (h, saidType)
+
+  pub differs-asked : (b : Bool) → b ≡ not (eqb r type) → TypeDiffers w type b
+  differs-asked b e = record {
+    is = λ t q.
+        ap (λ (x : DataType). differs x t) said
+        ∙ test (eqb r type)
+        (λ z. ap (λ (x : DataType). differs x t) (same-types r type (typeOf (w % 256)) t (n .is) q (eqb-true r type z)) ∙ same-differ t ∙ sym (e ∙ ap not z))
+        (λ z. types-differ r type (typeOf (w % 256)) t (n .is) q (eqb-false r type z) ∙ sym (e ∙ ap not z));
+  }
 
 -- ---- words
 module _ (C : List ℕ) (at s : ℕ) (e : s ≡ opAt C at) where

@@ -19,22 +19,24 @@ use Rattle.paper.specs.Steps.{unquoted, characters}
 use Rattle.cells.specs.Words.{wordsOf}
 use Rattle.code.specs.Cells.{opIn, valueIn, headAt, opAt, valueAt, placeAt, linkAt}
 use Rattle.code.specs.Spans.{guard}
-use Rattle.code.specs.Steps.{Head, charactersIn}
+use Rattle.code.specs.Steps.{Head, charactersIn, aWrite, aWriteOf}
 use Rattle.grammar.specs.Form.{Parses}
 use Rattle.grammar.proofs.Inversions as inversions
 use Rattle.expressions.specs.declared.Judged.{Judged}
 use Rattle.expressions.specs.declared.Judged.the-variants.{Typed}
-use Rattle.expressions.specs.Answers.{typeIf}
 use Rattle.store.specs.Promises.{Linked}
 use Rattle.store.proofs.Keeping.{head-above, kept-wider, kept-on}
 use Rattle.expressions.proofs.Starts.{loaded-part, loaded-after}
 use Rattle.faults.proofs.Expressions.{grows}
 use Rattle.links.specs.Raw.{RawText, RawDoes}
 use Rattle.links.proofs.Ops.{low-still}
-use Rattle.simple.specs.Around.{Quoted, Around, groundOf}
+use Rattle.around.specs.Around.{Quoted, Around, groundOf}
 use Rattle.simple.specs.Answers.{Stands, Answers}
 use Rattle.simple.specs.Parts.{Begins, BeginsOf, BegunOf, Values, Valued, Strings, Spelled}
 use Rattle.simple.proofs.Stating.{stands-sort, stated-fine, stated-on}
+use Rattle.layout.specs.Types.{noType, numType}
+use Rattle.layout.proofs.Typing.{num-in}
+use Rattle.paper.specs.Names.{aNum}
 
 -- ---- the characters of a string in the text
 drop-one : (m : ℕ) (l : List ℕ) → drop 1 (take (suc m) l) ≡ take m (drop 1 l)
@@ -157,11 +159,11 @@ module _ (code values : List ℕ) (i : ℕ) (c : Begins 91 code values i) where
         pub write-small : i + 5 < 8192
         write-small = omega (arith, given-on, c .stands .unread .loaded .last)
 
-        written-number : (after : List ℕ) (r : Judged) → Valued mid values after 145 false (i + 5) i r → Answers (c .stands) after r
-        unfolding simpleFaults optionalNum RawDoes typeIf write-values
+        written-number : (after : List ℕ) (r : Judged) → Valued mid values after aWriteOf numType (i + 5) i r → Answers (c .stands) after r
+        unfolding simpleFaults optionalNum RawDoes write-values
         written-number after r v =
             let g = c .stands in
-            stated-on code values i g (writes i (i + 1) (some (given .e))) write-of after _ mid i (g .to + 1) _ r (v .is write-values) string-long (λ x f. f)
+            stated-on code values i g (writes i (i + 1) (some (given .e))) write-of after _ mid i (g .to + 1) _ r (v .is write-values aNum num-in) string-long (λ x f. f)
             (λ b next f.
             stated-fine code values i g (writes i (i + 1) (some (given .e))) write-of after b next (f .none) (f .next-is)
             (kept-on (kept-wider (string-linked .kept) i (g .to + 1) (omega arith) (omega (arith, write-on))) (f .kept))
@@ -171,12 +173,12 @@ module _ (code values : List ℕ) (i : ℕ) (c : Begins 91 code values i) where
         plain : (write-is .e ≡ none) × (c .stands .to ≡ i + 2)
         plain = write-none (λ q. d (write-next ∙ q))
 
-        written-plain : (after : List ℕ) → Linked mid after i 144 0 (i + 3) → Answers (c .stands) after (Typed false (i + 3))
+        written-plain : (after : List ℕ) → Linked mid after i aWrite 0 (i + 3) → Answers (c .stands) after (Typed noType (i + 3))
         unfolding simpleFaults optionalNum RawDoes
         written-plain after l =
             let g = c .stands in
             let three : i + 3 ≡ g .to + 1 = omega (arith, plain .1) in
-            stated-fine code values i g (writes i (i + 1) none) (write-is .is ∙ ap (writes i (i + 1)) (plain .0)) after false (i + 3) refl three
+            stated-fine code values i g (writes i (i + 1) none) (write-is .is ∙ ap (writes i (i + 1)) (plain .0)) after noType (i + 3) refl three
             (kept-on (kept-wider (string-linked .kept) i (g .to + 1) (omega arith) (omega (arith, plain .1))) (kept-wider (l .kept) i (g .to + 1) (omega arith) (omega (arith, plain .1))))
             (record {
               word = record { is = l .op-is; leaves = l .link-is ∙ three };
@@ -206,8 +208,8 @@ module _ (text code values : List ℕ) (i : ℕ) (c : BeginsOf 91 text code valu
     writes-small s es b = write-small code values i (c .begins) mid spelled-here s es b
 
 module _ (text code values : List ℕ) (i : ℕ) (mid : List ℕ) (sp : Spelled text code mid (i + 1)) (s : ℕ) (es : s ≡ opAt (wordsOf mid) (i + 2)) where
-  pub wrote-number : s ≡ 21 → (after : List ℕ) (r : Judged) → Valued mid values after 145 false (i + 5) i r → BegunOf 91 text code values after i r
+  pub wrote-number : s ≡ 21 → (after : List ℕ) (r : Judged) → Valued mid values after aWriteOf numType (i + 5) i r → BegunOf 91 text code values after i r
   wrote-number b after r v = record { is = λ c. written-number code values i (c .begins) mid (spelled-here text code values i c mid sp) s es b after r v }
 
-  pub wrote-plain : (s ≡ 21 → ⊥) → (after : List ℕ) → Linked mid after i 144 0 (i + 3) → BegunOf 91 text code values after i (Typed false (i + 3))
+  pub wrote-plain : (s ≡ 21 → ⊥) → (after : List ℕ) → Linked mid after i aWrite 0 (i + 3) → BegunOf 91 text code values after i (Typed noType (i + 3))
   wrote-plain d after l = record { is = λ c. written-plain code values i (c .begins) mid (spelled-here text code values i c mid sp) s es d after l }

@@ -19,8 +19,9 @@ use Rattle.store.specs.Promises.{Kept}
 use Rattle.faults.specs.First.{First}
 use Rattle.faults.proofs.Expressions.{grows}
 use Rattle.links.specs.Raw.{RawDoes, RawSimple}
-use Rattle.simple.specs.Around.{offsetIn, groundOf}
-use Rattle.simple.specs.Answers.{Fine, Answer, Stands, Answers}
+use Rattle.around.specs.Around.{offsetIn, groundOf}
+use Rattle.around.specs.Answers.{Fine, Answer}
+use Rattle.simple.specs.Answers.{Stands, Answers}
 use Rattle.simple.proofs.Asking.{answer-first, answer-fine, answered-fine, answered-first}
 
 module _ (code values : List ℕ) (at : ℕ) (g : Stands code values at) where
@@ -48,7 +49,7 @@ module _ (code values : List ℕ) (at : ℕ) (g : Stands code values at) where
         → First (record { number = number; at = word }) (simpleFaults (g .around .known .W) (g .around .K) (g .around .known .S) s) → Answers g after r
     stated-first r number word e long f = stated r (answer-first _ code after at (g .to + 1) _ r number word e long f)
 
-    pub stated-fine : (b : Bool) (next : ℕ) → simpleFaults (g .around .known .W) (g .around .K) (g .around .known .S) s ≡ [] → next ≡ g .to + 1 → Kept code after at (g .to + 1)
+    pub stated-fine : (b : ℕ) (next : ℕ) → simpleFaults (g .around .known .W) (g .around .K) (g .around .known .S) s ≡ [] → next ≡ g .to + 1 → Kept code after at (g .to + 1)
         → RawDoes (groundOf (g .around)) (g .around .known .n) (wordsOf after) (g .around .known .S) s at (g .to + 1) (g .to + 1) → Answers g after (Typed b next)
     unfolding holds groundOf offsetIn
     stated-fine b next n e k d =
@@ -67,7 +68,7 @@ module _ (code values : List ℕ) (at : ℕ) (g : Stands code values at) where
     -- the same, from what is answered of a part of it
     pub stated-on : (fs : List Fault) (mid : List ℕ) (x y : ℕ) (P : Type 0) (r : Judged) → Answer fs mid after x y P r → length mid ≡ length code
         → ((f : Fault) → First f fs → First f (simpleFaults (g .around .known .W) (g .around .K) (g .around .known .S) s))
-        → ((b : Bool) (next : ℕ) → Fine fs mid after x y next P → Answers g after (Typed b next)) → Answers g after r
+        → ((b : ℕ) (next : ℕ) → Fine fs mid after x y next P → Answers g after (Typed b next)) → Answers g after r
     stated-on fs mid x y P (Typed b next) a l f n = n b next (answered-fine fs mid after x y P (Typed b next) a b next refl)
     stated-on fs mid x y P (Faulty number word) a l f n =
         stated-first (Faulty number word) number word refl (a .long ∙ l) (f (record { number = number; at = word }) (answered-first fs mid after x y P (Faulty number word) a number word refl))

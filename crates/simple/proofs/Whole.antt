@@ -25,7 +25,6 @@ use Rattle.grammar.proofs.Inversions.{behind-name, behind-brace}
 use Rattle.expressions.specs.declared.Judged.{Judged}
 use Rattle.expressions.specs.declared.Judged.the-variants.{Typed, Faulty}
 use Rattle.store.specs.Promises.{Kept}
-use Rattle.expressions.specs.Answers.{typeIf}
 use Rattle.store.proofs.Keeping.{head-above, kept-wider, kept-on}
 use Rattle.expressions.proofs.Starts.{loaded-part}
 use Rattle.faults.specs.First.{Inside, First}
@@ -33,14 +32,16 @@ use Rattle.faults.proofs.First.{widen, first-inside, first-left, leads-later}
 use Rattle.faults.proofs.Expressions.{grows, of-type-inside}
 use Rattle.faults.proofs.Statements.{arguments-inside, target-inside, call-inside, result-inside}
 use Rattle.links.specs.Raw.{RawDoes}
-use Rattle.simple.specs.declared.Setting.{Setting}
-use Rattle.simple.specs.Around.{Around, groundOf, Unread, Calls}
-use Rattle.simple.specs.Answers.{Fine, Answers, Statement, Stated}
+use Rattle.around.specs.declared.Setting.{Setting}
+use Rattle.around.specs.Around.{Around, groundOf, Unread, Calls}
+use Rattle.around.specs.Answers.{Fine}
+use Rattle.simple.specs.Answers.{Answers, Statement, Stated}
 use Rattle.simple.specs.Parts.{Begins, Begun, BeginsIn, BegunIn, BeginsOf, BegunOf, Assigns, Assigned, CallsOf, CalledOf, IsCall, Targets, Aimed, AimAnswer, TargetJudged, ValueSide, ValueAssigned, ArgumentsStand, CallAssigns, CallAssigned}
 use Rattle.simple.proofs.Arguing.{unread-part, unread-after, apart-kept}
 use Rattle.simple.proofs.Aiming.{aimed-fine, aimed-first}
 use Rattle.simple.proofs.Stating.{stands-on, stands-room, stands-sort, stated-first, stated-fine, stated-on}
 use Rattle.simple.proofs.Leaving.{statement-sort}
+use Rattle.layout.specs.Types.{IsType}
 
 -- the routines' heads are where they were after a change inside
 pub calls-after : {text values : List ℕ} (a : Around text values) (code after : List ℕ) (at to x y b d : ℕ) → Calls a code at to → Kept code after x y → at ≤ x → y ≤ to + 1 → at ≤ b → d ≤ to → Calls a after b d
@@ -132,7 +133,7 @@ module _ (code values : List ℕ) (i : ℕ) (c : Assigns code values i) where
         (value-first W (g .around .K) S (assigns .t) (s .e) (record { number = number; at = word }) (assigns .n + 1) (g .to) f (omega (arith, before))
         (of-type-inside W (suc nestings) (assigns .n + 1) (s .e) (g .to) (s .value) _ S)))
 
-    module _ (bool : Bool) (b : ℕ) (e : r ≡ Typed bool b) where
+    module _ (bool : ℕ) (b : ℕ) (e : r ≡ Typed bool b) where
       aimed : Fine (judgeTarget (c .begins .stands .around .known .W) (c .begins .stands .around .known .S) (assigns .t) .faults) code mid i (assigns .n) b
           (Aimed (c .begins .stands .around .known .m) (c .begins .stands .around .known .n) (wordsOf mid) (judgeTarget (c .begins .stands .around .known .W) (c .begins .stands .around .known .S) (assigns .t))
           (spotOf (c .begins .stands .around .known .W) (c .begins .stands .around .known .S) (assigns .t)) i (assigns .n) bool)
@@ -191,6 +192,9 @@ module _ (code values : List ℕ) (i : ℕ) (c : Assigns code values i) where
             target = aimed .written .target;
           }
 
+          pub call-type : IsType bool
+          call-type = record { type = judgeTarget (c .begins .stands .around .known .W) (c .begins .stands .around .known .S) (assigns .t) .type; is = aimed .written .type-is }
+
           pub call-assigns : CallAssigns mid values i b
           call-assigns = subst (CallAssigns mid values i) (sym (aimed .next-is)) call-assigns-n
 
@@ -220,6 +224,8 @@ module _ (code values : List ℕ) (i : ℕ) (c : Assigns code values i) where
 
           value-assigns-n : ValueSide mid values bool i (assigns .n)
           value-assigns-n = record {
+            type = judgeTarget (c .begins .stands .around .known .W) (c .begins .stands .around .known .S) (assigns .t) .type;
+            wants-is = aimed .written .type-is;
             text = c .begins .stands .text;
             around = c .begins .stands .around;
             t = assigns .t;
@@ -237,8 +243,8 @@ module _ (code values : List ℕ) (i : ℕ) (c : Assigns code values i) where
           value-assigns = subst (ValueSide mid values bool i) (sym (aimed .next-is)) value-assigns-n
 
           value-all : simpleFaults (c .begins .stands .around .known .W) (c .begins .stands .around .K) (c .begins .stands .around .known .S) (assign (assigns .t) (value-side .e))
-              ≡ ofType (c .begins .stands .around .known .W) (typeIf bool) (c .begins .stands .around .known .S) (value-side .e)
-          value-all = value-faults (c .begins .stands .around .known .W) (c .begins .stands .around .K) (c .begins .stands .around .known .S) (assigns .t) (value-side .e) (typeIf bool) (aimed .none) (aimed .written .type-is)
+              ≡ ofType (c .begins .stands .around .known .W) (judgeTarget (c .begins .stands .around .known .W) (c .begins .stands .around .known .S) (assigns .t) .type) (c .begins .stands .around .known .S) (value-side .e)
+          value-all = value-faults (c .begins .stands .around .known .W) (c .begins .stands .around .K) (c .begins .stands .around .known .S) (assigns .t) (value-side .e) (judgeTarget (c .begins .stands .around .known .W) (c .begins .stands .around .known .S) (assigns .t) .type) (aimed .none) refl
 
           value-answers : (after : List ℕ) (p : Judged) → ValueAssigned mid values after bool i b p → Answers (c .begins .stands) after p
           unfolding RawDoes value-assigns-n
@@ -256,7 +262,7 @@ module _ (code values : List ℕ) (i : ℕ) (mid : List ℕ) (r : Judged) (t : T
   pub assigned-no-target : (number word : ℕ) → r ≡ Faulty number word → Assigned code values mid i r
   assigned-no-target number word e = record { is = λ c. assign-faulty code values i c mid r t number word e }
 
-  module _ (bool : Bool) (b : ℕ) (e : r ≡ Typed bool b) (q : Bool) (call : IsCall (wordsOf mid) (b + 1) q) (after : List ℕ) (p : Judged) where
+  module _ (bool : ℕ) (b : ℕ) (e : r ≡ Typed bool b) (q : Bool) (call : IsCall (wordsOf mid) (b + 1) q) (after : List ℕ) (p : Judged) where
     pub assigned-call : q ≡ true → CallAssigned mid values after bool i b p → Assigned code values after i p
     assigned-call y x = record { is = λ c. call-answers code values i c mid r t bool b e q call y after p x }
 

@@ -1,39 +1,18 @@
 -- What the check of a simple statement asks, and what it answers.
 use mathlib.Core.Path.{_≡_}
-use mathlib.Core.List.{List, []}
+use mathlib.Core.List.{List}
 use Prim.Native.Nat.{ℕ, _+_}
-use lib.ListN.{length}
 use Rattle.paper.specs.Sorts.{semicolon}
 use Rattle.paper.specs.Trees.{Simple}
 use Rattle.paper.specs.Names.{sortIn}
-use Rattle.paper.specs.Types.{Fault}
 use Rattle.paper.specs.Checks.{simpleFaults}
 use Rattle.cells.specs.Words.{wordsOf}
 use Rattle.grammar.specs.Form.{Parses, SimpleAt}
 use Rattle.expressions.specs.declared.Judged.{Judged}
-use Rattle.expressions.specs.declared.Judged.the-variants.{Typed, Faulty}
-use Rattle.store.specs.Promises.{Kept}
-use Rattle.faults.specs.First.{First}
 use Rattle.links.specs.Raw.{RawSimple}
-use Rattle.simple.specs.declared.Setting.{Setting}
-use Rattle.simple.specs.Around.{Around, groundOf, Unread, Calls, Tells}
-
--- ---- answers
--- Of a piece with these faults, from `at` up to `to`: there are none, the next word is `to`, and what is written there holds.
-pub record Fine (fs : List Fault) (before after : List ℕ) (at to next : ℕ) (holds : Type 0) : Type 0 where
-  pub none : fs ≡ []
-  pub next-is : next ≡ to
-  pub written : holds
-  pub kept : Kept before after at to
-
-unfoldable pub Tell : (fs : List Fault) (before after : List ℕ) (at to : ℕ) (holds : Type 0) → Judged → Type 0
-Tell fs before after at to holds (Typed bool next) = Fine fs before after at to next holds
-Tell fs before after at to holds (Faulty number word) = First (record { number = number; at = word }) fs
-
--- Where a rule is broken nothing is promised of what is written.
-pub record Answer (fs : List Fault) (before after : List ℕ) (at to : ℕ) (holds : Type 0) (r : Judged) : Type 0 where
-  pub tells : Tell fs before after at to holds r
-  pub long : length after ≡ length before
+use Rattle.around.specs.declared.Setting.{Setting}
+use Rattle.around.specs.Around.{Around, groundOf, Unread, Calls, Tells}
+use Rattle.around.specs.Answers.{Answer}
 
 -- ---- a simple statement
 -- It stands from `at` up to its semicolon at `to`, and the check has not come to it.

@@ -30,17 +30,20 @@ use Rattle.grammar.specs.Form.{Parses, ExprAt, SeparatedAt, ArgumentsAt, Target
 use Rattle.expressions.specs.declared.Judged.{Judged}
 use Rattle.expressions.specs.declared.Judged.the-variants.{Typed, Faulty}
 use Rattle.expressions.specs.Known.{Fresh, Loaded, InRoom, Known}
-use Rattle.expressions.specs.Answers.{typeIf, Judges}
+use Rattle.expressions.specs.Answers.{Judges}
 use Rattle.expressions.specs.Answers as expressions
 use Rattle.store.specs.Promises.{Linked}
 use Rattle.faults.specs.First.{First}
 use Rattle.links.specs.Resolved.{isLed}
 use Rattle.links.specs.Raw.{Quiet, RawArguments, RawCallee, RawAssign, RawAssignCall, RawValued}
-use Rattle.simple.specs.declared.Setting.{Setting}
+use Rattle.around.specs.declared.Setting.{Setting}
 use Rattle.simple.specs.declared.Callee.{Callee}
 use Rattle.simple.specs.declared.Callee.the-variants.{At, Wrong}
-use Rattle.simple.specs.Around.{Quoted, Around, groundOf, Unread, Apart, Calls, Tells}
-use Rattle.simple.specs.Answers.{Fine, Answer, Stands, Answers}
+use Rattle.around.specs.Around.{Quoted, Around, groundOf, Unread, Apart, Calls, Tells}
+use Rattle.around.specs.Answers.{Fine, Answer}
+use Rattle.simple.specs.Answers.{Stands, Answers}
+use Rattle.layout.specs.Rules.{barred}
+use Rattle.layout.specs.Types.{noType, typeIn}
 
 -- ---- a statement by its first word
 pub record Begins (sort : ℕ) (code values : List ℕ) (at : ℕ) : Type 0 where
@@ -88,11 +91,11 @@ pub record WrongName (kind r : ℕ) : Type 0 where
   pub is : (routine : ℕ → ℕ) (bool own value : ℕ) → wrongName (meaningWith routine kind bool own value) ≡ r
 
 -- the type that a head says
-unfoldable pub typeIn : (head : ℕ) → DataType
-typeIn w = if eqb (valueIn w) 0 then typeOf (opIn w) else refusedPiece
+unfoldable pub saidType : (head : ℕ) → DataType
+saidType w = if eqb (valueIn w) 0 then typeOf (opIn w) else refusedPiece
 
-pub record TypeDiffers (head : ℕ) (bool r : Bool) : Type 0 where
-  pub is : differs (typeIn head) (typeIf bool) ≡ r
+pub record TypeDiffers (head type : ℕ) (r : Bool) : Type 0 where
+  pub is : (t : DataType) → typeIn type ≡ some t → differs (saidType head) t ≡ r
 
 -- a name with a parenthesis behind it
 pub record IsCall (C : List ℕ) (at : ℕ) (r : Bool) : Type 0 where
@@ -142,12 +145,12 @@ pub record Targets (code values : List ℕ) (at : ℕ) : Type 0 where
   pub loaded : Loaded (known .W) code at to
 
 -- what is said of it: its type, and where its value goes
-pub record Aimed (m n : ℕ) (C : List ℕ) (j : types.Judged) (spot : Spot) (at to : ℕ) (bool : Bool) : Type 0 where
-  pub type-is : j .type ≡ typeIf bool
+pub record Aimed (m n : ℕ) (C : List ℕ) (j : types.Judged) (spot : Spot) (at to type : ℕ) : Type 0 where
+  pub type-is : typeIn type ≡ some (j .type)
   pub target : Targeted m n C spot at to
 
 unfoldable pub AimTells : (m n : ℕ) (j : types.Judged) (spot : Spot) (before after : List ℕ) (at to : ℕ) → Judged → Type 0
-AimTells m n j spot before after at to (Typed bool next) = Fine (j .faults) before after at to next (Aimed m n (wordsOf after) j spot at to bool)
+AimTells m n j spot before after at to (Typed type next) = Fine (j .faults) before after at to next (Aimed m n (wordsOf after) j spot at to type)
 AimTells m n j spot before after at to (Faulty number word) = First (record { number = number; at = word }) (j .faults)
 
 pub record AimAnswer (m n : ℕ) (j : types.Judged) (spot : Spot) (before after : List ℕ) (at to : ℕ) (r : Judged) : Type 0 where
@@ -170,7 +173,9 @@ pub record ElementJudged (code values after : List ℕ) (cell at : ℕ) (r : Jud
       (spotOf (g .targets .known .W) (g .targets .known .S) (g .targets .t)) code after at (g .targets .to) r
 
 -- ---- assignments, whose target at i ends before b
-pub record ValueSide (code values : List ℕ) (wants : Bool) (i b : ℕ) : Type 0 where
+pub record ValueSide (code values : List ℕ) (wants i b : ℕ) : Type 0 where
+  pub type : DataType
+  pub wants-is : typeIn wants ≡ some type
   pub text : List ℕ
   pub around : Around text values
   pub t : Target
@@ -183,9 +188,9 @@ pub record ValueSide (code values : List ℕ) (wants : Bool) (i b : ℕ) : Type 
   pub ends : sortIn (around .known .W) to ≡ semicolon
   pub unread : Unread (around .known .W) code b to
 
-pub record ValueAssigned (code values after : List ℕ) (wants : Bool) (i b : ℕ) (r : Judged) : Type 0 where
+pub record ValueAssigned (code values after : List ℕ) (wants i b : ℕ) (r : Judged) : Type 0 where
   pub is : (g : ValueSide code values wants i b)
-      → Answer (ofType (g .around .known .W) (typeIf wants) (g .around .known .S) (g .e)) code after i (g .to + 1)
+      → Answer (ofType (g .around .known .W) (g .type) (g .around .known .S) (g .e)) code after i (g .to + 1)
       (RawAssign (groundOf (g .around)) (g .around .known .n) (wordsOf after) (g .around .known .S) (g .t) (g .e) i (g .to + 1) (g .to + 1)) r
 
 -- ---- callees
@@ -355,8 +360,8 @@ forFaults {callee = callee} g j =
     callFaults (g .around .known .W) (g .around .K) true (g .around .known .S) callee (g .es)
     ++ resultFaults (g .around .known .W) j (signatureOf (g .around .known .W) (g .around .K) (meaning (g .around .known .S) (spelled (g .around .known .W) callee)) .result) callee
 
-pub record ForJudged (code values after : List ℕ) (wants : Bool) (callee : ℕ) (r : Judged) : Type 0 where
-  pub is : (g : ForCalls code values callee) (j : types.Judged) → j .type ≡ typeIf wants → Answer (forFaults g j) code after callee (g .z) (ForWritten g (wordsOf after)) r
+pub record ForJudged (code values after : List ℕ) (wants callee : ℕ) (r : Judged) : Type 0 where
+  pub is : (g : ForCalls code values callee) (j : types.Judged) → typeIn wants ≡ some (j .type) → Answer (forFaults g j) code after callee (g .z) (ForWritten g (wordsOf after)) r
 
 -- the target at i ends before b
 pub record CallAssigns (code values : List ℕ) (i b : ℕ) : Type 0 where
@@ -365,16 +370,16 @@ pub record CallAssigns (code values : List ℕ) (i b : ℕ) : Type 0 where
   pub before : i < b
   pub target : Targeted (for .around .known .m) (for .around .known .n) (wordsOf code) (spotOf (for .around .known .W) (for .around .known .S) t) i b
 
-pub record CallAssigned (code values after : List ℕ) (wants : Bool) (i b : ℕ) (r : Judged) : Type 0 where
-  pub is : (g : CallAssigns code values i b) (j : types.Judged) → j .type ≡ typeIf wants
+pub record CallAssigned (code values after : List ℕ) (wants i b : ℕ) (r : Judged) : Type 0 where
+  pub is : (g : CallAssigns code values i b) (j : types.Judged) → typeIn wants ≡ some (j .type)
       → Answer (forFaults (g .for) j) code after i (g .for .z + 2)
       (RawAssignCall (groundOf (g .for .around)) (g .for .around .known .n) (wordsOf after) (g .for .around .known .S) (g .t) (b + 1) (g .for .es) i (g .for .z + 2) (g .for .z + 2)) r
 
 -- ---- words and values
 -- a statement of one word
 pub record Alone (before after : List ℕ) (op : ℕ) (fine : Bool) (i : ℕ) (r : Judged) : Type 0 where
-  pub yes : fine ≡ true → Linked before after i op 0 (i + 2) × (r ≡ Typed false (i + 2))
-  pub no : fine ≡ false → (after ≡ before) × (r ≡ Faulty 17 i)
+  pub yes : fine ≡ true → Linked before after i op 0 (i + 2) × (r ≡ Typed noType (i + 2))
+  pub no : fine ≡ false → (after ≡ before) × (r ≡ Faulty barred i)
 
 -- a statement at i with an expression of a type, from a word on up to its semicolon
 pub record Values (code values : List ℕ) (from i : ℕ) : Type 0 where
@@ -392,9 +397,9 @@ pub record ValueWritten {code values : List ℕ} {from i : ℕ} (g : Values code
   pub raw : RawValued (groundOf (g .around)) (g .around .known .n) C (g .around .known .S) op (g .e) from i (g .to + 1) (g .to + 1)
   pub between : (k : ℕ) → i < k → k < from → headAt C k ≡ headAt (wordsOf code) k
 
-pub record Valued (code values after : List ℕ) (op : ℕ) (wants : Bool) (from i : ℕ) (r : Judged) : Type 0 where
-  pub is : (g : Values code values from i)
-      → Answer (ofType (g .around .known .W) (typeIf wants) (g .around .known .S) (g .e)) code after i (g .to + 1) (ValueWritten g (wordsOf after) op) r
+pub record Valued (code values after : List ℕ) (op wants from i : ℕ) (r : Judged) : Type 0 where
+  pub is : (g : Values code values from i) (t : DataType) → typeIn wants ≡ some t
+      → Answer (ofType (g .around .known .W) t (g .around .known .S) (g .e)) code after i (g .to + 1) (ValueWritten g (wordsOf after) op) r
 
 -- ---- strings
 -- how many bytes a character takes that begins with this one

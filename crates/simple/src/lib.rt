@@ -1,5 +1,12 @@
 // The check of a simple statement: its names, its types, its place, and what a run has to know of it, written over its words in the code store.
+use around::Setting;
 use expressions::Judged;
+use layout::kinds;
+use layout::ops;
+use layout::parts;
+use layout::rules;
+use layout::types;
+use layout::types::Type;
 use store::set_head;
 use store::set_link;
 use store::set_word;
@@ -11,18 +18,11 @@ ghost use Rattle.paper.specs.Sorts.{NAME, RETURN, RAISE, TPWRITE, TPREADNUM};
 ghost use Rattle.cells.specs.Words.{wordsOf};
 ghost use Rattle.code.specs.Cells.{headAt, opAt, valueAt, placeAt, linkAt};
 ghost use Rattle.code.specs.Signatures.{firstParameter};
+ghost use Rattle.layout.specs.Types.{IsType};
 ghost use Rattle.expressions.specs.Answers as expressions;
 ghost use Rattle.simple.specs.Answers.{Statement, Stated};
 ghost use Rattle.simple.specs.Parts.{Begins, Begun, BeginsIn, BegunIn, BeginsOf, BegunOf, Assigns, Assigned, CallsOf, CalledOf, WrongName, TypeDiffers, IsCall};
 ghost use Rattle.simple.specs.Parts.{Targets, TargetJudged, Elements, ElementJudged, ValueSide, ValueAssigned, Callees, CalleeTold, Passed, More, MoreJudged, Commas, Counts, Counted, CallSide, CallJudged, ForCalls, ForJudged, CallAssigns, CallAssigned, Alone, Values, Valued, Width, Characters, Strings, Spelled};
-
-// Where a statement stands.
-pub struct Setting {
-    // 0: in a PROC; 1: in a FUNC of num, 2: in one of bool
-    pub result: u32,
-    // in an ERROR list
-    pub handler: bool,
-}
 
 // What the name of a callee is.
 pub enum Callee {
@@ -32,46 +32,11 @@ pub enum Callee {
     Wrong(u32),
 }
 
-// ---- ops, as the specs of code have them
-
-const TARGET: u32 = 128;
-
 // so much higher is the op of a target that a call's result goes to
-const FOR_A_CALL: u32 = 4;
+const FOR_A_CALL: u32 = ops::CALL_TARGET - ops::TARGET;
 
-const PROCEDURE_CALL: u32 = 136;
-
-const RETURN_OF: u32 = 137;
-
-const RETURN: u32 = 138;
-
-const RAISE_OF: u32 = 139;
-
-const RAISE: u32 = 140;
-
-const EXIT: u32 = 141;
-
-const RETRY: u32 = 142;
-
-const TRY_NEXT: u32 = 143;
-
-const WRITE: u32 = 144;
-
-const WRITE_OF: u32 = 145;
-
-const READ: u32 = 146;
-
-const NEXT_ARGUMENT: u32 = 159;
-
-const CLOSE: u32 = 166;
-
-// ---- kinds of meanings
-
-const VARIABLE: u32 = 1;
-
-const ARRAY: u32 = 2;
-
-const ROUTINE: u32 = 5;
+// what a string's characters are multiplied by, as its bytes are counted
+const CHARACTERS: usize = parts::CHARACTERS as usize;
 
 // the level of all operators
 const DISJUNCTIONS: u32 = 5;
@@ -83,30 +48,27 @@ fn wrong_name(kind: u32) -> u32
     ensures { λ r. ⌜ WrongName kind r ⌝ }
 {
     if kind == 0 {
-        return 11;
+        return rules::UNKNOWN_NAME;
     }
-    if 7 < kind {
-        return 11;
+    if kinds::ERROR_NUMBER < kind {
+        return rules::UNKNOWN_NAME;
     }
-    12
+    rules::WRONG_KIND
 }
 
 // Whether the type that a head says, if it is asked, is not this one.
-fn differs(w: u32, bool: bool) -> bool
-    ensures { λ r. ⌜ TypeDiffers w bool r ⌝ }
+fn differs(w: u32, t: Type) -> bool
+    ensures { λ r. ⌜ TypeDiffers w t r ⌝ }
 {
-    if w / 256 != 0 {
+    if w / parts::VALUE != 0 {
         return false;
     }
-    if w % 256 == sorts::NUM {
-        return bool;
-    }
-    !bool
+    names::type_named(w % parts::VALUE) != t
 }
 
 // ---- targets
 
-// A target: whether it is a bool, and the word after it.
+// A target: its type, and the word after it.
 fn target(code: &mut [u8], values: &[u8], at: usize) -> Judged
     requires { ⌜ Targets (now code) (now values) at ⌝ }
     ensures { λ r. ⌜ TargetJudged (now (code .entry)) (now (values .entry)) (now (code .exit)) at r ⌝ }
@@ -115,12 +77,12 @@ fn target(code: &mut [u8], values: &[u8], at: usize) -> Judged
     if sort(code, at + 1) == sorts::OPEN_BRACE {
         return element_target(code, values, m, at);
     }
-    let kind = m % 256 / 4;
-    if kind != VARIABLE {
+    let kind = m % parts::VALUE / parts::KIND;
+    if kind != kinds::VARIABLE {
         return Judged::Faulty(wrong_name(kind), at);
     }
-    set_head(code, at, TARGET + m % 2, m / 256);
-    Judged::Typed(m / 2 % 2 == 1, at + 1)
+    set_head(code, at, ops::TARGET + m % 2, m / parts::VALUE);
+    Judged::Typed(names::type_of(m), at + 1)
 }
 
 // An element, of whose array the table says m.
@@ -128,17 +90,17 @@ fn element_target(code: &mut [u8], values: &[u8], m: u32, at: usize) -> Judged
     requires { ⌜ Elements (now code) (now values) m at ⌝ }
     ensures { λ r. ⌜ ElementJudged (now (code .entry)) (now (values .entry)) (now (code .exit)) m at r ⌝ }
 {
-    let kind = m % 256 / 4;
-    if kind != ARRAY {
+    let kind = m % parts::VALUE / parts::KIND;
+    if kind != kinds::ARRAY {
         return Judged::Faulty(wrong_name(kind), at);
     }
-    let index = expressions::of_type(code, values, false, false, at + 2);
+    let index = expressions::of_type(code, values, false, types::NUM, at + 2);
     let Judged::Typed(_, end) = index else {
         return index;
     };
-    set_head(code, at, TARGET + 2 + m % 2, m / 256);
+    set_head(code, at, ops::TARGET + 2 + m % 2, m / parts::VALUE);
     set_link(code, at + 1, end);
-    Judged::Typed(m / 2 % 2 == 1, end + 1)
+    Judged::Typed(names::type_of(m), end + 1)
 }
 
 // ---- calls
@@ -149,20 +111,20 @@ fn callee_at<'a>(code: &'a [u8], values: &'a [u8], function: bool, i: usize) -> 
     ensures { λ r. ⌜ CalleeTold (now (code .entry)) (now (values .entry)) function i r ⌝ }
 {
     let m = names::meaning(code, values, i);
-    let kind = m % 256 / 4;
-    if kind != ROUTINE {
+    let kind = m % parts::VALUE / parts::KIND;
+    if kind != kinds::ROUTINE {
         return Callee::Wrong(wrong_name(kind));
     }
-    let h = (m / 256) as usize;
+    let h = (m / parts::VALUE) as usize;
     let s = sort(code, h);
     if function {
         if s != sorts::FUNC {
-            return Callee::Wrong(12);
+            return Callee::Wrong(rules::WRONG_KIND);
         }
         return Callee::At(h);
     }
     if s == sorts::FUNC {
-        return Callee::Wrong(12);
+        return Callee::Wrong(rules::WRONG_KIND);
     }
     Callee::At(h)
 }
@@ -204,11 +166,11 @@ fn argument(code: &mut [u8], values: &[u8], p: usize, at: usize) -> Judged
 {
     let asked = reading::head(code, p);
     let r = expressions::expression(code, values, false, DISJUNCTIONS, at);
-    let Judged::Typed(bool, end) = r else {
+    let Judged::Typed(t, end) = r else {
         return r;
     };
-    if differs(asked, bool) {
-        return Judged::Faulty(13, at);
+    if differs(asked, t) {
+        return Judged::Faulty(rules::WRONG_TYPE, at);
     }
     r
 }
@@ -226,10 +188,10 @@ fn more_arguments(code: &mut [u8], values: &[u8], p: usize, b: usize) -> Judged
         let Judged::Typed(_, n) = r else {
             return r;
         };
-        set_word(code, end, NEXT_ARGUMENT, 0, n);
+        set_word(code, end, ops::NEXT_ARGUMENT, 0, n);
         end = n;
     }
-    Judged::Typed(false, end)
+    Judged::Typed(types::NONE, end)
 }
 
 fn first_parameter(code: &[u8], h: usize) -> usize
@@ -256,12 +218,12 @@ fn call(
     ensures { λ r. ⌜ CallJudged (now (code .entry)) (now (values .entry)) (now (code .exit)) op h callee first closing r ⌝ }
 {
     let count = count_arguments(code, first, closing);
-    if count != reading::head(code, h) / 256 {
-        return Judged::Faulty(14, callee);
+    if count != reading::head(code, h) / parts::VALUE {
+        return Judged::Faulty(rules::WRONG_COUNT, callee);
     }
     if count == 0 {
         set_word(code, callee, op, h as u32, first);
-        return Judged::Typed(false, first);
+        return Judged::Typed(types::NONE, first);
     }
     let p = first_parameter(code, h);
     let r = argument(code, values, p, first);
@@ -273,7 +235,7 @@ fn call(
 }
 
 // The right side of an assignment to a target of a type: up to the parenthesis that closes.
-fn call_for(code: &mut [u8], values: &[u8], wants: bool, i: usize) -> Judged
+fn call_for(code: &mut [u8], values: &[u8], wants: Type, i: usize) -> Judged
     requires { ⌜ ForCalls (now code) (now values) i ⌝ }
     ensures { λ r. ⌜ ForJudged (now (code .entry)) (now (values .entry)) (now (code .exit)) wants i r ⌝ }
 {
@@ -281,7 +243,7 @@ fn call_for(code: &mut [u8], values: &[u8], wants: bool, i: usize) -> Judged
         Callee::Wrong(number) => Judged::Faulty(number, i),
         Callee::At(h) => {
             if differs(reading::head(code, h + 1), wants) {
-                return Judged::Faulty(13, i);
+                return Judged::Faulty(rules::WRONG_TYPE, i);
             }
             call(code, values, sorts::NAME, h, i, i + 2, sorts::CLOSE_PAREN)
         }
@@ -296,42 +258,56 @@ fn call_of(code: &mut [u8], values: &[u8], i: usize) -> Judged
     match callee_at(code, values, false, i) {
         Callee::Wrong(number) => Judged::Faulty(number, i),
         Callee::At(h) => {
-            let r = call(code, values, PROCEDURE_CALL, h, i, i + 1, sorts::SEMICOLON);
-            let Judged::Typed(bool, end) = r else {
+            let r = call(
+                code,
+                values,
+                ops::PROCEDURE_CALL,
+                h,
+                i,
+                i + 1,
+                sorts::SEMICOLON,
+            );
+            let Judged::Typed(t, end) = r else {
                 return r;
             };
-            set_word(code, end, CLOSE, 0, end + 1);
-            Judged::Typed(bool, end + 1)
+            set_word(code, end, ops::CLOSE, 0, end + 1);
+            Judged::Typed(t, end + 1)
         }
     }
 }
 
 // ---- assignments: the target at i ends before b
 
-fn assign_value(code: &mut [u8], values: &[u8], wants: bool, i: usize, b: usize) -> Judged
+fn assign_value(code: &mut [u8], values: &[u8], wants: Type, i: usize, b: usize) -> Judged
     requires { ⌜ ValueSide (now code) (now values) wants i b ⌝ }
     ensures { λ r. ⌜ ValueAssigned (now (code .entry)) (now (values .entry)) (now (code .exit)) wants i b r ⌝ }
 {
     let r = expressions::of_type(code, values, false, wants, b + 1);
-    let Judged::Typed(bool, end) = r else {
+    let Judged::Typed(t, end) = r else {
         return r;
     };
     set_link(code, b, end);
     set_link(code, i, end + 1);
-    Judged::Typed(bool, end + 1)
+    Judged::Typed(t, end + 1)
 }
 
-fn assign_call(code: &mut [u8], values: &[u8], wants: bool, i: usize, b: usize) -> Judged
-    requires { ⌜ CallAssigns (now code) (now values) i b ⌝ }
+fn assign_call(code: &mut [u8], values: &[u8], wants: Type, i: usize, b: usize) -> Judged
+    requires { ⌜ CallAssigns (now code) (now values) i b × IsType wants ⌝ }
     ensures { λ r. ⌜ CallAssigned (now (code .entry)) (now (values .entry)) (now (code .exit)) wants i b r ⌝ }
 {
     let r = call_for(code, values, wants, b + 1);
-    let Judged::Typed(bool, end) = r else {
+    let Judged::Typed(t, end) = r else {
         return r;
     };
     let w = reading::head(code, i);
-    set_word(code, i, w % 256 + FOR_A_CALL, w / 256, end + 2);
-    Judged::Typed(bool, end + 2)
+    set_word(
+        code,
+        i,
+        w % parts::VALUE + FOR_A_CALL,
+        w / parts::VALUE,
+        end + 2,
+    );
+    Judged::Typed(t, end + 2)
 }
 
 // Whether a name with a parenthesis behind it stands at a word.
@@ -350,13 +326,13 @@ fn assignment(code: &mut [u8], values: &[u8], i: usize) -> Judged
     ensures { λ r. ⌜ Assigned (now (code .entry)) (now (values .entry)) (now (code .exit)) i r ⌝ }
 {
     let r = target(code, values, i);
-    let Judged::Typed(bool, b) = r else {
+    let Judged::Typed(t, b) = r else {
         return r;
     };
     if is_call(code, b + 1) {
-        return assign_call(code, values, bool, i, b);
+        return assign_call(code, values, t, i, b);
     }
-    assign_value(code, values, bool, i, b)
+    assign_value(code, values, t, i, b)
 }
 
 fn started_by_name(code: &mut [u8], values: &[u8], i: usize) -> Judged
@@ -381,23 +357,23 @@ fn word(code: &mut [u8], op: u32, fine: bool, i: usize) -> Judged
     ensures { λ r. ⌜ Alone (now (code .entry)) (now (code .exit)) op fine i r ⌝ }
 {
     if !fine {
-        return Judged::Faulty(17, i);
+        return Judged::Faulty(rules::BARRED, i);
     }
     set_word(code, i, op, 0, i + 2);
-    Judged::Typed(false, i + 2)
+    Judged::Typed(types::NONE, i + 2)
 }
 
 // A statement with an expression of a type, which stands from a word on.
-fn with_value(code: &mut [u8], values: &[u8], op: u32, wants: bool, from: usize, i: usize) -> Judged
-    requires { ⌜ Values (now code) (now values) from i × (op < 256) ⌝ }
+fn with_value(code: &mut [u8], values: &[u8], op: u32, wants: Type, from: usize, i: usize) -> Judged
+    requires { ⌜ Values (now code) (now values) from i × (op < 256) × IsType wants ⌝ }
     ensures { λ r. ⌜ Valued (now (code .entry)) (now (values .entry)) (now (code .exit)) op wants from i r ⌝ }
 {
     let r = expressions::of_type(code, values, false, wants, from);
-    let Judged::Typed(bool, end) = r else {
+    let Judged::Typed(t, end) = r else {
         return r;
     };
     set_word(code, i, op, end as u32, end + 1);
-    Judged::Typed(bool, end + 1)
+    Judged::Typed(t, end + 1)
 }
 
 fn returns(code: &mut [u8], values: &[u8], k: Setting, i: usize) -> Judged
@@ -406,12 +382,12 @@ fn returns(code: &mut [u8], values: &[u8], k: Setting, i: usize) -> Judged
 {
     let result = k.result;
     if sort(code, i + 1) == sorts::SEMICOLON {
-        return word(code, RETURN, result == 0, i);
+        return word(code, ops::RETURN, result == types::NONE, i);
     }
-    if result == 0 {
-        return Judged::Faulty(17, i);
+    if result == types::NONE {
+        return Judged::Faulty(rules::BARRED, i);
     }
-    with_value(code, values, RETURN_OF, result == 2, i + 1, i)
+    with_value(code, values, ops::RETURN_OF, result, i + 1, i)
 }
 
 fn raises(code: &mut [u8], values: &[u8], k: Setting, i: usize) -> Judged
@@ -420,12 +396,12 @@ fn raises(code: &mut [u8], values: &[u8], k: Setting, i: usize) -> Judged
 {
     let handler = k.handler;
     if sort(code, i + 1) == sorts::SEMICOLON {
-        return word(code, RAISE, handler, i);
+        return word(code, ops::RAISE, handler, i);
     }
     if handler {
-        return Judged::Faulty(17, i);
+        return Judged::Faulty(rules::BARRED, i);
     }
-    with_value(code, values, RAISE_OF, false, i + 1, i)
+    with_value(code, values, ops::RAISE_OF, types::NUM, i + 1, i)
 }
 
 // ---- strings
@@ -462,7 +438,7 @@ fn string(text: &[u8], code: &mut [u8], i: usize)
     let bytes = reading::value(code, i);
     let first = reading::place(code, i) + 1;
     let count = characters(text, first, bytes - 2);
-    set_head(code, i, sorts::STRING, (bytes + 256 * count) as u32);
+    set_head(code, i, sorts::STRING, (bytes + CHARACTERS * count) as u32);
 }
 
 fn writes(text: &[u8], code: &mut [u8], values: &[u8], i: usize) -> Judged
@@ -471,10 +447,10 @@ fn writes(text: &[u8], code: &mut [u8], values: &[u8], i: usize) -> Judged
 {
     string(text, code, i + 1);
     if sort(code, i + 2) == sorts::BACKSLASH {
-        return with_value(code, values, WRITE_OF, false, i + 5, i);
+        return with_value(code, values, ops::WRITE_OF, types::NUM, i + 5, i);
     }
-    set_word(code, i, WRITE, 0, i + 3);
-    Judged::Typed(false, i + 3)
+    set_word(code, i, ops::WRITE, 0, i + 3);
+    Judged::Typed(types::NONE, i + 3)
 }
 
 fn reads(text: &[u8], code: &mut [u8], values: &[u8], i: usize) -> Judged
@@ -482,15 +458,15 @@ fn reads(text: &[u8], code: &mut [u8], values: &[u8], i: usize) -> Judged
     ensures { λ r. ⌜ BegunOf TPREADNUM (now (text .entry)) (now (code .entry)) (now (values .entry)) (now (code .exit)) i r ⌝ }
 {
     let r = target(code, values, i + 1);
-    let Judged::Typed(bool, b) = r else {
+    let Judged::Typed(t, b) = r else {
         return r;
     };
-    if bool {
-        return Judged::Faulty(13, i + 1);
+    if t != types::NUM {
+        return Judged::Faulty(rules::WRONG_TYPE, i + 1);
     }
     string(text, code, b + 1);
-    set_word(code, i, READ, (b + 1) as u32, b + 3);
-    Judged::Typed(bool, b + 3)
+    set_word(code, i, ops::READ, (b + 1) as u32, b + 3);
+    Judged::Typed(t, b + 3)
 }
 
 // A simple statement: the word after its semicolon.
@@ -504,9 +480,9 @@ pub fn statement(text: &[u8], code: &mut [u8], values: &[u8], k: Setting, i: usi
         sorts::NAME => started_by_name(code, values, i),
         sorts::RETURN => returns(code, values, k, i),
         sorts::RAISE => raises(code, values, k, i),
-        sorts::EXIT => word(code, EXIT, true, i),
-        sorts::RETRY => word(code, RETRY, handler, i),
-        sorts::TRYNEXT => word(code, TRY_NEXT, handler, i),
+        sorts::EXIT => word(code, ops::EXIT, true, i),
+        sorts::RETRY => word(code, ops::RETRY, handler, i),
+        sorts::TRYNEXT => word(code, ops::TRY_NEXT, handler, i),
         sorts::TPWRITE => writes(text, code, values, i),
         _ => reads(text, code, values, i),
     }

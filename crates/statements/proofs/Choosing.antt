@@ -1,105 +1,44 @@
 -- TEST: its cases one by one.
 use mathlib.Core.Path.{_≡_, refl, sym, ap, subst, _∙_}
-use mathlib.Core.Bool.{Bool, true, false}
-use mathlib.Core.List.{List, [], _∷_, _++_}
-use Prim.Native.Nat.{ℕ, _+_, _-_, _*_, _%_, _<_, _≤_}
+use mathlib.Core.Bool.{Bool}
+use mathlib.Core.List.{List, [], _++_}
+use Prim.Native.Nat.{ℕ, _+_, _-_, _*_, _<_, _≤_}
 use native.Mathlib.Omega.{arith}
 use lib.ListN.{length}
-use lib.IntN.{pos, _-ℤ_}
-use Rattle.laws.proofs.Tests.{by-same}
 use Rattle.cells.specs.Words.{wordsOf}
-use Rattle.paper.specs.Sorts.{CASE, DEFAULT, ENDTEST, TEST}
-use Rattle.paper.specs.Words.{Word}
-use Rattle.paper.specs.Terms.{Memory}
-use Rattle.paper.specs.Trees.{Expr, Statement, Statements, Cases, noCase, case, test}
-use Rattle.paper.specs.Expressions.{levelOf}
-use Rattle.paper.specs.Names.{aNum, Scopes, sortIn}
-use Rattle.paper.specs.Types.{Fault, ofType}
-use Rattle.paper.specs.Checks.{forsIn, forsInList, forsInCases, statementFaults, listFaults, caseFaults, casesFaults}
-use Rattle.code.specs.Cells.{opIn, linkIn, opAt, placeAt, linkAt}
-use Rattle.code.specs.Spans.{bias}
-use Rattle.code.specs.Steps.{constantAt}
+use Rattle.paper.specs.Sorts.{CASE}
+use Rattle.paper.specs.Trees.{Cases, noCase}
+use Rattle.paper.specs.Names.{sortIn}
+use Rattle.paper.specs.Types.{Fault}
+use Rattle.paper.specs.Checks.{forsInList, forsInCases, listFaults, caseFaults, casesFaults}
+use Rattle.code.specs.Cells.{opAt}
 use Rattle.grammar.specs.Form.{Parses, CasesAt, DefaultAt}
-use Rattle.grammar.proofs.Inversions.{FirstCase, cases-first, cases-none, default-none, IsTest, statement-test}
+use Rattle.grammar.proofs.Inversions.{FirstCase, cases-first, cases-none}
 use Rattle.grammar.proofs.Places.{exprs-grow, list-grows, cases-grow, default-grows}
 use Rattle.expressions.specs.declared.Judged.{Judged}
 use Rattle.expressions.specs.declared.Judged.the-variants as judged
-use Rattle.store.specs.Promises.{Kept, Linked}
-use Rattle.expressions.specs.Answers.{typeIf, OfType}
-use Rattle.expressions.specs.Answers as expressions
+use Rattle.store.specs.Promises.{Linked}
 use Rattle.faults.specs.First.{First, Inside}
 use Rattle.faults.proofs.First.{first-before, first-after, nothing-in-both}
-use Rattle.faults.proofs.Expressions.{grows, of-type-inside}
+use Rattle.faults.proofs.Expressions.{grows}
 use Rattle.faults.proofs.Statements.{case-inside, list-inside, cases-inside, default-inside}
-use Rattle.links.specs.Raw.{Ground, SameWords, RawWord, RawTerm, RawList, RawValues, RawConstants, RawCases, RawDefault, RawTest, RawStatement}
-use Rattle.links.proofs.Framing.{cases-frame}
-use Rattle.simple.specs.declared.Setting.{Setting}
-use Rattle.simple.specs.Around.{Around, groundOf, offsetIn}
-use Rattle.simple.specs.Answers as simples
-use Rattle.statements.specs.declared.Walked.{Walked}
-use Rattle.statements.specs.declared.Walked.the-variants.{Upto, Faulty}
-use Rattle.statements.specs.Answers.{upto, Outside, SameValues, Here, Stands, Lists, Done, Tell, Answer, StatementAnswer, Listed, Begins, Begun}
-use Rattle.statements.specs.Parts.{Chain, CaseChain, CaseValues, CaseValued, Chained, ValuesLinked, Defaults, Defaulted, Chooses, CasesWritten, Chosen}
-use Rattle.statements.proofs.Same.{same-values, same-then, around-as, here-as, lists-as, answer-as}
-use Rattle.statements.proofs.Frames.{outside-same, outside-wider, outside-on, kept-outside, same-before, same-behind, same-on, here-on, here-part, term-same, list-same, op-same, value-same, place-same, link-same, word-same, linked-outside, linked-word}
-use Rattle.statements.proofs.Judging.{inside-both, expression-stands, judged-faulty, judged-long, judged-none, judged-next, judged-term, judged-kept}
-use Rattle.statements.proofs.Walking.{upto-done, faulty-first, done-answer, first-answer, faulty-answer, answer-behind}
-use Rattle.statements.proofs.Compacts.{typed-fine, faulty-found}
-
--- ---- the values of a CASE stay while other words are written
-constant-same : {C D : List ℕ} {a b : ℕ} (s : SameWords C D a b) (i : ℕ) → a ≤ i → i < b → constantAt D i ≡ constantAt C i
-unfolding constantAt
-constant-same s i l h = ap (λ (k : ℕ). pos k -ℤ pos bias) (value-same s i l h _ refl)
-
-module _ (W : List Word) (S : Scopes) (M : Memory) (C D : List ℕ) (colon low : ℕ) (same : SameWords C D low colon) where
-  pub chain-same : (es : List Expr) (w : ℕ) → linkAt C w ≡ linkAt D w → low ≤ w + 2 → Chain W S M C es colon w → Chain W S M D es colon w
-  unfolding Chain
-  chain-same [] w l h x = sym l ∙ x
-  chain-same (e ∷ es) w l h x =
-      let lv : low ≤ x .v = omega (arith, x .on) in
-      record {
-        v = x .v;
-        leaves = sym l ∙ x .leaves;
-        on = x .on;
-        before = x .before;
-        op = op-same same (x .v) lv (x .before) _ (x .op);
-        constant = constant-same same (x .v) lv (x .before) ∙ x .constant;
-        rest = chain-same es (x .v) (ap linkIn (same .tails (x .v) lv (x .before))) (omega arith) (x .rest);
-      }
-
-  case-chain-same : (es : List Expr) (c : ℕ) → SameWords C D c (c + 1) → low ≤ c + 2 → CaseChain W S M C es colon c → CaseChain W S M D es colon c
-  unfolding CaseChain
-  case-chain-same [] c s h x = x
-  case-chain-same (e ∷ es) c s h x =
-      (op-same s c (omega arith) (omega arith) _ (x .0), constant-same s c (omega arith) (omega arith) ∙ x .1, chain-same es c (ap linkIn (s .tails c (omega arith) (omega arith))) h (x .2))
-
-case-chain-op : (W : List Word) (S : Scopes) (M : Memory) (C : List ℕ) (es : List Expr) (colon c : ℕ) → CaseChain W S M C es colon c → opAt C c ≡ 157
-unfolding CaseChain
-case-chain-op W S M C [] colon c x = absurd x
-case-chain-op W S M C (e ∷ es) colon c x = x .0
-
-module _ (g : Ground) (n : ℕ) (C D : List ℕ) (low high : ℕ) (same : SameWords C D low high) (S : Scopes) (first next : ℕ) (inside : first ≤ high) where
-  values-same : (es : List Expr) (w : ℕ) → low ≤ w → w < high → RawValues g n C S es first next w → RawValues g n D S es first next w
-  unfolding RawValues
-  values-same [] w l h x = link-same same w l h next x
-  values-same (e ∷ es) w l h x =
-      let lv : low ≤ x .v = omega (arith, x .on) in
-      let hv : x .v < high = omega (arith, x .before) in
-      record {
-        v = x .v;
-        leaves = link-same same w l h (x .v) (x .leaves);
-        on = x .on;
-        before = x .before;
-        op = op-same same (x .v) lv hv _ (x .op);
-        constant = constant-same same (x .v) lv hv ∙ x .constant;
-        place = place-same same (x .v) lv hv first (x .place);
-        rest = values-same es (x .v) lv hv (x .rest);
-      }
-
-  constants-same : (es : List Expr) (w : ℕ) → low ≤ w → w < high → RawConstants g n C S es first next w → RawConstants g n D S es first next w
-  unfolding RawConstants
-  constants-same [] w l h x = x
-  constants-same (e ∷ es) w l h x = (constant-same same w l h ∙ x .0, values-same es w l h (x .1))
+use Rattle.links.specs.Raw.{SameWords, RawWord, RawList, RawConstants, RawCases, RawDefault}
+use Rattle.around.specs.declared.Setting.{Setting}
+use Rattle.around.specs.Around.{Around, groundOf}
+use Rattle.around.specs.Answers as answered
+use Rattle.names.specs.declared.Walked.{Walked}
+use Rattle.names.specs.declared.Walked.the-variants.{Upto, Faulty}
+use Rattle.statements.specs.Answers.{upto, SameValues, Lists, Done, Tell, Answer, Listed}
+use Rattle.compounds.specs.Here.{Outside, Here}
+use Rattle.compounds.specs.Parts.{CaseChain, CaseValues, CaseValued, Chained, ValuesLinked}
+use Rattle.statements.specs.Parts.{Defaults, Defaulted, Chooses, CasesWritten, Chosen}
+use Rattle.statements.proofs.Same.{same-values, around-as, here-as, lists-as, answer-as}
+use Rattle.compounds.proofs.Frames.{outside-same, outside-wider, outside-on, kept-outside, same-before, same-behind, same-on, here-on, list-same, op-same, place-same, word-same, linked-outside, linked-word}
+use Rattle.compounds.proofs.Judging.{inside-both}
+use Rattle.statements.proofs.Walking.{upto-done, faulty-first, done-answer, first-answer, faulty-answer}
+use Rattle.compounds.proofs.Telling.{typed-fine, faulty-found}
+use Rattle.compounds.proofs.Staying.{case-chain-same, case-chain-op, constants-same}
+use Rattle.code.specs.Steps.{aPass}
 
 -- ---- what is left of the cases
 pub record Casing {text code values : List ℕ} {k : Setting} {used first : ℕ} (g : Chooses text code values k used first) (now values′ : List ℕ) (c n : ℕ) : Type 0 where
@@ -304,7 +243,7 @@ module _ (text code values : List ℕ) (k : Setting) (used first : ℕ) (now val
             first-before (first-before q j1 rest-in (omega arith)) j2 else-in (omega arith)
 
         module _ (one : List ℕ) (j : Judged) (cv : CaseValued now values′ one c j) where
-          va : simples.Answer value-faults now one c (f .n) (CaseChain (a .known .W) (a .known .S) (a .M) (wordsOf one) (f .cs) (f .n) c) j
+          va : answered.Answer value-faults now one c (f .n) (CaseChain (a .known .W) (a .known .S) (a .M) (wordsOf one) (f .cs) (f .n) c) j
           unfolding values-at value-faults
           va = cv .is values-at
 
@@ -314,8 +253,8 @@ module _ (text code values : List ℕ) (k : Setting) (used first : ℕ) (now val
               first-answer _ _ _ _ _ _ _ _ number word _
               (subst (First (record { number = number; at = word })) (sym whole) (behind-list _ (first-before (faulty-found j va number word q) value-in list-in (omega arith)))) (va .long ∙ x .long)
 
-          module _ (bool : Bool) (colon : ℕ) (q : j ≡ judged.Typed bool colon) where
-            v : simples.Fine value-faults now one c (f .n) colon (CaseChain (a .known .W) (a .known .S) (a .M) (wordsOf one) (f .cs) (f .n) c)
+          module _ (bool : ℕ) (colon : ℕ) (q : j ≡ judged.Typed bool colon) where
+            v : answered.Fine value-faults now one c (f .n) colon (CaseChain (a .known .W) (a .known .S) (a .M) (wordsOf one) (f .cs) (f .n) c)
             v = typed-fine j va bool colon q
 
             lists : Lists text one values k n (f .n + 1)
@@ -353,7 +292,7 @@ module _ (text code values : List ℕ) (k : Setting) (used first : ℕ) (now val
                 pub case-closes : (c < e) × (e < 8191) × ((c + 1) * 8 + 8 ≤ length two)
                 case-closes = (omega (arith, done .next-is, orders), omega (arith, done .next-is, orders, ending), omega (arith, inner .long, va .long, orders, ending, x .here .unread .loaded .room))
 
-                module _ (three : List ℕ) (lk : Linked two three (c + 1) 164 0 e) where
+                module _ (three : List ℕ) (lk : Linked two three (c + 1) aPass 0 e) where
                   at-next : Outside (wordsOf two) (wordsOf three) (c + 1) (c + 1 + 1)
                   at-next = linked-outside lk
 
@@ -406,7 +345,8 @@ module _ (text code values : List ℕ) (k : Setting) (used first : ℕ) (now val
                       same = done .same;
                       cs = f .rest;
                       is = f .more;
-                      here = here-on a now four k n c (g .to) (n + forsInList (f .b)) (f .m) (g .to) (x .here) written (y .long ∙ long-three ∙ sym (x .long)) (omega arith) (omega (arith, done .few, done .used-is)) (omega arith) (omega (arith, orders, ending)) (omega (arith, orders)) (omega arith) (omega arith);
+                      here = here-on a now four k n c (g .to) (n + forsInList (f .b)) (f .m) (g .to) (x .here) written
+                          (y .long ∙ long-three ∙ sym (x .long)) (omega arith) (omega (arith, done .few, done .used-is)) (omega arith) (omega (arith, orders, ending)) (omega (arith, orders)) (omega arith) (omega arith);
                       count = let z : forsInCases (x .cs) ≡ forsInList (f .b) + forsInCases (f .rest) = ap forsInCases (f .is) in omega (arith, x .count, z);
                       faults-are = left;
                       outside = outside-on (outside-wider first (f .m) (x .outside) (omega arith) (omega (arith, orders))) (outside-wider first (f .m) written (x .order) (omega arith));
@@ -422,7 +362,7 @@ module _ (text code values : List ℕ) (k : Setting) (used first : ℕ) (now val
                             op = op-same sc c (omega arith) (omega (arith, orders)) _ (y .op ∙ case-chain-op (a .known .W) (a .known .S) (a .M) (wordsOf three) (f .cs) (f .n) c chained);
                             place = place-same sc c (omega arith) (omega (arith, orders)) _ (y .place);
                             values = constants-same (groundOf a) (a .known .n) (wordsOf four) C c (f .m) sc (a .known .S) (f .n + 1) (f .m) (omega (arith, orders)) (f .cs) c (omega arith) (omega (arith, orders)) raw;
-                            behind = subst (RawWord C 164 (c + 1)) (done .next-is) (word-same sc (c + 1) (omega arith) (omega (arith, orders)) _ e (word-same (y .behind) (c + 1) (omega arith) (omega arith) _ e (linked-word lk)));
+                            behind = subst (RawWord C aPass (c + 1)) (done .next-is) (word-same sc (c + 1) (omega arith) (omega (arith, orders)) _ e (word-same (y .behind) (c + 1) (omega arith) (omega arith) _ e (linked-word lk)));
                             before = omega (arith, orders);
                             list = list-same (groundOf a) (a .known .n) (wordsOf two) C (f .b) (a .known .S) n (f .n + 1) (f .m)
                                 (same-on (same-on (same-behind (f .n + 1) (f .m) at-next (omega (arith, orders))) (same-behind (f .n + 1) (f .m) (y .outside) (omega arith))) (same-before (f .n + 1) (f .m) o (omega arith))) (done .written);
@@ -442,9 +382,9 @@ module _ (text code values : List ℕ) (k : Setting) (used first : ℕ) (now val
       pub case-wrong : (number word : ℕ) → j ≡ judged.Faulty number word → Chosen text code values one values′ k used first (Faulty number word)
       case-wrong number word q = record { is = λ g. values-wrong g s es h one j cv number word q }
 
-      module _ (bool : Bool) (colon : ℕ) (q : j ≡ judged.Typed bool colon) (two values″ : List ℕ) (r : Walked) (l : Listed text one values′ two values″ k n (colon + 1) r) where
+      module _ (bool : ℕ) (colon : ℕ) (q : j ≡ judged.Typed bool colon) (two values″ : List ℕ) (r : Walked) (l : Listed text one values′ two values″ k n (colon + 1) r) where
         pub case-list-wrong : (number word : ℕ) → r ≡ Faulty number word → Chosen text code values two values″ k used first r
         case-list-wrong number word e = record { is = λ g. list-wrong g s es h one j cv bool colon q two values″ r l number word e }
 
-        pub cases-go : (e u : ℕ) → r ≡ upto e u → (three : List ℕ) → Linked two three (c + 1) 164 0 e → (four : List ℕ) → ValuesLinked three four colon e c → Casings text code values k used first four values″ e u
+        pub cases-go : (e u : ℕ) → r ≡ upto e u → (three : List ℕ) → Linked two three (c + 1) aPass 0 e → (four : List ℕ) → ValuesLinked three four colon e c → Casings text code values k used first four values″ e u
         cases-go e u q2 three lk four vl = record { is = λ g. goes-on g s es h one j cv bool colon q two values″ r l e u q2 three lk four vl }

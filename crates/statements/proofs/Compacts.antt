@@ -1,15 +1,14 @@
 -- Simple statements, by themselves and in a compact IF.
-use mathlib.Core.Path.{_≡_, refl, sym, ap, subst, _∙_}
-use mathlib.Core.Bool.{Bool, true, false}
-use mathlib.Core.List.{List, []}
+use mathlib.Core.Path.{_≡_, refl, sym, subst, _∙_}
+use mathlib.Core.Bool.{Bool}
+use mathlib.Core.List.{List}
 use Prim.Native.Nat.{ℕ, _+_, _-_, _*_, _<_, _≤_}
 use native.Mathlib.Omega.{arith}
 use lib.ListN.{length}
 use Rattle.cells.specs.Words.{wordsOf}
 use Rattle.paper.specs.Sorts.{semicolon}
-use Rattle.paper.specs.Trees.{Simple, Statement, simple, compactIf}
+use Rattle.paper.specs.Trees.{Simple, Statement, compactIf}
 use Rattle.paper.specs.Names.{sortIn}
-use Rattle.paper.specs.Types.{Fault}
 use Rattle.paper.specs.Checks.{forsIn, simpleFaults, statementFaults}
 use Rattle.grammar.specs.Form.{Parses, SimpleAt}
 use Rattle.grammar.proofs.Inversions as inversions
@@ -17,32 +16,25 @@ use Rattle.grammar.proofs.Inversions.{statement-plain}
 use Rattle.grammar.proofs.Places.{simple-grows}
 use Rattle.expressions.specs.declared.Judged.{Judged}
 use Rattle.expressions.specs.declared.Judged.the-variants as judged
-use Rattle.store.specs.Promises.{Kept, Linked}
-use Rattle.faults.specs.First.{First}
+use Rattle.store.specs.Promises.{Linked}
 use Rattle.faults.proofs.Expressions.{grows}
 use Rattle.links.specs.Raw.{RawWord, RawTerm, RawSimple, RawStatement}
 use Rattle.links.proofs.Framing.{simple-frame}
-use Rattle.simple.specs.declared.Setting.{Setting}
-use Rattle.simple.specs.Around.{Around, groundOf, offsetIn}
+use Rattle.around.specs.declared.Setting.{Setting}
+use Rattle.around.specs.Around.{Around, groundOf, offsetIn}
 use Rattle.simple.specs.Answers as simples
+use Rattle.around.specs.Answers as answered
 use Rattle.names.specs.declared.Scope.{Scope}
-use Rattle.statements.specs.declared.Walked.{Walked}
-use Rattle.statements.specs.declared.Walked.the-variants.{Upto, Faulty}
-use Rattle.statements.specs.Answers.{upto, Outside, Here, Stands, Answer, StatementAnswer}
+use Rattle.names.specs.declared.Walked.{Walked}
+use Rattle.names.specs.declared.Walked.the-variants.{Upto, Faulty}
+use Rattle.statements.specs.Answers.{upto, Stands, Answer, StatementAnswer}
+use Rattle.compounds.specs.Here.{Here}
 use Rattle.statements.specs.Parts.{Plain, Plainly, Compacts, Compacted}
 use Rattle.statements.proofs.Same.{same-values}
-use Rattle.statements.proofs.Frames.{outside-wider, outside-on, kept-outside, same-before, same-behind, same-on, here-part, term-same, linked-outside, linked-word}
+use Rattle.compounds.proofs.Frames.{outside-wider, outside-on, kept-outside, same-before, same-behind, same-on, here-part, term-same, linked-outside, linked-word}
 use Rattle.statements.proofs.Walking.{as-scope, done-answer, first-answer}
-
--- ---- what the check of a simple statement answers
-module _ {fs : List Fault} {before after : List ℕ} {at to : ℕ} {holds : Type 0} (j : Judged) (x : simples.Answer fs before after at to holds j) where
-  pub typed-fine : (bool : Bool) (next : ℕ) → j ≡ judged.Typed bool next → simples.Fine fs before after at to next holds
-  unfolding simples.Tell
-  typed-fine bool next e = subst (simples.Tell fs before after at to holds) e (x .tells)
-
-  pub faulty-found : (number word : ℕ) → j ≡ judged.Faulty number word → First (record { number = number; at = word }) fs
-  unfolding simples.Tell
-  faulty-found number word e = subst (simples.Tell fs before after at to holds) e (x .tells)
+use Rattle.code.specs.Steps.{aCompactIf}
+use Rattle.compounds.proofs.Telling.{typed-fine, faulty-found}
 
 -- ---- a simple statement from t up to its semicolon at n
 module _ (text code values : List ℕ) (a : Around text values) (k : Setting) (used t to : ℕ) (h : Here a code k used t to) (s : Simple) (n : ℕ)
@@ -61,7 +53,7 @@ module _ (text code values : List ℕ) (a : Around text values) (k : Setting) (u
   }
 
   pub simple-answers : (one : List ℕ) (j : Judged) → simples.Stated text code values one k t j
-      → simples.Answer (simpleFaults (a .known .W) (a .K) (a .known .S) s) code one t (n + 1) (RawSimple (groundOf a) (a .known .n) (wordsOf one) (a .known .S) s t (n + 1)) j
+      → answered.Answer (simpleFaults (a .known .W) (a .K) (a .known .S) s) code one t (n + 1) (RawSimple (groundOf a) (a .known .n) (wordsOf one) (a .known .S) s t (n + 1)) j
   unfolding simple-stands
   simple-answers one j x = x .is simple-stands
 
@@ -84,14 +76,14 @@ module _ (text code values : List ℕ) (k : Setting) (used i : ℕ) (g : Plain t
       Answer (statementFaults (a .known .W) (a .K) (a .M) t (a .known .S) used) code after values values i (s .to) (used + forsIn t) (RawStatement (groundOf a) (a .known .n) (wordsOf after) t (a .known .S) used i (s .to)) r
 
   module _ (one : List ℕ) (j : Judged) (x : simples.Stated text code values one k i j) where
-    answers : simples.Answer (simpleFaults (a .known .W) (a .K) (a .known .S) (w .simply)) code one i (w .n + 1) (RawSimple (groundOf a) (a .known .n) (wordsOf one) (a .known .S) (w .simply) i (w .n + 1)) j
+    answers : answered.Answer (simpleFaults (a .known .W) (a .K) (a .known .S) (w .simply)) code one i (w .n + 1) (RawSimple (groundOf a) (a .known .n) (wordsOf one) (a .known .S) (w .simply) i (w .n + 1)) j
     answers = simple-answers text code values a k used i (s .to) (s .here) (w .simply) (w .n) (w .stands) (w .ends) (omega (arith, w .after)) one j x
 
     wrong : (number word : ℕ) → j ≡ judged.Faulty number word → StatementAnswer (g .stands) one values (Faulty number word)
     unfolding statementFaults
     wrong number word q = subst (ForStatement one (Faulty number word)) (sym (w .is)) (first-answer _ _ _ _ _ _ _ _ number word _ (faulty-found j answers number word q) (answers .long))
 
-    right : (bool : Bool) (next : ℕ) → j ≡ judged.Typed bool next → StatementAnswer (g .stands) one values (upto next used)
+    right : (bool : ℕ) (next : ℕ) → j ≡ judged.Typed bool next → StatementAnswer (g .stands) one values (upto next used)
     unfolding statementFaults forsIn RawStatement
     right bool next q =
         let f = typed-fine j answers bool next q in
@@ -112,7 +104,7 @@ module _ (text code values : List ℕ) (k : Setting) (used i : ℕ) (one : List 
   pub plain-wrong : (number word : ℕ) → j ≡ judged.Faulty number word → Plainly text code values one k used i (Faulty number word)
   plain-wrong number word q = record { is = λ g. wrong text code values k used i g one j x number word q }
 
-  pub plain-right : (bool : Bool) (next : ℕ) → j ≡ judged.Typed bool next → (scope : Scope) → scope .used ≡ used → Plainly text code values one k used i (Upto next scope)
+  pub plain-right : (bool : ℕ) (next : ℕ) → j ≡ judged.Typed bool next → (scope : Scope) → scope .used ≡ used → Plainly text code values one k used i (Upto next scope)
   plain-right bool next q scope u = as-scope (Plainly text code values one k used i) next scope u (record { is = λ g. right text code values k used i g one j x bool next q })
 
 -- ---- behind a condition
@@ -130,21 +122,21 @@ module _ (text code values : List ℕ) (k : Setting) (used i t : ℕ) (g : Compa
       bound = (forward text code values b k used t (g .to) (g .here) (g .s) (g .n) (g .is) (g .ends) (omega (arith, g .after)), omega (arith, g .after), g .here .unread .loaded .room)
 
   module _ (one : List ℕ) (j : Judged) (x : simples.Stated text code values one k t j) where
-    found : simples.Answer (simpleFaults (b .known .W) (b .K) (b .known .S) (g .s)) code one t (g .n + 1) (RawSimple (groundOf b) (b .known .n) (wordsOf one) (b .known .S) (g .s) t (g .n + 1)) j
+    found : answered.Answer (simpleFaults (b .known .W) (b .K) (b .known .S) (g .s)) code one t (g .n + 1) (RawSimple (groundOf b) (b .known .n) (wordsOf one) (b .known .S) (g .s) t (g .n + 1)) j
     found = simple-answers text code values b k used t (g .to) (g .here) (g .s) (g .n) (g .is) (g .ends) (omega (arith, g .after)) one j x
 
     compact-no : (number word : ℕ) → j ≡ judged.Faulty number word → Answer (simpleFaults (b .known .W) (b .K) (b .known .S) (g .s)) code one values values i (g .to) used
         (RawStatement (groundOf b) (b .known .n) (wordsOf one) (compactIf i (g .e) (g .s)) (b .known .S) used i (g .to)) (Faulty number word)
     compact-no number word q = first-answer _ _ _ _ _ _ _ _ number word _ (faulty-found j found number word q) (found .long)
 
-    module _ (bool : Bool) (next : ℕ) (q : j ≡ judged.Typed bool next) where
-      f : simples.Fine (simpleFaults (b .known .W) (b .K) (b .known .S) (g .s)) code one t (g .n + 1) next (RawSimple (groundOf b) (b .known .n) (wordsOf one) (b .known .S) (g .s) t (g .n + 1))
+    module _ (bool : ℕ) (next : ℕ) (q : j ≡ judged.Typed bool next) where
+      f : answered.Fine (simpleFaults (b .known .W) (b .K) (b .known .S) (g .s)) code one t (g .n + 1) next (RawSimple (groundOf b) (b .known .n) (wordsOf one) (b .known .S) (g .s) t (g .n + 1))
       f = typed-fine j found bool next q
 
       pub compact-next : (next ≤ 8192) × (length one ≡ length code)
       compact-next = (omega (arith, f .next-is, g .after, g .here .unread .loaded .last), found .long)
 
-      compact-yes : (two : List ℕ) → Linked one two i 147 t next → Answer (simpleFaults (b .known .W) (b .K) (b .known .S) (g .s)) code two values values i (g .to) used
+      compact-yes : (two : List ℕ) → Linked one two i aCompactIf t next → Answer (simpleFaults (b .known .W) (b .K) (b .known .S) (g .s)) code two values values i (g .to) used
           (RawStatement (groundOf b) (b .known .n) (wordsOf two) (compactIf i (g .e) (g .s)) (b .known .S) used i (g .to)) (upto next used)
       unfolding RawStatement groundOf offsetIn
       compact-yes two l =
@@ -158,7 +150,7 @@ module _ (text code values : List ℕ) (k : Setting) (used i t : ℕ) (g : Compa
             used-is = refl;
             few = g .here .few;
             written = record {
-              head = record { first = refl; place = l .kept .places i ∙ f .kept .places i ∙ g .place; word = subst (RawWord (wordsOf two) 147 i) (f .next-is ∙ sym (g .after)) (linked-word l) };
+              head = record { first = refl; place = l .kept .places i ∙ f .kept .places i ∙ g .place; word = subst (RawWord (wordsOf two) aCompactIf i) (f .next-is ∙ sym (g .after)) (linked-word l) };
               term = subst (RawTerm (groundOf b) (b .known .n) (wordsOf two) (b .known .S) (g .e) (i + 1)) (sym v)
                   (term-same (groundOf b) (b .known .n) (wordsOf code) (wordsOf two) (b .known .S) (g .e) (i + 1) t
                   (same-on (same-before (i + 1) t (kept-outside (f .kept)) (omega arith)) (same-behind (i + 1) t o (omega arith))) (g .term));
@@ -175,5 +167,5 @@ module _ (text code values : List ℕ) (k : Setting) (used i t : ℕ) (one : Lis
   pub compact-wrong : (number word : ℕ) → j ≡ judged.Faulty number word → Compacted text code values one k used i t (Faulty number word)
   compact-wrong number word q = record { is = λ g. compact-no text code values k used i t g one j x number word q }
 
-  pub compact-right : (bool : Bool) (next : ℕ) → j ≡ judged.Typed bool next → (two : List ℕ) → Linked one two i 147 t next → (scope : Scope) → scope .used ≡ used → Compacted text code values two k used i t (Upto next scope)
+  pub compact-right : (bool : ℕ) (next : ℕ) → j ≡ judged.Typed bool next → (two : List ℕ) → Linked one two i aCompactIf t next → (scope : Scope) → scope .used ≡ used → Compacted text code values two k used i t (Upto next scope)
   compact-right bool next q two l scope u = as-scope (Compacted text code values two k used i t) next scope u (record { is = λ g. compact-yes text code values k used i t g one j x bool next q two l })

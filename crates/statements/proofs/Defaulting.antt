@@ -1,36 +1,35 @@
 -- DEFAULT with its list, or ENDTEST.
 use mathlib.Core.Path.{_≡_, refl, sym, ap, subst, _∙_}
-use mathlib.Core.Bool.{Bool, true, false}
-use mathlib.Core.List.{List, []}
-use Prim.Native.Nat.{ℕ, _+_, _-_, _*_, _/_, _%_, _<_, _≤_}
+use mathlib.Core.List.{List}
+use Prim.Native.Nat.{ℕ, _+_, _-_, _*_, _<_, _≤_}
 use native.Mathlib.Omega.{arith}
 use lib.ListN.{length}
 use Rattle.cells.specs.Words.{wordsOf}
 use Rattle.paper.specs.Sorts.{DEFAULT}
-use Rattle.paper.specs.Trees.{Statements, empty}
+use Rattle.paper.specs.Trees.{Statements}
 use Rattle.paper.specs.Names.{sortIn}
-use Rattle.paper.specs.Types.{Fault}
 use Rattle.paper.specs.Checks.{forsInList, listFaults}
-use Rattle.code.specs.Cells.{opIn, placeIn, linkIn, headAt, tailAt, opAt, placeAt, linkAt}
+use Rattle.code.specs.Cells.{opIn, placeIn, linkIn, opAt, placeAt, linkAt}
 use Rattle.store.specs.Promises.{tailWith, Rewritten, Linked}
 use Rattle.store.proofs.Rewriting.{rewritten-length, rewritten-head, rewritten-tail}
-use Rattle.grammar.specs.Form.{Parses, DefaultAt, ListAt}
+use Rattle.grammar.specs.Form.{Parses}
 use Rattle.grammar.proofs.Inversions.{default-some, default-none}
-use Rattle.grammar.proofs.Places.{default-grows, list-grows}
-use Rattle.faults.specs.First.{First}
+use Rattle.grammar.proofs.Places.{default-grows}
 use Rattle.faults.proofs.Expressions.{grows}
-use Rattle.links.specs.Raw.{RawWord, Ends, at-once, closed, RawDefault, RawList}
-use Rattle.simple.specs.declared.Setting.{Setting}
-use Rattle.simple.specs.Around.{Around, groundOf}
+use Rattle.links.specs.Raw.{RawWord, at-once, closed, RawDefault, RawList}
+use Rattle.around.specs.declared.Setting.{Setting}
+use Rattle.around.specs.Around.{Around, groundOf}
 use Rattle.names.specs.declared.Scope.{Scope}
-use Rattle.statements.specs.declared.Walked.{Walked}
-use Rattle.statements.specs.declared.Walked.the-variants.{Upto, Faulty}
-use Rattle.statements.specs.Answers.{upto, Outside, Here, Lists, Done, Answer, Listed}
+use Rattle.names.specs.declared.Walked.{Walked}
+use Rattle.names.specs.declared.Walked.the-variants.{Upto, Faulty}
+use Rattle.statements.specs.Answers.{upto, Lists, Answer, Listed}
 use Rattle.statements.specs.Parts.{Defaults, Defaulted}
 use Rattle.statements.proofs.Same.{same-values}
-use Rattle.statements.proofs.Frames.{outside-wider, outside-on, same-before, same-behind, same-on, here-part, list-same, op-same, place-same, word-same, linked-outside, linked-word}
-use Rattle.statements.proofs.Walking.{as-scope, upto-done, faulty-first, done-answer, faulty-answer}
-use Rattle.statements.proofs.Entering.{rewritten-outside}
+use Rattle.compounds.proofs.Frames.{outside-wider, same-before, place-same, word-same, linked-outside, linked-word}
+use Rattle.statements.proofs.Behind.{Behind, behind-lists, behind-wrong, behind-closes, behind-list, behind-right}
+use Rattle.statements.proofs.Walking.{as-scope, done-answer}
+use Rattle.compounds.proofs.Frames.{rewritten-outside}
+use Rattle.code.specs.Steps.{aPass, anOtherwise}
 
 -- a word that is written with its place
 module _ {before after : List ℕ} {i op : ℕ} (place link : ℕ) (r : Rewritten before after i op (tailWith place link)) (room : i * 8 + 8 ≤ length before) where
@@ -65,7 +64,7 @@ module _ (text code values : List ℕ) (k : Setting) (used c : ℕ) (g : Default
     sort-is : sortIn (a .known .W) c ≡ s
     sort-is = sym (es ∙ g .here .unread .loaded .words c (omega arith) (omega (arith, order, g .after)) .sort)
 
-    no : (s ≡ DEFAULT → ⊥) → (one : List ℕ) → Rewritten code one c 165 (tailWith (c + 1) (c + 1)) → ForDefault one values (upto (c + 1) used)
+    no : (s ≡ DEFAULT → ⊥) → (one : List ℕ) → Rewritten code one c anOtherwise (tailWith (c + 1) (c + 1)) → ForDefault one values (upto (c + 1) used)
     unfolding listFaults forsInList RawList
     no f one l =
         let q = default-none (sortIn (a .known .W)) (Parses (sortIn (a .known .W))) (g .is) (λ e. f (sym sort-is ∙ e)) in
@@ -94,74 +93,54 @@ module _ (text code values : List ℕ) (k : Setting) (used c : ℕ) (g : Default
         (rewritten-length l (default-room .1))
 
     module _ (e : s ≡ DEFAULT) where
-      list : ListAt (sortIn (a .known .W)) (Parses (sortIn (a .known .W))) (g .d) (g .o) (c + 2) (g .z)
-      list = default-some (sortIn (a .known .W)) (Parses (sortIn (a .known .W))) (g .is) (sort-is ∙ e)
-
-      listed : c + 2 ≤ g .z
-      listed = list-grows (sortIn (a .known .W)) (Parses (sortIn (a .known .W))) (grows (a .known .W)) list
-
-      pub default-lists : Lists text code values k used (c + 2)
-      default-lists = record {
-        to = g .z;
+      abbrev behind : Behind text code values k used c 2
+      behind = record {
+        to = g .to;
         around = a;
-        here = here-part a code k used c (g .to) (c + 2) (g .z) (g .here) (omega arith) (omega (arith, listed, g .after)) (omega (arith, g .after));
+        here = g .here;
         d = g .d;
-        l = g .o;
-        is = list;
+        o = g .o;
+        z = g .z;
+        list = default-some (sortIn (a .known .W)) (Parses (sortIn (a .known .W))) (g .is) (sort-is ∙ e);
+        after = g .after;
         room = g .room;
       }
 
-      module _ (one values′ : List ℕ) (r : Walked) (l : Listed text code values one values′ k used (c + 2) r) where
-        inner : Answer (listFaults (a .known .W) (a .K) (a .M) (g .o) (a .known .S) used) code one values values′ (c + 2) (g .z) (used + forsInList (g .o))
-            (RawList (groundOf a) (a .known .n) (wordsOf one) (g .o) (a .known .S) used (c + 2) (g .z)) r
-        unfolding default-lists
-        inner = l .is default-lists
+      pub default-lists : Lists text code values k used (c + 2)
+      default-lists = behind-lists behind
 
+      module _ (one values′ : List ℕ) (r : Walked) (l : Listed text code values one values′ k used (c + 2) r) where
         wrong : (number word : ℕ) → r ≡ Faulty number word → ForDefault one values′ r
-        wrong number word q = faulty-answer _ _ _ _ _ _ _ _ _ r number word q (faulty-first r inner number word q) (inner .long)
+        wrong number word q = behind-wrong behind one values′ r l _ number word q
 
         module _ (z n : ℕ) (q : r ≡ upto z n) where
-          done : Done (listFaults (a .known .W) (a .K) (a .M) (g .o) (a .known .S) used) code one values values′ (c + 2) (g .z) (used + forsInList (g .o)) z n
-              (RawList (groundOf a) (a .known .n) (wordsOf one) (g .o) (a .known .S) used (c + 2) (g .z))
-          done = upto-done r inner z n q
+          closes : (c + 2 ≤ z) × (z < 8191) × (z + 1 ≡ g .to) × (length one ≡ length code)
+          closes = behind-closes behind one values′ r l z n q
 
           pub default-closes : (c + 1 < z) × (z < 8191) × (c * 8 + 8 ≤ length one) × (65536 ≤ length one)
-          default-closes = (omega (arith, listed, done .next-is), omega (arith, done .next-is, last, g .after), omega (arith, default-room, inner .long), omega (arith, default-room, inner .long))
+          default-closes = (omega (arith, closes), closes .1, omega (arith, default-room, closes), omega (arith, default-room, closes))
 
-          yes : (two three : List ℕ) → Rewritten one two c 165 (tailWith (c + 2) z) → Linked two three z 164 0 (z + 1) → ForDefault three values′ (upto (z + 1) n)
+          yes : (two three : List ℕ) → Rewritten one two c anOtherwise (tailWith (c + 2) z) → Linked two three z aPass 0 (z + 1) → ForDefault three values′ (upto (z + 1) n)
           yes two three x y =
-              let zi = done .next-is in
               let o = rewritten-outside x (default-closes .2) in
               let p = linked-outside y in
               let small : c + 2 < 65536 = omega (arith, default-room) in
-              let to-is : z + 1 ≡ g .to = omega (arith, g .after, zi) in
-              let sp = same-before c (c + 1) p (omega (arith, listed, zi)) in
-              done-answer _ _ _ _ _ _ _ _ _ _ _
+              let sp = same-before c (c + 1) p (omega (arith, closes)) in
+              behind-right behind one values′ r l z n q two three o p (omega arith) _
               (record {
-                none = done .none;
-                next-is = to-is;
-                used-is = done .used-is;
-                few = done .few;
-                written = record {
-                  z = z;
-                  first = c + 2;
-                  word = word-same sp c (omega arith) (omega arith) _ z (record { is = rewritten-op (c + 2) z x (default-closes .2) (omega arith); leaves = rewritten-link (c + 2) z x (default-closes .2) small });
-                  place = place-same sp c (omega arith) (omega arith) _ (rewritten-place (c + 2) z x (default-closes .2) small);
-                  before = omega arith;
-                  list = subst (λ (v : ℕ). RawList (groundOf a) (a .known .n) (wordsOf three) (g .o) (a .known .S) used (c + 2) v) (sym zi)
-                      (list-same (groundOf a) (a .known .n) (wordsOf one) (wordsOf three) (g .o) (a .known .S) used (c + 2) (g .z)
-                      (same-on (same-behind (c + 2) (g .z) o (omega arith)) (same-before (c + 2) (g .z) p (omega (arith, zi)))) (done .written));
-                  ends = closed (subst (RawWord (wordsOf three) 164 z) to-is (linked-word y)) (sym to-is);
-                };
-                outside = outside-on (outside-on (outside-wider c (g .to) (done .outside) (omega arith) (omega (arith, g .after)))
-                    (outside-wider c (g .to) o (omega arith) (omega (arith, listed, g .after)))) (outside-wider c (g .to) p (omega (arith, listed, zi)) (omega (arith, to-is)));
-                same = done .same;
+                z = z;
+                first = c + 2;
+                word = word-same sp c (omega arith) (omega arith) _ z (record { is = rewritten-op (c + 2) z x (default-closes .2) (omega arith); leaves = rewritten-link (c + 2) z x (default-closes .2) small });
+                place = place-same sp c (omega arith) (omega arith) _ (rewritten-place (c + 2) z x (default-closes .2) small);
+                before = omega arith;
+                list = behind-list behind one values′ r l z n q two three o p (omega arith);
+                ends = closed (subst (RawWord (wordsOf three) aPass z) (closes .2) (linked-word y)) (sym (closes .2));
               })
-              (y .kept .long ∙ rewritten-length x (default-closes .2) ∙ inner .long)
+              (y .kept .long ∙ rewritten-length x (default-closes .2) ∙ closes .3)
 
 -- ---- for whatever it is
 module _ (text code values : List ℕ) (k : Setting) (used c s : ℕ) (es : s ≡ opAt (wordsOf code) c) where
-  pub default-no : (s ≡ DEFAULT → ⊥) → (one : List ℕ) → Rewritten code one c 165 (tailWith (c + 1) (c + 1)) → (scope : Scope) → scope .used ≡ used
+  pub default-no : (s ≡ DEFAULT → ⊥) → (one : List ℕ) → Rewritten code one c anOtherwise (tailWith (c + 1) (c + 1)) → (scope : Scope) → scope .used ≡ used
       → Defaulted text code values one values k used c (Upto (c + 1) scope)
   default-no f one l scope u = as-scope (Defaulted text code values one values k used c) (c + 1) scope u (record { is = λ g. no text code values k used c g s es f one l })
 
@@ -169,5 +148,5 @@ module _ (text code values : List ℕ) (k : Setting) (used c s : ℕ) (es : s �
     pub default-wrong : (number word : ℕ) → r ≡ Faulty number word → Defaulted text code values one values′ k used c r
     default-wrong number word q = record { is = λ g. wrong text code values k used c g s es e one values′ r l number word q }
 
-    pub default-yes : (z n : ℕ) → r ≡ upto z n → (two three : List ℕ) → Rewritten one two c 165 (tailWith (c + 2) z) → Linked two three z 164 0 (z + 1) → Defaulted text code values three values′ k used c (upto (z + 1) n)
+    pub default-yes : (z n : ℕ) → r ≡ upto z n → (two three : List ℕ) → Rewritten one two c anOtherwise (tailWith (c + 2) z) → Linked two three z aPass 0 (z + 1) → Defaulted text code values three values′ k used c (upto (z + 1) n)
     default-yes z n q two three x y = record { is = λ g. yes text code values k used c g s es e one values′ r l z n q two three x y }

@@ -14,8 +14,8 @@ use Rattle.code.specs.Cells.{opAt}
 use Rattle.grammar.specs.Form.{Parses}
 use Rattle.grammar.proofs.Places.{statement-grows}
 use Rattle.faults.proofs.Expressions.{grows}
-use Rattle.simple.specs.declared.Setting.{Setting}
-use Rattle.statements.specs.declared.Walked.{Walked}
+use Rattle.around.specs.declared.Setting.{Setting}
+use Rattle.names.specs.declared.Walked.{Walked}
 use Rattle.statements.specs.Answers.{Stands, Stated, Begins, Begun}
 use Rattle.statements.specs.Parts.{Plain, Plainly}
 

@@ -1,34 +1,33 @@
 -- ELSE with its list, or ENDIF.
 use mathlib.Core.Path.{_≡_, refl, sym, ap, subst, _∙_}
-use mathlib.Core.Bool.{Bool, true, false}
-use mathlib.Core.List.{List, []}
-use Prim.Native.Nat.{ℕ, _+_, _-_, _*_, _<_, _≤_}
+use mathlib.Core.List.{List}
+use Prim.Native.Nat.{ℕ, _+_, _-_, _<_, _≤_}
 use native.Mathlib.Omega.{arith}
 use lib.ListN.{length}
 use Rattle.cells.specs.Words.{wordsOf}
 use Rattle.paper.specs.Sorts.{ELSE}
-use Rattle.paper.specs.Trees.{Statements, empty}
+use Rattle.paper.specs.Trees.{Statements}
 use Rattle.paper.specs.Names.{sortIn}
-use Rattle.paper.specs.Types.{Fault}
 use Rattle.paper.specs.Checks.{forsInList, listFaults}
 use Rattle.code.specs.Cells.{opAt}
-use Rattle.grammar.specs.Form.{Parses, ElseAt, ListAt}
+use Rattle.grammar.specs.Form.{Parses}
 use Rattle.grammar.proofs.Inversions.{else-some, else-none}
-use Rattle.grammar.proofs.Places.{else-grows, list-grows}
+use Rattle.grammar.proofs.Places.{else-grows}
 use Rattle.store.specs.Promises.{Linked}
-use Rattle.faults.specs.First.{First}
 use Rattle.faults.proofs.Expressions.{grows}
 use Rattle.links.specs.Raw.{RawWord, an-else, no-else, RawElse, RawList}
-use Rattle.simple.specs.declared.Setting.{Setting}
-use Rattle.simple.specs.Around.{Around, groundOf}
+use Rattle.around.specs.declared.Setting.{Setting}
+use Rattle.around.specs.Around.{Around, groundOf}
 use Rattle.names.specs.declared.Scope.{Scope}
-use Rattle.statements.specs.declared.Walked.{Walked}
-use Rattle.statements.specs.declared.Walked.the-variants.{Upto, Faulty}
-use Rattle.statements.specs.Answers.{upto, Outside, Here, Lists, Done, Answer, Listed}
+use Rattle.names.specs.declared.Walked.{Walked}
+use Rattle.names.specs.declared.Walked.the-variants.{Upto, Faulty}
+use Rattle.statements.specs.Answers.{upto, Lists, Answer, Listed}
 use Rattle.statements.specs.Parts.{Elses, ElseWritten, Elsed}
 use Rattle.statements.proofs.Same.{same-values}
-use Rattle.statements.proofs.Frames.{outside-wider, outside-on, same-before, same-behind, same-on, here-part, list-same, word-same, linked-outside, linked-word}
-use Rattle.statements.proofs.Walking.{as-scope, upto-done, faulty-first, done-answer, faulty-answer}
+use Rattle.compounds.proofs.Frames.{outside-wider, same-before, word-same, linked-outside, linked-word}
+use Rattle.statements.proofs.Behind.{Behind, behind-lists, behind-wrong, behind-closes, behind-list, behind-right}
+use Rattle.statements.proofs.Walking.{as-scope, done-answer}
+use Rattle.code.specs.Steps.{aPass}
 
 module _ (text code values : List ℕ) (k : Setting) (used c : ℕ) (g : Elses text code values k used c) where
   abbrev a : Around text values
@@ -53,7 +52,7 @@ module _ (text code values : List ℕ) (k : Setting) (used c : ℕ) (g : Elses t
     sort-is : sortIn (a .known .W) c ≡ s
     sort-is = sym (es ∙ g .here .unread .loaded .words c (omega arith) (omega (arith, order, g .after)) .sort)
 
-    no : (s ≡ ELSE → ⊥) → (one : List ℕ) → Linked code one c 164 0 (c + 1) → ForElse one values (upto (c + 1) used)
+    no : (s ≡ ELSE → ⊥) → (one : List ℕ) → Linked code one c aPass 0 (c + 1) → ForElse one values (upto (c + 1) used)
     unfolding listFaults forsInList RawList
     no f one l =
         let q = else-none (sortIn (a .known .W)) (Parses (sortIn (a .known .W))) (g .is) (λ e. f (sym sort-is ∙ e)) in
@@ -74,7 +73,7 @@ module _ (text code values : List ℕ) (k : Setting) (used c : ℕ) (g : Elses t
               z = c;
               begins = no-else refl refl;
               list = subst (λ (o : Statements). RawList (groundOf a) (a .known .n) (wordsOf one) o (a .known .S) used c c) (sym (q .0)) refl;
-              word = subst (RawWord (wordsOf one) 164 c) to-is (linked-word l);
+              word = subst (RawWord (wordsOf one) aPass c) to-is (linked-word l);
               end = sym to-is;
             };
           };
@@ -84,81 +83,59 @@ module _ (text code values : List ℕ) (k : Setting) (used c : ℕ) (g : Elses t
         (l .kept .long)
 
     module _ (e : s ≡ ELSE) where
-      list : ListAt (sortIn (a .known .W)) (Parses (sortIn (a .known .W))) (g .d) (g .o) (c + 1) (g .z)
-      list = else-some (sortIn (a .known .W)) (Parses (sortIn (a .known .W))) (g .is) (sort-is ∙ e)
-
-      listed : c + 1 ≤ g .z
-      listed = list-grows (sortIn (a .known .W)) (Parses (sortIn (a .known .W))) (grows (a .known .W)) list
-
-      pub else-lists : Lists text code values k used (c + 1)
-      else-lists = record {
-        to = g .z;
+      abbrev behind : Behind text code values k used c 1
+      behind = record {
+        to = g .to;
         around = a;
-        here = here-part a code k used c (g .to) (c + 1) (g .z) (g .here) (omega arith) (omega (arith, listed, g .after)) (omega (arith, g .after));
+        here = g .here;
         d = g .d;
-        l = g .o;
-        is = list;
+        o = g .o;
+        z = g .z;
+        list = else-some (sortIn (a .known .W)) (Parses (sortIn (a .known .W))) (g .is) (sort-is ∙ e);
+        after = g .after;
         room = g .room;
       }
 
-      module _ (one values′ : List ℕ) (r : Walked) (l : Listed text code values one values′ k used (c + 1) r) where
-        inner : Answer (listFaults (a .known .W) (a .K) (a .M) (g .o) (a .known .S) used) code one values values′ (c + 1) (g .z) (used + forsInList (g .o))
-            (RawList (groundOf a) (a .known .n) (wordsOf one) (g .o) (a .known .S) used (c + 1) (g .z)) r
-        unfolding else-lists
-        inner = l .is else-lists
+      pub else-lists : Lists text code values k used (c + 1)
+      else-lists = behind-lists behind
 
+      module _ (one values′ : List ℕ) (r : Walked) (l : Listed text code values one values′ k used (c + 1) r) where
         wrong : (number word : ℕ) → r ≡ Faulty number word → ForElse one values′ r
-        wrong number word q = faulty-answer _ _ _ _ _ _ _ _ _ r number word q (faulty-first r inner number word q) (inner .long)
+        wrong number word q = behind-wrong behind one values′ r l _ number word q
 
         module _ (z n : ℕ) (q : r ≡ upto z n) where
-          done : Done (listFaults (a .known .W) (a .K) (a .M) (g .o) (a .known .S) used) code one values values′ (c + 1) (g .z) (used + forsInList (g .o)) z n
-              (RawList (groundOf a) (a .known .n) (wordsOf one) (g .o) (a .known .S) used (c + 1) (g .z))
-          done = upto-done r inner z n q
+          closes : (c + 1 ≤ z) × (z < 8191) × (z + 1 ≡ g .to) × (length one ≡ length code)
+          closes = behind-closes behind one values′ r l z n q
 
           pub else-closes : (c < z) × (z < 8191) × (length one ≡ length code)
-          else-closes = (omega (arith, listed, done .next-is), omega (arith, done .next-is, last, g .after), inner .long)
+          else-closes = (omega (arith, closes), closes .1, closes .3)
 
-          yes : (two three : List ℕ) → Linked one two c 164 0 z → Linked two three z 164 0 (z + 1) → ForElse three values′ (upto (z + 1) n)
+          yes : (two three : List ℕ) → Linked one two c aPass 0 z → Linked two three z aPass 0 (z + 1) → ForElse three values′ (upto (z + 1) n)
           yes two three x y =
-              let zi = done .next-is in
-              let o = linked-outside x in
               let p = linked-outside y in
-              let to-is : z + 1 ≡ g .to = omega (arith, g .after, zi) in
-              let first-word : RawWord (wordsOf three) 164 c z = word-same (same-before c (c + 1) p (omega (arith, listed, zi))) c (omega arith) (omega arith) _ z (linked-word x) in
-              done-answer _ _ _ _ _ _ _ _ _ _ _
+              behind-right behind one values′ r l z n q two three (linked-outside x) p (omega arith) _
               (record {
-                none = done .none;
-                next-is = to-is;
-                used-is = done .used-is;
-                few = done .few;
-                written = record {
-                  first = c + 1;
-                  at-else = λ _. refl;
-                  elsewhere = λ f. absurd (f (sort-is ∙ e));
-                  is = record {
-                    z = z;
-                    begins = an-else first-word refl;
-                    list = subst (λ (v : ℕ). RawList (groundOf a) (a .known .n) (wordsOf three) (g .o) (a .known .S) used (c + 1) v) (sym zi)
-                        (list-same (groundOf a) (a .known .n) (wordsOf one) (wordsOf three) (g .o) (a .known .S) used (c + 1) (g .z)
-                        (same-on (same-behind (c + 1) (g .z) o (omega arith)) (same-before (c + 1) (g .z) p (omega (arith, zi)))) (done .written));
-                    word = subst (RawWord (wordsOf three) 164 z) to-is (linked-word y);
-                    end = sym to-is;
-                  };
+                first = c + 1;
+                at-else = λ _. refl;
+                elsewhere = λ f. absurd (f (sort-is ∙ e));
+                is = record {
+                  z = z;
+                  begins = an-else (word-same (same-before c (c + 1) p (omega (arith, closes))) c (omega arith) (omega arith) _ z (linked-word x)) refl;
+                  list = behind-list behind one values′ r l z n q two three (linked-outside x) p (omega arith);
+                  word = subst (RawWord (wordsOf three) aPass z) (closes .2) (linked-word y);
+                  end = sym (closes .2);
                 };
-                outside = outside-on (outside-on (outside-wider c (g .to) (done .outside) (omega arith) (omega (arith, g .after)))
-                    (outside-wider c (g .to) o (omega arith) (omega (arith, listed, g .after)))) (outside-wider c (g .to) p (omega (arith, listed, zi)) (omega (arith, to-is)));
-                same = done .same;
               })
-              (y .kept .long ∙ x .kept .long ∙ inner .long)
+              (y .kept .long ∙ x .kept .long ∙ closes .3)
 
 -- ---- for whatever it is
 module _ (text code values : List ℕ) (k : Setting) (used c s : ℕ) (es : s ≡ opAt (wordsOf code) c) where
-  pub else-no : (s ≡ ELSE → ⊥) → (one : List ℕ) → Linked code one c 164 0 (c + 1) → (scope : Scope) → scope .used ≡ used → Elsed text code values one values k used c (Upto (c + 1) scope)
+  pub else-no : (s ≡ ELSE → ⊥) → (one : List ℕ) → Linked code one c aPass 0 (c + 1) → (scope : Scope) → scope .used ≡ used → Elsed text code values one values k used c (Upto (c + 1) scope)
   else-no f one l scope u = as-scope (Elsed text code values one values k used c) (c + 1) scope u (record { is = λ g. no text code values k used c g s es f one l })
 
   module _ (e : s ≡ ELSE) (one values′ : List ℕ) (r : Walked) (l : Listed text code values one values′ k used (c + 1) r) where
     pub else-wrong : (number word : ℕ) → r ≡ Faulty number word → Elsed text code values one values′ k used c r
     else-wrong number word q = record { is = λ g. wrong text code values k used c g s es e one values′ r l number word q }
 
-    pub else-yes : (z n : ℕ) → r ≡ upto z n → (two three : List ℕ) → Linked one two c 164 0 z → Linked two three z 164 0 (z + 1) → Elsed text code values three values′ k used c (upto (z + 1) n)
+    pub else-yes : (z n : ℕ) → r ≡ upto z n → (two three : List ℕ) → Linked one two c aPass 0 z → Linked two three z aPass 0 (z + 1) → Elsed text code values three values′ k used c (upto (z + 1) n)
     else-yes z n q two three x y = record { is = λ g. yes text code values k used c g s es e one values′ r l z n q two three x y }

@@ -1,6 +1,6 @@
 -- A FOR's list is entered: its name means the FOR's word, and then again what it meant.
 use mathlib.Core.Path.{_≡_, refl, sym, ap, subst, _∙_}
-use mathlib.Core.Bool.{Bool, true, false}
+use mathlib.Core.Bool.{false}
 use mathlib.Core.List.{List, [], _∷_}
 use Prim.Native.Nat.{ℕ, zero, suc, _+_, _-_, _*_, _/_, _%_, _<_, _≤_}
 use native.Mathlib.Omega.{arith}
@@ -8,35 +8,32 @@ use lib.ListN.{length, getD, set}
 use mir.Syntax.{w32}
 use mir.Val.{toZ}
 use Rattle.laws.proofs.Tests.{test, apart, false-true}
-use Rattle.cells.specs.Words.{wordsOf, Put}
+use Rattle.cells.specs.Words.{wordsOf}
 use Rattle.cells.proofs.Kept.{put-length, put-other}
 use Rattle.paper.specs.Sorts.{equalTexts}
-use Rattle.paper.specs.Terms.{Ref, ofModule, ofRoutine, Memory, load}
+use Rattle.paper.specs.Terms.{Ref, ofModule, ofRoutine}
 use Rattle.paper.specs.Names.{Meaning, loop, theRoutine, Text, spelled, meaning, enter}
-use Rattle.code.specs.Cells.{opIn, headAt, tailAt, linkAt, placeAt}
+use Rattle.code.specs.Cells.{opIn, headAt, tailAt, linkAt}
 use Rattle.names.specs.Numbers.{numberOf, IsName}
-use Rattle.names.specs.Meanings.{cellWith, meaningWith, meaningIn, isProtected, protectsCell, firstMeaning, Means, Hides}
-use Rattle.names.specs.Promises.{numberAt, meaningAt, Declared, Left}
-use Rattle.store.specs.Promises.{tailWith, Rewritten}
+use Rattle.names.specs.Meanings.{cellWith, meaningWith, meaningIn, isProtected, protectsCell, Hides}
+use Rattle.names.specs.Promises.{numberAt, Declared, Left}
 use Rattle.names.proofs.Spellings.{same-texts, differing}
 use Rattle.names.proofs.Tables.{meaning-with, declare-means, enter-hides}
-use Rattle.store.proofs.Rewriting.{rewritten-length, rewritten-head, rewritten-tail, rewritten-other}
+use Rattle.store.proofs.Rewriting.{rewritten-head, rewritten-tail}
 use Rattle.expressions.specs.Known.{InRoom, heldBy, Within}
 use Rattle.expressions.proofs.Holding.{holds}
 use Rattle.constants.specs.Answers.{cellOf, Fine}
-use Rattle.simple.specs.declared.Setting.{Setting}
-use Rattle.simple.specs.Around.{Around, Calls}
-use Rattle.statements.specs.Answers.{Outside, SameValues, Here}
-use Rattle.statements.proofs.Frames.{within-more, fine-more, unread-behind, calls-behind}
+use Rattle.around.specs.declared.Setting.{Setting}
+use Rattle.around.specs.Around.{Around}
+use Rattle.compounds.specs.Here.{Outside, Here}
+use Rattle.statements.specs.Answers.{SameValues}
+use Rattle.compounds.proofs.Frames.{within-more, fine-more, unread-behind, calls-behind}
 
 -- ---- a cell that is set and then set back
 restored : (X : List ℕ) (c m : ℕ) → set (set X c m) c (getD X c 0) ≡ X
 restored [] c m = refl
 restored (x ∷ X) zero m = refl
 restored (x ∷ X) (suc c) m = ap (λ (r : List ℕ). x ∷ r) (restored X c m)
-
-pub rewritten-outside : {before after : List ℕ} {i head tail : ℕ} → Rewritten before after i head tail → i * 8 + 8 ≤ length before → Outside (wordsOf before) (wordsOf after) i (i + 1)
-rewritten-outside {i = i} r h = record { below = λ k l. rewritten-other r h k (λ e. omega arith) (λ e. omega arith); above = λ k l. rewritten-other r h k (λ e. omega arith) (λ e. omega arith) }
 
 -- ---- the cell of a FOR's name
 pub loop-within : (used x y : ℕ) → used < y → Within x y (loop (ofRoutine used))

@@ -1,15 +1,15 @@
 -- FOR: its head, its list, and what is written of it.
 use mathlib.Core.Path.{_≡_, refl, sym, ap, subst, _∙_}
-use mathlib.Core.Bool.{Bool, true, false}
+use mathlib.Core.Bool.{Bool, false}
 use mathlib.Core.List.{List, [], _++_}
 use mathlib.Core.Option.{Option, none, some}
 use Prim.Native.Nat.{ℕ, suc, _+_, _-_, _*_, _/_, _%_, _<_, _≤_}
 use native.Mathlib.Omega.{arith}
-use lib.ListN.{length, getD}
+use lib.ListN.{length}
 use Rattle.cells.specs.Words.{wordsOf}
 use Rattle.paper.specs.Sorts.{FOR}
 use Rattle.paper.specs.Terms.{ofRoutine}
-use Rattle.paper.specs.Trees.{Expr, Statement, for}
+use Rattle.paper.specs.Trees.{Expr, Statement}
 use Rattle.paper.specs.Names.{aNum, Scopes, sortIn, spelled, cannotDeclare, enter}
 use Rattle.paper.specs.Types.{Fault, faultIf, ofType}
 use Rattle.paper.specs.Declarations.{routineWordLimit, crosses}
@@ -25,25 +25,28 @@ use Rattle.grammar.proofs.Inversions.{IsFor, statement-for}
 use Rattle.grammar.proofs.Places.{list-grows, step-grows}
 use Rattle.expressions.specs.declared.Judged.{Judged}
 use Rattle.expressions.specs.declared.Judged.the-variants as judged
-use Rattle.store.specs.Promises.{Kept}
 use Rattle.faults.specs.First.{First, Inside}
 use Rattle.faults.proofs.First.{first-before, first-after, nothing-in-both}
 use Rattle.faults.proofs.Expressions.{grows}
 use Rattle.faults.proofs.Statements.{list-inside}
-use Rattle.links.specs.Raw.{Ground, SameWords, RawWord, RawDo, RawStep, RawList, RawFor, RawStatement}
+use Rattle.links.specs.Raw.{Ground, SameWords, RawWord, RawStep, RawList, RawFor, RawStatement}
 use Rattle.links.proofs.Orders.{bound-order, step-order}
-use Rattle.simple.specs.declared.Setting.{Setting}
-use Rattle.simple.specs.Around.{Around, groundOf, offsetIn}
-use Rattle.simple.specs.Answers as simples
-use Rattle.statements.specs.declared.Walked.{Walked}
-use Rattle.statements.specs.declared.Walked.the-variants.{Upto, Faulty}
-use Rattle.statements.specs.Answers.{upto, Outside, SameValues, Here, Stands, Lists, Done, Answer, StatementAnswer, Listed, Begins, Begun}
-use Rattle.statements.specs.Parts.{ForHeads, RawHead, ForMay, ForHeaded, ForEnded}
-use Rattle.statements.proofs.Frames.{outside-wider, outside-on, kept-outside, same-before, same-behind, same-on, head-before, tail-before, bound-same, list-same, op-same, value-same, place-same, word-same, linked-outside, linked-word}
+use Rattle.around.specs.declared.Setting.{Setting}
+use Rattle.around.specs.Around.{Around, groundOf, offsetIn}
+use Rattle.around.specs.Answers as answered
+use Rattle.names.specs.declared.Walked.{Walked}
+use Rattle.names.specs.declared.Walked.the-variants.{Upto, Faulty}
+use Rattle.statements.specs.Answers.{upto, SameValues, Stands, Lists, Done, Answer, StatementAnswer, Listed, Begins, Begun}
+use Rattle.compounds.specs.Here.{Outside}
+use Rattle.compounds.specs.Parts.{ForHeads, RawHead, ForMay, ForHeaded, ForEnded}
+use Rattle.compounds.proofs.Frames.{outside-wider, outside-on, kept-outside, same-before, same-behind, same-on, head-before, tail-before, bound-same, list-same, op-same, value-same, place-same, word-same, linked-outside, linked-word}
 use Rattle.statements.proofs.Walking.{upto-done, faulty-first, done-answer, first-answer, faulty-answer}
-use Rattle.statements.proofs.Compacts.{typed-fine, faulty-found}
-use Rattle.statements.proofs.Heads.{head-inside}
-use Rattle.statements.proofs.Entering.{rewritten-outside, inner, enters, leaves-links, leaves}
+use Rattle.compounds.proofs.Telling.{typed-fine, faulty-found}
+use Rattle.compounds.proofs.Heads.{head-inside}
+use Rattle.compounds.proofs.Frames.{rewritten-outside}
+use Rattle.statements.proofs.Entering.{inner, enters, leaves-links, leaves}
+use Rattle.code.specs.Steps.{aFor, aForTest}
+use Rattle.layout.specs.Rules.{tooMany, takenName}
 
 step-same : (g : Ground) (n : ℕ) (C D : List ℕ) (S : Scopes) (c : Option Expr) (s d : ℕ) → SameWords C D s d → RawStep g n C S c s d → RawStep g n D S c s d
 unfolding RawStep
@@ -88,7 +91,7 @@ module _ (text code values : List ℕ) (k : Setting) (used i : ℕ) (g : Begins 
   for-heads = heads
 
   abbrev head-faults : List Fault
-  head-faults = faultIf (cannotDeclare [] (spelled (a .known .W) (i + 1))) 10 (i + 1) ++ faultIf (crosses routineWordLimit used 1) 16 (i + 1) ++ ofType (a .known .W) aNum (a .known .S) (w .a)
+  head-faults = faultIf (cannotDeclare [] (spelled (a .known .W) (i + 1))) takenName (i + 1) ++ faultIf (crosses routineWordLimit used 1) tooMany (i + 1) ++ ofType (a .known .W) aNum (a .known .S) (w .a)
       ++ ofType (a .known .W) aNum (a .known .S) (w .b) ++ optionalNum (a .known .W) (a .known .S) (w .c)
 
   abbrev S′ : Scopes
@@ -119,7 +122,7 @@ module _ (text code values : List ℕ) (k : Setting) (used i : ℕ) (g : Begins 
   room-for = omega (arith, counted)
 
   module _ (one : List ℕ) (j : Judged) (h : ForHeaded code values one used i j) where
-    ha : simples.Answer head-faults code one (i + 2) (w .doAt) (ForMay (groundOf a) (a .known .n) (wordsOf one) (a .known .S) used (w .a) (w .b) (w .c) i (w .doAt)) j
+    ha : answered.Answer head-faults code one (i + 2) (w .doAt) (ForMay (groundOf a) (a .known .n) (wordsOf one) (a .known .S) used (w .a) (w .b) (w .c) i (w .doAt)) j
     unfolding heads
     ha = h .is heads
 
@@ -129,8 +132,8 @@ module _ (text code values : List ℕ) (k : Setting) (used i : ℕ) (g : Begins 
         subst (ForStatement one values (Faulty number word)) (sym (w .is))
         (first-answer _ _ _ _ _ _ _ _ number word _ (first-before (faulty-found j ha number word q) in-head (in-body (suc used)) (omega arith)) (ha .long))
 
-    module _ (bool : Bool) (d : ℕ) (q : j ≡ judged.Typed bool d) where
-      f : simples.Fine head-faults code one (i + 2) (w .doAt) d (ForMay (groundOf a) (a .known .n) (wordsOf one) (a .known .S) used (w .a) (w .b) (w .c) i (w .doAt))
+    module _ (bool : ℕ) (d : ℕ) (q : j ≡ judged.Typed bool d) where
+      f : answered.Fine head-faults code one (i + 2) (w .doAt) d (ForMay (groundOf a) (a .known .n) (wordsOf one) (a .known .S) used (w .a) (w .b) (w .c) i (w .doAt))
       f = typed-fine j ha bool d q
 
       number : numberAt (wordsOf one) (i + 1) ≡ numberOf (a .known .W) (i + 1)
@@ -249,13 +252,13 @@ module _ (text code values : List ℕ) (k : Setting) (used i : ℕ) (g : Begins 
               do-same : SameWords (wordsOf (y .one)) (wordsOf four) (w .doAt) (w .doAt + 1)
               do-same = same-on (same-behind (w .doAt) (w .doAt + 1) at-for (omega (arith, orders))) (same-before (w .doAt) (w .doAt + 1) at-end (omega (arith, orders)))
 
-              test-head : headAt (wordsOf four) (w .end) ≡ 151 + 256 * (used + 256 * i)
+              test-head : headAt (wordsOf four) (w .end) ≡ aForTest + 256 * (used + 256 * i)
               test-head = rewritten-head (y .test) end-room
 
               test-tail : tailAt (wordsOf four) (w .end) ≡ placeAt (wordsOf (y .two)) i + 65536 * (w .doAt + 1)
               test-tail = rewritten-tail (y .test) end-room
 
-              parts : (v p o : ℕ) → (((151 + 256 * v) % 256 ≡ 151) × ((151 + 256 * v) / 256 ≡ v)) × (((p % 65536 + 65536 * o) % 65536 ≡ p % 65536) × ((p % 65536 + 65536 * o) / 65536 ≡ o))
+              parts : (v p o : ℕ) → (((aForTest + 256 * v) % 256 ≡ aForTest) × ((aForTest + 256 * v) / 256 ≡ v)) × (((p % 65536 + 65536 * o) % 65536 ≡ p % 65536) × ((p % 65536 + 65536 * o) / 65536 ≡ o))
               parts v p o = ((omega arith, omega arith), (omega arith, omega arith))
 
               raw : RawFor (groundOf a) (a .known .n) (wordsOf four) (a .known .S) used i (w .a) (w .b) (w .c)
@@ -268,7 +271,7 @@ module _ (text code values : List ℕ) (k : Setting) (used i : ℕ) (g : Begins 
                     head = record {
                       first = refl;
                       place = place-same sp i (omega arith) (omega arith) _ place-two;
-                      word = subst (RawWord (wordsOf four) 150 i) (sym (w .after)) (word-same sp i (omega arith) (omega arith) _ _ (linked-word (y .head)));
+                      word = subst (RawWord (wordsOf four) aFor i) (sym (w .after)) (word-same sp i (omega arith) (omega arith) _ _ (linked-word (y .head)));
                     };
                     value = value-same sp i (omega arith) (omega arith) _ (y .head .value-is);
                     room = room-for;
@@ -324,7 +327,7 @@ module _ (text code values : List ℕ) (k : Setting) (used i : ℕ) (one : List 
   pub for-wrong : (number word : ℕ) → j ≡ judged.Faulty number word → Begun FOR text code values one values k used i (Faulty number word)
   for-wrong number word q = record { is = λ g. wrong text code values k used i g one j h number word q }
 
-  module _ (bool : Bool) (d : ℕ) (q : j ≡ judged.Typed bool d) (m : ℕ) (em : m ≡ 17 + 256 * used) (two values′ : List ℕ) (dec : Declared one values (i + 1) m two values′)
+  module _ (bool : ℕ) (d : ℕ) (q : j ≡ judged.Typed bool d) (m : ℕ) (em : m ≡ 17 + 256 * used) (two values′ : List ℕ) (dec : Declared one values (i + 1) m two values′)
       (inside : Scope) (ei : inside ≡ record { used = used + 1 }) (three values″ : List ℕ) (r : Walked) (listed : Listed text two values′ three values″ k (inside .used) (d + 1) r) where
     l : Listed text two values′ three values″ k (used + 1) (d + 1) r
     l = for-listed ei listed

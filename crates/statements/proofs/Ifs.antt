@@ -4,13 +4,12 @@ use mathlib.Core.Bool.{Bool, true, false}
 use mathlib.Core.List.{List, [], _++_}
 use Prim.Native.Nat.{ℕ, _+_, _-_, _*_, _<_, _≤_}
 use native.Mathlib.Omega.{arith}
-use lib.Dec.{eqb}
 use lib.ListN.{length}
 use borrow.Author.Tests.{ne-eqb}
 use Rattle.laws.proofs.Tests.{false-true, by-same}
 use Rattle.cells.specs.Words.{wordsOf}
 use Rattle.paper.specs.Sorts.{NAME, RETURN, RAISE, EXIT, RETRY, TRYNEXT, TPWRITE, TPREADNUM, IF, THEN}
-use Rattle.paper.specs.Trees.{Statement, compactIf, fullIf, arm}
+use Rattle.paper.specs.Trees.{Statement}
 use Rattle.paper.specs.Expressions.{levelOf, startsSimple}
 use Rattle.paper.specs.Names.{aBool, sortIn}
 use Rattle.paper.specs.Types.{Fault, ofType}
@@ -22,23 +21,26 @@ use Rattle.grammar.proofs.Places.{simple-grows, else-grows}
 use Rattle.expressions.specs.declared.Judged.{Judged}
 use Rattle.expressions.specs.declared.Judged.the-variants as judged
 use Rattle.store.specs.Promises.{Kept}
-use Rattle.expressions.specs.Answers.{typeIf, OfType}
+use Rattle.expressions.specs.Answers.{OfType}
 use Rattle.expressions.specs.Answers as expressions
-use Rattle.faults.specs.First.{First, Inside}
+use Rattle.faults.specs.First.{Inside}
 use Rattle.faults.proofs.First.{first-before}
 use Rattle.faults.proofs.Expressions.{grows, of-type-inside}
 use Rattle.faults.proofs.Statements.{simple-inside, list-inside, else-inside}
 use Rattle.links.specs.Raw.{RawTerm, RawStatement}
-use Rattle.simple.specs.declared.Setting.{Setting}
-use Rattle.simple.specs.Around.{Around, groundOf, offsetIn}
-use Rattle.statements.specs.declared.Walked.{Walked}
-use Rattle.statements.specs.declared.Walked.the-variants.{Faulty}
-use Rattle.statements.specs.Answers.{Outside, Here, Stands, Answer, StatementAnswer, Begins, Begun}
+use Rattle.around.specs.declared.Setting.{Setting}
+use Rattle.around.specs.Around.{Around, groundOf, offsetIn}
+use Rattle.names.specs.declared.Walked.{Walked}
+use Rattle.names.specs.declared.Walked.the-variants.{Faulty}
+use Rattle.compounds.specs.Here.{Outside, Here}
+use Rattle.statements.specs.Answers.{Stands, Answer, StatementAnswer, Begins, Begun}
 use Rattle.statements.specs.Parts.{Compacts, Compacted, ThenAt, Thens, Thened}
-use Rattle.statements.proofs.Frames.{outside-wider, kept-outside, here-on, calls-behind}
-use Rattle.statements.proofs.Judging.{inside-both, expression-stands, judged-faulty, judged-long, judged-none, judged-next, judged-term, judged-kept}
+use Rattle.compounds.proofs.Frames.{outside-wider, kept-outside, here-on, calls-behind}
+use Rattle.compounds.proofs.Judging.{inside-both, expression-stands, judged-faulty, judged-long, judged-none, judged-next, judged-term, judged-kept}
 use Rattle.statements.proofs.Walking.{first-answer, answer-behind}
 use Rattle.statements.proofs.Arms.{then-order, rest-inside}
+use Rattle.layout.specs.Types.{boolType}
+use Rattle.layout.proofs.Typing.{bool-in}
 
 -- no operator starts a statement
 none-starts : (w : ℕ) → (w ≡ NAME → ⊥) → (w ≡ RETURN → ⊥) → (w ≡ RAISE → ⊥) → (w ≡ EXIT → ⊥) → (w ≡ RETRY → ⊥) → (w ≡ TRYNEXT → ⊥) → (w ≡ TPWRITE → ⊥) → (w ≡ TPREADNUM → ⊥) → startsSimple w ≡ false
@@ -103,12 +105,12 @@ module _ (text code values : List ℕ) (k : Setting) (used i : ℕ) (g : Begins 
   condition-inside : Inside (i + 1) (w .n) (ofType (a .known .W) aBool (a .known .S) (w .e))
   condition-inside = of-type-inside (a .known .W) _ _ _ _ (w .condition) aBool (a .known .S)
 
-  module _ (one : List ℕ) (j : Judged) (c : OfType code values one false true (i + 1) j) where
+  module _ (one : List ℕ) (j : Judged) (c : OfType code values one false boolType (i + 1) j) where
     wrong : (number word : ℕ) → j ≡ judged.Faulty number word → StatementAnswer (g .stands) one values (Faulty number word)
-    unfolding statementFaults typeIf forsIn
+    unfolding statementFaults forsIn
     wrong number word q =
-        let long = judged-long text code values a k used i (s .to) (s .here) (w .e) (i + 1) (w .n) (w .condition) (bounded .0) (omega arith) (omega (arith, bounded)) one true j c in
-        let c2 = judged-faulty text code values a k used i (s .to) (s .here) (w .e) (i + 1) (w .n) (w .condition) (bounded .0) (omega arith) (omega (arith, bounded)) one true j c number word q in
+        let long = judged-long text code values a k used i (s .to) (s .here) (w .e) (i + 1) (w .n) (w .condition) (bounded .0) (omega arith) (omega (arith, bounded)) one boolType aBool bool-in j c in
+        let c2 = judged-faulty text code values a k used i (s .to) (s .here) (w .e) (i + 1) (w .n) (w .condition) (bounded .0) (omega arith) (omega (arith, bounded)) one boolType aBool bool-in j c number word q in
         by-same (sortIn (a .known .W) (w .n)) THEN
         (λ e.
         let f = w .full e in
@@ -126,19 +128,18 @@ module _ (text code values : List ℕ) (k : Setting) (used i : ℕ) (g : Begins 
         let i2 = simple-inside (a .known .W) (a .K) (a .known .S) (f .stands) in
         subst (ForStatement one values (Faulty number word)) (sym (f .is)) (first-answer _ _ _ _ _ _ _ _ number word _ (first-before c2 condition-inside i2 (omega arith)) long))
 
-    module _ (bool : Bool) (t : ℕ) (q : j ≡ judged.Typed bool t) where
+    module _ (bool : ℕ) (t : ℕ) (q : j ≡ judged.Typed bool t) where
       at-is : t ≡ w .n
-      at-is = judged-next text code values a k used i (s .to) (s .here) (w .e) (i + 1) (w .n) (w .condition) (bounded .0) (omega arith) (omega (arith, bounded)) one true j c bool t q
+      at-is = judged-next text code values a k used i (s .to) (s .here) (w .e) (i + 1) (w .n) (w .condition) (bounded .0) (omega arith) (omega (arith, bounded)) one boolType aBool bool-in j c bool t q
 
       fine : ofType (a .known .W) aBool (a .known .S) (w .e) ≡ []
-      unfolding typeIf
-      fine = judged-none text code values a k used i (s .to) (s .here) (w .e) (i + 1) (w .n) (w .condition) (bounded .0) (omega arith) (omega (arith, bounded)) one true j c bool t q
+      fine = judged-none text code values a k used i (s .to) (s .here) (w .e) (i + 1) (w .n) (w .condition) (bounded .0) (omega arith) (omega (arith, bounded)) one boolType aBool bool-in j c bool t q
 
       term : RawTerm (groundOf a) (a .known .n) (wordsOf one) (a .known .S) (w .e) (i + 1) (w .n)
-      term = judged-term text code values a k used i (s .to) (s .here) (w .e) (i + 1) (w .n) (w .condition) (bounded .0) (omega arith) (omega (arith, bounded)) one true j c bool t q
+      term = judged-term text code values a k used i (s .to) (s .here) (w .e) (i + 1) (w .n) (w .condition) (bounded .0) (omega arith) (omega (arith, bounded)) one boolType aBool bool-in j c bool t q
 
       kept : Kept code one (i + 1) (w .n)
-      kept = judged-kept text code values a k used i (s .to) (s .here) (w .e) (i + 1) (w .n) (w .condition) (bounded .0) (omega arith) (omega (arith, bounded)) one true j c bool t q
+      kept = judged-kept text code values a k used i (s .to) (s .here) (w .e) (i + 1) (w .n) (w .condition) (bounded .0) (omega arith) (omega (arith, bounded)) one boolType aBool bool-in j c bool t q
 
       next-here : Here a one k used (w .n) (s .to)
       next-here =
@@ -235,11 +236,11 @@ module _ (text code values : List ℕ) (k : Setting) (used i : ℕ) (g : Begins 
               (subst (λ (y : ℕ). Thened text one values two values′ k used i y r) at-is x .is thens))
 
 -- ---- for whatever the statement is
-module _ (text code values : List ℕ) (k : Setting) (used i : ℕ) (one : List ℕ) (j : Judged) (c : OfType code values one false true (i + 1) j) where
+module _ (text code values : List ℕ) (k : Setting) (used i : ℕ) (one : List ℕ) (j : Judged) (c : OfType code values one false boolType (i + 1) j) where
   pub if-wrong : (number word : ℕ) → j ≡ judged.Faulty number word → Begun IF text code values one values k used i (Faulty number word)
   if-wrong number word q = record { is = λ g. wrong text code values k used i g one j c number word q }
 
-  module _ (bool : Bool) (t : ℕ) (q : j ≡ judged.Typed bool t) (v : ℕ) (ev : v ≡ opAt (wordsOf one) t) where
+  module _ (bool : ℕ) (t : ℕ) (q : j ≡ judged.Typed bool t) (v : ℕ) (ev : v ≡ opAt (wordsOf one) t) where
     pub if-compact : (v ≡ THEN → ⊥) → (two : List ℕ) (r : Walked) → Compacted text one values two k used i t r → Begun IF text code values two values k used i r
     if-compact n two r x = record { is = λ g. compact-is text code values k used i g one j c bool t q v ev n two r x }
 

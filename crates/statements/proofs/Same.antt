@@ -1,12 +1,10 @@
 -- What is known with a value store is known with another that has the same cells.
-use mathlib.Core.Path.{_≡_, refl, sym, ap, subst, _∙_}
+use mathlib.Core.Path.{refl, sym, subst, _∙_}
 use mathlib.Core.Bool.{Bool}
 use mathlib.Core.List.{List}
-use Prim.Native.Nat.{ℕ, _+_, _≤_, _<_}
-use native.Mathlib.Omega.{arith}
-use lib.ListN.{length, getD}
-use Rattle.cells.specs.Words.{wordsOf}
-use Rattle.paper.specs.Names.{Text, meaning}
+use Prim.Native.Nat.{ℕ, _≤_, _<_}
+use lib.ListN.{getD}
+use Rattle.paper.specs.Names.{meaning}
 use Rattle.paper.specs.Types.{Fault}
 use Rattle.names.specs.Meanings.{Means}
 use Rattle.expressions.specs.declared.Judged.{Judged}
@@ -14,12 +12,12 @@ use Rattle.expressions.specs.Known.{Known}
 use Rattle.expressions.specs.Answers.{OfType}
 use Rattle.expressions.specs.Answers as expressions
 use Rattle.constants.specs.Answers.{Fine}
-use Rattle.faults.specs.First.{First}
-use Rattle.simple.specs.declared.Setting.{Setting}
-use Rattle.simple.specs.Around.{Around, Calls}
-use Rattle.statements.specs.declared.Walked.{Walked}
-use Rattle.statements.specs.declared.Walked.the-variants.{Upto, Faulty}
-use Rattle.statements.specs.Answers.{SameValues, Here, Stands, Lists, Done, Tell, Answer}
+use Rattle.around.specs.declared.Setting.{Setting}
+use Rattle.around.specs.Around.{Around}
+use Rattle.names.specs.declared.Walked.{Walked}
+use Rattle.names.specs.declared.Walked.the-variants.{Upto, Faulty}
+use Rattle.statements.specs.Answers.{SameValues, Stands, Lists, Tell, Answer}
+use Rattle.compounds.specs.Here.{Here}
 use Rattle.statements.specs.Parts.{Elses}
 
 pub same-values : (values : List ℕ) → SameValues values values
@@ -81,8 +79,8 @@ module _ {values values′ : List ℕ} (s : SameValues values values′) where
   abbrev pub expression-as : {code : List ℕ} {top at : ℕ} → expressions.Stands code values top at → expressions.Stands code values′ top at
   expression-as g = record { known = known-as (g .known); d = g .d; e = g .e; to = g .to; tops = g .tops; is = g .is; ends = g .ends; loaded = g .loaded }
 
-  pub of-type-as : {code after : List ℕ} {only wants : Bool} {at : ℕ} {r : Judged} → OfType code values′ after only wants at r → OfType code values after only wants at r
-  of-type-as x = record { is = λ g. x .is (expression-as g) }
+  pub of-type-as : {code after : List ℕ} {only : Bool} {wants at : ℕ} {r : Judged} → OfType code values′ after only wants at r → OfType code values after only wants at r
+  of-type-as x = record { is = λ g t w. x .is (expression-as g) t w }
 
   pub answer-as : (fs : List Fault) (before after values″ : List ℕ) (at to count : ℕ) (holds : Type 0) (r : Walked) → Answer fs before after values′ values″ at to count holds r → Answer fs before after values values″ at to count holds r
   unfolding Tell

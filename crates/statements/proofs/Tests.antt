@@ -1,52 +1,47 @@
 -- TEST: its selector, and then its cases.
 use mathlib.Core.Path.{_≡_, refl, sym, ap, subst, _∙_}
-use mathlib.Core.Bool.{Bool, true, false}
-use mathlib.Core.List.{List, [], _∷_, _++_}
+use mathlib.Core.Bool.{Bool, false}
+use mathlib.Core.List.{List, [], _++_}
 use Prim.Native.Nat.{ℕ, _+_, _-_, _*_, _%_, _<_, _≤_}
 use native.Mathlib.Omega.{arith}
 use lib.ListN.{length}
-use lib.IntN.{pos, _-ℤ_}
 use Rattle.laws.proofs.Tests.{by-same}
 use Rattle.cells.specs.Words.{wordsOf}
-use Rattle.paper.specs.Sorts.{CASE, DEFAULT, ENDTEST, TEST}
-use Rattle.paper.specs.Words.{Word}
-use Rattle.paper.specs.Terms.{Memory}
-use Rattle.paper.specs.Trees.{Expr, Statement, Statements, Cases, noCase, case, test}
+use Rattle.paper.specs.Sorts.{CASE, DEFAULT, TEST}
+use Rattle.paper.specs.Trees.{Statement}
 use Rattle.paper.specs.Expressions.{levelOf}
-use Rattle.paper.specs.Names.{aNum, Scopes, sortIn}
+use Rattle.paper.specs.Names.{aNum, sortIn}
 use Rattle.paper.specs.Types.{Fault, ofType}
-use Rattle.paper.specs.Checks.{forsIn, forsInList, forsInCases, statementFaults, listFaults, caseFaults, casesFaults}
-use Rattle.code.specs.Cells.{opIn, linkIn, opAt, placeAt, linkAt}
-use Rattle.code.specs.Spans.{bias}
-use Rattle.code.specs.Steps.{constantAt}
-use Rattle.grammar.specs.Form.{Parses, CasesAt, DefaultAt}
-use Rattle.grammar.proofs.Inversions.{FirstCase, cases-first, cases-none, default-none, IsTest, statement-test}
-use Rattle.grammar.proofs.Places.{exprs-grow, list-grows, cases-grow, default-grows}
+use Rattle.paper.specs.Checks.{forsIn, forsInList, forsInCases, statementFaults, listFaults, casesFaults}
+use Rattle.grammar.specs.Form.{Parses}
+use Rattle.grammar.proofs.Inversions.{cases-none, default-none, IsTest, statement-test}
+use Rattle.grammar.proofs.Places.{cases-grow, default-grows}
 use Rattle.expressions.specs.declared.Judged.{Judged}
 use Rattle.expressions.specs.declared.Judged.the-variants as judged
 use Rattle.store.specs.Promises.{Kept, Linked}
-use Rattle.expressions.specs.Answers.{typeIf, OfType}
+use Rattle.expressions.specs.Answers.{OfType}
 use Rattle.expressions.specs.Answers as expressions
-use Rattle.faults.specs.First.{First, Inside}
-use Rattle.faults.proofs.First.{first-before, first-after, nothing-in-both}
+use Rattle.faults.specs.First.{First}
+use Rattle.faults.proofs.First.{first-before}
 use Rattle.faults.proofs.Expressions.{grows, of-type-inside}
-use Rattle.faults.proofs.Statements.{case-inside, list-inside, cases-inside, default-inside}
-use Rattle.links.specs.Raw.{Ground, SameWords, RawWord, Ends, at-once, closed, RawTerm, RawList, RawCases, RawDefault, RawTest, RawStatement}
+use Rattle.faults.proofs.Statements.{cases-inside, default-inside}
+use Rattle.links.specs.Raw.{SameWords, RawWord, Ends, at-once, closed, RawTerm, RawList, RawCases, RawDefault, RawTest, RawStatement}
 use Rattle.links.proofs.Framing.{cases-frame}
 use Rattle.links.proofs.Orders.{ends-order, list-order, cases-order}
-use Rattle.simple.specs.declared.Setting.{Setting}
-use Rattle.simple.specs.Around.{Around, groundOf, offsetIn}
-use Rattle.simple.specs.Answers as simples
-use Rattle.statements.specs.declared.Walked.{Walked}
-use Rattle.statements.specs.declared.Walked.the-variants.{Faulty}
-use Rattle.statements.specs.Answers.{upto, Outside, SameValues, Here, Stands, Lists, Done, Tell, Answer, StatementAnswer, Listed, Begins, Begun}
-use Rattle.statements.specs.Parts.{Chain, CaseChain, CaseValues, CaseValued, Chained, ValuesLinked, Defaults, Defaulted, Chooses, CasesWritten, Chosen}
-use Rattle.statements.proofs.Same.{same-values, same-then, around-as, here-as, lists-as, answer-as}
-use Rattle.statements.proofs.Frames.{outside-same, outside-wider, outside-on, kept-outside, same-before, same-behind, same-on, here-on, here-part, term-same, list-same, op-same, value-same, place-same, link-same, word-same, linked-outside, linked-word}
-use Rattle.statements.proofs.Judging.{inside-both, expression-stands, judged-faulty, judged-long, judged-none, judged-next, judged-term, judged-kept}
-use Rattle.statements.proofs.Walking.{upto-done, faulty-first, done-answer, first-answer, faulty-answer, answer-behind}
-use Rattle.statements.proofs.Compacts.{typed-fine, faulty-found}
-use Rattle.statements.proofs.Frames.{tail-before}
+use Rattle.around.specs.declared.Setting.{Setting}
+use Rattle.around.specs.Around.{Around, groundOf, offsetIn}
+use Rattle.names.specs.declared.Walked.{Walked}
+use Rattle.names.specs.declared.Walked.the-variants.{Faulty}
+use Rattle.statements.specs.Answers.{upto, Stands, Done, Answer, StatementAnswer, Begins, Begun}
+use Rattle.compounds.specs.Here.{Outside}
+use Rattle.statements.specs.Parts.{Chooses, CasesWritten, Chosen}
+use Rattle.compounds.proofs.Frames.{outside-wider, outside-on, kept-outside, same-before, same-behind, same-on, here-on, term-same, list-same, place-same, word-same, linked-outside, linked-word}
+use Rattle.compounds.proofs.Judging.{inside-both, expression-stands, judged-faulty, judged-long, judged-none, judged-next, judged-term, judged-kept}
+use Rattle.statements.proofs.Walking.{upto-done, faulty-first, done-answer, first-answer, faulty-answer}
+use Rattle.compounds.proofs.Frames.{tail-before}
+use Rattle.code.specs.Steps.{aTest}
+use Rattle.layout.specs.Types.{numType}
+use Rattle.layout.proofs.Typing.{num-in}
 
 module _ (text code values : List ℕ) (k : Setting) (used i : ℕ) (g : Begins TEST text code values k used i) where
   abbrev s : Stands text code values k used i
@@ -81,32 +76,31 @@ module _ (text code values : List ℕ) (k : Setting) (used i : ℕ) (g : Begins 
   ForStatement after values′ r t =
       Answer (statementFaults (a .known .W) (a .K) (a .M) t (a .known .S) used) code after values values′ i (s .to) (used + forsIn t) (RawStatement (groundOf a) (a .known .n) (wordsOf after) t (a .known .S) used i (s .to)) r
 
-  module _ (one : List ℕ) (j : Judged) (c : OfType code values one false false (i + 1) j) where
+  module _ (one : List ℕ) (j : Judged) (c : OfType code values one false numType (i + 1) j) where
     wrong : (number word : ℕ) → j ≡ judged.Faulty number word → StatementAnswer (g .stands) one values (Faulty number word)
-    unfolding statementFaults typeIf forsIn
+    unfolding statementFaults forsIn
     wrong number word q =
-        let c2 = judged-faulty text code values a k used i (s .to) (s .here) (w .e) (i + 1) (w .n) (w .selector) no-operator (omega arith) (omega (arith, orders, last)) one false j c number word q in
+        let c2 = judged-faulty text code values a k used i (s .to) (s .here) (w .e) (i + 1) (w .n) (w .selector) no-operator (omega arith) (omega (arith, orders, last)) one numType aNum num-in j c number word q in
         let i1 = of-type-inside (a .known .W) _ _ _ _ (w .selector) aNum (a .known .S) in
         let i2 = cases-inside (a .known .W) (a .K) (a .M) (w .cases) (a .known .S) used in
         let i3 = default-inside (a .known .W) (a .K) (a .M) (w .otherwise) (a .known .S) (used + forsInCases (w .c)) in
         let f1 = first-before c2 i1 i2 (omega arith) in
         let f2 = first-before f1 (inside-both i1 i2 (omega (arith, orders)) (omega (arith, orders))) i3 (omega arith) in
         subst (ForStatement one values (Faulty number word)) (sym (w .is))
-        (first-answer _ _ _ _ _ _ _ _ number word _ f2 (judged-long text code values a k used i (s .to) (s .here) (w .e) (i + 1) (w .n) (w .selector) no-operator (omega arith) (omega (arith, orders, last)) one false j c))
+        (first-answer _ _ _ _ _ _ _ _ number word _ f2 (judged-long text code values a k used i (s .to) (s .here) (w .e) (i + 1) (w .n) (w .selector) no-operator (omega arith) (omega (arith, orders, last)) one numType aNum num-in j c))
 
-    module _ (bool : Bool) (t : ℕ) (q : j ≡ judged.Typed bool t) where
+    module _ (bool : ℕ) (t : ℕ) (q : j ≡ judged.Typed bool t) where
       at-is : t ≡ w .n
-      at-is = judged-next text code values a k used i (s .to) (s .here) (w .e) (i + 1) (w .n) (w .selector) no-operator (omega arith) (omega (arith, orders, last)) one false j c bool t q
+      at-is = judged-next text code values a k used i (s .to) (s .here) (w .e) (i + 1) (w .n) (w .selector) no-operator (omega arith) (omega (arith, orders, last)) one numType aNum num-in j c bool t q
 
       fine : ofType (a .known .W) aNum (a .known .S) (w .e) ≡ []
-      unfolding typeIf
-      fine = judged-none text code values a k used i (s .to) (s .here) (w .e) (i + 1) (w .n) (w .selector) no-operator (omega arith) (omega (arith, orders, last)) one false j c bool t q
+      fine = judged-none text code values a k used i (s .to) (s .here) (w .e) (i + 1) (w .n) (w .selector) no-operator (omega arith) (omega (arith, orders, last)) one numType aNum num-in j c bool t q
 
       term : RawTerm (groundOf a) (a .known .n) (wordsOf one) (a .known .S) (w .e) (i + 1) (w .n)
-      term = judged-term text code values a k used i (s .to) (s .here) (w .e) (i + 1) (w .n) (w .selector) no-operator (omega arith) (omega (arith, orders, last)) one false j c bool t q
+      term = judged-term text code values a k used i (s .to) (s .here) (w .e) (i + 1) (w .n) (w .selector) no-operator (omega arith) (omega (arith, orders, last)) one numType aNum num-in j c bool t q
 
       kept : Kept code one (i + 1) (w .n)
-      kept = judged-kept text code values a k used i (s .to) (s .here) (w .e) (i + 1) (w .n) (w .selector) no-operator (omega arith) (omega (arith, orders, last)) one false j c bool t q
+      kept = judged-kept text code values a k used i (s .to) (s .here) (w .e) (i + 1) (w .n) (w .selector) no-operator (omega arith) (omega (arith, orders, last)) one numType aNum num-in j c bool t q
 
       chooses : Chooses text one values k used (w .n)
       unfolding forsIn
@@ -163,7 +157,7 @@ module _ (text code values : List ℕ) (k : Setting) (used i : ℕ) (g : Begins 
           test-room = (omega (arith, inner .long, kept .long, orders, last, s .here .unread .loaded .room), omega (arith, done .next-is, last))
 
           -- what a run reads stays: the TEST's own word alone is written
-          module _ (three : List ℕ) (l : Linked two three i 152 t z) where
+          module _ (three : List ℕ) (l : Linked two three i aTest t z) where
             o : Outside (wordsOf two) (wordsOf three) i (i + 1)
             o = linked-outside l
 
@@ -183,7 +177,7 @@ module _ (text code values : List ℕ) (k : Setting) (used i : ℕ) (g : Begins 
                   head = record {
                     first = refl;
                     place = l .kept .places i ∙ ap (λ (x3 : ℕ). x3 % 65536) (tail-before (done .outside) i (omega (arith, orders))) ∙ kept .places i ∙ s .here .unread .places i (omega arith) (omega (arith, orders, last));
-                    word = subst (RawWord (wordsOf three) 152 i) (done .next-is) (linked-word l);
+                    word = subst (RawWord (wordsOf three) aTest i) (done .next-is) (linked-word l);
                   };
                   term = subst (RawTerm (groundOf a) (a .known .n) (wordsOf three) (a .known .S) (w .e) (i + 1)) (sym v)
                       (term-same (groundOf a) (a .known .n) (wordsOf one) (wordsOf three) (a .known .S) (w .e) (i + 1) (w .n)
@@ -225,13 +219,13 @@ module _ (text code values : List ℕ) (k : Setting) (used i : ℕ) (g : Begins 
                 (l .kept .long ∙ inner .long ∙ kept .long))
 
 -- ---- for whatever the statement is
-module _ (text code values : List ℕ) (k : Setting) (used i : ℕ) (one : List ℕ) (j : Judged) (c : OfType code values one false false (i + 1) j) where
+module _ (text code values : List ℕ) (k : Setting) (used i : ℕ) (one : List ℕ) (j : Judged) (c : OfType code values one false numType (i + 1) j) where
   pub test-wrong : (number word : ℕ) → j ≡ judged.Faulty number word → Begun TEST text code values one values k used i (Faulty number word)
   test-wrong number word q = record { is = λ g. wrong text code values k used i g one j c number word q }
 
-  module _ (bool : Bool) (t : ℕ) (q : j ≡ judged.Typed bool t) (two values′ : List ℕ) (r : Walked) (x : Chosen text one values two values′ k used t r) where
+  module _ (bool : ℕ) (t : ℕ) (q : j ≡ judged.Typed bool t) (two values′ : List ℕ) (r : Walked) (x : Chosen text one values two values′ k used t r) where
     pub test-cases-wrong : (number word : ℕ) → r ≡ Faulty number word → Begun TEST text code values two values′ k used i r
     test-cases-wrong number word e = record { is = λ g. cases-wrong text code values k used i g one j c bool t q two values′ r x number word e }
 
-    pub test-finished : (z n : ℕ) → r ≡ upto z n → (three : List ℕ) → Linked two three i 152 t z → Begun TEST text code values three values′ k used i (upto z n)
+    pub test-finished : (z n : ℕ) → r ≡ upto z n → (three : List ℕ) → Linked two three i aTest t z → Begun TEST text code values three values′ k used i (upto z n)
     test-finished z n q2 three l = record { is = λ g. finished text code values k used i g one j c bool t q two values′ r x z n q2 three l }

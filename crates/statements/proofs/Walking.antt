@@ -1,18 +1,18 @@
 -- A list is walked statement by statement: what is left of it, and what has been written so far.
 use mathlib.Core.Path.{_≡_, refl, sym, ap, subst, _∙_}
 use mathlib.Core.Bool.{Bool, true, false}
-use mathlib.Core.List.{List, [], _++_}
+use mathlib.Core.List.{List, _++_}
 use Prim.Native.Nat.{ℕ, _+_, _-_, _*_, _<_, _≤_}
 use native.Mathlib.Omega.{arith}
 use lib.ListN.{length}
 use Rattle.cells.specs.Words.{wordsOf}
-use Rattle.paper.specs.Trees.{Statement, Statements, empty, _then_}
+use Rattle.paper.specs.Trees.{Statements}
 use Rattle.paper.specs.Expressions.{startsStatement}
 use Rattle.paper.specs.Names.{sortIn}
 use Rattle.paper.specs.Types.{Fault}
 use Rattle.paper.specs.Checks.{forsIn, forsInList, statementFaults, listFaults}
 use Rattle.code.specs.Cells.{opAt}
-use Rattle.grammar.specs.Form.{Parses, StatementAt, ListAt}
+use Rattle.grammar.specs.Form.{Parses, ListAt}
 use Rattle.grammar.proofs.Inversions.{FirstStatement, list-first, list-none}
 use Rattle.grammar.proofs.Places.{statement-grows, list-grows}
 use Rattle.faults.specs.First.{First}
@@ -21,14 +21,15 @@ use Rattle.faults.proofs.Expressions.{grows}
 use Rattle.faults.proofs.Statements.{statement-inside, list-inside}
 use Rattle.links.specs.Raw.{RawStatement, RawList}
 use Rattle.links.proofs.Framing.{statement-frame}
-use Rattle.simple.specs.declared.Setting.{Setting}
-use Rattle.simple.specs.Around.{Around, groundOf}
+use Rattle.around.specs.declared.Setting.{Setting}
+use Rattle.around.specs.Around.{groundOf}
 use Rattle.names.specs.declared.Scope.{Scope}
-use Rattle.statements.specs.declared.Walked.{Walked}
-use Rattle.statements.specs.declared.Walked.the-variants.{Upto, Faulty}
-use Rattle.statements.specs.Answers.{upto, Outside, Here, SameValues, Stands, Lists, Done, Tell, Answer, StatementAnswer, Stated, Listed}
+use Rattle.names.specs.declared.Walked.{Walked}
+use Rattle.names.specs.declared.Walked.the-variants.{Upto, Faulty}
+use Rattle.statements.specs.Answers.{upto, SameValues, Stands, Lists, Done, Tell, Answer, StatementAnswer, Stated, Listed}
+use Rattle.compounds.specs.Here.{Outside, Here}
 use Rattle.statements.proofs.Same.{same-values, stands-as, answer-as}
-use Rattle.statements.proofs.Frames.{outside-same, outside-wider, outside-on, same-before, here-on, here-part}
+use Rattle.compounds.proofs.Frames.{outside-same, outside-wider, outside-on, same-before, here-on, here-part}
 
 -- an answer with so many words taken is the answer with the scope that has taken them
 pub as-scope : (P : Walked → Type 0) (x : ℕ) {used : ℕ} (scope : Scope) → scope .used ≡ used → P (upto x used) → P (Upto x scope)

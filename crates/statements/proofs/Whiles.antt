@@ -1,16 +1,16 @@
 -- WHILE: its condition, its list, and what is written of it.
 use mathlib.Core.Path.{_≡_, refl, sym, ap, subst, _∙_}
 use mathlib.Core.Bool.{Bool, true, false}
-use mathlib.Core.List.{List, [], _++_}
-use Prim.Native.Nat.{ℕ, _+_, _-_, _*_, _%_, _<_, _≤_}
+use mathlib.Core.List.{List, []}
+use Prim.Native.Nat.{ℕ, _+_, _-_, _%_, _<_, _≤_}
 use native.Mathlib.Omega.{arith}
 use lib.ListN.{length}
 use Rattle.cells.specs.Words.{wordsOf}
 use Rattle.paper.specs.Sorts.{WHILE}
-use Rattle.paper.specs.Trees.{Statement, while}
-use Rattle.paper.specs.Expressions.{nestings, levelOf}
+use Rattle.paper.specs.Trees.{Statement}
+use Rattle.paper.specs.Expressions.{levelOf}
 use Rattle.paper.specs.Names.{aBool, sortIn}
-use Rattle.paper.specs.Types.{Fault, ofType}
+use Rattle.paper.specs.Types.{ofType}
 use Rattle.paper.specs.Checks.{forsIn, forsInList, statementFaults, listFaults}
 use Rattle.code.specs.Cells.{placeAt}
 use Rattle.grammar.specs.Form.{Parses}
@@ -19,23 +19,27 @@ use Rattle.grammar.proofs.Places.{list-grows}
 use Rattle.expressions.specs.declared.Judged.{Judged}
 use Rattle.expressions.specs.declared.Judged.the-variants as judged
 use Rattle.store.specs.Promises.{Kept}
-use Rattle.expressions.specs.Answers.{typeIf, OfType}
+use Rattle.expressions.specs.Answers.{OfType}
 use Rattle.expressions.specs.Answers as expressions
-use Rattle.faults.specs.First.{First, Inside}
+use Rattle.faults.specs.First.{Inside}
 use Rattle.faults.proofs.First.{first-before, first-after, nothing-in-both}
 use Rattle.faults.proofs.Expressions.{grows, of-type-inside}
 use Rattle.faults.proofs.Statements.{list-inside}
 use Rattle.links.specs.Raw.{RawWord, RawDo, RawTerm, RawList, RawWhile, RawStatement}
-use Rattle.simple.specs.declared.Setting.{Setting}
-use Rattle.simple.specs.Around.{Around, groundOf, offsetIn}
+use Rattle.around.specs.declared.Setting.{Setting}
+use Rattle.around.specs.Around.{Around, groundOf, offsetIn}
 use Rattle.names.specs.declared.Scope.{Scope}
-use Rattle.statements.specs.declared.Walked.{Walked}
-use Rattle.statements.specs.declared.Walked.the-variants.{Upto, Faulty}
-use Rattle.statements.specs.Answers.{upto, Outside, Here, Stands, Lists, Done, Answer, StatementAnswer, Listed, Begins, Begun}
-use Rattle.statements.specs.Parts.{WhileEnded}
-use Rattle.statements.proofs.Frames.{outside-wider, outside-on, kept-outside, same-before, same-behind, same-on, tail-before, here-on, term-same, list-same, op-same, value-same, word-same, linked-outside, linked-word}
-use Rattle.statements.proofs.Judging.{expression-stands, judged-faulty, judged-long, judged-none, judged-next, judged-term, judged-kept}
+use Rattle.names.specs.declared.Walked.{Walked}
+use Rattle.names.specs.declared.Walked.the-variants.{Upto, Faulty}
+use Rattle.statements.specs.Answers.{upto, Stands, Lists, Done, Answer, StatementAnswer, Listed, Begins, Begun}
+use Rattle.compounds.specs.Here.{Outside}
+use Rattle.compounds.specs.Parts.{WhileEnded}
+use Rattle.compounds.proofs.Frames.{outside-wider, outside-on, kept-outside, same-before, same-behind, same-on, tail-before, here-on, term-same, list-same, op-same, value-same, word-same, linked-outside, linked-word}
+use Rattle.compounds.proofs.Judging.{expression-stands, judged-faulty, judged-long, judged-none, judged-next, judged-term, judged-kept}
 use Rattle.statements.proofs.Walking.{upto-done, faulty-first, done-answer, first-answer, faulty-answer}
+use Rattle.code.specs.Steps.{aWhile}
+use Rattle.layout.specs.Types.{boolType}
+use Rattle.layout.proofs.Typing.{bool-in}
 
 module _ (text code values : List ℕ) (k : Setting) (used i : ℕ) (g : Begins WHILE text code values k used i) where
   abbrev s : Stands text code values k used i
@@ -74,29 +78,28 @@ module _ (text code values : List ℕ) (k : Setting) (used i : ℕ) (g : Begins 
   body-inside : Inside (w .doAt + 1) (w .end) (listFaults (a .known .W) (a .K) (a .M) (w .body) (a .known .S) used)
   body-inside = list-inside (a .known .W) (a .K) (a .M) (w .list) (a .known .S) used
 
-  module _ (one : List ℕ) (j : Judged) (c : OfType code values one false true (i + 1) j) where
+  module _ (one : List ℕ) (j : Judged) (c : OfType code values one false boolType (i + 1) j) where
     wrong : (number word : ℕ) → j ≡ judged.Faulty number word → StatementAnswer (g .stands) one values (Faulty number word)
-    unfolding statementFaults typeIf
+    unfolding statementFaults
     wrong number word q =
         subst (ForStatement one values (Faulty number word)) (sym (w .is))
         (first-answer _ _ _ _ _ _ _ _ number word _
-        (first-before (judged-faulty text code values a k used i (s .to) (s .here) (w .e) (i + 1) (w .doAt) (w .condition) no-operator (omega arith) (omega (arith, listed, w .after)) one true j c number word q)
+        (first-before (judged-faulty text code values a k used i (s .to) (s .here) (w .e) (i + 1) (w .doAt) (w .condition) no-operator (omega arith) (omega (arith, listed, w .after)) one boolType aBool bool-in j c number word q)
         condition-inside body-inside (omega arith))
-        (judged-long text code values a k used i (s .to) (s .here) (w .e) (i + 1) (w .doAt) (w .condition) no-operator (omega arith) (omega (arith, listed, w .after)) one true j c))
+        (judged-long text code values a k used i (s .to) (s .here) (w .e) (i + 1) (w .doAt) (w .condition) no-operator (omega arith) (omega (arith, listed, w .after)) one boolType aBool bool-in j c))
 
-    module _ (bool : Bool) (d : ℕ) (q : j ≡ judged.Typed bool d) where
+    module _ (bool : ℕ) (d : ℕ) (q : j ≡ judged.Typed bool d) where
       do-at : d ≡ w .doAt
-      do-at = judged-next text code values a k used i (s .to) (s .here) (w .e) (i + 1) (w .doAt) (w .condition) no-operator (omega arith) (omega (arith, listed, w .after)) one true j c bool d q
+      do-at = judged-next text code values a k used i (s .to) (s .here) (w .e) (i + 1) (w .doAt) (w .condition) no-operator (omega arith) (omega (arith, listed, w .after)) one boolType aBool bool-in j c bool d q
 
       fine : ofType (a .known .W) aBool (a .known .S) (w .e) ≡ []
-      unfolding typeIf
-      fine = judged-none text code values a k used i (s .to) (s .here) (w .e) (i + 1) (w .doAt) (w .condition) no-operator (omega arith) (omega (arith, listed, w .after)) one true j c bool d q
+      fine = judged-none text code values a k used i (s .to) (s .here) (w .e) (i + 1) (w .doAt) (w .condition) no-operator (omega arith) (omega (arith, listed, w .after)) one boolType aBool bool-in j c bool d q
 
       term : RawTerm (groundOf a) (a .known .n) (wordsOf one) (a .known .S) (w .e) (i + 1) (w .doAt)
-      term = judged-term text code values a k used i (s .to) (s .here) (w .e) (i + 1) (w .doAt) (w .condition) no-operator (omega arith) (omega (arith, listed, w .after)) one true j c bool d q
+      term = judged-term text code values a k used i (s .to) (s .here) (w .e) (i + 1) (w .doAt) (w .condition) no-operator (omega arith) (omega (arith, listed, w .after)) one boolType aBool bool-in j c bool d q
 
       kept : Kept code one (i + 1) (w .doAt)
-      kept = judged-kept text code values a k used i (s .to) (s .here) (w .e) (i + 1) (w .doAt) (w .condition) no-operator (omega arith) (omega (arith, listed, w .after)) one true j c bool d q
+      kept = judged-kept text code values a k used i (s .to) (s .here) (w .e) (i + 1) (w .doAt) (w .condition) no-operator (omega arith) (omega (arith, listed, w .after)) one boolType aBool bool-in j c bool d q
 
       pub while-forward : (i < d) × (d < 8192)
       while-forward = (omega (arith, do-at, begins), omega (arith, do-at, listed, w .after, last))
@@ -165,7 +168,7 @@ module _ (text code values : List ℕ) (k : Setting) (used i : ℕ) (g : Begins 
             raw =
                 let v = y .head .value-is in
                 record {
-                  head = record { first = refl; place = place; word = subst (λ (t : ℕ). RawWord (wordsOf three) 149 i t) (sym (w .after)) (linked-word (y .head)) };
+                  head = record { first = refl; place = place; word = subst (λ (t : ℕ). RawWord (wordsOf three) aWhile i t) (sym (w .after)) (linked-word (y .head)) };
                   term = subst (λ (t : ℕ). RawTerm (groundOf a) (a .known .n) (wordsOf three) (a .known .S) (w .e) (i + 1) t) (sym v)
                       (term-same (groundOf a) (a .known .n) (wordsOf one) (wordsOf three) (a .known .S) (w .e) (i + 1) (w .doAt)
                       (same-on (same-on (same-on (same-before (i + 1) (w .doAt) (done .outside) (omega arith)) (same-before (i + 1) (w .doAt) from-two (omega arith)))
@@ -207,11 +210,11 @@ module _ (text code values : List ℕ) (k : Setting) (used i : ℕ) (g : Begins 
                 (y .head .kept .long ∙ y .again .kept .long ∙ y .opens .kept .long ∙ body .long ∙ kept .long))
 
 -- ---- for whatever the statement is
-module _ (text code values : List ℕ) (k : Setting) (used i : ℕ) (one : List ℕ) (j : Judged) (c : OfType code values one false true (i + 1) j) where
+module _ (text code values : List ℕ) (k : Setting) (used i : ℕ) (one : List ℕ) (j : Judged) (c : OfType code values one false boolType (i + 1) j) where
   pub while-wrong : (number word : ℕ) → j ≡ judged.Faulty number word → Begun WHILE text code values one values k used i (Faulty number word)
   while-wrong number word q = record { is = λ g. wrong text code values k used i g one j c number word q }
 
-  module _ (bool : Bool) (d : ℕ) (q : j ≡ judged.Typed bool d) (two values′ : List ℕ) (r : Walked) (l : Listed text one values two values′ k used (d + 1) r) where
+  module _ (bool : ℕ) (d : ℕ) (q : j ≡ judged.Typed bool d) (two values′ : List ℕ) (r : Walked) (l : Listed text one values two values′ k used (d + 1) r) where
     pub while-list-wrong : (number word : ℕ) → r ≡ Faulty number word → Begun WHILE text code values two values′ k used i r
     while-list-wrong number word e = record { is = λ g. list-wrong text code values k used i g one j c bool d q two values′ r l number word e }
 

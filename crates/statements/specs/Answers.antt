@@ -1,44 +1,24 @@
 -- What the check of a list of statements asks, and what it answers.
 use mathlib.Core.Path.{_≡_}
 use mathlib.Core.List.{List, []}
-use Prim.Native.Nat.{ℕ, _+_, _*_, _<_, _≤_}
-use lib.ListN.{length, getD}
+use Prim.Native.Nat.{ℕ, _+_, _≤_}
+use lib.ListN.{length}
 use Rattle.paper.specs.Trees.{Statement, Statements}
-use Rattle.paper.specs.Names.{Text, sortIn, spelled, meaning}
+use Rattle.paper.specs.Names.{sortIn}
 use Rattle.paper.specs.Types.{Fault}
 use Rattle.paper.specs.Checks.{forsIn, forsInList, statementFaults, listFaults}
 use Rattle.cells.specs.Words.{wordsOf}
-use Rattle.code.specs.Cells.{errnoCell}
-use Rattle.names.specs.Numbers.{IsName}
-use Rattle.evaluation.specs.Answers.{callWords, firstNegative}
+use Rattle.evaluation.specs.Answers.{callWords}
 use Rattle.grammar.specs.Form.{Parses, StatementAt, ListAt}
-use Rattle.expressions.specs.Known.{Within}
-use Rattle.constants.specs.Answers.{Fine}
 use Rattle.faults.specs.First.{First}
 use Rattle.links.specs.Raw.{RawStatement, RawList}
-use Rattle.simple.specs.declared.Setting.{Setting}
-use Rattle.simple.specs.Around.{Around, groundOf, Unread, Calls, Tells}
-use Rattle.statements.specs.declared.Walked.{Walked}
-use Rattle.statements.specs.declared.Walked.the-variants.{Upto, Faulty}
-
--- ---- the code store
--- D has the cells of C but for those of the words from `at` up to `to`.
-pub record Outside (C D : List ℕ) (at to : ℕ) : Type 0 where
-  pub below : (i : ℕ) → i < at * 2 → getD D i 0 ≡ getD C i 0
-  pub above : (i : ℕ) → to * 2 ≤ i → getD D i 0 ≡ getD C i 0
+use Rattle.around.specs.declared.Setting.{Setting}
+use Rattle.around.specs.Around.{Around, groundOf}
+use Rattle.names.specs.declared.Walked.{Walked}
+use Rattle.names.specs.declared.Walked.the-variants.{Upto, Faulty}
+use Rattle.compounds.specs.Here.{Outside, Here}
 
 -- ---- what is asked
--- The check comes to the words from `at` up to `to`, with `used` words of the routine taken so far: names mean words of these, and of those that are constants the value store
--- has the values. (The routine has more words in the end, which `around` knows; constant expressions are worked out before there are so many.)
-pub record Here {text values : List ℕ} (around : Around text values) (code : List ℕ) (k : Setting) (used at to : ℕ) : Type 0 where
-  pub tells : Tells k (around .K)
-  pub few : used ≤ callWords
-  pub within : (i : ℕ) → IsName (around .known .W) i → Within (around .known .m) used (meaning (around .known .S) (spelled (around .known .W) i))
-  pub fine : (t : Text) → Fine (around .known .m) used (wordsOf values) (around .M) (meaning (around .known .S) t)
-  pub number : getD (wordsOf values) errnoCell 0 < firstNegative
-  pub unread : Unread (around .known .W) code at to
-  pub calls : Calls around code at to
-
 -- a statement from `at` on
 pub record Stands (text code values : List ℕ) (k : Setting) (used at : ℕ) : Type 0 where
   pub to : ℕ

@@ -38,9 +38,13 @@ same-length-4 c = search needs
 
 returns-2 : tie.Need-returns-2
 returns-2 c =
-    let t = c .before .before .before .before .before .before .before .before .before .before .before .before .before .before in
-    let s = t .before .before .before .before .before in
-    refused-so _ _ _ (s .before .before .before .before .before .pre) (s .clear .ensures) _ _ _ _ (t .judge-text .ensures) _ _ _ _ (c .before .before .before .before .before .before .before .before .enum-told .given .1) (c .before .before .before .before .before .before .clear2 .ensures) (c .before .before .clear3 .ensures)
+    let at-clear2 = c .before .before .before .before .before .before in
+    let at-enum-told = at-clear2 .before .before in
+    let at-judge-text = at-enum-told .before .before .before .before .before .before in
+    let at-clear = at-judge-text .before .before .before .before .before in
+    let start = at-clear .before .before .before .before .before in
+    refused-so _ _ _ (start .pre) (at-clear .clear .ensures) _ _ _ _ (at-judge-text .judge-text .ensures) _ _ _ _ (at-enum-told .enum-told .given .1)
+    (at-clear2 .clear2 .ensures) (c .before .before .clear3 .ensures)
 
 pub check-cells-spec : {M : Type 1} → statement M
 check-cells-spec =

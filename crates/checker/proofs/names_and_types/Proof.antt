@@ -23,9 +23,12 @@ sub-all-routines c = search (needs, one-less)
 
 all-routines-requires : tie.Need-all-routines-requires
 all-routines-requires c κs =
-    let d = c .before .before .before .before .before .before .before .before .before in
-    let h = d .before .before .before .before .before .before .before in
-    routines-stand _ _ _ _ (h .before .before .before .before .before .before .pre) _ _ _ (h .read .ensures) _ _ _ (d .module-data .ensures) _ _ (c .before .before .before .d2 .given .1) (omega (arith, c .before .before .before .before .before .before .before .before .code2 .given))
+    let at-code2 = c .before .before .before .before .before .before .before .before in
+    let at-module-data = at-code2 .before in
+    let at-read = at-module-data .before .before .before .before .before .before .before in
+    let start = at-read .before .before .before .before .before .before in
+    routines-stand _ _ _ _ (start .pre) _ _ _ (at-read .read .ensures) _ _ _ (at-module-data .module-data .ensures) _ _
+    (c .before .before .before .d2 .given .1) (omega (arith, at-code2 .code2 .given))
 
 enum-known-r : tie.Need-enum-known-r
 enum-known-r c = search needs
@@ -41,14 +44,21 @@ same-length-2 c = search needs
 
 returns : tie.Need-returns
 returns c =
-    let r = c .before .before .before .before .before .before .before in
-    let d = r .before .before .before .before .before .before .before .before .before .before in
-    let h = d .before .before .before .before .before .before .before in
-    main-none _ _ _ _ (h .before .before .before .before .before .before .pre) _ _ _ (h .read .ensures) _ _ _ (d .module-data .ensures) _ _ (r .before .before .before .before .d2 .given .1) (omega (arith, c .before .before .before .before .before .before .before .before .before .before .before .before .before .before .before .before .code2 .given))
-    _ _ _ (r .all-routines .ensures)
-    (omega (arith, c .before .before .before .before .before .before .code3 .given, c .before .before .before .before .before .before .before .before .before .before .before .before .before .before .before .before .code2 .given, c .before .before .before .before .before .before .before .before .before .before .before .before .before .before .before .before .before .before .before .before .before .before .before .code .given))
-    (omega (arith, c .before .before .before .before .values3 .given, c .before .before .before .before .before .before .before .before .before .before .before .before .before .before .values2 .given, c .before .before .before .before .before .before .before .before .before .before .before .before .before .before .before .before .before .before .before .before .before .values .given))
-    _ (c .before .enum-told .given .1) (c .if1 .taken)
+    let at-values3 = c .before .before .before .before in
+    let at-code3 = at-values3 .before .before in
+    let at-all-routines = at-code3 .before in
+    let at-d2 = at-all-routines .before .before .before .before in
+    let at-values2 = at-d2 .before .before .before in
+    let at-code2 = at-values2 .before .before in
+    let at-module-data = at-code2 .before in
+    let at-values = at-module-data .before .before .before .before in
+    let at-code = at-values .before .before in
+    let at-read = at-code .before in
+    let start = at-read .before .before .before .before .before .before in
+    main-none _ _ _ _ (start .pre) _ _ _ (at-read .read .ensures) _ _ _ (at-module-data .module-data .ensures) _ _ (at-d2 .d2 .given .1)
+    (omega (arith, at-code2 .code2 .given)) _ _ _ (at-all-routines .all-routines .ensures)
+    (omega (arith, at-code3 .code3 .given, at-code2 .code2 .given, at-code .code .given))
+    (omega (arith, at-values3 .values3 .given, at-values2 .values2 .given, at-values .values .given)) _ (c .before .enum-told .given .1) (c .if1 .taken)
 
 cast-t30 : tie.Need-cast-t30
 cast-t30 c = search needs
@@ -61,11 +71,15 @@ same-length-4 c = search needs
 
 returns-2 : tie.Need-returns-2
 returns-2 c =
-    let d = c .before .before .before .before .before .before .before in
-    let h = d .before .before .before .before .before .before .before in
-    data-found _ _ _ _ (h .before .before .before .before .before .before .pre) _ _ _ (h .read .ensures) _ _ _ (d .module-data .ensures) _ _ (c .before .d .given .1)
-    (omega (arith, c .before .before .before .before .before .before .code2 .given, c .before .before .before .before .before .before .before .before .before .before .before .before .before .code .given))
-    (omega (arith, c .before .before .before .before .values2 .given, c .before .before .before .before .before .before .before .before .before .before .before .values .given))
+    let at-values2 = c .before .before .before .before in
+    let at-code2 = at-values2 .before .before in
+    let at-module-data = at-code2 .before in
+    let at-values = at-module-data .before .before .before .before in
+    let at-code = at-values .before .before in
+    let at-read = at-code .before in
+    let start = at-read .before .before .before .before .before .before in
+    data-found _ _ _ _ (start .pre) _ _ _ (at-read .read .ensures) _ _ _ (at-module-data .module-data .ensures) _ _ (c .before .d .given .1)
+    (omega (arith, at-code2 .code2 .given, at-code .code .given)) (omega (arith, at-values2 .values2 .given, at-values .values .given))
 
 same-length-5 : tie.Need-same-length-5
 same-length-5 c = search needs
@@ -75,14 +89,21 @@ same-length-6 c = search needs
 
 returns-3 : tie.Need-returns-3
 returns-3 c =
-    let r = c .before .before .before .before .before .before .before in
-    let d = r .before .before .before .before .before .before .before .before .before .before in
-    let h = d .before .before .before .before .before .before .before in
-    routines-found _ _ _ _ (h .before .before .before .before .before .before .pre) _ _ _ (h .read .ensures) _ _ _ (d .module-data .ensures) _ _ (r .before .before .before .before .d2 .given .1) (omega (arith, c .before .before .before .before .before .before .before .before .before .before .before .before .before .before .before .before .code2 .given))
-    _ _ _ (r .all-routines .ensures)
-    (omega (arith, c .before .before .before .before .before .before .code3 .given, c .before .before .before .before .before .before .before .before .before .before .before .before .before .before .before .before .code2 .given, c .before .before .before .before .before .before .before .before .before .before .before .before .before .before .before .before .before .before .before .before .before .before .before .code .given))
-    (omega (arith, c .before .before .before .before .values3 .given, c .before .before .before .before .before .before .before .before .before .before .before .before .before .before .values2 .given, c .before .before .before .before .before .before .before .before .before .before .before .before .before .before .before .before .before .before .before .before .before .values .given))
-    _ _ (c .before .r .given .1)
+    let at-values3 = c .before .before .before .before in
+    let at-code3 = at-values3 .before .before in
+    let at-all-routines = at-code3 .before in
+    let at-d2 = at-all-routines .before .before .before .before in
+    let at-values2 = at-d2 .before .before .before in
+    let at-code2 = at-values2 .before .before in
+    let at-module-data = at-code2 .before in
+    let at-values = at-module-data .before .before .before .before in
+    let at-code = at-values .before .before in
+    let at-read = at-code .before in
+    let start = at-read .before .before .before .before .before .before in
+    routines-found _ _ _ _ (start .pre) _ _ _ (at-read .read .ensures) _ _ _ (at-module-data .module-data .ensures) _ _ (at-d2 .d2 .given .1)
+    (omega (arith, at-code2 .code2 .given)) _ _ _ (at-all-routines .all-routines .ensures)
+    (omega (arith, at-code3 .code3 .given, at-code2 .code2 .given, at-code .code .given))
+    (omega (arith, at-values3 .values3 .given, at-values2 .values2 .given, at-values .values .given)) _ _ (c .before .r .given .1)
 
 same-length-7 : tie.Need-same-length-7
 same-length-7 c = search needs
@@ -92,14 +113,22 @@ same-length-8 c = search needs
 
 returns-4 : tie.Need-returns-4
 returns-4 c =
-    let r = c .before .before .before .before .before .before .before .before in
-    let d = r .before .before .before .before .before .before .before .before .before .before in
-    let h = d .before .before .before .before .before .before .before in
-    main-some _ _ _ _ (h .before .before .before .before .before .before .pre) _ _ _ (h .read .ensures) _ _ _ (d .module-data .ensures) _ _ (r .before .before .before .before .d2 .given .1) (omega (arith, c .before .before .before .before .before .before .before .before .before .before .before .before .before .before .before .before .before .code2 .given))
-    _ _ _ (r .all-routines .ensures)
-    (omega (arith, c .before .before .before .before .before .before .before .code3 .given, c .before .before .before .before .before .before .before .before .before .before .before .before .before .before .before .before .before .code2 .given, c .before .before .before .before .before .before .before .before .before .before .before .before .before .before .before .before .before .before .before .before .before .before .before .before .code .given))
-    (omega (arith, c .before .before .before .before .before .values3 .given, c .before .before .before .before .before .before .before .before .before .before .before .before .before .before .before .values2 .given, c .before .before .before .before .before .before .before .before .before .before .before .before .before .before .before .before .before .before .before .before .before .before .values .given))
-    _ (c .before .before .enum-told .given .1) (c .before .if1 .left)
+    let at-values3 = c .before .before .before .before .before in
+    let at-code3 = at-values3 .before .before in
+    let at-all-routines = at-code3 .before in
+    let at-d2 = at-all-routines .before .before .before .before in
+    let at-values2 = at-d2 .before .before .before in
+    let at-code2 = at-values2 .before .before in
+    let at-module-data = at-code2 .before in
+    let at-values = at-module-data .before .before .before .before in
+    let at-code = at-values .before .before in
+    let at-read = at-code .before in
+    let start = at-read .before .before .before .before .before .before in
+    main-some _ _ _ _ (start .pre) _ _ _ (at-read .read .ensures) _ _ _ (at-module-data .module-data .ensures) _ _ (at-d2 .d2 .given .1)
+    (omega (arith, at-code2 .code2 .given)) _ _ _ (at-all-routines .all-routines .ensures)
+    (omega (arith, at-code3 .code3 .given, at-code2 .code2 .given, at-code .code .given))
+    (omega (arith, at-values3 .values3 .given, at-values2 .values2 .given, at-values .values .given)) _ (c .before .before .enum-told .given .1)
+    (c .before .if1 .left)
 
 pub names-and-types-spec : {M : Type 1} → statement M
 names-and-types-spec =

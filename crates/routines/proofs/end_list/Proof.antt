@@ -6,27 +6,21 @@ use Rattle.routines.proofs.end_list.Reads as reads
 use Rattle.routines.proofs.end_list.Lts as lts
 use Rattle.store.proofs.set_head.Reads as set-head-reads
 
--- src/lib.rt:108:9
 set-head-requires : tie.Need-set-head-requires
 set-head-requires c κs = search needs
 
--- src/lib.rt:110:9
 set-head-requires-2 : tie.Need-set-head-requires-2
 set-head-requires-2 c κs = search needs
 
--- src/lib.rt:103:1
 same-length : tie.Need-same-length
 same-length c = search needs
 
--- src/lib.rt:103:1
 returns : tie.Need-returns
 returns c = search (needs, a-function-end)
 
--- src/lib.rt:103:1
 same-length-2 : tie.Need-same-length-2
 same-length-2 c = search needs
 
--- src/lib.rt:103:1
 returns-2 : tie.Need-returns-2
 returns-2 c = search (needs, a-plain-end)
 

@@ -6,19 +6,15 @@ use Rattle.routines.proofs.leads_to.Reads as reads
 use Rattle.routines.proofs.leads_to.Lts as lts
 use Rattle.store.proofs.sort.Reads as sort-reads
 
--- src/lib.rt:121:8
 sort-requires : tie.Need-sort-requires
 sort-requires c κs = search needs
 
--- src/lib.rt:122:16
 add-result : tie.Need-add-result
 add-result c = search needs
 
--- src/lib.rt:122:9
 returns : tie.Need-returns
 returns c = search (needs, leads-on)
 
--- src/lib.rt:117:1
 returns-2 : tie.Need-returns-2
 returns-2 c = search (needs, leads-nowhere)
 

@@ -10,77 +10,96 @@ use Rattle.routines.proofs.leads_to.Reads as leads-to-reads
 use Rattle.store.proofs.set_link.Reads as set-link-reads
 use Rattle.statements.proofs.list.Reads as list-reads
 
--- src/lib.rt:167:9
 list-requires : tie.Need-list-requires
 list-requires c κs = lists-list _ _ _ _ _ _ _ (c .before .before .before .before .before .pre)
 
--- src/lib.rt:168:34
 enum-known-r : tie.Need-enum-known-r
 enum-known-r c = search needs
 
--- src/lib.rt:169:9
 enum-told : tie.Need-enum-told
 enum-told c = search needs
 
--- src/lib.rt:169:9
 same-length : tie.Need-same-length
 same-length c = search needs
 
--- src/lib.rt:169:9
 same-length-2 : tie.Need-same-length-2
 same-length-2 c = search needs
 
--- src/lib.rt:169:9
 returns : tie.Need-returns
-returns c = first-faulty _ _ _ _ _ _ _ _ _ _ (c .before .before .before .before .before .before .list .ensures) _ _ (c .enum-told .given .1)
+returns c =
+    let at-list = c .before .before .before .before .before .before in
+    first-faulty _ _ _ _ _ _ _ _ _ _ (at-list .list .ensures) _ _ (c .enum-told .given .1)
 
--- src/lib.rt:171:9
 leads-to-requires : tie.Need-leads-to-requires
-leads-to-requires c κs = (e-room _ _ _ _ _ _ _ _ _ _ (c .before .before .before .before .before .before .before .before .list .ensures) _ _ (c .before .before .r .given .1) (c .before .before .before .before .before .before .before .before .before .before .before .before .before .before .pre), e-small _ _ _ _ _ _ _ _ _ _ (c .before .before .before .before .before .before .before .before .list .ensures) _ _ (c .before .before .r .given .1) (c .before .before .before .before .before .before .before .before .before .before .before .before .before .before .pre))
+leads-to-requires c κs =
+    let at-list = c .before .before .before .before .before .before .before .before in
+    let start = at-list .before .before .before .before .before .before in (
+      e-room _ _ _ _ _ _ _ _ _ _ (at-list .list .ensures) _ _ (c .before .before .r .given .1) (start .pre),
+      e-small _ _ _ _ _ _ _ _ _ _ (at-list .list .ensures)
+          _ _ (c .before .before .r .given .1) (start .pre),
+    )
 
--- src/lib.rt:172:9
 errors-requires : tie.Need-errors-requires
-errors-requires c κs = lists-errors _ _ _ _ _ _ _ _ _ _ (c .before .before .before .before .before .before .before .before .before .before .before .list .ensures) _ _ (c .before .before .before .before .before .r .given .1) _ (c .before .before .leads-to .ensures) (c .before .before .before .before .before .before .before .before .before .before .before .before .before .before .before .before .before .pre)
+errors-requires c κs =
+    let at-r = c .before .before .before .before .before in
+    let at-list = at-r .before .before .before .before .before .before in
+    let start = at-list .before .before .before .before .before .before in
+    lists-errors _ _ _ _ _ _ _ _ _ _ (at-list .list .ensures) _ _ (at-r .r .given .1) _ (c .before .before .leads-to .ensures) (start .pre)
 
--- src/lib.rt:173:34
 enum-known-r-2 : tie.Need-enum-known-r-2
 enum-known-r-2 c = search needs
 
--- src/lib.rt:174:9
 enum-told-2 : tie.Need-enum-told-2
 enum-told-2 c = search needs
 
--- src/lib.rt:174:9
 same-length-3 : tie.Need-same-length-3
 same-length-3 c = search needs
 
--- src/lib.rt:174:9
 same-length-4 : tie.Need-same-length-4
 same-length-4 c = search needs
 
--- src/lib.rt:174:9
 returns-2 : tie.Need-returns-2
-returns-2 c = second-faulty _ _ _ _ _ _ _ _ _ _ (c .before .before .before .before .before .before .before .before .before .before .before .before .before .before .before .before .before .before .list .ensures) _ _ (c .before .before .before .before .before .before .before .before .before .before .before .before .r .given .1) _ (c .before .before .before .before .before .before .before .before .before .leads-to .ensures) _ _ _ (c .before .before .before .before .before .before .errors .ensures) _ _ (c .enum-told2 .given .1)
+returns-2 c =
+    let at-errors = c .before .before .before .before .before .before in
+    let at-leads-to = at-errors .before .before .before in
+    let at-r = at-leads-to .before .before .before in
+    let at-list = at-r .before .before .before .before .before .before in
+    second-faulty _ _ _ _ _ _ _ _ _ _ (at-list .list .ensures) _ _ (at-r .r .given .1) _ (at-leads-to .leads-to .ensures) _ _ _ (at-errors .errors .ensures) _ _
+    (c .enum-told2 .given .1)
 
--- src/lib.rt:176:28
 add-set-link : tie.Need-add-set-link
-add-set-link c = omega (arith, link-small _ _ _ _ _ _ _ (c .before .before .before .before .before .before .before .before .before .before .before .before .before .before .before .before .before .before .before .before .before .before .before .before .before .before .pre))
+add-set-link c =
+    let start = c .before .before .before .before .before .before .before .before .before .before .before .before .before .before .before .before .before .before .before .before .before .before .before .before .before .before in
+    omega (arith, link-small _ _ _ _ _ _ _ (start .pre))
 
--- src/lib.rt:176:5
 set-link-requires : tie.Need-set-link-requires
-set-link-requires c κs = (link-room _ _ _ _ _ _ _ _ _ _ (c .before .before .before .before .before .before .before .before .before .before .before .before .before .before .before .before .before .before .before .before .list .ensures) _ _ (c .before .before .before .before .before .before .before .before .before .before .before .before .before .before .r .given .1) _ (c .before .before .before .before .before .before .before .before .before .before .before .leads-to .ensures) _ _ _ (c .before .before .before .before .before .before .before .before .errors .ensures) _ _ (c .before .before .r2 .given .1) (c .before .before .before .before .before .before .before .before .before .before .before .before .before .before .before .before .before .before .before .before .before .before .before .before .before .before .pre) (search needs), leads-few _ _ _ (c .before .before .before .before .before .before .before .before .before .before .before .leads-to .ensures) (e-small _ _ _ _ _ _ _ _ _ _ (c .before .before .before .before .before .before .before .before .before .before .before .before .before .before .before .before .before .before .before .before .list .ensures) _ _ (c .before .before .before .before .before .before .before .before .before .before .before .before .before .before .r .given .1) (c .before .before .before .before .before .before .before .before .before .before .before .before .before .before .before .before .before .before .before .before .before .before .before .before .before .before .pre)))
+set-link-requires c κs =
+    let at-errors = c .before .before .before .before .before .before .before .before in
+    let at-leads-to = at-errors .before .before .before in
+    let at-r = at-leads-to .before .before .before in
+    let at-list = at-r .before .before .before .before .before .before in
+    let start = at-list .before .before .before .before .before .before in (
+      link-room _ _ _ _ _ _ _ _ _ _ (at-list .list .ensures) _ _ (at-r .r .given .1) _ (at-leads-to .leads-to .ensures) _ _ _ (at-errors .errors .ensures) _ _
+          (c .before .before .r2 .given .1) (start .pre) (search needs),
+      leads-few _ _ _ (at-leads-to .leads-to .ensures)
+          (e-small _ _ _ _ _ _ _ _ _ _ (at-list .list .ensures) _ _ (at-r .r .given .1) (start .pre)),
+    )
 
--- src/lib.rt:154:1
 same-length-5 : tie.Need-same-length-5
 same-length-5 c = search needs
 
--- src/lib.rt:154:1
 same-length-6 : tie.Need-same-length-6
 same-length-6 c = search needs
 
--- src/lib.rt:154:1
 returns-3 : tie.Need-returns-3
-returns-3 c = lists-done _ _ _ _ _ _ _ _ _ _ (c .before .before .before .before .before .before .before .before .before .before .before .before .before .before .before .before .before .before .before .before .before .before .before .list .ensures) _ _ (c .before .before .before .before .before .before .before .before .before .before .before .before .before .before .before .before .before .r .given .1) _ (c .before .before .before .before .before .before .before .before .before .before .before .before .before .before .leads-to .ensures) _ _ _ (c .before .before .before .before .before .before .before .before .before .before .before .errors .ensures) _ _ (c .before .before .before .before .before .r2 .given .1) _ (c .before .before .set-link .ensures)
+returns-3 c =
+    let at-r2 = c .before .before .before .before .before in
+    let at-errors = at-r2 .before .before .before .before .before .before in
+    let at-leads-to = at-errors .before .before .before in
+    let at-r = at-leads-to .before .before .before in
+    let at-list = at-r .before .before .before .before .before .before in
+    lists-done _ _ _ _ _ _ _ _ _ _ (at-list .list .ensures) _ _ (at-r .r .given .1) _ (at-leads-to .leads-to .ensures) _ _ _ (at-errors .errors .ensures) _ _
+    (at-r2 .r2 .given .1) _ (c .before .before .set-link .ensures)
 
 pub lists-spec : {M : Type 1} → statement M
 lists-spec =

@@ -5,19 +5,15 @@ use Rattle.routines.proofs.name_of.Tie as tie
 use Rattle.routines.proofs.name_of.Reads as reads
 use Rattle.routines.proofs.name_of.Lts as lts
 
--- src/lib.rt:70:16
 add-result : tie.Need-add-result
 add-result c = search needs
 
--- src/lib.rt:70:9
 returns : tie.Need-returns
 returns c = search (needs, name-next)
 
--- src/lib.rt:72:5
 add-result-2 : tie.Need-add-result-2
 add-result-2 c = search needs
 
--- src/lib.rt:65:1
 returns-2 : tie.Need-returns-2
 returns-2 c = search (needs, name-later)
 

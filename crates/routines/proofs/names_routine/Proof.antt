@@ -5,15 +5,12 @@ use Rattle.routines.proofs.names_routine.Tie as tie
 use Rattle.routines.proofs.names_routine.Reads as reads
 use Rattle.routines.proofs.names_routine.Lts as lts
 
--- src/lib.rt:46:9
 returns : tie.Need-returns
 returns c = search (needs, other-kind)
 
--- src/lib.rt:48:5
 cast-result : tie.Need-cast-result
 cast-result c = search needs
 
--- src/lib.rt:42:1
 returns-2 : tie.Need-returns-2
 returns-2 c = search (needs, of-kind)
 

@@ -6,27 +6,21 @@ use Rattle.routines.proofs.result_of.Reads as reads
 use Rattle.routines.proofs.result_of.Lts as lts
 use Rattle.store.proofs.sort.Reads as sort-reads
 
--- src/lib.rt:56:8
 sort-requires : tie.Need-sort-requires
 sort-requires c κs = search needs
 
--- src/lib.rt:57:9
 returns : tie.Need-returns
 returns c = search (needs, a-proc-head)
 
--- src/lib.rt:59:27
 add-sort : tie.Need-add-sort
 add-sort c = search needs
 
--- src/lib.rt:59:8
 sort-requires-2 : tie.Need-sort-requires-2
 sort-requires-2 c κs = search needs
 
--- src/lib.rt:60:9
 returns-2 : tie.Need-returns-2
 returns-2 c = search (needs, a-bool-head)
 
--- src/lib.rt:52:1
 returns-3 : tie.Need-returns-3
 returns-3 c = search (needs, a-num-head)
 

@@ -12,61 +12,71 @@ use Rattle.routines.proofs.names_routine.Reads as names-routine-reads
 use Rattle.routines.proofs.result_of.Reads as result-of-reads
 use Rattle.routines.proofs.scope.Reads as scope-reads
 
--- src/lib.rt:222:9
 result-of-requires : tie.Need-result-of-requires
 result-of-requires c κs = search (needs, head-room)
 
--- src/lib.rt:223:9
 name-of-requires : tie.Need-name-of-requires
 name-of-requires c κs = search (needs, head-small)
 
--- src/lib.rt:224:9
 meaning-requires : tie.Need-meaning-requires
 meaning-requires c κs = search (needs, name-room)
 
--- src/lib.rt:225:9
 names-routine-requires : tie.Need-names-routine-requires
 names-routine-requires c κs = search needs
 
--- src/lib.rt:226:9
 same-length : tie.Need-same-length
 same-length c = search needs
 
--- src/lib.rt:226:9
 same-length-2 : tie.Need-same-length-2
 same-length-2 c = search needs
 
--- src/lib.rt:226:9
 returns : tie.Need-returns
-returns c = routine-taken _ _ _ _ _ _ _ (c .before .before .before .before .before .before .result-of .ensures) (c .before .before .before .before .before .name-of .ensures) _ (c .before .before .meaning .ensures) (sym (c .before .names-routine .ensures) ∙ not-true _ (c .if1 .taken))
+returns c =
+    let at-name-of = c .before .before .before .before .before in
+    let at-result-of = at-name-of .before in
+    routine-taken _ _ _ _ _ _ _ (at-result-of .result-of .ensures) (at-name-of .name-of .ensures) _ (c .before .before .meaning .ensures)
+    (sym (c .before .names-routine .ensures) ∙ not-true _ (c .if1 .taken))
 
--- src/lib.rt:229:9
 same-length-3 : tie.Need-same-length-3
 same-length-3 c = search needs
 
--- src/lib.rt:229:9
 same-length-4 : tie.Need-same-length-4
 same-length-4 c = search needs
 
--- src/lib.rt:229:9
 returns-2 : tie.Need-returns-2
-returns-2 c = routine-many _ _ _ _ _ _ _ (c .before .before .before .before .before .before .before .result-of .ensures) (c .before .before .before .before .before .before .name-of .ensures) _ (c .before .before .before .meaning .ensures) (sym (c .before .before .names-routine .ensures) ∙ not-false _ (c .before .if1 .left)) (c .if2 .taken)
+returns-2 c =
+    let at-name-of = c .before .before .before .before .before .before in
+    let at-result-of = at-name-of .before in
+    routine-many _ _ _ _ _ _ _ (at-result-of .result-of .ensures) (at-name-of .name-of .ensures) _ (c .before .before .before .meaning .ensures)
+    (sym (c .before .before .names-routine .ensures) ∙ not-false _ (c .before .if1 .left)) (c .if2 .taken)
 
--- src/lib.rt:231:5
 scope-requires : tie.Need-scope-requires
-scope-requires c κs = routine-scope _ _ _ _ _ _ _ (c .before .before .before .before .before .before .before .before .before .result-of .ensures) (c .before .before .before .before .before .before .before .before .name-of .ensures) _ (c .before .before .before .before .before .meaning .ensures) (sym (c .before .before .before .before .names-routine .ensures) ∙ not-false _ (c .before .before .before .if1 .left)) (c .before .before .if2 .left) (c .before .before .before .before .before .before .before .before .before .before .before .before .before .before .pre)
+scope-requires c κs =
+    let at-names-routine = c .before .before .before .before in
+    let at-meaning = at-names-routine .before in
+    let at-name-of = at-meaning .before .before .before in
+    let at-result-of = at-name-of .before in
+    let start = at-result-of .before .before .before .before .before in
+    routine-scope _ _ _ _ _ _ _ (at-result-of .result-of .ensures) (at-name-of .name-of .ensures) _ (at-meaning .meaning .ensures)
+    (sym (at-names-routine .names-routine .ensures) ∙ not-false _ (c .before .before .before .if1 .left)) (c .before .before .if2 .left) (start .pre)
 
--- src/lib.rt:218:1
 same-length-5 : tie.Need-same-length-5
 same-length-5 c = search needs
 
--- src/lib.rt:218:1
 same-length-6 : tie.Need-same-length-6
 same-length-6 c = search needs
 
--- src/lib.rt:218:1
 returns-3 : tie.Need-returns-3
-returns-3 c = routine-done _ _ _ _ _ _ _ (c .before .before .before .before .before .before .before .before .before .before .before .before .before .before .result-of .ensures) (c .before .before .before .before .before .before .before .before .before .before .before .before .before .name-of .ensures) _ (c .before .before .before .before .before .before .before .before .before .before .meaning .ensures) (sym (c .before .before .before .before .before .before .before .before .before .names-routine .ensures) ∙ not-false _ (c .before .before .before .before .before .before .before .before .if1 .left)) (c .before .before .before .before .before .before .before .if2 .left) _ _ _ (c .before .before .before .before .scope .ensures)
+returns-3 c =
+    let at-scope = c .before .before .before .before in
+    let at-if2 = at-scope .before .before .before in
+    let at-if1 = at-if2 .before in
+    let at-names-routine = at-if1 .before in
+    let at-meaning = at-names-routine .before in
+    let at-name-of = at-meaning .before .before .before in
+    let at-result-of = at-name-of .before in
+    routine-done _ _ _ _ _ _ _ (at-result-of .result-of .ensures) (at-name-of .name-of .ensures) _ (at-meaning .meaning .ensures)
+    (sym (at-names-routine .names-routine .ensures) ∙ not-false _ (at-if1 .if1 .left)) (at-if2 .if2 .left) _ _ _ (at-scope .scope .ensures)
 
 pub routine-spec : {M : Type 1} → statement M
 routine-spec =

@@ -5,7 +5,7 @@ use Rattle.simple.proofs.assign_call.Statement.{statement}
 use Rattle.simple.proofs.assign_call.Tie as tie
 
 add-call-for : tie.Need-add-call-for
-add-call-for c = omega (arith, assign-small _ _ _ _ (c .before .before .before .pre))
+add-call-for c = omega (arith, assign-small _ _ _ _ (c .before .before .before .pre .0))
 
 call-for-requires : tie.Need-call-for-requires
 call-for-requires c κs = search needs
@@ -23,19 +23,35 @@ returns : tie.Need-returns
 returns c = search (needs, call-faulty)
 
 head-requires : tie.Need-head-requires
-head-requires c κs = assign-fits _ _ _ _ _ (c .before .before .before .before .before .before .before .before .before .before .pre) _ _ (c .before .before .before .before .before .before .call-for .ensures) _ _ (c .before .before .r .given .1) .1
+head-requires c κs =
+    let at-call-for = c .before .before .before .before .before .before in
+    let start = at-call-for .before .before .before .before in
+    assign-fits _ _ _ _ _ (start .pre .0) _ _ (at-call-for .call-for .ensures) _ _ (c .before .before .r .given .1) (start .pre .1) .1
 
 add-set-word : tie.Need-add-set-word
 add-set-word c = search needs
 
 add-set-word-2 : tie.Need-add-set-word-2
-add-set-word-2 c = omega (arith, assign-fits _ _ _ _ _ (c .before .before .before .before .before .before .before .before .before .before .before .before .pre) _ _ (c .before .before .before .before .before .before .before .before .call-for .ensures) _ _ (c .before .before .before .before .r .given .1) .0)
+add-set-word-2 c =
+    let at-r = c .before .before .before .before in
+    let at-call-for = at-r .before .before .before .before in
+    let start = at-call-for .before .before .before .before in
+    omega (arith, assign-fits _ _ _ _ _ (start .pre .0) _ _ (at-call-for .call-for .ensures) _ _ (at-r .r .given .1) (start .pre .1) .0)
 
 set-word-requires : tie.Need-set-word-requires
-set-word-requires c κs = let x = assign-fits _ _ _ _ _ (c .before .before .before .before .before .before .before .before .before .before .before .before .pre) _ _ (c .before .before .before .before .before .before .before .before .call-for .ensures) _ _ (c .before .before .before .before .r .given .1) in let y = assign-op-fits _ _ _ _ _ (c .before .before .before .before .before .before .before .before .before .before .before .before .pre) _ _ (c .before .before .before .before .before .before .before .before .call-for .ensures) _ _ (c .before .before .before .before .r .given .1) _ (c .before .head .ensures) in let u = x .0 in let v = x .1 in search needs
+set-word-requires c κs =
+    let at-r = c .before .before .before .before in
+    let at-call-for = at-r .before .before .before .before in
+    let start = at-call-for .before .before .before .before in
+    let x = assign-fits _ _ _ _ _ (start .pre .0) _ _ (at-call-for .call-for .ensures) _ _ (at-r .r .given .1) (start .pre .1) in let y = assign-op-fits _ _ _ _ _ (start .pre .0) _ _
+    (at-call-for .call-for .ensures) _ _ (at-r .r .given .1) (start .pre .1) _ (c .before .head .ensures) in let u = x .0 in let v = x .1 in search needs
 
 add-t12 : tie.Need-add-t12
-add-t12 c = omega (arith, assign-fits _ _ _ _ _ (c .before .before .before .before .before .before .before .before .before .before .before .before .before .before .before .pre) _ _ (c .before .before .before .before .before .before .before .before .before .before .before .call-for .ensures) _ _ (c .before .before .before .before .before .before .before .r .given .1) .0)
+add-t12 c =
+    let at-r = c .before .before .before .before .before .before .before in
+    let at-call-for = at-r .before .before .before .before in
+    let start = at-call-for .before .before .before .before in
+    omega (arith, assign-fits _ _ _ _ _ (start .pre .0) _ _ (at-call-for .call-for .ensures) _ _ (at-r .r .given .1) (start .pre .1) .0)
 
 same-length-2 : tie.Need-same-length-2
 same-length-2 c = search needs

@@ -23,22 +23,43 @@ returns : tie.Need-returns
 returns c = search (needs, assigned-faulty)
 
 set-link-requires : tie.Need-set-link-requires
-set-link-requires c κs = let x = value-end _ _ _ _ _ (c .before .before .before .before .before .before .before .before .before .before .pre) _ _ (c .before .before .before .before .before .before .of-type .ensures) _ _ (c .before .before .r .given .1) in (x .1, omega (arith, x .0))
+set-link-requires c κs =
+    let at-of-type = c .before .before .before .before .before .before in
+    let start = at-of-type .before .before .before .before in
+    let x = value-end _ _ _ _ _ (start .pre) _ _ (at-of-type .of-type .ensures) _ _ (c .before .before .r .given .1) in (x .1, omega (arith, x .0))
 
 add-set-link : tie.Need-add-set-link
-add-set-link c = omega (arith, value-end _ _ _ _ _ (c .before .before .before .before .before .before .before .before .before .before .before .before .before .before .pre) _ _ (c .before .before .before .before .before .before .before .before .before .before .of-type .ensures) _ _ (c .before .before .before .before .before .before .r .given .1) .0)
+add-set-link c =
+    let at-r = c .before .before .before .before .before .before in
+    let at-of-type = at-r .before .before .before .before in
+    let start = at-of-type .before .before .before .before in
+    omega (arith, value-end _ _ _ _ _ (start .pre) _ _ (at-of-type .of-type .ensures) _ _ (at-r .r .given .1) .0)
 
 set-link-requires-2 : tie.Need-set-link-requires-2
-set-link-requires-2 c κs = let x = value-end _ _ _ _ _ (c .before .before .before .before .before .before .before .before .before .before .before .before .before .before .pre) _ _ (c .before .before .before .before .before .before .before .before .before .before .of-type .ensures) _ _ (c .before .before .before .before .before .before .r .given .1) in (omega (arith, x .2, c .before .before .before .set-link .ensures .kept .long), omega (arith, x .0))
+set-link-requires-2 c κs =
+    let at-r = c .before .before .before .before .before .before in
+    let at-of-type = at-r .before .before .before .before in
+    let start = at-of-type .before .before .before .before in
+    let x = value-end _ _ _ _ _ (start .pre) _ _ (at-of-type .of-type .ensures) _ _ (at-r .r .given .1) in
+    (omega (arith, x .2, c .before .before .before .set-link .ensures .kept .long), omega (arith, x .0))
 
 add-t11 : tie.Need-add-t11
-add-t11 c = omega (arith, value-end _ _ _ _ _ (c .before .before .before .before .before .before .before .before .before .before .before .before .before .before .before .before .before .pre) _ _ (c .before .before .before .before .before .before .before .before .before .before .before .before .before .of-type .ensures) _ _ (c .before .before .before .before .before .before .before .before .before .r .given .1) .0)
+add-t11 c =
+    let at-r = c .before .before .before .before .before .before .before .before .before in
+    let at-of-type = at-r .before .before .before .before in
+    let start = at-of-type .before .before .before .before in
+    omega (arith, value-end _ _ _ _ _ (start .pre) _ _ (at-of-type .of-type .ensures) _ _ (at-r .r .given .1) .0)
 
 same-length-2 : tie.Need-same-length-2
 same-length-2 c = search needs
 
 returns-2 : tie.Need-returns-2
-returns-2 c = assigned-typed _ _ _ _ _ _ _ (c .before .before .before .before .before .before .before .before .before .before .before .before .before .of-type .ensures) _ _ (c .before .before .before .before .before .before .before .before .before .r .given .1) _ (c .before .before .before .before .before .before .set-link .ensures) _ (c .before .before .set-link2 .ensures)
+returns-2 c =
+    let at-set-link = c .before .before .before .before .before .before in
+    let at-r = at-set-link .before .before .before in
+    let at-of-type = at-r .before .before .before .before in
+    assigned-typed _ _ _ _ _ _ _ (at-of-type .of-type .ensures) _ _ (at-r .r .given .1) _ (at-set-link .set-link .ensures) _
+    (c .before .before .set-link2 .ensures)
 
 pub assign-value-spec : {M : Type 1} → statement M
 assign-value-spec =

@@ -1,5 +1,5 @@
 use borrow.Author.Needs.{needs}
-use Rattle.simple.proofs.Whole.{assign-targets, assign-end, call-assigns, value-assigns, assigned-no-target, assigned-call, assigned-value}
+use Rattle.simple.proofs.Whole.{assign-targets, assign-end, call-assigns, call-type, value-assigns, assigned-no-target, assigned-call, assigned-value}
 use native.Mathlib.Omega.{arith}
 use Rattle.simple.proofs.assignment.Statement.{statement}
 use Rattle.simple.proofs.assignment.Tie as tie
@@ -20,13 +20,25 @@ returns : tie.Need-returns
 returns c = search (needs, assigned-no-target)
 
 add-is-call : tie.Need-add-is-call
-add-is-call c = omega (arith, assign-end _ _ _ (c .before .before .before .before .before .before .before .before .before .before .pre) _ _ (c .before .before .before .before .before .before .target .ensures) _ _ (c .before .before .r .given .1) .0)
+add-is-call c =
+    let at-target = c .before .before .before .before .before .before in
+    let start = at-target .before .before .before .before in
+    omega (arith, assign-end _ _ _ (start .pre) _ _ (at-target .target .ensures) _ _ (c .before .before .r .given .1) .0)
 
 is-call-requires : tie.Need-is-call-requires
-is-call-requires c κs = assign-end _ _ _ (c .before .before .before .before .before .before .before .before .before .before .pre) _ _ (c .before .before .before .before .before .before .target .ensures) _ _ (c .before .before .r .given .1) .1
+is-call-requires c κs =
+    let at-target = c .before .before .before .before .before .before in
+    let start = at-target .before .before .before .before in
+    assign-end _ _ _ (start .pre) _ _ (at-target .target .ensures) _ _ (c .before .before .r .given .1) .1
 
 assign-call-requires : tie.Need-assign-call-requires
-assign-call-requires c κs = call-assigns _ _ _ (c .before .before .before .before .before .before .before .before .before .before .before .before .before .pre) _ _ (c .before .before .before .before .before .before .before .before .before .target .ensures) _ _ (c .before .before .before .before .before .r .given .1) _ (c .before .before .is-call .ensures) (c .before .if1 .taken)
+assign-call-requires c κs =
+    let at-r = c .before .before .before .before .before in
+    let at-target = at-r .before .before .before .before in
+    let start = at-target .before .before .before .before in (
+      call-assigns _ _ _ (start .pre) _ _ (at-target .target .ensures) _ _ (at-r .r .given .1) _ (c .before .before .is-call .ensures) (c .before .if1 .taken),
+      call-type _ _ _ (start .pre) _ _ (at-target .target .ensures) _ _ (at-r .r .given .1) _ (c .before .before .is-call .ensures) (c .before .if1 .taken),
+    )
 
 same-length-2 : tie.Need-same-length-2
 same-length-2 c = search needs
@@ -35,7 +47,11 @@ returns-2 : tie.Need-returns-2
 returns-2 c = search (needs, assigned-call)
 
 assign-value-requires : tie.Need-assign-value-requires
-assign-value-requires c κs = value-assigns _ _ _ (c .before .before .before .before .before .before .before .before .before .before .before .before .before .pre) _ _ (c .before .before .before .before .before .before .before .before .before .target .ensures) _ _ (c .before .before .before .before .before .r .given .1) _ (c .before .before .is-call .ensures) (c .before .if1 .left)
+assign-value-requires c κs =
+    let at-r = c .before .before .before .before .before in
+    let at-target = at-r .before .before .before .before in
+    let start = at-target .before .before .before .before in
+    value-assigns _ _ _ (start .pre) _ _ (at-target .target .ensures) _ _ (at-r .r .given .1) _ (c .before .before .is-call .ensures) (c .before .if1 .left)
 
 same-length-3 : tie.Need-same-length-3
 same-length-3 c = search needs

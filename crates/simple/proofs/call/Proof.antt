@@ -8,7 +8,9 @@ count-arguments-requires : tie.Need-count-arguments-requires
 count-arguments-requires c κs = search needs
 
 head-requires : tie.Need-head-requires
-head-requires c κs = head-room _ _ _ _ _ _ (c .before .before .before .before .before .pre .0) .0
+head-requires c κs =
+    let start = c .before .before .before .before .before in
+    head-room _ _ _ _ _ _ (start .pre .0) .0
 
 same-length : tie.Need-same-length
 same-length c = search needs
@@ -17,10 +19,14 @@ returns : tie.Need-returns
 returns c = search (needs, called-wrong)
 
 cast-set-word : tie.Need-cast-set-word
-cast-set-word c = omega (arith, head-room _ _ _ _ _ _ (c .before .before .before .before .before .before .before .before .before .pre .0) .1)
+cast-set-word c =
+    let start = c .before .before .before .before .before .before .before .before .before in
+    omega (arith, head-room _ _ _ _ _ _ (start .pre .0) .1)
 
 set-word-requires : tie.Need-set-word-requires
-set-word-requires c κs = let x = callee-room _ _ _ _ _ _ (c .before .before .before .before .before .before .before .before .before .pre .0) in (x .0, c .before .before .before .before .before .before .before .before .before .pre .1, omega (arith, head-room _ _ _ _ _ _ (c .before .before .before .before .before .before .before .before .before .pre .0) .1), omega (arith, x .2))
+set-word-requires c κs =
+    let start = c .before .before .before .before .before .before .before .before .before in
+    let x = callee-room _ _ _ _ _ _ (start .pre .0) in (x .0, start .pre .1, omega (arith, head-room _ _ _ _ _ _ (start .pre .0) .1), omega (arith, x .2))
 
 same-length-2 : tie.Need-same-length-2
 same-length-2 c = search needs
@@ -29,10 +35,18 @@ returns-2 : tie.Need-returns-2
 returns-2 c = search (needs, called-none)
 
 first-parameter-requires : tie.Need-first-parameter-requires
-first-parameter-requires c κs = head-room _ _ _ _ _ _ (c .before .before .before .before .before .before .before .before .before .pre .0)
+first-parameter-requires c κs =
+    let start = c .before .before .before .before .before .before .before .before .before in
+    head-room _ _ _ _ _ _ (start .pre .0)
 
 argument-requires : tie.Need-argument-requires
-argument-requires c κs = let x = call-asks _ _ _ _ _ _ (c .before .before .before .before .before .before .before .before .before .before .before .pre .0) _ (c .before .before .before .before .before .before .before .count-arguments .ensures) _ (c .before .before .before .before .before .head .ensures) (c .before .before .before .before .if1 .left) (c .before .before .before .if2 .left) _ (c .before .first-parameter .ensures) in (x .0, x .2)
+argument-requires c κs =
+    let at-if1 = c .before .before .before .before in
+    let at-head = at-if1 .before in
+    let at-count-arguments = at-head .before .before in
+    let start = at-count-arguments .before .before .before .before in
+    let x = call-asks _ _ _ _ _ _ (start .pre .0) _ (at-count-arguments .count-arguments .ensures) _ (at-head .head .ensures) (at-if1 .if1 .left)
+    (c .before .before .before .if2 .left) _ (c .before .first-parameter .ensures) in (x .0, x .2)
 
 enum-known-r : tie.Need-enum-known-r
 enum-known-r c = search needs
@@ -47,13 +61,36 @@ returns-3 : tie.Need-returns-3
 returns-3 c = search (needs, called-faulty)
 
 cast-set-word-2 : tie.Need-cast-set-word-2
-cast-set-word-2 c = omega (arith, head-room _ _ _ _ _ _ (c .before .before .before .before .before .before .before .before .before .before .before .before .before .before .before .before .before .before .pre .0) .1)
+cast-set-word-2 c =
+    let start = c .before .before .before .before .before .before .before .before .before .before .before .before .before .before .before .before .before .before in
+    omega (arith, head-room _ _ _ _ _ _ (start .pre .0) .1)
 
 set-word-requires-2 : tie.Need-set-word-requires-2
-set-word-requires-2 c κs = let x = first-end _ _ _ _ _ _ (c .before .before .before .before .before .before .before .before .before .before .before .before .before .before .before .before .before .before .pre .0) _ (c .before .before .before .before .before .before .before .before .before .before .before .before .before .before .count-arguments .ensures) _ (c .before .before .before .before .before .before .before .before .before .before .before .before .head .ensures) (c .before .before .before .before .before .before .before .before .before .before .before .if1 .left) (c .before .before .before .before .before .before .before .before .before .before .if2 .left) _ (c .before .before .before .before .before .before .before .before .first-parameter .ensures) _ _ (c .before .before .before .before .before .before .argument .ensures) _ _ (c .before .before .r .given .1) in (x .1, c .before .before .before .before .before .before .before .before .before .before .before .before .before .before .before .before .before .before .pre .1, omega (arith, head-room _ _ _ _ _ _ (c .before .before .before .before .before .before .before .before .before .before .before .before .before .before .before .before .before .before .pre .0) .1), omega (arith, x .0))
+set-word-requires-2 c κs =
+    let at-argument = c .before .before .before .before .before .before in
+    let at-first-parameter = at-argument .before .before in
+    let at-if2 = at-first-parameter .before .before in
+    let at-if1 = at-if2 .before in
+    let at-head = at-if1 .before in
+    let at-count-arguments = at-head .before .before in
+    let start = at-count-arguments .before .before .before .before in
+    let x = first-end _ _ _ _ _ _ (start .pre .0) _ (at-count-arguments .count-arguments .ensures) _ (at-head .head .ensures) (at-if1 .if1 .left)
+    (at-if2 .if2 .left) _ (at-first-parameter .first-parameter .ensures) _ _ (at-argument .argument .ensures) _ _ (c .before .before .r .given .1) in
+    (x .1, start .pre .1, omega (arith, head-room _ _ _ _ _ _ (start .pre .0) .1), omega (arith, x .0))
 
 more-arguments-requires : tie.Need-more-arguments-requires
-more-arguments-requires c κs = call-more _ _ _ _ _ _ (c .before .before .before .before .before .before .before .before .before .before .before .before .before .before .before .before .before .before .before .before .before .before .pre .0) _ (c .before .before .before .before .before .before .before .before .before .before .before .before .before .before .before .before .before .before .count-arguments .ensures) _ (c .before .before .before .before .before .before .before .before .before .before .before .before .before .before .before .before .head .ensures) (c .before .before .before .before .before .before .before .before .before .before .before .before .before .before .before .if1 .left) (c .before .before .before .before .before .before .before .before .before .before .before .before .before .before .if2 .left) _ (c .before .before .before .before .before .before .before .before .before .before .before .before .first-parameter .ensures) _ _ (c .before .before .before .before .before .before .before .before .before .before .argument .ensures) _ _ (c .before .before .before .before .before .before .r .given .1) _ _ (c .before .before .before .set-word2 .ensures)
+more-arguments-requires c κs =
+    let at-r = c .before .before .before .before .before .before in
+    let at-argument = at-r .before .before .before .before in
+    let at-first-parameter = at-argument .before .before in
+    let at-if2 = at-first-parameter .before .before in
+    let at-if1 = at-if2 .before in
+    let at-head = at-if1 .before in
+    let at-count-arguments = at-head .before .before in
+    let start = at-count-arguments .before .before .before .before in
+    call-more _ _ _ _ _ _ (start .pre .0) _ (at-count-arguments .count-arguments .ensures) _ (at-head .head .ensures) (at-if1 .if1 .left) (at-if2 .if2 .left) _
+    (at-first-parameter .first-parameter .ensures) _ _ (at-argument .argument .ensures) _ _ (at-r .r .given .1) _ _
+    (c .before .before .before .set-word2 .ensures)
 
 same-length-4 : tie.Need-same-length-4
 same-length-4 c = search needs

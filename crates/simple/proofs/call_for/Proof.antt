@@ -14,10 +14,16 @@ enum-known-h : tie.Need-enum-known-h
 enum-known-h c = search needs
 
 add-head : tie.Need-add-head
-add-head c = omega (arith, for-head _ _ _ (c .before .before .before .before .before .before .before .before .pre) _ (c .before .before .before .before .callee-at .ensures) _ (c .before .before .h .given .1) .0)
+add-head c =
+    let at-callee-at = c .before .before .before .before in
+    let start = at-callee-at .before .before .before .before in
+    omega (arith, for-head _ _ _ (start .pre) _ (at-callee-at .callee-at .ensures) _ (c .before .before .h .given .1) .0)
 
 head-requires : tie.Need-head-requires
-head-requires c κs = for-head _ _ _ (c .before .before .before .before .before .before .before .before .pre) _ (c .before .before .before .before .callee-at .ensures) _ (c .before .before .h .given .1) .1
+head-requires c κs =
+    let at-callee-at = c .before .before .before .before in
+    let start = at-callee-at .before .before .before .before in
+    for-head _ _ _ (start .pre) _ (at-callee-at .callee-at .ensures) _ (c .before .before .h .given .1) .1
 
 differs-requires : tie.Need-differs-requires
 differs-requires c κs = search needs
@@ -29,10 +35,16 @@ returns : tie.Need-returns
 returns c = search (needs, for-differs)
 
 add-call : tie.Need-add-call
-add-call c = omega (arith, for-small _ _ _ (c .before .before .before .before .before .before .before .before .before .before .before .before .pre))
+add-call c =
+    let start = c .before .before .before .before .before .before .before .before .before .before .before .before in
+    omega (arith, for-small _ _ _ (start .pre))
 
 call-requires : tie.Need-call-requires
-call-requires c κs = (for-side _ _ _ (c .before .before .before .before .before .before .before .before .before .before .before .before .pre) _ (c .before .before .before .before .before .before .before .before .callee-at .ensures) _ (c .before .before .before .before .before .before .h .given .1), omega arith)
+call-requires c κs =
+    let at-h = c .before .before .before .before .before .before in
+    let at-callee-at = at-h .before .before in
+    let start = at-callee-at .before .before .before .before in
+    (for-side _ _ _ (start .pre) _ (at-callee-at .callee-at .ensures) _ (at-h .h .given .1), omega arith)
 
 same-length-2 : tie.Need-same-length-2
 same-length-2 c = search needs

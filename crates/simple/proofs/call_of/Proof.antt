@@ -14,10 +14,15 @@ enum-known-h : tie.Need-enum-known-h
 enum-known-h c = search needs
 
 add-call : tie.Need-add-call
-add-call c = omega (arith, of-small _ _ _ (c .before .before .before .before .before .before .before .before .pre))
+add-call c =
+    let start = c .before .before .before .before .before .before .before .before in
+    omega (arith, of-small _ _ _ (start .pre))
 
 call-requires : tie.Need-call-requires
-call-requires c κs = (of-side _ _ _ (c .before .before .before .before .before .before .before .before .pre) _ (c .before .before .before .before .callee-at .ensures) _ (c .before .before .h .given .1), omega arith)
+call-requires c κs =
+    let at-callee-at = c .before .before .before .before in
+    let start = at-callee-at .before .before .before .before in
+    (of-side _ _ _ (start .pre) _ (at-callee-at .callee-at .ensures) _ (c .before .before .h .given .1), omega arith)
 
 enum-known-r : tie.Need-enum-known-r
 enum-known-r c = search needs
@@ -32,13 +37,34 @@ returns : tie.Need-returns
 returns c = search (needs, called-of-faulty)
 
 add-set-word : tie.Need-add-set-word
-add-set-word c = omega (arith, of-end _ _ _ (c .before .before .before .before .before .before .before .before .before .before .before .before .before .before .before .pre) _ (c .before .before .before .before .before .before .before .before .before .before .before .callee-at .ensures) _ (c .before .before .before .before .before .before .before .before .before .h .given .1) _ _ (c .before .before .before .before .before .before .call .ensures) _ _ (c .before .before .r .given .1) .0)
+add-set-word c =
+    let at-call = c .before .before .before .before .before .before in
+    let at-h = at-call .before .before .before in
+    let at-callee-at = at-h .before .before in
+    let start = at-callee-at .before .before .before .before in
+    omega (
+      arith,
+      of-end _ _ _ (start .pre) _ (at-callee-at .callee-at .ensures) _ (at-h .h .given .1) _ _ (at-call .call .ensures) _ _
+          (c .before .before .r .given .1) .0,
+    )
 
 set-word-requires : tie.Need-set-word-requires
-set-word-requires c κs = let x = of-end _ _ _ (c .before .before .before .before .before .before .before .before .before .before .before .before .before .before .before .pre) _ (c .before .before .before .before .before .before .before .before .before .before .before .callee-at .ensures) _ (c .before .before .before .before .before .before .before .before .before .h .given .1) _ _ (c .before .before .before .before .before .before .call .ensures) _ _ (c .before .before .r .given .1) in (x .1, omega arith, omega arith, omega (arith, x .0))
+set-word-requires c κs =
+    let at-call = c .before .before .before .before .before .before in
+    let at-h = at-call .before .before .before in
+    let at-callee-at = at-h .before .before in
+    let start = at-callee-at .before .before .before .before in
+    let x = of-end _ _ _ (start .pre) _ (at-callee-at .callee-at .ensures) _ (at-h .h .given .1) _ _ (at-call .call .ensures) _ _
+    (c .before .before .r .given .1) in (x .1, omega arith, omega arith, omega (arith, x .0))
 
 add-t15 : tie.Need-add-t15
-add-t15 c = omega (arith, of-end _ _ _ (c .before .before .before .before .before .before .before .before .before .before .before .before .before .before .before .before .before .before .pre) _ (c .before .before .before .before .before .before .before .before .before .before .before .before .before .before .callee-at .ensures) _ (c .before .before .before .before .before .before .before .before .before .before .before .before .h .given .1) _ _ (c .before .before .before .before .before .before .before .before .before .call .ensures) _ _ (c .before .before .before .before .before .r .given .1) .0)
+add-t15 c =
+    let at-r = c .before .before .before .before .before in
+    let at-call = at-r .before .before .before .before in
+    let at-h = at-call .before .before .before in
+    let at-callee-at = at-h .before .before in
+    let start = at-callee-at .before .before .before .before in
+    omega (arith, of-end _ _ _ (start .pre) _ (at-callee-at .callee-at .ensures) _ (at-h .h .given .1) _ _ (at-call .call .ensures) _ _ (at-r .r .given .1) .0)
 
 same-length-2 : tie.Need-same-length-2
 same-length-2 c = search needs

@@ -30,13 +30,19 @@ counted-requires : tie.Need-counted-requires Inv-loop μ-loop
 counted-requires c κs = search needs
 
 add-count : tie.Need-add-count Inv-loop μ-loop
-add-count c = let z = goes-room _ _ _ _ _ (c .before .before .before .loop .inv) (c .before .before .before .before .before .before .before .pre) in omega (arith, z .2, c .counted .ensures .few)
+add-count c =
+    let start = c .before .before .before .before .before .before .before in
+    let z = goes-room _ _ _ _ _ (c .before .before .before .loop .inv) (start .pre) in omega (arith, z .2, c .counted .ensures .few)
 
 add-i : tie.Need-add-i Inv-loop μ-loop
-add-i c = let z = goes-room _ _ _ _ _ (c .before .before .before .loop .inv) (c .before .before .before .before .before .before .before .pre) in omega (arith, z .1)
+add-i c =
+    let start = c .before .before .before .before .before .before .before in
+    let z = goes-room _ _ _ _ _ (c .before .before .before .loop .inv) (start .pre) in omega (arith, z .1)
 
 loop-less : tie.Need-loop-less Inv-loop μ-loop
-loop-less c = let z = goes-room _ _ _ _ _ (c .before .before .before .loop .inv) (c .before .before .before .before .before .before .before .pre) in omega (arith, z .1)
+loop-less c =
+    let start = c .before .before .before .before .before .before .before in
+    let z = goes-room _ _ _ _ _ (c .before .before .before .loop .inv) (start .pre) in omega (arith, z .1)
 
 loop-again : tie.Need-loop-again Inv-loop μ-loop
 loop-again c = search (needs, goes-on)

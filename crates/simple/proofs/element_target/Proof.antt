@@ -35,16 +35,36 @@ add-set-head-2 : tie.Need-add-set-head-2
 add-set-head-2 c = search needs
 
 set-head-requires : tie.Need-set-head-requires
-set-head-requires c κs = let x = index-end _ _ _ _ (c .before .before .before .before .before .before .before .before .before .before .before .pre) (c .before .before .before .before .before .before .before .before .if1 .left) _ _ (c .before .before .before .before .before .before .of-type .ensures) _ _ (c .before .before .index .given .1) .1 in search needs
+set-head-requires c κs =
+    let at-of-type = c .before .before .before .before .before .before in
+    let at-if1 = at-of-type .before .before in
+    let start = at-if1 .before .before .before in
+    let x = index-end _ _ _ _ (start .pre) (at-if1 .if1 .left) _ _ (at-of-type .of-type .ensures) _ _ (c .before .before .index .given .1) .1 in search needs
 
 add-set-link : tie.Need-add-set-link
-add-set-link c = omega (arith, element-small _ _ _ _ (c .before .before .before .before .before .before .before .before .before .before .before .before .before .before .before .pre))
+add-set-link c =
+    let start = c .before .before .before .before .before .before .before .before .before .before .before .before .before .before .before in
+    omega (arith, element-small _ _ _ _ (start .pre))
 
 set-link-requires : tie.Need-set-link-requires
-set-link-requires c κs = let x = index-end _ _ _ _ (c .before .before .before .before .before .before .before .before .before .before .before .before .before .before .before .pre) (c .before .before .before .before .before .before .before .before .before .before .before .before .if1 .left) _ _ (c .before .before .before .before .before .before .before .before .before .before .of-type .ensures) _ _ (c .before .before .before .before .before .before .index .given .1) in (omega (arith, x .2, c .before .before .before .set-head .ensures .kept .long), omega (arith, x .0))
+set-link-requires c κs =
+    let at-index = c .before .before .before .before .before .before in
+    let at-of-type = at-index .before .before .before .before in
+    let at-if1 = at-of-type .before .before in
+    let start = at-if1 .before .before .before in
+    let x = index-end _ _ _ _ (start .pre) (at-if1 .if1 .left) _ _ (at-of-type .of-type .ensures) _ _ (at-index .index .given .1) in
+    (omega (arith, x .2, c .before .before .before .set-head .ensures .kept .long), omega (arith, x .0))
+
+type-of-requires : tie.Need-type-of-requires
+type-of-requires c κs = search needs
 
 add-t13 : tie.Need-add-t13
-add-t13 c = omega (arith, index-end _ _ _ _ (c .before .before .before .before .before .before .before .before .before .before .before .before .before .before .before .before .before .before .pre) (c .before .before .before .before .before .before .before .before .before .before .before .before .before .before .before .if1 .left) _ _ (c .before .before .before .before .before .before .before .before .before .before .before .before .before .of-type .ensures) _ _ (c .before .before .before .before .before .before .before .before .before .index .given .1) .0)
+add-t13 c =
+    let at-index = c .before .before .before .before .before .before .before .before .before .before in
+    let at-of-type = at-index .before .before .before .before in
+    let at-if1 = at-of-type .before .before in
+    let start = at-if1 .before .before .before in
+    omega (arith, index-end _ _ _ _ (start .pre) (at-if1 .if1 .left) _ _ (at-of-type .of-type .ensures) _ _ (at-index .index .given .1) .0)
 
 same-length-2 : tie.Need-same-length-2
 same-length-2 c = search needs
@@ -69,6 +89,7 @@ element-target-spec =
     set-head-requires
     add-set-link
     set-link-requires
+    type-of-requires
     add-t13
     same-length-2
     returns-3)

@@ -18,13 +18,21 @@ sort-requires : tie.Need-sort-requires Inv-loop μ-loop
 sort-requires c κs = run-room _ _ _ _ _ _ _ (c .before .loop .inv) (c .before .before .before .before .pre) .0
 
 add-parameter : tie.Need-add-parameter Inv-loop μ-loop
-add-parameter c = omega (arith, run-room _ _ _ _ _ _ _ (c .before .before .before .loop .inv) (c .before .before .before .before .before .before .pre) .2)
+add-parameter c =
+    let start = c .before .before .before .before .before .before in
+    omega (arith, run-room _ _ _ _ _ _ _ (c .before .before .before .loop .inv) (start .pre) .2)
 
 add-argument : tie.Need-add-argument Inv-loop μ-loop
-add-argument c = omega (arith, run-room _ _ _ _ _ _ _ (c .before .before .before .before .loop .inv) (c .before .before .before .before .before .before .before .pre) .1)
+add-argument c =
+    let at-loop = c .before .before .before .before in
+    let start = at-loop .before .before .before in
+    omega (arith, run-room _ _ _ _ _ _ _ (at-loop .loop .inv) (start .pre) .1)
 
 argument-requires : tie.Need-argument-requires Inv-loop μ-loop
-argument-requires c κs = run-asks _ _ _ _ _ _ _ (c .before .before .before .before .loop .inv) _ (c .before .before .sort .ensures) (c .before .if1 .taken) (c .before .before .before .before .before .before .before .pre)
+argument-requires c κs =
+    let at-loop = c .before .before .before .before in
+    let start = at-loop .before .before .before in
+    run-asks _ _ _ _ _ _ _ (at-loop .loop .inv) _ (c .before .before .sort .ensures) (c .before .if1 .taken) (start .pre)
 
 enum-known-r : tie.Need-enum-known-r Inv-loop μ-loop
 enum-known-r c = search needs
@@ -39,10 +47,25 @@ returns : tie.Need-returns Inv-loop μ-loop
 returns c = search (needs, run-faulty)
 
 set-word-requires : tie.Need-set-word-requires Inv-loop μ-loop
-set-word-requires c κs = let x = run-end _ _ _ _ _ _ _ (c .before .before .before .before .before .before .before .before .before .before .before .loop .inv) _ (c .before .before .before .before .before .before .before .before .before .sort .ensures) (c .before .before .before .before .before .before .before .before .if1 .taken) _ _ (c .before .before .before .before .before .before .argument .ensures) _ _ (c .before .before .r .given .1) (c .before .before .before .before .before .before .before .before .before .before .before .before .before .before .pre) in (x .2, omega arith, omega arith, omega (arith, x .0))
+set-word-requires c κs =
+    let at-argument = c .before .before .before .before .before .before in
+    let at-if1 = at-argument .before .before in
+    let at-sort = at-if1 .before in
+    let at-loop = at-sort .before .before in
+    let start = at-loop .before .before .before in
+    let x = run-end _ _ _ _ _ _ _ (at-loop .loop .inv) _ (at-sort .sort .ensures) (at-if1 .if1 .taken) _ _ (at-argument .argument .ensures) _ _
+    (c .before .before .r .given .1) (start .pre) in (x .2, omega arith, omega arith, omega (arith, x .0))
 
 loop-less : tie.Need-loop-less Inv-loop μ-loop
-loop-less c = let x = run-end _ _ _ _ _ _ _ (c .before .before .before .before .before .before .before .before .before .before .before .before .before .before .loop .inv) _ (c .before .before .before .before .before .before .before .before .before .before .before .before .sort .ensures) (c .before .before .before .before .before .before .before .before .before .before .before .if1 .taken) _ _ (c .before .before .before .before .before .before .before .before .before .argument .ensures) _ _ (c .before .before .before .before .before .r .given .1) (c .before .before .before .before .before .before .before .before .before .before .before .before .before .before .before .before .before .pre) in omega (arith, x .0, x .1)
+loop-less c =
+    let at-r = c .before .before .before .before .before in
+    let at-argument = at-r .before .before .before .before in
+    let at-if1 = at-argument .before .before in
+    let at-sort = at-if1 .before in
+    let at-loop = at-sort .before .before in
+    let start = at-loop .before .before .before in
+    let x = run-end _ _ _ _ _ _ _ (at-loop .loop .inv) _ (at-sort .sort .ensures) (at-if1 .if1 .taken) _ _ (at-argument .argument .ensures) _ _
+    (at-r .r .given .1) (start .pre) in omega (arith, x .0, x .1)
 
 loop-again : tie.Need-loop-again Inv-loop μ-loop
 loop-again c = search (needs, run-on)

@@ -1,6 +1,7 @@
 use borrow.Author.Needs.{needs}
 use Rattle.simple.proofs.Leaving.{raise-room, raise-values, raised-alone, raised-handled, raised-number}
 use native.Mathlib.Omega.{arith}
+use Rattle.layout.proofs.Typing.{num-type}
 use Rattle.simple.proofs.raises.Statement.{statement}
 use Rattle.simple.proofs.raises.Tie as tie
 
@@ -11,7 +12,9 @@ sort-requires : tie.Need-sort-requires
 sort-requires c κs = raise-room _ _ _ _ (c .before .before .before .pre) .1
 
 word-requires : tie.Need-word-requires
-word-requires c κs = let x = raise-room _ _ _ _ (c .before .before .before .before .before .before .pre) in (x .0, omega arith, omega (arith, x .2))
+word-requires c κs =
+    let start = c .before .before .before .before .before .before in
+    let x = raise-room _ _ _ _ (start .pre) in (x .0, omega arith, omega (arith, x .2))
 
 same-length : tie.Need-same-length
 same-length c = search needs
@@ -26,10 +29,14 @@ returns-2 : tie.Need-returns-2
 returns-2 c = search (needs, raised-handled)
 
 add-with-value : tie.Need-add-with-value
-add-with-value c = omega (arith, raise-room _ _ _ _ (c .before .before .before .before .before .before .before .pre) .2)
+add-with-value c =
+    let start = c .before .before .before .before .before .before .before in
+    omega (arith, raise-room _ _ _ _ (start .pre) .2)
 
 with-value-requires : tie.Need-with-value-requires
-with-value-requires c κs = (raise-values _ _ _ _ (c .before .before .before .before .before .before .before .pre) _ (c .before .before .before .sort .ensures) (c .before .before .if1 .left), omega arith)
+with-value-requires c κs =
+    let start = c .before .before .before .before .before .before .before in
+    (raise-values _ _ _ _ (start .pre) _ (c .before .before .before .sort .ensures) (c .before .before .if1 .left), omega arith, num-type)
 
 same-length-3 : tie.Need-same-length-3
 same-length-3 c = search needs

@@ -23,7 +23,9 @@ returns : tie.Need-returns
 returns c = search (needs, heard-faulty)
 
 add-t12 : tie.Need-add-t12
-add-t12 c = omega (arith, reads-small _ _ _ _ (c .before .before .before .before .before .before .before .before .before .before .before .pre))
+add-t12 c =
+    let start = c .before .before .before .before .before .before .before .before .before .before .before in
+    omega (arith, reads-small _ _ _ _ (start .pre))
 
 same-length-2 : tie.Need-same-length-2
 same-length-2 c = search needs
@@ -32,31 +34,71 @@ returns-2 : tie.Need-returns-2
 returns-2 c = search (needs, heard-wrong)
 
 add-string : tie.Need-add-string
-add-string c = omega (arith, reads-end _ _ _ _ (c .before .before .before .before .before .before .before .before .before .before .before .before .pre) _ _ (c .before .before .before .before .before .before .before .target .ensures) _ _ (c .before .before .before .r .given .1) .0)
+add-string c =
+    let at-target = c .before .before .before .before .before .before .before in
+    let start = at-target .before .before .before .before .before in
+    omega (arith, reads-end _ _ _ _ (start .pre) _ _ (at-target .target .ensures) _ _ (c .before .before .before .r .given .1) .0)
 
 string-requires : tie.Need-string-requires
-string-requires c κs = reads-string _ _ _ _ (c .before .before .before .before .before .before .before .before .before .before .before .before .pre) _ _ (c .before .before .before .before .before .before .before .target .ensures) _ _ (c .before .before .before .r .given .1) (c .before .if1 .left)
+string-requires c κs =
+    let at-target = c .before .before .before .before .before .before .before in
+    let start = at-target .before .before .before .before .before in
+    reads-string _ _ _ _ (start .pre) _ _ (at-target .target .ensures) _ _ (c .before .before .before .r .given .1) (c .before .if1 .left)
 
 add-set-word : tie.Need-add-set-word
-add-set-word c = omega (arith, reads-end _ _ _ _ (c .before .before .before .before .before .before .before .before .before .before .before .before .before .before .before .before .pre) _ _ (c .before .before .before .before .before .before .before .before .before .before .before .target .ensures) _ _ (c .before .before .before .before .before .before .before .r .given .1) .0)
+add-set-word c =
+    let at-r = c .before .before .before .before .before .before .before in
+    let at-target = at-r .before .before .before .before in
+    let start = at-target .before .before .before .before .before in
+    omega (arith, reads-end _ _ _ _ (start .pre) _ _ (at-target .target .ensures) _ _ (at-r .r .given .1) .0)
 
 cast-set-word : tie.Need-cast-set-word
-cast-set-word c = omega (arith, reads-end _ _ _ _ (c .before .before .before .before .before .before .before .before .before .before .before .before .before .before .before .before .pre) _ _ (c .before .before .before .before .before .before .before .before .before .before .before .target .ensures) _ _ (c .before .before .before .before .before .before .before .r .given .1) .0)
+cast-set-word c =
+    let at-r = c .before .before .before .before .before .before .before in
+    let at-target = at-r .before .before .before .before in
+    let start = at-target .before .before .before .before .before in
+    omega (arith, reads-end _ _ _ _ (start .pre) _ _ (at-target .target .ensures) _ _ (at-r .r .given .1) .0)
 
 add-set-word-2 : tie.Need-add-set-word-2
-add-set-word-2 c = omega (arith, reads-end _ _ _ _ (c .before .before .before .before .before .before .before .before .before .before .before .before .before .before .before .before .pre) _ _ (c .before .before .before .before .before .before .before .before .before .before .before .target .ensures) _ _ (c .before .before .before .before .before .before .before .r .given .1) .0)
+add-set-word-2 c =
+    let at-r = c .before .before .before .before .before .before .before in
+    let at-target = at-r .before .before .before .before in
+    let start = at-target .before .before .before .before .before in
+    omega (arith, reads-end _ _ _ _ (start .pre) _ _ (at-target .target .ensures) _ _ (at-r .r .given .1) .0)
 
 set-word-requires : tie.Need-set-word-requires
-set-word-requires c κs = let x = reads-end _ _ _ _ (c .before .before .before .before .before .before .before .before .before .before .before .before .before .before .before .before .pre) _ _ (c .before .before .before .before .before .before .before .before .before .before .before .target .ensures) _ _ (c .before .before .before .before .before .before .before .r .given .1) in (reads-room _ _ _ _ (c .before .before .before .before .before .before .before .before .before .before .before .before .before .before .before .before .pre) _ _ (c .before .before .before .before .before .before .before .before .before .before .before .target .ensures) _ _ (c .before .before .before .before .before .before .before .r .given .1) (c .before .before .before .before .before .if1 .left) _ (c .before .before .before .string .ensures) .0, omega arith, omega (arith, x .0), omega (arith, x .0))
+set-word-requires c κs =
+    let at-if1 = c .before .before .before .before .before in
+    let at-r = at-if1 .before .before in
+    let at-target = at-r .before .before .before .before in
+    let start = at-target .before .before .before .before .before in
+    let x = reads-end _ _ _ _ (start .pre) _ _ (at-target .target .ensures) _ _ (at-r .r .given .1) in (
+      reads-room _ _ _ _ (start .pre) _ _
+          (at-target .target .ensures) _ _ (at-r .r .given .1) (at-if1 .if1 .left) _ (c .before .before .before .string .ensures) .0,
+      omega arith,
+      omega
+          (arith, x .0),
+      omega (arith, x .0),
+    )
 
 add-t10 : tie.Need-add-t10
-add-t10 c = omega (arith, reads-end _ _ _ _ (c .before .before .before .before .before .before .before .before .before .before .before .before .before .before .before .before .before .before .before .pre) _ _ (c .before .before .before .before .before .before .before .before .before .before .before .before .before .before .target .ensures) _ _ (c .before .before .before .before .before .before .before .before .before .before .r .given .1) .0)
+add-t10 c =
+    let at-r = c .before .before .before .before .before .before .before .before .before .before in
+    let at-target = at-r .before .before .before .before in
+    let start = at-target .before .before .before .before .before in
+    omega (arith, reads-end _ _ _ _ (start .pre) _ _ (at-target .target .ensures) _ _ (at-r .r .given .1) .0)
 
 same-length-3 : tie.Need-same-length-3
 same-length-3 c = search needs
 
 returns-3 : tie.Need-returns-3
-returns-3 c = heard-right _ _ _ _ _ _ (c .before .before .before .before .before .before .before .before .before .before .before .before .before .before .target .ensures) _ _ (c .before .before .before .before .before .before .before .before .before .before .r .given .1) (c .before .before .before .before .before .before .before .before .if1 .left) _ (c .before .before .before .before .before .before .string .ensures) _ (c .before .before .set-word .ensures)
+returns-3 c =
+    let at-string = c .before .before .before .before .before .before in
+    let at-if1 = at-string .before .before in
+    let at-r = at-if1 .before .before in
+    let at-target = at-r .before .before .before .before in
+    heard-right _ _ _ _ _ _ (at-target .target .ensures) _ _ (at-r .r .given .1) (at-if1 .if1 .left) _ (at-string .string .ensures) _
+    (c .before .before .set-word .ensures)
 
 pub reads-spec : {M : Type 1} → statement M
 reads-spec =

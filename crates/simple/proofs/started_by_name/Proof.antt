@@ -12,7 +12,9 @@ sort-requires : tie.Need-sort-requires
 sort-requires c κs = name-room _ _ _ _ refl (c .before .before .before .pre) .0
 
 assignment-requires : tie.Need-assignment-requires
-assignment-requires c κs = name-becomes _ _ _ _ (c .before .before .sort .ensures) (c .before .before .before .before .before .before .pre) (c .before .if1 .taken)
+assignment-requires c κs =
+    let start = c .before .before .before .before .before .before in
+    name-becomes _ _ _ _ (c .before .before .sort .ensures) (start .pre) (c .before .if1 .taken)
 
 same-length : tie.Need-same-length
 same-length c = search needs
@@ -21,7 +23,9 @@ returns : tie.Need-returns
 returns c = search (needs, begun-becomes)
 
 assignment-requires-2 : tie.Need-assignment-requires-2
-assignment-requires-2 c κs = name-brace _ _ _ _ (c .before .before .before .sort .ensures) (c .before .before .before .before .before .before .before .pre) (c .before .if2 .taken)
+assignment-requires-2 c κs =
+    let start = c .before .before .before .before .before .before .before in
+    name-brace _ _ _ _ (c .before .before .before .sort .ensures) (start .pre) (c .before .if2 .taken)
 
 same-length-2 : tie.Need-same-length-2
 same-length-2 c = search needs
@@ -30,7 +34,9 @@ returns-2 : tie.Need-returns-2
 returns-2 c = search (needs, begun-brace)
 
 call-of-requires : tie.Need-call-of-requires
-call-of-requires c κs = name-calls _ _ _ _ (c .before .before .before .sort .ensures) (c .before .before .before .before .before .before .before .pre) (c .before .before .if1 .left) (c .before .if2 .left)
+call-of-requires c κs =
+    let start = c .before .before .before .before .before .before .before in
+    name-calls _ _ _ _ (c .before .before .before .sort .ensures) (start .pre) (c .before .before .if1 .left) (c .before .if2 .left)
 
 same-length-3 : tie.Need-same-length-3
 same-length-3 c = search needs

@@ -9,28 +9,46 @@ sort-requires : tie.Need-sort-requires
 sort-requires c κs = statement-room _ _ _ _ _ (c .before .before .before .before .pre) .0
 
 started-by-name-requires : tie.Need-started-by-name-requires
-started-by-name-requires c κs = begins-by _ _ _ _ _ _ (c .before .before .sort .ensures) 1 (c .before .match .keys1) (c .before .before .before .before .before .before .before .pre)
+started-by-name-requires c κs =
+    let start = c .before .before .before .before .before .before .before in
+    begins-by _ _ _ _ _ _ (c .before .before .sort .ensures) 1 (c .before .match .keys1) (start .pre)
 
 returns-requires : tie.Need-returns-requires
-returns-requires c κs = begins-in _ _ _ _ _ _ (c .before .before .sort .ensures) 74 (c .before .match .keys2) (c .before .before .before .before .before .before .before .pre)
+returns-requires c κs =
+    let start = c .before .before .before .before .before .before .before in
+    begins-in _ _ _ _ _ _ (c .before .before .sort .ensures) 74 (c .before .match .keys2) (start .pre)
 
 raises-requires : tie.Need-raises-requires
-raises-requires c κs = begins-in _ _ _ _ _ _ (c .before .before .sort .ensures) 70 (c .before .match .keys3) (c .before .before .before .before .before .before .before .pre)
+raises-requires c κs =
+    let start = c .before .before .before .before .before .before .before in
+    begins-in _ _ _ _ _ _ (c .before .before .sort .ensures) 70 (c .before .match .keys3) (start .pre)
 
 word-requires : tie.Need-word-requires
-word-requires c κs = let x = statement-room _ _ _ _ _ (c .before .before .before .before .before .before .before .pre) in (x .0, omega arith, x .1)
+word-requires c κs =
+    let start = c .before .before .before .before .before .before .before in
+    let x = statement-room _ _ _ _ _ (start .pre) in (x .0, omega arith, x .1)
 
 word-requires-2 : tie.Need-word-requires-2
-word-requires-2 c κs = let x = statement-room _ _ _ _ _ (c .before .before .before .before .before .before .before .pre) in (x .0, omega arith, x .1)
+word-requires-2 c κs =
+    let start = c .before .before .before .before .before .before .before in
+    let x = statement-room _ _ _ _ _ (start .pre) in (x .0, omega arith, x .1)
 
 word-requires-3 : tie.Need-word-requires-3
-word-requires-3 c κs = let x = statement-room _ _ _ _ _ (c .before .before .before .before .before .before .before .pre) in (x .0, omega arith, x .1)
+word-requires-3 c κs =
+    let start = c .before .before .before .before .before .before .before in
+    let x = statement-room _ _ _ _ _ (start .pre) in (x .0, omega arith, x .1)
 
 writes-requires : tie.Need-writes-requires
-writes-requires c κs = begins-of _ _ _ _ _ _ (c .before .before .sort .ensures) 91 (c .before .match .keys7) (c .before .before .before .before .before .before .before .pre)
+writes-requires c κs =
+    let start = c .before .before .before .before .before .before .before in
+    begins-of _ _ _ _ _ _ (c .before .before .sort .ensures) 91 (c .before .match .keys7) (start .pre)
 
 reads-requires : tie.Need-reads-requires
-reads-requires c κs = begins-read _ _ _ _ _ _ (c .before .before .sort .ensures) (c .before .match .rest .0 .0 .0 .0 .0 .0 .1) (c .before .match .rest .0 .0 .0 .0 .0 .1) (c .before .match .rest .0 .0 .0 .0 .1) (c .before .match .rest .0 .0 .0 .1) (c .before .match .rest .0 .0 .1) (c .before .match .rest .0 .1) (c .before .match .rest .1) (c .before .before .before .before .before .before .before .pre)
+reads-requires c κs =
+    let start = c .before .before .before .before .before .before .before in
+    begins-read _ _ _ _ _ _ (c .before .before .sort .ensures) (c .before .match .rest .0 .0 .0 .0 .0 .0 .1) (c .before .match .rest .0 .0 .0 .0 .0 .1)
+    (c .before .match .rest .0 .0 .0 .0 .1) (c .before .match .rest .0 .0 .0 .1) (c .before .match .rest .0 .0 .1) (c .before .match .rest .0 .1)
+    (c .before .match .rest .1) (start .pre)
 
 same-length : tie.Need-same-length
 same-length c = search needs

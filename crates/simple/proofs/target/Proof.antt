@@ -14,7 +14,10 @@ sort-requires : tie.Need-sort-requires
 sort-requires c κs = target-room _ _ _ (c .before .before .before .before .before .pre) .1
 
 element-target-requires : tie.Need-element-target-requires
-element-target-requires c κs = element-stands _ _ _ (c .before .before .before .before .before .before .before .before .pre) _ (c .before .before .before .before .meaning .ensures) _ (c .before .before .sort .ensures) (c .before .if1 .taken)
+element-target-requires c κs =
+    let at-meaning = c .before .before .before .before in
+    let start = at-meaning .before .before .before .before in
+    element-stands _ _ _ (start .pre) _ (at-meaning .meaning .ensures) _ (c .before .before .sort .ensures) (c .before .if1 .taken)
 
 same-length : tie.Need-same-length
 same-length c = search needs
@@ -35,10 +38,17 @@ add-set-head : tie.Need-add-set-head
 add-set-head c = search needs
 
 set-head-requires : tie.Need-set-head-requires
-set-head-requires c κs = let x = target-room _ _ _ (c .before .before .before .before .before .before .before .before .before .pre) .0 in search needs
+set-head-requires c κs =
+    let start = c .before .before .before .before .before .before .before .before .before in
+    let x = target-room _ _ _ (start .pre) .0 in search needs
+
+type-of-requires : tie.Need-type-of-requires
+type-of-requires c κs = search needs
 
 add-t11 : tie.Need-add-t11
-add-t11 c = omega (arith, target-room _ _ _ (c .before .before .before .before .before .before .before .before .before .before .before .before .pre) .2)
+add-t11 c =
+    let start = c .before .before .before .before .before .before .before .before .before .before .before .before .before in
+    omega (arith, target-room _ _ _ (start .pre) .2)
 
 same-length-3 : tie.Need-same-length-3
 same-length-3 c = search needs
@@ -61,6 +71,7 @@ target-spec =
     returns-2
     add-set-head
     set-head-requires
+    type-of-requires
     add-t11
     same-length-3
     returns-3)

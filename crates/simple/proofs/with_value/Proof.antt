@@ -20,16 +20,30 @@ returns : tie.Need-returns
 returns c = search (needs, valued-faulty)
 
 cast-set-word : tie.Need-cast-set-word
-cast-set-word c = omega (arith, values-end _ _ _ _ (c .before .before .before .before .before .before .before .before .before .before .pre .0) _ _ _ (c .before .before .before .before .before .before .of-type .ensures) _ _ (c .before .before .r .given .1))
+cast-set-word c =
+    let at-of-type = c .before .before .before .before .before .before in
+    let start = at-of-type .before .before .before .before in
+    omega (arith, values-end _ _ _ _ (start .pre .0) _ _ _ (start .pre .2 .is) _ (at-of-type .of-type .ensures) _ _ (c .before .before .r .given .1))
 
 add-set-word : tie.Need-add-set-word
-add-set-word c = omega (arith, values-end _ _ _ _ (c .before .before .before .before .before .before .before .before .before .before .pre .0) _ _ _ (c .before .before .before .before .before .before .of-type .ensures) _ _ (c .before .before .r .given .1))
+add-set-word c =
+    let at-of-type = c .before .before .before .before .before .before in
+    let start = at-of-type .before .before .before .before in
+    omega (arith, values-end _ _ _ _ (start .pre .0) _ _ _ (start .pre .2 .is) _ (at-of-type .of-type .ensures) _ _ (c .before .before .r .given .1))
 
 set-word-requires : tie.Need-set-word-requires
-set-word-requires c κs = let z = values-end _ _ _ _ (c .before .before .before .before .before .before .before .before .before .before .pre .0) _ _ _ (c .before .before .before .before .before .before .of-type .ensures) _ _ (c .before .before .r .given .1) in let y = values-room _ _ _ _ (c .before .before .before .before .before .before .before .before .before .before .pre .0) _ _ _ (c .before .before .before .before .before .before .of-type .ensures) in search needs
+set-word-requires c κs =
+    let at-of-type = c .before .before .before .before .before .before in
+    let start = at-of-type .before .before .before .before in
+    let z = values-end _ _ _ _ (start .pre .0) _ _ _ (start .pre .2 .is) _ (at-of-type .of-type .ensures) _ _ (c .before .before .r .given .1) in let y = values-room _ _ _ _
+    (start .pre .0) _ _ _ (start .pre .2 .is) _ (at-of-type .of-type .ensures) in search needs
 
 add-t16 : tie.Need-add-t16
-add-t16 c = omega (arith, values-end _ _ _ _ (c .before .before .before .before .before .before .before .before .before .before .before .before .before .pre .0) _ _ _ (c .before .before .before .before .before .before .before .before .before .of-type .ensures) _ _ (c .before .before .before .before .before .r .given .1))
+add-t16 c =
+    let at-r = c .before .before .before .before .before in
+    let at-of-type = at-r .before .before .before .before in
+    let start = at-of-type .before .before .before .before in
+    omega (arith, values-end _ _ _ _ (start .pre .0) _ _ _ (start .pre .2 .is) _ (at-of-type .of-type .ensures) _ _ (at-r .r .given .1))
 
 same-length-2 : tie.Need-same-length-2
 same-length-2 c = search needs

@@ -1,5 +1,6 @@
 use borrow.Author.Needs.{needs}
 use native.Mathlib.Omega.{arith}
+use Rattle.layout.proofs.Typing.{num-type}
 use Rattle.simple.proofs.Speaking.{writes-string, writes-room, writes-mid, writes-values, writes-small, wrote-number, wrote-plain}
 use Rattle.simple.proofs.writes.Statement.{statement}
 use Rattle.simple.proofs.writes.Tie as tie
@@ -11,16 +12,26 @@ string-requires : tie.Need-string-requires
 string-requires c κs = search (needs, writes-string)
 
 add-sort : tie.Need-add-sort
-add-sort c = omega (arith, writes-room _ _ _ _ (c .before .before .before .before .before .before .before .before .pre) .1)
+add-sort c =
+    let start = c .before .before .before .before .before .before .before .before in
+    omega (arith, writes-room _ _ _ _ (start .pre) .1)
 
 sort-requires : tie.Need-sort-requires
-sort-requires c κs = writes-mid _ _ _ _ (c .before .before .before .before .before .before .before .before .pre) _ (c .before .before .before .string .ensures) .1
+sort-requires c κs =
+    let start = c .before .before .before .before .before .before .before .before in
+    writes-mid _ _ _ _ (start .pre) _ (c .before .before .before .string .ensures) .1
 
 add-with-value : tie.Need-add-with-value
-add-with-value c = omega (arith, writes-small _ _ _ _ (c .before .before .before .before .before .before .before .before .before .before .before .pre) _ (c .before .before .before .before .before .before .string .ensures) _ (c .before .before .sort .ensures) (c .before .if1 .taken))
+add-with-value c =
+    let at-string = c .before .before .before .before .before .before in
+    let start = at-string .before .before .before .before .before in
+    omega (arith, writes-small _ _ _ _ (start .pre) _ (at-string .string .ensures) _ (c .before .before .sort .ensures) (c .before .if1 .taken))
 
 with-value-requires : tie.Need-with-value-requires
-with-value-requires c κs = (writes-values _ _ _ _ (c .before .before .before .before .before .before .before .before .before .before .before .pre) _ (c .before .before .before .before .before .before .string .ensures) _ (c .before .before .sort .ensures) (c .before .if1 .taken), omega arith)
+with-value-requires c κs =
+    let at-string = c .before .before .before .before .before .before in
+    let start = at-string .before .before .before .before .before in
+    (writes-values _ _ _ _ (start .pre) _ (at-string .string .ensures) _ (c .before .before .sort .ensures) (c .before .if1 .taken), omega arith, num-type)
 
 same-length : tie.Need-same-length
 same-length c = search needs
@@ -29,13 +40,20 @@ returns : tie.Need-returns
 returns c = search (needs, wrote-number)
 
 add-set-word : tie.Need-add-set-word
-add-set-word c = omega (arith, writes-room _ _ _ _ (c .before .before .before .before .before .before .before .before .before .before .before .pre) .1)
+add-set-word c =
+    let start = c .before .before .before .before .before .before .before .before .before .before .before in
+    omega (arith, writes-room _ _ _ _ (start .pre) .1)
 
 set-word-requires : tie.Need-set-word-requires
-set-word-requires c κs = (writes-mid _ _ _ _ (c .before .before .before .before .before .before .before .before .before .before .before .pre) _ (c .before .before .before .before .before .before .string .ensures) .2, omega arith, omega arith, omega (arith, writes-room _ _ _ _ (c .before .before .before .before .before .before .before .before .before .before .before .pre) .1))
+set-word-requires c κs =
+    let at-string = c .before .before .before .before .before .before in
+    let start = at-string .before .before .before .before .before in
+    (writes-mid _ _ _ _ (start .pre) _ (at-string .string .ensures) .2, omega arith, omega arith, omega (arith, writes-room _ _ _ _ (start .pre) .1))
 
 add-t8 : tie.Need-add-t8
-add-t8 c = omega (arith, writes-room _ _ _ _ (c .before .before .before .before .before .before .before .before .before .before .before .before .before .before .pre) .1)
+add-t8 c =
+    let start = c .before .before .before .before .before .before .before .before .before .before .before .before .before .before in
+    omega (arith, writes-room _ _ _ _ (start .pre) .1)
 
 same-length-2 : tie.Need-same-length-2
 same-length-2 c = search needs

@@ -52,22 +52,18 @@ use Rattle.names.proofs.Scope.leave.Reads as leave-reads
 use Rattle.store.proofs.set_link.Reads as set-link-reads
 use Rattle.store.proofs.set_word.Reads as set-word-reads
 use Rattle.store.proofs.sort.Reads as sort-reads
-use Rattle.statements.proofs.arm_end.Reads as arm-end-reads
-use Rattle.statements.proofs.case_values.Reads as case-values-reads
+use Rattle.compounds.proofs.arm_end.Reads as arm-end-reads
+use Rattle.compounds.proofs.case_values.Reads as case-values-reads
 use Rattle.statements.proofs.compact_if.Reads as compact-if-reads
-use Rattle.statements.proofs.for_end.Reads as for-end-reads
-use Rattle.statements.proofs.for_head.Reads as for-head-reads
-use Rattle.statements.proofs.link_values.Reads as link-values-reads
+use Rattle.compounds.proofs.for_end.Reads as for-end-reads
+use Rattle.compounds.proofs.for_head.Reads as for-head-reads
+use Rattle.compounds.proofs.link_values.Reads as link-values-reads
 use Rattle.store.proofs.rewrite.Reads as rewrite-reads
 use Rattle.statements.proofs.simple_statement.Reads as simple-statement-reads
 use Rattle.statements.proofs.starts_statement.Reads as starts-statement-reads
-use Rattle.statements.proofs.while_end.Reads as while-end-reads
-use Rattle.statements.proofs.+cases+default+else_part+for_statement+full_if+if_statement+list+statement+test_statement+while_statement.{
-  statement,
-}
-use Rattle.statements.proofs.+cases+default+else_part+for_statement+full_if+if_statement+list+statement+test_statement+while_statement.Tie.{
-  close,
-}
+use Rattle.compounds.proofs.while_end.Reads as while-end-reads
+use Rattle.statements.proofs.+cases+default+else_part+for_statement+full_if+if_statement+list+statement+test_statement+while_statement.{statement}
+use Rattle.statements.proofs.+cases+default+else_part+for_statement+full_if+if_statement+list+statement+test_statement+while_statement.Tie.{close}
 
 abbrev μ-cases : Measures 3 cases-kinds.ps ℕ
 μ-cases κs a = (8192 - a .1 .1 .1 .1 .1 .0) * 3 + 1
@@ -234,43 +230,110 @@ cases-loop-holds : (t : ℕ) → cases-lts.Need-loop-holds (calls-cases t) (case
 cases-loop-holds t c = search (needs, cases-begin)
 
 cases-sort-requires : (t : ℕ) → cases-lts.Need-sort-requires (calls-cases t) (cases-at t) cases.Post cases-Inv-loop cases-μ-loop
-cases-sort-requires t c κs = case-room _ _ _ _ _ _ _ _ _ _ (c .before .loop .inv) (c .before .before .before .before .before .pre .1) .2
+cases-sort-requires t c κs =
+    let start = c .before .before .before .before .before in
+    case-room _ _ _ _ _ _ _ _ _ _ (c .before .loop .inv) (start .pre .1) .2
 
 cases-default-requires : (t : ℕ) → cases-lts.Need-default-requires (calls-cases t) (cases-at t) cases.Post cases-Inv-loop cases-μ-loop
-cases-default-requires t c κs = (omega (arith, case-room _ _ _ _ _ _ _ _ _ _ (c .before .before .before .before .before .loop .inv) (c .before .before .before .before .before .before .before .before .before .pre .1), c .before .before .before .before .before .before .before .before .before .pre .0), case-defaults _ _ _ _ _ _ _ _ _ _ (c .before .before .before .before .before .loop .inv) (c .before .before .before .before .before .before .before .before .before .pre .1) _ (c .before .before .before .sort .ensures) (c .before .before .if1 .taken))
+cases-default-requires t c κs =
+    let at-loop = c .before .before .before .before .before in
+    let start = at-loop .before .before .before .before in (
+      omega (arith, case-room _ _ _ _ _ _ _ _ _ _ (at-loop .loop .inv) (start .pre .1), start .pre .0),
+      case-defaults _ _ _ _ _ _ _ _ _ _ (at-loop .loop .inv)
+          (start .pre .1) _ (c .before .before .before .sort .ensures) (c .before .before .if1 .taken),
+    )
 
 cases-same-length : (t : ℕ) → cases-lts.Need-same-length (calls-cases t) (cases-at t) cases.Post cases-Inv-loop cases-μ-loop
-cases-same-length t c = let z = case-long _ _ _ _ _ _ _ _ _ _ (c .before .before .before .before .before .before .before .before .before .before .loop .inv) (c .before .before .before .before .before .before .before .before .before .before .before .before .before .before .pre .1) in search needs
+cases-same-length t c =
+    let z =
+    (let at-loop = c .before .before .before .before .before .before .before .before .before .before in
+    let start = at-loop .before .before .before .before in
+    case-long _ _ _ _ _ _ _ _ _ _ (at-loop .loop .inv) (start .pre .1)) in
+    search needs
 
 cases-same-length-2 : (t : ℕ) → cases-lts.Need-same-length-2 (calls-cases t) (cases-at t) cases.Post cases-Inv-loop cases-μ-loop
-cases-same-length-2 t c = let z = case-values-long _ _ _ _ _ _ _ _ _ _ (c .before .before .before .before .before .before .before .before .before .before .loop .inv) (c .before .before .before .before .before .before .before .before .before .before .before .before .before .before .pre .1) in search needs
+cases-same-length-2 t c =
+    let z =
+    (let at-loop = c .before .before .before .before .before .before .before .before .before .before in
+    let start = at-loop .before .before .before .before in
+    case-values-long _ _ _ _ _ _ _ _ _ _ (at-loop .loop .inv) (start .pre .1)) in
+    search needs
 
 cases-returns : (t : ℕ) → cases-lts.Need-returns (calls-cases t) (cases-at t) cases.Post cases-Inv-loop cases-μ-loop
-cases-returns t c = cases-finished _ _ _ _ _ _ _ _ _ _ (c .before .before .before .before .before .before .before .before .before .before .loop .inv) _ (c .before .before .before .before .before .before .before .before .sort .ensures) (c .before .before .before .before .before .before .before .if1 .taken) _ _ _ (c .before .before .before .before .default .ensures)
+cases-returns t c =
+    let at-default = c .before .before .before .before in
+    let at-if1 = at-default .before .before .before in
+    let at-sort = at-if1 .before in
+    let at-loop = at-sort .before .before in
+    cases-finished _ _ _ _ _ _ _ _ _ _ (at-loop .loop .inv) _ (at-sort .sort .ensures) (at-if1 .if1 .taken) _ _ _ (at-default .default .ensures)
 
 cases-case-values-requires : (t : ℕ) → cases-lts.Need-case-values-requires (calls-cases t) (cases-at t) cases.Post cases-Inv-loop cases-μ-loop
-cases-case-values-requires t c κs = case-values-stand _ _ _ _ _ _ _ _ _ _ (c .before .before .before .before .before .loop .inv) (c .before .before .before .before .before .before .before .before .before .pre .1) _ (c .before .before .before .sort .ensures) (c .before .before .if1 .left)
+cases-case-values-requires t c κs =
+    let at-loop = c .before .before .before .before .before in
+    let start = at-loop .before .before .before .before in
+    case-values-stand _ _ _ _ _ _ _ _ _ _ (at-loop .loop .inv) (start .pre .1) _ (c .before .before .before .sort .ensures) (c .before .before .if1 .left)
 
 cases-enum-known-j : (t : ℕ) → cases-lts.Need-enum-known-j (calls-cases t) (cases-at t) cases.Post cases-Inv-loop cases-μ-loop
 cases-enum-known-j t c = search needs
 
 cases-same-length-3 : (t : ℕ) → cases-lts.Need-same-length-3 (calls-cases t) (cases-at t) cases.Post cases-Inv-loop cases-μ-loop
-cases-same-length-3 t c = let z = case-long _ _ _ _ _ _ _ _ _ _ (c .before .before .before .before .before .before .before .before .before .before .before .loop .inv) (c .before .before .before .before .before .before .before .before .before .before .before .before .before .before .before .pre .1) in search needs
+cases-same-length-3 t c =
+    let z =
+    (let at-loop = c .before .before .before .before .before .before .before .before .before .before .before in
+    let start = at-loop .before .before .before .before in
+    case-long _ _ _ _ _ _ _ _ _ _ (at-loop .loop .inv) (start .pre .1)) in
+    search needs
 
 cases-same-length-4 : (t : ℕ) → cases-lts.Need-same-length-4 (calls-cases t) (cases-at t) cases.Post cases-Inv-loop cases-μ-loop
-cases-same-length-4 t c = let z = case-values-long _ _ _ _ _ _ _ _ _ _ (c .before .before .before .before .before .before .before .before .before .before .before .loop .inv) (c .before .before .before .before .before .before .before .before .before .before .before .before .before .before .before .pre .1) in search needs
+cases-same-length-4 t c =
+    let z =
+    (let at-loop = c .before .before .before .before .before .before .before .before .before .before .before in
+    let start = at-loop .before .before .before .before in
+    case-values-long _ _ _ _ _ _ _ _ _ _ (at-loop .loop .inv) (start .pre .1)) in
+    search needs
 
 cases-returns-2 : (t : ℕ) → cases-lts.Need-returns-2 (calls-cases t) (cases-at t) cases.Post cases-Inv-loop cases-μ-loop
-cases-returns-2 t c = case-wrong _ _ _ _ _ _ _ _ _ _ (c .before .before .before .before .before .before .before .before .before .before .before .loop .inv) _ (c .before .before .before .before .before .before .before .before .before .sort .ensures) (c .before .before .before .before .before .before .before .before .if1 .left) _ _ (c .before .before .before .before .before .case-values .ensures) _ _ (c .before .j .given .1)
+cases-returns-2 t c =
+    let at-case-values = c .before .before .before .before .before in
+    let at-if1 = at-case-values .before .before .before in
+    let at-sort = at-if1 .before in
+    let at-loop = at-sort .before .before in
+    case-wrong _ _ _ _ _ _ _ _ _ _ (at-loop .loop .inv) _ (at-sort .sort .ensures) (at-if1 .if1 .left) _ _ (at-case-values .case-values .ensures) _ _
+    (c .before .j .given .1)
 
 cases-enum-known-j-2 : (t : ℕ) → cases-lts.Need-enum-known-j-2 (calls-cases t) (cases-at t) cases.Post cases-Inv-loop cases-μ-loop
 cases-enum-known-j-2 t c = search needs
 
 cases-add-list : (t : ℕ) → cases-lts.Need-add-list (calls-cases t) (cases-at t) cases.Post cases-Inv-loop cases-μ-loop
-cases-add-list t c = omega (arith, case-colon _ _ _ _ _ _ _ _ _ _ (c .before .before .before .before .before .before .before .before .before .before .before .before .before .loop .inv) (c .before .before .before .before .before .before .before .before .before .before .before .before .before .before .before .before .before .pre .1) _ (c .before .before .before .before .before .before .before .before .before .before .before .sort .ensures) (c .before .before .before .before .before .before .before .before .before .before .if1 .left) _ _ (c .before .before .before .before .before .before .before .case-values .ensures) _ _ (c .before .before .before .j2 .given .1))
+cases-add-list t c =
+    let at-case-values = c .before .before .before .before .before .before .before in
+    let at-if1 = at-case-values .before .before .before in
+    let at-sort = at-if1 .before in
+    let at-loop = at-sort .before .before in
+    let start = at-loop .before .before .before .before in
+    omega (
+      arith,
+      case-colon _ _ _ _ _ _ _ _ _ _ (at-loop .loop .inv) (start .pre .1) _ (at-sort .sort .ensures) (at-if1 .if1 .left) _ _
+          (at-case-values .case-values .ensures) _ _ (c .before .before .before .j2 .given .1),
+    )
 
 cases-list-requires : (t : ℕ) → cases-lts.Need-list-requires (calls-cases t) (cases-at t) cases.Post cases-Inv-loop cases-μ-loop
-cases-list-requires t c κs = (omega (arith, case-colon _ _ _ _ _ _ _ _ _ _ (c .before .before .before .before .before .before .before .before .before .before .before .before .before .loop .inv) (c .before .before .before .before .before .before .before .before .before .before .before .before .before .before .before .before .before .pre .1) _ (c .before .before .before .before .before .before .before .before .before .before .before .sort .ensures) (c .before .before .before .before .before .before .before .before .before .before .if1 .left) _ _ (c .before .before .before .before .before .before .before .case-values .ensures) _ _ (c .before .before .before .j2 .given .1), case-room _ _ _ _ _ _ _ _ _ _ (c .before .before .before .before .before .before .before .before .before .before .before .before .before .loop .inv) (c .before .before .before .before .before .before .before .before .before .before .before .before .before .before .before .before .before .pre .1), c .before .before .before .before .before .before .before .before .before .before .before .before .before .before .before .before .before .pre .0), case-lists _ _ _ _ _ _ _ _ _ _ (c .before .before .before .before .before .before .before .before .before .before .before .before .before .loop .inv) (c .before .before .before .before .before .before .before .before .before .before .before .before .before .before .before .before .before .pre .1) _ (c .before .before .before .before .before .before .before .before .before .before .before .sort .ensures) (c .before .before .before .before .before .before .before .before .before .before .if1 .left) _ _ (c .before .before .before .before .before .before .before .case-values .ensures) _ _ (c .before .before .before .j2 .given .1))
+cases-list-requires t c κs =
+    let at-case-values = c .before .before .before .before .before .before .before in
+    let at-if1 = at-case-values .before .before .before in
+    let at-sort = at-if1 .before in
+    let at-loop = at-sort .before .before in
+    let start = at-loop .before .before .before .before in (
+      omega (
+        arith,
+        case-colon _ _ _ _ _ _ _ _ _ _ (at-loop .loop .inv) (start .pre .1) _ (at-sort .sort .ensures) (at-if1 .if1 .left) _ _
+            (at-case-values .case-values .ensures) _ _ (c .before .before .before .j2 .given .1),
+        case-room _ _ _ _ _ _ _ _ _ _ (at-loop .loop .inv) (start .pre .1),
+        start .pre .0,
+      ),
+      case-lists _ _ _ _ _ _ _ _ _ _ (at-loop .loop .inv) (start .pre .1) _ (at-sort .sort .ensures) (at-if1 .if1 .left) _ _
+          (at-case-values .case-values .ensures) _ _ (c .before .before .before .j2 .given .1),
+    )
 
 cases-enum-known-r : (t : ℕ) → cases-lts.Need-enum-known-r (calls-cases t) (cases-at t) cases.Post cases-Inv-loop cases-μ-loop
 cases-enum-known-r t c = search needs
@@ -279,43 +342,113 @@ cases-enum-told : (t : ℕ) → cases-lts.Need-enum-told (calls-cases t) (cases-
 cases-enum-told t c = search needs
 
 cases-same-length-5 : (t : ℕ) → cases-lts.Need-same-length-5 (calls-cases t) (cases-at t) cases.Post cases-Inv-loop cases-μ-loop
-cases-same-length-5 t c = let z = case-long _ _ _ _ _ _ _ _ _ _ (c .before .before .before .before .before .before .before .before .before .before .before .before .before .before .before .before .before .before .before .before .loop .inv) (c .before .before .before .before .before .before .before .before .before .before .before .before .before .before .before .before .before .before .before .before .before .before .before .before .pre .1) in search needs
+cases-same-length-5 t c =
+    let z =
+    (let at-loop = c .before .before .before .before .before .before .before .before .before .before .before .before .before .before .before .before .before .before .before .before in
+    let start = at-loop .before .before .before .before in
+    case-long _ _ _ _ _ _ _ _ _ _ (at-loop .loop .inv) (start .pre .1)) in
+    search needs
 
 cases-same-length-6 : (t : ℕ) → cases-lts.Need-same-length-6 (calls-cases t) (cases-at t) cases.Post cases-Inv-loop cases-μ-loop
-cases-same-length-6 t c = let z = case-values-long _ _ _ _ _ _ _ _ _ _ (c .before .before .before .before .before .before .before .before .before .before .before .before .before .before .before .before .before .before .before .before .loop .inv) (c .before .before .before .before .before .before .before .before .before .before .before .before .before .before .before .before .before .before .before .before .before .before .before .before .pre .1) in search needs
+cases-same-length-6 t c =
+    let z =
+    (let at-loop = c .before .before .before .before .before .before .before .before .before .before .before .before .before .before .before .before .before .before .before .before in
+    let start = at-loop .before .before .before .before in
+    case-values-long _ _ _ _ _ _ _ _ _ _ (at-loop .loop .inv) (start .pre .1)) in
+    search needs
 
 cases-returns-3 : (t : ℕ) → cases-lts.Need-returns-3 (calls-cases t) (cases-at t) cases.Post cases-Inv-loop cases-μ-loop
-cases-returns-3 t c = case-list-wrong _ _ _ _ _ _ _ _ _ _ (c .before .before .before .before .before .before .before .before .before .before .before .before .before .before .before .before .before .before .before .before .loop .inv) _ (c .before .before .before .before .before .before .before .before .before .before .before .before .before .before .before .before .before .before .sort .ensures) (c .before .before .before .before .before .before .before .before .before .before .before .before .before .before .before .before .before .if1 .left) _ _ (c .before .before .before .before .before .before .before .before .before .before .before .before .before .before .case-values .ensures) _ _ (c .before .before .before .before .before .before .before .before .before .before .j2 .given .1) _ _ _ (c .before .before .before .before .before .before .list .ensures) _ _ (c .enum-told .given .1)
+cases-returns-3 t c =
+    let at-list = c .before .before .before .before .before .before in
+    let at-j2 = at-list .before .before .before .before in
+    let at-case-values = at-j2 .before .before .before .before in
+    let at-if1 = at-case-values .before .before .before in
+    let at-sort = at-if1 .before in
+    let at-loop = at-sort .before .before in
+    case-list-wrong _ _ _ _ _ _ _ _ _ _ (at-loop .loop .inv) _ (at-sort .sort .ensures) (at-if1 .if1 .left) _ _ (at-case-values .case-values .ensures) _ _
+    (at-j2 .j2 .given .1) _ _ _ (at-list .list .ensures) _ _ (c .enum-told .given .1)
 
 cases-add-set-word : (t : ℕ) → cases-lts.Need-add-set-word (calls-cases t) (cases-at t) cases.Post cases-Inv-loop cases-μ-loop
-cases-add-set-word t c = omega (arith, case-room _ _ _ _ _ _ _ _ _ _ (c .before .before .before .before .before .before .before .before .before .before .before .before .before .before .before .before .before .before .before .before .before .before .loop .inv) (c .before .before .before .before .before .before .before .before .before .before .before .before .before .before .before .before .before .before .before .before .before .before .before .before .before .before .pre .1))
+cases-add-set-word t c =
+    let at-loop = c .before .before .before .before .before .before .before .before .before .before .before .before .before .before .before .before .before .before .before .before .before .before in
+    let start = at-loop .before .before .before .before in
+    omega (arith, case-room _ _ _ _ _ _ _ _ _ _ (at-loop .loop .inv) (start .pre .1))
 
 cases-set-word-requires : (t : ℕ) → cases-lts.Need-set-word-requires (calls-cases t) (cases-at t) cases.Post cases-Inv-loop cases-μ-loop
-cases-set-word-requires t c κs = let z = case-closes _ _ _ _ _ _ _ _ _ _ (c .before .before .before .before .before .before .before .before .before .before .before .before .before .before .before .before .before .before .before .before .before .before .loop .inv) (c .before .before .before .before .before .before .before .before .before .before .before .before .before .before .before .before .before .before .before .before .before .before .before .before .before .before .pre .1) _ (c .before .before .before .before .before .before .before .before .before .before .before .before .before .before .before .before .before .before .before .before .sort .ensures) (c .before .before .before .before .before .before .before .before .before .before .before .before .before .before .before .before .before .before .before .if1 .left) _ _ (c .before .before .before .before .before .before .before .before .before .before .before .before .before .before .before .before .case-values .ensures) _ _ (c .before .before .before .before .before .before .before .before .before .before .before .before .j2 .given .1) _ _ _ (c .before .before .before .before .before .before .before .before .list .ensures) _ _ (c .before .before .r .given .1) in (omega (arith, z), omega arith, omega arith, omega (arith, z))
+cases-set-word-requires t c κs =
+    let at-list = c .before .before .before .before .before .before .before .before in
+    let at-j2 = at-list .before .before .before .before in
+    let at-case-values = at-j2 .before .before .before .before in
+    let at-if1 = at-case-values .before .before .before in
+    let at-sort = at-if1 .before in
+    let at-loop = at-sort .before .before in
+    let start = at-loop .before .before .before .before in
+    let z = case-closes _ _ _ _ _ _ _ _ _ _ (at-loop .loop .inv) (start .pre .1) _ (at-sort .sort .ensures) (at-if1 .if1 .left) _ _
+    (at-case-values .case-values .ensures) _ _ (at-j2 .j2 .given .1) _ _ _ (at-list .list .ensures) _ _ (c .before .before .r .given .1) in
+    (omega (arith, z), omega arith, omega arith, omega (arith, z))
 
 cases-link-values-requires : (t : ℕ) → cases-lts.Need-link-values-requires (calls-cases t) (cases-at t) cases.Post cases-Inv-loop cases-μ-loop
-cases-link-values-requires t c κs = case-links _ _ _ _ _ _ _ _ _ _ (c .before .before .before .before .before .before .before .before .before .before .before .before .before .before .before .before .before .before .before .before .before .before .before .before .before .before .loop .inv) (c .before .before .before .before .before .before .before .before .before .before .before .before .before .before .before .before .before .before .before .before .before .before .before .before .before .before .before .before .before .before .pre .1) _ (c .before .before .before .before .before .before .before .before .before .before .before .before .before .before .before .before .before .before .before .before .before .before .before .before .sort .ensures) (c .before .before .before .before .before .before .before .before .before .before .before .before .before .before .before .before .before .before .before .before .before .before .before .if1 .left) _ _ (c .before .before .before .before .before .before .before .before .before .before .before .before .before .before .before .before .before .before .before .before .case-values .ensures) _ _ (c .before .before .before .before .before .before .before .before .before .before .before .before .before .before .before .before .j2 .given .1) _ _ _ (c .before .before .before .before .before .before .before .before .before .before .before .before .list .ensures) _ _ (c .before .before .before .before .before .before .r .given .1) _ (c .before .before .before .set-word .ensures)
+cases-link-values-requires t c κs =
+    let at-r = c .before .before .before .before .before .before in
+    let at-list = at-r .before .before .before .before .before .before in
+    let at-j2 = at-list .before .before .before .before in
+    let at-case-values = at-j2 .before .before .before .before in
+    let at-if1 = at-case-values .before .before .before in
+    let at-sort = at-if1 .before in
+    let at-loop = at-sort .before .before in
+    let start = at-loop .before .before .before .before in
+    case-links _ _ _ _ _ _ _ _ _ _ (at-loop .loop .inv) (start .pre .1) _ (at-sort .sort .ensures) (at-if1 .if1 .left) _ _
+    (at-case-values .case-values .ensures) _ _ (at-j2 .j2 .given .1) _ _ _ (at-list .list .ensures) _ _ (at-r .r .given .1) _
+    (c .before .before .before .set-word .ensures)
 
 cases-loop-less : (t : ℕ) → cases-lts.Need-loop-less (calls-cases t) (cases-at t) cases.Post cases-Inv-loop cases-μ-loop
-cases-loop-less t c = let z = case-closes _ _ _ _ _ _ _ _ _ _ (c .before .before .before .before .before .before .before .before .before .before .before .before .before .before .before .before .before .before .before .before .before .before .before .before .before .before .before .before .before .loop .inv) (c .before .before .before .before .before .before .before .before .before .before .before .before .before .before .before .before .before .before .before .before .before .before .before .before .before .before .before .before .before .before .before .before .before .pre .1) _ (c .before .before .before .before .before .before .before .before .before .before .before .before .before .before .before .before .before .before .before .before .before .before .before .before .before .before .before .sort .ensures) (c .before .before .before .before .before .before .before .before .before .before .before .before .before .before .before .before .before .before .before .before .before .before .before .before .before .before .if1 .left) _ _ (c .before .before .before .before .before .before .before .before .before .before .before .before .before .before .before .before .before .before .before .before .before .before .before .case-values .ensures) _ _ (c .before .before .before .before .before .before .before .before .before .before .before .before .before .before .before .before .before .before .before .j2 .given .1) _ _ _ (c .before .before .before .before .before .before .before .before .before .before .before .before .before .before .before .list .ensures) _ _ (c .before .before .before .before .before .before .before .before .before .r .given .1) in omega (arith, z)
+cases-loop-less t c =
+    let at-r = c .before .before .before .before .before .before .before .before .before in
+    let at-list = at-r .before .before .before .before .before .before in
+    let at-j2 = at-list .before .before .before .before in
+    let at-case-values = at-j2 .before .before .before .before in
+    let at-if1 = at-case-values .before .before .before in
+    let at-sort = at-if1 .before in
+    let at-loop = at-sort .before .before in
+    let start = at-loop .before .before .before .before in
+    let z = case-closes _ _ _ _ _ _ _ _ _ _ (at-loop .loop .inv) (start .pre .1) _ (at-sort .sort .ensures) (at-if1 .if1 .left) _ _
+    (at-case-values .case-values .ensures) _ _ (at-j2 .j2 .given .1) _ _ _ (at-list .list .ensures) _ _ (at-r .r .given .1) in omega (arith, z)
 
 cases-loop-again : (t : ℕ) → cases-lts.Need-loop-again (calls-cases t) (cases-at t) cases.Post cases-Inv-loop cases-μ-loop
-cases-loop-again t c = cases-go _ _ _ _ _ _ _ _ _ _ (c .before .before .before .before .before .before .before .before .before .before .before .before .before .before .before .before .before .before .before .before .before .before .before .before .before .before .before .before .before .loop .inv) _ (c .before .before .before .before .before .before .before .before .before .before .before .before .before .before .before .before .before .before .before .before .before .before .before .before .before .before .before .sort .ensures) (c .before .before .before .before .before .before .before .before .before .before .before .before .before .before .before .before .before .before .before .before .before .before .before .before .before .before .if1 .left) _ _ (c .before .before .before .before .before .before .before .before .before .before .before .before .before .before .before .before .before .before .before .before .before .before .before .case-values .ensures) _ _ (c .before .before .before .before .before .before .before .before .before .before .before .before .before .before .before .before .before .before .before .j2 .given .1) _ _ _ (c .before .before .before .before .before .before .before .before .before .before .before .before .before .before .before .list .ensures) _ _ (c .before .before .before .before .before .before .before .before .before .r .given .1) _ (c .before .before .before .before .before .before .set-word .ensures) _ (c .before .before .link-values .ensures)
+cases-loop-again t c =
+    let at-set-word = c .before .before .before .before .before .before in
+    let at-r = at-set-word .before .before .before in
+    let at-list = at-r .before .before .before .before .before .before in
+    let at-j2 = at-list .before .before .before .before in
+    let at-case-values = at-j2 .before .before .before .before in
+    let at-if1 = at-case-values .before .before .before in
+    let at-sort = at-if1 .before in
+    let at-loop = at-sort .before .before in
+    cases-go _ _ _ _ _ _ _ _ _ _ (at-loop .loop .inv) _ (at-sort .sort .ensures) (at-if1 .if1 .left) _ _ (at-case-values .case-values .ensures) _ _
+    (at-j2 .j2 .given .1) _ _ _ (at-list .list .ensures) _ _ (at-r .r .given .1) _ (at-set-word .set-word .ensures) _ (c .before .before .link-values .ensures)
 
 default-sort-requires : (t : ℕ) → default-lts.Need-sort-requires (calls-default t) (default-at t) default.Post
 default-sort-requires t c κs = omega (arith, default-room _ _ _ _ _ _ (c .before .before .before .before .pre .1))
 
 default-add-rewrite : (t : ℕ) → default-lts.Need-add-rewrite (calls-default t) (default-at t) default.Post
-default-add-rewrite t c = omega (arith, default-room _ _ _ _ _ _ (c .before .before .before .before .before .before .before .pre .1))
+default-add-rewrite t c =
+    let start = c .before .before .before .before .before .before .before in
+    omega (arith, default-room _ _ _ _ _ _ (start .pre .1))
 
 default-add-rewrite-2 : (t : ℕ) → default-lts.Need-add-rewrite-2 (calls-default t) (default-at t) default.Post
-default-add-rewrite-2 t c = omega (arith, default-room _ _ _ _ _ _ (c .before .before .before .before .before .before .before .pre .1))
+default-add-rewrite-2 t c =
+    let start = c .before .before .before .before .before .before .before in
+    omega (arith, default-room _ _ _ _ _ _ (start .pre .1))
 
 default-rewrite-requires : (t : ℕ) → default-lts.Need-rewrite-requires (calls-default t) (default-at t) default.Post
-default-rewrite-requires t c κs = let z = default-room _ _ _ _ _ _ (c .before .before .before .before .before .before .before .pre .1) in (omega (arith, z), omega (arith, z), omega (arith, z))
+default-rewrite-requires t c κs =
+    let start = c .before .before .before .before .before .before .before in
+    let z = default-room _ _ _ _ _ _ (start .pre .1) in (omega (arith, z), omega (arith, z), omega (arith, z))
 
 default-add-t17 : (t : ℕ) → default-lts.Need-add-t17 (calls-default t) (default-at t) default.Post
-default-add-t17 t c = omega (arith, default-room _ _ _ _ _ _ (c .before .before .before .before .before .before .before .before .before .before .pre .1))
+default-add-t17 t c =
+    let start = c .before .before .before .before .before .before .before .before .before .before in
+    omega (arith, default-room _ _ _ _ _ _ (start .pre .1))
 
 default-same-length : (t : ℕ) → default-lts.Need-same-length (calls-default t) (default-at t) default.Post
 default-same-length t c = search needs
@@ -324,10 +457,14 @@ default-returns : (t : ℕ) → default-lts.Need-returns (calls-default t) (defa
 default-returns t c = search (needs, default-no)
 
 default-add-list : (t : ℕ) → default-lts.Need-add-list (calls-default t) (default-at t) default.Post
-default-add-list t c = omega (arith, default-room _ _ _ _ _ _ (c .before .before .before .before .before .before .before .before .pre .1))
+default-add-list t c =
+    let start = c .before .before .before .before .before .before .before .before in
+    omega (arith, default-room _ _ _ _ _ _ (start .pre .1))
 
 default-list-requires : (t : ℕ) → default-lts.Need-list-requires (calls-default t) (default-at t) default.Post
-default-list-requires t c κs = (omega (arith, default-room _ _ _ _ _ _ (c .before .before .before .before .before .before .before .before .pre .1), c .before .before .before .before .before .before .before .before .pre .0), search (needs, default-lists))
+default-list-requires t c κs =
+    let start = c .before .before .before .before .before .before .before .before in
+    (omega (arith, default-room _ _ _ _ _ _ (start .pre .1), start .pre .0), search (needs, default-lists))
 
 default-enum-known-r : (t : ℕ) → default-lts.Need-enum-known-r (calls-default t) (default-at t) default.Post
 default-enum-known-r t c = search needs
@@ -345,19 +482,48 @@ default-returns-2 : (t : ℕ) → default-lts.Need-returns-2 (calls-default t) (
 default-returns-2 t c = search (needs, default-wrong)
 
 default-add-rewrite-3 : (t : ℕ) → default-lts.Need-add-rewrite-3 (calls-default t) (default-at t) default.Post
-default-add-rewrite-3 t c = omega (arith, default-room _ _ _ _ _ _ (c .before .before .before .before .before .before .before .before .before .before .before .before .before .before .before .before .before .pre .1))
+default-add-rewrite-3 t c =
+    let start = c .before .before .before .before .before .before .before .before .before .before .before .before .before .before .before .before .before in
+    omega (arith, default-room _ _ _ _ _ _ (start .pre .1))
 
 default-rewrite-requires-2 : (t : ℕ) → default-lts.Need-rewrite-requires-2 (calls-default t) (default-at t) default.Post
-default-rewrite-requires-2 t c κs = let z = default-closes _ _ _ _ _ _ (c .before .before .before .before .before .before .before .before .before .before .before .before .before .before .before .before .before .pre .1) _ (c .before .before .before .before .before .before .before .before .before .before .before .before .sort .ensures) (c .before .before .before .before .before .before .before .before .before .before .before .if1 .left) _ _ _ (c .before .before .before .before .before .before .before .before .list .ensures) _ _ (c .before .before .r .given .1) in let y = default-room _ _ _ _ _ _ (c .before .before .before .before .before .before .before .before .before .before .before .before .before .before .before .before .before .pre .1) in (omega (arith, z), omega (arith, y), omega (arith, z))
+default-rewrite-requires-2 t c κs =
+    let at-list = c .before .before .before .before .before .before .before .before in
+    let at-if1 = at-list .before .before .before in
+    let at-sort = at-if1 .before in
+    let start = at-sort .before .before .before .before .before in
+    let z = default-closes _ _ _ _ _ _ (start .pre .1) _ (at-sort .sort .ensures) (at-if1 .if1 .left) _ _ _ (at-list .list .ensures) _ _
+    (c .before .before .r .given .1) in let y = default-room _ _ _ _ _ _ (start .pre .1) in (omega (arith, z), omega (arith, y), omega (arith, z))
 
 default-add-set-word : (t : ℕ) → default-lts.Need-add-set-word (calls-default t) (default-at t) default.Post
-default-add-set-word t c = omega (arith, default-closes _ _ _ _ _ _ (c .before .before .before .before .before .before .before .before .before .before .before .before .before .before .before .before .before .before .before .before .before .pre .1) _ (c .before .before .before .before .before .before .before .before .before .before .before .before .before .before .before .before .sort .ensures) (c .before .before .before .before .before .before .before .before .before .before .before .before .before .before .before .if1 .left) _ _ _ (c .before .before .before .before .before .before .before .before .before .before .before .before .list .ensures) _ _ (c .before .before .before .before .before .before .r .given .1))
+default-add-set-word t c =
+    let at-r = c .before .before .before .before .before .before in
+    let at-list = at-r .before .before .before .before .before .before in
+    let at-if1 = at-list .before .before .before in
+    let at-sort = at-if1 .before in
+    let start = at-sort .before .before .before .before .before in
+    omega
+    (arith, default-closes _ _ _ _ _ _ (start .pre .1) _ (at-sort .sort .ensures) (at-if1 .if1 .left) _ _ _ (at-list .list .ensures) _ _ (at-r .r .given .1))
 
 default-set-word-requires : (t : ℕ) → default-lts.Need-set-word-requires (calls-default t) (default-at t) default.Post
-default-set-word-requires t c κs = let z = default-closes _ _ _ _ _ _ (c .before .before .before .before .before .before .before .before .before .before .before .before .before .before .before .before .before .before .before .before .before .pre .1) _ (c .before .before .before .before .before .before .before .before .before .before .before .before .before .before .before .before .sort .ensures) (c .before .before .before .before .before .before .before .before .before .before .before .before .before .before .before .if1 .left) _ _ _ (c .before .before .before .before .before .before .before .before .before .before .before .before .list .ensures) _ _ (c .before .before .before .before .before .before .r .given .1) in let y = rewritten-length (c .before .before .before .rewrite2 .ensures) (z .2) in (omega (arith, z, y), omega arith, omega arith, omega (arith, z))
+default-set-word-requires t c κs =
+    let at-r = c .before .before .before .before .before .before in
+    let at-list = at-r .before .before .before .before .before .before in
+    let at-if1 = at-list .before .before .before in
+    let at-sort = at-if1 .before in
+    let start = at-sort .before .before .before .before .before in
+    let z = default-closes _ _ _ _ _ _ (start .pre .1) _ (at-sort .sort .ensures) (at-if1 .if1 .left) _ _ _ (at-list .list .ensures) _ _ (at-r .r .given .1) in
+    let y = rewritten-length (c .before .before .before .rewrite2 .ensures) (z .2) in (omega (arith, z, y), omega arith, omega arith, omega (arith, z))
 
 default-add-t23 : (t : ℕ) → default-lts.Need-add-t23 (calls-default t) (default-at t) default.Post
-default-add-t23 t c = omega (arith, default-closes _ _ _ _ _ _ (c .before .before .before .before .before .before .before .before .before .before .before .before .before .before .before .before .before .before .before .before .before .before .before .before .pre .1) _ (c .before .before .before .before .before .before .before .before .before .before .before .before .before .before .before .before .before .before .before .sort .ensures) (c .before .before .before .before .before .before .before .before .before .before .before .before .before .before .before .before .before .before .if1 .left) _ _ _ (c .before .before .before .before .before .before .before .before .before .before .before .before .before .before .before .list .ensures) _ _ (c .before .before .before .before .before .before .before .before .before .r .given .1))
+default-add-t23 t c =
+    let at-r = c .before .before .before .before .before .before .before .before .before in
+    let at-list = at-r .before .before .before .before .before .before in
+    let at-if1 = at-list .before .before .before in
+    let at-sort = at-if1 .before in
+    let start = at-sort .before .before .before .before .before in
+    omega
+    (arith, default-closes _ _ _ _ _ _ (start .pre .1) _ (at-sort .sort .ensures) (at-if1 .if1 .left) _ _ _ (at-list .list .ensures) _ _ (at-r .r .given .1))
 
 default-same-length-4 : (t : ℕ) → default-lts.Need-same-length-4 (calls-default t) (default-at t) default.Post
 default-same-length-4 t c = search needs
@@ -366,19 +532,32 @@ default-same-length-5 : (t : ℕ) → default-lts.Need-same-length-5 (calls-defa
 default-same-length-5 t c = search needs
 
 default-returns-3 : (t : ℕ) → default-lts.Need-returns-3 (calls-default t) (default-at t) default.Post
-default-returns-3 t c = default-yes _ _ _ _ _ _ _ (c .before .before .before .before .before .before .before .before .before .before .before .before .before .before .before .before .before .before .before .sort .ensures) (c .before .before .before .before .before .before .before .before .before .before .before .before .before .before .before .before .before .before .if1 .left) _ _ _ (c .before .before .before .before .before .before .before .before .before .before .before .before .before .before .before .list .ensures) _ _ (c .before .before .before .before .before .before .before .before .before .r .given .1) _ _ (c .before .before .before .before .before .before .rewrite2 .ensures) (c .before .before .set-word .ensures)
+default-returns-3 t c =
+    let at-rewrite2 = c .before .before .before .before .before .before in
+    let at-r = at-rewrite2 .before .before .before in
+    let at-list = at-r .before .before .before .before .before .before in
+    let at-if1 = at-list .before .before .before in
+    let at-sort = at-if1 .before in
+    default-yes _ _ _ _ _ _ _ (at-sort .sort .ensures) (at-if1 .if1 .left) _ _ _ (at-list .list .ensures) _ _ (at-r .r .given .1) _ _
+    (at-rewrite2 .rewrite2 .ensures) (c .before .before .set-word .ensures)
 
 else-part-sort-requires : (t : ℕ) → else-part-lts.Need-sort-requires (calls-else-part t) (else-part-at t) else-part.Post
 else-part-sort-requires t c κs = omega (arith, else-room _ _ _ _ _ _ (c .before .before .before .before .pre .1))
 
 else-part-add-set-word : (t : ℕ) → else-part-lts.Need-add-set-word (calls-else-part t) (else-part-at t) else-part.Post
-else-part-add-set-word t c = omega (arith, else-room _ _ _ _ _ _ (c .before .before .before .before .before .before .before .pre .1))
+else-part-add-set-word t c =
+    let start = c .before .before .before .before .before .before .before in
+    omega (arith, else-room _ _ _ _ _ _ (start .pre .1))
 
 else-part-set-word-requires : (t : ℕ) → else-part-lts.Need-set-word-requires (calls-else-part t) (else-part-at t) else-part.Post
-else-part-set-word-requires t c κs = let z = else-room _ _ _ _ _ _ (c .before .before .before .before .before .before .before .pre .1) in (omega (arith, z), omega arith, omega arith, omega (arith, z))
+else-part-set-word-requires t c κs =
+    let start = c .before .before .before .before .before .before .before in
+    let z = else-room _ _ _ _ _ _ (start .pre .1) in (omega (arith, z), omega arith, omega arith, omega (arith, z))
 
 else-part-add-t17 : (t : ℕ) → else-part-lts.Need-add-t17 (calls-else-part t) (else-part-at t) else-part.Post
-else-part-add-t17 t c = omega (arith, else-room _ _ _ _ _ _ (c .before .before .before .before .before .before .before .before .before .before .pre .1))
+else-part-add-t17 t c =
+    let start = c .before .before .before .before .before .before .before .before .before .before in
+    omega (arith, else-room _ _ _ _ _ _ (start .pre .1))
 
 else-part-same-length : (t : ℕ) → else-part-lts.Need-same-length (calls-else-part t) (else-part-at t) else-part.Post
 else-part-same-length t c = search needs
@@ -387,10 +566,14 @@ else-part-returns : (t : ℕ) → else-part-lts.Need-returns (calls-else-part t)
 else-part-returns t c = search (needs, else-no)
 
 else-part-add-list : (t : ℕ) → else-part-lts.Need-add-list (calls-else-part t) (else-part-at t) else-part.Post
-else-part-add-list t c = omega (arith, else-room _ _ _ _ _ _ (c .before .before .before .before .before .before .before .before .pre .1))
+else-part-add-list t c =
+    let start = c .before .before .before .before .before .before .before .before in
+    omega (arith, else-room _ _ _ _ _ _ (start .pre .1))
 
 else-part-list-requires : (t : ℕ) → else-part-lts.Need-list-requires (calls-else-part t) (else-part-at t) else-part.Post
-else-part-list-requires t c κs = (omega (arith, else-room _ _ _ _ _ _ (c .before .before .before .before .before .before .before .before .pre .1), c .before .before .before .before .before .before .before .before .pre .0), search (needs, else-lists))
+else-part-list-requires t c κs =
+    let start = c .before .before .before .before .before .before .before .before in
+    (omega (arith, else-room _ _ _ _ _ _ (start .pre .1), start .pre .0), search (needs, else-lists))
 
 else-part-enum-known-r : (t : ℕ) → else-part-lts.Need-enum-known-r (calls-else-part t) (else-part-at t) else-part.Post
 else-part-enum-known-r t c = search needs
@@ -408,16 +591,42 @@ else-part-returns-2 : (t : ℕ) → else-part-lts.Need-returns-2 (calls-else-par
 else-part-returns-2 t c = search (needs, else-wrong)
 
 else-part-set-word-requires-2 : (t : ℕ) → else-part-lts.Need-set-word-requires-2 (calls-else-part t) (else-part-at t) else-part.Post
-else-part-set-word-requires-2 t c κs = let z = else-closes _ _ _ _ _ _ (c .before .before .before .before .before .before .before .before .before .before .before .before .before .before .before .before .before .pre .1) _ (c .before .before .before .before .before .before .before .before .before .before .before .before .sort .ensures) (c .before .before .before .before .before .before .before .before .before .before .before .if1 .left) _ _ _ (c .before .before .before .before .before .before .before .before .list .ensures) _ _ (c .before .before .r .given .1) in let y = else-room _ _ _ _ _ _ (c .before .before .before .before .before .before .before .before .before .before .before .before .before .before .before .before .before .pre .1) in (omega (arith, z, y), omega arith, omega arith, omega (arith, z))
+else-part-set-word-requires-2 t c κs =
+    let at-list = c .before .before .before .before .before .before .before .before in
+    let at-if1 = at-list .before .before .before in
+    let at-sort = at-if1 .before in
+    let start = at-sort .before .before .before .before .before in
+    let z = else-closes _ _ _ _ _ _ (start .pre .1) _ (at-sort .sort .ensures) (at-if1 .if1 .left) _ _ _ (at-list .list .ensures) _ _
+    (c .before .before .r .given .1) in let y = else-room _ _ _ _ _ _ (start .pre .1) in (omega (arith, z, y), omega arith, omega arith, omega (arith, z))
 
 else-part-add-set-word-2 : (t : ℕ) → else-part-lts.Need-add-set-word-2 (calls-else-part t) (else-part-at t) else-part.Post
-else-part-add-set-word-2 t c = omega (arith, else-closes _ _ _ _ _ _ (c .before .before .before .before .before .before .before .before .before .before .before .before .before .before .before .before .before .before .before .before .before .pre .1) _ (c .before .before .before .before .before .before .before .before .before .before .before .before .before .before .before .before .sort .ensures) (c .before .before .before .before .before .before .before .before .before .before .before .before .before .before .before .if1 .left) _ _ _ (c .before .before .before .before .before .before .before .before .before .before .before .before .list .ensures) _ _ (c .before .before .before .before .before .before .r .given .1))
+else-part-add-set-word-2 t c =
+    let at-r = c .before .before .before .before .before .before in
+    let at-list = at-r .before .before .before .before .before .before in
+    let at-if1 = at-list .before .before .before in
+    let at-sort = at-if1 .before in
+    let start = at-sort .before .before .before .before .before in
+    omega (arith, else-closes _ _ _ _ _ _ (start .pre .1) _ (at-sort .sort .ensures) (at-if1 .if1 .left) _ _ _ (at-list .list .ensures) _ _ (at-r .r .given .1))
 
 else-part-set-word-requires-3 : (t : ℕ) → else-part-lts.Need-set-word-requires-3 (calls-else-part t) (else-part-at t) else-part.Post
-else-part-set-word-requires-3 t c κs = let z = else-closes _ _ _ _ _ _ (c .before .before .before .before .before .before .before .before .before .before .before .before .before .before .before .before .before .before .before .before .before .pre .1) _ (c .before .before .before .before .before .before .before .before .before .before .before .before .before .before .before .before .sort .ensures) (c .before .before .before .before .before .before .before .before .before .before .before .before .before .before .before .if1 .left) _ _ _ (c .before .before .before .before .before .before .before .before .before .before .before .before .list .ensures) _ _ (c .before .before .before .before .before .before .r .given .1) in let y = else-room _ _ _ _ _ _ (c .before .before .before .before .before .before .before .before .before .before .before .before .before .before .before .before .before .before .before .before .before .pre .1) in (omega (arith, z, y, c .before .before .before .set-word2 .ensures .kept .long), omega arith, omega arith, omega (arith, z))
+else-part-set-word-requires-3 t c κs =
+    let at-r = c .before .before .before .before .before .before in
+    let at-list = at-r .before .before .before .before .before .before in
+    let at-if1 = at-list .before .before .before in
+    let at-sort = at-if1 .before in
+    let start = at-sort .before .before .before .before .before in
+    let z = else-closes _ _ _ _ _ _ (start .pre .1) _ (at-sort .sort .ensures) (at-if1 .if1 .left) _ _ _ (at-list .list .ensures) _ _ (at-r .r .given .1) in let
+    y = else-room _ _ _ _ _ _ (start .pre .1) in
+    (omega (arith, z, y, c .before .before .before .set-word2 .ensures .kept .long), omega arith, omega arith, omega (arith, z))
 
 else-part-add-t22 : (t : ℕ) → else-part-lts.Need-add-t22 (calls-else-part t) (else-part-at t) else-part.Post
-else-part-add-t22 t c = omega (arith, else-closes _ _ _ _ _ _ (c .before .before .before .before .before .before .before .before .before .before .before .before .before .before .before .before .before .before .before .before .before .before .before .before .pre .1) _ (c .before .before .before .before .before .before .before .before .before .before .before .before .before .before .before .before .before .before .before .sort .ensures) (c .before .before .before .before .before .before .before .before .before .before .before .before .before .before .before .before .before .before .if1 .left) _ _ _ (c .before .before .before .before .before .before .before .before .before .before .before .before .before .before .before .list .ensures) _ _ (c .before .before .before .before .before .before .before .before .before .r .given .1))
+else-part-add-t22 t c =
+    let at-r = c .before .before .before .before .before .before .before .before .before in
+    let at-list = at-r .before .before .before .before .before .before in
+    let at-if1 = at-list .before .before .before in
+    let at-sort = at-if1 .before in
+    let start = at-sort .before .before .before .before .before in
+    omega (arith, else-closes _ _ _ _ _ _ (start .pre .1) _ (at-sort .sort .ensures) (at-if1 .if1 .left) _ _ _ (at-list .list .ensures) _ _ (at-r .r .given .1))
 
 else-part-same-length-4 : (t : ℕ) → else-part-lts.Need-same-length-4 (calls-else-part t) (else-part-at t) else-part.Post
 else-part-same-length-4 t c = search needs
@@ -426,7 +635,14 @@ else-part-same-length-5 : (t : ℕ) → else-part-lts.Need-same-length-5 (calls-
 else-part-same-length-5 t c = search needs
 
 else-part-returns-3 : (t : ℕ) → else-part-lts.Need-returns-3 (calls-else-part t) (else-part-at t) else-part.Post
-else-part-returns-3 t c = else-yes _ _ _ _ _ _ _ (c .before .before .before .before .before .before .before .before .before .before .before .before .before .before .before .before .before .before .before .sort .ensures) (c .before .before .before .before .before .before .before .before .before .before .before .before .before .before .before .before .before .before .if1 .left) _ _ _ (c .before .before .before .before .before .before .before .before .before .before .before .before .before .before .before .list .ensures) _ _ (c .before .before .before .before .before .before .before .before .before .r .given .1) _ _ (c .before .before .before .before .before .before .set-word2 .ensures) (c .before .before .set-word3 .ensures)
+else-part-returns-3 t c =
+    let at-set-word2 = c .before .before .before .before .before .before in
+    let at-r = at-set-word2 .before .before .before in
+    let at-list = at-r .before .before .before .before .before .before in
+    let at-if1 = at-list .before .before .before in
+    let at-sort = at-if1 .before in
+    else-yes _ _ _ _ _ _ _ (at-sort .sort .ensures) (at-if1 .if1 .left) _ _ _ (at-list .list .ensures) _ _ (at-r .r .given .1) _ _
+    (at-set-word2 .set-word2 .ensures) (c .before .before .set-word3 .ensures)
 
 for-statement-for-head-requires : (t : ℕ) → for-statement-lts.Need-for-head-requires (calls-for-statement t) (for-statement-at t) for-statement.Post
 for-statement-for-head-requires t c κs = search (needs, for-heads)
@@ -438,16 +654,36 @@ for-statement-enum-known-j-2 : (t : ℕ) → for-statement-lts.Need-enum-known-j
 for-statement-enum-known-j-2 t c = search needs
 
 for-statement-add-enter : (t : ℕ) → for-statement-lts.Need-add-enter (calls-for-statement t) (for-statement-at t) for-statement.Post
-for-statement-add-enter t c = omega (arith, for-spare _ _ _ _ _ _ (c .before .before .before .before .before .before .before .before .before .before .before .before .before .pre .1) _ _ (c .before .before .before .before .before .before .before .for-head .ensures) _ _ (c .before .before .before .j2 .given .1))
+for-statement-add-enter t c =
+    let at-for-head = c .before .before .before .before .before .before .before in
+    let start = at-for-head .before .before .before .before .before .before in
+    omega (arith, for-spare _ _ _ _ _ _ (start .pre .1) _ _ (at-for-head .for-head .ensures) _ _ (c .before .before .before .j2 .given .1))
 
 for-statement-enter-requires : (t : ℕ) → for-statement-lts.Need-enter-requires (calls-for-statement t) (for-statement-at t) for-statement.Post
-for-statement-enter-requires t c κs = let z = for-declares _ _ _ _ _ _ (c .before .before .before .before .before .before .before .before .before .before .before .before .before .pre .1) _ _ (c .before .before .before .before .before .before .before .for-head .ensures) _ _ (c .before .before .before .j2 .given .1) in (z .0, z .1, omega (arith, for-spare _ _ _ _ _ _ (c .before .before .before .before .before .before .before .before .before .before .before .before .before .pre .1) _ _ (c .before .before .before .before .before .before .before .for-head .ensures) _ _ (c .before .before .before .j2 .given .1)))
+for-statement-enter-requires t c κs =
+    let at-for-head = c .before .before .before .before .before .before .before in
+    let start = at-for-head .before .before .before .before .before .before in
+    let z = for-declares _ _ _ _ _ _ (start .pre .1) _ _ (at-for-head .for-head .ensures) _ _ (c .before .before .before .j2 .given .1) in
+    (z .0, z .1, omega (arith, for-spare _ _ _ _ _ _ (start .pre .1) _ _ (at-for-head .for-head .ensures) _ _ (c .before .before .before .j2 .given .1)))
 
 for-statement-add-list : (t : ℕ) → for-statement-lts.Need-add-list (calls-for-statement t) (for-statement-at t) for-statement.Post
-for-statement-add-list t c = omega (arith, for-spare _ _ _ _ _ _ (c .before .before .before .before .before .before .before .before .before .before .before .before .before .before .before .before .before .before .before .before .pre .1) _ _ (c .before .before .before .before .before .before .before .before .before .before .before .before .before .before .for-head .ensures) _ _ (c .before .before .before .before .before .before .before .before .before .before .j2 .given .1))
+for-statement-add-list t c =
+    let at-j2 = c .before .before .before .before .before .before .before .before .before .before in
+    let at-for-head = at-j2 .before .before .before .before in
+    let start = at-for-head .before .before .before .before .before .before in
+    omega (arith, for-spare _ _ _ _ _ _ (start .pre .1) _ _ (at-for-head .for-head .ensures) _ _ (at-j2 .j2 .given .1))
 
 for-statement-list-requires : (t : ℕ) → for-statement-lts.Need-list-requires (calls-for-statement t) (for-statement-at t) for-statement.Post
-for-statement-list-requires t c κs = (omega (arith, for-spare _ _ _ _ _ _ (c .before .before .before .before .before .before .before .before .before .before .before .before .before .before .before .before .before .before .before .before .pre .1) _ _ (c .before .before .before .before .before .before .before .before .before .before .before .before .before .before .for-head .ensures) _ _ (c .before .before .before .before .before .before .before .before .before .before .j2 .given .1), c .before .before .before .before .before .before .before .before .before .before .before .before .before .before .before .before .before .before .before .before .pre .0), for-lists _ _ _ _ _ _ (c .before .before .before .before .before .before .before .before .before .before .before .before .before .before .before .before .before .before .before .before .pre .1) _ _ (c .before .before .before .before .before .before .before .before .before .before .before .before .before .before .for-head .ensures) _ _ (c .before .before .before .before .before .before .before .before .before .before .j2 .given .1) _ (omega arith) _ _ (c .before .before .before .before .before .before .enter .ensures .known) _ (c .before .before .before .before .before .before .enter .ensures .used))
+for-statement-list-requires t c κs =
+    let at-enter = c .before .before .before .before .before .before in
+    let at-j2 = at-enter .before .before .before .before in
+    let at-for-head = at-j2 .before .before .before .before in
+    let start = at-for-head .before .before .before .before .before .before in (
+      omega (arith, for-spare _ _ _ _ _ _ (start .pre .1) _ _ (at-for-head .for-head .ensures) _ _ (at-j2 .j2 .given .1), start .pre .0),
+      for-lists _ _ _ _ _ _
+          (start .pre .1) _ _ (at-for-head .for-head .ensures) _ _ (at-j2 .j2 .given .1) _ (omega arith) _ _ (at-enter .enter .ensures .known) _
+          (at-enter .enter .ensures .used),
+    )
 
 for-statement-enum-known-r : (t : ℕ) → for-statement-lts.Need-enum-known-r (calls-for-statement t) (for-statement-at t) for-statement.Post
 for-statement-enum-known-r t c = search needs
@@ -462,19 +698,55 @@ for-statement-same-length-2 : (t : ℕ) → for-statement-lts.Need-same-length-2
 for-statement-same-length-2 t c = search needs
 
 for-statement-returns : (t : ℕ) → for-statement-lts.Need-returns (calls-for-statement t) (for-statement-at t) for-statement.Post
-for-statement-returns t c = for-list-wrong _ _ _ _ _ _ _ _ (c .before .before .before .before .before .before .before .before .before .before .before .before .before .before .before .before .before .before .before .before .before .for-head .ensures) _ _ (c .before .before .before .before .before .before .before .before .before .before .before .before .before .before .before .before .before .j2 .given .1) _ (omega arith) _ _ (c .before .before .before .before .before .before .before .before .before .before .before .before .before .enter .ensures .known) _ (c .before .before .before .before .before .before .before .before .before .before .before .before .before .enter .ensures .used) _ _ _ (c .before .before .before .before .before .before .list .ensures) _ _ (c .enum-told .given .1)
+for-statement-returns t c =
+    let at-list = c .before .before .before .before .before .before in
+    let at-enter = at-list .before .before .before .before .before .before .before in
+    let at-j2 = at-enter .before .before .before .before in
+    let at-for-head = at-j2 .before .before .before .before in
+    for-list-wrong _ _ _ _ _ _ _ _ (at-for-head .for-head .ensures) _ _ (at-j2 .j2 .given .1) _ (omega arith) _ _ (at-enter .enter .ensures .known) _
+    (at-enter .enter .ensures .used) _ _ _ (at-list .list .ensures) _ _ (c .enum-told .given .1)
 
 for-statement-add-leave : (t : ℕ) → for-statement-lts.Need-add-leave (calls-for-statement t) (for-statement-at t) for-statement.Post
-for-statement-add-leave t c = omega (arith, for-spare _ _ _ _ _ _ (c .before .before .before .before .before .before .before .before .before .before .before .before .before .before .before .before .before .before .before .before .before .before .before .before .before .before .before .before .before .before .pre .1) _ _ (c .before .before .before .before .before .before .before .before .before .before .before .before .before .before .before .before .before .before .before .before .before .before .before .before .for-head .ensures) _ _ (c .before .before .before .before .before .before .before .before .before .before .before .before .before .before .before .before .before .before .before .before .j2 .given .1))
+for-statement-add-leave t c =
+    let at-j2 = c .before .before .before .before .before .before .before .before .before .before .before .before .before .before .before .before .before .before .before .before in
+    let at-for-head = at-j2 .before .before .before .before in
+    let start = at-for-head .before .before .before .before .before .before in
+    omega (arith, for-spare _ _ _ _ _ _ (start .pre .1) _ _ (at-for-head .for-head .ensures) _ _ (at-j2 .j2 .given .1))
 
 for-statement-leave-requires : (t : ℕ) → for-statement-lts.Need-leave-requires (calls-for-statement t) (for-statement-at t) for-statement.Post
-for-statement-leave-requires t c κs = for-leaves _ _ _ _ _ _ (c .before .before .before .before .before .before .before .before .before .before .before .before .before .before .before .before .before .before .before .before .before .before .before .before .before .before .before .before .before .before .pre .1) _ _ (c .before .before .before .before .before .before .before .before .before .before .before .before .before .before .before .before .before .before .before .before .before .before .before .before .for-head .ensures) _ _ (c .before .before .before .before .before .before .before .before .before .before .before .before .before .before .before .before .before .before .before .before .j2 .given .1) _ (omega arith) _ _ (c .before .before .before .before .before .before .before .before .before .before .before .before .before .before .before .before .enter .ensures .known) _ _ _ (for-listed (c .before .before .before .before .before .before .before .before .before .before .before .before .before .before .before .before .enter .ensures .used) (c .before .before .before .before .before .before .before .before .before .list .ensures)) _ _ (c .before .before .before .r .given .1)
+for-statement-leave-requires t c κs =
+    let at-list = c .before .before .before .before .before .before .before .before .before in
+    let at-enter = at-list .before .before .before .before .before .before .before in
+    let at-j2 = at-enter .before .before .before .before in
+    let at-for-head = at-j2 .before .before .before .before in
+    let start = at-for-head .before .before .before .before .before .before in
+    for-leaves _ _ _ _ _ _ (start .pre .1) _ _ (at-for-head .for-head .ensures) _ _ (at-j2 .j2 .given .1) _ (omega arith) _ _ (at-enter .enter .ensures .known)
+    _ _ _ (for-listed (at-enter .enter .ensures .used) (at-list .list .ensures)) _ _ (c .before .before .before .r .given .1)
 
 for-statement-for-end-requires : (t : ℕ) → for-statement-lts.Need-for-end-requires (calls-for-statement t) (for-statement-at t) for-statement.Post
-for-statement-for-end-requires t c κs = for-closes _ _ _ _ _ _ (c .before .before .before .before .before .before .before .before .before .before .before .before .before .before .before .before .before .before .before .before .before .before .before .before .before .before .before .before .before .before .before .before .before .before .pre .1) _ _ (c .before .before .before .before .before .before .before .before .before .before .before .before .before .before .before .before .before .before .before .before .before .before .before .before .before .before .before .before .for-head .ensures) _ _ (c .before .before .before .before .before .before .before .before .before .before .before .before .before .before .before .before .before .before .before .before .before .before .before .before .j2 .given .1) _ (omega arith) _ _ (c .before .before .before .before .before .before .before .before .before .before .before .before .before .before .before .before .before .before .before .before .enter .ensures .known) _ _ _ (for-listed (c .before .before .before .before .before .before .before .before .before .before .before .before .before .before .before .before .before .before .before .before .enter .ensures .used) (c .before .before .before .before .before .before .before .before .before .before .before .before .before .list .ensures)) _ _ (c .before .before .before .before .before .before .before .r .given .1)
+for-statement-for-end-requires t c κs =
+    let at-r = c .before .before .before .before .before .before .before in
+    let at-list = at-r .before .before .before .before .before .before in
+    let at-enter = at-list .before .before .before .before .before .before .before in
+    let at-j2 = at-enter .before .before .before .before in
+    let at-for-head = at-j2 .before .before .before .before in
+    let start = at-for-head .before .before .before .before .before .before in
+    for-closes _ _ _ _ _ _ (start .pre .1) _ _ (at-for-head .for-head .ensures) _ _ (at-j2 .j2 .given .1) _ (omega arith) _ _ (at-enter .enter .ensures .known)
+    _ _ _ (for-listed (at-enter .enter .ensures .used) (at-list .list .ensures)) _ _ (at-r .r .given .1)
 
 for-statement-add-t26 : (t : ℕ) → for-statement-lts.Need-add-t26 (calls-for-statement t) (for-statement-at t) for-statement.Post
-for-statement-add-t26 t c = omega (arith, for-closes _ _ _ _ _ _ (c .before .before .before .before .before .before .before .before .before .before .before .before .before .before .before .before .before .before .before .before .before .before .before .before .before .before .before .before .before .before .before .before .before .before .before .before .before .pre .1) _ _ (c .before .before .before .before .before .before .before .before .before .before .before .before .before .before .before .before .before .before .before .before .before .before .before .before .before .before .before .before .before .before .before .for-head .ensures) _ _ (c .before .before .before .before .before .before .before .before .before .before .before .before .before .before .before .before .before .before .before .before .before .before .before .before .before .before .before .j2 .given .1) _ (omega arith) _ _ (c .before .before .before .before .before .before .before .before .before .before .before .before .before .before .before .before .before .before .before .before .before .before .before .enter .ensures .known) _ _ _ (for-listed (c .before .before .before .before .before .before .before .before .before .before .before .before .before .before .before .before .before .before .before .before .before .before .before .enter .ensures .used) (c .before .before .before .before .before .before .before .before .before .before .before .before .before .before .before .before .list .ensures)) _ _ (c .before .before .before .before .before .before .before .before .before .before .r .given .1))
+for-statement-add-t26 t c =
+    let at-r = c .before .before .before .before .before .before .before .before .before .before in
+    let at-list = at-r .before .before .before .before .before .before in
+    let at-enter = at-list .before .before .before .before .before .before .before in
+    let at-j2 = at-enter .before .before .before .before in
+    let at-for-head = at-j2 .before .before .before .before in
+    let start = at-for-head .before .before .before .before .before .before in
+    omega (
+      arith,
+      for-closes _ _ _ _ _ _ (start .pre .1) _ _ (at-for-head .for-head .ensures) _ _ (at-j2 .j2 .given .1) _ (omega arith) _ _
+          (at-enter .enter .ensures .known) _ _ _ (for-listed (at-enter .enter .ensures .used) (at-list .list .ensures)) _ _ (at-r .r .given .1),
+    )
 
 for-statement-same-length-3 : (t : ℕ) → for-statement-lts.Need-same-length-3 (calls-for-statement t) (for-statement-at t) for-statement.Post
 for-statement-same-length-3 t c = search needs
@@ -486,13 +758,34 @@ for-statement-returns-2 : (t : ℕ) → for-statement-lts.Need-returns-2 (calls-
 for-statement-returns-2 t c = search (needs, for-wrong)
 
 for-statement-same-length-5 : (t : ℕ) → for-statement-lts.Need-same-length-5 (calls-for-statement t) (for-statement-at t) for-statement.Post
-for-statement-same-length-5 t c = let z = for-long _ _ _ _ _ _ (c .before .before .before .before .before .before .before .before .before .before .before .before .before .before .before .before .before .before .before .before .before .before .before .before .before .before .before .before .before .before .before .before .before .before .before .before .before .pre .1) _ _ (c .before .before .before .before .before .before .before .before .before .before .before .before .before .before .before .before .before .before .before .before .before .before .before .before .before .before .before .before .before .before .before .for-head .ensures) _ _ (c .before .before .before .before .before .before .before .before .before .before .before .before .before .before .before .before .before .before .before .before .before .before .before .before .before .before .before .j2 .given .1) _ (omega arith) _ _ (c .before .before .before .before .before .before .before .before .before .before .before .before .before .before .before .before .before .before .before .before .before .before .before .enter .ensures .known) _ _ _ (for-listed (c .before .before .before .before .before .before .before .before .before .before .before .before .before .before .before .before .before .before .before .before .before .before .before .enter .ensures .used) (c .before .before .before .before .before .before .before .before .before .before .before .before .before .before .before .before .list .ensures)) _ _ (c .before .before .before .before .before .before .before .before .before .before .r .given .1) _ _ (c .before .before .before .before .before .before .leave .ensures .known) (c .before .before .for-end .ensures) in search needs
+for-statement-same-length-5 t c =
+    let z =
+    (let at-leave = c .before .before .before .before .before .before in
+    let at-r = at-leave .before .before .before .before in
+    let at-list = at-r .before .before .before .before .before .before in
+    let at-enter = at-list .before .before .before .before .before .before .before in
+    let at-j2 = at-enter .before .before .before .before in
+    let at-for-head = at-j2 .before .before .before .before in
+    let start = at-for-head .before .before .before .before .before .before in
+    for-long _ _ _ _ _ _ (start .pre .1) _ _ (at-for-head .for-head .ensures) _ _ (at-j2 .j2 .given .1) _ (omega arith) _ _
+    (at-enter .enter .ensures .known) _ _ _ (for-listed (at-enter .enter .ensures .used) (at-list .list .ensures)) _ _ (at-r .r .given .1) _ _
+    (at-leave .leave .ensures .known) (c .before .before .for-end .ensures)) in
+    search needs
 
 for-statement-same-length-6 : (t : ℕ) → for-statement-lts.Need-same-length-6 (calls-for-statement t) (for-statement-at t) for-statement.Post
 for-statement-same-length-6 t c = search needs
 
 for-statement-returns-3 : (t : ℕ) → for-statement-lts.Need-returns-3 (calls-for-statement t) (for-statement-at t) for-statement.Post
-for-statement-returns-3 t c = for-finished _ _ _ _ _ _ _ _ (c .before .before .before .before .before .before .before .before .before .before .before .before .before .before .before .before .before .before .before .before .before .before .before .before .before .before .before .before .before .before .before .for-head .ensures) _ _ (c .before .before .before .before .before .before .before .before .before .before .before .before .before .before .before .before .before .before .before .before .before .before .before .before .before .before .before .j2 .given .1) _ (omega arith) _ _ (c .before .before .before .before .before .before .before .before .before .before .before .before .before .before .before .before .before .before .before .before .before .before .before .enter .ensures .known) _ (c .before .before .before .before .before .before .before .before .before .before .before .before .before .before .before .before .before .before .before .before .before .before .before .enter .ensures .used) _ _ _ (c .before .before .before .before .before .before .before .before .before .before .before .before .before .before .before .before .list .ensures) _ _ (c .before .before .before .before .before .before .before .before .before .before .r .given .1) _ _ (c .before .before .before .before .before .before .leave .ensures .known) _ (c .before .before .before .before .before .before .leave .ensures .used) (c .before .before .for-end .ensures)
+for-statement-returns-3 t c =
+    let at-leave = c .before .before .before .before .before .before in
+    let at-r = at-leave .before .before .before .before in
+    let at-list = at-r .before .before .before .before .before .before in
+    let at-enter = at-list .before .before .before .before .before .before .before in
+    let at-j2 = at-enter .before .before .before .before in
+    let at-for-head = at-j2 .before .before .before .before in
+    for-finished _ _ _ _ _ _ _ _ (at-for-head .for-head .ensures) _ _ (at-j2 .j2 .given .1) _ (omega arith) _ _ (at-enter .enter .ensures .known) _
+    (at-enter .enter .ensures .used) _ _ _ (at-list .list .ensures) _ _ (at-r .r .given .1) _ _ (at-leave .leave .ensures .known) _
+    (at-leave .leave .ensures .used) (c .before .before .for-end .ensures)
 
 abbrev full-if-Inv-loop : full-if-lts.InvT-loop
 full-if-Inv-loop text code₀ values₀ k i first op₀ c₀ t₀ n₀ code values op c t n = Armings text code₀ values₀ k (n₀ .used) i first code values op c t (n .used)
@@ -504,10 +797,22 @@ full-if-loop-holds : (t : ℕ) → full-if-lts.Need-loop-holds (calls-full-if t)
 full-if-loop-holds t c = search (needs, arms-begin)
 
 full-if-add-list : (t : ℕ) → full-if-lts.Need-add-list (calls-full-if t) (full-if-at t) full-if.Post full-if-Inv-loop full-if-μ-loop
-full-if-add-list t c = omega (arith, arm-place _ _ _ _ _ _ _ _ _ _ _ _ _ (c .before .before .loop .inv) (c .before .before .before .before .before .before .pre .1))
+full-if-add-list t c =
+    let start = c .before .before .before .before .before .before in
+    omega (arith, arm-place _ _ _ _ _ _ _ _ _ _ _ _ _ (c .before .before .loop .inv) (start .pre .1))
 
 full-if-list-requires : (t : ℕ) → full-if-lts.Need-list-requires (calls-full-if t) (full-if-at t) full-if.Post full-if-Inv-loop full-if-μ-loop
-full-if-list-requires t c κs = (omega (arith, arm-place _ _ _ _ _ _ _ _ _ _ _ _ _ (c .before .before .loop .inv) (c .before .before .before .before .before .before .pre .1), arm-after _ _ _ _ _ _ _ _ _ _ _ _ _ (c .before .before .loop .inv) (c .before .before .before .before .before .before .pre .1), c .before .before .before .before .before .before .pre .0), search (needs, arm-lists))
+full-if-list-requires t c κs =
+    let start = c .before .before .before .before .before .before in (
+      omega (
+        arith,
+        arm-place _ _ _ _ _ _ _ _ _ _ _ _ _ (c .before .before .loop .inv) (start .pre .1),
+        arm-after _ _ _ _ _ _ _ _ _ _ _ _ _
+            (c .before .before .loop .inv) (start .pre .1),
+        start .pre .0,
+      ),
+      search (needs, arm-lists),
+    )
 
 full-if-enum-known-r : (t : ℕ) → full-if-lts.Need-enum-known-r (calls-full-if t) (full-if-at t) full-if.Post full-if-Inv-loop full-if-μ-loop
 full-if-enum-known-r t c = search needs
@@ -516,22 +821,64 @@ full-if-enum-told : (t : ℕ) → full-if-lts.Need-enum-told (calls-full-if t) (
 full-if-enum-told t c = search needs
 
 full-if-same-length : (t : ℕ) → full-if-lts.Need-same-length (calls-full-if t) (full-if-at t) full-if.Post full-if-Inv-loop full-if-μ-loop
-full-if-same-length t c = let z = arm-long-so _ _ _ _ _ _ _ _ _ _ _ _ _ (c .before .before .before .before .before .before .before .before .before .loop .inv) (c .before .before .before .before .before .before .before .before .before .before .before .before .before .pre .1) in search needs
+full-if-same-length t c =
+    let z =
+    (let at-loop = c .before .before .before .before .before .before .before .before .before in
+    let start = at-loop .before .before .before .before in
+    arm-long-so _ _ _ _ _ _ _ _ _ _ _ _ _ (at-loop .loop .inv) (start .pre .1)) in
+    search needs
 
 full-if-same-length-2 : (t : ℕ) → full-if-lts.Need-same-length-2 (calls-full-if t) (full-if-at t) full-if.Post full-if-Inv-loop full-if-μ-loop
-full-if-same-length-2 t c = let z = arm-values _ _ _ _ _ _ _ _ _ _ _ _ _ (c .before .before .before .before .before .before .before .before .before .loop .inv) (c .before .before .before .before .before .before .before .before .before .before .before .before .before .pre .1) in search needs
+full-if-same-length-2 t c =
+    let z =
+    (let at-loop = c .before .before .before .before .before .before .before .before .before in
+    let start = at-loop .before .before .before .before in
+    arm-values _ _ _ _ _ _ _ _ _ _ _ _ _ (at-loop .loop .inv) (start .pre .1)) in
+    search needs
 
 full-if-returns : (t : ℕ) → full-if-lts.Need-returns (calls-full-if t) (full-if-at t) full-if.Post full-if-Inv-loop full-if-μ-loop
 full-if-returns t c = search (needs, arm-list-wrong)
 
 full-if-arm-end-requires : (t : ℕ) → full-if-lts.Need-arm-end-requires (calls-full-if t) (full-if-at t) full-if.Post full-if-Inv-loop full-if-μ-loop
-full-if-arm-end-requires t c κs = arm-closes _ _ _ _ _ _ _ _ _ _ _ _ _ (c .before .before .before .before .before .before .before .before .before .before .before .loop .inv) (c .before .before .before .before .before .before .before .before .before .before .before .before .before .before .before .pre .1) _ _ _ (c .before .before .before .before .before .before .before .before .list .ensures) _ _ (c .before .before .r .given .1)
+full-if-arm-end-requires t c κs =
+    let at-list = c .before .before .before .before .before .before .before .before in
+    let at-loop = at-list .before .before .before in
+    let start = at-loop .before .before .before .before in
+    arm-closes _ _ _ _ _ _ _ _ _ _ _ _ _ (at-loop .loop .inv) (start .pre .1) _ _ _ (at-list .list .ensures) _ _ (c .before .before .r .given .1)
 
 full-if-sort-requires : (t : ℕ) → full-if-lts.Need-sort-requires (calls-full-if t) (full-if-at t) full-if.Post full-if-Inv-loop full-if-μ-loop
-full-if-sort-requires t c κs = omega (arith, arm-closes _ _ _ _ _ _ _ _ _ _ _ _ _ (c .before .before .before .before .before .before .before .before .before .before .before .before .before .before .before .loop .inv) (c .before .before .before .before .before .before .before .before .before .before .before .before .before .before .before .before .before .before .before .pre .1) _ _ _ (c .before .before .before .before .before .before .before .before .before .before .before .before .list .ensures) _ _ (c .before .before .before .before .before .before .r .given .1), arm-long _ _ _ _ _ _ _ _ _ _ _ _ _ (c .before .before .before .before .before .before .before .before .before .before .before .before .before .before .before .loop .inv) (c .before .before .before .before .before .before .before .before .before .before .before .before .before .before .before .before .before .before .before .pre .1) _ _ _ (c .before .before .before .before .before .before .before .before .before .before .before .before .list .ensures) _ _ (c .before .before .before .before .before .before .r .given .1) _ (c .before .before .before .arm-end .ensures), arm-wide _ _ _ _ _ _ _ _ _ _ _ _ _ (c .before .before .before .before .before .before .before .before .before .before .before .before .before .before .before .loop .inv) (c .before .before .before .before .before .before .before .before .before .before .before .before .before .before .before .before .before .before .before .pre .1))
+full-if-sort-requires t c κs =
+    let at-r = c .before .before .before .before .before .before in
+    let at-list = at-r .before .before .before .before .before .before in
+    let at-loop = at-list .before .before .before in
+    let start = at-loop .before .before .before .before in
+    omega (
+      arith,
+      arm-closes _ _ _ _ _ _ _ _ _ _ _ _ _ (at-loop .loop .inv) (start .pre .1) _ _ _ (at-list .list .ensures) _ _ (at-r .r .given .1),
+      arm-long _ _
+          _ _ _ _ _ _ _ _ _ _ _ (at-loop .loop .inv) (start .pre .1) _ _ _ (at-list .list .ensures) _ _ (at-r .r .given .1) _
+          (c .before .before .before .arm-end .ensures),
+      arm-wide _ _ _ _ _ _ _ _ _ _ _ _ _ (at-loop .loop .inv) (start .pre .1),
+    )
 
 full-if-else-part-requires : (t : ℕ) → full-if-lts.Need-else-part-requires (calls-full-if t) (full-if-at t) full-if.Post full-if-Inv-loop full-if-μ-loop
-full-if-else-part-requires t c κs = (omega (arith, arm-closes _ _ _ _ _ _ _ _ _ _ _ _ _ (c .before .before .before .before .before .before .before .before .before .before .before .before .before .before .before .before .before .before .before .loop .inv) (c .before .before .before .before .before .before .before .before .before .before .before .before .before .before .before .before .before .before .before .before .before .before .before .pre .1) _ _ _ (c .before .before .before .before .before .before .before .before .before .before .before .before .before .before .before .before .list .ensures) _ _ (c .before .before .before .before .before .before .before .before .before .before .r .given .1), arm-after _ _ _ _ _ _ _ _ _ _ _ _ _ (c .before .before .before .before .before .before .before .before .before .before .before .before .before .before .before .before .before .before .before .loop .inv) (c .before .before .before .before .before .before .before .before .before .before .before .before .before .before .before .before .before .before .before .before .before .before .before .pre .1), c .before .before .before .before .before .before .before .before .before .before .before .before .before .before .before .before .before .before .before .before .before .before .before .pre .0), arm-elses _ _ _ _ _ _ _ _ _ _ _ _ _ (c .before .before .before .before .before .before .before .before .before .before .before .before .before .before .before .before .before .before .before .loop .inv) (c .before .before .before .before .before .before .before .before .before .before .before .before .before .before .before .before .before .before .before .before .before .before .before .pre .1) _ _ _ (c .before .before .before .before .before .before .before .before .before .before .before .before .before .before .before .before .list .ensures) _ _ (c .before .before .before .before .before .before .before .before .before .before .r .given .1) _ (c .before .before .before .before .before .before .before .arm-end .ensures) _ (c .before .before .before .sort .ensures) (c .before .before .if1 .taken))
+full-if-else-part-requires t c κs =
+    let at-arm-end = c .before .before .before .before .before .before .before in
+    let at-r = at-arm-end .before .before .before in
+    let at-list = at-r .before .before .before .before .before .before in
+    let at-loop = at-list .before .before .before in
+    let start = at-loop .before .before .before .before in (
+      omega (
+        arith,
+        arm-closes _ _ _ _ _ _ _ _ _ _ _ _ _ (at-loop .loop .inv) (start .pre .1) _ _ _ (at-list .list .ensures) _ _ (at-r .r .given .1),
+        arm-after _
+            _ _ _ _ _ _ _ _ _ _ _ _ (at-loop .loop .inv) (start .pre .1),
+        start .pre .0,
+      ),
+      arm-elses _ _ _ _ _ _ _ _ _ _ _ _ _ (at-loop .loop .inv) (start .pre .1) _ _ _
+          (at-list .list .ensures) _ _ (at-r .r .given .1) _ (at-arm-end .arm-end .ensures) _ (c .before .before .before .sort .ensures)
+          (c .before .before .if1 .taken),
+    )
 
 full-if-enum-known-r-2 : (t : ℕ) → full-if-lts.Need-enum-known-r-2 (calls-full-if t) (full-if-at t) full-if.Post full-if-Inv-loop full-if-μ-loop
 full-if-enum-known-r-2 t c = search needs
@@ -540,55 +887,166 @@ full-if-enum-told-2 : (t : ℕ) → full-if-lts.Need-enum-told-2 (calls-full-if 
 full-if-enum-told-2 t c = search needs
 
 full-if-same-length-3 : (t : ℕ) → full-if-lts.Need-same-length-3 (calls-full-if t) (full-if-at t) full-if.Post full-if-Inv-loop full-if-μ-loop
-full-if-same-length-3 t c = let z = arm-long-so _ _ _ _ _ _ _ _ _ _ _ _ _ (c .before .before .before .before .before .before .before .before .before .before .before .before .before .before .before .before .before .before .before .before .before .before .before .before .before .before .loop .inv) (c .before .before .before .before .before .before .before .before .before .before .before .before .before .before .before .before .before .before .before .before .before .before .before .before .before .before .before .before .before .before .pre .1) in search needs
+full-if-same-length-3 t c =
+    let z =
+    (let at-loop = c .before .before .before .before .before .before .before .before .before .before .before .before .before .before .before .before .before .before .before .before .before .before .before .before .before .before in
+    let start = at-loop .before .before .before .before in
+    arm-long-so _ _ _ _ _ _ _ _ _ _ _ _ _ (at-loop .loop .inv) (start .pre .1)) in
+    search needs
 
 full-if-same-length-4 : (t : ℕ) → full-if-lts.Need-same-length-4 (calls-full-if t) (full-if-at t) full-if.Post full-if-Inv-loop full-if-μ-loop
-full-if-same-length-4 t c = let z = arm-values _ _ _ _ _ _ _ _ _ _ _ _ _ (c .before .before .before .before .before .before .before .before .before .before .before .before .before .before .before .before .before .before .before .before .before .before .before .before .before .before .loop .inv) (c .before .before .before .before .before .before .before .before .before .before .before .before .before .before .before .before .before .before .before .before .before .before .before .before .before .before .before .before .before .before .pre .1) in search needs
+full-if-same-length-4 t c =
+    let z =
+    (let at-loop = c .before .before .before .before .before .before .before .before .before .before .before .before .before .before .before .before .before .before .before .before .before .before .before .before .before .before in
+    let start = at-loop .before .before .before .before in
+    arm-values _ _ _ _ _ _ _ _ _ _ _ _ _ (at-loop .loop .inv) (start .pre .1)) in
+    search needs
 
 full-if-returns-2 : (t : ℕ) → full-if-lts.Need-returns-2 (calls-full-if t) (full-if-at t) full-if.Post full-if-Inv-loop full-if-μ-loop
-full-if-returns-2 t c = arm-else-wrong _ _ _ _ _ _ _ _ _ _ _ _ _ (c .before .before .before .before .before .before .before .before .before .before .before .before .before .before .before .before .before .before .before .before .before .before .before .before .before .before .loop .inv) _ _ _ (c .before .before .before .before .before .before .before .before .before .before .before .before .before .before .before .before .before .before .before .before .before .before .before .list .ensures) _ _ (c .before .before .before .before .before .before .before .before .before .before .before .before .before .before .before .before .before .r .given .1) _ (c .before .before .before .before .before .before .before .before .before .before .before .before .before .before .arm-end .ensures) _ (c .before .before .before .before .before .before .before .before .before .before .sort .ensures) (c .before .before .before .before .before .before .before .before .before .if1 .taken) _ _ _ (c .before .before .before .before .before .before .else-part .ensures) _ _ (c .enum-told2 .given .1)
+full-if-returns-2 t c =
+    let at-else-part = c .before .before .before .before .before .before in
+    let at-if1 = at-else-part .before .before .before in
+    let at-sort = at-if1 .before in
+    let at-arm-end = at-sort .before .before .before .before in
+    let at-r = at-arm-end .before .before .before in
+    let at-list = at-r .before .before .before .before .before .before in
+    let at-loop = at-list .before .before .before in
+    arm-else-wrong _ _ _ _ _ _ _ _ _ _ _ _ _ (at-loop .loop .inv) _ _ _ (at-list .list .ensures) _ _ (at-r .r .given .1) _ (at-arm-end .arm-end .ensures) _
+    (at-sort .sort .ensures) (at-if1 .if1 .taken) _ _ _ (at-else-part .else-part .ensures) _ _ (c .enum-told2 .given .1)
 
 full-if-set-link-requires : (t : ℕ) → full-if-lts.Need-set-link-requires (calls-full-if t) (full-if-at t) full-if.Post full-if-Inv-loop full-if-μ-loop
-full-if-set-link-requires t c κs = arm-ends _ _ _ _ _ _ _ _ _ _ _ _ _ (c .before .before .before .before .before .before .before .before .before .before .before .before .before .before .before .before .before .before .before .before .before .before .before .before .before .before .before .before .loop .inv) (c .before .before .before .before .before .before .before .before .before .before .before .before .before .before .before .before .before .before .before .before .before .before .before .before .before .before .before .before .before .before .before .before .pre .1) _ _ _ (c .before .before .before .before .before .before .before .before .before .before .before .before .before .before .before .before .before .before .before .before .before .before .before .before .before .list .ensures) _ _ (c .before .before .before .before .before .before .before .before .before .before .before .before .before .before .before .before .before .before .before .r .given .1) _ (c .before .before .before .before .before .before .before .before .before .before .before .before .before .before .before .before .arm-end .ensures) _ (c .before .before .before .before .before .before .before .before .before .before .before .before .sort .ensures) (c .before .before .before .before .before .before .before .before .before .before .before .if1 .taken) _ _ _ (c .before .before .before .before .before .before .before .before .else-part .ensures) _ _ (c .before .before .r2 .given .1)
+full-if-set-link-requires t c κs =
+    let at-else-part = c .before .before .before .before .before .before .before .before in
+    let at-if1 = at-else-part .before .before .before in
+    let at-sort = at-if1 .before in
+    let at-arm-end = at-sort .before .before .before .before in
+    let at-r = at-arm-end .before .before .before in
+    let at-list = at-r .before .before .before .before .before .before in
+    let at-loop = at-list .before .before .before in
+    let start = at-loop .before .before .before .before in
+    arm-ends _ _ _ _ _ _ _ _ _ _ _ _ _ (at-loop .loop .inv) (start .pre .1) _ _ _ (at-list .list .ensures) _ _ (at-r .r .given .1) _
+    (at-arm-end .arm-end .ensures) _ (at-sort .sort .ensures) (at-if1 .if1 .taken) _ _ _ (at-else-part .else-part .ensures) _ _
+    (c .before .before .r2 .given .1)
 
 full-if-same-length-5 : (t : ℕ) → full-if-lts.Need-same-length-5 (calls-full-if t) (full-if-at t) full-if.Post full-if-Inv-loop full-if-μ-loop
-full-if-same-length-5 t c = let z = arms-finished _ _ _ _ _ _ _ _ _ _ _ _ _ (c .before .before .before .before .before .before .before .before .before .before .before .before .before .before .before .before .before .before .before .before .before .before .before .before .before .before .before .before .before .before .before .loop .inv) _ _ _ (c .before .before .before .before .before .before .before .before .before .before .before .before .before .before .before .before .before .before .before .before .before .before .before .before .before .before .before .before .list .ensures) _ _ (c .before .before .before .before .before .before .before .before .before .before .before .before .before .before .before .before .before .before .before .before .before .before .r .given .1) _ (c .before .before .before .before .before .before .before .before .before .before .before .before .before .before .before .before .before .before .before .arm-end .ensures) _ (c .before .before .before .before .before .before .before .before .before .before .before .before .before .before .before .sort .ensures) (c .before .before .before .before .before .before .before .before .before .before .before .before .before .before .if1 .taken) _ _ _ (c .before .before .before .before .before .before .before .before .before .before .before .else-part .ensures) _ _ (c .before .before .before .before .before .r2 .given .1) _ (c .before .before .set-link .ensures) .is (c .before .before .before .before .before .before .before .before .before .before .before .before .before .before .before .before .before .before .before .before .before .before .before .before .before .before .before .before .before .before .before .before .before .before .before .pre .1) .long in search needs
+full-if-same-length-5 t c =
+    let z =
+    (let at-r2 = c .before .before .before .before .before in
+    let at-else-part = at-r2 .before .before .before .before .before .before in
+    let at-if1 = at-else-part .before .before .before in
+    let at-sort = at-if1 .before in
+    let at-arm-end = at-sort .before .before .before .before in
+    let at-r = at-arm-end .before .before .before in
+    let at-list = at-r .before .before .before .before .before .before in
+    let at-loop = at-list .before .before .before in
+    let start = at-loop .before .before .before .before in
+    arms-finished _ _ _ _ _ _ _ _ _ _ _ _ _ (at-loop .loop .inv) _ _ _ (at-list .list .ensures) _ _ (at-r .r .given .1) _ (at-arm-end .arm-end .ensures)
+    _ (at-sort .sort .ensures) (at-if1 .if1 .taken) _ _ _ (at-else-part .else-part .ensures) _ _ (at-r2 .r2 .given .1) _
+    (c .before .before .set-link .ensures) .is (start .pre .1) .long) in
+    search needs
 
 full-if-same-length-6 : (t : ℕ) → full-if-lts.Need-same-length-6 (calls-full-if t) (full-if-at t) full-if.Post full-if-Inv-loop full-if-μ-loop
-full-if-same-length-6 t c = let z = arm-values _ _ _ _ _ _ _ _ _ _ _ _ _ (c .before .before .before .before .before .before .before .before .before .before .before .before .before .before .before .before .before .before .before .before .before .before .before .before .before .before .before .before .before .before .before .loop .inv) (c .before .before .before .before .before .before .before .before .before .before .before .before .before .before .before .before .before .before .before .before .before .before .before .before .before .before .before .before .before .before .before .before .before .before .before .pre .1) in search needs
+full-if-same-length-6 t c =
+    let z =
+    (let at-loop = c .before .before .before .before .before .before .before .before .before .before .before .before .before .before .before .before .before .before .before .before .before .before .before .before .before .before .before .before .before .before .before in
+    let start = at-loop .before .before .before .before in
+    arm-values _ _ _ _ _ _ _ _ _ _ _ _ _ (at-loop .loop .inv) (start .pre .1)) in
+    search needs
 
 full-if-returns-3 : (t : ℕ) → full-if-lts.Need-returns-3 (calls-full-if t) (full-if-at t) full-if.Post full-if-Inv-loop full-if-μ-loop
-full-if-returns-3 t c = arms-finished _ _ _ _ _ _ _ _ _ _ _ _ _ (c .before .before .before .before .before .before .before .before .before .before .before .before .before .before .before .before .before .before .before .before .before .before .before .before .before .before .before .before .before .before .before .loop .inv) _ _ _ (c .before .before .before .before .before .before .before .before .before .before .before .before .before .before .before .before .before .before .before .before .before .before .before .before .before .before .before .before .list .ensures) _ _ (c .before .before .before .before .before .before .before .before .before .before .before .before .before .before .before .before .before .before .before .before .before .before .r .given .1) _ (c .before .before .before .before .before .before .before .before .before .before .before .before .before .before .before .before .before .before .before .arm-end .ensures) _ (c .before .before .before .before .before .before .before .before .before .before .before .before .before .before .before .sort .ensures) (c .before .before .before .before .before .before .before .before .before .before .before .before .before .before .if1 .taken) _ _ _ (c .before .before .before .before .before .before .before .before .before .before .before .else-part .ensures) _ _ (c .before .before .before .before .before .r2 .given .1) _ (c .before .before .set-link .ensures)
+full-if-returns-3 t c =
+    let at-r2 = c .before .before .before .before .before in
+    let at-else-part = at-r2 .before .before .before .before .before .before in
+    let at-if1 = at-else-part .before .before .before in
+    let at-sort = at-if1 .before in
+    let at-arm-end = at-sort .before .before .before .before in
+    let at-r = at-arm-end .before .before .before in
+    let at-list = at-r .before .before .before .before .before .before in
+    let at-loop = at-list .before .before .before in
+    arms-finished _ _ _ _ _ _ _ _ _ _ _ _ _ (at-loop .loop .inv) _ _ _ (at-list .list .ensures) _ _ (at-r .r .given .1) _ (at-arm-end .arm-end .ensures) _
+    (at-sort .sort .ensures) (at-if1 .if1 .taken) _ _ _ (at-else-part .else-part .ensures) _ _ (at-r2 .r2 .given .1) _ (c .before .before .set-link .ensures)
 
 full-if-add-of-type : (t : ℕ) → full-if-lts.Need-add-of-type (calls-full-if t) (full-if-at t) full-if.Post full-if-Inv-loop full-if-μ-loop
-full-if-add-of-type t c = omega (arith, arm-closes _ _ _ _ _ _ _ _ _ _ _ _ _ (c .before .before .before .before .before .before .before .before .before .before .before .before .before .before .before .before .before .before .before .loop .inv) (c .before .before .before .before .before .before .before .before .before .before .before .before .before .before .before .before .before .before .before .before .before .before .before .pre .1) _ _ _ (c .before .before .before .before .before .before .before .before .before .before .before .before .before .before .before .before .list .ensures) _ _ (c .before .before .before .before .before .before .before .before .before .before .r .given .1))
+full-if-add-of-type t c =
+    let at-r = c .before .before .before .before .before .before .before .before .before .before in
+    let at-list = at-r .before .before .before .before .before .before in
+    let at-loop = at-list .before .before .before in
+    let start = at-loop .before .before .before .before in
+    omega (arith, arm-closes _ _ _ _ _ _ _ _ _ _ _ _ _ (at-loop .loop .inv) (start .pre .1) _ _ _ (at-list .list .ensures) _ _ (at-r .r .given .1))
 
 full-if-of-type-requires : (t : ℕ) → full-if-lts.Need-of-type-requires (calls-full-if t) (full-if-at t) full-if.Post full-if-Inv-loop full-if-μ-loop
-full-if-of-type-requires t c κs = arm-condition _ _ _ _ _ _ _ _ _ _ _ _ _ (c .before .before .before .before .before .before .before .before .before .before .before .before .before .before .before .before .before .before .before .loop .inv) (c .before .before .before .before .before .before .before .before .before .before .before .before .before .before .before .before .before .before .before .before .before .before .before .pre .1) _ _ _ (c .before .before .before .before .before .before .before .before .before .before .before .before .before .before .before .before .list .ensures) _ _ (c .before .before .before .before .before .before .before .before .before .before .r .given .1) _ (c .before .before .before .before .before .before .before .arm-end .ensures) _ (c .before .before .before .sort .ensures) (c .before .before .if1 .left)
+full-if-of-type-requires t c κs =
+    let at-arm-end = c .before .before .before .before .before .before .before in
+    let at-r = at-arm-end .before .before .before in
+    let at-list = at-r .before .before .before .before .before .before in
+    let at-loop = at-list .before .before .before in
+    let start = at-loop .before .before .before .before in
+    arm-condition _ _ _ _ _ _ _ _ _ _ _ _ _ (at-loop .loop .inv) (start .pre .1) _ _ _ (at-list .list .ensures) _ _ (at-r .r .given .1) _
+    (at-arm-end .arm-end .ensures) _ (c .before .before .before .sort .ensures) (c .before .before .if1 .left)
 
 full-if-enum-known-j : (t : ℕ) → full-if-lts.Need-enum-known-j (calls-full-if t) (full-if-at t) full-if.Post full-if-Inv-loop full-if-μ-loop
 full-if-enum-known-j t c = search needs
 
 full-if-same-length-7 : (t : ℕ) → full-if-lts.Need-same-length-7 (calls-full-if t) (full-if-at t) full-if.Post full-if-Inv-loop full-if-μ-loop
-full-if-same-length-7 t c = let z = arm-long-so _ _ _ _ _ _ _ _ _ _ _ _ _ (c .before .before .before .before .before .before .before .before .before .before .before .before .before .before .before .before .before .before .before .before .before .before .before .before .before .loop .inv) (c .before .before .before .before .before .before .before .before .before .before .before .before .before .before .before .before .before .before .before .before .before .before .before .before .before .before .before .before .before .pre .1) in search needs
+full-if-same-length-7 t c =
+    let z =
+    (let at-loop = c .before .before .before .before .before .before .before .before .before .before .before .before .before .before .before .before .before .before .before .before .before .before .before .before .before in
+    let start = at-loop .before .before .before .before in
+    arm-long-so _ _ _ _ _ _ _ _ _ _ _ _ _ (at-loop .loop .inv) (start .pre .1)) in
+    search needs
 
 full-if-same-length-8 : (t : ℕ) → full-if-lts.Need-same-length-8 (calls-full-if t) (full-if-at t) full-if.Post full-if-Inv-loop full-if-μ-loop
-full-if-same-length-8 t c = let z = arm-values _ _ _ _ _ _ _ _ _ _ _ _ _ (c .before .before .before .before .before .before .before .before .before .before .before .before .before .before .before .before .before .before .before .before .before .before .before .before .before .loop .inv) (c .before .before .before .before .before .before .before .before .before .before .before .before .before .before .before .before .before .before .before .before .before .before .before .before .before .before .before .before .before .pre .1) in search needs
+full-if-same-length-8 t c =
+    let z =
+    (let at-loop = c .before .before .before .before .before .before .before .before .before .before .before .before .before .before .before .before .before .before .before .before .before .before .before .before .before in
+    let start = at-loop .before .before .before .before in
+    arm-values _ _ _ _ _ _ _ _ _ _ _ _ _ (at-loop .loop .inv) (start .pre .1)) in
+    search needs
 
 full-if-returns-4 : (t : ℕ) → full-if-lts.Need-returns-4 (calls-full-if t) (full-if-at t) full-if.Post full-if-Inv-loop full-if-μ-loop
-full-if-returns-4 t c = arm-wrong _ _ _ _ _ _ _ _ _ _ _ _ _ (c .before .before .before .before .before .before .before .before .before .before .before .before .before .before .before .before .before .before .before .before .before .before .before .before .before .loop .inv) _ _ _ (c .before .before .before .before .before .before .before .before .before .before .before .before .before .before .before .before .before .before .before .before .before .before .list .ensures) _ _ (c .before .before .before .before .before .before .before .before .before .before .before .before .before .before .before .before .r .given .1) _ (c .before .before .before .before .before .before .before .before .before .before .before .before .before .arm-end .ensures) _ (c .before .before .before .before .before .before .before .before .before .sort .ensures) (c .before .before .before .before .before .before .before .before .if1 .left) _ _ (c .before .before .before .before .before .of-type .ensures) _ _ (c .before .j .given .1)
+full-if-returns-4 t c =
+    let at-of-type = c .before .before .before .before .before in
+    let at-if1 = at-of-type .before .before .before in
+    let at-sort = at-if1 .before in
+    let at-arm-end = at-sort .before .before .before .before in
+    let at-r = at-arm-end .before .before .before in
+    let at-list = at-r .before .before .before .before .before .before in
+    let at-loop = at-list .before .before .before in
+    arm-wrong _ _ _ _ _ _ _ _ _ _ _ _ _ (at-loop .loop .inv) _ _ _ (at-list .list .ensures) _ _ (at-r .r .given .1) _ (at-arm-end .arm-end .ensures) _
+    (at-sort .sort .ensures) (at-if1 .if1 .left) _ _ (at-of-type .of-type .ensures) _ _ (c .before .j .given .1)
 
 full-if-enum-known-j-2 : (t : ℕ) → full-if-lts.Need-enum-known-j-2 (calls-full-if t) (full-if-at t) full-if.Post full-if-Inv-loop full-if-μ-loop
 full-if-enum-known-j-2 t c = search needs
 
 full-if-loop-less : (t : ℕ) → full-if-lts.Need-loop-less (calls-full-if t) (full-if-at t) full-if.Post full-if-Inv-loop full-if-μ-loop
-full-if-loop-less t c = arm-less _ _ _ _ _ _ _ _ _ _ _ _ _ (c .before .before .before .before .before .before .before .before .before .before .before .before .before .before .before .before .before .before .before .before .before .before .before .before .before .loop .inv) (c .before .before .before .before .before .before .before .before .before .before .before .before .before .before .before .before .before .before .before .before .before .before .before .before .before .before .before .before .before .pre .1) _ _ _ (c .before .before .before .before .before .before .before .before .before .before .before .before .before .before .before .before .before .before .before .before .before .before .list .ensures) _ _ (c .before .before .before .before .before .before .before .before .before .before .before .before .before .before .before .before .r .given .1) _ (c .before .before .before .before .before .before .before .before .before .before .before .before .before .arm-end .ensures) _ (c .before .before .before .before .before .before .before .before .before .sort .ensures) (c .before .before .before .before .before .before .before .before .if1 .left) _ _ (c .before .before .before .before .before .of-type .ensures) _ _ (c .before .j2 .given .1)
+full-if-loop-less t c =
+    let at-of-type = c .before .before .before .before .before in
+    let at-if1 = at-of-type .before .before .before in
+    let at-sort = at-if1 .before in
+    let at-arm-end = at-sort .before .before .before .before in
+    let at-r = at-arm-end .before .before .before in
+    let at-list = at-r .before .before .before .before .before .before in
+    let at-loop = at-list .before .before .before in
+    let start = at-loop .before .before .before .before in
+    arm-less _ _ _ _ _ _ _ _ _ _ _ _ _ (at-loop .loop .inv) (start .pre .1) _ _ _ (at-list .list .ensures) _ _ (at-r .r .given .1) _
+    (at-arm-end .arm-end .ensures) _ (at-sort .sort .ensures) (at-if1 .if1 .left) _ _ (at-of-type .of-type .ensures) _ _ (c .before .j2 .given .1)
 
 full-if-loop-again : (t : ℕ) → full-if-lts.Need-loop-again (calls-full-if t) (full-if-at t) full-if.Post full-if-Inv-loop full-if-μ-loop
-full-if-loop-again t c = arms-go _ _ _ _ _ _ _ _ _ _ _ _ _ (c .before .before .before .before .before .before .before .before .before .before .before .before .before .before .before .before .before .before .before .before .before .before .before .before .before .loop .inv) _ _ _ (c .before .before .before .before .before .before .before .before .before .before .before .before .before .before .before .before .before .before .before .before .before .before .list .ensures) _ _ (c .before .before .before .before .before .before .before .before .before .before .before .before .before .before .before .before .r .given .1) _ (c .before .before .before .before .before .before .before .before .before .before .before .before .before .arm-end .ensures) _ (c .before .before .before .before .before .before .before .before .before .sort .ensures) (c .before .before .before .before .before .before .before .before .if1 .left) _ _ (c .before .before .before .before .before .of-type .ensures) _ _ (c .before .j2 .given .1)
+full-if-loop-again t c =
+    let at-of-type = c .before .before .before .before .before in
+    let at-if1 = at-of-type .before .before .before in
+    let at-sort = at-if1 .before in
+    let at-arm-end = at-sort .before .before .before .before in
+    let at-r = at-arm-end .before .before .before in
+    let at-list = at-r .before .before .before .before .before .before in
+    let at-loop = at-list .before .before .before in
+    arms-go _ _ _ _ _ _ _ _ _ _ _ _ _ (at-loop .loop .inv) _ _ _ (at-list .list .ensures) _ _ (at-r .r .given .1) _ (at-arm-end .arm-end .ensures) _
+    (at-sort .sort .ensures) (at-if1 .if1 .left) _ _ (at-of-type .of-type .ensures) _ _ (c .before .j2 .given .1)
 
 if-statement-add-of-type : (t : ℕ) → if-statement-lts.Need-add-of-type (calls-if-statement t) (if-statement-at t) if-statement.Post
-if-statement-add-of-type t c = omega (arith, stands-early _ _ _ _ _ _ (c .before .before .before .before .before .pre .1 .stands))
+if-statement-add-of-type t c =
+    let start = c .before .before .before .before .before in
+    omega (arith, stands-early _ _ _ _ _ _ (start .pre .1 .stands))
 
 if-statement-of-type-requires : (t : ℕ) → if-statement-lts.Need-of-type-requires (calls-if-statement t) (if-statement-at t) if-statement.Post
 if-statement-of-type-requires t c κs = search (needs, if-condition)
@@ -600,10 +1058,18 @@ if-statement-enum-known-j-2 : (t : ℕ) → if-statement-lts.Need-enum-known-j-2
 if-statement-enum-known-j-2 t c = search needs
 
 if-statement-sort-requires : (t : ℕ) → if-statement-lts.Need-sort-requires (calls-if-statement t) (if-statement-at t) if-statement.Post
-if-statement-sort-requires t c κs = if-room _ _ _ _ _ _ (c .before .before .before .before .before .before .before .before .before .before .before .before .pre .1) _ _ (c .before .before .before .before .before .before .of-type .ensures) _ _ (c .before .before .j2 .given .1) .1
+if-statement-sort-requires t c κs =
+    let at-of-type = c .before .before .before .before .before .before in
+    let start = at-of-type .before .before .before .before .before .before in
+    if-room _ _ _ _ _ _ (start .pre .1) _ _ (at-of-type .of-type .ensures) _ _ (c .before .before .j2 .given .1) .1
 
 if-statement-compact-if-requires : (t : ℕ) → if-statement-lts.Need-compact-if-requires (calls-if-statement t) (if-statement-at t) if-statement.Post
-if-statement-compact-if-requires t c κs = if-compacts _ _ _ _ _ _ (c .before .before .before .before .before .before .before .before .before .before .before .before .before .before .before .before .pre .1) _ _ (c .before .before .before .before .before .before .before .before .before .before .of-type .ensures) _ _ (c .before .before .before .before .before .before .j2 .given .1) _ (c .before .before .before .sort .ensures) (c .before .before .if1 .taken)
+if-statement-compact-if-requires t c κs =
+    let at-j2 = c .before .before .before .before .before .before in
+    let at-of-type = at-j2 .before .before .before .before in
+    let start = at-of-type .before .before .before .before .before .before in
+    if-compacts _ _ _ _ _ _ (start .pre .1) _ _ (at-of-type .of-type .ensures) _ _ (at-j2 .j2 .given .1) _ (c .before .before .before .sort .ensures)
+    (c .before .before .if1 .taken)
 
 if-statement-same-length : (t : ℕ) → if-statement-lts.Need-same-length (calls-if-statement t) (if-statement-at t) if-statement.Post
 if-statement-same-length t c = search needs
@@ -615,7 +1081,20 @@ if-statement-returns : (t : ℕ) → if-statement-lts.Need-returns (calls-if-sta
 if-statement-returns t c = search (needs, if-compact)
 
 if-statement-full-if-requires : (t : ℕ) → if-statement-lts.Need-full-if-requires (calls-if-statement t) (if-statement-at t) if-statement.Post
-if-statement-full-if-requires t c κs = (omega (arith, if-room _ _ _ _ _ _ (c .before .before .before .before .before .before .before .before .before .before .before .before .before .before .before .before .pre .1) _ _ (c .before .before .before .before .before .before .before .before .before .before .of-type .ensures) _ _ (c .before .before .before .before .before .before .j2 .given .1), if-forward _ _ _ _ _ _ (c .before .before .before .before .before .before .before .before .before .before .before .before .before .before .before .before .pre .1) _ _ (c .before .before .before .before .before .before .before .before .before .before .of-type .ensures) _ _ (c .before .before .before .before .before .before .j2 .given .1), c .before .before .before .before .before .before .before .before .before .before .before .before .before .before .before .before .pre .0), if-thens _ _ _ _ _ _ (c .before .before .before .before .before .before .before .before .before .before .before .before .before .before .before .before .pre .1) _ _ (c .before .before .before .before .before .before .before .before .before .before .of-type .ensures) _ _ (c .before .before .before .before .before .before .j2 .given .1) _ (c .before .before .before .sort .ensures) (c .before .before .if1 .left))
+if-statement-full-if-requires t c κs =
+    let at-j2 = c .before .before .before .before .before .before in
+    let at-of-type = at-j2 .before .before .before .before in
+    let start = at-of-type .before .before .before .before .before .before in (
+      omega (
+        arith,
+        if-room _ _ _ _ _ _ (start .pre .1) _ _ (at-of-type .of-type .ensures) _ _ (at-j2 .j2 .given .1),
+        if-forward _ _ _ _ _ _ (start .pre .1) _ _
+            (at-of-type .of-type .ensures) _ _ (at-j2 .j2 .given .1),
+        start .pre .0,
+      ),
+      if-thens _ _ _ _ _ _ (start .pre .1) _ _ (at-of-type .of-type .ensures) _ _
+          (at-j2 .j2 .given .1) _ (c .before .before .before .sort .ensures) (c .before .before .if1 .left),
+    )
 
 if-statement-same-length-3 : (t : ℕ) → if-statement-lts.Need-same-length-3 (calls-if-statement t) (if-statement-at t) if-statement.Post
 if-statement-same-length-3 t c = search needs
@@ -633,7 +1112,14 @@ if-statement-same-length-6 : (t : ℕ) → if-statement-lts.Need-same-length-6 (
 if-statement-same-length-6 t c = search needs
 
 if-statement-returns-3 : (t : ℕ) → if-statement-lts.Need-returns-3 (calls-if-statement t) (if-statement-at t) if-statement.Post
-if-statement-returns-3 t c = if-full _ _ _ _ _ _ _ _ (c .before .before .before .before .before .before .before .before .before .before .before .before .before .before .before .of-type .ensures) _ _ (c .before .before .before .before .before .before .before .before .before .before .before .j2 .given .1) _ (c .before .before .before .before .before .before .before .before .sort .ensures) (c .before .before .before .before .before .before .before .if1 .left) _ _ _ (c .before .before .before .before .full-if .ensures)
+if-statement-returns-3 t c =
+    let at-full-if = c .before .before .before .before in
+    let at-if1 = at-full-if .before .before .before in
+    let at-sort = at-if1 .before in
+    let at-j2 = at-sort .before .before .before in
+    let at-of-type = at-j2 .before .before .before .before in
+    if-full _ _ _ _ _ _ _ _ (at-of-type .of-type .ensures) _ _ (at-j2 .j2 .given .1) _ (at-sort .sort .ensures) (at-if1 .if1 .left) _ _ _
+    (at-full-if .full-if .ensures)
 
 abbrev list-Inv-loop : list-lts.InvT-loop
 list-Inv-loop text code₀ values₀ k at i₀ n₀ code values i n = Goings text code₀ values₀ k (n₀ .used) at code values i (n .used)
@@ -651,7 +1137,10 @@ list-starts-statement-requires : (t : ℕ) → list-lts.Need-starts-statement-re
 list-starts-statement-requires t c κs = search needs
 
 list-statement-requires : (t : ℕ) → list-lts.Need-statement-requires (calls-list t) (list-at t) list.Post list-Inv-loop list-μ-loop
-list-statement-requires t c κs = (omega (arith, list-forward _ _ _ _ _ _ _ _ _ _ (c .before .before .before .before .before .before .loop .inv) (c .before .before .before .before .before .before .before .before .before .before .pre .1), c .before .before .before .before .before .before .before .before .before .before .pre .0), search (needs, list-stands))
+list-statement-requires t c κs =
+    let at-loop = c .before .before .before .before .before .before in
+    let start = at-loop .before .before .before .before in
+    (omega (arith, list-forward _ _ _ _ _ _ _ _ _ _ (at-loop .loop .inv) (start .pre .1), start .pre .0), search (needs, list-stands))
 
 list-enum-known-r : (t : ℕ) → list-lts.Need-enum-known-r (calls-list t) (list-at t) list.Post list-Inv-loop list-μ-loop
 list-enum-known-r t c = search needs
@@ -660,10 +1149,20 @@ list-enum-told : (t : ℕ) → list-lts.Need-enum-told (calls-list t) (list-at t
 list-enum-told t c = search needs
 
 list-same-length : (t : ℕ) → list-lts.Need-same-length (calls-list t) (list-at t) list.Post list-Inv-loop list-μ-loop
-list-same-length t c = let z = list-long _ _ _ _ _ _ _ _ _ _ (c .before .before .before .before .before .before .before .before .before .before .before .before .before .loop .inv) (c .before .before .before .before .before .before .before .before .before .before .before .before .before .before .before .before .before .pre .1) in search needs
+list-same-length t c =
+    let z =
+    (let at-loop = c .before .before .before .before .before .before .before .before .before .before .before .before .before in
+    let start = at-loop .before .before .before .before in
+    list-long _ _ _ _ _ _ _ _ _ _ (at-loop .loop .inv) (start .pre .1)) in
+    search needs
 
 list-same-length-2 : (t : ℕ) → list-lts.Need-same-length-2 (calls-list t) (list-at t) list.Post list-Inv-loop list-μ-loop
-list-same-length-2 t c = let z = list-values _ _ _ _ _ _ _ _ _ _ (c .before .before .before .before .before .before .before .before .before .before .before .before .before .loop .inv) (c .before .before .before .before .before .before .before .before .before .before .before .before .before .before .before .before .before .pre .1) in search needs
+list-same-length-2 t c =
+    let z =
+    (let at-loop = c .before .before .before .before .before .before .before .before .before .before .before .before .before in
+    let start = at-loop .before .before .before .before in
+    list-values _ _ _ _ _ _ _ _ _ _ (at-loop .loop .inv) (start .pre .1)) in
+    search needs
 
 list-returns : (t : ℕ) → list-lts.Need-returns (calls-list t) (list-at t) list.Post list-Inv-loop list-μ-loop
 list-returns t c = search (needs, list-faulty)
@@ -675,10 +1174,20 @@ list-loop-again : (t : ℕ) → list-lts.Need-loop-again (calls-list t) (list-at
 list-loop-again t c = search (needs, list-goes)
 
 list-same-length-3 : (t : ℕ) → list-lts.Need-same-length-3 (calls-list t) (list-at t) list.Post list-Inv-loop list-μ-loop
-list-same-length-3 t c = let z = list-long _ _ _ _ _ _ _ _ _ _ (c .before .before .before .before .loop .inv) (c .before .before .before .before .before .before .before .before .pre .1) in search needs
+list-same-length-3 t c =
+    let z =
+    (let at-loop = c .before .before .before .before in
+    let start = at-loop .before .before .before .before in
+    list-long _ _ _ _ _ _ _ _ _ _ (at-loop .loop .inv) (start .pre .1)) in
+    search needs
 
 list-same-length-4 : (t : ℕ) → list-lts.Need-same-length-4 (calls-list t) (list-at t) list.Post list-Inv-loop list-μ-loop
-list-same-length-4 t c = let z = list-values _ _ _ _ _ _ _ _ _ _ (c .before .before .before .before .loop .inv) (c .before .before .before .before .before .before .before .before .pre .1) in search needs
+list-same-length-4 t c =
+    let z =
+    (let at-loop = c .before .before .before .before in
+    let start = at-loop .before .before .before .before in
+    list-values _ _ _ _ _ _ _ _ _ _ (at-loop .loop .inv) (start .pre .1)) in
+    search needs
 
 list-returns-2 : (t : ℕ) → list-lts.Need-returns-2 (calls-list t) (list-at t) list.Post list-Inv-loop list-μ-loop
 list-returns-2 t c = search (needs, list-ends)
@@ -687,7 +1196,9 @@ statement-sort-requires : (t : ℕ) → statement-lts.Need-sort-requires (calls-
 statement-sort-requires t c κs = search (needs, stands-room)
 
 statement-if-statement-requires : (t : ℕ) → statement-lts.Need-if-statement-requires (calls-statement t) (statement-at t) statement′.Post
-statement-if-statement-requires t c κs = (omega (arith, stands-early _ _ _ _ _ _ (c .before .before .before .before .before .before .before .before .pre .1), c .before .before .before .before .before .before .before .before .pre .0), search (needs, begins-by))
+statement-if-statement-requires t c κs =
+    let start = c .before .before .before .before .before .before .before .before in
+    (omega (arith, stands-early _ _ _ _ _ _ (start .pre .1), start .pre .0), search (needs, begins-by))
 
 statement-same-length : (t : ℕ) → statement-lts.Need-same-length (calls-statement t) (statement-at t) statement′.Post
 statement-same-length t c = search needs
@@ -699,7 +1210,9 @@ statement-returns : (t : ℕ) → statement-lts.Need-returns (calls-statement t)
 statement-returns t c = search (needs, stated-by)
 
 statement-for-statement-requires : (t : ℕ) → statement-lts.Need-for-statement-requires (calls-statement t) (statement-at t) statement′.Post
-statement-for-statement-requires t c κs = (omega (arith, stands-early _ _ _ _ _ _ (c .before .before .before .before .before .before .before .before .before .pre .1), c .before .before .before .before .before .before .before .before .before .pre .0), search (needs, begins-by))
+statement-for-statement-requires t c κs =
+    let start = c .before .before .before .before .before .before .before .before .before in
+    (omega (arith, stands-early _ _ _ _ _ _ (start .pre .1), start .pre .0), search (needs, begins-by))
 
 statement-same-length-3 : (t : ℕ) → statement-lts.Need-same-length-3 (calls-statement t) (statement-at t) statement′.Post
 statement-same-length-3 t c = search needs
@@ -711,7 +1224,9 @@ statement-returns-2 : (t : ℕ) → statement-lts.Need-returns-2 (calls-statemen
 statement-returns-2 t c = search (needs, stated-by)
 
 statement-while-statement-requires : (t : ℕ) → statement-lts.Need-while-statement-requires (calls-statement t) (statement-at t) statement′.Post
-statement-while-statement-requires t c κs = (omega (arith, stands-early _ _ _ _ _ _ (c .before .before .before .before .before .before .before .before .before .before .pre .1), c .before .before .before .before .before .before .before .before .before .before .pre .0), search (needs, begins-by))
+statement-while-statement-requires t c κs =
+    let start = c .before .before .before .before .before .before .before .before .before .before in
+    (omega (arith, stands-early _ _ _ _ _ _ (start .pre .1), start .pre .0), search (needs, begins-by))
 
 statement-same-length-5 : (t : ℕ) → statement-lts.Need-same-length-5 (calls-statement t) (statement-at t) statement′.Post
 statement-same-length-5 t c = search needs
@@ -723,7 +1238,9 @@ statement-returns-3 : (t : ℕ) → statement-lts.Need-returns-3 (calls-statemen
 statement-returns-3 t c = search (needs, stated-by)
 
 statement-test-statement-requires : (t : ℕ) → statement-lts.Need-test-statement-requires (calls-statement t) (statement-at t) statement′.Post
-statement-test-statement-requires t c κs = (omega (arith, stands-early _ _ _ _ _ _ (c .before .before .before .before .before .before .before .before .before .before .before .pre .1), c .before .before .before .before .before .before .before .before .before .before .before .pre .0), search (needs, begins-by))
+statement-test-statement-requires t c κs =
+    let start = c .before .before .before .before .before .before .before .before .before .before .before in
+    (omega (arith, stands-early _ _ _ _ _ _ (start .pre .1), start .pre .0), search (needs, begins-by))
 
 statement-same-length-7 : (t : ℕ) → statement-lts.Need-same-length-7 (calls-statement t) (statement-at t) statement′.Post
 statement-same-length-7 t c = search needs
@@ -747,7 +1264,9 @@ statement-returns-5 : (t : ℕ) → statement-lts.Need-returns-5 (calls-statemen
 statement-returns-5 t c = search (needs, stated-plain)
 
 test-statement-add-of-type : (t : ℕ) → test-statement-lts.Need-add-of-type (calls-test-statement t) (test-statement-at t) test-statement.Post
-test-statement-add-of-type t c = omega (arith, stands-early _ _ _ _ _ _ (c .before .before .before .before .before .pre .1 .stands))
+test-statement-add-of-type t c =
+    let start = c .before .before .before .before .before in
+    omega (arith, stands-early _ _ _ _ _ _ (start .pre .1 .stands))
 
 test-statement-of-type-requires : (t : ℕ) → test-statement-lts.Need-of-type-requires (calls-test-statement t) (test-statement-at t) test-statement.Post
 test-statement-of-type-requires t c κs = search (needs, test-selector)
@@ -759,7 +1278,12 @@ test-statement-enum-known-j-2 : (t : ℕ) → test-statement-lts.Need-enum-known
 test-statement-enum-known-j-2 t c = search needs
 
 test-statement-cases-requires : (t : ℕ) → test-statement-lts.Need-cases-requires (calls-test-statement t) (test-statement-at t) test-statement.Post
-test-statement-cases-requires t c κs = (omega (arith, test-forward _ _ _ _ _ _ (c .before .before .before .before .before .before .before .before .before .before .before .before .before .pre .1) _ _ (c .before .before .before .before .before .before .before .of-type .ensures) _ _ (c .before .before .before .j2 .given .1), c .before .before .before .before .before .before .before .before .before .before .before .before .before .pre .0), test-chooses _ _ _ _ _ _ (c .before .before .before .before .before .before .before .before .before .before .before .before .before .pre .1) _ _ (c .before .before .before .before .before .before .before .of-type .ensures) _ _ (c .before .before .before .j2 .given .1))
+test-statement-cases-requires t c κs =
+    let at-of-type = c .before .before .before .before .before .before .before in
+    let start = at-of-type .before .before .before .before .before .before in (
+      omega (arith, test-forward _ _ _ _ _ _ (start .pre .1) _ _ (at-of-type .of-type .ensures) _ _ (c .before .before .before .j2 .given .1), start .pre .0),
+      test-chooses _ _ _ _ _ _ (start .pre .1) _ _ (at-of-type .of-type .ensures) _ _ (c .before .before .before .j2 .given .1),
+    )
 
 test-statement-enum-known-r : (t : ℕ) → test-statement-lts.Need-enum-known-r (calls-test-statement t) (test-statement-at t) test-statement.Post
 test-statement-enum-known-r t c = search needs
@@ -774,13 +1298,28 @@ test-statement-same-length-2 : (t : ℕ) → test-statement-lts.Need-same-length
 test-statement-same-length-2 t c = search needs
 
 test-statement-returns : (t : ℕ) → test-statement-lts.Need-returns (calls-test-statement t) (test-statement-at t) test-statement.Post
-test-statement-returns t c = test-cases-wrong _ _ _ _ _ _ _ _ (c .before .before .before .before .before .before .before .before .before .before .before .before .before .before .of-type .ensures) _ _ (c .before .before .before .before .before .before .before .before .before .before .j2 .given .1) _ _ _ (c .before .before .before .before .before .before .cases .ensures) _ _ (c .enum-told .given .1)
+test-statement-returns t c =
+    let at-cases = c .before .before .before .before .before .before in
+    let at-j2 = at-cases .before .before .before .before in
+    let at-of-type = at-j2 .before .before .before .before in
+    test-cases-wrong _ _ _ _ _ _ _ _ (at-of-type .of-type .ensures) _ _ (at-j2 .j2 .given .1) _ _ _ (at-cases .cases .ensures) _ _ (c .enum-told .given .1)
 
 test-statement-cast-set-word : (t : ℕ) → test-statement-lts.Need-cast-set-word (calls-test-statement t) (test-statement-at t) test-statement.Post
-test-statement-cast-set-word t c = omega (arith, test-forward _ _ _ _ _ _ (c .before .before .before .before .before .before .before .before .before .before .before .before .before .before .before .before .before .before .before .before .before .before .pre .1) _ _ (c .before .before .before .before .before .before .before .before .before .before .before .before .before .before .before .before .of-type .ensures) _ _ (c .before .before .before .before .before .before .before .before .before .before .before .before .j2 .given .1))
+test-statement-cast-set-word t c =
+    let at-j2 = c .before .before .before .before .before .before .before .before .before .before .before .before in
+    let at-of-type = at-j2 .before .before .before .before in
+    let start = at-of-type .before .before .before .before .before .before in
+    omega (arith, test-forward _ _ _ _ _ _ (start .pre .1) _ _ (at-of-type .of-type .ensures) _ _ (at-j2 .j2 .given .1))
 
 test-statement-set-word-requires : (t : ℕ) → test-statement-lts.Need-set-word-requires (calls-test-statement t) (test-statement-at t) test-statement.Post
-test-statement-set-word-requires t c κs = let z = test-room _ _ _ _ _ _ (c .before .before .before .before .before .before .before .before .before .before .before .before .before .before .before .before .before .before .before .before .before .before .pre .1) _ _ (c .before .before .before .before .before .before .before .before .before .before .before .before .before .before .before .before .of-type .ensures) _ _ (c .before .before .before .before .before .before .before .before .before .before .before .before .j2 .given .1) _ _ _ (c .before .before .before .before .before .before .before .before .cases .ensures) _ _ (c .before .before .r .given .1) in let y = test-forward _ _ _ _ _ _ (c .before .before .before .before .before .before .before .before .before .before .before .before .before .before .before .before .before .before .before .before .before .before .pre .1) _ _ (c .before .before .before .before .before .before .before .before .before .before .before .before .before .before .before .before .of-type .ensures) _ _ (c .before .before .before .before .before .before .before .before .before .before .before .before .j2 .given .1) in (omega (arith, z), omega arith, omega (arith, y), omega (arith, z))
+test-statement-set-word-requires t c κs =
+    let at-cases = c .before .before .before .before .before .before .before .before in
+    let at-j2 = at-cases .before .before .before .before in
+    let at-of-type = at-j2 .before .before .before .before in
+    let start = at-of-type .before .before .before .before .before .before in
+    let z = test-room _ _ _ _ _ _ (start .pre .1) _ _ (at-of-type .of-type .ensures) _ _ (at-j2 .j2 .given .1) _ _ _ (at-cases .cases .ensures) _ _
+    (c .before .before .r .given .1) in let y = test-forward _ _ _ _ _ _ (start .pre .1) _ _ (at-of-type .of-type .ensures) _ _ (at-j2 .j2 .given .1) in
+    (omega (arith, z), omega arith, omega (arith, y), omega (arith, z))
 
 test-statement-same-length-3 : (t : ℕ) → test-statement-lts.Need-same-length-3 (calls-test-statement t) (test-statement-at t) test-statement.Post
 test-statement-same-length-3 t c = search needs
@@ -798,10 +1337,18 @@ test-statement-same-length-6 : (t : ℕ) → test-statement-lts.Need-same-length
 test-statement-same-length-6 t c = search needs
 
 test-statement-returns-3 : (t : ℕ) → test-statement-lts.Need-returns-3 (calls-test-statement t) (test-statement-at t) test-statement.Post
-test-statement-returns-3 t c = test-finished _ _ _ _ _ _ _ _ (c .before .before .before .before .before .before .before .before .before .before .before .before .before .before .before .before .before .before .before .of-type .ensures) _ _ (c .before .before .before .before .before .before .before .before .before .before .before .before .before .before .before .j2 .given .1) _ _ _ (c .before .before .before .before .before .before .before .before .before .before .before .cases .ensures) _ _ (c .before .before .before .before .before .r .given .1) _ (c .before .before .set-word .ensures)
+test-statement-returns-3 t c =
+    let at-r = c .before .before .before .before .before in
+    let at-cases = at-r .before .before .before .before .before .before in
+    let at-j2 = at-cases .before .before .before .before in
+    let at-of-type = at-j2 .before .before .before .before in
+    test-finished _ _ _ _ _ _ _ _ (at-of-type .of-type .ensures) _ _ (at-j2 .j2 .given .1) _ _ _ (at-cases .cases .ensures) _ _ (at-r .r .given .1) _
+    (c .before .before .set-word .ensures)
 
 while-statement-add-of-type : (t : ℕ) → while-statement-lts.Need-add-of-type (calls-while-statement t) (while-statement-at t) while-statement.Post
-while-statement-add-of-type t c = omega (arith, stands-early _ _ _ _ _ _ (c .before .before .before .before .before .pre .1 .stands))
+while-statement-add-of-type t c =
+    let start = c .before .before .before .before .before in
+    omega (arith, stands-early _ _ _ _ _ _ (start .pre .1 .stands))
 
 while-statement-of-type-requires : (t : ℕ) → while-statement-lts.Need-of-type-requires (calls-while-statement t) (while-statement-at t) while-statement.Post
 while-statement-of-type-requires t c κs = search (needs, while-condition)
@@ -813,10 +1360,18 @@ while-statement-enum-known-j-2 : (t : ℕ) → while-statement-lts.Need-enum-kno
 while-statement-enum-known-j-2 t c = search needs
 
 while-statement-add-list : (t : ℕ) → while-statement-lts.Need-add-list (calls-while-statement t) (while-statement-at t) while-statement.Post
-while-statement-add-list t c = omega (arith, while-forward _ _ _ _ _ _ (c .before .before .before .before .before .before .before .before .before .before .before .before .before .pre .1) _ _ (c .before .before .before .before .before .before .before .of-type .ensures) _ _ (c .before .before .before .j2 .given .1))
+while-statement-add-list t c =
+    let at-of-type = c .before .before .before .before .before .before .before in
+    let start = at-of-type .before .before .before .before .before .before in
+    omega (arith, while-forward _ _ _ _ _ _ (start .pre .1) _ _ (at-of-type .of-type .ensures) _ _ (c .before .before .before .j2 .given .1))
 
 while-statement-list-requires : (t : ℕ) → while-statement-lts.Need-list-requires (calls-while-statement t) (while-statement-at t) while-statement.Post
-while-statement-list-requires t c κs = (omega (arith, while-forward _ _ _ _ _ _ (c .before .before .before .before .before .before .before .before .before .before .before .before .before .pre .1) _ _ (c .before .before .before .before .before .before .before .of-type .ensures) _ _ (c .before .before .before .j2 .given .1), c .before .before .before .before .before .before .before .before .before .before .before .before .before .pre .0), search (needs, while-lists))
+while-statement-list-requires t c κs =
+    let at-of-type = c .before .before .before .before .before .before .before in
+    let start = at-of-type .before .before .before .before .before .before in (
+      omega (arith, while-forward _ _ _ _ _ _ (start .pre .1) _ _ (at-of-type .of-type .ensures) _ _ (c .before .before .before .j2 .given .1), start .pre .0),
+      search (needs, while-lists),
+    )
 
 while-statement-enum-known-r : (t : ℕ) → while-statement-lts.Need-enum-known-r (calls-while-statement t) (while-statement-at t) while-statement.Post
 while-statement-enum-known-r t c = search needs
@@ -834,10 +1389,26 @@ while-statement-returns : (t : ℕ) → while-statement-lts.Need-returns (calls-
 while-statement-returns t c = search (needs, while-list-wrong)
 
 while-statement-while-end-requires : (t : ℕ) → while-statement-lts.Need-while-end-requires (calls-while-statement t) (while-statement-at t) while-statement.Post
-while-statement-while-end-requires t c κs = while-closes _ _ _ _ _ _ (c .before .before .before .before .before .before .before .before .before .before .before .before .before .before .before .before .before .before .before .before .before .before .pre .1) _ _ (c .before .before .before .before .before .before .before .before .before .before .before .before .before .before .before .before .of-type .ensures) _ _ (c .before .before .before .before .before .before .before .before .before .before .before .before .j2 .given .1) _ _ _ (c .before .before .before .before .before .before .before .before .list .ensures) _ _ (c .before .before .r .given .1)
+while-statement-while-end-requires t c κs =
+    let at-list = c .before .before .before .before .before .before .before .before in
+    let at-j2 = at-list .before .before .before .before in
+    let at-of-type = at-j2 .before .before .before .before in
+    let start = at-of-type .before .before .before .before .before .before in
+    while-closes _ _ _ _ _ _ (start .pre .1) _ _ (at-of-type .of-type .ensures) _ _ (at-j2 .j2 .given .1) _ _ _ (at-list .list .ensures) _ _
+    (c .before .before .r .given .1)
 
 while-statement-add-t24 : (t : ℕ) → while-statement-lts.Need-add-t24 (calls-while-statement t) (while-statement-at t) while-statement.Post
-while-statement-add-t24 t c = omega (arith, while-closes _ _ _ _ _ _ (c .before .before .before .before .before .before .before .before .before .before .before .before .before .before .before .before .before .before .before .before .before .before .before .before .before .pre .1) _ _ (c .before .before .before .before .before .before .before .before .before .before .before .before .before .before .before .before .before .before .before .of-type .ensures) _ _ (c .before .before .before .before .before .before .before .before .before .before .before .before .before .before .before .j2 .given .1) _ _ _ (c .before .before .before .before .before .before .before .before .before .before .before .list .ensures) _ _ (c .before .before .before .before .before .r .given .1))
+while-statement-add-t24 t c =
+    let at-r = c .before .before .before .before .before in
+    let at-list = at-r .before .before .before .before .before .before in
+    let at-j2 = at-list .before .before .before .before in
+    let at-of-type = at-j2 .before .before .before .before in
+    let start = at-of-type .before .before .before .before .before .before in
+    omega (
+      arith,
+      while-closes _ _ _ _ _ _ (start .pre .1) _ _ (at-of-type .of-type .ensures) _ _ (at-j2 .j2 .given .1) _ _ _ (at-list .list .ensures) _ _
+          (at-r .r .given .1),
+    )
 
 while-statement-same-length-3 : (t : ℕ) → while-statement-lts.Need-same-length-3 (calls-while-statement t) (while-statement-at t) while-statement.Post
 while-statement-same-length-3 t c = search needs

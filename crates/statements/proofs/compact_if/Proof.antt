@@ -18,10 +18,16 @@ enum-known-j-2 : tie.Need-enum-known-j-2
 enum-known-j-2 c = search needs
 
 cast-set-word : tie.Need-cast-set-word
-cast-set-word c = omega (arith, compact-room _ _ _ _ _ _ _ (c .before .before .before .before .before .before .before .before .before .before .before .pre))
+cast-set-word c =
+    let start = c .before .before .before .before .before .before .before .before .before .before .before in
+    omega (arith, compact-room _ _ _ _ _ _ _ (start .pre))
 
 set-word-requires : tie.Need-set-word-requires
-set-word-requires c κs = let z = compact-room _ _ _ _ _ _ _ (c .before .before .before .before .before .before .before .before .before .before .before .pre) in let y = compact-next _ _ _ _ _ _ _ (c .before .before .before .before .before .before .before .before .before .before .before .pre) _ _ (c .before .before .before .before .before .before .statement .ensures) _ _ (c .before .before .j2 .given .1) in (omega (arith, z, y), omega arith, omega (arith, z), omega (arith, y))
+set-word-requires c κs =
+    let at-statement = c .before .before .before .before .before .before in
+    let start = at-statement .before .before .before .before .before in
+    let z = compact-room _ _ _ _ _ _ _ (start .pre) in let y = compact-next _ _ _ _ _ _ _ (start .pre) _ _ (at-statement .statement .ensures) _ _
+    (c .before .before .j2 .given .1) in (omega (arith, z, y), omega arith, omega (arith, z), omega (arith, y))
 
 same-length : tie.Need-same-length
 same-length c = search needs

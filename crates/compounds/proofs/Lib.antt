@@ -1,0 +1,9 @@
+pub mod Frames
+pub mod Judging
+pub mod Telling
+pub mod Heads
+pub mod Holding
+pub mod Valuing
+pub mod Staying
+pub mod Linking
+pub mod Ends
