@@ -80,48 +80,48 @@ anEnd = 153
 abbrev pub aFunctionEnd : ℕ
 aFunctionEnd = 154
 
--- words that are no steps
+-- Words that are no steps have the highest ops, from that of ELSEIF on: below them there is room for more steps.
 abbrev pub anElseIf : ℕ
-anElseIf = 155
+anElseIf = 240
 
 abbrev pub aStep : ℕ
-aStep = 156
+aStep = 241
 
 -- CASE, and a comma between the values of one
 abbrev pub aCase : ℕ
-aCase = 157
+aCase = 242
 
 abbrev pub aNextValue : ℕ
-aNextValue = 158
+aNextValue = 243
 
 -- a comma between two arguments
 abbrev pub aNextArgument : ℕ
-aNextArgument = 159
+aNextArgument = 244
 
 -- VAR or CONST of a routine, and the parenthesis before its parameters
 abbrev pub aDatum : ℕ
-aDatum = 160
+aDatum = 245
 
 abbrev pub theParameters : ℕ
-theParameters = 161
+theParameters = 246
 
 abbrev pub aThen : ℕ
-aThen = 162
+aThen = 247
 
 abbrev pub aDo : ℕ
-aDo = 163
+aDo = 248
 
 -- ELSE, ENDIF, ENDWHILE, and ENDTEST behind a DEFAULT: its link is where a list goes on that ends there
 abbrev pub aPass : ℕ
-aPass = 164
+aPass = 249
 
 -- DEFAULT, or an ENDTEST without one
 abbrev pub anOtherwise : ℕ
-anOtherwise = 165
+anOtherwise = 250
 
 -- the semicolon of a procedure call
 abbrev pub aClose : ℕ
-aClose = 166
+aClose = 251
 
 -- ---- what a step's word says
 -- A routine, as calls know it: the word that it begins with, how many parameters it has, and whether it is a FUNC.

@@ -71,36 +71,36 @@ pub const END: u32 = 153;
 pub const FUNCTION_END: u32 = 154;
 
 // ---- words that are no steps
-pub const ELSE_IF: u32 = 155;
+pub const ELSE_IF: u32 = 240;
 
-pub const STEP: u32 = 156;
+pub const STEP: u32 = 241;
 
-pub const CASE: u32 = 157;
+pub const CASE: u32 = 242;
 
 // a comma between the values of a CASE
-pub const NEXT_VALUE: u32 = 158;
+pub const NEXT_VALUE: u32 = 243;
 
 // a comma between two arguments
-pub const NEXT_ARGUMENT: u32 = 159;
+pub const NEXT_ARGUMENT: u32 = 244;
 
 // VAR or CONST of a routine
-pub const DATUM: u32 = 160;
+pub const DATUM: u32 = 245;
 
 // the parenthesis before a routine's parameters
-pub const PARAMETERS: u32 = 161;
+pub const PARAMETERS: u32 = 246;
 
-pub const THEN: u32 = 162;
+pub const THEN: u32 = 247;
 
-pub const DO: u32 = 163;
+pub const DO: u32 = 248;
 
 // where a list goes on that ends here
-pub const PASS: u32 = 164;
+pub const PASS: u32 = 249;
 
 // DEFAULT, or an ENDTEST without one
-pub const OTHERWISE: u32 = 165;
+pub const OTHERWISE: u32 = 250;
 
 // the semicolon of a procedure call
-pub const CLOSE: u32 = 166;
+pub const CLOSE: u32 = 251;
 
 // ---- how an operator's right side is given: as a span up to its link; else as an operand of one word, by that one's op
 pub const SPAN: u32 = 0;
