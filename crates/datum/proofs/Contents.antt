@@ -6,16 +6,22 @@ use Prim.Native.Nat.{ℕ, suc, _+_, _*_, _/_, _%_, _<_, _≤_}
 use native.Mathlib.Omega.{arith}
 use lib.ListN.{length, replicate, length-replicate}
 use lib.IntN.{pos}
-use Rattle.paper.specs.Words.{Word}
+use mir.Syntax.{w32, w64}
+use mir.Val.{Fits}
+use Rattle.paper.specs.Sorts.{openBrace}
+use Rattle.paper.specs.Words.{Word, wordLimit}
 use Rattle.paper.specs.Terms.{Ref, Memory}
 use Rattle.paper.specs.Trees.{Expr, Content}
 use Rattle.paper.specs.Expressions.{nestings, levelOf}
 use Rattle.paper.specs.Names.{DataType, aNum, array, typeOf, textOf, Scopes, sortIn, spelled, cannotDeclare}
-use Rattle.paper.specs.Types.{Fault, constantFaults, sizeOf, isNoSize}
-use Rattle.paper.specs.Declarations.{Filling}
+use Rattle.paper.specs.Types.{Fault, constantFaults, sizeOf, isNoSize, elementLimit}
+use Rattle.paper.specs.Declarations.{Filling, moduleWordLimit}
 use Rattle.cells.specs.Words.{wordsOf}
 use Rattle.code.specs.Cells.{opAt}
-use Rattle.names.specs.Meanings.{typeWith, refWith, meaningWith, meaningIn}
+use Rattle.code.specs.Spans.{bias}
+use Rattle.layout.specs.Parts.{sizePart}
+use Rattle.layout.specs.Rules.{takenName, tooMany}
+use Rattle.names.specs.Meanings.{anArray, cellWith, typeWith, refWith, meaningWith, meaningIn}
 use Rattle.names.proofs.Tables.{meaning-with}
 use Rattle.grammar.specs.Form.{Parses}
 use Rattle.grammar.proofs.Inversions.{Sized, content-sized}
@@ -32,8 +38,8 @@ use Rattle.constants.specs.declared.Sized.{Sized as Size}
 use Rattle.constants.specs.Answers.{Asks, Sizes, Counted}
 use Rattle.constants.specs.Answers as constants
 use Rattle.names.specs.declared.Scope.{Scope}
-use Rattle.sites.specs.declared.Walked.{Walked}
-use Rattle.sites.specs.declared.Walked.the-variants.{Upto, Faulty}
+use Rattle.names.specs.declared.Walked.{Walked}
+use Rattle.names.specs.declared.Walked.the-variants.{Upto, Faulty}
 use Rattle.sites.specs.Sites.{filling, ownOf, scopesOf, memoryOf, Placed, owned, Owns}
 use Rattle.datum.specs.Answers.{Begins, Free, after, faultsOf, Says, Declares, Near}
 use Rattle.sites.specs.Parts.{Taken, Makes}
@@ -90,9 +96,9 @@ module _ {code values : List ℕ} {own limit used i : ℕ} (b : Begins code valu
       (name-fits (b .W) F (b .x .name) (contentWords (b .W) F content (b .D)) (b .D) (free-name free) (not-crossing (F .limit) (length (b .D .words)) _ fits)) h
 
   -- "16: the name that crosses"
-  pub too-many : Free b → F .limit < length (b .D .words) + length (contentWords (b .W) F content (b .D)) → First (record { number = 16; at = i + 2 }) (faultsOf b)
+  pub too-many : Free b → F .limit < length (b .D .words) + length (contentWords (b .W) F content (b .D)) → First (record { number = tooMany; at = i + 2 }) (faultsOf b)
   too-many free over =
-      subst (λ (k : ℕ). First (record { number = 16; at = k }) (faultsOf b)) (b .stands .named)
+      subst (λ (k : ℕ). First (record { number = tooMany; at = k }) (faultsOf b)) (b .stands .named)
       (found-in-name (b .W) F type (b .D) (b .stands)
       (name-crosses (b .W) F (b .x .name) (contentWords (b .W) F content (b .D)) (b .D) (free-name free) (crossing (F .limit) (length (b .D .words)) _ room-left over)))
 
@@ -125,13 +131,31 @@ module _ (code values mid : List ℕ) (at : ℕ) (c : Size) (a : Asks code value
   counted : Counted (a .stands .known .W) (a .stands .known .S) (a .M) (a .stands .e) (a .stands .to) count next
   counted = says-sized (a .stands .known .W) (a .stands .known .S) (a .M) (a .stands .e) (a .stands .to) c count next q (o .says a)
 
-  pub count-most : count ≤ 512
+  pub count-most : count ≤ elementLimit
   count-most = counted .most
 
-  pub count-next : next < 8192
+  pub count-adds : (used limit : ℕ) → used ≤ limit → limit ≤ moduleWordLimit → Fits w32 (used + count)
+  count-adds used limit h g = record { fits = omega (arith, count-most) }
+
+  pub count-above : Fits w32 (sizePart * count)
+  count-above = record { fits = omega (arith, count-most) }
+
+  pub count-packs : (used limit : ℕ) → used ≤ limit → limit ≤ moduleWordLimit → Fits w32 (used + sizePart * count)
+  count-packs used limit h g = record { fits = omega (arith, count-most) }
+
+  pub count-value : (used limit : ℕ) → used ≤ limit → limit ≤ moduleWordLimit → used + sizePart * count < 1048576
+  count-value used limit h g = omega (arith, count-most)
+
+  pub count-scope : (used limit : ℕ) → used ≤ limit → limit ≤ moduleWordLimit → used + count < 16777216
+  count-scope used limit h g = omega (arith, count-most)
+
+  count-next : next < wordLimit
   count-next = let l = a .stands .loaded .last in omega (arith, counted .next-is, l)
 
-module _ {code values : List ℕ} {own limit used i : ℕ} (brace : opAt (wordsOf code) (i + 3) ≡ 8) where
+  pub next-adds : Fits w64 (next + 2)
+  next-adds = record { fits = omega (arith, count-next) }
+
+module _ {code values : List ℕ} {own limit used i : ℕ} (brace : opAt (wordsOf code) (i + 3) ≡ openBrace) where
   module _ (b : Begins code values own limit used i) where
     sized : Sized (sortIn (b .W)) (Parses (sortIn (b .W))) (content b) (i + 3) (b .stands .end)
     sized = content-sized (sortIn (b .W)) (Parses (sortIn (b .W))) (b .stands .content) (sym (sort-is b 3 (omega arith)) ∙ brace)
@@ -181,24 +205,24 @@ module _ {code values : List ℕ} {own limit used i : ℕ} (brace : opAt (wordsO
       long-is : (b : Begins code values own limit used i) → length (contentWords (b .W) (F b) (content b) (b .D)) ≡ count
       long-is b = ap length (words-are b) ∙ length-replicate count (pos 0)
 
-      pub array-crosses : limit < used + count → DeclaresFree code values mid values own limit used i (Faulty 16 (i + 2))
+      pub array-crosses : limit < used + count → DeclaresFree code values mid values own limit used i (Faulty tooMany (i + 2))
       unfolding Says
       array-crosses over = record { is = λ b free. too-many b free (omega (arith, over, long-is b, b .used-is, b .limit-is)) }
 
-      module _ (fits : used + count ≤ limit) (code₂ code′ values₂ values′ : List ℕ) (made : Makes mid values code₂ values₂ (i + 2) 8 own (used + 1024 * count))
-          (started : Starts code₂ values₂ code′ values′ own used count 0 8388607 i) where
+      module _ (fits : used + count ≤ limit) (code₂ code′ values₂ values′ : List ℕ) (made : Makes mid values code₂ values₂ (i + 2) anArray own (used + sizePart * count))
+          (started : Starts code₂ values₂ code′ values′ own used count 0 bias i) where
         array-means : (b : Begins code values own limit used i) (bool : ℕ) → bool < 2 → typeWith bool ≡ type b
-            → meaningIn (b .routine) (8 + 2 * bool + own + 256 * (used + 1024 * count)) ≡ contentMeaning (b .W) (F b) (type b) (content b) (b .D) (F b .ref (length (b .D .words)))
+            → meaningIn (b .routine) (cellWith anArray bool own (used + sizePart * count)) ≡ contentMeaning (b .W) (F b) (type b) (content b) (b .D) (F b .ref (length (b .D .words)))
         unfolding contentMeaning meaningWith
         array-means b bool h t =
             let k = count-is b in
             let m = near b in
-            let small : used < 1024 = omega (arith, fits, k .some, m .5) in
-            let first : (used + 1024 * count) % 1024 ≡ used = omega arith in
-            let size : (used + 1024 * count) / 1024 ≡ count = omega arith in
-            meaning-with (b .routine) 2 bool own (used + 1024 * count) (omega arith) h (m .3)
-            ∙ ap (λ (y : DataType). array y (refWith own ((used + 1024 * count) % 1024)) ((used + 1024 * count) / 1024)) t
-            ∙ ap (λ (y : ℕ). array (type b) (refWith own y) ((used + 1024 * count) / 1024)) first
+            let small : used < sizePart = omega (arith, fits, k .some, m .5) in
+            let first : (used + sizePart * count) % sizePart ≡ used = omega arith in
+            let size : (used + sizePart * count) / sizePart ≡ count = omega arith in
+            meaning-with (b .routine) anArray bool own (used + sizePart * count) (omega arith) h (m .3)
+            ∙ ap (λ (y : DataType). array y (refWith own ((used + sizePart * count) % sizePart)) ((used + sizePart * count) / sizePart)) t
+            ∙ ap (λ (y : ℕ). array (type b) (refWith own y) ((used + sizePart * count) / sizePart)) first
             ∙ ap (array (type b) (refWith own used)) (size ∙ k .is)
             ∙ ap (λ (r : Ref). array (type b) r (sizeOf (b .W) (scopesOf (b .W) (b .s) (b .D)) (memoryOf (b .W) (b .s) (b .D)) (sized b .e))) (ref-is b)
             ∙ ap (λ (x : Content). contentMeaning (b .W) (F b) (type b) x (b .D) (F b .ref (length (b .D .words)))) (sym (sized b .is))
@@ -226,11 +250,11 @@ module _ {code values : List ℕ} {own limit used i : ℕ} (brace : opAt (wordsO
                 none = clean b free (omega (arith, fits, long-is b, b .used-is, b .limit-is)) (ap (λ (x : Content). contentFaults (b .W) (F b) (type b) x (b .D)) (sized b .is) ∙ k .none);
                 next-is = omega (arith, k .next-is, sized b .after, b .stands .after);
                 used-is = omega (arith, b .used-is, long-is b, content-used (b .W) (F b) (type b) (b .x .name) (content b) (b .D));
-                filled = now-filled b free mid code₂ code′ values₂ values′ 8 (used + 1024 * count) count 0 8388607 (pos 0) around made started (words-are b) refl (omega arith) (array-means b) refl
+                filled = now-filled b free mid code₂ code′ values₂ values′ anArray (used + sizePart * count) count 0 bias (pos 0) around made started (words-are b) refl (omega arith) (array-means b) refl
                     (omega (arith, fits, b .used-is, b .limit-is)) (array-mine b) (array-placed b);
-                keeps = name-keeps b free mid code₂ code′ values₂ values′ 8 (used + 1024 * count) count 0 8388607 (pos 0) around made started;
-                written = words-written b free mid code₂ code′ values₂ values′ 8 (used + 1024 * count) count 0 8388607 (pos 0) around made started (words-are b) refl;
-                changed = words-changed b free mid code₂ code′ values₂ values′ 8 (used + 1024 * count) count 0 8388607 (pos 0) around made started;
+                keeps = name-keeps b free mid code₂ code′ values₂ values′ anArray (used + sizePart * count) count 0 bias (pos 0) around made started;
+                written = words-written b free mid code₂ code′ values₂ values′ anArray (used + sizePart * count) count 0 bias (pos 0) around made started (words-are b) refl;
+                changed = words-changed b free mid code₂ code′ values₂ values′ anArray (used + sizePart * count) count 0 bias (pos 0) around made started;
               });
         }
 
@@ -242,13 +266,13 @@ module _ {code values : List ℕ} {own limit used i : ℕ} (t : Bool) (taken : T
       (b .loaded .words (i + 2) (omega arith) (omega (arith, far b)) .number (b .stands .name))
       (subst (λ (k : ℕ). Owns k (b .D .names) (scopesOf (b .W) (b .s) (b .D))) (sym (b .own-is)) (b .filled .owns))
 
-  pub datum-taken : t ≡ true → Declares code values code values own limit used i (Faulty 10 (i + 2))
+  pub datum-taken : t ≡ true → Declares code values code values own limit used i (Faulty takenName (i + 2))
   unfolding Says
   datum-taken h = record {
     is = λ b.
         let q : cannotDeclare (map textOf (b .D .names)) (spelled (b .W) (b .x .name)) ≡ true =
         ap (λ (k : ℕ). cannotDeclare (map textOf (b .D .names)) (spelled (b .W) k)) (b .stands .named) ∙ sym (taken-is b) ∙ h in
-        subst (λ (k : ℕ). First (record { number = 10; at = k }) (faultsOf b)) (b .stands .named)
+        subst (λ (k : ℕ). First (record { number = takenName; at = k }) (faultsOf b)) (b .stands .named)
         (found-in-name (b .W) (F b) (type b) (b .D) (b .stands) (name-taken (b .W) (F b) (b .x .name) (contentWords (b .W) (F b) (content b) (b .D)) (b .D) q));
   }
 

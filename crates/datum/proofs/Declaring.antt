@@ -17,13 +17,14 @@ use Rattle.paper.specs.Names.{DataType, Meaning, unknown, variable, array, cons
 use Rattle.paper.specs.Types.{sizeOf}
 use Rattle.paper.specs.Declarations.{Data, Filling, declareName, declareContent}
 use Rattle.cells.specs.Words.{wordsOf}
-use Rattle.code.specs.Cells.{opIn, opAt, placeAt}
+use Rattle.code.specs.Cells.{opIn, valueIn, opAt, placeAt}
 use Rattle.code.specs.Spans.{bias}
 use Rattle.code.specs.Steps.{constantAt}
+use Rattle.layout.specs.Parts.{kindPart}
 use Rattle.climb.proofs.Operands.{deeper}
 use Rattle.names.specs.Numbers.{numberOf}
-use Rattle.names.specs.Meanings.{typeWith, meaningIn}
-use Rattle.names.specs.Promises.{numberAt}
+use Rattle.names.specs.Meanings.{cellWith, typeWith, meaningIn}
+use Rattle.names.specs.Promises.{numberLimit, numberAt}
 use Rattle.names.proofs.Tables.{declare-keeps}
 use Rattle.store.proofs.Rewriting.{rewritten-other}
 use Rattle.grammar.specs.Form.{Parses}
@@ -139,13 +140,13 @@ module _ {code values : List ℕ} {own limit used i : ℕ} (b : Begins code valu
   abbrev means-now : Meaning
   means-now = contentMeaning (b .W) F (typeOf (b .x .type)) (b .x .content) (b .D) (F .ref (length (b .D .words)))
 
-  module _ (mid code₂ code′ values₂ values′ : List ℕ) (op value count word held : ℕ) (v : ℤ) (around : Around code mid i (b .to))
-      (made : Makes mid values code₂ values₂ (i + 2) op own value) (started : Starts code₂ values₂ code′ values′ own used count word held i) where
+  module _ (mid code₂ code′ values₂ values′ : List ℕ) (kind value count word held : ℕ) (v : ℤ) (around : Around code mid i (b .to))
+      (made : Makes mid values code₂ values₂ (i + 2) kind own value) (started : Starts code₂ values₂ code′ values′ own used count word held i) where
     room : (i + 2) * 8 + 8 ≤ length mid
     room = let r = b .loaded .room in omega (arith, r, far, around .long)
 
     number : numberAt (wordsOf mid) (i + 2) ≡ numberOf (b .W) (i + 2)
-    number = ap (λ (h : ℕ). h / 256 % 8192) (around .below ((i + 2) * 2) (omega arith)) ∙ b .loaded .words (i + 2) (omega arith) (omega (arith, far)) .number (b .stands .name)
+    number = ap (λ (h : ℕ). valueIn h % numberLimit) (around .below ((i + 2) * 2) (omega arith)) ∙ b .loaded .words (i + 2) (omega arith) (omega (arith, far)) .number (b .stands .name)
 
     type-is : typeWith (made .bool) ≡ typeOf (b .x .type)
     type-is =
@@ -187,7 +188,7 @@ module _ {code values : List ℕ} {own limit used i : ℕ} (b : Begins code valu
                 ∙ ap (λ (n : ℕ). b .D .words ++ replicate n v) (sym (d .place-is)) ∙ ap (λ (y : ℤ). b .D .words ++ replicate (placeAt (wordsOf code′) i) y) (sym z);
           }
 
-      pub now-filled : op < 16 → ((bool : ℕ) → bool < 2 → typeWith bool ≡ typeOf (b .x .type) → meaningIn (b .routine) (op + 2 * bool + own + 256 * value) ≡ means-now)
+      pub now-filled : kind < 4 → ((bool : ℕ) → bool < 2 → typeWith bool ≡ typeOf (b .x .type) → meaningIn (b .routine) (cellWith kind bool own value) ≡ means-now)
           → toZ w32 word ≡ v → length (b .D .words) + count ≤ F .limit → owned (ownOf (b .s)) means-now ≡ true → Placed (F .memoryWith (b .D .words ++ vs)) means-now
           → Filled (b .W) (b .routine) (b .s) (after b) values′
       now-filled low says word-is fits mine placed =
@@ -196,8 +197,8 @@ module _ {code values : List ℕ} {own limit used i : ℕ} (b : Begins code valu
           let from : baseOf own + used ≡ baseOf (ownOf (b .s)) + length (b .D .words) = ap (λ (k : ℕ). k + used) (ap baseOf (b .own-is)) ∙ ap (λ (k : ℕ). baseOf (ownOf (b .s)) + k) (b .used-is) in
           let fills : Fills values₂ values′ (baseOf (ownOf (b .s)) + length (b .D .words)) (length vs) word =
           subst (λ (k : ℕ). Fills values₂ values′ k (length vs) word) from (subst (λ (k : ℕ). Fills values₂ values′ (baseOf own + used) k word) (sym long) (started .fills)) in
-          let g = filled-on (b .W) (b .routine) (b .s) (b .D) values values₂ values′ mid code₂ (i + 2) (op + 2 * made .bool + own + 256 * value) means-now vs word (b .filled)
-          (b .stands .name) free number (made .declared) (data-plain op (made .bool) own value low (made .type .small) small) (says (made .bool) (made .type .small) type-is) fills
+          let g = filled-on (b .W) (b .routine) (b .s) (b .D) values values₂ values′ mid code₂ (i + 2) (cellWith kind (made .bool) own value) means-now vs word (b .filled)
+          (b .stands .name) free number (made .declared) (data-plain (kind * kindPart) (made .bool) own value (omega (arith, low)) (made .type .small) small) (says (made .bool) (made .type .small) type-is) fills
           (λ j l. ap (λ (k : List ℤ). getD k j (pos 0)) words ∙ getD-replicate count j v (pos 0) (omega (arith, l, long)) ∙ sym word-is)
           (omega (arith, fits, long)) mine placed (declareContent (b .W) F (typeOf (b .x .type)) (i + 2) (b .x .content) (b .D) .faults) in
           let e : declareContent (b .W) F (typeOf (b .x .type)) (i + 2) (b .x .content) (b .D) ≡ after b = ap (λ (k : ℕ). declareContent (b .W) F (typeOf (b .x .type)) k (b .x .content) (b .D)) (sym (b .stands .named)) in

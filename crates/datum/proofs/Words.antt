@@ -10,24 +10,29 @@ use mir.Val.{SFits, toZ, ofZ}
 use mir.Facts.{toZ-ofZ}
 use borrow.Author.Tests.{ne-eqb}
 use Rattle.laws.proofs.Tests.{by-same}
-use Rattle.code.specs.Cells.{opIn, valueIn, placeIn}
+use Rattle.paper.specs.Sorts.{CONST}
+use Rattle.paper.specs.Declarations.{moduleWordLimit}
+use Rattle.code.specs.Cells.{firstWindow, opIn, valueIn, placeIn}
+use Rattle.code.specs.Steps.{aDatum}
+use Rattle.layout.specs.Parts.{valuePart, linkPart}
+use Rattle.names.specs.Meanings.{aVariable, aConstant}
 use Rattle.store.specs.Promises.{Rewritten}
 use Rattle.store.proofs.Rewriting.{rewritten-head, rewritten-tail, rewritten-other}
 use Rattle.numbers.proofs.Whole.{read}
 use Rattle.constants.specs.Answers.{InNum}
 use Rattle.constants.proofs.Holding.{in-num-32, in-num-64}
-use Rattle.datum.specs.Parts.{scalarOp, SetDatum, Starts}
+use Rattle.datum.specs.Parts.{scalarKind, SetDatum, Starts}
 use Rattle.sites.specs.Parts.{baseOf, Fills}
 
-pub op-constant : (s : ℕ) → s ≡ 37 → 12 ≡ scalarOp s
-unfolding scalarOp
-op-constant s h = rw h refl
+pub kind-constant : (s : ℕ) → s ≡ CONST → aConstant ≡ scalarKind s
+unfolding scalarKind
+kind-constant s h = rw h refl
 
-pub op-variable : (s : ℕ) → (s ≡ 37 → ⊥) → 4 ≡ scalarOp s
-unfolding scalarOp
-op-variable s h = rw (ne-eqb s 37 h) refl
+pub kind-variable : (s : ℕ) → (s ≡ CONST → ⊥) → aVariable ≡ scalarKind s
+unfolding scalarKind
+kind-variable s h = rw (ne-eqb s CONST h) refl
 
-pub base-routine : (own : ℕ) → own ≡ 1 → 1024 ≡ baseOf own
+pub base-routine : (own : ℕ) → own ≡ 1 → firstWindow ≡ baseOf own
 unfolding baseOf
 base-routine own h = rw h refl
 
@@ -35,7 +40,7 @@ pub base-module : (own : ℕ) → (own ≡ 1 → ⊥) → 0 ≡ baseOf own
 unfolding baseOf
 base-module own h = rw (ne-eqb own 1 h) refl
 
-pub base-small : (own r : ℕ) → r ≡ baseOf own → r ≤ 1024
+pub base-small : (own r : ℕ) → r ≡ baseOf own → r ≤ firstWindow
 unfolding baseOf
 base-small own r h = by-same own 1 (λ e. omega (arith, h ∙ sym (base-routine own e))) (λ d. omega (arith, h ∙ sym (base-module own d)))
 
@@ -46,7 +51,7 @@ word-cast z h = subst (SFits w32) (sym (toZ-ofZ (in-num-64 z h))) (in-num-32 z h
 pub word-is : (z : ℤ) (r : ℕ) → InNum z → r ≡ ofZ w32 (toZ w32 (ofZ w32 (read z))) → r ≡ ofZ w32 z
 word-is z r h e = e ∙ ap (ofZ w32) (toZ-ofZ (word-cast z h)) ∙ ap (ofZ w32) (toZ-ofZ (in-num-64 z h))
 
-datum-set : (before after : List ℕ) (i count held : ℕ) → i * 8 + 8 ≤ length before → count < 65536 → Rewritten before after i (160 + 256 * held) (count + 65536 * 0)
+datum-set : (before after : List ℕ) (i count held : ℕ) → i * 8 + 8 ≤ length before → count < linkPart → Rewritten before after i (aDatum + valuePart * held) (count + linkPart * 0)
     → SetDatum before after i count held
 datum-set before after i count held room few r = record {
   op-is = ap opIn (rewritten-head r room) ∙ omega arith;
@@ -60,7 +65,7 @@ module _ (code values values′ : List ℕ) (own used count word held i base : �
   here : Fills values values′ (baseOf own + used) count word
   here = subst (λ (k : ℕ). Fills values values′ (k + used) count word) b f
 
-  pub starts-routine : (code′ : List ℕ) → own ≡ 1 → i * 8 + 8 ≤ length code → used + count ≤ 1024 → Rewritten code code′ i (160 + 256 * held) (count + 65536 * 0)
+  pub starts-routine : (code′ : List ℕ) → own ≡ 1 → i * 8 + 8 ≤ length code → used + count ≤ moduleWordLimit → Rewritten code code′ i (aDatum + valuePart * held) (count + linkPart * 0)
       → Starts code values code′ values′ own used count word held i
   starts-routine code′ o room few r = record { fills = here; own-datum = λ e. datum-set code code′ i count held room (omega arith) r; untouched = λ e. absurd (e o) }
 

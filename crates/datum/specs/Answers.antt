@@ -8,7 +8,7 @@ use Rattle.paper.specs.Words.{Word, wordLimit}
 use Rattle.paper.specs.Trees.{Declared}
 use Rattle.paper.specs.Names.{typeOf, textOf, sortIn, spelled, cannotDeclare}
 use Rattle.paper.specs.Types.{Fault}
-use Rattle.paper.specs.Declarations.{Data, declareContent}
+use Rattle.paper.specs.Declarations.{Data, declareContent, moduleWordLimit}
 use Rattle.cells.specs.Words.{wordsOf}
 use Rattle.code.specs.Cells.{opAt, placeAt}
 use Rattle.code.specs.Steps.{constantAt, aDatum}
@@ -17,8 +17,8 @@ use Rattle.grammar.specs.Form.{Parses, DeclaredAt}
 use Rattle.faults.specs.First.{First}
 use Rattle.faults.specs.Added.{declaredFaults}
 use Rattle.expressions.specs.Known.{Loaded}
-use Rattle.sites.specs.declared.Walked.{Walked}
-use Rattle.sites.specs.declared.Walked.the-variants.{Upto, Faulty}
+use Rattle.names.specs.declared.Walked.{Walked}
+use Rattle.names.specs.declared.Walked.the-variants.{Upto, Faulty}
 use Rattle.sites.specs.Sites.{Site, filling, ownOf, Filled}
 use Rattle.names.specs.Promises as names
 use Rattle.sites.specs.Walks.{KeepsName, Changed}
@@ -74,4 +74,4 @@ pub record Declares (code values code′ values′ : List ℕ) (own limit used i
 
 -- what numbers a declaration that begins at word i has to do with
 abbrev pub Near : (code values : List ℕ) (own limit used i : ℕ) → Type 0
-Near code values own limit used i = (i + 4 < wordLimit) × (i * 8 + 40 ≤ length code) × (storeBytes ≤ length values) × (own < 2) × (used ≤ limit) × (limit ≤ 1024)
+Near code values own limit used i = (i + 4 < wordLimit) × (i * 8 + 40 ≤ length code) × (storeBytes ≤ length values) × (own < 2) × (used ≤ limit) × (limit ≤ moduleWordLimit)

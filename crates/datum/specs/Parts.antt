@@ -6,25 +6,32 @@ use lib.Dec.{eqb}
 use lib.ListN.{getD}
 use lib.IntN.{ℤ}
 use Rattle.paper.specs.Basics.{if_then_else_}
-use Rattle.paper.specs.Sorts.{CONST}
+use Rattle.paper.specs.Sorts.{CONST, becomes}
 use Rattle.paper.specs.Words.{wordLimit}
 use Rattle.cells.specs.Words.{wordsOf}
 use Rattle.code.specs.Cells.{opAt, valueAt, placeAt}
 use Rattle.code.specs.Steps.{aDatum}
 use mir.Syntax.{w32}
 use mir.Val.{ofZ}
+use Rattle.names.specs.Meanings.{aVariable, aConstant}
 use Rattle.constants.specs.declared.Valued.{Valued}
 use Rattle.constants.specs.declared.Valued.the-variants as values-of
 use Rattle.constants.specs.Answers.{InNum, HeldAs}
-use Rattle.sites.specs.declared.Walked.{Walked}
-use Rattle.sites.specs.declared.Walked.the-variants.{Faulty}
+use Rattle.names.specs.declared.Walked.{Walked}
+use Rattle.names.specs.declared.Walked.the-variants.{Faulty}
 use Rattle.sites.specs.Walks.{upto}
 use Rattle.datum.specs.Answers.{Begins, Free, Says}
 use Rattle.sites.specs.Parts.{baseOf, Fills, Makes}
 
--- the op that a scalar's meaning has, by the sort that its declaration begins with
-unfoldable pub scalarOp : (sort : ℕ) → ℕ
-scalarOp s = if eqb s CONST then 12 else 4
+-- the kind that a scalar's meaning has, by the sort that its declaration begins with
+unfoldable pub scalarKind : (sort : ℕ) → ℕ
+scalarKind s = if eqb s CONST then aConstant else aVariable
+
+-- a scalar of this kind, for which there is room, and whose value is declared
+pub record Initial (code : List ℕ) (limit used kind i : ℕ) : Type 0 where
+  pub kind-is : kind ≡ scalarKind (opAt (wordsOf code) i)
+  pub becomes-is : opAt (wordsOf code) (i + 3) ≡ becomes
+  pub fits : used < limit
 
 -- Word i is a datum's first now.
 pub record SetDatum (before after : List ℕ) (i count held : ℕ) : Type 0 where
@@ -50,12 +57,12 @@ Fit (values-of.Value v next) = FitValue v next
 Fit (values-of.Faulty number word) = Unit {0}
 
 -- The name at word i + 2 is known now, and its word has the value v.
-pub record PlacedValue (code values code′ values′ : List ℕ) (own used op i : ℕ) (v : ℤ) : Type 0 where
+pub record PlacedValue (code values code′ values′ : List ℕ) (own used kind i : ℕ) (v : ℤ) : Type 0 where
   pub mid-code : List ℕ
   pub mid-values : List ℕ
   pub word : ℕ
   pub held : ℕ
-  pub made : Makes code values mid-code mid-values (i + 2) op own used
+  pub made : Makes code values mid-code mid-values (i + 2) kind own used
   pub word-is : word ≡ ofZ w32 v
   pub held-is : HeldAs v held
   pub started : Starts mid-code mid-values code′ values′ own used 1 word held i
@@ -65,12 +72,12 @@ pub record Unplaced (code values code′ values′ : List ℕ) (r s : Walked) : 
   pub same-code : code′ ≡ code
   pub same-values : values′ ≡ values
 
-unfoldable pub PlacedAs : (code values code′ values′ : List ℕ) (own used op i : ℕ) → Valued → Walked → Type 0
-PlacedAs code values code′ values′ own used op i (values-of.Value v next) r = PlacedValue code values code′ values′ own used op i v × (r ≡ upto (next + 1) (used + 1))
-PlacedAs code values code′ values′ own used op i (values-of.Faulty number word) r = Unplaced code values code′ values′ r (Faulty number word)
+unfoldable pub PlacedAs : (code values code′ values′ : List ℕ) (own used kind i : ℕ) → Valued → Walked → Type 0
+PlacedAs code values code′ values′ own used kind i (values-of.Value v next) r = PlacedValue code values code′ values′ own used kind i v × (r ≡ upto (next + 1) (used + 1))
+PlacedAs code values code′ values′ own used kind i (values-of.Faulty number word) r = Unplaced code values code′ values′ r (Faulty number word)
 
-pub record Placing (code values code′ values′ : List ℕ) (own used op i : ℕ) (c : Valued) (r : Walked) : Type 0 where
-  pub is : PlacedAs code values code′ values′ own used op i c r
+pub record Placing (code values code′ values′ : List ℕ) (own used kind i : ℕ) (c : Valued) (r : Walked) : Type 0 where
+  pub is : PlacedAs code values code′ values′ own used kind i c r
 
 -- ---- a declaration whose name can be declared
 pub record DeclaresFree (code values code′ values′ : List ℕ) (own limit used i : ℕ) (r : Walked) : Type 0 where

@@ -5,50 +5,45 @@ ghost use lib.ListN.{length};
 ghost use mir.Syntax.{w32};
 ghost use mir.Val.{ofZ};
 ghost use Rattle.paper.specs.Sorts.{openBrace};
+ghost use Rattle.paper.specs.Words.{wordLimit};
+ghost use Rattle.paper.specs.Declarations.{moduleWordLimit};
 ghost use Rattle.cells.specs.Words.{wordsOf};
 ghost use Rattle.code.specs.Cells.{opAt};
 ghost use Rattle.names.specs.Promises.{storeBytes};
 ghost use Rattle.constants.specs.Answers.{InNum};
 ghost use Rattle.datum.specs.Answers.{Begins, Declares, Near};
-ghost use Rattle.datum.specs.Parts.{scalarOp, Starts, Fit, Placing, DeclaresFree};
+ghost use Rattle.datum.specs.Parts.{scalarKind, Starts, Fit, Placing, Initial, DeclaresFree};
 ghost use Rattle.sites.specs.Parts.{baseOf};
 use constants::Sized;
 use constants::Valued;
+use layout::kinds;
+use layout::ops;
+use layout::parts;
+use layout::rules;
 use names::Scope;
-use sites::DATUM;
-use sites::TAKEN;
-use sites::TOO_MANY;
-use sites::WINDOW;
-use sites::Walked;
+use names::Walked;
 use sites::fill;
 use sites::is_taken;
 use sites::known;
-use sites::type_bit;
 use store::rewrite;
 use store::sort;
 
-// how far the numbers that a head holds are from those they stand for
-const BIAS: u32 = 8388607;
-
-// An array's size stands so many times above its first word.
-const SIZE: u32 = 1024;
-
 // ---- words
 
-fn scalar_op(s: u32) -> u32
-    ensures { λ r. ⌜ r ≡ scalarOp s ⌝ }
+fn scalar_kind(s: u32) -> u32
+    ensures { λ r. ⌜ r ≡ scalarKind s ⌝ }
 {
     if s == sorts::CONST {
-        return names::CONSTANT;
+        return kinds::CONSTANT;
     }
-    names::VARIABLE
+    kinds::VARIABLE
 }
 
 fn base_of(own: u32) -> usize
     ensures { λ r. ⌜ r ≡ baseOf own ⌝ }
 {
     if own == names::OF_ROUTINE {
-        return WINDOW;
+        return layout::cells::FIRST_WINDOW;
     }
     0
 }
@@ -74,12 +69,12 @@ fn start(
     held: u32,
     i: usize,
 )
-    requires { ⌜ (i * 8 + 8 ≤ length (now code)) × (storeBytes ≤ length (now values)) × (used + count ≤ 1024) × (held < 16777216) ⌝ }
+    requires { ⌜ (i * 8 + 8 ≤ length (now code)) × (storeBytes ≤ length (now values)) × (used + count ≤ moduleWordLimit) × (held < 16777216) ⌝ }
     ensures { λ _. ⌜ Starts (now (code .entry)) (now (values .entry)) (now (code .exit)) (now (values .exit)) own used count word held i ⌝ }
 {
     fill(values, base_of(own) + used as usize, count, word);
     if own == names::OF_ROUTINE {
-        rewrite(code, i, DATUM + 256 * held, count as usize, 0);
+        rewrite(code, i, ops::DATUM + parts::VALUE * held, count as usize, 0);
     }
 }
 
@@ -94,19 +89,19 @@ fn array(scope: Scope, code: &mut [u8], values: &mut [u8], own: u32, limit: u32,
         Sized::Unsized(number, word) => Walked::Faulty(number, word),
         Sized::Count(count, next) => {
             if limit < used + count {
-                return Walked::Faulty(TOO_MANY, i + 2);
+                return Walked::Faulty(rules::TOO_MANY, i + 2);
             }
             let filled = known(
                 scope,
                 code,
                 values,
                 i + 2,
-                names::ARRAY,
+                kinds::ARRAY,
                 own,
-                used + SIZE * count,
+                used + parts::SIZE * count,
                 count,
             );
-            start(code, values, own, used, count, 0, BIAS, i);
+            start(code, values, own, used, count, 0, parts::BIAS, i);
             Walked::Upto(next + 2, filled)
         }
     }
@@ -118,18 +113,18 @@ fn valued(
     code: &mut [u8],
     values: &mut [u8],
     own: u32,
-    op: u32,
+    kind: u32,
     c: Valued,
     i: usize,
 ) -> Walked
-    requires { ⌜ (i * 8 + 40 ≤ length (now code)) × (storeBytes ≤ length (now values)) × (i < 8192) × (own < 2) × (scope .used < 1024) × (op < 16) × Fit c ⌝ }
-    ensures { λ r. ⌜ Placing (now (code .entry)) (now (values .entry)) (now (code .exit)) (now (values .exit)) own (scope .used) op i c r ⌝ }
+    requires { ⌜ (i * 8 + 40 ≤ length (now code)) × (storeBytes ≤ length (now values)) × (i < wordLimit) × (own < 2) × (scope .used < moduleWordLimit) × (kind < 4) × Fit c ⌝ }
+    ensures { λ r. ⌜ Placing (now (code .entry)) (now (values .entry)) (now (code .exit)) (now (values .exit)) own (scope .used) kind i c r ⌝ }
 {
     match c {
         Valued::Faulty(number, word) => Walked::Faulty(number, word),
         Valued::Value(v, next) => {
             let used = scope.used;
-            let filled = known(scope, code, values, i + 2, op, own, used, 1);
+            let filled = known(scope, code, values, i + 2, kind, own, used, 1);
             start(
                 code,
                 values,
@@ -143,6 +138,24 @@ fn valued(
             Walked::Upto(next + 1, filled)
         }
     }
+}
+
+// A scalar whose value stands behind the sign `:=`.
+fn initial(
+    scope: Scope,
+    code: &mut [u8],
+    values: &mut [u8],
+    own: u32,
+    limit: u32,
+    kind: u32,
+    i: usize,
+) -> Walked
+    requires { ⌜ Begins (now code) (now values) own limit (scope .used) i × Near (now code) (now values) own limit (scope .used) i × Initial (now code) limit (scope .used) kind i ⌝ }
+    ensures { λ r. ⌜ DeclaresFree (now (code .entry)) (now (values .entry)) (now (code .exit)) (now (values .exit)) own limit (scope .used) i r ⌝ }
+{
+    let wants = names::type_named(sort(code, i + 1));
+    let c = constants::constant(code, values, wants, i + 4);
+    valued(scope, code, values, own, kind, c, i)
 }
 
 // VAR type name [:= c]; CONST type name := c;
@@ -159,17 +172,15 @@ fn scalar(
 {
     let used = scope.used;
     if limit <= used {
-        return Walked::Faulty(TOO_MANY, i + 2);
+        return Walked::Faulty(rules::TOO_MANY, i + 2);
     }
-    let op = scalar_op(sort(code, i));
+    let kind = scalar_kind(sort(code, i));
     if sort(code, i + 3) != sorts::BECOMES {
-        let filled = known(scope, code, values, i + 2, op, own, used, 1);
-        start(code, values, own, used, 1, 0, BIAS, i);
+        let filled = known(scope, code, values, i + 2, kind, own, used, 1);
+        start(code, values, own, used, 1, 0, parts::BIAS, i);
         return Walked::Upto(i + 4, filled);
     }
-    let wants = type_bit(sort(code, i + 1)) == 1;
-    let c = constants::constant(code, values, wants, i + 4);
-    valued(scope, code, values, own, op, c, i)
+    initial(scope, code, values, own, limit, kind, i)
 }
 
 // A declaration of data, from its first word on: `own` and `limit` are its scope's.
@@ -185,7 +196,7 @@ pub fn datum(
     ensures { λ r. ⌜ Declares (now (code .entry)) (now (values .entry)) (now (code .exit)) (now (values .exit)) own limit (scope .used) i r ⌝ }
 {
     if is_taken(code, values, own, i + 2) {
-        return Walked::Faulty(TAKEN, i + 2);
+        return Walked::Faulty(rules::TAKEN_NAME, i + 2);
     }
     if sort(code, i + 3) == sorts::OPEN_BRACE {
         return array(scope, code, values, own, limit, i);

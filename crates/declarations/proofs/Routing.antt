@@ -7,17 +7,18 @@ use native.Mathlib.Omega.{arith}
 use lib.ListN.{length, getD, replicate}
 use lib.IntN.{ℤ, pos, _-ℤ_}
 use Rattle.laws.proofs.Tests.{by-same}
+use Rattle.paper.specs.Words.{wordLimit}
 use Rattle.paper.specs.Trees.{Declared}
 use Rattle.paper.specs.Expressions.{startsData}
 use Rattle.paper.specs.Names.{Text, textOf, sortIn, spelled, isAmong, typeOf}
-use Rattle.paper.specs.Declarations.{Data}
+use Rattle.paper.specs.Declarations.{Data, routineWordLimit}
 use Rattle.cells.specs.Words.{wordsOf}
 use Rattle.code.specs.Cells.{opIn, placeIn, opAt, valueAt, placeAt, linkAt}
 use Rattle.code.specs.Spans.{bias}
 use Rattle.code.specs.Steps.{constantAt}
 use Rattle.names.specs.declared.Scope.{Scope}
-use Rattle.sites.specs.declared.Walked.{Walked}
-use Rattle.sites.specs.declared.Walked.the-variants.{Upto, Faulty}
+use Rattle.names.specs.declared.Walked.{Walked}
+use Rattle.names.specs.declared.Walked.the-variants.{Upto, Faulty}
 use Rattle.sites.specs.Sites.{aRoutine, filling, Filled}
 use Rattle.store.specs.Chains.{Leads, lastOf, startsIn, Rise}
 use Rattle.sites.specs.Walks.{upto, outerOf, KeepsName, KeepsAll, nameOf}
@@ -89,7 +90,7 @@ module _ {code₀ values₀ : List ℕ} {head used₀ at : ℕ} (b : RoutineStan
   abbrev w : Walk (b .W) (b .routine) (aRoutine (b .m)) (b .D) (b .ds) (b .to) code values i used
   w = h .walk
 
-  abbrev pub chain-begins : Begins code values 1 64 used i
+  abbrev pub chain-begins : Begins code values 1 routineWordLimit used i
   chain-begins = walk-begins w starts (own-routine (b .m)) (limit-routine (b .W) (b .m))
 
   module _ (mid code′ values′ : List ℕ) (n used′ : ℕ) (g : Goes chain-begins mid values′ n used′) (s : Relinked mid code′ last i) (long : length code′ ≡ length code) where
@@ -213,7 +214,7 @@ module _ (code₀ values₀ : List ℕ) (head used₀ at : ℕ) (code values : L
   pub routine-room : RoutineStands code₀ values₀ head used₀ at → i * 8 + 8 ≤ length code
   routine-room b = walk-room (m .chained b .walk)
 
-  pub routine-small : RoutineStands code₀ values₀ head used₀ at → i < 8192
+  pub routine-small : RoutineStands code₀ values₀ head used₀ at → i < wordLimit
   routine-small b = walk-near (m .chained b .walk)
 
   pub last-room : RoutineStands code₀ values₀ head used₀ at → last * 8 + 8 ≤ length code
@@ -230,33 +231,33 @@ module _ (code₀ values₀ : List ℕ) (head used₀ at : ℕ) (code values : L
     starts-is b = ap startsData (sort-here (m .chained b .walk) s s-is) ∙ sym t-is
 
     module _ (yes : t ≡ true) where
-      abbrev begins : (b : RoutineStands code₀ values₀ head used₀ at) → Begins code values 1 64 used i
+      abbrev begins : (b : RoutineStands code₀ values₀ head used₀ at) → Begins code values 1 routineWordLimit used i
       begins b = chain-begins b (m .chained b) (m .begun) (m .last-new) (m .last-before) (starts-is b ∙ yes)
 
-      pub routine-datum : RoutineStands code₀ values₀ head used₀ at → Begins code values 1 64 used i
+      pub routine-datum : RoutineStands code₀ values₀ head used₀ at → Begins code values 1 routineWordLimit used i
       routine-datum b = begins b
 
-      pub routine-near : RoutineStands code₀ values₀ head used₀ at → Near code values 1 64 used i
+      pub routine-near : RoutineStands code₀ values₀ head used₀ at → Near code values 1 routineWordLimit used i
       routine-near b = near (begins b)
 
-      module _ (mid values′ : List ℕ) (r : Walked) (d : Declares code values mid values′ 1 64 used i r) where
-        pub routine-faulty : (opens number word : ℕ) → r ≡ Faulty number word → DeclaresRoutine code₀ values₀ mid values′ opens head used₀ at (Faulty number word)
+      module _ (mid values′ : List ℕ) (r : Walked) (d : Declares code values mid values′ 1 routineWordLimit used i r) where
+        pub routine-faulty : (opens number word : ℕ) → r ≡ Faulty number word → DeclaresRoutine code₀ values₀ mid values′ opens head used₀ at r
         unfolding SaysRoutine
-        routine-faulty opens number word q = record {
+        routine-faulty opens number word q = subst (DeclaresRoutine code₀ values₀ mid values′ opens head used₀ at) (sym q) (record {
           is = λ b. walk-found (m .chained b .walk) (starts-is b ∙ yes) (own-routine (b .m)) (limit-routine (b .W) (b .m)) (record { number = number; at = word }) (says-faulty (begins b) mid values′ r number word q (d .is (begins b)));
-        }
+        })
 
         module _ (n used′ : ℕ) (q : r ≡ upto n used′) where
           goes : (b : RoutineStands code₀ values₀ head used₀ at) → Goes (begins b) mid values′ n used′
           goes b = says-goes (begins b) mid values′ r n used′ q (d .is (begins b))
 
-          routine-less : RoutineStands code₀ values₀ head used₀ at → (i < n) × (n < 8192)
+          routine-less : RoutineStands code₀ values₀ head used₀ at → (i < n) × (n < wordLimit)
           routine-less b =
               let y = goes b .next-is in
               let w = m .chained b .walk in
               (omega (arith, y, next-grows w (starts-is b ∙ yes)), omega (arith, y, next-on w (starts-is b ∙ yes), w .loaded .last))
 
-          falls : RoutineStands code₀ values₀ head used₀ at → 8192 - n < 8192 - i
+          falls : RoutineStands code₀ values₀ head used₀ at → wordLimit - n < wordLimit - i
           falls b = omega (arith, routine-less b .0, routine-less b .1)
 
           pub routine-on : RoutineStands code₀ values₀ head used₀ at → (code′ : List ℕ) → Relinked mid code′ last i → length code′ ≡ length code → length values′ ≡ length values
@@ -270,9 +271,11 @@ module _ (code₀ values₀ : List ℕ) (head used₀ at : ℕ) (code values : L
             last-before = routine-less b₀ .0;
           }
 
-        pub routine-falls : (n : ℕ) (scope : Scope) → r ≡ Upto n scope → RoutineStands code₀ values₀ head used₀ at → 8192 - n < 8192 - i
+        pub routine-falls : (n : ℕ) (scope : Scope) → r ≡ Upto n scope → RoutineStands code₀ values₀ head used₀ at → wordLimit - n < wordLimit - i
         routine-falls n scope q b = falls n (scope .used) q b
 
-    pub routine-done : t ≡ false → (code′ : List ℕ) (opens : ℕ) → Relinked code code′ last opens → DeclaresRoutine code₀ values₀ code′ values opens head used₀ at (upto i used)
+    pub routine-done : t ≡ false → (code′ : List ℕ) (opens : ℕ) → Relinked code code′ last opens → (scope : Scope) → scope .used ≡ used → DeclaresRoutine code₀ values₀ code′ values opens head used₀ at (Upto i scope)
     unfolding SaysRoutine
-    routine-done stops code′ opens s = record { is = λ b. chain-done b (m .chained b) (m .begun) (m .last-new) (m .last-before) (starts-is b ∙ stops) code′ opens s }
+    routine-done stops code′ opens s scope u =
+        subst (λ (k : ℕ). DeclaresRoutine code₀ values₀ code′ values opens head used₀ at (upto i k)) (sym u)
+        (record { is = λ b. chain-done b (m .chained b) (m .begun) (m .last-new) (m .last-before) (starts-is b ∙ stops) code′ opens s })

@@ -11,11 +11,11 @@ use Rattle.paper.specs.Expressions.{startsData}
 use Rattle.cells.specs.Words.{wordsOf}
 use Rattle.code.specs.Cells.{opAt}
 use Rattle.names.specs.declared.Scope.{Scope}
-use Rattle.paper.specs.Words.{Word}
+use Rattle.paper.specs.Words.{Word, wordLimit}
 use Rattle.paper.specs.Trees.{Declared}
 use Rattle.paper.specs.Names.{sortIn}
 use Rattle.paper.specs.Types.{Fault}
-use Rattle.paper.specs.Declarations.{Data, noData, declareData, moduleFilling}
+use Rattle.paper.specs.Declarations.{Data, noData, declareData, moduleFilling, moduleWordLimit}
 use Rattle.grammar.specs.Form.{Parses, DeclaredAt, DeclarationsAt}
 use Rattle.grammar.proofs.Inversions.{NextOf, repeated-next, repeated-none}
 use Rattle.grammar.proofs.Places.{declared-grows, declarations-grow}
@@ -25,8 +25,8 @@ use Rattle.faults.proofs.Expressions.{grows}
 use Rattle.faults.proofs.Declarations.{data-on, data-found}
 use Rattle.expressions.specs.Known.{Loaded}
 use Rattle.expressions.proofs.Starts.{loaded-part}
-use Rattle.sites.specs.declared.Walked.{Walked}
-use Rattle.sites.specs.declared.Walked.the-variants.{Upto, Faulty}
+use Rattle.names.specs.declared.Walked.{Walked}
+use Rattle.names.specs.declared.Walked.the-variants.{Upto, Faulty}
 use Rattle.sites.specs.Sites.{Site, theModule, filling, ownOf, Filled}
 use Rattle.sites.specs.Walks.{upto}
 use Rattle.datum.specs.Answers.{Begins, after, faultsOf, Goes, Says, Declares, Near}
@@ -61,7 +61,7 @@ module _ {W : List Word} {routine : ℕ → ℕ} {s : Site} {D₀ : Data} {ds : 
   pub walk-room : i * 8 + 8 ≤ length code
   walk-room = omega (arith, on, w .loaded .room)
 
-  pub walk-near : i < 8192
+  pub walk-near : i < wordLimit
   walk-near = omega (arith, on, w .loaded .last)
 
   -- the word at hand
@@ -180,32 +180,32 @@ module _ (code₀ values₀ : List ℕ) (at : ℕ) (code values : List ℕ) (i u
       unfolding ownOf
       own-here b = refl
 
-      limit-here : (b : DataStand code₀ values₀ at) → 1024 ≡ filling (b .W) (theModule (b .routines)) .limit
+      limit-here : (b : DataStand code₀ values₀ at) → moduleWordLimit ≡ filling (b .W) (theModule (b .routines)) .limit
       unfolding filling moduleFilling
       limit-here b = refl
 
-      abbrev begins : (b : DataStand code₀ values₀ at) → Begins code values 0 1024 used i
+      abbrev begins : (b : DataStand code₀ values₀ at) → Begins code values 0 moduleWordLimit used i
       begins b = walk-begins (m .walks b) (starts-is b ∙ yes) (own-here b) (limit-here b)
 
-      pub module-datum : DataStand code₀ values₀ at → Begins code values 0 1024 used i
+      pub module-datum : DataStand code₀ values₀ at → Begins code values 0 moduleWordLimit used i
       module-datum b = begins b
 
-      pub module-near : DataStand code₀ values₀ at → Near code values 0 1024 used i
+      pub module-near : DataStand code₀ values₀ at → Near code values 0 moduleWordLimit used i
       module-near b = near (begins b)
 
-      module _ (code′ values′ : List ℕ) (r : Walked) (d : Declares code values code′ values′ 0 1024 used i r) where
-        pub module-faulty : (number word : ℕ) → r ≡ Faulty number word → DeclaresModule code₀ values₀ code′ values′ at (Faulty number word)
+      module _ (code′ values′ : List ℕ) (r : Walked) (d : Declares code values code′ values′ 0 moduleWordLimit used i r) where
+        pub module-faulty : (number word : ℕ) → r ≡ Faulty number word → DeclaresModule code₀ values₀ code′ values′ at r
         unfolding SaysModule
-        module-faulty number word q = record {
+        module-faulty number word q = subst (DeclaresModule code₀ values₀ code′ values′ at) (sym q) (record {
           is = λ b. walk-found (m .walks b) (starts-is b ∙ yes) (own-here b) (limit-here b) (record { number = number; at = word }) (says-faulty (begins b) code′ values′ r number word q (d .is (begins b)));
-        }
+        })
 
         module _ (next used′ : ℕ) (q : r ≡ upto next used′) where
           goes : (b : DataStand code₀ values₀ at) → Goes (begins b) code′ values′ next used′
           goes b = says-goes (begins b) code′ values′ r next used′ q (d .is (begins b))
 
           -- the words left fall
-          module-less : DataStand code₀ values₀ at → (i < next) × (next < 8192)
+          module-less : DataStand code₀ values₀ at → (i < next) × (next < wordLimit)
           module-less b =
               let n = goes b .next-is in
               let g = next-grows (m .walks b) (starts-is b ∙ yes) in
@@ -213,7 +213,7 @@ module _ (code₀ values₀ : List ℕ) (at : ℕ) (code values : List ℕ) (i u
               let l = m .walks b .loaded .last in
               (omega (arith, n, g), omega (arith, n, h, l))
 
-          falls : DataStand code₀ values₀ at → 8192 - next < 8192 - i
+          falls : DataStand code₀ values₀ at → wordLimit - next < wordLimit - i
           falls b = omega (arith, module-less b .0, module-less b .1)
 
           pub module-on : DataStand code₀ values₀ at → length code′ ≡ length code → length values′ ≡ length values → ModuleWalk code₀ values₀ at code′ values′ next used′
@@ -226,7 +226,7 @@ module _ (code₀ values₀ : List ℕ) (at : ℕ) (code values : List ℕ) (i u
             above = λ k h. goes b₀ .changed .above k (omega (arith, goes b₀ .next-is)) ∙ m .above k (omega (arith, module-less b₀ .0));
           }
 
-        pub module-falls : (next : ℕ) (scope : Scope) → r ≡ Upto next scope → DataStand code₀ values₀ at → 8192 - next < 8192 - i
+        pub module-falls : (next : ℕ) (scope : Scope) → r ≡ Upto next scope → DataStand code₀ values₀ at → wordLimit - next < wordLimit - i
         module-falls next scope q b = falls next (scope .used) q b
 
     pub module-done : t ≡ false → (scope : Scope) → scope .used ≡ used → DeclaresModule code₀ values₀ code values at (Upto i scope)

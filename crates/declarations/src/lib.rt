@@ -2,12 +2,12 @@
 ghost use mathlib.Core.Path.{_≡_};
 ghost use Prim.Native.Nat.{_<_};
 ghost use Rattle.paper.specs.Expressions.{startsData};
+ghost use Rattle.layout.specs.Parts.{linkPart};
 ghost use Rattle.declarations.specs.Answers.{DataStand, DeclaresModule, RoutineStands, DeclaresRoutine};
 use datum::datum;
+use layout::limits;
 use names::Scope;
-use sites::MODULE_WORDS;
-use sites::ROUTINE_WORDS;
-use sites::Walked;
+use names::Walked;
 use store::set_link;
 use store::sort;
 
@@ -31,14 +31,12 @@ pub fn module_data(code: &mut [u8], values: &mut [u8], at: usize) -> Walked
     let mut i = at;
     let mut scope = Scope { used: 0 };
     while starts_data(sort(code, i)) {
-        let d = datum(scope, code, values, OF_MODULE, MODULE_WORDS, i);
-        match d {
-            Walked::Faulty(number, word) => return Walked::Faulty(number, word),
-            Walked::Upto(next, more) => {
-                i = next;
-                scope = more;
-            }
-        }
+        let d = datum(scope, code, values, OF_MODULE, limits::MODULE_COUNT, i);
+        let Walked::Upto(next, more) = d else {
+            return d;
+        };
+        i = next;
+        scope = more;
     }
     Walked::Upto(i, scope)
 }
@@ -52,23 +50,28 @@ pub fn routine_data(
     head: usize,
     at: usize,
 ) -> Walked
-    requires { ⌜ RoutineStands (now code) (now values) head (before .used) at × (opens < 65536) ⌝ }
+    requires { ⌜ RoutineStands (now code) (now values) head (before .used) at × (opens < linkPart) ⌝ }
     ensures { λ r. ⌜ DeclaresRoutine (now (code .entry)) (now (values .entry)) (now (code .exit)) (now (values .exit)) opens head (before .used) at r ⌝ }
 {
     let mut i = at;
     let mut scope = before;
     let mut last = head;
     while starts_data(sort(code, i)) {
-        let d = datum(scope, code, values, names::OF_ROUTINE, ROUTINE_WORDS, i);
-        match d {
-            Walked::Faulty(number, word) => return Walked::Faulty(number, word),
-            Walked::Upto(next, more) => {
-                set_link(code, last, i);
-                last = i;
-                i = next;
-                scope = more;
-            }
-        }
+        let d = datum(
+            scope,
+            code,
+            values,
+            names::OF_ROUTINE,
+            limits::ROUTINE_COUNT,
+            i,
+        );
+        let Walked::Upto(next, more) = d else {
+            return d;
+        };
+        set_link(code, last, i);
+        last = i;
+        i = next;
+        scope = more;
     }
     set_link(code, last, opens);
     Walked::Upto(i, scope)

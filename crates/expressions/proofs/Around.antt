@@ -204,8 +204,9 @@ module _ (cell : ℕ) (inner : Judged) (at : ℕ) where
   }
 
 -- ---- an operator's word
-pub tie-small : (C : List ℕ) (i w number : ℕ) → w ≡ headAt C (i + 1) → opAt C (i + 1) ≤ aCallWord → number < 16 → anOperator + number + 16 * (w % 256) < 128
-tie-small C i w number e h k = let f : w % 256 ≤ aCallWord = rw e h in omega arith
+pub tie-small : (code : List ℕ) (s i n w number : ℕ) → Numbered s number → w ≡ headAt (wordsOf code) (i + 1) → n ≡ i + 2 → (n ≡ i + 2 → opAt (wordsOf code) (i + 1) ≤ aCallWord)
+    → anOperator + number + 16 * (w % 256) < 256
+tie-small code s i n w number k e q small = let f : w % 256 ≤ aCallWord = rw e (small q) in omega (arith, k .small)
 
 module _ (before after : List ℕ) (s i n number : ℕ) (k : Numbered s number) where
   pub tie-leaf : (w : ℕ) → w ≡ headAt (wordsOf before) (i + 1) → n ≡ i + 2 → (n ≡ i + 2 → opAt (wordsOf before) (i + 1) ≤ aCallWord) → Headed before after i (anOperator + number + 16 * (w % 256)) (w / 256) → Tied before after s i n

@@ -5,6 +5,8 @@ use mathlib.Core.List.{List, [], _∷_, _++_, map}
 use Prim.Native.Nat.{ℕ, zero, suc, _+_, _-_, _*_, _<_, _≤_}
 use native.Mathlib.Omega.{arith}
 use lib.Dec.{eqb}
+use mir.Syntax.{w64}
+use mir.Val.{Fits}
 use lib.ListN.{length, getD}
 use borrow.Author.Tests.{eq-eqb, ne-eqb}
 use Rattle.laws.proofs.Tests.{test}
@@ -114,8 +116,14 @@ module _ (scope own : Scope) (code values₀ : List ℕ) (first count : ℕ) (va
     pub leave-links : Links code (at + 1)
     leave-links = links (b .routine) (b .W) (b .s) code values values (at + 1) k
 
-    pub leave-near : at + 3 < 8192
+    leave-near : at + 3 < wordLimit
     leave-near = omega (arith, m .kept b .near, some)
+
+    pub leave-adds : Fits w64 (at + 1)
+    leave-adds = record { fits = omega (arith, leave-near) }
+
+    pub next-adds : Fits w64 (at + 3)
+    next-adds = record { fits = omega (arith, leave-near) }
 
   pub parameters-leave : ParametersKept code values₀ first count → 0 < left → (values′ : List ℕ) (own′ : Scope) → Leaves own code values (at + 1) values′ own′
       → ParametersLeft scope own′ code values₀ first count values′ (at + 3) (left - 1)
@@ -190,7 +198,7 @@ module _ {code values₀ : List ℕ} {head : ℕ} (b : DataKept code values₀ h
     rest : List ℕ
     is : h .r ≡ i ∷ rest
 
-  some-left : opAt (wordsOf code) i ≡ 160 → Some
+  some-left : opAt (wordsOf code) i ≡ aDatum → Some
   unfolding Leads lastOf
   some-left q = by-list (h .r) refl
     where
@@ -203,7 +211,7 @@ module _ {code values₀ : List ℕ} {head : ℕ} (b : DataKept code values₀ h
           let c : Leads (wordsOf code) (h .w) (d ∷ l) = subst (Leads (wordsOf code) (h .w)) e (h .chain .leads) in
           record { rest = l; is = e ∙ ap (λ (k : ℕ). k ∷ l) (sym (h .at-is ∙ c .0)) }
 
-  none-left : (opAt (wordsOf code) i ≡ 160 → ⊥) → h .r ≡ []
+  none-left : (opAt (wordsOf code) i ≡ aDatum → ⊥) → h .r ≡ []
   unfolding Leads
   none-left q = by-list (h .r) refl
     where
@@ -213,11 +221,11 @@ module _ {code values₀ : List ℕ} {head : ℕ} (b : DataKept code values₀ h
           let c : Leads (wordsOf code) (h .w) (d ∷ l) = subst (Leads (wordsOf code) (h .w)) e (h .chain .leads) in
           absurd (q (ap (opAt (wordsOf code)) (h .at-is ∙ c .0) ∙ c .1))
 
-  here-near : i < 8192
+  here-near : i < wordLimit
   unfolding Leads lastOf Rise
   here-near = by-list (h .r) refl
     where
-      by-list : (l : List ℕ) → h .r ≡ l → i < 8192
+      by-list : (l : List ℕ) → h .r ≡ l → i < wordLimit
       by-list [] e = let z : linkAt (wordsOf code) (h .w) ≡ b .end = subst (λ (k : List ℕ). linkAt (wordsOf code) (lastOf (h .w) k) ≡ b .end) e (h .chain .ends) in omega (arith, h .at-is, z, b .inside)
       by-list (d ∷ l) e =
           let c : Leads (wordsOf code) (h .w) (d ∷ l) = subst (Leads (wordsOf code) (h .w)) e (h .chain .leads) in
@@ -250,13 +258,13 @@ module _ {code values₀ : List ℕ} {head : ℕ} (b : DataKept code values₀ h
     unfolding nameOf
     others-here = subst (λ (l : List ℕ). MeansBut (map (spelled (b .W)) (map nameOf l)) (b .routine) (b .W) (outerOf (b .W) (b .s)) (wordsOf values)) (s .is) (h .others)
 
-    falls : chainLength (wordsOf code) 8192 (linkAt (wordsOf code) i) < chainLength (wordsOf code) 8192 i
+    falls : chainLength (wordsOf code) wordLimit (linkAt (wordsOf code) i) < chainLength (wordsOf code) wordLimit i
     falls =
         let f = rise-few i wordLimit (s .rest) rest-rises in
         let g = rise-few (h .w) wordLimit (i ∷ s .rest) (subst (Rise (h .w) wordLimit) (s .is) (h .rises)) in
-        let a = length-is (wordsOf code) (b .end) (b .stops) 8192 i (s .rest) rest-chain (omega (arith, f)) in
-        let c = length-is (wordsOf code) (b .end) (b .stops) 8192 (h .w) (i ∷ s .rest) all-are (omega (arith, g)) in
-        let e : chainLength (wordsOf code) 8192 i ≡ suc (length (s .rest)) = ap (chainLength (wordsOf code) 8192) (h .at-is) ∙ c in
+        let a = length-is (wordsOf code) (b .end) (b .stops) wordLimit i (s .rest) rest-chain (omega (arith, f)) in
+        let c = length-is (wordsOf code) (b .end) (b .stops) wordLimit (h .w) (i ∷ s .rest) all-are (omega (arith, g)) in
+        let e : chainLength (wordsOf code) wordLimit i ≡ suc (length (s .rest)) = ap (chainLength (wordsOf code) wordLimit) (h .at-is) ∙ c in
         omega (arith, a, e)
 
 module _ (scope own : Scope) (code values₀ : List ℕ) (head : ℕ) (values : List ℕ) (i : ℕ) (m : DataLeft scope own code values₀ head values i) where
@@ -267,12 +275,15 @@ module _ (scope own : Scope) (code values₀ : List ℕ) (head : ℕ) (values : 
   data-values = m .long
 
   module _ (o : ℕ) (o-is : o ≡ opAt (wordsOf code) i) where
-    module _ (b : DataKept code values₀ head) (yes : o ≡ 160) where
+    module _ (b : DataKept code values₀ head) (yes : o ≡ aDatum) where
       some : Some b (m .kept b)
       some = some-left b (m .kept b) (sym o-is ∙ yes)
 
-      pub name-near : i + 2 < 8192
+      name-near : i + 2 < wordLimit
       name-near = kept-here b (m .kept b) some .near
+
+      pub name-adds : Fits w64 (i + 2)
+      name-adds = record { fits = omega (arith, name-near) }
 
       pub name-room : (i + 2) * 8 + 8 ≤ length code
       name-room = omega (arith, name-near, b .code-room)
@@ -283,10 +294,10 @@ module _ (scope own : Scope) (code values₀ : List ℕ) (head : ℕ) (values : 
       pub name-links : Links code (i + 2)
       name-links = links (b .routine) (b .W) (b .s) code values values (i + 2) (kept-here b (m .kept b) some)
 
-      pub data-fall : (next : ℕ) → next ≡ linkAt (wordsOf code) i → chainLength (wordsOf code) 8192 next < chainLength (wordsOf code) 8192 i
-      data-fall next e = subst (λ (k : ℕ). chainLength (wordsOf code) 8192 k < chainLength (wordsOf code) 8192 i) (sym e) (falls b (m .kept b) some)
+      pub data-fall : (next : ℕ) → next ≡ linkAt (wordsOf code) i → chainLength (wordsOf code) wordLimit next < chainLength (wordsOf code) wordLimit i
+      data-fall next e = subst (λ (k : ℕ). chainLength (wordsOf code) wordLimit k < chainLength (wordsOf code) wordLimit i) (sym e) (falls b (m .kept b) some)
 
-    pub data-leave : DataKept code values₀ head → o ≡ 160 → (values′ : List ℕ) (own′ : Scope) → Leaves own code values (i + 2) values′ own′ → (next : ℕ) → next ≡ linkAt (wordsOf code) i
+    pub data-leave : DataKept code values₀ head → o ≡ aDatum → (values′ : List ℕ) (own′ : Scope) → Leaves own code values (i + 2) values′ own′ → (next : ℕ) → next ≡ linkAt (wordsOf code) i
         → DataLeft scope own′ code values₀ head values′ next
     data-leave b₀ op values′ own′ leaves next e = let l = leaves .known in record {
       scope-is = leaves .used ∙ m .scope-is;
@@ -306,7 +317,7 @@ module _ (scope own : Scope) (code values₀ : List ℕ) (head : ℕ) (values : 
           };
     }
 
-    pub data-left : (o ≡ 160 → ⊥) → LeavesData scope code values₀ values head own
+    pub data-left : (o ≡ aDatum → ⊥) → LeavesData scope code values₀ values head own
     unfolding isAmong
     data-left done = record {
       means = λ b.

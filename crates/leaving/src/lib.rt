@@ -1,8 +1,8 @@
 // Leaving a routine: its names mean again what they meant before it.
 ghost use Rattle.leaving.specs.Answers.{Leaving, Leaves};
 ghost use Rattle.leaving.specs.Parts.{ParametersKept, LeavesParameters, DataKept, LeavesData};
+use layout::ops;
 use names::Scope;
-use sites::DATUM;
 use store::sort;
 
 fn leave_parameters(scope: Scope, code: &[u8], values: &mut [u8], first: usize, count: u32) -> Scope
@@ -26,7 +26,7 @@ fn leave_data(scope: Scope, code: &[u8], values: &mut [u8], head: usize) -> Scop
 {
     let mut own = scope;
     let mut i = reading::link(code, head);
-    while sort(code, i) == DATUM {
+    while sort(code, i) == ops::DATUM {
         own = own.leave(code, values, i + 2);
         i = reading::link(code, i);
     }

@@ -6,17 +6,21 @@ use Prim.Native.Nat.{ℕ, zero, suc, _+_, _-_, _*_, _/_, _<_, _≤_}
 use native.Mathlib.Omega.{arith}
 use lib.ListN.{length, getD, replicate, length-replicate, replicate-append-replicate}
 use lib.IntN.{ℤ, pos}
-use mir.Syntax.{w32}
-use mir.Val.{toZ}
+use mir.Syntax.{w32, w64}
+use mir.Val.{Fits, toZ}
 use Rattle.laws.proofs.Tests.{by-same}
+use Rattle.paper.specs.Sorts.{comma}
+use Rattle.paper.specs.Words.{wordLimit}
 use Rattle.paper.specs.Trees.{Parameter}
 use Rattle.paper.specs.Names.{DataType, variable, Text, textOf, sortIn, spelled, isAmong, cannotDeclare, typeOf}
 use Rattle.paper.specs.Types.{Fault}
-use Rattle.paper.specs.Declarations.{Data, noData, Filling, declareName, declareParameters}
+use Rattle.paper.specs.Declarations.{Data, noData, Filling, declareName, declareParameters, routineWordLimit}
 use Rattle.cells.specs.Words.{wordsOf}
-use Rattle.code.specs.Cells.{opIn, placeIn, linkIn, opAt}
+use Rattle.code.specs.Cells.{firstWindow, opIn, placeIn, linkIn, opAt}
 use Rattle.names.specs.Numbers.{numberOf}
-use Rattle.names.specs.Meanings.{typeWith, refWith, meaningWith, meaningIn}
+use Rattle.layout.specs.Parts.{kindPart}
+use Rattle.layout.specs.Rules.{takenName, tooMany}
+use Rattle.names.specs.Meanings.{aVariable, cellWith, typeWith, refWith, meaningWith, meaningIn}
 use Rattle.names.specs.Promises.{numberAt}
 use Rattle.names.proofs.Tables.{meaning-with, declare-keeps}
 use Rattle.store.proofs.Rewriting.{rewritten-other}
@@ -30,8 +34,8 @@ use Rattle.faults.proofs.Declarations.{name-taken, name-crosses, name-fits, par
 use Rattle.expressions.specs.Known.{Loaded}
 use Rattle.expressions.proofs.Starts.{loaded-part}
 use Rattle.names.specs.declared.Scope.{Scope}
-use Rattle.sites.specs.declared.Walked.{Walked}
-use Rattle.sites.specs.declared.Walked.the-variants.{Upto, Faulty}
+use Rattle.names.specs.declared.Walked.{Walked}
+use Rattle.names.specs.declared.Walked.the-variants.{Upto, Faulty}
 use Rattle.sites.specs.Sites.{aRoutine, filling, ownOf, scopesOf, Owns, Placed, owned, Filled}
 use Rattle.sites.specs.Walks.{upto, KeepsAll, nameWords}
 use Rattle.parameters.specs.Answers.{OtherWords, ParametersStand, parametersAfter, ParametersFilled, SaysParameters, DeclaresParameters}
@@ -52,7 +56,7 @@ module _ {code values : List ℕ} {used i : ℕ} (b : ParameterBegins code value
   pub parameter-room : (i + 2) * 8 + 8 ≤ length code
   parameter-room = let r = b .loaded .room in omega (arith, r, b .stands .after)
 
-  pub parameter-near : i + 2 < 8192
+  pub parameter-near : i + 2 < wordLimit
   parameter-near = let l = b .loaded .last in omega (arith, l, b .stands .after)
 
   pub parameter-used : used ≤ 64
@@ -73,8 +77,8 @@ module _ {code values : List ℕ} {used i : ℕ} (b : ParameterBegins code value
   room-left : length (b .D .words) ≤ F .limit
   room-left = used-most (b .W) (aRoutine (b .m)) (b .D .words) (b .filled .most) (b .filled .window)
 
-  module _ (code′ mid values′ : List ℕ) (free : cannotDeclare (map textOf (b .D .names)) (spelled (b .W) (i + 1)) ≡ false) (fits : used < 64)
-      (made : Makes code values code′ mid (i + 1) 4 1 used) (fills : Fills mid values′ (1024 + used) 1 0) where
+  module _ (code′ mid values′ : List ℕ) (free : cannotDeclare (map textOf (b .D .names)) (spelled (b .W) (i + 1)) ≡ false) (fits : used < routineWordLimit)
+      (made : Makes code values code′ mid (i + 1) aVariable 1 used) (fills : Fills mid values′ (firstWindow + used) 1 0) where
     room : (i + 1) * 8 + 8 ≤ length code
     room = omega (arith, parameter-room)
 
@@ -86,13 +90,13 @@ module _ {code values : List ℕ} {used i : ℕ} (b : ParameterBegins code value
     ref-is : refWith 1 used ≡ F .ref (length (b .D .words))
     ref-is = ap (λ (k : ℕ). refWith k used) (own-routine (b .m)) ∙ ap (refWith (ownOf (aRoutine (b .m)))) (b .used-is) ∙ sym (site-ref (b .W) (aRoutine (b .m)) (length (b .D .words)))
 
-    now-means : meaningIn (b .routine) (4 + 2 * made .bool + 1 + 256 * used) ≡ variable type (F .ref (length (b .D .words)))
+    now-means : meaningIn (b .routine) (cellWith aVariable (made .bool) 1 used) ≡ variable type (F .ref (length (b .D .words)))
     unfolding meaningWith
-    now-means = meaning-with (b .routine) 1 (made .bool) 1 used (omega arith) (made .type .small) (omega arith) ∙ ap (λ (t : DataType). variable t (refWith 1 used)) type-is ∙ ap (variable type) ref-is
+    now-means = meaning-with (b .routine) aVariable (made .bool) 1 used (omega arith) (made .type .small) (omega arith) ∙ ap (λ (t : DataType). variable t (refWith 1 used)) type-is ∙ ap (variable type) ref-is
 
-    from-is : 1024 + used ≡ baseOf (ownOf (aRoutine (b .m))) + length (b .D .words)
+    from-is : firstWindow + used ≡ baseOf (ownOf (aRoutine (b .m))) + length (b .D .words)
     unfolding baseOf ownOf
-    from-is = ap (λ (k : ℕ). 1024 + k) (b .used-is)
+    from-is = ap (λ (k : ℕ). firstWindow + k) (b .used-is)
 
     own-is : owned (ownOf (aRoutine (b .m))) (variable type (F .ref (length (b .D .words)))) ≡ true
     unfolding owned
@@ -109,8 +113,8 @@ module _ {code values : List ℕ} {used i : ℕ} (b : ParameterBegins code value
     now-filled : Filled (b .W) (b .routine) (aRoutine (b .m)) (parameterAfter b) values′
     unfolding declareName
     now-filled =
-        let g = filled-on (b .W) (b .routine) (aRoutine (b .m)) (b .D) values mid values′ code code′ (i + 1) (4 + 2 * made .bool + 1 + 256 * used) (variable type (F .ref (length (b .D .words)))) (pos 0 ∷ []) 0 (b .filled)
-        (b .stands .name) free number-here (made .declared) (data-plain 4 (made .bool) 1 used (omega arith) (made .type .small) (omega arith)) now-means
+        let g = filled-on (b .W) (b .routine) (aRoutine (b .m)) (b .D) values mid values′ code code′ (i + 1) (cellWith aVariable (made .bool) 1 used) (variable type (F .ref (length (b .D .words)))) (pos 0 ∷ []) 0 (b .filled)
+        (b .stands .name) free number-here (made .declared) (data-plain (aVariable * kindPart) (made .bool) 1 used (omega arith) (made .type .small) (omega arith)) now-means
         (subst (λ (k : ℕ). Fills mid values′ k 1 0) from-is fills) starts-is (omega (arith, fits, b .used-is, limit-routine (b .W) (b .m))) own-is placed-is
         (declareName (b .W) F (i + 1) (variable type) (pos 0 ∷ []) [] (b .D) .faults) in
         subst (λ (k : ℕ). Filled (b .W) (b .routine) (aRoutine (b .m)) (declareName (b .W) F k (variable type) (pos 0 ∷ []) [] (b .D)) values′) (sym (b .stands .named)) g
@@ -134,22 +138,22 @@ module _ {code values : List ℕ} {used i : ℕ} (b : ParameterBegins code value
     }
 
 module _ (code values : List ℕ) (used i : ℕ) (t : Bool) (taken : Taken code values 1 (i + 1) t) where
-  pub parameter-taken : t ≡ true → DeclaresParameter code values code values used i (Faulty 10 (i + 1))
+  pub parameter-taken : t ≡ true → DeclaresParameter code values code values used i (Faulty takenName (i + 1))
   unfolding SaysParameter
   parameter-taken h = record {
-    is = λ b. subst (λ (k : ℕ). First (record { number = 10; at = k }) (nameFaults (b .W) (F b) (b .p .name) (pos 0 ∷ []) (b .D))) (b .stands .named)
+    is = λ b. subst (λ (k : ℕ). First (record { number = takenName; at = k }) (nameFaults (b .W) (F b) (b .p .name) (pos 0 ∷ []) (b .D))) (b .stands .named)
         (name-taken (b .W) (F b) (b .p .name) (pos 0 ∷ []) (b .D) (sym (name-is b t taken) ∙ h));
   }
 
-  pub parameter-crosses : t ≡ false → 64 ≤ used → DeclaresParameter code values code values used i (Faulty 16 (i + 1))
+  pub parameter-crosses : t ≡ false → routineWordLimit ≤ used → DeclaresParameter code values code values used i (Faulty tooMany (i + 1))
   unfolding SaysParameter
   parameter-crosses h over = record {
-    is = λ b. subst (λ (k : ℕ). First (record { number = 16; at = k }) (nameFaults (b .W) (F b) (b .p .name) (pos 0 ∷ []) (b .D))) (b .stands .named)
+    is = λ b. subst (λ (k : ℕ). First (record { number = tooMany; at = k }) (nameFaults (b .W) (F b) (b .p .name) (pos 0 ∷ []) (b .D))) (b .stands .named)
         (name-crosses (b .W) (F b) (b .p .name) (pos 0 ∷ []) (b .D) (sym (name-is b t taken) ∙ h)
         (crossing (F b .limit) (length (b .D .words)) 1 (room-left b) (omega (arith, over, b .used-is, limit-routine (b .W) (b .m)))));
   }
 
-  pub parameter-goes : t ≡ false → used < 64 → (code′ mid values′ : List ℕ) → Makes code values code′ mid (i + 1) 4 1 used → Fills mid values′ (1024 + used) 1 0
+  pub parameter-goes : t ≡ false → used < routineWordLimit → (code′ mid values′ : List ℕ) → Makes code values code′ mid (i + 1) aVariable 1 used → Fills mid values′ (firstWindow + used) 1 0
       → (scope : Scope) → scope ≡ record { used = used + 1 } → DeclaresParameter code values code′ values′ used i (Upto (i + 2) scope)
   unfolding SaysParameter
   parameter-goes h fits code′ mid values′ made fills scope e = record {
@@ -391,11 +395,11 @@ module _ (code₀ values₀ : List ℕ) (at : ℕ) (code values : List ℕ) (i u
   parameters-long-values = m .long-values
 
   module _ (code′ values′ : List ℕ) (r : Walked) (d : DeclaresParameter code values code′ values′ used i r) where
-    pub parameters-faulty : (number word : ℕ) → r ≡ Faulty number word → DeclaresParameters code₀ values₀ code′ values′ at (Faulty number word)
+    pub parameters-faulty : (number word : ℕ) → r ≡ Faulty number word → DeclaresParameters code₀ values₀ code′ values′ at r
     unfolding SaysParameters
-    parameters-faulty number word q = record {
+    parameters-faulty number word q = subst (DeclaresParameters code₀ values₀ code′ values′ at) (sym q) (record {
       is = λ b. found b (m .passed b) (record { number = number; at = word }) (says-faulty (begins b (m .passed b)) code′ values′ r number word q (d .is (begins b (m .passed b))));
-    }
+    })
 
     module _ (n used′ : ℕ) (q : r ≡ upto n used′) where
       went : (b : ParametersStand code₀ values₀ at) → ParameterGoes (begins b (m .passed b)) code′ values′ n used′
@@ -407,13 +411,17 @@ module _ (code₀ values₀ : List ℕ) (at : ℕ) (code values : List ℕ) (i u
       n-on : (b : ParametersStand code₀ values₀ at) → n ≤ b .to
       n-on b = omega (arith, first-end b (m .passed b), went b .next-is)
 
+      -- where word n is
       pub end-room : ParametersStand code₀ values₀ at → n * 8 + 8 ≤ length code
       end-room b = let r = m .passed b .loaded .room in omega (arith, r, n-on b)
 
-      pub end-near : ParametersStand code₀ values₀ at → n < 8192
+      end-adds : ParametersStand code₀ values₀ at → Fits w64 (n + 1)
+      end-adds b = let l = m .passed b .loaded .last in record { fits = omega (arith, l, n-on b) }
+
+      end-near : ParametersStand code₀ values₀ at → n < wordLimit
       end-near b = let l = m .passed b .loaded .last in omega (arith, l, n-on b)
 
-      fall : ParametersStand code₀ values₀ at → 8192 - (n + 1) < 8192 - i
+      fall : ParametersStand code₀ values₀ at → wordLimit - (n + 1) < wordLimit - i
       fall b = omega (arith, n-is b, end-near b)
 
       others-on : ParametersStand code₀ values₀ at → OtherWords (wordsOf code₀) (wordsOf code′) at used′
@@ -427,20 +435,28 @@ module _ (code₀ values₀ : List ℕ) (at : ℕ) (code values : List ℕ) (i u
             let p = m .passed b in
             sym (s-is ∙ ap opIn (went b .others .is (n * 2) (λ j l e. omega (arith, e, l, n-is b))) ∙ p .loaded .words n (omega (arith, n-is b)) (n-on b) .sort)
 
-        pub parameters-done : (s ≡ 5 → ⊥) → DeclaresParameters code₀ values₀ code′ values′ at (upto n used′)
+        all-done : (s ≡ comma → ⊥) → DeclaresParameters code₀ values₀ code′ values′ at r
         unfolding SaysParameters
-        parameters-done last = record {
+        all-done last = subst (DeclaresParameters code₀ values₀ code′ values′ at) (sym q) (record {
           is = λ b. all b (m .passed b) code′ values′ n used′ (went b) long (m .place) (λ e. last (sym (sort-end b) ∙ e)) (others-on b);
-        }
+        })
 
-        pub parameters-go : s ≡ 5 → ParametersStand code₀ values₀ at → length values′ ≡ length values → ParametersWalk code₀ values₀ at code′ values′ (n + 1) used′
-        parameters-go comma b₀ long-values = record {
+        pub parameters-go : s ≡ comma → ParametersStand code₀ values₀ at → length values′ ≡ length values → ParametersWalk code₀ values₀ at code′ values′ (n + 1) used′
+        parameters-go is-comma b₀ long-values = record {
           long = long ∙ m .long;
           long-values = long-values ∙ m .long-values;
-          passed = λ b. more b (m .passed b) code′ values′ n used′ (went b) long (m .place) (sort-end b ∙ comma);
+          passed = λ b. more b (m .passed b) code′ values′ n used′ (went b) long (m .place) (sort-end b ∙ is-comma);
           place = omega (arith, n-is b₀, m .place, went b₀ .used-is);
           others = others-on b₀;
         }
 
-    pub parameters-fall : (n : ℕ) (scope : Scope) → r ≡ Upto n scope → ParametersStand code₀ values₀ at → 8192 - (n + 1) < 8192 - i
+    -- the same where the scope is told
+    module _ (n : ℕ) (scope : Scope) (q : r ≡ Upto n scope) where
+      pub behind-adds : ParametersStand code₀ values₀ at → Fits w64 (n + 1)
+      behind-adds b = end-adds n (scope .used) q b
+
+      pub parameters-done : (s : ℕ) → s ≡ opAt (wordsOf code′) n → length code′ ≡ length code → (s ≡ comma → ⊥) → DeclaresParameters code₀ values₀ code′ values′ at (Upto n scope)
+      parameters-done s s-is long last = subst (DeclaresParameters code₀ values₀ code′ values′ at) q (all-done n (scope .used) q s s-is long last)
+
+    pub parameters-fall : (n : ℕ) (scope : Scope) → r ≡ Upto n scope → ParametersStand code₀ values₀ at → wordLimit - (n + 1) < wordLimit - i
     parameters-fall n scope q b = fall n (scope .used) q b

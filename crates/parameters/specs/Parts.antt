@@ -13,8 +13,8 @@ use Rattle.grammar.specs.Form.{Parses, ParameterAt}
 use Rattle.faults.specs.First.{First}
 use Rattle.faults.specs.Added.{nameFaults}
 use Rattle.expressions.specs.Known.{Loaded}
-use Rattle.sites.specs.declared.Walked.{Walked}
-use Rattle.sites.specs.declared.Walked.the-variants.{Upto, Faulty}
+use Rattle.names.specs.declared.Walked.{Walked}
+use Rattle.names.specs.declared.Walked.the-variants.{Upto, Faulty}
 use Rattle.sites.specs.Sites.{aRoutine, filling, Filled}
 use Rattle.sites.specs.Walks.{KeepsName}
 use Rattle.parameters.specs.Answers.{OtherWords}

@@ -1,12 +1,11 @@
 // The parameters of a routine: what they make known.
 ghost use Rattle.parameters.specs.Answers.{ParametersStand, DeclaresParameters};
 ghost use Rattle.parameters.specs.Parts.{ParameterBegins, DeclaresParameter};
+use layout::kinds;
+use layout::limits;
+use layout::rules;
 use names::Scope;
-use sites::ROUTINE_WORDS;
-use sites::TAKEN;
-use sites::TOO_MANY;
-use sites::WINDOW;
-use sites::Walked;
+use names::Walked;
 use sites::fill;
 use sites::is_taken;
 use sites::known;
@@ -18,22 +17,22 @@ fn parameter(scope: Scope, code: &mut [u8], values: &mut [u8], i: usize) -> Walk
 {
     let used = scope.used;
     if is_taken(code, values, names::OF_ROUTINE, i + 1) {
-        return Walked::Faulty(TAKEN, i + 1);
+        return Walked::Faulty(rules::TAKEN_NAME, i + 1);
     }
-    if ROUTINE_WORDS <= used {
-        return Walked::Faulty(TOO_MANY, i + 1);
+    if limits::ROUTINE_COUNT <= used {
+        return Walked::Faulty(rules::TOO_MANY, i + 1);
     }
     let filled = known(
         scope,
         code,
         values,
         i + 1,
-        names::VARIABLE,
+        kinds::VARIABLE,
         names::OF_ROUTINE,
         used,
         1,
     );
-    fill(values, WINDOW + used as usize, 1, 0);
+    fill(values, layout::cells::FIRST_WINDOW + used as usize, 1, 0);
     Walked::Upto(i + 2, filled)
 }
 
@@ -49,15 +48,13 @@ pub fn parameters(code: &mut [u8], values: &mut [u8], at: usize) -> Walked
     let mut scope = Scope { used: 0 };
     loop {
         let d = parameter(scope, code, values, i);
-        match d {
-            Walked::Faulty(number, word) => return Walked::Faulty(number, word),
-            Walked::Upto(next, more) => {
-                if sort(code, next) != sorts::COMMA {
-                    return Walked::Upto(next, more);
-                }
-                i = next + 1;
-                scope = more;
-            }
+        let Walked::Upto(next, more) = d else {
+            return d;
+        };
+        if sort(code, next) != sorts::COMMA {
+            return d;
         }
+        i = next + 1;
+        scope = more;
     }
 }

@@ -1,7 +1,5 @@
 use borrow.Author.Needs.{needs}
-use native.Mathlib.Omega.{arith}
-use Prim.Native.Nat.{_<_, _≤_}
-use Rattle.datum.proofs.Contents.{array-asks, count-most, count-next, array-faulty, array-crosses, array-goes}
+use Rattle.datum.proofs.Contents.{array-asks, count-adds, count-above, count-packs, count-value, count-scope, next-adds, array-faulty, array-crosses, array-goes}
 use Rattle.datum.proofs.array.Statement.{statement}
 use Rattle.datum.proofs.array.Tie as tie
 
@@ -18,7 +16,7 @@ enum-known-c-2 : tie.Need-enum-known-c-2
 enum-known-c-2 c = search needs
 
 add-if1 : tie.Need-add-if1
-add-if1 c = let h : c .before .c2 .given .0 .0 ≤ 512 = search (needs, count-most, array-asks) in omega (arith, h)
+add-if1 c = search (needs, count-adds, array-asks)
 
 add-t22 : tie.Need-add-t22
 add-t22 c = search needs
@@ -36,19 +34,19 @@ add-known : tie.Need-add-known
 add-known c = search needs
 
 mul-known : tie.Need-mul-known
-mul-known c = let h : c .before .before .before .before .c2 .given .0 .0 ≤ 512 = search (needs, count-most, array-asks) in omega (arith, h)
+mul-known c = search (needs, count-above, array-asks)
 
 add-known-2 : tie.Need-add-known-2
-add-known-2 c = let h : c .before .before .before .before .c2 .given .0 .0 ≤ 512 = search (needs, count-most, array-asks) in omega (arith, h)
+add-known-2 c = search (needs, count-packs, array-asks)
 
 known-requires : tie.Need-known-requires
-known-requires c κs = let h : c .before .before .before .before .c2 .given .0 .0 ≤ 512 = search (needs, count-most, array-asks) in (search needs, search needs, search needs, search needs, search needs, omega (arith, h), omega (arith, h))
+known-requires c κs = (search needs, search needs, search needs, search needs, search needs, search (needs, count-value, array-asks), search (needs, count-scope, array-asks))
 
 start-requires : tie.Need-start-requires
-start-requires c κs = (search needs, search needs, search needs, search needs)
+start-requires c κs = search needs
 
 add-t27 : tie.Need-add-t27
-add-t27 c = let h : c .before .before .before .before .before .before .before .before .before .before .before .before .before .before .before .before .c2 .given .0 .1 .0 < 8192 = search (needs, count-next, array-asks) in omega (arith, h)
+add-t27 c = search (needs, next-adds, array-asks)
 
 same-length-3 : tie.Need-same-length-3
 same-length-3 c = search needs
@@ -66,8 +64,7 @@ same-length-6 : tie.Need-same-length-6
 same-length-6 c = search needs
 
 returns-3 : tie.Need-returns-3
-returns-3 c =
-    array-goes (c .before .before .before .before .before .before .before .before .before .before .before .before .before .before .before .before .before .before .before .before .before .before .before .before .before .pre .2) _ _ (c .before .before .before .before .before .before .before .before .before .before .before .before .before .before .before .before .before .before .before .before .size .ensures) _ _ (c .before .before .before .before .before .before .before .before .before .before .before .before .before .before .before .before .c2 .given .1) (c .before .before .before .before .before .before .before .before .before .before .before .before .before .before .if1 .left) _ _ _ _ (c .before .before .before .before .before .before .before .before .before .before .before .known .ensures .makes) (c .before .before .before .before .start .ensures) _ (c .before .before .before .before .before .before .before .before .before .before .before .known .ensures .scope-is)
+returns-3 c = search (needs, array-goes)
 
 pub array-spec : {M : Type 1} → statement M
 array-spec =

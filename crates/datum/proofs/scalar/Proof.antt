@@ -1,10 +1,12 @@
 use borrow.Author.Needs.{needs}
-use Rattle.datum.proofs.Scalars.{op-low, scalar-asks, scalar-fit, scalar-crosses, scalar-plain, scalar-goes}
+use mathlib.Core.Path.{ap, _∙_}
+use Rattle.datum.specs.Parts.{scalarKind}
+use Rattle.datum.proofs.Scalars.{kind-low, scalar-crosses, scalar-plain}
 use Rattle.datum.proofs.scalar.Statement.{statement}
 use Rattle.datum.proofs.scalar.Tie as tie
 
-add-t13 : tie.Need-add-t13
-add-t13 c = search needs
+add-t11 : tie.Need-add-t11
+add-t11 c = search needs
 
 returns : tie.Need-returns
 returns c = search (needs, scalar-crosses)
@@ -12,8 +14,8 @@ returns c = search (needs, scalar-crosses)
 sort-requires : tie.Need-sort-requires
 sort-requires c κs = search needs
 
-scalar-op-requires : tie.Need-scalar-op-requires
-scalar-op-requires c κs = search needs
+scalar-kind-requires : tie.Need-scalar-kind-requires
+scalar-kind-requires c κs = search needs
 
 add-sort : tie.Need-add-sort
 add-sort c = search needs
@@ -25,13 +27,13 @@ add-known : tie.Need-add-known
 add-known c = search needs
 
 known-requires : tie.Need-known-requires
-known-requires c κs = (search needs, search needs, search needs, search (needs, op-low), search needs, search needs, search needs)
+known-requires c κs = (search needs, search needs, search needs, search (needs, kind-low), search needs, search needs, search needs)
 
 start-requires : tie.Need-start-requires
 start-requires c κs = search needs
 
-add-t24 : tie.Need-add-t24
-add-t24 c = search needs
+add-t22 : tie.Need-add-t22
+add-t22 c = search needs
 
 same-length : tie.Need-same-length
 same-length c = search needs
@@ -42,23 +44,10 @@ same-length-2 c = search needs
 returns-2 : tie.Need-returns-2
 returns-2 c = search (needs, scalar-plain)
 
-add-sort-2 : tie.Need-add-sort-2
-add-sort-2 c = search needs
-
-sort-requires-3 : tie.Need-sort-requires-3
-sort-requires-3 c κs = search needs
-
-type-bit-requires : tie.Need-type-bit-requires
-type-bit-requires c κs = search needs
-
-add-constant : tie.Need-add-constant
-add-constant c = search needs
-
-constant-requires : tie.Need-constant-requires
-constant-requires c κs = scalar-asks (c .before .before .before .before .before .before .before .before .before .before .before .before .before .before .pre .2) _ (c .before .before .before .before .before .before .sort2 .ensures) _ (c .before .before .before .before .before .before .before .before .before .sort .ensures) _ (c .before .before .before .before .before .before .before .before .scalar-op .ensures) (c .before .before .before .before .before .before .before .before .before .before .before .if1 .left) (c .before .before .before .before .before .if2 .left) (c .before .before .before .before .before .before .before .before .before .before .before .before .before .before .pre .0)
-
-valued-requires : tie.Need-valued-requires
-valued-requires c κs = (search needs, search needs, search needs, search needs, search needs, search (needs, op-low), scalar-fit (c .before .before .before .before .before .before .before .before .before .before .before .before .before .before .before .before .before .before .before .pre .2) _ (c .before .before .before .before .before .before .before .before .before .before .before .sort2 .ensures) _ (c .before .before .before .before .before .before .before .before .before .before .before .before .before .before .sort .ensures) _ (c .before .before .before .before .before .before .before .before .before .before .before .before .before .scalar-op .ensures) (c .before .before .before .before .before .before .before .before .before .before .before .before .before .before .before .before .if1 .left) (c .before .before .before .before .before .before .before .before .before .before .if2 .left) _ (c .before .before .before .before .before .before .before .before .sort3 .ensures) _ (c .before .before .before .before .before .before .before .type-bit .ensures) _ _ (c .before .before .before .before .constant .ensures) (c .before .before .before .before .before .before .before .before .before .before .before .before .before .before .before .before .before .before .before .pre .0))
+initial-requires : tie.Need-initial-requires
+initial-requires c κs =
+    let told = c .before .before .before .before .before in
+    (search needs, search needs, record { kind-is = told .scalar-kind .ensures ∙ ap scalarKind (told .before .sort .ensures); becomes-is = search needs; fits = search needs })
 
 same-length-3 : tie.Need-same-length-3
 same-length-3 c = search needs
@@ -67,31 +56,26 @@ same-length-4 : tie.Need-same-length-4
 same-length-4 c = search needs
 
 returns-3 : tie.Need-returns-3
-returns-3 c = scalar-goes (c .before .before .before .before .before .before .before .before .before .before .before .before .before .before .before .before .before .before .before .before .before .before .before .before .pre .2) _ (c .before .before .before .before .before .before .before .before .before .before .before .before .before .before .before .before .sort2 .ensures) _ (c .before .before .before .before .before .before .before .before .before .before .before .before .before .before .before .before .before .before .before .sort .ensures) _ (c .before .before .before .before .before .before .before .before .before .before .before .before .before .before .before .before .before .before .scalar-op .ensures) (c .before .before .before .before .before .before .before .before .before .before .before .before .before .before .before .before .before .before .before .before .before .if1 .left) (c .before .before .before .before .before .before .before .before .before .before .before .before .before .before .before .if2 .left) _ (c .before .before .before .before .before .before .before .before .before .before .before .before .before .sort3 .ensures) _ (c .before .before .before .before .before .before .before .before .before .before .before .before .type-bit .ensures) _ _ (c .before .before .before .before .before .before .before .before .before .constant .ensures) _ _ _ (c .before .before .before .before .valued .ensures)
+returns-3 c = search needs
 
 pub scalar-spec : {M : Type 1} → statement M
 scalar-spec =
     tie.close
     (tie.spec
-    add-t13
+    add-t11
     returns
     sort-requires
-    scalar-op-requires
+    scalar-kind-requires
     add-sort
     sort-requires-2
     add-known
     known-requires
     start-requires
-    add-t24
+    add-t22
     same-length
     same-length-2
     returns-2
-    add-sort-2
-    sort-requires-3
-    type-bit-requires
-    add-constant
-    constant-requires
-    valued-requires
+    initial-requires
     same-length-3
     same-length-4
     returns-3)

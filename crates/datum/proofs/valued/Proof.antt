@@ -1,7 +1,5 @@
 use borrow.Author.Needs.{needs}
-use native.Mathlib.Omega.{arith}
-use Prim.Native.Nat.{_<_}
-use Rattle.datum.proofs.Scalars.{fit-read, fit-next, placing-faulty, placing-value}
+use Rattle.datum.proofs.Scalars.{fit-read, fit-adds, placing-faulty, placing-value}
 use Rattle.datum.proofs.valued.Statement.{statement}
 use Rattle.datum.proofs.valued.Tie as tie
 
@@ -27,7 +25,7 @@ start-requires : tie.Need-start-requires
 start-requires c κs = search needs
 
 add-t19 : tie.Need-add-t19
-add-t19 c = let h : c .before .before .before .before .before .before .before .before .before .before .before .before .before .before .before .before .before .c2 .given .0 .1 .0 < 8192 = search (needs, fit-next) in omega (arith, h)
+add-t19 c = search (needs, fit-adds)
 
 returns : tie.Need-returns
 returns c = search (needs, placing-faulty)

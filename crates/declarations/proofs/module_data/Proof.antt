@@ -1,6 +1,7 @@
 use borrow.Author.Needs.{needs}
 use Prim.Native.Nat.{_-_, _<_, _≤_}
 use native.Mathlib.Omega.{arith}
+use Rattle.paper.specs.Words.{wordLimit}
 use Rattle.declarations.proofs.Walking.{ModuleWalk, module-begun, module-room, module-datum, module-near, module-faulty, module-falls, module-long, module-long-values, module-on, module-done}
 use Rattle.declarations.proofs.module_data.Statement.{statement}
 use Rattle.declarations.proofs.module_data.Tie as tie
@@ -9,7 +10,7 @@ abbrev Inv-loop : tie.InvT-loop
 Inv-loop code₀ values₀ at i₀ scope₀ code values i scope = ModuleWalk code₀ values₀ at code values i (scope .used)
 
 abbrev μ-loop : tie.MeasureT-loop
-μ-loop code₀ values₀ at i₀ scope₀ code values i scope = 8192 - i
+μ-loop code₀ values₀ at i₀ scope₀ code values i scope = wordLimit - i
 
 loop-holds : tie.Need-loop-holds Inv-loop μ-loop
 loop-holds c = search (needs, module-begun)
@@ -26,6 +27,9 @@ datum-requires c κs = (search (needs, module-datum), search (needs, module-near
 enum-known-d : tie.Need-enum-known-d Inv-loop μ-loop
 enum-known-d c = search needs
 
+enum-told : tie.Need-enum-told Inv-loop μ-loop
+enum-told c = search needs
+
 same-length : tie.Need-same-length Inv-loop μ-loop
 same-length c = search (needs, module-long, module-long-values)
 
@@ -34,9 +38,6 @@ same-length-2 c = search (needs, module-long, module-long-values)
 
 returns : tie.Need-returns Inv-loop μ-loop
 returns c = search (needs, module-faulty)
-
-enum-known-d-2 : tie.Need-enum-known-d-2 Inv-loop μ-loop
-enum-known-d-2 c = search needs
 
 loop-less : tie.Need-loop-less Inv-loop μ-loop
 loop-less c = search (needs, module-falls)
@@ -64,10 +65,10 @@ module-data-spec =
     starts-data-requires
     datum-requires
     enum-known-d
+    enum-told
     same-length
     same-length-2
     returns
-    enum-known-d-2
     loop-less
     loop-again
     same-length-3

@@ -1,7 +1,9 @@
 use borrow.Author.Needs.{needs}
+use mathlib.Core.Path.{refl}
 use Prim.Native.Nat.{_-_, _<_, _≤_}
 use native.Mathlib.Omega.{arith}
-use Rattle.declarations.proofs.Routing.{RoutineWalk, routine-begun, routine-room, last-room, routine-long, routine-long-values, routine-datum, routine-near, routine-faulty, routine-falls, routine-small, routine-on, routine-done}
+use Rattle.paper.specs.Words.{wordLimit}
+use Rattle.declarations.proofs.Routing.{RoutineWalk, routine-begun, routine-room, last-room, routine-small, routine-long, routine-long-values, routine-datum, routine-near, routine-faulty, routine-falls, routine-on, routine-done}
 use Rattle.declarations.proofs.routine_data.Statement.{statement}
 use Rattle.declarations.proofs.routine_data.Tie as tie
 
@@ -9,7 +11,7 @@ abbrev Inv-loop : tie.InvT-loop
 Inv-loop code₀ values₀ opens head at i₀ scope₀ last₀ code values i scope last = RoutineWalk code₀ values₀ head (scope₀ .used) at code values i (scope .used) last
 
 abbrev μ-loop : tie.MeasureT-loop
-μ-loop code₀ values₀ opens head at i₀ scope₀ last₀ code values i scope last = 8192 - i
+μ-loop code₀ values₀ opens head at i₀ scope₀ last₀ code values i scope last = wordLimit - i
 
 loop-holds : tie.Need-loop-holds Inv-loop μ-loop
 loop-holds c = search (needs, routine-begun)
@@ -26,6 +28,9 @@ datum-requires c κs = (search (needs, routine-datum), search (needs, routine-ne
 enum-known-d : tie.Need-enum-known-d Inv-loop μ-loop
 enum-known-d c = search needs
 
+enum-told : tie.Need-enum-told Inv-loop μ-loop
+enum-told c = search needs
+
 same-length : tie.Need-same-length Inv-loop μ-loop
 same-length c = search (needs, routine-long, routine-long-values)
 
@@ -35,13 +40,12 @@ same-length-2 c = search (needs, routine-long, routine-long-values)
 returns : tie.Need-returns Inv-loop μ-loop
 returns c = search (needs, routine-faulty)
 
-enum-known-d-2 : tie.Need-enum-known-d-2 Inv-loop μ-loop
-enum-known-d-2 c = search needs
-
 set-link-requires : tie.Need-set-link-requires Inv-loop μ-loop
 set-link-requires c κs =
-    let h = last-room _ _ _ _ _ _ _ _ _ _ (c .before .before .before .before .before .before .before .before .before .before .before .before .before .before .before .loop .inv) (c .before .before .before .before .before .before .before .before .before .before .before .before .before .before .before .before .before .before .pre .0) in
-    let g = routine-small _ _ _ _ _ _ _ _ _ _ (c .before .before .before .before .before .before .before .before .before .before .before .before .before .before .before .loop .inv) (c .before .before .before .before .before .before .before .before .before .before .before .before .before .before .before .before .before .before .pre .0) in
+    let loop = c .before .before .before .before .before .before .before .before .before .before .before .before .before .before .before in
+    let start = loop .before .before .before in
+    let h = last-room _ _ _ _ _ _ _ _ _ _ (loop .loop .inv) (start .pre .0) in
+    let g = routine-small _ _ _ _ _ _ _ _ _ _ (loop .loop .inv) (start .pre .0) in
     (omega (arith, h), omega (arith, g))
 
 loop-less : tie.Need-loop-less Inv-loop μ-loop
@@ -49,7 +53,13 @@ loop-less c = search (needs, routine-falls)
 
 loop-again : tie.Need-loop-again Inv-loop μ-loop
 loop-again c =
-    routine-on _ _ _ _ _ _ _ _ _ _ (c .before .before .before .before .before .before .before .before .before .before .before .before .before .before .before .before .before .before .loop .inv) _ (c .before .before .before .before .before .before .before .before .before .before .before .before .before .before .before .before .sort .ensures) _ (c .before .before .before .before .before .before .before .before .before .before .before .before .before .before .before .starts-data .ensures) (c .before .before .before .before .before .before .before .before .before .before .before .before .before .before .if1 .taken) _ _ _ (c .before .before .before .before .before .before .before .before .before .before .before .datum .ensures) _ _ (c .before .before .before .before .before .d2 .given .1) (c .before .before .before .before .before .before .before .before .before .before .before .before .before .before .before .before .before .before .before .before .before .pre .0) _ (c .before .before .set-link .ensures) (search needs) (search needs)
+    let found = c .before .before .before .before .before in
+    let called = found .before .before .before .before .before .before in
+    let begun = called .before .before .before in
+    let loop = begun .before .before .before .before in
+    let start = loop .before .before .before in
+    routine-on _ _ _ _ _ _ _ _ _ _ (loop .loop .inv) _ (begun .before .before .sort .ensures) _ (begun .before .starts-data .ensures) (begun .if1 .taken) _ _ _ (called .datum .ensures) _ _ (found .d .given .1)
+    (start .pre .0) _ (c .before .before .set-link .ensures) (search needs) (search needs)
 
 set-link-requires-2 : tie.Need-set-link-requires-2 Inv-loop μ-loop
 set-link-requires-2 c κs = (search (needs, last-room), search needs)
@@ -62,7 +72,9 @@ same-length-4 c = search (needs, routine-long, routine-long-values)
 
 returns-2 : tie.Need-returns-2 Inv-loop μ-loop
 returns-2 c =
-    routine-done _ _ _ _ _ _ _ _ _ _ (c .before .before .before .before .before .before .before .before .loop .inv) _ (c .before .before .before .before .before .before .sort .ensures) _ (c .before .before .before .before .before .starts-data .ensures) (c .before .before .before .before .if1 .left) _ _ (c .before .before .set-link2 .ensures)
+    let ended = c .before .before .before .before in
+    let loop = ended .before .before .before .before in
+    routine-done _ _ _ _ _ _ _ _ _ _ (loop .loop .inv) _ (ended .before .before .sort .ensures) _ (ended .before .starts-data .ensures) (ended .if1 .left) _ _ (c .before .before .set-link2 .ensures) _ refl
 
 pub routine-data-spec : {M : Type 1} → statement M
 routine-data-spec =
@@ -75,10 +87,10 @@ routine-data-spec =
     starts-data-requires
     datum-requires
     enum-known-d
+    enum-told
     same-length
     same-length-2
     returns
-    enum-known-d-2
     set-link-requires
     loop-less
     loop-again

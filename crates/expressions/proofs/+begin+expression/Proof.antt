@@ -53,7 +53,9 @@ expression-below t =
 
 -- what the callees ask and ensure
 abbrev calls-begin : ℕ → begin-lts.Claims
-calls-begin t = (sort-reads.Asked, sort-reads.Learnt, meaning-reads.Asked, meaning-reads.Learnt, plain-reads.Asked, plain-reads.Learnt, kind-of-reads.Asked, kind-of-reads.Learnt, breaks-indexed-reads.Asked, breaks-indexed-reads.Learnt, expression-below t, expression.Post, indexed-reads.Asked, indexed-reads.Learnt, nested-reads.Asked, nested-reads.Learnt, covered-reads.Asked, covered-reads.Learnt, signed-reads.Asked, signed-reads.Learnt, literal-reads.Asked, literal-reads.Learnt)
+calls-begin t = (sort-reads.Asked, sort-reads.Learnt, meaning-reads.Asked, meaning-reads.Learnt, plain-reads.Asked, plain-reads.Learnt, kind-of-reads.Asked, kind-of-reads.Learnt,
+    breaks-indexed-reads.Asked, breaks-indexed-reads.Learnt, expression-below t, expression.Post, indexed-reads.Asked, indexed-reads.Learnt, nested-reads.Asked, nested-reads.Learnt,
+    covered-reads.Asked, covered-reads.Learnt, signed-reads.Asked, signed-reads.Learnt, literal-reads.Asked, literal-reads.Learnt)
 
 abbrev calls-expression : ℕ → expression-lts.Claims
 calls-expression t = (begin-below t, begin.Post, sort-reads.Asked, sort-reads.Learnt, level-of-reads.Asked, level-of-reads.Learnt, asked-reads.Asked, asked-reads.Learnt, expression-below t, expression.Post, join-reads.Asked, join-reads.Learnt)

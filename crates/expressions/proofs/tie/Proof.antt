@@ -1,6 +1,4 @@
 use borrow.Author.Needs.{needs}
-use denote.Ref.{now}
-use Rattle.cells.specs.Words.{wordsOf}
 use Rattle.expressions.proofs.Around.{tie-small, tie-leaf, tie-span}
 use Rattle.expressions.proofs.tie.Statement.{statement}
 use Rattle.expressions.proofs.tie.Tie as tie
@@ -27,7 +25,7 @@ add-set-head : tie.Need-add-set-head
 add-set-head c = search needs
 
 set-head-requires : tie.Need-set-head-requires
-set-head-requires c κs = let z = tie-small (wordsOf (now (c .before .before .before .before .before .before .args .code))) (c .before .before .before .before .before .before .args .i) (c .before .head .result) (c .before .before .before .before .number-of .result) (c .before .head .ensures) (c .before .before .before .before .before .before .pre .3 (c .before .before .before .if1 .taken)) (c .before .before .before .before .number-of .ensures .small) in search needs
+set-head-requires c κs = search (needs, tie-small)
 
 set-word-requires : tie.Need-set-word-requires
 set-word-requires c κs = search needs

@@ -2,7 +2,8 @@ use borrow.Author.Needs.{needs}
 use Prim.Native.Nat.{_-_, _<_, _≤_}
 use native.Mathlib.Omega.{arith}
 use Rattle.cells.specs.Words.{wordsOf}
-use Rattle.leaving.proofs.Parting.{chainLength, DataLeft, head-room, data-kept, datum-room, data-values, name-near, name-room, name-table, name-links, data-fall, data-leave, data-left}
+use Rattle.paper.specs.Words.{wordLimit}
+use Rattle.leaving.proofs.Parting.{chainLength, DataLeft, head-room, data-kept, datum-room, data-values, name-adds, name-room, name-table, name-links, data-fall, data-leave, data-left}
 use Rattle.leaving.proofs.leave_data.Statement.{statement}
 use Rattle.leaving.proofs.leave_data.Tie as tie
 
@@ -10,7 +11,7 @@ abbrev Inv-loop : tie.InvT-loop
 Inv-loop code values₀ head own₀ i₀ values own i = DataLeft own₀ own code values₀ head values i
 
 abbrev μ-loop : tie.MeasureT-loop
-μ-loop code values₀ head own₀ i₀ values own i = chainLength (wordsOf code) 8192 i
+μ-loop code values₀ head own₀ i₀ values own i = chainLength (wordsOf code) wordLimit i
 
 link-requires : tie.Need-link-requires Inv-loop μ-loop
 link-requires c κs = search (needs, head-room)
@@ -22,7 +23,7 @@ sort-requires : tie.Need-sort-requires Inv-loop μ-loop
 sort-requires c κs = search (needs, datum-room)
 
 add-leave : tie.Need-add-leave Inv-loop μ-loop
-add-leave c = let h = name-near _ _ _ _ _ _ _ (c .before .before .before .loop .inv) _ (c .before .before .sort .ensures) (c .before .before .before .before .before .before .before .pre) (c .before .if1 .taken) in omega (arith, h)
+add-leave c = search (needs, name-adds)
 
 leave-requires : tie.Need-leave-requires Inv-loop μ-loop
 leave-requires c κs = (search (needs, name-room), search (needs, name-table), search (needs, name-links))

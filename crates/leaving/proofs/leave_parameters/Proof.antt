@@ -1,7 +1,7 @@
 use borrow.Author.Needs.{needs}
 use Prim.Native.Nat.{_-_, _<_, _≤_}
 use native.Mathlib.Omega.{arith}
-use Rattle.leaving.proofs.Parting.{ParametersLeft, parameters-kept, leave-room, leave-table, leave-links, leave-near, parameters-leave, left-values, parameters-left}
+use Rattle.leaving.proofs.Parting.{ParametersLeft, parameters-kept, leave-room, leave-table, leave-links, leave-adds, next-adds, parameters-leave, left-values, parameters-left}
 use Rattle.leaving.proofs.leave_parameters.Statement.{statement}
 use Rattle.leaving.proofs.leave_parameters.Tie as tie
 
@@ -15,13 +15,13 @@ loop-holds : tie.Need-loop-holds Inv-loop μ-loop
 loop-holds c = search (needs, parameters-kept)
 
 add-leave : tie.Need-add-leave Inv-loop μ-loop
-add-leave c = let h = leave-near _ _ _ _ _ _ _ _ _ (c .before .before .loop .inv) (c .before .before .before .before .before .pre) (c .before .loop-test .taken) in omega (arith, h)
+add-leave c = search (needs, leave-adds)
 
 leave-requires : tie.Need-leave-requires Inv-loop μ-loop
 leave-requires c κs = (search (needs, leave-room), search (needs, leave-table), search (needs, leave-links))
 
 add-at : tie.Need-add-at Inv-loop μ-loop
-add-at c = let h = leave-near _ _ _ _ _ _ _ _ _ (c .before .before .before .before .before .loop .inv) (c .before .before .before .before .before .before .before .before .pre) (c .before .before .before .before .loop-test .taken) in omega (arith, h)
+add-at c = search (needs, next-adds)
 
 sub-left : tie.Need-sub-left Inv-loop μ-loop
 sub-left c = search needs

@@ -1,7 +1,8 @@
 use borrow.Author.Needs.{needs}
 use Prim.Native.Nat.{_-_, _<_, _≤_}
 use native.Mathlib.Omega.{arith}
-use Rattle.parameters.proofs.Passing.{ParametersWalk, parameters-room, parameters-none, parameters-begun, parameters-next, parameters-long, parameters-long-values, parameters-faulty, end-room, end-near, parameters-fall, parameters-done, parameters-go}
+use Rattle.paper.specs.Words.{wordLimit}
+use Rattle.parameters.proofs.Passing.{ParametersWalk, parameters-room, parameters-none, parameters-begun, parameters-next, parameters-long, parameters-long-values, parameters-faulty, end-room, behind-adds, parameters-fall, parameters-done, parameters-go}
 use Rattle.parameters.proofs.parameters.Statement.{statement}
 use Rattle.parameters.proofs.parameters.Tie as tie
 
@@ -9,7 +10,7 @@ abbrev Inv-loop : tie.InvT-loop
 Inv-loop code₀ values₀ at i₀ scope₀ code values i scope = ParametersWalk code₀ values₀ at code values i (scope .used)
 
 abbrev μ-loop : tie.MeasureT-loop
-μ-loop code₀ values₀ at i₀ scope₀ code values i scope = 8192 - i
+μ-loop code₀ values₀ at i₀ scope₀ code values i scope = wordLimit - i
 
 sort-requires : tie.Need-sort-requires Inv-loop μ-loop
 sort-requires c κs = search (needs, parameters-room)
@@ -29,6 +30,9 @@ parameter-requires c κs = search (needs, parameters-next)
 enum-known-d : tie.Need-enum-known-d Inv-loop μ-loop
 enum-known-d c = search needs
 
+enum-told : tie.Need-enum-told Inv-loop μ-loop
+enum-told c = search needs
+
 same-length-2 : tie.Need-same-length-2 Inv-loop μ-loop
 same-length-2 c = search (needs, parameters-long, parameters-long-values)
 
@@ -38,11 +42,14 @@ same-length-3 c = search (needs, parameters-long, parameters-long-values)
 returns-2 : tie.Need-returns-2 Inv-loop μ-loop
 returns-2 c = search (needs, parameters-faulty)
 
-enum-known-d-2 : tie.Need-enum-known-d-2 Inv-loop μ-loop
-enum-known-d-2 c = search needs
-
 sort-requires-2 : tie.Need-sort-requires-2 Inv-loop μ-loop
-sort-requires-2 c κs = let h = end-room _ _ _ _ _ _ _ (c .before .before .before .before .before .before .before .before .before .before .before .loop .inv) _ _ _ (c .before .before .before .before .before .before .before .before .parameter .ensures) _ _ (c .before .before .d2 .given .1) (c .before .before .before .before .before .before .before .before .before .before .before .before .before .before .before .before .before .pre) in omega (arith, h)
+sort-requires-2 c κs =
+    let found = c .before .before in
+    let called = found .before .before .before .before .before .before in
+    let loop = called .before .before .before in
+    let start = loop .before .before .before .before .before .before in
+    let h = end-room _ _ _ _ _ _ _ (loop .loop .inv) _ _ _ (called .parameter .ensures) _ _ (found .d .given .1) (start .pre) in
+    omega (arith, h)
 
 same-length-4 : tie.Need-same-length-4 Inv-loop μ-loop
 same-length-4 c = search (needs, parameters-long, parameters-long-values)
@@ -51,16 +58,25 @@ same-length-5 : tie.Need-same-length-5 Inv-loop μ-loop
 same-length-5 c = search (needs, parameters-long, parameters-long-values)
 
 returns-3 : tie.Need-returns-3 Inv-loop μ-loop
-returns-3 c = parameters-done _ _ _ _ _ _ _ (c .before .before .before .before .before .before .before .before .before .before .before .before .before .loop .inv) _ _ _ (c .before .before .before .before .before .before .before .before .before .before .parameter .ensures) _ _ (c .before .before .before .before .d2 .given .1) _ (c .before .sort2 .ensures) (search needs) (c .if2 .taken)
+returns-3 c =
+    let found = c .before .before .before .before in
+    let called = found .before .before .before .before .before .before in
+    let loop = called .before .before .before in
+    parameters-done _ _ _ _ _ _ _ (loop .loop .inv) _ _ _ (called .parameter .ensures) _ _ (found .d .given .1) _ (c .before .sort2 .ensures) (search needs) (c .if2 .taken)
 
 add-i : tie.Need-add-i Inv-loop μ-loop
-add-i c = let h = end-near _ _ _ _ _ _ _ (c .before .before .before .before .before .before .before .before .before .before .before .before .before .loop .inv) _ _ _ (c .before .before .before .before .before .before .before .before .before .before .parameter .ensures) _ _ (c .before .before .before .before .d2 .given .1) (c .before .before .before .before .before .before .before .before .before .before .before .before .before .before .before .before .before .before .before .pre) in omega (arith, h)
+add-i c = search (needs, behind-adds)
 
 loop-less : tie.Need-loop-less Inv-loop μ-loop
 loop-less c = search (needs, parameters-fall)
 
 loop-again : tie.Need-loop-again Inv-loop μ-loop
-loop-again c = parameters-go _ _ _ _ _ _ _ (c .before .before .before .before .before .before .before .before .before .before .before .before .before .loop .inv) _ _ _ (c .before .before .before .before .before .before .before .before .before .before .parameter .ensures) _ _ (c .before .before .before .before .d2 .given .1) _ (c .before .sort2 .ensures) (search needs) (c .if2 .left) (c .before .before .before .before .before .before .before .before .before .before .before .before .before .before .before .before .before .before .before .pre) (search needs)
+loop-again c =
+    let found = c .before .before .before .before in
+    let called = found .before .before .before .before .before .before in
+    let loop = called .before .before .before in
+    let start = loop .before .before .before .before .before .before in
+    parameters-go _ _ _ _ _ _ _ (loop .loop .inv) _ _ _ (called .parameter .ensures) _ _ (found .d .given .1) _ (c .before .sort2 .ensures) (search needs) (c .if2 .left) (start .pre) (search needs)
 
 pub parameters-spec : {M : Type 1} → statement M
 parameters-spec =
@@ -74,10 +90,10 @@ parameters-spec =
     loop-holds
     parameter-requires
     enum-known-d
+    enum-told
     same-length-2
     same-length-3
     returns-2
-    enum-known-d-2
     sort-requires-2
     same-length-4
     same-length-5
