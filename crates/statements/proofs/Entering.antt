@@ -28,6 +28,7 @@ use Rattle.around.specs.Around.{Around}
 use Rattle.compounds.specs.Here.{Outside, Here}
 use Rattle.statements.specs.Answers.{SameValues}
 use Rattle.compounds.proofs.Frames.{within-more, fine-more, unread-behind, calls-behind}
+use Rattle.layout.specs.Kinds.{aLoop}
 
 -- ---- a cell that is set and then set back
 restored : (X : List ℕ) (c m : ℕ) → set (set X c m) c (getD X c 0) ≡ X
@@ -40,16 +41,16 @@ pub loop-within : (used x y : ℕ) → used < y → Within x y (loop (ofRoutine 
 unfolding Within InRoom
 loop-within used x y h = omega arith
 
-pub loop-means : (routine : ℕ → ℕ) (m used : ℕ) → m ≡ 17 + 256 * used → meaningIn routine m ≡ loop (ofRoutine used)
+pub loop-means : (routine : ℕ → ℕ) (m used : ℕ) → m ≡ cellWith aLoop 0 1 used → meaningIn routine m ≡ loop (ofRoutine used)
 unfolding meaningWith
 loop-means routine m used e =
-    let c : m ≡ cellWith 4 0 1 used = omega arith in
+    let c : m ≡ cellWith aLoop 0 1 used = omega arith in
     ap (meaningIn routine) c ∙ meaning-with routine 4 0 1 used (omega arith) (omega arith) (omega arith)
 
-pub loop-plain : (m used : ℕ) → m ≡ 17 + 256 * used → protectsCell m ≡ false
+pub loop-plain : (m used : ℕ) → m ≡ cellWith aLoop 0 1 used → protectsCell m ≡ false
 loop-plain m used e = let o : opIn m ≡ 17 = omega arith in rw o
 
-module _ {text values : List ℕ} (a : Around text values) (one two values′ : List ℕ) (used i m : ℕ) (em : m ≡ 17 + 256 * used) (name : IsName (a .known .W) i) (free : isProtected (spelled (a .known .W) i) ≡ false)
+module _ {text values : List ℕ} (a : Around text values) (one two values′ : List ℕ) (used i m : ℕ) (em : m ≡ cellWith aLoop 0 1 used) (name : IsName (a .known .W) i) (free : isProtected (spelled (a .known .W) i) ≡ false)
     (number : numberAt (wordsOf one) i ≡ numberOf (a .known .W) i) (room : i * 8 + 8 ≤ length one) (dec : Declared one values i m two values′) where
   pub hides : Hides (a .known .S) (enter (spelled (a .known .W) i) (ofRoutine used) (a .known .S)) (spelled (a .known .W) i) (loop (ofRoutine used))
   hides = enter-hides (a .known .S) (spelled (a .known .W) i) (ofRoutine used) free

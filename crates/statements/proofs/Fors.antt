@@ -47,6 +47,7 @@ use Rattle.compounds.proofs.Frames.{rewritten-outside}
 use Rattle.statements.proofs.Entering.{inner, enters, leaves-links, leaves}
 use Rattle.code.specs.Steps.{aFor, aForTest}
 use Rattle.layout.specs.Rules.{tooMany, takenName}
+use Rattle.layout.specs.Kinds.{aLoop, cellWith}
 
 step-same : (g : Ground) (n : ℕ) (C D : List ℕ) (S : Scopes) (c : Option Expr) (s d : ℕ) → SameWords C D s d → RawStep g n C S c s d → RawStep g n D S c s d
 unfolding RawStep
@@ -148,7 +149,7 @@ module _ (text code values : List ℕ) (k : Setting) (used i : ℕ) (g : Begins 
       pub for-spare : (used < 64) × (i < d) × (d < 8191)
       for-spare = (f .written .spare, omega (arith, f .next-is, orders), omega (arith, f .next-is, orders, last))
 
-      module _ (m : ℕ) (em : m ≡ 17 + 256 * used) (two values′ : List ℕ) (dec : Declared one values (i + 1) m two values′) where
+      module _ (m : ℕ) (em : m ≡ cellWith aLoop 0 1 used) (two values′ : List ℕ) (dec : Declared one values (i + 1) m two values′) where
         unprotected : isProtected (spelled (a .known .W) (i + 1)) ≡ false
         unfolding groundOf
         unprotected = f .written .free
@@ -327,7 +328,7 @@ module _ (text code values : List ℕ) (k : Setting) (used i : ℕ) (one : List 
   pub for-wrong : (number word : ℕ) → j ≡ judged.Faulty number word → Begun FOR text code values one values k used i (Faulty number word)
   for-wrong number word q = record { is = λ g. wrong text code values k used i g one j h number word q }
 
-  module _ (bool : ℕ) (d : ℕ) (q : j ≡ judged.Typed bool d) (m : ℕ) (em : m ≡ 17 + 256 * used) (two values′ : List ℕ) (dec : Declared one values (i + 1) m two values′)
+  module _ (bool : ℕ) (d : ℕ) (q : j ≡ judged.Typed bool d) (m : ℕ) (em : m ≡ cellWith aLoop 0 1 used) (two values′ : List ℕ) (dec : Declared one values (i + 1) m two values′)
       (inside : Scope) (ei : inside ≡ record { used = used + 1 }) (three values″ : List ℕ) (r : Walked) (listed : Listed text two values′ three values″ k (inside .used) (d + 1) r) where
     l : Listed text two values′ three values″ k (used + 1) (d + 1) r
     l = for-listed ei listed
