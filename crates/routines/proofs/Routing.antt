@@ -89,8 +89,8 @@ pub record HeadRead (W : List Word) (k : ℕ) (o : Option ℕ) (h name result : 
   pub result-is : crosses routineLimit k 1 ≡ false → ResultIs (resultAsked W k o) result
 
 -- a type that a number says
-typed : {o : Option DataType} {result : ℕ} {t : DataType} → {w : typeIn result ≡ some t} → o ≡ some t → ResultIs o result
-typed {w = w} e = record { is = e ∙ sym w; plain = λ n. apart (cc) }
+typed : {o : Option DataType} {result : ℕ} {t : DataType} → typeIn result ≡ some t → o ≡ some t → ResultIs o result
+typed w e = record { is = e ∙ sym w; plain = λ n. apart (cc) }
 
 pub head-read : (W : List Word) (k : ℕ) (C : List ℕ) {o : Option ℕ} {closing h name : ℕ} → HeadAt (sortIn W) (Parses (sortIn W)) o closing h name → opAt C h ≡ sortIn W h → opAt C (h + 1) ≡ sortIn W (h + 1)
     → HeadRead W k o h name (resultIn C h)
@@ -100,9 +100,9 @@ head-read W k C {h = h} {name = name} (a-proc p n c) e f =
 head-read W k C {h = h} {name = name} (a-func {t = t} p u ty n c) e f =
     by-same (opAt C (h + 1)) 90
     (λ q. subst (HeadRead W k (some t) h name) (sym (read-bool C h (λ z. omega (arith, e ∙ p)) q))
-    (record { name-is = sym n; result-is = λ z. typed {w = bool-in} (asked W k t z ∙ ap some (ap typeOf u ∙ type-bool (sortIn W (h + 1)) (sym f ∙ q))) }))
+    (record { name-is = sym n; result-is = λ z. typed bool-in (asked W k t z ∙ ap some (ap typeOf u ∙ type-bool (sortIn W (h + 1)) (sym f ∙ q))) }))
     (λ q. subst (HeadRead W k (some t) h name) (sym (read-num C h (λ z. omega (arith, e ∙ p)) q))
-    (record { name-is = sym n; result-is = λ z. typed {w = num-in} (asked W k t z ∙ ap some (ap typeOf u ∙ type-num (sortIn W (h + 1)) ty (λ y. q (f ∙ y)))) }))
+    (record { name-is = sym n; result-is = λ z. typed num-in (asked W k t z ∙ ap some (ap typeOf u ∙ type-num (sortIn W (h + 1)) ty (λ y. q (f ∙ y)))) }))
 
 -- ---- rule 16
 pub crosses-here : (k : ℕ) → k ≡ 64 → crosses routineLimit k 1 ≡ true

@@ -12,8 +12,6 @@ use Rattle.names.specs.declared.Walked.the-variants as data-walked
 use Rattle.parameters.specs.Answers.{ParametersStand, DeclaresParameters}
 use Rattle.declarations.specs.Answers.{RoutineStands, DeclaresRoutine}
 use Rattle.leaving.specs.Answers.{Leaving, Leaves}
-use Rattle.names.specs.declared.Walked as statements
-use Rattle.names.specs.declared.Walked.the-variants as walked
 use Rattle.sites.specs.Walks as data-walks
 use Rattle.statements.specs.Answers as answers
 use Rattle.names.specs.declared.Scope.{Scope}
@@ -109,11 +107,11 @@ module _ (text code values : List ℕ) (result count taken h name at : ℕ) wher
             code values at taken (s .declares) (s .long ∙ s .own .long) .at-is,
       )
 
-  module _ (code₃ values₃ : List ℕ) (v : statements.Walked) (y : Lists text code values code₃ values₃ result taken h at v) where
-    abbrev L : statements.Walked → Type 0
+  module _ (code₃ values₃ : List ℕ) (v : declared-walked.Walked) (y : Lists text code values code₃ values₃ result taken h at v) where
+    abbrev L : declared-walked.Walked → Type 0
     L u = Lists text code values code₃ values₃ result taken h at u
 
-    pub lists-so : (number word : ℕ) → v ≡ walked.Faulty number word → DataPassed text code values code₃ values₃ result count taken h name at (Faulty number word)
+    pub lists-so : (number word : ℕ) → v ≡ data-walked.Faulty number word → DataPassed text code values code₃ values₃ result count taken h name at (Faulty number word)
     unfolding SaysScope SaysLists scope-lists lists-stand inside data-lists
     lists-so number word q = record { is = λ s. subst L q y .is (data-lists s) }
 
