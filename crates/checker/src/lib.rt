@@ -28,9 +28,6 @@ enum Found {
     Faulty(u32, usize),
 }
 
-// The word behind "MODULE name".
-const FIRST: usize = 2;
-
 // The routines one after another, up to the word ENDMODULE at `end`.
 fn all_routines(text: &[u8], code: &mut [u8], values: &mut [u8], at: usize, end: usize) -> Walked
     requires { ⌜ RoutinesStand (now text) (now code) (now values) at end ⌝ }
@@ -56,7 +53,7 @@ fn names_and_types(text: &[u8], code: &mut [u8], values: &mut [u8], words: usize
     ensures { λ r. ⌜ Walks (now (text .entry)) (now (code .entry)) (now (values .entry)) r (now (code .exit)) (now (values .exit)) ⌝ }
 {
     let main = heads::read(text, code, values);
-    let d = declarations::module_data(code, values, FIRST);
+    let d = declarations::module_data(code, values, heads::FIRST);
     match d {
         Declared::Faulty(number, word) => Found::Faulty(number, word),
         Declared::Upto(at, data) => {

@@ -29,11 +29,11 @@ mod carried;
 const BEYOND: i64 = HIGHEST_NUM + 1;
 
 // answers that are errors
-const OVERFLOW: i64 = FIRST_ERROR + numbers::ERR_OVERFLOW as i64;
+pub const OVERFLOW: i64 = FIRST_ERROR + numbers::ERR_OVERFLOW as i64;
 
 const DIV_ZERO: i64 = FIRST_ERROR + numbers::ERR_DIVZERO as i64;
 
-const OUT_OF_BOUND: i64 = FIRST_ERROR + numbers::ERR_OUTOFBND as i64;
+pub const OUT_OF_BOUND: i64 = FIRST_ERROR + numbers::ERR_OUTOFBND as i64;
 
 fn is_zero(a: i64) -> bool
     ensures { λ r. ⌜ r ≡ isZero a ⌝ }

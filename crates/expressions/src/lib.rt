@@ -1,5 +1,6 @@
 // The check of an expression: names, types and links, by precedence climbing over the words of the code store in place.
 use layout::kinds;
+use layout::levels;
 use layout::ops;
 use layout::parts;
 use layout::rules;
@@ -28,38 +29,26 @@ pub enum Judged {
     Faulty(u32, usize),
 }
 
-// ---- levels, from the tightest
-
-const PRODUCTS: u32 = 1;
-
-const SUMS: u32 = 2;
-
-const RELATIONS: u32 = 3;
-
-const CONJUNCTIONS: u32 = 4;
-
-const DISJUNCTIONS: u32 = 5;
-
 // ---- operators
 
 fn level_of(s: u32) -> u32
     ensures { λ r. ⌜ r ≡ levelOf s ⌝ }
 {
     match s {
-        sorts::EQUAL => RELATIONS,
-        sorts::LESS => RELATIONS,
-        sorts::LESS_EQUAL => RELATIONS,
-        sorts::UNEQUAL => RELATIONS,
-        sorts::GREATER => RELATIONS,
-        sorts::GREATER_EQUAL => RELATIONS,
-        sorts::PLUS => SUMS,
-        sorts::MINUS_SIGN => SUMS,
-        sorts::TIMES => PRODUCTS,
-        sorts::AND => CONJUNCTIONS,
-        sorts::DIV => PRODUCTS,
-        sorts::MOD => PRODUCTS,
-        sorts::OR => DISJUNCTIONS,
-        sorts::XOR => DISJUNCTIONS,
+        sorts::EQUAL => levels::RELATIONS,
+        sorts::LESS => levels::RELATIONS,
+        sorts::LESS_EQUAL => levels::RELATIONS,
+        sorts::UNEQUAL => levels::RELATIONS,
+        sorts::GREATER => levels::RELATIONS,
+        sorts::GREATER_EQUAL => levels::RELATIONS,
+        sorts::PLUS => levels::SUMS,
+        sorts::MINUS_SIGN => levels::SUMS,
+        sorts::TIMES => levels::PRODUCTS,
+        sorts::AND => levels::CONJUNCTIONS,
+        sorts::DIV => levels::PRODUCTS,
+        sorts::MOD => levels::PRODUCTS,
+        sorts::OR => levels::DISJUNCTIONS,
+        sorts::XOR => levels::DISJUNCTIONS,
         _ => 0,
     }
 }
@@ -91,10 +80,10 @@ fn asked(s: u32, l: u32, left: Type) -> Type
     requires { ⌜ l ≡ levelOf s ⌝ }
     ensures { λ r. ⌜ Asks s left r ⌝ }
 {
-    if l < RELATIONS {
+    if l < levels::RELATIONS {
         return types::NUM;
     }
-    if RELATIONS < l {
+    if levels::RELATIONS < l {
         return types::BOOL;
     }
     if s == sorts::EQUAL {
@@ -110,7 +99,7 @@ fn asked(s: u32, l: u32, left: Type) -> Type
 fn given(l: u32) -> Type
     ensures { λ r. ⌜ Gives l r ⌝ }
 {
-    if l < RELATIONS {
+    if l < levels::RELATIONS {
         return types::NUM;
     }
     types::BOOL
@@ -121,13 +110,13 @@ fn covered(s: u32) -> u32
     ensures { λ r. ⌜ r ≡ height s - 1 ⌝ }
 {
     if s == sorts::NOT {
-        return CONJUNCTIONS;
+        return levels::CONJUNCTIONS;
     }
     if s == sorts::PLUS {
-        return PRODUCTS;
+        return levels::PRODUCTS;
     }
     if s == sorts::MINUS_SIGN {
-        return PRODUCTS;
+        return levels::PRODUCTS;
     }
     0
 }
@@ -332,11 +321,11 @@ fn begin(code: &mut [u8], values: &[u8], only: bool, at: usize) -> Judged
         if broken != 0 {
             return Judged::Faulty(broken, at);
         }
-        let index = expression(code, values, only, DISJUNCTIONS, at + 2);
+        let index = expression(code, values, only, levels::DISJUNCTIONS, at + 2);
         return indexed(code, m, index, at);
     }
     if s == sorts::OPEN_PAREN {
-        let inner = expression(code, values, only, DISJUNCTIONS, at + 1);
+        let inner = expression(code, values, only, levels::DISJUNCTIONS, at + 1);
         return nested(code, inner, at);
     }
     let l = covered(s);
@@ -379,7 +368,7 @@ pub fn of_type(code: &mut [u8], values: &[u8], only: bool, wants: Type, at: usiz
     requires { ⌜ Stands (now code) (now values) disjunctions at ⌝ }
     ensures { λ r. ⌜ OfType (now (code .entry)) (now (values .entry)) (now (code .exit)) only wants at r ⌝ }
 {
-    let r = expression(code, values, only, DISJUNCTIONS, at);
+    let r = expression(code, values, only, levels::DISJUNCTIONS, at);
     let Judged::Typed(t, end) = r else {
         return r;
     };

@@ -19,7 +19,7 @@ ghost use Rattle.heads.specs.Parts.{Has, Next, Announces, DataStand, Dat
 ghost use Rattle.heads.specs.Reads.{Begins, Reads};
 
 // The word behind MODULE and its name.
-const FIRST: usize = 2;
+pub const FIRST: usize = 2;
 
 // ---- words
 
@@ -176,7 +176,7 @@ fn take_name(
     cells::put(
         values,
         MEANINGS + names::number(code, name),
-        names::ROUTINE + parts::VALUE * (h as u32),
+        names::ROUTINE_OP + parts::VALUE * (h as u32),
     );
     if main != 0 {
         return main;

@@ -17,20 +17,17 @@ pub const MEANINGS: usize = 8192;
 // Numbers of names are below this.
 pub const NUMBERS: usize = 8192;
 
-// A cell is an op, and a value above it.
-pub const VALUE: u32 = parts::VALUE;
-
 // No meaning yet; and module data whose semicolon is still to come.
 pub const UNKNOWN: u32 = 0;
 
 pub const TO_COME: u32 = 1;
 
 // The ops of some meanings.
-pub const ROUTINE: u32 = kinds::ROUTINE * parts::KIND;
+pub const ROUTINE_OP: u32 = kinds::ROUTINE * parts::KIND;
 
-pub const ERRNO: u32 = kinds::ERRNO * parts::KIND;
+pub const ERRNO_OP: u32 = kinds::ERRNO * parts::KIND;
 
-pub const ERROR_NUMBER: u32 = kinds::ERROR_NUMBER * parts::KIND;
+pub const ERROR_OP: u32 = kinds::ERROR_NUMBER * parts::KIND;
 
 // `own` of a word of the routine.
 pub const OF_ROUTINE: u32 = 1;

@@ -31,14 +31,6 @@ use reading::put;
 use reading::value;
 use targets::target_cell;
 
-// the answer of an input beyond num
-const OVERFLOW: i64 = answers::FIRST_ERROR + numbers::ERR_OVERFLOW as i64;
-
-// the ends of num
-const LOWEST: i64 = -8388607;
-
-const HIGHEST: i64 = 8388608;
-
 fn written(values: &[u8]) -> usize
     requires { ⌜ suc (suc writtenCell) * 4 ≤ length (now values) ⌝ }
     ensures { λ r. ⌜ r ≡ countIn (wordsOf (now (values .entry))) ⌝ }
@@ -222,10 +214,10 @@ fn take<'a>(values: &'a mut [u8], inputs: &'a [u8], used: u32, cell: usize) -> b
 {
     let v = load(inputs, used as usize);
     cells::put(values, USED, used + 1);
-    if v < LOWEST {
+    if v < numbers::LOWEST_NUM {
         return false;
     }
-    if HIGHEST < v {
+    if numbers::HIGHEST_NUM < v {
         return false;
     }
     put(values, cell, v);
@@ -261,5 +253,5 @@ pub fn read<'a>(
     if take(values, inputs, used, k as usize) {
         return link(code, i) as i64;
     }
-    OVERFLOW
+    evaluation::OVERFLOW
 }

@@ -2,6 +2,7 @@
 use around::Setting;
 use expressions::Judged;
 use layout::kinds;
+use layout::levels;
 use layout::ops;
 use layout::parts;
 use layout::rules;
@@ -37,9 +38,6 @@ const FOR_A_CALL: u32 = ops::CALL_TARGET - ops::TARGET;
 
 // what a string's characters are multiplied by, as its bytes are counted
 const CHARACTERS: usize = parts::CHARACTERS as usize;
-
-// the level of all operators
-const DISJUNCTIONS: u32 = 5;
 
 // ---- names and types
 
@@ -165,7 +163,7 @@ fn argument(code: &mut [u8], values: &[u8], p: usize, at: usize) -> Judged
     ensures { λ r. ⌜ Passed (now (code .entry)) (now (values .entry)) (now (code .exit)) p at r ⌝ }
 {
     let asked = reading::head(code, p);
-    let r = expressions::expression(code, values, false, DISJUNCTIONS, at);
+    let r = expressions::expression(code, values, false, levels::DISJUNCTIONS, at);
     let Judged::Typed(t, end) = r else {
         return r;
     };

@@ -33,15 +33,6 @@ const MIX: usize = 73;
 
 const SPREAD: usize = 648055;
 
-// Errors, by their numbers.
-const OVERFLOW: u32 = 1001;
-
-const DIV_ZERO: u32 = 1002;
-
-const OUT_OF_BOUND: u32 = 1003;
-
-const ILL_RAISE: u32 = 1004;
-
 // A small letter becomes a capital.
 fn fold(b: u8) -> u8
     ensures { λ r. ⌜ r ≡ folded b ⌝ }
@@ -154,19 +145,19 @@ pub fn protected(name: &[u8]) -> u32
         return names::UNKNOWN;
     }
     if same(b"ERRNO", name) {
-        return names::ERRNO;
+        return names::ERRNO_OP;
     }
     if same(b"ERR_OVERFLOW", name) {
-        return names::ERROR_NUMBER + parts::VALUE * OVERFLOW;
+        return names::ERROR_OP + parts::VALUE * numbers::ERR_OVERFLOW;
     }
     if same(b"ERR_DIVZERO", name) {
-        return names::ERROR_NUMBER + parts::VALUE * DIV_ZERO;
+        return names::ERROR_OP + parts::VALUE * numbers::ERR_DIVZERO;
     }
     if same(b"ERR_OUTOFBND", name) {
-        return names::ERROR_NUMBER + parts::VALUE * OUT_OF_BOUND;
+        return names::ERROR_OP + parts::VALUE * numbers::ERR_OUTOFBND;
     }
     if same(b"ERR_ILLRAISE", name) {
-        return names::ERROR_NUMBER + parts::VALUE * ILL_RAISE;
+        return names::ERROR_OP + parts::VALUE * numbers::ERR_ILLRAISE;
     }
     names::UNKNOWN
 }

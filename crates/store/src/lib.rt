@@ -9,11 +9,6 @@ ghost use Rattle.reading.specs.Reading.{valueEnd, halfEnd};
 ghost use Rattle.store.specs.Promises.{headWith, tailWith, Rewritten, Linked, Headed, Relinked};
 use layout::parts;
 
-// as callers name them
-pub const VALUE: u32 = parts::VALUE;
-
-pub const LINK: u32 = parts::LINK;
-
 // The op of a word, which is its sort as long as the check has not come to it.
 pub fn sort(code: &[u8], i: usize) -> u32
     requires { ⌜ i * 8 + 8 ≤ length (now code) ⌝ }

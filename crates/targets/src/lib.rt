@@ -1,14 +1,13 @@
 // Where a target is.
 ghost use Rattle.evaluation.specs.Answers.{Stores};
 ghost use Rattle.targets.specs.Targets.{Indexes, Found, Target, Spotted};
+use evaluation::OUT_OF_BOUND;
 use evaluation::worth;
 use layout::answers::FIRST_ERROR;
 use layout::ops;
 use layout::parts;
 use reading::head;
 use reading::link;
-
-const OUT_OF_BOUND: i64 = FIRST_ERROR + numbers::ERR_OUTOFBND as i64;
 
 // The cell of an element, or an error. Its array's first cell is given, and its size.
 pub fn element<'a>(
