@@ -8,7 +8,7 @@ use lib.Dec.{ltb}
 use lib.ListN.{length, drop}
 use borrow.Author.Tests.{le-ltb}
 use Rattle.laws.proofs.Tests.{apart, false-true}
-use Rattle.paper.specs.Answer.{recordSize, recordBytes, depthLimit, Verdict, refusedBy, accepted, verdict, refusedWith, carriedOut}
+use Rattle.paper.specs.Answer.{recordSize, recordBytes, depthLimit, Verdict, refusedBy, accepted, verdict, Result, refusedWith, carriedOut}
 use Rattle.checker.specs.declared.Checked.{Checked}
 use Rattle.checker.specs.declared.Checked.the-variants as checked
 use Rattle.checker.specs.Checks.{storeBytes, TooSmall, Judges, Checks}
@@ -107,18 +107,18 @@ module _ (text code values fields : List ℕ) (room : Rooms code values fields) 
             told = record { bytes = w .bytes ∙ ap₂ (λ (a b : ℕ). recordBytes (refusedFields a b) ++ drop recordSize fields) n o };
           })
 
-  pub judged-carried : (n words main steps depth : ℕ) (inputs out out″ code″ values″ fields″ : List ℕ) → Checks text code values r code′ values′ → r ≡ checked.Accepted n words main
-      → Tells (carriedOut (asked text steps depth inputs out) (verdict text)) out code′ values′ fields out″ code″ values″ fields″
-      → Tells (carriedOut (asked text steps depth inputs out) (verdict text)) out code values fields out″ code″ values″ fields″
+  -- whatever the result is
+  pub judged-carried : {R : Result} {out out″ code″ values″ fields″ : List ℕ} (n words main : ℕ) → Checks text code values r code′ values′ → r ≡ checked.Accepted n words main
+      → Tells R out code′ values′ fields out″ code″ values″ fields″ → Tells R out code values fields out″ code″ values″ fields″
   unfolding Judges
-  judged-carried n words main steps depth inputs out out″ code″ values″ fields″ c e t = by-verdict (verdict text) (judges c)
+  judged-carried {R} {out} {out″} {code″} {values″} {fields″} n words main c e t = by-verdict (verdict text) (judges c)
     where
-      by-verdict : (v : Verdict) → Judges text code values v r code′ values′ → Tells (carriedOut (asked text steps depth inputs out) (verdict text)) out code values fields out″ code″ values″ fields″
+      by-verdict : (v : Verdict) → Judges text code values v r code′ values′ → Tells R out code values fields out″ code″ values″ fields″
       by-verdict (refusedBy f) j = apart (not-both (j .answer) e)
       by-verdict (accepted a) j =
           record {
             output = t .output;
-            code-left = left-on (j .code-long) (j .code-past) (t .code-left);
-            values-left = left-on (j .values-long) (j .values-past) (t .values-left);
+            code-left = left-on {a = code} {b = code′} {c = code″} (j .code-long) (j .code-past) (t .code-left);
+            values-left = left-on {a = values} {b = values′} {c = values″} (j .values-long) (j .values-past) (t .values-left);
             told = t .told;
           }

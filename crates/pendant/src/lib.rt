@@ -95,7 +95,15 @@ fn carry_out<'a>(
     ensures { λ _. ⌜ Tells (carriedOut (asked (now (text .entry)) steps depth (now (inputs .entry)) (now (out .entry))) (verdict (now (text .entry)))) (now (out .entry)) (now (code .entry)) (now (values .entry)) (now (fields .entry)) (now (out .exit)) (now (code .exit)) (now (values .exit)) (now (fields .exit)) ⌝ }
 {
     let e = run_words(text, steps, depth, inputs, out, code, values, main);
-    settle(code, values, fields, e.ending, e.place, steps - e.left, words);
+    settle(
+        code,
+        values,
+        fields,
+        e.ending,
+        e.place,
+        steps - e.left,
+        words,
+    );
 }
 
 // Checks the module text, and refuses it or carries it out.
