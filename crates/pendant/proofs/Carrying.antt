@@ -11,7 +11,7 @@ use Rattle.laws.proofs.Lists.{map-take}
 use Rattle.laws.proofs.Tests.{by-less}
 use Rattle.paper.specs.Answer as paper
 use Rattle.paper.specs.Answer.{storeWords, Record, lentOf, questionOf, verdict, accepted, endedWith, ranTo, carriedOut, offsetOf}
-use Rattle.paper.specs.States.{Rooms}
+use Rattle.paper.specs.States as states
 use Rattle.paper.specs.Running as running
 use Rattle.cells.specs.Words.{wordsOf}
 use Rattle.cells.proofs.Laws.{length-words, words-take, words-append}
@@ -24,9 +24,9 @@ use Rattle.checker.specs.Checks.{storeBytes}
 use Rattle.runner.specs.declared.Ended.{Ended}
 use Rattle.runner.specs.Runs.{Begins, Comes, Ran}
 use Rattle.pendant.specs.Calls.{lent}
-use Rattle.pendant.specs.Carries.{asked, Accepts, Tells}
+use Rattle.pendant.specs.Carries.{asked, Rooms, Accepts, Starts, Ends, Settles, Settled, Tells}
 use Rattle.layout.specs.Parts.{halfPart}
-use Rattle.records.specs.Records.{reported, Written, Reports, Empties, Emptied}
+use Rattle.records.specs.Records.{reported, Written, Emptied}
 use Rattle.paper.specs.Declarations.{moduleWordLimit}
 use Rattle.pendant.proofs.Stores.{left-cleared, left-empty}
 
@@ -54,7 +54,7 @@ module _ {text code values fields : List ℕ} {words main depth : ℕ} (a : Acce
   many : storeWords ≤ length (wordsOf values)
   many = omega (arith, length-words values, a .rooms .values-room)
 
-  pub begins : Begins text (take storeBytes code) (take storeBytes values) main depth
+  begins : Begins text (take storeBytes code) (take storeBytes values) main depth
   unfolding mainIn
   begins =
       let few : length (a .a .program .words) ≤ moduleWordLimit = a .ready .holds .room in
@@ -80,10 +80,13 @@ module _ {text code values fields : List ℕ} {words main depth : ℕ} (a : Acce
             (λ h. List·getD-eq-default (take storeWords (wordsOf values)) 0 (rw (length-take-le storeWords (wordsOf values) many) h));
       }
 
+  pub starts : Starts text code values main depth
+  starts = record { code-room = a .rooms .code-room; values-room = a .rooms .values-room; begins = begins }
+
   -- ---- after the run
   module _ {inputs out after out′ : List ℕ} {steps : ℕ} {e : Ended}
       (ran : Ran text (take storeBytes code) (take storeBytes values) after inputs out out′ main steps depth e) where
-    rooms : Rooms
+    rooms : states.Rooms
     rooms = record { depth = depth; output = length out; inputs = paper.wordsOf inputs }
 
     ended : running.Ended
@@ -97,7 +100,7 @@ module _ {text code values fields : List ℕ} {words main depth : ℕ} (a : Acce
     after-size : length after ≡ storeBytes
     after-size = ran .long ∙ length-take-le storeBytes values (a .rooms .values-room)
 
-    pub whole-size : length (after ++ drop storeBytes values) ≡ length values
+    whole-size : length (after ++ drop storeBytes values) ≡ length values
     whole-size =
         length-append after (drop storeBytes values)
         ∙ ap (λ (n : ℕ). n + length (drop storeBytes values)) (ran .long)
@@ -158,17 +161,30 @@ module _ {text code values fields : List ℕ} {words main depth : ℕ} (a : Acce
           told = record { bytes = w .bytes ∙ ap (λ (f : Record). paper.recordBytes f ++ drop paper.recordSize fields) fields-are };
         }
 
-    pub carried : {code′ values′ fields′ : List ℕ} → Written fields fields′ (reported (e .ending) (e .place) (steps - e .left) (after ++ drop storeBytes values) words)
+    told-all : {code′ values′ fields′ : List ℕ} → Written fields fields′ (reported (e .ending) (e .place) (steps - e .left) (after ++ drop storeBytes values) words)
         → Emptied code (after ++ drop storeBytes values) code′ values′ words
         → Tells (carriedOut (asked text steps depth inputs out) (verdict text)) out code values fields out′ code′ values′ fields′
     unfolding asked questionOf lentOf lent carriedOut rooms ended
-    carried w z = rw (a .judged) (tells w z)
+    told-all w z = rw (a .judged) (tells w z)
 
-    pub reports : Reports (after ++ drop storeBytes values) fields
-    reports = record { values-room = rw whole-size (a .rooms .values-room); fields-room = a .rooms .fields-room }
+    left-over : e .left ≤ steps
+    left-over = comes .left
 
+  -- ---- the whole store after it
+  module _ {inputs out values′ out′ : List ℕ} {steps : ℕ} {e : Ended} (ends : Ends text code values values′ inputs out out′ main steps depth e) where
     pub steps-left : e .left ≤ steps
-    steps-left = comes .left
+    steps-left = left-over (ends .ran)
 
-    pub empties : Empties code (after ++ drop storeBytes values) words
-    empties = record { code-room = a .rooms .code-room; values-room = rw whole-size (a .rooms .values-room); few = omega (arith, few-words) }
+    pub same-size : length values′ ≡ length values
+    same-size = ap length (ends .whole) ∙ whole-size (ends .ran)
+
+    pub settles : Settles code values′ fields words
+    settles =
+        record {
+          rooms = record { code-room = a .rooms .code-room; values-room = rw same-size (a .rooms .values-room); fields-room = a .rooms .fields-room };
+          few = omega (arith, few-words);
+        }
+
+    pub carried : {code′ values″ fields′ : List ℕ} → Settled (e .ending) (e .place) (steps - e .left) words code values′ fields code′ values″ fields′
+        → Tells (carriedOut (asked text steps depth inputs out) (verdict text)) out code values fields out′ code′ values″ fields′
+    carried s = told-all (ends .ran) (rw (ends .whole) at (s .told)) (rw (ends .whole) at (s .cleared))

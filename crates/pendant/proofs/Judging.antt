@@ -8,7 +8,7 @@ use lib.Dec.{ltb}
 use lib.ListN.{length, drop}
 use borrow.Author.Tests.{le-ltb}
 use Rattle.laws.proofs.Tests.{apart, false-true}
-use Rattle.paper.specs.Answer.{recordSize, recordBytes, depthLimit, Verdict, refusedBy, accepted, verdict, refusedWith, carriedOut}
+use Rattle.paper.specs.Answer.{recordSize, recordBytes, depthLimit, Verdict, refusedBy, accepted, verdict, Result, refusedWith, carriedOut}
 use Rattle.checker.specs.declared.Checked.{Checked}
 use Rattle.checker.specs.declared.Checked.the-variants as checked
 use Rattle.checker.specs.Checks.{storeBytes, TooSmall, Judges, Checks}
@@ -40,6 +40,17 @@ unfolding forked
 by-false T F true e x = false-true (sym e)
 by-false T F false e x = x
 
+-- The check's answer is one alone. (Over plain variables: beside what a check promises there is much to look through.)
+not-both : {r : Checked} {number offset n words main : ℕ} → r ≡ checked.Refused number offset → r ≡ checked.Accepted n words main → _≡_ {A = ℕ} 0 1
+not-both p q = cc
+
+module _ {r : Checked} {number offset number′ offset′ : ℕ} (p : r ≡ checked.Refused number offset) (q : r ≡ checked.Refused number′ offset′) where
+  same-number : number ≡ number′
+  same-number = cc
+
+  same-offset : offset ≡ offset′
+  same-offset = cc
+
 module _ (text code values fields : List ℕ) (room : Rooms code values fields) (r : Checked) (code′ values′ : List ℕ) where
   judges : Checks text code values r code′ values′ → Judges text code values (verdict text) r code′ values′
   unfolding Checks forked
@@ -53,7 +64,7 @@ module _ (text code values fields : List ℕ) (room : Rooms code values fields) 
   accepts n words main depth some most c e = by-verdict (verdict text) refl (judges c)
     where
       by-verdict : (v : Verdict) → verdict text ≡ v → Judges text code values v r code′ values′ → Accepts text code′ values′ fields words main depth
-      by-verdict (refusedBy f) q j = let x = j .answer in apart (cc)
+      by-verdict (refusedBy f) q j = apart (not-both (j .answer) e)
       by-verdict (accepted a) q j =
           record {
             a = a;
@@ -85,11 +96,10 @@ module _ (text code values fields : List ℕ) (room : Rooms code values fields) 
   judged-refused number offset steps depth inputs out fields′ c e w = by-verdict (verdict text) (judges c)
     where
       by-verdict : (v : Verdict) → Judges text code values v r code′ values′ → Tells (carriedOut (asked text steps depth inputs out) v) out code values fields out code′ values′ fields′
-      by-verdict (accepted a) j = let x = j .answer in apart (cc)
+      by-verdict (accepted a) j = apart (not-both e (j .answer))
       by-verdict (refusedBy f) j =
-          let x : checked.Refused number offset ≡ checked.Refused (f .number) (f .offset) = sym e ∙ j .answer in
-          let n : number ≡ f .number = cc in
-          let o : offset ≡ f .offset = cc in
+          let n = same-number e (j .answer) in
+          let o = same-offset e (j .answer) in
           refusal-tells out (f .number) (f .offset)
           (record {
             code-left = left-emptied code code′ (room .code-room) (j .code-empty);
@@ -97,18 +107,18 @@ module _ (text code values fields : List ℕ) (room : Rooms code values fields) 
             told = record { bytes = w .bytes ∙ ap₂ (λ (a b : ℕ). recordBytes (refusedFields a b) ++ drop recordSize fields) n o };
           })
 
-  pub judged-carried : (n words main steps depth : ℕ) (inputs out out″ code″ values″ fields″ : List ℕ) → Checks text code values r code′ values′ → r ≡ checked.Accepted n words main
-      → Tells (carriedOut (asked text steps depth inputs out) (verdict text)) out code′ values′ fields out″ code″ values″ fields″
-      → Tells (carriedOut (asked text steps depth inputs out) (verdict text)) out code values fields out″ code″ values″ fields″
+  -- whatever the result is
+  pub judged-carried : {R : Result} {out out″ code″ values″ fields″ : List ℕ} (n words main : ℕ) → Checks text code values r code′ values′ → r ≡ checked.Accepted n words main
+      → Tells R out code′ values′ fields out″ code″ values″ fields″ → Tells R out code values fields out″ code″ values″ fields″
   unfolding Judges
-  judged-carried n words main steps depth inputs out out″ code″ values″ fields″ c e t = by-verdict (verdict text) (judges c)
+  judged-carried {R} {out} {out″} {code″} {values″} {fields″} n words main c e t = by-verdict (verdict text) (judges c)
     where
-      by-verdict : (v : Verdict) → Judges text code values v r code′ values′ → Tells (carriedOut (asked text steps depth inputs out) (verdict text)) out code values fields out″ code″ values″ fields″
-      by-verdict (refusedBy f) j = let x = j .answer in apart (cc)
+      by-verdict : (v : Verdict) → Judges text code values v r code′ values′ → Tells R out code values fields out″ code″ values″ fields″
+      by-verdict (refusedBy f) j = apart (not-both (j .answer) e)
       by-verdict (accepted a) j =
           record {
             output = t .output;
-            code-left = left-on (j .code-long) (j .code-past) (t .code-left);
-            values-left = left-on (j .values-long) (j .values-past) (t .values-left);
+            code-left = left-on {a = code} {b = code′} {c = code″} (j .code-long) (j .code-past) (t .code-left);
+            values-left = left-on {a = values} {b = values′} {c = values″} (j .values-long) (j .values-past) (t .values-left);
             told = t .told;
           }

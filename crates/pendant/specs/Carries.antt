@@ -2,12 +2,14 @@
 use mathlib.Core.Path.{_≡_}
 use mathlib.Core.List.{List, [], _++_}
 use Prim.Native.Nat.{ℕ, _<_, _≤_}
-use lib.ListN.{length, drop}
+use lib.ListN.{length, take, drop}
 use lib.IntN.{ℤ}
-use Rattle.paper.specs.Answer.{Accepted, accepted, verdict, recordSize, depthLimit, Question, questionOf, lentOf, Result, wordsOf, storeAfter}
+use Rattle.paper.specs.Answer.{storeWords, Accepted, accepted, verdict, recordSize, depthLimit, Question, questionOf, lentOf, Result, wordsOf, storeAfter}
 use Rattle.checker.specs.declared.Checked.the-variants as checked
 use Rattle.checker.specs.Checks.{storeBytes, Ready}
-use Rattle.records.specs.Records.{refusedFields, Written}
+use Rattle.runner.specs.declared.Ended.{Ended}
+use Rattle.runner.specs.Runs.{Begins, Ran}
+use Rattle.records.specs.Records.{refusedFields, reported, Written, Emptied}
 use Rattle.pendant.specs.Calls.{lent}
 
 -- What a call asks for but for its stores, of which a run knows nothing.
@@ -37,7 +39,29 @@ pub record Accepts (text code values fields : List ℕ) (words main depth : ℕ)
   pub some : 0 < depth
   pub most : depth ≤ depthLimit
 
--- ---- a refusal, and a run that has ended
+-- ---- the parts of a run
+-- A run may begin in the words of the stores.
+pub record Starts (text code values : List ℕ) (main depth : ℕ) : Type 0 where
+  pub code-room : storeBytes ≤ length code
+  pub values-room : storeBytes ≤ length values
+  pub begins : Begins text (take storeBytes code) (take storeBytes values) main depth
+
+-- It has ended: its bytes stand where the store's words were, and past them is what was there.
+pub record Ends (text code values values′ inputs out out′ : List ℕ) (main steps depth : ℕ) (e : Ended) : Type 0 where
+  pub after : List ℕ
+  pub ran : Ran text (take storeBytes code) (take storeBytes values) after inputs out out′ main steps depth e
+  pub whole : values′ ≡ after ++ drop storeBytes values
+
+-- The stores can be cleared but for so many words of values, and there is room for the record.
+pub record Settles (code values fields : List ℕ) (words : ℕ) : Type 0 where
+  pub rooms : Rooms code values fields
+  pub few : words ≤ storeWords
+
+pub record Settled (ending place made words : ℕ) (code values fields code′ values′ fields′ : List ℕ) : Type 0 where
+  pub told : Written fields fields′ (reported ending place made values words)
+  pub cleared : Emptied code values code′ values′ words
+
+-- ---- a refusal
 -- A refusal leaves both stores empty.
 pub record Refuses (number offset : ℕ) (code values fields code′ values′ fields′ : List ℕ) : Type 0 where
   pub code-left : Left [] code code′

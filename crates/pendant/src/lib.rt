@@ -5,6 +5,7 @@ use layout::rules;
 use records::empty;
 use records::refuse;
 use records::report;
+use runner::Ended;
 ghost use mathlib.Core.Path.{_≡_};
 ghost use mathlib.Core.Bool.{_||_};
 ghost use Prim.Native.Nat.{_<_, _≤_};
@@ -12,7 +13,7 @@ ghost use lib.Dec.{eqb, ltb};
 ghost use Rattle.layout.specs.Rules.{wrongDepth};
 ghost use Rattle.paper.specs.Answer.{depthLimit, verdict, carriedOut};
 ghost use Rattle.pendant.specs.Calls.{lent, Calls};
-ghost use Rattle.pendant.specs.Carries.{asked, Rooms, Refuses, Accepts, Tells};
+ghost use Rattle.pendant.specs.Carries.{asked, Rooms, Refuses, Accepts, Starts, Ends, Settles, Settled, Tells};
 
 // Fewer live calls than one, or more than the paper allows.
 fn bad_depth(depth: u32) -> bool
@@ -33,8 +34,51 @@ fn refuse_depth(code: &mut [u8], values: &mut [u8], fields: &mut [u8])
     refuse(fields, rules::WRONG_DEPTH, 0);
 }
 
+// Runs the module that the words of the stores hold. What lies past them is as it was.
+// A run takes all that it is lent at one lifetime, and so does this; its callers have one for the text and the inputs.
+fn run_words<'a>(
+    text: &'a [u8],
+    steps: u32,
+    depth: u32,
+    inputs: &'a [u8],
+    out: &'a mut [u8],
+    code: &'a [u8],
+    values: &'a mut [u8],
+    main: usize,
+) -> Ended
+    requires { ⌜ Starts (now text) (now code) (now values) main depth ⌝ }
+    ensures { λ r. ⌜ Ends (now (text .entry)) (now (code .entry)) (now (values .entry)) (now (values .exit)) (now (inputs .entry)) (now (out .entry)) (now (out .exit)) main steps depth r ⌝ }
+{
+    runner::run(
+        text,
+        &code[..limits::STORE_BYTES],
+        &mut values[..limits::STORE_BYTES],
+        inputs,
+        out,
+        main,
+        steps,
+        depth,
+    )
+}
+
+// Writes the record of a run that has ended, and clears the stores but for the module's words.
+fn settle(
+    code: &mut [u8],
+    values: &mut [u8],
+    fields: &mut [u8],
+    ending: u32,
+    place: usize,
+    made: u32,
+    words: usize,
+)
+    requires { ⌜ Settles (now code) (now values) (now fields) words ⌝ }
+    ensures { λ _. ⌜ Settled ending place made words (now (code .entry)) (now (values .entry)) (now (fields .entry)) (now (code .exit)) (now (values .exit)) (now (fields .exit)) ⌝ }
+{
+    report(values, fields, ending, place, made, words);
+    empty(code, values, words);
+}
+
 // Carries out the accepted module that the stores hold, writes the record, and clears the stores but for the module's words.
-// A run takes the text and the inputs at one lifetime, and so do this and its callers.
 fn carry_out<'a>(
     text: &'a [u8],
     steps: u32,
@@ -50,18 +94,16 @@ fn carry_out<'a>(
     requires { ⌜ Accepts (now text) (now code) (now values) (now fields) words main depth ⌝ }
     ensures { λ _. ⌜ Tells (carriedOut (asked (now (text .entry)) steps depth (now (inputs .entry)) (now (out .entry))) (verdict (now (text .entry)))) (now (out .entry)) (now (code .entry)) (now (values .entry)) (now (fields .entry)) (now (out .exit)) (now (code .exit)) (now (values .exit)) (now (fields .exit)) ⌝ }
 {
-    let e = runner::run(
-        text,
-        &code[..limits::STORE_BYTES],
-        &mut values[..limits::STORE_BYTES],
-        inputs,
-        out,
-        main,
-        steps,
-        depth,
+    let e = run_words(text, steps, depth, inputs, out, code, values, main);
+    settle(
+        code,
+        values,
+        fields,
+        e.ending,
+        e.place,
+        steps - e.left,
+        words,
     );
-    report(values, fields, e.ending, e.place, steps - e.left, words);
-    empty(code, values, words);
 }
 
 // Checks the module text, and refuses it or carries it out.
