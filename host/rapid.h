@@ -10,11 +10,12 @@
  * a slice is too long, and where two slices overlap, or one overlaps the struct that is filled in or the one that lends. The proved calls below them test none of this.
  *
  * How this header grows. The language grows, and with it the library; a program that uses it is only compiled again.
- * - A call that exists keeps its signature and its answers. What is new is a new call, or a new field.
+ * - A call that exists keeps its signature and its answers; only a text that was refused may be accepted, or be refused otherwise, once the language has something new for
+ *   it. What else is new is a new call, or a new field.
  * - The structs of a call (rapid_lent, rapid_record, rapid_listing) are zeroed by the caller before their fields are filled in. New fields are appended, and 0 in one means
  *   that it is absent: the call then answers as it did before there was that field. rapid_word stands in arrays, and stays as it is.
- * - Numbers that are named here keep their names and what they say. An enum may get further numbers, which come up only with texts that were refused before or with fields
- *   that were absent: a switch over an ending, a refusal or a kind has a default. Sizes may grow: use their names.
+ * - Numbers that are named here keep their names and what they say. An enum may get further numbers, which come up only with such texts and with new fields: a switch over
+ *   an ending, a refusal or a kind has a default. Sizes may grow: use their names.
  * - A program is compiled with the header of the library that it is linked with: rapid_version() == RAPID_VERSION. */
 #ifndef RAPID_H
 #define RAPID_H
