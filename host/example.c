@@ -9,7 +9,8 @@ static const int32_t inputs[] = {3, 4, 5, 0};
 
 /* The line that an offset lies on, and below it a mark as long as the word there. */
 static void show_place(size_t length, size_t offset) {
-    size_t begin = offset, end = offset, marked = rapid_ask(text, length, offset);
+    size_t begin = offset, end = offset, marked = 0;
+    rapid_word_at(text, length, offset, &marked);
     while (begin > 0 && text[begin - 1] != '\n')
         begin--;
     while (end < length && text[end] != '\n')
@@ -29,7 +30,8 @@ int main(int count, char **words) {
     size_t length = fread(text, 1, sizeof text, file);
     fclose(file);
 
-    static struct rapid_lent lent;
+    static struct rapid_lent lent; /* static, so zeroed: a field that is not named here is absent */
+    static struct rapid_record record;
     lent.text = text;
     lent.text_length = length;
     lent.steps = 10000;
@@ -43,9 +45,8 @@ int main(int count, char **words) {
     lent.values = values;
     lent.value_words = RAPID_STORE_WORDS;
 
-    struct rapid_record record;
     if (!rapid_call(&lent, &record))
-        return 1; /* a pointer was NULL */
+        return 1; /* a pointer was NULL, or two pieces overlapped */
     fwrite(screen, 1, record.output, stdout);
     printf("-- %s", rapid_ending_sentence(record.ending));
     if (record.ending == RAPID_REFUSED)

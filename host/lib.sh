@@ -35,6 +35,10 @@ host_ar() { # as ar
     if [ "$(uname -m)" = x86_64 ]; then ar "$@"; else x86_64-linux-gnu-ar "$@"; fi
 }
 
+host_size() { # as size
+    if [ "$(uname -m)" = x86_64 ]; then size "$@"; else x86_64-linux-gnu-size "$@"; fi
+}
+
 host_objcopy() { # as objcopy
     if [ "$(uname -m)" = x86_64 ]; then objcopy "$@"; else x86_64-linux-gnu-objcopy "$@"; fi
 }
@@ -44,9 +48,11 @@ host_program() { # PROGRAM gcc|g++ WORDS..: makes a program that runs by its nam
     [ "$(uname -m)" = x86_64 ] || compiled=$program.x86-64
     host_compile "$2" -pedantic -O2 -o "$compiled" "${@:3}"
     [ "$compiled" = "$program" ] && return
-    printf '#!/bin/sh\nexec "%s" "%s" "$@"\n' "$(host_emulator)" "$(readlink -f "$compiled")" >"$program"
+    host_launcher "$(readlink -f "$compiled")" >"$program"
     chmod +x "$program"
 }
+
+host_launcher() { printf '#!/bin/sh\nexec "%s" "%s" "$@"\n' "$(host_emulator)" "$1"; } # EXECUTABLE: a script that runs it under the emulator
 
 host_emulator() { echo "$(dirname "$(dirname "$(readlink -f "$(command -v rt)")")")/on/$(uname -m)/toolchain/bin/qemu-x86_64"; }
 

@@ -1,27 +1,68 @@
 #include "rapid.h"
 
-/* Numbers are lent as the machine has them: the low byte first, as the library wants it, since it is compiled for no other machine; and without gaps. */
-_Static_assert(sizeof(struct rapid_record) == RAPID_RECORD_BYTES && sizeof(struct rapid_word) == RAPID_ENTRY_BYTES && sizeof(struct rapid_listing) == RAPID_ANSWER_BYTES,
+/* Numbers are lent as the machine has them: the low byte first, as the library wants it, since it is compiled for no other machine; and without gaps. What is appended to
+ * the record or to the end of a listing stands behind what the proved code fills in. */
+_Static_assert(offsetof(struct rapid_record, module_words) + sizeof(uint64_t) == RAPID_RECORD_BYTES && sizeof(struct rapid_word) == RAPID_ENTRY_BYTES &&
+                   offsetof(struct rapid_listing, offset) + sizeof(uint32_t) == RAPID_ANSWER_BYTES,
                "the library's numbers stand side by side");
 
-static int is_slice(const void *first, size_t count, size_t size) { return (first != NULL || count == 0) && count <= SIZE_MAX / size; }
+uint32_t rapid_version(void) { return RAPID_VERSION; }
 
+/* ---- what is lent */
+struct slice { const void *first; size_t count, size; };
+
+/* The proved code counts on what is so of every slice in Rust: its pointer is not NULL, and it has at most PTRDIFF_MAX bytes. */
+static int is_slice(const struct slice *s) { return s->count == 0 || (s->first != NULL && s->count <= PTRDIFF_MAX / s->size); }
+
+/* By the distance from the lower to the higher one: no sum, so nothing wraps around. */
+static int overlap(const struct slice *s, const struct slice *t) {
+    uintptr_t a = (uintptr_t)s->first, b = (uintptr_t)t->first;
+    if (s->count == 0 || t->count == 0)
+        return 0;
+    return a <= b ? b - a < s->count * s->size : a - b < t->count * t->size;
+}
+
+static int may_be_lent(const struct slice *slices, size_t count) {
+    for (size_t i = 0; i < count; i++) {
+        if (!is_slice(&slices[i]))
+            return 0;
+        for (size_t k = 0; k < i; k++)
+            if (overlap(&slices[k], &slices[i]))
+                return 0;
+    }
+    return 1;
+}
+
+/* ---- the calls */
 int rapid_call(const struct rapid_lent *lent, struct rapid_record *record) {
     if (lent == NULL || record == NULL)
         return 0;
-    if (!is_slice(lent->text, lent->text_length, 1) || !is_slice(lent->inputs, lent->input_count, 4) || !is_slice(lent->output, lent->output_length, 1) ||
-        !is_slice(lent->code, lent->code_words, 4) || !is_slice(lent->values, lent->value_words, 4))
+    const struct slice slices[] = {
+        {lent->text, lent->text_length, 1}, {lent->inputs, lent->input_count, sizeof(int32_t)}, {lent->output, lent->output_length, 1}, {lent->code, lent->code_words, sizeof(int32_t)},
+        {lent->values, lent->value_words, sizeof(int32_t)}, {lent, 1, sizeof *lent}, {record, 1, sizeof *record},
+    };
+    if (!may_be_lent(slices, sizeof slices / sizeof *slices))
         return 0;
     return (int)rapid_run(lent->text, lent->text_length, lent->steps, lent->depth, (const uint8_t *)lent->inputs, 4 * lent->input_count, lent->output, lent->output_length,
-                          (uint8_t *)lent->code, 4 * lent->code_words, (uint8_t *)lent->values, 4 * lent->value_words, (uint8_t *)record, sizeof *record);
+                          (uint8_t *)lent->code, 4 * lent->code_words, (uint8_t *)lent->values, 4 * lent->value_words, (uint8_t *)record, RAPID_RECORD_BYTES);
 }
 
 int rapid_words(const uint8_t *text, size_t text_length, struct rapid_word *words, size_t room, struct rapid_listing *listing) {
-    if (listing == NULL || !is_slice(text, text_length, 1) || !is_slice(words, room, sizeof *words))
+    const struct slice slices[] = {{text, text_length, 1}, {words, room, sizeof *words}, {listing, 1, sizeof *listing}};
+    if (!may_be_lent(slices, sizeof slices / sizeof *slices))
         return 0;
-    return (int)rapid_list(text, text_length, (uint8_t *)words, room * sizeof *words, (uint8_t *)listing, sizeof *listing);
+    return (int)rapid_list(text, text_length, (uint8_t *)words, room * sizeof *words, (uint8_t *)listing, RAPID_ANSWER_BYTES);
 }
 
+int rapid_word_at(const uint8_t *text, size_t text_length, size_t place, size_t *length) {
+    const struct slice slices[] = {{text, text_length, 1}, {length, 1, sizeof *length}};
+    if (!may_be_lent(slices, sizeof slices / sizeof *slices))
+        return 0;
+    *length = rapid_ask(text, text_length, place);
+    return 1;
+}
+
+/* ---- sentences */
 static const char *const endings[] = {
     "the module is refused",
     "main returned",

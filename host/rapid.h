@@ -1,11 +1,22 @@
 /* The RAPID lesson bench for C and C++: check and run a module's text, list its words, and ask about a place in it. docs/EMBEDDING.md shows how it is used.
  *
  * Behind it stand three proved libraries of one function each: `pendant` (rapid_run), `listing` (rapid_list) and `asking` (rapid_ask). rapid.c has thin wrappers
- * on C's own types and the sentences; nothing else stands between a caller and the proved code. host/build puts all of it into one librapid.a. No memory is used but
- * what is lent, and some stack. Nothing is kept between calls: with memory of its own each thread may call at any time.
+ * on C's own types (rapid_call, rapid_words, rapid_word_at) and the sentences; nothing else stands between a caller and the proved code. host/build puts all of it
+ * into one librapid.a. No memory is used but what is lent, and some stack. Nothing is kept between calls: with memory of its own each thread may call at any time.
  *
- * A byte slice is a pointer and its length. It must be readable, or writable where it is not const, over its whole length, and no two slices of one call may
- * overlap. A slice of length 0 may have any pointer, NULL too: nothing is read or written through it. */
+ * A slice is a pointer and its length. It must be readable, or writable where it is not const, over its whole length, which is at most PTRDIFF_MAX bytes, and no two
+ * slices of one call may overlap. A slice of length 0 may have any pointer, NULL too: nothing is read or written through it.
+ * The wrappers refuse what can be seen of a call that does not keep to this: they return 0, and nothing is touched, where a pointer is NULL whose length is not 0, where
+ * a slice is too long, and where two slices overlap, or one overlaps the struct that is filled in or the one that lends. The proved calls below them test none of this.
+ *
+ * How this header grows. The language grows, and with it the library; a program that uses it is only compiled again.
+ * - A call that exists keeps its signature and its answers; only a text that was refused may be accepted, or be refused otherwise, once the language has something new for
+ *   it. What else is new is a new call, or a new field.
+ * - The structs of a call (rapid_lent, rapid_record, rapid_listing) are zeroed by the caller before their fields are filled in. New fields are appended, and 0 in one means
+ *   that it is absent: the call then answers as it did before there was that field. rapid_word stands in arrays, and stays as it is.
+ * - Numbers that are named here keep their names and what they say. An enum may get further numbers, which come up only with such texts and with new fields: a switch over
+ *   an ending, a refusal or a kind has a default. Sizes may grow: use their names.
+ * - A program is compiled with the header of the library that it is linked with: rapid_version() == RAPID_VERSION. */
 #ifndef RAPID_H
 #define RAPID_H
 #include <stddef.h>
@@ -15,6 +26,13 @@
 extern "C" {
 #endif
 
+/* ---- version */
+/* Version 1.2.3 is 10203. The first number changes where the rule above is broken, the second where something is new, the third where something is mended. */
+#define RAPID_VERSION 10000
+
+/* RAPID_VERSION of the header that the library was compiled with. */
+uint32_t rapid_version(void);
+
 /* ---- sizes and limits */
 enum {
     RAPID_TEXT_LIMIT = 32768,  /* bytes of a text */
@@ -22,7 +40,7 @@ enum {
     RAPID_NAME_LIMIT = 32,     /* characters of a name */
     RAPID_STORE_WORDS = 16384, /* words that each store must have */
     RAPID_STORE_BYTES = 65536, /* the same in bytes */
-    RAPID_RECORD_BYTES = 64,   /* the record, eight bytes a field */
+    RAPID_RECORD_BYTES = 64,   /* the record that rapid_run writes, eight bytes a field */
     RAPID_DEPTH_LIMIT = 64,    /* live calls, main's own included */
     RAPID_MODULE_WORD_LIMIT = 1024, /* words of a module's data */
     RAPID_ENTRY_BYTES = 12,    /* an entry of a listing */
@@ -87,7 +105,7 @@ struct rapid_record {
 
 /* ---- a call */
 struct rapid_lent {
-    const uint8_t *text; /* the module, ASCII */
+    const uint8_t *text; /* the module: ASCII, in strings and comments Latin-1 */
     size_t text_length;
     uint32_t steps; /* allowance */
     uint32_t depth; /* 1 to RAPID_DEPTH_LIMIT */
@@ -102,8 +120,8 @@ struct rapid_lent {
     size_t value_words;
 };
 
-/* Checks a module and runs it. 1, and the record is filled in, whether the module is refused or not; 0, and nothing is touched, where `record` or `lent` is NULL or
- * a pointer is NULL whose length is not 0. */
+/* Checks a module and runs it. 1, and the record is filled in, whether the module is refused or not; 0, and nothing is touched, where `record` or `lent` is NULL, where
+ * a pointer is NULL whose length is not 0, where a slice has more than PTRDIFF_MAX bytes, and where two of the slices, `*lent` and `*record` overlap. */
 int rapid_call(const struct rapid_lent *lent, struct rapid_record *record);
 
 /* The same, as the proved code takes it: bytes for words, four each, low byte first. 0, and nothing is touched, where the record has fewer than RAPID_RECORD_BYTES. */
@@ -133,7 +151,7 @@ struct rapid_listing {
 };
 
 /* Lists a text into an array with room for so many words; as many as fit are written. No text has more words than bytes, so room for the lesser of its length and
- * RAPID_WORD_LIMIT is always enough. 1; or 0, and nothing is touched, where `listing` is NULL, or a pointer is NULL whose length is not 0. */
+ * RAPID_WORD_LIMIT is always enough. 1; or 0, and nothing is touched, where `listing` is NULL and where rapid_call would refuse slices like these. */
 int rapid_words(const uint8_t *text, size_t text_length, struct rapid_word *words, size_t room, struct rapid_listing *listing);
 
 /* The same, as the proved code takes it. All numbers are written as four bytes, low byte first.
@@ -143,8 +161,11 @@ int rapid_words(const uint8_t *text, size_t text_length, struct rapid_word *word
  * Returns 1, whether the text is refused or not; or 0 where `answer` has fewer than RAPID_ANSWER_BYTES: then nothing is touched. */
 uint32_t rapid_list(const uint8_t *text, size_t text_length, uint8_t *output, size_t output_length, uint8_t *answer, size_t answer_length);
 
-/* Returns how many bytes the word that starts at a place covers, from the place on; or 0 where none starts there: a word is at least one byte long. Any
- * place may be asked about, one past the text too. */
+/* Fills in how many bytes the word that starts at a place covers, from the place on; or 0 where none starts there: a word is at least one byte long. Any
+ * place may be asked about, one past the text too. 1; or 0, and nothing is touched, where `length` is NULL and where rapid_call would refuse slices like these. */
+int rapid_word_at(const uint8_t *text, size_t text_length, size_t place, size_t *length);
+
+/* The same, as the proved code takes it: the length is returned. */
 size_t rapid_ask(const uint8_t *text, size_t text_length, size_t place);
 
 #ifdef __cplusplus

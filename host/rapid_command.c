@@ -1,6 +1,7 @@
 /* rapid: a teacher's command on the proved bench. `rapid --help` says how it is used. */
 #define _POSIX_C_SOURCE 200809L
 #include "rapid.h"
+#include "rapid_json.h"
 #include "rapid_reason.h"
 #include <errno.h>
 #include <inttypes.h>
@@ -16,32 +17,35 @@ enum { STEPS = 10000, DEPTH = 16, ROOM = 4096, TRACED = 200 }; /* where no optio
 static const char help[] =
     "rapid: check and run RAPID lessons on the proved bench\n"
     "\n"
-    "  rapid run FILE [--steps N] [--depth N] [--input N,N,..] [--room N]     check and run it\n"
-    "  rapid check FILE                                                       check it only\n"
-    "  rapid list FILE                                                        its words, with place and kind\n"
-    "  rapid trace FILE [--steps N] [--depth N] [--input N,N,..] [--room N]   the place of each step\n"
+    "  rapid run FILE.. [--steps N] [--depth N] [--input N,N,..] [--room N]     check and run\n"
+    "  rapid check FILE..                                                       check only\n"
+    "  rapid list FILE..                                                        the words, with place and kind\n"
+    "  rapid trace FILE.. [--steps N] [--depth N] [--input N,N,..] [--room N]   the place of each step\n"
+    "  rapid --version                                                          the version of library and command\n"
     "\n"
-    "FILE may be -, for standard input. Without options a run has 10,000 steps, call depth 16, no input and room\n"
-    "for 4,096 bytes of output, as the bench program has; a trace shows at most 200 steps.\n"
+    "FILE may be -, for standard input; each of several files gets the same options. Without options a run has\n"
+    "10,000 steps, call depth 16, no input and room for 4,096 bytes of output, as the bench program has; a trace\n"
+    "shows at most 200 steps. A refusal goes to standard error, as FILE:LINE:COLUMN: refused N: why. With --json\n"
+    "all that is said of a file is one object on a line of standard output (see the page rapid(1)).\n"
     "\n"
     "  rapid run lessons/tray.mod\n"
     "  rapid run lessons/sum.mod --input 3,4,5,0\n"
-    "  rapid check lessons/tour.mod\n"
+    "  rapid check lessons/*.mod\n"
     "  rapid trace lessons/tray.mod --steps 20\n"
     "\n"
-    "Status: 0 main returned, or accepted; 1 refused; 2 ended otherwise; 64 not used as above.\n"
-    "Colours are shown on a terminal only, and not where NO_COLOR is set.\n";
+    "Status: 0 main returned, or accepted; 1 refused; 2 ended otherwise; 64 not used as above, or a file cannot\n"
+    "be read; of several files the highest. Colours are shown on a terminal only, and not where NO_COLOR is set.\n";
 
 static struct {
-    const char *file;
+    char **files;
+    int file_count, steps_given, json;
     uint32_t steps, depth;
     size_t room, input_count;
-    int steps_given;
-} asked = {NULL, STEPS, DEPTH, ROOM, 0, 0};
+} asked = {NULL, 0, 0, 0, STEPS, DEPTH, ROOM, 0};
 static int32_t inputs[MOST_INPUTS], code[RAPID_STORE_WORDS], values[RAPID_STORE_WORDS];
 static uint8_t text[MOST_TEXT + 1], output[MOST_ROOM];
 static size_t text_length;
-static int coloured;
+static const char *file; /* whose text it is */
 
 static _Noreturn void give_up(const char *what, const char *about) {
     fprintf(stderr, "rapid: %s%s%s\n", what, about ? ": " : "", about ? about : "");
@@ -76,7 +80,10 @@ static void read_inputs(const char *list) {
     }
 }
 
+/* An option with a number, and what stands behind it. */
 static void read_option(const char *option, const char *value) {
+    if (value == NULL)
+        give_up("a number is missing behind", option);
     if (strcmp(option, "--steps") == 0) {
         asked.steps = number(value, option, UINT32_MAX);
         asked.steps_given = 1;
@@ -88,55 +95,74 @@ static void read_option(const char *option, const char *value) {
         read_inputs(value);
 }
 
-static void read_words(int count, char **words, int takes_options) {
+static int is_numbered(const char *word) {
     static const char *const options[] = {"--steps", "--depth", "--room", "--input", NULL};
-    for (int i = 0; i < count; i++) {
-        const char *const *option = options;
-        if (strncmp(words[i], "--", 2) != 0) {
-            if (asked.file != NULL)
-                give_up("one file only, not also", words[i]);
-            asked.file = words[i];
-            continue;
+    for (const char *const *option = options; *option; option++)
+        if (strcmp(*option, word) == 0)
+            return 1;
+    return 0;
+}
+
+/* Standard input is there once. */
+static void take_file(char *name) {
+    for (int i = 0; i < asked.file_count; i++)
+        if (strcmp(name, "-") == 0 && strcmp(asked.files[i], "-") == 0)
+            give_up("standard input can be read once only", NULL);
+    asked.files[asked.file_count++] = name;
+}
+
+/* The files are kept where the words stood: there are no more of them. The last of the words is NULL. */
+static void read_words(char **words, int takes_numbers) {
+    int options_end = 0;
+    asked.files = words;
+    for (; *words; words++) {
+        if (options_end || strncmp(*words, "--", 2) != 0)
+            take_file(*words);
+        else if (strcmp(*words, "--") == 0)
+            options_end = 1;
+        else if (strcmp(*words, "--json") == 0)
+            asked.json = 1;
+        else if (!is_numbered(*words))
+            give_up("no such option (see rapid --help)", *words);
+        else if (!takes_numbers)
+            give_up("only run and trace take", *words);
+        else {
+            read_option(words[0], words[1]);
+            words++;
         }
-        while (*option && strcmp(*option, words[i]) != 0)
-            option++;
-        if (*option == NULL)
-            give_up("no such option (see rapid --help)", words[i]);
-        if (!takes_options)
-            give_up("only run and trace take options", words[i]);
-        if (i + 1 == count)
-            give_up("a number is missing behind", words[i]);
-        read_option(words[i], words[i + 1]);
-        i++;
     }
-    if (asked.file == NULL)
+    if (asked.file_count == 0)
         give_up("a file is missing (see rapid --help)", NULL);
 }
 
-static void read_file(void) {
-    FILE *in = strcmp(asked.file, "-") == 0 ? stdin : fopen(asked.file, "rb");
+/* NULL, or why a file is not read. */
+static const char *read_file(void) {
+    FILE *in = strcmp(file, "-") == 0 ? stdin : fopen(file, "rb");
     if (in == NULL)
-        give_up(asked.file, strerror(errno));
+        return strerror(errno);
     text_length = fread(text, 1, sizeof text, in);
-    if (ferror(in))
-        give_up(asked.file, strerror(errno));
-    if (text_length > MOST_TEXT)
-        give_up(asked.file, "far too long for a lesson: 32,768 bytes are allowed");
+    const char *why = ferror(in) ? strerror(errno) : text_length > MOST_TEXT ? "far too long for a lesson: 32,768 bytes are allowed" : NULL;
+    if (in != stdin)
+        fclose(in);
+    return why;
 }
 
 /* ---- colours */
-static const char *shown(const char *colour) { return coloured ? colour : ""; }
-#define RED shown("\033[31m")
-#define GREEN shown("\033[32m")
-#define YELLOW shown("\033[33m")
-#define BLUE shown("\033[34m")
-#define CYAN shown("\033[36m")
-#define DIM shown("\033[2m")
-#define PLAIN shown("\033[0m")
+static int coloured[STDERR_FILENO + 1]; /* by the stream's number */
 
-static int wants_colours(void) {
+static const char *shown(FILE *to, const char *colour) { return coloured[to == stderr ? STDERR_FILENO : STDOUT_FILENO] ? colour : ""; }
+#define RED(to) shown(to, "\033[31m")
+#define GREEN(to) shown(to, "\033[32m")
+#define YELLOW(to) shown(to, "\033[33m")
+#define BLUE(to) shown(to, "\033[34m")
+#define CYAN(to) shown(to, "\033[36m")
+#define DIM(to) shown(to, "\033[2m")
+#define PLAIN(to) shown(to, "\033[0m")
+
+static void choose_colours(void) {
     const char *no = getenv("NO_COLOR");
-    return isatty(STDOUT_FILENO) && (no == NULL || *no == 0);
+    for (int stream = STDOUT_FILENO; stream <= STDERR_FILENO; stream++)
+        coloured[stream] = isatty(stream) && (no == NULL || *no == 0);
 }
 
 /* ---- places */
@@ -157,51 +183,103 @@ static struct place place_of(size_t offset) {
     return p;
 }
 
+/* How long the word is that starts at an offset; 0 where none does. */
+static size_t word_at(size_t offset) {
+    size_t length = 0;
+    return rapid_word_at(text, text_length, offset, &length) ? length : 0;
+}
+
 /* Bytes of a text, each in one column: a tab is shown as a blank, and what is no printable ASCII as a dot. */
-static void show_bytes(size_t begin, size_t end) {
+static void show_bytes(FILE *to, size_t begin, size_t end) {
     for (size_t i = begin; i < end; i++)
-        putchar(text[i] == '\t' ? ' ' : text[i] >= 32 && text[i] < 127 ? text[i] : '.');
+        putc(text[i] == '\t' ? ' ' : text[i] >= 32 && text[i] < 127 ? text[i] : '.', to);
 }
 
 /* The line that an offset lies on, with the word there underlined; of a long line a part. */
-static void show_place(size_t offset) {
+static void show_place(FILE *to, size_t offset) {
     enum { MOST_BEFORE = 80, MOST_SHOWN = 120 };
     struct place p = place_of(offset);
     size_t at = p.begin + p.column - 1, begin = at - p.begin > MOST_BEFORE ? at - MOST_BEFORE : p.begin, end = p.end - begin > MOST_SHOWN ? begin + MOST_SHOWN : p.end;
     const char *left_out = begin > p.begin ? ".." : "";
-    printf("%s%5zu |%s %s", DIM, p.line, PLAIN, left_out);
-    show_bytes(begin, end);
-    printf("%s\n%s      |%s %*s%s^", end < p.end ? ".." : "", DIM, PLAIN, (int)(at - begin + strlen(left_out)), "", RED);
-    for (size_t i = 1, length = rapid_ask(text, text_length, offset); i < length && at + i < end; i++)
-        putchar('~');
-    printf("%s\n", PLAIN);
+    fprintf(to, "%s%5zu |%s %s", DIM(to), p.line, PLAIN(to), left_out);
+    show_bytes(to, begin, end);
+    fprintf(to, "%s\n%s      |%s %*s%s^", end < p.end ? ".." : "", DIM(to), PLAIN(to), (int)(at - begin + strlen(left_out)), "", RED(to));
+    for (size_t i = 1, length = word_at(offset); i < length && at + i < end; i++)
+        putc('~', to);
+    fprintf(to, "%s\n", PLAIN(to));
 }
 
-/* ---- the call */
+/* ---- one object a file, for scripts: it has the same fields however a run ends */
+static void object_begins(void) {
+    fputs("{\"file\":", stdout);
+    json_name(file);
+}
+
+static void object_place(size_t offset) {
+    struct place p = place_of(offset);
+    printf("\"offset\":%zu,\"line\":%zu,\"column\":%zu", offset, p.line, p.column);
+}
+
+/* What a call says, and in which words; none where a module was only checked: it is accepted, without an ending and a place. */
+static int object_ends(const struct rapid_record *r, const char *sentence, int status) {
+    printf(",\"status\":%d,\"ending\":", status);
+    if (sentence == NULL)
+        fputs("null", stdout);
+    else
+        printf("%" PRIu64, r->ending);
+    printf(",\"refusal\":%" PRIu64 ",\"sentence\":", r->refusal);
+    json_name(sentence ? sentence : "accepted");
+    putchar(',');
+    object_place(sentence ? r->offset : 0);
+    printf(",\"steps\":%" PRIu64 ",\"errno\":%" PRIu64 ",\"inputs\":%" PRIu64 ",\"module_words\":%" PRIu64 ",\"output\":", r->steps, r->error, r->inputs, r->module_words);
+    json_latin1(output, r->output);
+    fputs("}\n", stdout);
+    return status;
+}
+
+/* ---- what is said of a file */
 static struct rapid_record called(uint32_t steps) {
-    struct rapid_record r;
-    struct rapid_lent lent = {text, text_length, steps, asked.depth, inputs, asked.input_count, output, asked.room, code, RAPID_STORE_WORDS, values, RAPID_STORE_WORDS};
+    struct rapid_record r = {0};
+    struct rapid_lent lent = {0};
+    lent.text = text, lent.text_length = text_length;
+    lent.steps = steps, lent.depth = asked.depth;
+    lent.inputs = inputs, lent.input_count = asked.input_count;
+    lent.output = output, lent.output_length = asked.room;
+    lent.code = code, lent.code_words = RAPID_STORE_WORDS;
+    lent.values = values, lent.value_words = RAPID_STORE_WORDS;
     if (!rapid_call(&lent, &r))
         give_up("the bench did not answer", NULL);
     return r;
 }
 
+/* Where several files are asked about, each is named above what is said of it. A refusal names its own file. */
+static void tell_file(void) {
+    if (asked.file_count > 1 && !asked.json)
+        printf("==> %s <==\n", file);
+}
+
+/* In the form that editors and scripts know from compilers. Three refusals lie at no place of the text; they stand at its beginning, as the record has them. */
 static void tell_refusal(uint64_t refusal, size_t offset) {
     char sentence[256];
     struct place p = place_of(offset);
     int has_place = refusal > RAPID_DEPTH_OUT_OF_RANGE && refusal != RAPID_NO_MAIN;
-    printf("%srefused%s: ", RED, PLAIN);
+    fflush(stdout); /* so that both streams come in order where they go to one place */
+    fprintf(stderr, "%s:%zu:%zu: %srefused%s %" PRIu64 ": %s\n", file, p.line, p.column, RED(stderr), PLAIN(stderr), refusal,
+            rapid_reason(text, text_length, refusal, offset, sentence, sizeof sentence));
     if (has_place)
-        printf("line %zu, column %zu: ", p.line, p.column);
-    printf("%" PRIu64 ": %s\n", refusal, rapid_reason(text, text_length, refusal, offset, sentence, sizeof sentence));
-    if (has_place)
-        show_place(offset);
+        show_place(stderr, offset);
 }
 
+/* Whether a call was refused; then it is told. */
 static int told_refusal(const struct rapid_record *r) {
-    if (r->ending == RAPID_REFUSED)
+    char sentence[256];
+    if (r->ending != RAPID_REFUSED)
+        return 0;
+    if (asked.json)
+        object_ends(r, rapid_reason(text, text_length, r->refusal, r->offset, sentence, sizeof sentence), REFUSED);
+    else
         tell_refusal(r->refusal, r->offset);
-    return r->ending == RAPID_REFUSED;
+    return 1;
 }
 
 static void tell_count(uint64_t count, const char *what, const char *then) { printf("%" PRIu64 " %s%s%s", count, what, count == 1 ? "" : "s", then); }
@@ -227,7 +305,9 @@ static void tell_counts(const struct rapid_record *r) {
 static int told_end(const struct rapid_record *r) {
     struct place p = place_of(r->offset);
     int returned = r->ending == RAPID_RETURNED;
-    printf("%sended%s: ", returned || r->ending == RAPID_EXITED ? GREEN : YELLOW, PLAIN);
+    if (asked.json)
+        return object_ends(r, rapid_ending_sentence(r->ending), returned ? FINISHED : ENDED_OTHERWISE);
+    printf("%sended%s: ", returned || r->ending == RAPID_EXITED ? GREEN(stdout) : YELLOW(stdout), PLAIN(stdout));
     if (!returned)
         printf("line %zu, column %zu: ", p.line, p.column);
     printf("%" PRIu64 ": %s", r->ending, rapid_ending_sentence(r->ending));
@@ -237,7 +317,7 @@ static int told_end(const struct rapid_record *r) {
     }
     putchar('\n');
     if (!returned)
-        show_place(r->offset);
+        show_place(stdout, r->offset);
     tell_counts(r);
     return returned ? FINISHED : ENDED_OTHERWISE;
 }
@@ -246,7 +326,9 @@ static int run(void) {
     struct rapid_record r = called(asked.steps);
     if (told_refusal(&r))
         return REFUSED;
-    fwrite(output, 1, r.output, stdout);
+    tell_file();
+    if (!asked.json)
+        fwrite(output, 1, r.output, stdout);
     return told_end(&r);
 }
 
@@ -255,7 +337,11 @@ static int check(void) {
     struct rapid_record r = called(0);
     if (told_refusal(&r))
         return REFUSED;
-    printf("%saccepted%s: ", GREEN, PLAIN);
+    if (asked.json)
+        return object_ends(&r, NULL, FINISHED);
+    if (asked.file_count > 1)
+        printf("%s: ", file);
+    printf("%saccepted%s: ", GREEN(stdout), PLAIN(stdout));
     tell_count(r.module_words, "module word", "\n");
     return FINISHED;
 }
@@ -263,78 +349,157 @@ static int check(void) {
 /* ---- a trace */
 static void show_step(uint32_t number, size_t offset) {
     struct place p = place_of(offset);
-    size_t behind = offset + rapid_ask(text, text_length, offset);
-    printf("%s%6" PRIu32 "  %4zu:%-4zu|%s ", DIM, number, p.line, p.column, PLAIN);
-    show_bytes(p.begin, offset);
-    fputs(CYAN, stdout);
-    show_bytes(offset, behind);
-    fputs(PLAIN, stdout);
-    show_bytes(behind, p.end);
+    size_t behind = offset + word_at(offset);
+    printf("%s%6" PRIu32 "  %4zu:%-4zu|%s ", DIM(stdout), number, p.line, p.column, PLAIN(stdout));
+    show_bytes(stdout, p.begin, offset);
+    fputs(CYAN(stdout), stdout);
+    show_bytes(stdout, offset, behind);
+    fputs(PLAIN(stdout), stdout);
+    show_bytes(stdout, behind, p.end);
     putchar('\n');
 }
 
 static void show_output(size_t begin, size_t end) {
     for (size_t i = begin; i < end; i++) {
         if (i == begin || output[i - 1] == '\n')
-            printf("%s          output |%s ", DIM, PLAIN);
+            printf("%s          output |%s ", DIM(stdout), PLAIN(stdout));
         putchar(output[i]);
     }
+}
+
+static void object_step(uint32_t number, size_t offset) {
+    printf("%s{\"step\":%" PRIu32 ",", number > 1 ? "," : "", number);
+    object_place(offset);
+    putchar('}');
 }
 
 /* One step more at each call: more room never changes an answer, so the place where a run of n steps stops is that of its step n + 1. */
 static int trace(void) {
     uint32_t most = asked.steps_given ? asked.steps : TRACED;
     size_t before = 0;
-    if (most > MOST_TRACED)
-        give_up("--steps: a trace shows at most 20,000 steps", NULL);
-    for (uint32_t n = 0;; n++) {
-        struct rapid_record r = called(n);
-        if (told_refusal(&r))
-            return REFUSED;
-        show_output(before, r.output);
-        before = r.output;
-        if (r.ending != RAPID_STEPS_SPENT || n == most)
-            return told_end(&r);
-        show_step(n + 1, r.offset);
+    struct rapid_record r = called(0);
+    if (told_refusal(&r))
+        return REFUSED;
+    tell_file();
+    fputs(asked.json ? ",\"trace\":[" : "", stdout);
+    for (uint32_t n = 0; r.ending == RAPID_STEPS_SPENT && n < most; before = r.output) {
+        size_t offset = r.offset;
+        r = called(++n);
+        if (asked.json)
+            object_step(n, offset);
+        else {
+            show_step(n, offset);
+            show_output(before, r.output);
+        }
     }
+    fputs(asked.json ? "]" : "", stdout);
+    return told_end(&r);
 }
 
 /* ---- words */
+static const char *const kinds[] = {"name", "reserved", "number", "string", "sign"};
+
+static void show_word(const struct rapid_word *w) {
+    const char *const colours[] = {PLAIN(stdout), BLUE(stdout), CYAN(stdout), GREEN(stdout), YELLOW(stdout)};
+    struct place p = place_of(w->place);
+    printf("%s%4zu:%-4zu%-9s%s %s", DIM(stdout), p.line, p.column, kinds[w->kind], PLAIN(stdout), colours[w->kind]);
+    show_bytes(stdout, w->place, w->place + w->length);
+    printf("%s\n", PLAIN(stdout));
+}
+
+static int object_words(const struct rapid_word *words, const struct rapid_listing *listing) {
+    char sentence[256];
+    int status = listing->refusal ? REFUSED : FINISHED;
+    printf(",\"status\":%d,\"refusal\":%" PRIu32 ",\"sentence\":", status, listing->refusal);
+    json_name(listing->refusal ? rapid_reason(text, text_length, listing->refusal, listing->offset, sentence, sizeof sentence) : "listed");
+    putchar(',');
+    object_place(listing->offset);
+    fputs(",\"words\":[", stdout);
+    for (const struct rapid_word *w = words; w < words + listing->words; w++) {
+        printf("%s{\"kind\":\"%s\",", w > words ? "," : "", kinds[w->kind]);
+        object_place(w->place);
+        fputs(",\"word\":", stdout);
+        json_latin1(text + w->place, w->length);
+        putchar('}');
+    }
+    fputs("]}\n", stdout);
+    return status;
+}
+
 static int list(void) {
     static struct rapid_word words[RAPID_WORD_LIMIT];
-    static const char *const kinds[] = {"name", "reserved", "number", "string", "sign"};
-    const char *const colours[] = {PLAIN, BLUE, CYAN, GREEN, YELLOW};
-    struct rapid_listing listing;
+    struct rapid_listing listing = {0};
     if (!rapid_words(text, text_length, words, RAPID_WORD_LIMIT, &listing))
         give_up("the bench did not answer", NULL);
-    for (const struct rapid_word *w = words; w < words + listing.words; w++) {
-        struct place p = place_of(w->place);
-        printf("%s%4zu:%-4zu%-9s%s %s", DIM, p.line, p.column, kinds[w->kind], PLAIN, colours[w->kind]);
-        show_bytes(w->place, w->place + w->length);
-        printf("%s\n", PLAIN);
-    }
+    if (asked.json)
+        return object_words(words, &listing);
+    tell_file();
+    for (const struct rapid_word *w = words; w < words + listing.words; w++)
+        show_word(w);
     if (listing.refusal)
         tell_refusal(listing.refusal, listing.offset);
     return listing.refusal ? REFUSED : FINISHED;
 }
 
+/* ---- the command */
+/* A file that cannot be read does not keep the others from being read. */
+static int told_unread(const char *why) {
+    if (asked.json) {
+        printf(",\"status\":%d,\"sentence\":", USAGE);
+        json_name(why);
+        fputs("}\n", stdout);
+    } else {
+        fflush(stdout);
+        fprintf(stderr, "rapid: %s: %s\n", file, why);
+    }
+    return USAGE;
+}
+
+static int told_all(int (*tell)(void)) {
+    int worst = FINISHED;
+    for (int i = 0; i < asked.file_count; i++) {
+        file = asked.files[i];
+        const char *why = read_file();
+        if (asked.json)
+            object_begins();
+        int status = why ? told_unread(why) : tell();
+        worst = status > worst ? status : worst;
+    }
+    if (fflush(stdout) != 0 || ferror(stdout))
+        give_up("standard output", strerror(errno));
+    return worst;
+}
+
+/* Whether a word stands anywhere before the end of the options. */
+static int has_word(char **words, const char *word) {
+    for (; *words && strcmp(*words, "--") != 0; words++)
+        if (strcmp(*words, word) == 0)
+            return 1;
+    return 0;
+}
+
 int main(int count, char **words) {
-    static const struct { const char *name; int (*does)(void); int takes_options; } commands[] = {{"run", run, 1}, {"check", check, 0}, {"list", list, 0}, {"trace", trace, 1}};
-    for (int i = 1; i < count; i++)
-        if (strcmp(words[i], "--help") == 0 || strcmp(words[i], "-h") == 0) {
-            fputs(help, stdout);
-            return FINISHED;
-        }
+    static const struct { const char *name; int (*tell)(void); int takes_numbers; } commands[] = {{"run", run, 1}, {"check", check, 0}, {"list", list, 0}, {"trace", trace, 1}};
     if (count < 2) {
         fputs(help, stderr);
         return USAGE;
     }
-    coloured = wants_colours();
+    if (has_word(words + 1, "--help") || has_word(words + 1, "-h")) {
+        fputs(help, stdout);
+        return FINISHED;
+    }
+    if (has_word(words + 1, "--version")) {
+        uint32_t v = rapid_version();
+        printf("rapid %" PRIu32 ".%" PRIu32 ".%" PRIu32 "\n", v / 10000, v / 100 % 100, v % 100);
+        return FINISHED;
+    }
+    choose_colours();
     for (size_t i = 0; i < sizeof commands / sizeof *commands; i++)
         if (strcmp(words[1], commands[i].name) == 0) {
-            read_words(count - 2, words + 2, commands[i].takes_options);
-            read_file();
-            return commands[i].does();
+            read_words(words + 2, commands[i].takes_numbers);
+            if (commands[i].tell == trace && asked.steps_given && asked.steps > MOST_TRACED)
+                give_up("--steps: a trace shows at most 20,000 steps", NULL);
+            return told_all(commands[i].tell);
         }
     give_up("no such command (see rapid --help)", words[1]);
 }

@@ -48,10 +48,41 @@ static void test_call(void) {
     expect_not_made(lent, "no code store");
     lent = good, lent.values = NULL;
     expect_not_made(lent, "no value store");
-    lent = good, lent.input_count = SIZE_MAX / 2;
-    expect_not_made(lent, "more inputs than memory has");
+    lent = good, lent.input_count = PTRDIFF_MAX / sizeof *inputs + 1;
+    expect_not_made(lent, "more inputs than a slice has");
+    lent = good, lent.text_length = (size_t)PTRDIFF_MAX + 1;
+    expect_not_made(lent, "more text than a slice has");
+    lent = good, lent.code_words = SIZE_MAX / sizeof *code;
+    expect_not_made(lent, "more words than a slice has");
     lent = good, lent.value_words--;
     expect(rapid_call(&lent, &record) == 1 && record.refusal == RAPID_STORE_TOO_SMALL, "a small store is refused by the bench itself");
+}
+
+static int32_t both[2 * RAPID_STORE_WORDS];
+
+/* Slices that share a byte, at either end of one; and those that only touch. */
+static void test_overlap(void) {
+    struct rapid_lent lent = good;
+    lent.code = lent.values = both;
+    expect_not_made(lent, "one store for both");
+    lent.values = both + RAPID_STORE_WORDS - 1;
+    expect_not_made(lent, "the value store begins in the code store");
+    lent.code = both + RAPID_STORE_WORDS - 1, lent.values = both;
+    expect_not_made(lent, "the code store begins in the value store");
+    lent.code = both + RAPID_STORE_WORDS;
+    expect(rapid_call(&lent, &record) == 1 && record.ending == RAPID_RETURNED, "stores side by side");
+    lent = good, lent.output = (uint8_t *)both, lent.output_length = 5, lent.inputs = both + 1;
+    expect_not_made(lent, "the output ends in the inputs");
+    lent.output_length = 4, both[1] = 2;
+    expect(rapid_call(&lent, &record) == 1 && record.ending == RAPID_RETURNED, "the output ends before the inputs");
+    lent = good, lent.text = lent.output, lent.text_length = 1;
+    expect_not_made(lent, "the text stands in the output");
+    lent = good, lent.output = (uint8_t *)&record + sizeof record - 1, lent.output_length = 1;
+    expect_not_made(lent, "the record ends in the output");
+    lent.output_length = 0;
+    expect(rapid_call(&lent, &record) == 1 && record.ending == RAPID_NO_OUTPUT_ROOM, "an output of no bytes overlaps nothing");
+    lent = good, lent.output = (uint8_t *)&lent, lent.output_length = 1;
+    expect(rapid_call(&lent, &record) == 0, "the output stands in what lends it");
 }
 
 static void test_words(void) {
@@ -62,7 +93,22 @@ static void test_words(void) {
     expect(words[0].kind == RAPID_NAME && words[0].place == 0 && words[0].length == 1 && words[1].kind == 9, "a word that fits, and nothing behind it");
     expect(rapid_words(text, 7, NULL, 0, &listing) == 1 && listing.words == 2, "no room may be NULL");
     expect(rapid_words(text, 7, NULL, 1, &listing) == 0 && rapid_words(NULL, 7, words, 2, &listing) == 0 && rapid_words(text, 7, words, 2, NULL) == 0, "NULL where it may not be");
+    expect(rapid_words((const uint8_t *)&words[1], 1, words, 2, &listing) == 0 && rapid_words((const uint8_t *)&listing, 1, words, 2, &listing) == 0, "the text is written over");
+    expect(rapid_words(text, 7, words, PTRDIFF_MAX / sizeof *words + 1, &listing) == 0, "more room than a slice has");
     expect(rapid_ask(text, 7, 2) == 2 && rapid_ask(text, 7, 3) == 0 && rapid_ask(text, 7, 5) == 0 && rapid_ask(NULL, 0, 0) == 0, "words that start at a place");
+}
+
+static void test_word_at(void) {
+    const uint8_t *text = (const uint8_t *)"n := 5x";
+    size_t length = 9;
+    expect(rapid_word_at(text, 7, 2, &length) == 1 && length == 2, "a word starts there");
+    expect(rapid_word_at(text, 7, 3, &length) == 1 && length == 0, "none starts there");
+    length = 9;
+    expect(rapid_word_at(text, 7, SIZE_MAX, &length) == 1 && length == 0, "any place may be asked about");
+    expect(rapid_word_at(NULL, 0, 0, &length) == 1 && length == 0, "an empty text may be NULL");
+    length = 9;
+    expect(rapid_word_at(NULL, 7, 2, &length) == 0 && rapid_word_at(text, 7, 2, NULL) == 0, "NULL where it may not be");
+    expect(rapid_word_at(text, (size_t)PTRDIFF_MAX + 1, 2, &length) == 0 && rapid_word_at((const uint8_t *)&length, 1, 0, &length) == 0 && length == 9, "a call that is not made touches nothing");
 }
 
 static void test_sentences(void) {
@@ -80,7 +126,10 @@ int main(void) {
     struct rapid_lent lent = {(const uint8_t *)module, sizeof module - 1, 100, 4, inputs, 1, output, sizeof output, code, RAPID_STORE_WORDS, values, RAPID_STORE_WORDS};
     good = lent;
     test_call();
+    test_overlap();
     test_words();
+    test_word_at();
+    expect(rapid_version() == RAPID_VERSION, "the library is of the header's version");
     test_sentences();
     puts("rapid.h: calls, words and sentences as it says");
     return 0;
