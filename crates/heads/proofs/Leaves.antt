@@ -11,7 +11,7 @@ use Rattle.laws.proofs.Tests.{by-last, by-less, by-same, false-true}
 use Rattle.paper.specs.Sorts.{bytes, folded, equalTexts, FUNC}
 use Rattle.cells.specs.Words.{wordsOf, Got, Put}
 use Rattle.code.specs.Cells.{opAt, valueAt, placeAt}
-use Rattle.names.specs.Meanings.{firstMeaning, protectsCell}
+use Rattle.names.specs.Meanings.{aRoutine, cellWith, firstMeaning, protectsCell}
 use Rattle.names.specs.Promises.{Number, Meant, Protects, numberAt, meaningAt}
 use Rattle.heads.specs.Stores.{Valued, spelledAt}
 use Rattle.heads.specs.Parts.{isOneOf, Has, Next, Announces, refuses, markOf, Marks, Names, mainAfter, Takes, mainWord}
@@ -119,10 +119,10 @@ module _ (text code values : List ℕ) (h name main r : ℕ) (e : Meant code val
   pub takes-nothing : (r ≡ 0 → ⊥) → Takes text code values h name main values main
   takes-nothing d = record { free = λ z. absurd (d (e ∙ z)); main-then = λ z. absurd (d (e ∙ z)); taken = λ _. refl; main-still = λ _. refl }
 
-  module _ (n : ℕ) (after : List ℕ) (z : r ≡ 0) (q : Number code name n) (p : Put values after (8192 + n) (20 + 256 * h)) where
+  module _ (n cell : ℕ) (after : List ℕ) (z : r ≡ 0) (q : Number code name n) (is-cell : cell ≡ cellWith aRoutine 0 0 h) (p : Put values after (firstMeaning + n) cell) where
     takes : (m : ℕ) → m ≡ mainAfter text (wordsOf code) name h main → Takes text code values h name main after m
     takes m f = record {
-      free = λ _. subst (λ (x : ℕ). Put values after x (20 + 256 * h)) (ap (λ (x : ℕ). firstMeaning + x) q) p;
+      free = λ _. subst (λ (x : ℕ). Put values after x (cellWith aRoutine 0 0 h)) (ap (λ (x : ℕ). firstMeaning + x) q) (subst (Put values after (firstMeaning + n)) is-cell p);
       main-then = λ _. f;
       taken = λ d. absurd (d (sym e ∙ z));
       main-still = λ d. absurd (d (sym e ∙ z));

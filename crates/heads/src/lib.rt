@@ -1,5 +1,6 @@
 // The checker's third pass: what is known before its declaration. Names of module data are to come; each routine's first word has how many parameters it has, its
 // types are marked where they are not asked, and its name means it.
+use layout::kinds;
 use layout::limits;
 use layout::parts;
 use names::MEANINGS;
@@ -176,7 +177,7 @@ fn take_name(
     cells::put(
         values,
         MEANINGS + names::number(code, name),
-        names::ROUTINE_OP + parts::VALUE * (h as u32),
+        names::cell_with(kinds::ROUTINE, 0, 0, h as u32),
     );
     if main != 0 {
         return main;

@@ -22,13 +22,6 @@ pub const UNKNOWN: u32 = 0;
 
 pub const TO_COME: u32 = 1;
 
-// The ops of some meanings.
-pub const ROUTINE_OP: u32 = kinds::ROUTINE * parts::KIND;
-
-pub const ERRNO_OP: u32 = kinds::ERRNO * parts::KIND;
-
-pub const ERROR_OP: u32 = kinds::ERROR_NUMBER * parts::KIND;
-
 // `own` of a word of the routine.
 pub const OF_ROUTINE: u32 = 1;
 

@@ -46,7 +46,7 @@ use Rattle.simple.proofs.Asking.{no-operator, level-brace, quiet-above,
 use Rattle.simple.proofs.Arguing.{quiet-append, quiet-word}
 use Rattle.simple.proofs.Naming.{name-means}
 use Rattle.code.specs.Steps.{aTarget}
-use Rattle.layout.specs.Kinds.{aVariable, anArray}
+use Rattle.layout.specs.Kinds.{aVariable, anArray, kindIn, ownIn}
 use Rattle.layout.specs.Types.{numType}
 use Rattle.names.specs.Promises.{TypeOf}
 use Rattle.layout.proofs.Typing.{num-in}
@@ -211,12 +211,18 @@ module _ (code values : List ℕ) (at cell : ℕ) (ec : cell ≡ meaningAt (word
   unfolding element-stands
   target-element b after r j = record { is = λ g. j .is (element-stands code values at g cell ec s es b) }
 
-  module _ (no : s ≡ 8 → ⊥) where
-    pub target-wrong : (number : ℕ) → (cell % 256 / 4 ≡ aVariable → ⊥) → WrongName (cell % 256 / 4) number → TargetJudged code values code at (Faulty number at)
-    target-wrong number d w = record { is = λ g. aim-first _ _ _ _ code code at (g .to) (Faulty number at) number at refl refl (plain-wrong code values at g cell ec s es no number d w) }
+  module _ (no : s ≡ 8 → ⊥) (k : ℕ) (ek : k ≡ kindIn cell) where
+    pub target-wrong : (number : ℕ) → (k ≡ aVariable → ⊥) → WrongName k number → TargetJudged code values code at (Faulty number at)
+    target-wrong number d w = record {
+      is = λ g. aim-first _ _ _ _ code code at (g .to) (Faulty number at) number at refl refl
+          (plain-wrong code values at g cell ec s es no number (λ e. d (ek ∙ e)) (subst (λ (x : ℕ). WrongName x number) ek w));
+    }
 
-    pub target-right : cell % 256 / 4 ≡ aVariable → (type : ℕ) → TypeOf cell type → (after : List ℕ) → Linked code after at (aTarget + cell % 2) (cell / 256) (linkAt (wordsOf code) at) → TargetJudged code values after at (Typed type (at + 1))
-    target-right k type ty after l = record { is = λ g. aim-fine _ _ _ _ code after at (g .to) type (at + 1) (plain-fine code values at g cell ec s es no k type ty after l) }
+    pub target-right : k ≡ aVariable → (own value : ℕ) → own ≡ ownIn cell → value ≡ valueIn cell → (type : ℕ) → TypeOf cell type
+        → (after : List ℕ) → Linked code after at (aTarget + own) value (linkAt (wordsOf code) at) → TargetJudged code values after at (Typed type (at + 1))
+    target-right e own value eo ev type ty after l = record {
+      is = λ g. aim-fine _ _ _ _ code after at (g .to) type (at + 1) (plain-fine code values at g cell ec s es no (sym ek ∙ e) type ty after (rw (eo, ev) at l));
+    }
 
 -- ---- an element
 module _ (code values : List ℕ) (cell at : ℕ) (g : Elements code values cell at) where
@@ -241,6 +247,18 @@ module _ (code values : List ℕ) (cell at : ℕ) (g : Elements code values cell
 
   pub element-small : at + 2 < 8192
   element-small = omega (arith, index-on, index-load .last)
+
+  module _ (mid : List ℕ) (r : Judged) (o : OfType code values mid false numType (at + 2) r) where
+    index-long : length mid ≡ length code
+    index-long = typed-long (g .targets .known) (g .targets .sorts) nestings (at + 2) (braces .e) (braces .n) index-at index-load index-no mid numType aNum num-in r o
+
+    module _ (b : ℕ) (end : ℕ) (e : r ≡ Typed b end) where
+      index-told : Told (g .targets .known) (ofType (g .targets .known .W) (aNum) (g .targets .known .S) (braces .e)) code mid (braces .e) (at + 2) (braces .n) end
+      index-told = typed-told (g .targets .known) (g .targets .sorts) nestings (at + 2) (braces .e) (braces .n) index-at index-load index-no mid numType aNum num-in r o b end e
+
+      pub index-end : (end < 8192) × (at * 8 + 8 ≤ length mid) × ((at + 1) * 8 + 8 ≤ length mid)
+      index-end =
+          (omega (arith, index-told .next-is, index-load .last), omega (arith, index-on, index-load .room, index-long), omega (arith, index-on, index-load .room, index-long))
 
   array-wrong : (number : ℕ) → (cell % 256 / 4 ≡ anArray → ⊥) → WrongName (cell % 256 / 4) number
       → First (record { number = number; at = at }) (judgeTarget (g .targets .known .W) (g .targets .known .S) (g .targets .t) .faults)
@@ -272,44 +290,37 @@ module _ (code values : List ℕ) (cell at : ℕ) (g : Elements code values cell
         (typeWith (cell / 2 % 2), refWith (cell % 2) (cell / 256 % 1024), cell / 256 / 1024) array-means
 
     module _ (mid : List ℕ) (r : Judged) (o : OfType code values mid false numType (at + 2) r) where
-      index-long : length mid ≡ length code
-      index-long = typed-long (g .targets .known) (g .targets .sorts) nestings (at + 2) (braces .e) (braces .n) index-at index-load index-no mid numType aNum num-in r o
-
       index-first : (number word : ℕ) → r ≡ Faulty number word → First (record { number = number; at = word }) (judgeTarget (g .targets .known .W) (g .targets .known .S) (g .targets .t) .faults)
       index-first number word e =
           subst (First (record { number = number; at = word })) (sym (ap (λ (x : types.Judged). x .faults) array-judged ∙ judged-faults _ _ _))
           (typed-first (g .targets .known) (g .targets .sorts) nestings (at + 2) (braces .e) (braces .n) index-at index-load index-no mid numType aNum num-in r o number word e)
 
       module _ (b : ℕ) (end : ℕ) (e : r ≡ Typed b end) where
-        index-told : Told (g .targets .known) (ofType (g .targets .known .W) (aNum) (g .targets .known .S) (braces .e)) code mid (braces .e) (at + 2) (braces .n) end
-        index-told = typed-told (g .targets .known) (g .targets .sorts) nestings (at + 2) (braces .e) (braces .n) index-at index-load index-no mid numType aNum num-in r o b end e
-
-        pub index-end : (end < 8192) × (at * 8 + 8 ≤ length mid) × ((at + 1) * 8 + 8 ≤ length mid)
-        index-end =
-            (omega (arith, index-told .next-is, index-load .last), omega (arith, index-on, index-load .room, index-long), omega (arith, index-on, index-load .room, index-long))
+        abbrev told : Told (g .targets .known) (ofType (g .targets .known .W) (aNum) (g .targets .known .S) (braces .e)) code mid (braces .e) (at + 2) (braces .n) end
+        told = index-told mid r o b end e
 
         module _ (one : List ℕ) (l : Linked mid one at (aTarget + 2 + cell % 2) (cell / 256) (linkAt (wordsOf mid) at)) (after : List ℕ)
             (x : Linked one after (at + 1) (opAt (wordsOf one) (at + 1)) (valueAt (wordsOf one) (at + 1)) end) where
           -- the brace's word has its op still
           brace-op : opAt (wordsOf after) (at + 1) ≡ openBrace
           brace-op =
-              x .op-is ∙ ap opIn (head-above (l .kept) (at + 1) (omega arith)) ∙ ap opIn (head-below (index-told .kept) (at + 1) (omega arith))
+              x .op-is ∙ ap opIn (head-above (l .kept) (at + 1) (omega arith)) ∙ ap opIn (head-below (told .kept) (at + 1) (omega arith))
               ∙ g .targets .loaded .words (at + 1) (omega arith) (omega (arith, braces .after, index-on)) .sort ∙ g .brace
 
           close-op : opAt (wordsOf after) (braces .n) ≡ closeBrace
           close-op =
-              ap opIn (head-above (x .kept) (braces .n) (omega (arith, index-on)) ∙ head-above (l .kept) (braces .n) (omega (arith, index-on)) ∙ head-above (index-told .kept) (braces .n) (omega arith))
+              ap opIn (head-above (x .kept) (braces .n) (omega (arith, index-on)) ∙ head-above (l .kept) (braces .n) (omega (arith, index-on)) ∙ head-above (told .kept) (braces .n) (omega arith))
               ∙ g .targets .loaded .words (braces .n) (omega (arith, index-on)) (omega (arith, braces .after)) .sort ∙ braces .closes
 
           element-kept : Kept code after at (g .targets .to)
           element-kept =
-              kept-on (kept-on (kept-wider (index-told .kept) at (g .targets .to) (omega arith) (omega (arith, braces .after))) (kept-wider (l .kept) at (g .targets .to) (omega arith) (omega (arith, braces .after, index-on))))
+              kept-on (kept-on (kept-wider (told .kept) at (g .targets .to) (omega arith) (omega (arith, braces .after))) (kept-wider (l .kept) at (g .targets .to) (omega arith) (omega (arith, braces .after, index-on))))
               (kept-wider (x .kept) at (g .targets .to) (omega arith) (omega (arith, braces .after, index-on)))
 
           element-quiet : Quiet (wordsOf after) (at + 1) (g .targets .to)
           element-quiet =
               let q : at + 1 + 1 ≡ at + 2 = omega arith in
-              let inner = quiet-above (x .kept) (at + 2) (braces .n) (omega arith) (quiet-above (l .kept) (at + 2) (braces .n) (omega arith) (index-told .quiet)) in
+              let inner = quiet-above (x .kept) (at + 2) (braces .n) (omega arith) (quiet-above (l .kept) (at + 2) (braces .n) (omega arith) (told .quiet)) in
               subst (λ (i : ℕ). Quiet (wordsOf after) (at + 1) i) (sym (braces .after))
               (quiet-append (wordsOf after) (at + 1) (at + 1 + 1) (braces .n + 1)
               (quiet-word (wordsOf after) (at + 1) (low-still (opAt (wordsOf after) (at + 1)) (omega (arith, brace-op))))
@@ -319,11 +330,11 @@ module _ (code values : List ℕ) (cell at : ℕ) (g : Elements code values cell
           element-fine : (type : ℕ) → TypeOf cell type → Fine (judgeTarget (g .targets .known .W) (g .targets .known .S) (g .targets .t) .faults) code after at (g .targets .to) (end + 1)
               (Aimed (g .targets .known .m) (g .targets .known .n) (wordsOf after) (judgeTarget (g .targets .known .W) (g .targets .known .S) (g .targets .t)) (spotOf (g .targets .known .W) (g .targets .known .S) (g .targets .t)) at (g .targets .to) type)
           element-fine type ty =
-              let f = index-told .none in
+              let f = told .none in
               let head = head-below (x .kept) at (omega arith) in
               record {
                 none = ap (λ (y : types.Judged). y .faults) array-judged ∙ judged-faults _ _ _ ∙ f;
-                next-is = ap (λ (i : ℕ). i + 1) (index-told .next-is) ∙ sym (braces .after);
+                next-is = ap (λ (i : ℕ). i + 1) (told .next-is) ∙ sym (braces .after);
                 written = record {
                   type-is = ty .is ∙ ap some (sym (ap (λ (y : types.Judged). y .type) array-judged ∙ judged-type _ _ _ f));
                   target = record {
@@ -338,9 +349,9 @@ module _ (code values : List ℕ) (cell at : ℕ) (g : Elements code values cell
                       room = array-room;
                       z = braces .n;
                       t = termOf (g .targets .known .W) (g .targets .known .S) (braces .e);
-                      link-is = x .link-is ∙ index-told .next-is;
+                      link-is = x .link-is ∙ told .next-is;
                       index = term-above (x .kept) (g .targets .known .m) (g .targets .known .n) (at + 2) (braces .n) _ (omega arith)
-                          (term-above (l .kept) (g .targets .known .m) (g .targets .known .n) (at + 2) (braces .n) _ (omega arith) (index-told .term));
+                          (term-above (l .kept) (g .targets .known .m) (g .targets .known .n) (at + 2) (braces .n) _ (omega arith) (told .term));
                       spot-is = spot-element (g .targets .known .W) (g .targets .known .S) (g .targets .t) _ _ _ (ap (λ (y : types.Judged). y .term) array-judged ∙ judged-term _ _ _);
                       end = braces .after;
                     });
@@ -351,17 +362,25 @@ module _ (code values : List ℕ) (cell at : ℕ) (g : Elements code values cell
               }
 
 module _ (code values : List ℕ) (cell at : ℕ) where
-  pub element-no-array : (number : ℕ) → (cell % 256 / 4 ≡ anArray → ⊥) → WrongName (cell % 256 / 4) number → ElementJudged code values code cell at (Faulty number at)
-  element-no-array number d w = record { is = λ g. aim-first _ _ _ _ code code at (g .targets .to) (Faulty number at) number at refl refl (array-wrong code values cell at g number d w) }
-
-  module _ (k : cell % 256 / 4 ≡ anArray) (mid : List ℕ) (r : Judged) (o : OfType code values mid false numType (at + 2) r) where
-    pub element-faulty : (number word : ℕ) → r ≡ Faulty number word → ElementJudged code values mid cell at r
-    element-faulty number word e = record {
-      is = λ g. aim-first _ _ _ _ code mid at (g .targets .to) r number word e (index-long code values cell at g k mid r o) (index-first code values cell at g k mid r o number word e);
+  module _ (k : ℕ) (ek : k ≡ kindIn cell) where
+    pub element-no-array : (number : ℕ) → (k ≡ anArray → ⊥) → WrongName k number → ElementJudged code values code cell at (Faulty number at)
+    element-no-array number d w = record {
+      is = λ g. aim-first _ _ _ _ code code at (g .targets .to) (Faulty number at) number at refl refl
+          (array-wrong code values cell at g number (λ e. d (ek ∙ e)) (subst (λ (x : ℕ). WrongName x number) ek w));
     }
 
-    pub element-typed : (b : ℕ) (end : ℕ) → r ≡ Typed b end → (one : List ℕ) → Linked mid one at (aTarget + 2 + cell % 2) (cell / 256) (linkAt (wordsOf mid) at) → (after : List ℕ)
-        → Linked one after (at + 1) (opAt (wordsOf one) (at + 1)) (valueAt (wordsOf one) (at + 1)) end → (type : ℕ) → TypeOf cell type → ElementJudged code values after cell at (Typed type (end + 1))
-    element-typed b end e one l after x type ty = record {
-      is = λ g. aim-fine _ _ _ _ code after at (g .targets .to) type (end + 1) (element-fine code values cell at g k mid r o b end e one l after x type ty);
-    }
+    module _ (is-array : k ≡ anArray) (mid : List ℕ) (r : Judged) (o : OfType code values mid false numType (at + 2) r) where
+      of-kind : kindIn cell ≡ anArray
+      of-kind = sym ek ∙ is-array
+
+      pub element-faulty : (number word : ℕ) → r ≡ Faulty number word → ElementJudged code values mid cell at r
+      element-faulty number word e = record {
+        is = λ g. aim-first _ _ _ _ code mid at (g .targets .to) r number word e (index-long code values cell at g mid r o) (index-first code values cell at g of-kind mid r o number word e);
+      }
+
+      pub element-typed : (b : ℕ) (end : ℕ) → r ≡ Typed b end → (own value : ℕ) → own ≡ ownIn cell → value ≡ valueIn cell
+          → (one : List ℕ) → Linked mid one at (aTarget + 2 + own) value (linkAt (wordsOf mid) at) → (after : List ℕ)
+          → Linked one after (at + 1) (opAt (wordsOf one) (at + 1)) (valueAt (wordsOf one) (at + 1)) end → (type : ℕ) → TypeOf cell type → ElementJudged code values after cell at (Typed type (end + 1))
+      element-typed b end e own value eo ev one l after x type ty = record {
+        is = λ g. aim-fine _ _ _ _ code after at (g .targets .to) type (end + 1) (element-fine code values cell at g of-kind mid r o b end e one (rw (eo, ev) at l) after x type ty);
+      }

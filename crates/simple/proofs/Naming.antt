@@ -16,7 +16,7 @@ use Rattle.paper.specs.Types.{fault}
 use Rattle.paper.specs.Declarations.{Signature}
 use Rattle.paper.specs.Checks.{noSignature, isOtherKind, signatureFaults, calleeFaults, signatureOf}
 use Rattle.cells.specs.Words.{wordsOf}
-use Rattle.code.specs.Cells.{opAt}
+use Rattle.code.specs.Cells.{valueIn, opAt}
 use Rattle.code.specs.Steps.{numbered}
 use Rattle.code.specs.Signatures.{typeAt, resultAt}
 use Rattle.names.specs.Meanings.{firstMeaning, meaningWith, meaningIn}
@@ -28,7 +28,7 @@ use Rattle.simple.specs.Parts.{WrongName, Callees, CalleeWrong, CalleeSa
 use Rattle.simple.proofs.Callees.{Known, known}
 use Rattle.simple.proofs.Arguing.{apart-same}
 use Rattle.layout.specs.Rules.{wrongKind}
-use Rattle.layout.specs.Kinds.{aRoutine}
+use Rattle.layout.specs.Kinds.{aRoutine, kindIn}
 
 -- ---- a name by its cell
 pub name-means : {values : List ℕ} (k : expressions.Known values) (code : List ℕ) (i m : ℕ) → sortIn (k .W) i ≡ 1 → Fresh (k .W) (wordsOf code) i → m ≡ meaningAt (wordsOf code) (wordsOf values) i
@@ -93,8 +93,8 @@ module _ (code values : List ℕ) (function : Bool) (i m : ℕ) (em : m ≡ mean
       callee-known : Known (wordsOf code) (g .around .R) (g .around .K .routines) (m / 256)
       callee-known = known (wordsOf code) (g .around .R) (g .around .K .routines) (m / 256) (g .calls .heads (wordsOf code) (apart-same (wordsOf code) i (g .to))) among
 
-      pub callee-room : m / 256 * 8 + 8 ≤ length code
-      callee-room = omega (arith, callee-known .low, callee-known .inside, g .calls .room)
+      known-room : m / 256 * 8 + 8 ≤ length code
+      known-room = omega (arith, callee-known .low, callee-known .inside, g .calls .room)
 
       found-says : eqb (opAt (wordsOf code) (m / 256)) FUNC ≡ function → CalleeSays (g .around) code function i (At (m / 256))
       unfolding CalleeSays
@@ -112,27 +112,38 @@ module _ (code values : List ℕ) (function : Bool) (i m : ℕ) (em : m ≡ mean
             no-result = λ e. rw (routine-means, signatureOf) (callee-known .result ∙ z e);
           }
 
-  pub callee-wrong : (number : ℕ) → (m % 256 / 4 ≡ aRoutine → ⊥) → WrongName (m % 256 / 4) number → CalleeTold code values function i (Wrong number)
-  unfolding CalleeSays
-  callee-wrong number d w = record { is = λ g. wrong-says g number d w }
+  module _ (k : ℕ) (ek : k ≡ kindIn m) where
+    pub callee-wrong : (number : ℕ) → (k ≡ aRoutine → ⊥) → WrongName k number → CalleeTold code values function i (Wrong number)
+    unfolding CalleeSays
+    callee-wrong number d w = record { is = λ g. wrong-says g number (λ e. d (ek ∙ e)) (subst (λ (x : ℕ). WrongName x number) ek w) }
 
-  module _ (is : m % 256 / 4 ≡ aRoutine) (s : ℕ) (es : s ≡ opAt (wordsOf code) (m / 256)) where
-    func-result : s ≡ 57 → resultAt (wordsOf code) (m / 256) ≡ some (typeAt (wordsOf code) (m / 256 + 1))
-    unfolding resultAt
-    func-result f = rw (eq-eqb (opAt (wordsOf code) (m / 256)) FUNC (sym es ∙ f), resultAt)
+    module _ (is : k ≡ aRoutine) (h : ℕ) (eh : h ≡ valueIn m) where
+      of-kind : kindIn m ≡ aRoutine
+      of-kind = sym ek ∙ is
 
-    proc-result : (s ≡ 57 → ⊥) → resultAt (wordsOf code) (m / 256) ≡ none
-    unfolding resultAt
-    proc-result f = rw (ne-eqb (opAt (wordsOf code) (m / 256)) FUNC (λ q. f (es ∙ q)), resultAt)
+      pub callee-room : Callees code values i → h * 8 + 8 ≤ length code
+      callee-room g = rw eh (known-room g of-kind)
 
-    pub callee-no-func : function ≡ true → (s ≡ 57 → ⊥) → CalleeTold code values function i (Wrong wrongKind)
-    callee-no-func t f = record { is = λ g. other-says g is (same-kind function _ t (proc-result f)) (λ _. proc-result f) }
+      module _ (s : ℕ) (es : s ≡ opAt (wordsOf code) h) where
+        head-sort : opAt (wordsOf code) (valueIn m) ≡ s
+        head-sort = sym (es ∙ ap (opAt (wordsOf code)) eh)
 
-    pub callee-func : function ≡ true → s ≡ 57 → CalleeTold code values function i (At (m / 256))
-    callee-func t f = record { is = λ g. found-says g is (eq-eqb (opAt (wordsOf code) (m / 256)) FUNC (sym es ∙ f) ∙ sym t) }
+        func-result : s ≡ FUNC → resultAt (wordsOf code) (valueIn m) ≡ some (typeAt (wordsOf code) (valueIn m + 1))
+        unfolding resultAt
+        func-result f = rw (eq-eqb (opAt (wordsOf code) (valueIn m)) FUNC (head-sort ∙ f), resultAt)
 
-    pub callee-no-proc : function ≡ false → s ≡ 57 → CalleeTold code values function i (Wrong wrongKind)
-    callee-no-proc t f = record { is = λ g. other-says g is (some-kind function _ _ t (func-result f)) (λ e. false-true (sym t ∙ e)) }
+        proc-result : (s ≡ FUNC → ⊥) → resultAt (wordsOf code) (valueIn m) ≡ none
+        unfolding resultAt
+        proc-result f = rw (ne-eqb (opAt (wordsOf code) (valueIn m)) FUNC (λ q. f (sym head-sort ∙ q)), resultAt)
 
-    pub callee-proc : function ≡ false → (s ≡ 57 → ⊥) → CalleeTold code values function i (At (m / 256))
-    callee-proc t f = record { is = λ g. found-says g is (ne-eqb (opAt (wordsOf code) (m / 256)) FUNC (λ q. f (es ∙ q)) ∙ sym t) }
+        pub callee-no-func : function ≡ true → (s ≡ FUNC → ⊥) → CalleeTold code values function i (Wrong wrongKind)
+        callee-no-func t f = record { is = λ g. other-says g of-kind (same-kind function _ t (proc-result f)) (λ _. proc-result f) }
+
+        pub callee-func : function ≡ true → s ≡ FUNC → CalleeTold code values function i (At h)
+        callee-func t f = rw eh (record { is = λ g. found-says g of-kind (eq-eqb (opAt (wordsOf code) (valueIn m)) FUNC (head-sort ∙ f) ∙ sym t) })
+
+        pub callee-no-proc : function ≡ false → s ≡ FUNC → CalleeTold code values function i (Wrong wrongKind)
+        callee-no-proc t f = record { is = λ g. other-says g of-kind (some-kind function _ _ t (func-result f)) (λ e. false-true (sym t ∙ e)) }
+
+        pub callee-proc : function ≡ false → (s ≡ FUNC → ⊥) → CalleeTold code values function i (At h)
+        callee-proc t f = rw eh (record { is = λ g. found-says g of-kind (ne-eqb (opAt (wordsOf code) (valueIn m)) FUNC (λ q. f (sym head-sort ∙ q)) ∙ sym t) })

@@ -75,11 +75,11 @@ fn target(code: &mut [u8], values: &[u8], at: usize) -> Judged
     if sort(code, at + 1) == sorts::OPEN_BRACE {
         return element_target(code, values, m, at);
     }
-    let kind = m % parts::VALUE / parts::KIND;
+    let kind = names::kind_of(m);
     if kind != kinds::VARIABLE {
         return Judged::Faulty(wrong_name(kind), at);
     }
-    set_head(code, at, ops::TARGET + m % 2, m / parts::VALUE);
+    set_head(code, at, ops::TARGET + names::own_of(m), names::value_of(m));
     Judged::Typed(names::type_of(m), at + 1)
 }
 
@@ -88,7 +88,7 @@ fn element_target(code: &mut [u8], values: &[u8], m: u32, at: usize) -> Judged
     requires { ⌜ Elements (now code) (now values) m at ⌝ }
     ensures { λ r. ⌜ ElementJudged (now (code .entry)) (now (values .entry)) (now (code .exit)) m at r ⌝ }
 {
-    let kind = m % parts::VALUE / parts::KIND;
+    let kind = names::kind_of(m);
     if kind != kinds::ARRAY {
         return Judged::Faulty(wrong_name(kind), at);
     }
@@ -96,7 +96,12 @@ fn element_target(code: &mut [u8], values: &[u8], m: u32, at: usize) -> Judged
     let Judged::Typed(_, end) = index else {
         return index;
     };
-    set_head(code, at, ops::TARGET + 2 + m % 2, m / parts::VALUE);
+    set_head(
+        code,
+        at,
+        ops::TARGET + 2 + names::own_of(m),
+        names::value_of(m),
+    );
     set_link(code, at + 1, end);
     Judged::Typed(names::type_of(m), end + 1)
 }
@@ -109,11 +114,11 @@ fn callee_at<'a>(code: &'a [u8], values: &'a [u8], function: bool, i: usize) -> 
     ensures { λ r. ⌜ CalleeTold (now (code .entry)) (now (values .entry)) function i r ⌝ }
 {
     let m = names::meaning(code, values, i);
-    let kind = m % parts::VALUE / parts::KIND;
+    let kind = names::kind_of(m);
     if kind != kinds::ROUTINE {
         return Callee::Wrong(wrong_name(kind));
     }
-    let h = (m / parts::VALUE) as usize;
+    let h = names::value_of(m) as usize;
     let s = sort(code, h);
     if function {
         if s != sorts::FUNC {

@@ -6,8 +6,10 @@ use Prim.Native.Nat.{ℕ, _+_, _*_, _<_}
 use native.Mathlib.Omega.{arith}
 use lib.ListN.{length, getD, drop}
 use borrow.Author.Tests.{ne-eqb}
+use Rattle.paper.specs.Numbers.{overflow, divZero, outOfBound, illRaise}
 use Rattle.paper.specs.Sorts.{bytes, folded, equalTexts}
 use Rattle.paper.specs.Names.{lookIn, protected}
+use Rattle.layout.specs.Kinds.{anErrno, anErrorNumber, cellWith}
 use Rattle.names.specs.Meanings.{cellOf, protectedCell}
 use Rattle.spelling.proofs.Letters.{sameNames}
 
@@ -27,29 +29,29 @@ abbrev raises : List ℕ
 raises = 69 ∷ 82 ∷ 82 ∷ 95 ∷ 73 ∷ 76 ∷ 76 ∷ 82 ∷ 65 ∷ 73 ∷ 83 ∷ 69 ∷ []
 
 module _ (l : List ℕ) (a : Bool) (ea : a ≡ sameNames errno l) where
-  pub errno-cell : a ≡ true → 24 ≡ protectedCell (map folded l)
+  pub errno-cell : a ≡ true → (cell : ℕ) → cell ≡ cellWith anErrno 0 0 0 → cell ≡ protectedCell (map folded l)
   unfolding protectedCell protected lookIn bytes folded cellOf
-  errno-cell t = rw (sym ea ∙ t, lookIn)
+  errno-cell t cell is = is ∙ rw (sym ea ∙ t, lookIn)
 
   module _ (fa : a ≡ false) (b : Bool) (eb : b ≡ sameNames overflows l) where
-    pub overflow-cell : b ≡ true → 28 + 256 * 1001 ≡ protectedCell (map folded l)
+    pub overflow-cell : b ≡ true → (cell : ℕ) → cell ≡ cellWith anErrorNumber 0 0 overflow → cell ≡ protectedCell (map folded l)
     unfolding protectedCell protected lookIn bytes folded cellOf
-    overflow-cell t = rw (sym ea ∙ fa, lookIn) (rw (sym eb ∙ t, lookIn))
+    overflow-cell t cell is = is ∙ rw (sym ea ∙ fa, lookIn) (rw (sym eb ∙ t, lookIn))
 
     module _ (fb : b ≡ false) (d : Bool) (ed : d ≡ sameNames divides l) where
-      pub divide-cell : d ≡ true → 28 + 256 * 1002 ≡ protectedCell (map folded l)
+      pub divide-cell : d ≡ true → (cell : ℕ) → cell ≡ cellWith anErrorNumber 0 0 divZero → cell ≡ protectedCell (map folded l)
       unfolding protectedCell protected lookIn bytes folded cellOf
-      divide-cell t = rw (sym ea ∙ fa, lookIn) (rw (sym eb ∙ fb, lookIn) (rw (sym ed ∙ t, lookIn)))
+      divide-cell t cell is = is ∙ rw (sym ea ∙ fa, lookIn) (rw (sym eb ∙ fb, lookIn) (rw (sym ed ∙ t, lookIn)))
 
       module _ (fd : d ≡ false) (o : Bool) (eo : o ≡ sameNames bounds l) where
-        pub bound-cell : o ≡ true → 28 + 256 * 1003 ≡ protectedCell (map folded l)
+        pub bound-cell : o ≡ true → (cell : ℕ) → cell ≡ cellWith anErrorNumber 0 0 outOfBound → cell ≡ protectedCell (map folded l)
         unfolding protectedCell protected lookIn bytes folded cellOf
-        bound-cell t = rw (sym ea ∙ fa, lookIn) (rw (sym eb ∙ fb, lookIn) (rw (sym ed ∙ fd, lookIn) (rw (sym eo ∙ t, lookIn))))
+        bound-cell t cell is = is ∙ rw (sym ea ∙ fa, lookIn) (rw (sym eb ∙ fb, lookIn) (rw (sym ed ∙ fd, lookIn) (rw (sym eo ∙ t, lookIn))))
 
         module _ (fo : o ≡ false) (i : Bool) (ei : i ≡ sameNames raises l) where
-          pub raise-cell : i ≡ true → 28 + 256 * 1004 ≡ protectedCell (map folded l)
+          pub raise-cell : i ≡ true → (cell : ℕ) → cell ≡ cellWith anErrorNumber 0 0 illRaise → cell ≡ protectedCell (map folded l)
           unfolding protectedCell protected lookIn bytes folded cellOf
-          raise-cell t = rw (sym ea ∙ fa, lookIn) (rw (sym eb ∙ fb, lookIn) (rw (sym ed ∙ fd, lookIn) (rw (sym eo ∙ fo, lookIn) (rw (sym ei ∙ t, lookIn)))))
+          raise-cell t cell is = is ∙ rw (sym ea ∙ fa, lookIn) (rw (sym eb ∙ fb, lookIn) (rw (sym ed ∙ fd, lookIn) (rw (sym eo ∙ fo, lookIn) (rw (sym ei ∙ t, lookIn)))))
 
           pub other-cell : i ≡ false → 0 ≡ protectedCell (map folded l)
           unfolding protectedCell protected lookIn bytes folded cellOf

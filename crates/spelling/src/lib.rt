@@ -1,5 +1,5 @@
 // Names by their spelling, letter case folded.
-use layout::parts;
+use layout::kinds;
 ghost use mathlib.Core.Path.{_≡_};
 ghost use mathlib.Core.List.{map};
 ghost use Prim.Native.Nat.{_+_, _*_, _%_, _<_, _≤_};
@@ -145,19 +145,19 @@ pub fn protected(name: &[u8]) -> u32
         return names::UNKNOWN;
     }
     if same(b"ERRNO", name) {
-        return names::ERRNO_OP;
+        return names::cell_with(kinds::ERRNO, 0, 0, 0);
     }
     if same(b"ERR_OVERFLOW", name) {
-        return names::ERROR_OP + parts::VALUE * numbers::ERR_OVERFLOW;
+        return names::cell_with(kinds::ERROR_NUMBER, 0, 0, numbers::ERR_OVERFLOW);
     }
     if same(b"ERR_DIVZERO", name) {
-        return names::ERROR_OP + parts::VALUE * numbers::ERR_DIVZERO;
+        return names::cell_with(kinds::ERROR_NUMBER, 0, 0, numbers::ERR_DIVZERO);
     }
     if same(b"ERR_OUTOFBND", name) {
-        return names::ERROR_OP + parts::VALUE * numbers::ERR_OUTOFBND;
+        return names::cell_with(kinds::ERROR_NUMBER, 0, 0, numbers::ERR_OUTOFBND);
     }
     if same(b"ERR_ILLRAISE", name) {
-        return names::ERROR_OP + parts::VALUE * numbers::ERR_ILLRAISE;
+        return names::cell_with(kinds::ERROR_NUMBER, 0, 0, numbers::ERR_ILLRAISE);
     }
     names::UNKNOWN
 }

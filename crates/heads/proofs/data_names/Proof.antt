@@ -33,7 +33,8 @@ add-announce c = search needs
 announce-requires : tie.Need-announce-requires Inv-loop μ-loop
 announce-requires c κs =
     let turn = c .before in
-    data-announce _ _ _ (turn .before .before .before .before .before .before .pre) _ _ (turn .before .before .before .loop .inv) _ (turn .before .before .sort .ensures) _ (turn .before .starts-data .ensures) (turn .if1 .left)
+    let start = turn .before .before .before .before .before .before in
+    data-announce _ _ _ (start .pre) _ _ (turn .before .before .before .loop .inv) _ (turn .before .before .sort .ensures) _ (turn .before .starts-data .ensures) (turn .if1 .left)
 
 add-next : tie.Need-add-next Inv-loop μ-loop
 add-next c = search needs
@@ -41,7 +42,8 @@ add-next c = search needs
 next-requires : tie.Need-next-requires Inv-loop μ-loop
 next-requires c κs =
     let turn = c .before .before .before .before in
-    data-ends _ _ _ (turn .before .before .before .before .before .before .pre) _ _ (turn .before .before .before .loop .inv) _ (turn .before .before .sort .ensures) _ (turn .before .starts-data .ensures) (turn .if1 .left)
+    let start = turn .before .before .before .before .before .before in
+    data-ends _ _ _ (start .pre) _ _ (turn .before .before .before .loop .inv) _ (turn .before .before .sort .ensures) _ (turn .before .starts-data .ensures) (turn .if1 .left)
 
 add-i : tie.Need-add-i Inv-loop μ-loop
 add-i c = search needs
@@ -52,7 +54,8 @@ loop-less c = search needs
 loop-again : tie.Need-loop-again Inv-loop μ-loop
 loop-again c =
     let turn = c .before .before .before .before .before in
-    data-again _ _ _ (turn .before .before .before .before .before .before .pre) _ _ (turn .before .before .before .loop .inv) _ (turn .before .before .sort .ensures) _ (turn .before .starts-data .ensures) (turn .if1 .left) _ (c .before .before .before .announce .ensures) _ (c .next .ensures)
+    let start = turn .before .before .before .before .before .before in
+    data-again _ _ _ (start .pre) _ _ (turn .before .before .before .loop .inv) _ (turn .before .before .sort .ensures) _ (turn .before .starts-data .ensures) (turn .if1 .left) _ (c .before .before .before .announce .ensures) _ (c .next .ensures)
 
 pub data-names-spec : {M : Type 1} → statement M
 data-names-spec =

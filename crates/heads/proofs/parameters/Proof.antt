@@ -46,7 +46,8 @@ returns-2 : tie.Need-returns-2 Inv-loop μ-loop
 returns-2 c =
     let turn = c .before .before .before .before .before .before .before .before .before .before in
     let marked = c .before .before .before .before .before .before .before in
-    params-end _ _ _ _ (turn .before .before .before .before .before .before .pre) _ _ _ _ _ _ _ (turn .loop .inv) (marked .parameter .ensures) (c .before .sort2 .ensures) (c .if2 .taken)
+    let start = turn .before .before .before .before .before .before in
+    params-end _ _ _ _ (start .pre) _ _ _ _ _ _ _ (turn .loop .inv) (marked .parameter .ensures) (c .before .sort2 .ensures) (c .if2 .taken)
 
 add-i : tie.Need-add-i Inv-loop μ-loop
 add-i c = search needs
@@ -58,7 +59,8 @@ loop-again : tie.Need-loop-again Inv-loop μ-loop
 loop-again c =
     let turn = c .before .before .before .before .before .before .before .before .before .before in
     let marked = c .before .before .before .before .before .before .before in
-    params-on _ _ _ _ (turn .before .before .before .before .before .before .pre) _ _ _ _ _ _ _ (turn .loop .inv) (marked .parameter .ensures) (c .before .sort2 .ensures) (c .if2 .left)
+    let start = turn .before .before .before .before .before .before in
+    params-on _ _ _ _ (start .pre) _ _ _ _ _ _ _ (turn .loop .inv) (marked .parameter .ensures) (c .before .sort2 .ensures) (c .if2 .left)
 
 pub parameters-spec : {M : Type 1} → statement M
 parameters-spec =

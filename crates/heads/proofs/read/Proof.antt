@@ -10,7 +10,8 @@ data-names-requires c κs = search (needs, read-data)
 routines-requires : tie.Need-routines-requires
 routines-requires c κs =
     let announced = c .before .before .before .before in
-    routines-asked _ _ _ (announced .before .before .before .before .before .before .pre) _ _ (announced .data-names .ensures)
+    let start = announced .before .before .before .before .before .before in
+    routines-asked _ _ _ (start .pre) _ _ (announced .data-names .ensures)
 
 same-length : tie.Need-same-length
 same-length c = search needs
@@ -21,7 +22,8 @@ same-length-2 c = search needs
 returns : tie.Need-returns
 returns c =
     let announced = c .before .before .before .before .before .before .before .before .before in
-    read-done _ _ _ (announced .before .before .before .before .before .before .pre) _ _ (announced .data-names .ensures) _ _ _ (c .before .before .before .before .routines .ensures)
+    let start = announced .before .before .before .before .before .before in
+    read-done _ _ _ (start .pre) _ _ (announced .data-names .ensures) _ _ _ (c .before .before .before .before .routines .ensures)
 
 pub read-spec : {M : Type 1} → statement M
 read-spec =

@@ -19,14 +19,11 @@ number-requires c κs = search needs
 add-put : tie.Need-add-put
 add-put c = search needs
 
-cast-put : tie.Need-cast-put
-cast-put c = search needs
+cast-cell-with : tie.Need-cast-cell-with
+cast-cell-with c = search needs
 
-mul-put : tie.Need-mul-put
-mul-put c = search needs
-
-add-put-2 : tie.Need-add-put-2
-add-put-2 c = search needs
+cell-with-requires : tie.Need-cell-with-requires
+cell-with-requires c κs = search needs
 
 put-requires : tie.Need-put-requires
 put-requires c κs = search needs
@@ -61,9 +58,8 @@ take-name-spec =
     returns
     number-requires
     add-put
-    cast-put
-    mul-put
-    add-put-2
+    cast-cell-with
+    cell-with-requires
     put-requires
     same-length-2
     returns-2

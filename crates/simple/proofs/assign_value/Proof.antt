@@ -37,11 +37,12 @@ add-set-link c =
 
 set-link-requires-2 : tie.Need-set-link-requires-2
 set-link-requires-2 c κs =
-    let at-r = c .before .before .before .before .before .before in
+    let at-set-link = c .before .before .before in
+    let at-r = at-set-link .before .before .before in
     let at-of-type = at-r .before .before .before .before in
     let start = at-of-type .before .before .before .before in
     let x = value-end _ _ _ _ _ (start .pre) _ _ (at-of-type .of-type .ensures) _ _ (at-r .r .given .1) in
-    (omega (arith, x .2, c .before .before .before .set-link .ensures .kept .long), omega (arith, x .0))
+    (omega (arith, x .2, at-set-link .set-link .ensures .kept .long), omega (arith, x .0))
 
 add-t11 : tie.Need-add-t11
 add-t11 c =

@@ -6,11 +6,17 @@ use Rattle.simple.proofs.callee_at.Tie as tie
 meaning-requires : tie.Need-meaning-requires
 meaning-requires c κs = search needs
 
+kind-of-requires : tie.Need-kind-of-requires
+kind-of-requires c κs = search needs
+
 wrong-name-requires : tie.Need-wrong-name-requires
 wrong-name-requires c κs = search needs
 
 returns : tie.Need-returns
 returns c = search (needs, callee-wrong)
+
+value-of-requires : tie.Need-value-of-requires
+value-of-requires c κs = search needs
 
 cast-h : tie.Need-cast-h
 cast-h c = search needs
@@ -35,8 +41,10 @@ callee-at-spec =
     tie.close
     (tie.spec
     meaning-requires
+    kind-of-requires
     wrong-name-requires
     returns
+    value-of-requires
     cast-h
     sort-requires
     returns-2

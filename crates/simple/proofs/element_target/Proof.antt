@@ -4,6 +4,9 @@ use Rattle.simple.proofs.Aiming.{element-small, index-stands, index-end
 use Rattle.simple.proofs.element_target.Statement.{statement}
 use Rattle.simple.proofs.element_target.Tie as tie
 
+kind-of-requires : tie.Need-kind-of-requires
+kind-of-requires c κs = search needs
+
 wrong-name-requires : tie.Need-wrong-name-requires
 wrong-name-requires c κs = search needs
 
@@ -11,7 +14,7 @@ returns : tie.Need-returns
 returns c = search (needs, element-no-array)
 
 add-of-type : tie.Need-add-of-type
-add-of-type c = omega (arith, element-small _ _ _ _ (c .before .before .before .before .pre))
+add-of-type c = omega (arith, element-small _ _ _ _ (c .before .before .before .before .before .pre))
 
 of-type-requires : tie.Need-of-type-requires
 of-type-requires c κs = search (needs, index-stands)
@@ -31,40 +34,46 @@ returns-2 c = search (needs, element-faulty)
 add-set-head : tie.Need-add-set-head
 add-set-head c = search needs
 
+own-of-requires : tie.Need-own-of-requires
+own-of-requires c κs = search needs
+
 add-set-head-2 : tie.Need-add-set-head-2
 add-set-head-2 c = search needs
 
+value-of-requires : tie.Need-value-of-requires
+value-of-requires c κs = search needs
+
 set-head-requires : tie.Need-set-head-requires
 set-head-requires c κs =
-    let at-of-type = c .before .before .before .before .before .before in
-    let at-if1 = at-of-type .before .before in
-    let start = at-if1 .before .before .before in
-    let x = index-end _ _ _ _ (start .pre) (at-if1 .if1 .left) _ _ (at-of-type .of-type .ensures) _ _ (c .before .before .index .given .1) .1 in search needs
+    let at-index = c .before .before .before .before in
+    let at-of-type = at-index .before .before .before .before in
+    let start = at-of-type .before .before .before .before .before .before in
+    let x = index-end _ _ _ _ (start .pre) _ _ (at-of-type .of-type .ensures) _ _ (at-index .index .given .1) .1 in search needs
 
 add-set-link : tie.Need-add-set-link
 add-set-link c =
-    let start = c .before .before .before .before .before .before .before .before .before .before .before .before .before .before .before in
+    let start = c .before .before .before .before .before .before .before .before .before .before .before .before .before .before .before .before .before .before in
     omega (arith, element-small _ _ _ _ (start .pre))
 
 set-link-requires : tie.Need-set-link-requires
 set-link-requires c κs =
-    let at-index = c .before .before .before .before .before .before in
+    let at-set-head = c .before .before .before in
+    let at-index = at-set-head .before .before .before .before .before in
     let at-of-type = at-index .before .before .before .before in
-    let at-if1 = at-of-type .before .before in
-    let start = at-if1 .before .before .before in
-    let x = index-end _ _ _ _ (start .pre) (at-if1 .if1 .left) _ _ (at-of-type .of-type .ensures) _ _ (at-index .index .given .1) in
-    (omega (arith, x .2, c .before .before .before .set-head .ensures .kept .long), omega (arith, x .0))
+    let start = at-of-type .before .before .before .before .before .before in
+    let x = index-end _ _ _ _ (start .pre) _ _ (at-of-type .of-type .ensures) _ _ (at-index .index .given .1) in
+    (omega (arith, x .2, at-set-head .set-head .ensures .kept .long), omega (arith, x .0))
 
 type-of-requires : tie.Need-type-of-requires
 type-of-requires c κs = search needs
 
-add-t13 : tie.Need-add-t13
-add-t13 c =
-    let at-index = c .before .before .before .before .before .before .before .before .before .before in
+add-t12 : tie.Need-add-t12
+add-t12 c =
+    let at-set-head = c .before .before .before .before .before .before .before in
+    let at-index = at-set-head .before .before .before .before .before in
     let at-of-type = at-index .before .before .before .before in
-    let at-if1 = at-of-type .before .before in
-    let start = at-if1 .before .before .before in
-    omega (arith, index-end _ _ _ _ (start .pre) (at-if1 .if1 .left) _ _ (at-of-type .of-type .ensures) _ _ (at-index .index .given .1) .0)
+    let start = at-of-type .before .before .before .before .before .before in
+    omega (arith, index-end _ _ _ _ (start .pre) _ _ (at-of-type .of-type .ensures) _ _ (at-index .index .given .1) .0)
 
 same-length-2 : tie.Need-same-length-2
 same-length-2 c = search needs
@@ -76,6 +85,7 @@ pub element-target-spec : {M : Type 1} → statement M
 element-target-spec =
     tie.close
     (tie.spec
+    kind-of-requires
     wrong-name-requires
     returns
     add-of-type
@@ -85,11 +95,13 @@ element-target-spec =
     same-length
     returns-2
     add-set-head
+    own-of-requires
     add-set-head-2
+    value-of-requires
     set-head-requires
     add-set-link
     set-link-requires
     type-of-requires
-    add-t13
+    add-t12
     same-length-2
     returns-3)

@@ -46,9 +46,10 @@ writes-requires c κs =
 reads-requires : tie.Need-reads-requires
 reads-requires c κs =
     let start = c .before .before .before .before .before .before .before in
-    begins-read _ _ _ _ _ _ (c .before .before .sort .ensures) (c .before .match .rest .0 .0 .0 .0 .0 .0 .1) (c .before .match .rest .0 .0 .0 .0 .0 .1)
-    (c .before .match .rest .0 .0 .0 .0 .1) (c .before .match .rest .0 .0 .0 .1) (c .before .match .rest .0 .0 .1) (c .before .match .rest .0 .1)
-    (c .before .match .rest .1) (start .pre)
+    let other = c .before .match .rest in
+    let first-four = other .0 .0 .0 in
+    begins-read _ _ _ _ _ _ (c .before .before .sort .ensures) (first-four .0 .0 .0 .1) (first-four .0 .0 .1) (first-four .0 .1) (first-four .1) (other .0 .0 .1) (other .0 .1)
+    (other .1) (start .pre)
 
 same-length : tie.Need-same-length
 same-length c = search needs

@@ -25,6 +25,9 @@ same-length c = search needs
 returns : tie.Need-returns
 returns c = search (needs, target-element)
 
+kind-of-requires : tie.Need-kind-of-requires
+kind-of-requires c κs = search needs
+
 wrong-name-requires : tie.Need-wrong-name-requires
 wrong-name-requires c κs = search needs
 
@@ -34,12 +37,18 @@ same-length-2 c = search needs
 returns-2 : tie.Need-returns-2
 returns-2 c = search (needs, target-wrong)
 
+own-of-requires : tie.Need-own-of-requires
+own-of-requires c κs = search needs
+
 add-set-head : tie.Need-add-set-head
 add-set-head c = search needs
 
+value-of-requires : tie.Need-value-of-requires
+value-of-requires c κs = search needs
+
 set-head-requires : tie.Need-set-head-requires
 set-head-requires c κs =
-    let start = c .before .before .before .before .before .before .before .before .before in
+    let start = c .before .before .before .before .before .before .before .before .before .before .before .before in
     let x = target-room _ _ _ (start .pre) .0 in search needs
 
 type-of-requires : tie.Need-type-of-requires
@@ -47,7 +56,7 @@ type-of-requires c κs = search needs
 
 add-t11 : tie.Need-add-t11
 add-t11 c =
-    let start = c .before .before .before .before .before .before .before .before .before .before .before .before .before in
+    let start = c .before .before .before .before .before .before .before .before .before .before .before .before .before .before .before .before in
     omega (arith, target-room _ _ _ (start .pre) .2)
 
 same-length-3 : tie.Need-same-length-3
@@ -66,10 +75,13 @@ target-spec =
     element-target-requires
     same-length
     returns
+    kind-of-requires
     wrong-name-requires
     same-length-2
     returns-2
+    own-of-requires
     add-set-head
+    value-of-requires
     set-head-requires
     type-of-requires
     add-t11

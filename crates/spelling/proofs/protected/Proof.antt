@@ -19,6 +19,9 @@ slice-aggregate-same c = search needs
 same-requires : tie.Need-same-requires
 same-requires c κs = search needs
 
+cell-with-requires : tie.Need-cell-with-requires
+cell-with-requires c κs = search needs
+
 returns-2 : tie.Need-returns-2
 returns-2 c = search (needs, errno-cell)
 
@@ -28,11 +31,8 @@ slice-aggregate-same-2 c = search needs
 same-requires-2 : tie.Need-same-requires-2
 same-requires-2 c κs = search needs
 
-mul-result : tie.Need-mul-result
-mul-result c = search needs
-
-add-result : tie.Need-add-result
-add-result c = search needs
+cell-with-requires-2 : tie.Need-cell-with-requires-2
+cell-with-requires-2 c κs = search needs
 
 returns-3 : tie.Need-returns-3
 returns-3 c = search (needs, overflow-cell)
@@ -43,11 +43,8 @@ slice-aggregate-same-3 c = search needs
 same-requires-3 : tie.Need-same-requires-3
 same-requires-3 c κs = search needs
 
-mul-result-2 : tie.Need-mul-result-2
-mul-result-2 c = search needs
-
-add-result-2 : tie.Need-add-result-2
-add-result-2 c = search needs
+cell-with-requires-3 : tie.Need-cell-with-requires-3
+cell-with-requires-3 c κs = search needs
 
 returns-4 : tie.Need-returns-4
 returns-4 c = search (needs, divide-cell)
@@ -58,11 +55,8 @@ slice-aggregate-same-4 c = search needs
 same-requires-4 : tie.Need-same-requires-4
 same-requires-4 c κs = search needs
 
-mul-result-3 : tie.Need-mul-result-3
-mul-result-3 c = search needs
-
-add-result-3 : tie.Need-add-result-3
-add-result-3 c = search needs
+cell-with-requires-4 : tie.Need-cell-with-requires-4
+cell-with-requires-4 c κs = search needs
 
 returns-5 : tie.Need-returns-5
 returns-5 c = search (needs, bound-cell)
@@ -73,11 +67,8 @@ slice-aggregate-same-5 c = search needs
 same-requires-5 : tie.Need-same-requires-5
 same-requires-5 c κs = search needs
 
-mul-result-4 : tie.Need-mul-result-4
-mul-result-4 c = search needs
-
-add-result-4 : tie.Need-add-result-4
-add-result-4 c = search needs
+cell-with-requires-5 : tie.Need-cell-with-requires-5
+cell-with-requires-5 c κs = search needs
 
 returns-6 : tie.Need-returns-6
 returns-6 c = search (needs, raise-cell)
@@ -94,25 +85,22 @@ protected-spec =
     returns
     slice-aggregate-same
     same-requires
+    cell-with-requires
     returns-2
     slice-aggregate-same-2
     same-requires-2
-    mul-result
-    add-result
+    cell-with-requires-2
     returns-3
     slice-aggregate-same-3
     same-requires-3
-    mul-result-2
-    add-result-2
+    cell-with-requires-3
     returns-4
     slice-aggregate-same-4
     same-requires-4
-    mul-result-3
-    add-result-3
+    cell-with-requires-4
     returns-5
     slice-aggregate-same-5
     same-requires-5
-    mul-result-4
-    add-result-4
+    cell-with-requires-5
     returns-6
     returns-7)
