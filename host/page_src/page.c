@@ -22,6 +22,7 @@ static char sentence[512];
 AT(text, text)
 AT(output, output)
 AT(inputs, inputs)
+AT(code, code)
 AT(values, values)
 AT(record, &record)
 AT(words, words)
