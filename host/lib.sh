@@ -13,6 +13,15 @@ host_packages() { # the Debian packages that this machine lacks for a C host
     fi
 }
 
+host_tablet_packages() { # those that it lacks for Arm and for a page in a browser
+    if [ "$(uname -m)" != aarch64 ]; then
+        command -v aarch64-linux-gnu-gcc >/dev/null 2>&1 || echo gcc-aarch64-linux-gnu libc6-dev-arm64-cross
+        command -v qemu-aarch64 >/dev/null 2>&1 || echo qemu-user
+    fi
+    command -v node >/dev/null 2>&1 || echo nodejs
+    command -v chromium >/dev/null 2>&1 || command -v chromium-browser >/dev/null 2>&1 || command -v google-chrome >/dev/null 2>&1 || echo chromium
+}
+
 host_library() { # NAME: makes target/staticlib/libNAME.a, for which rt proves its crate once more, and NAME.bc beside it (host_keep); where HOST_BUILT is set, what is there is taken. What rt says is shown only where it fails
     local said kept=$PWD/target/kept/$1
     if [ -n "${HOST_BUILT:-}" ] && [ -f "target/staticlib/lib$1.a" ]; then return; fi
@@ -51,7 +60,7 @@ host_keep() {
 }
 
 host_archive() { # NAME: where its library is; HOST_ARCHIVES is a folder of other ones (tools/faults)
-    if [ -n "${HOST_FOR:-}" ]; then echo "target/host/$HOST_FOR/librapid.a"; else echo "${HOST_ARCHIVES:-target/staticlib}/lib$1.a"; fi
+    if [ -n "${HOST_FOR:-}" ]; then echo "${HOST_INTO:-target/host}/$HOST_FOR/librapid.a"; else echo "${HOST_ARCHIVES:-target/staticlib}/lib$1.a"; fi
 }
 
 host_is_this() { [ -z "${HOST_FOR:-}" ] && [ "$(uname -m)" = x86_64 ]; } # whether hosts are for this machine
@@ -90,6 +99,10 @@ host_launcher() { printf '#!/bin/sh\nexec "%s" "%s" "$@"\n' "$(host_emulator)" "
 
 host_emulator() { if [ -n "${HOST_FOR:-}" ]; then command -v "qemu-${HOST_FOR%%-*}"; else echo "$(host_toolchain)/qemu-x86_64"; fi; }
 
+host_is_native() { host_is_this || { [ -n "${HOST_FOR:-}" ] && [ "${HOST_FOR%%-*}" = "$(uname -m)" ]; }; } # whether hosts run without an emulator
+
+host_can_run() { host_is_native || [ -x "$(host_emulator)" ]; } # whether hosts run at all
+
 host_run() { # PROGRAM WORDS..
-    if host_is_this || [ "${HOST_FOR%%-*}" = "$(uname -m)" ]; then "$@"; else "$(host_emulator)" "$@"; fi
+    if host_is_native; then "$@"; else "$(host_emulator)" "$@"; fi
 }

@@ -109,6 +109,15 @@ function sameSentences(bench) {
   return `${texts.length} texts, ${seen.size} sentences`;
 }
 
+// bytes of the library's own stack, which stands first in its memory, on a text that nests everything as deep as it may
+function stack(bench) {
+  const { calls } = bench, painted = new Uint8Array(calls.memory.buffer, 0, Number(calls.__stack_pointer.value)).fill(MARK);
+  bench.run({ text: fs.readFileSync(path.join(__dirname, "..", "host", "deepest.mod"), "latin1"), steps: 10000, depth: 64, inputs: [], room: 4096 });
+  const used = painted.length - painted.findIndex((byte) => byte !== MARK);
+  expect(used < 40000, `a call takes ${used} bytes of stack`);
+  return `a call takes at most ${used} of ${painted.length} bytes of stack`;
+}
+
 // milliseconds, the best of some, to check and to list a text as long as one may be
 function pace(bench) {
   const line = "n := (n + 1) * 3 MOD 7; ! counts up, and never far\n", text = `MODULE long\nPROC main()\nVAR num n;\n${line.repeat(630)}ENDPROC\nENDMODULE\n`.padEnd(32768), times = { check: Infinity, words: Infinity };
@@ -131,7 +140,7 @@ async function main() {
   if (tests) {
     refuseLengths(bench);
     tellNames(bench);
-    console.log(`the wrappers refuse what is too long; ${sameSentences(bench)} as the command says them; ${pace(bench)}`);
+    console.log(`the wrappers refuse what is too long; ${sameSentences(bench)} as the command says them; ${pace(bench)}; ${stack(bench)}`);
     return;
   }
   const out = [];

@@ -25,7 +25,9 @@ function makeEditor(bench, changed) {
       for (let i = text.indexOf("\t", starts[line]); i >= 0 && i < endOf(line); i = text.indexOf("\t", i + 1)) width += TAB - 1;
       widest = Math.max(widest, width);
     }
-    for (const [name, value] of [["--lines", starts.length], ["--columns", widest + 2], ["--digits", String(starts.length).length]]) scroller.style.setProperty(name, value);
+    for (const [name, value] of [["--lines", starts.length], ["--columns", widest + 2], ["--digits", String(starts.length).length]]) {
+      if (scroller.style.getPropertyValue(name) !== String(value)) scroller.style.setProperty(name, value);
+    }
   }
 
   // ---- painting
@@ -109,7 +111,7 @@ function makeEditor(bench, changed) {
     set(content) { field.value = content; take(); scroller.scrollTop = scroller.scrollLeft = 0; },
     // a refused word, which may be no word, or the end of the text
     markRefused(place) { refused = place === null ? null : { start: place, end: Math.min(text.length, place + Math.max(1, bench.wordAt(text, place))) }; paint(); },
-    markStep(place) { step = place; if (place !== null) reveal(place); paint(); },
+    markStep(place) { if (place === step) return; step = place; if (place !== null) reveal(place); paint(); },
     select(place) { field.focus(); field.setSelectionRange(place, place + bench.wordAt(text, place)); reveal(place); },
   };
 }

@@ -5,6 +5,8 @@ function makeScreen(answered) {
   const output = document.getElementById("output"), form = document.getElementById("question"), label = document.getElementById("prompt"), field = document.getElementById("number"), wrong = document.getElementById("number-wrong");
   const LEAST = -(2 ** 31), MOST = 2 ** 31 - 1; // an input is a number of 32 bits
 
+  // for fingers: keys for digits alone may have no minus
+  document.getElementById("sign").addEventListener("click", () => { field.value = field.value.startsWith("-") ? field.value.slice(1) : `-${field.value}`; field.focus(); });
   form.addEventListener("submit", (event) => {
     event.preventDefault();
     const number = Number(field.value.trim());
@@ -27,7 +29,7 @@ function makeScreen(answered) {
         field.value = "";
         field.focus();
       }
-      output.parentElement.scrollTop = output.parentElement.scrollHeight;
+      if (written || asks) output.parentElement.scrollTop = output.parentElement.scrollHeight;
     },
   };
 }
