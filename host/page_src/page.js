@@ -8,7 +8,7 @@ async function openPage() {
   const bench = await openBench(library);
   const runner = makeRunner(library, element("bench-code").textContent + element("runner-code").textContent);
   const lessons = JSON.parse(element("lesson-texts").textContent);
-  let name = "", pause = 0, accepted = false, names = null, running = false, wanted = null;
+  let name = "", pause = 0, accepted = false, names = null, running = false, wanted = null, isOwn = false, own = null; // own: the latest text that was written here and then left for another
   let inputs = [], total = null, at = null, stepping = false; // of the run that is shown: its numbers, its steps, after how many of them it is shown, and whether one goes through it by steps
 
   // ---- parts
@@ -26,12 +26,15 @@ async function openPage() {
     last: () => { stepping = false; return at === null ? runAll() : show(total); },
     to: stepTo,
   });
-  makeLessons(lessons, (lesson) => open(lesson.name, lesson.text));
+  const list = makeLessons(lessons, (lesson) => open(lesson.name, lesson.text));
 
   // ---- the text
-  const keep = () => files.keep({ name, text: editor.text(), settings: settings() });
+  const keep = () => files.keep({ name, text: editor.text(), isOwn, own, settings: settings() });
 
   function open(title, text) {
+    if (isOwn) own = { name, text: editor.text() };
+    isOwn = false;
+    list.showOwn(own);
     name = title;
     element("title").textContent = title;
     editor.set(text);
@@ -41,6 +44,7 @@ async function openPage() {
   }
 
   function edited() {
+    isOwn = true;
     forget();
     message.say("quiet", "…");
     steps.show(null, null, false);
@@ -160,9 +164,12 @@ async function openPage() {
   }
 
   // ---- the beginning
-  const kept = files.kept();
-  if (typeof kept.text === "string" && kept.text) open(typeof kept.name === "string" ? kept.name : "lesson", kept.text);
+  const kept = files.kept(), isText = (what) => what && typeof what.name === "string" && typeof what.text === "string" && what.text !== "";
+  if (isText(kept.own)) own = { name: kept.own.name, text: kept.own.text };
+  if (isText(kept)) open(kept.name, kept.text);
   else open(lessons[0].name, lessons[0].text);
+  isOwn = Boolean(kept.isOwn);
+  keep();
   document.body.dataset.ready = "yes";
 }
 
