@@ -5,7 +5,7 @@ function makeEditor(bench, changed) {
   const scroller = document.getElementById("editor"), field = document.getElementById("text"), lines = document.getElementById("lines"), numbers = document.getElementById("numbers");
   const SPARE = 12; // lines painted above and below those in view
   const TAB = 4;
-  let text = "", starts = [0], words = new Uint32Array(0), refused = null, step = null, height = 24;
+  let text = "", starts = [0], words = new Uint32Array(0), refused = null, step = null, height = 24, advance = 9; // of a line and of a letter, in pixels
 
   // ---- lines
   function lineOf(place) {
@@ -87,9 +87,20 @@ function makeEditor(bench, changed) {
   }
 
   function reveal(place) {
-    const top = lineOf(place) * height;
+    const top = lineOf(place) * height, left = (place - starts[lineOf(place)]) * advance, width = scroller.clientWidth - numbers.clientWidth;
     if (top < scroller.scrollTop || top + 2 * height > scroller.scrollTop + scroller.clientHeight) scroller.scrollTop = top - scroller.clientHeight / 3;
-    scroller.scrollLeft = 0;
+    scroller.scrollLeft = left + 8 * advance < width ? 0 : left - width / 2;
+  }
+
+  // sizes may change with the window and with the browser's own settings
+  function resized() {
+    const probe = document.createElement("span");
+    probe.textContent = "0".repeat(100);
+    lines.append(probe);
+    height = parseFloat(getComputedStyle(field).lineHeight);
+    advance = probe.getBoundingClientRect().width / 100 || advance;
+    if (step !== null) reveal(step);
+    paint();
   }
 
   function take() {
@@ -102,11 +113,12 @@ function makeEditor(bench, changed) {
 
   field.addEventListener("input", () => { take(); changed(); });
   scroller.addEventListener("scroll", paint, { passive: true });
-  new ResizeObserver(() => { height = parseFloat(getComputedStyle(field).lineHeight); if (step !== null) reveal(step); paint(); }).observe(scroller);
+  new ResizeObserver(resized).observe(scroller);
 
   return {
     field,
     placeOf,
+    reveal,
     text: () => text,
     set(content) { field.value = content; take(); scroller.scrollTop = scroller.scrollLeft = 0; },
     // a refused word, which may be no word, or the end of the text

@@ -15,7 +15,7 @@ async function openPage() {
   const editor = makeEditor(bench, edited);
   const files = makeFiles(() => ({ name, text: editor.text() }), open);
   const settings = makeSettings(bench.limits, files.kept().settings, () => { keep(); check(); });
-  const message = makeMessage((place) => editor.select(place));
+  const message = makeMessage((place) => (accepted ? editor.reveal(place) : editor.select(place)));
   const screen = makeScreen(answered);
   const data = makeData();
   const steps = makeSteps({

@@ -16,9 +16,12 @@ async function runInSlices(bench, asked, goesOn) {
 // what the worker does: the library first, then one run after another
 function serveRuns() {
   let bench = null;
+  const tell = (steps) => { self.postMessage({ steps }); return true; };
   self.onmessage = async ({ data }) => {
     if (data.library) bench = openBench(data.library);
-    else self.postMessage({ answer: await runInSlices(await bench, data.asked, (steps) => { self.postMessage({ steps }); return true; }) });
+    else {
+      try { self.postMessage({ answer: await runInSlices(await bench, data.asked, tell) }); } catch (error) { self.postMessage({ failed: String(error) }); }
+    }
   };
 }
 
@@ -36,7 +39,7 @@ function makeRunner(library, code) {
       finish = resolve;
       if (!worker) start();
       worker.onerror = (event) => { event.preventDefault(); reject(new Error("no worker")); };
-      worker.onmessage = ({ data }) => { if ("answer" in data) resolve(data.answer); else progress(data.steps); };
+      worker.onmessage = ({ data }) => { if ("answer" in data) resolve(data.answer); else if ("failed" in data) reject(new Error(data.failed)); else progress(data.steps); };
       worker.postMessage({ asked });
     });
   }
