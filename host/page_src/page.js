@@ -13,6 +13,7 @@ async function openPage() {
 
   // ---- parts
   const editor = makeEditor(bench, edited);
+  makeKeys(editor.field);
   const files = makeFiles(() => ({ name, text: editor.text() }), open);
   const settings = makeSettings(bench.limits, files.kept().settings, () => { keep(); check(); });
   const message = makeMessage((place) => (accepted ? editor.reveal(place) : editor.select(place)));
