@@ -25,7 +25,9 @@ function expect(holds, otherwise) {
 async function opened() {
   const context = vm.createContext({ WebAssembly, module: {} });
   vm.runInContext(element("bench-code"), context);
-  expect(WebAssembly.Module.imports(new WebAssembly.Module(library)).length === 0, "the library imports something");
+  const compiled = new WebAssembly.Module(library);
+  expect(WebAssembly.Module.imports(compiled).length === 0, "the library imports something");
+  expect(!WebAssembly.Module.exports(compiled).some(({ name }) => name.startsWith("rapid")), "the page can make a raw call");
   return context.module.exports.openBench(library);
 }
 

@@ -83,6 +83,7 @@ async function openBench(library) {
       }
       return data;
     },
+    valueOf: (datum, value) => (datum.isBool ? sentence(calls.truth_name(value)) : String(value)),
     limits: { depth: calls.depth_limit(), room: calls.output_room(), inputs: calls.input_room(), version: calls.version() },
   };
 }

@@ -1,11 +1,9 @@
 "use strict";
 // The module's data at a step, by their names. What differs from what was shown before is marked.
 
-function makeData() {
+function makeData(bench) {
   const panel = document.getElementById("values"), table = document.getElementById("data");
   let before = null;
-
-  const shown = (datum, value) => (datum.isBool ? (value ? "TRUE" : "FALSE") : String(value));
 
   // each word with its index, where the name is an array's
   function valuesOf(datum, values) {
@@ -13,7 +11,7 @@ function makeData() {
     for (let i = 0; i < datum.words; i++) {
       const item = document.createElement("span"), index = document.createElement("small");
       if (datum.isArray) index.textContent = i + 1;
-      item.append(index, shown(datum, values[datum.first + i]));
+      item.append(index, bench.valueOf(datum, values[datum.first + i]));
       item.classList.toggle("new", before !== null && before[datum.first + i] !== values[datum.first + i]);
       cell.append(item);
     }

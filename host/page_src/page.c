@@ -100,6 +100,8 @@ SHOWN(uint32_t, reason)(uint32_t length, uint32_t refusal, uint32_t offset) {
     return n;
 }
 
+SHOWN(uint32_t, truth_name)(uint32_t value) { return said(value ? "TRUE" : "FALSE"); }
+
 SHOWN(uint32_t, kind_name)(uint32_t kind) {
     static const char *const kinds[] = {"name", "reserved word", "number", "string", "sign"};
     return said(kind < sizeof kinds / sizeof *kinds ? kinds[kind] : NULL);

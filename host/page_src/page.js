@@ -18,7 +18,7 @@ async function openPage() {
   const settings = makeSettings(bench.limits, files.kept().settings, () => { keep(); check(); });
   const message = makeMessage((place) => (accepted ? editor.reveal(place) : editor.select(place)));
   const screen = makeScreen(answered);
-  const data = makeData();
+  const data = makeData(bench);
   const steps = makeSteps({
     run: () => (running ? runner.stop() : runAll()),
     first: () => stepTo(0),
