@@ -306,10 +306,11 @@ static inline const struct step *while_test(struct machine *m, const struct step
 static inline int goes_on(int32_t value, struct limit limit) { return limit.step >= 0 ? value <= limit.end : value >= limit.end; }
 
 static inline const struct step *for_head(struct machine *m, const struct step *s) {
-    struct limit limit = {0, 1};
+    struct limit limit;
     int32_t start;
     if (!worked_out(m, s->arguments[0], &start) || !worked_out(m, s->arguments[1], &limit.end))
         return NULL;
+    limit.step = start > limit.end ? -1 : 1;
     if (s->arguments[2] && !worked_out(m, s->arguments[2], &limit.step))
         return NULL;
     m->words[s->word] = start;

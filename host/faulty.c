@@ -1,15 +1,78 @@
 /* The proved call with a fault put around it, for tools/faults: what the comparisons must find. FAULT is its number. */
 #include "rapid.h"
 
+#include <string.h>
+#include <strings.h>
+
 /* the proved rapid_run, renamed */
 uint32_t proved_run(const uint8_t *text, size_t text_length, uint32_t steps, uint32_t depth, const uint8_t *inputs, size_t inputs_length, uint8_t *output, size_t output_length,
                     uint8_t *code, size_t code_length, uint8_t *values, size_t values_length, uint8_t *record, size_t record_length);
 
-enum { READS_PAST_TEXT = 1, WRITES_PAST_OUTPUT, WRITES_PAST_COUNT, LEAVES_CODE, WRITES_BEYOND_STORE, WRITES_PAST_RECORD, WRITES_TEXT, COUNTS_WRONG, ASKS_OLD_MEMORY, TAKES_LESS_DEPTH, CHANGES_OUTPUT };
+enum { READS_PAST_TEXT = 1, WRITES_PAST_OUTPUT, WRITES_PAST_COUNT, LEAVES_CODE, WRITES_BEYOND_STORE, WRITES_PAST_RECORD, WRITES_TEXT, COUNTS_WRONG, ASKS_OLD_MEMORY, TAKES_LESS_DEPTH, CHANGES_OUTPUT, NEVER_TURNS };
 
 static size_t written(const uint8_t *record) { return record[40] | (size_t)record[41] << 8 | (size_t)record[42] << 16; }
 
 static volatile int seen;
+
+/* ---- NEVER_TURNS: a FOR without STEP only goes up, in modules whose main returns. */
+enum { MOST_OUTPUT = 65536 };
+static const char STEP_UP[] = "STEP 1 ";
+
+static int is_letter(uint8_t c) { return (c | 32) >= 'a' && (c | 32) <= 'z'; }
+
+static int in_name(uint8_t c) { return is_letter(c) || (c >= '0' && c <= '9') || c == '_'; }
+
+/* How many bytes the name, string, comment or other byte at the front takes. */
+static size_t piece(const uint8_t *text, size_t length) {
+    size_t n = 1;
+    if (is_letter(*text))
+        while (n < length && in_name(text[n]))
+            n++;
+    else if (*text == '"' || *text == '!') {
+        uint8_t last = *text == '"' ? '"' : '\n';
+        while (n < length && text[n] != last)
+            n++;
+        n += n < length;
+    }
+    return n;
+}
+
+static int is(const uint8_t *word, size_t length, const char *name) { return length == strlen(name) && strncasecmp((const char *)word, name, length) == 0; }
+
+/* The text with STEP 1 written out in each FOR that has no STEP; its length, 0 where it is too long. */
+static size_t stepped(const uint8_t *text, size_t length, uint8_t *to) {
+    size_t n = 0, written = 0;
+    int in_head = 0;
+    for (size_t i = 0; i < length; i += n) {
+        n = piece(text + i, length - i);
+        if (written + n + sizeof STEP_UP > RAPID_TEXT_LIMIT)
+            return 0;
+        if (in_head && is(text + i, n, "DO")) {
+            memcpy(to + written, STEP_UP, sizeof STEP_UP - 1);
+            written += sizeof STEP_UP - 1;
+        }
+        in_head = is(text + i, n, "FOR") || (in_head && !is(text + i, n, "STEP") && !is(text + i, n, "DO"));
+        memcpy(to + written, text + i, n);
+        written += n;
+    }
+    return written;
+}
+
+/* Puts a text in place of the lent one, where main returns with both. */
+static void never_turning(const uint8_t **text, size_t *length, uint32_t steps, uint32_t depth, const uint8_t *inputs, size_t inputs_length, size_t room) {
+    static uint8_t other[RAPID_TEXT_LIMIT], output[MOST_OUTPUT], code[RAPID_STORE_BYTES], values[RAPID_STORE_BYTES], record[RAPID_RECORD_BYTES];
+    size_t n = room <= MOST_OUTPUT ? stepped(*text, *length, other) : 0;
+    if (!n)
+        return;
+    proved_run(*text, *length, steps, depth, inputs, inputs_length, output, room, code, sizeof code, values, sizeof values, record, sizeof record);
+    if (record[0] != RAPID_RETURNED)
+        return;
+    proved_run(other, n, steps, depth, inputs, inputs_length, output, room, code, sizeof code, values, sizeof values, record, sizeof record);
+    if (record[0] != RAPID_RETURNED)
+        return;
+    *text = other;
+    *length = n;
+}
 
 uint32_t rapid_run(const uint8_t *text, size_t text_length, uint32_t steps, uint32_t depth, const uint8_t *inputs, size_t inputs_length, uint8_t *output, size_t output_length, uint8_t *code,
                    size_t code_length, uint8_t *values, size_t values_length, uint8_t *record, size_t record_length) {
@@ -18,6 +81,8 @@ uint32_t rapid_run(const uint8_t *text, size_t text_length, uint32_t steps, uint
         seen = 1;
     if (FAULT == TAKES_LESS_DEPTH && steps > 100 && depth > 1)
         depth--;
+    if (FAULT == NEVER_TURNS)
+        never_turning(&text, &text_length, steps, depth, inputs, inputs_length, output_length);
     uint32_t returned = proved_run(text, text_length, steps, depth, inputs, inputs_length, output, output_length, code, code_length, values, values_length, record, record_length);
     if (!returned)
         return 0;

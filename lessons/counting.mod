@@ -10,7 +10,7 @@ ENDFOR
 FOR i FROM 10 TO 1 STEP -4 DO
 TPWrite "down " \Num:=i;
 ENDFOR
-FOR i FROM 5 TO 4 DO
+FOR i FROM 5 TO 4 STEP 1 DO
 TPWrite "never";
 ENDFOR
 ENDPROC

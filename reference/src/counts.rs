@@ -12,6 +12,7 @@ pub enum Event {
     WhileTest,
     WhileRound,
     ForHead,
+    ForTurned,
     ForRound,
     LoopInLoop,
     Call,
@@ -44,7 +45,7 @@ pub enum Event {
     LoopInError,
 }
 
-const NAMES: [&str; 39] = [
+const NAMES: [&str; 40] = [
     "assignment",
     "element of an array stored",
     "line written",
@@ -54,6 +55,7 @@ const NAMES: [&str; 39] = [
     "WHILE test",
     "WHILE round",
     "FOR head",
+    "FOR head without STEP that counts down",
     "FOR round",
     "loop entered in a loop (a WHILE at each round)",
     "call",

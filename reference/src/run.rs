@@ -610,7 +610,7 @@ impl<'m> Machine<'m> {
         let last = self.evaluate(&counted.to)?;
         let step = match &counted.step {
             Some(step) => self.evaluate(step)?,
-            None => 1,
+            None => self.unwritten_step(start, last),
         };
         let Meaning::Local { slot: variable, .. } = counted.variable.meaning else {
             unreachable!("a FOR variable is a word of its routine");
@@ -632,6 +632,16 @@ impl<'m> Machine<'m> {
             self.level().at += 1;
         }
         Ok(())
+    }
+
+    /// Request 1: without STEP a FOR goes up, but down from a start above its end.
+    fn unwritten_step(&mut self, start: i64, last: i64) -> i64 {
+        if start > last {
+            self.counts.add(Event::ForTurned);
+            -1
+        } else {
+            1
+        }
     }
 
     /// A later FOR test.

@@ -16,6 +16,7 @@ fn valid_modules_are_accepted() {
         (3_000, Kind::Valid, Size::Short),
         (100, Kind::Valid, Size::Long),
         (500, Kind::Courses, Size::Short),
+        (3_000, Kind::Counting, Size::Short),
     ] {
         for line in lines(7, count, kind, size) {
             let answer = answer_line(&line);
@@ -55,7 +56,7 @@ fn the_same_seed_gives_the_same_lines() {
 #[test]
 fn every_line_is_a_case_line() {
     for name in [
-        "valid", "courses", "mistyped", "words", "bytes", "limits", "listing", "all",
+        "valid", "courses", "counting", "mistyped", "words", "bytes", "limits", "listing", "all",
     ] {
         let kind = Kind::named(name).expect("a kind of cases");
         for (count, size) in [(1_000, Size::Short), (20, Size::Long)] {

@@ -118,7 +118,7 @@ module _ (P : Program) where
     unfolding onTop
     top-state f = ap (λ cs. elim cs [ [] ↦ s | d ∷ q ↦ withCalls (f d ∷ q) s ]) live
 
-    step-made : (a : Action) (s′ : State) → nextStep P c .does ≡ a → perform P R c r (nextStep P c .place) (nextStep P c .after) a s ≡ made s′ → takeStep P R s ≡ goesOn (counted s′)
+    pub step-made : (a : Action) (s′ : State) → nextStep P c .does ≡ a → perform P R c r (nextStep P c .place) (nextStep P c .after) a s ≡ made s′ → takeStep P R s ≡ goesOn (counted s′)
     unfolding settled
     step-made a s′ d e =
         step-from R s (c ∷ r) live

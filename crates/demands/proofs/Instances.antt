@@ -1,5 +1,6 @@
 -- No demand holds for want of cases: instances, which antt computes.
 use mathlib.Core.Path.{_≡_, refl}
+use mathlib.Core.Bool.{true, false}
 use mathlib.Core.List.{List, [], _∷_, _++_, map}
 use Prim.Native.Nat.{ℕ, zero, suc, _+_, _≤_}
 use native.Mathlib.Omega.{arith}
@@ -13,14 +14,14 @@ use Rattle.paper.specs.Expressions.{got, expr}
 use Rattle.paper.specs.Names.{sortIn}
 use Rattle.paper.specs.Steps.{Program}
 use Rattle.paper.specs.States.{State, Rooms}
-use Rattle.paper.specs.Running.{goesOn, stopped, takeStep, nextPlace, started}
+use Rattle.paper.specs.Running.{passes, countingStep, goesOn, stopped, takeStep, nextPlace, started}
 use Rattle.paper.specs.Computing.{computed}
 use Rattle.paper.specs.Examples.{row, asking, fields, lines, tray, moduleOf, slips}
 use Rattle.paper.specs.Answer.{storeWords, depthLimit, refusedBy, accepted, verdict, Lent, answer}
 use Rattle.demands.proofs.MoreRoom.{demand-3}
 use Rattle.demands.proofs.Alls.{all-map}
 use Rattle.demands.specs.Vocabulary.{All, nothing, _also_}
-use Rattle.demands.specs.Demands.{MoreRoom, told, NeverChanged, Demand3}
+use Rattle.demands.specs.Demands.{MoreRoom, told, NeverChanged, Demand3, loopBetween, valueAfter}
 
 -- ---- Demand 1: each ending of the table, 0 to 8.
 -- A text with the smallest stores.
@@ -156,3 +157,23 @@ not-door-and-ready = refl
 pub minus-product-plus : expr (λ i. getD (minusSign ∷ NAME ∷ times ∷ NAME ∷ plus ∷ NAME ∷ []) i 0) 0 ≡ got (joined 4 (signed 0 (joined 2 (leaf 1) (leaf 3))) (leaf 5), 6)
 unfolding computed
 minus-product-plus = refl
+
+-- ---- The lesson on FOR without STEP
+-- From 3 to 1 the step is -1 and the values are 3, 2, 1; 0 does not pass. From 2 to 2 it is 1.
+pub down-from-3 : map (λ (j : ℕ). valueAfter (pos 3) (countingStep (pos 3) (pos 1)) j) (0 ∷ 1 ∷ 2 ∷ 3 ∷ []) ≡ pos 3 ∷ pos 2 ∷ pos 1 ∷ pos 0 ∷ []
+unfolding computed valueAfter
+down-from-3 = refl
+
+pub three-pass : map (λ (z : ℤ). passes z (loopBetween (pos 3) (pos 1))) (pos 3 ∷ pos 2 ∷ pos 1 ∷ pos 0 ∷ []) ≡ true ∷ true ∷ true ∷ false ∷ []
+unfolding computed
+three-pass = refl
+
+pub once-at-2 : countingStep (pos 2) (pos 2) ≡ pos 1
+unfolding computed
+once-at-2 = refl
+
+-- A whole run: FOR at 38, the body at 59, three times; later tests are at FOR too; then main's end at 83.
+pub three-rounds : traceOf (lines (moduleOf ("VAR num n;" ∷ []) ("FOR i FROM 3 TO 1 DO" ∷ "n := n * 10 + i;" ∷ "ENDFOR" ∷ []))) []
+    ≡ (1, 38) ∷ (1, 59) ∷ (1, 38) ∷ (1, 59) ∷ (1, 38) ∷ (1, 59) ∷ (1, 38) ∷ (1, 83) ∷ []
+unfolding computed trace traceOf lines moduleOf
+three-rounds = refl

@@ -6,6 +6,7 @@ pub mod Growing
 pub mod Runs
 pub mod MoreRoom
 pub mod Calls
+pub mod Counting
 pub mod Signs
 pub mod Parsing
 pub mod Faults

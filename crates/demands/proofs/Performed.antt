@@ -204,10 +204,10 @@ module _ (P : Program) (R : Rooms) (c : Call) (r : List Call) (place onward : �
   values-done M [] go f = f []
   values-done M (e ∷ es) go f = term-done M e _ (λ z. values-done M es (λ zs. go (z ∷ zs)) (λ zs. f (z ∷ zs)))
 
-  step-done : (M : Memory) (t : Option Term) (go : ℤ → Effect) → ((z : ℤ) → Does (go z)) → Does (withStep M t s go)
+  step-done : (M : Memory) (t : Option Term) (z y : ℤ) (go : ℤ → Effect) → ((x : ℤ) → Does (go x)) → Does (withStep M t z y s go)
   unfolding withStep
-  step-done M none go f = f _
-  step-done M (some e) go f = term-done M e go f
+  step-done M none z y go f = f _
+  step-done M (some e) z y go f = term-done M e go f
 
   -- ---- rooms
   room-done : (b : Bool) (e : Effect) (n at′ : ℕ) → Lacking a place n at′ → (b ≡ true → Does e) → Does (if b then e else lacking n at′)
@@ -274,7 +274,7 @@ module _ (P : Program) (R : Rooms) (c : Call) (r : List Call) (place onward : �
   entering-done : (M : Memory) (k : ℕ) (from to : Term) (step : Option Term) (body : ℕ) → Among body ways → Does (entering M k from to step body onward s)
   unfolding entering
   entering-done M k from to step body m =
-      term-done M from _ (λ z. term-done M to _ (λ y. step-done M step _ (λ x.
+      term-done M from _ (λ z. term-done M to _ (λ y. step-done M step z y _ (λ x.
       looping-done k z _ body _ m (changed-top R s (setLoop k _) s unchanged) (stays-top c r ways (setLoop k _) s (loop-stays k _) stays))))
 
   repeating-done : (M : Memory) (k body : ℕ) → Among body ways → Does (repeating M c k body onward s)

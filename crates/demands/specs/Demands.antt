@@ -1,22 +1,25 @@
 -- The demands on the bench, each with its own words.
 use mathlib.Core.Path.{_≡_}
-use mathlib.Core.Bool.{true}
+use mathlib.Core.Bool.{true, false}
 use mathlib.Core.List.{List, _∷_}
 use mathlib.Core.Option.{Option, none, some}
-use Prim.Native.Nat.{ℕ, _+_, _-_, _*_, _^_, _≤_, _<_}
+use Prim.Native.Nat.{ℕ, zero, suc, _+_, _-_, _*_, _^_, _≤_, _<_}
+use lib.Dec.{leb}
 use lib.ListN.{length, take, drop, replicate}
-use lib.IntN.{ℤ, pos}
+use lib.IntN.{ℤ, pos, negsuc, natAbs, _+ℤ_, _-ℤ_}
+use lib.Signed.{ltZ}
 use Rattle.paper.specs.Sorts.{NOT, AND}
 use Rattle.paper.specs.Words.{textLimit, Word, reading}
 use Rattle.paper.specs.Trees.{Expr, nested, signed, joined}
 use Rattle.paper.specs.Expressions.{Parser, got, parts, products, sums, relations, conjunctions, disjunctions, levelOf, standsBefore, chain, level}
-use Rattle.paper.specs.Terms.{unary, binary}
+use Rattle.paper.specs.Numbers.{value}
+use Rattle.paper.specs.Terms.{Term, unary, binary, worth}
 use Rattle.paper.specs.Names.{Scopes, sortIn}
 use Rattle.paper.specs.Types.{termOf}
 use Rattle.paper.specs.Declarations.{moduleWordLimit}
-use Rattle.paper.specs.Steps.{retry, tryNext, Program}
-use Rattle.paper.specs.States.{Location, Call, State, Rooms, failing, withCalls, withErrno, counted, goTo, setFailed}
-use Rattle.paper.specs.Running.{stepOf, nextStep, newCall, takeStep, goesOn, stopping}
+use Rattle.paper.specs.Steps.{retry, tryNext, enterFor, Program}
+use Rattle.paper.specs.States.{Loop, Location, Call, State, Rooms, failing, withCalls, withErrno, counted, goTo, setWord, setLoop, setFailed, onTop, memoryOf}
+use Rattle.paper.specs.Running.{stepOf, nextStep, newCall, passes, countingStep, takeStep, goesOn, stopping}
 use Rattle.paper.specs.Answer.{storeWords, depthLimit, recordSize, Record, recordBytes, Lent, Answer, answer, LentBytes, BytesAnswer, lentOf, pendantCall}
 use Rattle.demands.specs.Vocabulary.{Begins, All, IsByte, fieldIn, Errno, EndsWith, WordAt, effectOf, CallsRoutine, Waits, Taken, CallsAfter, Reached, Leads}
 
@@ -267,3 +270,35 @@ pub record NotLesson (W : List Word) (S : Scopes) (i j : ℕ) (a b : Expr) : Typ
 
 unfoldable pub ExpressionLesson : Type 0
 ExpressionLesson = ((W : ℕ → ℕ) (inner : Parser Expr) (at : ℕ) → SignLesson W inner at) × ((W : List Word) (S : Scopes) (i j : ℕ) (a b : Expr) → NotLesson W S i j a b)
+
+-- ---- Request 1, FOR without STEP: for all programs, states and numbers.
+
+-- The newest call c comes to the head of a FOR without STEP, whose start is worth z and whose end y.
+pub record HeadWithoutStep (P : Program) (s : State) (c : Call) (variable body : ℕ) (z y : ℤ) : Type 0 where
+  pub from : Term
+  pub to : Term
+  pub head : nextStep P c .does ≡ enterFor variable from to none body
+  pub start-worth : worth (memoryOf s c) from ≡ value z
+  pub end-worth : worth (memoryOf s c) to ≡ value y
+
+-- The loop from z to y without STEP.
+abbrev pub loopBetween : ℤ → ℤ → Loop
+loopBetween z y = record { end = y; step = countingStep z y }
+
+-- The values that a loop comes to: the start, then each "the exact sum of variable and step".
+unfoldable pub valueAfter : (z step : ℤ) → (rounds : ℕ) → ℤ
+valueAfter z x zero = z
+valueAfter z x (suc j) = valueAfter z x j +ℤ x
+
+pub record CountingLesson (z y : ℤ) : Type 0 where
+  -- "the step is 1 if the start isn't above the end, else -1"
+  pub up : ltZ y z ≡ false → countingStep z y ≡ pos 1
+  pub down : ltZ y z ≡ true → countingStep z y ≡ negsuc 0
+  -- A value passes exactly up to the end: there are as many rounds as start and end lie apart, and one. So the start always passes.
+  pub rounds : (j : ℕ) → passes (valueAfter z (countingStep z y) j) (loopBetween z y) ≡ leb j (natAbs (y -ℤ z))
+  -- The head begins the body with the start, and the step is the loop's from then on.
+  pub begins : (P : Program) (R : Rooms) (s : State) (c : Call) (r : List Call) (variable body : ℕ) → s .calls ≡ c ∷ r → HeadWithoutStep P s c variable body z y
+      → takeStep P R s ≡ goesOn (counted (onTop (goTo body) (onTop (setWord variable z) (onTop (setLoop variable (loopBetween z y)) s))))
+
+unfoldable pub Counting : Type 0
+Counting = (z y : ℤ) → CountingLesson z y

@@ -45,15 +45,15 @@ use Rattle.machine.proofs.Deciding.{stepsHere}
 use Rattle.loops.proofs.Looping.{word-goes}
 
 -- ---- the step, given or not
-step-as : (M : Memory) (c : Option Term) (s : State) (go : ℤ → Effect) → withStep M c s go ≡ withValue (stepWorth M c) s go
+step-as : (M : Memory) (c : Option Term) (z y : ℤ) (s : State) (go : ℤ → Effect) → withStep M c z y s go ≡ withValue (stepWorth M c z y) s go
 unfolding withStep stepWorth withValue
-step-as M none s go = refl
-step-as M (some e) s go = refl
+step-as M none z y s go = refl
+step-as M (some e) z y s go = refl
 
-step-error : (M : Memory) (c : Option Term) (e : ℕ) → stepWorth M c ≡ error e → e < errors
+step-error : (M : Memory) (c : Option Term) (z y : ℤ) (e : ℕ) → stepWorth M c z y ≡ error e → e < errors
 unfolding stepWorth
-step-error M none e q = apart (cc)
-step-error M (some t) e q = worth-error M t e q
+step-error M none z y e q = apart (cc)
+step-error M (some t) z y e q = worth-error M t e q
 
 module _ (code values : List ℕ) (base i t : ℕ) (q : Says code i aFor t) where
   module _ (h : Here code values base i) where
@@ -128,7 +128,7 @@ module _ (code values : List ℕ) (base i t : ℕ) (q : Says code i aFor t) wher
       enters-with a b c = looping t a (record { end = b; step = c }) (valueAt (wordsOf code) (enter .d)) (linkAt (wordsOf code) i) (onTop (setLoop t (record { end = b; step = c })) S)
 
       to-then : ℤ → ℤ → Effect
-      to-then a b = withValue (stepWorth M (enter .c)) S (enters-with a b)
+      to-then a b = withValue (stepWorth M (enter .c) a b) S (enters-with a b)
 
       from-then : ℤ → Effect
       from-then a = withValue (worth M (enter .to)) S (to-then a)
@@ -137,11 +137,11 @@ module _ (code values : List ℕ) (base i t : ℕ) (q : Says code i aFor t) wher
       unfolding perform entering from-then to-then enters-with
       enter-effect =
           effect-here code values base i h rooms steps out (linkAt (wordsOf code) i) (enterFor t (enter .from) (enter .to) (enter .c) (valueAt (wordsOf code) (enter .d))) (enter .after-is) does-is
-          ∙ ap (λ (f : (ℤ → Effect) → Effect). withValue (worth M (enter .from)) S (λ a. withValue (worth M (enter .to)) S (λ b. f (λ c.
+          ∙ ap (λ (f : ℤ → ℤ → (ℤ → Effect) → Effect). withValue (worth M (enter .from)) S (λ a. withValue (worth M (enter .to)) S (λ b. f a b (λ c.
           looping t a (record { end = b; step = c }) (valueAt (wordsOf code) (enter .d)) (linkAt (wordsOf code) i) (onTop (setLoop t (record { end = b; step = c })) S))))) steps-as
         where
-          steps-as : _≡_ {A = (ℤ → Effect) → Effect} (λ go. withStep M (enter .c) S go) (λ go. withValue (stepWorth M (enter .c)) S go)
-          steps-as j go = step-as M (enter .c) S go j
+          steps-as : _≡_ {A = ℤ → ℤ → (ℤ → Effect) → Effect} (λ a b go. withStep M (enter .c) a b S go) (λ a b go. withValue (stepWorth M (enter .c) a b) S go)
+          steps-as j a b go = step-as M (enter .c) a b S go j
 
   module _ (to : ℕ) (pt : Part halfEnd (linkAt (wordsOf code) (i + 2)) to) where
     from-reads : (h : Here code values base i) → termIn (m-here h) (n-here h) (wordsOf code) (i + 3) to ≡ some (enter h .from)
@@ -195,17 +195,20 @@ module _ (code values : List ℕ) (base i t : ℕ) (q : Says code i aFor t) wher
 
             module _ (kb : leZ (pos firstError) (read b) ≡ false) where
               to-given : (h : Here code values base i) (rooms : Rooms) (steps : ℕ) (out : List ℕ)
-                  → effectAt (h .P) (h .R) rooms (wordsOf values) (h .d) i steps out ≡ withValue (stepWorth (M h rooms steps out) (enter h .c)) (S h rooms steps out) (enters-with h rooms steps out a b)
+                  → effectAt (h .P) (h .R) rooms (wordsOf values) (h .d) i steps out ≡ withValue (stepWorth (M h rooms steps out) (enter h .c) a b) (S h rooms steps out) (enters-with h rooms steps out a b)
               unfolding withValue to-then
               to-given h rooms steps out =
                   from-given h rooms steps out ∙ ap (λ (y : Value). withValue y (S h rooms steps out) (to-then h rooms steps out a))
                   (value-here code values base i h rooms steps out (to + 1) s (enter h .to) (to-reads s ps h) b vb (told-value b sb kb))
 
-              module _ (c : ℤ) (sc : SFits w64 c) (vc : StepGiven code values base s c) where
-                step-worth : (h : Here code values base i) (rooms : Rooms) (steps : ℕ) (out : List ℕ) → stepWorth (M h rooms steps out) (enter h .c) ≡ decoded c
+              module _ (c : ℤ) (sc : SFits w64 c) (vr : StepGiven code values base s (read a) (read b) c) where
+                vc : StepGiven code values base s a b c
+                vc = let from : StepGiven code values base s a (read b) c = rw (toZ-ofZ sa) at vr in rw (toZ-ofZ sb) at from
+
+                step-worth : (h : Here code values base i) (rooms : Rooms) (steps : ℕ) (out : List ℕ) → stepWorth (M h rooms steps out) (enter h .c) a b ≡ decoded c
                 step-worth h rooms steps out =
-                    ap (λ (N : Memory). stepWorth N (enter h .c)) (memory-here code values base i h rooms steps out)
-                    ∙ sym (ap (λ (x : ℕ). stepWorth (memoryIn (m-here h) (n-here h) (wordsOf values) x) (enter h .c)) (h .base-is))
+                    ap (λ (N : Memory). stepWorth N (enter h .c) a b) (memory-here code values base i h rooms steps out)
+                    ∙ sym (ap (λ (x : ℕ). stepWorth (memoryIn (m-here h) (n-here h) (wordsOf values) x) (enter h .c) a b) (h .base-is))
                     ∙ sym (vc .is (counts-here code values base i h) (codeHere code values base i h .function) (h .text) (h .R) (enter h .c) (enter h .d)
                     (ap (forStep (m-here h) (n-here h) (codeHere code values base i h .function) (h .text) (h .R) (wordsOf code)) (s-is s ps) ∙ enter h .step))
 
@@ -215,7 +218,7 @@ module _ (code values : List ℕ) (base i t : ℕ) (q : Says code i aFor t) wher
                     let l = told-error c sc k in
                     rw (toZ-ofZ sc) (performs code values base i c (λ h rooms steps out.
                     let w = step-worth h rooms steps out ∙ is-error c l in
-                    fails (natAbs c - firstError) (error-is c l) (step-error (M h rooms steps out) (enter h .c) (natAbs c - firstError) w) (h .live)
+                    fails (natAbs c - firstError) (error-is c l) (step-error (M h rooms steps out) (enter h .c) a b (natAbs c - firstError) w) (h .live)
                     (to-given h rooms steps out ∙ ap (λ (y : Value). withValue y (S h rooms steps out) (enters-with h rooms steps out a b)) w)))
 
                 module _ (kc : leZ (pos firstError) (read c) ≡ false) where
@@ -230,7 +233,7 @@ module _ (code values : List ℕ) (base i t : ℕ) (q : Says code i aFor t) wher
                     from-value = rw (toZ-ofZ sa) (told-value a sa ka);
                     to-given = rw (toZ-ofZ sb) vb;
                     to-value = rw (toZ-ofZ sb) (told-value b sb kb);
-                    step-given = rw (toZ-ofZ sc) vc;
+                    step-given = rw (toZ-ofZ sc) vr;
                     step-value = rw (toZ-ofZ sc) (told-value c sc kc);
                   }
 
@@ -379,13 +382,16 @@ module _ (code values : List ℕ) (base i t s : ℕ) (a b c : ℤ) (g : Begins c
       word-inside = omega (arith, loop-inside, d1 .long, d2 .long)
 
       module _ (sa : SFits w64 a) (sb : SFits w64 b) (sc : SFits w64 c) (x : Bool) (ex : x ≡ passes (read a) (record { end = read b; step = read c })) where
+        step-read : StepGiven code values base s (read a) (read b) c
+        step-read = rw (toZ-ofZ sa, toZ-ofZ sb) (g .step-given)
+
         pub begin-skips : x ≡ false → (k : ℕ) → Part halfEnd (linkAt (wordsOf code) i) k → Performs code values v2 base i (toZ w64 k)
         begin-skips y k p =
             for-skips code values base i t (g .says) (g .to) (g .to-is) a sa (g .from-given) (untold a sa (g .from-value)) s (g .s-is) b sb (g .to-given) (untold b sb (g .to-value))
-            c sc (g .step-given) (untold c sc (g .step-value)) v1 v2 d1 d2 x ex y (g .here) k p
+            c sc step-read (untold c sc (g .step-value)) v1 v2 d1 d2 x ex y (g .here) k p
 
         pub begin-enters : x ≡ true → (v3 : List ℕ) → Stored v2 v3 (base + t) (read a) → (o : ℕ) → DoAt code s o → (k : ℕ) → Part valueEnd (valueAt (wordsOf code) o) k
             → Performs code values v3 base i (toZ w64 k)
         begin-enters y v3 d3 o po k p =
             for-enters code values base i t (g .says) (g .to) (g .to-is) a sa (g .from-given) (untold a sa (g .from-value)) s (g .s-is) b sb (g .to-given) (untold b sb (g .to-value))
-            c sc (g .step-given) (untold c sc (g .step-value)) v1 v2 d1 d2 x ex y (g .here) v3 d3 o po k p
+            c sc step-read (untold c sc (g .step-value)) v1 v2 d1 d2 x ex y (g .here) v3 d3 o po k p

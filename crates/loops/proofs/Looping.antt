@@ -2,6 +2,7 @@
 use mathlib.Core.Path.{_≡_, refl, sym, ap, ap₂, subst, _∙_}
 use mathlib.Core.Bool.{Bool, true, false, not}
 use mathlib.Core.List.{List, [], _++_}
+use mathlib.Core.Option.{Option}
 use Prim.Native.Nat.{ℕ, zero, suc, _+_, _-_, _*_, _/_, _%_, _<_, _≤_}
 use native.Mathlib.Omega.{arith}
 use lib.Dec.{ltb}
@@ -16,10 +17,11 @@ use mir.ValLaws.{toZ-pos}
 use borrow.Author.Tests.{ltb-false, le-ltb, not-true}
 use Rattle.laws.proofs.Tests.{false-true}
 use Rattle.paper.specs.Basics.{if_then_else_}
-use Rattle.paper.specs.Terms.{ofRoutine, Memory, load}
+use Rattle.paper.specs.Numbers.{value}
+use Rattle.paper.specs.Terms.{ofRoutine, Term, Memory, load}
 use Rattle.paper.specs.Steps.{Program, Action, repeatFor}
 use Rattle.paper.specs.States.{Loop, Rooms, Effect, made, goTo, setWord, onTop, memoryOf}
-use Rattle.paper.specs.Running.{idle, passes, looping, repeating, perform}
+use Rattle.paper.specs.Running.{idle, passes, looping, countingStep, repeating, perform}
 use Rattle.cells.specs.Words.{wordsOf}
 use Rattle.numbers.proofs.Whole.{read, sub-cases}
 use Rattle.code.specs.Cells.{headAt, opAt, valueAt, linkAt, windowOf}
@@ -28,7 +30,7 @@ use Rattle.code.specs.Steps.{Head, parts, aForTest, aStep}
 use Rattle.code.specs.Closed.{isNamed, Named, targetsOf, LoopFits}
 use Rattle.code.specs.Windows.{endsCell, stepsCell, loopsFrom, callIn, stateIn}
 use Rattle.layout.specs.Answers.{answers}
-use Rattle.evaluation.specs.Answers.{Stands, Evaluated}
+use Rattle.evaluation.specs.Answers.{firstError, Stands, Evaluated}
 use Rattle.evaluation.specs.Answers as answers
 use Rattle.evaluation.proofs.Places.{link-in}
 use Rattle.evaluation.proofs.Numbers.{is-value}
@@ -84,21 +86,37 @@ module _ (code : List ℕ) (s w : ℕ) (ew : w ≡ headAt (wordsOf code) s) wher
           let g = given-step (f .c .m) (f .c .n) (f .function) (f .text) (f .R) (wordsOf code) s (f .step) (f .d) (f .is) (sym op-is ∙ k) in
           record { c = f .c; t = g .e; is = ap (termIn (f .c .m) (f .c .n) (wordsOf code) (s + 1)) (p .same) ∙ g .reads; whole = f .whole }
 
-      pub step-given : (r : ℤ) → SFits w64 r → Evaluated code values base (s + 1) t r → StepGiven code values base s (read r)
+      pub step-given : (a b r : ℤ) → SFits w64 r → Evaluated code values base (s + 1) t r → StepGiven code values base s a b (read r)
       unfolding stepWorth
-      step-given r sr v = rw (toZ-ofZ sr) (record {
+      step-given a b r sr v = rw (toZ-ofZ sr) (record {
         small = v .small;
         is = λ c function text R step d e.
             let g = given-step (c .m) (c .n) function text R (wordsOf code) s step d e (sym op-is ∙ k) in
-            v .is c (g .e) (ap (termIn (c .m) (c .n) (wordsOf code) (s + 1)) (p .same) ∙ g .reads) ∙ ap (stepWorth (answers.memoryOf c values base)) (sym (g .is));
+            v .is c (g .e) (ap (termIn (c .m) (c .n) (wordsOf code) (s + 1)) (p .same) ∙ g .reads) ∙ ap (λ (o : Option Term). stepWorth (answers.memoryOf c values base) o a b) (sym (g .is));
       })
 
-    pub step-one : (w % 256 ≡ aStep → ⊥) → StepGiven code values base s (pos 1)
-    unfolding stepWorth
-    step-one k = record {
-      small = λ q. record { sfits = omega arith };
-      is = λ c function text R step d e. is-value (pos 1) refl ∙ ap (stepWorth (answers.memoryOf c values base)) (sym (no-step (c .m) (c .n) function text R (wordsOf code) s step d e (λ z. k (op-is ∙ z)) .is));
-    }
+    module _ (k : w % 256 ≡ aStep → ⊥) (a b : ℤ) where
+      -- without STEP
+      step-chosen : (r : ℤ) → countingStep a b ≡ r → SFits w32 r → ltZ r (pos firstError) ≡ true → StepGiven code values base s a b r
+      unfolding stepWorth
+      step-chosen r q f l = record {
+        small = λ h. f;
+        is = λ c function text R step d e.
+            is-value r l ∙ ap value (sym q)
+            ∙ ap (λ (o : Option Term). stepWorth (answers.memoryOf c values base) o a b) (sym (no-step (c .m) (c .n) function text R (wordsOf code) s step d e (λ z. k (op-is ∙ z)) .is));
+      }
+
+      module _ (sa : SFits w64 a) (sb : SFits w64 b) where
+        chosen : (y : Bool) → ltZ (read b) (read a) ≡ y → ltZ b a ≡ y
+        chosen y h = ap₂ ltZ (sym (toZ-ofZ sb)) (sym (toZ-ofZ sa)) ∙ h
+
+        pub step-down : ltZ (read b) (read a) ≡ true → StepGiven code values base s a b (negsuc 0)
+        unfolding countingStep
+        step-down h = step-chosen (negsuc 0) (rw (chosen true h, countingStep)) (record { sfits = omega arith }) refl
+
+        pub step-up : ltZ (read b) (read a) ≡ false → StepGiven code values base s a b (pos 1)
+        unfolding countingStep
+        step-up h = step-chosen (pos 1) (rw (chosen false h, countingStep)) (record { sfits = omega arith }) refl
 
 -- ---- the loop at a word of a call
 module _ (P : Program) (R : List Head) (X : List ℕ) (base : ℕ) where

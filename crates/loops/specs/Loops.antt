@@ -9,6 +9,7 @@ use lib.IntN.{ℤ, pos}
 use lib.Signed.{ltZ}
 use Rattle.paper.specs.Numbers.{Value, value}
 use Rattle.paper.specs.Terms.{Term, Memory, worth}
+use Rattle.paper.specs.Running.{countingStep}
 use Rattle.cells.specs.Words.{wordsOf}
 use Rattle.code.specs.Cells.{linkAt}
 use Rattle.code.specs.Steps.{Head, aFor, forStep}
@@ -28,15 +29,15 @@ pub record ForSteps (code : List ℕ) (s : ℕ) : Type 0 where
   pub inside : s * 8 + 8 ≤ length code
   pub whole : length code % 8 ≡ 0
 
--- "Without STEP the step is 1."
-unfoldable pub stepWorth : Memory → Option Term → Value
-stepWorth M none = value (pos 1)
-stepWorth M (some e) = worth M e
+-- What the step is worth in a FOR from z to y.
+unfoldable pub stepWorth : Memory → Option Term → (z y : ℤ) → Value
+stepWorth M none z y = value (countingStep z y)
+stepWorth M (some e) z y = worth M e
 
--- r is what the step is worth.
-pub record StepGiven (code values : List ℕ) (base s : ℕ) (r : ℤ) : Type 0 where
+-- r is what the step is worth in a FOR from a to b.
+pub record StepGiven (code values : List ℕ) (base s : ℕ) (a b r : ℤ) : Type 0 where
   pub is : (c : Counts) (function : Bool) (text : List ℕ) (R : List Head) (step : Option Term) (d : ℕ)
-      → forStep (c .m) (c .n) function text R (wordsOf code) s ≡ some (step, d) → decoded r ≡ stepWorth (memoryOf c values base) step
+      → forStep (c .m) (c .n) function text R (wordsOf code) s ≡ some (step, d) → decoded r ≡ stepWorth (memoryOf c values base) step a b
   pub small : Small r
 
 -- r is the DO.
@@ -55,5 +56,5 @@ pub record Begins (code values : List ℕ) (base i t s : ℕ) (a b c : ℤ) : Ty
   pub from-value : ltZ a (pos firstError) ≡ true
   pub to-given : Evaluated code values base (to + 1) s b
   pub to-value : ltZ b (pos firstError) ≡ true
-  pub step-given : StepGiven code values base s c
+  pub step-given : StepGiven code values base s a b c
   pub step-value : ltZ c (pos firstError) ≡ true

@@ -42,13 +42,16 @@ pub fn for_test<'a>(code: &'a [u8], values: &'a mut [u8], base: usize, i: usize,
     link(code, t / parts::LOOPS) as i64
 }
 
-// What the step of a FOR is worth whose STEP or DO is at s: without STEP it is 1.
-fn step_of<'a>(code: &'a [u8], values: &'a [u8], base: usize, s: usize) -> i64
+// What the step of a FOR from a to b is worth whose STEP or DO is at s. "Without STEP, the step is 1 if the start isn't above the end, else -1."
+fn step_of<'a>(code: &'a [u8], values: &'a [u8], base: usize, s: usize, a: i64, b: i64) -> i64
     requires { ⌜ Stores (now values) base × ForSteps (now code) s ⌝ }
-    ensures { λ r. ⌜ StepGiven (now (code .entry)) (now (values .entry)) base s r ⌝ }
+    ensures { λ r. ⌜ StepGiven (now (code .entry)) (now (values .entry)) base s a b r ⌝ }
 {
     if head(code, s) % parts::VALUE == ops::STEP {
         return worth(&*code, &*values, base, s + 1, link(code, s));
+    }
+    if b < a {
+        return -1;
     }
     1
 }
@@ -79,7 +82,7 @@ pub fn enter_for<'a>(code: &'a [u8], values: &'a mut [u8], base: usize, i: usize
     if FIRST_ERROR <= b {
         return b;
     }
-    let c = step_of(&*code, &*values, base, s);
+    let c = step_of(&*code, &*values, base, s, a, b);
     if FIRST_ERROR <= c {
         return c;
     }

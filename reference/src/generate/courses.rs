@@ -300,6 +300,7 @@ impl Course<'_> {
             "1 TO 5",
             "1 TO size",
             "4 TO 1 STEP - 1",
+            "4 TO 1",
             "1 TO 7 STEP 2",
             "1 TO v",
             "u TO u + 3",

@@ -2,6 +2,7 @@
 
 mod author;
 mod chains;
+mod counting;
 mod courses;
 mod damage;
 mod layout;
@@ -24,6 +25,7 @@ const STORE_WORDS: u64 = 16_384;
 pub enum Kind {
     Valid,
     Courses,
+    Counting,
     Mistyped,
     Words,
     Bytes,
@@ -37,6 +39,7 @@ impl Kind {
         Some(match name {
             "valid" => Kind::Valid,
             "courses" => Kind::Courses,
+            "counting" => Kind::Counting,
             "mistyped" => Kind::Mistyped,
             "words" => Kind::Words,
             "bytes" => Kind::Bytes,
@@ -119,6 +122,7 @@ fn case_line(random: &mut Random, kind: Kind, size: Size) -> String {
         Kind::Listing => listing_line(random, size),
         Kind::Limits => show_run(&limits::limit_case(random, size)),
         Kind::Courses => show_run(&course_case(random)),
+        Kind::Counting => show_run(&counting_case(random)),
         _ => {
             let text = text_of(random, kind, size);
             show_run(&lend(random, text))
@@ -127,15 +131,16 @@ fn case_line(random: &mut Random, kind: Kind, size: Size) -> String {
 }
 
 fn mixed_line(random: &mut Random, size: Size) -> String {
-    const KINDS: [Kind; 6] = [
+    const KINDS: [Kind; 7] = [
         Kind::Valid,
+        Kind::Counting,
         Kind::Mistyped,
         Kind::Words,
         Kind::Bytes,
         Kind::Limits,
         Kind::Listing,
     ];
-    let kind = KINDS[random.weighted(&[35, 22, 10, 10, 15, 8])];
+    let kind = KINDS[random.weighted(&[30, 5, 22, 10, 10, 15, 8])];
     case_line(random, kind, size)
 }
 
@@ -178,6 +183,18 @@ fn course_case(random: &mut Random) -> Lent {
     }
     lent.inputs
         .extend((0..random.below(40)).map(|_| random.below(20) as i32));
+    lent
+}
+
+/// A module of loops, with steps for most of them.
+fn counting_case(random: &mut Random) -> Lent {
+    let words = counting::counting(random);
+    let text = write_out(random, &words);
+    let mut lent = lend(random, text);
+    if random.chance(90) {
+        lent.steps = random.between(50, 500) as u32;
+        lent.depth = lent.depth.max(2);
+    }
     lent
 }
 

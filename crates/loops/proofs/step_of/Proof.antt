@@ -1,7 +1,7 @@
 use borrow.Author.Needs.{needs}
 use Rattle.loops.proofs.step_of.Statement.{statement}
 use Rattle.loops.proofs.step_of.Tie as tie
-use Rattle.loops.proofs.Looping.{step-stands, step-given, step-one}
+use Rattle.loops.proofs.Looping.{step-stands, step-given, step-down, step-up}
 
 head-requires : tie.Need-head-requires
 head-requires c κs = search needs
@@ -19,8 +19,11 @@ returns : tie.Need-returns
 returns c = search (needs, step-given)
 
 returns-2 : tie.Need-returns-2
-returns-2 c = search (needs, step-one)
+returns-2 c = search (needs, step-down)
+
+returns-3 : tie.Need-returns-3
+returns-3 c = search (needs, step-up)
 
 pub step-of-spec : {M : Type 1} → statement M
 step-of-spec =
-    tie.close (tie.spec head-requires add-worth link-requires worth-requires returns returns-2)
+    tie.close (tie.spec head-requires add-worth link-requires worth-requires returns returns-2 returns-3)
