@@ -1,0 +1,4 @@
+pub mod Equations
+pub mod Coming
+pub mod Enough
+pub mod Run
