@@ -14,6 +14,7 @@ use Rattle.layout.specs.Answers.{firstError, entered, left, ended, lackedBy, ha
 use Rattle.machine.specs.Live.{Live}
 use Rattle.machine.specs.Machine.{Comes, goesOn, enters, leaves, fails, hands, ends, lacks}
 use Rattle.machine.proofs.States.{depth-is}
+use Rattle.unique.proofs.Showing.{OneState, one-state}
 
 -- ---- states
 -- The step that the newest of these calls makes next.
@@ -31,6 +32,12 @@ module _ (P : Program) (R : List Head) (steps : ℕ) (X X′ out out′ : List �
   pub same-next : n ≡ n′
   unfolding stateIn callIn nextOf
   same-next = ap (λ (s : State). nextOf (s .calls)) same
+
+  pub meet : Live P R X e n → Live P R X′ e′ n′ → OneState P R e n steps X out X′ out′
+  meet x y =
+      let there : stateIn P R X e n steps out ≡ stateIn P R X′ e n steps out′ = rw (← same-depth, ← same-next) at same in
+      let lives : Live P R X′ e n = rw (same-depth, same-next) y in
+      one-state P R e n steps X out X′ out′ x lives there
 
 -- ---- answers
 -- Where a step leads that is made by the call with d callers: the newest call has e callers then, and n is its next step.
@@ -105,15 +112,15 @@ Suffices (lacking n at) = ⊥
 module _ (P : Program) (R : List Head) (C : List ℕ) (d i steps : ℕ) (X out X₁ out₁ : List ℕ) (r : ℤ) (X₂ out₂ : List ℕ) (s : ℤ) where
   pub data Agrees : Type 0 where
     -- it is made: one answer, and one state of the run, which the answer leads to
-    moved : (e n : ℕ) → r ≡ s → Leads d r e n → Live P R X₁ e n → Live P R X₂ e n → stateIn P R X₁ e n steps out₁ ≡ stateIn P R X₂ e n steps out₂ → Agrees
+    moved : (e n : ℕ) → r ≡ s → Leads d r e n → OneState P R e n steps X₁ out₁ X₂ out₂ → Agrees
     -- it fails: one error, and one state in which it arises
-    failed : (error : ℕ) → r ≡ s → r ≡ pos (firstError + error) → Live P R X₁ d i → Live P R X₂ d i → stateIn P R X₁ d i steps out₁ ≡ stateIn P R X₂ d i steps out₂ → Agrees
+    failed : (error : ℕ) → r ≡ s → r ≡ pos (firstError + error) → OneState P R d i steps X₁ out₁ X₂ out₂ → Agrees
     -- it ends the run, or hands an error on: one answer, and nothing is touched
     kept : r ≡ s → X₁ ≡ X → X₂ ≡ X → out₁ ≡ out → out₂ ≡ out → Agrees
 
   pub answer-of : Agrees → r ≡ s
-  answer-of (moved e n a b l m c) = a
-  answer-of (failed e a b l m c) = a
+  answer-of (moved e n a b c) = a
+  answer-of (failed e a b c) = a
   answer-of (kept a x y o p) = a
 
   -- Or it lacks room, and nothing is touched. The words that the two answers name may be two, but their place is one.
@@ -125,13 +132,12 @@ module _ (P : Program) (R : List Head) (C : List ℕ) (d i steps : ℕ) (X out X
     moves-agree : (S : State) → Moves P R C offset d i steps X out X₁ out₁ r S → Moves P R C offset d i steps X out X₂ out₂ s S → Agrees
     moves-agree S p q =
         let state : stateIn P R X₁ (p .e) (p .n) steps out₁ ≡ stateIn P R X₂ (q .e) (q .n) steps out₂ = sym (p .state) ∙ q .state in
-        let depth : q .e ≡ p .e = sym (same-depth P R steps X₁ X₂ out₁ out₂ (p .e) (p .n) (q .e) (q .n) state) in
-        let next : q .n ≡ p .n = sym (same-next P R steps X₁ X₂ out₁ out₂ (p .e) (p .n) (q .e) (q .n) state) in
+        let depth : p .e ≡ q .e = same-depth P R steps X₁ X₂ out₁ out₂ (p .e) (p .n) (q .e) (q .n) state in
+        let next : p .n ≡ q .n = same-next P R steps X₁ X₂ out₁ out₂ (p .e) (p .n) (q .e) (q .n) state in
         moved (p .e) (p .n)
-        (one-answer d (p .e) (p .n) r s (p .leads) (subst (λ (n : ℕ). Leads d s (p .e) n) next (subst (λ (e : ℕ). Leads d s e (q .n)) depth (q .leads))))
-        (p .leads) (p .live)
-        (subst (λ (n : ℕ). Live P R X₂ (p .e) n) next (subst (λ (e : ℕ). Live P R X₂ e (q .n)) depth (q .live)))
-        (state ∙ ap (λ (e : ℕ). stateIn P R X₂ e (q .n) steps out₂) depth ∙ ap (λ (n : ℕ). stateIn P R X₂ (p .e) n steps out₂) next)
+        (one-answer d (p .e) (p .n) r s (p .leads) (rw (depth, next) (q .leads)))
+        (p .leads)
+        (meet P R steps X₁ X₂ out₁ out₂ (p .e) (p .n) (q .e) (q .n) state (p .live) (q .live))
 
     keeps-agree : (is : ℤ) → Keeps P R C offset d i steps X out X₁ out₁ r is → Keeps P R C offset d i steps X out X₂ out₂ s is → Agrees
     keeps-agree is p q = kept (p .answer ∙ sym (q .answer)) (p .cells) (q .cells) (p .output) (q .output)
@@ -139,7 +145,7 @@ module _ (P : Program) (R : List Head) (C : List ℕ) (d i steps : ℕ) (X out X
     enough-agree : (E : Effect) → Suffices E → Allows P R C offset d i steps X out X₁ out₁ r E → Allows P R C offset d i steps X out X₂ out₂ s E → Agrees
     unfolding Allows Suffices
     enough-agree (made S) h p q = moves-agree S p q
-    enough-agree (failing e S) h p q = failed e (p .answer ∙ sym (q .answer)) (p .answer) (p .live) (q .live) (sym (p .state) ∙ q .state)
+    enough-agree (failing e S) h p q = failed e (p .answer ∙ sym (q .answer)) (p .answer) (one-state P R d i steps X₁ out₁ X₂ out₂ (p .live) (q .live) (sym (p .state) ∙ q .state))
     enough-agree (handing S) h p q = keeps-agree (pos handed) p q
     enough-agree (ending n S) h p q = keeps-agree (pos (ended + n)) p q
     enough-agree (lacking n at) h p q = absurd h

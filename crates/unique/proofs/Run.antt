@@ -1,38 +1,39 @@
 -- The layer Run: what its promises settle. That a list is one of bytes (`Bytes`) is known of everything that is lent.
-use mathlib.Core.Path.{_≡_, refl, sym, ap, ap₂, subst, _∙_}
+use mathlib.Core.Path.{_≡_, refl, sym, ap, ap₂, _∙_}
 use mathlib.Core.List.{List, [], _∷_, _++_, map}
 use Prim.Native.Nat.{ℕ, zero, suc, _+_, _-_, _*_, _<_, _≤_}
 use native.Mathlib.Omega.{arith}
-use lib.ListN.{length, getD, take, drop, take-append-drop, drop-of-length-le, List·getD-map}
-use lib.Seq.{length-take-le, getD-take, getD-drop}
+use lib.ListN.{length, getD, take, drop, take-append-drop, drop-of-length-le}
+use lib.Seq.{length-take-le}
 use lib.IntN.{ℤ, pos}
 use mir.Syntax.{w32}
-use mir.Val.{toZ, ofZ}
-use mir.Facts.{ofZ-toZ}
+use mir.Val.{toZ}
 use Rattle.laws.proofs.Tests.{apart}
 use Rattle.paper.specs.Terms.{Ref, Located, at, fails, locate}
 use Rattle.paper.specs.Steps.{Program}
 use Rattle.paper.specs.States.{State, Rooms}
 use Rattle.paper.specs.Running.{nextStep, Outcome}
 use Rattle.paper.specs.Running as running
+use Rattle.paper.specs.Answer.{storeWords}
 use Rattle.cells.specs.Words.{wordsOf}
-use Rattle.cells.proofs.Laws.{Bytes, Words, words-small}
+use Rattle.cells.proofs.Laws.{Bytes, words-small}
 use Rattle.code.specs.Cells.{windowOf, errnoCell, placeAt}
 use Rattle.code.specs.Steps.{Head}
-use Rattle.code.specs.Windows.{endsCell, stepsCell, usedCell, callIn, waiting, writtenIn, stateIn}
+use Rattle.code.specs.Windows.{endsCell, stepsCell, writtenCell, usedCell, callIn, waiting, writtenIn, stateIn}
 use Rattle.reading.specs.Reading.{cellValues}
 use Rattle.load.proofs.Unique.{same-store}
-use Rattle.machine.specs.Live.{Live}
 use Rattle.machine.specs.Machine.{storeBytes, effectAt, Here, LastWindow, Performs, Calls, Lends, Steps, Stepped}
 use Rattle.targets.specs.Targets.{refCell, Tells, found, lost, Indexes, Found, Target, Spotted}
 use Rattle.starting.specs.Starting.{Starts, Started}
 use Rattle.errors.specs.declared.Taken.{Taken}
-use Rattle.errors.specs.Errors.{Raises, raises, handsOn, Settles, stops, resumes, Arisen}
-use Rattle.output.specs.Output.{Prints, Writes, Wrote, WroteOf, Reads, WasRead}
+use Rattle.calls.specs.Calling.{Deepest}
+use Rattle.errors.specs.Errors.{KeepsRun, Raises, raises, handsOn, Settles, stops, resumes, Arisen}
+use Rattle.output.specs.Output.{countIn, Prints, Writes, Wrote, WroteOf, Reads, WasRead}
 use Rattle.runner.specs.declared.Ended.{Ended}
 use Rattle.runner.specs.Runs.{Begins, Ran}
 use Rattle.runner.specs.Runs as runs
-use Rattle.unique.proofs.Coming.{same-depth, same-next, Agrees, moved, failed, kept, answer-of, AgreesOrLacks, agreed, lacked, agree, agree-where}
+use Rattle.unique.proofs.Showing.{same-cells, same-part, OneState}
+use Rattle.unique.proofs.Coming.{same-depth, same-next, meet, Agrees, moved, failed, kept, answer-of, AgreesOrLacks, agreed, lacked, agree, agree-where}
 use Rattle.unique.proofs.Enough.{enough}
 
 -- ---- targets
@@ -53,30 +54,43 @@ target-unique {base = base} {r = r} {s = s} x p q =
     (p .is (x .c) (x .function) (x .text) (x .R) (x .s) (x .next) (x .reads)) (q .is (x .c) (x .function) (x .text) (x .R) (x .s) (x .next) (x .reads))
 
 -- ---- stores
--- A whole store is settled by its cells.
-whole-store : (a b : List ℕ) → length a ≡ storeBytes → length b ≡ storeBytes → wordsOf a ≡ wordsOf b → Bytes a → Bytes b → a ≡ b
-whole-store a b long also same p q =
-    same-store 16384 a b p q (long ∙ sym also) (omega arith) (λ k l. ap (λ (w : List ℕ). getD w k 0) same)
-    (drop-of-length-le a {i = storeBytes} (omega arith) ∙ sym (drop-of-length-le b {i = storeBytes} (omega arith)))
+-- What two value stores share whatever a step does: the count of the output, and every byte where every cell is settled.
+pub record OneStore (a b : List ℕ) : Type 0 where
+  pub long : length a ≡ length b
+  pub written : countIn (wordsOf a) ≡ countIn (wordsOf b)
+  pub bytes : wordsOf a ≡ wordsOf b → Bytes a → Bytes b → a ≡ b
+
+module _ (values a b : List ℕ) (size : length values ≡ storeBytes) (p : length a ≡ length values) (q : length b ≡ length values) where
+  whole-store : wordsOf a ≡ wordsOf b → Bytes a → Bytes b → a ≡ b
+  whole-store same x y =
+      same-store storeWords a b x y (p ∙ sym q) (omega arith) (λ k l. ap (λ (w : List ℕ). getD w k 0) same)
+      (drop-of-length-le a {i = storeBytes} (omega arith) ∙ sym (drop-of-length-le b {i = storeBytes} (omega arith)))
+
+  one-store : countIn (wordsOf a) ≡ countIn (wordsOf b) → OneStore a b
+  one-store count = record { long = p ∙ sym q; written = count; bytes = whole-store }
+
+  -- Who keeps the cells of the output keeps its count.
+  kept-store : KeepsRun (wordsOf values) (wordsOf a) → KeepsRun (wordsOf values) (wordsOf b) → OneStore a b
+  kept-store x y =
+      one-store (ap₂ (λ (m n : ℕ). m + cellValues * n)
+      (x writtenCell (omega arith) (omega arith) ∙ sym (y writtenCell (omega arith) (omega arith)))
+      (x (suc writtenCell) (omega arith) (omega arith) ∙ sym (y (suc writtenCell) (omega arith) (omega arith))))
 
 -- ---- steps that make no output
--- What two results share: a and b are the value stores after the step, r and s the answers.
+-- What two results share, however many steps were made and whatever was written before: a and b are the value stores after the step, r and s the answers.
 module _ {code values : List ℕ} {base i : ℕ} (h : Here code values base i) (a b : List ℕ) (r s : ℤ) where
-  -- the answer, and the state of the run, however many steps were made and whatever was written before
   pub record OneStep : Type 0 where
     pub answer : r ≡ s
-    pub long : length a ≡ length b
     pub agrees : (steps : ℕ) (out : List ℕ) → Agrees (h .P) (h .R) (wordsOf code) (h .d) i steps (wordsOf values) out (wordsOf a) out r (wordsOf b) out s
-    -- where every cell is settled, every byte is
-    pub bytes : wordsOf a ≡ wordsOf b → Bytes a → Bytes b → a ≡ b
+    pub store : OneStore a b
 
   -- the same of a step that may lack room
   pub record OneCall : Type 0 where
-    pub long : length a ≡ length b
     pub agrees : (steps : ℕ) (out : List ℕ) → AgreesOrLacks (h .P) (h .R) (wordsOf code) (h .d) i steps (wordsOf values) out (wordsOf a) out r (wordsOf b) out s
-    pub bytes : wordsOf a ≡ wordsOf b → Bytes a → Bytes b → a ≡ b
+    pub store : OneStore a b
 
   module _ (p : Performs code values a base i r) (q : Performs code values b base i s) where
+    -- A step promises this for all rooms, so also for some with which it lacks nothing.
     performs-agree : (steps : ℕ) (out : List ℕ) → Agrees (h .P) (h .R) (wordsOf code) (h .d) i steps (wordsOf values) out (wordsOf a) out r (wordsOf b) out s
     unfolding effectAt
     performs-agree steps out =
@@ -91,36 +105,34 @@ module _ {code values : List ℕ} {base i : ℕ} (h : Here code values base i) (
     pub performs-unique : OneStep
     performs-unique = record {
       answer = answer-of (h .P) (h .R) (wordsOf code) (h .d) i 0 (wordsOf values) [] (wordsOf a) [] r (wordsOf b) [] s (performs-agree 0 []);
-      long = p .long ∙ sym (q .long);
       agrees = performs-agree;
-      bytes = whole-store a b (p .long ∙ h .values-size) (q .long ∙ h .values-size);
+      store = kept-store values a b (h .values-size) (p .long) (q .long) (p .kept) (q .kept);
     }
 
-  pub calls-unique : (last : ℕ) (rooms : Rooms) → LastWindow rooms last → Calls code values a base last i r → Calls code values b base last i s → OneCall
-  calls-unique last rooms w p q = record {
-    long = p .long ∙ sym (q .long);
+  pub calls-unique : (last : ℕ) → Deepest last → Calls code values a base last i r → Calls code values b base last i s → OneCall
+  calls-unique last w p q = record {
     agrees = λ steps out.
         agree (h .P) (h .R) (wordsOf code) (h .d) i steps (wordsOf values) out (wordsOf a) out r (wordsOf b) out s (h .offset) _
-        (p .does h rooms w steps out) (q .does h rooms w steps out);
-    bytes = whole-store a b (p .long ∙ h .values-size) (q .long ∙ h .values-size);
+        (p .does h (w .rooms) (w .is) steps out) (q .does h (w .rooms) (w .is) steps out);
+    store = kept-store values a b (h .values-size) (p .long) (q .long) (p .kept) (q .kept);
   }
 
 -- ---- any step
--- The same bytes in front, however many, and the rest untouched.
-same-output : (a b : ℕ) (o p out : List ℕ) → a ≤ length out → b ≤ length out → length o ≡ length out → length p ≡ length out → take a o ≡ take b p
-    → drop a o ≡ drop a out → drop b p ≡ drop b out → o ≡ p
-same-output a b o p out x y l m front rest other =
-    let count : a ≡ b =
-    sym (length-take-le a o (omega arith)) ∙ ap length front ∙ length-take-le b p (omega arith) in
+-- The same bytes in front, and so as many.
+same-count : (a b : ℕ) (o p out : List ℕ) → a ≤ length out → b ≤ length out → length o ≡ length out → length p ≡ length out → take a o ≡ take b p → a ≡ b
+same-count a b o p out x y l m front = sym (length-take-le a o (omega arith)) ∙ ap length front ∙ length-take-le b p (omega arith)
+
+-- As many of the same bytes in front, and the rest untouched.
+same-output : (a b : ℕ) (o p out : List ℕ) → a ≡ b → take a o ≡ take b p → drop a o ≡ drop a out → drop b p ≡ drop b out → o ≡ p
+same-output a b o p out count front rest other =
     sym (take-append-drop a o) ∙ ap₂ _++_ front (rest ∙ ap (λ (n : ℕ). drop n out) count ∙ sym other) ∙ take-append-drop b p
 
 -- a and b are the value stores after the step, o and p the outputs
 module _ {code values : List ℕ} {base i : ℕ} (h : Here code values base i) (out a o b p : List ℕ) (r s : ℤ) where
   pub record OneStepped : Type 0 where
-    pub long : length a ≡ length b
     pub agrees : (steps : ℕ) → AgreesOrLacks (h .P) (h .R) (wordsOf code) (h .d) i steps (wordsOf values) out (wordsOf a) o r (wordsOf b) p s
     pub output : o ≡ p
-    pub bytes : wordsOf a ≡ wordsOf b → Bytes a → Bytes b → a ≡ b
+    pub store : OneStore a b
 
   module _ (text inputs : List ℕ) (last : ℕ) (is : h .text ≡ text) (depth : Rooms) (w : LastWindow depth last)
       (x : Stepped text code values a inputs out o base last i r) (y : Stepped text code values b inputs out p base last i s) where
@@ -136,25 +148,31 @@ module _ {code values : List ℕ} {base i : ℕ} (h : Here code values base i) (
         agree (h .P) (h .R) (wordsOf code) (h .d) i steps (wordsOf values) out (wordsOf a) o r (wordsOf b) p s (h .offset) _
         (x .does h is lent deep lends steps) (y .does h is lent deep lends steps)
 
-    -- one state says one output
-    state-output : (e n : ℕ) → stateIn (h .P) (h .R) (wordsOf a) e n 0 o ≡ stateIn (h .P) (h .R) (wordsOf b) e n 0 p → o ≡ p
-    unfolding stateIn
-    state-output e n same =
-        same-output (writtenIn (h .P) (h .R) (wordsOf a)) (writtenIn (h .P) (h .R) (wordsOf b)) o p out (x .written (h .P) (h .R)) (y .written (h .P) (h .R))
-        (x .out-long) (y .out-long) (ap (λ (z : State). z .output) same) (x .past (h .P) (h .R)) (y .past (h .P) (h .R))
+    -- The output, and how much of it there is.
+    abbrev OneOutput : Type 0
+    OneOutput = (o ≡ p) × (countIn (wordsOf a) ≡ countIn (wordsOf b))
 
-    agreed-output : AgreesOrLacks (h .P) (h .R) (wordsOf code) (h .d) i 0 (wordsOf values) out (wordsOf a) o r (wordsOf b) p s → o ≡ p
-    agreed-output (agreed (moved e n c d l m same)) = state-output e n same
-    agreed-output (agreed (failed e c d l m same)) = state-output (h .d) i same
-    agreed-output (agreed (kept c d e f g)) = f ∙ sym g
-    agreed-output (lacked n v w c d e f g k m) = k ∙ sym m
+    state-output : (e n : ℕ) → stateIn (h .P) (h .R) (wordsOf a) e n 0 o ≡ stateIn (h .P) (h .R) (wordsOf b) e n 0 p → OneOutput
+    unfolding stateIn writtenIn
+    state-output e n same =
+        let front : take (countIn (wordsOf a)) o ≡ take (countIn (wordsOf b)) p = ap (λ (z : State). z .output) same in
+        let count = same-count (countIn (wordsOf a)) (countIn (wordsOf b)) o p out (x .written (h .P) (h .R)) (y .written (h .P) (h .R)) (x .out-long) (y .out-long) front in
+        (same-output (countIn (wordsOf a)) (countIn (wordsOf b)) o p out count front (x .past (h .P) (h .R)) (y .past (h .P) (h .R)), count)
+
+    kept-output : wordsOf a ≡ wordsOf values → wordsOf b ≡ wordsOf values → o ≡ out → p ≡ out → OneOutput
+    kept-output c d f g = (f ∙ sym g, ap countIn (c ∙ sym d))
+
+    agreed-output : AgreesOrLacks (h .P) (h .R) (wordsOf code) (h .d) i 0 (wordsOf values) out (wordsOf a) o r (wordsOf b) p s → OneOutput
+    agreed-output (agreed (moved e n c d same)) = state-output e n (same .state)
+    agreed-output (agreed (failed e c d same)) = state-output (h .d) i (same .state)
+    agreed-output (agreed (kept c d e f g)) = kept-output d e f g
+    agreed-output (lacked n v w c d e f g k m) = kept-output f g k m
 
     pub stepped-unique : OneStepped
     stepped-unique = record {
-      long = x .long ∙ sym (y .long);
       agrees = stepped-agree;
-      output = agreed-output (stepped-agree 0);
-      bytes = whole-store a b (x .long ∙ h .values-size) (y .long ∙ h .values-size);
+      output = agreed-output (stepped-agree 0) .0;
+      store = one-store values a b (h .values-size) (x .long) (y .long) (agreed-output (stepped-agree 0) .1);
     }
 
 -- main alone
@@ -196,8 +214,7 @@ module _ {code values : List ℕ} {base i : ℕ} (h : Here code values base i) (
       -- the run dies: no call is named, and one state is left
       died : t .next ≡ 0 → u .next ≡ 0 → stateIn (h .P) (h .R) (wordsOf a) (h .d) i steps out ≡ stateIn (h .P) (h .R) (wordsOf b) (h .d) i steps out → OneTaken
       -- it goes on: by one call, in one state
-      taken : (c : ℕ) → t ≡ u → t .base ≡ windowOf c → Live (h .P) (h .R) (wordsOf a) c (t .next) → Live (h .P) (h .R) (wordsOf b) c (t .next)
-          → stateIn (h .P) (h .R) (wordsOf a) c (t .next) steps out ≡ stateIn (h .P) (h .R) (wordsOf b) c (t .next) steps out → OneTaken
+      taken : (c : ℕ) → t ≡ u → t .base ≡ windowOf c → OneState (h .P) (h .R) c (t .next) steps (wordsOf a) out (wordsOf b) out → OneTaken
 
     settled : (place : ℕ) (o : Outcome) → Settles (h .P) (h .R) (wordsOf a) (h .d) i steps place out t o → Settles (h .P) (h .R) (wordsOf b) (h .d) i steps place out u o → OneTaken
     unfolding stateOf
@@ -211,14 +228,11 @@ module _ {code values : List ℕ} {base i : ℕ} (h : Here code values base i) (
         let depth : c ≡ k = same-depth P R steps (wordsOf a) (wordsOf b) out out c (t .next) k (u .next) state in
         let next : t .next ≡ u .next = same-next P R steps (wordsOf a) (wordsOf b) out out c (t .next) k (u .next) state in
         let window : t .base ≡ u .base = g ∙ ap windowOf depth ∙ sym j in
-        taken c (λ x. record { next = next x; base = window x }) g l
-        (subst (λ (y : ℕ). Live P R (wordsOf b) c y) (sym next) (subst (λ (y : ℕ). Live P R (wordsOf b) y (u .next)) (sym depth) v))
-        (state ∙ ap (λ (y : ℕ). stateIn P R (wordsOf b) y (u .next) steps out) (sym depth) ∙ ap (λ (y : ℕ). stateIn P R (wordsOf b) c y steps out) (sym next))
+        taken c (λ x. record { next = next x; base = window x }) g (meet P R steps (wordsOf a) (wordsOf b) out out c (t .next) k (u .next) state l v)
 
   pub record OneArisen : Type 0 where
-    pub long : length a ≡ length b
     pub settles : (steps : ℕ) (out : List ℕ) → OneTaken steps out
-    pub bytes : wordsOf a ≡ wordsOf b → Bytes a → Bytes b → a ≡ b
+    pub store : OneStore a b
 
   module _ (r : ℤ) (p : Arisen code values a base i r t) (q : Arisen code values b base i r u) where
     arisen-taken : Raises r → (steps : ℕ) (out : List ℕ) → OneTaken steps out
@@ -226,23 +240,7 @@ module _ {code values : List ℕ} {base i : ℕ} (h : Here code values base i) (
     arisen-taken (handsOn is) steps out = settled steps out 0 _ (p .hands h is steps 0 out) (q .hands h is steps 0 out)
 
     pub arise-unique : Raises r → OneArisen
-    arise-unique k = record {
-      long = p .long ∙ sym (q .long);
-      settles = arisen-taken k;
-      bytes = whole-store a b (p .long ∙ h .values-size) (q .long ∙ h .values-size);
-    }
-
--- ---- cells that hold numbers
--- Words that stand for the same numbers are the same.
-same-number : (x y : ℕ) → x < cellValues → y < cellValues → toZ w32 x ≡ toZ w32 y → x ≡ y
-same-number x y p q e = sym (ofZ-toZ {w = w32} (record { fits = p })) ∙ ap (ofZ w32) e ∙ ofZ-toZ {w = w32} (record { fits = q })
-
-same-cells : (n : ℕ) (l m : List ℕ) → Words l → Words m → map (toZ w32) (take n l) ≡ map (toZ w32) (take n m) → (k : ℕ) → k < n → getD l k 0 ≡ getD m k 0
-same-cells n l m p q e k below =
-    same-number (getD l k 0) (getD m k 0) (p k) (q k) (sym (cell l) ∙ ap (λ (x : List ℤ). getD x k (toZ w32 0)) e ∙ cell m)
-  where
-    cell : (x : List ℕ) → getD (map (toZ w32) (take n x)) k (toZ w32 0) ≡ toZ w32 (getD x k 0)
-    cell x = List·getD-map (toZ w32) (take n x) k 0 ∙ ap (toZ w32) (getD-take n x k 0 below)
+    arise-unique k = record { settles = arisen-taken k; store = kept-store values a b (h .values-size) (p .long) (q .long) (p .kept) (q .kept) }
 
 -- ---- a new call
 -- The cells that the promise speaks of: all but those between the call's words, its loops' ends and its loops' steps, which no FOR variable has.
@@ -265,12 +263,7 @@ module _ (code before a b : List ℕ) (first at : ℕ) (h : Starts code before f
   start-cells : Bytes a → Bytes b → (c : ℕ) → OfStart at (length (h .starts)) fors c → getD (wordsOf a) c 0 ≡ getD (wordsOf b) c 0
   start-cells x y c (beneath l) = p .below c l ∙ sym (q .below c l)
   start-cells x y c (datum k l e) =
-      let A = drop at (wordsOf a) in
-      let B = drop at (wordsOf b) in
-      let small : Words A = λ j. rw (getD-drop at (wordsOf a) j 0) (words-small a x (at + j)) in
-      let also : Words B = λ j. rw (getD-drop at (wordsOf b) j 0) (words-small b y (at + j)) in
-      let cell : getD A k 0 ≡ getD B k 0 = same-cells (length (h .starts)) A B small also (p .is (h .starts) (h .opens) (h .reads) ∙ sym (q .is (h .starts) (h .opens) (h .reads))) k l in
-      rw e (sym (getD-drop at (wordsOf a) k 0) ∙ cell ∙ getD-drop at (wordsOf b) k 0)
+      rw e (same-part at (length (h .starts)) (wordsOf a) (wordsOf b) (words-small a x) (words-small b y) (p .is (h .starts) (h .opens) (h .reads) ∙ sym (q .is (h .starts) (h .opens) (h .reads))) k l)
   start-cells x y c (variable j l e) = rw e (p .idle (h .starts) (h .opens) j (h .reads) l .0 ∙ sym (q .idle (h .starts) (h .opens) j (h .reads) l .0))
   start-cells x y c (itsEnd j l e) = rw e (p .idle (h .starts) (h .opens) j (h .reads) l .1 ∙ sym (q .idle (h .starts) (h .opens) j (h .reads) l .1))
   start-cells x y c (itsStep j l e) = rw e (p .idle (h .starts) (h .opens) j (h .reads) l .2 ∙ sym (q .idle (h .starts) (h .opens) j (h .reads) l .2))
@@ -287,7 +280,7 @@ pub record OneRun (P : Program) (a o b p : List ℕ) (r s : Ended) : Type 0 wher
   pub long : length a ≡ length b
   pub errno : getD (wordsOf a) errnoCell 0 ≡ getD (wordsOf b) errnoCell 0
   pub used : getD (wordsOf a) usedCell 0 ≡ getD (wordsOf b) usedCell 0
-  pub written : (R : List Head) → writtenIn P R (wordsOf a) ≡ writtenIn P R (wordsOf b)
+  pub written : countIn (wordsOf a) ≡ countIn (wordsOf b)
   pub words : Bytes a → Bytes b → (k : ℕ) → k < length (P .words) → getD (wordsOf a) k 0 ≡ getD (wordsOf b) k 0
 
 module _ {P : Program} {offset : ℕ → ℕ} {a out o b p : List ℕ} {steps : ℕ} {e : running.Ended} {r s : Ended} (x : runs.Comes P offset a out o steps e r) (y : runs.Comes P offset b out p steps e s) where
@@ -304,13 +297,14 @@ module _ {P : Program} {offset : ℕ → ℕ} {a out o b p : List ℕ} {steps : 
       sym (take-append-drop n o) ∙ ap₂ _++_ (x .output ∙ sym (y .output)) (x .past ∙ sym (y .past)) ∙ take-append-drop n p
 
   came-unique : length a ≡ length b → OneRun P a o b p r s
+  unfolding writtenIn
   came-unique long = record {
     answer = came-answer;
     output = came-output;
     long = long;
     errno = x .errno ∙ sym (y .errno);
     used = x .used ∙ sym (y .used);
-    written = λ R. x .written R ∙ sym (y .written R);
+    written = x .written [] ∙ sym (y .written []);
     words = λ i j. same-cells (length (P .words)) (wordsOf a) (wordsOf b) (words-small a i) (words-small b j) (x .words ∙ sym (y .words));
   }
 
