@@ -1,7 +1,7 @@
 -- What the promise of a step settles (`Comes`): the answer and the state of the run after it; where nothing is made, every cell and byte.
-use mathlib.Core.Path.{_≡_, refl, sym, ap, subst, _∙_}
+use mathlib.Core.Path.{_≡_, refl, sym, ap, _∙_}
 use mathlib.Core.List.{List, [], _∷_}
-use Prim.Native.Nat.{ℕ, suc, _+_}
+use Prim.Native.Nat.{ℕ, suc, _+_, _<_, _≤_}
 use native.Mathlib.Omega.{arith}
 use lib.ListN.{length}
 use lib.IntN.{ℤ, pos}
@@ -9,8 +9,9 @@ use Rattle.paper.specs.Steps.{Program}
 use Rattle.paper.specs.States.{Call, State, Effect, made, failing, handing, ending, lacking}
 use Rattle.code.specs.Cells.{placeAt}
 use Rattle.code.specs.Steps.{Head}
-use Rattle.code.specs.Windows.{callIn, waiting, stateIn}
-use Rattle.layout.specs.Answers.{firstError, entered, left, ended, lackedBy, handed}
+use Rattle.code.specs.Windows.{callIn, stateIn}
+use Rattle.layout.specs.Rules.{beyondDepth, noRoom}
+use Rattle.layout.specs.Answers.{firstError, answers, entered, left, ended, lackedBy, handed}
 use Rattle.machine.specs.Live.{Live}
 use Rattle.machine.specs.Machine.{Comes, goesOn, enters, leaves, fails, hands, ends, lacks}
 use Rattle.machine.proofs.States.{depth-is}
@@ -79,6 +80,9 @@ module _ (P : Program) (R : List Head) (C : List ℕ) (offset : ℕ → ℕ) (d 
 
     record Lacks (n at : ℕ) : Type 0 where
       w : ℕ
+      low : beyondDepth ≤ n
+      high : n ≤ noRoom
+      small : w < answers
       place : placeAt C w ≡ offset at
       keeps : Keeps (pos (lackedBy n + w))
 
@@ -97,7 +101,7 @@ module _ (P : Program) (R : List Head) (C : List ℕ) (offset : ℕ → ℕ) (d 
     allows E (fails k a b l e) = rw (e, Allows) (record { answer = a; live = l; state = refl })
     allows E (hands a x o e) = rw (e, Allows) (record { answer = a; cells = x; output = o })
     allows E (ends n a b x o e) = rw (e, Allows) (record { answer = a; cells = x; output = o })
-    allows E (lacks n w at a b c f p x o e) = rw (e, Allows) (record { w = w; place = p; keeps = record { answer = a; cells = x; output = o } })
+    allows E (lacks n w at a b c f p x o e) = rw (e, Allows) (record { w = w; low = b; high = c; small = f; place = p; keeps = record { answer = a; cells = x; output = o } })
 
 -- ---- two results
 -- A step that lacks no room.
@@ -123,10 +127,26 @@ module _ (P : Program) (R : List Head) (C : List ℕ) (d i steps : ℕ) (X out X
   answer-of (failed e a b c) = a
   answer-of (kept a x y o p) = a
 
-  -- Or it lacks room, and nothing is touched. The words that the two answers name may be two, but their place is one.
+  -- It lacks room, and nothing is touched: one ending and one place. The words that the two answers name may be two, but they both have that place.
+  pub record LacksAlike : Type 0 where
+    pub n : ℕ
+    pub low : beyondDepth ≤ n
+    pub high : n ≤ noRoom
+    pub w₁ : ℕ
+    pub w₂ : ℕ
+    pub small₁ : w₁ < answers
+    pub small₂ : w₂ < answers
+    pub answer₁ : r ≡ pos (lackedBy n + w₁)
+    pub answer₂ : s ≡ pos (lackedBy n + w₂)
+    pub place : placeAt C w₁ ≡ placeAt C w₂
+    pub cells₁ : X₁ ≡ X
+    pub cells₂ : X₂ ≡ X
+    pub output₁ : out₁ ≡ out
+    pub output₂ : out₂ ≡ out
+
   pub data AgreesOrLacks : Type 0 where
     agreed : Agrees → AgreesOrLacks
-    lacked : (n w v : ℕ) → r ≡ pos (lackedBy n + w) → s ≡ pos (lackedBy n + v) → placeAt C w ≡ placeAt C v → X₁ ≡ X → X₂ ≡ X → out₁ ≡ out → out₂ ≡ out → AgreesOrLacks
+    lacked : LacksAlike → AgreesOrLacks
 
   module _ (offset : ℕ → ℕ) where
     moves-agree : (S : State) → Moves P R C offset d i steps X out X₁ out₁ r S → Moves P R C offset d i steps X out X₂ out₂ s S → Agrees
@@ -150,10 +170,27 @@ module _ (P : Program) (R : List Head) (C : List ℕ) (d i steps : ℕ) (X out X
     enough-agree (ending n S) h p q = keeps-agree (pos (ended + n)) p q
     enough-agree (lacking n at) h p q = absurd h
 
+    lacks-alike : (n at : ℕ) → Lacks P R C offset d i steps X out X₁ out₁ r n at → Lacks P R C offset d i steps X out X₂ out₂ s n at → LacksAlike
+    lacks-alike n at p q = record {
+      n = n;
+      low = p .low;
+      high = p .high;
+      w₁ = p .w;
+      w₂ = q .w;
+      small₁ = p .small;
+      small₂ = q .small;
+      answer₁ = p .keeps .answer;
+      answer₂ = q .keeps .answer;
+      place = p .place ∙ sym (q .place);
+      cells₁ = p .keeps .cells;
+      cells₂ = q .keeps .cells;
+      output₁ = p .keeps .output;
+      output₂ = q .keeps .output;
+    }
+
     allowed-agree : (E : Effect) → Allows P R C offset d i steps X out X₁ out₁ r E → Allows P R C offset d i steps X out X₂ out₂ s E → AgreesOrLacks
     unfolding Allows Suffices
-    allowed-agree (lacking n at) p q =
-        lacked n (p .w) (q .w) (p .keeps .answer) (q .keeps .answer) (p .place ∙ sym (q .place)) (p .keeps .cells) (q .keeps .cells) (p .keeps .output) (q .keeps .output)
+    allowed-agree (lacking n at) p q = lacked (lacks-alike n at p q)
     allowed-agree (made S) p q = agreed (enough-agree (made S) tt p q)
     allowed-agree (failing e S) p q = agreed (enough-agree (failing e S) tt p q)
     allowed-agree (handing S) p q = agreed (enough-agree (handing S) tt p q)

@@ -5,7 +5,6 @@ use mathlib.Core.List.{List, [], _∷_, _++_}
 use mathlib.Core.Option.{Option, none, some}
 use Prim.Native.Nat.{ℕ, zero, suc, _+_}
 use native.Mathlib.Omega.{arith}
-use lib.Dec.{ltb, leb}
 use lib.ListN.{length, drop, replicate}
 use lib.IntN.{ℤ, pos}
 use borrow.Author.Tests.{lt-ltb, le-leb}
@@ -16,7 +15,7 @@ use Rattle.paper.specs.Words.{LF}
 use Rattle.paper.specs.Numbers.{Value, value, error, num, ranged, isZero, decimal}
 use Rattle.paper.specs.Terms.{Term, Memory, Located, at, fails, locate, worth}
 use Rattle.paper.specs.Steps.{Spot, scalar, elementOf, Action, store, callFor, callOf, giveBack, raise, handOn, exit, retry, tryNext, write, read, choose, select, testWhile, enterFor, repeatFor, endList, Program}
-use Rattle.paper.specs.States.{Loop, Location, Call, State, Rooms, Effect, made, failing, lacking, withValue, withSpot, withValues, locationOf, memoryOf}
+use Rattle.paper.specs.States.{Loop, Location, Call, State, Rooms, Effect, failing, lacking, withValue, withSpot, withValues, locationOf, memoryOf}
 use Rattle.paper.specs.Running.{codeAt, calling, returning, adding, writing, taking, readNum, choosing, passes, looping, withStep, entering, repeating, ending-list, perform}
 use Rattle.unique.proofs.Coming.{Suffices}
 

@@ -1,7 +1,7 @@
 -- The layer Run: what its promises settle. That a list is one of bytes (`Bytes`) is known of everything that is lent.
 use mathlib.Core.Path.{_≡_, refl, sym, ap, ap₂, _∙_}
-use mathlib.Core.List.{List, [], _∷_, _++_, map}
-use Prim.Native.Nat.{ℕ, zero, suc, _+_, _-_, _*_, _<_, _≤_}
+use mathlib.Core.List.{List, [], _++_, map}
+use Prim.Native.Nat.{ℕ, suc, _+_, _-_, _*_, _<_, _≤_}
 use native.Mathlib.Omega.{arith}
 use lib.ListN.{length, getD, take, drop, take-append-drop, drop-of-length-le}
 use lib.Seq.{length-take-le}
@@ -9,7 +9,7 @@ use lib.IntN.{ℤ, pos}
 use mir.Syntax.{w32}
 use mir.Val.{toZ}
 use Rattle.laws.proofs.Tests.{apart}
-use Rattle.paper.specs.Terms.{Ref, Located, at, fails, locate}
+use Rattle.paper.specs.Terms.{Ref, Located, at, fails}
 use Rattle.paper.specs.Steps.{Program}
 use Rattle.paper.specs.States.{State, Rooms}
 use Rattle.paper.specs.Running.{nextStep, Outcome}
@@ -18,7 +18,6 @@ use Rattle.paper.specs.Answer.{storeWords}
 use Rattle.cells.specs.Words.{wordsOf}
 use Rattle.cells.proofs.Laws.{Bytes, words-small}
 use Rattle.code.specs.Cells.{windowOf, errnoCell, placeAt}
-use Rattle.code.specs.Steps.{Head}
 use Rattle.code.specs.Windows.{endsCell, stepsCell, writtenCell, usedCell, callIn, waiting, writtenIn, stateIn}
 use Rattle.reading.specs.Reading.{cellValues}
 use Rattle.load.proofs.Unique.{same-store}
@@ -166,7 +165,7 @@ module _ {code values : List ℕ} {base i : ℕ} (h : Here code values base i) (
     agreed-output (agreed (moved e n c d same)) = state-output e n (same .state)
     agreed-output (agreed (failed e c d same)) = state-output (h .d) i (same .state)
     agreed-output (agreed (kept c d e f g)) = kept-output d e f g
-    agreed-output (lacked n v w c d e f g k m) = kept-output f g k m
+    agreed-output (lacked l) = kept-output (l .cells₁) (l .cells₂) (l .output₁) (l .output₂)
 
     pub stepped-unique : OneStepped
     stepped-unique = record {

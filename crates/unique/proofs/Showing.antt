@@ -1,9 +1,7 @@
 -- Two value stores that hold one state of a run: which cells they share. A state shows the module's words, ERRNO, and of each live call all that its window is
 -- read for. Other cells may hold anything.
 use mathlib.Core.Path.{_≡_, refl, sym, ap, ap₂, subst, _∙_}
-use mathlib.Core.Bool.{Bool, true, false}
 use mathlib.Core.List.{List, [], _∷_, _++_, map}
-use mathlib.Core.Option.{Option, none, some}
 use Prim.Native.Nat.{ℕ, zero, suc, _+_, _-_, _/_, _%_, _<_, _≤_}
 use native.Mathlib.Omega.{arith}
 use lib.ListN.{length, getD, take, drop, replicate, length-replicate, List·getD-map}
@@ -15,11 +13,11 @@ use mir.Facts.{ofZ-toZ}
 use borrow.Author.Tests.{lt-ltb, le-ltb}
 use Rattle.laws.proofs.Tests.{by-less, by-last, apart}
 use Rattle.paper.specs.Steps.{Code, Program}
-use Rattle.paper.specs.States.{Loop, Location, moduleWord, callWord, Call, State, Rooms, Effect, ending}
+use Rattle.paper.specs.States.{Loop, moduleWord, callWord, Call, State, Rooms, Effect, ending}
 use Rattle.paper.specs.Running.{codeAt, stepNamed, idle, nextStep, perform}
 use Rattle.cells.proofs.Laws.{Words}
 use Rattle.code.specs.Cells.{windowOf, windowCells, firstWindow, errnoCell}
-use Rattle.code.specs.Steps.{Head, noHead, numbered}
+use Rattle.code.specs.Steps.{Head, noHead}
 use Rattle.code.specs.Holds.{optionally}
 use Rattle.code.specs.Windows.{endsCell, stepsCell, routineCell, waitsCell, afterCell, failedCell, resultCell, writtenCell, usedCell, locationIn, resultIn, loopsFrom, callIn, waiting, stateIn}
 use Rattle.reading.specs.Reading.{cellValues}
