@@ -1,0 +1,315 @@
+-- The layer Run: what its promises settle. That a list is one of bytes (`Bytes`) is known of everything that is lent.
+use mathlib.Core.Path.{_≡_, refl, sym, ap, ap₂, _∙_}
+use mathlib.Core.List.{List, [], _++_, map}
+use Prim.Native.Nat.{ℕ, suc, _+_, _-_, _*_, _<_, _≤_}
+use native.Mathlib.Omega.{arith}
+use lib.ListN.{length, getD, take, drop, take-append-drop, drop-of-length-le}
+use lib.Seq.{length-take-le}
+use lib.IntN.{ℤ, pos}
+use mir.Syntax.{w32}
+use mir.Val.{toZ}
+use Rattle.laws.proofs.Tests.{apart}
+use Rattle.paper.specs.Terms.{Ref, Located, at, fails}
+use Rattle.paper.specs.Steps.{Program}
+use Rattle.paper.specs.States.{State, Rooms}
+use Rattle.paper.specs.Running.{nextStep, Outcome}
+use Rattle.paper.specs.Running as running
+use Rattle.paper.specs.Answer.{storeWords}
+use Rattle.cells.specs.Words.{wordsOf}
+use Rattle.cells.proofs.Laws.{Bytes, words-small}
+use Rattle.code.specs.Cells.{windowOf, errnoCell, placeAt}
+use Rattle.code.specs.Windows.{endsCell, stepsCell, writtenCell, usedCell, callIn, waiting, writtenIn, stateIn}
+use Rattle.reading.specs.Reading.{cellValues}
+use Rattle.load.proofs.Unique.{same-store}
+use Rattle.machine.specs.Machine.{storeBytes, effectAt, Here, LastWindow, Performs, Calls, Lends, Steps, Stepped}
+use Rattle.targets.specs.Targets.{refCell, Tells, found, lost, Indexes, Found, Target, Spotted}
+use Rattle.starting.specs.Starting.{Starts, Started}
+use Rattle.errors.specs.declared.Taken.{Taken}
+use Rattle.calls.specs.Calling.{Deepest}
+use Rattle.errors.specs.Errors.{KeepsRun, Raises, raises, handsOn, Settles, stops, resumes, Arisen}
+use Rattle.output.specs.Output.{countIn, Prints, Writes, Wrote, WroteOf, Reads, WasRead}
+use Rattle.runner.specs.declared.Ended.{Ended}
+use Rattle.runner.specs.Runs.{Begins, Ran}
+use Rattle.runner.specs.Runs as runs
+use Rattle.unique.proofs.Showing.{same-cells, same-part, OneState}
+use Rattle.unique.proofs.Coming.{same-depth, same-next, meet, Agrees, moved, failed, kept, answer-of, AgreesOrLacks, agreed, lacked, agree, agree-where}
+use Rattle.unique.proofs.Enough.{enough}
+
+-- ---- targets
+tells-unique : (m n base : ℕ) (l : Located) (r s : ℤ) → Tells m n base l r → Tells m n base l s → r ≡ s
+tells-unique m n base l r s (found w a f e) (found v b g d) = let same : w ≡ v = cc in e ∙ ap (λ (x : Ref). pos (refCell base x)) same ∙ sym d
+tells-unique m n base l r s (found w a f e) (lost v b g d) = apart (cc)
+tells-unique m n base l r s (lost w a f e) (found v b g d) = apart (cc)
+tells-unique m n base l r s (lost w a f e) (lost v b g d) = let same : w ≡ v = cc in cc
+
+pub element-unique : {code values : List ℕ} {base first size i end : ℕ} {r s : ℤ} → Indexes code base first size i end
+    → Found code values base first size i end r → Found code values base first size i end s → r ≡ s
+element-unique {base = base} {r = r} {s = s} x p q =
+    tells-unique (x .c .m) (x .c .n) base _ r s (p .is (x .c) (x .t) (x .array) (x .is) (x .fits) (x .first-is)) (q .is (x .c) (x .t) (x .array) (x .is) (x .fits) (x .first-is))
+
+pub target-unique : {code values : List ℕ} {base i : ℕ} {r s : ℤ} → Target code i → Spotted code values base i r → Spotted code values base i s → r ≡ s
+target-unique {base = base} {r = r} {s = s} x p q =
+    tells-unique (x .c .m) (x .c .n) base _ r s
+    (p .is (x .c) (x .function) (x .text) (x .R) (x .s) (x .next) (x .reads)) (q .is (x .c) (x .function) (x .text) (x .R) (x .s) (x .next) (x .reads))
+
+-- ---- stores
+-- What two value stores share whatever a step does: the count of the output, and every byte where every cell is settled.
+pub record OneStore (a b : List ℕ) : Type 0 where
+  pub long : length a ≡ length b
+  pub written : countIn (wordsOf a) ≡ countIn (wordsOf b)
+  pub bytes : wordsOf a ≡ wordsOf b → Bytes a → Bytes b → a ≡ b
+
+module _ (values a b : List ℕ) (size : length values ≡ storeBytes) (p : length a ≡ length values) (q : length b ≡ length values) where
+  whole-store : wordsOf a ≡ wordsOf b → Bytes a → Bytes b → a ≡ b
+  whole-store same x y =
+      same-store storeWords a b x y (p ∙ sym q) (omega arith) (λ k l. ap (λ (w : List ℕ). getD w k 0) same)
+      (drop-of-length-le a {i = storeBytes} (omega arith) ∙ sym (drop-of-length-le b {i = storeBytes} (omega arith)))
+
+  one-store : countIn (wordsOf a) ≡ countIn (wordsOf b) → OneStore a b
+  one-store count = record { long = p ∙ sym q; written = count; bytes = whole-store }
+
+  -- Who keeps the cells of the output keeps its count.
+  kept-store : KeepsRun (wordsOf values) (wordsOf a) → KeepsRun (wordsOf values) (wordsOf b) → OneStore a b
+  kept-store x y =
+      one-store (ap₂ (λ (m n : ℕ). m + cellValues * n)
+      (x writtenCell (omega arith) (omega arith) ∙ sym (y writtenCell (omega arith) (omega arith)))
+      (x (suc writtenCell) (omega arith) (omega arith) ∙ sym (y (suc writtenCell) (omega arith) (omega arith))))
+
+-- ---- steps that make no output
+-- What two results share, however many steps were made and whatever was written before: a and b are the value stores after the step, r and s the answers.
+module _ {code values : List ℕ} {base i : ℕ} (h : Here code values base i) (a b : List ℕ) (r s : ℤ) where
+  pub record OneStep : Type 0 where
+    pub answer : r ≡ s
+    pub agrees : (steps : ℕ) (out : List ℕ) → Agrees (h .P) (h .R) (wordsOf code) (h .d) i steps (wordsOf values) out (wordsOf a) out r (wordsOf b) out s
+    pub store : OneStore a b
+
+  -- the same of a step that may lack room
+  pub record OneCall : Type 0 where
+    pub agrees : (steps : ℕ) (out : List ℕ) → AgreesOrLacks (h .P) (h .R) (wordsOf code) (h .d) i steps (wordsOf values) out (wordsOf a) out r (wordsOf b) out s
+    pub store : OneStore a b
+
+  module _ (p : Performs code values a base i r) (q : Performs code values b base i s) where
+    -- A step promises this for all rooms, so also for some with which it lacks nothing.
+    performs-agree : (steps : ℕ) (out : List ℕ) → Agrees (h .P) (h .R) (wordsOf code) (h .d) i steps (wordsOf values) out (wordsOf a) out r (wordsOf b) out s
+    unfolding effectAt
+    performs-agree steps out =
+        let P = h .P in
+        let X = wordsOf values in
+        let c = callIn P (h .R) X (windowOf (h .d)) i in
+        let n = nextStep P c in
+        let g = enough P c (waiting P (h .R) X (h .d)) (n .place) (n .after) (n .does) (stateIn P (h .R) X (h .d) i steps out) in
+        agree-where P (h .R) (wordsOf code) (h .d) i steps X out (wordsOf a) out r (wordsOf b) out s (h .offset) _
+        (p .does h (g .rooms) steps out) (q .does h (g .rooms) steps out) (g .lacks-nothing)
+
+    pub performs-unique : OneStep
+    performs-unique = record {
+      answer = answer-of (h .P) (h .R) (wordsOf code) (h .d) i 0 (wordsOf values) [] (wordsOf a) [] r (wordsOf b) [] s (performs-agree 0 []);
+      agrees = performs-agree;
+      store = kept-store values a b (h .values-size) (p .long) (q .long) (p .kept) (q .kept);
+    }
+
+  pub calls-unique : (last : ℕ) → Deepest last → Calls code values a base last i r → Calls code values b base last i s → OneCall
+  calls-unique last w p q = record {
+    agrees = λ steps out.
+        agree (h .P) (h .R) (wordsOf code) (h .d) i steps (wordsOf values) out (wordsOf a) out r (wordsOf b) out s (h .offset) _
+        (p .does h (w .rooms) (w .is) steps out) (q .does h (w .rooms) (w .is) steps out);
+    store = kept-store values a b (h .values-size) (p .long) (q .long) (p .kept) (q .kept);
+  }
+
+-- ---- any step
+-- The same bytes in front, and so as many.
+same-count : (a b : ℕ) (o p out : List ℕ) → a ≤ length out → b ≤ length out → length o ≡ length out → length p ≡ length out → take a o ≡ take b p → a ≡ b
+same-count a b o p out x y l m front = sym (length-take-le a o (omega arith)) ∙ ap length front ∙ length-take-le b p (omega arith)
+
+-- As many of the same bytes in front, and the rest untouched.
+same-output : (a b : ℕ) (o p out : List ℕ) → a ≡ b → take a o ≡ take b p → drop a o ≡ drop a out → drop b p ≡ drop b out → o ≡ p
+same-output a b o p out count front rest other =
+    sym (take-append-drop a o) ∙ ap₂ _++_ front (rest ∙ ap (λ (n : ℕ). drop n out) count ∙ sym other) ∙ take-append-drop b p
+
+-- a and b are the value stores after the step, o and p the outputs
+module _ {code values : List ℕ} {base i : ℕ} (h : Here code values base i) (out a o b p : List ℕ) (r s : ℤ) where
+  pub record OneStepped : Type 0 where
+    pub agrees : (steps : ℕ) → AgreesOrLacks (h .P) (h .R) (wordsOf code) (h .d) i steps (wordsOf values) out (wordsOf a) o r (wordsOf b) p s
+    pub output : o ≡ p
+    pub store : OneStore a b
+
+  module _ (text inputs : List ℕ) (last : ℕ) (is : h .text ≡ text) (depth : Rooms) (w : LastWindow depth last)
+      (x : Stepped text code values a inputs out o base last i r) (y : Stepped text code values b inputs out p base last i s) where
+    -- as much is lent as the slices have
+    lent : Rooms
+    lent = record { depth = depth .depth; output = length out; inputs = map (toZ w32) (wordsOf inputs) }
+
+    stepped-agree : (steps : ℕ) → AgreesOrLacks (h .P) (h .R) (wordsOf code) (h .d) i steps (wordsOf values) out (wordsOf a) o r (wordsOf b) p s
+    unfolding lent
+    stepped-agree steps =
+        let deep : LastWindow lent last = record { some = w .some; most = w .most; is = w .is } in
+        let lends : Lends lent inputs out = record { room = refl; reads = refl } in
+        agree (h .P) (h .R) (wordsOf code) (h .d) i steps (wordsOf values) out (wordsOf a) o r (wordsOf b) p s (h .offset) _
+        (x .does h is lent deep lends steps) (y .does h is lent deep lends steps)
+
+    -- The output, and how much of it there is.
+    abbrev OneOutput : Type 0
+    OneOutput = (o ≡ p) × (countIn (wordsOf a) ≡ countIn (wordsOf b))
+
+    state-output : (e n : ℕ) → stateIn (h .P) (h .R) (wordsOf a) e n 0 o ≡ stateIn (h .P) (h .R) (wordsOf b) e n 0 p → OneOutput
+    unfolding stateIn writtenIn
+    state-output e n same =
+        let front : take (countIn (wordsOf a)) o ≡ take (countIn (wordsOf b)) p = ap (λ (z : State). z .output) same in
+        let count = same-count (countIn (wordsOf a)) (countIn (wordsOf b)) o p out (x .written (h .P) (h .R)) (y .written (h .P) (h .R)) (x .out-long) (y .out-long) front in
+        (same-output (countIn (wordsOf a)) (countIn (wordsOf b)) o p out count front (x .past (h .P) (h .R)) (y .past (h .P) (h .R)), count)
+
+    kept-output : wordsOf a ≡ wordsOf values → wordsOf b ≡ wordsOf values → o ≡ out → p ≡ out → OneOutput
+    kept-output c d f g = (f ∙ sym g, ap countIn (c ∙ sym d))
+
+    agreed-output : AgreesOrLacks (h .P) (h .R) (wordsOf code) (h .d) i 0 (wordsOf values) out (wordsOf a) o r (wordsOf b) p s → OneOutput
+    agreed-output (agreed (moved e n c d same)) = state-output e n (same .state)
+    agreed-output (agreed (failed e c d same)) = state-output (h .d) i (same .state)
+    agreed-output (agreed (kept c d e f g)) = kept-output d e f g
+    agreed-output (lacked l) = kept-output (l .cells₁) (l .cells₂) (l .output₁) (l .output₂)
+
+    pub stepped-unique : OneStepped
+    stepped-unique = record {
+      agrees = stepped-agree;
+      output = agreed-output (stepped-agree 0) .0;
+      store = one-store values a b (h .values-size) (x .long) (y .long) (agreed-output (stepped-agree 0) .1);
+    }
+
+-- main alone
+shallow : Rooms
+shallow = record { depth = 1; output = 0; inputs = [] }
+
+shallow-last : LastWindow shallow (windowOf 0)
+unfolding shallow
+shallow-last = record { some = omega arith; most = omega arith; is = refl }
+
+module _ {text code values out a o b p : List ℕ} {i : ℕ} {r s : ℤ} where
+  pub step-unique : {inputs : List ℕ} {base last : ℕ} (h : Steps text code values out base last i)
+      → Stepped text code values a inputs out o base last i r → Stepped text code values b inputs out p base last i s → OneStepped (h .here) out a o b p r s
+  step-unique {inputs} {base} {last} h x y = stepped-unique (h .here) out a o b p r s text inputs last (h .text-is) (h .rooms) (h .deepest) x y
+
+  pub write-unique : (h : Writes text code values out i) → Wrote text code values a out o i r → Wrote text code values b out p i s → OneStepped (h .prints .here) out a o b p r s
+  write-unique h x y =
+      stepped-unique (h .prints .here) out a o b p r s text [] (windowOf 0) (h .prints .text-is) shallow shallow-last (x .steps [] (h .base) (windowOf 0)) (y .steps [] (h .base) (windowOf 0))
+
+  pub write-of-unique : {base : ℕ} (h : Prints text code values out base i) → WroteOf text code values a out o base i r → WroteOf text code values b out p base i s
+      → OneStepped (h .here) out a o b p r s
+  write-of-unique h x y = stepped-unique (h .here) out a o b p r s text [] (windowOf 0) (h .text-is) shallow shallow-last (x .steps [] (windowOf 0)) (y .steps [] (windowOf 0))
+
+  pub read-unique : {inputs : List ℕ} {base : ℕ} (h : Reads text code values inputs out base i) → WasRead text code values a inputs out o base i r → WasRead text code values b inputs out p base i s
+      → OneStepped (h .prints .here) out a o b p r s
+  read-unique {inputs} h x y =
+      stepped-unique (h .prints .here) out a o b p r s text inputs (windowOf 0) (h .prints .text-is) shallow shallow-last (x .steps (windowOf 0)) (y .steps (windowOf 0))
+
+-- ---- errors
+-- The state that an outcome leaves.
+stateOf : Outcome → State
+stateOf (running.goesOn s) = s
+stateOf (running.stopped counted e) = e .state
+
+-- What two results share by which an error is taken: a and b are the value stores then, t and u the answers.
+module _ {code values : List ℕ} {base i : ℕ} (h : Here code values base i) (a b : List ℕ) (t u : Taken) where
+  module _ (steps : ℕ) (out : List ℕ) where
+    pub data OneTaken : Type 0 where
+      -- the run dies: no call is named, and one state is left
+      died : t .next ≡ 0 → u .next ≡ 0 → stateIn (h .P) (h .R) (wordsOf a) (h .d) i steps out ≡ stateIn (h .P) (h .R) (wordsOf b) (h .d) i steps out → OneTaken
+      -- it goes on: by one call, in one state
+      taken : (c : ℕ) → t ≡ u → t .base ≡ windowOf c → OneState (h .P) (h .R) c (t .next) steps (wordsOf a) out (wordsOf b) out → OneTaken
+
+    settled : (place : ℕ) (o : Outcome) → Settles (h .P) (h .R) (wordsOf a) (h .d) i steps place out t o → Settles (h .P) (h .R) (wordsOf b) (h .d) i steps place out u o → OneTaken
+    unfolding stateOf
+    settled place o (stops n e) (stops m f) = died n m (ap stateOf (sym e ∙ f))
+    settled place o (stops n e) (resumes c m g d l f) = apart (cc)
+    settled place o (resumes c m g d l e) (stops n f) = apart (cc)
+    settled place o (resumes c n g d l e) (resumes k m j q v f) =
+        let P = h .P in
+        let R = h .R in
+        let state : stateIn P R (wordsOf a) c (t .next) steps out ≡ stateIn P R (wordsOf b) k (u .next) steps out = ap stateOf (sym e ∙ f) in
+        let depth : c ≡ k = same-depth P R steps (wordsOf a) (wordsOf b) out out c (t .next) k (u .next) state in
+        let next : t .next ≡ u .next = same-next P R steps (wordsOf a) (wordsOf b) out out c (t .next) k (u .next) state in
+        let window : t .base ≡ u .base = g ∙ ap windowOf depth ∙ sym j in
+        taken c (λ x. record { next = next x; base = window x }) g (meet P R steps (wordsOf a) (wordsOf b) out out c (t .next) k (u .next) state l v)
+
+  pub record OneArisen : Type 0 where
+    pub settles : (steps : ℕ) (out : List ℕ) → OneTaken steps out
+    pub store : OneStore a b
+
+  module _ (r : ℤ) (p : Arisen code values a base i r t) (q : Arisen code values b base i r u) where
+    arisen-taken : Raises r → (steps : ℕ) (out : List ℕ) → OneTaken steps out
+    arisen-taken (raises e l is) steps out = settled steps out 0 _ (p .fails h e is steps 0 out) (q .fails h e is steps 0 out)
+    arisen-taken (handsOn is) steps out = settled steps out 0 _ (p .hands h is steps 0 out) (q .hands h is steps 0 out)
+
+    pub arise-unique : Raises r → OneArisen
+    arise-unique k = record { settles = arisen-taken k; store = kept-store values a b (h .values-size) (p .long) (q .long) (p .kept) (q .kept) }
+
+-- ---- a new call
+-- The cells that the promise speaks of: all but those between the call's words, its loops' ends and its loops' steps, which no FOR variable has.
+pub data OfStart (at words fors c : ℕ) : Type 0 where
+  beneath : c < at → OfStart at words fors c
+  datum : (k : ℕ) → k < words → c ≡ at + k → OfStart at words fors c
+  variable : (j : ℕ) → j < fors → c ≡ at + words + j → OfStart at words fors c
+  itsEnd : (j : ℕ) → j < fors → c ≡ at + words + j + endsCell → OfStart at words fors c
+  itsStep : (j : ℕ) → j < fors → c ≡ at + words + j + stepsCell → OfStart at words fors c
+  behind : at + words + fors + stepsCell ≤ c → OfStart at words fors c
+
+pub record OneStart (code before a b : List ℕ) (first at : ℕ) (h : Starts code before first at) : Type 0 where
+  pub long : length a ≡ length b
+  pub cells : Bytes a → Bytes b → (c : ℕ) → OfStart at (length (h .starts)) (placeAt (wordsOf code) (h .opens)) c → getD (wordsOf a) c 0 ≡ getD (wordsOf b) c 0
+
+module _ (code before a b : List ℕ) (first at : ℕ) (h : Starts code before first at) (p : Started code before a first at) (q : Started code before b first at) where
+  abbrev fors : ℕ
+  fors = placeAt (wordsOf code) (h .opens)
+
+  start-cells : Bytes a → Bytes b → (c : ℕ) → OfStart at (length (h .starts)) fors c → getD (wordsOf a) c 0 ≡ getD (wordsOf b) c 0
+  start-cells x y c (beneath l) = p .below c l ∙ sym (q .below c l)
+  start-cells x y c (datum k l e) =
+      rw e (same-part at (length (h .starts)) (wordsOf a) (wordsOf b) (words-small a x) (words-small b y) (p .is (h .starts) (h .opens) (h .reads) ∙ sym (q .is (h .starts) (h .opens) (h .reads))) k l)
+  start-cells x y c (variable j l e) = rw e (p .idle (h .starts) (h .opens) j (h .reads) l .0 ∙ sym (q .idle (h .starts) (h .opens) j (h .reads) l .0))
+  start-cells x y c (itsEnd j l e) = rw e (p .idle (h .starts) (h .opens) j (h .reads) l .1 ∙ sym (q .idle (h .starts) (h .opens) j (h .reads) l .1))
+  start-cells x y c (itsStep j l e) = rw e (p .idle (h .starts) (h .opens) j (h .reads) l .2 ∙ sym (q .idle (h .starts) (h .opens) j (h .reads) l .2))
+  start-cells x y c (behind l) = p .above (h .starts) (h .opens) c (h .reads) l ∙ sym (q .above (h .starts) (h .opens) c (h .reads) l)
+
+  pub start-words-unique : OneStart code before a b first at h
+  start-words-unique = record { long = p .long ∙ sym (q .long); cells = start-cells }
+
+-- ---- a run
+-- What two results share: a and b are the value stores after the run, o and p the outputs, r and s the answers.
+pub record OneRun (P : Program) (a o b p : List ℕ) (r s : Ended) : Type 0 where
+  pub answer : r ≡ s
+  pub output : o ≡ p
+  pub long : length a ≡ length b
+  pub errno : getD (wordsOf a) errnoCell 0 ≡ getD (wordsOf b) errnoCell 0
+  pub used : getD (wordsOf a) usedCell 0 ≡ getD (wordsOf b) usedCell 0
+  pub written : countIn (wordsOf a) ≡ countIn (wordsOf b)
+  pub words : Bytes a → Bytes b → (k : ℕ) → k < length (P .words) → getD (wordsOf a) k 0 ≡ getD (wordsOf b) k 0
+
+module _ {P : Program} {offset : ℕ → ℕ} {a out o b p : List ℕ} {steps : ℕ} {e : running.Ended} {r s : Ended} (x : runs.Comes P offset a out o steps e r) (y : runs.Comes P offset b out p steps e s) where
+  came-answer : r ≡ s
+  came-answer =
+      let ending : r .ending ≡ s .ending = x .ending ∙ sym (y .ending) in
+      let place : r .place ≡ s .place = x .place ∙ sym (y .place) in
+      let left : r .left ≡ s .left = omega (arith, x .counted, y .counted, x .left, y .left) in
+      λ j. record { ending = ending j; place = place j; left = left j }
+
+  came-output : o ≡ p
+  came-output =
+      let n : ℕ = length (e .state .output) in
+      sym (take-append-drop n o) ∙ ap₂ _++_ (x .output ∙ sym (y .output)) (x .past ∙ sym (y .past)) ∙ take-append-drop n p
+
+  came-unique : length a ≡ length b → OneRun P a o b p r s
+  unfolding writtenIn
+  came-unique long = record {
+    answer = came-answer;
+    output = came-output;
+    long = long;
+    errno = x .errno ∙ sym (y .errno);
+    used = x .used ∙ sym (y .used);
+    written = x .written [] ∙ sym (y .written []);
+    words = λ i j. same-cells (length (P .words)) (wordsOf a) (wordsOf b) (words-small a i) (words-small b j) (x .words ∙ sym (y .words));
+  }
+
+pub run-unique : {text code values inputs out a o b p : List ℕ} {h steps depth : ℕ} {r s : Ended} (g : Begins text code values h depth)
+    → Ran text code values a inputs out o h steps depth r → Ran text code values b inputs out p h steps depth s → OneRun (g .P) a o b p r s
+run-unique {inputs = inputs} {out = out} {depth = depth} g x y =
+    let rooms : Rooms = record { depth = depth; output = length out; inputs = map (toZ w32) (wordsOf inputs) } in
+    let lends : Lends rooms inputs out = record { room = refl; reads = refl } in
+    came-unique (x .is g rooms refl lends) (y .is g rooms refl lends) (x .long ∙ sym (y .long))
