@@ -7,10 +7,11 @@ use lib.Dec.{eqb}
 use borrow.Author.Tests.{eqb-true, eqb-false}
 use Rattle.laws.proofs.Tests.{test, by-less, apart}
 use Rattle.paper.specs.Basics.{if_then_else_}
+use Rattle.paper.specs.Sorts.{NOTHING}
 use Rattle.paper.specs.Expressions.{levelOf, isLiteral, isType, standsBefore}
 use Rattle.form.specs.declared.Read.{Read}
 use Rattle.form.specs.declared.Read.the-variants.{Upto, Refused}
-use Rattle.form.specs.Places.{_▸_, turns, word, typeWord, operand, chainTurn, chain, prefixed, level, expressionIn}
+use Rattle.form.specs.Places.{_▸_, turns, startedBy, word, typeWord, operand, chainTurn, chain, prefixed, level, expressionIn}
 
 -- ---- ends
 
@@ -72,6 +73,13 @@ module _ (words : ℕ) where
   unfolding turns
   endless turn l few at =
       l (turns turn 8192) (turns turn 8193) at (λ h n i. same-turns turn l 8191 8192 n (omega arith) (omega arith))
+
+-- ---- lists of data and of routines
+
+-- What such a list is made of: where no word stands none starts, and each is read from behind the word that starts it, by its sort.
+pub record Kind (W : ℕ → ℕ) (starts : ℕ → Bool) (of : (sort : ℕ) → ℕ → Read) : Type 0 where
+  pub none : starts NOTHING ≡ false
+  pub on : (at : ℕ) → Beyond (suc at) (startedBy W of at)
 
 -- ---- words
 

@@ -6,6 +6,7 @@ use native.Mathlib.Omega.{arith}
 use lib.Dec.{eqb}
 use Rattle.laws.proofs.Tests.{apart}
 use Rattle.paper.specs.Basics.{if_then_else_}
+use Rattle.paper.specs.Sorts.{NOTHING}
 use Rattle.paper.specs.Expressions.{startsSimple, startsData, startsRoutine}
 use Rattle.form.specs.declared.Read.{Read}
 use Rattle.form.specs.declared.Read.the-variants.{Upto, Refused}
@@ -14,8 +15,17 @@ use Rattle.form.specs.declared.Part.the-variants as part
 use Rattle.form.specs.Places.{_▸_, _▹_, turns, word, typeWord, expressionIn, afterOne, separatedTurn, separated, repeatedTurn, repeated, expressions, arguments, optional}
 use Rattle.form.specs.Places.{target, rightSide, assigns, startedByName, number, writing, wanting, simpleWord, simple, armEnd, caseEnd, listEnd, stepPart, forHead, condition, ifHead, testHead, opened}
 use Rattle.form.specs.Places.{elsePart, afterArm, armsTurn, arms, defaultPart, casesTurn, cases, ending, resume, startsCompound, listTurn, listBelow, compound}
-use Rattle.form.specs.Places.{content, declaration, declared, declarations, parameter, parameters, errorPart, routineFrom, routine, routineAt, routines}
-use Rattle.form.proofs.Beyond.{Beyond, refuses, ends, sooner, either, follows, on, strictly, turns-on, word-on, type-on, nested-on}
+use Rattle.form.specs.Places.{content, startedBy, declaration, declarations, parameter, parameters, errorPart, routineFrom, routine}
+use Rattle.form.proofs.Beyond.{Beyond, refuses, ends, sooner, either, follows, on, strictly, turns-on, Kind, word-on, type-on, nested-on}
+
+-- where no word stands nothing starts
+pub no-data : startsData NOTHING ≡ false
+unfolding startsData
+no-data = refl
+
+pub no-routine : startsRoutine NOTHING ≡ false
+unfolding startsRoutine
+no-routine = refl
 
 -- how far a part reaches
 unfoldable pub reached : Part → Read
@@ -250,13 +260,12 @@ module _ (W : ℕ → ℕ) where
   unfolding declaration
   declaration-on s at = on (on (on (type-on W at) (strictly (word-on W 1))) (content-on s)) (strictly (word-on W 4))
 
-  pub declared-on : (at : ℕ) → Beyond (suc at) (declared W at)
-  unfolding declared
-  declared-on at = sooner (suc at) (omega arith) (declaration-on (W at) (at + 1))
+  pub data-kind : Kind W startsData (declaration W)
+  unfolding startedBy
+  data-kind = record { none = no-data; on = λ at. sooner (suc at) (omega arith) (declaration-on (W at) (at + 1)) }
 
   declarations-on : (at : ℕ) → Beyond at (declarations W at)
-  unfolding declarations
-  declarations-on at = repeated-on (declared W) declared-on startsData at
+  declarations-on at = repeated-on (startedBy W (declaration W)) (data-kind .on) startsData at
 
   pub parameter-on : (at : ℕ) → Beyond (suc at) (parameter W at)
   unfolding parameter
@@ -279,6 +288,6 @@ module _ (W : ℕ → ℕ) where
   unfolding routine
   routine-on s at = either (eqb s 69) (from-on at 47 (Upto at) (ends at at (omega arith))) (from-on at 44 (typeWord W at) (sooner at (omega arith) (type-on W at)))
 
-  pub routine-at-on : (at : ℕ) → Beyond (suc at) (routineAt W at)
-  unfolding routineAt
-  routine-at-on at = sooner (suc at) (omega arith) (routine-on (W at) (at + 1))
+  pub routine-kind : Kind W startsRoutine (routine W)
+  unfolding startedBy
+  routine-kind = record { none = no-routine; on = λ at. sooner (suc at) (omega arith) (routine-on (W at) (at + 1)) }
