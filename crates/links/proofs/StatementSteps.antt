@@ -23,10 +23,11 @@ use Rattle.links.specs.Resolved.{goesByLink, goesByValue, goesByPlace, b
 use Rattle.links.specs.Raw.{Ground, RawWord, RawTerm, RawBound, RawDo, RawStep, RawSimple, RawFirst, RawElse, RawDefault, LastOf, an-else, no-else, RawStatement, RawList, RawArms, RawCases}
 use Rattle.links.proofs.Ops.{beyond-close}
 use Rattle.links.proofs.Moving.{Moves, does-move, bound-moves, still-link}
-use Rattle.links.proofs.Reading.{reads-step, reads-with, does-read, does-call, does-op, acts-compact-if, acts-if, acts-while, acts-for, acts-for-test, acts-test}
+use Rattle.links.proofs.SimpleSteps.{reads-step, reads-with, does-read, does-call, does-op, acts-compact-if, acts-if, acts-while, acts-for, acts-for-test, acts-test}
 use Rattle.links.proofs.Orders.{term-order, bound-order, step-order, ends-order, last-order, statement-order, list-order, arms-order, cases-order, begins, list-begins}
-use Rattle.links.proofs.Leading.{Goes, op-same, value-same, place-same, link-same, value-goes, place-goes, link-goes, word-goes, pass-goes, step-goes, moves, ends-go, list-goes, last-goes, arms-go, cases-go}
-use Rattle.links.proofs.Choosing.{term-reads, conditions-read, cases-read}
+use Rattle.links.proofs.ResolvedWords.{Goes, op-same, value-same, place-same, link-same, value-goes, place-goes, link-goes, word-goes, pass-goes, step-goes, moves, ends-go, list-goes, last-goes, arms-go, cases-go}
+use Rattle.links.proofs.IfAndTest.{term-reads, conditions-read, cases-read}
+use Rattle.layout.specs.Parts.{loopPart}
 
 step-place : (op : ℕ) → op < anElseIf → goesByPlace op ≡ false
 unfolding goesByPlace
@@ -213,21 +214,21 @@ module _ (g : Ground) (n : ℕ) (C D : List ℕ) (words : ℕ) (led : (i : ℕ) 
         let h : end < words = omega (arith, w .inside) in
         let o = x .test .is in
         let m = x .small in
-        let vv : valueAt D end ≡ used + 256 * at = value-same C D words led aForTest end h o refl ∙ x .test-value in
-        let vr : valueAt D end % 256 ≡ used = ap (λ (k : ℕ). k % 256) vv ∙ low-part used at m in
-        let vq : valueAt D end / 256 ≡ at = ap (λ (k : ℕ). k / 256) vv ∙ high-part used at m in
+        let vv : valueAt D end ≡ used + loopPart * at = value-same C D words led aForTest end h o refl ∙ x .test-value in
+        let vr : valueAt D end % loopPart ≡ used = ap (λ (k : ℕ). k % loopPart) vv ∙ low-part used at m in
+        let vq : valueAt D end / loopPart ≡ at = ap (λ (k : ℕ). k / loopPart) vv ∙ high-part used at m in
         let first : w .d + 1 ≤ end → opAt C (w .d + 1) < anElseIf =
         λ q. list-begins g n C body Around (suc used) (w .d + 1) end (w .list) (λ z. z) (λ z. let k = ap (opAt C) z in omega arith) in
         let l : linkAt D end ≡ begin body end = link-goes C D words led aForTest end h o (w .d + 1) (begin body end) refl (λ p q. omega arith) (w .test .leaves) first (w .enters) in
         acts-for-test (g .m) n (g .function) (g .text) (g .R) D end (op-same C D words led end h ∙ o)
-        ∙ guards (ltb (valueAt D end % 256) n) (linkAt D (valueAt D end / 256), repeatFor (valueAt D end % 256) (linkAt D end)) (after, repeatFor used (begin body end))
-        (lt-ltb (valueAt D end % 256) n (omega (arith, x .room)))
+        ∙ guards (ltb (valueAt D end % loopPart) n) (linkAt D (valueAt D end / loopPart), repeatFor (valueAt D end % loopPart) (linkAt D end)) (after, repeatFor used (begin body end))
+        (lt-ltb (valueAt D end % loopPart) n (omega (arith, x .room)))
         (ap₂ (λ (p q : ℕ). (p, repeatFor q (linkAt D end))) (ap (linkAt D) vq ∙ w .leads) vr ∙ ap (λ (q : ℕ). (after, repeatFor used q)) l)
       where
-        low-part : (u p : ℕ) → u < 256 → (u + 256 * p) % 256 ≡ u
+        low-part : (u p : ℕ) → u < loopPart → (u + loopPart * p) % loopPart ≡ u
         low-part u p h = omega arith
 
-        high-part : (u p : ℕ) → u < 256 → (u + 256 * p) / 256 ≡ p
+        high-part : (u p : ℕ) → u < loopPart → (u + loopPart * p) / loopPart ≡ p
         high-part u p h = omega arith
 
   -- ---- IF

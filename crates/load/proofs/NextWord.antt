@@ -15,17 +15,18 @@ use Rattle.paper.specs.Names.{nth, sortIn, spelled}
 use Rattle.words.specs.declared.Word as declared
 use Rattle.words.proofs.Places.{lies-is}
 use Rattle.names.specs.Numbers.{numberOf, IsName}
-use Rattle.names.specs.Meanings.{protectedCell}
-use Rattle.names.specs.Promises.{storeBytes}
+use Rattle.names.specs.Meanings.{protectedCell, firstMeaning}
+use Rattle.names.specs.Promises.{storeBytes, numberLimit}
 use Rattle.store.specs.Promises.{tailWith, Rewritten}
 use Rattle.names.proofs.Spellings.{name-inside, number-most}
 use Rattle.store.proofs.Rewriting.{rewritten-length, rewritten-drop}
-use Rattle.spelling.specs.Hash.{hashOf}
+use Rattle.spelling.specs.Hash.{hashOf, buckets}
 use Rattle.load.specs.Layout.{headValue, headOf, isFirst, latest, knownAs, firstBucket, Written, wordsIn, Loading, Keeping, Goes, Comes, valueOf, NameComes, Chain, Finds}
 use Rattle.spelling.proofs.Hashing.{hash-folded}
 use Rattle.load.proofs.Bounds.{reading-good}
 use Rattle.load.proofs.Chains.{latest-most, latest-itself, known-some, known-zero, known-latest}
-use Rattle.load.proofs.Filling.{written-on, tabled-same, tabled-new}
+use Rattle.load.proofs.WordStored.{written-on, tabled-same, tabled-new}
+use Rattle.layout.specs.Parts.{valuePart}
 
 -- fewer words are loaded too
 written-fewer : (W : List Word) (m n : ℕ) (C : List ℕ) → m ≤ n → Written W n C → Written W m C
@@ -55,33 +56,33 @@ module _ (text code values : List ℕ) (i : ℕ) (at : Loading text i code value
   unfolding sortIn
   sort-is = ap (λ (x : declared.Word). x .sort) (come .is)
 
-  other-head : (w .sort ≡ 1 → ⊥) → w .sort + 256 * valueOf w ≡ headOf (wordsIn text) i
+  other-head : (w .sort ≡ NAME → ⊥) → w .sort + valuePart * valueOf w ≡ headOf (wordsIn text) i
   unfolding headValue sortIn
   other-head d =
-      ap (λ (x : declared.Word). x .sort + 256 * valueOf x) (come .is)
-      ∙ ap (λ (v : ℕ). sortIn (wordsIn text) i + 256 * v) (sym (rw (ne-eqb (sortIn (wordsIn text) i) NAME (λ e. d (sort-is ∙ e)))))
+      ap (λ (x : declared.Word). x .sort + valuePart * valueOf x) (come .is)
+      ∙ ap (λ (v : ℕ). sortIn (wordsIn text) i + valuePart * v) (sym (rw (ne-eqb (sortIn (wordsIn text) i) NAME (λ e. d (sort-is ∙ e)))))
 
-  not-first : (w .sort ≡ 1 → ⊥) → isFirst (wordsIn text) i ≡ false
+  not-first : (w .sort ≡ NAME → ⊥) → isFirst (wordsIn text) i ≡ false
   unfolding isFirst
   not-first d = rw (ne-eqb (sortIn (wordsIn text) i) NAME (λ e. d (sort-is ∙ e)))
 
-  pub goes-other : (w .sort ≡ 1 → ⊥) → (v : ℕ) (code′ : List ℕ) → v ≡ valueOf w → Rewritten code code′ i (w .sort + 256 * v) (tailWith (w .place) 0) → Goes text i code values code′ values
+  pub goes-other : (w .sort ≡ NAME → ⊥) → (v : ℕ) (code′ : List ℕ) → v ≡ valueOf w → Rewritten code code′ i (w .sort + valuePart * v) (tailWith (w .place) 0) → Goes text i code values code′ values
   goes-other d v code′ e p =
       let room : i * 8 + 8 ≤ length code = omega (arith, at .code-room, come .room) in
       let none = not-first d in
       record {
         loading = record {
-          written = written-on (wordsIn text) i code code′ (w .sort + 256 * v) (w .place) 0 p room (omega (arith, come .inside, come .short)) (at .written)
-              (ap (λ (x : ℕ). w .sort + 256 * x) e ∙ other-head d) (ap (λ (x : declared.Word). x .place) (come .is)) (λ f. false-true (sym none ∙ f));
+          written = written-on (wordsIn text) i code code′ (w .sort + valuePart * v) (w .place) 0 p room (omega (arith, come .inside, come .short)) (at .written)
+              (ap (λ (x : ℕ). w .sort + valuePart * x) e ∙ other-head d) (ap (λ (x : declared.Word). x .place) (come .is)) (λ f. false-true (sym none ∙ f));
           tabled = tabled-same (wordsIn text) i none (wordsOf values) (come .room) (at .tabled);
           code-room = rw (rewritten-length p room) (at .code-room);
           values-room = at .values-room;
         };
-        keeping = code-kept i code values code′ (w .sort + 256 * v) (tailWith (w .place) 0) p room;
+        keeping = code-kept i code values code′ (w .sort + valuePart * v) (tailWith (w .place) 0) p room;
       }
 
   -- ---- a name is told by its sort
-  pub name-comes : w .sort ≡ 1 → NameComes text i (w .place) (w .length)
+  pub name-comes : w .sort ≡ NAME → NameComes text i (w .place) (w .length)
   name-comes e =
       let name : IsName (wordsIn text) i = sym sort-is ∙ e in
       let place-is : w .place ≡ nth (wordsIn text) i .place = ap (λ (x : declared.Word). x .place) (come .is) in
@@ -120,11 +121,11 @@ module _ (text code values : List ℕ) (i place len : ℕ) (at : Loading text i 
   room : i * 8 + 8 ≤ length code
   room = omega (arith, at .code-room, come .room)
 
-  name-head : (n : ℕ) → n ≡ numberOf (wordsIn text) i → 1 + 256 * (n + 8192 * len) ≡ headOf (wordsIn text) i
+  name-head : (n : ℕ) → n ≡ numberOf (wordsIn text) i → NAME + valuePart * (n + numberLimit * len) ≡ headOf (wordsIn text) i
   unfolding headValue
   name-head n e = rw (eq-eqb (sortIn (wordsIn text) i) NAME (come .name)) (omega (arith, e, come .name, come .length-is))
 
-  module _ (h first : ℕ) (eh : h ≡ hashOf (part text place len)) (few : h < 2048) (got : Got values (4096 + h) first) where
+  module _ (h first : ℕ) (eh : h ≡ hashOf (part text place len)) (few : h < buckets) (got : Got values (firstBucket + h) first) where
     first-is : first ≡ latest (wordsIn text) h i
     first-is = got ∙ at .tabled .chains h few
 
@@ -145,7 +146,7 @@ module _ (text code values : List ℕ) (i place len : ℕ) (at : Loading text i 
           f .is ∙ ap₂ (knownAs (wordsIn text)) (first-is ∙ ap (λ (x : ℕ). latest (wordsIn text) x i) (eh ∙ hashes)) spells
           ∙ known-latest (wordsIn text) i (spelled (wordsIn text) i) (omega (arith, inside))
 
-      pub goes-found : (found ≡ 0 → ⊥) → (code′ : List ℕ) → Rewritten code code′ i (1 + 256 * (found - 1 + 8192 * len)) (tailWith place 0) → Goes text i code values code′ values
+      pub goes-found : (found ≡ 0 → ⊥) → (code′ : List ℕ) → Rewritten code code′ i (NAME + valuePart * (found - 1 + numberLimit * len)) (tailWith place 0) → Goes text i code values code′ values
       unfolding isFirst
       goes-found d code′ p =
           let k = known-some (wordsIn text) i (spelled (wordsIn text) i) (λ z. d (found-is ∙ z)) in
@@ -171,12 +172,12 @@ module _ (text code values : List ℕ) (i place len : ℕ) (at : Loading text i 
         unfolding isFirst
         is-first = rw (eq-eqb (sortIn (wordsIn text) i) NAME (come .name)) (eq-eqb (numberOf (wordsIn text) i) i own-number)
 
-        pub goes-new : (code′ v v′ : List ℕ) → Rewritten code code′ i (1 + 256 * (i + 8192 * len)) (tailWith place first) → Put values v (4096 + h) (i + 1) → Put v v′ (8192 + i) m
+        pub goes-new : (code′ v v′ : List ℕ) → Rewritten code code′ i (NAME + valuePart * (i + numberLimit * len)) (tailWith place first) → Put values v (firstBucket + h) (i + 1) → Put v v′ (firstMeaning + i) m
             → Goes text i code values code′ v′
         goes-new code′ v v′ p q r =
             let hash-is : h ≡ hashOf (spelled (wordsIn text) i) = eh ∙ hashes in
             let sized : length v ≡ length values = put-length q (omega (arith, at .values-room)) in
-            let fits : (8192 + i) * 4 + 4 ≤ length v = omega (arith, at .values-room, sized, come .room) in
+            let fits : (firstMeaning + i) * 4 + 4 ≤ length v = omega (arith, at .values-room, sized, come .room) in
             record {
               loading = record {
                 written = written-on (wordsIn text) i code code′ _ place first p room (omega (arith, come .inside, come .short)) (at .written)

@@ -14,6 +14,7 @@ use Rattle.store.specs.Promises.{Rewritten}
 use Rattle.store.proofs.Rewriting.{rewritten-length, rewritten-drop, rewritten-head, rewritten-tail, rewritten-heads, rewritten-tails}
 use Rattle.links.specs.Resolved.{goesByLink, goesByValue, goesByPlace, beyond, Follows, Led, Resolved, LedValue, LedPlace, LedLink, Turned}
 use Rattle.links.proofs.Ops.{link-low, low-value, low-place, beyond-step, beyond-case, beyond-close}
+use Rattle.layout.specs.Parts.{valuePart, linkPart}
 
 -- ---- one word
 -- a word of an expression
@@ -40,28 +41,28 @@ turned-low code words i op e h =
 
 -- a word whose three parts are known
 module _ (op v p l : ℕ) where
-  op-of : op < 256 → (op + 256 * v) % 256 ≡ op
+  op-of : op < valuePart → opIn (op + valuePart * v) ≡ op
   op-of h = omega arith
 
-  value-of : op < 256 → (op + 256 * v) / 256 ≡ v
+  value-of : op < valuePart → valueIn (op + valuePart * v) ≡ v
   value-of h = omega arith
 
-  place-of : p < 65536 → (p + 65536 * l) % 65536 ≡ p
+  place-of : p < linkPart → placeIn (p + linkPart * l) ≡ p
   place-of h = omega arith
 
-  link-of : p < 65536 → (p + 65536 * l) / 65536 ≡ l
+  link-of : p < linkPart → linkIn (p + linkPart * l) ≡ l
   link-of h = omega arith
 
 pub turned : (code b : List ℕ) (words i op value place link v p l : ℕ) → words * 8 ≤ length code → i < words → op ≡ opAt (wordsOf code) i
     → value ≡ valueAt (wordsOf code) i → place ≡ placeAt (wordsOf code) i → link ≡ linkAt (wordsOf code) i
-    → LedValue code words op value v → LedPlace code words op place p → LedLink code words op link l → Rewritten code b i (op + 256 * v) (p + 65536 * l) → Turned code b words i
+    → LedValue code words op value v → LedPlace code words op place p → LedLink code words op link l → Rewritten code b i (op + valuePart * v) (p + linkPart * l) → Turned code b words i
 turned code b words i op value place link v p l h g eo ev ep el gv gp gl w =
     let C = wordsOf code in
     let D = wordsOf b in
-    let small : op < 256 = subst (λ (x : ℕ). x < 256) (sym eo) (below (headAt C i)) in
+    let small : op < valuePart = subst (λ (x : ℕ). x < valuePart) (sym eo) (below (headAt C i)) in
     let room : i * 8 + 8 ≤ length code = omega arith in
-    let hd : headAt D i ≡ op + 256 * v = rewritten-head w room in
-    let tl : tailAt D i ≡ p + 65536 * l = rewritten-tail w room in
+    let hd : headAt D i ≡ op + valuePart * v = rewritten-head w room in
+    let tl : tailAt D i ≡ p + linkPart * l = rewritten-tail w room in
     let o : opAt C i ≡ op = sym eo in
     let vo : valueAt C i ≡ value = sym ev in
     let po : placeAt C i ≡ place = sym ep in
@@ -88,7 +89,7 @@ turned code b words i op value place link v p l h g eo ev ep el gv gp gl w =
       long = rewritten-length w room;
     }
   where
-    below : (x : ℕ) → x % 256 < 256
+    below : (x : ℕ) → opIn x < valuePart
     below x = omega arith
 
 -- ---- stores that say the same

@@ -22,7 +22,7 @@ use Rattle.links.specs.Resolved.{goesByLink, goesByValue, goesByPlace, L
 use Rattle.links.specs.Raw.{Ground, RawWord, RawTerm, RawValue, RawValues, RawConstants, NoMore, RawNoMore, Begins, RawElseIf, RawList, RawArms, RawCases}
 use Rattle.links.proofs.Moving.{Moves, term-moves}
 use Rattle.links.proofs.Orders.{list-order, cases-order, arms-order, term-order}
-use Rattle.links.proofs.Leading.{Goes, op-same, value-same, place-same, link-same, value-goes, place-goes, link-goes, moves, list-goes, arms-go, cases-go}
+use Rattle.links.proofs.ResolvedWords.{Goes, op-same, value-same, place-same, link-same, value-goes, place-goes, link-goes, moves, list-goes, arms-go, cases-go}
 
 module _ (g : Ground) (n : ℕ) (C D : List ℕ) (words : ℕ) (led : (i : ℕ) → i < words → Led C D D words i) where
   -- an expression of a statement that ends at `to`

@@ -12,33 +12,34 @@ use Rattle.cells.specs.Words.{wordsOf, Put}
 use Rattle.cells.proofs.Kept.{put-length, put-same, put-other}
 use Rattle.paper.specs.Words.{Word}
 use Rattle.paper.specs.Names.{nth, spelled}
-use Rattle.code.specs.Cells.{placeAt, linkAt}
+use Rattle.code.specs.Cells.{placeAt, linkAt, placeIn, linkIn}
 use Rattle.names.specs.Meanings.{protectedCell, firstMeaning}
 use Rattle.names.specs.Promises.{storeBytes, numberLimit}
 use Rattle.store.specs.Promises.{tailWith, Rewritten}
 use Rattle.store.proofs.Rewriting.{rewritten-head, rewritten-tail, rewritten-heads, rewritten-tails}
 use Rattle.spelling.specs.Hash.{buckets, hashOf}
 use Rattle.load.specs.Layout.{headOf, isFirst, firstCell, opens, latest, firstBucket, Written, Tabled}
+use Rattle.layout.specs.Parts.{linkPart}
 
 -- ---- the code store
-module _ (W : List Word) (i : ℕ) (code code′ : List ℕ) (head place link : ℕ) (p : Rewritten code code′ i head (tailWith place link)) (room : i * 8 + 8 ≤ length code) (small : place < 65536) where
+module _ (W : List Word) (i : ℕ) (code code′ : List ℕ) (head place link : ℕ) (p : Rewritten code code′ i head (tailWith place link)) (room : i * 8 + 8 ≤ length code) (small : place < linkPart) where
   place-is : placeAt (wordsOf code′) i ≡ place
-  place-is = ap (λ (x : ℕ). x % 65536) (rewritten-tail p room) ∙ low place link small
+  place-is = ap placeIn (rewritten-tail p room) ∙ low place link small
     where
-      low : (place link : ℕ) → place < 65536 → (place + 65536 * link) % 65536 ≡ place
+      low : (place link : ℕ) → place < linkPart → placeIn (place + linkPart * link) ≡ place
       low place link h = omega arith
 
   link-is : linkAt (wordsOf code′) i ≡ link
-  link-is = ap (λ (x : ℕ). x / 65536) (rewritten-tail p room) ∙ high place link small
+  link-is = ap linkIn (rewritten-tail p room) ∙ high place link small
     where
-      high : (place link : ℕ) → place < 65536 → (place + 65536 * link) / 65536 ≡ link
+      high : (place link : ℕ) → place < linkPart → linkIn (place + linkPart * link) ≡ link
       high place link h = omega arith
 
   pub written-on : Written W i (wordsOf code) → head ≡ headOf W i → place ≡ nth W i .place → (isFirst W i ≡ true → link ≡ latest W (hashOf (spelled W i)) i) → Written W (i + 1) (wordsOf code′)
   written-on w h q l = record {
     heads = λ j k. by-same j i (λ e. rw e (rewritten-head p room ∙ h)) (λ d. rewritten-heads p room j d ∙ w .heads j (less j k d));
-    places = λ j k. by-same j i (λ e. rw e (place-is ∙ q)) (λ d. ap (λ (x : ℕ). x % 65536) (rewritten-tails p room j d) ∙ w .places j (less j k d));
-    links = λ j k f. by-same j i (λ e. rw e (link-is ∙ l (rw e at f))) (λ d. ap (λ (x : ℕ). x / 65536) (rewritten-tails p room j d) ∙ w .links j (less j k d) f);
+    places = λ j k. by-same j i (λ e. rw e (place-is ∙ q)) (λ d. ap placeIn (rewritten-tails p room j d) ∙ w .places j (less j k d));
+    links = λ j k f. by-same j i (λ e. rw e (link-is ∙ l (rw e at f))) (λ d. ap linkIn (rewritten-tails p room j d) ∙ w .links j (less j k d) f);
   }
     where
       less : (j : ℕ) → j < i + 1 → (j ≡ i → ⊥) → j < i
