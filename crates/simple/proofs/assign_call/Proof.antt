@@ -1,11 +1,11 @@
 use borrow.Author.Needs.{needs}
-use Rattle.simple.proofs.Functions.{assign-small, assign-fits, assign-op-fits, call-faulty, call-typed}
+use Rattle.simple.proofs.FunctionCalls.{assign-small, assign-fits, assign-op-fits, call-faulty, call-typed}
 use native.Mathlib.Omega.{arith}
 use Rattle.simple.proofs.assign_call.Statement.{statement}
 use Rattle.simple.proofs.assign_call.Tie as tie
 
 add-call-for : tie.Need-add-call-for
-add-call-for c = omega (arith, assign-small _ _ _ _ (c .before .before .before .pre .0))
+add-call-for c = omega (arith, assign-small)
 
 call-for-requires : tie.Need-call-for-requires
 call-for-requires c κs = search needs

@@ -1,11 +1,11 @@
 use borrow.Author.Needs.{needs}
 use native.Mathlib.Omega.{arith}
-use Rattle.simple.proofs.Assigning.{value-stands, value-small, value-end, assigned-faulty, assigned-typed}
+use Rattle.simple.proofs.Assignments.{value-stands, value-small, value-end, assigned-faulty, assigned-typed}
 use Rattle.simple.proofs.assign_value.Statement.{statement}
 use Rattle.simple.proofs.assign_value.Tie as tie
 
 add-of-type : tie.Need-add-of-type
-add-of-type c = omega (arith, value-small _ _ _ _ _ (c .before .before .before .pre))
+add-of-type c = omega (arith, value-small)
 
 of-type-requires : tie.Need-of-type-requires
 of-type-requires c κs = search (needs, value-stands)

@@ -1,15 +1,16 @@
 use borrow.Author.Needs.{needs}
 use Prim.Native.Nat.{_-_}
 use native.Mathlib.Omega.{arith}
-use Rattle.simple.proofs.Counting.{Goes, count-room, count-none, count-starts, goes-room, goes-done, goes-on}
+use Rattle.simple.proofs.ArgumentCounts.{Goes, count-room, count-none, count-starts, goes-room, goes-done, goes-on}
 use Rattle.simple.proofs.count_arguments.Statement.{statement}
 use Rattle.simple.proofs.count_arguments.Tie as tie
+use Rattle.paper.specs.Words.{wordLimit}
 
 abbrev Inv-loop : tie.InvT-loop
 Inv-loop code first closing i₀ count₀ i count = Goes code first closing i count
 
 abbrev μ-loop : tie.MeasureT-loop
-μ-loop code first closing i₀ count₀ i count = 8192 - i
+μ-loop code first closing i₀ count₀ i count = wordLimit - i
 
 sort-requires : tie.Need-sort-requires Inv-loop μ-loop
 sort-requires c κs = search (needs, count-room)

@@ -7,8 +7,8 @@ use native.Mathlib.Omega.{arith}
 use lib.ListN.{length}
 use borrow.Author.Tests.{eqb-true, ne-eqb}
 use Rattle.laws.proofs.Tests.{by-same}
-use Rattle.paper.specs.Sorts.{NAME, openParen, closeParen, becomes}
-use Rattle.paper.specs.Words.{Word}
+use Rattle.paper.specs.Sorts.{NAME, openParen, closeParen, becomes, openBrace, EXIT, RAISE, RETRY, RETURN, TRYNEXT, TPWRITE, TPREADNUM}
+use Rattle.paper.specs.Words.{Word, wordLimit}
 use Rattle.paper.specs.Trees.{Expr, Target, assign, assignCall}
 use Rattle.paper.specs.Expressions.{nestings, startsSimple}
 use Rattle.paper.specs.Names.{DataType, Scopes, sortIn, spelled, meaning}
@@ -37,10 +37,10 @@ use Rattle.around.specs.Around.{Around, groundOf, Unread, Calls}
 use Rattle.around.specs.Answers.{Fine}
 use Rattle.simple.specs.Answers.{Answers, Statement, Stated}
 use Rattle.simple.specs.Parts.{Begins, Begun, BeginsIn, BegunIn, BeginsOf, BegunOf, Assigns, Assigned, CallsOf, CalledOf, IsCall, Targets, Aimed, AimAnswer, TargetJudged, ValueSide, ValueAssigned, ArgumentsStand, CallAssigns, CallAssigned}
-use Rattle.simple.proofs.Arguing.{unread-part, unread-after, apart-kept}
-use Rattle.simple.proofs.Aiming.{aimed-fine, aimed-first}
-use Rattle.simple.proofs.Stating.{stands-on, stands-room, stands-sort, stated-first, stated-fine, stated-on}
-use Rattle.simple.proofs.Leaving.{statement-sort}
+use Rattle.simple.proofs.Arguments.{unread-part, unread-after, apart-kept}
+use Rattle.simple.proofs.Targets.{aimed-fine, aimed-first}
+use Rattle.simple.proofs.SimpleStatements.{stands-on, stands-sort, stated-first, stated-fine, stated-on}
+use Rattle.simple.proofs.ReturnRaiseExit.{statement-sort}
 use Rattle.layout.specs.Types.{IsType}
 
 -- the routines' heads are where they were after a change inside
@@ -139,7 +139,7 @@ module _ (code values : List ℕ) (i : ℕ) (c : Assigns code values i) where
           (spotOf (c .begins .stands .around .known .W) (c .begins .stands .around .known .S) (assigns .t)) i (assigns .n) bool)
       aimed = aimed-fine _ _ _ _ code mid i (assigns .n) r target-answer bool b e
 
-      pub assign-end : (b + 1 < 8192) × ((b + 1) * 8 + 16 ≤ length mid)
+      pub assign-end : (b + 1 < wordLimit) × ((b + 1) * 8 + 16 ≤ length mid)
       assign-end =
           (omega (arith, aimed .next-is, assigns-in, c .begins .stands .unread .loaded .last), omega (arith, aimed .next-is, assigns-in, c .begins .stands .unread .loaded .room, target-answer .long))
 
@@ -271,40 +271,34 @@ module _ (code values : List ℕ) (i : ℕ) (mid : List ℕ) (r : Judged) (t : T
 
 -- ---- a name first
 module _ (code values : List ℕ) (i s : ℕ) (es : s ≡ opAt (wordsOf code) (i + 1)) where
-  module _ (c : Begins 1 code values i) where
-    pub name-room : ((i + 1) * 8 + 8 ≤ length code) × (i + 1 < 8192)
-    name-room = (stands-room code values i (c .stands) .1, stands-room code values i (c .stands) .2)
-
+  module _ (c : Begins NAME code values i) where
     name-next : s ≡ sortIn (c .stands .around .known .W) (i + 1)
     name-next = es ∙ stands-sort code values i (c .stands) (i + 1) (omega arith) (omega (arith, stands-on code values i (c .stands)))
 
-    pub name-becomes : s ≡ 11 → Assigns code values i
+    pub name-becomes : s ≡ becomes → Assigns code values i
     name-becomes e = record { begins = c; behind = λ d. absurd (d (sym name-next ∙ e)) }
 
-    pub name-brace : s ≡ 8 → Assigns code values i
+    pub name-brace : s ≡ openBrace → Assigns code values i
     name-brace e = record { begins = c; behind = λ _. sym name-next ∙ e }
 
-    pub name-calls : (s ≡ 11 → ⊥) → (s ≡ 8 → ⊥) → CallsOf code values i
+    pub name-calls : (s ≡ becomes → ⊥) → (s ≡ openBrace → ⊥) → CallsOf code values i
     name-calls a b = record { begins = c; no-becomes = λ q. a (name-next ∙ q); no-brace = λ q. b (name-next ∙ q) }
 
   module _ (after : List ℕ) (r : Judged) where
-    pub begun-becomes : s ≡ 11 → Assigned code values after i r → Begun 1 code values after i r
+    pub begun-becomes : s ≡ becomes → Assigned code values after i r → Begun NAME code values after i r
     unfolding name-becomes
     begun-becomes e a = record { is = λ c. a .is (name-becomes c e) }
 
-    pub begun-brace : s ≡ 8 → Assigned code values after i r → Begun 1 code values after i r
+    pub begun-brace : s ≡ openBrace → Assigned code values after i r → Begun NAME code values after i r
     unfolding name-brace
     begun-brace e a = record { is = λ c. a .is (name-brace c e) }
 
-    pub begun-calls : (s ≡ 11 → ⊥) → (s ≡ 8 → ⊥) → CalledOf code values after i r → Begun 1 code values after i r
+    pub begun-calls : (s ≡ becomes → ⊥) → (s ≡ openBrace → ⊥) → CalledOf code values after i r → Begun NAME code values after i r
     unfolding name-calls
     begun-calls a b x = record { is = λ c. x .is (name-calls c a b) }
 
 -- ---- all
 module _ (text code values : List ℕ) (k : Setting) (i : ℕ) where
-  pub statement-room : Statement text code values k i → (i * 8 + 8 ≤ length code) × (i < 8192)
-  statement-room g = (stands-room code values i (g .stands) .0, omega (arith, stands-room code values i (g .stands) .2))
-
   module _ (s : ℕ) (es : s ≡ opAt (wordsOf code) i) where
     pub begins-by : (sort : ℕ) → s ≡ sort → (g : Statement text code values k i) → Begins sort code values i
     begins-by sort e g = record { stands = g .stands; here = sym (statement-sort text code values k i s es g) ∙ e }
@@ -316,32 +310,32 @@ module _ (text code values : List ℕ) (k : Setting) (i : ℕ) where
     begins-of sort e g = record { begins = record { stands = g .stands; here = sym (statement-sort text code values k i s es g) ∙ e }; text-is = g .text-is }
 
     -- the last kind
-    pub reads-left : (s ≡ 1 → ⊥) → (s ≡ 74 → ⊥) → (s ≡ 70 → ⊥) → (s ≡ 53 → ⊥) → (s ≡ 73 → ⊥) → (s ≡ 82 → ⊥) → (s ≡ 91 → ⊥) → Statement text code values k i → s ≡ 92
+    pub reads-left : (s ≡ NAME → ⊥) → (s ≡ RETURN → ⊥) → (s ≡ RAISE → ⊥) → (s ≡ EXIT → ⊥) → (s ≡ RETRY → ⊥) → (s ≡ TRYNEXT → ⊥) → (s ≡ TPWRITE → ⊥) → Statement text code values k i → s ≡ TPREADNUM
     unfolding startsSimple
     reads-left a b c d e f h g =
         let q : startsSimple s ≡ true = ap startsSimple (statement-sort text code values k i s es g) ∙ inversions.simple-starts (sortIn (g .stands .around .known .W)) (Parses (sortIn (g .stands .around .known .W))) (g .stands .is) in
-        eqb-true s 92 (simp (ne-eqb s 1 a, ne-eqb s 74 b, ne-eqb s 70 c, ne-eqb s 53 d, ne-eqb s 73 e, ne-eqb s 82 f, ne-eqb s 91 h, startsSimple) at q)
+        eqb-true s TPREADNUM (simp (ne-eqb s NAME a, ne-eqb s RETURN b, ne-eqb s RAISE c, ne-eqb s EXIT d, ne-eqb s RETRY e, ne-eqb s TRYNEXT f, ne-eqb s TPWRITE h, startsSimple) at q)
 
-    pub begins-read : (s ≡ 1 → ⊥) → (s ≡ 74 → ⊥) → (s ≡ 70 → ⊥) → (s ≡ 53 → ⊥) → (s ≡ 73 → ⊥) → (s ≡ 82 → ⊥) → (s ≡ 91 → ⊥) → Statement text code values k i → BeginsOf 92 text code values i
-    begins-read a b c d e f h g = begins-of 92 (reads-left a b c d e f h g) g
+    pub begins-read : (s ≡ NAME → ⊥) → (s ≡ RETURN → ⊥) → (s ≡ RAISE → ⊥) → (s ≡ EXIT → ⊥) → (s ≡ RETRY → ⊥) → (s ≡ TRYNEXT → ⊥) → (s ≡ TPWRITE → ⊥) → Statement text code values k i → BeginsOf TPREADNUM text code values i
+    begins-read a b c d e f h g = begins-of TPREADNUM (reads-left a b c d e f h g) g
 
     module _ (after : List ℕ) (r : Judged) where
-      pub stated-name : s ≡ 1 → Begun 1 code values after i r → Stated text code values after k i r
+      pub stated-name : s ≡ NAME → Begun NAME code values after i r → Stated text code values after k i r
       unfolding begins-by
-      stated-name e b = record { is = λ g. b .is (begins-by 1 e g) }
+      stated-name e b = record { is = λ g. b .is (begins-by NAME e g) }
 
-      pub stated-return : s ≡ 74 → BegunIn 74 k code values after i r → Stated text code values after k i r
+      pub stated-return : s ≡ RETURN → BegunIn RETURN k code values after i r → Stated text code values after k i r
       unfolding begins-in
-      stated-return e b = record { is = λ g. b .is (begins-in 74 e g) }
+      stated-return e b = record { is = λ g. b .is (begins-in RETURN e g) }
 
-      pub stated-raise : s ≡ 70 → BegunIn 70 k code values after i r → Stated text code values after k i r
+      pub stated-raise : s ≡ RAISE → BegunIn RAISE k code values after i r → Stated text code values after k i r
       unfolding begins-in
-      stated-raise e b = record { is = λ g. b .is (begins-in 70 e g) }
+      stated-raise e b = record { is = λ g. b .is (begins-in RAISE e g) }
 
-      pub stated-write : s ≡ 91 → BegunOf 91 text code values after i r → Stated text code values after k i r
+      pub stated-write : s ≡ TPWRITE → BegunOf TPWRITE text code values after i r → Stated text code values after k i r
       unfolding begins-of
-      stated-write e b = record { is = λ g. b .is (begins-of 91 e g) }
+      stated-write e b = record { is = λ g. b .is (begins-of TPWRITE e g) }
 
-      pub stated-read : (s ≡ 1 → ⊥) → (s ≡ 74 → ⊥) → (s ≡ 70 → ⊥) → (s ≡ 53 → ⊥) → (s ≡ 73 → ⊥) → (s ≡ 82 → ⊥) → (s ≡ 91 → ⊥) → BegunOf 92 text code values after i r → Stated text code values after k i r
+      pub stated-read : (s ≡ NAME → ⊥) → (s ≡ RETURN → ⊥) → (s ≡ RAISE → ⊥) → (s ≡ EXIT → ⊥) → (s ≡ RETRY → ⊥) → (s ≡ TRYNEXT → ⊥) → (s ≡ TPWRITE → ⊥) → BegunOf TPREADNUM text code values after i r → Stated text code values after k i r
       unfolding begins-of
-      stated-read u v w x y z t b = record { is = λ g. b .is (begins-of 92 (reads-left u v w x y z t g) g) }
+      stated-read u v w x y z t b = record { is = λ g. b .is (begins-of TPREADNUM (reads-left u v w x y z t g) g) }

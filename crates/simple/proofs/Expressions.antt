@@ -8,7 +8,7 @@ use native.Mathlib.Omega.{arith}
 use lib.ListN.{length}
 use Rattle.paper.specs.Sorts.{comma, semicolon, closeParen, closeBrace}
 use Rattle.paper.specs.Trees.{Expr, first}
-use Rattle.paper.specs.Expressions.{levelOf, nestings}
+use Rattle.paper.specs.Expressions.{levelOf, nestings, disjunctions}
 use Rattle.paper.specs.Names.{DataType, sortIn}
 use Rattle.paper.specs.Types.{Fault, judge, ofType, termOf}
 use Rattle.paper.specs.Types as types
@@ -35,6 +35,7 @@ use Rattle.around.specs.Answers.{Answer, Fine, Tell}
 use Rattle.simple.specs.Parts.{Values, Valued}
 use Rattle.code.specs.Steps.{aTarget}
 use Rattle.layout.specs.Types.{typeIn}
+use Rattle.paper.specs.Words.{wordLimit}
 
 -- ---- no operator follows
 pub no-operator : (s k : ℕ) → s ≡ k → levelOf k ≡ 0 → levelOf s ≡ 0
@@ -74,7 +75,7 @@ pub record Told {values : List ℕ} (k : Known values) (fs : List Fault) (before
 
 module _ {code values : List ℕ} (k : Known values) (sorts : (i : ℕ) → sortIn (k .W) i < aTarget) (d at : ℕ) (e : Expr) (to : ℕ) (p : Parses (sortIn (k .W)) d at e to) (l : Loaded (k .W) code at to)
     (no : levelOf (sortIn (k .W) to) ≡ 0) where
-  unfoldable pub asks : expressions.Stands code values 5 at
+  unfoldable pub asks : expressions.Stands code values disjunctions at
   asks = record {
     known = k;
     d = d - 1;
@@ -149,7 +150,7 @@ module _ (fs : List Fault) (before after : List ℕ) (at to : ℕ) (holds : Type
 
 -- ---- a statement with a value
 module _ (code values : List ℕ) (from i : ℕ) (g : Values code values from i) where
-  pub values-stands : expressions.Stands code values 5 from
+  pub values-stands : expressions.Stands code values disjunctions from
   values-stands = asks (g .around .known) (g .around .sorts) (suc nestings) from (g .e) (g .to) (g .value) (g .loaded) (no-operator _ _ (g .ends) level-semicolon)
 
   values-grow : from < g .to
@@ -163,7 +164,7 @@ module _ (code values : List ℕ) (from i : ℕ) (g : Values code values from i)
     values-room =
         omega (arith, typed-long (g .around .known) (g .around .sorts) (suc nestings) from (g .e) (g .to) (g .value) (g .loaded) (no-operator _ _ (g .ends) level-semicolon) mid wants t w r o, g .loaded .room, g .before, values-grow)
 
-    pub values-end : (b : ℕ) (end : ℕ) → r ≡ Typed b end → end < 8192
+    pub values-end : (b : ℕ) (end : ℕ) → r ≡ Typed b end → end < wordLimit
     values-end b end e = omega (arith, values-told b end e .next-is, g .loaded .last)
 
 -- a term that is told of, as the links know it

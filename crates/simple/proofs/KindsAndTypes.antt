@@ -7,15 +7,15 @@ use native.Mathlib.Omega.{arith}
 use lib.Dec.{eqb}
 use borrow.Author.Tests.{ne-eqb, eqb-true, eqb-false}
 use Rattle.laws.proofs.Tests.{by-same, false-true}
-use Rattle.paper.specs.Sorts.{NUM, FUNC}
+use Rattle.paper.specs.Sorts.{NUM, FUNC, NAME, openParen}
 use Rattle.paper.specs.Names.{typeOf, wrongName}
 use Rattle.paper.specs.Types.{differs}
-use Rattle.code.specs.Cells.{opAt}
+use Rattle.code.specs.Cells.{opAt, opIn, valueIn}
 use Rattle.code.specs.Signatures.{firstParameter}
 use Rattle.names.specs.Meanings.{meaningWith}
 use Rattle.simple.specs.Parts.{WrongName, saidType, TypeDiffers, IsCall}
 use Rattle.layout.specs.Rules.{unknownName, wrongKind}
-use Rattle.layout.specs.Kinds.{anErrorNumber}
+use Rattle.layout.specs.Kinds.{anErrorNumber, aVariable, anArray, aConstant, aLoop, aRoutine, anErrno}
 use Rattle.names.specs.Promises.{TypeNamed}
 use Rattle.layout.proofs.Typing.{same-types, types-differ}
 use Rattle.layout.specs.Types.{typeIn}
@@ -32,13 +32,13 @@ unknown-kind : (kind : ℕ) → anErrorNumber < kind → (routine : ℕ → ℕ)
 unfolding meaningWith wrongName
 unknown-kind kind h routine bool own value =
     rw (
-      ne-eqb kind 1 (λ e. omega arith),
-      ne-eqb kind 2 (λ e. omega arith),
-      ne-eqb kind 3 (λ e. omega arith),
-      ne-eqb kind 4 (λ e. omega arith),
-      ne-eqb kind 5 (λ e. omega arith),
-      ne-eqb kind 6 (λ e. omega arith),
-      ne-eqb kind 7 (λ e. omega arith),
+      ne-eqb kind aVariable (λ e. omega arith),
+      ne-eqb kind anArray (λ e. omega arith),
+      ne-eqb kind aConstant (λ e. omega arith),
+      ne-eqb kind aLoop (λ e. omega arith),
+      ne-eqb kind aRoutine (λ e. omega arith),
+      ne-eqb kind anErrno (λ e. omega arith),
+      ne-eqb kind anErrorNumber (λ e. omega arith),
       meaningWith,
     )
 
@@ -54,21 +54,21 @@ wrong-other kind z h = from-one (above kind 0 (omega arith) z)
   where
     from-five : 5 ≤ kind → WrongName kind wrongKind
     from-five l =
-        by-same kind 5 (λ e. record { is = λ routine bool own value. rw e })
-        (λ a. by-same kind 6 (λ e. record { is = λ routine bool own value. rw e })
-        (λ b. let m = above kind 6 (above kind 5 l a) b in let e : kind ≡ 7 = omega (arith, m, h) in record { is = λ routine bool own value. rw e }))
+        by-same kind aRoutine (λ e. record { is = λ routine bool own value. rw e })
+        (λ a. by-same kind anErrno (λ e. record { is = λ routine bool own value. rw e })
+        (λ b. let m = above kind anErrno (above kind aRoutine l a) b in let e : kind ≡ anErrorNumber = omega (arith, m, h) in record { is = λ routine bool own value. rw e }))
 
     from-three : 3 ≤ kind → WrongName kind wrongKind
     from-three l =
-        by-same kind 3 (λ e. record { is = λ routine bool own value. rw e })
-        (λ a. by-same kind 4 (λ e. record { is = λ routine bool own value. rw e })
-        (λ b. from-five (above kind 4 (above kind 3 l a) b)))
+        by-same kind aConstant (λ e. record { is = λ routine bool own value. rw e })
+        (λ a. by-same kind aLoop (λ e. record { is = λ routine bool own value. rw e })
+        (λ b. from-five (above kind aLoop (above kind aConstant l a) b)))
 
     from-one : 1 ≤ kind → WrongName kind wrongKind
     from-one l =
-        by-same kind 1 (λ e. record { is = λ routine bool own value. rw e })
-        (λ a. by-same kind 2 (λ e. record { is = λ routine bool own value. rw e })
-        (λ b. from-three (above kind 2 (above kind 1 l a) b)))
+        by-same kind aVariable (λ e. record { is = λ routine bool own value. rw e })
+        (λ a. by-same kind anArray (λ e. record { is = λ routine bool own value. rw e })
+        (λ b. from-three (above kind anArray (above kind aVariable l a) b)))
 
 -- ---- types
 refused-same : (t : DataType) → differs refusedPiece t ≡ false
@@ -83,12 +83,12 @@ same-differ aNum = refl
 same-differ aBool = refl
 same-differ refusedPiece = refl
 
-pub differs-unasked : (w type : ℕ) → (w / 256 ≡ 0 → ⊥) → TypeDiffers w type false
+pub differs-unasked : (w type : ℕ) → (valueIn w ≡ 0 → ⊥) → TypeDiffers w type false
 unfolding saidType differs
-differs-unasked w type h = record { is = λ t e. rw (ne-eqb (w / 256) 0 h, saidType) (refused-same t) }
+differs-unasked w type h = record { is = λ t e. rw (ne-eqb (valueIn w) 0 h, saidType) (refused-same t) }
 
-module _ (w type : ℕ) (h : w / 256 ≡ 0) (r : ℕ) (n : TypeNamed (w % 256) r) where
-  said : saidType w ≡ typeOf (w % 256)
+module _ (w type : ℕ) (h : valueIn w ≡ 0) (r : ℕ) (n : TypeNamed (opIn w) r) where
+  said : saidType w ≡ typeOf (opIn w)
   unfolding saidType
   said = rw (h, saidType)
 
@@ -97,25 +97,25 @@ module _ (w type : ℕ) (h : w / 256 ≡ 0) (r : ℕ) (n : TypeNamed (w % 256) r
     is = λ t q.
         ap (λ (x : DataType). differs x t) said
         ∙ test (eqb r type)
-        (λ z. ap (λ (x : DataType). differs x t) (same-types r type (typeOf (w % 256)) t (n .is) q (eqb-true r type z)) ∙ same-differ t ∙ sym (e ∙ ap not z))
-        (λ z. types-differ r type (typeOf (w % 256)) t (n .is) q (eqb-false r type z) ∙ sym (e ∙ ap not z));
+        (λ z. ap (λ (x : DataType). differs x t) (same-types r type (typeOf (opIn w)) t (n .is) q (eqb-true r type z)) ∙ same-differ t ∙ sym (e ∙ ap not z))
+        (λ z. types-differ r type (typeOf (opIn w)) t (n .is) q (eqb-false r type z) ∙ sym (e ∙ ap not z));
   }
 
 -- ---- words
 module _ (C : List ℕ) (at s : ℕ) (e : s ≡ opAt C at) where
-  pub call-not : (s ≡ 1 → ⊥) → IsCall C at false
+  pub call-not : (s ≡ NAME → ⊥) → IsCall C at false
   call-not d = record { yes = λ t. false-true t; no = λ _ n. absurd (d (e ∙ n)) }
 
-  pub call-is : s ≡ 1 → (r : ℕ) → r ≡ opAt C (at + 1) → IsCall C at (eqb r 6)
+  pub call-is : s ≡ NAME → (r : ℕ) → r ≡ opAt C (at + 1) → IsCall C at (eqb r openParen)
   call-is n r q = record {
-    yes = λ t. (sym e ∙ n, sym q ∙ eqb-true r 6 t);
-    no = λ f _ o. eqb-false r 6 f (q ∙ o);
+    yes = λ t. (sym e ∙ n, sym q ∙ eqb-true r openParen t);
+    no = λ f _ o. eqb-false r openParen f (q ∙ o);
   }
 
-pub parameter-func : (C : List ℕ) (h s : ℕ) → s ≡ opAt C h → s ≡ 57 → h + 4 ≡ firstParameter C h
+pub parameter-func : (C : List ℕ) (h s : ℕ) → s ≡ opAt C h → s ≡ FUNC → h + 4 ≡ firstParameter C h
 unfolding firstParameter
 parameter-func C h s e f = let q : opAt C h ≡ FUNC = sym e ∙ f in rw (q, firstParameter)
 
-pub parameter-proc : (C : List ℕ) (h s : ℕ) → s ≡ opAt C h → (s ≡ 57 → ⊥) → h + 3 ≡ firstParameter C h
+pub parameter-proc : (C : List ℕ) (h s : ℕ) → s ≡ opAt C h → (s ≡ FUNC → ⊥) → h + 3 ≡ firstParameter C h
 unfolding firstParameter
 parameter-proc C h s e f = rw (ne-eqb (opAt C h) FUNC (λ q. f (e ∙ q)), firstParameter)

@@ -11,7 +11,7 @@ use Rattle.laws.proofs.Tests.{by-last}
 use Rattle.paper.specs.Sorts.{becomes}
 use Rattle.paper.specs.Terms.{Term}
 use Rattle.paper.specs.Trees.{Target}
-use Rattle.paper.specs.Expressions.{nestings}
+use Rattle.paper.specs.Expressions.{nestings, disjunctions}
 use Rattle.paper.specs.Types.{ofType}
 use Rattle.paper.specs.Steps.{Spot, scalar, elementOf, spotOf}
 use Rattle.cells.specs.Words.{wordsOf}
@@ -36,8 +36,9 @@ use Rattle.links.proofs.Ops.{low-still}
 use Rattle.around.specs.Around.{Around, groundOf}
 use Rattle.around.specs.Answers.{Fine}
 use Rattle.simple.specs.Parts.{Aims, scalar-aims, element-aims, ValueSide, ValueAssigned}
-use Rattle.simple.proofs.Asking.{no-operator, level-semicolon, quiet-below, quiet-above, Told, asks, typed-told, typed-first, typed-long, answer-first, answer-fine, raw-term, raw-term-after}
-use Rattle.simple.proofs.Arguing.{link-below}
+use Rattle.simple.proofs.Expressions.{no-operator, level-semicolon, quiet-below, quiet-above, Told, asks, typed-told, typed-first, typed-long, answer-first, answer-fine, raw-term, raw-term-after}
+use Rattle.simple.proofs.Arguments.{link-below}
+use Rattle.paper.specs.Words.{wordLimit}
 
 pub link-above : {before after : List ℕ} {x y : ℕ} → Kept before after x y → (i : ℕ) → y ≤ i → linkAt (wordsOf after) i ≡ linkAt (wordsOf before) i
 link-above k i h = ap linkIn (cell-above k (i * 2 + 1) (omega arith))
@@ -128,10 +129,10 @@ module _ (code values : List ℕ) (wants : ℕ) (i b : ℕ) (g : ValueSide code 
   value-on : b + 1 < g .to
   value-on = grows (g .around .known .W) (suc nestings) (b + 1) (g .e) (g .to) (g .value)
 
-  pub value-stands : expressions.Stands code values 5 (b + 1)
+  pub value-stands : expressions.Stands code values disjunctions (b + 1)
   value-stands = asks (g .around .known) (g .around .sorts) (suc nestings) (b + 1) (g .e) (g .to) (g .value) value-load (no-operator _ _ (g .ends) level-semicolon)
 
-  pub value-small : b + 1 < 8192
+  pub value-small : b + 1 < wordLimit
   value-small = omega (arith, value-on, value-load .last)
 
   module _ (mid : List ℕ) (r : Judged) (o : OfType code values mid false wants (b + 1) r) where
@@ -146,7 +147,7 @@ module _ (code values : List ℕ) (wants : ℕ) (i b : ℕ) (g : ValueSide code 
       value-told : Told (g .around .known) (ofType (g .around .known .W) (g .type) (g .around .known .S) (g .e)) code mid (g .e) (b + 1) (g .to) end
       value-told = typed-told (g .around .known) (g .around .sorts) (suc nestings) (b + 1) (g .e) (g .to) (g .value) value-load (no-operator _ _ (g .ends) level-semicolon) mid wants (g .type) (g .wants-is) r o bool end e
 
-      pub value-end : (end < 8192) × (b * 8 + 8 ≤ length mid) × (i * 8 + 8 ≤ length mid)
+      pub value-end : (end < wordLimit) × (b * 8 + 8 ≤ length mid) × (i * 8 + 8 ≤ length mid)
       value-end = (omega (arith, value-told .next-is, value-load .last), omega (arith, value-on, value-load .room, value-long), omega (arith, g .before, value-on, value-load .room, value-long))
 
       module _ (one : List ℕ) (l : Linked mid one b (opAt (wordsOf mid) b) (valueAt (wordsOf mid) b) end) (after : List ℕ)

@@ -15,6 +15,7 @@ use Rattle.cells.specs.Words.{wordsOf}
 use Rattle.code.specs.Cells.{valueAt, placeAt}
 use Rattle.store.specs.Promises.{Headed}
 use Rattle.simple.specs.Parts.{Width, Characters, Strings, Spelled}
+use Rattle.layout.specs.Parts.{charactersPart}
 
 unquoted-quote : (b : ℕ) (r : List ℕ) → b ≡ QUOTE → length (unquoted (b ∷ r)) ≡ suc (length (unquoted (drop 1 r)))
 unfolding unquoted
@@ -45,7 +46,7 @@ module _ (text : List ℕ) (first n k count : ℕ) (c : Counting text first n k 
       drop-cons (take n (drop first text)) k 0 (omega (arith, part-length text first n room, h))
       ∙ ap (λ (b : ℕ). b ∷ drop (suc k) (take n (drop first text))) (getD-take n (drop first text) k 0 h ∙ getD-drop first text k 0)
 
-  pub counting-quote : getD text (first + k) 0 ≡ 34 → Counting text first n (k + 1 + 1) (count + 1)
+  pub counting-quote : getD text (first + k) 0 ≡ QUOTE → Counting text first n (k + 1 + 1) (count + 1)
   counting-quote e = record {
     left = omega (arith, c .left, ap (λ (l : List ℕ). length (unquoted l)) left-is, unquoted-quote (getD text (first + k) 0) (drop (suc k) (take n (drop first text))) e, ap (λ (l : List ℕ). length (unquoted l)) twice);
     few = omega (arith, c .few);
@@ -59,7 +60,7 @@ module _ (text : List ℕ) (first n k count : ℕ) (c : Counting text first n k 
   once : drop (suc k) (take n (drop first text)) ≡ drop (k + 1) (take n (drop first text))
   once = let q : suc k ≡ k + 1 = omega arith in ap (λ (j : ℕ). drop j (take n (drop first text))) q
 
-  pub counting-other : (getD text (first + k) 0 ≡ 34 → ⊥) → Counting text first n (k + 1) (count + 1)
+  pub counting-other : (getD text (first + k) 0 ≡ QUOTE → ⊥) → Counting text first n (k + 1) (count + 1)
   counting-other e = record {
     left = omega (arith, c .left, ap (λ (l : List ℕ). length (unquoted l)) left-is, unquoted-other (getD text (first + k) 0) (drop (suc k) (take n (drop first text))) e, ap (λ (l : List ℕ). length (unquoted l)) once);
     few = omega (arith, c .few);
@@ -72,10 +73,10 @@ module _ (text : List ℕ) (first n k count : ℕ) (c : Counting text first n k 
       (λ e. let q : k + 1 + 1 ≡ k + w = omega (arith, h .quote e) in subst (λ (j : ℕ). Counting text first n j (count + 1)) q (counting-quote e))
       (λ e. let q : k + 1 ≡ k + w = omega (arith, h .other e) in subst (λ (j : ℕ). Counting text first n j (count + 1)) q (counting-other e))
 
-pub width-quote : (b : ℕ) → b ≡ 34 → Width b 2
+pub width-quote : (b : ℕ) → b ≡ QUOTE → Width b 2
 width-quote b e = record { quote = λ _. refl; other = λ d. absurd (d e); some = omega arith; few = omega arith }
 
-pub width-other : (b : ℕ) → (b ≡ 34 → ⊥) → Width b 1
+pub width-other : (b : ℕ) → (b ≡ QUOTE → ⊥) → Width b 1
 width-other b d = record { quote = λ e. absurd (d e); other = λ _. refl; some = omega arith; few = omega arith }
 
 none-left : length (unquoted []) ≡ 0
@@ -96,10 +97,10 @@ module _ (text code : List ℕ) (i v p : ℕ) (ev : v ≡ valueAt (wordsOf code)
     first-is : p ≡ g .w .place
     first-is = ep ∙ g .place
 
-  pub string-spelled : (after : List ℕ) (n : ℕ) → Characters text (p + 1) (v - 2) n → Headed code after i 3 (v + 256 * n) → Spelled text code after i
+  pub string-spelled : (after : List ℕ) (n : ℕ) → Characters text (p + 1) (v - 2) n → Headed code after i STRING (v + charactersPart * n) → Spelled text code after i
   string-spelled after n c l = record {
     is = λ g.
-        let e : v + 256 * n ≡ length (g .w .covers) + 256 * length (unquoted (take (length (g .w .covers) - 2) (drop (g .w .place + 1) text))) =
-        ap₂ (λ (b k : ℕ). b + 256 * k) (bytes-are g) (c .is ∙ ap₂ (λ (b k : ℕ). length (unquoted (take (b - 2) (drop (k + 1) text)))) (bytes-are g) (first-is g)) in
+        let e : v + charactersPart * n ≡ length (g .w .covers) + charactersPart * length (unquoted (take (length (g .w .covers) - 2) (drop (g .w .place + 1) text))) =
+        ap₂ (λ (b k : ℕ). b + charactersPart * k) (bytes-are g) (c .is ∙ ap₂ (λ (b k : ℕ). length (unquoted (take (b - 2) (drop (k + 1) text)))) (bytes-are g) (first-is g)) in
         subst (λ (x : ℕ). Headed code after i STRING x) e l;
   }

@@ -22,14 +22,22 @@ use Rattle.links.specs.Raw.{RawDoes, RawSimple}
 use Rattle.around.specs.Around.{offsetIn, groundOf}
 use Rattle.around.specs.Answers.{Fine, Answer}
 use Rattle.simple.specs.Answers.{Stands, Answers}
-use Rattle.simple.proofs.Asking.{answer-first, answer-fine, answered-fine, answered-first}
+use Rattle.simple.proofs.Expressions.{answer-first, answer-fine, answered-fine, answered-first}
+use Rattle.paper.specs.Words.{wordLimit}
 
 module _ (code values : List ℕ) (at : ℕ) (g : Stands code values at) where
   pub stands-on : at < g .to
   stands-on = simple-grows (sortIn (g .around .known .W)) (Parses (sortIn (g .around .known .W))) (grows (g .around .known .W)) (g .is)
 
-  pub stands-room : (at * 8 + 8 ≤ length code) × ((at + 1) * 8 + 8 ≤ length code) × (at + 1 < 8192)
-  stands-room = (omega (arith, stands-on, g .unread .loaded .room), omega (arith, stands-on, g .unread .loaded .room), omega (arith, stands-on, g .unread .loaded .last))
+  -- its first word and the next lie in the code
+  pub stands-here : at * 8 + 8 ≤ length code
+  stands-here = omega (arith, stands-on, g .unread .loaded .room)
+
+  pub stands-next : (at + 1) * 8 + 8 ≤ length code
+  stands-next = omega (arith, stands-on, g .unread .loaded .room)
+
+  pub stands-small : at + 1 < wordLimit
+  stands-small = omega (arith, stands-on, g .unread .loaded .last)
 
   pub stands-sort : (i : ℕ) → at ≤ i → i ≤ g .to → opAt (wordsOf code) i ≡ sortIn (g .around .known .W) i
   stands-sort i a b = g .unread .loaded .words i a b .sort

@@ -1,4 +1,4 @@
--- TPWrite and TPReadNum.
+-- TPWrite "s" [\Num:=e]; and the strings of this and of TPReadNum.
 use mathlib.Core.Path.{_≡_, refl, sym, ap, subst, _∙_}
 use mathlib.Core.Bool.{Bool, false}
 use mathlib.Core.List.{List, [], _∷_}
@@ -7,10 +7,12 @@ use Prim.Native.Nat.{ℕ, suc, _+_, _-_, _*_, _/_, _%_, _<_, _≤_}
 use native.Mathlib.Omega.{arith}
 use lib.ListN.{length, take, drop}
 use lib.Seq.{take-nil, take-take, drop-drop}
+use mir.Syntax.{w64}
+use mir.Val.{Fits}
 use borrow.Author.Tests.{eq-eqb}
 use Rattle.laws.proofs.Tests.{by-same}
-use Rattle.paper.specs.Sorts.{STRING, backslash}
-use Rattle.paper.specs.Words.{Word}
+use Rattle.paper.specs.Sorts.{STRING, backslash, TPWRITE}
+use Rattle.paper.specs.Words.{Word, wordLimit}
 use Rattle.paper.specs.Trees.{writes}
 use Rattle.paper.specs.Expressions.{nestings}
 use Rattle.paper.specs.Names.{nth, sortIn}
@@ -33,10 +35,11 @@ use Rattle.links.proofs.Ops.{low-still}
 use Rattle.around.specs.Around.{Quoted, Around, groundOf}
 use Rattle.simple.specs.Answers.{Stands, Answers}
 use Rattle.simple.specs.Parts.{Begins, BeginsOf, BegunOf, Values, Valued, Strings, Spelled}
-use Rattle.simple.proofs.Stating.{stands-sort, stated-fine, stated-on}
+use Rattle.simple.proofs.SimpleStatements.{stands-sort, stated-fine, stated-on}
 use Rattle.layout.specs.Types.{noType, numType}
 use Rattle.layout.proofs.Typing.{num-in}
 use Rattle.paper.specs.Names.{aNum}
+use Rattle.layout.specs.Parts.{charactersPart}
 
 -- ---- the characters of a string in the text
 drop-one : (m : ℕ) (l : List ℕ) → drop 1 (take (suc m) l) ≡ take m (drop 1 l)
@@ -57,16 +60,16 @@ characters-are W text i q =
     ap (λ (l : List ℕ). unquoted (take (length (nth W i .covers) - 2) (drop 1 l))) (q .covers)
     ∙ ap unquoted (inner-part (length (nth W i .covers)) (nth W i .place) text (q .least))
 
-text-read : (m n : ℕ) (fn : Bool) (text : List ℕ) (R : List Head) (C : List ℕ) (i len place : ℕ) → len < 256 → valueAt C i ≡ len + 256 * length (unquoted (take (len - 2) (drop (place + 1) text))) → placeAt C i ≡ place
+text-read : (m n : ℕ) (fn : Bool) (text : List ℕ) (R : List Head) (C : List ℕ) (i len place : ℕ) → len < charactersPart → valueAt C i ≡ len + charactersPart * length (unquoted (take (len - 2) (drop (place + 1) text))) → placeAt C i ≡ place
     → charactersIn m n fn text R C i ≡ some (unquoted (take (len - 2) (drop (place + 1) text)))
 unfolding charactersIn guard
 text-read m n fn text R C i len place few v p =
-    let low : valueAt C i % 256 ≡ len = ap (λ (x : ℕ). x % 256) v ∙ omega arith in
-    let high : valueAt C i / 256 ≡ length (unquoted (take (len - 2) (drop (place + 1) text))) = ap (λ (x : ℕ). x / 256) v ∙ omega arith in
-    rw (low, p, eq-eqb (valueAt C i / 256) (length (unquoted (take (len - 2) (drop (place + 1) text)))) high, charactersIn)
+    let low : valueAt C i % charactersPart ≡ len = ap (λ (x : ℕ). x % charactersPart) v ∙ omega arith in
+    let high : valueAt C i / charactersPart ≡ length (unquoted (take (len - 2) (drop (place + 1) text))) = ap (λ (x : ℕ). x / charactersPart) v ∙ omega arith in
+    rw (low, p, eq-eqb (valueAt C i / charactersPart) (length (unquoted (take (len - 2) (drop (place + 1) text)))) high, charactersIn)
 
 pub raw-text : {text values : List ℕ} (a : Around text values) (C : List ℕ) (i : ℕ) → Quoted text (nth (a .known .W) i) → opAt C i ≡ STRING
-    → valueAt C i ≡ length (nth (a .known .W) i .covers) + 256 * length (unquoted (take (length (nth (a .known .W) i .covers) - 2) (drop (nth (a .known .W) i .place + 1) text)))
+    → valueAt C i ≡ length (nth (a .known .W) i .covers) + charactersPart * length (unquoted (take (length (nth (a .known .W) i .covers) - 2) (drop (nth (a .known .W) i .place + 1) text)))
     → placeAt C i ≡ nth (a .known .W) i .place → RawText (groundOf a) (a .known .n) C i i
 unfolding groundOf
 raw-text {text} a C i q o v p = record {
@@ -86,7 +89,7 @@ string-at code values at g now i l h s e p k = record {
 }
 
 -- ---- TPWrite "s" [\Num:=e];
-module _ (code values : List ℕ) (i : ℕ) (c : Begins 91 code values i) where
+module _ (code values : List ℕ) (i : ℕ) (c : Begins TPWRITE code values i) where
   write-is : inversions.Writes (sortIn (c .stands .around .known .W)) (Parses (sortIn (c .stands .around .known .W))) (c .stands .s) i (c .stands .to)
   write-is = inversions.simple-tpwrite (sortIn (c .stands .around .known .W)) (Parses (sortIn (c .stands .around .known .W))) (c .stands .is) (c .here)
 
@@ -105,16 +108,15 @@ module _ (code values : List ℕ) (i : ℕ) (c : Begins 91 code values i) where
       (λ b. omega (arith, grows (c .stands .around .known .W) (suc nestings) (i + 5) (write-some b .e) (c .stands .to) (write-some b .stands)))
       (λ d. omega (arith, write-none d .1))
 
-  pub write-room : (i + 1 < 8192) × (i + 2 < 8192) × ((i + 2) * 8 + 8 ≤ length code) × (i * 8 + 8 ≤ length code)
-  write-room =
-      (omega (arith, write-on, c .stands .unread .loaded .last), omega (arith, write-on, c .stands .unread .loaded .last), omega (arith, write-on, c .stands .unread .loaded .room), omega (arith, write-on, c .stands .unread .loaded .room))
+  write-here : (i + 2) * 8 + 8 ≤ length code
+  write-here = omega (arith, write-on, c .stands .unread .loaded .room)
 
   pub write-string : Strings (c .stands .text) code (i + 1)
   write-string = string-at code values i (c .stands) code (i + 1) (omega arith) (omega (arith, write-on)) (write-is .text) refl refl refl
 
   module _ (mid : List ℕ) (sp : Spelled (c .stands .text) code mid (i + 1)) where
     string-linked : Linked code mid (i + 1) STRING
-        (length (nth (c .stands .around .known .W) (i + 1) .covers) + 256 * length (unquoted (take (length (nth (c .stands .around .known .W) (i + 1) .covers) - 2) (drop (nth (c .stands .around .known .W) (i + 1) .place + 1) (c .stands .text)))))
+        (length (nth (c .stands .around .known .W) (i + 1) .covers) + charactersPart * length (unquoted (take (length (nth (c .stands .around .known .W) (i + 1) .covers) - 2) (drop (nth (c .stands .around .known .W) (i + 1) .place + 1) (c .stands .text)))))
         (linkAt (wordsOf code) (i + 1))
     unfolding write-string string-at
     string-linked = sp .is write-string
@@ -133,7 +135,7 @@ module _ (code values : List ℕ) (i : ℕ) (c : Begins 91 code values i) where
       write-next : s ≡ sortIn (c .stands .around .known .W) (i + 2)
       write-next = es ∙ ap opIn (head-above (string-linked .kept) (i + 2) (omega arith)) ∙ stands-sort code values i (c .stands) (i + 2) (omega arith) write-on
 
-      module _ (b : s ≡ 21) where
+      module _ (b : s ≡ backslash) where
         given : inversions.Given (sortIn (c .stands .around .known .W)) (Parses (sortIn (c .stands .around .known .W))) (write-is .e) (i + 5) (c .stands .to)
         given = write-some (sym write-next ∙ b)
 
@@ -156,7 +158,7 @@ module _ (code values : List ℕ) (i : ℕ) (c : Begins 91 code values i) where
               (loaded-part (c .stands .around .known .W) code i (c .stands .to) (i + 5) (c .stands .to) (c .stands .unread .loaded) (omega arith) (omega arith)) (string-linked .kept) (omega arith);
         }
 
-        pub write-small : i + 5 < 8192
+        pub write-small : i + 5 < wordLimit
         write-small = omega (arith, given-on, c .stands .unread .loaded .last)
 
         written-number : (after : List ℕ) (r : Judged) → Valued mid values after aWriteOf numType (i + 5) i r → Answers (c .stands) after r
@@ -169,7 +171,7 @@ module _ (code values : List ℕ) (i : ℕ) (c : Begins 91 code values i) where
             (kept-on (kept-wider (string-linked .kept) i (g .to + 1) (omega arith) (omega (arith, write-on))) (f .kept))
             (record { valued = f .written .raw; text = string-raw after (f .written .between (i + 1) (omega arith) (omega arith)) (f .kept .places (i + 1)); within = omega (arith, write-on) }))
 
-      module _ (d : s ≡ 21 → ⊥) where
+      module _ (d : s ≡ backslash → ⊥) where
         plain : (write-is .e ≡ none) × (c .stands .to ≡ i + 2)
         plain = write-none (λ q. d (write-next ∙ q))
 
@@ -187,29 +189,29 @@ module _ (code values : List ℕ) (i : ℕ) (c : Begins 91 code values i) where
             })
 
 -- the text that the code reads
-module _ (text code values : List ℕ) (i : ℕ) (c : BeginsOf 91 text code values i) where
+module _ (text code values : List ℕ) (i : ℕ) (c : BeginsOf TPWRITE text code values i) where
   pub writes-string : Strings text code (i + 1)
   writes-string = subst (λ (t : List ℕ). Strings t code (i + 1)) (c .text-is) (write-string code values i (c .begins))
 
-  pub writes-room : (i + 1 < 8192) × (i + 2 < 8192) × ((i + 2) * 8 + 8 ≤ length code) × (i * 8 + 8 ≤ length code)
-  writes-room = write-room code values i (c .begins)
+  pub writes-next : i + 2 < wordLimit
+  writes-next = omega (arith, write-on code values i (c .begins), c .begins .stands .unread .loaded .last)
 
   module _ (mid : List ℕ) (sp : Spelled text code mid (i + 1)) where
     spelled-here : Spelled (c .begins .stands .text) code mid (i + 1)
     spelled-here = subst (λ (t : List ℕ). Spelled t code mid (i + 1)) (sym (c .text-is)) sp
 
-    pub writes-mid : (length mid ≡ length code) × ((i + 2) * 8 + 8 ≤ length mid) × (i * 8 + 8 ≤ length mid)
-    writes-mid = let l = string-long code values i (c .begins) mid spelled-here in (l, omega (arith, l, writes-room .2), omega (arith, l, writes-room .3))
+    pub writes-behind : (i + 2) * 8 + 8 ≤ length mid
+    writes-behind = omega (arith, string-long code values i (c .begins) mid spelled-here, write-here code values i (c .begins))
 
-    pub writes-values : (s : ℕ) → s ≡ opAt (wordsOf mid) (i + 2) → s ≡ 21 → Values mid values (i + 5) i
+    pub writes-values : (s : ℕ) → s ≡ opAt (wordsOf mid) (i + 2) → s ≡ backslash → Values mid values (i + 5) i
     writes-values s es b = write-values code values i (c .begins) mid spelled-here s es b
 
-    pub writes-small : (s : ℕ) → s ≡ opAt (wordsOf mid) (i + 2) → s ≡ 21 → i + 5 < 8192
-    writes-small s es b = write-small code values i (c .begins) mid spelled-here s es b
+    pub writes-fits : (s : ℕ) → s ≡ opAt (wordsOf mid) (i + 2) → s ≡ backslash → Fits w64 (i + 5)
+    writes-fits s es b = record { fits = omega (arith, write-small code values i (c .begins) mid spelled-here s es b) }
 
 module _ (text code values : List ℕ) (i : ℕ) (mid : List ℕ) (sp : Spelled text code mid (i + 1)) (s : ℕ) (es : s ≡ opAt (wordsOf mid) (i + 2)) where
-  pub wrote-number : s ≡ 21 → (after : List ℕ) (r : Judged) → Valued mid values after aWriteOf numType (i + 5) i r → BegunOf 91 text code values after i r
+  pub wrote-number : s ≡ backslash → (after : List ℕ) (r : Judged) → Valued mid values after aWriteOf numType (i + 5) i r → BegunOf TPWRITE text code values after i r
   wrote-number b after r v = record { is = λ c. written-number code values i (c .begins) mid (spelled-here text code values i c mid sp) s es b after r v }
 
-  pub wrote-plain : (s ≡ 21 → ⊥) → (after : List ℕ) → Linked mid after i aWrite 0 (i + 3) → BegunOf 91 text code values after i (Typed noType (i + 3))
+  pub wrote-plain : (s ≡ backslash → ⊥) → (after : List ℕ) → Linked mid after i aWrite 0 (i + 3) → BegunOf TPWRITE text code values after i (Typed noType (i + 3))
   wrote-plain d after l = record { is = λ c. written-plain code values i (c .begins) mid (spelled-here text code values i c mid sp) s es d after l }

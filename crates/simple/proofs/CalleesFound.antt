@@ -24,8 +24,9 @@ use Rattle.links.specs.Raw.{RawCallee}
 use Rattle.around.specs.Around.{Around, offsetIn, groundOf, Calls}
 use Rattle.simple.specs.Parts.{CalleeFound, signatureFor}
 use Rattle.simple.proofs.Callees.{Known, known}
-use Rattle.simple.proofs.Arguing.{apart-same}
+use Rattle.simple.proofs.Arguments.{apart-same}
 use Rattle.layout.specs.Rules.{wrongCount}
+use Rattle.paper.specs.Words.{wordLimit}
 
 pub map-length : {A B : Type 0} (f : A → B) (l : List A) → length (map f l) ≡ length l
 map-length f [] = refl
@@ -61,7 +62,7 @@ module _ {text values : List ℕ} (a : Around text values) (code : List ℕ) (i 
   pub found-known : Known (wordsOf code) (a .R) (a .K .routines) h
   found-known = known (wordsOf code) (a .R) (a .K .routines) h (calls .heads (wordsOf code) (apart-same (wordsOf code) i to)) (f .among)
 
-  pub found-room : (h + 1 < 8192) × ((h + 1) * 8 + 8 ≤ length code)
+  pub found-room : (h + 1 < wordLimit) × ((h + 1) * 8 + 8 ≤ length code)
   found-room = (omega (arith, found-known .low, found-known .inside), omega (arith, found-known .low, found-known .inside, calls .room))
 
   pub found-signature : signatureOf (a .known .W) (a .K) (meaning (a .known .S) (spelled (a .known .W) i)) ≡ signatureFor a h

@@ -6,7 +6,7 @@ use mathlib.Core.Option.{none}
 use Prim.Native.Nat.{ℕ, _+_, _-_, _*_, _<_, _≤_}
 use native.Mathlib.Omega.{arith}
 use lib.ListN.{length, take, drop}
-use Rattle.paper.specs.Sorts.{STRING}
+use Rattle.paper.specs.Sorts.{STRING, TPREADNUM}
 use Rattle.paper.specs.Trees.{reads}
 use Rattle.paper.specs.Names.{aNum, aBool, refusedPiece, nth, sortIn}
 use Rattle.paper.specs.Types.{Fault, fault, faultIf, differs, wanted}
@@ -34,14 +34,16 @@ use Rattle.around.specs.Around.{groundOf}
 use Rattle.around.specs.Answers.{Fine}
 use Rattle.simple.specs.Answers.{Answers}
 use Rattle.simple.specs.Parts.{Begins, BeginsOf, BegunOf, Targets, Aimed, AimAnswer, TargetJudged, Strings, Spelled}
-use Rattle.simple.proofs.Asking.{quiet-below, quiet-above}
-use Rattle.simple.proofs.Aiming.{aimed-fine, aimed-first}
-use Rattle.simple.proofs.Assigning.{aims-below, aims-above, raw-target}
-use Rattle.simple.proofs.Stating.{stands-room, stated-first, stated-fine}
-use Rattle.simple.proofs.Speaking.{string-at, raw-text}
+use Rattle.simple.proofs.Expressions.{quiet-below, quiet-above}
+use Rattle.simple.proofs.Targets.{aimed-fine, aimed-first}
+use Rattle.simple.proofs.Assignments.{aims-below, aims-above, raw-target}
+use Rattle.simple.proofs.SimpleStatements.{stands-here, stands-small, stated-first, stated-fine}
+use Rattle.simple.proofs.TPWrite.{string-at, raw-text}
 use Rattle.layout.specs.Rules.{wrongType}
 use Rattle.layout.specs.Types.{numType}
 use Rattle.layout.proofs.Typing.{num-in, same-types, types-differ}
+use Rattle.paper.specs.Words.{wordLimit}
+use Rattle.layout.specs.Parts.{charactersPart}
 
 -- ---- a target that has to be a num
 no-first : {A : Type 0} (f : Fault) → First f [] → A
@@ -67,7 +69,7 @@ wanted-first j i f refused h = by (j .faults) refl
     by [] e = no-first f (subst (First f) e h)
     by (g ∷ r) e = subst (First f) (sym (wanted-refused j i (refused g r e))) h
 
-module _ (code values : List ℕ) (i : ℕ) (c : Begins 92 code values i) where
+module _ (code values : List ℕ) (i : ℕ) (c : Begins TPREADNUM code values i) where
   read-is : inversions.Reads (sortIn (c .stands .around .known .W)) (Parses (sortIn (c .stands .around .known .W))) (c .stands .s) i (c .stands .to)
   read-is = inversions.simple-tpreadnum (sortIn (c .stands .around .known .W)) (Parses (sortIn (c .stands .around .known .W))) (c .stands .is) (c .here)
 
@@ -84,8 +86,8 @@ module _ (code values : List ℕ) (i : ℕ) (c : Begins 92 code values i) where
     loaded = loaded-part (c .stands .around .known .W) code i (c .stands .to) (i + 1) (read-is .n) (c .stands .unread .loaded) (omega arith) (omega (arith, read-is .after));
   }
 
-  pub read-small : i + 1 < 8192
-  read-small = stands-room code values i (c .stands) .2
+  pub read-small : i + 1 < wordLimit
+  read-small = stands-small code values i (c .stands)
 
   module _ (mid : List ℕ) (r : Judged) (t : TargetJudged code values mid (i + 1) r) where
     read-answer : AimAnswer (c .stands .around .known .m) (c .stands .around .known .n) (judgeTarget (c .stands .around .known .W) (c .stands .around .known .S) (read-is .t))
@@ -107,8 +109,8 @@ module _ (code values : List ℕ) (i : ℕ) (c : Begins 92 code values i) where
           (spotOf (c .stands .around .known .W) (c .stands .around .known .S) (read-is .t)) (i + 1) (read-is .n) bool)
       aimed = aimed-fine _ _ _ _ code mid (i + 1) (read-is .n) r read-answer bool b e
 
-      pub read-end : (b + 3 < 8200) × (i * 8 + 8 ≤ length mid)
-      read-end = (omega (arith, aimed .next-is, read-is .after, c .stands .unread .loaded .last), omega (arith, stands-room code values i (c .stands) .0, read-answer .long))
+      pub read-end : (b < wordLimit) × (i * 8 + 8 ≤ length mid)
+      read-end = (omega (arith, aimed .next-is, read-is .after, c .stands .unread .loaded .last), omega (arith, stands-here code values i (c .stands), read-answer .long))
 
       read-wrong : (bool ≡ numType → ⊥) → Answers (c .stands) mid (Faulty wrongType (i + 1))
       unfolding simpleFaults
@@ -127,7 +129,7 @@ module _ (code values : List ℕ) (i : ℕ) (c : Begins 92 code values i) where
 
         module _ (one : List ℕ) (sp : Spelled (c .stands .text) mid one (b + 1)) where
           read-linked : Linked mid one (read-is .n + 1) STRING
-              (length (nth (c .stands .around .known .W) (read-is .n + 1) .covers) + 256 * length (unquoted (take (length (nth (c .stands .around .known .W) (read-is .n + 1) .covers) - 2) (drop (nth (c .stands .around .known .W) (read-is .n + 1) .place + 1) (c .stands .text)))))
+              (length (nth (c .stands .around .known .W) (read-is .n + 1) .covers) + charactersPart * length (unquoted (take (length (nth (c .stands .around .known .W) (read-is .n + 1) .covers) - 2) (drop (nth (c .stands .around .known .W) (read-is .n + 1) .place + 1) (c .stands .text)))))
               (linkAt (wordsOf mid) (read-is .n + 1))
           unfolding string-at
           read-linked =
@@ -169,15 +171,15 @@ module _ (code values : List ℕ) (i : ℕ) (c : Begins 92 code values i) where
               })
 
 -- ---- the text that the code reads
-module _ (text code values : List ℕ) (i : ℕ) (c : BeginsOf 92 text code values i) where
+module _ (text code values : List ℕ) (i : ℕ) (c : BeginsOf TPREADNUM text code values i) where
   pub reads-targets : Targets code values (i + 1)
   reads-targets = read-targets code values i (c .begins)
 
-  pub reads-small : i + 1 < 8192
+  pub reads-small : i + 1 < wordLimit
   reads-small = read-small code values i (c .begins)
 
   module _ (mid : List ℕ) (r : Judged) (t : TargetJudged code values mid (i + 1) r) (bool : ℕ) (b : ℕ) (e : r ≡ Typed bool b) where
-    pub reads-end : (b + 3 < 8200) × (i * 8 + 8 ≤ length mid)
+    pub reads-end : (b < wordLimit) × (i * 8 + 8 ≤ length mid)
     reads-end = read-end code values i (c .begins) mid r t bool b e
 
     module _ (n : bool ≡ numType) where
@@ -192,12 +194,12 @@ module _ (text code values : List ℕ) (i : ℕ) (c : BeginsOf 92 text code valu
         reads-room = read-room code values i (c .begins) mid r t bool b e n one spelled-there
 
 module _ (text code values : List ℕ) (i : ℕ) (mid : List ℕ) (r : Judged) (t : TargetJudged code values mid (i + 1) r) where
-  pub heard-faulty : (number word : ℕ) → r ≡ Faulty number word → BegunOf 92 text code values mid i r
+  pub heard-faulty : (number word : ℕ) → r ≡ Faulty number word → BegunOf TPREADNUM text code values mid i r
   heard-faulty number word e = record { is = λ c. read-faulty code values i (c .begins) mid r t number word e }
 
   module _ (bool : ℕ) (b : ℕ) (e : r ≡ Typed bool b) where
-    pub heard-wrong : (bool ≡ numType → ⊥) → BegunOf 92 text code values mid i (Faulty wrongType (i + 1))
+    pub heard-wrong : (bool ≡ numType → ⊥) → BegunOf TPREADNUM text code values mid i (Faulty wrongType (i + 1))
     heard-wrong y = record { is = λ c. read-wrong code values i (c .begins) mid r t bool b e y }
 
-    pub heard-right : bool ≡ numType → (one : List ℕ) → Spelled text mid one (b + 1) → (after : List ℕ) → Linked one after i aRead (b + 1) (b + 3) → BegunOf 92 text code values after i (Typed bool (b + 3))
+    pub heard-right : bool ≡ numType → (one : List ℕ) → Spelled text mid one (b + 1) → (after : List ℕ) → Linked one after i aRead (b + 1) (b + 3) → BegunOf TPREADNUM text code values after i (Typed bool (b + 3))
     heard-right n one sp after l = record { is = λ c. read-right code values i (c .begins) mid r t bool b e n one (spelled-there text code values i c mid r t bool b e n one sp) after l }

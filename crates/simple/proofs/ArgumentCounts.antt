@@ -9,7 +9,7 @@ use lib.ListN.{length}
 use borrow.Author.Tests.{eqb-true, eqb-false}
 use Rattle.laws.proofs.Tests.{test, by-same, false-true}
 use Rattle.paper.specs.Sorts.{NAME, comma, semicolon, openParen, closeParen, openBrace, closeBrace}
-use Rattle.paper.specs.Words.{Word}
+use Rattle.paper.specs.Words.{Word, wordLimit}
 use Rattle.paper.specs.Trees.{Expr, leaf, joined, signed}
 use Rattle.paper.specs.Expressions.{Parsed, got, parts, relations, disjunctions, sums, nestings, levelOf, standsBefore, isLiteral, chain, prefixed, level, operand, exprIn}
 use Rattle.paper.specs.Names.{sortIn}
@@ -21,10 +21,10 @@ use Rattle.grammar.specs.Form.{Parses, ExprAt, SeparatedAt, last-one, one-more}
 use Rattle.grammar.proofs.Inversions.{closed-none, closed-some}
 use Rattle.simple.specs.Parts.{Commas, ArgumentsStand, Counts, Counted}
 
-pub comma-yes : (s : ℕ) → s ≡ 5 → Commas s 1
+pub comma-yes : (s : ℕ) → s ≡ comma → Commas s 1
 comma-yes s e = record { yes = λ _. refl; no = λ d. absurd (d e); few = omega arith }
 
-pub comma-no : (s : ℕ) → (s ≡ 5 → ⊥) → Commas s 0
+pub comma-no : (s : ℕ) → (s ≡ comma → ⊥) → Commas s 0
 comma-no s d = record { yes = λ e. absurd (d e); no = λ _. refl; few = omega arith }
 
 -- ---- words up to a semicolon
@@ -230,22 +230,22 @@ module _ (code : List ℕ) (first closing : ℕ) where
     goes-inside : (g : Counts code first closing) → i ≤ g .end
     goes-inside g = left-inside (sortIn (g .W)) (g .end) (h .is g .left)
 
-    pub goes-room : Counts code first closing → (i * 8 + 8 ≤ length code) × (i < 8192) × (count ≤ 8192)
+    pub goes-room : Counts code first closing → (i * 8 + 8 ≤ length code) × (i < wordLimit) × (count ≤ wordLimit)
     goes-room g = (omega (arith, goes-inside g, g .loaded .room), omega (arith, goes-inside g, g .loaded .last), omega (arith, goes-inside g, g .loaded .last, h .is g .few))
 
     module _ (s : ℕ) (e : s ≡ opAt (wordsOf code) i) where
       sort-here : (g : Counts code first closing) → s ≡ sortIn (g .W) i
       sort-here g = e ∙ fresh-sort g i (h .is g .on) (goes-inside g)
 
-      pub goes-done : s ≡ 4 → Counted code first closing count
+      pub goes-done : s ≡ semicolon → Counted code first closing count
       goes-done c = record { is = λ g. by (g .W) (g .end) (length (g .es)) (h .is g .left) (h .is g .total) (sym (sort-here g) ∙ c) }
         where
-          by : (W : List Word) (end all : ℕ) {n : ℕ} → Left (sortIn W) end i n → count + n ≡ all → sortIn W i ≡ 4 → count ≡ all
+          by : (W : List Word) (end all : ℕ) {n : ℕ} → Left (sortIn W) end i n → count + n ≡ all → sortIn W i ≡ semicolon → count ≡ all
           by W end all (left-none q z) t c = omega (arith, z, t)
           by W end all (left-comma q z l) t c = absurd (omega (arith, q, c))
           by W end all (left-other q z l) t c = absurd (z c)
 
-      pub goes-on : (s ≡ 4 → ⊥) → (k : ℕ) → Commas s k → Goes code first closing (i + 1) (count + k)
+      pub goes-on : (s ≡ semicolon → ⊥) → (k : ℕ) → Commas s k → Goes code first closing (i + 1) (count + k)
       goes-on c k m = record {
         is = λ g. by g (h .is g .left) (h .is g .total) (sort-here g) (h .is g .few) (h .is g .on);
       }

@@ -10,10 +10,10 @@ use lib.ListN.{length}
 use borrow.Author.Tests.{ne-eqb}
 use Rattle.laws.proofs.Tests.{test}
 use Rattle.paper.specs.Sorts.{openBrace, closeBrace}
-use Rattle.paper.specs.Words.{Word}
+use Rattle.paper.specs.Words.{Word, wordLimit}
 use Rattle.paper.specs.Terms.{Ref, Term, stored, elementAt}
 use Rattle.paper.specs.Trees.{Expr, element, Target}
-use Rattle.paper.specs.Expressions.{levelOf, nestings}
+use Rattle.paper.specs.Expressions.{levelOf, nestings, disjunctions}
 use Rattle.paper.specs.Names.{DataType, Meaning, variableIn, arrayIn, wrongName, sortIn, spelled, meaning, Scopes}
 use Rattle.paper.specs.Types.{fault, judged, judgedNothing, judgeElement, judge, ofType, termOf}
 use Rattle.paper.specs.Types as types
@@ -42,15 +42,17 @@ use Rattle.links.specs.Raw.{Quiet}
 use Rattle.links.proofs.Ops.{low-still}
 use Rattle.around.specs.Answers.{Fine}
 use Rattle.simple.specs.Parts.{WrongName, scalar-aims, element-aims, Targets, Aimed, AimTells, AimAnswer, TargetJudged, Elements, ElementJudged}
-use Rattle.simple.proofs.Asking.{no-operator, level-brace, quiet-above, Told, asks, typed-told, typed-first, typed-long}
-use Rattle.simple.proofs.Arguing.{quiet-append, quiet-word}
-use Rattle.simple.proofs.Naming.{name-means}
+use Rattle.simple.proofs.Expressions.{no-operator, level-brace, quiet-above, Told, asks, typed-told, typed-first, typed-long}
+use Rattle.simple.proofs.Arguments.{quiet-append, quiet-word}
+use Rattle.simple.proofs.CalleeNames.{name-means}
 use Rattle.code.specs.Steps.{aTarget}
-use Rattle.layout.specs.Kinds.{aVariable, anArray, kindIn, ownIn}
+use Rattle.layout.specs.Kinds.{aVariable, anArray, kindIn, ownIn, aConstant, aLoop, aRoutine, anErrno, anErrorNumber, boolIn}
 use Rattle.layout.specs.Types.{numType}
 use Rattle.names.specs.Promises.{TypeOf}
 use Rattle.layout.proofs.Typing.{num-in}
 use Rattle.paper.specs.Names.{aNum}
+use Rattle.code.specs.Spans.{firstIn, sizeIn}
+use Rattle.layout.specs.Named.{storeBytes}
 
 -- ---- answers by their cases
 module _ (m n : ℕ) (j : types.Judged) (spot : Spot) (before after : List ℕ) (at to : ℕ) where
@@ -75,25 +77,25 @@ module _ (m n : ℕ) (j : types.Judged) (spot : Spot) (before after : List ℕ) 
 no-variable : (routine : ℕ → ℕ) (kind bool own value : ℕ) → (kind ≡ aVariable → ⊥) → variableIn (meaningWith routine kind bool own value) ≡ none
 unfolding meaningWith variableIn
 no-variable routine kind bool own value d =
-    let z = ne-eqb kind 1 d in
-    test (eqb kind 2) (λ t. rw (z, meaningWith) (rw t))
-    (λ b. test (eqb kind 3) (λ t. rw (z, meaningWith) (rw b (rw t)))
-    (λ c. test (eqb kind 4) (λ t. rw (z, meaningWith) (rw b (rw c (rw t))))
-    (λ e. test (eqb kind 5) (λ t. rw (z, meaningWith) (rw b (rw c (rw e (rw t)))))
-    (λ f. test (eqb kind 6) (λ t. rw (z, meaningWith) (rw b (rw c (rw e (rw f (rw t))))))
-    (λ g. test (eqb kind 7) (λ t. rw (z, meaningWith) (rw b (rw c (rw e (rw f (rw g (rw t)))))))
+    let z = ne-eqb kind aVariable d in
+    test (eqb kind anArray) (λ t. rw (z, meaningWith) (rw t))
+    (λ b. test (eqb kind aConstant) (λ t. rw (z, meaningWith) (rw b (rw t)))
+    (λ c. test (eqb kind aLoop) (λ t. rw (z, meaningWith) (rw b (rw c (rw t))))
+    (λ e. test (eqb kind aRoutine) (λ t. rw (z, meaningWith) (rw b (rw c (rw e (rw t)))))
+    (λ f. test (eqb kind anErrno) (λ t. rw (z, meaningWith) (rw b (rw c (rw e (rw f (rw t))))))
+    (λ g. test (eqb kind anErrorNumber) (λ t. rw (z, meaningWith) (rw b (rw c (rw e (rw f (rw g (rw t)))))))
     (λ h. rw (z, meaningWith) (rw b (rw c (rw e (rw f (rw g (rw h))))))))))))
 
 no-array : (routine : ℕ → ℕ) (kind bool own value : ℕ) → (kind ≡ anArray → ⊥) → arrayIn (meaningWith routine kind bool own value) ≡ none
 unfolding meaningWith arrayIn
 no-array routine kind bool own value d =
-    let z = ne-eqb kind 2 d in
-    test (eqb kind 1) (λ t. rw (t, meaningWith))
-    (λ a. test (eqb kind 3) (λ t. rw (a, meaningWith) (rw z (rw t)))
-    (λ c. test (eqb kind 4) (λ t. rw (a, meaningWith) (rw z (rw c (rw t))))
-    (λ e. test (eqb kind 5) (λ t. rw (a, meaningWith) (rw z (rw c (rw e (rw t)))))
-    (λ f. test (eqb kind 6) (λ t. rw (a, meaningWith) (rw z (rw c (rw e (rw f (rw t))))))
-    (λ g. test (eqb kind 7) (λ t. rw (a, meaningWith) (rw z (rw c (rw e (rw f (rw g (rw t)))))))
+    let z = ne-eqb kind anArray d in
+    test (eqb kind aVariable) (λ t. rw (t, meaningWith))
+    (λ a. test (eqb kind aConstant) (λ t. rw (a, meaningWith) (rw z (rw t)))
+    (λ c. test (eqb kind aLoop) (λ t. rw (a, meaningWith) (rw z (rw c (rw t))))
+    (λ e. test (eqb kind aRoutine) (λ t. rw (a, meaningWith) (rw z (rw c (rw e (rw t)))))
+    (λ f. test (eqb kind anErrno) (λ t. rw (a, meaningWith) (rw z (rw c (rw e (rw f (rw t))))))
+    (λ g. test (eqb kind anErrorNumber) (λ t. rw (a, meaningWith) (rw z (rw c (rw e (rw f (rw g (rw t)))))))
     (λ h. rw (a, meaningWith) (rw z (rw c (rw e (rw f (rw g (rw h))))))))))))
 
 -- ---- what the paper judges
@@ -132,17 +134,23 @@ module _ (code values : List ℕ) (at : ℕ) (g : Targets code values at) where
   target-on : at < g .to
   target-on = target-grows (sortIn (g .known .W)) (Parses (sortIn (g .known .W))) (grows (g .known .W)) (g .is)
 
-  pub target-room : (at * 8 + 8 ≤ length code) × ((at + 1) * 8 + 8 ≤ length code) × (at + 1 < 8192) × (65536 ≤ length values)
-  target-room = (omega (arith, target-on, g .loaded .room), omega (arith, target-on, g .loaded .room), omega (arith, target-on, g .loaded .last), g .known .table)
+  pub target-here : at * 8 + 8 ≤ length code
+  target-here = omega (arith, target-on, g .loaded .room)
 
-  pub target-asks : (at * 8 + 8 ≤ length code) × (65536 ≤ length values)
-  target-asks = (target-room .0, g .known .table)
+  pub target-next : (at + 1) * 8 + 8 ≤ length code
+  target-next = omega (arith, target-on, g .loaded .room)
+
+  pub target-small : at + 1 < wordLimit
+  target-small = omega (arith, target-on, g .loaded .last)
+
+  pub target-asks : (at * 8 + 8 ≤ length code) × (storeBytes ≤ length values)
+  target-asks = (target-here, g .known .table)
 
   target-sort : (i : ℕ) → at ≤ i → i ≤ g .to → opAt (wordsOf code) i ≡ sortIn (g .known .W) i
   target-sort i a b = g .loaded .words i a b .sort
 
   module _ (cell : ℕ) (ec : cell ≡ meaningAt (wordsOf code) (wordsOf values) at) where
-    means : meaningWith (g .known .routine) (cell % 256 / 4) (cell / 2 % 2) (cell % 2) (cell / 256) ≡ meaning (g .known .S) (spelled (g .known .W) at)
+    means : meaningWith (g .known .routine) (kindIn cell) (boolIn cell) (ownIn cell) (valueIn cell) ≡ meaning (g .known .S) (spelled (g .known .W) at)
     unfolding meaningIn
     means = name-means (g .known) code at cell (g .is .name) (g .loaded .words at (omega arith) (omega (arith, target-on))) ec
 
@@ -150,36 +158,36 @@ module _ (code values : List ℕ) (at : ℕ) (g : Targets code values at) where
       next-sort : s ≡ sortIn (g .known .W) (at + 1)
       next-sort = es ∙ target-sort (at + 1) (omega arith) (omega (arith, target-on))
 
-      pub element-stands : s ≡ 8 → Elements code values cell at
+      pub element-stands : s ≡ openBrace → Elements code values cell at
       element-stands b = record { targets = g; brace = sym next-sort ∙ b; means = means }
 
-      module _ (no : s ≡ 8 → ⊥) where
+      module _ (no : s ≡ openBrace → ⊥) where
         plain-is : (g .t .index ≡ none) × (g .to ≡ at + 1)
         plain-is = index-none (sortIn (g .known .W)) (Parses (sortIn (g .known .W))) (g .is .index) (λ q. no (next-sort ∙ q))
 
-        plain-wrong : (number : ℕ) → (cell % 256 / 4 ≡ aVariable → ⊥) → WrongName (cell % 256 / 4) number → First (record { number = number; at = at }) (judgeTarget (g .known .W) (g .known .S) (g .t) .faults)
+        plain-wrong : (number : ℕ) → (kindIn cell ≡ aVariable → ⊥) → WrongName (kindIn cell) number → First (record { number = number; at = at }) (judgeTarget (g .known .W) (g .known .S) (g .t) .faults)
         plain-wrong number d w =
             let M = meaning (g .known .S) (spelled (g .known .W) at) in
             target-first (g .known .W) (g .known .S) (record { number = number; at = at }) [] (g .is)
             (ap (λ (x : types.Judged). x .faults) (judged-scalar (g .known .W) (g .known .S) (g .t) at (g .is .named) (plain-is .0))
-            ∙ scalar-wrong M at number (ap variableIn (sym means) ∙ no-variable (g .known .routine) (cell % 256 / 4) (cell / 2 % 2) (cell % 2) (cell / 256) d)
-            (ap wrongName (sym means) ∙ w .is (g .known .routine) (cell / 2 % 2) (cell % 2) (cell / 256)))
+            ∙ scalar-wrong M at number (ap variableIn (sym means) ∙ no-variable (g .known .routine) (kindIn cell) (boolIn cell) (ownIn cell) (valueIn cell) d)
+            (ap wrongName (sym means) ∙ w .is (g .known .routine) (boolIn cell) (ownIn cell) (valueIn cell)))
 
-        module _ (k : cell % 256 / 4 ≡ aVariable) where
-          plain-means : variableIn (meaning (g .known .S) (spelled (g .known .W) at)) ≡ some (typeWith (cell / 2 % 2), refWith (cell % 2) (cell / 256))
+        module _ (k : kindIn cell ≡ aVariable) where
+          plain-means : variableIn (meaning (g .known .S) (spelled (g .known .W) at)) ≡ some (typeWith (boolIn cell), refWith (ownIn cell) (valueIn cell))
           unfolding meaningWith variableIn
           plain-means = ap variableIn (sym means) ∙ rw k
 
-          plain-room : InRoom (g .known .m) (g .known .n) (refWith (cell % 2) (cell / 256)) 1
+          plain-room : InRoom (g .known .m) (g .known .n) (refWith (ownIn cell) (valueIn cell)) 1
           unfolding meaningWith Within
           plain-room = rw k at (subst (Within (g .known .m) (g .known .n)) (sym means) (g .known .within at (g .is .name)))
 
-          plain-judged : judgeTarget (g .known .W) (g .known .S) (g .t) ≡ judged (typeWith (cell / 2 % 2)) [] (stored (refWith (cell % 2) (cell / 256)))
+          plain-judged : judgeTarget (g .known .W) (g .known .S) (g .t) ≡ judged (typeWith (boolIn cell)) [] (stored (refWith (ownIn cell) (valueIn cell)))
           plain-judged =
               judged-scalar (g .known .W) (g .known .S) (g .t) at (g .is .named) (plain-is .0)
-              ∙ scalar-right (meaning (g .known .S) (spelled (g .known .W) at)) at (typeWith (cell / 2 % 2)) (refWith (cell % 2) (cell / 256)) plain-means
+              ∙ scalar-right (meaning (g .known .S) (spelled (g .known .W) at)) at (typeWith (boolIn cell)) (refWith (ownIn cell) (valueIn cell)) plain-means
 
-          plain-fine : (type : ℕ) → TypeOf cell type → (after : List ℕ) → Linked code after at (aTarget + cell % 2) (cell / 256) (linkAt (wordsOf code) at)
+          plain-fine : (type : ℕ) → TypeOf cell type → (after : List ℕ) → Linked code after at (aTarget + ownIn cell) (valueIn cell) (linkAt (wordsOf code) at)
               → Fine (judgeTarget (g .known .W) (g .known .S) (g .t) .faults) code after at (g .to) (at + 1)
               (Aimed (g .known .m) (g .known .n) (wordsOf after) (judgeTarget (g .known .W) (g .known .S) (g .t)) (spotOf (g .known .W) (g .known .S) (g .t)) at (g .to) type)
           plain-fine type ty after l =
@@ -190,14 +198,14 @@ module _ (code values : List ℕ) (at : ℕ) (g : Targets code values at) where
                 written = record {
                   type-is = ty .is ∙ ap some (sym (ap (λ (x : types.Judged). x .type) plain-judged ∙ judged-type _ _ _ refl));
                   target = record {
-                    k = cell % 2;
-                    v = cell / 256;
+                    k = ownIn cell;
+                    v = valueIn cell;
                     op-is = l .op-is;
                     value-is = l .value-is;
                     aims = scalar-aims (record {
                       few = omega arith;
                       room = plain-room;
-                      spot-is = spot-scalar (g .known .W) (g .known .S) (g .t) (refWith (cell % 2) (cell / 256)) term;
+                      spot-is = spot-scalar (g .known .W) (g .known .S) (g .t) (refWith (ownIn cell) (valueIn cell)) term;
                       end = plain-is .1;
                     });
                     quiet = λ i a b. absurd (omega (arith, plain-is .1));
@@ -207,11 +215,11 @@ module _ (code values : List ℕ) (at : ℕ) (g : Targets code values at) where
               }
 
 module _ (code values : List ℕ) (at cell : ℕ) (ec : cell ≡ meaningAt (wordsOf code) (wordsOf values) at) (s : ℕ) (es : s ≡ opAt (wordsOf code) (at + 1)) where
-  pub target-element : s ≡ 8 → (after : List ℕ) (r : Judged) → ElementJudged code values after cell at r → TargetJudged code values after at r
+  pub target-element : s ≡ openBrace → (after : List ℕ) (r : Judged) → ElementJudged code values after cell at r → TargetJudged code values after at r
   unfolding element-stands
   target-element b after r j = record { is = λ g. j .is (element-stands code values at g cell ec s es b) }
 
-  module _ (no : s ≡ 8 → ⊥) (k : ℕ) (ek : k ≡ kindIn cell) where
+  module _ (no : s ≡ openBrace → ⊥) (k : ℕ) (ek : k ≡ kindIn cell) where
     pub target-wrong : (number : ℕ) → (k ≡ aVariable → ⊥) → WrongName k number → TargetJudged code values code at (Faulty number at)
     target-wrong number d w = record {
       is = λ g. aim-first _ _ _ _ code code at (g .to) (Faulty number at) number at refl refl
@@ -242,10 +250,10 @@ module _ (code values : List ℕ) (cell at : ℕ) (g : Elements code values cell
   index-no : levelOf (sortIn (g .targets .known .W) (braces .n)) ≡ 0
   index-no = no-operator _ _ (braces .closes) level-brace
 
-  pub index-stands : answers.Stands code values 5 (at + 2)
+  pub index-stands : answers.Stands code values disjunctions (at + 2)
   index-stands = asks (g .targets .known) (g .targets .sorts) nestings (at + 2) (braces .e) (braces .n) index-at index-load index-no
 
-  pub element-small : at + 2 < 8192
+  pub element-small : at + 2 < wordLimit
   element-small = omega (arith, index-on, index-load .last)
 
   module _ (mid : List ℕ) (r : Judged) (o : OfType code values mid false numType (at + 2) r) where
@@ -256,11 +264,11 @@ module _ (code values : List ℕ) (cell at : ℕ) (g : Elements code values cell
       index-told : Told (g .targets .known) (ofType (g .targets .known .W) (aNum) (g .targets .known .S) (braces .e)) code mid (braces .e) (at + 2) (braces .n) end
       index-told = typed-told (g .targets .known) (g .targets .sorts) nestings (at + 2) (braces .e) (braces .n) index-at index-load index-no mid numType aNum num-in r o b end e
 
-      pub index-end : (end < 8192) × (at * 8 + 8 ≤ length mid) × ((at + 1) * 8 + 8 ≤ length mid)
+      pub index-end : (end < wordLimit) × (at * 8 + 8 ≤ length mid) × ((at + 1) * 8 + 8 ≤ length mid)
       index-end =
           (omega (arith, index-told .next-is, index-load .last), omega (arith, index-on, index-load .room, index-long), omega (arith, index-on, index-load .room, index-long))
 
-  array-wrong : (number : ℕ) → (cell % 256 / 4 ≡ anArray → ⊥) → WrongName (cell % 256 / 4) number
+  array-wrong : (number : ℕ) → (kindIn cell ≡ anArray → ⊥) → WrongName (kindIn cell) number
       → First (record { number = number; at = at }) (judgeTarget (g .targets .known .W) (g .targets .known .S) (g .targets .t) .faults)
   array-wrong number d w =
       let W = g .targets .known .W in
@@ -268,26 +276,26 @@ module _ (code values : List ℕ) (cell at : ℕ) (g : Elements code values cell
       let M = meaning S (spelled W at) in
       target-first W S (record { number = number; at = at }) (judge W false S (braces .e) .faults) (g .targets .is)
       (ap (λ (x : types.Judged). x .faults) (judged-element W S (g .targets .t) at (g .targets .is .named) (braces .e) (braces .is))
-      ∙ element-wrong M at number (braces .e) (judge W false S (braces .e)) (ap arrayIn (sym (g .means)) ∙ no-array (g .targets .known .routine) (cell % 256 / 4) (cell / 2 % 2) (cell % 2) (cell / 256) d)
-      (ap wrongName (sym (g .means)) ∙ w .is (g .targets .known .routine) (cell / 2 % 2) (cell % 2) (cell / 256)))
+      ∙ element-wrong M at number (braces .e) (judge W false S (braces .e)) (ap arrayIn (sym (g .means)) ∙ no-array (g .targets .known .routine) (kindIn cell) (boolIn cell) (ownIn cell) (valueIn cell) d)
+      (ap wrongName (sym (g .means)) ∙ w .is (g .targets .known .routine) (boolIn cell) (ownIn cell) (valueIn cell)))
 
-  module _ (k : cell % 256 / 4 ≡ anArray) where
-    array-means : arrayIn (meaning (g .targets .known .S) (spelled (g .targets .known .W) at)) ≡ some (typeWith (cell / 2 % 2), refWith (cell % 2) (cell / 256 % 1024), cell / 256 / 1024)
+  module _ (k : kindIn cell ≡ anArray) where
+    array-means : arrayIn (meaning (g .targets .known .S) (spelled (g .targets .known .W) at)) ≡ some (typeWith (boolIn cell), refWith (ownIn cell) (firstIn (valueIn cell)), sizeIn (valueIn cell))
     unfolding meaningWith arrayIn
     array-means = ap arrayIn (sym (g .means)) ∙ rw k
 
-    array-room : InRoom (g .targets .known .m) (g .targets .known .n) (refWith (cell % 2) (cell / 256 % 1024)) (cell / 256 / 1024)
+    array-room : InRoom (g .targets .known .m) (g .targets .known .n) (refWith (ownIn cell) (firstIn (valueIn cell))) (sizeIn (valueIn cell))
     unfolding meaningWith Within
     array-room = rw k at (subst (Within (g .targets .known .m) (g .targets .known .n)) (sym (g .means)) (g .targets .known .within at (g .targets .is .name)))
 
     array-judged : judgeTarget (g .targets .known .W) (g .targets .known .S) (g .targets .t)
-        ≡ judged (typeWith (cell / 2 % 2)) (ofType (g .targets .known .W) (aNum) (g .targets .known .S) (braces .e))
-        (elementAt (refWith (cell % 2) (cell / 256 % 1024)) (cell / 256 / 1024) (termOf (g .targets .known .W) (g .targets .known .S) (braces .e)))
+        ≡ judged (typeWith (boolIn cell)) (ofType (g .targets .known .W) (aNum) (g .targets .known .S) (braces .e))
+        (elementAt (refWith (ownIn cell) (firstIn (valueIn cell))) (sizeIn (valueIn cell)) (termOf (g .targets .known .W) (g .targets .known .S) (braces .e)))
     unfolding ofType termOf
     array-judged =
         judged-element (g .targets .known .W) (g .targets .known .S) (g .targets .t) at (g .targets .is .named) (braces .e) (braces .is)
         ∙ element-is (meaning (g .targets .known .S) (spelled (g .targets .known .W) at)) at (braces .e) (judge (g .targets .known .W) false (g .targets .known .S) (braces .e))
-        (typeWith (cell / 2 % 2), refWith (cell % 2) (cell / 256 % 1024), cell / 256 / 1024) array-means
+        (typeWith (boolIn cell), refWith (ownIn cell) (firstIn (valueIn cell)), sizeIn (valueIn cell)) array-means
 
     module _ (mid : List ℕ) (r : Judged) (o : OfType code values mid false numType (at + 2) r) where
       index-first : (number word : ℕ) → r ≡ Faulty number word → First (record { number = number; at = word }) (judgeTarget (g .targets .known .W) (g .targets .known .S) (g .targets .t) .faults)
@@ -299,7 +307,7 @@ module _ (code values : List ℕ) (cell at : ℕ) (g : Elements code values cell
         abbrev told : Told (g .targets .known) (ofType (g .targets .known .W) (aNum) (g .targets .known .S) (braces .e)) code mid (braces .e) (at + 2) (braces .n) end
         told = index-told mid r o b end e
 
-        module _ (one : List ℕ) (l : Linked mid one at (aTarget + 2 + cell % 2) (cell / 256) (linkAt (wordsOf mid) at)) (after : List ℕ)
+        module _ (one : List ℕ) (l : Linked mid one at (aTarget + 2 + ownIn cell) (valueIn cell) (linkAt (wordsOf mid) at)) (after : List ℕ)
             (x : Linked one after (at + 1) (opAt (wordsOf one) (at + 1)) (valueAt (wordsOf one) (at + 1)) end) where
           -- the brace's word has its op still
           brace-op : opAt (wordsOf after) (at + 1) ≡ openBrace
@@ -338,12 +346,12 @@ module _ (code values : List ℕ) (cell at : ℕ) (g : Elements code values cell
                 written = record {
                   type-is = ty .is ∙ ap some (sym (ap (λ (y : types.Judged). y .type) array-judged ∙ judged-type _ _ _ f));
                   target = record {
-                    k = cell % 2 + 2;
-                    v = cell / 256;
+                    k = ownIn cell + 2;
+                    v = valueIn cell;
                     op-is = ap opIn head ∙ l .op-is ∙ omega arith;
                     value-is = ap valueIn head ∙ l .value-is;
                     aims = element-aims (record {
-                      own = cell % 2;
+                      own = ownIn cell;
                       op-is = refl;
                       few = omega arith;
                       room = array-room;

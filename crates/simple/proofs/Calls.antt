@@ -14,7 +14,7 @@ use Rattle.paper.specs.Sorts.{comma, semicolon, FUNC}
 use Rattle.paper.specs.Words.{wordLimit}
 use Rattle.paper.specs.Terms.{Term}
 use Rattle.paper.specs.Trees.{Expr}
-use Rattle.paper.specs.Expressions.{levelOf, nestings}
+use Rattle.paper.specs.Expressions.{levelOf, nestings, disjunctions}
 use Rattle.paper.specs.Names.{DataType, sortIn}
 use Rattle.paper.specs.Types.{Fault, faultIf, ofType, termOf}
 use Rattle.paper.specs.Checks.{isSome, argumentFaults}
@@ -43,9 +43,9 @@ use Rattle.links.proofs.Moving.{argument-last, argument-next}
 use Rattle.around.specs.Around.{Around, groundOf, Apart}
 use Rattle.around.specs.Answers.{Fine, Answer, Tell}
 use Rattle.simple.specs.Parts.{Passed, Reads, reads-one, reads-more, ReadAll, no-arguments, some-arguments, Rest, More, MoreRead, MoreJudged, Counts, Counted, CallSide, signatureFor, CallWritten, CallJudged}
-use Rattle.simple.proofs.Asking.{no-operator, level-semicolon, level-paren, quiet-above, Told, answer-first, answer-fine}
+use Rattle.simple.proofs.Expressions.{no-operator, level-semicolon, level-paren, quiet-above, Told, answer-first, answer-fine}
 use Rattle.simple.proofs.Callees.{Known, known}
-use Rattle.simple.proofs.Arguing.{link-below, unread-part, unread-after, apart-kept, apart-same, reads-grow, reads-below, one-asks, one-long, one-told, one-first, one-is-first, one-is-fine, next-level, same-tail}
+use Rattle.simple.proofs.Arguments.{link-below, unread-part, unread-after, apart-kept, apart-same, reads-grow, reads-below, one-asks, one-long, one-told, one-first, one-is-first, one-is-fine, next-level, same-tail}
 use Rattle.layout.specs.Rules.{wrongCount}
 use Rattle.layout.specs.Types.{noType}
 
@@ -130,8 +130,11 @@ module _ (code values : List ℕ) (h callee first closing : ℕ) (g : CallSide c
   head-known : Known (wordsOf code) (g .around .R) (g .around .K .routines) h
   head-known = known (wordsOf code) (g .around .R) (g .around .K .routines) h (g .calls .heads (wordsOf code) (apart-same (wordsOf code) callee (g .end))) (g .among)
 
-  pub head-room : (h * 8 + 8 ≤ length code) × (h < 8192)
-  head-room = (omega (arith, head-known .low, head-known .inside, g .calls .room), omega (arith, head-known .low, head-known .inside))
+  pub head-here : h * 8 + 8 ≤ length code
+  head-here = omega (arith, head-known .low, head-known .inside, g .calls .room)
+
+  pub head-small : h < wordLimit
+  head-small = omega (arith, head-known .low, head-known .inside)
 
   call-end : g .z ≤ g .end
   call-end = by-same closing semicolon (λ e. omega (arith, g .stand .at-end e)) (λ d. omega (arith, g .stand .past-end d .1))
@@ -142,8 +145,11 @@ module _ (code values : List ℕ) (h callee first closing : ℕ) (g : CallSide c
   call-no : levelOf (sortIn (g .around .known .W) (g .z)) ≡ 0
   call-no = by-same closing semicolon (λ e. no-operator _ _ (g .stand .closes ∙ e) level-semicolon) (λ d. no-operator _ _ (g .stand .closes ∙ g .stand .past-end d .0) level-paren)
 
-  pub callee-room : (callee * 8 + 8 ≤ length code) × (callee < 8192) × (first < 8192)
-  callee-room = (omega (arith, g .before, call-on, call-end, g .unread .loaded .room), omega (arith, g .before, call-on, call-end, g .unread .loaded .last), omega (arith, call-on, call-end, g .unread .loaded .last))
+  pub callee-here : callee * 8 + 8 ≤ length code
+  callee-here = omega (arith, g .before, call-on, call-end, g .unread .loaded .room)
+
+  pub first-small : first < wordLimit
+  first-small = omega (arith, call-on, call-end, g .unread .loaded .last)
 
   -- the word that closes them is as it was
   pub closes-low : (after : List ℕ) (x : ℕ) → Kept code after x (g .z) → opAt (wordsOf after) (g .z) ≡ aNextArgument → ⊥
@@ -161,16 +167,16 @@ module _ (code values : List ℕ) (h callee first closing : ℕ) (g : CallSide c
     unfolding counts
     count-is = c .is counts
 
-    many-is : length params ≡ w / 256
+    many-is : length params ≡ valueIn w
     unfolding params
     many-is = head-known .many ∙ sym (ap valueIn ew)
 
-    many-wrong : (count ≡ w / 256 → ⊥) → First (record { number = wrongCount; at = callee }) (faultIf (not (eqb (length params) (length (g .es)))) wrongCount callee ++ passing params (g .es))
+    many-wrong : (count ≡ valueIn w → ⊥) → First (record { number = wrongCount; at = callee }) (faultIf (not (eqb (length params) (length (g .es)))) wrongCount callee ++ passing params (g .es))
     many-wrong d =
         first-left (first-if (not (eqb (length params) (length (g .es)))) wrongCount callee (rw (ne-eqb (length params) (length (g .es)) (λ e. d (count-is ∙ sym e ∙ many-is)))))
         (leads-later (record { number = wrongCount; at = callee }) (arguments-inside (g .around .known .W) (g .around .known .S) params (g .stand .arguments)) (g .before))
 
-    module _ (same : count ≡ w / 256) where
+    module _ (same : count ≡ valueIn w) where
       as-many : length (g .es) ≡ length params
       as-many = sym count-is ∙ same ∙ sym many-is
 
@@ -225,7 +231,7 @@ module _ (code values : List ℕ) (h callee first closing : ℕ) (g : CallSide c
         value-suc : valueAt (wordsOf code) h ≡ suc (length (one .rest))
         value-suc = sym (ap valueIn ew) ∙ sym many-is ∙ sym as-many ∙ ap length (one .is)
 
-        pub call-asks : (p * 8 + 8 ≤ length code) × (p < 8192) × expressions.Stands code values 5 first
+        pub call-asks : (p * 8 + 8 ≤ length code) × (p < wordLimit) × expressions.Stands code values disjunctions first
         call-asks =
             (omega (arith, ep, head-known .inside, value-suc, g .calls .room), omega (arith, ep, head-known .inside, value-suc), one-asks (g .around) code p first (one .a) (one .n) (one .one) one-load one-no)
 
@@ -262,8 +268,8 @@ module _ (code values : List ℕ) (h callee first closing : ℕ) (g : CallSide c
             first-told : Told (g .around .known) (ofType (g .around .known .W) (typeAt (wordsOf code) p) (g .around .known .S) (one .a)) code mid (one .a) first (one .n) n
             first-told = one-told (g .around) code p first (one .a) (one .n) (one .one) one-load one-no mid j pass b n e
 
-            pub first-end : (n < 8192) × (callee * 8 + 8 ≤ length mid)
-            first-end = (omega (arith, first-told .next-is, one-in, call-end, g .unread .loaded .last), omega (arith, callee-room .0, first-long))
+            pub first-end : (n < wordLimit) × (callee * 8 + 8 ≤ length mid)
+            first-end = (omega (arith, first-told .next-is, one-in, call-end, g .unread .loaded .last), omega (arith, callee-here, first-long))
 
             module _ (op : ℕ) (after : List ℕ) (l : Linked mid after callee op h n) where
               first-kept : Kept code after callee (one .n)
@@ -337,13 +343,13 @@ module _ (code values : List ℕ) (h callee first closing : ℕ) (g : CallSide c
 
 -- ---- what the call answers
 module _ (code values : List ℕ) (op h callee first closing : ℕ) (count : ℕ) (c : Counted code first closing count) (w : ℕ) (ew : w ≡ headAt (wordsOf code) h) where
-  pub called-wrong : (count ≡ w / 256 → ⊥) → CallJudged code values code op h callee first closing (Faulty wrongCount callee)
+  pub called-wrong : (count ≡ valueIn w → ⊥) → CallJudged code values code op h callee first closing (Faulty wrongCount callee)
   unfolding params
   called-wrong d = record {
     is = λ g. answer-first _ code code callee (g .z) _ (Faulty wrongCount callee) wrongCount callee refl refl (many-wrong code values h callee first closing g count c w ew d);
   }
 
-  module _ (same : count ≡ w / 256) where
+  module _ (same : count ≡ valueIn w) where
     pub called-none : count ≡ 0 → (after : List ℕ) → Linked code after callee op h first → CallJudged code values after op h callee first closing (Typed noType first)
     unfolding params
     called-none z after l = record { is = λ g. none-answer code values h callee first closing g count c w ew same z op after l }

@@ -32,13 +32,14 @@ use Rattle.around.specs.Around.{groundOf}
 use Rattle.around.specs.Answers.{Fine, Answer}
 use Rattle.simple.specs.Answers.{Answers}
 use Rattle.simple.specs.Parts.{CallsOf, CalledOf, Callees, CalleeFound, CalleeSays, CalleeTold, ArgumentsStand, CallSide, signatureFor, CallWritten, CallJudged}
-use Rattle.simple.proofs.Asking.{quiet-below, answered-fine, answered-first}
-use Rattle.simple.proofs.Arguing.{link-below, unread-part}
-use Rattle.simple.proofs.Calling.{raw-arguments, read-below}
-use Rattle.simple.proofs.Found.{found-signature, found-faults, found-read}
-use Rattle.simple.proofs.Functions.{told-found, told-wrong}
-use Rattle.simple.proofs.Stating.{stands-on, stated-first, stated-fine}
+use Rattle.simple.proofs.Expressions.{quiet-below, answered-fine, answered-first}
+use Rattle.simple.proofs.Arguments.{link-below, unread-part}
+use Rattle.simple.proofs.Calls.{raw-arguments, read-below}
+use Rattle.simple.proofs.CalleesFound.{found-signature, found-faults, found-read}
+use Rattle.simple.proofs.FunctionCalls.{told-found, told-wrong}
+use Rattle.simple.proofs.SimpleStatements.{stands-on, stated-first, stated-fine}
 use Rattle.layout.specs.Rules.{wrongCount}
+use Rattle.paper.specs.Words.{wordLimit}
 
 module _ (code values : List ℕ) (i : ℕ) (c : CallsOf code values i) where
   of-calls : inversions.Calls (sortIn (c .begins .stands .around .known .W)) (Parses (sortIn (c .begins .stands .around .known .W))) (c .begins .stands .s) i (c .begins .stands .to)
@@ -59,7 +60,7 @@ module _ (code values : List ℕ) (i : ℕ) (c : CallsOf code values i) where
     calls = c .begins .stands .calls;
   }
 
-  pub of-small : i + 1 < 8192
+  pub of-small : i + 1 < wordLimit
   of-small = omega (arith, of-on, c .begins .stands .unread .loaded .last)
 
   of-stand : ArgumentsStand (c .begins .stands .around .known .W) (of-calls .es) (i + 1) 4 (c .begins .stands .to) (c .begins .stands .to)
@@ -132,7 +133,7 @@ module _ (code values : List ℕ) (i : ℕ) (c : CallsOf code values i) where
               code mid i (c .begins .stands .to) end (CallWritten of-side (wordsOf mid) aProcedureCall)
           of-fine = answered-fine _ _ _ _ _ _ q of-answer bool end x
 
-          pub of-end : (end < 8192) × (end * 8 + 8 ≤ length mid)
+          pub of-end : (end < wordLimit) × (end * 8 + 8 ≤ length mid)
           of-end = (omega (arith, of-fine .next-is, c .begins .stands .unread .loaded .last), omega (arith, of-fine .next-is, c .begins .stands .unread .loaded .room, of-answer .long))
 
           of-typed : (after : List ℕ) → Linked mid after end aClose 0 (end + 1) → Answers (c .begins .stands) after (Typed bool (end + 1))

@@ -11,7 +11,7 @@ use borrow.Author.Tests.{ne-eqb, eqb-true, eqb-false}
 use Rattle.laws.proofs.Tests.{test}
 use Rattle.paper.specs.Trees.{Expr, Simple, returns, raises, exits, retries, triesNext}
 use Rattle.paper.specs.Expressions.{nestings}
-use Rattle.paper.specs.Words.{Word}
+use Rattle.paper.specs.Words.{Word, wordLimit}
 use Rattle.paper.specs.Names.{DataType, aNum, Scopes, sortIn}
 use Rattle.paper.specs.Types.{Fault, fault, faultIf, faultsOf, ofType}
 use Rattle.paper.specs.Checks.{isSome, inError, returnFaults, simpleFaults}
@@ -33,11 +33,12 @@ use Rattle.around.specs.Around.{groundOf, Tells}
 use Rattle.simple.specs.Answers.{Stands, Answers, Statement, Stated}
 use Rattle.simple.specs.Parts.{BeginsIn, BegunIn, Values, Valued}
 use Rattle.simple.specs.Parts as parts
-use Rattle.simple.proofs.Stating.{stands-on, stands-room, stands-sort, stated-first, stated-fine, stated-on}
+use Rattle.simple.proofs.SimpleStatements.{stands-on, stands-sort, stated-first, stated-fine, stated-on}
 use Rattle.code.specs.Steps.{aReturnOf, aReturn, aRaiseOf, aRaise, anExit, aRetry, aTryNext}
 use Rattle.layout.specs.Rules.{barred}
 use Rattle.layout.specs.Types.{noType, numType, typeIn, IsType}
 use Rattle.layout.proofs.Typing.{num-in}
+use Rattle.paper.specs.Sorts.{semicolon, EXIT, RAISE, RETRY, RETURN, TRYNEXT}
 
 -- ---- one word
 module _ (code values : List ℕ) (at : ℕ) (g : Stands code values at) (s : Simple) (is : g .s ≡ s) (one : g .to ≡ at + 1) (op : ℕ) (fine : Bool) (after : List ℕ) (r : Judged) (a : parts.Alone code after op fine at r) where
@@ -107,11 +108,11 @@ module _ (code values : List ℕ) (i : ℕ) (g : Stands code values i) (make : �
   next-is : s ≡ sortIn (g .around .known .W) (i + 1)
   next-is = es ∙ stands-sort code values i g (i + 1) (omega arith) (omega (arith, stands-on code values i g))
 
-  without : s ≡ 4 → (x .e ≡ none) × (g .to ≡ i + 1)
+  without : s ≡ semicolon → (x .e ≡ none) × (g .to ≡ i + 1)
   without e = optional-none (sortIn (g .around .known .W)) (Parses (sortIn (g .around .known .W))) (x .value) (sym next-is ∙ e)
 
   -- the word alone, which may stand here or not
-  word-alone : s ≡ 4 → (op : ℕ) (fine : Bool) (after : List ℕ) (r : Judged) → parts.Alone code after op fine i r
+  word-alone : s ≡ semicolon → (op : ℕ) (fine : Bool) (after : List ℕ) (r : Judged) → parts.Alone code after op fine i r
       → (fine ≡ true → (faults none ≡ []) × (RawWord (wordsOf after) op i (g .to + 1) → does (wordsOf after) none)) → (fine ≡ false → First (record { number = barred; at = i }) (faults none))
       → Answers g after r
   word-alone e op fine after r a fits breaks =
@@ -120,7 +121,7 @@ module _ (code values : List ℕ) (i : ℕ) (g : Stands code values i) (make : �
       (λ t. word-fine code values i g (make i none) is (without e .1) op fine after r a t (fits t .0) (fits t .1))
       (λ t. word-broken code values i g (make i none) is (without e .1) op fine after r a t (breaks t))
 
-  module _ (d : s ≡ 4 → ⊥) where
+  module _ (d : s ≡ semicolon → ⊥) where
     given : Given (sortIn (g .around .known .W)) (Parses (sortIn (g .around .known .W))) (x .e) (i + 1) (g .to)
     given = optional-some (sortIn (g .around .known .W)) (Parses (sortIn (g .around .known .W))) (x .value) (λ q. d (next-is ∙ q))
 
@@ -143,18 +144,15 @@ module _ (code values : List ℕ) (i : ℕ) (g : Stands code values i) (make : �
         (λ b next f. stated-fine code values i g (make i (some (given .e))) given-is after b next (fs ∙ f .none) (f .next-is) (f .kept) (raw (f .written .raw)))
 
 -- ---- RETURN
-module _ (k : Setting) (code values : List ℕ) (i : ℕ) (c : BeginsIn 74 k code values i) where
+module _ (k : Setting) (code values : List ℕ) (i : ℕ) (c : BeginsIn RETURN k code values i) where
   abbrev g : Stands code values i
   g = c .begins .stands
 
   return-is : WithOptional (sortIn (g .around .known .W)) (Parses (sortIn (g .around .known .W))) returns (g .s) i (g .to)
   return-is = simple-return (sortIn (g .around .known .W)) (Parses (sortIn (g .around .known .W))) (g .is) (c .begins .here)
 
-  pub return-room : (i * 8 + 8 ≤ length code) × ((i + 1) * 8 + 8 ≤ length code) × (i + 1 < 8192)
-  return-room = stands-room code values i g
-
   module _ (s : ℕ) (es : s ≡ opAt (wordsOf code) (i + 1)) where
-    return-alone : s ≡ 4 → (after : List ℕ) (r : Judged) → parts.Alone code after aReturn (eqb (k .result) 0) i r → Answers g after r
+    return-alone : s ≡ semicolon → (after : List ℕ) (r : Judged) → parts.Alone code after aReturn (eqb (k .result) 0) i r → Answers g after r
     unfolding simpleFaults returnFaults isSome RawDoes groundOf faultIf
     return-alone e after r a =
         word-alone code values i g returns return-is s es e aReturn (eqb (k .result) 0) after r a
@@ -166,7 +164,7 @@ module _ (k : Setting) (code values : List ℕ) (i : ℕ) (c : BeginsIn 74 k cod
     pub return-type : (k .result ≡ 0 → ⊥) → IsType (k .result)
     return-type z = let n = result-some k (g .around .K) (c .tells) z in record { type = n .type; is = sym (c .tells .result .is) ∙ n .is }
 
-    module _ (d : s ≡ 4 → ⊥) where
+    module _ (d : s ≡ semicolon → ⊥) where
       pub return-values : Values code values (i + 1) i
       return-values = given-values code values i g returns return-is s es d
 
@@ -189,36 +187,33 @@ module _ (k : Setting) (code values : List ℕ) (i : ℕ) (c : BeginsIn 74 k cod
 
 -- what it answers
 module _ (k : Setting) (code values : List ℕ) (i s : ℕ) (es : s ≡ opAt (wordsOf code) (i + 1)) where
-  pub returned-alone : s ≡ 4 → (after : List ℕ) (r : Judged) → parts.Alone code after aReturn (eqb (k .result) 0) i r → BegunIn 74 k code values after i r
+  pub returned-alone : s ≡ semicolon → (after : List ℕ) (r : Judged) → parts.Alone code after aReturn (eqb (k .result) 0) i r → BegunIn RETURN k code values after i r
   returned-alone e after r a = record { is = λ c. return-alone k code values i c s es e after r a }
 
-  module _ (d : s ≡ 4 → ⊥) where
-    pub returned-proc : k .result ≡ 0 → BegunIn 74 k code values code i (Faulty barred i)
+  module _ (d : s ≡ semicolon → ⊥) where
+    pub returned-proc : k .result ≡ 0 → BegunIn RETURN k code values code i (Faulty barred i)
     returned-proc z = record { is = λ c. return-proc k code values i c s es d z }
 
-    pub returned-func : (k .result ≡ 0 → ⊥) → (after : List ℕ) (r : Judged) → Valued code values after aReturnOf (k .result) (i + 1) i r → BegunIn 74 k code values after i r
+    pub returned-func : (k .result ≡ 0 → ⊥) → (after : List ℕ) (r : Judged) → Valued code values after aReturnOf (k .result) (i + 1) i r → BegunIn RETURN k code values after i r
     returned-func z after r v = record { is = λ c. return-func k code values i c s es d z after r v }
 
 -- ---- RAISE
-module _ (k : Setting) (code values : List ℕ) (i : ℕ) (c : BeginsIn 70 k code values i) where
+module _ (k : Setting) (code values : List ℕ) (i : ℕ) (c : BeginsIn RAISE k code values i) where
   abbrev u : Stands code values i
   u = c .begins .stands
 
   raise-is : WithOptional (sortIn (u .around .known .W)) (Parses (sortIn (u .around .known .W))) raises (u .s) i (u .to)
   raise-is = simple-raise (sortIn (u .around .known .W)) (Parses (sortIn (u .around .known .W))) (u .is) (c .begins .here)
 
-  pub raise-room : (i * 8 + 8 ≤ length code) × ((i + 1) * 8 + 8 ≤ length code) × (i + 1 < 8192)
-  raise-room = stands-room code values i u
-
   module _ (s : ℕ) (es : s ≡ opAt (wordsOf code) (i + 1)) where
-    raise-alone : s ≡ 4 → (after : List ℕ) (r : Judged) → parts.Alone code after aRaise (k .handler) i r → Answers u after r
+    raise-alone : s ≡ semicolon → (after : List ℕ) (r : Judged) → parts.Alone code after aRaise (k .handler) i r → Answers u after r
     unfolding simpleFaults RawDoes faultIf
     raise-alone e after r a =
         word-alone code values i u raises raise-is s es e aRaise (k .handler) after r a
         (λ t. (ap (λ (b : Bool). faultIf (not b) barred i) (sym (c .tells .handler) ∙ t), λ w. w))
         (λ t. first-if (not (inError (u .around .K .list))) barred i (ap not (sym (c .tells .handler) ∙ t)))
 
-    module _ (d : s ≡ 4 → ⊥) where
+    module _ (d : s ≡ semicolon → ⊥) where
       pub raise-values : Values code values (i + 1) i
       raise-values = given-values code values i u raises raise-is s es d
 
@@ -240,14 +235,14 @@ module _ (k : Setting) (code values : List ℕ) (i : ℕ) (c : BeginsIn 70 k cod
           (λ w. w) r v
 
 module _ (k : Setting) (code values : List ℕ) (i s : ℕ) (es : s ≡ opAt (wordsOf code) (i + 1)) where
-  pub raised-alone : s ≡ 4 → (after : List ℕ) (r : Judged) → parts.Alone code after aRaise (k .handler) i r → BegunIn 70 k code values after i r
+  pub raised-alone : s ≡ semicolon → (after : List ℕ) (r : Judged) → parts.Alone code after aRaise (k .handler) i r → BegunIn RAISE k code values after i r
   raised-alone e after r a = record { is = λ c. raise-alone k code values i c s es e after r a }
 
-  module _ (d : s ≡ 4 → ⊥) where
-    pub raised-handled : k .handler ≡ true → BegunIn 70 k code values code i (Faulty barred i)
+  module _ (d : s ≡ semicolon → ⊥) where
+    pub raised-handled : k .handler ≡ true → BegunIn RAISE k code values code i (Faulty barred i)
     raised-handled z = record { is = λ c. raise-handled k code values i c s es d z }
 
-    pub raised-number : k .handler ≡ false → (after : List ℕ) (r : Judged) → Valued code values after aRaiseOf numType (i + 1) i r → BegunIn 70 k code values after i r
+    pub raised-number : k .handler ≡ false → (after : List ℕ) (r : Judged) → Valued code values after aRaiseOf numType (i + 1) i r → BegunIn RAISE k code values after i r
     raised-number z after r v = record { is = λ c. raise-number k code values i c s es d z after r v }
 
 -- ---- EXIT, RETRY, TRYNEXT
@@ -256,7 +251,7 @@ module _ (text code values : List ℕ) (k : Setting) (i s : ℕ) (es : s ≡ opA
     pub statement-sort : s ≡ sortIn (g .stands .around .known .W) i
     statement-sort = es ∙ stands-sort code values i (g .stands) i (omega arith) (omega (arith, stands-on code values i (g .stands)))
 
-  pub exited : s ≡ 53 → (after : List ℕ) (r : Judged) → parts.Alone code after anExit true i r → Stated text code values after k i r
+  pub exited : s ≡ EXIT → (after : List ℕ) (r : Judged) → parts.Alone code after anExit true i r → Stated text code values after k i r
   unfolding simpleFaults RawDoes
   exited e after r a = record {
     is = λ g.
@@ -264,7 +259,7 @@ module _ (text code values : List ℕ) (k : Setting) (i s : ℕ) (es : s ≡ opA
         word-fine code values i (g .stands) (exits i) (x .alone) (x .after) anExit true after r a refl refl (λ w. w);
   }
 
-  pub retried : s ≡ 73 → (after : List ℕ) (r : Judged) → parts.Alone code after aRetry (k .handler) i r → Stated text code values after k i r
+  pub retried : s ≡ RETRY → (after : List ℕ) (r : Judged) → parts.Alone code after aRetry (k .handler) i r → Stated text code values after k i r
   unfolding simpleFaults RawDoes faultIf
   retried e after r a = record {
     is = λ g.
@@ -274,7 +269,7 @@ module _ (text code values : List ℕ) (k : Setting) (i s : ℕ) (es : s ≡ opA
         (λ t. word-broken code values i (g .stands) (retries i) (x .alone) (x .after) aRetry (k .handler) after r a t (first-if (not (inError (g .stands .around .K .list))) barred i (ap not (sym (g .tells .handler) ∙ t))));
   }
 
-  pub tried-next : s ≡ 82 → (after : List ℕ) (r : Judged) → parts.Alone code after aTryNext (k .handler) i r → Stated text code values after k i r
+  pub tried-next : s ≡ TRYNEXT → (after : List ℕ) (r : Judged) → parts.Alone code after aTryNext (k .handler) i r → Stated text code values after k i r
   unfolding simpleFaults RawDoes faultIf
   tried-next e after r a = record {
     is = λ g.

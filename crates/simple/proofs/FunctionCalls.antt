@@ -8,7 +8,7 @@ use native.Mathlib.Omega.{arith}
 use lib.Dec.{eqb}
 use lib.ListN.{length}
 use lib.IntN.{pos}
-use Rattle.paper.specs.Words.{Word}
+use Rattle.paper.specs.Words.{Word, wordLimit}
 use Rattle.paper.specs.Terms.{literal}
 use Rattle.paper.specs.Names.{DataType, sortIn, spelled, meaning}
 use Rattle.paper.specs.Types.{Fault, faultIf, differs}
@@ -40,15 +40,16 @@ use Rattle.simple.specs.declared.Callee.the-variants.{At, Wrong}
 use Rattle.around.specs.Around.{Around, groundOf}
 use Rattle.around.specs.Answers.{Fine, Answer}
 use Rattle.simple.specs.Parts.{TypeDiffers, Callees, CalleeFound, CalleeWrong, CalleeSays, CalleeTold, CallSide, signatureFor, CallWritten, CallJudged, ForCalls, ForWritten, forFaults, ForJudged, CallAssigns, CallAssigned}
-use Rattle.simple.proofs.Asking.{quiet-below, quiet-above, answer-first, answer-fine, answered-fine, answered-first}
-use Rattle.simple.proofs.Passing.{type-at}
-use Rattle.simple.proofs.Arguing.{unread-part}
-use Rattle.simple.proofs.Calling.{raw-arguments, answer-on, closes-low}
-use Rattle.simple.proofs.Found.{differs-turned, found-room, found-signature, found-faults, found-result, found-read}
-use Rattle.simple.proofs.Assigning.{link-above, aims-below, aims-above, aims-few, raw-target}
+use Rattle.simple.proofs.Expressions.{quiet-below, quiet-above, answer-first, answer-fine, answered-fine, answered-first}
+use Rattle.simple.proofs.ParameterTypes.{type-at}
+use Rattle.simple.proofs.Arguments.{unread-part}
+use Rattle.simple.proofs.Calls.{raw-arguments, answer-on, closes-low}
+use Rattle.simple.proofs.CalleesFound.{differs-turned, found-room, found-signature, found-faults, found-result, found-read}
+use Rattle.simple.proofs.Assignments.{link-above, aims-below, aims-above, aims-few, raw-target}
 use Rattle.layout.specs.Rules.{wrongType, wrongCount}
 use Rattle.layout.specs.Types.{typeIn, IsType}
 use mathlib.Core.Option.{some}
+use Rattle.layout.specs.Parts.{valuePart, linkPart}
 
 -- ---- what the name of a callee is told to be
 pub told-found : {text values : List ℕ} (a : Around text values) (code : List ℕ) (function : Bool) (i : ℕ) (r : Callee) (h : ℕ) → r ≡ At h → CalleeSays a code function i r
@@ -89,7 +90,7 @@ module _ (code values : List ℕ) (i : ℕ) (g : ForCalls code values i) where
     calls = g .calls;
   }
 
-  pub for-small : i + 2 < 8192
+  pub for-small : i + 2 < wordLimit
   for-small = omega (arith, for-on, g .unread .loaded .last)
 
   -- the faults of arguments come later
@@ -113,7 +114,7 @@ module _ (code values : List ℕ) (i : ℕ) (g : ForCalls code values i) where
       for-found : CalleeFound (numbered (g .around .R)) (length (g .around .R)) code (meaning (g .around .known .S) (spelled (g .around .known .W) i)) true h
       for-found = told-found (g .around) code true i r h e for-says
 
-      pub for-head : (h + 1 < 8192) × ((h + 1) * 8 + 8 ≤ length code)
+      pub for-head : (h + 1 < wordLimit) × ((h + 1) * 8 + 8 ≤ length code)
       for-head = found-room (g .around) code i (g .z + 1) true h for-found (g .calls)
 
       pub for-side : CallSide code values h i (i + 2) 7
@@ -205,7 +206,7 @@ module _ (code values : List ℕ) (i b : ℕ) (g : CallAssigns code values i b) 
   assign-on : b + 3 ≤ g .for .z
   assign-on = let x = for-on code values (b + 1) (g .for) in omega (arith, x)
 
-  pub assign-small : b + 1 < 8192
+  pub assign-small : b + 1 < wordLimit
   assign-small = omega (arith, assign-on, g .for .unread .loaded .last)
 
   module _ (wants : ℕ) (j : types.Judged) (ty : typeIn wants ≡ some (j .type)) (mid : List ℕ) (r : Judged) (f : ForJudged code values mid wants (b + 1) r) where
@@ -219,7 +220,7 @@ module _ (code values : List ℕ) (i b : ℕ) (g : CallAssigns code values i b) 
       assign-fine : Fine (forFaults (g .for) j) code mid (b + 1) (g .for .z) end (ForWritten (g .for) (wordsOf mid))
       assign-fine = answered-fine _ _ _ _ _ _ r assign-answer bool end e
 
-      module _ (w : ℕ) (ew : w ≡ headAt (wordsOf mid) i) (after : List ℕ) (l : Linked mid after i (w % 256 + 4) (w / 256) (end + 2)) where
+      module _ (w : ℕ) (ew : w ≡ headAt (wordsOf mid) i) (after : List ℕ) (l : Linked mid after i (opIn w + 4) (valueIn w) (end + 2)) where
         head-same : w ≡ headAt (wordsOf code) i
         head-same = ew ∙ head-below (assign-fine .kept) i (omega (arith, g .before))
 
@@ -259,13 +260,13 @@ module _ (code values : List ℕ) (i b : ℕ) (g : CallAssigns code values i b) 
             }
 
     -- room for what is written
-    pub assign-room : (bool : ℕ) (end : ℕ) → r ≡ Typed bool end → (end + 2 < 65536) × (i * 8 + 8 ≤ length mid)
+    pub assign-room : (bool : ℕ) (end : ℕ) → r ≡ Typed bool end → (end + 2 < linkPart) × (i * 8 + 8 ≤ length mid)
     assign-room bool end e =
         (omega (arith, assign-fine bool end e .next-is, g .for .unread .loaded .last), omega (arith, assign-fine bool end e .kept .long, g .before, assign-on, g .for .unread .loaded .room))
 
-    pub assign-op : (w : ℕ) → w ≡ headAt (wordsOf mid) i → (bool : ℕ) (end : ℕ) → r ≡ Typed bool end → w % 256 + 4 < 256
+    pub assign-op : (w : ℕ) → w ≡ headAt (wordsOf mid) i → (bool : ℕ) (end : ℕ) → r ≡ Typed bool end → opIn w + 4 < valuePart
     assign-op w ew bool end e =
-        let h : w % 256 ≡ aTarget + g .target .k = ap opIn (ew ∙ head-below (assign-fine bool end e .kept) i (omega (arith, g .before))) ∙ g .target .op-is in
+        let h : opIn w ≡ aTarget + g .target .k = ap opIn (ew ∙ head-below (assign-fine bool end e .kept) i (omega (arith, g .before))) ∙ g .target .op-is in
         omega (arith, h, aims-few (g .for .around .known .m) (g .for .around .known .n) (wordsOf code) (g .target .k) (g .target .v) _ i b (g .target .aims))
 
 module _ (code values : List ℕ) (wants : ℕ) (i b : ℕ) (mid : List ℕ) (r : Judged) (f : ForJudged code values mid wants (b + 1) r) where
@@ -274,7 +275,7 @@ module _ (code values : List ℕ) (wants : ℕ) (i b : ℕ) (mid : List ℕ) (r 
     is = λ g j ty. answer-first _ code mid i (g .for .z + 2) _ r number word e (assign-answer code values i b g wants j ty mid r f .long) (assign-first code values i b g wants j ty mid r f number word e);
   }
 
-  pub call-typed : (bool : ℕ) (end : ℕ) → r ≡ Typed bool end → (w : ℕ) → w ≡ headAt (wordsOf mid) i → (after : List ℕ) → Linked mid after i (w % 256 + 4) (w / 256) (end + 2)
+  pub call-typed : (bool : ℕ) (end : ℕ) → r ≡ Typed bool end → (w : ℕ) → w ≡ headAt (wordsOf mid) i → (after : List ℕ) → Linked mid after i (opIn w + 4) (valueIn w) (end + 2)
       → CallAssigned code values after wants i b (Typed bool (end + 2))
   call-typed bool end e w ew after l = record {
     is = λ g j ty. answer-fine _ code after i (g .for .z + 2) _ bool (end + 2) (call-assigned code values i b g wants j ty mid r f bool end e w ew after l);
@@ -286,10 +287,10 @@ module _ (code values : List ℕ) (wants : ℕ) (i b : ℕ) (g : CallAssigns cod
   of-type-wanted : types.Judged
   of-type-wanted = record { type = k .type; faults = []; term = literal (pos 0) }
 
-  pub assign-fits : (end + 2 < 65536) × (i * 8 + 8 ≤ length mid)
+  pub assign-fits : (end + 2 < linkPart) × (i * 8 + 8 ≤ length mid)
   unfolding of-type-wanted
   assign-fits = assign-room code values i b g wants of-type-wanted (k .is) mid r f bool end e
 
-  pub assign-op-fits : (w : ℕ) → w ≡ headAt (wordsOf mid) i → w % 256 + 4 < 256
+  pub assign-op-fits : (w : ℕ) → w ≡ headAt (wordsOf mid) i → opIn w + 4 < valuePart
   unfolding of-type-wanted
   assign-op-fits w ew = assign-op code values i b g wants of-type-wanted (k .is) mid r f w ew bool end e

@@ -26,9 +26,9 @@ use Rattle.expressions.specs.Known as expressions
 use Rattle.simple.specs.declared.Callee.the-variants.{At, Wrong}
 use Rattle.simple.specs.Parts.{WrongName, Callees, CalleeWrong, CalleeSays, CalleeTold}
 use Rattle.simple.proofs.Callees.{Known, known}
-use Rattle.simple.proofs.Arguing.{apart-same}
+use Rattle.simple.proofs.Arguments.{apart-same}
 use Rattle.layout.specs.Rules.{wrongKind}
-use Rattle.layout.specs.Kinds.{aRoutine, kindIn}
+use Rattle.layout.specs.Kinds.{aRoutine, kindIn, aVariable, anArray, aConstant, aLoop, anErrno, anErrorNumber, boolIn, ownIn}
 
 -- ---- a name by its cell
 pub name-means : {values : List ℕ} (k : expressions.Known values) (code : List ℕ) (i m : ℕ) → sortIn (k .W) i ≡ 1 → Fresh (k .W) (wordsOf code) i → m ≡ meaningAt (wordsOf code) (wordsOf values) i
@@ -39,13 +39,13 @@ name-means {values} k code i m n f e =
 no-routine : (routine : ℕ → ℕ) (kind bool own value : ℕ) → (kind ≡ aRoutine → ⊥) → routineIn (meaningWith routine kind bool own value) ≡ none
 unfolding meaningWith routineIn
 no-routine routine kind bool own value d =
-    test (eqb kind 1) (λ t. rw (t, meaningWith))
-    (λ a. test (eqb kind 2) (λ t. rw (a, meaningWith) (rw t))
-    (λ b. test (eqb kind 3) (λ t. rw (a, meaningWith) (rw b (rw t)))
-    (λ c. test (eqb kind 4) (λ t. rw (a, meaningWith) (rw b (rw c (rw t))))
-    (λ e. test (eqb kind 6) (λ t. rw (a, meaningWith) (rw b (rw c (rw e (rw (ne-eqb kind 5 d) (rw t))))))
-    (λ f. test (eqb kind 7) (λ t. rw (a, meaningWith) (rw b (rw c (rw e (rw (ne-eqb kind 5 d) (rw f (rw t)))))))
-    (λ g. rw (a, meaningWith) (rw b (rw c (rw e (rw (ne-eqb kind 5 d) (rw f (rw g))))))))))))
+    test (eqb kind aVariable) (λ t. rw (t, meaningWith))
+    (λ a. test (eqb kind anArray) (λ t. rw (a, meaningWith) (rw t))
+    (λ b. test (eqb kind aConstant) (λ t. rw (a, meaningWith) (rw b (rw t)))
+    (λ c. test (eqb kind aLoop) (λ t. rw (a, meaningWith) (rw b (rw c (rw t))))
+    (λ e. test (eqb kind anErrno) (λ t. rw (a, meaningWith) (rw b (rw c (rw e (rw (ne-eqb kind aRoutine d) (rw t))))))
+    (λ f. test (eqb kind anErrorNumber) (λ t. rw (a, meaningWith) (rw b (rw c (rw e (rw (ne-eqb kind aRoutine d) (rw f (rw t)))))))
+    (λ g. rw (a, meaningWith) (rw b (rw c (rw e (rw (ne-eqb kind aRoutine d) (rw f (rw g))))))))))))
 
 wrong-low : (m : Meaning) → wrongName m ≤ wrongKind
 unfolding wrongName
@@ -65,46 +65,46 @@ some-kind function t o e f = rw (e, f)
 
 module _ (code values : List ℕ) (function : Bool) (i m : ℕ) (em : m ≡ meaningAt (wordsOf code) (wordsOf values) i) where
   module _ (g : Callees code values i) where
-    means : meaningWith (g .around .known .routine) (m % 256 / 4) (m / 2 % 2) (m % 2) (m / 256) ≡ meaning (g .around .known .S) (spelled (g .around .known .W) i)
+    means : meaningWith (g .around .known .routine) (kindIn m) (boolIn m) (ownIn m) (valueIn m) ≡ meaning (g .around .known .S) (spelled (g .around .known .W) i)
     unfolding meaningIn
     means = name-means (g .around .known) code i m (g .name) (g .fresh) em
 
-    wrong-says : (number : ℕ) → (m % 256 / 4 ≡ aRoutine → ⊥) → WrongName (m % 256 / 4) number
+    wrong-says : (number : ℕ) → (kindIn m ≡ aRoutine → ⊥) → WrongName (kindIn m) number
         → CalleeWrong (g .around .known .W) (g .around .K) (meaning (g .around .known .S) (spelled (g .around .known .W) i)) function i number
     unfolding calleeFaults signatureOf noSignature
     wrong-says number d w =
         let q : routineIn (meaning (g .around .known .S) (spelled (g .around .known .W) i)) ≡ none =
-        ap routineIn (sym means) ∙ no-routine (g .around .known .routine) (m % 256 / 4) (m / 2 % 2) (m % 2) (m / 256) d in
-        let n : wrongName (meaning (g .around .known .S) (spelled (g .around .known .W) i)) ≡ number = ap wrongName (sym means) ∙ w .is (g .around .known .routine) (m / 2 % 2) (m % 2) (m / 256) in
+        ap routineIn (sym means) ∙ no-routine (g .around .known .routine) (kindIn m) (boolIn m) (ownIn m) (valueIn m) d in
+        let n : wrongName (meaning (g .around .known .S) (spelled (g .around .known .W) i)) ≡ number = ap wrongName (sym means) ∙ w .is (g .around .known .routine) (boolIn m) (ownIn m) (valueIn m) in
         record {
           is = λ es. rw (q, calleeFaults) (ap (λ (x : ℕ). fault x i) n);
           low = subst (λ (x : ℕ). x ≤ wrongKind) n (wrong-low (meaning (g .around .known .S) (spelled (g .around .known .W) i)));
           no-result = λ _. rw (q, signatureOf);
         }
 
-    module _ (is : m % 256 / 4 ≡ aRoutine) where
-      routine-means : meaning (g .around .known .S) (spelled (g .around .known .W) i) ≡ theRoutine (numbered (g .around .R) (m / 256))
+    module _ (is : kindIn m ≡ aRoutine) where
+      routine-means : meaning (g .around .known .S) (spelled (g .around .known .W) i) ≡ theRoutine (numbered (g .around .R) (valueIn m))
       unfolding meaningWith
-      routine-means = sym means ∙ rw is (ap theRoutine (g .around .numbers (m / 256)))
+      routine-means = sym means ∙ rw is (ap theRoutine (g .around .numbers (valueIn m)))
 
-      among : numbered (g .around .R) (m / 256) < length (g .around .R)
-      among = g .around .callable i (numbered (g .around .R) (m / 256)) (g .name) routine-means
+      among : numbered (g .around .R) (valueIn m) < length (g .around .R)
+      among = g .around .callable i (numbered (g .around .R) (valueIn m)) (g .name) routine-means
 
-      callee-known : Known (wordsOf code) (g .around .R) (g .around .K .routines) (m / 256)
-      callee-known = known (wordsOf code) (g .around .R) (g .around .K .routines) (m / 256) (g .calls .heads (wordsOf code) (apart-same (wordsOf code) i (g .to))) among
+      callee-known : Known (wordsOf code) (g .around .R) (g .around .K .routines) (valueIn m)
+      callee-known = known (wordsOf code) (g .around .R) (g .around .K .routines) (valueIn m) (g .calls .heads (wordsOf code) (apart-same (wordsOf code) i (g .to))) among
 
-      known-room : m / 256 * 8 + 8 ≤ length code
+      known-room : valueIn m * 8 + 8 ≤ length code
       known-room = omega (arith, callee-known .low, callee-known .inside, g .calls .room)
 
-      found-says : eqb (opAt (wordsOf code) (m / 256)) FUNC ≡ function → CalleeSays (g .around) code function i (At (m / 256))
+      found-says : eqb (opAt (wordsOf code) (valueIn m)) FUNC ≡ function → CalleeSays (g .around) code function i (At (valueIn m))
       unfolding CalleeSays
       found-says k = record { means = routine-means; among = among; kind = k }
 
       -- a routine of the other kind
-      other-says : isOtherKind function (resultAt (wordsOf code) (m / 256)) ≡ true → (function ≡ true → resultAt (wordsOf code) (m / 256) ≡ none) → CalleeSays (g .around) code function i (Wrong wrongKind)
+      other-says : isOtherKind function (resultAt (wordsOf code) (valueIn m)) ≡ true → (function ≡ true → resultAt (wordsOf code) (valueIn m) ≡ none) → CalleeSays (g .around) code function i (Wrong wrongKind)
       unfolding CalleeSays calleeFaults signatureFaults signatureOf routineIn
       other-says k z =
-          let sig : Signature = getD (g .around .K .routines) (numbered (g .around .R) (m / 256)) noSignature in
+          let sig : Signature = getD (g .around .K .routines) (numbered (g .around .R) (valueIn m)) noSignature in
           let o : isOtherKind function (sig .result) ≡ true = ap (isOtherKind function) (callee-known .result) ∙ k in
           record {
             is = λ es. rw (routine-means, calleeFaults) (rw (o, signatureFaults));

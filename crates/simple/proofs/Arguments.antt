@@ -7,10 +7,10 @@ use native.Mathlib.Omega.{arith}
 use lib.ListN.{length, length-append}
 use Rattle.laws.proofs.Tests.{by-same, by-less}
 use Rattle.paper.specs.Sorts.{comma}
-use Rattle.paper.specs.Words.{Word}
+use Rattle.paper.specs.Words.{Word, wordLimit}
 use Rattle.paper.specs.Terms.{Term}
 use Rattle.paper.specs.Trees.{Expr, first}
-use Rattle.paper.specs.Expressions.{levelOf, nestings}
+use Rattle.paper.specs.Expressions.{levelOf, nestings, disjunctions}
 use Rattle.paper.specs.Names.{DataType, sortIn}
 use Rattle.paper.specs.Types.{Fault, judge, ofType, termOf}
 use Rattle.paper.specs.Checks.{argumentFaults}
@@ -38,7 +38,7 @@ use Rattle.links.specs.Resolved.{isLed, goesByLink, goesByValue, goesByPlace}
 use Rattle.links.specs.Raw.{Quiet}
 use Rattle.around.specs.Around.{Around, Unread, Apart}
 use Rattle.simple.specs.Parts.{passed, Passed, Reads, reads-one, reads-more, Rest, More, MoreJudged}
-use Rattle.simple.proofs.Asking.{no-operator, level-comma, quiet-below, quiet-above, Told, asks, told, told-first, answer-first, answer-fine}
+use Rattle.simple.proofs.Expressions.{no-operator, level-comma, quiet-below, quiet-above, Told, asks, told, told-first, answer-first, answer-fine}
 use Rattle.layout.specs.Types.{noType}
 
 -- ---- words that are not changed
@@ -98,7 +98,7 @@ comma-still = refl
 -- ---- one argument, up to n
 module _ {text values : List ℕ} (around : Around text values) (now : List ℕ) (p at : ℕ) (e : Expr) (n : ℕ)
     (one : ExprAt (sortIn (around .known .W)) (Parses (sortIn (around .known .W))) e at n) (load : Loaded (around .known .W) now at n) (no : levelOf (sortIn (around .known .W) n) ≡ 0) where
-  pub one-asks : expressions.Stands now values 5 at
+  pub one-asks : expressions.Stands now values disjunctions at
   one-asks = asks (around .known) (around .sorts) (suc nestings) at e n one load no
 
   module _ (mid : List ℕ) (r : Judged) (h : Passed now values mid p at r) where
@@ -193,7 +193,7 @@ module _ {text values : List ℕ} (around : Around text values) (a b₀ z : ℕ)
     next-no : levelOf (sortIn (around .known .W) (next .n)) ≡ 0
     next-no = next-level around (next .n) z (next .rest) (next .done) (r .closes)
 
-    pub next-asks : ((q + 3) * 8 + 8 ≤ length now) × expressions.Stands now values 5 (end + 1)
+    pub next-asks : ((q + 3) * 8 + 8 ≤ length now) × expressions.Stands now values disjunctions (end + 1)
     next-asks =
         (omega (arith, r .words, r .room, ap length (next .is)), one-asks around now (q + 3) (end + 1) (next .a) (next .n) (next .one) next-load next-no)
 
@@ -227,7 +227,7 @@ module _ {text values : List ℕ} (around : Around text values) (a b₀ z : ℕ)
         next-told : Told (around .known) (ofType (around .known .W) (typeAt (wordsOf now) (q + 3)) (around .known .S) (next .a)) now mid (next .a) (end + 1) (next .n) n
         next-told = one-told around now (q + 3) (end + 1) (next .a) (next .n) (next .one) next-load next-no mid j h b n e
 
-        pub next-end : (n < 8192) × (end < n) × (end * 8 + 8 ≤ length mid) × (n ≤ z)
+        pub next-end : (n < wordLimit) × (end < n) × (end * 8 + 8 ≤ length mid) × (n ≤ z)
         next-end =
             (omega (arith, next-told .next-is, next-in, r .unread .loaded .last), omega (arith, next-told .next-is, next-on), omega (arith, rest-room, next-long), omega (arith, next-told .next-is, next-in))
 
@@ -292,7 +292,7 @@ runs-first code values p b = record {
 }
 
 module _ (code values now : List ℕ) (p b q end : ℕ) (run : Runs code values now p b q end) where
-  pub run-room : More code values p b → (end * 8 + 8 ≤ length now) × (end < 8192) × (q + 3 < 8200)
+  pub run-room : More code values p b → (end * 8 + 8 ≤ length now) × (end < wordLimit) × (q + 3 ≤ wordLimit)
   run-room g =
       let r = run .is g .is in
       (rest-room (g .around) (g .a) (g .b₀) (g .z) now q end _ _ _ r, omega (arith, r .inside, r .unread .loaded .last), omega (arith, r .words))
@@ -304,7 +304,7 @@ module _ (code values now : List ℕ) (p b q end : ℕ) (run : Runs code values 
     here-sort : (g : More code values p b) → s ≡ sortIn (g .around .known .W) end
     here-sort g = es ∙ rest-sort (g .around) (g .a) (g .b₀) (g .z) now q end _ _ _ (run .is g .is)
 
-    pub run-done : (s ≡ 5 → ⊥) → MoreJudged code values now p b (Typed noType end)
+    pub run-done : (s ≡ comma → ⊥) → MoreJudged code values now p b (Typed noType end)
     unfolding argumentFaults
     run-done d = record {
       is = λ g.
@@ -324,11 +324,11 @@ module _ (code values now : List ℕ) (p b q end : ℕ) (run : Runs code values 
           });
     }
 
-    module _ (c : s ≡ 5) where
+    module _ (c : s ≡ comma) where
       comma-here : (g : More code values p b) → sortIn (g .around .known .W) end ≡ comma
       comma-here g = sym (here-sort g) ∙ c
 
-      pub run-asks : More code values p b → ((q + 3) * 8 + 8 ≤ length now) × expressions.Stands now values 5 (end + 1)
+      pub run-asks : More code values p b → ((q + 3) * 8 + 8 ≤ length now) × expressions.Stands now values disjunctions (end + 1)
       run-asks g = next-asks (g .around) (g .a) (g .b₀) (g .z) now q end _ _ _ (run .is g .is) (comma-here g)
 
       module _ (mid : List ℕ) (j : Judged) (h : Passed now values mid (q + 3) (end + 1) j) where
@@ -344,7 +344,7 @@ module _ (code values now : List ℕ) (p b q end : ℕ) (run : Runs code values 
         }
 
         module _ (bool : ℕ) (n : ℕ) (e : j ≡ Typed bool n) where
-          pub run-end : More code values p b → (n < 8192) × (end < n) × (end * 8 + 8 ≤ length mid)
+          pub run-end : More code values p b → (n < wordLimit) × (end < n) × (end * 8 + 8 ≤ length mid)
           run-end g =
               let x = next-end (g .around) (g .a) (g .b₀) (g .z) now q end _ _ _ (run .is g .is) (comma-here g) mid j h bool n e in
               (x .0, x .1, x .2)
