@@ -6,6 +6,8 @@ use Prim.Native.Nat.{ℕ, zero, suc, _+_, _-_, _*_, _<_, _≤_}
 use native.Mathlib.Omega.{arith}
 use lib.Dec.{eqb}
 use lib.ListN.{length}
+use mir.Syntax.{w32, w64}
+use mir.Val.{Fits}
 use borrow.Author.Tests.{eqb-true, eqb-false}
 use Rattle.laws.proofs.Tests.{test, by-same, false-true}
 use Rattle.paper.specs.Sorts.{NAME, comma, semicolon, openParen, closeParen, openBrace, closeBrace}
@@ -230,8 +232,17 @@ module _ (code : List ℕ) (first closing : ℕ) where
     goes-inside : (g : Counts code first closing) → i ≤ g .end
     goes-inside g = left-inside (sortIn (g .W)) (g .end) (h .is g .left)
 
-    pub goes-room : Counts code first closing → (i * 8 + 8 ≤ length code) × (i < wordLimit) × (count ≤ wordLimit)
-    goes-room g = (omega (arith, goes-inside g, g .loaded .room), omega (arith, goes-inside g, g .loaded .last), omega (arith, goes-inside g, g .loaded .last, h .is g .few))
+    pub goes-here : Counts code first closing → i * 8 + 8 ≤ length code
+    goes-here g = omega (arith, goes-inside g, g .loaded .room)
+
+    pub goes-fits : Counts code first closing → Fits w64 (i + 1)
+    goes-fits g = record { fits = omega (arith, goes-inside g, g .loaded .last) }
+
+    pub goes-less : Counts code first closing → wordLimit - (i + 1) < wordLimit - i
+    goes-less g = omega (arith, goes-inside g, g .loaded .last)
+
+    pub count-fits : Counts code first closing → (s k : ℕ) → Commas s k → Fits w32 (count + k)
+    count-fits g s k c = record { fits = omega (arith, goes-inside g, g .loaded .last, h .is g .few, c .few) }
 
     module _ (s : ℕ) (e : s ≡ opAt (wordsOf code) i) where
       sort-here : (g : Counts code first closing) → s ≡ sortIn (g .W) i

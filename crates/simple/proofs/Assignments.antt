@@ -6,6 +6,8 @@ use mathlib.Core.Option.{Option, none, some}
 use Prim.Native.Nat.{ℕ, suc, _+_, _*_, _<_, _≤_}
 use native.Mathlib.Omega.{arith}
 use lib.ListN.{length}
+use mir.Syntax.{w64}
+use mir.Val.{Fits}
 use borrow.Author.Tests.{eq-eqb, ne-eqb, lt-ltb, le-ltb, le-leb}
 use Rattle.laws.proofs.Tests.{by-last}
 use Rattle.paper.specs.Sorts.{becomes}
@@ -146,6 +148,9 @@ module _ (code values : List ℕ) (wants : ℕ) (i b : ℕ) (g : ValueSide code 
     module _ (bool : ℕ) (end : ℕ) (e : r ≡ Typed bool end) where
       value-told : Told (g .around .known) (ofType (g .around .known .W) (g .type) (g .around .known .S) (g .e)) code mid (g .e) (b + 1) (g .to) end
       value-told = typed-told (g .around .known) (g .around .sorts) (suc nestings) (b + 1) (g .e) (g .to) (g .value) value-load (no-operator _ _ (g .ends) level-semicolon) mid wants (g .type) (g .wants-is) r o bool end e
+
+      pub value-fits : Fits w64 (end + 1)
+      value-fits = record { fits = omega (arith, value-told .next-is, value-load .last) }
 
       pub value-end : (end < wordLimit) × (b * 8 + 8 ≤ length mid) × (i * 8 + 8 ≤ length mid)
       value-end = (omega (arith, value-told .next-is, value-load .last), omega (arith, value-on, value-load .room, value-long), omega (arith, g .before, value-on, value-load .room, value-long))

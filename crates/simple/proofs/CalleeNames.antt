@@ -10,7 +10,7 @@ use lib.ListN.{length, getD}
 use borrow.Author.Tests.{eq-eqb, ne-eqb}
 use Rattle.laws.proofs.Tests.{test, false-true}
 use Rattle.paper.specs.Basics.{if_then_else_}
-use Rattle.paper.specs.Sorts.{FUNC}
+use Rattle.paper.specs.Sorts.{NAME, FUNC}
 use Rattle.paper.specs.Names.{DataType, Meaning, theRoutine, usesOf, routineIn, wrongName, spelled, meaning, sortIn}
 use Rattle.paper.specs.Types.{fault}
 use Rattle.paper.specs.Declarations.{Signature}
@@ -27,11 +27,11 @@ use Rattle.simple.specs.declared.Callee.the-variants.{At, Wrong}
 use Rattle.simple.specs.Parts.{WrongName, Callees, CalleeWrong, CalleeSays, CalleeTold}
 use Rattle.simple.proofs.Callees.{Known, known}
 use Rattle.simple.proofs.Arguments.{apart-same}
-use Rattle.layout.specs.Rules.{wrongKind}
+use Rattle.layout.specs.Rules.{unknownName, wrongKind}
 use Rattle.layout.specs.Kinds.{aRoutine, kindIn, aVariable, anArray, aConstant, aLoop, anErrno, anErrorNumber, boolIn, ownIn}
 
 -- ---- a name by its cell
-pub name-means : {values : List ℕ} (k : expressions.Known values) (code : List ℕ) (i m : ℕ) → sortIn (k .W) i ≡ 1 → Fresh (k .W) (wordsOf code) i → m ≡ meaningAt (wordsOf code) (wordsOf values) i
+pub name-means : {values : List ℕ} (k : expressions.Known values) (code : List ℕ) (i m : ℕ) → sortIn (k .W) i ≡ NAME → Fresh (k .W) (wordsOf code) i → m ≡ meaningAt (wordsOf code) (wordsOf values) i
     → meaningIn (k .routine) m ≡ meaning (k .S) (spelled (k .W) i)
 name-means {values} k code i m n f e =
     ap (meaningIn (k .routine)) (e ∙ ap (λ (x : ℕ). getD (wordsOf values) (firstMeaning + x) 0) (f .number n)) ∙ k .means .means i n
@@ -51,7 +51,7 @@ wrong-low : (m : Meaning) → wrongName m ≤ wrongKind
 unfolding wrongName
 wrong-low m = by-known (usesOf m .known)
   where
-    by-known : (known : Bool) → (if known then 12 else 11) ≤ 12
+    by-known : (known : Bool) → (if known then wrongKind else unknownName) ≤ wrongKind
     by-known true = omega arith
     by-known false = omega arith
 

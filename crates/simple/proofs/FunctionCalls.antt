@@ -8,6 +8,8 @@ use native.Mathlib.Omega.{arith}
 use lib.Dec.{eqb}
 use lib.ListN.{length}
 use lib.IntN.{pos}
+use mir.Syntax.{w64}
+use mir.Val.{Fits}
 use Rattle.paper.specs.Words.{Word, wordLimit}
 use Rattle.paper.specs.Terms.{literal}
 use Rattle.paper.specs.Names.{DataType, sortIn, spelled, meaning}
@@ -290,6 +292,9 @@ module _ (code values : List ℕ) (wants : ℕ) (i b : ℕ) (g : CallAssigns cod
   pub assign-fits : (end + 2 < linkPart) × (i * 8 + 8 ≤ length mid)
   unfolding of-type-wanted
   assign-fits = assign-room code values i b g wants of-type-wanted (k .is) mid r f bool end e
+
+  pub assign-next : Fits w64 (end + 2)
+  assign-next = record { fits = omega (arith, assign-fits .0) }
 
   pub assign-op-fits : (w : ℕ) → w ≡ headAt (wordsOf mid) i → opIn w + 4 < valuePart
   unfolding of-type-wanted

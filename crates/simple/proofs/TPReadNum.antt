@@ -6,6 +6,8 @@ use mathlib.Core.Option.{none}
 use Prim.Native.Nat.{ℕ, _+_, _-_, _*_, _<_, _≤_}
 use native.Mathlib.Omega.{arith}
 use lib.ListN.{length, take, drop}
+use mir.Syntax.{w32, w64}
+use mir.Val.{Fits}
 use Rattle.paper.specs.Sorts.{STRING, TPREADNUM}
 use Rattle.paper.specs.Trees.{reads}
 use Rattle.paper.specs.Names.{aNum, aBool, refusedPiece, nth, sortIn}
@@ -181,6 +183,15 @@ module _ (text code values : List ℕ) (i : ℕ) (c : BeginsOf TPREADNUM text co
   module _ (mid : List ℕ) (r : Judged) (t : TargetJudged code values mid (i + 1) r) (bool : ℕ) (b : ℕ) (e : r ≡ Typed bool b) where
     pub reads-end : (b < wordLimit) × (i * 8 + 8 ≤ length mid)
     reads-end = read-end code values i (c .begins) mid r t bool b e
+
+    pub reads-next : Fits w64 (b + 1)
+    reads-next = record { fits = omega (arith, reads-end .0) }
+
+    pub reads-value : Fits w32 (b + 1)
+    reads-value = record { fits = omega (arith, reads-end .0) }
+
+    pub reads-after : Fits w64 (b + 3)
+    reads-after = record { fits = omega (arith, reads-end .0) }
 
     module _ (n : bool ≡ numType) where
       pub reads-string : Strings text mid (b + 1)

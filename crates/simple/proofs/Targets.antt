@@ -7,6 +7,8 @@ use Prim.Native.Nat.{ℕ, _+_, _*_, _/_, _%_, _<_, _≤_}
 use native.Mathlib.Omega.{arith}
 use lib.Dec.{eqb}
 use lib.ListN.{length}
+use mir.Syntax.{w64}
+use mir.Val.{Fits}
 use borrow.Author.Tests.{ne-eqb}
 use Rattle.laws.proofs.Tests.{test}
 use Rattle.paper.specs.Sorts.{openBrace, closeBrace}
@@ -263,6 +265,9 @@ module _ (code values : List ℕ) (cell at : ℕ) (g : Elements code values cell
     module _ (b : ℕ) (end : ℕ) (e : r ≡ Typed b end) where
       index-told : Told (g .targets .known) (ofType (g .targets .known .W) (aNum) (g .targets .known .S) (braces .e)) code mid (braces .e) (at + 2) (braces .n) end
       index-told = typed-told (g .targets .known) (g .targets .sorts) nestings (at + 2) (braces .e) (braces .n) index-at index-load index-no mid numType aNum num-in r o b end e
+
+      pub index-fits : Fits w64 (end + 1)
+      index-fits = record { fits = omega (arith, index-told .next-is, index-load .last) }
 
       pub index-end : (end < wordLimit) × (at * 8 + 8 ≤ length mid) × ((at + 1) * 8 + 8 ≤ length mid)
       index-end =

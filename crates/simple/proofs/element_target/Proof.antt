@@ -1,6 +1,6 @@
 use borrow.Author.Needs.{needs}
 use native.Mathlib.Omega.{arith}
-use Rattle.simple.proofs.Targets.{element-small, index-stands, index-end, element-no-array, element-faulty, element-typed}
+use Rattle.simple.proofs.Targets.{element-small, index-stands, index-fits, index-end, element-no-array, element-faulty, element-typed}
 use Rattle.simple.proofs.element_target.Statement.{statement}
 use Rattle.simple.proofs.element_target.Tie as tie
 
@@ -66,12 +66,7 @@ type-of-requires : tie.Need-type-of-requires
 type-of-requires c κs = search needs
 
 add-t12 : tie.Need-add-t12
-add-t12 c =
-    let at-set-head = c .before .before .before .before .before .before .before in
-    let at-index = at-set-head .before .before .before .before .before in
-    let at-of-type = at-index .before .before .before .before in
-    let start = at-of-type .before .before .before .before .before .before in
-    omega (arith, index-end _ _ _ _ (start .pre) _ _ (at-of-type .of-type .ensures) _ _ (at-index .index .given .1) .0)
+add-t12 c = search (needs, index-fits)
 
 same-length-2 : tie.Need-same-length-2
 same-length-2 c = search needs
