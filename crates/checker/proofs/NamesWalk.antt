@@ -21,7 +21,7 @@ use Rattle.paper.specs.Expressions.{got}
 use Rattle.paper.specs.Form.{formed}
 use Rattle.paper.specs.Names.{DataType, Meaning, unknown, theRoutine, theErrno, errorNumber, Text, Names, textOf, Scopes, nth, sortIn, spelled, lookIn, protected, isAmong, meaning, cannotDeclare}
 use Rattle.paper.specs.Types.{Fault}
-use Rattle.paper.specs.Declarations.{Signature, Data, noData, dataTexts, routineNames, moduleFilling, moduleData, signatures, declareData}
+use Rattle.paper.specs.Declarations.{Signature, Data, noData, dataTexts, routineNames, moduleFilling, moduleData, signatures, declareData, moduleWordLimit}
 use Rattle.paper.specs.Checks.{noSignature, faults, isMain, mainIn, mainOf}
 use Rattle.paper.specs.Answer.{offsetOf}
 use Rattle.cells.specs.Words.{wordsOf}
@@ -59,8 +59,8 @@ use Rattle.routines.specs.Answers.{groundOf}
 use Rattle.checker.specs.declared.Found.{Found}
 use Rattle.checker.specs.declared.Found.the-variants.{Main, NoMain, Faulty}
 use Rattle.checker.specs.Walks.{Laid, Formed, Named, Nameless, Finds, RoutinesStand, RoutinesDone, SaysRoutines, RoutinesWalk, Walks}
-use Rattle.checker.proofs.Laying.{module-words, numbers-small, unread-marked, unread-kept, heads-begin}
-use Rattle.checker.proofs.Calling.{heads-kept}
+use Rattle.checker.proofs.Loaded.{module-words, numbers-small, unread-marked, unread-kept, heads-begin}
+use Rattle.checker.proofs.Signatures.{heads-kept}
 
 -- ---- before any data are declared, no name means data
 record Free (M : Memory) (a : Meaning) : Type 0 where
@@ -147,7 +147,7 @@ offset-same text i h = rw (lt-ltb i (length (wordsIn text)) h, offsetOf)
 
 -- what the value store says of the module's data
 module _ (W : List Word) (routine : ℕ → ℕ) (known : Names) (D : Data) (values : List ℕ) (x : Filled W routine (theModule known) D values) where
-  data-most : length (D .words) ≤ 1024
+  data-most : length (D .words) ≤ moduleWordLimit
   unfolding filling moduleFilling
   data-most = x .most
 
@@ -231,12 +231,12 @@ module _ (text code values : List ℕ) (words : ℕ) (f : Formed text code value
     says q e = subst (λ (x : declarations.Walked). SaysModule data-stand code₂ values₂ x) e (declares .is data-stand)
 
     -- a fault in them
-    pub data-found : (number word : ℕ) → d ≡ declared.Faulty number word → length code₂ ≡ length code → length values₂ ≡ length values → Walks text code values (Faulty number word) code₂ values₂
+    pub data-found : (number word : ℕ) → d ≡ declared.Faulty number word → length code₂ ≡ length code₁ → length values₂ ≡ length values₁ → Walks text code values (Faulty number word) code₂ values₂
     unfolding SaysModule data-stand moduleData filling Finds
     data-found number word e a b = record {
       finds = any-module (Faulty number word) code₂ values₂ (found-in-module W m (stands .form) (subst (First (record { number = number; at = word })) (sym (data-left W (moduleFilling W known) (m .declared) noData refl)) (says _ e)));
-      code-long = a;
-      values-long = b;
+      code-long = omega (arith, a, foretold .marked .kept .long);
+      values-long = omega (arith, b, foretold .filled .long);
     }
 
     pub one-less : 1 ≤ words
@@ -266,14 +266,20 @@ module _ (text code values : List ℕ) (words : ℕ) (f : Formed text code value
             room = omega (arith, long, foretold .marked .kept .long, f .laid .code-room);
           }
 
-      module _ (long : length code₂ ≡ length code₁) (code₃ values₃ : List ℕ) (r : Walked) (walk : RoutinesWalk text code₂ values₂ code₃ values₃ at (words - 1) r) (a : length code₃ ≡ length code) (b : length values₃ ≡ length values) where
+      module _ (long : length code₂ ≡ length code₁) (table-long : length values₂ ≡ length values₁) (code₃ values₃ : List ℕ) (r : Walked) (walk : RoutinesWalk text code₂ values₂ code₃ values₃ at (words - 1) r) (still : length code₃ ≡ length code₂) (table-still : length values₃ ≡ length values₂) where
+        code-long₃ : length code₃ ≡ length code
+        code-long₃ = omega (arith, still, long, foretold .marked .kept .long)
+
+        values-long₃ : length values₃ ≡ length values
+        values-long₃ = omega (arith, table-still, table-long, foretold .filled .long)
+
         routines-say : (q : Walked) → r ≡ q → SaysRoutines (routines-stand long) code₃ values₃ q
         routines-say q u = subst (λ (x : Walked). SaysRoutines (routines-stand long) code₃ values₃ x) u (walk .is (routines-stand long))
 
         -- a fault in the routines
         pub routines-found : (number word : ℕ) → r ≡ routines.Faulty number word → Walks text code values (Faulty number word) code₃ values₃
         unfolding SaysRoutines routines-stand Finds
-        routines-found number word u = record { finds = any-module (Faulty number word) code₃ values₃ (routines-say _ u); code-long = a; values-long = b }
+        routines-found number word u = record { finds = any-module (Faulty number word) code₃ values₃ (routines-say _ u); code-long = code-long₃; values-long = values-long₃ }
 
         module _ (n : ℕ) (u : r ≡ routines.Upto n) where
           walked : RoutinesDone (routines-stand long) code₃ values₃
@@ -282,7 +288,7 @@ module _ (text code values : List ℕ) (words : ℕ) (f : Formed text code value
 
           pub main-none : main ≡ 0 → Walks text code values NoMain code₃ values₃
           unfolding walked routines-stand Finds
-          main-none z = record { finds = any-module NoMain code₃ values₃ (record { clear = walked .clear; main-is = foretold .main .missing z }); code-long = a; values-long = b }
+          main-none z = record { finds = any-module NoMain code₃ values₃ (record { clear = walked .clear; main-is = foretold .main .missing z }); code-long = code-long₃; values-long = values-long₃ }
 
           starts : at ≡ stands .form .begin
           unfolding filled data-stand
@@ -322,6 +328,6 @@ module _ (text code values : List ℕ) (words : ℕ) (f : Formed text code value
                   count-is = count-words;
                   values-are = ap (λ (q : ℕ). map (toZ w32) (take q (wordsOf values₃))) count-words ∙ data-words W (numbered R) known (moduleData W m) values₃ (x .filled);
                 });
-                code-long = a;
-                values-long = b;
+                code-long = code-long₃;
+                values-long = values-long₃;
               }

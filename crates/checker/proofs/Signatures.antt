@@ -16,7 +16,7 @@ use Rattle.paper.specs.Trees.{Parameter, Routine, Module}
 use Rattle.paper.specs.Names.{DataType, sortIn}
 use Rattle.paper.specs.Declarations.{Signature}
 use Rattle.paper.specs.Checks.{isSome, noSignature}
-use Rattle.code.specs.Cells.{headAt, opAt, valueAt}
+use Rattle.code.specs.Cells.{headAt, opAt, valueAt, opIn, valueIn}
 use Rattle.code.specs.Steps.{Head, noHead}
 use Rattle.code.specs.Signatures.{typeAt, typesAt, firstParameter, resultAt, headIn, signatureIn, SignatureAt, Heads}
 use Rattle.code.proofs.Signatures.{type-kept}
@@ -55,7 +55,7 @@ module _ (C D : List ℕ) where
   signature-moves h sig a b c x =
       let n : h .parameters ≡ valueAt C (h .word) = ap (λ (q : Head). q .parameters) (x .head-is) in
       record {
-        head-is = x .head-is ∙ sym (ap (λ (q : ℕ). record { word = h .word; parameters = q / 256; function = eqb (q % 256) FUNC }) a);
+        head-is = x .head-is ∙ sym (ap (λ (q : ℕ). record { word = h .word; parameters = valueIn q; function = eqb (opIn q) FUNC }) a);
         signature-is = x .signature-is ∙ sym (signature-same (h .word) a b (λ j l. c j (omega arith)));
         inside = rw a (x .inside);
       }

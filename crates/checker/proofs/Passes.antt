@@ -14,7 +14,7 @@ use mir.Val.{toZ}
 use borrow.Author.Tests.{ltb-true, ltb-false}
 use Rattle.laws.proofs.Tests.{test, apart}
 use Rattle.paper.specs.Basics.{if_then_else_}
-use Rattle.paper.specs.Words.{Word, Refusal, reading}
+use Rattle.paper.specs.Words.{Word, Refusal, reading, wordLimit}
 use Rattle.paper.specs.Trees.{Module}
 use Rattle.paper.specs.Expressions.{Parsed, got, no}
 use Rattle.paper.specs.Form.{formed}
@@ -23,7 +23,7 @@ use Rattle.paper.specs.Types.{Fault, least}
 use Rattle.paper.specs.Declarations.{moduleData}
 use Rattle.paper.specs.Checks.{faults, mainOf}
 use Rattle.paper.specs.Steps.{Program, programOf}
-use Rattle.paper.specs.Answer.{Accepted, Verdict, refusedBy, accepted, refuse, offsetOf, judgeMain, judgeModule, judgeForm, judgeReading, verdict}
+use Rattle.paper.specs.Answer.{Accepted, Verdict, refusedBy, accepted, refuse, offsetOf, judgeMain, judgeModule, judgeForm, judgeReading, verdict, storeWords}
 use Rattle.cells.specs.Words.{wordsOf, Cleared}
 use Rattle.cells.proofs.Laws.{words-take}
 use Rattle.cells.proofs.Kept.{clear-length, clear-take, clear-in}
@@ -49,8 +49,8 @@ use Rattle.program.specs.Routines.{RawModule}
 use Rattle.program.proofs.Holding.{module-holds}
 use Rattle.heads.specs.Trees.{headsFor}
 use Rattle.grammar.proofs.Reading.{formed-parses}
-use Rattle.checker.proofs.Laying.{module-words}
-use Rattle.checker.proofs.Placing.{offsets-same}
+use Rattle.checker.proofs.Loaded.{module-words}
+use Rattle.checker.proofs.Places.{offsets-same}
 use Rattle.checker.specs.declared.Checked.{Checked}
 use Rattle.checker.specs.declared.Checked.the-variants as checked
 use Rattle.checker.specs.declared.Found.{Found}
@@ -59,6 +59,7 @@ use Rattle.checker.specs.Checks.{storeBytes, headsIn, Ready, Refused, Em
 use Rattle.checker.specs.Walks.{Laid, Formed, Named, Nameless, Finds, Walks}
 use Rattle.checker.specs.Passes.{Whole, Clean, Turned, Settles, Formal}
 use Rattle.layout.specs.Rules.{noMain}
+use Rattle.code.specs.Cells.{opIn}
 
 -- ---- stores no longer than their cells
 past : (l : List ℕ) → length l ≡ storeBytes → drop storeBytes l ≡ []
@@ -87,7 +88,7 @@ module _ (text code values code′ values′ : List ℕ) (w : Whole code values)
     values-long = s .values-long ∙ b;
   }
 
-pub words-few : (text code values : List ℕ) (words : ℕ) → Laid text code values words → words ≤ 8192
+pub words-few : (text code values : List ℕ) (words : ℕ) → Laid text code values words → words ≤ wordLimit
 words-few text code values words l = omega (arith, l .many, reading-most text)
 
 -- ---- names and types
@@ -118,15 +119,15 @@ module _ (text code values : List ℕ) (words : ℕ) (f : Formed text code value
     unfolding Finds
     named = finds _ e
 
-    pub count-small : count ≤ 16384
+    pub count-small : count ≤ storeWords
     count-small =
         let n = named in
         omega (arith, n .raw .room, n .count-is, ap (λ (W : List Word). length (moduleData W (f .m) .words)) (n .words-are))
 
-    pub count-fits : (count + (16384 - count)) * 4 ≤ length values′
+    pub count-fits : (count + (storeWords - count)) * 4 ≤ length values′
     count-fits = omega (arith, count-small, w .values-long, f .laid .values-room)
 
-    module _ (code″ values″ : List ℕ) (resolved : Resolved code′ code″ words) (cleared : Cleared values′ values″ count (16384 - count)) where
+    module _ (code″ values″ : List ℕ) (resolved : Resolved code′ code″ words) (cleared : Cleared values′ values″ count (storeWords - count)) where
       abbrev W : List Word
       W = wordsIn text
 
@@ -180,7 +181,7 @@ module _ (text code values : List ℕ) (words : ℕ) (f : Formed text code value
             values-long = values-same ∙ w .values-long;
           })
         where
-          zero-at : (c : ℕ) → count ≤ c → c < 16384 → getD (wordsOf values″) c 0 ≡ 0
+          zero-at : (c : ℕ) → count ≤ c → c < storeWords → getD (wordsOf values″) c 0 ≡ 0
           zero-at c a b =
               let e : c ≡ count + (c - count) = omega arith in
               rw e (clear-in cleared count-fits (c - count) (omega arith))
@@ -201,7 +202,7 @@ module _ (text code values : List ℕ) (words : ℕ) (l : Laid text code values 
       at : (i : ℕ) → sortsIn code words i ≡ sortIn (wordsIn text) i
       at i =
           test (ltb i words)
-          (λ t. rw (t, sortsIn) (ap (λ (k : ℕ). getD (wordsOf code) k 0 % 256) (omega arith) ∙ loads-sorts text (l .code₀) (l .values₀) (l .answer) code values (l .loads) i (omega (arith, ltb-true i words t, l .many))))
+          (λ t. rw (t, sortsIn) (ap (λ (k : ℕ). opIn (getD (wordsOf code) k 0)) (omega arith) ∙ loads-sorts text (l .code₀) (l .values₀) (l .answer) code values (l .loads) i (omega (arith, ltb-true i words t, l .many))))
           (λ t. rw (t, sortsIn) (sym (nothing-behind i (omega (arith, ltb-false i words t, l .many)))))
 
   module _ (r : form.Verdict) (j : Judged code words r) where
@@ -271,7 +272,7 @@ module _ (text code values : List ℕ) (c : Clean code values) where
         go (some f) q = let s : r ≡ loaded.Refused (f .number) (f .offset) = h .answer ∙ ap (answerOf (length (wordsIn text))) q in apart (cc)
 
 -- ---- clearing
-module _ (code values values₁ : List ℕ) (w : Whole code values) (z : Cleared values values₁ 0 16384) where
+module _ (code values values₁ : List ℕ) (w : Whole code values) (z : Cleared values values₁ 0 storeWords) where
   still-long : length values₁ ≡ length values
   still-long = clear-length z (omega (arith, w .values-room))
 
@@ -293,12 +294,12 @@ module _ (code values values₁ : List ℕ) (w : Whole code values) (z : Cleared
         go (refusedBy f) k = let q = k .answer in apart (cc)
         go (accepted x) k = k
 
-    pub refused-so : (number offset : ℕ) (code″ values″ : List ℕ) → r ≡ checked.Refused number offset → Cleared code′ code″ 0 16384 → Cleared values′ values″ 0 16384
+    pub refused-so : (number offset : ℕ) (code″ values″ : List ℕ) → r ≡ checked.Refused number offset → Cleared code′ code″ 0 storeWords → Cleared values′ values″ 0 storeWords
         → Judges text code values (verdict text) r code″ values″
     unfolding Settles Judges
     refused-so number offset code″ values″ e y x = go (verdict text) settled
       where
-        emptied : (before between after : List ℕ) → length before ≡ storeBytes → length between ≡ storeBytes → Cleared between after 0 16384 → Emptied before after
+        emptied : (before between after : List ℕ) → length before ≡ storeBytes → length between ≡ storeBytes → Cleared between after 0 storeWords → Emptied before after
         emptied before between after a b k = k .bytes ∙ ap (λ (l : List ℕ). replicate storeBytes 0 ++ l) (same-past between before b a)
 
         go : (v : Verdict) → Settles text code values v r code′ values′ → Judges text code values v r code″ values″

@@ -11,7 +11,7 @@ use mir.Syntax.{w32}
 use mir.Val.{toZ}
 use borrow.Author.Tests.{lt-ltb, le-ltb}
 use Rattle.paper.specs.Steps.{Program}
-use Rattle.paper.specs.Answer.{Accepted, Verdict, refusedBy, accepted, verdict, offsetOf}
+use Rattle.paper.specs.Answer.{Accepted, Verdict, refusedBy, accepted, verdict, offsetOf, storeWords}
 use Rattle.cells.specs.Words.{wordsOf}
 use Rattle.cells.proofs.Laws.{length-words, words-append, words-take}
 use Rattle.code.specs.Holds.{Holds}
@@ -60,15 +60,15 @@ module _ (l a : List ℕ) (g : storeBytes ≤ length l) (e : length a ≡ length
   emptied h = ap (λ (x : List ℕ). x ++ drop storeBytes l) (h ∙ ap (λ (x : List ℕ). replicate storeBytes 0 ++ x) (nothing-past (take storeBytes l) (part l g)) ∙ append-nil (replicate storeBytes 0))
 
   words-split : wordsOf (a ++ drop storeBytes l) ≡ wordsOf a ++ wordsOf (drop storeBytes l)
-  words-split = words-append 16384 a (drop storeBytes l) long
+  words-split = words-append storeWords a (drop storeBytes l) long
 
-  words-many : length (wordsOf a) ≡ 16384
+  words-many : length (wordsOf a) ≡ storeWords
   words-many = omega (arith, length-words a, long)
 
-  first-words : (n : ℕ) → n ≤ 16384 → take n (wordsOf (a ++ drop storeBytes l)) ≡ take n (wordsOf a)
+  first-words : (n : ℕ) → n ≤ storeWords → take n (wordsOf (a ++ drop storeBytes l)) ≡ take n (wordsOf a)
   first-words n h = ap (take n) words-split ∙ take-append-le n (wordsOf a) (wordsOf (drop storeBytes l)) (omega (arith, words-many))
 
-  word-in : (c : ℕ) → c < 16384 → getD (wordsOf (a ++ drop storeBytes l)) c 0 ≡ getD (wordsOf a) c 0
+  word-in : (c : ℕ) → c < storeWords → getD (wordsOf (a ++ drop storeBytes l)) c 0 ≡ getD (wordsOf a) c 0
   word-in c h = ap (λ (x : List ℕ). getD x c 0) words-split ∙ List·getD-append (wordsOf a) (wordsOf (drop storeBytes l)) 0 c (omega (arith, words-many))
 
 pub checked-parts : (text code values : List ℕ) (r : Checked) (code′ values′ : List ℕ) → storeBytes ≤ length code → storeBytes ≤ length values

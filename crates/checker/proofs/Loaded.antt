@@ -15,7 +15,7 @@ use Rattle.paper.specs.Expressions.{got, isType, startsRoutine}
 use Rattle.paper.specs.Form.{formed}
 use Rattle.paper.specs.Names.{noWord, nth, sortIn}
 use Rattle.cells.specs.Words.{wordsOf}
-use Rattle.code.specs.Cells.{headAt, tailAt, opAt, valueAt, placeAt}
+use Rattle.code.specs.Cells.{headAt, tailAt, opAt, valueAt, placeAt, valueIn, placeIn, opIn}
 use Rattle.code.specs.Steps.{aTarget}
 use Rattle.names.specs.Numbers.{numberOf, IsName}
 use Rattle.names.specs.Promises.{storeBytes, numberAt}
@@ -29,6 +29,7 @@ use Rattle.heads.specs.Stores.{Marked, isValued}
 use Rattle.heads.specs.Reads as heads
 use Rattle.around.specs.Around.{Quoted, Unread}
 use Rattle.checker.specs.Walks.{Laid, Formed}
+use Rattle.layout.specs.Parts.{spelledPart, valuePart}
 
 -- ---- words
 module _ (text : List ℕ) where
@@ -87,19 +88,19 @@ module _ (text code values : List ℕ) (words : ℕ) (l : Laid text code values 
   value-of : (i : ℕ) → i < length (wordsIn text) → sortIn (wordsIn text) i ≡ NUMBER → valueAt (wordsOf code) i ≡ nth (wordsIn text) i .value
   unfolding headValue
   value-of i h e =
-      ap (λ (x : ℕ). x / 256) (l .loads .heads i h ∙ ap (λ (x : ℕ). x + 256 * headValue (wordsIn text) i) e)
+      ap valueIn (l .loads .heads i h ∙ ap (λ (x : ℕ). x + valuePart * headValue (wordsIn text) i) e)
       ∙ high 2 (headValue (wordsIn text) i) (omega arith) ∙ rw e
     where
-      high : (sort v : ℕ) → sort < 256 → (sort + 256 * v) / 256 ≡ v
+      high : (sort v : ℕ) → sort < valuePart → valueIn (sort + valuePart * v) ≡ v
       high sort v b = omega arith
 
   length-of : (i : ℕ) → i < length (wordsIn text) → sortIn (wordsIn text) i ≡ STRING → valueAt (wordsOf code) i ≡ length (nth (wordsIn text) i .covers)
   unfolding headValue
   length-of i h e =
-      ap (λ (x : ℕ). x / 256) (l .loads .heads i h ∙ ap (λ (x : ℕ). x + 256 * headValue (wordsIn text) i) e)
+      ap valueIn (l .loads .heads i h ∙ ap (λ (x : ℕ). x + valuePart * headValue (wordsIn text) i) e)
       ∙ high 3 (headValue (wordsIn text) i) (omega arith) ∙ rw e
     where
-      high : (sort v : ℕ) → sort < 256 → (sort + 256 * v) / 256 ≡ v
+      high : (sort v : ℕ) → sort < valuePart → valueIn (sort + valuePart * v) ≡ v
       high sort v b = omega arith
 
   module _ (code′ : List ℕ) (from upto : ℕ) (k : Marked code code′ from upto) where
@@ -112,8 +113,8 @@ module _ (text code values : List ℕ) (words : ℕ) (l : Laid text code values 
     fresh-word : (i : ℕ) → i < length (wordsIn text) → Fresh (wordsIn text) (wordsOf code′) i
     fresh-word i h = record {
       sort = k .ops i ∙ sort-of i h;
-      value = λ e. ap (λ (x : ℕ). x / 256) (same-head i NUMBER h e plain-number) ∙ value-of i h e;
-      number = λ n. ap (λ (x : ℕ). x / 256 % 8192) (same-head i NAME h n plain-name) ∙ loads-numbers text (l .code₀) (l .values₀) (l .answer) code values (l .loads) i n;
+      value = λ e. ap valueIn (same-head i NUMBER h e plain-number) ∙ value-of i h e;
+      number = λ n. ap (λ (x : ℕ). valueIn x % spelledPart) (same-head i NAME h n plain-name) ∙ loads-numbers text (l .code₀) (l .values₀) (l .answer) code values (l .loads) i n;
     }
 
     pub unread-marked : (at to : ℕ) → to < length (wordsIn text) → Unread (wordsIn text) code′ at to
@@ -124,8 +125,8 @@ module _ (text code values : List ℕ) (words : ℕ) (l : Laid text code values 
         room = omega (arith, reading-most text, k .kept .long, l .code-room);
         whole = ap (λ (x : ℕ). x % 8) (k .kept .long ∙ l .code-room);
       };
-      strings = λ i a b e. ap (λ (x : ℕ). x / 256) (same-head i STRING (omega arith) e plain-string) ∙ length-of i (omega arith) e;
-      places = λ i a b. ap (λ (x : ℕ). x % 65536) (k .tails i) ∙ l .loads .places i (omega arith);
+      strings = λ i a b e. ap valueIn (same-head i STRING (omega arith) e plain-string) ∙ length-of i (omega arith) e;
+      places = λ i a b. ap placeIn (k .tails i) ∙ l .loads .places i (omega arith);
     }
 
 -- Later words are as they were.
@@ -136,16 +137,16 @@ unread-kept W code code′ at low to h same e u = record {
     words = λ i a b.
         let f = u .loaded .words i (omega arith) b in
         record {
-          sort = ap (λ (x : ℕ). x % 256) (same (i * 2) (omega arith)) ∙ f .sort;
-          value = λ q. ap (λ (x : ℕ). x / 256) (same (i * 2) (omega arith)) ∙ f .value q;
-          number = λ q. ap (λ (x : ℕ). x / 256 % 8192) (same (i * 2) (omega arith)) ∙ f .number q;
+          sort = ap opIn (same (i * 2) (omega arith)) ∙ f .sort;
+          value = λ q. ap valueIn (same (i * 2) (omega arith)) ∙ f .value q;
+          number = λ q. ap (λ (x : ℕ). valueIn x % spelledPart) (same (i * 2) (omega arith)) ∙ f .number q;
         };
     last = u .loaded .last;
     room = omega (arith, u .loaded .room);
     whole = ap (λ (x : ℕ). x % 8) e ∙ u .loaded .whole;
   };
-  strings = λ i a b q. ap (λ (x : ℕ). x / 256) (same (i * 2) (omega arith)) ∙ u .strings i (omega arith) b q;
-  places = λ i a b. ap (λ (x : ℕ). x % 65536) (same (i * 2 + 1) (omega arith)) ∙ u .places i (omega arith) b;
+  strings = λ i a b q. ap valueIn (same (i * 2) (omega arith)) ∙ u .strings i (omega arith) b q;
+  places = λ i a b. ap placeIn (same (i * 2 + 1) (omega arith)) ∙ u .places i (omega arith) b;
 }
 
 -- fewer words

@@ -7,6 +7,8 @@ use native.Mathlib.Numerals.{add-one}
 use native.Mathlib.Omega.{arith}
 use lib.ListN.{length, getD, take, drop}
 use lib.Seq.{take-all}
+use mir.Syntax.{w32}
+use mir.Val.{Fits}
 use Rattle.laws.proofs.Tests.{apart}
 use Rattle.paper.specs.Words.{Word}
 use Rattle.paper.specs.Trees.{Routine, Module}
@@ -36,8 +38,8 @@ use Rattle.routines.specs.declared.Walked.{Walked}
 use Rattle.routines.specs.declared.Walked.the-variants as routines
 use Rattle.routines.specs.Answers.{ModuleFilled, groundOf, Spares, Begins, Says, Checks}
 use Rattle.checker.specs.Walks.{RoutinesStand, RoutinesDone, SaysRoutines, RoutinesWalk}
-use Rattle.checker.proofs.Laying.{sorts-low, strings-quoted, unread-kept, unread-less}
-use Rattle.checker.proofs.Calling.{calls-kept}
+use Rattle.checker.proofs.Loaded.{sorts-low, strings-quoted, unread-kept, unread-less}
+use Rattle.checker.proofs.Signatures.{calls-kept}
 
 -- ---- lists
 module _ {A : Type 0} where
@@ -189,8 +191,8 @@ module _ {text code₀ values₀ : List ℕ} {at end : ℕ} (b : RoutinesStand t
 -- ---- for the loop
 module _ (text code₀ values₀ : List ℕ) (at end : ℕ) (code values : List ℕ) (h k : ℕ) (i : Invariant text code₀ values₀ at end code values h k) where
   module _ (l : h < end) where
-    pub k-small : k < 8192
-    k-small = omega (arith, i .going (i .stand) .few, i .stand .unread .loaded .last)
+    pub count-fits : Fits w32 (k + 1)
+    count-fits = record { fits = omega (arith, i .going (i .stand) .few, i .stand .unread .loaded .last) }
 
     pub routine-begins : Begins text code values k h
     routine-begins = begins (i .stand) code values h k (i .long) (i .going (i .stand)) l
