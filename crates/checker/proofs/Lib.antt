@@ -1,8 +1,8 @@
-pub mod Placing
-pub mod Laying
-pub mod Passing
-pub mod Parting
-pub mod Calling
-pub mod Going
-pub mod Naming
+pub mod Places
+pub mod Loaded
+pub mod Passes
+pub mod LentStores
+pub mod Signatures
+pub mod RoutineWalk
+pub mod NamesWalk
 pub mod Unique

@@ -14,7 +14,7 @@ use mir.Val.{toZ, ofZ}
 use mir.Facts.{ofZ-toZ}
 use borrow.Author.Tests.{ltb-false}
 use Rattle.laws.proofs.Tests.{test, by-less, false-true}
-use Rattle.paper.specs.Answer.{Accepted, Verdict, refusedBy, accepted, verdict, offsetOf}
+use Rattle.paper.specs.Answer.{Accepted, Verdict, refusedBy, accepted, verdict, offsetOf, storeWords}
 use Rattle.cells.specs.Words.{wordsOf}
 use Rattle.cells.proofs.Laws.{Bytes, words-small}
 use Rattle.code.specs.Steps.{Head, noHead}
@@ -51,7 +51,7 @@ word-at l n k h = List·getD-map (toZ w32) (take n l) k 0 ∙ ap (toZ w32) (getD
 
 module _ (text code values : List ℕ) (r s : Checked) (c d v w : List ℕ) where
   module _ (room : storeBytes ≤ length values) (a : Accepted) (p : Ready text code values a r c v) (q : Ready text code values a s d w) where
-    cells : Bytes v → Bytes w → (k : ℕ) → k < 16384 → getD (wordsOf v) k 0 ≡ getD (wordsOf w) k 0
+    cells : Bytes v → Bytes w → (k : ℕ) → k < storeWords → getD (wordsOf v) k 0 ≡ getD (wordsOf w) k 0
     cells bytes others k l =
         by-less k (length (a .program .words))
         (λ m. same-number _ _ (words-small v bytes k) (words-small w others k)
@@ -72,7 +72,7 @@ module _ (text code values : List ℕ) (r s : Checked) (c d v w : List ℕ) wher
     unfolding SameCode
     ready-same e = record {
       answer = ready-answer;
-      values-same = λ bytes others. same-store 16384 v w bytes others (p .values-long ∙ sym (q .values-long)) (omega (arith, p .values-long)) (cells bytes others) (p .values-past ∙ sym (q .values-past));
+      values-same = λ bytes others. same-store storeWords v w bytes others (p .values-long ∙ sym (q .values-long)) (omega (arith, p .values-long)) (cells bytes others) (p .values-past ∙ sym (q .values-past));
       code-past = p .code-past ∙ sym (q .code-past);
       code-long = p .code-long ∙ sym (q .code-long);
       code-same = subst (λ (x : Checked). SameCode text x c d) (sym (p .answer))

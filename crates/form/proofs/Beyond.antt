@@ -7,10 +7,12 @@ use lib.Dec.{eqb}
 use borrow.Author.Tests.{eqb-true, eqb-false}
 use Rattle.laws.proofs.Tests.{test, by-less, apart}
 use Rattle.paper.specs.Basics.{if_then_else_}
-use Rattle.paper.specs.Expressions.{levelOf, isLiteral, isType, standsBefore}
+use Rattle.paper.specs.Sorts.{NOTHING}
+use Rattle.paper.specs.Expressions.{levelOf, isLiteral, isType, standsBefore, parts}
 use Rattle.form.specs.declared.Read.{Read}
 use Rattle.form.specs.declared.Read.the-variants.{Upto, Refused}
-use Rattle.form.specs.Places.{_▸_, turns, word, typeWord, operand, chainTurn, chain, prefixed, level, expressionIn}
+use Rattle.form.specs.Places.{_▸_, turns, startedBy, word, typeWord, operand, chainTurn, chain, prefixed, level, expressionIn}
+use Rattle.paper.specs.Words.{wordLimit}
 
 -- ---- ends
 
@@ -68,10 +70,17 @@ module _ (words : ℕ) where
   same-turns turn l (suc p) (suc q) at a b =
       l (turns turn (suc p)) (turns turn (suc q)) at (λ h n i. same-turns turn l p q n (omega arith) (omega arith))
 
-  pub endless : (turn : (ℕ → Read) → ℕ → Read) → Local turn → words ≤ 8192 → (at : ℕ) → turns turn 8193 at ≡ turn (turns turn 8193) at
+  pub endless : (turn : (ℕ → Read) → ℕ → Read) → Local turn → words ≤ wordLimit → (at : ℕ) → turns turn parts at ≡ turn (turns turn parts) at
   unfolding turns
   endless turn l few at =
-      l (turns turn 8192) (turns turn 8193) at (λ h n i. same-turns turn l 8191 8192 n (omega arith) (omega arith))
+      l (turns turn wordLimit) (turns turn parts) at (λ h n i. same-turns turn l (wordLimit - 1) wordLimit n (omega arith) (omega arith))
+
+-- ---- lists of data and of routines
+
+-- What such a list is made of: where no word stands none starts, and each is read from behind the word that starts it, by its sort.
+pub record Kind (W : ℕ → ℕ) (starts : ℕ → Bool) (of : (sort : ℕ) → ℕ → Read) : Type 0 where
+  pub none : starts NOTHING ≡ false
+  pub on : (at : ℕ) → Beyond (suc at) (startedBy W of at)
 
 -- ---- words
 
@@ -108,7 +117,7 @@ module _ (W : ℕ → ℕ) where
 
     pub chain-on : (j : ℕ) (sub : ℕ → Read) → ((at : ℕ) → Beyond (suc at) (sub at)) → (at : ℕ) → Beyond at (chain W j sub at)
     unfolding chain
-    chain-on j sub s at = turns-on (chainTurn W j sub) (chain-turn-on j sub s) 8193 at
+    chain-on j sub s at = turns-on (chainTurn W j sub) (chain-turn-on j sub s) parts at
 
     pub level-on : (j at : ℕ) → Beyond (suc at) (level W inner j at)
     unfolding level prefixed

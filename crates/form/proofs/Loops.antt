@@ -5,14 +5,17 @@ use mathlib.Core.List.{List}
 use Prim.Native.Nat.{ℕ, zero, suc, _+_, _-_, _<_, _≤_}
 use native.Mathlib.Omega.{arith}
 use lib.Dec.{eqb}
+use mir.Syntax.{w64}
+use mir.Val.{Fits}
 use borrow.Author.Tests.{eqb-true, eq-eqb, ne-eqb}
 use Rattle.laws.proofs.Tests.{test, false-true}
 use Rattle.paper.specs.Basics.{if_then_else_}
+use Rattle.paper.specs.Sorts.{NOTHING}
 use Rattle.form.specs.declared.Read.{Read}
 use Rattle.form.specs.declared.Read.the-variants.{Upto, Refused}
-use Rattle.form.specs.Places.{Lent, sortsIn, _▸_, turns, afterOne, separatedTurn, separated, repeatedTurn, repeated}
-use Rattle.form.proofs.Beyond.{Beyond, same-after, Local, endless}
-use Rattle.form.proofs.Reading.{within}
+use Rattle.form.specs.Places.{Lent, sortsIn, _▸_, turns, afterOne, separatedTurn, separated, repeatedTurn, repeated, startedBy}
+use Rattle.form.proofs.Beyond.{Beyond, same-after, Local, endless, Kind}
+use Rattle.form.proofs.Reading.{within, place-fits}
 
 module _ (code : List ℕ) (words : ℕ) (lent : Lent code words) (one : ℕ → Read) (one-on : (at : ℕ) → Beyond (suc at) (one at)) where
   abbrev W : ℕ → ℕ
@@ -57,47 +60,57 @@ module _ (code : List ℕ) (words : ℕ) (lent : Lent code words) (one : ℕ →
       pub commas-less : v ≡ 5 → words - (m + 1) < words - n
       commas-less q = omega (arith, within code words m (λ z. omega arith), one-on n m (sym e ∙ h))
 
-  -- ---- as many as there are
+-- ---- as many as there are
 
-  module _ (starts : ℕ → Bool) (none : starts 0 ≡ false) where
-    there : (at : ℕ) → starts (W at) ≡ true → at < words
-    there at t = within code words at (λ z. false-true (sym none ∙ ap starts (sym z) ∙ t))
+pub behind-fits : (starts : ℕ → Bool) → starts NOTHING ≡ false → (code : List ℕ) (words n v : ℕ) (b : Bool)
+    → Fits w64 words → v ≡ sortsIn code words n → b ≡ starts v → b ≡ true → Fits w64 (n + 1)
+behind-fits starts none code words n v b f w s q = place-fits code words f n v w (λ z. false-true (sym none ∙ ap starts (sym z) ∙ sym s ∙ q))
 
-    repeated-local : Local words (repeatedTurn W starts one)
-    unfolding repeatedTurn
-    repeated-local f g at h =
-        test (starts (W at))
-        (λ t. rw (t, repeatedTurn) (same-after {mid = suc at} (one at) (one-on at) (λ n l. h (there at t) n l)))
-        (λ t. rw (t, repeatedTurn))
+module _ (code : List ℕ) (words : ℕ) {starts : ℕ → Bool} {of : ℕ → ℕ → Read} (kind : Kind (sortsIn code words) starts of) where
+  abbrev one : ℕ → Read
+  one = startedBy (sortsIn code words) of
 
-    repeated-is : (at : ℕ) → repeated W starts one at ≡ repeatedTurn W starts one (repeated W starts one) at
-    unfolding repeated
-    repeated-is at = endless words (repeatedTurn W starts one) repeated-local (lent .few) at
+  there : (at : ℕ) → starts (sortsIn code words at) ≡ true → at < words
+  there at t = within code words at (λ z. false-true (sym (kind .none) ∙ ap starts (sym z) ∙ t))
 
-    module _ (x : Read) (n v : ℕ) (b : Bool) (left : x ≡ repeated (sortsIn code words) starts one n) (w : v ≡ sortsIn code words n) (s : b ≡ starts v) where
+  repeated-local : Local words (repeatedTurn (sortsIn code words) starts one)
+  unfolding repeatedTurn
+  repeated-local f g at h =
+      test (starts (sortsIn code words at))
+      (λ t. rw (t, repeatedTurn) (same-after {mid = suc at} (one at) (kind .on at) (λ n l. h (there at t) n l)))
+      (λ t. rw (t, repeatedTurn))
+
+  -- v is the sort of the word at n, where the list goes on or ends, and b whether it starts one
+  module _ (n v : ℕ) (b : Bool) (w : v ≡ sortsIn code words n) (s : b ≡ starts v) where
+    starts-here : b ≡ true → starts (sortsIn code words n) ≡ true
+    starts-here q = ap starts (sym w) ∙ sym s ∙ q
+
+    -- x is what is read in all
+    module _ (lent : Lent code words) (x : Read) (left : x ≡ repeated (sortsIn code words) starts (startedBy (sortsIn code words) of) n) where
+      repeated-is : x ≡ repeatedTurn (sortsIn code words) starts one (repeated (sortsIn code words) starts one) n
+      unfolding repeated
+      repeated-is = left ∙ endless words (repeatedTurn (sortsIn code words) starts one) repeated-local (lent .few) n
+
       pub repeats-end : b ≡ false → Upto n ≡ x
       unfolding repeatedTurn
-      repeats-end q = sym (left ∙ repeated-is n ∙ rw (ap starts (sym w) ∙ sym s ∙ q, repeatedTurn))
+      repeats-end q = sym (repeated-is ∙ rw (ap starts (sym w) ∙ sym s ∙ q, repeatedTurn))
 
-      module _ (q : b ≡ true) where
-        starts-here : starts (W n) ≡ true
-        starts-here = ap starts (sym w) ∙ sym s ∙ q
+      module _ (q : b ≡ true) (r : Read) (e : r ≡ of v (n + 1)) where
+        one-read : r ≡ one n
+        unfolding startedBy
+        one-read = rw w at e
 
-        pub repeats-in : n < words
-        repeats-in = there n starts-here
+        again : x ≡ (r ▸ repeated (sortsIn code words) starts one)
+        unfolding repeatedTurn
+        again = repeated-is ∙ rw (starts-here q, repeatedTurn) (rw one-read)
 
-        module _ (r : Read) (e : r ≡ one n) where
-          again : x ≡ (one n ▸ repeated W starts one)
-          unfolding repeatedTurn
-          again = left ∙ repeated-is n ∙ rw (starts-here, repeatedTurn)
+        pub repeats-refused : (k i : ℕ) → r ≡ Refused k i → r ≡ x
+        unfolding _▸_
+        repeats-refused k i h = h ∙ sym (again ∙ rw h)
 
-          pub repeats-refused : (k i : ℕ) → r ≡ Refused k i → r ≡ x
-          unfolding _▸_
-          repeats-refused k i h = h ∙ sym (again ∙ rw (sym e ∙ h))
+        pub repeats-on : (m : ℕ) → r ≡ Upto m → x ≡ repeated (sortsIn code words) starts (startedBy (sortsIn code words) of) m
+        unfolding _▸_
+        repeats-on m h = again ∙ rw h
 
-          pub repeats-on : (m : ℕ) → r ≡ Upto m → x ≡ repeated (sortsIn code words) starts one m
-          unfolding _▸_
-          repeats-on m h = again ∙ rw (sym e ∙ h)
-
-          pub repeats-less : (m : ℕ) → r ≡ Upto m → words - m < words - n
-          repeats-less m h = omega (arith, repeats-in, one-on n m (sym e ∙ h))
+        pub repeats-less : (m : ℕ) → r ≡ Upto m → words - m < words - n
+        repeats-less m h = omega (arith, there n (starts-here q), kind .on n m (sym one-read ∙ h))

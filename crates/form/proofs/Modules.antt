@@ -11,7 +11,7 @@ use Rattle.laws.proofs.Tests.{test, false-true}
 use Rattle.paper.specs.Basics.{if_then_else_}
 use Rattle.paper.specs.Trees.{Expr, Statement, Statements, Content, Declared, Parameter, Module}
 use Rattle.paper.specs.Expressions as paper
-use Rattle.paper.specs.Expressions.{Parsed, Parser, got, no, _>>=_, startsSimple, startsStatement, startsData, startsRoutine}
+use Rattle.paper.specs.Expressions.{Parsed, Parser, got, no, _>>=_, startsSimple, startsStatement, startsData, startsRoutine, parts}
 use Rattle.paper.specs.Statements as statements
 use Rattle.paper.specs.Form as paperForm
 use Rattle.form.specs.declared.Read.{Read}
@@ -54,9 +54,9 @@ module _ (W : ℕ → ℕ) (list : Parser Statements) (list′ : ℕ → Read) (
       (λ n. ends-so second (statements.arms W p list (y .0) n) _ (arms-turns p (y .0) n)))))
       (λ t. rw t (last-arm-is e (x .0) (x .1))))
 
-  arms-is : (e : Expr) → Same (statements.arms W 8193 list e) (places.arms W list′)
+  arms-is : (e : Expr) → Same (statements.arms W parts list e) (places.arms W list′)
   unfolding places.arms
-  arms-is e at = arms-turns 8193 e at
+  arms-is e at = arms-turns parts e at
 
   default-is : Same (statements.defaultPart W list) (places.defaultPart W list′)
   unfolding statements.defaultPart places.defaultPart place
@@ -76,9 +76,9 @@ module _ (W : ℕ → ℕ) (list : Parser Statements) (list′ : ℕ → Read) (
       (λ y. ends-so second (statements.cases W p list (y .1)) _ (cases-turns p (y .1)))))))
       (λ t. rw (t, statements.cases) (then-0 second (statements.defaultPart W list at) _ _ (default-is at) (λ x. ends-so itself (paper.expect W 49 (x .1)) _ (word-is W 49 (x .1)))))
 
-  cases-is : Same (statements.cases W 8193 list) (places.cases W list′)
+  cases-is : Same (statements.cases W parts list) (places.cases W list′)
   unfolding places.cases
-  cases-is at = cases-turns 8193 at
+  cases-is at = cases-turns parts at
 
   step-is : Same (statements.stepPart W) (places.stepPart W)
   unfolding statements.stepPart places.stepPart place
@@ -163,7 +163,7 @@ module _ (code : List ℕ) (words : ℕ) (lent : Lent code words) where
   module _ (list : Parser Statements) (list′ : ℕ → Read) (same : Same list list′) (weak : (at : ℕ) → Beyond at (list′ at)) where
     then-is : (at : ℕ) (e : Expr) (n : ℕ) → forget (statements.ifThen W at list e n) ≡ places.resume W list′ (part.Inside 42 (n + 1))
     unfolding statements.ifThen places.resume
-    then-is at e n = ends-so second (statements.arms W 8193 list e (n + 1)) _ (arms-is W list list′ same e (n + 1)) ∙ arm-again code words lent list′ weak (n + 1)
+    then-is at e n = ends-so second (statements.arms W parts list e (n + 1)) _ (arms-is W list list′ same e (n + 1)) ∙ arm-again code words lent list′ weak (n + 1)
 
     if-is : (d at : ℕ) → forget (statements.ifStatement W (some list) at) ≡ places.resume W list′ (places.ifHead W (suc d) (at + 1))
     unfolding statements.ifStatement statements.ifSimple places.ifHead places.condition
@@ -183,7 +183,7 @@ module _ (code : List ℕ) (words : ℕ) (lent : Lent code words) where
     unfolding statements.testStatement places.testHead
     test-part at =
         into-part W list′ (paper.expr W (at + 1)) _ (places.caseEnd W) (expression-is W (at + 1))
-        (λ x. ends-so second (statements.cases W 8193 list (x .1)) _ (cases-is W list list′ same (x .1)) ∙ case-rest code words lent list′ weak (x .1))
+        (λ x. ends-so second (statements.cases W parts list (x .1)) _ (cases-is W list list′ same (x .1)) ∙ case-rest code words lent list′ weak (x .1))
 
     compound-some : (d at : ℕ) → startsCompound (W at) ≡ true → forget (statements.statement W (some list) at) ≡ places.resume W list′ (places.opened W (suc d) at)
     unfolding startsCompound statements.statement statements.opening places.opened
@@ -196,10 +196,10 @@ module _ (code : List ℕ) (words : ℕ) (lent : Lent code words) where
   lists-is : (d : ℕ) → Same (statements.listIn W d) (places.listBelow W (suc d))
   unfolding statements.listIn places.listBelow
   lists-is zero at =
-      list-turns W none (λ n. places.resume W (places.listBelow W 0) (places.opened W 0 n)) (λ n t. compound-none (places.listBelow W 0) (list-on W 0) n t) 8193 at
+      list-turns W none (λ n. places.resume W (places.listBelow W 0) (places.opened W 0 n)) (λ n t. compound-none (places.listBelow W 0) (list-on W 0) n t) parts at
   lists-is (suc d) at =
       list-turns W (some (statements.listIn W d)) (λ n. places.resume W (places.listBelow W (suc d)) (places.opened W (suc d) n))
-      (λ n t. compound-some (statements.listIn W d) (places.listBelow W (suc d)) (lists-is d) (list-on W (suc d)) d n t) 8193 at
+      (λ n t. compound-some (statements.listIn W d) (places.listBelow W (suc d)) (lists-is d) (list-on W (suc d)) d n t) parts at
 
   pub list-is : Same (statements.list W) (places.listBelow W 17)
   unfolding statements.list

@@ -6,7 +6,8 @@ use native.Mathlib.Omega.{arith}
 use lib.Dec.{eqb}
 use Rattle.laws.proofs.Tests.{apart}
 use Rattle.paper.specs.Basics.{if_then_else_}
-use Rattle.paper.specs.Expressions.{startsSimple, startsData, startsRoutine}
+use Rattle.paper.specs.Sorts.{NOTHING}
+use Rattle.paper.specs.Expressions.{startsSimple, startsData, startsRoutine, parts}
 use Rattle.form.specs.declared.Read.{Read}
 use Rattle.form.specs.declared.Read.the-variants.{Upto, Refused}
 use Rattle.form.specs.declared.Part.{Part}
@@ -14,8 +15,18 @@ use Rattle.form.specs.declared.Part.the-variants as part
 use Rattle.form.specs.Places.{_▸_, _▹_, turns, word, typeWord, expressionIn, afterOne, separatedTurn, separated, repeatedTurn, repeated, expressions, arguments, optional}
 use Rattle.form.specs.Places.{target, rightSide, assigns, startedByName, number, writing, wanting, simpleWord, simple, armEnd, caseEnd, listEnd, stepPart, forHead, condition, ifHead, testHead, opened}
 use Rattle.form.specs.Places.{elsePart, afterArm, armsTurn, arms, defaultPart, casesTurn, cases, ending, resume, startsCompound, listTurn, listBelow, compound}
-use Rattle.form.specs.Places.{content, declaration, declared, declarations, parameter, parameters, errorPart, routineFrom, routine, routineAt, routines}
-use Rattle.form.proofs.Beyond.{Beyond, refuses, ends, sooner, either, follows, on, strictly, turns-on, word-on, type-on, nested-on}
+use Rattle.form.specs.Places.{content, startedBy, declaration, declarations, parameter, parameters, errorPart, routineFrom, routine}
+use Rattle.form.proofs.Beyond.{Beyond, refuses, ends, sooner, either, follows, on, strictly, turns-on, Kind, word-on, type-on, nested-on}
+use Rattle.paper.specs.Words.{wordLimit}
+
+-- where no word stands nothing starts
+pub no-data : startsData NOTHING ≡ false
+unfolding startsData
+no-data = refl
+
+pub no-routine : startsRoutine NOTHING ≡ false
+unfolding startsRoutine
+no-routine = refl
 
 -- how far a part reaches
 unfoldable pub reached : Part → Read
@@ -70,13 +81,13 @@ module _ (W : ℕ → ℕ) where
     unfolding separated separatedTurn afterOne
     separated-on at =
         turns-strict (separatedTurn W one)
-        (λ again g n. on (one-on n) (λ m. either (eqb (W m) 5) (sooner m (omega arith) (g (m + 1))) (ends m m (omega arith)))) 8192 at
+        (λ again g n. on (one-on n) (λ m. either (eqb (W m) 5) (sooner m (omega arith) (g (m + 1))) (ends m m (omega arith)))) wordLimit at
 
     pub repeated-on : (starts : ℕ → Bool) (at : ℕ) → Beyond at (repeated W starts one at)
     unfolding repeated repeatedTurn
     repeated-on starts at =
         turns-on (repeatedTurn W starts one)
-        (λ again g n. either (starts (W n)) (on (sooner n (omega arith) (one-on n)) g) (ends n n (omega arith))) 8193 at
+        (λ again g n. either (starts (W n)) (on (sooner n (omega arith) (one-on n)) g) (ends n n (omega arith))) parts at
 
   pub expressions-on : (at : ℕ) → Beyond (suc at) (expressions W at)
   unfolding expressions
@@ -199,7 +210,7 @@ module _ (W : ℕ → ℕ) where
 
     pub arms-on : (at : ℕ) → Beyond at (arms W list at)
     unfolding arms armsTurn
-    arms-on at = turns-on (armsTurn W list) (λ again g n. on (list-on n) (after-arm-on again g)) 8193 at
+    arms-on at = turns-on (armsTurn W list) (λ again g n. on (list-on n) (after-arm-on again g)) parts at
 
     default-on : (at : ℕ) → Beyond at (defaultPart W list at)
     unfolding defaultPart
@@ -210,7 +221,7 @@ module _ (W : ℕ → ℕ) where
     cases-on at =
         turns-on (casesTurn W list)
         (λ again g n. either (eqb (W n) 35) (on (on (on (sooner n (omega arith) (expressions-on (n + 1))) (strictly (word-on W 10))) list-on) g)
-        (on (default-on n) (strictly (word-on W 49)))) 8193 at
+        (on (default-on n) (strictly (word-on W 49)))) parts at
 
     ending-on : (c at : ℕ) → Beyond at (ending W list c at)
     unfolding ending
@@ -231,7 +242,7 @@ module _ (W : ℕ → ℕ) where
   list-on (suc d) at =
       turns-on (listTurn W (λ n. resume W (listBelow W d) (opened W d n)))
       (λ again g n. either (startsCompound (W n)) (on (sooner n (omega arith) (resume-on (listBelow W d) (list-on d) (suc n) (opened W d n) (opened-on d n))) g)
-      (either (startsSimple (W n)) (on (sooner n (omega arith) (simple-on n)) g) (ends n n (omega arith)))) 8193 at
+      (either (startsSimple (W n)) (on (sooner n (omega arith) (simple-on n)) g) (ends n n (omega arith)))) parts at
 
   pub compound-on : (d at : ℕ) → Beyond (suc at) (compound W d at)
   unfolding compound
@@ -250,13 +261,12 @@ module _ (W : ℕ → ℕ) where
   unfolding declaration
   declaration-on s at = on (on (on (type-on W at) (strictly (word-on W 1))) (content-on s)) (strictly (word-on W 4))
 
-  pub declared-on : (at : ℕ) → Beyond (suc at) (declared W at)
-  unfolding declared
-  declared-on at = sooner (suc at) (omega arith) (declaration-on (W at) (at + 1))
+  pub data-kind : Kind W startsData (declaration W)
+  unfolding startedBy
+  data-kind = record { none = no-data; on = λ at. sooner (suc at) (omega arith) (declaration-on (W at) (at + 1)) }
 
   declarations-on : (at : ℕ) → Beyond at (declarations W at)
-  unfolding declarations
-  declarations-on at = repeated-on (declared W) declared-on startsData at
+  declarations-on at = repeated-on (startedBy W (declaration W)) (data-kind .on) startsData at
 
   pub parameter-on : (at : ℕ) → Beyond (suc at) (parameter W at)
   unfolding parameter
@@ -279,6 +289,6 @@ module _ (W : ℕ → ℕ) where
   unfolding routine
   routine-on s at = either (eqb s 69) (from-on at 47 (Upto at) (ends at at (omega arith))) (from-on at 44 (typeWord W at) (sooner at (omega arith) (type-on W at)))
 
-  pub routine-at-on : (at : ℕ) → Beyond (suc at) (routineAt W at)
-  unfolding routineAt
-  routine-at-on at = sooner (suc at) (omega arith) (routine-on (W at) (at + 1))
+  pub routine-kind : Kind W startsRoutine (routine W)
+  unfolding startedBy
+  routine-kind = record { none = no-routine; on = λ at. sooner (suc at) (omega arith) (routine-on (W at) (at + 1)) }

@@ -11,7 +11,7 @@ use Rattle.laws.proofs.Tests.{test}
 use Rattle.paper.specs.Basics.{if_then_else_}
 use Rattle.paper.specs.Trees.{Expr, Target, Simple}
 use Rattle.paper.specs.Expressions as paper
-use Rattle.paper.specs.Expressions.{Parsed, Parser, got, no, _>>=_, levelOf, standsBefore, isLiteral, isType}
+use Rattle.paper.specs.Expressions.{Parsed, Parser, got, no, _>>=_, levelOf, standsBefore, isLiteral, isType, parts}
 use Rattle.paper.specs.Statements as statements
 use Rattle.form.specs.declared.Read.{Read}
 use Rattle.form.specs.declared.Read.the-variants.{Upto, Refused}
@@ -138,7 +138,7 @@ module _ (W : ℕ → ℕ) where
     level-is (suc j) at =
         then-0 second (paper.prefixed W (suc j) (paper.level W inner j) at) _ _
         (prefixed-is (suc j) (paper.level W inner j) (places.level W inner′ j) (level-is j) at)
-        (λ x. chain-is (suc j) (paper.level W inner j) (places.level W inner′ j) (level-is j) 8193 (x .0) (x .1))
+        (λ x. chain-is (suc j) (paper.level W inner j) (places.level W inner′ j) (level-is j) parts (x .0) (x .1))
 
   pub nested-is : (d : ℕ) → Same (paper.exprIn W d) (places.expressionIn W d)
   unfolding paper.exprIn places.expressionIn place
@@ -161,9 +161,9 @@ module _ (W : ℕ → ℕ) where
         (λ t. rw t (ends-so second (paper.separated W p one (x .1 + 1)) _ (separated-turns p (x .1 + 1))))
         (λ t. rw t))
 
-    pub separated-is : Same (paper.separated W 8193 one) (places.separated W one′)
+    pub separated-is : Same (paper.separated W parts one) (places.separated W one′)
     unfolding places.separated
-    separated-is at = separated-turns 8193 at
+    separated-is at = separated-turns parts at
 
     repeated-turns : (starts : ℕ → Bool) (p : ℕ) → Same (paper.repeated W p starts one) (turns (places.repeatedTurn W starts one′) p)
     unfolding paper.repeated turns places.repeatedTurn place
@@ -173,9 +173,9 @@ module _ (W : ℕ → ℕ) where
         (λ t. rw (t, paper.repeated) (then-0 second (one at) _ _ (same at) (λ x. ends-so second (paper.repeated W p starts one (x .1)) _ (repeated-turns starts p (x .1)))))
         (λ t. rw (t, paper.repeated))
 
-    pub repeated-is : (starts : ℕ → Bool) → Same (paper.repeated W 8193 starts one) (places.repeated W starts one′)
+    pub repeated-is : (starts : ℕ → Bool) → Same (paper.repeated W parts starts one) (places.repeated W starts one′)
     unfolding places.repeated
-    repeated-is starts at = repeated-turns starts 8193 at
+    repeated-is starts at = repeated-turns starts parts at
 
   pub expressions-is : Same (paper.exprs W) (places.expressions W)
   unfolding paper.exprs places.expressions

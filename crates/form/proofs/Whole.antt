@@ -48,16 +48,16 @@ module _ (W : ℕ → ℕ) where
       (λ b. then-0 second (content b) _ _ (same b)
       (λ c. ends-so itself (paper.expect W 4 (c .1)) _ (word-is W 4 (c .1)))))
 
-  declared-is : Same (modules.declaration W) (places.declared W)
-  unfolding modules.declaration places.declared places.declaration
+  declared-is : Same (modules.declaration W) (places.startedBy W (places.declaration W))
+  unfolding modules.declaration places.startedBy places.declaration
   declared-is at =
       test (eqb (W at) 84)
       (λ t. rw t (datum-is (modules.varPart W) (places.content W (W at)) (var-is (W at) t) at))
       (λ t. rw t (datum-is (modules.constPart W) (places.content W (W at)) (const-is (W at) t) at))
 
   declarations-is : Same (modules.declarations W) (places.declarations W)
-  unfolding modules.declarations places.declarations
-  declarations-is at = repeated-is W (modules.declaration W) (places.declared W) declared-is startsData at
+  unfolding modules.declarations
+  declarations-is at = repeated-is W (modules.declaration W) (places.startedBy W (places.declaration W)) declared-is startsData at
 
   -- ---- parameters
 
@@ -104,15 +104,15 @@ module _ (code : List ℕ) (words : ℕ) (lent : Lent code words) where
       (λ f. then-0 second (modules.errorPart W (f .1)) _ _ (error-is (f .1))
       (λ g. ends-so itself (paper.expect W closing (g .1)) _ (word-is W closing (g .1)))))))))
 
-  routine-is : Same (modules.routine W) (places.routineAt W)
-  unfolding modules.routine modules.function places.routineAt places.routine places.routineFrom _▸_
+  routine-is : Same (modules.routine W) (places.startedBy W (places.routine W))
+  unfolding modules.routine modules.function places.startedBy places.routine places.routineFrom _▸_
   routine-is at =
       choice (eqb (W at) 69) _ _ (from-is none 47 (at + 1))
       (then-7 itself (paper.expectType W (at + 1)) _ _ _ _ _ _ _ _ _ (type-is W (at + 1)) (λ n. from-is (some (W (at + 1))) 44 n))
 
   routines-is : Same (modules.routines W) (places.routines W)
-  unfolding modules.routines places.routines
-  routines-is at = repeated-is W (modules.routine W) (places.routineAt W) routine-is startsRoutine at
+  unfolding modules.routines
+  routines-is at = repeated-is W (modules.routine W) (places.startedBy W (places.routine W)) routine-is startsRoutine at
 
   nothing-left : (m : ℕ) (t : Module) → outcome (paper.expect W 0 m >>= (λ n. got t)) ≡ judged W (Upto m)
   unfolding paper.expect _>>=_ judged

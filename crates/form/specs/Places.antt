@@ -101,6 +101,10 @@ module _ (W : ℕ → ℕ) where
   unfoldable pub repeated : (starts : ℕ → Bool) → (one : ℕ → Read) → ℕ → Read
   repeated starts one = turns (repeatedTurn starts one) parts
 
+  -- What a word starts, read from behind it by its sort.
+  unfoldable pub startedBy : (of : (starts : ℕ) → ℕ → Read) → ℕ → Read
+  startedBy of at = of (W at) (at + 1)
+
   unfoldable pub expressions : ℕ → Read
   expressions at = separated expression at
 
@@ -247,11 +251,8 @@ module _ (W : ℕ → ℕ) where
   unfoldable pub declaration : (starts : ℕ) → ℕ → Read
   declaration s at = typeWord at ▸ word NAME ▸ content s ▸ word semicolon
 
-  unfoldable pub declared : ℕ → Read
-  declared at = declaration (W at) (at + 1)
-
-  unfoldable pub declarations : ℕ → Read
-  declarations at = repeated startsData declared at
+  abbrev pub declarations : ℕ → Read
+  declarations = repeated startsData (startedBy declaration)
 
   -- ---- routines
   unfoldable pub parameter : ℕ → Read
@@ -270,11 +271,8 @@ module _ (W : ℕ → ℕ) where
   unfoldable pub routine : (starts : ℕ) → ℕ → Read
   routine s at = if eqb s PROC then routineFrom ENDPROC (Upto at) else routineFrom ENDFUNC (typeWord at)
 
-  unfoldable pub routineAt : ℕ → Read
-  routineAt at = routine (W at) (at + 1)
-
-  unfoldable pub routines : ℕ → Read
-  routines at = repeated startsRoutine routineAt at
+  abbrev pub routines : ℕ → Read
+  routines = repeated startsRoutine (startedBy routine)
 
   unfoldable pub whole : Read
   whole = word MODULE 0 ▸ word NAME ▸ declarations ▸ routines ▸ word ENDMODULE

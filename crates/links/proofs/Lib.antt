@@ -1,10 +1,10 @@
 pub mod Ops
-pub mod Turning
+pub mod WordsPass
 pub mod Moving
-pub mod Reading
+pub mod SimpleSteps
 pub mod Orders
 pub mod Framing
-pub mod Leading
-pub mod Choosing
-pub mod Standing
+pub mod ResolvedWords
+pub mod IfAndTest
+pub mod StatementSteps
 pub mod Walked

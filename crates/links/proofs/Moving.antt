@@ -49,7 +49,7 @@ module _ (op : ℕ) (h : isLed op ≡ false) where
   unfolding isLed
   still-place = rw still-value at (rw (still-link, isLed) at h)
 
-head-is : (v w : ℕ) → v % 256 ≡ w % 256 → v / 256 ≡ w / 256 → v ≡ w
+head-is : (v w : ℕ) → opIn v ≡ opIn w → valueIn v ≡ valueIn w → v ≡ w
 head-is v w o e = omega arith
 
 -- what a head in the range of targets says

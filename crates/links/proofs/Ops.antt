@@ -14,6 +14,7 @@ use Rattle.code.specs.Steps.{aTarget, anElseIf, aCase, aThen, aProcedureCall, a
 use Rattle.reading.specs.Reading.{halfEnd, Part}
 use Rattle.links.specs.Resolved.{stepByLink, goesByLink, goesByValue, goesByPlace, isLed, beyond, Beyond, LedValue, LedPlace, LedLink}
 use Rattle.links.specs.Raw.{Quiet}
+use Rattle.layout.specs.Parts.{linkPart}
 
 -- ---- ops
 module _ (op : ℕ) where
@@ -113,23 +114,23 @@ module _ (code : List ℕ) (words : ℕ) where
     pub value-goes : (v r : ℕ) → b ≡ goesByValue op → Beyond code words v r → LedValue code words op v r
     value-goes v r e g = record { same = λ f. false-true (sym f ∙ sym e ∙ t); on = λ f. g .is; small = g .as-value }
 
-    pub place-goes : (p r : ℕ) → b ≡ goesByPlace op → p < 65536 → Beyond code words p r → LedPlace code words op p r
+    pub place-goes : (p r : ℕ) → b ≡ goesByPlace op → p < linkPart → Beyond code words p r → LedPlace code words op p r
     place-goes p r e h g = record { same = λ f. false-true (sym f ∙ sym e ∙ t); on = λ f. g .is; small = g .as-link h }
 
   module _ (op : ℕ) (b : Bool) (t : b ≡ false) where
     pub value-stays : (v : ℕ) → b ≡ goesByValue op → v < 16777216 → LedValue code words op v v
     value-stays v e h = record { same = λ f. refl; on = λ f. false-true (sym t ∙ e ∙ f); small = h }
 
-    pub place-stays : (p : ℕ) → b ≡ goesByPlace op → p < 65536 → LedPlace code words op p p
+    pub place-stays : (p : ℕ) → b ≡ goesByPlace op → p < linkPart → LedPlace code words op p p
     place-stays p e h = record { same = λ f. refl; on = λ f. false-true (sym t ∙ e ∙ f); small = h }
 
-  pub link-stays : (op : ℕ) (b : Bool) (l : ℕ) → not b ≡ true → b ≡ goesByLink op → l < 65536 → LedLink code words op l l
+  pub link-stays : (op : ℕ) (b : Bool) (l : ℕ) → not b ≡ true → b ≡ goesByLink op → l < linkPart → LedLink code words op l l
   link-stays op b l t e h = record { same = λ f. refl; stays = λ f g k. refl; on = λ f. false-true (sym (not-true b t) ∙ e ∙ f); small = h }
 
-  pub link-to-else : (op l o : ℕ) → op ≡ aThen → o ≡ opAt (wordsOf code) l → o ≡ anElseIf → l < 65536 → LedLink code words op l l
+  pub link-to-else : (op l o : ℕ) → op ≡ aThen → o ≡ opAt (wordsOf code) l → o ≡ anElseIf → l < linkPart → LedLink code words op l l
   link-to-else op l o e f g h = record { same = λ k. refl; stays = λ p q k. refl; on = λ p d. absurd (d e (sym f ∙ g)); small = h }
 
-  module _ (op : ℕ) (b : Bool) (t : not b ≡ false) (e : b ≡ goesByLink op) (l r : ℕ) (h : l < 65536) (g : Beyond code words l r) where
+  module _ (op : ℕ) (b : Bool) (t : not b ≡ false) (e : b ≡ goesByLink op) (l r : ℕ) (h : l < linkPart) (g : Beyond code words l r) where
     pub link-goes : (op ≡ aThen → opAt (wordsOf code) l ≡ anElseIf → ⊥) → LedLink code words op l r
     link-goes d = record { same = λ f. false-true (sym f ∙ sym e ∙ not-false b t); stays = λ p q k. absurd (d p q); on = λ f p. g .is; small = g .as-link h }
 

@@ -13,7 +13,7 @@ use Rattle.code.specs.Cells.{opAt, valueAt}
 use Rattle.code.specs.Steps.{anElseIf, aPass}
 use Rattle.code.proofs.Spanning.{span-grows}
 use Rattle.links.specs.Raw.{Ground, RawTerm, RawBound, RawStep, LastOf, an-else, no-else, RawElse, Ends, at-once, closed, NoMore, RawNoMore, RawStatement, RawList, RawArms, RawCases}
-use Rattle.links.proofs.Reading.{does-op}
+use Rattle.links.proofs.SimpleSteps.{does-op}
 
 module _ (g : Ground) (n : ℕ) (C : List ℕ) where
   -- ---- order

@@ -18,10 +18,10 @@ use Rattle.code.specs.Holds.{known, CalleeIn}
 use Rattle.links.specs.Resolved.{isLed, beyond, Led, Resolved}
 use Rattle.links.specs.Raw.{Ground, RawStatement, RawList, RawArms, RawCases, endOf, RawRoutineList}
 use Rattle.links.proofs.Moving.{still-link, still-value, still-place}
-use Rattle.links.proofs.Reading.{acts-end}
+use Rattle.links.proofs.SimpleSteps.{acts-end}
 use Rattle.links.proofs.Orders.{term-order, statement-order, list-order, begins}
-use Rattle.links.proofs.Leading.{Goes, op-same, pass-goes, step-goes, ends-go, list-goes, last-goes, arms-go, cases-go}
-use Rattle.links.proofs.Standing as standing
+use Rattle.links.proofs.ResolvedWords.{Goes, op-same, pass-goes, step-goes, ends-go, list-goes, last-goes, arms-go, cases-go}
+use Rattle.links.proofs.StatementSteps as standing
 
 -- ---- lists of steps
 pub every-both : {A : Step → Type 0} (l r : List Step) → Every A l → Every A r → Every A (l ++ r)

@@ -10,6 +10,7 @@ use Rattle.paper.specs.Basics.{if_then_else_}
 use Rattle.cells.specs.Words.{wordsOf}
 use Rattle.code.specs.Cells.{headAt, tailAt, opAt, valueAt, placeAt, linkAt}
 use Rattle.code.specs.Steps.{aTarget, aProcedureCall, anEnd, aFunctionEnd, anElseIf, aCase, aNextValue, aThen, aDo, aPass, anOtherwise, aClose}
+use Rattle.layout.specs.Parts.{linkPart}
 
 -- ---- which words lead on, by their ops
 -- A step but a procedure call, which goes on by the word that closes it, and a list's end; and a word that closes a list. (A THEN leads to an ELSEIF, which stays, or on.)
@@ -82,7 +83,7 @@ pub record Resolved (before after : List ℕ) (words : ℕ) : Type 0 where
 -- A word that leads to z is to lead to r.
 pub record Beyond (code : List ℕ) (words z r : ℕ) : Type 0 where
   pub is : z + 1 < words → r ≡ beyond (wordsOf code) (wordsOf code) z
-  pub as-link : z < 65536 → r < 65536
+  pub as-link : z < linkPart → r < linkPart
   pub as-value : r < 16777216
 
 pub record LedValue (code : List ℕ) (words op v r : ℕ) : Type 0 where
@@ -93,13 +94,13 @@ pub record LedValue (code : List ℕ) (words op v r : ℕ) : Type 0 where
 pub record LedPlace (code : List ℕ) (words op p r : ℕ) : Type 0 where
   pub same : goesByPlace op ≡ false → r ≡ p
   pub on : goesByPlace op ≡ true → p + 1 < words → r ≡ beyond (wordsOf code) (wordsOf code) p
-  pub small : r < 65536
+  pub small : r < linkPart
 
 pub record LedLink (code : List ℕ) (words op l r : ℕ) : Type 0 where
   pub same : goesByLink op ≡ false → r ≡ l
   pub stays : op ≡ aThen → opAt (wordsOf code) l ≡ anElseIf → l + 1 < words → r ≡ l
   pub on : goesByLink op ≡ true → (op ≡ aThen → opAt (wordsOf code) l ≡ anElseIf → ⊥) → l + 1 < words → r ≡ beyond (wordsOf code) (wordsOf code) l
-  pub small : r < 65536
+  pub small : r < linkPart
 
 -- Word i alone is led on by the links as they are so far.
 pub record Turned (before after : List ℕ) (words i : ℕ) : Type 0 where

@@ -20,6 +20,9 @@ use Rattle.load.specs.Layout.{headValue, isFirst, opens, latest, knownAs
 use Rattle.spelling.proofs.Letters.{sameNames}
 use Rattle.spelling.proofs.Hashing.{hash-folded}
 use Rattle.load.proofs.Bounds.{text-short, reading-good}
+use Rattle.code.specs.Cells.{valueIn, placeIn, linkIn}
+use Rattle.layout.specs.Parts.{valuePart}
+use Rattle.names.specs.Promises.{numberLimit}
 
 -- ---- first names
 pub record First (W : List Word) (i : ℕ) : Type 0 where
@@ -148,40 +151,40 @@ module _ (text code name : List ℕ) (first : ℕ) (chain : Chain text code name
       lies : Lies 0 text (nth (wordsIn text) (j - 1) .place) (nth (wordsIn text) (j - 1) .covers)
       lies = reading-good text (j - 1) (word-inside j s d) .lies
 
-      place-is : tail % 65536 ≡ nth (wordsIn text) (j - 1) .place
-      place-is = ap (λ (x : ℕ). x % 65536) t ∙ chain .written .places (j - 1) (omega (arith, s .most, d))
+      place-is : placeIn tail ≡ nth (wordsIn text) (j - 1) .place
+      place-is = ap placeIn t ∙ chain .written .places (j - 1) (omega (arith, s .most, d))
 
-      length-is : head / 256 / 8192 ≡ length (nth (wordsIn text) (j - 1) .covers)
+      length-is : valueIn head / numberLimit ≡ length (nth (wordsIn text) (j - 1) .covers)
       unfolding headValue
       length-is =
           let f = word-first j s d in
           let n = eq-eqb (sortIn (wordsIn text) (j - 1)) NAME (f .name) in
-          ap (λ (x : ℕ). x / 256 / 8192) (h ∙ chain .written .heads (j - 1) (omega (arith, s .most, d)))
+          ap (λ (x : ℕ). valueIn x / numberLimit) (h ∙ chain .written .heads (j - 1) (omega (arith, s .most, d)))
           ∙ rw n (value (sortIn (wordsIn text) (j - 1)) (numberOf (wordsIn text) (j - 1)) (length (nth (wordsIn text) (j - 1) .covers)) (omega (arith, f .name)) (omega (arith, f .own, s .most, chain .most, d)))
         where
-          value : (sort number n : ℕ) → sort < 256 → number < 8192 → (sort + 256 * (number + 8192 * n)) / 256 / 8192 ≡ n
+          value : (sort number n : ℕ) → sort < valuePart → number < numberLimit → valueIn (sort + valuePart * (number + numberLimit * n)) / numberLimit ≡ n
           value sort number n a b =
-              let e : (sort + 256 * (number + 8192 * n)) / 256 ≡ number + 8192 * n = omega arith in
+              let e : valueIn (sort + valuePart * (number + numberLimit * n)) ≡ number + numberLimit * n = omega arith in
               rw e (omega arith)
 
-      pub part-inside : (tail % 65536 + head / 256 / 8192 ≤ length text) × (length text ≤ textLimit)
+      pub part-inside : (placeIn tail + valueIn head / numberLimit ≤ length text) × (length text ≤ textLimit)
       part-inside = (omega (arith, place-is, length-is, lies .inside), text-short text (j - 1) (word-inside j s d))
 
-      part-is : take (tail % 65536 + head / 256 / 8192 - tail % 65536) (drop (tail % 65536) text) ≡ nth (wordsIn text) (j - 1) .covers
+      part-is : take (placeIn tail + valueIn head / numberLimit - placeIn tail) (drop (placeIn tail) text) ≡ nth (wordsIn text) (j - 1) .covers
       part-is =
-          let n : tail % 65536 + head / 256 / 8192 - tail % 65536 ≡ length (nth (wordsIn text) (j - 1) .covers) = omega (arith, length-is) in
+          let n : placeIn tail + valueIn head / numberLimit - placeIn tail ≡ length (nth (wordsIn text) (j - 1) .covers) = omega (arith, length-is) in
           ap₂ (λ (k p : ℕ). take k (drop p text)) n place-is ∙ sym (lies-is text _ _ lies)
 
-      link-is : tail / 65536 ≡ latest (wordsIn text) (hashOf name) (j - 1)
+      link-is : linkIn tail ≡ latest (wordsIn text) (hashOf name) (j - 1)
       link-is =
-          ap (λ (x : ℕ). x / 65536) t
+          ap linkIn t
           ∙ chain .written .links (j - 1) (omega (arith, s .most, d)) (true-first (wordsIn text) (j - 1) (word-first j s d))
           ∙ ap (λ (x : ℕ). latest (wordsIn text) x (j - 1)) (opens-hash (wordsIn text) (j - 1) (hashOf name) (word-opens j s d))
 
-      pub seeks-less : tail / 65536 < j
+      pub seeks-less : linkIn tail < j
       seeks-less = omega (arith, link-is, latest-most (wordsIn text) (hashOf name) (j - 1), d)
 
-      module _ (b : Bool) (e : b ≡ sameNames (take (tail % 65536 + head / 256 / 8192 - tail % 65536) (drop (tail % 65536) text)) name) where
+      module _ (b : Bool) (e : b ≡ sameNames (take (placeIn tail + valueIn head / numberLimit - placeIn tail) (drop (placeIn tail) text)) name) where
         spelled-is : b ≡ equalTexts (spelled (wordsIn text) (j - 1)) (map folded name)
         unfolding spelled
         spelled-is = e ∙ ap (λ (l : List ℕ). sameNames l name) part-is
@@ -193,7 +196,7 @@ module _ (text code name : List ℕ) (first : ℕ) (chain : Chain text code name
           small = chain .most;
         }
 
-        pub seeks-on : b ≡ false → Seeks text name first (tail / 65536)
+        pub seeks-on : b ≡ false → Seeks text name first (linkIn tail)
         seeks-on n = record {
           from = j - 1;
           at = link-is;

@@ -1,7 +1,7 @@
 pub mod Bounds
 pub mod Chains
-pub mod Filling
-pub mod Coming
+pub mod WordStored
+pub mod NextWord
 pub mod Progress
 pub mod Results
 pub mod Unique

@@ -21,9 +21,10 @@ use Rattle.words.proofs.Readings.{Gives, step-gives, step-ends, step-refuses, s
 use Rattle.names.specs.Meanings.{firstMeaning}
 use Rattle.names.specs.Promises.{storeBytes}
 use Rattle.load.specs.declared.Loaded.the-variants as loaded
-use Rattle.load.specs.Layout.{isFirst, firstCell, latest, firstBucket, wordsIn, Loading, Keeping, Goes, Comes}
+use Rattle.load.specs.Layout.{isFirst, firstCell, latest, firstBucket, wordsIn, Loading, Keeping, Goes, Comes, pastBuckets}
 use Rattle.load.specs.Loads.{Ready, answerOf, Loads}
 use Rattle.load.proofs.Bounds.{text-short, reading-good}
+use Rattle.spelling.specs.Hash.{buckets}
 
 pub record Progress (text code₀ values₀ code values : List ℕ) (c : Cursor) : Type 0 where
   pub loading : Loading text (c .words) code values
@@ -118,17 +119,17 @@ module _ (text code₀ values₀ code values : List ℕ) (c : Cursor) (at : Prog
     })
 
   -- the chains are cleared, and nothing else
-  done : (o : Option Refusal) → leftOf text c ≡ noWords o → (values′ : List ℕ) → Cleared values values′ 4096 2048 → Loads text code₀ values₀ (answerOf (c .words) o) code values′
+  done : (o : Option Refusal) → leftOf text c ≡ noWords o → (values′ : List ℕ) → Cleared values values′ firstBucket buckets → Loads text code₀ values₀ (answerOf (c .words) o) code values′
   done o gone values′ p =
-      let room : (4096 + 2048) * 4 ≤ length values = omega (arith, at .loading .values-room) in
+      let room : (firstBucket + buckets) * 4 ≤ length values = omega (arith, at .loading .values-room) in
       let all : length (wordsIn text) ≡ c .words = at .count ∙ rw gone (omega arith) in
       let t = at .loading .tabled in
       record {
         answer = rw (all, at .refused, gone);
         heads = λ i h. at .loading .written .heads i (omega (arith, all));
         places = λ i h. at .loading .written .places i (omega (arith, all));
-        zeros = λ k h. by-less k 4096 (λ l. clear-below p room k l ∙ t .before k l)
-            (λ l. by-less k 6144 (λ m. let same : 4096 + (k - 4096) ≡ k = omega arith in subst (λ (x : ℕ). getD (wordsOf values′) x 0 ≡ 0) same (clear-in p room (k - 4096) (omega arith)))
+        zeros = λ k h. by-less k firstBucket (λ l. clear-below p room k l ∙ t .before k l)
+            (λ l. by-less k pastBuckets (λ m. let same : firstBucket + (k - firstBucket) ≡ k = omega arith in subst (λ (x : ℕ). getD (wordsOf values′) x 0 ≡ 0) same (clear-in p room (k - firstBucket) (omega arith)))
             (λ m. clear-above p room k m ∙ t .between k m h));
         table = λ i h. clear-above p room (firstMeaning + i) (omega arith)
             ∙ by-less i (c .words) (λ l. t .table i l) (λ l. t .empty i l h ∙ sym (no-cell (wordsIn text) i (omega (arith, all))));
@@ -140,8 +141,8 @@ module _ (text code₀ values₀ code values : List ℕ) (c : Cursor) (at : Prog
         });
       }
 
-  pub loads-end : r ≡ steps.End → (values′ : List ℕ) → Cleared values values′ 4096 2048 → Loads text code₀ values₀ (loaded.Words (c .words)) code values′
+  pub loads-end : r ≡ steps.End → (values′ : List ℕ) → Cleared values values′ firstBucket buckets → Loads text code₀ values₀ (loaded.Words (c .words)) code values′
   loads-end e values′ p = done none (step-ends text c r is e) values′ p
 
-  pub loads-refused : (k q : ℕ) → r ≡ steps.Refused k q → (values′ : List ℕ) → Cleared values values′ 4096 2048 → Loads text code₀ values₀ (loaded.Refused k q) code values′
+  pub loads-refused : (k q : ℕ) → r ≡ steps.Refused k q → (values′ : List ℕ) → Cleared values values′ firstBucket buckets → Loads text code₀ values₀ (loaded.Refused k q) code values′
   loads-refused k q e values′ p = done (some (record { number = k; offset = q })) (step-refuses text c r is k q e) values′ p

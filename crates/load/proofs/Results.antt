@@ -8,10 +8,10 @@ use borrow.Author.Tests.{eq-eqb}
 use Rattle.cells.specs.Words.{wordsOf}
 use Rattle.paper.specs.Sorts.{NAME}
 use Rattle.paper.specs.Names.{nth, sortIn}
-use Rattle.code.specs.Cells.{opAt}
+use Rattle.code.specs.Cells.{opAt, valueIn, opIn}
 use Rattle.names.specs.Numbers.{numberOf, IsName}
 use Rattle.names.specs.Meanings.{Means, noScopes}
-use Rattle.names.specs.Promises.{numberAt}
+use Rattle.names.specs.Promises.{numberAt, numberLimit}
 use Rattle.names.proofs.Spellings.{name-inside, number-most}
 use Rattle.names.proofs.Shields.{means-first}
 use Rattle.load.specs.declared.Loaded.{Loaded}
@@ -19,26 +19,27 @@ use Rattle.load.specs.Layout.{headValue, firstCell, wordsIn}
 use Rattle.load.specs.Loads.{Loads}
 use Rattle.load.proofs.Bounds.{reading-good, reading-most}
 use Rattle.load.proofs.Chains.{true-first}
+use Rattle.layout.specs.Parts.{valuePart}
 
 module _ (text code values : List ℕ) (r : Loaded) (code′ values′ : List ℕ) (h : Loads text code values r code′ values′) where
   pub loads-sorts : (i : ℕ) → i < length (wordsIn text) → opAt (wordsOf code′) i ≡ sortIn (wordsIn text) i
   unfolding sortIn
-  loads-sorts i l = ap (λ (x : ℕ). x % 256) (h .heads i l) ∙ low (nth (wordsIn text) i .sort) (headValue (wordsIn text) i) (reading-good text i l .sizes .sorts)
+  loads-sorts i l = ap opIn (h .heads i l) ∙ low (nth (wordsIn text) i .sort) (headValue (wordsIn text) i) (reading-good text i l .sizes .sorts)
     where
-      low : (sort v : ℕ) → sort < 128 → (sort + 256 * v) % 256 ≡ sort
+      low : (sort v : ℕ) → sort < 128 → opIn (sort + valuePart * v) ≡ sort
       low sort v b = omega arith
 
   pub loads-numbers : (i : ℕ) → IsName (wordsIn text) i → numberAt (wordsOf code′) i ≡ numberOf (wordsIn text) i
   unfolding headValue
   loads-numbers i n =
       let l = name-inside (wordsIn text) i n in
-      let most : numberOf (wordsIn text) i < 8192 = omega (arith, number-most (wordsIn text) i n, l, reading-most text) in
-      ap (λ (x : ℕ). x / 256 % 8192) (h .heads i l)
+      let most : numberOf (wordsIn text) i < numberLimit = omega (arith, number-most (wordsIn text) i n, l, reading-most text) in
+      ap (λ (x : ℕ). valueIn x % numberLimit) (h .heads i l)
       ∙ rw (eq-eqb (sortIn (wordsIn text) i) NAME n) (value (sortIn (wordsIn text) i) (numberOf (wordsIn text) i) (length (nth (wordsIn text) i .covers)) (omega (arith, n)) most)
     where
-      value : (sort number n : ℕ) → sort < 256 → number < 8192 → (sort + 256 * (number + 8192 * n)) / 256 % 8192 ≡ number
+      value : (sort number n : ℕ) → sort < valuePart → number < numberLimit → valueIn (sort + valuePart * (number + numberLimit * n)) % numberLimit ≡ number
       value sort number n a b =
-          let e : (sort + 256 * (number + 8192 * n)) / 256 ≡ number + 8192 * n = omega arith in
+          let e : valueIn (sort + valuePart * (number + numberLimit * n)) ≡ number + numberLimit * n = omega arith in
           rw e (omega arith)
 
   -- Before any declaration, the table says what the protected names mean.

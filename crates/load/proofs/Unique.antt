@@ -14,6 +14,8 @@ use Rattle.load.specs.declared.Loaded.{Loaded}
 use Rattle.load.specs.Layout.{wordsIn}
 use Rattle.load.specs.Loads.{Ready, Loads}
 use Rattle.spelling.proofs.Fronts.{front-bytes}
+use Rattle.names.specs.Promises.{numberLimit}
+use Rattle.paper.specs.Answer.{storeWords}
 
 -- two stores of the same words in front, and the same bytes behind
 pub same-store : (n : ℕ) (v w : List ℕ) → Bytes v → Bytes w → length v ≡ length w → n * 4 ≤ length v → ((k : ℕ) → k < n → getD (wordsOf v) k 0 ≡ getD (wordsOf w) k 0) → drop (n * 4) v ≡ drop (n * 4) w → v ≡ w
@@ -35,14 +37,14 @@ module _ (text code values : List ℕ) (r s : Loaded) (c d v w : List ℕ) (h : 
   pub load-unique-rest : (drop (length (wordsIn text) * 8) c ≡ drop (length (wordsIn text) * 8) d) × (length c ≡ length d)
   load-unique-rest = (h .keeping .rest ∙ sym (g .keeping .rest), h .keeping .code-size ∙ sym (g .keeping .code-size))
 
-  cells : (k : ℕ) → k < 16384 → getD (wordsOf v) k 0 ≡ getD (wordsOf w) k 0
+  cells : (k : ℕ) → k < storeWords → getD (wordsOf v) k 0 ≡ getD (wordsOf w) k 0
   cells k l =
       by-less k firstMeaning (λ m. h .zeros k m ∙ sym (g .zeros k m))
       (λ m. let at : firstMeaning + (k - firstMeaning) ≡ k = omega arith in
-      let i : k - firstMeaning < 8192 = omega arith in
+      let i : k - firstMeaning < numberLimit = omega arith in
       subst (λ (x : ℕ). getD (wordsOf v) x 0 ≡ getD (wordsOf w) x 0) at (h .table (k - firstMeaning) i ∙ sym (g .table (k - firstMeaning) i)))
 
   pub load-unique-values : Ready code values → Bytes v → Bytes w → v ≡ w
   load-unique-values ready b e =
-      same-store 16384 v w b e (h .keeping .values-size ∙ sym (g .keeping .values-size)) (omega (arith, h .keeping .values-size, ready .values-room)) cells
+      same-store storeWords v w b e (h .keeping .values-size ∙ sym (g .keeping .values-size)) (omega (arith, h .keeping .values-size, ready .values-room)) cells
       (h .keeping .beyond ∙ sym (g .keeping .beyond))

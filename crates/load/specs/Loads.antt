@@ -13,12 +13,13 @@ use Rattle.names.specs.Promises.{storeBytes, numberLimit}
 use Rattle.load.specs.declared.Loaded.{Loaded}
 use Rattle.load.specs.declared.Loaded.the-variants as loaded
 use Rattle.load.specs.Layout.{wordsIn, headOf, firstCell, Keeping}
+use Rattle.paper.specs.Answer.{storeWords}
 
 -- both stores have their cells, and those of the value store are 0
 pub record Ready (code values : List ℕ) : Type 0 where
   pub code-room : storeBytes ≤ length code
   pub values-room : storeBytes ≤ length values
-  pub clean : (k : ℕ) → k < 16384 → getD (wordsOf values) k 0 ≡ 0
+  pub clean : (k : ℕ) → k < storeWords → getD (wordsOf values) k 0 ≡ 0
 
 abbrev pub answerOf : (words : ℕ) → Option Refusal → Loaded
 answerOf words none = loaded.Words words

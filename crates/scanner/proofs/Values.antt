@@ -45,10 +45,6 @@ unfolding valueOf
 value-more [] b v = refl
 value-more (a ∷ l) b v = value-more l b (v * 10 + (a - 48))
 
-pub digit-range : (b : ℕ) (t : Bool) → t ≡ digit b → t ≡ true → (48 ≤ b) × (b ≤ 57)
-unfolding digit
-digit-range b t is g = range 48 57 b (sym is ∙ g)
-
 -- What n digits write, as far as the value counts.
 pub record Passed (text : List ℕ) (n v : ℕ) : Type 0 where
   pub digits : Run digit text n
@@ -63,6 +59,11 @@ module _ (text : List ℕ) where
   module _ (n v : ℕ) (at : Passed text n v) where
     pub passed-out : length text ≤ n → Digits·of text n v
     passed-out h = record { count = run-out digit text n (at .digits) h; worth = at .worth }
+
+    -- a byte that is a digit may be read into the value
+    pub passed-digit : (b : ℕ) (t : Bool) → t ≡ digit b → t ≡ true → (48 ≤ b) × (b ≤ 57) × (v < valueBound)
+    unfolding digit
+    passed-digit b t is g = let d = range 48 57 b (sym is ∙ g) in (d .0, d .1, at .small)
 
     module _ (t : Bool) (h : n < length text) (is : t ≡ digit (getD text n 0)) where
       pub passed-more : (w : ℕ) → t ≡ true → (capped w ≡ capped (v * 10 + (getD text n 0 - 48))) × (w < valueBound) → Passed text (n + 1) w

@@ -3,7 +3,7 @@ use mathlib.Core.Path.{_≡_}
 use mathlib.Core.Bool.{Bool, true, false, not}
 use mathlib.Core.List.{List, [], _∷_, _++_, map}
 use mathlib.Core.Option.{none, some}
-use Prim.Native.Nat.{ℕ, _+_, _*_, _-_, _/_, _%_, _<_, _≤_}
+use Prim.Native.Nat.{ℕ, _+_, _*_, _-_, _<_, _≤_}
 use lib.Dec.{eqb}
 use lib.ListN.{length, getD, take, drop}
 use Rattle.paper.specs.Basics.{if_then_else_}
@@ -11,7 +11,7 @@ use Rattle.paper.specs.Sorts.{NAME, STRING, comma, semicolon, openParen, closeP
 use Rattle.paper.specs.Words.{QUOTE, Word, wordLimit}
 use Rattle.paper.specs.Terms.{Term}
 use Rattle.paper.specs.Trees.{Expr, first, Target}
-use Rattle.paper.specs.Expressions.{levelOf}
+use Rattle.paper.specs.Expressions.{levelOf, disjunctions}
 use Rattle.paper.specs.Names.{DataType, typeOf, refusedPiece, Meaning, theRoutine, wrongName, sortIn, spelled, meaning}
 use Rattle.paper.specs.Types.{Fault, fault, faultIf, differs, wanted, judge, ofType, termOf}
 use Rattle.paper.specs.Types as types
@@ -42,7 +42,9 @@ use Rattle.simple.specs.declared.Callee.the-variants.{At, Wrong}
 use Rattle.around.specs.Around.{Quoted, Around, groundOf, Unread, Apart, Calls, Tells}
 use Rattle.around.specs.Answers.{Fine, Answer}
 use Rattle.simple.specs.Answers.{Stands, Answers}
-use Rattle.layout.specs.Rules.{barred}
+use Rattle.layout.specs.Kinds.{kindIn, boolIn, ownIn}
+use Rattle.layout.specs.Parts.{charactersPart}
+use Rattle.layout.specs.Rules.{wrongKind, wrongCount, barred}
 use Rattle.layout.specs.Types.{noType, typeIn}
 
 -- ---- a statement by its first word
@@ -165,7 +167,7 @@ pub record TargetJudged (code values after : List ℕ) (at : ℕ) (r : Judged) :
 pub record Elements (code values : List ℕ) (cell at : ℕ) : Type 0 where
   pub targets : Targets code values at
   pub brace : sortIn (targets .known .W) (at + 1) ≡ openBrace
-  pub means : meaningWith (targets .known .routine) (opIn cell / 4) (cell / 2 % 2) (cell % 2) (valueIn cell) ≡ meaning (targets .known .S) (spelled (targets .known .W) at)
+  pub means : meaningWith (targets .known .routine) (kindIn cell) (boolIn cell) (ownIn cell) (valueIn cell) ≡ meaning (targets .known .S) (spelled (targets .known .W) at)
 
 pub record ElementJudged (code values after : List ℕ) (cell at : ℕ) (r : Judged) : Type 0 where
   pub is : (g : Elements code values cell at)
@@ -214,7 +216,7 @@ pub record CalleeFound (R : ℕ → ℕ) (count : ℕ) (code : List ℕ) (m : Me
 -- It is no such routine: a rule is broken, whatever the arguments are.
 pub record CalleeWrong (W : List Word) (K : checks.Setting) (m : Meaning) (function : Bool) (i number : ℕ) : Type 0 where
   pub is : (es : List Expr) → checks.calleeFaults W K function m i es ≡ fault number i
-  pub low : number ≤ 12
+  pub low : number ≤ wrongKind
   -- nothing is known of what it gives
   pub no-result : function ≡ true → signatureOf W K m .result ≡ none
 
@@ -231,7 +233,7 @@ abbrev pub passed : DataType → (at : ℕ) → types.Judged → types.Judged
 passed t i j = record { type = j .type; faults = wanted t i j; term = j .term }
 
 pub record Passed (code values after : List ℕ) (p at : ℕ) (r : Judged) : Type 0 where
-  pub is : (s : expressions.Stands code values 5 at)
+  pub is : (s : expressions.Stands code values disjunctions at)
       → Judges (s .known .m) (s .known .n) code after at (s .to) (passed (typeAt (wordsOf code) p) (first (s .e)) (judge (s .known .W) false (s .known .S) (s .e))) r
 
 -- Terms read from a on, the first up to b, with commas between that lead on; the last up to z.
@@ -334,7 +336,7 @@ pub record CallWritten {code values : List ℕ} {h callee first closing : ℕ} (
 pub record CallJudged (code values after : List ℕ) (op h callee first closing : ℕ) (r : Judged) : Type 0 where
   pub is : (g : CallSide code values h callee first closing)
       → Answer
-      (faultIf (not (eqb (length (signatureFor (g .around) h .parameters)) (length (g .es)))) 14 callee
+      (faultIf (not (eqb (length (signatureFor (g .around) h .parameters)) (length (g .es)))) wrongCount callee
       ++ argumentFaults (g .around .known .W) (g .around .known .S) (signatureFor (g .around) h .parameters) (g .es))
       code after callee (g .z) (CallWritten g (wordsOf after) op) r
 
@@ -424,4 +426,4 @@ pub record Strings (text code : List ℕ) (i : ℕ) : Type 0 where
 
 pub record Spelled (text before after : List ℕ) (i : ℕ) : Type 0 where
   pub is : (g : Strings text before i)
-      → Linked before after i STRING (length (g .w .covers) + 256 * length (unquoted (take (length (g .w .covers) - 2) (drop (g .w .place + 1) text)))) (linkAt (wordsOf before) i)
+      → Linked before after i STRING (length (g .w .covers) + charactersPart * length (unquoted (take (length (g .w .covers) - 2) (drop (g .w .place + 1) text)))) (linkAt (wordsOf before) i)

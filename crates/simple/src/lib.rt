@@ -16,9 +16,12 @@ ghost use mathlib.Core.Path.{_≡_};
 ghost use Prim.Native.Nat.{_+_, _*_, _/_, _%_, _<_, _≤_};
 ghost use lib.ListN.{length};
 ghost use Rattle.paper.specs.Sorts.{NAME, RETURN, RAISE, TPWRITE, TPREADNUM};
+ghost use Rattle.paper.specs.Words.{wordLimit};
+ghost use Rattle.paper.specs.Expressions.{disjunctions};
 ghost use Rattle.cells.specs.Words.{wordsOf};
 ghost use Rattle.code.specs.Cells.{headAt, opAt, valueAt, placeAt, linkAt};
 ghost use Rattle.code.specs.Signatures.{firstParameter};
+ghost use Rattle.layout.specs.Parts.{valuePart, linkPart, charactersPart};
 ghost use Rattle.layout.specs.Types.{IsType};
 ghost use Rattle.expressions.specs.Answers as expressions;
 ghost use Rattle.simple.specs.Answers.{Statement, Stated};
@@ -164,7 +167,7 @@ fn count_arguments(code: &[u8], first: usize, closing: u32) -> u32
 
 // An argument for the parameter whose type is at word p.
 fn argument(code: &mut [u8], values: &[u8], p: usize, at: usize) -> Judged
-    requires { ⌜ (p * 8 + 8 ≤ length (now code)) × expressions.Stands (now code) (now values) 5 at ⌝ }
+    requires { ⌜ (p * 8 + 8 ≤ length (now code)) × expressions.Stands (now code) (now values) disjunctions at ⌝ }
     ensures { λ r. ⌜ Passed (now (code .entry)) (now (values .entry)) (now (code .exit)) p at r ⌝ }
 {
     let asked = reading::head(code, p);
@@ -198,7 +201,7 @@ fn more_arguments(code: &mut [u8], values: &[u8], p: usize, b: usize) -> Judged
 }
 
 fn first_parameter(code: &[u8], h: usize) -> usize
-    requires { ⌜ (h * 8 + 8 ≤ length (now code)) × (h < 8192) ⌝ }
+    requires { ⌜ (h * 8 + 8 ≤ length (now code)) × (h < wordLimit) ⌝ }
     ensures { λ r. ⌜ r ≡ firstParameter (wordsOf (now (code .entry))) h ⌝ }
 {
     if sort(code, h) == sorts::FUNC {
@@ -217,7 +220,7 @@ fn call(
     first: usize,
     closing: u32,
 ) -> Judged
-    requires { ⌜ CallSide (now code) (now values) h callee first closing × (op < 256) ⌝ }
+    requires { ⌜ CallSide (now code) (now values) h callee first closing × (op < valuePart) ⌝ }
     ensures { λ r. ⌜ CallJudged (now (code .entry)) (now (values .entry)) (now (code .exit)) op h callee first closing r ⌝ }
 {
     let count = count_arguments(code, first, closing);
@@ -356,7 +359,7 @@ fn started_by_name(code: &mut [u8], values: &[u8], i: usize) -> Judged
 
 // A statement that is one word, and may stand here or not.
 fn word(code: &mut [u8], op: u32, fine: bool, i: usize) -> Judged
-    requires { ⌜ (i * 8 + 8 ≤ length (now code)) × (op < 256) × (i < 8192) ⌝ }
+    requires { ⌜ (i * 8 + 8 ≤ length (now code)) × (op < valuePart) × (i < wordLimit) ⌝ }
     ensures { λ r. ⌜ Alone (now (code .entry)) (now (code .exit)) op fine i r ⌝ }
 {
     if !fine {
@@ -368,7 +371,7 @@ fn word(code: &mut [u8], op: u32, fine: bool, i: usize) -> Judged
 
 // A statement with an expression of a type, which stands from a word on.
 fn with_value(code: &mut [u8], values: &[u8], op: u32, wants: Type, from: usize, i: usize) -> Judged
-    requires { ⌜ Values (now code) (now values) from i × (op < 256) × IsType wants ⌝ }
+    requires { ⌜ Values (now code) (now values) from i × (op < valuePart) × IsType wants ⌝ }
     ensures { λ r. ⌜ Valued (now (code .entry)) (now (values .entry)) (now (code .exit)) op wants from i r ⌝ }
 {
     let r = expressions::of_type(code, values, false, wants, from);
@@ -421,7 +424,7 @@ fn width(b: u8) -> usize
 
 // How many characters n bytes are.
 fn characters(text: &[u8], first: usize, n: usize) -> usize
-    requires { ⌜ (first + n ≤ length (now text)) × (n < 256) × (first ≤ 65536) ⌝ }
+    requires { ⌜ (first + n ≤ length (now text)) × (n < charactersPart) × (first ≤ linkPart) ⌝ }
     ensures { λ r. ⌜ Characters (now (text .entry)) first n r ⌝ }
 {
     let mut k = 0;

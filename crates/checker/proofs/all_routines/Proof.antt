@@ -1,7 +1,6 @@
 -- `checker::all_routines` meets its contract. The invariant: the first k routines are checked. The measure: the words that are left.
 use Prim.Native.Nat.{_-_}
-use native.Mathlib.Omega.{arith}
-use Rattle.checker.proofs.Going.{Invariant, going-begins, k-small, routine-begins, routine-found, routine-done, routine-less, routines-done}
+use Rattle.checker.proofs.RoutineWalk.{Invariant, going-begins, count-fits, routine-begins, routine-found, routine-done, routine-less, routines-done}
 use borrow.Author.Needs.{needs}
 use Rattle.checker.proofs.all_routines.Statement.{statement}
 use Rattle.checker.proofs.all_routines.Tie as tie
@@ -34,10 +33,7 @@ enum-known-r : tie.Need-enum-known-r Inv-loop μ-loop
 enum-known-r c = search needs
 
 add-k : tie.Need-add-k Inv-loop μ-loop
-add-k c =
-    let at-loop-test = c .before .before .before .before .before .before .before .before .before .before in
-    let at-loop = at-loop-test .before in
-    omega (arith, k-small _ _ _ _ _ _ _ _ _ (at-loop .loop .inv) (at-loop-test .loop-test .taken))
+add-k c = search (needs, count-fits)
 
 loop-less : tie.Need-loop-less Inv-loop μ-loop
 loop-less c = search (needs, routine-less)

@@ -1,4 +1,4 @@
-use Rattle.checker.proofs.Parting.{code-small, values-small, counted, parts-whole, checked-parts}
+use Rattle.checker.proofs.LentStores.{code-small, values-small, counted, parts-whole, checked-parts}
 use borrow.Author.Needs.{needs}
 use Rattle.checker.proofs.check.Statement.{statement}
 use Rattle.checker.proofs.check.Tie as tie

@@ -1,4 +1,4 @@
-use Rattle.checker.proofs.Passing.{clean-now, accepted-so, refused-so}
+use Rattle.checker.proofs.Passes.{clean-now, accepted-so, refused-so}
 use borrow.Author.Needs.{needs}
 use Rattle.checker.proofs.check_cells.Statement.{statement}
 use Rattle.checker.proofs.check_cells.Tie as tie

@@ -1,4 +1,4 @@
-use Rattle.checker.proofs.Passing.{words-lent, form-right, form-refused}
+use Rattle.checker.proofs.Passes.{words-lent, form-right, form-refused}
 use borrow.Author.Needs.{needs}
 use Rattle.checker.proofs.judge_form.Statement.{statement}
 use Rattle.checker.proofs.judge_form.Tie as tie

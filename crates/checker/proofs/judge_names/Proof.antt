@@ -1,4 +1,4 @@
-use Rattle.checker.proofs.Passing.{words-few, words-fit, count-small, count-fits, names-refused, main-missing, names-accepted}
+use Rattle.checker.proofs.Passes.{words-few, words-fit, count-small, count-fits, names-refused, main-missing, names-accepted}
 use borrow.Author.Needs.{needs}
 use Rattle.checker.proofs.judge_names.Statement.{statement}
 use Rattle.checker.proofs.judge_names.Tie as tie

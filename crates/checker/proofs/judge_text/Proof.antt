@@ -1,4 +1,4 @@
-use Rattle.checker.proofs.Passing.{cells-ready, words-laid, text-refused, text-read}
+use Rattle.checker.proofs.Passes.{cells-ready, words-laid, text-refused, text-read}
 use borrow.Author.Needs.{needs}
 use Rattle.checker.proofs.judge_text.Statement.{statement}
 use Rattle.checker.proofs.judge_text.Tie as tie

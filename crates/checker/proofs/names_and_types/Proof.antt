@@ -1,10 +1,34 @@
 -- `checker::names_and_types` meets its contract.
-use Rattle.checker.proofs.Laying.{heads-begin}
-use Rattle.checker.proofs.Naming.{data-stand, data-found, one-less, routines-stand, routines-found, main-none, main-some}
+use Rattle.checker.proofs.Loaded.{heads-begin}
+use Rattle.checker.proofs.NamesWalk.{data-stand, data-found, one-less, routines-stand, routines-found, main-none, main-some}
 use native.Mathlib.Omega.{arith}
 use borrow.Author.Needs.{needs}
 use Rattle.checker.proofs.names_and_types.Statement.{statement}
 use Rattle.checker.proofs.names_and_types.Tie as tie
+
+-- the calls before, by the place behind the reading of the data's answer: the data's own, the reading of the heads, and the start
+abbrev data-call : tie.After-d2 → tie.After-module-data
+data-call d = d .before .before .before .before .before .before
+
+abbrev heads-call : tie.After-d2 → tie.After-read
+heads-call d = let m = data-call d in m .before .before .before .before .before .before .before
+
+abbrev start : tie.After-d2 → tie.Start
+start d = let h = heads-call d in h .before .before .before .before .before .before
+
+-- both stores are as long as before that call
+abbrev data-code : tie.After-d2 → tie.After-code2
+data-code d = d .before .before .before .before .before
+
+abbrev data-values : tie.After-d2 → tie.After-values2
+data-values d = d .before .before .before
+
+-- the walk of the routines, by the place behind it
+abbrev walk-call : tie.After-values3 → tie.After-all-routines
+walk-call z = z .before .before .before
+
+abbrev walk-code : tie.After-values3 → tie.After-code3
+walk-code z = z .before .before
 
 read-requires : tie.Need-read-requires
 read-requires c κs = search (needs, heads-begin)
@@ -23,12 +47,9 @@ sub-all-routines c = search (needs, one-less)
 
 all-routines-requires : tie.Need-all-routines-requires
 all-routines-requires c κs =
-    let at-code2 = c .before .before .before .before .before .before .before .before in
-    let at-module-data = at-code2 .before in
-    let at-read = at-module-data .before .before .before .before .before .before .before in
-    let start = at-read .before .before .before .before .before .before in
-    routines-stand _ _ _ _ (start .pre) _ _ _ (at-read .read .ensures) _ _ _ (at-module-data .module-data .ensures) _ _
-    (c .before .before .before .d2 .given .1) (omega (arith, at-code2 .code2 .given))
+    let d = c .before .before .before in
+    routines-stand _ _ _ _ (start d .pre) _ _ _ (heads-call d .read .ensures) _ _ _ (data-call d .module-data .ensures) _ _ (d .d2 .given .1)
+    (omega (arith, data-code d .code2 .given))
 
 enum-known-r : tie.Need-enum-known-r
 enum-known-r c = search needs
@@ -44,21 +65,11 @@ same-length-2 c = search needs
 
 returns : tie.Need-returns
 returns c =
-    let at-values3 = c .before .before .before .before in
-    let at-code3 = at-values3 .before .before in
-    let at-all-routines = at-code3 .before in
-    let at-d2 = at-all-routines .before .before .before .before in
-    let at-values2 = at-d2 .before .before .before in
-    let at-code2 = at-values2 .before .before in
-    let at-module-data = at-code2 .before in
-    let at-values = at-module-data .before .before .before .before in
-    let at-code = at-values .before .before in
-    let at-read = at-code .before in
-    let start = at-read .before .before .before .before .before .before in
-    main-none _ _ _ _ (start .pre) _ _ _ (at-read .read .ensures) _ _ _ (at-module-data .module-data .ensures) _ _ (at-d2 .d2 .given .1)
-    (omega (arith, at-code2 .code2 .given)) _ _ _ (at-all-routines .all-routines .ensures)
-    (omega (arith, at-code3 .code3 .given, at-code2 .code2 .given, at-code .code .given))
-    (omega (arith, at-values3 .values3 .given, at-values2 .values2 .given, at-values .values .given)) _ (c .before .enum-told .given .1) (c .if1 .taken)
+    let z = c .before .before .before .before in
+    let d = walk-call z .before .before .before .before in
+    main-none _ _ _ _ (start d .pre) _ _ _ (heads-call d .read .ensures) _ _ _ (data-call d .module-data .ensures) _ _ (d .d2 .given .1)
+    (omega (arith, data-code d .code2 .given)) (omega (arith, data-values d .values2 .given)) _ _ _ (walk-call z .all-routines .ensures)
+    (omega (arith, walk-code z .code3 .given)) (omega (arith, z .values3 .given)) _ (c .before .enum-told .given .1) (c .if1 .taken)
 
 cast-t30 : tie.Need-cast-t30
 cast-t30 c = search needs
@@ -70,16 +81,7 @@ same-length-4 : tie.Need-same-length-4
 same-length-4 c = search needs
 
 returns-2 : tie.Need-returns-2
-returns-2 c =
-    let at-values2 = c .before .before .before .before in
-    let at-code2 = at-values2 .before .before in
-    let at-module-data = at-code2 .before in
-    let at-values = at-module-data .before .before .before .before in
-    let at-code = at-values .before .before in
-    let at-read = at-code .before in
-    let start = at-read .before .before .before .before .before .before in
-    data-found _ _ _ _ (start .pre) _ _ _ (at-read .read .ensures) _ _ _ (at-module-data .module-data .ensures) _ _ (c .before .d .given .1)
-    (omega (arith, at-code2 .code2 .given, at-code .code .given)) (omega (arith, at-values2 .values2 .given, at-values .values .given))
+returns-2 c = search (needs, data-found)
 
 same-length-5 : tie.Need-same-length-5
 same-length-5 c = search needs
@@ -89,21 +91,11 @@ same-length-6 c = search needs
 
 returns-3 : tie.Need-returns-3
 returns-3 c =
-    let at-values3 = c .before .before .before .before in
-    let at-code3 = at-values3 .before .before in
-    let at-all-routines = at-code3 .before in
-    let at-d2 = at-all-routines .before .before .before .before in
-    let at-values2 = at-d2 .before .before .before in
-    let at-code2 = at-values2 .before .before in
-    let at-module-data = at-code2 .before in
-    let at-values = at-module-data .before .before .before .before in
-    let at-code = at-values .before .before in
-    let at-read = at-code .before in
-    let start = at-read .before .before .before .before .before .before in
-    routines-found _ _ _ _ (start .pre) _ _ _ (at-read .read .ensures) _ _ _ (at-module-data .module-data .ensures) _ _ (at-d2 .d2 .given .1)
-    (omega (arith, at-code2 .code2 .given)) _ _ _ (at-all-routines .all-routines .ensures)
-    (omega (arith, at-code3 .code3 .given, at-code2 .code2 .given, at-code .code .given))
-    (omega (arith, at-values3 .values3 .given, at-values2 .values2 .given, at-values .values .given)) _ _ (c .before .r .given .1)
+    let z = c .before .before .before .before in
+    let d = walk-call z .before .before .before .before in
+    routines-found _ _ _ _ (start d .pre) _ _ _ (heads-call d .read .ensures) _ _ _ (data-call d .module-data .ensures) _ _ (d .d2 .given .1)
+    (omega (arith, data-code d .code2 .given)) (omega (arith, data-values d .values2 .given)) _ _ _ (walk-call z .all-routines .ensures)
+    (omega (arith, walk-code z .code3 .given)) (omega (arith, z .values3 .given)) _ _ (c .before .r .given .1)
 
 same-length-7 : tie.Need-same-length-7
 same-length-7 c = search needs
@@ -112,23 +104,7 @@ same-length-8 : tie.Need-same-length-8
 same-length-8 c = search needs
 
 returns-4 : tie.Need-returns-4
-returns-4 c =
-    let at-values3 = c .before .before .before .before .before in
-    let at-code3 = at-values3 .before .before in
-    let at-all-routines = at-code3 .before in
-    let at-d2 = at-all-routines .before .before .before .before in
-    let at-values2 = at-d2 .before .before .before in
-    let at-code2 = at-values2 .before .before in
-    let at-module-data = at-code2 .before in
-    let at-values = at-module-data .before .before .before .before in
-    let at-code = at-values .before .before in
-    let at-read = at-code .before in
-    let start = at-read .before .before .before .before .before .before in
-    main-some _ _ _ _ (start .pre) _ _ _ (at-read .read .ensures) _ _ _ (at-module-data .module-data .ensures) _ _ (at-d2 .d2 .given .1)
-    (omega (arith, at-code2 .code2 .given)) _ _ _ (at-all-routines .all-routines .ensures)
-    (omega (arith, at-code3 .code3 .given, at-code2 .code2 .given, at-code .code .given))
-    (omega (arith, at-values3 .values3 .given, at-values2 .values2 .given, at-values .values .given)) _ (c .before .before .enum-told .given .1)
-    (c .before .if1 .left)
+returns-4 c = search (needs, main-some)
 
 pub names-and-types-spec : {M : Type 1} → statement M
 names-and-types-spec =

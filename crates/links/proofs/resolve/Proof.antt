@@ -1,5 +1,5 @@
 -- `links::resolve` meets its contract.
-use Rattle.links.proofs.Turning.{Passing, passing-start, passing-on, passing-end}
+use Rattle.links.proofs.WordsPass.{Passing, passing-start, passing-on, passing-end}
 use borrow.Author.Needs.{needs}
 use Rattle.links.proofs.resolve.Statement.{statement}
 use Rattle.links.proofs.resolve.Tie as tie

@@ -1,5 +1,5 @@
 use borrow.Author.Needs.{needs}
-use Rattle.links.proofs.Turning.{turned-low, turned}
+use Rattle.links.proofs.WordsPass.{turned-low, turned}
 use Rattle.links.proofs.resolve_word.Statement.{statement}
 use Rattle.links.proofs.resolve_word.Tie as tie
 

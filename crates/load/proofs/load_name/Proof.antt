@@ -1,5 +1,5 @@
 -- `load::load_name` meets its contract.
-use Rattle.load.proofs.Coming.{name-chain, goes-found, goes-new}
+use Rattle.load.proofs.NextWord.{name-chain, goes-found, goes-new}
 use borrow.Author.Needs.{needs}
 use Rattle.load.proofs.load_name.Statement.{statement}
 use Rattle.load.proofs.load_name.Tie as tie

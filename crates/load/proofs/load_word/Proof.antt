@@ -1,5 +1,5 @@
 -- `load::load_word` meets its contract.
-use Rattle.load.proofs.Coming.{name-comes, goes-other}
+use Rattle.load.proofs.NextWord.{name-comes, goes-other}
 use borrow.Author.Needs.{needs}
 use Rattle.load.proofs.load_word.Statement.{statement}
 use Rattle.load.proofs.load_word.Tie as tie

@@ -1,6 +1,6 @@
 -- `load::value_of` meets its contract.
 use native.Mathlib.Omega.{arith}
-use Rattle.load.proofs.Coming.{value-string, value-other}
+use Rattle.load.proofs.NextWord.{value-string, value-other}
 use borrow.Author.Needs.{needs}
 use Rattle.load.proofs.value_of.Statement.{statement}
 use Rattle.load.proofs.value_of.Tie as tie

@@ -2,7 +2,7 @@
 use Prim.Native.Nat.{_-_}
 use lib.ListN.{length}
 use Rattle.words.proofs.Readings.{step-less}
-use Rattle.offsets.proofs.Counting.{Counts, counts-start, counts-other, counts-here, counts-on}
+use Rattle.offsets.proofs.WordCount.{Counts, counts-start, counts-other, counts-here, counts-on}
 use borrow.Author.Needs.{needs}
 use Rattle.offsets.proofs.offset_of.Statement.{statement}
 use Rattle.offsets.proofs.offset_of.Tie as tie

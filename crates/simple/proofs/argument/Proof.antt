@@ -1,5 +1,5 @@
 use borrow.Author.Needs.{needs}
-use Rattle.simple.proofs.Passing.{passed-faulty, passed-wrong, passed-right}
+use Rattle.simple.proofs.ParameterTypes.{passed-faulty, passed-wrong, passed-right}
 use Rattle.simple.proofs.argument.Statement.{statement}
 use Rattle.simple.proofs.argument.Tie as tie
 

@@ -1,11 +1,11 @@
 use borrow.Author.Needs.{needs}
-use Rattle.simple.proofs.Functions.{assign-small, assign-fits, assign-op-fits, call-faulty, call-typed}
+use Rattle.simple.proofs.FunctionCalls.{assign-small, assign-fits, assign-next, assign-op-fits, call-faulty, call-typed}
 use native.Mathlib.Omega.{arith}
 use Rattle.simple.proofs.assign_call.Statement.{statement}
 use Rattle.simple.proofs.assign_call.Tie as tie
 
 add-call-for : tie.Need-add-call-for
-add-call-for c = omega (arith, assign-small _ _ _ _ (c .before .before .before .pre .0))
+add-call-for c = omega (arith, assign-small)
 
 call-for-requires : tie.Need-call-for-requires
 call-for-requires c κs = search needs
@@ -32,11 +32,7 @@ add-set-word : tie.Need-add-set-word
 add-set-word c = search needs
 
 add-set-word-2 : tie.Need-add-set-word-2
-add-set-word-2 c =
-    let at-r = c .before .before .before .before in
-    let at-call-for = at-r .before .before .before .before in
-    let start = at-call-for .before .before .before .before in
-    omega (arith, assign-fits _ _ _ _ _ (start .pre .0) _ _ (at-call-for .call-for .ensures) _ _ (at-r .r .given .1) (start .pre .1) .0)
+add-set-word-2 c = search (needs, assign-next)
 
 set-word-requires : tie.Need-set-word-requires
 set-word-requires c κs =
@@ -47,11 +43,7 @@ set-word-requires c κs =
     (at-call-for .call-for .ensures) _ _ (at-r .r .given .1) (start .pre .1) _ (c .before .head .ensures) in let u = x .0 in let v = x .1 in search needs
 
 add-t12 : tie.Need-add-t12
-add-t12 c =
-    let at-r = c .before .before .before .before .before .before .before in
-    let at-call-for = at-r .before .before .before .before in
-    let start = at-call-for .before .before .before .before in
-    omega (arith, assign-fits _ _ _ _ _ (start .pre .0) _ _ (at-call-for .call-for .ensures) _ _ (at-r .r .given .1) (start .pre .1) .0)
+add-t12 c = search (needs, assign-next)
 
 same-length-2 : tie.Need-same-length-2
 same-length-2 c = search needs

@@ -1,11 +1,11 @@
 use borrow.Author.Needs.{needs}
 use native.Mathlib.Omega.{arith}
-use Rattle.simple.proofs.Assigning.{value-stands, value-small, value-end, assigned-faulty, assigned-typed}
+use Rattle.simple.proofs.Assignments.{value-stands, value-small, value-fits, value-end, assigned-faulty, assigned-typed}
 use Rattle.simple.proofs.assign_value.Statement.{statement}
 use Rattle.simple.proofs.assign_value.Tie as tie
 
 add-of-type : tie.Need-add-of-type
-add-of-type c = omega (arith, value-small _ _ _ _ _ (c .before .before .before .pre))
+add-of-type c = omega (arith, value-small)
 
 of-type-requires : tie.Need-of-type-requires
 of-type-requires c κs = search (needs, value-stands)
@@ -29,11 +29,7 @@ set-link-requires c κs =
     let x = value-end _ _ _ _ _ (start .pre) _ _ (at-of-type .of-type .ensures) _ _ (c .before .before .r .given .1) in (x .1, omega (arith, x .0))
 
 add-set-link : tie.Need-add-set-link
-add-set-link c =
-    let at-r = c .before .before .before .before .before .before in
-    let at-of-type = at-r .before .before .before .before in
-    let start = at-of-type .before .before .before .before in
-    omega (arith, value-end _ _ _ _ _ (start .pre) _ _ (at-of-type .of-type .ensures) _ _ (at-r .r .given .1) .0)
+add-set-link c = search (needs, value-fits)
 
 set-link-requires-2 : tie.Need-set-link-requires-2
 set-link-requires-2 c κs =
@@ -45,11 +41,7 @@ set-link-requires-2 c κs =
     (omega (arith, x .2, at-set-link .set-link .ensures .kept .long), omega (arith, x .0))
 
 add-t11 : tie.Need-add-t11
-add-t11 c =
-    let at-r = c .before .before .before .before .before .before .before .before .before in
-    let at-of-type = at-r .before .before .before .before in
-    let start = at-of-type .before .before .before .before in
-    omega (arith, value-end _ _ _ _ _ (start .pre) _ _ (at-of-type .of-type .ensures) _ _ (at-r .r .given .1) .0)
+add-t11 c = search (needs, value-fits)
 
 same-length-2 : tie.Need-same-length-2
 same-length-2 c = search needs

@@ -1,5 +1,5 @@
 use borrow.Author.Needs.{needs}
-use Rattle.simple.proofs.Whole.{assign-targets, assign-end, call-assigns, call-type, value-assigns, assigned-no-target, assigned-call, assigned-value}
+use Rattle.simple.proofs.Statements.{assign-targets, assign-end, call-assigns, call-type, value-assigns, assigned-no-target, assigned-call, assigned-value}
 use native.Mathlib.Omega.{arith}
 use Rattle.simple.proofs.assignment.Statement.{statement}
 use Rattle.simple.proofs.assignment.Tie as tie

@@ -1,6 +1,6 @@
 use borrow.Author.Needs.{needs}
 use native.Mathlib.Omega.{arith}
-use Rattle.simple.proofs.Calling.{head-room, callee-room, call-asks, first-end, call-more, called-wrong, called-none, called-faulty, called-on}
+use Rattle.simple.proofs.Calls.{head-here, head-small, callee-here, first-small, call-asks, first-end, call-more, called-wrong, called-none, called-faulty, called-on}
 use Rattle.simple.proofs.call.Statement.{statement}
 use Rattle.simple.proofs.call.Tie as tie
 
@@ -8,9 +8,7 @@ count-arguments-requires : tie.Need-count-arguments-requires
 count-arguments-requires c κs = search needs
 
 head-requires : tie.Need-head-requires
-head-requires c κs =
-    let start = c .before .before .before .before .before in
-    head-room _ _ _ _ _ _ (start .pre .0) .0
+head-requires c κs = search (needs, head-here)
 
 same-length : tie.Need-same-length
 same-length c = search needs
@@ -19,14 +17,10 @@ returns : tie.Need-returns
 returns c = search (needs, called-wrong)
 
 cast-set-word : tie.Need-cast-set-word
-cast-set-word c =
-    let start = c .before .before .before .before .before .before .before .before .before in
-    omega (arith, head-room _ _ _ _ _ _ (start .pre .0) .1)
+cast-set-word c = omega (arith, head-small)
 
 set-word-requires : tie.Need-set-word-requires
-set-word-requires c κs =
-    let start = c .before .before .before .before .before .before .before .before .before in
-    let x = callee-room _ _ _ _ _ _ (start .pre .0) in (x .0, start .pre .1, omega (arith, head-room _ _ _ _ _ _ (start .pre .0) .1), omega (arith, x .2))
+set-word-requires c κs = (omega (arith, callee-here), omega arith, omega (arith, head-small), omega (arith, first-small))
 
 same-length-2 : tie.Need-same-length-2
 same-length-2 c = search needs
@@ -35,9 +29,7 @@ returns-2 : tie.Need-returns-2
 returns-2 c = search (needs, called-none)
 
 first-parameter-requires : tie.Need-first-parameter-requires
-first-parameter-requires c κs =
-    let start = c .before .before .before .before .before .before .before .before .before in
-    head-room _ _ _ _ _ _ (start .pre .0)
+first-parameter-requires c κs = (omega (arith, head-here), omega (arith, head-small))
 
 argument-requires : tie.Need-argument-requires
 argument-requires c κs =
@@ -61,9 +53,7 @@ returns-3 : tie.Need-returns-3
 returns-3 c = search (needs, called-faulty)
 
 cast-set-word-2 : tie.Need-cast-set-word-2
-cast-set-word-2 c =
-    let start = c .before .before .before .before .before .before .before .before .before .before .before .before .before .before .before .before .before .before in
-    omega (arith, head-room _ _ _ _ _ _ (start .pre .0) .1)
+cast-set-word-2 c = omega (arith, head-small)
 
 set-word-requires-2 : tie.Need-set-word-requires-2
 set-word-requires-2 c κs =
@@ -76,7 +66,7 @@ set-word-requires-2 c κs =
     let start = at-count-arguments .before .before .before .before in
     let x = first-end _ _ _ _ _ _ (start .pre .0) _ (at-count-arguments .count-arguments .ensures) _ (at-head .head .ensures) (at-if1 .if1 .left)
     (at-if2 .if2 .left) _ (at-first-parameter .first-parameter .ensures) _ _ (at-argument .argument .ensures) _ _ (c .before .before .r .given .1) in
-    (x .1, start .pre .1, omega (arith, head-room _ _ _ _ _ _ (start .pre .0) .1), omega (arith, x .0))
+    (x .1, start .pre .1, omega (arith, head-small), omega (arith, x .0))
 
 more-arguments-requires : tie.Need-more-arguments-requires
 more-arguments-requires c κs =

@@ -1,6 +1,6 @@
 use borrow.Author.Needs.{needs}
 use native.Mathlib.Omega.{arith}
-use Rattle.simple.proofs.Functions.{for-callees, for-small, for-head, for-side, for-wrong, for-differs, for-called}
+use Rattle.simple.proofs.FunctionCalls.{for-callees, for-small, for-head, for-side, for-wrong, for-differs, for-called}
 use Rattle.simple.proofs.call_for.Statement.{statement}
 use Rattle.simple.proofs.call_for.Tie as tie
 
@@ -35,9 +35,7 @@ returns : tie.Need-returns
 returns c = search (needs, for-differs)
 
 add-call : tie.Need-add-call
-add-call c =
-    let start = c .before .before .before .before .before .before .before .before .before .before .before .before in
-    omega (arith, for-small _ _ _ (start .pre))
+add-call c = omega (arith, for-small)
 
 call-requires : tie.Need-call-requires
 call-requires c κs =

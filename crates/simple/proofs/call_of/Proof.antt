@@ -1,5 +1,5 @@
 use borrow.Author.Needs.{needs}
-use Rattle.simple.proofs.Procedures.{of-callees, of-small, of-side, of-end, called-of-wrong, called-of-faulty, called-of-typed}
+use Rattle.simple.proofs.ProcedureCalls.{of-callees, of-small, of-side, of-end, called-of-wrong, called-of-faulty, called-of-typed}
 use native.Mathlib.Omega.{arith}
 use Rattle.simple.proofs.call_of.Statement.{statement}
 use Rattle.simple.proofs.call_of.Tie as tie
@@ -14,9 +14,7 @@ enum-known-h : tie.Need-enum-known-h
 enum-known-h c = search needs
 
 add-call : tie.Need-add-call
-add-call c =
-    let start = c .before .before .before .before .before .before .before .before in
-    omega (arith, of-small _ _ _ (start .pre))
+add-call c = omega (arith, of-small)
 
 call-requires : tie.Need-call-requires
 call-requires c κs =

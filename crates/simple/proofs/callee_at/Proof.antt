@@ -1,5 +1,5 @@
 use borrow.Author.Needs.{needs}
-use Rattle.simple.proofs.Naming.{callee-room, callee-wrong, callee-no-func, callee-func, callee-no-proc, callee-proc}
+use Rattle.simple.proofs.CalleeNames.{callee-room, callee-wrong, callee-no-func, callee-func, callee-no-proc, callee-proc}
 use Rattle.simple.proofs.callee_at.Statement.{statement}
 use Rattle.simple.proofs.callee_at.Tie as tie
 

@@ -1,6 +1,6 @@
 use borrow.Author.Needs.{needs}
 use Prim.Native.Nat.{_-_}
-use Rattle.simple.proofs.Spelling.{Counting, counting-first, counting-on, counting-done}
+use Rattle.simple.proofs.Strings.{Counting, counting-first, counting-on, counting-done}
 use Rattle.simple.proofs.characters.Statement.{statement}
 use Rattle.simple.proofs.characters.Tie as tie
 

@@ -1,5 +1,5 @@
 use borrow.Author.Needs.{needs}
-use Rattle.simple.proofs.Small.{differs-unasked, differs-asked}
+use Rattle.simple.proofs.KindsAndTypes.{differs-unasked, differs-asked}
 use mathlib.Core.Path.{refl}
 use Rattle.simple.proofs.differs.Statement.{statement}
 use Rattle.simple.proofs.differs.Tie as tie

@@ -1,6 +1,6 @@
 use borrow.Author.Needs.{needs}
 use native.Mathlib.Omega.{arith}
-use Rattle.simple.proofs.Aiming.{element-small, index-stands, index-end, element-no-array, element-faulty, element-typed}
+use Rattle.simple.proofs.Targets.{element-small, index-stands, index-fits, index-end, element-no-array, element-faulty, element-typed}
 use Rattle.simple.proofs.element_target.Statement.{statement}
 use Rattle.simple.proofs.element_target.Tie as tie
 
@@ -14,7 +14,7 @@ returns : tie.Need-returns
 returns c = search (needs, element-no-array)
 
 add-of-type : tie.Need-add-of-type
-add-of-type c = omega (arith, element-small _ _ _ _ (c .before .before .before .before .before .pre))
+add-of-type c = omega (arith, element-small)
 
 of-type-requires : tie.Need-of-type-requires
 of-type-requires c κs = search (needs, index-stands)
@@ -51,9 +51,7 @@ set-head-requires c κs =
     let x = index-end _ _ _ _ (start .pre) _ _ (at-of-type .of-type .ensures) _ _ (at-index .index .given .1) .1 in search needs
 
 add-set-link : tie.Need-add-set-link
-add-set-link c =
-    let start = c .before .before .before .before .before .before .before .before .before .before .before .before .before .before .before .before .before .before in
-    omega (arith, element-small _ _ _ _ (start .pre))
+add-set-link c = omega (arith, element-small)
 
 set-link-requires : tie.Need-set-link-requires
 set-link-requires c κs =
@@ -68,12 +66,7 @@ type-of-requires : tie.Need-type-of-requires
 type-of-requires c κs = search needs
 
 add-t12 : tie.Need-add-t12
-add-t12 c =
-    let at-set-head = c .before .before .before .before .before .before .before in
-    let at-index = at-set-head .before .before .before .before .before in
-    let at-of-type = at-index .before .before .before .before in
-    let start = at-of-type .before .before .before .before .before .before in
-    omega (arith, index-end _ _ _ _ (start .pre) _ _ (at-of-type .of-type .ensures) _ _ (at-index .index .given .1) .0)
+add-t12 c = search (needs, index-fits)
 
 same-length-2 : tie.Need-same-length-2
 same-length-2 c = search needs

@@ -1,5 +1,5 @@
 use borrow.Author.Needs.{needs}
-use Rattle.simple.proofs.Small.{parameter-func, parameter-proc}
+use Rattle.simple.proofs.KindsAndTypes.{parameter-func, parameter-proc}
 use Rattle.simple.proofs.first_parameter.Statement.{statement}
 use Rattle.simple.proofs.first_parameter.Tie as tie
 

@@ -1,5 +1,5 @@
 use borrow.Author.Needs.{needs}
-use Rattle.simple.proofs.Small.{call-not, call-is}
+use Rattle.simple.proofs.KindsAndTypes.{call-not, call-is}
 use Rattle.simple.proofs.is_call.Statement.{statement}
 use Rattle.simple.proofs.is_call.Tie as tie
 

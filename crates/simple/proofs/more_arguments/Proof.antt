@@ -1,15 +1,16 @@
 use borrow.Author.Needs.{needs}
 use Prim.Native.Nat.{_-_}
 use native.Mathlib.Omega.{arith}
-use Rattle.simple.proofs.Arguing.{Runs, runs-first, run-room, run-long, run-done, run-asks, run-long-then, run-faulty, run-end, run-on}
+use Rattle.simple.proofs.Arguments.{Runs, runs-first, run-room, run-long, run-done, run-asks, run-long-then, run-faulty, run-end, run-on}
 use Rattle.simple.proofs.more_arguments.Statement.{statement}
 use Rattle.simple.proofs.more_arguments.Tie as tie
+use Rattle.paper.specs.Words.{wordLimit}
 
 abbrev Inv-loop : tie.InvT-loop
 Inv-loop code₀ values p b parameter₀ end₀ code parameter end = Runs code₀ values code p b parameter end
 
 abbrev μ-loop : tie.MeasureT-loop
-μ-loop code₀ values p b parameter₀ end₀ code parameter end = 8192 - end
+μ-loop code₀ values p b parameter₀ end₀ code parameter end = wordLimit - end
 
 loop-holds : tie.Need-loop-holds Inv-loop μ-loop
 loop-holds c = search (needs, runs-first)

@@ -1,20 +1,19 @@
 use borrow.Author.Needs.{needs}
-use Rattle.simple.proofs.Leaving.{raise-room, raise-values, raised-alone, raised-handled, raised-number}
+use Rattle.simple.proofs.SimpleStatements.{stands-here, stands-next, stands-small}
+use Rattle.simple.proofs.ReturnRaiseExit.{raise-values, raised-alone, raised-handled, raised-number}
 use native.Mathlib.Omega.{arith}
 use Rattle.layout.proofs.Typing.{num-type}
 use Rattle.simple.proofs.raises.Statement.{statement}
 use Rattle.simple.proofs.raises.Tie as tie
 
 add-sort : tie.Need-add-sort
-add-sort c = omega (arith, raise-room _ _ _ _ (c .before .before .before .pre) .2)
+add-sort c = omega (arith, stands-small)
 
 sort-requires : tie.Need-sort-requires
-sort-requires c κs = raise-room _ _ _ _ (c .before .before .before .pre) .1
+sort-requires c κs = search (needs, stands-next)
 
 word-requires : tie.Need-word-requires
-word-requires c κs =
-    let start = c .before .before .before .before .before .before in
-    let x = raise-room _ _ _ _ (start .pre) in (x .0, omega arith, omega (arith, x .2))
+word-requires c κs = (omega (arith, stands-here), omega arith, omega (arith, stands-small))
 
 same-length : tie.Need-same-length
 same-length c = search needs
@@ -29,14 +28,10 @@ returns-2 : tie.Need-returns-2
 returns-2 c = search (needs, raised-handled)
 
 add-with-value : tie.Need-add-with-value
-add-with-value c =
-    let start = c .before .before .before .before .before .before .before in
-    omega (arith, raise-room _ _ _ _ (start .pre) .2)
+add-with-value c = omega (arith, stands-small)
 
 with-value-requires : tie.Need-with-value-requires
-with-value-requires c κs =
-    let start = c .before .before .before .before .before .before .before in
-    (raise-values _ _ _ _ (start .pre) _ (c .before .before .before .sort .ensures) (c .before .before .if1 .left), omega arith, num-type)
+with-value-requires c κs = search (needs, raise-values, num-type)
 
 same-length-3 : tie.Need-same-length-3
 same-length-3 c = search needs

@@ -1,11 +1,11 @@
 use borrow.Author.Needs.{needs}
-use Rattle.simple.proofs.Hearing.{reads-targets, reads-small, reads-end, reads-string, reads-room, heard-faulty, heard-wrong, heard-right}
+use Rattle.simple.proofs.TPReadNum.{reads-targets, reads-small, reads-end, reads-next, reads-value, reads-after, reads-string, reads-room, heard-faulty, heard-wrong, heard-right}
 use native.Mathlib.Omega.{arith}
 use Rattle.simple.proofs.reads.Statement.{statement}
 use Rattle.simple.proofs.reads.Tie as tie
 
 add-target : tie.Need-add-target
-add-target c = omega (arith, reads-small _ _ _ _ (c .before .before .before .before .pre))
+add-target c = omega (arith, reads-small)
 
 target-requires : tie.Need-target-requires
 target-requires c κs = search (needs, reads-targets)
@@ -23,9 +23,7 @@ returns : tie.Need-returns
 returns c = search (needs, heard-faulty)
 
 add-t12 : tie.Need-add-t12
-add-t12 c =
-    let start = c .before .before .before .before .before .before .before .before .before .before .before in
-    omega (arith, reads-small _ _ _ _ (start .pre))
+add-t12 c = omega (arith, reads-small)
 
 same-length-2 : tie.Need-same-length-2
 same-length-2 c = search needs
@@ -34,37 +32,19 @@ returns-2 : tie.Need-returns-2
 returns-2 c = search (needs, heard-wrong)
 
 add-string : tie.Need-add-string
-add-string c =
-    let at-target = c .before .before .before .before .before .before .before in
-    let start = at-target .before .before .before .before .before in
-    omega (arith, reads-end _ _ _ _ (start .pre) _ _ (at-target .target .ensures) _ _ (c .before .before .before .r .given .1) .0)
+add-string c = search (needs, reads-next)
 
 string-requires : tie.Need-string-requires
-string-requires c κs =
-    let at-target = c .before .before .before .before .before .before .before in
-    let start = at-target .before .before .before .before .before in
-    reads-string _ _ _ _ (start .pre) _ _ (at-target .target .ensures) _ _ (c .before .before .before .r .given .1) (c .before .if1 .left)
+string-requires c κs = search (needs, reads-string)
 
 add-set-word : tie.Need-add-set-word
-add-set-word c =
-    let at-r = c .before .before .before .before .before .before .before in
-    let at-target = at-r .before .before .before .before in
-    let start = at-target .before .before .before .before .before in
-    omega (arith, reads-end _ _ _ _ (start .pre) _ _ (at-target .target .ensures) _ _ (at-r .r .given .1) .0)
+add-set-word c = search (needs, reads-next)
 
 cast-set-word : tie.Need-cast-set-word
-cast-set-word c =
-    let at-r = c .before .before .before .before .before .before .before in
-    let at-target = at-r .before .before .before .before in
-    let start = at-target .before .before .before .before .before in
-    omega (arith, reads-end _ _ _ _ (start .pre) _ _ (at-target .target .ensures) _ _ (at-r .r .given .1) .0)
+cast-set-word c = search (needs, reads-value)
 
 add-set-word-2 : tie.Need-add-set-word-2
-add-set-word-2 c =
-    let at-r = c .before .before .before .before .before .before .before in
-    let at-target = at-r .before .before .before .before in
-    let start = at-target .before .before .before .before .before in
-    omega (arith, reads-end _ _ _ _ (start .pre) _ _ (at-target .target .ensures) _ _ (at-r .r .given .1) .0)
+add-set-word-2 c = search (needs, reads-after)
 
 set-word-requires : tie.Need-set-word-requires
 set-word-requires c κs =
@@ -82,11 +62,7 @@ set-word-requires c κs =
     )
 
 add-t10 : tie.Need-add-t10
-add-t10 c =
-    let at-r = c .before .before .before .before .before .before .before .before .before .before in
-    let at-target = at-r .before .before .before .before in
-    let start = at-target .before .before .before .before .before in
-    omega (arith, reads-end _ _ _ _ (start .pre) _ _ (at-target .target .ensures) _ _ (at-r .r .given .1) .0)
+add-t10 c = search (needs, reads-after)
 
 same-length-3 : tie.Need-same-length-3
 same-length-3 c = search needs

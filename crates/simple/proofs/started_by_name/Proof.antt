@@ -1,20 +1,18 @@
 use borrow.Author.Needs.{needs}
-use mathlib.Core.Path.{refl}
-use Rattle.simple.proofs.Whole.{name-room, name-becomes, name-brace, name-calls, begun-becomes, begun-brace, begun-calls}
+use Rattle.simple.proofs.SimpleStatements.{stands-next, stands-small}
+use Rattle.simple.proofs.Statements.{name-becomes, name-brace, name-calls, begun-becomes, begun-brace, begun-calls}
 use native.Mathlib.Omega.{arith}
 use Rattle.simple.proofs.started_by_name.Statement.{statement}
 use Rattle.simple.proofs.started_by_name.Tie as tie
 
 add-sort : tie.Need-add-sort
-add-sort c = omega (arith, name-room _ _ _ _ refl (c .before .before .before .pre) .1)
+add-sort c = omega (arith, stands-small)
 
 sort-requires : tie.Need-sort-requires
-sort-requires c κs = name-room _ _ _ _ refl (c .before .before .before .pre) .0
+sort-requires c κs = search (needs, stands-next)
 
 assignment-requires : tie.Need-assignment-requires
-assignment-requires c κs =
-    let start = c .before .before .before .before .before .before in
-    name-becomes _ _ _ _ (c .before .before .sort .ensures) (start .pre) (c .before .if1 .taken)
+assignment-requires c κs = search (needs, name-becomes)
 
 same-length : tie.Need-same-length
 same-length c = search needs
@@ -23,9 +21,7 @@ returns : tie.Need-returns
 returns c = search (needs, begun-becomes)
 
 assignment-requires-2 : tie.Need-assignment-requires-2
-assignment-requires-2 c κs =
-    let start = c .before .before .before .before .before .before .before in
-    name-brace _ _ _ _ (c .before .before .before .sort .ensures) (start .pre) (c .before .if2 .taken)
+assignment-requires-2 c κs = search (needs, name-brace)
 
 same-length-2 : tie.Need-same-length-2
 same-length-2 c = search needs
@@ -34,9 +30,7 @@ returns-2 : tie.Need-returns-2
 returns-2 c = search (needs, begun-brace)
 
 call-of-requires : tie.Need-call-of-requires
-call-of-requires c κs =
-    let start = c .before .before .before .before .before .before .before in
-    name-calls _ _ _ _ (c .before .before .before .sort .ensures) (start .pre) (c .before .before .if1 .left) (c .before .if2 .left)
+call-of-requires c κs = search (needs, name-calls)
 
 same-length-3 : tie.Need-same-length-3
 same-length-3 c = search needs

@@ -1,55 +1,37 @@
 use borrow.Author.Needs.{needs}
-use Rattle.simple.proofs.Whole.{statement-room, begins-by, begins-in, begins-of, begins-read, stated-name, stated-return, stated-raise, stated-write, stated-read}
-use Rattle.simple.proofs.Leaving.{exited, retried, tried-next}
+use Rattle.simple.proofs.SimpleStatements.{stands-here, stands-small}
+use Rattle.simple.proofs.Statements.{begins-by, begins-in, begins-of, begins-read, stated-name, stated-return, stated-raise, stated-write, stated-read}
+use Rattle.simple.proofs.ReturnRaiseExit.{exited, retried, tried-next}
 use native.Mathlib.Omega.{arith}
 use Rattle.simple.proofs.statement.Statement.{statement}
 use Rattle.simple.proofs.statement.Tie as tie
 
 sort-requires : tie.Need-sort-requires
-sort-requires c κs = statement-room _ _ _ _ _ (c .before .before .before .before .pre) .0
+sort-requires c κs = search (needs, stands-here)
 
 started-by-name-requires : tie.Need-started-by-name-requires
-started-by-name-requires c κs =
-    let start = c .before .before .before .before .before .before .before in
-    begins-by _ _ _ _ _ _ (c .before .before .sort .ensures) 1 (c .before .match .keys1) (start .pre)
+started-by-name-requires c κs = search (needs, begins-by)
 
 returns-requires : tie.Need-returns-requires
-returns-requires c κs =
-    let start = c .before .before .before .before .before .before .before in
-    begins-in _ _ _ _ _ _ (c .before .before .sort .ensures) 74 (c .before .match .keys2) (start .pre)
+returns-requires c κs = search (needs, begins-in)
 
 raises-requires : tie.Need-raises-requires
-raises-requires c κs =
-    let start = c .before .before .before .before .before .before .before in
-    begins-in _ _ _ _ _ _ (c .before .before .sort .ensures) 70 (c .before .match .keys3) (start .pre)
+raises-requires c κs = search (needs, begins-in)
 
 word-requires : tie.Need-word-requires
-word-requires c κs =
-    let start = c .before .before .before .before .before .before .before in
-    let x = statement-room _ _ _ _ _ (start .pre) in (x .0, omega arith, x .1)
+word-requires c κs = (omega (arith, stands-here), omega arith, omega (arith, stands-small))
 
 word-requires-2 : tie.Need-word-requires-2
-word-requires-2 c κs =
-    let start = c .before .before .before .before .before .before .before in
-    let x = statement-room _ _ _ _ _ (start .pre) in (x .0, omega arith, x .1)
+word-requires-2 c κs = (omega (arith, stands-here), omega arith, omega (arith, stands-small))
 
 word-requires-3 : tie.Need-word-requires-3
-word-requires-3 c κs =
-    let start = c .before .before .before .before .before .before .before in
-    let x = statement-room _ _ _ _ _ (start .pre) in (x .0, omega arith, x .1)
+word-requires-3 c κs = (omega (arith, stands-here), omega arith, omega (arith, stands-small))
 
 writes-requires : tie.Need-writes-requires
-writes-requires c κs =
-    let start = c .before .before .before .before .before .before .before in
-    begins-of _ _ _ _ _ _ (c .before .before .sort .ensures) 91 (c .before .match .keys7) (start .pre)
+writes-requires c κs = search (needs, begins-of)
 
 reads-requires : tie.Need-reads-requires
-reads-requires c κs =
-    let start = c .before .before .before .before .before .before .before in
-    let other = c .before .match .rest in
-    let first-four = other .0 .0 .0 in
-    begins-read _ _ _ _ _ _ (c .before .before .sort .ensures) (first-four .0 .0 .0 .1) (first-four .0 .0 .1) (first-four .0 .1) (first-four .1) (other .0 .0 .1) (other .0 .1)
-    (other .1) (start .pre)
+reads-requires c κs = search (needs, begins-read)
 
 same-length : tie.Need-same-length
 same-length c = search needs

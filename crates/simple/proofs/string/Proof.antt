@@ -1,5 +1,5 @@
 use borrow.Author.Needs.{needs}
-use Rattle.simple.proofs.Spelling.{string-spelled}
+use Rattle.simple.proofs.Strings.{string-spelled}
 use Rattle.simple.proofs.string.Statement.{statement}
 use Rattle.simple.proofs.string.Tie as tie
 

@@ -1,6 +1,6 @@
 use borrow.Author.Needs.{needs}
 use native.Mathlib.Omega.{arith}
-use Rattle.simple.proofs.Aiming.{target-room, target-asks, element-stands, target-element, target-wrong, target-right}
+use Rattle.simple.proofs.Targets.{target-here, target-next, target-small, target-asks, element-stands, target-element, target-wrong, target-right}
 use Rattle.simple.proofs.target.Statement.{statement}
 use Rattle.simple.proofs.target.Tie as tie
 
@@ -8,10 +8,10 @@ meaning-requires : tie.Need-meaning-requires
 meaning-requires c κs = search (needs, target-asks)
 
 add-sort : tie.Need-add-sort
-add-sort c = omega (arith, target-room _ _ _ (c .before .before .before .before .before .pre) .2)
+add-sort c = omega (arith, target-small)
 
 sort-requires : tie.Need-sort-requires
-sort-requires c κs = target-room _ _ _ (c .before .before .before .before .before .pre) .1
+sort-requires c κs = search (needs, target-next)
 
 element-target-requires : tie.Need-element-target-requires
 element-target-requires c κs =
@@ -47,17 +47,13 @@ value-of-requires : tie.Need-value-of-requires
 value-of-requires c κs = search needs
 
 set-head-requires : tie.Need-set-head-requires
-set-head-requires c κs =
-    let start = c .before .before .before .before .before .before .before .before .before .before .before .before in
-    let x = target-room _ _ _ (start .pre) .0 in search needs
+set-head-requires c κs = search (needs, target-here)
 
 type-of-requires : tie.Need-type-of-requires
 type-of-requires c κs = search needs
 
 add-t11 : tie.Need-add-t11
-add-t11 c =
-    let start = c .before .before .before .before .before .before .before .before .before .before .before .before .before .before .before .before in
-    omega (arith, target-room _ _ _ (start .pre) .2)
+add-t11 c = omega (arith, target-small)
 
 same-length-3 : tie.Need-same-length-3
 same-length-3 c = search needs

@@ -1,6 +1,6 @@
 use borrow.Author.Needs.{needs}
 use native.Mathlib.Omega.{arith}
-use Rattle.simple.proofs.Asking.{values-stands, values-room, values-end, valued-faulty, valued-typed}
+use Rattle.simple.proofs.Expressions.{values-stands, values-room, values-end, valued-faulty, valued-typed}
 use Rattle.simple.proofs.with_value.Statement.{statement}
 use Rattle.simple.proofs.with_value.Tie as tie
 

@@ -1,5 +1,5 @@
 use borrow.Author.Needs.{needs}
-use Rattle.simple.proofs.Writing.{alone-no, alone-yes}
+use Rattle.simple.proofs.OneWord.{alone-no, alone-yes}
 use Rattle.simple.proofs.word.Statement.{statement}
 use Rattle.simple.proofs.word.Tie as tie
 

@@ -1,31 +1,28 @@
 use borrow.Author.Needs.{needs}
 use native.Mathlib.Omega.{arith}
 use Rattle.layout.proofs.Typing.{num-type}
-use Rattle.simple.proofs.Speaking.{writes-string, writes-room, writes-mid, writes-values, writes-small, wrote-number, wrote-plain}
+use Rattle.simple.proofs.SimpleStatements.{stands-small}
+use Rattle.simple.proofs.TPWrite.{writes-string, writes-next, writes-behind, writes-values, writes-fits, wrote-number, wrote-plain}
 use Rattle.simple.proofs.writes.Statement.{statement}
 use Rattle.simple.proofs.writes.Tie as tie
 
 add-string : tie.Need-add-string
-add-string c = omega (arith, writes-room _ _ _ _ (c .before .before .before .before .pre) .0)
+add-string c = omega (arith, stands-small)
 
 string-requires : tie.Need-string-requires
 string-requires c κs = search (needs, writes-string)
 
 add-sort : tie.Need-add-sort
-add-sort c =
-    let start = c .before .before .before .before .before .before .before .before in
-    omega (arith, writes-room _ _ _ _ (start .pre) .1)
+add-sort c = omega (arith, writes-next)
 
 sort-requires : tie.Need-sort-requires
-sort-requires c κs =
-    let start = c .before .before .before .before .before .before .before .before in
-    writes-mid _ _ _ _ (start .pre) _ (c .before .before .before .string .ensures) .1
+sort-requires c κs = search (needs, writes-behind)
 
 add-with-value : tie.Need-add-with-value
 add-with-value c =
     let at-string = c .before .before .before .before .before .before in
     let start = at-string .before .before .before .before .before in
-    omega (arith, writes-small _ _ _ _ (start .pre) _ (at-string .string .ensures) _ (c .before .before .sort .ensures) (c .before .if1 .taken))
+    writes-fits _ _ _ _ (start .pre) _ (at-string .string .ensures) _ (c .before .before .sort .ensures) (c .before .if1 .taken)
 
 with-value-requires : tie.Need-with-value-requires
 with-value-requires c κs =
@@ -40,20 +37,16 @@ returns : tie.Need-returns
 returns c = search (needs, wrote-number)
 
 add-set-word : tie.Need-add-set-word
-add-set-word c =
-    let start = c .before .before .before .before .before .before .before .before .before .before .before in
-    omega (arith, writes-room _ _ _ _ (start .pre) .1)
+add-set-word c = omega (arith, writes-next)
 
 set-word-requires : tie.Need-set-word-requires
 set-word-requires c κs =
     let at-string = c .before .before .before .before .before .before in
     let start = at-string .before .before .before .before .before in
-    (writes-mid _ _ _ _ (start .pre) _ (at-string .string .ensures) .2, omega arith, omega arith, omega (arith, writes-room _ _ _ _ (start .pre) .1))
+    let x = writes-behind _ _ _ _ (start .pre) _ (at-string .string .ensures) in omega (arith, writes-next)
 
 add-t8 : tie.Need-add-t8
-add-t8 c =
-    let start = c .before .before .before .before .before .before .before .before .before .before .before .before .before .before in
-    omega (arith, writes-room _ _ _ _ (start .pre) .1)
+add-t8 c = omega (arith, writes-next)
 
 same-length-2 : tie.Need-same-length-2
 same-length-2 c = search needs

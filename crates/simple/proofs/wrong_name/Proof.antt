@@ -1,5 +1,5 @@
 use borrow.Author.Needs.{needs}
-use Rattle.simple.proofs.Small.{wrong-none, wrong-high, wrong-other}
+use Rattle.simple.proofs.KindsAndTypes.{wrong-none, wrong-high, wrong-other}
 use Rattle.simple.proofs.wrong_name.Statement.{statement}
 use Rattle.simple.proofs.wrong_name.Tie as tie
 

@@ -2,16 +2,15 @@ use borrow.Author.Needs.{needs}
 use mathlib.Core.Path.{_≡_}
 use Prim.Native.Nat.{_-_}
 use Rattle.paper.specs.Expressions.{startsRoutine}
-use Rattle.form.specs.Places.{sortsIn, repeated, routineAt, routines}
+use Rattle.form.specs.Places.{sortsIn, routines}
 use Rattle.form.proofs.Reading.{branches, goes-on}
-use Rattle.form.proofs.Loops.{repeats-refused, repeats-less, repeats-on, repeats-end}
-use Rattle.form.proofs.Moves.{routine-at-on}
-use Rattle.form.proofs.Routines.{routine-fits, routine-is, no-routine, routines-begin}
+use Rattle.form.proofs.Loops.{behind-fits, repeats-refused, repeats-less, repeats-on, repeats-end}
+use Rattle.form.proofs.Moves.{no-routine, routine-kind}
 use Rattle.form.proofs.Read.routines.Statement.{statement}
 use Rattle.form.proofs.Read.routines.Tie as tie
 
 abbrev Inv-loop : tie.InvT-loop
-Inv-loop code words at n₀ n = routines (sortsIn code words) at ≡ repeated (sortsIn code words) startsRoutine (routineAt (sortsIn code words)) n
+Inv-loop code words at n₀ n = routines (sortsIn code words) at ≡ routines (sortsIn code words) n
 
 abbrev μ-loop : tie.MeasureT-loop
 μ-loop code words at n₀ n = words - n
@@ -26,7 +25,7 @@ returns : tie.Need-returns Inv-loop μ-loop
 returns c = search (needs, branches)
 
 loop-holds : tie.Need-loop-holds Inv-loop μ-loop
-loop-holds c = search (needs, routines-begin)
+loop-holds c = search needs
 
 sort-requires : tie.Need-sort-requires Inv-loop μ-loop
 sort-requires c κs = search needs
@@ -35,7 +34,7 @@ starts-routine-requires : tie.Need-starts-routine-requires Inv-loop μ-loop
 starts-routine-requires c κs = search needs
 
 add-routine : tie.Need-add-routine Inv-loop μ-loop
-add-routine c = search (needs, routine-fits)
+add-routine c = search (needs, behind-fits startsRoutine no-routine)
 
 routine-requires : tie.Need-routine-requires Inv-loop μ-loop
 routine-requires c κs = search needs
@@ -47,16 +46,16 @@ enum-told-2 : tie.Need-enum-told-2 Inv-loop μ-loop
 enum-told-2 c = search needs
 
 returns-2 : tie.Need-returns-2 Inv-loop μ-loop
-returns-2 c = search (needs, goes-on, repeats-refused, routine-is, routine-at-on, no-routine)
+returns-2 c = search (needs, goes-on, repeats-refused, routine-kind)
 
 loop-less : tie.Need-loop-less Inv-loop μ-loop
-loop-less c = search (needs, repeats-less, routine-is, routine-at-on, no-routine)
+loop-less c = search (needs, repeats-less, routine-kind)
 
 loop-again : tie.Need-loop-again Inv-loop μ-loop
-loop-again c = search (needs, repeats-on, routine-is, routine-at-on, no-routine)
+loop-again c = search (needs, repeats-on, routine-kind)
 
 returns-3 : tie.Need-returns-3 Inv-loop μ-loop
-returns-3 c = search (needs, goes-on, repeats-end, routine-is, routine-at-on, no-routine)
+returns-3 c = search (needs, goes-on, repeats-end, routine-kind)
 
 pub routines-spec : {M : Type 1} → statement M
 routines-spec =

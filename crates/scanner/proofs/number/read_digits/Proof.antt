@@ -1,6 +1,6 @@
 -- `scanner::number::read_digits` meets its contract. The invariant: what the digits so far write.
 use Prim.Native.Nat.{_-_}
-use Rattle.scanner.proofs.Values.{Passed, passed-start, passed-more, passed-stop, passed-out, digit-range}
+use Rattle.scanner.proofs.Values.{Passed, passed-start, passed-digit, passed-more, passed-stop, passed-out}
 use borrow.Author.Needs.{needs}
 use Rattle.scanner.proofs.number.read_digits.Statement.{statement}
 use Rattle.scanner.proofs.number.read_digits.Tie as tie
@@ -21,7 +21,7 @@ is-digit-requires : tie.Need-is-digit-requires Inv-loop μ-loop
 is-digit-requires c κs = search needs
 
 with-digit-requires : tie.Need-with-digit-requires Inv-loop μ-loop
-with-digit-requires c κs = let d = digit-range _ _ (c .before .is-digit .ensures) (c .if1 .taken) in (d .0, d .1, c .before .before .before .before .loop .inv .small)
+with-digit-requires c κs = let turn = c .before .before .before .before in passed-digit _ _ _ (turn .loop .inv) _ _ (c .before .is-digit .ensures) (c .if1 .taken)
 
 add-length : tie.Need-add-length Inv-loop μ-loop
 add-length c = search needs

@@ -60,9 +60,7 @@ sub-room : tie.Need-sub-room Inv-loop μ-loop
 sub-room c = search needs
 
 add-n-2 : tie.Need-add-n-2 Inv-loop μ-loop
-add-n-2 c =
-    let test = c .before .before in
-    record { fits = omega (arith, joined test .place, test .before .before .before .before .before .good .0) }
+add-n-2 c = let at = joined (c .before .before) .place in search needs
 
 loop-less : tie.Need-loop-less Inv-loop μ-loop
 loop-less c = omega (arith, joined (c .before .before) .place, onward (c .before .before))
