@@ -325,7 +325,8 @@ module _ (here : Asking) where
     read-none e = record {
       steps = λ last. silent text code values values inputs out base last i (toZ w64 (inputLacked + i)) refl (λ c x y. refl) (p .prints .written)
           (λ h x rooms lw l steps.
-          lacks noInput i (stepHere code values base i h .place) (toZ-pos w64 {n = inputLacked + i} (omega (arith, read-low text code values inputs out base i s p q))) (omega arith) (omega arith) (omega (arith, read-low text code values inputs out base i s p q)) (place-here code values base i h) refl refl
+          lacks noInput i (stepHere code values base i h .place) (toZ-pos w64 {n = inputLacked + i} (omega (arith, read-low text code values inputs out base i s p q)))
+          (omega arith) (omega arith) (omega (arith, read-low text code values inputs out base i s p q)) (place-here code values base i h) refl refl
           (added-effect h x rooms l steps
           ∙ taking-none _ _ _ (drop (stateHere code values base i h rooms steps out .used) (rooms .inputs)) _ (inputs-are h rooms l steps ∙ no-input inputs used e)));
     }
