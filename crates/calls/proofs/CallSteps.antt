@@ -3,7 +3,7 @@ use mathlib.Core.Path.{_≡_, refl, sym, ap, ap₂, subst, _∙_}
 use mathlib.Core.Bool.{true, false}
 use mathlib.Core.List.{List}
 use mathlib.Core.Option.{none, some}
-use Prim.Native.Nat.{ℕ, suc, _+_, _*_, _/_, _%_, _<_, _≤_}
+use Prim.Native.Nat.{ℕ, suc, _+_, _-_, _*_, _/_, _%_, _<_, _≤_}
 use native.Mathlib.Omega.{arith}
 use lib.Dec.{T, ltb}
 use lib.ListN.{length, getD}
@@ -22,7 +22,7 @@ use Rattle.paper.specs.Running.{perform, calling}
 use Rattle.cells.specs.Words.{wordsOf}
 use Rattle.numbers.proofs.Whole.{read}
 use Rattle.code.specs.Cells.{opAt, linkAt, windowOf}
-use Rattle.code.specs.Steps.{Head, aCallTarget, anyArguments, aNextArgument, aProcedureCall}
+use Rattle.code.specs.Steps.{Head, parts, aCallTarget, anyArguments, aNextArgument, aProcedureCall}
 use Rattle.code.specs.Holds.{CalleeIn}
 use Rattle.code.specs.Windows.{writtenCell, usedCell, resultIn}
 use Rattle.code.proofs.Options.{same-some}
@@ -31,7 +31,7 @@ use Rattle.evaluation.specs.Answers.{firstError}
 use Rattle.evaluation.proofs.Places.{link-in}
 use Rattle.reading.specs.Reading.{halfEnd, Part}
 use Rattle.machine.specs.Live.{wordsOfCall, codeOfCall, ResultFits, nowhere, inModule, inCaller}
-use Rattle.machine.specs.Machine.{Here, Calls}
+use Rattle.machine.specs.Machine.{storeBytes, Here, Calls}
 use Rattle.targets.specs.Targets.{refCell, RefFits, spotIn, Aims}
 use Rattle.calls.specs.Calling.{Passes, Passed, MayEnter, Entered, Deepest, goesOnAt, Calling, MayCall, CallsFor}
 use Rattle.machine.proofs.Actions.{reads-call-for, reads-call-of, some-arguments, argument-more, argument-last}
@@ -210,8 +210,8 @@ module _ (code values : List ℕ) (base i : ℕ) where
           let q : anyArguments m n f (h .text) (h .R) (wordsOf code) (read-at .j + 3) 0 ≡ some (read-at .es, read-at .closes) = ap (anyArguments m n f (h .text) (h .R) (wordsOf code) (read-at .j + 3)) (sym e) ∙ read-at .arguments in
           let p = some-arguments m n f (h .text) (h .R) (wordsOf code) (read-at .j + 3) 0 (read-at .es) (read-at .closes) (λ y. omega arith) q in
           by-same (opAt (wordsOf code) 0) aNextArgument
-          (λ y. let x = argument-more m n f (h .text) (h .R) (wordsOf code) (read-at .j + 3) 0 (read-at .es) (read-at .closes) 8191 p y in omega (arith, span-grows m n (wordsOf code) (read-at .j + 3) 0 (x .e) (x .reads)))
-          (λ y. let x = argument-last m n f (h .text) (h .R) (wordsOf code) (read-at .j + 3) 0 (read-at .es) (read-at .closes) 8191 p y in omega (arith, span-grows m n (wordsOf code) (read-at .j + 3) 0 (x .e) (x .reads)))
+          (λ y. let x = argument-more m n f (h .text) (h .R) (wordsOf code) (read-at .j + 3) 0 (read-at .es) (read-at .closes) (parts - 1) p y in omega (arith, span-grows m n (wordsOf code) (read-at .j + 3) 0 (x .e) (x .reads)))
+          (λ y. let x = argument-last m n f (h .text) (h .R) (wordsOf code) (read-at .j + 3) 0 (read-at .es) (read-at .closes) (parts - 1) p y in omega (arith, span-grows m n (wordsOf code) (read-at .j + 3) 0 (x .e) (x .reads)))
 
       callee-in : (next + 1) * 8 + 8 ≤ length code
       callee-in = link-in code (next + 1) (here.whole-here code values base i h) callee-linked
@@ -265,7 +265,7 @@ module _ (code values : List ℕ) (base i : ℕ) where
     pub to-first : Fits w64 (next + 3)
     to-first = record { fits = omega (arith, callee-at, cf .here .code-size) }
 
-    pub to-cell : cell < 1048576
+    pub to-cell : cell < storeBytes
     to-cell =
         let a = cf .aims (cf .here) in
         omega (arith, a .cell-is, cf .here .base-is, cf .here .deep, cell-most (length (cf .here .P .words)) (wordsOfCall (codeOfCall (cf .here .P) (cf .here .R) (wordsOf values) (cf .here .d))) base (a .w) 1 (a .fits) (cf .here .holds .room) (here.routine-holds code values base i (cf .here) .room))

@@ -32,6 +32,7 @@ use Rattle.calls.specs.Calling.{Passes, Argued, given, raises, Passed, E
 use Rattle.machine.proofs.Agreeing.{SameIn}
 use Rattle.machine.proofs.States.{roomy, depth-is, past}
 use Rattle.machine.proofs.Living.{routine-code, fits-same, live-past}
+use Rattle.machine.proofs.Elsewhere.{elsewhere}
 use Rattle.machine.proofs.Current as here
 use Rattle.layout.specs.Answers.{answers, lacked}
 use Rattle.paper.specs.Answer.{storeWords}
@@ -44,12 +45,12 @@ pub record Given (c : Counts) (values after : List ℕ) (base : ℕ) (room : Boo
   pub count : length zs ≡ length es
   pub goes : (S : State) (go : List ℤ → Effect) → withValues (answers.memoryOf c values base) es S go ≡ go zs
   pub holds : room ≡ true → Holding (wordsOf after) (base + windowCells) zs
-  pub small : closes < 65536
+  pub small : closes < answers
   pub is : r ≡ pos (closes + answers * (base + windowCells + length es))
 
 pub record Raised (c : Counts) (values : List ℕ) (base : ℕ) (es : List Term) (r : ℤ) : Type 0 where
   pub e : ℕ
-  pub small : e < 65536
+  pub small : e < answers
   pub goes : (S : State) (go : List ℤ → Effect) → withValues (answers.memoryOf c values base) es S go ≡ failing e S
   pub is : r ≡ pos (firstError + e)
 
@@ -84,7 +85,7 @@ module _ (code values : List ℕ) (base i : ℕ) where
     pub no-room : ltb base last ≡ false → rooms .depth ≤ suc (h .d)
     no-room t = omega (arith, ltb-false base last t, h .base-is, lw .is, lw .some)
 
-    pub call-passes : (first end callee result : ℕ) → Calling code values base i h first end callee result → end < 65536 → Passes code values base first end (ltb base last)
+    pub call-passes : (first end callee result : ℕ) → Calling code values base i h first end callee result → end < answers → Passes code values base first end (ltb base last)
     call-passes first end callee result g s = record {
       c = here.counts-here code values base i h;
       function = here.codeHere code values base i h .function;
@@ -124,19 +125,7 @@ module _ (code values : List ℕ) (base i : ℕ) where
       code-same = routine-code (h .P) (h .R) (wordsOf values) (wordsOf after) (h .d) same-routine
 
       abbrev pub here-after : Here code after base i
-      here-after = record {
-        text = h .text;
-        P = h .P;
-        R = h .R;
-        offset = h .offset;
-        holds = h .holds;
-        code-size = h .code-size;
-        values-size = ps .long ∙ h .values-size;
-        d = h .d;
-        deep = h .deep;
-        base-is = h .base-is;
-        live = live-same;
-      }
+      here-after = elsewhere h after (h .d) base i (ps .long) (h .deep) (h .base-is) live-same
 
     module _ (h : Here code values base i) (callee result : ℕ) (g : Calling code values base i h first end callee result) where
       argued : Argued (here.counts-here code values base i h) values after base (ltb base last) (g .es) (g .closes) r

@@ -24,11 +24,12 @@ use Rattle.code.specs.Windows.{endsCell, stepsCell, routineCell, waitsCell, aft
 use Rattle.evaluation.specs.Answers.{callWords}
 use Rattle.reading.specs.Reading.{valueEnd, halfEnd, Part}
 use Rattle.machine.specs.Live.{wordsOfCall, codeOfCall, ResultFits, nowhere, inModule, inCaller, noneFailed, Sane, Waits, Below, Live}
-use Rattle.machine.specs.Machine.{Here, entered, depthLimit}
+use Rattle.machine.specs.Machine.{Here, entered, depthLimit, storeBytes}
 use Rattle.starting.specs.Starting.{Holding, Starts, Started}
 use Rattle.calls.specs.Calling.{Enters, MayEnter, Entered}
 use Rattle.machine.proofs.Agreeing.{Same, SameIn, set-same}
-use Rattle.machine.proofs.States.{storeWords, Roomy, roomy, entered-state, past, call-waits}
+use Rattle.paper.specs.Answer.{storeWords}
+use Rattle.machine.proofs.States.{Roomy, roomy, entered-state, past, call-waits}
 use Rattle.machine.proofs.Living.{routine-code, fits-same, live-waits, live-past}
 use Rattle.starting.proofs.Writing.{holding-append, holding-same, holding-zeros}
 use Rattle.starting.proofs.Fresh.{FreshIn, call-fresh}
@@ -36,7 +37,7 @@ use Rattle.paper.specs.Declarations.{moduleWordLimit}
 use Rattle.machine.proofs.Current as here
 
 -- a result goes to a cell that a word can name
-pub result-small : (P : Program) (R : List Head) (X : List ℕ) (e r : ℕ) → length (P .words) ≤ moduleWordLimit → ((k : ℕ) → wordsOfCall (codeAt P k) ≤ callWords) → e < depthLimit → ResultFits P R X e r → r < 65536
+pub result-small : (P : Program) (R : List Head) (X : List ℕ) (e r : ℕ) → length (P .words) ≤ moduleWordLimit → ((k : ℕ) → wordsOfCall (codeAt P k) ≤ callWords) → e < depthLimit → ResultFits P R X e r → r < storeBytes
 result-small P R X e r m n d (nowhere z) = omega arith
 result-small P R X e r m n d (inModule k h z) = omega arith
 result-small P R X e r m n d (inCaller c k q h z) = omega (arith, n (numbered R (getD X (windowOf c + routineCell) 0)))

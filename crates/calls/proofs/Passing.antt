@@ -42,7 +42,7 @@ use Rattle.paper.specs.Words.{wordLimit}
 use Rattle.starting.proofs.Writing.{holding-one}
 
 -- ---- two numbers in one
-pub packed-is : (low high : ℕ) → low < 65536 → high < 65536 → toZ w64 (low + answers * high) ≡ pos (low + answers * high)
+pub packed-is : (low high : ℕ) → low < answers → high < answers → toZ w64 (low + answers * high) ≡ pos (low + answers * high)
 packed-is low high a b = toZ-pos w64 (low + answers * high) (omega arith)
 
 -- ---- a comma
@@ -127,12 +127,12 @@ module _ (code before : List ℕ) (base : ℕ) (room : Bool) where
     pub long : length now ≡ length before
     pub below : (c : ℕ) → c < base + windowCells → getD (wordsOf now) c 0 ≡ getD (wordsOf before) c 0
     pub idle : room ≡ false → wordsOf now ≡ wordsOf before
-    pub small : b < 65536
+    pub small : b < answers
     pub left : (c : Counts) (function : Bool) (text : List ℕ) (R : List Head) (es : List Term) (closes : ℕ) → anyArguments (c .m) (c .n) function text R (wordsOf code) first end ≡ some (es, closes)
         → Left c function text R es closes now a b n
 
   module _ (first end : ℕ) (p : Passes code before base first end room) where
-    pub next-small : base + windowCells < 65536
+    pub next-small : base + windowCells < answers
     next-small = omega (arith, p .high)
 
     pub none-passed : first ≡ end → (r : ℤ) → SFits w64 r → r ≡ pos (end + answers * (base + windowCells)) → Passed code before before base first end room (read r)
@@ -155,7 +155,7 @@ module _ (code before : List ℕ) (base : ℕ) (room : Bool) where
       idle = λ x. refl;
       small = p .small;
       left = λ c f t R es closes q. record {
-        f = 8191;
+        f = parts - 1;
         fuel = omega arith;
         rest = es;
         reads = some-arguments (c .m) (c .n) f t R (wordsOf code) first end es closes h q;
@@ -206,7 +206,7 @@ module _ (code before : List ℕ) (base : ℕ) (room : Bool) where
     pub pass-inside : room ≡ true → n * 4 + 4 ≤ length now
     pass-inside h = omega (arith, g .asks .cells h, ghost .next, count-is, g .asks .few, g .long)
 
-    pub pass-next : n + 1 < 65536
+    pub pass-next : n + 1 < answers
     pass-next = omega (arith, g .asks .high, ghost .next, count-is, g .asks .few)
 
     -- the word that ends it is a comma, or none

@@ -42,13 +42,13 @@ pub record Passes (code values : List ℕ) (base first end : ℕ) (room : Bool) 
   pub low : firstWindow ≤ base
   pub high : base < storeWords
   pub code-size : length code ≡ storeBytes
-  pub small : end < 65536
+  pub small : end < answers
 
 -- What the answer r says of them: the word that closes them and, above it, the cell behind those that they go to; or the error of one.
 pub data Argued (c : Counts) (values after : List ℕ) (base : ℕ) (room : Bool) (es : List Term) (closes : ℕ) (r : ℤ) : Type 0 where
   given : (zs : List ℤ) → length zs ≡ length es → ((S : State) (go : List ℤ → Effect) → withValues (memoryOf c values base) es S go ≡ go zs)
-      → (room ≡ true → Holding (wordsOf after) (base + windowCells) zs) → closes < 65536 → r ≡ pos (closes + answers * (base + windowCells + length es)) → Argued c values after base room es closes r
-  raises : (e : ℕ) → e < 65536 → ((S : State) (go : List ℤ → Effect) → withValues (memoryOf c values base) es S go ≡ failing e S) → r ≡ pos (firstError + e) → Argued c values after base room es closes r
+      → (room ≡ true → Holding (wordsOf after) (base + windowCells) zs) → closes < answers → r ≡ pos (closes + answers * (base + windowCells + length es)) → Argued c values after base room es closes r
+  raises : (e : ℕ) → e < answers → ((S : State) (go : List ℤ → Effect) → withValues (memoryOf c values base) es S go ≡ failing e S) → r ≡ pos (firstError + e) → Argued c values after base room es closes r
 
 -- One of them, with its value: it goes to a cell where there is room.
 pub record Let (before after : List ℕ) (room : Bool) (n : ℕ) (v : ℤ) : Type 0 where

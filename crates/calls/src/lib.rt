@@ -10,7 +10,8 @@ ghost use mir.Val.{SFits};
 ghost use Rattle.cells.specs.Words.{wordsOf};
 ghost use Rattle.code.specs.Cells.{opAt};
 ghost use Rattle.code.specs.Steps.{aNextArgument, aProcedureCall, aCallTarget};
-ghost use Rattle.machine.specs.Machine.{Here, Calls};
+ghost use Rattle.layout.specs.Answers.{answers};
+ghost use Rattle.machine.specs.Machine.{storeBytes, Here, Calls};
 ghost use Rattle.targets.specs.Targets.{WordAt, ArrayAt};
 ghost use Rattle.calls.specs.Calling.{Let, Passes, Passed, MayEnter, Entered, goesOnAt, MayCall, CallsFor, Deepest};
 use evaluation::worth;
@@ -36,15 +37,15 @@ use targets::element;
 
 // Two numbers in one. It goes through 32 bits, by which the compiler sees that it is no error.
 fn packed(low: usize, high: usize) -> i64
-    requires { ⌜ (low < 65536) × (high < 65536) ⌝ }
-    ensures { λ r. ⌜ r ≡ pos (low + 65536 * high) ⌝ }
+    requires { ⌜ (low < answers) × (high < answers) ⌝ }
+    ensures { λ r. ⌜ r ≡ pos (low + answers * high) ⌝ }
 {
     (low + answers::ANSWERS * high) as u32 as i64
 }
 
 // A comma stands at a word, which may lie past the store.
 fn is_comma(code: &[u8], b: usize) -> bool
-    requires { ⌜ length (now code) ≡ 65536 ⌝ }
+    requires { ⌜ length (now code) ≡ storeBytes ⌝ }
     ensures { λ r. ⌜ r ≡ eqb (opAt (wordsOf (now (code .entry))) b) aNextArgument ⌝ }
 {
     if b < limits::WORDS {

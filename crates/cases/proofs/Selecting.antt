@@ -17,14 +17,14 @@ use Rattle.paper.specs.Numbers.{same}
 use Rattle.paper.specs.Running.{holds, matching}
 use Rattle.cells.specs.Words.{wordsOf}
 use Rattle.numbers.proofs.Whole.{read, bits-same, minus-cases}
-use Rattle.code.specs.Cells.{headAt, opAt, placeAt, linkAt}
+use Rattle.code.specs.Cells.{opIn, valueIn, headAt, opAt, placeAt, linkAt}
 use Rattle.code.specs.Spans.{_then_, bias}
 use Rattle.code.specs.Steps.{Head, parts, aCase, aNextValue, anOtherwise, constantAt, valuesIn, casesIn}
 use Rattle.code.proofs.Options.{none-some, guarded, went}
 use Rattle.evaluation.proofs.Places.{op-in}
 use Rattle.evaluation.proofs.Numbers.{same-bits}
 use Rattle.evaluation.proofs.Operators.{sum-fits}
-use Rattle.reading.specs.Reading.{halfEnd, Part, cellValues}
+use Rattle.reading.specs.Reading.{halfEnd, valueEnd, Part, cellValues}
 use Rattle.cases.specs.Cases.{Cases, Matches}
 use Rattle.machine.proofs.Actions.{first-is, second-is}
 use Rattle.machine.proofs.Hops.{hops, hops-on, hops-end, hops-more, hops-less}
@@ -35,7 +35,7 @@ further C j = not (eqb (opAt C j) anOtherwise)
 
 -- as many words as there can be: a list of values, and then lists of cases with their values
 abbrev pub most : ℕ
-most = 67117057
+most = suc (parts + parts * parts)
 
 abbrev pub wordsLeft : List ℕ → ℕ → ℕ
 wordsLeft code j = hops (further (wordsOf code)) (linkAt (wordsOf code)) most j
@@ -160,10 +160,10 @@ module _ (m n : ℕ) (function : Bool) (text : List ℕ) (R : List Head) (C : Li
       rw q (omega (arith, hops-on (further C) (linkAt C) (suc (g + N)) j (on-word j (λ z. omega arith)), values-hops g N step (linkAt C j) (a .rest) k (a .more) h)))
       (λ o. stays (suc g) N j k (no-other step j vs k (suc g) e o .k-is) h)
 
-  ends-hops : (f j : ℕ) (cs : List (List ℤ × ℕ)) (o : ℕ) → cases (suc f) j ≡ some (cs, o) → (opAt C j ≡ aCase → ⊥) → hopping (suc (suc f * 8192)) j < suc (suc f * 8192)
-  ends-hops f j cs o e k = omega (arith, hops-end (further C) (linkAt C) (suc f * 8192) j (last-word j (otherwise j cs o f e k .op-is)))
+  ends-hops : (f j : ℕ) (cs : List (List ℤ × ℕ)) (o : ℕ) → cases (suc f) j ≡ some (cs, o) → (opAt C j ≡ aCase → ⊥) → hopping (suc (suc f * parts)) j < suc (suc f * parts)
+  ends-hops f j cs o e k = omega (arith, hops-end (further C) (linkAt C) (suc f * parts) j (last-word j (otherwise j cs o f e k .op-is)))
 
-  cases-hops : (f j : ℕ) (cs : List (List ℤ × ℕ)) (o : ℕ) → cases (suc f) j ≡ some (cs, o) → hopping (suc (suc f * 8192)) j < suc (suc f * 8192)
+  cases-hops : (f j : ℕ) (cs : List (List ℤ × ℕ)) (o : ℕ) → cases (suc f) j ≡ some (cs, o) → hopping (suc (suc f * parts)) j < suc (suc f * parts)
   cases-hops zero j cs o e =
       by-same (opAt C j) aCase
       (λ k. let a = a-case j cs o zero e k in absurd (omega (arith, cases-some (a .k) (a .rest) o zero (a .more))))
@@ -172,11 +172,11 @@ module _ (m n : ℕ) (function : Bool) (text : List ℕ) (R : List Head) (C : Li
       by-same (opAt C j) aCase
       (λ k.
       let a = a-case j cs o (suc f) e k in
-      let q : suc (suc f) * 8192 ≡ suc (8191 + suc f * 8192) = omega arith in
+      let q : suc (suc f) * parts ≡ suc (parts - 1 + suc f * parts) = omega arith in
       rw q (omega (
         arith,
-        hops-on (further C) (linkAt C) (suc (8191 + suc f * 8192)) j (on-word j (λ z. omega arith)),
-        values-hops 8191 (suc f * 8192) (placeAt C j) (linkAt C j) (a .vs) (a .k) (a .valued) (cases-hops f (a .k) (a .rest) o (a .more)),
+        hops-on (further C) (linkAt C) (suc (parts - 1 + suc f * parts)) j (on-word j (λ z. omega arith)),
+        values-hops (parts - 1) (suc f * parts) (placeAt C j) (linkAt C j) (a .vs) (a .k) (a .valued) (cases-hops f (a .k) (a .rest) o (a .more)),
       )))
       (λ k. ends-hops (suc f) j cs o e k)
 
@@ -224,10 +224,10 @@ module _ (m n : ℕ) (function : Bool) (text : List ℕ) (R : List Head) (C : Li
     starts : (first : ℕ) (cs : List (List ℤ × ℕ)) (o : ℕ) → cases parts first ≡ some (cs, o) → Rest v (matching v cs o) first
     unfolding valuesIn
     starts first cs o e =
-        let h : opAt C first ≡ aNextValue → ⊥ = λ z. by-same (opAt C first) aCase (λ k. omega arith) (λ k. omega (arith, otherwise first cs o 8191 e k .op-is)) in
+        let h : opAt C first ≡ aNextValue → ⊥ = λ z. by-same (opAt C first) aCase (λ k. omega arith) (λ k. omega (arith, otherwise first cs o (parts - 1) e k .op-is)) in
         record {
           g = 0;
-          f = 8191;
+          f = parts - 1;
           g-most = omega arith;
           f-most = omega arith;
           step = 0;
@@ -303,7 +303,7 @@ module _ (m n : ℕ) (function : Bool) (text : List ℕ) (R : List Head) (C : Li
             let y = cases-some (a .k) (a .rest) (l .o) (l .f) (a .more) in
             let q : l .f ≡ suc (l .f - 1) = omega arith in
             record {
-              g = 8191;
+              g = parts - 1;
               f = l .f - 1;
               g-most = omega arith;
               f-most = omega (arith, l .f-most);
@@ -320,8 +320,8 @@ module _ (m n : ℕ) (function : Bool) (text : List ℕ) (R : List Head) (C : Li
     -- a turn takes a word
     pub rest-less : (goal j : ℕ) → (opAt C j ≡ anOtherwise → ⊥) → Rest v goal (linkAt C j) → hopping most (linkAt C j) < hopping most j
     rest-less goal j z l =
-        hops-less (further C) (linkAt C) (suc (l .g + suc (l .f) * 8192)) most j (on-word j z)
-        (values-hops (l .g) (suc (l .f) * 8192) (l .step) (linkAt C j) (l .vs) (l .k) (l .valued) (cases-hops (l .f) (l .k) (l .cs) (l .o) (l .cased)))
+        hops-less (further C) (linkAt C) (suc (l .g + suc (l .f) * parts)) most j (on-word j z)
+        (values-hops (l .g) (suc (l .f) * parts) (l .step) (linkAt C j) (l .vs) (l .k) (l .valued) (cases-hops (l .f) (l .k) (l .cs) (l .o) (l .cased)))
         (omega (arith, l .g-most, l .f-most))
 
 -- ---- what the loop keeps
@@ -339,7 +339,7 @@ module _ (code : List ℕ) (first : ℕ) (v : ℤ) where
     pub key-fits : SFits w64 (read v +ℤ pos bias)
     key-fits = sum-fits v (pos bias) sv (record { sfits = omega arith }) fv (record { sfits = omega arith })
 
-    module _ (x : ℕ) (hx : x < 16777216) where
+    module _ (x : ℕ) (hx : x < valueEnd) where
       constant : ℤ
       constant = pos x -ℤ pos bias
 
@@ -366,8 +366,8 @@ module _ (code : List ℕ) (first : ℕ) (v : ℤ) where
 
     -- ---- a turn of the loop
     module _ (j : ℕ) (l : Searching j) (w : ℕ) (ew : w ≡ headAt (wordsOf code) j) where
-      op-is : w % 256 ≡ opAt (wordsOf code) j
-      op-is = ap (λ (y : ℕ). y % 256) ew
+      op-is : opIn w ≡ opAt (wordsOf code) j
+      op-is = ap opIn ew
 
       found : (r : ℕ) → Part halfEnd (placeAt (wordsOf code) j) r
           → ((m n : ℕ) (function : Bool) (text : List ℕ) (R : List Head) (cs : List (List ℤ × ℕ)) (o : ℕ)
@@ -375,31 +375,31 @@ module _ (code : List ℕ) (first : ℕ) (v : ℤ) where
           → Matches code first v r
       found r p f = record { is = λ m n function text R cs o e. p .same ∙ f m n function text R cs o e; small = p .small }
 
-      ends-there : w % 256 ≡ anOtherwise → (r : ℕ) → Part halfEnd (placeAt (wordsOf code) j) r → Matches code first v r
+      ends-there : opIn w ≡ anOtherwise → (r : ℕ) → Part halfEnd (placeAt (wordsOf code) j) r → Matches code first v r
       ends-there k r p =
           found r p (λ m n function text R cs o e. rest-ends m n function text R (wordsOf code) v (matching v cs o) j (l .left m n function text R cs o e) (sym op-is ∙ k))
 
-      module _ (k : w % 256 ≡ anOtherwise → ⊥) (hw : w < cellValues) where
-        same-constant : (b : Bool) → same v (pos (w / 256) -ℤ pos bias) ≡ b → same v (constantAt (wordsOf code) j) ≡ b
+      module _ (k : opIn w ≡ anOtherwise → ⊥) (hw : w < cellValues) where
+        same-constant : (b : Bool) → same v (pos (valueIn w) -ℤ pos bias) ≡ b → same v (constantAt (wordsOf code) j) ≡ b
         unfolding constantAt
-        same-constant b e = ap (λ (y : ℕ). same v (pos (y / 256) -ℤ pos bias)) (sym ew) ∙ e
+        same-constant b e = ap (λ (y : ℕ). same v (pos (valueIn y) -ℤ pos bias)) (sym ew) ∙ e
 
-        finds-there : w / 256 ≡ ofZ w64 (read v +ℤ pos bias) → (r : ℕ) → Part halfEnd (placeAt (wordsOf code) j) r → Matches code first v r
+        finds-there : valueIn w ≡ ofZ w64 (read v +ℤ pos bias) → (r : ℕ) → Part halfEnd (placeAt (wordsOf code) j) r → Matches code first v r
         unfolding constant
         finds-there e r p =
             found r p (λ m n function text R cs o y. rest-takes m n function text R (wordsOf code) v (matching v cs o) j (l .left m n function text R cs o y) (λ z. k (op-is ∙ z))
-            (same-constant true (key-same (w / 256) (omega arith) e)))
+            (same-constant true (key-same (valueIn w) (omega arith) e)))
 
-        goes-on : (w / 256 ≡ ofZ w64 (read v +ℤ pos bias) → ⊥) → Searching (linkAt (wordsOf code) j)
+        goes-on : (valueIn w ≡ ofZ w64 (read v +ℤ pos bias) → ⊥) → Searching (linkAt (wordsOf code) j)
         unfolding constant
         goes-on e = record {
           cases-are = l .cases-are;
           left = λ m n function text R cs o y.
               rest-passes m n function text R (wordsOf code) v (matching v cs o) j (l .left m n function text R cs o y) (λ z. k (op-is ∙ z))
-              (same-constant false (key-other (w / 256) (omega arith) e));
+              (same-constant false (key-other (valueIn w) (omega arith) e));
         }
 
-        goes-less : (w / 256 ≡ ofZ w64 (read v +ℤ pos bias) → ⊥) → wordsLeft code (linkAt (wordsOf code) j) < wordsLeft code j
+        goes-less : (valueIn w ≡ ofZ w64 (read v +ℤ pos bias) → ⊥) → wordsLeft code (linkAt (wordsOf code) j) < wordsLeft code j
         goes-less e =
             let c = l .cases-are in
             rest-less (c .m) (c .n) (c .function) (c .text) (c .R) (wordsOf code) v (matching v (c .cs) (c .o)) j (λ z. k (op-is ∙ z))
@@ -420,14 +420,14 @@ module _ (code : List ℕ) (first : ℕ) (v : ℤ) (sv : SFits w64 v) where
         op-in code j (c .whole) (rest-op (c .m) (c .n) (c .function) (c .text) (c .R) (wordsOf code) (read v) (matching (read v) (c .cs) (c .o)) j (l .left (c .m) (c .n) (c .function) (c .text) (c .R) (c .cs) (c .o) (c .is)))
 
     module _ (fv : SFits w32 v) (w : ℕ) (ew : w ≡ headAt (wordsOf code) j) where
-      pub search-ends : w % 256 ≡ anOtherwise → (r : ℕ) → Part halfEnd (placeAt (wordsOf code) j) r → Matches code first v r
+      pub search-ends : opIn w ≡ anOtherwise → (r : ℕ) → Part halfEnd (placeAt (wordsOf code) j) r → Matches code first v r
       search-ends k r p = ends-there code first v sv fv j unread w ew k r p
 
-      module _ (k : w % 256 ≡ anOtherwise → ⊥) (hw : w < cellValues) where
-        pub search-finds : w / 256 ≡ ofZ w64 (read v +ℤ pos bias) → (r : ℕ) → Part halfEnd (placeAt (wordsOf code) j) r → Matches code first v r
+      module _ (k : opIn w ≡ anOtherwise → ⊥) (hw : w < cellValues) where
+        pub search-finds : valueIn w ≡ ofZ w64 (read v +ℤ pos bias) → (r : ℕ) → Part halfEnd (placeAt (wordsOf code) j) r → Matches code first v r
         search-finds e r p = finds-there code first v sv fv j unread w ew k hw e r p
 
-        module _ (e : w / 256 ≡ ofZ w64 (read v +ℤ pos bias) → ⊥) (b : ℕ) (p : Part halfEnd (linkAt (wordsOf code) j) b) where
+        module _ (e : valueIn w ≡ ofZ w64 (read v +ℤ pos bias) → ⊥) (b : ℕ) (p : Part halfEnd (linkAt (wordsOf code) j) b) where
           pub search-on : Searching code first (read v) b
           search-on = rw (p .same, toZ-ofZ sv) (goes-on code first v sv fv j unread w ew k hw e)
 

@@ -24,7 +24,7 @@ use Rattle.numbers.proofs.Whole.{read}
 use Rattle.code.specs.Cells.{valueAt, linkAt}
 use Rattle.code.specs.Spans.{termIn}
 use Rattle.code.specs.Closed.{isNamed, Named, targetsOf}
-use Rattle.code.specs.Steps.{aRaiseOf, aCompactIf, aWhile, parts}
+use Rattle.code.specs.Steps.{aRaiseOf, aCompactIf, aWhile}
 use Rattle.layout.specs.Answers.{answers}
 use Rattle.evaluation.specs.Answers.{firstError, Stands, Evaluated}
 use Rattle.evaluation.proofs.Places.{value-in}
@@ -62,8 +62,8 @@ module _ (code values : List ℕ) (base i : ℕ) where
     pub if-stands : Here code values base i → Stands code (i + 1) t
     if-stands h = decided-stands code values base i t if-goes if-decides h
 
-    pub if-small : Here code values base i → t < parts
-    if-small h = omega (arith, q .value-is, small-name code values base i h (valueAt (wordsOf code) i) (if-named h .1) .1)
+    pub if-small : Here code values base i → SFits w64 (pos t)
+    if-small h = record { sfits = omega (arith, q .value-is, small-name code values base i h (valueAt (wordsOf code) i) (if-named h .1) .1) }
 
     module _ (r : ℤ) (s : SFits w64 r) (v : Evaluated code values base (i + 1) t r) where
       pub if-fails : leZ (pos firstError) (read r) ≡ true → Performs code values values base i (read r)

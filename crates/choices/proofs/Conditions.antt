@@ -21,7 +21,7 @@ use Rattle.paper.specs.States.{Rooms, Effect, made, goTo, onTop, memoryOf, with
 use Rattle.paper.specs.Running.{perform, choosing}
 use Rattle.cells.specs.Words.{wordsOf}
 use Rattle.numbers.proofs.Whole.{read}
-use Rattle.code.specs.Cells.{headAt, opAt, valueAt, linkAt}
+use Rattle.code.specs.Cells.{opIn, valueIn, headAt, opAt, valueAt, linkAt}
 use Rattle.code.specs.Spans.{termIn}
 use Rattle.code.specs.Steps.{anElseIf, parts, conditionsIn, anIf}
 use Rattle.code.specs.Closed.{isNamed, Named, whereOf, targetsOf}
@@ -209,11 +209,11 @@ module _ (code values : List ℕ) (base i : ℕ) where
           head-is : w ≡ headAt (wordsOf code) (linkAt (wordsOf code) t)
           head-is = ew ∙ ap (headAt (wordsOf code)) (p .same)
 
-          op-is : w % 256 ≡ opAt (wordsOf code) (linkAt (wordsOf code) t)
-          op-is = ap (λ (y : ℕ). y % 256) head-is
+          op-is : opIn w ≡ opAt (wordsOf code) (linkAt (wordsOf code) t)
+          op-is = ap opIn head-is
 
           -- no other follows
-          pub none-holds : (w % 256 ≡ anElseIf → ⊥) → Performs code values values base i (toZ w64 b)
+          pub none-holds : (opIn w ≡ anElseIf → ⊥) → Performs code values values base i (toZ w64 b)
           unfolding going choosing last
           none-holds x =
               let o : opAt (wordsOf code) (linkAt (wordsOf code) t) ≡ anElseIf → ⊥ = λ y. x (op-is ∙ y) in
@@ -222,7 +222,7 @@ module _ (code values : List ℕ) (base i : ℕ) where
               (goes j t (λ h. last h j t o (l .left h)) r s v k true (told-zero r s z) h rooms steps out
               ∙ ap (λ (y : ℕ). made (onTop (goTo y) (stateHere code values base i h rooms steps out))) (condition-last _ _ _ _ _ _ j t (l .left h .cs) (l .left h .o) (l .left h .f) (l .left h .reads) o .o-is))))
 
-          module _ (x : w % 256 ≡ anElseIf) where
+          module _ (x : opIn w ≡ anElseIf) where
             other : opAt (wordsOf code) (linkAt (wordsOf code) t) ≡ anElseIf
             other = sym op-is ∙ x
 
@@ -244,13 +244,13 @@ module _ (code values : List ℕ) (base i : ℕ) where
                   effect = λ rooms steps out. goes j t (λ h. more h j t other (l .left h)) r s v k true (told-zero r s z) h rooms steps out;
                 }
 
-            value-is : w / 256 ≡ valueAt (wordsOf code) (linkAt (wordsOf code) t)
-            value-is = ap (λ (y : ℕ). y / 256) head-is
+            value-is : valueIn w ≡ valueAt (wordsOf code) (linkAt (wordsOf code) t)
+            value-is = ap valueIn head-is
 
-            pub tries-next : Trying b (w / 256)
+            pub tries-next : Trying b (valueIn w)
             tries-next = record { here = l .here; left = λ h. rw (p .same, value-is) (behind h) }
 
-            pub tries-less : conditionsLeft code (w / 256) < conditionsLeft code t
+            pub tries-less : conditionsLeft code (valueIn w) < conditionsLeft code t
             unfolding behind
             tries-less =
                 let a = behind (l .here) in

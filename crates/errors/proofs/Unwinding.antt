@@ -27,14 +27,16 @@ use Rattle.code.specs.Steps.{Head, noHead}
 use Rattle.code.specs.Closed.{isNamed}
 use Rattle.code.specs.Holds.{optionally}
 use Rattle.code.specs.Windows.{routineCell, waitsCell, failedCell, callIn, waiting, stateIn}
-use Rattle.evaluation.specs.Answers.{firstError}
+use Rattle.layout.specs.Answers.{firstError, answers}
+use Rattle.evaluation.specs.Parts.{addresses}
 use Rattle.errors.specs.declared.Taken.{Taken}
 use Rattle.machine.specs.Live.{Live, hasFailed, routineOfCall, codeOfCall}
 use Rattle.machine.specs.Machine.{handed, Here}
 use Rattle.errors.specs.Errors as errors
 use Rattle.errors.specs.Errors.{HasRoutine, handlerAt, Seeks, Nearest, Takes, dies, Unwound, Raises, raises, handsOn, Settles, stops, resumes, Arisen, KeepsRun}
 use Rattle.machine.proofs.States.{roomy, goes-to, call-failed, errno-cell}
-use Rattle.machine.proofs.Living.{live-next, live-left, live-failed, live-errno}
+use Rattle.machine.proofs.Living.{live-next, live-caller, live-failed, live-errno}
+use Rattle.machine.proofs.Elsewhere.{elsewhere, caller}
 use Rattle.machine.proofs.Current.{codeHere, routine-holds, small-name}
 use Rattle.reading.specs.Reading.{cellValues}
 use Rattle.errors.proofs.Cases.{none-case, some-case, positive}
@@ -95,21 +97,7 @@ seek-start code values base i h = record { e = h .d; up = omega arith; base-is =
 module _ (code values : List ℕ) (base i b s : ℕ) (k : Seeking code values base i b s) (h : Here code values base i) where
   -- the call that was come to
   pub come : Here code values b s
-  come =
-      let q = k h in
-      record {
-        text = h .text;
-        P = h .P;
-        R = h .R;
-        offset = h .offset;
-        holds = h .holds;
-        code-size = h .code-size;
-        values-size = h .values-size;
-        d = q .e;
-        deep = omega (arith, q .up, h .deep);
-        base-is = q .base-is;
-        live = q .live;
-      }
+  come = let q = k h in elsewhere h values (q .e) b s refl (omega (arith, q .up, h .deep)) (q .base-is) (q .live)
 
   pub seek-routine : HasRoutine code values b
   seek-routine = has-routine code values b s come
@@ -119,17 +107,17 @@ module _ (code values : List ℕ) (base i b s : ℕ) (k : Seeking code values ba
 
   -- past main's window there is a caller's
   module _ (d : b ≡ firstWindow → ⊥) where
-    pub seek-above : 1264 ≤ b
+    pub seek-above : windowOf 1 ≤ b
     seek-above = above (k h .e) (k h .base-is)
       where
-        above : (e : ℕ) → b ≡ windowOf e → 1264 ≤ b
+        above : (e : ℕ) → b ≡ windowOf e → windowOf 1 ≤ b
         above zero z = absurd (d z)
         above (suc e) z = omega arith
 
   pub seek-get : (j : ℕ) → j < windowCells → (b - windowCells + j) * 4 + 4 ≤ length values
   seek-get j l = omega (arith, seek-in)
 
-  pub seek-add : (j : ℕ) → j < windowCells → b - windowCells + j < 18446744073709551616
+  pub seek-add : (j : ℕ) → j < windowCells → b - windowCells + j < addresses
   seek-add j l = omega (arith, seek-in, h .values-size)
 
   pub seek-sub : (b ≡ firstWindow → ⊥) → windowCells ≤ b
@@ -148,14 +136,12 @@ module _ (code values : List ℕ) (base i b s : ℕ) (k : Seeking code values ba
       → Seeks (h .P) (h .R) (wordsOf values) (h .d) i (b - windowCells) (getD (wordsOf values) (b - windowCells + waitsCell) 0)
   unfolding waiting
   up-one h q e z n =
-      let w = live-left (h .P) (h .R) (wordsOf values) (q .e) e s z (q .live) in
       let a : b - windowCells ≡ windowOf e = omega (arith, q .base-is) in
-      let l : Live (h .P) (h .R) (wordsOf values) e (getD (wordsOf values) (windowOf e + waitsCell) 0) = record { top = w .0 .sane; named = w .0 .waits; below = w .1; errno = q .live .errno } in
       record {
         e = e;
         up = omega (arith, q .up);
         base-is = a;
-        live = subst (λ (j : ℕ). Live (h .P) (h .R) (wordsOf values) e (getD (wordsOf values) (j + waitsCell) 0)) (sym a) l;
+        live = live-caller (h .P) (h .R) (wordsOf values) (q .e) e s z (q .live) (b - windowCells) (getD (wordsOf values) (b - windowCells + waitsCell) 0) a refl;
         rest = q .rest ∙ caught-on (h .P) (callIn (h .P) (h .R) (wordsOf values) (windowOf (q .e)) s) (waiting (h .P) (h .R) (wordsOf values) (q .e)) n
             ∙ ap (λ (j : ℕ). caught (h .P) (waiting (h .P) (h .R) (wordsOf values) j)) z
             ∙ ap (λ (j : ℕ). caught (h .P) (callIn (h .P) (h .R) (wordsOf values) (windowOf e) (getD (wordsOf values) (j + waitsCell) 0) ∷ waiting (h .P) (h .R) (wordsOf values) e)) (sym a);
@@ -199,7 +185,7 @@ module _ (code values : List ℕ) (base i : ℕ) (t : Taken) (nr : Nearest code 
     pub found-get : (j : ℕ) → j < windowCells → (t .base + j) * 4 + 4 ≤ length values
     found-get j l = omega (arith, found-in)
 
-    pub found-add : (j : ℕ) → j < windowCells → t .base + j < 18446744073709551616
+    pub found-add : (j : ℕ) → j < windowCells → t .base + j < addresses
     found-add j l = omega (arith, found-in, h .values-size)
 
     pub found-small : t .next < cellValues
@@ -322,7 +308,7 @@ module _ (r : ℤ) (f : SFits w64 r) (a : Raises r) where
 
   pub record Raised : Type 0 where
     pub e : ℕ
-    pub low : e < 65536
+    pub low : e < answers
     pub is : r ≡ pos (firstError + e)
 
   module _ (t : leZ (pos firstError) (read r) ≡ true) where
@@ -360,21 +346,11 @@ module _ (r : ℤ) (f : SFits w64 r) (a : Raises r) where
       absurd (omega (arith, leb-false firstError (firstError + e) g))
 
 -- ERRNO is set
-module _ (code values mid : List ℕ) (base i e : ℕ) (p : Put values mid errnoCell e) (h : Here code values base i) (l : e < 65536) where
+module _ (code values mid : List ℕ) (base i e : ℕ) (p : Put values mid errnoCell e) (h : Here code values base i) (l : e < answers) where
   pub errno-here : Here code mid base i
-  errno-here = record {
-    text = h .text;
-    P = h .P;
-    R = h .R;
-    offset = h .offset;
-    holds = h .holds;
-    code-size = h .code-size;
-    values-size = put-length p (omega (arith, h .values-size)) ∙ h .values-size;
-    d = h .d;
-    deep = h .deep;
-    base-is = h .base-is;
-    live = rw (p .words) (live-errno (h .P) (h .R) (wordsOf values) (h .d) errnoCell e i (h .live) refl (omega (arith, length-words values, h .values-size)) (omega arith));
-  }
+  errno-here =
+      elsewhere h mid (h .d) base i (put-length p (omega (arith, h .values-size))) (h .deep) (h .base-is)
+      (rw (p .words) (live-errno (h .P) (h .R) (wordsOf values) (h .d) errnoCell e i (h .live) refl (omega (arith, length-words values, h .values-size)) (omega arith)))
 
   errno-state : (steps : ℕ) (out : List ℕ) → stateIn (h .P) (h .R) (wordsOf mid) (h .d) i steps out ≡ withErrno e (stateIn (h .P) (h .R) (wordsOf values) (h .d) i steps out)
   errno-state steps out = rw (p .words) (errno-cell (h .P) (h .R) (wordsOf values) (h .d) (roomy h) e i steps out)
@@ -422,7 +398,7 @@ module _ (code values : List ℕ) (base i : ℕ) (r : ℤ) (f : SFits w64 r) (a 
       fails = λ h e z steps place out.
           let e-is : e ≡ natAbs (read r) - firstError = raised-same r f a t e z in
           let s = stateIn (h .P) (h .R) (wordsOf values) (h .d) i steps out in
-          let low : natAbs (read r) - firstError < 65536 = omega (arith, raised-is r f a t, raised r f a t .low) in
+          let low : natAbs (read r) - firstError < answers = omega (arith, raised-is r f a t, raised r f a t .low) in
           let st = errno-state code values mid base i (natAbs (read r) - firstError) p h low steps out in
           subst (λ (cs : List Call). Settles (h .P) (h .R) (wordsOf after) (h .d) i steps place out k (arising (h .P) e place cs s))
           (sym (calls-of (h .P) (h .R) (wordsOf mid) (h .d) i steps out) ∙ ap (λ (x : State). x .calls) st)
@@ -444,27 +420,8 @@ module _ (code values : List ℕ) (base i : ℕ) (r : ℤ) (f : SFits w64 r) (a 
     }
 
     module _ (m : base ≡ firstWindow → ⊥) (w : ℕ) (ew : w ≡ getD (wordsOf values) (base - windowCells + waitsCell) 0) where
-      caller : (h : Here code values base i) (e : ℕ) → h .d ≡ suc e → Live (h .P) (h .R) (wordsOf values) e w
-      caller h e z =
-          let q = live-left (h .P) (h .R) (wordsOf values) (h .d) e i z (h .live) in
-          let b : base - windowCells ≡ windowOf e = omega (arith, h .base-is) in
-          let ws : w ≡ getD (wordsOf values) (windowOf e + waitsCell) 0 = ew ∙ ap (λ (j : ℕ). getD (wordsOf values) (j + waitsCell) 0) b in
-          subst (Live (h .P) (h .R) (wordsOf values) e) (sym ws) (record { top = q .0 .sane; named = q .0 .waits; below = q .1; errno = h .live .errno })
-
       one-up : (h : Here code values base i) (e : ℕ) → h .d ≡ suc e → Here code values (base - windowCells) w
-      one-up h e z = record {
-        text = h .text;
-        P = h .P;
-        R = h .R;
-        offset = h .offset;
-        holds = h .holds;
-        code-size = h .code-size;
-        values-size = h .values-size;
-        d = e;
-        deep = omega (arith, h .deep);
-        base-is = omega (arith, h .base-is);
-        live = caller h e z;
-      }
+      one-up h e z = caller h e z (base - windowCells) w (omega (arith, h .base-is)) ew
 
       above : (h : Here code values base i) (d : ℕ) → h .d ≡ d → Here code values (base - windowCells) w
       above h zero z = absurd (m (h .base-is ∙ ap windowOf z))

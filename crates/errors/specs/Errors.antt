@@ -13,7 +13,7 @@ use Rattle.cells.specs.Words.{wordsOf}
 use Rattle.code.specs.Cells.{windowOf, linkAt, errnoCell}
 use Rattle.code.specs.Steps.{Head}
 use Rattle.code.specs.Windows.{routineCell, writtenCell, usedCell, callIn, waiting, stateIn}
-use Rattle.evaluation.specs.Answers.{firstError}
+use Rattle.layout.specs.Answers.{firstError, answers}
 use Rattle.errors.specs.declared.Taken.{Taken}
 use Rattle.machine.specs.Live.{Live}
 use Rattle.machine.specs.Machine.{depthLimit, handed, Here}
@@ -59,7 +59,7 @@ pub record Unwound (code values after : List ℕ) (base i : ℕ) (t : Taken) : T
 
 -- What a step answers that fails, or hands an error on.
 pub data Raises (r : ℤ) : Type 0 where
-  raises : (e : ℕ) → e < 65536 → r ≡ pos (firstError + e) → Raises r
+  raises : (e : ℕ) → e < answers → r ≡ pos (firstError + e) → Raises r
   handsOn : r ≡ pos handed → Raises r
 
 -- How a run goes on then, as the paper has it.

@@ -19,6 +19,7 @@ use Rattle.code.specs.Steps.{aTarget, aCallTarget, anElseIf, aStep, aNextArgume
 use Rattle.code.specs.Steps.{Head, noHead, numbered, agree, parts, scalarIn, elementIn, targetIn, argumentsIn, anyArguments, calleeIn, charactersIn, conditionsIn, casesIn, forStep, forIn}
 use Rattle.code.specs.Steps.{linked, storeIn, callForIn, callOfIn, withTerm, writeIn, writeOfIn, readIn, compactIfIn, ifIn, whileIn, forTestIn, testIn, actionIn}
 use Rattle.code.proofs.Options.{none-some, same-some, guarded, went}
+use Rattle.layout.specs.Parts.{charactersPart, loopPart}
 
 pub first-is : {A B : Type 0} (a : A) (b : B) (x : A × B) → some (a, b) ≡ some x → x .0 ≡ a
 first-is {A} {B} a b x e = sym (ap (λ (y : A × B). y .0) (same-some (a, b) x e))
@@ -83,11 +84,12 @@ module _ (m n : ℕ) (function : Bool) (text : List ℕ) (R : List Head) (C : Li
         let d = guarded (ltb (valueAt C i) m) (scalar (ofModule (valueAt C i))) s (rw (eq-eqb (opAt C i) ops h, scalarIn) at (g .spot)) in
         record { fits = ltb-true (valueAt C i) m (d .holds); is = sym (d .is); next = g .next }
 
-    pub call-word : opAt C i ≡ ops + 1 → CallWord
+    -- any other word than the module's is the call's
+    pub call-word : (opAt C i ≡ ops → ⊥) → opAt C i < ops + 2 → CallWord
     unfolding scalarIn
-    call-word h =
-        let g = word (omega arith) in
-        let d = guarded (ltb (valueAt C i) n) (scalar (ofRoutine (valueAt C i))) s (rw (ne-eqb (opAt C i) ops (λ q. omega arith), scalarIn) at (g .spot)) in
+    call-word h k =
+        let g = word k in
+        let d = guarded (ltb (valueAt C i) n) (scalar (ofRoutine (valueAt C i))) s (rw (ne-eqb (opAt C i) ops h, scalarIn) at (g .spot)) in
         record { fits = ltb-true (valueAt C i) n (d .holds); is = sym (d .is); next = g .next }
 
     -- an element, by its op
@@ -215,15 +217,15 @@ module _ (m n : ℕ) (function : Bool) (text : List ℕ) (R : List Head) (C : Li
 
   -- ---- strings
   pub record Characters (i : ℕ) (s : List ℕ) : Type 0 where
-    pub is : s ≡ unquoted (take (valueAt C i % 256 - 2) (drop (placeAt C i + 1) text))
-    pub count : valueAt C i / 256 ≡ length s
+    pub is : s ≡ unquoted (take (valueAt C i % charactersPart - 2) (drop (placeAt C i + 1) text))
+    pub count : valueAt C i / charactersPart ≡ length s
 
   pub characters : (i : ℕ) (s : List ℕ) → charactersIn m n function text R C i ≡ some s → Characters i s
   unfolding charactersIn
   characters i s e =
-      let t = unquoted (take (valueAt C i % 256 - 2) (drop (placeAt C i + 1) text)) in
-      let g = guarded (eqb (valueAt C i / 256) (length t)) t s e in
-      record { is = sym (g .is); count = eqb-true (valueAt C i / 256) (length t) (g .holds) ∙ ap length (g .is) }
+      let t = unquoted (take (valueAt C i % charactersPart - 2) (drop (placeAt C i + 1) text)) in
+      let g = guarded (eqb (valueAt C i / charactersPart) (length t)) t s e in
+      record { is = sym (g .is); count = eqb-true (valueAt C i / charactersPart) (length t) (g .holds) ∙ ap length (g .is) }
 
   -- ---- the conditions of an IF
   module _ (i t : ℕ) (cs : List (Term × ℕ)) (o : ℕ) where
@@ -394,9 +396,9 @@ module _ (m n : ℕ) (function : Bool) (text : List ℕ) (R : List Head) (C : Li
       pub does-is : does ≡ enterFor (valueAt C i) from to c (valueAt C d)
 
     pub record RepeatsFor : Type 0 where
-      pub fits : valueAt C i % 256 < n
-      pub after-is : after ≡ linkAt C (valueAt C i / 256)
-      pub does-is : does ≡ repeatFor (valueAt C i % 256) (linkAt C i)
+      pub fits : valueAt C i % loopPart < n
+      pub after-is : after ≡ linkAt C (valueAt C i / loopPart)
+      pub does-is : does ≡ repeatFor (valueAt C i % loopPart) (linkAt C i)
 
     pub record Selects : Type 0 where
       pub e : Term
@@ -573,9 +575,9 @@ module _ (m n : ℕ) (function : Bool) (text : List ℕ) (R : List Head) (C : Li
       unfolding actionIn forTestIn
       reads-for-test h =
           let v = valueAt C i in
-          let g = guarded (ltb (v % 256) n) (linkAt C (v / 256), repeatFor (v % 256) (linkAt C i)) (after, does) (rw (h, actionIn) at e) in
+          let g = guarded (ltb (v % loopPart) n) (linkAt C (v / loopPart), repeatFor (v % loopPart) (linkAt C i)) (after, does) (rw (h, actionIn) at e) in
           record {
-            fits = ltb-true (v % 256) n (g .holds);
+            fits = ltb-true (v % loopPart) n (g .holds);
             after-is = sym (ap (λ (y : ℕ × Action). y .0) (g .is));
             does-is = sym (ap (λ (y : ℕ × Action). y .1) (g .is));
           }

@@ -28,7 +28,7 @@ SameIn X Y a b = (c : ℕ) → a ≤ c → c < b → Same X Y c
 
 -- A call is told by so many cells of its window.
 abbrev pub callCells : ℕ
-callCells = 197
+callCells = suc resultCell
 
 abbrev pub SameCall : (X Y : List ℕ) → (base : ℕ) → Type 0
 SameCall X Y base = SameIn X Y base (base + callCells)

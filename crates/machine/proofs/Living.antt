@@ -11,7 +11,7 @@ use Rattle.paper.specs.Running.{codeAt, stepNamed}
 use Rattle.code.specs.Cells.{windowOf, errnoCell}
 use Rattle.code.specs.Steps.{Head, noHead, numbered}
 use Rattle.code.specs.Closed.{isNamed}
-use Rattle.code.specs.Windows.{routineCell, waitsCell, afterCell, failedCell, resultCell}
+use Rattle.code.specs.Windows.{routineCell, waitsCell, afterCell, failedCell, resultCell, writtenCell}
 use Rattle.evaluation.specs.Answers.{firstNegative}
 use Rattle.machine.specs.Live.{wordsOfCall, cellOfCall, codeOfCall, ResultFits, nowhere, inModule, inCaller, FailedFits, noneFailed, hasFailed, Sane, Waits, Below, Live}
 use Rattle.machine.proofs.Agreeing.{Same, SameIn, callCells, set-same}
@@ -98,6 +98,12 @@ module _ (P : Program) (R : List Head) (X : List ℕ) (d : ℕ) where
   unfolding Below
   live-left e i q l = subst (Below P R X) q (l .below)
 
+  -- the caller is live too, at the call that it waits for
+  pub live-caller : (e i : ℕ) → d ≡ suc e → Live P R X d i → (b w : ℕ) → b ≡ windowOf e → w ≡ getD X (b + waitsCell) 0 → Live P R X e w
+  live-caller e i q l b w eb ew =
+      let k = live-left e i q l in
+      subst (Live P R X e) (sym (ew ∙ ap (λ (x : ℕ). getD X (x + waitsCell) 0) eb)) (record { top = k .0 .sane; named = k .0 .waits; below = k .1; errno = l .errno })
+
   -- a store that differs past the newest call's window alone
   pub live-past : (Y : List ℕ) → SameIn X Y 0 (windowOf (suc d)) → (i : ℕ) → Live P R X d i → Live P R Y d i
   live-past Y s i l =
@@ -124,8 +130,8 @@ module _ (P : Program) (R : List Head) (X : List ℕ) (d : ℕ) where
     live-call e j h q = live-set (λ z. omega arith) (λ a k b x y z. omega arith)
 
     -- bytes written, inputs used
-    pub live-run : (j : ℕ) → callCells ≤ j → j < 239 → c ≡ windowOf 0 + j → Live P R (set X c v) d i
-    live-run j x h q = live-set (λ z. omega arith) (λ a k b y w z. omega arith)
+    pub live-run : writtenCell ≤ c → c < errnoCell → Live P R (set X c v) d i
+    live-run x h = live-set (λ z. omega arith) (λ a k b y w z. omega arith)
 
     -- what the newest call waits for
     pub live-waits : (j : ℕ) → waitsCell ≤ j → j ≤ afterCell → c ≡ windowOf d + j → Live P R (set X c v) d i

@@ -13,6 +13,7 @@ use Rattle.laws.proofs.Lists.{map-set}
 use Rattle.laws.proofs.Tests.{by-less}
 use Rattle.paper.specs.Steps.{Code, Program}
 use Rattle.paper.specs.States.{Loop, moduleWord, callWord, Call, withCalls, withErrno, withOutput, withInput, goTo, setWord, setLoop, setFailed, onTop, onDepth, storeAt}
+use Rattle.paper.specs.Answer.{storeWords}
 use Rattle.paper.specs.Running.{codeAt, noCode, stepOf, nextStep, resume, idle}
 use Rattle.cells.specs.Words.{wordsOf}
 use Rattle.cells.proofs.Laws.{length-words}
@@ -27,9 +28,6 @@ use Rattle.machine.specs.Machine.{depthLimit, Here}
 use Rattle.machine.proofs.Agreeing.{Same, SameIn, callCells, SameCall, set-same, set-before, set-behind, part-same, call-eq, code-same, words-same, call-loops-same, result-same, call-same, waiting-same, state-eq}
 
 -- ---- rooms
-abbrev pub storeWords : ℕ
-storeWords = 16384
-
 -- Everything has its cells.
 pub record Roomy (P : Program) (X : List ℕ) (d : ℕ) : Type 0 where
   pub long : length X ≡ storeWords

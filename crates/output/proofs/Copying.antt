@@ -14,6 +14,7 @@ use Rattle.paper.specs.Basics.{if_then_else_}
 use Rattle.paper.specs.Words.{QUOTE}
 use Rattle.paper.specs.Steps.{unquoted}
 use Rattle.output.specs.Output.{Copies, Copied, Spelled}
+use Rattle.evaluation.specs.Parts.{addresses}
 
 -- ---- characters
 abbrev pub widthOf : ℕ → ℕ
@@ -97,7 +98,7 @@ module _ (text before out : List ℕ) (count k p : ℕ) (s : Copying text before
   pub copy-in : Copies text before count → p < length text
   copy-in c = turn (c .bytes) (c .many) .room
 
-  pub copy-fits : Copies text before count → (w : ℕ) → w ≡ widthOf (getD text p 0) → length text * 1 < 9223372036854775808 → p + w < 18446744073709551616
+  pub copy-fits : Copies text before count → (w : ℕ) → w ≡ widthOf (getD text p 0) → length text * 1 < 9223372036854775808 → p + w < addresses
   copy-fits c w e l = omega (arith, copy-in c, width-small (getD text p 0) .1)
 
   pub copy-step : (w : ℕ) → w ≡ widthOf (getD text p 0) → count ≤ length before → Copying text before (set out k (getD text p 0)) count (k + 1) (p + w)

@@ -24,7 +24,8 @@ use Rattle.cells.proofs.Kept.{put-length}
 use Rattle.numbers.proofs.Whole.{read}
 use Rattle.decimals.proofs.Parts.{put-front}
 use Rattle.code.specs.Cells.{valueAt, placeAt}
-use Rattle.reading.specs.Reading.{cellValues}
+use Rattle.reading.specs.Reading.{cellValues, valueEnd}
+use Rattle.evaluation.specs.Parts.{addresses}
 use Rattle.evaluation.proofs.Places.{value-in}
 use Rattle.layout.specs.Parts.{charactersPart}
 use Rattle.code.specs.Windows.{writtenCell}
@@ -40,7 +41,7 @@ empty-of [] e = refl
 empty-of (x ∷ l) e = absurd (omega arith)
 
 -- ---- a string
-pub no-characters : (code : List ℕ) (i : ℕ) → length code % 8 ≡ 0 → length code / 8 ≤ i → (0 ≡ valueAt (wordsOf code) i / charactersPart) × (0 < 65536)
+pub no-characters : (code : List ℕ) (i : ℕ) → length code % 8 ≡ 0 → length code / 8 ≤ i → (0 ≡ valueAt (wordsOf code) i / charactersPart) × (0 < valueEnd / charactersPart)
 no-characters code i w h = (sym (ap (λ (x : ℕ). x / charactersPart / charactersPart) (List·getD-eq-default (wordsOf code) 0 {n = i * 2} (omega (arith, length-words code)))), omega arith)
 
 pub string-there : (code : List ℕ) (i n : ℕ) → n ≡ valueAt (wordsOf code) i / charactersPart → length code % 8 ≡ 0 → (n ≡ 0 → ⊥) → i * 8 + 8 ≤ length code
@@ -144,7 +145,7 @@ module _ (text C values out : List ℕ) (i : ℕ) (f : HasRoom values out (lineA
               ∙ ap (λ (k : ℕ). replaced out k (lineAt text C i) (length (lineAt text C i))) ew;
         }
 
-    pub line-fits : length out < 18446744073709551616 → e + 1 < 18446744073709551616
+    pub line-fits : length out < addresses → e + 1 < addresses
     line-fits h = omega (arith, out1-length, line-room)
 
 -- with a number
@@ -159,10 +160,10 @@ module _ (text C values out : List ℕ) (i : ℕ) (z : ℤ) (s : SFits w64 z) (f
     of1-length : length out1 ≡ length out
     of1-length = ap length (p .bytes) ∙ replaced-length out (charactersAt text C i) w (length (charactersAt text C i)) refl (omega (arith, of-string w ew))
 
-    pub of-fits : length out < 18446744073709551616 → e + n + 1 < 18446744073709551616
+    pub of-fits : length out < addresses → e + n + 1 < addresses
     of-fits h = omega (arith, of1-length, f .room, of-length, p .place, n-is)
 
-    pub of-fits-first : length out < 18446744073709551616 → e + n < 18446744073709551616
+    pub of-fits-first : length out < addresses → e + n < addresses
     of-fits-first h = omega (arith, of-fits h)
 
     pub of-number : e + n ≤ length out1

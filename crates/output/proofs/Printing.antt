@@ -33,6 +33,7 @@ use Rattle.machine.proofs.Living.{live-next, live-run}
 use Rattle.machine.proofs.Actions
 use Rattle.machine.proofs.Current as here
 use Rattle.layout.specs.Parts.{charactersPart}
+use Rattle.evaluation.specs.Parts.{addresses}
 use Rattle.layout.specs.Answers.{roomLacked}
 use Rattle.layout.specs.Named.{storeBytes}
 use Rattle.paper.specs.Answer.{storeWords}
@@ -93,8 +94,8 @@ module _ (values after out out′ line : List ℕ) (a : Added values after out o
         let k = countIn (wordsOf values) + length line in
         subst (λ (x : List ℕ). Live (h .P) (h .R) x (h .d) n) (sym (a .count .words))
         (live-run (h .P) (h .R) (set (wordsOf values) writtenCell (k % cellValues)) (h .d) (suc writtenCell) (k / cellValues) n
-        (live-run (h .P) (h .R) (wordsOf values) (h .d) writtenCell (k % cellValues) n l 236 (omega arith) (omega arith) refl)
-        237 (omega arith) (omega arith) refl)
+        (live-run (h .P) (h .R) (wordsOf values) (h .d) writtenCell (k % cellValues) n l (omega arith) (omega arith))
+        (omega arith) (omega arith))
 
     pub added-state : (steps : ℕ) → stateIn (h .P) (h .R) (wordsOf after) (h .d) i steps out′
         ≡ withOutput (stateIn (h .P) (h .R) (wordsOf values) (h .d) i steps out .output ++ line) (stateIn (h .P) (h .R) (wordsOf values) (h .d) i steps out)
@@ -233,10 +234,10 @@ module _ (text code values out : List ℕ) (i : ℕ) (w : Writes text code value
   pub write-in : i * 8 + 8 ≤ length code
   write-in = omega (arith, write-low, w .prints .here .code-size)
 
-  pub write-next : i + 1 < 18446744073709551616
+  pub write-next : i + 1 < addresses
   write-next = omega (arith, write-low)
 
-  pub write-sum : roomLacked + i < 18446744073709551616
+  pub write-sum : roomLacked + i < addresses
   write-sum = omega (arith, write-low)
 
   pub write-fits : SFits w64 (pos (roomLacked + i))

@@ -31,6 +31,8 @@ use Rattle.machine.proofs.Current as here
 use Rattle.machine.proofs.Current.{codeHere, stepHere, stateHere, callHere, action-here, effect-here, stands-here, value-here, failed-here, told-error, told-value}
 use Rattle.code.specs.Steps.{aWriteOf}
 use Rattle.layout.specs.Parts.{charactersPart}
+use Rattle.reading.specs.Reading.{valueEnd}
+use Rattle.evaluation.specs.Parts.{addresses}
 use Rattle.layout.specs.Answers.{roomLacked}
 use Rattle.output.proofs.Printing.{low-step, no-room-fits, silent, lined, lacks-room, goes-lined, adding-fits, adding-lacks}
 
@@ -82,7 +84,7 @@ unfolding decimal
 short (pos n) = omega (arith, few 20 n)
 short (negsuc n) = omega (arith, few 20 (suc n))
 
-pub of-short : (n m : ℕ) (z : ℤ) → n < 65536 → m ≡ length (decimal z) → n + m < 18446744073709551616
+pub of-short : (n m : ℕ) (z : ℤ) → n < valueEnd / charactersPart → m ≡ length (decimal z) → n + m < addresses
 of-short n m z h e = omega (arith, short z)
 
 -- ---- each return of `write_of`
@@ -93,13 +95,13 @@ module _ (text code values out : List ℕ) (base i t : ℕ) (p : Prints text cod
   pub of-in : i * 8 + 8 ≤ length code
   of-in = omega (arith, of-low, p .here .code-size)
 
-  pub of-next : i + 1 < 18446744073709551616
+  pub of-next : i + 1 < addresses
   of-next = omega (arith, of-low)
 
-  pub of-from : i + 5 < 18446744073709551616
+  pub of-from : i + 5 < addresses
   of-from = omega (arith, of-low)
 
-  pub of-sum : roomLacked + i < 18446744073709551616
+  pub of-sum : roomLacked + i < addresses
   of-sum = omega (arith, of-low)
 
   pub of-answer : SFits w64 (pos (roomLacked + i))

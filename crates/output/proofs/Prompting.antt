@@ -42,7 +42,9 @@ use Rattle.machine.proofs.Current as here
 use Rattle.machine.proofs.Current.{codeHere, stepHere, stateHere, callHere, counts-here, action-here, place-here, effect-here, whole-here, stores-here, small-name, small-next, named-after, told-error, told-value}
 use Rattle.code.specs.Steps.{aRead}
 use Rattle.layout.specs.Parts.{charactersPart}
+use Rattle.evaluation.specs.Parts.{addresses}
 use Rattle.layout.specs.Answers.{inputLacked, roomLacked}
+use Rattle.layout.specs.Rules.{noInput}
 use Rattle.paper.specs.Answer.{storeWords}
 use Rattle.output.proofs.Printing.{count-is, low-step, silent, added-count, added-used, added-long, added-past, added-live, added-state, adding-fits, adding-lacks, lacks-room, no-room-fits}
 
@@ -174,7 +176,7 @@ module _ (code values : List ℕ) (base i : ℕ) (h : Here code values base i) (
 
   counted-live : (n : ℕ) → Live (h .P) (h .R) (wordsOf values) (h .d) n → Live (h .P) (h .R) Y (h .d) n
   counted-live n l =
-      live-run (h .P) (h .R) (wordsOf mid) (h .d) usedCell (used + 1) n (added-live values mid out out′ line a (h .values-size) fits code base i h n l) 238 (omega arith) (omega arith) refl
+      live-run (h .P) (h .R) (wordsOf mid) (h .d) usedCell (used + 1) n (added-live values mid out out′ line a (h .values-size) fits code base i h n l) (omega arith) (omega arith)
 
   kept-mid : (c : ℕ) → (c ≡ writtenCell → ⊥) → (c ≡ suc writtenCell → ⊥) → getD (wordsOf mid) c 0 ≡ getD (wordsOf values) c 0
   kept-mid c x y =
@@ -225,13 +227,13 @@ module _ (text code values inputs out : List ℕ) (base i s : ℕ) (p : Reads te
   pub read-in : i * 8 + 8 ≤ length code
   read-in = omega (arith, read-low, p .prints .here .code-size)
 
-  pub read-next : i + 1 < 18446744073709551616
+  pub read-next : i + 1 < addresses
   read-next = omega (arith, read-low)
 
-  pub read-sum : roomLacked + i < 18446744073709551616
+  pub read-sum : roomLacked + i < addresses
   read-sum = omega (arith, read-low)
 
-  pub read-sum-7 : inputLacked + i < 18446744073709551616
+  pub read-sum-7 : inputLacked + i < addresses
   read-sum-7 = omega (arith, read-low)
 
   pub read-answer : SFits w64 (pos (roomLacked + i))
@@ -253,132 +255,170 @@ module _ (text code values inputs out : List ℕ) (base i s : ℕ) (p : Reads te
           (λ h x rooms lw l steps. read-lost code values base i h (q .op-is) k sp (told-error k fk g) s (q .value-is) rooms steps out);
     })
 
-    module _ (g : leZ (pos firstError) (whole.read k) ≡ false) (at : ℕ) (ea : at ≡ countIn (wordsOf values)) (n : ℕ) (en : n ≡ valueAt (wordsOf code) s / charactersPart) where
-      aim : (h : Here code values base i) → Aimed code values base i h (q .op-is) k sp (told-value k fk g)
-      aim h = aimed code values base i h (q .op-is) k sp (told-value k fk g)
+-- What is known of a TPReadNum at word i that has a target: its cell, k, how many bytes are written and how many characters its string has.
+pub record Asking : Type 0 where
+  pub text : List ℕ
+  pub code : List ℕ
+  pub values : List ℕ
+  pub inputs : List ℕ
+  pub out : List ℕ
+  pub base : ℕ
+  pub i : ℕ
+  pub s : ℕ
+  pub reads : Reads text code values inputs out base i
+  pub says : Says code i aRead s
+  pub k : ℤ
+  pub fits : SFits w64 k
+  pub spot : Spotted code values base (i + 1) k
+  pub found : leZ (pos firstError) (whole.read k) ≡ false
+  pub at : ℕ
+  pub at-is : at ≡ countIn (wordsOf values)
+  pub n : ℕ
+  pub n-is : n ≡ valueAt (wordsOf code) s / charactersPart
 
-      abbrev line : List ℕ
-      line = lineAt text (wordsOf code) s
+module _ (here : Asking) where
+  open Asking here using (text, code, values, inputs, out, base, i, s, reads as p, says as q, k, fits as fk, spot as sp, found as g, at, at-is as ea, n, n-is as en)
 
-      line-long : length line ≡ n + 1
-      line-long = length-append (charactersAt text (wordsOf code) s) (LF ∷ []) ∙ ap (λ (k : ℕ). k + 1) (sym (en ∙ spells-text .many))
+  aim : (h : Here code values base i) → Aimed code values base i h (q .op-is) k sp (told-value k fk g)
+  aim h = aimed code values base i h (q .op-is) k sp (told-value k fk g)
 
-      abbrev takes-on : (h : Here code values base i) (rooms : Rooms) (steps : ℕ) → State → Effect
-      takes-on h rooms steps s′ =
-          taking (stepHere code values base i h .place) (stepHere code values base i h .after) (locationOf (suc (h .d)) (aim h .w)) (drop (stateHere code values base i h rooms steps out .used) (rooms .inputs)) s′
+  abbrev line : List ℕ
+  line = lineAt text (wordsOf code) s
 
-      effect-is : (h : Here code values base i) → h .text ≡ text → (rooms : Rooms) (steps : ℕ) → effectAt (h .P) (h .R) rooms (wordsOf values) (h .d) i steps out
-          ≡ adding rooms (stepHere code values base i h .place) line (stateHere code values base i h rooms steps out) (takes-on h rooms steps)
-      unfolding aim
-      effect-is h x rooms steps =
-          found-effect code values base i h (q .op-is) k sp (told-value k fk g) s (q .value-is) rooms steps out
-          ∙ ap (λ (y : List ℕ). adding rooms (stepHere code values base i h .place) (lineAt y (wordsOf code) s) (stateHere code values base i h rooms steps out) (takes-on h rooms steps)) x
+  line-long : length line ≡ n + 1
+  line-long = length-append (charactersAt text (wordsOf code) s) (LF ∷ []) ∙ ap (λ (k : ℕ). k + 1) (sym (en ∙ spells-text text code values inputs out base i s p q .many))
 
-      pub read-lacks : length out - at ≤ n → WasRead text code values values inputs out out base i (toZ w64 (roomLacked + i))
-      read-lacks f = record {
-        steps = λ last. silent text code values values inputs out base last i (toZ w64 (roomLacked + i)) refl (λ c x y. refl) (p .prints .written)
-            (λ h x rooms lw l steps. lacks-room code values base i h steps out _
-            (effect-is h x rooms steps
-            ∙ adding-lacks code values base i h out (p .prints .written) rooms (l .room) (stepHere code values base i h .place) steps line _ (omega (arith, line-long, p .prints .written))));
+  abbrev takes-on : (h : Here code values base i) (rooms : Rooms) (steps : ℕ) → State → Effect
+  takes-on h rooms steps s′ =
+      taking (stepHere code values base i h .place) (stepHere code values base i h .after) (locationOf (suc (h .d)) (aim h .w)) (drop (stateHere code values base i h rooms steps out .used) (rooms .inputs)) s′
+
+  effect-is : (h : Here code values base i) → h .text ≡ text → (rooms : Rooms) (steps : ℕ) → effectAt (h .P) (h .R) rooms (wordsOf values) (h .d) i steps out
+      ≡ adding rooms (stepHere code values base i h .place) line (stateHere code values base i h rooms steps out) (takes-on h rooms steps)
+  unfolding aim
+  effect-is h x rooms steps =
+      found-effect code values base i h (q .op-is) k sp (told-value k fk g) s (q .value-is) rooms steps out
+      ∙ ap (λ (y : List ℕ). adding rooms (stepHere code values base i h .place) (lineAt y (wordsOf code) s) (stateHere code values base i h rooms steps out) (takes-on h rooms steps)) x
+
+  pub read-lacks : length out - at ≤ n → WasRead text code values values inputs out out base i (toZ w64 (roomLacked + i))
+  read-lacks f = record {
+    steps = λ last. silent text code values values inputs out base last i (toZ w64 (roomLacked + i)) refl (λ c x y. refl) (p .prints .written)
+        (λ h x rooms lw l steps. lacks-room code values base i h steps out _
+        (effect-is h x rooms steps
+        ∙ adding-lacks code values base i h out (p .prints .written) rooms (l .room) (stepHere code values base i h .place) steps line _ (omega (arith, line-long, p .prints .written))));
+  }
+
+  module _ (f : n < length out - at) (used : ℕ) (eu : used ≡ getD (wordsOf values) usedCell 0) where
+    room : countIn (wordsOf values) + length line ≤ length out
+    room = omega (arith, line-long)
+
+    inputs-are : (h : Here code values base i) (rooms : Rooms) → Lends rooms inputs out → (steps : ℕ) → drop (stateHere code values base i h rooms steps out .used) (rooms .inputs) ≡ drop used (map (toZ w32) (wordsOf inputs))
+    unfolding stateIn
+    inputs-are h rooms l steps = ap₂ (λ (u : ℕ) (zs : List ℤ). drop u zs) (sym eu) (l .reads)
+
+    added-effect : (h : Here code values base i) → h .text ≡ text → (rooms : Rooms) → Lends rooms inputs out → (steps : ℕ) → effectAt (h .P) (h .R) rooms (wordsOf values) (h .d) i steps out
+        ≡ takes-on h rooms steps (withOutput (stateHere code values base i h rooms steps out .output ++ line) (stateHere code values base i h rooms steps out))
+    added-effect h x rooms l steps =
+        effect-is h x rooms steps ∙ adding-fits code values base i h out (p .prints .written) rooms (l .room) (stepHere code values base i h .place) steps line (takes-on h rooms steps) room
+
+    pub read-none : length inputs / 4 ≤ used → WasRead text code values values inputs out out base i (toZ w64 (inputLacked + i))
+    unfolding lackedBy
+    read-none e = record {
+      steps = λ last. silent text code values values inputs out base last i (toZ w64 (inputLacked + i)) refl (λ c x y. refl) (p .prints .written)
+          (λ h x rooms lw l steps.
+          lacks noInput i (stepHere code values base i h .place) (toZ-pos w64 {n = inputLacked + i} (omega (arith, read-low text code values inputs out base i s p q)))
+          (omega arith) (omega arith) (omega (arith, read-low text code values inputs out base i s p q)) (place-here code values base i h) refl refl
+          (added-effect h x rooms l steps
+          ∙ taking-none _ _ _ (drop (stateHere code values base i h rooms steps out .used) (rooms .inputs)) _ (inputs-are h rooms l steps ∙ no-input inputs used e)));
+    }
+
+    pub read-adds : Spells text code s × HasRoom values out line
+    read-adds = (spells-text text code values inputs out base i s p q, record { room = room; cells = omega (arith, p .prints .here .values-size) })
+
+-- And where there is room for its line, and an input, once the line is added.
+pub record Asked : Type 0 where
+  pub asking : Asking
+  pub room : asking .n < length (asking .out) - asking .at
+  pub used : ℕ
+  pub used-is : used ≡ getD (wordsOf (asking .values)) usedCell 0
+  pub more : used < length (asking .inputs) / 4
+  pub mid : List ℕ
+  pub out′ : List ℕ
+  pub added : Added (asking .values) mid (asking .out) out′ (lineAt (asking .text) (wordsOf (asking .code)) (asking .s))
+
+module _ (known : Asked) where
+  open Asked known using (asking as here, room as f, used, used-is as eu, more as e, mid, out′, added as a)
+  open Asking here using (text, code, values, inputs, out, base, i, s, reads as p, says as q, k, fits as fk)
+
+  cell-is : (h : Here code values base i) → natAbs (whole.read k) ≡ refCell (windowOf (h .d)) (aim here h .w)
+  cell-is h = ap natAbs (toZ-ofZ fk ∙ aim here h .cell)
+
+  pub read-cast : T (nonNeg (whole.read k)) × Fits w64 (natAbs (whole.read k))
+  read-cast =
+      let h = p .prints .here in
+      let c : whole.read k ≡ pos (refCell (windowOf (h .d)) (aim here h .w)) = toZ-ofZ fk ∙ aim here h .cell in
+      let l = ref-inside (h .P) (h .R) (wordsOf values) (h .d) (roomy h) (aim here h .w) (aim here h .fits) in
+      rw c (tt, record { fits = omega arith })
+
+  pub read-takes : Takes mid inputs used (natAbs (whole.read k))
+  read-takes =
+      let h = p .prints .here in
+      let l = ref-inside (h .P) (h .R) (wordsOf values) (h .d) (roomy h) (aim here h .w) (aim here h .fits) in
+      record {
+        cell-in = omega (arith, cell-is h, a .count .long, h .values-size);
+        used-in = omega (arith, a .count .long, h .values-size);
+        input = omega arith;
+        count = omega (arith, p .count);
       }
 
-      module _ (f : n < length out - at) (used : ℕ) (eu : used ≡ getD (wordsOf values) usedCell 0) where
-        room : countIn (wordsOf values) + length line ≤ length out
-        room = omega (arith, line-long)
+  module _ (after : List ℕ) (ok : Bool) (t : Took mid after inputs used (natAbs (whole.read k)) ok) where
+    pub read-out : ok ≡ false → WasRead text code values after inputs out out′ base i (pos (firstError + overflow))
+    read-out z = record {
+      steps = λ last. consumed code values base i (p .prints .here) mid out out′ (line here) a (room here f used eu) used eu text inputs after last (pos (firstError + overflow)) (t .long) (λ c x y. ap (λ (w : List ℕ). getD w c 0) (t .consumed z))
+          (λ h x rooms lw l steps.
+          machine.fails overflow refl (omega arith) (rw (t .consumed z) (counted-live code values base i h mid out out′ (line here) a (room here f used eu) used eu i (h .live)))
+          (added-effect here f used eu h x rooms l steps
+          ∙ taking-out _ _ _ (inputAt inputs used) _ (drop (stateHere code values base i h rooms steps out .used) (rooms .inputs)) _ (inputs-are here f used eu h rooms l steps ∙ next-input inputs used e) (t .outside z)
+          ∙ ap (failing overflow) (sym (ap (λ (w : List ℕ). stateIn (h .P) (h .R) w (h .d) i steps out′) (t .consumed z) ∙ counted-state code values base i h mid out out′ (line here) a (room here f used eu) used eu steps))));
+    }
 
-        inputs-are : (h : Here code values base i) (rooms : Rooms) → Lends rooms inputs out → (steps : ℕ) → drop (stateHere code values base i h rooms steps out .used) (rooms .inputs) ≡ drop used (map (toZ w32) (wordsOf inputs))
-        unfolding stateIn
-        inputs-are h rooms l steps = ap₂ (λ (u : ℕ) (zs : List ℤ). drop u zs) (sym eu) (l .reads)
+    module _ (z : ok ≡ true) where
+      abbrev v : ℕ
+      v = ofZ w32 (inputAt inputs used)
 
-        added-effect : (h : Here code values base i) → h .text ≡ text → (rooms : Rooms) → Lends rooms inputs out → (steps : ℕ) → effectAt (h .P) (h .R) rooms (wordsOf values) (h .d) i steps out
-            ≡ takes-on h rooms steps (withOutput (stateHere code values base i h rooms steps out .output ++ line) (stateHere code values base i h rooms steps out))
-        added-effect h x rooms l steps =
-            effect-is h x rooms steps ∙ adding-fits code values base i h out (p .prints .written) rooms (l .room) (stepHere code values base i h .place) steps line (takes-on h rooms steps) room
+      words-are : (h : Here code values base i) → wordsOf after ≡ set (set (wordsOf mid) usedCell (used + 1)) (refCell (windowOf (h .d)) (aim here h .w)) v
+      words-are h = t .stored z ∙ ap (λ (c : ℕ). set (set (wordsOf mid) usedCell (used + 1)) c v) (cell-is h)
 
-        pub read-none : length inputs / 4 ≤ used → WasRead text code values values inputs out out base i (toZ w64 (inputLacked + i))
-        unfolding lackedBy
-        read-none e = record {
-          steps = λ last. silent text code values values inputs out base last i (toZ w64 (inputLacked + i)) refl (λ c x y. refl) (p .prints .written)
-              (λ h x rooms lw l steps.
-              lacks 7 i (stepHere code values base i h .place) (toZ-pos w64 {n = inputLacked + i} (omega (arith, read-low))) (omega arith) (omega arith) (omega (arith, read-low)) (place-here code values base i h) refl refl
-              (added-effect h x rooms l steps
-              ∙ taking-none _ _ _ (drop (stateHere code values base i h rooms steps out .used) (rooms .inputs)) _ (inputs-are h rooms l steps ∙ no-input inputs used e)));
-        }
+      fits-at : (h : Here code values base i) → RefFits (length (h .P .words)) (wordsOfCall (codeOfCall (h .P) (h .R) (set (wordsOf mid) usedCell (used + 1)) (h .d))) (aim here h .w) 1
+      fits-at h = fits-now code values base i h mid out out′ (line here) a (room here f used eu) used eu (aim here h .w) (aim here h .fits)
 
-        pub read-adds : Spells text code s × HasRoom values out line
-        read-adds = (spells-text, record { room = room; cells = omega (arith, p .prints .here .values-size) })
+      stored-state : (h : Here code values base i) (rooms : Rooms) (steps : ℕ) → stateIn (h .P) (h .R) (wordsOf after) (h .d) i steps out′
+          ≡ storeAt (locationOf (suc (h .d)) (aim here h .w)) (inputAt inputs used) (withInput (withOutput (stateHere code values base i h rooms steps out .output ++ line here) (stateHere code values base i h rooms steps out)))
+      stored-state h rooms steps =
+          let Y = set (wordsOf mid) usedCell (used + 1) in
+          ap (λ (w : List ℕ). stateIn (h .P) (h .R) w (h .d) i steps out′) (words-are h)
+          ∙ ref-word (h .P) (h .R) Y (h .d) (Y-roomy code values base i h mid out out′ (line here) a (room here f used eu) used eu) (aim here h .w) (fits-at h) v i steps out′
+          ∙ ap₂ (λ (n : ℕ) (x : ℤ). storeAt (locationOf n (aim here h .w)) x (stateIn (h .P) (h .R) Y (h .d) i steps out′)) (depth-is (h .P) (h .R) Y (h .d) i steps out′) (toZ-ofZ (t .small))
+          ∙ ap (storeAt (locationOf (suc (h .d)) (aim here h .w)) (inputAt inputs used)) (counted-state code values base i h mid out out′ (line here) a (room here f used eu) used eu steps)
 
-        module _ (e : used < length inputs / 4) (mid out′ : List ℕ) (a : Added values mid out out′ line) where
-          cell-is : (h : Here code values base i) → natAbs (whole.read k) ≡ refCell (windowOf (h .d)) (aim h .w)
-          cell-is h = ap natAbs (toZ-ofZ fk ∙ aim h .cell)
-
-          pub read-cast : T (nonNeg (whole.read k)) × Fits w64 (natAbs (whole.read k))
-          read-cast =
-              let h = p .prints .here in
-              let c : whole.read k ≡ pos (refCell (windowOf (h .d)) (aim h .w)) = toZ-ofZ fk ∙ aim h .cell in
-              let l = ref-inside (h .P) (h .R) (wordsOf values) (h .d) (roomy h) (aim h .w) (aim h .fits) in
-              rw c (tt, record { fits = omega arith })
-
-          pub read-takes : Takes mid inputs used (natAbs (whole.read k))
-          read-takes =
-              let h = p .prints .here in
-              let l = ref-inside (h .P) (h .R) (wordsOf values) (h .d) (roomy h) (aim h .w) (aim h .fits) in
-              record {
-                cell-in = omega (arith, cell-is h, a .count .long, h .values-size);
-                used-in = omega (arith, a .count .long, h .values-size);
-                input = omega arith;
-                count = omega (arith, p .count);
-              }
-
-          module _ (after : List ℕ) (ok : Bool) (t : Took mid after inputs used (natAbs (whole.read k)) ok) where
-            pub read-out : ok ≡ false → WasRead text code values after inputs out out′ base i (pos 4294968297)
-            read-out z = record {
-              steps = λ last. consumed code values base i (p .prints .here) mid out out′ line a room used eu text inputs after last (pos 4294968297) (t .long) (λ c x y. ap (λ (w : List ℕ). getD w c 0) (t .consumed z))
-                  (λ h x rooms lw l steps.
-                  machine.fails overflow refl (omega arith) (rw (t .consumed z) (counted-live code values base i h mid out out′ line a room used eu i (h .live)))
-                  (added-effect h x rooms l steps
-                  ∙ taking-out _ _ _ (inputAt inputs used) _ (drop (stateHere code values base i h rooms steps out .used) (rooms .inputs)) _ (inputs-are h rooms l steps ∙ next-input inputs used e) (t .outside z)
-                  ∙ ap (failing overflow) (sym (ap (λ (w : List ℕ). stateIn (h .P) (h .R) w (h .d) i steps out′) (t .consumed z) ∙ counted-state code values base i h mid out out′ line a room used eu steps))));
-            }
-
-            module _ (z : ok ≡ true) where
-              abbrev v : ℕ
-              v = ofZ w32 (inputAt inputs used)
-
-              words-are : (h : Here code values base i) → wordsOf after ≡ set (set (wordsOf mid) usedCell (used + 1)) (refCell (windowOf (h .d)) (aim h .w)) v
-              words-are h = t .stored z ∙ ap (λ (c : ℕ). set (set (wordsOf mid) usedCell (used + 1)) c v) (cell-is h)
-
-              fits-at : (h : Here code values base i) → RefFits (length (h .P .words)) (wordsOfCall (codeOfCall (h .P) (h .R) (set (wordsOf mid) usedCell (used + 1)) (h .d))) (aim h .w) 1
-              fits-at h = fits-now code values base i h mid out out′ line a room used eu (aim h .w) (aim h .fits)
-
-              stored-state : (h : Here code values base i) (rooms : Rooms) (steps : ℕ) → stateIn (h .P) (h .R) (wordsOf after) (h .d) i steps out′
-                  ≡ storeAt (locationOf (suc (h .d)) (aim h .w)) (inputAt inputs used) (withInput (withOutput (stateHere code values base i h rooms steps out .output ++ line) (stateHere code values base i h rooms steps out)))
-              stored-state h rooms steps =
-                  let Y = set (wordsOf mid) usedCell (used + 1) in
-                  ap (λ (w : List ℕ). stateIn (h .P) (h .R) w (h .d) i steps out′) (words-are h)
-                  ∙ ref-word (h .P) (h .R) Y (h .d) (Y-roomy code values base i h mid out out′ line a room used eu) (aim h .w) (fits-at h) v i steps out′
-                  ∙ ap₂ (λ (n : ℕ) (x : ℤ). storeAt (locationOf n (aim h .w)) x (stateIn (h .P) (h .R) Y (h .d) i steps out′)) (depth-is (h .P) (h .R) Y (h .d) i steps out′) (toZ-ofZ (t .small))
-                  ∙ ap (storeAt (locationOf (suc (h .d)) (aim h .w)) (inputAt inputs used)) (counted-state code values base i h mid out out′ line a room used eu steps)
-
-              pub read-done : (l : ℕ) → l ≡ linkAt (wordsOf code) i → WasRead text code values after inputs out out′ base i (toZ w64 l)
-              read-done m em = record {
-                steps = λ last. consumed code values base i (p .prints .here) mid out out′ line a room used eu text inputs after last (toZ w64 m) (t .long)
-                    (λ c x y. let h = p .prints .here in
-                    ap (λ (w : List ℕ). getD w c 0) (words-are h)
-                    ∙ ref-kept (h .P) (h .R) (set (wordsOf mid) usedCell (used + 1)) (h .d) (Y-roomy code values base i h mid out out′ line a room used eu) (aim h .w) (fits-at h) v c x y)
-                    (λ h x rooms lw l steps.
-                    let st = stepHere code values base i h in
-                    let na = named-after code values base i h in
-                    let n-is : m ≡ st .after = em ∙ sym (reads code values base i h (q .op-is) .after-is) in
-                    goesOn m (toZ-pos w64 {n = m} (omega (arith, small-name code values base i h (st .after) na .1)))
-                    (subst (Live (h .P) (h .R) (wordsOf after) (h .d)) (sym n-is)
-                    (subst (λ (w : List ℕ). Live (h .P) (h .R) w (h .d) (st .after)) (sym (words-are h))
-                    (ref-live (h .P) (h .R) (set (wordsOf mid) usedCell (used + 1)) (h .d) (Y-roomy code values base i h mid out out′ line a room used eu) (aim h .w) (fits-at h) v (st .after)
-                    (counted-live code values base i h mid out out′ line a room used eu (st .after) (live-next (h .P) (h .R) (wordsOf values) (h .d) i (st .after) (h .live) na)))))
-                    (added-effect h x rooms l steps
-                    ∙ taking-in _ _ _ (inputAt inputs used) _ (drop (stateHere code values base i h rooms steps out .used) (rooms .inputs)) _ (inputs-are h rooms l steps ∙ next-input inputs used e) (t .in-num z)
-                    ∙ ap made
-                    (ap (onTop (goTo (st .after))) (sym (stored-state h rooms steps))
-                    ∙ sym (goes-to (h .P) (h .R) (wordsOf after) (h .d) i steps out′ (st .after))
-                    ∙ sym (ap (λ (j : ℕ). stateIn (h .P) (h .R) (wordsOf after) (h .d) j steps out′) n-is))));
-              }
+      pub read-done : (l : ℕ) → l ≡ linkAt (wordsOf code) i → WasRead text code values after inputs out out′ base i (toZ w64 l)
+      read-done m em = record {
+        steps = λ last. consumed code values base i (p .prints .here) mid out out′ (line here) a (room here f used eu) used eu text inputs after last (toZ w64 m) (t .long)
+            (λ c x y. let h = p .prints .here in
+            ap (λ (w : List ℕ). getD w c 0) (words-are h)
+            ∙ ref-kept (h .P) (h .R) (set (wordsOf mid) usedCell (used + 1)) (h .d) (Y-roomy code values base i h mid out out′ (line here) a (room here f used eu) used eu) (aim here h .w) (fits-at h) v c x y)
+            (λ h x rooms lw l steps.
+            let st = stepHere code values base i h in
+            let na = named-after code values base i h in
+            let n-is : m ≡ st .after = em ∙ sym (reads code values base i h (q .op-is) .after-is) in
+            goesOn m (toZ-pos w64 {n = m} (omega (arith, small-name code values base i h (st .after) na .1)))
+            (subst (Live (h .P) (h .R) (wordsOf after) (h .d)) (sym n-is)
+            (subst (λ (w : List ℕ). Live (h .P) (h .R) w (h .d) (st .after)) (sym (words-are h))
+            (ref-live (h .P) (h .R) (set (wordsOf mid) usedCell (used + 1)) (h .d) (Y-roomy code values base i h mid out out′ (line here) a (room here f used eu) used eu) (aim here h .w) (fits-at h) v (st .after)
+            (counted-live code values base i h mid out out′ (line here) a (room here f used eu) used eu (st .after) (live-next (h .P) (h .R) (wordsOf values) (h .d) i (st .after) (h .live) na)))))
+            (added-effect here f used eu h x rooms l steps
+            ∙ taking-in _ _ _ (inputAt inputs used) _ (drop (stateHere code values base i h rooms steps out .used) (rooms .inputs)) _ (inputs-are here f used eu h rooms l steps ∙ next-input inputs used e) (t .in-num z)
+            ∙ ap made
+            (ap (onTop (goTo (st .after))) (sym (stored-state h rooms steps))
+            ∙ sym (goes-to (h .P) (h .R) (wordsOf after) (h .d) i steps out′ (st .after))
+            ∙ sym (ap (λ (j : ℕ). stateIn (h .P) (h .R) (wordsOf after) (h .d) j steps out′) n-is))));
+      }

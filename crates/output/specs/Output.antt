@@ -71,7 +71,7 @@ lineOf text C i z = charactersAt text C i ++ decimal z ++ (LF ∷ [])
 -- There is room for a line behind what is written.
 pub record HasRoom (values out line : List ℕ) : Type 0 where
   pub room : countIn (wordsOf values) + length line ≤ length out
-  pub cells : 5052 ≤ length values
+  pub cells : suc usedCell * 4 ≤ length values
 
 -- The line was added.
 pub record Added (values after out out′ line : List ℕ) : Type 0 where
@@ -101,7 +101,7 @@ pub record WroteOf (text code values after out out′ : List ℕ) (base i : ℕ)
 -- The next input, z, goes to a cell if it is in num.
 pub record Takes (values inputs : List ℕ) (used cell : ℕ) : Type 0 where
   pub cell-in : cell * 4 + 4 ≤ length values
-  pub used-in : 5052 ≤ length values
+  pub used-in : suc usedCell * 4 ≤ length values
   pub input : used * 4 + 4 ≤ length inputs
   pub count : used + 1 < cellValues
 

@@ -16,6 +16,7 @@ ghost use Rattle.machine.specs.Machine.{Says};
 ghost use Rattle.decimals.specs.Placed as decimals;
 ghost use Rattle.output.specs.Output.{countIn, Counted, Copies, Copied, Spelled, charactersAt, Spells, Placed, lineAt, lineOf, HasRoom, Added, Prints, Writes, Wrote, WroteOf, Takes, Took, Reads, WasRead};
 ghost use Rattle.layout.specs.Parts.{charactersPart};
+ghost use Rattle.reading.specs.Reading.{valueEnd};
 ghost use Rattle.code.specs.Windows.{writtenCell};
 use evaluation::worth;
 use layout::answers;
@@ -99,7 +100,7 @@ fn copy<'a>(text: &'a [u8], out: &'a mut [u8], count: usize, bytes: usize)
 // How many characters the string at word i has: none where there is no such word.
 fn characters(code: &[u8], i: usize) -> usize
     requires { ⌜ length (now code) % 8 ≡ 0 ⌝ }
-    ensures { λ r. ⌜ (r ≡ valueAt (wordsOf (now (code .entry))) i / charactersPart) × (r < 65536) ⌝ }
+    ensures { λ r. ⌜ (r ≡ valueAt (wordsOf (now (code .entry))) i / charactersPart) × (r < valueEnd / charactersPart) ⌝ }
 {
     if code.len() / 8 <= i {
         return 0;

@@ -10,7 +10,9 @@ use Rattle.laws.proofs.Tests.{by-less, by-same}
 use Rattle.paper.specs.Terms.{Term}
 use Rattle.cells.specs.Words.{wordsOf}
 use Rattle.code.specs.Cells.{headAt, opAt, valueAt, linkAt, opIn}
-use Rattle.code.specs.Steps.{Head, argumentsIn, aCallTarget, aCompactIf, aFor, aForTest, aFunctionEnd, aNextArgument, aProcedureCall, aRaise, aRaiseOf, aRead, aRetry, aReturn, aReturnOf, aTarget, aTest, aTryNext, aWhile, aWrite, aWriteOf, anEnd, anExit, anIf}
+use Rattle.layout.specs.Parts.{valuePart, loopPart}
+use Rattle.evaluation.specs.Parts.{addresses}
+use Rattle.code.specs.Steps.{Head, parts, argumentsIn, aCallTarget, aCompactIf, aFor, aForTest, aFunctionEnd, aNextArgument, aProcedureCall, aRaise, aRaiseOf, aRead, aRetry, aReturn, aReturnOf, aTarget, aTest, aTryNext, aWhile, aWrite, aWriteOf, anEnd, anExit, anIf}
 use Rattle.code.proofs.Spanning.{span-grows}
 use Rattle.evaluation.proofs.Places.{op-in, link-in}
 use Rattle.resuming.specs.Resuming.{Closes, Closing, StepAt, After}
@@ -42,7 +44,7 @@ module _ (code : List ℕ) (first end : ℕ) where
 
   pub closed-start : (first ≡ end → ⊥) → Closed code first end end
   closed-start d c =
-      record { f = 8191; a = first; es = c .terms; is = Actions.some-arguments (c .m) (c .n) (c .function) (c .text) (c .R) (wordsOf code) first end (c .terms) (c .closing) d (c .is) }
+      record { f = parts - 1; a = first; es = c .terms; is = Actions.some-arguments (c .m) (c .n) (c .function) (c .text) (c .R) (wordsOf code) first end (c .terms) (c .closing) d (c .is) }
 
   module _ (b : ℕ) (k : Closed code first end b) (c : Closes code first end) where
     last : (opAt (wordsOf code) b ≡ aNextArgument → ⊥) → c .closing ≡ b
@@ -132,10 +134,10 @@ module _ (code : List ℕ) (i w : ℕ) (ew : w ≡ headAt (wordsOf code) i) wher
       closed-at l e r c = of-call .after-is ∙ sym (ap (linkAt C) (c .is (closes-of l e)))
 
     module _ (h : opAt C i ≡ aForTest) where
-      for-at : s .next ≡ linkAt C (w / 65536)
+      for-at : s .next ≡ linkAt C (w / (valuePart * loopPart))
       for-at =
           let g = Actions.reads-for-test (s .m) (s .n) (s .function) (s .text) (s .R) C i (s .next) (s .does) (s .is) h in
-          let q : valueAt C i / 256 ≡ w / 65536 = omega arith in
+          let q : valueAt C i / loopPart ≡ w / (valuePart * loopPart) = omega arith in
           g .after-is ∙ ap (linkAt C) q
 
     module _ (low : aTarget ≤ opAt C i) (high : opAt C i ≤ aFunctionEnd) (call : opAt C i ≡ aProcedureCall → ⊥) (test : opAt C i ≡ aForTest → ⊥) (end : opAt C i ≡ anEnd → ⊥) (last : opAt C i ≡ aFunctionEnd → ⊥) where
@@ -171,7 +173,7 @@ module _ (code : List ℕ) (i : ℕ) where
       let low = Actions.op-low (s .m) (s .n) (s .function) (s .text) (s .R) (wordsOf code) i (s .next) (s .does) (s .is) in
       op-in code i (omega (arith, s .size)) (λ z. absurd (omega arith))
 
-  pub step-small : StepAt code i → i + 1 < 18446744073709551616
+  pub step-small : StepAt code i → i + 1 < addresses
   step-small s = omega (arith, step-in s, s .size)
 
   module _ (w : ℕ) (ew : w ≡ headAt (wordsOf code) i) where
@@ -187,10 +189,10 @@ module _ (code : List ℕ) (i : ℕ) where
         call-after q e = record { is = λ s. e ∙ sym (closed-at code i w ew s (op-at code i w ew aProcedureCall h) l el r c) }
 
     module _ (h : opIn w ≡ aForTest) where
-      pub for-in : StepAt code i → w / 65536 * 8 + 8 ≤ length code
-      for-in s = linked-in code i w ew s (w / 65536) (for-at code i w ew s (op-at code i w ew aForTest h))
+      pub for-in : StepAt code i → w / (valuePart * loopPart) * 8 + 8 ≤ length code
+      for-in s = linked-in code i w ew s (w / (valuePart * loopPart)) (for-at code i w ew s (op-at code i w ew aForTest h))
 
-      pub for-after : (q : ℕ) → q ≡ linkAt (wordsOf code) (w / 65536) → After code i q
+      pub for-after : (q : ℕ) → q ≡ linkAt (wordsOf code) (w / (valuePart * loopPart)) → After code i q
       for-after q e = record { is = λ s. e ∙ sym (for-at code i w ew s (op-at code i w ew aForTest h)) }
 
     pub end-after : opIn w ≡ anEnd → After code i i

@@ -26,6 +26,7 @@ use Rattle.resuming.specs.Resuming.{StepAt, After, Forgot}
 use Rattle.errors.specs.Errors.{KeepsRun}
 use Rattle.machine.proofs.States.{roomy, goes-to, call-failed}
 use Rattle.machine.proofs.Living.{live-next, live-failed}
+use Rattle.machine.proofs.Elsewhere.{elsewhere}
 use Rattle.machine.proofs.Actions as Actions
 use Rattle.machine.proofs.Current.{codeHere, stepHere, action-here, effect-here, small-name, named-after}
 use Rattle.code.specs.Steps.{aRetry, aTryNext}
@@ -48,19 +49,7 @@ module _ (code values : List ℕ) (base i : ℕ) (h : Here code values base i) w
 
   -- the same call at another of its steps
   pub here-at : (n : ℕ) → isNamed (codeHere code values base i h .steps) n ≡ true → Here code values base n
-  here-at n e = record {
-    text = h .text;
-    P = h .P;
-    R = h .R;
-    offset = h .offset;
-    holds = h .holds;
-    code-size = h .code-size;
-    values-size = h .values-size;
-    d = h .d;
-    deep = h .deep;
-    base-is = h .base-is;
-    live = live-next (h .P) (h .R) (wordsOf values) (h .d) i n (h .live) e;
-  }
+  here-at n e = elsewhere h values (h .d) base n refl (h .deep) (h .base-is) (live-next (h .P) (h .R) (wordsOf values) (h .d) i n (h .live) e)
 
 -- ---- the failed step
 module _ (code values after : List ℕ) (base i f : ℕ) (g : Forgot values after base f) (h : Here code values base i) where

@@ -36,6 +36,7 @@ use Rattle.machine.proofs.Actions as reads
 use Rattle.machine.proofs.Current as here
 use Rattle.machine.proofs.States.{Roomy, roomy, depth-is, left-state}
 use Rattle.machine.proofs.Living.{live-next, live-left}
+use Rattle.machine.proofs.Elsewhere.{caller}
 use Rattle.code.specs.Steps.{aReturnOf}
 use Rattle.layout.specs.Answers.{ended, left}
 use Rattle.layout.specs.Rules.{mainReturned}
@@ -49,24 +50,7 @@ module _ (code values : List ℕ) (base i : ℕ) (h : Here code values base i) (
 
   -- the stores with the caller as the newest call, at the call that it waits for
   abbrev pub caller-here : Here code values (windowOf e) (cellOfCall (h .P) (h .R) (wordsOf values) e waitsCell)
-  caller-here = record {
-    text = h .text;
-    P = h .P;
-    R = h .R;
-    offset = h .offset;
-    holds = h .holds;
-    code-size = h .code-size;
-    values-size = h .values-size;
-    d = e;
-    deep = omega (arith, h .deep, de);
-    base-is = refl;
-    live = record {
-      top = live-left (h .P) (h .R) (wordsOf values) (h .d) e i de (h .live) .0 .sane;
-      named = live-left (h .P) (h .R) (wordsOf values) (h .d) e i de (h .live) .0 .waits;
-      below = live-left (h .P) (h .R) (wordsOf values) (h .d) e i de (h .live) .1;
-      errno = h .live .errno;
-    };
-  }
+  caller-here = caller h e de (windowOf e) (cellOfCall (h .P) (h .R) (wordsOf values) e waitsCell) refl refl
 
   -- its next step
   after-named : isNamed (codeOfCall (h .P) (h .R) (wordsOf values) e .steps) (cellOfCall (h .P) (h .R) (wordsOf values) e afterCell) ≡ true

@@ -19,7 +19,8 @@ use Rattle.code.specs.Cells.{placeAt, linkAt, errnoCell, firstWindow}
 use Rattle.code.specs.Steps.{Head, noHead, numbered, parts}
 use Rattle.code.specs.Closed.{isNamed}
 use Rattle.code.specs.Holds.{dataIn, HoldsRoutine}
-use Rattle.code.specs.Windows.{endsCell, stepsCell, writtenCell, usedCell, resultIn, callIn, waiting, writtenIn, stateIn, routineCell}
+use Rattle.code.specs.Windows.{endsCell, stepsCell, routineCell, failedCell, resultCell, writtenCell, usedCell, resultIn, callIn, waiting, writtenIn, stateIn}
+use Rattle.evaluation.specs.Answers.{callWords}
 use Rattle.machine.specs.Live.{Live, Below, nowhere, noneFailed, codeOfCall}
 use Rattle.starting.specs.Starting.{Holding, Starts, Started}
 use Rattle.runner.specs.Runs.{Begins, MayBegin, Begun}
@@ -46,7 +47,7 @@ module _ (code values : List ℕ) (h : ℕ) where
     reading : (l : ℕ) → l ≡ linkAt (wordsOf code) h → dataIn (wordsOf code) parts l ≡ some (routine .starts, routine .opens)
     reading l e = ap (dataIn (wordsOf code) parts) (e ∙ ap (linkAt (wordsOf code)) (sym (b .main-is))) ∙ routine .data-is
 
-    count : length (routine .starts) + placeAt (wordsOf code) (routine .opens) ≤ 64
+    count : length (routine .starts) + placeAt (wordsOf code) (routine .opens) ≤ callWords
     count = omega (arith, routine .room, routine .fors-are, ap length words-are)
 
   pub begin-low : MayBegin code values h → h < cellValues
@@ -85,7 +86,7 @@ module _ (code values : List ℕ) (h : ℕ) where
         unfolding r
         reads-at = reading text depth b l el
 
-        few : length (r .starts) + placeAt (wordsOf code) (r .opens) ≤ 64
+        few : length (r .starts) + placeAt (wordsOf code) (r .opens) ≤ callWords
         unfolding r
         few = count text depth b
 
@@ -132,8 +133,8 @@ module _ (code values : List ℕ) (h : ℕ) where
               let e : firstWindow + length (r .starts) + j + endsCell ≡ firstWindow + endsCell + (length (codeAt (b .P) (b .main) .words) + j) = omega (arith, words-count) in
               let s : firstWindow + length (r .starts) + j + stepsCell ≡ firstWindow + stepsCell + (length (codeAt (b .P) (b .main) .words) + j) = omega (arith, words-count) in
               (sym (ap (λ (c : ℕ). getD (wordsOf after) c 0) e) ∙ i .1, sym (ap (λ (c : ℕ). getD (wordsOf after) c 0) s) ∙ i .2);
-          failed = zero-behind 1219 (omega arith);
-          result-is = zero-behind 1220 (omega arith);
+          failed = zero-behind (firstWindow + failedCell) (omega arith);
+          result-is = zero-behind (firstWindow + resultCell) (omega arith);
         }
 
         start-is : placeAt (wordsOf code) h ≡ codeAt (b .P) (b .main) .start
@@ -176,8 +177,8 @@ module _ (code values : List ℕ) (h : ℕ) where
           top = record {
             routine = rw number (b .there);
             word = ap (λ (k : ℕ). getD (b .R) k noHead .word) number ∙ b .main-is ∙ sym routine-cell;
-            failed = noneFailed (zero-behind 1219 (omega arith));
-            result = nowhere (zero-behind 1220 (omega arith));
+            failed = noneFailed (zero-behind (firstWindow + failedCell) (omega arith));
+            result = nowhere (zero-behind (firstWindow + resultCell) (omega arith));
           };
           named = ap₂ (λ (c : Code) (n : ℕ). isNamed (c .steps) n) code-is start-is ∙ r .closed .starts;
           below = tt;

@@ -10,7 +10,7 @@ use borrow.Author.Tests.{ne-eqb}
 use Rattle.paper.specs.Basics.{if_then_else_}
 use Rattle.cells.specs.Words.{wordsOf}
 use Rattle.cells.proofs.Laws.{length-words}
-use Rattle.code.specs.Cells.{placeAt}
+use Rattle.code.specs.Cells.{placeIn, placeAt}
 use Rattle.machine.specs.Machine.{lackedBy}
 use Rattle.layout.specs.Answers.{answers, ended, lacked}
 use Rattle.layout.specs.Rules.{beyondDepth, mainReturned}
@@ -18,7 +18,7 @@ use Rattle.reading.specs.Reading.{cellValues}
 use Rattle.runner.specs.Runs.{Stops, byStep, byLack, Stopped}
 
 pub no-place : (code : List ℕ) (i : ℕ) → length code % 8 ≡ 0 → length code / 8 ≤ i → 0 ≡ placeAt (wordsOf code) i
-no-place code i w h = sym (ap (λ (x : ℕ). x % 65536) (List·getD-eq-default (wordsOf code) 0 {n = i * 2 + 1} (omega (arith, length-words code))))
+no-place code i w h = sym (ap placeIn (List·getD-eq-default (wordsOf code) 0 {n = i * 2 + 1} (omega (arith, length-words code))))
 
 lacked-is : (n w answer : ℕ) → beyondDepth ≤ n → answer ≡ lackedBy n + w → answer ≡ lacked + answers * (n - beyondDepth) + w
 unfolding lackedBy

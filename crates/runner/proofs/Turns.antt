@@ -26,6 +26,7 @@ use Rattle.code.specs.Steps.{Head}
 use Rattle.code.specs.Windows.{writtenCell, usedCell, callIn, waiting, writtenIn, stateIn}
 use Rattle.reading.specs.Reading.{cellValues}
 use Rattle.evaluation.specs.Answers.{firstError}
+use Rattle.evaluation.specs.Parts.{addresses}
 use Rattle.runner.specs.declared.Ended.{Ended}
 use Rattle.errors.specs.declared.Taken.{Taken}
 use Rattle.machine.specs.Live.{Live}
@@ -35,6 +36,7 @@ use Rattle.output.specs.Output.{countIn}
 use Rattle.runner.specs.Runs.{Begins, Begun, MayBegin, Stops, byStep, byLack, Stopped, Ran}
 use Rattle.runner.specs.Runs as runs
 use Rattle.machine.proofs.Current.{place-here, small-name}
+use Rattle.machine.proofs.Elsewhere.{elsewhere}
 use Rattle.layout.specs.Answers.{answers, lacked}
 use Rattle.layout.specs.Rules.{beyondDepth}
 use Rattle.paper.specs.Words.{wordLimit}
@@ -163,19 +165,7 @@ module _ (text code values₀ inputs out₀ : List ℕ) (base₀ i₀ steps last
     left-of = t .is h x rooms lw l
 
     now-here : Here code values base i
-    now-here = record {
-      text = h .text;
-      P = h .P;
-      R = h .R;
-      offset = h .offset;
-      holds = h .holds;
-      code-size = h .code-size;
-      values-size = t .long ∙ h .values-size;
-      d = left-of .d;
-      deep = left-of .deep;
-      base-is = left-of .base-is;
-      live = left-of .live;
-    }
+    now-here = elsewhere h values (left-of .d) base i (t .long) (left-of .deep) (left-of .base-is) (left-of .live)
 
     now-lends : Lends rooms inputs out
     now-lends = record { room = l .room ∙ sym (t .out-long); reads = l .reads }
@@ -212,19 +202,7 @@ module _ (text code values₀ inputs out₀ : List ℕ) (base₀ i₀ steps last
 
       -- a step that the newest call may come to
       after-here : (base′ e m : ℕ) → e < depthLimit → base′ ≡ windowOf e → Live (h .P) (h .R) (wordsOf after) e m → Here code after base′ m
-      after-here base′ e m de b lv = record {
-        text = h .text;
-        P = h .P;
-        R = h .R;
-        offset = h .offset;
-        holds = h .holds;
-        code-size = h .code-size;
-        values-size = sd .long ∙ t .long ∙ h .values-size;
-        d = e;
-        deep = de;
-        base-is = b;
-        live = lv;
-      }
+      after-here base′ e m de b lv = elsewhere h after e base′ m (sd .long ∙ t .long) de b lv
 
       low : (e m : ℕ) → e < depthLimit → Live (h .P) (h .R) (wordsOf after) e m → m < wordLimit
       unfolding after-here
@@ -380,7 +358,7 @@ module _ (text code values₀ inputs out₀ : List ℕ) (base₀ i₀ steps last
     pub turn-goes : ltZ (read r) (pos entered) ≡ true → Turning text code values₀ inputs out₀ base₀ i₀ steps last after out′ base (natAbs (read r)) (n - 1)
     turn-goes z = turned base (natAbs (read r)) (λ h x rooms lw l. arm-goes h x rooms lw l z (came h x rooms lw l))
 
-    pub turn-up : base + windowCells < 18446744073709551616
+    pub turn-up : base + windowCells < addresses
     turn-up = omega (arith, turn-here .base-is, turn-here .deep)
 
     module _ (z : ltZ (read r) (pos entered) ≡ false) where

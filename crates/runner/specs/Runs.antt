@@ -18,7 +18,8 @@ use Rattle.code.specs.Holds.{Holds}
 use Rattle.code.specs.Windows.{writtenIn, usedCell, stateIn}
 use Rattle.runner.specs.declared.Ended.{Ended}
 use Rattle.machine.specs.Live.{Live}
-use Rattle.layout.specs.Rules.{beyondDepth}
+use Rattle.layout.specs.Answers.{answers}
+use Rattle.layout.specs.Rules.{mainReturned, fellOff, beyondDepth, noRoom}
 use Rattle.reading.specs.Reading.{cellValues}
 use Rattle.machine.specs.Machine.{storeBytes, depthLimit, ended, lackedBy, Lends}
 
@@ -61,12 +62,12 @@ pub record Ran (text code values after inputs out out′ : List ℕ) (h steps de
 -- ---- the parts of a run
 -- a step's answer that ends the run
 pub data Stops (code : List ℕ) (answer left : ℕ) : Type 0 where
-  byStep : (n : ℕ) → n ≤ 4 → answer ≡ ended + n → length code ≡ storeBytes → Stops code answer left
-  byLack : (n w : ℕ) → beyondDepth ≤ n → n ≤ 8 → w < 65536 → answer ≡ lackedBy n + w → left + 1 < cellValues → length code ≡ storeBytes → Stops code answer left
+  byStep : (n : ℕ) → n ≤ fellOff → answer ≡ ended + n → length code ≡ storeBytes → Stops code answer left
+  byLack : (n w : ℕ) → beyondDepth ≤ n → n ≤ noRoom → w < answers → answer ≡ lackedBy n + w → left + 1 < cellValues → length code ≡ storeBytes → Stops code answer left
 
 pub record Stopped (code : List ℕ) (i answer left : ℕ) (e : Ended) : Type 0 where
-  pub by-step : (n : ℕ) → n ≤ 4 → answer ≡ ended + n → (e .ending ≡ n) × (e .place ≡ (if eqb n 1 then 0 else placeAt (wordsOf code) i)) × (e .left ≡ left)
-  pub by-lack : (n w : ℕ) → beyondDepth ≤ n → n ≤ 8 → w < 65536 → answer ≡ lackedBy n + w → (e .ending ≡ n) × (e .place ≡ placeAt (wordsOf code) w) × (e .left ≡ left + 1)
+  pub by-step : (n : ℕ) → n ≤ fellOff → answer ≡ ended + n → (e .ending ≡ n) × (e .place ≡ (if eqb n mainReturned then 0 else placeAt (wordsOf code) i)) × (e .left ≡ left)
+  pub by-lack : (n w : ℕ) → beyondDepth ≤ n → n ≤ noRoom → w < answers → answer ≡ lackedBy n + w → (e .ending ≡ n) × (e .place ≡ placeAt (wordsOf code) w) × (e .left ≡ left + 1)
 
 pub record MayBegin (code values : List ℕ) (h : ℕ) : Type 0 where
   pub text : List ℕ

@@ -3,7 +3,7 @@ use mathlib.Core.Path.{_≡_, refl, sym, ap, ap₂, subst, subst₂, _∙_}
 use mathlib.Core.Bool.{Bool}
 use mathlib.Core.List.{List, [], _++_, append-assoc, append-nil}
 use mathlib.Core.Option.{Option, some}
-use Prim.Native.Nat.{ℕ, zero, suc, _+_, _*_, _/_, _%_, _<_, _≤_}
+use Prim.Native.Nat.{ℕ, zero, suc, _+_, _-_, _*_, _/_, _%_, _<_, _≤_}
 use native.Mathlib.Omega.{arith}
 use lib.Dec.{eqb}
 use lib.ListN.{length, getD, replicate, length-append, length-replicate}
@@ -17,7 +17,7 @@ use Rattle.laws.proofs.Tests.{by-same}
 use Rattle.cells.specs.Words.{wordsOf}
 use Rattle.cells.proofs.Laws.{length-words}
 use Rattle.numbers.proofs.Whole.{read, minus-cases}
-use Rattle.code.specs.Cells.{headAt, opAt, placeAt, linkAt}
+use Rattle.code.specs.Cells.{opIn, valueIn, headAt, opAt, placeAt, linkAt}
 use Rattle.code.specs.Spans.{bias}
 use Rattle.code.specs.Steps.{parts, aDatum, theParameters, constantAt}
 use Rattle.code.specs.Holds.{dataIn}
@@ -111,7 +111,7 @@ module _ (code before : List ℕ) (first at : ℕ) (s : Starts code before first
   pub starts-begin : (w : ℕ) → w ≡ headAt (wordsOf code) first → w < cellValues → Starting code before before first at first at w
   starts-begin w e b = record {
     asks = s;
-    f = 8191;
+    f = parts - 1;
     fuel = omega arith;
     rest = s .starts;
     left = s .reads;
@@ -124,8 +124,8 @@ module _ (code before : List ℕ) (first at : ℕ) (s : Starts code before first
   }
 
 module _ (code before now : List ℕ) (first at q n w : ℕ) (g : Starting code before now first at q n w) where
-  op-is : w % 256 ≡ opAt (wordsOf code) q
-  op-is = ap (λ (x : ℕ). x % 256) (g .head)
+  op-is : opIn w ≡ opAt (wordsOf code) q
+  op-is = ap opIn (g .head)
 
   pub datum-in : q * 8 + 8 ≤ length code
   datum-in = op-in code q (g .asks .whole) (data-op (wordsOf code) (suc (g .f)) q (g .rest) (g .asks .opens) (g .left))
@@ -133,21 +133,21 @@ module _ (code before now : List ℕ) (first at q n w : ℕ) (g : Starting code 
   count : length (g .asks .starts) ≡ length (g .done) + length (g .rest)
   count = ap length (g .is) ∙ length-append (g .done) (g .rest)
 
-  pub number-fits : SFits w64 (toZ w64 (w / 256) -ℤ pos bias)
+  pub number-fits : SFits w64 (toZ w64 (valueIn w) -ℤ pos bias)
   number-fits =
-      rw (toZ-pos w64 (w / 256) (omega (arith, g .small)))
-      (minus-cases (λ z. SFits w64 z) (w / 256) bias (λ h. record { sfits = omega arith }) (λ h. record { sfits = omega (arith, g .small) }))
+      rw (toZ-pos w64 (valueIn w) (omega (arith, g .small)))
+      (minus-cases (λ z. SFits w64 z) (valueIn w) bias (λ h. record { sfits = omega arith }) (λ h. record { sfits = omega (arith, g .small) }))
 
-  number-is : read (toZ w64 (w / 256) -ℤ pos bias) ≡ constantAt (wordsOf code) q
+  number-is : read (toZ w64 (valueIn w) -ℤ pos bias) ≡ constantAt (wordsOf code) q
   unfolding constantAt
-  number-is = toZ-ofZ number-fits ∙ ap (λ (z : ℤ). z -ℤ pos bias) (toZ-pos w64 (w / 256) (omega (arith, g .small)) ∙ ap (λ (x : ℕ). pos (x / 256)) (g .head))
+  number-is = toZ-ofZ number-fits ∙ ap (λ (z : ℤ). z -ℤ pos bias) (toZ-pos w64 (valueIn w) (omega (arith, g .small)) ∙ ap (λ (x : ℕ). pos (valueIn x)) (g .head))
 
-  pub number-small : SFits w32 (read (toZ w64 (w / 256) -ℤ pos bias))
+  pub number-small : SFits w32 (read (toZ w64 (valueIn w) -ℤ pos bias))
   number-small =
-      rw (toZ-ofZ number-fits, toZ-pos w64 (w / 256) (omega (arith, g .small)))
-      (minus-cases (λ z. SFits w32 z) (w / 256) bias (λ h. record { sfits = omega arith }) (λ h. record { sfits = omega (arith, g .small) }))
+      rw (toZ-ofZ number-fits, toZ-pos w64 (valueIn w) (omega (arith, g .small)))
+      (minus-cases (λ z. SFits w32 z) (valueIn w) bias (λ h. record { sfits = omega arith }) (λ h. record { sfits = omega (arith, g .small) }))
 
-  module _ (t : w % 256 ≡ aDatum) where
+  module _ (t : opIn w ≡ aDatum) where
     here : Datum (wordsOf code) (g .f) q (g .rest) (g .asks .opens)
     here = datum (wordsOf code) (g .f) q (g .rest) (g .asks .opens) (g .left) (sym op-is ∙ t)
 
@@ -180,11 +180,11 @@ module _ (code before now : List ℕ) (first at q n w : ℕ) (g : Starting code 
           subst (λ (j : ℕ). dataLeft (wordsOf code) j < dataLeft (wordsOf code) q) (sym (el .same))
           (data-less (wordsOf code) (g .f) q (g .rest) (g .asks .opens) (g .left) (g .fuel) (sym op-is ∙ t))
 
-      module _ (p : ℕ) (ep : Part halfEnd (placeAt (wordsOf code) q) p) (after : List ℕ) (n′ : ℕ) (fd : Filled now after n p (read (toZ w64 (w / 256) -ℤ pos bias)) n′) where
+      module _ (p : ℕ) (ep : Part halfEnd (placeAt (wordsOf code) q) p) (after : List ℕ) (n′ : ℕ) (fd : Filled now after n p (read (toZ w64 (valueIn w) -ℤ pos bias)) n′) where
         block : List ℤ
         block = replicate (placeAt (wordsOf code) q) (constantAt (wordsOf code) q)
 
-        block-is : replicate p (read (toZ w64 (w / 256) -ℤ pos bias)) ≡ block
+        block-is : replicate p (read (toZ w64 (valueIn w) -ℤ pos bias)) ≡ block
         unfolding block
         block-is = ap₂ (λ (k : ℕ) (z : ℤ). replicate k z) (ep .same) number-is
 
@@ -207,7 +207,7 @@ module _ (code before now : List ℕ) (first at q n w : ℕ) (g : Starting code 
               small = b;
             }
 
-  module _ (t : w % 256 ≡ aDatum → ⊥) where
+  module _ (t : opIn w ≡ aDatum → ⊥) where
     last : LastDatum (wordsOf code) q (g .rest) (g .asks .opens)
     last = last-datum (wordsOf code) (g .f) q (g .rest) (g .asks .opens) (g .left) (λ z. t (op-is ∙ z))
 

@@ -1,7 +1,5 @@
 // One step of the machine, by the op of its word.
 ghost use Rattle.machine.specs.Machine.{Steps, Stepped};
-use assignments::store;
-use assignments::store_element;
 use calls::call_for;
 use calls::call_for_element;
 use calls::call_of;
@@ -23,6 +21,8 @@ use resuming::retry;
 use resuming::try_next;
 use returns::back;
 use returns::give_back;
+use targets::store;
+use targets::store_element;
 
 // Step i of the call with its window at `base`. `last` is the window of the last call that the depth lent admits.
 pub fn step<'a>(

@@ -39,12 +39,12 @@ module _ (m n base : ℕ) where
   fits-onward (ofModule j) k size h l = omega arith
   fits-onward (ofRoutine j) k size h l = omega arith
 
-  pub size-most : (a : Ref) (size : ℕ) → RefFits m n a size → m ≤ firstWindow → n ≤ callWords → size ≤ 1024
+  pub size-most : (a : Ref) (size : ℕ) → RefFits m n a size → m ≤ firstWindow → n ≤ callWords → size ≤ firstWindow
   unfolding RefFits
   size-most (ofModule j) size h p q = omega arith
   size-most (ofRoutine j) size h p q = omega arith
 
-  pub cell-most : (a : Ref) (size : ℕ) → RefFits m n a size → m ≤ firstWindow → n ≤ callWords → refCell base a + size ≤ base + 1024
+  pub cell-most : (a : Ref) (size : ℕ) → RefFits m n a size → m ≤ firstWindow → n ≤ callWords → refCell base a + size ≤ base + firstWindow
   unfolding RefFits refCell
   cell-most (ofModule j) size h p q = omega arith
   cell-most (ofRoutine j) size h p q = omega arith
@@ -56,13 +56,13 @@ module _ (code values : List ℕ) (base first size i end : ℕ) (st : Stores val
   pub index-at : Fits w64 end → Fits w64 (i + 2)
   index-at h = record { fits = omega (arith, h .fits, index-more) }
 
-  size-is : size ≤ 1024
+  size-is : size ≤ firstWindow
   size-is = size-most (ix .c .m) (ix .c .n) base (ix .array) size (ix .fits) (ix .c .most) (ix .c .window)
 
   pub size-fits : SFits w64 (pos size)
   size-fits = record { sfits = omega (arith, size-is) }
 
-  pub first-is : first + size ≤ base + 1024
+  pub first-is : first + size ≤ base + firstWindow
   first-is = omega (arith, ix .first-is, cell-most (ix .c .m) (ix .c .n) base (ix .array) size (ix .fits) (ix .c .most) (ix .c .window))
 
   module _ (x : ℤ) (s : SFits w64 x) (v : Evaluated code values base (i + 2) end x) where

@@ -17,7 +17,8 @@ use Rattle.evaluation.specs.Answers.{callWords}
 use Rattle.machine.specs.Live.{wordsOfCall, codeOfCall, cellOfCall, Live}
 use Rattle.targets.specs.Targets.{refCell, RefFits, spotIn}
 use Rattle.machine.proofs.Agreeing.{Same, set-same}
-use Rattle.machine.proofs.States.{storeWords, Roomy, depth-is, on-top-word, module-word, call-word}
+use Rattle.paper.specs.Answer.{storeWords}
+use Rattle.machine.proofs.States.{Roomy, depth-is, on-top-word, module-word, call-word}
 use Rattle.machine.proofs.Living.{live-module, live-call}
 
 -- ---- where a spot is

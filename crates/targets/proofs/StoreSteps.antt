@@ -25,7 +25,7 @@ use Rattle.code.specs.Steps.{aTarget, aCallTarget, targetIn}
 use Rattle.evaluation.specs.Answers.{firstError}
 use Rattle.evaluation.proofs.Places.{link-in}
 use Rattle.reading.specs.Reading.{halfEnd, Part}
-use Rattle.machine.specs.Machine.{Here, Comes, effectAt, Performs}
+use Rattle.machine.specs.Machine.{storeBytes, Here, Comes, effectAt, Performs}
 use Rattle.machine.specs.Machine as machine
 use Rattle.targets.specs.Targets.{refCell, RefFits, spotIn, Tells, Indexes, Found, WordAt, ofModuleWord, ofCallWord, ArrayAt, ofModuleArray, ofCallArray, Aims, Assigns, Assigned}
 use Rattle.machine.proofs.Actions.{op-low, reads-store, Stores as Reads}
@@ -86,7 +86,7 @@ module _ (code values : List ℕ) (base i : ℕ) (h : Here code values base i) (
           pub element-signed : T (nonNeg k)
           element-signed = subst (λ (z : ℤ). T (nonNeg z)) (sym (told .3)) tt
 
-          pub element-small : natAbs k < 1048576
+          pub element-small : natAbs k < storeBytes
           element-small =
               omega (arith, ap natAbs (told .3), cell-most (here.m code values base i h) (here.n code values base i h) base (told .0) 1 (told .2) (h .holds .room) (here.routine-holds code values base i h .room), h .base-is, h .deep)
 

@@ -3,9 +3,9 @@ use mathlib.Core.Path.{_≡_, refl, sym, ap, subst, _∙_}
 use mathlib.Core.Bool.{Bool, true, false}
 use mathlib.Core.List.{List}
 use mathlib.Core.Option.{some}
-use Prim.Native.Nat.{ℕ, _+_, _*_, _/_, _%_, _<_, _≤_}
+use Prim.Native.Nat.{ℕ, _+_, _*_, _%_, _<_, _≤_}
 use native.Mathlib.Omega.{arith}
-use lib.Dec.{eqb, ltb}
+use lib.Dec.{ltb}
 use lib.ListN.{length}
 use lib.IntN.{ℤ, pos}
 use lib.Signed.{ltZ}
@@ -13,17 +13,16 @@ use mir.Syntax.{w64}
 use mir.Val.{SFits, toZ}
 use mir.Facts.{toZ-ofZ}
 use mir.ValLaws.{toZ-pos}
-use borrow.Author.Tests.{lt-ltb, eq-eqb, ne-eqb, ltb-true, ltb-false}
+use borrow.Author.Tests.{ltb-true, ltb-false}
 use Rattle.laws.proofs.Tests.{by-same}
-use Rattle.paper.specs.Basics.{if_then_else_}
 use Rattle.paper.specs.Terms.{Ref, ofModule, ofRoutine, Term, Located, at, fails}
+use Rattle.paper.specs.Answer.{storeWords}
 use Rattle.paper.specs.Steps.{Spot, scalar, elementOf}
 use Rattle.cells.specs.Words.{wordsOf}
 use Rattle.numbers.proofs.Whole.{read}
-use Rattle.code.specs.Cells.{headAt, opAt, valueAt, linkAt, firstWindow}
+use Rattle.code.specs.Cells.{opIn, valueIn, headAt, opAt, valueAt, linkAt, firstWindow}
 use Rattle.code.specs.Spans.{firstIn, sizeIn, termIn}
-use Rattle.code.specs.Steps.{Head, aTarget, scalarIn, targetIn}
-use Rattle.code.proofs.Options.{guarded, went}
+use Rattle.code.specs.Steps.{Head, aTarget, targetIn}
 use Rattle.code.proofs.Spanning.{span-grows}
 use Rattle.layout.specs.Answers.{answers}
 use Rattle.evaluation.specs.Answers.{firstError, Counts, callWords, termOf, memoryOf, Stores}
@@ -31,7 +30,7 @@ use Rattle.evaluation.specs.Parts.{addresses}
 use Rattle.evaluation.proofs.Places.{link-in}
 use Rattle.reading.specs.Reading.{halfEnd, Part, cellValues}
 use Rattle.targets.specs.Targets.{refCell, RefFits, spotIn, Tells, found, lost, Indexes, Found, Target, Spotted, WordAt, ofModuleWord, ofCallWord, ArrayAt, ofModuleArray, ofCallArray}
-use Rattle.machine.proofs.Actions.{first-is, second-is, module-word, module-element, call-element}
+use Rattle.machine.proofs.Actions.{module-word, call-word, module-element, call-element}
 use Rattle.targets.proofs.Elements.{cell-most}
 
 -- ---- what a target's word says
@@ -58,57 +57,35 @@ module _ (m n : ℕ) (function : Bool) (text : List ℕ) (R : List Head) (C : Li
       let g = module-word m n function text R C ops i s j e h in
       record { w = ofModule (valueAt C i); fits = omega (arith, g .fits); is = g .is; next = g .next; cell-is = q }
 
-  record Scalar : Type 0 where
-    pub spot : scalarIn m n function text R C ops i ≡ some s
-    pub next : j ≡ i + 1
-
-  scalar-read : opAt C i < ops + 2 → Scalar
-  unfolding targetIn
-  scalar-read h =
-      let g = went (scalarIn m n function text R C ops i) (λ s. some (s, i + 1)) (s, j) (rw (lt-ltb (opAt C i) (ops + 2) h, targetIn) at e) in
-      record { spot = g .first ∙ ap some (sym (first-is (g .a) (i + 1) (s, j) (g .next))); next = second-is (g .a) (i + 1) (s, j) (g .next) }
-
-  -- any other word than the module's is the call's
   pub word-of-call : (opAt C i ≡ ops → ⊥) → opAt C i < ops + 2 → (cell : ℕ) → cell ≡ base + valueAt C i → WordRead cell
-  unfolding RefFits refCell scalarIn
+  unfolding RefFits refCell
   word-of-call h k cell q =
-      let g = scalar-read k in
-      let d = guarded (ltb (valueAt C i) n) (scalar (ofRoutine (valueAt C i))) s (rw (ne-eqb (opAt C i) ops h, scalarIn) at (g .spot)) in
-      record {
-        w = ofRoutine (valueAt C i);
-        fits = omega (arith, ltb-true (valueAt C i) n (d .holds));
-        is = sym (d .is);
-        next = g .next;
-        cell-is = q;
-      }
+      let g = call-word m n function text R C ops i s j e h k in
+      record { w = ofRoutine (valueAt C i); fits = omega (arith, g .fits); is = g .is; next = g .next; cell-is = q }
+
+  array-of : (index : Term) → termIn m n C (i + 2) (linkAt C (i + 1)) ≡ some index → (array : Ref) → RefFits m n array (sizeIn (valueAt C i))
+      → s ≡ elementOf array (sizeIn (valueAt C i)) index → j ≡ linkAt C (i + 1) + 1 → (first size : ℕ) → first ≡ refCell base array → size ≡ sizeIn (valueAt C i) → ArrayRead first size
+  array-of index reads array fits is next first size q z = record {
+    index = index;
+    reads = reads;
+    array = array;
+    fits = subst (RefFits m n array) (sym z) fits;
+    is = is ∙ ap (λ (k : ℕ). elementOf array k index) (sym z);
+    next = next;
+    first-is = q;
+  }
 
   pub array-of-module : opAt C i ≡ ops + 2 → (first size : ℕ) → first ≡ firstIn (valueAt C i) → size ≡ sizeIn (valueAt C i) → ArrayRead first size
   unfolding RefFits refCell
   array-of-module h first size q z =
       let g = module-element m n function text R C ops i s j e h in
-      record {
-        index = g .index;
-        reads = g .reads;
-        array = ofModule (firstIn (valueAt C i));
-        fits = omega (arith, g .fits);
-        is = g .is ∙ ap (λ (k : ℕ). elementOf (ofModule (firstIn (valueAt C i))) k (g .index)) (sym z);
-        next = g .next;
-        first-is = q;
-      }
+      array-of (g .index) (g .reads) (ofModule (firstIn (valueAt C i))) (g .fits) (g .is) (g .next) first size q z
 
   pub array-of-call : ops + 2 < opAt C i → (first size : ℕ) → first ≡ base + firstIn (valueAt C i) → size ≡ sizeIn (valueAt C i) → ArrayRead first size
   unfolding RefFits refCell
   array-of-call h first size q z =
       let g = call-element m n function text R C ops i s j e h in
-      record {
-        index = g .index;
-        reads = g .reads;
-        array = ofRoutine (firstIn (valueAt C i));
-        fits = omega (arith, g .fits);
-        is = g .is ∙ ap (λ (k : ℕ). elementOf (ofRoutine (firstIn (valueAt C i))) k (g .index)) (sym z);
-        next = g .next;
-        first-is = q;
-      }
+      array-of (g .index) (g .reads) (ofRoutine (firstIn (valueAt C i))) (g .fits) (g .is) (g .next) first size q z
 
   pub word-read : (cell : ℕ) → WordAt C base ops i cell → WordRead cell
   word-read cell (ofModuleWord h q) = word-of-module h cell q
@@ -147,80 +124,73 @@ told-less m n base l r (lost e q f z) h =
     let t : ltb (firstError + e) firstError ≡ true = subst (λ (y : ℤ). ltZ y (pos firstError) ≡ true) z h in
     absurd (omega (arith, ltb-true (firstError + e) firstError t))
 
-pub told-error : (m n base : ℕ) (l : Located) (r : ℤ) → m ≤ firstWindow → n ≤ callWords → base < 1048576 → Tells m n base l r → ltZ r (pos firstError) ≡ false → (e : ℕ) × (l ≡ fails e) × (e < answers) × (r ≡ pos (firstError + e))
+pub told-error : (m n base : ℕ) (l : Located) (r : ℤ) → m ≤ firstWindow → n ≤ callWords → base < storeWords → Tells m n base l r → ltZ r (pos firstError) ≡ false → (e : ℕ) × (l ≡ fails e) × (e < answers) × (r ≡ pos (firstError + e))
 told-error m n base l r x y b (lost e q f z) h = (e, q, f, z)
 told-error m n base l r x y b (found w q f z) h =
     let t : ltb (refCell base w) firstError ≡ false = subst (λ (y : ℤ). ltZ y (pos firstError) ≡ false) z h in
     absurd (omega (arith, ltb-false (refCell base w) firstError t, cell-most m n base w 1 f x y))
 
 -- ---- a target whose op is looked at
+-- the first cell of an array, the module's or the call's by its op
+module _ (base w : ℕ) where
+  pub data FirstCell (first : ℕ) : Type 0 where
+    inModule : opIn w ≡ aTarget + 2 → first ≡ firstIn (valueIn w) → FirstCell first
+    inCall : (opIn w ≡ aTarget + 2 → ⊥) → first ≡ base + firstIn (valueIn w) → FirstCell first
+
+  pub in-module : opIn w ≡ aTarget + 2 → FirstCell (firstIn (valueIn w))
+  in-module q = inModule q refl
+
+  pub in-call : (opIn w ≡ aTarget + 2 → ⊥) → FirstCell (base + firstIn (valueIn w))
+  in-call q = inCall q refl
+
+  first-cell : (first : ℕ) × FirstCell first
+  first-cell = by-same (opIn w) (aTarget + 2) (λ q. (firstIn (valueIn w), in-module q)) (λ q. (base + firstIn (valueIn w), in-call q))
+
 module _ (code values : List ℕ) (base i : ℕ) (st : Stores values base) (t : Target code i) (w : ℕ) (ew : w ≡ headAt (wordsOf code) i) where
-  op-is : w % 256 ≡ opAt (wordsOf code) i
-  op-is = ap (λ (x : ℕ). x % 256) ew
+  op-is : opIn w ≡ opAt (wordsOf code) i
+  op-is = ap opIn ew
 
-  pub target-module : w % 256 ≡ aTarget → w < cellValues → Spotted code values base i (toZ w64 (w / 256))
+  pub target-module : opIn w ≡ aTarget → w < cellValues → Spotted code values base i (toZ w64 (valueIn w))
   target-module h b =
-      rw (toZ-pos w64 (w / 256) (omega arith)) (record {
+      rw (toZ-pos w64 (valueIn w) (omega arith)) (record {
         is = λ c f x R s j e.
-            word-tells c f x R code values base aTarget i s j e (w / 256)
-            (word-of-module (c .m) (c .n) f x R (wordsOf code) base aTarget i s j e (sym op-is ∙ h) (w / 256) (ap (λ (x : ℕ). x / 256) ew));
+            word-tells c f x R code values base aTarget i s j e (valueIn w)
+            (word-of-module (c .m) (c .n) f x R (wordsOf code) base aTarget i s j e (sym op-is ∙ h) (valueIn w) (ap valueIn ew));
       })
 
-  pub target-call : (w % 256 ≡ aTarget → ⊥) → w % 256 ≤ aTarget + 1 → w < cellValues → length values < addresses → Spotted code values base i (toZ w64 (base + w / 256))
+  pub target-call : (opIn w ≡ aTarget → ⊥) → opIn w ≤ aTarget + 1 → w < cellValues → length values < addresses → Spotted code values base i (toZ w64 (base + valueIn w))
   target-call h k b l =
-      rw (toZ-pos w64 (base + w / 256) (omega (arith, st .call))) (record {
+      rw (toZ-pos w64 (base + valueIn w) (omega (arith, st .call))) (record {
         is = λ c f x R s j e.
-            word-tells c f x R code values base aTarget i s j e (base + w / 256)
-            (word-of-call (c .m) (c .n) f x R (wordsOf code) base aTarget i s j e (λ q. h (op-is ∙ q)) (omega (arith, op-is)) (base + w / 256) (ap (λ (x : ℕ). base + x / 256) ew));
+            word-tells c f x R code values base aTarget i s j e (base + valueIn w)
+            (word-of-call (c .m) (c .n) f x R (wordsOf code) base aTarget i s j e (λ q. h (op-is ∙ q)) (omega (arith, op-is)) (base + valueIn w) (ap (λ (x : ℕ). base + valueIn x) ew));
       })
 
-  module _ (k : aTarget + 1 < w % 256) where
-    array-at : (c : Counts) (f : Bool) (x : List ℕ) (R : List Head) (s : Spot) (j : ℕ) (e : targetIn (c .m) (c .n) f x R (wordsOf code) aTarget i ≡ some (s, j)) (first : ℕ)
-        → (w % 256 ≡ aTarget + 2 → first ≡ w / 256 % 1024) → ((w % 256 ≡ aTarget + 2 → ⊥) → first ≡ base + w / 256 % 1024)
-        → ArrayRead (c .m) (c .n) f x R (wordsOf code) base aTarget i s j e first (w / 256 / 1024)
-    array-at c f x R s j e first a b =
-        by-same (w % 256) (aTarget + 2)
-        (λ q. array-of-module (c .m) (c .n) f x R (wordsOf code) base aTarget i s j e (sym op-is ∙ q) first (w / 256 / 1024) (a q ∙ ap (λ (y : ℕ). y / 256 % 1024) ew) (ap (λ (y : ℕ). y / 256 / 1024) ew))
-        (λ q. array-of-call (c .m) (c .n) f x R (wordsOf code) base aTarget i s j e (omega (arith, op-is, q)) first (w / 256 / 1024) (b q ∙ ap (λ (y : ℕ). base + y / 256 % 1024) ew) (ap (λ (y : ℕ). y / 256 / 1024) ew))
-
-    -- whichever it is
-    either : ArrayRead (t .c .m) (t .c .n) (t .function) (t .text) (t .R) (wordsOf code) base aTarget i (t .s) (t .next) (t .reads) (if eqb (w % 256) (aTarget + 2) then w / 256 % 1024 else base + w / 256 % 1024) (w / 256 / 1024)
-    either =
-        array-at (t .c) (t .function) (t .text) (t .R) (t .s) (t .next) (t .reads) (if eqb (w % 256) (aTarget + 2) then w / 256 % 1024 else base + w / 256 % 1024)
-        (λ q. rw (eq-eqb (w % 256) (aTarget + 2) q)) (λ q. rw (ne-eqb (w % 256) (aTarget + 2) q))
+  module _ (k : aTarget + 1 < opIn w) where
+    array-at : (first : ℕ) → FirstCell base w first → (c : Counts) (f : Bool) (x : List ℕ) (R : List Head) (s : Spot) (j : ℕ) (e : targetIn (c .m) (c .n) f x R (wordsOf code) aTarget i ≡ some (s, j))
+        → ArrayRead (c .m) (c .n) f x R (wordsOf code) base aTarget i s j e first (sizeIn (valueIn w))
+    array-at first (inModule q a) c f x R s j e =
+        array-of-module (c .m) (c .n) f x R (wordsOf code) base aTarget i s j e (sym op-is ∙ q) first (sizeIn (valueIn w)) (a ∙ ap (λ (y : ℕ). firstIn (valueIn y)) ew) (ap (λ (y : ℕ). sizeIn (valueIn y)) ew)
+    array-at first (inCall q a) c f x R s j e =
+        array-of-call (c .m) (c .n) f x R (wordsOf code) base aTarget i s j e (omega (arith, op-is, q)) first (sizeIn (valueIn w)) (a ∙ ap (λ (y : ℕ). base + firstIn (valueIn y)) ew) (ap (λ (y : ℕ). sizeIn (valueIn y)) ew)
 
     pub target-link : (i + 1) * 8 + 8 ≤ length code
     target-link =
+        let a = first-cell base w in
         link-in code (i + 1) (t .whole)
-        (λ z. omega (arith, array-more (t .c) (t .function) (t .text) (t .R) code values base aTarget i (t .s) (t .next) (t .reads) (if eqb (w % 256) (aTarget + 2) then w / 256 % 1024 else base + w / 256 % 1024) (w / 256 / 1024) either))
+        (λ z. omega (
+          arith,
+          array-more (t .c) (t .function) (t .text) (t .R) code values base aTarget i (t .s) (t .next) (t .reads) (a .0) (sizeIn (valueIn w))
+              (array-at (a .0) (a .1) (t .c) (t .function) (t .text) (t .R) (t .s) (t .next) (t .reads)),
+        ))
 
-    module _ (end : ℕ) (p : Part halfEnd (linkAt (wordsOf code) (i + 1)) end) where
-      module _ (q : w % 256 ≡ aTarget + 2) where
-        at-module : (c : Counts) (f : Bool) (x : List ℕ) (R : List Head) (s : Spot) (j : ℕ) (e : targetIn (c .m) (c .n) f x R (wordsOf code) aTarget i ≡ some (s, j))
-            → ArrayRead (c .m) (c .n) f x R (wordsOf code) base aTarget i s j e (w / 256 % 1024) (w / 256 / 1024)
-        at-module c f x R s j e = array-at c f x R s j e (w / 256 % 1024) (λ y. refl) (λ y. absurd (y q))
+    module _ (end : ℕ) (p : Part halfEnd (linkAt (wordsOf code) (i + 1)) end) (first : ℕ) (a : FirstCell base w first) where
+      pub target-indexes : Indexes code base first (sizeIn (valueIn w)) i end
+      target-indexes =
+          array-indexes (t .c) (t .function) (t .text) (t .R) code values base aTarget i (t .s) (t .next) (t .reads) first (sizeIn (valueIn w))
+          (array-at first a (t .c) (t .function) (t .text) (t .R) (t .s) (t .next) (t .reads)) end p (t .whole)
 
-        pub target-module-indexes : Indexes code base (w / 256 % 1024) (w / 256 / 1024) i end
-        target-module-indexes =
-            array-indexes (t .c) (t .function) (t .text) (t .R) code values base aTarget i (t .s) (t .next) (t .reads) (w / 256 % 1024) (w / 256 / 1024)
-            (at-module (t .c) (t .function) (t .text) (t .R) (t .s) (t .next) (t .reads)) end p (t .whole)
-
-        pub target-module-element : (r : ℤ) → SFits w64 r → Found code values base (w / 256 % 1024) (w / 256 / 1024) i end r → Spotted code values base i (read r)
-        target-module-element r s f = rw (toZ-ofZ s) (record {
-          is = λ c g x R y j e. array-tells c g x R code values base aTarget i y j e (w / 256 % 1024) (w / 256 / 1024) (at-module c g x R y j e) end p r f;
-        })
-
-      module _ (q : w % 256 ≡ aTarget + 2 → ⊥) where
-        at-call : (c : Counts) (f : Bool) (x : List ℕ) (R : List Head) (s : Spot) (j : ℕ) (e : targetIn (c .m) (c .n) f x R (wordsOf code) aTarget i ≡ some (s, j))
-            → ArrayRead (c .m) (c .n) f x R (wordsOf code) base aTarget i s j e (base + w / 256 % 1024) (w / 256 / 1024)
-        at-call c f x R s j e = array-at c f x R s j e (base + w / 256 % 1024) (λ y. absurd (q y)) (λ y. refl)
-
-        pub target-call-indexes : Indexes code base (base + w / 256 % 1024) (w / 256 / 1024) i end
-        target-call-indexes =
-            array-indexes (t .c) (t .function) (t .text) (t .R) code values base aTarget i (t .s) (t .next) (t .reads) (base + w / 256 % 1024) (w / 256 / 1024)
-            (at-call (t .c) (t .function) (t .text) (t .R) (t .s) (t .next) (t .reads)) end p (t .whole)
-
-        pub target-call-element : (r : ℤ) → SFits w64 r → Found code values base (base + w / 256 % 1024) (w / 256 / 1024) i end r → Spotted code values base i (read r)
-        target-call-element r s f = rw (toZ-ofZ s) (record {
-          is = λ c g x R y j e. array-tells c g x R code values base aTarget i y j e (base + w / 256 % 1024) (w / 256 / 1024) (at-call c g x R y j e) end p r f;
-        })
+      pub target-element : (r : ℤ) → SFits w64 r → Found code values base first (sizeIn (valueIn w)) i end r → Spotted code values base i (read r)
+      target-element r s f = rw (toZ-ofZ s) (record {
+        is = λ c g x R y j e. array-tells c g x R code values base aTarget i y j e first (sizeIn (valueIn w)) (array-at first a c g x R y j e) end p r f;
+      })

@@ -16,7 +16,7 @@ returns : tie.Need-returns
 returns c = search (needs, if-fails)
 
 cast-result : tie.Need-cast-result
-cast-result c = record { sfits = omega (arith, if-small _ _ _ _ _ (c .before .before .before .before .before .pre .1) (c .before .before .before .before .before .pre .0)) }
+cast-result c = search (needs, if-small)
 
 returns-2 : tie.Need-returns-2
 returns-2 c = search (needs, if-then)

@@ -16,20 +16,13 @@ put-requires : tie.Need-put-requires
 put-requires c κs = search needs
 
 unwind-requires : tie.Need-unwind-requires
-unwind-requires c κs =
-    let at-if1 = c .before .before .before .before .before in
-    let s = c .before .before .before .before .before .before .before .before in
-    arise-here _ _ _ _ _ (s .fits .r) (s .pre .1) (at-if1 .if1 .taken) _ (c .before .before .before .put .ensures) (s .pre .0)
+unwind-requires c κs = search (needs, arise-here)
 
 same-length : tie.Need-same-length
 same-length c = search needs
 
 returns : tie.Need-returns
-returns c =
-    let at-put = c .before .before .before .before .before .before in
-    let at-if1 = at-put .before .before in
-    let s = c .before .before .before .before .before .before .before .before .before .before .before in
-    arise-fails _ _ _ _ _ (s .fits .r) (s .pre .1) (at-if1 .if1 .taken) _ (at-put .put .ensures) (s .pre .0) _ _ (c .before .before .unwind .ensures)
+returns c = search (needs, arise-fails)
 
 returns-2 : tie.Need-returns-2
 returns-2 c = search (needs, arise-main)
@@ -47,18 +40,13 @@ cast-s : tie.Need-cast-s
 cast-s c = search needs
 
 unwind-requires-2 : tie.Need-unwind-requires-2
-unwind-requires-2 c κs = let s = c .before .before .before .before .before .before .before in arise-up _ _ _ _ _ (s .fits .r) (s .pre .1) (c .before .before .before .before .if1 .left) (c .before .before .before .if2 .left) _ (c .before .get .ensures) (s .pre .0)
+unwind-requires-2 c κs = search (needs, arise-up)
 
 same-length-2 : tie.Need-same-length-2
 same-length-2 c = search needs
 
 returns-3 : tie.Need-returns-3
-returns-3 c =
-    let at-if2 = c .before .before .before .before .before .before in
-    let at-if1 = at-if2 .before in
-    let s = c .before .before .before .before .before .before .before .before .before .before in
-    arise-hands _ _ _ _ _ (s .fits .r) (s .pre .1) (at-if1 .if1 .left) (at-if2 .if2 .left) _ (c .before .before .before .before .get .ensures) _ _
-    (c .before .before .unwind2 .ensures)
+returns-3 c = search (needs, arise-hands)
 
 pub arise-spec : {M : Type 1} → statement M
 arise-spec =

@@ -18,12 +18,7 @@ add-out : tie.Need-add-out
 add-out c = search (needs, of-fits-first)
 
 slice-write-out : tie.Need-slice-write-out
-slice-write-out c =
-    let at-string = c .before .before .before .before .before .before in
-    let at-written = at-string .before in
-    let s = c .before .before .before .before .before .before .before .before .before .before .before .before .before .before in
-    of-room _ _ _ _ _ _ (s .fits .v) (s .pre .1) _ (at-written .written .ensures) _ _ (at-string .string .ensures) _ (s .pre .2) _
-    (c .before .before .number .ensures)
+slice-write-out c = search (needs, of-room)
 
 add-set-written : tie.Need-add-set-written
 add-set-written c = search (needs, of-fits-first)

@@ -1,7 +1,50 @@
-use Rattle.output.proofs.Prompting.{read-in, read-next, read-sum, read-sum-7, read-answer, read-answer-7, read-target, read-fails, read-lacks, read-none, read-adds, read-cast, read-takes, read-out, read-done}
+use Rattle.output.proofs.Prompting.{Asking, Asked, read-in, read-next, read-sum, read-sum-7, read-answer, read-answer-7, read-target, read-fails, read-lacks, read-none, read-adds, read-cast, read-takes, read-out, read-done}
 use borrow.Author.Needs.{needs}
 use Rattle.output.proofs.read.Statement.{statement}
 use Rattle.output.proofs.read.Tie as tie
+
+-- what is known where the room for the line is tested, and once it is added
+abbrev asking : tie.After-characters → Asking
+asking c =
+    let at-if1 = c .before .before .before in
+    let at-target-cell = at-if1 .before in
+    let start = at-target-cell .before .before .before .before .before .before .before in
+    record {
+      text = _;
+      code = _;
+      values = _;
+      inputs = _;
+      out = _;
+      base = _;
+      i = _;
+      s = _;
+      reads = start .pre .0;
+      says = start .pre .1;
+      k = _;
+      fits = record { sfits = at-target-cell .target-cell .ok };
+      spot = at-target-cell .target-cell .ensures;
+      found = at-if1 .if1 .left;
+      at = _;
+      at-is = c .before .written .ensures;
+      n = _;
+      n-is = c .characters .ensures .0;
+    }
+
+abbrev asked : tie.After-add → Asked
+asked c =
+    let at-if3 = c .before .before .before in
+    let at-get = at-if3 .before in
+    let at-if2 = at-get .before .before in
+    record {
+      asking = asking (at-if2 .before);
+      room = at-if2 .if2 .left;
+      used = _;
+      used-is = at-get .get .ensures;
+      more = at-if3 .if3 .left;
+      mid = _;
+      out′ = _;
+      added = c .add .ensures;
+    }
 
 add-target-cell : tie.Need-add-target-cell
 add-target-cell c = search (needs, read-next)
@@ -39,12 +82,7 @@ same-length-2 : tie.Need-same-length-2
 same-length-2 c = search needs
 
 returns-2 : tie.Need-returns-2
-returns-2 c =
-    let at-target-cell = c .before .before .before .before .before in
-    let start = at-target-cell .before .before .before .before .before .before .before in
-    read-lacks _ _ _ _ _ _ _ _ (start .pre .0) (start .pre .1) _ record { sfits = at-target-cell .target-cell .ok }
-    (at-target-cell .target-cell .ensures) (c .before .before .before .before .if1 .left) _ (c .before .before .written .ensures) _
-    (c .before .characters .ensures .0) (c .if2 .taken)
+returns-2 c = read-lacks (asking (c .before)) (c .if2 .taken)
 
 get-requires : tie.Need-get-requires
 get-requires c κs = search needs
@@ -63,56 +101,19 @@ same-length-3 c = search needs
 
 returns-3 : tie.Need-returns-3
 returns-3 c =
-    let at-characters = c .before .before .before .before in
-    let at-written = at-characters .before in
-    let at-if1 = at-written .before .before in
-    let at-target-cell = at-if1 .before in
-    let start = at-target-cell .before .before .before .before .before .before .before in
-    read-none _ _ _ _ _ _ _ _ (start .pre .0) (start .pre .1) _ record { sfits = at-target-cell .target-cell .ok }
-    (at-target-cell .target-cell .ensures) (at-if1 .if1 .left) _ (at-written .written .ensures) _ (at-characters .characters .ensures .0)
-    (c .before .before .before .if2 .left) _ (c .before .get .ensures) (c .if3 .taken)
+    let at-if2 = c .before .before .before in
+    read-none (asking (at-if2 .before)) (at-if2 .if2 .left) _ (c .before .get .ensures) (c .if3 .taken)
 
 add-requires : tie.Need-add-requires
 add-requires c κs =
     let at-if2 = c .before .before .before .before .before in
-    let at-characters = at-if2 .before in
-    let at-written = at-characters .before in
-    let at-if1 = at-written .before .before in
-    let at-target-cell = at-if1 .before in
-    let start = at-target-cell .before .before .before .before .before .before .before in
-    read-adds _ _ _ _ _ _ _ _ (start .pre .0) (start .pre .1) _ record { sfits = at-target-cell .target-cell .ok }
-    (at-target-cell .target-cell .ensures) (at-if1 .if1 .left) _ (at-written .written .ensures) _ (at-characters .characters .ensures .0)
-    (at-if2 .if2 .left) _ (c .before .before .before .get .ensures)
+    read-adds (asking (at-if2 .before)) (at-if2 .if2 .left) _ (c .before .before .before .get .ensures)
 
 cast-take : tie.Need-cast-take
-cast-take c =
-    let at-add = c .before .before .before .before .before in
-    let at-if3 = at-add .before .before .before in
-    let at-get = at-if3 .before in
-    let at-if2 = at-get .before .before in
-    let at-characters = at-if2 .before in
-    let at-written = at-characters .before in
-    let at-if1 = at-written .before .before in
-    let at-target-cell = at-if1 .before in
-    let start = at-target-cell .before .before .before .before .before .before .before in
-    read-cast _ _ _ _ _ _ _ _ (start .pre .0) (start .pre .1) _ record { sfits = at-target-cell .target-cell .ok }
-    (at-target-cell .target-cell .ensures) (at-if1 .if1 .left) _ (at-written .written .ensures) _ (at-characters .characters .ensures .0)
-    (at-if2 .if2 .left) _ (at-get .get .ensures) (at-if3 .if3 .left) _ _ (at-add .add .ensures)
+cast-take c = read-cast (asked (c .before .before .before .before .before))
 
 take-requires : tie.Need-take-requires
-take-requires c κs =
-    let at-add = c .before .before .before .before .before in
-    let at-if3 = at-add .before .before .before in
-    let at-get = at-if3 .before in
-    let at-if2 = at-get .before .before in
-    let at-characters = at-if2 .before in
-    let at-written = at-characters .before in
-    let at-if1 = at-written .before .before in
-    let at-target-cell = at-if1 .before in
-    let start = at-target-cell .before .before .before .before .before .before .before in
-    read-takes _ _ _ _ _ _ _ _ (start .pre .0) (start .pre .1) _ record { sfits = at-target-cell .target-cell .ok }
-    (at-target-cell .target-cell .ensures) (at-if1 .if1 .left) _ (at-written .written .ensures) _ (at-characters .characters .ensures .0)
-    (at-if2 .if2 .left) _ (at-get .get .ensures) (at-if3 .if3 .left) _ _ (at-add .add .ensures)
+take-requires c κs = read-takes (asked (c .before .before .before .before .before))
 
 link-requires : tie.Need-link-requires
 link-requires c κs = search (needs, read-in)
@@ -128,19 +129,8 @@ same-length-5 c = search needs
 
 returns-4 : tie.Need-returns-4
 returns-4 c =
-    let at-add = c .before .before .before .before .before .before .before .before .before .before in
-    let at-if3 = at-add .before .before .before in
-    let at-get = at-if3 .before in
-    let at-if2 = at-get .before .before in
-    let at-characters = at-if2 .before in
-    let at-written = at-characters .before in
-    let at-if1 = at-written .before .before in
-    let at-target-cell = at-if1 .before in
-    let start = at-target-cell .before .before .before .before .before .before .before in
-    read-done _ _ _ _ _ _ _ _ (start .pre .0) (start .pre .1) _ record { sfits = at-target-cell .target-cell .ok }
-    (at-target-cell .target-cell .ensures) (at-if1 .if1 .left) _ (at-written .written .ensures) _ (at-characters .characters .ensures .0)
-    (at-if2 .if2 .left) _ (at-get .get .ensures) (at-if3 .if3 .left) _ _ (at-add .add .ensures) _ _
-    (c .before .before .before .before .take .ensures) (c .before .if4 .taken) _ (c .link .ensures .same)
+    let at-take = c .before .before .before .before in
+    read-done (asked (at-take .before .before .before .before .before .before)) _ _ (at-take .take .ensures) (c .before .if4 .taken) _ (c .link .ensures .same)
 
 same-length-6 : tie.Need-same-length-6
 same-length-6 c = search needs
@@ -150,19 +140,8 @@ same-length-7 c = search needs
 
 returns-5 : tie.Need-returns-5
 returns-5 c =
-    let at-add = c .before .before .before .before .before .before .before .before .before in
-    let at-if3 = at-add .before .before .before in
-    let at-get = at-if3 .before in
-    let at-if2 = at-get .before .before in
-    let at-characters = at-if2 .before in
-    let at-written = at-characters .before in
-    let at-if1 = at-written .before .before in
-    let at-target-cell = at-if1 .before in
-    let start = at-target-cell .before .before .before .before .before .before .before in
-    read-out _ _ _ _ _ _ _ _ (start .pre .0) (start .pre .1) _ record { sfits = at-target-cell .target-cell .ok }
-    (at-target-cell .target-cell .ensures) (at-if1 .if1 .left) _ (at-written .written .ensures) _ (at-characters .characters .ensures .0)
-    (at-if2 .if2 .left) _ (at-get .get .ensures) (at-if3 .if3 .left) _ _ (at-add .add .ensures) _ _ (c .before .before .before .take .ensures)
-    (c .if4 .left)
+    let at-take = c .before .before .before in
+    read-out (asked (at-take .before .before .before .before .before .before)) _ _ (at-take .take .ensures) (c .if4 .left)
 
 pub read-spec : {M : Type 1} → statement M
 read-spec =

@@ -54,12 +54,7 @@ loop-less : tie.Need-loop-less Inv-loop μ-loop
 loop-less c = omega arith
 
 loop-again : tie.Need-loop-again Inv-loop μ-loop
-loop-again c =
-    let at-step = c .before .before .before .before .before in
-    let at-loop-test = at-step .before .before .before in
-    let at-loop = at-loop-test .before in
-    turn-goes _ _ _ _ _ _ _ _ _ _ _ _ _ _ (at-loop .loop .inv) (at-loop-test .loop-test .taken) _ _ _ record { sfits = (at-step .step .ok) }
-    (at-step .step .ensures) (c .if1 .taken)
+loop-again c = search (needs, turn-goes)
 
 add-base : tie.Need-add-base Inv-loop μ-loop
 add-base c =
@@ -77,23 +72,13 @@ cast-i-2 c =
     (at-step .step .ensures)
 
 sub-i : tie.Need-sub-i Inv-loop μ-loop
-sub-i c =
-    let at-step = c .before .before .before .before .before .before in
-    let at-loop-test = at-step .before .before .before in
-    let at-loop = at-loop-test .before in
-    turn-sub-1 _ _ _ _ _ _ _ _ _ _ _ _ _ _ (at-loop .loop .inv) (at-loop-test .loop-test .taken) _ _ _ record { sfits = (at-step .step .ok) }
-    (at-step .step .ensures) (c .before .if1 .left)
+sub-i c = search (needs, turn-sub-1)
 
 loop-less-2 : tie.Need-loop-less-2 Inv-loop μ-loop
 loop-less-2 c = omega arith
 
 loop-again-2 : tie.Need-loop-again-2 Inv-loop μ-loop
-loop-again-2 c =
-    let at-step = c .before .before .before .before .before .before in
-    let at-loop-test = at-step .before .before .before in
-    let at-loop = at-loop-test .before in
-    turn-enters _ _ _ _ _ _ _ _ _ _ _ _ _ _ (at-loop .loop .inv) (at-loop-test .loop-test .taken) _ _ _ record { sfits = (at-step .step .ok) }
-    (at-step .step .ensures) (c .before .if1 .left) (c .if2 .taken)
+loop-again-2 c = search (needs, turn-enters)
 
 sub-base : tie.Need-sub-base Inv-loop μ-loop
 sub-base c =
@@ -112,23 +97,13 @@ cast-i-3 c =
     (at-step .step .ensures)
 
 sub-i-2 : tie.Need-sub-i-2 Inv-loop μ-loop
-sub-i-2 c =
-    let at-step = c .before .before .before .before .before .before .before in
-    let at-loop-test = at-step .before .before .before in
-    let at-loop = at-loop-test .before in
-    turn-sub-2 _ _ _ _ _ _ _ _ _ _ _ _ _ _ (at-loop .loop .inv) (at-loop-test .loop-test .taken) _ _ _ record { sfits = (at-step .step .ok) }
-    (at-step .step .ensures) (c .before .before .if1 .left) (c .before .if2 .left)
+sub-i-2 c = search (needs, turn-sub-2)
 
 loop-less-3 : tie.Need-loop-less-3 Inv-loop μ-loop
 loop-less-3 c = omega arith
 
 loop-again-3 : tie.Need-loop-again-3 Inv-loop μ-loop
-loop-again-3 c =
-    let at-step = c .before .before .before .before .before .before .before in
-    let at-loop-test = at-step .before .before .before in
-    let at-loop = at-loop-test .before in
-    turn-leaves _ _ _ _ _ _ _ _ _ _ _ _ _ _ (at-loop .loop .inv) (at-loop-test .loop-test .taken) _ _ _ record { sfits = (at-step .step .ok) }
-    (at-step .step .ensures) (c .before .before .if1 .left) (c .before .if2 .left) (c .if3 .taken)
+loop-again-3 c = search (needs, turn-leaves)
 
 cast-ending : tie.Need-cast-ending Inv-loop μ-loop
 cast-ending c =
@@ -222,17 +197,7 @@ loop-less-4 : tie.Need-loop-less-4 Inv-loop μ-loop
 loop-less-4 c = omega arith
 
 loop-again-4 : tie.Need-loop-again-4 Inv-loop μ-loop
-loop-again-4 c =
-    let at-if4 = c .before .before .before .before .before in
-    let at-if3 = at-if4 .before in
-    let at-if2 = at-if3 .before in
-    let at-if1 = at-if2 .before in
-    let at-step = at-if1 .before .before .before .before .before in
-    let at-loop-test = at-step .before .before .before in
-    let at-loop = at-loop-test .before in
-    turn-resumes _ _ _ _ _ _ _ _ _ _ _ _ _ _ (at-loop .loop .inv) (at-loop-test .loop-test .taken) _ _ _ record { sfits = (at-step .step .ok) }
-    (at-step .step .ensures) (at-if1 .if1 .left) (at-if2 .if2 .left) (at-if3 .if3 .left) (at-if4 .if4 .left) _ _
-    (c .before .before .before .arise .ensures) (c .if5 .left)
+loop-again-4 c = search (needs, turn-resumes)
 
 place-requires-3 : tie.Need-place-requires-3 Inv-loop μ-loop
 place-requires-3 c κs = turn-in _ _ _ _ _ _ _ _ _ _ _ _ _ _ (c .before .loop .inv)

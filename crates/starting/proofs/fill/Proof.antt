@@ -40,9 +40,7 @@ loop-less : tie.Need-loop-less Inv-loop μ-loop
 loop-less c = search needs
 
 loop-again : tie.Need-loop-again Inv-loop μ-loop
-loop-again c =
-    let room = c .before .before .before .before .before .before .before .before .pre .0 in
-    fill-on _ _ _ _ _ _ (c .before .before .before .before .before .loop .inv) _ room (search needs) (c .before .before .put2 .ensures)
+loop-again c = search (needs, fill-on)
 
 add-result-2 : tie.Need-add-result-2 Inv-loop μ-loop
 add-result-2 c = search needs

@@ -1,5 +1,5 @@
 use borrow.Author.Needs.{needs}
-use Rattle.targets.proofs.Targeting.{target-module, target-call, target-link, target-module-indexes, target-module-element, target-call-indexes, target-call-element}
+use Rattle.targets.proofs.Targeting.{target-module, target-call, in-module, in-call, target-link, target-indexes, target-element}
 use Rattle.targets.proofs.target_cell.Statement.{statement}
 use Rattle.targets.proofs.target_cell.Tie as tie
 
@@ -37,19 +37,19 @@ link-requires : tie.Need-link-requires
 link-requires c κs = search (needs, target-link)
 
 element-requires : tie.Need-element-requires
-element-requires c κs = search (needs, target-module-indexes)
+element-requires c κs = search (needs, target-indexes, in-module)
 
 returns-3 : tie.Need-returns-3
-returns-3 c = search (needs, target-module-element)
+returns-3 c = search (needs, target-element, in-module)
 
 add-element : tie.Need-add-element
 add-element c = search needs
 
 element-requires-2 : tie.Need-element-requires-2
-element-requires-2 c κs = search (needs, target-call-indexes)
+element-requires-2 c κs = search (needs, target-indexes, in-call)
 
 returns-4 : tie.Need-returns-4
-returns-4 c = search (needs, target-call-element)
+returns-4 c = search (needs, target-element, in-call)
 
 pub target-cell-spec : {M : Type 1} → statement M
 target-cell-spec =

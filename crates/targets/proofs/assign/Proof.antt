@@ -1,7 +1,7 @@
 use borrow.Author.Needs.{needs}
 use Rattle.targets.proofs.Assigning.{next-inside, next-fits, assign-stores, assign-stands, cell-inside, value-small, step-inside, assign-fails, assign-done}
-use Rattle.assignments.proofs.assign.Statement.{statement}
-use Rattle.assignments.proofs.assign.Tie as tie
+use Rattle.targets.proofs.assign.Statement.{statement}
+use Rattle.targets.proofs.assign.Tie as tie
 
 add-worth : tie.Need-add-worth
 add-worth c = search (needs, next-fits)

@@ -1,7 +1,7 @@
 use borrow.Author.Needs.{needs}
 use Rattle.targets.proofs.StoreSteps.{after-fits, store-assigns, store-done}
-use Rattle.assignments.proofs.store.Statement.{statement}
-use Rattle.assignments.proofs.store.Tie as tie
+use Rattle.targets.proofs.store.Statement.{statement}
+use Rattle.targets.proofs.store.Tie as tie
 
 add-assign : tie.Need-add-assign
 add-assign c = search (needs, after-fits)

@@ -1,8 +1,8 @@
 use borrow.Author.Needs.{needs}
 use Rattle.machine.proofs.Current.{stores-here}
 use Rattle.targets.proofs.StoreSteps.{after-fits, store-brace, store-indexes, store-signed, store-small, element-assigns, element-done, element-lost}
-use Rattle.assignments.proofs.store_element.Statement.{statement}
-use Rattle.assignments.proofs.store_element.Tie as tie
+use Rattle.targets.proofs.store_element.Statement.{statement}
+use Rattle.targets.proofs.store_element.Tie as tie
 
 add-link : tie.Need-add-link
 add-link c = search (needs, after-fits)
