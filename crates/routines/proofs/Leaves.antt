@@ -10,7 +10,7 @@ use borrow.Author.Tests.{eq-eqb, ne-eqb}
 use Rattle.paper.specs.Basics.{if_then_else_}
 use Rattle.cells.specs.Words.{wordsOf, Put}
 use Rattle.cells.proofs.Kept.{put-length, put-same, put-other}
-use Rattle.code.specs.Cells.{opAt, linkAt}
+use Rattle.code.specs.Cells.{valueIn, opAt, linkAt}
 use Rattle.store.specs.Promises.{tailWith, Rewritten, Linked}
 use Rattle.store.proofs.Rewriting.{rewritten-head, rewritten-tail, rewritten-other}
 use Rattle.links.specs.Raw.{endOf}
@@ -20,13 +20,13 @@ use Rattle.layout.specs.Kinds as kinds
 
 -- ---- the head
 module _ (m h : ℕ) where
-  pub other-kind : (m % 256 / 4 ≡ kinds.aRoutine → ⊥) → false ≡ namesRoutine m h
+  pub other-kind : (k : ℕ) → k ≡ kinds.kindIn m → (k ≡ kinds.aRoutine → ⊥) → false ≡ namesRoutine m h
   unfolding namesRoutine
-  other-kind d = rw (ne-eqb (m % 256 / 4) 5 d)
+  other-kind k e d = rw (ne-eqb (kinds.kindIn m) kinds.aRoutine (λ q. d (e ∙ q)))
 
-  pub of-kind : m % 256 / 4 ≡ kinds.aRoutine → eqb (m / 256) h ≡ namesRoutine m h
+  pub of-kind : (k : ℕ) → k ≡ kinds.kindIn m → k ≡ kinds.aRoutine → (v : ℕ) → v ≡ valueIn m → eqb v h ≡ namesRoutine m h
   unfolding namesRoutine
-  of-kind e = rw (eq-eqb (m % 256 / 4) 5 e)
+  of-kind k e q v w = ap (λ (x : ℕ). eqb x h) w ∙ rw (eq-eqb (kinds.kindIn m) kinds.aRoutine (sym e ∙ q)) refl
 
 module _ (C : List ℕ) (h : ℕ) where
   pub a-proc-head : {s : ℕ} → s ≡ opAt C h → s ≡ 69 → 0 ≡ resultIn C h

@@ -20,9 +20,10 @@ use Rattle.links.specs.Raw.{RawWord, at-once, closed, RawDefault, RawList}
 use Rattle.around.specs.declared.Setting.{Setting}
 use Rattle.around.specs.Around.{Around, groundOf}
 use Rattle.names.specs.declared.Scope.{Scope}
+use Rattle.names.specs.Scopes.{withUsed}
 use Rattle.names.specs.declared.Walked.{Walked}
 use Rattle.names.specs.declared.Walked.the-variants.{Upto, Faulty}
-use Rattle.statements.specs.Answers.{upto, Lists, Answer, Listed}
+use Rattle.statements.specs.Answers.{Lists, Answer, Listed}
 use Rattle.statements.specs.Parts.{Defaults, Defaulted}
 use Rattle.statements.proofs.Same.{same-values}
 use Rattle.compounds.proofs.Frames.{outside-wider, same-before, place-same, word-same, linked-outside, linked-word}
@@ -64,9 +65,9 @@ module _ (text code values : List ℕ) (k : Setting) (used c : ℕ) (g : Default
     sort-is : sortIn (a .known .W) c ≡ s
     sort-is = sym (es ∙ g .here .unread .loaded .words c (omega arith) (omega (arith, order, g .after)) .sort)
 
-    no : (s ≡ DEFAULT → ⊥) → (one : List ℕ) → Rewritten code one c anOtherwise (tailWith (c + 1) (c + 1)) → ForDefault one values (upto (c + 1) used)
+    no : (s ≡ DEFAULT → ⊥) → (one : List ℕ) → Rewritten code one c anOtherwise (tailWith (c + 1) (c + 1)) → (scope : Scope) → ForDefault one values (Upto (c + 1) (withUsed used scope))
     unfolding listFaults forsInList RawList
-    no f one l =
+    no f one l scope =
         let q = default-none (sortIn (a .known .W)) (Parses (sortIn (a .known .W))) (g .is) (λ e. f (sym sort-is ∙ e)) in
         let z : g .z ≡ c = q .1 in
         let none : forsInList (g .o) ≡ 0 = ap forsInList (q .0) in
@@ -113,14 +114,14 @@ module _ (text code values : List ℕ) (k : Setting) (used c : ℕ) (g : Default
         wrong : (number word : ℕ) → r ≡ Faulty number word → ForDefault one values′ r
         wrong number word q = behind-wrong behind one values′ r l _ number word q
 
-        module _ (z n : ℕ) (q : r ≡ upto z n) where
+        module _ (z : ℕ) (n : Scope) (q : r ≡ Upto z n) where
           closes : (c + 2 ≤ z) × (z < 8191) × (z + 1 ≡ g .to) × (length one ≡ length code)
           closes = behind-closes behind one values′ r l z n q
 
           pub default-closes : (c + 1 < z) × (z < 8191) × (c * 8 + 8 ≤ length one) × (65536 ≤ length one)
           default-closes = (omega (arith, closes), closes .1, omega (arith, default-room, closes), omega (arith, default-room, closes))
 
-          yes : (two three : List ℕ) → Rewritten one two c anOtherwise (tailWith (c + 2) z) → Linked two three z aPass 0 (z + 1) → ForDefault three values′ (upto (z + 1) n)
+          yes : (two three : List ℕ) → Rewritten one two c anOtherwise (tailWith (c + 2) z) → Linked two three z aPass 0 (z + 1) → ForDefault three values′ (Upto (z + 1) n)
           yes two three x y =
               let o = rewritten-outside x (default-closes .2) in
               let p = linked-outside y in
@@ -142,11 +143,11 @@ module _ (text code values : List ℕ) (k : Setting) (used c : ℕ) (g : Default
 module _ (text code values : List ℕ) (k : Setting) (used c s : ℕ) (es : s ≡ opAt (wordsOf code) c) where
   pub default-no : (s ≡ DEFAULT → ⊥) → (one : List ℕ) → Rewritten code one c anOtherwise (tailWith (c + 1) (c + 1)) → (scope : Scope) → scope .used ≡ used
       → Defaulted text code values one values k used c (Upto (c + 1) scope)
-  default-no f one l scope u = as-scope (Defaulted text code values one values k used c) (c + 1) scope u (record { is = λ g. no text code values k used c g s es f one l })
+  default-no f one l scope u = as-scope (Defaulted text code values one values k used c) (c + 1) scope u (record { is = λ g. no text code values k used c g s es f one l scope })
 
   module _ (e : s ≡ DEFAULT) (one values′ : List ℕ) (r : Walked) (l : Listed text code values one values′ k used (c + 2) r) where
     pub default-wrong : (number word : ℕ) → r ≡ Faulty number word → Defaulted text code values one values′ k used c r
     default-wrong number word q = record { is = λ g. wrong text code values k used c g s es e one values′ r l number word q }
 
-    pub default-yes : (z n : ℕ) → r ≡ upto z n → (two three : List ℕ) → Rewritten one two c anOtherwise (tailWith (c + 2) z) → Linked two three z aPass 0 (z + 1) → Defaulted text code values three values′ k used c (upto (z + 1) n)
+    pub default-yes : (z : ℕ) (n : Scope) → r ≡ Upto z n → (two three : List ℕ) → Rewritten one two c anOtherwise (tailWith (c + 2) z) → Linked two three z aPass 0 (z + 1) → Defaulted text code values three values′ k used c (Upto (z + 1) n)
     default-yes z n q two three x y = record { is = λ g. yes text code values k used c g s es e one values′ r l z n q two three x y }

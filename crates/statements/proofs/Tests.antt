@@ -30,9 +30,10 @@ use Rattle.links.proofs.Framing.{cases-frame}
 use Rattle.links.proofs.Orders.{ends-order, list-order, cases-order}
 use Rattle.around.specs.declared.Setting.{Setting}
 use Rattle.around.specs.Around.{Around, groundOf, offsetIn}
+use Rattle.names.specs.declared.Scope.{Scope}
 use Rattle.names.specs.declared.Walked.{Walked}
-use Rattle.names.specs.declared.Walked.the-variants.{Faulty}
-use Rattle.statements.specs.Answers.{upto, Stands, Done, Answer, StatementAnswer, Begins, Begun}
+use Rattle.names.specs.declared.Walked.the-variants.{Upto, Faulty}
+use Rattle.statements.specs.Answers.{Stands, Done, Answer, StatementAnswer, Begins, Begun}
 use Rattle.compounds.specs.Here.{Outside}
 use Rattle.statements.specs.Parts.{Chooses, CasesWritten, Chosen}
 use Rattle.compounds.proofs.Frames.{outside-wider, outside-on, kept-outside, same-before, same-behind, same-on, here-on, term-same, list-same, place-same, word-same, linked-outside, linked-word}
@@ -145,9 +146,9 @@ module _ (text code values : List ℕ) (k : Setting) (used i : ℕ) (g : Begins 
             subst (ForStatement two values′ r) (sym (w .is))
             (faulty-answer _ _ _ _ _ _ _ _ _ r number word e (subst (First (record { number = number; at = word })) (sym together) (faulty-first r inner number word e)) (inner .long ∙ kept .long))
 
-        module _ (z n : ℕ) (q2 : r ≡ upto z n) where
+        module _ (z : ℕ) (n : Scope) (q2 : r ≡ Upto z n) where
           done : Done (casesFaults (a .known .W) (a .K) (a .M) (w .c) (a .known .S) used ++ listFaults (a .known .W) (a .K) (a .M) (w .default) (a .known .S) (used + forsInCases (w .c)))
-              one two values values′ (w .n) (s .to) (used + (forsInCases (w .c) + forsInList (w .default))) z n
+              one two values values′ (w .n) (s .to) (used + (forsInCases (w .c) + forsInList (w .default))) z (n .used)
               (CasesWritten
               (λ (last : ℕ). RawCases (groundOf a) (a .known .n) (wordsOf two) (w .c) (a .known .S) used (w .n) last)
               (λ (last : ℕ). RawDefault (groundOf a) (a .known .n) (wordsOf two) (λ (x2 y2 : ℕ). RawList (groundOf a) (a .known .n) (wordsOf two) (w .default) (a .known .S) (used + forsInCases (w .c)) x2 y2) last (s .to)))
@@ -201,10 +202,10 @@ module _ (text code values : List ℕ) (k : Setting) (used i : ℕ) (g : Begins 
                 ends-same (at-once e) s3 = at-once e
                 ends-same {z3} (closed w3 e) s3 = closed (word-same s3 z3 (omega arith) (omega arith) _ (s .to) w3) e
 
-            finished : StatementAnswer (g .stands) three values′ (upto z n)
+            finished : StatementAnswer (g .stands) three values′ (Upto z n)
             unfolding statementFaults forsIn RawStatement
             finished =
-                subst (ForStatement three values′ (upto z n)) (sym (w .is))
+                subst (ForStatement three values′ (Upto z n)) (sym (w .is))
                 (done-answer _ _ _ _ _ _ _ _ _ _ _
                 (record {
                   none = together ∙ done .none;
@@ -227,5 +228,5 @@ module _ (text code values : List ℕ) (k : Setting) (used i : ℕ) (one : List 
     pub test-cases-wrong : (number word : ℕ) → r ≡ Faulty number word → Begun TEST text code values two values′ k used i r
     test-cases-wrong number word e = record { is = λ g. cases-wrong text code values k used i g one j c bool t q two values′ r x number word e }
 
-    pub test-finished : (z n : ℕ) → r ≡ upto z n → (three : List ℕ) → Linked two three i aTest t z → Begun TEST text code values three values′ k used i (upto z n)
+    pub test-finished : (z : ℕ) (n : Scope) → r ≡ Upto z n → (three : List ℕ) → Linked two three i aTest t z → Begun TEST text code values three values′ k used i (Upto z n)
     test-finished z n q2 three l = record { is = λ g. finished text code values k used i g one j c bool t q two values′ r x z n q2 three l }

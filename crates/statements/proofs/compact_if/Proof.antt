@@ -1,4 +1,5 @@
 use borrow.Author.Needs.{needs}
+use Rattle.names.proofs.Growing.{grown-self}
 use Rattle.statements.proofs.Compacts.{compact-stands, compact-room, compact-next, compact-wrong, compact-right}
 use native.Mathlib.Omega.{arith}
 use Rattle.statements.proofs.compact_if.Statement.{statement}
@@ -39,7 +40,7 @@ same-length-2 : tie.Need-same-length-2
 same-length-2 c = search needs
 
 returns-2 : tie.Need-returns-2
-returns-2 c = search (needs, compact-right)
+returns-2 c = search (needs, compact-right, grown-self)
 
 pub compact-if-spec : {M : Type 1} → statement M
 compact-if-spec =
