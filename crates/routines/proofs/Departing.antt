@@ -1,4 +1,5 @@
 -- The scope of a routine is left; what is written of it.
+use Rattle.layout.specs.Parts.{linkPart}
 use mathlib.Core.Path.{_≡_, refl, sym, ap, subst, _∙_}
 use mathlib.Core.Bool.{Bool, true, false}
 use mathlib.Core.List.{List, [], _∷_, _++_, map}
@@ -6,7 +7,7 @@ use Prim.Native.Nat.{ℕ, _+_, _-_, _*_, _/_, _%_, _<_, _≤_}
 use native.Mathlib.Omega.{arith}
 use lib.ListN.{length, getD, replicate}
 use lib.IntN.{ℤ, pos}
-use Rattle.paper.specs.Words.{Word}
+use Rattle.paper.specs.Words.{Word, wordLimit}
 use Rattle.paper.specs.Trees.{Routine, Module}
 use Rattle.paper.specs.Names.{Meaning, unknown, Text, Names, textOf, sortIn, spelled, lookIn, protected, isAmong, meaning}
 use Rattle.paper.specs.Types.{Fault}
@@ -123,7 +124,7 @@ module _ (text code values : List ℕ) (result h name : ℕ) (g : ScopeStands te
     unfolding scope-lists lists-stand inside
     listed = record { none = l .none; next-is = l .next-is; used-is = l .used-is; few = l .few; body = l .body; handler = l .handler; below = l .below; above = l .above; same = l .same }
 
-    pub finish-few : all .used - taken .used < 65536
+    pub finish-few : all .used - taken .used < linkPart
     finish-few = omega (arith, listed .few)
 
     pub finish-most : taken .used ≤ all .used
@@ -213,7 +214,7 @@ module _ (text code values : List ℕ) (result h name : ℕ) (g : ScopeStands te
             table = omega (arith, listed .same .long, d .filled .table);
             near = omega arith;
             before = omega arith;
-            rises = rise-wider h (form .begin) 8192 ds (omega arith) (d .rises);
+            rises = rise-wider h (form .begin) wordLimit ds (omega arith) (d .rises);
             chain = chain₄;
             inside = omega arith;
             stops = λ q. omega (arith, f .op-is);

@@ -6,7 +6,7 @@ use Prim.Native.Nat.{ℕ, _+_, _-_, _*_, _/_, _%_, _<_, _≤_}
 use native.Mathlib.Omega.{arith}
 use lib.ListN.{length, getD, replicate, length-replicate}
 use lib.IntN.{ℤ, pos}
-use Rattle.paper.specs.Words.{Word}
+use Rattle.paper.specs.Words.{Word, wordLimit}
 use Rattle.paper.specs.Trees.{Routine, Module}
 use Rattle.paper.specs.Names.{Text, textOf, sortIn, spelled, isAmong}
 use Rattle.paper.specs.Types.{Fault}
@@ -16,7 +16,7 @@ use Rattle.cells.specs.Words.{wordsOf}
 use Rattle.code.specs.Cells.{opIn, valueIn, placeIn, headAt, tailAt, opAt}
 use Rattle.code.specs.Steps.{Head, numbered}
 use Rattle.code.specs.Signatures.{Heads}
-use Rattle.names.specs.Promises.{storeBytes}
+use Rattle.names.specs.Promises.{storeBytes, numberLimit}
 use Rattle.grammar.specs.Form.{Parses, ParametersAt, DeclarationsAt, RoutineAt}
 use Rattle.grammar.proofs.Places.{parameters-grow, declarations-grow}
 use Rattle.faults.specs.First.{First}
@@ -40,7 +40,7 @@ use Rattle.routines.proofs.Filling.{routine-entered}
 use Rattle.routines.proofs.Parting.{parameters-end}
 
 fresh-on : (W : List Word) (C D : List ℕ) (i : ℕ) → headAt D i ≡ headAt C i → Fresh W C i → Fresh W D i
-fresh-on W C D i e z = record { sort = ap opIn e ∙ z .sort; value = λ n. ap valueIn e ∙ z .value n; number = λ n. ap (λ (w : ℕ). valueIn w % 8192) e ∙ z .number n }
+fresh-on W C D i e z = record { sort = ap opIn e ∙ z .sort; value = λ n. ap valueIn e ∙ z .value n; number = λ n. ap (λ (w : ℕ). valueIn w % numberLimit) e ∙ z .number n }
 
 module _ (text code values : List ℕ) (result h name : ℕ) where
   module _ (g : ScopeStands text code values result h name) where
@@ -77,7 +77,7 @@ module _ (text code values : List ℕ) (result h name : ℕ) where
       pub body : form .begin ≤ r .body .closes
       pub end : r .body .closes ≤ form .end
       pub after : b .stands .to ≡ form .end + 1
-      pub last : form .end < 8192
+      pub last : form .end < wordLimit
       pub room : form .end * 8 + 8 ≤ length code
 
     pub order : Order

@@ -1,4 +1,5 @@
 -- The end of the first list, and the ERROR list.
+use Rattle.layout.specs.Parts.{linkPart}
 use mathlib.Core.Path.{_≡_, refl, sym, ap, subst, _∙_}
 use mathlib.Core.Bool.{Bool, true, false, not}
 use mathlib.Core.List.{List, []}
@@ -11,7 +12,7 @@ use borrow.Author.Tests.{eq-eqb, ne-eqb}
 use Rattle.laws.proofs.Tests.{test, by-same}
 use Rattle.paper.specs.Basics.{if_then_else_}
 use Rattle.paper.specs.Sorts.{ERROR}
-use Rattle.paper.specs.Words.{Word}
+use Rattle.paper.specs.Words.{Word, wordLimit}
 use Rattle.paper.specs.Terms.{Memory}
 use Rattle.paper.specs.Trees.{RoutineList, Routine, Module}
 use Rattle.paper.specs.Names.{Scopes, sortIn}
@@ -94,7 +95,7 @@ module _ (text code values : List ℕ) (result used e leads : ℕ) where
     pub closes-room : e * 8 + 8 ≤ length code
     closes-room = omega (arith, closes-inside, g .onward .unread .loaded .room)
 
-    pub closes-small : e < 8192
+    pub closes-small : e < wordLimit
     closes-small = omega (arith, closes-inside, g .onward .unread .loaded .last)
 
     sort-here : opAt (wordsOf code) e ≡ sortIn W e
@@ -186,7 +187,7 @@ module _ (text code values : List ℕ) (result used e leads : ℕ) where
             let near : leads ≤ end = omega (arith, leads-next, behind) in
             let place : placeAt (wordsOf after) next ≡ groundIn s .offset next =
             subst (λ (i : ℕ). placeAt (wordsOf after) i ≡ groundIn s .offset i) (sym n)
-            (ap (λ (w : ℕ). w % 65536) (out .above (end * 2 + 1) (omega arith)) ∙ onward .unread .places end near (omega arith)) in
+            (ap (λ (w : ℕ). w % linkPart) (out .above (end * 2 + 1) (omega arith)) ∙ onward .unread .places end near (omega arith)) in
             let raw = subst (λ (i : ℕ). RawList (groundFor (groundIn s) m r) (wordsInAll (groundIn s) m r) (wordsOf after) (l .statements) (routineScopes W m r) used leads i) (sym n) x in
             subst (λ (i : ℕ). RawLines (groundIn s) (wordsOf last) m r l (wordsOfData (groundIn s) m r + forsInList (r .body .statements)) i) at-is
             (subst (λ (i : ℕ). RawLines (groundIn s) (wordsOf last) m r l i leads) (g .used-is)
@@ -234,7 +235,7 @@ module _ (text code values : List ℕ) (result used e leads : ℕ) where
           let a = answered g z mid (endOf f) c after values′ (Upto next u) x in
           omega (arith, a .tells .next-is, g .onward .unread .loaded .room, a .long, c .kept .long)
 
-      next-small-so : ErrorsStand text code values result used e leads → next < 8192
+      next-small-so : ErrorsStand text code values result used e leads → next < wordLimit
       unfolding Tell
       next-small-so g =
           let a = answered g z mid (endOf f) c after values′ (Upto next u) x in
@@ -265,7 +266,7 @@ module _ (text code values : List ℕ) (result used e leads : ℕ) where
                   op = subst (λ (j : ℕ). opAt (wordsOf last) j ≡ endOf (isSome (g .inside .stands .r .result))) (g .closes)
                       (ap (λ (w : ℕ). w % 256) (third .below (e * 2) (omega arith) ∙ second .below (e * 2) (omega arith)) ∙ c .op-is ∙ ap endOf (fl ∙ flag g));
                   place = subst (λ (j : ℕ). placeAt (wordsOf last) j ≡ groundIn (g .inside) .offset j) (g .closes)
-                      (ap (λ (w : ℕ). w % 65536) (third .below (e * 2 + 1) (omega arith) ∙ second .below (e * 2 + 1) (omega arith)) ∙ c .kept .places e ∙ g .onward .unread .places e (omega arith) i);
+                      (ap (λ (w : ℕ). w % linkPart) (third .below (e * 2 + 1) (omega arith) ∙ second .below (e * 2 + 1) (omega arith)) ∙ c .kept .places e ∙ g .onward .unread .places e (omega arith) i);
                   errors = some-lines _ _ _ _ _ (l g z) (found g z .is) (lines-are g z mid (endOf f) c after last next (fl ∙ flag g) n second (d .written) q);
                 };
                 outside = outside-on (omega arith) (omega arith) (omega arith) (omega arith) both third;
@@ -285,7 +286,7 @@ module _ (text code values : List ℕ) (result used e leads : ℕ) where
       pub next-room : ErrorsStand text code values result used e leads → next * 8 + 8 ≤ length after
       next-room g = next-room-so next u (subst L q y) g
 
-      pub next-small : ErrorsStand text code values result used e leads → next < 8192
+      pub next-small : ErrorsStand text code values result used e leads → next < wordLimit
       next-small g = next-small-so next u (subst L q y) g
 
       pub errors-some : (last : List ℕ) → Linked after last next (endOf f) 0 (linkAt (wordsOf after) next) → Errors text code values last values′ result used e leads (Upto (next + 1) u)

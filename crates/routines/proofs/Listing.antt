@@ -1,4 +1,5 @@
 -- Both lists of a routine.
+use Rattle.layout.specs.Parts.{linkPart}
 use mathlib.Core.Path.{_≡_, refl, sym, ap, subst, _∙_}
 use mathlib.Core.Bool.{Bool, true, false, not}
 use mathlib.Core.List.{List, []}
@@ -11,7 +12,7 @@ use borrow.Author.Tests.{eq-eqb, ne-eqb}
 use Rattle.laws.proofs.Tests.{by-less, by-same}
 use Rattle.paper.specs.Basics.{if_then_else_}
 use Rattle.paper.specs.Sorts.{ERROR}
-use Rattle.paper.specs.Words.{Word}
+use Rattle.paper.specs.Words.{Word, wordLimit}
 use Rattle.paper.specs.Trees.{RoutineList, Routine, Module}
 use Rattle.paper.specs.Names.{sortIn}
 use Rattle.paper.specs.Types.{Fault}
@@ -65,7 +66,7 @@ errors-frame W g C D m r (some l) end (a-handler c h) s x = lines-frame g C D m 
 same-head : (v w : ℕ) → v % 256 ≡ w % 256 → v / 256 ≡ w / 256 → v ≡ w
 same-head v w a b = omega arith
 
-pub leads-few : (C : List ℕ) (e leads : ℕ) → leads ≡ leadsTo C e → e < 8192 → leads < 65536
+pub leads-few : (C : List ℕ) (e leads : ℕ) → leads ≡ leadsTo C e → e < wordLimit → leads < linkPart
 unfolding leadsTo
 leads-few C e leads q few = by-same (opAt C e) 52 (λ w. omega (arith, q ∙ ap (λ (b : Bool). if b then e + 1 else 0) (eq-eqb (opAt C e) 52 w))) (λ w. omega (arith, q ∙ ap (λ (b : Bool). if b then e + 1 else 0) (ne-eqb (opAt C e) 52 w)))
 
@@ -171,7 +172,7 @@ module _ (text code values : List ℕ) (result taken h at : ℕ) where
       pub leads-room : e * 8 + 8 ≤ length code₁
       leads-room = omega (arith, e-is, closes-inside, onward₁ .unread .loaded .room)
 
-      pub leads-small : e < 8192
+      pub leads-small : e < wordLimit
       leads-small = omega (arith, e-is, closes-inside, onward₁ .unread .loaded .last)
 
       module _ (leads : ℕ) (t : leads ≡ leadsTo (wordsOf code₁) e) where
@@ -276,7 +277,7 @@ module _ (text code values : List ℕ) (result taken h at : ℕ) where
       pub e-room : ListsStand text code values result taken h at → e * 8 + 8 ≤ length code₁
       e-room g = leads-room g code₁ values₁ e n (subst (L g code₁ values₁) q l)
 
-      pub e-small : ListsStand text code values result taken h at → e < 8192
+      pub e-small : ListsStand text code values result taken h at → e < wordLimit
       e-small g = leads-small g code₁ values₁ e n (subst (L g code₁ values₁) q l)
 
       module _ (leads : ℕ) (t : leads ≡ leadsTo (wordsOf code₁) e) where
@@ -304,7 +305,7 @@ module _ (text code values : List ℕ) (result taken h at : ℕ) where
             unfolding SaysLists
             lists-done code₃ k = record { is = λ g. lists-so g code₁ values₁ e n (subst (L g code₁ values₁) q l) leads t code₂ values₂ y x₂ code₃ z all p k }
 
-  pub link-small : ListsStand text code values result taken h at → h + 1 < 8192
+  pub link-small : ListsStand text code values result taken h at → h + 1 < wordLimit
   link-small g =
       let o = lies (W g) (s g .stands .form) in
       omega (arith, g .begins, o .name, o .opens, o .body, o .end, g .onward .unread .loaded .last)

@@ -11,7 +11,7 @@ use borrow.Author.Tests.{eq-eqb, ne-eqb, eqb-true, lt-ltb, le-ltb}
 use Rattle.laws.proofs.Tests.{test, by-same, by-less, false-true}
 use Rattle.paper.specs.Basics.{if_then_else_}
 use Rattle.paper.specs.Sorts.{NUM, BOOL, PROC, FUNC}
-use Rattle.paper.specs.Words.{Word}
+use Rattle.paper.specs.Words.{Word, wordLimit}
 use Rattle.paper.specs.Trees.{Routine, Module}
 use Rattle.paper.specs.Expressions.{isType}
 use Rattle.paper.specs.Names.{DataType, aNum, aBool, typeOf, Meaning, theRoutine, routineIn, Text, sortIn, spelled, meaning, cannotDeclare}
@@ -120,7 +120,7 @@ module _ (text code values : List ℕ) (k h : ℕ) where
   pub head-room : G → h * 8 + 16 ≤ length code
   head-room b = let o = lies (b .stands .W) (b .stands .form) in omega (arith, o .name, o .opens, o .body, o .end, b .unread .loaded .room)
 
-  pub head-small : G → h < 8192
+  pub head-small : G → h < wordLimit
   head-small b = let o = lies (b .stands .W) (b .stands .form) in omega (arith, o .name, o .opens, o .body, o .end, b .unread .loaded .last)
 
   module _ (result name : ℕ) (t : result ≡ resultIn (wordsOf code) h) (n : name ≡ nameWith result h) where

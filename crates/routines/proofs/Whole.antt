@@ -1,4 +1,6 @@
 -- All behind a routine's name, as the code goes through it.
+use Rattle.paper.specs.Words.{wordLimit}
+use Rattle.layout.specs.Parts.{linkPart}
 use mathlib.Core.Path.{_≡_, refl, sym, ap, subst, _∙_}
 use mathlib.Core.List.{List}
 use Prim.Native.Nat.{ℕ, _+_, _-_, _*_, _<_, _≤_}
@@ -28,7 +30,7 @@ module _ (text code values : List ℕ) (result h name : ℕ) where
   abbrev G : Type 0
   G = ScopeStands text code values result h name
 
-  pub name-small : G → name + 2 < 8192
+  pub name-small : G → name + 2 < wordLimit
   name-small g = let o = order text code values result h name g in omega arith
 
   module _ (s : Scope) (first : s .first ≡ name + 2) where
@@ -86,10 +88,10 @@ module _ (text code values : List ℕ) (result : ℕ) (outer own : Scope) (h nam
   abbrev O : Type 0
   O = ParametersDeclared text code values result outer own h name close
 
-  pub own-name : O → name + 2 < 8192
+  pub own-name : O → name + 2 < wordLimit
   own-name s = name-small text (s .code₀) (s .values₀) result h name (s .stands)
 
-  pub own-close : O → close < 8192
+  pub own-close : O → close < wordLimit
   own-close s =
       let o = order text (s .code₀) (s .values₀) result h name (s .stands) in
       omega (arith, entered text (s .code₀) (s .values₀) result h name (s .stands) code values close own (s .declares) (s .long) .close-is)
@@ -127,7 +129,7 @@ module _ (text code values : List ℕ) (result : ℕ) (outer taken : Scope) (h n
   abbrev D : Type 0
   D = DataStand text code values result outer taken h name at
 
-  pub data-name : D → name + 2 < 8192
+  pub data-name : D → name + 2 < wordLimit
   data-name s = own-name text (s .code₁) (s .values₁) result outer (s .opened) h name (s .close) (s .own)
 
   pub data-head : D → h < name + 1
@@ -147,7 +149,7 @@ module _ (text code values : List ℕ) (result : ℕ) (outer taken : Scope) (h n
       let l : taken .loops ≡ outer .loops = routine-on (s .own .entered) (s .grown) .around in
       omega (arith, l, n)
 
-  pub data-at : D → at < 65536
+  pub data-at : D → at < linkPart
   data-at s =
       let o = order text (s .own .code₀) (s .own .values₀) result h name (s .own .stands) in
       omega (
@@ -165,7 +167,7 @@ module _ (text code values : List ℕ) (result : ℕ) (outer taken : Scope) (h n
     lists-so number word q = subst (DataPassed text code values code₃ values₃ result outer taken h name at) (sym q) (record { is = λ s. subst L q y .is (data-lists s) })
 
     module _ (next : ℕ) (all : Scope) (q : v ≡ Upto next all) where
-      pub used-few : D → all .used - taken .used < 65536
+      pub used-few : D → all .used - taken .used < linkPart
       used-few s =
           finish-few text (s .own .code₀) (s .own .values₀) result h name (s .own .stands) (s .code₁) (s .values₁) (s .close) (s .opened) (s .own .declares) (s .own .long)
           code values at taken (s .declares) (s .long ∙ s .own .long) code₃ values₃ next all (subst L q y)

@@ -12,6 +12,8 @@ use names::Walked;
 use store::set_head;
 use store::set_link;
 use store::sort;
+ghost use Rattle.paper.specs.Words.{wordLimit};
+ghost use Rattle.layout.specs.Parts.{linkPart};
 ghost use mathlib.Core.Path.{_≡_};
 ghost use Prim.Native.Nat.{_+_, _*_, _<_, _≤_};
 ghost use lib.ListN.{length};
@@ -53,7 +55,7 @@ fn result_of(code: &[u8], h: usize) -> Type
 }
 
 fn name_of(result: Type, h: usize) -> usize
-    requires { ⌜ h < 8192 ⌝ }
+    requires { ⌜ h < wordLimit ⌝ }
     ensures { λ r. ⌜ r ≡ nameWith result h ⌝ }
 {
     if result == types::NONE {
@@ -66,7 +68,7 @@ fn name_of(result: Type, h: usize) -> usize
 
 // What a run has to know of the routine that begins at h: the first word of its list, and how many FOR variables it has.
 fn finish(code: &mut [u8], h: usize, opens: usize, at: usize, fors: u32)
-    requires { ⌜ (h < opens) × (opens * 8 + 8 ≤ length (now code)) × (at < 65536) × (fors < 65536) ⌝ }
+    requires { ⌜ (h < opens) × (opens * 8 + 8 ≤ length (now code)) × (at < linkPart) × (fors < linkPart) ⌝ }
     ensures { λ _. ⌜ Finishes (now (code .entry)) (now (code .exit)) h opens at fors ⌝ }
 {
     store::set_place(code, h, at);
@@ -89,7 +91,7 @@ fn end_list(code: &mut [u8], function: bool, e: usize)
 
 // Where the ERROR list begins, if the word e that closes the other is ERROR; else 0.
 fn leads_to(code: &[u8], e: usize) -> usize
-    requires { ⌜ (e * 8 + 8 ≤ length (now code)) × (e < 8192) ⌝ }
+    requires { ⌜ (e * 8 + 8 ≤ length (now code)) × (e < wordLimit) ⌝ }
     ensures { λ r. ⌜ r ≡ leadsTo (wordsOf (now (code .entry))) e ⌝ }
 {
     if sort(code, e) == sorts::ERROR {

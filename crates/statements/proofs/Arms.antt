@@ -1,4 +1,6 @@
 -- A full IF is walked arm by arm: what is left of it, and what has been written so far.
+use Rattle.names.specs.Promises.{storeBytes}
+use Rattle.layout.specs.Parts.{linkPart}
 use mathlib.Core.Path.{_≡_, refl, sym, ap, subst, _∙_}
 use mathlib.Core.Bool.{Bool, true, false}
 use mathlib.Core.List.{List, [], _++_}
@@ -9,7 +11,7 @@ use lib.ListN.{length}
 use Rattle.laws.proofs.Tests.{by-same}
 use Rattle.cells.specs.Words.{wordsOf}
 use Rattle.paper.specs.Sorts.{ELSE, ELSEIF}
-use Rattle.paper.specs.Words.{Word}
+use Rattle.paper.specs.Words.{Word, wordLimit}
 use Rattle.paper.specs.Trees.{Expr, Statements, Arms, noArm, arm, fullIf}
 use Rattle.paper.specs.Expressions.{levelOf}
 use Rattle.paper.specs.Names.{aBool, Scopes, sortIn}
@@ -142,7 +144,7 @@ module _ (text code values : List ℕ) (k : Setting) (used i first : ℕ) (now v
     order : (t + 1 ≤ x .is .m) × (x .is .m ≤ g .last)
     order = then-order (a .known .W) (g .d) (x .b) (x .rest) t (g .last) (x .is)
 
-    ending : (g .last ≤ g .z) × (g .to ≡ g .z + 1) × (g .to < 8192)
+    ending : (g .last ≤ g .z) × (g .to ≡ g .z + 1) × (g .to < wordLimit)
     ending = (else-grows (sortIn (a .known .W)) (Parses (sortIn (a .known .W))) (grows (a .known .W)) (g .otherwise), g .after, g .here .unread .loaded .last)
 
     lists : Lists text now values k n (t + 1)
@@ -168,7 +170,7 @@ module _ (text code values : List ℕ) (k : Setting) (used i first : ℕ) (now v
     pub arm-after : first ≤ t
     arm-after = x .later
 
-    pub arm-wide : 65536 ≤ length code
+    pub arm-wide : storeBytes ≤ length code
     arm-wide = g .calls .room
 
     pub arm-place : (t < 8191) × (length now ≡ length code)
@@ -223,7 +225,7 @@ module _ (text code values : List ℕ) (k : Setting) (used i first : ℕ) (now v
         small none p = omega (arith, p .1)
         small (some p) q = omega (arith, q .0)
 
-        pub arm-closes : (op < 256) × (c < t) × (t < e) × (e < 8192) × (65536 ≤ length one)
+        pub arm-closes : (op < 256) × (c < t) × (t < e) × (e < wordLimit) × (storeBytes ≤ length one)
         arm-closes = (small (x .before) (x .opened), x .next, omega (arith, order, done .next-is), omega (arith, done .next-is, order, ending), omega (arith, inner .long, x .long, g .calls .room))
 
         module _ (two : List ℕ) (ended : ArmEnded one two op c t e) where
@@ -304,7 +306,7 @@ module _ (text code values : List ℕ) (k : Setting) (used i first : ℕ) (now v
           head-if (some p) q = ap opIn (head-before written i (omega (arith, q .2, q .3))) ∙ x .head (omega (arith, q .2, q .3))
 
           place : placeAt (wordsOf two) i ≡ offsetIn (a .known .W) i
-          place = y .arm-is .kept .places i ∙ y .then-is .kept .places i ∙ ap (λ (v : ℕ). v % 65536) (tail-before (done .outside) i (omega (arith, x .low, x .next))) ∙ x .place
+          place = y .arm-is .kept .places i ∙ y .then-is .kept .places i ∙ ap (λ (v : ℕ). v % linkPart) (tail-before (done .outside) i (omega (arith, x .low, x .next))) ∙ x .place
 
           kept-on : (C : List ℕ) → SameWords (wordsOf two) C (i + 1) m → SameWords (wordsOf now) C (i + 1) c
           kept-on C s = same-on (same-before (i + 1) c written (omega arith)) (same-part (wordsOf two) C (i + 1) m (i + 1) c (omega arith) (omega (arith, x .next, order)) s)
@@ -372,7 +374,7 @@ module _ (text code values : List ℕ) (k : Setting) (used i first : ℕ) (now v
                       (λ (first : ℕ). RawElse (groundOf a) (a .known .n) (wordsOf three) (λ (x2 y2 : ℕ). RawList (groundOf a) (a .known .n) (wordsOf three) (g .o) (a .known .S) (n + forsInList (x .b)) x2 y2) m first (g .to)) m)
                   ends = upto-done r2 last-answer z v q2
 
-                  pub arm-ends : (i * 8 + 8 ≤ length three) × (z < 65536)
+                  pub arm-ends : (i * 8 + 8 ≤ length three) × (z < linkPart)
                   arm-ends = (omega (arith, last-answer .long, arm-long, g .calls .room, x .low, x .next, order, ending), omega (arith, ends .next-is, ending))
 
                   module _ (four : List ℕ) (l2 : Linked three four i (opAt (wordsOf three) i) (valueAt (wordsOf three) i) z) where
@@ -445,7 +447,7 @@ module _ (text code values : List ℕ) (k : Setting) (used i first : ℕ) (now v
                           written = record {
                             head = record {
                               first = refl;
-                              place = l2 .kept .places i ∙ ap (λ (w : ℕ). w % 65536) (tail-before (ends .outside) i (omega (arith, x .low, x .next, order))) ∙ place;
+                              place = l2 .kept .places i ∙ ap (λ (w : ℕ). w % linkPart) (tail-before (ends .outside) i (omega (arith, x .low, x .next, order))) ∙ place;
                               word = record { is = l2 .op-is ∙ ap opIn head-three ∙ head-if (x .before) (x .opened); leaves = l2 .link-is ∙ ends .next-is };
                             };
                             last = g .last;
@@ -535,7 +537,7 @@ module _ (text code values : List ℕ) (k : Setting) (used i first : ℕ) (now v
                   three-is : Outside (wordsOf two) (wordsOf three) (m + 1) (f .n)
                   three-is = kept-outside kept
 
-                  pub arm-less : 8192 - m2 < 8192 - t
+                  pub arm-less : wordLimit - m2 < wordLimit - t
                   arm-less = omega (arith, then-at, spans, order, next-order, ending)
 
                   new-faults : total ≡ listFaults (a .known .W) (a .K) (a .M) (f .b) (a .known .S) (n + forsInList (x .b))

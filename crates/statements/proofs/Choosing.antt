@@ -1,4 +1,5 @@
 -- TEST: its cases one by one.
+use Rattle.paper.specs.Words.{wordLimit}
 use mathlib.Core.Path.{_≡_, refl, sym, ap, subst, _∙_}
 use mathlib.Core.Bool.{Bool}
 use mathlib.Core.List.{List, [], _++_}
@@ -82,7 +83,7 @@ module _ (text code values : List ℕ) (k : Setting) (used first : ℕ) (now val
     abbrev x : Casing g now values′ c n
     x = inv .is g
 
-    ending : (c ≤ g .last) × (g .last ≤ g .z) × (g .to ≡ g .z + 1) × (g .to < 8192)
+    ending : (c ≤ g .last) × (g .last ≤ g .z) × (g .to ≡ g .z + 1) × (g .to < wordLimit)
     ending = (cases-grow (sortIn (a .known .W)) (Parses (sortIn (a .known .W))) (grows (a .known .W)) (x .is), default-grows (sortIn (a .known .W)) (Parses (sortIn (a .known .W))) (grows (a .known .W)) (g .otherwise), g .after, g .here .unread .loaded .last)
 
     pub case-room : (first ≤ c) × (c < 8191) × (c * 8 + 8 ≤ length now)
@@ -309,7 +310,7 @@ module _ (text code values : List ℕ) (k : Setting) (used first : ℕ) (now val
                   chained : CaseChain (a .known .W) (a .known .S) (a .M) (wordsOf three) (f .cs) (f .n) c
                   chained = case-chain-same (a .known .W) (a .known .S) (a .M) (wordsOf one) (wordsOf three) (f .n) (c + 2) (to-three (c + 2) (f .n) (omega arith) (omega arith)) (f .cs) c first-three (omega arith) (v .written)
 
-                  pub case-links : Chained three colon c × (e < 8192)
+                  pub case-links : Chained three colon c × (e < wordLimit)
                   case-links = (
                     subst (λ (w : ℕ). Chained three w c) (sym (v .next-is)) (record {
                       W = a .known .W;

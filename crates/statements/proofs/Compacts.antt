@@ -1,4 +1,5 @@
 -- Simple statements, by themselves and in a compact IF.
+use Rattle.paper.specs.Words.{wordLimit}
 use mathlib.Core.Path.{_≡_, refl, sym, subst, _∙_}
 use mathlib.Core.Bool.{Bool}
 use mathlib.Core.List.{List}
@@ -116,7 +117,7 @@ module _ (text code values : List ℕ) (k : Setting) (used i t : ℕ) (g : Compa
   pub compact-stands : simples.Statement text code values k t
   compact-stands = simple-stands text code values b k used t (g .to) (g .here) (g .s) (g .n) (g .is) (g .ends) (omega (arith, g .after))
 
-  pub compact-room : (i * 8 + 8 ≤ length code) × (t < 8192)
+  pub compact-room : (i * 8 + 8 ≤ length code) × (t < wordLimit)
   compact-room = (omega (arith, g .before, bound), omega (arith, bound, g .here .unread .loaded .last))
     where
       bound : (t < g .n) × (g .n ≤ g .to) × (g .to * 8 + 8 ≤ length code)
@@ -134,7 +135,7 @@ module _ (text code values : List ℕ) (k : Setting) (used i t : ℕ) (g : Compa
       f : answered.Fine (simpleFaults (b .known .W) (b .K) (b .known .S) (g .s)) code one t (g .n + 1) next (RawSimple (groundOf b) (b .known .n) (wordsOf one) (b .known .S) (g .s) t (g .n + 1))
       f = typed-fine j found bool next q
 
-      pub compact-next : (next ≤ 8192) × (length one ≡ length code)
+      pub compact-next : (next ≤ wordLimit) × (length one ≡ length code)
       compact-next = (omega (arith, f .next-is, g .after, g .here .unread .loaded .last), found .long)
 
       compact-yes : (two : List ℕ) → Linked one two i aCompactIf t next → (scope : Scope) → Answer (simpleFaults (b .known .W) (b .K) (b .known .S) (g .s)) code two values values i (g .to) used

@@ -1,4 +1,7 @@
 -- DEFAULT with its list, or ENDTEST.
+use Rattle.paper.specs.Words.{wordLimit}
+use Rattle.names.specs.Promises.{storeBytes}
+use Rattle.layout.specs.Parts.{linkPart}
 use mathlib.Core.Path.{_≡_, refl, sym, ap, subst, _∙_}
 use mathlib.Core.List.{List}
 use Prim.Native.Nat.{ℕ, _+_, _-_, _*_, _<_, _≤_}
@@ -37,10 +40,10 @@ module _ {before after : List ℕ} {i op : ℕ} (place link : ℕ) (r : Rewritte
   pub rewritten-op : op < 256 → opAt (wordsOf after) i ≡ op
   rewritten-op h = ap opIn (rewritten-head r room) ∙ omega arith
 
-  pub rewritten-place : place < 65536 → placeAt (wordsOf after) i ≡ place
+  pub rewritten-place : place < linkPart → placeAt (wordsOf after) i ≡ place
   rewritten-place h = ap placeIn (rewritten-tail r room) ∙ omega arith
 
-  pub rewritten-link : place < 65536 → linkAt (wordsOf after) i ≡ link
+  pub rewritten-link : place < linkPart → linkAt (wordsOf after) i ≡ link
   rewritten-link h = ap linkIn (rewritten-tail r room) ∙ omega arith
 
 module _ (text code values : List ℕ) (k : Setting) (used c : ℕ) (g : Defaults text code values k used c) where
@@ -50,10 +53,10 @@ module _ (text code values : List ℕ) (k : Setting) (used c : ℕ) (g : Default
   order : c ≤ g .z
   order = default-grows (sortIn (a .known .W)) (Parses (sortIn (a .known .W))) (grows (a .known .W)) (g .is)
 
-  last : g .to < 8192
+  last : g .to < wordLimit
   last = g .here .unread .loaded .last
 
-  pub default-room : (c < 8191) × (c * 8 + 8 ≤ length code) × (65536 ≤ length code)
+  pub default-room : (c < 8191) × (c * 8 + 8 ≤ length code) × (storeBytes ≤ length code)
   default-room = (omega (arith, order, last, g .after), omega (arith, order, last, g .after, g .here .calls .room), g .here .calls .room)
 
   abbrev ForDefault : (after values′ : List ℕ) → Walked → Type 0
@@ -72,7 +75,7 @@ module _ (text code values : List ℕ) (k : Setting) (used c : ℕ) (g : Default
         let z : g .z ≡ c = q .1 in
         let none : forsInList (g .o) ≡ 0 = ap forsInList (q .0) in
         let to-is : c + 1 ≡ g .to = omega (arith, g .after, z) in
-        let small : c + 1 < 65536 = omega (arith, default-room) in
+        let small : c + 1 < linkPart = omega (arith, default-room) in
         done-answer _ _ _ _ _ _ _ _ _ _ _
         (record {
           none = ap (λ (o : Statements). listFaults (a .known .W) (a .K) (a .M) o (a .known .S) used) (q .0);
@@ -118,14 +121,14 @@ module _ (text code values : List ℕ) (k : Setting) (used c : ℕ) (g : Default
           closes : (c + 2 ≤ z) × (z < 8191) × (z + 1 ≡ g .to) × (length one ≡ length code)
           closes = behind-closes behind one values′ r l z n q
 
-          pub default-closes : (c + 1 < z) × (z < 8191) × (c * 8 + 8 ≤ length one) × (65536 ≤ length one)
+          pub default-closes : (c + 1 < z) × (z < 8191) × (c * 8 + 8 ≤ length one) × (storeBytes ≤ length one)
           default-closes = (omega (arith, closes), closes .1, omega (arith, default-room, closes), omega (arith, default-room, closes))
 
           yes : (two three : List ℕ) → Rewritten one two c anOtherwise (tailWith (c + 2) z) → Linked two three z aPass 0 (z + 1) → ForDefault three values′ (Upto (z + 1) n)
           yes two three x y =
               let o = rewritten-outside x (default-closes .2) in
               let p = linked-outside y in
-              let small : c + 2 < 65536 = omega (arith, default-room) in
+              let small : c + 2 < linkPart = omega (arith, default-room) in
               let sp = same-before c (c + 1) p (omega (arith, closes)) in
               behind-right behind one values′ r l z n q two three o p (omega arith) _
               (record {

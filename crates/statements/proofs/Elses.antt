@@ -1,4 +1,6 @@
 -- ELSE with its list, or ENDIF.
+use Rattle.paper.specs.Words.{wordLimit}
+use Rattle.names.specs.Promises.{storeBytes}
 use mathlib.Core.Path.{_≡_, refl, sym, ap, subst, _∙_}
 use mathlib.Core.List.{List}
 use Prim.Native.Nat.{ℕ, _+_, _-_, _<_, _≤_}
@@ -37,10 +39,10 @@ module _ (text code values : List ℕ) (k : Setting) (used c : ℕ) (g : Elses t
   order : c ≤ g .z
   order = else-grows (sortIn (a .known .W)) (Parses (sortIn (a .known .W))) (grows (a .known .W)) (g .is)
 
-  last : g .to < 8192
+  last : g .to < wordLimit
   last = g .here .unread .loaded .last
 
-  pub else-room : (c < 8191) × (65536 ≤ length code)
+  pub else-room : (c < 8191) × (storeBytes ≤ length code)
   else-room = (omega (arith, order, last, g .after), g .here .calls .room)
 
   abbrev ForElse : (after values′ : List ℕ) → Walked → Type 0

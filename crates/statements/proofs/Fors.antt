@@ -1,4 +1,6 @@
 -- FOR: its head, its list, and what is written of it.
+use Rattle.paper.specs.Words.{wordLimit}
+use Rattle.layout.specs.Parts.{linkPart}
 use mathlib.Core.Path.{_≡_, refl, sym, ap, subst, _∙_}
 use mathlib.Core.Bool.{Bool, false}
 use mathlib.Core.List.{List, [], _++_}
@@ -17,7 +19,7 @@ use Rattle.paper.specs.Checks.{forsIn, forsInList, optionalNum, statementFaults
 use Rattle.code.specs.Cells.{opIn, valueIn, placeIn, linkIn, headAt, tailAt, placeAt, linkAt}
 use Rattle.names.specs.Numbers.{numberOf}
 use Rattle.names.specs.Meanings.{isProtected}
-use Rattle.names.specs.Promises.{numberAt, Declared, Links, Left, storeBytes}
+use Rattle.names.specs.Promises.{numberAt, Declared, Links, Left, storeBytes, numberLimit}
 use Rattle.names.specs.declared.Scope.{Scope}
 use Rattle.store.proofs.Rewriting.{rewritten-length, rewritten-head, rewritten-tail}
 use Rattle.grammar.specs.Form.{Parses}
@@ -72,7 +74,7 @@ module _ (text code values : List ℕ) (k : Setting) (used i : ℕ) (g : Begins 
       steps : w .head .stepAt ≤ w .doAt
       steps = step-grows (sortIn (a .known .W)) (Parses (sortIn (a .known .W))) (grows (a .known .W)) (w .head .stepPart)
 
-  last : (s .to ≡ w .end + 1) × (s .to < 8192)
+  last : (s .to ≡ w .end + 1) × (s .to < wordLimit)
   last = (w .after, s .here .unread .loaded .last)
 
   heads : ForHeads code values used i
@@ -140,12 +142,12 @@ module _ (text code values : List ℕ) (k : Setting) (used i : ℕ) (g : Begins 
       f = typed-fine j ha bool d q
 
       number : numberAt (wordsOf one) (i + 1) ≡ numberOf (a .known .W) (i + 1)
-      number = ap (λ (v : ℕ). v / 256 % 8192) (head-before (kept-outside (f .kept)) (i + 1) (omega arith)) ∙ s .here .unread .loaded .words (i + 1) (omega arith) (omega (arith, orders, last)) .number (w .head .name)
+      number = ap (λ (v : ℕ). v / 256 % numberLimit) (head-before (kept-outside (f .kept)) (i + 1) (omega arith)) ∙ s .here .unread .loaded .words (i + 1) (omega arith) (omega (arith, orders, last)) .number (w .head .name)
 
       room : (i + 1) * 8 + 8 ≤ length one
       room = omega (arith, orders, last, s .here .unread .loaded .room, ha .long)
 
-      pub for-declares : ((i + 1) * 8 + 8 ≤ length one) × (65536 ≤ length values)
+      pub for-declares : ((i + 1) * 8 + 8 ≤ length one) × (storeBytes ≤ length values)
       for-declares = (room, a .known .table)
 
       pub for-spare : (used < 64) × (i < d) × (d < 8191)
@@ -204,7 +206,7 @@ module _ (text code values : List ℕ) (k : Setting) (used i : ℕ) (g : Begins 
                 (RawList (groundOf a) (a .known .n) (wordsOf three) (w .body) S′ (used + 1) (w .doAt + 1) (w .end))
             done = upto-done r body e n q2
 
-            pub for-closes : (used < 64) × (i < d) × (d < e) × (e < 8192) × (65536 ≤ length three)
+            pub for-closes : (used < 64) × (i < d) × (d < e) × (e < wordLimit) × (storeBytes ≤ length three)
             for-closes = (f .written .spare, omega (arith, f .next-is, orders), omega (arith, f .next-is, orders, done .next-is), omega (arith, done .next-is, last), omega (arith, body .long, long-two, s .here .calls .room))
 
             pub for-leaves : n .first ≡ i → (n .first * 8 + 16 ≤ length three) × (storeBytes ≤ length values″) × Links three (n .first + 1)
@@ -249,7 +251,7 @@ module _ (text code values : List ℕ) (k : Setting) (used i : ℕ) (g : Begins 
               place-two : placeAt (wordsOf (y .two)) i ≡ offsetIn (a .known .W) i
               unfolding offsetIn
               place-two =
-                  y .head .kept .places i ∙ y .opens .kept .places i ∙ ap (λ (v : ℕ). v % 65536) (tail-before (done .outside) i (omega (arith, orders)) ∙ tail-before named i (omega arith)) ∙ f .kept .places i
+                  y .head .kept .places i ∙ y .opens .kept .places i ∙ ap (λ (v : ℕ). v % linkPart) (tail-before (done .outside) i (omega (arith, orders)) ∙ tail-before named i (omega arith)) ∙ f .kept .places i
                   ∙ s .here .unread .places i (omega arith) (omega (arith, orders, last))
 
               do-same : SameWords (wordsOf (y .one)) (wordsOf four) (w .doAt) (w .doAt + 1)
@@ -258,10 +260,10 @@ module _ (text code values : List ℕ) (k : Setting) (used i : ℕ) (g : Begins 
               test-head : headAt (wordsOf four) (w .end) ≡ aForTest + 256 * (used + 256 * i)
               test-head = rewritten-head (y .test) end-room
 
-              test-tail : tailAt (wordsOf four) (w .end) ≡ placeAt (wordsOf (y .two)) i + 65536 * (w .doAt + 1)
+              test-tail : tailAt (wordsOf four) (w .end) ≡ placeAt (wordsOf (y .two)) i + linkPart * (w .doAt + 1)
               test-tail = rewritten-tail (y .test) end-room
 
-              parts : (v p o : ℕ) → (((aForTest + 256 * v) % 256 ≡ aForTest) × ((aForTest + 256 * v) / 256 ≡ v)) × (((p % 65536 + 65536 * o) % 65536 ≡ p % 65536) × ((p % 65536 + 65536 * o) / 65536 ≡ o))
+              parts : (v p o : ℕ) → (((aForTest + 256 * v) % 256 ≡ aForTest) × ((aForTest + 256 * v) / 256 ≡ v)) × (((p % linkPart + linkPart * o) % linkPart ≡ p % linkPart) × ((p % linkPart + linkPart * o) / linkPart ≡ o))
               parts v p o = ((omega arith, omega arith), (omega arith, omega arith))
 
               raw : RawFor (groundOf a) (a .known .n) (wordsOf four) (a .known .S) used i (w .a) (w .b) (w .c)

@@ -1,4 +1,6 @@
 -- TEST: its selector, and then its cases.
+use Rattle.paper.specs.Words.{wordLimit}
+use Rattle.layout.specs.Parts.{linkPart}
 use mathlib.Core.Path.{_≡_, refl, sym, ap, subst, _∙_}
 use mathlib.Core.Bool.{Bool, false}
 use mathlib.Core.List.{List, [], _++_}
@@ -57,7 +59,7 @@ module _ (text code values : List ℕ) (k : Setting) (used i : ℕ) (g : Begins 
   orders : (i + 1 < w .n) × (w .n ≤ w .m) × (w .m ≤ w .end)
   orders = (grows (a .known .W) _ _ _ _ (w .selector), cases-grow (sortIn (a .known .W)) (Parses (sortIn (a .known .W))) (grows (a .known .W)) (w .cases), default-grows (sortIn (a .known .W)) (Parses (sortIn (a .known .W))) (grows (a .known .W)) (w .otherwise))
 
-  last : (s .to ≡ w .end + 1) × (s .to < 8192)
+  last : (s .to ≡ w .end + 1) × (s .to < wordLimit)
   last = (w .after, s .here .unread .loaded .last)
 
   -- CASE, DEFAULT or ENDTEST follows
@@ -124,7 +126,7 @@ module _ (text code values : List ℕ) (k : Setting) (used i : ℕ) (g : Begins 
       pub test-chooses : Chooses text one values k used t
       test-chooses = subst (λ (x : ℕ). Chooses text one values k used x) (sym at-is) chooses
 
-      pub test-forward : (i < t) × (t < 8192)
+      pub test-forward : (i < t) × (t < wordLimit)
       test-forward = (omega (arith, at-is, orders), omega (arith, at-is, orders, last))
 
       module _ (two values′ : List ℕ) (r : Walked) (x : Chosen text one values two values′ k used t r) where
@@ -154,7 +156,7 @@ module _ (text code values : List ℕ) (k : Setting) (used i : ℕ) (g : Begins 
               (λ (last : ℕ). RawDefault (groundOf a) (a .known .n) (wordsOf two) (λ (x2 y2 : ℕ). RawList (groundOf a) (a .known .n) (wordsOf two) (w .default) (a .known .S) (used + forsInCases (w .c)) x2 y2) last (s .to)))
           done = upto-done r inner z n q2
 
-          pub test-room : (i * 8 + 8 ≤ length two) × (z < 65536)
+          pub test-room : (i * 8 + 8 ≤ length two) × (z < linkPart)
           test-room = (omega (arith, inner .long, kept .long, orders, last, s .here .unread .loaded .room), omega (arith, done .next-is, last))
 
           -- what a run reads stays: the TEST's own word alone is written
@@ -177,7 +179,7 @@ module _ (text code values : List ℕ) (k : Setting) (used i : ℕ) (g : Begins 
                 record {
                   head = record {
                     first = refl;
-                    place = l .kept .places i ∙ ap (λ (x3 : ℕ). x3 % 65536) (tail-before (done .outside) i (omega (arith, orders))) ∙ kept .places i ∙ s .here .unread .places i (omega arith) (omega (arith, orders, last));
+                    place = l .kept .places i ∙ ap (λ (x3 : ℕ). x3 % linkPart) (tail-before (done .outside) i (omega (arith, orders))) ∙ kept .places i ∙ s .here .unread .places i (omega arith) (omega (arith, orders, last));
                     word = subst (RawWord (wordsOf three) aTest i) (done .next-is) (linked-word l);
                   };
                   term = subst (RawTerm (groundOf a) (a .known .n) (wordsOf three) (a .known .S) (w .e) (i + 1)) (sym v)

@@ -1,4 +1,5 @@
 -- A list is walked statement by statement: what is left of it, and what has been written so far.
+use Rattle.paper.specs.Words.{wordLimit}
 use mathlib.Core.Path.{_≡_, refl, sym, ap, subst, _∙_}
 use mathlib.Core.Bool.{Bool, true, false}
 use mathlib.Core.List.{List, _++_}
@@ -125,7 +126,7 @@ module _ (text code values : List ℕ) (k : Setting) (used at : ℕ) (now values
   pub list-values : Lists text code values k used at → length values′ ≡ length values
   list-values g = inv .is g .same .long
 
-  pub list-forward : Lists text code values k used at → (at ≤ i) × (i < 8192)
+  pub list-forward : Lists text code values k used at → (at ≤ i) × (i < wordLimit)
   list-forward g =
       let x = inv .is g in
       (x .order, omega (arith, x .inside, x .here .unread .loaded .last))
@@ -230,7 +231,7 @@ module _ (text code values : List ℕ) (k : Setting) (used at : ℕ) (now values
           unfolding one first-faults
           done = upto-done r answer m u e
 
-          less : 8192 - m < 8192 - i
+          less : wordLimit - m < wordLimit - i
           less = omega (arith, done .next-is, forward, behind, x .here .unread .loaded .last)
 
           goes : Going g after values″ (f .n) (n + forsIn (f .s))
@@ -264,7 +265,7 @@ module _ (text code values : List ℕ) (k : Setting) (used at : ℕ) (now values
       pub list-faulty : (number word : ℕ) → r ≡ Faulty number word → Listed text code values after values″ k used at r
       list-faulty number word e = record { is = λ g. faulty-is t g after values″ r st number word e }
 
-      pub list-less : Lists text code values k used at → (m : ℕ) (scope : Scope) → r ≡ Upto m scope → 8192 - m < 8192 - i
+      pub list-less : Lists text code values k used at → (m : ℕ) (scope : Scope) → r ≡ Upto m scope → wordLimit - m < wordLimit - i
       list-less g m scope e = less t g after values″ r st m scope e
 
       pub list-goes : (m : ℕ) (u : Scope) → r ≡ Upto m u → Goings text code values k used at after values″ m (u .used)

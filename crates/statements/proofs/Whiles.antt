@@ -1,4 +1,7 @@
 -- WHILE: its condition, its list, and what is written of it.
+use Rattle.paper.specs.Words.{wordLimit}
+use Rattle.names.specs.Promises.{storeBytes}
+use Rattle.layout.specs.Parts.{linkPart}
 use mathlib.Core.Path.{_≡_, refl, sym, ap, subst, _∙_}
 use mathlib.Core.Bool.{Bool, true, false}
 use mathlib.Core.List.{List, []}
@@ -61,7 +64,7 @@ module _ (text code values : List ℕ) (k : Setting) (used i : ℕ) (g : Begins 
   unfolding levelOf
   no-operator = ap levelOf (w .doWord)
 
-  last : s .to < 8192
+  last : s .to < wordLimit
   last = s .here .unread .loaded .last
 
   pub while-condition : expressions.Stands code values 5 (i + 1)
@@ -101,7 +104,7 @@ module _ (text code values : List ℕ) (k : Setting) (used i : ℕ) (g : Begins 
       kept : Kept code one (i + 1) (w .doAt)
       kept = judged-kept text code values a k used i (s .to) (s .here) (w .e) (i + 1) (w .doAt) (w .condition) no-operator (omega arith) (omega (arith, listed, w .after)) one boolType aBool bool-in j c bool d q
 
-      pub while-forward : (i < d) × (d < 8192)
+      pub while-forward : (i < d) × (d < wordLimit)
       while-forward = (omega (arith, do-at, begins), omega (arith, do-at, listed, w .after, last))
 
       lists : Lists text one values k used (w .doAt + 1)
@@ -137,7 +140,7 @@ module _ (text code values : List ℕ) (k : Setting) (used i : ℕ) (g : Begins 
               (RawList (groundOf a) (a .known .n) (wordsOf two) (w .body) (a .known .S) used (w .doAt + 1) (w .end))
           done = upto-done r body e n q2
 
-          pub while-closes : (i < d) × (d < e) × (e < 8192) × (65536 ≤ length two)
+          pub while-closes : (i < d) × (d < e) × (e < wordLimit) × (storeBytes ≤ length two)
           while-closes = (omega (arith, do-at, begins), omega (arith, do-at, listed, done .next-is), omega (arith, done .next-is, w .after, last), omega (arith, body .long, kept .long, s .here .calls .room))
 
           module _ (three : List ℕ) (x : WhileEnded two three i d e) where
@@ -159,7 +162,7 @@ module _ (text code values : List ℕ) (k : Setting) (used i : ℕ) (g : Begins 
             place : placeAt (wordsOf three) i ≡ offsetIn (a .known .W) i
             unfolding offsetIn
             place =
-                y .head .kept .places i ∙ y .again .kept .places i ∙ y .opens .kept .places i ∙ ap (λ (t : ℕ). t % 65536) (tail-before (done .outside) i (omega (arith, begins))) ∙ kept .places i
+                y .head .kept .places i ∙ y .again .kept .places i ∙ y .opens .kept .places i ∙ ap (λ (t : ℕ). t % linkPart) (tail-before (done .outside) i (omega (arith, begins))) ∙ kept .places i
                 ∙ s .here .unread .places i (omega arith) (omega (arith, begins, listed, w .after))
 
             raw : RawWhile (groundOf a) (a .known .n) (wordsOf three) (a .known .S) i (w .e)

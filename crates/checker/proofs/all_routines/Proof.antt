@@ -36,7 +36,8 @@ enum-known-r c = search needs
 
 add-k : tie.Need-add-k Inv-loop μ-loop
 add-k c =
-    let at-loop-test = c .before .before .before .before .before .before .before .before .before .before in
+    let back = c .before .before .before .before .before .before in
+    let at-loop-test = back .before .before .before .before in
     let at-loop = at-loop-test .before in
     omega (arith, k-small _ _ _ _ _ _ _ _ _ (at-loop .loop .inv .0) (at-loop-test .loop-test .taken))
 

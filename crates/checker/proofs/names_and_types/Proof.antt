@@ -192,4 +192,28 @@ returns-4 c =
     (back-upto _ _ (at-all-routines .all-routines .ensures .1) _ _ (at-r .r2 .given .1))
 
 pub names-and-types-spec : {M : Type 1} → statement M
-names-and-types-spec = tie.close (tie.spec read-requires of-module-requires module-data-requires enum-known-d enum-known-d-2 sub-all-routines all-routines-requires enum-known-r enum-known-r-2 same-length same-length-2 returns cast-t32 same-length-3 same-length-4 returns-2 same-length-5 same-length-6 returns-3 same-length-7 same-length-8 returns-4)
+names-and-types-spec =
+    tie.close
+    (tie.spec
+    read-requires
+    of-module-requires
+    module-data-requires
+    enum-known-d
+    enum-known-d-2
+    sub-all-routines
+    all-routines-requires
+    enum-known-r
+    enum-known-r-2
+    same-length
+    same-length-2
+    returns
+    cast-t32
+    same-length-3
+    same-length-4
+    returns-2
+    same-length-5
+    same-length-6
+    returns-3
+    same-length-7
+    same-length-8
+    returns-4)

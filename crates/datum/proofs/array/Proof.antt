@@ -49,7 +49,8 @@ start-requires c κs = search needs
 add-t27 : tie.Need-add-t27
 add-t27 c =
     let at-start = c .before .before .before .before in
-    let at-if1 = at-start .before .before .before .before .before .before .before .before .before .before in
+    let back = at-start .before .before .before .before .before .before in
+    let at-if1 = back .before .before .before .before in
     let at-size = at-if1 .before .before .before .before .before .before in
     let start = at-size .before .before .before .before .before in
     next-adds _ _ _ _ _ (array-asks (start .pre .2) (start .pre .0)) (at-size .size .ensures) _ _ (at-if1 .before .before .c2 .given .1)
@@ -72,7 +73,8 @@ same-length-6 c = search needs
 returns-3 : tie.Need-returns-3
 returns-3 c =
     let at-start = c .before .before .before .before in
-    let at-known = at-start .before .before .before .before .before .before .before in
+    let back = at-start .before .before .before .before .before .before in
+    let at-known = back .before in
     let at-if1 = at-known .before .before .before in
     let at-size = at-if1 .before .before .before .before .before .before in
     let start = at-size .before .before .before .before .before in

@@ -36,9 +36,11 @@ start-requires c κs = search needs
 add-t22 : tie.Need-add-t22
 add-t22 c =
     let at-start = c .before .before .before .before in
-    let at-known = at-start .before .before .before .before .before .before .before in
+    let back = at-start .before .before .before .before .before .before in
+    let at-known = back .before in
     let at-sort = at-known .before .before .before .before in
-    let start = at-sort .before .before .before .before .before .before .before .before in
+    let back = at-sort .before .before .before .before .before .before in
+    let start = back .before .before in
     omega (arith, start .pre .1)
 
 same-length : tie.Need-same-length

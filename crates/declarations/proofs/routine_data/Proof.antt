@@ -44,7 +44,9 @@ returns c = search (needs, routine-faulty, stays-on)
 
 set-link-requires : tie.Need-set-link-requires Inv-loop μ-loop
 set-link-requires c κs =
-    let loop = c .before .before .before .before .before .before .before .before .before .before .before .before .before .before .before in
+    let back = c .before .before .before .before .before .before in
+    let back-2 = back .before .before .before .before .before .before in
+    let loop = back-2 .before .before .before in
     let start = loop .before .before .before in
     let h = last-room _ _ _ _ _ _ _ _ _ _ (loop .loop .inv .0) (start .pre .0) in
     let g = routine-small _ _ _ _ _ _ _ _ _ _ (loop .loop .inv .0) (start .pre .0) in

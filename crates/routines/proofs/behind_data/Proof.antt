@@ -86,4 +86,19 @@ returns-2 c =
     )
 
 pub behind-data-spec : {M : Type 1} → statement M
-behind-data-spec = tie.close (tie.spec lists-requires enum-known-l enum-told same-length same-length-2 returns add-finish sub-finish finish-requires leave-routine-requires same-length-3 same-length-4 returns-2)
+behind-data-spec =
+    tie.close
+    (tie.spec
+    lists-requires
+    enum-known-l
+    enum-told
+    same-length
+    same-length-2
+    returns
+    add-finish
+    sub-finish
+    finish-requires
+    leave-routine-requires
+    same-length-3
+    same-length-4
+    returns-2)

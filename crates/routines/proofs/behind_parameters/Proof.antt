@@ -7,10 +7,14 @@ use Rattle.routines.proofs.behind_parameters.Statement.{statement}
 use Rattle.routines.proofs.behind_parameters.Tie as tie
 
 add-routine-data : tie.Need-add-routine-data
-add-routine-data c = omega (arith, own-name _ _ _ _ _ _ _ _ _ (c .before .before .before .before .before .pre .0))
+add-routine-data c =
+    let start = c .before .before .before .before .before in
+    omega (arith, own-name _ _ _ _ _ _ _ _ _ (start .pre .0))
 
 add-routine-data-2 : tie.Need-add-routine-data-2
-add-routine-data-2 c = omega (arith, own-close _ _ _ _ _ _ _ _ _ (c .before .before .before .before .before .pre .0))
+add-routine-data-2 c =
+    let start = c .before .before .before .before .before in
+    omega (arith, own-close _ _ _ _ _ _ _ _ _ (start .pre .0))
 
 routine-data-requires : tie.Need-routine-data-requires
 routine-data-requires c κs =
@@ -64,4 +68,18 @@ returns-2 c =
     )
 
 pub behind-parameters-spec : {M : Type 1} → statement M
-behind-parameters-spec = tie.close (tie.spec add-routine-data add-routine-data-2 routine-data-requires enum-known-d enum-told same-length same-length-2 returns behind-data-requires same-length-3 same-length-4 returns-2)
+behind-parameters-spec =
+    tie.close
+    (tie.spec
+    add-routine-data
+    add-routine-data-2
+    routine-data-requires
+    enum-known-d
+    enum-told
+    same-length
+    same-length-2
+    returns
+    behind-data-requires
+    same-length-3
+    same-length-4
+    returns-2)

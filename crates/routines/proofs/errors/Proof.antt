@@ -15,7 +15,8 @@ end-list-requires c κs = search (needs, closes-room)
 
 add-t16 : tie.Need-add-t16
 add-t16 c =
-    let start = c .before .before .before .before .before .before .before .before in
+    let back = c .before .before .before .before .before .before in
+    let start = back .before .before in
     omega (arith, closes-small _ _ _ _ _ _ _ (start .pre .0))
 
 same-length : tie.Need-same-length
@@ -50,7 +51,8 @@ returns-2 c =
 
 end-list-requires-2 : tie.Need-end-list-requires-2
 end-list-requires-2 c κs =
-    let at-list = c .before .before .before .before .before .before .before .before in
+    let back = c .before .before .before .before .before .before in
+    let at-list = back .before .before in
     let at-if1 = at-list .before .before .before in
     let at-end-list = at-if1 .before .before .before in
     let start = at-end-list .before .before .before .before .before in

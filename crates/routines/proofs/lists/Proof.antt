@@ -37,7 +37,8 @@ returns c =
 
 leads-to-requires : tie.Need-leads-to-requires
 leads-to-requires c κs =
-    let at-list = c .before .before .before .before .before .before .before .before in
+    let back = c .before .before .before .before .before .before in
+    let at-list = back .before .before in
     let start = at-list .before .before .before .before .before .before in (
       e-room _ _ _ _ _ _ _ _ _ _ (at-list .list .ensures .0) _ _ (c .before .before .r .given .1) (start .pre .0),
       e-small _ _ _ _ _ _ _ _ _ _ (at-list .list .ensures .0)
@@ -78,12 +79,17 @@ returns-2 c =
 
 add-set-link : tie.Need-add-set-link
 add-set-link c =
-    let start = c .before .before .before .before .before .before .before .before .before .before .before .before .before .before .before .before .before .before .before .before .before .before .before .before .before .before in
+    let back = c .before .before .before .before .before .before in
+    let back-2 = back .before .before .before .before .before .before in
+    let back-3 = back-2 .before .before .before .before .before .before in
+    let back-4 = back-3 .before .before .before .before .before .before in
+    let start = back-4 .before .before in
     omega (arith, link-small _ _ _ _ _ _ _ (start .pre .0))
 
 set-link-requires : tie.Need-set-link-requires
 set-link-requires c κs =
-    let at-errors = c .before .before .before .before .before .before .before .before in
+    let back = c .before .before .before .before .before .before in
+    let at-errors = back .before .before in
     let at-leads-to = at-errors .before .before .before in
     let at-r = at-leads-to .before .before .before in
     let at-list = at-r .before .before .before .before .before .before in

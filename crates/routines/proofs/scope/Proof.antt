@@ -78,4 +78,18 @@ returns-2 c =
     )
 
 pub scope-spec : {M : Type 1} → statement M
-scope-spec = tie.close (tie.spec add-enter-routine enter-routine-requires parameters-requires enum-known-p enum-told same-length same-length-2 returns behind-parameters-requires same-length-3 same-length-4 returns-2)
+scope-spec =
+    tie.close
+    (tie.spec
+    add-enter-routine
+    enter-routine-requires
+    parameters-requires
+    enum-known-p
+    enum-told
+    same-length
+    same-length-2
+    returns
+    behind-parameters-requires
+    same-length-3
+    same-length-4
+    returns-2)

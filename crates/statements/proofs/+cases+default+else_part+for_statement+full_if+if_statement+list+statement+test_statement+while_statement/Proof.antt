@@ -1,3 +1,4 @@
+use Rattle.paper.specs.Words.{wordLimit}
 use borrow.Author.Needs.{needs}
 use Prim.Native.Nat.{_+_, _-_, _*_}
 use native.Mathlib.Omega.{arith}
@@ -68,34 +69,34 @@ use Rattle.statements.proofs.+cases+default+else_part+for_statement+ful
 use Rattle.statements.proofs.+cases+default+else_part+for_statement+full_if+if_statement+list+statement+test_statement+while_statement.Tie.{close}
 
 abbrev μ-cases : Measures 3 cases-kinds.ps ℕ
-μ-cases κs a = (8192 - a .1 .1 .1 .1 .1 .0) * 3 + 1
+μ-cases κs a = (wordLimit - a .1 .1 .1 .1 .1 .0) * 3 + 1
 
 abbrev μ-default : Measures 3 default-kinds.ps ℕ
-μ-default κs a = (8192 - a .1 .1 .1 .1 .1 .0) * 3
+μ-default κs a = (wordLimit - a .1 .1 .1 .1 .1 .0) * 3
 
 abbrev μ-else-part : Measures 3 else-part-kinds.ps ℕ
-μ-else-part κs a = (8192 - a .1 .1 .1 .1 .1 .0) * 3
+μ-else-part κs a = (wordLimit - a .1 .1 .1 .1 .1 .0) * 3
 
 abbrev μ-for-statement : Measures 3 for-statement-kinds.ps ℕ
-μ-for-statement κs a = (8192 - a .1 .1 .1 .1 .1 .0) * 3
+μ-for-statement κs a = (wordLimit - a .1 .1 .1 .1 .1 .0) * 3
 
 abbrev μ-full-if : Measures 3 full-if-kinds.ps ℕ
-μ-full-if κs a = (8192 - a .1 .1 .1 .1 .1 .1 .0) * 3
+μ-full-if κs a = (wordLimit - a .1 .1 .1 .1 .1 .1 .0) * 3
 
 abbrev μ-if-statement : Measures 3 if-statement-kinds.ps ℕ
-μ-if-statement κs a = (8192 - a .1 .1 .1 .1 .1 .0) * 3
+μ-if-statement κs a = (wordLimit - a .1 .1 .1 .1 .1 .0) * 3
 
 abbrev μ-list : Measures 3 list-kinds.ps ℕ
-μ-list κs a = (8192 - a .1 .1 .1 .1 .1 .0) * 3 + 2
+μ-list κs a = (wordLimit - a .1 .1 .1 .1 .1 .0) * 3 + 2
 
 abbrev μ-statement : Measures 3 statement-kinds.ps ℕ
-μ-statement κs a = (8192 - a .1 .1 .1 .1 .1 .0) * 3 + 1
+μ-statement κs a = (wordLimit - a .1 .1 .1 .1 .1 .0) * 3 + 1
 
 abbrev μ-test-statement : Measures 3 test-statement-kinds.ps ℕ
-μ-test-statement κs a = (8192 - a .1 .1 .1 .1 .1 .0) * 3
+μ-test-statement κs a = (wordLimit - a .1 .1 .1 .1 .1 .0) * 3
 
 abbrev μ-while-statement : Measures 3 while-statement-kinds.ps ℕ
-μ-while-statement κs a = (8192 - a .1 .1 .1 .1 .1 .0) * 3
+μ-while-statement κs a = (wordLimit - a .1 .1 .1 .1 .1 .0) * 3
 
 abbrev cases-at : ℕ → In 3 cases-kinds.ps
 cases-at t = and 3 cases-kinds.ps (is 3 cases-kinds.ps μ-cases t) cases.Pre
@@ -226,7 +227,7 @@ abbrev cases-Inv-loop : cases-lts.InvT-loop
 cases-Inv-loop text code₀ values₀ k first c₀ n₀ code values c n = Casings text code₀ values₀ k (n₀ .used) first code values c (n .used) × Grown n₀ n
 
 abbrev cases-μ-loop : cases-lts.MeasureT-loop
-cases-μ-loop text code₀ values₀ k first c₀ n₀ code values c n = 8192 - c
+cases-μ-loop text code₀ values₀ k first c₀ n₀ code values c n = wordLimit - c
 
 cases-loop-holds : (t : ℕ) → cases-lts.Need-loop-holds (calls-cases t) (cases-at t) cases.Post cases-Inv-loop cases-μ-loop
 cases-loop-holds t c = search (needs, cases-begin, grown-self)
@@ -251,7 +252,8 @@ cases-default-requires t c κs =
 cases-same-length : (t : ℕ) → cases-lts.Need-same-length (calls-cases t) (cases-at t) cases.Post cases-Inv-loop cases-μ-loop
 cases-same-length t c =
     let z =
-    (let at-loop = c .before .before .before .before .before .before .before .before .before .before in
+    (let back = c .before .before .before .before .before .before in
+    let at-loop = back .before .before .before .before in
     let start = at-loop .before .before .before .before in
     case-long _ _ _ _ _ _ _ _ _ _ (at-loop .loop .inv .0) (start .pre .1 .0)) in
     search needs
@@ -259,7 +261,8 @@ cases-same-length t c =
 cases-same-length-2 : (t : ℕ) → cases-lts.Need-same-length-2 (calls-cases t) (cases-at t) cases.Post cases-Inv-loop cases-μ-loop
 cases-same-length-2 t c =
     let z =
-    (let at-loop = c .before .before .before .before .before .before .before .before .before .before in
+    (let back = c .before .before .before .before .before .before in
+    let at-loop = back .before .before .before .before in
     let start = at-loop .before .before .before .before in
     case-values-long _ _ _ _ _ _ _ _ _ _ (at-loop .loop .inv .0) (start .pre .1 .0)) in
     search needs
@@ -286,7 +289,8 @@ cases-enum-known-j t c = search needs
 cases-same-length-3 : (t : ℕ) → cases-lts.Need-same-length-3 (calls-cases t) (cases-at t) cases.Post cases-Inv-loop cases-μ-loop
 cases-same-length-3 t c =
     let z =
-    (let at-loop = c .before .before .before .before .before .before .before .before .before .before .before in
+    (let back = c .before .before .before .before .before .before in
+    let at-loop = back .before .before .before .before .before in
     let start = at-loop .before .before .before .before in
     case-long _ _ _ _ _ _ _ _ _ _ (at-loop .loop .inv .0) (start .pre .1 .0)) in
     search needs
@@ -294,7 +298,8 @@ cases-same-length-3 t c =
 cases-same-length-4 : (t : ℕ) → cases-lts.Need-same-length-4 (calls-cases t) (cases-at t) cases.Post cases-Inv-loop cases-μ-loop
 cases-same-length-4 t c =
     let z =
-    (let at-loop = c .before .before .before .before .before .before .before .before .before .before .before in
+    (let back = c .before .before .before .before .before .before in
+    let at-loop = back .before .before .before .before .before in
     let start = at-loop .before .before .before .before in
     case-values-long _ _ _ _ _ _ _ _ _ _ (at-loop .loop .inv .0) (start .pre .1 .0)) in
     search needs
@@ -315,7 +320,8 @@ cases-enum-known-j-2 t c = search needs
 
 cases-add-list : (t : ℕ) → cases-lts.Need-add-list (calls-cases t) (cases-at t) cases.Post cases-Inv-loop cases-μ-loop
 cases-add-list t c =
-    let at-case-values = c .before .before .before .before .before .before .before in
+    let back = c .before .before .before .before .before .before in
+    let at-case-values = back .before in
     let at-if1 = at-case-values .before .before .before in
     let at-sort = at-if1 .before in
     let at-loop = at-sort .before .before in
@@ -328,7 +334,8 @@ cases-add-list t c =
 
 cases-list-requires : (t : ℕ) → cases-lts.Need-list-requires (calls-cases t) (cases-at t) cases.Post cases-Inv-loop cases-μ-loop
 cases-list-requires t c κs =
-    let at-case-values = c .before .before .before .before .before .before .before in
+    let back = c .before .before .before .before .before .before in
+    let at-case-values = back .before in
     let at-if1 = at-case-values .before .before .before in
     let at-sort = at-if1 .before in
     let at-loop = at-sort .before .before in
@@ -356,7 +363,10 @@ cases-enum-told t c = search needs
 cases-same-length-5 : (t : ℕ) → cases-lts.Need-same-length-5 (calls-cases t) (cases-at t) cases.Post cases-Inv-loop cases-μ-loop
 cases-same-length-5 t c =
     let z =
-    (let at-loop = c .before .before .before .before .before .before .before .before .before .before .before .before .before .before .before .before .before .before .before .before in
+    (let back = c .before .before .before .before .before .before in
+    let back-2 = back .before .before .before .before .before .before in
+    let back-3 = back-2 .before .before .before .before .before .before in
+    let at-loop = back-3 .before .before in
     let start = at-loop .before .before .before .before in
     case-long _ _ _ _ _ _ _ _ _ _ (at-loop .loop .inv .0) (start .pre .1 .0)) in
     search needs
@@ -364,7 +374,10 @@ cases-same-length-5 t c =
 cases-same-length-6 : (t : ℕ) → cases-lts.Need-same-length-6 (calls-cases t) (cases-at t) cases.Post cases-Inv-loop cases-μ-loop
 cases-same-length-6 t c =
     let z =
-    (let at-loop = c .before .before .before .before .before .before .before .before .before .before .before .before .before .before .before .before .before .before .before .before in
+    (let back = c .before .before .before .before .before .before in
+    let back-2 = back .before .before .before .before .before .before in
+    let back-3 = back-2 .before .before .before .before .before .before in
+    let at-loop = back-3 .before .before in
     let start = at-loop .before .before .before .before in
     case-values-long _ _ _ _ _ _ _ _ _ _ (at-loop .loop .inv .0) (start .pre .1 .0)) in
     search needs
@@ -384,13 +397,17 @@ cases-returns-3 t c =
 
 cases-add-set-word : (t : ℕ) → cases-lts.Need-add-set-word (calls-cases t) (cases-at t) cases.Post cases-Inv-loop cases-μ-loop
 cases-add-set-word t c =
-    let at-loop = c .before .before .before .before .before .before .before .before .before .before .before .before .before .before .before .before .before .before .before .before .before .before in
+    let back = c .before .before .before .before .before .before in
+    let back-2 = back .before .before .before .before .before .before in
+    let back-3 = back-2 .before .before .before .before .before .before in
+    let at-loop = back-3 .before .before .before .before in
     let start = at-loop .before .before .before .before in
     omega (arith, case-room _ _ _ _ _ _ _ _ _ _ (at-loop .loop .inv .0) (start .pre .1 .0))
 
 cases-set-word-requires : (t : ℕ) → cases-lts.Need-set-word-requires (calls-cases t) (cases-at t) cases.Post cases-Inv-loop cases-μ-loop
 cases-set-word-requires t c κs =
-    let at-list = c .before .before .before .before .before .before .before .before in
+    let back = c .before .before .before .before .before .before in
+    let at-list = back .before .before in
     let at-j2 = at-list .before .before .before .before in
     let at-case-values = at-j2 .before .before .before .before in
     let at-if1 = at-case-values .before .before .before in
@@ -417,7 +434,8 @@ cases-link-values-requires t c κs =
 
 cases-loop-less : (t : ℕ) → cases-lts.Need-loop-less (calls-cases t) (cases-at t) cases.Post cases-Inv-loop cases-μ-loop
 cases-loop-less t c =
-    let at-r = c .before .before .before .before .before .before .before .before .before in
+    let back = c .before .before .before .before .before .before in
+    let at-r = back .before .before .before in
     let at-list = at-r .before .before .before .before .before .before in
     let at-j2 = at-list .before .before .before .before in
     let at-case-values = at-j2 .before .before .before .before in
@@ -444,26 +462,32 @@ cases-loop-again t c =
     )
 
 default-sort-requires : (t : ℕ) → default-lts.Need-sort-requires (calls-default t) (default-at t) default.Post
-default-sort-requires t c κs = omega (arith, default-room _ _ _ _ _ _ (c .before .before .before .before .pre .1 .0))
+default-sort-requires t c κs =
+    let start = c .before .before .before .before in
+    omega (arith, default-room _ _ _ _ _ _ (start .pre .1 .0))
 
 default-add-rewrite : (t : ℕ) → default-lts.Need-add-rewrite (calls-default t) (default-at t) default.Post
 default-add-rewrite t c =
-    let start = c .before .before .before .before .before .before .before in
+    let back = c .before .before .before .before .before .before in
+    let start = back .before in
     omega (arith, default-room _ _ _ _ _ _ (start .pre .1 .0))
 
 default-add-rewrite-2 : (t : ℕ) → default-lts.Need-add-rewrite-2 (calls-default t) (default-at t) default.Post
 default-add-rewrite-2 t c =
-    let start = c .before .before .before .before .before .before .before in
+    let back = c .before .before .before .before .before .before in
+    let start = back .before in
     omega (arith, default-room _ _ _ _ _ _ (start .pre .1 .0))
 
 default-rewrite-requires : (t : ℕ) → default-lts.Need-rewrite-requires (calls-default t) (default-at t) default.Post
 default-rewrite-requires t c κs =
-    let start = c .before .before .before .before .before .before .before in
+    let back = c .before .before .before .before .before .before in
+    let start = back .before in
     let z = default-room _ _ _ _ _ _ (start .pre .1 .0) in (omega (arith, z), omega (arith, z), omega (arith, z))
 
 default-add-t17 : (t : ℕ) → default-lts.Need-add-t17 (calls-default t) (default-at t) default.Post
 default-add-t17 t c =
-    let start = c .before .before .before .before .before .before .before .before .before .before in
+    let back = c .before .before .before .before .before .before in
+    let start = back .before .before .before .before in
     omega (arith, default-room _ _ _ _ _ _ (start .pre .1 .0))
 
 default-same-length : (t : ℕ) → default-lts.Need-same-length (calls-default t) (default-at t) default.Post
@@ -474,12 +498,14 @@ default-returns t c = search (needs, default-no, grown-self)
 
 default-add-list : (t : ℕ) → default-lts.Need-add-list (calls-default t) (default-at t) default.Post
 default-add-list t c =
-    let start = c .before .before .before .before .before .before .before .before in
+    let back = c .before .before .before .before .before .before in
+    let start = back .before .before in
     omega (arith, default-room _ _ _ _ _ _ (start .pre .1 .0))
 
 default-list-requires : (t : ℕ) → default-lts.Need-list-requires (calls-default t) (default-at t) default.Post
 default-list-requires t c κs =
-    let start = c .before .before .before .before .before .before .before .before in (
+    let back = c .before .before .before .before .before .before in
+    let start = back .before .before in (
       omega (arith, default-room _ _ _ _ _ _ (start .pre .1 .0), start .pre .0),
       (
         search (needs, default-lists),
@@ -504,12 +530,15 @@ default-returns-2 t c = search (needs, default-wrong)
 
 default-add-rewrite-3 : (t : ℕ) → default-lts.Need-add-rewrite-3 (calls-default t) (default-at t) default.Post
 default-add-rewrite-3 t c =
-    let start = c .before .before .before .before .before .before .before .before .before .before .before .before .before .before .before .before .before in
+    let back = c .before .before .before .before .before .before in
+    let back-2 = back .before .before .before .before .before .before in
+    let start = back-2 .before .before .before .before .before in
     omega (arith, default-room _ _ _ _ _ _ (start .pre .1 .0))
 
 default-rewrite-requires-2 : (t : ℕ) → default-lts.Need-rewrite-requires-2 (calls-default t) (default-at t) default.Post
 default-rewrite-requires-2 t c κs =
-    let at-list = c .before .before .before .before .before .before .before .before in
+    let back = c .before .before .before .before .before .before in
+    let at-list = back .before .before in
     let at-if1 = at-list .before .before .before in
     let at-sort = at-if1 .before in
     let start = at-sort .before .before .before .before .before in
@@ -538,7 +567,8 @@ default-set-word-requires t c κs =
 
 default-add-t23 : (t : ℕ) → default-lts.Need-add-t23 (calls-default t) (default-at t) default.Post
 default-add-t23 t c =
-    let at-r = c .before .before .before .before .before .before .before .before .before in
+    let back = c .before .before .before .before .before .before in
+    let at-r = back .before .before .before in
     let at-list = at-r .before .before .before .before .before .before in
     let at-if1 = at-list .before .before .before in
     let at-sort = at-if1 .before in
@@ -565,21 +595,26 @@ default-returns-3 t c =
     )
 
 else-part-sort-requires : (t : ℕ) → else-part-lts.Need-sort-requires (calls-else-part t) (else-part-at t) else-part.Post
-else-part-sort-requires t c κs = omega (arith, else-room _ _ _ _ _ _ (c .before .before .before .before .pre .1 .0))
+else-part-sort-requires t c κs =
+    let start = c .before .before .before .before in
+    omega (arith, else-room _ _ _ _ _ _ (start .pre .1 .0))
 
 else-part-add-set-word : (t : ℕ) → else-part-lts.Need-add-set-word (calls-else-part t) (else-part-at t) else-part.Post
 else-part-add-set-word t c =
-    let start = c .before .before .before .before .before .before .before in
+    let back = c .before .before .before .before .before .before in
+    let start = back .before in
     omega (arith, else-room _ _ _ _ _ _ (start .pre .1 .0))
 
 else-part-set-word-requires : (t : ℕ) → else-part-lts.Need-set-word-requires (calls-else-part t) (else-part-at t) else-part.Post
 else-part-set-word-requires t c κs =
-    let start = c .before .before .before .before .before .before .before in
+    let back = c .before .before .before .before .before .before in
+    let start = back .before in
     let z = else-room _ _ _ _ _ _ (start .pre .1 .0) in (omega (arith, z), omega arith, omega arith, omega (arith, z))
 
 else-part-add-t17 : (t : ℕ) → else-part-lts.Need-add-t17 (calls-else-part t) (else-part-at t) else-part.Post
 else-part-add-t17 t c =
-    let start = c .before .before .before .before .before .before .before .before .before .before in
+    let back = c .before .before .before .before .before .before in
+    let start = back .before .before .before .before in
     omega (arith, else-room _ _ _ _ _ _ (start .pre .1 .0))
 
 else-part-same-length : (t : ℕ) → else-part-lts.Need-same-length (calls-else-part t) (else-part-at t) else-part.Post
@@ -590,12 +625,14 @@ else-part-returns t c = search (needs, else-no, grown-self)
 
 else-part-add-list : (t : ℕ) → else-part-lts.Need-add-list (calls-else-part t) (else-part-at t) else-part.Post
 else-part-add-list t c =
-    let start = c .before .before .before .before .before .before .before .before in
+    let back = c .before .before .before .before .before .before in
+    let start = back .before .before in
     omega (arith, else-room _ _ _ _ _ _ (start .pre .1 .0))
 
 else-part-list-requires : (t : ℕ) → else-part-lts.Need-list-requires (calls-else-part t) (else-part-at t) else-part.Post
 else-part-list-requires t c κs =
-    let start = c .before .before .before .before .before .before .before .before in (
+    let back = c .before .before .before .before .before .before in
+    let start = back .before .before in (
       omega (arith, else-room _ _ _ _ _ _ (start .pre .1 .0), start .pre .0),
       (
         search (needs, else-lists),
@@ -620,7 +657,8 @@ else-part-returns-2 t c = search (needs, else-wrong)
 
 else-part-set-word-requires-2 : (t : ℕ) → else-part-lts.Need-set-word-requires-2 (calls-else-part t) (else-part-at t) else-part.Post
 else-part-set-word-requires-2 t c κs =
-    let at-list = c .before .before .before .before .before .before .before .before in
+    let back = c .before .before .before .before .before .before in
+    let at-list = back .before .before in
     let at-if1 = at-list .before .before .before in
     let at-sort = at-if1 .before in
     let start = at-sort .before .before .before .before .before in
@@ -638,6 +676,7 @@ else-part-add-set-word-2 t c =
 
 else-part-set-word-requires-3 : (t : ℕ) → else-part-lts.Need-set-word-requires-3 (calls-else-part t) (else-part-at t) else-part.Post
 else-part-set-word-requires-3 t c κs =
+    let at-set-word2 = c .before .before .before in
     let at-r = c .before .before .before .before .before .before in
     let at-list = at-r .before .before .before .before .before .before in
     let at-if1 = at-list .before .before .before in
@@ -645,11 +684,12 @@ else-part-set-word-requires-3 t c κs =
     let start = at-sort .before .before .before .before .before in
     let z = else-closes _ _ _ _ _ _ (start .pre .1 .0) _ (at-sort .sort .ensures) (at-if1 .if1 .left) _ _ _ (at-list .list .ensures .0) _ _ (at-r .r .given .1) in let
     y = else-room _ _ _ _ _ _ (start .pre .1 .0) in
-    (omega (arith, z, y, c .before .before .before .set-word2 .ensures .kept .long), omega arith, omega arith, omega (arith, z))
+    (omega (arith, z, y, at-set-word2 .set-word2 .ensures .kept .long), omega arith, omega arith, omega (arith, z))
 
 else-part-add-t22 : (t : ℕ) → else-part-lts.Need-add-t22 (calls-else-part t) (else-part-at t) else-part.Post
 else-part-add-t22 t c =
-    let at-r = c .before .before .before .before .before .before .before .before .before in
+    let back = c .before .before .before .before .before .before in
+    let at-r = back .before .before .before in
     let at-list = at-r .before .before .before .before .before .before in
     let at-if1 = at-list .before .before .before in
     let at-sort = at-if1 .before in
@@ -685,14 +725,16 @@ for-statement-enum-known-j-2 t c = search needs
 
 for-statement-enter-requires : (t : ℕ) → for-statement-lts.Need-enter-requires (calls-for-statement t) (for-statement-at t) for-statement.Post
 for-statement-enter-requires t c κs =
-    let at-for-head = c .before .before .before .before .before .before .before in
+    let back = c .before .before .before .before .before .before in
+    let at-for-head = back .before in
     let start = at-for-head .before .before .before .before .before .before in
     let z = for-declares _ _ _ _ _ _ (start .pre .1 .0) _ _ (at-for-head .for-head .ensures) _ _ (c .before .before .before .j2 .given .1) in
     (omega (arith, z .0), z .1, omega (arith, for-spare _ _ _ _ _ _ (start .pre .1 .0) _ _ (at-for-head .for-head .ensures) _ _ (c .before .before .before .j2 .given .1)), start .pre .1 .1)
 
 for-statement-add-list : (t : ℕ) → for-statement-lts.Need-add-list (calls-for-statement t) (for-statement-at t) for-statement.Post
 for-statement-add-list t c =
-    let at-j2 = c .before .before .before .before .before .before .before .before .before .before in
+    let back = c .before .before .before .before .before .before in
+    let at-j2 = back .before .before .before .before in
     let at-for-head = at-j2 .before .before .before .before in
     let start = at-for-head .before .before .before .before .before .before in
     omega (arith, for-spare _ _ _ _ _ _ (start .pre .1 .0) _ _ (at-for-head .for-head .ensures) _ _ (at-j2 .j2 .given .1))
@@ -727,7 +769,8 @@ for-statement-same-length-2 t c = search needs
 for-statement-returns : (t : ℕ) → for-statement-lts.Need-returns (calls-for-statement t) (for-statement-at t) for-statement.Post
 for-statement-returns t c =
     let at-list = c .before .before .before .before .before .before in
-    let at-enter = at-list .before .before .before .before .before .before .before in
+    let back = at-list .before .before .before .before .before .before in
+    let at-enter = back .before in
     let at-j2 = at-enter .before .before .before .before in
     let at-for-head = at-j2 .before .before .before .before in
     let start = at-for-head .before .before .before .before .before .before in (
@@ -738,8 +781,10 @@ for-statement-returns t c =
 
 for-statement-leave-requires : (t : ℕ) → for-statement-lts.Need-leave-requires (calls-for-statement t) (for-statement-at t) for-statement.Post
 for-statement-leave-requires t c κs =
-    let at-list = c .before .before .before .before .before .before .before .before .before in
-    let at-enter = at-list .before .before .before .before .before .before .before in
+    let back = c .before .before .before .before .before .before in
+    let at-list = back .before .before .before in
+    let back = at-list .before .before .before .before .before .before in
+    let at-enter = back .before in
     let at-j2 = at-enter .before .before .before .before in
     let at-for-head = at-j2 .before .before .before .before in
     let start = at-for-head .before .before .before .before .before .before in
@@ -749,9 +794,11 @@ for-statement-leave-requires t c κs =
 
 for-statement-for-end-requires : (t : ℕ) → for-statement-lts.Need-for-end-requires (calls-for-statement t) (for-statement-at t) for-statement.Post
 for-statement-for-end-requires t c κs =
-    let at-r = c .before .before .before .before .before .before .before in
+    let back = c .before .before .before .before .before .before in
+    let at-r = back .before in
     let at-list = at-r .before .before .before .before .before .before in
-    let at-enter = at-list .before .before .before .before .before .before .before in
+    let back = at-list .before .before .before .before .before .before in
+    let at-enter = back .before in
     let at-j2 = at-enter .before .before .before .before in
     let at-for-head = at-j2 .before .before .before .before in
     let start = at-for-head .before .before .before .before .before .before in
@@ -760,9 +807,11 @@ for-statement-for-end-requires t c κs =
 
 for-statement-add-t30 : (t : ℕ) → for-statement-lts.Need-add-t30 (calls-for-statement t) (for-statement-at t) for-statement.Post
 for-statement-add-t30 t c =
-    let at-r = c .before .before .before .before .before .before .before .before .before .before in
+    let back = c .before .before .before .before .before .before in
+    let at-r = back .before .before .before .before in
     let at-list = at-r .before .before .before .before .before .before in
-    let at-enter = at-list .before .before .before .before .before .before .before in
+    let back = at-list .before .before .before .before .before .before in
+    let at-enter = back .before in
     let at-j2 = at-enter .before .before .before .before in
     let at-for-head = at-j2 .before .before .before .before in
     let start = at-for-head .before .before .before .before .before .before in
@@ -787,7 +836,8 @@ for-statement-same-length-5 t c =
     (let at-leave = c .before .before .before .before .before .before in
     let at-r = at-leave .before .before .before .before in
     let at-list = at-r .before .before .before .before .before .before in
-    let at-enter = at-list .before .before .before .before .before .before .before in
+    let back = at-list .before .before .before .before .before .before in
+    let at-enter = back .before in
     let at-j2 = at-enter .before .before .before .before in
     let at-for-head = at-j2 .before .before .before .before in
     let start = at-for-head .before .before .before .before .before .before in
@@ -804,19 +854,23 @@ for-statement-returns-3 t c =
     let at-leave = c .before .before .before .before .before .before in
     let at-r = at-leave .before .before .before .before in
     let at-list = at-r .before .before .before .before .before .before in
-    let at-enter = at-list .before .before .before .before .before .before .before in
+    let back = at-list .before .before .before .before .before .before in
+    let at-enter = back .before in
     let at-j2 = at-enter .before .before .before .before in
-    let at-for-head = at-j2 .before .before .before .before in (
-      for-finished _ _ _ _ _ _ _ _ (at-for-head .for-head .ensures) _ _ (at-j2 .j2 .given .1) _ (omega arith) _ _ (at-enter .enter .ensures .known) _
-          (entered-used (at-enter .enter .ensures)) _ _ _ (at-list .list .ensures .0) _ _ (at-r .r .given .1) _ _ (entered-left (at-enter .enter .ensures) (grown-upto _ _ (at-list .list .ensures .1) _ _ (at-r .r .given .1)) (at-leave .leave .ensures)) _ (left-used (at-enter .enter .ensures) (grown-upto _ _ (at-list .list .ensures .1) _ _ (at-r .r .given .1)) (at-leave .leave .ensures)) (c .before .before .for-end .ensures),
-      entered-grown (at-enter .enter .ensures) (grown-upto _ _ (at-list .list .ensures .1) _ _ (at-r .r .given .1)) (at-leave .leave .ensures),
+    let at-for-head = at-j2 .before .before .before .before in
+    let entered = at-enter .enter .ensures in
+    let more = grown-upto _ _ (at-list .list .ensures .1) _ _ (at-r .r .given .1) in
+    let left = at-leave .leave .ensures in (
+      for-finished _ _ _ _ _ _ _ _ (at-for-head .for-head .ensures) _ _ (at-j2 .j2 .given .1) _ (omega arith) _ _ (entered .known) _
+          (entered-used entered) _ _ _ (at-list .list .ensures .0) _ _ (at-r .r .given .1) _ _ (entered-left entered more left) _ (left-used entered more left) (c .before .before .for-end .ensures),
+      entered-grown entered more left,
     )
 
 abbrev full-if-Inv-loop : full-if-lts.InvT-loop
 full-if-Inv-loop text code₀ values₀ k i first op₀ c₀ t₀ n₀ code values op c t n = Armings text code₀ values₀ k (n₀ .used) i first code values op c t (n .used) × Grown n₀ n
 
 abbrev full-if-μ-loop : full-if-lts.MeasureT-loop
-full-if-μ-loop text code₀ values₀ k i first op₀ c₀ t₀ n₀ code values op c t n = 8192 - t
+full-if-μ-loop text code₀ values₀ k i first op₀ c₀ t₀ n₀ code values op c t n = wordLimit - t
 
 full-if-loop-holds : (t : ℕ) → full-if-lts.Need-loop-holds (calls-full-if t) (full-if-at t) full-if.Post full-if-Inv-loop full-if-μ-loop
 full-if-loop-holds t c = search (needs, arms-begin, grown-self)
@@ -851,7 +905,8 @@ full-if-enum-told t c = search needs
 full-if-same-length : (t : ℕ) → full-if-lts.Need-same-length (calls-full-if t) (full-if-at t) full-if.Post full-if-Inv-loop full-if-μ-loop
 full-if-same-length t c =
     let z =
-    (let at-loop = c .before .before .before .before .before .before .before .before .before in
+    (let back = c .before .before .before .before .before .before in
+    let at-loop = back .before .before .before in
     let start = at-loop .before .before .before .before in
     arm-long-so _ _ _ _ _ _ _ _ _ _ _ _ _ (at-loop .loop .inv .0) (start .pre .1 .0)) in
     search needs
@@ -859,7 +914,8 @@ full-if-same-length t c =
 full-if-same-length-2 : (t : ℕ) → full-if-lts.Need-same-length-2 (calls-full-if t) (full-if-at t) full-if.Post full-if-Inv-loop full-if-μ-loop
 full-if-same-length-2 t c =
     let z =
-    (let at-loop = c .before .before .before .before .before .before .before .before .before in
+    (let back = c .before .before .before .before .before .before in
+    let at-loop = back .before .before .before in
     let start = at-loop .before .before .before .before in
     arm-values _ _ _ _ _ _ _ _ _ _ _ _ _ (at-loop .loop .inv .0) (start .pre .1 .0)) in
     search needs
@@ -869,7 +925,8 @@ full-if-returns t c = search (needs, arm-list-wrong, stays-on)
 
 full-if-arm-end-requires : (t : ℕ) → full-if-lts.Need-arm-end-requires (calls-full-if t) (full-if-at t) full-if.Post full-if-Inv-loop full-if-μ-loop
 full-if-arm-end-requires t c κs =
-    let at-list = c .before .before .before .before .before .before .before .before in
+    let back = c .before .before .before .before .before .before in
+    let at-list = back .before .before in
     let at-loop = at-list .before .before .before in
     let start = at-loop .before .before .before .before in
     arm-closes _ _ _ _ _ _ _ _ _ _ _ _ _ (at-loop .loop .inv .0) (start .pre .1 .0) _ _ _ (at-list .list .ensures .0) _ _ (c .before .before .r .given .1)
@@ -891,7 +948,8 @@ full-if-sort-requires t c κs =
 
 full-if-else-part-requires : (t : ℕ) → full-if-lts.Need-else-part-requires (calls-full-if t) (full-if-at t) full-if.Post full-if-Inv-loop full-if-μ-loop
 full-if-else-part-requires t c κs =
-    let at-arm-end = c .before .before .before .before .before .before .before in
+    let back = c .before .before .before .before .before .before in
+    let at-arm-end = back .before in
     let at-r = at-arm-end .before .before .before in
     let at-list = at-r .before .before .before .before .before .before in
     let at-loop = at-list .before .before .before in
@@ -920,7 +978,11 @@ full-if-enum-told-2 t c = search needs
 full-if-same-length-3 : (t : ℕ) → full-if-lts.Need-same-length-3 (calls-full-if t) (full-if-at t) full-if.Post full-if-Inv-loop full-if-μ-loop
 full-if-same-length-3 t c =
     let z =
-    (let at-loop = c .before .before .before .before .before .before .before .before .before .before .before .before .before .before .before .before .before .before .before .before .before .before .before .before .before .before in
+    (let back = c .before .before .before .before .before .before in
+    let back-2 = back .before .before .before .before .before .before in
+    let back-3 = back-2 .before .before .before .before .before .before in
+    let back-4 = back-3 .before .before .before .before .before .before in
+    let at-loop = back-4 .before .before in
     let start = at-loop .before .before .before .before in
     arm-long-so _ _ _ _ _ _ _ _ _ _ _ _ _ (at-loop .loop .inv .0) (start .pre .1 .0)) in
     search needs
@@ -928,7 +990,11 @@ full-if-same-length-3 t c =
 full-if-same-length-4 : (t : ℕ) → full-if-lts.Need-same-length-4 (calls-full-if t) (full-if-at t) full-if.Post full-if-Inv-loop full-if-μ-loop
 full-if-same-length-4 t c =
     let z =
-    (let at-loop = c .before .before .before .before .before .before .before .before .before .before .before .before .before .before .before .before .before .before .before .before .before .before .before .before .before .before in
+    (let back = c .before .before .before .before .before .before in
+    let back-2 = back .before .before .before .before .before .before in
+    let back-3 = back-2 .before .before .before .before .before .before in
+    let back-4 = back-3 .before .before .before .before .before .before in
+    let at-loop = back-4 .before .before in
     let start = at-loop .before .before .before .before in
     arm-values _ _ _ _ _ _ _ _ _ _ _ _ _ (at-loop .loop .inv .0) (start .pre .1 .0)) in
     search needs
@@ -949,7 +1015,8 @@ full-if-returns-2 t c =
 
 full-if-set-link-requires : (t : ℕ) → full-if-lts.Need-set-link-requires (calls-full-if t) (full-if-at t) full-if.Post full-if-Inv-loop full-if-μ-loop
 full-if-set-link-requires t c κs =
-    let at-else-part = c .before .before .before .before .before .before .before .before in
+    let back = c .before .before .before .before .before .before in
+    let at-else-part = back .before .before in
     let at-if1 = at-else-part .before .before .before in
     let at-sort = at-if1 .before in
     let at-arm-end = at-sort .before .before .before .before in
@@ -983,7 +1050,8 @@ full-if-same-length-6 t c =
     let at-r2 = c .before .before .before .before .before in
     let at-else-part = at-r2 .before .before .before .before .before .before in
     let at-sort = at-else-part .before .before .before .before in
-    let at-r = at-sort .before .before .before .before .before .before .before in
+    let back = at-sort .before .before .before .before .before .before in
+    let at-r = back .before in
     let at-list = at-r .before .before .before .before .before .before in
     let at-loop = at-list .before .before .before in
     let start = at-loop .before .before .before .before in
@@ -1011,7 +1079,8 @@ full-if-returns-3 t c =
 
 full-if-add-of-type : (t : ℕ) → full-if-lts.Need-add-of-type (calls-full-if t) (full-if-at t) full-if.Post full-if-Inv-loop full-if-μ-loop
 full-if-add-of-type t c =
-    let at-r = c .before .before .before .before .before .before .before .before .before .before in
+    let back = c .before .before .before .before .before .before in
+    let at-r = back .before .before .before .before in
     let at-list = at-r .before .before .before .before .before .before in
     let at-loop = at-list .before .before .before in
     let start = at-loop .before .before .before .before in
@@ -1019,7 +1088,8 @@ full-if-add-of-type t c =
 
 full-if-of-type-requires : (t : ℕ) → full-if-lts.Need-of-type-requires (calls-full-if t) (full-if-at t) full-if.Post full-if-Inv-loop full-if-μ-loop
 full-if-of-type-requires t c κs =
-    let at-arm-end = c .before .before .before .before .before .before .before in
+    let back = c .before .before .before .before .before .before in
+    let at-arm-end = back .before in
     let at-r = at-arm-end .before .before .before in
     let at-list = at-r .before .before .before .before .before .before in
     let at-loop = at-list .before .before .before in
@@ -1033,7 +1103,11 @@ full-if-enum-known-j t c = search needs
 full-if-same-length-7 : (t : ℕ) → full-if-lts.Need-same-length-7 (calls-full-if t) (full-if-at t) full-if.Post full-if-Inv-loop full-if-μ-loop
 full-if-same-length-7 t c =
     let z =
-    (let at-loop = c .before .before .before .before .before .before .before .before .before .before .before .before .before .before .before .before .before .before .before .before .before .before .before .before .before in
+    (let back = c .before .before .before .before .before .before in
+    let back-2 = back .before .before .before .before .before .before in
+    let back-3 = back-2 .before .before .before .before .before .before in
+    let back-4 = back-3 .before .before .before .before .before .before in
+    let at-loop = back-4 .before in
     let start = at-loop .before .before .before .before in
     arm-long-so _ _ _ _ _ _ _ _ _ _ _ _ _ (at-loop .loop .inv .0) (start .pre .1 .0)) in
     search needs
@@ -1041,7 +1115,11 @@ full-if-same-length-7 t c =
 full-if-same-length-8 : (t : ℕ) → full-if-lts.Need-same-length-8 (calls-full-if t) (full-if-at t) full-if.Post full-if-Inv-loop full-if-μ-loop
 full-if-same-length-8 t c =
     let z =
-    (let at-loop = c .before .before .before .before .before .before .before .before .before .before .before .before .before .before .before .before .before .before .before .before .before .before .before .before .before in
+    (let back = c .before .before .before .before .before .before in
+    let back-2 = back .before .before .before .before .before .before in
+    let back-3 = back-2 .before .before .before .before .before .before in
+    let back-4 = back-3 .before .before .before .before .before .before in
+    let at-loop = back-4 .before in
     let start = at-loop .before .before .before .before in
     arm-values _ _ _ _ _ _ _ _ _ _ _ _ _ (at-loop .loop .inv .0) (start .pre .1 .0)) in
     search needs
@@ -1177,7 +1255,7 @@ abbrev list-Inv-loop : list-lts.InvT-loop
 list-Inv-loop text code₀ values₀ k at i₀ n₀ code values i n = Goings text code₀ values₀ k (n₀ .used) at code values i (n .used) × Grown n₀ n
 
 abbrev list-μ-loop : list-lts.MeasureT-loop
-list-μ-loop text code₀ values₀ k at i₀ n₀ code values i n = 8192 - i
+list-μ-loop text code₀ values₀ k at i₀ n₀ code values i n = wordLimit - i
 
 list-loop-holds : (t : ℕ) → list-lts.Need-loop-holds (calls-list t) (list-at t) list.Post list-Inv-loop list-μ-loop
 list-loop-holds t c = search (needs, list-begins, grown-self)
@@ -1208,7 +1286,9 @@ list-enum-told t c = search needs
 list-same-length : (t : ℕ) → list-lts.Need-same-length (calls-list t) (list-at t) list.Post list-Inv-loop list-μ-loop
 list-same-length t c =
     let z =
-    (let at-loop = c .before .before .before .before .before .before .before .before .before .before .before .before .before in
+    (let back = c .before .before .before .before .before .before in
+    let back-2 = back .before .before .before .before .before .before in
+    let at-loop = back-2 .before in
     let start = at-loop .before .before .before .before in
     list-long _ _ _ _ _ _ _ _ _ _ (at-loop .loop .inv .0) (start .pre .1 .0)) in
     search needs
@@ -1216,7 +1296,9 @@ list-same-length t c =
 list-same-length-2 : (t : ℕ) → list-lts.Need-same-length-2 (calls-list t) (list-at t) list.Post list-Inv-loop list-μ-loop
 list-same-length-2 t c =
     let z =
-    (let at-loop = c .before .before .before .before .before .before .before .before .before .before .before .before .before in
+    (let back = c .before .before .before .before .before .before in
+    let back-2 = back .before .before .before .before .before .before in
+    let at-loop = back-2 .before in
     let start = at-loop .before .before .before .before in
     list-values _ _ _ _ _ _ _ _ _ _ (at-loop .loop .inv .0) (start .pre .1 .0)) in
     search needs
@@ -1254,7 +1336,8 @@ statement-sort-requires t c κs = search (needs, stands-room)
 
 statement-if-statement-requires : (t : ℕ) → statement-lts.Need-if-statement-requires (calls-statement t) (statement-at t) statement′.Post
 statement-if-statement-requires t c κs =
-    let start = c .before .before .before .before .before .before .before .before in (
+    let back = c .before .before .before .before .before .before in
+    let start = back .before .before in (
       omega (arith, stands-early _ _ _ _ _ _ (start .pre .1 .0), start .pre .0),
       (
         search (needs, begins-by),
@@ -1273,7 +1356,8 @@ statement-returns t c = search (needs, stated-by)
 
 statement-for-statement-requires : (t : ℕ) → statement-lts.Need-for-statement-requires (calls-statement t) (statement-at t) statement′.Post
 statement-for-statement-requires t c κs =
-    let start = c .before .before .before .before .before .before .before .before .before in (
+    let back = c .before .before .before .before .before .before in
+    let start = back .before .before .before in (
       omega (arith, stands-early _ _ _ _ _ _ (start .pre .1 .0), start .pre .0),
       (
         search (needs, begins-by),
@@ -1292,7 +1376,8 @@ statement-returns-2 t c = search (needs, stated-by)
 
 statement-while-statement-requires : (t : ℕ) → statement-lts.Need-while-statement-requires (calls-statement t) (statement-at t) statement′.Post
 statement-while-statement-requires t c κs =
-    let start = c .before .before .before .before .before .before .before .before .before .before in (
+    let back = c .before .before .before .before .before .before in
+    let start = back .before .before .before .before in (
       omega (arith, stands-early _ _ _ _ _ _ (start .pre .1 .0), start .pre .0),
       (
         search (needs, begins-by),
@@ -1311,7 +1396,8 @@ statement-returns-3 t c = search (needs, stated-by)
 
 statement-test-statement-requires : (t : ℕ) → statement-lts.Need-test-statement-requires (calls-statement t) (statement-at t) statement′.Post
 statement-test-statement-requires t c κs =
-    let start = c .before .before .before .before .before .before .before .before .before .before .before in (
+    let back = c .before .before .before .before .before .before in
+    let start = back .before .before .before .before .before in (
       omega (arith, stands-early _ _ _ _ _ _ (start .pre .1 .0), start .pre .0),
       (
         search (needs, begins-by),
@@ -1356,7 +1442,8 @@ test-statement-enum-known-j-2 t c = search needs
 
 test-statement-cases-requires : (t : ℕ) → test-statement-lts.Need-cases-requires (calls-test-statement t) (test-statement-at t) test-statement.Post
 test-statement-cases-requires t c κs =
-    let at-of-type = c .before .before .before .before .before .before .before in
+    let back = c .before .before .before .before .before .before in
+    let at-of-type = back .before in
     let start = at-of-type .before .before .before .before .before .before in (
       omega (arith, test-forward _ _ _ _ _ _ (start .pre .1 .0) _ _ (at-of-type .of-type .ensures) _ _ (c .before .before .before .j2 .given .1), start .pre .0),
       (
@@ -1388,14 +1475,16 @@ test-statement-returns t c =
 
 test-statement-cast-set-word : (t : ℕ) → test-statement-lts.Need-cast-set-word (calls-test-statement t) (test-statement-at t) test-statement.Post
 test-statement-cast-set-word t c =
-    let at-j2 = c .before .before .before .before .before .before .before .before .before .before .before .before in
+    let back = c .before .before .before .before .before .before in
+    let at-j2 = back .before .before .before .before .before .before in
     let at-of-type = at-j2 .before .before .before .before in
     let start = at-of-type .before .before .before .before .before .before in
     omega (arith, test-forward _ _ _ _ _ _ (start .pre .1 .0) _ _ (at-of-type .of-type .ensures) _ _ (at-j2 .j2 .given .1))
 
 test-statement-set-word-requires : (t : ℕ) → test-statement-lts.Need-set-word-requires (calls-test-statement t) (test-statement-at t) test-statement.Post
 test-statement-set-word-requires t c κs =
-    let at-cases = c .before .before .before .before .before .before .before .before in
+    let back = c .before .before .before .before .before .before in
+    let at-cases = back .before .before in
     let at-j2 = at-cases .before .before .before .before in
     let at-of-type = at-j2 .before .before .before .before in
     let start = at-of-type .before .before .before .before .before .before in
@@ -1445,13 +1534,15 @@ while-statement-enum-known-j-2 t c = search needs
 
 while-statement-add-list : (t : ℕ) → while-statement-lts.Need-add-list (calls-while-statement t) (while-statement-at t) while-statement.Post
 while-statement-add-list t c =
-    let at-of-type = c .before .before .before .before .before .before .before in
+    let back = c .before .before .before .before .before .before in
+    let at-of-type = back .before in
     let start = at-of-type .before .before .before .before .before .before in
     omega (arith, while-forward _ _ _ _ _ _ (start .pre .1 .0) _ _ (at-of-type .of-type .ensures) _ _ (c .before .before .before .j2 .given .1))
 
 while-statement-list-requires : (t : ℕ) → while-statement-lts.Need-list-requires (calls-while-statement t) (while-statement-at t) while-statement.Post
 while-statement-list-requires t c κs =
-    let at-of-type = c .before .before .before .before .before .before .before in
+    let back = c .before .before .before .before .before .before in
+    let at-of-type = back .before in
     let start = at-of-type .before .before .before .before .before .before in (
       omega (arith, while-forward _ _ _ _ _ _ (start .pre .1 .0) _ _ (at-of-type .of-type .ensures) _ _ (c .before .before .before .j2 .given .1), start .pre .0),
       (
@@ -1477,7 +1568,8 @@ while-statement-returns t c = search (needs, while-list-wrong)
 
 while-statement-while-end-requires : (t : ℕ) → while-statement-lts.Need-while-end-requires (calls-while-statement t) (while-statement-at t) while-statement.Post
 while-statement-while-end-requires t c κs =
-    let at-list = c .before .before .before .before .before .before .before .before in
+    let back = c .before .before .before .before .before .before in
+    let at-list = back .before .before in
     let at-j2 = at-list .before .before .before .before in
     let at-of-type = at-j2 .before .before .before .before in
     let start = at-of-type .before .before .before .before .before .before in

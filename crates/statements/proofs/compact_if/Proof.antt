@@ -20,7 +20,8 @@ enum-known-j-2 c = search needs
 
 cast-set-word : tie.Need-cast-set-word
 cast-set-word c =
-    let start = c .before .before .before .before .before .before .before .before .before .before .before in
+    let back = c .before .before .before .before .before .before in
+    let start = back .before .before .before .before .before in
     omega (arith, compact-room _ _ _ _ _ _ _ (start .pre))
 
 set-word-requires : tie.Need-set-word-requires
