@@ -48,13 +48,12 @@ use Rattle.program.specs.Routines.{RawModule}
 use Rattle.heads.specs.Trees.{headsFor}
 use Rattle.heads.specs.Reads as heads
 use Rattle.sites.specs.Sites.{theModule, filling, ownOf, owned, Placed, scopesOf, memoryOf, Filled}
-use Rattle.names.specs.declared.Walked as declarations
-use Rattle.names.specs.declared.Walked.the-variants as declared
-use Rattle.sites.specs.Walks.{upto}
 use Rattle.declarations.specs.Answers.{DataStand, ModuleFilled, SaysModule, DeclaresModule}
 use Rattle.around.specs.Around.{Unread, offsetIn}
-use Rattle.routines.specs.declared.Walked.{Walked}
-use Rattle.routines.specs.declared.Walked.the-variants as routines
+use Rattle.names.specs.declared.Scope.{Scope}
+use Rattle.names.specs.Scopes.{moduleScope, Grown}
+use Rattle.names.specs.declared.Walked.{Walked}
+use Rattle.names.specs.declared.Walked.the-variants as variants
 use Rattle.routines.specs.Answers.{groundOf}
 use Rattle.checker.specs.declared.Found.{Found}
 use Rattle.checker.specs.declared.Found.the-variants.{Main, NoMain, Faulty}
@@ -226,12 +225,12 @@ module _ (text code values : List ℕ) (words : ℕ) (f : Formed text code value
       let s : m ≡ n = cc in
       subst (λ (y : Module). Finds text y r code′ values′) s x
 
-  module _ (code₂ values₂ : List ℕ) (d : declarations.Walked) (declares : DeclaresModule code₁ values₁ code₂ values₂ 2 d) where
-    says : (q : declarations.Walked) → d ≡ q → SaysModule data-stand code₂ values₂ q
-    says q e = subst (λ (x : declarations.Walked). SaysModule data-stand code₂ values₂ x) e (declares .is data-stand)
+  module _ (code₂ values₂ : List ℕ) (d : Walked) (declares : DeclaresModule code₁ values₁ code₂ values₂ 2 d) where
+    says : (q : Walked) → d ≡ q → SaysModule data-stand code₂ values₂ q
+    says q e = subst (λ (x : Walked). SaysModule data-stand code₂ values₂ x) e (declares .is data-stand)
 
     -- a fault in them
-    pub data-found : (number word : ℕ) → d ≡ declared.Faulty number word → length code₂ ≡ length code₁ → length values₂ ≡ length values₁ → Walks text code values (Faulty number word) code₂ values₂
+    pub data-found : (number word : ℕ) → d ≡ variants.Faulty number word → length code₂ ≡ length code₁ → length values₂ ≡ length values₁ → Walks text code values (Faulty number word) code₂ values₂
     unfolding SaysModule data-stand moduleData filling Finds
     data-found number word e a b = record {
       finds = any-module (Faulty number word) code₂ values₂ (found-in-module W m (stands .form) (subst (First (record { number = number; at = word })) (sym (data-left W (moduleFilling W known) (m .declared) noData refl)) (says _ e)));
@@ -242,8 +241,8 @@ module _ (text code values : List ℕ) (words : ℕ) (f : Formed text code value
     pub one-less : 1 ≤ words
     one-less = omega (arith, f .laid .many, all-words)
 
-    module _ (at count : ℕ) (e : d ≡ upto at count) where
-      filled : ModuleFilled data-stand code₂ values₂ at count
+    module _ (at : ℕ) (own : Scope) (e : d ≡ variants.Upto at own) where
+      filled : ModuleFilled data-stand code₂ values₂ at (own .used)
       unfolding SaysModule
       filled = says _ e
 
@@ -277,11 +276,11 @@ module _ (text code values : List ℕ) (words : ℕ) (f : Formed text code value
         routines-say q u = subst (λ (x : Walked). SaysRoutines (routines-stand long) code₃ values₃ x) u (walk .is (routines-stand long))
 
         -- a fault in the routines
-        pub routines-found : (number word : ℕ) → r ≡ routines.Faulty number word → Walks text code values (Faulty number word) code₃ values₃
+        pub routines-found : (number word : ℕ) → r ≡ variants.Faulty number word → Walks text code values (Faulty number word) code₃ values₃
         unfolding SaysRoutines routines-stand Finds
         routines-found number word u = record { finds = any-module (Faulty number word) code₃ values₃ (routines-say _ u); code-long = code-long₃; values-long = values-long₃ }
 
-        module _ (n : ℕ) (u : r ≡ routines.Upto n) where
+        module _ (n : ℕ) (all : Scope) (u : r ≡ variants.Upto n all) where
           walked : RoutinesDone (routines-stand long) code₃ values₃
           unfolding SaysRoutines
           walked = routines-say _ u
@@ -294,17 +293,17 @@ module _ (text code values : List ℕ) (words : ℕ) (f : Formed text code value
           unfolding filled data-stand
           starts = filled .next-is
 
-          count-words : count ≡ length (moduleData W m .words)
+          count-words : own .used ≡ length (moduleData W m .words)
           unfolding filled data-stand moduleData filling
           count-words = filled .used-is
 
-          pub main-some : (main ≡ 0 → ⊥) → Walks text code values (Main count main) code₃ values₃
+          main-so : (main ≡ 0 → ⊥) → Walks text code values (Main (own .used) main) code₃ values₃
           unfolding walked routines-stand Finds groundOf mainOf
-          main-some z =
+          main-so z =
               let x = walked in
               let k = numbered R main in
               record {
-                finds = any-module (Main count main) code₃ values₃ (record {
+                finds = any-module (Main (own .used) main) code₃ values₃ (record {
                   clear = x .clear;
                   g = groundOf text W m;
                   text-is = refl;
@@ -331,3 +330,15 @@ module _ (text code values : List ℕ) (words : ℕ) (f : Formed text code value
                 code-long = code-long₃;
                 values-long = values-long₃;
               }
+
+          -- the module's words are counted in the scope that comes back
+          pub main-some : (main ≡ 0 → ⊥) → all ≡ own → Walks text code values (Main (all .used) main) code₃ values₃
+          main-some z same = subst (λ (s : Scope). Walks text code values (Main (s .used) main) code₃ values₃) (sym same) (main-so z)
+
+-- ---- the module's scope
+module _ (s : Scope) (e : s ≡ moduleScope) where
+  pub module-none : s .used ≡ 0
+  module-none = ap (λ (x : Scope). x .used) e
+
+  pub module-alone : (own : Scope) → Grown s own → own .loops ≡ 0
+  module-alone own g = ap (λ (x : Scope). x .loops) (g .rest) ∙ ap (λ (x : Scope). x .loops) e

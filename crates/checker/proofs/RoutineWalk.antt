@@ -34,8 +34,11 @@ use Rattle.program.proofs.Framing.{routines-frame, routines-on}
 use Rattle.heads.specs.Trees.{wordOf, headFor, headsFor, earlierOf}
 use Rattle.heads.proofs.Numbering.{drop-next, drop-all, word-at, numbered-at}
 use Rattle.around.specs.Around.{Unread}
-use Rattle.routines.specs.declared.Walked.{Walked}
-use Rattle.routines.specs.declared.Walked.the-variants as routines
+use Rattle.names.specs.declared.Scope.{Scope}
+use Rattle.names.specs.Scopes.{BackTo}
+use Rattle.names.proofs.Growing.{back-upto}
+use Rattle.names.specs.declared.Walked.{Walked}
+use Rattle.names.specs.declared.Walked.the-variants as variants
 use Rattle.routines.specs.Answers.{ModuleFilled, groundOf, Spares, Begins, Says, Checks}
 use Rattle.checker.specs.Walks.{RoutinesStand, RoutinesDone, SaysRoutines, RoutinesWalk}
 use Rattle.checker.proofs.Loaded.{sorts-low, strings-quoted, unread-kept, unread-less}
@@ -163,13 +166,13 @@ module _ {text code₀ values₀ : List ℕ} {at end : ℕ} (b : RoutinesStand t
     says : (q : Walked) → r ≡ q → Says begins code′ values′ q
     says q e = subst (λ (x : Walked). Says begins code′ values′ x) e (c .is begins)
 
-    found : (number word : ℕ) → r ≡ routines.Faulty number word → First (record { number = number; at = word }) (faults W (b .m))
+    found : (number word : ℕ) → r ≡ variants.Faulty number word → First (record { number = number; at = word }) (faults W (b .m))
     unfolding Says begins
     found number word e = found-in-left W (b .m) (subst (λ (x : List Routine). Left W (b .m) (earlierOf W (dataTexts W (b .m .declared)) k rs) k x h end) (next .is) (g .left)) (next .one) (next .more) (says _ e)
 
-    going-on : length code′ ≡ length code → (n : ℕ) → r ≡ routines.Upto n → Going b code′ values′ n (k + 1)
+    going-on : length code′ ≡ length code → (n : ℕ) (scope : Scope) → r ≡ variants.Upto n scope → Going b code′ values′ n (k + 1)
     unfolding Says begins
-    going-on kept n e =
+    going-on kept n scope e =
         let s = says _ e in
         let z : k + 1 ≡ suc k = add-one k in
         let t : n ≡ next .n = s .goes .next-is in
@@ -198,22 +201,22 @@ module _ (text code₀ values₀ : List ℕ) (at end : ℕ) (code values : List 
     routine-begins = begins (i .stand) code values h k (i .long) (i .going (i .stand)) l
 
     module _ (code′ values′ : List ℕ) (r : Walked) (c : Checks text code values code′ values′ k h r) where
-      pub routine-found : (number word : ℕ) → r ≡ routines.Faulty number word → RoutinesWalk text code₀ values₀ code′ values′ at end r
+      pub routine-found : (number word : ℕ) → r ≡ variants.Faulty number word → RoutinesWalk text code₀ values₀ code′ values′ at end r
       unfolding SaysRoutines
       routine-found number word e = record { is = λ b. subst (λ (x : Walked). SaysRoutines b code′ values′ x) (sym e) (found b code values h k (i .long) (i .going b) l code′ values′ r c number word e) }
 
-      pub routine-done : (n : ℕ) → r ≡ routines.Upto n → length code′ ≡ length code → length values′ ≡ length values → Invariant text code₀ values₀ at end code′ values′ n (k + 1)
-      routine-done n e q v = record { stand = i .stand; long = q ∙ i .long; values-long = v ∙ i .values-long; going = λ b. going-on b code values h k (i .long) (i .going b) l code′ values′ r c q n e }
+      pub routine-done : (n : ℕ) (scope : Scope) → r ≡ variants.Upto n scope → length code′ ≡ length code → length values′ ≡ length values → Invariant text code₀ values₀ at end code′ values′ n (k + 1)
+      routine-done n scope e q v = record { stand = i .stand; long = q ∙ i .long; values-long = v ∙ i .values-long; going = λ b. going-on b code values h k (i .long) (i .going b) l code′ values′ r c q n scope e }
 
-      pub routine-less : (n : ℕ) → r ≡ routines.Upto n → end - n < end - h
+      pub routine-less : (n : ℕ) (scope : Scope) → r ≡ variants.Upto n scope → end - n < end - h
       unfolding Says begins
-      routine-less n e =
+      routine-less n scope e =
           let s = says (i .stand) code values h k (i .long) (i .going (i .stand)) l code′ values′ r c _ e in
           omega (arith, next-on (i .stand) code values h k (i .long) (i .going (i .stand)) l, s .goes .next-is)
 
-  pub routines-done : end ≤ h → RoutinesWalk text code₀ values₀ code values at end (routines.Upto h)
+  pub routines-done : end ≤ h → (scope : Scope) → RoutinesWalk text code₀ values₀ code values at end (variants.Upto h scope)
   unfolding SaysRoutines
-  routines-done l = record { is = λ b. done b (i .going b) }
+  routines-done l scope = record { is = λ b. done b (i .going b) }
     where
       done : (b : RoutinesStand text code₀ values₀ at end) → Going b code values h k → RoutinesDone b code values
       done b g =
@@ -225,3 +228,15 @@ module _ (text code₀ values₀ : List ℕ) (at end : ℕ) (code values : List 
             raw = rw (n .1) (subst (λ (x : List Routine). RawRoutines (groundOf text (wordsIn text) (b .m)) (wordsOf code) (b .m) x (headsFor x) at h) all (g .raw));
             filled = g .filled;
           }
+
+-- ---- the module's scope, which each routine hands back
+module _ (outer scope : Scope) (e : scope ≡ outer) where
+  pub no-loop : outer .loops ≡ 0 → scope .loops ≡ 0
+  no-loop n = ap (λ (s : Scope). s .loops) e ∙ n
+
+  module _ (r : Walked) (b : BackTo scope r) where
+    pub back-on : BackTo outer r
+    back-on = subst (λ (s : Scope). BackTo s r) e b
+
+    pub handed-back : (n : ℕ) (left : Scope) → r ≡ variants.Upto n left → left ≡ outer
+    handed-back n left q = back-upto scope r b n left q ∙ e

@@ -27,9 +27,9 @@ use Rattle.code.specs.Signatures.{Heads}
 use Rattle.grammar.specs.Form.{Parses, RoutinesAt}
 use Rattle.heads.specs.Trees.{headsFor}
 use Rattle.around.specs.Around.{Unread}
-use Rattle.routines.specs.declared.Walked.{Walked}
-use Rattle.routines.specs.declared.Walked.the-variants.{Upto}
-use Rattle.routines.specs.declared.Walked.the-variants as routines
+use Rattle.names.specs.declared.Walked.{Walked}
+use Rattle.names.specs.declared.Walked.the-variants.{Upto}
+use Rattle.names.specs.declared.Walked.the-variants as variants
 use Rattle.routines.specs.Answers.{ModuleFilled, groundOf}
 use Rattle.checker.specs.declared.Found.{Found}
 use Rattle.checker.specs.declared.Found.the-variants.{Main, NoMain, Faulty}
@@ -96,8 +96,8 @@ pub record RoutinesDone {text code values : List ℕ} {at end : ℕ} (b : Routin
   pub filled : ModuleFilled (wordsIn text) (b .m) values′
 
 unfoldable pub SaysRoutines : {text code values : List ℕ} {at end : ℕ} (b : RoutinesStand text code values at end) (code′ values′ : List ℕ) → Walked → Type 0
-SaysRoutines b code′ values′ (Upto next) = RoutinesDone b code′ values′
-SaysRoutines {text = text} b code′ values′ (routines.Faulty number word) = First (record { number = number; at = word }) (faults (wordsIn text) (b .m))
+SaysRoutines b code′ values′ (Upto next scope) = RoutinesDone b code′ values′
+SaysRoutines {text = text} b code′ values′ (variants.Faulty number word) = First (record { number = number; at = word }) (faults (wordsIn text) (b .m))
 
 pub record RoutinesWalk (text code values code′ values′ : List ℕ) (at end : ℕ) (r : Walked) : Type 0 where
   pub is : (b : RoutinesStand text code values at end) → SaysRoutines b code′ values′ r

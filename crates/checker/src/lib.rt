@@ -3,9 +3,11 @@ use form::Verdict;
 use layout::limits;
 use layout::rules;
 use load::Loaded;
-use names::Walked as Declared;
-use routines::Walked;
+use names::Scope;
+use names::Walked;
+ghost use mathlib.Core.Path.{_≡_};
 ghost use Rattle.paper.specs.Answer.{verdict};
+ghost use Rattle.names.specs.Scopes.{BackTo};
 ghost use Rattle.checker.specs.Checks.{Judges, Checks};
 ghost use Rattle.checker.specs.Walks.{Laid, Formed, RoutinesStand, RoutinesWalk, Walks};
 ghost use Rattle.checker.specs.Passes.{Whole, Clean, Settles, Formal};
@@ -28,24 +30,33 @@ enum Found {
     Faulty(u32, usize),
 }
 
-// The routines one after another, up to the word ENDMODULE at `end`.
-fn all_routines(text: &[u8], code: &mut [u8], values: &mut [u8], at: usize, end: usize) -> Walked
-    requires { ⌜ RoutinesStand (now text) (now code) (now values) at end ⌝ }
-    ensures { λ r. ⌜ RoutinesWalk (now (text .entry)) (now (code .entry)) (now (values .entry)) (now (code .exit)) (now (values .exit)) at end r ⌝ }
+// The routines one after another, up to the word ENDMODULE at `end`, in the module's scope.
+fn all_routines(
+    text: &[u8],
+    code: &mut [u8],
+    values: &mut [u8],
+    outer: Scope,
+    at: usize,
+    end: usize,
+) -> Walked
+    requires { ⌜ RoutinesStand (now text) (now code) (now values) at end × (outer .loops ≡ 0) ⌝ }
+    ensures { λ r. ⌜ RoutinesWalk (now (text .entry)) (now (code .entry)) (now (values .entry)) (now (code .exit)) (now (values .exit)) at end r × BackTo outer r ⌝ }
 {
     let mut h = at;
     let mut k = 0;
+    let mut scope = outer;
     while h < end {
-        let r = routines::routine(text, code, values, k, h);
+        let r = routines::routine(text, code, values, scope, k, h);
         match r {
             Walked::Faulty(_, _) => return r,
-            Walked::Upto(next) => {
+            Walked::Upto(next, left) => {
                 h = next;
                 k += 1;
+                scope = left;
             }
         }
     }
-    Walked::Upto(h)
+    Walked::Upto(h, scope)
 }
 
 fn names_and_types(text: &[u8], code: &mut [u8], values: &mut [u8], words: usize) -> Found
@@ -53,18 +64,18 @@ fn names_and_types(text: &[u8], code: &mut [u8], values: &mut [u8], words: usize
     ensures { λ r. ⌜ Walks (now (text .entry)) (now (code .entry)) (now (values .entry)) r (now (code .exit)) (now (values .exit)) ⌝ }
 {
     let main = heads::read(text, code, values);
-    let d = declarations::module_data(code, values, heads::FIRST);
+    let d = declarations::module_data(Scope::of_module(), code, values, heads::FIRST);
     match d {
-        Declared::Faulty(number, word) => Found::Faulty(number, word),
-        Declared::Upto(at, data) => {
-            let r = all_routines(text, code, values, at, words - 1);
+        Walked::Faulty(number, word) => Found::Faulty(number, word),
+        Walked::Upto(at, data) => {
+            let r = all_routines(text, code, values, data, at, words - 1);
             match r {
                 Walked::Faulty(number, word) => Found::Faulty(number, word),
-                Walked::Upto(_) => {
+                Walked::Upto(_, all) => {
                     if main == 0 {
                         return Found::NoMain;
                     }
-                    Found::Main(data.used as usize, main)
+                    Found::Main(all.used as usize, main)
                 }
             }
         }

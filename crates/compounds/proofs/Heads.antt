@@ -1,4 +1,6 @@
 -- The head of a FOR: its name, its bounds and its step.
+use Rattle.paper.specs.Words.{wordLimit}
+use Rattle.layout.specs.Parts.{linkPart}
 use mathlib.Core.Path.{_≡_, refl, sym, ap, subst, _∙_}
 use mathlib.Core.Bool.{Bool, true, false}
 use mathlib.Core.List.{List, [], _++_}
@@ -19,7 +21,7 @@ use Rattle.paper.specs.Declarations.{routineWordLimit, crosses}
 use Rattle.paper.specs.Checks.{optionalNum}
 use Rattle.code.specs.Cells.{opIn, opAt, valueAt, linkAt}
 use Rattle.names.specs.Meanings.{isProtected, protectsCell, firstMeaning}
-use Rattle.names.specs.Promises.{Meant, Protects}
+use Rattle.names.specs.Promises.{Meant, Protects, storeBytes}
 use Rattle.grammar.specs.Form.{Parses, ExprAt, ForHeadAt}
 use Rattle.grammar.proofs.Inversions.{Given, step-none, step-some}
 use Rattle.grammar.proofs.Places.{step-grows}
@@ -60,7 +62,7 @@ module _ (code values : List ℕ) (i : ℕ) (g : Bounds code values i) where
   forward : i + 1 < g .z
   forward = grows (a .known .W) _ _ _ _ (g .is)
 
-  pub bound-room : (i < 8192) × (i * 8 + 8 ≤ length code)
+  pub bound-room : (i < wordLimit) × (i * 8 + 8 ≤ length code)
   bound-room = (omega (arith, forward, g .inside, g .here .unread .loaded .last), omega (arith, forward, g .inside, g .here .unread .loaded .room))
 
   abbrev ForBound : (after : List ℕ) → Judged → Type 0
@@ -80,7 +82,7 @@ module _ (code values : List ℕ) (i : ℕ) (g : Bounds code values i) where
       kept : Kept code one (i + 1) (g .z)
       kept = judged-kept (g .text) code values a (g .k) (g .used) (i + 1) (g .to) (g .here) (g .e) (i + 1) (g .z) (g .is) (g .ends) (omega arith) (g .inside) one numType aNum num-in j c bool n q
 
-      pub bound-links : (i * 8 + 8 ≤ length one) × (n < 65536)
+      pub bound-links : (i * 8 + 8 ≤ length one) × (n < linkPart)
       bound-links = (omega (arith, bound-room, kept .long), omega (arith, at-is, g .inside, g .here .unread .loaded .last))
 
       bound-yes : (two : List ℕ) → Linked one two i (opAt (wordsOf one) i) (valueAt (wordsOf one) i) n → ForBound two (Typed bool n)
@@ -120,7 +122,7 @@ module _ (code values : List ℕ) (s : ℕ) (g : Steps code values s) where
   order : s ≤ g .d
   order = step-grows (sortIn (b .known .W)) (Parses (sortIn (b .known .W))) (grows (b .known .W)) (g .is)
 
-  pub step-room : (s < 8192) × (s * 8 + 8 ≤ length code)
+  pub step-room : (s < wordLimit) × (s * 8 + 8 ≤ length code)
   step-room = (omega (arith, order, g .inside, g .here .unread .loaded .last), omega (arith, order, g .inside, g .here .unread .loaded .room))
 
   abbrev ForStep : (after : List ℕ) → Judged → Type 0
@@ -210,10 +212,10 @@ module _ (code values : List ℕ) (used i : ℕ) (g : ForHeads code values used 
   orders : (i + 3 < x .toAt) × (x .toAt + 1 < x .stepAt) × (x .stepAt ≤ g .doAt)
   orders = (grows (e .known .W) _ _ _ _ (x .start), grows (e .known .W) _ _ _ _ (x .end), step-grows (sortIn (e .known .W)) (Parses (sortIn (e .known .W))) (grows (e .known .W)) (x .stepPart))
 
-  last : (g .doAt < g .to) × (g .to < 8192)
+  last : (g .doAt < g .to) × (g .to < wordLimit)
   last = (g .inside, g .here .unread .loaded .last)
 
-  pub head-room : (i < 8190) × ((i + 1) * 8 + 8 ≤ length code) × (65536 ≤ length values)
+  pub head-room : (i < 8190) × ((i + 1) * 8 + 8 ≤ length code) × (storeBytes ≤ length values)
   head-room = (omega (arith, orders, last), omega (arith, orders, last, g .here .unread .loaded .room), e .known .table)
 
   abbrev name-fault : List Fault

@@ -1,4 +1,5 @@
 -- The values of a CASE are linked to its list.
+use Rattle.layout.specs.Parts.{linkPart}
 use mathlib.Core.Path.{_≡_, refl, sym, ap, subst, _∙_}
 use mathlib.Core.Bool.{false}
 use mathlib.Core.List.{List, [], _∷_}
@@ -8,7 +9,7 @@ use lib.ListN.{length}
 use lib.IntN.{pos, _-ℤ_}
 use Rattle.laws.proofs.Tests.{by-same}
 use Rattle.cells.specs.Words.{wordsOf, Got}
-use Rattle.paper.specs.Words.{Word}
+use Rattle.paper.specs.Words.{Word, wordLimit}
 use Rattle.paper.specs.Terms.{Memory}
 use Rattle.paper.specs.Trees.{Expr}
 use Rattle.paper.specs.Names.{Scopes}
@@ -88,15 +89,15 @@ module _ (before : List ℕ) (colon next c : ℕ) (now : List ℕ) (w : ℕ) (in
   unfolding ground
   some p = inv .is (ground (p .W) (p .M)) 0 (p .S) (p .es) (p .is)
 
-  pub link-room : Chained before colon c → (w < 8192) × (w * 8 + 8 ≤ length now)
+  pub link-room : Chained before colon c → (w < wordLimit) × (w * 8 + 8 ≤ length now)
   link-room p = (omega (arith, some p .high, p .last), omega (arith, some p .high, p .last, p .room, inv .long))
 
   pub link-long : length now ≡ length before
   link-long = inv .long
 
-  module _ (h t m : ℕ) (eh : Got now (w * 2) h) (et : Got now (w * 2 + 1) t) (em : m ≡ t / 65536) where
+  module _ (h t m : ℕ) (eh : Got now (w * 2) h) (et : Got now (w * 2 + 1) t) (em : m ≡ t / linkPart) where
     link-is : linkAt (wordsOf now) w ≡ m
-    link-is = sym (em ∙ ap (λ (v : ℕ). v / 65536) et)
+    link-is = sym (em ∙ ap (λ (v : ℕ). v / linkPart) et)
 
     falls : (W : List Word) (S : Scopes) (M : Memory) (C : List ℕ) (fs : List Expr) → linkAt C w ≡ m → (m ≡ colon → ⊥) → Chain W S M C fs colon w → colon - m < colon - w
     unfolding Chain
@@ -115,14 +116,14 @@ module _ (before : List ℕ) (colon next c : ℕ) (now : List ℕ) (w : ℕ) (in
           let k = inv .is g n S es x in
           let room = link-room p .1 in
           let o = rewritten-outside r room in
-          let small : colon + 1 < 65536 = omega (arith, p .last) in
+          let small : colon + 1 < linkPart = omega (arith, p .last) in
           k .on (wordsOf after) (outside-wider w colon o (omega arith) (omega (arith, k .high))) (rewritten-head r room ∙ eh) (ap placeIn (rewritten-tail r room) ∙ place-part (colon + 1) next small)
           (behind-kept k o) (nothing (k .fs) (k .chain) (ap linkIn (rewritten-tail r room) ∙ link-part (colon + 1) next small))
         where
-          place-part : (a b : ℕ) → a < 65536 → (a + 65536 * b) % 65536 ≡ a
+          place-part : (a b : ℕ) → a < linkPart → (a + linkPart * b) % linkPart ≡ a
           place-part a b q = omega arith
 
-          link-part : (a b : ℕ) → a < 65536 → (a + 65536 * b) / 65536 ≡ b
+          link-part : (a b : ℕ) → a < linkPart → (a + linkPart * b) / linkPart ≡ b
           link-part a b q = omega arith
 
           behind-kept : (k : Linking g n S es (wordsOf before) (wordsOf now) colon next c w) → Outside (wordsOf now) (wordsOf after) w (w + 1) → SameWords (wordsOf now) (wordsOf after) (c + 1) (c + 2)
@@ -158,7 +159,7 @@ module _ (before : List ℕ) (colon next c : ℕ) (now : List ℕ) (w : ℕ) (in
       on-with g n S es k (e2 ∷ fs) e ch =
           let room = link-room p .1 in
           let o = rewritten-outside r room in
-          let small : colon + 1 < 65536 = omega (arith, p .last) in
+          let small : colon + 1 < linkPart = omega (arith, p .last) in
           let v : m ≡ ch .v = sym link-is ∙ ch .leaves in
           let vo = ch .on in
           let vb = ch .before in
@@ -188,10 +189,10 @@ module _ (before : List ℕ) (colon next c : ℕ) (now : List ℕ) (w : ℕ) (in
                 }));
           }
         where
-          place-part : (a b : ℕ) → a < 65536 → (a + 65536 * b) % 65536 ≡ a
+          place-part : (a b : ℕ) → a < linkPart → (a + linkPart * b) % linkPart ≡ a
           place-part a b q = omega arith
 
-          link-part : (a b : ℕ) → a < 65536 → (a + 65536 * b) / 65536 ≡ b
+          link-part : (a b : ℕ) → a < linkPart → (a + linkPart * b) / linkPart ≡ b
           link-part a b q = omega arith
 
       pub link-goes : Linkings before after colon next c m

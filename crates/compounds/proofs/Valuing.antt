@@ -10,7 +10,7 @@ use Rattle.laws.proofs.Tests.{by-same}
 use Rattle.cells.specs.Words.{wordsOf}
 use Rattle.climb.proofs.Operands.{deeper}
 use Rattle.paper.specs.Sorts.{comma}
-use Rattle.paper.specs.Words.{Word}
+use Rattle.paper.specs.Words.{Word, wordLimit}
 use Rattle.paper.specs.Terms.{Memory}
 use Rattle.paper.specs.Trees.{Expr}
 use Rattle.paper.specs.Expressions.{nestings, levelOf}
@@ -106,7 +106,7 @@ module _ (code values : List ℕ) (c : ℕ) (now : List ℕ) (w op : ℕ) (inv :
     unfolding levelOf
     no-operator = by-same (sortIn (a .known .W) (f .n)) comma (λ e. ap levelOf e) (λ n. ap levelOf (ap (sortIn (a .known .W)) (sym (f .done n .1)) ∙ g .ends))
 
-    last : (g .n < g .to) × (g .to < 8192)
+    last : (g .n < g .to) × (g .to < wordLimit)
     last = (g .inside, g .here .unread .loaded .last)
 
     pub value-room : (w < 8190) × (w * 8 + 8 ≤ length now) × (op < 256) × (length now ≡ length code)
@@ -198,7 +198,7 @@ module _ (code values : List ℕ) (c : ℕ) (now : List ℕ) (w op : ℕ) (inv :
         pub value-ranged : InNum v
         value-ranged = right .ranged
 
-        pub value-next : (w + 1 < n) × (n < 8192) × (n * 8 + 8 ≤ length one) × (w * 8 + 8 ≤ length one)
+        pub value-next : (w + 1 < n) × (n < wordLimit) × (n * 8 + 8 ≤ length one) × (w * 8 + 8 ≤ length one)
         value-next = (omega (arith, right .next-is, span), omega (arith, right .next-is, within, last), omega (arith, right .next-is, within, last, kept-one .long, x .here .unread .loaded .room), omega (arith, value-room, kept-one .long))
 
         module _ (hv : ℕ) (held : HeldAs v hv) (two : List ℕ) (l : Linked one two w op hv n) where

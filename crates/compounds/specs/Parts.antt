@@ -1,4 +1,5 @@
 -- What opens and closes a statement that holds lists.
+use Rattle.layout.specs.Parts.{linkPart}
 use mathlib.Core.Path.{_≡_}
 use mathlib.Core.Bool.{false}
 use mathlib.Core.List.{List, [], _∷_, _++_}
@@ -136,7 +137,7 @@ pub record ForEnded (before after : List ℕ) (used i d e : ℕ) : Type 0 where
 pub record BehindElse (code : List ℕ) (e r : ℕ) : Type 0 where
   pub at-else : opAt (wordsOf code) e ≡ ELSE → r ≡ e + 1
   pub elsewhere : (opAt (wordsOf code) e ≡ ELSE → ⊥) → r ≡ e
-  pub small : r < 65536
+  pub small : r < linkPart
 
 -- The list of the THEN at t is closed by the word e; its arm begins with the word c.
 pub record ArmEnded (before after : List ℕ) (op c t e : ℕ) : Type 0 where

@@ -11,6 +11,8 @@ use store::set_head;
 use store::set_link;
 use store::set_word;
 use store::sort;
+ghost use Rattle.paper.specs.Words.{wordLimit};
+ghost use Rattle.names.specs.Promises.{storeBytes};
 ghost use Prim.Native.Nat.{_+_, _*_, _<_, _≤_};
 ghost use lib.ListN.{length};
 ghost use Rattle.compounds.specs.Parts.{WhileEnded, Bounds, Bounded, Steps, Stepped, ForHeads, ForHeaded, ForEnded, BehindElse, ArmEnded, CaseValues, CaseValued, Chained, ValuesLinked};
@@ -19,7 +21,7 @@ ghost use Rattle.compounds.specs.Parts.{WhileEnded, Bounds, Bounded, Ste
 
 // WHILE at i, whose DO is at d and whose ENDWHILE at e.
 pub fn while_end(code: &mut [u8], i: usize, d: usize, e: usize)
-    requires { ⌜ (i < d) × (d < e) × (e < 8192) × (65536 ≤ length (now code)) ⌝ }
+    requires { ⌜ (i < d) × (d < e) × (e < wordLimit) × (storeBytes ≤ length (now code)) ⌝ }
     ensures { λ _. ⌜ WhileEnded (now (code .entry)) (now (code .exit)) i d e ⌝ }
 {
     set_word(code, d, ops::DO, (d + 1) as u32, 0);
@@ -79,7 +81,7 @@ pub fn for_head(code: &mut [u8], values: &[u8], used: u32, i: usize) -> Judged
 
 // FOR at i, whose DO is at d and whose ENDFOR at e.
 pub fn for_end(code: &mut [u8], used: u32, i: usize, d: usize, e: usize)
-    requires { ⌜ (used < 64) × (i < d) × (d < e) × (e < 8192) × (65536 ≤ length (now code)) ⌝ }
+    requires { ⌜ (used < 64) × (i < d) × (d < e) × (e < wordLimit) × (storeBytes ≤ length (now code)) ⌝ }
     ensures { λ _. ⌜ ForEnded (now (code .entry)) (now (code .exit)) used i d e ⌝ }
 {
     set_word(code, d, ops::DO, (d + 1) as u32, 0);
@@ -98,7 +100,7 @@ pub fn for_end(code: &mut [u8], used: u32, i: usize, d: usize, e: usize)
 
 // Where the list of a THEN goes on that is closed by the word e, unless an ELSEIF does that: behind an ELSE.
 fn behind_else(code: &[u8], e: usize) -> usize
-    requires { ⌜ (e < 8192) × (65536 ≤ length (now code)) ⌝ }
+    requires { ⌜ (e < wordLimit) × (storeBytes ≤ length (now code)) ⌝ }
     ensures { λ r. ⌜ BehindElse (now (code .entry)) e r ⌝ }
 {
     if sort(code, e) == sorts::ELSE {
@@ -109,7 +111,7 @@ fn behind_else(code: &[u8], e: usize) -> usize
 
 // The list of the THEN at t is closed by the word e. Its arm begins with the word c.
 pub fn arm_end(code: &mut [u8], op: u32, c: usize, t: usize, e: usize)
-    requires { ⌜ (op < 256) × (c < t) × (t < e) × (e < 8192) × (65536 ≤ length (now code)) ⌝ }
+    requires { ⌜ (op < 256) × (c < t) × (t < e) × (e < wordLimit) × (storeBytes ≤ length (now code)) ⌝ }
     ensures { λ _. ⌜ ArmEnded (now (code .entry)) (now (code .exit)) op c t e ⌝ }
 {
     let link = behind_else(code, e);
@@ -144,7 +146,7 @@ pub fn case_values(code: &mut [u8], values: &[u8], c: usize) -> Judged
 
 // From a CASE up to its colon, each value gets the list's first word as its place; the last one's link is what closes the list.
 pub fn link_values(code: &mut [u8], c: usize, colon: usize, next: usize)
-    requires { ⌜ Chained (now code) colon c × (next < 8192) ⌝ }
+    requires { ⌜ Chained (now code) colon c × (next < wordLimit) ⌝ }
     ensures { λ _. ⌜ ValuesLinked (now (code .entry)) (now (code .exit)) colon next c ⌝ }
 {
     let mut w = c;

@@ -39,6 +39,7 @@ use Rattle.constants.specs.declared.Sized.{Sized as Size}
 use Rattle.constants.specs.Answers.{Asks, Sizes, Counted}
 use Rattle.constants.specs.Answers as constants
 use Rattle.names.specs.declared.Scope.{Scope}
+use Rattle.names.specs.Scopes.{withUsed}
 use Rattle.names.specs.declared.Walked.{Walked}
 use Rattle.names.specs.declared.Walked.the-variants.{Upto, Faulty}
 use Rattle.sites.specs.Sites.{filling, ownOf, scopesOf, memoryOf, Placed, owned, Owns}
@@ -241,10 +242,10 @@ module _ {code values : List ℕ} {own limit used i : ℕ} (brace : opAt (wordsO
             subst (λ (x : Content). Placed (F b .memoryWith (b .D .words ++ vs)) (contentMeaning (b .W) (F b) (type b) x (b .D) (F b .ref (length (b .D .words))))) (sym (sized b .is))
             (record { room = among-new (b .W) (b .s) (b .D .words) vs (length (b .D .words)) _ (omega (arith, long-is b, k .is)); some = omega (arith, k .some, k .is); ranged = λ e. false-true e })
 
-        pub array-goes : (scope : Scope) → scope ≡ record { used = used + count } → DeclaresFree code values code′ values′ own limit used i (Upto (next + 2) scope)
+        pub array-goes : (filled : Scope) → filled .used ≡ used + count → DeclaresFree code values code′ values′ own limit used i (Upto (next + 2) filled)
         unfolding Says contentFaults
-        array-goes scope e = record {
-          is = λ b free. subst (λ (s : Scope). Says b code′ values′ (Upto (next + 2) s)) (sym e) (
+        array-goes filled e = record {
+          is = λ b free. subst (λ (u : ℕ). Says b code′ values′ (Upto (next + 2) (withUsed u filled))) (sym e) (
               let k = count-is b in
               let around = around-kept code mid i (i + 4) (sized b .n) (b .to) (omega arith) (before-end b) (o .kept (size-asks b)) in
               record {

@@ -42,11 +42,13 @@ use Rattle.constants.specs.Answers.{InNum, Asks, Values, HeldAs}
 use Rattle.constants.specs.Answers as constants
 use Rattle.constants.proofs.Terms.{in-num-small}
 use Rattle.names.specs.declared.Scope.{Scope}
+use Rattle.names.specs.Scopes.{withUsed, Grown, Stays}
+use Rattle.names.proofs.Growing.{grown-by}
 use Rattle.names.specs.declared.Walked.{Walked}
 use Rattle.names.specs.declared.Walked.the-variants.{Upto, Faulty}
 use Rattle.sites.specs.Sites.{ownOf, scopesOf, memoryOf, Placed, owned}
 use Rattle.datum.specs.Answers.{Begins, Free, after, Goes, Says}
-use Rattle.sites.specs.Parts.{Makes}
+use Rattle.sites.specs.Parts.{MakesIn, Makes}
 use Rattle.datum.specs.Parts.{scalarKind, Initial, Starts, FitValue, Fit, PlacedAs, Placing, DeclaresFree}
 use Rattle.constants.proofs.Holding.{in-num-32, in-num-64}
 use Rattle.sites.proofs.Sitting.{own-here, among-new, load-new}
@@ -182,15 +184,15 @@ fit-next : (c : Valued) (v : ℤ) (next : ℕ) → c ≡ values-of.Value v next 
 fit-next c v next q f = fit-value c v next q f .near
 
 module _ (code values code′ values′ : List ℕ) (own used kind i : ℕ) (c : Valued) where
-  pub placing-faulty : (number word : ℕ) → c ≡ values-of.Faulty number word → Placing code values code values own used kind i c (Faulty number word)
+  pub placing-faulty : (number word : ℕ) → c ≡ values-of.Faulty number word → (scope : Scope) → Placing code values code values own used kind i c scope (Faulty number word)
   unfolding PlacedAs
-  placing-faulty number word q = record { is = rw q (record { answer = refl; same-code = refl; same-values = refl }) }
+  placing-faulty number word q scope = record { is = rw q (record { answer = refl; same-code = refl; same-values = refl }) }
 
   pub placing-value : (v : ℤ) (next : ℕ) → c ≡ values-of.Value v next → Fit c → (mid-code mid-values : List ℕ) → Makes code values mid-code mid-values (i + 2) kind own used → (word held : ℕ) → word ≡ ofZ w32 (read v)
-      → HeldAs (read v) held → Starts mid-code mid-values code′ values′ own used 1 word held i → (scope : Scope) → scope ≡ record { used = used + 1 }
-      → Placing code values code′ values′ own used kind i c (Upto (next + 1) scope)
+      → HeldAs (read v) held → Starts mid-code mid-values code′ values′ own used 1 word held i → (scope filled : Scope) → filled ≡ withUsed (used + 1) scope
+      → Placing code values code′ values′ own used kind i c scope (Upto (next + 1) filled)
   unfolding PlacedAs
-  placing-value v next q f mid-code mid-values made word held w h started scope e =
+  placing-value v next q f mid-code mid-values made word held w h started scope filled e =
       let y : read v ≡ v = toZ-ofZ (in-num-64 v (fit-value c v next q f .ranged)) in
       record {
         is = rw q (
@@ -220,10 +222,10 @@ module _ {code values : List ℕ} {own limit used i : ℕ} (plain : opAt (wordsO
 
   module _ (s3 : ℕ) (s3-is : s3 ≡ opAt (wordsOf code) (i + 3)) (s0 : ℕ) (s0-is : s0 ≡ opAt (wordsOf code) i) (kind : ℕ) (kind-is : kind ≡ scalarKind s0) (fits : used < limit) where
     pub scalar-plain : (s3 ≡ becomes → ⊥) → (code₂ code′ values₂ values′ : List ℕ) → Makes code values code₂ values₂ (i + 2) kind own used → Starts code₂ values₂ code′ values′ own used 1 0 bias i
-        → (scope : Scope) → scope ≡ record { used = used + 1 } → DeclaresFree code values code′ values′ own limit used i (Upto (i + 4) scope)
+        → (filled : Scope) → filled .used ≡ used + 1 → DeclaresFree code values code′ values′ own limit used i (Upto (i + 4) filled)
     unfolding Says
-    scalar-plain none code₂ code′ values₂ values′ made started scope e = record {
-      is = λ b free. subst (λ (s : Scope). Says b code′ values′ (Upto (i + 4) s)) (sym e) (
+    scalar-plain none code₂ code′ values₂ values′ made started filled e = record {
+      is = λ b free. subst (λ (u : ℕ). Says b code′ values′ (Upto (i + 4) (withUsed u filled))) (sym e) (
           let n = no-value (b .W) (F b) (type b) (b .D) (b .stands .content) (not-brace b) (λ e. none (s3-is ∙ sort-is b 3 (omega arith) ∙ e)) in
           scalar-done b free kind (kind-is ∙ ap scalarKind (s0-is ∙ opens-is b)) (pos 0) (in-num-small 0 (omega arith)) (n .words-are) (n .faults-are) (n .means-are) fits
           code code₂ code′ values₂ values′ 0 bias (i + 4) (around-kept code code i (i + 3) (i + 3) (b .to) (omega arith) (omega (arith, far b)) (kept-same code (i + 3) (i + 3))) made started
@@ -275,14 +277,14 @@ module _ {code values : List ℕ} {own limit used kind i : ℕ} (n : Initial cod
           says-fit c (b .W) (type b) (scopesOf (b .W) (b .s) (b .D)) (memoryOf (b .W) (b .s) (b .D)) (value b .e) (b .stands .end) (omega (arith, l, b .stands .after)) (says-here b)
 
       module _ (code′ values′ : List ℕ) (b : Begins code values own limit used i) (free : Free b) where
-        by-answer : (d : Valued) (r : Walked) → constants.Says (b .W) (type b) (scopesOf (b .W) (b .s) (b .D)) (memoryOf (b .W) (b .s) (b .D)) (value b .e) (b .stands .end) d
-            → PlacedAs mid values code′ values′ own used kind i d r → Says b code′ values′ r
+        by-answer : (d : Valued) (scope : Scope) (r : Walked) → constants.Says (b .W) (type b) (scopesOf (b .W) (b .s) (b .D)) (memoryOf (b .W) (b .s) (b .D)) (value b .e) (b .stands .end) d
+            → PlacedAs mid values code′ values′ own used kind i d scope r → Says b code′ values′ r
         unfolding Says constants.Says PlacedAs
-        by-answer (values-of.Faulty number word) r h p =
+        by-answer (values-of.Faulty number word) scope r h p =
             subst (Says b code′ values′) (sym (p .answer))
             (in-content b (record { number = number; at = word }) free (omega (arith, n .fits, ap length (value b .words-are), b .used-is, b .limit-is))
             (subst (First (record { number = number; at = word })) (sym (value b .faults-are)) h))
-        by-answer (values-of.Value v next) r h p =
+        by-answer (values-of.Value v next) scope r h p =
             let g = p .0 in
             subst (Says b code′ values′) (sym (p .1))
             (scalar-done b free kind (n .kind-is ∙ ap scalarKind (opens-is b)) v (h .ranged) (value b .words-are ∙ ap (λ (z : ℤ). z ∷ []) (sym (h .is))) (value b .faults-are ∙ h .none) (value b .means-are) (n .fits)
@@ -290,5 +292,21 @@ module _ {code values : List ℕ} {own limit used kind i : ℕ} (n : Initial cod
             (around-kept code mid i (i + 4) (b .stands .end) (b .to) (omega arith) (omega (arith, b .stands .after)) (o .kept (value-asks b))) (g .made) (g .started)
             (ap (toZ w32) (g .word-is) ∙ toZ-ofZ (in-num-32 v (h .ranged))) (g .held-is .is) (omega (arith, h .next-is, b .stands .after)))
 
-      pub initial-goes : (code′ values′ : List ℕ) (r : Walked) → Placing mid values code′ values′ own used kind i c r → DeclaresFree code values code′ values′ own limit used i r
-      initial-goes code′ values′ r p = record { is = λ b free. by-answer code′ values′ b free c r (says-here b) (p .is) }
+      pub initial-goes : (code′ values′ : List ℕ) (scope : Scope) (r : Walked) → Placing mid values code′ values′ own used kind i c scope r → DeclaresFree code values code′ values′ own limit used i r
+      initial-goes code′ values′ scope r p = record { is = λ b free. by-answer code′ values′ b free c scope r (says-here b) (p .is) }
+
+-- ---- the scope that is handed back
+module _ {scope filled : Scope} {code values code′ values′ : List ℕ} {i kind own value words : ℕ} (m : MakesIn scope code values code′ values′ i kind own value words filled) where
+  pub made-used : filled .used ≡ scope .used + words
+  made-used = ap (λ (s : Scope). s .used) (m .scope-is)
+
+  pub made-grown : Grown scope filled
+  made-grown = grown-by scope filled words (m .scope-is)
+
+pub placing-stays : (code values code′ values′ : List ℕ) (own kind i : ℕ) (c : Valued) (scope : Scope) (r : Walked) → Placing code values code′ values′ own (scope .used) kind i c scope r → Stays scope r
+unfolding PlacedAs
+placing-stays code values code′ values′ own kind i c scope r p = by-answer c (p .is)
+  where
+    by-answer : (d : Valued) → PlacedAs code values code′ values′ own (scope .used) kind i d scope r → Stays scope r
+    by-answer (values-of.Value v next) q = subst (Stays scope) (sym (q .1)) (grown-by scope _ 1 refl)
+    by-answer (values-of.Faulty number word) q = subst (Stays scope) (sym (q .answer)) tt

@@ -18,8 +18,9 @@ use Rattle.constants.specs.declared.Valued.{Valued}
 use Rattle.constants.specs.declared.Valued.the-variants as values-of
 use Rattle.constants.specs.Answers.{InNum, HeldAs}
 use Rattle.names.specs.declared.Walked.{Walked}
-use Rattle.names.specs.declared.Walked.the-variants.{Faulty}
-use Rattle.sites.specs.Walks.{upto}
+use Rattle.names.specs.declared.Walked.the-variants.{Upto, Faulty}
+use Rattle.names.specs.declared.Scope.{Scope}
+use Rattle.names.specs.Scopes.{withUsed}
 use Rattle.datum.specs.Answers.{Begins, Free, Says}
 use Rattle.sites.specs.Parts.{baseOf, Fills, Makes}
 
@@ -72,12 +73,12 @@ pub record Unplaced (code values code′ values′ : List ℕ) (r s : Walked) : 
   pub same-code : code′ ≡ code
   pub same-values : values′ ≡ values
 
-unfoldable pub PlacedAs : (code values code′ values′ : List ℕ) (own used kind i : ℕ) → Valued → Walked → Type 0
-PlacedAs code values code′ values′ own used kind i (values-of.Value v next) r = PlacedValue code values code′ values′ own used kind i v × (r ≡ upto (next + 1) (used + 1))
-PlacedAs code values code′ values′ own used kind i (values-of.Faulty number word) r = Unplaced code values code′ values′ r (Faulty number word)
+unfoldable pub PlacedAs : (code values code′ values′ : List ℕ) (own used kind i : ℕ) → Valued → Scope → Walked → Type 0
+PlacedAs code values code′ values′ own used kind i (values-of.Value v next) scope r = PlacedValue code values code′ values′ own used kind i v × (r ≡ Upto (next + 1) (withUsed (used + 1) scope))
+PlacedAs code values code′ values′ own used kind i (values-of.Faulty number word) scope r = Unplaced code values code′ values′ r (Faulty number word)
 
-pub record Placing (code values code′ values′ : List ℕ) (own used kind i : ℕ) (c : Valued) (r : Walked) : Type 0 where
-  pub is : PlacedAs code values code′ values′ own used kind i c r
+pub record Placing (code values code′ values′ : List ℕ) (own used kind i : ℕ) (c : Valued) (scope : Scope) (r : Walked) : Type 0 where
+  pub is : PlacedAs code values code′ values′ own used kind i c scope r
 
 -- ---- a declaration whose name can be declared
 pub record DeclaresFree (code values code′ values′ : List ℕ) (own limit used i : ℕ) (r : Walked) : Type 0 where

@@ -10,6 +10,7 @@ ghost use Rattle.paper.specs.Declarations.{moduleWordLimit};
 ghost use Rattle.cells.specs.Words.{wordsOf};
 ghost use Rattle.code.specs.Cells.{opAt};
 ghost use Rattle.names.specs.Promises.{storeBytes};
+ghost use Rattle.names.specs.Scopes.{Stays};
 ghost use Rattle.constants.specs.Answers.{InNum};
 ghost use Rattle.datum.specs.Answers.{Begins, Declares, Near};
 ghost use Rattle.datum.specs.Parts.{scalarKind, Starts, Fit, Placing, Initial, DeclaresFree};
@@ -81,7 +82,7 @@ fn start(
 // VAR type name{c};
 fn array(scope: Scope, code: &mut [u8], values: &mut [u8], own: u32, limit: u32, i: usize) -> Walked
     requires { ⌜ Begins (now code) (now values) own limit (scope .used) i × Near (now code) (now values) own limit (scope .used) i × (opAt (wordsOf (now code)) (i + 3) ≡ openBrace) ⌝ }
-    ensures { λ r. ⌜ DeclaresFree (now (code .entry)) (now (values .entry)) (now (code .exit)) (now (values .exit)) own limit (scope .used) i r ⌝ }
+    ensures { λ r. ⌜ DeclaresFree (now (code .entry)) (now (values .entry)) (now (code .exit)) (now (values .exit)) own limit (scope .used) i r × Stays scope r ⌝ }
 {
     let used = scope.used;
     let c = constants::size(code, values, i + 4);
@@ -118,7 +119,7 @@ fn valued(
     i: usize,
 ) -> Walked
     requires { ⌜ (i * 8 + 40 ≤ length (now code)) × (storeBytes ≤ length (now values)) × (i < wordLimit) × (own < 2) × (scope .used < moduleWordLimit) × (kind < 4) × Fit c ⌝ }
-    ensures { λ r. ⌜ Placing (now (code .entry)) (now (values .entry)) (now (code .exit)) (now (values .exit)) own (scope .used) kind i c r ⌝ }
+    ensures { λ r. ⌜ Placing (now (code .entry)) (now (values .entry)) (now (code .exit)) (now (values .exit)) own (scope .used) kind i c scope r ⌝ }
 {
     match c {
         Valued::Faulty(number, word) => Walked::Faulty(number, word),
@@ -151,7 +152,7 @@ fn initial(
     i: usize,
 ) -> Walked
     requires { ⌜ Begins (now code) (now values) own limit (scope .used) i × Near (now code) (now values) own limit (scope .used) i × Initial (now code) limit (scope .used) kind i ⌝ }
-    ensures { λ r. ⌜ DeclaresFree (now (code .entry)) (now (values .entry)) (now (code .exit)) (now (values .exit)) own limit (scope .used) i r ⌝ }
+    ensures { λ r. ⌜ DeclaresFree (now (code .entry)) (now (values .entry)) (now (code .exit)) (now (values .exit)) own limit (scope .used) i r × Stays scope r ⌝ }
 {
     let wants = names::type_named(sort(code, i + 1));
     let c = constants::constant(code, values, wants, i + 4);
@@ -168,7 +169,7 @@ fn scalar(
     i: usize,
 ) -> Walked
     requires { ⌜ Begins (now code) (now values) own limit (scope .used) i × Near (now code) (now values) own limit (scope .used) i × (opAt (wordsOf (now code)) (i + 3) ≡ openBrace → ⊥) ⌝ }
-    ensures { λ r. ⌜ DeclaresFree (now (code .entry)) (now (values .entry)) (now (code .exit)) (now (values .exit)) own limit (scope .used) i r ⌝ }
+    ensures { λ r. ⌜ DeclaresFree (now (code .entry)) (now (values .entry)) (now (code .exit)) (now (values .exit)) own limit (scope .used) i r × Stays scope r ⌝ }
 {
     let used = scope.used;
     if limit <= used {
@@ -193,7 +194,7 @@ pub fn datum(
     i: usize,
 ) -> Walked
     requires { ⌜ Begins (now code) (now values) own limit (scope .used) i × Near (now code) (now values) own limit (scope .used) i ⌝ }
-    ensures { λ r. ⌜ Declares (now (code .entry)) (now (values .entry)) (now (code .exit)) (now (values .exit)) own limit (scope .used) i r ⌝ }
+    ensures { λ r. ⌜ Declares (now (code .entry)) (now (values .entry)) (now (code .exit)) (now (values .exit)) own limit (scope .used) i r × Stays scope r ⌝ }
 {
     if is_taken(code, values, own, i + 2) {
         return Walked::Faulty(rules::TAKEN_NAME, i + 2);

@@ -21,7 +21,7 @@ use Rattle.names.specs.declared.Walked.{Walked}
 use Rattle.names.specs.declared.Walked.the-variants.{Upto, Faulty}
 use Rattle.sites.specs.Sites.{aRoutine, filling, Filled}
 use Rattle.store.specs.Chains.{Leads, lastOf, startsIn, Rise}
-use Rattle.sites.specs.Walks.{upto, outerOf, KeepsName, KeepsAll, nameOf}
+use Rattle.sites.specs.Walks.{outerOf, KeepsName, KeepsAll, nameOf}
 use Rattle.datum.specs.Answers.{Begins, after, Goes, Declares, Near}
 use Rattle.declarations.specs.Answers.{firstOf, RoutineStands, RoutineFilled, SaysRoutine, DeclaresRoutine}
 use Rattle.store.specs.Promises.{Relinked}
@@ -247,9 +247,12 @@ module _ (code₀ values₀ : List ℕ) (head used₀ at : ℕ) (code values : L
           is = λ b. walk-found (m .chained b .walk) (starts-is b ∙ yes) (own-routine (b .m)) (limit-routine (b .W) (b .m)) (record { number = number; at = word }) (says-faulty (begins b) mid values′ r number word q (d .is (begins b)));
         })
 
-        module _ (n used′ : ℕ) (q : r ≡ upto n used′) where
+        module _ (n : ℕ) (scope : Scope) (q : r ≡ Upto n scope) where
+          abbrev used′ : ℕ
+          used′ = scope .used
+
           goes : (b : RoutineStands code₀ values₀ head used₀ at) → Goes (begins b) mid values′ n used′
-          goes b = says-goes (begins b) mid values′ r n used′ q (d .is (begins b))
+          goes b = says-goes (begins b) mid values′ r n scope q (d .is (begins b))
 
           routine-less : RoutineStands code₀ values₀ head used₀ at → (i < n) × (n < wordLimit)
           routine-less b =
@@ -257,8 +260,8 @@ module _ (code₀ values₀ : List ℕ) (head used₀ at : ℕ) (code values : L
               let w = m .chained b .walk in
               (omega (arith, y, next-grows w (starts-is b ∙ yes)), omega (arith, y, next-on w (starts-is b ∙ yes), w .loaded .last))
 
-          falls : RoutineStands code₀ values₀ head used₀ at → wordLimit - n < wordLimit - i
-          falls b = omega (arith, routine-less b .0, routine-less b .1)
+          pub routine-falls : RoutineStands code₀ values₀ head used₀ at → wordLimit - n < wordLimit - i
+          routine-falls b = omega (arith, routine-less b .0, routine-less b .1)
 
           pub routine-on : RoutineStands code₀ values₀ head used₀ at → (code′ : List ℕ) → Relinked mid code′ last i → length code′ ≡ length code → length values′ ≡ length values
               → RoutineWalk code₀ values₀ head used₀ at code′ values′ n used′ i
@@ -271,11 +274,8 @@ module _ (code₀ values₀ : List ℕ) (head used₀ at : ℕ) (code values : L
             last-before = routine-less b₀ .0;
           }
 
-        pub routine-falls : (n : ℕ) (scope : Scope) → r ≡ Upto n scope → RoutineStands code₀ values₀ head used₀ at → wordLimit - n < wordLimit - i
-        routine-falls n scope q b = falls n (scope .used) q b
-
     pub routine-done : t ≡ false → (code′ : List ℕ) (opens : ℕ) → Relinked code code′ last opens → (scope : Scope) → scope .used ≡ used → DeclaresRoutine code₀ values₀ code′ values opens head used₀ at (Upto i scope)
     unfolding SaysRoutine
-    routine-done stops code′ opens s scope u =
-        subst (λ (k : ℕ). DeclaresRoutine code₀ values₀ code′ values opens head used₀ at (upto i k)) (sym u)
-        (record { is = λ b. chain-done b (m .chained b) (m .begun) (m .last-new) (m .last-before) (starts-is b ∙ stops) code′ opens s })
+    routine-done stops code′ opens s scope u = record {
+      is = λ b. subst (RoutineFilled b code′ values opens i) (sym u) (chain-done b (m .chained b) (m .begun) (m .last-new) (m .last-before) (starts-is b ∙ stops) code′ opens s);
+    }

@@ -28,20 +28,10 @@ use Rattle.expressions.proofs.Starts.{loaded-part}
 use Rattle.names.specs.declared.Walked.{Walked}
 use Rattle.names.specs.declared.Walked.the-variants.{Upto, Faulty}
 use Rattle.sites.specs.Sites.{Site, theModule, filling, ownOf, Filled}
-use Rattle.sites.specs.Walks.{upto}
 use Rattle.datum.specs.Answers.{Begins, after, faultsOf, Goes, Says, Declares, Near}
 use Rattle.declarations.specs.Answers.{DataStand, SaysModule, DeclaresModule}
 use Rattle.datum.proofs.Contents.{near}
 use Rattle.sites.proofs.Keeping.{loaded-changed}
-
--- ---- words that data begin with
-pub starts-var : (s : ℕ) → s ≡ 84 → true ≡ startsData s
-unfolding startsData
-starts-var s h = rw h refl
-
-pub starts-const : (s : ℕ) → (s ≡ 84 → ⊥) → eqb s 37 ≡ startsData s
-unfolding startsData
-starts-const s h = rw (ne-eqb s 84 h) refl
 
 -- ---- what is left of declarations `ds` up to word `to`, of which D₀ is declared before them
 pub record Walk (W : List Word) (routine : ℕ → ℕ) (s : Site) (D₀ : Data) (ds : List Declared) (to : ℕ) (code values : List ℕ) (i used : ℕ) : Type 0 where
@@ -133,9 +123,9 @@ module _ {W : List Word} {routine : ℕ → ℕ} {s : Site} {D₀ : Data} {ds : 
     pub done-rest : w .rest ≡ []
     done-rest = repeated-none (sortIn W) (DeclaredAt (sortIn W) (Parses (sortIn W))) (w .stand) stops .0
 
-pub says-goes : {code values : List ℕ} {own limit used i : ℕ} (b : Begins code values own limit used i) (code′ values′ : List ℕ) (r : Walked) (next used′ : ℕ) → r ≡ upto next used′ → Says b code′ values′ r → Goes b code′ values′ next used′
+pub says-goes : {code values : List ℕ} {own limit used i : ℕ} (b : Begins code values own limit used i) (code′ values′ : List ℕ) (r : Walked) (next : ℕ) (scope : Scope) → r ≡ Upto next scope → Says b code′ values′ r → Goes b code′ values′ next (scope .used)
 unfolding Says
-says-goes b code′ values′ r next used′ q h = subst (Says b code′ values′) q h
+says-goes b code′ values′ r next scope q h = subst (Says b code′ values′) q h
 
 pub says-faulty : {code values : List ℕ} {own limit used i : ℕ} (b : Begins code values own limit used i) (code′ values′ : List ℕ) (r : Walked) (number word : ℕ) → r ≡ Faulty number word → Says b code′ values′ r
     → First (record { number = number; at = word }) (faultsOf b)
@@ -151,11 +141,11 @@ pub record ModuleWalk (code₀ values₀ : List ℕ) (at : ℕ) (code values : L
   pub below : (k : ℕ) → k < at * 2 → getD (wordsOf code) k 0 ≡ getD (wordsOf code₀) k 0
   pub above : (k : ℕ) → i * 2 ≤ k → getD (wordsOf code) k 0 ≡ getD (wordsOf code₀) k 0
 
-pub module-begun : (code values : List ℕ) (at : ℕ) → ModuleWalk code values at code values at 0
-module-begun code values at = record {
+pub module-begun : (code values : List ℕ) (at used : ℕ) → used ≡ 0 → ModuleWalk code values at code values at used
+module-begun code values at used u = record {
   long = refl;
   long-values = refl;
-  walks = λ b. record { D = noData; rest = b .ds; left = refl; faults-left = refl; used-is = refl; filled = b .filled; stand = b .stand; loaded = b .loaded };
+  walks = λ b. record { D = noData; rest = b .ds; left = refl; faults-left = refl; used-is = u; filled = b .filled; stand = b .stand; loaded = b .loaded };
   begun = omega arith;
   below = λ k h. refl;
   above = λ k h. refl;
@@ -200,9 +190,12 @@ module _ (code₀ values₀ : List ℕ) (at : ℕ) (code values : List ℕ) (i u
           is = λ b. walk-found (m .walks b) (starts-is b ∙ yes) (own-here b) (limit-here b) (record { number = number; at = word }) (says-faulty (begins b) code′ values′ r number word q (d .is (begins b)));
         })
 
-        module _ (next used′ : ℕ) (q : r ≡ upto next used′) where
+        module _ (next : ℕ) (scope : Scope) (q : r ≡ Upto next scope) where
+          abbrev used′ : ℕ
+          used′ = scope .used
+
           goes : (b : DataStand code₀ values₀ at) → Goes (begins b) code′ values′ next used′
-          goes b = says-goes (begins b) code′ values′ r next used′ q (d .is (begins b))
+          goes b = says-goes (begins b) code′ values′ r next scope q (d .is (begins b))
 
           -- the words left fall
           module-less : DataStand code₀ values₀ at → (i < next) × (next < wordLimit)
@@ -213,8 +206,8 @@ module _ (code₀ values₀ : List ℕ) (at : ℕ) (code values : List ℕ) (i u
               let l = m .walks b .loaded .last in
               (omega (arith, n, g), omega (arith, n, h, l))
 
-          falls : DataStand code₀ values₀ at → wordLimit - next < wordLimit - i
-          falls b = omega (arith, module-less b .0, module-less b .1)
+          pub module-falls : DataStand code₀ values₀ at → wordLimit - next < wordLimit - i
+          module-falls b = omega (arith, module-less b .0, module-less b .1)
 
           pub module-on : DataStand code₀ values₀ at → length code′ ≡ length code → length values′ ≡ length values → ModuleWalk code₀ values₀ at code′ values′ next used′
           module-on b₀ long long-values = record {
@@ -225,9 +218,6 @@ module _ (code₀ values₀ : List ℕ) (at : ℕ) (code values : List ℕ) (i u
             below = λ k h. goes b₀ .changed .below k (omega (arith, m .begun)) ∙ m .below k h;
             above = λ k h. goes b₀ .changed .above k (omega (arith, goes b₀ .next-is)) ∙ m .above k (omega (arith, module-less b₀ .0));
           }
-
-        pub module-falls : (next : ℕ) (scope : Scope) → r ≡ Upto next scope → DataStand code₀ values₀ at → wordLimit - next < wordLimit - i
-        module-falls next scope q b = falls next (scope .used) q b
 
     pub module-done : t ≡ false → (scope : Scope) → scope .used ≡ used → DeclaresModule code₀ values₀ code values at (Upto i scope)
     unfolding SaysModule

@@ -1,35 +1,27 @@
 // Declarations: what the data of the module, and of a routine, make known.
 ghost use mathlib.Core.Path.{_≡_};
 ghost use Prim.Native.Nat.{_<_};
-ghost use Rattle.paper.specs.Expressions.{startsData};
 ghost use Rattle.layout.specs.Parts.{linkPart};
+ghost use Rattle.names.specs.Scopes.{Stays};
 ghost use Rattle.declarations.specs.Answers.{DataStand, DeclaresModule, RoutineStands, DeclaresRoutine};
 use datum::datum;
 use layout::limits;
 use names::Scope;
 use names::Walked;
+use sorts::starts_data;
 use store::set_link;
 use store::sort;
 
 // own of the module's data
 const OF_MODULE: u32 = 0;
 
-fn starts_data(s: u32) -> bool
-    ensures { λ r. ⌜ r ≡ startsData s ⌝ }
-{
-    if s == sorts::VAR {
-        return true;
-    }
-    s == sorts::CONST
-}
-
-// The module's data.
-pub fn module_data(code: &mut [u8], values: &mut [u8], at: usize) -> Walked
-    requires { ⌜ DataStand (now code) (now values) at ⌝ }
-    ensures { λ r. ⌜ DeclaresModule (now (code .entry)) (now (values .entry)) (now (code .exit)) (now (values .exit)) at r ⌝ }
+// The module's data, in a scope that has none yet.
+pub fn module_data(before: Scope, code: &mut [u8], values: &mut [u8], at: usize) -> Walked
+    requires { ⌜ DataStand (now code) (now values) at × (before .used ≡ 0) ⌝ }
+    ensures { λ r. ⌜ DeclaresModule (now (code .entry)) (now (values .entry)) (now (code .exit)) (now (values .exit)) at r × Stays before r ⌝ }
 {
     let mut i = at;
-    let mut scope = Scope { used: 0 };
+    let mut scope = before;
     while starts_data(sort(code, i)) {
         let d = datum(scope, code, values, OF_MODULE, limits::MODULE_COUNT, i);
         let Walked::Upto(next, more) = d else {
@@ -41,21 +33,20 @@ pub fn module_data(code: &mut [u8], values: &mut [u8], at: usize) -> Walked
     Walked::Upto(i, scope)
 }
 
-// A routine's data. The routine's first word, `head`, leads to the first of them by its link, and each to the next; the parenthesis at `opens` ends them.
+// A routine's data. The word that leads to its scope's data leads to the first of them by its link, and each to the next; the parenthesis at `opens` ends them.
 pub fn routine_data(
     before: Scope,
     code: &mut [u8],
     values: &mut [u8],
     opens: usize,
-    head: usize,
     at: usize,
 ) -> Walked
-    requires { ⌜ RoutineStands (now code) (now values) head (before .used) at × (opens < linkPart) ⌝ }
-    ensures { λ r. ⌜ DeclaresRoutine (now (code .entry)) (now (values .entry)) (now (code .exit)) (now (values .exit)) opens head (before .used) at r ⌝ }
+    requires { ⌜ RoutineStands (now code) (now values) (before .head) (before .used) at × (opens < linkPart) ⌝ }
+    ensures { λ r. ⌜ DeclaresRoutine (now (code .entry)) (now (values .entry)) (now (code .exit)) (now (values .exit)) opens (before .head) (before .used) at r × Stays before r ⌝ }
 {
     let mut i = at;
     let mut scope = before;
-    let mut last = head;
+    let mut last = before.head;
     while starts_data(sort(code, i)) {
         let d = datum(
             scope,

@@ -1,4 +1,5 @@
 -- The names of module data, one after another.
+use Rattle.paper.specs.Words.{wordLimit}
 use mathlib.Core.Path.{_≡_, refl, sym, ap, subst, _∙_}
 use mathlib.Core.Bool.{Bool, true, false, not, _||_}
 use mathlib.Core.List.{List, [], _∷_, map}
@@ -18,7 +19,7 @@ use Rattle.cells.proofs.Kept.{put-same, put-other}
 use Rattle.code.specs.Cells.{opAt}
 use Rattle.names.specs.Numbers.{numberOf, IsName}
 use Rattle.names.specs.Meanings.{isProtected, cellOf, protectedCell, protectsCell, firstMeaning, cellFor}
-use Rattle.names.specs.Promises.{storeBytes, numberAt, meaningAt}
+use Rattle.names.specs.Promises.{storeBytes, numberAt, meaningAt, numberLimit}
 use Rattle.names.proofs.Spellings.{same-texts, texts-same, texts-differ, numbers-same, spellings-same, number-most, name-inside}
 use Rattle.names.proofs.Shields.{protected-guards}
 use Rattle.grammar.specs.Form.{Parses, DeclaredAt, DeclarationsAt}
@@ -125,7 +126,7 @@ pub record DataLeft {code values₀ : List ℕ} {at : ℕ} (g : DataStand code v
 
 pub record DataPlain (code values₀ values : List ℕ) (i : ℕ) : Type 0 where
   pub room : i * 8 + 8 ≤ length code
-  pub last : i < 8192
+  pub last : i < wordLimit
   pub values-room : storeBytes ≤ length values
   pub values-long : length values ≡ length values₀
 
@@ -212,7 +213,7 @@ module _ {code values₀ : List ℕ} {at : ℕ} (g : DataStand code values₀ at
         unfolding text
         cell-is = ap (λ (n : ℕ). getD (wordsOf values) (firstMeaning + n) 0) number-is ∙ l .cells (i + 2) is-name
 
-        number-low : numberOf (g .W) (i + 2) < 8192
+        number-low : numberOf (g .W) (i + 2) < numberLimit
         number-low = omega (arith, number-most (g .W) (i + 2) is-name, name-inside (g .W) (i + 2) is-name, g .lain .most)
 
         cell-room : (firstMeaning + numberOf (g .W) (i + 2)) * 4 + 4 ≤ length values

@@ -1,4 +1,6 @@
 -- What stays as it was, put together; and what of the words of a text stays known.
+use Rattle.names.specs.Promises.{storeBytes, numberLimit}
+use Rattle.layout.specs.Parts.{linkPart, spelledPart}
 use mathlib.Core.Path.{_≡_, refl, sym, ap, ap₂, subst, _∙_}
 use mathlib.Core.Bool.{true}
 use mathlib.Core.List.{List, map}
@@ -83,16 +85,16 @@ module _ {before after : List ℕ} {from to : ℕ} (p : Marked before after from
   pub lain-kept : (W : List Word) → Lain W before → Lain W after
   lain-kept W l = record {
     sorts = λ i h. p .ops i ∙ l .sorts i h;
-    numbers = λ i n. ap (λ (x : ℕ). x / 256 % 8192) (name-head W l i n) ∙ l .numbers i n;
+    numbers = λ i n. ap (λ (x : ℕ). x / 256 % numberLimit) (name-head W l i n) ∙ l .numbers i n;
     most = l .most;
-    room = subst (λ (n : ℕ). 65536 ≤ n) (sym (p .kept .long)) (l .room);
+    room = subst (λ (n : ℕ). storeBytes ≤ n) (sym (p .kept .long)) (l .room);
   }
 
   pub spells-kept : (text : List ℕ) (W : List Word) → Lain W before → Spells text W before → Spells text W after
   spells-kept text W l s = record {
-    inside = λ i n. subst (λ (x : ℕ). x % 65536 + headAt (wordsOf after) i / 256 / 8192 ≤ length text) (sym (p .tails i))
-        (subst (λ (x : ℕ). tailAt (wordsOf before) i % 65536 + x / 256 / 8192 ≤ length text) (sym (name-head W l i n)) (s .inside i n));
-    is = λ i n. ap₂ (λ (x y : ℕ). map folded (take (y / 256 / 8192) (drop (x % 65536) text))) (p .tails i) (name-head W l i n) ∙ s .is i n;
+    inside = λ i n. subst (λ (x : ℕ). x % linkPart + headAt (wordsOf after) i / 256 / spelledPart ≤ length text) (sym (p .tails i))
+        (subst (λ (x : ℕ). tailAt (wordsOf before) i % linkPart + x / 256 / spelledPart ≤ length text) (sym (name-head W l i n)) (s .inside i n));
+    is = λ i n. ap₂ (λ (x y : ℕ). map folded (take (y / 256 / spelledPart) (drop (x % linkPart) text))) (p .tails i) (name-head W l i n) ∙ s .is i n;
   }
 
 -- ---- a value is given

@@ -11,7 +11,7 @@ use borrow.Author.Tests.{eq-eqb, ne-eqb}
 use Rattle.laws.proofs.Tests.{by-same}
 use Rattle.paper.specs.Basics.{if_then_else_}
 use Rattle.paper.specs.Sorts.{PROC, FUNC}
-use Rattle.paper.specs.Words.{Word}
+use Rattle.paper.specs.Words.{Word, wordLimit}
 use Rattle.paper.specs.Trees.{Expr, Routine}
 use Rattle.paper.specs.Expressions.{isType, startsRoutine}
 use Rattle.paper.specs.Names.{DataType, refusedPiece, typeOf, sortIn}
@@ -126,12 +126,12 @@ module _ (code values : List ℕ) (h k : ℕ) (g : RoutineStands code values h k
   head-room =
       omega (arith, end-inside (g .W) (g .r) h (g .to) (g .form), close-inside (g .W) (g .r) h (g .to) (g .form), name-before (g .W) (g .r) h (g .to) (g .form), name-behind (g .W) (g .r) h (g .to) (g .form), g .lain .room, g .lain .most)
 
-  pub head-small : h < 8192
+  pub head-small : h < wordLimit
   head-small =
       omega (arith, end-inside (g .W) (g .r) h (g .to) (g .form), close-inside (g .W) (g .r) h (g .to) (g .form), name-before (g .W) (g .r) h (g .to) (g .form), name-behind (g .W) (g .r) h (g .to) (g .form), g .lain .most)
 
   module _ (code₁ : List ℕ) (n : ℕ) (named : Names code h k code₁ n) where
-    pub name-small : n + 2 < 8192
+    pub name-small : n + 2 < wordLimit
     name-small =
         omega (arith, end-inside (g .W) (g .r) h (g .to) (g .form), close-inside (g .W) (g .r) h (g .to) (g .form), name-before (g .W) (g .r) h (g .to) (g .form), name-is (g .W) (g .r) h (g .to) (g .form) k code (g .lain) code₁ n named, g .lain .most)
 

@@ -1,4 +1,5 @@
 -- The smallest parts: one law for each place where they return.
+use Rattle.layout.specs.Parts.{spelledPart}
 use mathlib.Core.Path.{_≡_, refl, sym, ap, subst, _∙_}
 use mathlib.Core.Bool.{Bool, true, false, _||_}
 use mathlib.Core.List.{List, [], _∷_, map}
@@ -56,7 +57,7 @@ module _ (code : List ℕ) (at a b i s : ℕ) (g : Going code at a b i) (e : s �
 pub announce-taken : (code values : List ℕ) (i r : ℕ) → Meant code values i r → (r ≡ 0 → ⊥) → Announces code values i values
 announce-taken code values i r e d = record { free = λ z. absurd (d (e ∙ z)); taken = λ z. refl }
 
-pub announce-free : (code values after : List ℕ) (i r n : ℕ) → Meant code values i r → r ≡ 0 → Number code i n → Put values after (8192 + n) 1 → Announces code values i after
+pub announce-free : (code values after : List ℕ) (i r n : ℕ) → Meant code values i r → r ≡ 0 → Number code i n → Put values after (firstMeaning + n) 1 → Announces code values i after
 announce-free code values after i r n e z q p = record { free = λ _. subst (λ (k : ℕ). Put values after (firstMeaning + k) 1) q p; taken = λ d. absurd (d (sym e ∙ z)) }
 
 -- ---- parameters
@@ -81,7 +82,7 @@ module _ (m seen h n : ℕ) (b : Bool) (p : Protects m b) where
   unfolding markOf
   mark-none e s q = sym (by-tests false false false (sym p ∙ e) (ne-eqb seen h s) (ne-eqb n 64 q))
 
-pub marks : (code values after values′ : List ℕ) (h i count n m seen r : ℕ) → Number code (i + 1) n → Got values (8192 + n) m → Got values n seen
+pub marks : (code values after values′ : List ℕ) (h i count n m seen r : ℕ) → Number code (i + 1) n → Got values (firstMeaning + n) m → Got values n seen
     → (r ≡ markOf (refuses m seen h count)) × (r < 2) → Valued code after i r → Put values values′ n h → Marks code values h i count after values′
 marks code values after values′ h i count n m seen r e f g k v p =
     let cell : m ≡ meaningAt (wordsOf code) (wordsOf values) (i + 1) = f ∙ ap (λ (x : ℕ). getD (wordsOf values) (firstMeaning + x) 0) e in
@@ -162,12 +163,12 @@ module _ (code : List ℕ) (h : ℕ) where
       main-found z = rw (ne-eqb h 0 some) (rw (ne-eqb (opAt (wordsOf code) h) FUNC (λ z. d (e ∙ z))) (rw (eq-eqb (valueAt (wordsOf code) h) 0 (sym g ∙ z))))
 
 pub is-main-law : (text code : List ℕ) (i p v : ℕ) (b : Bool) → p ≡ placeAt (wordsOf code) i → v ≡ valueAt (wordsOf code) i
-    → b ≡ equalTexts (map folded (take (p + v / 8192 - p) (drop p text))) (map folded (77 ∷ 65 ∷ 73 ∷ 78 ∷ [])) → b ≡ equalTexts (spelledAt text (wordsOf code) i) (bytes "MAIN")
+    → b ≡ equalTexts (map folded (take (p + v / spelledPart - p) (drop p text))) (map folded (77 ∷ 65 ∷ 73 ∷ 78 ∷ [])) → b ≡ equalTexts (spelledAt text (wordsOf code) i) (bytes "MAIN")
 unfolding bytes folded
 is-main-law text code i p v b g k e =
-    let n : p + v / 8192 - p ≡ v / 8192 = omega arith in
-    e ∙ ap (λ (x : ℕ). equalTexts (map folded (take x (drop p text))) (bytes "MAIN")) (n ∙ ap (λ (x : ℕ). x / 8192) k)
-    ∙ ap (λ (x : ℕ). equalTexts (map folded (take (valueAt (wordsOf code) i / 8192) (drop x text))) (bytes "MAIN")) g
+    let n : p + v / spelledPart - p ≡ v / spelledPart = omega arith in
+    e ∙ ap (λ (x : ℕ). equalTexts (map folded (take x (drop p text))) (bytes "MAIN")) (n ∙ ap (λ (x : ℕ). x / spelledPart) k)
+    ∙ ap (λ (x : ℕ). equalTexts (map folded (take (valueAt (wordsOf code) i / spelledPart) (drop x text))) (bytes "MAIN")) g
 
 -- the first is the one that no other is before
 pub next-is : (code : List ℕ) (at a b r e : ℕ) → Next code at a b r → at ≤ e → isOneOf a b (opAt (wordsOf code) e) ≡ true → ((k : ℕ) → at ≤ k → k < e → isOneOf a b (opAt (wordsOf code) k) ≡ false) → r ≡ e

@@ -11,7 +11,7 @@ use borrow.Author.Tests.{eq-eqb, ne-eqb}
 use Rattle.laws.proofs.Tests.{by-same}
 use Rattle.paper.specs.Basics.{if_then_else_}
 use Rattle.paper.specs.Sorts.{comma}
-use Rattle.paper.specs.Words.{Word}
+use Rattle.paper.specs.Words.{Word, wordLimit}
 use Rattle.paper.specs.Trees.{Parameter}
 use Rattle.paper.specs.Expressions.{isType}
 use Rattle.paper.specs.Names.{DataType, refusedPiece, typeOf, Text, noWord, nth, sortIn, spelled, isAmong, cannotDeclare}
@@ -71,7 +71,7 @@ pub record ParamsPlain (code₀ values₀ code values : List ℕ) (i count : ℕ
   pub room : i * 8 + 24 ≤ length code
   pub values-room : storeBytes ≤ length values
   pub few : count ≤ i
-  pub last : i + 2 < 8192
+  pub last : i + 2 < wordLimit
 
 pub record ParamsGo (code₀ values₀ : List ℕ) (h at : ℕ) (code values : List ℕ) (i count : ℕ) : Type 0 where
   pub plain : ParamsPlain code₀ values₀ code values i count
@@ -112,7 +112,7 @@ module _ {code₀ values₀ : List ℕ} {h at : ℕ} (g : ParametersStand code�
   inside : i + 2 ≤ g .close
   inside = two-words (l .form)
 
-  bounds : (g .close < length (g .W)) × (length (g .W) ≤ 8192)
+  bounds : (g .close < length (g .W)) × (length (g .W) ≤ wordLimit)
   bounds = (closed g, g .lain .most)
 
   lain : Lain (g .W) code

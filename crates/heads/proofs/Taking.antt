@@ -17,7 +17,7 @@ use Rattle.paper.specs.Names.{Meaning, unknown, theRoutine, routineIn, Text, Na
 use Rattle.paper.specs.Declarations.{dataTexts, routineNames}
 use Rattle.code.specs.Steps.{Head, noHead, numbered}
 use Rattle.names.specs.Numbers.{numberOf, IsName}
-use Rattle.names.specs.Meanings.{meaningWith, meaningIn, isProtected, protectedCell, protectsCell, cellFor}
+use Rattle.names.specs.Meanings.{meaningWith, meaningIn, isProtected, protectedCell, protectsCell, cellFor, firstMeaning}
 use Rattle.names.proofs.Spellings.{texts-same, texts-differ, numbers-same, spellings-same}
 use Rattle.names.proofs.Shields.{protected-means, protected-guards}
 use Rattle.names.proofs.Tables.{meaning-with}
@@ -128,7 +128,7 @@ module _ (W : List Word) (m : Module) where
 
       -- a cell of the same name is 0, as that of the routine's
       was : (j : ℕ) → numberOf W j ≡ numberOf W (r .name) → cellFor W X j ≡ 0
-      was j e = ap (λ (x : ℕ). getD X (8192 + x) 0) e ∙ z
+      was j e = ap (λ (x : ℕ). getD X (firstMeaning + x) 0) e ∙ z
 
       means-then : (j : ℕ) → IsName W j → meaning (firstScopes W m) (spelled W j) ≡ pending (numbered R) (cellFor W Y j) (lookIn after (spelled W j) unknown)
       means-then j n =

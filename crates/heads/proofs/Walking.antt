@@ -12,7 +12,7 @@ use borrow.Author.Tests.{eq-eqb, ne-eqb, not-true, not-false}
 use Rattle.laws.proofs.Tests.{test, by-same, by-less, by-last, false-true}
 use Rattle.paper.specs.Basics.{if_then_else_}
 use Rattle.paper.specs.Sorts.{bytes, equalTexts, FUNC, ENDPROC, ENDFUNC}
-use Rattle.paper.specs.Words.{Word}
+use Rattle.paper.specs.Words.{Word, wordLimit}
 use Rattle.paper.specs.Trees.{Expr, Routine, Module}
 use Rattle.paper.specs.Expressions.{startsRoutine}
 use Rattle.paper.specs.Names.{Meaning, unknown, theRoutine, routineIn, Text, sortIn, spelled, lookIn, protected, meaning}
@@ -26,7 +26,7 @@ use Rattle.code.specs.Signatures.{firstParameter, resultAt, headIn, signatureIn
 use Rattle.code.proofs.Signatures.{types-length, signature-kept}
 use Rattle.names.specs.Numbers.{numberOf, IsName}
 use Rattle.names.specs.Meanings.{firstMeaning, cellFor}
-use Rattle.names.specs.Promises.{storeBytes, numberAt, meaningAt}
+use Rattle.names.specs.Promises.{storeBytes, numberAt, meaningAt, numberLimit}
 use Rattle.names.proofs.Spellings.{number-most, name-inside}
 use Rattle.grammar.specs.Form.{Parses, HeadAt, a-proc, a-func, RoutineAt, RoutinesAt}
 use Rattle.grammar.proofs.Inversions.{NextOf, repeated-next, repeated-none}
@@ -57,7 +57,7 @@ begins-inside : (C : List ℕ) (h : ℕ) → h < signatureEnd C h
 unfolding firstParameter
 begins-inside C h = test (eqb (opAt C h) FUNC) (λ t. rw t (omega arith)) (λ t. rw t (omega arith))
 
-signed-at : (C : List ℕ) (h : Head) (sig : Signature) (end : ℕ) → h ≡ headIn C (h .word) → signatureIn C (h .word) ≡ sig → signatureEnd C (h .word) ≤ end → end ≤ 8192 → SignatureAt C h sig
+signed-at : (C : List ℕ) (h : Head) (sig : Signature) (end : ℕ) → h ≡ headIn C (h .word) → signatureIn C (h .word) ≡ sig → signatureEnd C (h .word) ≤ end → end ≤ wordLimit → SignatureAt C h sig
 unfolding headIn
 signed-at C h sig end e s u l =
     let n : h .parameters ≡ valueAt C (h .word) = ap (λ (x : Head). x .parameters) e in
@@ -149,8 +149,8 @@ pub record RoutinesLeft {text code₀ values₀ : List ℕ} {at : ℕ} (g : Rout
   pub signed : (q : ℕ) → q < k → signatureIn (wordsOf code) (getD (headsFor (g .m .routines)) q noHead .word) ≡ getD (signatures (g .W) (g .m) 0 (g .m .routines)) q noSignature
   pub ended : (q : ℕ) → q < k → signatureEnd (wordsOf code) (getD (headsFor (g .m .routines)) q noHead .word) ≤ i
   -- what was seen, and where nothing was
-  pub low : (n : ℕ) → n < 8192 → getD (wordsOf values) n 0 < i
-  pub untouched : (n : ℕ) → i ≤ n → n < 8192 → getD (wordsOf values) n 0 ≡ 0
+  pub low : (n : ℕ) → n < wordLimit → getD (wordsOf values) n 0 < i
+  pub untouched : (n : ℕ) → i ≤ n → n < wordLimit → getD (wordsOf values) n 0 ≡ 0
   pub marked : Marked code₀ code at i
   pub kept : Kept values₀ values 0 storeCells
   pub main-low : main ≤ i
@@ -161,7 +161,7 @@ pub record RoutinesPlain (code₀ values₀ code values : List ℕ) (i k main : 
   pub code-long : length code ≡ length code₀
   pub values-long : length values ≡ length values₀
   pub room : i * 8 + 8 ≤ length code
-  pub last : i < 8192
+  pub last : i < wordLimit
   pub values-room : storeBytes ≤ length values
   pub few : k ≤ i
   pub main-room : main * 8 + 8 ≤ length code
@@ -227,7 +227,7 @@ module _ {text code₀ values₀ : List ℕ} {at : ℕ} (g : RoutinesStand text 
         tables = names-tables W (g .m) (wordsOf values′) (l .earlier) k main names-last;
         filled = record {
           zeros = λ n h. by-less n i (λ u. let z : 0 + n ≡ n = omega arith in sym (ap (λ (x : ℕ). getD (wordsOf values′) x 0) z) ∙ clear-in c clear-room n u) (λ u. clear-above c clear-room n (omega arith) ∙ l .untouched n u h);
-          beyond = clear-drop c clear-room 65536 (omega (arith, here, g .lain .most)) ∙ l .kept .above;
+          beyond = clear-drop c clear-room storeBytes (omega (arith, here, g .lain .most)) ∙ l .kept .above;
           long = clear-length c clear-room ∙ l .kept .long;
         };
         heads = record { as-many = heads-length rs ∙ sym (signatures-length W (g .m) 0 rs); each = signature-each };
@@ -302,7 +302,7 @@ module _ {text code₀ values₀ : List ℕ} {at : ℕ} (g : RoutinesStand text 
         cells-kept : (j : ℕ) → IsName W j → cellFor W (wordsOf values₁) j ≡ cellFor W (wordsOf values) j
         cells-kept j n = cell-above (p .kept) (firstMeaning + numberOf W j) (omega (arith, to-is, end-low, g .lain .most))
 
-        take-asks : (name * 8 + 8 ≤ length code′) × (placeAt (wordsOf code′) name + lengthAt (wordsOf code′) name ≤ length text) × (storeBytes ≤ length values₁) × (i < 8192)
+        take-asks : (name * 8 + 8 ≤ length code′) × (placeAt (wordsOf code′) name + lengthAt (wordsOf code′) name ≤ length text) × (storeBytes ≤ length values₁) × (i < wordLimit)
         take-asks =
             (omega (arith, name-is, name-low, end-low, lain-then .room, lain-then .most), spells-then .inside name is-name, omega (arith, values-long₁, g .room), omega (arith, here, g .lain .most))
 
@@ -327,7 +327,7 @@ module _ {text code₀ values₀ : List ℕ} {at : ℕ} (g : RoutinesStand text 
           number-is : numberAt (wordsOf code′) name ≡ numberOf W name
           number-is = lain-then .numbers name is-name
 
-          number-low : numberOf W name < 8192
+          number-low : numberOf W name < numberLimit
           number-low = omega (arith, number-most W name is-name, name-inside W name is-name, g .lain .most)
 
           cell-is : meaningAt (wordsOf code′) (wordsOf values₁) name ≡ cellFor W (wordsOf values₁) (one .a .name)
@@ -341,7 +341,7 @@ module _ {text code₀ values₀ : List ℕ} {at : ℕ} (g : RoutinesStand text 
           record Took : Type 0 where
             pub earlier : List Text
             pub names : NamesLeft W (g .m) (wordsOf values₂) earlier (suc k) (one .rest) main′
-            pub below : (n : ℕ) → n < 8192 → getD (wordsOf values₂) n 0 ≡ getD (wordsOf values₁) n 0
+            pub below : (n : ℕ) → n < wordLimit → getD (wordsOf values₂) n 0 ≡ getD (wordsOf values₁) n 0
             pub kept : Kept values₁ values₂ 0 storeCells
             pub main-low : main′ ≤ i
 
@@ -470,7 +470,7 @@ module _ (text code₀ values₀ : List ℕ) (at : ℕ) (g : RoutinesStand text 
       unfolding routine-stands
       known g = p .is (routine-stands g code values i k main (l .left g) s e b f t)
 
-      pub name-asks : (name * 8 + 8 ≤ length code′) × (placeAt (wordsOf code′) name + lengthAt (wordsOf code′) name ≤ length text) × (storeBytes ≤ length values₁) × (i < 8192)
+      pub name-asks : (name * 8 + 8 ≤ length code′) × (placeAt (wordsOf code′) name + lengthAt (wordsOf code′) name ≤ length text) × (storeBytes ≤ length values₁) × (i < wordLimit)
       name-asks = take-asks g code values i k main (l .left g) s e b f t code′ values₁ name (known g)
 
       pub next-asks : Has code′ name ENDPROC ENDFUNC

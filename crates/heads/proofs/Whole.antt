@@ -1,4 +1,6 @@
 -- The whole pass over a module that was loaded.
+use Rattle.layout.specs.Parts.{spelledPart}
+use Rattle.names.specs.Promises.{numberLimit}
 use mathlib.Core.Path.{_≡_, refl, sym, ap, ap₂, subst, _∙_}
 use mathlib.Core.List.{List, map}
 use Prim.Native.Nat.{ℕ, _+_, _-_, _*_, _/_, _<_, _≤_}
@@ -58,13 +60,13 @@ module _ {text code values : List ℕ} (g : Begins text code values) where
   unfolding headValue
   length-is i n =
       let l = name-inside W i n in
-      let most : numberOf W i < 8192 = omega (arith, number-most W i n, l, reading-most text) in
-      ap (λ (x : ℕ). x / 256 / 8192) (g .heads i l)
+      let most : numberOf W i < numberLimit = omega (arith, number-most W i n, l, reading-most text) in
+      ap (λ (x : ℕ). x / 256 / spelledPart) (g .heads i l)
       ∙ rw (eq-eqb (sortIn W i) NAME n) (high (sortIn W i) (numberOf W i) (length (nth W i .covers)) (omega (arith, n)) most)
     where
-      high : (sort number n : ℕ) → sort < 256 → number < 8192 → (sort + 256 * (number + 8192 * n)) / 256 / 8192 ≡ n
+      high : (sort number n : ℕ) → sort < 256 → number < spelledPart → (sort + 256 * (number + spelledPart * n)) / 256 / spelledPart ≡ n
       high sort number n a b =
-          let e : (sort + 256 * (number + 8192 * n)) / 256 ≡ number + 8192 * n = omega arith in
+          let e : (sort + 256 * (number + spelledPart * n)) / 256 ≡ number + spelledPart * n = omega arith in
           rw e (omega arith)
 
   pub begins-spells : Spells text W code

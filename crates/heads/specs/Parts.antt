@@ -7,7 +7,7 @@ use lib.Dec.{eqb}
 use lib.ListN.{length, getD}
 use Rattle.paper.specs.Basics.{if_then_else_}
 use Rattle.paper.specs.Sorts.{bytes, equalTexts, closeParen, FUNC}
-use Rattle.paper.specs.Words.{Word}
+use Rattle.paper.specs.Words.{Word, wordLimit}
 use Rattle.paper.specs.Trees.{Declared, Parameter, Routine, Module}
 use Rattle.paper.specs.Names.{sortIn, spelled}
 use Rattle.paper.specs.Declarations.{routineLimit, routineWordLimit, dataTexts, signatures}
@@ -107,7 +107,7 @@ pub record ParametersMarked (W : List Word) (ps : List Parameter) (close : ℕ) 
   pub sees : Sees values values′ h
 
 pub record Parameters (code values : List ℕ) (h at : ℕ) (code′ values′ : List ℕ) (r : ℕ) : Type 0 where
-  pub few : r < 8192
+  pub few : r < wordLimit
   pub long : length code′ ≡ length code
   pub is : (g : ParametersStand code values h at) → ParametersMarked (g .W) (g .ps) (g .close) code values h at code′ values′ r
 

@@ -8,6 +8,7 @@ use sorts::*;
 use spelling::same;
 use store::set_value;
 use store::sort;
+ghost use Rattle.paper.specs.Words.{wordLimit};
 ghost use mathlib.Core.Path.{_≡_};
 ghost use Prim.Native.Nat.{_+_, _*_, _<_, _≤_};
 ghost use lib.ListN.{length};
@@ -168,7 +169,7 @@ fn take_name(
     name: usize,
     main: usize,
 ) -> usize
-    requires { ⌜ (name * 8 + 8 ≤ length (now code)) × (placeAt (wordsOf (now code)) name + lengthAt (wordsOf (now code)) name ≤ length (now text)) × (storeBytes ≤ length (now values)) × (h < 8192) ⌝ }
+    requires { ⌜ (name * 8 + 8 ≤ length (now code)) × (placeAt (wordsOf (now code)) name + lengthAt (wordsOf (now code)) name ≤ length (now text)) × (storeBytes ≤ length (now values)) × (h < wordLimit) ⌝ }
     ensures { λ r. ⌜ Takes (now (text .entry)) (now (code .entry)) (now (values .entry)) h name main (now (values .exit)) r ⌝ }
 {
     if names::meaning(code, values, name) != names::UNKNOWN {

@@ -18,10 +18,9 @@ use Rattle.cells.proofs.Kept.{put-length, put-same, put-other}
 use Rattle.code.specs.Cells.{opAt, headAt, linkAt}
 use Rattle.code.specs.Steps.{aDatum}
 use Rattle.names.specs.Numbers.{numberOf, IsName}
-use Rattle.names.specs.Meanings.{meaningIn, isProtected, protectsCell, firstMeaning, cellFor}
+use Rattle.names.specs.Meanings.{Means, meaningIn, isProtected, protectsCell, firstMeaning, cellFor}
 use Rattle.names.specs.Promises.{storeBytes, Left, Links}
 use Rattle.names.specs.declared.Scope.{Scope}
-use Rattle.names.specs.Scopes.{Leaves}
 use Rattle.names.proofs.Spellings.{same-texts, differing, number-most, numbers-same, spellings-same}
 use Rattle.sites.specs.Sites.{Site}
 use Rattle.store.specs.Chains.{Leads, lastOf, Chain, Rise}
@@ -73,15 +72,13 @@ pub record Parameting {code values₀ : List ℕ} {first count : ℕ} (b : Param
   pub keeps : KeepsAll (b .routine) (b .W) (b .s) (wordsOf code) (nameWords at left)
   pub others : MeansBut (map (spelled (b .W)) (nameWords at left) ++ b .texts) (b .routine) (b .W) (outerOf (b .W) (b .s)) (wordsOf values)
 
-pub record ParametersLeft (scope own : Scope) (code values₀ : List ℕ) (first count : ℕ) (values : List ℕ) (at left : ℕ) : Type 0 where
-  pub scope-is : own ≡ scope
+pub record ParametersLeft (code values₀ : List ℕ) (first count : ℕ) (values : List ℕ) (at left : ℕ) : Type 0 where
   pub long : length values ≡ length values₀
   pub same : SameWords values₀ values
   pub kept : (b : ParametersKept code values₀ first count) → Parameting b values at left
 
-pub parameters-kept : (scope : Scope) (code values : List ℕ) (first count : ℕ) → ParametersLeft scope scope code values first count values first count
-parameters-kept scope code values first count = record {
-  scope-is = refl;
+pub parameters-kept : (code values : List ℕ) (first count : ℕ) → ParametersLeft code values first count values first count
+parameters-kept code values first count = record {
   long = refl;
   same = record { is = λ k h. refl };
   kept = λ b. record { near = b .near; keeps = b .keeps; others = b .others };
@@ -102,7 +99,7 @@ unfolding nameWords
 none-texts W at zero texts h = refl
 none-texts W at (suc n) texts h = absurd (omega arith)
 
-module _ (scope own : Scope) (code values₀ : List ℕ) (first count : ℕ) (values : List ℕ) (at left : ℕ) (m : ParametersLeft scope own code values₀ first count values at left) where
+module _ (code values₀ : List ℕ) (first count : ℕ) (values : List ℕ) (at left : ℕ) (m : ParametersLeft code values₀ first count values at left) where
   module _ (b : ParametersKept code values₀ first count) (some : 0 < left) where
     k : KeepsName (b .routine) (b .W) (b .s) (wordsOf code) (at + 1)
     k = first-kept (b .routine) (b .W) (b .s) (wordsOf code) at left some (m .kept b .keeps) .0
@@ -125,10 +122,9 @@ module _ (scope own : Scope) (code values₀ : List ℕ) (first count : ℕ) (va
     pub next-adds : Fits w64 (at + 3)
     next-adds = record { fits = omega (arith, leave-near) }
 
-  pub parameters-leave : ParametersKept code values₀ first count → 0 < left → (values′ : List ℕ) (own′ : Scope) → Leaves own code values (at + 1) values′ own′
-      → ParametersLeft scope own′ code values₀ first count values′ (at + 3) (left - 1)
-  parameters-leave b₀ some values′ own′ leaves = let l = leaves .known in record {
-    scope-is = leaves .used ∙ m .scope-is;
+  pub parameters-leave : ParametersKept code values₀ first count → 0 < left → (values′ : List ℕ) → Left code values (at + 1) values′
+      → ParametersLeft code values₀ first count values′ (at + 3) (left - 1)
+  parameters-leave b₀ some values′ l = record {
     long = left-long (b₀ .routine) (b₀ .W) (b₀ .s) code values values′ (at + 1) (k b₀ some) l (leave-table b₀ some) ∙ m .long;
     same = same-on (m .same) (left-same (b₀ .routine) (b₀ .W) (b₀ .s) code values values′ (at + 1) (k b₀ some) l (leave-table b₀ some));
     kept = λ b. record {
@@ -142,11 +138,10 @@ module _ (scope own : Scope) (code values₀ : List ℕ) (first count : ℕ) (va
   pub left-values : length values ≡ length values₀
   left-values = m .long
 
-  pub parameters-left : left ≤ 0 → LeavesParameters scope code values₀ values first count own
+  pub parameters-left : left ≤ 0 → LeavesParameters code values₀ values first count
   parameters-left none = record {
     others = λ b. subst (λ (t : List Text). MeansBut t (b .routine) (b .W) (outerOf (b .W) (b .s)) (wordsOf values)) (none-texts (b .W) at left (b .texts) none) (m .kept b .others);
     same = m .same;
-    scope-is = m .scope-is;
   }
 
 -- ---- data
@@ -175,8 +170,7 @@ pub record Datas {code values₀ : List ℕ} {head : ℕ} (b : DataKept code val
   pub keeps : KeepsAll (b .routine) (b .W) (b .s) (wordsOf code) (map nameOf r)
   pub others : MeansBut (map (spelled (b .W)) (map nameOf r)) (b .routine) (b .W) (outerOf (b .W) (b .s)) (wordsOf values)
 
-pub record DataLeft (scope own : Scope) (code values₀ : List ℕ) (head : ℕ) (values : List ℕ) (i : ℕ) : Type 0 where
-  pub scope-is : own ≡ scope
+pub record DataLeft (code values₀ : List ℕ) (head : ℕ) (values : List ℕ) (i : ℕ) : Type 0 where
   pub long : length values ≡ length values₀
   pub same : SameWords values₀ values
   pub kept : (b : DataKept code values₀ head) → Datas b values i
@@ -184,9 +178,8 @@ pub record DataLeft (scope own : Scope) (code values₀ : List ℕ) (head : ℕ)
 pub head-room : (code values : List ℕ) (head : ℕ) → DataKept code values head → head * 8 + 8 ≤ length code
 head-room code values head b = omega (arith, b .before, b .code-room)
 
-pub data-kept : (scope : Scope) (code values : List ℕ) (head i : ℕ) → i ≡ linkAt (wordsOf code) head → DataLeft scope scope code values head values i
-data-kept scope code values head i e = record {
-  scope-is = refl;
+pub data-kept : (code values : List ℕ) (head i : ℕ) → i ≡ linkAt (wordsOf code) head → DataLeft code values head values i
+data-kept code values head i e = record {
   long = refl;
   same = record { is = λ k h. refl };
   kept = λ b. record { w = head; r = b .ds; at-is = e; chain = b .chain; rises = b .rises; keeps = b .keeps; others = b .others };
@@ -267,7 +260,7 @@ module _ {code values₀ : List ℕ} {head : ℕ} (b : DataKept code values₀ h
         let e : chainLength (wordsOf code) wordLimit i ≡ suc (length (s .rest)) = ap (chainLength (wordsOf code) wordLimit) (h .at-is) ∙ c in
         omega (arith, a, e)
 
-module _ (scope own : Scope) (code values₀ : List ℕ) (head : ℕ) (values : List ℕ) (i : ℕ) (m : DataLeft scope own code values₀ head values i) where
+module _ (code values₀ : List ℕ) (head : ℕ) (values : List ℕ) (i : ℕ) (m : DataLeft code values₀ head values i) where
   pub datum-room : DataKept code values₀ head → i * 8 + 8 ≤ length code
   datum-room b = omega (arith, here-near b (m .kept b), b .code-room)
 
@@ -297,10 +290,9 @@ module _ (scope own : Scope) (code values₀ : List ℕ) (head : ℕ) (values : 
       pub data-fall : (next : ℕ) → next ≡ linkAt (wordsOf code) i → chainLength (wordsOf code) wordLimit next < chainLength (wordsOf code) wordLimit i
       data-fall next e = subst (λ (k : ℕ). chainLength (wordsOf code) wordLimit k < chainLength (wordsOf code) wordLimit i) (sym e) (falls b (m .kept b) some)
 
-    pub data-leave : DataKept code values₀ head → o ≡ aDatum → (values′ : List ℕ) (own′ : Scope) → Leaves own code values (i + 2) values′ own′ → (next : ℕ) → next ≡ linkAt (wordsOf code) i
-        → DataLeft scope own′ code values₀ head values′ next
-    data-leave b₀ op values′ own′ leaves next e = let l = leaves .known in record {
-      scope-is = leaves .used ∙ m .scope-is;
+    pub data-leave : DataKept code values₀ head → o ≡ aDatum → (values′ : List ℕ) → Left code values (i + 2) values′ → (next : ℕ) → next ≡ linkAt (wordsOf code) i
+        → DataLeft code values₀ head values′ next
+    data-leave b₀ op values′ l next e = record {
       long = left-long (b₀ .routine) (b₀ .W) (b₀ .s) code values values′ (i + 2) (kept-here b₀ (m .kept b₀) (some b₀ op)) l (name-table b₀ op) ∙ m .long;
       same = same-on (m .same) (left-same (b₀ .routine) (b₀ .W) (b₀ .s) code values values′ (i + 2) (kept-here b₀ (m .kept b₀) (some b₀ op)) l (name-table b₀ op));
       kept = λ b.
@@ -317,7 +309,7 @@ module _ (scope own : Scope) (code values₀ : List ℕ) (head : ℕ) (values : 
           };
     }
 
-    pub data-left : (o ≡ aDatum → ⊥) → LeavesData scope code values₀ values head own
+    pub data-left : (o ≡ aDatum → ⊥) → LeavesData code values₀ values head
     unfolding isAmong
     data-left done = record {
       means = λ b.
@@ -327,7 +319,6 @@ module _ (scope own : Scope) (code values₀ : List ℕ) (head : ℕ) (values : 
           subst (λ (l : List ℕ). MeansBut (map (spelled (b .W)) (map nameOf l)) (b .routine) (b .W) (outerOf (b .W) (b .s)) (wordsOf values)) e (h .others) in
           record { means = λ j n. k .means j n refl; guards = λ j n. k .guards j n refl };
       same = m .same;
-      scope-is = m .scope-is;
     }
 
 -- ---- both
@@ -345,7 +336,7 @@ module _ (code values : List ℕ) (first count head : ℕ) where
     others = subst (λ (t : List Text). MeansBut t (l .routine) (l .W) (outerOf (l .W) (l .s)) (wordsOf values)) (map-append (spelled (l .W)) (nameWords first count) (map nameOf (l .ds))) (l .others);
   }
 
-  module _ (scope own : Scope) (mid : List ℕ) (p : LeavesParameters scope code values mid first count own) (long : length mid ≡ length values) where
+  module _ (mid : List ℕ) (p : LeavesParameters code values mid first count) (long : length mid ≡ length values) where
     abbrev kept-of : Leaving code values first count head → DataKept code mid head
     kept-of l = record {
       W = l .W;
@@ -367,5 +358,13 @@ module _ (code values : List ℕ) (first count head : ℕ) where
     pub leaving-data : Leaving code values first count head → DataKept code mid head
     leaving-data l = kept-of l
 
-    pub routine-left : (values′ : List ℕ) (r : Scope) → LeavesData own code mid values′ head r → answers.Leaves scope code values values′ first count head r
-    routine-left values′ r d = record { means = λ l. d .means (kept-of l); same = same-on (p .same) (d .same); scope-is = d .scope-is ∙ p .scope-is }
+    kept-left : (values′ : List ℕ) → LeavesData code mid values′ head → (l : Leaving code values first count head) → Means (l .routine) (l .W) (outerOf (l .W) (l .s)) (wordsOf values′)
+    kept-left values′ d l = d .means (kept-of l)
+
+pub routine-left : (scope outer : Scope) (code values mid : List ℕ) → LeavesParameters code values mid (scope .first) (scope .names) → length mid ≡ length values → (values′ : List ℕ)
+    → LeavesData code mid values′ (scope .head) → answers.Leaves scope outer code values values′ outer
+routine-left scope outer code values mid p long values′ d = record {
+  means = λ l. kept-left code values (scope .first) (scope .names) (scope .head) mid p long values′ d l;
+  same = same-on (p .same) (d .same);
+  scope-is = refl;
+}

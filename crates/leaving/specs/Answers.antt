@@ -45,8 +45,8 @@ pub record Leaving (code values : List ℕ) (first count head : ℕ) : Type 0 wh
   pub keeps-data : KeepsAll routine W s (wordsOf code) (map nameOf ds)
   pub others : MeansBut (map (spelled W) (nameWords first count ++ map nameOf ds)) routine W (outerOf W s) (wordsOf values)
 
--- Then the table says of every name what it means outside.
-pub record Leaves (scope : Scope) (code values values′ : List ℕ) (first count head : ℕ) (r : Scope) : Type 0 where
-  pub means : (l : Leaving code values first count head) → Means (l .routine) (l .W) (outerOf (l .W) (l .s)) (wordsOf values′)
+-- Then the table says of every name what it means outside, and the scope is the outer one.
+pub record Leaves (scope outer : Scope) (code values values′ : List ℕ) (r : Scope) : Type 0 where
+  pub means : (l : Leaving code values (scope .first) (scope .names) (scope .head)) → Means (l .routine) (l .W) (outerOf (l .W) (l .s)) (wordsOf values′)
   pub same : SameWords values values′
-  pub scope-is : r ≡ scope
+  pub scope-is : r ≡ outer

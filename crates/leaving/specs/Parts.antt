@@ -10,7 +10,6 @@ use Rattle.code.specs.Cells.{opAt}
 use Rattle.code.specs.Steps.{aDatum}
 use Rattle.names.specs.Meanings.{Means}
 use Rattle.names.specs.Promises.{storeBytes}
-use Rattle.names.specs.declared.Scope.{Scope}
 use Rattle.sites.specs.Sites.{Site}
 use Rattle.store.specs.Chains.{Chain, Rise}
 use Rattle.sites.specs.Walks.{outerOf, KeepsAll, nameOf, nameWords}
@@ -28,10 +27,9 @@ pub record ParametersKept (code values : List ℕ) (first count : ℕ) : Type 0 
   pub keeps : KeepsAll routine W s (wordsOf code) (nameWords first count)
   pub others : MeansBut (map (spelled W) (nameWords first count) ++ texts) routine W (outerOf W s) (wordsOf values)
 
-pub record LeavesParameters (scope : Scope) (code values values′ : List ℕ) (first count : ℕ) (r : Scope) : Type 0 where
+pub record LeavesParameters (code values values′ : List ℕ) (first count : ℕ) : Type 0 where
   pub others : (b : ParametersKept code values first count) → MeansBut (b .texts) (b .routine) (b .W) (outerOf (b .W) (b .s)) (wordsOf values′)
   pub same : SameWords values values′
-  pub scope-is : r ≡ scope
 
 -- the same of data that a word leads to, and no text more
 pub record DataKept (code values : List ℕ) (head : ℕ) : Type 0 where
@@ -50,7 +48,6 @@ pub record DataKept (code values : List ℕ) (head : ℕ) : Type 0 where
   pub keeps : KeepsAll routine W s (wordsOf code) (map nameOf ds)
   pub others : MeansBut (map (spelled W) (map nameOf ds)) routine W (outerOf W s) (wordsOf values)
 
-pub record LeavesData (scope : Scope) (code values values′ : List ℕ) (head : ℕ) (r : Scope) : Type 0 where
+pub record LeavesData (code values values′ : List ℕ) (head : ℕ) : Type 0 where
   pub means : (b : DataKept code values head) → Means (b .routine) (b .W) (outerOf (b .W) (b .s)) (wordsOf values′)
   pub same : SameWords values values′
-  pub scope-is : r ≡ scope

@@ -4,3 +4,4 @@ pub mod Tables
 pub mod Unique
 pub mod Shields
 pub mod Reading
+pub mod Growing

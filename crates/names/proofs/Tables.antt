@@ -15,8 +15,9 @@ use Rattle.paper.specs.Names.{Meaning, loop, Text, textOf, Names, Scopes, spell
 use Rattle.paper.specs.Terms.{Ref}
 use Rattle.code.specs.Cells.{headAt, tailAt}
 use Rattle.names.specs.Numbers.{numberOf, IsName}
+use Rattle.layout.specs.Parts.{linkPart}
 use Rattle.names.specs.Meanings.{cellWith, meaningWith, meaningIn, isProtected, protectsCell, firstMeaning, cellFor, Means, Apart, Hides, Keeps}
-use Rattle.names.specs.Promises.{storeBytes, numberAt, Declared, Left}
+use Rattle.names.specs.Promises.{numberLimit, storeBytes, numberAt, Declared, Left}
 use Rattle.names.proofs.Spellings.{numbers-same, spellings-same, texts-same, texts-differ}
 use Rattle.store.proofs.Rewriting.{rewritten-head, rewritten-tail}
 
@@ -73,16 +74,16 @@ module _ (routine : ℕ → ℕ) (W : List Word) (S S′ : Scopes) (i : ℕ) (na
   declare-keeps code values code′ values′ m h d e table =
       let cell : headAt (wordsOf code′) i ≡ cellFor W (wordsOf values) i = rewritten-head (d .word) h ∙ ap (λ (k : ℕ). getD (wordsOf values) (firstMeaning + k) 0) e in
       record {
-        number = ap (λ (x : ℕ). x / 65536) (rewritten-tail (d .word) h) ∙ link-is (tailAt (wordsOf code) i) (numberAt (wordsOf code) i) ∙ e;
+        number = ap (λ (x : ℕ). x / linkPart) (rewritten-tail (d .word) h) ∙ link-is (tailAt (wordsOf code) i) (numberAt (wordsOf code) i) ∙ e;
         means = ap (meaningIn routine) cell ∙ table .means i name;
         guards = ap protectsCell cell ∙ table .guards i name;
       }
     where
-      link-is : (tail n : ℕ) → (tail % 65536 + 65536 * n) / 65536 ≡ n
+      link-is : (tail n : ℕ) → (tail % linkPart + linkPart * n) / linkPart ≡ n
       link-is tail n = omega arith
 
   -- A name that is left means again what it meant.
-  pub leave-means : (code values values′ : List ℕ) → Left code values i values′ → Keeps routine W S (wordsOf code) i → Apart S′ S (spelled W i) → storeBytes ≤ length values → numberOf W i < 8192
+  pub leave-means : (code values values′ : List ℕ) → Left code values i values′ → Keeps routine W S (wordsOf code) i → Apart S′ S (spelled W i) → storeBytes ≤ length values → numberOf W i < numberLimit
       → Means routine W S′ (wordsOf values) → Means routine W S (wordsOf values′)
   leave-means code values values′ l k elsewhere h small table =
       subst (Means routine W S) (sym (l .words ∙ ap (λ (n : ℕ). set (wordsOf values) (firstMeaning + n) (headAt (wordsOf code) i)) (k .number)))

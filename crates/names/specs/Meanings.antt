@@ -11,6 +11,7 @@ use Rattle.paper.specs.Terms.{Ref, ofModule, ofRoutine}
 use Rattle.paper.specs.Names.{DataType, aNum, aBool, Meaning, unknown, variable, array, constant, loop, theRoutine, theErrno, errorNumber, Text, textOf, Scopes, spelled, lookIn, protected, isAmong, meaning}
 use Rattle.code.specs.Cells.{opIn, valueIn, headAt, linkAt}
 use Rattle.names.specs.Numbers.{numberOf, IsName}
+use Rattle.layout.specs.Parts.{sizePart}
 pub use Rattle.layout.specs.Kinds.{aVariable, anArray, aConstant, aLoop, aRoutine, anErrno, anErrorNumber, cellWith, kindIn, boolIn, ownIn}
 
 -- ---- a cell: its kind, its type's bit and that of a word of the routine, and its value
@@ -20,12 +21,12 @@ typeWith bool = if eqb bool 0 then aNum else aBool
 abbrev pub refWith : (own word : ℕ) → Ref
 refWith own word = if eqb own 0 then ofModule word else ofRoutine word
 
--- An array's value is its first word + 1024 * its size. A routine's is the word that it begins with, which `routine` numbers.
+-- An array's value is its first word, and its size above it. A routine's is the word that it begins with, which `routine` numbers.
 -- Kind 0 is no meaning yet, also of module data whose semicolon is still to come.
 unfoldable pub meaningWith : (routine : ℕ → ℕ) → (kind bool own value : ℕ) → Meaning
 meaningWith routine kind bool own value =
     if eqb kind aVariable then variable (typeWith bool) (refWith own value)
-    else if eqb kind anArray then array (typeWith bool) (refWith own (value % 1024)) (value / 1024)
+    else if eqb kind anArray then array (typeWith bool) (refWith own (value % sizePart)) (value / sizePart)
     else if eqb kind aConstant then constant (typeWith bool) (refWith own value)
     else if eqb kind aLoop then loop (refWith own value)
     else if eqb kind aRoutine then theRoutine (routine value)

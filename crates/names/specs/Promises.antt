@@ -20,7 +20,7 @@ abbrev pub numberLimit : ℕ
 numberLimit = 8192
 
 -- ---- cells
--- A name's head has its number, and 8192 times its length above it, as its value.
+-- A name's head has its number, and its length above it, as its value.
 abbrev pub numberAt : (C : List ℕ) → ℕ → ℕ
 numberAt C i = valueAt C i % numberLimit
 

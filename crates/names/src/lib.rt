@@ -4,7 +4,7 @@ ghost use Prim.Native.Nat.{_+_, _*_, _<_, _≤_};
 ghost use lib.ListN.{length};
 ghost use Rattle.code.specs.Cells.{valueIn};
 ghost use Rattle.names.specs.Promises.{Number, Meant, Declared, Links, Left, Protects, TypeOf, TypeNamed, storeBytes};
-ghost use Rattle.names.specs.Scopes.{Fits, Declares, Enters, Leaves};
+ghost use Rattle.names.specs.Scopes.{moduleScope, routineScope, withParameter, Fits, EachHasWord, Declares, Enters, Leaves};
 ghost use Rattle.layout.specs.Kinds.{cellWith, kindIn, ownIn};
 use layout::kinds;
 use layout::parts;
@@ -54,7 +54,7 @@ fn declare(code: &mut [u8], values: &mut [u8], i: usize, m: u32)
 }
 
 // The name that a word declared means again what it meant before.
-fn leave(code: &[u8], values: &mut [u8], i: usize)
+pub fn restore(code: &[u8], values: &mut [u8], i: usize)
     requires { ⌜ (i * 8 + 8 ≤ length (now code)) × (storeBytes ≤ length (now values)) × Links (now code) i ⌝ }
     ensures { λ _. ⌜ Left (now (code .entry)) (now (values .entry)) i (now (values .exit)) ⌝ }
 {
@@ -114,10 +114,18 @@ pub fn value_of(m: u32) -> u32
     m / parts::VALUE
 }
 
-// How far a scope is filled: the words of its data. It goes in by value, and what fills it hands the new state back. What its names mean does not fit a struct,
-// and stands in lent cells.
+// A scope: how far it is filled, and which names it opened. It goes in by value, and what fills, enters or leaves it hands the new state back. What its names mean does not fit
+// a struct, and stands in lent cells.
 pub struct Scope {
+    // the words of its data
     pub used: u32,
+    // the FORs around
+    pub loops: u32,
+    // The names it opened (a routine's parameters, a FOR's variable): how many, and the word before the first of them; each other stands three words on.
+    pub names: u32,
+    pub first: usize,
+    // the word that leads to a routine's data, whose names it opened too
+    pub head: usize,
 }
 
 // What a walk that fills a scope answers.
@@ -129,6 +137,32 @@ pub enum Walked {
 }
 
 impl Scope {
+    // The module's, before anything is declared.
+    pub fn of_module() -> Scope
+        ensures { λ r. ⌜ r ≡ moduleScope ⌝ }
+    {
+        Scope {
+            used: 0,
+            loops: 0,
+            names: 0,
+            first: 0,
+            head: 0,
+        }
+    }
+
+    // A routine's is entered from the module's: its words are counted anew, its parameters will stand from the word `first` on, and its word `head` will lead to its data.
+    pub fn enter_routine(self, first: usize, head: usize) -> Scope
+        ensures { λ r. ⌜ r ≡ routineScope self first head ⌝ }
+    {
+        Scope {
+            used: 0,
+            loops: self.loops,
+            names: 0,
+            first: first,
+            head: head,
+        }
+    }
+
     // The name at a word means m from now on, and has so many words.
     pub fn declare(self, code: &mut [u8], values: &mut [u8], i: usize, m: u32, words: u32) -> Scope
         requires { ⌜ (i * 8 + 8 ≤ length (now code)) × (storeBytes ≤ length (now values)) × Fits self words ⌝ }
@@ -137,24 +171,55 @@ impl Scope {
         declare(code, values, i, m);
         Scope {
             used: self.used + words,
+            loops: self.loops,
+            names: self.names,
+            first: self.first,
+            head: self.head,
         }
     }
 
-    // A loop's body is entered: the name at a word is its variable, the routine's next word.
+    // What was declared last is a parameter.
+    pub fn count_parameter(self) -> Scope
+        requires { ⌜ self .names ≤ self .used × Fits self 0 ⌝ }
+        ensures { λ r. ⌜ r ≡ withParameter self ⌝ }
+    {
+        Scope {
+            used: self.used,
+            loops: self.loops,
+            names: self.names + 1,
+            first: self.first,
+            head: self.head,
+        }
+    }
+
+    // The body of the FOR at a word is entered: the name behind it is its variable, the routine's next word.
     pub fn enter(self, code: &mut [u8], values: &mut [u8], i: usize) -> Scope
-        requires { ⌜ (i * 8 + 8 ≤ length (now code)) × (storeBytes ≤ length (now values)) × Fits self 1 ⌝ }
+        requires { ⌜ (i * 8 + 16 ≤ length (now code)) × (storeBytes ≤ length (now values)) × Fits self 1 × EachHasWord self ⌝ }
         ensures { λ r. ⌜ Enters self (now (code .entry)) (now (values .entry)) i (now (code .exit)) (now (values .exit)) r ⌝ }
     {
         let m = kinds::LOOP * parts::KIND + OF_ROUTINE + parts::VALUE * self.used;
-        self.declare(code, values, i, m, 1)
+        declare(code, values, i + 1, m);
+        Scope {
+            used: self.used + 1,
+            loops: self.loops + 1,
+            names: 1,
+            first: i,
+            head: 0,
+        }
     }
 
-    // The name that a word declared means again what it meant before; its words stay the scope's.
-    pub fn leave(self, code: &[u8], values: &mut [u8], i: usize) -> Scope
-        requires { ⌜ (i * 8 + 8 ≤ length (now code)) × (storeBytes ≤ length (now values)) × Links (now code) i ⌝ }
-        ensures { λ r. ⌜ Leaves self (now (code .entry)) (now (values .entry)) i (now (values .exit)) r ⌝ }
+    // A FOR's body is left to the scope around it: the variable means again what it meant before; its words stay the routine's.
+    pub fn leave(self, outer: Scope, code: &[u8], values: &mut [u8]) -> Scope
+        requires { ⌜ (self .first * 8 + 16 ≤ length (now code)) × (storeBytes ≤ length (now values)) × Links (now code) (self .first + 1) ⌝ }
+        ensures { λ r. ⌜ Leaves self outer (now (code .entry)) (now (values .entry)) (now (values .exit)) r ⌝ }
     {
-        leave(code, values, i);
-        self
+        restore(code, values, self.first + 1);
+        Scope {
+            used: self.used,
+            loops: outer.loops,
+            names: outer.names,
+            first: outer.first,
+            head: outer.head,
+        }
     }
 }

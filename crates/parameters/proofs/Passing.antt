@@ -34,11 +34,13 @@ use Rattle.faults.proofs.Declarations.{name-taken, name-crosses, name-fits, par
 use Rattle.expressions.specs.Known.{Loaded}
 use Rattle.expressions.proofs.Starts.{loaded-part}
 use Rattle.names.specs.declared.Scope.{Scope}
+use Rattle.names.specs.Scopes.{withUsed, withParameter}
+use Rattle.names.specs.Scopes as scopes
 use Rattle.names.specs.declared.Walked.{Walked}
 use Rattle.names.specs.declared.Walked.the-variants.{Upto, Faulty}
 use Rattle.sites.specs.Sites.{aRoutine, filling, ownOf, scopesOf, Owns, Placed, owned, Filled}
-use Rattle.sites.specs.Walks.{upto, KeepsAll, nameWords}
-use Rattle.parameters.specs.Answers.{OtherWords, ParametersStand, parametersAfter, ParametersFilled, SaysParameters, DeclaresParameters}
+use Rattle.sites.specs.Walks.{KeepsAll, nameWords}
+use Rattle.parameters.specs.Answers.{Unopened, withParameters, Opened, Opens, OtherWords, ParametersStand, parametersAfter, ParametersFilled, SaysParameters, DeclaresParameters}
 use Rattle.sites.specs.Parts.{baseOf, Fills, Taken, Makes}
 use Rattle.parameters.specs.Parts.{ParameterBegins, parameterAfter, ParameterGoes, SaysParameter, DeclaresParameter}
 use Rattle.sites.proofs.Sitting.{site-ref, own-here, among-new, used-most, filled-on, crossing, not-crossing, own-routine, limit-routine}
@@ -154,10 +156,10 @@ module _ (code values : List ℕ) (used i : ℕ) (t : Bool) (taken : Taken code 
   }
 
   pub parameter-goes : t ≡ false → used < routineWordLimit → (code′ mid values′ : List ℕ) → Makes code values code′ mid (i + 1) aVariable 1 used → Fills mid values′ (firstWindow + used) 1 0
-      → (scope : Scope) → scope ≡ record { used = used + 1 } → DeclaresParameter code values code′ values′ used i (Upto (i + 2) scope)
+      → (scope filled : Scope) → filled ≡ withUsed (used + 1) scope → (counted : Scope) → counted ≡ withParameter filled → DeclaresParameter code values code′ values′ used i (Upto (i + 2) counted)
   unfolding SaysParameter
-  parameter-goes h fits code′ mid values′ made fills scope e = record {
-    is = λ b. subst (λ (s : Scope). SaysParameter b code′ values′ (Upto (i + 2) s)) (sym e) (goes b code′ mid values′ (sym (taken-is b t taken) ∙ h) fits made fills);
+  parameter-goes h fits code′ mid values′ made fills scope filled e counted c = record {
+    is = λ b. subst (λ (s : Scope). SaysParameter b code′ values′ (Upto (i + 2) s)) (sym (c ∙ ap withParameter e)) (goes b code′ mid values′ (sym (taken-is b t taken) ∙ h) fits made fills);
   }
 
 -- ---- the words of their names
@@ -202,9 +204,9 @@ module _ (code values : List ℕ) (at s : ℕ) (s-is : s ≡ opAt (wordsOf code)
   sort-at : (b : ParametersStand code values at) → sortIn (b .W) at ≡ s
   sort-at b = sym (s-is ∙ b .loaded .words at (omega arith) (at-on b) .sort)
 
-  pub parameters-none : s ≡ 7 → DeclaresParameters code values code values at (upto at 0)
+  pub parameters-none : s ≡ 7 → (scope : Scope) → Unopened scope → DeclaresParameters code values code values at (Upto at scope)
   unfolding SaysParameters KeepsAll nameWords parameterFaults declareParameters
-  parameters-none h = record {
+  parameters-none h scope u = subst (λ (n : ℕ). (DeclaresParameters code values code values at (Upto at (withUsed n scope)))) (sym (u .no-word)) (record {
     is = λ b.
         let n = closed-none (sortIn (b .W)) (ParameterAt (sortIn (b .W)) (Parses (sortIn (b .W)))) (b .stand) (sort-at b ∙ h) in
         let G = filling (b .W) (aRoutine (b .m)) in
@@ -219,11 +221,11 @@ module _ (code values : List ℕ) (at s : ℕ) (s-is : s ≡ opAt (wordsOf code)
           covers = λ u q. ap (λ (D : Data). isAmong (map textOf (D .names)) u) e ∙ q;
           others = record { is = λ k d. refl };
         };
-  }
+  })
 
-  pub parameters-begun : (s ≡ 7 → ⊥) → ParametersWalk code values at code values at 0
+  pub parameters-begun : (s ≡ 7 → ⊥) → (scope : Scope) → Unopened scope → ParametersWalk code values at code values at (scope .used)
   unfolding KeepsAll nameWords
-  parameters-begun h = record {
+  parameters-begun h scope u = subst (ParametersWalk code values at code values at) (sym (u .no-word)) (record {
     long = refl;
     long-values = refl;
     passed = λ b. record {
@@ -241,7 +243,7 @@ module _ (code values : List ℕ) (at s : ℕ) (s-is : s ≡ opAt (wordsOf code)
     };
     place = omega arith;
     others = record { is = λ k d. refl };
-  }
+  })
 
 pub parameters-room : (code values : List ℕ) (at : ℕ) → ParametersStand code values at → at * 8 + 8 ≤ length code
 parameters-room code values at b =
@@ -374,9 +376,9 @@ module _ {code₀ values₀ : List ℕ} {at : ℕ} (b : ParametersStand code₀ 
           others = others;
         }
 
-says-goes : {code values : List ℕ} {used i : ℕ} (b : ParameterBegins code values used i) (code′ values′ : List ℕ) (r : Walked) (n used′ : ℕ) → r ≡ upto n used′ → SaysParameter b code′ values′ r → ParameterGoes b code′ values′ n used′
+says-goes : {code values : List ℕ} {used i : ℕ} (b : ParameterBegins code values used i) (code′ values′ : List ℕ) (r : Walked) (n : ℕ) (scope : Scope) → r ≡ Upto n scope → SaysParameter b code′ values′ r → ParameterGoes b code′ values′ n (scope .used)
 unfolding SaysParameter
-says-goes b code′ values′ r n used′ q h = subst (SaysParameter b code′ values′) q h
+says-goes b code′ values′ r n scope q h = subst (SaysParameter b code′ values′) q h
 
 says-faulty : {code values : List ℕ} {used i : ℕ} (b : ParameterBegins code values used i) (code′ values′ : List ℕ) (r : Walked) (number word : ℕ) → r ≡ Faulty number word → SaysParameter b code′ values′ r
     → First (record { number = number; at = word }) (nameFaults (b .W) (filling (b .W) (aRoutine (b .m))) (b .p .name) (pos 0 ∷ []) (b .D))
@@ -401,9 +403,12 @@ module _ (code₀ values₀ : List ℕ) (at : ℕ) (code values : List ℕ) (i u
       is = λ b. found b (m .passed b) (record { number = number; at = word }) (says-faulty (begins b (m .passed b)) code′ values′ r number word q (d .is (begins b (m .passed b))));
     })
 
-    module _ (n used′ : ℕ) (q : r ≡ upto n used′) where
+    module _ (n : ℕ) (scope : Scope) (q : r ≡ Upto n scope) where
+      abbrev used′ : ℕ
+      used′ = scope .used
+
       went : (b : ParametersStand code₀ values₀ at) → ParameterGoes (begins b (m .passed b)) code′ values′ n used′
-      went b = says-goes (begins b (m .passed b)) code′ values′ r n used′ q (d .is (begins b (m .passed b)))
+      went b = says-goes (begins b (m .passed b)) code′ values′ r n scope q (d .is (begins b (m .passed b)))
 
       n-is : ParametersStand code₀ values₀ at → n ≡ i + 2
       n-is b = went b .next-is ∙ first-left b (m .passed b) .one .after
@@ -415,14 +420,14 @@ module _ (code₀ values₀ : List ℕ) (at : ℕ) (code values : List ℕ) (i u
       pub end-room : ParametersStand code₀ values₀ at → n * 8 + 8 ≤ length code
       end-room b = let r = m .passed b .loaded .room in omega (arith, r, n-on b)
 
-      end-adds : ParametersStand code₀ values₀ at → Fits w64 (n + 1)
-      end-adds b = let l = m .passed b .loaded .last in record { fits = omega (arith, l, n-on b) }
+      pub behind-adds : ParametersStand code₀ values₀ at → Fits w64 (n + 1)
+      behind-adds b = let l = m .passed b .loaded .last in record { fits = omega (arith, l, n-on b) }
 
       end-near : ParametersStand code₀ values₀ at → n < wordLimit
       end-near b = let l = m .passed b .loaded .last in omega (arith, l, n-on b)
 
-      fall : ParametersStand code₀ values₀ at → wordLimit - (n + 1) < wordLimit - i
-      fall b = omega (arith, n-is b, end-near b)
+      pub parameters-fall : ParametersStand code₀ values₀ at → wordLimit - (n + 1) < wordLimit - i
+      parameters-fall b = omega (arith, n-is b, end-near b)
 
       others-on : ParametersStand code₀ values₀ at → OtherWords (wordsOf code₀) (wordsOf code′) at used′
       others-on b = record {
@@ -435,11 +440,11 @@ module _ (code₀ values₀ : List ℕ) (at : ℕ) (code values : List ℕ) (i u
             let p = m .passed b in
             sym (s-is ∙ ap opIn (went b .others .is (n * 2) (λ j l e. omega (arith, e, l, n-is b))) ∙ p .loaded .words n (omega (arith, n-is b)) (n-on b) .sort)
 
-        all-done : (s ≡ comma → ⊥) → DeclaresParameters code₀ values₀ code′ values′ at r
+        pub parameters-done : (s ≡ comma → ⊥) → DeclaresParameters code₀ values₀ code′ values′ at (Upto n scope)
         unfolding SaysParameters
-        all-done last = subst (DeclaresParameters code₀ values₀ code′ values′ at) (sym q) (record {
+        parameters-done last = record {
           is = λ b. all b (m .passed b) code′ values′ n used′ (went b) long (m .place) (λ e. last (sym (sort-end b) ∙ e)) (others-on b);
-        })
+        }
 
         pub parameters-go : s ≡ comma → ParametersStand code₀ values₀ at → length values′ ≡ length values → ParametersWalk code₀ values₀ at code′ values′ (n + 1) used′
         parameters-go is-comma b₀ long-values = record {
@@ -450,13 +455,33 @@ module _ (code₀ values₀ : List ℕ) (at : ℕ) (code values : List ℕ) (i u
           others = others-on b₀;
         }
 
-    -- the same where the scope is told
-    module _ (n : ℕ) (scope : Scope) (q : r ≡ Upto n scope) where
-      pub behind-adds : ParametersStand code₀ values₀ at → Fits w64 (n + 1)
-      behind-adds b = end-adds n (scope .used) q b
+-- ---- the scope
+pub counting-few : (scope filled : Scope) → filled ≡ withUsed (scope .used + 1) scope → scope .names ≡ scope .used → filled .names ≤ filled .used
+counting-few scope filled e n = subst (λ (s : Scope). s .names ≤ s .used) (sym e) (omega (arith, n))
 
-      pub parameters-done : (s : ℕ) → s ≡ opAt (wordsOf code′) n → length code′ ≡ length code → (s ≡ comma → ⊥) → DeclaresParameters code₀ values₀ code′ values′ at (Upto n scope)
-      parameters-done s s-is long last = subst (DeclaresParameters code₀ values₀ code′ values′ at) q (all-done n (scope .used) q s s-is long last)
+pub counting-fits : (scope filled : Scope) → filled ≡ withUsed (scope .used + 1) scope → scope .used < routineWordLimit → scopes.Fits filled 0
+counting-fits scope filled e h = subst (λ (s : Scope). scopes.Fits s 0) (sym e) (omega (arith, h))
 
-    pub parameters-fall : (n : ℕ) (scope : Scope) → r ≡ Upto n scope → ParametersStand code₀ values₀ at → wordLimit - (n + 1) < wordLimit - i
-    parameters-fall n scope q b = fall n (scope .used) q b
+abbrev opening : Scope → (used names : ℕ) → Scope
+opening s used names = record { used = used; loops = s .loops; names = names; first = s .first; head = s .head }
+
+pub parameter-opens : (scope filled counted : Scope) → filled ≡ withUsed (scope .used + 1) scope → counted ≡ withParameter filled → scope .names ≡ scope .used → Opened scope counted
+parameter-opens scope filled counted e c n =
+    let is : counted ≡ withParameter (withUsed (scope .used + 1) scope) = c ∙ ap withParameter e in
+    record { is = is ∙ ap (λ (k : ℕ). opening scope (scope .used + 1) (k + 1)) n ∙ ap (λ (k : ℕ). withParameters k scope) (sym (ap (λ (s : Scope). s .used) is)) }
+
+pub unopened-self : (scope : Scope) → Unopened scope → Opened scope scope
+unopened-self scope u = record { is = ap (opening scope (scope .used)) (u .no-name ∙ sym (u .no-word)) }
+
+pub opened-names : (entered scope : Scope) → Opened entered scope → scope .names ≡ scope .used
+opened-names entered scope o = ap (λ (s : Scope). s .names) (o .is)
+
+opens-on : (entered scope r : Scope) → Opened entered scope → Opened scope r → Opened entered r
+opens-on entered scope r e f = record { is = f .is ∙ ap (withParameters (r .used)) (e .is) }
+
+pub opens-upto : (entered scope : Scope) (w : Walked) → Opened entered scope → Opens scope w → (next : ℕ) (r : Scope) → w ≡ Upto next r → Opened entered r
+opens-upto entered scope w e h next r q = opens-on entered scope r e (subst (Opens scope) q h)
+
+pub opens-faulty : (entered scope : Scope) (w : Walked) → Opened entered scope → Opens scope w → Opens entered w
+opens-faulty entered scope (Upto next r) e h = opens-on entered scope r e h
+opens-faulty entered scope (Faulty number word) e h = h

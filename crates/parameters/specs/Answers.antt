@@ -14,11 +14,32 @@ use Rattle.grammar.specs.Form.{Parses, ParametersAt}
 use Rattle.faults.specs.First.{First}
 use Rattle.faults.specs.Added.{parameterFaults}
 use Rattle.expressions.specs.Known.{Loaded}
+use Rattle.names.specs.declared.Scope.{Scope}
 use Rattle.names.specs.declared.Walked.{Walked}
 use Rattle.names.specs.declared.Walked.the-variants.{Upto, Faulty}
 use Rattle.sites.specs.Sites.{aRoutine, filling, Filled}
 use Rattle.sites.specs.Walks.{KeepsAll, nameWords}
 
+-- ---- the scope
+-- nothing is declared in it yet
+pub record Unopened (s : Scope) : Type 0 where
+  pub no-word : s .used ≡ 0
+  pub no-name : s .names ≡ 0
+
+-- so many parameters are declared in it, and nothing else
+abbrev pub withParameters : (count : ℕ) → Scope → Scope
+withParameters count s = record { used = count; loops = s .loops; names = count; first = s .first; head = s .head }
+
+-- r is scope s with so many names opened as words are used
+pub record Opened (s r : Scope) : Type 0 where
+  pub is : r ≡ withParameters (r .used) s
+
+-- The walk hands back the scope that went in, with its parameters opened.
+abbrev pub Opens : Scope → Walked → Type 0
+Opens s (Upto next r) = Opened s r
+Opens s (Faulty number word) = Unit {0}
+
+-- ---- the walk
 pub record ParametersStand (code values : List ℕ) (at : ℕ) : Type 0 where
   pub W : List Word
   pub routine : ℕ → ℕ

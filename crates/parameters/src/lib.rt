@@ -1,5 +1,6 @@
 // The parameters of a routine: what they make known.
-ghost use Rattle.parameters.specs.Answers.{ParametersStand, DeclaresParameters};
+ghost use mathlib.Core.Path.{_≡_};
+ghost use Rattle.parameters.specs.Answers.{ParametersStand, DeclaresParameters, Unopened, Opens};
 ghost use Rattle.parameters.specs.Parts.{ParameterBegins, DeclaresParameter};
 use layout::kinds;
 use layout::limits;
@@ -12,8 +13,8 @@ use sites::known;
 use store::sort;
 
 fn parameter(scope: Scope, code: &mut [u8], values: &mut [u8], i: usize) -> Walked
-    requires { ⌜ ParameterBegins (now code) (now values) (scope .used) i ⌝ }
-    ensures { λ r. ⌜ DeclaresParameter (now (code .entry)) (now (values .entry)) (now (code .exit)) (now (values .exit)) (scope .used) i r ⌝ }
+    requires { ⌜ ParameterBegins (now code) (now values) (scope .used) i × (scope .names ≡ scope .used) ⌝ }
+    ensures { λ r. ⌜ DeclaresParameter (now (code .entry)) (now (values .entry)) (now (code .exit)) (now (values .exit)) (scope .used) i r × Opens scope r ⌝ }
 {
     let used = scope.used;
     if is_taken(code, values, names::OF_ROUTINE, i + 1) {
@@ -33,19 +34,19 @@ fn parameter(scope: Scope, code: &mut [u8], values: &mut [u8], i: usize) -> Walk
         1,
     );
     fill(values, layout::cells::FIRST_WINDOW + used as usize, 1, 0);
-    Walked::Upto(i + 2, filled)
+    Walked::Upto(i + 2, filled.count_parameter())
 }
 
-// The parameters of a routine, from the first one's type up to the parenthesis behind them.
-pub fn parameters(code: &mut [u8], values: &mut [u8], at: usize) -> Walked
-    requires { ⌜ ParametersStand (now code) (now values) at ⌝ }
-    ensures { λ r. ⌜ DeclaresParameters (now (code .entry)) (now (values .entry)) (now (code .exit)) (now (values .exit)) at r ⌝ }
+// The parameters of a routine whose scope was entered, from the first one's type up to the parenthesis behind them.
+pub fn parameters(entered: Scope, code: &mut [u8], values: &mut [u8]) -> Walked
+    requires { ⌜ ParametersStand (now code) (now values) (entered .first) × Unopened entered ⌝ }
+    ensures { λ r. ⌜ DeclaresParameters (now (code .entry)) (now (values .entry)) (now (code .exit)) (now (values .exit)) (entered .first) r × Opens entered r ⌝ }
 {
-    if sort(code, at) == sorts::CLOSE_PAREN {
-        return Walked::Upto(at, Scope { used: 0 });
+    let mut i = entered.first;
+    if sort(code, i) == sorts::CLOSE_PAREN {
+        return Walked::Upto(i, entered);
     }
-    let mut i = at;
-    let mut scope = Scope { used: 0 };
+    let mut scope = entered;
     loop {
         let d = parameter(scope, code, values, i);
         let Walked::Upto(next, more) = d else {

@@ -1,4 +1,5 @@
 -- The scope of a routine is left; what is written of it.
+use Rattle.layout.specs.Parts.{linkPart}
 use mathlib.Core.Path.{_≡_, refl, sym, ap, subst, _∙_}
 use mathlib.Core.Bool.{Bool, true, false}
 use mathlib.Core.List.{List, [], _∷_, _++_, map}
@@ -6,7 +7,7 @@ use Prim.Native.Nat.{ℕ, _+_, _-_, _*_, _/_, _%_, _<_, _≤_}
 use native.Mathlib.Omega.{arith}
 use lib.ListN.{length, getD, replicate}
 use lib.IntN.{ℤ, pos}
-use Rattle.paper.specs.Words.{Word}
+use Rattle.paper.specs.Words.{Word, wordLimit}
 use Rattle.paper.specs.Trees.{Routine, Module}
 use Rattle.paper.specs.Names.{Meaning, unknown, Text, Names, textOf, sortIn, spelled, lookIn, protected, isAmong, meaning}
 use Rattle.paper.specs.Types.{Fault}
@@ -32,20 +33,16 @@ use Rattle.sites.specs.Sites.{aRoutine, filling, Filled}
 use Rattle.sites.proofs.Chaining.{rise-wider}
 use Rattle.sites.specs.Walks.{outerOf, nameOf, nameWords}
 use Rattle.declarations.specs.Answers.{firstOf, DeclaresRoutine}
-use Rattle.leaving.specs.Answers.{MeansBut, Leaving, Leaves}
+use Rattle.leaving.specs.Answers.{MeansBut, SameWords, Leaving}
 use Rattle.parameters.specs.Answers.{DeclaresParameters}
-use Rattle.names.specs.declared.Walked as statements
 use Rattle.statements.specs.Answers.{SameValues}
-use Rattle.names.specs.declared.Walked.the-variants as walked
 use Rattle.store.specs.Chains.{Chain, Rise, startsIn}
 use Rattle.program.specs.Routines.{wordsInAll, RawLines, RawHandler, RawRoutine}
 use Rattle.program.proofs.Framing.{lines-frame}
 use Rattle.program.proofs.Chaining.{DataStay, chain-kept, starts-kept}
-use Rattle.sites.specs.Walks as data-walks
-use Rattle.statements.specs.Answers as answers
 use Rattle.names.specs.declared.Scope.{Scope}
-use Rattle.routines.specs.declared.Walked.{Walked}
-use Rattle.routines.specs.declared.Walked.the-variants.{Upto, Faulty}
+use Rattle.names.specs.declared.Walked.{Walked}
+use Rattle.names.specs.declared.Walked.the-variants.{Upto, Faulty}
 use Rattle.routines.specs.Answers.{groundOf, ModuleFilled, Spares, Begins, Goes}
 use Rattle.routines.specs.Parts.{Finishes, Inside, groundIn, ListsStand, ListsDone, SaysLists, Lists, ScopeStands, SaysScope, Scoped}
 use Rattle.routines.proofs.Filling.{filled-same, routine-left}
@@ -59,8 +56,8 @@ outer-meaning W m N u h =
     ap (lookIn protected u) (not-found N u (lookIn (moduleScopes W m .globals) u (lookIn (moduleScopes W m .routines) u unknown)) h)
 
 module _ (text code values : List ℕ) (result h name : ℕ) (g : ScopeStands text code values result h name)
-    (code₁ values₁ : List ℕ) (close count : ℕ) (x₁ : DeclaresParameters code values code₁ values₁ (name + 2) (data-walks.upto close count)) (long₁ : length code₁ ≡ length code)
-    (code₂ values₂ : List ℕ) (at taken : ℕ) (x₂ : DeclaresRoutine code₁ values₁ code₂ values₂ (name + 1) h count (close + 1) (data-walks.upto at taken)) (long₂ : length code₂ ≡ length code) where
+    (code₁ values₁ : List ℕ) (close : ℕ) (own : Scope) (x₁ : DeclaresParameters code values code₁ values₁ (name + 2) (Upto close own)) (long₁ : length code₁ ≡ length code)
+    (code₂ values₂ : List ℕ) (at : ℕ) (taken : Scope) (x₂ : DeclaresRoutine code₁ values₁ code₂ values₂ (name + 1) h (own .used) (close + 1) (Upto at taken)) (long₂ : length code₂ ≡ length code) where
   abbrev W : List Word
   W = g .begins .stands .W
 
@@ -85,20 +82,20 @@ module _ (text code values : List ℕ) (result h name : ℕ) (g : ScopeStands te
   o : Order text code values result h name g
   o = order text code values result h name g
 
-  e : Entered text code values result h name g code₁ values₁ close count x₁ long₁
-  e = entered text code values result h name g code₁ values₁ close count x₁ long₁
+  e : Entered text code values result h name g code₁ values₁ close own x₁ long₁
+  e = entered text code values result h name g code₁ values₁ close own x₁ long₁
 
-  d : Declared text code values result h name g code₁ values₁ close count x₁ long₁ code₂ values₂ at taken x₂ long₂
-  d = declared text code values result h name g code₁ values₁ close count x₁ long₁ code₂ values₂ at taken x₂ long₂
+  d : Declared text code values result h name g code₁ values₁ close own x₁ long₁ code₂ values₂ at taken x₂ long₂
+  d = declared text code values result h name g code₁ values₁ close own x₁ long₁ code₂ values₂ at taken x₂ long₂
 
   low : (i : ℕ) → i < (name + 3) * 2 → i < (form .close + 1) * 2 → (i ≡ h * 2 + 1 → ⊥) → getD (wordsOf code₂) i 0 ≡ getD (wordsOf code) i 0
-  low = low₂ text code values result h name g code₁ values₁ close count x₁ long₁ code₂ values₂ at taken x₂ long₂
+  low = low₂ text code values result h name g code₁ values₁ close own x₁ long₁ code₂ values₂ at taken x₂ long₂
 
   high : (i : ℕ) → form .begin * 2 ≤ i → getD (wordsOf code₂) i 0 ≡ getD (wordsOf code) i 0
-  high = high₂ text code values result h name g code₁ values₁ close count x₁ long₁ code₂ values₂ at taken x₂ long₂
+  high = high₂ text code values result h name g code₁ values₁ close own x₁ long₁ code₂ values₂ at taken x₂ long₂
 
-  unfoldable pub scope-lists : ListsStand text code₂ values₂ result taken h at
-  scope-lists = lists-stand text code values result h name g code₁ values₁ close count x₁ long₁ code₂ values₂ at taken x₂ long₂
+  unfoldable pub scope-lists : ListsStand text code₂ values₂ result (taken .used) h at
+  scope-lists = lists-stand text code values result h name g code₁ values₁ close own x₁ long₁ code₂ values₂ at taken x₂ long₂
 
   -- the words before the parameters have their sorts still
   low-op : (i : ℕ) → h ≤ i → i ≤ name + 1 → opAt (wordsOf code₂) i < aTarget
@@ -107,17 +104,17 @@ module _ (text code values : List ℕ) (result h name : ℕ) (g : ScopeStands te
       let q : opAt (wordsOf code₂) i ≡ sortIn W i = ap opIn (low (i * 2) (omega arith) (omega arith) (λ z. omega arith)) ∙ g .begins .unread .loaded .words i a (omega arith) .sort in
       omega (arith, g .begins .stands .sorts i)
 
-  module _ (code₃ values₃ : List ℕ) (next used : ℕ) (x₃ : Lists text code₂ values₂ code₃ values₃ result taken h at (answers.upto next used)) where
-    l : ListsDone scope-lists code₃ values₃ next used
+  module _ (code₃ values₃ : List ℕ) (next : ℕ) (all : Scope) (x₃ : Lists text code₂ values₂ code₃ values₃ result (taken .used) h at (Upto next all)) where
+    l : ListsDone scope-lists code₃ values₃ next (all .used)
     unfolding SaysLists
     l = x₃ .is scope-lists
 
     pub record Listed : Type 0 where
       pub none : routineFaults W m (signatures W m 0 (m .routines)) (g .k) r ≡ []
       pub next-is : next ≡ to
-      pub used-is : used ≡ taken + forsOf W r
-      pub few : used ≤ callWords
-      pub body : RawLines (groundOf text W m) (wordsOf code₃) m r (r .body) taken at
+      pub used-is : all .used ≡ taken .used + forsOf W r
+      pub few : all .used ≤ callWords
+      pub body : RawLines (groundOf text W m) (wordsOf code₃) m r (r .body) (taken .used) at
       pub handler : RawHandler (groundOf text W m) (wordsOf code₃) m r (r .handler) (h + 1)
       pub below : (i : ℕ) → i < at * 2 → (i ≡ h * 2 + 3 → ⊥) → getD (wordsOf code₃) i 0 ≡ getD (wordsOf code₂) i 0
       pub above : (i : ℕ) → to * 2 ≤ i → getD (wordsOf code₃) i 0 ≡ getD (wordsOf code₂) i 0
@@ -127,13 +124,13 @@ module _ (text code values : List ℕ) (result h name : ℕ) (g : ScopeStands te
     unfolding scope-lists lists-stand inside
     listed = record { none = l .none; next-is = l .next-is; used-is = l .used-is; few = l .few; body = l .body; handler = l .handler; below = l .below; above = l .above; same = l .same }
 
-    pub finish-few : used - taken < 65536
+    pub finish-few : all .used - taken .used < linkPart
     finish-few = omega (arith, listed .few)
 
-    pub finish-most : taken ≤ used
+    pub finish-most : taken .used ≤ all .used
     finish-most = omega (arith, listed .used-is)
 
-    module _ (code₄ : List ℕ) (fors : ℕ) (f : Finishes code₃ code₄ h (name + 1) at fors) (fors-is : fors ≡ used - taken) (long₄ : length code₄ ≡ length code) where
+    module _ (code₄ : List ℕ) (fors : ℕ) (f : Finishes code₃ code₄ h (name + 1) at fors) (fors-is : fors ≡ all .used - taken .used) (long₄ : length code₄ ≡ length code) where
       -- ---- cells
       -- all of the words before the lists, but a link, a place and the parenthesis
       cell₄ : (i : ℕ) → i < at * 2 → (i ≡ h * 2 + 1 → ⊥) → (i ≡ h * 2 + 3 → ⊥) → (i ≡ (name + 1) * 2 → ⊥) → (i ≡ (name + 1) * 2 + 1 → ⊥) → getD (wordsOf code₄) i 0 ≡ getD (wordsOf code₂) i 0
@@ -161,7 +158,7 @@ module _ (text code values : List ℕ) (result h name : ℕ) (g : ScopeStands te
       spares₄ =
           let o′ = o in
           let a = d .at-is in
-          spares-from text code values result h name g code₁ values₁ close count x₁ long₁ code₂ values₂ at taken x₂ long₂ (wordsOf code₄)
+          spares-from text code values result h name g code₁ values₁ close own x₁ long₁ code₂ values₂ at taken x₂ long₂ (wordsOf code₄)
           (λ i z. head₄ i (omega arith) (λ q. omega arith)) (λ j z. head₄ (name + 2 + 3 * j) (omega arith) (λ q. omega arith)) (λ i z. above₄ (i * 2) (omega arith) ∙ sym (high (i * 2) (omega arith)))
 
       -- ---- the chain of data
@@ -191,10 +188,10 @@ module _ (text code values : List ℕ) (result h name : ℕ) (g : ScopeStands te
       starts₄ = sym (starts-kept (wordsOf code₂) (wordsOf code₄) (form .begin) h ds stay rise₄ (chain₂ .leads))
 
       -- ---- leaving
-      others : MeansBut (map (spelled W) (nameWords (name + 2) count ++ map nameOf ds)) (numbered R) W (outerOf W (aRoutine m)) (wordsOf values₃)
+      others : MeansBut (map (spelled W) (nameWords (name + 2) (own .used) ++ map nameOf ds)) (numbered R) W (outerOf W (aRoutine m)) (wordsOf values₃)
       others = record {
         means = λ i n q.
-            let t = spelled-apart W (nameWords (name + 2) count) (map nameOf ds) (spelled W i) q in
+            let t = spelled-apart W (nameWords (name + 2) (own .used)) (map nameOf ds) (spelled W i) q in
             table .means .means i n ∙ outer-meaning W m (routineData W m r .names) (spelled W i) (d .covers .is (spelled W i) (e .covers (spelled W i) (t .0)) (t .1));
         guards = λ i n q. table .means .guards i n;
       }
@@ -202,7 +199,7 @@ module _ (text code values : List ℕ) (result h name : ℕ) (g : ScopeStands te
           table : Filled W (numbered R) (aRoutine m) (routineData W m r) values₃
           table = filled-same W (numbered R) (aRoutine m) (routineData W m r) values₂ values₃ (listed .same) (d .filled)
 
-      pub leaving : Leaving code₄ values₃ (name + 2) count h
+      pub leaving : Leaving code₄ values₃ (name + 2) (own .used) h
       leaving =
           let o′ = o in
           let a = d .at-is in
@@ -217,11 +214,11 @@ module _ (text code values : List ℕ) (result h name : ℕ) (g : ScopeStands te
             table = omega (arith, listed .same .long, d .filled .table);
             near = omega arith;
             before = omega arith;
-            rises = rise-wider h (form .begin) 8192 ds (omega arith) (d .rises);
+            rises = rise-wider h (form .begin) wordLimit ds (omega arith) (d .rises);
             chain = chain₄;
             inside = omega arith;
             stops = λ q. omega (arith, f .op-is);
-            keeps-parameters = keeps-parameters (numbered R) W (aRoutine m) (wordsOf code₁) (wordsOf code₄) (name + 2) count
+            keeps-parameters = keeps-parameters (numbered R) W (aRoutine m) (wordsOf code₁) (wordsOf code₄) (name + 2) (own .used)
                 (λ j l. head₄ (name + 2 + 3 * j + 1) (omega arith) (λ q. omega arith) ∙ d .below ((name + 2 + 3 * j + 1) * 2) (omega (arith, e .close-is)) (λ q. omega arith))
                 (λ j l. tail₄ (name + 2 + 3 * j + 1) (omega arith) (λ q. omega arith) (λ q. omega arith) (λ q. omega arith) ∙ d .below ((name + 2 + 3 * j + 1) * 2 + 1) (omega (arith, e .close-is)) (λ q. omega arith)) (e .keeps);
             keeps-data = keeps-data (numbered R) W (aRoutine m) (wordsOf code₂) (wordsOf code₄) (form .declared)
@@ -247,7 +244,7 @@ module _ (text code values : List ℕ) (result h name : ℕ) (g : ScopeStands te
             starts = f .place-is ∙ a;
             body = lines-frame (groundOf text W m) (wordsOf code₃) (wordsOf code₄) m r (form .begin) to
                 (same-cells (wordsOf code₃) (wordsOf code₄) (form .begin) to (λ i x y. sym (lists₄ i (omega arith)))) (r .body) (length (routineData W m r .words)) (form .begin) (omega arith) (omega arith)
-                (subst (λ (x : ℕ). RawLines (groundOf text W m) (wordsOf code₃) m r (r .body) x (form .begin)) t (subst (λ (x : ℕ). RawLines (groundOf text W m) (wordsOf code₃) m r (r .body) taken x) a (listed .body)));
+                (subst (λ (x : ℕ). RawLines (groundOf text W m) (wordsOf code₃) m r (r .body) x (form .begin)) t (subst (λ (x : ℕ). RawLines (groundOf text W m) (wordsOf code₃) m r (r .body) (taken .used) x) a (listed .body)));
             handler = handler-moves W (groundOf text W m) (wordsOf code₃) (wordsOf code₄) m r (r .handler) (h + 1) (form .end) (form .handler)
                 (f .others ((h + 1) * 2 + 1) (λ q. omega arith) (λ q. omega arith) (λ q. omega arith))
                 (same-cells (wordsOf code₃) (wordsOf code₄) (r .body .closes) (form .end + 1) (λ i x y. sym (lists₄ i (omega arith)))) (listed .handler);
@@ -264,13 +261,14 @@ module _ (text code values : List ℕ) (result h name : ℕ) (g : ScopeStands te
       unfolding headFor
       head-is = ap (λ (w : ℕ). record { word = w; parameters = length (r .parameters); function = isSome (r .result) }) (sym (word-at (sortIn W) r h to form))
 
-      pub goes : (values₄ : List ℕ) → length values₄ ≡ length values₃ → {all left : Scope} → Leaves all code₄ values₃ values₄ (name + 2) count h left → Goes (g .begins) code₄ values₄ next
+      pub goes : (values₄ : List ℕ) → length values₄ ≡ length values₃ → SameWords values₃ values₄
+          → ((l : Leaving code₄ values₃ (name + 2) (own .used) h) → Means (l .routine) (l .W) (outerOf (l .W) (l .s)) (wordsOf values₄)) → Goes (g .begins) code₄ values₄ next
       unfolding leaving
-      goes values₄ same-long v = record {
+      goes values₄ same-long same again = record {
         next-is = listed .next-is;
         none = listed .none;
         raw = subst (λ (x : Head). RawRoutine (groundOf text W m) (wordsOf code₄) m r x to) head-is raw₄;
-        filled = routine-left W m (routineData W m r) values values₃ values₄ (g .begins .filled) table (omega (arith, table .table)) (v .same) (v .means leaving);
+        filled = routine-left W m (routineData W m r) values values₃ values₄ (g .begins .filled) table (omega (arith, table .table)) same (again leaving);
         spares = spares₄;
         below = below₄;
         above = above₄;

@@ -6,7 +6,7 @@ use Prim.Native.Nat.{ℕ, _+_, _-_, _*_, _/_, _%_, _<_, _≤_}
 use native.Mathlib.Omega.{arith}
 use lib.ListN.{length, getD, replicate, length-replicate}
 use lib.IntN.{ℤ, pos}
-use Rattle.paper.specs.Words.{Word}
+use Rattle.paper.specs.Words.{Word, wordLimit}
 use Rattle.paper.specs.Trees.{Routine, Module}
 use Rattle.paper.specs.Names.{Text, textOf, sortIn, spelled, isAmong}
 use Rattle.paper.specs.Types.{Fault}
@@ -16,7 +16,7 @@ use Rattle.cells.specs.Words.{wordsOf}
 use Rattle.code.specs.Cells.{opIn, valueIn, placeIn, headAt, tailAt, opAt}
 use Rattle.code.specs.Steps.{Head, numbered}
 use Rattle.code.specs.Signatures.{Heads}
-use Rattle.names.specs.Promises.{storeBytes}
+use Rattle.names.specs.Promises.{storeBytes, numberLimit}
 use Rattle.grammar.specs.Form.{Parses, ParametersAt, DeclarationsAt, RoutineAt}
 use Rattle.grammar.proofs.Places.{parameters-grow, declarations-grow}
 use Rattle.faults.specs.First.{First}
@@ -25,23 +25,22 @@ use Rattle.faults.proofs.Expressions.{grows}
 use Rattle.faults.proofs.Routines.{found-in-parameters, found-in-data, nothing-in-data}
 use Rattle.expressions.specs.Known.{Fresh, Loaded}
 use Rattle.heads.specs.Trees.{headsFor}
-use Rattle.names.specs.declared.Walked.the-variants.{Faulty}
+use Rattle.names.specs.declared.Walked.the-variants.{Upto, Faulty}
 use Rattle.sites.specs.Sites.{aRoutine, filling, Filled}
 use Rattle.store.specs.Chains.{Chain, startsIn, Rise}
-use Rattle.sites.specs.Walks.{upto, nameOf, nameWords, KeepsAll}
+use Rattle.sites.specs.Walks.{nameOf, nameWords, KeepsAll}
 use Rattle.declarations.specs.Answers.{firstOf, CoversData, RoutineStands, SaysRoutine, DeclaresRoutine}
 use Rattle.parameters.specs.Answers.{OtherWords, ParametersStand, SaysParameters, DeclaresParameters}
 use Rattle.around.specs.Around.{Unread, Apart}
 use Rattle.program.proofs.Orders.{lies}
-use Rattle.routines.specs.declared.Walked as mine
-use Rattle.routines.specs.declared.Walked.the-variants as answers
+use Rattle.names.specs.declared.Scope.{Scope}
 use Rattle.routines.specs.Answers.{groundOf, Spares, Begins}
 use Rattle.routines.specs.Parts.{Inside, Onward, ListsStand, ScopeStands, SaysScope, Scoped}
 use Rattle.routines.proofs.Filling.{routine-entered}
 use Rattle.routines.proofs.Parting.{parameters-end}
 
 fresh-on : (W : List Word) (C D : List ℕ) (i : ℕ) → headAt D i ≡ headAt C i → Fresh W C i → Fresh W D i
-fresh-on W C D i e z = record { sort = ap opIn e ∙ z .sort; value = λ n. ap valueIn e ∙ z .value n; number = λ n. ap (λ (w : ℕ). valueIn w % 8192) e ∙ z .number n }
+fresh-on W C D i e z = record { sort = ap opIn e ∙ z .sort; value = λ n. ap valueIn e ∙ z .value n; number = λ n. ap (λ (w : ℕ). valueIn w % numberLimit) e ∙ z .number n }
 
 module _ (text code values : List ℕ) (result h name : ℕ) where
   module _ (g : ScopeStands text code values result h name) where
@@ -78,7 +77,7 @@ module _ (text code values : List ℕ) (result h name : ℕ) where
       pub body : form .begin ≤ r .body .closes
       pub end : r .body .closes ≤ form .end
       pub after : b .stands .to ≡ form .end + 1
-      pub last : form .end < 8192
+      pub last : form .end < wordLimit
       pub room : form .end * 8 + 8 ≤ length code
 
     pub order : Order
@@ -122,16 +121,16 @@ module _ (text code values : List ℕ) (result h name : ℕ) where
     unfolding SaysParameters parameters-stand filling
     parameters-faulty code₁ values₁ number word x = found-in-parameters W m sigs (g .k) form (x .is parameters-stand)
 
-    module _ (code₁ values₁ : List ℕ) (close count : ℕ) (x₁ : DeclaresParameters code values code₁ values₁ (name + 2) (upto close count)) (long₁ : length code₁ ≡ length code) where
+    module _ (code₁ values₁ : List ℕ) (close : ℕ) (own : Scope) (x₁ : DeclaresParameters code values code₁ values₁ (name + 2) (Upto close own)) (long₁ : length code₁ ≡ length code) where
       pub record Entered : Type 0 where
         pub close-is : close ≡ form .close
-        pub count-is : count ≡ length (r .parameters)
+        pub count-is : own .used ≡ length (r .parameters)
         pub none : inParameters W m r ≡ []
         pub words : D₁ .words ≡ replicate (length (r .parameters)) (pos 0)
         pub filled : Filled W (numbered R) (aRoutine m) D₁ values₁
-        pub keeps : KeepsAll (numbered R) W (aRoutine m) (wordsOf code₁) (nameWords (name + 2) count)
-        pub covers : (u : Text) → isAmong (map (spelled W) (nameWords (name + 2) count)) u ≡ false → isAmong (map textOf (D₁ .names)) u ≡ false
-        pub others : OtherWords (wordsOf code) (wordsOf code₁) (name + 2) count
+        pub keeps : KeepsAll (numbered R) W (aRoutine m) (wordsOf code₁) (nameWords (name + 2) (own .used))
+        pub covers : (u : Text) → isAmong (map (spelled W) (nameWords (name + 2) (own .used))) u ≡ false → isAmong (map textOf (D₁ .names)) u ≡ false
+        pub others : OtherWords (wordsOf code) (wordsOf code₁) (name + 2) (own .used)
 
       pub entered : Entered
       unfolding SaysParameters parameters-stand filling
@@ -149,7 +148,7 @@ module _ (text code values : List ℕ) (result h name : ℕ) where
       type₁ j = entered .others .is ((name + 2 + 3 * j) * 2) (λ i a e. omega arith)
 
       -- ---- data
-      pub data-stand : RoutineStands code₁ values₁ h count (close + 1)
+      pub data-stand : RoutineStands code₁ values₁ h (own .used) (close + 1)
       unfolding filling
       data-stand = let o = order in let c = entered .close-is in record {
         W = W;
@@ -170,19 +169,19 @@ module _ (text code values : List ℕ) (result h name : ℕ) where
         };
       }
 
-      pub data-faulty : (code₂ values₂ : List ℕ) (number word : ℕ) → DeclaresRoutine code₁ values₁ code₂ values₂ (name + 1) h count (close + 1) (Faulty number word)
+      pub data-faulty : (code₂ values₂ : List ℕ) (number word : ℕ) → DeclaresRoutine code₁ values₁ code₂ values₂ (name + 1) h (own .used) (close + 1) (Faulty number word)
           → First (record { number = number; at = word }) (routineFaults W m sigs (g .k) r)
       unfolding SaysRoutine data-stand filling
       data-faulty code₂ values₂ number word x = found-in-data W m sigs (g .k) form (entered .none) (x .is data-stand)
 
-      module _ (code₂ values₂ : List ℕ) (at taken : ℕ) (x₂ : DeclaresRoutine code₁ values₁ code₂ values₂ (name + 1) h count (close + 1) (upto at taken)) (long₂ : length code₂ ≡ length code) where
+      module _ (code₂ values₂ : List ℕ) (at : ℕ) (taken : Scope) (x₂ : DeclaresRoutine code₁ values₁ code₂ values₂ (name + 1) h (own .used) (close + 1) (Upto at taken)) (long₂ : length code₂ ≡ length code) where
         abbrev ds : List ℕ
         ds = map firstOf (r .declared)
 
         pub record Declared : Type 0 where
           pub at-is : at ≡ form .begin
           pub none : inData W m r ≡ []
-          pub taken-is : taken ≡ length (routineData W m r .words)
+          pub taken-is : taken .used ≡ length (routineData W m r .words)
           pub filled : Filled W (numbered R) (aRoutine m) (routineData W m r) values₂
           pub chain : Chain (wordsOf code₂) h ds (name + 1)
           pub rises : Rise h (form .begin) ds
@@ -252,6 +251,6 @@ module _ (text code values : List ℕ) (result h name : ℕ) where
           room = omega (arith, b .room);
         }
 
-        unfoldable pub lists-stand : ListsStand text code₂ values₂ result taken h at
+        unfoldable pub lists-stand : ListsStand text code₂ values₂ result (taken .used) h at
         unfolding inside groundOf
         lists-stand = record { k = g .k; inside = inside; begins = declared .at-is; onward = onward; result-is = g .result-is; used-is = declared .taken-is }

@@ -1,4 +1,5 @@
 -- The end of the first list, and the ERROR list.
+use Rattle.layout.specs.Parts.{linkPart}
 use mathlib.Core.Path.{_≡_, refl, sym, ap, subst, _∙_}
 use mathlib.Core.Bool.{Bool, true, false, not}
 use mathlib.Core.List.{List, []}
@@ -11,7 +12,7 @@ use borrow.Author.Tests.{eq-eqb, ne-eqb}
 use Rattle.laws.proofs.Tests.{test, by-same}
 use Rattle.paper.specs.Basics.{if_then_else_}
 use Rattle.paper.specs.Sorts.{ERROR}
-use Rattle.paper.specs.Words.{Word}
+use Rattle.paper.specs.Words.{Word, wordLimit}
 use Rattle.paper.specs.Terms.{Memory}
 use Rattle.paper.specs.Trees.{RoutineList, Routine, Module}
 use Rattle.paper.specs.Names.{Scopes, sortIn}
@@ -32,9 +33,10 @@ use Rattle.store.specs.Promises.{Linked}
 use Rattle.links.specs.Raw.{Ground, RawList, endOf}
 use Rattle.around.specs.declared.Setting as simple-setting
 use Rattle.around.specs.Around.{offsetIn, Tells}
+use Rattle.names.specs.declared.Scope.{Scope}
 use Rattle.names.specs.declared.Walked.{Walked}
 use Rattle.names.specs.declared.Walked.the-variants.{Upto, Faulty}
-use Rattle.statements.specs.Answers.{upto, Lists, Listed, Tell, Answer}
+use Rattle.statements.specs.Answers.{Lists, Listed, Tell, Answer}
 use Rattle.compounds.specs.Here.{Outside}
 use Rattle.program.specs.Routines.{wordsOfData, wordsInAll, groundFor, RawLines}
 use Rattle.program.proofs.Orders.{lies}
@@ -93,7 +95,7 @@ module _ (text code values : List ℕ) (result used e leads : ℕ) where
     pub closes-room : e * 8 + 8 ≤ length code
     closes-room = omega (arith, closes-inside, g .onward .unread .loaded .room)
 
-    pub closes-small : e < 8192
+    pub closes-small : e < wordLimit
     closes-small = omega (arith, closes-inside, g .onward .unread .loaded .last)
 
     sort-here : opAt (wordsOf code) e ≡ sortIn W e
@@ -185,7 +187,7 @@ module _ (text code values : List ℕ) (result used e leads : ℕ) where
             let near : leads ≤ end = omega (arith, leads-next, behind) in
             let place : placeAt (wordsOf after) next ≡ groundIn s .offset next =
             subst (λ (i : ℕ). placeAt (wordsOf after) i ≡ groundIn s .offset i) (sym n)
-            (ap (λ (w : ℕ). w % 65536) (out .above (end * 2 + 1) (omega arith)) ∙ onward .unread .places end near (omega arith)) in
+            (ap (λ (w : ℕ). w % linkPart) (out .above (end * 2 + 1) (omega arith)) ∙ onward .unread .places end near (omega arith)) in
             let raw = subst (λ (i : ℕ). RawList (groundFor (groundIn s) m r) (wordsInAll (groundIn s) m r) (wordsOf after) (l .statements) (routineScopes W m r) used leads i) (sym n) x in
             subst (λ (i : ℕ). RawLines (groundIn s) (wordsOf last) m r l (wordsOfData (groundIn s) m r + forsInList (r .body .statements)) i) at-is
             (subst (λ (i : ℕ). RawLines (groundIn s) (wordsOf last) m r l i leads) (g .used-is)
@@ -193,15 +195,15 @@ module _ (text code values : List ℕ) (result used e leads : ℕ) where
 
   -- ---- answers
   pub errors-none : {f : Bool} (mid : List ℕ) → f ≡ not (eqb result 0) → leads ≡ 0 → Linked code mid e (endOf f) 0 (linkAt (wordsOf code) e)
-      → Errors text code values mid values result used e leads (upto (e + 1) used)
+      → (scope : Scope) → scope .used ≡ used → Errors text code values mid values result used e leads (Upto (e + 1) scope)
   unfolding Tell groundOf offsetIn
-  errors-none mid fl z c = record {
+  errors-none mid fl z c scope u = record {
     is = λ g. record {
       tells = record {
         none = no-faults _ _ _ _ _ _ (missing g z .0);
         next-is = omega (arith, missing g z .1, g .closes, g .inside .stands .form .after);
-        used-is = omega (arith, g .used-is, fors-none (g .inside .stands .W) (g .inside .stands .r) (missing g z .0));
-        few = g .few;
+        used-is = omega (arith, u, g .used-is, fors-none (g .inside .stands .W) (g .inside .stands .r) (missing g z .0));
+        few = omega (arith, u, g .few);
         written = record {
           op = subst (λ (i : ℕ). opAt (wordsOf mid) i ≡ endOf (isSome (g .inside .stands .r .result))) (g .closes) (c .op-is ∙ ap endOf (fl ∙ flag g));
           place = subst (λ (i : ℕ). placeAt (wordsOf mid) i ≡ groundIn (g .inside) .offset i) (g .closes)
@@ -226,24 +228,24 @@ module _ (text code values : List ℕ) (result used e leads : ℕ) where
       };
     }
 
-    module _ (next u : ℕ) (x : Listed text mid values after values′ (record { result = result; handler = true }) used leads (upto next u)) where
+    module _ (next : ℕ) (u : Scope) (x : Listed text mid values after values′ (record { result = result; handler = true }) used leads (Upto next u)) where
       next-room-so : ErrorsStand text code values result used e leads → next * 8 + 8 ≤ length after
       unfolding Tell
       next-room-so g =
-          let a = answered g z mid (endOf f) c after values′ (upto next u) x in
+          let a = answered g z mid (endOf f) c after values′ (Upto next u) x in
           omega (arith, a .tells .next-is, g .onward .unread .loaded .room, a .long, c .kept .long)
 
-      next-small-so : ErrorsStand text code values result used e leads → next < 8192
+      next-small-so : ErrorsStand text code values result used e leads → next < wordLimit
       unfolding Tell
       next-small-so g =
-          let a = answered g z mid (endOf f) c after values′ (upto next u) x in
+          let a = answered g z mid (endOf f) c after values′ (Upto next u) x in
           omega (arith, a .tells .next-is, g .onward .unread .loaded .last)
 
-      errors-some-so : (last : List ℕ) → Linked after last next (endOf f) 0 (linkAt (wordsOf after) next) → Errors text code values last values′ result used e leads (upto (next + 1) u)
+      errors-some-so : (last : List ℕ) → Linked after last next (endOf f) 0 (linkAt (wordsOf after) next) → Errors text code values last values′ result used e leads (Upto (next + 1) u)
       unfolding Tell groundOf offsetIn
       errors-some-so last q = record {
         is = λ g.
-            let a = answered g z mid (endOf f) c after values′ (upto next u) x in
+            let a = answered g z mid (endOf f) c after values′ (Upto next u) x in
             let d = a .tells in
             let n : next ≡ end g = d .next-is in
             let to-is : g .inside .stands .to ≡ end g + 1 = g .inside .stands .form .after in
@@ -264,7 +266,7 @@ module _ (text code values : List ℕ) (result used e leads : ℕ) where
                   op = subst (λ (j : ℕ). opAt (wordsOf last) j ≡ endOf (isSome (g .inside .stands .r .result))) (g .closes)
                       (ap (λ (w : ℕ). w % 256) (third .below (e * 2) (omega arith) ∙ second .below (e * 2) (omega arith)) ∙ c .op-is ∙ ap endOf (fl ∙ flag g));
                   place = subst (λ (j : ℕ). placeAt (wordsOf last) j ≡ groundIn (g .inside) .offset j) (g .closes)
-                      (ap (λ (w : ℕ). w % 65536) (third .below (e * 2 + 1) (omega arith) ∙ second .below (e * 2 + 1) (omega arith)) ∙ c .kept .places e ∙ g .onward .unread .places e (omega arith) i);
+                      (ap (λ (w : ℕ). w % linkPart) (third .below (e * 2 + 1) (omega arith) ∙ second .below (e * 2 + 1) (omega arith)) ∙ c .kept .places e ∙ g .onward .unread .places e (omega arith) i);
                   errors = some-lines _ _ _ _ _ (l g z) (found g z .is) (lines-are g z mid (endOf f) c after last next (fl ∙ flag g) n second (d .written) q);
                 };
                 outside = outside-on (omega arith) (omega arith) (omega arith) (omega arith) both third;
@@ -280,12 +282,12 @@ module _ (text code values : List ℕ) (result used e leads : ℕ) where
     pub errors-faulty : (x : Walked) → L x → (number word : ℕ) → x ≡ Faulty number word → Errors text code values after values′ result used e leads x
     errors-faulty x y number word q = subst (λ (w : Walked). Errors text code values after values′ result used e leads w) (sym q) (errors-faulty-so number word (subst L q y))
 
-    module _ (x : Walked) (y : L x) (next u : ℕ) (q : x ≡ upto next u) where
+    module _ (x : Walked) (y : L x) (next : ℕ) (u : Scope) (q : x ≡ Upto next u) where
       pub next-room : ErrorsStand text code values result used e leads → next * 8 + 8 ≤ length after
       next-room g = next-room-so next u (subst L q y) g
 
-      pub next-small : ErrorsStand text code values result used e leads → next < 8192
+      pub next-small : ErrorsStand text code values result used e leads → next < wordLimit
       next-small g = next-small-so next u (subst L q y) g
 
-      pub errors-some : (last : List ℕ) → Linked after last next (endOf f) 0 (linkAt (wordsOf after) next) → Errors text code values last values′ result used e leads (upto (next + 1) u)
+      pub errors-some : (last : List ℕ) → Linked after last next (endOf f) 0 (linkAt (wordsOf after) next) → Errors text code values last values′ result used e leads (Upto (next + 1) u)
       errors-some last k = errors-some-so next u (subst L q y) last k

@@ -1,4 +1,5 @@
 -- A list of a routine: what its walk asks, and what it leaves.
+use Rattle.names.specs.Promises.{numberLimit}
 use mathlib.Core.Path.{_≡_, refl, sym, ap, subst, _∙_}
 use mathlib.Core.Bool.{Bool, true, false, not}
 use mathlib.Core.List.{List, []}
@@ -90,7 +91,7 @@ module _ {text values : List ℕ} {k h : ℕ} (s : Inside text values k h) where
       loaded = record {
         words = λ i x y. let z = o .unread .loaded .words i (omega arith) y in
             let e : headAt (wordsOf code′) i ≡ headAt (wordsOf code) i = q .above (i * 2) (omega arith) in
-            record { sort = ap opIn e ∙ z .sort; value = λ n. ap valueIn e ∙ z .value n; number = λ n. ap (λ (w : ℕ). valueIn w % 8192) e ∙ z .number n };
+            record { sort = ap opIn e ∙ z .sort; value = λ n. ap valueIn e ∙ z .value n; number = λ n. ap (λ (w : ℕ). valueIn w % numberLimit) e ∙ z .number n };
         last = o .unread .loaded .last;
         room = omega (arith, o .unread .loaded .room);
         whole = ap (λ (x : ℕ). x % 8) long ∙ o .unread .loaded .whole;

@@ -1,4 +1,5 @@
 -- The head, and single words.
+use Rattle.layout.specs.Parts.{linkPart}
 use mathlib.Core.Path.{_≡_, refl, sym, ap, _∙_}
 use mathlib.Core.Bool.{Bool, true, false}
 use mathlib.Core.List.{List}
@@ -10,7 +11,7 @@ use borrow.Author.Tests.{eq-eqb, ne-eqb}
 use Rattle.paper.specs.Basics.{if_then_else_}
 use Rattle.cells.specs.Words.{wordsOf, Put}
 use Rattle.cells.proofs.Kept.{put-length, put-same, put-other}
-use Rattle.code.specs.Cells.{opAt, linkAt}
+use Rattle.code.specs.Cells.{valueIn, opAt, linkAt}
 use Rattle.store.specs.Promises.{tailWith, Rewritten, Linked}
 use Rattle.store.proofs.Rewriting.{rewritten-head, rewritten-tail, rewritten-other}
 use Rattle.links.specs.Raw.{endOf}
@@ -20,13 +21,13 @@ use Rattle.layout.specs.Kinds as kinds
 
 -- ---- the head
 module _ (m h : ℕ) where
-  pub other-kind : (m % 256 / 4 ≡ kinds.aRoutine → ⊥) → false ≡ namesRoutine m h
+  pub other-kind : (k : ℕ) → k ≡ kinds.kindIn m → (k ≡ kinds.aRoutine → ⊥) → false ≡ namesRoutine m h
   unfolding namesRoutine
-  other-kind d = rw (ne-eqb (m % 256 / 4) 5 d)
+  other-kind k e d = rw (ne-eqb (kinds.kindIn m) kinds.aRoutine (λ q. d (e ∙ q)))
 
-  pub of-kind : m % 256 / 4 ≡ kinds.aRoutine → eqb (m / 256) h ≡ namesRoutine m h
+  pub of-kind : (k : ℕ) → k ≡ kinds.kindIn m → k ≡ kinds.aRoutine → (v : ℕ) → v ≡ valueIn m → eqb v h ≡ namesRoutine m h
   unfolding namesRoutine
-  of-kind e = rw (eq-eqb (m % 256 / 4) 5 e)
+  of-kind k e q v w = ap (λ (x : ℕ). eqb x h) w ∙ rw (eq-eqb (kinds.kindIn m) kinds.aRoutine (sym e ∙ q)) refl
 
 module _ (C : List ℕ) (h : ℕ) where
   pub a-proc-head : {s : ℕ} → s ≡ opAt C h → s ≡ 69 → 0 ≡ resultIn C h
@@ -63,24 +64,24 @@ module _ (C : List ℕ) (e : ℕ) {s : ℕ} (o : s ≡ opAt C e) where
   leads-nowhere d = rw (ne-eqb (opAt C e) 52 (λ q. d (o ∙ q)))
 
 -- ---- words
-pub finished : (before mid after : List ℕ) (h opens at fors : ℕ) → h < opens → opens * 8 + 8 ≤ length before → at < 65536 → fors < 65536
+pub finished : (before mid after : List ℕ) (h opens at fors : ℕ) → h < opens → opens * 8 + 8 ≤ length before → at < linkPart → fors < linkPart
     → Put before mid (h * 2 + 1) (tailWith at (linkAt (wordsOf before) h)) → Rewritten mid after opens theParameters (tailWith fors 0) → Finishes before after h opens at fors
 finished before mid after h opens at fors o room near few p q =
     let first : (h * 2 + 1) * 4 + 4 ≤ length before = omega arith in
     let second : opens * 8 + 8 ≤ length mid = omega (arith, put-length p first) in
-    let tail : getD (wordsOf after) (h * 2 + 1) 0 ≡ at + 65536 * linkAt (wordsOf before) h = rewritten-other q second (h * 2 + 1) (λ e. omega arith) (λ e. omega arith) ∙ put-same p first in
+    let tail : getD (wordsOf after) (h * 2 + 1) 0 ≡ at + linkPart * linkAt (wordsOf before) h = rewritten-other q second (h * 2 + 1) (λ e. omega arith) (λ e. omega arith) ∙ put-same p first in
     record {
-      place-is = ap (λ (w : ℕ). w % 65536) tail ∙ low (linkAt (wordsOf before) h);
-      link-is = ap (λ (w : ℕ). w / 65536) tail ∙ high (linkAt (wordsOf before) h);
+      place-is = ap (λ (w : ℕ). w % linkPart) tail ∙ low (linkAt (wordsOf before) h);
+      link-is = ap (λ (w : ℕ). w / linkPart) tail ∙ high (linkAt (wordsOf before) h);
       op-is = ap (λ (w : ℕ). w % 256) (rewritten-head q second);
-      fors-is = ap (λ (w : ℕ). w % 65536) (rewritten-tail q second) ∙ omega arith;
+      fors-is = ap (λ (w : ℕ). w % linkPart) (rewritten-tail q second) ∙ omega arith;
       others = λ k a b c. rewritten-other q second k b c ∙ put-other p first k a;
     }
   where
-    low : (x : ℕ) → (at + 65536 * x) % 65536 ≡ at
+    low : (x : ℕ) → (at + linkPart * x) % linkPart ≡ at
     low x = omega arith
 
-    high : (x : ℕ) → (at + 65536 * x) / 65536 ≡ x
+    high : (x : ℕ) → (at + linkPart * x) / linkPart ≡ x
     high x = omega arith
 
 module _ (before after : List ℕ) (e : ℕ) where

@@ -1,4 +1,5 @@
 -- Both lists of a routine.
+use Rattle.layout.specs.Parts.{linkPart}
 use mathlib.Core.Path.{_≡_, refl, sym, ap, subst, _∙_}
 use mathlib.Core.Bool.{Bool, true, false, not}
 use mathlib.Core.List.{List, []}
@@ -11,7 +12,7 @@ use borrow.Author.Tests.{eq-eqb, ne-eqb}
 use Rattle.laws.proofs.Tests.{by-less, by-same}
 use Rattle.paper.specs.Basics.{if_then_else_}
 use Rattle.paper.specs.Sorts.{ERROR}
-use Rattle.paper.specs.Words.{Word}
+use Rattle.paper.specs.Words.{Word, wordLimit}
 use Rattle.paper.specs.Trees.{RoutineList, Routine, Module}
 use Rattle.paper.specs.Names.{sortIn}
 use Rattle.paper.specs.Types.{Fault}
@@ -33,10 +34,11 @@ use Rattle.links.proofs.Framing.{same-cells, list-frame}
 use Rattle.heads.specs.Trees.{headsFor}
 use Rattle.sites.specs.Sites.{aRoutine, filling}
 use Rattle.around.specs.Around.{offsetIn, Tells}
+use Rattle.names.specs.declared.Scope.{Scope}
 use Rattle.names.specs.declared.Walked.{Walked}
-use Rattle.names.specs.declared.Walked.the-variants.{Faulty}
+use Rattle.names.specs.declared.Walked.the-variants.{Upto, Faulty}
 use Rattle.routines.proofs.Filling.{filled-same}
-use Rattle.statements.specs.Answers.{upto, SameValues, Lists, Listed, Tell, Answer}
+use Rattle.statements.specs.Answers.{SameValues, Lists, Listed, Tell, Answer}
 use Rattle.compounds.specs.Here.{Outside}
 use Rattle.program.specs.Routines as program
 use Rattle.program.specs.Routines.{wordsOfData, wordsInAll, groundFor, RawLines, RawHandler}
@@ -64,7 +66,7 @@ errors-frame W g C D m r (some l) end (a-handler c h) s x = lines-frame g C D m 
 same-head : (v w : ℕ) → v % 256 ≡ w % 256 → v / 256 ≡ w / 256 → v ≡ w
 same-head v w a b = omega arith
 
-pub leads-few : (C : List ℕ) (e leads : ℕ) → leads ≡ leadsTo C e → e < 8192 → leads < 65536
+pub leads-few : (C : List ℕ) (e leads : ℕ) → leads ≡ leadsTo C e → e < wordLimit → leads < linkPart
 unfolding leadsTo
 leads-few C e leads q few = by-same (opAt C e) 52 (λ w. omega (arith, q ∙ ap (λ (b : Bool). if b then e + 1 else 0) (eq-eqb (opAt C e) 52 w))) (λ w. omega (arith, q ∙ ap (λ (b : Bool). if b then e + 1 else 0) (ne-eqb (opAt C e) 52 w)))
 
@@ -133,13 +135,13 @@ module _ (text code values : List ℕ) (result taken h at : ℕ) where
     body-faults = ap (listFaults W (settingIn W sigs (g .k) r theBody) (memoryOf W m r) (r .body .statements) (routineScopes W m r)) (g .used-is)
 
     -- ---- behind the first list
-    module _ (code₁ values₁ : List ℕ) (e n : ℕ) (x : L code₁ values₁ (upto e n)) where
+    module _ (code₁ values₁ : List ℕ) (e : ℕ) (n : Scope) (x : L code₁ values₁ (Upto e n)) where
       first : Tell (listFaults W (settingIn W sigs (g .k) r theBody) (memoryOf W m r) (r .body .statements) (routineScopes W m r) taken) code code₁ values values₁ at closes
-          (taken + forsInList (r .body .statements)) (RawList (groundFor (groundIn s) m r) (wordsInAll (groundIn s) m r) (wordsOf code₁) (r .body .statements) (routineScopes W m r) taken at closes) (upto e n)
-      first = answered code₁ values₁ (upto e n) x .tells
+          (taken + forsInList (r .body .statements)) (RawList (groundFor (groundIn s) m r) (wordsInAll (groundIn s) m r) (wordsOf code₁) (r .body .statements) (routineScopes W m r) taken at closes) (Upto e n)
+      first = answered code₁ values₁ (Upto e n) x .tells
 
       long₁ : length code₁ ≡ length code
-      long₁ = answered code₁ values₁ (upto e n) x .long
+      long₁ = answered code₁ values₁ (Upto e n) x .long
 
       e-is : e ≡ closes
       unfolding Tell
@@ -170,11 +172,11 @@ module _ (text code values : List ℕ) (result taken h at : ℕ) where
       pub leads-room : e * 8 + 8 ≤ length code₁
       leads-room = omega (arith, e-is, closes-inside, onward₁ .unread .loaded .room)
 
-      pub leads-small : e < 8192
+      pub leads-small : e < wordLimit
       leads-small = omega (arith, e-is, closes-inside, onward₁ .unread .loaded .last)
 
       module _ (leads : ℕ) (t : leads ≡ leadsTo (wordsOf code₁) e) where
-        pub errors-stand : ErrorsStand text code₁ values₁ result n e leads
+        pub errors-stand : ErrorsStand text code₁ values₁ result (n .used) e leads
         unfolding Tell inside₁
         errors-stand = record {
           k = g .k;
@@ -196,7 +198,7 @@ module _ (text code values : List ℕ) (result taken h at : ℕ) where
             t ∙ ap (λ (q : ℕ). if eqb q ERROR then e + 1 else 0) sort ∙ ap (λ (q : ℕ). if eqb (sortIn W closes) ERROR then q + 1 else 0) e-is
 
         -- ---- behind both
-        module _ (code₂ values₂ : List ℕ) (y : Walked) (x₂ : Errors text code₁ values₁ code₂ values₂ result n e leads y) where
+        module _ (code₂ values₂ : List ℕ) (y : Walked) (x₂ : Errors text code₁ values₁ code₂ values₂ result (n .used) e leads y) where
           second : Answer (inHandler W m sigs (g .k) r) code₁ code₂ values₁ values₂ e (s .stands .to) (dataWords s + forsOf W r) (Ended (groundIn s) (wordsOf code₂) m r) y
           unfolding errors-stand inside₁
           second = x₂ .is errors-stand
@@ -206,8 +208,8 @@ module _ (text code values : List ℕ) (result taken h at : ℕ) where
           body-none = sym body-faults ∙ first .none
 
           -- ---- and the word that leads to the second
-          module _ (code₃ : List ℕ) (z used : ℕ) (q : y ≡ upto z used) (k : Linked code₂ code₃ (h + 1) (opAt (wordsOf code₂) (h + 1)) (valueAt (wordsOf code₂) (h + 1)) leads) where
-            both : Tell (inHandler W m sigs (g .k) r) code₁ code₂ values₁ values₂ e (s .stands .to) (dataWords s + forsOf W r) (Ended (groundIn s) (wordsOf code₂) m r) (upto z used)
+          module _ (code₃ : List ℕ) (z : ℕ) (all : Scope) (q : y ≡ Upto z all) (k : Linked code₂ code₃ (h + 1) (opAt (wordsOf code₂) (h + 1)) (valueAt (wordsOf code₂) (h + 1)) leads) where
+            both : Tell (inHandler W m sigs (g .k) r) code₁ code₂ values₁ values₂ e (s .stands .to) (dataWords s + forsOf W r) (Ended (groundIn s) (wordsOf code₂) m r) (Upto z all)
             both = subst (Tell (inHandler W m sigs (g .k) r) code₁ code₂ values₁ values₂ e (s .stands .to) (dataWords s + forsOf W r) (Ended (groundIn s) (wordsOf code₂) m r)) q (second .tells)
 
             after-is : s .stands .to ≡ end + 1
@@ -246,7 +248,7 @@ module _ (text code values : List ℕ) (result taken h at : ℕ) where
                 (errors-frame W (groundIn s) (wordsOf code₂) (wordsOf code₃) m r (r .handler) end (s .stands .form .handler)
                 (same-cells (wordsOf code₂) (wordsOf code₃) closes (end + 1) (λ i a b. sym (cell₃ i (λ w. omega (arith, before-all, begin-before))))) (both .written .errors))
 
-            pub lists-so : ListsDone g code₃ values₂ z used
+            pub lists-so : ListsDone g code₃ values₂ z (all .used)
             unfolding Tell groundOf
             lists-so = record {
               none = nothing-in-routine W m sigs (g .k) r (s .none) body-none (both .none);
@@ -271,39 +273,39 @@ module _ (text code values : List ℕ) (result taken h at : ℕ) where
           (subst (First (record { number = number; at = word })) (body-faults g) (answered g code₁ values₁ (Faulty number word) (subst (L g code₁ values₁) q l) .tells)));
     }
 
-    module _ (e n : ℕ) (q : x ≡ upto e n) where
+    module _ (e : ℕ) (n : Scope) (q : x ≡ Upto e n) where
       pub e-room : ListsStand text code values result taken h at → e * 8 + 8 ≤ length code₁
       e-room g = leads-room g code₁ values₁ e n (subst (L g code₁ values₁) q l)
 
-      pub e-small : ListsStand text code values result taken h at → e < 8192
+      pub e-small : ListsStand text code values result taken h at → e < wordLimit
       e-small g = leads-small g code₁ values₁ e n (subst (L g code₁ values₁) q l)
 
       module _ (leads : ℕ) (t : leads ≡ leadsTo (wordsOf code₁) e) where
-        pub lists-errors : ListsStand text code values result taken h at → ErrorsStand text code₁ values₁ result n e leads
+        pub lists-errors : ListsStand text code values result taken h at → ErrorsStand text code₁ values₁ result (n .used) e leads
         lists-errors g = errors-stand g code₁ values₁ e n (subst (L g code₁ values₁) q l) leads t
 
-        module _ (code₂ values₂ : List ℕ) (y : Walked) (x₂ : Errors text code₁ values₁ code₂ values₂ result n e leads y) where
+        module _ (code₂ values₂ : List ℕ) (y : Walked) (x₂ : Errors text code₁ values₁ code₂ values₂ result (n .used) e leads y) where
           pub second-faulty : (number word : ℕ) → y ≡ Faulty number word → parts.Lists text code values code₂ values₂ result taken h at y
           unfolding SaysLists Tell
           second-faulty number word p = record {
             is = λ g.
                 let l′ = subst (L g code₁ values₁) q l in
-                let f = second g code₁ values₁ e n l′ leads t code₂ values₂ (Faulty number word) (subst (Errors text code₁ values₁ code₂ values₂ result n e leads) p x₂) in
+                let f = second g code₁ values₁ e n l′ leads t code₂ values₂ (Faulty number word) (subst (Errors text code₁ values₁ code₂ values₂ result (n .used) e leads) p x₂) in
                 subst (SaysLists g code₂ values₂) (sym p) (found-in-handler (W g) (m g) (sigs g) (g .k) (s g .stands .form) (s g .none) (body-none g code₁ values₁ e n l′ leads t code₂ values₂ y x₂) (f .tells));
           }
 
-          module _ (z used : ℕ) (p : y ≡ upto z used) where
+          module _ (z : ℕ) (all : Scope) (p : y ≡ Upto z all) where
             pub link-room : ListsStand text code values result taken h at → length code₂ ≡ length code → (h + 1) * 8 + 8 ≤ length code₂
             link-room g long =
                 let o = lies (W g) (s g .stands .form) in
                 omega (arith, g .begins, o .name, o .opens, o .body, o .end, g .onward .unread .loaded .room)
 
             pub lists-done : (code₃ : List ℕ) → Linked code₂ code₃ (h + 1) (opAt (wordsOf code₂) (h + 1)) (valueAt (wordsOf code₂) (h + 1)) leads
-                → parts.Lists text code values code₃ values₂ result taken h at (upto z used)
+                → parts.Lists text code values code₃ values₂ result taken h at (Upto z all)
             unfolding SaysLists
-            lists-done code₃ k = record { is = λ g. lists-so g code₁ values₁ e n (subst (L g code₁ values₁) q l) leads t code₂ values₂ y x₂ code₃ z used p k }
+            lists-done code₃ k = record { is = λ g. lists-so g code₁ values₁ e n (subst (L g code₁ values₁) q l) leads t code₂ values₂ y x₂ code₃ z all p k }
 
-  pub link-small : ListsStand text code values result taken h at → h + 1 < 8192
+  pub link-small : ListsStand text code values result taken h at → h + 1 < wordLimit
   link-small g =
       let o = lies (W g) (s g .stands .form) in
       omega (arith, g .begins, o .name, o .opens, o .body, o .end, g .onward .unread .loaded .last)

@@ -11,7 +11,7 @@ use borrow.Author.Tests.{eq-eqb, ne-eqb, eqb-true, lt-ltb, le-ltb}
 use Rattle.laws.proofs.Tests.{test, by-same, by-less, false-true}
 use Rattle.paper.specs.Basics.{if_then_else_}
 use Rattle.paper.specs.Sorts.{NUM, BOOL, PROC, FUNC}
-use Rattle.paper.specs.Words.{Word}
+use Rattle.paper.specs.Words.{Word, wordLimit}
 use Rattle.paper.specs.Trees.{Routine, Module}
 use Rattle.paper.specs.Expressions.{isType}
 use Rattle.paper.specs.Names.{DataType, aNum, aBool, typeOf, Meaning, theRoutine, routineIn, Text, sortIn, spelled, meaning, cannotDeclare}
@@ -20,7 +20,7 @@ use Rattle.cells.specs.Words.{wordsOf}
 use Rattle.code.specs.Cells.{opIn, valueIn, opAt}
 use Rattle.code.specs.Steps.{Head, noHead, numbered}
 use Rattle.names.specs.Numbers.{numberOf}
-use Rattle.names.specs.Meanings.{firstMeaning, meaningIn, cellFor}
+use Rattle.names.specs.Meanings.{kindIn, firstMeaning, meaningIn, cellFor}
 use Rattle.names.specs.Promises.{storeBytes, Meant, numberAt}
 use Rattle.grammar.specs.Form.{Parses, HeadAt, a-proc, a-func, RoutineAt}
 use Rattle.faults.specs.Left.{headFaults, ownFaults}
@@ -30,8 +30,8 @@ use Rattle.heads.proofs.Numbering.{drop-less, heads-length, head-at, word-at, n
 use Rattle.sites.specs.Sites.{filling}
 use Rattle.around.specs.Around.{ResultIs}
 use Rattle.program.proofs.Orders.{lies}
-use Rattle.routines.specs.declared.Walked.{Walked}
-use Rattle.routines.specs.declared.Walked.the-variants.{Upto, Faulty}
+use Rattle.names.specs.declared.Walked.{Walked}
+use Rattle.names.specs.declared.Walked.the-variants.{Upto, Faulty}
 use Rattle.routines.specs.Answers.{Begins, Goes, Walks, Says, Checks}
 use Rattle.routines.specs.Parts.{namesRoutine, resultIn, nameWith, ScopeStands, SaysScope, Scoped}
 use Rattle.routines.proofs.Naming.{kind-routine, only-routine, name-means, name-other}
@@ -66,15 +66,15 @@ read-num C h d e = rw (ne-eqb (opAt C h) 69 d) (rw (ne-eqb (opAt C (h + 1)) 90 e
 -- a cell that names the routine
 names-so : (cell h : ℕ) → opIn cell / 4 ≡ kinds.aRoutine → valueIn cell ≡ h → namesRoutine cell h ≡ true
 unfolding namesRoutine
-names-so cell h a b = rw (eq-eqb (opIn cell / 4) 5 a) (eq-eqb (valueIn cell) h b)
+names-so cell h a b = rw (eq-eqb (kindIn cell) 5 a) (eq-eqb (valueIn cell) h b)
 
 names-kind : (cell h : ℕ) → namesRoutine cell h ≡ true → opIn cell / 4 ≡ kinds.aRoutine
 unfolding namesRoutine
-names-kind cell h q = by-same (opIn cell / 4) 5 (λ e. e) (λ d. false-true (rw (ne-eqb (opIn cell / 4) 5 d) at q))
+names-kind cell h q = by-same (kindIn cell) 5 (λ e. e) (λ d. false-true (rw (ne-eqb (kindIn cell) 5 d) at q))
 
 names-value : (cell h : ℕ) → namesRoutine cell h ≡ true → valueIn cell ≡ h
 unfolding namesRoutine
-names-value cell h q = eqb-true (valueIn cell) h (rw (eq-eqb (opIn cell / 4) 5 (names-kind cell h q)) at q)
+names-value cell h q = eqb-true (valueIn cell) h (rw (eq-eqb (kindIn cell) 5 (names-kind cell h q)) at q)
 
 word-of : (r : Routine) → headFor r .word ≡ wordOf r
 unfolding headFor
@@ -120,7 +120,7 @@ module _ (text code values : List ℕ) (k h : ℕ) where
   pub head-room : G → h * 8 + 16 ≤ length code
   head-room b = let o = lies (b .stands .W) (b .stands .form) in omega (arith, o .name, o .opens, o .body, o .end, b .unread .loaded .room)
 
-  pub head-small : G → h < 8192
+  pub head-small : G → h < wordLimit
   head-small b = let o = lies (b .stands .W) (b .stands .form) in omega (arith, o .name, o .opens, o .body, o .end, b .unread .loaded .last)
 
   module _ (result name : ℕ) (t : result ≡ resultIn (wordsOf code) h) (n : name ≡ nameWith result h) where
@@ -165,7 +165,7 @@ module _ (text code values : List ℕ) (k h : ℕ) where
           test (cannotDeclare (b .stands .earlier) u) (λ w. w)
           (λ w.
           let z = name-means (b .stands .W) (b .stands .m) k (b .stands .r) (b .stands .rest) (b .stands .nth-is) (sym (ap (λ (l : List Text). cannotDeclare l u) (b .stands .earlier-is)) ∙ w) in
-          let p = only-routine (numbered R) (opIn cell / 4) (cell / 2 % 2) (cell % 2) (valueIn cell) k (ap routineIn (meant b ∙ z)) in
+          let p = only-routine (numbered R) (kindIn cell) (cell / 2 % 2) (cell % 2) (valueIn cell) k (ap routineIn (meant b ∙ z)) in
           let inside : k < length R = omega (arith, heads-length (b .stands .m .routines), drop-less (b .stands .m .routines) k (b .stands .r) (b .stands .rest) (b .stands .nth-is)) in
           let v : h ≡ valueIn cell =
           sym (word-at (sortIn (b .stands .W)) (b .stands .r) h (b .stands .to) (b .stands .form)) ∙ sym (ap (λ (x : Head). x .word) (head-at (b .stands .m .routines) k (b .stands .r) (b .stands .rest) (b .stands .nth-is)) ∙ word-of (b .stands .r))
@@ -197,7 +197,7 @@ module _ (text code values : List ℕ) (k h : ℕ) where
 
         says : (b : G) (code′ values′ : List ℕ) (x : Walked) → SaysScope (routine-scope b) code′ values′ x → Says b code′ values′ x
         unfolding Says SaysScope routine-scope
-        says b code′ values′ (Upto next) y = record { none-in-head = nothing b; goes = y }
+        says b code′ values′ (Upto next scope) y = record { none-in-head = nothing b; goes = y }
         says b code′ values′ (Faulty number word) y = found-behind (b .stands .W) (b .stands .m) (b .stands .earlier) k (b .stands .r) (nothing b) y
 
         pub routine-done : (code′ values′ : List ℕ) (x : Walked) → Scoped text code values code′ values′ result h name x → Checks text code values code′ values′ k h x

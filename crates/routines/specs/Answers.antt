@@ -24,8 +24,8 @@ use Rattle.heads.specs.Trees.{headFor, headsFor, earlierOf}
 use Rattle.sites.specs.Sites.{theModule, Filled}
 use Rattle.around.specs.Around.{Quoted, offsetIn, Unread}
 use Rattle.program.specs.Routines.{RawRoutine}
-use Rattle.routines.specs.declared.Walked.{Walked}
-use Rattle.routines.specs.declared.Walked.the-variants.{Upto, Faulty}
+use Rattle.names.specs.declared.Walked.{Walked}
+use Rattle.names.specs.declared.Walked.the-variants.{Upto, Faulty}
 
 -- ---- one routine of a module
 -- Routine k of the module is r; it stands from word h up to `to`. `earlier` are the texts of the names that were declared before its own.
@@ -95,7 +95,7 @@ pub record Walks {text code values : List ℕ} {k h : ℕ} (b : Begins text code
   pub goes : Goes b code′ values′ next
 
 unfoldable pub Says : {text code values : List ℕ} {k h : ℕ} (b : Begins text code values k h) (code′ values′ : List ℕ) → Walked → Type 0
-Says b code′ values′ (Upto next) = Walks b code′ values′ next
+Says b code′ values′ (Upto next scope) = Walks b code′ values′ next
 Says {k = k} b code′ values′ (Faulty number word) = First (record { number = number; at = word }) (ownFaults (b .stands .W) (b .stands .m) (b .stands .earlier) k (b .stands .r))
 
 -- Where a rule is broken nothing is promised of the stores.

@@ -27,21 +27,20 @@ use Rattle.links.specs.Raw.{Ground, endOf}
 use Rattle.heads.specs.Trees.{headsFor}
 use Rattle.sites.specs.Sites.{aRoutine, Filled}
 use Rattle.around.specs.Around.{Unread, Apart, ResultIs}
-use Rattle.names.specs.declared.Walked as statements
-use Rattle.names.specs.declared.Walked.the-variants as walked
+use Rattle.names.specs.declared.Scope.{Scope}
+use Rattle.names.specs.declared.Walked.{Walked}
+use Rattle.names.specs.declared.Walked.the-variants.{Upto, Faulty}
+use Rattle.names.specs.Scopes.{Grown, OfRoutine}
 use Rattle.statements.specs.Answers.{SameValues, Answer}
 use Rattle.parameters.specs.Answers.{DeclaresParameters}
 use Rattle.declarations.specs.Answers.{DeclaresRoutine}
-use Rattle.sites.specs.Walks as data-walks
 use Rattle.program.specs.Routines.{wordsOfData, RawLines, RawHandler}
-use Rattle.routines.specs.declared.Walked.{Walked}
-use Rattle.routines.specs.declared.Walked.the-variants.{Upto, Faulty}
 use Rattle.routines.specs.Answers.{Stands, groundOf, Begins, Goes}
 
 -- ---- the head
 -- A cell of the table says that its name is the routine that begins at h.
 unfoldable pub namesRoutine : (cell h : ℕ) → Bool
-namesRoutine cell h = if eqb (opIn cell / 4) meanings.aRoutine then eqb (valueIn cell) h else false
+namesRoutine cell h = if eqb (meanings.kindIn cell) meanings.aRoutine then eqb (valueIn cell) h else false
 
 -- 0 for a PROC, 1 for a FUNC of num, 2 for one of bool
 unfoldable pub resultIn : (C : List ℕ) → (h : ℕ) → ℕ
@@ -109,7 +108,7 @@ pub record Ended (g : Ground) (C : List ℕ) (m : Module) (r : Routine) : Type 0
   pub place : placeAt C (r .body .closes) ≡ g .offset (r .body .closes)
   pub errors : ErrorLines g C m r (r .handler)
 
-pub record Errors (text code values code′ values′ : List ℕ) (result used e leads : ℕ) (r : statements.Walked) : Type 0 where
+pub record Errors (text code values code′ values′ : List ℕ) (result used e leads : ℕ) (r : Walked) : Type 0 where
   pub is : (s : ErrorsStand text code values result used e leads)
       → Answer (inHandler (s .inside .stands .W) (s .inside .stands .m) (signatures (s .inside .stands .W) (s .inside .stands .m) 0 (s .inside .stands .m .routines)) (s .k) (s .inside .stands .r))
       code code′ values values′ e (s .inside .stands .to) (dataWords (s .inside) + forsOf (s .inside .stands .W) (s .inside .stands .r))
@@ -137,11 +136,11 @@ pub record ListsDone {text code values : List ℕ} {result data-words h at : ℕ
   pub above : (i : ℕ) → s .inside .stands .to * 2 ≤ i → getD (wordsOf code′) i 0 ≡ getD (wordsOf code) i 0
   pub same : SameValues values values′
 
-unfoldable pub SaysLists : {text code values : List ℕ} {result data-words h at : ℕ} (s : ListsStand text code values result data-words h at) (code′ values′ : List ℕ) → statements.Walked → Type 0
-SaysLists s code′ values′ (walked.Upto next scope) = ListsDone s code′ values′ next (scope .used)
-SaysLists s code′ values′ (walked.Faulty number word) = First (record { number = number; at = word }) (faultsIn (s .inside))
+unfoldable pub SaysLists : {text code values : List ℕ} {result data-words h at : ℕ} (s : ListsStand text code values result data-words h at) (code′ values′ : List ℕ) → Walked → Type 0
+SaysLists s code′ values′ (Upto next scope) = ListsDone s code′ values′ next (scope .used)
+SaysLists s code′ values′ (Faulty number word) = First (record { number = number; at = word }) (faultsIn (s .inside))
 
-pub record Lists (text code values code′ values′ : List ℕ) (result data-words h at : ℕ) (r : statements.Walked) : Type 0 where
+pub record Lists (text code values code′ values′ : List ℕ) (result data-words h at : ℕ) (r : Walked) : Type 0 where
   pub is : (s : ListsStand text code values result data-words h at) → SaysLists s code′ values′ r
 
 -- ---- all behind the name
@@ -153,7 +152,7 @@ pub record ScopeStands (text code values : List ℕ) (result h name : ℕ) : Typ
   pub fits : crosses routineLimit k 1 ≡ false
 
 unfoldable pub SaysScope : {text code values : List ℕ} {result h name : ℕ} (s : ScopeStands text code values result h name) (code′ values′ : List ℕ) → Walked → Type 0
-SaysScope s code′ values′ (Upto next) = Goes (s .begins) code′ values′ next
+SaysScope s code′ values′ (Upto next scope) = Goes (s .begins) code′ values′ next
 SaysScope s code′ values′ (Faulty number word) =
     First (record { number = number; at = word })
     (routineFaults (s .begins .stands .W) (s .begins .stands .m) (signatures (s .begins .stands .W) (s .begins .stands .m) 0 (s .begins .stands .m .routines)) (s .k) (s .begins .stands .r))
@@ -162,25 +161,29 @@ pub record Scoped (text code values code′ values′ : List ℕ) (result h name
   pub is : (s : ScopeStands text code values result h name) → SaysScope s code′ values′ r
 
 -- ---- the same from a word behind the name on
--- Its parameters are declared, `count` of them, up to the parenthesis at `close`.
-pub record ParametersDeclared (text code values : List ℕ) (result count h name close : ℕ) : Type 0 where
+-- Its scope, entered from the outer one, has its parameters, which stand up to the parenthesis at `close`.
+pub record ParametersDeclared (text code values : List ℕ) (result : ℕ) (outer own : Scope) (h name close : ℕ) : Type 0 where
   pub code₀ : List ℕ
   pub values₀ : List ℕ
   pub stands : ScopeStands text code₀ values₀ result h name
-  pub declares : DeclaresParameters code₀ values₀ code values (name + 2) (data-walks.upto close count)
+  pub entered : OfRoutine outer (name + 2) h own
+  pub names-are : own .names ≡ own .used
+  pub declares : DeclaresParameters code₀ values₀ code values (name + 2) (Upto close own)
   pub long : length code ≡ length code₀
 
-pub record ParametersPassed (text code values code′ values′ : List ℕ) (result count h name close : ℕ) (r : Walked) : Type 0 where
-  pub is : (s : ParametersDeclared text code values result count h name close) → SaysScope (s .stands) code′ values′ r
+pub record ParametersPassed (text code values code′ values′ : List ℕ) (result : ℕ) (outer own : Scope) (h name close : ℕ) (r : Walked) : Type 0 where
+  pub is : (s : ParametersDeclared text code values result outer own h name close) → SaysScope (s .stands) code′ values′ r
 
--- Its data are declared too, with `taken` words in all, up to the word `at`.
-pub record DataStand (text code values : List ℕ) (result count taken h name at : ℕ) : Type 0 where
+-- It has its data too, up to the word `at`.
+pub record DataStand (text code values : List ℕ) (result : ℕ) (outer taken : Scope) (h name at : ℕ) : Type 0 where
   pub close : ℕ
   pub code₁ : List ℕ
   pub values₁ : List ℕ
-  pub own : ParametersDeclared text code₁ values₁ result count h name close
-  pub declares : DeclaresRoutine code₁ values₁ code values (name + 1) h count (close + 1) (data-walks.upto at taken)
+  pub opened : Scope
+  pub own : ParametersDeclared text code₁ values₁ result outer opened h name close
+  pub grown : Grown opened taken
+  pub declares : DeclaresRoutine code₁ values₁ code values (name + 1) h (opened .used) (close + 1) (Upto at taken)
   pub long : length code ≡ length code₁
 
-pub record DataPassed (text code values code′ values′ : List ℕ) (result count taken h name at : ℕ) (r : Walked) : Type 0 where
-  pub is : (s : DataStand text code values result count taken h name at) → SaysScope (s .own .stands) code′ values′ r
+pub record DataPassed (text code values code′ values′ : List ℕ) (result : ℕ) (outer taken : Scope) (h name at : ℕ) (r : Walked) : Type 0 where
+  pub is : (s : DataStand text code values result outer taken h name at) → SaysScope (s .own .stands) code′ values′ r

@@ -4,14 +4,16 @@ use around::Setting;
 use layout::kinds;
 use layout::limits;
 use layout::ops;
-use layout::parts;
 use layout::rules;
 use layout::types;
 use layout::types::Type;
 use names::Scope;
+use names::Walked;
 use store::set_head;
 use store::set_link;
 use store::sort;
+ghost use Rattle.paper.specs.Words.{wordLimit};
+ghost use Rattle.layout.specs.Parts.{linkPart};
 ghost use mathlib.Core.Path.{_≡_};
 ghost use Prim.Native.Nat.{_+_, _*_, _<_, _≤_};
 ghost use lib.ListN.{length};
@@ -19,15 +21,9 @@ ghost use Rattle.cells.specs.Words.{wordsOf};
 ghost use Rattle.code.specs.Cells.{linkAt};
 ghost use Rattle.links.specs.Raw.{endOf};
 ghost use Rattle.store.specs.Promises.{Linked};
+ghost use Rattle.names.specs.Scopes.{EachHasWord, Stays, BackTo};
 ghost use Rattle.routines.specs.Answers.{Begins, Checks};
 ghost use Rattle.routines.specs.Parts.{namesRoutine, resultIn, nameWith, Finishes, leadsTo, ErrorsStand, Errors, ListsStand, Lists, ScopeStands, Scoped, ParametersDeclared, ParametersPassed, DataStand, DataPassed};
-
-pub enum Walked {
-    // the word after it
-    Upto(usize),
-    // the rule broken, and its word
-    Faulty(u32, usize),
-}
 
 // the number that the first routine too many has
 const ROUTINES: u32 = limits::ROUTINES as u32;
@@ -38,10 +34,10 @@ const ROUTINES: u32 = limits::ROUTINES as u32;
 fn names_routine(m: u32, h: usize) -> bool
     ensures { λ r. ⌜ r ≡ namesRoutine m h ⌝ }
 {
-    if m % parts::VALUE / parts::KIND != kinds::ROUTINE {
+    if names::kind_of(m) != kinds::ROUTINE {
         return false;
     }
-    (m / parts::VALUE) as usize == h
+    names::value_of(m) as usize == h
 }
 
 // The type of what it gives back.
@@ -59,7 +55,7 @@ fn result_of(code: &[u8], h: usize) -> Type
 }
 
 fn name_of(result: Type, h: usize) -> usize
-    requires { ⌜ h < 8192 ⌝ }
+    requires { ⌜ h < wordLimit ⌝ }
     ensures { λ r. ⌜ r ≡ nameWith result h ⌝ }
 {
     if result == types::NONE {
@@ -72,7 +68,7 @@ fn name_of(result: Type, h: usize) -> usize
 
 // What a run has to know of the routine that begins at h: the first word of its list, and how many FOR variables it has.
 fn finish(code: &mut [u8], h: usize, opens: usize, at: usize, fors: u32)
-    requires { ⌜ (h < opens) × (opens * 8 + 8 ≤ length (now code)) × (at < 65536) × (fors < 65536) ⌝ }
+    requires { ⌜ (h < opens) × (opens * 8 + 8 ≤ length (now code)) × (at < linkPart) × (fors < linkPart) ⌝ }
     ensures { λ _. ⌜ Finishes (now (code .entry)) (now (code .exit)) h opens at fors ⌝ }
 {
     store::set_place(code, h, at);
@@ -95,7 +91,7 @@ fn end_list(code: &mut [u8], function: bool, e: usize)
 
 // Where the ERROR list begins, if the word e that closes the other is ERROR; else 0.
 fn leads_to(code: &[u8], e: usize) -> usize
-    requires { ⌜ (e * 8 + 8 ≤ length (now code)) × (e < 8192) ⌝ }
+    requires { ⌜ (e * 8 + 8 ≤ length (now code)) × (e < wordLimit) ⌝ }
     ensures { λ r. ⌜ r ≡ leadsTo (wordsOf (now (code .entry))) e ⌝ }
 {
     if sort(code, e) == sorts::ERROR {
@@ -113,24 +109,24 @@ fn errors(
     scope: Scope,
     e: usize,
     leads: usize,
-) -> names::Walked
-    requires { ⌜ ErrorsStand (now text) (now code) (now values) result (scope .used) e leads ⌝ }
-    ensures { λ r. ⌜ Errors (now (text .entry)) (now (code .entry)) (now (values .entry)) (now (code .exit)) (now (values .exit)) result (scope .used) e leads r ⌝ }
+) -> Walked
+    requires { ⌜ ErrorsStand (now text) (now code) (now values) result (scope .used) e leads × EachHasWord scope ⌝ }
+    ensures { λ r. ⌜ Errors (now (text .entry)) (now (code .entry)) (now (values .entry)) (now (code .exit)) (now (values .exit)) result (scope .used) e leads r × Stays scope r ⌝ }
 {
     end_list(code, result != types::NONE, e);
     if leads == 0 {
-        return names::Walked::Upto(e + 1, scope);
+        return Walked::Upto(e + 1, scope);
     }
     let setting = Setting {
         result: result,
         handler: true,
     };
     let r = statements::list(text, code, values, setting, scope, leads);
-    let names::Walked::Upto(z, n) = r else {
+    let Walked::Upto(z, n) = r else {
         return r;
     };
     end_list(code, result != types::NONE, z);
-    names::Walked::Upto(z + 1, n)
+    Walked::Upto(z + 1, n)
 }
 
 // Both lists of the routine that begins at h, from the word `at` on. Its second word leads to its ERROR list.
@@ -142,103 +138,107 @@ fn lists(
     scope: Scope,
     h: usize,
     at: usize,
-) -> names::Walked
-    requires { ⌜ ListsStand (now text) (now code) (now values) result (scope .used) h at ⌝ }
-    ensures { λ r. ⌜ Lists (now (text .entry)) (now (code .entry)) (now (values .entry)) (now (code .exit)) (now (values .exit)) result (scope .used) h at r ⌝ }
+) -> Walked
+    requires { ⌜ ListsStand (now text) (now code) (now values) result (scope .used) h at × EachHasWord scope ⌝ }
+    ensures { λ r. ⌜ Lists (now (text .entry)) (now (code .entry)) (now (values .entry)) (now (code .exit)) (now (values .exit)) result (scope .used) h at r × Stays scope r ⌝ }
 {
     let setting = Setting {
         result: result,
         handler: false,
     };
     let r = statements::list(text, code, values, setting, scope, at);
-    let names::Walked::Upto(e, n) = r else {
+    let Walked::Upto(e, n) = r else {
         return r;
     };
     let leads = leads_to(code, e);
     let r = errors(text, code, values, result, n, e, leads);
-    let names::Walked::Upto(z, used) = r else {
+    let Walked::Upto(z, used) = r else {
         return r;
     };
     set_link(code, h + 1, leads);
-    names::Walked::Upto(z, used)
+    Walked::Upto(z, used)
 }
 
 // ---- a routine
 
-// Behind its data: both lists, from the word `at` on. Then its scope is left, with the words of its parameters.
+// Behind its data, with which its scope is `taken`: both lists, from the word `at` on. Then it is left to the scope around it.
 fn behind_data(
     text: &[u8],
     code: &mut [u8],
     values: &mut [u8],
     result: Type,
-    parameters: u32,
+    outer: Scope,
     taken: Scope,
     h: usize,
     name: usize,
     at: usize,
 ) -> Walked
-    requires { ⌜ DataStand (now text) (now code) (now values) result parameters (taken .used) h name at ⌝ }
-    ensures { λ r. ⌜ DataPassed (now (text .entry)) (now (code .entry)) (now (values .entry)) (now (code .exit)) (now (values .exit)) result parameters (taken .used) h name at r ⌝ }
+    requires { ⌜ DataStand (now text) (now code) (now values) result outer taken h name at × (outer .loops ≡ 0) ⌝ }
+    ensures { λ r. ⌜ DataPassed (now (text .entry)) (now (code .entry)) (now (values .entry)) (now (code .exit)) (now (values .exit)) result outer taken h name at r × BackTo outer r ⌝ }
 {
     let l = lists(text, code, values, result, taken, h, at);
-    match l {
-        names::Walked::Faulty(number, word) => Walked::Faulty(number, word),
-        names::Walked::Upto(next, all) => {
-            finish(code, h, name + 1, at, all.used - taken.used);
-            leaving::leave_routine(all, code, values, name + 2, parameters, h);
-            Walked::Upto(next)
-        }
-    }
+    let Walked::Upto(next, all) = l else {
+        return l;
+    };
+    finish(code, h, name + 1, at, all.used - taken.used);
+    let left = leaving::leave_routine(all, outer, code, values);
+    Walked::Upto(next, left)
 }
 
-// Behind its parameters, which end at the parenthesis `close`.
+// Behind its parameters, which end at the parenthesis `close`, and with which its scope is `own`.
 fn behind_parameters(
     text: &[u8],
     code: &mut [u8],
     values: &mut [u8],
     result: Type,
+    outer: Scope,
     own: Scope,
     h: usize,
     name: usize,
     close: usize,
 ) -> Walked
-    requires { ⌜ ParametersDeclared (now text) (now code) (now values) result (own .used) h name close ⌝ }
-    ensures { λ r. ⌜ ParametersPassed (now (text .entry)) (now (code .entry)) (now (values .entry)) (now (code .exit)) (now (values .exit)) result (own .used) h name close r ⌝ }
+    requires { ⌜ ParametersDeclared (now text) (now code) (now values) result outer own h name close × (outer .loops ≡ 0) ⌝ }
+    ensures { λ r. ⌜ ParametersPassed (now (text .entry)) (now (code .entry)) (now (values .entry)) (now (code .exit)) (now (values .exit)) result outer own h name close r × BackTo outer r ⌝ }
 {
-    let d = declarations::routine_data(own, code, values, name + 1, h, close + 1);
-    match d {
-        names::Walked::Faulty(number, word) => Walked::Faulty(number, word),
-        names::Walked::Upto(at, data) => {
-            behind_data(text, code, values, result, own.used, data, h, name, at)
-        }
-    }
+    let d = declarations::routine_data(own, code, values, name + 1, close + 1);
+    let Walked::Upto(at, data) = d else {
+        return d;
+    };
+    behind_data(text, code, values, result, outer, data, h, name, at)
 }
 
-// All that stands behind its name.
+// All that stands behind its name: its scope is entered from the outer one.
 fn scope(
     text: &[u8],
     code: &mut [u8],
     values: &mut [u8],
     result: Type,
+    outer: Scope,
     h: usize,
     name: usize,
 ) -> Walked
-    requires { ⌜ ScopeStands (now text) (now code) (now values) result h name ⌝ }
-    ensures { λ r. ⌜ Scoped (now (text .entry)) (now (code .entry)) (now (values .entry)) (now (code .exit)) (now (values .exit)) result h name r ⌝ }
+    requires { ⌜ ScopeStands (now text) (now code) (now values) result h name × (outer .loops ≡ 0) ⌝ }
+    ensures { λ r. ⌜ Scoped (now (text .entry)) (now (code .entry)) (now (values .entry)) (now (code .exit)) (now (values .exit)) result h name r × BackTo outer r ⌝ }
 {
-    let p = parameters::parameters(code, values, name + 2);
-    match p {
-        names::Walked::Faulty(number, word) => Walked::Faulty(number, word),
-        names::Walked::Upto(close, own) => {
-            behind_parameters(text, code, values, result, own, h, name, close)
-        }
-    }
+    let entered = outer.enter_routine(name + 2, h);
+    let p = parameters::parameters(entered, code, values);
+    let Walked::Upto(close, own) = p else {
+        return p;
+    };
+    behind_parameters(text, code, values, result, outer, own, h, name, close)
 }
 
-// Routine k, which begins at the word h.
-pub fn routine(text: &[u8], code: &mut [u8], values: &mut [u8], k: u32, h: usize) -> Walked
-    requires { ⌜ Begins (now text) (now code) (now values) k h ⌝ }
-    ensures { λ r. ⌜ Checks (now (text .entry)) (now (code .entry)) (now (values .entry)) (now (code .exit)) (now (values .exit)) k h r ⌝ }
+// Routine k, which begins at the word h, in the scope of a module: no loop is around it.
+pub fn routine(
+    text: &[u8],
+    code: &mut [u8],
+    values: &mut [u8],
+    outer: Scope,
+    k: u32,
+    h: usize,
+) -> Walked
+    requires { ⌜ Begins (now text) (now code) (now values) k h × (outer .loops ≡ 0) ⌝ }
+    ensures { λ r. ⌜ Checks (now (text .entry)) (now (code .entry)) (now (values .entry)) (now (code .exit)) (now (values .exit)) k h r × BackTo outer r ⌝ }
 {
     let result = result_of(code, h);
     let name = name_of(result, h);
@@ -249,5 +249,5 @@ pub fn routine(text: &[u8], code: &mut [u8], values: &mut [u8], k: u32, h: usize
     if k == ROUTINES {
         return Walked::Faulty(rules::TOO_MANY, name);
     }
-    scope(text, code, values, result, h, name)
+    scope(text, code, values, result, outer, h, name)
 }

@@ -1,4 +1,5 @@
 -- What words keep, and what a name means that a site has not declared.
+use Rattle.names.specs.Promises.{numberLimit}
 use mathlib.Core.Path.{_≡_, refl, ap, _∙_}
 use mathlib.Core.Bool.{true, false}
 use mathlib.Core.List.{List, [], _∷_, map}
@@ -26,7 +27,7 @@ loaded-changed W code code′ from i to long same h l = record {
   words = λ j lo hi.
       let f = l .words j lo hi in
       let e = same (j * 2) (omega arith) in
-      record { sort = ap opIn e ∙ f .sort; value = λ n. ap valueIn e ∙ f .value n; number = λ n. ap (λ (w : ℕ). valueIn w % 8192) e ∙ f .number n };
+      record { sort = ap opIn e ∙ f .sort; value = λ n. ap valueIn e ∙ f .value n; number = λ n. ap (λ (w : ℕ). valueIn w % numberLimit) e ∙ f .number n };
   last = l .last;
   room = omega (arith, l .room, long);
   whole = ap (λ (x : ℕ). x % 8) long ∙ l .whole;

@@ -15,7 +15,7 @@ use Rattle.paper.specs.Words.{Word}
 use Rattle.paper.specs.Terms.{Ref, ofModule, ofRoutine, load}
 use Rattle.paper.specs.Names.{Meaning, Text, Names, textOf, Scopes, spelled, isAmong, meaning, cannotDeclare, declare}
 use Rattle.paper.specs.Types.{Fault}
-use Rattle.paper.specs.Declarations.{Data, moduleFilling, routineFilling, crosses}
+use Rattle.paper.specs.Declarations.{Data, moduleFilling, routineFilling, crosses, moduleWordLimit}
 use Rattle.cells.specs.Words.{wordsOf}
 use Rattle.cells.proofs.Kept.{put-length, put-other}
 use Rattle.names.specs.Numbers.{numberOf, IsName}
@@ -114,7 +114,7 @@ module _ (W : List Word) where
   cell-new (theModule routines) k = omega arith
   cell-new (aRoutine m) k = refl
 
-  cell-old : (s : Site) (ws : List ℤ) (r : Ref) → length (filling W s .memoryWith ws .module-words) ≤ 1024 → Among (filling W s .memoryWith ws) r 1 → cellOf r < baseOf (ownOf s) + length ws
+  cell-old : (s : Site) (ws : List ℤ) (r : Ref) → length (filling W s .memoryWith ws .module-words) ≤ moduleWordLimit → Among (filling W s .memoryWith ws) r 1 → cellOf r < baseOf (ownOf s) + length ws
   unfolding filling moduleFilling routineFilling ownOf baseOf cellOf InRoom
   cell-old (theModule routines) ws (ofModule k) l h = omega (arith, h)
   cell-old (theModule routines) ws (ofRoutine k) l h = absurd (omega (arith, h))
@@ -127,13 +127,13 @@ module _ (W : List Word) where
   cells-end (theModule routines) n h = omega arith
   cells-end (aRoutine m) n h = omega arith
 
-  pub limit-most : (s : Site) → filling W s .limit ≤ 1024
+  pub limit-most : (s : Site) → filling W s .limit ≤ moduleWordLimit
   unfolding filling moduleFilling routineFilling
   limit-most (theModule routines) = omega arith
   limit-most (aRoutine m) = omega arith
 
-  most-more : (s : Site) (ws vs : List ℤ) → length ws + length vs ≤ filling W s .limit → length (filling W s .memoryWith ws .module-words) ≤ 1024
-      → length (filling W s .memoryWith (ws ++ vs) .module-words) ≤ 1024
+  most-more : (s : Site) (ws vs : List ℤ) → length ws + length vs ≤ filling W s .limit → length (filling W s .memoryWith ws .module-words) ≤ moduleWordLimit
+      → length (filling W s .memoryWith (ws ++ vs) .module-words) ≤ moduleWordLimit
   unfolding filling moduleFilling routineFilling
   most-more (theModule routines) ws vs h l = omega (arith, length-append ws vs)
   most-more (aRoutine m) ws vs h l = l
@@ -145,7 +145,7 @@ module _ (W : List Word) where
   window-more (aRoutine m) ws vs h l = omega (arith, length-append ws vs)
 
   -- so many words are used
-  pub used-most : (s : Site) (ws : List ℤ) → length (filling W s .memoryWith ws .module-words) ≤ 1024 → length (filling W s .memoryWith ws .routine-words) ≤ 64 → length ws ≤ filling W s .limit
+  pub used-most : (s : Site) (ws : List ℤ) → length (filling W s .memoryWith ws .module-words) ≤ moduleWordLimit → length (filling W s .memoryWith ws .routine-words) ≤ 64 → length ws ≤ filling W s .limit
   unfolding filling moduleFilling routineFilling
   used-most (theModule routines) ws h l = h
   used-most (aRoutine m) ws h l = l

@@ -1,4 +1,5 @@
 -- A name that cannot be declared: what its cell of the table tells.
+use Rattle.layout.specs.Parts.{sizePart}
 use mathlib.Core.Path.{_≡_, refl, sym, ap, _∙_}
 use mathlib.Core.Bool.{Bool, true, false}
 use mathlib.Core.List.{List, map}
@@ -32,7 +33,7 @@ module _ (own : ℕ) (routine : ℕ → ℕ) where
     unfolding meaningWith owned
     owned-with h g lo hi =
         by-same kind aVariable (λ e. rw (e, meaningWith) (own-ref o value h g)) (λ a.
-        by-same kind anArray (λ e. rw (e, meaningWith) (own-ref o (value % 1024) h g)) (λ b.
+        by-same kind anArray (λ e. rw (e, meaningWith) (own-ref o (value % sizePart) h g)) (λ b.
         let e : kind ≡ aConstant = omega (arith, a, b) in rw (e, meaningWith) (own-ref o value h g)))
 
     owned-none : kind < aVariable → owned own (meaningWith routine kind bool o value) ≡ false

@@ -51,7 +51,7 @@ pub makes : (scope r : Scope) (code values code′ values′ : List ℕ) (i kind
     → Declares scope code values i m words code′ values′ r → MakesIn scope code values code′ values′ i kind own value words r
 makes scope r code values code′ values′ i kind own value words s bool m e t q d = record {
   makes = record { bool = bool; type = subst (λ (k : ℕ). TypeBit k bool) e t; declared = subst (λ (k : ℕ). names.Declared code values i k code′ values′) q (d .known) };
-  scope-is = d .used;
+  scope-is = d .scope-is;
 }
 
 -- a bit that a type has

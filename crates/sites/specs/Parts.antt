@@ -15,6 +15,7 @@ use Rattle.names.specs.Meanings.{cellWith, typeWith, Means}
 use Rattle.names.specs.Promises.{numberAt}
 use Rattle.names.specs.Promises as names
 use Rattle.names.specs.declared.Scope.{Scope}
+use Rattle.names.specs.Scopes.{withUsed}
 use Rattle.sites.specs.Sites.{Owns}
 
 -- ---- words
@@ -50,4 +51,4 @@ pub record Makes (code values code′ values′ : List ℕ) (i kind own value : 
 -- So it does in a scope, and has so many of its words.
 pub record MakesIn (scope : Scope) (code values code′ values′ : List ℕ) (i kind own value words : ℕ) (r : Scope) : Type 0 where
   pub makes : Makes code values code′ values′ i kind own value
-  pub scope-is : r ≡ record { used = scope .used + words }
+  pub scope-is : r ≡ withUsed (scope .used + words) scope

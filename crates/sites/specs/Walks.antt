@@ -1,4 +1,4 @@
--- What walks over declarations share: their answer, what the words of names keep, and which words those are.
+-- What walks over declarations share: what the words of names keep, and which words those are.
 use mathlib.Core.Path.{_≡_}
 use mathlib.Core.List.{List, [], _∷_}
 use Prim.Native.Nat.{ℕ, zero, suc, _+_, _*_, _<_, _≤_}
@@ -7,13 +7,7 @@ use Rattle.paper.specs.Words.{Word, wordLimit}
 use Rattle.paper.specs.Names.{Scopes}
 use Rattle.names.specs.Numbers.{IsName}
 use Rattle.names.specs.Meanings.{Keeps}
-use Rattle.names.specs.declared.Walked.{Walked}
-use Rattle.names.specs.declared.Walked.the-variants.{Upto}
 use Rattle.sites.specs.Sites.{Site, filling}
-
--- so many words are used up to a word
-abbrev pub upto : (next used : ℕ) → Walked
-upto next used = Upto next (record { used = used })
 
 -- the scopes before any name of a site is declared
 abbrev pub outerOf : List Word → Site → Scopes

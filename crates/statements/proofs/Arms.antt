@@ -1,4 +1,6 @@
 -- A full IF is walked arm by arm: what is left of it, and what has been written so far.
+use Rattle.names.specs.Promises.{storeBytes}
+use Rattle.layout.specs.Parts.{linkPart}
 use mathlib.Core.Path.{_≡_, refl, sym, ap, subst, _∙_}
 use mathlib.Core.Bool.{Bool, true, false}
 use mathlib.Core.List.{List, [], _++_}
@@ -9,7 +11,7 @@ use lib.ListN.{length}
 use Rattle.laws.proofs.Tests.{by-same}
 use Rattle.cells.specs.Words.{wordsOf}
 use Rattle.paper.specs.Sorts.{ELSE, ELSEIF}
-use Rattle.paper.specs.Words.{Word}
+use Rattle.paper.specs.Words.{Word, wordLimit}
 use Rattle.paper.specs.Trees.{Expr, Statements, Arms, noArm, arm, fullIf}
 use Rattle.paper.specs.Expressions.{levelOf}
 use Rattle.paper.specs.Names.{aBool, Scopes, sortIn}
@@ -36,9 +38,10 @@ use Rattle.links.proofs.Framing.{same-part}
 use Rattle.links.proofs.Orders.{last-order, list-order}
 use Rattle.around.specs.declared.Setting.{Setting}
 use Rattle.around.specs.Around.{Around, groundOf, offsetIn}
+use Rattle.names.specs.declared.Scope.{Scope}
 use Rattle.names.specs.declared.Walked.{Walked}
-use Rattle.names.specs.declared.Walked.the-variants.{Faulty}
-use Rattle.statements.specs.Answers.{upto, SameValues, Lists, Done, Answer, Listed}
+use Rattle.names.specs.declared.Walked.the-variants.{Upto, Faulty}
+use Rattle.statements.specs.Answers.{SameValues, Lists, Done, Answer, Listed}
 use Rattle.compounds.specs.Here.{Outside, Here}
 use Rattle.statements.specs.Parts.{ThenAt, Thens, Thened, Elses, ElseWritten, Elsed}
 use Rattle.compounds.specs.Parts.{ArmEnded}
@@ -141,7 +144,7 @@ module _ (text code values : List ℕ) (k : Setting) (used i first : ℕ) (now v
     order : (t + 1 ≤ x .is .m) × (x .is .m ≤ g .last)
     order = then-order (a .known .W) (g .d) (x .b) (x .rest) t (g .last) (x .is)
 
-    ending : (g .last ≤ g .z) × (g .to ≡ g .z + 1) × (g .to < 8192)
+    ending : (g .last ≤ g .z) × (g .to ≡ g .z + 1) × (g .to < wordLimit)
     ending = (else-grows (sortIn (a .known .W)) (Parses (sortIn (a .known .W))) (grows (a .known .W)) (g .otherwise), g .after, g .here .unread .loaded .last)
 
     lists : Lists text now values k n (t + 1)
@@ -167,7 +170,7 @@ module _ (text code values : List ℕ) (k : Setting) (used i first : ℕ) (now v
     pub arm-after : first ≤ t
     arm-after = x .later
 
-    pub arm-wide : 65536 ≤ length code
+    pub arm-wide : storeBytes ≤ length code
     arm-wide = g .calls .room
 
     pub arm-place : (t < 8191) × (length now ≡ length code)
@@ -212,8 +215,8 @@ module _ (text code values : List ℕ) (k : Setting) (used i first : ℕ) (now v
           let f2 = first-before f (inside-both i1 i2 (omega (arith, order)) (omega (arith, order))) else-in (omega arith) in
           faulty-answer _ _ _ _ _ _ _ _ _ r number word q (subst (First (record { number = number; at = word })) (sym (x .faults-are)) f2) (inner .long ∙ x .long)
 
-      module _ (e u : ℕ) (q : r ≡ upto e u) where
-        done : Done (listFaults (a .known .W) (a .K) (a .M) (x .b) (a .known .S) n) now one values values″ (t + 1) (x .is .m) (n + forsInList (x .b)) e u
+      module _ (e : ℕ) (u : Scope) (q : r ≡ Upto e u) where
+        done : Done (listFaults (a .known .W) (a .K) (a .M) (x .b) (a .known .S) n) now one values values″ (t + 1) (x .is .m) (n + forsInList (x .b)) e (u .used)
             (RawList (groundOf a) (a .known .n) (wordsOf one) (x .b) (a .known .S) n (t + 1) (x .is .m))
         done = upto-done r inner e u q
 
@@ -222,7 +225,7 @@ module _ (text code values : List ℕ) (k : Setting) (used i first : ℕ) (now v
         small none p = omega (arith, p .1)
         small (some p) q = omega (arith, q .0)
 
-        pub arm-closes : (op < 256) × (c < t) × (t < e) × (e < 8192) × (65536 ≤ length one)
+        pub arm-closes : (op < 256) × (c < t) × (t < e) × (e < wordLimit) × (storeBytes ≤ length one)
         arm-closes = (small (x .before) (x .opened), x .next, omega (arith, order, done .next-is), omega (arith, done .next-is, order, ending), omega (arith, inner .long, x .long, g .calls .room))
 
         module _ (two : List ℕ) (ended : ArmEnded one two op c t e) where
@@ -303,7 +306,7 @@ module _ (text code values : List ℕ) (k : Setting) (used i first : ℕ) (now v
           head-if (some p) q = ap opIn (head-before written i (omega (arith, q .2, q .3))) ∙ x .head (omega (arith, q .2, q .3))
 
           place : placeAt (wordsOf two) i ≡ offsetIn (a .known .W) i
-          place = y .arm-is .kept .places i ∙ y .then-is .kept .places i ∙ ap (λ (v : ℕ). v % 65536) (tail-before (done .outside) i (omega (arith, x .low, x .next))) ∙ x .place
+          place = y .arm-is .kept .places i ∙ y .then-is .kept .places i ∙ ap (λ (v : ℕ). v % linkPart) (tail-before (done .outside) i (omega (arith, x .low, x .next))) ∙ x .place
 
           kept-on : (C : List ℕ) → SameWords (wordsOf two) C (i + 1) m → SameWords (wordsOf now) C (i + 1) c
           kept-on C s = same-on (same-before (i + 1) c written (omega arith)) (same-part (wordsOf two) C (i + 1) m (i + 1) c (omega arith) (omega (arith, x .next, order)) s)
@@ -340,7 +343,7 @@ module _ (text code values : List ℕ) (k : Setting) (used i first : ℕ) (now v
                 room = omega (arith, counted, g .room);
               }
 
-              pub arm-elses : Elses text two values″ k u e
+              pub arm-elses : Elses text two values″ k (u .used) e
               arm-elses =
                   elses-as (done .same) (subst (λ (v : ℕ). Elses text two values k v e) (sym (done .used-is)) (subst (λ (v : ℕ). Elses text two values k (n + forsInList (x .b)) v) (sym (done .next-is)) elses))
 
@@ -348,14 +351,14 @@ module _ (text code values : List ℕ) (k : Setting) (used i first : ℕ) (now v
               unfolding armFaults
               remain = left ∙ ap (λ (r : Arms). armFaults (a .known .W) (a .K) (a .M) r (a .known .S) (n + forsInList (x .b)) ++ else-faults) (none-left .0)
 
-              module _ (three values‴ : List ℕ) (r2 : Walked) (el : Elsed text two values″ three values‴ k u e r2) where
+              module _ (three values‴ : List ℕ) (r2 : Walked) (el : Elsed text two values″ three values‴ k (u .used) e r2) where
                 last-answer : Answer (listFaults (a .known .W) (a .K) (a .M) (g .o) (a .known .S) (n + forsInList (x .b))) two three values values‴ m (g .to) (n + forsInList (x .b) + forsInList (g .o))
                     (ElseWritten (sortIn (a .known .W))
                     (λ (first : ℕ). RawElse (groundOf a) (a .known .n) (wordsOf three) (λ (x2 y2 : ℕ). RawList (groundOf a) (a .known .n) (wordsOf three) (g .o) (a .known .S) (n + forsInList (x .b)) x2 y2) m first (g .to)) m) r2
                 unfolding elses groundOf
                 last-answer =
                     answer-as (done .same) _ _ _ _ _ _ _ _ r2
-                    (subst (λ (v : ℕ). Elsed text two values″ three values‴ k v m r2) (done .used-is) (subst (λ (v : ℕ). Elsed text two values″ three values‴ k u v r2) (done .next-is) el) .is (elses-as (done .same) elses))
+                    (subst (λ (v : ℕ). Elsed text two values″ three values‴ k v m r2) (done .used-is) (subst (λ (v : ℕ). Elsed text two values″ three values‴ k (u .used) v r2) (done .next-is) el) .is (elses-as (done .same) elses))
 
                 else-wrong : (number word : ℕ) → r2 ≡ Faulty number word → ForIf three values‴ r2
                 unfolding total else-faults
@@ -365,13 +368,13 @@ module _ (text code values : List ℕ) (k : Setting) (used i first : ℕ) (now v
                     (subst (λ (v : ℕ). First (record { number = number; at = word }) (listFaults (a .known .W) (a .K) (a .M) (g .o) (a .known .S) v)) counted (faulty-first r2 last-answer number word q2)))
                     (last-answer .long ∙ arm-long)
 
-                module _ (z v : ℕ) (q2 : r2 ≡ upto z v) where
-                  ends : Done (listFaults (a .known .W) (a .K) (a .M) (g .o) (a .known .S) (n + forsInList (x .b))) two three values values‴ m (g .to) (n + forsInList (x .b) + forsInList (g .o)) z v
+                module _ (z : ℕ) (v : Scope) (q2 : r2 ≡ Upto z v) where
+                  ends : Done (listFaults (a .known .W) (a .K) (a .M) (g .o) (a .known .S) (n + forsInList (x .b))) two three values values‴ m (g .to) (n + forsInList (x .b) + forsInList (g .o)) z (v .used)
                       (ElseWritten (sortIn (a .known .W))
                       (λ (first : ℕ). RawElse (groundOf a) (a .known .n) (wordsOf three) (λ (x2 y2 : ℕ). RawList (groundOf a) (a .known .n) (wordsOf three) (g .o) (a .known .S) (n + forsInList (x .b)) x2 y2) m first (g .to)) m)
                   ends = upto-done r2 last-answer z v q2
 
-                  pub arm-ends : (i * 8 + 8 ≤ length three) × (z < 65536)
+                  pub arm-ends : (i * 8 + 8 ≤ length three) × (z < linkPart)
                   arm-ends = (omega (arith, last-answer .long, arm-long, g .calls .room, x .low, x .next, order, ending), omega (arith, ends .next-is, ending))
 
                   module _ (four : List ℕ) (l2 : Linked three four i (opAt (wordsOf three) i) (valueAt (wordsOf three) i) z) where
@@ -432,7 +435,7 @@ module _ (text code values : List ℕ) (k : Setting) (used i first : ℕ) (now v
                         last-same {z3} (an-else w3 e3) s3 o3 r3 = an-else (word-same s3 m (omega arith) (omega arith) _ z3 w3) e3
                         last-same (no-else d3 e3) s3 o3 r3 = no-else d3 e3
 
-                    finished : ForIf four values‴ (upto z v)
+                    finished : ForIf four values‴ (Upto z v)
                     unfolding RawStatement total else-faults groundOf forsInArms
                     finished =
                         done-answer _ _ _ _ _ _ _ _ _ _ _
@@ -444,7 +447,7 @@ module _ (text code values : List ℕ) (k : Setting) (used i first : ℕ) (now v
                           written = record {
                             head = record {
                               first = refl;
-                              place = l2 .kept .places i ∙ ap (λ (w : ℕ). w % 65536) (tail-before (ends .outside) i (omega (arith, x .low, x .next, order))) ∙ place;
+                              place = l2 .kept .places i ∙ ap (λ (w : ℕ). w % linkPart) (tail-before (ends .outside) i (omega (arith, x .low, x .next, order))) ∙ place;
                               word = record { is = l2 .op-is ∙ ap opIn head-three ∙ head-if (x .before) (x .opened); leaves = l2 .link-is ∙ ends .next-is };
                             };
                             last = g .last;
@@ -534,7 +537,7 @@ module _ (text code values : List ℕ) (k : Setting) (used i first : ℕ) (now v
                   three-is : Outside (wordsOf two) (wordsOf three) (m + 1) (f .n)
                   three-is = kept-outside kept
 
-                  pub arm-less : 8192 - m2 < 8192 - t
+                  pub arm-less : wordLimit - m2 < wordLimit - t
                   arm-less = omega (arith, then-at, spans, order, next-order, ending)
 
                   new-faults : total ≡ listFaults (a .known .W) (a .K) (a .M) (f .b) (a .known .S) (n + forsInList (x .b))
@@ -585,7 +588,7 @@ module _ (text code values : List ℕ) (k : Setting) (used i first : ℕ) (now v
                       sort-one : opAt (wordsOf one) m ≡ sortIn (a .known .W) m
                       sort-one = ap opIn (head-behind (done .outside) m (omega arith)) ∙ x .here .unread .loaded .words m (omega (arith, order)) (omega (arith, order, ending)) .sort
 
-                  goes-on : Arming g three values″ anElseIf e m2 u
+                  goes-on : Arming g three values″ anElseIf e m2 (u .used)
                   goes-on =
                       subst (λ (v : ℕ). Arming g three values″ anElseIf e m2 v) (sym (done .used-is))
                       (subst (λ (v : ℕ). Arming g three values″ anElseIf e v (n + forsInList (x .b))) (sym then-at) (subst (λ (v : ℕ). Arming g three values″ anElseIf v (f .n) (n + forsInList (x .b))) (sym (done .next-is)) goes))
@@ -595,17 +598,17 @@ module _ (text code values : List ℕ) (k : Setting) (used i first : ℕ) (now v
     pub arm-list-wrong : (number word : ℕ) → r ≡ Faulty number word → Thened text code values one values″ k used i first r
     arm-list-wrong number word q = record { is = λ g. list-wrong g one values″ r l number word q }
 
-    module _ (e u : ℕ) (q : r ≡ upto e u) (two : List ℕ) (ended : ArmEnded one two op c t e) (s : ℕ) (es : s ≡ opAt (wordsOf two) e) where
-      module _ (f : s ≡ ELSEIF → ⊥) (three values‴ : List ℕ) (r2 : Walked) (el : Elsed text two values″ three values‴ k u e r2) where
+    module _ (e : ℕ) (u : Scope) (q : r ≡ Upto e u) (two : List ℕ) (ended : ArmEnded one two op c t e) (s : ℕ) (es : s ≡ opAt (wordsOf two) e) where
+      module _ (f : s ≡ ELSEIF → ⊥) (three values‴ : List ℕ) (r2 : Walked) (el : Elsed text two values″ three values‴ k (u .used) e r2) where
         pub arm-else-wrong : (number word : ℕ) → r2 ≡ Faulty number word → Thened text code values three values‴ k used i first r2
         arm-else-wrong number word q2 = record { is = λ g. else-wrong g one values″ r l e u q two ended s es f three values‴ r2 el number word q2 }
 
-        pub arms-finished : (z v : ℕ) → r2 ≡ upto z v → (four : List ℕ) → Linked three four i (opAt (wordsOf three) i) (valueAt (wordsOf three) i) z → Thened text code values four values‴ k used i first (upto z v)
+        pub arms-finished : (z : ℕ) (v : Scope) → r2 ≡ Upto z v → (four : List ℕ) → Linked three four i (opAt (wordsOf three) i) (valueAt (wordsOf three) i) z → Thened text code values four values‴ k used i first (Upto z v)
         arms-finished z v q2 four l2 = record { is = λ g. finished g one values″ r l e u q two ended s es f three values‴ r2 el z v q2 four l2 }
 
       module _ (h : s ≡ ELSEIF) (three : List ℕ) (j : Judged) (o2 : OfType two values″ three false boolType (e + 1) j) where
         pub arm-wrong : (number word : ℕ) → j ≡ judged.Faulty number word → Thened text code values three values″ k used i first (Faulty number word)
         arm-wrong number word q2 = record { is = λ g. condition-wrong g one values″ r l e u q two ended s es h three j o2 number word q2 }
 
-        pub arms-go : (bool : ℕ) (m2 : ℕ) → j ≡ judged.Typed bool m2 → Armings text code values k used i first three values″ anElseIf e m2 u
+        pub arms-go : (bool : ℕ) (m2 : ℕ) → j ≡ judged.Typed bool m2 → Armings text code values k used i first three values″ anElseIf e m2 (u .used)
         arms-go bool m2 q2 = record { is = λ g. goes-on g one values″ r l e u q two ended s es h three j o2 bool m2 q2 }

@@ -18,9 +18,10 @@ use Rattle.around.specs.declared.Setting.{Setting}
 use Rattle.around.specs.Around.{Around, groundOf}
 use Rattle.compounds.specs.Here.{Outside, Here}
 use Rattle.compounds.proofs.Frames.{outside-wider, outside-on, same-before, same-behind, same-on, here-part, list-same}
+use Rattle.names.specs.declared.Scope.{Scope}
 use Rattle.names.specs.declared.Walked.{Walked}
-use Rattle.names.specs.declared.Walked.the-variants.{Faulty}
-use Rattle.statements.specs.Answers.{upto, Lists, Done, Answer, Listed}
+use Rattle.names.specs.declared.Walked.the-variants.{Upto, Faulty}
+use Rattle.statements.specs.Answers.{Lists, Done, Answer, Listed}
 use Rattle.statements.proofs.Walking.{upto-done, faulty-first, done-answer, faulty-answer}
 
 -- so many words behind c
@@ -71,8 +72,8 @@ module _ {text code values : List ℕ} {k : Setting} {used c words : ℕ} (b : B
     pub behind-wrong : (raw : Type 0) (number word : ℕ) → r ≡ Faulty number word → Answer behind-faults code one values values′ c (b .to) (used + forsInList (b .o)) raw r
     behind-wrong raw number word q = faulty-answer _ _ _ _ _ _ _ _ _ r number word q (faulty-first r behind-answer number word q) (behind-answer .long)
 
-    module _ (z n : ℕ) (q : r ≡ upto z n) where
-      pub behind-done : Done behind-faults code one values values′ (c + words) (b .z) (used + forsInList (b .o)) z n (behind-raw (wordsOf one) (c + words) (b .z))
+    module _ (z : ℕ) (n : Scope) (q : r ≡ Upto z n) where
+      pub behind-done : Done behind-faults code one values values′ (c + words) (b .z) (used + forsInList (b .o)) z (n .used) (behind-raw (wordsOf one) (c + words) (b .z))
       behind-done = upto-done r behind-answer z n q
 
       pub behind-closes : (c + words ≤ z) × (z < 8191) × (z + 1 ≡ b .to) × (length one ≡ length code)
@@ -93,7 +94,7 @@ module _ {text code values : List ℕ} {k : Setting} {used c words : ℕ} (b : B
             (same-on (same-behind (c + words) (b .z) first (omega arith)) (same-before (c + words) (b .z) last (omega (arith, behind-done .next-is)))) (behind-done .written))
 
         -- and then what is written of the whole
-        pub behind-right : (raw : Type 0) → raw → length three ≡ length code → Answer behind-faults code three values values′ c (b .to) (used + forsInList (b .o)) raw (upto (z + 1) n)
+        pub behind-right : (raw : Type 0) → raw → length three ≡ length code → Answer behind-faults code three values values′ c (b .to) (used + forsInList (b .o)) raw (Upto (z + 1) n)
         behind-right raw w long =
             done-answer _ _ _ _ _ _ _ _ _ _ _
             (record {

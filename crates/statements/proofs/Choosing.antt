@@ -1,4 +1,5 @@
 -- TEST: its cases one by one.
+use Rattle.paper.specs.Words.{wordLimit}
 use mathlib.Core.Path.{_≡_, refl, sym, ap, subst, _∙_}
 use mathlib.Core.Bool.{Bool}
 use mathlib.Core.List.{List, [], _++_}
@@ -26,9 +27,10 @@ use Rattle.links.specs.Raw.{SameWords, RawWord, RawList, RawConstants, RawCases
 use Rattle.around.specs.declared.Setting.{Setting}
 use Rattle.around.specs.Around.{Around, groundOf}
 use Rattle.around.specs.Answers as answered
+use Rattle.names.specs.declared.Scope.{Scope}
 use Rattle.names.specs.declared.Walked.{Walked}
 use Rattle.names.specs.declared.Walked.the-variants.{Upto, Faulty}
-use Rattle.statements.specs.Answers.{upto, SameValues, Lists, Done, Tell, Answer, Listed}
+use Rattle.statements.specs.Answers.{SameValues, Lists, Done, Tell, Answer, Listed}
 use Rattle.compounds.specs.Here.{Outside, Here}
 use Rattle.compounds.specs.Parts.{CaseChain, CaseValues, CaseValued, Chained, ValuesLinked}
 use Rattle.statements.specs.Parts.{Defaults, Defaulted, Chooses, CasesWritten, Chosen}
@@ -81,7 +83,7 @@ module _ (text code values : List ℕ) (k : Setting) (used first : ℕ) (now val
     abbrev x : Casing g now values′ c n
     x = inv .is g
 
-    ending : (c ≤ g .last) × (g .last ≤ g .z) × (g .to ≡ g .z + 1) × (g .to < 8192)
+    ending : (c ≤ g .last) × (g .last ≤ g .z) × (g .to ≡ g .z + 1) × (g .to < wordLimit)
     ending = (cases-grow (sortIn (a .known .W)) (Parses (sortIn (a .known .W))) (grows (a .known .W)) (x .is), default-grows (sortIn (a .known .W)) (Parses (sortIn (a .known .W))) (grows (a .known .W)) (g .otherwise), g .after, g .here .unread .loaded .last)
 
     pub case-room : (first ≤ c) × (c < 8191) × (c * 8 + 8 ≤ length now)
@@ -285,8 +287,8 @@ module _ (text code values : List ℕ) (k : Setting) (used first : ℕ) (now val
               list-wrong number word e =
                   faulty-answer _ _ _ _ _ _ _ _ _ r number word e (subst (First (record { number = number; at = word })) (sym whole) (behind-list _ (first-after (v .none) (faulty-first r inner number word e)))) (inner .long ∙ va .long ∙ x .long)
 
-              module _ (e u : ℕ) (q2 : r ≡ upto e u) where
-                done : Done list-faults one two values values″ (f .n + 1) (f .m) (n + forsInList (f .b)) e u (RawList (groundOf a) (a .known .n) (wordsOf two) (f .b) (a .known .S) n (f .n + 1) (f .m))
+              module _ (e : ℕ) (u : Scope) (q2 : r ≡ Upto e u) where
+                done : Done list-faults one two values values″ (f .n + 1) (f .m) (n + forsInList (f .b)) e (u .used) (RawList (groundOf a) (a .known .n) (wordsOf two) (f .b) (a .known .S) n (f .n + 1) (f .m))
                 done = upto-done r inner e u q2
 
                 pub case-closes : (c < e) × (e < 8191) × ((c + 1) * 8 + 8 ≤ length two)
@@ -308,7 +310,7 @@ module _ (text code values : List ℕ) (k : Setting) (used first : ℕ) (now val
                   chained : CaseChain (a .known .W) (a .known .S) (a .M) (wordsOf three) (f .cs) (f .n) c
                   chained = case-chain-same (a .known .W) (a .known .S) (a .M) (wordsOf one) (wordsOf three) (f .n) (c + 2) (to-three (c + 2) (f .n) (omega arith) (omega arith)) (f .cs) c first-three (omega arith) (v .written)
 
-                  pub case-links : Chained three colon c × (e < 8192)
+                  pub case-links : Chained three colon c × (e < wordLimit)
                   case-links = (
                     subst (λ (w : ℕ). Chained three w c) (sym (v .next-is)) (record {
                       W = a .known .W;
@@ -370,7 +372,7 @@ module _ (text code values : List ℕ) (k : Setting) (used first : ℕ) (now val
                           }));
                     }
 
-                    goes-on : Casing g four values″ e u
+                    goes-on : Casing g four values″ e (u .used)
                     goes-on = subst (λ (w : ℕ). Casing g four values″ e w) (sym (done .used-is)) (subst (λ (w : ℕ). Casing g four values″ w (n + forsInList (f .b))) (sym (done .next-is)) goes)
 
   -- ---- for whatever the statement is
@@ -386,5 +388,5 @@ module _ (text code values : List ℕ) (k : Setting) (used first : ℕ) (now val
         pub case-list-wrong : (number word : ℕ) → r ≡ Faulty number word → Chosen text code values two values″ k used first r
         case-list-wrong number word e = record { is = λ g. list-wrong g s es h one j cv bool colon q two values″ r l number word e }
 
-        pub cases-go : (e u : ℕ) → r ≡ upto e u → (three : List ℕ) → Linked two three (c + 1) aPass 0 e → (four : List ℕ) → ValuesLinked three four colon e c → Casings text code values k used first four values″ e u
+        pub cases-go : (e : ℕ) (u : Scope) → r ≡ Upto e u → (three : List ℕ) → Linked two three (c + 1) aPass 0 e → (four : List ℕ) → ValuesLinked three four colon e c → Casings text code values k used first four values″ e (u .used)
         cases-go e u q2 three lk four vl = record { is = λ g. goes-on g s es h one j cv bool colon q two values″ r l e u q2 three lk four vl }

@@ -1,4 +1,5 @@
 -- Simple statements, by themselves and in a compact IF.
+use Rattle.paper.specs.Words.{wordLimit}
 use mathlib.Core.Path.{_≡_, refl, sym, subst, _∙_}
 use mathlib.Core.Bool.{Bool}
 use mathlib.Core.List.{List}
@@ -25,9 +26,10 @@ use Rattle.around.specs.Around.{Around, groundOf, offsetIn}
 use Rattle.simple.specs.Answers as simples
 use Rattle.around.specs.Answers as answered
 use Rattle.names.specs.declared.Scope.{Scope}
+use Rattle.names.specs.Scopes.{withUsed}
 use Rattle.names.specs.declared.Walked.{Walked}
 use Rattle.names.specs.declared.Walked.the-variants.{Upto, Faulty}
-use Rattle.statements.specs.Answers.{upto, Stands, Answer, StatementAnswer}
+use Rattle.statements.specs.Answers.{Stands, Answer, StatementAnswer}
 use Rattle.compounds.specs.Here.{Here}
 use Rattle.statements.specs.Parts.{Plain, Plainly, Compacts, Compacted}
 use Rattle.statements.proofs.Same.{same-values}
@@ -83,11 +85,11 @@ module _ (text code values : List ℕ) (k : Setting) (used i : ℕ) (g : Plain t
     unfolding statementFaults
     wrong number word q = subst (ForStatement one (Faulty number word)) (sym (w .is)) (first-answer _ _ _ _ _ _ _ _ number word _ (faulty-found j answers number word q) (answers .long))
 
-    right : (bool : ℕ) (next : ℕ) → j ≡ judged.Typed bool next → StatementAnswer (g .stands) one values (upto next used)
+    right : (bool : ℕ) (next : ℕ) → j ≡ judged.Typed bool next → (scope : Scope) → StatementAnswer (g .stands) one values (Upto next (withUsed used scope))
     unfolding statementFaults forsIn RawStatement
-    right bool next q =
+    right bool next q scope =
         let f = typed-fine j answers bool next q in
-        subst (ForStatement one (upto next used)) (sym (w .is))
+        subst (ForStatement one (Upto next (withUsed used scope))) (sym (w .is))
         (done-answer _ _ _ _ _ _ _ _ _ _ _
         (record {
           none = f .none;
@@ -105,7 +107,7 @@ module _ (text code values : List ℕ) (k : Setting) (used i : ℕ) (one : List 
   plain-wrong number word q = record { is = λ g. wrong text code values k used i g one j x number word q }
 
   pub plain-right : (bool : ℕ) (next : ℕ) → j ≡ judged.Typed bool next → (scope : Scope) → scope .used ≡ used → Plainly text code values one k used i (Upto next scope)
-  plain-right bool next q scope u = as-scope (Plainly text code values one k used i) next scope u (record { is = λ g. right text code values k used i g one j x bool next q })
+  plain-right bool next q scope u = as-scope (Plainly text code values one k used i) next scope u (record { is = λ g. right text code values k used i g one j x bool next q scope })
 
 -- ---- behind a condition
 module _ (text code values : List ℕ) (k : Setting) (used i t : ℕ) (g : Compacts text code values k used i t) where
@@ -115,7 +117,7 @@ module _ (text code values : List ℕ) (k : Setting) (used i t : ℕ) (g : Compa
   pub compact-stands : simples.Statement text code values k t
   compact-stands = simple-stands text code values b k used t (g .to) (g .here) (g .s) (g .n) (g .is) (g .ends) (omega (arith, g .after))
 
-  pub compact-room : (i * 8 + 8 ≤ length code) × (t < 8192)
+  pub compact-room : (i * 8 + 8 ≤ length code) × (t < wordLimit)
   compact-room = (omega (arith, g .before, bound), omega (arith, bound, g .here .unread .loaded .last))
     where
       bound : (t < g .n) × (g .n ≤ g .to) × (g .to * 8 + 8 ≤ length code)
@@ -133,13 +135,13 @@ module _ (text code values : List ℕ) (k : Setting) (used i t : ℕ) (g : Compa
       f : answered.Fine (simpleFaults (b .known .W) (b .K) (b .known .S) (g .s)) code one t (g .n + 1) next (RawSimple (groundOf b) (b .known .n) (wordsOf one) (b .known .S) (g .s) t (g .n + 1))
       f = typed-fine j found bool next q
 
-      pub compact-next : (next ≤ 8192) × (length one ≡ length code)
+      pub compact-next : (next ≤ wordLimit) × (length one ≡ length code)
       compact-next = (omega (arith, f .next-is, g .after, g .here .unread .loaded .last), found .long)
 
-      compact-yes : (two : List ℕ) → Linked one two i aCompactIf t next → Answer (simpleFaults (b .known .W) (b .K) (b .known .S) (g .s)) code two values values i (g .to) used
-          (RawStatement (groundOf b) (b .known .n) (wordsOf two) (compactIf i (g .e) (g .s)) (b .known .S) used i (g .to)) (upto next used)
+      compact-yes : (two : List ℕ) → Linked one two i aCompactIf t next → (scope : Scope) → Answer (simpleFaults (b .known .W) (b .K) (b .known .S) (g .s)) code two values values i (g .to) used
+          (RawStatement (groundOf b) (b .known .n) (wordsOf two) (compactIf i (g .e) (g .s)) (b .known .S) used i (g .to)) (Upto next (withUsed used scope))
       unfolding RawStatement groundOf offsetIn
-      compact-yes two l =
+      compact-yes two l scope =
           let o = linked-outside l in
           let v = l .value-is in
           let r : RawSimple (groundOf b) (b .known .n) (wordsOf one) (b .known .S) (g .s) t (g .to) = subst (RawSimple (groundOf b) (b .known .n) (wordsOf one) (b .known .S) (g .s) t) (sym (g .after)) (f .written) in
@@ -168,4 +170,4 @@ module _ (text code values : List ℕ) (k : Setting) (used i t : ℕ) (one : Lis
   compact-wrong number word q = record { is = λ g. compact-no text code values k used i t g one j x number word q }
 
   pub compact-right : (bool : ℕ) (next : ℕ) → j ≡ judged.Typed bool next → (two : List ℕ) → Linked one two i aCompactIf t next → (scope : Scope) → scope .used ≡ used → Compacted text code values two k used i t (Upto next scope)
-  compact-right bool next q two l scope u = as-scope (Compacted text code values two k used i t) next scope u (record { is = λ g. compact-yes text code values k used i t g one j x bool next q two l })
+  compact-right bool next q two l scope u = as-scope (Compacted text code values two k used i t) next scope u (record { is = λ g. compact-yes text code values k used i t g one j x bool next q two l scope })

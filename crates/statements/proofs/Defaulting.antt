@@ -1,4 +1,7 @@
 -- DEFAULT with its list, or ENDTEST.
+use Rattle.paper.specs.Words.{wordLimit}
+use Rattle.names.specs.Promises.{storeBytes}
+use Rattle.layout.specs.Parts.{linkPart}
 use mathlib.Core.Path.{_≡_, refl, sym, ap, subst, _∙_}
 use mathlib.Core.List.{List}
 use Prim.Native.Nat.{ℕ, _+_, _-_, _*_, _<_, _≤_}
@@ -20,9 +23,10 @@ use Rattle.links.specs.Raw.{RawWord, at-once, closed, RawDefault, RawList}
 use Rattle.around.specs.declared.Setting.{Setting}
 use Rattle.around.specs.Around.{Around, groundOf}
 use Rattle.names.specs.declared.Scope.{Scope}
+use Rattle.names.specs.Scopes.{withUsed}
 use Rattle.names.specs.declared.Walked.{Walked}
 use Rattle.names.specs.declared.Walked.the-variants.{Upto, Faulty}
-use Rattle.statements.specs.Answers.{upto, Lists, Answer, Listed}
+use Rattle.statements.specs.Answers.{Lists, Answer, Listed}
 use Rattle.statements.specs.Parts.{Defaults, Defaulted}
 use Rattle.statements.proofs.Same.{same-values}
 use Rattle.compounds.proofs.Frames.{outside-wider, same-before, place-same, word-same, linked-outside, linked-word}
@@ -36,10 +40,10 @@ module _ {before after : List ℕ} {i op : ℕ} (place link : ℕ) (r : Rewritte
   pub rewritten-op : op < 256 → opAt (wordsOf after) i ≡ op
   rewritten-op h = ap opIn (rewritten-head r room) ∙ omega arith
 
-  pub rewritten-place : place < 65536 → placeAt (wordsOf after) i ≡ place
+  pub rewritten-place : place < linkPart → placeAt (wordsOf after) i ≡ place
   rewritten-place h = ap placeIn (rewritten-tail r room) ∙ omega arith
 
-  pub rewritten-link : place < 65536 → linkAt (wordsOf after) i ≡ link
+  pub rewritten-link : place < linkPart → linkAt (wordsOf after) i ≡ link
   rewritten-link h = ap linkIn (rewritten-tail r room) ∙ omega arith
 
 module _ (text code values : List ℕ) (k : Setting) (used c : ℕ) (g : Defaults text code values k used c) where
@@ -49,10 +53,10 @@ module _ (text code values : List ℕ) (k : Setting) (used c : ℕ) (g : Default
   order : c ≤ g .z
   order = default-grows (sortIn (a .known .W)) (Parses (sortIn (a .known .W))) (grows (a .known .W)) (g .is)
 
-  last : g .to < 8192
+  last : g .to < wordLimit
   last = g .here .unread .loaded .last
 
-  pub default-room : (c < 8191) × (c * 8 + 8 ≤ length code) × (65536 ≤ length code)
+  pub default-room : (c < 8191) × (c * 8 + 8 ≤ length code) × (storeBytes ≤ length code)
   default-room = (omega (arith, order, last, g .after), omega (arith, order, last, g .after, g .here .calls .room), g .here .calls .room)
 
   abbrev ForDefault : (after values′ : List ℕ) → Walked → Type 0
@@ -64,14 +68,14 @@ module _ (text code values : List ℕ) (k : Setting) (used c : ℕ) (g : Default
     sort-is : sortIn (a .known .W) c ≡ s
     sort-is = sym (es ∙ g .here .unread .loaded .words c (omega arith) (omega (arith, order, g .after)) .sort)
 
-    no : (s ≡ DEFAULT → ⊥) → (one : List ℕ) → Rewritten code one c anOtherwise (tailWith (c + 1) (c + 1)) → ForDefault one values (upto (c + 1) used)
+    no : (s ≡ DEFAULT → ⊥) → (one : List ℕ) → Rewritten code one c anOtherwise (tailWith (c + 1) (c + 1)) → (scope : Scope) → ForDefault one values (Upto (c + 1) (withUsed used scope))
     unfolding listFaults forsInList RawList
-    no f one l =
+    no f one l scope =
         let q = default-none (sortIn (a .known .W)) (Parses (sortIn (a .known .W))) (g .is) (λ e. f (sym sort-is ∙ e)) in
         let z : g .z ≡ c = q .1 in
         let none : forsInList (g .o) ≡ 0 = ap forsInList (q .0) in
         let to-is : c + 1 ≡ g .to = omega (arith, g .after, z) in
-        let small : c + 1 < 65536 = omega (arith, default-room) in
+        let small : c + 1 < linkPart = omega (arith, default-room) in
         done-answer _ _ _ _ _ _ _ _ _ _ _
         (record {
           none = ap (λ (o : Statements). listFaults (a .known .W) (a .K) (a .M) o (a .known .S) used) (q .0);
@@ -113,18 +117,18 @@ module _ (text code values : List ℕ) (k : Setting) (used c : ℕ) (g : Default
         wrong : (number word : ℕ) → r ≡ Faulty number word → ForDefault one values′ r
         wrong number word q = behind-wrong behind one values′ r l _ number word q
 
-        module _ (z n : ℕ) (q : r ≡ upto z n) where
+        module _ (z : ℕ) (n : Scope) (q : r ≡ Upto z n) where
           closes : (c + 2 ≤ z) × (z < 8191) × (z + 1 ≡ g .to) × (length one ≡ length code)
           closes = behind-closes behind one values′ r l z n q
 
-          pub default-closes : (c + 1 < z) × (z < 8191) × (c * 8 + 8 ≤ length one) × (65536 ≤ length one)
+          pub default-closes : (c + 1 < z) × (z < 8191) × (c * 8 + 8 ≤ length one) × (storeBytes ≤ length one)
           default-closes = (omega (arith, closes), closes .1, omega (arith, default-room, closes), omega (arith, default-room, closes))
 
-          yes : (two three : List ℕ) → Rewritten one two c anOtherwise (tailWith (c + 2) z) → Linked two three z aPass 0 (z + 1) → ForDefault three values′ (upto (z + 1) n)
+          yes : (two three : List ℕ) → Rewritten one two c anOtherwise (tailWith (c + 2) z) → Linked two three z aPass 0 (z + 1) → ForDefault three values′ (Upto (z + 1) n)
           yes two three x y =
               let o = rewritten-outside x (default-closes .2) in
               let p = linked-outside y in
-              let small : c + 2 < 65536 = omega (arith, default-room) in
+              let small : c + 2 < linkPart = omega (arith, default-room) in
               let sp = same-before c (c + 1) p (omega (arith, closes)) in
               behind-right behind one values′ r l z n q two three o p (omega arith) _
               (record {
@@ -142,11 +146,11 @@ module _ (text code values : List ℕ) (k : Setting) (used c : ℕ) (g : Default
 module _ (text code values : List ℕ) (k : Setting) (used c s : ℕ) (es : s ≡ opAt (wordsOf code) c) where
   pub default-no : (s ≡ DEFAULT → ⊥) → (one : List ℕ) → Rewritten code one c anOtherwise (tailWith (c + 1) (c + 1)) → (scope : Scope) → scope .used ≡ used
       → Defaulted text code values one values k used c (Upto (c + 1) scope)
-  default-no f one l scope u = as-scope (Defaulted text code values one values k used c) (c + 1) scope u (record { is = λ g. no text code values k used c g s es f one l })
+  default-no f one l scope u = as-scope (Defaulted text code values one values k used c) (c + 1) scope u (record { is = λ g. no text code values k used c g s es f one l scope })
 
   module _ (e : s ≡ DEFAULT) (one values′ : List ℕ) (r : Walked) (l : Listed text code values one values′ k used (c + 2) r) where
     pub default-wrong : (number word : ℕ) → r ≡ Faulty number word → Defaulted text code values one values′ k used c r
     default-wrong number word q = record { is = λ g. wrong text code values k used c g s es e one values′ r l number word q }
 
-    pub default-yes : (z n : ℕ) → r ≡ upto z n → (two three : List ℕ) → Rewritten one two c anOtherwise (tailWith (c + 2) z) → Linked two three z aPass 0 (z + 1) → Defaulted text code values three values′ k used c (upto (z + 1) n)
+    pub default-yes : (z : ℕ) (n : Scope) → r ≡ Upto z n → (two three : List ℕ) → Rewritten one two c anOtherwise (tailWith (c + 2) z) → Linked two three z aPass 0 (z + 1) → Defaulted text code values three values′ k used c (Upto (z + 1) n)
     default-yes z n q two three x y = record { is = λ g. yes text code values k used c g s es e one values′ r l z n q two three x y }

@@ -1,4 +1,6 @@
 -- ELSE with its list, or ENDIF.
+use Rattle.paper.specs.Words.{wordLimit}
+use Rattle.names.specs.Promises.{storeBytes}
 use mathlib.Core.Path.{_≡_, refl, sym, ap, subst, _∙_}
 use mathlib.Core.List.{List}
 use Prim.Native.Nat.{ℕ, _+_, _-_, _<_, _≤_}
@@ -19,9 +21,10 @@ use Rattle.links.specs.Raw.{RawWord, an-else, no-else, RawElse, RawList}
 use Rattle.around.specs.declared.Setting.{Setting}
 use Rattle.around.specs.Around.{Around, groundOf}
 use Rattle.names.specs.declared.Scope.{Scope}
+use Rattle.names.specs.Scopes.{withUsed}
 use Rattle.names.specs.declared.Walked.{Walked}
 use Rattle.names.specs.declared.Walked.the-variants.{Upto, Faulty}
-use Rattle.statements.specs.Answers.{upto, Lists, Answer, Listed}
+use Rattle.statements.specs.Answers.{Lists, Answer, Listed}
 use Rattle.statements.specs.Parts.{Elses, ElseWritten, Elsed}
 use Rattle.statements.proofs.Same.{same-values}
 use Rattle.compounds.proofs.Frames.{outside-wider, same-before, word-same, linked-outside, linked-word}
@@ -36,10 +39,10 @@ module _ (text code values : List ℕ) (k : Setting) (used c : ℕ) (g : Elses t
   order : c ≤ g .z
   order = else-grows (sortIn (a .known .W)) (Parses (sortIn (a .known .W))) (grows (a .known .W)) (g .is)
 
-  last : g .to < 8192
+  last : g .to < wordLimit
   last = g .here .unread .loaded .last
 
-  pub else-room : (c < 8191) × (65536 ≤ length code)
+  pub else-room : (c < 8191) × (storeBytes ≤ length code)
   else-room = (omega (arith, order, last, g .after), g .here .calls .room)
 
   abbrev ForElse : (after values′ : List ℕ) → Walked → Type 0
@@ -52,9 +55,9 @@ module _ (text code values : List ℕ) (k : Setting) (used c : ℕ) (g : Elses t
     sort-is : sortIn (a .known .W) c ≡ s
     sort-is = sym (es ∙ g .here .unread .loaded .words c (omega arith) (omega (arith, order, g .after)) .sort)
 
-    no : (s ≡ ELSE → ⊥) → (one : List ℕ) → Linked code one c aPass 0 (c + 1) → ForElse one values (upto (c + 1) used)
+    no : (s ≡ ELSE → ⊥) → (one : List ℕ) → Linked code one c aPass 0 (c + 1) → (scope : Scope) → ForElse one values (Upto (c + 1) (withUsed used scope))
     unfolding listFaults forsInList RawList
-    no f one l =
+    no f one l scope =
         let q = else-none (sortIn (a .known .W)) (Parses (sortIn (a .known .W))) (g .is) (λ e. f (sym sort-is ∙ e)) in
         let z : g .z ≡ c = q .1 in
         let none : forsInList (g .o) ≡ 0 = ap forsInList (q .0) in
@@ -103,14 +106,14 @@ module _ (text code values : List ℕ) (k : Setting) (used c : ℕ) (g : Elses t
         wrong : (number word : ℕ) → r ≡ Faulty number word → ForElse one values′ r
         wrong number word q = behind-wrong behind one values′ r l _ number word q
 
-        module _ (z n : ℕ) (q : r ≡ upto z n) where
+        module _ (z : ℕ) (n : Scope) (q : r ≡ Upto z n) where
           closes : (c + 1 ≤ z) × (z < 8191) × (z + 1 ≡ g .to) × (length one ≡ length code)
           closes = behind-closes behind one values′ r l z n q
 
           pub else-closes : (c < z) × (z < 8191) × (length one ≡ length code)
           else-closes = (omega (arith, closes), closes .1, closes .3)
 
-          yes : (two three : List ℕ) → Linked one two c aPass 0 z → Linked two three z aPass 0 (z + 1) → ForElse three values′ (upto (z + 1) n)
+          yes : (two three : List ℕ) → Linked one two c aPass 0 z → Linked two three z aPass 0 (z + 1) → ForElse three values′ (Upto (z + 1) n)
           yes two three x y =
               let p = linked-outside y in
               behind-right behind one values′ r l z n q two three (linked-outside x) p (omega arith) _
@@ -131,11 +134,11 @@ module _ (text code values : List ℕ) (k : Setting) (used c : ℕ) (g : Elses t
 -- ---- for whatever it is
 module _ (text code values : List ℕ) (k : Setting) (used c s : ℕ) (es : s ≡ opAt (wordsOf code) c) where
   pub else-no : (s ≡ ELSE → ⊥) → (one : List ℕ) → Linked code one c aPass 0 (c + 1) → (scope : Scope) → scope .used ≡ used → Elsed text code values one values k used c (Upto (c + 1) scope)
-  else-no f one l scope u = as-scope (Elsed text code values one values k used c) (c + 1) scope u (record { is = λ g. no text code values k used c g s es f one l })
+  else-no f one l scope u = as-scope (Elsed text code values one values k used c) (c + 1) scope u (record { is = λ g. no text code values k used c g s es f one l scope })
 
   module _ (e : s ≡ ELSE) (one values′ : List ℕ) (r : Walked) (l : Listed text code values one values′ k used (c + 1) r) where
     pub else-wrong : (number word : ℕ) → r ≡ Faulty number word → Elsed text code values one values′ k used c r
     else-wrong number word q = record { is = λ g. wrong text code values k used c g s es e one values′ r l number word q }
 
-    pub else-yes : (z n : ℕ) → r ≡ upto z n → (two three : List ℕ) → Linked one two c aPass 0 z → Linked two three z aPass 0 (z + 1) → Elsed text code values three values′ k used c (upto (z + 1) n)
+    pub else-yes : (z : ℕ) (n : Scope) → r ≡ Upto z n → (two three : List ℕ) → Linked one two c aPass 0 z → Linked two three z aPass 0 (z + 1) → Elsed text code values three values′ k used c (Upto (z + 1) n)
     else-yes z n q two three x y = record { is = λ g. yes text code values k used c g s es e one values′ r l z n q two three x y }

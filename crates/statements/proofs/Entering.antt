@@ -1,4 +1,6 @@
 -- A FOR's list is entered: its name means the FOR's word, and then again what it meant.
+use Rattle.paper.specs.Declarations.{moduleWordLimit}
+use Rattle.layout.specs.Parts.{linkPart}
 use mathlib.Core.Path.{_≡_, refl, sym, ap, subst, _∙_}
 use mathlib.Core.Bool.{false}
 use mathlib.Core.List.{List, [], _∷_}
@@ -13,10 +15,10 @@ use Rattle.cells.proofs.Kept.{put-length, put-other}
 use Rattle.paper.specs.Sorts.{equalTexts}
 use Rattle.paper.specs.Terms.{Ref, ofModule, ofRoutine}
 use Rattle.paper.specs.Names.{Meaning, loop, theRoutine, Text, spelled, meaning, enter}
-use Rattle.code.specs.Cells.{opIn, headAt, tailAt, linkAt}
+use Rattle.code.specs.Cells.{opIn, headAt, tailAt, linkAt, firstWindow}
 use Rattle.names.specs.Numbers.{numberOf, IsName}
-use Rattle.names.specs.Meanings.{cellWith, meaningWith, meaningIn, isProtected, protectsCell, Hides}
-use Rattle.names.specs.Promises.{numberAt, Declared, Left}
+use Rattle.names.specs.Meanings.{cellWith, meaningWith, meaningIn, isProtected, protectsCell, Hides, firstMeaning}
+use Rattle.names.specs.Promises.{numberAt, Declared, Left, numberLimit, storeBytes}
 use Rattle.names.proofs.Spellings.{same-texts, differing}
 use Rattle.names.proofs.Tables.{meaning-with, declare-means, enter-hides}
 use Rattle.store.proofs.Rewriting.{rewritten-head, rewritten-tail}
@@ -55,7 +57,7 @@ module _ {text values : List ℕ} (a : Around text values) (one two values′ : 
   pub hides : Hides (a .known .S) (enter (spelled (a .known .W) i) (ofRoutine used) (a .known .S)) (spelled (a .known .W) i) (loop (ofRoutine used))
   hides = enter-hides (a .known .S) (spelled (a .known .W) i) (ofRoutine used) free
 
-  low : numberAt (wordsOf one) i < 8192
+  low : numberAt (wordsOf one) i < numberLimit
   low = omega arith
 
   pub longer : length values′ ≡ length values
@@ -80,7 +82,7 @@ module _ {text values : List ℕ} (a : Around text values) (one two values′ : 
       m = a .known .m;
       n = a .known .n;
       most = a .known .most;
-      table = subst (λ (l : ℕ). 65536 ≤ l) (sym longer) (a .known .table);
+      table = subst (λ (l : ℕ). storeBytes ≤ l) (sym longer) (a .known .table);
       means = declare-means (a .known .routine) (a .known .W) (a .known .S) (enter (spelled (a .known .W) i) (ofRoutine used) (a .known .S)) i name one values two values′ m dec number (a .known .table)
           (subst (Hides (a .known .S) (enter (spelled (a .known .W) i) (ofRoutine used) (a .known .S)) (spelled (a .known .W) i)) (sym (loop-means (a .known .routine) m used em)) hides) free (loop-plain m used em) (a .known .means);
       within = λ j q. by-text (Within (a .known .m) (a .known .n)) (spelled (a .known .W) j) (loop-within used (a .known .m) (a .known .n) n) (a .known .within j q);
@@ -96,12 +98,12 @@ module _ {text values : List ℕ} (a : Around text values) (one two values′ : 
   }
 
   -- ---- constants are worth what they were: their words lie before the table
-  data-cell : (x y : ℕ) (r : Ref) → InRoom x y r 1 → x ≤ 1024 → y ≤ 64 → getD (wordsOf values′) (cellOf r) 0 ≡ getD (wordsOf values) (cellOf r) 0
+  data-cell : (x y : ℕ) (r : Ref) → InRoom x y r 1 → x ≤ moduleWordLimit → y ≤ 64 → getD (wordsOf values′) (cellOf r) 0 ≡ getD (wordsOf values) (cellOf r) 0
   unfolding InRoom cellOf
   data-cell x y (ofModule c) h q r = put-other (dec .table) (omega (arith, low, a .known .table)) c (λ e. omega arith)
-  data-cell x y (ofRoutine c) h q r = put-other (dec .table) (omega (arith, low, a .known .table)) (1024 + c) (λ e. omega arith)
+  data-cell x y (ofRoutine c) h q r = put-other (dec .table) (omega (arith, low, a .known .table)) (firstWindow + c) (λ e. omega arith)
 
-  fine-on : (x y : ℕ) (z : Meaning) → x ≤ 1024 → y ≤ 64 → Fine x y (wordsOf values) (a .M) z → Fine x y (wordsOf values′) (a .M) z
+  fine-on : (x y : ℕ) (z : Meaning) → x ≤ moduleWordLimit → y ≤ 64 → Fine x y (wordsOf values) (a .M) z → Fine x y (wordsOf values′) (a .M) z
   unfolding Fine
   fine-on x y z q r =
       holds (heldBy z) (λ w v e. record { room = v e .room; is = ap (toZ w32) (data-cell x y (w .first) (v e .room) q r) ∙ v e .is; ranged = v e .ranged }) (λ k g. g)
@@ -129,21 +131,21 @@ module _ {text values : List ℕ} (a : Around text values) (one two values′ : 
   -- ---- the name is left
   module _ (three values″ values‴ : List ℕ) (head : headAt (wordsOf three) i ≡ headAt (wordsOf two) i) (tail : tailAt (wordsOf three) i ≡ tailAt (wordsOf two) i) (same : SameValues values′ values″) where
     link-is : linkAt (wordsOf three) i ≡ numberAt (wordsOf one) i
-    link-is = ap (λ (v : ℕ). v / 65536) (tail ∙ rewritten-tail (dec .word) room) ∙ part (tailAt (wordsOf one) i) (numberAt (wordsOf one) i)
+    link-is = ap (λ (v : ℕ). v / linkPart) (tail ∙ rewritten-tail (dec .word) room) ∙ part (tailAt (wordsOf one) i) (numberAt (wordsOf one) i)
       where
-        part : (t n : ℕ) → (t % 65536 + 65536 * n) / 65536 ≡ n
+        part : (t n : ℕ) → (t % linkPart + linkPart * n) / linkPart ≡ n
         part t n = omega arith
 
-    pub leaves-links : (linkAt (wordsOf three) i < 8192) × (65536 ≤ length values″)
+    pub leaves-links : (linkAt (wordsOf three) i < numberLimit) × (storeBytes ≤ length values″)
     leaves-links = (omega (arith, link-is), omega (arith, same .long, longer, a .known .table))
 
     pub leaves : Left three values″ i values‴ → SameValues values values‴
     leaves l =
-        let cell : headAt (wordsOf three) i ≡ getD (wordsOf values) (8192 + numberAt (wordsOf one) i) 0 = head ∙ rewritten-head (dec .word) room in
+        let cell : headAt (wordsOf three) i ≡ getD (wordsOf values) (firstMeaning + numberAt (wordsOf one) i) 0 = head ∙ rewritten-head (dec .word) room in
         record {
-          words = l .words ∙ ap (λ (X : List ℕ). set X (8192 + linkAt (wordsOf three) i) (headAt (wordsOf three) i)) (same .words ∙ dec .table .words)
-              ∙ ap (λ (v : ℕ). set (set (wordsOf values) (8192 + numberAt (wordsOf one) i) m) (8192 + v) (headAt (wordsOf three) i)) link-is
-              ∙ ap (set (set (wordsOf values) (8192 + numberAt (wordsOf one) i) m) (8192 + numberAt (wordsOf one) i)) cell
-              ∙ restored (wordsOf values) (8192 + numberAt (wordsOf one) i) m;
+          words = l .words ∙ ap (λ (X : List ℕ). set X (firstMeaning + linkAt (wordsOf three) i) (headAt (wordsOf three) i)) (same .words ∙ dec .table .words)
+              ∙ ap (λ (v : ℕ). set (set (wordsOf values) (firstMeaning + numberAt (wordsOf one) i) m) (firstMeaning + v) (headAt (wordsOf three) i)) link-is
+              ∙ ap (set (set (wordsOf values) (firstMeaning + numberAt (wordsOf one) i) m) (firstMeaning + numberAt (wordsOf one) i)) cell
+              ∙ restored (wordsOf values) (firstMeaning + numberAt (wordsOf one) i) m;
           long = put-length l (omega (arith, link-is, low, same .long, longer, a .known .table)) ∙ same .long ∙ longer;
         }

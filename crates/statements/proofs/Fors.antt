@@ -1,4 +1,6 @@
 -- FOR: its head, its list, and what is written of it.
+use Rattle.paper.specs.Words.{wordLimit}
+use Rattle.layout.specs.Parts.{linkPart}
 use mathlib.Core.Path.{_≡_, refl, sym, ap, subst, _∙_}
 use mathlib.Core.Bool.{Bool, false}
 use mathlib.Core.List.{List, [], _++_}
@@ -17,7 +19,7 @@ use Rattle.paper.specs.Checks.{forsIn, forsInList, optionalNum, statementFaults
 use Rattle.code.specs.Cells.{opIn, valueIn, placeIn, linkIn, headAt, tailAt, placeAt, linkAt}
 use Rattle.names.specs.Numbers.{numberOf}
 use Rattle.names.specs.Meanings.{isProtected}
-use Rattle.names.specs.Promises.{numberAt, Declared, Left}
+use Rattle.names.specs.Promises.{numberAt, Declared, Links, Left, storeBytes, numberLimit}
 use Rattle.names.specs.declared.Scope.{Scope}
 use Rattle.store.proofs.Rewriting.{rewritten-length, rewritten-head, rewritten-tail}
 use Rattle.grammar.specs.Form.{Parses}
@@ -34,13 +36,15 @@ use Rattle.links.proofs.Orders.{bound-order, step-order}
 use Rattle.around.specs.declared.Setting.{Setting}
 use Rattle.around.specs.Around.{Around, groundOf, offsetIn}
 use Rattle.around.specs.Answers as answered
+use Rattle.names.specs.Scopes.{withUsed, EachHasWord, Enters, Leaves, Grown}
+use Rattle.names.proofs.Growing.{loop-has-word, loop-opened, loop-left}
 use Rattle.names.specs.declared.Walked.{Walked}
 use Rattle.names.specs.declared.Walked.the-variants.{Upto, Faulty}
-use Rattle.statements.specs.Answers.{upto, SameValues, Stands, Lists, Done, Answer, StatementAnswer, Listed, Begins, Begun}
+use Rattle.statements.specs.Answers.{SameValues, Stands, Lists, Done, Answer, StatementAnswer, Listed, Begins, Begun}
 use Rattle.compounds.specs.Here.{Outside}
 use Rattle.compounds.specs.Parts.{ForHeads, RawHead, ForMay, ForHeaded, ForEnded}
 use Rattle.compounds.proofs.Frames.{outside-wider, outside-on, kept-outside, same-before, same-behind, same-on, head-before, tail-before, bound-same, list-same, op-same, value-same, place-same, word-same, linked-outside, linked-word}
-use Rattle.statements.proofs.Walking.{upto-done, faulty-first, done-answer, first-answer, faulty-answer}
+use Rattle.statements.proofs.Walking.{as-scope, upto-done, faulty-first, done-answer, first-answer, faulty-answer}
 use Rattle.compounds.proofs.Telling.{typed-fine, faulty-found}
 use Rattle.compounds.proofs.Heads.{head-inside}
 use Rattle.compounds.proofs.Frames.{rewritten-outside}
@@ -70,7 +74,7 @@ module _ (text code values : List ℕ) (k : Setting) (used i : ℕ) (g : Begins 
       steps : w .head .stepAt ≤ w .doAt
       steps = step-grows (sortIn (a .known .W)) (Parses (sortIn (a .known .W))) (grows (a .known .W)) (w .head .stepPart)
 
-  last : (s .to ≡ w .end + 1) × (s .to < 8192)
+  last : (s .to ≡ w .end + 1) × (s .to < wordLimit)
   last = (w .after, s .here .unread .loaded .last)
 
   heads : ForHeads code values used i
@@ -138,12 +142,12 @@ module _ (text code values : List ℕ) (k : Setting) (used i : ℕ) (g : Begins 
       f = typed-fine j ha bool d q
 
       number : numberAt (wordsOf one) (i + 1) ≡ numberOf (a .known .W) (i + 1)
-      number = ap (λ (v : ℕ). v / 256 % 8192) (head-before (kept-outside (f .kept)) (i + 1) (omega arith)) ∙ s .here .unread .loaded .words (i + 1) (omega arith) (omega (arith, orders, last)) .number (w .head .name)
+      number = ap (λ (v : ℕ). v / 256 % numberLimit) (head-before (kept-outside (f .kept)) (i + 1) (omega arith)) ∙ s .here .unread .loaded .words (i + 1) (omega arith) (omega (arith, orders, last)) .number (w .head .name)
 
       room : (i + 1) * 8 + 8 ≤ length one
       room = omega (arith, orders, last, s .here .unread .loaded .room, ha .long)
 
-      pub for-declares : ((i + 1) * 8 + 8 ≤ length one) × (65536 ≤ length values)
+      pub for-declares : ((i + 1) * 8 + 8 ≤ length one) × (storeBytes ≤ length values)
       for-declares = (room, a .known .table)
 
       pub for-spare : (used < 64) × (i < d) × (d < 8191)
@@ -181,9 +185,9 @@ module _ (text code values : List ℕ) (k : Setting) (used i : ℕ) (g : Begins 
           room = omega (arith, counted);
         }
 
-        pub for-lists : (inside : Scope) → inside ≡ record { used = used + 1 } → Lists text two values′ k (inside .used) (d + 1)
+        pub for-lists : (u : ℕ) → u ≡ used + 1 → Lists text two values′ k u (d + 1)
         for-lists inside e =
-            subst (λ (s : Scope). Lists text two values′ k (s .used) (d + 1)) (sym e) (subst (λ (v : ℕ). Lists text two values′ k (used + 1) (v + 1)) (sym (f .next-is)) lists)
+            subst (λ (v : ℕ). Lists text two values′ k v (d + 1)) (sym e) (subst (λ (v : ℕ). Lists text two values′ k (used + 1) (v + 1)) (sym (f .next-is)) lists)
 
         module _ (three values″ : List ℕ) (r : Walked) (l : Listed text two values′ three values″ k (used + 1) (d + 1) r) where
           body : Answer (body-faults (used + 1)) two three values′ values″ (w .doAt + 1) (w .end) (used + 1 + forsInList (w .body))
@@ -197,18 +201,18 @@ module _ (text code values : List ℕ) (k : Setting) (used i : ℕ) (g : Begins 
               subst (ForStatement three values″ r) (sym (w .is))
               (faulty-answer _ _ _ _ _ _ _ _ _ r number word e (first-after (f .none) (subst (λ (v : ℕ). First (record { number = number; at = word }) (body-faults v)) next-is (faulty-first r body number word e))) (body .long ∙ long-two))
 
-          module _ (e n : ℕ) (q2 : r ≡ upto e n) where
-            done : Done (body-faults (used + 1)) two three values′ values″ (w .doAt + 1) (w .end) (used + 1 + forsInList (w .body)) e n
+          module _ (e : ℕ) (n : Scope) (q2 : r ≡ Upto e n) where
+            done : Done (body-faults (used + 1)) two three values′ values″ (w .doAt + 1) (w .end) (used + 1 + forsInList (w .body)) e (n .used)
                 (RawList (groundOf a) (a .known .n) (wordsOf three) (w .body) S′ (used + 1) (w .doAt + 1) (w .end))
             done = upto-done r body e n q2
 
-            pub for-closes : (used < 64) × (i < d) × (d < e) × (e < 8192) × (65536 ≤ length three)
+            pub for-closes : (used < 64) × (i < d) × (d < e) × (e < wordLimit) × (storeBytes ≤ length three)
             for-closes = (f .written .spare, omega (arith, f .next-is, orders), omega (arith, f .next-is, orders, done .next-is), omega (arith, done .next-is, last), omega (arith, body .long, long-two, s .here .calls .room))
 
-            pub for-leaves : ((i + 1) * 8 + 8 ≤ length three) × (65536 ≤ length values″) × (linkAt (wordsOf three) (i + 1) < 8192)
-            for-leaves =
+            pub for-leaves : n .first ≡ i → (n .first * 8 + 16 ≤ length three) × (storeBytes ≤ length values″) × Links three (n .first + 1)
+            for-leaves o =
                 let x = leaves-links a one two values′ used (i + 1) m em (w .head .name) unprotected number room dec three values″ [] (head-before (done .outside) (i + 1) (omega (arith, orders))) (tail-before (done .outside) (i + 1) (omega (arith, orders))) (done .same) in
-                (omega (arith, room, body .long, long-two, ha .long), x .1, x .0)
+                (omega (arith, o, room, body .long, long-two, ha .long), x .1, subst (λ (v : ℕ). Links three (v + 1)) (sym o) (x .0))
 
             module _ (four values‴ : List ℕ) (left : Left three values″ (i + 1) values‴) (x : ForEnded three four used i d e) where
               back : SameValues values values‴
@@ -247,7 +251,7 @@ module _ (text code values : List ℕ) (k : Setting) (used i : ℕ) (g : Begins 
               place-two : placeAt (wordsOf (y .two)) i ≡ offsetIn (a .known .W) i
               unfolding offsetIn
               place-two =
-                  y .head .kept .places i ∙ y .opens .kept .places i ∙ ap (λ (v : ℕ). v % 65536) (tail-before (done .outside) i (omega (arith, orders)) ∙ tail-before named i (omega arith)) ∙ f .kept .places i
+                  y .head .kept .places i ∙ y .opens .kept .places i ∙ ap (λ (v : ℕ). v % linkPart) (tail-before (done .outside) i (omega (arith, orders)) ∙ tail-before named i (omega arith)) ∙ f .kept .places i
                   ∙ s .here .unread .places i (omega arith) (omega (arith, orders, last))
 
               do-same : SameWords (wordsOf (y .one)) (wordsOf four) (w .doAt) (w .doAt + 1)
@@ -256,10 +260,10 @@ module _ (text code values : List ℕ) (k : Setting) (used i : ℕ) (g : Begins 
               test-head : headAt (wordsOf four) (w .end) ≡ aForTest + 256 * (used + 256 * i)
               test-head = rewritten-head (y .test) end-room
 
-              test-tail : tailAt (wordsOf four) (w .end) ≡ placeAt (wordsOf (y .two)) i + 65536 * (w .doAt + 1)
+              test-tail : tailAt (wordsOf four) (w .end) ≡ placeAt (wordsOf (y .two)) i + linkPart * (w .doAt + 1)
               test-tail = rewritten-tail (y .test) end-room
 
-              parts : (v p o : ℕ) → (((aForTest + 256 * v) % 256 ≡ aForTest) × ((aForTest + 256 * v) / 256 ≡ v)) × (((p % 65536 + 65536 * o) % 65536 ≡ p % 65536) × ((p % 65536 + 65536 * o) / 65536 ≡ o))
+              parts : (v p o : ℕ) → (((aForTest + 256 * v) % 256 ≡ aForTest) × ((aForTest + 256 * v) / 256 ≡ v)) × (((p % linkPart + linkPart * o) % linkPart ≡ p % linkPart) × ((p % linkPart + linkPart * o) / linkPart ≡ o))
               parts v p o = ((omega arith, omega arith), (omega arith, omega arith))
 
               raw : RawFor (groundOf a) (a .known .n) (wordsOf four) (a .known .S) used i (w .a) (w .b) (w .c)
@@ -302,10 +306,10 @@ module _ (text code values : List ℕ) (k : Setting) (used i : ℕ) (g : Begins 
                   (outside-wider i (s .to) at-do (omega (arith, orders)) (omega (arith, orders, last)))) (outside-wider i (s .to) at-for (omega arith) (omega (arith, orders, last))))
                   (outside-wider i (s .to) at-end (omega (arith, orders)) (omega (arith, last)))
 
-              finished : StatementAnswer (g .stands) four values‴ (upto (e + 1) n)
+              finished : (outer : Scope) → StatementAnswer (g .stands) four values‴ (Upto (e + 1) (withUsed (n .used) outer))
               unfolding statementFaults forsIn RawStatement groundOf
-              finished =
-                  subst (ForStatement four values‴ (upto (e + 1) n)) (sym (w .is))
+              finished outer =
+                  subst (ForStatement four values‴ (Upto (e + 1) (withUsed (n .used) outer))) (sym (w .is))
                   (done-answer _ _ _ _ _ _ _ _ _ _ _
                   (record {
                     none = nothing-in-both (f .none) (subst (λ (v : ℕ). body-faults v ≡ []) next-is (done .none));
@@ -318,10 +322,33 @@ module _ (text code values : List ℕ) (k : Setting) (used i : ℕ) (g : Begins 
                   })
                   for-long)
 
+-- ---- the scope of the body
+module _ {outer inner : Scope} {code values code′ values′ : List ℕ} {i : ℕ} (e : Enters outer code values i code′ values′ inner) where
+  pub entered-used : inner .used ≡ outer .used + 1
+  entered-used = ap (λ (s : Scope). s .used) (e .scope-is)
+
+  pub entered-word : EachHasWord outer → EachHasWord inner
+  entered-word h = loop-has-word outer i inner (e .scope-is) h
+
+  module _ {back : Scope} (g : Grown inner back) where
+    -- what comes back of it has opened the name behind FOR, and restores it
+    pub entered-opened : back .first ≡ i
+    entered-opened = loop-opened outer i inner (e .scope-is) back g
+
+    module _ {three values″ values‴ : List ℕ} {left : Scope} (l : Leaves back outer three values″ values‴ left) where
+      pub entered-left : Left three values″ (i + 1) values‴
+      entered-left = subst (λ (k : ℕ). Left three values″ (k + 1) values‴) entered-opened (l .known)
+
+      pub left-used : left .used ≡ back .used
+      left-used = ap (λ (s : Scope). s .used) (l .scope-is)
+
+      pub entered-grown : Grown outer left
+      entered-grown = loop-left outer i inner (e .scope-is) back left g (l .scope-is)
+
 -- the list is answered in the scope that was entered
-pub for-listed : {text code values after values′ : List ℕ} {k : Setting} {n at : ℕ} {r : Walked} {inside : Scope} → inside ≡ record { used = n } → Listed text code values after values′ k (inside .used) at r
+pub for-listed : {text code values after values′ : List ℕ} {k : Setting} {n at : ℕ} {r : Walked} {u : ℕ} → u ≡ n → Listed text code values after values′ k u at r
     → Listed text code values after values′ k n at r
-for-listed {text} {code} {values} {after} {values′} {k} {n} {at} {r} e l = subst (λ (s : Scope). Listed text code values after values′ k (s .used) at r) e l
+for-listed {text} {code} {values} {after} {values′} {k} {n} {at} {r} e l = subst (λ (v : ℕ). Listed text code values after values′ k v at r) e l
 
 -- ---- for whatever the statement is
 module _ (text code values : List ℕ) (k : Setting) (used i : ℕ) (one : List ℕ) (j : Judged) (h : ForHeaded code values one used i j) where
@@ -329,16 +356,15 @@ module _ (text code values : List ℕ) (k : Setting) (used i : ℕ) (one : List 
   for-wrong number word q = record { is = λ g. wrong text code values k used i g one j h number word q }
 
   module _ (bool : ℕ) (d : ℕ) (q : j ≡ judged.Typed bool d) (m : ℕ) (em : m ≡ cellWith aLoop 0 1 used) (two values′ : List ℕ) (dec : Declared one values (i + 1) m two values′)
-      (inside : Scope) (ei : inside ≡ record { used = used + 1 }) (three values″ : List ℕ) (r : Walked) (listed : Listed text two values′ three values″ k (inside .used) (d + 1) r) where
+      (u : ℕ) (ei : u ≡ used + 1) (three values″ : List ℕ) (r : Walked) (listed : Listed text two values′ three values″ k u (d + 1) r) where
     l : Listed text two values′ three values″ k (used + 1) (d + 1) r
     l = for-listed ei listed
 
     pub for-list-wrong : (number word : ℕ) → r ≡ Faulty number word → Begun FOR text code values three values″ k used i r
     for-list-wrong number word e = record { is = λ g. list-wrong text code values k used i g one j h bool d q m em two values′ dec three values″ r l number word e }
 
-    pub for-finished : (e n : ℕ) → r ≡ upto e n → (four values‴ : List ℕ) → Left three values″ (i + 1) values‴ → (outside : Scope) → outside ≡ record { used = n } → ForEnded three four used i d e
-        → Begun FOR text code values four values‴ k used i (Upto (e + 1) outside)
-    for-finished e n q2 four values‴ left outside eo x = record {
-      is = λ g. subst (λ (s : Scope). StatementAnswer (g .stands) four values‴ (Upto (e + 1) s)) (sym eo)
-          (finished text code values k used i g one j h bool d q m em two values′ dec three values″ r l e n q2 four values‴ left x);
-    }
+    pub for-finished : (e : ℕ) (n : Scope) → r ≡ Upto e n → (four values‴ : List ℕ) → Left three values″ (i + 1) values‴ → (back : Scope) → back .used ≡ n .used → ForEnded three four used i d e
+        → Begun FOR text code values four values‴ k used i (Upto (e + 1) back)
+    for-finished e n q2 four values‴ left back eo x =
+        as-scope (Begun FOR text code values four values‴ k used i) (e + 1) back eo
+        (record { is = λ g. finished text code values k used i g one j h bool d q m em two values′ dec three values″ r l e n q2 four values‴ left x back })

@@ -1,4 +1,5 @@
 -- IF: its condition, and then a simple statement or arms.
+use Rattle.paper.specs.Words.{wordLimit}
 use mathlib.Core.Path.{_≡_, refl, sym, ap, subst, _∙_}
 use mathlib.Core.Bool.{Bool, true, false}
 use mathlib.Core.List.{List, [], _++_}
@@ -155,7 +156,7 @@ module _ (text code values : List ℕ) (k : Setting) (used i : ℕ) (g : Begins 
       pub if-forward : i < t
       if-forward = omega (arith, at-is, begins)
 
-      pub if-room : (t < 8192) × (t * 8 + 8 ≤ length one)
+      pub if-room : (t < wordLimit) × (t * 8 + 8 ≤ length one)
       if-room = (omega (arith, at-is, bounded, s .here .unread .loaded .last), omega (arith, at-is, bounded, next-here .unread .loaded .room))
 
       module _ (v : ℕ) (ev : v ≡ opAt (wordsOf one) t) where

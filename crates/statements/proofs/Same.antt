@@ -1,4 +1,5 @@
 -- What is known with a value store is known with another that has the same cells.
+use Rattle.names.specs.Promises.{storeBytes}
 use mathlib.Core.Path.{refl, sym, subst, _∙_}
 use mathlib.Core.Bool.{Bool}
 use mathlib.Core.List.{List}
@@ -35,7 +36,7 @@ module _ {values values′ : List ℕ} (s : SameValues values values′) where
     m = k .m;
     n = k .n;
     most = k .most;
-    table = subst (λ (l : ℕ). 65536 ≤ l) (sym (s .long)) (k .table);
+    table = subst (λ (l : ℕ). storeBytes ≤ l) (sym (s .long)) (k .table);
     means = subst (Means (k .routine) (k .W) (k .S)) (sym (s .words)) (k .means);
     within = k .within;
     small = k .small;

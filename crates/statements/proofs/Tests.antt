@@ -1,4 +1,6 @@
 -- TEST: its selector, and then its cases.
+use Rattle.paper.specs.Words.{wordLimit}
+use Rattle.layout.specs.Parts.{linkPart}
 use mathlib.Core.Path.{_≡_, refl, sym, ap, subst, _∙_}
 use mathlib.Core.Bool.{Bool, false}
 use mathlib.Core.List.{List, [], _++_}
@@ -30,9 +32,10 @@ use Rattle.links.proofs.Framing.{cases-frame}
 use Rattle.links.proofs.Orders.{ends-order, list-order, cases-order}
 use Rattle.around.specs.declared.Setting.{Setting}
 use Rattle.around.specs.Around.{Around, groundOf, offsetIn}
+use Rattle.names.specs.declared.Scope.{Scope}
 use Rattle.names.specs.declared.Walked.{Walked}
-use Rattle.names.specs.declared.Walked.the-variants.{Faulty}
-use Rattle.statements.specs.Answers.{upto, Stands, Done, Answer, StatementAnswer, Begins, Begun}
+use Rattle.names.specs.declared.Walked.the-variants.{Upto, Faulty}
+use Rattle.statements.specs.Answers.{Stands, Done, Answer, StatementAnswer, Begins, Begun}
 use Rattle.compounds.specs.Here.{Outside}
 use Rattle.statements.specs.Parts.{Chooses, CasesWritten, Chosen}
 use Rattle.compounds.proofs.Frames.{outside-wider, outside-on, kept-outside, same-before, same-behind, same-on, here-on, term-same, list-same, place-same, word-same, linked-outside, linked-word}
@@ -56,7 +59,7 @@ module _ (text code values : List ℕ) (k : Setting) (used i : ℕ) (g : Begins 
   orders : (i + 1 < w .n) × (w .n ≤ w .m) × (w .m ≤ w .end)
   orders = (grows (a .known .W) _ _ _ _ (w .selector), cases-grow (sortIn (a .known .W)) (Parses (sortIn (a .known .W))) (grows (a .known .W)) (w .cases), default-grows (sortIn (a .known .W)) (Parses (sortIn (a .known .W))) (grows (a .known .W)) (w .otherwise))
 
-  last : (s .to ≡ w .end + 1) × (s .to < 8192)
+  last : (s .to ≡ w .end + 1) × (s .to < wordLimit)
   last = (w .after, s .here .unread .loaded .last)
 
   -- CASE, DEFAULT or ENDTEST follows
@@ -123,7 +126,7 @@ module _ (text code values : List ℕ) (k : Setting) (used i : ℕ) (g : Begins 
       pub test-chooses : Chooses text one values k used t
       test-chooses = subst (λ (x : ℕ). Chooses text one values k used x) (sym at-is) chooses
 
-      pub test-forward : (i < t) × (t < 8192)
+      pub test-forward : (i < t) × (t < wordLimit)
       test-forward = (omega (arith, at-is, orders), omega (arith, at-is, orders, last))
 
       module _ (two values′ : List ℕ) (r : Walked) (x : Chosen text one values two values′ k used t r) where
@@ -145,15 +148,15 @@ module _ (text code values : List ℕ) (k : Setting) (used i : ℕ) (g : Begins 
             subst (ForStatement two values′ r) (sym (w .is))
             (faulty-answer _ _ _ _ _ _ _ _ _ r number word e (subst (First (record { number = number; at = word })) (sym together) (faulty-first r inner number word e)) (inner .long ∙ kept .long))
 
-        module _ (z n : ℕ) (q2 : r ≡ upto z n) where
+        module _ (z : ℕ) (n : Scope) (q2 : r ≡ Upto z n) where
           done : Done (casesFaults (a .known .W) (a .K) (a .M) (w .c) (a .known .S) used ++ listFaults (a .known .W) (a .K) (a .M) (w .default) (a .known .S) (used + forsInCases (w .c)))
-              one two values values′ (w .n) (s .to) (used + (forsInCases (w .c) + forsInList (w .default))) z n
+              one two values values′ (w .n) (s .to) (used + (forsInCases (w .c) + forsInList (w .default))) z (n .used)
               (CasesWritten
               (λ (last : ℕ). RawCases (groundOf a) (a .known .n) (wordsOf two) (w .c) (a .known .S) used (w .n) last)
               (λ (last : ℕ). RawDefault (groundOf a) (a .known .n) (wordsOf two) (λ (x2 y2 : ℕ). RawList (groundOf a) (a .known .n) (wordsOf two) (w .default) (a .known .S) (used + forsInCases (w .c)) x2 y2) last (s .to)))
           done = upto-done r inner z n q2
 
-          pub test-room : (i * 8 + 8 ≤ length two) × (z < 65536)
+          pub test-room : (i * 8 + 8 ≤ length two) × (z < linkPart)
           test-room = (omega (arith, inner .long, kept .long, orders, last, s .here .unread .loaded .room), omega (arith, done .next-is, last))
 
           -- what a run reads stays: the TEST's own word alone is written
@@ -176,7 +179,7 @@ module _ (text code values : List ℕ) (k : Setting) (used i : ℕ) (g : Begins 
                 record {
                   head = record {
                     first = refl;
-                    place = l .kept .places i ∙ ap (λ (x3 : ℕ). x3 % 65536) (tail-before (done .outside) i (omega (arith, orders))) ∙ kept .places i ∙ s .here .unread .places i (omega arith) (omega (arith, orders, last));
+                    place = l .kept .places i ∙ ap (λ (x3 : ℕ). x3 % linkPart) (tail-before (done .outside) i (omega (arith, orders))) ∙ kept .places i ∙ s .here .unread .places i (omega arith) (omega (arith, orders, last));
                     word = subst (RawWord (wordsOf three) aTest i) (done .next-is) (linked-word l);
                   };
                   term = subst (RawTerm (groundOf a) (a .known .n) (wordsOf three) (a .known .S) (w .e) (i + 1)) (sym v)
@@ -201,10 +204,10 @@ module _ (text code values : List ℕ) (k : Setting) (used i : ℕ) (g : Begins 
                 ends-same (at-once e) s3 = at-once e
                 ends-same {z3} (closed w3 e) s3 = closed (word-same s3 z3 (omega arith) (omega arith) _ (s .to) w3) e
 
-            finished : StatementAnswer (g .stands) three values′ (upto z n)
+            finished : StatementAnswer (g .stands) three values′ (Upto z n)
             unfolding statementFaults forsIn RawStatement
             finished =
-                subst (ForStatement three values′ (upto z n)) (sym (w .is))
+                subst (ForStatement three values′ (Upto z n)) (sym (w .is))
                 (done-answer _ _ _ _ _ _ _ _ _ _ _
                 (record {
                   none = together ∙ done .none;
@@ -227,5 +230,5 @@ module _ (text code values : List ℕ) (k : Setting) (used i : ℕ) (one : List 
     pub test-cases-wrong : (number word : ℕ) → r ≡ Faulty number word → Begun TEST text code values two values′ k used i r
     test-cases-wrong number word e = record { is = λ g. cases-wrong text code values k used i g one j c bool t q two values′ r x number word e }
 
-    pub test-finished : (z n : ℕ) → r ≡ upto z n → (three : List ℕ) → Linked two three i aTest t z → Begun TEST text code values three values′ k used i (upto z n)
+    pub test-finished : (z : ℕ) (n : Scope) → r ≡ Upto z n → (three : List ℕ) → Linked two three i aTest t z → Begun TEST text code values three values′ k used i (Upto z n)
     test-finished z n q2 three l = record { is = λ g. finished text code values k used i g one j c bool t q two values′ r x z n q2 three l }

@@ -1,4 +1,5 @@
 -- A list is walked statement by statement: what is left of it, and what has been written so far.
+use Rattle.paper.specs.Words.{wordLimit}
 use mathlib.Core.Path.{_≡_, refl, sym, ap, subst, _∙_}
 use mathlib.Core.Bool.{Bool, true, false}
 use mathlib.Core.List.{List, _++_}
@@ -24,20 +25,25 @@ use Rattle.links.proofs.Framing.{statement-frame}
 use Rattle.around.specs.declared.Setting.{Setting}
 use Rattle.around.specs.Around.{groundOf}
 use Rattle.names.specs.declared.Scope.{Scope}
+use Rattle.names.specs.Scopes.{withUsed, Stays}
 use Rattle.names.specs.declared.Walked.{Walked}
 use Rattle.names.specs.declared.Walked.the-variants.{Upto, Faulty}
-use Rattle.statements.specs.Answers.{upto, SameValues, Stands, Lists, Done, Tell, Answer, StatementAnswer, Stated, Listed}
+use Rattle.statements.specs.Answers.{SameValues, Stands, Lists, Done, Tell, Answer, StatementAnswer, Stated, Listed}
 use Rattle.compounds.specs.Here.{Outside, Here}
 use Rattle.statements.proofs.Same.{same-values, stands-as, answer-as}
 use Rattle.compounds.proofs.Frames.{outside-same, outside-wider, outside-on, same-before, here-on, here-part}
 
--- an answer with so many words taken is the answer with the scope that has taken them
-pub as-scope : (P : Walked → Type 0) (x : ℕ) {used : ℕ} (scope : Scope) → scope .used ≡ used → P (upto x used) → P (Upto x scope)
-as-scope P x scope e p = subst (λ (n : ℕ). P (upto x n)) (sym e) p
+-- an answer with so many words used is the answer with the scope that has used them
+pub as-scope : (P : Walked → Type 0) (x : ℕ) {used : ℕ} (scope : Scope) → scope .used ≡ used → P (Upto x (withUsed used scope)) → P (Upto x scope)
+as-scope P x scope e p = subst (λ (n : ℕ). P (Upto x (withUsed n scope))) (sym e) p
+
+-- a walk that breaks off hands no scope back
+pub stays-wrong : (s : Scope) (w : Walked) (number word : ℕ) → w ≡ Faulty number word → Stays s w
+stays-wrong s w number word e = subst (Stays s) (sym e) tt
 
 -- ---- answers
 module _ {fs : List Fault} {before after values values′ : List ℕ} {at to count : ℕ} {holds : Type 0} (r : Walked) (a : Answer fs before after values values′ at to count holds r) where
-  pub upto-done : (next u : ℕ) → r ≡ upto next u → Done fs before after values values′ at to count next u holds
+  pub upto-done : (next : ℕ) (u : Scope) → r ≡ Upto next u → Done fs before after values values′ at to count next (u .used) holds
   unfolding Tell
   upto-done next u e = subst (Tell fs before after values values′ at to count holds) e (a .tells)
 
@@ -45,8 +51,8 @@ module _ {fs : List Fault} {before after values values′ : List ℕ} {at to cou
   unfolding Tell
   faulty-first number word e = subst (Tell fs before after values values′ at to count holds) e (a .tells)
 
-pub done-answer : (fs : List Fault) (before after values values′ : List ℕ) (at to count next u : ℕ) (holds : Type 0) → Done fs before after values values′ at to count next u holds → length after ≡ length before
-    → Answer fs before after values values′ at to count holds (upto next u)
+pub done-answer : (fs : List Fault) (before after values values′ : List ℕ) (at to count next : ℕ) (u : Scope) (holds : Type 0) → Done fs before after values values′ at to count next (u .used) holds → length after ≡ length before
+    → Answer fs before after values values′ at to count holds (Upto next u)
 unfolding Tell
 done-answer fs before after values values′ at to count next u holds d long = record { tells = d; long = long }
 
@@ -120,7 +126,7 @@ module _ (text code values : List ℕ) (k : Setting) (used at : ℕ) (now values
   pub list-values : Lists text code values k used at → length values′ ≡ length values
   list-values g = inv .is g .same .long
 
-  pub list-forward : Lists text code values k used at → (at ≤ i) × (i < 8192)
+  pub list-forward : Lists text code values k used at → (at ≤ i) × (i < wordLimit)
   list-forward g =
       let x = inv .is g in
       (x .order, omega (arith, x .inside, x .here .unread .loaded .last))
@@ -137,10 +143,10 @@ module _ (text code values : List ℕ) (k : Setting) (used at : ℕ) (now values
         ap startsStatement (sym (es ∙ x .here .unread .loaded .words i (omega arith) (x .inside) .sort)) ∙ sym eb
 
     -- ---- the list has ended
-    ends-here : (g : Lists text code values k used at) → b ≡ false → Answer (listFaults (g .around .known .W) (g .around .K) (g .around .M) (g .l) (g .around .known .S) used) code now values values′ at (g .to) (used + forsInList (g .l))
-        (RawList (groundOf (g .around)) (g .around .known .n) (wordsOf now) (g .l) (g .around .known .S) used at (g .to)) (upto i n)
+    ends-here : (g : Lists text code values k used at) → b ≡ false → (scope : Scope) → Answer (listFaults (g .around .known .W) (g .around .K) (g .around .M) (g .l) (g .around .known .S) used) code now values values′ at (g .to) (used + forsInList (g .l))
+        (RawList (groundOf (g .around)) (g .around .known .n) (wordsOf now) (g .l) (g .around .known .S) used at (g .to)) (Upto i (withUsed n scope))
     unfolding listFaults forsInList RawList
-    ends-here g f =
+    ends-here g f scope =
         let x = inv .is g in
         let e = list-none (sortIn (g .around .known .W)) (Parses (sortIn (g .around .known .W))) (x .is) (starts-is g ∙ f) in
         let none : forsInList (x .l) ≡ 0 = ap forsInList (e .0) in
@@ -158,7 +164,7 @@ module _ (text code values : List ℕ) (k : Setting) (used at : ℕ) (now values
         (x .long)
 
     pub list-ends : b ≡ false → (scope : Scope) → scope .used ≡ n → Listed text code values now values′ k used at (Upto i scope)
-    list-ends f scope u = as-scope (Listed text code values now values′ k used at) i scope u (record { is = λ g. ends-here g f })
+    list-ends f scope u = as-scope (Listed text code values now values′ k used at) i scope u (record { is = λ g. ends-here g f scope })
 
     -- ---- a statement follows
     module _ (t : b ≡ true) (g : Lists text code values k used at) where
@@ -220,12 +226,12 @@ module _ (text code values : List ℕ) (k : Setting) (used at : ℕ) (now values
             (list-inside (g .around .known .W) (g .around .K) (g .around .M) (f .more) (g .around .known .S) (n + forsIn (f .s))) (omega arith)))
             (answer .long ∙ x .long)
 
-        module _ (m u : ℕ) (e : r ≡ upto m u) where
-          done : Done first-faults now after values values″ i (f .n) (n + forsIn (f .s)) m u (RawStatement (groundOf (g .around)) (g .around .known .n) (wordsOf after) (f .s) (g .around .known .S) n i (f .n))
+        module _ (m : ℕ) (u : Scope) (e : r ≡ Upto m u) where
+          done : Done first-faults now after values values″ i (f .n) (n + forsIn (f .s)) m (u .used) (RawStatement (groundOf (g .around)) (g .around .known .n) (wordsOf after) (f .s) (g .around .known .S) n i (f .n))
           unfolding one first-faults
           done = upto-done r answer m u e
 
-          less : 8192 - m < 8192 - i
+          less : wordLimit - m < wordLimit - i
           less = omega (arith, done .next-is, forward, behind, x .here .unread .loaded .last)
 
           goes : Going g after values″ (f .n) (n + forsIn (f .s))
@@ -252,15 +258,15 @@ module _ (text code values : List ℕ) (k : Setting) (used at : ℕ) (now values
                 }));
           }
 
-          goes-on : Going g after values″ m u
+          goes-on : Going g after values″ m (u .used)
           goes-on = subst (λ (v : ℕ). Going g after values″ m v) (sym (done .used-is)) (subst (λ (v : ℕ). Going g after values″ v (n + forsIn (f .s))) (sym (done .next-is)) goes)
 
     module _ (t : b ≡ true) (after values″ : List ℕ) (r : Walked) (st : Stated text now values′ after values″ k n i r) where
       pub list-faulty : (number word : ℕ) → r ≡ Faulty number word → Listed text code values after values″ k used at r
       list-faulty number word e = record { is = λ g. faulty-is t g after values″ r st number word e }
 
-      pub list-less : Lists text code values k used at → (m : ℕ) (scope : Scope) → r ≡ Upto m scope → 8192 - m < 8192 - i
-      list-less g m scope e = less t g after values″ r st m (scope .used) e
+      pub list-less : Lists text code values k used at → (m : ℕ) (scope : Scope) → r ≡ Upto m scope → wordLimit - m < wordLimit - i
+      list-less g m scope e = less t g after values″ r st m scope e
 
-      pub list-goes : (m u : ℕ) → r ≡ upto m u → Goings text code values k used at after values″ m u
+      pub list-goes : (m : ℕ) (u : Scope) → r ≡ Upto m u → Goings text code values k used at after values″ m (u .used)
       list-goes m u e = record { is = λ g. goes-on t g after values″ r st m u e }

@@ -1,4 +1,7 @@
 -- WHILE: its condition, its list, and what is written of it.
+use Rattle.paper.specs.Words.{wordLimit}
+use Rattle.names.specs.Promises.{storeBytes}
+use Rattle.layout.specs.Parts.{linkPart}
 use mathlib.Core.Path.{_≡_, refl, sym, ap, subst, _∙_}
 use mathlib.Core.Bool.{Bool, true, false}
 use mathlib.Core.List.{List, []}
@@ -31,7 +34,7 @@ use Rattle.around.specs.Around.{Around, groundOf, offsetIn}
 use Rattle.names.specs.declared.Scope.{Scope}
 use Rattle.names.specs.declared.Walked.{Walked}
 use Rattle.names.specs.declared.Walked.the-variants.{Upto, Faulty}
-use Rattle.statements.specs.Answers.{upto, Stands, Lists, Done, Answer, StatementAnswer, Listed, Begins, Begun}
+use Rattle.statements.specs.Answers.{Stands, Lists, Done, Answer, StatementAnswer, Listed, Begins, Begun}
 use Rattle.compounds.specs.Here.{Outside}
 use Rattle.compounds.specs.Parts.{WhileEnded}
 use Rattle.compounds.proofs.Frames.{outside-wider, outside-on, kept-outside, same-before, same-behind, same-on, tail-before, here-on, term-same, list-same, op-same, value-same, word-same, linked-outside, linked-word}
@@ -61,7 +64,7 @@ module _ (text code values : List ℕ) (k : Setting) (used i : ℕ) (g : Begins 
   unfolding levelOf
   no-operator = ap levelOf (w .doWord)
 
-  last : s .to < 8192
+  last : s .to < wordLimit
   last = s .here .unread .loaded .last
 
   pub while-condition : expressions.Stands code values 5 (i + 1)
@@ -101,7 +104,7 @@ module _ (text code values : List ℕ) (k : Setting) (used i : ℕ) (g : Begins 
       kept : Kept code one (i + 1) (w .doAt)
       kept = judged-kept text code values a k used i (s .to) (s .here) (w .e) (i + 1) (w .doAt) (w .condition) no-operator (omega arith) (omega (arith, listed, w .after)) one boolType aBool bool-in j c bool d q
 
-      pub while-forward : (i < d) × (d < 8192)
+      pub while-forward : (i < d) × (d < wordLimit)
       while-forward = (omega (arith, do-at, begins), omega (arith, do-at, listed, w .after, last))
 
       lists : Lists text one values k used (w .doAt + 1)
@@ -132,12 +135,12 @@ module _ (text code values : List ℕ) (k : Setting) (used i : ℕ) (g : Begins 
             subst (ForStatement two values′ r) (sym (w .is))
             (faulty-answer _ _ _ _ _ _ _ _ _ r number word e (first-after fine (faulty-first r body number word e)) (body .long ∙ kept .long))
 
-        module _ (e n : ℕ) (q2 : r ≡ upto e n) where
-          done : Done (listFaults (a .known .W) (a .K) (a .M) (w .body) (a .known .S) used) one two values values′ (w .doAt + 1) (w .end) (used + forsInList (w .body)) e n
+        module _ (e : ℕ) (n : Scope) (q2 : r ≡ Upto e n) where
+          done : Done (listFaults (a .known .W) (a .K) (a .M) (w .body) (a .known .S) used) one two values values′ (w .doAt + 1) (w .end) (used + forsInList (w .body)) e (n .used)
               (RawList (groundOf a) (a .known .n) (wordsOf two) (w .body) (a .known .S) used (w .doAt + 1) (w .end))
           done = upto-done r body e n q2
 
-          pub while-closes : (i < d) × (d < e) × (e < 8192) × (65536 ≤ length two)
+          pub while-closes : (i < d) × (d < e) × (e < wordLimit) × (storeBytes ≤ length two)
           while-closes = (omega (arith, do-at, begins), omega (arith, do-at, listed, done .next-is), omega (arith, done .next-is, w .after, last), omega (arith, body .long, kept .long, s .here .calls .room))
 
           module _ (three : List ℕ) (x : WhileEnded two three i d e) where
@@ -159,7 +162,7 @@ module _ (text code values : List ℕ) (k : Setting) (used i : ℕ) (g : Begins 
             place : placeAt (wordsOf three) i ≡ offsetIn (a .known .W) i
             unfolding offsetIn
             place =
-                y .head .kept .places i ∙ y .again .kept .places i ∙ y .opens .kept .places i ∙ ap (λ (t : ℕ). t % 65536) (tail-before (done .outside) i (omega (arith, begins))) ∙ kept .places i
+                y .head .kept .places i ∙ y .again .kept .places i ∙ y .opens .kept .places i ∙ ap (λ (t : ℕ). t % linkPart) (tail-before (done .outside) i (omega (arith, begins))) ∙ kept .places i
                 ∙ s .here .unread .places i (omega arith) (omega (arith, begins, listed, w .after))
 
             raw : RawWhile (groundOf a) (a .known .n) (wordsOf three) (a .known .S) i (w .e)
@@ -193,10 +196,10 @@ module _ (text code values : List ℕ) (k : Setting) (used i : ℕ) (g : Begins 
                 (outside-wider i (s .to) from-mid (omega (arith, begins, listed)) (omega (arith, w .after))))
                 (outside-wider i (s .to) from-last (omega arith) (omega (arith, begins, listed, w .after)))
 
-            finished : StatementAnswer (g .stands) three values′ (upto (e + 1) n)
+            finished : StatementAnswer (g .stands) three values′ (Upto (e + 1) n)
             unfolding statementFaults forsIn RawStatement
             finished =
-                subst (ForStatement three values′ (upto (e + 1) n)) (sym (w .is))
+                subst (ForStatement three values′ (Upto (e + 1) n)) (sym (w .is))
                 (done-answer _ _ _ _ _ _ _ _ _ _ _
                 (record {
                   none = nothing-in-both fine (done .none);
@@ -219,4 +222,4 @@ module _ (text code values : List ℕ) (k : Setting) (used i : ℕ) (one : List 
     while-list-wrong number word e = record { is = λ g. list-wrong text code values k used i g one j c bool d q two values′ r l number word e }
 
     pub while-finished : (e : ℕ) (scope : Scope) → r ≡ Upto e scope → (three : List ℕ) → WhileEnded two three i d e → Begun WHILE text code values three values′ k used i (Upto (e + 1) scope)
-    while-finished e scope q2 three x = record { is = λ g. finished text code values k used i g one j c bool d q two values′ r l e (scope .used) q2 three x }
+    while-finished e scope q2 three x = record { is = λ g. finished text code values k used i g one j c bool d q two values′ r l e scope q2 three x }

@@ -56,10 +56,6 @@ pub record Done (fs : List Fault) (before after values values′ : List ℕ) (at
   pub outside : Outside (wordsOf before) (wordsOf after) at to
   pub same : SameValues values values′
 
--- so many words are taken up to a word
-abbrev pub upto : (next taken : ℕ) → Walked
-upto next taken = Upto next (record { used = taken })
-
 unfoldable pub Tell : (fs : List Fault) (before after values values′ : List ℕ) (at to count : ℕ) (holds : Type 0) → Walked → Type 0
 Tell fs before after values values′ at to count holds (Upto next scope) = Done fs before after values values′ at to count next (scope .used) holds
 Tell fs before after values values′ at to count holds (Faulty number word) = First (record { number = number; at = word }) fs

@@ -14,6 +14,7 @@ ghost use mathlib.Core.Path.{_≡_};
 ghost use Prim.Native.Nat.{_+_};
 ghost use Rattle.paper.specs.Sorts.{IF, FOR, WHILE, TEST};
 ghost use Rattle.paper.specs.Expressions.{startsStatement};
+ghost use Rattle.names.specs.Scopes.{EachHasWord, Stays};
 ghost use Rattle.statements.specs.Answers.{Stands, Stated, Lists, Listed, Begins, Begun};
 ghost use Rattle.statements.specs.Parts.{Plain, Plainly, Compacts, Compacted, Thens, Thened, Elses, Elsed, Defaults, Defaulted, Chooses, Chosen};
 
@@ -27,8 +28,8 @@ fn while_statement(
     scope: Scope,
     i: usize,
 ) -> Walked
-    requires { ⌜ Begins WHILE (now text) (now code) (now values) k (scope .used) i ⌝ }
-    ensures { λ r. ⌜ Begun WHILE (now (text .entry)) (now (code .entry)) (now (values .entry)) (now (code .exit)) (now (values .exit)) k (scope .used) i r ⌝ }
+    requires { ⌜ Begins WHILE (now text) (now code) (now values) k (scope .used) i × EachHasWord scope ⌝ }
+    ensures { λ r. ⌜ Begun WHILE (now (text .entry)) (now (code .entry)) (now (values .entry)) (now (code .exit)) (now (values .exit)) k (scope .used) i r × Stays scope r ⌝ }
 {
     let j = expressions::of_type(code, values, false, types::BOOL, i + 1);
     match j {
@@ -54,20 +55,20 @@ fn for_statement(
     scope: Scope,
     i: usize,
 ) -> Walked
-    requires { ⌜ Begins FOR (now text) (now code) (now values) k (scope .used) i ⌝ }
-    ensures { λ r. ⌜ Begun FOR (now (text .entry)) (now (code .entry)) (now (values .entry)) (now (code .exit)) (now (values .exit)) k (scope .used) i r ⌝ }
+    requires { ⌜ Begins FOR (now text) (now code) (now values) k (scope .used) i × EachHasWord scope ⌝ }
+    ensures { λ r. ⌜ Begun FOR (now (text .entry)) (now (code .entry)) (now (values .entry)) (now (code .exit)) (now (values .exit)) k (scope .used) i r × Stays scope r ⌝ }
 {
     let used = scope.used;
     let j = compounds::for_head(code, values, used, i);
     match j {
         Judged::Faulty(number, word) => Walked::Faulty(number, word),
         Judged::Typed(_, d) => {
-            let inner = scope.enter(code, values, i + 1);
+            let inner = scope.enter(code, values, i);
             let r = list(text, code, values, k, inner, d + 1);
             let Walked::Upto(e, n) = r else {
                 return r;
             };
-            let outer = n.leave(code, values, i + 1);
+            let outer = n.leave(scope, code, values);
             compounds::for_end(code, used, i, d, e);
             Walked::Upto(e + 1, outer)
         }
@@ -87,7 +88,7 @@ fn compact_if(
     t: usize,
 ) -> Walked
     requires { ⌜ Compacts (now text) (now code) (now values) k (scope .used) i t ⌝ }
-    ensures { λ r. ⌜ Compacted (now (text .entry)) (now (code .entry)) (now (values .entry)) (now (code .exit)) k (scope .used) i t r ⌝ }
+    ensures { λ r. ⌜ Compacted (now (text .entry)) (now (code .entry)) (now (values .entry)) (now (code .exit)) k (scope .used) i t r × Stays scope r ⌝ }
 {
     let j = simple::statement(text, code, values, k, t);
     match j {
@@ -108,8 +109,8 @@ fn else_part(
     scope: Scope,
     c: usize,
 ) -> Walked
-    requires { ⌜ Elses (now text) (now code) (now values) k (scope .used) c ⌝ }
-    ensures { λ r. ⌜ Elsed (now (text .entry)) (now (code .entry)) (now (values .entry)) (now (code .exit)) (now (values .exit)) k (scope .used) c r ⌝ }
+    requires { ⌜ Elses (now text) (now code) (now values) k (scope .used) c × EachHasWord scope ⌝ }
+    ensures { λ r. ⌜ Elsed (now (text .entry)) (now (code .entry)) (now (values .entry)) (now (code .exit)) (now (values .exit)) k (scope .used) c r × Stays scope r ⌝ }
 {
     if sort(code, c) != sorts::ELSE {
         set_word(code, c, ops::PASS, 0, c + 1);
@@ -134,8 +135,8 @@ fn full_if(
     i: usize,
     first: usize,
 ) -> Walked
-    requires { ⌜ Thens (now text) (now code) (now values) k (scope .used) i first ⌝ }
-    ensures { λ r. ⌜ Thened (now (text .entry)) (now (code .entry)) (now (values .entry)) (now (code .exit)) (now (values .exit)) k (scope .used) i first r ⌝ }
+    requires { ⌜ Thens (now text) (now code) (now values) k (scope .used) i first × EachHasWord scope ⌝ }
+    ensures { λ r. ⌜ Thened (now (text .entry)) (now (code .entry)) (now (values .entry)) (now (code .exit)) (now (values .exit)) k (scope .used) i first r × Stays scope r ⌝ }
 {
     let mut op = ops::IF;
     let mut c = i;
@@ -176,8 +177,8 @@ fn if_statement(
     scope: Scope,
     i: usize,
 ) -> Walked
-    requires { ⌜ Begins IF (now text) (now code) (now values) k (scope .used) i ⌝ }
-    ensures { λ r. ⌜ Begun IF (now (text .entry)) (now (code .entry)) (now (values .entry)) (now (code .exit)) (now (values .exit)) k (scope .used) i r ⌝ }
+    requires { ⌜ Begins IF (now text) (now code) (now values) k (scope .used) i × EachHasWord scope ⌝ }
+    ensures { λ r. ⌜ Begun IF (now (text .entry)) (now (code .entry)) (now (values .entry)) (now (code .exit)) (now (values .exit)) k (scope .used) i r × Stays scope r ⌝ }
 {
     let j = expressions::of_type(code, values, false, types::BOOL, i + 1);
     match j {
@@ -202,8 +203,8 @@ fn default(
     scope: Scope,
     c: usize,
 ) -> Walked
-    requires { ⌜ Defaults (now text) (now code) (now values) k (scope .used) c ⌝ }
-    ensures { λ r. ⌜ Defaulted (now (text .entry)) (now (code .entry)) (now (values .entry)) (now (code .exit)) (now (values .exit)) k (scope .used) c r ⌝ }
+    requires { ⌜ Defaults (now text) (now code) (now values) k (scope .used) c × EachHasWord scope ⌝ }
+    ensures { λ r. ⌜ Defaulted (now (text .entry)) (now (code .entry)) (now (values .entry)) (now (code .exit)) (now (values .exit)) k (scope .used) c r × Stays scope r ⌝ }
 {
     if sort(code, c) != sorts::DEFAULT {
         rewrite(code, c, ops::OTHERWISE, c + 1, c + 1);
@@ -227,8 +228,8 @@ fn cases(
     scope: Scope,
     first: usize,
 ) -> Walked
-    requires { ⌜ Chooses (now text) (now code) (now values) k (scope .used) first ⌝ }
-    ensures { λ r. ⌜ Chosen (now (text .entry)) (now (code .entry)) (now (values .entry)) (now (code .exit)) (now (values .exit)) k (scope .used) first r ⌝ }
+    requires { ⌜ Chooses (now text) (now code) (now values) k (scope .used) first × EachHasWord scope ⌝ }
+    ensures { λ r. ⌜ Chosen (now (text .entry)) (now (code .entry)) (now (values .entry)) (now (code .exit)) (now (values .exit)) k (scope .used) first r × Stays scope r ⌝ }
 {
     let mut c = first;
     let mut n = scope;
@@ -262,8 +263,8 @@ fn test_statement(
     scope: Scope,
     i: usize,
 ) -> Walked
-    requires { ⌜ Begins TEST (now text) (now code) (now values) k (scope .used) i ⌝ }
-    ensures { λ r. ⌜ Begun TEST (now (text .entry)) (now (code .entry)) (now (values .entry)) (now (code .exit)) (now (values .exit)) k (scope .used) i r ⌝ }
+    requires { ⌜ Begins TEST (now text) (now code) (now values) k (scope .used) i × EachHasWord scope ⌝ }
+    ensures { λ r. ⌜ Begun TEST (now (text .entry)) (now (code .entry)) (now (values .entry)) (now (code .exit)) (now (values .exit)) k (scope .used) i r × Stays scope r ⌝ }
 {
     let j = expressions::of_type(code, values, false, types::NUM, i + 1);
     match j {
@@ -290,7 +291,7 @@ fn simple_statement(
     i: usize,
 ) -> Walked
     requires { ⌜ Plain (now text) (now code) (now values) k (scope .used) i ⌝ }
-    ensures { λ r. ⌜ Plainly (now (text .entry)) (now (code .entry)) (now (values .entry)) (now (code .exit)) k (scope .used) i r ⌝ }
+    ensures { λ r. ⌜ Plainly (now (text .entry)) (now (code .entry)) (now (values .entry)) (now (code .exit)) k (scope .used) i r × Stays scope r ⌝ }
 {
     let j = simple::statement(text, code, values, k, i);
     match j {
@@ -307,8 +308,8 @@ fn statement(
     scope: Scope,
     i: usize,
 ) -> Walked
-    requires { ⌜ Stands (now text) (now code) (now values) k (scope .used) i ⌝ }
-    ensures { λ r. ⌜ Stated (now (text .entry)) (now (code .entry)) (now (values .entry)) (now (code .exit)) (now (values .exit)) k (scope .used) i r ⌝ }
+    requires { ⌜ Stands (now text) (now code) (now values) k (scope .used) i × EachHasWord scope ⌝ }
+    ensures { λ r. ⌜ Stated (now (text .entry)) (now (code .entry)) (now (values .entry)) (now (code .exit)) (now (values .exit)) k (scope .used) i r × Stays scope r ⌝ }
 {
     let s = sort(code, i);
     if s == sorts::IF {
@@ -355,8 +356,8 @@ pub fn list(
     scope: Scope,
     at: usize,
 ) -> Walked
-    requires { ⌜ Lists (now text) (now code) (now values) k (scope .used) at ⌝ }
-    ensures { λ r. ⌜ Listed (now (text .entry)) (now (code .entry)) (now (values .entry)) (now (code .exit)) (now (values .exit)) k (scope .used) at r ⌝ }
+    requires { ⌜ Lists (now text) (now code) (now values) k (scope .used) at × EachHasWord scope ⌝ }
+    ensures { λ r. ⌜ Listed (now (text .entry)) (now (code .entry)) (now (values .entry)) (now (code .exit)) (now (values .exit)) k (scope .used) at r × Stays scope r ⌝ }
 {
     let mut i = at;
     let mut n = scope;

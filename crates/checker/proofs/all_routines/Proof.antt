@@ -1,21 +1,22 @@
 -- `checker::all_routines` meets its contract. The invariant: the first k routines are checked. The measure: the words that are left.
 use Prim.Native.Nat.{_-_}
-use Rattle.checker.proofs.RoutineWalk.{Invariant, going-begins, count-fits, routine-begins, routine-found, routine-done, routine-less, routines-done}
+use Rattle.checker.proofs.RoutineWalk.{Invariant, going-begins, count-fits, routine-begins, routine-found, routine-done, routine-less, routines-done, no-loop, back-on, handed-back}
+use mathlib.Core.Path.{_≡_}
 use borrow.Author.Needs.{needs}
 use Rattle.checker.proofs.all_routines.Statement.{statement}
 use Rattle.checker.proofs.all_routines.Tie as tie
 
 abbrev Inv-loop : tie.InvT-loop
-Inv-loop text code₀ values₀ at end h₀ k₀ code values h k = Invariant text code₀ values₀ at end code values h k
+Inv-loop text code₀ values₀ at end h₀ k₀ scope₀ code values h k scope = Invariant text code₀ values₀ at end code values h k × (scope ≡ scope₀)
 
 abbrev μ-loop : tie.MeasureT-loop
-μ-loop text code₀ values₀ at end h₀ k₀ code values h k = end - h
+μ-loop text code₀ values₀ at end h₀ k₀ scope₀ code values h k scope = end - h
 
 loop-holds : tie.Need-loop-holds Inv-loop μ-loop
 loop-holds c = search (needs, going-begins)
 
 routine-requires : tie.Need-routine-requires Inv-loop μ-loop
-routine-requires c κs = search (needs, routine-begins)
+routine-requires c κs = search (needs, routine-begins, no-loop)
 
 enum-told : tie.Need-enum-told Inv-loop μ-loop
 enum-told c = search needs
@@ -27,7 +28,7 @@ same-length-2 : tie.Need-same-length-2 Inv-loop μ-loop
 same-length-2 c = search needs
 
 returns : tie.Need-returns Inv-loop μ-loop
-returns c = search (needs, routine-found)
+returns c = search (needs, routine-found, back-on)
 
 enum-known-r : tie.Need-enum-known-r Inv-loop μ-loop
 enum-known-r c = search needs
@@ -39,7 +40,7 @@ loop-less : tie.Need-loop-less Inv-loop μ-loop
 loop-less c = search (needs, routine-less)
 
 loop-again : tie.Need-loop-again Inv-loop μ-loop
-loop-again c = search (needs, routine-done)
+loop-again c = search (needs, routine-done, handed-back)
 
 same-length-3 : tie.Need-same-length-3 Inv-loop μ-loop
 same-length-3 c = search needs

@@ -1,3 +1,4 @@
+use Rattle.paper.specs.Words.{wordLimit}
 use borrow.Author.Needs.{needs}
 use Rattle.compounds.proofs.Holding.{read-in-num, held-as}
 use Rattle.compounds.proofs.Valuing.{Valuings, values-begin, value-room, value-asks, value-ranged, value-next, value-long, value-wrong, values-end, values-go}
@@ -11,7 +12,7 @@ abbrev Inv-loop : tie.InvT-loop
 Inv-loop code₀ values c w₀ op₀ code w op = Valuings code₀ values c code w op
 
 abbrev μ-loop : tie.MeasureT-loop
-μ-loop code₀ values c w₀ op₀ code w op = 8192 - w
+μ-loop code₀ values c w₀ op₀ code w op = wordLimit - w
 
 loop-holds : tie.Need-loop-holds Inv-loop μ-loop
 loop-holds c = search (needs, values-begin)
@@ -27,7 +28,8 @@ enum-known-v c = search needs
 
 same-length : tie.Need-same-length Inv-loop μ-loop
 same-length c =
-    let at-loop = c .before .before .before .before .before .before .before in
+    let back = c .before .before .before .before .before .before in
+    let at-loop = back .before in
     let start = at-loop .before .before .before in
     let z = value-room _ _ _ _ _ _ (at-loop .loop .inv) (start .pre) .3 in search needs
 
@@ -49,7 +51,8 @@ held-requires c κs =
 
 set-word-requires : tie.Need-set-word-requires Inv-loop μ-loop
 set-word-requires c κs =
-    let at-constant = c .before .before .before .before .before .before .before in
+    let back = c .before .before .before .before .before .before in
+    let at-constant = back .before in
     let at-loop = at-constant .before .before in
     let start = at-loop .before .before .before in
     let z = value-next _ _ _ _ _ _ (at-loop .loop .inv) (start .pre) _ _ (at-constant .constant .ensures) _ _ (c .before .before .before .v2 .given .1) in let y
@@ -57,14 +60,16 @@ set-word-requires c κs =
 
 sort-requires : tie.Need-sort-requires Inv-loop μ-loop
 sort-requires c κs =
-    let at-v2 = c .before .before .before .before .before .before .before in
+    let at-set-word = c .before .before .before in
+    let back = c .before .before .before .before .before .before in
+    let at-v2 = back .before in
     let at-constant = at-v2 .before .before .before .before in
     let at-loop = at-constant .before .before in
     let start = at-loop .before .before .before in
     omega (
       arith,
       value-next _ _ _ _ _ _ (at-loop .loop .inv) (start .pre) _ _ (at-constant .constant .ensures) _ _ (at-v2 .v2 .given .1),
-      c .before .before .before .set-word .ensures .kept .long,
+      at-set-word .set-word .ensures .kept .long,
     )
 
 same-length-2 : tie.Need-same-length-2 Inv-loop μ-loop
@@ -93,7 +98,8 @@ returns-2 c =
 
 loop-less : tie.Need-loop-less Inv-loop μ-loop
 loop-less c =
-    let at-v2 = c .before .before .before .before .before .before .before .before .before in
+    let back = c .before .before .before .before .before .before in
+    let at-v2 = back .before .before .before in
     let at-constant = at-v2 .before .before .before .before in
     let at-loop = at-constant .before .before in
     let start = at-loop .before .before .before in

@@ -26,7 +26,8 @@ returns c = search (needs, head-taken)
 
 add-t16 : tie.Need-add-t16
 add-t16 c =
-    let start = c .before .before .before .before .before .before .before in
+    let back = c .before .before .before .before .before .before in
+    let start = back .before in
     omega (arith, head-room _ _ _ _ (start .pre))
 
 same-length-2 : tie.Need-same-length-2
@@ -37,7 +38,8 @@ returns-2 c = search (needs, head-full)
 
 add-bound : tie.Need-add-bound
 add-bound c =
-    let start = c .before .before .before .before .before .before .before .before in
+    let back = c .before .before .before .before .before .before in
+    let start = back .before .before in
     omega (arith, head-room _ _ _ _ (start .pre))
 
 bound-requires : tie.Need-bound-requires

@@ -41,7 +41,8 @@ cast-n c = search needs
 
 add-rewrite : tie.Need-add-rewrite Inv-loop μ-loop
 add-rewrite c =
-    let start = c .before .before .before .before .before .before .before .before in
+    let back = c .before .before .before .before .before .before in
+    let start = back .before .before in
     omega (arith, start .pre .0 .last)
 
 rewrite-requires : tie.Need-rewrite-requires Inv-loop μ-loop
@@ -52,7 +53,8 @@ rewrite-requires c κs =
 
 same-length : tie.Need-same-length Inv-loop μ-loop
 same-length c =
-    let at-loop = c .before .before .before .before .before .before .before .before .before in
+    let back = c .before .before .before .before .before .before in
+    let at-loop = back .before .before .before in
     let z = link-long _ _ _ _ _ _ (at-loop .loop .inv) in search needs
 
 returns : tie.Need-returns Inv-loop μ-loop
@@ -67,7 +69,8 @@ returns c =
 
 add-rewrite-2 : tie.Need-add-rewrite-2 Inv-loop μ-loop
 add-rewrite-2 c =
-    let start = c .before .before .before .before .before .before .before .before in
+    let back = c .before .before .before .before .before .before in
+    let start = back .before .before in
     omega (arith, start .pre .0 .last)
 
 rewrite-requires-2 : tie.Need-rewrite-requires-2 Inv-loop μ-loop

@@ -1,5 +1,6 @@
 use borrow.Author.Needs.{needs}
 use Rattle.datum.proofs.Contents.{array-asks, count-adds, count-above, count-packs, count-value, count-scope, next-adds, array-faulty, array-crosses, array-goes}
+use Rattle.datum.proofs.Scalars.{made-used, made-grown}
 use Rattle.datum.proofs.array.Statement.{statement}
 use Rattle.datum.proofs.array.Tie as tie
 
@@ -46,7 +47,13 @@ start-requires : tie.Need-start-requires
 start-requires c κs = search needs
 
 add-t27 : tie.Need-add-t27
-add-t27 c = search (needs, next-adds, array-asks)
+add-t27 c =
+    let at-start = c .before .before .before .before in
+    let back = at-start .before .before .before .before .before .before in
+    let at-if1 = back .before .before .before .before in
+    let at-size = at-if1 .before .before .before .before .before .before in
+    let start = at-size .before .before .before .before .before in
+    next-adds _ _ _ _ _ (array-asks (start .pre .2) (start .pre .0)) (at-size .size .ensures) _ _ (at-if1 .before .before .c2 .given .1)
 
 same-length-3 : tie.Need-same-length-3
 same-length-3 c = search needs
@@ -64,7 +71,15 @@ same-length-6 : tie.Need-same-length-6
 same-length-6 c = search needs
 
 returns-3 : tie.Need-returns-3
-returns-3 c = search (needs, array-goes)
+returns-3 c =
+    let at-start = c .before .before .before .before in
+    let back = at-start .before .before .before .before .before .before in
+    let at-known = back .before in
+    let at-if1 = at-known .before .before .before in
+    let at-size = at-if1 .before .before .before .before .before .before in
+    let start = at-size .before .before .before .before .before in
+    let made = at-known .known .ensures in
+    (array-goes (start .pre .2) _ _ (at-size .size .ensures) _ _ (at-if1 .before .before .c2 .given .1) (at-if1 .if1 .left) _ _ _ _ (made .makes) (at-start .start .ensures) _ (made-used made), made-grown made)
 
 pub array-spec : {M : Type 1} → statement M
 array-spec =

@@ -1,5 +1,5 @@
 use borrow.Author.Needs.{needs}
-use Rattle.datum.proofs.Scalars.{initial-asks, initial-type, initial-room, initial-low, initial-fit, initial-goes}
+use Rattle.datum.proofs.Scalars.{initial-asks, initial-type, initial-room, initial-low, initial-fit, initial-goes, placing-stays}
 use Rattle.datum.proofs.initial.Statement.{statement}
 use Rattle.datum.proofs.initial.Tie as tie
 
@@ -28,7 +28,7 @@ same-length-2 : tie.Need-same-length-2
 same-length-2 c = search needs
 
 returns : tie.Need-returns
-returns c = search (needs, initial-goes)
+returns c = search (needs, initial-goes, placing-stays)
 
 pub initial-spec : {M : Type 1} → statement M
 initial-spec =

@@ -1,7 +1,8 @@
 use borrow.Author.Needs.{needs}
 use mathlib.Core.Path.{ap, _∙_}
+use native.Mathlib.Omega.{arith}
 use Rattle.datum.specs.Parts.{scalarKind}
-use Rattle.datum.proofs.Scalars.{kind-low, scalar-crosses, scalar-plain}
+use Rattle.datum.proofs.Scalars.{kind-low, scalar-crosses, scalar-plain, made-used, made-grown}
 use Rattle.datum.proofs.scalar.Statement.{statement}
 use Rattle.datum.proofs.scalar.Tie as tie
 
@@ -33,7 +34,14 @@ start-requires : tie.Need-start-requires
 start-requires c κs = search needs
 
 add-t22 : tie.Need-add-t22
-add-t22 c = search needs
+add-t22 c =
+    let at-start = c .before .before .before .before in
+    let back = at-start .before .before .before .before .before .before in
+    let at-known = back .before in
+    let at-sort = at-known .before .before .before .before in
+    let back = at-sort .before .before .before .before .before .before in
+    let start = back .before .before in
+    omega (arith, start .pre .1)
 
 same-length : tie.Need-same-length
 same-length c = search needs
@@ -42,7 +50,7 @@ same-length-2 : tie.Need-same-length-2
 same-length-2 c = search needs
 
 returns-2 : tie.Need-returns-2
-returns-2 c = search (needs, scalar-plain)
+returns-2 c = search (needs, scalar-plain, made-used, made-grown)
 
 initial-requires : tie.Need-initial-requires
 initial-requires c κs =

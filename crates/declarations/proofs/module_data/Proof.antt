@@ -2,18 +2,20 @@ use borrow.Author.Needs.{needs}
 use Prim.Native.Nat.{_-_, _<_, _≤_}
 use native.Mathlib.Omega.{arith}
 use Rattle.paper.specs.Words.{wordLimit}
+use Rattle.names.specs.Scopes.{Grown}
+use Rattle.names.proofs.Growing.{grown-self, grown-on, grown-upto, stays-on}
 use Rattle.declarations.proofs.Walking.{ModuleWalk, module-begun, module-room, module-datum, module-near, module-faulty, module-falls, module-long, module-long-values, module-on, module-done}
 use Rattle.declarations.proofs.module_data.Statement.{statement}
 use Rattle.declarations.proofs.module_data.Tie as tie
 
 abbrev Inv-loop : tie.InvT-loop
-Inv-loop code₀ values₀ at i₀ scope₀ code values i scope = ModuleWalk code₀ values₀ at code values i (scope .used)
+Inv-loop code₀ values₀ at i₀ scope₀ code values i scope = ModuleWalk code₀ values₀ at code values i (scope .used) × Grown scope₀ scope
 
 abbrev μ-loop : tie.MeasureT-loop
 μ-loop code₀ values₀ at i₀ scope₀ code values i scope = wordLimit - i
 
 loop-holds : tie.Need-loop-holds Inv-loop μ-loop
-loop-holds c = search (needs, module-begun)
+loop-holds c = search (needs, module-begun, grown-self)
 
 sort-requires : tie.Need-sort-requires Inv-loop μ-loop
 sort-requires c κs = search (needs, module-room)
@@ -37,13 +39,13 @@ same-length-2 : tie.Need-same-length-2 Inv-loop μ-loop
 same-length-2 c = search (needs, module-long, module-long-values)
 
 returns : tie.Need-returns Inv-loop μ-loop
-returns c = search (needs, module-faulty)
+returns c = search (needs, module-faulty, stays-on)
 
 loop-less : tie.Need-loop-less Inv-loop μ-loop
 loop-less c = search (needs, module-falls)
 
 loop-again : tie.Need-loop-again Inv-loop μ-loop
-loop-again c = search (needs, module-on)
+loop-again c = search (needs, module-on, grown-upto, grown-on)
 
 same-length-3 : tie.Need-same-length-3 Inv-loop μ-loop
 same-length-3 c = search (needs, module-long, module-long-values)

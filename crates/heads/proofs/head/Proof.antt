@@ -37,7 +37,8 @@ same-length-2 c = search needs
 
 returns : tie.Need-returns
 returns c =
-    let marked = c .before .before .before .before .before .before .before .before in
+    let back = c .before .before .before .before .before .before in
+    let marked = back .before .before in
     let named = marked .before .before .before .before .before in
     head-begun _ _ _ _ (named .before .before .before .before .pre) _ _ (named .name-of .ensures) _ _ _ (marked .parameters .ensures) _ (c .before .before .set-value .ensures)
 

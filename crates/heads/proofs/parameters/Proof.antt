@@ -44,8 +44,10 @@ same-length-3 c = search needs
 
 returns-2 : tie.Need-returns-2 Inv-loop μ-loop
 returns-2 c =
-    let turn = c .before .before .before .before .before .before .before .before .before .before in
-    let marked = c .before .before .before .before .before .before .before in
+    let back = c .before .before .before .before .before .before in
+    let turn = back .before .before .before .before in
+    let back = c .before .before .before .before .before .before in
+    let marked = back .before in
     let start = turn .before .before .before .before .before .before in
     params-end _ _ _ _ (start .pre) _ _ _ _ _ _ _ (turn .loop .inv) (marked .parameter .ensures) (c .before .sort2 .ensures) (c .if2 .taken)
 
@@ -57,8 +59,10 @@ loop-less c = search needs
 
 loop-again : tie.Need-loop-again Inv-loop μ-loop
 loop-again c =
-    let turn = c .before .before .before .before .before .before .before .before .before .before in
-    let marked = c .before .before .before .before .before .before .before in
+    let back = c .before .before .before .before .before .before in
+    let turn = back .before .before .before .before in
+    let back = c .before .before .before .before .before .before in
+    let marked = back .before in
     let start = turn .before .before .before .before .before .before in
     params-on _ _ _ _ (start .pre) _ _ _ _ _ _ _ (turn .loop .inv) (marked .parameter .ensures) (c .before .sort2 .ensures) (c .if2 .left)
 

@@ -21,7 +21,8 @@ same-length-2 c = search needs
 
 returns : tie.Need-returns
 returns c =
-    let announced = c .before .before .before .before .before .before .before .before .before in
+    let back = c .before .before .before .before .before .before in
+    let announced = back .before .before .before in
     let start = announced .before .before .before .before .before .before in
     read-done _ _ _ (start .pre) _ _ (announced .data-names .ensures) _ _ _ (c .before .before .before .before .routines .ensures)
 

@@ -64,7 +64,8 @@ take-name-requires c κs =
 
 next-requires : tie.Need-next-requires Inv-loop μ-loop
 next-requires c κs =
-    let headed = c .before .before .before .before .before .before .before .before .before .before in
+    let back = c .before .before .before .before .before .before in
+    let headed = back .before .before .before .before in
     let turn = headed .before .before .before in
     let begun = turn .before .before .before .before in
     let start = begun .before .before .before .before .pre in
@@ -80,7 +81,8 @@ add-k c = search needs
 
 loop-less : tie.Need-loop-less Inv-loop μ-loop
 loop-less c =
-    let headed = c .before .before .before .before .before .before .before .before .before .before .before in
+    let back = c .before .before .before .before .before .before in
+    let headed = back .before .before .before .before .before in
     let turn = headed .before .before .before in
     let begun = turn .before .before .before .before in
     let start = begun .before .before .before .before .pre in
@@ -90,7 +92,8 @@ loop-less c =
 
 loop-again : tie.Need-loop-again Inv-loop μ-loop
 loop-again c =
-    let headed = c .before .before .before .before .before .before .before .before .before .before .before in
+    let back = c .before .before .before .before .before .before in
+    let headed = back .before .before .before .before .before in
     let turn = headed .before .before .before in
     let begun = turn .before .before .before .before in
     let start = begun .before .before .before .before .pre in

@@ -8,10 +8,10 @@ use Rattle.leaving.proofs.leave_data.Statement.{statement}
 use Rattle.leaving.proofs.leave_data.Tie as tie
 
 abbrev Inv-loop : tie.InvT-loop
-Inv-loop code values₀ head own₀ i₀ values own i = DataLeft own₀ own code values₀ head values i
+Inv-loop code values₀ head i₀ values i = DataLeft code values₀ head values i
 
 abbrev μ-loop : tie.MeasureT-loop
-μ-loop code values₀ head own₀ i₀ values own i = chainLength (wordsOf code) wordLimit i
+μ-loop code values₀ head i₀ values i = chainLength (wordsOf code) wordLimit i
 
 link-requires : tie.Need-link-requires Inv-loop μ-loop
 link-requires c κs = search (needs, head-room)
@@ -22,11 +22,11 @@ loop-holds c = search (needs, data-kept)
 sort-requires : tie.Need-sort-requires Inv-loop μ-loop
 sort-requires c κs = search (needs, datum-room)
 
-add-leave : tie.Need-add-leave Inv-loop μ-loop
-add-leave c = search (needs, name-adds)
+add-restore : tie.Need-add-restore Inv-loop μ-loop
+add-restore c = search (needs, name-adds)
 
-leave-requires : tie.Need-leave-requires Inv-loop μ-loop
-leave-requires c κs = (search (needs, name-room), search (needs, name-table), search (needs, name-links))
+restore-requires : tie.Need-restore-requires Inv-loop μ-loop
+restore-requires c κs = (search (needs, name-room), search (needs, name-table), search (needs, name-links))
 
 link-requires-2 : tie.Need-link-requires-2 Inv-loop μ-loop
 link-requires-2 c κs = search (needs, datum-room)
@@ -52,8 +52,8 @@ leave-data-spec =
     link-requires
     loop-holds
     sort-requires
-    add-leave
-    leave-requires
+    add-restore
+    restore-requires
     link-requires-2
     loop-less
     loop-again

@@ -6,19 +6,19 @@ use Rattle.leaving.proofs.leave_parameters.Statement.{statement}
 use Rattle.leaving.proofs.leave_parameters.Tie as tie
 
 abbrev Inv-loop : tie.InvT-loop
-Inv-loop code values₀ first count own₀ at₀ left₀ values own at left = ParametersLeft own₀ own code values₀ first count values at left
+Inv-loop code values₀ at₀ left₀ values at left = ParametersLeft code values₀ at₀ left₀ values at left
 
 abbrev μ-loop : tie.MeasureT-loop
-μ-loop code values₀ first count own₀ at₀ left₀ values own at left = left
+μ-loop code values₀ at₀ left₀ values at left = left
 
 loop-holds : tie.Need-loop-holds Inv-loop μ-loop
 loop-holds c = search (needs, parameters-kept)
 
-add-leave : tie.Need-add-leave Inv-loop μ-loop
-add-leave c = search (needs, leave-adds)
+add-restore : tie.Need-add-restore Inv-loop μ-loop
+add-restore c = search (needs, leave-adds)
 
-leave-requires : tie.Need-leave-requires Inv-loop μ-loop
-leave-requires c κs = (search (needs, leave-room), search (needs, leave-table), search (needs, leave-links))
+restore-requires : tie.Need-restore-requires Inv-loop μ-loop
+restore-requires c κs = (search (needs, leave-room), search (needs, leave-table), search (needs, leave-links))
 
 add-at : tie.Need-add-at Inv-loop μ-loop
 add-at c = search (needs, next-adds)
@@ -45,8 +45,8 @@ leave-parameters-spec =
     Inv-loop
     μ-loop
     loop-holds
-    add-leave
-    leave-requires
+    add-restore
+    restore-requires
     add-at
     sub-left
     loop-less

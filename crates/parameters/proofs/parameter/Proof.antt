@@ -1,5 +1,5 @@
 use borrow.Author.Needs.{needs}
-use Rattle.parameters.proofs.Passing.{parameter-taken, parameter-crosses, parameter-goes}
+use Rattle.parameters.proofs.Passing.{parameter-taken, parameter-crosses, parameter-goes, counting-few, counting-fits, parameter-opens}
 use Rattle.parameters.proofs.parameter.Statement.{statement}
 use Rattle.parameters.proofs.parameter.Tie as tie
 
@@ -51,6 +51,9 @@ fill-requires c κs = search needs
 add-t12 : tie.Need-add-t12
 add-t12 c = search needs
 
+count-parameter-requires : tie.Need-count-parameter-requires
+count-parameter-requires c κs = (search (needs, counting-few), search (needs, counting-fits))
+
 same-length-5 : tie.Need-same-length-5
 same-length-5 c = search needs
 
@@ -58,7 +61,7 @@ same-length-6 : tie.Need-same-length-6
 same-length-6 c = search needs
 
 returns-3 : tie.Need-returns-3
-returns-3 c = search (needs, parameter-goes)
+returns-3 c = search (needs, parameter-goes, parameter-opens)
 
 pub parameter-spec : {M : Type 1} → statement M
 parameter-spec =
@@ -80,6 +83,7 @@ parameter-spec =
     add-fill
     fill-requires
     add-t12
+    count-parameter-requires
     same-length-5
     same-length-6
     returns-3)

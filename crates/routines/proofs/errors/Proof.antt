@@ -2,6 +2,7 @@ use borrow.Author.Needs.{needs}
 use mathlib.Core.Path.{refl}
 use native.Mathlib.Omega.{arith}
 use Rattle.routines.proofs.Erring.{closes-room, closes-small, errors-list, errors-none, errors-faulty, next-room, next-small, errors-some}
+use Rattle.names.proofs.Growing.{grown-self, grown-upto}
 use Rattle.routines.proofs.errors.Statement.{statement}
 use Rattle.routines.proofs.errors.Tie as tie
 use Rattle.routines.proofs.errors.Reads as reads
@@ -14,14 +15,15 @@ end-list-requires c κs = search (needs, closes-room)
 
 add-t16 : tie.Need-add-t16
 add-t16 c =
-    let start = c .before .before .before .before .before .before .before .before in
-    omega (arith, closes-small _ _ _ _ _ _ _ (start .pre))
+    let back = c .before .before .before .before .before .before in
+    let start = back .before .before in
+    omega (arith, closes-small _ _ _ _ _ _ _ (start .pre .0))
 
 same-length : tie.Need-same-length
 same-length c = search needs
 
 returns : tie.Need-returns
-returns c = search (needs, errors-none)
+returns c = search (needs, errors-none, grown-self)
 
 list-requires : tie.Need-list-requires
 list-requires c κs = search (needs, errors-list)
@@ -42,17 +44,20 @@ returns-2 : tie.Need-returns-2
 returns-2 c =
     let at-list = c .before .before .before .before .before .before in
     let at-if1 = at-list .before .before .before in
-    let at-end-list = at-if1 .before .before .before in
-    errors-faulty _ _ _ _ _ _ _ (at-if1 .if1 .left) refl _ _ _ (at-end-list .end-list .ensures) _ (at-list .list .ensures) _ _ (c .enum-told .given .1)
+    let at-end-list = at-if1 .before .before .before in (
+      errors-faulty _ _ _ _ _ _ _ (at-if1 .if1 .left) refl _ _ _ (at-end-list .end-list .ensures) _ (at-list .list .ensures .0) _ _ (c .enum-told .given .1),
+      at-list .list .ensures .1,
+    )
 
 end-list-requires-2 : tie.Need-end-list-requires-2
 end-list-requires-2 c κs =
-    let at-list = c .before .before .before .before .before .before .before .before in
+    let back = c .before .before .before .before .before .before in
+    let at-list = back .before .before in
     let at-if1 = at-list .before .before .before in
     let at-end-list = at-if1 .before .before .before in
     let start = at-end-list .before .before .before .before .before in
-    next-room _ _ _ _ _ _ _ (at-if1 .if1 .left) refl _ _ _ (at-end-list .end-list .ensures) _ (at-list .list .ensures) _ _ (c .before .before .r .given .1)
-    (start .pre)
+    next-room _ _ _ _ _ _ _ (at-if1 .if1 .left) refl _ _ _ (at-end-list .end-list .ensures) _ (at-list .list .ensures .0) _ _ (c .before .before .r .given .1)
+    (start .pre .0)
 
 add-t23 : tie.Need-add-t23
 add-t23 c =
@@ -63,8 +68,8 @@ add-t23 c =
     let start = at-end-list .before .before .before .before .before in
     omega (
       arith,
-      next-small _ _ _ _ _ _ _ (at-if1 .if1 .left) refl _ _ _ (at-end-list .end-list .ensures) _ (at-list .list .ensures) _ _ (at-r .r .given .1)
-          (start .pre),
+      next-small _ _ _ _ _ _ _ (at-if1 .if1 .left) refl _ _ _ (at-end-list .end-list .ensures) _ (at-list .list .ensures .0) _ _ (at-r .r .given .1)
+          (start .pre .0),
     )
 
 same-length-4 : tie.Need-same-length-4
@@ -78,9 +83,11 @@ returns-3 c =
     let at-r = c .before .before .before .before .before in
     let at-list = at-r .before .before .before .before .before .before in
     let at-if1 = at-list .before .before .before in
-    let at-end-list = at-if1 .before .before .before in
-    errors-some _ _ _ _ _ _ _ (at-if1 .if1 .left) refl _ _ _ (at-end-list .end-list .ensures) _ (at-list .list .ensures) _ _ (at-r .r .given .1) _
-    (c .before .before .end-list2 .ensures)
+    let at-end-list = at-if1 .before .before .before in (
+      errors-some _ _ _ _ _ _ _ (at-if1 .if1 .left) refl _ _ _ (at-end-list .end-list .ensures) _ (at-list .list .ensures .0) _ _ (at-r .r .given .1) _
+          (c .before .before .end-list2 .ensures),
+      grown-upto _ _ (at-list .list .ensures .1) _ _ (at-r .r .given .1),
+    )
 
 pub errors-spec : {M : Type 1} → statement M
 errors-spec =

@@ -33,9 +33,11 @@ same-length-2 c = search needs
 returns : tie.Need-returns
 returns c =
     let at-name-of = c .before .before .before .before .before in
-    let at-result-of = at-name-of .before in
-    routine-taken _ _ _ _ _ _ _ (at-result-of .result-of .ensures) (at-name-of .name-of .ensures) _ (c .before .before .meaning .ensures)
-    (sym (c .before .names-routine .ensures) ∙ not-true _ (c .if1 .taken))
+    let at-result-of = at-name-of .before in (
+      routine-taken _ _ _ _ _ _ _ (at-result-of .result-of .ensures) (at-name-of .name-of .ensures) _ (c .before .before .meaning .ensures)
+          (sym (c .before .names-routine .ensures) ∙ not-true _ (c .if1 .taken)),
+      tt,
+    )
 
 same-length-3 : tie.Need-same-length-3
 same-length-3 c = search needs
@@ -46,9 +48,11 @@ same-length-4 c = search needs
 returns-2 : tie.Need-returns-2
 returns-2 c =
     let at-name-of = c .before .before .before .before .before .before in
-    let at-result-of = at-name-of .before in
-    routine-many _ _ _ _ _ _ _ (at-result-of .result-of .ensures) (at-name-of .name-of .ensures) _ (c .before .before .before .meaning .ensures)
-    (sym (c .before .before .names-routine .ensures) ∙ not-false _ (c .before .if1 .left)) (c .if2 .taken)
+    let at-result-of = at-name-of .before in (
+      routine-many _ _ _ _ _ _ _ (at-result-of .result-of .ensures) (at-name-of .name-of .ensures) _ (c .before .before .before .meaning .ensures)
+          (sym (c .before .before .names-routine .ensures) ∙ not-false _ (c .before .if1 .left)) (c .if2 .taken),
+      tt,
+    )
 
 scope-requires : tie.Need-scope-requires
 scope-requires c κs =
@@ -56,9 +60,11 @@ scope-requires c κs =
     let at-meaning = at-names-routine .before in
     let at-name-of = at-meaning .before .before .before in
     let at-result-of = at-name-of .before in
-    let start = at-result-of .before .before .before .before .before in
-    routine-scope _ _ _ _ _ _ _ (at-result-of .result-of .ensures) (at-name-of .name-of .ensures) _ (at-meaning .meaning .ensures)
-    (sym (at-names-routine .names-routine .ensures) ∙ not-false _ (c .before .before .before .if1 .left)) (c .before .before .if2 .left) (start .pre)
+    let start = at-result-of .before .before .before .before .before in (
+      routine-scope _ _ _ _ _ _ _ (at-result-of .result-of .ensures) (at-name-of .name-of .ensures) _ (at-meaning .meaning .ensures)
+          (sym (at-names-routine .names-routine .ensures) ∙ not-false _ (c .before .before .before .if1 .left)) (c .before .before .if2 .left) (start .pre .0),
+      start .pre .1,
+    )
 
 same-length-5 : tie.Need-same-length-5
 same-length-5 c = search needs
@@ -74,9 +80,11 @@ returns-3 c =
     let at-names-routine = at-if1 .before in
     let at-meaning = at-names-routine .before in
     let at-name-of = at-meaning .before .before .before in
-    let at-result-of = at-name-of .before in
-    routine-done _ _ _ _ _ _ _ (at-result-of .result-of .ensures) (at-name-of .name-of .ensures) _ (at-meaning .meaning .ensures)
-    (sym (at-names-routine .names-routine .ensures) ∙ not-false _ (at-if1 .if1 .left)) (at-if2 .if2 .left) _ _ _ (at-scope .scope .ensures)
+    let at-result-of = at-name-of .before in (
+      routine-done _ _ _ _ _ _ _ (at-result-of .result-of .ensures) (at-name-of .name-of .ensures) _ (at-meaning .meaning .ensures)
+          (sym (at-names-routine .names-routine .ensures) ∙ not-false _ (at-if1 .if1 .left)) (at-if2 .if2 .left) _ _ _ (at-scope .scope .ensures .0),
+      at-scope .scope .ensures .1,
+    )
 
 pub routine-spec : {M : Type 1} → statement M
 routine-spec =

@@ -1,18 +1,21 @@
+use Rattle.paper.specs.Words.{wordLimit}
 use borrow.Author.Needs.{needs}
 use Prim.Native.Nat.{_+_, _-_, _*_}
 use native.Mathlib.Omega.{arith}
-use Rattle.statements.proofs.Walking.{Goings, list-begins, list-long, list-values, list-forward, list-room, list-ends, list-stands, list-less, list-faulty, list-goes}
+use Rattle.statements.proofs.Walking.{stays-wrong, Goings, list-begins, list-long, list-values, list-forward, list-room, list-ends, list-stands, list-less, list-faulty, list-goes}
 use Rattle.statements.proofs.Dispatch.{stands-room, stands-early, begins-by, stated-by, plain-by, stated-plain}
 use Rattle.statements.proofs.Whiles.{while-condition, while-forward, while-lists, while-closes, while-wrong, while-list-wrong, while-finished}
 use Rattle.statements.proofs.Elses.{else-room, else-lists, else-closes, else-no, else-wrong, else-yes}
 use Rattle.statements.proofs.Arms.{Armings, arms-begin, arm-lists, arm-values, arm-long-so, arm-after, arm-wide, arm-place, arm-closes, arm-long, arm-elses, arm-ends, arm-condition, arm-less, arm-list-wrong, arm-else-wrong, arms-finished, arm-wrong, arms-go}
 use Rattle.statements.proofs.Ifs.{if-condition, if-room, if-forward, if-compacts, if-thens, if-wrong, if-compact, if-full}
 use mathlib.Core.Path.{refl}
-use Rattle.statements.proofs.Fors.{for-heads, for-declares, for-spare, for-lists, for-listed, for-closes, for-leaves, for-wrong, for-list-wrong, for-long, for-finished}
+use Rattle.statements.proofs.Fors.{entered-used, entered-word, entered-opened, left-used, entered-left, entered-grown, for-heads, for-declares, for-spare, for-lists, for-listed, for-closes, for-leaves, for-wrong, for-list-wrong, for-long, for-finished}
 use Rattle.statements.proofs.Defaulting.{default-room, default-lists, default-closes, default-no, default-wrong, default-yes}
 use Rattle.statements.proofs.Choosing.{Casings, cases-begin, case-room, case-long, case-values-long, case-defaults, case-values-stand, case-lists, case-colon, case-closes, case-links, cases-finished, case-wrong, case-list-wrong, cases-go}
 use Rattle.statements.proofs.Tests.{test-selector, test-chooses, test-forward, test-room, test-wrong, test-cases-wrong, test-finished}
 use Rattle.store.proofs.Rewriting.{rewritten-length}
+use Rattle.names.specs.Scopes.{Grown}
+use Rattle.names.proofs.Growing.{grown-self, grown-on, grown-upto, stays-on, has-word}
 use Prim.Native.Nat.{ℕ, _<_}
 use borrow.Fn.Kinds.{In}
 use borrow.Fn.PlainCycle.{Measures, is, falls, and}
@@ -66,34 +69,34 @@ use Rattle.statements.proofs.+cases+default+else_part+for_statement+ful
 use Rattle.statements.proofs.+cases+default+else_part+for_statement+full_if+if_statement+list+statement+test_statement+while_statement.Tie.{close}
 
 abbrev μ-cases : Measures 3 cases-kinds.ps ℕ
-μ-cases κs a = (8192 - a .1 .1 .1 .1 .1 .0) * 3 + 1
+μ-cases κs a = (wordLimit - a .1 .1 .1 .1 .1 .0) * 3 + 1
 
 abbrev μ-default : Measures 3 default-kinds.ps ℕ
-μ-default κs a = (8192 - a .1 .1 .1 .1 .1 .0) * 3
+μ-default κs a = (wordLimit - a .1 .1 .1 .1 .1 .0) * 3
 
 abbrev μ-else-part : Measures 3 else-part-kinds.ps ℕ
-μ-else-part κs a = (8192 - a .1 .1 .1 .1 .1 .0) * 3
+μ-else-part κs a = (wordLimit - a .1 .1 .1 .1 .1 .0) * 3
 
 abbrev μ-for-statement : Measures 3 for-statement-kinds.ps ℕ
-μ-for-statement κs a = (8192 - a .1 .1 .1 .1 .1 .0) * 3
+μ-for-statement κs a = (wordLimit - a .1 .1 .1 .1 .1 .0) * 3
 
 abbrev μ-full-if : Measures 3 full-if-kinds.ps ℕ
-μ-full-if κs a = (8192 - a .1 .1 .1 .1 .1 .1 .0) * 3
+μ-full-if κs a = (wordLimit - a .1 .1 .1 .1 .1 .1 .0) * 3
 
 abbrev μ-if-statement : Measures 3 if-statement-kinds.ps ℕ
-μ-if-statement κs a = (8192 - a .1 .1 .1 .1 .1 .0) * 3
+μ-if-statement κs a = (wordLimit - a .1 .1 .1 .1 .1 .0) * 3
 
 abbrev μ-list : Measures 3 list-kinds.ps ℕ
-μ-list κs a = (8192 - a .1 .1 .1 .1 .1 .0) * 3 + 2
+μ-list κs a = (wordLimit - a .1 .1 .1 .1 .1 .0) * 3 + 2
 
 abbrev μ-statement : Measures 3 statement-kinds.ps ℕ
-μ-statement κs a = (8192 - a .1 .1 .1 .1 .1 .0) * 3 + 1
+μ-statement κs a = (wordLimit - a .1 .1 .1 .1 .1 .0) * 3 + 1
 
 abbrev μ-test-statement : Measures 3 test-statement-kinds.ps ℕ
-μ-test-statement κs a = (8192 - a .1 .1 .1 .1 .1 .0) * 3
+μ-test-statement κs a = (wordLimit - a .1 .1 .1 .1 .1 .0) * 3
 
 abbrev μ-while-statement : Measures 3 while-statement-kinds.ps ℕ
-μ-while-statement κs a = (8192 - a .1 .1 .1 .1 .1 .0) * 3
+μ-while-statement κs a = (wordLimit - a .1 .1 .1 .1 .1 .0) * 3
 
 abbrev cases-at : ℕ → In 3 cases-kinds.ps
 cases-at t = and 3 cases-kinds.ps (is 3 cases-kinds.ps μ-cases t) cases.Pre
@@ -221,42 +224,47 @@ abbrev calls-while-statement : ℕ → while-statement-lts.Claims
 calls-while-statement t = (of-type-reads.Asked, of-type-reads.Learnt, list-below t, list.Post, while-end-reads.Asked, while-end-reads.Learnt)
 
 abbrev cases-Inv-loop : cases-lts.InvT-loop
-cases-Inv-loop text code₀ values₀ k first c₀ n₀ code values c n = Casings text code₀ values₀ k (n₀ .used) first code values c (n .used)
+cases-Inv-loop text code₀ values₀ k first c₀ n₀ code values c n = Casings text code₀ values₀ k (n₀ .used) first code values c (n .used) × Grown n₀ n
 
 abbrev cases-μ-loop : cases-lts.MeasureT-loop
-cases-μ-loop text code₀ values₀ k first c₀ n₀ code values c n = 8192 - c
+cases-μ-loop text code₀ values₀ k first c₀ n₀ code values c n = wordLimit - c
 
 cases-loop-holds : (t : ℕ) → cases-lts.Need-loop-holds (calls-cases t) (cases-at t) cases.Post cases-Inv-loop cases-μ-loop
-cases-loop-holds t c = search (needs, cases-begin)
+cases-loop-holds t c = search (needs, cases-begin, grown-self)
 
 cases-sort-requires : (t : ℕ) → cases-lts.Need-sort-requires (calls-cases t) (cases-at t) cases.Post cases-Inv-loop cases-μ-loop
 cases-sort-requires t c κs =
     let start = c .before .before .before .before .before in
-    case-room _ _ _ _ _ _ _ _ _ _ (c .before .loop .inv) (start .pre .1) .2
+    case-room _ _ _ _ _ _ _ _ _ _ (c .before .loop .inv .0) (start .pre .1 .0) .2
 
 cases-default-requires : (t : ℕ) → cases-lts.Need-default-requires (calls-cases t) (cases-at t) cases.Post cases-Inv-loop cases-μ-loop
 cases-default-requires t c κs =
     let at-loop = c .before .before .before .before .before in
     let start = at-loop .before .before .before .before in (
-      omega (arith, case-room _ _ _ _ _ _ _ _ _ _ (at-loop .loop .inv) (start .pre .1), start .pre .0),
-      case-defaults _ _ _ _ _ _ _ _ _ _ (at-loop .loop .inv)
-          (start .pre .1) _ (c .before .before .before .sort .ensures) (c .before .before .if1 .taken),
+      omega (arith, case-room _ _ _ _ _ _ _ _ _ _ (at-loop .loop .inv .0) (start .pre .1 .0), start .pre .0),
+      (
+        case-defaults _ _ _ _ _ _ _ _ _ _ (at-loop .loop .inv .0)
+            (start .pre .1 .0) _ (c .before .before .before .sort .ensures) (c .before .before .if1 .taken),
+        has-word (start .pre .1 .1) (at-loop .loop .inv .1),
+      ),
     )
 
 cases-same-length : (t : ℕ) → cases-lts.Need-same-length (calls-cases t) (cases-at t) cases.Post cases-Inv-loop cases-μ-loop
 cases-same-length t c =
     let z =
-    (let at-loop = c .before .before .before .before .before .before .before .before .before .before in
+    (let back = c .before .before .before .before .before .before in
+    let at-loop = back .before .before .before .before in
     let start = at-loop .before .before .before .before in
-    case-long _ _ _ _ _ _ _ _ _ _ (at-loop .loop .inv) (start .pre .1)) in
+    case-long _ _ _ _ _ _ _ _ _ _ (at-loop .loop .inv .0) (start .pre .1 .0)) in
     search needs
 
 cases-same-length-2 : (t : ℕ) → cases-lts.Need-same-length-2 (calls-cases t) (cases-at t) cases.Post cases-Inv-loop cases-μ-loop
 cases-same-length-2 t c =
     let z =
-    (let at-loop = c .before .before .before .before .before .before .before .before .before .before in
+    (let back = c .before .before .before .before .before .before in
+    let at-loop = back .before .before .before .before in
     let start = at-loop .before .before .before .before in
-    case-values-long _ _ _ _ _ _ _ _ _ _ (at-loop .loop .inv) (start .pre .1)) in
+    case-values-long _ _ _ _ _ _ _ _ _ _ (at-loop .loop .inv .0) (start .pre .1 .0)) in
     search needs
 
 cases-returns : (t : ℕ) → cases-lts.Need-returns (calls-cases t) (cases-at t) cases.Post cases-Inv-loop cases-μ-loop
@@ -264,14 +272,16 @@ cases-returns t c =
     let at-default = c .before .before .before .before in
     let at-if1 = at-default .before .before .before in
     let at-sort = at-if1 .before in
-    let at-loop = at-sort .before .before in
-    cases-finished _ _ _ _ _ _ _ _ _ _ (at-loop .loop .inv) _ (at-sort .sort .ensures) (at-if1 .if1 .taken) _ _ _ (at-default .default .ensures)
+    let at-loop = at-sort .before .before in (
+      cases-finished _ _ _ _ _ _ _ _ _ _ (at-loop .loop .inv .0) _ (at-sort .sort .ensures) (at-if1 .if1 .taken) _ _ _ (at-default .default .ensures .0),
+      stays-on _ _ (at-default .default .result) (at-loop .loop .inv .1) (at-default .default .ensures .1),
+    )
 
 cases-case-values-requires : (t : ℕ) → cases-lts.Need-case-values-requires (calls-cases t) (cases-at t) cases.Post cases-Inv-loop cases-μ-loop
 cases-case-values-requires t c κs =
     let at-loop = c .before .before .before .before .before in
     let start = at-loop .before .before .before .before in
-    case-values-stand _ _ _ _ _ _ _ _ _ _ (at-loop .loop .inv) (start .pre .1) _ (c .before .before .before .sort .ensures) (c .before .before .if1 .left)
+    case-values-stand _ _ _ _ _ _ _ _ _ _ (at-loop .loop .inv .0) (start .pre .1 .0) _ (c .before .before .before .sort .ensures) (c .before .before .if1 .left)
 
 cases-enum-known-j : (t : ℕ) → cases-lts.Need-enum-known-j (calls-cases t) (cases-at t) cases.Post cases-Inv-loop cases-μ-loop
 cases-enum-known-j t c = search needs
@@ -279,17 +289,19 @@ cases-enum-known-j t c = search needs
 cases-same-length-3 : (t : ℕ) → cases-lts.Need-same-length-3 (calls-cases t) (cases-at t) cases.Post cases-Inv-loop cases-μ-loop
 cases-same-length-3 t c =
     let z =
-    (let at-loop = c .before .before .before .before .before .before .before .before .before .before .before in
+    (let back = c .before .before .before .before .before .before in
+    let at-loop = back .before .before .before .before .before in
     let start = at-loop .before .before .before .before in
-    case-long _ _ _ _ _ _ _ _ _ _ (at-loop .loop .inv) (start .pre .1)) in
+    case-long _ _ _ _ _ _ _ _ _ _ (at-loop .loop .inv .0) (start .pre .1 .0)) in
     search needs
 
 cases-same-length-4 : (t : ℕ) → cases-lts.Need-same-length-4 (calls-cases t) (cases-at t) cases.Post cases-Inv-loop cases-μ-loop
 cases-same-length-4 t c =
     let z =
-    (let at-loop = c .before .before .before .before .before .before .before .before .before .before .before in
+    (let back = c .before .before .before .before .before .before in
+    let at-loop = back .before .before .before .before .before in
     let start = at-loop .before .before .before .before in
-    case-values-long _ _ _ _ _ _ _ _ _ _ (at-loop .loop .inv) (start .pre .1)) in
+    case-values-long _ _ _ _ _ _ _ _ _ _ (at-loop .loop .inv .0) (start .pre .1 .0)) in
     search needs
 
 cases-returns-2 : (t : ℕ) → cases-lts.Need-returns-2 (calls-cases t) (cases-at t) cases.Post cases-Inv-loop cases-μ-loop
@@ -297,42 +309,49 @@ cases-returns-2 t c =
     let at-case-values = c .before .before .before .before .before in
     let at-if1 = at-case-values .before .before .before in
     let at-sort = at-if1 .before in
-    let at-loop = at-sort .before .before in
-    case-wrong _ _ _ _ _ _ _ _ _ _ (at-loop .loop .inv) _ (at-sort .sort .ensures) (at-if1 .if1 .left) _ _ (at-case-values .case-values .ensures) _ _
-    (c .before .j .given .1)
+    let at-loop = at-sort .before .before in (
+      case-wrong _ _ _ _ _ _ _ _ _ _ (at-loop .loop .inv .0) _ (at-sort .sort .ensures) (at-if1 .if1 .left) _ _ (at-case-values .case-values .ensures) _ _
+          (c .before .j .given .1),
+      tt,
+    )
 
 cases-enum-known-j-2 : (t : ℕ) → cases-lts.Need-enum-known-j-2 (calls-cases t) (cases-at t) cases.Post cases-Inv-loop cases-μ-loop
 cases-enum-known-j-2 t c = search needs
 
 cases-add-list : (t : ℕ) → cases-lts.Need-add-list (calls-cases t) (cases-at t) cases.Post cases-Inv-loop cases-μ-loop
 cases-add-list t c =
-    let at-case-values = c .before .before .before .before .before .before .before in
+    let back = c .before .before .before .before .before .before in
+    let at-case-values = back .before in
     let at-if1 = at-case-values .before .before .before in
     let at-sort = at-if1 .before in
     let at-loop = at-sort .before .before in
     let start = at-loop .before .before .before .before in
     omega (
       arith,
-      case-colon _ _ _ _ _ _ _ _ _ _ (at-loop .loop .inv) (start .pre .1) _ (at-sort .sort .ensures) (at-if1 .if1 .left) _ _
+      case-colon _ _ _ _ _ _ _ _ _ _ (at-loop .loop .inv .0) (start .pre .1 .0) _ (at-sort .sort .ensures) (at-if1 .if1 .left) _ _
           (at-case-values .case-values .ensures) _ _ (c .before .before .before .j2 .given .1),
     )
 
 cases-list-requires : (t : ℕ) → cases-lts.Need-list-requires (calls-cases t) (cases-at t) cases.Post cases-Inv-loop cases-μ-loop
 cases-list-requires t c κs =
-    let at-case-values = c .before .before .before .before .before .before .before in
+    let back = c .before .before .before .before .before .before in
+    let at-case-values = back .before in
     let at-if1 = at-case-values .before .before .before in
     let at-sort = at-if1 .before in
     let at-loop = at-sort .before .before in
     let start = at-loop .before .before .before .before in (
       omega (
         arith,
-        case-colon _ _ _ _ _ _ _ _ _ _ (at-loop .loop .inv) (start .pre .1) _ (at-sort .sort .ensures) (at-if1 .if1 .left) _ _
+        case-colon _ _ _ _ _ _ _ _ _ _ (at-loop .loop .inv .0) (start .pre .1 .0) _ (at-sort .sort .ensures) (at-if1 .if1 .left) _ _
             (at-case-values .case-values .ensures) _ _ (c .before .before .before .j2 .given .1),
-        case-room _ _ _ _ _ _ _ _ _ _ (at-loop .loop .inv) (start .pre .1),
+        case-room _ _ _ _ _ _ _ _ _ _ (at-loop .loop .inv .0) (start .pre .1 .0),
         start .pre .0,
       ),
-      case-lists _ _ _ _ _ _ _ _ _ _ (at-loop .loop .inv) (start .pre .1) _ (at-sort .sort .ensures) (at-if1 .if1 .left) _ _
-          (at-case-values .case-values .ensures) _ _ (c .before .before .before .j2 .given .1),
+      (
+        case-lists _ _ _ _ _ _ _ _ _ _ (at-loop .loop .inv .0) (start .pre .1 .0) _ (at-sort .sort .ensures) (at-if1 .if1 .left) _ _
+            (at-case-values .case-values .ensures) _ _ (c .before .before .before .j2 .given .1),
+        has-word (start .pre .1 .1) (at-loop .loop .inv .1),
+      ),
     )
 
 cases-enum-known-r : (t : ℕ) → cases-lts.Need-enum-known-r (calls-cases t) (cases-at t) cases.Post cases-Inv-loop cases-μ-loop
@@ -344,17 +363,23 @@ cases-enum-told t c = search needs
 cases-same-length-5 : (t : ℕ) → cases-lts.Need-same-length-5 (calls-cases t) (cases-at t) cases.Post cases-Inv-loop cases-μ-loop
 cases-same-length-5 t c =
     let z =
-    (let at-loop = c .before .before .before .before .before .before .before .before .before .before .before .before .before .before .before .before .before .before .before .before in
+    (let back = c .before .before .before .before .before .before in
+    let back-2 = back .before .before .before .before .before .before in
+    let back-3 = back-2 .before .before .before .before .before .before in
+    let at-loop = back-3 .before .before in
     let start = at-loop .before .before .before .before in
-    case-long _ _ _ _ _ _ _ _ _ _ (at-loop .loop .inv) (start .pre .1)) in
+    case-long _ _ _ _ _ _ _ _ _ _ (at-loop .loop .inv .0) (start .pre .1 .0)) in
     search needs
 
 cases-same-length-6 : (t : ℕ) → cases-lts.Need-same-length-6 (calls-cases t) (cases-at t) cases.Post cases-Inv-loop cases-μ-loop
 cases-same-length-6 t c =
     let z =
-    (let at-loop = c .before .before .before .before .before .before .before .before .before .before .before .before .before .before .before .before .before .before .before .before in
+    (let back = c .before .before .before .before .before .before in
+    let back-2 = back .before .before .before .before .before .before in
+    let back-3 = back-2 .before .before .before .before .before .before in
+    let at-loop = back-3 .before .before in
     let start = at-loop .before .before .before .before in
-    case-values-long _ _ _ _ _ _ _ _ _ _ (at-loop .loop .inv) (start .pre .1)) in
+    case-values-long _ _ _ _ _ _ _ _ _ _ (at-loop .loop .inv .0) (start .pre .1 .0)) in
     search needs
 
 cases-returns-3 : (t : ℕ) → cases-lts.Need-returns-3 (calls-cases t) (cases-at t) cases.Post cases-Inv-loop cases-μ-loop
@@ -364,27 +389,33 @@ cases-returns-3 t c =
     let at-case-values = at-j2 .before .before .before .before in
     let at-if1 = at-case-values .before .before .before in
     let at-sort = at-if1 .before in
-    let at-loop = at-sort .before .before in
-    case-list-wrong _ _ _ _ _ _ _ _ _ _ (at-loop .loop .inv) _ (at-sort .sort .ensures) (at-if1 .if1 .left) _ _ (at-case-values .case-values .ensures) _ _
-    (at-j2 .j2 .given .1) _ _ _ (at-list .list .ensures) _ _ (c .enum-told .given .1)
+    let at-loop = at-sort .before .before in (
+      case-list-wrong _ _ _ _ _ _ _ _ _ _ (at-loop .loop .inv .0) _ (at-sort .sort .ensures) (at-if1 .if1 .left) _ _ (at-case-values .case-values .ensures) _ _
+          (at-j2 .j2 .given .1) _ _ _ (at-list .list .ensures .0) _ _ (c .enum-told .given .1),
+      stays-on _ _ (at-list .list .result) (at-loop .loop .inv .1) (at-list .list .ensures .1),
+    )
 
 cases-add-set-word : (t : ℕ) → cases-lts.Need-add-set-word (calls-cases t) (cases-at t) cases.Post cases-Inv-loop cases-μ-loop
 cases-add-set-word t c =
-    let at-loop = c .before .before .before .before .before .before .before .before .before .before .before .before .before .before .before .before .before .before .before .before .before .before in
+    let back = c .before .before .before .before .before .before in
+    let back-2 = back .before .before .before .before .before .before in
+    let back-3 = back-2 .before .before .before .before .before .before in
+    let at-loop = back-3 .before .before .before .before in
     let start = at-loop .before .before .before .before in
-    omega (arith, case-room _ _ _ _ _ _ _ _ _ _ (at-loop .loop .inv) (start .pre .1))
+    omega (arith, case-room _ _ _ _ _ _ _ _ _ _ (at-loop .loop .inv .0) (start .pre .1 .0))
 
 cases-set-word-requires : (t : ℕ) → cases-lts.Need-set-word-requires (calls-cases t) (cases-at t) cases.Post cases-Inv-loop cases-μ-loop
 cases-set-word-requires t c κs =
-    let at-list = c .before .before .before .before .before .before .before .before in
+    let back = c .before .before .before .before .before .before in
+    let at-list = back .before .before in
     let at-j2 = at-list .before .before .before .before in
     let at-case-values = at-j2 .before .before .before .before in
     let at-if1 = at-case-values .before .before .before in
     let at-sort = at-if1 .before in
     let at-loop = at-sort .before .before in
     let start = at-loop .before .before .before .before in
-    let z = case-closes _ _ _ _ _ _ _ _ _ _ (at-loop .loop .inv) (start .pre .1) _ (at-sort .sort .ensures) (at-if1 .if1 .left) _ _
-    (at-case-values .case-values .ensures) _ _ (at-j2 .j2 .given .1) _ _ _ (at-list .list .ensures) _ _ (c .before .before .r .given .1) in
+    let z = case-closes _ _ _ _ _ _ _ _ _ _ (at-loop .loop .inv .0) (start .pre .1 .0) _ (at-sort .sort .ensures) (at-if1 .if1 .left) _ _
+    (at-case-values .case-values .ensures) _ _ (at-j2 .j2 .given .1) _ _ _ (at-list .list .ensures .0) _ _ (c .before .before .r .given .1) in
     (omega (arith, z), omega arith, omega arith, omega (arith, z))
 
 cases-link-values-requires : (t : ℕ) → cases-lts.Need-link-values-requires (calls-cases t) (cases-at t) cases.Post cases-Inv-loop cases-μ-loop
@@ -397,13 +428,14 @@ cases-link-values-requires t c κs =
     let at-sort = at-if1 .before in
     let at-loop = at-sort .before .before in
     let start = at-loop .before .before .before .before in
-    case-links _ _ _ _ _ _ _ _ _ _ (at-loop .loop .inv) (start .pre .1) _ (at-sort .sort .ensures) (at-if1 .if1 .left) _ _
-    (at-case-values .case-values .ensures) _ _ (at-j2 .j2 .given .1) _ _ _ (at-list .list .ensures) _ _ (at-r .r .given .1) _
+    case-links _ _ _ _ _ _ _ _ _ _ (at-loop .loop .inv .0) (start .pre .1 .0) _ (at-sort .sort .ensures) (at-if1 .if1 .left) _ _
+    (at-case-values .case-values .ensures) _ _ (at-j2 .j2 .given .1) _ _ _ (at-list .list .ensures .0) _ _ (at-r .r .given .1) _
     (c .before .before .before .set-word .ensures)
 
 cases-loop-less : (t : ℕ) → cases-lts.Need-loop-less (calls-cases t) (cases-at t) cases.Post cases-Inv-loop cases-μ-loop
 cases-loop-less t c =
-    let at-r = c .before .before .before .before .before .before .before .before .before in
+    let back = c .before .before .before .before .before .before in
+    let at-r = back .before .before .before in
     let at-list = at-r .before .before .before .before .before .before in
     let at-j2 = at-list .before .before .before .before in
     let at-case-values = at-j2 .before .before .before .before in
@@ -411,8 +443,8 @@ cases-loop-less t c =
     let at-sort = at-if1 .before in
     let at-loop = at-sort .before .before in
     let start = at-loop .before .before .before .before in
-    let z = case-closes _ _ _ _ _ _ _ _ _ _ (at-loop .loop .inv) (start .pre .1) _ (at-sort .sort .ensures) (at-if1 .if1 .left) _ _
-    (at-case-values .case-values .ensures) _ _ (at-j2 .j2 .given .1) _ _ _ (at-list .list .ensures) _ _ (at-r .r .given .1) in omega (arith, z)
+    let z = case-closes _ _ _ _ _ _ _ _ _ _ (at-loop .loop .inv .0) (start .pre .1 .0) _ (at-sort .sort .ensures) (at-if1 .if1 .left) _ _
+    (at-case-values .case-values .ensures) _ _ (at-j2 .j2 .given .1) _ _ _ (at-list .list .ensures .0) _ _ (at-r .r .given .1) in omega (arith, z)
 
 cases-loop-again : (t : ℕ) → cases-lts.Need-loop-again (calls-cases t) (cases-at t) cases.Post cases-Inv-loop cases-μ-loop
 cases-loop-again t c =
@@ -423,48 +455,63 @@ cases-loop-again t c =
     let at-case-values = at-j2 .before .before .before .before in
     let at-if1 = at-case-values .before .before .before in
     let at-sort = at-if1 .before in
-    let at-loop = at-sort .before .before in
-    cases-go _ _ _ _ _ _ _ _ _ _ (at-loop .loop .inv) _ (at-sort .sort .ensures) (at-if1 .if1 .left) _ _ (at-case-values .case-values .ensures) _ _
-    (at-j2 .j2 .given .1) _ _ _ (at-list .list .ensures) _ _ (at-r .r .given .1) _ (at-set-word .set-word .ensures) _ (c .before .before .link-values .ensures)
+    let at-loop = at-sort .before .before in (
+      cases-go _ _ _ _ _ _ _ _ _ _ (at-loop .loop .inv .0) _ (at-sort .sort .ensures) (at-if1 .if1 .left) _ _ (at-case-values .case-values .ensures) _ _
+          (at-j2 .j2 .given .1) _ _ _ (at-list .list .ensures .0) _ _ (at-r .r .given .1) _ (at-set-word .set-word .ensures) _ (c .before .before .link-values .ensures),
+      grown-on (at-loop .loop .inv .1) (grown-upto _ _ (at-list .list .ensures .1) _ _ (at-r .r .given .1)),
+    )
 
 default-sort-requires : (t : ℕ) → default-lts.Need-sort-requires (calls-default t) (default-at t) default.Post
-default-sort-requires t c κs = omega (arith, default-room _ _ _ _ _ _ (c .before .before .before .before .pre .1))
+default-sort-requires t c κs =
+    let start = c .before .before .before .before in
+    omega (arith, default-room _ _ _ _ _ _ (start .pre .1 .0))
 
 default-add-rewrite : (t : ℕ) → default-lts.Need-add-rewrite (calls-default t) (default-at t) default.Post
 default-add-rewrite t c =
-    let start = c .before .before .before .before .before .before .before in
-    omega (arith, default-room _ _ _ _ _ _ (start .pre .1))
+    let back = c .before .before .before .before .before .before in
+    let start = back .before in
+    omega (arith, default-room _ _ _ _ _ _ (start .pre .1 .0))
 
 default-add-rewrite-2 : (t : ℕ) → default-lts.Need-add-rewrite-2 (calls-default t) (default-at t) default.Post
 default-add-rewrite-2 t c =
-    let start = c .before .before .before .before .before .before .before in
-    omega (arith, default-room _ _ _ _ _ _ (start .pre .1))
+    let back = c .before .before .before .before .before .before in
+    let start = back .before in
+    omega (arith, default-room _ _ _ _ _ _ (start .pre .1 .0))
 
 default-rewrite-requires : (t : ℕ) → default-lts.Need-rewrite-requires (calls-default t) (default-at t) default.Post
 default-rewrite-requires t c κs =
-    let start = c .before .before .before .before .before .before .before in
-    let z = default-room _ _ _ _ _ _ (start .pre .1) in (omega (arith, z), omega (arith, z), omega (arith, z))
+    let back = c .before .before .before .before .before .before in
+    let start = back .before in
+    let z = default-room _ _ _ _ _ _ (start .pre .1 .0) in (omega (arith, z), omega (arith, z), omega (arith, z))
 
 default-add-t17 : (t : ℕ) → default-lts.Need-add-t17 (calls-default t) (default-at t) default.Post
 default-add-t17 t c =
-    let start = c .before .before .before .before .before .before .before .before .before .before in
-    omega (arith, default-room _ _ _ _ _ _ (start .pre .1))
+    let back = c .before .before .before .before .before .before in
+    let start = back .before .before .before .before in
+    omega (arith, default-room _ _ _ _ _ _ (start .pre .1 .0))
 
 default-same-length : (t : ℕ) → default-lts.Need-same-length (calls-default t) (default-at t) default.Post
 default-same-length t c = search needs
 
 default-returns : (t : ℕ) → default-lts.Need-returns (calls-default t) (default-at t) default.Post
-default-returns t c = search (needs, default-no)
+default-returns t c = search (needs, default-no, grown-self)
 
 default-add-list : (t : ℕ) → default-lts.Need-add-list (calls-default t) (default-at t) default.Post
 default-add-list t c =
-    let start = c .before .before .before .before .before .before .before .before in
-    omega (arith, default-room _ _ _ _ _ _ (start .pre .1))
+    let back = c .before .before .before .before .before .before in
+    let start = back .before .before in
+    omega (arith, default-room _ _ _ _ _ _ (start .pre .1 .0))
 
 default-list-requires : (t : ℕ) → default-lts.Need-list-requires (calls-default t) (default-at t) default.Post
 default-list-requires t c κs =
-    let start = c .before .before .before .before .before .before .before .before in
-    (omega (arith, default-room _ _ _ _ _ _ (start .pre .1), start .pre .0), search (needs, default-lists))
+    let back = c .before .before .before .before .before .before in
+    let start = back .before .before in (
+      omega (arith, default-room _ _ _ _ _ _ (start .pre .1 .0), start .pre .0),
+      (
+        search (needs, default-lists),
+        start .pre .1 .1,
+      ),
+    )
 
 default-enum-known-r : (t : ℕ) → default-lts.Need-enum-known-r (calls-default t) (default-at t) default.Post
 default-enum-known-r t c = search needs
@@ -483,17 +530,20 @@ default-returns-2 t c = search (needs, default-wrong)
 
 default-add-rewrite-3 : (t : ℕ) → default-lts.Need-add-rewrite-3 (calls-default t) (default-at t) default.Post
 default-add-rewrite-3 t c =
-    let start = c .before .before .before .before .before .before .before .before .before .before .before .before .before .before .before .before .before in
-    omega (arith, default-room _ _ _ _ _ _ (start .pre .1))
+    let back = c .before .before .before .before .before .before in
+    let back-2 = back .before .before .before .before .before .before in
+    let start = back-2 .before .before .before .before .before in
+    omega (arith, default-room _ _ _ _ _ _ (start .pre .1 .0))
 
 default-rewrite-requires-2 : (t : ℕ) → default-lts.Need-rewrite-requires-2 (calls-default t) (default-at t) default.Post
 default-rewrite-requires-2 t c κs =
-    let at-list = c .before .before .before .before .before .before .before .before in
+    let back = c .before .before .before .before .before .before in
+    let at-list = back .before .before in
     let at-if1 = at-list .before .before .before in
     let at-sort = at-if1 .before in
     let start = at-sort .before .before .before .before .before in
-    let z = default-closes _ _ _ _ _ _ (start .pre .1) _ (at-sort .sort .ensures) (at-if1 .if1 .left) _ _ _ (at-list .list .ensures) _ _
-    (c .before .before .r .given .1) in let y = default-room _ _ _ _ _ _ (start .pre .1) in (omega (arith, z), omega (arith, y), omega (arith, z))
+    let z = default-closes _ _ _ _ _ _ (start .pre .1 .0) _ (at-sort .sort .ensures) (at-if1 .if1 .left) _ _ _ (at-list .list .ensures .0) _ _
+    (c .before .before .r .given .1) in let y = default-room _ _ _ _ _ _ (start .pre .1 .0) in (omega (arith, z), omega (arith, y), omega (arith, z))
 
 default-add-set-word : (t : ℕ) → default-lts.Need-add-set-word (calls-default t) (default-at t) default.Post
 default-add-set-word t c =
@@ -503,7 +553,7 @@ default-add-set-word t c =
     let at-sort = at-if1 .before in
     let start = at-sort .before .before .before .before .before in
     omega
-    (arith, default-closes _ _ _ _ _ _ (start .pre .1) _ (at-sort .sort .ensures) (at-if1 .if1 .left) _ _ _ (at-list .list .ensures) _ _ (at-r .r .given .1))
+    (arith, default-closes _ _ _ _ _ _ (start .pre .1 .0) _ (at-sort .sort .ensures) (at-if1 .if1 .left) _ _ _ (at-list .list .ensures .0) _ _ (at-r .r .given .1))
 
 default-set-word-requires : (t : ℕ) → default-lts.Need-set-word-requires (calls-default t) (default-at t) default.Post
 default-set-word-requires t c κs =
@@ -512,18 +562,19 @@ default-set-word-requires t c κs =
     let at-if1 = at-list .before .before .before in
     let at-sort = at-if1 .before in
     let start = at-sort .before .before .before .before .before in
-    let z = default-closes _ _ _ _ _ _ (start .pre .1) _ (at-sort .sort .ensures) (at-if1 .if1 .left) _ _ _ (at-list .list .ensures) _ _ (at-r .r .given .1) in
+    let z = default-closes _ _ _ _ _ _ (start .pre .1 .0) _ (at-sort .sort .ensures) (at-if1 .if1 .left) _ _ _ (at-list .list .ensures .0) _ _ (at-r .r .given .1) in
     let y = rewritten-length (c .before .before .before .rewrite2 .ensures) (z .2) in (omega (arith, z, y), omega arith, omega arith, omega (arith, z))
 
 default-add-t23 : (t : ℕ) → default-lts.Need-add-t23 (calls-default t) (default-at t) default.Post
 default-add-t23 t c =
-    let at-r = c .before .before .before .before .before .before .before .before .before in
+    let back = c .before .before .before .before .before .before in
+    let at-r = back .before .before .before in
     let at-list = at-r .before .before .before .before .before .before in
     let at-if1 = at-list .before .before .before in
     let at-sort = at-if1 .before in
     let start = at-sort .before .before .before .before .before in
     omega
-    (arith, default-closes _ _ _ _ _ _ (start .pre .1) _ (at-sort .sort .ensures) (at-if1 .if1 .left) _ _ _ (at-list .list .ensures) _ _ (at-r .r .given .1))
+    (arith, default-closes _ _ _ _ _ _ (start .pre .1 .0) _ (at-sort .sort .ensures) (at-if1 .if1 .left) _ _ _ (at-list .list .ensures .0) _ _ (at-r .r .given .1))
 
 default-same-length-4 : (t : ℕ) → default-lts.Need-same-length-4 (calls-default t) (default-at t) default.Post
 default-same-length-4 t c = search needs
@@ -537,43 +588,57 @@ default-returns-3 t c =
     let at-r = at-rewrite2 .before .before .before in
     let at-list = at-r .before .before .before .before .before .before in
     let at-if1 = at-list .before .before .before in
-    let at-sort = at-if1 .before in
-    default-yes _ _ _ _ _ _ _ (at-sort .sort .ensures) (at-if1 .if1 .left) _ _ _ (at-list .list .ensures) _ _ (at-r .r .given .1) _ _
-    (at-rewrite2 .rewrite2 .ensures) (c .before .before .set-word .ensures)
+    let at-sort = at-if1 .before in (
+      default-yes _ _ _ _ _ _ _ (at-sort .sort .ensures) (at-if1 .if1 .left) _ _ _ (at-list .list .ensures .0) _ _ (at-r .r .given .1) _ _
+          (at-rewrite2 .rewrite2 .ensures) (c .before .before .set-word .ensures),
+      grown-upto _ _ (at-list .list .ensures .1) _ _ (at-r .r .given .1),
+    )
 
 else-part-sort-requires : (t : ℕ) → else-part-lts.Need-sort-requires (calls-else-part t) (else-part-at t) else-part.Post
-else-part-sort-requires t c κs = omega (arith, else-room _ _ _ _ _ _ (c .before .before .before .before .pre .1))
+else-part-sort-requires t c κs =
+    let start = c .before .before .before .before in
+    omega (arith, else-room _ _ _ _ _ _ (start .pre .1 .0))
 
 else-part-add-set-word : (t : ℕ) → else-part-lts.Need-add-set-word (calls-else-part t) (else-part-at t) else-part.Post
 else-part-add-set-word t c =
-    let start = c .before .before .before .before .before .before .before in
-    omega (arith, else-room _ _ _ _ _ _ (start .pre .1))
+    let back = c .before .before .before .before .before .before in
+    let start = back .before in
+    omega (arith, else-room _ _ _ _ _ _ (start .pre .1 .0))
 
 else-part-set-word-requires : (t : ℕ) → else-part-lts.Need-set-word-requires (calls-else-part t) (else-part-at t) else-part.Post
 else-part-set-word-requires t c κs =
-    let start = c .before .before .before .before .before .before .before in
-    let z = else-room _ _ _ _ _ _ (start .pre .1) in (omega (arith, z), omega arith, omega arith, omega (arith, z))
+    let back = c .before .before .before .before .before .before in
+    let start = back .before in
+    let z = else-room _ _ _ _ _ _ (start .pre .1 .0) in (omega (arith, z), omega arith, omega arith, omega (arith, z))
 
 else-part-add-t17 : (t : ℕ) → else-part-lts.Need-add-t17 (calls-else-part t) (else-part-at t) else-part.Post
 else-part-add-t17 t c =
-    let start = c .before .before .before .before .before .before .before .before .before .before in
-    omega (arith, else-room _ _ _ _ _ _ (start .pre .1))
+    let back = c .before .before .before .before .before .before in
+    let start = back .before .before .before .before in
+    omega (arith, else-room _ _ _ _ _ _ (start .pre .1 .0))
 
 else-part-same-length : (t : ℕ) → else-part-lts.Need-same-length (calls-else-part t) (else-part-at t) else-part.Post
 else-part-same-length t c = search needs
 
 else-part-returns : (t : ℕ) → else-part-lts.Need-returns (calls-else-part t) (else-part-at t) else-part.Post
-else-part-returns t c = search (needs, else-no)
+else-part-returns t c = search (needs, else-no, grown-self)
 
 else-part-add-list : (t : ℕ) → else-part-lts.Need-add-list (calls-else-part t) (else-part-at t) else-part.Post
 else-part-add-list t c =
-    let start = c .before .before .before .before .before .before .before .before in
-    omega (arith, else-room _ _ _ _ _ _ (start .pre .1))
+    let back = c .before .before .before .before .before .before in
+    let start = back .before .before in
+    omega (arith, else-room _ _ _ _ _ _ (start .pre .1 .0))
 
 else-part-list-requires : (t : ℕ) → else-part-lts.Need-list-requires (calls-else-part t) (else-part-at t) else-part.Post
 else-part-list-requires t c κs =
-    let start = c .before .before .before .before .before .before .before .before in
-    (omega (arith, else-room _ _ _ _ _ _ (start .pre .1), start .pre .0), search (needs, else-lists))
+    let back = c .before .before .before .before .before .before in
+    let start = back .before .before in (
+      omega (arith, else-room _ _ _ _ _ _ (start .pre .1 .0), start .pre .0),
+      (
+        search (needs, else-lists),
+        start .pre .1 .1,
+      ),
+    )
 
 else-part-enum-known-r : (t : ℕ) → else-part-lts.Need-enum-known-r (calls-else-part t) (else-part-at t) else-part.Post
 else-part-enum-known-r t c = search needs
@@ -592,12 +657,13 @@ else-part-returns-2 t c = search (needs, else-wrong)
 
 else-part-set-word-requires-2 : (t : ℕ) → else-part-lts.Need-set-word-requires-2 (calls-else-part t) (else-part-at t) else-part.Post
 else-part-set-word-requires-2 t c κs =
-    let at-list = c .before .before .before .before .before .before .before .before in
+    let back = c .before .before .before .before .before .before in
+    let at-list = back .before .before in
     let at-if1 = at-list .before .before .before in
     let at-sort = at-if1 .before in
     let start = at-sort .before .before .before .before .before in
-    let z = else-closes _ _ _ _ _ _ (start .pre .1) _ (at-sort .sort .ensures) (at-if1 .if1 .left) _ _ _ (at-list .list .ensures) _ _
-    (c .before .before .r .given .1) in let y = else-room _ _ _ _ _ _ (start .pre .1) in (omega (arith, z, y), omega arith, omega arith, omega (arith, z))
+    let z = else-closes _ _ _ _ _ _ (start .pre .1 .0) _ (at-sort .sort .ensures) (at-if1 .if1 .left) _ _ _ (at-list .list .ensures .0) _ _
+    (c .before .before .r .given .1) in let y = else-room _ _ _ _ _ _ (start .pre .1 .0) in (omega (arith, z, y), omega arith, omega arith, omega (arith, z))
 
 else-part-add-set-word-2 : (t : ℕ) → else-part-lts.Need-add-set-word-2 (calls-else-part t) (else-part-at t) else-part.Post
 else-part-add-set-word-2 t c =
@@ -606,27 +672,29 @@ else-part-add-set-word-2 t c =
     let at-if1 = at-list .before .before .before in
     let at-sort = at-if1 .before in
     let start = at-sort .before .before .before .before .before in
-    omega (arith, else-closes _ _ _ _ _ _ (start .pre .1) _ (at-sort .sort .ensures) (at-if1 .if1 .left) _ _ _ (at-list .list .ensures) _ _ (at-r .r .given .1))
+    omega (arith, else-closes _ _ _ _ _ _ (start .pre .1 .0) _ (at-sort .sort .ensures) (at-if1 .if1 .left) _ _ _ (at-list .list .ensures .0) _ _ (at-r .r .given .1))
 
 else-part-set-word-requires-3 : (t : ℕ) → else-part-lts.Need-set-word-requires-3 (calls-else-part t) (else-part-at t) else-part.Post
 else-part-set-word-requires-3 t c κs =
+    let at-set-word2 = c .before .before .before in
     let at-r = c .before .before .before .before .before .before in
     let at-list = at-r .before .before .before .before .before .before in
     let at-if1 = at-list .before .before .before in
     let at-sort = at-if1 .before in
     let start = at-sort .before .before .before .before .before in
-    let z = else-closes _ _ _ _ _ _ (start .pre .1) _ (at-sort .sort .ensures) (at-if1 .if1 .left) _ _ _ (at-list .list .ensures) _ _ (at-r .r .given .1) in let
-    y = else-room _ _ _ _ _ _ (start .pre .1) in
-    (omega (arith, z, y, c .before .before .before .set-word2 .ensures .kept .long), omega arith, omega arith, omega (arith, z))
+    let z = else-closes _ _ _ _ _ _ (start .pre .1 .0) _ (at-sort .sort .ensures) (at-if1 .if1 .left) _ _ _ (at-list .list .ensures .0) _ _ (at-r .r .given .1) in let
+    y = else-room _ _ _ _ _ _ (start .pre .1 .0) in
+    (omega (arith, z, y, at-set-word2 .set-word2 .ensures .kept .long), omega arith, omega arith, omega (arith, z))
 
 else-part-add-t22 : (t : ℕ) → else-part-lts.Need-add-t22 (calls-else-part t) (else-part-at t) else-part.Post
 else-part-add-t22 t c =
-    let at-r = c .before .before .before .before .before .before .before .before .before in
+    let back = c .before .before .before .before .before .before in
+    let at-r = back .before .before .before in
     let at-list = at-r .before .before .before .before .before .before in
     let at-if1 = at-list .before .before .before in
     let at-sort = at-if1 .before in
     let start = at-sort .before .before .before .before .before in
-    omega (arith, else-closes _ _ _ _ _ _ (start .pre .1) _ (at-sort .sort .ensures) (at-if1 .if1 .left) _ _ _ (at-list .list .ensures) _ _ (at-r .r .given .1))
+    omega (arith, else-closes _ _ _ _ _ _ (start .pre .1 .0) _ (at-sort .sort .ensures) (at-if1 .if1 .left) _ _ _ (at-list .list .ensures .0) _ _ (at-r .r .given .1))
 
 else-part-same-length-4 : (t : ℕ) → else-part-lts.Need-same-length-4 (calls-else-part t) (else-part-at t) else-part.Post
 else-part-same-length-4 t c = search needs
@@ -640,9 +708,11 @@ else-part-returns-3 t c =
     let at-r = at-set-word2 .before .before .before in
     let at-list = at-r .before .before .before .before .before .before in
     let at-if1 = at-list .before .before .before in
-    let at-sort = at-if1 .before in
-    else-yes _ _ _ _ _ _ _ (at-sort .sort .ensures) (at-if1 .if1 .left) _ _ _ (at-list .list .ensures) _ _ (at-r .r .given .1) _ _
-    (at-set-word2 .set-word2 .ensures) (c .before .before .set-word3 .ensures)
+    let at-sort = at-if1 .before in (
+      else-yes _ _ _ _ _ _ _ (at-sort .sort .ensures) (at-if1 .if1 .left) _ _ _ (at-list .list .ensures .0) _ _ (at-r .r .given .1) _ _
+          (at-set-word2 .set-word2 .ensures) (c .before .before .set-word3 .ensures),
+      grown-upto _ _ (at-list .list .ensures .1) _ _ (at-r .r .given .1),
+    )
 
 for-statement-for-head-requires : (t : ℕ) → for-statement-lts.Need-for-head-requires (calls-for-statement t) (for-statement-at t) for-statement.Post
 for-statement-for-head-requires t c κs = search (needs, for-heads)
@@ -653,25 +723,21 @@ for-statement-enum-known-j t c = search needs
 for-statement-enum-known-j-2 : (t : ℕ) → for-statement-lts.Need-enum-known-j-2 (calls-for-statement t) (for-statement-at t) for-statement.Post
 for-statement-enum-known-j-2 t c = search needs
 
-for-statement-add-enter : (t : ℕ) → for-statement-lts.Need-add-enter (calls-for-statement t) (for-statement-at t) for-statement.Post
-for-statement-add-enter t c =
-    let at-for-head = c .before .before .before .before .before .before .before in
-    let start = at-for-head .before .before .before .before .before .before in
-    omega (arith, for-spare _ _ _ _ _ _ (start .pre .1) _ _ (at-for-head .for-head .ensures) _ _ (c .before .before .before .j2 .given .1))
-
 for-statement-enter-requires : (t : ℕ) → for-statement-lts.Need-enter-requires (calls-for-statement t) (for-statement-at t) for-statement.Post
 for-statement-enter-requires t c κs =
-    let at-for-head = c .before .before .before .before .before .before .before in
+    let back = c .before .before .before .before .before .before in
+    let at-for-head = back .before in
     let start = at-for-head .before .before .before .before .before .before in
-    let z = for-declares _ _ _ _ _ _ (start .pre .1) _ _ (at-for-head .for-head .ensures) _ _ (c .before .before .before .j2 .given .1) in
-    (z .0, z .1, omega (arith, for-spare _ _ _ _ _ _ (start .pre .1) _ _ (at-for-head .for-head .ensures) _ _ (c .before .before .before .j2 .given .1)))
+    let z = for-declares _ _ _ _ _ _ (start .pre .1 .0) _ _ (at-for-head .for-head .ensures) _ _ (c .before .before .before .j2 .given .1) in
+    (omega (arith, z .0), z .1, omega (arith, for-spare _ _ _ _ _ _ (start .pre .1 .0) _ _ (at-for-head .for-head .ensures) _ _ (c .before .before .before .j2 .given .1)), start .pre .1 .1)
 
 for-statement-add-list : (t : ℕ) → for-statement-lts.Need-add-list (calls-for-statement t) (for-statement-at t) for-statement.Post
 for-statement-add-list t c =
-    let at-j2 = c .before .before .before .before .before .before .before .before .before .before in
+    let back = c .before .before .before .before .before .before in
+    let at-j2 = back .before .before .before .before in
     let at-for-head = at-j2 .before .before .before .before in
     let start = at-for-head .before .before .before .before .before .before in
-    omega (arith, for-spare _ _ _ _ _ _ (start .pre .1) _ _ (at-for-head .for-head .ensures) _ _ (at-j2 .j2 .given .1))
+    omega (arith, for-spare _ _ _ _ _ _ (start .pre .1 .0) _ _ (at-for-head .for-head .ensures) _ _ (at-j2 .j2 .given .1))
 
 for-statement-list-requires : (t : ℕ) → for-statement-lts.Need-list-requires (calls-for-statement t) (for-statement-at t) for-statement.Post
 for-statement-list-requires t c κs =
@@ -679,10 +745,13 @@ for-statement-list-requires t c κs =
     let at-j2 = at-enter .before .before .before .before in
     let at-for-head = at-j2 .before .before .before .before in
     let start = at-for-head .before .before .before .before .before .before in (
-      omega (arith, for-spare _ _ _ _ _ _ (start .pre .1) _ _ (at-for-head .for-head .ensures) _ _ (at-j2 .j2 .given .1), start .pre .0),
-      for-lists _ _ _ _ _ _
-          (start .pre .1) _ _ (at-for-head .for-head .ensures) _ _ (at-j2 .j2 .given .1) _ (omega arith) _ _ (at-enter .enter .ensures .known) _
-          (at-enter .enter .ensures .used),
+      omega (arith, for-spare _ _ _ _ _ _ (start .pre .1 .0) _ _ (at-for-head .for-head .ensures) _ _ (at-j2 .j2 .given .1), start .pre .0),
+      (
+        for-lists _ _ _ _ _ _
+            (start .pre .1 .0) _ _ (at-for-head .for-head .ensures) _ _ (at-j2 .j2 .given .1) _ (omega arith) _ _ (at-enter .enter .ensures .known) _
+            (entered-used (at-enter .enter .ensures)),
+        entered-word (at-enter .enter .ensures) (start .pre .1 .1),
+      ),
     )
 
 for-statement-enum-known-r : (t : ℕ) → for-statement-lts.Need-enum-known-r (calls-for-statement t) (for-statement-at t) for-statement.Post
@@ -700,52 +769,56 @@ for-statement-same-length-2 t c = search needs
 for-statement-returns : (t : ℕ) → for-statement-lts.Need-returns (calls-for-statement t) (for-statement-at t) for-statement.Post
 for-statement-returns t c =
     let at-list = c .before .before .before .before .before .before in
-    let at-enter = at-list .before .before .before .before .before .before .before in
+    let back = at-list .before .before .before .before .before .before in
+    let at-enter = back .before in
     let at-j2 = at-enter .before .before .before .before in
     let at-for-head = at-j2 .before .before .before .before in
-    for-list-wrong _ _ _ _ _ _ _ _ (at-for-head .for-head .ensures) _ _ (at-j2 .j2 .given .1) _ (omega arith) _ _ (at-enter .enter .ensures .known) _
-    (at-enter .enter .ensures .used) _ _ _ (at-list .list .ensures) _ _ (c .enum-told .given .1)
-
-for-statement-add-leave : (t : ℕ) → for-statement-lts.Need-add-leave (calls-for-statement t) (for-statement-at t) for-statement.Post
-for-statement-add-leave t c =
-    let at-j2 = c .before .before .before .before .before .before .before .before .before .before .before .before .before .before .before .before .before .before .before .before in
-    let at-for-head = at-j2 .before .before .before .before in
-    let start = at-for-head .before .before .before .before .before .before in
-    omega (arith, for-spare _ _ _ _ _ _ (start .pre .1) _ _ (at-for-head .for-head .ensures) _ _ (at-j2 .j2 .given .1))
+    let start = at-for-head .before .before .before .before .before .before in (
+      for-list-wrong _ _ _ _ _ _ _ _ (at-for-head .for-head .ensures) _ _ (at-j2 .j2 .given .1) _ (omega arith) _ _ (at-enter .enter .ensures .known) _
+          (entered-used (at-enter .enter .ensures)) _ _ _ (at-list .list .ensures .0) _ _ (c .enum-told .given .1),
+      stays-wrong (start .args .scope) _ _ _ (c .enum-told .given .1),
+    )
 
 for-statement-leave-requires : (t : ℕ) → for-statement-lts.Need-leave-requires (calls-for-statement t) (for-statement-at t) for-statement.Post
 for-statement-leave-requires t c κs =
-    let at-list = c .before .before .before .before .before .before .before .before .before in
-    let at-enter = at-list .before .before .before .before .before .before .before in
+    let back = c .before .before .before .before .before .before in
+    let at-list = back .before .before .before in
+    let back = at-list .before .before .before .before .before .before in
+    let at-enter = back .before in
     let at-j2 = at-enter .before .before .before .before in
     let at-for-head = at-j2 .before .before .before .before in
     let start = at-for-head .before .before .before .before .before .before in
-    for-leaves _ _ _ _ _ _ (start .pre .1) _ _ (at-for-head .for-head .ensures) _ _ (at-j2 .j2 .given .1) _ (omega arith) _ _ (at-enter .enter .ensures .known)
-    _ _ _ (for-listed (at-enter .enter .ensures .used) (at-list .list .ensures)) _ _ (c .before .before .before .r .given .1)
+    for-leaves _ _ _ _ _ _ (start .pre .1 .0) _ _ (at-for-head .for-head .ensures) _ _ (at-j2 .j2 .given .1) _ (omega arith) _ _ (at-enter .enter .ensures .known)
+    _ _ _ (for-listed (entered-used (at-enter .enter .ensures)) (at-list .list .ensures .0)) _ _ (c .before .before .before .r .given .1)
+    (entered-opened (at-enter .enter .ensures) (grown-upto _ _ (at-list .list .ensures .1) _ _ (c .before .before .before .r .given .1)))
 
 for-statement-for-end-requires : (t : ℕ) → for-statement-lts.Need-for-end-requires (calls-for-statement t) (for-statement-at t) for-statement.Post
 for-statement-for-end-requires t c κs =
-    let at-r = c .before .before .before .before .before .before .before in
+    let back = c .before .before .before .before .before .before in
+    let at-r = back .before in
     let at-list = at-r .before .before .before .before .before .before in
-    let at-enter = at-list .before .before .before .before .before .before .before in
+    let back = at-list .before .before .before .before .before .before in
+    let at-enter = back .before in
     let at-j2 = at-enter .before .before .before .before in
     let at-for-head = at-j2 .before .before .before .before in
     let start = at-for-head .before .before .before .before .before .before in
-    for-closes _ _ _ _ _ _ (start .pre .1) _ _ (at-for-head .for-head .ensures) _ _ (at-j2 .j2 .given .1) _ (omega arith) _ _ (at-enter .enter .ensures .known)
-    _ _ _ (for-listed (at-enter .enter .ensures .used) (at-list .list .ensures)) _ _ (at-r .r .given .1)
+    for-closes _ _ _ _ _ _ (start .pre .1 .0) _ _ (at-for-head .for-head .ensures) _ _ (at-j2 .j2 .given .1) _ (omega arith) _ _ (at-enter .enter .ensures .known)
+    _ _ _ (for-listed (entered-used (at-enter .enter .ensures)) (at-list .list .ensures .0)) _ _ (at-r .r .given .1)
 
-for-statement-add-t26 : (t : ℕ) → for-statement-lts.Need-add-t26 (calls-for-statement t) (for-statement-at t) for-statement.Post
-for-statement-add-t26 t c =
-    let at-r = c .before .before .before .before .before .before .before .before .before .before in
+for-statement-add-t30 : (t : ℕ) → for-statement-lts.Need-add-t30 (calls-for-statement t) (for-statement-at t) for-statement.Post
+for-statement-add-t30 t c =
+    let back = c .before .before .before .before .before .before in
+    let at-r = back .before .before .before .before in
     let at-list = at-r .before .before .before .before .before .before in
-    let at-enter = at-list .before .before .before .before .before .before .before in
+    let back = at-list .before .before .before .before .before .before in
+    let at-enter = back .before in
     let at-j2 = at-enter .before .before .before .before in
     let at-for-head = at-j2 .before .before .before .before in
     let start = at-for-head .before .before .before .before .before .before in
     omega (
       arith,
-      for-closes _ _ _ _ _ _ (start .pre .1) _ _ (at-for-head .for-head .ensures) _ _ (at-j2 .j2 .given .1) _ (omega arith) _ _
-          (at-enter .enter .ensures .known) _ _ _ (for-listed (at-enter .enter .ensures .used) (at-list .list .ensures)) _ _ (at-r .r .given .1),
+      for-closes _ _ _ _ _ _ (start .pre .1 .0) _ _ (at-for-head .for-head .ensures) _ _ (at-j2 .j2 .given .1) _ (omega arith) _ _
+          (at-enter .enter .ensures .known) _ _ _ (for-listed (entered-used (at-enter .enter .ensures)) (at-list .list .ensures .0)) _ _ (at-r .r .given .1),
     )
 
 for-statement-same-length-3 : (t : ℕ) → for-statement-lts.Need-same-length-3 (calls-for-statement t) (for-statement-at t) for-statement.Post
@@ -763,13 +836,14 @@ for-statement-same-length-5 t c =
     (let at-leave = c .before .before .before .before .before .before in
     let at-r = at-leave .before .before .before .before in
     let at-list = at-r .before .before .before .before .before .before in
-    let at-enter = at-list .before .before .before .before .before .before .before in
+    let back = at-list .before .before .before .before .before .before in
+    let at-enter = back .before in
     let at-j2 = at-enter .before .before .before .before in
     let at-for-head = at-j2 .before .before .before .before in
     let start = at-for-head .before .before .before .before .before .before in
-    for-long _ _ _ _ _ _ (start .pre .1) _ _ (at-for-head .for-head .ensures) _ _ (at-j2 .j2 .given .1) _ (omega arith) _ _
-    (at-enter .enter .ensures .known) _ _ _ (for-listed (at-enter .enter .ensures .used) (at-list .list .ensures)) _ _ (at-r .r .given .1) _ _
-    (at-leave .leave .ensures .known) (c .before .before .for-end .ensures)) in
+    for-long _ _ _ _ _ _ (start .pre .1 .0) _ _ (at-for-head .for-head .ensures) _ _ (at-j2 .j2 .given .1) _ (omega arith) _ _
+    (at-enter .enter .ensures .known) _ _ _ (for-listed (entered-used (at-enter .enter .ensures)) (at-list .list .ensures .0)) _ _ (at-r .r .given .1) _ _
+    (entered-left (at-enter .enter .ensures) (grown-upto _ _ (at-list .list .ensures .1) _ _ (at-r .r .given .1)) (at-leave .leave .ensures)) (c .before .before .for-end .ensures)) in
     search needs
 
 for-statement-same-length-6 : (t : ℕ) → for-statement-lts.Need-same-length-6 (calls-for-statement t) (for-statement-at t) for-statement.Post
@@ -780,38 +854,46 @@ for-statement-returns-3 t c =
     let at-leave = c .before .before .before .before .before .before in
     let at-r = at-leave .before .before .before .before in
     let at-list = at-r .before .before .before .before .before .before in
-    let at-enter = at-list .before .before .before .before .before .before .before in
+    let back = at-list .before .before .before .before .before .before in
+    let at-enter = back .before in
     let at-j2 = at-enter .before .before .before .before in
     let at-for-head = at-j2 .before .before .before .before in
-    for-finished _ _ _ _ _ _ _ _ (at-for-head .for-head .ensures) _ _ (at-j2 .j2 .given .1) _ (omega arith) _ _ (at-enter .enter .ensures .known) _
-    (at-enter .enter .ensures .used) _ _ _ (at-list .list .ensures) _ _ (at-r .r .given .1) _ _ (at-leave .leave .ensures .known) _
-    (at-leave .leave .ensures .used) (c .before .before .for-end .ensures)
+    let entered = at-enter .enter .ensures in
+    let more = grown-upto _ _ (at-list .list .ensures .1) _ _ (at-r .r .given .1) in
+    let left = at-leave .leave .ensures in (
+      for-finished _ _ _ _ _ _ _ _ (at-for-head .for-head .ensures) _ _ (at-j2 .j2 .given .1) _ (omega arith) _ _ (entered .known) _
+          (entered-used entered) _ _ _ (at-list .list .ensures .0) _ _ (at-r .r .given .1) _ _ (entered-left entered more left) _ (left-used entered more left) (c .before .before .for-end .ensures),
+      entered-grown entered more left,
+    )
 
 abbrev full-if-Inv-loop : full-if-lts.InvT-loop
-full-if-Inv-loop text code₀ values₀ k i first op₀ c₀ t₀ n₀ code values op c t n = Armings text code₀ values₀ k (n₀ .used) i first code values op c t (n .used)
+full-if-Inv-loop text code₀ values₀ k i first op₀ c₀ t₀ n₀ code values op c t n = Armings text code₀ values₀ k (n₀ .used) i first code values op c t (n .used) × Grown n₀ n
 
 abbrev full-if-μ-loop : full-if-lts.MeasureT-loop
-full-if-μ-loop text code₀ values₀ k i first op₀ c₀ t₀ n₀ code values op c t n = 8192 - t
+full-if-μ-loop text code₀ values₀ k i first op₀ c₀ t₀ n₀ code values op c t n = wordLimit - t
 
 full-if-loop-holds : (t : ℕ) → full-if-lts.Need-loop-holds (calls-full-if t) (full-if-at t) full-if.Post full-if-Inv-loop full-if-μ-loop
-full-if-loop-holds t c = search (needs, arms-begin)
+full-if-loop-holds t c = search (needs, arms-begin, grown-self)
 
 full-if-add-list : (t : ℕ) → full-if-lts.Need-add-list (calls-full-if t) (full-if-at t) full-if.Post full-if-Inv-loop full-if-μ-loop
 full-if-add-list t c =
     let start = c .before .before .before .before .before .before in
-    omega (arith, arm-place _ _ _ _ _ _ _ _ _ _ _ _ _ (c .before .before .loop .inv) (start .pre .1))
+    omega (arith, arm-place _ _ _ _ _ _ _ _ _ _ _ _ _ (c .before .before .loop .inv .0) (start .pre .1 .0))
 
 full-if-list-requires : (t : ℕ) → full-if-lts.Need-list-requires (calls-full-if t) (full-if-at t) full-if.Post full-if-Inv-loop full-if-μ-loop
 full-if-list-requires t c κs =
     let start = c .before .before .before .before .before .before in (
       omega (
         arith,
-        arm-place _ _ _ _ _ _ _ _ _ _ _ _ _ (c .before .before .loop .inv) (start .pre .1),
+        arm-place _ _ _ _ _ _ _ _ _ _ _ _ _ (c .before .before .loop .inv .0) (start .pre .1 .0),
         arm-after _ _ _ _ _ _ _ _ _ _ _ _ _
-            (c .before .before .loop .inv) (start .pre .1),
+            (c .before .before .loop .inv .0) (start .pre .1 .0),
         start .pre .0,
       ),
-      search (needs, arm-lists),
+      (
+        search (needs, arm-lists),
+        has-word (start .pre .1 .1) (c .before .before .loop .inv .1),
+      ),
     )
 
 full-if-enum-known-r : (t : ℕ) → full-if-lts.Need-enum-known-r (calls-full-if t) (full-if-at t) full-if.Post full-if-Inv-loop full-if-μ-loop
@@ -823,28 +905,31 @@ full-if-enum-told t c = search needs
 full-if-same-length : (t : ℕ) → full-if-lts.Need-same-length (calls-full-if t) (full-if-at t) full-if.Post full-if-Inv-loop full-if-μ-loop
 full-if-same-length t c =
     let z =
-    (let at-loop = c .before .before .before .before .before .before .before .before .before in
+    (let back = c .before .before .before .before .before .before in
+    let at-loop = back .before .before .before in
     let start = at-loop .before .before .before .before in
-    arm-long-so _ _ _ _ _ _ _ _ _ _ _ _ _ (at-loop .loop .inv) (start .pre .1)) in
+    arm-long-so _ _ _ _ _ _ _ _ _ _ _ _ _ (at-loop .loop .inv .0) (start .pre .1 .0)) in
     search needs
 
 full-if-same-length-2 : (t : ℕ) → full-if-lts.Need-same-length-2 (calls-full-if t) (full-if-at t) full-if.Post full-if-Inv-loop full-if-μ-loop
 full-if-same-length-2 t c =
     let z =
-    (let at-loop = c .before .before .before .before .before .before .before .before .before in
+    (let back = c .before .before .before .before .before .before in
+    let at-loop = back .before .before .before in
     let start = at-loop .before .before .before .before in
-    arm-values _ _ _ _ _ _ _ _ _ _ _ _ _ (at-loop .loop .inv) (start .pre .1)) in
+    arm-values _ _ _ _ _ _ _ _ _ _ _ _ _ (at-loop .loop .inv .0) (start .pre .1 .0)) in
     search needs
 
 full-if-returns : (t : ℕ) → full-if-lts.Need-returns (calls-full-if t) (full-if-at t) full-if.Post full-if-Inv-loop full-if-μ-loop
-full-if-returns t c = search (needs, arm-list-wrong)
+full-if-returns t c = search (needs, arm-list-wrong, stays-on)
 
 full-if-arm-end-requires : (t : ℕ) → full-if-lts.Need-arm-end-requires (calls-full-if t) (full-if-at t) full-if.Post full-if-Inv-loop full-if-μ-loop
 full-if-arm-end-requires t c κs =
-    let at-list = c .before .before .before .before .before .before .before .before in
+    let back = c .before .before .before .before .before .before in
+    let at-list = back .before .before in
     let at-loop = at-list .before .before .before in
     let start = at-loop .before .before .before .before in
-    arm-closes _ _ _ _ _ _ _ _ _ _ _ _ _ (at-loop .loop .inv) (start .pre .1) _ _ _ (at-list .list .ensures) _ _ (c .before .before .r .given .1)
+    arm-closes _ _ _ _ _ _ _ _ _ _ _ _ _ (at-loop .loop .inv .0) (start .pre .1 .0) _ _ _ (at-list .list .ensures .0) _ _ (c .before .before .r .given .1)
 
 full-if-sort-requires : (t : ℕ) → full-if-lts.Need-sort-requires (calls-full-if t) (full-if-at t) full-if.Post full-if-Inv-loop full-if-μ-loop
 full-if-sort-requires t c κs =
@@ -854,30 +939,34 @@ full-if-sort-requires t c κs =
     let start = at-loop .before .before .before .before in
     omega (
       arith,
-      arm-closes _ _ _ _ _ _ _ _ _ _ _ _ _ (at-loop .loop .inv) (start .pre .1) _ _ _ (at-list .list .ensures) _ _ (at-r .r .given .1),
+      arm-closes _ _ _ _ _ _ _ _ _ _ _ _ _ (at-loop .loop .inv .0) (start .pre .1 .0) _ _ _ (at-list .list .ensures .0) _ _ (at-r .r .given .1),
       arm-long _ _
-          _ _ _ _ _ _ _ _ _ _ _ (at-loop .loop .inv) (start .pre .1) _ _ _ (at-list .list .ensures) _ _ (at-r .r .given .1) _
+          _ _ _ _ _ _ _ _ _ _ _ (at-loop .loop .inv .0) (start .pre .1 .0) _ _ _ (at-list .list .ensures .0) _ _ (at-r .r .given .1) _
           (c .before .before .before .arm-end .ensures),
-      arm-wide _ _ _ _ _ _ _ _ _ _ _ _ _ (at-loop .loop .inv) (start .pre .1),
+      arm-wide _ _ _ _ _ _ _ _ _ _ _ _ _ (at-loop .loop .inv .0) (start .pre .1 .0),
     )
 
 full-if-else-part-requires : (t : ℕ) → full-if-lts.Need-else-part-requires (calls-full-if t) (full-if-at t) full-if.Post full-if-Inv-loop full-if-μ-loop
 full-if-else-part-requires t c κs =
-    let at-arm-end = c .before .before .before .before .before .before .before in
+    let back = c .before .before .before .before .before .before in
+    let at-arm-end = back .before in
     let at-r = at-arm-end .before .before .before in
     let at-list = at-r .before .before .before .before .before .before in
     let at-loop = at-list .before .before .before in
     let start = at-loop .before .before .before .before in (
       omega (
         arith,
-        arm-closes _ _ _ _ _ _ _ _ _ _ _ _ _ (at-loop .loop .inv) (start .pre .1) _ _ _ (at-list .list .ensures) _ _ (at-r .r .given .1),
+        arm-closes _ _ _ _ _ _ _ _ _ _ _ _ _ (at-loop .loop .inv .0) (start .pre .1 .0) _ _ _ (at-list .list .ensures .0) _ _ (at-r .r .given .1),
         arm-after _
-            _ _ _ _ _ _ _ _ _ _ _ _ (at-loop .loop .inv) (start .pre .1),
+            _ _ _ _ _ _ _ _ _ _ _ _ (at-loop .loop .inv .0) (start .pre .1 .0),
         start .pre .0,
       ),
-      arm-elses _ _ _ _ _ _ _ _ _ _ _ _ _ (at-loop .loop .inv) (start .pre .1) _ _ _
-          (at-list .list .ensures) _ _ (at-r .r .given .1) _ (at-arm-end .arm-end .ensures) _ (c .before .before .before .sort .ensures)
-          (c .before .before .if1 .taken),
+      (
+        arm-elses _ _ _ _ _ _ _ _ _ _ _ _ _ (at-loop .loop .inv .0) (start .pre .1 .0) _ _ _
+            (at-list .list .ensures .0) _ _ (at-r .r .given .1) _ (at-arm-end .arm-end .ensures) _ (c .before .before .before .sort .ensures)
+            (c .before .before .if1 .taken),
+        has-word (has-word (start .pre .1 .1) (at-loop .loop .inv .1)) (grown-upto _ _ (at-list .list .ensures .1) _ _ (at-r .r .given .1)),
+      ),
     )
 
 full-if-enum-known-r-2 : (t : ℕ) → full-if-lts.Need-enum-known-r-2 (calls-full-if t) (full-if-at t) full-if.Post full-if-Inv-loop full-if-μ-loop
@@ -889,17 +978,25 @@ full-if-enum-told-2 t c = search needs
 full-if-same-length-3 : (t : ℕ) → full-if-lts.Need-same-length-3 (calls-full-if t) (full-if-at t) full-if.Post full-if-Inv-loop full-if-μ-loop
 full-if-same-length-3 t c =
     let z =
-    (let at-loop = c .before .before .before .before .before .before .before .before .before .before .before .before .before .before .before .before .before .before .before .before .before .before .before .before .before .before in
+    (let back = c .before .before .before .before .before .before in
+    let back-2 = back .before .before .before .before .before .before in
+    let back-3 = back-2 .before .before .before .before .before .before in
+    let back-4 = back-3 .before .before .before .before .before .before in
+    let at-loop = back-4 .before .before in
     let start = at-loop .before .before .before .before in
-    arm-long-so _ _ _ _ _ _ _ _ _ _ _ _ _ (at-loop .loop .inv) (start .pre .1)) in
+    arm-long-so _ _ _ _ _ _ _ _ _ _ _ _ _ (at-loop .loop .inv .0) (start .pre .1 .0)) in
     search needs
 
 full-if-same-length-4 : (t : ℕ) → full-if-lts.Need-same-length-4 (calls-full-if t) (full-if-at t) full-if.Post full-if-Inv-loop full-if-μ-loop
 full-if-same-length-4 t c =
     let z =
-    (let at-loop = c .before .before .before .before .before .before .before .before .before .before .before .before .before .before .before .before .before .before .before .before .before .before .before .before .before .before in
+    (let back = c .before .before .before .before .before .before in
+    let back-2 = back .before .before .before .before .before .before in
+    let back-3 = back-2 .before .before .before .before .before .before in
+    let back-4 = back-3 .before .before .before .before .before .before in
+    let at-loop = back-4 .before .before in
     let start = at-loop .before .before .before .before in
-    arm-values _ _ _ _ _ _ _ _ _ _ _ _ _ (at-loop .loop .inv) (start .pre .1)) in
+    arm-values _ _ _ _ _ _ _ _ _ _ _ _ _ (at-loop .loop .inv .0) (start .pre .1 .0)) in
     search needs
 
 full-if-returns-2 : (t : ℕ) → full-if-lts.Need-returns-2 (calls-full-if t) (full-if-at t) full-if.Post full-if-Inv-loop full-if-μ-loop
@@ -910,13 +1007,16 @@ full-if-returns-2 t c =
     let at-arm-end = at-sort .before .before .before .before in
     let at-r = at-arm-end .before .before .before in
     let at-list = at-r .before .before .before .before .before .before in
-    let at-loop = at-list .before .before .before in
-    arm-else-wrong _ _ _ _ _ _ _ _ _ _ _ _ _ (at-loop .loop .inv) _ _ _ (at-list .list .ensures) _ _ (at-r .r .given .1) _ (at-arm-end .arm-end .ensures) _
-    (at-sort .sort .ensures) (at-if1 .if1 .taken) _ _ _ (at-else-part .else-part .ensures) _ _ (c .enum-told2 .given .1)
+    let at-loop = at-list .before .before .before in (
+      arm-else-wrong _ _ _ _ _ _ _ _ _ _ _ _ _ (at-loop .loop .inv .0) _ _ _ (at-list .list .ensures .0) _ _ (at-r .r .given .1) _ (at-arm-end .arm-end .ensures) _
+          (at-sort .sort .ensures) (at-if1 .if1 .taken) _ _ _ (at-else-part .else-part .ensures .0) _ _ (c .enum-told2 .given .1),
+      stays-on _ _ (at-else-part .else-part .result) (grown-on (at-loop .loop .inv .1) (grown-upto _ _ (at-list .list .ensures .1) _ _ (at-r .r .given .1))) (at-else-part .else-part .ensures .1),
+    )
 
 full-if-set-link-requires : (t : ℕ) → full-if-lts.Need-set-link-requires (calls-full-if t) (full-if-at t) full-if.Post full-if-Inv-loop full-if-μ-loop
 full-if-set-link-requires t c κs =
-    let at-else-part = c .before .before .before .before .before .before .before .before in
+    let back = c .before .before .before .before .before .before in
+    let at-else-part = back .before .before in
     let at-if1 = at-else-part .before .before .before in
     let at-sort = at-if1 .before in
     let at-arm-end = at-sort .before .before .before .before in
@@ -924,8 +1024,8 @@ full-if-set-link-requires t c κs =
     let at-list = at-r .before .before .before .before .before .before in
     let at-loop = at-list .before .before .before in
     let start = at-loop .before .before .before .before in
-    arm-ends _ _ _ _ _ _ _ _ _ _ _ _ _ (at-loop .loop .inv) (start .pre .1) _ _ _ (at-list .list .ensures) _ _ (at-r .r .given .1) _
-    (at-arm-end .arm-end .ensures) _ (at-sort .sort .ensures) (at-if1 .if1 .taken) _ _ _ (at-else-part .else-part .ensures) _ _
+    arm-ends _ _ _ _ _ _ _ _ _ _ _ _ _ (at-loop .loop .inv .0) (start .pre .1 .0) _ _ _ (at-list .list .ensures .0) _ _ (at-r .r .given .1) _
+    (at-arm-end .arm-end .ensures) _ (at-sort .sort .ensures) (at-if1 .if1 .taken) _ _ _ (at-else-part .else-part .ensures .0) _ _
     (c .before .before .r2 .given .1)
 
 full-if-same-length-5 : (t : ℕ) → full-if-lts.Need-same-length-5 (calls-full-if t) (full-if-at t) full-if.Post full-if-Inv-loop full-if-μ-loop
@@ -940,18 +1040,27 @@ full-if-same-length-5 t c =
     let at-list = at-r .before .before .before .before .before .before in
     let at-loop = at-list .before .before .before in
     let start = at-loop .before .before .before .before in
-    arms-finished _ _ _ _ _ _ _ _ _ _ _ _ _ (at-loop .loop .inv) _ _ _ (at-list .list .ensures) _ _ (at-r .r .given .1) _ (at-arm-end .arm-end .ensures)
-    _ (at-sort .sort .ensures) (at-if1 .if1 .taken) _ _ _ (at-else-part .else-part .ensures) _ _ (at-r2 .r2 .given .1) _
-    (c .before .before .set-link .ensures) .is (start .pre .1) .long) in
+    arms-finished _ _ _ _ _ _ _ _ _ _ _ _ _ (at-loop .loop .inv .0) _ _ _ (at-list .list .ensures .0) _ _ (at-r .r .given .1) _ (at-arm-end .arm-end .ensures)
+    _ (at-sort .sort .ensures) (at-if1 .if1 .taken) _ _ _ (at-else-part .else-part .ensures .0) _ _ (at-r2 .r2 .given .1) _
+    (c .before .before .set-link .ensures) .is (start .pre .1 .0) .long) in
     search needs
 
 full-if-same-length-6 : (t : ℕ) → full-if-lts.Need-same-length-6 (calls-full-if t) (full-if-at t) full-if.Post full-if-Inv-loop full-if-μ-loop
 full-if-same-length-6 t c =
-    let z =
-    (let at-loop = c .before .before .before .before .before .before .before .before .before .before .before .before .before .before .before .before .before .before .before .before .before .before .before .before .before .before .before .before .before .before .before in
+    let at-r2 = c .before .before .before .before .before in
+    let at-else-part = at-r2 .before .before .before .before .before .before in
+    let at-sort = at-else-part .before .before .before .before in
+    let back = at-sort .before .before .before .before .before .before in
+    let at-r = back .before in
+    let at-list = at-r .before .before .before .before .before .before in
+    let at-loop = at-list .before .before .before in
     let start = at-loop .before .before .before .before in
-    arm-values _ _ _ _ _ _ _ _ _ _ _ _ _ (at-loop .loop .inv) (start .pre .1)) in
-    search needs
+    omega (
+      arith,
+      arm-values _ _ _ _ _ _ _ _ _ _ _ _ _ (at-loop .loop .inv .0) (start .pre .1 .0),
+      at-list .list .kept .1 .1 .0,
+      at-else-part .else-part .kept .1 .1 .0,
+    )
 
 full-if-returns-3 : (t : ℕ) → full-if-lts.Need-returns-3 (calls-full-if t) (full-if-at t) full-if.Post full-if-Inv-loop full-if-μ-loop
 full-if-returns-3 t c =
@@ -962,26 +1071,30 @@ full-if-returns-3 t c =
     let at-arm-end = at-sort .before .before .before .before in
     let at-r = at-arm-end .before .before .before in
     let at-list = at-r .before .before .before .before .before .before in
-    let at-loop = at-list .before .before .before in
-    arms-finished _ _ _ _ _ _ _ _ _ _ _ _ _ (at-loop .loop .inv) _ _ _ (at-list .list .ensures) _ _ (at-r .r .given .1) _ (at-arm-end .arm-end .ensures) _
-    (at-sort .sort .ensures) (at-if1 .if1 .taken) _ _ _ (at-else-part .else-part .ensures) _ _ (at-r2 .r2 .given .1) _ (c .before .before .set-link .ensures)
+    let at-loop = at-list .before .before .before in (
+      arms-finished _ _ _ _ _ _ _ _ _ _ _ _ _ (at-loop .loop .inv .0) _ _ _ (at-list .list .ensures .0) _ _ (at-r .r .given .1) _ (at-arm-end .arm-end .ensures) _
+          (at-sort .sort .ensures) (at-if1 .if1 .taken) _ _ _ (at-else-part .else-part .ensures .0) _ _ (at-r2 .r2 .given .1) _ (c .before .before .set-link .ensures),
+      grown-on (grown-on (at-loop .loop .inv .1) (grown-upto _ _ (at-list .list .ensures .1) _ _ (at-r .r .given .1))) (grown-upto _ _ (at-else-part .else-part .ensures .1) _ _ (at-r2 .r2 .given .1)),
+    )
 
 full-if-add-of-type : (t : ℕ) → full-if-lts.Need-add-of-type (calls-full-if t) (full-if-at t) full-if.Post full-if-Inv-loop full-if-μ-loop
 full-if-add-of-type t c =
-    let at-r = c .before .before .before .before .before .before .before .before .before .before in
+    let back = c .before .before .before .before .before .before in
+    let at-r = back .before .before .before .before in
     let at-list = at-r .before .before .before .before .before .before in
     let at-loop = at-list .before .before .before in
     let start = at-loop .before .before .before .before in
-    omega (arith, arm-closes _ _ _ _ _ _ _ _ _ _ _ _ _ (at-loop .loop .inv) (start .pre .1) _ _ _ (at-list .list .ensures) _ _ (at-r .r .given .1))
+    omega (arith, arm-closes _ _ _ _ _ _ _ _ _ _ _ _ _ (at-loop .loop .inv .0) (start .pre .1 .0) _ _ _ (at-list .list .ensures .0) _ _ (at-r .r .given .1))
 
 full-if-of-type-requires : (t : ℕ) → full-if-lts.Need-of-type-requires (calls-full-if t) (full-if-at t) full-if.Post full-if-Inv-loop full-if-μ-loop
 full-if-of-type-requires t c κs =
-    let at-arm-end = c .before .before .before .before .before .before .before in
+    let back = c .before .before .before .before .before .before in
+    let at-arm-end = back .before in
     let at-r = at-arm-end .before .before .before in
     let at-list = at-r .before .before .before .before .before .before in
     let at-loop = at-list .before .before .before in
     let start = at-loop .before .before .before .before in
-    arm-condition _ _ _ _ _ _ _ _ _ _ _ _ _ (at-loop .loop .inv) (start .pre .1) _ _ _ (at-list .list .ensures) _ _ (at-r .r .given .1) _
+    arm-condition _ _ _ _ _ _ _ _ _ _ _ _ _ (at-loop .loop .inv .0) (start .pre .1 .0) _ _ _ (at-list .list .ensures .0) _ _ (at-r .r .given .1) _
     (at-arm-end .arm-end .ensures) _ (c .before .before .before .sort .ensures) (c .before .before .if1 .left)
 
 full-if-enum-known-j : (t : ℕ) → full-if-lts.Need-enum-known-j (calls-full-if t) (full-if-at t) full-if.Post full-if-Inv-loop full-if-μ-loop
@@ -990,17 +1103,25 @@ full-if-enum-known-j t c = search needs
 full-if-same-length-7 : (t : ℕ) → full-if-lts.Need-same-length-7 (calls-full-if t) (full-if-at t) full-if.Post full-if-Inv-loop full-if-μ-loop
 full-if-same-length-7 t c =
     let z =
-    (let at-loop = c .before .before .before .before .before .before .before .before .before .before .before .before .before .before .before .before .before .before .before .before .before .before .before .before .before in
+    (let back = c .before .before .before .before .before .before in
+    let back-2 = back .before .before .before .before .before .before in
+    let back-3 = back-2 .before .before .before .before .before .before in
+    let back-4 = back-3 .before .before .before .before .before .before in
+    let at-loop = back-4 .before in
     let start = at-loop .before .before .before .before in
-    arm-long-so _ _ _ _ _ _ _ _ _ _ _ _ _ (at-loop .loop .inv) (start .pre .1)) in
+    arm-long-so _ _ _ _ _ _ _ _ _ _ _ _ _ (at-loop .loop .inv .0) (start .pre .1 .0)) in
     search needs
 
 full-if-same-length-8 : (t : ℕ) → full-if-lts.Need-same-length-8 (calls-full-if t) (full-if-at t) full-if.Post full-if-Inv-loop full-if-μ-loop
 full-if-same-length-8 t c =
     let z =
-    (let at-loop = c .before .before .before .before .before .before .before .before .before .before .before .before .before .before .before .before .before .before .before .before .before .before .before .before .before in
+    (let back = c .before .before .before .before .before .before in
+    let back-2 = back .before .before .before .before .before .before in
+    let back-3 = back-2 .before .before .before .before .before .before in
+    let back-4 = back-3 .before .before .before .before .before .before in
+    let at-loop = back-4 .before in
     let start = at-loop .before .before .before .before in
-    arm-values _ _ _ _ _ _ _ _ _ _ _ _ _ (at-loop .loop .inv) (start .pre .1)) in
+    arm-values _ _ _ _ _ _ _ _ _ _ _ _ _ (at-loop .loop .inv .0) (start .pre .1 .0)) in
     search needs
 
 full-if-returns-4 : (t : ℕ) → full-if-lts.Need-returns-4 (calls-full-if t) (full-if-at t) full-if.Post full-if-Inv-loop full-if-μ-loop
@@ -1011,9 +1132,11 @@ full-if-returns-4 t c =
     let at-arm-end = at-sort .before .before .before .before in
     let at-r = at-arm-end .before .before .before in
     let at-list = at-r .before .before .before .before .before .before in
-    let at-loop = at-list .before .before .before in
-    arm-wrong _ _ _ _ _ _ _ _ _ _ _ _ _ (at-loop .loop .inv) _ _ _ (at-list .list .ensures) _ _ (at-r .r .given .1) _ (at-arm-end .arm-end .ensures) _
-    (at-sort .sort .ensures) (at-if1 .if1 .left) _ _ (at-of-type .of-type .ensures) _ _ (c .before .j .given .1)
+    let at-loop = at-list .before .before .before in (
+      arm-wrong _ _ _ _ _ _ _ _ _ _ _ _ _ (at-loop .loop .inv .0) _ _ _ (at-list .list .ensures .0) _ _ (at-r .r .given .1) _ (at-arm-end .arm-end .ensures) _
+          (at-sort .sort .ensures) (at-if1 .if1 .left) _ _ (at-of-type .of-type .ensures) _ _ (c .before .j .given .1),
+      tt,
+    )
 
 full-if-enum-known-j-2 : (t : ℕ) → full-if-lts.Need-enum-known-j-2 (calls-full-if t) (full-if-at t) full-if.Post full-if-Inv-loop full-if-μ-loop
 full-if-enum-known-j-2 t c = search needs
@@ -1028,7 +1151,7 @@ full-if-loop-less t c =
     let at-list = at-r .before .before .before .before .before .before in
     let at-loop = at-list .before .before .before in
     let start = at-loop .before .before .before .before in
-    arm-less _ _ _ _ _ _ _ _ _ _ _ _ _ (at-loop .loop .inv) (start .pre .1) _ _ _ (at-list .list .ensures) _ _ (at-r .r .given .1) _
+    arm-less _ _ _ _ _ _ _ _ _ _ _ _ _ (at-loop .loop .inv .0) (start .pre .1 .0) _ _ _ (at-list .list .ensures .0) _ _ (at-r .r .given .1) _
     (at-arm-end .arm-end .ensures) _ (at-sort .sort .ensures) (at-if1 .if1 .left) _ _ (at-of-type .of-type .ensures) _ _ (c .before .j2 .given .1)
 
 full-if-loop-again : (t : ℕ) → full-if-lts.Need-loop-again (calls-full-if t) (full-if-at t) full-if.Post full-if-Inv-loop full-if-μ-loop
@@ -1039,14 +1162,16 @@ full-if-loop-again t c =
     let at-arm-end = at-sort .before .before .before .before in
     let at-r = at-arm-end .before .before .before in
     let at-list = at-r .before .before .before .before .before .before in
-    let at-loop = at-list .before .before .before in
-    arms-go _ _ _ _ _ _ _ _ _ _ _ _ _ (at-loop .loop .inv) _ _ _ (at-list .list .ensures) _ _ (at-r .r .given .1) _ (at-arm-end .arm-end .ensures) _
-    (at-sort .sort .ensures) (at-if1 .if1 .left) _ _ (at-of-type .of-type .ensures) _ _ (c .before .j2 .given .1)
+    let at-loop = at-list .before .before .before in (
+      arms-go _ _ _ _ _ _ _ _ _ _ _ _ _ (at-loop .loop .inv .0) _ _ _ (at-list .list .ensures .0) _ _ (at-r .r .given .1) _ (at-arm-end .arm-end .ensures) _
+          (at-sort .sort .ensures) (at-if1 .if1 .left) _ _ (at-of-type .of-type .ensures) _ _ (c .before .j2 .given .1),
+      grown-on (at-loop .loop .inv .1) (grown-upto _ _ (at-list .list .ensures .1) _ _ (at-r .r .given .1)),
+    )
 
 if-statement-add-of-type : (t : ℕ) → if-statement-lts.Need-add-of-type (calls-if-statement t) (if-statement-at t) if-statement.Post
 if-statement-add-of-type t c =
     let start = c .before .before .before .before .before in
-    omega (arith, stands-early _ _ _ _ _ _ (start .pre .1 .stands))
+    omega (arith, stands-early _ _ _ _ _ _ (start .pre .1 .0 .stands))
 
 if-statement-of-type-requires : (t : ℕ) → if-statement-lts.Need-of-type-requires (calls-if-statement t) (if-statement-at t) if-statement.Post
 if-statement-of-type-requires t c κs = search (needs, if-condition)
@@ -1061,14 +1186,14 @@ if-statement-sort-requires : (t : ℕ) → if-statement-lts.Need-sort-requires (
 if-statement-sort-requires t c κs =
     let at-of-type = c .before .before .before .before .before .before in
     let start = at-of-type .before .before .before .before .before .before in
-    if-room _ _ _ _ _ _ (start .pre .1) _ _ (at-of-type .of-type .ensures) _ _ (c .before .before .j2 .given .1) .1
+    if-room _ _ _ _ _ _ (start .pre .1 .0) _ _ (at-of-type .of-type .ensures) _ _ (c .before .before .j2 .given .1) .1
 
 if-statement-compact-if-requires : (t : ℕ) → if-statement-lts.Need-compact-if-requires (calls-if-statement t) (if-statement-at t) if-statement.Post
 if-statement-compact-if-requires t c κs =
     let at-j2 = c .before .before .before .before .before .before in
     let at-of-type = at-j2 .before .before .before .before in
     let start = at-of-type .before .before .before .before .before .before in
-    if-compacts _ _ _ _ _ _ (start .pre .1) _ _ (at-of-type .of-type .ensures) _ _ (at-j2 .j2 .given .1) _ (c .before .before .before .sort .ensures)
+    if-compacts _ _ _ _ _ _ (start .pre .1 .0) _ _ (at-of-type .of-type .ensures) _ _ (at-j2 .j2 .given .1) _ (c .before .before .before .sort .ensures)
     (c .before .before .if1 .taken)
 
 if-statement-same-length : (t : ℕ) → if-statement-lts.Need-same-length (calls-if-statement t) (if-statement-at t) if-statement.Post
@@ -1087,13 +1212,16 @@ if-statement-full-if-requires t c κs =
     let start = at-of-type .before .before .before .before .before .before in (
       omega (
         arith,
-        if-room _ _ _ _ _ _ (start .pre .1) _ _ (at-of-type .of-type .ensures) _ _ (at-j2 .j2 .given .1),
-        if-forward _ _ _ _ _ _ (start .pre .1) _ _
+        if-room _ _ _ _ _ _ (start .pre .1 .0) _ _ (at-of-type .of-type .ensures) _ _ (at-j2 .j2 .given .1),
+        if-forward _ _ _ _ _ _ (start .pre .1 .0) _ _
             (at-of-type .of-type .ensures) _ _ (at-j2 .j2 .given .1),
         start .pre .0,
       ),
-      if-thens _ _ _ _ _ _ (start .pre .1) _ _ (at-of-type .of-type .ensures) _ _
-          (at-j2 .j2 .given .1) _ (c .before .before .before .sort .ensures) (c .before .before .if1 .left),
+      (
+        if-thens _ _ _ _ _ _ (start .pre .1 .0) _ _ (at-of-type .of-type .ensures) _ _
+            (at-j2 .j2 .given .1) _ (c .before .before .before .sort .ensures) (c .before .before .if1 .left),
+        start .pre .1 .1,
+      ),
     )
 
 if-statement-same-length-3 : (t : ℕ) → if-statement-lts.Need-same-length-3 (calls-if-statement t) (if-statement-at t) if-statement.Post
@@ -1117,18 +1245,20 @@ if-statement-returns-3 t c =
     let at-if1 = at-full-if .before .before .before in
     let at-sort = at-if1 .before in
     let at-j2 = at-sort .before .before .before in
-    let at-of-type = at-j2 .before .before .before .before in
-    if-full _ _ _ _ _ _ _ _ (at-of-type .of-type .ensures) _ _ (at-j2 .j2 .given .1) _ (at-sort .sort .ensures) (at-if1 .if1 .left) _ _ _
-    (at-full-if .full-if .ensures)
+    let at-of-type = at-j2 .before .before .before .before in (
+      if-full _ _ _ _ _ _ _ _ (at-of-type .of-type .ensures) _ _ (at-j2 .j2 .given .1) _ (at-sort .sort .ensures) (at-if1 .if1 .left) _ _ _
+          (at-full-if .full-if .ensures .0),
+      at-full-if .full-if .ensures .1,
+    )
 
 abbrev list-Inv-loop : list-lts.InvT-loop
-list-Inv-loop text code₀ values₀ k at i₀ n₀ code values i n = Goings text code₀ values₀ k (n₀ .used) at code values i (n .used)
+list-Inv-loop text code₀ values₀ k at i₀ n₀ code values i n = Goings text code₀ values₀ k (n₀ .used) at code values i (n .used) × Grown n₀ n
 
 abbrev list-μ-loop : list-lts.MeasureT-loop
-list-μ-loop text code₀ values₀ k at i₀ n₀ code values i n = 8192 - i
+list-μ-loop text code₀ values₀ k at i₀ n₀ code values i n = wordLimit - i
 
 list-loop-holds : (t : ℕ) → list-lts.Need-loop-holds (calls-list t) (list-at t) list.Post list-Inv-loop list-μ-loop
-list-loop-holds t c = search (needs, list-begins)
+list-loop-holds t c = search (needs, list-begins, grown-self)
 
 list-sort-requires : (t : ℕ) → list-lts.Need-sort-requires (calls-list t) (list-at t) list.Post list-Inv-loop list-μ-loop
 list-sort-requires t c κs = search (needs, list-room)
@@ -1139,8 +1269,13 @@ list-starts-statement-requires t c κs = search needs
 list-statement-requires : (t : ℕ) → list-lts.Need-statement-requires (calls-list t) (list-at t) list.Post list-Inv-loop list-μ-loop
 list-statement-requires t c κs =
     let at-loop = c .before .before .before .before .before .before in
-    let start = at-loop .before .before .before .before in
-    (omega (arith, list-forward _ _ _ _ _ _ _ _ _ _ (at-loop .loop .inv) (start .pre .1), start .pre .0), search (needs, list-stands))
+    let start = at-loop .before .before .before .before in (
+      omega (arith, list-forward _ _ _ _ _ _ _ _ _ _ (at-loop .loop .inv .0) (start .pre .1 .0), start .pre .0),
+      (
+        search (needs, list-stands),
+        has-word (start .pre .1 .1) (at-loop .loop .inv .1),
+      ),
+    )
 
 list-enum-known-r : (t : ℕ) → list-lts.Need-enum-known-r (calls-list t) (list-at t) list.Post list-Inv-loop list-μ-loop
 list-enum-known-r t c = search needs
@@ -1151,34 +1286,38 @@ list-enum-told t c = search needs
 list-same-length : (t : ℕ) → list-lts.Need-same-length (calls-list t) (list-at t) list.Post list-Inv-loop list-μ-loop
 list-same-length t c =
     let z =
-    (let at-loop = c .before .before .before .before .before .before .before .before .before .before .before .before .before in
+    (let back = c .before .before .before .before .before .before in
+    let back-2 = back .before .before .before .before .before .before in
+    let at-loop = back-2 .before in
     let start = at-loop .before .before .before .before in
-    list-long _ _ _ _ _ _ _ _ _ _ (at-loop .loop .inv) (start .pre .1)) in
+    list-long _ _ _ _ _ _ _ _ _ _ (at-loop .loop .inv .0) (start .pre .1 .0)) in
     search needs
 
 list-same-length-2 : (t : ℕ) → list-lts.Need-same-length-2 (calls-list t) (list-at t) list.Post list-Inv-loop list-μ-loop
 list-same-length-2 t c =
     let z =
-    (let at-loop = c .before .before .before .before .before .before .before .before .before .before .before .before .before in
+    (let back = c .before .before .before .before .before .before in
+    let back-2 = back .before .before .before .before .before .before in
+    let at-loop = back-2 .before in
     let start = at-loop .before .before .before .before in
-    list-values _ _ _ _ _ _ _ _ _ _ (at-loop .loop .inv) (start .pre .1)) in
+    list-values _ _ _ _ _ _ _ _ _ _ (at-loop .loop .inv .0) (start .pre .1 .0)) in
     search needs
 
 list-returns : (t : ℕ) → list-lts.Need-returns (calls-list t) (list-at t) list.Post list-Inv-loop list-μ-loop
-list-returns t c = search (needs, list-faulty)
+list-returns t c = search (needs, list-faulty, stays-on)
 
 list-loop-less : (t : ℕ) → list-lts.Need-loop-less (calls-list t) (list-at t) list.Post list-Inv-loop list-μ-loop
 list-loop-less t c = search (needs, list-less)
 
 list-loop-again : (t : ℕ) → list-lts.Need-loop-again (calls-list t) (list-at t) list.Post list-Inv-loop list-μ-loop
-list-loop-again t c = search (needs, list-goes)
+list-loop-again t c = search (needs, list-goes, grown-upto, grown-on)
 
 list-same-length-3 : (t : ℕ) → list-lts.Need-same-length-3 (calls-list t) (list-at t) list.Post list-Inv-loop list-μ-loop
 list-same-length-3 t c =
     let z =
     (let at-loop = c .before .before .before .before in
     let start = at-loop .before .before .before .before in
-    list-long _ _ _ _ _ _ _ _ _ _ (at-loop .loop .inv) (start .pre .1)) in
+    list-long _ _ _ _ _ _ _ _ _ _ (at-loop .loop .inv .0) (start .pre .1 .0)) in
     search needs
 
 list-same-length-4 : (t : ℕ) → list-lts.Need-same-length-4 (calls-list t) (list-at t) list.Post list-Inv-loop list-μ-loop
@@ -1186,7 +1325,7 @@ list-same-length-4 t c =
     let z =
     (let at-loop = c .before .before .before .before in
     let start = at-loop .before .before .before .before in
-    list-values _ _ _ _ _ _ _ _ _ _ (at-loop .loop .inv) (start .pre .1)) in
+    list-values _ _ _ _ _ _ _ _ _ _ (at-loop .loop .inv .0) (start .pre .1 .0)) in
     search needs
 
 list-returns-2 : (t : ℕ) → list-lts.Need-returns-2 (calls-list t) (list-at t) list.Post list-Inv-loop list-μ-loop
@@ -1197,8 +1336,14 @@ statement-sort-requires t c κs = search (needs, stands-room)
 
 statement-if-statement-requires : (t : ℕ) → statement-lts.Need-if-statement-requires (calls-statement t) (statement-at t) statement′.Post
 statement-if-statement-requires t c κs =
-    let start = c .before .before .before .before .before .before .before .before in
-    (omega (arith, stands-early _ _ _ _ _ _ (start .pre .1), start .pre .0), search (needs, begins-by))
+    let back = c .before .before .before .before .before .before in
+    let start = back .before .before in (
+      omega (arith, stands-early _ _ _ _ _ _ (start .pre .1 .0), start .pre .0),
+      (
+        search (needs, begins-by),
+        start .pre .1 .1,
+      ),
+    )
 
 statement-same-length : (t : ℕ) → statement-lts.Need-same-length (calls-statement t) (statement-at t) statement′.Post
 statement-same-length t c = search needs
@@ -1211,8 +1356,14 @@ statement-returns t c = search (needs, stated-by)
 
 statement-for-statement-requires : (t : ℕ) → statement-lts.Need-for-statement-requires (calls-statement t) (statement-at t) statement′.Post
 statement-for-statement-requires t c κs =
-    let start = c .before .before .before .before .before .before .before .before .before in
-    (omega (arith, stands-early _ _ _ _ _ _ (start .pre .1), start .pre .0), search (needs, begins-by))
+    let back = c .before .before .before .before .before .before in
+    let start = back .before .before .before in (
+      omega (arith, stands-early _ _ _ _ _ _ (start .pre .1 .0), start .pre .0),
+      (
+        search (needs, begins-by),
+        start .pre .1 .1,
+      ),
+    )
 
 statement-same-length-3 : (t : ℕ) → statement-lts.Need-same-length-3 (calls-statement t) (statement-at t) statement′.Post
 statement-same-length-3 t c = search needs
@@ -1225,8 +1376,14 @@ statement-returns-2 t c = search (needs, stated-by)
 
 statement-while-statement-requires : (t : ℕ) → statement-lts.Need-while-statement-requires (calls-statement t) (statement-at t) statement′.Post
 statement-while-statement-requires t c κs =
-    let start = c .before .before .before .before .before .before .before .before .before .before in
-    (omega (arith, stands-early _ _ _ _ _ _ (start .pre .1), start .pre .0), search (needs, begins-by))
+    let back = c .before .before .before .before .before .before in
+    let start = back .before .before .before .before in (
+      omega (arith, stands-early _ _ _ _ _ _ (start .pre .1 .0), start .pre .0),
+      (
+        search (needs, begins-by),
+        start .pre .1 .1,
+      ),
+    )
 
 statement-same-length-5 : (t : ℕ) → statement-lts.Need-same-length-5 (calls-statement t) (statement-at t) statement′.Post
 statement-same-length-5 t c = search needs
@@ -1239,8 +1396,14 @@ statement-returns-3 t c = search (needs, stated-by)
 
 statement-test-statement-requires : (t : ℕ) → statement-lts.Need-test-statement-requires (calls-statement t) (statement-at t) statement′.Post
 statement-test-statement-requires t c κs =
-    let start = c .before .before .before .before .before .before .before .before .before .before .before in
-    (omega (arith, stands-early _ _ _ _ _ _ (start .pre .1), start .pre .0), search (needs, begins-by))
+    let back = c .before .before .before .before .before .before in
+    let start = back .before .before .before .before .before in (
+      omega (arith, stands-early _ _ _ _ _ _ (start .pre .1 .0), start .pre .0),
+      (
+        search (needs, begins-by),
+        start .pre .1 .1,
+      ),
+    )
 
 statement-same-length-7 : (t : ℕ) → statement-lts.Need-same-length-7 (calls-statement t) (statement-at t) statement′.Post
 statement-same-length-7 t c = search needs
@@ -1266,7 +1429,7 @@ statement-returns-5 t c = search (needs, stated-plain)
 test-statement-add-of-type : (t : ℕ) → test-statement-lts.Need-add-of-type (calls-test-statement t) (test-statement-at t) test-statement.Post
 test-statement-add-of-type t c =
     let start = c .before .before .before .before .before in
-    omega (arith, stands-early _ _ _ _ _ _ (start .pre .1 .stands))
+    omega (arith, stands-early _ _ _ _ _ _ (start .pre .1 .0 .stands))
 
 test-statement-of-type-requires : (t : ℕ) → test-statement-lts.Need-of-type-requires (calls-test-statement t) (test-statement-at t) test-statement.Post
 test-statement-of-type-requires t c κs = search (needs, test-selector)
@@ -1279,10 +1442,14 @@ test-statement-enum-known-j-2 t c = search needs
 
 test-statement-cases-requires : (t : ℕ) → test-statement-lts.Need-cases-requires (calls-test-statement t) (test-statement-at t) test-statement.Post
 test-statement-cases-requires t c κs =
-    let at-of-type = c .before .before .before .before .before .before .before in
+    let back = c .before .before .before .before .before .before in
+    let at-of-type = back .before in
     let start = at-of-type .before .before .before .before .before .before in (
-      omega (arith, test-forward _ _ _ _ _ _ (start .pre .1) _ _ (at-of-type .of-type .ensures) _ _ (c .before .before .before .j2 .given .1), start .pre .0),
-      test-chooses _ _ _ _ _ _ (start .pre .1) _ _ (at-of-type .of-type .ensures) _ _ (c .before .before .before .j2 .given .1),
+      omega (arith, test-forward _ _ _ _ _ _ (start .pre .1 .0) _ _ (at-of-type .of-type .ensures) _ _ (c .before .before .before .j2 .given .1), start .pre .0),
+      (
+        test-chooses _ _ _ _ _ _ (start .pre .1 .0) _ _ (at-of-type .of-type .ensures) _ _ (c .before .before .before .j2 .given .1),
+        start .pre .1 .1,
+      ),
     )
 
 test-statement-enum-known-r : (t : ℕ) → test-statement-lts.Need-enum-known-r (calls-test-statement t) (test-statement-at t) test-statement.Post
@@ -1301,24 +1468,28 @@ test-statement-returns : (t : ℕ) → test-statement-lts.Need-returns (calls-te
 test-statement-returns t c =
     let at-cases = c .before .before .before .before .before .before in
     let at-j2 = at-cases .before .before .before .before in
-    let at-of-type = at-j2 .before .before .before .before in
-    test-cases-wrong _ _ _ _ _ _ _ _ (at-of-type .of-type .ensures) _ _ (at-j2 .j2 .given .1) _ _ _ (at-cases .cases .ensures) _ _ (c .enum-told .given .1)
+    let at-of-type = at-j2 .before .before .before .before in (
+      test-cases-wrong _ _ _ _ _ _ _ _ (at-of-type .of-type .ensures) _ _ (at-j2 .j2 .given .1) _ _ _ (at-cases .cases .ensures .0) _ _ (c .enum-told .given .1),
+      at-cases .cases .ensures .1,
+    )
 
 test-statement-cast-set-word : (t : ℕ) → test-statement-lts.Need-cast-set-word (calls-test-statement t) (test-statement-at t) test-statement.Post
 test-statement-cast-set-word t c =
-    let at-j2 = c .before .before .before .before .before .before .before .before .before .before .before .before in
+    let back = c .before .before .before .before .before .before in
+    let at-j2 = back .before .before .before .before .before .before in
     let at-of-type = at-j2 .before .before .before .before in
     let start = at-of-type .before .before .before .before .before .before in
-    omega (arith, test-forward _ _ _ _ _ _ (start .pre .1) _ _ (at-of-type .of-type .ensures) _ _ (at-j2 .j2 .given .1))
+    omega (arith, test-forward _ _ _ _ _ _ (start .pre .1 .0) _ _ (at-of-type .of-type .ensures) _ _ (at-j2 .j2 .given .1))
 
 test-statement-set-word-requires : (t : ℕ) → test-statement-lts.Need-set-word-requires (calls-test-statement t) (test-statement-at t) test-statement.Post
 test-statement-set-word-requires t c κs =
-    let at-cases = c .before .before .before .before .before .before .before .before in
+    let back = c .before .before .before .before .before .before in
+    let at-cases = back .before .before in
     let at-j2 = at-cases .before .before .before .before in
     let at-of-type = at-j2 .before .before .before .before in
     let start = at-of-type .before .before .before .before .before .before in
-    let z = test-room _ _ _ _ _ _ (start .pre .1) _ _ (at-of-type .of-type .ensures) _ _ (at-j2 .j2 .given .1) _ _ _ (at-cases .cases .ensures) _ _
-    (c .before .before .r .given .1) in let y = test-forward _ _ _ _ _ _ (start .pre .1) _ _ (at-of-type .of-type .ensures) _ _ (at-j2 .j2 .given .1) in
+    let z = test-room _ _ _ _ _ _ (start .pre .1 .0) _ _ (at-of-type .of-type .ensures) _ _ (at-j2 .j2 .given .1) _ _ _ (at-cases .cases .ensures .0) _ _
+    (c .before .before .r .given .1) in let y = test-forward _ _ _ _ _ _ (start .pre .1 .0) _ _ (at-of-type .of-type .ensures) _ _ (at-j2 .j2 .given .1) in
     (omega (arith, z), omega arith, omega (arith, y), omega (arith, z))
 
 test-statement-same-length-3 : (t : ℕ) → test-statement-lts.Need-same-length-3 (calls-test-statement t) (test-statement-at t) test-statement.Post
@@ -1341,14 +1512,16 @@ test-statement-returns-3 t c =
     let at-r = c .before .before .before .before .before in
     let at-cases = at-r .before .before .before .before .before .before in
     let at-j2 = at-cases .before .before .before .before in
-    let at-of-type = at-j2 .before .before .before .before in
-    test-finished _ _ _ _ _ _ _ _ (at-of-type .of-type .ensures) _ _ (at-j2 .j2 .given .1) _ _ _ (at-cases .cases .ensures) _ _ (at-r .r .given .1) _
-    (c .before .before .set-word .ensures)
+    let at-of-type = at-j2 .before .before .before .before in (
+      test-finished _ _ _ _ _ _ _ _ (at-of-type .of-type .ensures) _ _ (at-j2 .j2 .given .1) _ _ _ (at-cases .cases .ensures .0) _ _ (at-r .r .given .1) _
+          (c .before .before .set-word .ensures),
+      grown-upto _ _ (at-cases .cases .ensures .1) _ _ (at-r .r .given .1),
+    )
 
 while-statement-add-of-type : (t : ℕ) → while-statement-lts.Need-add-of-type (calls-while-statement t) (while-statement-at t) while-statement.Post
 while-statement-add-of-type t c =
     let start = c .before .before .before .before .before in
-    omega (arith, stands-early _ _ _ _ _ _ (start .pre .1 .stands))
+    omega (arith, stands-early _ _ _ _ _ _ (start .pre .1 .0 .stands))
 
 while-statement-of-type-requires : (t : ℕ) → while-statement-lts.Need-of-type-requires (calls-while-statement t) (while-statement-at t) while-statement.Post
 while-statement-of-type-requires t c κs = search (needs, while-condition)
@@ -1361,16 +1534,21 @@ while-statement-enum-known-j-2 t c = search needs
 
 while-statement-add-list : (t : ℕ) → while-statement-lts.Need-add-list (calls-while-statement t) (while-statement-at t) while-statement.Post
 while-statement-add-list t c =
-    let at-of-type = c .before .before .before .before .before .before .before in
+    let back = c .before .before .before .before .before .before in
+    let at-of-type = back .before in
     let start = at-of-type .before .before .before .before .before .before in
-    omega (arith, while-forward _ _ _ _ _ _ (start .pre .1) _ _ (at-of-type .of-type .ensures) _ _ (c .before .before .before .j2 .given .1))
+    omega (arith, while-forward _ _ _ _ _ _ (start .pre .1 .0) _ _ (at-of-type .of-type .ensures) _ _ (c .before .before .before .j2 .given .1))
 
 while-statement-list-requires : (t : ℕ) → while-statement-lts.Need-list-requires (calls-while-statement t) (while-statement-at t) while-statement.Post
 while-statement-list-requires t c κs =
-    let at-of-type = c .before .before .before .before .before .before .before in
+    let back = c .before .before .before .before .before .before in
+    let at-of-type = back .before in
     let start = at-of-type .before .before .before .before .before .before in (
-      omega (arith, while-forward _ _ _ _ _ _ (start .pre .1) _ _ (at-of-type .of-type .ensures) _ _ (c .before .before .before .j2 .given .1), start .pre .0),
-      search (needs, while-lists),
+      omega (arith, while-forward _ _ _ _ _ _ (start .pre .1 .0) _ _ (at-of-type .of-type .ensures) _ _ (c .before .before .before .j2 .given .1), start .pre .0),
+      (
+        search (needs, while-lists),
+        start .pre .1 .1,
+      ),
     )
 
 while-statement-enum-known-r : (t : ℕ) → while-statement-lts.Need-enum-known-r (calls-while-statement t) (while-statement-at t) while-statement.Post
@@ -1390,11 +1568,12 @@ while-statement-returns t c = search (needs, while-list-wrong)
 
 while-statement-while-end-requires : (t : ℕ) → while-statement-lts.Need-while-end-requires (calls-while-statement t) (while-statement-at t) while-statement.Post
 while-statement-while-end-requires t c κs =
-    let at-list = c .before .before .before .before .before .before .before .before in
+    let back = c .before .before .before .before .before .before in
+    let at-list = back .before .before in
     let at-j2 = at-list .before .before .before .before in
     let at-of-type = at-j2 .before .before .before .before in
     let start = at-of-type .before .before .before .before .before .before in
-    while-closes _ _ _ _ _ _ (start .pre .1) _ _ (at-of-type .of-type .ensures) _ _ (at-j2 .j2 .given .1) _ _ _ (at-list .list .ensures) _ _
+    while-closes _ _ _ _ _ _ (start .pre .1 .0) _ _ (at-of-type .of-type .ensures) _ _ (at-j2 .j2 .given .1) _ _ _ (at-list .list .ensures .0) _ _
     (c .before .before .r .given .1)
 
 while-statement-add-t24 : (t : ℕ) → while-statement-lts.Need-add-t24 (calls-while-statement t) (while-statement-at t) while-statement.Post
@@ -1406,7 +1585,7 @@ while-statement-add-t24 t c =
     let start = at-of-type .before .before .before .before .before .before in
     omega (
       arith,
-      while-closes _ _ _ _ _ _ (start .pre .1) _ _ (at-of-type .of-type .ensures) _ _ (at-j2 .j2 .given .1) _ _ _ (at-list .list .ensures) _ _
+      while-closes _ _ _ _ _ _ (start .pre .1 .0) _ _ (at-of-type .of-type .ensures) _ _ (at-j2 .j2 .given .1) _ _ _ (at-list .list .ensures .0) _ _
           (at-r .r .given .1),
     )
 
@@ -1426,7 +1605,7 @@ while-statement-same-length-6 : (t : ℕ) → while-statement-lts.Need-same-leng
 while-statement-same-length-6 t c = search needs
 
 while-statement-returns-3 : (t : ℕ) → while-statement-lts.Need-returns-3 (calls-while-statement t) (while-statement-at t) while-statement.Post
-while-statement-returns-3 t c = search (needs, while-finished)
+while-statement-returns-3 t c = search (needs, while-finished, grown-upto)
 
 pub +cases+default+else-part+for-statement+full-if+if-statement+list+statement+test-statement+while-statement-spec :
     {M : Type 1} → statement M
@@ -1525,7 +1704,6 @@ pub +cases+default+else-part+for-statement+full-if+if-statement+list+statement+t
     (for-statement-for-head-requires t)
     (for-statement-enum-known-j t)
     (for-statement-enum-known-j-2 t)
-    (for-statement-add-enter t)
     (for-statement-enter-requires t)
     (for-statement-add-list t)
     (for-statement-list-requires t)
@@ -1534,10 +1712,9 @@ pub +cases+default+else-part+for-statement+full-if+if-statement+list+statement+t
     (for-statement-same-length t)
     (for-statement-same-length-2 t)
     (for-statement-returns t)
-    (for-statement-add-leave t)
     (for-statement-leave-requires t)
     (for-statement-for-end-requires t)
-    (for-statement-add-t26 t)
+    (for-statement-add-t30 t)
     (for-statement-same-length-3 t)
     (for-statement-same-length-4 t)
     (for-statement-returns-2 t)

@@ -1,4 +1,5 @@
 use borrow.Author.Needs.{needs}
+use Rattle.names.proofs.Growing.{grown-self}
 use Rattle.statements.proofs.Compacts.{compact-stands, compact-room, compact-next, compact-wrong, compact-right}
 use native.Mathlib.Omega.{arith}
 use Rattle.statements.proofs.compact_if.Statement.{statement}
@@ -19,7 +20,8 @@ enum-known-j-2 c = search needs
 
 cast-set-word : tie.Need-cast-set-word
 cast-set-word c =
-    let start = c .before .before .before .before .before .before .before .before .before .before .before in
+    let back = c .before .before .before .before .before .before in
+    let start = back .before .before .before .before .before in
     omega (arith, compact-room _ _ _ _ _ _ _ (start .pre))
 
 set-word-requires : tie.Need-set-word-requires
@@ -39,7 +41,7 @@ same-length-2 : tie.Need-same-length-2
 same-length-2 c = search needs
 
 returns-2 : tie.Need-returns-2
-returns-2 c = search (needs, compact-right)
+returns-2 c = search (needs, compact-right, grown-self)
 
 pub compact-if-spec : {M : Type 1} → statement M
 compact-if-spec =

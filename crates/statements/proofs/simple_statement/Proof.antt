@@ -1,4 +1,5 @@
 use borrow.Author.Needs.{needs}
+use Rattle.names.proofs.Growing.{grown-self}
 use Rattle.statements.proofs.Compacts.{plain-stands, plain-wrong, plain-right}
 use Rattle.statements.proofs.simple_statement.Statement.{statement}
 use Rattle.statements.proofs.simple_statement.Tie as tie
@@ -25,7 +26,7 @@ same-length-2 : tie.Need-same-length-2
 same-length-2 c = search needs
 
 returns-2 : tie.Need-returns-2
-returns-2 c = search (needs, plain-right)
+returns-2 c = search (needs, plain-right, grown-self)
 
 pub simple-statement-spec : {M : Type 1} → statement M
 simple-statement-spec =

@@ -1,7 +1,7 @@
 use borrow.Author.Needs.{needs}
 use Rattle.names.proofs.Answering.{left}
-use Rattle.names.proofs.leave.Statement.{statement}
-use Rattle.names.proofs.leave.Tie as tie
+use Rattle.names.proofs.restore.Statement.{statement}
+use Rattle.names.proofs.restore.Tie as tie
 
 link-requires : tie.Need-link-requires
 link-requires c κs = search needs
@@ -21,6 +21,6 @@ same-length c = search needs
 returns : tie.Need-returns
 returns c = search (needs, left)
 
-pub leave-spec : {M : Type 1} → statement M
-leave-spec =
+pub restore-spec : {M : Type 1} → statement M
+restore-spec =
     tie.close (tie.spec link-requires add-put head-requires put-requires same-length returns)
