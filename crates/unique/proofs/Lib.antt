@@ -1,0 +1,7 @@
+pub mod Equations
+pub mod Stores
+pub mod Names
+pub mod Heads
+pub mod Answers
+pub mod Check
+pub mod Links
