@@ -6,7 +6,7 @@ use Prim.Native.Nat.{ℕ, zero, suc, _+_, _-_, _*_, _/_, _%_, _<_, _≤_}
 use native.Mathlib.Omega.{arith}
 use lib.Dec.{eqb, ltb}
 use lib.ListN.{length, getD, drop, set}
-use borrow.Author.Tests.{ltb-false}
+use borrow.Author.Tests.{eq-eqb, ne-eqb, lt-ltb, le-ltb}
 use Rattle.laws.proofs.Tests.{test, by-less, by-same}
 use Rattle.cells.specs.Words.{wordsOf}
 use Rattle.cells.proofs.Laws.{Bytes}
@@ -24,65 +24,97 @@ use Rattle.compounds.specs.Parts.{WhileEnded, ForEnded, BehindElse, ArmEnded, C
 use Rattle.unique.proofs.Stores.{same-behind}
 
 -- ---- links that lead to the next step
--- Every word that leads on leads to a step or to a later word, as the words of a module do.
-pub record AllFollow (C : List ℕ) (words : ℕ) : Type 0 where
-  pub links : (i : ℕ) → i < words → goesByLink (opAt C i) ≡ true → Follows C words i (linkAt C i)
-  pub values : (i : ℕ) → i < words → goesByValue (opAt C i) ≡ true → Follows C words i (valueAt C i)
-  pub places : (i : ℕ) → i < words → goesByPlace (opAt C i) ≡ true → Follows C words i (placeAt C i)
+-- Where the promise says to which word the links from a word lead in the end: from one word to the next, up to a step. Of others it says nothing, and no run reads them.
+mutual
+  pub data Leads (C : List ℕ) (words : ℕ) : ℕ → Type 0 where
+    stays : {i : ℕ} → goesByLink (opAt C i) ≡ false → Leads C words i
+    to-arm : {i : ℕ} → opAt C i ≡ aThen → opAt C (linkAt C i) ≡ anElseIf → linkAt C i + 1 < words → Leads C words i
+    leads-on : {i : ℕ} → goesByLink (opAt C i) ≡ true → (opAt C i ≡ aThen → opAt C (linkAt C i) ≡ anElseIf → ⊥) → Follows C words i (linkAt C i) → Comes C words (linkAt C i) → Leads C words i
 
-module _ (C D E : List ℕ) (words : ℕ) (f : AllFollow C words) (p : (i : ℕ) → i < words → Led C D D words i) (q : (i : ℕ) → i < words → Led C E E words i) where
-  -- links of words behind i are the same: then what leads on from there does
-  same-beyond : (i z : ℕ) → ((k : ℕ) → i < k → k < words → linkAt D k ≡ linkAt E k) → Follows C words i z → beyond C D z ≡ beyond C E z
+  -- from the word that a list ends at
+  pub data Comes (C : List ℕ) (words : ℕ) : ℕ → Type 0 where
+    to-step : {z : ℕ} → opAt C z < anElseIf → Comes C words z
+    behind-case : {z : ℕ} → opAt C z ≡ aCase → z + 1 < words → Leads C words (z + 1) → Comes C words z
+    by-itself : {z : ℕ} → (opAt C z ≡ aCase → ⊥) → z < words → Leads C words z → Comes C words z
+
+-- all ways from a word: by its link, its value and its place
+pub record LeadsOn (C : List ℕ) (words i : ℕ) : Type 0 where
+  pub link : Leads C words i
+  pub value : goesByValue (opAt C i) ≡ true → Follows C words i (valueAt C i) × Comes C words (valueAt C i)
+  pub place : goesByPlace (opAt C i) ≡ true → Follows C words i (placeAt C i) × Comes C words (placeAt C i)
+
+module _ (C D E : List ℕ) (words : ℕ) (p : (i : ℕ) → i < words → Led C D D words i) (q : (i : ℕ) → i < words → Led C E E words i) where
+  beyond-step : (L : List ℕ) (z : ℕ) → opAt C z < anElseIf → beyond C L z ≡ z
   unfolding beyond
-  same-beyond i z same x =
-      test (ltb (opAt C z) anElseIf) (λ t. rw (t, beyond))
-      (λ t. let later : i < z = by-less i z (λ l. l) (λ l. absurd (let a = x .forward l in let b = ltb-false (opAt C z) anElseIf t in omega arith)) in
-      test (eqb (opAt C z) aCase) (λ u. rw (t, u, beyond) (same (z + 1) (omega arith) (x .inside))) (λ u. rw (t, u, beyond) (same z later (omega (arith, x .inside)))))
+  beyond-step L z h = rw (lt-ltb (opAt C z) anElseIf h, beyond)
 
-  -- from the last word on
-  same-links : (n i : ℕ) → words ≤ i + n → i < words → linkAt D i ≡ linkAt E i
-  same-links zero i h l = absurd (omega arith)
-  same-links (suc n) i h l =
-      test (goesByLink (opAt C i))
-      (λ t. let x = f .links i l t in
-      let on : ((opAt C i ≡ aThen → opAt C (linkAt C i) ≡ anElseIf → ⊥) → linkAt D i ≡ linkAt E i) =
-      λ no. p i l .link-on t no x ∙ same-beyond i (linkAt C i) (λ k a b. same-links n k (omega arith) b) x ∙ sym (q i l .link-on t no x) in
-      by-same (opAt C i) aThen
-      (λ a. by-same (opAt C (linkAt C i)) anElseIf (λ b. p i l .link-then a b (x .inside) ∙ sym (q i l .link-then a b (x .inside))) (λ b. on (λ u v. b v)))
-      (λ a. on (λ u v. a u)))
-      (λ t. p i l .link t ∙ sym (q i l .link t))
+  beyond-case : (L : List ℕ) (z : ℕ) → (opAt C z < anElseIf → ⊥) → opAt C z ≡ aCase → beyond C L z ≡ linkAt L (z + 1)
+  unfolding beyond
+  beyond-case L z h e = rw (le-ltb (opAt C z) anElseIf (omega arith), eq-eqb (opAt C z) aCase e, beyond)
 
-  led-beyond : (i z : ℕ) → Follows C words i z → beyond C D z ≡ beyond C E z
-  led-beyond i z x = same-beyond i z (λ k a b. same-links words k (omega arith) b) x
+  beyond-other : (L : List ℕ) (z : ℕ) → (opAt C z < anElseIf → ⊥) → (opAt C z ≡ aCase → ⊥) → beyond C L z ≡ linkAt L z
+  unfolding beyond
+  beyond-other L z h e = rw (le-ltb (opAt C z) anElseIf (omega arith), ne-eqb (opAt C z) aCase e, beyond)
 
-  same-values : (i : ℕ) → i < words → valueAt D i ≡ valueAt E i
-  same-values i l =
-      test (goesByValue (opAt C i)) (λ t. let x = f .values i l t in p i l .value-on t x ∙ led-beyond i (valueAt C i) x ∙ sym (q i l .value-on t x))
+  mutual
+    same-link : (i : ℕ) → i < words → Leads C words i → linkAt D i ≡ linkAt E i
+    same-link i l (stays t) = p i l .link t ∙ sym (q i l .link t)
+    same-link i l (to-arm a b c) = p i l .link-then a b c ∙ sym (q i l .link-then a b c)
+    same-link i l (leads-on t n x g) = p i l .link-on t n x ∙ same-beyond (linkAt C i) g ∙ sym (q i l .link-on t n x)
+
+    same-beyond : (z : ℕ) → Comes C words z → beyond C D z ≡ beyond C E z
+    same-beyond z (to-step h) = beyond-step D z h ∙ sym (beyond-step E z h)
+    same-beyond z (behind-case e l g) =
+        by-less (opAt C z) anElseIf (λ h. beyond-step D z h ∙ sym (beyond-step E z h))
+        (λ h. beyond-case D z (λ k. omega arith) e ∙ same-link (z + 1) l g ∙ sym (beyond-case E z (λ k. omega arith) e))
+    same-beyond z (by-itself e l g) =
+        by-less (opAt C z) anElseIf (λ h. beyond-step D z h ∙ sym (beyond-step E z h))
+        (λ h. beyond-other D z (λ k. omega arith) e ∙ same-link z l g ∙ sym (beyond-other E z (λ k. omega arith) e))
+
+  same-value : (i : ℕ) → i < words → LeadsOn C words i → valueAt D i ≡ valueAt E i
+  same-value i l g =
+      test (goesByValue (opAt C i)) (λ t. let x = g .value t in p i l .value-on t (x .0) ∙ same-beyond (valueAt C i) (x .1) ∙ sym (q i l .value-on t (x .0)))
       (λ t. p i l .value t ∙ sym (q i l .value t))
 
-  same-places : (i : ℕ) → i < words → placeAt D i ≡ placeAt E i
-  same-places i l =
-      test (goesByPlace (opAt C i)) (λ t. let x = f .places i l t in p i l .place-on t x ∙ led-beyond i (placeAt C i) x ∙ sym (q i l .place-on t x))
+  same-place : (i : ℕ) → i < words → LeadsOn C words i → placeAt D i ≡ placeAt E i
+  same-place i l g =
+      test (goesByPlace (opAt C i)) (λ t. let x = g .place t in p i l .place-on t (x .0) ∙ same-beyond (placeAt C i) (x .1) ∙ sym (q i l .place-on t (x .0)))
       (λ t. p i l .place t ∙ sym (q i l .place t))
 
-  same-head : (i : ℕ) → i < words → headAt D i ≡ headAt E i
-  same-head i l = let o = p i l .op ∙ sym (q i l .op) in let v = same-values i l in omega arith
+  same-word : (i : ℕ) → i < words → LeadsOn C words i → (headAt D i ≡ headAt E i) × (tailAt D i ≡ tailAt E i)
+  same-word i l g =
+      let op = p i l .op ∙ sym (q i l .op) in
+      let value = same-value i l g in
+      let place = same-place i l g in
+      let link = same-link i l (g .link) in
+      (omega arith, omega arith)
 
-  same-tail : (i : ℕ) → i < words → tailAt D i ≡ tailAt E i
-  same-tail i l = let o = same-places i l in let v = same-links words i (omega arith) l in omega arith
+  same-cell : ((i : ℕ) → i < words → LeadsOn C words i) → (k : ℕ) → k < words * 2 → getD D k 0 ≡ getD E k 0
+  same-cell g k h =
+      let l : k / 2 < words = omega arith in
+      let w = same-word (k / 2) l (g (k / 2) l) in
+      by-same (k % 2) 0 (λ e. let at : k / 2 * 2 ≡ k = omega arith in subst (λ (n : ℕ). getD D n 0 ≡ getD E n 0) at (w .0))
+      (λ e. let at : k / 2 * 2 + 1 ≡ k = omega arith in subst (λ (n : ℕ). getD D n 0 ≡ getD E n 0) at (w .1))
 
-  same-cell : (k : ℕ) → k < words * 2 → getD D k 0 ≡ getD E k 0
-  same-cell k h =
-      let i : k / 2 < words = omega arith in
-      by-same (k % 2) 0 (λ e. let at : k / 2 * 2 ≡ k = omega arith in subst (λ (n : ℕ). getD D n 0 ≡ getD E n 0) at (same-head (k / 2) i))
-      (λ e. let at : k / 2 * 2 + 1 ≡ k = omega arith in subst (λ (n : ℕ). getD D n 0 ≡ getD E n 0) at (same-tail (k / 2) i))
+-- every word from which all ways lead on, and all bytes behind the words; where all words are such, every byte
+pub record SameResolved (before a b : List ℕ) (words : ℕ) : Type 0 where
+  pub word : (i : ℕ) → i < words → LeadsOn (wordsOf before) words i → (headAt (wordsOf a) i ≡ headAt (wordsOf b) i) × (tailAt (wordsOf a) i ≡ tailAt (wordsOf b) i)
+  pub past : drop (words * 8) a ≡ drop (words * 8) b
+  pub long : length a ≡ length b
+  pub whole : Bytes a → Bytes b → words * 8 ≤ length before → ((i : ℕ) → i < words → LeadsOn (wordsOf before) words i) → a ≡ b
 
--- every byte of the code store
-pub resolve-unique : (before a b : List ℕ) (words : ℕ) → words * 8 ≤ length before → AllFollow (wordsOf before) words → Bytes a → Bytes b → Resolved before a words → Resolved before b words → a ≡ b
-resolve-unique before a b words room f x y p q =
+pub resolve-unique : (before a b : List ℕ) (words : ℕ) → Resolved before a words → Resolved before b words → SameResolved before a b words
+resolve-unique before a b words p q =
     let at : words * 8 ≡ words * 2 * 4 = omega arith in
-    same-store (words * 2) a b x y (p .long ∙ sym (q .long)) (omega (arith, p .long)) (same-cell (wordsOf before) (wordsOf a) (wordsOf b) words f (p .led) (q .led))
-    (subst (λ (n : ℕ). drop n a ≡ drop n b) at (p .past ∙ sym (q .past)))
+    let past = p .past ∙ sym (q .past) in
+    record {
+      word = same-word (wordsOf before) (wordsOf a) (wordsOf b) words (p .led) (q .led);
+      past = past;
+      long = p .long ∙ sym (q .long);
+      whole = λ x y room g.
+          same-store (words * 2) a b x y (p .long ∙ sym (q .long)) (omega (arith, p .long)) (same-cell (wordsOf before) (wordsOf a) (wordsOf b) words (p .led) (q .led) g)
+          (subst (λ (n : ℕ). drop n a ≡ drop n b) at past);
+    }
 
 -- ---- words that close a list
 -- Two stores of the same cells, and of the same bytes from word n on.
