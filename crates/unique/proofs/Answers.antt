@@ -36,20 +36,21 @@ module _ (fs : List Fault) where
   same-answer k i l j answer p q = ap (λ (f : Fault). answer (f .number) (f .at)) (first-unique (faultAt k i) (faultAt l j) p q)
 
 -- ---- a walk that fills a scope
-same-scope : (x y : Scope) → x .used ≡ y .used → x ≡ y
-same-scope x y e = ap (λ (used : ℕ). record { used = used }) e
+-- the scope that comes back, by the words that are used
+abbrev pub scopeWith : (used : ℕ) → Scope
+scopeWith used = record { used = used }
 
--- from a piece with these faults it comes to the word `to`, with so many words used
-unfoldable pub Comes : (fs : List Fault) (to used : ℕ) → Walked → Type 0
-Comes fs to used (walked.Upto next scope) = (fs ≡ []) × (next ≡ to) × (scope .used ≡ used)
-Comes fs to used (walked.Faulty number word) = First (faultAt number word) fs
+-- From a piece with these faults it comes to the word `to`, with this scope.
+unfoldable pub Comes : (fs : List Fault) (to : ℕ) (end : Scope) → Walked → Type 0
+Comes fs to end (walked.Upto next scope) = (fs ≡ []) × (next ≡ to) × (scope ≡ end)
+Comes fs to end (walked.Faulty number word) = First (faultAt number word) fs
 
-pub walk-unique : (fs : List Fault) (to used : ℕ) (r s : Walked) → Comes fs to used r → Comes fs to used s → r ≡ s
+pub walk-unique : (fs : List Fault) (to : ℕ) (end : Scope) (r s : Walked) → Comes fs to end r → Comes fs to end s → r ≡ s
 unfolding Comes
-walk-unique fs to used (walked.Upto a x) (walked.Upto b y) p q = ap₂ walked.Upto (p .1 ∙ sym (q .1)) (same-scope x y (p .2 ∙ sym (q .2)))
-walk-unique fs to used (walked.Upto a x) (walked.Faulty l j) p q = no-first fs (faultAt l j) (p .0) q
-walk-unique fs to used (walked.Faulty k i) (walked.Upto b y) p q = no-first fs (faultAt k i) (q .0) p
-walk-unique fs to used (walked.Faulty k i) (walked.Faulty l j) p q = same-answer fs k i l j walked.Faulty p q
+walk-unique fs to end (walked.Upto a x) (walked.Upto b y) p q = ap₂ walked.Upto (p .1 ∙ sym (q .1)) (p .2 ∙ sym (q .2))
+walk-unique fs to end (walked.Upto a x) (walked.Faulty l j) p q = no-first fs (faultAt l j) (p .0) q
+walk-unique fs to end (walked.Faulty k i) (walked.Upto b y) p q = no-first fs (faultAt k i) (q .0) p
+walk-unique fs to end (walked.Faulty k i) (walked.Faulty l j) p q = same-answer fs k i l j walked.Faulty p q
 
 -- where it comes so far, something holds of the stores
 pub record SameWalk (r s : Walked) (holds : Type 0) : Type 0 where

@@ -53,7 +53,7 @@ use Rattle.statements.specs.Answers as statements
 use Rattle.routines.specs.declared.Walked as passing
 use Rattle.routines.specs.declared.Walked.the-variants as passed
 use Rattle.routines.specs.Answers as routines
-use Rattle.unique.proofs.Answers.{faultAt, no-first, same-answer, Comes, walk-unique, SameWalk, SameOutside, kept-unique, SameOthers, changed-unique, SameBut, first-link, SaySame, answer-unique}
+use Rattle.unique.proofs.Answers.{faultAt, no-first, same-answer, scopeWith, Comes, walk-unique, SameWalk, SameOutside, kept-unique, SameOthers, changed-unique, SameBut, first-link, SaySame, answer-unique}
 use Rattle.unique.proofs.Names.{SameMeans, means-unique, SameFilled, filled-unique}
 use Rattle.unique.proofs.Stores.{SameCells, same-cells}
 
@@ -120,16 +120,16 @@ module _ (code values c d : List ℕ) (at : ℕ) (a : Asks code values at) where
 -- the answer; where no rule is broken, the cells outside of what is walked over, and what the value store says
 module _ (code values c d v w : List ℕ) (r s : Walked) where
   -- what is promised of an answer (`P`, `Q`), and what follows of it where no rule is broken
-  same-walk : (fs : List Fault) (to used : ℕ) (P Q : Walked → Type 0) (holds : Type 0) → ((x : Walked) → P x → Comes fs to used x) → ((x : Walked) → Q x → Comes fs to used x)
+  same-walk : (fs : List Fault) (to : ℕ) (end : Scope) (P Q : Walked → Type 0) (holds : Type 0) → ((x : Walked) → P x → Comes fs to end x) → ((x : Walked) → Q x → Comes fs to end x)
       → ((next : ℕ) (scope : Scope) → P (walked.Upto next scope) → Q (walked.Upto next scope) → holds) → P r → Q s → SameWalk r s holds
-  same-walk fs to used P Q holds one other both p q =
-      let e = walk-unique fs to used r s (one r p) (other s q) in
+  same-walk fs to end P Q holds one other both p q =
+      let e = walk-unique fs to end r s (one r p) (other s q) in
       record { answer = e; stores = λ next scope k. both next scope (subst P k p) (subst Q (sym e ∙ k) q) }
 
   module _ (own limit used i : ℕ) (b : datum.Begins code values own limit used i) where
-    datum-comes : (c v : List ℕ) (x : Walked) → datum.Says b c v x → Comes (datum.faultsOf b) (b .to) (length (datum.after b .words)) x
+    datum-comes : (c v : List ℕ) (x : Walked) → datum.Says b c v x → Comes (datum.faultsOf b) (b .to) (scopeWith (length (datum.after b .words))) x
     unfolding Comes datum.Says
-    datum-comes c v (walked.Upto next scope) p = (p .none, p .next-is, p .used-is)
+    datum-comes c v (walked.Upto next scope) p = (p .none, p .next-is, ap scopeWith (p .used-is))
     datum-comes c v (walked.Faulty number word) p = p
 
     abbrev DatumStores : Type 0
@@ -146,9 +146,9 @@ module _ (code values c d v w : List ℕ) (r s : Walked) where
     abbrev module-filling : Filling
     module-filling = filling (b .W) (theModule (b .routines))
 
-    module-comes : (c v : List ℕ) (x : Walked) → SaysModule b c v x → Comes (dataFaults (b .W) module-filling (b .ds) noData) (b .to) (length (declareData (b .W) module-filling (b .ds) noData .words)) x
+    module-comes : (c v : List ℕ) (x : Walked) → SaysModule b c v x → Comes (dataFaults (b .W) module-filling (b .ds) noData) (b .to) (scopeWith (length (declareData (b .W) module-filling (b .ds) noData .words))) x
     unfolding Comes SaysModule
-    module-comes c v (walked.Upto next scope) p = (p .none, p .next-is, p .used-is)
+    module-comes c v (walked.Upto next scope) p = (p .none, p .next-is, ap scopeWith (p .used-is))
     module-comes c v (walked.Faulty number word) p = p
 
     abbrev ModuleStores : Type 0
@@ -163,9 +163,9 @@ module _ (code values c d v w : List ℕ) (r s : Walked) where
 
   module _ (opens head used at : ℕ) (b : RoutineStands code values head used at) where
     routine-comes : (c v : List ℕ) (x : Walked) → SaysRoutine b c v opens x
-        → Comes (dataFaults (b .W) (filling (b .W) (aRoutine (b .m))) (b .ds) (b .D)) (b .to) (length (routineAfter b .words)) x
+        → Comes (dataFaults (b .W) (filling (b .W) (aRoutine (b .m))) (b .ds) (b .D)) (b .to) (scopeWith (length (routineAfter b .words))) x
     unfolding Comes SaysRoutine
-    routine-comes c v (walked.Upto next scope) p = (p .none, p .next-is, p .used-is)
+    routine-comes c v (walked.Upto next scope) p = (p .none, p .next-is, ap scopeWith (p .used-is))
     routine-comes c v (walked.Faulty number word) p = p
 
     -- the routine's first word may change too: its link leads to the first declaration
@@ -185,9 +185,9 @@ module _ (code values c d v w : List ℕ) (r s : Walked) where
         same-walk _ _ _ (SaysRoutine b c v opens) (SaysRoutine b d w opens) RoutineStores (routine-comes c v) (routine-comes d w) routine-stores (p .is b) (q .is b)
 
   module _ (at : ℕ) (b : ParametersStand code values at) where
-    parameters-come : (c v : List ℕ) (x : Walked) → SaysParameters b c v x → Comes (parameterFaults (b .W) (filling (b .W) (aRoutine (b .m))) (b .ps) noData) (b .to) (length (b .ps)) x
+    parameters-come : (c v : List ℕ) (x : Walked) → SaysParameters b c v x → Comes (parameterFaults (b .W) (filling (b .W) (aRoutine (b .m))) (b .ps) noData) (b .to) (scopeWith (length (b .ps))) x
     unfolding Comes SaysParameters
-    parameters-come c v (walked.Upto next scope) p = (p .none, p .next-is, p .used-is)
+    parameters-come c v (walked.Upto next scope) p = (p .none, p .next-is, ap scopeWith (p .used-is))
     parameters-come c v (walked.Faulty number word) p = p
 
     -- all cells but those of the names' words
@@ -208,9 +208,9 @@ module _ (code values c d v w : List ℕ) (r s : Walked) where
     Told c v x = statements.Tell (listFaults (b .around .known .W) (b .around .K) (b .around .M) (b .l) (b .around .known .S) used) code c values v at (b .to) (used + forsInList (b .l))
         (RawList (groundOf (b .around)) (b .around .known .n) (wordsOf c) (b .l) (b .around .known .S) used at (b .to)) x
 
-    list-comes : (c v : List ℕ) (x : Walked) → Told c v x → Comes (listFaults (b .around .known .W) (b .around .K) (b .around .M) (b .l) (b .around .known .S) used) (b .to) (used + forsInList (b .l)) x
+    list-comes : (c v : List ℕ) (x : Walked) → Told c v x → Comes (listFaults (b .around .known .W) (b .around .K) (b .around .M) (b .l) (b .around .known .S) used) (b .to) (scopeWith (used + forsInList (b .l))) x
     unfolding Comes statements.Tell
-    list-comes c v (walked.Upto next scope) p = (p .none, p .next-is, p .used-is)
+    list-comes c v (walked.Upto next scope) p = (p .none, p .next-is, ap scopeWith (p .used-is))
     list-comes c v (walked.Faulty number word) p = p
 
     abbrev ListStores : Type 0
