@@ -1,4 +1,5 @@
 pub mod Equations
+pub mod Operators
 pub mod Stores
 pub mod Names
 pub mod Heads
