@@ -1,4 +1,4 @@
-"""What the tools for edits share: edits, that is files *.edit as rt reads them, and the functions and constants of a crate, as rt fmt lays them out."""
+"""What the tools for edits and `unique` share: edits, that is files *.edit as rt reads them, and the functions and constants of a crate, as rt fmt lays them out."""
 import os, re
 from collections import namedtuple
 

@@ -1,4 +1,11 @@
 pub mod Equations
+pub mod Operators
+pub mod Stores
+pub mod Names
+pub mod Heads
+pub mod Answers
+pub mod Check
+pub mod Links
 pub mod Showing
 pub mod Coming
 pub mod Enough
