@@ -180,7 +180,7 @@ module _ (code values : List ℕ) (base i : ℕ) where
     tries = let g = first (l .here) j t (l .left (l .here)) in stands-here code values base i (l .here) (j + 1) t (g .e) (g .reads)
 
     pub tries-in : (j + 1) * 8 + 8 ≤ length code
-    tries-in = stands-in code values base (j + 1) t tries
+    tries-in = stands-in _ code values base (j + 1) t tries
 
     pub then-in : t * 8 + 8 ≤ length code
     then-in =

@@ -7,7 +7,7 @@ use lib.IntN.{pos}
 use Rattle.paper.specs.Sorts.{lessEqual, plus, minusSign, times, AND, NOT, equal}
 use Rattle.paper.specs.Terms.{literal, errno, stored, elementAt, unary, binary, ofModule, ofRoutine}
 use Rattle.code.specs.Cells.{errnoCell}
-use Rattle.code.specs.Spans.{aLiteral, aModuleWord, aCallWord, aModuleElement, aParenthesis, aNot, aSpan, opOf, operators, operatorOf, bias, guard, _then_, prefixIn, moduleLeaf, leafTerm, elementTerm, operandOf, rightEnd, rightTerm, chain, spanTerm, termIn}
+use Rattle.code.specs.Spans.{aLiteral, aModuleWord, aCallWord, aModuleElement, aParenthesis, aNot, aSpan, opOf, operators, operatorOf, bias, guard, _then_, prefixIn, moduleLeaf, leafTerm, elementTerm, operandOf, rightEnd, rightTerm, chain, within, spanTerm, termWithin, termIn}
 
 head : (op value : ℕ) → ℕ
 head op v = op + 256 * v
@@ -25,12 +25,12 @@ comparison =
 comparison-term :
     termIn 30 1 comparison 0 12
     ≡ some (binary lessEqual (binary times (binary plus (stored (ofRoutine 0)) (literal (pos 1))) (literal (pos 2))) (elementAt (ofModule 10) 20 (literal (pos 3))))
-unfolding comparison head link termIn spanTerm chain rightTerm rightEnd operandOf leafTerm elementTerm moduleLeaf guard _then_ operatorOf operators
+unfolding comparison head link termWithin spanTerm within chain rightTerm rightEnd operandOf leafTerm elementTerm moduleLeaf guard _then_ operatorOf operators
 comparison-term = refl
 
 -- a module of 29 words has no such array
 comparison-short : termIn 29 1 comparison 0 12 ≡ none
-unfolding comparison head link termIn spanTerm chain rightTerm rightEnd operandOf leafTerm elementTerm moduleLeaf guard _then_ operatorOf operators
+unfolding comparison head link termWithin spanTerm within chain rightTerm rightEnd operandOf leafTerm elementTerm moduleLeaf guard _then_ operatorOf operators
 comparison-short = refl
 
 -- a - b - c goes from left to right, and so does a + b * c where the checker has given b * c a span of its own
@@ -39,7 +39,7 @@ differences =
     head aModuleWord 0 ∷ 0 ∷ head (opOf 1 aModuleWord) 1 ∷ 0 ∷ head aModuleWord 1 ∷ 0 ∷ head (opOf 1 aModuleWord) 2 ∷ 0 ∷ head aModuleWord 2 ∷ 0 ∷ []
 
 differences-term : termIn 3 0 differences 0 5 ≡ some (binary minusSign (binary minusSign (stored (ofModule 0)) (stored (ofModule 1))) (stored (ofModule 2)))
-unfolding differences head link termIn spanTerm chain rightTerm rightEnd operandOf leafTerm moduleLeaf guard _then_ operatorOf operators
+unfolding differences head link termWithin spanTerm within chain rightTerm rightEnd operandOf leafTerm moduleLeaf guard _then_ operatorOf operators
 differences-term = refl
 
 sum : List ℕ
@@ -47,7 +47,7 @@ sum =
     head aModuleWord 0 ∷ 0 ∷ head (opOf 0 aSpan) 0 ∷ link 5 ∷ head aModuleWord 1 ∷ 0 ∷ head (opOf 2 aModuleWord) 2 ∷ 0 ∷ head aModuleWord 2 ∷ 0 ∷ []
 
 sum-term : termIn 3 0 sum 0 5 ≡ some (binary plus (stored (ofModule 0)) (binary times (stored (ofModule 1)) (stored (ofModule 2))))
-unfolding sum head link termIn spanTerm chain rightTerm rightEnd operandOf leafTerm moduleLeaf guard _then_ operatorOf operators
+unfolding sum head link termWithin spanTerm within chain rightTerm rightEnd operandOf leafTerm moduleLeaf guard _then_ operatorOf operators
 sum-term = refl
 
 -- NOT ERRNO = 0 AND x: NOT covers all of it
@@ -56,5 +56,5 @@ condition =
     head aNot 0 ∷ link 6 ∷ head aModuleWord errnoCell ∷ 0 ∷ head (opOf 9 aLiteral) bias ∷ 0 ∷ head aLiteral bias ∷ 0 ∷ head (opOf 12 aCallWord) 0 ∷ 0 ∷ head aCallWord 0 ∷ 0 ∷ []
 
 condition-term : termIn 0 1 condition 0 6 ≡ some (unary NOT (binary AND (binary equal errno (literal (pos 0))) (stored (ofRoutine 0))))
-unfolding condition head link termIn spanTerm chain rightTerm rightEnd operandOf leafTerm moduleLeaf guard _then_ prefixIn operatorOf operators
+unfolding condition head link termWithin spanTerm within chain rightTerm rightEnd operandOf leafTerm moduleLeaf guard _then_ prefixIn operatorOf operators
 condition-term = refl

@@ -94,7 +94,7 @@ module _ (m n p q : ℕ) (hm : m ≤ p) (hn : n ≤ q) where
       shapes p q op v t u (record { is = s .is; room = omega (arith, s .room, room-more op) })
 
 -- ---- an operand, by its op
-module _ (m n w l : ℕ) (inner : ℕ → ℕ → Option Term) (at : ℕ) (x : Term × ℕ) where
+module _ (m n w l : ℕ) (inner covered : ℕ → ℕ → Option Term) (at : ℕ) (x : Term × ℕ) where
   pub record LeafAt : Type 0 where
     pub is : leafTerm m n (opIn w) (valueIn w) ≡ some (x .0)
     pub end : x .1 ≡ at + 1
@@ -111,17 +111,17 @@ module _ (m n w l : ℕ) (inner : ℕ → ℕ → Option Term) (at : ℕ) (x : T
 
   pub record PrefixAt : Type 0 where
     pub t : Term
-    pub inside : inner (at + 1) l ≡ some t
+    pub inside : covered (at + 1) l ≡ some t
     pub is : unary (prefixIn (opIn w)) t ≡ x .0
     pub end : x .1 ≡ l
 
   -- neither leaf nor element
-  past : aCallWord < opIn w → aCallElement < opIn w → operandOf m n w l inner at
-      ≡ elim (eqb (opIn w) aParenthesis) [ true ↦ inner (at + 1) l then (λ t. some (t, l + 1)) | false ↦ inner (at + 1) l then (λ t. some (unary (prefixIn (opIn w)) t, l)) ]
+  past : aCallWord < opIn w → aCallElement < opIn w → operandOf m n w l inner covered at
+      ≡ elim (eqb (opIn w) aParenthesis) [ true ↦ inner (at + 1) l then (λ t. some (t, l + 1)) | false ↦ covered (at + 1) l then (λ t. some (unary (prefixIn (opIn w)) t, l)) ]
   unfolding operandOf
   past h k = rw (lt-leb (opIn w) aCallWord h, operandOf) (rw (lt-leb (opIn w) aCallElement k))
 
-  module _ (e : operandOf m n w l inner at ≡ some x) where
+  module _ (e : operandOf m n w l inner covered at ≡ some x) where
     pub of-leaf : opIn w ≤ aCallWord → LeafAt
     unfolding operandOf
     of-leaf h =
@@ -148,12 +148,12 @@ module _ (m n w l : ℕ) (inner : ℕ → ℕ → Option Term) (at : ℕ) (x : T
 
         pub of-prefix : (opIn w ≡ aParenthesis → ⊥) → PrefixAt
         of-prefix s =
-            let g = went (inner (at + 1) l) (λ t. some (unary (prefixIn (opIn w)) t, l)) x (rw (ne-eqb (opIn w) aParenthesis s) at (sym (past h k) ∙ e)) in
+            let g = went (covered (at + 1) l) (λ t. some (unary (prefixIn (opIn w)) t, l)) x (rw (ne-eqb (opIn w) aParenthesis s) at (sym (past h k) ∙ e)) in
             let q = same-some (unary (prefixIn (opIn w)) (g .a), l) x (g .next) in
             record { t = g .a; inside = g .first; is = ap (λ (y : Term × ℕ). y .0) q; end = sym (ap (λ (y : Term × ℕ). y .1) q) }
 
   -- by cases
-  pub of-any : {A : Type 0} → operandOf m n w l inner at ≡ some x
+  pub of-any : {A : Type 0} → operandOf m n w l inner covered at ≡ some x
       → (opIn w ≤ aCallWord → LeafAt → A)
       → (aCallWord < opIn w → opIn w ≤ aCallElement → ElementAt → A)
       → (opIn w ≡ aParenthesis → NestedAt → A)
@@ -168,12 +168,12 @@ module _ (m n w l : ℕ) (inner : ℕ → ℕ → Option Term) (at : ℕ) (x : T
   pair-is t j p q = ap₂ (λ (s : Term) (k : ℕ). some (s, k)) p (sym q)
 
   -- and back
-  pub to-leaf : opIn w ≤ aCallWord → LeafAt → operandOf m n w l inner at ≡ some x
+  pub to-leaf : opIn w ≤ aCallWord → LeafAt → operandOf m n w l inner covered at ≡ some x
   unfolding operandOf
   to-leaf h g =
       rw (le-leb (opIn w) aCallWord h, operandOf) (goes (leafTerm m n (opIn w) (valueIn w)) (λ t. some (t, at + 1)) (x .0) (g .is) ∙ pair-is (x .0) (at + 1) refl (g .end))
 
-  pub to-element : aCallWord < opIn w → opIn w ≤ aCallElement → ElementAt → operandOf m n w l inner at ≡ some x
+  pub to-element : aCallWord < opIn w → opIn w ≤ aCallElement → ElementAt → operandOf m n w l inner covered at ≡ some x
   unfolding operandOf
   to-element h k g =
       rw (lt-leb (opIn w) aCallWord h, operandOf) (rw (le-leb (opIn w) aCallElement k)
@@ -181,13 +181,13 @@ module _ (m n w l : ℕ) (inner : ℕ → ℕ → Option Term) (at : ℕ) (x : T
       ∙ goes (elementTerm m n (opIn w) (valueIn w) (g .t)) (λ t. some (t, l + 1)) (x .0) (g .is)
       ∙ pair-is (x .0) (l + 1) refl (g .end)))
 
-  pub to-nested : opIn w ≡ aParenthesis → NestedAt → operandOf m n w l inner at ≡ some x
+  pub to-nested : opIn w ≡ aParenthesis → NestedAt → operandOf m n w l inner covered at ≡ some x
   to-nested s g =
       past (omega arith) (omega arith) ∙ rw (eq-eqb (opIn w) aParenthesis s)
       (goes (inner (at + 1) l) (λ t. some (t, l + 1)) (x .0) (g .inside) ∙ pair-is (x .0) (l + 1) refl (g .end))
 
-  pub to-prefix : aParenthesis < opIn w → PrefixAt → operandOf m n w l inner at ≡ some x
+  pub to-prefix : aParenthesis < opIn w → PrefixAt → operandOf m n w l inner covered at ≡ some x
   to-prefix s g =
       past (omega arith) (omega arith) ∙ rw (ne-eqb (opIn w) aParenthesis (λ q. omega arith))
-      (goes (inner (at + 1) l) (λ t. some (unary (prefixIn (opIn w)) t, l)) (g .t) (g .inside)
+      (goes (covered (at + 1) l) (λ t. some (unary (prefixIn (opIn w)) t, l)) (g .t) (g .inside)
       ∙ pair-is (unary (prefixIn (opIn w)) (g .t)) l (g .is) (g .end))

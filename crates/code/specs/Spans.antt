@@ -10,6 +10,7 @@ use lib.IntN.{pos, _-ℤ_}
 use mir.Syntax.{w32}
 use mir.Val.{toZ}
 use Rattle.paper.specs.Basics.{if_then_else_}
+use Rattle.paper.specs.Expressions.{nestings}
 use Rattle.paper.specs.Sorts.{equal, less, lessEqual, unequal, greater, greaterEqual, plus, minusSign, times, DIV, MOD, AND, OR, NOT, XOR}
 use Rattle.paper.specs.Terms.{ofModule, ofRoutine, Term, literal, errno, stored, elementAt, unary, binary, Memory}
 use Rattle.code.specs.Cells.{opIn, valueIn, headAt, opAt, valueAt, linkAt, errnoCell}
@@ -107,6 +108,11 @@ prefixIn op =
 unfoldable pub rightEnd : (C : List ℕ) → ℕ → ℕ
 rightEnd C i = elim (eqb (rightIn (opAt C i)) aSpan) [ true ↦ linkAt C i | false ↦ i + 2 ]
 
+-- What stands in parentheses or braces, where so many may still open: `inner` reads it with one less.
+unfoldable pub within : (inner : (nesting from to : ℕ) → Option Term) → (nesting from to : ℕ) → Option Term
+within inner zero from to = none
+within inner (suc d) from to = inner d from to
+
 -- The module has m words, the routine n.
 module _ (m n : ℕ) where
   unfoldable pub moduleLeaf : (value : ℕ) → Option Term
@@ -125,22 +131,24 @@ module _ (m n : ℕ) where
       else guard (leb (firstIn v + sizeIn v) n) (elementAt (ofRoutine (firstIn v)) (sizeIn v) t)
 
   -- ---- spans
-  -- the operand at a word with this head and this link, and the word after it
-  unfoldable pub operandOf : (head link : ℕ) → (inner : ℕ → ℕ → Option Term) → (at : ℕ) → Option (Term × ℕ)
-  operandOf w l inner at =
+  -- The operand at a word with this head and this link, and the word after it. `inside` reads what stands in parentheses or braces, `covered` what NOT or a
+  -- sign covers.
+  unfoldable pub operandOf : (head link : ℕ) → (inside covered : ℕ → ℕ → Option Term) → (at : ℕ) → Option (Term × ℕ)
+  operandOf w l inside covered at =
       elim (leb (opIn w) aCallWord) [
         | true ↦ leafTerm (opIn w) (valueIn w) then (λ t. some (t, at + 1))
         | false ↦
             elim (leb (opIn w) aCallElement) [
-              | true ↦ inner (at + 2) l then (λ x. elementTerm (opIn w) (valueIn w) x then (λ t. some (t, l + 1)))
+              | true ↦ inside (at + 2) l then (λ x. elementTerm (opIn w) (valueIn w) x then (λ t. some (t, l + 1)))
               | false ↦
-                  elim (eqb (opIn w) aParenthesis) [ true ↦ inner (at + 1) l then (λ t. some (t, l + 1)) | false ↦ inner (at + 1) l then (λ t. some (unary (prefixIn (opIn w)) t, l)) ]
+                  elim (eqb (opIn w) aParenthesis) [ true ↦ inside (at + 1) l then (λ t. some (t, l + 1)) | false ↦ covered (at + 1) l then (λ t. some (unary (prefixIn (opIn w)) t, l)) ]
             ]
       ]
 
   module _ (C : List ℕ) where
-    abbrev pub operandTerm : (inner : ℕ → ℕ → Option Term) → (at : ℕ) → Option (Term × ℕ)
-    operandTerm inner at = operandOf (headAt C at) (linkAt C at) inner at
+    -- `inner` reads with a nesting, and so many parentheses and braces may still open here
+    abbrev pub operandTerm : (inner : (nesting from to : ℕ) → Option Term) → (nesting at : ℕ) → Option (Term × ℕ)
+    operandTerm inner d at = operandOf (headAt C at) (linkAt C at) (within inner d) (inner d) at
 
     -- the right side of the operator at i
     unfoldable pub rightTerm : (inner : ℕ → ℕ → Option Term) → ℕ → Option Term
@@ -161,13 +169,17 @@ module _ (m n : ℕ) where
               ]
         ]
 
-    unfoldable pub spanTerm : (fuel : ℕ) → (from to : ℕ) → Option Term
-    spanTerm zero from to = none
-    spanTerm (suc f) from to = operandTerm (spanTerm f) from then (λ x. chain (spanTerm f) f (x .0) (x .1) to)
+    unfoldable pub spanTerm : (fuel nesting : ℕ) → (from to : ℕ) → Option Term
+    spanTerm zero d from to = none
+    spanTerm (suc f) d from to = operandTerm (spanTerm f) d from then (λ x. chain (spanTerm f d) f (x .0) (x .1) to)
 
-    -- The expression that stands in a span of words. As many words as it has are fuel enough.
-    unfoldable pub termIn : (from to : ℕ) → Option Term
-    termIn from to = spanTerm (to - from) from to
+    -- The expression that stands in a span of words, in which so many parentheses and braces may nest. As many words as it has are fuel enough.
+    unfoldable pub termWithin : (nesting from to : ℕ) → Option Term
+    termWithin d from to = spanTerm (to - from) d from to
+
+    -- "parentheses and braces in an expression nest to 16"
+    abbrev pub termIn : (from to : ℕ) → Option Term
+    termIn from to = termWithin nestings from to
 
 -- ---- memory: the module's words are the first cells, the call's stand at `base`
 unfoldable pub memoryIn : (m n : ℕ) → (values : List ℕ) → (base : ℕ) → Memory

@@ -52,6 +52,7 @@ module _ (text code values : List ℕ) (g : Around text values) (k : Setting) (u
     e = e;
     to = z;
     tops = omega arith;
+    deep = omega arith;
     is = deeper (sortIn (g .known .W)) (suc nestings) a (e, z) is .is;
     ends = λ f. absurd (omega (arith, ends, f));
     loaded = loaded;

@@ -131,6 +131,7 @@ module _ (code values : List ℕ) (c : ℕ) (now : List ℕ) (w op : ℕ) (inv :
         e = f .a;
         to = f .n;
         tops = omega arith;
+        deep = omega arith;
         is = deeper (sortIn (a .known .W)) (suc nestings) (w + 1) (f .a, f .n) (f .one) .is;
         ends = λ h. absurd (omega (arith, no-operator, h));
         loaded = record {

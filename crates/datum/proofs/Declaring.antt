@@ -82,6 +82,7 @@ module _ (W : List Word) (routine : ℕ → ℕ) (s : Site) (D : Data) (values :
       e = e;
       to = n;
       tops = omega arith;
+      deep = omega arith;
       is = deeper (sortIn W) (suc nestings) at (e, n) h .is;
       ends = λ g. absurd (omega (arith, none, g));
       loaded = loaded-part W code i to at n l lo hi;

@@ -26,7 +26,7 @@ use Rattle.code.proofs.Options.{same-some}
 use Rattle.code.proofs.Operands.{leaf-literal, leaf-errno, leaf-module, leaf-call, by-leaf, arrayIn, roomIn, Shaped, shaped}
 use Rattle.reading.specs.Reading.{cellValues, Loaded}
 use Rattle.evaluation.specs.Answers.{firstError, decoded, Small, Gives, Counts, memoryOf, Stores}
-use Rattle.evaluation.specs.Parts.{Leaf, Read, cellOf, closedTerm, opensAt, endsAt, Array, Indexed, Closes, Closed}
+use Rattle.evaluation.specs.Parts.{Leaf, Read, cellOf, closedTerm, opensAt, endsAt, nestsIn, Nests, Array, Indexed, Closes, Closed}
 use Rattle.evaluation.proofs.Numbers.{is-value, is-error, gives-value, gives-error, gives-same, told}
 
 -- ---- a word
@@ -240,6 +240,18 @@ module _ (op at : ℕ) where
   pub ends-open : 6 < op → at ≡ endsAt op at
   unfolding endsAt
   ends-open h = rw (lt-leb op 6 h, endsAt)
+
+  -- how many may still open inside: here `at` is how many may around it
+  pub nests-one : op ≤ 6 → Nests op at → 1 ≤ at
+  nests-one h k = omega (arith, k h)
+
+  pub nests-less : op ≤ 6 → at - 1 ≡ nestsIn op at
+  unfolding nestsIn
+  nests-less h = rw (le-leb op 6 h, nestsIn)
+
+  pub nests-same : 6 < op → at ≡ nestsIn op at
+  unfolding nestsIn
+  nests-same h = rw (lt-leb op 6 h, nestsIn)
 
 -- a parenthesis counts as a plus, which changes nothing
 plus-same : (y : Value) → applied (prefixIn aParenthesis) y ≡ y

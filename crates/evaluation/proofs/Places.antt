@@ -10,7 +10,7 @@ use Rattle.paper.specs.Terms.{Term}
 use Rattle.cells.specs.Words.{wordsOf}
 use Rattle.cells.proofs.Laws.{length-words}
 use Rattle.code.specs.Cells.{opIn, headAt, tailAt, opAt, valueAt, placeAt, linkAt}
-use Rattle.code.specs.Spans.{aSpan, rightIn, operandTerm, rightTerm}
+use Rattle.code.specs.Spans.{aSpan, rightIn, within, operandTerm, rightTerm}
 use Rattle.code.proofs.Operands.{by-leaf, of-any}
 use Rattle.code.proofs.Spanning.{right-span}
 
@@ -49,10 +49,10 @@ module _ (code : List ℕ) (i : ℕ) (w : length code % 8 ≡ 0) where
       (λ h. op-in (λ z. h (ap (λ (v : ℕ). rightIn v) z)))
 
 -- an operand that can be read
-pub operand-some : (m n : ℕ) (C : List ℕ) (inner : ℕ → ℕ → Option Term) (at : ℕ) (x : Term × ℕ) → operandTerm m n C inner at ≡ some x → headAt C at ≡ 0 → ⊥
-operand-some m n C inner at x e z =
+pub operand-some : (m n : ℕ) (C : List ℕ) (inner : ℕ → ℕ → ℕ → Option Term) (d at : ℕ) (x : Term × ℕ) → operandTerm m n C inner d at ≡ some x → headAt C at ≡ 0 → ⊥
+operand-some m n C inner d at x e z =
     let q : opAt C at ≡ 0 = ap (λ (v : ℕ). v % 256) z in
-    of-any m n (headAt C at) (linkAt C at) inner at x e
+    of-any m n (headAt C at) (linkAt C at) (within inner d) (inner d) at x e
     (λ h g. by-leaf m n (opAt C at) (valueAt C at) (x .0) (g .is) (λ k. omega arith) (λ k. omega arith) (λ k. omega arith))
     (λ h j g. omega arith)
     (λ h g. omega arith)

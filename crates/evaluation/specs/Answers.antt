@@ -9,11 +9,12 @@ use lib.IntN.{ℤ, pos, natAbs}
 use lib.Signed.{ltZ}
 use mir.Syntax.{w32}
 use mir.Val.{SFits}
+use Rattle.paper.specs.Expressions.{nestings}
 use Rattle.paper.specs.Numbers.{Value, value, error}
 use Rattle.paper.specs.Terms.{Term, Memory, worth}
 use Rattle.cells.specs.Words.{wordsOf}
 use Rattle.code.specs.Cells.{firstWindow, errnoCell}
-use Rattle.code.specs.Spans.{termIn, memoryIn}
+use Rattle.code.specs.Spans.{termWithin, memoryIn}
 pub use Rattle.layout.specs.Answers.{firstError}
 
 -- ---- answers
@@ -45,8 +46,12 @@ pub record Counts : Type 0 where
   pub most : m ≤ firstWindow
   pub window : n ≤ callWords
 
+-- the expression that stands in a span, in which so many parentheses and braces may nest; and one in which 16 may
+abbrev pub termUnder : (nesting : ℕ) → Counts → (code : List ℕ) → (from to : ℕ) → Option Term
+termUnder nest c code from to = termWithin (c .m) (c .n) (wordsOf code) nest from to
+
 abbrev pub termOf : Counts → (code : List ℕ) → (from to : ℕ) → Option Term
-termOf c code from to = termIn (c .m) (c .n) (wordsOf code) from to
+termOf c code from to = termUnder nestings c code from to
 
 abbrev pub memoryOf : Counts → (values : List ℕ) → (base : ℕ) → Memory
 memoryOf c values base = memoryIn (c .m) (c .n) (wordsOf values) base
@@ -57,14 +62,22 @@ pub record Stores (values : List ℕ) (base : ℕ) : Type 0 where
   pub call : (base + callWords) * 4 ≤ length values
   pub number : getD (wordsOf values) errnoCell 0 < firstNegative
 
--- An expression stands in the words from `from` up to `to`. The code store has whole words, of two cells each: so those that say something are in it.
-pub record Stands (code : List ℕ) (from to : ℕ) : Type 0 where
+-- An expression stands in the words from `from` up to `to`, in which so many parentheses and braces may nest. The code store has whole words, of two cells
+-- each: so those that say something are in it.
+pub record StandsUnder (nesting : ℕ) (code : List ℕ) (from to : ℕ) : Type 0 where
   pub c : Counts
   pub t : Term
-  pub is : termOf c code from to ≡ some t
+  pub is : termUnder nesting c code from to ≡ some t
   pub whole : length code % 8 ≡ 0
 
 -- r is what the expression is worth that stands there.
-pub record Evaluated (code values : List ℕ) (base from to : ℕ) (r : ℤ) : Type 0 where
-  pub is : (c : Counts) (t : Term) → termOf c code from to ≡ some t → decoded r ≡ worth (memoryOf c values base) t
+pub record EvaluatedUnder (nesting : ℕ) (code values : List ℕ) (base from to : ℕ) (r : ℤ) : Type 0 where
+  pub is : (c : Counts) (t : Term) → termUnder nesting c code from to ≡ some t → decoded r ≡ worth (memoryOf c values base) t
   pub small : Small r
+
+-- "parentheses and braces in an expression nest to 16"
+abbrev pub Stands : (code : List ℕ) → (from to : ℕ) → Type 0
+Stands code from to = StandsUnder nestings code from to
+
+abbrev pub Evaluated : (code values : List ℕ) → (base from to : ℕ) → (r : ℤ) → Type 0
+Evaluated code values base from to r = EvaluatedUnder nestings code values base from to r

@@ -3,7 +3,7 @@ use mathlib.Core.Path.{_≡_}
 use mathlib.Core.Bool.{Bool, true, false}
 use mathlib.Core.List.{List}
 use mathlib.Core.Option.{Option, some}
-use Prim.Native.Nat.{ℕ, _+_, _%_, _<_, _≤_}
+use Prim.Native.Nat.{ℕ, _+_, _-_, _%_, _<_, _≤_}
 use lib.Dec.{eqb, leb, ltb}
 use lib.ListN.{length}
 use lib.IntN.{ℤ}
@@ -15,9 +15,9 @@ use Rattle.paper.specs.Numbers.{num, Value, value, error, isZero, overflow, div
 use Rattle.paper.specs.Terms.{Term, unary, known, combined, worth}
 use Rattle.cells.specs.Words.{wordsOf}
 use Rattle.code.specs.Cells.{opIn, valueIn, opAt}
-use Rattle.code.specs.Spans.{aSpan, aCallWord, aCallElement, aParenthesis, rightIn, prefixIn, operatorOf, operatorIn, leafTerm, elementTerm, chain, termIn}
+use Rattle.code.specs.Spans.{aSpan, aCallWord, aCallElement, aParenthesis, rightIn, prefixIn, operatorOf, operatorIn, leafTerm, elementTerm, chain, termWithin}
 use Rattle.reading.specs.Reading.{valueEnd}
-use Rattle.evaluation.specs.Answers.{decoded, Small, Counts, termOf, memoryOf}
+use Rattle.evaluation.specs.Answers.{decoded, Small, Counts, termUnder, memoryOf}
 
 -- ---- operators
 -- a number that num does not hold
@@ -101,6 +101,14 @@ opensAt op at = if leb op aCallElement then at + 2 else at + 1
 unfoldable pub endsAt : (op link : ℕ) → ℕ
 endsAt op l = if leb op aParenthesis then l + 1 else l
 
+-- how many parentheses and braces may still open inside it, where so many may around it
+unfoldable pub nestsIn : (op nesting : ℕ) → ℕ
+nestsIn op d = if leb op aParenthesis then d - 1 else d
+
+-- in parentheses and braces one less, so there has to be one
+abbrev pub Nests : (op nesting : ℕ) → Type 0
+Nests op d = op ≤ aParenthesis → 0 < d
+
 pub record Array (w : ℕ) : Type 0 where
   pub c : Counts
   pub t : Term
@@ -130,34 +138,35 @@ pub record Shorts (code : List ℕ) (from to : ℕ) (r : Bool) : Type 0 where
   pub carried : r ≡ true → rightIn (opAt (wordsOf code) (from + 1)) ≡ aSpan → ⊥
 
 -- an operand of several words begins at a word with the head w: what stands inside it ends at l
-pub record Encloses (code : List ℕ) (at w l : ℕ) : Type 0 where
+pub record Encloses (nesting : ℕ) (code : List ℕ) (at w l : ℕ) : Type 0 where
   pub c : Counts
   pub t : Term
   pub u : Term
-  pub inside : termOf c code (opensAt (opIn w) at) l ≡ some t
+  pub nests : Nests (opIn w) nesting
+  pub inside : termUnder (nestsIn (opIn w) nesting) c code (opensAt (opIn w) at) l ≡ some t
   pub is : closedTerm c (opIn w) (valueIn w) t ≡ some u
   pub whole : length code % 8 ≡ 0
 
-pub record Entered (code values : List ℕ) (base at w l : ℕ) (r : ℤ) : Type 0 where
-  pub is : (c : Counts) (t u : Term) → termOf c code (opensAt (opIn w) at) l ≡ some t → closedTerm c (opIn w) (valueIn w) t ≡ some u
+pub record Entered (nesting : ℕ) (code values : List ℕ) (base at w l : ℕ) (r : ℤ) : Type 0 where
+  pub is : (c : Counts) (t u : Term) → termUnder (nestsIn (opIn w) nesting) c code (opensAt (opIn w) at) l ≡ some t → closedTerm c (opIn w) (valueIn w) t ≡ some u
       → decoded r ≡ worth (memoryOf c values base) u
   pub small : Small r
 
 -- ---- operators after an operand
 -- a term that is worth a, and the operators from i on, up to `to`, read as t
-pub record Left (c : Counts) (code values : List ℕ) (base : ℕ) (a : ℤ) (i to : ℕ) (t : Term) : Type 0 where
+pub record Left (nesting : ℕ) (c : Counts) (code values : List ℕ) (base : ℕ) (a : ℤ) (i to : ℕ) (t : Term) : Type 0 where
   pub u : Term
   pub is : worth (memoryOf c values base) u ≡ value a
   pub g : ℕ
-  pub rest : chain (c .m) (c .n) (wordsOf code) (termIn (c .m) (c .n) (wordsOf code)) g u i to ≡ some t
+  pub rest : chain (c .m) (c .n) (wordsOf code) (termWithin (c .m) (c .n) (wordsOf code) nesting) g u i to ≡ some t
 
-pub record Follows (code values : List ℕ) (base : ℕ) (a : ℤ) (i to : ℕ) : Type 0 where
+pub record Follows (nesting : ℕ) (code values : List ℕ) (base : ℕ) (a : ℤ) (i to : ℕ) : Type 0 where
   pub c : Counts
   pub t : Term
-  pub left : Left c code values base a i to t
+  pub left : Left nesting c code values base a i to t
   pub small : SFits w32 a
   pub whole : length code % 8 ≡ 0
 
-pub record Followed (code values : List ℕ) (base : ℕ) (a : ℤ) (i to : ℕ) (r : ℤ) : Type 0 where
-  pub is : (c : Counts) (t : Term) → Left c code values base a i to t → decoded r ≡ worth (memoryOf c values base) t
+pub record Followed (nesting : ℕ) (code values : List ℕ) (base : ℕ) (a : ℤ) (i to : ℕ) (r : ℤ) : Type 0 where
+  pub is : (c : Counts) (t : Term) → Left nesting c code values base a i to t → decoded r ≡ worth (memoryOf c values base) t
   pub small : Small r

@@ -9,10 +9,11 @@ ghost use mir.Val.{SFits};
 ghost use Rattle.paper.specs.Numbers.{value, error, isZero, same};
 ghost use Rattle.paper.specs.Terms.{truth, applied, known};
 ghost use Rattle.code.specs.Spans.{rightIn, prefixIn, operatorOf};
-ghost use Rattle.evaluation.specs.Answers.{firstError, decoded, Small, Gives, Stores, Stands, Evaluated};
-ghost use Rattle.evaluation.specs.Parts.{joined, andNumber, orNumber, failureOf, failing, Worked, Divided, addresses, Leaf, Read, cellOf, opensAt, endsAt, Fused, Array, Indexed, Closes, Closed, Shorts, Encloses, Entered, Skips, Follows, Followed};
+ghost use Rattle.evaluation.specs.Answers.{firstError, decoded, Small, Gives, Stores, StandsUnder, EvaluatedUnder, Stands, Evaluated};
+ghost use Rattle.evaluation.specs.Parts.{joined, andNumber, orNumber, failureOf, failing, Worked, Divided, addresses, Leaf, Read, cellOf, opensAt, endsAt, nestsIn, Nests, Fused, Array, Indexed, Closes, Closed, Shorts, Encloses, Entered, Skips, Follows, Followed};
 ghost use Rattle.evaluation.specs.Parts as parts;
 use layout::answers::FIRST_ERROR;
+use layout::limits::NESTINGS;
 use layout::ops;
 use layout::parts;
 use numbers::HIGHEST_NUM;
@@ -415,6 +416,17 @@ fn opens(op: u32, at: usize) -> usize
     at + 1
 }
 
+// How many parentheses and braces may still open inside an operand: in parentheses and braces one less.
+fn nests(op: u32, nesting: usize) -> usize
+    requires { ⌜ Nests op nesting ⌝ }
+    ensures { λ r. ⌜ r ≡ nestsIn op nesting ⌝ }
+{
+    if op <= ops::PARENTHESIS {
+        return nesting - 1;
+    }
+    nesting
+}
+
 fn ends(op: u32, link: usize) -> usize
     requires { ⌜ link + 1 < addresses ⌝ }
     ensures { λ r. ⌜ r ≡ endsAt op link ⌝ }
@@ -428,7 +440,8 @@ fn ends(op: u32, link: usize) -> usize
 // ---- spans
 
 // The stores go through the calls of this cycle behind a reference each: a slice is two words, and a function that calls itself would copy both stores' for
-// each call, where a reference stays in its register.
+// each call, where a reference stays in its register. Last goes how many parentheses and braces may still nest: it falls with them, and the words left at
+// each call.
 
 // An operand of several words that begins at a word with the head w, and what stands inside it ends at l. A word alone is read without a call.
 fn enclosed<'a, 'b>(
@@ -438,9 +451,10 @@ fn enclosed<'a, 'b>(
     at: usize,
     w: u32,
     l: usize,
+    nesting: usize,
 ) -> i64
-    requires { ⌜ Stores (now (now values)) base × Encloses (now (now code)) at w l ⌝ }
-    ensures { λ r. ⌜ Entered (now (now (code .entry))) (now (now (values .entry))) base at w l r ⌝ }
+    requires { ⌜ Stores (now (now values)) base × Encloses nesting (now (now code)) at w l ⌝ }
+    ensures { λ r. ⌜ Entered nesting (now (now (code .entry))) (now (now (values .entry))) base at w l r ⌝ }
 {
     let s = opens(w % parts::VALUE, at);
     if l == s + 1 {
@@ -452,12 +466,17 @@ fn enclosed<'a, 'b>(
             leaf(*values, base, x % parts::VALUE, x / parts::VALUE),
         );
     }
-    close(*values, base, w, whole(code, values, base, s, l))
+    close(
+        *values,
+        base,
+        w,
+        whole(code, values, base, s, l, nests(w % parts::VALUE, nesting)),
+    )
 }
 
 // One operator between two words, the form of most expressions: only then true.
-fn is_short(code: &[u8], from: usize, to: usize) -> bool
-    requires { ⌜ Stands (now code) from to ⌝ }
+fn is_short(code: &[u8], from: usize, to: usize, nesting: usize) -> bool
+    requires { ⌜ StandsUnder nesting (now code) from to ⌝ }
     ensures { λ r. ⌜ Shorts (now (code .entry)) from to r ⌝ }
 {
     if to == from + 3 {
@@ -473,9 +492,16 @@ fn is_short(code: &[u8], from: usize, to: usize) -> bool
 }
 
 // Such an expression's worth, with no loop and hardly a register saved.
-fn short<'a>(code: &'a [u8], values: &'a [u8], base: usize, from: usize, to: usize) -> i64
-    requires { ⌜ Stores (now values) base × Stands (now code) from to × Shorts (now code) from to true ⌝ }
-    ensures { λ r. ⌜ Evaluated (now (code .entry)) (now (values .entry)) base from to r ⌝ }
+fn short<'a>(
+    code: &'a [u8],
+    values: &'a [u8],
+    base: usize,
+    from: usize,
+    to: usize,
+    nesting: usize,
+) -> i64
+    requires { ⌜ Stores (now values) base × StandsUnder nesting (now code) from to × Shorts (now code) from to true ⌝ }
+    ensures { λ r. ⌜ EvaluatedUnder nesting (now (code .entry)) (now (values .entry)) base from to r ⌝ }
 {
     let w = head(&*code, from);
     let x = head(&*code, from + 1);
@@ -496,9 +522,10 @@ fn rest<'a, 'b>(
     start: usize,
     to: usize,
     first: i64,
+    nesting: usize,
 ) -> i64
-    requires { ⌜ Stores (now (now values)) base × Follows (now (now code)) (now (now values)) base first start to ⌝ }
-    ensures { λ r. ⌜ Followed (now (now (code .entry))) (now (now (values .entry))) base first start to r ⌝ }
+    requires { ⌜ Stores (now (now values)) base × Follows nesting (now (now code)) (now (now values)) base first start to ⌝ }
+    ensures { λ r. ⌜ Followed nesting (now (now (code .entry))) (now (now (values .entry))) base first start to r ⌝ }
 {
     let mut acc = first;
     let mut i = start;
@@ -513,9 +540,9 @@ fn rest<'a, 'b>(
                 // a left side that tells the answer stays; else the right one stands for both, and where it comes last it is the answer
                 if !is_known(op % parts::RIGHT, acc) {
                     if r == to {
-                        return whole(code, values, base, i + 1, to);
+                        return whole(code, values, base, i + 1, to, nesting);
                     }
-                    acc = part(code, values, base, i + 1, r);
+                    acc = part(code, values, base, i + 1, r, nesting);
                     if !is_value(acc) {
                         return acc;
                     }
@@ -523,7 +550,7 @@ fn rest<'a, 'b>(
                 i = r;
                 continue;
             }
-            b = part(code, values, base, i + 1, r);
+            b = part(code, values, base, i + 1, r, nesting);
             if !is_value(b) {
                 return b;
             }
@@ -552,9 +579,10 @@ fn whole<'a, 'b>(
     base: usize,
     from: usize,
     to: usize,
+    nesting: usize,
 ) -> i64
-    requires { ⌜ Stores (now (now values)) base × Stands (now (now code)) from to ⌝ }
-    ensures { λ r. ⌜ Evaluated (now (now (code .entry))) (now (now (values .entry))) base from to r ⌝ }
+    requires { ⌜ Stores (now (now values)) base × StandsUnder nesting (now (now code)) from to ⌝ }
+    ensures { λ r. ⌜ EvaluatedUnder nesting (now (now (code .entry))) (now (now (values .entry))) base from to r ⌝ }
 {
     let w = head(*code, from);
     let mut acc = 0;
@@ -563,13 +591,13 @@ fn whole<'a, 'b>(
         acc = leaf(*values, base, w % parts::VALUE, w / parts::VALUE);
     } else {
         let l = link(*code, from);
-        acc = enclosed(code, values, base, from, w, l);
+        acc = enclosed(code, values, base, from, w, l, nesting);
         if !is_value(acc) {
             return acc;
         }
         i = ends(w % parts::VALUE, l);
     }
-    rest(code, values, base, i, to, acc)
+    rest(code, values, base, i, to, acc, nesting)
 }
 
 // What stands in an expression or in a part of it.
@@ -579,14 +607,15 @@ fn part<'a, 'b>(
     base: usize,
     from: usize,
     to: usize,
+    nesting: usize,
 ) -> i64
-    requires { ⌜ Stores (now (now values)) base × Stands (now (now code)) from to ⌝ }
-    ensures { λ r. ⌜ Evaluated (now (now (code .entry))) (now (now (values .entry))) base from to r ⌝ }
+    requires { ⌜ Stores (now (now values)) base × StandsUnder nesting (now (now code)) from to ⌝ }
+    ensures { λ r. ⌜ EvaluatedUnder nesting (now (now (code .entry))) (now (now (values .entry))) base from to r ⌝ }
 {
-    if is_short(*code, from, to) {
-        return short(*code, *values, base, from, to);
+    if is_short(*code, from, to, nesting) {
+        return short(*code, *values, base, from, to, nesting);
     }
-    whole(code, values, base, from, to)
+    whole(code, values, base, from, to, nesting)
 }
 
 // The stores are lent to the cycle from here.
@@ -594,7 +623,7 @@ fn evaluate<'a>(code: &'a [u8], values: &'a [u8], base: usize, from: usize, to: 
     requires { ⌜ Stores (now values) base × Stands (now code) from to ⌝ }
     ensures { λ r. ⌜ Evaluated (now (code .entry)) (now (values .entry)) base from to r ⌝ }
 {
-    part(&code, &values, base, from, to)
+    part(&code, &values, base, from, to, NESTINGS)
 }
 
 // What the expression is worth that stands in the words from `from` up to `to`. A word alone is read without a call.

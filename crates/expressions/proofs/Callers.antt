@@ -3,10 +3,10 @@ use mathlib.Core.Path.{_≡_, ap, subst, _∙_}
 use mathlib.Core.Bool.{Bool}
 use mathlib.Core.List.{List}
 use mathlib.Core.Option.{some}
-use Prim.Native.Nat.{ℕ, _-_}
+use Prim.Native.Nat.{ℕ, suc, _-_, _≤_}
 use native.Mathlib.Omega.{arith}
 use Rattle.paper.specs.Trees.{Expr, first}
-use Rattle.paper.specs.Expressions.{got, disjunctions, levelOf, exprIn}
+use Rattle.paper.specs.Expressions.{got, nestings, disjunctions, levelOf, exprIn}
 use Rattle.paper.specs.Names.{DataType, sortIn}
 use Rattle.paper.specs.Types.{least, wanted, judge}
 use Rattle.cells.specs.Words.{wordsOf}
@@ -21,14 +21,15 @@ use Rattle.expressions.proofs.Order.{Rising, rising-least, rising-wante
 use Rattle.expressions.proofs.Around.{says-typed, says-faulty}
 
 -- A whole expression stands where the paper reads one that no operator follows.
-pub expr-stands : (code values : List ℕ) (known : Known values) (d at to : ℕ) (e : Expr) → exprIn (sortIn (known .W)) d at ≡ got (e, to) → levelOf (sortIn (known .W) to) ≡ 0
+pub expr-stands : (code values : List ℕ) (known : Known values) (d at to : ℕ) (e : Expr) → d ≤ suc nestings → exprIn (sortIn (known .W)) d at ≡ got (e, to) → levelOf (sortIn (known .W) to) ≡ 0
     → Loaded (known .W) code at to → Stands code values disjunctions at
-expr-stands code values known d at to e h none l = record {
+expr-stands code values known d at to e deep h none l = record {
   known = known;
   d = d - 1;
   e = e;
   to = to;
   tops = omega arith;
+  deep = omega (arith, deep);
   is = deeper (sortIn (known .W)) d at (e, to) h .is;
   ends = λ g. absurd (omega (arith, none, g));
   loaded = l;
@@ -53,5 +54,5 @@ module _ (code values after : List ℕ) (only : Bool) (at : ℕ) (r : Judged) wh
         → least (wanted t (first (s .e)) (judge (s .known .W) only (s .known .S) (s .e))) ≡ some (record { number = number; at = word })
     of-type-faulty number word e =
         let f = says-faulty _ _ _ _ _ _ r number word e (c .is s t w .says) in
-        let q = rising-wanted (s .known .W) only (s .known .S) t (s .e) at (s .to) (stands (sortIn (s .known .W)) (s .d) 5 at (s .e, s .to) (s .is)) in
+        let q = rising-wanted (s .known .W) only (s .known .S) t (s .e) at (s .to) (stands (sortIn (s .known .W)) (s .d) disjunctions at (s .e, s .to) (s .is)) in
         ap least (f .faults-are) ∙ rising-least at (s .to) (record { number = number; at = word }) (f .others) (subst (Rising at (s .to)) (f .faults-are) q)

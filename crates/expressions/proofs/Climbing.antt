@@ -15,12 +15,12 @@ use Rattle.paper.specs.Sorts.{NOT, plus, minusSign}
 use Rattle.paper.specs.Words.{Word, wordLimit}
 use Rattle.paper.specs.Terms.{binary}
 use Rattle.paper.specs.Trees.{Expr, joined, first}
-use Rattle.paper.specs.Expressions.{got, relations, levelOf, level, exprIn}
+use Rattle.paper.specs.Expressions.{got, relations, disjunctions, levelOf, level, exprIn}
 use Rattle.paper.specs.Names.{Scopes, sortIn}
 use Rattle.paper.specs.Types.{Fault, fault, faultIf, differs, wanted, judgeJoined, judge}
 use Rattle.cells.specs.Words.{wordsOf}
 use Rattle.code.specs.Cells.{opAt}
-use Rattle.code.specs.Spans.{termIn}
+use Rattle.code.specs.Spans.{termWithin}
 use Rattle.layout.specs.Rules.{wrongType}
 use Rattle.layout.specs.Types.{typeIn}
 use Rattle.layout.proofs.Typing.{same-types}
@@ -31,12 +31,12 @@ use Rattle.climb.proofs.Operands.{got-same}
 use Rattle.climb.proofs.Places.{spans-grow, spans-first, stands, begins, rises, rise-keeps}
 use Rattle.expressions.specs.declared.Judged.{Judged}
 use Rattle.expressions.specs.declared.Judged.the-variants.{Typed, Faulty}
-use Rattle.expressions.specs.Answers.{Sound, Refused, Says, Judges, Stands, Checked, ofType, OfType}
+use Rattle.expressions.specs.Answers.{SoundUnder, Refused, SaysUnder, Judges, JudgesUnder, StandsUnder, Checked, CheckedUnder, ofType, OfType}
 use Rattle.expressions.specs.Parts.{askedOf, resultOf, Asks, Right, Joined, Begins, Began}
-use Rattle.store.proofs.Keeping.{term-below, kept-wider, kept-on}
+use Rattle.store.proofs.Keeping.{within-below, kept-wider, kept-on}
 use Rattle.expressions.proofs.Keeping.{low-on}
 use Rattle.expressions.proofs.Judging.{wanted-first, wanted-wrong, wanted-none, joined-is}
-use Rattle.expressions.proofs.Around.{says-faulty, says-typed, refused-as}
+use Rattle.expressions.proofs.Around.{under-faulty, under-typed, says-faulty, says-typed, refused-as}
 use Rattle.expressions.proofs.Starts.{loaded-part, loaded-after, judges-on}
 
 -- ---- faults of what is joined
@@ -79,7 +79,7 @@ next-most : (k : ℕ) → k ≤ next k
 unfolding next
 next-most k = test (eqb k relations) (λ t. rw (t, next) (omega (arith, eqb-true k relations t))) (λ t. rw (t, next) (omega arith))
 
-module _ (code values : List ℕ) (top at : ℕ) (s : Stands code values top at) where
+module _ (nest : ℕ) (code values : List ℕ) (top at : ℕ) (s : StandsUnder nest code values top at) where
   -- an operator that follows goes on, since the expression ends before those that do not
   ahead : (f low : ℕ) (e : Expr) (n : ℕ) → low + f ≡ suc top → rise (sortIn (s .known .W)) (exprIn (sortIn (s .known .W)) (s .d)) f low (got (e, n)) ≡ got (s .e, s .to)
       → 0 < levelOf (sortIn (s .known .W) n) → low ≤ levelOf (sortIn (s .known .W) n)
@@ -98,12 +98,13 @@ module _ (code values : List ℕ) (top at : ℕ) (s : Stands code values top at)
   first-spans : Spans (first-part .e) at (first-part .n)
   first-spans = begins (sortIn (s .known .W)) (s .d) at (first-part .e, first-part .n) (first-part .first)
 
-  pub stands-begins : Begins code values at
+  pub stands-begins : Begins nest code values at
   stands-begins = record {
     known = s .known;
     d = s .d;
     e = first-part .e;
     to = first-part .n;
+    deep = s .deep;
     is = first-part .first;
     ends = ahead (first-part .f) (lowest (sortIn (s .known .W) at)) (first-part .e) (first-part .n) (first-part .width) (first-part .rest);
     loaded = loaded-part (s .known .W) code at (s .to) at (first-part .n) (s .loaded) (omega arith)
@@ -120,9 +121,9 @@ module _ (code values : List ℕ) (top at : ℕ) (s : Stands code values top at)
     pub width : low + f ≡ suc top
     pub rest : rise (sortIn (s .known .W)) (exprIn (sortIn (s .known .W)) (s .d)) f low (got (e, i)) ≡ got (s .e, s .to)
     pub spans : Spans e at i
-    pub judges : Judges (s .known .m) (s .known .n) code now at i (judge (s .known .W) only (s .known .S) e) left
+    pub judges : JudgesUnder nest (s .known .m) (s .known .n) code now at i (judge (s .known .W) only (s .known .S) e) left
 
-  first-going : (now : List ℕ) (only : Bool) (left : Judged) → Began code values now only at left → Going now only left
+  first-going : (now : List ℕ) (only : Bool) (left : Judged) → Began nest code values now only at left → Going now only left
   unfolding stands-begins
   first-going now only left b = record {
     e = first-part .e;
@@ -148,18 +149,18 @@ module _ (code values : List ℕ) (top at : ℕ) (s : Stands code values top at)
         (λ i a b p. refused-joined (s .known .W) only (s .known .S) i a b number word p)
         (exprIn (sortIn (s .known .W)) (s .d)) f low e n (s .e, s .to) q r
 
-    going-faulty : (number word : ℕ) → Refused (judge (s .known .W) only (s .known .S) (s .e)) number word → Judges (s .known .m) (s .known .n) code now at (s .to) (judge (s .known .W) only (s .known .S) (s .e)) (Faulty number word)
-    unfolding Says
+    going-faulty : (number word : ℕ) → Refused (judge (s .known .W) only (s .known .S) (s .e)) number word → JudgesUnder nest (s .known .m) (s .known .n) code now at (s .to) (judge (s .known .W) only (s .known .S) (s .e)) (Faulty number word)
+    unfolding SaysUnder
     going-faulty number word r = record { says = r; kept = kept-wider (g .judges .kept) at (s .to) (omega arith) going-within; low = g .judges .low }
 
-    faulty-is : (number word : ℕ) → left ≡ Faulty number word → Judges (s .known .m) (s .known .n) code now at (s .to) (judge (s .known .W) only (s .known .S) (s .e)) left
+    faulty-is : (number word : ℕ) → left ≡ Faulty number word → JudgesUnder nest (s .known .m) (s .known .n) code now at (s .to) (judge (s .known .W) only (s .known .S) (s .e)) left
     faulty-is number word e =
-        subst (λ (r : Judged). Judges (s .known .m) (s .known .n) code now at (s .to) (judge (s .known .W) only (s .known .S) (s .e)) r) (sym e)
-        (going-faulty number word (going-refused (g .e) (g .i) (g .f) (g .low) number word (g .rest) (says-faulty _ _ _ _ _ _ left number word e (g .judges .says))))
+        subst (λ (r : Judged). JudgesUnder nest (s .known .m) (s .known .n) code now at (s .to) (judge (s .known .W) only (s .known .S) (s .e)) r) (sym e)
+        (going-faulty number word (going-refused (g .e) (g .i) (g .f) (g .low) number word (g .rest) (under-faulty _ _ _ _ _ _ _ left number word e (g .judges .says))))
 
     module _ (type i : ℕ) (e : left ≡ Typed type i) where
-      left-sound : Sound (s .known .m) (s .known .n) (wordsOf now) at (g .i) (judge (s .known .W) only (s .known .S) (g .e)) type i
-      left-sound = says-typed _ _ _ _ _ _ left type i e (g .judges .says)
+      left-sound : SoundUnder nest (s .known .m) (s .known .n) (wordsOf now) at (g .i) (judge (s .known .W) only (s .known .S) (g .e)) type i
+      left-sound = under-typed _ _ _ _ _ _ _ left type i e (g .judges .says)
 
       end-is : g .i ≡ i
       end-is = sym (left-sound .next-is)
@@ -181,12 +182,12 @@ module _ (code values : List ℕ) (top at : ℕ) (s : Stands code values top at)
         level-is = el ∙ ap levelOf operator-is
 
         -- no operator follows that goes on
-        stop-is : (0 < l → l ≤ top → ⊥) → Judges (s .known .m) (s .known .n) code now at (s .to) (judge (s .known .W) only (s .known .S) (s .e)) (Typed type i)
+        stop-is : (0 < l → l ≤ top → ⊥) → JudgesUnder nest (s .known .m) (s .known .n) code now at (s .to) (judge (s .known .W) only (s .known .S) (s .e)) (Typed type i)
         stop-is h =
-            subst (λ (y : Expr × ℕ). Judges (s .known .m) (s .known .n) code now at (y .1) (judge (s .known .W) only (s .known .S) (y .0)) (Typed type i))
+            subst (λ (y : Expr × ℕ). JudgesUnder nest (s .known .m) (s .known .n) code now at (y .1) (judge (s .known .W) only (s .known .S) (y .0)) (Typed type i))
             (got-same (g .e, g .i) (s .e, s .to)
             (sym (rise-stop (sortIn (s .known .W)) (exprIn (sortIn (s .known .W)) (s .d)) (g .f) (g .low) (g .e) (g .i) (λ a b. h (omega (arith, level-is, g .some)) (omega (arith, level-is, g .width)))) ∙ g .rest))
-            (subst (λ (r : Judged). Judges (s .known .m) (s .known .n) code now at (g .i) (judge (s .known .W) only (s .known .S) (g .e)) r) e (g .judges))
+            (subst (λ (r : Judged). JudgesUnder nest (s .known .m) (s .known .n) code now at (g .i) (judge (s .known .W) only (s .known .S) (g .e)) r) e (g .judges))
 
         -- one follows
         module _ (ne : l ≡ 0 → ⊥) (le : l ≤ top) where
@@ -208,7 +209,7 @@ module _ (code values : List ℕ) (top at : ℕ) (s : Stands code values top at)
           right-within : joins .m ≤ s .to
           right-within = rises (sortIn (s .known .W)) (s .d) (joins .f) (next (levelOf (sortIn (s .known .W) (g .i)))) (joined (g .i) (g .e) (joins .u)) at (joins .m) (s .e, s .to) joined-spans (joins .rest) .on
 
-          right-stands : Stands now values (l - 1) (i + 1)
+          right-stands : StandsUnder nest now values (l - 1) (i + 1)
           right-stands =
               let z = going-in in
               let q : level (sortIn (s .known .W)) (exprIn (sortIn (s .known .W)) (s .d)) (l - 1) (i + 1) ≡ got (joins .u, joins .m) =
@@ -220,6 +221,7 @@ module _ (code values : List ℕ) (top at : ℕ) (s : Stands code values top at)
                 e = joins .u;
                 to = joins .m;
                 tops = omega (arith, s .tops);
+                deep = s .deep;
                 is = q;
                 ends = λ h.
                     omega (
@@ -238,7 +240,7 @@ module _ (code values : List ℕ) (top at : ℕ) (s : Stands code values top at)
             asks-here = asks .is (judge (s .known .W) only (s .known .S) (g .e) .type) (left-sound .type-is)
 
             -- the left side is of a wrong type
-            wrong-is : (type ≡ wants → ⊥) → Judges (s .known .m) (s .known .n) code now at (s .to) (judge (s .known .W) only (s .known .S) (s .e)) (Faulty wrongType at)
+            wrong-is : (type ≡ wants → ⊥) → JudgesUnder nest (s .known .m) (s .known .n) code now at (s .to) (judge (s .known .W) only (s .known .S) (s .e)) (Faulty wrongType at)
             wrong-is d =
                 going-faulty wrongType at
                 (going-refused (joined (g .i) (g .e) (joins .u)) (joins .m) (joins .f) (next (levelOf (sortIn (s .known .W) (g .i)))) wrongType at (joins .rest)
@@ -246,8 +248,8 @@ module _ (code values : List ℕ) (top at : ℕ) (s : Stands code values top at)
                 (wrong-joined (s .known .W) only (s .known .S) (g .i) (g .e) (joins .u) type wants (left-sound .none) (left-sound .type-is)
                 (asks-here ∙ ap (λ (o : ℕ). some (askedOf o (judge (s .known .W) only (s .known .S) (g .e) .type))) operator-is) d)))
 
-            module _ (same : type ≡ wants) (mid : List ℕ) (right : Judged) (c : Checked now values mid only (l - 1) (i + 1) right) where
-              right-judges : Judges (s .known .m) (s .known .n) now mid (i + 1) (joins .m) (judge (s .known .W) only (s .known .S) (joins .u)) right
+            module _ (same : type ≡ wants) (mid : List ℕ) (right : Judged) (c : CheckedUnder nest now values mid only (l - 1) (i + 1) right) where
+              right-judges : JudgesUnder nest (s .known .m) (s .known .n) now mid (i + 1) (joins .m) (judge (s .known .W) only (s .known .S) (joins .u)) right
               unfolding right-stands
               right-judges = c .is right-stands
 
@@ -255,6 +257,7 @@ module _ (code values : List ℕ) (top at : ℕ) (s : Stands code values top at)
               right-is = record {
                 level-is = el;
                 some = omega (arith, ne);
+                d = nest;
                 m = s .known .m;
                 n = s .known .n;
                 to = joins .m;
@@ -264,17 +267,17 @@ module _ (code values : List ℕ) (top at : ℕ) (s : Stands code values top at)
                 room = omega (arith, right-within, s .loaded .room, g .judges .kept .long, right-judges .kept .long);
               }
 
-              left-still : Sound (s .known .m) (s .known .n) (wordsOf mid) at i (judge (s .known .W) only (s .known .S) (g .e)) wants i
+              left-still : SoundUnder nest (s .known .m) (s .known .n) (wordsOf mid) at i (judge (s .known .W) only (s .known .S) (g .e)) wants i
               left-still = record {
                 none = left-sound .none;
                 type-is = ap typeIn (sym same) ∙ left-sound .type-is;
                 next-is = refl;
-                stands = term-below (right-judges .kept) (s .known .m) (s .known .n) at i (judge (s .known .W) only (s .known .S) (g .e) .term) (omega arith)
-                    (subst (λ (k : ℕ). termIn (s .known .m) (s .known .n) (wordsOf now) at k ≡ some (judge (s .known .W) only (s .known .S) (g .e) .term)) end-is (left-sound .stands));
+                stands = within-below (right-judges .kept) nest (s .known .m) (s .known .n) at i (judge (s .known .W) only (s .known .S) (g .e) .term) (omega arith)
+                    (subst (λ (k : ℕ). termWithin (s .known .m) (s .known .n) (wordsOf now) nest at k ≡ some (judge (s .known .W) only (s .known .S) (g .e) .term)) end-is (left-sound .stands));
               }
 
               module _ (after : List ℕ) (left′ : Judged) (x : Joined mid after w wants i right left′) where
-                joined-judges : Judges (s .known .m) (s .known .n) code after at (joins .m) (judge (s .known .W) only (s .known .S) (joined (g .i) (g .e) (joins .u))) left′
+                joined-judges : JudgesUnder nest (s .known .m) (s .known .n) code after at (joins .m) (judge (s .known .W) only (s .known .S) (joined (g .i) (g .e) (joins .u))) left′
                 unfolding judge
                 joined-judges =
                     let z = going-in in
@@ -283,10 +286,10 @@ module _ (code values : List ℕ) (top at : ℕ) (s : Stands code values top at)
                     let ja = judge (s .known .W) only (s .known .S) (g .e) in
                     let asks-same : askedOf w (ja .type) ≡ ja .type = same-types wants type (askedOf w (ja .type)) (ja .type) asks-here (left-sound .type-is) (sym same) in
                     let jb = judge (s .known .W) only (s .known .S) (joins .u) in
-                    let q = x .is (s .known .m) (s .known .n) at (joins .m) (g .e) (joins .u) ja jb left-still asks-same start (right-judges .says) in
+                    let q = x .is nest (s .known .m) (s .known .n) at (joins .m) (g .e) (joins .u) ja jb left-still asks-same start (right-judges .says) in
                     let kept = kept-on (kept-wider (g .judges .kept) at (joins .m) (omega arith) (omega (arith, r))) (kept-wider (right-judges .kept) at (joins .m) (omega (arith, z .0)) (omega arith)) in
-                    judges-on (s .known .m) (s .known .n) code mid after at (joins .m) at (joins .m) (judgeJoined (sortIn (s .known .W) (g .i)) (g .e) (joins .u) ja jb) left′ kept (low-on (g .judges .low) (right-judges .low)) (omega arith) (omega arith)
-                    (subst (λ (o : ℕ). Judges (s .known .m) (s .known .n) mid after at (joins .m) (judgeJoined o (g .e) (joins .u) ja jb) left′) operator-is q)
+                    judges-on nest (s .known .m) (s .known .n) code mid after at (joins .m) at (joins .m) (judgeJoined (sortIn (s .known .W) (g .i)) (g .e) (joins .u) ja jb) left′ kept (low-on (g .judges .low) (right-judges .low)) (omega arith) (omega arith)
+                    (subst (λ (o : ℕ). JudgesUnder nest (s .known .m) (s .known .n) mid after at (joins .m) (judgeJoined o (g .e) (joins .u) ja jb) left′) operator-is q)
 
                 going-on : Going after only left′
                 going-on = record {
@@ -304,15 +307,15 @@ module _ (code values : List ℕ) (top at : ℕ) (s : Stands code values top at)
                 going-grows : (b k : ℕ) → left′ ≡ Typed b k → i < k
                 going-grows b k q =
                     let r = spans-grow (joins .u) (g .i + 1) (joins .m) right-spans in
-                    omega (arith, r, end-is, says-typed _ _ _ _ _ _ left′ b k q (joined-judges .says) .next-is)
+                    omega (arith, r, end-is, under-typed _ _ _ _ _ _ _ left′ b k q (joined-judges .says) .next-is)
 
 -- ---- the loop
 -- So it goes whatever is known, and whatever stood where the first part was answered so: `begun` are the cells where the loop begins.
-pub record Runs (values begun now : List ℕ) (only : Bool) (top at : ℕ) (part left : Judged) : Type 0 where
-  pub is : (code : List ℕ) → Began code values begun only at part → (s : Stands code values top at) → Going code values top at s now only left
+pub record Runs (nest : ℕ) (values begun now : List ℕ) (only : Bool) (top at : ℕ) (part left : Judged) : Type 0 where
+  pub is : (code : List ℕ) → Began nest code values begun only at part → (s : StandsUnder nest code values top at) → Going nest code values top at s now only left
 
-pub runs-first : (values now : List ℕ) (only : Bool) (top at : ℕ) (left : Judged) → Runs values now now only top at left left
-runs-first values now only top at left = record { is = λ code b s. first-going code values top at s now only left b }
+pub runs-first : (nest : ℕ) (values now : List ℕ) (only : Bool) (top at : ℕ) (left : Judged) → Runs nest values now now only top at left left
+runs-first nest values now only top at left = record { is = λ code b s. first-going nest code values top at s now only left b }
 
 -- the words that are left
 unfoldable pub wordsLeft : (words : ℕ) → Judged → ℕ
@@ -324,59 +327,59 @@ unfolding wordsLeft
 fewer n i (Typed b k) h f = omega (arith, f b k refl)
 fewer n i (Faulty number word) h f = omega arith
 
-module _ (values begun now : List ℕ) (only : Bool) (top at : ℕ) (part left : Judged) (run : Runs values begun now only top at part left) where
-  pub run-faulty : (code : List ℕ) → Began code values begun only at part → (number word : ℕ) → left ≡ Faulty number word → Checked code values now only top at left
-  run-faulty code b number word e = record { is = λ s. faulty-is code values top at s now only left (run .is code b s) number word e }
+module _ (nest : ℕ) (values begun now : List ℕ) (only : Bool) (top at : ℕ) (part left : Judged) (run : Runs nest values begun now only top at part left) where
+  pub run-faulty : (code : List ℕ) → Began nest code values begun only at part → (number word : ℕ) → left ≡ Faulty number word → CheckedUnder nest code values now only top at left
+  run-faulty code b number word e = record { is = λ s. faulty-is nest code values top at s now only left (run .is code b s) number word e }
 
-  pub run-long : (code : List ℕ) → Began code values begun only at part → Stands code values top at → length now ≡ length code
+  pub run-long : (code : List ℕ) → Began nest code values begun only at part → StandsUnder nest code values top at → length now ≡ length code
   run-long code b s = run .is code b s .judges .kept .long
 
   module _ (type i : ℕ) (e : left ≡ Typed type i) where
-    pub run-room : (code : List ℕ) → Began code values begun only at part → Stands code values top at → i * 8 + 8 ≤ length now
-    run-room code b s = going-in code values top at s now only left (run .is code b s) type i e .3
+    pub run-room : (code : List ℕ) → Began nest code values begun only at part → StandsUnder nest code values top at → i * 8 + 8 ≤ length now
+    run-room code b s = going-in nest code values top at s now only left (run .is code b s) type i e .3
 
-    pub run-in : (code : List ℕ) → Began code values begun only at part → Stands code values top at → (at < i) × (i < wordLimit)
-    run-in code b s = let z = going-in code values top at s now only left (run .is code b s) type i e in (z .0, z .2)
+    pub run-in : (code : List ℕ) → Began nest code values begun only at part → StandsUnder nest code values top at → (at < i) × (i < wordLimit)
+    run-in code b s = let z = going-in nest code values top at s now only left (run .is code b s) type i e in (z .0, z .2)
 
-    pub run-add : (code : List ℕ) → Began code values begun only at part → Stands code values top at → Fits w64 (i + 1)
+    pub run-add : (code : List ℕ) → Began nest code values begun only at part → StandsUnder nest code values top at → Fits w64 (i + 1)
     run-add code b s = record { fits = omega (arith, run-in code b s .1) }
 
-    pub run-falls : (code : List ℕ) (t : ℕ) → Began code values begun only at part → Stands code values top at → (wordLimit - at) * 2 + 1 ≡ t → (wordLimit - (i + 1)) * 2 + 1 < t
+    pub run-falls : (code : List ℕ) (t : ℕ) → Began nest code values begun only at part → StandsUnder nest code values top at → (wordLimit - at) * 2 + nest + 1 ≡ t → (wordLimit - (i + 1)) * 2 + nest + 1 < t
     run-falls code t b s e = let z = run-in code b s in omega (arith, z .0, z .1)
 
     module _ (w l : ℕ) (ew : w ≡ opAt (wordsOf now) i) (el : l ≡ levelOf w) where
-      pub run-none : (code : List ℕ) → Began code values begun only at part → l ≡ 0 → Checked code values now only top at (Typed type i)
-      run-none code b z = record { is = λ s. stop-is code values top at s now only left (run .is code b s) type i e w l ew el (λ h g. omega arith) }
+      pub run-none : (code : List ℕ) → Began nest code values begun only at part → l ≡ 0 → CheckedUnder nest code values now only top at (Typed type i)
+      run-none code b z = record { is = λ s. stop-is nest code values top at s now only left (run .is code b s) type i e w l ew el (λ h g. omega arith) }
 
-      pub run-loose : (code : List ℕ) → Began code values begun only at part → top < l → Checked code values now only top at (Typed type i)
-      run-loose code b h = record { is = λ s. stop-is code values top at s now only left (run .is code b s) type i e w l ew el (λ f g. omega arith) }
+      pub run-loose : (code : List ℕ) → Began nest code values begun only at part → top < l → CheckedUnder nest code values now only top at (Typed type i)
+      run-loose code b h = record { is = λ s. stop-is nest code values top at s now only left (run .is code b s) type i e w l ew el (λ f g. omega arith) }
 
       module _ (ne : l ≡ 0 → ⊥) (le : l ≤ top) where
-        pub run-right : (code : List ℕ) → Began code values begun only at part → Stands code values top at → Stands now values (l - 1) (i + 1)
-        run-right code b s = right-stands code values top at s now only left (run .is code b s) type i e w l ew el ne le
+        pub run-right : (code : List ℕ) → Began nest code values begun only at part → StandsUnder nest code values top at → StandsUnder nest now values (l - 1) (i + 1)
+        run-right code b s = right-stands nest code values top at s now only left (run .is code b s) type i e w l ew el ne le
 
         module _ (wants : ℕ) (asks : Asks w type wants) where
-          pub run-wrong : (code : List ℕ) → Began code values begun only at part → (type ≡ wants → ⊥) → Checked code values now only top at (Faulty wrongType at)
-          run-wrong code b d = record { is = λ s. wrong-is code values top at s now only left (run .is code b s) type i e w l ew el ne le wants asks d }
+          pub run-wrong : (code : List ℕ) → Began nest code values begun only at part → (type ≡ wants → ⊥) → CheckedUnder nest code values now only top at (Faulty wrongType at)
+          run-wrong code b d = record { is = λ s. wrong-is nest code values top at s now only left (run .is code b s) type i e w l ew el ne le wants asks d }
 
-          module _ (y : type ≡ wants) (mid : List ℕ) (right : Judged) (c : Checked now values mid only (l - 1) (i + 1) right) where
-            pub run-joins : (code : List ℕ) → Began code values begun only at part → Stands code values top at → Right mid w l i right
-            run-joins code b s = right-is code values top at s now only left (run .is code b s) type i e w l ew el ne le wants asks y mid right c
+          module _ (y : type ≡ wants) (mid : List ℕ) (right : Judged) (c : CheckedUnder nest now values mid only (l - 1) (i + 1) right) where
+            pub run-joins : (code : List ℕ) → Began nest code values begun only at part → StandsUnder nest code values top at → Right mid w l i right
+            run-joins code b s = right-is nest code values top at s now only left (run .is code b s) type i e w l ew el ne le wants asks y mid right c
 
             module _ (after : List ℕ) (left′ : Judged) (x : Joined mid after w wants i right left′) where
-              pub run-on : Runs values begun after only top at part left′
-              run-on = record { is = λ code b s. going-on code values top at s now only left (run .is code b s) type i e w l ew el ne le wants asks y mid right c after left′ x }
+              pub run-on : Runs nest values begun after only top at part left′
+              run-on = record { is = λ code b s. going-on nest code values top at s now only left (run .is code b s) type i e w l ew el ne le wants asks y mid right c after left′ x }
 
-              pub run-less : (code : List ℕ) → Began code values begun only at part → Stands code values top at → wordsLeft wordLimit left′ < wordsLeft wordLimit left
+              pub run-less : (code : List ℕ) → Began nest code values begun only at part → StandsUnder nest code values top at → wordsLeft wordLimit left′ < wordsLeft wordLimit left
               unfolding wordsLeft
               run-less code b s =
                   let z = run-in code b s in
-                  rw e (fewer wordLimit i left′ (z .1) (going-grows code values top at s now only left (run .is code b s) type i e w l ew el ne le wants asks y mid right c after left′ x))
+                  rw e (fewer wordLimit i left′ (z .1) (going-grows nest code values top at s now only left (run .is code b s) type i e w l ew el ne le wants asks y mid right c after left′ x))
 
 -- ---- an expression of a type
-module _ (code values after : List ℕ) (only : Bool) (wants at : ℕ) (r : Judged) (c : Checked code values after only 5 at r) where
+module _ (code values after : List ℕ) (only : Bool) (wants at : ℕ) (r : Judged) (c : Checked code values after only disjunctions at r) where
   pub typed-faulty : (number word : ℕ) → r ≡ Faulty number word → OfType code values after only wants at r
-  unfolding Says
+  unfolding SaysUnder
   typed-faulty number word e = record {
     is = λ s t w.
         let j = judge (s .known .W) only (s .known .S) (s .e) in
@@ -394,12 +397,12 @@ module _ (code values after : List ℕ) (only : Bool) (wants at : ℕ) (r : Judg
 
   module _ (type end : ℕ) (e : r ≡ Typed type end) where
     pub typed-wrong : (type ≡ wants → ⊥) → OfType code values after only wants at (Faulty wrongType at)
-    unfolding Says fault
+    unfolding SaysUnder fault
     typed-wrong d = record {
       is = λ s t w.
           let j = judge (s .known .W) only (s .known .S) (s .e) in
           let q = says-typed _ _ _ _ _ _ r type end e (c .is s .says) in
-          let start = spans-first (s .e) at (s .to) (stands (sortIn (s .known .W)) (s .d) 5 at (s .e, s .to) (s .is)) in
+          let start = spans-first (s .e) at (s .to) (stands (sortIn (s .known .W)) (s .d) disjunctions at (s .e, s .to) (s .is)) in
           record {
             says = record {
               others = [];
@@ -411,7 +414,7 @@ module _ (code values after : List ℕ) (only : Bool) (wants at : ℕ) (r : Judg
     }
 
     pub typed-right : type ≡ wants → OfType code values after only wants at (Typed type end)
-    unfolding Says
+    unfolding SaysUnder
     typed-right y = record {
       is = λ s t w.
           let j = judge (s .known .W) only (s .known .S) (s .e) in

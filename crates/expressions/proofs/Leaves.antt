@@ -31,7 +31,7 @@ use Rattle.store.specs.Promises.{Headed}
 use Rattle.expressions.specs.declared.Judged.{Judged}
 use Rattle.expressions.specs.declared.Judged.the-variants.{Typed, Faulty}
 use Rattle.expressions.specs.Known.{largest, Fresh, InRoom, Within}
-use Rattle.expressions.specs.Answers.{Refused, Sound, Says, Judges}
+use Rattle.expressions.specs.Answers.{Refused, SoundUnder, SaysUnder, JudgesUnder}
 use Rattle.expressions.specs.Parts.{Meant, faultOf, BreaksAlone, BreaksIndexed, Alone, SmallNumber, Literal}
 use Rattle.store.proofs.Keeping.{kept-same}
 use Rattle.expressions.proofs.Keeping.{low-same, low-written}
@@ -39,21 +39,21 @@ use Rattle.expressions.proofs.Judging.{judged-faults, judged-term, judg
 
 -- ---- answers
 -- nothing is written, and a rule is broken
-pub judges-refused : (m n : ℕ) (code : List ℕ) (at to : ℕ) (j : types.Judged) (number word : ℕ) → Refused j number word → Judges m n code code at to j (Faulty number word)
-unfolding Says
-judges-refused m n code at to j number word r = record { says = r; kept = kept-same code at to; low = low-same code }
+pub judges-refused : (d m n : ℕ) (code : List ℕ) (at to : ℕ) (j : types.Judged) (number word : ℕ) → Refused j number word → JudgesUnder d m n code code at to j (Faulty number word)
+unfolding SaysUnder
+judges-refused d m n code at to j number word r = record { says = r; kept = kept-same code at to; low = low-same code }
 
 -- an operand of one word is written
-pub judges-leaf : (m n : ℕ) (before after : List ℕ) (at op value : ℕ) → Headed before after at op value → op ≤ aCallWord
+pub judges-leaf : (d m n : ℕ) (before after : List ℕ) (at op value : ℕ) → Headed before after at op value → op ≤ aCallWord
     → (j : types.Judged) (t : DataType) (fs : List Fault) (x : Term) (type : ℕ) → j ≡ judged t fs x → fs ≡ [] → typeIn type ≡ some t → leafTerm m n op value ≡ some x
-    → Judges m n before after at (at + 1) j (Typed type (at + 1))
-unfolding Says
-judges-leaf m n before after at op value h o j t fs x type q clean ty l = record {
+    → JudgesUnder d m n before after at (at + 1) j (Typed type (at + 1))
+unfolding SaysUnder
+judges-leaf d m n before after at op value h o j t fs x type q clean ty l = record {
   says = record {
     none = ap (λ (k : types.Judged). k .faults) q ∙ judged-faults t fs x ∙ clean;
     type-is = ty ∙ ap some (sym (ap (λ (k : types.Judged). k .type) q ∙ judged-type t fs x clean));
     next-is = refl;
-    stands = leaf-span m n (wordsOf after) at x (rw (h .op-is) o) (rw (h .op-is, h .value-is) l) ∙ ap some (sym (judged-term t fs x) ∙ sym (ap (λ (k : types.Judged). k .term) q));
+    stands = leaf-span m n (wordsOf after) d at x (rw (h .op-is) o) (rw (h .op-is, h .value-is) l) ∙ ap some (sym (judged-term t fs x) ∙ sym (ap (λ (k : types.Judged). k .term) q));
   };
   kept = h .kept;
   low = low-written before after at (h .kept) (omega (arith, h .op-is));
@@ -205,9 +205,9 @@ module _ (before after : List ℕ) (cell : ℕ) (only : Bool) (at kind broken : 
 
   pub plain-broken : (broken ≡ 0 → ⊥) → Alone before before cell only at (Faulty broken at)
   unfolding meaningIn faultOf fault
-  plain-broken d = record {
-    is = λ g. judges-refused (g .m) (g .n) before at (at + 1) (judgeName only (meaningIn (g .routine) cell) at) broken at
-        (record { others = []; faults-are = faults-as g ∙ rw (ne-eqb broken 0 d, faultOf) });
+  plain-broken ne = record {
+    is = λ d g. judges-refused d (g .m) (g .n) before at (at + 1) (judgeName only (meaningIn (g .routine) cell) at) broken at
+        (record { others = []; faults-are = faults-as g ∙ rw (ne-eqb broken 0 ne, faultOf) });
   }
 
   module _ (z : broken ≡ 0) where
@@ -216,34 +216,34 @@ module _ (before after : List ℕ) (cell : ℕ) (only : Bool) (at kind broken : 
     clean g = faults-as g ∙ rw (z, faultOf)
 
     module _ (op value : ℕ) (h : Headed before after at op value) (o : op ≤ aCallWord) where
-      leaf-is : (g : Meant cell) (t : DataType) (fs : List Fault) (x : Term) (type : ℕ) → judgeName only (meaningIn (g .routine) cell) at ≡ judged t fs x → typeIn type ≡ some t
-          → leafTerm (g .m) (g .n) op value ≡ some x → Judges (g .m) (g .n) before after at (at + 1) (judgeName only (meaningIn (g .routine) cell) at) (Typed type (at + 1))
-      leaf-is g t fs x type q ty l =
-          judges-leaf (g .m) (g .n) before after at op value h o (judgeName only (meaningIn (g .routine) cell) at) t fs x type q
+      leaf-is : (d : ℕ) (g : Meant cell) (t : DataType) (fs : List Fault) (x : Term) (type : ℕ) → judgeName only (meaningIn (g .routine) cell) at ≡ judged t fs x → typeIn type ≡ some t
+          → leafTerm (g .m) (g .n) op value ≡ some x → JudgesUnder d (g .m) (g .n) before after at (at + 1) (judgeName only (meaningIn (g .routine) cell) at) (Typed type (at + 1))
+      leaf-is d g t fs x type q ty l =
+          judges-leaf d (g .m) (g .n) before after at op value h o (judgeName only (meaningIn (g .routine) cell) at) t fs x type q
           (sym (judged-faults t fs x) ∙ sym (ap (λ (k : types.Judged). k .faults) q) ∙ clean g) ty l
 
     pub plain-errno : kind ≡ anErrno → Headed before after at aModuleWord errnoCell → Alone before after cell only at (Typed numType (at + 1))
     unfolding judgeName meaningWith
     plain-errno e h = record {
-      is = λ g. leaf-is aModuleWord errnoCell h (omega arith) g aNum (faultIf only wrongKind at) errno numType (ap (λ (x : Meaning). judgeName only x at) (kind-means (g .routine) anErrno e)) num-in (errno-term (g .m) (g .n));
+      is = λ d g. leaf-is aModuleWord errnoCell h (omega arith) d g aNum (faultIf only wrongKind at) errno numType (ap (λ (x : Meaning). judgeName only x at) (kind-means (g .routine) anErrno e)) num-in (errno-term (g .m) (g .n));
     }
 
     pub plain-error : kind ≡ anErrorNumber → (value : ℕ) → value ≡ valueIn cell → Headed before after at aLiteral (value + bias) → Alone before after cell only at (Typed numType (at + 1))
     unfolding judgeName meaningWith
     plain-error e value v h = record {
-      is = λ g. leaf-is aLiteral (value + bias) h (omega arith) g aNum [] (literal (pos value)) numType
+      is = λ d g. leaf-is aLiteral (value + bias) h (omega arith) d g aNum [] (literal (pos value)) numType
           (ap (λ (x : Meaning). judgeName only x at) (kind-means (g .routine) anErrorNumber e) ∙ ap (λ (n : ℕ). judged aNum [] (literal (pos n))) (sym v)) num-in
           (literal-term (g .m) (g .n) value);
     }
 
     -- a word of data, in the head that its meaning tells
     module _ (own value : ℕ) (o : own ≡ ownIn cell) (v : value ≡ valueIn cell) (h : Headed before after at (aModuleWord + own) value) where
-      word-is : (g : Meant cell) (k : ℕ) → kind ≡ k → (t : DataType) (fs : List Fault) (type : ℕ)
+      word-is : (d : ℕ) (g : Meant cell) (k : ℕ) → kind ≡ k → (t : DataType) (fs : List Fault) (type : ℕ)
           → judgeName only (meaningWith (g .routine) k (boolIn cell) (ownIn cell) (valueIn cell)) at ≡ judged t fs (stored (refWith (ownIn cell) (valueIn cell)))
           → typeIn type ≡ some t → InRoom (g .m) (g .n) (refWith (ownIn cell) (valueIn cell)) 1
-          → Judges (g .m) (g .n) before after at (at + 1) (judgeName only (meaningIn (g .routine) cell) at) (Typed type (at + 1))
-      word-is g k e t fs type q ty r =
-          leaf-is (aModuleWord + own) value h (omega arith) g t fs (stored (refWith (ownIn cell) (valueIn cell))) type
+          → JudgesUnder d (g .m) (g .n) before after at (at + 1) (judgeName only (meaningIn (g .routine) cell) at) (Typed type (at + 1))
+      word-is d g k e t fs type q ty r =
+          leaf-is (aModuleWord + own) value h (omega arith) d g t fs (stored (refWith (ownIn cell) (valueIn cell))) type
           (ap (λ (x : Meaning). judgeName only x at) (kind-means (g .routine) k e) ∙ q) ty
           (rw (o, v) (word-term (g .m) (g .n) (ownIn cell) (valueIn cell) (g .most) (omega arith) r))
 
@@ -252,15 +252,15 @@ module _ (before after : List ℕ) (cell : ℕ) (only : Bool) (at kind broken : 
 
       pub plain-loop : kind ≡ aLoop → Alone before after cell only at (Typed numType (at + 1))
       unfolding judgeName meaningWith Within
-      plain-loop e = record { is = λ g. word-is g aLoop e aNum (faultIf only wrongKind at) numType refl num-in (within-kind g aLoop e) }
+      plain-loop e = record { is = λ d g. word-is d g aLoop e aNum (faultIf only wrongKind at) numType refl num-in (within-kind g aLoop e) }
 
       variable-is : (type : ℕ) → TypeOf cell type → kind ≡ aVariable → Alone before after cell only at (Typed type (at + 1))
       unfolding judgeName meaningWith Within
-      variable-is type y e = record { is = λ g. word-is g aVariable e (typeWith (boolIn cell)) (faultIf only wrongKind at) type refl (y .is) (within-kind g aVariable e) }
+      variable-is type y e = record { is = λ d g. word-is d g aVariable e (typeWith (boolIn cell)) (faultIf only wrongKind at) type refl (y .is) (within-kind g aVariable e) }
 
       constant-is : (type : ℕ) → TypeOf cell type → kind ≡ aConstant → Alone before after cell only at (Typed type (at + 1))
       unfolding judgeName meaningWith Within
-      constant-is type y e = record { is = λ g. word-is g aConstant e (typeWith (boolIn cell)) [] type refl (y .is) (within-kind g aConstant e) }
+      constant-is type y e = record { is = λ d g. word-is d g aConstant e (typeWith (boolIn cell)) [] type refl (y .is) (within-kind g aConstant e) }
 
       -- no other kind breaks no rule
       array-faults : (g : Meant cell) → kind ≡ anArray → judgeName only (meaningIn (g .routine) cell) at .faults ≡ record { number = wrongKind; at = at } ∷ []
@@ -280,7 +280,7 @@ module _ (before after : List ℕ) (cell : ℕ) (only : Bool) (at kind broken : 
       plain-data d e f type y =
           test (eqb kind aVariable) (λ t. variable-is type y (eqb-true kind aVariable t)) (λ t1.
           test (eqb kind aConstant) (λ t. constant-is type y (eqb-true kind aConstant t)) (λ t3.
-          record { is = λ g. refuses g (eqb-false kind aVariable t1) (eqb-false kind aConstant t3) }))
+          record { is = λ n g. refuses g (eqb-false kind aVariable t1) (eqb-false kind aConstant t3) }))
         where
           refused : {A : Type 0} (f : Fault) (r : List Fault) → f ∷ r ≡ [] → A
           refused f r q = apart (cc)
@@ -304,31 +304,31 @@ module _ (before after : List ℕ) (at w : ℕ) (e : w ≡ headAt (wordsOf befor
   head-value W f s = ap valueIn e ∙ f .value s
 
   module _ (value : ℕ) (h : Headed before after at aLiteral (value + bias)) where
-    literal-as : (m n : ℕ) (j : types.Judged) (t : DataType) (type : ℕ) → j ≡ judged t [] (literal (pos value)) → typeIn type ≡ some t → Judges m n before after at (at + 1) j (Typed type (at + 1))
-    literal-as m n j t type q ty = judges-leaf m n before after at aLiteral (value + bias) h (omega arith) j t [] (literal (pos value)) type q refl ty (literal-term m n value)
+    literal-as : (d m n : ℕ) (j : types.Judged) (t : DataType) (type : ℕ) → j ≡ judged t [] (literal (pos value)) → typeIn type ≡ some t → JudgesUnder d m n before after at (at + 1) j (Typed type (at + 1))
+    literal-as d m n j t type q ty = judges-leaf d m n before after at aLiteral (value + bias) h (omega arith) j t [] (literal (pos value)) type q refl ty (literal-term m n value)
 
   pub literal-number : opIn w ≡ NUMBER → Headed before after at aLiteral (valueIn w + bias) → Literal before after at (Typed numType (at + 1))
   unfolding judgeLeaf
   literal-number k h = record {
-    is = λ m n W only S q l.
+    is = λ d m n W only S q l.
         let s : sortIn W at ≡ NUMBER = sym (head-op W q) ∙ k in
-        literal-as (valueIn w) h m n (judgeLeaf W only S at) aNum numType (rw (s, judgeLeaf) (ap (λ (v : ℕ). judged aNum [] (literal (pos v))) (sym (head-value W q s)))) num-in;
+        literal-as (valueIn w) h d m n (judgeLeaf W only S at) aNum numType (rw (s, judgeLeaf) (ap (λ (v : ℕ). judged aNum [] (literal (pos v))) (sym (head-value W q s)))) num-in;
   }
 
   pub literal-true : opIn w ≡ TRUE → Headed before after at aLiteral (1 + bias) → Literal before after at (Typed boolType (at + 1))
   unfolding judgeLeaf truth
   literal-true k h = record {
-    is = λ m n W only S q l. let s : sortIn W at ≡ TRUE = sym (head-op W q) ∙ k in literal-as 1 h m n (judgeLeaf W only S at) aBool boolType (rw (s, judgeLeaf)) bool-in;
+    is = λ d m n W only S q l. let s : sortIn W at ≡ TRUE = sym (head-op W q) ∙ k in literal-as 1 h d m n (judgeLeaf W only S at) aBool boolType (rw (s, judgeLeaf)) bool-in;
   }
 
   pub literal-false : (opIn w ≡ NUMBER → ⊥) → (opIn w ≡ TRUE → ⊥) → Headed before after at aLiteral bias → Literal before after at (Typed boolType (at + 1))
   unfolding judgeLeaf truth isLiteral
   literal-false a b h = record {
-    is = λ m n W only S q l.
+    is = λ d m n W only S q l.
         let o = head-op W q in
         let na = ne-eqb (sortIn W at) NUMBER (λ z. a (o ∙ z)) in
         let nb = ne-eqb (sortIn W at) TRUE (λ z. b (o ∙ z)) in
         test (eqb (sortIn W at) FALSE)
-        (λ t. literal-as 0 h m n (judgeLeaf W only S at) aBool boolType (rw (eqb-true (sortIn W at) FALSE t, judgeLeaf)) bool-in)
+        (λ t. literal-as 0 h d m n (judgeLeaf W only S at) aBool boolType (rw (eqb-true (sortIn W at) FALSE t, judgeLeaf)) bool-in)
         (λ t. false-true (rw (na, nb, t, isLiteral) at l));
   }

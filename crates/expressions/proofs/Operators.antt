@@ -8,10 +8,10 @@ use lib.Dec.{eqb, leb}
 use borrow.Author.Tests.{eqb-true, eqb-false, ne-eqb, eq-eqb, le-leb, lt-leb}
 use Rattle.laws.proofs.Tests.{test, false-true}
 use Rattle.paper.specs.Basics.{if_then_else_}
-use Rattle.paper.specs.Sorts.{NOT, XOR, plus, minusSign, equal, unequal}
+use Rattle.paper.specs.Sorts.{NOT, AND, DIV, MOD, OR, XOR, plus, minusSign, times, equal, less, lessEqual, unequal, greater, greaterEqual}
 use Rattle.paper.specs.Expressions.{relations, conjunctions, levelOf}
 use Rattle.paper.specs.Names.{DataType, aNum, aBool}
-use Rattle.code.specs.Spans.{operators, operatorOf, prefixIn}
+use Rattle.code.specs.Spans.{aParenthesis, aPlus, operators, operatorOf, prefixIn}
 use Rattle.climb.specs.Rise.{height}
 use Rattle.layout.specs.Types.{numType, boolType, typeIn}
 use Rattle.layout.proofs.Typing.{num-in, bool-in}
@@ -21,12 +21,12 @@ use Rattle.expressions.proofs.Judging.{level-equal}
 pub level-here : (s k : ℕ) → s ≡ k → levelOf k ≡ levelOf s
 level-here s k e = ap levelOf (sym e)
 
-module _ (s : ℕ) (a : s ≡ 12 → ⊥) (b : s ≡ 13 → ⊥) (c : s ≡ 14 → ⊥) (d : s ≡ 15 → ⊥) (e : s ≡ 16 → ⊥) (f : s ≡ 17 → ⊥) (g : s ≡ 18 → ⊥) (h : s ≡ 19 → ⊥) (i : s ≡ 20 → ⊥)
-    (j : s ≡ 33 → ⊥) (k : s ≡ 39 → ⊥) (l : s ≡ 62 → ⊥) (m : s ≡ 67 → ⊥) where
-  pub level-none : (s ≡ 88 → ⊥) → 0 ≡ levelOf s
+module _ (s : ℕ) (a : s ≡ equal → ⊥) (b : s ≡ less → ⊥) (c : s ≡ lessEqual → ⊥) (d : s ≡ unequal → ⊥) (e : s ≡ greater → ⊥) (f : s ≡ greaterEqual → ⊥) (g : s ≡ plus → ⊥) (h : s ≡ minusSign → ⊥) (i : s ≡ times → ⊥)
+    (j : s ≡ AND → ⊥) (k : s ≡ DIV → ⊥) (l : s ≡ MOD → ⊥) (m : s ≡ OR → ⊥) where
+  pub level-none : (s ≡ XOR → ⊥) → 0 ≡ levelOf s
   unfolding levelOf
   level-none n =
-      simp (ne-eqb s 12 a, ne-eqb s 13 b, ne-eqb s 14 c, ne-eqb s 15 d, ne-eqb s 16 e, ne-eqb s 17 f, ne-eqb s 18 g, ne-eqb s 19 h, ne-eqb s 20 i, ne-eqb s 33 j, ne-eqb s 39 k, ne-eqb s 62 l, ne-eqb s 67 m, ne-eqb s 88 n, levelOf)
+      simp (ne-eqb s equal a, ne-eqb s less b, ne-eqb s lessEqual c, ne-eqb s unequal d, ne-eqb s greater e, ne-eqb s greaterEqual f, ne-eqb s plus g, ne-eqb s minusSign h, ne-eqb s times i, ne-eqb s AND j, ne-eqb s DIV k, ne-eqb s MOD l, ne-eqb s OR m, ne-eqb s XOR n, levelOf)
 
   pub number-last : 0 < levelOf s → Numbered s 11
   unfolding operatorOf operators
@@ -79,19 +79,19 @@ gives-truth l h = record { is = λ s e. bool-in ∙ ap some (sym (rw (le-leb rel
 pub height-here : (s k : ℕ) → s ≡ k → height k - 1 ≡ height s - 1
 height-here s k e = ap (λ (n : ℕ). height n - 1) (sym e)
 
-pub height-none : (s : ℕ) → (s ≡ 65 → ⊥) → (s ≡ 18 → ⊥) → (s ≡ 19 → ⊥) → 0 ≡ height s - 1
+pub height-none : (s : ℕ) → (s ≡ NOT → ⊥) → (s ≡ plus → ⊥) → (s ≡ minusSign → ⊥) → 0 ≡ height s - 1
 unfolding height
-height-none s a b c = rw (ne-eqb s 65 a, height) (rw (ne-eqb s 18 b) (rw (ne-eqb s 19 c)))
+height-none s a b c = rw (ne-eqb s NOT a, height) (rw (ne-eqb s plus b) (rw (ne-eqb s minusSign c)))
 
-pub prefix-here : (s k r : ℕ) → s ≡ k → 6 < r → r < 128 → prefixIn r ≡ k → Prefixes s r
+pub prefix-here : (s k r : ℕ) → s ≡ k → aParenthesis < r → r < 128 → prefixIn r ≡ k → Prefixes s r
 prefix-here s k r e g h p = record { small = h; op = g; is = λ _. p ∙ sym e }
 
-pub prefix-plus : (s : ℕ) → (s ≡ 65 → ⊥) → (s ≡ 19 → ⊥) → Prefixes s 8
+pub prefix-plus : (s : ℕ) → (s ≡ NOT → ⊥) → (s ≡ minusSign → ⊥) → Prefixes s aPlus
 unfolding isPrefix prefixIn
 prefix-plus s a b = record {
   small = omega arith;
   op = omega arith;
-  is = λ h. test (eqb s plus) (λ t. sym (eqb-true s plus t)) (λ t. false-true (rw (ne-eqb s 65 a, t, ne-eqb s 19 b, isPrefix) at h));
+  is = λ h. test (eqb s plus) (λ t. sym (eqb-true s plus t)) (λ t. false-true (rw (ne-eqb s NOT a, t, ne-eqb s minusSign b, isPrefix) at h));
 }
 
 pub sign-not : (s : ℕ) → s ≡ NOT → SignType s boolType

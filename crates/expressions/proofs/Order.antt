@@ -19,7 +19,7 @@ use Rattle.paper.specs.Types.{Fault, fault, faultIf, comesFirst, leastOf, least
 use Rattle.paper.specs.Types as types
 use Rattle.climb.specs.Places.{Spans}
 use Rattle.climb.proofs.Places.{spans-grow, spans-first, stands}
-use Rattle.layout.specs.Rules.{wrongType}
+use Rattle.layout.specs.Rules.{unknownName, wrongKind, wrongType}
 use Rattle.expressions.specs.Answers.{Refused}
 use Rattle.expressions.specs.Parts.{askedOf, resultOf, signedOf}
 use Rattle.expressions.proofs.Judging.{append-none, judged-faults, judged-refused, joined-is, signed-is}
@@ -126,13 +126,13 @@ module _ (W : List Word) (c : Bool) (S : Scopes) where
 
   name-rising : (m : Meaning) (i : ℕ) → Rising i (suc i) (judgeName c m i .faults)
   unfolding judgeName judgedNothing Rising
-  name-rising unknown i = rising-judged i (suc i) _ _ _ (rising-one 11 i)
-  name-rising (variable t r) i = rising-judged i (suc i) _ _ _ (rising-if c 12 i)
-  name-rising (array t r n) i = rising-judged i (suc i) _ _ _ (rising-one 12 i)
+  name-rising unknown i = rising-judged i (suc i) _ _ _ (rising-one unknownName i)
+  name-rising (variable t r) i = rising-judged i (suc i) _ _ _ (rising-if c wrongKind i)
+  name-rising (array t r n) i = rising-judged i (suc i) _ _ _ (rising-one wrongKind i)
   name-rising (constant t r) i = rising-judged i (suc i) _ _ _ tt
-  name-rising (loop r) i = rising-judged i (suc i) _ _ _ (rising-if c 12 i)
-  name-rising (theRoutine k) i = rising-judged i (suc i) _ _ _ (rising-one 12 i)
-  name-rising theErrno i = rising-judged i (suc i) _ _ _ (rising-if c 12 i)
+  name-rising (loop r) i = rising-judged i (suc i) _ _ _ (rising-if c wrongKind i)
+  name-rising (theRoutine k) i = rising-judged i (suc i) _ _ _ (rising-one wrongKind i)
+  name-rising theErrno i = rising-judged i (suc i) _ _ _ (rising-if c wrongKind i)
   name-rising (errorNumber n) i = rising-judged i (suc i) _ _ _ tt
 
   leaf-rising : (i : ℕ) → Rising i (suc i) (judgeLeaf W c S i .faults)
@@ -153,7 +153,7 @@ module _ (W : List Word) (c : Bool) (S : Scopes) where
           (rising-append i (suc i) to (fault (wrongName m) i) (j .faults) (omega arith) (omega arith) (rising-one (wrongName m) i) (rising-wider (i + 2) to (suc i) to (j .faults) (omega arith) (omega arith) r)))
       array-or (some a) q =
           rw (q, judgeElement) (rising-judged i to _ _ _
-          (rising-append i (suc i) to (faultIf c 12 i) (wanted aNum (first e) j) (omega arith) (omega arith) (rising-if c 12 i)
+          (rising-append i (suc i) to (faultIf c wrongKind i) (wanted aNum (first e) j) (omega arith) (omega arith) (rising-if c wrongKind i)
           (rising-wider (i + 2) to (suc i) to (wanted aNum (first e) j) (omega arith) (omega arith) (wanted-rising aNum (first e) (i + 2) to j (omega arith) (omega arith) k r))))
 
   pub rising : (e : Expr) (a b : ℕ) → Spans e a b → Rising a b (judge W c S e .faults)

@@ -3,7 +3,7 @@ use mathlib.Core.Path.{_≡_}
 use mathlib.Core.Bool.{Bool, true, false, _||_}
 use mathlib.Core.List.{List, []}
 use mathlib.Core.Option.{some}
-use Prim.Native.Nat.{ℕ, _+_, _*_, _<_, _≤_}
+use Prim.Native.Nat.{ℕ, suc, _+_, _*_, _<_, _≤_}
 use lib.Dec.{eqb, leb}
 use lib.ListN.{length}
 use Rattle.paper.specs.Basics.{if_then_else_}
@@ -24,7 +24,7 @@ use Rattle.expressions.specs.declared.Judged.{Judged}
 use Rattle.expressions.specs.declared.Judged.the-variants.{Typed, Faulty}
 use Rattle.expressions.specs.Known.{Fresh, Loaded, largest, Within, Known}
 use Rattle.store.specs.Promises.{Kept}
-use Rattle.expressions.specs.Answers.{Sound, Refused, Says, Judges}
+use Rattle.expressions.specs.Answers.{SoundUnder, Refused, SaysUnder, JudgesUnder}
 
 -- ---- operators
 -- the type that an operator asks of both sides, by that of the left one
@@ -101,15 +101,15 @@ pub record BreaksIndexed (kind : ℕ) (only : Bool) (r : ℕ) : Type 0 where
   pub free : r ≡ 0 → only ≡ false
 
 pub record Alone (before after : List ℕ) (cell : ℕ) (only : Bool) (at : ℕ) (r : Judged) : Type 0 where
-  pub is : (g : Meant cell) → Judges (g .m) (g .n) before after at (at + 1) (judgeName only (meaningIn (g .routine) cell) at) r
+  pub is : (d : ℕ) (g : Meant cell) → JudgesUnder d (g .m) (g .n) before after at (at + 1) (judgeName only (meaningIn (g .routine) cell) at) r
 
 -- ---- literals
 abbrev pub SmallNumber : (head : ℕ) → Type 0
 SmallNumber w = opIn w ≡ NUMBER → valueIn w ≤ largest
 
 pub record Literal (before after : List ℕ) (at : ℕ) (r : Judged) : Type 0 where
-  pub is : (m n : ℕ) (W : List Word) (only : Bool) (S : Scopes) → Fresh W (wordsOf before) at → isLiteral (sortIn W at) ≡ true
-      → Judges m n before after at (at + 1) (judgeLeaf W only S at) r
+  pub is : (d m n : ℕ) (W : List Word) (only : Bool) (S : Scopes) → Fresh W (wordsOf before) at → isLiteral (sortIn W at) ≡ true
+      → JudgesUnder d m n before after at (at + 1) (judgeLeaf W only S at) r
 
 -- ---- around what has been answered
 -- the word after it is a word's index
@@ -119,43 +119,45 @@ Short (Faulty number word) = Unit {0}
 
 -- parentheses
 pub record Nested (before after : List ℕ) (inner : Judged) (at : ℕ) (r : Judged) : Type 0 where
-  pub is : (m n to : ℕ) (j : types.Judged) → Says m n (wordsOf before) (at + 1) to j inner → Judges m n before after at (to + 1) j r
+  pub is : (d m n to : ℕ) (j : types.Judged) → SaysUnder d m n (wordsOf before) (at + 1) to j inner → JudgesUnder (suc d) m n before after at (to + 1) j r
 
 -- NOT or a sign
 pub record Signed (before after : List ℕ) (s : ℕ) (inner : Judged) (at : ℕ) (r : Judged) : Type 0 where
-  pub is : (m n to : ℕ) (e : Expr) (j : types.Judged) → isPrefix s ≡ true → first e ≡ at + 1 → Says m n (wordsOf before) (at + 1) to j inner
-      → Judges m n before after at to (judgeSigned s e j) r
+  pub is : (d m n to : ℕ) (e : Expr) (j : types.Judged) → isPrefix s ≡ true → first e ≡ at + 1 → SaysUnder d m n (wordsOf before) (at + 1) to j inner
+      → JudgesUnder d m n before after at to (judgeSigned s e j) r
 
 -- an array's name and braces
 pub record Indexed (before after : List ℕ) (cell : ℕ) (inner : Judged) (at : ℕ) (r : Judged) : Type 0 where
-  pub is : (g : Meant cell) (to : ℕ) (e : Expr) (j : types.Judged) → kindIn cell ≡ anArray → first e ≡ at + 2 → Says (g .m) (g .n) (wordsOf before) (at + 2) to j inner
-      → Judges (g .m) (g .n) before after at (to + 1) (judgeElement false (meaningIn (g .routine) cell) at e j) r
+  pub is : (d : ℕ) (g : Meant cell) (to : ℕ) (e : Expr) (j : types.Judged) → kindIn cell ≡ anArray → first e ≡ at + 2 → SaysUnder d (g .m) (g .n) (wordsOf before) (at + 2) to j inner
+      → JudgesUnder (suc d) (g .m) (g .n) before after at (to + 1) (judgeElement false (meaningIn (g .routine) cell) at e j) r
 
 -- ---- an operator at i between two sides
 pub record Right (code : List ℕ) (s l i : ℕ) (right : Judged) : Type 0 where
   pub level-is : l ≡ levelOf s
   pub some : 0 < l
+  pub d : ℕ
   pub m : ℕ
   pub n : ℕ
   pub to : ℕ
   pub j : types.Judged
-  pub says : Says m n (wordsOf code) (i + 1) to j right
+  pub says : SaysUnder d m n (wordsOf code) (i + 1) to j right
   pub last : to < wordLimit
   pub room : to * 8 + 8 ≤ length code
 
 pub record Joined (before after : List ℕ) (s wants i : ℕ) (right r : Judged) : Type 0 where
-  pub is : (m n at to : ℕ) (a b : Expr) (ja jb : types.Judged) → Sound m n (wordsOf before) at i ja wants i → askedOf s (ja .type) ≡ ja .type
-      → first b ≡ i + 1 → Says m n (wordsOf before) (i + 1) to jb right → Judges m n before after at to (judgeJoined s a b ja jb) r
+  pub is : (d m n at to : ℕ) (a b : Expr) (ja jb : types.Judged) → SoundUnder d m n (wordsOf before) at i ja wants i → askedOf s (ja .type) ≡ ja .type
+      → first b ≡ i + 1 → SaysUnder d m n (wordsOf before) (i + 1) to jb right → JudgesUnder d m n before after at to (judgeJoined s a b ja jb) r
 
 -- ---- the first part of an expression
-pub record Begins (code values : List ℕ) (at : ℕ) : Type 0 where
+pub record Begins (nesting : ℕ) (code values : List ℕ) (at : ℕ) : Type 0 where
   pub known : Known values
   pub d : ℕ
   pub e : Expr
   pub to : ℕ
+  pub deep : d ≤ nesting
   pub is : begin (sortIn (known .W)) (exprIn (sortIn (known .W)) d) at ≡ got (e, to)
   pub ends : 0 < levelOf (sortIn (known .W) to) → lowest (sortIn (known .W) at) ≤ levelOf (sortIn (known .W) to)
   pub loaded : Loaded (known .W) code at to
 
-pub record Began (code values after : List ℕ) (only : Bool) (at : ℕ) (r : Judged) : Type 0 where
-  pub is : (s : Begins code values at) → Judges (s .known .m) (s .known .n) code after at (s .to) (judge (s .known .W) only (s .known .S) (s .e)) r
+pub record Began (nesting : ℕ) (code values after : List ℕ) (only : Bool) (at : ℕ) (r : Judged) : Type 0 where
+  pub is : (s : Begins nesting code values at) → JudgesUnder nesting (s .known .m) (s .known .n) code after at (s .to) (judge (s .known .W) only (s .known .S) (s .e)) r

@@ -1,6 +1,7 @@
 // The check of an expression: names, types and links, by precedence climbing over the words of the code store in place.
 use layout::kinds;
 use layout::levels;
+use layout::limits::NESTINGS;
 use layout::ops;
 use layout::parts;
 use layout::rules;
@@ -19,7 +20,7 @@ ghost use Rattle.code.specs.Cells.{headAt, opAt};
 ghost use Rattle.code.specs.Spans.{aCallWord};
 ghost use Rattle.layout.specs.Parts.{linkPart};
 ghost use Rattle.climb.specs.Rise.{height};
-ghost use Rattle.expressions.specs.Answers.{Stands, Checked, OfType};
+ghost use Rattle.expressions.specs.Answers.{StandsUnder, CheckedUnder, Stands, Checked, OfType};
 ghost use Rattle.expressions.specs.Parts.{Asks, Numbered, Prefixes, SignType, Gives, Tied, Meant, BreaksAlone, BreaksIndexed, Alone, SmallNumber, Literal, Short, Nested, Signed, Indexed, Right, Joined, Begins, Began};
 
 pub enum Judged {
@@ -306,10 +307,12 @@ fn join(code: &mut [u8], s: u32, l: u32, wants: Type, right: Judged, i: usize) -
 
 // ---- expressions
 
+// The check calls itself on the inner expression: the words left fall at each call, and how many parentheses and braces may still nest falls with them.
+
 // The first part of an expression: an operand, or NOT or a sign with what it covers.
-fn begin(code: &mut [u8], values: &[u8], only: bool, at: usize) -> Judged
-    requires { ⌜ Begins (now code) (now values) at ⌝ }
-    ensures { λ r. ⌜ Began (now (code .entry)) (now (values .entry)) (now (code .exit)) only at r ⌝ }
+fn begin(code: &mut [u8], values: &[u8], only: bool, at: usize, nesting: usize) -> Judged
+    requires { ⌜ Begins nesting (now code) (now values) at ⌝ }
+    ensures { λ r. ⌜ Began nesting (now (code .entry)) (now (values .entry)) (now (code .exit)) only at r ⌝ }
 {
     let s = sort(code, at);
     if s == sorts::NAME {
@@ -321,27 +324,48 @@ fn begin(code: &mut [u8], values: &[u8], only: bool, at: usize) -> Judged
         if broken != 0 {
             return Judged::Faulty(broken, at);
         }
-        let index = expression(code, values, only, levels::DISJUNCTIONS, at + 2);
+        let index = climb(
+            code,
+            values,
+            only,
+            levels::DISJUNCTIONS,
+            at + 2,
+            nesting - 1,
+        );
         return indexed(code, m, index, at);
     }
     if s == sorts::OPEN_PAREN {
-        let inner = expression(code, values, only, levels::DISJUNCTIONS, at + 1);
+        let inner = climb(
+            code,
+            values,
+            only,
+            levels::DISJUNCTIONS,
+            at + 1,
+            nesting - 1,
+        );
         return nested(code, inner, at);
     }
     let l = covered(s);
     if l != 0 {
-        let part = expression(code, values, only, l, at + 1);
+        let part = climb(code, values, only, l, at + 1, nesting);
         return signed(code, s, part, at);
     }
     literal(code, at)
 }
 
 // An expression of operators up to a level.
-pub fn expression(code: &mut [u8], values: &[u8], only: bool, level: u32, at: usize) -> Judged
-    requires { ⌜ Stands (now code) (now values) level at ⌝ }
-    ensures { λ r. ⌜ Checked (now (code .entry)) (now (values .entry)) (now (code .exit)) only level at r ⌝ }
+fn climb(
+    code: &mut [u8],
+    values: &[u8],
+    only: bool,
+    level: u32,
+    at: usize,
+    nesting: usize,
+) -> Judged
+    requires { ⌜ StandsUnder nesting (now code) (now values) level at ⌝ }
+    ensures { λ r. ⌜ CheckedUnder nesting (now (code .entry)) (now (values .entry)) (now (code .exit)) only level at r ⌝ }
 {
-    let mut left = begin(code, values, only, at);
+    let mut left = begin(code, values, only, at, nesting);
     loop {
         let Judged::Typed(t, i) = left else {
             return left;
@@ -358,9 +382,17 @@ pub fn expression(code: &mut [u8], values: &[u8], only: bool, level: u32, at: us
         if t != wants {
             return Judged::Faulty(rules::WRONG_TYPE, at);
         }
-        let right = expression(code, values, only, l - 1, i + 1);
+        let right = climb(code, values, only, l - 1, i + 1, nesting);
         left = join(code, s, l, wants, right, i);
     }
+}
+
+// The same of a whole expression, which nests as deep as any.
+pub fn expression(code: &mut [u8], values: &[u8], only: bool, level: u32, at: usize) -> Judged
+    requires { ⌜ Stands (now code) (now values) level at ⌝ }
+    ensures { λ r. ⌜ Checked (now (code .entry)) (now (values .entry)) (now (code .exit)) only level at r ⌝ }
+{
+    climb(code, values, only, level, at, NESTINGS)
 }
 
 // An expression of a type.

@@ -142,7 +142,7 @@ abbrev S : Scopes
 S = routineScopes W example main
 
 assigns : RawSimple (groundFor ground example main) 1 cells S (assign (record { name = 12; index = none }) (leaf 14)) 12 16
-unfolding computed text W main body example mainHead head tail cells offset ground groundFor isLed goesByLink goesByValue goesByPlace RawDoes scalarIn targetIn spans.guard spans._then_ spans.leafTerm spans.operandOf spans.chain spans.spanTerm spans.termIn
+unfolding computed text W main body example mainHead head tail cells offset ground groundFor isLed goesByLink goesByValue goesByPlace RawDoes scalarIn targetIn spans.guard spans._then_ spans.leafTerm spans.operandOf spans.chain spans.spanTerm spans.within spans.termWithin
 assigns = record {
   first = refl;
   place = refl;

@@ -99,7 +99,7 @@ comma-still = refl
 module _ {text values : List ℕ} (around : Around text values) (now : List ℕ) (p at : ℕ) (e : Expr) (n : ℕ)
     (one : ExprAt (sortIn (around .known .W)) (Parses (sortIn (around .known .W))) e at n) (load : Loaded (around .known .W) now at n) (no : levelOf (sortIn (around .known .W) n) ≡ 0) where
   pub one-asks : expressions.Stands now values disjunctions at
-  one-asks = asks (around .known) (around .sorts) (suc nestings) at e n one load no
+  one-asks = asks (around .known) (around .sorts) (suc nestings) at e n one load no (omega arith)
 
   module _ (mid : List ℕ) (r : Judged) (h : Passed now values mid p at r) where
     pub one-long : length mid ≡ length now
@@ -117,13 +117,13 @@ module _ {text values : List ℕ} (around : Around text values) (now : List ℕ)
     pub one-told : (b : ℕ) (next : ℕ) → r ≡ Typed b next → Told (around .known) (ofType (around .known .W) (typeAt (wordsOf now) p) (around .known .S) e) now mid e at n next
     unfolding one-asks asks
     one-told b next q =
-        told (around .known) (around .sorts) (suc nestings) at e n one load no mid (typeAt (wordsOf now) p) (passed (typeAt (wordsOf now) p) (first e) (judge (around .known .W) false (around .known .S) e)) passed-faults passed-term r
+        told (around .known) (around .sorts) (suc nestings) at e n one load no (omega arith) mid (typeAt (wordsOf now) p) (passed (typeAt (wordsOf now) p) (first e) (judge (around .known .W) false (around .known .S) e)) passed-faults passed-term r
         (h .is one-asks) b next q
 
     pub one-first : (number word : ℕ) → r ≡ Faulty number word → First (record { number = number; at = word }) (ofType (around .known .W) (typeAt (wordsOf now) p) (around .known .S) e)
     unfolding one-asks asks
     one-first number word q =
-        told-first (around .known) (around .sorts) (suc nestings) at e n one load no mid (typeAt (wordsOf now) p) (passed (typeAt (wordsOf now) p) (first e) (judge (around .known .W) false (around .known .S) e)) passed-faults passed-term r
+        told-first (around .known) (around .sorts) (suc nestings) at e n one load no (omega arith) mid (typeAt (wordsOf now) p) (passed (typeAt (wordsOf now) p) (first e) (judge (around .known .W) false (around .known .S) e)) passed-faults passed-term r
         (h .is one-asks) number word q
 
 -- the faults of several, by those of the first

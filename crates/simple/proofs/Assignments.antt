@@ -132,22 +132,22 @@ module _ (code values : List ℕ) (wants : ℕ) (i b : ℕ) (g : ValueSide code 
   value-on = grows (g .around .known .W) (suc nestings) (b + 1) (g .e) (g .to) (g .value)
 
   pub value-stands : expressions.Stands code values disjunctions (b + 1)
-  value-stands = asks (g .around .known) (g .around .sorts) (suc nestings) (b + 1) (g .e) (g .to) (g .value) value-load (no-operator _ _ (g .ends) level-semicolon)
+  value-stands = asks (g .around .known) (g .around .sorts) (suc nestings) (b + 1) (g .e) (g .to) (g .value) value-load (no-operator _ _ (g .ends) level-semicolon) (omega arith)
 
   pub value-small : b + 1 < wordLimit
   value-small = omega (arith, value-on, value-load .last)
 
   module _ (mid : List ℕ) (r : Judged) (o : OfType code values mid false wants (b + 1) r) where
     value-long : length mid ≡ length code
-    value-long = typed-long (g .around .known) (g .around .sorts) (suc nestings) (b + 1) (g .e) (g .to) (g .value) value-load (no-operator _ _ (g .ends) level-semicolon) mid wants (g .type) (g .wants-is) r o
+    value-long = typed-long (g .around .known) (g .around .sorts) (suc nestings) (b + 1) (g .e) (g .to) (g .value) value-load (no-operator _ _ (g .ends) level-semicolon) (omega arith) mid wants (g .type) (g .wants-is) r o
 
     value-first : (number word : ℕ) → r ≡ Faulty number word → First (record { number = number; at = word }) (ofType (g .around .known .W) (g .type) (g .around .known .S) (g .e))
     value-first number word e =
-        typed-first (g .around .known) (g .around .sorts) (suc nestings) (b + 1) (g .e) (g .to) (g .value) value-load (no-operator _ _ (g .ends) level-semicolon) mid wants (g .type) (g .wants-is) r o number word e
+        typed-first (g .around .known) (g .around .sorts) (suc nestings) (b + 1) (g .e) (g .to) (g .value) value-load (no-operator _ _ (g .ends) level-semicolon) (omega arith) mid wants (g .type) (g .wants-is) r o number word e
 
     module _ (bool : ℕ) (end : ℕ) (e : r ≡ Typed bool end) where
       value-told : Told (g .around .known) (ofType (g .around .known .W) (g .type) (g .around .known .S) (g .e)) code mid (g .e) (b + 1) (g .to) end
-      value-told = typed-told (g .around .known) (g .around .sorts) (suc nestings) (b + 1) (g .e) (g .to) (g .value) value-load (no-operator _ _ (g .ends) level-semicolon) mid wants (g .type) (g .wants-is) r o bool end e
+      value-told = typed-told (g .around .known) (g .around .sorts) (suc nestings) (b + 1) (g .e) (g .to) (g .value) value-load (no-operator _ _ (g .ends) level-semicolon) (omega arith) mid wants (g .type) (g .wants-is) r o bool end e
 
       pub value-fits : Fits w64 (end + 1)
       value-fits = record { fits = omega (arith, value-told .next-is, value-load .last) }

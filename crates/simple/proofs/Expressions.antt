@@ -74,7 +74,7 @@ pub record Told {values : List ℕ} (k : Known values) (fs : List Fault) (before
   pub quiet : Quiet (wordsOf after) at to
 
 module _ {code values : List ℕ} (k : Known values) (sorts : (i : ℕ) → sortIn (k .W) i < aTarget) (d at : ℕ) (e : Expr) (to : ℕ) (p : Parses (sortIn (k .W)) d at e to) (l : Loaded (k .W) code at to)
-    (no : levelOf (sortIn (k .W) to) ≡ 0) where
+    (no : levelOf (sortIn (k .W) to) ≡ 0) (deep : d ≤ suc nestings) where
   unfoldable pub asks : expressions.Stands code values disjunctions at
   asks = record {
     known = k;
@@ -82,6 +82,7 @@ module _ {code values : List ℕ} (k : Known values) (sorts : (i : ℕ) → sort
     e = e;
     to = to;
     tops = omega arith;
+    deep = omega (arith, deep);
     is = deeper (sortIn (k .W)) d at (e, to) p .is;
     ends = λ h. absurd (omega (arith, no, h));
     loaded = l;
@@ -151,18 +152,18 @@ module _ (fs : List Fault) (before after : List ℕ) (at to : ℕ) (holds : Type
 -- ---- a statement with a value
 module _ (code values : List ℕ) (from i : ℕ) (g : Values code values from i) where
   pub values-stands : expressions.Stands code values disjunctions from
-  values-stands = asks (g .around .known) (g .around .sorts) (suc nestings) from (g .e) (g .to) (g .value) (g .loaded) (no-operator _ _ (g .ends) level-semicolon)
+  values-stands = asks (g .around .known) (g .around .sorts) (suc nestings) from (g .e) (g .to) (g .value) (g .loaded) (no-operator _ _ (g .ends) level-semicolon) (omega arith)
 
   values-grow : from < g .to
   values-grow = grows (g .around .known .W) (suc nestings) from (g .e) (g .to) (g .value)
 
   module _ (mid : List ℕ) (wants : ℕ) (t : DataType) (w : typeIn wants ≡ some t) (r : Judged) (o : OfType code values mid false wants from r) where
     values-told : (b : ℕ) (end : ℕ) → r ≡ Typed b end → Told (g .around .known) (ofType (g .around .known .W) t (g .around .known .S) (g .e)) code mid (g .e) from (g .to) end
-    values-told = typed-told (g .around .known) (g .around .sorts) (suc nestings) from (g .e) (g .to) (g .value) (g .loaded) (no-operator _ _ (g .ends) level-semicolon) mid wants t w r o
+    values-told = typed-told (g .around .known) (g .around .sorts) (suc nestings) from (g .e) (g .to) (g .value) (g .loaded) (no-operator _ _ (g .ends) level-semicolon) (omega arith) mid wants t w r o
 
     pub values-room : i * 8 + 8 ≤ length mid
     values-room =
-        omega (arith, typed-long (g .around .known) (g .around .sorts) (suc nestings) from (g .e) (g .to) (g .value) (g .loaded) (no-operator _ _ (g .ends) level-semicolon) mid wants t w r o, g .loaded .room, g .before, values-grow)
+        omega (arith, typed-long (g .around .known) (g .around .sorts) (suc nestings) from (g .e) (g .to) (g .value) (g .loaded) (no-operator _ _ (g .ends) level-semicolon) (omega arith) mid wants t w r o, g .loaded .room, g .before, values-grow)
 
     pub values-end : (b : ℕ) (end : ℕ) → r ≡ Typed b end → end < wordLimit
     values-end b end e = omega (arith, values-told b end e .next-is, g .loaded .last)
@@ -188,8 +189,8 @@ valued-faulty code values after op wants from i r o number word e = record {
   is = λ g u w.
       let no = no-operator _ _ (g .ends) level-semicolon in
       answer-first _ code after i (g .to + 1) _ r number word e
-      (typed-long (g .around .known) (g .around .sorts) (suc nestings) from (g .e) (g .to) (g .value) (g .loaded) no after wants u w r o)
-      (typed-first (g .around .known) (g .around .sorts) (suc nestings) from (g .e) (g .to) (g .value) (g .loaded) no after wants u w r o number word e);
+      (typed-long (g .around .known) (g .around .sorts) (suc nestings) from (g .e) (g .to) (g .value) (g .loaded) no (omega arith) after wants u w r o)
+      (typed-first (g .around .known) (g .around .sorts) (suc nestings) from (g .e) (g .to) (g .value) (g .loaded) no (omega arith) after wants u w r o number word e);
 }
 
 pub valued-typed : (code values mid after : List ℕ) (op : ℕ) (wants : ℕ) (from i : ℕ) (r : Judged) → OfType code values mid false wants from r → (b : ℕ) (end : ℕ) → r ≡ Typed b end

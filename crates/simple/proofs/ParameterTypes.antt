@@ -13,7 +13,7 @@ use Rattle.code.specs.Signatures.{typeAt}
 use Rattle.climb.proofs.Places.{spans-first, stands}
 use Rattle.expressions.specs.declared.Judged.{Judged}
 use Rattle.expressions.specs.declared.Judged.the-variants.{Typed, Faulty}
-use Rattle.expressions.specs.Answers.{Says, Judges, Checked}
+use Rattle.expressions.specs.Answers.{SaysUnder, Judges, Checked}
 use Rattle.expressions.proofs.Judging.{wanted-first}
 use Rattle.expressions.proofs.Around.{says-typed, says-faulty}
 use Rattle.simple.specs.Parts.{saidType, TypeDiffers, passed, Passed}
@@ -35,7 +35,7 @@ wanted-bad t i j n d = rw (n, d, wanted)
 
 module _ (code values after : List ℕ) (p at asked : ℕ) (e : asked ≡ headAt (wordsOf code) p) (r : Judged) (c : Checked code values after false 5 at r) where
   pub passed-faulty : (number word : ℕ) → r ≡ Faulty number word → Passed code values after p at r
-  unfolding Says
+  unfolding SaysUnder
   passed-faulty number word q = record {
     is = λ s.
         let j = judge (s .known .W) false (s .known .S) (s .e) in
@@ -57,7 +57,7 @@ module _ (code values after : List ℕ) (p at asked : ℕ) (e : asked ≡ headAt
     differs-is x z = sym (ap (λ (y : DataType). differs y x) (type-at (wordsOf code) p asked e)) ∙ d .is x z
 
     pub passed-wrong : t ≡ true → Passed code values after p at (Faulty wrongType at)
-    unfolding Says fault
+    unfolding SaysUnder fault
     passed-wrong y = record {
       is = λ s.
           let j = judge (s .known .W) false (s .known .S) (s .e) in
@@ -74,7 +74,7 @@ module _ (code values after : List ℕ) (p at asked : ℕ) (e : asked ≡ headAt
     }
 
     pub passed-right : t ≡ false → Passed code values after p at (Typed bool end)
-    unfolding Says
+    unfolding SaysUnder
     passed-right y = record {
       is = λ s.
           let j = judge (s .known .W) false (s .known .S) (s .e) in

@@ -253,18 +253,18 @@ module _ (code values : List ℕ) (cell at : ℕ) (g : Elements code values cell
   index-no = no-operator _ _ (braces .closes) level-brace
 
   pub index-stands : answers.Stands code values disjunctions (at + 2)
-  index-stands = asks (g .targets .known) (g .targets .sorts) nestings (at + 2) (braces .e) (braces .n) index-at index-load index-no
+  index-stands = asks (g .targets .known) (g .targets .sorts) nestings (at + 2) (braces .e) (braces .n) index-at index-load index-no (omega arith)
 
   pub element-small : at + 2 < wordLimit
   element-small = omega (arith, index-on, index-load .last)
 
   module _ (mid : List ℕ) (r : Judged) (o : OfType code values mid false numType (at + 2) r) where
     index-long : length mid ≡ length code
-    index-long = typed-long (g .targets .known) (g .targets .sorts) nestings (at + 2) (braces .e) (braces .n) index-at index-load index-no mid numType aNum num-in r o
+    index-long = typed-long (g .targets .known) (g .targets .sorts) nestings (at + 2) (braces .e) (braces .n) index-at index-load index-no (omega arith) mid numType aNum num-in r o
 
     module _ (b : ℕ) (end : ℕ) (e : r ≡ Typed b end) where
       index-told : Told (g .targets .known) (ofType (g .targets .known .W) (aNum) (g .targets .known .S) (braces .e)) code mid (braces .e) (at + 2) (braces .n) end
-      index-told = typed-told (g .targets .known) (g .targets .sorts) nestings (at + 2) (braces .e) (braces .n) index-at index-load index-no mid numType aNum num-in r o b end e
+      index-told = typed-told (g .targets .known) (g .targets .sorts) nestings (at + 2) (braces .e) (braces .n) index-at index-load index-no (omega arith) mid numType aNum num-in r o b end e
 
       pub index-fits : Fits w64 (end + 1)
       index-fits = record { fits = omega (arith, index-told .next-is, index-load .last) }
@@ -306,7 +306,7 @@ module _ (code values : List ℕ) (cell at : ℕ) (g : Elements code values cell
       index-first : (number word : ℕ) → r ≡ Faulty number word → First (record { number = number; at = word }) (judgeTarget (g .targets .known .W) (g .targets .known .S) (g .targets .t) .faults)
       index-first number word e =
           subst (First (record { number = number; at = word })) (sym (ap (λ (x : types.Judged). x .faults) array-judged ∙ judged-faults _ _ _))
-          (typed-first (g .targets .known) (g .targets .sorts) nestings (at + 2) (braces .e) (braces .n) index-at index-load index-no mid numType aNum num-in r o number word e)
+          (typed-first (g .targets .known) (g .targets .sorts) nestings (at + 2) (braces .e) (braces .n) index-at index-load index-no (omega arith) mid numType aNum num-in r o number word e)
 
       module _ (b : ℕ) (end : ℕ) (e : r ≡ Typed b end) where
         abbrev told : Told (g .targets .known) (ofType (g .targets .known .W) (aNum) (g .targets .known .S) (braces .e)) code mid (braces .e) (at + 2) (braces .n) end

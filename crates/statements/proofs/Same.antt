@@ -78,7 +78,7 @@ module _ {values values′ : List ℕ} (s : SameValues values values′) where
       record { to = g .to; around = around-as (g .around); here = here-as (g .around) code k used c (g .to) (g .here); d = g .d; o = g .o; z = g .z; is = g .is; ends = g .ends; after = g .after; room = g .room }
 
   abbrev pub expression-as : {code : List ℕ} {top at : ℕ} → expressions.Stands code values top at → expressions.Stands code values′ top at
-  expression-as g = record { known = known-as (g .known); d = g .d; e = g .e; to = g .to; tops = g .tops; is = g .is; ends = g .ends; loaded = g .loaded }
+  expression-as g = record { known = known-as (g .known); d = g .d; e = g .e; to = g .to; tops = g .tops; deep = g .deep; is = g .is; ends = g .ends; loaded = g .loaded }
 
   pub of-type-as : {code after : List ℕ} {only : Bool} {wants at : ℕ} {r : Judged} → OfType code values′ after only wants at r → OfType code values after only wants at r
   of-type-as x = record { is = λ g t w. x .is (expression-as g) t w }

@@ -11,7 +11,7 @@ use Rattle.paper.specs.Terms.{Term}
 use Rattle.cells.specs.Words.{wordsOf}
 use Rattle.cells.proofs.Laws.{words-take, words-drop}
 use Rattle.code.specs.Cells.{linkIn, headAt}
-use Rattle.code.specs.Spans.{termIn}
+use Rattle.code.specs.Spans.{termWithin, termIn}
 use Rattle.code.proofs.Composing.{Rewritten, frame}
 use Rattle.store.specs.Promises.{Kept}
 
@@ -40,11 +40,17 @@ module _ {before after : List ℕ} {from to : ℕ} (k : Kept before after from t
   pub head-above : (i : ℕ) → to ≤ i → headAt (wordsOf after) i ≡ headAt (wordsOf before) i
   head-above i h = cell-above (i * 2) (omega arith)
 
+  pub within-below : (d m n a b : ℕ) (t : Term) → b ≤ from → termWithin m n (wordsOf before) d a b ≡ some t → termWithin m n (wordsOf after) d a b ≡ some t
+  within-below d m n a b t h e = frame d m n (wordsOf before) (wordsOf after) a b t (λ i l u. sym (cell-below i (omega arith))) e
+
+  pub within-above : (d m n a b : ℕ) (t : Term) → to ≤ a → termWithin m n (wordsOf before) d a b ≡ some t → termWithin m n (wordsOf after) d a b ≡ some t
+  within-above d m n a b t h e = frame d m n (wordsOf before) (wordsOf after) a b t (λ i l u. sym (cell-above i (omega arith))) e
+
   pub term-below : (m n a b : ℕ) (t : Term) → b ≤ from → termIn m n (wordsOf before) a b ≡ some t → termIn m n (wordsOf after) a b ≡ some t
-  term-below m n a b t h e = frame m n (wordsOf before) (wordsOf after) a b t (λ i l u. sym (cell-below i (omega arith))) e
+  term-below m n a b t h e = within-below _ m n a b t h e
 
   pub term-above : (m n a b : ℕ) (t : Term) → to ≤ a → termIn m n (wordsOf before) a b ≡ some t → termIn m n (wordsOf after) a b ≡ some t
-  term-above m n a b t h e = frame m n (wordsOf before) (wordsOf after) a b t (λ i l u. sym (cell-above i (omega arith))) e
+  term-above m n a b t h e = within-above _ m n a b t h e
 
   pub kept-wider : (a b : ℕ) → a ≤ from → to ≤ b → Kept before after a b
   kept-wider a b h g =

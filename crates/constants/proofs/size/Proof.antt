@@ -26,7 +26,7 @@ returns-2 : tie.Need-returns-2
 returns-2 c = search (needs, size-high)
 
 cast-t13 : tie.Need-cast-t13
-cast-t13 c = size-cast (c .before .before .before .c2 .given .0 .0) (search needs) (search needs)
+cast-t13 c = let counted = c .before .before .before in size-cast (counted .c2 .given .0 .0) (search needs) (search needs)
 
 same-length-3 : tie.Need-same-length-3
 same-length-3 c = search needs

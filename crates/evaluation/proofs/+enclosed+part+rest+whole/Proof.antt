@@ -1,4 +1,5 @@
--- The evaluation calls itself on the inner expression: the words that are left fall at each call.
+-- The evaluation calls itself on the inner expression: the words left fall at each call, and so does the remaining nesting at a call on what stands in
+-- parentheses or braces.
 use mathlib.Core.Path.{sym, _∙_}
 use mathlib.Core.Bool.{true, false}
 use mathlib.Core.Logic.{⊎-elim}
@@ -16,7 +17,7 @@ use Rattle.numbers.proofs.Whole.{read}
 use Rattle.evaluation.proofs.Numbers.{told}
 use Rattle.evaluation.proofs.Operators.{failing-is}
 use Rattle.evaluation.proofs.Operands.{small-read, small-leaf}
-use Rattle.evaluation.proofs.Steps.{encloses-on, encloses, start-enclosed, start-fails, at-room, closes, inside-stands, inside-in, inside-room, inside-less, short-leaf, entered, entered-short}
+use Rattle.evaluation.proofs.Steps.{encloses-on, encloses, start-enclosed, start-fails, at-room, closes, inside-stands, nests-some, inside-in, inside-room, inside-less, short-leaf, entered, entered-short}
 use Rattle.evaluation.proofs.Steps.{Going, Opened, Sided, sided-read, subst₂, evaluated-read, followed-read, followed-first, going-read, stands-in, stands-less, first-leaf, start-leaf, opened-follows, opened-evaluated}
 use Rattle.evaluation.proofs.Steps.{goes-begun, ends, turn-in, turn-room, fused-leaf, side-leaf, turn-less, goes, turn-fails, shorts-told}
 use Rattle.evaluation.proofs.Steps.{span-stands, span-less, side-span, right-fails, span-past, skip-known, skip-on, skip-last, last-stands}
@@ -41,6 +42,7 @@ use Rattle.evaluation.proofs.is_known.Reads as is-known-reads
 use Rattle.evaluation.proofs.is_short.Reads as is-short-reads
 use Rattle.evaluation.proofs.is_value.Reads as is-value-reads
 use Rattle.evaluation.proofs.leaf.Reads as leaf-reads
+use Rattle.evaluation.proofs.nests.Reads as nests-reads
 use Rattle.evaluation.proofs.opens.Reads as opens-reads
 use Rattle.evaluation.proofs.operate.Reads as operate-reads
 use Rattle.evaluation.proofs.short.Reads as short-reads
@@ -50,17 +52,21 @@ use Rattle.reading.proofs.link.Reads as link-reads
 use Rattle.evaluation.proofs.+enclosed+part+rest+whole.{statement}
 use Rattle.evaluation.proofs.+enclosed+part+rest+whole.Tie.{close}
 
+-- the words left and the remaining nesting; within one word a part goes before its whole, and that before what it consists of
+abbrev left : (from to nesting : ℕ) → ℕ
+left from to nesting = (to - from) * 3 + nesting
+
 abbrev μ-enclosed : Measures 2 enclosed-kinds.ps ℕ
-μ-enclosed κs a = (a .1 .1 .1 .1 .1 .0 - a .1 .1 .1 .0) * 3
+μ-enclosed κs a = left (a .1 .1 .1 .0) (a .1 .1 .1 .1 .1 .0) (a .1 .1 .1 .1 .1 .1 .0)
 
 abbrev μ-rest : Measures 2 rest-kinds.ps ℕ
-μ-rest κs a = (a .1 .1 .1 .1 .0 - a .1 .1 .1 .0) * 3
+μ-rest κs a = left (a .1 .1 .1 .0) (a .1 .1 .1 .1 .0) (a .1 .1 .1 .1 .1 .1 .0)
 
 abbrev μ-whole : Measures 2 whole-kinds.ps ℕ
-μ-whole κs a = (a .1 .1 .1 .1 .0 - a .1 .1 .1 .0) * 3 + 1
+μ-whole κs a = left (a .1 .1 .1 .0) (a .1 .1 .1 .1 .0) (a .1 .1 .1 .1 .1 .0) + 1
 
 abbrev μ-part : Measures 2 part-kinds.ps ℕ
-μ-part κs a = (a .1 .1 .1 .1 .0 - a .1 .1 .1 .0) * 3 + 2
+μ-part κs a = left (a .1 .1 .1 .0) (a .1 .1 .1 .1 .0) (a .1 .1 .1 .1 .1 .0) + 2
 
 abbrev enclosed-at : ℕ → In 2 enclosed-kinds.ps
 enclosed-at t = and 2 enclosed-kinds.ps (is 2 enclosed-kinds.ps μ-enclosed t) enclosed.Pre
@@ -87,14 +93,14 @@ abbrev whole-below : ℕ → In 2 whole-kinds.ps
 whole-below t = and 2 whole-kinds.ps (falls 2 whole-kinds.ps _<_ μ-whole t) whole.Pre
 
 abbrev Inv-loop : rest-lts.InvT-loop
-Inv-loop code values base start to first acc₀ i₀ acc i = Going (now code) (now values) base (toZ w64 first) start to (toZ w64 acc) i
+Inv-loop code values base start to first nesting acc₀ i₀ acc i = Going nesting (now code) (now values) base (toZ w64 first) start to (toZ w64 acc) i
 
 abbrev μ-loop : rest-lts.MeasureT-loop
-μ-loop code values base start to first acc₀ i₀ acc i = to - i
+μ-loop code values base start to first nesting acc₀ i₀ acc i = to - i
 
 -- what the callees ask and ensure
 abbrev calls-enclosed : ℕ → enclosed-lts.Claims
-calls-enclosed t = (opens-reads.Asked, opens-reads.Learnt, head-reads.Asked, head-reads.Learnt, leaf-reads.Asked, leaf-reads.Learnt, close-reads.Asked, close-reads.Learnt, whole-below t, whole.Post)
+calls-enclosed t = (opens-reads.Asked, opens-reads.Learnt, head-reads.Asked, head-reads.Learnt, leaf-reads.Asked, leaf-reads.Learnt, close-reads.Asked, close-reads.Learnt, nests-reads.Asked, nests-reads.Learnt, whole-below t, whole.Post)
 
 abbrev calls-part : ℕ → part-lts.Claims
 calls-part t = (is-short-reads.Asked, is-short-reads.Learnt, short-reads.Asked, short-reads.Learnt, whole-below t, whole.Post)
@@ -147,7 +153,7 @@ calls-whole t = (
 enclosed-opens-requires : (t : ℕ) → enclosed-lts.Need-opens-requires (calls-enclosed t) (enclosed-at t) enclosed.Post
 enclosed-opens-requires t c κs =
     let f : c .args .l < addresses = c .fits .l .fits in
-    let r : c .args .at + 2 ≤ c .args .l = at-room _ (now (now (c .args .values))) (c .args .base) _ _ _ (c .pre .1 .1) in
+    let r : c .args .at + 2 ≤ c .args .l = at-room _ _ (now (now (c .args .values))) (c .args .base) _ _ _ (c .pre .1 .1) in
     let q : c .args .at + 2 < addresses = omega arith in
     q
 
@@ -155,40 +161,43 @@ enclosed-add-if1 : (t : ℕ) → enclosed-lts.Need-add-if1 (calls-enclosed t) (e
 enclosed-add-if1 t c =
     let s = c .before in
     let f : s .args .l < addresses = s .fits .l .fits in
-    let r : c .opens .result + 1 ≤ s .args .l = inside-room _ (now (now (s .args .values))) (s .args .base) _ _ _ (s .pre .1 .1) _ (c .opens .ensures) in
+    let r : c .opens .result + 1 ≤ s .args .l = inside-room _ _ (now (now (s .args .values))) (s .args .base) _ _ _ (s .pre .1 .1) _ (c .opens .ensures) in
     record { fits = omega arith }
 
 enclosed-head-requires : (t : ℕ) → enclosed-lts.Need-head-requires (calls-enclosed t) (enclosed-at t) enclosed.Post
 enclosed-head-requires t c κs =
     let s = c .before .before .before in
-    inside-in _ (now (now (s .args .values))) (s .args .base) _ _ _ (s .pre .1 .1) _ (c .before .before .opens .ensures)
+    inside-in _ _ (now (now (s .args .values))) (s .args .base) _ _ _ (s .pre .1 .1) _ (c .before .before .opens .ensures)
 
 enclosed-leaf-requires : (t : ℕ) → enclosed-lts.Need-leaf-requires (calls-enclosed t) (enclosed-at t) enclosed.Post
 enclosed-leaf-requires t c κs =
     let s = c .before .before .before .before .before .before in
     let opens = c .before .before .before .before .before .opens in
     let one = c .before .before .before .before .if1 .taken in
-    (s .pre .1 .0, short-leaf _ (now (now (s .args .values))) (s .args .base) _ _ _ (s .pre .1 .1) _ (opens .ensures) one _ (c .before .before .head .ensures) (search needs))
+    (s .pre .1 .0, short-leaf _ _ (now (now (s .args .values))) (s .args .base) _ _ _ (s .pre .1 .1) _ (opens .ensures) one _ (c .before .before .head .ensures) (search needs))
 
 enclosed-close-requires : (t : ℕ) → enclosed-lts.Need-close-requires (calls-enclosed t) (enclosed-at t) enclosed.Post
 enclosed-close-requires t c κs =
     let s = c .before .before .before .before .before .before .before in
-    (s .pre .1 .0, closes _ (now (now (s .args .values))) (s .args .base) _ _ _ (s .pre .1 .1), small-leaf (c .leaf .result) (search needs) (c .leaf .ensures))
+    (s .pre .1 .0, closes _ _ (now (now (s .args .values))) (s .args .base) _ _ _ (s .pre .1 .1), small-leaf (c .leaf .result) (search needs) (c .leaf .ensures))
 
 enclosed-returns : (t : ℕ) → enclosed-lts.Need-returns (calls-enclosed t) (enclosed-at t) enclosed.Post
 enclosed-returns t c = search (needs, entered-short)
 
+enclosed-nests-requires : (t : ℕ) → enclosed-lts.Need-nests-requires (calls-enclosed t) (enclosed-at t) enclosed.Post
+enclosed-nests-requires t c κs = search (needs, nests-some)
+
 enclosed-whole-requires : (t : ℕ) → enclosed-lts.Need-whole-requires (calls-enclosed t) (enclosed-at t) enclosed.Post
 enclosed-whole-requires t c κs =
-    let s = c .before .before .before in
-    let opens = c .before .before .opens in
-    let q : (s .args .l - opens .result) * 3 + 1 < (s .args .l - s .args .at) * 3 = inside-less _ (now (now (s .args .values))) (s .args .base) _ _ _ (s .pre .1 .1) _ (opens .ensures) in
-    (omega (arith, q), (s .pre .1 .0, inside-stands _ (now (now (s .args .values))) (s .args .base) _ _ _ (s .pre .1 .1) _ (opens .ensures)))
+    let opened = c .before .before .before in
+    let s = opened .before in
+    let inside = inside-less (s .args .nesting) _ (now (now (s .args .values))) (s .args .base) _ _ _ (s .pre .1 .1) _ (opened .opens .ensures) _ (c .nests .ensures) in
+    (omega (arith, inside, s .pre .0), (s .pre .1 .0, inside-stands (s .args .nesting) _ (now (now (s .args .values))) (s .args .base) _ _ _ (s .pre .1 .1) _ (opened .opens .ensures) _ (c .nests .ensures)))
 
 enclosed-close-requires-2 : (t : ℕ) → enclosed-lts.Need-close-requires-2 (calls-enclosed t) (enclosed-at t) enclosed.Post
 enclosed-close-requires-2 t c κs =
-    let s = c .before .before .before .before in
-    (s .pre .1 .0, closes _ (now (now (s .args .values))) (s .args .base) _ _ _ (s .pre .1 .1), small-read (c .whole .result) (search needs) (c .whole .ensures .small))
+    let s = c .before .before .before .before .before in
+    (s .pre .1 .0, closes _ _ (now (now (s .args .values))) (s .args .base) _ _ _ (s .pre .1 .1), small-read (c .whole .result) (search needs) (c .whole .ensures .small))
 
 enclosed-returns-2 : (t : ℕ) → enclosed-lts.Need-returns-2 (calls-enclosed t) (enclosed-at t) enclosed.Post
 enclosed-returns-2 t c = search (needs, entered)
@@ -218,7 +227,7 @@ turn-fits t h =
     let s = h .before .before .before .before in
     let l = h .before .before .before .loop in
     let f : s .args .to < addresses = s .fits .to .fits in
-    let r : l .i + 2 ≤ s .args .to = turn-room _ _ _ _ _ _ _ _ (l .inv) (h .before .before .loop-test .taken) in
+    let r : l .i + 2 ≤ s .args .to = turn-room _ _ _ _ _ _ _ _ _ (l .inv) (h .before .before .loop-test .taken) in
     omega arith
 
 -- ---- operators: the right side was read, a span or a leaf
@@ -229,7 +238,7 @@ abbrev IsSided : (t : ℕ) (h : Turn t) (b : ℤ) (r : ℕ) → Type 0
 IsSided t h b r =
     let s = h .before .before .before .before .args in
     let l = h .before .before .before .loop in
-    Sided (now (now (s .code))) (now (now (s .values))) (s .base) (read (s .first)) (s .start) (s .to) (toZ w64 (l .acc)) (l .i) (l .inv) (h .before .before .loop-test .taken)
+    Sided (s .nesting) (now (now (s .code))) (now (now (s .values))) (s .base) (read (s .first)) (s .start) (s .to) (toZ w64 (l .acc)) (l .i) (l .inv) (h .before .before .loop-test .taken)
     (h .head .result) (h .head .ensures) b r
 
 -- as it is handed on
@@ -237,7 +246,7 @@ sided-so : (t : ℕ) (h : Turn t) (b : ℤ) (r : ℕ) → SFits w64 b → IsSide
 sided-so t h b r f d =
     let s = h .before .before .before .before .args in
     let l = h .before .before .before .loop in
-    sided-read (now (now (s .code))) (now (now (s .values))) (s .base) (read (s .first)) (s .start) (s .to) (toZ w64 (l .acc)) (l .i) (l .inv) (h .before .before .loop-test .taken)
+    sided-read (s .nesting) (now (now (s .code))) (now (now (s .values))) (s .base) (read (s .first)) (s .start) (s .to) (toZ w64 (l .acc)) (l .i) (l .inv) (h .before .before .loop-test .taken)
     (h .head .result) (h .head .ensures) b r f d
 
 sided : (t : ℕ) (c : Siding t) → IsSided t (c .before) (toZ w64 (c .if1 .b)) (c .if1 .r)
@@ -247,16 +256,16 @@ sided t c =
     let l = h .before .before .before .loop in
     ⊎-elim
     (λ k. subst₂ (λ (b r : ℕ). IsSided t h (toZ w64 b) r) (sym (k .8)) (sym (k .9)) (sided-so t h (k .5 .result) (k .2 .result) (search needs)
-    (side-span (now (now (s .code))) (now (now (s .values))) (s .base) (read (s .first)) (s .start) (s .to) (toZ w64 (l .acc)) (l .i) (l .inv) (h .before .before .loop-test .taken)
+    (side-span (s .nesting) (now (now (s .code))) (now (now (s .values))) (s .base) (read (s .first)) (s .start) (s .to) (toZ w64 (l .acc)) (l .i) (l .inv) (h .before .before .loop-test .taken)
     (h .head .result) (h .head .ensures) (k .0 .taken) (k .2 .result) (k .2 .ensures .same) (k .5 .result) (k .5 .ensures)
     (told (k .5 .result) (k .6 .result) true (search needs) (k .6 .ensures) (not-false _ (k .7 .left))))))
     (λ k. subst₂ (λ (b r : ℕ). IsSided t h (toZ w64 b) r) (sym (k .3)) (sym (k .4)) (sided-so t h (k .2 .result) _ (search needs)
-    (side-leaf (now (now (s .code))) (now (now (s .values))) (s .base) (read (s .first)) (s .start) (s .to) (toZ w64 (l .acc)) (l .i) (l .inv) (h .before .before .loop-test .taken)
+    (side-leaf (s .nesting) (now (now (s .code))) (now (now (s .values))) (s .base) (read (s .first)) (s .start) (s .to) (toZ w64 (l .acc)) (l .i) (l .inv) (h .before .before .loop-test .taken)
     (h .head .result) (h .head .ensures) (k .0 .left) (k .2 .result) (k .2 .ensures))))
     (c .if1 .came)
 
 rest-loop-holds : (t : ℕ) → rest-lts.Need-loop-holds (calls-rest t) (rest-at t) rest.Post Inv-loop μ-loop
-rest-loop-holds t c = goes-begun _ _ _ (c .args .first) _ _ (search needs) (c .pre .1 .1)
+rest-loop-holds t c = goes-begun _ _ _ _ (c .args .first) _ _ (search needs) (c .pre .1 .1)
 
 rest-head-requires : (t : ℕ) → rest-lts.Need-head-requires (calls-rest t) (rest-at t) rest.Post Inv-loop μ-loop
 rest-head-requires t c κs = search (needs, turn-in)
@@ -288,7 +297,7 @@ rest-whole-requires t c κs =
     let spans = c .before .before .before .before .before .before .before .if1 .taken in
     let linked = c .before .before .before .before .before .link .ensures .same in
     let stores = turn .before .before .before .before .pre .1 .0 in
-    (omega (arith, c .if4 .taken, span-less _ _ _ _ _ _ _ _ going more _ word spans _ linked), (stores, last-stands _ _ _ _ _ _ _ _ going more _ word spans _ linked (c .if4 .taken)))
+    (omega (arith, c .if4 .taken, span-less _ _ _ _ _ _ _ _ _ going more _ word spans _ linked), (stores, last-stands _ _ _ _ _ _ _ _ _ going more _ word spans _ linked (c .if4 .taken)))
 
 rest-returns : (t : ℕ) → rest-lts.Need-returns (calls-rest t) (rest-at t) rest.Post Inv-loop μ-loop
 rest-returns t c =
@@ -300,8 +309,8 @@ rest-returns t c =
     let linked = c .before .before .before .before .before .before .link .ensures .same in
     let skips = c .before .before .before .before .before .skips .ensures .right (c .before .before .before .before .if2 .taken) in
     let unknown = sym (c .before .before .before .is-known .ensures) ∙ not-true _ (c .before .before .if3 .taken) in
-    followed-read _ _ _ _ _ _ (search needs) (c .whole .result) (search needs)
-    (skip-last _ _ _ _ _ _ _ _ going more _ word spans _ linked (λ b. skips _ b unknown) (c .whole .result) (c .before .if4 .taken) (c .whole .ensures))
+    followed-read _ _ _ _ _ _ _ (search needs) (c .whole .result) (search needs)
+    (skip-last _ _ _ _ _ _ _ _ _ going more _ word spans _ linked (λ b. skips _ b unknown) (c .whole .result) (c .before .if4 .taken) (c .whole .ensures))
 
 rest-add-part : (t : ℕ) → rest-lts.Need-add-part (calls-rest t) (rest-at t) rest.Post Inv-loop μ-loop
 rest-add-part t c =
@@ -318,7 +327,7 @@ rest-part-requires t c κs =
     let spans = c .before .before .before .before .before .before .before .if1 .taken in
     let linked = c .before .before .before .before .before .link .ensures .same in
     let stores = turn .before .before .before .before .pre .1 .0 in
-    (omega (arith, span-less _ _ _ _ _ _ _ _ going more _ word spans _ linked), (stores, span-stands _ _ _ _ _ _ _ _ going more _ word spans _ linked))
+    (omega (arith, span-less _ _ _ _ _ _ _ _ _ going more _ word spans _ linked), (stores, span-stands _ _ _ _ _ _ _ _ _ going more _ word spans _ linked))
 
 rest-is-value-requires : (t : ℕ) → rest-lts.Need-is-value-requires (calls-rest t) (rest-at t) rest.Post Inv-loop μ-loop
 rest-is-value-requires t c κs = search needs
@@ -334,8 +343,8 @@ rest-returns-2 t c =
     let part = c .before .before .part in
     let value = c .before .is-value in
     let unknown = sym (c .before .before .before .before .before .is-known .ensures) ∙ not-true _ (c .before .before .before .before .if3 .taken) in
-    followed-read _ _ _ _ _ _ (search needs) (part .result) (search needs)
-    (right-fails _ _ _ _ _ _ _ _ going more _ word spans _ linked (part .result) (part .ensures) unknown
+    followed-read _ _ _ _ _ _ _ (search needs) (part .result) (search needs)
+    (right-fails _ _ _ _ _ _ _ _ _ going more _ word spans _ linked (part .result) (part .ensures) unknown
     (told (part .result) (value .result) false (search needs) (value .ensures) (not-true _ (c .if5 .taken))))
 
 rest-loop-less : (t : ℕ) → rest-lts.Need-loop-less (calls-rest t) (rest-at t) rest.Post Inv-loop μ-loop
@@ -346,7 +355,7 @@ rest-loop-less t c =
     let word = turn .head .ensures in
     let spans = c .before .before .before .before .before .before .before .before .before .before .if1 .taken in
     let linked = c .before .before .before .before .before .before .before .before .link .ensures .same in
-    span-past _ _ _ _ _ _ _ _ going more _ word spans _ linked
+    span-past _ _ _ _ _ _ _ _ _ going more _ word spans _ linked
 
 rest-loop-again : (t : ℕ) → rest-lts.Need-loop-again (calls-rest t) (rest-at t) rest.Post Inv-loop μ-loop
 rest-loop-again t c =
@@ -360,8 +369,8 @@ rest-loop-again t c =
     let value = c .before .is-value in
     let skips = c .before .before .before .before .before .before .before .skips .ensures .right (c .before .before .before .before .before .before .if2 .taken) in
     let unknown = sym (c .before .before .before .before .before .is-known .ensures) ∙ not-true _ (c .before .before .before .before .if3 .taken) in
-    going-read _ _ _ _ _ _ (part .result) _ (search needs)
-    (skip-on _ _ _ _ _ _ _ _ going more _ word spans _ linked (λ b. skips _ b unknown) (part .result) (part .ensures)
+    going-read _ _ _ _ _ _ _ (part .result) _ (search needs)
+    (skip-on _ _ _ _ _ _ _ _ _ going more _ word spans _ linked (λ b. skips _ b unknown) (part .result) (part .ensures)
     (told (part .result) (value .result) true (search needs) (value .ensures) (not-false _ (c .if5 .left))))
 
 rest-loop-less-2 : (t : ℕ) → rest-lts.Need-loop-less-2 (calls-rest t) (rest-at t) rest.Post Inv-loop μ-loop
@@ -372,7 +381,7 @@ rest-loop-less-2 t c =
     let word = turn .head .ensures in
     let spans = c .before .before .before .before .before .before .if1 .taken in
     let linked = c .before .before .before .before .link .ensures .same in
-    span-past _ _ _ _ _ _ _ _ going more _ word spans _ linked
+    span-past _ _ _ _ _ _ _ _ _ going more _ word spans _ linked
 
 rest-loop-again-2 : (t : ℕ) → rest-lts.Need-loop-again-2 (calls-rest t) (rest-at t) rest.Post Inv-loop μ-loop
 rest-loop-again-2 t c =
@@ -382,7 +391,7 @@ rest-loop-again-2 t c =
     let word = turn .head .ensures in
     let spans = c .before .before .before .before .before .before .if1 .taken in
     let linked = c .before .before .before .before .link .ensures .same in
-    skip-known _ _ _ _ _ _ _ _ going more _ word spans _ linked (sym (c .before .is-known .ensures) ∙ not-false _ (c .if3 .left))
+    skip-known _ _ _ _ _ _ _ _ _ going more _ word spans _ linked (sym (c .before .is-known .ensures) ∙ not-false _ (c .if3 .left))
 
 rest-add-part-2 : (t : ℕ) → rest-lts.Need-add-part-2 (calls-rest t) (rest-at t) rest.Post Inv-loop μ-loop
 rest-add-part-2 t c = let q = turn-fits t (c .before .before .before .before .before) in record { fits = omega arith }
@@ -396,7 +405,7 @@ rest-part-requires-2 t c κs =
     let spans = c .before .before .before .before .if1 .taken in
     let linked = c .before .before .link .ensures .same in
     let stores = turn .before .before .before .before .pre .1 .0 in
-    (omega (arith, span-less _ _ _ _ _ _ _ _ going more _ word spans _ linked), (stores, span-stands _ _ _ _ _ _ _ _ going more _ word spans _ linked))
+    (omega (arith, span-less _ _ _ _ _ _ _ _ _ going more _ word spans _ linked), (stores, span-stands _ _ _ _ _ _ _ _ _ going more _ word spans _ linked))
 
 rest-is-value-requires-2 : (t : ℕ) → rest-lts.Need-is-value-requires-2 (calls-rest t) (rest-at t) rest.Post Inv-loop μ-loop
 rest-is-value-requires-2 t c κs = search needs
@@ -412,8 +421,8 @@ rest-returns-3 t c =
     let part = c .before .before .part2 in
     let value = c .before .is-value2 in
     let unknown = c .before .before .before .before .skips .ensures .plain (c .before .before .before .if2 .left) _ in
-    followed-read _ _ _ _ _ _ (search needs) (part .result) (search needs)
-    (right-fails _ _ _ _ _ _ _ _ going more _ word spans _ linked (part .result) (part .ensures) unknown
+    followed-read _ _ _ _ _ _ _ (search needs) (part .result) (search needs)
+    (right-fails _ _ _ _ _ _ _ _ _ going more _ word spans _ linked (part .result) (part .ensures) unknown
     (told (part .result) (value .result) false (search needs) (value .ensures) (not-true _ (c .if6 .taken))))
 
 rest-leaf-requires : (t : ℕ) → rest-lts.Need-leaf-requires (calls-rest t) (rest-at t) rest.Post Inv-loop μ-loop
@@ -423,7 +432,7 @@ rest-leaf-requires t c κs =
     let more = turn .before .before .loop-test .taken in
     let word = turn .head .ensures in
     let stores = turn .before .before .before .before .pre .1 .0 in
-    (stores, fused-leaf _ _ _ _ _ _ _ _ going more _ word (c .before .if1 .left) (search needs))
+    (stores, fused-leaf _ _ _ _ _ _ _ _ _ going more _ word (c .before .if1 .left) (search needs))
 
 rest-operate-requires : (t : ℕ) → rest-lts.Need-operate-requires (calls-rest t) (rest-at t) rest.Post Inv-loop μ-loop
 rest-operate-requires t c κs = (c .before .before .before .before .loop .inv .small, sided t c .small)
@@ -442,8 +451,8 @@ rest-returns-4 t c =
     let word = turn .head .ensures in
     let worked = c .before .before .before .operate in
     let failing = c .before .before .is-failing in
-    followed-read _ _ _ _ _ _ (search needs) (c .failure .result) (search needs)
-    (turn-fails _ _ _ _ _ _ _ _ going more _ word _ _ (sided t (c .before .before .before .before)) (worked .result) (worked .ensures)
+    followed-read _ _ _ _ _ _ _ (search needs) (c .failure .result) (search needs)
+    (turn-fails _ _ _ _ _ _ _ _ _ going more _ word _ _ (sided t (c .before .before .before .before)) (worked .result) (worked .ensures)
     (failing-is _ (worked .result) (failing .result) true (search needs) (failing .ensures) (c .before .if7 .taken)) (c .failure .result) (c .failure .ensures))
 
 rest-loop-less-3 : (t : ℕ) → rest-lts.Need-loop-less-3 (calls-rest t) (rest-at t) rest.Post Inv-loop μ-loop
@@ -452,7 +461,7 @@ rest-loop-less-3 t c =
     let going = turn .before .before .before .loop .inv in
     let more = turn .before .before .loop-test .taken in
     let word = turn .head .ensures in
-    turn-less _ _ _ _ _ _ _ _ going more _ word _ _ (sided t (c .before .before .before))
+    turn-less _ _ _ _ _ _ _ _ _ going more _ word _ _ (sided t (c .before .before .before))
 
 rest-loop-again-3 : (t : ℕ) → rest-lts.Need-loop-again-3 (calls-rest t) (rest-at t) rest.Post Inv-loop μ-loop
 rest-loop-again-3 t c =
@@ -462,12 +471,12 @@ rest-loop-again-3 t c =
     let word = turn .head .ensures in
     let worked = c .before .before .operate in
     let failing = c .before .is-failing in
-    going-read _ _ _ _ _ _ (worked .result) _ (search needs)
-    (goes _ _ _ _ _ _ _ _ going more _ word _ _ (sided t (c .before .before .before)) (worked .result) (worked .ensures)
+    going-read _ _ _ _ _ _ _ (worked .result) _ (search needs)
+    (goes _ _ _ _ _ _ _ _ _ going more _ word _ _ (sided t (c .before .before .before)) (worked .result) (worked .ensures)
     (failing-is _ (worked .result) (failing .result) false (search needs) (failing .ensures) (c .if7 .left)))
 
 rest-returns-5 : (t : ℕ) → rest-lts.Need-returns-5 (calls-rest t) (rest-at t) rest.Post Inv-loop μ-loop
-rest-returns-5 t c = followed-first _ _ _ _ _ _ _ (search needs) (ends _ _ _ _ _ _ _ _ (c .before .loop .inv) (c .loop-test .left))
+rest-returns-5 t c = followed-first _ _ _ _ _ _ _ _ (search needs) (ends _ _ _ _ _ _ _ _ _ (c .before .loop .inv) (c .loop-test .left))
 
 -- ---- a span
 whole-head-requires : (t : ℕ) → whole-lts.Need-head-requires (calls-whole t) (whole-at t) whole.Post
@@ -476,12 +485,12 @@ whole-head-requires t c κs = search (needs, stands-in)
 whole-add-i : (t : ℕ) → whole-lts.Need-add-i (calls-whole t) (whole-at t) whole.Post
 whole-add-i t c =
     let s = c .before .before in
-    let f : s .args .to < addresses = s .fits .to .fits in let r : s .args .from < s .args .to = stands-less _ (now (now (s .args .values))) (s .args .base) _ _ (s .pre .1 .1) in record { fits = omega arith }
+    let f : s .args .to < addresses = s .fits .to .fits in let r : s .args .from < s .args .to = stands-less _ _ (now (now (s .args .values))) (s .args .base) _ _ (s .pre .1 .1) in record { fits = omega arith }
 
 whole-leaf-requires : (t : ℕ) → whole-lts.Need-leaf-requires (calls-whole t) (whole-at t) whole.Post
 whole-leaf-requires t c κs =
     let s = c .before .before .before .before in
-    (s .pre .1 .0, first-leaf _ (now (now (s .args .values))) (s .args .base) _ _ (s .pre .1 .1) _ (c .before .before .head .ensures) (c .before .if1 .taken) (search needs))
+    (s .pre .1 .0, first-leaf _ _ (now (now (s .args .values))) (s .args .base) _ _ (s .pre .1 .1) _ (c .before .before .head .ensures) (c .before .if1 .taken) (search needs))
 
 whole-link-requires : (t : ℕ) → whole-lts.Need-link-requires (calls-whole t) (whole-at t) whole.Post
 whole-link-requires t c κs = search (needs, stands-in)
@@ -492,7 +501,7 @@ whole-enclosed-requires t c κs =
     let word = c .before .before .before .head .ensures in
     let inside = c .before .before .if1 .left in
     let linked = c .link .ensures .same in
-    (omega (arith, encloses-on _ (now (now (s .args .values))) (s .args .base) _ _ (s .pre .1 .1) _ word inside _ linked), (s .pre .1 .0, encloses _ (now (now (s .args .values))) (s .args .base) _ _ (s .pre .1 .1) _ word inside _ linked))
+    (omega (arith, encloses-on _ _ (now (now (s .args .values))) (s .args .base) _ _ (s .pre .1 .1) _ word inside _ linked), (s .pre .1 .0, encloses _ _ (now (now (s .args .values))) (s .args .base) _ _ (s .pre .1 .1) _ word inside _ linked))
 
 whole-is-value-requires : (t : ℕ) → whole-lts.Need-is-value-requires (calls-whole t) (whole-at t) whole.Post
 whole-is-value-requires t c κs = search needs
@@ -505,8 +514,8 @@ whole-returns t c =
     let linked = c .before .before .before .link .ensures .same in
     let enclosed = c .before .before .enclosed in
     let value = c .before .is-value in
-    evaluated-read _ _ _ _ _ (enclosed .result) (search needs)
-    (start-fails _ (now (now (s .args .values))) (s .args .base) _ _ (s .pre .1 .1) _ word inside _ linked (enclosed .result) (enclosed .ensures)
+    evaluated-read _ _ _ _ _ _ (enclosed .result) (search needs)
+    (start-fails _ _ (now (now (s .args .values))) (s .args .base) _ _ (s .pre .1 .1) _ word inside _ linked (enclosed .result) (enclosed .ensures)
     (told (enclosed .result) (value .result) false (search needs) (value .ensures) (not-true _ (c .if2 .taken))))
 
 whole-ends-requires : (t : ℕ) → whole-lts.Need-ends-requires (calls-whole t) (whole-at t) whole.Post
@@ -516,7 +525,7 @@ abbrev Opening : ℕ → Type 0
 Opening t = whole-lts.Joined1 (calls-whole t) (whole-at t) whole.Post
 
 abbrev IsOpened : (t : ℕ) (c : Opening t) (a i : ℕ) → Type 0
-IsOpened t c a i = Opened _ (now (now (c .before .before .before .args .values))) (c .before .before .before .args .base) _ _ (c .before .before .before .pre .1 .1) (toZ w64 a) i
+IsOpened t c a i = Opened _ _ (now (now (c .before .before .before .args .values))) (c .before .before .before .args .base) _ _ (c .before .before .before .pre .1 .1) (toZ w64 a) i
 
 opened : (t : ℕ) (c : Opening t) → IsOpened t c (c .if1 .acc) (c .if1 .i)
 opened t c =
@@ -524,9 +533,9 @@ opened t c =
     let word = c .before .head in
     ⊎-elim
     (λ k. subst₂ (IsOpened t c) (sym (k .3)) (sym (k .4))
-    (start-leaf _ (now (now (s .args .values))) (s .args .base) _ _ (s .pre .1 .1) (word .result) (word .ensures) (k .0 .taken) (k .2 .result) (search needs) (k .2 .ensures)))
+    (start-leaf _ _ (now (now (s .args .values))) (s .args .base) _ _ (s .pre .1 .1) (word .result) (word .ensures) (k .0 .taken) (k .2 .result) (search needs) (k .2 .ensures)))
     (λ k. subst₂ (IsOpened t c) (sym (k .7)) (sym (k .8 ∙ k .6 .ensures))
-    (start-enclosed _ (now (now (s .args .values))) (s .args .base) _ _ (s .pre .1 .1) (word .result) (word .ensures) (k .0 .left) (k .2 .result) (k .2 .ensures .same)
+    (start-enclosed _ _ (now (now (s .args .values))) (s .args .base) _ _ (s .pre .1 .1) (word .result) (word .ensures) (k .0 .left) (k .2 .result) (k .2 .ensures .same)
     (k .3 .result) (k .3 .ensures) (search needs)
     (told (k .3 .result) (k .4 .result) true (search needs) (k .4 .ensures) (not-false _ (k .5 .left)))))
     (c .if1 .came)
@@ -534,12 +543,12 @@ opened t c =
 whole-rest-requires : (t : ℕ) → whole-lts.Need-rest-requires (calls-whole t) (whole-at t) whole.Post
 whole-rest-requires t c κs =
     let s = c .before .before .before in
-    (omega (arith, opened t c .after, opened t c .on), (s .pre .1 .0, opened-follows _ (now (now (s .args .values))) (s .args .base) _ _ (s .pre .1 .1) _ _ (opened t c)))
+    (omega (arith, opened t c .after, opened t c .on), (s .pre .1 .0, opened-follows _ _ (now (now (s .args .values))) (s .args .base) _ _ (s .pre .1 .1) _ _ (opened t c)))
 
 whole-returns-2 : (t : ℕ) → whole-lts.Need-returns-2 (calls-whole t) (whole-at t) whole.Post
 whole-returns-2 t c =
     let s = c .before .before .before .before in
-    evaluated-read _ _ _ _ _ (c .rest .result) (search needs) (opened-evaluated _ (now (now (s .args .values))) (s .args .base) _ _ (s .pre .1 .1) _ _ (opened t (c .before)) (c .rest .result) (c .rest .ensures))
+    evaluated-read _ _ _ _ _ _ (c .rest .result) (search needs) (opened-evaluated _ _ (now (now (s .args .values))) (s .args .base) _ _ (s .pre .1 .1) _ _ (opened t (c .before)) (c .rest .result) (c .rest .ensures))
 
 pub +enclosed+part+rest+whole-spec : {M : Type 1} → statement M
 +enclosed+part+rest+whole-spec =
@@ -551,6 +560,7 @@ pub +enclosed+part+rest+whole-spec : {M : Type 1} → statement M
     (enclosed-leaf-requires t)
     (enclosed-close-requires t)
     (enclosed-returns t)
+    (enclosed-nests-requires t)
     (enclosed-whole-requires t)
     (enclosed-close-requires-2 t)
     (enclosed-returns-2 t))

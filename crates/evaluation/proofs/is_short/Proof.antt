@@ -6,7 +6,7 @@ use Rattle.evaluation.proofs.is_short.Statement.{statement}
 use Rattle.evaluation.proofs.is_short.Tie as tie
 
 add-if1 : tie.Need-add-if1
-add-if1 c = omega (arith, shorts-first (now (c .before .args .code)) (c .before .args .from) (c .before .args .to) (c .before .pre))
+add-if1 c = let s = c .before in omega (arith, shorts-first (now (s .args .code)) (s .args .from) (s .args .to) (s .args .nesting) (s .pre))
 
 head-requires : tie.Need-head-requires
 head-requires c κs = search (needs, shorts-first)

@@ -10,7 +10,9 @@ head-requires : tie.Need-head-requires
 head-requires c κs = search (needs, stands-in)
 
 add-head : tie.Need-add-head
-add-head c = omega (arith, stands-in (now (c .before .before .before .args .code)) (now (c .before .before .before .args .values)) (c .before .before .before .args .base) (c .before .before .before .args .from) (c .before .before .before .args .to) (c .before .before .before .pre .1))
+add-head c =
+    let s = c .before .before .before in
+    omega (arith, stands-in (s .args .nesting) (now (s .args .code)) (now (s .args .values)) (s .args .base) (s .args .from) (s .args .to) (s .pre .1))
 
 head-requires-2 : tie.Need-head-requires-2
 head-requires-2 c κs = search (needs, short-second)

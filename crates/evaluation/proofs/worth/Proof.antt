@@ -8,7 +8,8 @@ use Rattle.evaluation.proofs.worth.Tie as tie
 
 add-if1 : tie.Need-add-if1
 add-if1 c =
-    omega (arith, stands-in (now (c .before .before .args .code)) (now (c .before .before .args .values)) (c .before .before .args .base) (c .before .before .args .from) (c .before .before .args .to) (c .before .before .pre .1))
+    let s = c .before .before in
+    omega (arith, stands-in _ (now (s .args .code)) (now (s .args .values)) (s .args .base) (s .args .from) (s .args .to) (s .pre .1))
 
 head-requires : tie.Need-head-requires
 head-requires c κs = search (needs, stands-in)

@@ -1,4 +1,5 @@
 use borrow.Author.Needs.{needs}
+use Rattle.paper.specs.Sorts.{NOT, plus, minusSign}
 use Rattle.climb.specs.Rise.{height}
 use Rattle.expressions.proofs.Operators.{height-here, height-none}
 use Rattle.expressions.proofs.covered.Statement.{statement}
@@ -6,15 +7,15 @@ use Rattle.expressions.proofs.covered.Tie as tie
 
 returns : tie.Need-returns
 unfolding height
-returns c = height-here _ 65 (c .if1 .taken)
+returns c = height-here _ NOT (c .if1 .taken)
 
 returns-2 : tie.Need-returns-2
 unfolding height
-returns-2 c = height-here _ 18 (c .if2 .taken)
+returns-2 c = height-here _ plus (c .if2 .taken)
 
 returns-3 : tie.Need-returns-3
 unfolding height
-returns-3 c = height-here _ 19 (c .if3 .taken)
+returns-3 c = height-here _ minusSign (c .if3 .taken)
 
 returns-4 : tie.Need-returns-4
 returns-4 c = search (needs, height-none)
