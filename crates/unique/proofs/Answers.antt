@@ -36,10 +36,6 @@ module _ (fs : List Fault) where
   same-answer k i l j answer p q = ap (λ (f : Fault). answer (f .number) (f .at)) (first-unique (faultAt k i) (faultAt l j) p q)
 
 -- ---- a walk that fills a scope
--- the scope that comes back, by the words that are used
-abbrev pub scopeWith : (used : ℕ) → Scope
-scopeWith used = record { used = used }
-
 -- From a piece with these faults it comes to the word `to`, with this scope.
 unfoldable pub Comes : (fs : List Fault) (to : ℕ) (end : Scope) → Walked → Type 0
 Comes fs to end (walked.Upto next scope) = (fs ≡ []) × (next ≡ to) × (scope ≡ end)

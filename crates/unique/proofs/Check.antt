@@ -2,7 +2,7 @@
 -- What a function asks of its callers (`Stands`, `Asks`, `Begins`, ..) is what each theorem asks: of other stores nothing is promised.
 use mathlib.Core.Path.{_≡_, sym, ap, ap₂, subst, _∙_}
 use mathlib.Core.Bool.{Bool}
-use mathlib.Core.List.{List, []}
+use mathlib.Core.List.{List}
 use mathlib.Core.Option.{some}
 use Prim.Native.Nat.{ℕ, _+_, _*_}
 use lib.ListN.{length}
@@ -37,11 +37,12 @@ use Rattle.constants.specs.declared.Sized.the-variants as sized
 use Rattle.constants.specs.Answers.{HeldAs, Asks, Values, SaysSize, Sizes}
 use Rattle.constants.specs.Answers as constants
 use Rattle.names.specs.declared.Scope.{Scope}
+use Rattle.names.specs.Scopes.{withUsed, Grown, Stays, BackTo}
 use Rattle.names.specs.declared.Walked.{Walked}
 use Rattle.names.specs.declared.Walked.the-variants as walked
 use Rattle.datum.specs.Answers as datum
 use Rattle.declarations.specs.Answers.{DataStand, SaysModule, DeclaresModule, RoutineStands, routineAfter, SaysRoutine, DeclaresRoutine}
-use Rattle.parameters.specs.Answers.{ParametersStand, parametersAfter, OtherWords, SaysParameters, DeclaresParameters}
+use Rattle.parameters.specs.Answers.{ParametersStand, withParameters, Opens, parametersAfter, OtherWords, SaysParameters, DeclaresParameters}
 use Rattle.leaving.specs.Answers.{Leaving}
 use Rattle.leaving.specs.Answers as leaving
 use Rattle.links.specs.Raw.{RawList}
@@ -50,10 +51,8 @@ use Rattle.around.specs.Around.{groundOf}
 use Rattle.simple.specs.Answers as simple
 use Rattle.compounds.specs.Parts.{ForHeads, ForHeaded, CaseValues, CaseValued}
 use Rattle.statements.specs.Answers as statements
-use Rattle.routines.specs.declared.Walked as passing
-use Rattle.routines.specs.declared.Walked.the-variants as passed
 use Rattle.routines.specs.Answers as routines
-use Rattle.unique.proofs.Answers.{faultAt, no-first, same-answer, scopeWith, Comes, walk-unique, SameWalk, SameOutside, kept-unique, SameOthers, changed-unique, SameBut, first-link, SaySame, answer-unique}
+use Rattle.unique.proofs.Answers.{faultAt, no-first, same-answer, Comes, walk-unique, SameWalk, SameOutside, kept-unique, SameOthers, changed-unique, SameBut, first-link, SaySame, answer-unique}
 use Rattle.unique.proofs.Names.{SameMeans, means-unique, SameFilled, filled-unique}
 use Rattle.unique.proofs.Stores.{SameCells, same-cells}
 
@@ -118,118 +117,137 @@ module _ (code values c d : List ℕ) (at : ℕ) (a : Asks code values at) where
 
 -- ---- declarations
 -- the answer; where no rule is broken, the cells outside of what is walked over, and what the value store says
-module _ (code values c d v w : List ℕ) (r s : Walked) where
-  -- what is promised of an answer (`P`, `Q`), and what follows of it where no rule is broken
-  same-walk : (fs : List Fault) (to : ℕ) (end : Scope) (P Q : Walked → Type 0) (holds : Type 0) → ((x : Walked) → P x → Comes fs to end x) → ((x : Walked) → Q x → Comes fs to end x)
-      → ((next : ℕ) (scope : Scope) → P (walked.Upto next scope) → Q (walked.Upto next scope) → holds) → P r → Q s → SameWalk r s holds
-  same-walk fs to end P Q holds one other both p q =
-      let e = walk-unique fs to end r s (one r p) (other s q) in
-      record { answer = e; stores = λ next scope k. both next scope (subst P k p) (subst Q (sym e ∙ k) q) }
+grown : (before end : Scope) (used : ℕ) → Grown before end → end .used ≡ used → end ≡ withUsed used before
+grown before end used g e = g .rest ∙ ap (λ (u : ℕ). withUsed u before) e
 
-  module _ (own limit used i : ℕ) (b : datum.Begins code values own limit used i) where
-    datum-comes : (c v : List ℕ) (x : Walked) → datum.Says b c v x → Comes (datum.faultsOf b) (b .to) (scopeWith (length (datum.after b .words))) x
+-- what is promised of an answer (`P`, `Q`), and what follows of it where no rule is broken
+same-walk : (r s : Walked) (fs : List Fault) (to : ℕ) (end : Scope) (P Q : Walked → Type 0) (holds : Type 0) → ((x : Walked) → P x → Comes fs to end x) → ((x : Walked) → Q x → Comes fs to end x)
+    → ((next : ℕ) (scope : Scope) → P (walked.Upto next scope) → Q (walked.Upto next scope) → holds) → P r → Q s → SameWalk r s holds
+same-walk r s fs to end P Q holds one other both p q =
+    let e = walk-unique fs to end r s (one r p) (other s q) in
+    record { answer = e; stores = λ next scope k. both next scope (subst P k p) (subst Q (sym e ∙ k) q) }
+
+module _ (code values c d v w : List ℕ) (r s : Walked) where
+  module _ (scope : Scope) (own limit i : ℕ) (b : datum.Begins code values own limit (scope .used) i) where
+    abbrev DatumSays : (c v : List ℕ) → Walked → Type 0
+    DatumSays c v x = datum.Says b c v x × Stays scope x
+
+    datum-comes : (c v : List ℕ) (x : Walked) → DatumSays c v x → Comes (datum.faultsOf b) (b .to) (withUsed (length (datum.after b .words)) scope) x
     unfolding Comes datum.Says
-    datum-comes c v (walked.Upto next scope) p = (p .none, p .next-is, ap scopeWith (p .used-is))
-    datum-comes c v (walked.Faulty number word) p = p
+    datum-comes c v (walked.Upto next end) (p, g) = (p .none, p .next-is, grown scope end _ g (p .used-is))
+    datum-comes c v (walked.Faulty number word) (p, g) = p
 
     abbrev DatumStores : Type 0
     DatumStores = SameOthers (wordsOf c) (wordsOf d) i (b .to) × SameFilled (b .routine) (b .W) (b .s) (datum.after b) v w
 
-    datum-stores : (next : ℕ) (scope : Scope) → datum.Says b c v (walked.Upto next scope) → datum.Says b d w (walked.Upto next scope) → DatumStores
+    datum-stores : (next : ℕ) (end : Scope) → DatumSays c v (walked.Upto next end) → DatumSays d w (walked.Upto next end) → DatumStores
     unfolding datum.Says
-    datum-stores next scope p q = (changed-unique (wordsOf code) (wordsOf c) (wordsOf d) i (b .to) (p .changed) (q .changed), filled-unique _ _ _ _ v w (p .filled) (q .filled))
+    datum-stores next end (p, g) (q, h) = (changed-unique (wordsOf code) (wordsOf c) (wordsOf d) i (b .to) (p .changed) (q .changed), filled-unique _ _ _ _ v w (p .filled) (q .filled))
 
-    pub datum-unique : datum.Declares code values c v own limit used i r → datum.Declares code values d w own limit used i s → SameWalk r s DatumStores
-    datum-unique p q = same-walk _ _ _ (datum.Says b c v) (datum.Says b d w) DatumStores (datum-comes c v) (datum-comes d w) datum-stores (p .is b) (q .is b)
+    pub datum-unique : datum.Declares code values c v own limit (scope .used) i r × Stays scope r → datum.Declares code values d w own limit (scope .used) i s × Stays scope s → SameWalk r s DatumStores
+    datum-unique (p, g) (q, h) = same-walk r s _ _ _ (DatumSays c v) (DatumSays d w) DatumStores (datum-comes c v) (datum-comes d w) datum-stores (p .is b, g) (q .is b, h)
 
-  module _ (at : ℕ) (b : DataStand code values at) where
+  module _ (before : Scope) (at : ℕ) (b : DataStand code values at) where
     abbrev module-filling : Filling
     module-filling = filling (b .W) (theModule (b .routines))
 
-    module-comes : (c v : List ℕ) (x : Walked) → SaysModule b c v x → Comes (dataFaults (b .W) module-filling (b .ds) noData) (b .to) (scopeWith (length (declareData (b .W) module-filling (b .ds) noData .words))) x
+    abbrev ModuleSays : (c v : List ℕ) → Walked → Type 0
+    ModuleSays c v x = SaysModule b c v x × Stays before x
+
+    module-comes : (c v : List ℕ) (x : Walked) → ModuleSays c v x
+        → Comes (dataFaults (b .W) module-filling (b .ds) noData) (b .to) (withUsed (length (declareData (b .W) module-filling (b .ds) noData .words)) before) x
     unfolding Comes SaysModule
-    module-comes c v (walked.Upto next scope) p = (p .none, p .next-is, ap scopeWith (p .used-is))
-    module-comes c v (walked.Faulty number word) p = p
+    module-comes c v (walked.Upto next end) (p, g) = (p .none, p .next-is, grown before end _ g (p .used-is))
+    module-comes c v (walked.Faulty number word) (p, g) = p
 
     abbrev ModuleStores : Type 0
     ModuleStores = SameOthers (wordsOf c) (wordsOf d) at (b .to) × SameFilled (b .routine) (b .W) (theModule (b .routines)) (declareData (b .W) module-filling (b .ds) noData) v w
 
-    module-stores : (next : ℕ) (scope : Scope) → SaysModule b c v (walked.Upto next scope) → SaysModule b d w (walked.Upto next scope) → ModuleStores
+    module-stores : (next : ℕ) (end : Scope) → ModuleSays c v (walked.Upto next end) → ModuleSays d w (walked.Upto next end) → ModuleStores
     unfolding SaysModule
-    module-stores next scope p q = (changed-unique (wordsOf code) (wordsOf c) (wordsOf d) at (b .to) (p .changed) (q .changed), filled-unique _ _ _ _ v w (p .filled) (q .filled))
+    module-stores next end (p, g) (q, h) = (changed-unique (wordsOf code) (wordsOf c) (wordsOf d) at (b .to) (p .changed) (q .changed), filled-unique _ _ _ _ v w (p .filled) (q .filled))
 
-    pub module-data-unique : DeclaresModule code values c v at r → DeclaresModule code values d w at s → SameWalk r s ModuleStores
-    module-data-unique p q = same-walk _ _ _ (SaysModule b c v) (SaysModule b d w) ModuleStores (module-comes c v) (module-comes d w) module-stores (p .is b) (q .is b)
+    pub module-data-unique : DeclaresModule code values c v at r × Stays before r → DeclaresModule code values d w at s × Stays before s → SameWalk r s ModuleStores
+    module-data-unique (p, g) (q, h) = same-walk r s _ _ _ (ModuleSays c v) (ModuleSays d w) ModuleStores (module-comes c v) (module-comes d w) module-stores (p .is b, g) (q .is b, h)
 
-  module _ (opens head used at : ℕ) (b : RoutineStands code values head used at) where
-    routine-comes : (c v : List ℕ) (x : Walked) → SaysRoutine b c v opens x
-        → Comes (dataFaults (b .W) (filling (b .W) (aRoutine (b .m))) (b .ds) (b .D)) (b .to) (scopeWith (length (routineAfter b .words))) x
+  module _ (before : Scope) (opens at : ℕ) (b : RoutineStands code values (before .head) (before .used) at) where
+    abbrev RoutineSays : (c v : List ℕ) → Walked → Type 0
+    RoutineSays c v x = SaysRoutine b c v opens x × Stays before x
+
+    routine-comes : (c v : List ℕ) (x : Walked) → RoutineSays c v x
+        → Comes (dataFaults (b .W) (filling (b .W) (aRoutine (b .m))) (b .ds) (b .D)) (b .to) (withUsed (length (routineAfter b .words)) before) x
     unfolding Comes SaysRoutine
-    routine-comes c v (walked.Upto next scope) p = (p .none, p .next-is, ap scopeWith (p .used-is))
-    routine-comes c v (walked.Faulty number word) p = p
+    routine-comes c v (walked.Upto next end) (p, g) = (p .none, p .next-is, grown before end _ g (p .used-is))
+    routine-comes c v (walked.Faulty number word) (p, g) = p
 
     -- the routine's first word may change too: its link leads to the first declaration
     abbrev RoutineStores : Type 0
-    RoutineStores = SameBut (wordsOf c) (wordsOf d) (head * 2 + 1) at (b .to) × (linkAt (wordsOf c) head ≡ linkAt (wordsOf d) head) × SameFilled (b .routine) (b .W) (aRoutine (b .m)) (routineAfter b) v w
+    RoutineStores = SameBut (wordsOf c) (wordsOf d) (before .head * 2 + 1) at (b .to) × (linkAt (wordsOf c) (before .head) ≡ linkAt (wordsOf d) (before .head)) × SameFilled (b .routine) (b .W) (aRoutine (b .m)) (routineAfter b) v w
 
-    routine-stores : (next : ℕ) (scope : Scope) → SaysRoutine b c v opens (walked.Upto next scope) → SaysRoutine b d w opens (walked.Upto next scope) → RoutineStores
+    routine-stores : (next : ℕ) (end : Scope) → RoutineSays c v (walked.Upto next end) → RoutineSays d w (walked.Upto next end) → RoutineStores
     unfolding SaysRoutine
-    routine-stores next scope p q = (
-      record { below = λ k h n. p .below k h n ∙ sym (q .below k h n); above = λ k h. p .above k h ∙ sym (q .above k h) },
-      first-link (wordsOf c) (wordsOf d) head _ opens (p .chain) (q .chain),
+    routine-stores next end (p, g) (q, h) = (
+      record { below = λ k l n. p .below k l n ∙ sym (q .below k l n); above = λ k l. p .above k l ∙ sym (q .above k l) },
+      first-link (wordsOf c) (wordsOf d) (before .head) _ opens (p .chain) (q .chain),
       filled-unique _ _ _ _ v w (p .filled) (q .filled),
     )
 
-    pub routine-data-unique : DeclaresRoutine code values c v opens head used at r → DeclaresRoutine code values d w opens head used at s → SameWalk r s RoutineStores
-    routine-data-unique p q =
-        same-walk _ _ _ (SaysRoutine b c v opens) (SaysRoutine b d w opens) RoutineStores (routine-comes c v) (routine-comes d w) routine-stores (p .is b) (q .is b)
+    pub routine-data-unique : DeclaresRoutine code values c v opens (before .head) (before .used) at r × Stays before r → DeclaresRoutine code values d w opens (before .head) (before .used) at s × Stays before s
+        → SameWalk r s RoutineStores
+    routine-data-unique (p, g) (q, h) =
+        same-walk r s _ _ _ (RoutineSays c v) (RoutineSays d w) RoutineStores (routine-comes c v) (routine-comes d w) routine-stores (p .is b, g) (q .is b, h)
 
-  module _ (at : ℕ) (b : ParametersStand code values at) where
-    parameters-come : (c v : List ℕ) (x : Walked) → SaysParameters b c v x → Comes (parameterFaults (b .W) (filling (b .W) (aRoutine (b .m))) (b .ps) noData) (b .to) (scopeWith (length (b .ps))) x
+  module _ (entered : Scope) (b : ParametersStand code values (entered .first)) where
+    abbrev ParametersSay : (c v : List ℕ) → Walked → Type 0
+    ParametersSay c v x = SaysParameters b c v x × Opens entered x
+
+    parameters-come : (c v : List ℕ) (x : Walked) → ParametersSay c v x
+        → Comes (parameterFaults (b .W) (filling (b .W) (aRoutine (b .m))) (b .ps) noData) (b .to) (withParameters (length (b .ps)) entered) x
     unfolding Comes SaysParameters
-    parameters-come c v (walked.Upto next scope) p = (p .none, p .next-is, ap scopeWith (p .used-is))
-    parameters-come c v (walked.Faulty number word) p = p
+    parameters-come c v (walked.Upto next end) (p, g) = (p .none, p .next-is, g .is ∙ ap (λ (used : ℕ). withParameters used entered) (p .used-is))
+    parameters-come c v (walked.Faulty number word) (p, g) = p
 
     -- all cells but those of the names' words
     abbrev ParameterStores : Type 0
-    ParameterStores = OtherWords (wordsOf d) (wordsOf c) at (length (b .ps)) × SameFilled (b .routine) (b .W) (aRoutine (b .m)) (parametersAfter b) v w
+    ParameterStores = OtherWords (wordsOf d) (wordsOf c) (entered .first) (length (b .ps)) × SameFilled (b .routine) (b .W) (aRoutine (b .m)) (parametersAfter b) v w
 
-    parameter-stores : (next : ℕ) (scope : Scope) → SaysParameters b c v (walked.Upto next scope) → SaysParameters b d w (walked.Upto next scope) → ParameterStores
+    parameter-stores : (next : ℕ) (end : Scope) → ParametersSay c v (walked.Upto next end) → ParametersSay d w (walked.Upto next end) → ParameterStores
     unfolding SaysParameters
-    parameter-stores next scope p q =
-        (subst (OtherWords (wordsOf d) (wordsOf c) at) (p .used-is) (record { is = λ k n. p .others .is k n ∙ sym (q .others .is k n) }), filled-unique _ _ _ _ v w (p .filled) (q .filled))
+    parameter-stores next end (p, g) (q, h) =
+        (subst (OtherWords (wordsOf d) (wordsOf c) (entered .first)) (p .used-is) (record { is = λ k n. p .others .is k n ∙ sym (q .others .is k n) }), filled-unique _ _ _ _ v w (p .filled) (q .filled))
 
-    pub parameters-unique : DeclaresParameters code values c v at r → DeclaresParameters code values d w at s → SameWalk r s ParameterStores
-    parameters-unique p q = same-walk _ _ _ (SaysParameters b c v) (SaysParameters b d w) ParameterStores (parameters-come c v) (parameters-come d w) parameter-stores (p .is b) (q .is b)
+    pub parameters-unique : DeclaresParameters code values c v (entered .first) r × Opens entered r → DeclaresParameters code values d w (entered .first) s × Opens entered s → SameWalk r s ParameterStores
+    parameters-unique (p, g) (q, h) =
+        same-walk r s _ _ _ (ParametersSay c v) (ParametersSay d w) ParameterStores (parameters-come c v) (parameters-come d w) parameter-stores (p .is b, g) (q .is b, h)
 
   -- ---- statements
-  module _ (text : List ℕ) (k : Setting) (used at : ℕ) (b : statements.Lists text code values k used at) where
+  module _ (text : List ℕ) (k : Setting) (scope : Scope) (at : ℕ) (b : statements.Lists text code values k (scope .used) at) where
     abbrev Told : (c v : List ℕ) → Walked → Type 0
-    Told c v x = statements.Tell (listFaults (b .around .known .W) (b .around .K) (b .around .M) (b .l) (b .around .known .S) used) code c values v at (b .to) (used + forsInList (b .l))
-        (RawList (groundOf (b .around)) (b .around .known .n) (wordsOf c) (b .l) (b .around .known .S) used at (b .to)) x
+    Told c v x = statements.Tell (listFaults (b .around .known .W) (b .around .K) (b .around .M) (b .l) (b .around .known .S) (scope .used)) code c values v at (b .to) (scope .used + forsInList (b .l))
+        (RawList (groundOf (b .around)) (b .around .known .n) (wordsOf c) (b .l) (b .around .known .S) (scope .used) at (b .to)) x × Stays scope x
 
-    list-comes : (c v : List ℕ) (x : Walked) → Told c v x → Comes (listFaults (b .around .known .W) (b .around .K) (b .around .M) (b .l) (b .around .known .S) used) (b .to) (scopeWith (used + forsInList (b .l))) x
+    list-comes : (c v : List ℕ) (x : Walked) → Told c v x → Comes (listFaults (b .around .known .W) (b .around .K) (b .around .M) (b .l) (b .around .known .S) (scope .used)) (b .to) (withUsed (scope .used + forsInList (b .l)) scope) x
     unfolding Comes statements.Tell
-    list-comes c v (walked.Upto next scope) p = (p .none, p .next-is, ap scopeWith (p .used-is))
-    list-comes c v (walked.Faulty number word) p = p
+    list-comes c v (walked.Upto next end) (p, g) = (p .none, p .next-is, grown scope end _ g (p .used-is))
+    list-comes c v (walked.Faulty number word) (p, g) = p
 
     abbrev ListStores : Type 0
     ListStores = SameOthers (wordsOf c) (wordsOf d) at (b .to) × SameCells v w
 
-    list-stores : (next : ℕ) (scope : Scope) → Told c v (walked.Upto next scope) → Told d w (walked.Upto next scope) → ListStores
+    list-stores : (next : ℕ) (end : Scope) → Told c v (walked.Upto next end) → Told d w (walked.Upto next end) → ListStores
     unfolding statements.Tell
-    list-stores next scope p q = (
-      record { below = λ k h. p .outside .below k h ∙ sym (q .outside .below k h); above = λ k h. p .outside .above k h ∙ sym (q .outside .above k h) },
+    list-stores next end (p, g) (q, h) = (
+      record { below = λ k l. p .outside .below k l ∙ sym (q .outside .below k l); above = λ k l. p .outside .above k l ∙ sym (q .outside .above k l) },
       same-cells v w (p .same .words ∙ sym (q .same .words)) (p .same .long ∙ sym (q .same .long)),
     )
 
-    pub list-unique : statements.Listed text code values c v k used at r → statements.Listed text code values d w k used at s → SameWalk r s ListStores
-    list-unique p q = same-walk _ _ _ (Told c v) (Told d w) ListStores (list-comes c v) (list-comes d w) list-stores (p .is b .tells) (q .is b .tells)
+    pub list-unique : statements.Listed text code values c v k (scope .used) at r × Stays scope r → statements.Listed text code values d w k (scope .used) at s × Stays scope s → SameWalk r s ListStores
+    list-unique (p, g) (q, h) = same-walk r s _ _ _ (Told c v) (Told d w) ListStores (list-comes c v) (list-comes d w) list-stores (p .is b .tells, g) (q .is b .tells, h)
 
 -- a routine left: its scope, the cells before the table, and what names mean
-pub leave-unique : (scope : Scope) (code values v w : List ℕ) (first count head : ℕ) (r s : Scope) (l : Leaving code values first count head) → leaving.Leaves scope code values v first count head r
-    → leaving.Leaves scope code values w first count head s → (r ≡ s) × leaving.SameWords w v × SameMeans (l .routine) (l .W) (wordsOf v) (wordsOf w)
-leave-unique scope code values v w first count head r s l p q =
+pub leave-unique : (scope outer : Scope) (code values v w : List ℕ) (r s : Scope) (l : Leaving code values (scope .first) (scope .names) (scope .head)) → leaving.Leaves scope outer code values v r
+    → leaving.Leaves scope outer code values w s → (r ≡ s) × leaving.SameWords w v × SameMeans (l .routine) (l .W) (wordsOf v) (wordsOf w)
+leave-unique scope outer code values v w r s l p q =
     (p .scope-is ∙ sym (q .scope-is), record { is = λ k h. p .same .is k h ∙ sym (q .same .is k h) }, means-unique _ _ _ _ _ (p .means l) (q .means l))
 
 -- ---- pieces of statements: the next word and the store outside of the piece, or the first fault
@@ -253,30 +271,25 @@ SameRest {h = h} b c d v w =
     SameOthers (wordsOf c) (wordsOf d) h (b .stands .to)
     × SameFilled (numbered (headsFor (m .routines))) W (theModule (routineNames W (dataTexts W (m .declared)) 0 (m .routines))) (moduleData W m) v w
 
--- where no rule is broken
-pub record SameRoutine {text code values : List ℕ} {k h : ℕ} (b : routines.Begins text code values k h) (c d v w : List ℕ) (r s : passing.Walked) : Type 0 where
-  pub answer : r ≡ s
-  pub stores : (next : ℕ) → r ≡ passed.Upto next → SameRest b c d v w
+module _ (text code values c d v w : List ℕ) (outer : Scope) (k h : ℕ) (r s : Walked) (b : routines.Begins text code values k h) where
+  abbrev Own : List Fault
+  Own = ownFaults (b .stands .W) (b .stands .m) (b .stands .earlier) k (b .stands .r)
 
-module _ (text code values c d v w : List ℕ) (k h : ℕ) (b : routines.Begins text code values k h) where
-  none-own : (n : ℕ) (c v : List ℕ) → routines.Walks b c v n → ownFaults (b .stands .W) (b .stands .m) (b .stands .earlier) k (b .stands .r) ≡ []
-  none-own n c v p = nothing-in-own (b .stands .W) (b .stands .m) (b .stands .earlier) k (b .stands .r) (p .none-in-head) (p .goes .none)
+  abbrev Passed : (c v : List ℕ) → Walked → Type 0
+  Passed c v x = routines.Says b c v x × BackTo outer x
 
-  same-routine : (r s : passing.Walked) → routines.Says b c v r → routines.Says b d w s → r ≡ s
+  routine-passes : (c v : List ℕ) (x : Walked) → Passed c v x → Comes Own (b .stands .to) outer x
+  unfolding Comes routines.Says
+  routine-passes c v (walked.Upto next end) (p, g) =
+      (nothing-in-own (b .stands .W) (b .stands .m) (b .stands .earlier) k (b .stands .r) (p .none-in-head) (p .goes .none), p .goes .next-is, g)
+  routine-passes c v (walked.Faulty number word) (p, g) = p
+
+  rest-same : (next : ℕ) (end : Scope) → Passed c v (walked.Upto next end) → Passed d w (walked.Upto next end) → SameRest b c d v w
   unfolding routines.Says
-  same-routine (passed.Upto m) (passed.Upto n) p q = ap passed.Upto (p .goes .next-is ∙ sym (q .goes .next-is))
-  same-routine (passed.Upto m) (passed.Faulty l j) p q = no-first _ (faultAt l j) (none-own m c v p) q
-  same-routine (passed.Faulty n i) (passed.Upto m) p q = no-first _ (faultAt n i) (none-own m d w q) p
-  same-routine (passed.Faulty n i) (passed.Faulty l j) p q = same-answer _ n i l j passed.Faulty p q
+  rest-same next end (p, g) (q, f) = (
+    record { below = λ i l. p .goes .below i l ∙ sym (q .goes .below i l); above = λ i l. p .goes .above i l ∙ sym (q .goes .above i l) },
+    filled-unique _ _ _ _ v w (p .goes .filled) (q .goes .filled),
+  )
 
-  pub routine-unique : (r s : passing.Walked) → routines.Checks text code values c v k h r → routines.Checks text code values d w k h s → SameRoutine b c d v w r s
-  unfolding routines.Says
-  routine-unique r s p q =
-      let e = same-routine r s (p .is b) (q .is b) in
-      record { answer = e; stores = λ next z. both next (subst (routines.Says b c v) z (p .is b)) (subst (routines.Says b d w) (sym e ∙ z) (q .is b)) }
-    where
-      both : (next : ℕ) (p : routines.Walks b c v next) (q : routines.Walks b d w next) → SameRest b c d v w
-      both next p q = (
-        record { below = λ i l. p .goes .below i l ∙ sym (q .goes .below i l); above = λ i l. p .goes .above i l ∙ sym (q .goes .above i l) },
-        filled-unique _ _ _ _ v w (p .goes .filled) (q .goes .filled),
-      )
+  pub routine-unique : routines.Checks text code values c v k h r × BackTo outer r → routines.Checks text code values d w k h s × BackTo outer s → SameWalk r s (SameRest b c d v w)
+  routine-unique (p, g) (q, f) = same-walk r s _ _ _ (Passed c v) (Passed d w) (SameRest b c d v w) (routine-passes c v) (routine-passes d w) rest-same (p .is b, g) (q .is b, f)

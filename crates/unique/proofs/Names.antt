@@ -24,8 +24,7 @@ use Rattle.names.specs.Numbers.{numberOf, IsName}
 use Rattle.names.specs.Meanings.{cellWith, typeWith, meaningIn, protectsCell, cellFor, Means}
 use Rattle.names.specs.Promises.{numberAt, TypeOf, TypeNamed}
 use Rattle.names.specs.Promises as names
-use Rattle.names.specs.Scopes.{Enters}
-use Rattle.names.proofs.Unique.{declare-unique, scope-declare-unique}
+use Rattle.names.proofs.Unique.{declare-unique}
 use Rattle.spelling.specs.Hash.{buckets, hashOf}
 use Rattle.form.specs.declared.Verdict.{Verdict}
 use Rattle.form.specs.Judged as form
@@ -71,12 +70,6 @@ pub record SameFilled (routine : ℕ → ℕ) (W : List Word) (s : Site) (D : Da
 
 pub filled-unique : (routine : ℕ → ℕ) (W : List Word) (s : Site) (D : Data) (v w : List ℕ) → Filled W routine s D v → Filled W routine s D w → SameFilled routine W s D v w
 filled-unique routine W s D v w p q = record { names = means-unique routine W _ (wordsOf v) (wordsOf w) (p .means) (q .means); words = λ r a. p .cells r a ∙ sym (q .cells r a) }
-
--- ---- scopes
--- both stores whole, and the scope
-pub enter-unique : (s : Scope) (code values : List ℕ) (i : ℕ) (c d v w : List ℕ) (r t : Scope) → Enters s code values i c v r → Enters s code values i d w t
-    → (c ≡ d) × (v ≡ w) × (r ≡ t)
-enter-unique s code values i c d v w r t h g = scope-declare-unique s code values i _ 1 c d v w r t h g
 
 -- ---- spelling and form
 pub hash-unique : (name : List ℕ) (r s : ℕ) → (r ≡ hashOf name) × (r < buckets) → (s ≡ hashOf name) × (s < buckets) → r ≡ s
