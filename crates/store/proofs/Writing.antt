@@ -10,20 +10,21 @@ use Rattle.cells.specs.Words.{wordsOf, Put}
 use Rattle.cells.proofs.Laws.{length-words}
 use Rattle.cells.proofs.Kept.{put-length, put-take, put-drop}
 use Rattle.code.specs.Cells.{opIn, valueIn, placeIn, linkIn, headAt, tailAt, opAt, valueAt, placeAt, linkAt}
+use Rattle.layout.specs.Parts.{valuePart}
 use Rattle.store.specs.Promises.{headWith, tailWith, Rewritten, Linked, Relinked}
 use Rattle.store.proofs.Rewriting.{rewritten-length, rewritten-take, rewritten-drop}
 
-high-part : (t link : ℕ) → (t % 65536 + 65536 * link) / 65536 ≡ link
+high-part : (t link : ℕ) → linkIn (tailWith (placeIn t) link) ≡ link
 high-part t link = omega arith
 
-low-part : (t link : ℕ) → (t % 65536 + 65536 * link) % 65536 ≡ t % 65536
+low-part : (t link : ℕ) → placeIn (tailWith (placeIn t) link) ≡ placeIn t
 low-part t link = omega arith
 
 head-whole : (C : List ℕ) (i : ℕ) → headWith (opAt C i) (valueAt C i) ≡ headAt C i
 head-whole C i = omega arith
 
 -- a word's new cells, with the bytes around them as they were
-module _ (before after : List ℕ) (i op value link : ℕ) (room : i * 8 + 8 ≤ length before) (small : op < 256)
+module _ (before after : List ℕ) (i op value link : ℕ) (room : i * 8 + 8 ≤ length before) (small : op < valuePart)
     (w : wordsOf after ≡ set (set (wordsOf before) (i * 2) (headWith op value)) (i * 2 + 1) (tailWith (placeAt (wordsOf before) i) link)) where
   abbrev mid : List ℕ
   mid = set (wordsOf before) (i * 2) (headWith op value)
@@ -55,7 +56,7 @@ module _ (before after : List ℕ) (i op value link : ℕ) (room : i * 8 + 8 ≤
   }
 
 module _ (before after : List ℕ) (i : ℕ) (room : i * 8 + 8 ≤ length before) where
-  pub head-written : (op value : ℕ) → op < 256 → Put before after (i * 2) (op + 256 * value) → Linked before after i op value (linkAt (wordsOf before) i)
+  pub head-written : (op value : ℕ) → op < valuePart → Put before after (i * 2) (headWith op value) → Linked before after i op value (linkAt (wordsOf before) i)
   head-written op value small p =
       linked before after i op value (linkAt (wordsOf before) i) room small
       (p .words ∙ sym (ap (set mid (i * 2 + 1)) (tail-is ∙ sym (getD-set-other (wordsOf before) (i * 2) (i * 2 + 1) _ 0 (λ e. omega arith))) ∙ set-getD mid (i * 2 + 1) 0))
@@ -69,11 +70,11 @@ module _ (before after : List ℕ) (i : ℕ) (room : i * 8 + 8 ≤ length before
       tail-is : tailWith (placeAt (wordsOf before) i) (linkAt (wordsOf before) i) ≡ tailAt (wordsOf before) i
       tail-is = omega arith
 
-  pub link-written : (link place : ℕ) → place ≡ placeAt (wordsOf before) i → Put before after (i * 2 + 1) (place + 65536 * link)
+  pub link-written : (link place : ℕ) → place ≡ placeAt (wordsOf before) i → Put before after (i * 2 + 1) (tailWith place link)
       → Relinked before after i link
   link-written link place e p =
       linked before after i (opAt (wordsOf before) i) (valueAt (wordsOf before) i) link room (omega arith)
-      (p .words ∙ ap₂ (λ (l : List ℕ) (x : ℕ). set l (i * 2 + 1) (x + 65536 * link)) (sym (ap (set (wordsOf before) (i * 2)) head-is ∙ set-getD (wordsOf before) (i * 2) 0)) e)
+      (p .words ∙ ap₂ (λ (l : List ℕ) (x : ℕ). set l (i * 2 + 1) (tailWith x link)) (sym (ap (set (wordsOf before) (i * 2)) head-is ∙ set-getD (wordsOf before) (i * 2) 0)) e)
       (put-take p (omega arith) (i * 8) (omega arith))
       (put-drop p (omega arith) ((i + 1) * 8) (omega arith))
       (put-length p (omega arith))
@@ -81,7 +82,7 @@ module _ (before after : List ℕ) (i : ℕ) (room : i * 8 + 8 ≤ length before
       head-is : headWith (opAt (wordsOf before) i) (valueAt (wordsOf before) i) ≡ headAt (wordsOf before) i
       head-is = head-whole (wordsOf before) i
 
-  pub word-written : (op value link place : ℕ) → op < 256 → place ≡ placeAt (wordsOf before) i → Rewritten before after i (op + 256 * value) (place + 65536 * link)
+  pub word-written : (op value link place : ℕ) → op < valuePart → place ≡ placeAt (wordsOf before) i → Rewritten before after i (headWith op value) (tailWith place link)
       → Linked before after i op value link
   word-written op value link place small e r =
       linked before after i op value link room small
@@ -90,13 +91,13 @@ module _ (before after : List ℕ) (i : ℕ) (room : i * 8 + 8 ≤ length before
       (rewritten-drop r room ((i + 1) * 8) (omega arith))
       (rewritten-length r room)
 
-pub value-written : (before after : List ℕ) (i value op : ℕ) → op ≡ opAt (wordsOf before) i → Put before after (i * 2) (op + 256 * value)
+pub value-written : (before after : List ℕ) (i value op : ℕ) → op ≡ opAt (wordsOf before) i → Put before after (i * 2) (headWith op value)
     → Put before after (i * 2) (headWith (opAt (wordsOf before) i) value)
-value-written before after i value op e p = subst (λ (x : ℕ). Put before after (i * 2) (x + 256 * value)) e p
+value-written before after i value op e p = subst (λ (x : ℕ). Put before after (i * 2) (headWith x value)) e p
 
-pub place-written : (before after : List ℕ) (i place link : ℕ) → link ≡ linkAt (wordsOf before) i → Put before after (i * 2 + 1) (place + 65536 * link)
+pub place-written : (before after : List ℕ) (i place link : ℕ) → link ≡ linkAt (wordsOf before) i → Put before after (i * 2 + 1) (tailWith place link)
     → Put before after (i * 2 + 1) (tailWith place (linkAt (wordsOf before) i))
-place-written before after i place link e p = subst (λ (x : ℕ). Put before after (i * 2 + 1) (place + 65536 * x)) e p
+place-written before after i place link e p = subst (λ (x : ℕ). Put before after (i * 2 + 1) (tailWith place x)) e p
 
 -- where a link alone has changed, every other cell is as it was
 pub relinked-others : {before after : List ℕ} {i link : ℕ} → Relinked before after i link → (k : ℕ) → (k ≡ i * 2 + 1 → ⊥) → getD (wordsOf after) k 0 ≡ getD (wordsOf before) k 0

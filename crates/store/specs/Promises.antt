@@ -5,13 +5,14 @@ use Prim.Native.Nat.{ℕ, _+_, _*_}
 use lib.ListN.{length, take, drop, set}
 use Rattle.laws.specs.Lists.{replaced}
 use Rattle.cells.specs.Words.{wordsOf, bytesOf}
+use Rattle.layout.specs.Parts.{valuePart, linkPart}
 use Rattle.code.specs.Cells.{opAt, valueAt, placeAt, linkAt}
 
 abbrev pub headWith : (op value : ℕ) → ℕ
-headWith op value = op + 256 * value
+headWith op value = op + valuePart * value
 
 abbrev pub tailWith : (place link : ℕ) → ℕ
-tailWith place link = place + 65536 * link
+tailWith place link = place + linkPart * link
 
 -- Word i has this head and this tail now, and every byte outside its two cells is as it was.
 pub record Rewritten (before after : List ℕ) (i head tail : ℕ) : Type 0 where
