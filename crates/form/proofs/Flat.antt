@@ -2,7 +2,7 @@
 use mathlib.Core.Path.{_≡_, refl, sym, ap, _∙_}
 use mathlib.Core.Bool.{Bool, true, false, _||_}
 use mathlib.Core.List.{List}
-use Prim.Native.Nat.{ℕ, zero, suc, _+_, _-_, _<_, _≤_}
+use Prim.Native.Nat.{ℕ, zero, suc, _+_, _-_, _*_, _<_, _≤_}
 use native.Mathlib.Omega.{arith}
 use lib.Dec.{eqb}
 use mir.Syntax.{w64}
@@ -10,6 +10,7 @@ use mir.Val.{Fits}
 use borrow.Author.Tests.{eqb-true, eqb-false, eq-eqb, ne-eqb}
 use Rattle.laws.proofs.Tests.{test, by-same, apart}
 use Rattle.paper.specs.Basics.{if_then_else_}
+use Rattle.paper.specs.Sorts.{NOT}
 use Rattle.paper.specs.Expressions.{levelOf, isLiteral, standsBefore}
 use Rattle.layout.specs.Rules.{deepNesting}
 use Rattle.form.specs.declared.Read.{Read}
@@ -233,6 +234,14 @@ module _ (code : List ℕ) (words : ℕ) where
   sign-on at =
       test (eqb (sortsIn code words at) 18 || eqb (sortsIn code words at) 19) (λ t. rw (t, behindSign) (omega arith)) (λ t. rw (t, behindSign) (omega arith))
 
+  not-on : (at : ℕ) → at ≤ behindNot (sortsIn code words) at
+  unfolding behindNot
+  not-on at = test (eqb (sortsIn code words at) NOT) (λ t. rw (t, behindNot) (omega arith)) (λ t. rw (t, behindNot) (omega arith))
+
+  -- no more words are left than at the start
+  pub start-on : (at a b : ℕ) → a ≡ behindNot (sortsIn code words) at → b ≡ behindSign (sortsIn code words) a → words - b ≤ words - at
+  start-on at a b f g = omega (arith, not-on at, sign-on a, f, g)
+
   module _ (d n : ℕ) (r : Read) (m v k : ℕ) (e : r ≡ operand (sortsIn code words) (expressionIn (sortsIn code words) d) n) (h : r ≡ Upto m)
       (w : v ≡ sortsIn code words m) (g : k ≡ levelOf v) (z : k ≡ 0 → ⊥) where
     -- fewer words are left after an operator
@@ -241,6 +250,13 @@ module _ (code : List ℕ) (words : ℕ) where
 
     pub fewer-signed : (a : ℕ) → a ≡ behindSign (sortsIn code words) (m + 1) → words - a < words - n
     fewer-signed a f = omega (arith, fewer, sign-on (m + 1), f)
+
+    module _ (at : ℕ) (l : words - n ≤ words - at) where
+      pub turn-on : words - (m + 1) ≤ words - at
+      turn-on = omega (arith, fewer)
+
+      pub turn-signed : (a : ℕ) → a ≡ behindSign (sortsIn code words) (m + 1) → words - a ≤ words - at
+      turn-signed a f = omega (arith, fewer-signed a f)
 
   -- ---- nesting
 
@@ -254,3 +270,14 @@ module _ (code : List ℕ) (words : ℕ) where
 
   pub nest-in : (d at : ℕ) (r : Read) → (d ≡ 0 → ⊥) → r ≡ expressionIn (sortsIn code words) (suc (d - 1)) at → r ≡ expressionIn (sortsIn code words) d at
   nest-in d at r h e = let q : suc (d - 1) ≡ d = omega arith in rw q at e
+
+-- ---- the words left and the remaining nesting fall
+module _ (t d words at : ℕ) where
+  pub operand-falls : (n : ℕ) → words - at + d * 2 + 1 ≡ t → words - n ≤ words - at → words - n + d * 2 < t
+  operand-falls n e l = omega arith
+
+  pub paren-falls : words - at + d * 2 ≡ t → (d ≡ 0 → ⊥) → words - (at + 1) + (d - 1) * 2 + 1 < t
+  paren-falls e z = omega (arith, z)
+
+  pub brace-falls : words - at + d * 2 ≡ t → (d ≡ 0 → ⊥) → words - (at + 2) + (d - 1) * 2 + 1 < t
+  brace-falls e z = omega (arith, z)

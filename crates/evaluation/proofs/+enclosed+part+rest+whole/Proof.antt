@@ -1,9 +1,9 @@
 -- The evaluation calls itself on the inner expression: the words left fall at each call, and so does the remaining nesting at a call on what stands in
 -- parentheses or braces.
-use mathlib.Core.Path.{sym, _∙_}
+use mathlib.Core.Path.{_≡_, sym, _∙_}
 use mathlib.Core.Bool.{true, false}
 use mathlib.Core.Logic.{⊎-elim}
-use Prim.Native.Nat.{ℕ, _+_, _-_, _*_, _<_, _≤_}
+use Prim.Native.Nat.{ℕ, _+_, _-_, _*_, _/_, _%_, _<_, _≤_}
 use native.Mathlib.Omega.{arith}
 use lib.IntN.{ℤ}
 use mir.Syntax.{w64}
@@ -13,6 +13,11 @@ use borrow.Author.Needs.{needs}
 use borrow.Author.Tests.{not-true, not-false}
 use borrow.Fn.Kinds.{In}
 use borrow.Fn.PlainCycle.{Measures, is, falls, and}
+use Rattle.paper.specs.Numbers.{Value, value}
+use Rattle.paper.specs.Terms.{known}
+use Rattle.cells.specs.Words.{wordsOf}
+use Rattle.code.specs.Cells.{headAt, linkAt}
+use Rattle.code.specs.Spans.{operatorOf}
 use Rattle.numbers.proofs.Whole.{read}
 use Rattle.evaluation.proofs.Numbers.{told}
 use Rattle.evaluation.proofs.Operators.{failing-is}
@@ -21,7 +26,8 @@ use Rattle.evaluation.proofs.Steps.{encloses-on, encloses, start-enclos
 use Rattle.evaluation.proofs.Steps.{Going, Opened, Sided, sided-read, subst₂, evaluated-read, followed-read, followed-first, going-read, stands-in, stands-less, first-leaf, start-leaf, opened-follows, opened-evaluated}
 use Rattle.evaluation.proofs.Steps.{goes-begun, ends, turn-in, turn-room, fused-leaf, side-leaf, turn-less, goes, turn-fails, shorts-told}
 use Rattle.evaluation.proofs.Steps.{span-stands, span-less, side-span, right-fails, span-past, skip-known, skip-on, skip-last, last-stands}
-use Rattle.evaluation.specs.Parts.{addresses}
+use Rattle.evaluation.specs.Answers.{Stores, StandsUnder}
+use Rattle.evaluation.specs.Parts.{joined, addresses}
 use Rattle.evaluation.proofs.enclosed.Reads as enclosed
 use Rattle.evaluation.proofs.enclosed.Kinds as enclosed-kinds
 use Rattle.evaluation.proofs.+enclosed+part+rest+whole.Lts-enclosed as enclosed-lts
@@ -178,7 +184,8 @@ enclosed-leaf-requires t c κs =
 
 enclosed-close-requires : (t : ℕ) → enclosed-lts.Need-close-requires (calls-enclosed t) (enclosed-at t) enclosed.Post
 enclosed-close-requires t c κs =
-    let s = c .before .before .before .before .before .before .before in
+    let one = c .before .before .before .before .before in
+    let s = one .before .before in
     (s .pre .1 .0, closes _ _ (now (now (s .args .values))) (s .args .base) _ _ _ (s .pre .1 .1), small-leaf (c .leaf .result) (search needs) (c .leaf .ensures))
 
 enclosed-returns : (t : ℕ) → enclosed-lts.Need-returns (calls-enclosed t) (enclosed-at t) enclosed.Post
@@ -222,13 +229,63 @@ part-returns-2 t c = search (needs, evaluated-read)
 abbrev Turn : ℕ → Type 0
 Turn t = rest-lts.After-head (calls-rest t) (rest-at t) rest.Post Inv-loop μ-loop
 
+abbrev asked : (t : ℕ) (h : Turn t) → rest-lts.Args (calls-rest t) (rest-at t) rest.Post Inv-loop μ-loop (h .before .before .before .before .κs)
+asked t h = h .before .before .before .before .args
+
+abbrev IsGoing : (t : ℕ) (h : Turn t) → Type 0
+IsGoing t h =
+    let s = asked t h in
+    let l = h .before .before .before .loop in
+    Going (s .nesting) (now (now (s .code))) (now (now (s .values))) (s .base) (read (s .first)) (s .start) (s .to) (toZ w64 (l .acc)) (l .i)
+
+-- the operators before are worked out, and there is one more, at a word with this head
+abbrev going : (t : ℕ) (h : Turn t) → IsGoing t h
+going t h = h .before .before .before .loop .inv
+
+abbrev more : (t : ℕ) (h : Turn t) → h .before .before .before .loop .i < asked t h .to
+more t h = h .before .before .loop-test .taken
+
+abbrev word : (t : ℕ) (h : Turn t) → h .head .result ≡ headAt (wordsOf (now (now (asked t h .code)))) (h .before .before .before .loop .i)
+word t h = h .head .ensures
+
 turn-fits : (t : ℕ) (h : Turn t) → h .before .before .before .loop .i + 2 < addresses
 turn-fits t h =
     let s = h .before .before .before .before in
-    let l = h .before .before .before .loop in
     let f : s .args .to < addresses = s .fits .to .fits in
-    let r : l .i + 2 ≤ s .args .to = turn-room _ _ _ _ _ _ _ _ _ (l .inv) (h .before .before .loop-test .taken) in
+    let r : h .before .before .before .loop .i + 2 ≤ s .args .to = turn-room _ _ _ _ _ _ _ _ _ (going t h) (more t h) in
     omega arith
+
+-- ---- its right side is a span
+abbrev Spanning : ℕ → Type 0
+Spanning t = rest-lts.After-link (calls-rest t) (rest-at t) rest.Post Inv-loop μ-loop
+
+abbrev turn : (t : ℕ) → Spanning t → Turn t
+turn t k = k .before .before .before
+
+abbrev spans : (t : ℕ) (k : Spanning t) → turn t k .head .result % 256 / 16 % 4 ≡ 0
+spans t k = k .before .before .if1 .taken
+
+abbrev linked : (t : ℕ) (k : Spanning t) → k .link .result ≡ linkAt (wordsOf (now (now (asked t (turn t k) .code)))) (turn t k .before .before .before .loop .i)
+linked t k = k .link .ensures .same
+
+-- AND or OR, of which the left side does not tell the answer
+abbrev Unknown : ℕ → Type 0
+Unknown t = rest-lts.Then3 (calls-rest t) (rest-at t) rest.Post Inv-loop μ-loop
+
+abbrev span : (t : ℕ) → Unknown t → Spanning t
+span t u = u .before .before .before .before
+
+abbrev Operator : (t : ℕ) → Unknown t → ℕ
+Operator t u = operatorOf (turn t (span t u) .head .result % 256 % 16)
+
+abbrev so-far : (t : ℕ) → Unknown t → Value
+so-far t u = value (toZ w64 (turn t (span t u) .before .before .before .loop .acc))
+
+unknown : (t : ℕ) (u : Unknown t) → known (Operator t u) (so-far t u) ≡ false
+unknown t u = sym (u .before .is-known .ensures) ∙ not-true _ (u .if3 .taken)
+
+skipped : (t : ℕ) (u : Unknown t) (b : Value) → joined (Operator t u) (so-far t u) b ≡ b
+skipped t u b = u .before .before .before .skips .ensures .right (u .before .before .if2 .taken) _ b (unknown t u)
 
 -- ---- operators: the right side was read, a span or a leaf
 abbrev Siding : ℕ → Type 0
@@ -236,32 +293,32 @@ Siding t = rest-lts.Joined1 (calls-rest t) (rest-at t) rest.Post Inv-loop μ-loo
 
 abbrev IsSided : (t : ℕ) (h : Turn t) (b : ℤ) (r : ℕ) → Type 0
 IsSided t h b r =
-    let s = h .before .before .before .before .args in
+    let s = asked t h in
     let l = h .before .before .before .loop in
-    Sided (s .nesting) (now (now (s .code))) (now (now (s .values))) (s .base) (read (s .first)) (s .start) (s .to) (toZ w64 (l .acc)) (l .i) (l .inv) (h .before .before .loop-test .taken)
-    (h .head .result) (h .head .ensures) b r
+    Sided (s .nesting) (now (now (s .code))) (now (now (s .values))) (s .base) (read (s .first)) (s .start) (s .to) (toZ w64 (l .acc)) (l .i) (going t h) (more t h)
+    (h .head .result) (word t h) b r
 
 -- as it is handed on
 sided-so : (t : ℕ) (h : Turn t) (b : ℤ) (r : ℕ) → SFits w64 b → IsSided t h b r → IsSided t h (read b) r
 sided-so t h b r f d =
-    let s = h .before .before .before .before .args in
+    let s = asked t h in
     let l = h .before .before .before .loop in
-    sided-read (s .nesting) (now (now (s .code))) (now (now (s .values))) (s .base) (read (s .first)) (s .start) (s .to) (toZ w64 (l .acc)) (l .i) (l .inv) (h .before .before .loop-test .taken)
-    (h .head .result) (h .head .ensures) b r f d
+    sided-read (s .nesting) (now (now (s .code))) (now (now (s .values))) (s .base) (read (s .first)) (s .start) (s .to) (toZ w64 (l .acc)) (l .i) (going t h) (more t h)
+    (h .head .result) (word t h) b r f d
 
 sided : (t : ℕ) (c : Siding t) → IsSided t (c .before) (toZ w64 (c .if1 .b)) (c .if1 .r)
 sided t c =
     let h = c .before in
-    let s = h .before .before .before .before .args in
+    let s = asked t h in
     let l = h .before .before .before .loop in
     ⊎-elim
     (λ k. subst₂ (λ (b r : ℕ). IsSided t h (toZ w64 b) r) (sym (k .8)) (sym (k .9)) (sided-so t h (k .5 .result) (k .2 .result) (search needs)
-    (side-span (s .nesting) (now (now (s .code))) (now (now (s .values))) (s .base) (read (s .first)) (s .start) (s .to) (toZ w64 (l .acc)) (l .i) (l .inv) (h .before .before .loop-test .taken)
-    (h .head .result) (h .head .ensures) (k .0 .taken) (k .2 .result) (k .2 .ensures .same) (k .5 .result) (k .5 .ensures)
+    (side-span (s .nesting) (now (now (s .code))) (now (now (s .values))) (s .base) (read (s .first)) (s .start) (s .to) (toZ w64 (l .acc)) (l .i) (going t h) (more t h)
+    (h .head .result) (word t h) (k .0 .taken) (k .2 .result) (k .2 .ensures .same) (k .5 .result) (k .5 .ensures)
     (told (k .5 .result) (k .6 .result) true (search needs) (k .6 .ensures) (not-false _ (k .7 .left))))))
     (λ k. subst₂ (λ (b r : ℕ). IsSided t h (toZ w64 b) r) (sym (k .3)) (sym (k .4)) (sided-so t h (k .2 .result) _ (search needs)
-    (side-leaf (s .nesting) (now (now (s .code))) (now (now (s .values))) (s .base) (read (s .first)) (s .start) (s .to) (toZ w64 (l .acc)) (l .i) (l .inv) (h .before .before .loop-test .taken)
-    (h .head .result) (h .head .ensures) (k .0 .left) (k .2 .result) (k .2 .ensures))))
+    (side-leaf (s .nesting) (now (now (s .code))) (now (now (s .values))) (s .base) (read (s .first)) (s .start) (s .to) (toZ w64 (l .acc)) (l .i) (going t h) (more t h)
+    (h .head .result) (word t h) (k .0 .left) (k .2 .result) (k .2 .ensures))))
     (c .if1 .came)
 
 rest-loop-holds : (t : ℕ) → rest-lts.Need-loop-holds (calls-rest t) (rest-at t) rest.Post Inv-loop μ-loop
@@ -283,156 +340,105 @@ rest-is-known-requires : (t : ℕ) → rest-lts.Need-is-known-requires (calls-re
 rest-is-known-requires t c κs = search needs
 
 rest-add-whole : (t : ℕ) → rest-lts.Need-add-whole (calls-rest t) (rest-at t) rest.Post Inv-loop μ-loop
-rest-add-whole t c =
-    let turn = c .before .before .before .before .before .before .before .before in
-    let q = turn-fits t turn in
-    record { fits = omega arith }
+rest-add-whole t c = let q = turn-fits t (turn t (span t (c .before))) in record { fits = omega arith }
 
 rest-whole-requires : (t : ℕ) → rest-lts.Need-whole-requires (calls-rest t) (rest-at t) rest.Post Inv-loop μ-loop
 rest-whole-requires t c κs =
-    let turn = c .before .before .before .before .before .before .before .before in
-    let going = turn .before .before .before .loop .inv in
-    let more = turn .before .before .loop-test .taken in
-    let word = turn .head .ensures in
-    let spans = c .before .before .before .before .before .before .before .if1 .taken in
-    let linked = c .before .before .before .before .before .link .ensures .same in
-    let stores = turn .before .before .before .before .pre .1 .0 in
-    (omega (arith, c .if4 .taken, span-less _ _ _ _ _ _ _ _ _ going more _ word spans _ linked), (stores, last-stands _ _ _ _ _ _ _ _ _ going more _ word spans _ linked (c .if4 .taken)))
+    let k = span t (c .before) in
+    let h = turn t k in
+    (omega (arith, c .if4 .taken, span-less _ _ _ _ _ _ _ _ _ (going t h) (more t h) _ (word t h) (spans t k) _ (linked t k)), (h .before .before .before .before .pre .1 .0, last-stands _ _ _ _ _ _ _ _ _ (going t h) (more t h) _ (word t h) (spans t k) _ (linked t k) (c .if4 .taken)))
 
 rest-returns : (t : ℕ) → rest-lts.Need-returns (calls-rest t) (rest-at t) rest.Post Inv-loop μ-loop
 rest-returns t c =
-    let turn = c .before .before .before .before .before .before .before .before .before in
-    let going = turn .before .before .before .loop .inv in
-    let more = turn .before .before .loop-test .taken in
-    let word = turn .head .ensures in
-    let spans = c .before .before .before .before .before .before .before .before .if1 .taken in
-    let linked = c .before .before .before .before .before .before .link .ensures .same in
-    let skips = c .before .before .before .before .before .skips .ensures .right (c .before .before .before .before .if2 .taken) in
-    let unknown = sym (c .before .before .before .is-known .ensures) ∙ not-true _ (c .before .before .if3 .taken) in
+    let u = c .before .before in
+    let k = span t u in
+    let h = turn t k in
     followed-read _ _ _ _ _ _ _ (search needs) (c .whole .result) (search needs)
-    (skip-last _ _ _ _ _ _ _ _ _ going more _ word spans _ linked (λ b. skips _ b unknown) (c .whole .result) (c .before .if4 .taken) (c .whole .ensures))
+    (skip-last _ _ _ _ _ _ _ _ _ (going t h) (more t h) _ (word t h) (spans t k) _ (linked t k) (skipped t u) (c .whole .result) (c .before .if4 .taken) (c .whole .ensures))
 
 rest-add-part : (t : ℕ) → rest-lts.Need-add-part (calls-rest t) (rest-at t) rest.Post Inv-loop μ-loop
-rest-add-part t c =
-    let turn = c .before .before .before .before .before .before .before .before in
-    let q = turn-fits t turn in
-    record { fits = omega arith }
+rest-add-part t c = let q = turn-fits t (turn t (span t (c .before))) in record { fits = omega arith }
+
+-- a call on a right side that is a span: the words left fall, and the nesting stays
+part-asks : (t : ℕ) (k : Spanning t) → let h = turn t k in let s = asked t h in
+    (left (h .before .before .before .loop .i + 1) (k .link .result) (s .nesting) + 2 < t)
+    × (Stores (now (now (s .values))) (s .base) × StandsUnder (s .nesting) (now (now (s .code))) (h .before .before .before .loop .i + 1) (k .link .result))
+part-asks t k =
+    let h = turn t k in
+    let s = h .before .before .before .before in
+    (omega (arith, s .pre .0, span-less _ _ _ _ _ _ _ _ _ (going t h) (more t h) _ (word t h) (spans t k) _ (linked t k)), (s .pre .1 .0, span-stands _ _ _ _ _ _ _ _ _ (going t h) (more t h) _ (word t h) (spans t k) _ (linked t k)))
 
 rest-part-requires : (t : ℕ) → rest-lts.Need-part-requires (calls-rest t) (rest-at t) rest.Post Inv-loop μ-loop
-rest-part-requires t c κs =
-    let turn = c .before .before .before .before .before .before .before .before in
-    let going = turn .before .before .before .loop .inv in
-    let more = turn .before .before .loop-test .taken in
-    let word = turn .head .ensures in
-    let spans = c .before .before .before .before .before .before .before .if1 .taken in
-    let linked = c .before .before .before .before .before .link .ensures .same in
-    let stores = turn .before .before .before .before .pre .1 .0 in
-    (omega (arith, span-less _ _ _ _ _ _ _ _ _ going more _ word spans _ linked), (stores, span-stands _ _ _ _ _ _ _ _ _ going more _ word spans _ linked))
+rest-part-requires t c κs = part-asks t (span t (c .before))
 
 rest-is-value-requires : (t : ℕ) → rest-lts.Need-is-value-requires (calls-rest t) (rest-at t) rest.Post Inv-loop μ-loop
 rest-is-value-requires t c κs = search needs
 
 rest-returns-2 : (t : ℕ) → rest-lts.Need-returns-2 (calls-rest t) (rest-at t) rest.Post Inv-loop μ-loop
 rest-returns-2 t c =
-    let turn = c .before .before .before .before .before .before .before .before .before .before .before in
-    let going = turn .before .before .before .loop .inv in
-    let more = turn .before .before .loop-test .taken in
-    let word = turn .head .ensures in
-    let spans = c .before .before .before .before .before .before .before .before .before .before .if1 .taken in
-    let linked = c .before .before .before .before .before .before .before .before .link .ensures .same in
-    let part = c .before .before .part in
+    let part = c .before .before in
+    let u = part .before .before in
+    let k = span t u in
+    let h = turn t k in
     let value = c .before .is-value in
-    let unknown = sym (c .before .before .before .before .before .is-known .ensures) ∙ not-true _ (c .before .before .before .before .if3 .taken) in
-    followed-read _ _ _ _ _ _ _ (search needs) (part .result) (search needs)
-    (right-fails _ _ _ _ _ _ _ _ _ going more _ word spans _ linked (part .result) (part .ensures) unknown
-    (told (part .result) (value .result) false (search needs) (value .ensures) (not-true _ (c .if5 .taken))))
+    followed-read _ _ _ _ _ _ _ (search needs) (part .part .result) (search needs)
+    (right-fails _ _ _ _ _ _ _ _ _ (going t h) (more t h) _ (word t h) (spans t k) _ (linked t k) (part .part .result) (part .part .ensures) (unknown t u)
+    (told (part .part .result) (value .result) false (search needs) (value .ensures) (not-true _ (c .if5 .taken))))
 
 rest-loop-less : (t : ℕ) → rest-lts.Need-loop-less (calls-rest t) (rest-at t) rest.Post Inv-loop μ-loop
 rest-loop-less t c =
-    let turn = c .before .before .before .before .before .before .before .before .before .before .before in
-    let going = turn .before .before .before .loop .inv in
-    let more = turn .before .before .loop-test .taken in
-    let word = turn .head .ensures in
-    let spans = c .before .before .before .before .before .before .before .before .before .before .if1 .taken in
-    let linked = c .before .before .before .before .before .before .before .before .link .ensures .same in
-    span-past _ _ _ _ _ _ _ _ _ going more _ word spans _ linked
+    let part = c .before .before in
+    let k = span t (part .before .before) in
+    let h = turn t k in
+    span-past _ _ _ _ _ _ _ _ _ (going t h) (more t h) _ (word t h) (spans t k) _ (linked t k)
 
 rest-loop-again : (t : ℕ) → rest-lts.Need-loop-again (calls-rest t) (rest-at t) rest.Post Inv-loop μ-loop
 rest-loop-again t c =
-    let turn = c .before .before .before .before .before .before .before .before .before .before .before in
-    let going = turn .before .before .before .loop .inv in
-    let more = turn .before .before .loop-test .taken in
-    let word = turn .head .ensures in
-    let spans = c .before .before .before .before .before .before .before .before .before .before .if1 .taken in
-    let linked = c .before .before .before .before .before .before .before .before .link .ensures .same in
-    let part = c .before .before .part in
+    let part = c .before .before in
+    let u = part .before .before in
+    let k = span t u in
+    let h = turn t k in
     let value = c .before .is-value in
-    let skips = c .before .before .before .before .before .before .before .skips .ensures .right (c .before .before .before .before .before .before .if2 .taken) in
-    let unknown = sym (c .before .before .before .before .before .is-known .ensures) ∙ not-true _ (c .before .before .before .before .if3 .taken) in
-    going-read _ _ _ _ _ _ _ (part .result) _ (search needs)
-    (skip-on _ _ _ _ _ _ _ _ _ going more _ word spans _ linked (λ b. skips _ b unknown) (part .result) (part .ensures)
-    (told (part .result) (value .result) true (search needs) (value .ensures) (not-false _ (c .if5 .left))))
+    going-read _ _ _ _ _ _ _ (part .part .result) _ (search needs)
+    (skip-on _ _ _ _ _ _ _ _ _ (going t h) (more t h) _ (word t h) (spans t k) _ (linked t k) (skipped t u) (part .part .result) (part .part .ensures)
+    (told (part .part .result) (value .result) true (search needs) (value .ensures) (not-false _ (c .if5 .left))))
 
 rest-loop-less-2 : (t : ℕ) → rest-lts.Need-loop-less-2 (calls-rest t) (rest-at t) rest.Post Inv-loop μ-loop
 rest-loop-less-2 t c =
-    let turn = c .before .before .before .before .before .before .before in
-    let going = turn .before .before .before .loop .inv in
-    let more = turn .before .before .loop-test .taken in
-    let word = turn .head .ensures in
-    let spans = c .before .before .before .before .before .before .if1 .taken in
-    let linked = c .before .before .before .before .link .ensures .same in
-    span-past _ _ _ _ _ _ _ _ _ going more _ word spans _ linked
+    let k = c .before .before .before .before in
+    let h = turn t k in
+    span-past _ _ _ _ _ _ _ _ _ (going t h) (more t h) _ (word t h) (spans t k) _ (linked t k)
 
 rest-loop-again-2 : (t : ℕ) → rest-lts.Need-loop-again-2 (calls-rest t) (rest-at t) rest.Post Inv-loop μ-loop
 rest-loop-again-2 t c =
-    let turn = c .before .before .before .before .before .before .before in
-    let going = turn .before .before .before .loop .inv in
-    let more = turn .before .before .loop-test .taken in
-    let word = turn .head .ensures in
-    let spans = c .before .before .before .before .before .before .if1 .taken in
-    let linked = c .before .before .before .before .link .ensures .same in
-    skip-known _ _ _ _ _ _ _ _ _ going more _ word spans _ linked (sym (c .before .is-known .ensures) ∙ not-false _ (c .if3 .left))
+    let k = c .before .before .before .before in
+    let h = turn t k in
+    skip-known _ _ _ _ _ _ _ _ _ (going t h) (more t h) _ (word t h) (spans t k) _ (linked t k) (sym (c .before .is-known .ensures) ∙ not-false _ (c .if3 .left))
 
 rest-add-part-2 : (t : ℕ) → rest-lts.Need-add-part-2 (calls-rest t) (rest-at t) rest.Post Inv-loop μ-loop
-rest-add-part-2 t c = let q = turn-fits t (c .before .before .before .before .before) in record { fits = omega arith }
+rest-add-part-2 t c = let q = turn-fits t (turn t (c .before .before)) in record { fits = omega arith }
 
 rest-part-requires-2 : (t : ℕ) → rest-lts.Need-part-requires-2 (calls-rest t) (rest-at t) rest.Post Inv-loop μ-loop
-rest-part-requires-2 t c κs =
-    let turn = c .before .before .before .before .before in
-    let going = turn .before .before .before .loop .inv in
-    let more = turn .before .before .loop-test .taken in
-    let word = turn .head .ensures in
-    let spans = c .before .before .before .before .if1 .taken in
-    let linked = c .before .before .link .ensures .same in
-    let stores = turn .before .before .before .before .pre .1 .0 in
-    (omega (arith, span-less _ _ _ _ _ _ _ _ _ going more _ word spans _ linked), (stores, span-stands _ _ _ _ _ _ _ _ _ going more _ word spans _ linked))
+rest-part-requires-2 t c κs = part-asks t (c .before .before)
 
 rest-is-value-requires-2 : (t : ℕ) → rest-lts.Need-is-value-requires-2 (calls-rest t) (rest-at t) rest.Post Inv-loop μ-loop
 rest-is-value-requires-2 t c κs = search needs
 
 rest-returns-3 : (t : ℕ) → rest-lts.Need-returns-3 (calls-rest t) (rest-at t) rest.Post Inv-loop μ-loop
 rest-returns-3 t c =
-    let turn = c .before .before .before .before .before .before .before .before in
-    let going = turn .before .before .before .loop .inv in
-    let more = turn .before .before .loop-test .taken in
-    let word = turn .head .ensures in
-    let spans = c .before .before .before .before .before .before .before .if1 .taken in
-    let linked = c .before .before .before .before .before .link .ensures .same in
-    let part = c .before .before .part2 in
+    let part = c .before .before in
+    let k = part .before .before .before in
+    let h = turn t k in
     let value = c .before .is-value2 in
-    let unknown = c .before .before .before .before .skips .ensures .plain (c .before .before .before .if2 .left) _ in
-    followed-read _ _ _ _ _ _ _ (search needs) (part .result) (search needs)
-    (right-fails _ _ _ _ _ _ _ _ _ going more _ word spans _ linked (part .result) (part .ensures) unknown
-    (told (part .result) (value .result) false (search needs) (value .ensures) (not-true _ (c .if6 .taken))))
+    let plain = part .before .before .skips .ensures .plain (part .before .if2 .left) _ in
+    followed-read _ _ _ _ _ _ _ (search needs) (part .part2 .result) (search needs)
+    (right-fails _ _ _ _ _ _ _ _ _ (going t h) (more t h) _ (word t h) (spans t k) _ (linked t k) (part .part2 .result) (part .part2 .ensures) plain
+    (told (part .part2 .result) (value .result) false (search needs) (value .ensures) (not-true _ (c .if6 .taken))))
 
 rest-leaf-requires : (t : ℕ) → rest-lts.Need-leaf-requires (calls-rest t) (rest-at t) rest.Post Inv-loop μ-loop
 rest-leaf-requires t c κs =
-    let turn = c .before .before in
-    let going = turn .before .before .before .loop .inv in
-    let more = turn .before .before .loop-test .taken in
-    let word = turn .head .ensures in
-    let stores = turn .before .before .before .before .pre .1 .0 in
-    (stores, fused-leaf _ _ _ _ _ _ _ _ _ going more _ word (c .before .if1 .left) (search needs))
+    let h = c .before .before in
+    (h .before .before .before .before .pre .1 .0, fused-leaf _ _ _ _ _ _ _ _ _ (going t h) (more t h) _ (word t h) (c .before .if1 .left) (search needs))
 
 rest-operate-requires : (t : ℕ) → rest-lts.Need-operate-requires (calls-rest t) (rest-at t) rest.Post Inv-loop μ-loop
 rest-operate-requires t c κs = (c .before .before .before .before .loop .inv .small, sided t c .small)
@@ -445,34 +451,25 @@ rest-failure-requires t c κs = search needs
 
 rest-returns-4 : (t : ℕ) → rest-lts.Need-returns-4 (calls-rest t) (rest-at t) rest.Post Inv-loop μ-loop
 rest-returns-4 t c =
-    let turn = c .before .before .before .before .before in
-    let going = turn .before .before .before .loop .inv in
-    let more = turn .before .before .loop-test .taken in
-    let word = turn .head .ensures in
+    let h = c .before .before .before .before .before in
     let worked = c .before .before .before .operate in
     let failing = c .before .before .is-failing in
     followed-read _ _ _ _ _ _ _ (search needs) (c .failure .result) (search needs)
-    (turn-fails _ _ _ _ _ _ _ _ _ going more _ word _ _ (sided t (c .before .before .before .before)) (worked .result) (worked .ensures)
+    (turn-fails _ _ _ _ _ _ _ _ _ (going t h) (more t h) _ (word t h) _ _ (sided t (c .before .before .before .before)) (worked .result) (worked .ensures)
     (failing-is _ (worked .result) (failing .result) true (search needs) (failing .ensures) (c .before .if7 .taken)) (c .failure .result) (c .failure .ensures))
 
 rest-loop-less-3 : (t : ℕ) → rest-lts.Need-loop-less-3 (calls-rest t) (rest-at t) rest.Post Inv-loop μ-loop
 rest-loop-less-3 t c =
-    let turn = c .before .before .before .before in
-    let going = turn .before .before .before .loop .inv in
-    let more = turn .before .before .loop-test .taken in
-    let word = turn .head .ensures in
-    turn-less _ _ _ _ _ _ _ _ _ going more _ word _ _ (sided t (c .before .before .before))
+    let h = c .before .before .before .before in
+    turn-less _ _ _ _ _ _ _ _ _ (going t h) (more t h) _ (word t h) _ _ (sided t (c .before .before .before))
 
 rest-loop-again-3 : (t : ℕ) → rest-lts.Need-loop-again-3 (calls-rest t) (rest-at t) rest.Post Inv-loop μ-loop
 rest-loop-again-3 t c =
-    let turn = c .before .before .before .before in
-    let going = turn .before .before .before .loop .inv in
-    let more = turn .before .before .loop-test .taken in
-    let word = turn .head .ensures in
+    let h = c .before .before .before .before in
     let worked = c .before .before .operate in
     let failing = c .before .is-failing in
     going-read _ _ _ _ _ _ _ (worked .result) _ (search needs)
-    (goes _ _ _ _ _ _ _ _ _ going more _ word _ _ (sided t (c .before .before .before)) (worked .result) (worked .ensures)
+    (goes _ _ _ _ _ _ _ _ _ (going t h) (more t h) _ (word t h) _ _ (sided t (c .before .before .before)) (worked .result) (worked .ensures)
     (failing-is _ (worked .result) (failing .result) false (search needs) (failing .ensures) (c .if7 .left)))
 
 rest-returns-5 : (t : ℕ) → rest-lts.Need-returns-5 (calls-rest t) (rest-at t) rest.Post Inv-loop μ-loop
@@ -508,10 +505,13 @@ whole-is-value-requires t c κs = search needs
 
 whole-returns : (t : ℕ) → whole-lts.Need-returns (calls-whole t) (whole-at t) whole.Post
 whole-returns t c =
-    let s = c .before .before .before .before .before .before .before .before in
-    let word = c .before .before .before .before .before .before .head .ensures in
-    let inside = c .before .before .before .before .before .if1 .left in
-    let linked = c .before .before .before .link .ensures .same in
+    let link = c .before .before .before in
+    let several = link .before .before in
+    let head = several .before in
+    let s = head .before .before in
+    let word = head .head .ensures in
+    let inside = several .if1 .left in
+    let linked = link .link .ensures .same in
     let enclosed = c .before .before .enclosed in
     let value = c .before .is-value in
     evaluated-read _ _ _ _ _ _ (enclosed .result) (search needs)

@@ -257,20 +257,16 @@ climb-add-climb t c = search (needs, run-add)
 
 climb-climb-requires : (t : ℕ) → climb-lts.Need-climb-requires (calls-climb t) (climb-at t) climb.Post climb-Inv-loop climb-μ-loop
 climb-climb-requires t c κs =
-    let same = c .before in
-    let asked = same .before in
-    let within = asked .before in
-    let some = within .before in
-    let level = some .before in
-    let word = level .before in
-    let part = word .before .before .before in
+    let within = c .before .before .before in
+    let level = within .before .before in
+    let part = level .before .before .before .before in
     let loop = part .before .before in
     let first = loop .before .before .before in
-    let start = first .before .before .before .before in (
-      search (needs, run-falls),
-      run-right _ _ _ _ _ _ _ _ _ (loop .loop .inv) _ _ (part .left .given .1) _ _ (word .sort .ensures) (level .level-of .ensures) (some .if1 .left) (within .if2 .left)
-          _ (first .begin .ensures) (start .pre .1),
-    )
+    let start = first .before .before .before .before in
+    let less = run-falls _ _ _ _ _ _ _ _ _ (loop .loop .inv) _ _ (part .left .given .1) _ t (first .begin .ensures) (start .pre .1) (start .pre .0) in
+    let stands = run-right _ _ _ _ _ _ _ _ _ (loop .loop .inv) _ _ (part .left .given .1) _ _ (level .before .sort .ensures) (level .level-of .ensures)
+    (within .before .if1 .left) (within .if2 .left) _ (first .begin .ensures) (start .pre .1) in
+    (less, stands)
 
 climb-join-requires : (t : ℕ) → climb-lts.Need-join-requires (calls-climb t) (climb-at t) climb.Post climb-Inv-loop climb-μ-loop
 climb-join-requires t c κs =

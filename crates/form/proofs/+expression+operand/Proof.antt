@@ -1,11 +1,11 @@
 use borrow.Author.Needs.{needs}
 use mathlib.Core.Path.{_≡_}
-use Prim.Native.Nat.{ℕ, suc, _+_, _*_, _-_, _<_}
+use Prim.Native.Nat.{ℕ, suc, _+_, _*_, _-_, _<_, _≤_}
 use Rattle.paper.specs.Expressions.{isLiteral}
 use Rattle.form.specs.Places
 use Rattle.form.specs.Places.{sortsIn, _▸_, expressionIn, rest}
 use Rattle.form.proofs.Reading.{branches, fits}
-use Rattle.form.proofs.Flat.{begun, refused, past-all, past-relation, on-tight, on-relation, on-loose, operator-fits, fewer, fewer-signed, nest-out, nest-out-2, nest-in}
+use Rattle.form.proofs.Flat.{begun, refused, past-all, past-relation, on-tight, on-relation, on-loose, operator-fits, fewer, fewer-signed, nest-out, nest-out-2, nest-in, start-on, turn-on, turn-signed, operand-falls, paren-falls, brace-falls}
 use borrow.Fn.Kinds.{In}
 use borrow.Fn.PlainCycle.{Measures, is, falls, and}
 use Rattle.form.proofs.expression.Reads as expression
@@ -22,11 +22,15 @@ use Rattle.form.proofs.sort.Reads as sort-reads
 use Rattle.form.proofs.+expression+operand.{statement}
 use Rattle.form.proofs.+expression+operand.Tie.{close}
 
+-- The reading calls itself on the inner expression: the words left and the remaining nesting fall at each call.
+abbrev left : (words at nesting : ℕ) → ℕ
+left words at nesting = words - at + nesting * 2
+
 abbrev μ-expression : Measures 1 expression-kinds.ps ℕ
-μ-expression κs a = a .1 .1 .1 .0 * 2 + 1
+μ-expression κs a = left (a .1 .0) (a .1 .1 .0) (a .1 .1 .1 .0) + 1
 
 abbrev μ-operand : Measures 1 operand-kinds.ps ℕ
-μ-operand κs a = a .1 .1 .1 .0 * 2
+μ-operand κs a = left (a .1 .0) (a .1 .1 .0) (a .1 .1 .1 .0)
 
 abbrev expression-at : ℕ → In 1 expression-kinds.ps
 expression-at t =
@@ -44,8 +48,9 @@ operand-below t = and 1 operand-kinds.ps (falls 1 operand-kinds.ps _<_ μ-operan
 
 abbrev expression-Inv-loop : expression-lts.InvT-loop
 expression-Inv-loop code words at nesting n₀ related₀ n related =
-    expressionIn (sortsIn code words) (suc nesting) at
-    ≡ (Places.operand (sortsIn code words) (expressionIn (sortsIn code words) nesting) n ▸ rest (sortsIn code words) (expressionIn (sortsIn code words) nesting) related)
+    (expressionIn (sortsIn code words) (suc nesting) at
+    ≡ (Places.operand (sortsIn code words) (expressionIn (sortsIn code words) nesting) n ▸ rest (sortsIn code words) (expressionIn (sortsIn code words) nesting) related))
+    × (words - n ≤ words - at)
 
 abbrev expression-μ-loop : expression-lts.MeasureT-loop
 expression-μ-loop code words at nesting n₀ related₀ n related = words - n
@@ -64,10 +69,10 @@ expression-behind-sign-requires : (t : ℕ) → expression-lts.Need-behind-sign-
 expression-behind-sign-requires t c κs = search needs
 
 expression-loop-holds : (t : ℕ) → expression-lts.Need-loop-holds (calls-expression t) (expression-at t) expression.Post expression-Inv-loop expression-μ-loop
-expression-loop-holds t c = search (needs, begun)
+expression-loop-holds t c = (search (needs, begun), search (needs, start-on))
 
 expression-operand-requires : (t : ℕ) → expression-lts.Need-operand-requires (calls-expression t) (expression-at t) expression.Post expression-Inv-loop expression-μ-loop
-expression-operand-requires t c κs = search needs
+expression-operand-requires t c κs = (search (needs, operand-falls), search needs)
 
 expression-enum-known-r : (t : ℕ) → expression-lts.Need-enum-known-r (calls-expression t) (expression-at t) expression.Post expression-Inv-loop expression-μ-loop
 expression-enum-known-r t c = search needs
@@ -94,7 +99,7 @@ expression-loop-less : (t : ℕ) → expression-lts.Need-loop-less (calls-expres
 expression-loop-less t c = search (needs, fewer)
 
 expression-loop-again : (t : ℕ) → expression-lts.Need-loop-again (calls-expression t) (expression-at t) expression.Post expression-Inv-loop expression-μ-loop
-expression-loop-again t c = search (needs, on-tight)
+expression-loop-again t c = (search (needs, on-tight), search (needs, turn-on))
 
 expression-returns-3 : (t : ℕ) → expression-lts.Need-returns-3 (calls-expression t) (expression-at t) expression.Post expression-Inv-loop expression-μ-loop
 expression-returns-3 t c = search (needs, past-relation)
@@ -109,7 +114,7 @@ expression-loop-less-2 : (t : ℕ) → expression-lts.Need-loop-less-2 (calls-ex
 expression-loop-less-2 t c = search (needs, fewer-signed)
 
 expression-loop-again-2 : (t : ℕ) → expression-lts.Need-loop-again-2 (calls-expression t) (expression-at t) expression.Post expression-Inv-loop expression-μ-loop
-expression-loop-again-2 t c = search (needs, on-relation)
+expression-loop-again-2 t c = (search (needs, on-relation), search (needs, turn-signed))
 
 expression-add-behind-sign-2 : (t : ℕ) → expression-lts.Need-add-behind-sign-2 (calls-expression t) (expression-at t) expression.Post expression-Inv-loop expression-μ-loop
 expression-add-behind-sign-2 t c = search (needs, operator-fits)
@@ -121,7 +126,7 @@ expression-loop-less-3 : (t : ℕ) → expression-lts.Need-loop-less-3 (calls-ex
 expression-loop-less-3 t c = search (needs, fewer-signed)
 
 expression-loop-again-3 : (t : ℕ) → expression-lts.Need-loop-again-3 (calls-expression t) (expression-at t) expression.Post expression-Inv-loop expression-μ-loop
-expression-loop-again-3 t c = search (needs, on-loose)
+expression-loop-again-3 t c = (search (needs, on-loose), search (needs, turn-signed))
 
 operand-sort-requires : (t : ℕ) → operand-lts.Need-sort-requires (calls-operand t) (operand-at t) operand.Post
 operand-sort-requires t c κs = search needs
@@ -153,7 +158,7 @@ operand-sub-expression : (t : ℕ) → operand-lts.Need-sub-expression (calls-op
 operand-sub-expression t c = search needs
 
 operand-expression-requires : (t : ℕ) → operand-lts.Need-expression-requires (calls-operand t) (operand-at t) operand.Post
-operand-expression-requires t c κs = search needs
+operand-expression-requires t c κs = (search (needs, brace-falls), search needs)
 
 operand-word-requires : (t : ℕ) → operand-lts.Need-word-requires (calls-operand t) (operand-at t) operand.Post
 operand-word-requires t c κs = search needs
@@ -173,7 +178,7 @@ operand-sub-expression-2 : (t : ℕ) → operand-lts.Need-sub-expression-2 (call
 operand-sub-expression-2 t c = search needs
 
 operand-expression-requires-2 : (t : ℕ) → operand-lts.Need-expression-requires-2 (calls-operand t) (operand-at t) operand.Post
-operand-expression-requires-2 t c κs = search needs
+operand-expression-requires-2 t c κs = (search (needs, paren-falls), search needs)
 
 operand-word-requires-2 : (t : ℕ) → operand-lts.Need-word-requires-2 (calls-operand t) (operand-at t) operand.Post
 operand-word-requires-2 t c κs = search needs
