@@ -28,7 +28,7 @@ extern "C" {
 
 /* ---- version */
 /* Version 1.2.3 is 10203. The first number changes where the rule above is broken, the second where something is new, the third where something is mended. */
-#define RAPID_VERSION 10000
+#define RAPID_VERSION 10100
 
 /* RAPID_VERSION of the header that the library was compiled with. */
 uint32_t rapid_version(void);
