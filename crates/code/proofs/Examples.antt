@@ -28,6 +28,15 @@ comparison-term :
 unfolding comparison head link termWithin spanTerm within chain rightTerm rightEnd operandOf leafTerm elementTerm moduleLeaf guard _then_ operatorOf operators
 comparison-term = refl
 
+-- it has parentheses and braces, one deep: where none may open it is no term, and where one may it is
+comparison-flat : termWithin 30 1 comparison 0 0 12 ≡ none
+unfolding comparison head link termWithin spanTerm within chain rightTerm rightEnd operandOf leafTerm elementTerm moduleLeaf guard _then_ operatorOf operators
+comparison-flat = refl
+
+comparison-nested : termWithin 30 1 comparison 1 0 12 ≡ termIn 30 1 comparison 0 12
+unfolding comparison head link termWithin spanTerm within chain rightTerm rightEnd operandOf leafTerm elementTerm moduleLeaf guard _then_ operatorOf operators
+comparison-nested = refl
+
 -- a module of 29 words has no such array
 comparison-short : termIn 29 1 comparison 0 12 ≡ none
 unfolding comparison head link termWithin spanTerm within chain rightTerm rightEnd operandOf leafTerm elementTerm moduleLeaf guard _then_ operatorOf operators

@@ -1,5 +1,7 @@
 // Whole numbers in a range: what is worked out is exact, and then held to the range. An operand may be any i64, and so may the
 // ends of the range. A result that leaves 64 bits lies outside every such range, so it is an overflow.
+// No other crate calls num_range, ranged, add, subtract, multiply, minus, divide, modulo and compare yet: `evaluation` works num out in 64 bits and tests the
+// result once. They wait for dnum (request 8), whose products leave 64 bits (D57).
 ghost use mathlib.Core.Path.{_≡_};
 ghost use lib.IntN.{_+ℤ_, _-ℤ_, _*ℤ_};
 ghost use Rattle.numbers.specs.Answers.{NumRange, errorNumbers, Held, Sum, Difference, Product, Opposite, Quotient, Remainder, Size, Compared, NumberOf, WordOf};
