@@ -13,7 +13,7 @@ use Rattle.paper.specs.Trees.{Expr}
 use Rattle.paper.specs.Names.{DataType, Scopes}
 use Rattle.paper.specs.Types.{Fault}
 use Rattle.paper.specs.Types as types
-use Rattle.paper.specs.Expressions.{disjunctions}
+use Rattle.paper.specs.Expressions.{disjunctions, nestings}
 use Rattle.paper.specs.Declarations.{Filling, noData, declareData, dataTexts, routineNames, moduleData}
 use Rattle.paper.specs.Checks.{forsInList, listFaults}
 use Rattle.cells.specs.Words.{wordsOf}
@@ -28,7 +28,7 @@ use Rattle.heads.specs.Trees.{headsFor}
 use Rattle.sites.specs.Sites.{theModule, aRoutine, filling}
 use Rattle.expressions.specs.declared.Judged.{Judged}
 use Rattle.expressions.specs.declared.Judged.the-variants as judged
-use Rattle.expressions.specs.Answers.{Sound, Says, Judges, Stands, Checked, OfType}
+use Rattle.expressions.specs.Answers.{Sound, SaysUnder, Judges, Stands, Checked, OfType}
 use Rattle.expressions.proofs.Unique.{expression-unique, of-type-unique}
 use Rattle.constants.specs.declared.Valued.{Valued}
 use Rattle.constants.specs.declared.Valued.the-variants as valued
@@ -66,11 +66,11 @@ pub record SameExpression {code values : List ℕ} {top at : ℕ} (k : Stands co
 module _ (code values c d : List ℕ) (only : Bool) (at : ℕ) (r s : Judged) where
   same-expression : {top : ℕ} (k : Stands code values top at) (j : types.Judged) → Judges (k .known .m) (k .known .n) code c at (k .to) j r → Judges (k .known .m) (k .known .n) code d at (k .to) j s
       → r ≡ s → SameExpression k c d r s
-  unfolding Says
+  unfolding SaysUnder
   same-expression k j p q e = record {
     answer = e;
     outside = kept-unique code c d at (k .to) (p .kept) (q .kept);
-    term = λ type next t. both type next (subst (Says (k .known .m) (k .known .n) (wordsOf c) at (k .to) j) t (p .says)) (subst (Says (k .known .m) (k .known .n) (wordsOf d) at (k .to) j) (sym e ∙ t) (q .says));
+    term = λ type next t. both type next (subst (SaysUnder nestings (k .known .m) (k .known .n) (wordsOf c) at (k .to) j) t (p .says)) (subst (SaysUnder nestings (k .known .m) (k .known .n) (wordsOf d) at (k .to) j) (sym e ∙ t) (q .says));
   }
     where
       both : (type next : ℕ) → Sound (k .known .m) (k .known .n) (wordsOf c) at (k .to) j type next → Sound (k .known .m) (k .known .n) (wordsOf d) at (k .to) j type next

@@ -85,15 +85,15 @@ module _ (s : State) where
   unfolding looping Suffices
   looping-enough k z l body after s′ = chosen Suffices (passes z l) _ _ tt tt
 
-  step-enough : (M : Memory) (t : Option Term) (go : ℤ → Effect) → ((z : ℤ) → Suffices (go z)) → Suffices (withStep M t s go)
+  step-enough : (M : Memory) (t : Option Term) (z y : ℤ) (go : ℤ → Effect) → ((x : ℤ) → Suffices (go x)) → Suffices (withStep M t z y s go)
   unfolding withStep
-  step-enough M none go h = h _
-  step-enough M (some e) go h = value-enough (worth M e) s go h
+  step-enough M none z y go h = h _
+  step-enough M (some e) z y go h = value-enough (worth M e) s go h
 
   entering-enough : (M : Memory) (k : ℕ) (from to : Term) (step : Option Term) (body after : ℕ) → Suffices (entering M k from to step body after s)
   unfolding entering
   entering-enough M k from to step body after =
-      value-enough (worth M from) s _ (λ z. value-enough (worth M to) s _ (λ y. step-enough M step _ (λ x. looping-enough k z _ body after _)))
+      value-enough (worth M from) s _ (λ z. value-enough (worth M to) s _ (λ y. step-enough M step z y _ (λ x. looping-enough k z _ body after _)))
 
   repeating-enough : (M : Memory) (c : Call) (k body after : ℕ) → Suffices (repeating M c k body after s)
   unfolding repeating

@@ -20,7 +20,13 @@ heads-call d = let s = scope-call d in s .before .before .before .before .before
 abbrev start : tie.After-d2 → tie.Start
 start d = let h = heads-call d in h .before .before .before .before .before .before
 
--- both stores are as long as before that call
+-- both stores are as long as before the reading of the heads, and as before the data
+abbrev heads-values : tie.After-d2 → tie.After-values
+heads-values d = scope-call d .before .before
+
+abbrev heads-code : tie.After-d2 → tie.After-code
+heads-code d = heads-values d .before .before
+
 abbrev data-code : tie.After-d2 → tie.After-code2
 data-code d = d .before .before .before .before .before
 
@@ -66,10 +72,16 @@ enum-known-r-2 : tie.Need-enum-known-r-2
 enum-known-r-2 c = search needs
 
 same-length : tie.Need-same-length
-same-length c = search needs
+same-length c =
+    let z = c .before .before .before .before .before in
+    let d = walk-call z .before .before .before .before in
+    omega (arith, walk-code z .code3 .given, data-code d .code2 .given, heads-code d .code .given)
 
 same-length-2 : tie.Need-same-length-2
-same-length-2 c = search needs
+same-length-2 c =
+    let z = c .before .before .before .before .before in
+    let d = walk-call z .before .before .before .before in
+    omega (arith, z .values3 .given, data-values d .values2 .given, heads-values d .values .given)
 
 returns : tie.Need-returns
 returns c =
@@ -106,13 +118,26 @@ returns-3 c =
     (omega (arith, walk-code z .code3 .given)) (omega (arith, z .values3 .given)) _ _ (c .before .r .given .1)
 
 same-length-7 : tie.Need-same-length-7
-same-length-7 c = search needs
+same-length-7 c =
+    let z = c .before .before .before .before .before .before in
+    let d = walk-call z .before .before .before .before in
+    omega (arith, walk-code z .code3 .given, data-code d .code2 .given, heads-code d .code .given)
 
 same-length-8 : tie.Need-same-length-8
-same-length-8 c = search needs
+same-length-8 c =
+    let z = c .before .before .before .before .before .before in
+    let d = walk-call z .before .before .before .before in
+    omega (arith, z .values3 .given, data-values d .values2 .given, heads-values d .values .given)
 
 returns-4 : tie.Need-returns-4
-returns-4 c = search (needs, main-some, back-upto)
+returns-4 c =
+    let r = c .before .before .before in
+    let z = r .before .before .before in
+    let d = walk-call z .before .before .before .before in
+    main-some _ _ _ _ (start d .pre) _ _ _ (heads-call d .read .ensures) _ _ _ (data-call d .module-data .ensures .0) _ _ (d .d2 .given .1)
+    (omega (arith, data-code d .code2 .given)) (omega (arith, data-values d .values2 .given)) _ _ _ (walk-call z .all-routines .ensures .0)
+    (omega (arith, walk-code z .code3 .given)) (omega (arith, z .values3 .given)) _ _ (r .r2 .given .1) (c .before .if1 .left)
+    (back-upto _ _ (walk-call z .all-routines .ensures .1) _ _ (r .r2 .given .1))
 
 pub names-and-types-spec : {M : Type 1} → statement M
 names-and-types-spec =
