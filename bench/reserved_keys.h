@@ -1,4 +1,4 @@
-/* Reserved words by the keys and the table of crates/reserved, written in C; tools/keys holds the numbers here to those of that crate. */
+/* Reserved words by the keys and the table of crates/text_reserved, written in C; tools/keys holds the numbers here to those of that crate. */
 
 static const uint64_t key_at[64] = {
     1256331762u, 39260454u, 1129964u, 37174u, 1709684u, 1318u, 1169417799236u, 57842u, 34244u, 1525831045u, 39410u, 1597312778542u, 1522u,

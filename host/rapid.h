@@ -1,6 +1,6 @@
 /* The RAPID lesson bench for C and C++: check and run a module's text, list its words, and ask about a place in it. docs/EMBEDDING.md shows how it is used.
  *
- * Behind it stand three proved libraries of one function each: `pendant` (rapid_run), `listing` (rapid_list) and `asking` (rapid_ask). rapid.c has thin wrappers
+ * Behind it stand three proved libraries of one function each: `call_pendant` (rapid_run), `call_listing` (rapid_list) and `call_asking` (rapid_ask). rapid.c has thin wrappers
  * on C's own types (rapid_call, rapid_words, rapid_word_at) and the sentences; nothing else stands between a caller and the proved code. host/build puts all of it
  * into one librapid.a. No memory is used but what is lent, and some stack. Nothing is kept between calls: with memory of its own each thread may call at any time.
  *

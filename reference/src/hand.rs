@@ -1,4 +1,4 @@
-//! The table of cases worked out by hand, `cases/hand.txt`, and how it is read.
+//! The table of cases worked out by hand, `run_cases/hand.txt`, and how it is read.
 //!
 //! The table's own first lines describe its notation.
 

@@ -1,4 +1,4 @@
-//! The trees that `form` builds, `names` completes and `run` walks.
+//! The trees that `check_form` builds, `check_names` completes and `run` walks.
 
 #[derive(Clone, Copy, Debug, PartialEq, Eq)]
 pub enum Type {
@@ -6,7 +6,7 @@ pub enum Type {
     Bool,
 }
 
-/// What a name stands for at a run; `names` puts it in.
+/// What a name stands for at a run; `check_names` puts it in.
 #[derive(Clone, Copy, Debug)]
 pub enum Meaning {
     Unsettled,
@@ -135,7 +135,7 @@ pub struct Loop {
 
 pub struct Case {
     pub values: Vec<Expression>,
-    /// The values worked out; `names` puts them in.
+    /// The values worked out; `check_names` puts them in.
     pub numbers: Vec<i64>,
     pub body: List,
 }
@@ -168,13 +168,13 @@ pub struct Routine {
     pub error: Option<List>,
     /// The place of ENDPROC or ENDFUNC.
     pub end: usize,
-    /// The words a call starts with; `names` puts them in.
+    /// The words a call starts with; `check_names` puts them in.
     pub words: Vec<i64>,
 }
 
 pub struct Module {
     pub data: Vec<Data>,
     pub routines: Vec<Routine>,
-    /// The words a run starts with; `names` puts them in.
+    /// The words a run starts with; `check_names` puts them in.
     pub words: Vec<i64>,
 }

@@ -6,19 +6,19 @@ use Prim.Native.Nat.{ℕ, _*_, _<_, _≤_}
 use lib.ListN.{length, getD, take, drop}
 use Rattle.laws.proofs.Tests.{apart}
 use Rattle.paper.specs.Types.{Fault}
-use Rattle.cells.specs.Words.{wordsOf}
+use Rattle.store_cells.specs.Words.{wordsOf}
 use Rattle.code.specs.Cells.{placeAt, linkAt}
 use Rattle.faults.specs.First.{First}
 use Rattle.faults.proofs.First.{least-none, least-first}
-use Rattle.store.specs.Promises.{Kept}
-use Rattle.store.specs.Chains.{Leads, lastOf, Chain}
-use Rattle.names.specs.declared.Scope.{Scope}
-use Rattle.names.specs.declared.Walked.{Walked}
-use Rattle.names.specs.declared.Walked.the-variants as walked
-use Rattle.expressions.specs.declared.Judged.{Judged}
-use Rattle.expressions.specs.declared.Judged.the-variants as judged
-use Rattle.sites.specs.Walks.{Changed}
-use Rattle.around.specs.Answers.{Tell, Answer}
+use Rattle.store_writing.specs.Promises.{Kept}
+use Rattle.store_writing.specs.Chains.{Leads, lastOf, Chain}
+use Rattle.check_names.specs.declared.Scope.{Scope}
+use Rattle.check_names.specs.declared.Walked.{Walked}
+use Rattle.check_names.specs.declared.Walked.the-variants as walked
+use Rattle.check_expressions.specs.declared.Judged.{Judged}
+use Rattle.check_expressions.specs.declared.Judged.the-variants as judged
+use Rattle.check_sites.specs.Walks.{Changed}
+use Rattle.check_around.specs.Answers.{Tell, Answer}
 
 -- ---- the first fault
 abbrev pub faultAt : (number word : ℕ) → Fault

@@ -3,8 +3,8 @@ use mathlib.Core.Path.{_≡_, sym, _∙_}
 use mathlib.Core.List.{List}
 use Prim.Native.Nat.{ℕ, _-_}
 use Rattle.paper.specs.Answer.{Record, storeWords}
-use Rattle.cells.proofs.Kept.{clear-unique}
-use Rattle.records.specs.Records.{Written, Emptied}
+use Rattle.store_cells.proofs.Kept.{clear-unique}
+use Rattle.call_records.specs.Records.{Written, Emptied}
 
 pub written-unique : (before a b : List ℕ) (f : Record) → Written before a f → Written before b f → a ≡ b
 written-unique before a b f p q = p .bytes ∙ sym (q .bytes)

@@ -16,7 +16,7 @@ use Rattle.paper.specs.Types as types
 use Rattle.paper.specs.Expressions.{disjunctions, nestings}
 use Rattle.paper.specs.Declarations.{Filling, noData, declareData, dataTexts, routineNames, moduleData}
 use Rattle.paper.specs.Checks.{forsInList, listFaults}
-use Rattle.cells.specs.Words.{wordsOf}
+use Rattle.store_cells.specs.Words.{wordsOf}
 use Rattle.code.specs.Cells.{linkAt}
 use Rattle.code.specs.Steps.{numbered}
 use Rattle.code.specs.Spans.{bias, termIn}
@@ -24,34 +24,34 @@ use Rattle.layout.specs.Types.{typeIn, IsType}
 use Rattle.faults.specs.Added.{dataFaults, parameterFaults}
 use Rattle.faults.specs.Left.{ownFaults}
 use Rattle.faults.proofs.Routines.{nothing-in-own}
-use Rattle.heads.specs.Trees.{headsFor}
-use Rattle.sites.specs.Sites.{theModule, aRoutine, filling}
-use Rattle.expressions.specs.declared.Judged.{Judged}
-use Rattle.expressions.specs.declared.Judged.the-variants as judged
-use Rattle.expressions.specs.Answers.{Sound, SaysUnder, Judges, Stands, Checked, OfType}
-use Rattle.expressions.proofs.Unique.{expression-unique, of-type-unique}
-use Rattle.constants.specs.declared.Valued.{Valued}
-use Rattle.constants.specs.declared.Valued.the-variants as valued
-use Rattle.constants.specs.declared.Sized.{Sized}
-use Rattle.constants.specs.declared.Sized.the-variants as sized
-use Rattle.constants.specs.Answers.{HeldAs, Asks, Values, SaysSize, Sizes}
-use Rattle.constants.specs.Answers as constants
-use Rattle.names.specs.declared.Scope.{Scope}
-use Rattle.names.specs.Scopes.{withUsed, Grown, Stays, BackTo}
-use Rattle.names.specs.declared.Walked.{Walked}
-use Rattle.names.specs.declared.Walked.the-variants as walked
-use Rattle.datum.specs.Answers as datum
-use Rattle.declarations.specs.Answers.{DataStand, SaysModule, DeclaresModule, RoutineStands, routineAfter, SaysRoutine, DeclaresRoutine}
-use Rattle.parameters.specs.Answers.{ParametersStand, withParameters, Opens, parametersAfter, OtherWords, SaysParameters, DeclaresParameters}
-use Rattle.leaving.specs.Answers.{Leaving}
-use Rattle.leaving.specs.Answers as leaving
-use Rattle.links.specs.Raw.{RawList}
-use Rattle.around.specs.declared.Setting.{Setting}
-use Rattle.around.specs.Around.{groundOf}
-use Rattle.simple.specs.Answers as simple
-use Rattle.compounds.specs.Parts.{ForHeads, ForHeaded, CaseValues, CaseValued}
-use Rattle.statements.specs.Answers as statements
-use Rattle.routines.specs.Answers as routines
+use Rattle.check_heads.specs.Trees.{headsFor}
+use Rattle.check_sites.specs.Sites.{theModule, aRoutine, filling}
+use Rattle.check_expressions.specs.declared.Judged.{Judged}
+use Rattle.check_expressions.specs.declared.Judged.the-variants as judged
+use Rattle.check_expressions.specs.Answers.{Sound, SaysUnder, Judges, Stands, Checked, OfType}
+use Rattle.check_expressions.proofs.Unique.{expression-unique, of-type-unique}
+use Rattle.check_constants.specs.declared.Valued.{Valued}
+use Rattle.check_constants.specs.declared.Valued.the-variants as valued
+use Rattle.check_constants.specs.declared.Sized.{Sized}
+use Rattle.check_constants.specs.declared.Sized.the-variants as sized
+use Rattle.check_constants.specs.Answers.{HeldAs, Asks, Values, SaysSize, Sizes}
+use Rattle.check_constants.specs.Answers as constants
+use Rattle.check_names.specs.declared.Scope.{Scope}
+use Rattle.check_names.specs.Scopes.{withUsed, Grown, Stays, BackTo}
+use Rattle.check_names.specs.declared.Walked.{Walked}
+use Rattle.check_names.specs.declared.Walked.the-variants as walked
+use Rattle.check_datum.specs.Answers as datum
+use Rattle.check_declarations.specs.Answers.{DataStand, SaysModule, DeclaresModule, RoutineStands, routineAfter, SaysRoutine, DeclaresRoutine}
+use Rattle.check_parameters.specs.Answers.{ParametersStand, withParameters, Opens, parametersAfter, OtherWords, SaysParameters, DeclaresParameters}
+use Rattle.check_leaving.specs.Answers.{Leaving}
+use Rattle.check_leaving.specs.Answers as leaving
+use Rattle.check_links.specs.Raw.{RawList}
+use Rattle.check_around.specs.declared.Setting.{Setting}
+use Rattle.check_around.specs.Around.{groundOf}
+use Rattle.check_simple.specs.Answers as simple
+use Rattle.check_compounds.specs.Parts.{ForHeads, ForHeaded, CaseValues, CaseValued}
+use Rattle.check_statements.specs.Answers as statements
+use Rattle.check_routines.specs.Answers as routines
 use Rattle.unique.proofs.Answers.{faultAt, no-first, same-answer, Comes, walk-unique, SameWalk, SameOutside, kept-unique, SameOthers, changed-unique, SameBut, first-link, SaySame, answer-unique}
 use Rattle.unique.proofs.Names.{SameMeans, means-unique, SameFilled, filled-unique}
 use Rattle.unique.proofs.Stores.{SameCells, same-cells}

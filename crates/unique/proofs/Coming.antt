@@ -12,9 +12,9 @@ use Rattle.code.specs.Steps.{Head}
 use Rattle.code.specs.Windows.{callIn, stateIn}
 use Rattle.layout.specs.Rules.{beyondDepth, noRoom}
 use Rattle.layout.specs.Answers.{firstError, answers, entered, left, ended, lackedBy, handed}
-use Rattle.machine.specs.Live.{Live}
-use Rattle.machine.specs.Machine.{Comes, goesOn, enters, leaves, fails, hands, ends, lacks}
-use Rattle.machine.proofs.States.{depth-is}
+use Rattle.run_machine.specs.Live.{Live}
+use Rattle.run_machine.specs.Machine.{Comes, goesOn, enters, leaves, fails, hands, ends, lacks}
+use Rattle.run_machine.proofs.States.{depth-is}
 use Rattle.unique.proofs.Showing.{OneState, one-state}
 
 -- ---- states

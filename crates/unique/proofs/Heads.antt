@@ -9,16 +9,16 @@ use lib.ListN.{length, getD, take, drop}
 use Rattle.laws.proofs.Tests.{apart, by-same}
 use Rattle.paper.specs.Trees.{Module}
 use Rattle.paper.specs.Checks.{mainOf}
-use Rattle.cells.specs.Words.{wordsOf}
+use Rattle.store_cells.specs.Words.{wordsOf}
 use Rattle.code.specs.Cells.{headAt, tailAt, opAt}
 use Rattle.code.specs.Steps.{Head, noHead, numbered}
 use Rattle.code.specs.Signatures.{headIn, signatureIn}
-use Rattle.names.specs.Meanings.{firstMeaning}
-use Rattle.names.specs.Promises.{storeBytes}
-use Rattle.load.specs.Layout.{wordsIn}
-use Rattle.heads.specs.Trees.{headsFor}
-use Rattle.heads.specs.Stores.{isValued}
-use Rattle.heads.specs.Reads.{Begins, MainAt, Foretells, Reads}
+use Rattle.check_names.specs.Meanings.{firstMeaning}
+use Rattle.check_names.specs.Promises.{storeBytes}
+use Rattle.check_load.specs.Layout.{wordsIn}
+use Rattle.check_heads.specs.Trees.{headsFor}
+use Rattle.check_heads.specs.Stores.{isValued}
+use Rattle.check_heads.specs.Reads.{Begins, MainAt, Foretells, Reads}
 use Rattle.unique.proofs.Names.{SameMeans, means-unique}
 
 pub main-unique : (R : List Head) (main : Option ℕ) (r s : ℕ) → MainAt R main r → MainAt R main s → r ≡ s
@@ -32,7 +32,7 @@ main-unique R main r s p q =
     neither : {A : Type 0} {k : ℕ} → main ≡ none → main ≡ some k → A
     neither {k = k} e g = let z : none ≡ some k = sym e ∙ g in apart (cc)
 
--- the code store, of which the words from `first` up to `words` are the module's
+-- the code store, of which the words from `first` up to `text_words` are the module's
 pub record SameHeads (R : List Head) (code c d : List ℕ) (first words : ℕ) : Type 0 where
   pub below : take (first * 2 * 4) c ≡ take (first * 2 * 4) d
   pub above : drop (words * 2 * 4) c ≡ drop (words * 2 * 4) d

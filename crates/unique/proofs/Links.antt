@@ -7,19 +7,19 @@ use native.Mathlib.Omega.{arith}
 use lib.ListN.{length, getD, drop, set}
 use borrow.Author.Tests.{eq-eqb, ne-eqb, lt-ltb, le-ltb}
 use Rattle.laws.proofs.Tests.{test, by-less, by-same}
-use Rattle.cells.specs.Words.{wordsOf}
-use Rattle.cells.proofs.Laws.{Bytes}
+use Rattle.store_cells.specs.Words.{wordsOf}
+use Rattle.store_cells.proofs.Laws.{Bytes}
 use Rattle.code.specs.Cells.{headAt, tailAt, opAt, valueAt, placeAt, linkAt}
 use Rattle.code.specs.Steps.{anElseIf, aThen, aCase, constantAt}
 use Rattle.paper.specs.Sorts.{ELSE}
 use Rattle.paper.specs.Trees.{Expr}
-use Rattle.store.specs.Promises.{headWith, tailWith, Linked, Rewritten}
-use Rattle.store.proofs.Keeping.{kept-wider}
-use Rattle.store.proofs.Rewriting.{rewritten-length, rewritten-drop}
-use Rattle.load.proofs.Unique.{same-store}
-use Rattle.links.specs.Resolved.{goesByLink, goesByValue, goesByPlace, beyond, Follows, Led, Resolved}
-use Rattle.links.specs.Raw.{Ground, SameWords, RawConstants}
-use Rattle.compounds.specs.Parts.{WhileEnded, ForEnded, BehindElse, ArmEnded, CaseChain, Chained, ValuesLinked}
+use Rattle.store_writing.specs.Promises.{headWith, tailWith, Linked, Rewritten}
+use Rattle.store_writing.proofs.Keeping.{kept-wider}
+use Rattle.store_writing.proofs.Rewriting.{rewritten-length, rewritten-drop}
+use Rattle.check_load.proofs.Unique.{same-store}
+use Rattle.check_links.specs.Resolved.{goesByLink, goesByValue, goesByPlace, beyond, Follows, Led, Resolved}
+use Rattle.check_links.specs.Raw.{Ground, SameWords, RawConstants}
+use Rattle.check_compounds.specs.Parts.{WhileEnded, ForEnded, BehindElse, ArmEnded, CaseChain, Chained, ValuesLinked}
 use Rattle.unique.proofs.Stores.{same-behind}
 
 -- ---- links that lead to the next step

@@ -15,22 +15,22 @@ use Rattle.paper.specs.Words.{Word}
 use Rattle.paper.specs.Terms.{Ref}
 use Rattle.paper.specs.Names.{aNum, aBool, Names, Scopes}
 use Rattle.paper.specs.Declarations.{Data}
-use Rattle.cells.specs.Words.{wordsOf}
-use Rattle.cells.proofs.Laws.{length-words}
+use Rattle.store_cells.specs.Words.{wordsOf}
+use Rattle.store_cells.proofs.Laws.{length-words}
 use Rattle.code.specs.Cells.{opAt}
 use Rattle.layout.proofs.Typing.{same-codes}
-use Rattle.names.specs.declared.Scope.{Scope}
-use Rattle.names.specs.Numbers.{numberOf, IsName}
-use Rattle.names.specs.Meanings.{cellWith, typeWith, meaningIn, protectsCell, cellFor, Means}
-use Rattle.names.specs.Promises.{numberAt, TypeOf, TypeNamed}
-use Rattle.names.specs.Promises as names
-use Rattle.names.proofs.Unique.{declare-unique}
-use Rattle.spelling.specs.Hash.{buckets, hashOf}
-use Rattle.form.specs.declared.Verdict.{Verdict}
-use Rattle.form.specs.Judged as form
-use Rattle.constants.specs.Answers.{cellOf}
-use Rattle.sites.specs.Sites.{Site, memoryOf, Among, Owns, Filled}
-use Rattle.sites.specs.Parts.{TypeBit, Fills, Taken, MakesIn}
+use Rattle.check_names.specs.declared.Scope.{Scope}
+use Rattle.check_names.specs.Numbers.{numberOf, IsName}
+use Rattle.check_names.specs.Meanings.{cellWith, typeWith, meaningIn, protectsCell, cellFor, Means}
+use Rattle.check_names.specs.Promises.{numberAt, TypeOf, TypeNamed}
+use Rattle.check_names.specs.Promises as names
+use Rattle.check_names.proofs.Unique.{declare-unique}
+use Rattle.check_spelling.specs.Hash.{buckets, hashOf}
+use Rattle.check_form.specs.declared.Verdict.{Verdict}
+use Rattle.check_form.specs.Judged as form
+use Rattle.check_constants.specs.Answers.{cellOf}
+use Rattle.check_sites.specs.Sites.{Site, memoryOf, Among, Owns, Filled}
+use Rattle.check_sites.specs.Parts.{TypeBit, Fills, Taken, MakesIn}
 use Rattle.unique.proofs.Stores.{SameCells, same-cells}
 
 -- ---- readings of a cell

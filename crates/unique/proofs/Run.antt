@@ -15,22 +15,22 @@ use Rattle.paper.specs.States.{State, Rooms}
 use Rattle.paper.specs.Running.{nextStep, Outcome}
 use Rattle.paper.specs.Running as running
 use Rattle.paper.specs.Answer.{storeWords}
-use Rattle.cells.specs.Words.{wordsOf}
-use Rattle.cells.proofs.Laws.{Bytes, words-small}
+use Rattle.store_cells.specs.Words.{wordsOf}
+use Rattle.store_cells.proofs.Laws.{Bytes, words-small}
 use Rattle.code.specs.Cells.{windowOf, errnoCell, placeAt}
 use Rattle.code.specs.Windows.{endsCell, stepsCell, writtenCell, usedCell, callIn, waiting, writtenIn, stateIn}
-use Rattle.reading.specs.Reading.{cellValues}
-use Rattle.load.proofs.Unique.{same-store}
-use Rattle.machine.specs.Machine.{storeBytes, effectAt, Here, LastWindow, Performs, Calls, Lends, Steps, Stepped}
-use Rattle.targets.specs.Targets.{refCell, Tells, found, lost, Indexes, Found, Target, Spotted}
-use Rattle.starting.specs.Starting.{Starts, Started}
-use Rattle.errors.specs.declared.Taken.{Taken}
-use Rattle.calls.specs.Calling.{Deepest}
-use Rattle.errors.specs.Errors.{KeepsRun, Raises, raises, handsOn, Settles, stops, resumes, Arisen}
-use Rattle.output.specs.Output.{countIn, Prints, Writes, Wrote, WroteOf, Reads, WasRead}
-use Rattle.runner.specs.declared.Ended.{Ended}
-use Rattle.runner.specs.Runs.{Begins, Ran}
-use Rattle.runner.specs.Runs as runs
+use Rattle.store_reading.specs.Reading.{cellValues}
+use Rattle.check_load.proofs.Unique.{same-store}
+use Rattle.run_machine.specs.Machine.{storeBytes, effectAt, Here, LastWindow, Performs, Calls, Lends, Steps, Stepped}
+use Rattle.run_targets.specs.Targets.{refCell, Tells, found, lost, Indexes, Found, Target, Spotted}
+use Rattle.run_starting.specs.Starting.{Starts, Started}
+use Rattle.run_errors.specs.declared.Taken.{Taken}
+use Rattle.run_calls.specs.Calling.{Deepest}
+use Rattle.run_errors.specs.Errors.{KeepsRun, Raises, raises, handsOn, Settles, stops, resumes, Arisen}
+use Rattle.run_output.specs.Output.{countIn, Prints, Writes, Wrote, WroteOf, Reads, WasRead}
+use Rattle.run_whole.specs.declared.Ended.{Ended}
+use Rattle.run_whole.specs.Runs.{Begins, Ran}
+use Rattle.run_whole.specs.Runs as runs
 use Rattle.unique.proofs.Showing.{same-cells, same-part, OneState}
 use Rattle.unique.proofs.Coming.{same-depth, same-next, meet, Agrees, moved, failed, kept, answer-of, AgreesOrLacks, agreed, lacked, agree, agree-where}
 use Rattle.unique.proofs.Enough.{enough}

@@ -15,15 +15,15 @@ use Rattle.laws.proofs.Tests.{by-less, by-last, apart}
 use Rattle.paper.specs.Steps.{Code, Program}
 use Rattle.paper.specs.States.{Loop, moduleWord, callWord, Call, State, Rooms, Effect, ending}
 use Rattle.paper.specs.Running.{codeAt, stepNamed, idle, nextStep, perform}
-use Rattle.cells.proofs.Laws.{Words}
+use Rattle.store_cells.proofs.Laws.{Words}
 use Rattle.code.specs.Cells.{windowOf, windowCells, firstWindow, errnoCell}
 use Rattle.code.specs.Steps.{Head, noHead}
 use Rattle.code.specs.Holds.{optionally}
 use Rattle.code.specs.Windows.{endsCell, stepsCell, routineCell, waitsCell, afterCell, failedCell, resultCell, writtenCell, usedCell, locationIn, resultIn, loopsFrom, callIn, waiting, stateIn}
-use Rattle.reading.specs.Reading.{cellValues}
-use Rattle.output.specs.Output.{countIn}
-use Rattle.machine.specs.Machine.{effectAt}
-use Rattle.machine.specs.Live.{wordsOfCall, cellOfCall, routineOfCall, codeOfCall, Sane, Waits, Below, Live}
+use Rattle.store_reading.specs.Reading.{cellValues}
+use Rattle.run_output.specs.Output.{countIn}
+use Rattle.run_machine.specs.Machine.{effectAt}
+use Rattle.run_machine.specs.Live.{wordsOfCall, cellOfCall, routineOfCall, codeOfCall, Sane, Waits, Below, Live}
 
 -- ---- numbers in cells
 -- Words that stand for the same numbers are the same.

@@ -6,12 +6,12 @@ use native.Mathlib.Omega.{arith}
 use lib.ListN.{length, getD, take, drop}
 use lib.Seq.{take-all}
 use lib.IntN.{ℤ}
-use Rattle.cells.specs.Words.{wordsOf, bytesOf}
-use Rattle.cells.proofs.Laws.{Bytes}
-use Rattle.reading.specs.Reading.{Part, Loaded, Stored}
-use Rattle.store.specs.Promises.{Linked, Headed, Relinked}
-use Rattle.spelling.proofs.Fronts.{front-bytes}
-use Rattle.load.proofs.Unique.{same-store}
+use Rattle.store_cells.specs.Words.{wordsOf, bytesOf}
+use Rattle.store_cells.proofs.Laws.{Bytes}
+use Rattle.store_reading.specs.Reading.{Part, Loaded, Stored}
+use Rattle.store_writing.specs.Promises.{Linked, Headed, Relinked}
+use Rattle.check_spelling.proofs.Fronts.{front-bytes}
+use Rattle.check_load.proofs.Unique.{same-store}
 
 -- ---- what is read
 pub part-unique : (bound is r s : ℕ) → Part bound is r → Part bound is s → r ≡ s

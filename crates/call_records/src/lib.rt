@@ -1,0 +1,86 @@
+// What a call leaves: the record, and the stores with all but a module's words cleared.
+ghost use mathlib.Core.Path.{_≡_};
+ghost use Prim.Native.Nat.{_+_, _*_, _≤_};
+ghost use lib.ListN.{length};
+ghost use Rattle.layout.specs.Named.{storeBytes};
+ghost use Rattle.layout.specs.Parts.{halfPart};
+ghost use Rattle.paper.specs.Answer.{recordSize};
+ghost use Rattle.call_records.specs.Records.{fieldsOf, refusedFields, Written, Reports, reported, Empties, Emptied};
+use layout::cells::ERRNO;
+use layout::cells::USED;
+use layout::cells::WRITTEN;
+use layout::cells::WRITTEN_HIGH;
+use layout::limits;
+
+// A number from its two halves.
+fn joined(low: u32, high: u32) -> u64
+    ensures { λ r. ⌜ r ≡ low + halfPart * high ⌝ }
+{
+    low as u64 + layout::cells::HALF as u64 * (high as u64)
+}
+
+// Writes the record, field by field.
+fn put_record(
+    fields: &mut [u8],
+    ending: u64,
+    refusal: u64,
+    offset: u64,
+    steps: u64,
+    errno: u64,
+    output: u64,
+    inputs: u64,
+    words: u64,
+)
+    requires { ⌜ recordSize ≤ length (now fields) ⌝ }
+    ensures { λ _. ⌜ Written (now (fields .entry)) (now (fields .exit)) (fieldsOf ending refusal offset steps errno output inputs words) ⌝ }
+{
+    store_cells::put_field(fields, 0, ending);
+    store_cells::put_field(fields, 1, refusal);
+    store_cells::put_field(fields, 2, offset);
+    store_cells::put_field(fields, 3, steps);
+    store_cells::put_field(fields, 4, errno);
+    store_cells::put_field(fields, 5, output);
+    store_cells::put_field(fields, 6, inputs);
+    store_cells::put_field(fields, 7, words);
+}
+
+// Writes the record of a refusal: the rule broken and its offset, and all else 0.
+pub fn refuse(fields: &mut [u8], number: u32, offset: usize)
+    requires { ⌜ recordSize ≤ length (now fields) ⌝ }
+    ensures { λ _. ⌜ Written (now (fields .entry)) (now (fields .exit)) (refusedFields number offset) ⌝ }
+{
+    put_record(fields, 0, number as u64, offset as u64, 0, 0, 0, 0, 0);
+}
+
+// Writes the record of a run that has ended after so many steps, from what it leaves in the value store.
+pub fn report(values: &[u8], fields: &mut [u8], ending: u32, place: usize, made: u32, words: usize)
+    requires { ⌜ Reports (now values) (now fields) ⌝ }
+    ensures { λ _. ⌜ Written (now (fields .entry)) (now (fields .exit)) (reported ending place made (now (values .entry)) words) ⌝ }
+{
+    let errno = store_cells::get(values, ERRNO);
+    let output = joined(
+        store_cells::get(values, WRITTEN),
+        store_cells::get(values, WRITTEN_HIGH),
+    );
+    let used = store_cells::get(values, USED);
+    put_record(
+        fields,
+        ending as u64,
+        0,
+        place as u64,
+        made as u64,
+        errno as u64,
+        output,
+        used as u64,
+        words as u64,
+    );
+}
+
+// Clears both stores, but for so many words of the values.
+pub fn empty(code: &mut [u8], values: &mut [u8], words: usize)
+    requires { ⌜ Empties (now code) (now values) words ⌝ }
+    ensures { λ _. ⌜ Emptied (now (code .entry)) (now (values .entry)) (now (code .exit)) (now (values .exit)) words ⌝ }
+{
+    store_cells::clear(code, 0, limits::STORE_CELLS);
+    store_cells::clear(values, words, limits::STORE_CELLS - words);
+}

@@ -1,0 +1,83 @@
+-- The scope that a walk over declarations fills, and what the value store says of it.
+use mathlib.Core.Path.{_≡_}
+use mathlib.Core.Bool.{Bool, true, false}
+use mathlib.Core.List.{List, map}
+use Prim.Native.Nat.{ℕ, _<_, _≤_}
+use lib.Dec.{eqb}
+use lib.ListN.{length, getD}
+use mir.Syntax.{w32}
+use mir.Val.{toZ}
+use Rattle.paper.specs.Basics.{if_then_else_}
+use Rattle.paper.specs.Sorts.{NUMBER}
+use Rattle.paper.specs.Words.{Word}
+use Rattle.paper.specs.Terms.{Ref, ofModule, ofRoutine, Memory, load}
+use Rattle.paper.specs.Trees.{Module}
+use Rattle.paper.specs.Names.{Meaning, Text, Names, textOf, Scopes, nth, sortIn, isAmong, meaning}
+use Rattle.paper.specs.Declarations.{Data, Filling, moduleFilling, routineFilling}
+use Rattle.store_cells.specs.Words.{wordsOf}
+use Rattle.code.specs.Cells.{firstWindow, errnoCell}
+use Rattle.check_names.specs.Meanings.{isProtected, Means}
+use Rattle.check_names.specs.Promises.{storeBytes}
+use Rattle.store_evaluation.specs.Answers.{callWords}
+use Rattle.check_expressions.specs.Known.{largest, InRoom, HeldWords, nothing, words, number, heldBy, Holds}
+use Rattle.check_constants.specs.Answers.{cellOf, InNum}
+
+-- ---- the two scopes that data are declared in
+-- The module's, where the routines' names are known before, or a routine's of a module.
+pub data Site : Type 0 where
+  theModule : (routines : Names) → Site
+  aRoutine : Module → Site
+
+unfoldable pub filling : List Word → Site → Filling
+filling W (theModule routines) = moduleFilling W routines
+filling W (aRoutine m) = routineFilling W m
+
+-- as a cell of the table has it
+unfoldable pub ownOf : Site → ℕ
+ownOf (theModule routines) = 0
+ownOf (aRoutine m) = 1
+
+abbrev pub scopesOf : List Word → Site → Data → Scopes
+scopesOf W s D = filling W s .scopesWith (D .names)
+
+abbrev pub memoryOf : List Word → Site → Data → Memory
+memoryOf W s D = filling W s .memoryWith (D .words)
+
+-- ---- meanings
+-- so many words from a word on are words of the memory
+abbrev pub Among : Memory → Ref → (size : ℕ) → Type 0
+Among M r size = InRoom (length (M .module-words)) (length (M .routine-words)) r size
+
+-- What a name means has its words among those declared, and a constant's is a number of num.
+pub record InPlace (M : Memory) (w : HeldWords) : Type 0 where
+  pub room : Among M (w .first) (w .size)
+  pub some : 0 < w .size
+  pub ranged : w .fixed ≡ true → InNum (load M (w .first))
+
+unfoldable pub Placed : Memory → Meaning → Type 0
+Placed M a = Holds (InPlace M) (λ k. k ≤ largest) (heldBy a)
+
+-- Data of the module, if own is 0, or of the routine.
+unfoldable pub isOwn : (own : ℕ) → Ref → Bool
+isOwn own (ofModule k) = eqb own 0
+isOwn own (ofRoutine k) = eqb own 1
+
+unfoldable pub owned : (own : ℕ) → Meaning → Bool
+owned own a = elim (heldBy a) [ nothing ↦ false | words w ↦ if w .declared then isOwn own (w .first) else false | number k ↦ false ]
+
+-- The names of a scope are those, of all that are not protected, that mean its data.
+pub record Owns (own : ℕ) (N : Names) (S : Scopes) : Type 0 where
+  pub is : (text : Text) → isProtected text ≡ false → isAmong (map textOf N) text ≡ owned own (meaning S text)
+
+-- ---- the value store
+-- It says what D declares: the table has the names, and the cells of words have what these start with.
+pub record Filled (W : List Word) (routine : ℕ → ℕ) (s : Site) (D : Data) (values : List ℕ) : Type 0 where
+  pub table : storeBytes ≤ length values
+  pub means : Means routine W (scopesOf W s D) (wordsOf values)
+  pub owns : Owns (ownOf s) (D .names) (scopesOf W s D)
+  pub placed : (text : Text) → Placed (memoryOf W s D) (meaning (scopesOf W s D) text)
+  pub cells : (r : Ref) → Among (memoryOf W s D) r 1 → toZ w32 (getD (wordsOf values) (cellOf r) 0) ≡ load (memoryOf W s D) r
+  pub most : length (memoryOf W s D .module-words) ≤ firstWindow
+  pub window : length (memoryOf W s D .routine-words) ≤ callWords
+  pub errno : getD (wordsOf values) errnoCell 0 ≡ 0
+  pub small : (i : ℕ) → sortIn W i ≡ NUMBER → nth W i .value ≤ largest

@@ -1,0 +1,53 @@
+use Rattle.run_whole.proofs.Stopping.{stops-whole, stops-low, stops-high, stops-left, stopped-main, stopped-step, stopped-lack}
+use borrow.Author.Needs.{needs}
+use Rattle.run_whole.proofs.ending.Statement.{statement}
+use Rattle.run_whole.proofs.ending.Tie as tie
+
+cast-if2 : tie.Need-cast-if2
+cast-if2 c = search needs
+
+returns : tie.Need-returns
+returns c = search (needs, stopped-main)
+
+sub-t6 : tie.Need-sub-t6
+sub-t6 c = search (needs, stops-low)
+
+cast-t8 : tie.Need-cast-t8
+cast-t8 c = search needs
+
+place-of-requires : tie.Need-place-of-requires
+place-of-requires c κs = search (needs, stops-whole)
+
+returns-2 : tie.Need-returns-2
+returns-2 c = search (needs, stopped-step)
+
+add-t12 : tie.Need-add-t12
+add-t12 c = search needs
+
+cast-t13 : tie.Need-cast-t13
+cast-t13 c = search (needs, stops-high)
+
+place-of-requires-2 : tie.Need-place-of-requires-2
+place-of-requires-2 c κs = search (needs, stops-whole)
+
+add-t16 : tie.Need-add-t16
+add-t16 c = search (needs, stops-left)
+
+returns-3 : tie.Need-returns-3
+returns-3 c = search (needs, stopped-lack)
+
+pub ending-spec : {M : Type 1} → statement M
+ending-spec =
+    tie.close
+    (tie.spec
+    cast-if2
+    returns
+    sub-t6
+    cast-t8
+    place-of-requires
+    returns-2
+    add-t12
+    cast-t13
+    place-of-requires-2
+    add-t16
+    returns-3)

@@ -1,0 +1,83 @@
+-- What a run asks of what it is lent, and what it promises.
+use mathlib.Core.Path.{_≡_}
+use mathlib.Core.List.{List, map}
+use Prim.Native.Nat.{ℕ, _+_, _-_, _<_, _≤_}
+use lib.Dec.{eqb}
+use lib.ListN.{length, getD, take, drop}
+use mir.Syntax.{w32}
+use mir.Val.{toZ}
+use Rattle.paper.specs.Basics.{if_then_else_}
+use Rattle.paper.specs.Steps.{Program}
+use Rattle.paper.specs.States.{Rooms}
+use Rattle.paper.specs.Running.{run, started}
+use Rattle.paper.specs.Running as running
+use Rattle.store_cells.specs.Words.{wordsOf}
+use Rattle.code.specs.Cells.{errnoCell, placeAt}
+use Rattle.code.specs.Steps.{Head, noHead}
+use Rattle.code.specs.Holds.{Holds}
+use Rattle.code.specs.Windows.{writtenIn, usedCell, stateIn}
+use Rattle.run_whole.specs.declared.Ended.{Ended}
+use Rattle.run_machine.specs.Live.{Live}
+use Rattle.layout.specs.Answers.{answers}
+use Rattle.layout.specs.Rules.{mainReturned, fellOff, beyondDepth, noRoom}
+use Rattle.store_reading.specs.Reading.{cellValues}
+use Rattle.run_machine.specs.Machine.{storeBytes, depthLimit, ended, lackedBy, Lends}
+
+-- The code store holds a program, of which main begins at word h; the value store has the module's words as a run begins, and zeros.
+pub record Begins (text code values : List ℕ) (h depth : ℕ) : Type 0 where
+  pub P : Program
+  pub R : List Head
+  pub offset : ℕ → ℕ
+  pub main : ℕ
+  pub holds : Holds text R offset (wordsOf code) P
+  pub code-size : length code ≡ storeBytes
+  pub values-size : length values ≡ storeBytes
+  pub some : 0 < depth
+  pub most : depth ≤ depthLimit
+  pub there : main < length R
+  pub main-is : getD R main noHead .word ≡ h
+  pub alone : getD R main noHead .parameters ≡ 0
+  pub words : map (toZ w32) (take (length (P .words)) (wordsOf values)) ≡ P .words
+  pub zeros : (c : ℕ) → length (P .words) ≤ c → getD (wordsOf values) c 0 ≡ 0
+
+-- The answer and the stores are those of the state that the paper's run ends in.
+pub record Comes (P : Program) (offset : ℕ → ℕ) (after out out′ : List ℕ) (steps : ℕ) (e : running.Ended) (r : Ended) : Type 0 where
+  pub ending : r .ending ≡ e .ending
+  pub place : r .place ≡ (if eqb (e .ending) 1 then 0 else offset (e .place))
+  pub left : r .left ≤ steps
+  pub counted : e .state .steps ≡ steps - r .left
+  pub errno : getD (wordsOf after) errnoCell 0 ≡ e .state .errno
+  pub used : getD (wordsOf after) usedCell 0 ≡ e .state .used
+  pub words : map (toZ w32) (take (length (P .words)) (wordsOf after)) ≡ e .state .words
+  pub written : (R : List Head) → writtenIn P R (wordsOf after) ≡ length (e .state .output)
+  pub output : take (length (e .state .output)) out′ ≡ e .state .output
+  pub past : drop (length (e .state .output)) out′ ≡ drop (length (e .state .output)) out
+
+pub record Ran (text code values after inputs out out′ : List ℕ) (h steps depth : ℕ) (r : Ended) : Type 0 where
+  pub long : length after ≡ length values
+  pub out-long : length out′ ≡ length out
+  pub is : (b : Begins text code values h depth) (rooms : Rooms) → rooms .depth ≡ depth → Lends rooms inputs out →
+      Comes (b .P) (b .offset) after out out′ steps (run (b .P) rooms steps (started (b .P) (b .main))) r
+
+-- ---- the parts of a run
+-- a step's answer that ends the run
+pub data Stops (code : List ℕ) (answer left : ℕ) : Type 0 where
+  byStep : (n : ℕ) → n ≤ fellOff → answer ≡ ended + n → length code ≡ storeBytes → Stops code answer left
+  byLack : (n w : ℕ) → beyondDepth ≤ n → n ≤ noRoom → w < answers → answer ≡ lackedBy n + w → left + 1 < cellValues → length code ≡ storeBytes → Stops code answer left
+
+pub record Stopped (code : List ℕ) (i answer left : ℕ) (e : Ended) : Type 0 where
+  pub by-step : (n : ℕ) → n ≤ fellOff → answer ≡ ended + n → (e .ending ≡ n) × (e .place ≡ (if eqb n mainReturned then 0 else placeAt (wordsOf code) i)) × (e .left ≡ left)
+  pub by-lack : (n w : ℕ) → beyondDepth ≤ n → n ≤ noRoom → w < answers → answer ≡ lackedBy n + w → (e .ending ≡ n) × (e .place ≡ placeAt (wordsOf code) w) × (e .left ≡ left + 1)
+
+pub record MayBegin (code values : List ℕ) (h : ℕ) : Type 0 where
+  pub text : List ℕ
+  pub depth : ℕ
+  pub begins : Begins text code values h depth
+
+-- The state is that of a run that has begun.
+pub record Begun (code values after : List ℕ) (h : ℕ) : Type 0 where
+  pub long : length after ≡ length values
+  pub written : (P : Program) (R : List Head) → (text : List ℕ) (depth : ℕ) → Begins text code values h depth → writtenIn P R (wordsOf after) ≡ 0
+  pub used : (text : List ℕ) (depth : ℕ) → Begins text code values h depth → getD (wordsOf after) usedCell 0 ≡ 0
+  pub live : (text : List ℕ) (depth : ℕ) (b : Begins text code values h depth) → Live (b .P) (b .R) (wordsOf after) 0 (placeAt (wordsOf code) h)
+  pub state : (text : List ℕ) (depth : ℕ) (b : Begins text code values h depth) (out : List ℕ) → stateIn (b .P) (b .R) (wordsOf after) 0 (placeAt (wordsOf code) h) 0 out ≡ started (b .P) (b .main)
