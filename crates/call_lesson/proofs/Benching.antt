@@ -6,12 +6,12 @@ use native.Mathlib.Omega.{arith}
 use lib.ListN.{length, take, length-map}
 use mir.Syntax.{w32}
 use mir.Val.{toZ}
-use Rattle.paper.specs.Answer.{Question, questionOf, lentOf, Result, refusedWith, result, wordsOf, storeWords}
+use Rattle.paper.specs.Answer.{Question, questionOf, lentOf, Result, refusedWith, result, cellsOf, storeWords}
 use Rattle.paper.specs.Numbers.{decimal, digits}
 use Rattle.paper.specs.Sorts.{bytes}
 use Rattle.paper.specs.Examples.{lines, tray, asking, row, fields, examples}
 use Rattle.paper.proofs.Examples.{examples-hold}
-use Rattle.store_cells.specs.Words as cells
+use Rattle.store_cells.specs.Cells as cells
 use Rattle.store_cells.proofs.Laws.{length-words}
 use Rattle.store_cells.proofs.Paper.{words-paper}
 use Rattle.call_pendant.specs.Calls.{lent}
@@ -21,12 +21,12 @@ use Rattle.call_screen.proofs.Screens.{shows-screen}
 use Rattle.layout.specs.Named.{storeBytes}
 use Rattle.call_lesson.specs.Bench.{asks, Benched}
 
-store-words : (bytes : List ℕ) → storeBytes ≡ length bytes → length (wordsOf bytes) ≡ storeWords
-store-words bytes e = ap length (words-paper bytes) ∙ length-map (cells.wordsOf bytes) (toZ w32) ∙ omega (arith, length-words bytes)
+store-words : (bytes : List ℕ) → storeBytes ≡ length bytes → length (cellsOf bytes) ≡ storeWords
+store-words bytes e = ap length (words-paper bytes) ∙ length-map (cells.cellsOf bytes) (toZ w32) ∙ omega (arith, length-words bytes)
 
 asks-is : (text out code values : List ℕ) → 4096 ≡ length out → storeBytes ≡ length code → storeBytes ≡ length values
     → questionOf (lentOf (lent text 10000 16 (take 0 text) out code values [])) ≡ asks text
-unfolding questionOf lentOf lent asks wordsOf
+unfolding questionOf lentOf lent asks cellsOf
 asks-is text out code values o c v = λ i.
     record { text = text; steps = 10000; depth = 16; inputs = []; room = sym o i; code = store-words code c i; values = store-words values v i }
 

@@ -9,7 +9,7 @@ use borrow.Author.Tests.{eq-eqb, ne-eqb, lt-ltb, le-ltb, ltb-false, le-leb, lt-l
 use Rattle.laws.specs.Lists.{replaced}
 use Rattle.laws.proofs.Tests.{test}
 use Rattle.laws.proofs.Lists.{replaced-length, replaced-on}
-use Rattle.store_cells.specs.Words.{bytesOf, Put}
+use Rattle.store_cells.specs.Cells.{bytesOf, Put}
 use Rattle.paper.specs.Sorts.{firstReserved, firstSign, STRING, NUMBER}
 use Rattle.paper.specs.Words.{kindOf, Listed}
 use Rattle.text_words.specs.declared.Word.{Word}

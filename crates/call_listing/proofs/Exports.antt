@@ -4,7 +4,7 @@ use mathlib.Core.List.{List}
 use Prim.Native.Nat.{ℕ, _*_, _<_, _≤_}
 use lib.ListN.{length}
 use borrow.Author.Tests.{lt-ltb, le-ltb}
-use Rattle.store_cells.specs.Words.{bytesOf}
+use Rattle.store_cells.specs.Cells.{bytesOf}
 use Rattle.paper.specs.Words.{listing}
 use Rattle.call_listing.specs.declared.Summary.{Summary}
 use Rattle.call_listing.specs.Listing.{threeBytes, threePut, Listed·all, Exported}

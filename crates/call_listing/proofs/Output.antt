@@ -7,7 +7,7 @@ use lib.ListN.{length, take, drop, take-append-drop}
 use Rattle.laws.specs.Lists.{replaced}
 use Rattle.laws.proofs.Tests.{by-less}
 use Rattle.laws.proofs.Lists.{replaced-on}
-use Rattle.store_cells.specs.Words.{bytesOf}
+use Rattle.store_cells.specs.Cells.{bytesOf}
 use Rattle.paper.specs.Words.{Listed}
 use Rattle.call_listing.specs.Listing.{threeBytes, entryOf, entered, written, entriesOf, fronted}
 use Rattle.call_listing.proofs.Entries.{entered-full, entered-room, length-entered}

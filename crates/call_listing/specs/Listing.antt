@@ -7,7 +7,7 @@ use Prim.Native.Nat.{ℕ, _+_, _*_, _/_, _%_}
 use lib.Dec.{ltb}
 use lib.ListN.{length, take, drop}
 use Rattle.laws.specs.Lists.{replaced}
-use Rattle.store_cells.specs.Words.{bytesOf}
+use Rattle.store_cells.specs.Cells.{bytesOf}
 use Rattle.paper.specs.Words.{Refusal, Kind, aName, aReserved, aNumber, aString, aSign, kindOf, Listed, listing}
 use Rattle.text_words.specs.declared.Word.{Word}
 use Rattle.call_listing.specs.declared.Summary.{Summary}

@@ -10,7 +10,7 @@ use mir.Val.{toZ}
 use borrow.Author.Tests.{lt-ltb, le-ltb}
 use Rattle.paper.specs.Answer as paper
 use Rattle.paper.specs.Answer.{storeWords, recordSize, Verdict, refusedBy, accepted, verdict, Question, Result, LentBytes, lentOf, questionOf, refusedWith, carriedOut, tooSmall, badDepth, result, answer, spread, pendantCall}
-use Rattle.store_cells.specs.Words.{wordsOf}
+use Rattle.store_cells.specs.Cells.{cellsOf}
 use Rattle.store_cells.proofs.Laws.{length-words}
 use Rattle.store_cells.proofs.Paper.{words-paper}
 use Rattle.check_whole.specs.Checks.{storeBytes}
@@ -22,8 +22,8 @@ use Rattle.call_pendant.proofs.Stores.{AllBytes, left-bytes, same-bytes
 use Rattle.call_pendant.proofs.Depths.{isBad}
 use Rattle.call_pendant.proofs.Judging.{refusal-tells}
 
-word-count : (l : List ℕ) → length (paper.wordsOf l) ≡ length l / 4
-word-count l = ap length (words-paper l) ∙ length-map (wordsOf l) (toZ w32) ∙ length-words l
+word-count : (l : List ℕ) → length (paper.cellsOf l) ≡ length l / 4
+word-count l = ap length (words-paper l) ∙ length-map (cellsOf l) (toZ w32) ∙ length-words l
 
 -- ---- what was lent
 module _ (text : List ℕ) (steps depth : ℕ) (inputs out code values fields : List ℕ) where
@@ -44,7 +44,7 @@ module _ (text : List ℕ) (steps depth : ℕ) (inputs out code values fields : 
   call-small h t fields′ w c v =
       let e : result question ≡ refusedWith (record { number = smallStore; offset = 0 }) = rw (t, result) in
       let p : pendantCall all ≡ spread (answer (lentOf all)) all = rw (le-ltb (length fields) recordSize h, pendantCall) in
-      let q : answer (lentOf all) ≡ record { fields = refusedFields smallStore 0; output = out; code = paper.wordsOf code; values = paper.wordsOf values } = rw (t, answer) (rw e) in
+      let q : answer (lentOf all) ≡ record { fields = refusedFields smallStore 0; output = out; code = paper.cellsOf code; values = paper.cellsOf values } = rw (t, answer) (rw e) in
       let x = w .bytes in
       let y = same-bytes code c in
       let z = same-bytes values v in
@@ -56,19 +56,19 @@ module _ (text : List ℕ) (steps depth : ℕ) (inputs out code values fields : 
   pub small-code : recordSize ≤ length fields → length code < storeBytes → (fields′ : List ℕ) → Written fields fields′ (refusedFields smallStore 0) → AllBytes code → AllBytes values
       → Calls all 1 out code values fields′
   unfolding lent lentOf questionOf tooSmall
-  small-code h s = call-small h (rw (lt-ltb (length (paper.wordsOf code)) storeWords (omega (arith, word-count code))))
+  small-code h s = call-small h (rw (lt-ltb (length (paper.cellsOf code)) storeWords (omega (arith, word-count code))))
 
   pub small-values : recordSize ≤ length fields → storeBytes ≤ length code → length values < storeBytes → (fields′ : List ℕ) → Written fields fields′ (refusedFields smallStore 0) → AllBytes code → AllBytes values
       → Calls all 1 out code values fields′
   unfolding lent lentOf questionOf tooSmall
   small-values h l s =
-      call-small h (rw (le-ltb (length (paper.wordsOf code)) storeWords (omega (arith, word-count code)), lt-ltb (length (paper.wordsOf values)) storeWords (omega (arith, word-count values))))
+      call-small h (rw (le-ltb (length (paper.cellsOf code)) storeWords (omega (arith, word-count code)), lt-ltb (length (paper.cellsOf values)) storeWords (omega (arith, word-count values))))
 
   -- ---- the stores are lent
   module _ (h : recordSize ≤ length fields) (g : storeBytes ≤ length code) (k : storeBytes ≤ length values) where
     not-small : tooSmall question ≡ false
     unfolding lent lentOf questionOf tooSmall
-    not-small = rw (le-ltb (length (paper.wordsOf code)) storeWords (omega (arith, word-count code)), le-ltb (length (paper.wordsOf values)) storeWords (omega (arith, word-count values)))
+    not-small = rw (le-ltb (length (paper.cellsOf code)) storeWords (omega (arith, word-count code)), le-ltb (length (paper.cellsOf values)) storeWords (omega (arith, word-count values)))
 
     call-tells : (R : Result) → result question ≡ R → (out′ code′ values′ fields′ : List ℕ) → Tells R out code values fields out′ code′ values′ fields′
         → AllBytes code′ → AllBytes values′ → Calls all 1 out′ code′ values′ fields′
@@ -76,7 +76,7 @@ module _ (text : List ℕ) (steps depth : ℕ) (inputs out code values fields : 
     call-tells R e out′ code′ values′ fields′ t c v =
         let p : pendantCall all ≡ spread (answer (lentOf all)) all = rw (le-ltb (length fields) recordSize h, pendantCall) in
         let q : answer (lentOf all)
-        ≡ record { fields = R .fields; output = R .written ++ drop (length (R .written)) out; code = paper.storeAfter [] (paper.wordsOf code); values = paper.storeAfter (R .kept) (paper.wordsOf values) } =
+        ≡ record { fields = R .fields; output = R .written ++ drop (length (R .written)) out; code = paper.storeAfter [] (paper.cellsOf code); values = paper.storeAfter (R .kept) (paper.cellsOf values) } =
         rw (not-small, answer) (rw e) in
         let w = t .output in
         let x = t .told .bytes in

@@ -13,7 +13,7 @@ use Rattle.paper.specs.Answer as paper
 use Rattle.paper.specs.Answer.{storeWords, Record, lentOf, questionOf, verdict, accepted, endedWith, ranTo, carriedOut, offsetOf}
 use Rattle.paper.specs.States as states
 use Rattle.paper.specs.Running as running
-use Rattle.store_cells.specs.Words.{wordsOf}
+use Rattle.store_cells.specs.Cells.{cellsOf}
 use Rattle.store_cells.proofs.Laws.{length-words, words-take, words-append}
 use Rattle.store_cells.proofs.Paper.{words-paper}
 use Rattle.code.specs.Cells.{errnoCell}
@@ -40,7 +40,7 @@ mainIn (checked.Accepted n w h) = h
 mainIn (checked.Refused n o) = 0
 
 -- ---- the first part of a list of bytes
-first-words : (l : List ℕ) → wordsOf (take storeBytes l) ≡ take storeWords (wordsOf l)
+first-words : (l : List ℕ) → cellsOf (take storeBytes l) ≡ take storeWords (cellsOf l)
 first-words l = words-take storeWords l
 
 module _ {text code values fields : List ℕ} {words main depth : ℕ} (a : Accepts text code values fields words main depth) where
@@ -51,7 +51,7 @@ module _ {text code values fields : List ℕ} {words main depth : ℕ} (a : Acce
   few-words : words ≤ moduleWordLimit
   few-words = rw words-are (a .ready .holds .room)
 
-  many : storeWords ≤ length (wordsOf values)
+  many : storeWords ≤ length (cellsOf values)
   many = omega (arith, length-words values, a .rooms .values-room)
 
   begins : Begins text (take storeBytes code) (take storeBytes values) main depth
@@ -72,12 +72,12 @@ module _ {text code values fields : List ℕ} {words main depth : ℕ} (a : Acce
         main-is = sym (ap mainIn (a .ready .answer));
         alone = a .ready .alone;
         words = ap (λ (x : List ℕ). map (toZ w32) (take (length (a .a .program .words)) x)) (first-words values)
-            ∙ ap (map (toZ w32)) (take-take (length (a .a .program .words)) storeWords (wordsOf values) (omega arith))
+            ∙ ap (map (toZ w32)) (take-take (length (a .a .program .words)) storeWords (cellsOf values) (omega arith))
             ∙ a .ready .words;
         zeros = λ c m. ap (λ (x : List ℕ). getD x c 0) (first-words values)
             ∙ by-less c storeWords
-            (λ h. getD-take storeWords (wordsOf values) c 0 h ∙ a .ready .zeros c m h)
-            (λ h. List·getD-eq-default (take storeWords (wordsOf values)) 0 (rw (length-take-le storeWords (wordsOf values) many) h));
+            (λ h. getD-take storeWords (cellsOf values) c 0 h ∙ a .ready .zeros c m h)
+            (λ h. List·getD-eq-default (take storeWords (cellsOf values)) 0 (rw (length-take-le storeWords (cellsOf values) many) h));
       }
 
   pub starts : Starts text code values main depth
@@ -87,7 +87,7 @@ module _ {text code values fields : List ℕ} {words main depth : ℕ} (a : Acce
   module _ {inputs out after out′ : List ℕ} {steps : ℕ} {e : Ended}
       (ran : Ran text (take storeBytes code) (take storeBytes values) after inputs out out′ main steps depth e) where
     rooms : states.Rooms
-    rooms = record { depth = depth; output = length out; inputs = paper.wordsOf inputs }
+    rooms = record { depth = depth; output = length out; inputs = paper.cellsOf inputs }
 
     ended : running.Ended
     ended = running.run (a .a .program) rooms steps (running.started (a .a .program) (a .a .main))
@@ -110,32 +110,32 @@ module _ {text code values fields : List ℕ} {words main depth : ℕ} (a : Acce
     whole-past : drop storeBytes (after ++ drop storeBytes values) ≡ drop storeBytes values
     whole-past = drop-at after (drop storeBytes values) storeBytes after-size
 
-    whole-words : wordsOf (after ++ drop storeBytes values) ≡ wordsOf after ++ wordsOf (drop storeBytes values)
+    whole-words : cellsOf (after ++ drop storeBytes values) ≡ cellsOf after ++ cellsOf (drop storeBytes values)
     whole-words = words-append storeWords after (drop storeBytes values) after-size
 
-    after-words : length (wordsOf after) ≡ storeWords
+    after-words : length (cellsOf after) ≡ storeWords
     after-words = length-words after ∙ ap (λ (n : ℕ). n / 4) after-size
 
-    cell : (c : ℕ) → c < storeWords → getD (wordsOf (after ++ drop storeBytes values)) c 0 ≡ getD (wordsOf after) c 0
+    cell : (c : ℕ) → c < storeWords → getD (cellsOf (after ++ drop storeBytes values)) c 0 ≡ getD (cellsOf after) c 0
     cell c h =
         ap (λ (x : List ℕ). getD x c 0) whole-words
-        ∙ List·getD-append (wordsOf after) (wordsOf (drop storeBytes values)) 0 c (rw after-words h)
+        ∙ List·getD-append (cellsOf after) (cellsOf (drop storeBytes values)) 0 c (rw after-words h)
 
-    kept-are : take words (paper.wordsOf (after ++ drop storeBytes values)) ≡ ended .state .words
+    kept-are : take words (paper.cellsOf (after ++ drop storeBytes values)) ≡ ended .state .words
     kept-are =
         ap (take words) (words-paper (after ++ drop storeBytes values))
-        ∙ sym (map-take (toZ w32) words (wordsOf (after ++ drop storeBytes values)))
+        ∙ sym (map-take (toZ w32) words (cellsOf (after ++ drop storeBytes values)))
         ∙ ap (λ (x : List ℕ). map (toZ w32) (take words x)) whole-words
-        ∙ ap (map (toZ w32)) (take-append-le words (wordsOf after) (wordsOf (drop storeBytes values)) (rw after-words (omega (arith, few-words))))
-        ∙ ap (λ (m : ℕ). map (toZ w32) (take m (wordsOf after))) words-are
+        ∙ ap (map (toZ w32)) (take-append-le words (cellsOf after) (cellsOf (drop storeBytes values)) (rw after-words (omega (arith, few-words))))
+        ∙ ap (λ (m : ℕ). map (toZ w32) (take m (cellsOf after))) words-are
         ∙ comes .words
 
     kept-many : length (ended .state .words) ≡ words
     kept-many =
         ap length (sym (comes .words))
-        ∙ length-map (take (length (a .a .program .words)) (wordsOf after)) (toZ w32)
-        ∙ ap (λ (m : ℕ). length (take m (wordsOf after))) (sym words-are)
-        ∙ length-take-le words (wordsOf after) (rw after-words (omega (arith, few-words)))
+        ∙ length-map (take (length (a .a .program .words)) (cellsOf after)) (toZ w32)
+        ∙ ap (λ (m : ℕ). length (take m (cellsOf after))) (sym words-are)
+        ∙ length-take-le words (cellsOf after) (rw after-words (omega (arith, few-words)))
 
     fields-are : reported (e .ending) (e .place) (steps - e .left) (after ++ drop storeBytes values) words ≡ ranTo text (a .a .words) ended .fields
     unfolding reported ranTo endedWith writtenIn

@@ -12,7 +12,7 @@ use Rattle.laws.specs.Lists.{replaced}
 use Rattle.laws.proofs.Lists.{map-drop}
 use Rattle.paper.specs.Answer as paper
 use Rattle.paper.specs.Answer.{storeWords, storeAfter, bytesAfter}
-use Rattle.store_cells.specs.Words.{wordsOf, Cleared}
+use Rattle.store_cells.specs.Cells.{cellsOf, Cleared}
 use Rattle.store_cells.proofs.Laws.{words-drop, words-replaced, words-zeros}
 use Rattle.store_cells.proofs.Kept.{clear-length, clear-drop}
 use Rattle.store_cells.proofs.Paper.{words-paper, clear-paper, kept-none, kept-paper}
@@ -24,15 +24,15 @@ abbrev pub AllBytes : List ℕ → Type 0
 AllBytes l = (i : ℕ) → Fits w8 (getD l i 0)
 
 -- ---- past the store
-words-past : (l : List ℕ) → drop storeWords (paper.wordsOf l) ≡ paper.wordsOf (drop storeBytes l)
+words-past : (l : List ℕ) → drop storeWords (paper.cellsOf l) ≡ paper.cellsOf (drop storeBytes l)
 words-past l =
     ap (drop storeWords) (words-paper l)
-    ∙ sym (map-drop (toZ w32) storeWords (wordsOf l))
+    ∙ sym (map-drop (toZ w32) storeWords (cellsOf l))
     ∙ ap (map (toZ w32)) (sym (words-drop storeWords l))
     ∙ sym (words-paper (drop storeBytes l))
 
-same-past : (l m : List ℕ) → drop storeBytes l ≡ drop storeBytes m → drop storeWords (paper.wordsOf l) ≡ drop storeWords (paper.wordsOf m)
-same-past l m e = words-past l ∙ ap paper.wordsOf e ∙ sym (words-past m)
+same-past : (l m : List ℕ) → drop storeBytes l ≡ drop storeBytes m → drop storeWords (paper.cellsOf l) ≡ drop storeWords (paper.cellsOf m)
+same-past l m e = words-past l ∙ ap paper.cellsOf e ∙ sym (words-past m)
 
 drop-further : (l m : List ℕ) (n k : ℕ) → n ≤ k → drop n l ≡ drop n m → drop k l ≡ drop k m
 drop-further l m n k h e =
@@ -45,15 +45,15 @@ module _ (before mid after : List ℕ) (m : ℕ) (c : Cleared mid after m (store
   fits : (m + (storeWords - m)) * 4 ≤ length mid
   fits = omega arith
 
-  pub left-cleared : (kept : List ℤ) → length kept ≡ m → take m (paper.wordsOf mid) ≡ kept → Left kept before after
+  pub left-cleared : (kept : List ℤ) → length kept ≡ m → take m (paper.cellsOf mid) ≡ kept → Left kept before after
   unfolding storeAfter
   left-cleared kept n k =
       let q : m + (storeWords - m) ≡ storeWords = omega arith in
       let z : ℕ → List ℤ = λ j. replicate (storeWords - j) (pos 0) in
       record {
         words = clear-paper c
-            ∙ ap₂ (λ (x y : List ℤ). x ++ z m ++ y) k (ap (λ (j : ℕ). drop j (paper.wordsOf mid)) q ∙ same-past mid before past)
-            ∙ ap (λ (j : ℕ). kept ++ z j ++ drop storeWords (paper.wordsOf before)) (sym n);
+            ∙ ap₂ (λ (x y : List ℤ). x ++ z m ++ y) k (ap (λ (j : ℕ). drop j (paper.cellsOf mid)) q ∙ same-past mid before past)
+            ∙ ap (λ (j : ℕ). kept ++ z j ++ drop storeWords (paper.cellsOf before)) (sym n);
         size = clear-length c fits ∙ size;
         past = clear-drop c fits storeBytes (omega arith) ∙ past;
       }
@@ -65,7 +65,7 @@ zeros-cleared before after n h e =
     let b : after ≡ replaced before (0 * 4) z (n * 4) = e ∙ ap (λ (j : ℕ). z ++ drop j before) q in
     record {
       bytes = b;
-      words = ap wordsOf b ∙ words-replaced before z 0 n (omega arith) (length-replicate (n * 4) 0) ∙ rw (words-zeros n);
+      words = ap cellsOf b ∙ words-replaced before z 0 n (omega arith) (length-replicate (n * 4) 0) ∙ rw (words-zeros n);
     }
 
 -- all of it
@@ -87,10 +87,10 @@ left-on {kept} {a} {b} {c} size past l =
 
 -- ---- bytes
 pub left-bytes : {kept : List ℤ} {before after : List ℕ} → storeBytes ≤ length before → Left kept before after → AllBytes after
-    → after ≡ bytesAfter (storeAfter kept (paper.wordsOf before)) before
+    → after ≡ bytesAfter (storeAfter kept (paper.cellsOf before)) before
 left-bytes {kept} {before} {after} room l s =
     kept-paper (record { size = l .size; part = drop-further after before storeBytes (length before / 4 * 4) (omega arith) (l .past) }) (λ i. s i .fits)
     ∙ ap (λ (w : List ℤ). bytesAfter w before) (l .words)
 
-pub same-bytes : (l : List ℕ) → AllBytes l → l ≡ bytesAfter (paper.wordsOf l) l
+pub same-bytes : (l : List ℕ) → AllBytes l → l ≡ bytesAfter (paper.cellsOf l) l
 same-bytes l s = kept-paper (kept-none l) (λ i. s i .fits)

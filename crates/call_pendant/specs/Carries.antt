@@ -4,7 +4,7 @@ use mathlib.Core.List.{List, [], _++_}
 use Prim.Native.Nat.{ℕ, _<_, _≤_}
 use lib.ListN.{length, take, drop}
 use lib.IntN.{ℤ}
-use Rattle.paper.specs.Answer.{storeWords, Accepted, accepted, verdict, recordSize, depthLimit, Question, questionOf, lentOf, Result, wordsOf, storeAfter}
+use Rattle.paper.specs.Answer.{storeWords, Accepted, accepted, verdict, recordSize, depthLimit, Question, questionOf, lentOf, Result, cellsOf, storeAfter}
 use Rattle.check_whole.specs.declared.Checked.the-variants as checked
 use Rattle.check_whole.specs.Checks.{storeBytes, Ready}
 use Rattle.run_whole.specs.declared.Ended.{Ended}
@@ -25,7 +25,7 @@ pub record Rooms (code values fields : List ℕ) : Type 0 where
 
 -- The store's first words are those kept, then there are zeros, and what lies past its words is as it was.
 pub record Left (kept : List ℤ) (before after : List ℕ) : Type 0 where
-  pub words : wordsOf after ≡ storeAfter kept (wordsOf before)
+  pub words : cellsOf after ≡ storeAfter kept (cellsOf before)
   pub size : length after ≡ length before
   pub past : drop storeBytes after ≡ drop storeBytes before
 

@@ -6,7 +6,7 @@ use lib.ListN.{length, drop}
 use Rattle.paper.specs.Answer.{recordSize, Record, recordBytes, refusedWith}
 use Rattle.code.specs.Cells.{errnoCell}
 use Rattle.code.specs.Windows.{writtenCell, usedCell}
-use Rattle.store_cells.specs.Words.{Got, PutField}
+use Rattle.store_cells.specs.Cells.{Got, PutField}
 use Rattle.store_cells.proofs.Paper.{record-law}
 use Rattle.layout.specs.Parts.{halfPart}
 use Rattle.call_records.specs.Records.{fieldsOf, refusedFields, reported, Written}

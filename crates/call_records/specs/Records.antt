@@ -4,7 +4,7 @@ use mathlib.Core.List.{List, _++_}
 use Prim.Native.Nat.{ℕ, suc, _+_, _-_, _*_, _≤_}
 use lib.ListN.{length, getD, drop}
 use Rattle.paper.specs.Answer.{recordSize, storeWords, Record, recordBytes, refusedWith}
-use Rattle.store_cells.specs.Words.{wordsOf, Cleared}
+use Rattle.store_cells.specs.Cells.{cellsOf, Cleared}
 use Rattle.code.specs.Cells.{errnoCell}
 use Rattle.code.specs.Windows.{writtenCell, usedCell}
 use Rattle.layout.specs.Named.{storeBytes}
@@ -21,7 +21,7 @@ refusedFields number offset = refusedWith (record { number = number; offset = of
 -- The record of a run that has ended: how it ended, and what the value store has counted.
 unfoldable pub reported : (ending place made : ℕ) → (values : List ℕ) → (words : ℕ) → Record
 reported ending place made values words =
-    let X = wordsOf values in
+    let X = cellsOf values in
     fieldsOf ending 0 place made (getD X errnoCell 0) (getD X writtenCell 0 + halfPart * getD X (suc writtenCell) 0) (getD X usedCell 0) words
 
 -- The record has these fields now, and every byte past it is as it was.

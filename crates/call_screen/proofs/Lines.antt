@@ -14,7 +14,7 @@ use Rattle.laws.specs.Lists.{replaced}
 use Rattle.laws.proofs.Lists.{replaced-length, replaced-drop}
 use Rattle.paper.specs.Answer.{recordSize}
 use Rattle.paper.specs.Numbers.{decimal}
-use Rattle.store_cells.specs.Words.{wordsOf, Got}
+use Rattle.store_cells.specs.Cells.{cellsOf, Got}
 use Rattle.run_decimals.specs.Placed.{PutsNumber}
 use Rattle.run_decimals.specs.declared.Put.{Put}
 use Rattle.run_decimals.specs.declared.Put.the-variants.{Done, NoRoom}
@@ -106,7 +106,7 @@ unfoldable pub firstOf : (W : List ℕ) → (k : ℕ) → List ℕ
 firstOf W zero = []
 firstOf W (suc k) = firstOf W k ++ numbered (getD W (k * 2) 0) (behindAt k)
 
-all-fields : (fields : List ℕ) → firstOf (wordsOf fields) 8 ≡ lineOf (lowFields fields)
+all-fields : (fields : List ℕ) → firstOf (cellsOf fields) 8 ≡ lineOf (lowFields fields)
 unfolding firstOf lineOf behindAt
 all-fields fields = simp append-assoc
 
@@ -115,7 +115,7 @@ pub record Lined (before line fields : List ℕ) (k at : ℕ) : Type 0 where
   pub few : k ≤ 8
   pub near : at ≤ 21 * k
   pub size : length line ≡ length before
-  pub begun : Begun before line (firstOf (wordsOf fields) k) at
+  pub begun : Begun before line (firstOf (cellsOf fields) k) at
 
 pub lined-none : (line fields : List ℕ) → Lined line line fields 0 0
 unfolding firstOf
@@ -131,7 +131,7 @@ module _ (before line fields : List ℕ) (k at : ℕ) (l : Lined before line fie
   pub lined-more : (n b : ℕ) → Got fields (k * 2) n → b ≡ behindAt k → (after : List ℕ) (r : ℕ) → PutOne line after at n b r → Lined before after fields (k + 1) r
   unfolding firstOf
   lined-more n b g e after r p =
-      let q : PutOne line after at (getD (wordsOf fields) (k * 2) 0) (behindAt k) r = subst (λ (x : ℕ). PutOne line after at x (behindAt k) r) g (subst (λ (x : ℕ). PutOne line after at n x r) e p) in
+      let q : PutOne line after at (getD (cellsOf fields) (k * 2) 0) (behindAt k) r = subst (λ (x : ℕ). PutOne line after at x (behindAt k) r) g (subst (λ (x : ℕ). PutOne line after at n x r) e p) in
       record {
         few = omega arith;
         near = omega (arith, p .near, l .near);
@@ -142,7 +142,7 @@ module _ (before line fields : List ℕ) (k at : ℕ) (l : Lined before line fie
 pub lined-all : (before line fields : List ℕ) (k at : ℕ) → Lined before line fields k at → 7 < k → PutLine before line (lowFields fields) at
 lined-all before line fields k at l past =
     let eight : k ≡ 8 = omega (arith, l .few) in
-    let b : Begun before line (lineOf (lowFields fields)) at = subst (λ (s : List ℕ). Begun before line s at) (ap (firstOf (wordsOf fields)) eight ∙ all-fields fields) (l .begun) in
+    let b : Begun before line (lineOf (lowFields fields)) at = subst (λ (s : List ℕ). Begun before line s at) (ap (firstOf (cellsOf fields)) eight ∙ all-fields fields) (l .begun) in
     record {
       bytes = b .bytes ∙ ap (λ (n : ℕ). lineOf (lowFields fields) ++ drop n before) (b .place);
       place = b .place;

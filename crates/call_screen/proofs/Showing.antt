@@ -9,7 +9,7 @@ use mir.Val.{Fits}
 use borrow.Author.Tests.{le-ltb}
 use Rattle.paper.specs.Answer.{recordSize, Record, lowFirst, recordBytes, Lent, Answer, answer, LentBytes, BytesAnswer, lentOf, spread, pendantCall}
 use Rattle.paper.specs.Answer as paper
-use Rattle.store_cells.specs.Words.{word, wordsOf, Got}
+use Rattle.store_cells.specs.Cells.{cell, cellsOf, Got}
 use Rattle.demands.specs.Vocabulary.{Errno, before-any, latest, ErrorNumber, by-raise, named}
 use Rattle.demands.specs.Demands.{Allowed, refused, ended, Demand1}
 use Rattle.demands.proofs.Memory.{demand-1}
@@ -19,7 +19,7 @@ use Rattle.call_screen.specs.declared.Shown.{Shown}
 use Rattle.call_screen.specs.Screen.{lineRoom, fieldList, recordLine, lowFields, lineOf, PutLine, Lends, Shows}
 
 -- ---- a field below 2^32 is its low word
-low-word : (n : ℕ) → n < 4294967296 → word (n % 256) (n / 256 % 256) (n / 256 / 256 % 256) (n / 256 / 256 / 256 % 256) ≡ n
+low-word : (n : ℕ) → n < 4294967296 → cell (n % 256) (n / 256 % 256) (n / 256 / 256 % 256) (n / 256 / 256 / 256 % 256) ≡ n
 low-word n h = omega arith
 
 record Low (f : Record) : Type 0 where
@@ -33,7 +33,7 @@ record Low (f : Record) : Type 0 where
   pub words : f .words < 4294967296
 
 low-fields : (f : Record) (past : List ℕ) → Low f → lowFields (recordBytes f ++ past) ≡ fieldList f
-unfolding recordBytes lowFirst wordsOf
+unfolding recordBytes lowFirst cellsOf
 low-fields f past h = λ i.
     low-word (f .ending) (h .ending) i ∷ low-word (f .refusal) (h .refusal) i ∷ low-word (f .offset) (h .offset) i ∷ low-word (f .steps) (h .steps) i
     ∷ low-word (f .errno) (h .errno) i ∷ low-word (f .output) (h .output) i ∷ low-word (f .inputs) (h .inputs) i ∷ low-word (f .words) (h .words) i ∷ []

@@ -9,7 +9,7 @@ use Rattle.laws.specs.Lists.{replaced}
 use Rattle.paper.specs.Basics.{if_then_else_}
 use Rattle.paper.specs.Numbers.{decimal}
 use Rattle.paper.specs.Answer.{Record, Result, answer, LentBytes, lentOf, bytesAfter}
-use Rattle.store_cells.specs.Words.{wordsOf}
+use Rattle.store_cells.specs.Cells.{cellsOf}
 use Rattle.call_screen.specs.declared.Shown.{Shown}
 
 -- ---- numbers in a line
@@ -59,7 +59,7 @@ recordLine f = lineOf (fieldList f)
 -- The low word of each field.
 abbrev pub lowFields : List ℕ → List ℕ
 lowFields bytes =
-    let W = wordsOf bytes in
+    let W = cellsOf bytes in
     getD W 0 0 ∷ getD W 2 0 ∷ getD W 4 0 ∷ getD W 6 0 ∷ getD W 8 0 ∷ getD W 10 0 ∷ getD W 12 0 ∷ getD W 14 0 ∷ []
 
 -- ---- what is shown of a call

@@ -10,7 +10,7 @@ use Rattle.paper.specs.Terms.{Memory}
 use Rattle.paper.specs.Names.{DataType, theRoutine, nth, sortIn, spelled, meaning}
 use Rattle.paper.specs.Checks.{isSome, inError}
 use Rattle.paper.specs.Checks as checks
-use Rattle.store_cells.specs.Words.{wordsOf}
+use Rattle.store_cells.specs.Cells.{cellsOf}
 use Rattle.code.specs.Cells.{headAt, valueAt, placeAt}
 use Rattle.code.specs.Steps.{aTarget, Head, numbered}
 use Rattle.code.specs.Signatures.{Heads}
@@ -62,8 +62,8 @@ groundOf {text} a = record {
 -- The words from `at` up to `to`, and the word `to`, are as they were loaded: heads, places, and the length of a string.
 pub record Unread (W : List Word) (code : List ℕ) (at to : ℕ) : Type 0 where
   pub loaded : Loaded W code at to
-  pub strings : (i : ℕ) → at ≤ i → i ≤ to → sortIn W i ≡ STRING → valueAt (wordsOf code) i ≡ length (nth W i .covers)
-  pub places : (i : ℕ) → at ≤ i → i ≤ to → placeAt (wordsOf code) i ≡ nth W i .place
+  pub strings : (i : ℕ) → at ≤ i → i ≤ to → sortIn W i ≡ STRING → valueAt (cellsOf code) i ≡ length (nth W i .covers)
+  pub places : (i : ℕ) → at ≤ i → i ≤ to → placeAt (cellsOf code) i ≡ nth W i .place
 
 -- D has the heads of C but for the words from `at` up to `to`, and the word `to`.
 pub record Apart (C D : List ℕ) (at to : ℕ) : Type 0 where
@@ -72,7 +72,7 @@ pub record Apart (C D : List ℕ) (at to : ℕ) : Type 0 where
 
 -- The cells say the signatures of all routines, whatever is written from `at` up to `to`: no routine's head is there.
 pub record Calls {text values : List ℕ} (a : Around text values) (code : List ℕ) (at to : ℕ) : Type 0 where
-  pub heads : (D : List ℕ) → Apart (wordsOf code) D at to → Heads D (a .R) (a .K .routines)
+  pub heads : (D : List ℕ) → Apart (cellsOf code) D at to → Heads D (a .R) (a .K .routines)
   pub room : storeBytes ≤ length code
 
 -- ---- the setting

@@ -4,7 +4,7 @@ use mathlib.Core.List.{List}
 use Prim.Native.Nat.{ℕ, _+_, _*_, _%_, _<_, _≤_}
 use native.Mathlib.Omega.{arith}
 use lib.ListN.{length, getD}
-use Rattle.store_cells.specs.Words.{wordsOf}
+use Rattle.store_cells.specs.Cells.{cellsOf}
 use Rattle.paper.specs.Words.{Word}
 use Rattle.paper.specs.Trees.{Expr, Statements}
 use Rattle.paper.specs.Names.{Scopes, Meaning}
@@ -33,7 +33,7 @@ outside-wider x y o h g = record { below = λ i l. o .below i (omega arith); abo
 pub outside-on : {C D E : List ℕ} {a b : ℕ} → Outside C D a b → Outside D E a b → Outside C E a b
 outside-on p q = record { below = λ i h. q .below i h ∙ p .below i h; above = λ i h. q .above i h ∙ p .above i h }
 
-pub kept-outside : {before after : List ℕ} {a b : ℕ} → Kept before after a b → Outside (wordsOf before) (wordsOf after) a b
+pub kept-outside : {before after : List ℕ} {a b : ℕ} → Kept before after a b → Outside (cellsOf before) (cellsOf after) a b
 kept-outside k = record { below = cell-below k; above = cell-above k }
 
 -- words before and behind
@@ -61,8 +61,8 @@ module _ {C D : List ℕ} {a b : ℕ} (o : Outside C D a b) where
   tail-behind i h = o .above (i * 2 + 1) (omega arith)
 
 -- ---- words that the check has not come to
-module _ (W : List Word) (before after : List ℕ) {a b : ℕ} (o : Outside (wordsOf before) (wordsOf after) a b) (long : length after ≡ length before) where
-  fresh-behind : (i : ℕ) → b ≤ i → Fresh W (wordsOf before) i → Fresh W (wordsOf after) i
+module _ (W : List Word) (before after : List ℕ) {a b : ℕ} (o : Outside (cellsOf before) (cellsOf after) a b) (long : length after ≡ length before) where
+  fresh-behind : (i : ℕ) → b ≤ i → Fresh W (cellsOf before) i → Fresh W (cellsOf after) i
   fresh-behind i h f =
       let e = head-behind o i h in
       record {
@@ -83,7 +83,7 @@ module _ (W : List Word) (before after : List ℕ) {a b : ℕ} (o : Outside (wor
     places = λ i l m. ap placeIn (tail-behind o i (omega arith)) ∙ u .places i (omega arith) (omega arith);
   }
 
-pub calls-behind : {text values before after : List ℕ} {a b at to : ℕ} (g : Around text values) → Outside (wordsOf before) (wordsOf after) a b → length after ≡ length before
+pub calls-behind : {text values before after : List ℕ} {a b at to : ℕ} (g : Around text values) → Outside (cellsOf before) (cellsOf after) a b → length after ≡ length before
     → (x y : ℕ) → Calls g before at to → at ≤ a → b ≤ to + 1 → at ≤ x → y ≤ to → Calls g after x y
 calls-behind g o long x y c h k l m = record {
   heads = λ D p. c .heads D (record {
@@ -104,7 +104,7 @@ fine-more m n p X M x h = holds (heldBy x) (λ w v e. record { room = room-more 
 
 -- ---- further on
 -- The words up to b have been written, and the routine has used p words: what is known of the words from x up to y.
-pub here-from : {text values : List ℕ} (g : Around text values) (before after : List ℕ) (k : Setting) (n at to : ℕ) {a b : ℕ} (p x y : ℕ) → Here g before k n at to → Outside (wordsOf before) (wordsOf after) a b → length after ≡ length before
+pub here-from : {text values : List ℕ} (g : Around text values) (before after : List ℕ) (k : Setting) (n at to : ℕ) {a b : ℕ} (p x y : ℕ) → Here g before k n at to → Outside (cellsOf before) (cellsOf after) a b → length after ≡ length before
     → n ≤ p → p ≤ 64 → at ≤ x → b ≤ x → y ≤ to → Calls g after x y → Here g after k p x y
 here-from g before after k n at to p x y h o long few-more few q r s c = record {
   tells = h .tells;
@@ -117,14 +117,14 @@ here-from g before after k n at to p x y h o long few-more few q r s c = record 
 }
 
 -- the same for words from a up to b that are among those from `at` up to `to`
-pub here-on : {text values : List ℕ} (g : Around text values) (before after : List ℕ) (k : Setting) (n at to : ℕ) {a b : ℕ} (p x y : ℕ) → Here g before k n at to → Outside (wordsOf before) (wordsOf after) a b → length after ≡ length before
+pub here-on : {text values : List ℕ} (g : Around text values) (before after : List ℕ) (k : Setting) (n at to : ℕ) {a b : ℕ} (p x y : ℕ) → Here g before k n at to → Outside (cellsOf before) (cellsOf after) a b → length after ≡ length before
     → n ≤ p → p ≤ 64 → at ≤ a → b ≤ to + 1 → at ≤ x → b ≤ x → y ≤ to → Here g after k p x y
 here-on g before after k n at to p x y h o long few-more few l m q r s = here-from g before after k n at to p x y h o long few-more few q r s (calls-behind g o long x y (h .calls) l m q s)
 
 -- fewer words
 pub here-part : {text values : List ℕ} (g : Around text values) (code : List ℕ) (k : Setting) (n at to x y : ℕ) → Here g code k n at to → at ≤ x → x ≤ to → y ≤ to → Here g code k n x y
 here-part g code k n at to x y h q r s =
-    here-on g code code k n at to n x y h (outside-same (wordsOf code) x x) refl (omega arith) (h .few) q (omega arith) q (omega arith) s
+    here-on g code code k n at to n x y h (outside-same (cellsOf code) x x) refl (omega arith) (h .few) q (omega arith) q (omega arith) s
 
 -- ---- what has been written stays
 pub term-same : (g : Ground) (n : ℕ) (C D : List ℕ) (S : Scopes) (e : Expr) (a b : ℕ) → SameWords C D a b → RawTerm g n C S e a b → RawTerm g n D S e a b
@@ -155,11 +155,11 @@ module _ {C D : List ℕ} {a b : ℕ} (s : SameWords C D a b) (i : ℕ) (l : a �
 
 -- the word that is written
 module _ {before after : List ℕ} {i op value link : ℕ} (k : Linked before after i op value link) where
-  pub linked-outside : Outside (wordsOf before) (wordsOf after) i (i + 1)
+  pub linked-outside : Outside (cellsOf before) (cellsOf after) i (i + 1)
   linked-outside = kept-outside (k .kept)
 
-  pub linked-word : RawWord (wordsOf after) op i link
+  pub linked-word : RawWord (cellsOf after) op i link
   linked-word = record { is = k .op-is; leaves = k .link-is }
 
-pub rewritten-outside : {before after : List ℕ} {i head tail : ℕ} → Rewritten before after i head tail → i * 8 + 8 ≤ length before → Outside (wordsOf before) (wordsOf after) i (i + 1)
+pub rewritten-outside : {before after : List ℕ} {i head tail : ℕ} → Rewritten before after i head tail → i * 8 + 8 ≤ length before → Outside (cellsOf before) (cellsOf after) i (i + 1)
 rewritten-outside {i = i} r h = record { below = λ k l. rewritten-other r h k (λ e. omega arith) (λ e. omega arith); above = λ k l. rewritten-other r h k (λ e. omega arith) (λ e. omega arith) }

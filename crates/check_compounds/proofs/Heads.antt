@@ -11,7 +11,7 @@ use lib.Dec.{ltb}
 use lib.ListN.{length, getD}
 use borrow.Author.Tests.{ltb-true}
 use Rattle.laws.proofs.Tests.{test, by-same}
-use Rattle.store_cells.specs.Words.{wordsOf}
+use Rattle.store_cells.specs.Cells.{cellsOf}
 use Rattle.paper.specs.Sorts.{STEP}
 use Rattle.paper.specs.Trees.{Expr}
 use Rattle.paper.specs.Expressions.{levelOf}
@@ -66,7 +66,7 @@ module _ (code values : List ℕ) (i : ℕ) (g : Bounds code values i) where
   bound-room = (omega (arith, forward, g .inside, g .here .unread .loaded .last), omega (arith, forward, g .inside, g .here .unread .loaded .room))
 
   abbrev ForBound : (after : List ℕ) → Judged → Type 0
-  ForBound after r = Answer (ofType (a .known .W) aNum (a .known .S) (g .e)) code after i (g .z) (BoundWritten (RawBound (groundOf a) (a .known .n) (wordsOf after) (a .known .S) (g .e) i (g .z)) code after i) r
+  ForBound after r = Answer (ofType (a .known .W) aNum (a .known .S) (g .e)) code after i (g .z) (BoundWritten (RawBound (groundOf a) (a .known .n) (cellsOf after) (a .known .S) (g .e) i (g .z)) code after i) r
 
   module _ (one : List ℕ) (j : Judged) (c : OfType code values one false numType (i + 1) j) where
     bound-no : (number word : ℕ) → j ≡ Faulty number word → ForBound one j
@@ -85,9 +85,9 @@ module _ (code values : List ℕ) (i : ℕ) (g : Bounds code values i) where
       pub bound-links : (i * 8 + 8 ≤ length one) × (n < linkPart)
       bound-links = (omega (arith, bound-room, kept .long), omega (arith, at-is, g .inside, g .here .unread .loaded .last))
 
-      bound-yes : (two : List ℕ) → Linked one two i (opAt (wordsOf one) i) (valueAt (wordsOf one) i) n → ForBound two (Typed bool n)
+      bound-yes : (two : List ℕ) → Linked one two i (opAt (cellsOf one) i) (valueAt (cellsOf one) i) n → ForBound two (Typed bool n)
       bound-yes two l =
-          let op-is : opAt (wordsOf two) i ≡ opAt (wordsOf code) i = l .op-is ∙ ap opIn (head-before (kept-outside kept) i (omega arith)) in
+          let op-is : opAt (cellsOf two) i ≡ opAt (cellsOf code) i = l .op-is ∙ ap opIn (head-before (kept-outside kept) i (omega arith)) in
           fine-answer _ _ _ _ _ _ bool n (record {
             none = judged-none (g .text) code values a (g .k) (g .used) (i + 1) (g .to) (g .here) (g .e) (i + 1) (g .z) (g .is) (g .ends) (omega arith) (g .inside) one numType aNum num-in j c bool n q;
             next-is = at-is;
@@ -95,7 +95,7 @@ module _ (code values : List ℕ) (i : ℕ) (g : Bounds code values i) where
               is = record {
                 link = l .link-is ∙ at-is;
                 still = ap isLed op-is ∙ g .still;
-                term = term-same (groundOf a) (a .known .n) (wordsOf one) (wordsOf two) (a .known .S) (g .e) (i + 1) (g .z) (same-behind (i + 1) (g .z) (linked-outside l) (omega arith))
+                term = term-same (groundOf a) (a .known .n) (cellsOf one) (cellsOf two) (a .known .S) (g .e) (i + 1) (g .z) (same-behind (i + 1) (g .z) (linked-outside l) (omega arith))
                     (judged-term (g .text) code values a (g .k) (g .used) (i + 1) (g .to) (g .here) (g .e) (i + 1) (g .z) (g .is) (g .ends) (omega arith) (g .inside) one numType aNum num-in j c bool n q);
               };
               op = op-is;
@@ -107,7 +107,7 @@ module _ (code values : List ℕ) (i : ℕ) (one : List ℕ) (j : Judged) (c : O
   pub bound-wrong : (number word : ℕ) → j ≡ Faulty number word → Bounded code values one i j
   bound-wrong number word q = record { is = λ g. bound-no code values i g one j c number word q }
 
-  pub bound-right : (bool : ℕ) (n : ℕ) → j ≡ Typed bool n → (two : List ℕ) → Linked one two i (opAt (wordsOf one) i) (valueAt (wordsOf one) i) n → Bounded code values two i (Typed bool n)
+  pub bound-right : (bool : ℕ) (n : ℕ) → j ≡ Typed bool n → (two : List ℕ) → Linked one two i (opAt (cellsOf one) i) (valueAt (cellsOf one) i) n → Bounded code values two i (Typed bool n)
   bound-right bool n q two l = record { is = λ g. bound-yes code values i g one j c bool n q two l }
 
 -- ---- STEP
@@ -126,9 +126,9 @@ module _ (code values : List ℕ) (s : ℕ) (g : Steps code values s) where
   step-room = (omega (arith, order, g .inside, g .here .unread .loaded .last), omega (arith, order, g .inside, g .here .unread .loaded .room))
 
   abbrev ForStep : (after : List ℕ) → Judged → Type 0
-  ForStep after r = Answer (optionalNum (b .known .W) (b .known .S) (g .c)) code after s (g .d) (RawStep (groundOf b) (b .known .n) (wordsOf after) (b .known .S) (g .c) s (g .d)) r
+  ForStep after r = Answer (optionalNum (b .known .W) (b .known .S) (g .c)) code after s (g .d) (RawStep (groundOf b) (b .known .n) (cellsOf after) (b .known .S) (g .c) s (g .d)) r
 
-  module _ (v : ℕ) (ev : v ≡ opAt (wordsOf code) s) where
+  module _ (v : ℕ) (ev : v ≡ opAt (cellsOf code) s) where
     sort-is : sortIn (b .known .W) s ≡ v
     sort-is = sym (ev ∙ g .here .unread .loaded .words s (omega arith) (omega (arith, order, g .inside)) .sort)
 
@@ -139,11 +139,11 @@ module _ (code values : List ℕ) (s : ℕ) (g : Steps code values s) where
         fine-answer _ _ _ _ _ _ noType s (record {
           none = ap (optionalNum (b .known .W) (b .known .S)) (q .0);
           next-is = sym (q .1);
-          written = subst (λ (o : Option Expr). RawStep (groundOf b) (b .known .n) (wordsOf code) (b .known .S) o s (g .d)) (sym (q .0)) (sym (q .1));
+          written = subst (λ (o : Option Expr). RawStep (groundOf b) (b .known .n) (cellsOf code) (b .known .S) o s (g .d)) (sym (q .0)) (sym (q .1));
           kept = kept-same code s (g .d);
         })
 
-    module _ (h : v ≡ STEP) (one : List ℕ) (l : Linked code one s aStep 0 (linkAt (wordsOf code) s)) where
+    module _ (h : v ≡ STEP) (one : List ℕ) (l : Linked code one s aStep 0 (linkAt (cellsOf code) s)) where
       w : Given (sortIn (b .known .W)) (Parses (sortIn (b .known .W))) (g .c) (s + 1) (g .d)
       w = step-some (sortIn (b .known .W)) (Parses (sortIn (b .known .W))) (g .is) (sort-is ∙ h)
 
@@ -169,21 +169,21 @@ module _ (code values : List ℕ) (s : ℕ) (g : Steps code values s) where
 
       step-yes : (two : List ℕ) (j : Judged) → Bounded one values two s j → ForStep two j
       unfolding step-bounds optionalNum RawStep Tell
-      step-yes two j x = subst (λ (o : Option Expr). Answer (optionalNum (b .known .W) (b .known .S) o) code two s (g .d) (RawStep (groundOf b) (b .known .n) (wordsOf two) (b .known .S) o s (g .d)) j) (sym (w .is)) (by-answer j (x .is step-bounds))
+      step-yes two j x = subst (λ (o : Option Expr). Answer (optionalNum (b .known .W) (b .known .S) o) code two s (g .d) (RawStep (groundOf b) (b .known .n) (cellsOf two) (b .known .S) o s (g .d)) j) (sym (w .is)) (by-answer j (x .is step-bounds))
         where
-          by-answer : (r : Judged) → Answer (ofType (b .known .W) aNum (b .known .S) (w .e)) one two s (g .d) (BoundWritten (RawBound (groundOf b) (b .known .n) (wordsOf two) (b .known .S) (w .e) s (g .d)) one two s) r
-              → Answer (ofType (b .known .W) aNum (b .known .S) (w .e)) code two s (g .d) ((opAt (wordsOf two) s ≡ aStep) × RawBound (groundOf b) (b .known .n) (wordsOf two) (b .known .S) (w .e) s (g .d)) r
+          by-answer : (r : Judged) → Answer (ofType (b .known .W) aNum (b .known .S) (w .e)) one two s (g .d) (BoundWritten (RawBound (groundOf b) (b .known .n) (cellsOf two) (b .known .S) (w .e) s (g .d)) one two s) r
+              → Answer (ofType (b .known .W) aNum (b .known .S) (w .e)) code two s (g .d) ((opAt (cellsOf two) s ≡ aStep) × RawBound (groundOf b) (b .known .n) (cellsOf two) (b .known .S) (w .e) s (g .d)) r
           by-answer (Typed bool next) y =
               let f = y .tells in
               fine-answer _ _ _ _ _ _ bool next
               (record { none = f .none; next-is = f .next-is; written = (f .written .op ∙ l .op-is, f .written .is); kept = kept-on (kept-wider (l .kept) s (g .d) (omega arith) (omega (arith, longer))) (f .kept) })
           by-answer (Faulty number word) y = record { tells = y .tells; long = y .long ∙ l .kept .long }
 
-module _ (code values : List ℕ) (s v : ℕ) (ev : v ≡ opAt (wordsOf code) s) where
+module _ (code values : List ℕ) (s v : ℕ) (ev : v ≡ opAt (cellsOf code) s) where
   pub no-step : (v ≡ STEP → ⊥) → Stepped code values code s (Typed noType s)
   no-step f = record { is = λ g. step-no code values s g v ev f }
 
-  pub a-step : v ≡ STEP → (one : List ℕ) → Linked code one s aStep 0 (linkAt (wordsOf code) s) → (two : List ℕ) (j : Judged) → Bounded one values two s j → Stepped code values two s j
+  pub a-step : v ≡ STEP → (one : List ℕ) → Linked code one s aStep 0 (linkAt (cellsOf code) s) → (two : List ℕ) (j : Judged) → Bounded one values two s j → Stepped code values two s j
   a-step h one l two j x = record { is = λ g. step-yes code values s g v ev h one l two j x }
 
 -- ---- the name
@@ -250,7 +250,7 @@ module _ (code values : List ℕ) (used i : ℕ) (g : ForHeads code values used 
       Answer
       (faultIf (cannotDeclare [] (spelled (e .known .W) (i + 1))) takenName (i + 1) ++ faultIf (crosses routineWordLimit used 1) tooMany (i + 1) ++ ofType (e .known .W) aNum (e .known .S) (g .a)
       ++ ofType (e .known .W) aNum (e .known .S) (g .b) ++ optionalNum (e .known .W) (e .known .S) (g .c))
-      code after (i + 2) (g .doAt) (ForMay (groundOf e) (e .known .n) (wordsOf after) (e .known .S) used (g .a) (g .b) (g .c) i (g .doAt)) r
+      code after (i + 2) (g .doAt) (ForMay (groundOf e) (e .known .n) (cellsOf after) (e .known .S) used (g .a) (g .b) (g .c) i (g .doAt)) r
 
   pub head-inside : Inside (i + 1) (g .doAt) (name-fault ++ limit-fault ++ lower-faults ++ upper-faults ++ step-faults)
   head-inside =
@@ -269,7 +269,7 @@ module _ (code values : List ℕ) (used i : ℕ) (g : ForHeads code values used 
     guarded : isProtected (spelled (e .known .W) (i + 1)) ≡ b
     guarded =
         let n = g .here .unread .loaded .words (i + 1) (omega arith) (omega (arith, orders, last)) .number (x .name) in
-        sym (e .known .means .guards (i + 1) (x .name)) ∙ ap protectsCell (sym (em ∙ ap (λ (v : ℕ). getD (wordsOf values) (firstMeaning + v) 0) n)) ∙ sym eb
+        sym (e .known .means .guards (i + 1) (x .name)) ∙ ap protectsCell (sym (em ∙ ap (λ (v : ℕ). getD (cellsOf values) (firstMeaning + v) 0) n)) ∙ sym eb
 
     taken : b ≡ true → ForHead code (Faulty takenName (i + 1))
     taken t = found-answer _ _ _ _ _ _ takenName (i + 1) (after-name _ (first-lower _ _ takenName tooMany (i + 1) (omega arith) (only-protected _ ∙ guarded ∙ t))) refl
@@ -316,7 +316,7 @@ module _ (code values : List ℕ) (used i : ℕ) (g : ForHeads code values used 
             first-before (first-before h j1 upper-in (omega arith)) j2 step-in (omega arith)
 
         module _ (one : List ℕ) (j : Judged) (b1 : Bounded code values one (i + 2) j) where
-          a1 : Answer lower-faults code one (i + 2) (x .toAt) (BoundWritten (RawBound (groundOf e) (e .known .n) (wordsOf one) (e .known .S) (g .a) (i + 2) (x .toAt)) code one (i + 2)) j
+          a1 : Answer lower-faults code one (i + 2) (x .toAt) (BoundWritten (RawBound (groundOf e) (e .known .n) (cellsOf one) (e .known .S) (g .a) (i + 2) (x .toAt)) code one (i + 2)) j
           unfolding head-lower
           a1 = b1 .is head-lower
 
@@ -324,7 +324,7 @@ module _ (code values : List ℕ) (used i : ℕ) (g : ForHeads code values used 
           lower-wrong number word q = found-as _ _ _ _ _ _ j number word q (with-lower _ (first-after no-name (faulty-found j a1 number word q))) (a1 .long)
 
           module _ (bool : ℕ) (to : ℕ) (q : j ≡ Typed bool to) where
-            f1 : Fine lower-faults code one (i + 2) (x .toAt) to (BoundWritten (RawBound (groundOf e) (e .known .n) (wordsOf one) (e .known .S) (g .a) (i + 2) (x .toAt)) code one (i + 2))
+            f1 : Fine lower-faults code one (i + 2) (x .toAt) to (BoundWritten (RawBound (groundOf e) (e .known .n) (cellsOf one) (e .known .S) (g .a) (i + 2) (x .toAt)) code one (i + 2))
             f1 = typed-fine j a1 bool to q
 
             no-lower : name-fault ++ limit-fault ++ lower-faults ≡ []
@@ -365,7 +365,7 @@ module _ (code values : List ℕ) (used i : ℕ) (g : ForHeads code values used 
                 first-before h j2 step-in (omega arith)
 
             module _ (two : List ℕ) (j2 : Judged) (b2 : Bounded one values two to j2) where
-              a2 : Answer upper-faults one two (x .toAt) (x .stepAt) (BoundWritten (RawBound (groundOf e) (e .known .n) (wordsOf two) (e .known .S) (g .b) (x .toAt) (x .stepAt)) one two (x .toAt)) j2
+              a2 : Answer upper-faults one two (x .toAt) (x .stepAt) (BoundWritten (RawBound (groundOf e) (e .known .n) (cellsOf two) (e .known .S) (g .b) (x .toAt) (x .stepAt)) one two (x .toAt)) j2
               unfolding uppers
               a2 = subst (λ (v : ℕ). Bounded one values two v j2) (f1 .next-is) b2 .is uppers
 
@@ -373,7 +373,7 @@ module _ (code values : List ℕ) (used i : ℕ) (g : ForHeads code values used 
               upper-wrong number word q2 = found-as _ _ _ _ _ _ j2 number word q2 (with-upper _ (first-after no-lower (faulty-found j2 a2 number word q2))) (a2 .long ∙ a1 .long)
 
               module _ (bool2 : ℕ) (s : ℕ) (q2 : j2 ≡ Typed bool2 s) where
-                f2 : Fine upper-faults one two (x .toAt) (x .stepAt) s (BoundWritten (RawBound (groundOf e) (e .known .n) (wordsOf two) (e .known .S) (g .b) (x .toAt) (x .stepAt)) one two (x .toAt))
+                f2 : Fine upper-faults one two (x .toAt) (x .stepAt) s (BoundWritten (RawBound (groundOf e) (e .known .n) (cellsOf two) (e .known .S) (g .b) (x .toAt) (x .stepAt)) one two (x .toAt))
                 f2 = typed-fine j2 a2 bool2 s q2
 
                 no-upper : name-fault ++ limit-fault ++ lower-faults ++ upper-faults ≡ []
@@ -401,7 +401,7 @@ module _ (code values : List ℕ) (used i : ℕ) (g : ForHeads code values used 
                 unfolding steps Tell groundOf
                 head-done three j3 b3 = by-answer j3 (subst (λ (v : ℕ). Stepped two values three v j3) (f2 .next-is) b3 .is steps)
                   where
-                    by-answer : (r : Judged) → Answer step-faults two three (x .stepAt) (g .doAt) (RawStep (groundOf e) (e .known .n) (wordsOf three) (e .known .S) (g .c) (x .stepAt) (g .doAt)) r → ForHead three r
+                    by-answer : (r : Judged) → Answer step-faults two three (x .stepAt) (g .doAt) (RawStep (groundOf e) (e .known .n) (cellsOf three) (e .known .S) (g .c) (x .stepAt) (g .doAt)) r → ForHead three r
                     by-answer (Typed bool3 next) y =
                         let f3 = y .tells in
                         let o2 = kept-outside (f2 .kept) in
@@ -415,8 +415,8 @@ module _ (code values : List ℕ) (used i : ℕ) (g : ForHeads code values used 
                             bounds = record {
                               t = x .toAt;
                               s = x .stepAt;
-                              lower = bound-same (groundOf e) (e .known .n) (wordsOf one) (wordsOf three) (e .known .S) (g .a) (i + 2) (x .toAt) (same-on (same-before (i + 2) (x .toAt) o2 (omega arith)) (same-before (i + 2) (x .toAt) o3 (omega (arith, orders)))) (f1 .written .is);
-                              upper = bound-same (groundOf e) (e .known .n) (wordsOf two) (wordsOf three) (e .known .S) (g .b) (x .toAt) (x .stepAt) (same-before (x .toAt) (x .stepAt) o3 (omega arith)) (f2 .written .is);
+                              lower = bound-same (groundOf e) (e .known .n) (cellsOf one) (cellsOf three) (e .known .S) (g .a) (i + 2) (x .toAt) (same-on (same-before (i + 2) (x .toAt) o2 (omega arith)) (same-before (i + 2) (x .toAt) o3 (omega (arith, orders)))) (f1 .written .is);
+                              upper = bound-same (groundOf e) (e .known .n) (cellsOf two) (cellsOf three) (e .known .S) (g .b) (x .toAt) (x .stepAt) (same-before (x .toAt) (x .stepAt) o3 (omega arith)) (f2 .written .is);
                               steps = f3 .written;
                             };
                           };

@@ -5,7 +5,7 @@ use mathlib.Core.List.{List, [], _++_}
 use Prim.Native.Nat.{ℕ, suc, _+_, _-_, _<_, _≤_}
 use native.Mathlib.Omega.{arith}
 use lib.ListN.{length}
-use Rattle.store_cells.specs.Words.{wordsOf}
+use Rattle.store_cells.specs.Cells.{cellsOf}
 use Rattle.climb.proofs.Operands.{deeper}
 use Rattle.paper.specs.Trees.{Expr}
 use Rattle.paper.specs.Expressions.{nestings, levelOf}
@@ -73,7 +73,7 @@ module _ (text code values : List ℕ) (g : Around text values) (k : Setting) (u
     judged-long = judges .kept .long
 
     module _ (bool : ℕ) (next : ℕ) (q : r ≡ Typed bool next) where
-      sound : Sound (g .known .m) (g .known .n) (wordsOf after) a z (record { type = t; faults = ofType (g .known .W) t (g .known .S) e; term = termOf (g .known .W) (g .known .S) e }) bool next
+      sound : Sound (g .known .m) (g .known .n) (cellsOf after) a z (record { type = t; faults = ofType (g .known .W) t (g .known .S) e; term = termOf (g .known .W) (g .known .S) e }) bool next
       sound = says-typed _ _ _ _ _ _ r bool next q (judges .says)
 
       pub judged-none : ofType (g .known .W) t (g .known .S) e ≡ []
@@ -82,7 +82,7 @@ module _ (text code values : List ℕ) (g : Around text values) (k : Setting) (u
       pub judged-next : next ≡ z
       judged-next = sound .next-is
 
-      pub judged-term : RawTerm (groundOf g) (g .known .n) (wordsOf after) (g .known .S) e a z
+      pub judged-term : RawTerm (groundOf g) (g .known .n) (cellsOf after) (g .known .S) e a z
       unfolding groundOf
       judged-term = record {
         is = sound .stands;

@@ -8,7 +8,7 @@ use native.Mathlib.Omega.{arith}
 use lib.ListN.{length}
 use lib.IntN.{pos, _-ℤ_}
 use Rattle.laws.proofs.Tests.{by-same}
-use Rattle.store_cells.specs.Words.{wordsOf, Got}
+use Rattle.store_cells.specs.Cells.{cellsOf, Got}
 use Rattle.paper.specs.Words.{Word, wordLimit}
 use Rattle.paper.specs.Terms.{Memory}
 use Rattle.paper.specs.Trees.{Expr}
@@ -46,8 +46,8 @@ pub record Linking (g : Ground) (n : ℕ) (S : Scopes) (es : List Expr) (before 
   pub on : (C : List ℕ) → Outside now C w colon → headAt C w ≡ headAt now w → placeAt C w ≡ colon + 1 → SameWords now C (c + 1) (c + 2) → RawValues g n C S fs (colon + 1) next w → Whole g n S es before C colon next c
 
 pub record Linkings (before now : List ℕ) (colon next c w : ℕ) : Type 0 where
-  pub is : (g : Ground) (n : ℕ) (S : Scopes) (es : List Expr) → CaseChain (g .W) S (g .M) (wordsOf before) es colon c → Linking g n S es (wordsOf before) (wordsOf now) colon next c w
-  pub outside : Outside (wordsOf before) (wordsOf now) c colon
+  pub is : (g : Ground) (n : ℕ) (S : Scopes) (es : List Expr) → CaseChain (g .W) S (g .M) (cellsOf before) es colon c → Linking g n S es (cellsOf before) (cellsOf now) colon next c w
+  pub outside : Outside (cellsOf before) (cellsOf now) c colon
   pub long : length now ≡ length before
 
 -- a value that leads to the colon is the last one
@@ -61,7 +61,7 @@ same-head : (C D : List ℕ) (i j : ℕ) → headAt D i ≡ headAt C j → const
 unfolding constantAt
 same-head C D i j e = ap (λ (h : ℕ). pos (valueIn h) -ℤ pos bias) e
 
-begins : (before : List ℕ) (colon next c : ℕ) → c + 1 < colon → (g : Ground) (n : ℕ) (S : Scopes) (es : List Expr) → CaseChain (g .W) S (g .M) (wordsOf before) es colon c → Linking g n S es (wordsOf before) (wordsOf before) colon next c c
+begins : (before : List ℕ) (colon next c : ℕ) → c + 1 < colon → (g : Ground) (n : ℕ) (S : Scopes) (es : List Expr) → CaseChain (g .W) S (g .M) (cellsOf before) es colon c → Linking g n S es (cellsOf before) (cellsOf before) colon next c c
 unfolding CaseChain RawConstants
 begins before colon next c h g n S [] x = absurd x
 begins before colon next c h g n S (e ∷ fs) x = record {
@@ -70,13 +70,13 @@ begins before colon next c h g n S (e ∷ fs) x = record {
   apart = λ q. omega arith;
   low = omega arith;
   high = omega arith;
-  on = λ C o hd p b rv. record { op = ap opIn hd; place = p; values = (same-constant (wordsOf before) C c hd ∙ x .1, rv); behind = b };
+  on = λ C o hd p b rv. record { op = ap opIn hd; place = p; values = (same-constant (cellsOf before) C c hd ∙ x .1, rv); behind = b };
 }
 
 pub link-begins : (before : List ℕ) (colon next c : ℕ) → Chained before colon c → Linkings before before colon next c c
 link-begins before colon next c p = record {
   is = λ g n S es x. begins before colon next c (p .before) g n S es x;
-  outside = outside-same (wordsOf before) c colon;
+  outside = outside-same (cellsOf before) c colon;
   long = refl;
 }
 
@@ -85,7 +85,7 @@ ground : List Word → Memory → Ground
 ground W M = record { m = 0; function = false; text = []; R = []; W = W; M = M; offset = λ (i : ℕ). i }
 
 module _ (before : List ℕ) (colon next c : ℕ) (now : List ℕ) (w : ℕ) (inv : Linkings before now colon next c w) where
-  some : (p : Chained before colon c) → Linking (ground (p .W) (p .M)) 0 (p .S) (p .es) (wordsOf before) (wordsOf now) colon next c w
+  some : (p : Chained before colon c) → Linking (ground (p .W) (p .M)) 0 (p .S) (p .es) (cellsOf before) (cellsOf now) colon next c w
   unfolding ground
   some p = inv .is (ground (p .W) (p .M)) 0 (p .S) (p .es) (p .is)
 
@@ -96,7 +96,7 @@ module _ (before : List ℕ) (colon next c : ℕ) (now : List ℕ) (w : ℕ) (in
   link-long = inv .long
 
   module _ (h t m : ℕ) (eh : Got now (w * 2) h) (et : Got now (w * 2 + 1) t) (em : m ≡ t / linkPart) where
-    link-is : linkAt (wordsOf now) w ≡ m
+    link-is : linkAt (cellsOf now) w ≡ m
     link-is = sym (em ∙ ap (λ (v : ℕ). v / linkPart) et)
 
     falls : (W : List Word) (S : Scopes) (M : Memory) (C : List ℕ) (fs : List Expr) → linkAt C w ≡ m → (m ≡ colon → ⊥) → Chain W S M C fs colon w → colon - m < colon - w
@@ -111,13 +111,13 @@ module _ (before : List ℕ) (colon next c : ℕ) (now : List ℕ) (w : ℕ) (in
 
     -- ---- the last value
     module _ (last : m ≡ colon) (after : List ℕ) (r : Rewritten now after w h (tailWith (colon + 1) next)) where
-      ends : (p : Chained before colon c) (g : Ground) (n : ℕ) (S : Scopes) (es : List Expr) → CaseChain (g .W) S (g .M) (wordsOf before) es colon c → Whole g n S es (wordsOf before) (wordsOf after) colon next c
+      ends : (p : Chained before colon c) (g : Ground) (n : ℕ) (S : Scopes) (es : List Expr) → CaseChain (g .W) S (g .M) (cellsOf before) es colon c → Whole g n S es (cellsOf before) (cellsOf after) colon next c
       ends p g n S es x =
           let k = inv .is g n S es x in
           let room = link-room p .1 in
           let o = rewritten-outside r room in
           let small : colon + 1 < linkPart = omega (arith, p .last) in
-          k .on (wordsOf after) (outside-wider w colon o (omega arith) (omega (arith, k .high))) (rewritten-head r room ∙ eh) (ap placeIn (rewritten-tail r room) ∙ place-part (colon + 1) next small)
+          k .on (cellsOf after) (outside-wider w colon o (omega arith) (omega (arith, k .high))) (rewritten-head r room ∙ eh) (ap placeIn (rewritten-tail r room) ∙ place-part (colon + 1) next small)
           (behind-kept k o) (nothing (k .fs) (k .chain) (ap linkIn (rewritten-tail r room) ∙ link-part (colon + 1) next small))
         where
           place-part : (a b : ℕ) → a < linkPart → (a + linkPart * b) % linkPart ≡ a
@@ -126,11 +126,11 @@ module _ (before : List ℕ) (colon next c : ℕ) (now : List ℕ) (w : ℕ) (in
           link-part : (a b : ℕ) → a < linkPart → (a + linkPart * b) / linkPart ≡ b
           link-part a b q = omega arith
 
-          behind-kept : (k : Linking g n S es (wordsOf before) (wordsOf now) colon next c w) → Outside (wordsOf now) (wordsOf after) w (w + 1) → SameWords (wordsOf now) (wordsOf after) (c + 1) (c + 2)
+          behind-kept : (k : Linking g n S es (cellsOf before) (cellsOf now) colon next c w) → Outside (cellsOf now) (cellsOf after) w (w + 1) → SameWords (cellsOf now) (cellsOf after) (c + 1) (c + 2)
           behind-kept k o = by-same w c (λ q. same-behind (c + 1) (c + 2) o (omega arith)) (λ q. same-before (c + 1) (c + 2) o (omega (arith, q, k .low, k .apart)))
 
-          nothing : (fs : List Expr) → Chain (g .W) S (g .M) (wordsOf now) fs colon w → linkAt (wordsOf after) w ≡ next → RawValues g n (wordsOf after) S fs (colon + 1) next w
-          nothing fs ch q = nothing-left g n S (wordsOf now) (wordsOf after) colon next w fs (link-is ∙ last) ch q
+          nothing : (fs : List Expr) → Chain (g .W) S (g .M) (cellsOf now) fs colon w → linkAt (cellsOf after) w ≡ next → RawValues g n (cellsOf after) S fs (colon + 1) next w
+          nothing fs ch q = nothing-left g n S (cellsOf now) (cellsOf after) colon next w fs (link-is ∙ last) ch q
 
       pub link-ends : Chained before colon c → ValuesLinked before after colon next c
       unfolding ground
@@ -149,11 +149,11 @@ module _ (before : List ℕ) (colon next c : ℕ) (now : List ℕ) (w : ℕ) (in
     -- ---- another one follows
     pub link-next : Chained before colon c → (m ≡ colon → ⊥) → m < colon
     unfolding ground
-    link-next p f = below (p .W) (p .S) (p .M) (wordsOf now) (some p .fs) link-is f (some p .chain)
+    link-next p f = below (p .W) (p .S) (p .M) (cellsOf now) (some p .fs) link-is f (some p .chain)
 
     module _ (more : m ≡ colon → ⊥) (p : Chained before colon c) (after : List ℕ) (r : Rewritten now after w h (tailWith (colon + 1) m)) where
-      on-with : (g : Ground) (n : ℕ) (S : Scopes) (es : List Expr) (k : Linking g n S es (wordsOf before) (wordsOf now) colon next c w) (fs : List Expr) → fs ≡ k .fs → Chain (g .W) S (g .M) (wordsOf now) fs colon w
-          → Linking g n S es (wordsOf before) (wordsOf after) colon next c m
+      on-with : (g : Ground) (n : ℕ) (S : Scopes) (es : List Expr) (k : Linking g n S es (cellsOf before) (cellsOf now) colon next c w) (fs : List Expr) → fs ≡ k .fs → Chain (g .W) S (g .M) (cellsOf now) fs colon w
+          → Linking g n S es (cellsOf before) (cellsOf after) colon next c m
       unfolding Chain RawValues
       on-with g n S es k [] e ch = absurd (more (sym link-is ∙ ch))
       on-with g n S es k (e2 ∷ fs) e ch =
@@ -165,15 +165,15 @@ module _ (before : List ℕ) (colon next c : ℕ) (now : List ℕ) (w : ℕ) (in
           let vb = ch .before in
           record {
             fs = fs;
-            chain = subst (Chain (g .W) S (g .M) (wordsOf after) fs colon) (sym v)
-                (chain-same (g .W) S (g .M) (wordsOf now) (wordsOf after) colon (w + 1) (same-behind (w + 1) colon o (omega arith)) fs (ch .v) (ap linkIn (sym (tail-behind o (ch .v) (omega arith)))) (omega arith) (ch .rest));
+            chain = subst (Chain (g .W) S (g .M) (cellsOf after) fs colon) (sym v)
+                (chain-same (g .W) S (g .M) (cellsOf now) (cellsOf after) colon (w + 1) (same-behind (w + 1) colon o (omega arith)) fs (ch .v) (ap linkIn (sym (tail-behind o (ch .v) (omega arith)))) (omega arith) (ch .rest));
             apart = λ q. omega (arith, v, q, k .low);
             low = omega (arith, v, k .low);
             high = omega (arith, v);
             on = λ C oc hc pc bc rv.
                 let here-tail = tail-before oc w (omega (arith, v)) ∙ rewritten-tail r room in
                 let here-head = head-before oc w (omega (arith, v)) ∙ rewritten-head r room ∙ eh in
-                let v-head = hc ∙ ap (headAt (wordsOf after)) v ∙ head-behind o (ch .v) (omega arith) in
+                let v-head = hc ∙ ap (headAt (cellsOf after)) v ∙ head-behind o (ch .v) (omega arith) in
                 k .on C (outside-on (outside-wider w colon o (omega arith) (omega (arith, k .high))) (outside-wider w colon oc (omega (arith, v)) (omega arith))) here-head (ap placeIn here-tail ∙ place-part (colon + 1) m small)
                 (same-on (by-same w c (λ q. same-behind (c + 1) (c + 2) o (omega arith)) (λ q. same-before (c + 1) (c + 2) o (omega (arith, q, k .low, k .apart)))) bc)
                 (subst (λ (l : List Expr). RawValues g n C S l (colon + 1) next w) e
@@ -183,7 +183,7 @@ module _ (before : List ℕ) (colon next c : ℕ) (now : List ℕ) (w : ℕ) (in
                   on = omega (arith, v);
                   before = omega (arith, v);
                   op = ap opIn v-head ∙ ch .op;
-                  constant = same-head (wordsOf now) C m (ch .v) v-head ∙ ch .constant;
+                  constant = same-head (cellsOf now) C m (ch .v) v-head ∙ ch .constant;
                   place = pc;
                   rest = rv;
                 }));
@@ -208,5 +208,5 @@ module _ (before : List ℕ) (colon next c : ℕ) (now : List ℕ) (w : ℕ) (in
       unfolding ground
       link-less = forward (some p .fs) (some p .chain)
         where
-          forward : (fs : List Expr) → Chain (p .W) (p .S) (p .M) (wordsOf now) fs colon w → colon - m < colon - w
-          forward fs ch = falls (p .W) (p .S) (p .M) (wordsOf now) fs link-is more ch
+          forward : (fs : List Expr) → Chain (p .W) (p .S) (p .M) (cellsOf now) fs colon w → colon - m < colon - w
+          forward fs ch = falls (p .W) (p .S) (p .M) (cellsOf now) fs link-is more ch

@@ -7,7 +7,7 @@ use native.Mathlib.Omega.{arith}
 use lib.ListN.{length}
 use lib.IntN.{ℤ, pos, _-ℤ_}
 use Rattle.laws.proofs.Tests.{by-same}
-use Rattle.store_cells.specs.Words.{wordsOf}
+use Rattle.store_cells.specs.Cells.{cellsOf}
 use Rattle.climb.proofs.Operands.{deeper}
 use Rattle.paper.specs.Sorts.{comma}
 use Rattle.paper.specs.Words.{Word, wordLimit}
@@ -57,7 +57,7 @@ pub record Valuing {code values : List ℕ} {c : ℕ} (g : CaseValues code value
   pub low : c ≤ w
   pub small : op < 256
   pub kept : Kept code now c w
-  pub on : (C : List ℕ) → Outside (wordsOf now) C w (g .n) → opAt C w ≡ op → From (g .around .known .W) (g .around .known .S) (g .around .M) C es (g .n) w
+  pub on : (C : List ℕ) → Outside (cellsOf now) C w (g .n) → opAt C w ≡ op → From (g .around .known .W) (g .around .known .S) (g .around .M) C es (g .n) w
       → CaseChain (g .around .known .W) (g .around .known .S) (g .around .M) C (g .es) (g .n) c
 
 pub record Valuings (code values : List ℕ) (c : ℕ) (now : List ℕ) (w op : ℕ) : Type 0 where
@@ -152,7 +152,7 @@ module _ (code values : List ℕ) (c : ℕ) (now : List ℕ) (w op : ℕ) (inv :
 
     abbrev ForValues : (after : List ℕ) → Judged → Type 0
     ForValues after r =
-        answered.Answer (caseFaults (a .known .W) (a .known .S) (a .M) (g .es)) code after c (g .n) (CaseChain (a .known .W) (a .known .S) (a .M) (wordsOf after) (g .es) (g .n) c) r
+        answered.Answer (caseFaults (a .known .W) (a .known .S) (a .M) (g .es)) code after c (g .n) (CaseChain (a .known .W) (a .known .S) (a .M) (cellsOf after) (g .es) (g .n) c) r
 
     own-faults : List Fault
     own-faults = constantFaults (a .known .W) raisesError aNum (a .known .S) (a .M) (f .a)
@@ -206,14 +206,14 @@ module _ (code values : List ℕ) (c : ℕ) (now : List ℕ) (w op : ℕ) (inv :
           m : n ≡ f .n
           m = right .next-is
 
-          at-w : Outside (wordsOf one) (wordsOf two) w (w + 1)
+          at-w : Outside (cellsOf one) (cellsOf two) w (w + 1)
           at-w = linked-outside l
 
           kept-two : Kept code two c (f .n)
           kept-two =
               kept-on (kept-on (kept-wider (x .kept) c (f .n) (omega arith) (omega (arith, span))) (kept-wider kept-one c (f .n) (omega (arith, x .low)) (omega arith))) (kept-wider (l .kept) c (f .n) (x .low) (omega (arith, span)))
 
-          changed : Outside (wordsOf now) (wordsOf two) w (f .n)
+          changed : Outside (cellsOf now) (cellsOf two) w (f .n)
           changed = outside-on (outside-wider w (f .n) (kept-outside kept-one) (omega arith) (omega arith)) (outside-wider w (f .n) at-w (omega arith) (omega (arith, span)))
 
           constant-is : (C : List ℕ) → valueAt C w ≡ hv → constantAt C w ≡ constantValue (a .known .W) (a .known .S) (a .M) (f .a)
@@ -226,9 +226,9 @@ module _ (code values : List ℕ) (c : ℕ) (now : List ℕ) (w op : ℕ) (inv :
           pub value-long : length two ≡ length code
           value-long = kept-two .long
 
-          module _ (s : ℕ) (es : s ≡ opAt (wordsOf two) n) where
+          module _ (s : ℕ) (es : s ≡ opAt (cellsOf two) n) where
             sort-is : sortIn (a .known .W) (f .n) ≡ s
-            sort-is = sym (es ∙ ap (opAt (wordsOf two)) m ∙ next-here .unread .loaded .words (f .n) (omega arith) (omega (arith, within, last)) .sort)
+            sort-is = sym (es ∙ ap (opAt (cellsOf two)) m ∙ next-here .unread .loaded .words (f .n) (omega arith) (omega (arith, within, last)) .sort)
 
             ends : (s ≡ comma → ⊥) → ForValues two (judged.Typed noType n)
             unfolding From Chain rest-faults own-faults caseFaults
@@ -238,8 +238,8 @@ module _ (code values : List ℕ) (c : ℕ) (now : List ℕ) (w op : ℕ) (inv :
                 fine-answer _ _ _ _ _ _ noType n (record {
                   none = all-faults ∙ nothing-in-both (right .none) (ap (caseFaults (a .known .W) (a .known .S) (a .M)) (d .0));
                   next-is = m ∙ sym (d .1);
-                  written = x .on (wordsOf two) (outside-wider w (g .n) changed (omega arith) within) (l .op-is)
-                      (subst (λ (t : List Expr). From (a .known .W) (a .known .S) (a .M) (wordsOf two) t (g .n) w) (sym alone) (constant-is (wordsOf two) (l .value-is), l .link-is ∙ m ∙ sym (d .1)));
+                  written = x .on (cellsOf two) (outside-wider w (g .n) changed (omega arith) within) (l .op-is)
+                      (subst (λ (t : List Expr). From (a .known .W) (a .known .S) (a .M) (cellsOf two) t (g .n) w) (sym alone) (constant-is (cellsOf two) (l .value-is), l .link-is ∙ m ∙ sym (d .1)));
                   kept = kept-wider kept-two c (g .n) (omega arith) within;
                 })
 
@@ -250,7 +250,7 @@ module _ (code values : List ℕ) (c : ℕ) (now : List ℕ) (w op : ℕ) (inv :
               before : f .n + 1 < g .n
               before = separated-grows (sortIn (a .known .W)) (ExprAt (sortIn (a .known .W)) (Parses (sortIn (a .known .W)))) (λ (e2 : Expr) (p q2 : ℕ) y. grows (a .known .W) (suc nestings) p e2 q2 y) more
 
-              joined : (C : List ℕ) (t : List Expr) → Outside (wordsOf two) C (f .n) (g .n) → opAt C (f .n) ≡ aNextValue → From (a .known .W) (a .known .S) (a .M) C t (g .n) (f .n) → From (a .known .W) (a .known .S) (a .M) C (f .a ∷ t) (g .n) w
+              joined : (C : List ℕ) (t : List Expr) → Outside (cellsOf two) C (f .n) (g .n) → opAt C (f .n) ≡ aNextValue → From (a .known .W) (a .known .S) (a .M) C t (g .n) (f .n) → From (a .known .W) (a .known .S) (a .M) C (f .a ∷ t) (g .n) w
               unfolding From Chain
               joined C [] o p y = absurd y
               joined C (e2 ∷ t) o p y =
@@ -283,7 +283,7 @@ module _ (code values : List ℕ) (c : ℕ) (now : List ℕ) (w op : ℕ) (inv :
     pub value-wrong : (number word : ℕ) → r ≡ valued.Faulty number word → CaseValued code values one c (judged.Faulty number word)
     value-wrong number word q = record { is = λ g. wrong g one r vs number word q }
 
-    module _ (v : ℤ) (n : ℕ) (q : r ≡ valued.Value v n) (hv : ℕ) (held : HeldAs v hv) (two : List ℕ) (l : Linked one two w op hv n) (s : ℕ) (es : s ≡ opAt (wordsOf two) n) where
+    module _ (v : ℤ) (n : ℕ) (q : r ≡ valued.Value v n) (hv : ℕ) (held : HeldAs v hv) (two : List ℕ) (l : Linked one two w op hv n) (s : ℕ) (es : s ≡ opAt (cellsOf two) n) where
       pub values-end : (s ≡ comma → ⊥) → CaseValued code values two c (judged.Typed noType n)
       values-end h = record { is = λ g. ends g one r vs v n q hv held two l s es h }
 

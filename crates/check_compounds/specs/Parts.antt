@@ -16,10 +16,10 @@ use Rattle.paper.specs.Names.{aNum, Scopes, sortIn, spelled, cannotDeclare}
 use Rattle.paper.specs.Types.{faultIf, ofType, constantValue}
 use Rattle.paper.specs.Declarations.{routineWordLimit, crosses}
 use Rattle.paper.specs.Checks.{optionalNum, caseFaults}
-use Rattle.store_cells.specs.Words.{wordsOf}
+use Rattle.store_cells.specs.Cells.{cellsOf}
 use Rattle.code.specs.Cells.{opAt, placeAt, linkAt}
 use Rattle.code.specs.Steps.{aWhile, aFor, aForTest, aCase, aNextValue, aThen, aDo, aPass, constantAt}
-use Rattle.store_evaluation.specs.Answers.{callWords}
+use Rattle.store_evaluation.specs.Answers.{callSlots}
 use Rattle.check_names.specs.Meanings.{isProtected}
 use Rattle.check_names.specs.Promises.{storeBytes}
 use Rattle.store_writing.specs.Promises.{tailWith, Rewritten, Linked}
@@ -50,7 +50,7 @@ pub record Bounds (code values : List ℕ) (i : ℕ) : Type 0 where
   pub to : ℕ
   pub around : Around text values
   pub here : Here around code k used (i + 1) to
-  pub still : isLed (opAt (wordsOf code) i) ≡ false
+  pub still : isLed (opAt (cellsOf code) i) ≡ false
   pub e : Expr
   pub z : ℕ
   pub is : ExprAt (sortIn (around .known .W)) (Parses (sortIn (around .known .W))) e (i + 1) z
@@ -60,12 +60,12 @@ pub record Bounds (code values : List ℕ) (i : ℕ) : Type 0 where
 -- what a run reads there; the word has the op that it had
 pub record BoundWritten (raw : Type 0) (before after : List ℕ) (i : ℕ) : Type 0 where
   pub is : raw
-  pub op : opAt (wordsOf after) i ≡ opAt (wordsOf before) i
+  pub op : opAt (cellsOf after) i ≡ opAt (cellsOf before) i
 
 pub record Bounded (code values after : List ℕ) (i : ℕ) (r : Judged) : Type 0 where
   pub is : (g : Bounds code values i)
       → answered.Answer (ofType (g .around .known .W) aNum (g .around .known .S) (g .e)) code after i (g .z)
-      (BoundWritten (RawBound (groundOf (g .around)) (g .around .known .n) (wordsOf after) (g .around .known .S) (g .e) i (g .z)) code after i) r
+      (BoundWritten (RawBound (groundOf (g .around)) (g .around .known .n) (cellsOf after) (g .around .known .S) (g .e) i (g .z)) code after i) r
 
 -- STEP with its bound, or DO, at s
 pub record Steps (code values : List ℕ) (s : ℕ) : Type 0 where
@@ -84,7 +84,7 @@ pub record Steps (code values : List ℕ) (s : ℕ) : Type 0 where
 pub record Stepped (code values after : List ℕ) (s : ℕ) (r : Judged) : Type 0 where
   pub is : (g : Steps code values s)
       → answered.Answer (optionalNum (g .around .known .W) (g .around .known .S) (g .c)) code after s (g .d)
-      (RawStep (groundOf (g .around)) (g .around .known .n) (wordsOf after) (g .around .known .S) (g .c) s (g .d)) r
+      (RawStep (groundOf (g .around)) (g .around .known .n) (cellsOf after) (g .around .known .S) (g .c) s (g .d)) r
 
 -- From FOR at i up to its DO.
 pub record ForHeads (code values : List ℕ) (used i : ℕ) : Type 0 where
@@ -111,7 +111,7 @@ pub record RawHead (g : Ground) (n : ℕ) (C : List ℕ) (S : Scopes) (a b : Exp
 -- the name is free, and there is a word for it
 pub record ForMay (g : Ground) (n : ℕ) (C : List ℕ) (S : Scopes) (used : ℕ) (a b : Expr) (c : Option Expr) (i d : ℕ) : Type 0 where
   pub free : isProtected (spelled (g .W) (i + 1)) ≡ false
-  pub spare : used < callWords
+  pub spare : used < callSlots
   pub bounds : RawHead g n C S a b c i d
 
 pub record ForHeaded (code values after : List ℕ) (used i : ℕ) (r : Judged) : Type 0 where
@@ -123,7 +123,7 @@ pub record ForHeaded (code values after : List ℕ) (used i : ℕ) (r : Judged) 
       ++ ofType (g .around .known .W) aNum (g .around .known .S) (g .b)
       ++ optionalNum (g .around .known .W) (g .around .known .S) (g .c))
       code after (i + 2) (g .doAt)
-      (ForMay (groundOf (g .around)) (g .around .known .n) (wordsOf after) (g .around .known .S) used (g .a) (g .b) (g .c) i (g .doAt)) r
+      (ForMay (groundOf (g .around)) (g .around .known .n) (cellsOf after) (g .around .known .S) used (g .a) (g .b) (g .c) i (g .doAt)) r
 
 -- DO at d, ENDFOR at e, which has FOR's offset
 pub record ForEnded (before after : List ℕ) (used i d e : ℕ) : Type 0 where
@@ -131,12 +131,12 @@ pub record ForEnded (before after : List ℕ) (used i d e : ℕ) : Type 0 where
   pub two : List ℕ
   pub opens : Linked before one d aDo (d + 1) 0
   pub head : Linked one two i aFor used (e + 1)
-  pub test : Rewritten two after e (aForTest + 256 * (used + 256 * i)) (tailWith (placeAt (wordsOf two) i) (d + 1))
+  pub test : Rewritten two after e (aForTest + 256 * (used + 256 * i)) (tailWith (placeAt (cellsOf two) i) (d + 1))
 
 -- Where the list of the last THEN goes on if its condition does not hold: behind ELSE, or at ENDIF.
 pub record BehindElse (code : List ℕ) (e r : ℕ) : Type 0 where
-  pub at-else : opAt (wordsOf code) e ≡ ELSE → r ≡ e + 1
-  pub elsewhere : (opAt (wordsOf code) e ≡ ELSE → ⊥) → r ≡ e
+  pub at-else : opAt (cellsOf code) e ≡ ELSE → r ≡ e + 1
+  pub elsewhere : (opAt (cellsOf code) e ≡ ELSE → ⊥) → r ≡ e
   pub small : r < linkPart
 
 -- The list of the THEN at t is closed by the word e; its arm begins with the word c.
@@ -187,24 +187,24 @@ pub record CaseValues (code values : List ℕ) (c : ℕ) : Type 0 where
 pub record CaseValued (code values after : List ℕ) (c : ℕ) (r : Judged) : Type 0 where
   pub is : (g : CaseValues code values c)
       → answered.Answer (caseFaults (g .around .known .W) (g .around .known .S) (g .around .M) (g .es)) code after c (g .n)
-      (CaseChain (g .around .known .W) (g .around .known .S) (g .around .M) (wordsOf after) (g .es) (g .n) c) r
+      (CaseChain (g .around .known .W) (g .around .known .S) (g .around .M) (cellsOf after) (g .es) (g .n) c) r
 
 pub record Chained (code : List ℕ) (colon c : ℕ) : Type 0 where
   pub W : List Word
   pub S : Scopes
   pub M : Memory
   pub es : List Expr
-  pub is : CaseChain W S M (wordsOf code) es colon c
+  pub is : CaseChain W S M (cellsOf code) es colon c
   pub before : c + 1 < colon
   pub last : colon < wordLimit
   pub room : storeBytes ≤ length code
 
 -- The values have the list's first word as their place, and the last one leads to the word that closes the list.
 pub record ValuesLinked (before after : List ℕ) (colon next c : ℕ) : Type 0 where
-  pub op : opAt (wordsOf after) c ≡ opAt (wordsOf before) c
-  pub place : placeAt (wordsOf after) c ≡ colon + 1
-  pub values : (g : Ground) (n : ℕ) (S : Scopes) (es : List Expr) → CaseChain (g .W) S (g .M) (wordsOf before) es colon c → RawConstants g n (wordsOf after) S es (colon + 1) next c
+  pub op : opAt (cellsOf after) c ≡ opAt (cellsOf before) c
+  pub place : placeAt (cellsOf after) c ≡ colon + 1
+  pub values : (g : Ground) (n : ℕ) (S : Scopes) (es : List Expr) → CaseChain (g .W) S (g .M) (cellsOf before) es colon c → RawConstants g n (cellsOf after) S es (colon + 1) next c
   -- the word behind CASE is no value's
-  pub behind : SameWords (wordsOf before) (wordsOf after) (c + 1) (c + 2)
-  pub outside : Outside (wordsOf before) (wordsOf after) c colon
+  pub behind : SameWords (cellsOf before) (cellsOf after) (c + 1) (c + 2)
+  pub outside : Outside (cellsOf before) (cellsOf after) c colon
   pub long : length after ≡ length before

@@ -19,7 +19,7 @@ use Rattle.paper.specs.Terms.{Memory, Term, worth}
 use Rattle.paper.specs.Trees.{Expr, first}
 use Rattle.paper.specs.Names.{DataType, aNum, Scopes, sortIn}
 use Rattle.paper.specs.Types.{Fault, fault, faultIf, wanted, differs, judge, constantWorth, constantFaults, constantValue, sizeOf, valueOr0, raisesError, isNoSize, elementLimit}
-use Rattle.store_cells.specs.Words.{wordsOf}
+use Rattle.store_cells.specs.Cells.{cellsOf}
 use Rattle.climb.proofs.Places.{spans-first, stands}
 use Rattle.code.specs.Cells.{firstWindow}
 use Rattle.layout.specs.Rules.{wrongType, noValue}
@@ -150,7 +150,7 @@ module _ (code values after : List ℕ) (wants at : ℕ) (j : Judged) (o : OfTyp
     term-of a = judge (a .stands .known .W) true (a .stands .known .S) (a .stands .e) .term
 
     module _ (t : DataType) (w : typeIn wants ≡ some t) where
-      sound : (a : Asks code values at) → Sound (a .stands .known .m) (a .stands .known .n) (wordsOf after) at (a .stands .to)
+      sound : (a : Asks code values at) → Sound (a .stands .known .m) (a .stands .known .n) (cellsOf after) at (a .stands .to)
           (ofType t (first (a .stands .e)) (judge (a .stands .known .W) true (a .stands .known .S) (a .stands .e))) type next
       sound a = of-type-typed code values after true at j wants t w (a .stands) o type next typed
 
@@ -167,22 +167,22 @@ module _ (code values after : List ℕ) (wants at : ℕ) (j : Judged) (o : OfTyp
           record { c = counts a; t = term-of a; is = stands-there a; whole = ap (λ (x : ℕ). x % 8) (kept-all y a .long) ∙ a .stands .loaded .whole }
 
     module _ (y : IsType wants) (v : ℤ) (x : Evaluated after values firstWindow at next v) (s : SFits w64 v) where
-      constant-only : (a : Asks code values at) → Constantly (Worth (a .stands .known .m) (a .stands .known .n) (wordsOf values) (a .M)) (term-of a)
+      constant-only : (a : Asks code values at) → Constantly (Worth (a .stands .known .m) (a .stands .known .n) (cellsOf values) (a .M)) (term-of a)
       unfolding term-of
       constant-only a =
-          constantly (a .stands .known .m) (a .stands .known .n) (wordsOf values) (a .M) (a .stands .known .W) (a .stands .known .S) (a .stands .known .small) (a .fine) (a .stands .e) (clean (y .type) (y .is) a)
+          constantly (a .stands .known .m) (a .stands .known .n) (cellsOf values) (a .M) (a .stands .known .W) (a .stands .known .S) (a .stands .known .small) (a .fine) (a .stands .e) (clean (y .type) (y .is) a)
 
       worth-is : (a : Asks code values at) → constantWorth (a .stands .known .W) (a .stands .known .S) (a .M) (a .stands .e) ≡ some (decoded v)
       unfolding counts term-of
       worth-is a =
           worth-some (a .stands .known .W) (a .stands .known .S) (a .M) (a .stands .e) (clean (y .type) (y .is) a)
-          ∙ ap some (constantly-same (a .stands .known .m) (a .stands .known .n) (wordsOf values) (a .M) (term-of a) (constant-only a) ∙ sym (x .is (counts a) (term-of a) (stands-there y a)))
+          ∙ ap some (constantly-same (a .stands .known .m) (a .stands .known .n) (cellsOf values) (a .M) (term-of a) (constant-only a) ∙ sym (x .is (counts a) (term-of a) (stands-there y a)))
 
       held : (a : Asks code values at) → decoded v ≡ value v → InNum v
       unfolding counts term-of
       held a d =
-          constantly-held (a .stands .known .m) (a .stands .known .n) (wordsOf values) (a .M) (term-of a) (constant-only a)
-          .holds v (constantly-same (a .stands .known .m) (a .stands .known .n) (wordsOf values) (a .M) (term-of a) (constant-only a) ∙ sym (x .is (counts a) (term-of a) (stands-there y a)) ∙ d)
+          constantly-held (a .stands .known .m) (a .stands .known .n) (cellsOf values) (a .M) (term-of a) (constant-only a)
+          .holds v (constantly-same (a .stands .known .m) (a .stands .known .n) (cellsOf values) (a .M) (term-of a) (constant-only a) ∙ sym (x .is (counts a) (term-of a) (stands-there y a)) ∙ d)
 
       pub answers-value : ltZ (read v) (pos firstError) ≡ true → Values code values after wants at (values-of.Value (read v) next)
       unfolding Says constantValue valueOr0

@@ -16,10 +16,10 @@ use Rattle.paper.specs.Words.{Word}
 use Rattle.paper.specs.Expressions.{disjunctions}
 use Rattle.paper.specs.Names.{DataType, aNum, Meaning, Text, Scopes, meaning}
 use Rattle.paper.specs.Types.{constantFaults, constantValue, sizeOf, raisesError, isNoSize, elementLimit}
-use Rattle.store_cells.specs.Words.{wordsOf}
+use Rattle.store_cells.specs.Cells.{cellsOf}
 use Rattle.code.specs.Cells.{firstWindow, errnoCell}
 use Rattle.code.specs.Spans.{bias}
-use Rattle.store_evaluation.specs.Answers.{callWords, firstNegative}
+use Rattle.store_evaluation.specs.Answers.{callSlots, firstNegative}
 use Rattle.faults.specs.First.{First}
 use Rattle.check_expressions.specs.Known.{largest, InRoom, Holds, heldBy}
 use Rattle.store_writing.specs.Promises.{Kept}
@@ -61,9 +61,9 @@ Fine m n X M a = Holds (λ w. w .fixed ≡ true → Worth m n X M (w .first)) (�
 pub record Asks (code values : List ℕ) (at : ℕ) : Type 0 where
   pub stands : Stands code values disjunctions at
   pub M : Memory
-  pub window : stands .known .n ≤ callWords
-  pub fine : (text : Text) → Fine (stands .known .m) (stands .known .n) (wordsOf values) M (meaning (stands .known .S) text)
-  pub number : getD (wordsOf values) errnoCell 0 < firstNegative
+  pub window : stands .known .n ≤ callSlots
+  pub fine : (text : Text) → Fine (stands .known .m) (stands .known .n) (cellsOf values) M (meaning (stands .known .S) text)
+  pub number : getD (cellsOf values) errnoCell 0 < firstNegative
 
 -- ---- answers
 -- No rule is broken: the value, and the word after the expression.

@@ -17,7 +17,7 @@ use Rattle.paper.specs.Expressions.{nestings, levelOf}
 use Rattle.paper.specs.Names.{DataType, aNum, array, typeOf, textOf, Scopes, sortIn, spelled, cannotDeclare}
 use Rattle.paper.specs.Types.{Fault, constantFaults, sizeOf, isNoSize, elementLimit}
 use Rattle.paper.specs.Declarations.{Filling, moduleWordLimit}
-use Rattle.store_cells.specs.Words.{wordsOf}
+use Rattle.store_cells.specs.Cells.{cellsOf}
 use Rattle.code.specs.Cells.{opAt}
 use Rattle.code.specs.Spans.{bias}
 use Rattle.layout.specs.Parts.{sizePart}
@@ -28,7 +28,7 @@ use Rattle.grammar.specs.Form.{Parses}
 use Rattle.grammar.proofs.Inversions.{Sized, content-sized}
 use Rattle.grammar.proofs.Places.{content-grows}
 use Rattle.faults.specs.First.{First, no-fault}
-use Rattle.faults.specs.Added.{contentWords, contentFaults, declaredFaults}
+use Rattle.faults.specs.Added.{contentSlots, contentFaults, declaredFaults}
 use Rattle.faults.proofs.Expressions.{grows}
 use Rattle.faults.proofs.First.{every-one, nothing-in-both}
 use Rattle.faults.proofs.Declarations.{name-taken, name-crosses, name-fits, found-in-name, found-in-content}
@@ -72,10 +72,10 @@ module _ {code values : List ℕ} {own limit used i : ℕ} (b : Begins code valu
       let r = b .loaded .room in
       (omega (arith, far, l), omega (arith, far, r), b .filled .table, omega (arith, own-small (b .W) (b .s), b .own-is), omega (arith, room-left, b .used-is, b .limit-is), omega (arith, limit-most (b .W) (b .s), b .limit-is))
 
-  pub sort-is : (k : ℕ) → k ≤ 4 → opAt (wordsOf code) (i + k) ≡ sortIn (b .W) (i + k)
+  pub sort-is : (k : ℕ) → k ≤ 4 → opAt (cellsOf code) (i + k) ≡ sortIn (b .W) (i + k)
   sort-is k h = b .loaded .words (i + k) (omega arith) (omega (arith, far)) .sort
 
-  pub opens-is : opAt (wordsOf code) i ≡ sortIn (b .W) i
+  pub opens-is : opAt (cellsOf code) i ≡ sortIn (b .W) i
   opens-is = b .loaded .words i (omega arith) (omega (arith, far)) .sort
 
   pub free-name : Free b → cannotDeclare (map textOf (b .D .names)) (spelled (b .W) (b .x .name)) ≡ false
@@ -86,23 +86,23 @@ module _ {code values : List ℕ} {own limit used i : ℕ} (b : Begins code valu
   ref-is = ap (λ (k : ℕ). refWith k used) (b .own-is) ∙ ap (refWith (ownOf (b .s))) (b .used-is) ∙ sym (site-ref (b .W) (b .s) (length (b .D .words)))
 
   -- no fault
-  pub clean : Free b → length (b .D .words) + length (contentWords (b .W) F content (b .D)) ≤ F .limit → contentFaults (b .W) F type content (b .D) ≡ [] → faultsOf b ≡ []
+  pub clean : Free b → length (b .D .words) + length (contentSlots (b .W) F content (b .D)) ≤ F .limit → contentFaults (b .W) F type content (b .D) ≡ [] → faultsOf b ≡ []
   unfolding declaredFaults
   clean free fits none =
-      nothing-in-both (name-fits (b .W) F (b .x .name) (contentWords (b .W) F content (b .D)) (b .D) (free-name free) (not-crossing (F .limit) (length (b .D .words)) _ fits)) none
+      nothing-in-both (name-fits (b .W) F (b .x .name) (contentSlots (b .W) F content (b .D)) (b .D) (free-name free) (not-crossing (F .limit) (length (b .D .words)) _ fits)) none
 
   -- the fault of the constant expression
-  pub in-content : (f : Fault) → Free b → length (b .D .words) + length (contentWords (b .W) F content (b .D)) ≤ F .limit → First f (contentFaults (b .W) F type content (b .D)) → First f (faultsOf b)
+  pub in-content : (f : Fault) → Free b → length (b .D .words) + length (contentSlots (b .W) F content (b .D)) ≤ F .limit → First f (contentFaults (b .W) F type content (b .D)) → First f (faultsOf b)
   in-content f free fits h =
       found-in-content (b .W) F type (b .x .name) content (b .D)
-      (name-fits (b .W) F (b .x .name) (contentWords (b .W) F content (b .D)) (b .D) (free-name free) (not-crossing (F .limit) (length (b .D .words)) _ fits)) h
+      (name-fits (b .W) F (b .x .name) (contentSlots (b .W) F content (b .D)) (b .D) (free-name free) (not-crossing (F .limit) (length (b .D .words)) _ fits)) h
 
   -- "16: the name that crosses"
-  pub too-many : Free b → F .limit < length (b .D .words) + length (contentWords (b .W) F content (b .D)) → First (record { number = tooMany; at = i + 2 }) (faultsOf b)
+  pub too-many : Free b → F .limit < length (b .D .words) + length (contentSlots (b .W) F content (b .D)) → First (record { number = tooMany; at = i + 2 }) (faultsOf b)
   too-many free over =
       subst (λ (k : ℕ). First (record { number = tooMany; at = k }) (faultsOf b)) (b .stands .named)
       (found-in-name (b .W) F type (b .D) (b .stands)
-      (name-crosses (b .W) F (b .x .name) (contentWords (b .W) F content (b .D)) (b .D) (free-name free) (crossing (F .limit) (length (b .D .words)) _ room-left over)))
+      (name-crosses (b .W) F (b .x .name) (contentSlots (b .W) F content (b .D)) (b .D) (free-name free) (crossing (F .limit) (length (b .D .words)) _ room-left over)))
 
 pub around-kept : (code mid : List ℕ) (i at n to : ℕ) → i + 3 ≤ at → n ≤ to → Kept code mid at n → Around code mid i to
 around-kept code mid i at n to h g k = record { below = λ j l. cell-below k j (omega arith); above = λ j l. cell-above k j (omega arith); long = k .long }
@@ -157,7 +157,7 @@ module _ (code values mid : List ℕ) (at : ℕ) (c : Size) (a : Asks code value
   pub next-adds : Fits w64 (next + 2)
   next-adds = record { fits = omega (arith, count-next) }
 
-module _ {code values : List ℕ} {own limit used i : ℕ} (brace : opAt (wordsOf code) (i + 3) ≡ openBrace) where
+module _ {code values : List ℕ} {own limit used i : ℕ} (brace : opAt (cellsOf code) (i + 3) ≡ openBrace) where
   module _ (b : Begins code values own limit used i) where
     sized : Sized (sortIn (b .W)) (Parses (sortIn (b .W))) (content b) (i + 3) (b .stands .end)
     sized = content-sized (sortIn (b .W)) (Parses (sortIn (b .W))) (b .stands .content) (sym (sort-is b 3 (omega arith)) ∙ brace)
@@ -185,13 +185,13 @@ module _ {code values : List ℕ} {own limit used i : ℕ} (brace : opAt (wordsO
     S b = scopesOf (b .W) (b .s) (b .D)
 
     pub array-faulty : (number word : ℕ) → c ≡ sizes-of.Unsized number word → DeclaresFree code values mid values own limit used i (Faulty number word)
-    unfolding Says contentFaults contentWords
+    unfolding Says contentFaults contentSlots
     array-faulty number word q = record {
       is = λ b free.
           let e = sized b .e in
           let h = says-unsized (b .W) (scopesOf (b .W) (b .s) (b .D)) (memoryOf (b .W) (b .s) (b .D)) e (sized b .n) c number word q (o .says (size-asks b)) in
-          let z : length (contentWords (b .W) (F b) (content b) (b .D)) ≡ 0 =
-          ap (λ (x : Content). length (contentWords (b .W) (F b) x (b .D))) (sized b .is) ∙ length-replicate _ (pos 0) ∙ size-refused (b .W) _ _ e _ h in
+          let z : length (contentSlots (b .W) (F b) (content b) (b .D)) ≡ 0 =
+          ap (λ (x : Content). length (contentSlots (b .W) (F b) x (b .D))) (sized b .is) ∙ length-replicate _ (pos 0) ∙ size-refused (b .W) _ _ e _ h in
           in-content b (record { number = number; at = word }) free (omega (arith, z, room-left b))
           (subst (λ (x : Content). First (record { number = number; at = word }) (contentFaults (b .W) (F b) (type b) x (b .D))) (sym (sized b .is)) h);
     }
@@ -200,11 +200,11 @@ module _ {code values : List ℕ} {own limit used i : ℕ} (brace : opAt (wordsO
       count-is : (b : Begins code values own limit used i) → Counted (b .W) (scopesOf (b .W) (b .s) (b .D)) (memoryOf (b .W) (b .s) (b .D)) (sized b .e) (sized b .n) count next
       count-is b = says-sized (b .W) (scopesOf (b .W) (b .s) (b .D)) (memoryOf (b .W) (b .s) (b .D)) (sized b .e) (sized b .n) c count next q (o .says (size-asks b))
 
-      words-are : (b : Begins code values own limit used i) → contentWords (b .W) (F b) (content b) (b .D) ≡ replicate count (pos 0)
-      unfolding contentWords
-      words-are b = ap (λ (x : Content). contentWords (b .W) (F b) x (b .D)) (sized b .is) ∙ ap (λ (n : ℕ). replicate n (pos 0)) (sym (count-is b .is))
+      words-are : (b : Begins code values own limit used i) → contentSlots (b .W) (F b) (content b) (b .D) ≡ replicate count (pos 0)
+      unfolding contentSlots
+      words-are b = ap (λ (x : Content). contentSlots (b .W) (F b) x (b .D)) (sized b .is) ∙ ap (λ (n : ℕ). replicate n (pos 0)) (sym (count-is b .is))
 
-      long-is : (b : Begins code values own limit used i) → length (contentWords (b .W) (F b) (content b) (b .D)) ≡ count
+      long-is : (b : Begins code values own limit used i) → length (contentSlots (b .W) (F b) (content b) (b .D)) ≡ count
       long-is b = ap length (words-are b) ∙ length-replicate count (pos 0)
 
       pub array-crosses : limit < used + count → DeclaresFree code values mid values own limit used i (Faulty tooMany (i + 2))
@@ -234,11 +234,11 @@ module _ {code values : List ℕ} {own limit used i : ℕ} (brace : opAt (wordsO
         array-mine b = ap (λ (x : Content). owned (ownOf (b .s)) (contentMeaning (b .W) (F b) (type b) x (b .D) (F b .ref (length (b .D .words))))) (sized b .is) ∙ own-here (b .W) (b .s) (length (b .D .words))
 
         array-placed : (b : Begins code values own limit used i)
-            → Placed (F b .memoryWith (b .D .words ++ contentWords (b .W) (F b) (content b) (b .D))) (contentMeaning (b .W) (F b) (type b) (content b) (b .D) (F b .ref (length (b .D .words))))
+            → Placed (F b .memoryWith (b .D .words ++ contentSlots (b .W) (F b) (content b) (b .D))) (contentMeaning (b .W) (F b) (type b) (content b) (b .D) (F b .ref (length (b .D .words))))
         unfolding contentMeaning Placed
         array-placed b =
             let k = count-is b in
-            let vs = contentWords (b .W) (F b) (content b) (b .D) in
+            let vs = contentSlots (b .W) (F b) (content b) (b .D) in
             subst (λ (x : Content). Placed (F b .memoryWith (b .D .words ++ vs)) (contentMeaning (b .W) (F b) (type b) x (b .D) (F b .ref (length (b .D .words))))) (sym (sized b .is))
             (record { room = among-new (b .W) (b .s) (b .D .words) vs (length (b .D .words)) _ (omega (arith, long-is b, k .is)); some = omega (arith, k .some, k .is); ranged = λ e. false-true e })
 
@@ -275,7 +275,7 @@ module _ {code values : List ℕ} {own limit used i : ℕ} (t : Bool) (taken : T
         let q : cannotDeclare (map textOf (b .D .names)) (spelled (b .W) (b .x .name)) ≡ true =
         ap (λ (k : ℕ). cannotDeclare (map textOf (b .D .names)) (spelled (b .W) k)) (b .stands .named) ∙ sym (taken-is b) ∙ h in
         subst (λ (k : ℕ). First (record { number = takenName; at = k }) (faultsOf b)) (b .stands .named)
-        (found-in-name (b .W) (F b) (type b) (b .D) (b .stands) (name-taken (b .W) (F b) (b .x .name) (contentWords (b .W) (F b) (content b) (b .D)) (b .D) q));
+        (found-in-name (b .W) (F b) (type b) (b .D) (b .stands) (name-taken (b .W) (F b) (b .x .name) (contentSlots (b .W) (F b) (content b) (b .D)) (b .D) q));
   }
 
   pub datum-free : t ≡ false → (code′ values′ : List ℕ) (r : Walked) → DeclaresFree code values code′ values′ own limit used i r → Declares code values code′ values′ own limit used i r

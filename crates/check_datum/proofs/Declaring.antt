@@ -16,7 +16,7 @@ use Rattle.paper.specs.Expressions.{nestings, levelOf}
 use Rattle.paper.specs.Names.{DataType, Meaning, variable, array, constant, typeOf, textOf, sortIn, spelled, meaning, declare}
 use Rattle.paper.specs.Types.{sizeOf}
 use Rattle.paper.specs.Declarations.{Data, Filling, declareName, declareContent}
-use Rattle.store_cells.specs.Words.{wordsOf}
+use Rattle.store_cells.specs.Cells.{cellsOf}
 use Rattle.code.specs.Cells.{opIn, valueIn, opAt, placeAt}
 use Rattle.code.specs.Spans.{bias}
 use Rattle.code.specs.Steps.{constantAt}
@@ -29,9 +29,9 @@ use Rattle.check_names.proofs.Tables.{declare-keeps}
 use Rattle.store_writing.proofs.Rewriting.{rewritten-other}
 use Rattle.grammar.specs.Form.{Parses}
 use Rattle.grammar.proofs.Places.{content-grows}
-use Rattle.faults.specs.Added.{contentWords}
+use Rattle.faults.specs.Added.{contentSlots}
 use Rattle.faults.proofs.Expressions.{grows}
-use Rattle.check_expressions.specs.Known.{Loaded, HeldWords, heldBy, Within, Known}
+use Rattle.check_expressions.specs.Known.{Loaded, HeldSlots, heldBy, Within, Known}
 use Rattle.check_expressions.proofs.Holding.{holds, room-one}
 use Rattle.check_expressions.proofs.Starts.{loaded-part}
 use Rattle.check_constants.specs.Answers.{Worth, Fine, Asks}
@@ -49,12 +49,12 @@ unfolding Placed Within
 placed-within M a = holds (heldBy a) (λ w p. p .room) (λ k h. h)
 
 module _ (W : List Word) (routine : ℕ → ℕ) (s : Site) (D : Data) (values : List ℕ) (f : Filled W routine s D values) where
-  pub placed-fine : (a : Meaning) → Placed (memoryOf W s D) a → Fine (length (memoryOf W s D .module-words)) (length (memoryOf W s D .routine-words)) (wordsOf values) (memoryOf W s D) a
+  pub placed-fine : (a : Meaning) → Placed (memoryOf W s D) a → Fine (length (memoryOf W s D .module-words)) (length (memoryOf W s D .routine-words)) (cellsOf values) (memoryOf W s D) a
   unfolding Placed Fine
   placed-fine a = holds (heldBy a) fine (λ k h. h)
     where
-      fine : (w : HeldWords) → InPlace (memoryOf W s D) w → w .fixed ≡ true
-          → Worth (length (memoryOf W s D .module-words)) (length (memoryOf W s D .routine-words)) (wordsOf values) (memoryOf W s D) (w .first)
+      fine : (w : HeldSlots) → InPlace (memoryOf W s D) w → w .fixed ≡ true
+          → Worth (length (memoryOf W s D .module-words)) (length (memoryOf W s D .routine-words)) (cellsOf values) (memoryOf W s D) (w .first)
       fine w p e =
           let room = room-one _ _ (w .first) (w .size) (p .some) (p .room) in
           record { room = room; is = f .cells (w .first) room; ranged = p .ranged e }
@@ -102,20 +102,20 @@ module _ (W : List Word) (F : Filling) where
   contentMeaning t (constantData e) D r = constant t r
 
   pub content-shape : (t : DataType) (i : ℕ) (c : Content) (D : Data) → declareContent W F t i c D
-      ≡ record { names = declare (spelled W i) (contentMeaning t c D (F .ref (length (D .words)))) (D .names); words = D .words ++ contentWords W F c D; faults = declareContent W F t i c D .faults }
-  unfolding declareContent declareName contentMeaning contentWords
+      ≡ record { names = declare (spelled W i) (contentMeaning t c D (F .ref (length (D .words)))) (D .names); words = D .words ++ contentSlots W F c D; faults = declareContent W F t i c D .faults }
+  unfolding declareContent declareName contentMeaning contentSlots
   content-shape t i variableData D = refl
   content-shape t i (initialData e) D = refl
   content-shape t i (arrayData e) D = refl
   content-shape t i (constantData e) D = refl
 
-  pub content-used : (t : DataType) (i : ℕ) (c : Content) (D : Data) → length (declareContent W F t i c D .words) ≡ length (D .words) + length (contentWords W F c D)
-  content-used t i c D = ap (λ (E : Data). length (E .words)) (content-shape t i c D) ∙ length-append (D .words) (contentWords W F c D)
+  pub content-used : (t : DataType) (i : ℕ) (c : Content) (D : Data) → length (declareContent W F t i c D .words) ≡ length (D .words) + length (contentSlots W F c D)
+  content-used t i c D = ap (λ (E : Data). length (E .words)) (content-shape t i c D) ∙ length-append (D .words) (contentSlots W F c D)
 
 -- what the code store says between the check of the expression and the declaration of the name: `n` is at or before the word after the declaration
 pub record Around (code mid : List ℕ) (i to : ℕ) : Type 0 where
-  pub below : (k : ℕ) → k < (i + 3) * 2 → getD (wordsOf mid) k 0 ≡ getD (wordsOf code) k 0
-  pub above : (k : ℕ) → to * 2 ≤ k → getD (wordsOf mid) k 0 ≡ getD (wordsOf code) k 0
+  pub below : (k : ℕ) → k < (i + 3) * 2 → getD (cellsOf mid) k 0 ≡ getD (cellsOf code) k 0
+  pub above : (k : ℕ) → to * 2 ≤ k → getD (cellsOf mid) k 0 ≡ getD (cellsOf code) k 0
   pub long : length mid ≡ length code
 
 module _ {code values : List ℕ} {own limit used i : ℕ} (b : Begins code values own limit used i) (free : Free b) where
@@ -129,7 +129,7 @@ module _ {code values : List ℕ} {own limit used i : ℕ} (b : Begins code valu
   F = filling (b .W) (b .s)
 
   abbrev vs : List ℤ
-  vs = contentWords (b .W) F (b .x .content) (b .D)
+  vs = contentSlots (b .W) F (b .x .content) (b .D)
 
   abbrev means-now : Meaning
   means-now = contentMeaning (b .W) F (typeOf (b .x .type)) (b .x .content) (b .D) (F .ref (length (b .D .words)))
@@ -139,47 +139,47 @@ module _ {code values : List ℕ} {own limit used i : ℕ} (b : Begins code valu
     room : (i + 2) * 8 + 8 ≤ length mid
     room = let r = b .loaded .room in omega (arith, r, far, around .long)
 
-    number : numberAt (wordsOf mid) (i + 2) ≡ numberOf (b .W) (i + 2)
+    number : numberAt (cellsOf mid) (i + 2) ≡ numberOf (b .W) (i + 2)
     number = ap (λ (h : ℕ). valueIn h % numberLimit) (around .below ((i + 2) * 2) (omega arith)) ∙ b .loaded .words (i + 2) (omega arith) (omega (arith, far)) .number (b .stands .name)
 
     type-is : typeWith (made .bool) ≡ typeOf (b .x .type)
     type-is =
         let e : i + 2 - 1 ≡ i + 1 = omega arith in
-        made .type .is ∙ ap typeOf (ap (opAt (wordsOf mid)) e ∙ ap opIn (around .below ((i + 1) * 2) (omega arith)) ∙ b .loaded .words (i + 1) (omega arith) (omega (arith, far)) .sort ∙ sym (b .stands .type))
+        made .type .is ∙ ap typeOf (ap (opAt (cellsOf mid)) e ∙ ap opIn (around .below ((i + 1) * 2) (omega arith)) ∙ b .loaded .words (i + 1) (omega arith) (omega (arith, far)) .sort ∙ sym (b .stands .type))
 
-    start-same : (k : ℕ) → (k ≡ i * 2 → ⊥) → (k ≡ i * 2 + 1 → ⊥) → getD (wordsOf code′) k 0 ≡ getD (wordsOf code₂) k 0
-    start-same k d e = by-same own 1 (λ o. started .own-datum o .others k d e) (λ o. ap (λ (l : List ℕ). getD (wordsOf l) k 0) (started .untouched o))
+    start-same : (k : ℕ) → (k ≡ i * 2 → ⊥) → (k ≡ i * 2 + 1 → ⊥) → getD (cellsOf code′) k 0 ≡ getD (cellsOf code₂) k 0
+    start-same k d e = by-same own 1 (λ o. started .own-datum o .others k d e) (λ o. ap (λ (l : List ℕ). getD (cellsOf l) k 0) (started .untouched o))
 
-    name-same : (k : ℕ) → (k ≡ (i + 2) * 2 → ⊥) → (k ≡ (i + 2) * 2 + 1 → ⊥) → getD (wordsOf code₂) k 0 ≡ getD (wordsOf mid) k 0
+    name-same : (k : ℕ) → (k ≡ (i + 2) * 2 → ⊥) → (k ≡ (i + 2) * 2 + 1 → ⊥) → getD (cellsOf code₂) k 0 ≡ getD (cellsOf mid) k 0
     name-same k d e = rewritten-other (made .declared .word) room k d e
 
-    pub name-keeps : KeepsName (b .routine) (b .W) (b .s) (wordsOf code′) (i + 2)
+    pub name-keeps : KeepsName (b .routine) (b .W) (b .s) (cellsOf code′) (i + 2)
     name-keeps =
         let k = declare-keeps (b .routine) (b .W) (scopesOf (b .W) (b .s) (b .D)) (scopesOf (b .W) (b .s) (b .D)) (i + 2) (b .stands .name) mid values code₂ values₂ _ room (made .declared) number (b .filled .means) in
-        let o = keeps-outer (b .routine) (b .W) (b .s) (b .D .names) (wordsOf code₂) (i + 2) (not-among (map textOf (b .D .names)) (spelled (b .W) (i + 2)) free) k in
+        let o = keeps-outer (b .routine) (b .W) (b .s) (b .D .names) (cellsOf code₂) (i + 2) (not-among (map textOf (b .D .names)) (spelled (b .W) (i + 2)) free) k in
         record {
           near = let l = b .loaded .last in omega (arith, far, l);
           name = b .stands .name;
-          keeps = keeps-same (b .routine) (b .W) (outerOf (b .W) (b .s)) (wordsOf code₂) (wordsOf code′) (i + 2)
+          keeps = keeps-same (b .routine) (b .W) (outerOf (b .W) (b .s)) (cellsOf code₂) (cellsOf code′) (i + 2)
               (start-same ((i + 2) * 2) (λ e. omega arith) (λ e. omega arith)) (start-same ((i + 2) * 2 + 1) (λ e. omega arith) (λ e. omega arith)) o;
         }
 
-    pub words-changed : Changed (wordsOf code) (wordsOf code′) i (b .to)
+    pub words-changed : Changed (cellsOf code) (cellsOf code′) i (b .to)
     words-changed = record {
       below = λ k l. start-same k (λ e. omega arith) (λ e. omega arith) ∙ name-same k (λ e. omega arith) (λ e. omega arith) ∙ around .below k (omega arith);
       above = λ k l. start-same k (λ e. omega (arith, far)) (λ e. omega (arith, far)) ∙ name-same k (λ e. omega (arith, far)) (λ e. omega (arith, far)) ∙ around .above k l;
     }
 
     module _ (words : vs ≡ replicate count v) (held-is : pos held -ℤ pos bias ≡ v) where
-      pub words-written : own ≡ 1 → Written (wordsOf code′) i (b .D) (after b)
+      pub words-written : own ≡ 1 → Written (cellsOf code′) i (b .D) (after b)
       unfolding constantAt
       words-written o =
           let d = started .own-datum o in
-          let z : constantAt (wordsOf code′) i ≡ v = ap (λ (h : ℕ). pos h -ℤ pos bias) (d .value-is) ∙ held-is in
+          let z : constantAt (cellsOf code′) i ≡ v = ap (λ (h : ℕ). pos h -ℤ pos bias) (d .value-is) ∙ held-is in
           record {
             op-is = d .op-is;
             words-are = ap (λ (E : Data). E .words) (content-shape (b .W) F (typeOf (b .x .type)) (b .x .name) (b .x .content) (b .D)) ∙ ap (λ (l : List ℤ). b .D .words ++ l) words
-                ∙ ap (λ (n : ℕ). b .D .words ++ replicate n v) (sym (d .place-is)) ∙ ap (λ (y : ℤ). b .D .words ++ replicate (placeAt (wordsOf code′) i) y) (sym z);
+                ∙ ap (λ (n : ℕ). b .D .words ++ replicate n v) (sym (d .place-is)) ∙ ap (λ (y : ℤ). b .D .words ++ replicate (placeAt (cellsOf code′) i) y) (sym z);
           }
 
       pub now-filled : kind < 4 → ((bool : ℕ) → bool < 2 → typeWith bool ≡ typeOf (b .x .type) → meaningIn (b .routine) (cellWith kind bool own value) ≡ means-now)

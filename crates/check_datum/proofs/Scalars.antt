@@ -22,7 +22,7 @@ use Rattle.paper.specs.Expressions.{nestings, levelOf}
 use Rattle.paper.specs.Names.{DataType, Meaning, variable, constant, typeOf, Scopes, sortIn}
 use Rattle.paper.specs.Types.{constantFaults, constantValue, raisesError}
 use Rattle.paper.specs.Declarations.{Data, Filling, moduleWordLimit}
-use Rattle.store_cells.specs.Words.{wordsOf}
+use Rattle.store_cells.specs.Cells.{cellsOf}
 use Rattle.code.specs.Cells.{opAt}
 use Rattle.code.specs.Spans.{bias}
 use Rattle.check_names.specs.Meanings.{aVariable, aConstant, cellWith, typeWith, refWith, meaningWith, meaningIn}
@@ -34,7 +34,7 @@ use Rattle.store_numbers.proofs.Whole.{read}
 use Rattle.grammar.specs.Form.{Parses, ContentAt, no-content, initial, sized}
 use Rattle.grammar.specs.Form as form
 use Rattle.faults.specs.First.{First}
-use Rattle.faults.specs.Added.{contentWords, contentFaults}
+use Rattle.faults.specs.Added.{contentSlots, contentFaults}
 use Rattle.store_writing.proofs.Keeping.{kept-same}
 use Rattle.check_constants.specs.declared.Valued.{Valued}
 use Rattle.check_constants.specs.declared.Valued.the-variants as values-of
@@ -81,8 +81,8 @@ module _ (W : List Word) (G : Filling) (t : DataType) (D : Data) where
   abbrev M : Memory
   M = G .memoryWith (D .words)
 
-  content-one : {opens : ℕ} {x : Content} {at to : ℕ} → ContentAt (sortIn W) (Parses (sortIn W)) opens x at to → (sortIn W at ≡ openBrace → ⊥) → length (contentWords W G x D) ≡ 1
-  unfolding contentWords
+  content-one : {opens : ℕ} {x : Content} {at to : ℕ} → ContentAt (sortIn W) (Parses (sortIn W)) opens x at to → (sortIn W at ≡ openBrace → ⊥) → length (contentSlots W G x D) ≡ 1
+  unfolding contentSlots
   content-one (no-content v f g e) q = refl
   content-one (initial v b k) q = refl
   content-one (sized v b k c z) q = absurd (q b)
@@ -90,12 +90,12 @@ module _ (W : List Word) (G : Filling) (t : DataType) (D : Data) where
 
   record NoValue (s : ℕ) (x : Content) (at to : ℕ) : Type 0 where
     faults-are : contentFaults W G t x D ≡ []
-    words-are : contentWords W G x D ≡ pos 0 ∷ []
+    words-are : contentSlots W G x D ≡ pos 0 ∷ []
     means-are : (r : Ref) → contentMeaning W G t x D r ≡ scalarMeaning (scalarKind s) t r
     end-is : to ≡ at
 
   no-value : {opens : ℕ} {x : Content} {at to : ℕ} → ContentAt (sortIn W) (Parses (sortIn W)) opens x at to → (sortIn W at ≡ openBrace → ⊥) → (sortIn W at ≡ becomes → ⊥) → NoValue opens x at to
-  unfolding contentWords contentFaults contentMeaning scalarKind scalarMeaning
+  unfolding contentSlots contentFaults contentMeaning scalarKind scalarMeaning
   no-value (no-content v f g e) p q = record { faults-are = refl; words-are = refl; means-are = λ r. rw v refl; end-is = e }
   no-value (initial v b k) p q = absurd (q b)
   no-value (sized v b k c z) p q = absurd (p b)
@@ -105,11 +105,11 @@ module _ (W : List Word) (G : Filling) (t : DataType) (D : Data) where
     e : Expr
     stands : Parses (sortIn W) (suc nestings) (at + 1) e to
     faults-are : contentFaults W G t x D ≡ constantFaults W raisesError t S M e
-    words-are : contentWords W G x D ≡ constantValue W S M e ∷ []
+    words-are : contentSlots W G x D ≡ constantValue W S M e ∷ []
     means-are : (r : Ref) → contentMeaning W G t x D r ≡ scalarMeaning (scalarKind s) t r
 
   has-value : {opens : ℕ} {x : Content} {at to : ℕ} → ContentAt (sortIn W) (Parses (sortIn W)) opens x at to → sortIn W at ≡ becomes → HasValue opens x at to
-  unfolding contentWords contentFaults contentMeaning scalarKind scalarMeaning
+  unfolding contentSlots contentFaults contentMeaning scalarKind scalarMeaning
   has-value (no-content v f g e) q = absurd (f q)
   has-value (initial {e = e} v b k) q = record { e = e; stands = k; faults-are = refl; words-are = refl; means-are = λ r. rw v refl }
   has-value (sized v b k c z) q = absurd (omega (arith, b, q))
@@ -117,9 +117,9 @@ module _ (W : List Word) (G : Filling) (t : DataType) (D : Data) where
 
 -- ---- a scalar with its value
 module _ {code values : List ℕ} {own limit used i : ℕ} (b : Begins code values own limit used i) (free : Free b) (kind : ℕ) (kind-is : kind ≡ scalarKind (sortIn (b .W) i)) (v : ℤ) (small : InNum v)
-    (words-are : contentWords (b .W) (F b) (content b) (b .D) ≡ v ∷ []) (faults-are : contentFaults (b .W) (F b) (type b) (content b) (b .D) ≡ [])
+    (words-are : contentSlots (b .W) (F b) (content b) (b .D) ≡ v ∷ []) (faults-are : contentFaults (b .W) (F b) (type b) (content b) (b .D) ≡ [])
     (means-are : (r : Ref) → contentMeaning (b .W) (F b) (type b) (content b) (b .D) r ≡ scalarMeaning (scalarKind (sortIn (b .W) i)) (type b) r) (fits : used < limit) where
-  long-is : length (contentWords (b .W) (F b) (content b) (b .D)) ≡ 1
+  long-is : length (contentSlots (b .W) (F b) (content b) (b .D)) ≡ 1
   long-is = ap length words-are
 
   first-word : Ref
@@ -137,10 +137,10 @@ module _ {code values : List ℕ} {own limit used i : ℕ} (b : Begins code valu
   unfolding scalarMeaning owned
   scalar-owned k = test (eqb k aConstant) (λ t. rw (t, scalarMeaning) (own-here (b .W) (b .s) (length (b .D .words)))) (λ t. rw (t, scalarMeaning) (own-here (b .W) (b .s) (length (b .D .words))))
 
-  scalar-placed : (k : ℕ) → Placed (F b .memoryWith (b .D .words ++ contentWords (b .W) (F b) (content b) (b .D))) (scalarMeaning k (type b) (F b .ref (length (b .D .words))))
+  scalar-placed : (k : ℕ) → Placed (F b .memoryWith (b .D .words ++ contentSlots (b .W) (F b) (content b) (b .D))) (scalarMeaning k (type b) (F b .ref (length (b .D .words))))
   unfolding scalarMeaning Placed
   scalar-placed k =
-      let vs = contentWords (b .W) (F b) (content b) (b .D) in
+      let vs = contentSlots (b .W) (F b) (content b) (b .D) in
       let room = among-new (b .W) (b .s) (b .D .words) vs (length (b .D .words)) 1 (omega (arith, long-is)) in
       let z : length (b .D .words) + 0 ≡ length (b .D .words) = omega arith in
       let l : load (F b .memoryWith (b .D .words ++ vs)) (F b .ref (length (b .D .words))) ≡ v =
@@ -152,7 +152,7 @@ module _ {code values : List ℕ} {own limit used i : ℕ} (b : Begins code valu
       → Starts code₂ values₂ code′ values′ own used 1 word held i → toZ w32 word ≡ v → pos held -ℤ pos bias ≡ v → next ≡ b .to → Goes b code′ values′ next (used + 1)
   scalar-done mid code₂ code′ values₂ values′ word held next around made started word-is held-is next-is =
       let mine = ap (owned (ownOf (b .s))) (means-are (F b .ref (length (b .D .words)))) ∙ scalar-owned (scalarKind (sortIn (b .W) i)) in
-      let placed = subst (Placed (F b .memoryWith (b .D .words ++ contentWords (b .W) (F b) (content b) (b .D)))) (sym (means-are (F b .ref (length (b .D .words))))) (scalar-placed (scalarKind (sortIn (b .W) i))) in
+      let placed = subst (Placed (F b .memoryWith (b .D .words ++ contentSlots (b .W) (F b) (content b) (b .D)))) (sym (means-are (F b .ref (length (b .D .words))))) (scalar-placed (scalarKind (sortIn (b .W) i))) in
       record {
         none = clean b free (omega (arith, fits, long-is, b .used-is, b .limit-is)) faults-are;
         next-is = next-is;
@@ -210,7 +210,7 @@ module _ (code values code′ values′ : List ℕ) (own used kind i : ℕ) (c :
         );
       }
 
-module _ {code values : List ℕ} {own limit used i : ℕ} (plain : opAt (wordsOf code) (i + 3) ≡ openBrace → ⊥) where
+module _ {code values : List ℕ} {own limit used i : ℕ} (plain : opAt (cellsOf code) (i + 3) ≡ openBrace → ⊥) where
   not-brace : (b : Begins code values own limit used i) → sortIn (b .W) (i + 3) ≡ openBrace → ⊥
   not-brace b e = plain (sort-is b 3 (omega arith) ∙ e)
 
@@ -220,7 +220,7 @@ module _ {code values : List ℕ} {own limit used i : ℕ} (plain : opAt (wordsO
     is = λ b free. too-many b free (omega (arith, over, content-one (b .W) (F b) (type b) (b .D) (b .stands .content) (not-brace b), b .used-is, b .limit-is));
   }
 
-  module _ (s3 : ℕ) (s3-is : s3 ≡ opAt (wordsOf code) (i + 3)) (s0 : ℕ) (s0-is : s0 ≡ opAt (wordsOf code) i) (kind : ℕ) (kind-is : kind ≡ scalarKind s0) (fits : used < limit) where
+  module _ (s3 : ℕ) (s3-is : s3 ≡ opAt (cellsOf code) (i + 3)) (s0 : ℕ) (s0-is : s0 ≡ opAt (cellsOf code) i) (kind : ℕ) (kind-is : kind ≡ scalarKind s0) (fits : used < limit) where
     pub scalar-plain : (s3 ≡ becomes → ⊥) → (code₂ code′ values₂ values′ : List ℕ) → Makes code values code₂ values₂ (i + 2) kind own used → Starts code₂ values₂ code′ values′ own used 1 0 bias i
         → (filled : Scope) → filled .used ≡ used + 1 → DeclaresFree code values code′ values′ own limit used i (Upto (i + 4) filled)
     unfolding Says
@@ -234,7 +234,7 @@ module _ {code values : List ℕ} {own limit used i : ℕ} (plain : opAt (wordsO
 
 -- ---- a scalar whose value is declared
 pub initial-low : (code : List ℕ) (limit used kind i : ℕ) → Initial code limit used kind i → kind < 4
-initial-low code limit used kind i n = kind-low kind (opAt (wordsOf code) i) (n .kind-is)
+initial-low code limit used kind i n = kind-low kind (opAt (cellsOf code) i) (n .kind-is)
 
 pub initial-room : (code : List ℕ) (limit used kind i : ℕ) → Initial code limit used kind i → limit ≤ moduleWordLimit → used < moduleWordLimit
 initial-room code limit used kind i n h = omega (arith, n .fits)
@@ -263,7 +263,7 @@ module _ {code values : List ℕ} {own limit used kind i : ℕ} (n : Initial cod
   pub initial-asks : Begins code values own limit used i → Asks code values (i + 4)
   initial-asks b = value-asks b
 
-  module _ (s1 : ℕ) (s1-is : s1 ≡ opAt (wordsOf code) (i + 1)) (wants : ℕ) (named : TypeNamed s1 wants) where
+  module _ (s1 : ℕ) (s1-is : s1 ≡ opAt (cellsOf code) (i + 1)) (wants : ℕ) (named : TypeNamed s1 wants) where
     wants-type : (b : Begins code values own limit used i) → typeIn wants ≡ some (type b)
     wants-type b = named .is ∙ ap (λ (s : ℕ). some (typeOf s)) (s1-is ∙ sort-is b 1 (omega arith) ∙ sym (b .stands .type))
 

@@ -9,7 +9,7 @@ use Rattle.paper.specs.Trees.{Declared}
 use Rattle.paper.specs.Names.{typeOf, textOf, sortIn, spelled, cannotDeclare}
 use Rattle.paper.specs.Types.{Fault}
 use Rattle.paper.specs.Declarations.{Data, declareContent, moduleWordLimit}
-use Rattle.store_cells.specs.Words.{wordsOf}
+use Rattle.store_cells.specs.Cells.{cellsOf}
 use Rattle.code.specs.Cells.{opAt, placeAt}
 use Rattle.code.specs.Steps.{constantAt, aDatum}
 use Rattle.check_names.specs.Promises.{storeBytes}
@@ -61,9 +61,9 @@ pub record Goes {code values : List ℕ} {own limit used i : ℕ} (b : Begins co
   pub next-is : next ≡ b .to
   pub used-is : used′ ≡ length (after b .words)
   pub filled : Filled (b .W) (b .routine) (b .s) (after b) values′
-  pub keeps : KeepsName (b .routine) (b .W) (b .s) (wordsOf code′) (i + 2)
-  pub written : own ≡ 1 → Written (wordsOf code′) i (b .D) (after b)
-  pub changed : Changed (wordsOf code) (wordsOf code′) i (b .to)
+  pub keeps : KeepsName (b .routine) (b .W) (b .s) (cellsOf code′) (i + 2)
+  pub written : own ≡ 1 → Written (cellsOf code′) i (b .D) (after b)
+  pub changed : Changed (cellsOf code) (cellsOf code′) i (b .to)
 
 unfoldable pub Says : {code values : List ℕ} {own limit used i : ℕ} (b : Begins code values own limit used i) (code′ values′ : List ℕ) → Walked → Type 0
 Says b code′ values′ (Upto next scope) = Goes b code′ values′ next (scope .used)

@@ -8,7 +8,7 @@ use lib.IntN.{ℤ}
 use Rattle.paper.specs.Basics.{if_then_else_}
 use Rattle.paper.specs.Sorts.{CONST, becomes}
 use Rattle.paper.specs.Words.{wordLimit}
-use Rattle.store_cells.specs.Words.{wordsOf}
+use Rattle.store_cells.specs.Cells.{cellsOf}
 use Rattle.code.specs.Cells.{opAt, valueAt, placeAt}
 use Rattle.code.specs.Steps.{aDatum}
 use mir.Syntax.{w32}
@@ -30,16 +30,16 @@ scalarKind s = if eqb s CONST then aConstant else aVariable
 
 -- a scalar of this kind, for which there is room, and whose value is declared
 pub record Initial (code : List ℕ) (limit used kind i : ℕ) : Type 0 where
-  pub kind-is : kind ≡ scalarKind (opAt (wordsOf code) i)
-  pub becomes-is : opAt (wordsOf code) (i + 3) ≡ becomes
+  pub kind-is : kind ≡ scalarKind (opAt (cellsOf code) i)
+  pub becomes-is : opAt (cellsOf code) (i + 3) ≡ becomes
   pub fits : used < limit
 
 -- Word i is a datum's first now.
 pub record SetDatum (before after : List ℕ) (i count held : ℕ) : Type 0 where
-  pub op-is : opAt (wordsOf after) i ≡ aDatum
-  pub value-is : valueAt (wordsOf after) i ≡ held
-  pub place-is : placeAt (wordsOf after) i ≡ count
-  pub others : (k : ℕ) → (k ≡ i * 2 → ⊥) → (k ≡ i * 2 + 1 → ⊥) → getD (wordsOf after) k 0 ≡ getD (wordsOf before) k 0
+  pub op-is : opAt (cellsOf after) i ≡ aDatum
+  pub value-is : valueAt (cellsOf after) i ≡ held
+  pub place-is : placeAt (cellsOf after) i ≡ count
+  pub others : (k : ℕ) → (k ≡ i * 2 → ⊥) → (k ≡ i * 2 + 1 → ⊥) → getD (cellsOf after) k 0 ≡ getD (cellsOf before) k 0
 
 -- So many words are used from now on, and start with a word; a routine's datum says so in its first word.
 pub record Starts (code values code′ values′ : List ℕ) (own used count word held i : ℕ) : Type 0 where

@@ -7,7 +7,7 @@ ghost use mir.Val.{ofZ};
 ghost use Rattle.paper.specs.Sorts.{openBrace};
 ghost use Rattle.paper.specs.Words.{wordLimit};
 ghost use Rattle.paper.specs.Declarations.{moduleWordLimit};
-ghost use Rattle.store_cells.specs.Words.{wordsOf};
+ghost use Rattle.store_cells.specs.Cells.{cellsOf};
 ghost use Rattle.code.specs.Cells.{opAt};
 ghost use Rattle.check_names.specs.Promises.{storeBytes};
 ghost use Rattle.check_names.specs.Scopes.{Stays};
@@ -81,7 +81,7 @@ fn start(
 
 // VAR type name{c};
 fn array(scope: Scope, code: &mut [u8], values: &mut [u8], own: u32, limit: u32, i: usize) -> Walked
-    requires { ⌜ Begins (now code) (now values) own limit (scope .used) i × Near (now code) (now values) own limit (scope .used) i × (opAt (wordsOf (now code)) (i + 3) ≡ openBrace) ⌝ }
+    requires { ⌜ Begins (now code) (now values) own limit (scope .used) i × Near (now code) (now values) own limit (scope .used) i × (opAt (cellsOf (now code)) (i + 3) ≡ openBrace) ⌝ }
     ensures { λ r. ⌜ DeclaresFree (now (code .entry)) (now (values .entry)) (now (code .exit)) (now (values .exit)) own limit (scope .used) i r × Stays scope r ⌝ }
 {
     let used = scope.used;
@@ -168,7 +168,7 @@ fn scalar(
     limit: u32,
     i: usize,
 ) -> Walked
-    requires { ⌜ Begins (now code) (now values) own limit (scope .used) i × Near (now code) (now values) own limit (scope .used) i × (opAt (wordsOf (now code)) (i + 3) ≡ openBrace → ⊥) ⌝ }
+    requires { ⌜ Begins (now code) (now values) own limit (scope .used) i × Near (now code) (now values) own limit (scope .used) i × (opAt (cellsOf (now code)) (i + 3) ≡ openBrace → ⊥) ⌝ }
     ensures { λ r. ⌜ DeclaresFree (now (code .entry)) (now (values .entry)) (now (code .exit)) (now (values .exit)) own limit (scope .used) i r × Stays scope r ⌝ }
 {
     let used = scope.used;

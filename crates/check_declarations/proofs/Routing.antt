@@ -12,7 +12,7 @@ use Rattle.paper.specs.Trees.{Declared}
 use Rattle.paper.specs.Expressions.{startsData}
 use Rattle.paper.specs.Names.{Text, textOf, sortIn, spelled, isAmong, typeOf}
 use Rattle.paper.specs.Declarations.{Data, routineWordLimit}
-use Rattle.store_cells.specs.Words.{wordsOf}
+use Rattle.store_cells.specs.Cells.{cellsOf}
 use Rattle.code.specs.Cells.{opIn, placeIn, opAt, valueAt, placeAt, linkAt}
 use Rattle.code.specs.Spans.{bias}
 use Rattle.code.specs.Steps.{constantAt}
@@ -40,15 +40,15 @@ pub record Chained {code₀ values₀ : List ℕ} {head used₀ at : ℕ} (b : R
   pub done : List ℕ
   pub firsts : map firstOf (b .ds) ≡ done ++ map firstOf (walk .rest)
   pub last-now : last ≡ lastOf head done
-  pub leads : Leads (wordsOf code) head done
+  pub leads : Leads (cellsOf code) head done
   pub rises : Rise head i done
-  pub words-are : walk .D .words ≡ b .D .words ++ startsIn (wordsOf code) done
+  pub words-are : walk .D .words ≡ b .D .words ++ startsIn (cellsOf code) done
   pub settled : Each (Settled i last) (map nameOf done)
-  pub keeps : KeepsAll (b .routine) (b .W) (aRoutine (b .m)) (wordsOf code) (map nameOf done)
+  pub keeps : KeepsAll (b .routine) (b .W) (aRoutine (b .m)) (cellsOf code) (map nameOf done)
   pub covers : (u : Text) → isAmong (map textOf (b .D .names)) u ≡ false → isAmong (map (spelled (b .W)) (map nameOf done)) u ≡ false → isAmong (map textOf (walk .D .names)) u ≡ false
-  pub below : (k : ℕ) → k < at * 2 → (k ≡ head * 2 + 1 → ⊥) → getD (wordsOf code) k 0 ≡ getD (wordsOf code₀) k 0
-  pub place-is : placeAt (wordsOf code) head ≡ placeAt (wordsOf code₀) head
-  pub above : (k : ℕ) → i * 2 ≤ k → getD (wordsOf code) k 0 ≡ getD (wordsOf code₀) k 0
+  pub below : (k : ℕ) → k < at * 2 → (k ≡ head * 2 + 1 → ⊥) → getD (cellsOf code) k 0 ≡ getD (cellsOf code₀) k 0
+  pub place-is : placeAt (cellsOf code) head ≡ placeAt (cellsOf code₀) head
+  pub above : (k : ℕ) → i * 2 ≤ k → getD (cellsOf code) k 0 ≡ getD (cellsOf code₀) k 0
 
 pub record RoutineWalk (code₀ values₀ : List ℕ) (head used₀ at : ℕ) (code values : List ℕ) (i used last : ℕ) : Type 0 where
   pub long : length code ≡ length code₀
@@ -94,14 +94,14 @@ module _ {code₀ values₀ : List ℕ} {head used₀ at : ℕ} (b : RoutineStan
   chain-begins = walk-begins w starts (own-routine (b .m)) (limit-routine (b .W) (b .m))
 
   module _ (mid code′ values′ : List ℕ) (n used′ : ℕ) (g : Goes chain-begins mid values′ n used′) (s : Relinked mid code′ last i) (long : length code′ ≡ length code) where
-    agrees : Agrees (wordsOf code) (wordsOf code′) i (lastOf head (h .done))
-    agrees = subst (Agrees (wordsOf code) (wordsOf code′) i) (h .last-now) (agrees-changed code mid code′ i last i (g .changed .below) s)
+    agrees : Agrees (cellsOf code) (cellsOf code′) i (lastOf head (h .done))
+    agrees = subst (Agrees (cellsOf code) (cellsOf code′) i) (h .last-now) (agrees-changed code mid code′ i last i (g .changed .below) s)
 
     -- what the datum has written stays
-    stays : (k : ℕ) → i * 2 ≤ k → getD (wordsOf code′) k 0 ≡ getD (wordsOf mid) k 0
+    stays : (k : ℕ) → i * 2 ≤ k → getD (cellsOf code′) k 0 ≡ getD (cellsOf mid) k 0
     stays k l = relinked-others s k (λ e. omega (arith, e, l, last-before))
 
-    beyond : (k : ℕ) → next w starts .n * 2 ≤ k → getD (wordsOf code′) k 0 ≡ getD (wordsOf code) k 0
+    beyond : (k : ℕ) → next w starts .n * 2 ≤ k → getD (cellsOf code′) k 0 ≡ getD (cellsOf code) k 0
     beyond k l = stays k (omega (arith, l, next-grows w starts)) ∙ g .changed .above k l
 
     gap : i + 2 < n
@@ -118,24 +118,24 @@ module _ {code₀ values₀ : List ℕ} {head used₀ at : ℕ} (b : RoutineStan
     unfolding nameOf
     names-are = map-append nameOf (h .done) (i ∷ [])
 
-    written-words : after chain-begins .words ≡ b .D .words ++ startsIn (wordsOf code′) (h .done ++ i ∷ [])
+    written-words : after chain-begins .words ≡ b .D .words ++ startsIn (cellsOf code′) (h .done ++ i ∷ [])
     unfolding constantAt
     written-words =
         let y = g .written refl in
-        let C = wordsOf code′ in
-        let p : placeAt (wordsOf mid) i ≡ placeAt C i = ap placeIn (sym (stays (i * 2 + 1) (omega arith))) in
-        let v : valueAt (wordsOf mid) i ≡ valueAt C i = ap (λ (k : ℕ). k / 256) (sym (stays (i * 2) (omega arith))) in
+        let C = cellsOf code′ in
+        let p : placeAt (cellsOf mid) i ≡ placeAt C i = ap placeIn (sym (stays (i * 2 + 1) (omega arith))) in
+        let v : valueAt (cellsOf mid) i ≡ valueAt C i = ap (λ (k : ℕ). k / 256) (sym (stays (i * 2) (omega arith))) in
         y .words-are
         ∙ ap₂ (λ (k z : ℕ). w .D .words ++ replicate k (pos z -ℤ pos bias)) p v
-        ∙ ap (λ (l : List ℤ). l ++ replicate (placeAt C i) (constantAt C i)) (h .words-are ∙ ap (λ (l : List ℤ). b .D .words ++ l) (sym (starts-kept (wordsOf code) C i (lastOf head (h .done)) head (h .done) agrees (h .rises))))
+        ∙ ap (λ (l : List ℤ). l ++ replicate (placeAt C i) (constantAt C i)) (h .words-are ∙ ap (λ (l : List ℤ). b .D .words ++ l) (sym (starts-kept (cellsOf code) C i (lastOf head (h .done)) head (h .done) agrees (h .rises))))
         ∙ append-assoc (b .D .words) (startsIn C (h .done)) (replicate (placeAt C i) (constantAt C i))
         ∙ ap (λ (l : List ℤ). b .D .words ++ l) (sym (starts-append C (h .done) i))
 
-    name-kept : KeepsName (b .routine) (b .W) (aRoutine (b .m)) (wordsOf code′) (i + 2)
+    name-kept : KeepsName (b .routine) (b .W) (aRoutine (b .m)) (cellsOf code′) (i + 2)
     name-kept = record {
       near = g .keeps .near;
       name = g .keeps .name;
-      keeps = keeps-same (b .routine) (b .W) (outerOf (b .W) (aRoutine (b .m))) (wordsOf mid) (wordsOf code′) (i + 2) (stays ((i + 2) * 2) (omega arith)) (stays ((i + 2) * 2 + 1) (omega arith)) (g .keeps .keeps);
+      keeps = keeps-same (b .routine) (b .W) (outerOf (b .W) (aRoutine (b .m))) (cellsOf mid) (cellsOf code′) (i + 2) (stays ((i + 2) * 2) (omega arith)) (stays ((i + 2) * 2 + 1) (omega arith)) (g .keeps .keeps);
     }
 
     covers-more : (u : Text) → isAmong (map textOf (b .D .names)) u ≡ false → isAmong (map (spelled (b .W)) (map nameOf (h .done ++ i ∷ []))) u ≡ false → isAmong (map textOf (after chain-begins .names)) u ≡ false
@@ -155,13 +155,13 @@ module _ {code₀ values₀ : List ℕ} {head used₀ at : ℕ} (b : RoutineStan
       firsts = h .firsts ∙ ap (λ (r : List Declared). h .done ++ map firstOf r) (next w starts .is) ∙ ap (λ (k : ℕ). h .done ++ k ∷ map firstOf (next w starts .rest)) first-is
           ∙ sym (append-assoc (h .done) (i ∷ []) (map firstOf (next w starts .rest)));
       last-now = last-is head i (h .done);
-      leads = leads-more (wordsOf code) (wordsOf code′) i head (h .done) agrees (h .rises) (h .leads) (subst (λ (k : ℕ). linkAt (wordsOf code′) k ≡ i) (h .last-now) (s .link-is))
+      leads = leads-more (cellsOf code) (cellsOf code′) i head (h .done) agrees (h .rises) (h .leads) (subst (λ (k : ℕ). linkAt (cellsOf code′) k ≡ i) (h .last-now) (s .link-is))
           (ap opIn (stays (i * 2) (omega arith)) ∙ g .written refl .op-is);
       rises = rise-more head i n (h .done) (omega (arith, gap)) (h .rises);
       words-are = written-words;
       settled = subst (Each (Settled n i)) (sym names-are) (settled-more i last n (map nameOf (h .done)) gap (h .settled));
-      keeps = subst (KeepsAll (b .routine) (b .W) (aRoutine (b .m)) (wordsOf code′)) (sym names-are)
-          (keeps-more (b .routine) (b .W) (aRoutine (b .m)) (wordsOf code) (wordsOf code′) i last (agrees-changed code mid code′ i last i (g .changed .below) s) (map nameOf (h .done)) (i + 2) (h .settled) (h .keeps) name-kept);
+      keeps = subst (KeepsAll (b .routine) (b .W) (aRoutine (b .m)) (cellsOf code′)) (sym names-are)
+          (keeps-more (b .routine) (b .W) (aRoutine (b .m)) (cellsOf code) (cellsOf code′) i last (agrees-changed code mid code′ i last i (g .changed .below) s) (map nameOf (h .done)) (i + 2) (h .settled) (h .keeps) name-kept);
       covers = covers-more;
       below = λ k l d. by-same last head
           (λ e. relinked-others s k (λ q. d (omega (arith, q, e))) ∙ g .changed .below k (omega (arith, l, begun)) ∙ h .below k l d)
@@ -173,11 +173,11 @@ module _ {code₀ values₀ : List ℕ} {head used₀ at : ℕ} (b : RoutineStan
 -- ---- the last link
 module _ {code₀ values₀ : List ℕ} {head used₀ at : ℕ} (b : RoutineStands code₀ values₀ head used₀ at) {code values : List ℕ} {i used last : ℕ} (h : Chained b code values i used last)
     (begun : at ≤ i) (last-new : (last ≡ head → ⊥) → at ≤ last) (last-before : last < i) (stops : startsData (sortIn (b .W) i) ≡ false) (code′ : List ℕ) (opens : ℕ) (s : Relinked code code′ last opens) where
-  same : Agrees (wordsOf code) (wordsOf code′) i last
+  same : Agrees (cellsOf code) (cellsOf code′) i last
   same = agrees-changed code code code′ i last opens (λ k l. refl) s
 
-  same-last : Agrees (wordsOf code) (wordsOf code′) i (lastOf head (h .done))
-  same-last = subst (Agrees (wordsOf code) (wordsOf code′) i) (h .last-now) same
+  same-last : Agrees (cellsOf code) (cellsOf code′) i (lastOf head (h .done))
+  same-last = subst (Agrees (cellsOf code) (cellsOf code′) i) (h .last-now) same
 
   all-done : map firstOf (b .ds) ≡ h .done
   all-done = h .firsts ∙ ap (λ (r : List Declared). h .done ++ map firstOf r) (done-rest (h .walk) stops) ∙ append-none (h .done)
@@ -191,14 +191,14 @@ module _ {code₀ values₀ : List ℕ} {head used₀ at : ℕ} (b : RoutineStan
         used-is = h .walk .used-is ∙ sym (ap (λ (D : Data). length (D .words)) e);
         filled = subst (λ (D : Data). Filled (b .W) (b .routine) (aRoutine (b .m)) D values) (sym e) (h .walk .filled);
         chain = record {
-          leads = subst (Leads (wordsOf code′) head) (sym all-done) (leads-kept (wordsOf code) (wordsOf code′) i head (h .done) same-last (h .rises) (h .leads));
-          ends = ap (λ (l : List ℕ). linkAt (wordsOf code′) (lastOf head l)) all-done ∙ subst (λ (k : ℕ). linkAt (wordsOf code′) k ≡ opens) (h .last-now) (s .link-is);
+          leads = subst (Leads (cellsOf code′) head) (sym all-done) (leads-kept (cellsOf code) (cellsOf code′) i head (h .done) same-last (h .rises) (h .leads));
+          ends = ap (λ (l : List ℕ). linkAt (cellsOf code′) (lastOf head l)) all-done ∙ subst (λ (k : ℕ). linkAt (cellsOf code′) k ≡ opens) (h .last-now) (s .link-is);
         };
         rises = subst (λ (k : ℕ). Rise head k (map firstOf (b .ds))) (sym (done-at (h .walk) stops)) (subst (Rise head i) (sym all-done) (h .rises));
         words-are = ap (λ (D : Data). D .words) e ∙ h .words-are
-            ∙ ap (λ (l : List ℤ). b .D .words ++ l) (sym (starts-kept (wordsOf code) (wordsOf code′) i last head (h .done) same (h .rises)) ∙ ap (startsIn (wordsOf code′)) (sym all-done));
-        keeps = subst (λ (l : List ℕ). KeepsAll (b .routine) (b .W) (aRoutine (b .m)) (wordsOf code′) (map nameOf l)) (sym all-done)
-            (keeps-kept (b .routine) (b .W) (aRoutine (b .m)) (wordsOf code) (wordsOf code′) i last same (map nameOf (h .done)) (h .settled) (h .keeps));
+            ∙ ap (λ (l : List ℤ). b .D .words ++ l) (sym (starts-kept (cellsOf code) (cellsOf code′) i last head (h .done) same (h .rises)) ∙ ap (startsIn (cellsOf code′)) (sym all-done));
+        keeps = subst (λ (l : List ℕ). KeepsAll (b .routine) (b .W) (aRoutine (b .m)) (cellsOf code′) (map nameOf l)) (sym all-done)
+            (keeps-kept (b .routine) (b .W) (aRoutine (b .m)) (cellsOf code) (cellsOf code′) i last same (map nameOf (h .done)) (h .settled) (h .keeps));
         covers = record {
           is = λ u p q. ap (λ (D : Data). isAmong (map textOf (D .names)) u) e ∙ h .covers u p (subst (λ (l : List ℕ). isAmong (map (spelled (b .W)) (map nameOf l)) u ≡ false) all-done q);
         };
@@ -226,7 +226,7 @@ module _ (code₀ values₀ : List ℕ) (head used₀ at : ℕ) (code values : L
   pub routine-long-values : length values ≡ length values₀
   routine-long-values = m .long-values
 
-  module _ (s : ℕ) (s-is : s ≡ opAt (wordsOf code) i) (t : Bool) (t-is : t ≡ startsData s) where
+  module _ (s : ℕ) (s-is : s ≡ opAt (cellsOf code) i) (t : Bool) (t-is : t ≡ startsData s) where
     starts-is : (b : RoutineStands code₀ values₀ head used₀ at) → startsData (sortIn (b .W) i) ≡ t
     starts-is b = ap startsData (sort-here (m .chained b .walk) s s-is) ∙ sym t-is
 

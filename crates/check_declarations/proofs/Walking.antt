@@ -8,7 +8,7 @@ use lib.Dec.{eqb}
 use lib.ListN.{length, getD}
 use borrow.Author.Tests.{ne-eqb}
 use Rattle.paper.specs.Expressions.{startsData}
-use Rattle.store_cells.specs.Words.{wordsOf}
+use Rattle.store_cells.specs.Cells.{cellsOf}
 use Rattle.code.specs.Cells.{opAt}
 use Rattle.check_names.specs.declared.Scope.{Scope}
 use Rattle.paper.specs.Words.{Word, wordLimit}
@@ -55,7 +55,7 @@ module _ {W : List Word} {routine : ℕ → ℕ} {s : Site} {D₀ : Data} {ds : 
   walk-near = omega (arith, on, w .loaded .last)
 
   -- the word at hand
-  pub sort-here : (k : ℕ) → k ≡ opAt (wordsOf code) i → sortIn W i ≡ k
+  pub sort-here : (k : ℕ) → k ≡ opAt (cellsOf code) i → sortIn W i ≡ k
   sort-here k e = sym (e ∙ w .loaded .words i (omega arith) on .sort)
 
   module _ (starts : startsData (sortIn W i) ≡ true) where
@@ -91,7 +91,7 @@ module _ {W : List Word} {routine : ℕ → ℕ} {s : Site} {D₀ : Data} {ds : 
           subst (First f) (sym (w .faults-left ∙ ap (λ (l : List Declared). dataFaults W (filling W s) l (w .D)) (next .is)))
           (data-found W (filling W s) (w .D) (next .one) (next .more) h)
 
-      unfoldable pub walk-on : (code′ values′ : List ℕ) (n used′ : ℕ) → length code′ ≡ length code → ((k : ℕ) → next .n * 2 ≤ k → getD (wordsOf code′) k 0 ≡ getD (wordsOf code) k 0)
+      unfoldable pub walk-on : (code′ values′ : List ℕ) (n used′ : ℕ) → length code′ ≡ length code → ((k : ℕ) → next .n * 2 ≤ k → getD (cellsOf code′) k 0 ≡ getD (cellsOf code) k 0)
           → faultsOf walk-begins ≡ [] → n ≡ next .n → used′ ≡ length (after walk-begins .words) → Filled W routine s (after walk-begins) values′ → Walk W routine s D₀ ds to code′ values′ n used′
       unfolding declareData
       walk-on code′ values′ n used′ long same none n-is used-is filled =
@@ -138,8 +138,8 @@ pub record ModuleWalk (code₀ values₀ : List ℕ) (at : ℕ) (code values : L
   pub long-values : length values ≡ length values₀
   pub walks : (b : DataStand code₀ values₀ at) → Walk (b .W) (b .routine) (theModule (b .routines)) noData (b .ds) (b .to) code values i used
   pub begun : at ≤ i
-  pub below : (k : ℕ) → k < at * 2 → getD (wordsOf code) k 0 ≡ getD (wordsOf code₀) k 0
-  pub above : (k : ℕ) → i * 2 ≤ k → getD (wordsOf code) k 0 ≡ getD (wordsOf code₀) k 0
+  pub below : (k : ℕ) → k < at * 2 → getD (cellsOf code) k 0 ≡ getD (cellsOf code₀) k 0
+  pub above : (k : ℕ) → i * 2 ≤ k → getD (cellsOf code) k 0 ≡ getD (cellsOf code₀) k 0
 
 pub module-begun : (code values : List ℕ) (at used : ℕ) → used ≡ 0 → ModuleWalk code values at code values at used
 module-begun code values at used u = record {
@@ -161,7 +161,7 @@ module _ (code₀ values₀ : List ℕ) (at : ℕ) (code values : List ℕ) (i u
   pub module-long-values : length values ≡ length values₀
   module-long-values = m .long-values
 
-  module _ (s : ℕ) (s-is : s ≡ opAt (wordsOf code) i) (t : Bool) (t-is : t ≡ startsData s) where
+  module _ (s : ℕ) (s-is : s ≡ opAt (cellsOf code) i) (t : Bool) (t-is : t ≡ startsData s) where
     starts-is : (b : DataStand code₀ values₀ at) → startsData (sortIn (b .W) i) ≡ t
     starts-is b = ap startsData (sort-here (m .walks b) s s-is) ∙ sym t-is
 

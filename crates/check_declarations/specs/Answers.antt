@@ -8,7 +8,7 @@ use Rattle.paper.specs.Words.{Word}
 use Rattle.paper.specs.Trees.{Declared, Module}
 use Rattle.paper.specs.Names.{Text, Names, textOf, sortIn, spelled, isAmong}
 use Rattle.paper.specs.Declarations.{Data, noData, declareData}
-use Rattle.store_cells.specs.Words.{wordsOf}
+use Rattle.store_cells.specs.Cells.{cellsOf}
 use Rattle.code.specs.Cells.{placeAt}
 use Rattle.grammar.specs.Form.{Parses, DeclarationsAt}
 use Rattle.faults.specs.First.{First}
@@ -36,7 +36,7 @@ pub record ModuleFilled {code values : List ℕ} {at : ℕ} (b : DataStand code 
   pub next-is : next ≡ b .to
   pub used-is : used ≡ length (declareData (b .W) (filling (b .W) (theModule (b .routines))) (b .ds) noData .words)
   pub filled : Filled (b .W) (b .routine) (theModule (b .routines)) (declareData (b .W) (filling (b .W) (theModule (b .routines))) (b .ds) noData) values′
-  pub changed : Changed (wordsOf code) (wordsOf code′) at (b .to)
+  pub changed : Changed (cellsOf code) (cellsOf code′) at (b .to)
 
 unfoldable pub SaysModule : {code values : List ℕ} {at : ℕ} (b : DataStand code values at) (code′ values′ : List ℕ) → Walked → Type 0
 SaysModule b code′ values′ (Upto next scope) = ModuleFilled b code′ values′ next (scope .used)
@@ -77,15 +77,15 @@ pub record RoutineFilled {code values : List ℕ} {head used at : ℕ} (b : Rout
   pub next-is : next ≡ b .to
   pub used-is : used′ ≡ length (routineAfter b .words)
   pub filled : Filled (b .W) (b .routine) (aRoutine (b .m)) (routineAfter b) values′
-  pub chain : Chain (wordsOf code′) head (map firstOf (b .ds)) opens
+  pub chain : Chain (cellsOf code′) head (map firstOf (b .ds)) opens
   pub rises : Rise head (b .to) (map firstOf (b .ds))
-  pub words-are : routineAfter b .words ≡ b .D .words ++ startsIn (wordsOf code′) (map firstOf (b .ds))
-  pub keeps : KeepsAll (b .routine) (b .W) (aRoutine (b .m)) (wordsOf code′) (map nameOf (map firstOf (b .ds)))
+  pub words-are : routineAfter b .words ≡ b .D .words ++ startsIn (cellsOf code′) (map firstOf (b .ds))
+  pub keeps : KeepsAll (b .routine) (b .W) (aRoutine (b .m)) (cellsOf code′) (map nameOf (map firstOf (b .ds)))
   pub covers : CoversData (b .W) (b .D) (routineAfter b) (b .ds)
   -- nothing else has changed but the link of the routine's first word
-  pub below : (k : ℕ) → k < at * 2 → (k ≡ head * 2 + 1 → ⊥) → getD (wordsOf code′) k 0 ≡ getD (wordsOf code) k 0
-  pub place-is : placeAt (wordsOf code′) head ≡ placeAt (wordsOf code) head
-  pub above : (k : ℕ) → b .to * 2 ≤ k → getD (wordsOf code′) k 0 ≡ getD (wordsOf code) k 0
+  pub below : (k : ℕ) → k < at * 2 → (k ≡ head * 2 + 1 → ⊥) → getD (cellsOf code′) k 0 ≡ getD (cellsOf code) k 0
+  pub place-is : placeAt (cellsOf code′) head ≡ placeAt (cellsOf code) head
+  pub above : (k : ℕ) → b .to * 2 ≤ k → getD (cellsOf code′) k 0 ≡ getD (cellsOf code) k 0
 
 unfoldable pub SaysRoutine : {code values : List ℕ} {head used at : ℕ} (b : RoutineStands code values head used at) (code′ values′ : List ℕ) (opens : ℕ) → Walked → Type 0
 SaysRoutine b code′ values′ opens (Upto next scope) = RoutineFilled b code′ values′ opens next (scope .used)

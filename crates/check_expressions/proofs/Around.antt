@@ -20,9 +20,9 @@ use Rattle.paper.specs.Expressions.{nestings, relations, levelOf}
 use Rattle.paper.specs.Names.{DataType, aNum, aBool, Meaning, arrayIn}
 use Rattle.paper.specs.Types.{Fault, fault, faultIf, judged, differs, wanted, judgeElement, judgeSigned, judgeJoined}
 use Rattle.paper.specs.Types as types
-use Rattle.store_cells.specs.Words.{wordsOf}
+use Rattle.store_cells.specs.Cells.{cellsOf}
 use Rattle.code.specs.Cells.{opIn, valueIn, headAt, opAt, valueAt, linkAt}
-use Rattle.code.specs.Spans.{aSpan, aCallWord, aModuleElement, aParenthesis, anOperator, guard, opOf, rightIn, operatorIn, operatorOf, leafTerm, elementTerm, firstIn, sizeIn, termWithin}
+use Rattle.code.specs.Spans.{aSpan, aCallSlot, aModuleElement, aParenthesis, anOperator, guard, opOf, rightIn, operatorIn, operatorOf, leafTerm, elementTerm, firstIn, sizeIn, termWithin}
 use Rattle.code.proofs.Operands.{by-leaf}
 use Rattle.code.proofs.Spanning.{term-grows, single}
 use Rattle.code.proofs.Composing.{nested-span, element-span, prefix-span, number-of-op, right-of-op, operator-of-op, written-span, written-leaf}
@@ -80,21 +80,21 @@ module _ (j : types.Judged) (t : DataType) (fs : List Fault) (x : Term) (q : j �
 -- ---- parentheses
 pub nested-faulty : (code : List ℕ) (inner : Judged) (at number word : ℕ) → inner ≡ Faulty number word → Nested code code inner at inner
 nested-faulty code inner at number word e = record {
-  is = λ d m n to j s. faulty-judges (suc d) m n code at (to + 1) j inner number word e (under-faulty d m n (wordsOf code) (at + 1) to j inner number word e s);
+  is = λ d m n to j s. faulty-judges (suc d) m n code at (to + 1) j inner number word e (under-faulty d m n (cellsOf code) (at + 1) to j inner number word e s);
 }
 
 pub nested-typed : (before after : List ℕ) (inner : Judged) (at b end : ℕ) → inner ≡ Typed b end → Linked before after at aParenthesis 0 end → Nested before after inner at (Typed b (end + 1))
 unfolding SaysUnder
 nested-typed before after inner at b end e l = record {
   is = λ d m n to j s.
-      let t = under-typed d m n (wordsOf before) (at + 1) to j inner b end e s in
-      let g = term-grows m n (wordsOf before) d (at + 1) to (j .term) (t .stands) in
+      let t = under-typed d m n (cellsOf before) (at + 1) to j inner b end e s in
+      let g = term-grows m n (cellsOf before) d (at + 1) to (j .term) (t .stands) in
       record {
         says = record {
           none = t .none;
           type-is = t .type-is;
           next-is = ap (λ (k : ℕ). k + 1) (t .next-is);
-          stands = nested-span m n (wordsOf after) d at to (j .term) (l .op-is) (l .link-is ∙ t .next-is) (within-above (l .kept) d m n (at + 1) to (j .term) (omega arith) (t .stands));
+          stands = nested-span m n (cellsOf after) d at to (j .term) (l .op-is) (l .link-is ∙ t .next-is) (within-above (l .kept) d m n (at + 1) to (j .term) (omega arith) (t .stands));
         };
         kept = kept-wider (l .kept) at (to + 1) (omega arith) (omega arith);
         low = low-written before after at (l .kept) (omega (arith, l .op-is));
@@ -106,7 +106,7 @@ module _ (s : ℕ) (inner : Judged) (at : ℕ) where
   pub signed-faulty : (code : List ℕ) (number word : ℕ) → inner ≡ Faulty number word → Signed code code s inner at inner
   signed-faulty code number word e = record {
     is = λ d m n to x j p f u.
-        let r = under-faulty d m n (wordsOf code) (at + 1) to j inner number word e u in
+        let r = under-faulty d m n (cellsOf code) (at + 1) to j inner number word e u in
         let w = signedOf s in
         faulty-judges d m n code at to (judgeSigned s x j) inner number word e
         (refused-as (judgeSigned s x j) w (wanted w (first x) j) (unary s (j .term)) (signed-is s x j) number word (r .others ++ faultIf (differs w (j .type)) wrongType (first x))
@@ -117,7 +117,7 @@ module _ (s : ℕ) (inner : Judged) (at : ℕ) where
   unfolding fault
   signed-wrong code b end e wants y ne = record {
     is = λ d m n to x j p f u.
-        let t = under-typed d m n (wordsOf code) (at + 1) to j inner b end e u in
+        let t = under-typed d m n (cellsOf code) (at + 1) to j inner b end e u in
         let w = signedOf s in
         judges-refused d m n code at to (judgeSigned s x j) wrongType (at + 1)
         (refused-as (judgeSigned s x j) w (wanted w (first x) j) (unary s (j .term)) (signed-is s x j) wrongType (at + 1) []
@@ -128,15 +128,15 @@ module _ (s : ℕ) (inner : Judged) (at : ℕ) where
   unfolding SaysUnder
   signed-typed before after b end op e wants y h p l = record {
     is = λ d m n to x j k f u.
-        let t = under-typed d m n (wordsOf before) (at + 1) to j inner b end e u in
-        let g = term-grows m n (wordsOf before) d (at + 1) to (j .term) (t .stands) in
+        let t = under-typed d m n (cellsOf before) (at + 1) to j inner b end e u in
+        let g = term-grows m n (cellsOf before) d (at + 1) to (j .term) (t .stands) in
         let w = signedOf s in
-        let o : aParenthesis < opAt (wordsOf after) at = omega (arith, l .op-is, p .op) in
+        let o : aParenthesis < opAt (cellsOf after) at = omega (arith, l .op-is, p .op) in
         record {
-          says = sound-as (judgeSigned s x j) w (wanted w (first x) j) (unary s (j .term)) (signed-is s x j) d m n (wordsOf after) at to b end
+          says = sound-as (judgeSigned s x j) w (wanted w (first x) j) (unary s (j .term)) (signed-is s x j) d m n (cellsOf after) at to b end
               (wanted-none w (first x) j (t .none) (same-types wants b w (j .type) (y .is) (t .type-is) (sym h)))
               (ap typeIn h ∙ y .is) (t .next-is)
-              (prefix-span m n (wordsOf after) d at to (j .term) o (l .link-is ∙ t .next-is) (within-above (l .kept) d m n (at + 1) to (j .term) (omega arith) (t .stands))
+              (prefix-span m n (cellsOf after) d at to (j .term) o (l .link-is ∙ t .next-is) (within-above (l .kept) d m n (at + 1) to (j .term) (omega arith) (t .stands))
               ∙ ap (λ (q : ℕ). some (unary q (j .term))) (rw (l .op-is) (p .is k)));
           kept = kept-wider (l .kept) at to (omega arith) (omega arith);
           low = low-written before after at (l .kept) (omega (arith, l .op-is, p .small));
@@ -175,7 +175,7 @@ module _ (cell : ℕ) (inner : Judged) (at : ℕ) where
   pub indexed-faulty : (code : List ℕ) (number word : ℕ) → inner ≡ Faulty number word → Indexed code code cell inner at inner
   indexed-faulty code number word e = record {
     is = λ d g to x j k f u.
-        let r = under-faulty d (g .m) (g .n) (wordsOf code) (at + 2) to j inner number word e u in
+        let r = under-faulty d (g .m) (g .n) (cellsOf code) (at + 2) to j inner number word e u in
         faulty-judges (suc d) (g .m) (g .n) code at (to + 1) (judgeElement false (meaningIn (g .routine) cell) at x j) inner number word e
         (indexed-refused g x j k number word (r .others ++ faultIf (differs aNum (j .type)) wrongType (first x))
         (wanted-first aNum (first x) j (record { number = number; at = word }) (r .others) (r .faults-are)));
@@ -185,7 +185,7 @@ module _ (cell : ℕ) (inner : Judged) (at : ℕ) where
   unfolding fault
   indexed-wrong code b end e ne = record {
     is = λ d g to x j k f u.
-        let t = under-typed d (g .m) (g .n) (wordsOf code) (at + 2) to j inner b end e u in
+        let t = under-typed d (g .m) (g .n) (cellsOf code) (at + 2) to j inner b end e u in
         judges-refused (suc d) (g .m) (g .n) code at (to + 1) (judgeElement false (meaningIn (g .routine) cell) at x j) wrongType (at + 2)
         (indexed-refused g x j k wrongType (at + 2) []
         (wanted-wrong aNum (first x) j b numType num-in (t .type-is) ne (t .none) ∙ ap (fault wrongType) f));
@@ -196,14 +196,14 @@ module _ (cell : ℕ) (inner : Judged) (at : ℕ) where
   unfolding SaysUnder
   indexed-typed before after b end e isnum own value type o v y l = record {
     is = λ d g to x j k f u.
-        let t = under-typed d (g .m) (g .n) (wordsOf before) (at + 2) to j inner b end e u in
-        let h = term-grows (g .m) (g .n) (wordsOf before) d (at + 2) to (j .term) (t .stands) in
+        let t = under-typed d (g .m) (g .n) (cellsOf before) (at + 2) to j inner b end e u in
+        let h = term-grows (g .m) (g .n) (cellsOf before) d (at + 2) to (j .term) (t .stands) in
         let z : Term = elementAt (refWith (ownIn cell) (valueIn cell % 1024)) (valueIn cell / 1024) (j .term) in
         record {
-          says = sound-as (judgeElement false (meaningIn (g .routine) cell) at x j) (typeWith (boolIn cell)) (wanted aNum (first x) j) z (indexed-as g x j k) (suc d) (g .m) (g .n) (wordsOf after) at (to + 1) type (end + 1)
+          says = sound-as (judgeElement false (meaningIn (g .routine) cell) at x j) (typeWith (boolIn cell)) (wanted aNum (first x) j) z (indexed-as g x j k) (suc d) (g .m) (g .n) (cellsOf after) at (to + 1) type (end + 1)
               (wanted-none aNum (first x) j (t .none) (same-types numType b aNum (j .type) num-in (t .type-is) (sym isnum)))
               (y .is) (ap (λ (q : ℕ). q + 1) (t .next-is))
-              (element-span (g .m) (g .n) (wordsOf after) d at to (j .term) z (omega (arith, l .op-is)) (omega (arith, l .op-is, o)) (l .link-is ∙ t .next-is)
+              (element-span (g .m) (g .n) (cellsOf after) d at to (j .term) z (omega (arith, l .op-is)) (omega (arith, l .op-is, o)) (l .link-is ∙ t .next-is)
               (within-above (l .kept) d (g .m) (g .n) (at + 2) to (j .term) (omega arith) (t .stands))
               (rw (l .op-is, l .value-is, o, v) (element-term (g .m) (g .n) (ownIn cell) (valueIn cell) (j .term) (omega arith) (array-room g k))));
           kept = kept-wider (l .kept) at (to + 1) (omega arith) (omega arith);
@@ -212,15 +212,15 @@ module _ (cell : ℕ) (inner : Judged) (at : ℕ) where
   }
 
 -- ---- an operator's word
-pub tie-small : (code : List ℕ) (s i n w number : ℕ) → Numbered s number → w ≡ headAt (wordsOf code) (i + 1) → n ≡ i + 2 → (n ≡ i + 2 → opAt (wordsOf code) (i + 1) ≤ aCallWord)
+pub tie-small : (code : List ℕ) (s i n w number : ℕ) → Numbered s number → w ≡ headAt (cellsOf code) (i + 1) → n ≡ i + 2 → (n ≡ i + 2 → opAt (cellsOf code) (i + 1) ≤ aCallSlot)
     → anOperator + number + 16 * (w % 256) < 256
-tie-small code s i n w number k e q small = let f : w % 256 ≤ aCallWord = rw e (small q) in omega (arith, k .small)
+tie-small code s i n w number k e q small = let f : w % 256 ≤ aCallSlot = rw e (small q) in omega (arith, k .small)
 
 module _ (before after : List ℕ) (s i n number : ℕ) (k : Numbered s number) where
-  pub tie-leaf : (w : ℕ) → w ≡ headAt (wordsOf before) (i + 1) → n ≡ i + 2 → (n ≡ i + 2 → opAt (wordsOf before) (i + 1) ≤ aCallWord) → Headed before after i (anOperator + number + 16 * (w % 256)) (w / 256) → Tied before after s i n
+  pub tie-leaf : (w : ℕ) → w ≡ headAt (cellsOf before) (i + 1) → n ≡ i + 2 → (n ≡ i + 2 → opAt (cellsOf before) (i + 1) ≤ aCallSlot) → Headed before after i (anOperator + number + 16 * (w % 256)) (w / 256) → Tied before after s i n
   tie-leaf w e q small h =
-      let o : opAt (wordsOf after) i ≡ opOf number (w % 256) = h .op-is ∙ omega arith in
-      let leaf : w % 256 ≤ aCallWord = rw e (small q) in
+      let o : opAt (cellsOf after) i ≡ opOf number (w % 256) = h .op-is ∙ omega arith in
+      let leaf : w % 256 ≤ aCallSlot = rw e (small q) in
       let f : w % 256 < 4 = omega arith in
       record {
         operator-is = ap operatorIn o ∙ operator-of-op number (w % 256) (k .small) f ∙ k .is;
@@ -234,7 +234,7 @@ module _ (before after : List ℕ) (s i n number : ℕ) (k : Numbered s number) 
 
   pub tie-span : (n ≡ i + 2 → ⊥) → Linked before after i (anOperator + number) 0 n → Tied before after s i n
   tie-span d l =
-      let o : opAt (wordsOf after) i ≡ opOf number 0 = l .op-is ∙ omega arith in
+      let o : opAt (cellsOf after) i ≡ opOf number 0 = l .op-is ∙ omega arith in
       record {
         operator-is = ap operatorIn o ∙ operator-of-op number 0 (k .small) (omega arith) ∙ k .is;
         leaf-op = λ q. absurd (d q);
@@ -247,21 +247,21 @@ module _ (before after : List ℕ) (s i n number : ℕ) (k : Numbered s number) 
 
 -- ---- two sides
 -- a right side of one word is a leaf
-leaf-small : (m n op v : ℕ) (t : Term) → leafTerm m n op v ≡ some t → (op ≡ 0 → ⊥) × (op ≤ aCallWord)
+leaf-small : (m n op v : ℕ) (t : Term) → leafTerm m n op v ≡ some t → (op ≡ 0 → ⊥) × (op ≤ aCallSlot)
 leaf-small m n op v t e = (λ z. by-leaf m n op v t e (λ h. omega arith) (λ h. omega arith) (λ h. omega arith), by-leaf m n op v t e (λ h. omega arith) (λ h. omega arith) (λ h. omega arith))
 
 module _ (s l i : ℕ) (right : Judged) where
-  pub right-leaf : (code : List ℕ) (b end : ℕ) → Right code s l i right → right ≡ Typed b end → end ≡ i + 2 → opAt (wordsOf code) (i + 1) ≤ aCallWord
+  pub right-leaf : (code : List ℕ) (b end : ℕ) → Right code s l i right → right ≡ Typed b end → end ≡ i + 2 → opAt (cellsOf code) (i + 1) ≤ aCallSlot
   right-leaf code b end r e h =
-      let t = under-typed (r .d) (r .m) (r .n) (wordsOf code) (i + 1) (r .to) (r .j) right b end e (r .says) in
-      leaf-small (r .m) (r .n) (opAt (wordsOf code) (i + 1)) (valueAt (wordsOf code) (i + 1)) (r .j .term)
-      (single (r .m) (r .n) (wordsOf code) (r .d) (i + 1) (r .to) (r .j .term) (omega (arith, t .next-is)) (t .stands)) .1
+      let t = under-typed (r .d) (r .m) (r .n) (cellsOf code) (i + 1) (r .to) (r .j) right b end e (r .says) in
+      leaf-small (r .m) (r .n) (opAt (cellsOf code) (i + 1)) (valueAt (cellsOf code) (i + 1)) (r .j .term)
+      (single (r .m) (r .n) (cellsOf code) (r .d) (i + 1) (r .to) (r .j .term) (omega (arith, t .next-is)) (t .stands)) .1
 
   -- where it ends
   pub right-ends : (code : List ℕ) (b end : ℕ) → Right code s l i right → right ≡ Typed b end → (i + 1 < end) × (end < wordLimit) × (end * 8 + 8 ≤ length code)
   right-ends code b end r e =
-      let t = under-typed (r .d) (r .m) (r .n) (wordsOf code) (i + 1) (r .to) (r .j) right b end e (r .says) in
-      let g = term-grows (r .m) (r .n) (wordsOf code) (r .d) (i + 1) (r .to) (r .j .term) (t .stands) in
+      let t = under-typed (r .d) (r .m) (r .n) (cellsOf code) (i + 1) (r .to) (r .j) right b end e (r .says) in
+      let g = term-grows (r .m) (r .n) (cellsOf code) (r .d) (i + 1) (r .to) (r .j .term) (t .stands) in
       (omega (arith, t .next-is), omega (arith, t .next-is, r .last), omega (arith, t .next-is, r .room))
 
   pub right-room : (code : List ℕ) (b end : ℕ) → Right code s l i right → right ≡ Typed b end → i * 8 + 16 ≤ length code
@@ -289,9 +289,9 @@ module _ (s l i wants : ℕ) (right : Judged) where
   pub join-faulty : (code : List ℕ) (number word : ℕ) → right ≡ Faulty number word → Joined code code s wants i right right
   join-faulty code number word e = record {
     is = λ d m n at to a b ja jb left asks f u.
-        let r = under-faulty d m n (wordsOf code) (i + 1) to jb right number word e u in
+        let r = under-faulty d m n (cellsOf code) (i + 1) to jb right number word e u in
         faulty-judges d m n code at to (judgeJoined s a b ja jb) right number word e
-        (joined-refused d m n at (wordsOf code) a b ja jb left asks number word (r .others ++ faultIf (differs (ja .type) (jb .type)) wrongType (first b))
+        (joined-refused d m n at (cellsOf code) a b ja jb left asks number word (r .others ++ faultIf (differs (ja .type) (jb .type)) wrongType (first b))
         (wanted-first (ja .type) (first b) jb (record { number = number; at = word }) (r .others) (r .faults-are)));
   }
 
@@ -299,9 +299,9 @@ module _ (s l i wants : ℕ) (right : Judged) where
   unfolding fault
   join-wrong code t end e ne = record {
     is = λ d m n at to a b ja jb left asks f u.
-        let r = under-typed d m n (wordsOf code) (i + 1) to jb right t end e u in
+        let r = under-typed d m n (cellsOf code) (i + 1) to jb right t end e u in
         judges-refused d m n code at to (judgeJoined s a b ja jb) wrongType (i + 1)
-        (joined-refused d m n at (wordsOf code) a b ja jb left asks wrongType (i + 1) []
+        (joined-refused d m n at (cellsOf code) a b ja jb left asks wrongType (i + 1) []
         (wanted-wrong (ja .type) (first b) jb t wants (left .type-is) (r .type-is) ne (r .none) ∙ ap (fault wrongType) f));
   }
 
@@ -309,25 +309,25 @@ module _ (s l i wants : ℕ) (right : Judged) where
   unfolding SaysUnder
   join-typed before after k end e q lv type y t = record {
     is = λ d m n at to a b ja jb left asks f u.
-        let r = under-typed d m n (wordsOf before) (i + 1) to jb right k end e u in
-        let g = term-grows m n (wordsOf before) d at i (ja .term) (left .stands) in
-        let h = term-grows m n (wordsOf before) d (i + 1) to (jb .term) (r .stands) in
+        let r = under-typed d m n (cellsOf before) (i + 1) to jb right k end e u in
+        let g = term-grows m n (cellsOf before) d at i (ja .term) (left .stands) in
+        let h = term-grows m n (cellsOf before) d (i + 1) to (jb .term) (r .stands) in
         let rew = kept-rewritten before after i (t .kept) in
-        let op : some (binary (operatorIn (opAt (wordsOf after) i)) (ja .term) (jb .term)) ≡ some (binary s (ja .term) (jb .term)) = ap (λ (o : ℕ). some (binary o (ja .term) (jb .term))) (t .operator-is) in
+        let op : some (binary (operatorIn (opAt (cellsOf after) i)) (ja .term) (jb .term)) ≡ some (binary s (ja .term) (jb .term)) = ap (λ (o : ℕ). some (binary o (ja .term) (jb .term))) (t .operator-is) in
         record {
           says = sound-as (judgeJoined s a b ja jb) (resultOf s) (wanted (askedOf s (ja .type)) (first a) ja ++ wanted (askedOf s (ja .type)) (first b) jb) (binary s (ja .term) (jb .term)) (joined-is s a b ja jb)
-              d m n (wordsOf after) at to type end
-              (joined-faults d m n at (wordsOf before) a b ja jb left asks ∙ wanted-none (ja .type) (first b) jb (r .none) (same-types wants k (ja .type) (jb .type) (left .type-is) (r .type-is) (sym q)))
+              d m n (cellsOf after) at to type end
+              (joined-faults d m n at (cellsOf before) a b ja jb left asks ∙ wanted-none (ja .type) (first b) jb (r .none) (same-types wants k (ja .type) (jb .type) (left .type-is) (r .type-is) (sym q)))
               (y .is s lv) (r .next-is)
               (by-same end (i + 2)
               (λ z.
-              let sg = single m n (wordsOf before) d (i + 1) to (jb .term) (omega (arith, r .next-is)) (r .stands) in
+              let sg = single m n (cellsOf before) d (i + 1) to (jb .term) (omega (arith, r .next-is)) (r .stands) in
               let to2 : i + 2 ≡ to = omega (arith, r .next-is) in
-              subst (λ (p : ℕ). termWithin m n (wordsOf after) d at p ≡ some (binary s (ja .term) (jb .term))) to2
-              (written-leaf d m n (wordsOf before) (wordsOf after) i rew at (ja .term) (jb .term)
-              (λ h0. leaf-small m n (opAt (wordsOf before) (i + 1)) (valueAt (wordsOf before) (i + 1)) (jb .term) sg .0 (sym (t .leaf-op z) ∙ h0))
+              subst (λ (p : ℕ). termWithin m n (cellsOf after) d at p ≡ some (binary s (ja .term) (jb .term))) to2
+              (written-leaf d m n (cellsOf before) (cellsOf after) i rew at (ja .term) (jb .term)
+              (λ h0. leaf-small m n (opAt (cellsOf before) (i + 1)) (valueAt (cellsOf before) (i + 1)) (jb .term) sg .0 (sym (t .leaf-op z) ∙ h0))
               (left .stands) (rw (t .leaf-op z, t .leaf-value z) sg) ∙ op))
-              (λ z. written-span d m n (wordsOf before) (wordsOf after) i rew at to (ja .term) (jb .term) (t .span-op z) (t .span-link z ∙ r .next-is) (left .stands) (r .stands) ∙ op));
+              (λ z. written-span d m n (cellsOf before) (cellsOf after) i rew at to (ja .term) (jb .term) (t .span-op z) (t .span-link z ∙ r .next-is) (left .stands) (r .stands) ∙ op));
           kept = kept-wider (t .kept) at to (omega arith) (omega arith);
           low = low-written before after i (t .kept) (t .small);
         };

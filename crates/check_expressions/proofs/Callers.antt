@@ -9,7 +9,7 @@ use Rattle.paper.specs.Trees.{Expr, first}
 use Rattle.paper.specs.Expressions.{got, nestings, disjunctions, levelOf, exprIn}
 use Rattle.paper.specs.Names.{DataType, sortIn}
 use Rattle.paper.specs.Types.{least, wanted, judge}
-use Rattle.store_cells.specs.Words.{wordsOf}
+use Rattle.store_cells.specs.Cells.{cellsOf}
 use Rattle.layout.specs.Types.{typeIn}
 use Rattle.climb.proofs.Operands.{deeper}
 use Rattle.climb.proofs.Places.{stands}
@@ -37,7 +37,7 @@ expr-stands code values known d at to e deep h none l = record {
 
 module _ (code values after : List ℕ) (only : Bool) (at : ℕ) (r : Judged) where
   module _ (top : ℕ) (s : Stands code values top at) (c : Checked code values after only top at r) where
-    pub checked-typed : (type next : ℕ) → r ≡ Typed type next → Sound (s .known .m) (s .known .n) (wordsOf after) at (s .to) (judge (s .known .W) only (s .known .S) (s .e)) type next
+    pub checked-typed : (type next : ℕ) → r ≡ Typed type next → Sound (s .known .m) (s .known .n) (cellsOf after) at (s .to) (judge (s .known .W) only (s .known .S) (s .e)) type next
     checked-typed type next e = says-typed _ _ _ _ _ _ r type next e (c .is s .says)
 
     -- the fault that is answered is the least
@@ -47,7 +47,7 @@ module _ (code values after : List ℕ) (only : Bool) (at : ℕ) (r : Judged) wh
 
   module _ (wants : ℕ) (t : DataType) (w : typeIn wants ≡ some t) (s : Stands code values disjunctions at) (c : OfType code values after only wants at r) where
     pub of-type-typed : (type next : ℕ) → r ≡ Typed type next
-        → Sound (s .known .m) (s .known .n) (wordsOf after) at (s .to) (ofType t (first (s .e)) (judge (s .known .W) only (s .known .S) (s .e))) type next
+        → Sound (s .known .m) (s .known .n) (cellsOf after) at (s .to) (ofType t (first (s .e)) (judge (s .known .W) only (s .known .S) (s .e))) type next
     of-type-typed type next e = says-typed _ _ _ _ _ _ r type next e (c .is s t w .says)
 
     pub of-type-faulty : (number word : ℕ) → r ≡ Faulty number word

@@ -18,7 +18,7 @@ use Rattle.paper.specs.Trees.{Expr, joined, first}
 use Rattle.paper.specs.Expressions.{got, relations, disjunctions, levelOf, level, exprIn}
 use Rattle.paper.specs.Names.{Scopes, sortIn}
 use Rattle.paper.specs.Types.{Fault, fault, faultIf, differs, wanted, judgeJoined, judge}
-use Rattle.store_cells.specs.Words.{wordsOf}
+use Rattle.store_cells.specs.Cells.{cellsOf}
 use Rattle.code.specs.Cells.{opAt}
 use Rattle.code.specs.Spans.{termWithin}
 use Rattle.layout.specs.Rules.{wrongType}
@@ -159,7 +159,7 @@ module _ (nest : ℕ) (code values : List ℕ) (top at : ℕ) (s : StandsUnder n
         (going-faulty number word (going-refused (g .e) (g .i) (g .f) (g .low) number word (g .rest) (under-faulty _ _ _ _ _ _ _ left number word e (g .judges .says))))
 
     module _ (type i : ℕ) (e : left ≡ Typed type i) where
-      left-sound : SoundUnder nest (s .known .m) (s .known .n) (wordsOf now) at (g .i) (judge (s .known .W) only (s .known .S) (g .e)) type i
+      left-sound : SoundUnder nest (s .known .m) (s .known .n) (cellsOf now) at (g .i) (judge (s .known .W) only (s .known .S) (g .e)) type i
       left-sound = under-typed _ _ _ _ _ _ _ left type i e (g .judges .says)
 
       end-is : g .i ≡ i
@@ -171,7 +171,7 @@ module _ (nest : ℕ) (code values : List ℕ) (top at : ℕ) (s : StandsUnder n
           let a = spans-grow (g .e) at (g .i) (g .spans) in
           (omega (arith, a, end-is), omega (arith, going-within, end-is), omega (arith, going-within, end-is, s .loaded .last), omega (arith, going-within, end-is, s .loaded .room, g .judges .kept .long))
 
-      module _ (w l : ℕ) (ew : w ≡ opAt (wordsOf now) i) (el : l ≡ levelOf w) where
+      module _ (w l : ℕ) (ew : w ≡ opAt (cellsOf now) i) (el : l ≡ levelOf w) where
         operator-is : w ≡ sortIn (s .known .W) (g .i)
         operator-is =
             let z = going-in in
@@ -267,13 +267,13 @@ module _ (nest : ℕ) (code values : List ℕ) (top at : ℕ) (s : StandsUnder n
                 room = omega (arith, right-within, s .loaded .room, g .judges .kept .long, right-judges .kept .long);
               }
 
-              left-still : SoundUnder nest (s .known .m) (s .known .n) (wordsOf mid) at i (judge (s .known .W) only (s .known .S) (g .e)) wants i
+              left-still : SoundUnder nest (s .known .m) (s .known .n) (cellsOf mid) at i (judge (s .known .W) only (s .known .S) (g .e)) wants i
               left-still = record {
                 none = left-sound .none;
                 type-is = ap typeIn (sym same) ∙ left-sound .type-is;
                 next-is = refl;
                 stands = within-below (right-judges .kept) nest (s .known .m) (s .known .n) at i (judge (s .known .W) only (s .known .S) (g .e) .term) (omega arith)
-                    (subst (λ (k : ℕ). termWithin (s .known .m) (s .known .n) (wordsOf now) nest at k ≡ some (judge (s .known .W) only (s .known .S) (g .e) .term)) end-is (left-sound .stands));
+                    (subst (λ (k : ℕ). termWithin (s .known .m) (s .known .n) (cellsOf now) nest at k ≡ some (judge (s .known .W) only (s .known .S) (g .e) .term)) end-is (left-sound .stands));
               }
 
               module _ (after : List ℕ) (left′ : Judged) (x : Joined mid after w wants i right left′) where
@@ -347,7 +347,7 @@ module _ (nest : ℕ) (values begun now : List ℕ) (only : Bool) (top at : ℕ)
     pub run-falls : (code : List ℕ) (t : ℕ) → Began nest code values begun only at part → StandsUnder nest code values top at → (wordLimit - at) * 2 + nest + 1 ≡ t → (wordLimit - (i + 1)) * 2 + nest + 1 < t
     run-falls code t b s e = let z = run-in code b s in omega (arith, z .0, z .1)
 
-    module _ (w l : ℕ) (ew : w ≡ opAt (wordsOf now) i) (el : l ≡ levelOf w) where
+    module _ (w l : ℕ) (ew : w ≡ opAt (cellsOf now) i) (el : l ≡ levelOf w) where
       pub run-none : (code : List ℕ) → Began nest code values begun only at part → l ≡ 0 → CheckedUnder nest code values now only top at (Typed type i)
       run-none code b z = record { is = λ s. stop-is nest code values top at s now only left (run .is code b s) type i e w l ew el (λ h g. omega arith) }
 

@@ -18,9 +18,9 @@ use Rattle.paper.specs.Expressions.{isLiteral}
 use Rattle.paper.specs.Names.{DataType, aNum, aBool, refusedPiece, Meaning, unknown, variable, array, constant, loop, theRoutine, theErrno, errorNumber, arrayIn, wrongName, Scopes, nth, sortIn}
 use Rattle.paper.specs.Types.{Fault, fault, faultIf, judged, judgedNothing, wanted, judgeName, judgeElement, judgeLeaf}
 use Rattle.paper.specs.Types as types
-use Rattle.store_cells.specs.Words.{wordsOf}
+use Rattle.store_cells.specs.Cells.{cellsOf}
 use Rattle.code.specs.Cells.{opIn, valueIn, headAt, errnoCell, firstWindow}
-use Rattle.code.specs.Spans.{aLiteral, aModuleWord, aCallWord, bias, guard, moduleLeaf, leafTerm}
+use Rattle.code.specs.Spans.{aLiteral, aModuleSlot, aCallSlot, bias, guard, moduleLeaf, leafTerm}
 use Rattle.code.proofs.Composing.{leaf-span}
 use Rattle.layout.specs.Rules.{unknownName, wrongKind}
 use Rattle.layout.specs.Types.{numType, boolType, typeIn}
@@ -44,7 +44,7 @@ unfolding SaysUnder
 judges-refused d m n code at to j number word r = record { says = r; kept = kept-same code at to; low = low-same code }
 
 -- an operand of one word is written
-pub judges-leaf : (d m n : ℕ) (before after : List ℕ) (at op value : ℕ) → Headed before after at op value → op ≤ aCallWord
+pub judges-leaf : (d m n : ℕ) (before after : List ℕ) (at op value : ℕ) → Headed before after at op value → op ≤ aCallSlot
     → (j : types.Judged) (t : DataType) (fs : List Fault) (x : Term) (type : ℕ) → j ≡ judged t fs x → fs ≡ [] → typeIn type ≡ some t → leafTerm m n op value ≡ some x
     → JudgesUnder d m n before after at (at + 1) j (Typed type (at + 1))
 unfolding SaysUnder
@@ -53,7 +53,7 @@ judges-leaf d m n before after at op value h o j t fs x type q clean ty l = reco
     none = ap (λ (k : types.Judged). k .faults) q ∙ judged-faults t fs x ∙ clean;
     type-is = ty ∙ ap some (sym (ap (λ (k : types.Judged). k .type) q ∙ judged-type t fs x clean));
     next-is = refl;
-    stands = leaf-span m n (wordsOf after) d at x (rw (h .op-is) o) (rw (h .op-is, h .value-is) l) ∙ ap some (sym (judged-term t fs x) ∙ sym (ap (λ (k : types.Judged). k .term) q));
+    stands = leaf-span m n (cellsOf after) d at x (rw (h .op-is) o) (rw (h .op-is, h .value-is) l) ∙ ap some (sym (judged-term t fs x) ∙ sym (ap (λ (k : types.Judged). k .term) q));
   };
   kept = h .kept;
   low = low-written before after at (h .kept) (omega (arith, h .op-is));
@@ -65,11 +65,11 @@ module _ (m n : ℕ) where
   unfolding leafTerm
   literal-term v = ap (λ (z : ℤ). some (literal z)) (ap (λ (z : ℤ). z -ℤ pos bias) (sym (pos-+ℤ-pos v bias)) ∙ +ℤ-negℤ-cancel (pos v) (pos bias))
 
-  errno-term : leafTerm m n aModuleWord errnoCell ≡ some errno
+  errno-term : leafTerm m n aModuleSlot errnoCell ≡ some errno
   unfolding leafTerm moduleLeaf
   errno-term = refl
 
-  word-term : (own v : ℕ) → m ≤ firstWindow → own < 2 → InRoom m n (refWith own v) 1 → leafTerm m n (aModuleWord + own) v ≡ some (stored (refWith own v))
+  word-term : (own v : ℕ) → m ≤ firstWindow → own < 2 → InRoom m n (refWith own v) 1 → leafTerm m n (aModuleSlot + own) v ≡ some (stored (refWith own v))
   unfolding leafTerm moduleLeaf InRoom guard
   word-term own v h o r =
       by-last own 1 o
@@ -215,17 +215,17 @@ module _ (before after : List ℕ) (cell : ℕ) (only : Bool) (at kind broken : 
     unfolding meaningIn faultOf
     clean g = faults-as g ∙ rw (z, faultOf)
 
-    module _ (op value : ℕ) (h : Headed before after at op value) (o : op ≤ aCallWord) where
+    module _ (op value : ℕ) (h : Headed before after at op value) (o : op ≤ aCallSlot) where
       leaf-is : (d : ℕ) (g : Meant cell) (t : DataType) (fs : List Fault) (x : Term) (type : ℕ) → judgeName only (meaningIn (g .routine) cell) at ≡ judged t fs x → typeIn type ≡ some t
           → leafTerm (g .m) (g .n) op value ≡ some x → JudgesUnder d (g .m) (g .n) before after at (at + 1) (judgeName only (meaningIn (g .routine) cell) at) (Typed type (at + 1))
       leaf-is d g t fs x type q ty l =
           judges-leaf d (g .m) (g .n) before after at op value h o (judgeName only (meaningIn (g .routine) cell) at) t fs x type q
           (sym (judged-faults t fs x) ∙ sym (ap (λ (k : types.Judged). k .faults) q) ∙ clean g) ty l
 
-    pub plain-errno : kind ≡ anErrno → Headed before after at aModuleWord errnoCell → Alone before after cell only at (Typed numType (at + 1))
+    pub plain-errno : kind ≡ anErrno → Headed before after at aModuleSlot errnoCell → Alone before after cell only at (Typed numType (at + 1))
     unfolding judgeName meaningWith
     plain-errno e h = record {
-      is = λ d g. leaf-is aModuleWord errnoCell h (omega arith) d g aNum (faultIf only wrongKind at) errno numType (ap (λ (x : Meaning). judgeName only x at) (kind-means (g .routine) anErrno e)) num-in (errno-term (g .m) (g .n));
+      is = λ d g. leaf-is aModuleSlot errnoCell h (omega arith) d g aNum (faultIf only wrongKind at) errno numType (ap (λ (x : Meaning). judgeName only x at) (kind-means (g .routine) anErrno e)) num-in (errno-term (g .m) (g .n));
     }
 
     pub plain-error : kind ≡ anErrorNumber → (value : ℕ) → value ≡ valueIn cell → Headed before after at aLiteral (value + bias) → Alone before after cell only at (Typed numType (at + 1))
@@ -237,13 +237,13 @@ module _ (before after : List ℕ) (cell : ℕ) (only : Bool) (at kind broken : 
     }
 
     -- a word of data, in the head that its meaning tells
-    module _ (own value : ℕ) (o : own ≡ ownIn cell) (v : value ≡ valueIn cell) (h : Headed before after at (aModuleWord + own) value) where
+    module _ (own value : ℕ) (o : own ≡ ownIn cell) (v : value ≡ valueIn cell) (h : Headed before after at (aModuleSlot + own) value) where
       word-is : (d : ℕ) (g : Meant cell) (k : ℕ) → kind ≡ k → (t : DataType) (fs : List Fault) (type : ℕ)
           → judgeName only (meaningWith (g .routine) k (boolIn cell) (ownIn cell) (valueIn cell)) at ≡ judged t fs (stored (refWith (ownIn cell) (valueIn cell)))
           → typeIn type ≡ some t → InRoom (g .m) (g .n) (refWith (ownIn cell) (valueIn cell)) 1
           → JudgesUnder d (g .m) (g .n) before after at (at + 1) (judgeName only (meaningIn (g .routine) cell) at) (Typed type (at + 1))
       word-is d g k e t fs type q ty r =
-          leaf-is (aModuleWord + own) value h (omega arith) d g t fs (stored (refWith (ownIn cell) (valueIn cell))) type
+          leaf-is (aModuleSlot + own) value h (omega arith) d g t fs (stored (refWith (ownIn cell) (valueIn cell))) type
           (ap (λ (x : Meaning). judgeName only x at) (kind-means (g .routine) k e) ∙ q) ty
           (rw (o, v) (word-term (g .m) (g .n) (ownIn cell) (valueIn cell) (g .most) (omega arith) r))
 
@@ -296,11 +296,11 @@ module _ (before after : List ℕ) (cell : ℕ) (only : Bool) (at kind broken : 
 pub number-small : (w h : ℕ) → w ≡ h → SmallNumber h → SmallNumber w
 number-small w h e f = subst SmallNumber (sym e) f
 
-module _ (before after : List ℕ) (at w : ℕ) (e : w ≡ headAt (wordsOf before) at) where
-  head-op : (W : List Word) → Fresh W (wordsOf before) at → opIn w ≡ sortIn W at
+module _ (before after : List ℕ) (at w : ℕ) (e : w ≡ headAt (cellsOf before) at) where
+  head-op : (W : List Word) → Fresh W (cellsOf before) at → opIn w ≡ sortIn W at
   head-op W f = ap opIn e ∙ f .sort
 
-  head-value : (W : List Word) → Fresh W (wordsOf before) at → sortIn W at ≡ NUMBER → valueIn w ≡ nth W at .value
+  head-value : (W : List Word) → Fresh W (cellsOf before) at → sortIn W at ≡ NUMBER → valueIn w ≡ nth W at .value
   head-value W f s = ap valueIn e ∙ f .value s
 
   module _ (value : ℕ) (h : Headed before after at aLiteral (value + bias)) where

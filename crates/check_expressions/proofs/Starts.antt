@@ -17,7 +17,7 @@ use Rattle.paper.specs.Expressions.{Parsed, got, products, conjunctions, disjun
 use Rattle.paper.specs.Names.{Meaning, sortIn, spelled, meaning}
 use Rattle.paper.specs.Types.{judgeName, judgeElement, judgeSigned, judgeLeaf, judge}
 use Rattle.paper.specs.Types as types
-use Rattle.store_cells.specs.Words.{wordsOf}
+use Rattle.store_cells.specs.Cells.{cellsOf}
 use Rattle.code.specs.Cells.{opIn, valueIn, headAt, opAt}
 use Rattle.climb.specs.Rise.{height, lowest, behind, begin}
 use Rattle.climb.proofs.Climb.{Went, went}
@@ -56,7 +56,7 @@ loaded-part W code at to a b l h g = record {
 -- nothing is written from word a on
 pub loaded-after : (W : List Word) (code after : List ℕ) (from to a b : ℕ) → Loaded W code a b → Kept code after from to → to ≤ a → Loaded W after a b
 loaded-after W code after from to a b l k h = record {
-  words = λ i p q. fresh-same W (wordsOf code) (wordsOf after) i (head-above k i (omega arith)) (l .words i p q);
+  words = λ i p q. fresh-same W (cellsOf code) (cellsOf after) i (head-above k i (omega arith)) (l .words i p q);
   last = l .last;
   room = omega (arith, l .room, k .long);
   whole = ap (λ (x : ℕ). x % 8) (k .long) ∙ l .whole;
@@ -136,10 +136,10 @@ module _ (nest : ℕ) (code values : List ℕ) (at : ℕ) (b : Begins nest code 
   pub begins-falls : (t : ℕ) → (wordLimit - at) * 2 + nest ≡ t → (wordLimit - (at + 1)) * 2 + nest + 1 < t
   begins-falls t e = omega (arith, begins-short)
 
-  pub fresh-first : Fresh (b .known .W) (wordsOf code) at
+  pub fresh-first : Fresh (b .known .W) (cellsOf code) at
   fresh-first = b .loaded .words at (omega arith) (omega (arith, begins-on))
 
-  fresh-next : Fresh (b .known .W) (wordsOf code) (at + 1)
+  fresh-next : Fresh (b .known .W) (cellsOf code) (at + 1)
   fresh-next = b .loaded .words (at + 1) (omega arith) (omega (arith, begins-on))
 
   -- what is judged of the part, told of what the part is known to be
@@ -184,7 +184,7 @@ module _ (nest : ℕ) (code values : List ℕ) (at : ℕ) (b : Begins nest code 
     inside-first = spans-first (i .e) a (i .n) (stands (sortIn (b .known .W)) (b .d - 1) disjunctions a (i .e, i .n) (inside-deeper .is))
 
   -- ---- names
-  module _ (s : ℕ) (es : s ≡ opAt (wordsOf code) at) where
+  module _ (s : ℕ) (es : s ≡ opAt (cellsOf code) at) where
     sort-first : s ≡ sortIn (b .known .W) at
     sort-first = es ∙ fresh-first .sort
 
@@ -192,7 +192,7 @@ module _ (nest : ℕ) (code values : List ℕ) (at : ℕ) (b : Begins nest code 
       name-first : sortIn (b .known .W) at ≡ NAME
       name-first = sym sort-first ∙ name
 
-      module _ (v : ℕ) (ev : v ≡ opAt (wordsOf code) (at + 1)) (brace : v ≡ openBrace) where
+      module _ (v : ℕ) (ev : v ≡ opAt (cellsOf code) (at + 1)) (brace : v ≡ openBrace) where
         element-inside : Inside (sortIn (b .known .W)) (exprIn (sortIn (b .known .W)) (b .d)) (at + 2) closeBrace (element at) (b .e, b .to)
         element-inside =
             op-element (sortIn (b .known .W)) (exprIn (sortIn (b .known .W)) (b .d)) at (b .e, b .to) name-first (sym (fresh-next .sort) ∙ sym ev ∙ brace)
@@ -227,7 +227,7 @@ module _ (nest : ℕ) (code values : List ℕ) (at : ℕ) (b : Begins nest code 
       module _ (m : ℕ) (em : promises.Meant code values at m) where
         name-means : meaningIn (b .known .routine) m ≡ meaning (b .known .S) (spelled (b .known .W) at)
         name-means =
-            ap (meaningIn (b .known .routine)) (em ∙ ap (λ (k : ℕ). getD (wordsOf values) (firstMeaning + k) 0) (fresh-first .number name-first))
+            ap (meaningIn (b .known .routine)) (em ∙ ap (λ (k : ℕ). getD (cellsOf values) (firstMeaning + k) 0) (fresh-first .number name-first))
             ∙ b .known .means .means at name-first
 
         pub name-meant : Meant m
@@ -239,7 +239,7 @@ module _ (nest : ℕ) (code values : List ℕ) (at : ℕ) (b : Begins nest code 
           within = subst (Within (b .known .m) (b .known .n)) (sym name-means) (b .known .within at name-first);
         }
 
-        module _ (only : Bool) (v : ℕ) (ev : v ≡ opAt (wordsOf code) (at + 1)) where
+        module _ (only : Bool) (v : ℕ) (ev : v ≡ opAt (cellsOf code) (at + 1)) where
           alone-is : (v ≡ openBrace → ⊥) → (after : List ℕ) (r : Judged) → Alone code after m only at r
               → JudgesUnder nest (b .known .m) (b .known .n) code after at (b .to) (judge (b .known .W) only (b .known .S) (b .e)) r
           unfolding judge judgeLeaf name-meant
@@ -391,14 +391,14 @@ module _ (nest : ℕ) (code values : List ℕ) (at : ℕ) (b : Begins nest code 
             (got-same (b .e, b .to) (leaf at, at + 1) (sym bare-is ∙ op-literal (sortIn (b .known .W)) (exprIn (sortIn (b .known .W)) (b .d)) at literal-sort))
             (x .is nest (b .known .m) (b .known .n) (b .known .W) only (b .known .S) fresh-first literal-sort)
 
-  pub literal-small : SmallNumber (headAt (wordsOf code) at)
+  pub literal-small : SmallNumber (headAt (cellsOf code) at)
   literal-small q =
       let s : sortIn (b .known .W) at ≡ NUMBER = sym (fresh-first .sort) ∙ q in
       omega (arith, fresh-first .value s, b .known .small at s)
 
 -- ---- the answers, one for each place where the first part is answered
-module _ (nest : ℕ) (code values after : List ℕ) (only : Bool) (at : ℕ) (r : Judged) (s : ℕ) (es : s ≡ opAt (wordsOf code) at) where
-  module _ (name : s ≡ NAME) (m : ℕ) (em : promises.Meant code values at m) (v : ℕ) (ev : v ≡ opAt (wordsOf code) (at + 1)) where
+module _ (nest : ℕ) (code values after : List ℕ) (only : Bool) (at : ℕ) (r : Judged) (s : ℕ) (es : s ≡ opAt (cellsOf code) at) where
+  module _ (name : s ≡ NAME) (m : ℕ) (em : promises.Meant code values at m) (v : ℕ) (ev : v ≡ opAt (cellsOf code) (at + 1)) where
     pub began-name : (v ≡ openBrace → ⊥) → Alone code after m only at r → Began nest code values after only at r
     began-name h a = record { is = λ b. alone-is nest code values at b s es name m em only v ev h after r a }
 
@@ -421,7 +421,7 @@ module _ (nest : ℕ) (code values after : List ℕ) (only : Bool) (at : ℕ) (r
 pub began-room : (nest left : ℕ) (code values mid : List ℕ) (only : Bool) (top a at : ℕ) (r : Judged) → Begins nest code values at → StandsUnder left code values top a → CheckedUnder left code values mid only top a r → at * 8 + 8 ≤ length mid
 began-room nest left code values mid only top a at r b s k = omega (arith, begins-room nest code values at b, k .is s .kept .long)
 
-pub began-wrong : (nest : ℕ) (code values : List ℕ) (only : Bool) (at s : ℕ) → s ≡ opAt (wordsOf code) at → s ≡ NAME → (m : ℕ) → promises.Meant code values at m → (v : ℕ) → v ≡ opAt (wordsOf code) (at + 1) → v ≡ openBrace
+pub began-wrong : (nest : ℕ) (code values : List ℕ) (only : Bool) (at s : ℕ) → s ≡ opAt (cellsOf code) at → s ≡ NAME → (m : ℕ) → promises.Meant code values at m → (v : ℕ) → v ≡ opAt (cellsOf code) (at + 1) → v ≡ openBrace
     → (kind broken : ℕ) → kind ≡ kindIn m → BreaksIndexed kind only broken → (broken ≡ 0 → ⊥) → Began nest code values code only at (Faulty broken at)
 began-wrong nest code values only at s es name m em v ev brace kind broken ek br d = record {
   is = λ b. wrong-is nest code values at b s es name m em only v ev brace broken (subst (λ (q : ℕ). BreaksIndexed q only broken) ek br) d;

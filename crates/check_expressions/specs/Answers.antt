@@ -9,7 +9,7 @@ use Rattle.paper.specs.Expressions.{got, nestings, disjunctions, level, levelOf
 use Rattle.paper.specs.Names.{DataType, sortIn}
 use Rattle.paper.specs.Types.{Fault, wanted, judge}
 use Rattle.paper.specs.Types as types
-use Rattle.store_cells.specs.Words.{wordsOf}
+use Rattle.store_cells.specs.Cells.{cellsOf}
 use Rattle.code.specs.Cells.{opAt}
 use Rattle.code.specs.Spans.{termWithin}
 use Rattle.layout.specs.Types.{typeIn}
@@ -21,7 +21,7 @@ use Rattle.check_expressions.specs.Known.{Loaded, Known}
 -- ---- the code store
 -- No word gets an op as high as those of steps, so that an expression's words are no steps.
 pub record Low (before after : List ℕ) : Type 0 where
-  pub stays : (i : ℕ) → opAt (wordsOf before) i < 128 → opAt (wordsOf after) i < 128
+  pub stays : (i : ℕ) → opAt (cellsOf before) i < 128 → opAt (cellsOf after) i < 128
 
 -- ---- answers
 -- No rule is broken: the type's number, the word after it, and its term that stands in the cells, in which so many parentheses and braces may nest.
@@ -42,7 +42,7 @@ SaysUnder nesting m n C at to j (Typed type next) = SoundUnder nesting m n C at 
 SaysUnder nesting m n C at to j (Faulty number word) = Refused j number word
 
 pub record JudgesUnder (nesting m n : ℕ) (before after : List ℕ) (at to : ℕ) (j : types.Judged) (r : Judged) : Type 0 where
-  pub says : SaysUnder nesting m n (wordsOf after) at to j r
+  pub says : SaysUnder nesting m n (cellsOf after) at to j r
   pub kept : Kept before after at to
   pub low : Low before after
 

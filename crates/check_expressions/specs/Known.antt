@@ -8,7 +8,7 @@ use Rattle.paper.specs.Sorts.{NUMBER}
 use Rattle.paper.specs.Words.{Word, wordLimit}
 use Rattle.paper.specs.Terms.{Ref, ofModule, ofRoutine}
 use Rattle.paper.specs.Names.{Meaning, unknown, variable, array, constant, loop, theRoutine, theErrno, errorNumber, Scopes, nth, sortIn, spelled, meaning}
-use Rattle.store_cells.specs.Words.{wordsOf}
+use Rattle.store_cells.specs.Cells.{cellsOf}
 use Rattle.code.specs.Cells.{firstWindow, opAt, valueAt}
 use Rattle.check_names.specs.Numbers.{numberOf, IsName}
 use Rattle.check_names.specs.Meanings.{Means}
@@ -23,7 +23,7 @@ pub record Fresh (W : List Word) (C : List ℕ) (i : ℕ) : Type 0 where
 
 -- The words from `at` up to `to`, and the word `to`, are as they were loaded.
 pub record Loaded (W : List Word) (code : List ℕ) (at to : ℕ) : Type 0 where
-  pub words : (i : ℕ) → at ≤ i → i ≤ to → Fresh W (wordsOf code) i
+  pub words : (i : ℕ) → at ≤ i → i ≤ to → Fresh W (cellsOf code) i
   pub last : to < wordLimit
   pub room : to * 8 + 8 ≤ length code
   -- the store has no part of a word
@@ -40,7 +40,7 @@ InRoom m n (ofModule k) size = k + size ≤ m
 InRoom m n (ofRoutine k) size = k + size ≤ n
 
 -- Words that a name stands for.
-pub record HeldWords : Type 0 where
+pub record HeldSlots : Type 0 where
   pub first : Ref
   pub size : ℕ
   -- a constant's
@@ -51,7 +51,7 @@ pub record HeldWords : Type 0 where
 -- What a name holds, by what it means: words, a number, or nothing that is in a store.
 pub data Held : Type 0 where
   nothing : Held
-  words : HeldWords → Held
+  words : HeldSlots → Held
   number : ℕ → Held
 
 abbrev pub heldBy : Meaning → Held
@@ -65,7 +65,7 @@ heldBy theErrno = nothing
 heldBy (errorNumber k) = number k
 
 -- What is asked of a name that holds words, and of one that is a number.
-abbrev pub Holds : (HeldWords → Type 0) → (ℕ → Type 0) → Held → Type 0
+abbrev pub Holds : (HeldSlots → Type 0) → (ℕ → Type 0) → Held → Type 0
 Holds F G nothing = Unit {0}
 Holds F G (words w) = F w
 Holds F G (number k) = G k
@@ -84,6 +84,6 @@ pub record Known (values : List ℕ) : Type 0 where
   pub n : ℕ
   pub most : m ≤ firstWindow
   pub table : storeBytes ≤ length values
-  pub means : Means routine W S (wordsOf values)
+  pub means : Means routine W S (cellsOf values)
   pub within : (i : ℕ) → IsName W i → Within m n (meaning S (spelled W i))
   pub small : (i : ℕ) → sortIn W i ≡ NUMBER → nth W i .value ≤ largest

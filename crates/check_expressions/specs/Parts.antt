@@ -14,9 +14,9 @@ use Rattle.paper.specs.Expressions.{got, relations, conjunctions, levelOf, isLi
 use Rattle.paper.specs.Names.{DataType, aNum, aBool, Scopes, sortIn}
 use Rattle.paper.specs.Types.{Fault, fault, judgeName, judgeElement, judgeSigned, judgeJoined, judgeLeaf, judge}
 use Rattle.paper.specs.Types as types
-use Rattle.store_cells.specs.Words.{wordsOf}
+use Rattle.store_cells.specs.Cells.{cellsOf}
 use Rattle.code.specs.Cells.{firstWindow, opIn, valueIn, opAt, valueAt, linkAt}
-use Rattle.code.specs.Spans.{aSpan, aCallWord, aParenthesis, rightIn, operatorIn, operatorOf, prefixIn}
+use Rattle.code.specs.Spans.{aSpan, aCallSlot, aParenthesis, rightIn, operatorIn, operatorOf, prefixIn}
 use Rattle.climb.specs.Rise.{height, lowest, begin}
 use Rattle.layout.specs.Types.{typeIn}
 use Rattle.check_names.specs.Meanings.{anArray, kindIn, meaningWith, meaningIn}
@@ -69,12 +69,12 @@ pub record SignType (s r : ℕ) : Type 0 where
 
 -- an operator's word, whose right side ends at n
 pub record Tied (before after : List ℕ) (s i n : ℕ) : Type 0 where
-  pub operator-is : operatorIn (opAt (wordsOf after) i) ≡ s
-  pub leaf-op : n ≡ i + 2 → rightIn (opAt (wordsOf after) i) ≡ opAt (wordsOf before) (i + 1)
-  pub leaf-value : n ≡ i + 2 → valueAt (wordsOf after) i ≡ valueAt (wordsOf before) (i + 1)
-  pub span-op : (n ≡ i + 2 → ⊥) → rightIn (opAt (wordsOf after) i) ≡ aSpan
-  pub span-link : (n ≡ i + 2 → ⊥) → linkAt (wordsOf after) i ≡ n
-  pub small : opAt (wordsOf after) i < 128
+  pub operator-is : operatorIn (opAt (cellsOf after) i) ≡ s
+  pub leaf-op : n ≡ i + 2 → rightIn (opAt (cellsOf after) i) ≡ opAt (cellsOf before) (i + 1)
+  pub leaf-value : n ≡ i + 2 → valueAt (cellsOf after) i ≡ valueAt (cellsOf before) (i + 1)
+  pub span-op : (n ≡ i + 2 → ⊥) → rightIn (opAt (cellsOf after) i) ≡ aSpan
+  pub span-link : (n ≡ i + 2 → ⊥) → linkAt (cellsOf after) i ≡ n
+  pub small : opAt (cellsOf after) i < 128
   pub kept : Kept before after i (i + 1)
 
 -- ---- names
@@ -108,7 +108,7 @@ abbrev pub SmallNumber : (head : ℕ) → Type 0
 SmallNumber w = opIn w ≡ NUMBER → valueIn w ≤ largest
 
 pub record Literal (before after : List ℕ) (at : ℕ) (r : Judged) : Type 0 where
-  pub is : (d m n : ℕ) (W : List Word) (only : Bool) (S : Scopes) → Fresh W (wordsOf before) at → isLiteral (sortIn W at) ≡ true
+  pub is : (d m n : ℕ) (W : List Word) (only : Bool) (S : Scopes) → Fresh W (cellsOf before) at → isLiteral (sortIn W at) ≡ true
       → JudgesUnder d m n before after at (at + 1) (judgeLeaf W only S at) r
 
 -- ---- around what has been answered
@@ -119,16 +119,16 @@ Short (Faulty number word) = Unit {0}
 
 -- parentheses
 pub record Nested (before after : List ℕ) (inner : Judged) (at : ℕ) (r : Judged) : Type 0 where
-  pub is : (d m n to : ℕ) (j : types.Judged) → SaysUnder d m n (wordsOf before) (at + 1) to j inner → JudgesUnder (suc d) m n before after at (to + 1) j r
+  pub is : (d m n to : ℕ) (j : types.Judged) → SaysUnder d m n (cellsOf before) (at + 1) to j inner → JudgesUnder (suc d) m n before after at (to + 1) j r
 
 -- NOT or a sign
 pub record Signed (before after : List ℕ) (s : ℕ) (inner : Judged) (at : ℕ) (r : Judged) : Type 0 where
-  pub is : (d m n to : ℕ) (e : Expr) (j : types.Judged) → isPrefix s ≡ true → first e ≡ at + 1 → SaysUnder d m n (wordsOf before) (at + 1) to j inner
+  pub is : (d m n to : ℕ) (e : Expr) (j : types.Judged) → isPrefix s ≡ true → first e ≡ at + 1 → SaysUnder d m n (cellsOf before) (at + 1) to j inner
       → JudgesUnder d m n before after at to (judgeSigned s e j) r
 
 -- an array's name and braces
 pub record Indexed (before after : List ℕ) (cell : ℕ) (inner : Judged) (at : ℕ) (r : Judged) : Type 0 where
-  pub is : (d : ℕ) (g : Meant cell) (to : ℕ) (e : Expr) (j : types.Judged) → kindIn cell ≡ anArray → first e ≡ at + 2 → SaysUnder d (g .m) (g .n) (wordsOf before) (at + 2) to j inner
+  pub is : (d : ℕ) (g : Meant cell) (to : ℕ) (e : Expr) (j : types.Judged) → kindIn cell ≡ anArray → first e ≡ at + 2 → SaysUnder d (g .m) (g .n) (cellsOf before) (at + 2) to j inner
       → JudgesUnder (suc d) (g .m) (g .n) before after at (to + 1) (judgeElement false (meaningIn (g .routine) cell) at e j) r
 
 -- ---- an operator at i between two sides
@@ -140,13 +140,13 @@ pub record Right (code : List ℕ) (s l i : ℕ) (right : Judged) : Type 0 where
   pub n : ℕ
   pub to : ℕ
   pub j : types.Judged
-  pub says : SaysUnder d m n (wordsOf code) (i + 1) to j right
+  pub says : SaysUnder d m n (cellsOf code) (i + 1) to j right
   pub last : to < wordLimit
   pub room : to * 8 + 8 ≤ length code
 
 pub record Joined (before after : List ℕ) (s wants i : ℕ) (right r : Judged) : Type 0 where
-  pub is : (d m n at to : ℕ) (a b : Expr) (ja jb : types.Judged) → SoundUnder d m n (wordsOf before) at i ja wants i → askedOf s (ja .type) ≡ ja .type
-      → first b ≡ i + 1 → SaysUnder d m n (wordsOf before) (i + 1) to jb right → JudgesUnder d m n before after at to (judgeJoined s a b ja jb) r
+  pub is : (d m n at to : ℕ) (a b : Expr) (ja jb : types.Judged) → SoundUnder d m n (cellsOf before) at i ja wants i → askedOf s (ja .type) ≡ ja .type
+      → first b ≡ i + 1 → SaysUnder d m n (cellsOf before) (i + 1) to jb right → JudgesUnder d m n before after at to (judgeJoined s a b ja jb) r
 
 -- ---- the first part of an expression
 pub record Begins (nesting : ℕ) (code values : List ℕ) (at : ℕ) : Type 0 where

@@ -15,9 +15,9 @@ ghost use Prim.Native.Nat.{_+_, _-_, _*_, _<_, _≤_};
 ghost use lib.ListN.{length};
 ghost use Rattle.paper.specs.Expressions.{disjunctions, levelOf};
 ghost use Rattle.paper.specs.Words.{wordLimit};
-ghost use Rattle.store_cells.specs.Words.{wordsOf};
+ghost use Rattle.store_cells.specs.Cells.{cellsOf};
 ghost use Rattle.code.specs.Cells.{headAt, opAt};
-ghost use Rattle.code.specs.Spans.{aCallWord};
+ghost use Rattle.code.specs.Spans.{aCallSlot};
 ghost use Rattle.layout.specs.Parts.{linkPart};
 ghost use Rattle.climb.specs.Rise.{height};
 ghost use Rattle.check_expressions.specs.Answers.{StandsUnder, CheckedUnder, Stands, Checked, OfType};
@@ -174,14 +174,14 @@ fn plain(code: &mut [u8], m: u32, only: bool, at: usize) -> Judged
     }
     let value = check_names::value_of(m);
     if kind == kinds::ERRNO {
-        set_head(code, at, ops::MODULE_WORD, layout::cells::ERRNO_VALUE);
+        set_head(code, at, ops::MODULE_SLOT, layout::cells::ERRNO_VALUE);
         return Judged::Typed(types::NUM, at + 1);
     }
     if kind == kinds::ERROR_NUMBER {
         set_head(code, at, ops::LITERAL, value + parts::BIAS);
         return Judged::Typed(types::NUM, at + 1);
     }
-    set_head(code, at, ops::MODULE_WORD + check_names::own_of(m), value);
+    set_head(code, at, ops::MODULE_SLOT + check_names::own_of(m), value);
     if kind == kinds::LOOP {
         return Judged::Typed(types::NUM, at + 1);
     }
@@ -189,7 +189,7 @@ fn plain(code: &mut [u8], m: u32, only: bool, at: usize) -> Judged
 }
 
 fn literal(code: &mut [u8], at: usize) -> Judged
-    requires { ⌜ (at * 8 + 8 ≤ length (now code)) × SmallNumber (headAt (wordsOf (now code)) at) ⌝ }
+    requires { ⌜ (at * 8 + 8 ≤ length (now code)) × SmallNumber (headAt (cellsOf (now code)) at) ⌝ }
     ensures { λ r. ⌜ Literal (now (code .entry)) (now (code .exit)) at r ⌝ }
 {
     let w = store_reading::head(code, at);
@@ -278,7 +278,7 @@ fn indexed(code: &mut [u8], m: u32, inner: Judged, at: usize) -> Judged
 
 // The operator at i has its right side up to n. One word there is an operand that the operator takes over.
 fn tie(code: &mut [u8], s: u32, i: usize, n: usize)
-    requires { ⌜ (i * 8 + 16 ≤ length (now code)) × (n < linkPart) × (0 < levelOf s) × (n ≡ i + 2 → opAt (wordsOf (now code)) (i + 1) ≤ aCallWord) ⌝ }
+    requires { ⌜ (i * 8 + 16 ≤ length (now code)) × (n < linkPart) × (0 < levelOf s) × (n ≡ i + 2 → opAt (cellsOf (now code)) (i + 1) ≤ aCallSlot) ⌝ }
     ensures { λ _. ⌜ Tied (now (code .entry)) (now (code .exit)) s i n ⌝ }
 {
     let op = ops::OPERATOR + number_of(s);

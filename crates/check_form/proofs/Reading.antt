@@ -12,7 +12,7 @@ use borrow.Author.Tests.{lt-ltb, le-ltb, eqb-true, eq-eqb, ne-eqb}
 use Rattle.laws.proofs.Tests.{by-less}
 use Rattle.paper.specs.Basics.{if_then_else_}
 use Rattle.paper.specs.Expressions.{levelOf}
-use Rattle.store_cells.specs.Words.{wordsOf}
+use Rattle.store_cells.specs.Cells.{cellsOf}
 use Rattle.check_form.specs.declared.Read.{Read}
 use Rattle.check_form.specs.declared.Read.the-variants.{Upto, Refused}
 use Rattle.check_form.specs.declared.Part.{Part}
@@ -85,7 +85,7 @@ or-none a b h g = rw h g
 -- ---- sorts
 
 module _ (code : List ℕ) (words : ℕ) where
-  pub sort-in : (at v : ℕ) → at < words → v ≡ getD (wordsOf code) (2 * at) 0 → v % 256 ≡ sortsIn code words at
+  pub sort-in : (at v : ℕ) → at < words → v ≡ getD (cellsOf code) (2 * at) 0 → v % 256 ≡ sortsIn code words at
   unfolding sortsIn
   sort-in at v h e = rw (lt-ltb at words h, e)
 

@@ -11,7 +11,7 @@ use Rattle.paper.specs.Sorts.{CASE, CONST, DEFAULT, DO, ELSE, ELSEIF, ENDFOR, E
 use Rattle.paper.specs.Words.{wordLimit}
 use Rattle.paper.specs.Expressions.{parts, nestings, relations, conjunctions, disjunctions, levelOf, standsBefore, isLiteral, isType, startsData, startsRoutine, startsSimple, startsStatement}
 use Rattle.layout.specs.Rules.{noForm, deepNesting}
-use Rattle.store_cells.specs.Words.{wordsOf}
+use Rattle.store_cells.specs.Cells.{cellsOf}
 use Rattle.check_form.specs.declared.Read.{Read}
 use Rattle.check_form.specs.declared.Read.the-variants.{Upto, Refused}
 use Rattle.check_form.specs.declared.Part.{Part}
@@ -24,7 +24,7 @@ pub record Lent (code : List ℕ) (words : ℕ) : Type 0 where
 
 -- The sorts of the words that lie in the code: two cells a word, the sort in the low byte of the first.
 unfoldable pub sortsIn : (code : List ℕ) → (words : ℕ) → (i : ℕ) → ℕ
-sortsIn code words i = if ltb i words then getD (wordsOf code) (2 * i) 0 % 256 else NOTHING
+sortsIn code words i = if ltb i words then getD (cellsOf code) (2 * i) 0 % 256 else NOTHING
 
 -- What is read on from where a reading ended.
 infixl 2 _▸_

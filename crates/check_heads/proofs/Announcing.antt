@@ -14,7 +14,7 @@ use Rattle.paper.specs.Trees.{Declared}
 use Rattle.paper.specs.Expressions.{startsData}
 use Rattle.paper.specs.Names.{Meaning, unknown, Text, Names, textOf, lookIn, protected, sortIn, spelled, isAmong}
 use Rattle.paper.specs.Declarations.{dataTexts}
-use Rattle.store_cells.specs.Words.{wordsOf, Put}
+use Rattle.store_cells.specs.Cells.{cellsOf, Put}
 use Rattle.store_cells.proofs.Kept.{put-same, put-other}
 use Rattle.code.specs.Cells.{opAt}
 use Rattle.check_names.specs.Numbers.{numberOf, IsName}
@@ -121,7 +121,7 @@ pub record DataLeft {code values₀ : List ℕ} {at : ℕ} (g : DataStand code v
   pub form : DeclarationsAt (sortIn (g .W)) (Parses (sortIn (g .W))) rest i (g .to)
   pub done : List Text
   pub whole : (u : Text) → isAmong (dataTexts (g .W) (g .ds)) u ≡ (isAmong (dataTexts (g .W) rest) u || isAmong done u)
-  pub cells : (j : ℕ) → IsName (g .W) j → cellFor (g .W) (wordsOf values) j ≡ dataCell done (spelled (g .W) j)
+  pub cells : (j : ℕ) → IsName (g .W) j → cellFor (g .W) (cellsOf values) j ≡ dataCell done (spelled (g .W) j)
   pub kept : Kept values₀ values firstMeaning storeCells
 
 pub record DataPlain (code values₀ values : List ℕ) (i : ℕ) : Type 0 where
@@ -147,7 +147,7 @@ module _ {code values₀ : List ℕ} {at : ℕ} (g : DataStand code values₀ at
   }
 
   -- ---- the next declaration
-  module _ (s : ℕ) (e : s ≡ opAt (wordsOf code) i) (b : Bool) (f : b ≡ startsData s) where
+  module _ (s : ℕ) (e : s ≡ opAt (cellsOf code) i) (b : Bool) (f : b ≡ startsData s) where
     sort-is : s ≡ sortIn (g .W) i
     sort-is = e ∙ g .lain .sorts i here
 
@@ -180,7 +180,7 @@ module _ {code values₀ : List ℕ} {at : ℕ} (g : DataStand code values₀ at
       end-inside : next-one .one .end < length (g .W)
       end-inside = omega (arith, g .inside, next-one .one .after, declarations-grow (sortIn (g .W)) (Parses (sortIn (g .W))) (expression-grows (sortIn (g .W))) (next-one .more))
 
-      end-is : isOneOf 4 4 (opAt (wordsOf code) (next-one .one .end)) ≡ true
+      end-is : isOneOf 4 4 (opAt (cellsOf code) (next-one .one .end)) ≡ true
       unfolding isOneOf
       end-is = rw (g .lain .sorts (next-one .one .end) end-inside ∙ next-one .one .ends)
 
@@ -190,7 +190,7 @@ module _ {code values₀ : List ℕ} {at : ℕ} (g : DataStand code values₀ at
       pub data-has : Has code (i + 2) 4 4
       data-has = record { n = next-one .one .end; from = omega (arith, behind); room = omega (arith, end-inside, g .lain .room, g .lain .most); is = end-is }
 
-      none-before : (k : ℕ) → i + 2 ≤ k → k < next-one .one .end → isOneOf 4 4 (opAt (wordsOf code) k) ≡ false
+      none-before : (k : ℕ) → i + 2 ≤ k → k < next-one .one .end → isOneOf 4 4 (opAt (cellsOf code) k) ≡ false
       unfolding isOneOf noSemicolon
       none-before k a u =
           by-less k (i + 3)
@@ -206,12 +206,12 @@ module _ {code values₀ : List ℕ} {at : ℕ} (g : DataStand code values₀ at
         text : Text
         text = spelled (g .W) (i + 2)
 
-        number-is : numberAt (wordsOf code) (i + 2) ≡ numberOf (g .W) (i + 2)
+        number-is : numberAt (cellsOf code) (i + 2) ≡ numberOf (g .W) (i + 2)
         number-is = g .lain .numbers (i + 2) is-name
 
-        cell-is : meaningAt (wordsOf code) (wordsOf values) (i + 2) ≡ dataCell (l .done) text
+        cell-is : meaningAt (cellsOf code) (cellsOf values) (i + 2) ≡ dataCell (l .done) text
         unfolding text
-        cell-is = ap (λ (n : ℕ). getD (wordsOf values) (firstMeaning + n) 0) number-is ∙ l .cells (i + 2) is-name
+        cell-is = ap (λ (n : ℕ). getD (cellsOf values) (firstMeaning + n) 0) number-is ∙ l .cells (i + 2) is-name
 
         number-low : numberOf (g .W) (i + 2) < numberLimit
         number-low = omega (arith, number-most (g .W) (i + 2) is-name, name-inside (g .W) (i + 2) is-name, g .lain .most)
@@ -220,23 +220,23 @@ module _ {code values₀ : List ℕ} {at : ℕ} (g : DataStand code values₀ at
         cell-room = omega (arith, number-low, l .kept .long, g .room)
 
         record Told : Type 0 where
-          pub cells : (j : ℕ) → IsName (g .W) j → cellFor (g .W) (wordsOf values′) j ≡ dataCell (text ∷ l .done) (spelled (g .W) j)
+          pub cells : (j : ℕ) → IsName (g .W) j → cellFor (g .W) (cellsOf values′) j ≡ dataCell (text ∷ l .done) (spelled (g .W) j)
           pub kept : Kept values₀ values′ firstMeaning storeCells
 
         told : Told
         unfolding text
         told =
-            by-same (meaningAt (wordsOf code) (wordsOf values) (i + 2)) 0
+            by-same (meaningAt (cellsOf code) (cellsOf values) (i + 2)) 0
             (λ z. let p : Put values values′ (firstMeaning + numberOf (g .W) (i + 2)) 1 = subst (λ (n : ℕ). Put values values′ (firstMeaning + n) 1) number-is (k .free z) in record {
               cells = λ j n. by-same (numberOf (g .W) j) (numberOf (g .W) (i + 2))
-                  (λ y. ap (λ (x : ℕ). getD (wordsOf values′) (firstMeaning + x) 0) y ∙ put-same p cell-room
+                  (λ y. ap (λ (x : ℕ). getD (cellsOf values′) (firstMeaning + x) 0) y ∙ put-same p cell-room
                   ∙ sym (ap (dataCell (text ∷ l .done)) (numbers-same (g .W) j (i + 2) n is-name y) ∙ cell-new (l .done) text (free-protected (l .done) text (sym cell-is ∙ z))))
                   (λ d. put-other p cell-room (firstMeaning + numberOf (g .W) j) (λ y. d (omega arith)) ∙ l .cells j n
                   ∙ sym (cell-further (l .done) text (spelled (g .W) j) (texts-differ text (spelled (g .W) j) (λ y. d (spellings-same (g .W) j (i + 2) (sym y))))));
               kept = kept-on (l .kept) (put-kept firstMeaning storeCells p cell-room (omega arith) (omega (arith, number-low)));
             })
             (λ d. record {
-              cells = λ j n. ap (λ (v : List ℕ). cellFor (g .W) (wordsOf v) j) (k .taken d) ∙ l .cells j n ∙ sym (cell-taken (l .done) text (λ z. d (cell-is ∙ z)) (spelled (g .W) j));
+              cells = λ j n. ap (λ (v : List ℕ). cellFor (g .W) (cellsOf v) j) (k .taken d) ∙ l .cells j n ∙ sym (cell-taken (l .done) text (λ z. d (cell-is ∙ z)) (spelled (g .W) j));
               kept = subst (λ (v : List ℕ). Kept values₀ v firstMeaning storeCells) (sym (k .taken d)) (l .kept);
             })
 
@@ -271,7 +271,7 @@ data-start code values at g = record { plain = data-plain g values at (starts g)
       kept = kept-same values firstMeaning storeCells;
     }
 
-module _ (code values₀ : List ℕ) (at : ℕ) (g : DataStand code values₀ at) (values : List ℕ) (i : ℕ) (l : DataGo code values₀ at values i) (s : ℕ) (e : s ≡ opAt (wordsOf code) i) (b : Bool) (f : b ≡ startsData s) where
+module _ (code values₀ : List ℕ) (at : ℕ) (g : DataStand code values₀ at) (values : List ℕ) (i : ℕ) (l : DataGo code values₀ at values i) (s : ℕ) (e : s ≡ opAt (cellsOf code) i) (b : Bool) (f : b ≡ startsData s) where
   pub data-done : not b ≡ true → Data code values₀ at values i
   data-done t = record { is = λ g. data-end g values i (l .left g) s e b f (not-true b t) }
 

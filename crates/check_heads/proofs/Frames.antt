@@ -12,7 +12,7 @@ use Rattle.laws.proofs.Tests.{test, by-same, false-true}
 use Rattle.paper.specs.Sorts.{folded}
 use Rattle.paper.specs.Words.{Word}
 use Rattle.paper.specs.Expressions.{isType, startsRoutine}
-use Rattle.store_cells.specs.Words.{wordsOf, Put}
+use Rattle.store_cells.specs.Cells.{cellsOf, Put}
 use Rattle.store_cells.proofs.Laws.{words-take, words-drop}
 use Rattle.store_cells.proofs.Kept.{put-length, put-take, put-drop, put-same, put-other}
 use Rattle.code.specs.Cells.{opIn, valueIn, headAt, tailAt, opAt, valueAt}
@@ -22,18 +22,18 @@ use Rattle.check_heads.specs.Stores.{Kept, isValued, Marked, Valued, Lai
 
 -- ---- cells outside
 module _ {before after : List ℕ} {from to : ℕ} (k : Kept before after from to) where
-  pub cell-below : (i : ℕ) → i < from → getD (wordsOf after) i 0 ≡ getD (wordsOf before) i 0
+  pub cell-below : (i : ℕ) → i < from → getD (cellsOf after) i 0 ≡ getD (cellsOf before) i 0
   cell-below i h =
-      let t : take from (wordsOf after) ≡ take from (wordsOf before) = sym (words-take from after) ∙ ap wordsOf (k .below) ∙ words-take from before in
-      sym (getD-take from (wordsOf after) i 0 h) ∙ ap (λ (l : List ℕ). getD l i 0) t ∙ getD-take from (wordsOf before) i 0 h
+      let t : take from (cellsOf after) ≡ take from (cellsOf before) = sym (words-take from after) ∙ ap cellsOf (k .below) ∙ words-take from before in
+      sym (getD-take from (cellsOf after) i 0 h) ∙ ap (λ (l : List ℕ). getD l i 0) t ∙ getD-take from (cellsOf before) i 0 h
 
-  pub cell-above : (i : ℕ) → to ≤ i → getD (wordsOf after) i 0 ≡ getD (wordsOf before) i 0
+  pub cell-above : (i : ℕ) → to ≤ i → getD (cellsOf after) i 0 ≡ getD (cellsOf before) i 0
   cell-above i h =
-      let t : drop to (wordsOf after) ≡ drop to (wordsOf before) = sym (words-drop to after) ∙ ap wordsOf (k .above) ∙ words-drop to before in
+      let t : drop to (cellsOf after) ≡ drop to (cellsOf before) = sym (words-drop to after) ∙ ap cellsOf (k .above) ∙ words-drop to before in
       let s : to + (i - to) ≡ i = omega arith in
-      sym (ap (λ (n : ℕ). getD (wordsOf after) n 0) s) ∙ sym (getD-drop to (wordsOf after) (i - to) 0)
+      sym (ap (λ (n : ℕ). getD (cellsOf after) n 0) s) ∙ sym (getD-drop to (cellsOf after) (i - to) 0)
       ∙ ap (λ (l : List ℕ). getD l (i - to) 0) t
-      ∙ getD-drop to (wordsOf before) (i - to) 0 ∙ ap (λ (n : ℕ). getD (wordsOf before) n 0) s
+      ∙ getD-drop to (cellsOf before) (i - to) 0 ∙ ap (λ (n : ℕ). getD (cellsOf before) n 0) s
 
   pub kept-wider : (a b : ℕ) → a ≤ from → to ≤ b → Kept before after a b
   kept-wider a b h g =
@@ -71,14 +71,14 @@ module _ {before after : List ℕ} {from to : ℕ} (p : Marked before after from
   pub marked-wider : (a b : ℕ) → a ≤ from → to ≤ b → Marked before after a b
   marked-wider a b h g = record { kept = kept-wider (p .kept) (a * 2) (b * 2) (omega arith) (omega arith); ops = p .ops; heads = p .heads; tails = p .tails }
 
-  pub head-below : (i : ℕ) → i < from → headAt (wordsOf after) i ≡ headAt (wordsOf before) i
+  pub head-below : (i : ℕ) → i < from → headAt (cellsOf after) i ≡ headAt (cellsOf before) i
   head-below i h = cell-below (p .kept) (i * 2) (omega arith)
 
-  pub head-above : (i : ℕ) → to ≤ i → headAt (wordsOf after) i ≡ headAt (wordsOf before) i
+  pub head-above : (i : ℕ) → to ≤ i → headAt (cellsOf after) i ≡ headAt (cellsOf before) i
   head-above i h = cell-above (p .kept) (i * 2) (omega arith)
 
   -- the words are still known
-  name-head : (W : List Word) → Lain W before → (i : ℕ) → IsName W i → headAt (wordsOf after) i ≡ headAt (wordsOf before) i
+  name-head : (W : List Word) → Lain W before → (i : ℕ) → IsName W i → headAt (cellsOf after) i ≡ headAt (cellsOf before) i
   unfolding isValued isType startsRoutine
   name-head W l i n = p .heads i (ap isValued (l .sorts i (name-inside W i n) ∙ n))
 
@@ -92,36 +92,36 @@ module _ {before after : List ℕ} {from to : ℕ} (p : Marked before after from
 
   pub spells-kept : (text : List ℕ) (W : List Word) → Lain W before → Spells text W before → Spells text W after
   spells-kept text W l s = record {
-    inside = λ i n. subst (λ (x : ℕ). x % linkPart + headAt (wordsOf after) i / 256 / spelledPart ≤ length text) (sym (p .tails i))
-        (subst (λ (x : ℕ). tailAt (wordsOf before) i % linkPart + x / 256 / spelledPart ≤ length text) (sym (name-head W l i n)) (s .inside i n));
+    inside = λ i n. subst (λ (x : ℕ). x % linkPart + headAt (cellsOf after) i / 256 / spelledPart ≤ length text) (sym (p .tails i))
+        (subst (λ (x : ℕ). tailAt (cellsOf before) i % linkPart + x / 256 / spelledPart ≤ length text) (sym (name-head W l i n)) (s .inside i n));
     is = λ i n. ap₂ (λ (x y : ℕ). map folded (take (y / 256 / spelledPart) (drop (x % linkPart) text))) (p .tails i) (name-head W l i n) ∙ s .is i n;
   }
 
 -- ---- a value is given
 module _ {before after : List ℕ} (i v : ℕ) (p : Valued before after i v) (room : i * 8 + 8 ≤ length before) where
-  head-is : headAt (wordsOf after) i ≡ opAt (wordsOf before) i + 256 * v
+  head-is : headAt (cellsOf after) i ≡ opAt (cellsOf before) i + 256 * v
   head-is = put-same p (omega arith)
 
-  pub valued-value : valueAt (wordsOf after) i ≡ v
-  valued-value = ap valueIn head-is ∙ high (headAt (wordsOf before) i) v
+  pub valued-value : valueAt (cellsOf after) i ≡ v
+  valued-value = ap valueIn head-is ∙ high (headAt (cellsOf before) i) v
     where
       high : (w v : ℕ) → (w % 256 + 256 * v) / 256 ≡ v
       high w v = omega arith
 
-  pub valued-op : opAt (wordsOf after) i ≡ opAt (wordsOf before) i
-  valued-op = ap opIn head-is ∙ low (headAt (wordsOf before) i) v
+  pub valued-op : opAt (cellsOf after) i ≡ opAt (cellsOf before) i
+  valued-op = ap opIn head-is ∙ low (headAt (cellsOf before) i) v
     where
       low : (w v : ℕ) → (w % 256 + 256 * v) % 256 ≡ w % 256
       low w v = omega arith
 
-  pub valued-other : (j : ℕ) → (j ≡ i → ⊥) → headAt (wordsOf after) j ≡ headAt (wordsOf before) j
+  pub valued-other : (j : ℕ) → (j ≡ i → ⊥) → headAt (cellsOf after) j ≡ headAt (cellsOf before) j
   valued-other j d = put-other p (omega arith) (j * 2) (λ e. d (omega arith))
 
-  pub valued-marked : isValued (opAt (wordsOf before) i) ≡ true → Marked before after i (i + 1)
+  pub valued-marked : isValued (opAt (cellsOf before) i) ≡ true → Marked before after i (i + 1)
   valued-marked h = record {
     kept = put-kept (i * 2) ((i + 1) * 2) p (omega arith) (omega arith) (omega arith);
     ops = λ j. by-same j i (λ e. rw e valued-op) (λ d. ap opIn (valued-other j d));
-    heads = λ j z. by-same j i (λ e. false-true (sym z ∙ ap (λ (k : ℕ). isValued (opAt (wordsOf before) k)) e ∙ h)) (λ d. valued-other j d);
+    heads = λ j z. by-same j i (λ e. false-true (sym z ∙ ap (λ (k : ℕ). isValued (opAt (cellsOf before) k)) e ∙ h)) (λ d. valued-other j d);
     tails = λ j. put-other p (omega arith) (j * 2 + 1) (λ e. omega arith);
   }
 

@@ -17,7 +17,7 @@ use Rattle.paper.specs.Expressions.{isType, startsRoutine}
 use Rattle.paper.specs.Names.{DataType, refusedPiece, typeOf, sortIn}
 use Rattle.paper.specs.Declarations.{routineLimit, resultAsked}
 use Rattle.paper.specs.Checks.{isSome}
-use Rattle.store_cells.specs.Words.{wordsOf}
+use Rattle.store_cells.specs.Cells.{cellsOf}
 use Rattle.code.specs.Cells.{headAt, opAt, valueAt}
 use Rattle.code.specs.Signatures.{typeAt, typesAt, firstParameter, resultAt, headIn, signatureIn}
 use Rattle.code.proofs.Signatures.{type-kept, types-kept}
@@ -92,10 +92,10 @@ module _ (W : List Word) (r : Routine) (h to : ℕ) (form : RoutineAt (sortIn W)
     room : h * 8 + 16 ≤ length code
     room = omega (arith, end-inside, close-inside, name-before, name-behind, lain .room, lain .most)
 
-    op-is : opAt (wordsOf code) h ≡ sortIn W h
+    op-is : opAt (cellsOf code) h ≡ sortIn W h
     op-is = lain .sorts h (omega (arith, end-inside, close-inside, name-before, name-behind))
 
-    second-is : opAt (wordsOf code) (h + 1) ≡ sortIn W (h + 1)
+    second-is : opAt (cellsOf code) (h + 1) ≡ sortIn W (h + 1)
     second-is = lain .sorts (h + 1) (omega (arith, end-inside, close-inside, name-before, name-behind))
 
     pub name-is : n ≡ r .name
@@ -109,16 +109,16 @@ module _ (W : List Word) (r : Routine) (h to : ℕ) (form : RoutineAt (sortIn W)
         (λ d. subst (λ (c : List ℕ). Marked code c h (r .name)) (sym (named .plain (λ z. d (sym op-is ∙ z)))) (marked-same code h (r .name)))
 
     -- the result's type
-    result-is : (C : List ℕ) → opAt C h ≡ sortIn W h → headAt C (h + 1) ≡ headAt (wordsOf code₁) (h + 1) → resultAt C h ≡ resultAsked W k (r .result)
+    result-is : (C : List ℕ) → opAt C h ≡ sortIn W h → headAt C (h + 1) ≡ headAt (cellsOf code₁) (h + 1) → resultAt C h ≡ resultAsked W k (r .result)
     unfolding resultAt resultAsked
     result-is C e q =
         by-same (sortIn W h) FUNC
         (λ f. rw (eq-eqb (opAt C h) FUNC (e ∙ f), func f .is)
-        (ap some (type-kept (wordsOf code₁) C (h + 1) q ∙ typed f ∙ ap (λ (b : Bool). if b then refusedPiece else typeOf (sortIn W (h + 1))) (sym (crosses-one routineLimit k)))))
+        (ap some (type-kept (cellsOf code₁) C (h + 1) q ∙ typed f ∙ ap (λ (b : Bool). if b then refusedPiece else typeOf (sortIn W (h + 1))) (sym (crosses-one routineLimit k)))))
         (λ d. rw (ne-eqb (opAt C h) FUNC (λ z. d (sym e ∙ z)), proc d .is))
       where
-        typed : sortIn W h ≡ FUNC → typeAt (wordsOf code₁) (h + 1) ≡ (if eqb k routineLimit then refusedPiece else typeOf (sortIn W (h + 1)))
-        typed f = type-of (wordsOf code₁) (h + 1) (eqb k routineLimit) (sortIn W (h + 1)) (valued-value (h + 1) _ (named .function (op-is ∙ f)) (omega (arith, room))) (valued-op (h + 1) _ (named .function (op-is ∙ f)) (omega (arith, room)) ∙ second-is)
+        typed : sortIn W h ≡ FUNC → typeAt (cellsOf code₁) (h + 1) ≡ (if eqb k routineLimit then refusedPiece else typeOf (sortIn W (h + 1)))
+        typed f = type-of (cellsOf code₁) (h + 1) (eqb k routineLimit) (sortIn W (h + 1)) (valued-value (h + 1) _ (named .function (op-is ∙ f)) (omega (arith, room))) (valued-op (h + 1) _ (named .function (op-is ∙ f)) (omega (arith, room)) ∙ second-is)
 
 -- ---- its parts
 module _ (code values : List ℕ) (h k : ℕ) (g : RoutineStands code values h k) where
@@ -170,34 +170,34 @@ module _ (code values : List ℕ) (h k : ℕ) (g : RoutineStands code values h k
       room₂ : h * 8 + 8 ≤ length code₂
       room₂ = omega (arith, long, head-room)
 
-      op₂ : opAt (wordsOf code₂) h ≡ sortIn (g .W) h
+      op₂ : opAt (cellsOf code₂) h ≡ sortIn (g .W) h
       op₂ = second .ops h ∙ op-is (g .W) (g .r) h (g .to) (g .form) k code (g .lain) code₁ n named
 
-      op₃ : opAt (wordsOf code₃) h ≡ sortIn (g .W) h
+      op₃ : opAt (cellsOf code₃) h ≡ sortIn (g .W) h
       op₃ = valued-op h count v room₂ ∙ op₂
 
-      value₃ : valueAt (wordsOf code₃) h ≡ count
+      value₃ : valueAt (cellsOf code₃) h ≡ count
       value₃ = valued-value h count v room₂
 
-      second₃ : headAt (wordsOf code₃) (h + 1) ≡ headAt (wordsOf code₁) (h + 1)
+      second₃ : headAt (cellsOf code₃) (h + 1) ≡ headAt (cellsOf code₁) (h + 1)
       second₃ =
           valued-other h count v room₂ (h + 1) (λ e. omega arith)
           ∙ head-below (p .marked) (h + 1) (omega (arith, name-behind (g .W) (g .r) h (g .to) (g .form), named-is))
 
-      from₃ : firstParameter (wordsOf code₃) h ≡ n + 2
-      from₃ = params-from (g .W) (g .r) h (g .to) (g .form) (wordsOf code₃) op₃ ∙ ap (λ (x : ℕ). x + 2) (sym named-is)
+      from₃ : firstParameter (cellsOf code₃) h ≡ n + 2
+      from₃ = params-from (g .W) (g .r) h (g .to) (g .form) (cellsOf code₃) op₃ ∙ ap (λ (x : ℕ). x + 2) (sym named-is)
 
-      types₃ : typesAt (wordsOf code₃) (valueAt (wordsOf code₃) h) (firstParameter (wordsOf code₃) h) ≡ givenTypes (g .W) [] 0 (t .parameters)
+      types₃ : typesAt (cellsOf code₃) (valueAt (cellsOf code₃) h) (firstParameter (cellsOf code₃) h) ≡ givenTypes (g .W) [] 0 (t .parameters)
       types₃ =
-          ap₂ (typesAt (wordsOf code₃)) value₃ from₃
-          ∙ types-kept (wordsOf code₂) (wordsOf code₃) (n + 2) count (λ j a b. valued-other h count v room₂ j (λ e. omega (arith, name-behind (g .W) (g .r) h (g .to) (g .form), named-is)))
+          ap₂ (typesAt (cellsOf code₃)) value₃ from₃
+          ∙ types-kept (cellsOf code₂) (cellsOf code₃) (n + 2) count (λ j a b. valued-other h count v room₂ j (λ e. omega (arith, name-behind (g .W) (g .r) h (g .to) (g .form), named-is)))
           ∙ p .types
 
-      head₃ : headFor t ≡ headIn (wordsOf code₃) h
+      head₃ : headFor t ≡ headIn (cellsOf code₃) h
       unfolding headFor headIn
       head₃ =
           ap₂ (λ (w n : ℕ). record { word = w; parameters = n; function = isSome (t .result) }) (word-at (sortIn (g .W)) t h (g .to) (g .form)) (sym (value₃ ∙ p .count))
-          ∙ ap (λ (b : Bool). record { word = h; parameters = valueAt (wordsOf code₃) h; function = b }) (function-is (g .W) t h (g .to) (g .form) (wordsOf code₃) op₃)
+          ∙ ap (λ (b : Bool). record { word = h; parameters = valueAt (cellsOf code₃) h; function = b }) (function-is (g .W) t h (g .to) (g .form) (cellsOf code₃) op₃)
 
       all : RoutineKnown (g .W) (g .r) (g .to) code values h k code₃ values′ n
       unfolding signatureIn givenSignature
@@ -205,7 +205,7 @@ module _ (code values : List ℕ) (h k : ℕ) (g : RoutineStands code values h k
         name = named-is;
         head = head₃;
         signature = ap₂ (λ (o : Option DataType) (l : List DataType). record { result = o; parameters = l })
-            (result-is (g .W) (g .r) h (g .to) (g .form) k code (g .lain) code₁ n named (wordsOf code₃) op₃ second₃) types₃;
+            (result-is (g .W) (g .r) h (g .to) (g .form) k code (g .lain) code₁ n named (cellsOf code₃) op₃ second₃) types₃;
         ends = omega (arith, from₃, value₃, p .ends, close-inside (g .W) (g .r) h (g .to) (g .form), g .form .after);
         marked = marked-on second (marked-wider (valued-marked h count v room₂ (valued-routine _ (ap startsRoutine op₂ ∙ starts-head (g .form .head)))) h (g .to) (omega arith)
             (omega (arith, name-behind (g .W) (g .r) h (g .to) (g .form), name-before (g .W) (g .r) h (g .to) (g .form), close-inside (g .W) (g .r) h (g .to) (g .form), g .form .after)));

@@ -15,7 +15,7 @@ use Rattle.paper.specs.Words.{Word, wordLimit}
 use Rattle.paper.specs.Trees.{Parameter}
 use Rattle.paper.specs.Expressions.{isType}
 use Rattle.paper.specs.Names.{DataType, refusedPiece, typeOf, Text, noWord, nth, sortIn, spelled, isAmong, cannotDeclare}
-use Rattle.store_cells.specs.Words.{wordsOf, Put}
+use Rattle.store_cells.specs.Cells.{cellsOf, Put}
 use Rattle.store_cells.proofs.Kept.{put-same, put-other}
 use Rattle.code.specs.Cells.{opAt, valueAt}
 use Rattle.code.specs.Signatures.{typeAt, typesAt}
@@ -56,10 +56,10 @@ pub record ParamsLeft {code₀ values₀ : List ℕ} {h at : ℕ} (g : Parameter
   pub form : SeparatedAt (sortIn (g .W)) (ParameterAt (sortIn (g .W)) (Parses (sortIn (g .W)))) rest i (g .close)
   pub earlier : List Text
   pub place : i ≡ at + 3 * count
-  pub left : givenTypes (g .W) [] 0 (g .ps) ≡ typesAt (wordsOf code) count at ++ givenTypes (g .W) earlier count rest
+  pub left : givenTypes (g .W) [] 0 (g .ps) ≡ typesAt (cellsOf code) count at ++ givenTypes (g .W) earlier count rest
   pub many : length (g .ps) ≡ count + length rest
-  pub seen : (j : ℕ) → IsName (g .W) j → isAmong earlier (spelled (g .W) j) ≡ eqb (getD (wordsOf values) (numberOf (g .W) j) 0) h
-  pub guards : (j : ℕ) → IsName (g .W) j → protectsCell (cellFor (g .W) (wordsOf values) j) ≡ isProtected (spelled (g .W) j)
+  pub seen : (j : ℕ) → IsName (g .W) j → isAmong earlier (spelled (g .W) j) ≡ eqb (getD (cellsOf values) (numberOf (g .W) j) 0) h
+  pub guards : (j : ℕ) → IsName (g .W) j → protectsCell (cellFor (g .W) (cellsOf values) j) ≡ isProtected (spelled (g .W) j)
   pub marked : Marked code₀ code at (g .close)
   pub kept : Kept values₀ values 0 (g .close)
   pub sees : Sees values₀ values h
@@ -124,7 +124,7 @@ module _ {code₀ values₀ : List ℕ} {h at : ℕ} (g : ParametersStand code�
   room : i * 8 + 8 ≤ length code
   room = omega (arith, lain .room, inside, bounds)
 
-  number-is : numberAt (wordsOf code) (i + 1) ≡ numberOf (g .W) (i + 1)
+  number-is : numberAt (cellsOf code) (i + 1) ≡ numberOf (g .W) (i + 1)
   number-is = lain .numbers (i + 1) is-name
 
   number-low : numberOf (g .W) (i + 1) ≤ i + 1
@@ -136,45 +136,45 @@ module _ {code₀ values₀ : List ℕ} {h at : ℕ} (g : ParametersStand code�
   put-room : numberOf (g .W) (i + 1) * 4 + 4 ≤ length values
   put-room = omega (arith, l .kept .long, g .room, number-low, inside, bounds)
 
-  refused-is : refuses (meaningAt (wordsOf code) (wordsOf values) (i + 1)) (getD (wordsOf values) (numberAt (wordsOf code) (i + 1)) 0) h count ≡ (cannotDeclare (l .earlier) text || eqb count 64)
+  refused-is : refuses (meaningAt (cellsOf code) (cellsOf values) (i + 1)) (getD (cellsOf values) (numberAt (cellsOf code) (i + 1)) 0) h count ≡ (cannotDeclare (l .earlier) text || eqb count 64)
   unfolding refuses cannotDeclare text
   refused-is =
-      ap₂ (λ (x y : Bool). (x || y) || eqb count 64) (ap (λ (n : ℕ). protectsCell (getD (wordsOf values) (firstMeaning + n) 0)) number-is ∙ l .guards (i + 1) is-name)
-      (ap (λ (n : ℕ). eqb (getD (wordsOf values) n 0) h) number-is ∙ sym (l .seen (i + 1) is-name))
+      ap₂ (λ (x y : Bool). (x || y) || eqb count 64) (ap (λ (n : ℕ). protectsCell (getD (cellsOf values) (firstMeaning + n) 0)) number-is ∙ l .guards (i + 1) is-name)
+      (ap (λ (n : ℕ). eqb (getD (cellsOf values) n 0) h) number-is ∙ sym (l .seen (i + 1) is-name))
 
-  type-is : typeAt (wordsOf code′) i ≡ (if cannotDeclare (l .earlier) text || eqb count 64 then refusedPiece else typeOf (first .a .type))
+  type-is : typeAt (cellsOf code′) i ≡ (if cannotDeclare (l .earlier) text || eqb count 64 then refusedPiece else typeOf (first .a .type))
   unfolding typeAt
   type-is =
-      type-marked (valueAt (wordsOf code′) i) (opAt (wordsOf code′) i) (cannotDeclare (l .earlier) text || eqb count 64) (valued-value i _ (k .mark) room ∙ ap markOf refused-is)
+      type-marked (valueAt (cellsOf code′) i) (opAt (cellsOf code′) i) (cannotDeclare (l .earlier) text || eqb count 64) (valued-value i _ (k .mark) room ∙ ap markOf refused-is)
       ∙ ap (λ (s : ℕ). if cannotDeclare (l .earlier) text || eqb count 64 then refusedPiece else typeOf s)
       (valued-op i _ (k .mark) room ∙ lain .sorts i (omega (arith, inside, bounds)) ∙ sym (first .one .type))
 
-  types-so-far : typesAt (wordsOf code′) count at ≡ typesAt (wordsOf code) count at
-  types-so-far = types-kept (wordsOf code) (wordsOf code′) at count (λ j a b. valued-other i _ (k .mark) room j (λ e. omega (arith, l .place)))
+  types-so-far : typesAt (cellsOf code′) count at ≡ typesAt (cellsOf code) count at
+  types-so-far = types-kept (cellsOf code) (cellsOf code′) at count (λ j a b. valued-other i _ (k .mark) room j (λ e. omega (arith, l .place)))
 
-  types-then : typesAt (wordsOf code′) (count + 1) at ≡ typesAt (wordsOf code) count at ++ (typeAt (wordsOf code′) i ∷ [])
+  types-then : typesAt (cellsOf code′) (count + 1) at ≡ typesAt (cellsOf code) count at ++ (typeAt (cellsOf code′) i ∷ [])
   types-then =
-      ap (λ (n : ℕ). typesAt (wordsOf code′) n at) (add-one count) ∙ types-more (wordsOf code′) at count
-      ∙ ap₂ (λ (a : List DataType) (b : ℕ). a ++ (typeAt (wordsOf code′) b ∷ [])) types-so-far (sym (l .place))
+      ap (λ (n : ℕ). typesAt (cellsOf code′) n at) (add-one count) ∙ types-more (cellsOf code′) at count
+      ∙ ap₂ (λ (a : List DataType) (b : ℕ). a ++ (typeAt (cellsOf code′) b ∷ [])) types-so-far (sym (l .place))
 
   name-is : first .a .name ≡ i + 1
   name-is = first .one .named
 
-  left-then : givenTypes (g .W) [] 0 (g .ps) ≡ typesAt (wordsOf code′) (count + 1) at ++ givenTypes (g .W) (text ∷ l .earlier) (count + 1) (first .rest)
+  left-then : givenTypes (g .W) [] 0 (g .ps) ≡ typesAt (cellsOf code′) (count + 1) at ++ givenTypes (g .W) (text ∷ l .earlier) (count + 1) (first .rest)
   unfolding givenTypes text
   left-then =
-      l .left ∙ ap (λ (r : List Parameter). typesAt (wordsOf code) count at ++ givenTypes (g .W) (l .earlier) count r) (first .is)
-      ∙ ap (λ (n : ℕ). typesAt (wordsOf code) count at ++ ((if cannotDeclare (l .earlier) (spelled (g .W) n) || eqb count 64 then refusedPiece else typeOf (first .a .type)) ∷ givenTypes (g .W) (spelled (g .W) n ∷ l .earlier) (count + 1) (first .rest))) name-is
-      ∙ ap (λ (t : DataType). typesAt (wordsOf code) count at ++ (t ∷ givenTypes (g .W) (text ∷ l .earlier) (count + 1) (first .rest))) (sym type-is)
-      ∙ sym (append-assoc (typesAt (wordsOf code) count at) (typeAt (wordsOf code′) i ∷ []) (givenTypes (g .W) (text ∷ l .earlier) (count + 1) (first .rest)))
+      l .left ∙ ap (λ (r : List Parameter). typesAt (cellsOf code) count at ++ givenTypes (g .W) (l .earlier) count r) (first .is)
+      ∙ ap (λ (n : ℕ). typesAt (cellsOf code) count at ++ ((if cannotDeclare (l .earlier) (spelled (g .W) n) || eqb count 64 then refusedPiece else typeOf (first .a .type)) ∷ givenTypes (g .W) (spelled (g .W) n ∷ l .earlier) (count + 1) (first .rest))) name-is
+      ∙ ap (λ (t : DataType). typesAt (cellsOf code) count at ++ (t ∷ givenTypes (g .W) (text ∷ l .earlier) (count + 1) (first .rest))) (sym type-is)
+      ∙ sym (append-assoc (typesAt (cellsOf code) count at) (typeAt (cellsOf code′) i ∷ []) (givenTypes (g .W) (text ∷ l .earlier) (count + 1) (first .rest)))
       ∙ ap (λ (a : List DataType). a ++ givenTypes (g .W) (text ∷ l .earlier) (count + 1) (first .rest)) (sym types-then)
 
-  seen-then : (j : ℕ) → IsName (g .W) j → isAmong (text ∷ l .earlier) (spelled (g .W) j) ≡ eqb (getD (wordsOf values′) (numberOf (g .W) j) 0) h
+  seen-then : (j : ℕ) → IsName (g .W) j → isAmong (text ∷ l .earlier) (spelled (g .W) j) ≡ eqb (getD (cellsOf values′) (numberOf (g .W) j) 0) h
   unfolding isAmong text
   seen-then j n =
       by-same (numberOf (g .W) j) (numberOf (g .W) (i + 1))
       (λ e. rw (texts-same text (spelled (g .W) j) (sym (numbers-same (g .W) j (i + 1) n is-name e)), isAmong)
-      (sym (ap (λ (x : ℕ). eqb (getD (wordsOf values′) x 0) h) e ∙ eq-eqb _ h (put-same put put-room))))
+      (sym (ap (λ (x : ℕ). eqb (getD (cellsOf values′) x 0) h) e ∙ eq-eqb _ h (put-same put put-room))))
       (λ d. rw (texts-differ text (spelled (g .W) j) (λ e. d (spellings-same (g .W) j (i + 1) (sym e))), isAmong)
       (l .seen j n ∙ ap (λ (x : ℕ). eqb x h) (sym (put-other put put-room (numberOf (g .W) j) d))))
 
@@ -183,8 +183,8 @@ module _ {code₀ values₀ : List ℕ} {h at : ℕ} (g : ParametersStand code�
     pub rest : List Parameter
     pub more : sortIn (g .W) (i + 2) ≡ comma → SeparatedAt (sortIn (g .W)) One rest (i + 3) (g .close)
     pub done : (sortIn (g .W) (i + 2) ≡ comma → ⊥) → (rest ≡ []) × (g .close ≡ i + 2)
-    pub sort : (s : ℕ) → s ≡ opAt (wordsOf code′) (i + 2) → s ≡ sortIn (g .W) (i + 2)
-    pub left : givenTypes (g .W) [] 0 (g .ps) ≡ typesAt (wordsOf code′) (count + 1) at ++ givenTypes (g .W) (text ∷ l .earlier) (count + 1) rest
+    pub sort : (s : ℕ) → s ≡ opAt (cellsOf code′) (i + 2) → s ≡ sortIn (g .W) (i + 2)
+    pub left : givenTypes (g .W) [] 0 (g .ps) ≡ typesAt (cellsOf code′) (count + 1) at ++ givenTypes (g .W) (text ∷ l .earlier) (count + 1) rest
     pub many : length (g .ps) ≡ count + 1 + length rest
     pub marked : Marked code₀ code′ at (g .close)
     pub kept : Kept values₀ values′ 0 (g .close)
@@ -194,7 +194,7 @@ module _ {code₀ values₀ : List ℕ} {h at : ℕ} (g : ParametersStand code�
   params-next =
       let z : first .n ≡ i + 2 = first .one .after in
       let y : first .n + 1 ≡ i + 3 = omega (arith, z) in
-      let p = marked-on (l .marked) (marked-wider (valued-marked i _ (k .mark) room (valued-type (opAt (wordsOf code) i) (ap isType (lain .sorts i (omega (arith, inside, bounds))) ∙ first .one .typed))) at (g .close) (omega (arith, l .place)) (omega (arith, inside))) in
+      let p = marked-on (l .marked) (marked-wider (valued-marked i _ (k .mark) room (valued-type (opAt (cellsOf code) i) (ap isType (lain .sorts i (omega (arith, inside, bounds))) ∙ first .one .typed))) at (g .close) (omega (arith, l .place)) (omega (arith, inside))) in
       record {
         rest = first .rest;
         more = λ c. subst (λ (n : ℕ). SeparatedAt (sortIn (g .W)) One (first .rest) n (g .close)) y (first .more (ap (sortIn (g .W)) z ∙ c));
@@ -204,11 +204,11 @@ module _ {code₀ values₀ : List ℕ} {h at : ℕ} (g : ParametersStand code�
         many = l .many ∙ ap (λ (r : List Parameter). count + length r) (first .is) ∙ omega arith;
         marked = p;
         kept = kept-on (l .kept) (put-kept 0 (g .close) put put-room (omega arith) (omega (arith, number-low, inside)));
-        sees = λ b u f n s. by-same n (numberOf (g .W) (i + 1)) (λ e. subst (λ (x : ℕ). x < b) (sym (ap (λ (x : ℕ). getD (wordsOf values′) x 0) e ∙ put-same put put-room)) u)
+        sees = λ b u f n s. by-same n (numberOf (g .W) (i + 1)) (λ e. subst (λ (x : ℕ). x < b) (sym (ap (λ (x : ℕ). getD (cellsOf values′) x 0) e ∙ put-same put put-room)) u)
             (λ d. subst (λ (x : ℕ). x < b) (sym (put-other put put-room n d)) (l .sees b u f n s));
       }
 
-  left-on : (s : ℕ) → s ≡ opAt (wordsOf code′) (i + 2) → s ≡ 5 → ParamsLeft g code′ values′ (i + 3) (count + 1)
+  left-on : (s : ℕ) → s ≡ opAt (cellsOf code′) (i + 2) → s ≡ 5 → ParamsLeft g code′ values′ (i + 3) (count + 1)
   left-on s e c =
       let q = params-next in
       record {
@@ -225,14 +225,14 @@ module _ {code₀ values₀ : List ℕ} {h at : ℕ} (g : ParametersStand code�
         sees = q .sees;
       }
 
-  marked-all : (s : ℕ) → s ≡ opAt (wordsOf code′) (i + 2) → (s ≡ 5 → ⊥) → ParametersMarked (g .W) (g .ps) (g .close) code₀ values₀ h at code′ values′ (count + 1)
+  marked-all : (s : ℕ) → s ≡ opAt (cellsOf code′) (i + 2) → (s ≡ 5 → ⊥) → ParametersMarked (g .W) (g .ps) (g .close) code₀ values₀ h at code′ values′ (count + 1)
   unfolding givenTypes
   marked-all s e c =
       let q = params-next in
       let d = q .done (λ z. c (q .sort s e ∙ z)) in
       record {
         count = sym (q .many ∙ ap (λ (r : List Parameter). count + 1 + length r) (d .0) ∙ omega arith);
-        types = sym (q .left ∙ ap (λ (r : List Parameter). typesAt (wordsOf code′) (count + 1) at ++ givenTypes (g .W) (text ∷ l .earlier) (count + 1) r) (d .0) ∙ nothing (typesAt (wordsOf code′) (count + 1) at));
+        types = sym (q .left ∙ ap (λ (r : List Parameter). typesAt (cellsOf code′) (count + 1) at ++ givenTypes (g .W) (text ∷ l .earlier) (count + 1) r) (d .0) ∙ nothing (typesAt (cellsOf code′) (count + 1) at));
         ends = omega (arith, l .place, d .1);
         marked = q .marked;
         kept = q .kept;
@@ -250,7 +250,7 @@ at-inside code values h at g = let z = closed g in omega (arith, parameters-grow
 pub params-room : (code values : List ℕ) (h at : ℕ) → ParametersStand code values h at → at * 8 + 8 ≤ length code
 params-room code values h at g = omega (arith, at-inside code values h at g, g .lain .room, g .lain .most)
 
-module _ (code values : List ℕ) (h at s : ℕ) (g : ParametersStand code values h at) (e : s ≡ opAt (wordsOf code) at) where
+module _ (code values : List ℕ) (h at s : ℕ) (g : ParametersStand code values h at) (e : s ≡ opAt (cellsOf code) at) where
   sort-is : (g : ParametersStand code values h at) → s ≡ sortIn (g .W) at
   sort-is g = e ∙ g .lain .sorts at (at-inside code values h at g)
 
@@ -289,7 +289,7 @@ module _ (code values : List ℕ) (h at s : ℕ) (g : ParametersStand code value
       }
 
 module _ (code₀ values₀ : List ℕ) (h at : ℕ) (g : ParametersStand code₀ values₀ h at) (code values code′ values′ : List ℕ) (i count s : ℕ) (l : ParamsGo code₀ values₀ h at code values i count)
-    (k : Marks code values h i count code′ values′) (e : s ≡ opAt (wordsOf code′) (i + 2)) where
+    (k : Marks code values h i count code′ values′) (e : s ≡ opAt (cellsOf code′) (i + 2)) where
   pub params-on : s ≡ 5 → ParamsGo code₀ values₀ h at code′ values′ (i + 3) (count + 1)
   params-on c = record {
     plain = params-plain g code′ values′ (i + 3) (count + 1) (left-on g code values code′ values′ i count (l .left g) k s e c);

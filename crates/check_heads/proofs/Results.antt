@@ -14,7 +14,7 @@ use Rattle.paper.specs.Trees.{Routine, Module}
 use Rattle.paper.specs.Expressions.{isType, startsRoutine}
 use Rattle.paper.specs.Names.{Meaning, unknown, variable, array, constant, loop, theRoutine, theErrno, errorNumber, routineIn, Text, Names, nth, sortIn, spelled, lookIn, protected, isAmong, meaning, cannotDeclare}
 use Rattle.paper.specs.Declarations.{dataTexts, routineNames, moduleScopes}
-use Rattle.store_cells.specs.Words.{wordsOf}
+use Rattle.store_cells.specs.Cells.{cellsOf}
 use Rattle.code.specs.Cells.{opAt, valueAt}
 use Rattle.check_names.specs.Numbers.{numberOf, IsName}
 use Rattle.check_names.specs.Meanings.{isProtected}
@@ -33,13 +33,13 @@ use Rattle.check_heads.proofs.Whole.{begins-lain}
 
 -- ---- words
 module _ {text code values code′ values′ : List ℕ} {r : ℕ} (g : Begins text code values) (f : Foretells text code values code′ values′ r (g .stands .words) (g .m)) where
-  pub heads-sorts : (i : ℕ) → i < length (wordsIn text) → opAt (wordsOf code′) i ≡ sortIn (wordsIn text) i
+  pub heads-sorts : (i : ℕ) → i < length (wordsIn text) → opAt (cellsOf code′) i ≡ sortIn (wordsIn text) i
   heads-sorts = lain-kept (f .marked) (wordsIn text) (begins-lain g) .sorts
 
-  pub heads-numbers : (i : ℕ) → IsName (wordsIn text) i → numberAt (wordsOf code′) i ≡ numberOf (wordsIn text) i
+  pub heads-numbers : (i : ℕ) → IsName (wordsIn text) i → numberAt (cellsOf code′) i ≡ numberOf (wordsIn text) i
   heads-numbers = lain-kept (f .marked) (wordsIn text) (begins-lain g) .numbers
 
-  pub heads-values : (i : ℕ) → i < length (wordsIn text) → sortIn (wordsIn text) i ≡ NUMBER → valueAt (wordsOf code′) i ≡ nth (wordsIn text) i .value
+  pub heads-values : (i : ℕ) → i < length (wordsIn text) → sortIn (wordsIn text) i ≡ NUMBER → valueAt (cellsOf code′) i ≡ nth (wordsIn text) i .value
   unfolding headValue isValued isType startsRoutine sortIn
   heads-values i l n =
       ap (λ (x : ℕ). x / 256) (f .marked .heads i (ap isValued (begins-lain g .sorts i l ∙ n)) ∙ g .heads i l)

@@ -18,7 +18,7 @@ use Rattle.paper.specs.Expressions.{startsRoutine}
 use Rattle.paper.specs.Names.{Meaning, unknown, theRoutine, routineIn, Text, sortIn, spelled, lookIn, protected, meaning}
 use Rattle.paper.specs.Declarations.{Signature, dataTexts, routineNames, signature, signatures}
 use Rattle.paper.specs.Checks.{noSignature, isMain, mainIn, mainOf}
-use Rattle.store_cells.specs.Words.{wordsOf, Put, Cleared}
+use Rattle.store_cells.specs.Cells.{cellsOf, Put, Cleared}
 use Rattle.store_cells.proofs.Kept.{put-same, put-other, clear-length, clear-drop, clear-in, clear-above}
 use Rattle.code.specs.Cells.{headAt, opAt, valueAt, placeAt}
 use Rattle.code.specs.Steps.{Head, noHead, numbered}
@@ -144,13 +144,13 @@ pub record RoutinesLeft {text code₀ values₀ : List ℕ} {at : ℕ} (g : Rout
   pub form : RoutinesAt (sortIn (g .W)) (Parses (sortIn (g .W))) rest i (g .end)
   pub dropped : drop k (g .m .routines) ≡ rest
   pub earlier : List Text
-  pub names : NamesLeft (g .W) (g .m) (wordsOf values) earlier k rest main
-  pub headed : (q : ℕ) → q < k → getD (headsFor (g .m .routines)) q noHead ≡ headIn (wordsOf code) (getD (headsFor (g .m .routines)) q noHead .word)
-  pub signed : (q : ℕ) → q < k → signatureIn (wordsOf code) (getD (headsFor (g .m .routines)) q noHead .word) ≡ getD (signatures (g .W) (g .m) 0 (g .m .routines)) q noSignature
-  pub ended : (q : ℕ) → q < k → signatureEnd (wordsOf code) (getD (headsFor (g .m .routines)) q noHead .word) ≤ i
+  pub names : NamesLeft (g .W) (g .m) (cellsOf values) earlier k rest main
+  pub headed : (q : ℕ) → q < k → getD (headsFor (g .m .routines)) q noHead ≡ headIn (cellsOf code) (getD (headsFor (g .m .routines)) q noHead .word)
+  pub signed : (q : ℕ) → q < k → signatureIn (cellsOf code) (getD (headsFor (g .m .routines)) q noHead .word) ≡ getD (signatures (g .W) (g .m) 0 (g .m .routines)) q noSignature
+  pub ended : (q : ℕ) → q < k → signatureEnd (cellsOf code) (getD (headsFor (g .m .routines)) q noHead .word) ≤ i
   -- what was seen, and where nothing was
-  pub low : (n : ℕ) → n < wordLimit → getD (wordsOf values) n 0 < i
-  pub untouched : (n : ℕ) → i ≤ n → n < wordLimit → getD (wordsOf values) n 0 ≡ 0
+  pub low : (n : ℕ) → n < wordLimit → getD (cellsOf values) n 0 < i
+  pub untouched : (n : ℕ) → i ≤ n → n < wordLimit → getD (cellsOf values) n 0 ≡ 0
   pub marked : Marked code₀ code at i
   pub kept : Kept values₀ values 0 storeCells
   pub main-low : main ≤ i
@@ -194,45 +194,45 @@ module _ {text code₀ values₀ : List ℕ} {at : ℕ} (g : RoutinesStand text 
   lain : Lain W code
   lain = lain-kept (l .marked) W (g .lain)
 
-  module _ (s : ℕ) (e : s ≡ opAt (wordsOf code) i) (b : Bool) (f : b ≡ startsRoutine s) where
+  module _ (s : ℕ) (e : s ≡ opAt (cellsOf code) i) (b : Bool) (f : b ≡ startsRoutine s) where
     starts-is : b ≡ startsRoutine (sortIn W i)
     starts-is = f ∙ ap startsRoutine (e ∙ lain .sorts i here)
 
     -- ---- behind the last one
-    module _ (t : b ≡ false) (values′ : List ℕ) (c : Cleared values values′ 0 i) (r : ℕ) (z : r ≡ mainWord (wordsOf code) main) where
+    module _ (t : b ≡ false) (values′ : List ℕ) (c : Cleared values values′ 0 i) (r : ℕ) (z : r ≡ mainWord (cellsOf code) main) where
       none-left : (l .rest ≡ []) × (g .end ≡ i)
       none-left = repeated-none (sortIn W) (RoutineAt (sortIn W) (Parses (sortIn W))) (l .form) (sym starts-is ∙ t)
 
       clear-room : (0 + i) * 4 ≤ length values
       clear-room = omega (arith, here, l .kept .long, g .room, g .lain .most)
 
-      names-last : NamesLeft W (g .m) (wordsOf values′) (l .earlier) k [] main
+      names-last : NamesLeft W (g .m) (cellsOf values′) (l .earlier) k [] main
       names-last =
-          names-kept W (g .m) (wordsOf values) (wordsOf values′) (l .earlier) k [] main (λ j n. clear-above c clear-room (firstMeaning + numberOf W j) (omega (arith, here, g .lain .most)))
-          (subst (λ (x : List Routine). NamesLeft W (g .m) (wordsOf values) (l .earlier) k x main) (none-left .0) (l .names))
+          names-kept W (g .m) (cellsOf values) (cellsOf values′) (l .earlier) k [] main (λ j n. clear-above c clear-room (firstMeaning + numberOf W j) (omega (arith, here, g .lain .most)))
+          (subst (λ (x : List Routine). NamesLeft W (g .m) (cellsOf values) (l .earlier) k x main) (none-left .0) (l .names))
 
       all-done : length rs ≤ k
       all-done = drop-all rs k (l .dropped ∙ none-left .0)
 
-      each : (q : ℕ) → q < length (headsFor rs) → signatureIn (wordsOf code) (getD (headsFor rs) q noHead .word) ≡ getD (signatures W (g .m) 0 rs) q noSignature
+      each : (q : ℕ) → q < length (headsFor rs) → signatureIn (cellsOf code) (getD (headsFor rs) q noHead .word) ≡ getD (signatures W (g .m) 0 rs) q noSignature
       each q h = l .signed q (omega (arith, all-done, heads-length rs))
 
-      signature-each : (q : ℕ) → q < length (headsFor rs) → SignatureAt (wordsOf code) (getD (headsFor rs) q noHead) (getD (signatures W (g .m) 0 rs) q noSignature)
+      signature-each : (q : ℕ) → q < length (headsFor rs) → SignatureAt (cellsOf code) (getD (headsFor rs) q noHead) (getD (signatures W (g .m) 0 rs) q noSignature)
       signature-each q h =
           let d : q < k = omega (arith, all-done, heads-length rs) in
-          signed-at (wordsOf code) (getD (headsFor rs) q noHead) (getD (signatures W (g .m) 0 rs) q noSignature) i (l .headed q d) (each q h) (l .ended q d) (omega (arith, here, g .lain .most))
+          signed-at (cellsOf code) (getD (headsFor rs) q noHead) (getD (signatures W (g .m) 0 rs) q noSignature) i (l .headed q d) (each q h) (l .ended q d) (omega (arith, here, g .lain .most))
 
       routines-known : RoutinesKnown W (g .m) (g .end) code₀ values₀ at code values′ r
       routines-known = record {
-        tables = names-tables W (g .m) (wordsOf values′) (l .earlier) k main names-last;
+        tables = names-tables W (g .m) (cellsOf values′) (l .earlier) k main names-last;
         filled = record {
-          zeros = λ n h. by-less n i (λ u. let z : 0 + n ≡ n = omega arith in sym (ap (λ (x : ℕ). getD (wordsOf values′) x 0) z) ∙ clear-in c clear-room n u) (λ u. clear-above c clear-room n (omega arith) ∙ l .untouched n u h);
+          zeros = λ n h. by-less n i (λ u. let z : 0 + n ≡ n = omega arith in sym (ap (λ (x : ℕ). getD (cellsOf values′) x 0) z) ∙ clear-in c clear-room n u) (λ u. clear-above c clear-room n (omega arith) ∙ l .untouched n u h);
           beyond = clear-drop c clear-room storeBytes (omega (arith, here, g .lain .most)) ∙ l .kept .above;
           long = clear-length c clear-room ∙ l .kept .long;
         };
         heads = record { as-many = heads-length rs ∙ sym (signatures-length W (g .m) 0 rs); each = signature-each };
         marked = subst (Marked code₀ code at) (sym (none-left .1)) (l .marked);
-        main = main-at W (g .m) (wordsOf code) main r z (main-missing W (g .m) (wordsOf values′) (l .earlier) k main names-last) (main-there W (g .m) (wordsOf values′) (l .earlier) k main names-last)
+        main = main-at W (g .m) (cellsOf code) main r z (main-missing W (g .m) (cellsOf values′) (l .earlier) k main names-last) (main-there W (g .m) (cellsOf values′) (l .earlier) k main names-last)
             (names-last .main-less) (names-last .main-word) each;
       }
 
@@ -299,20 +299,20 @@ module _ {text code₀ values₀ : List ℕ} {at : ℕ} (g : RoutinesStand text 
         values-long₁ : length values₁ ≡ length values₀
         values-long₁ = p .kept .long ∙ l .kept .long
 
-        cells-kept : (j : ℕ) → IsName W j → cellFor W (wordsOf values₁) j ≡ cellFor W (wordsOf values) j
+        cells-kept : (j : ℕ) → IsName W j → cellFor W (cellsOf values₁) j ≡ cellFor W (cellsOf values) j
         cells-kept j n = cell-above (p .kept) (firstMeaning + numberOf W j) (omega (arith, to-is, end-low, g .lain .most))
 
-        take-asks : (name * 8 + 8 ≤ length code′) × (placeAt (wordsOf code′) name + lengthAt (wordsOf code′) name ≤ length text) × (storeBytes ≤ length values₁) × (i < wordLimit)
+        take-asks : (name * 8 + 8 ≤ length code′) × (placeAt (cellsOf code′) name + lengthAt (cellsOf code′) name ≤ length text) × (storeBytes ≤ length values₁) × (i < wordLimit)
         take-asks =
             (omega (arith, name-is, name-low, end-low, lain-then .room, lain-then .most), spells-then .inside name is-name, omega (arith, values-long₁, g .room), omega (arith, here, g .lain .most))
 
-        end-one : isOneOf ENDPROC ENDFUNC (opAt (wordsOf code′) (one .one .end)) ≡ true
+        end-one : isOneOf ENDPROC ENDFUNC (opAt (cellsOf code′) (one .one .end)) ≡ true
         end-one = ap (isOneOf ENDPROC ENDFUNC) (lain-then .sorts (one .one .end) end-low) ∙ closing-one (one .one .head)
 
         end-has : Has code′ name ENDPROC ENDFUNC
         end-has = record { n = one .one .end; from = omega (arith, name-is, name-low); room = omega (arith, end-low, lain-then .room, lain-then .most); is = end-one }
 
-        none-before : (q : ℕ) → name ≤ q → q < one .one .end → isOneOf ENDPROC ENDFUNC (opAt (wordsOf code′) q) ≡ false
+        none-before : (q : ℕ) → name ≤ q → q < one .one .end → isOneOf ENDPROC ENDFUNC (opAt (cellsOf code′) q) ≡ false
         unfolding inRoutine
         none-before q h u =
             ap (isOneOf ENDPROC ENDFUNC) (lain-then .sorts q (omega (arith, end-low)))
@@ -324,40 +324,40 @@ module _ {text code₀ values₀ : List ℕ} {at : ℕ} (g : RoutinesStand text 
 
         -- ---- its name
         module _ (values₂ : List ℕ) (main′ : ℕ) (y : Takes text code′ values₁ i name main values₂ main′) where
-          number-is : numberAt (wordsOf code′) name ≡ numberOf W name
+          number-is : numberAt (cellsOf code′) name ≡ numberOf W name
           number-is = lain-then .numbers name is-name
 
           number-low : numberOf W name < numberLimit
           number-low = omega (arith, number-most W name is-name, name-inside W name is-name, g .lain .most)
 
-          cell-is : meaningAt (wordsOf code′) (wordsOf values₁) name ≡ cellFor W (wordsOf values₁) (one .a .name)
-          cell-is = ap (λ (x : ℕ). getD (wordsOf values₁) (firstMeaning + x) 0) number-is ∙ ap (cellFor W (wordsOf values₁)) name-is
+          cell-is : meaningAt (cellsOf code′) (cellsOf values₁) name ≡ cellFor W (cellsOf values₁) (one .a .name)
+          cell-is = ap (λ (x : ℕ). getD (cellsOf values₁) (firstMeaning + x) 0) number-is ∙ ap (cellFor W (cellsOf values₁)) name-is
 
-          names₁ : NamesLeft W (g .m) (wordsOf values₁) (l .earlier) k (one .a ∷ one .rest) main
+          names₁ : NamesLeft W (g .m) (cellsOf values₁) (l .earlier) k (one .a ∷ one .rest) main
           names₁ =
-              names-kept W (g .m) (wordsOf values) (wordsOf values₁) (l .earlier) k (one .a ∷ one .rest) main cells-kept
-              (subst (λ (x : List Routine). NamesLeft W (g .m) (wordsOf values) (l .earlier) k x main) (one .is) (l .names))
+              names-kept W (g .m) (cellsOf values) (cellsOf values₁) (l .earlier) k (one .a ∷ one .rest) main cells-kept
+              (subst (λ (x : List Routine). NamesLeft W (g .m) (cellsOf values) (l .earlier) k x main) (one .is) (l .names))
 
           record Took : Type 0 where
             pub earlier : List Text
-            pub names : NamesLeft W (g .m) (wordsOf values₂) earlier (suc k) (one .rest) main′
-            pub below : (n : ℕ) → n < wordLimit → getD (wordsOf values₂) n 0 ≡ getD (wordsOf values₁) n 0
+            pub names : NamesLeft W (g .m) (cellsOf values₂) earlier (suc k) (one .rest) main′
+            pub below : (n : ℕ) → n < wordLimit → getD (cellsOf values₂) n 0 ≡ getD (cellsOf values₁) n 0
             pub kept : Kept values₁ values₂ 0 storeCells
             pub main-low : main′ ≤ i
 
-          took-free : meaningAt (wordsOf code′) (wordsOf values₁) name ≡ 0 → Took
+          took-free : meaningAt (cellsOf code′) (cellsOf values₁) name ≡ 0 → Took
           unfolding mainAfter
           took-free q =
               let put : Put values₁ values₂ (firstMeaning + numberOf W name) (20 + 256 * i) = subst (λ (x : ℕ). Put values₁ values₂ (firstMeaning + x) (20 + 256 * i)) number-is (y .free q) in
               let room : (firstMeaning + numberOf W name) * 4 + 4 ≤ length values₁ = omega (arith, number-low, values-long₁, g .room) in
               let numbers : numberOf W name ≡ numberOf W (one .a .name) = ap (numberOf W) name-is in
-              let spelt : spelledAt text (wordsOf code′) name ≡ spelled W (one .a .name) = spells-then .is name is-name ∙ ap (spelled W) name-is in
+              let spelt : spelledAt text (cellsOf code′) name ≡ spelled W (one .a .name) = spells-then .is name is-name ∙ ap (spelled W) name-is in
               let after : main′ ≡ (if eqb main 0 then (if equalTexts (spelled W (one .a .name)) (bytes "MAIN") then i else main) else main) =
               y .main-then q ∙ ap (λ (u : Text). if eqb main 0 then (if equalTexts u (bytes "MAIN") then i else main) else main) spelt in
               record {
                 earlier = spelled W (one .a .name) ∷ l .earlier;
-                names = names-then W (g .m) (wordsOf values₁) (l .earlier) k (one .a) (one .rest) main names₁ (one .one .name) i (omega (arith, g .some, l .from)) number-k k-less head-word-is (wordsOf values₂) (sym cell-is ∙ q)
-                    (λ j n d. ap (λ (x : ℕ). getD (wordsOf values₂) (firstMeaning + x) 0) (d ∙ sym numbers) ∙ put-same put room)
+                names = names-then W (g .m) (cellsOf values₁) (l .earlier) k (one .a) (one .rest) main names₁ (one .one .name) i (omega (arith, g .some, l .from)) number-k k-less head-word-is (cellsOf values₂) (sym cell-is ∙ q)
+                    (λ j n d. ap (λ (x : ℕ). getD (cellsOf values₂) (firstMeaning + x) 0) (d ∙ sym numbers) ∙ put-same put room)
                     (λ j n d. put-other put room (firstMeaning + numberOf W j) (λ x. d (omega (arith, numbers))))
                     main′ after;
                 below = λ n h. put-other put room n (λ x. omega arith);
@@ -365,44 +365,44 @@ module _ {text code₀ values₀ : List ℕ} {at : ℕ} (g : RoutinesStand text 
                 main-low = subst (λ (x : ℕ). x ≤ i) (sym after) (either-low (eqb main 0) (equalTexts (spelled W (one .a .name)) (bytes "MAIN")) main i (l .main-low));
               }
 
-          took-taken : (meaningAt (wordsOf code′) (wordsOf values₁) name ≡ 0 → ⊥) → Took
+          took-taken : (meaningAt (cellsOf code′) (cellsOf values₁) name ≡ 0 → ⊥) → Took
           took-taken d = record {
             earlier = l .earlier;
-            names = subst (λ (x : ℕ). NamesLeft W (g .m) (wordsOf values₂) (l .earlier) (suc k) (one .rest) x) (sym (y .main-still d))
-                (subst (λ (v : List ℕ). NamesLeft W (g .m) (wordsOf v) (l .earlier) (suc k) (one .rest) main) (sym (y .taken d))
-                (names-still W (g .m) (wordsOf values₁) (l .earlier) k (one .a) (one .rest) main names₁ (one .one .name) (λ q. d (cell-is ∙ q))));
-            below = λ n h. ap (λ (v : List ℕ). getD (wordsOf v) n 0) (y .taken d);
+            names = subst (λ (x : ℕ). NamesLeft W (g .m) (cellsOf values₂) (l .earlier) (suc k) (one .rest) x) (sym (y .main-still d))
+                (subst (λ (v : List ℕ). NamesLeft W (g .m) (cellsOf v) (l .earlier) (suc k) (one .rest) main) (sym (y .taken d))
+                (names-still W (g .m) (cellsOf values₁) (l .earlier) k (one .a) (one .rest) main names₁ (one .one .name) (λ q. d (cell-is ∙ q))));
+            below = λ n h. ap (λ (v : List ℕ). getD (cellsOf v) n 0) (y .taken d);
             kept = subst (λ (v : List ℕ). Kept values₁ v 0 storeCells) (sym (y .taken d)) (kept-same values₁ 0 storeCells);
             main-low = subst (λ (x : ℕ). x ≤ i) (sym (y .main-still d)) (l .main-low);
           }
 
           took : Took
-          took = by-same (meaningAt (wordsOf code′) (wordsOf values₁) name) 0 took-free took-taken
+          took = by-same (meaningAt (cellsOf code′) (cellsOf values₁) name) 0 took-free took-taken
 
           -- ---- signatures so far, and its own
-          head-same : (q : ℕ) → q < i → headAt (wordsOf code′) q ≡ headAt (wordsOf code) q
+          head-same : (q : ℕ) → q < i → headAt (cellsOf code′) q ≡ headAt (cellsOf code) q
           head-same q h = head-below (p .marked) q h
 
-          signed-then : (q : ℕ) → q < suc k → signatureIn (wordsOf code′) (getD (headsFor rs) q noHead .word) ≡ getD (signatures W (g .m) 0 rs) q noSignature
+          signed-then : (q : ℕ) → q < suc k → signatureIn (cellsOf code′) (getD (headsFor rs) q noHead .word) ≡ getD (signatures W (g .m) 0 rs) q noSignature
           signed-then q h =
               by-last q k h
-              (λ e. rw e (ap (signatureIn (wordsOf code′)) head-word-is ∙ p .signature ∙ signature-given W (g .m) k (one .a) (one .a .name + 2) (one .one .close) (one .one .parameters) ∙ sym (signature-at W (g .m) rs k (one .a) (one .rest) at-k)))
+              (λ e. rw e (ap (signatureIn (cellsOf code′)) head-word-is ∙ p .signature ∙ signature-given W (g .m) k (one .a) (one .a .name + 2) (one .one .close) (one .one .parameters) ∙ sym (signature-at W (g .m) rs k (one .a) (one .rest) at-k)))
               (λ u. let w = getD (headsFor rs) q noHead .word in
-              signature-kept (wordsOf code) (wordsOf code′) w (λ j a b. head-same j (omega (arith, l .ended q u))) ∙ l .signed q u)
+              signature-kept (cellsOf code) (cellsOf code′) w (λ j a b. head-same j (omega (arith, l .ended q u))) ∙ l .signed q u)
 
-          headed-then : (q : ℕ) → q < suc k → getD (headsFor rs) q noHead ≡ headIn (wordsOf code′) (getD (headsFor rs) q noHead .word)
+          headed-then : (q : ℕ) → q < suc k → getD (headsFor rs) q noHead ≡ headIn (cellsOf code′) (getD (headsFor rs) q noHead .word)
           headed-then q h =
               by-last q k h
-              (λ e. rw e (head-at rs k (one .a) (one .rest) at-k ∙ p .head ∙ ap (headIn (wordsOf code′)) (sym head-word-is)))
+              (λ e. rw e (head-at rs k (one .a) (one .rest) at-k ∙ p .head ∙ ap (headIn (cellsOf code′)) (sym head-word-is)))
               (λ u. let w = getD (headsFor rs) q noHead .word in
-              l .headed q u ∙ sym (head-kept (wordsOf code) (wordsOf code′) w (head-same w (omega (arith, begins-inside (wordsOf code) w, l .ended q u)))))
+              l .headed q u ∙ sym (head-kept (cellsOf code) (cellsOf code′) w (head-same w (omega (arith, begins-inside (cellsOf code) w, l .ended q u)))))
 
-          ended-then : (q : ℕ) → q < suc k → signatureEnd (wordsOf code′) (getD (headsFor rs) q noHead .word) ≤ one .n
+          ended-then : (q : ℕ) → q < suc k → signatureEnd (cellsOf code′) (getD (headsFor rs) q noHead .word) ≤ one .n
           ended-then q h =
               by-last q k h
-              (λ e. rw e (subst (λ (x : ℕ). signatureEnd (wordsOf code′) x ≤ one .n) (sym head-word-is) (p .ends)))
+              (λ e. rw e (subst (λ (x : ℕ). signatureEnd (cellsOf code′) x ≤ one .n) (sym head-word-is) (p .ends)))
               (λ u. let w = getD (headsFor rs) q noHead .word in
-              omega (arith, end-kept (wordsOf code) (wordsOf code′) w (head-same w (omega (arith, begins-inside (wordsOf code) w, l .ended q u))), l .ended q u, name-high, name-low, to-is))
+              omega (arith, end-kept (cellsOf code) (cellsOf code′) w (head-same w (omega (arith, begins-inside (cellsOf code) w, l .ended q u))), l .ended q u, name-high, name-low, to-is))
 
           routines-next : (x : ℕ) → Next code′ name ENDPROC ENDFUNC x → RoutinesLeft g code′ values₂ (x + 1) (k + 1) main′
           routines-next x v =
@@ -440,7 +440,7 @@ module _ (text code values : List ℕ) (at : ℕ) (g : RoutinesStand text code v
         form = g .form;
         dropped = refl;
         earlier = dataTexts (g .W) (g .m .declared);
-        names = names-start (g .W) (g .m) (wordsOf values) (g .cells);
+        names = names-start (g .W) (g .m) (cellsOf values) (g .cells);
         signed = λ q h. absurd (omega arith);
         headed = λ q h. absurd (omega arith);
         ended = λ q h. absurd (omega arith);
@@ -454,8 +454,8 @@ module _ (text code values : List ℕ) (at : ℕ) (g : RoutinesStand text code v
       }
 
 module _ (text code₀ values₀ : List ℕ) (at : ℕ) (g : RoutinesStand text code₀ values₀ at) (code values : List ℕ) (i k main : ℕ) (l : RoutinesGo text code₀ values₀ at code values i k main)
-    (s : ℕ) (e : s ≡ opAt (wordsOf code) i) (b : Bool) (f : b ≡ startsRoutine s) where
-  pub routines-done : not b ≡ true → (values′ : List ℕ) → Cleared values values′ 0 i → (r : ℕ) → r ≡ mainWord (wordsOf code) main → Routines text code₀ values₀ at code values′ r
+    (s : ℕ) (e : s ≡ opAt (cellsOf code) i) (b : Bool) (f : b ≡ startsRoutine s) where
+  pub routines-done : not b ≡ true → (values′ : List ℕ) → Cleared values values′ 0 i → (r : ℕ) → r ≡ mainWord (cellsOf code) main → Routines text code₀ values₀ at code values′ r
   routines-done t values′ c r z = record { is = λ g. routines-known g code values i k main (l .left g) s e b f (not-true b t) values′ c r z }
 
   module _ (u : not b ≡ false) where
@@ -470,7 +470,7 @@ module _ (text code₀ values₀ : List ℕ) (at : ℕ) (g : RoutinesStand text 
       unfolding routine-stands
       known g = p .is (routine-stands g code values i k main (l .left g) s e b f t)
 
-      pub name-asks : (name * 8 + 8 ≤ length code′) × (placeAt (wordsOf code′) name + lengthAt (wordsOf code′) name ≤ length text) × (storeBytes ≤ length values₁) × (i < wordLimit)
+      pub name-asks : (name * 8 + 8 ≤ length code′) × (placeAt (cellsOf code′) name + lengthAt (cellsOf code′) name ≤ length text) × (storeBytes ≤ length values₁) × (i < wordLimit)
       name-asks = take-asks g code values i k main (l .left g) s e b f t code′ values₁ name (known g)
 
       pub next-asks : Has code′ name ENDPROC ENDFUNC

@@ -10,7 +10,7 @@ use borrow.Author.Tests.{eq-eqb}
 use Rattle.paper.specs.Sorts.{folded, NAME}
 use Rattle.paper.specs.Words.{Word, reading}
 use Rattle.paper.specs.Names.{nth, sortIn, spelled}
-use Rattle.store_cells.specs.Words.{wordsOf}
+use Rattle.store_cells.specs.Cells.{cellsOf}
 use Rattle.check_names.specs.Numbers.{firstNamed, numberOf, IsName}
 use Rattle.check_names.specs.Meanings.{protectedCell, cellFor}
 use Rattle.check_names.proofs.Spellings.{name-inside, number-most, number-named}
@@ -56,7 +56,7 @@ module _ {text code values : List ℕ} (g : Begins text code values) where
   }
 
   -- ---- what names cover
-  length-is : (i : ℕ) → IsName W i → lengthAt (wordsOf code) i ≡ length (nth W i .covers)
+  length-is : (i : ℕ) → IsName W i → lengthAt (cellsOf code) i ≡ length (nth W i .covers)
   unfolding headValue
   length-is i n =
       let l = name-inside W i n in
@@ -81,7 +81,7 @@ module _ {text code values : List ℕ} (g : Begins text code values) where
       back : (x : ℕ) → x ≡ x - 0
       back x = omega arith
 
-  begins-cells : (j : ℕ) → IsName W j → cellFor W (wordsOf values) j ≡ protectedCell (spelled W j)
+  begins-cells : (j : ℕ) → IsName W j → cellFor W (cellsOf values) j ≡ protectedCell (spelled W j)
   unfolding firstCell
   begins-cells j n =
       let first = number-named W j n in

@@ -12,7 +12,7 @@ use Rattle.paper.specs.Trees.{Declared, Parameter, Routine, Module}
 use Rattle.paper.specs.Names.{sortIn, spelled}
 use Rattle.paper.specs.Declarations.{routineLimit, routineWordLimit, dataTexts, signatures}
 use Rattle.paper.specs.Checks.{mainOf}
-use Rattle.store_cells.specs.Words.{wordsOf, Put}
+use Rattle.store_cells.specs.Cells.{cellsOf, Put}
 use Rattle.code.specs.Cells.{opAt, valueAt}
 use Rattle.code.specs.Signatures.{typesAt, headIn, signatureIn, signatureEnd, Heads}
 use Rattle.check_names.specs.Numbers.{numberOf, IsName}
@@ -35,19 +35,19 @@ pub record Has (code : List ℕ) (at a b : ℕ) : Type 0 where
   pub n : ℕ
   pub from : at ≤ n
   pub room : n * 8 + 8 ≤ length code
-  pub is : isOneOf a b (opAt (wordsOf code) n) ≡ true
+  pub is : isOneOf a b (opAt (cellsOf code) n) ≡ true
 
 -- r is the first
 pub record Next (code : List ℕ) (at a b r : ℕ) : Type 0 where
   pub from : at ≤ r
   pub room : r * 8 + 8 ≤ length code
-  pub is : isOneOf a b (opAt (wordsOf code) r) ≡ true
-  pub none : (k : ℕ) → at ≤ k → k < r → isOneOf a b (opAt (wordsOf code) k) ≡ false
+  pub is : isOneOf a b (opAt (cellsOf code) r) ≡ true
+  pub none : (k : ℕ) → at ≤ k → k < r → isOneOf a b (opAt (cellsOf code) k) ≡ false
 
 -- ---- module data
 pub record Announces (code values : List ℕ) (i : ℕ) (values′ : List ℕ) : Type 0 where
-  pub free : meaningAt (wordsOf code) (wordsOf values) i ≡ 0 → Put values values′ (firstMeaning + numberAt (wordsOf code) i) toCome
-  pub taken : (meaningAt (wordsOf code) (wordsOf values) i ≡ 0 → ⊥) → values′ ≡ values
+  pub free : meaningAt (cellsOf code) (cellsOf values) i ≡ 0 → Put values values′ (firstMeaning + numberAt (cellsOf code) i) toCome
+  pub taken : (meaningAt (cellsOf code) (cellsOf values) i ≡ 0 → ⊥) → values′ ≡ values
 
 -- Data stand from `at` on, and the table has the protected names alone.
 pub record DataStand (code values : List ℕ) (at : ℕ) : Type 0 where
@@ -57,12 +57,12 @@ pub record DataStand (code values : List ℕ) (at : ℕ) : Type 0 where
   pub form : DeclarationsAt (sortIn W) (Parses (sortIn W)) ds at to
   pub lain : Lain W code
   pub inside : to < length W
-  pub cells : (j : ℕ) → IsName W j → cellFor W (wordsOf values) j ≡ protectedCell (spelled W j)
+  pub cells : (j : ℕ) → IsName W j → cellFor W (cellsOf values) j ≡ protectedCell (spelled W j)
   pub room : storeBytes ≤ length values
 
 pub record DataKnown (W : List Word) (ds : List Declared) (to : ℕ) (values values′ : List ℕ) (r : ℕ) : Type 0 where
   pub next : r ≡ to
-  pub cells : (j : ℕ) → IsName W j → cellFor W (wordsOf values′) j ≡ dataCell (dataTexts W ds) (spelled W j)
+  pub cells : (j : ℕ) → IsName W j → cellFor W (cellsOf values′) j ≡ dataCell (dataTexts W ds) (spelled W j)
   pub kept : Kept values values′ firstMeaning storeCells
 
 pub record Data (code values : List ℕ) (at : ℕ) (values′ : List ℕ) (r : ℕ) : Type 0 where
@@ -79,8 +79,8 @@ markOf false = 0
 
 -- The parameter whose type is at i is marked; the cell of its name's number says from now on that it was seen.
 pub record Marks (code values : List ℕ) (h i count : ℕ) (code′ values′ : List ℕ) : Type 0 where
-  pub mark : Valued code code′ i (markOf (refuses (meaningAt (wordsOf code) (wordsOf values) (i + 1)) (getD (wordsOf values) (numberAt (wordsOf code) (i + 1)) 0) h count))
-  pub seen : Put values values′ (numberAt (wordsOf code) (i + 1)) h
+  pub mark : Valued code code′ i (markOf (refuses (meaningAt (cellsOf code) (cellsOf values) (i + 1)) (getD (cellsOf values) (numberAt (cellsOf code) (i + 1)) 0) h count))
+  pub seen : Put values values′ (numberAt (cellsOf code) (i + 1)) h
 
 -- The parameters of the routine that begins at h stand from `at` on, and none of their names was seen in it.
 pub record ParametersStand (code values : List ℕ) (h at : ℕ) : Type 0 where
@@ -90,17 +90,17 @@ pub record ParametersStand (code values : List ℕ) (h at : ℕ) : Type 0 where
   pub form : ParametersAt (sortIn W) (Parses (sortIn W)) ps at close
   pub closes : sortIn W close ≡ closeParen
   pub lain : Lain W code
-  pub guards : (j : ℕ) → IsName W j → protectsCell (cellFor W (wordsOf values) j) ≡ isProtected (spelled W j)
-  pub unseen : (j : ℕ) → IsName W j → getD (wordsOf values) (numberOf W j) 0 ≡ h → ⊥
+  pub guards : (j : ℕ) → IsName W j → protectsCell (cellFor W (cellsOf values) j) ≡ isProtected (spelled W j)
+  pub unseen : (j : ℕ) → IsName W j → getD (cellsOf values) (numberOf W j) 0 ≡ h → ⊥
   pub room : storeBytes ≤ length values
 
 -- What was seen: in a cell that has changed stands h.
 abbrev pub Sees : (values values′ : List ℕ) (h : ℕ) → Type 0
-Sees values values′ h = (b : ℕ) → h < b → ((n : ℕ) → n < numberLimit → getD (wordsOf values) n 0 < b) → (n : ℕ) → n < numberLimit → getD (wordsOf values′) n 0 < b
+Sees values values′ h = (b : ℕ) → h < b → ((n : ℕ) → n < numberLimit → getD (cellsOf values) n 0 < b) → (n : ℕ) → n < numberLimit → getD (cellsOf values′) n 0 < b
 
 pub record ParametersMarked (W : List Word) (ps : List Parameter) (close : ℕ) (code values : List ℕ) (h at : ℕ) (code′ values′ : List ℕ) (r : ℕ) : Type 0 where
   pub count : r ≡ length ps
-  pub types : typesAt (wordsOf code′) r at ≡ givenTypes W [] 0 ps
+  pub types : typesAt (cellsOf code′) r at ≡ givenTypes W [] 0 ps
   pub ends : at + 3 * r ≤ close + 1
   pub marked : Marked code code′ at close
   pub kept : Kept values values′ 0 close
@@ -114,10 +114,10 @@ pub record Parameters (code values : List ℕ) (h at : ℕ) (code′ values′ :
 -- ---- a routine
 -- the result's type is not asked of the 65th
 pub record Names (code : List ℕ) (h k : ℕ) (code′ : List ℕ) (r : ℕ) : Type 0 where
-  pub plain : (opAt (wordsOf code) h ≡ FUNC → ⊥) → code′ ≡ code
-  pub plain-name : (opAt (wordsOf code) h ≡ FUNC → ⊥) → r ≡ h + 1
-  pub function : opAt (wordsOf code) h ≡ FUNC → Valued code code′ (h + 1) (markOf (eqb k routineLimit))
-  pub function-name : opAt (wordsOf code) h ≡ FUNC → r ≡ h + 2
+  pub plain : (opAt (cellsOf code) h ≡ FUNC → ⊥) → code′ ≡ code
+  pub plain-name : (opAt (cellsOf code) h ≡ FUNC → ⊥) → r ≡ h + 1
+  pub function : opAt (cellsOf code) h ≡ FUNC → Valued code code′ (h + 1) (markOf (eqb k routineLimit))
+  pub function-name : opAt (cellsOf code) h ≡ FUNC → r ≡ h + 2
 
 -- Routine k begins at h.
 pub record RoutineStands (code values : List ℕ) (h k : ℕ) : Type 0 where
@@ -126,15 +126,15 @@ pub record RoutineStands (code values : List ℕ) (h k : ℕ) : Type 0 where
   pub to : ℕ
   pub form : RoutineAt (sortIn W) (Parses (sortIn W)) r h to
   pub lain : Lain W code
-  pub guards : (j : ℕ) → IsName W j → protectsCell (cellFor W (wordsOf values) j) ≡ isProtected (spelled W j)
-  pub unseen : (j : ℕ) → IsName W j → getD (wordsOf values) (numberOf W j) 0 ≡ h → ⊥
+  pub guards : (j : ℕ) → IsName W j → protectsCell (cellFor W (cellsOf values) j) ≡ isProtected (spelled W j)
+  pub unseen : (j : ℕ) → IsName W j → getD (cellsOf values) (numberOf W j) 0 ≡ h → ⊥
   pub room : storeBytes ≤ length values
 
 pub record RoutineKnown (W : List Word) (t : Routine) (to : ℕ) (code values : List ℕ) (h k : ℕ) (code′ values′ : List ℕ) (r : ℕ) : Type 0 where
   pub name : r ≡ t .name
-  pub head : headFor t ≡ headIn (wordsOf code′) h
-  pub signature : signatureIn (wordsOf code′) h ≡ givenSignature W k t
-  pub ends : signatureEnd (wordsOf code′) h ≤ to
+  pub head : headFor t ≡ headIn (cellsOf code′) h
+  pub signature : signatureIn (cellsOf code′) h ≡ givenSignature W k t
+  pub ends : signatureEnd (cellsOf code′) h ≤ to
   pub marked : Marked code code′ h to
   pub kept : Kept values values′ 0 to
   pub sees : Sees values values′ h
@@ -151,10 +151,10 @@ mainAfter text C name h main =
 
 -- A name that means nothing means the routine from now on.
 pub record Takes (text code values : List ℕ) (h name main : ℕ) (values′ : List ℕ) (r : ℕ) : Type 0 where
-  pub free : meaningAt (wordsOf code) (wordsOf values) name ≡ 0 → Put values values′ (firstMeaning + numberAt (wordsOf code) name) (cellWith aRoutine 0 0 h)
-  pub main-then : meaningAt (wordsOf code) (wordsOf values) name ≡ 0 → r ≡ mainAfter text (wordsOf code) name h main
-  pub taken : (meaningAt (wordsOf code) (wordsOf values) name ≡ 0 → ⊥) → values′ ≡ values
-  pub main-still : (meaningAt (wordsOf code) (wordsOf values) name ≡ 0 → ⊥) → r ≡ main
+  pub free : meaningAt (cellsOf code) (cellsOf values) name ≡ 0 → Put values values′ (firstMeaning + numberAt (cellsOf code) name) (cellWith aRoutine 0 0 h)
+  pub main-then : meaningAt (cellsOf code) (cellsOf values) name ≡ 0 → r ≡ mainAfter text (cellsOf code) name h main
+  pub taken : (meaningAt (cellsOf code) (cellsOf values) name ≡ 0 → ⊥) → values′ ≡ values
+  pub main-still : (meaningAt (cellsOf code) (cellsOf values) name ≡ 0 → ⊥) → r ≡ main
 
 -- the word that a PROC without parameters begins with; 0 for any other
 unfoldable pub mainWord : (C : List ℕ) → (h : ℕ) → ℕ
@@ -171,14 +171,14 @@ pub record RoutinesStand (text code values : List ℕ) (at : ℕ) : Type 0 where
   pub lain : Lain W code
   pub spells : Spells text W code
   pub inside : end < length W
-  pub cells : (j : ℕ) → IsName W j → cellFor W (wordsOf values) j ≡ dataCell (dataTexts W (m .declared)) (spelled W j)
-  pub zeros : (n : ℕ) → n < firstMeaning → getD (wordsOf values) n 0 ≡ 0
+  pub cells : (j : ℕ) → IsName W j → cellFor W (cellsOf values) j ≡ dataCell (dataTexts W (m .declared)) (spelled W j)
+  pub zeros : (n : ℕ) → n < firstMeaning → getD (cellsOf values) n 0 ≡ 0
   pub room : storeBytes ≤ length values
 
 pub record RoutinesKnown (W : List Word) (m : Module) (end : ℕ) (code values : List ℕ) (at : ℕ) (code′ values′ : List ℕ) (r : ℕ) : Type 0 where
-  pub tables : Tables W m (wordsOf values′)
+  pub tables : Tables W m (cellsOf values′)
   pub filled : Filled values values′
-  pub heads : Heads (wordsOf code′) (headsFor (m .routines)) (signatures W m 0 (m .routines))
+  pub heads : Heads (cellsOf code′) (headsFor (m .routines)) (signatures W m 0 (m .routines))
   pub marked : Marked code code′ at end
   pub main : MainAt (headsFor (m .routines)) (mainOf W m) r
 

@@ -10,7 +10,7 @@ use Rattle.paper.specs.Trees.{Module}
 use Rattle.paper.specs.Names.{theRoutine, nth, sortIn, spelled, isAmong, meaning}
 use Rattle.paper.specs.Declarations.{dataTexts, signatures}
 use Rattle.paper.specs.Checks.{mainOf}
-use Rattle.store_cells.specs.Words.{wordsOf}
+use Rattle.store_cells.specs.Cells.{cellsOf}
 use Rattle.code.specs.Cells.{headAt, placeAt}
 use Rattle.code.specs.Steps.{Head, noHead, numbered}
 use Rattle.code.specs.Signatures.{Heads}
@@ -26,10 +26,10 @@ use Rattle.check_heads.specs.Trees.{headsFor, toCome, firstScopes}
 pub record Begins (text code values : List ℕ) : Type 0 where
   pub m : Module
   pub stands : Stands (sortIn (wordsIn text)) (Parses (sortIn (wordsIn text))) m
-  pub heads : (i : ℕ) → i < length (wordsIn text) → headAt (wordsOf code) i ≡ headOf (wordsIn text) i
-  pub places : (i : ℕ) → i < length (wordsIn text) → placeAt (wordsOf code) i ≡ nth (wordsIn text) i .place
-  pub zeros : (k : ℕ) → k < firstMeaning → getD (wordsOf values) k 0 ≡ 0
-  pub table : (i : ℕ) → i < numberLimit → getD (wordsOf values) (firstMeaning + i) 0 ≡ firstCell (wordsIn text) i
+  pub heads : (i : ℕ) → i < length (wordsIn text) → headAt (cellsOf code) i ≡ headOf (wordsIn text) i
+  pub places : (i : ℕ) → i < length (wordsIn text) → placeAt (cellsOf code) i ≡ nth (wordsIn text) i .place
+  pub zeros : (k : ℕ) → k < firstMeaning → getD (cellsOf values) k 0 ≡ 0
+  pub table : (i : ℕ) → i < numberLimit → getD (cellsOf values) (firstMeaning + i) 0 ≡ firstCell (wordsIn text) i
   pub code-room : storeBytes ≤ length code
   pub values-room : storeBytes ≤ length values
 
@@ -50,15 +50,15 @@ pub record Tables (W : List Word) (m : Module) (X : List ℕ) : Type 0 where
 
 -- the value store: nothing but the table has changed
 pub record Filled (values values′ : List ℕ) : Type 0 where
-  pub zeros : (k : ℕ) → k < firstMeaning → getD (wordsOf values′) k 0 ≡ 0
+  pub zeros : (k : ℕ) → k < firstMeaning → getD (cellsOf values′) k 0 ≡ 0
   pub beyond : drop storeBytes values′ ≡ drop storeBytes values
   pub long : length values′ ≡ length values
 
 -- ---- the promise
 pub record Foretells (text code values code′ values′ : List ℕ) (r words : ℕ) (m : Module) : Type 0 where
-  pub tables : Tables (wordsIn text) m (wordsOf values′)
+  pub tables : Tables (wordsIn text) m (cellsOf values′)
   pub filled : Filled values values′
-  pub heads : Heads (wordsOf code′) (headsFor (m .routines)) (signatures (wordsIn text) m 0 (m .routines))
+  pub heads : Heads (cellsOf code′) (headsFor (m .routines)) (signatures (wordsIn text) m 0 (m .routines))
   pub marked : Marked code code′ 2 words
   pub main : MainAt (headsFor (m .routines)) (mainOf (wordsIn text) m) r
 

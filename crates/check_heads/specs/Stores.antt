@@ -8,7 +8,7 @@ use Rattle.paper.specs.Sorts.{folded}
 use Rattle.paper.specs.Words.{Word, wordLimit}
 use Rattle.paper.specs.Expressions.{isType, startsRoutine}
 use Rattle.paper.specs.Names.{Text, sortIn, spelled}
-use Rattle.store_cells.specs.Words.{wordsOf, Put}
+use Rattle.store_cells.specs.Cells.{cellsOf, Put}
 use Rattle.code.specs.Cells.{headAt, tailAt, opAt, valueAt, placeAt}
 use Rattle.check_names.specs.Numbers.{numberOf, IsName}
 use Rattle.check_names.specs.Promises.{storeBytes, numberLimit, numberAt}
@@ -27,18 +27,18 @@ isValued s = isType s || startsRoutine s
 -- Nothing but the values of such words from `from` up to `to` has changed.
 pub record Marked (before after : List ℕ) (from to : ℕ) : Type 0 where
   pub kept : Kept before after (from * 2) (to * 2)
-  pub ops : (i : ℕ) → opAt (wordsOf after) i ≡ opAt (wordsOf before) i
-  pub heads : (i : ℕ) → isValued (opAt (wordsOf before) i) ≡ false → headAt (wordsOf after) i ≡ headAt (wordsOf before) i
-  pub tails : (i : ℕ) → tailAt (wordsOf after) i ≡ tailAt (wordsOf before) i
+  pub ops : (i : ℕ) → opAt (cellsOf after) i ≡ opAt (cellsOf before) i
+  pub heads : (i : ℕ) → isValued (opAt (cellsOf before) i) ≡ false → headAt (cellsOf after) i ≡ headAt (cellsOf before) i
+  pub tails : (i : ℕ) → tailAt (cellsOf after) i ≡ tailAt (cellsOf before) i
 
 -- Word i has this value now, and its op still.
 abbrev pub Valued : (before after : List ℕ) (i v : ℕ) → Type 0
-Valued before after i v = Put before after (i * 2) (opAt (wordsOf before) i + 256 * v)
+Valued before after i v = Put before after (i * 2) (opAt (cellsOf before) i + 256 * v)
 
 -- The words of a text stand in the code store: each with its sort, and a name with its number.
 pub record Lain (W : List Word) (code : List ℕ) : Type 0 where
-  pub sorts : (i : ℕ) → i < length W → opAt (wordsOf code) i ≡ sortIn W i
-  pub numbers : (i : ℕ) → IsName W i → numberAt (wordsOf code) i ≡ numberOf W i
+  pub sorts : (i : ℕ) → i < length W → opAt (cellsOf code) i ≡ sortIn W i
+  pub numbers : (i : ℕ) → IsName W i → numberAt (cellsOf code) i ≡ numberOf W i
   pub most : length W ≤ wordLimit
   pub room : storeBytes ≤ length code
 
@@ -51,5 +51,5 @@ abbrev pub spelledAt : (text C : List ℕ) → ℕ → Text
 spelledAt text C i = map folded (take (lengthAt C i) (drop (placeAt C i) text))
 
 pub record Spells (text : List ℕ) (W : List Word) (code : List ℕ) : Type 0 where
-  pub inside : (i : ℕ) → IsName W i → placeAt (wordsOf code) i + lengthAt (wordsOf code) i ≤ length text
-  pub is : (i : ℕ) → IsName W i → spelledAt text (wordsOf code) i ≡ spelled W i
+  pub inside : (i : ℕ) → IsName W i → placeAt (cellsOf code) i + lengthAt (cellsOf code) i ≤ length text
+  pub is : (i : ℕ) → IsName W i → spelledAt text (cellsOf code) i ≡ spelled W i

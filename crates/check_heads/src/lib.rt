@@ -13,7 +13,7 @@ ghost use mathlib.Core.Path.{_≡_};
 ghost use Prim.Native.Nat.{_+_, _*_, _<_, _≤_};
 ghost use lib.ListN.{length};
 ghost use Rattle.paper.specs.Sorts.{bytes, equalTexts};
-ghost use Rattle.store_cells.specs.Words.{wordsOf};
+ghost use Rattle.store_cells.specs.Cells.{cellsOf};
 ghost use Rattle.code.specs.Cells.{placeAt};
 ghost use Rattle.check_names.specs.Promises.{storeBytes};
 ghost use Rattle.check_heads.specs.Stores.{lengthAt, spelledAt};
@@ -156,8 +156,8 @@ fn head(code: &mut [u8], values: &mut [u8], h: usize, k: usize) -> usize
 
 // The name at a word is spelled MAIN.
 fn is_main(text: &[u8], code: &[u8], i: usize) -> bool
-    requires { ⌜ (i * 8 + 8 ≤ length (now code)) × (placeAt (wordsOf (now code)) i + lengthAt (wordsOf (now code)) i ≤ length (now text)) ⌝ }
-    ensures { λ r. ⌜ r ≡ equalTexts (spelledAt (now (text .entry)) (wordsOf (now (code .entry))) i) (bytes "MAIN") ⌝ }
+    requires { ⌜ (i * 8 + 8 ≤ length (now code)) × (placeAt (cellsOf (now code)) i + lengthAt (cellsOf (now code)) i ≤ length (now text)) ⌝ }
+    ensures { λ r. ⌜ r ≡ equalTexts (spelledAt (now (text .entry)) (cellsOf (now (code .entry))) i) (bytes "MAIN") ⌝ }
 {
     let place = store_reading::place(code, i);
     let end = place + store_reading::value(code, i) / parts::SPELLED_AT;
@@ -173,7 +173,7 @@ fn take_name(
     name: usize,
     main: usize,
 ) -> usize
-    requires { ⌜ (name * 8 + 8 ≤ length (now code)) × (placeAt (wordsOf (now code)) name + lengthAt (wordsOf (now code)) name ≤ length (now text)) × (storeBytes ≤ length (now values)) × (h < wordLimit) ⌝ }
+    requires { ⌜ (name * 8 + 8 ≤ length (now code)) × (placeAt (cellsOf (now code)) name + lengthAt (cellsOf (now code)) name ≤ length (now text)) × (storeBytes ≤ length (now values)) × (h < wordLimit) ⌝ }
     ensures { λ r. ⌜ Takes (now (text .entry)) (now (code .entry)) (now (values .entry)) h name main (now (values .exit)) r ⌝ }
 {
     if check_names::meaning(code, values, name) != check_names::UNKNOWN {
@@ -196,7 +196,7 @@ fn take_name(
 // The word that main begins with; 0 if it is a FUNC, or has parameters.
 fn main_of(code: &[u8], h: usize) -> usize
     requires { ⌜ h * 8 + 8 ≤ length (now code) ⌝ }
-    ensures { λ r. ⌜ r ≡ mainWord (wordsOf (now (code .entry))) h ⌝ }
+    ensures { λ r. ⌜ r ≡ mainWord (cellsOf (now (code .entry))) h ⌝ }
 {
     if h == 0 {
         return 0;

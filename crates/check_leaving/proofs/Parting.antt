@@ -13,7 +13,7 @@ use Rattle.laws.proofs.Tests.{test}
 use Rattle.paper.specs.Sorts.{equalTexts}
 use Rattle.paper.specs.Words.{Word, wordLimit}
 use Rattle.paper.specs.Names.{Text, spelled, isAmong, meaning}
-use Rattle.store_cells.specs.Words.{wordsOf}
+use Rattle.store_cells.specs.Cells.{cellsOf}
 use Rattle.store_cells.proofs.Kept.{put-length, put-same, put-other}
 use Rattle.code.specs.Cells.{opAt, headAt, linkAt}
 use Rattle.code.specs.Steps.{aDatum}
@@ -32,12 +32,12 @@ use Rattle.check_sites.proofs.Sitting.{among-further}
 use Rattle.check_sites.proofs.Chaining.{rise-last, rise-few, map-append}
 
 -- ---- one name
-module _ (routine : ℕ → ℕ) (W : List Word) (s : Site) (code values values′ : List ℕ) (i : ℕ) (k : KeepsName routine W s (wordsOf code) i) where
+module _ (routine : ℕ → ℕ) (W : List Word) (s : Site) (code values values′ : List ℕ) (i : ℕ) (k : KeepsName routine W s (cellsOf code) i) where
   pub links : Links code i
   links = omega (arith, k .keeps .number, number-most W i (k .name), k .near)
 
   module _ (l : Left code values i values′) (room : storeBytes ≤ length values) where
-    row : (firstMeaning + linkAt (wordsOf code) i) * 4 + 4 ≤ length values
+    row : (firstMeaning + linkAt (cellsOf code) i) * 4 + 4 ≤ length values
     row = omega (arith, links, room)
 
     pub left-long : length values′ ≡ length values
@@ -47,13 +47,13 @@ module _ (routine : ℕ → ℕ) (W : List Word) (s : Site) (code values values�
     left-same = record { is = λ c h. put-other l row c (λ e. omega (arith, e, h)) }
 
     -- the cell of a name with this spelling, and of one with another
-    here : (j : ℕ) → spelled W j ≡ spelled W i → cellFor W (wordsOf values′) j ≡ headAt (wordsOf code) i
-    here j e = ap (λ (n : ℕ). getD (wordsOf values′) (firstMeaning + n) 0) (spellings-same W j i e ∙ sym (k .keeps .number)) ∙ put-same l row
+    here : (j : ℕ) → spelled W j ≡ spelled W i → cellFor W (cellsOf values′) j ≡ headAt (cellsOf code) i
+    here j e = ap (λ (n : ℕ). getD (cellsOf values′) (firstMeaning + n) 0) (spellings-same W j i e ∙ sym (k .keeps .number)) ∙ put-same l row
 
-    elsewhere : (j : ℕ) → IsName W j → (spelled W j ≡ spelled W i → ⊥) → cellFor W (wordsOf values′) j ≡ cellFor W (wordsOf values) j
+    elsewhere : (j : ℕ) → IsName W j → (spelled W j ≡ spelled W i → ⊥) → cellFor W (cellsOf values′) j ≡ cellFor W (cellsOf values) j
     elsewhere j n d = put-other l row (firstMeaning + numberOf W j) (λ e. d (numbers-same W j i n (k .name) (omega (arith, e, k .keeps .number))))
 
-    pub left-but : (texts : List Text) → MeansBut (spelled W i ∷ texts) routine W (outerOf W s) (wordsOf values) → MeansBut texts routine W (outerOf W s) (wordsOf values′)
+    pub left-but : (texts : List Text) → MeansBut (spelled W i ∷ texts) routine W (outerOf W s) (cellsOf values) → MeansBut texts routine W (outerOf W s) (cellsOf values′)
     left-but texts o = record {
       means = λ j n q. test (equalTexts (spelled W i) (spelled W j))
           (λ t. let e = same-texts (spelled W i) (spelled W j) t in ap (meaningIn routine) (here j (sym e)) ∙ k .keeps .means ∙ ap (meaning (outerOf W s)) e)
@@ -69,8 +69,8 @@ same-on p q = record { is = λ k h. q .is k h ∙ p .is k h }
 -- ---- parameters
 pub record Parameting {code values₀ : List ℕ} {first count : ℕ} (b : ParametersKept code values₀ first count) (values : List ℕ) (at left : ℕ) : Type 0 where
   pub near : at + 3 * left < wordLimit
-  pub keeps : KeepsAll (b .routine) (b .W) (b .s) (wordsOf code) (nameWords at left)
-  pub others : MeansBut (map (spelled (b .W)) (nameWords at left) ++ b .texts) (b .routine) (b .W) (outerOf (b .W) (b .s)) (wordsOf values)
+  pub keeps : KeepsAll (b .routine) (b .W) (b .s) (cellsOf code) (nameWords at left)
+  pub others : MeansBut (map (spelled (b .W)) (nameWords at left) ++ b .texts) (b .routine) (b .W) (outerOf (b .W) (b .s)) (cellsOf values)
 
 pub record ParametersLeft (code values₀ : List ℕ) (first count : ℕ) (values : List ℕ) (at left : ℕ) : Type 0 where
   pub long : length values ≡ length values₀
@@ -101,8 +101,8 @@ none-texts W at (suc n) texts h = absurd (omega arith)
 
 module _ (code values₀ : List ℕ) (first count : ℕ) (values : List ℕ) (at left : ℕ) (m : ParametersLeft code values₀ first count values at left) where
   module _ (b : ParametersKept code values₀ first count) (some : 0 < left) where
-    k : KeepsName (b .routine) (b .W) (b .s) (wordsOf code) (at + 1)
-    k = first-kept (b .routine) (b .W) (b .s) (wordsOf code) at left some (m .kept b .keeps) .0
+    k : KeepsName (b .routine) (b .W) (b .s) (cellsOf code) (at + 1)
+    k = first-kept (b .routine) (b .W) (b .s) (cellsOf code) at left some (m .kept b .keeps) .0
 
     pub leave-room : (at + 1) * 8 + 8 ≤ length code
     leave-room = omega (arith, k .near, b .code-room)
@@ -129,9 +129,9 @@ module _ (code values₀ : List ℕ) (first count : ℕ) (values : List ℕ) (at
     same = same-on (m .same) (left-same (b₀ .routine) (b₀ .W) (b₀ .s) code values values′ (at + 1) (k b₀ some) l (leave-table b₀ some));
     kept = λ b. record {
       near = omega (arith, m .kept b .near, some);
-      keeps = first-kept (b .routine) (b .W) (b .s) (wordsOf code) at left some (m .kept b .keeps) .1;
+      keeps = first-kept (b .routine) (b .W) (b .s) (cellsOf code) at left some (m .kept b .keeps) .1;
       others = left-but (b .routine) (b .W) (b .s) code values values′ (at + 1) (k b some) l (leave-table b some) (map (spelled (b .W)) (nameWords (at + 3) (left - 1)) ++ b .texts)
-          (subst (λ (t : List Text). MeansBut t (b .routine) (b .W) (outerOf (b .W) (b .s)) (wordsOf values)) (first-texts (b .W) at left (b .texts) some) (m .kept b .others));
+          (subst (λ (t : List Text). MeansBut t (b .routine) (b .W) (outerOf (b .W) (b .s)) (cellsOf values)) (first-texts (b .W) at left (b .texts) some) (m .kept b .others));
     };
   }
 
@@ -140,7 +140,7 @@ module _ (code values₀ : List ℕ) (first count : ℕ) (values : List ℕ) (at
 
   pub parameters-left : left ≤ 0 → LeavesParameters code values₀ values first count
   parameters-left none = record {
-    others = λ b. subst (λ (t : List Text). MeansBut t (b .routine) (b .W) (outerOf (b .W) (b .s)) (wordsOf values)) (none-texts (b .W) at left (b .texts) none) (m .kept b .others);
+    others = λ b. subst (λ (t : List Text). MeansBut t (b .routine) (b .W) (outerOf (b .W) (b .s)) (cellsOf values)) (none-texts (b .W) at left (b .texts) none) (m .kept b .others);
     same = m .same;
   }
 
@@ -164,11 +164,11 @@ pub record Datas {code values₀ : List ℕ} {head : ℕ} (b : DataKept code val
   -- the word that leads to i, and what it leads to
   pub w : ℕ
   pub r : List ℕ
-  pub at-is : i ≡ linkAt (wordsOf code) w
-  pub chain : Chain (wordsOf code) w r (b .end)
+  pub at-is : i ≡ linkAt (cellsOf code) w
+  pub chain : Chain (cellsOf code) w r (b .end)
   pub rises : Rise w wordLimit r
-  pub keeps : KeepsAll (b .routine) (b .W) (b .s) (wordsOf code) (map nameOf r)
-  pub others : MeansBut (map (spelled (b .W)) (map nameOf r)) (b .routine) (b .W) (outerOf (b .W) (b .s)) (wordsOf values)
+  pub keeps : KeepsAll (b .routine) (b .W) (b .s) (cellsOf code) (map nameOf r)
+  pub others : MeansBut (map (spelled (b .W)) (map nameOf r)) (b .routine) (b .W) (outerOf (b .W) (b .s)) (cellsOf values)
 
 pub record DataLeft (code values₀ : List ℕ) (head : ℕ) (values : List ℕ) (i : ℕ) : Type 0 where
   pub long : length values ≡ length values₀
@@ -178,7 +178,7 @@ pub record DataLeft (code values₀ : List ℕ) (head : ℕ) (values : List ℕ)
 pub head-room : (code values : List ℕ) (head : ℕ) → DataKept code values head → head * 8 + 8 ≤ length code
 head-room code values head b = omega (arith, b .before, b .code-room)
 
-pub data-kept : (code values : List ℕ) (head i : ℕ) → i ≡ linkAt (wordsOf code) head → DataLeft code values head values i
+pub data-kept : (code values : List ℕ) (head i : ℕ) → i ≡ linkAt (cellsOf code) head → DataLeft code values head values i
 data-kept code values head i e = record {
   long = refl;
   same = record { is = λ k h. refl };
@@ -191,47 +191,47 @@ module _ {code values₀ : List ℕ} {head : ℕ} (b : DataKept code values₀ h
     rest : List ℕ
     is : h .r ≡ i ∷ rest
 
-  some-left : opAt (wordsOf code) i ≡ aDatum → Some
+  some-left : opAt (cellsOf code) i ≡ aDatum → Some
   unfolding Leads lastOf
   some-left q = by-list (h .r) refl
     where
       by-list : (l : List ℕ) → h .r ≡ l → Some
-      by-list [] e = absurd (b .stops (ap (opAt (wordsOf code)) (sym (h .at-is ∙ ends-at e)) ∙ q))
+      by-list [] e = absurd (b .stops (ap (opAt (cellsOf code)) (sym (h .at-is ∙ ends-at e)) ∙ q))
         where
-          ends-at : h .r ≡ [] → linkAt (wordsOf code) (h .w) ≡ b .end
-          ends-at z = subst (λ (l : List ℕ). linkAt (wordsOf code) (lastOf (h .w) l) ≡ b .end) z (h .chain .ends)
+          ends-at : h .r ≡ [] → linkAt (cellsOf code) (h .w) ≡ b .end
+          ends-at z = subst (λ (l : List ℕ). linkAt (cellsOf code) (lastOf (h .w) l) ≡ b .end) z (h .chain .ends)
       by-list (d ∷ l) e =
-          let c : Leads (wordsOf code) (h .w) (d ∷ l) = subst (Leads (wordsOf code) (h .w)) e (h .chain .leads) in
+          let c : Leads (cellsOf code) (h .w) (d ∷ l) = subst (Leads (cellsOf code) (h .w)) e (h .chain .leads) in
           record { rest = l; is = e ∙ ap (λ (k : ℕ). k ∷ l) (sym (h .at-is ∙ c .0)) }
 
-  none-left : (opAt (wordsOf code) i ≡ aDatum → ⊥) → h .r ≡ []
+  none-left : (opAt (cellsOf code) i ≡ aDatum → ⊥) → h .r ≡ []
   unfolding Leads
   none-left q = by-list (h .r) refl
     where
       by-list : (l : List ℕ) → h .r ≡ l → h .r ≡ []
       by-list [] e = e
       by-list (d ∷ l) e =
-          let c : Leads (wordsOf code) (h .w) (d ∷ l) = subst (Leads (wordsOf code) (h .w)) e (h .chain .leads) in
-          absurd (q (ap (opAt (wordsOf code)) (h .at-is ∙ c .0) ∙ c .1))
+          let c : Leads (cellsOf code) (h .w) (d ∷ l) = subst (Leads (cellsOf code) (h .w)) e (h .chain .leads) in
+          absurd (q (ap (opAt (cellsOf code)) (h .at-is ∙ c .0) ∙ c .1))
 
   here-near : i < wordLimit
   unfolding Leads lastOf Rise
   here-near = by-list (h .r) refl
     where
       by-list : (l : List ℕ) → h .r ≡ l → i < wordLimit
-      by-list [] e = let z : linkAt (wordsOf code) (h .w) ≡ b .end = subst (λ (k : List ℕ). linkAt (wordsOf code) (lastOf (h .w) k) ≡ b .end) e (h .chain .ends) in omega (arith, h .at-is, z, b .inside)
+      by-list [] e = let z : linkAt (cellsOf code) (h .w) ≡ b .end = subst (λ (k : List ℕ). linkAt (cellsOf code) (lastOf (h .w) k) ≡ b .end) e (h .chain .ends) in omega (arith, h .at-is, z, b .inside)
       by-list (d ∷ l) e =
-          let c : Leads (wordsOf code) (h .w) (d ∷ l) = subst (Leads (wordsOf code) (h .w)) e (h .chain .leads) in
+          let c : Leads (cellsOf code) (h .w) (d ∷ l) = subst (Leads (cellsOf code) (h .w)) e (h .chain .leads) in
           let r : Rise (h .w) wordLimit (d ∷ l) = subst (Rise (h .w) wordLimit) e (h .rises) in
           let y = rise-last d wordLimit l (r .1) in
           omega (arith, h .at-is, c .0, y .0, y .1)
 
   -- the datum at hand
   module _ (s : Some) where
-    all-are : Chain (wordsOf code) (h .w) (i ∷ s .rest) (b .end)
-    all-are = subst (λ (l : List ℕ). Chain (wordsOf code) (h .w) l (b .end)) (s .is) (h .chain)
+    all-are : Chain (cellsOf code) (h .w) (i ∷ s .rest) (b .end)
+    all-are = subst (λ (l : List ℕ). Chain (cellsOf code) (h .w) l (b .end)) (s .is) (h .chain)
 
-    rest-chain : Chain (wordsOf code) i (s .rest) (b .end)
+    rest-chain : Chain (cellsOf code) i (s .rest) (b .end)
     unfolding Leads lastOf
     rest-chain = record { leads = all-are .leads .2; ends = all-are .ends }
 
@@ -239,25 +239,25 @@ module _ {code values₀ : List ℕ} {head : ℕ} (b : DataKept code values₀ h
     unfolding Rise
     rest-rises = subst (Rise (h .w) wordLimit) (s .is) (h .rises) .1
 
-    kept-here : KeepsName (b .routine) (b .W) (b .s) (wordsOf code) (i + 2)
+    kept-here : KeepsName (b .routine) (b .W) (b .s) (cellsOf code) (i + 2)
     unfolding KeepsAll nameOf
-    kept-here = subst (λ (l : List ℕ). KeepsAll (b .routine) (b .W) (b .s) (wordsOf code) (map nameOf l)) (s .is) (h .keeps) .0
+    kept-here = subst (λ (l : List ℕ). KeepsAll (b .routine) (b .W) (b .s) (cellsOf code) (map nameOf l)) (s .is) (h .keeps) .0
 
-    kept-rest : KeepsAll (b .routine) (b .W) (b .s) (wordsOf code) (map nameOf (s .rest))
+    kept-rest : KeepsAll (b .routine) (b .W) (b .s) (cellsOf code) (map nameOf (s .rest))
     unfolding KeepsAll nameOf
-    kept-rest = subst (λ (l : List ℕ). KeepsAll (b .routine) (b .W) (b .s) (wordsOf code) (map nameOf l)) (s .is) (h .keeps) .1
+    kept-rest = subst (λ (l : List ℕ). KeepsAll (b .routine) (b .W) (b .s) (cellsOf code) (map nameOf l)) (s .is) (h .keeps) .1
 
-    others-here : MeansBut (spelled (b .W) (i + 2) ∷ map (spelled (b .W)) (map nameOf (s .rest))) (b .routine) (b .W) (outerOf (b .W) (b .s)) (wordsOf values)
+    others-here : MeansBut (spelled (b .W) (i + 2) ∷ map (spelled (b .W)) (map nameOf (s .rest))) (b .routine) (b .W) (outerOf (b .W) (b .s)) (cellsOf values)
     unfolding nameOf
-    others-here = subst (λ (l : List ℕ). MeansBut (map (spelled (b .W)) (map nameOf l)) (b .routine) (b .W) (outerOf (b .W) (b .s)) (wordsOf values)) (s .is) (h .others)
+    others-here = subst (λ (l : List ℕ). MeansBut (map (spelled (b .W)) (map nameOf l)) (b .routine) (b .W) (outerOf (b .W) (b .s)) (cellsOf values)) (s .is) (h .others)
 
-    falls : chainLength (wordsOf code) wordLimit (linkAt (wordsOf code) i) < chainLength (wordsOf code) wordLimit i
+    falls : chainLength (cellsOf code) wordLimit (linkAt (cellsOf code) i) < chainLength (cellsOf code) wordLimit i
     falls =
         let f = rise-few i wordLimit (s .rest) rest-rises in
         let g = rise-few (h .w) wordLimit (i ∷ s .rest) (subst (Rise (h .w) wordLimit) (s .is) (h .rises)) in
-        let a = length-is (wordsOf code) (b .end) (b .stops) wordLimit i (s .rest) rest-chain (omega (arith, f)) in
-        let c = length-is (wordsOf code) (b .end) (b .stops) wordLimit (h .w) (i ∷ s .rest) all-are (omega (arith, g)) in
-        let e : chainLength (wordsOf code) wordLimit i ≡ suc (length (s .rest)) = ap (chainLength (wordsOf code) wordLimit) (h .at-is) ∙ c in
+        let a = length-is (cellsOf code) (b .end) (b .stops) wordLimit i (s .rest) rest-chain (omega (arith, f)) in
+        let c = length-is (cellsOf code) (b .end) (b .stops) wordLimit (h .w) (i ∷ s .rest) all-are (omega (arith, g)) in
+        let e : chainLength (cellsOf code) wordLimit i ≡ suc (length (s .rest)) = ap (chainLength (cellsOf code) wordLimit) (h .at-is) ∙ c in
         omega (arith, a, e)
 
 module _ (code values₀ : List ℕ) (head : ℕ) (values : List ℕ) (i : ℕ) (m : DataLeft code values₀ head values i) where
@@ -267,7 +267,7 @@ module _ (code values₀ : List ℕ) (head : ℕ) (values : List ℕ) (i : ℕ) 
   pub data-values : length values ≡ length values₀
   data-values = m .long
 
-  module _ (o : ℕ) (o-is : o ≡ opAt (wordsOf code) i) where
+  module _ (o : ℕ) (o-is : o ≡ opAt (cellsOf code) i) where
     module _ (b : DataKept code values₀ head) (yes : o ≡ aDatum) where
       some : Some b (m .kept b)
       some = some-left b (m .kept b) (sym o-is ∙ yes)
@@ -287,10 +287,10 @@ module _ (code values₀ : List ℕ) (head : ℕ) (values : List ℕ) (i : ℕ) 
       pub name-links : Links code (i + 2)
       name-links = links (b .routine) (b .W) (b .s) code values values (i + 2) (kept-here b (m .kept b) some)
 
-      pub data-fall : (next : ℕ) → next ≡ linkAt (wordsOf code) i → chainLength (wordsOf code) wordLimit next < chainLength (wordsOf code) wordLimit i
-      data-fall next e = subst (λ (k : ℕ). chainLength (wordsOf code) wordLimit k < chainLength (wordsOf code) wordLimit i) (sym e) (falls b (m .kept b) some)
+      pub data-fall : (next : ℕ) → next ≡ linkAt (cellsOf code) i → chainLength (cellsOf code) wordLimit next < chainLength (cellsOf code) wordLimit i
+      data-fall next e = subst (λ (k : ℕ). chainLength (cellsOf code) wordLimit k < chainLength (cellsOf code) wordLimit i) (sym e) (falls b (m .kept b) some)
 
-    pub data-leave : DataKept code values₀ head → o ≡ aDatum → (values′ : List ℕ) → Left code values (i + 2) values′ → (next : ℕ) → next ≡ linkAt (wordsOf code) i
+    pub data-leave : DataKept code values₀ head → o ≡ aDatum → (values′ : List ℕ) → Left code values (i + 2) values′ → (next : ℕ) → next ≡ linkAt (cellsOf code) i
         → DataLeft code values₀ head values′ next
     data-leave b₀ op values′ l next e = record {
       long = left-long (b₀ .routine) (b₀ .W) (b₀ .s) code values values′ (i + 2) (kept-here b₀ (m .kept b₀) (some b₀ op)) l (name-table b₀ op) ∙ m .long;
@@ -315,8 +315,8 @@ module _ (code values₀ : List ℕ) (head : ℕ) (values : List ℕ) (i : ℕ) 
       means = λ b.
           let h = m .kept b in
           let e = none-left b h (λ q. done (o-is ∙ q)) in
-          let k : MeansBut [] (b .routine) (b .W) (outerOf (b .W) (b .s)) (wordsOf values) =
-          subst (λ (l : List ℕ). MeansBut (map (spelled (b .W)) (map nameOf l)) (b .routine) (b .W) (outerOf (b .W) (b .s)) (wordsOf values)) e (h .others) in
+          let k : MeansBut [] (b .routine) (b .W) (outerOf (b .W) (b .s)) (cellsOf values) =
+          subst (λ (l : List ℕ). MeansBut (map (spelled (b .W)) (map nameOf l)) (b .routine) (b .W) (outerOf (b .W) (b .s)) (cellsOf values)) e (h .others) in
           record { means = λ j n. k .means j n refl; guards = λ j n. k .guards j n refl };
       same = m .same;
     }
@@ -333,7 +333,7 @@ module _ (code values : List ℕ) (first count head : ℕ) where
     table = l .table;
     near = l .near;
     keeps = l .keeps-parameters;
-    others = subst (λ (t : List Text). MeansBut t (l .routine) (l .W) (outerOf (l .W) (l .s)) (wordsOf values)) (map-append (spelled (l .W)) (nameWords first count) (map nameOf (l .ds))) (l .others);
+    others = subst (λ (t : List Text). MeansBut t (l .routine) (l .W) (outerOf (l .W) (l .s)) (cellsOf values)) (map-append (spelled (l .W)) (nameWords first count) (map nameOf (l .ds))) (l .others);
   }
 
   module _ (mid : List ℕ) (p : LeavesParameters code values mid first count) (long : length mid ≡ length values) where
@@ -358,7 +358,7 @@ module _ (code values : List ℕ) (first count head : ℕ) where
     pub leaving-data : Leaving code values first count head → DataKept code mid head
     leaving-data l = kept-of l
 
-    kept-left : (values′ : List ℕ) → LeavesData code mid values′ head → (l : Leaving code values first count head) → Means (l .routine) (l .W) (outerOf (l .W) (l .s)) (wordsOf values′)
+    kept-left : (values′ : List ℕ) → LeavesData code mid values′ head → (l : Leaving code values first count head) → Means (l .routine) (l .W) (outerOf (l .W) (l .s)) (cellsOf values′)
     kept-left values′ d l = d .means (kept-of l)
 
 pub routine-left : (scope outer : Scope) (code values mid : List ℕ) → LeavesParameters code values mid (scope .first) (scope .names) → length mid ≡ length values → (values′ : List ℕ)

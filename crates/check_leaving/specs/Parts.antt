@@ -5,7 +5,7 @@ use Prim.Native.Nat.{ℕ, _+_, _*_, _<_, _≤_}
 use lib.ListN.{length}
 use Rattle.paper.specs.Words.{Word, wordLimit}
 use Rattle.paper.specs.Names.{Text, spelled}
-use Rattle.store_cells.specs.Words.{wordsOf}
+use Rattle.store_cells.specs.Cells.{cellsOf}
 use Rattle.code.specs.Cells.{opAt}
 use Rattle.code.specs.Steps.{aDatum}
 use Rattle.check_names.specs.Meanings.{Means}
@@ -24,11 +24,11 @@ pub record ParametersKept (code values : List ℕ) (first count : ℕ) : Type 0 
   pub code-room : storeBytes ≤ length code
   pub table : storeBytes ≤ length values
   pub near : first + 3 * count < wordLimit
-  pub keeps : KeepsAll routine W s (wordsOf code) (nameWords first count)
-  pub others : MeansBut (map (spelled W) (nameWords first count) ++ texts) routine W (outerOf W s) (wordsOf values)
+  pub keeps : KeepsAll routine W s (cellsOf code) (nameWords first count)
+  pub others : MeansBut (map (spelled W) (nameWords first count) ++ texts) routine W (outerOf W s) (cellsOf values)
 
 pub record LeavesParameters (code values values′ : List ℕ) (first count : ℕ) : Type 0 where
-  pub others : (b : ParametersKept code values first count) → MeansBut (b .texts) (b .routine) (b .W) (outerOf (b .W) (b .s)) (wordsOf values′)
+  pub others : (b : ParametersKept code values first count) → MeansBut (b .texts) (b .routine) (b .W) (outerOf (b .W) (b .s)) (cellsOf values′)
   pub same : SameWords values values′
 
 -- the same of data that a word leads to, and no text more
@@ -42,12 +42,12 @@ pub record DataKept (code values : List ℕ) (head : ℕ) : Type 0 where
   pub table : storeBytes ≤ length values
   pub before : head < wordLimit
   pub rises : Rise head wordLimit ds
-  pub chain : Chain (wordsOf code) head ds end
+  pub chain : Chain (cellsOf code) head ds end
   pub inside : end < wordLimit
-  pub stops : opAt (wordsOf code) end ≡ aDatum → ⊥
-  pub keeps : KeepsAll routine W s (wordsOf code) (map nameOf ds)
-  pub others : MeansBut (map (spelled W) (map nameOf ds)) routine W (outerOf W s) (wordsOf values)
+  pub stops : opAt (cellsOf code) end ≡ aDatum → ⊥
+  pub keeps : KeepsAll routine W s (cellsOf code) (map nameOf ds)
+  pub others : MeansBut (map (spelled W) (map nameOf ds)) routine W (outerOf W s) (cellsOf values)
 
 pub record LeavesData (code values values′ : List ℕ) (head : ℕ) : Type 0 where
-  pub means : (b : DataKept code values head) → Means (b .routine) (b .W) (outerOf (b .W) (b .s)) (wordsOf values′)
+  pub means : (b : DataKept code values head) → Means (b .routine) (b .W) (outerOf (b .W) (b .s)) (cellsOf values′)
   pub same : SameWords values values′

@@ -8,7 +8,7 @@ use lib.Dec.{eqb, ltb}
 use borrow.Author.Tests.{ne-eqb, eq-eqb, lt-ltb, le-ltb, not-true, not-false}
 use Rattle.laws.proofs.Tests.{false-true}
 use Rattle.paper.specs.Basics.{if_then_else_}
-use Rattle.store_cells.specs.Words.{wordsOf}
+use Rattle.store_cells.specs.Cells.{cellsOf}
 use Rattle.code.specs.Cells.{opAt, linkAt, linkIn}
 use Rattle.code.specs.Steps.{aTarget, anElseIf, aCase, aThen, aProcedureCall, anEnd, aFunctionEnd, aNextValue, aDo, aPass, anOtherwise, aClose}
 use Rattle.store_reading.specs.Reading.{halfEnd, Part}
@@ -97,15 +97,15 @@ module _ (C L : List ℕ) (z : ℕ) where
 
 -- ---- the parts of the code
 module _ (code : List ℕ) (words : ℕ) where
-  pub goes-step : (z op : ℕ) → z < 16777216 → op ≡ opAt (wordsOf code) z → op < anElseIf → Beyond code words z z
-  goes-step z op h e g = record { is = λ k. sym (beyond-step (wordsOf code) (wordsOf code) z (omega arith)); as-link = λ k. k; as-value = h }
+  pub goes-step : (z op : ℕ) → z < 16777216 → op ≡ opAt (cellsOf code) z → op < anElseIf → Beyond code words z z
+  goes-step z op h e g = record { is = λ k. sym (beyond-step (cellsOf code) (cellsOf code) z (omega arith)); as-link = λ k. k; as-value = h }
 
-  pub goes-case : (z op r : ℕ) → op ≡ opAt (wordsOf code) z → op ≡ aCase → Part halfEnd (linkAt (wordsOf code) (z + 1)) r → Beyond code words z r
-  goes-case z op r e h g = record { is = λ i. g .same ∙ sym (beyond-case (wordsOf code) (wordsOf code) z (sym e ∙ h)); as-link = λ i. g .small; as-value = omega (arith, g .small) }
+  pub goes-case : (z op r : ℕ) → op ≡ opAt (cellsOf code) z → op ≡ aCase → Part halfEnd (linkAt (cellsOf code) (z + 1)) r → Beyond code words z r
+  goes-case z op r e h g = record { is = λ i. g .same ∙ sym (beyond-case (cellsOf code) (cellsOf code) z (sym e ∙ h)); as-link = λ i. g .small; as-value = omega (arith, g .small) }
 
-  pub goes-close : (z op r : ℕ) → op ≡ opAt (wordsOf code) z → anElseIf ≤ op → (op ≡ aCase → ⊥) → Part halfEnd (linkAt (wordsOf code) z) r → Beyond code words z r
+  pub goes-close : (z op r : ℕ) → op ≡ opAt (cellsOf code) z → anElseIf ≤ op → (op ≡ aCase → ⊥) → Part halfEnd (linkAt (cellsOf code) z) r → Beyond code words z r
   goes-close z op r e h d g = record {
-    is = λ i. g .same ∙ sym (beyond-close (wordsOf code) (wordsOf code) z (omega arith) (λ q. d (e ∙ q)));
+    is = λ i. g .same ∙ sym (beyond-close (cellsOf code) (cellsOf code) z (omega arith) (λ q. d (e ∙ q)));
     as-link = λ i. g .small;
     as-value = omega (arith, g .small);
   }
@@ -127,15 +127,15 @@ module _ (code : List ℕ) (words : ℕ) where
   pub link-stays : (op : ℕ) (b : Bool) (l : ℕ) → not b ≡ true → b ≡ goesByLink op → l < linkPart → LedLink code words op l l
   link-stays op b l t e h = record { same = λ f. refl; stays = λ f g k. refl; on = λ f. false-true (sym (not-true b t) ∙ e ∙ f); small = h }
 
-  pub link-to-else : (op l o : ℕ) → op ≡ aThen → o ≡ opAt (wordsOf code) l → o ≡ anElseIf → l < linkPart → LedLink code words op l l
+  pub link-to-else : (op l o : ℕ) → op ≡ aThen → o ≡ opAt (cellsOf code) l → o ≡ anElseIf → l < linkPart → LedLink code words op l l
   link-to-else op l o e f g h = record { same = λ k. refl; stays = λ p q k. refl; on = λ p d. absurd (d e (sym f ∙ g)); small = h }
 
   module _ (op : ℕ) (b : Bool) (t : not b ≡ false) (e : b ≡ goesByLink op) (l r : ℕ) (h : l < linkPart) (g : Beyond code words l r) where
-    pub link-goes : (op ≡ aThen → opAt (wordsOf code) l ≡ anElseIf → ⊥) → LedLink code words op l r
+    pub link-goes : (op ≡ aThen → opAt (cellsOf code) l ≡ anElseIf → ⊥) → LedLink code words op l r
     link-goes d = record { same = λ f. false-true (sym f ∙ sym e ∙ not-false b t); stays = λ p q k. absurd (d p q); on = λ f p. g .is; small = g .as-link h }
 
     pub link-goes-other : (op ≡ aThen → ⊥) → LedLink code words op l r
     link-goes-other d = link-goes (λ p q. d p)
 
-    pub link-goes-then : (o : ℕ) → o ≡ opAt (wordsOf code) l → (o ≡ anElseIf → ⊥) → LedLink code words op l r
+    pub link-goes-then : (o : ℕ) → o ≡ opAt (cellsOf code) l → (o ≡ anElseIf → ⊥) → LedLink code words op l r
     link-goes-then o f d = link-goes (λ p q. d (f ∙ q))

@@ -10,7 +10,7 @@ use Rattle.paper.specs.Trees.{Statement, Statements, Arms, Cases, simple, compa
 use Rattle.paper.specs.Names.{Scopes, spelled, enter}
 use Rattle.paper.specs.Checks.{forsIn, forsInList, forsInArms, forsInCases}
 use Rattle.paper.specs.Steps.{Step, endList, begin, listSteps, stepsOf, stepsOfList, stepsOfArms, stepsOfCases}
-use Rattle.store_cells.specs.Words.{wordsOf}
+use Rattle.store_cells.specs.Cells.{cellsOf}
 use Rattle.code.specs.Cells.{headAt, tailAt, opAt, valueAt}
 use Rattle.code.specs.Steps.{aPass, anElseIf, parts, stepIn}
 use Rattle.code.specs.Closed.{Every, done, also}
@@ -131,7 +131,7 @@ starts-at g n C (s then r) S used at to x = begins g n C s S used at (x .mid) (x
 -- C are the words as the walk left them, D as they are resolved.
 module _ (g : Ground) (n : ℕ) (before after : List ℕ) (words : ℕ) (few : words ≤ parts) (resolved : Resolved before after words) where
   abbrev D : List ℕ
-  D = wordsOf after
+  D = cellsOf after
 
   abbrev Reads : Step → Type 0
   Reads s = stepIn (g .m) n (g .function) (g .text) (g .R) D (s .name) ≡ some (known (g .offset) s)
@@ -139,26 +139,26 @@ module _ (g : Ground) (n : ℕ) (before after : List ℕ) (words : ℕ) (few : w
   abbrev Calls : Step → Type 0
   Calls s = CalleeIn (g .R) (g .offset) D (s .does)
 
-  module _ (l : RoutineList) (S : Scopes) (used at : ℕ) (x : RawRoutineList g n (wordsOf before) l S used at) (h : l .closes + 1 < words) where
+  module _ (l : RoutineList) (S : Scopes) (used at : ℕ) (x : RawRoutineList g n (cellsOf before) l S used at) (h : l .closes + 1 < words) where
     pub steps-read : Every Reads (listSteps (g .W) (g .M) S used l)
-    steps-read = every-as (λ s z. z .is) _ (routine-list-stands g n (wordsOf before) D words (resolved .led) few l S used at x h)
+    steps-read = every-as (λ s z. z .is) _ (routine-list-stands g n (cellsOf before) D words (resolved .led) few l S used at x h)
 
     pub callees-read : Every Calls (listSteps (g .W) (g .M) S used l)
-    callees-read = every-as (λ s z. z .callee) _ (routine-list-stands g n (wordsOf before) D words (resolved .led) few l S used at x h)
+    callees-read = every-as (λ s z. z .callee) _ (routine-list-stands g n (cellsOf before) D words (resolved .led) few l S used at x h)
 
   -- a word that does not lead on is as it was
-  module _ (i : ℕ) (h : i < words) (s : isLed (opAt (wordsOf before) i) ≡ false) where
-    pub head-stays : headAt D i ≡ headAt (wordsOf before) i
+  module _ (i : ℕ) (h : i < words) (s : isLed (opAt (cellsOf before) i) ≡ false) where
+    pub head-stays : headAt D i ≡ headAt (cellsOf before) i
     head-stays =
-        let o = opAt (wordsOf before) i in
+        let o = opAt (cellsOf before) i in
         let l = resolved .led i h in
         let q = l .op in
         let v = l .value (still-value o s) in
         omega arith
 
-    pub tail-stays : tailAt D i ≡ tailAt (wordsOf before) i
+    pub tail-stays : tailAt D i ≡ tailAt (cellsOf before) i
     tail-stays =
-        let o = opAt (wordsOf before) i in
+        let o = opAt (cellsOf before) i in
         let l = resolved .led i h in
         let q = l .place (still-place o s) in
         let v = l .link (still-link o s) in

@@ -7,7 +7,7 @@ use native.Mathlib.Omega.{arith}
 use lib.ListN.{length, drop, getD}
 use borrow.Author.Tests.{ne-eqb}
 use Rattle.laws.proofs.Tests.{by-less, by-same, false-true}
-use Rattle.store_cells.specs.Words.{wordsOf}
+use Rattle.store_cells.specs.Cells.{cellsOf}
 use Rattle.code.specs.Cells.{opIn, valueIn, placeIn, linkIn, headAt, tailAt, opAt, valueAt, placeAt, linkAt}
 use Rattle.code.specs.Steps.{aTarget, anElseIf, aCase, aThen}
 use Rattle.store_writing.specs.Promises.{Rewritten}
@@ -18,9 +18,9 @@ use Rattle.layout.specs.Parts.{valuePart, linkPart}
 
 -- ---- one word
 -- a word of an expression
-pub turned-low : (code : List ℕ) (words i op : ℕ) → op ≡ opAt (wordsOf code) i → op < aTarget → Turned code code words i
+pub turned-low : (code : List ℕ) (words i op : ℕ) → op ≡ opAt (cellsOf code) i → op < aTarget → Turned code code words i
 turned-low code words i op e h =
-    let C = wordsOf code in
+    let C = cellsOf code in
     let low : opAt C i < aTarget = subst (λ (w : ℕ). w < aTarget) e h in
     record {
       led = record {
@@ -53,12 +53,12 @@ module _ (op v p l : ℕ) where
   link-of : p < linkPart → linkIn (p + linkPart * l) ≡ l
   link-of h = omega arith
 
-pub turned : (code b : List ℕ) (words i op value place link v p l : ℕ) → words * 8 ≤ length code → i < words → op ≡ opAt (wordsOf code) i
-    → value ≡ valueAt (wordsOf code) i → place ≡ placeAt (wordsOf code) i → link ≡ linkAt (wordsOf code) i
+pub turned : (code b : List ℕ) (words i op value place link v p l : ℕ) → words * 8 ≤ length code → i < words → op ≡ opAt (cellsOf code) i
+    → value ≡ valueAt (cellsOf code) i → place ≡ placeAt (cellsOf code) i → link ≡ linkAt (cellsOf code) i
     → LedValue code words op value v → LedPlace code words op place p → LedLink code words op link l → Rewritten code b i (op + valuePart * v) (p + linkPart * l) → Turned code b words i
 turned code b words i op value place link v p l h g eo ev ep el gv gp gl w =
-    let C = wordsOf code in
-    let D = wordsOf b in
+    let C = cellsOf code in
+    let D = cellsOf b in
     let small : op < valuePart = subst (λ (x : ℕ). x < valuePart) (sym eo) (below (headAt C i)) in
     let room : i * 8 + 8 ≤ length code = omega arith in
     let hd : headAt D i ≡ op + valuePart * v = rewritten-head w room in
@@ -137,9 +137,9 @@ led-change C L D C2 L2 D2 words i hc tc hd td ops same x =
 -- Words from i on are led on by the links as they are by now; those before are as they were.
 pub record Passing (before code : List ℕ) (words i : ℕ) : Type 0 where
   pub within : i ≤ words
-  pub done : (k : ℕ) → i ≤ k → k < words → Led (wordsOf before) (wordsOf code) (wordsOf code) words k
-  pub heads : (k : ℕ) → k < i → headAt (wordsOf code) k ≡ headAt (wordsOf before) k
-  pub tails : (k : ℕ) → k < i → tailAt (wordsOf code) k ≡ tailAt (wordsOf before) k
+  pub done : (k : ℕ) → i ≤ k → k < words → Led (cellsOf before) (cellsOf code) (cellsOf code) words k
+  pub heads : (k : ℕ) → k < i → headAt (cellsOf code) k ≡ headAt (cellsOf before) k
+  pub tails : (k : ℕ) → k < i → tailAt (cellsOf code) k ≡ tailAt (cellsOf before) k
   pub past : drop (words * 8) code ≡ drop (words * 8) before
   pub long : length code ≡ length before
 
@@ -148,9 +148,9 @@ passing-start before words = record { within = omega arith; done = λ k h g. abs
 
 pub passing-on : (before code after : List ℕ) (words i : ℕ) → Passing before code words i → 0 < i → Turned code after words (i - 1) → Passing before after words (i - 1)
 passing-on before code after words i p h t =
-    let C = wordsOf before in
-    let D = wordsOf code in
-    let E = wordsOf after in
+    let C = cellsOf before in
+    let D = cellsOf code in
+    let E = cellsOf after in
     let ops : (z : ℕ) → z + 1 < words → opAt C z ≡ opAt D z = λ z g. by-less z i (λ k. ap opIn (sym (p .heads z k))) (λ k. sym (p .done z k (omega arith) .op)) in
     record {
       within = omega (arith, p .within);

@@ -7,7 +7,7 @@ use Prim.Native.Nat.{ℕ, _+_, _*_, _<_, _≤_}
 use lib.Dec.{eqb, ltb}
 use lib.ListN.{length, drop}
 use Rattle.paper.specs.Basics.{if_then_else_}
-use Rattle.store_cells.specs.Words.{wordsOf}
+use Rattle.store_cells.specs.Cells.{cellsOf}
 use Rattle.code.specs.Cells.{headAt, tailAt, opAt, valueAt, placeAt, linkAt}
 use Rattle.code.specs.Steps.{aTarget, aProcedureCall, anEnd, aFunctionEnd, anElseIf, aCase, aNextValue, aThen, aDo, aPass, anOtherwise, aClose}
 use Rattle.layout.specs.Parts.{linkPart}
@@ -75,37 +75,37 @@ pub record Led (C L D : List ℕ) (words i : ℕ) : Type 0 where
 
 -- Each word is led on by the links as they are in the end, and nothing else has changed.
 pub record Resolved (before after : List ℕ) (words : ℕ) : Type 0 where
-  pub led : (i : ℕ) → i < words → Led (wordsOf before) (wordsOf after) (wordsOf after) words i
+  pub led : (i : ℕ) → i < words → Led (cellsOf before) (cellsOf after) (cellsOf after) words i
   pub past : drop (words * 8) after ≡ drop (words * 8) before
   pub long : length after ≡ length before
 
 -- ---- the parts of the code
 -- A word that leads to z is to lead to r.
 pub record Beyond (code : List ℕ) (words z r : ℕ) : Type 0 where
-  pub is : z + 1 < words → r ≡ beyond (wordsOf code) (wordsOf code) z
+  pub is : z + 1 < words → r ≡ beyond (cellsOf code) (cellsOf code) z
   pub as-link : z < linkPart → r < linkPart
   pub as-value : r < 16777216
 
 pub record LedValue (code : List ℕ) (words op v r : ℕ) : Type 0 where
   pub same : goesByValue op ≡ false → r ≡ v
-  pub on : goesByValue op ≡ true → v + 1 < words → r ≡ beyond (wordsOf code) (wordsOf code) v
+  pub on : goesByValue op ≡ true → v + 1 < words → r ≡ beyond (cellsOf code) (cellsOf code) v
   pub small : r < 16777216
 
 pub record LedPlace (code : List ℕ) (words op p r : ℕ) : Type 0 where
   pub same : goesByPlace op ≡ false → r ≡ p
-  pub on : goesByPlace op ≡ true → p + 1 < words → r ≡ beyond (wordsOf code) (wordsOf code) p
+  pub on : goesByPlace op ≡ true → p + 1 < words → r ≡ beyond (cellsOf code) (cellsOf code) p
   pub small : r < linkPart
 
 pub record LedLink (code : List ℕ) (words op l r : ℕ) : Type 0 where
   pub same : goesByLink op ≡ false → r ≡ l
-  pub stays : op ≡ aThen → opAt (wordsOf code) l ≡ anElseIf → l + 1 < words → r ≡ l
-  pub on : goesByLink op ≡ true → (op ≡ aThen → opAt (wordsOf code) l ≡ anElseIf → ⊥) → l + 1 < words → r ≡ beyond (wordsOf code) (wordsOf code) l
+  pub stays : op ≡ aThen → opAt (cellsOf code) l ≡ anElseIf → l + 1 < words → r ≡ l
+  pub on : goesByLink op ≡ true → (op ≡ aThen → opAt (cellsOf code) l ≡ anElseIf → ⊥) → l + 1 < words → r ≡ beyond (cellsOf code) (cellsOf code) l
   pub small : r < linkPart
 
 -- Word i alone is led on by the links as they are so far.
 pub record Turned (before after : List ℕ) (words i : ℕ) : Type 0 where
-  pub led : Led (wordsOf before) (wordsOf before) (wordsOf after) words i
-  pub heads : (k : ℕ) → (k ≡ i → ⊥) → headAt (wordsOf after) k ≡ headAt (wordsOf before) k
-  pub tails : (k : ℕ) → (k ≡ i → ⊥) → tailAt (wordsOf after) k ≡ tailAt (wordsOf before) k
+  pub led : Led (cellsOf before) (cellsOf before) (cellsOf after) words i
+  pub heads : (k : ℕ) → (k ≡ i → ⊥) → headAt (cellsOf after) k ≡ headAt (cellsOf before) k
+  pub tails : (k : ℕ) → (k ≡ i → ⊥) → tailAt (cellsOf after) k ≡ tailAt (cellsOf before) k
   pub past : drop (words * 8) after ≡ drop (words * 8) before
   pub long : length after ≡ length before

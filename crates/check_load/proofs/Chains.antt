@@ -8,7 +8,7 @@ use lib.Dec.{eqb}
 use lib.ListN.{length, take, drop}
 use borrow.Author.Tests.{eqb-true, eq-eqb, lt-ltb, le-ltb}
 use Rattle.laws.proofs.Tests.{test, by-last, by-less, by-same, false-true}
-use Rattle.store_cells.specs.Words.{Got}
+use Rattle.store_cells.specs.Cells.{Got}
 use Rattle.paper.specs.Sorts.{folded, equalTexts, NAME}
 use Rattle.paper.specs.Words.{Word, textLimit}
 use Rattle.paper.specs.Names.{Text, nth, sortIn, spelled}

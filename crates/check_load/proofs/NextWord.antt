@@ -7,7 +7,7 @@ use native.Mathlib.Omega.{arith}
 use lib.ListN.{length, take, drop}
 use borrow.Author.Tests.{eq-eqb, ne-eqb}
 use Rattle.laws.proofs.Tests.{false-true}
-use Rattle.store_cells.specs.Words.{wordsOf, Got, Put}
+use Rattle.store_cells.specs.Cells.{cellsOf, Got, Put}
 use Rattle.store_cells.proofs.Kept.{put-length, put-drop}
 use Rattle.paper.specs.Sorts.{folded, NAME, STRING}
 use Rattle.paper.specs.Words.{Word}
@@ -74,7 +74,7 @@ module _ (text code values : List ℕ) (i : ℕ) (at : Loading text i code value
         loading = record {
           written = written-on (wordsIn text) i code code′ (w .sort + valuePart * v) (w .place) 0 p room (omega (arith, come .inside, come .short)) (at .written)
               (ap (λ (x : ℕ). w .sort + valuePart * x) e ∙ other-head d) (ap (λ (x : declared.Word). x .place) (come .is)) (λ f. false-true (sym none ∙ f));
-          tabled = tabled-same (wordsIn text) i none (wordsOf values) (come .room) (at .tabled);
+          tabled = tabled-same (wordsIn text) i none (cellsOf values) (come .room) (at .tabled);
           code-room = rw (rewritten-length p room) (at .code-room);
           values-room = at .values-room;
         };
@@ -134,7 +134,7 @@ module _ (text code values : List ℕ) (i place len : ℕ) (at : Loading text i 
 
     pub name-chain : Chain text code (part text place len) first
     name-chain = record {
-      written = written-fewer (wordsIn text) first i (wordsOf code) first-most (at .written);
+      written = written-fewer (wordsIn text) first i (cellsOf code) first-most (at .written);
       begins = first-is ∙ sym (latest-itself (wordsIn text) h i) ∙ ap₂ (latest (wordsIn text)) eh (sym first-is);
       most = omega (arith, first-most, come .room);
       room = at .code-room;
@@ -157,7 +157,7 @@ module _ (text code values : List ℕ) (i place len : ℕ) (at : Loading text i 
             loading = record {
               written = written-on (wordsIn text) i code code′ _ place 0 p room (omega (arith, come .inside, come .short)) (at .written)
                   (name-head (found - 1) number) (come .place-is) (λ t. false-true (sym none ∙ t));
-              tabled = tabled-same (wordsIn text) i none (wordsOf values) (come .room) (at .tabled);
+              tabled = tabled-same (wordsIn text) i none (cellsOf values) (come .room) (at .tabled);
               code-room = rw (rewritten-length p room) (at .code-room);
               values-room = at .values-room;
             };

@@ -7,7 +7,7 @@ use native.Mathlib.Omega.{arith}
 use lib.ListN.{length, getD, drop, List·getD-eq-default}
 use lib.Seq.{drop-drop, getD-drop}
 use Rattle.laws.proofs.Tests.{by-less}
-use Rattle.store_cells.specs.Words.{wordsOf, Cleared}
+use Rattle.store_cells.specs.Cells.{cellsOf, Cleared}
 use Rattle.store_cells.proofs.Kept.{clear-length, clear-drop, clear-in, clear-below, clear-above}
 use Rattle.paper.specs.Words as paper
 use Rattle.paper.specs.Words.{Refusal, Reading, reading, noWords}
@@ -129,7 +129,7 @@ module _ (text code₀ values₀ code values : List ℕ) (c : Cursor) (at : Prog
         heads = λ i h. at .loading .written .heads i (omega (arith, all));
         places = λ i h. at .loading .written .places i (omega (arith, all));
         zeros = λ k h. by-less k firstBucket (λ l. clear-below p room k l ∙ t .before k l)
-            (λ l. by-less k pastBuckets (λ m. let same : firstBucket + (k - firstBucket) ≡ k = omega arith in subst (λ (x : ℕ). getD (wordsOf values′) x 0 ≡ 0) same (clear-in p room (k - firstBucket) (omega arith)))
+            (λ l. by-less k pastBuckets (λ m. let same : firstBucket + (k - firstBucket) ≡ k = omega arith in subst (λ (x : ℕ). getD (cellsOf values′) x 0 ≡ 0) same (clear-in p room (k - firstBucket) (omega arith)))
             (λ m. clear-above p room k m ∙ t .between k m h));
         table = λ i h. clear-above p room (firstMeaning + i) (omega arith)
             ∙ by-less i (c .words) (λ l. t .table i l) (λ l. t .empty i l h ∙ sym (no-cell (wordsIn text) i (omega (arith, all))));

@@ -5,7 +5,7 @@ use Prim.Native.Nat.{ℕ, _+_, _*_, _/_, _%_, _<_}
 use native.Mathlib.Omega.{arith}
 use lib.ListN.{length}
 use borrow.Author.Tests.{eq-eqb}
-use Rattle.store_cells.specs.Words.{wordsOf}
+use Rattle.store_cells.specs.Cells.{cellsOf}
 use Rattle.paper.specs.Sorts.{NAME}
 use Rattle.paper.specs.Names.{nth, sortIn}
 use Rattle.code.specs.Cells.{opAt, valueIn, opIn}
@@ -22,14 +22,14 @@ use Rattle.check_load.proofs.Chains.{true-first}
 use Rattle.layout.specs.Parts.{valuePart}
 
 module _ (text code values : List ℕ) (r : Loaded) (code′ values′ : List ℕ) (h : Loads text code values r code′ values′) where
-  pub loads-sorts : (i : ℕ) → i < length (wordsIn text) → opAt (wordsOf code′) i ≡ sortIn (wordsIn text) i
+  pub loads-sorts : (i : ℕ) → i < length (wordsIn text) → opAt (cellsOf code′) i ≡ sortIn (wordsIn text) i
   unfolding sortIn
   loads-sorts i l = ap opIn (h .heads i l) ∙ low (nth (wordsIn text) i .sort) (headValue (wordsIn text) i) (reading-good text i l .sizes .sorts)
     where
       low : (sort v : ℕ) → sort < 128 → opIn (sort + valuePart * v) ≡ sort
       low sort v b = omega arith
 
-  pub loads-numbers : (i : ℕ) → IsName (wordsIn text) i → numberAt (wordsOf code′) i ≡ numberOf (wordsIn text) i
+  pub loads-numbers : (i : ℕ) → IsName (wordsIn text) i → numberAt (cellsOf code′) i ≡ numberOf (wordsIn text) i
   unfolding headValue
   loads-numbers i n =
       let l = name-inside (wordsIn text) i n in
@@ -43,8 +43,8 @@ module _ (text code values : List ℕ) (r : Loaded) (code′ values′ : List �
           rw e (omega arith)
 
   -- Before any declaration, the table says what the protected names mean.
-  pub loads-means : (routine : ℕ → ℕ) → Means routine (wordsIn text) noScopes (wordsOf values′)
+  pub loads-means : (routine : ℕ → ℕ) → Means routine (wordsIn text) noScopes (cellsOf values′)
   unfolding firstCell
   loads-means routine =
-      means-first routine (wordsIn text) (wordsOf values′)
+      means-first routine (wordsIn text) (cellsOf values′)
       (λ i n own. h .table i (omega (arith, name-inside (wordsIn text) i n, reading-most text)) ∙ rw (true-first (wordsIn text) i (record { name = n; own = own })))

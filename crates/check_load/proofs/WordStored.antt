@@ -8,7 +8,7 @@ use native.Mathlib.Numerals.{add-one}
 use lib.ListN.{length, getD}
 use borrow.Author.Tests.{eq-eqb, ne-eqb}
 use Rattle.laws.proofs.Tests.{by-same}
-use Rattle.store_cells.specs.Words.{wordsOf, Put}
+use Rattle.store_cells.specs.Cells.{cellsOf, Put}
 use Rattle.store_cells.proofs.Kept.{put-length, put-same, put-other}
 use Rattle.paper.specs.Words.{Word}
 use Rattle.paper.specs.Names.{nth, spelled}
@@ -23,19 +23,19 @@ use Rattle.layout.specs.Parts.{linkPart}
 
 -- ---- the code store
 module _ (W : List Word) (i : ℕ) (code code′ : List ℕ) (head place link : ℕ) (p : Rewritten code code′ i head (tailWith place link)) (room : i * 8 + 8 ≤ length code) (small : place < linkPart) where
-  place-is : placeAt (wordsOf code′) i ≡ place
+  place-is : placeAt (cellsOf code′) i ≡ place
   place-is = ap placeIn (rewritten-tail p room) ∙ low place link small
     where
       low : (place link : ℕ) → place < linkPart → placeIn (place + linkPart * link) ≡ place
       low place link h = omega arith
 
-  link-is : linkAt (wordsOf code′) i ≡ link
+  link-is : linkAt (cellsOf code′) i ≡ link
   link-is = ap linkIn (rewritten-tail p room) ∙ high place link small
     where
       high : (place link : ℕ) → place < linkPart → linkIn (place + linkPart * link) ≡ link
       high place link h = omega arith
 
-  pub written-on : Written W i (wordsOf code) → head ≡ headOf W i → place ≡ nth W i .place → (isFirst W i ≡ true → link ≡ latest W (hashOf (spelled W i)) i) → Written W (i + 1) (wordsOf code′)
+  pub written-on : Written W i (cellsOf code) → head ≡ headOf W i → place ≡ nth W i .place → (isFirst W i ≡ true → link ≡ latest W (hashOf (spelled W i)) i) → Written W (i + 1) (cellsOf code′)
   written-on w h q l = record {
     heads = λ j k. by-same j i (λ e. rw e (rewritten-head p room ∙ h)) (λ d. rewritten-heads p room j d ∙ w .heads j (less j k d));
     places = λ j k. by-same j i (λ e. rw e (place-is ∙ q)) (λ d. ap placeIn (rewritten-tails p room j d) ∙ w .places j (less j k d));
@@ -95,10 +95,10 @@ module _ (W : List Word) (i : ℕ) where
       sized : storeBytes ≤ length v
       sized = rw (put-length p (omega arith)) room
 
-      kept : (k : ℕ) → (k ≡ firstBucket + hashOf (spelled W i) → ⊥) → (k ≡ firstMeaning + i → ⊥) → getD (wordsOf w) k 0 ≡ getD (wordsOf values) k 0
+      kept : (k : ℕ) → (k ≡ firstBucket + hashOf (spelled W i) → ⊥) → (k ≡ firstMeaning + i → ⊥) → getD (cellsOf w) k 0 ≡ getD (cellsOf values) k 0
       kept k d e = put-other q (omega (arith, sized)) k e ∙ put-other p (omega arith) k d
 
-      pub tabled-new : m ≡ protectedCell (spelled W i) → Tabled W i (wordsOf values) → Tabled W (i + 1) (wordsOf w)
+      pub tabled-new : m ≡ protectedCell (spelled W i) → Tabled W i (cellsOf values) → Tabled W (i + 1) (cellsOf w)
       tabled-new e t = record {
         before = λ k h. kept k (λ z. omega arith) (λ z. omega arith) ∙ t .before k h;
         chains = λ h k. by-same h (hashOf (spelled W i))

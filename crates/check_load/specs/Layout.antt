@@ -5,7 +5,7 @@ use mathlib.Core.List.{List, map}
 use Prim.Native.Nat.{ℕ, zero, suc, _+_, _*_, _<_, _≤_}
 use lib.Dec.{eqb, ltb}
 use lib.ListN.{length, getD, take, drop}
-use Rattle.store_cells.specs.Words.{wordsOf}
+use Rattle.store_cells.specs.Cells.{cellsOf}
 use Rattle.paper.specs.Basics.{if_then_else_}
 use Rattle.paper.specs.Sorts.{folded, NAME, STRING}
 use Rattle.paper.specs.Words.{Word, reading, textLimit, wordLimit, nameLimit, largestNumber}
@@ -78,8 +78,8 @@ abbrev pub wordsIn : List ℕ → List Word
 wordsIn text = reading text .words
 
 pub record Loading (text : List ℕ) (n : ℕ) (code values : List ℕ) : Type 0 where
-  pub written : Written (wordsIn text) n (wordsOf code)
-  pub tabled : Tabled (wordsIn text) n (wordsOf values)
+  pub written : Written (wordsIn text) n (cellsOf code)
+  pub tabled : Tabled (wordsIn text) n (cellsOf values)
   pub code-room : storeBytes ≤ length code
   pub values-room : storeBytes ≤ length values
 
@@ -130,7 +130,7 @@ pub record NameComes (text : List ℕ) (i place len : ℕ) : Type 0 where
 -- ---- a chain
 -- The words before `first` are loaded, and it begins the chain of a name's hash.
 pub record Chain (text code : List ℕ) (name : List ℕ) (first : ℕ) : Type 0 where
-  pub written : Written (wordsIn text) first (wordsOf code)
+  pub written : Written (wordsIn text) first (cellsOf code)
   pub begins : first ≡ latest (wordsIn text) (hashOf name) first
   pub most : first ≤ numberLimit
   pub room : storeBytes ≤ length code

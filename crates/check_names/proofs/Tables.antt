@@ -7,7 +7,7 @@ use native.Mathlib.Omega.{arith}
 use lib.ListN.{length, getD, set}
 use lib.Seq.{getD-set-same, getD-set-other}
 use Rattle.laws.proofs.Tests.{by-same, test, apart}
-use Rattle.store_cells.specs.Words.{wordsOf}
+use Rattle.store_cells.specs.Cells.{cellsOf}
 use Rattle.store_cells.proofs.Laws.{length-words}
 use Rattle.paper.specs.Sorts.{equalTexts}
 use Rattle.paper.specs.Words.{Word}
@@ -60,21 +60,21 @@ module _ (routine : ℕ → ℕ) (W : List Word) (S S′ : Scopes) (X : List ℕ
 -- ---- declare and leave
 module _ (routine : ℕ → ℕ) (W : List Word) (S S′ : Scopes) (i : ℕ) (name : IsName W i) where
   -- From a declaration on, the table is that of the scopes that hide what the name meant. A declared name is never protected.
-  pub declare-means : (code values code′ values′ : List ℕ) (m : ℕ) → Declared code values i m code′ values′ → numberAt (wordsOf code) i ≡ numberOf W i → storeBytes ≤ length values
+  pub declare-means : (code values code′ values′ : List ℕ) (m : ℕ) → Declared code values i m code′ values′ → numberAt (cellsOf code) i ≡ numberOf W i → storeBytes ≤ length values
       → Hides S S′ (spelled W i) (meaningIn routine m) → isProtected (spelled W i) ≡ false → protectsCell m ≡ false
-      → Means routine W S (wordsOf values) → Means routine W S′ (wordsOf values′)
+      → Means routine W S (cellsOf values) → Means routine W S′ (cellsOf values′)
   declare-means code values code′ values′ m d e h hides free plain table =
-      subst (Means routine W S′) (sym (d .table .words ∙ ap (λ (k : ℕ). set (wordsOf values) (firstMeaning + k) m) e))
-      (means-set routine W S S′ (wordsOf values) i m name table (omega (arith, length-words values))
+      subst (Means routine W S′) (sym (d .table .words ∙ ap (λ (k : ℕ). set (cellsOf values) (firstMeaning + k) m) e))
+      (means-set routine W S S′ (cellsOf values) i m name table (omega (arith, length-words values))
       (hides .elsewhere) (sym (hides .here)) (plain ∙ sym free))
 
   -- The word keeps what the name meant.
-  pub declare-keeps : (code values code′ values′ : List ℕ) (m : ℕ) → i * 8 + 8 ≤ length code → Declared code values i m code′ values′ → numberAt (wordsOf code) i ≡ numberOf W i
-      → Means routine W S (wordsOf values) → Keeps routine W S (wordsOf code′) i
+  pub declare-keeps : (code values code′ values′ : List ℕ) (m : ℕ) → i * 8 + 8 ≤ length code → Declared code values i m code′ values′ → numberAt (cellsOf code) i ≡ numberOf W i
+      → Means routine W S (cellsOf values) → Keeps routine W S (cellsOf code′) i
   declare-keeps code values code′ values′ m h d e table =
-      let cell : headAt (wordsOf code′) i ≡ cellFor W (wordsOf values) i = rewritten-head (d .word) h ∙ ap (λ (k : ℕ). getD (wordsOf values) (firstMeaning + k) 0) e in
+      let cell : headAt (cellsOf code′) i ≡ cellFor W (cellsOf values) i = rewritten-head (d .word) h ∙ ap (λ (k : ℕ). getD (cellsOf values) (firstMeaning + k) 0) e in
       record {
-        number = ap (λ (x : ℕ). x / linkPart) (rewritten-tail (d .word) h) ∙ link-is (tailAt (wordsOf code) i) (numberAt (wordsOf code) i) ∙ e;
+        number = ap (λ (x : ℕ). x / linkPart) (rewritten-tail (d .word) h) ∙ link-is (tailAt (cellsOf code) i) (numberAt (cellsOf code) i) ∙ e;
         means = ap (meaningIn routine) cell ∙ table .means i name;
         guards = ap protectsCell cell ∙ table .guards i name;
       }
@@ -83,11 +83,11 @@ module _ (routine : ℕ → ℕ) (W : List Word) (S S′ : Scopes) (i : ℕ) (na
       link-is tail n = omega arith
 
   -- A name that is left means again what it meant.
-  pub leave-means : (code values values′ : List ℕ) → Left code values i values′ → Keeps routine W S (wordsOf code) i → Apart S′ S (spelled W i) → storeBytes ≤ length values → numberOf W i < numberLimit
-      → Means routine W S′ (wordsOf values) → Means routine W S (wordsOf values′)
+  pub leave-means : (code values values′ : List ℕ) → Left code values i values′ → Keeps routine W S (cellsOf code) i → Apart S′ S (spelled W i) → storeBytes ≤ length values → numberOf W i < numberLimit
+      → Means routine W S′ (cellsOf values) → Means routine W S (cellsOf values′)
   leave-means code values values′ l k elsewhere h small table =
-      subst (Means routine W S) (sym (l .words ∙ ap (λ (n : ℕ). set (wordsOf values) (firstMeaning + n) (headAt (wordsOf code) i)) (k .number)))
-      (means-set routine W S′ S (wordsOf values) i (headAt (wordsOf code) i) name table (omega (arith, length-words values)) elsewhere (k .means) (k .guards))
+      subst (Means routine W S) (sym (l .words ∙ ap (λ (n : ℕ). set (cellsOf values) (firstMeaning + n) (headAt (cellsOf code) i)) (k .number)))
+      (means-set routine W S′ S (cellsOf values) i (headAt (cellsOf code) i) name table (omega (arith, length-words values)) elsewhere (k .means) (k .guards))
 
 -- what hides a text differs from what it hides at this text alone, either way
 pub hides-back : {S S′ : Scopes} {text : Text} {m : Meaning} → Hides S S′ text m → Apart S′ S text

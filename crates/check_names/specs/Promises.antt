@@ -6,7 +6,7 @@ use mathlib.Core.Option.{some}
 use Prim.Native.Nat.{ℕ, _+_, _%_, _<_}
 use lib.ListN.{getD}
 use Rattle.paper.specs.Names.{typeOf}
-use Rattle.store_cells.specs.Words.{wordsOf, Put}
+use Rattle.store_cells.specs.Cells.{cellsOf, Put}
 use Rattle.code.specs.Cells.{headAt, valueAt, placeAt, linkAt}
 use Rattle.store_writing.specs.Promises.{tailWith, Rewritten}
 use Rattle.layout.specs.Types.{typeIn}
@@ -29,22 +29,22 @@ meaningAt C X i = getD X (firstMeaning + numberAt C i) 0
 
 -- ---- promises
 abbrev pub Number : (code : List ℕ) (i r : ℕ) → Type 0
-Number code i r = r ≡ numberAt (wordsOf code) i
+Number code i r = r ≡ numberAt (cellsOf code) i
 
 abbrev pub Meant : (code values : List ℕ) (i r : ℕ) → Type 0
-Meant code values i r = r ≡ meaningAt (wordsOf code) (wordsOf values) i
+Meant code values i r = r ≡ meaningAt (cellsOf code) (cellsOf values) i
 
 pub record Declared (code values : List ℕ) (i m : ℕ) (code′ values′ : List ℕ) : Type 0 where
   -- what the name meant, and its number as the word's link
-  pub word : Rewritten code code′ i (meaningAt (wordsOf code) (wordsOf values) i) (tailWith (placeAt (wordsOf code) i) (numberAt (wordsOf code) i))
-  pub table : Put values values′ (firstMeaning + numberAt (wordsOf code) i) m
+  pub word : Rewritten code code′ i (meaningAt (cellsOf code) (cellsOf values) i) (tailWith (placeAt (cellsOf code) i) (numberAt (cellsOf code) i))
+  pub table : Put values values′ (firstMeaning + numberAt (cellsOf code) i) m
 
 -- the word's link is a name's number
 abbrev pub Links : (code : List ℕ) (i : ℕ) → Type 0
-Links code i = linkAt (wordsOf code) i < numberLimit
+Links code i = linkAt (cellsOf code) i < numberLimit
 
 abbrev pub Left : (code values : List ℕ) (i : ℕ) (values′ : List ℕ) → Type 0
-Left code values i values′ = Put values values′ (firstMeaning + linkAt (wordsOf code) i) (headAt (wordsOf code) i)
+Left code values i values′ = Put values values′ (firstMeaning + linkAt (cellsOf code) i) (headAt (cellsOf code) i)
 
 abbrev pub Protects : (m : ℕ) → Bool → Type 0
 Protects m r = r ≡ protectsCell m

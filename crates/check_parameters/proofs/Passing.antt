@@ -15,7 +15,7 @@ use Rattle.paper.specs.Trees.{Parameter}
 use Rattle.paper.specs.Names.{DataType, variable, Text, textOf, sortIn, spelled, isAmong, cannotDeclare, typeOf}
 use Rattle.paper.specs.Types.{Fault}
 use Rattle.paper.specs.Declarations.{Data, noData, Filling, declareName, declareParameters, routineWordLimit}
-use Rattle.store_cells.specs.Words.{wordsOf}
+use Rattle.store_cells.specs.Cells.{cellsOf}
 use Rattle.code.specs.Cells.{firstWindow, opIn, placeIn, linkIn, opAt}
 use Rattle.check_names.specs.Numbers.{numberOf}
 use Rattle.layout.specs.Parts.{kindPart}
@@ -64,7 +64,7 @@ module _ {code values : List ℕ} {used i : ℕ} (b : ParameterBegins code value
   pub parameter-used : used ≤ 64
   parameter-used = omega (arith, used-most (b .W) (aRoutine (b .m)) (b .D .words) (b .filled .most) (b .filled .window), b .used-is, limit-routine (b .W) (b .m))
 
-  number-here : numberAt (wordsOf code) (i + 1) ≡ numberOf (b .W) (i + 1)
+  number-here : numberAt (cellsOf code) (i + 1) ≡ numberOf (b .W) (i + 1)
   number-here = b .loaded .words (i + 1) (omega arith) (omega (arith, b .stands .after)) .number (b .stands .name)
 
   module _ (t : Bool) (taken : Taken code values 1 (i + 1) t) where
@@ -87,7 +87,7 @@ module _ {code values : List ℕ} {used i : ℕ} (b : ParameterBegins code value
     type-is : typeWith (made .bool) ≡ type
     type-is =
         let e : i + 1 - 1 ≡ i = omega arith in
-        made .type .is ∙ ap typeOf (ap (opAt (wordsOf code)) e ∙ b .loaded .words i (omega arith) (omega (arith, b .stands .after)) .sort ∙ sym (b .stands .type))
+        made .type .is ∙ ap typeOf (ap (opAt (cellsOf code)) e ∙ b .loaded .words i (omega arith) (omega (arith, b .stands .after)) .sort ∙ sym (b .stands .type))
 
     ref-is : refWith 1 used ≡ F .ref (length (b .D .words))
     ref-is = ap (λ (k : ℕ). refWith k used) (own-routine (b .m)) ∙ ap (refWith (ownOf (aRoutine (b .m)))) (b .used-is) ∙ sym (site-ref (b .W) (aRoutine (b .m)) (length (b .D .words)))
@@ -131,7 +131,7 @@ module _ {code values : List ℕ} {used i : ℕ} (b : ParameterBegins code value
       keeps = record {
         near = omega (arith, parameter-near);
         name = b .stands .name;
-        keeps = keeps-outer (b .routine) (b .W) (aRoutine (b .m)) (b .D .names) (wordsOf code′) (i + 1) (not-among (map textOf (b .D .names)) (spelled (b .W) (i + 1)) free)
+        keeps = keeps-outer (b .routine) (b .W) (aRoutine (b .m)) (b .D .names) (cellsOf code′) (i + 1) (not-among (map textOf (b .D .names)) (spelled (b .W) (i + 1)) free)
             (declare-keeps (b .routine) (b .W) (scopesOf (b .W) (aRoutine (b .m)) (b .D)) (scopesOf (b .W) (aRoutine (b .m)) (b .D)) (i + 1) (b .stands .name) code values code′ mid _ room (made .declared) number-here (b .filled .means));
       };
       others = record {
@@ -186,7 +186,7 @@ pub record Passed {code₀ values₀ : List ℕ} {at : ℕ} (b : ParametersStand
   pub loaded : Loaded (b .W) code i (b .to)
   pub count : length (b .ps) ≡ used + length rest
   pub words-are : D .words ≡ replicate used (pos 0)
-  pub keeps : KeepsAll (b .routine) (b .W) (aRoutine (b .m)) (wordsOf code) (nameWords at used)
+  pub keeps : KeepsAll (b .routine) (b .W) (aRoutine (b .m)) (cellsOf code) (nameWords at used)
   pub covers : (u : Text) → isAmong (map (spelled (b .W)) (nameWords at used)) u ≡ false → isAmong (map textOf (D .names)) u ≡ false
 
 pub record ParametersWalk (code₀ values₀ : List ℕ) (at : ℕ) (code values : List ℕ) (i used : ℕ) : Type 0 where
@@ -194,10 +194,10 @@ pub record ParametersWalk (code₀ values₀ : List ℕ) (at : ℕ) (code values
   pub long-values : length values ≡ length values₀
   pub passed : (b : ParametersStand code₀ values₀ at) → Passed b code values i used
   pub place : i ≡ at + 3 * used
-  pub others : OtherWords (wordsOf code₀) (wordsOf code) at used
+  pub others : OtherWords (cellsOf code₀) (cellsOf code) at used
 
 -- ---- none
-module _ (code values : List ℕ) (at s : ℕ) (s-is : s ≡ opAt (wordsOf code) at) where
+module _ (code values : List ℕ) (at s : ℕ) (s-is : s ≡ opAt (cellsOf code) at) where
   at-on : (b : ParametersStand code values at) → at ≤ b .to
   at-on b = closed-grows (sortIn (b .W)) (ParameterAt (sortIn (b .W)) (Parses (sortIn (b .W)))) (parameter-grows (sortIn (b .W)) (Parses (sortIn (b .W))) (grows (b .W))) (b .stand)
 
@@ -296,10 +296,10 @@ module _ {code₀ values₀ : List ℕ} {at : ℕ} (b : ParametersStand code₀ 
     next-is = g .next-is ∙ first-left .one .after
 
     -- words before this one's, and behind it
-    stays : (k : ℕ) → (k / 2 ≡ i + 1 → ⊥) → getD (wordsOf code′) k 0 ≡ getD (wordsOf code) k 0
+    stays : (k : ℕ) → (k / 2 ≡ i + 1 → ⊥) → getD (cellsOf code′) k 0 ≡ getD (cellsOf code) k 0
     stays k d = g .others .is k (λ j l e. d (omega (arith, e, l)))
 
-    agrees : Agrees (wordsOf code) (wordsOf code′) i i
+    agrees : Agrees (cellsOf code) (cellsOf code′) i i
     agrees = record {
       heads = λ j l. stays (j * 2) (λ e. omega (arith, e, l));
       places = λ j l. ap placeIn (stays (j * 2 + 1) (λ e. omega (arith, e, l)));
@@ -326,9 +326,9 @@ module _ {code₀ values₀ : List ℕ} {at : ℕ} (b : ParametersStand code₀ 
     unfolding declareName
     words-on = ap (λ (l : List ℤ). l ++ pos 0 ∷ []) (h .words-are) ∙ replicate-append-replicate used 1 (pos 0) ∙ ap (λ (k : ℕ). replicate k (pos 0)) (sym one-more)
 
-    keeps-on : KeepsAll (b .routine) (b .W) (aRoutine (b .m)) (wordsOf code′) (nameWords at used′)
-    keeps-on = subst (KeepsAll (b .routine) (b .W) (aRoutine (b .m)) (wordsOf code′)) (sym names-are)
-        (keeps-more (b .routine) (b .W) (aRoutine (b .m)) (wordsOf code) (wordsOf code′) i i agrees (nameWords at used) (i + 1) (names-below at used i (omega (arith, place))) (h .keeps) (g .keeps))
+    keeps-on : KeepsAll (b .routine) (b .W) (aRoutine (b .m)) (cellsOf code′) (nameWords at used′)
+    keeps-on = subst (KeepsAll (b .routine) (b .W) (aRoutine (b .m)) (cellsOf code′)) (sym names-are)
+        (keeps-more (b .routine) (b .W) (aRoutine (b .m)) (cellsOf code) (cellsOf code′) i i agrees (nameWords at used) (i + 1) (names-below at used i (omega (arith, place))) (h .keeps) (g .keeps))
 
     covers-on : (u : Text) → isAmong (map (spelled (b .W)) (nameWords at used′)) u ≡ false → isAmong (map textOf (E .names)) u ≡ false
     unfolding declareName
@@ -358,7 +358,7 @@ module _ {code₀ values₀ : List ℕ} {at : ℕ} (b : ParametersStand code₀ 
           covers = covers-on;
         }
 
-    all : (sortIn (b .W) n ≡ 5 → ⊥) → (others : OtherWords (wordsOf code₀) (wordsOf code′) at used′) → ParametersFilled b code′ values′ n used′
+    all : (sortIn (b .W) n ≡ 5 → ⊥) → (others : OtherWords (cellsOf code₀) (cellsOf code′) at used′) → ParametersFilled b code′ values′ n used′
     unfolding declareParameters parameterFaults
     all comma others =
         let e : first-left .n ≡ n = sym (g .next-is) in
@@ -429,12 +429,12 @@ module _ (code₀ values₀ : List ℕ) (at : ℕ) (code values : List ℕ) (i u
       pub parameters-fall : ParametersStand code₀ values₀ at → wordLimit - (n + 1) < wordLimit - i
       parameters-fall b = omega (arith, n-is b, end-near b)
 
-      others-on : ParametersStand code₀ values₀ at → OtherWords (wordsOf code₀) (wordsOf code′) at used′
+      others-on : ParametersStand code₀ values₀ at → OtherWords (cellsOf code₀) (cellsOf code′) at used′
       others-on b = record {
         is = λ k e. went b .others .is k (λ j l y. e used (omega (arith, went b .used-is)) (omega (arith, y, l, m .place))) ∙ m .others .is k (λ j l y. e j (omega (arith, l, went b .used-is)) y);
       }
 
-      module _ (s : ℕ) (s-is : s ≡ opAt (wordsOf code′) n) (long : length code′ ≡ length code) where
+      module _ (s : ℕ) (s-is : s ≡ opAt (cellsOf code′) n) (long : length code′ ≡ length code) where
         sort-end : (b : ParametersStand code₀ values₀ at) → sortIn (b .W) n ≡ s
         sort-end b =
             let p = m .passed b in

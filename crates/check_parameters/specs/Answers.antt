@@ -9,7 +9,7 @@ use Rattle.paper.specs.Words.{Word}
 use Rattle.paper.specs.Trees.{Parameter, Module}
 use Rattle.paper.specs.Names.{Text, textOf, sortIn, spelled, isAmong}
 use Rattle.paper.specs.Declarations.{Data, noData, declareParameters}
-use Rattle.store_cells.specs.Words.{wordsOf}
+use Rattle.store_cells.specs.Cells.{cellsOf}
 use Rattle.grammar.specs.Form.{Parses, ParametersAt}
 use Rattle.faults.specs.First.{First}
 use Rattle.faults.specs.Added.{parameterFaults}
@@ -63,10 +63,10 @@ pub record ParametersFilled {code values : List ℕ} {at : ℕ} (b : ParametersS
   pub used-is : used ≡ length (b .ps)
   pub words-are : parametersAfter b .words ≡ replicate (length (b .ps)) (pos 0)
   pub filled : Filled (b .W) (b .routine) (aRoutine (b .m)) (parametersAfter b) values′
-  pub keeps : KeepsAll (b .routine) (b .W) (aRoutine (b .m)) (wordsOf code′) (nameWords at used)
+  pub keeps : KeepsAll (b .routine) (b .W) (aRoutine (b .m)) (cellsOf code′) (nameWords at used)
   pub covers : (u : Text) → isAmong (map (spelled (b .W)) (nameWords at used)) u ≡ false → isAmong (map textOf (parametersAfter b .names)) u ≡ false
   -- nothing has changed but the words of the names
-  pub others : OtherWords (wordsOf code) (wordsOf code′) at used
+  pub others : OtherWords (cellsOf code) (cellsOf code′) at used
 
 unfoldable pub SaysParameters : {code values : List ℕ} {at : ℕ} (b : ParametersStand code values at) (code′ values′ : List ℕ) → Walked → Type 0
 SaysParameters b code′ values′ (Upto next scope) = ParametersFilled b code′ values′ next (scope .used)

@@ -8,7 +8,7 @@ use Rattle.paper.specs.Words.{Word}
 use Rattle.paper.specs.Trees.{Parameter, Module}
 use Rattle.paper.specs.Names.{typeOf, variable, sortIn}
 use Rattle.paper.specs.Declarations.{Data, declareName}
-use Rattle.store_cells.specs.Words.{wordsOf}
+use Rattle.store_cells.specs.Cells.{cellsOf}
 use Rattle.grammar.specs.Form.{Parses, ParameterAt}
 use Rattle.faults.specs.First.{First}
 use Rattle.faults.specs.Added.{nameFaults}
@@ -39,8 +39,8 @@ pub record ParameterGoes {code values : List ℕ} {used i : ℕ} (b : ParameterB
   pub next-is : next ≡ b .to
   pub used-is : used′ ≡ used + 1
   pub filled : Filled (b .W) (b .routine) (aRoutine (b .m)) (parameterAfter b) values′
-  pub keeps : KeepsName (b .routine) (b .W) (aRoutine (b .m)) (wordsOf code′) (i + 1)
-  pub others : OtherWords (wordsOf code) (wordsOf code′) i 1
+  pub keeps : KeepsName (b .routine) (b .W) (aRoutine (b .m)) (cellsOf code′) (i + 1)
+  pub others : OtherWords (cellsOf code) (cellsOf code′) i 1
 
 unfoldable pub SaysParameter : {code values : List ℕ} {used i : ℕ} (b : ParameterBegins code values used i) (code′ values′ : List ℕ) → Walked → Type 0
 SaysParameter b code′ values′ (Upto next scope) = ParameterGoes b code′ values′ next (scope .used)

@@ -8,7 +8,7 @@ use native.Mathlib.Omega.{arith}
 use lib.ListN.{length, replicate}
 use lib.IntN.{ℤ, pos, _-ℤ_}
 use borrow.Author.Tests.{eq-eqb, ne-eqb}
-use Rattle.store_cells.specs.Words.{wordsOf}
+use Rattle.store_cells.specs.Cells.{cellsOf}
 use Rattle.code.specs.Cells.{opIn, valueIn, placeIn, linkIn, headAt, tailAt, opAt, placeAt, linkAt}
 use Rattle.code.specs.Spans.{_then_, bias}
 use Rattle.code.specs.Steps.{constantAt, parts, aDatum, theParameters}
@@ -66,7 +66,7 @@ pub record Stays (C D : List ℕ) (low high : ℕ) : Type 0 where
 pub stays-same : (C D : List ℕ) (low high : ℕ) → SameWords C D low high → Stays C D low high
 stays-same C D low high s = record { heads = λ i l h q. sym (s .heads i l h); tails = λ i l h q. sym (s .tails i l h) }
 
-pub stays-resolved : (g : Ground) (before after : List ℕ) (words : ℕ) → words ≤ parts → Resolved before after words → Stays (wordsOf before) (wordsOf after) 0 words
+pub stays-resolved : (g : Ground) (before after : List ℕ) (words : ℕ) → words ≤ parts → Resolved before after words → Stays (cellsOf before) (cellsOf after) 0 words
 stays-resolved g before after words few x = record {
   heads = λ i l h q. head-stays g 0 before after words few x i h q;
   tails = λ i l h q. tail-stays g 0 before after words few x i h q;

@@ -12,7 +12,7 @@ use Rattle.paper.specs.Trees.{leaf, initialData, assign, simple, empty, _then_,
 use Rattle.paper.specs.Names.{Scopes, nth, sortIn}
 use Rattle.paper.specs.Declarations.{routineScopes}
 use Rattle.paper.specs.Steps.{programOf}
-use Rattle.store_cells.specs.Words.{wordsOf}
+use Rattle.store_cells.specs.Cells.{cellsOf}
 use Rattle.code.specs.Cells.{opAt}
 use Rattle.code.specs.Spans.{aLiteral, bias}
 use Rattle.code.specs.Spans as spans
@@ -191,6 +191,6 @@ example-walked = record {
 }
 
 -- Whatever resolving leaves of them holds the program.
-example-holds : (before after : List ℕ) → wordsOf before ≡ cells → Resolved before after 18 → Holds text (mainHead ∷ []) offset (wordsOf after) (programOf W example)
+example-holds : (before after : List ℕ) → cellsOf before ≡ cells → Resolved before after 18 → Holds text (mainHead ∷ []) offset (cellsOf after) (programOf W example)
 unfolding ground
 example-holds before after e x = module-holds ground example before after 18 (rw e example-walked) x

@@ -16,7 +16,7 @@ use Rattle.paper.specs.Declarations.{moduleData, routineScopes}
 use Rattle.paper.specs.Checks.{forsInList, isSome}
 use Rattle.paper.specs.Steps.{Step, begin, firstStep, listSteps, codeOf, programOf}
 use Rattle.paper.specs.Running.{noCode, codeAt}
-use Rattle.store_cells.specs.Words.{wordsOf}
+use Rattle.store_cells.specs.Cells.{cellsOf}
 use Rattle.code.specs.Cells.{opIn, placeIn, linkIn, opAt, linkAt}
 use Rattle.code.specs.Steps.{Head, noHead, numbered, stepIn, parts}
 use Rattle.code.specs.Closed.{Every, done, also, SmallName}
@@ -30,7 +30,7 @@ use Rattle.check_links.specs.Resolved.{Resolved}
 use Rattle.check_links.specs.Raw.{Ground}
 use Rattle.check_links.proofs.Walked.{every-both, steps-read, callees-read, starts-at}
 use Rattle.store_writing.specs.Chains.{startsIn}
-use Rattle.check_program.specs.Routines.{groundFor, wordsOfData, wordsInAll, RawHandler, RawRoutine, RawRoutines, no-routine, a-routine, RawModule}
+use Rattle.check_program.specs.Routines.{groundFor, slotsOfData, wordsInAll, RawHandler, RawRoutine, RawRoutines, no-routine, a-routine, RawModule}
 use Rattle.check_program.proofs.Closing.{closed, loops-fit}
 use Rattle.check_program.proofs.Chaining.{parameters-still, rise-all, rise-on, chain-reads, Stays, stays-resolved, data-stay, chain-kept, starts-kept}
 use Rattle.check_program.proofs.Orders.{lies, handler-form, handler-raw, handler-every}
@@ -48,10 +48,10 @@ optionally-next n = rw add-one
 -- ---- a routine
 module _ (g : Ground) (m : Module) (before after : List ℕ) (words : ℕ) (few : words ≤ parts) (resolved : Resolved before after words) where
   abbrev C : List ℕ
-  C = wordsOf before
+  C = cellsOf before
 
   abbrev D : List ℕ
-  D = wordsOf after
+  D = cellsOf after
 
   handler-starts : (r : Routine) (o : Option RoutineList) (leader : ℕ) → RawHandler g C m r o leader → linkAt D leader ≡ linkAt C leader
       → elim o [ none ↦ none | some h ↦ some (firstStep (g .W) h) ] ≡ optionally (linkAt D leader)
@@ -60,7 +60,7 @@ module _ (g : Ground) (m : Module) (before after : List ℕ) (words : ℕ) (few 
   handler-starts r (some l) leader x e =
       let k = r .body .closes in
       rw (e ∙ x .leads)
-      (ap some (starts-at (groundFor g m r) (wordsInAll g m r) C (l .statements) (routineScopes (g .W) m r) (wordsOfData g m r + forsInList (r .body .statements)) (k + 1) (l .closes) (x .list .list))
+      (ap some (starts-at (groundFor g m r) (wordsInAll g m r) C (l .statements) (routineScopes (g .W) m r) (slotsOfData g m r + forsInList (r .body .statements)) (k + 1) (l .closes) (x .list .list))
       ∙ sym (optionally-next k))
 
   module _ (r : Routine) (h : Head) (to : ℕ) (x : RawRoutine g C m r h to) (inside : to < words) (behind : 0 < h .word) where
@@ -77,10 +77,10 @@ module _ (g : Ground) (m : Module) (before after : List ℕ) (words : ℕ) (few 
     M = memoryOf (g .W) m r
 
     abbrev n : ℕ
-    n = wordsOfData g m r
+    n = slotsOfData g m r
 
     abbrev late : ℕ
-    late = wordsOfData g m r + forsInList (r .body .statements)
+    late = slotsOfData g m r + forsInList (r .body .statements)
 
     body-inside : r .body .closes + 1 < words
     body-inside =
@@ -195,7 +195,7 @@ module _ (g : Ground) (m : Module) (before after : List ℕ) (words : ℕ) (few 
       each qs Q n to k y (omega (arith, routine-order g C m r j n x)) i (omega arith)
 
 -- ---- the module
-pub module-holds : (g : Ground) (m : Module) (before after : List ℕ) (words : ℕ) → RawModule g (wordsOf before) m words → Resolved before after words → Holds (g .text) (g .R) (g .offset) (wordsOf after) (programOf (g .W) m)
+pub module-holds : (g : Ground) (m : Module) (before after : List ℕ) (words : ℕ) → RawModule g (cellsOf before) m words → Resolved before after words → Holds (g .text) (g .R) (g .offset) (cellsOf after) (programOf (g .W) m)
 unfolding programOf codeAt
 module-holds g m before after words x resolved = record {
   as-many = as-many g m before after words (x .few) resolved (m .routines) (g .R) (x .begin) (x .end) (x .routines);

@@ -34,11 +34,11 @@ groundFor g m r = record {
 -- ---- a routine
 -- how many words of data it has, and how many with its FOR variables
 module _ (g : Ground) (m : Module) (r : Routine) where
-  abbrev pub wordsOfData : ℕ
-  wordsOfData = length (routineData (g .W) m r .words)
+  abbrev pub slotsOfData : ℕ
+  slotsOfData = length (routineData (g .W) m r .words)
 
   abbrev pub wordsInAll : ℕ
-  wordsInAll = wordsOfData + forsOf (g .W) r
+  wordsInAll = slotsOfData + forsOf (g .W) r
 
 module _ (g : Ground) (C : List ℕ) (m : Module) where
   abbrev pub RawLines : Routine → RoutineList → (used at : ℕ) → Type 0
@@ -47,7 +47,7 @@ module _ (g : Ground) (C : List ℕ) (m : Module) where
   -- an ERROR list, behind the word that closes the other
   pub record RawErrors (r : Routine) (l : RoutineList) (leader : ℕ) : Type 0 where
     pub leads : linkAt C leader ≡ r .body .closes + 1
-    pub list : RawLines r l (wordsOfData g m r + forsInList (r .body .statements)) (r .body .closes + 1)
+    pub list : RawLines r l (slotsOfData g m r + forsInList (r .body .statements)) (r .body .closes + 1)
 
   -- 0 is no step, and says that there is none
   unfoldable pub RawHandler : Routine → (handler : Option RoutineList) → (leader : ℕ) → Type 0
@@ -63,7 +63,7 @@ module _ (g : Ground) (C : List ℕ) (m : Module) where
     pub still : isLed (opAt C (h .word)) ≡ false
     pub still-next : isLed (opAt C (h .word + 1)) ≡ false
     pub starts : placeAt C (h .word) ≡ form .begin
-    pub body : RawLines r (r .body) (wordsOfData g m r) (form .begin)
+    pub body : RawLines r (r .body) (slotsOfData g m r) (form .begin)
     pub handler : RawHandler r (r .handler) (h .word + 1)
     -- the first words of its data, which the parenthesis before the parameters ends
     pub ds : List ℕ

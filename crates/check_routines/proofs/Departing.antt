@@ -14,12 +14,12 @@ use Rattle.paper.specs.Types.{Fault}
 use Rattle.paper.specs.Declarations.{Data, noData, Signature, routineFilling, routineData, routineScopes, moduleScopes, signatures}
 use Rattle.paper.specs.Checks.{isSome, routineFaults}
 use Rattle.paper.specs.Steps.{forsOf}
-use Rattle.store_cells.specs.Words.{wordsOf}
+use Rattle.store_cells.specs.Cells.{cellsOf}
 use Rattle.code.specs.Cells.{opIn, valueIn, placeIn, linkIn, headAt, tailAt, opAt, placeAt, linkAt}
 use Rattle.code.specs.Steps.{Head, aDatum, theParameters, numbered, aTarget}
 use Rattle.check_names.specs.Meanings.{Means}
 use Rattle.check_names.specs.Promises.{storeBytes}
-use Rattle.store_evaluation.specs.Answers.{callWords}
+use Rattle.store_evaluation.specs.Answers.{callSlots}
 use Rattle.grammar.specs.Form.{Parses, DeclarationsAt, RoutineAt}
 use Rattle.faults.specs.First.{First}
 use Rattle.check_links.specs.Raw.{Ground}
@@ -88,20 +88,20 @@ module _ (text code values : List ℕ) (result h name : ℕ) (g : ScopeStands te
   d : Declared text code values result h name g code₁ values₁ close own x₁ long₁ code₂ values₂ at taken x₂ long₂
   d = declared text code values result h name g code₁ values₁ close own x₁ long₁ code₂ values₂ at taken x₂ long₂
 
-  low : (i : ℕ) → i < (name + 3) * 2 → i < (form .close + 1) * 2 → (i ≡ h * 2 + 1 → ⊥) → getD (wordsOf code₂) i 0 ≡ getD (wordsOf code) i 0
+  low : (i : ℕ) → i < (name + 3) * 2 → i < (form .close + 1) * 2 → (i ≡ h * 2 + 1 → ⊥) → getD (cellsOf code₂) i 0 ≡ getD (cellsOf code) i 0
   low = low₂ text code values result h name g code₁ values₁ close own x₁ long₁ code₂ values₂ at taken x₂ long₂
 
-  high : (i : ℕ) → form .begin * 2 ≤ i → getD (wordsOf code₂) i 0 ≡ getD (wordsOf code) i 0
+  high : (i : ℕ) → form .begin * 2 ≤ i → getD (cellsOf code₂) i 0 ≡ getD (cellsOf code) i 0
   high = high₂ text code values result h name g code₁ values₁ close own x₁ long₁ code₂ values₂ at taken x₂ long₂
 
   unfoldable pub scope-lists : ListsStand text code₂ values₂ result (taken .used) h at
   scope-lists = lists-stand text code values result h name g code₁ values₁ close own x₁ long₁ code₂ values₂ at taken x₂ long₂
 
   -- the words before the parameters have their sorts still
-  low-op : (i : ℕ) → h ≤ i → i ≤ name + 1 → opAt (wordsOf code₂) i < aTarget
+  low-op : (i : ℕ) → h ≤ i → i ≤ name + 1 → opAt (cellsOf code₂) i < aTarget
   low-op i a c =
       let o′ = o in
-      let q : opAt (wordsOf code₂) i ≡ sortIn W i = ap opIn (low (i * 2) (omega arith) (omega arith) (λ z. omega arith)) ∙ g .begins .unread .loaded .words i a (omega arith) .sort in
+      let q : opAt (cellsOf code₂) i ≡ sortIn W i = ap opIn (low (i * 2) (omega arith) (omega arith) (λ z. omega arith)) ∙ g .begins .unread .loaded .words i a (omega arith) .sort in
       omega (arith, g .begins .stands .sorts i)
 
   module _ (code₃ values₃ : List ℕ) (next : ℕ) (all : Scope) (x₃ : Lists text code₂ values₂ code₃ values₃ result (taken .used) h at (Upto next all)) where
@@ -113,11 +113,11 @@ module _ (text code values : List ℕ) (result h name : ℕ) (g : ScopeStands te
       pub none : routineFaults W m (signatures W m 0 (m .routines)) (g .k) r ≡ []
       pub next-is : next ≡ to
       pub used-is : all .used ≡ taken .used + forsOf W r
-      pub few : all .used ≤ callWords
-      pub body : RawLines (groundOf text W m) (wordsOf code₃) m r (r .body) (taken .used) at
-      pub handler : RawHandler (groundOf text W m) (wordsOf code₃) m r (r .handler) (h + 1)
-      pub below : (i : ℕ) → i < at * 2 → (i ≡ h * 2 + 3 → ⊥) → getD (wordsOf code₃) i 0 ≡ getD (wordsOf code₂) i 0
-      pub above : (i : ℕ) → to * 2 ≤ i → getD (wordsOf code₃) i 0 ≡ getD (wordsOf code₂) i 0
+      pub few : all .used ≤ callSlots
+      pub body : RawLines (groundOf text W m) (cellsOf code₃) m r (r .body) (taken .used) at
+      pub handler : RawHandler (groundOf text W m) (cellsOf code₃) m r (r .handler) (h + 1)
+      pub below : (i : ℕ) → i < at * 2 → (i ≡ h * 2 + 3 → ⊥) → getD (cellsOf code₃) i 0 ≡ getD (cellsOf code₂) i 0
+      pub above : (i : ℕ) → to * 2 ≤ i → getD (cellsOf code₃) i 0 ≡ getD (cellsOf code₂) i 0
       pub same : SameValues values₂ values₃
 
     pub listed : Listed
@@ -133,39 +133,39 @@ module _ (text code values : List ℕ) (result h name : ℕ) (g : ScopeStands te
     module _ (code₄ : List ℕ) (fors : ℕ) (f : Finishes code₃ code₄ h (name + 1) at fors) (fors-is : fors ≡ all .used - taken .used) (long₄ : length code₄ ≡ length code) where
       -- ---- cells
       -- all of the words before the lists, but a link, a place and the parenthesis
-      cell₄ : (i : ℕ) → i < at * 2 → (i ≡ h * 2 + 1 → ⊥) → (i ≡ h * 2 + 3 → ⊥) → (i ≡ (name + 1) * 2 → ⊥) → (i ≡ (name + 1) * 2 + 1 → ⊥) → getD (wordsOf code₄) i 0 ≡ getD (wordsOf code₂) i 0
+      cell₄ : (i : ℕ) → i < at * 2 → (i ≡ h * 2 + 1 → ⊥) → (i ≡ h * 2 + 3 → ⊥) → (i ≡ (name + 1) * 2 → ⊥) → (i ≡ (name + 1) * 2 + 1 → ⊥) → getD (cellsOf code₄) i 0 ≡ getD (cellsOf code₂) i 0
       cell₄ i l a c p q = f .others i a p q ∙ listed .below i l c
 
-      lists₄ : (i : ℕ) → at * 2 ≤ i → getD (wordsOf code₄) i 0 ≡ getD (wordsOf code₃) i 0
+      lists₄ : (i : ℕ) → at * 2 ≤ i → getD (cellsOf code₄) i 0 ≡ getD (cellsOf code₃) i 0
       lists₄ i l = let o′ = o in let a = d .at-is in f .others i (λ z. omega arith) (λ z. omega arith) (λ z. omega arith)
 
-      above₄ : (i : ℕ) → to * 2 ≤ i → getD (wordsOf code₄) i 0 ≡ getD (wordsOf code) i 0
+      above₄ : (i : ℕ) → to * 2 ≤ i → getD (cellsOf code₄) i 0 ≡ getD (cellsOf code) i 0
       above₄ i l = let o′ = o in let a = d .at-is in lists₄ i (omega arith) ∙ listed .above i l ∙ high i (omega arith)
 
-      below₄ : (i : ℕ) → i < h * 2 → getD (wordsOf code₄) i 0 ≡ getD (wordsOf code) i 0
+      below₄ : (i : ℕ) → i < h * 2 → getD (cellsOf code₄) i 0 ≡ getD (cellsOf code) i 0
       below₄ i l =
           let o′ = o in
           let a = d .at-is in
           cell₄ i (omega arith) (λ z. omega arith) (λ z. omega arith) (λ z. omega arith) (λ z. omega arith) ∙ low i (omega arith) (omega arith) (λ z. omega arith)
 
-      head₄ : (i : ℕ) → i < at → (i ≡ name + 1 → ⊥) → headAt (wordsOf code₄) i ≡ headAt (wordsOf code₂) i
+      head₄ : (i : ℕ) → i < at → (i ≡ name + 1 → ⊥) → headAt (cellsOf code₄) i ≡ headAt (cellsOf code₂) i
       head₄ i l n = cell₄ (i * 2) (omega arith) (λ z. omega arith) (λ z. omega arith) (λ z. n (omega arith)) (λ z. omega arith)
 
-      tail₄ : (i : ℕ) → i < at → (i ≡ h → ⊥) → (i ≡ h + 1 → ⊥) → (i ≡ name + 1 → ⊥) → tailAt (wordsOf code₄) i ≡ tailAt (wordsOf code₂) i
+      tail₄ : (i : ℕ) → i < at → (i ≡ h → ⊥) → (i ≡ h + 1 → ⊥) → (i ≡ name + 1 → ⊥) → tailAt (cellsOf code₄) i ≡ tailAt (cellsOf code₂) i
       tail₄ i l a c n = cell₄ (i * 2 + 1) (omega arith) (λ z. a (omega arith)) (λ z. c (omega arith)) (λ z. omega arith) (λ z. n (omega arith))
 
-      spares₄ : Spares (wordsOf code) (wordsOf code₄) r h to
+      spares₄ : Spares (cellsOf code) (cellsOf code₄) r h to
       spares₄ =
           let o′ = o in
           let a = d .at-is in
-          spares-from text code values result h name g code₁ values₁ close own x₁ long₁ code₂ values₂ at taken x₂ long₂ (wordsOf code₄)
+          spares-from text code values result h name g code₁ values₁ close own x₁ long₁ code₂ values₂ at taken x₂ long₂ (cellsOf code₄)
           (λ i z. head₄ i (omega arith) (λ q. omega arith)) (λ j z. head₄ (name + 2 + 3 * j) (omega arith) (λ q. omega arith)) (λ i z. above₄ (i * 2) (omega arith) ∙ sym (high (i * 2) (omega arith)))
 
       -- ---- the chain of data
-      not-low : (i : ℕ) → h ≤ i → i ≤ name + 1 → opAt (wordsOf code₂) i ≡ aDatum → ⊥
+      not-low : (i : ℕ) → h ≤ i → i ≤ name + 1 → opAt (cellsOf code₂) i ≡ aDatum → ⊥
       not-low i a c q = omega (arith, low-op i a c)
 
-      stay : DataStay (wordsOf code₂) (wordsOf code₄) h (form .begin)
+      stay : DataStay (cellsOf code₂) (cellsOf code₄) h (form .begin)
       stay =
           let o′ = o in
           let a = d .at-is in
@@ -178,17 +178,17 @@ module _ (text code values : List ℕ) (result h name : ℕ) (g : ScopeStands te
       rise₄ : Rise h (form .begin) ds
       rise₄ = d .rises
 
-      chain₂ : Chain (wordsOf code₂) h ds (name + 1)
+      chain₂ : Chain (cellsOf code₂) h ds (name + 1)
       chain₂ = d .chain
 
-      chain₄ : Chain (wordsOf code₄) h ds (name + 1)
-      chain₄ = chain-kept (wordsOf code₂) (wordsOf code₄) (form .begin) h ds (name + 1) stay rise₄ chain₂
+      chain₄ : Chain (cellsOf code₄) h ds (name + 1)
+      chain₄ = chain-kept (cellsOf code₂) (cellsOf code₄) (form .begin) h ds (name + 1) stay rise₄ chain₂
 
-      starts₄ : startsIn (wordsOf code₂) ds ≡ startsIn (wordsOf code₄) ds
-      starts₄ = sym (starts-kept (wordsOf code₂) (wordsOf code₄) (form .begin) h ds stay rise₄ (chain₂ .leads))
+      starts₄ : startsIn (cellsOf code₂) ds ≡ startsIn (cellsOf code₄) ds
+      starts₄ = sym (starts-kept (cellsOf code₂) (cellsOf code₄) (form .begin) h ds stay rise₄ (chain₂ .leads))
 
       -- ---- leaving
-      others : MeansBut (map (spelled W) (nameWords (name + 2) (own .used) ++ map nameOf ds)) (numbered R) W (outerOf W (aRoutine m)) (wordsOf values₃)
+      others : MeansBut (map (spelled W) (nameWords (name + 2) (own .used) ++ map nameOf ds)) (numbered R) W (outerOf W (aRoutine m)) (cellsOf values₃)
       others = record {
         means = λ i n q.
             let t = spelled-apart W (nameWords (name + 2) (own .used)) (map nameOf ds) (spelled W i) q in
@@ -218,16 +218,16 @@ module _ (text code values : List ℕ) (result h name : ℕ) (g : ScopeStands te
             chain = chain₄;
             inside = omega arith;
             stops = λ q. omega (arith, f .op-is);
-            keeps-parameters = keeps-parameters (numbered R) W (aRoutine m) (wordsOf code₁) (wordsOf code₄) (name + 2) (own .used)
+            keeps-parameters = keeps-parameters (numbered R) W (aRoutine m) (cellsOf code₁) (cellsOf code₄) (name + 2) (own .used)
                 (λ j l. head₄ (name + 2 + 3 * j + 1) (omega arith) (λ q. omega arith) ∙ d .below ((name + 2 + 3 * j + 1) * 2) (omega (arith, e .close-is)) (λ q. omega arith))
                 (λ j l. tail₄ (name + 2 + 3 * j + 1) (omega arith) (λ q. omega arith) (λ q. omega arith) (λ q. omega arith) ∙ d .below ((name + 2 + 3 * j + 1) * 2 + 1) (omega (arith, e .close-is)) (λ q. omega arith)) (e .keeps);
-            keeps-data = keeps-data (numbered R) W (aRoutine m) (wordsOf code₂) (wordsOf code₄) (form .declared)
+            keeps-data = keeps-data (numbered R) W (aRoutine m) (cellsOf code₂) (cellsOf code₄) (form .declared)
                 (λ i x y. head₄ i (omega arith) (λ q. omega arith)) (λ i x y. tail₄ i (omega arith) (λ q. omega arith) (λ q. omega arith) (λ q. omega arith)) (d .keeps);
             others = others;
           }
 
       -- ---- what is written
-      raw₄ : RawRoutine (groundOf text W m) (wordsOf code₄) m r (record { word = h; parameters = length (r .parameters); function = isSome (r .result) }) to
+      raw₄ : RawRoutine (groundOf text W m) (cellsOf code₄) m r (record { word = h; parameters = length (r .parameters); function = isSome (r .result) }) to
       unfolding groundOf
       raw₄ =
           let o′ = o in
@@ -239,21 +239,21 @@ module _ (text code values : List ℕ) (result h name : ℕ) (g : ScopeStands te
             form = form;
             parameters = refl;
             function = refl;
-            still = low-still (opAt (wordsOf code₄) h) (subst (λ (w : ℕ). opIn w < aTarget) (sym (head₄ h (omega arith) (λ q. omega arith))) (low-op h (omega arith) (omega arith)));
-            still-next = low-still (opAt (wordsOf code₄) (h + 1)) (subst (λ (w : ℕ). opIn w < aTarget) (sym (head₄ (h + 1) (omega arith) (λ q. omega arith))) (low-op (h + 1) (omega arith) (omega arith)));
+            still = low-still (opAt (cellsOf code₄) h) (subst (λ (w : ℕ). opIn w < aTarget) (sym (head₄ h (omega arith) (λ q. omega arith))) (low-op h (omega arith) (omega arith)));
+            still-next = low-still (opAt (cellsOf code₄) (h + 1)) (subst (λ (w : ℕ). opIn w < aTarget) (sym (head₄ (h + 1) (omega arith) (λ q. omega arith))) (low-op (h + 1) (omega arith) (omega arith)));
             starts = f .place-is ∙ a;
-            body = lines-frame (groundOf text W m) (wordsOf code₃) (wordsOf code₄) m r (form .begin) to
-                (same-cells (wordsOf code₃) (wordsOf code₄) (form .begin) to (λ i x y. sym (lists₄ i (omega arith)))) (r .body) (length (routineData W m r .words)) (form .begin) (omega arith) (omega arith)
-                (subst (λ (x : ℕ). RawLines (groundOf text W m) (wordsOf code₃) m r (r .body) x (form .begin)) t (subst (λ (x : ℕ). RawLines (groundOf text W m) (wordsOf code₃) m r (r .body) (taken .used) x) a (listed .body)));
-            handler = handler-moves W (groundOf text W m) (wordsOf code₃) (wordsOf code₄) m r (r .handler) (h + 1) (form .end) (form .handler)
+            body = lines-frame (groundOf text W m) (cellsOf code₃) (cellsOf code₄) m r (form .begin) to
+                (same-cells (cellsOf code₃) (cellsOf code₄) (form .begin) to (λ i x y. sym (lists₄ i (omega arith)))) (r .body) (length (routineData W m r .words)) (form .begin) (omega arith) (omega arith)
+                (subst (λ (x : ℕ). RawLines (groundOf text W m) (cellsOf code₃) m r (r .body) x (form .begin)) t (subst (λ (x : ℕ). RawLines (groundOf text W m) (cellsOf code₃) m r (r .body) (taken .used) x) a (listed .body)));
+            handler = handler-moves W (groundOf text W m) (cellsOf code₃) (cellsOf code₄) m r (r .handler) (h + 1) (form .end) (form .handler)
                 (f .others ((h + 1) * 2 + 1) (λ q. omega arith) (λ q. omega arith) (λ q. omega arith))
-                (same-cells (wordsOf code₃) (wordsOf code₄) (r .body .closes) (form .end + 1) (λ i x y. sym (lists₄ i (omega arith)))) (listed .handler);
+                (same-cells (cellsOf code₃) (cellsOf code₄) (r .body .closes) (form .end + 1) (λ i x y. sym (lists₄ i (omega arith)))) (listed .handler);
             ds = ds;
-            chain = subst (λ (x : ℕ). Chain (wordsOf code₄) h ds (x + 1)) n chain₄;
+            chain = subst (λ (x : ℕ). Chain (cellsOf code₄) h ds (x + 1)) n chain₄;
             rise = rise₄;
-            words = d .words ∙ ap (λ (x : List ℤ). x ++ startsIn (wordsOf code₂) ds) (e .words) ∙ ap (λ (x : List ℤ). replicate (length (r .parameters)) (pos 0) ++ x) starts₄;
-            opens = subst (λ (x : ℕ). opAt (wordsOf code₄) (x + 1) ≡ theParameters) n (f .op-is);
-            fors = subst (λ (x : ℕ). placeAt (wordsOf code₄) (x + 1) ≡ forsOf W r) n (f .fors-is ∙ fors-is ∙ omega arith);
+            words = d .words ∙ ap (λ (x : List ℤ). x ++ startsIn (cellsOf code₂) ds) (e .words) ∙ ap (λ (x : List ℤ). replicate (length (r .parameters)) (pos 0) ++ x) starts₄;
+            opens = subst (λ (x : ℕ). opAt (cellsOf code₄) (x + 1) ≡ theParameters) n (f .op-is);
+            fors = subst (λ (x : ℕ). placeAt (cellsOf code₄) (x + 1) ≡ forsOf W r) n (f .fors-is ∙ fors-is ∙ omega arith);
             room = omega (arith, listed .few);
           }
 
@@ -262,12 +262,12 @@ module _ (text code values : List ℕ) (result h name : ℕ) (g : ScopeStands te
       head-is = ap (λ (w : ℕ). record { word = w; parameters = length (r .parameters); function = isSome (r .result) }) (sym (word-at (sortIn W) r h to form))
 
       pub goes : (values₄ : List ℕ) → length values₄ ≡ length values₃ → SameWords values₃ values₄
-          → ((l : Leaving code₄ values₃ (name + 2) (own .used) h) → Means (l .routine) (l .W) (outerOf (l .W) (l .s)) (wordsOf values₄)) → Goes (g .begins) code₄ values₄ next
+          → ((l : Leaving code₄ values₃ (name + 2) (own .used) h) → Means (l .routine) (l .W) (outerOf (l .W) (l .s)) (cellsOf values₄)) → Goes (g .begins) code₄ values₄ next
       unfolding leaving
       goes values₄ same-long same again = record {
         next-is = listed .next-is;
         none = listed .none;
-        raw = subst (λ (x : Head). RawRoutine (groundOf text W m) (wordsOf code₄) m r x to) head-is raw₄;
+        raw = subst (λ (x : Head). RawRoutine (groundOf text W m) (cellsOf code₄) m r x to) head-is raw₄;
         filled = routine-left W m (routineData W m r) values values₃ values₄ (g .begins .filled) table (omega (arith, table .table)) same (again leaving);
         spares = spares₄;
         below = below₄;

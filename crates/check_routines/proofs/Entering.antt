@@ -12,7 +12,7 @@ use Rattle.paper.specs.Names.{Text, textOf, sortIn, spelled, isAmong}
 use Rattle.paper.specs.Types.{Fault}
 use Rattle.paper.specs.Declarations.{Data, noData, Signature, declareParameters, declareData, routineFilling, routineData, signatures}
 use Rattle.paper.specs.Checks.{routineFaults}
-use Rattle.store_cells.specs.Words.{wordsOf}
+use Rattle.store_cells.specs.Cells.{cellsOf}
 use Rattle.code.specs.Cells.{opIn, valueIn, placeIn, headAt, tailAt, opAt}
 use Rattle.code.specs.Steps.{Head, numbered}
 use Rattle.code.specs.Signatures.{Heads}
@@ -128,9 +128,9 @@ module _ (text code values : List ℕ) (result h name : ℕ) where
         pub none : inParameters W m r ≡ []
         pub words : D₁ .words ≡ replicate (length (r .parameters)) (pos 0)
         pub filled : Filled W (numbered R) (aRoutine m) D₁ values₁
-        pub keeps : KeepsAll (numbered R) W (aRoutine m) (wordsOf code₁) (nameWords (name + 2) (own .used))
+        pub keeps : KeepsAll (numbered R) W (aRoutine m) (cellsOf code₁) (nameWords (name + 2) (own .used))
         pub covers : (u : Text) → isAmong (map (spelled W) (nameWords (name + 2) (own .used))) u ≡ false → isAmong (map textOf (D₁ .names)) u ≡ false
-        pub others : OtherWords (wordsOf code) (wordsOf code₁) (name + 2) (own .used)
+        pub others : OtherWords (cellsOf code) (cellsOf code₁) (name + 2) (own .used)
 
       pub entered : Entered
       unfolding SaysParameters parameters-stand filling
@@ -138,13 +138,13 @@ module _ (text code values : List ℕ) (result h name : ℕ) where
           let p = x₁ .is parameters-stand in
           record { close-is = p .next-is; count-is = p .used-is; none = p .none; words = p .words-are; filled = p .filled; keeps = p .keeps; covers = p .covers; others = p .others }
 
-      low₁ : (i : ℕ) → i < (name + 3) * 2 → getD (wordsOf code₁) i 0 ≡ getD (wordsOf code) i 0
+      low₁ : (i : ℕ) → i < (name + 3) * 2 → getD (cellsOf code₁) i 0 ≡ getD (cellsOf code) i 0
       low₁ i l = entered .others .is i (λ j a e. omega arith)
 
-      high₁ : (i : ℕ) → form .close * 2 ≤ i → getD (wordsOf code₁) i 0 ≡ getD (wordsOf code) i 0
+      high₁ : (i : ℕ) → form .close * 2 ≤ i → getD (cellsOf code₁) i 0 ≡ getD (cellsOf code) i 0
       high₁ i l = let o = order in let n = entered .count-is in entered .others .is i (λ j a e. omega arith)
 
-      type₁ : (j : ℕ) → headAt (wordsOf code₁) (name + 2 + 3 * j) ≡ headAt (wordsOf code) (name + 2 + 3 * j)
+      type₁ : (j : ℕ) → headAt (cellsOf code₁) (name + 2 + 3 * j) ≡ headAt (cellsOf code) (name + 2 + 3 * j)
       type₁ j = entered .others .is ((name + 2 + 3 * j) * 2) (λ i a e. omega arith)
 
       -- ---- data
@@ -162,7 +162,7 @@ module _ (text code values : List ℕ) (result h name : ℕ) where
         filled = entered .filled;
         stand = subst (λ (a : ℕ). DeclarationsAt (sortIn W) (Parses (sortIn W)) (r .declared) (a + 1) (form .begin)) (sym c) (form .declared);
         loaded = record {
-          words = λ i x y. fresh-on W (wordsOf code) (wordsOf code₁) i (high₁ (i * 2) (omega arith)) (b .unread .loaded .words i (omega arith) (omega arith));
+          words = λ i x y. fresh-on W (cellsOf code) (cellsOf code₁) i (high₁ (i * 2) (omega arith)) (b .unread .loaded .words i (omega arith) (omega arith));
           last = omega arith;
           whole = ap (λ (x : ℕ). x % 8) long₁ ∙ b .unread .loaded .whole;
           room = omega arith;
@@ -183,13 +183,13 @@ module _ (text code values : List ℕ) (result h name : ℕ) where
           pub none : inData W m r ≡ []
           pub taken-is : taken .used ≡ length (routineData W m r .words)
           pub filled : Filled W (numbered R) (aRoutine m) (routineData W m r) values₂
-          pub chain : Chain (wordsOf code₂) h ds (name + 1)
+          pub chain : Chain (cellsOf code₂) h ds (name + 1)
           pub rises : Rise h (form .begin) ds
-          pub words : routineData W m r .words ≡ D₁ .words ++ startsIn (wordsOf code₂) ds
-          pub keeps : KeepsAll (numbered R) W (aRoutine m) (wordsOf code₂) (map nameOf ds)
+          pub words : routineData W m r .words ≡ D₁ .words ++ startsIn (cellsOf code₂) ds
+          pub keeps : KeepsAll (numbered R) W (aRoutine m) (cellsOf code₂) (map nameOf ds)
           pub covers : CoversData W D₁ (routineData W m r) (r .declared)
-          pub below : (i : ℕ) → i < (close + 1) * 2 → (i ≡ h * 2 + 1 → ⊥) → getD (wordsOf code₂) i 0 ≡ getD (wordsOf code₁) i 0
-          pub above : (i : ℕ) → form .begin * 2 ≤ i → getD (wordsOf code₂) i 0 ≡ getD (wordsOf code₁) i 0
+          pub below : (i : ℕ) → i < (close + 1) * 2 → (i ≡ h * 2 + 1 → ⊥) → getD (cellsOf code₂) i 0 ≡ getD (cellsOf code₁) i 0
+          pub above : (i : ℕ) → form .begin * 2 ≤ i → getD (cellsOf code₂) i 0 ≡ getD (cellsOf code₁) i 0
 
         pub declared : Declared
         unfolding SaysRoutine data-stand filling routineData
@@ -210,25 +210,25 @@ module _ (text code values : List ℕ) (result h name : ℕ) where
             }
 
         -- words up to the parenthesis have changed but for a link
-        pub low₂ : (i : ℕ) → i < (name + 3) * 2 → i < (form .close + 1) * 2 → (i ≡ h * 2 + 1 → ⊥) → getD (wordsOf code₂) i 0 ≡ getD (wordsOf code) i 0
+        pub low₂ : (i : ℕ) → i < (name + 3) * 2 → i < (form .close + 1) * 2 → (i ≡ h * 2 + 1 → ⊥) → getD (cellsOf code₂) i 0 ≡ getD (cellsOf code) i 0
         low₂ i l c d = let e = entered .close-is in declared .below i (omega arith) d ∙ low₁ i l
 
-        pub high₂ : (i : ℕ) → form .begin * 2 ≤ i → getD (wordsOf code₂) i 0 ≡ getD (wordsOf code) i 0
+        pub high₂ : (i : ℕ) → form .begin * 2 ≤ i → getD (cellsOf code₂) i 0 ≡ getD (cellsOf code) i 0
         high₂ i l = let o = order in declared .above i l ∙ high₁ i (omega arith)
 
-        pub type₂ : (j : ℕ) → j < length (r .parameters) → headAt (wordsOf code₂) (name + 2 + 3 * j) ≡ headAt (wordsOf code) (name + 2 + 3 * j)
+        pub type₂ : (j : ℕ) → j < length (r .parameters) → headAt (cellsOf code₂) (name + 2 + 3 * j) ≡ headAt (cellsOf code) (name + 2 + 3 * j)
         type₂ j l = let o = order in let e = entered .close-is in declared .below ((name + 2 + 3 * j) * 2) (omega arith) (λ q. omega arith) ∙ type₁ j
 
         -- callers read what they read
-        pub spares-from : (D : List ℕ) → ((i : ℕ) → i ≤ name → headAt D i ≡ headAt (wordsOf code₂) i)
-            → ((j : ℕ) → j < length (r .parameters) → headAt D (name + 2 + 3 * j) ≡ headAt (wordsOf code₂) (name + 2 + 3 * j)) → ((i : ℕ) → b .stands .to ≤ i → headAt D i ≡ headAt (wordsOf code₂) i)
-            → Spares (wordsOf code) D r h (b .stands .to)
+        pub spares-from : (D : List ℕ) → ((i : ℕ) → i ≤ name → headAt D i ≡ headAt (cellsOf code₂) i)
+            → ((j : ℕ) → j < length (r .parameters) → headAt D (name + 2 + 3 * j) ≡ headAt (cellsOf code₂) (name + 2 + 3 * j)) → ((i : ℕ) → b .stands .to ≤ i → headAt D i ≡ headAt (cellsOf code₂) i)
+            → Spares (cellsOf code) D r h (b .stands .to)
         spares-from D low types high = let o = order in record {
           below = λ i l. low i (omega arith) ∙ low₂ (i * 2) (omega arith) (omega arith) (λ q. omega arith);
           above = λ i l. high i l ∙ high₂ (i * 2) (omega arith);
           first = low h (omega arith) ∙ low₂ (h * 2) (omega arith) (omega arith) (λ q. omega arith);
           second = low (h + 1) (omega arith) ∙ low₂ ((h + 1) * 2) (omega arith) (omega arith) (λ q. omega arith);
-          types = λ j l. subst (λ (n : ℕ). headAt D (n + 2 + 3 * j) ≡ headAt (wordsOf code) (n + 2 + 3 * j)) (g .name-is) (types j l ∙ type₂ j l);
+          types = λ j l. subst (λ (n : ℕ). headAt D (n + 2 + 3 * j) ≡ headAt (cellsOf code) (n + 2 + 3 * j)) (g .name-is) (types j l ∙ type₂ j l);
         }
 
         unfoldable pub inside : Inside text values₂ (g .k) h
@@ -239,7 +239,7 @@ module _ (text code values : List ℕ) (result h name : ℕ) where
         onward = let o = order in let a = declared .at-is in record {
           unread = record {
             loaded = record {
-              words = λ i x y. fresh-on W (wordsOf code) (wordsOf code₂) i (high₂ (i * 2) (omega arith)) (b .unread .loaded .words i (omega arith) y);
+              words = λ i x y. fresh-on W (cellsOf code) (cellsOf code₂) i (high₂ (i * 2) (omega arith)) (b .unread .loaded .words i (omega arith) y);
               last = omega arith;
               whole = ap (λ (x : ℕ). x % 8) long₂ ∙ b .unread .loaded .whole;
               room = omega arith;

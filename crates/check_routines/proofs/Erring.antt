@@ -20,9 +20,9 @@ use Rattle.paper.specs.Types.{Fault}
 use Rattle.paper.specs.Declarations.{resultAsked, routineData, routineScopes, signatures}
 use Rattle.paper.specs.Checks.{WhichList, theBody, theHandler, Setting, isSome, inError, settingIn, forsInList, handlerFaults, listFaults}
 use Rattle.paper.specs.Steps.{forsOf}
-use Rattle.store_cells.specs.Words.{wordsOf}
+use Rattle.store_cells.specs.Cells.{cellsOf}
 use Rattle.code.specs.Cells.{opAt, placeAt, linkAt}
-use Rattle.store_evaluation.specs.Answers.{callWords}
+use Rattle.store_evaluation.specs.Answers.{callSlots}
 use Rattle.grammar.specs.Form.{Parses, RoutineListAt}
 use Rattle.grammar.proofs.Places.{list-grows}
 use Rattle.faults.proofs.Expressions.{grows}
@@ -38,10 +38,10 @@ use Rattle.check_names.specs.declared.Walked.{Walked}
 use Rattle.check_names.specs.declared.Walked.the-variants.{Upto, Faulty}
 use Rattle.check_statements.specs.Answers.{Lists, Listed, Tell, Answer}
 use Rattle.check_compounds.specs.Here.{Outside}
-use Rattle.check_program.specs.Routines.{wordsOfData, wordsInAll, groundFor, RawLines}
+use Rattle.check_program.specs.Routines.{slotsOfData, wordsInAll, groundFor, RawLines}
 use Rattle.check_program.proofs.Orders.{lies}
 use Rattle.check_routines.specs.Answers.{groundOf}
-use Rattle.check_routines.specs.Parts.{leadsTo, Inside, Onward, groundIn, dataWords, ErrorsStand, ErrorLines, Ended, Errors}
+use Rattle.check_routines.specs.Parts.{leadsTo, Inside, Onward, groundIn, dataSlots, ErrorsStand, ErrorLines, Ended, Errors}
 use Rattle.check_routines.proofs.Surrounding.{around}
 use Rattle.check_routines.proofs.Going.{function-flag, outside-kept, outside-wider, outside-on, onward-on, list-stands, list-answered, lines-closed}
 
@@ -59,7 +59,7 @@ unfolding ErrorLines
 no-lines g C m r o e = subst (ErrorLines g C m r) (sym e) (record {})
 
 some-lines : (g : Ground) (C : List ℕ) (m : Module) (r : Routine) (o : Option RoutineList) (l : RoutineList) → o ≡ some l
-    → RawLines g C m r l (wordsOfData g m r + forsInList (r .body .statements)) (r .body .closes + 1) → ErrorLines g C m r o
+    → RawLines g C m r l (slotsOfData g m r + forsInList (r .body .statements)) (r .body .closes + 1) → ErrorLines g C m r o
 unfolding ErrorLines
 some-lines g C m r o l e x = subst (ErrorLines g C m r) (sym e) x
 
@@ -98,7 +98,7 @@ module _ (text code values : List ℕ) (result used e leads : ℕ) where
     pub closes-small : e < wordLimit
     closes-small = omega (arith, closes-inside, g .onward .unread .loaded .last)
 
-    sort-here : opAt (wordsOf code) e ≡ sortIn W e
+    sort-here : opAt (cellsOf code) e ≡ sortIn W e
     sort-here = g .onward .unread .loaded .words e (omega arith) closes-inside .sort
 
     flag : not (eqb result 0) ≡ isSome (r .result)
@@ -109,8 +109,8 @@ module _ (text code values : List ℕ) (result used e leads : ℕ) where
       no-error : sortIn W (r .body .closes) ≡ ERROR → ⊥
       unfolding leadsTo
       no-error q =
-          let t : opAt (wordsOf code) e ≡ ERROR = sort-here ∙ ap (sortIn W) (g .closes) ∙ q in
-          let u : leads ≡ e + 1 = g .leads-is ∙ rw (eq-eqb (opAt (wordsOf code) e) 52 t) in
+          let t : opAt (cellsOf code) e ≡ ERROR = sort-here ∙ ap (sortIn W) (g .closes) ∙ q in
+          let u : leads ≡ e + 1 = g .leads-is ∙ rw (eq-eqb (opAt (cellsOf code) e) 52 t) in
           omega arith
 
       missing : (r .handler ≡ none) × (end ≡ r .body .closes)
@@ -121,12 +121,12 @@ module _ (text code values : List ℕ) (result used e leads : ℕ) where
       an-error : sortIn W (r .body .closes) ≡ ERROR
       unfolding leadsTo
       an-error =
-          by-same (opAt (wordsOf code) e) 52 (λ t. sym (ap (sortIn W) (g .closes)) ∙ sym sort-here ∙ t)
-          (λ d. absurd (z (g .leads-is ∙ rw (ne-eqb (opAt (wordsOf code) e) 52 d))))
+          by-same (opAt (cellsOf code) e) 52 (λ t. sym (ap (sortIn W) (g .closes)) ∙ sym sort-here ∙ t)
+          (λ d. absurd (z (g .leads-is ∙ rw (ne-eqb (opAt (cellsOf code) e) 52 d))))
 
       leads-next : leads ≡ e + 1
       unfolding leadsTo
-      leads-next = g .leads-is ∙ rw (eq-eqb (opAt (wordsOf code) e) 52 (sort-here ∙ ap (sortIn W) (g .closes) ∙ an-error))
+      leads-next = g .leads-is ∙ rw (eq-eqb (opAt (cellsOf code) e) 52 (sort-here ∙ ap (sortIn W) (g .closes) ∙ an-error))
 
       found : HasHandler (sortIn W) (Parses (sortIn W)) (r .handler) (r .body .closes + 1) end
       found = handler-some (sortIn W) (Parses (sortIn W)) (s .stands .form .handler) an-error
@@ -137,8 +137,8 @@ module _ (text code values : List ℕ) (result used e leads : ℕ) where
       fors-are : forsOf W r ≡ forsInList (r .body .statements) + forsInList (l .statements)
       fors-are = fors-some W r l (found .is)
 
-      module _ (mid : List ℕ) (op : ℕ) (c : Linked code mid e op 0 (linkAt (wordsOf code) e)) where
-        moved : Outside (wordsOf code) (wordsOf mid) e (e + 1)
+      module _ (mid : List ℕ) (op : ℕ) (c : Linked code mid e op 0 (linkAt (cellsOf code) e)) where
+        moved : Outside (cellsOf code) (cellsOf mid) e (e + 1)
         moved = outside-kept code mid e (e + 1) (c .kept)
 
         behind : e < end
@@ -156,7 +156,7 @@ module _ (text code values : List ℕ) (result used e leads : ℕ) where
             let at-is : r .body .closes + 1 ≡ leads = omega (arith, leads-next, g .closes) in
             subst (λ (a : ℕ). RoutineListAt (sortIn W) (Parses (sortIn W)) l a end) at-is (found .stands)
 
-        many : dataWords s ≤ used
+        many : dataSlots s ≤ used
         many = omega (arith, g .used-is)
 
         enough : used + forsInList (l .statements) ≤ wordsInAll (groundIn s) m r
@@ -168,7 +168,7 @@ module _ (text code values : List ℕ) (result used e leads : ℕ) where
 
         answered : (after values′ : List ℕ) (x : Walked) → Listed text mid values after values′ (record { result = result; handler = true }) used leads x
             → Answer (listFaults W (settingIn W (signatures W m 0 (m .routines)) (g .k) r theHandler) (memoryOf W m r) (l .statements) (routineScopes W m r) used) mid after values values′ leads end
-            (used + forsInList (l .statements)) (RawList (groundFor (groundIn s) m r) (wordsInAll (groundIn s) m r) (wordsOf after) (l .statements) (routineScopes W m r) used leads end) x
+            (used + forsInList (l .statements)) (RawList (groundFor (groundIn s) m r) (wordsInAll (groundIn s) m r) (cellsOf after) (l .statements) (routineScopes W m r) used leads end) x
         answered after values′ x y =
             list-answered s theHandler l mid leads end used (record { result = result; handler = true }) onward tells-so form-here (omega arith) many (g .few) enough after values′ x y
 
@@ -177,24 +177,24 @@ module _ (text code values : List ℕ) (result used e leads : ℕ) where
         unfolding groundOf
         faults-are = some-faults W _ _ _ _ used (r .handler) l (found .is) (g .used-is)
 
-        lines-are : (after last : List ℕ) (next : ℕ) {f : Bool} → f ≡ isSome (r .result) → next ≡ end → Outside (wordsOf mid) (wordsOf after) leads end
-            → RawList (groundFor (groundIn s) m r) (wordsInAll (groundIn s) m r) (wordsOf after) (l .statements) (routineScopes W m r) used leads end
-            → Linked after last next (endOf f) 0 (linkAt (wordsOf after) next)
-            → RawLines (groundIn s) (wordsOf last) m r l (wordsOfData (groundIn s) m r + forsInList (r .body .statements)) (r .body .closes + 1)
+        lines-are : (after last : List ℕ) (next : ℕ) {f : Bool} → f ≡ isSome (r .result) → next ≡ end → Outside (cellsOf mid) (cellsOf after) leads end
+            → RawList (groundFor (groundIn s) m r) (wordsInAll (groundIn s) m r) (cellsOf after) (l .statements) (routineScopes W m r) used leads end
+            → Linked after last next (endOf f) 0 (linkAt (cellsOf after) next)
+            → RawLines (groundIn s) (cellsOf last) m r l (slotsOfData (groundIn s) m r + forsInList (r .body .statements)) (r .body .closes + 1)
         unfolding groundOf offsetIn
         lines-are after last next {f} fl n out x q =
             let at-is : leads ≡ r .body .closes + 1 = omega (arith, leads-next, g .closes) in
             let near : leads ≤ end = omega (arith, leads-next, behind) in
-            let place : placeAt (wordsOf after) next ≡ groundIn s .offset next =
-            subst (λ (i : ℕ). placeAt (wordsOf after) i ≡ groundIn s .offset i) (sym n)
+            let place : placeAt (cellsOf after) next ≡ groundIn s .offset next =
+            subst (λ (i : ℕ). placeAt (cellsOf after) i ≡ groundIn s .offset i) (sym n)
             (ap (λ (w : ℕ). w % linkPart) (out .above (end * 2 + 1) (omega arith)) ∙ onward .unread .places end near (omega arith)) in
-            let raw = subst (λ (i : ℕ). RawList (groundFor (groundIn s) m r) (wordsInAll (groundIn s) m r) (wordsOf after) (l .statements) (routineScopes W m r) used leads i) (sym n) x in
-            subst (λ (i : ℕ). RawLines (groundIn s) (wordsOf last) m r l (wordsOfData (groundIn s) m r + forsInList (r .body .statements)) i) at-is
-            (subst (λ (i : ℕ). RawLines (groundIn s) (wordsOf last) m r l i leads) (g .used-is)
+            let raw = subst (λ (i : ℕ). RawList (groundFor (groundIn s) m r) (wordsInAll (groundIn s) m r) (cellsOf after) (l .statements) (routineScopes W m r) used leads i) (sym n) x in
+            subst (λ (i : ℕ). RawLines (groundIn s) (cellsOf last) m r l (slotsOfData (groundIn s) m r + forsInList (r .body .statements)) i) at-is
+            (subst (λ (i : ℕ). RawLines (groundIn s) (cellsOf last) m r l i leads) (g .used-is)
             (lines-closed s l after last used leads next f raw (n ∙ sym (found .stands .closes)) fl q place))
 
   -- ---- answers
-  pub errors-none : {f : Bool} (mid : List ℕ) → f ≡ not (eqb result 0) → leads ≡ 0 → Linked code mid e (endOf f) 0 (linkAt (wordsOf code) e)
+  pub errors-none : {f : Bool} (mid : List ℕ) → f ≡ not (eqb result 0) → leads ≡ 0 → Linked code mid e (endOf f) 0 (linkAt (cellsOf code) e)
       → (scope : Scope) → scope .used ≡ used → Errors text code values mid values result used e leads (Upto (e + 1) scope)
   unfolding Tell groundOf offsetIn
   errors-none mid fl z c scope u = record {
@@ -205,8 +205,8 @@ module _ (text code values : List ℕ) (result used e leads : ℕ) where
         used-is = omega (arith, u, g .used-is, fors-none (g .inside .stands .W) (g .inside .stands .r) (missing g z .0));
         few = omega (arith, u, g .few);
         written = record {
-          op = subst (λ (i : ℕ). opAt (wordsOf mid) i ≡ endOf (isSome (g .inside .stands .r .result))) (g .closes) (c .op-is ∙ ap endOf (fl ∙ flag g));
-          place = subst (λ (i : ℕ). placeAt (wordsOf mid) i ≡ groundIn (g .inside) .offset i) (g .closes)
+          op = subst (λ (i : ℕ). opAt (cellsOf mid) i ≡ endOf (isSome (g .inside .stands .r .result))) (g .closes) (c .op-is ∙ ap endOf (fl ∙ flag g));
+          place = subst (λ (i : ℕ). placeAt (cellsOf mid) i ≡ groundIn (g .inside) .offset i) (g .closes)
               (c .kept .places e ∙ g .onward .unread .places e (omega arith) (closes-inside g));
           errors = no-lines _ _ _ _ _ (missing g z .0);
         };
@@ -217,7 +217,7 @@ module _ (text code values : List ℕ) (result used e leads : ℕ) where
     };
   }
 
-  module _ (z : leads ≡ 0 → ⊥) {f : Bool} (fl : f ≡ not (eqb result 0)) (mid after values′ : List ℕ) (c : Linked code mid e (endOf f) 0 (linkAt (wordsOf code) e)) where
+  module _ (z : leads ≡ 0 → ⊥) {f : Bool} (fl : f ≡ not (eqb result 0)) (mid after values′ : List ℕ) (c : Linked code mid e (endOf f) 0 (linkAt (cellsOf code) e)) where
     errors-faulty-so : (number word : ℕ) → Listed text mid values after values′ (record { result = result; handler = true }) used leads (Faulty number word)
         → Errors text code values after values′ result used e leads (Faulty number word)
     unfolding Tell
@@ -241,7 +241,7 @@ module _ (text code values : List ℕ) (result used e leads : ℕ) where
           let a = answered g z mid (endOf f) c after values′ (Upto next u) x in
           omega (arith, a .tells .next-is, g .onward .unread .loaded .last)
 
-      errors-some-so : (last : List ℕ) → Linked after last next (endOf f) 0 (linkAt (wordsOf after) next) → Errors text code values last values′ result used e leads (Upto (next + 1) u)
+      errors-some-so : (last : List ℕ) → Linked after last next (endOf f) 0 (linkAt (cellsOf after) next) → Errors text code values last values′ result used e leads (Upto (next + 1) u)
       unfolding Tell groundOf offsetIn
       errors-some-so last q = record {
         is = λ g.
@@ -251,11 +251,11 @@ module _ (text code values : List ℕ) (result used e leads : ℕ) where
             let to-is : g .inside .stands .to ≡ end g + 1 = g .inside .stands .form .after in
             let lead : leads ≡ e + 1 = leads-next g z in
             let i : e ≤ end g = closes-inside g in
-            let first : Outside (wordsOf code) (wordsOf mid) e (e + 1) = outside-kept code mid e (e + 1) (c .kept) in
-            let second : Outside (wordsOf mid) (wordsOf after) leads (end g) = d .outside in
-            let third : Outside (wordsOf after) (wordsOf last) next (next + 1) = outside-kept after last next (next + 1) (q .kept) in
+            let first : Outside (cellsOf code) (cellsOf mid) e (e + 1) = outside-kept code mid e (e + 1) (c .kept) in
+            let second : Outside (cellsOf mid) (cellsOf after) leads (end g) = d .outside in
+            let third : Outside (cellsOf after) (cellsOf last) next (next + 1) = outside-kept after last next (next + 1) (q .kept) in
             let apart : e < end g = behind g z mid (endOf f) c in
-            let both : Outside (wordsOf code) (wordsOf after) e (end g) = outside-on (omega arith) (omega arith) (omega arith) (omega arith) first second in
+            let both : Outside (cellsOf code) (cellsOf after) e (end g) = outside-on (omega arith) (omega arith) (omega arith) (omega arith) first second in
             record {
               tells = record {
                 none = faults-are g z mid (endOf f) c ∙ d .none;
@@ -263,9 +263,9 @@ module _ (text code values : List ℕ) (result used e leads : ℕ) where
                 used-is = omega (arith, d .used-is, g .used-is, fors-are g z);
                 few = d .few;
                 written = record {
-                  op = subst (λ (j : ℕ). opAt (wordsOf last) j ≡ endOf (isSome (g .inside .stands .r .result))) (g .closes)
+                  op = subst (λ (j : ℕ). opAt (cellsOf last) j ≡ endOf (isSome (g .inside .stands .r .result))) (g .closes)
                       (ap (λ (w : ℕ). w % 256) (third .below (e * 2) (omega arith) ∙ second .below (e * 2) (omega arith)) ∙ c .op-is ∙ ap endOf (fl ∙ flag g));
-                  place = subst (λ (j : ℕ). placeAt (wordsOf last) j ≡ groundIn (g .inside) .offset j) (g .closes)
+                  place = subst (λ (j : ℕ). placeAt (cellsOf last) j ≡ groundIn (g .inside) .offset j) (g .closes)
                       (ap (λ (w : ℕ). w % linkPart) (third .below (e * 2 + 1) (omega arith) ∙ second .below (e * 2 + 1) (omega arith)) ∙ c .kept .places e ∙ g .onward .unread .places e (omega arith) i);
                   errors = some-lines _ _ _ _ _ (l g z) (found g z .is) (lines-are g z mid (endOf f) c after last next (fl ∙ flag g) n second (d .written) q);
                 };
@@ -289,5 +289,5 @@ module _ (text code values : List ℕ) (result used e leads : ℕ) where
       pub next-small : ErrorsStand text code values result used e leads → next < wordLimit
       next-small g = next-small-so next u (subst L q y) g
 
-      pub errors-some : (last : List ℕ) → Linked after last next (endOf f) 0 (linkAt (wordsOf after) next) → Errors text code values last values′ result used e leads (Upto (next + 1) u)
+      pub errors-some : (last : List ℕ) → Linked after last next (endOf f) 0 (linkAt (cellsOf after) next) → Errors text code values last values′ result used e leads (Upto (next + 1) u)
       errors-some last k = errors-some-so next u (subst L q y) last k

@@ -13,12 +13,12 @@ use Rattle.paper.specs.Terms.{Ref, ofModule, ofRoutine, Memory, load}
 use Rattle.paper.specs.Trees.{Module}
 use Rattle.paper.specs.Names.{Meaning, isAmong, meaning}
 use Rattle.paper.specs.Declarations.{Data, noData, dataTexts, routineNames, moduleFilling, moduleData, moduleScopes, routineFilling}
-use Rattle.store_cells.specs.Words.{wordsOf}
+use Rattle.store_cells.specs.Cells.{cellsOf}
 use Rattle.code.specs.Cells.{firstWindow, errnoCell}
 use Rattle.code.specs.Steps.{numbered}
 use Rattle.check_names.specs.Meanings.{Means}
 use Rattle.check_names.specs.Promises.{storeBytes}
-use Rattle.check_expressions.specs.Known.{largest, InRoom, HeldWords, Held, nothing, words, number, heldBy, Holds, Within}
+use Rattle.check_expressions.specs.Known.{largest, InRoom, HeldSlots, Held, nothing, words, number, heldBy, Holds, Within}
 use Rattle.check_expressions.proofs.Holding.{holds, room-more, room-one}
 use Rattle.check_constants.specs.Answers.{cellOf, Worth, Fine}
 use Rattle.check_heads.specs.Trees.{headsFor}
@@ -58,7 +58,7 @@ pub fine-placed : (M : Memory) (X : List ℕ) → ((r : Ref) → Among M r 1 →
 unfolding Placed Fine
 fine-placed M X c q m h = holds (heldBy m) fine (λ k g. g)
   where
-    fine : (w : HeldWords) → InPlace M w → w .fixed ≡ true → Worth (length (M .module-words)) q X M (w .first)
+    fine : (w : HeldSlots) → InPlace M w → w .fixed ≡ true → Worth (length (M .module-words)) q X M (w .first)
     fine w p e =
         let room = room-one _ _ (w .first) (w .size) (p .some) (p .room) in
         record { room = room-more _ _ q (w .first) 1 h room; is = c (w .first) room; ranged = p .ranged e }
@@ -96,13 +96,13 @@ module _ (W : List Word) (m : Module) where
   -- ---- and leaving it
   module-cells : (E : Data) (values values′ : List ℕ) → length (moduleData W m .words) ≤ firstWindow → Filled W (numbered (headsFor (m .routines))) (aRoutine m) E values → SameWords values values′
       → (r : Ref) → Among (memoryOf W (theModule (routineNames W (dataTexts W (m .declared)) 0 (m .routines))) (moduleData W m)) r 1
-      → toZ w32 (getD (wordsOf values′) (cellOf r) 0) ≡ load (memoryOf W (theModule (routineNames W (dataTexts W (m .declared)) 0 (m .routines))) (moduleData W m)) r
+      → toZ w32 (getD (cellsOf values′) (cellOf r) 0) ≡ load (memoryOf W (theModule (routineNames W (dataTexts W (m .declared)) 0 (m .routines))) (moduleData W m)) r
   unfolding filling moduleFilling routineFilling InRoom cellOf load
   module-cells E values values′ most e s (ofModule k) a = ap (toZ w32) (s .is k (omega arith)) ∙ e .cells (ofModule k) a
   module-cells E values values′ most e s (ofRoutine k) a = absurd (omega arith)
 
   pub routine-left : (E : Data) (values middle values′ : List ℕ) → ModuleFilled W m values → Filled W (numbered (headsFor (m .routines))) (aRoutine m) E middle → storeBytes ≤ length values′ → SameWords middle values′
-      → Means (numbered (headsFor (m .routines))) W (scopesOf W (aRoutine m) noData) (wordsOf values′) → ModuleFilled W m values′
+      → Means (numbered (headsFor (m .routines))) W (scopesOf W (aRoutine m) noData) (cellsOf values′) → ModuleFilled W m values′
   unfolding filling moduleFilling routineFilling moduleScopes
   routine-left E values middle values′ f e long s t = record {
     table = long;

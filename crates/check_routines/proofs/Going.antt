@@ -17,9 +17,9 @@ use Rattle.paper.specs.Names.{Scopes, sortIn}
 use Rattle.paper.specs.Expressions.{nestings}
 use Rattle.paper.specs.Declarations.{resultAsked, routineData, routineScopes, signatures}
 use Rattle.paper.specs.Checks.{WhichList, theBody, theHandler, isSome, inError, settingIn, forsInList, listFaults}
-use Rattle.store_cells.specs.Words.{wordsOf}
+use Rattle.store_cells.specs.Cells.{cellsOf}
 use Rattle.code.specs.Cells.{opIn, valueIn, placeIn, headAt, tailAt, opAt, placeAt, linkAt}
-use Rattle.store_evaluation.specs.Answers.{callWords}
+use Rattle.store_evaluation.specs.Answers.{callSlots}
 use Rattle.grammar.specs.Form.{Parses, ListAt, RoutineListAt}
 use Rattle.faults.specs.Parts.{memoryOf}
 use Rattle.check_expressions.specs.Known.{Fresh}
@@ -36,14 +36,14 @@ use Rattle.check_statements.specs.Answers.{Lists, Listed, Answer}
 use Rattle.check_program.specs.Routines.{wordsInAll, groundFor, RawLines}
 use Rattle.check_program.proofs.Orders.{lies}
 use Rattle.check_routines.specs.Answers.{groundOf}
-use Rattle.check_routines.specs.Parts.{Inside, Onward, groundIn, dataWords}
+use Rattle.check_routines.specs.Parts.{Inside, Onward, groundIn, dataSlots}
 use Rattle.check_routines.proofs.Surrounding.{around, here, ground-is}
 use Rattle.layout.specs.Types.{typeIn}
 use borrow.Author.Tests.{eqb-true, eqb-false}
 use Rattle.laws.proofs.Tests.{false-true}
 
 -- ---- cells outside
-pub outside-kept : (before after : List ℕ) (a b : ℕ) → Kept before after a b → Outside (wordsOf before) (wordsOf after) a b
+pub outside-kept : (before after : List ℕ) (a b : ℕ) → Kept before after a b → Outside (cellsOf before) (cellsOf after) a b
 outside-kept before after a b k = record { below = λ i h. cell-below k i h; above = λ i h. cell-above k i h }
 
 pub outside-on : {C D E : List ℕ} {a b x y p q : ℕ} → p ≤ a → p ≤ x → b ≤ q → y ≤ q → Outside C D a b → Outside D E x y → Outside C E p q
@@ -84,13 +84,13 @@ module _ {text values : List ℕ} {k h : ℕ} (s : Inside text values k h) where
   r = s .stands .r
 
   -- ---- going on
-  pub onward-on : (code code′ : List ℕ) (at from : ℕ) → Onward s code at → at ≤ from → from ≤ s .stands .form .end + 1 → Outside (wordsOf code) (wordsOf code′) at from → length code′ ≡ length code
+  pub onward-on : (code code′ : List ℕ) (at from : ℕ) → Onward s code at → at ≤ from → from ≤ s .stands .form .end + 1 → Outside (cellsOf code) (cellsOf code′) at from → length code′ ≡ length code
       → Onward s code′ from
   onward-on code code′ at from o a b q long = record {
     unread = record {
       loaded = record {
         words = λ i x y. let z = o .unread .loaded .words i (omega arith) y in
-            let e : headAt (wordsOf code′) i ≡ headAt (wordsOf code) i = q .above (i * 2) (omega arith) in
+            let e : headAt (cellsOf code′) i ≡ headAt (cellsOf code) i = q .above (i * 2) (omega arith) in
             record { sort = ap opIn e ∙ z .sort; value = λ n. ap valueIn e ∙ z .value n; number = λ n. ap (λ (w : ℕ). valueIn w % numberLimit) e ∙ z .number n };
         last = o .unread .loaded .last;
         room = omega (arith, o .unread .loaded .room);
@@ -108,7 +108,7 @@ module _ {text values : List ℕ} {k h : ℕ} (s : Inside text values k h) where
 
   -- ---- a list
   pub list-stands : (l : WhichList) (rl : RoutineList) (code : List ℕ) (at to used : ℕ) (g : Setting) → Onward s code at → Tells g (settingIn W (signatures W m 0 (m .routines)) k r l)
-      → RoutineListAt (sortIn W) (Parses (sortIn W)) rl at to → to ≤ s .stands .form .end → dataWords s ≤ used → used ≤ callWords → used + forsInList (rl .statements) ≤ wordsInAll (groundIn s) m r
+      → RoutineListAt (sortIn W) (Parses (sortIn W)) rl at to → to ≤ s .stands .form .end → dataSlots s ≤ used → used ≤ callSlots → used + forsInList (rl .statements) ≤ wordsInAll (groundIn s) m r
       → Lists text code values g used at
   unfolding around groundOf
   list-stands l rl code at to used g o t f e many few room = record {
@@ -123,25 +123,25 @@ module _ {text values : List ℕ} {k h : ℕ} (s : Inside text values k h) where
 
   -- its answer, in the paper's words
   pub list-answered : (l : WhichList) (rl : RoutineList) (code : List ℕ) (at to used : ℕ) (g : Setting) → Onward s code at → Tells g (settingIn W (signatures W m 0 (m .routines)) k r l)
-      → RoutineListAt (sortIn W) (Parses (sortIn W)) rl at to → to ≤ s .stands .form .end → dataWords s ≤ used → used ≤ callWords → used + forsInList (rl .statements) ≤ wordsInAll (groundIn s) m r
+      → RoutineListAt (sortIn W) (Parses (sortIn W)) rl at to → to ≤ s .stands .form .end → dataSlots s ≤ used → used ≤ callSlots → used + forsInList (rl .statements) ≤ wordsInAll (groundIn s) m r
       → (after values′ : List ℕ) (x : Walked) → Listed text code values after values′ g used at x
       → Answer (listFaults W (settingIn W (signatures W m 0 (m .routines)) k r l) (memoryOf W m r) (rl .statements) (routineScopes W m r) used) code after values values′ at to (used + forsInList (rl .statements))
-      (RawList (groundFor (groundIn s) m r) (wordsInAll (groundIn s) m r) (wordsOf after) (rl .statements) (routineScopes W m r) used at to) x
+      (RawList (groundFor (groundIn s) m r) (wordsInAll (groundIn s) m r) (cellsOf after) (rl .statements) (routineScopes W m r) used at to) x
   unfolding list-stands around
   list-answered l rl code at to used g o t f e many few room after values′ x y =
       subst (λ (q : Ground). Answer (listFaults W (settingIn W (signatures W m 0 (m .routines)) k r l) (memoryOf W m r) (rl .statements) (routineScopes W m r) used) code after values values′ at to
-      (used + forsInList (rl .statements)) (RawList q (wordsInAll (groundIn s) m r) (wordsOf after) (rl .statements) (routineScopes W m r) used at to) x) (ground-is s l)
+      (used + forsInList (rl .statements)) (RawList q (wordsInAll (groundIn s) m r) (cellsOf after) (rl .statements) (routineScopes W m r) used at to) x) (ground-is s l)
       (y .is (list-stands l rl code at to used g o t f e many few room))
 
   -- what is written, with the word that closes it
-  pub lines-closed : (rl : RoutineList) (mid after : List ℕ) (used at z : ℕ) (f : Bool) → RawList (groundFor (groundIn s) m r) (wordsInAll (groundIn s) m r) (wordsOf mid) (rl .statements) (routineScopes W m r) used at z
-      → z ≡ rl .closes → f ≡ isSome (r .result) → Linked mid after z (endOf f) 0 (linkAt (wordsOf mid) z) → placeAt (wordsOf mid) z ≡ groundIn s .offset z → RawLines (groundIn s) (wordsOf after) m r rl used at
+  pub lines-closed : (rl : RoutineList) (mid after : List ℕ) (used at z : ℕ) (f : Bool) → RawList (groundFor (groundIn s) m r) (wordsInAll (groundIn s) m r) (cellsOf mid) (rl .statements) (routineScopes W m r) used at z
+      → z ≡ rl .closes → f ≡ isSome (r .result) → Linked mid after z (endOf f) 0 (linkAt (cellsOf mid) z) → placeAt (cellsOf mid) z ≡ groundIn s .offset z → RawLines (groundIn s) (cellsOf after) m r rl used at
   unfolding groundFor groundOf
   lines-closed rl mid after used at z f x e q k p = record {
-    list = subst (λ (i : ℕ). RawList (groundFor (groundIn s) m r) (wordsInAll (groundIn s) m r) (wordsOf after) (rl .statements) (routineScopes W m r) used at i) e
-        (list-frame (groundFor (groundIn s) m r) (wordsInAll (groundIn s) m r) (wordsInAll (groundIn s) m r) (omega arith) (wordsOf mid) (wordsOf after) at z
-        (same-cells (wordsOf mid) (wordsOf after) at z (λ i a b. sym (cell-below (k .kept) i (omega arith)))) (rl .statements) (routineScopes W m r) used at z (omega arith) (omega arith)
+    list = subst (λ (i : ℕ). RawList (groundFor (groundIn s) m r) (wordsInAll (groundIn s) m r) (cellsOf after) (rl .statements) (routineScopes W m r) used at i) e
+        (list-frame (groundFor (groundIn s) m r) (wordsInAll (groundIn s) m r) (wordsInAll (groundIn s) m r) (omega arith) (cellsOf mid) (cellsOf after) at z
+        (same-cells (cellsOf mid) (cellsOf after) at z (λ i a b. sym (cell-below (k .kept) i (omega arith)))) (rl .statements) (routineScopes W m r) used at z (omega arith) (omega arith)
         x);
-    op = subst (λ (i : ℕ). opAt (wordsOf after) i ≡ endOf (isSome (r .result))) e (k .op-is ∙ ap endOf q);
-    place = subst (λ (i : ℕ). placeAt (wordsOf after) i ≡ groundIn s .offset i) e (k .kept .places z ∙ p);
+    op = subst (λ (i : ℕ). opAt (cellsOf after) i ≡ endOf (isSome (r .result))) e (k .op-is ∙ ap endOf q);
+    place = subst (λ (i : ℕ). placeAt (cellsOf after) i ≡ groundIn s .offset i) e (k .kept .places z ∙ p);
   }

@@ -9,7 +9,7 @@ use lib.Dec.{eqb}
 use lib.ListN.{length, getD}
 use borrow.Author.Tests.{eq-eqb, ne-eqb}
 use Rattle.paper.specs.Basics.{if_then_else_}
-use Rattle.store_cells.specs.Words.{wordsOf, Put}
+use Rattle.store_cells.specs.Cells.{cellsOf, Put}
 use Rattle.store_cells.proofs.Kept.{put-length, put-same, put-other}
 use Rattle.code.specs.Cells.{valueIn, opAt, linkAt}
 use Rattle.store_writing.specs.Promises.{tailWith, Rewritten, Linked}
@@ -65,14 +65,14 @@ module _ (C : List ℕ) (e : ℕ) {s : ℕ} (o : s ≡ opAt C e) where
 
 -- ---- words
 pub finished : (before mid after : List ℕ) (h opens at fors : ℕ) → h < opens → opens * 8 + 8 ≤ length before → at < linkPart → fors < linkPart
-    → Put before mid (h * 2 + 1) (tailWith at (linkAt (wordsOf before) h)) → Rewritten mid after opens theParameters (tailWith fors 0) → Finishes before after h opens at fors
+    → Put before mid (h * 2 + 1) (tailWith at (linkAt (cellsOf before) h)) → Rewritten mid after opens theParameters (tailWith fors 0) → Finishes before after h opens at fors
 finished before mid after h opens at fors o room near few p q =
     let first : (h * 2 + 1) * 4 + 4 ≤ length before = omega arith in
     let second : opens * 8 + 8 ≤ length mid = omega (arith, put-length p first) in
-    let tail : getD (wordsOf after) (h * 2 + 1) 0 ≡ at + linkPart * linkAt (wordsOf before) h = rewritten-other q second (h * 2 + 1) (λ e. omega arith) (λ e. omega arith) ∙ put-same p first in
+    let tail : getD (cellsOf after) (h * 2 + 1) 0 ≡ at + linkPart * linkAt (cellsOf before) h = rewritten-other q second (h * 2 + 1) (λ e. omega arith) (λ e. omega arith) ∙ put-same p first in
     record {
-      place-is = ap (λ (w : ℕ). w % linkPart) tail ∙ low (linkAt (wordsOf before) h);
-      link-is = ap (λ (w : ℕ). w / linkPart) tail ∙ high (linkAt (wordsOf before) h);
+      place-is = ap (λ (w : ℕ). w % linkPart) tail ∙ low (linkAt (cellsOf before) h);
+      link-is = ap (λ (w : ℕ). w / linkPart) tail ∙ high (linkAt (cellsOf before) h);
       op-is = ap (λ (w : ℕ). w % 256) (rewritten-head q second);
       fors-is = ap (λ (w : ℕ). w % linkPart) (rewritten-tail q second) ∙ omega arith;
       others = λ k a b c. rewritten-other q second k b c ∙ put-other p first k a;
@@ -85,10 +85,10 @@ finished before mid after h opens at fors o room near few p q =
     high x = omega arith
 
 module _ (before after : List ℕ) (e : ℕ) where
-  pub a-function-end : {f : Bool} → f ≡ true → Linked before after e aFunctionEnd 0 (linkAt (wordsOf before) e) → Linked before after e (endOf f) 0 (linkAt (wordsOf before) e)
+  pub a-function-end : {f : Bool} → f ≡ true → Linked before after e aFunctionEnd 0 (linkAt (cellsOf before) e) → Linked before after e (endOf f) 0 (linkAt (cellsOf before) e)
   unfolding endOf
   a-function-end t l = rw t l
 
-  pub a-plain-end : {f : Bool} → f ≡ false → Linked before after e anEnd 0 (linkAt (wordsOf before) e) → Linked before after e (endOf f) 0 (linkAt (wordsOf before) e)
+  pub a-plain-end : {f : Bool} → f ≡ false → Linked before after e anEnd 0 (linkAt (cellsOf before) e) → Linked before after e (endOf f) 0 (linkAt (cellsOf before) e)
   unfolding endOf
   a-plain-end t l = rw t l

@@ -19,10 +19,10 @@ use Rattle.paper.specs.Types.{Fault}
 use Rattle.paper.specs.Declarations.{Signature, routineFilling, routineData, routineScopes, signatures}
 use Rattle.paper.specs.Checks.{WhichList, theBody, theHandler, isSome, inError, settingIn, forsInList, listFaults, routineFaults}
 use Rattle.paper.specs.Steps.{forsOf}
-use Rattle.store_cells.specs.Words.{wordsOf}
+use Rattle.store_cells.specs.Cells.{cellsOf}
 use Rattle.code.specs.Cells.{opIn, placeIn, headAt, opAt, valueAt, placeAt, linkAt}
 use Rattle.code.specs.Steps.{numbered}
-use Rattle.store_evaluation.specs.Answers.{callWords}
+use Rattle.store_evaluation.specs.Answers.{callSlots}
 use Rattle.grammar.specs.Form.{Parses, RoutineListAt, HandlerAt, no-handler, a-handler}
 use Rattle.faults.specs.First.{First}
 use Rattle.faults.specs.Parts.{memoryOf, inBody, inHandler}
@@ -41,11 +41,11 @@ use Rattle.check_routines.proofs.Filling.{filled-same}
 use Rattle.check_statements.specs.Answers.{SameValues, Lists, Listed, Tell, Answer}
 use Rattle.check_compounds.specs.Here.{Outside}
 use Rattle.check_program.specs.Routines as program
-use Rattle.check_program.specs.Routines.{wordsOfData, wordsInAll, groundFor, RawLines, RawHandler}
+use Rattle.check_program.specs.Routines.{slotsOfData, wordsInAll, groundFor, RawLines, RawHandler}
 use Rattle.check_program.proofs.Orders.{lies}
 use Rattle.check_program.proofs.Framing.{lines-frame}
 use Rattle.check_routines.specs.Answers.{groundOf}
-use Rattle.check_routines.specs.Parts.{leadsTo, Inside, Onward, groundIn, dataWords, faultsIn, ErrorsStand, ErrorLines, Ended, Errors, ListsStand, ListsDone, SaysLists}
+use Rattle.check_routines.specs.Parts.{leadsTo, Inside, Onward, groundIn, dataSlots, faultsIn, ErrorsStand, ErrorLines, Ended, Errors, ListsStand, ListsDone, SaysLists}
 use Rattle.check_routines.specs.Parts as parts
 use Rattle.check_routines.proofs.Going.{outside-on, onward-on, list-stands, list-answered}
 
@@ -107,11 +107,11 @@ module _ (text code values : List ℕ) (result taken h at : ℕ) where
     closes-inside : closes ≤ end
     closes-inside = lies W (s .stands .form) .end
 
-    few : taken ≤ callWords
+    few : taken ≤ callSlots
     unfolding groundOf filling routineFilling
     few = omega (arith, g .used-is, s .filled .window)
 
-    many : dataWords s ≤ taken
+    many : dataSlots s ≤ taken
     many = omega (arith, g .used-is)
 
     enough : taken + forsInList (r .body .statements) ≤ wordsInAll (groundIn s) m r
@@ -126,7 +126,7 @@ module _ (text code values : List ℕ) (result taken h at : ℕ) where
 
     answered : (code₁ values₁ : List ℕ) (x : Walked) → L code₁ values₁ x
         → Answer (listFaults W (settingIn W sigs (g .k) r theBody) (memoryOf W m r) (r .body .statements) (routineScopes W m r) taken) code code₁ values values₁ at closes
-        (taken + forsInList (r .body .statements)) (RawList (groundFor (groundIn s) m r) (wordsInAll (groundIn s) m r) (wordsOf code₁) (r .body .statements) (routineScopes W m r) taken at closes) x
+        (taken + forsInList (r .body .statements)) (RawList (groundFor (groundIn s) m r) (wordsInAll (groundIn s) m r) (cellsOf code₁) (r .body .statements) (routineScopes W m r) taken at closes) x
     answered code₁ values₁ x y =
         list-answered s theBody (r .body) code at closes taken (record { result = result; handler = false }) (g .onward) tells-so form-here closes-inside many few enough code₁ values₁ x y
 
@@ -137,7 +137,7 @@ module _ (text code values : List ℕ) (result taken h at : ℕ) where
     -- ---- behind the first list
     module _ (code₁ values₁ : List ℕ) (e : ℕ) (n : Scope) (x : L code₁ values₁ (Upto e n)) where
       first : Tell (listFaults W (settingIn W sigs (g .k) r theBody) (memoryOf W m r) (r .body .statements) (routineScopes W m r) taken) code code₁ values values₁ at closes
-          (taken + forsInList (r .body .statements)) (RawList (groundFor (groundIn s) m r) (wordsInAll (groundIn s) m r) (wordsOf code₁) (r .body .statements) (routineScopes W m r) taken at closes) (Upto e n)
+          (taken + forsInList (r .body .statements)) (RawList (groundFor (groundIn s) m r) (wordsInAll (groundIn s) m r) (cellsOf code₁) (r .body .statements) (routineScopes W m r) taken at closes) (Upto e n)
       first = answered code₁ values₁ (Upto e n) x .tells
 
       long₁ : length code₁ ≡ length code
@@ -147,7 +147,7 @@ module _ (text code values : List ℕ) (result taken h at : ℕ) where
       unfolding Tell
       e-is = first .next-is
 
-      outside₁ : Outside (wordsOf code) (wordsOf code₁) at closes
+      outside₁ : Outside (cellsOf code) (cellsOf code₁) at closes
       unfolding Tell
       outside₁ = first .outside
 
@@ -175,7 +175,7 @@ module _ (text code values : List ℕ) (result taken h at : ℕ) where
       pub leads-small : e < wordLimit
       leads-small = omega (arith, e-is, closes-inside, onward₁ .unread .loaded .last)
 
-      module _ (leads : ℕ) (t : leads ≡ leadsTo (wordsOf code₁) e) where
+      module _ (leads : ℕ) (t : leads ≡ leadsTo (cellsOf code₁) e) where
         pub errors-stand : ErrorsStand text code₁ values₁ result (n .used) e leads
         unfolding Tell inside₁
         errors-stand = record {
@@ -193,13 +193,13 @@ module _ (text code values : List ℕ) (result taken h at : ℕ) where
         leads-are : leads ≡ (if eqb (sortIn W closes) ERROR then closes + 1 else 0)
         unfolding leadsTo
         leads-are =
-            let sort : opAt (wordsOf code₁) e ≡ sortIn W closes =
-            ap (opAt (wordsOf code₁)) e-is ∙ onward₁ .unread .loaded .words closes (omega arith) closes-inside .sort in
+            let sort : opAt (cellsOf code₁) e ≡ sortIn W closes =
+            ap (opAt (cellsOf code₁)) e-is ∙ onward₁ .unread .loaded .words closes (omega arith) closes-inside .sort in
             t ∙ ap (λ (q : ℕ). if eqb q ERROR then e + 1 else 0) sort ∙ ap (λ (q : ℕ). if eqb (sortIn W closes) ERROR then q + 1 else 0) e-is
 
         -- ---- behind both
         module _ (code₂ values₂ : List ℕ) (y : Walked) (x₂ : Errors text code₁ values₁ code₂ values₂ result (n .used) e leads y) where
-          second : Answer (inHandler W m sigs (g .k) r) code₁ code₂ values₁ values₂ e (s .stands .to) (dataWords s + forsOf W r) (Ended (groundIn s) (wordsOf code₂) m r) y
+          second : Answer (inHandler W m sigs (g .k) r) code₁ code₂ values₁ values₂ e (s .stands .to) (dataSlots s + forsOf W r) (Ended (groundIn s) (cellsOf code₂) m r) y
           unfolding errors-stand inside₁
           second = x₂ .is errors-stand
 
@@ -208,9 +208,9 @@ module _ (text code values : List ℕ) (result taken h at : ℕ) where
           body-none = sym body-faults ∙ first .none
 
           -- ---- and the word that leads to the second
-          module _ (code₃ : List ℕ) (z : ℕ) (all : Scope) (q : y ≡ Upto z all) (k : Linked code₂ code₃ (h + 1) (opAt (wordsOf code₂) (h + 1)) (valueAt (wordsOf code₂) (h + 1)) leads) where
-            both : Tell (inHandler W m sigs (g .k) r) code₁ code₂ values₁ values₂ e (s .stands .to) (dataWords s + forsOf W r) (Ended (groundIn s) (wordsOf code₂) m r) (Upto z all)
-            both = subst (Tell (inHandler W m sigs (g .k) r) code₁ code₂ values₁ values₂ e (s .stands .to) (dataWords s + forsOf W r) (Ended (groundIn s) (wordsOf code₂) m r)) q (second .tells)
+          module _ (code₃ : List ℕ) (z : ℕ) (all : Scope) (q : y ≡ Upto z all) (k : Linked code₂ code₃ (h + 1) (opAt (cellsOf code₂) (h + 1)) (valueAt (cellsOf code₂) (h + 1)) leads) where
+            both : Tell (inHandler W m sigs (g .k) r) code₁ code₂ values₁ values₂ e (s .stands .to) (dataSlots s + forsOf W r) (Ended (groundIn s) (cellsOf code₂) m r) (Upto z all)
+            both = subst (Tell (inHandler W m sigs (g .k) r) code₁ code₂ values₁ values₂ e (s .stands .to) (dataSlots s + forsOf W r) (Ended (groundIn s) (cellsOf code₂) m r)) q (second .tells)
 
             after-is : s .stands .to ≡ end + 1
             after-is = s .stands .form .after
@@ -218,35 +218,35 @@ module _ (text code values : List ℕ) (result taken h at : ℕ) where
             before-all : h + 1 < at
             before-all = let o = lies W (s .stands .form) in omega (arith, g .begins, o .name, o .opens)
 
-            outside₂ : Outside (wordsOf code₁) (wordsOf code₂) closes (s .stands .to)
+            outside₂ : Outside (cellsOf code₁) (cellsOf code₂) closes (s .stands .to)
             unfolding Tell
-            outside₂ = subst (λ (i : ℕ). Outside (wordsOf code₁) (wordsOf code₂) i (s .stands .to)) e-is (both .outside)
+            outside₂ = subst (λ (i : ℕ). Outside (cellsOf code₁) (cellsOf code₂) i (s .stands .to)) e-is (both .outside)
 
-            head-same : headAt (wordsOf code₃) (h + 1) ≡ headAt (wordsOf code₂) (h + 1)
-            head-same = same-head (headAt (wordsOf code₃) (h + 1)) (headAt (wordsOf code₂) (h + 1)) (k .op-is) (k .value-is)
+            head-same : headAt (cellsOf code₃) (h + 1) ≡ headAt (cellsOf code₂) (h + 1)
+            head-same = same-head (headAt (cellsOf code₃) (h + 1)) (headAt (cellsOf code₂) (h + 1)) (k .op-is) (k .value-is)
 
             -- all cells but the link
-            cell₃ : (i : ℕ) → (i ≡ h * 2 + 3 → ⊥) → getD (wordsOf code₃) i 0 ≡ getD (wordsOf code₂) i 0
+            cell₃ : (i : ℕ) → (i ≡ h * 2 + 3 → ⊥) → getD (cellsOf code₃) i 0 ≡ getD (cellsOf code₂) i 0
             cell₃ i d =
                 by-less i ((h + 1) * 2) (λ l. cell-below (k .kept) i l)
-                (λ l. by-same i ((h + 1) * 2) (λ w. ap (λ (j : ℕ). getD (wordsOf code₃) j 0) w ∙ head-same ∙ ap (λ (j : ℕ). getD (wordsOf code₂) j 0) (sym w)) (λ w. cell-above (k .kept) i (omega (arith, w, d))))
+                (λ l. by-same i ((h + 1) * 2) (λ w. ap (λ (j : ℕ). getD (cellsOf code₃) j 0) w ∙ head-same ∙ ap (λ (j : ℕ). getD (cellsOf code₂) j 0) (sym w)) (λ w. cell-above (k .kept) i (omega (arith, w, d))))
 
-            lines : RawLines (groundIn s) (wordsOf code₃) m r (r .body) taken at
+            lines : RawLines (groundIn s) (cellsOf code₃) m r (r .body) taken at
             unfolding Tell groundOf groundFor
             lines = record {
-              list = list-frame (groundFor (groundIn s) m r) (wordsInAll (groundIn s) m r) (wordsInAll (groundIn s) m r) (omega arith) (wordsOf code₁) (wordsOf code₃) at closes
-                  (same-cells (wordsOf code₁) (wordsOf code₃) at closes (λ i a b. sym (cell₃ i (λ w. omega (arith, before-all)) ∙ outside₂ .below i b)))
+              list = list-frame (groundFor (groundIn s) m r) (wordsInAll (groundIn s) m r) (wordsInAll (groundIn s) m r) (omega arith) (cellsOf code₁) (cellsOf code₃) at closes
+                  (same-cells (cellsOf code₁) (cellsOf code₃) at closes (λ i a b. sym (cell₃ i (λ w. omega (arith, before-all)) ∙ outside₂ .below i b)))
                   (r .body .statements) (routineScopes W m r) taken at closes (omega arith) (omega arith) (first .written);
               op = ap opIn (cell₃ (closes * 2) (λ w. omega (arith, before-all, begin-before))) ∙ both .written .op;
               place = ap placeIn (cell₃ (closes * 2 + 1) (λ w. omega (arith, before-all, begin-before))) ∙ both .written .place;
             }
 
-            handler : RawHandler (groundIn s) (wordsOf code₃) m r (r .handler) (h + 1)
+            handler : RawHandler (groundIn s) (cellsOf code₃) m r (r .handler) (h + 1)
             unfolding Tell
             handler =
-                handler-of W (groundIn s) (wordsOf code₃) m r (r .handler) end (h + 1) leads (s .stands .form .handler) leads-are (k .link-is)
-                (errors-frame W (groundIn s) (wordsOf code₂) (wordsOf code₃) m r (r .handler) end (s .stands .form .handler)
-                (same-cells (wordsOf code₂) (wordsOf code₃) closes (end + 1) (λ i a b. sym (cell₃ i (λ w. omega (arith, before-all, begin-before))))) (both .written .errors))
+                handler-of W (groundIn s) (cellsOf code₃) m r (r .handler) end (h + 1) leads (s .stands .form .handler) leads-are (k .link-is)
+                (errors-frame W (groundIn s) (cellsOf code₂) (cellsOf code₃) m r (r .handler) end (s .stands .form .handler)
+                (same-cells (cellsOf code₂) (cellsOf code₃) closes (end + 1) (λ i a b. sym (cell₃ i (λ w. omega (arith, before-all, begin-before))))) (both .written .errors))
 
             pub lists-so : ListsDone g code₃ values₂ z (all .used)
             unfolding Tell groundOf
@@ -280,7 +280,7 @@ module _ (text code values : List ℕ) (result taken h at : ℕ) where
       pub e-small : ListsStand text code values result taken h at → e < wordLimit
       e-small g = leads-small g code₁ values₁ e n (subst (L g code₁ values₁) q l)
 
-      module _ (leads : ℕ) (t : leads ≡ leadsTo (wordsOf code₁) e) where
+      module _ (leads : ℕ) (t : leads ≡ leadsTo (cellsOf code₁) e) where
         pub lists-errors : ListsStand text code values result taken h at → ErrorsStand text code₁ values₁ result (n .used) e leads
         lists-errors g = errors-stand g code₁ values₁ e n (subst (L g code₁ values₁) q l) leads t
 
@@ -300,7 +300,7 @@ module _ (text code values : List ℕ) (result taken h at : ℕ) where
                 let o = lies (W g) (s g .stands .form) in
                 omega (arith, g .begins, o .name, o .opens, o .body, o .end, g .onward .unread .loaded .room)
 
-            pub lists-done : (code₃ : List ℕ) → Linked code₂ code₃ (h + 1) (opAt (wordsOf code₂) (h + 1)) (valueAt (wordsOf code₂) (h + 1)) leads
+            pub lists-done : (code₃ : List ℕ) → Linked code₂ code₃ (h + 1) (opAt (cellsOf code₂) (h + 1)) (valueAt (cellsOf code₂) (h + 1)) leads
                 → parts.Lists text code values code₃ values₂ result taken h at (Upto z all)
             unfolding SaysLists
             lists-done code₃ k = record { is = λ g. lists-so g code₁ values₁ e n (subst (L g code₁ values₁) q l) leads t code₂ values₂ y x₂ code₃ z all p k }

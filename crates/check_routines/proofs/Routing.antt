@@ -16,7 +16,7 @@ use Rattle.paper.specs.Trees.{Routine, Module}
 use Rattle.paper.specs.Expressions.{isType}
 use Rattle.paper.specs.Names.{DataType, aNum, aBool, typeOf, Meaning, theRoutine, routineIn, Text, sortIn, spelled, meaning, cannotDeclare}
 use Rattle.paper.specs.Declarations.{routineLimit, crosses, resultAsked, dataTexts, moduleScopes, moduleFilling}
-use Rattle.store_cells.specs.Words.{wordsOf}
+use Rattle.store_cells.specs.Cells.{cellsOf}
 use Rattle.code.specs.Cells.{opIn, valueIn, opAt}
 use Rattle.code.specs.Steps.{Head, noHead, numbered}
 use Rattle.check_names.specs.Numbers.{numberOf}
@@ -123,12 +123,12 @@ module _ (text code values : List ℕ) (k h : ℕ) where
   pub head-small : G → h < wordLimit
   head-small b = let o = lies (b .stands .W) (b .stands .form) in omega (arith, o .name, o .opens, o .body, o .end, b .unread .loaded .last)
 
-  module _ (result name : ℕ) (t : result ≡ resultIn (wordsOf code) h) (n : name ≡ nameWith result h) where
+  module _ (result name : ℕ) (t : result ≡ resultIn (cellsOf code) h) (n : name ≡ nameWith result h) where
     read : (b : G) → HeadRead (b .stands .W) k (b .stands .r .result) h (b .stands .r .name) result
     read b =
         let o = lies (b .stands .W) (b .stands .form) in
         subst (HeadRead (b .stands .W) k (b .stands .r .result) h (b .stands .r .name)) (sym t)
-        (head-read (b .stands .W) k (wordsOf code) (b .stands .form .head) (b .unread .loaded .words h (omega arith) (omega (arith, o .name, o .opens, o .body, o .end)) .sort)
+        (head-read (b .stands .W) k (cellsOf code) (b .stands .form .head) (b .unread .loaded .words h (omega arith) (omega (arith, o .name, o .opens, o .body, o .end)) .sort)
         (b .unread .loaded .words (h + 1) (omega arith) (omega (arith, o .name, o .opens, o .body, o .end)) .sort))
 
     name-so : (b : G) → name ≡ b .stands .r .name
@@ -145,7 +145,7 @@ module _ (text code values : List ℕ) (k h : ℕ) where
           let o = lies (b .stands .W) (b .stands .form) in
           let q = b .unread .loaded .words (b .stands .r .name) (omega (arith, o .name)) (omega (arith, o .opens, o .body, o .end)) .number (b .stands .form .name) in
           ap (meaningIn (numbered (headsFor (b .stands .m .routines))))
-          (c ∙ ap (λ (i : ℕ). getD (wordsOf values) (firstMeaning + numberAt (wordsOf code) i) 0) (name-so b) ∙ ap (λ (i : ℕ). getD (wordsOf values) (firstMeaning + i) 0) q)
+          (c ∙ ap (λ (i : ℕ). getD (cellsOf values) (firstMeaning + numberAt (cellsOf code) i) 0) (name-so b) ∙ ap (λ (i : ℕ). getD (cellsOf values) (firstMeaning + i) 0) q)
           ∙ b .filled .means .means (b .stands .r .name) (b .stands .form .name)
 
       free : (b : G) → namesRoutine cell h ≡ true → cannotDeclare (b .stands .earlier) (spelled (b .stands .W) (b .stands .r .name)) ≡ false

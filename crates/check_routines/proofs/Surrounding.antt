@@ -13,12 +13,12 @@ use Rattle.paper.specs.Names.{Meaning, theRoutine, routineIn, unknown, Text, Na
 use Rattle.paper.specs.Declarations.{routineLimit, crosses, resultAsked, routineFilling, routineData, routineScopes, moduleData, moduleScopes, signatures}
 use Rattle.paper.specs.Checks.{WhichList, theBody, theHandler, isSome, inError, settingIn, forsInList}
 use Rattle.paper.specs.Steps.{forsOf}
-use Rattle.store_cells.specs.Words.{wordsOf}
+use Rattle.store_cells.specs.Cells.{cellsOf}
 use Rattle.code.specs.Steps.{numbered}
 use Rattle.check_names.specs.Numbers.{IsName}
 use Rattle.check_names.specs.Meanings.{isProtected}
 use Rattle.check_names.specs.Promises.{storeBytes}
-use Rattle.store_evaluation.specs.Answers.{callWords}
+use Rattle.store_evaluation.specs.Answers.{callSlots}
 use Rattle.faults.specs.Parts.{memoryOf}
 use Rattle.check_expressions.specs.Known.{Loaded, Known}
 use Rattle.check_heads.specs.Trees.{headsFor}
@@ -32,7 +32,7 @@ use Rattle.check_compounds.specs.Here.{Here}
 use Rattle.check_program.specs.Routines.{wordsInAll, groundFor}
 use Rattle.check_program.proofs.Framing.{own-ground}
 use Rattle.check_routines.specs.Answers.{groundOf}
-use Rattle.check_routines.specs.Parts.{Inside, Onward, groundIn, dataWords}
+use Rattle.check_routines.specs.Parts.{Inside, Onward, groundIn, dataSlots}
 use Rattle.check_routines.proofs.Naming.{protected-none, unprotected, among-routines}
 use Rattle.check_routines.proofs.Filling.{within-placed, fine-placed}
 
@@ -104,14 +104,14 @@ module _ {text values : List ℕ} {k h : ℕ} (s : Inside text values k h) where
 
   -- ---- here
   module _ (l : WhichList) (code : List ℕ) (at from to used : ℕ) (o : Onward s code at) where
-    pub here : (g : Setting) → Tells g (settingIn W (signatures W m 0 (m .routines)) k r l) → at ≤ from → to ≤ s .stands .form .end → length (routineData W m r .words) ≤ used → used ≤ callWords
+    pub here : (g : Setting) → Tells g (settingIn W (signatures W m 0 (m .routines)) k r l) → at ≤ from → to ≤ s .stands .form .end → length (routineData W m r .words) ≤ used → used ≤ callSlots
         → Here (around l) code g used from to
     unfolding around filling routineFilling routineScopes settingIn
     here g t a b many few = record {
       tells = t;
       few = few;
       within = λ i q. within-placed (memoryOf W m r) used (meaning S (spelled W i)) many (s .filled .placed (spelled W i));
-      fine = λ u. fine-placed (memoryOf W m r) (wordsOf values) (s .filled .cells) used (meaning S u) many (s .filled .placed u);
+      fine = λ u. fine-placed (memoryOf W m r) (cellsOf values) (s .filled .cells) used (meaning S u) many (s .filled .placed u);
       number = omega (arith, s .filled .errno);
       unread = record {
         loaded = record {

@@ -13,7 +13,7 @@ use Rattle.check_parameters.specs.Answers.{ParametersStand, DeclaresParameters,
 use Rattle.check_parameters.proofs.Passing.{opened-names}
 use Rattle.check_declarations.specs.Answers.{RoutineStands, DeclaresRoutine}
 use Rattle.check_leaving.specs.Answers.{Leaving, Leaves}
-use Rattle.store_cells.specs.Words.{wordsOf}
+use Rattle.store_cells.specs.Cells.{cellsOf}
 use Rattle.check_sites.specs.Walks.{outerOf}
 use Rattle.check_names.specs.Meanings.{Means}
 use Rattle.check_names.specs.Scopes.{routineScope, EachHasWord, Grown, BackTo, OfRoutine}
@@ -202,7 +202,7 @@ module _ (text code values : List ℕ) (result : ℕ) (outer taken : Scope) (h n
         module _ (values₄ : List ℕ) where
           -- what leaving these names restores
           abbrev Restores : (first names head : ℕ) → Type 0
-          Restores first names head = (l : Leaving code₄ values₃ first names head) → Means (l .routine) (l .W) (outerOf (l .W) (l .s)) (wordsOf values₄)
+          Restores first names head = (l : Leaving code₄ values₃ first names head) → Means (l .routine) (l .W) (outerOf (l .W) (l .s)) (cellsOf values₄)
 
           restored : (s : D) → Restores (all .first) (all .names) (all .head) → Restores (name + 2) (s .opened .used) h
           restored s x =

@@ -11,7 +11,7 @@ use Rattle.paper.specs.Names.{Text, Names, nth, sortIn}
 use Rattle.paper.specs.Types.{Fault}
 use Rattle.paper.specs.Declarations.{Signature, dataTexts, routineNames, moduleFilling, moduleData, signatures}
 use Rattle.paper.specs.Checks.{routineFaults}
-use Rattle.store_cells.specs.Words.{wordsOf}
+use Rattle.store_cells.specs.Cells.{cellsOf}
 use Rattle.code.specs.Cells.{headAt}
 use Rattle.code.specs.Steps.{aTarget, Head, numbered}
 use Rattle.code.specs.Signatures.{Heads}
@@ -76,7 +76,7 @@ pub record Begins (text code values : List ℕ) (k h : ℕ) : Type 0 where
   pub stands : Stands text k h
   pub filled : ModuleFilled (stands .W) (stands .m) values
   pub unread : Unread (stands .W) code h (stands .form .end)
-  pub calls : (D : List ℕ) → Spares (wordsOf code) D (stands .r) h (stands .to) → Heads D (headsFor (stands .m .routines)) (signatures (stands .W) (stands .m) 0 (stands .m .routines))
+  pub calls : (D : List ℕ) → Spares (cellsOf code) D (stands .r) h (stands .to) → Heads D (headsFor (stands .m .routines)) (signatures (stands .W) (stands .m) 0 (stands .m .routines))
   pub room : storeBytes ≤ length code
 
 -- ---- answers
@@ -84,11 +84,11 @@ pub record Begins (text code values : List ℕ) (k h : ℕ) : Type 0 where
 pub record Goes {text code values : List ℕ} {k h : ℕ} (b : Begins text code values k h) (code′ values′ : List ℕ) (next : ℕ) : Type 0 where
   pub next-is : next ≡ b .stands .to
   pub none : routineFaults (b .stands .W) (b .stands .m) (signatures (b .stands .W) (b .stands .m) 0 (b .stands .m .routines)) k (b .stands .r) ≡ []
-  pub raw : RawRoutine (groundOf text (b .stands .W) (b .stands .m)) (wordsOf code′) (b .stands .m) (b .stands .r) (headFor (b .stands .r)) (b .stands .to)
+  pub raw : RawRoutine (groundOf text (b .stands .W) (b .stands .m)) (cellsOf code′) (b .stands .m) (b .stands .r) (headFor (b .stands .r)) (b .stands .to)
   pub filled : ModuleFilled (b .stands .W) (b .stands .m) values′
-  pub spares : Spares (wordsOf code) (wordsOf code′) (b .stands .r) h (b .stands .to)
-  pub below : (i : ℕ) → i < h * 2 → getD (wordsOf code′) i 0 ≡ getD (wordsOf code) i 0
-  pub above : (i : ℕ) → b .stands .to * 2 ≤ i → getD (wordsOf code′) i 0 ≡ getD (wordsOf code) i 0
+  pub spares : Spares (cellsOf code) (cellsOf code′) (b .stands .r) h (b .stands .to)
+  pub below : (i : ℕ) → i < h * 2 → getD (cellsOf code′) i 0 ≡ getD (cellsOf code) i 0
+  pub above : (i : ℕ) → b .stands .to * 2 ≤ i → getD (cellsOf code′) i 0 ≡ getD (cellsOf code) i 0
 
 pub record Walks {text code values : List ℕ} {k h : ℕ} (b : Begins text code values k h) (code′ values′ : List ℕ) (next : ℕ) : Type 0 where
   pub none-in-head : headFaults (b .stands .W) (b .stands .earlier) k (b .stands .r) ≡ []

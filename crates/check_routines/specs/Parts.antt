@@ -14,13 +14,13 @@ use Rattle.paper.specs.Types.{Fault}
 use Rattle.paper.specs.Declarations.{routineLimit, crosses, resultAsked, routineData, signatures}
 use Rattle.paper.specs.Checks.{isSome, forsInList, routineFaults}
 use Rattle.paper.specs.Steps.{forsOf}
-use Rattle.store_cells.specs.Words.{wordsOf}
+use Rattle.store_cells.specs.Cells.{cellsOf}
 use Rattle.code.specs.Cells.{opIn, valueIn, opAt, placeAt, linkAt}
 use Rattle.code.specs.Steps.{numbered, theParameters}
 use Rattle.code.specs.Signatures.{Heads}
 use Rattle.check_names.specs.Meanings as meanings
 use Rattle.check_names.specs.Promises.{storeBytes}
-use Rattle.store_evaluation.specs.Answers.{callWords}
+use Rattle.store_evaluation.specs.Answers.{callSlots}
 use Rattle.faults.specs.First.{First}
 use Rattle.faults.specs.Parts.{inHandler}
 use Rattle.check_links.specs.Raw.{Ground, endOf}
@@ -34,7 +34,7 @@ use Rattle.check_names.specs.Scopes.{Grown, OfRoutine}
 use Rattle.check_statements.specs.Answers.{SameValues, Answer}
 use Rattle.check_parameters.specs.Answers.{DeclaresParameters}
 use Rattle.check_declarations.specs.Answers.{DeclaresRoutine}
-use Rattle.check_program.specs.Routines.{wordsOfData, RawLines, RawHandler}
+use Rattle.check_program.specs.Routines.{slotsOfData, RawLines, RawHandler}
 use Rattle.check_routines.specs.Answers.{Stands, groundOf, Begins, Goes}
 
 -- ---- the head
@@ -52,11 +52,11 @@ nameWith result h = if eqb result 0 then h + 1 else h + 2
 
 -- The parenthesis before the parameters ends the data, and has how many FOR variables there are as its place; the routine's first word has the first word of its list as its place.
 pub record Finishes (before after : List ℕ) (h opens at fors : ℕ) : Type 0 where
-  pub place-is : placeAt (wordsOf after) h ≡ at
-  pub link-is : linkAt (wordsOf after) h ≡ linkAt (wordsOf before) h
-  pub op-is : opAt (wordsOf after) opens ≡ theParameters
-  pub fors-is : placeAt (wordsOf after) opens ≡ fors
-  pub others : (k : ℕ) → (k ≡ h * 2 + 1 → ⊥) → (k ≡ opens * 2 → ⊥) → (k ≡ opens * 2 + 1 → ⊥) → getD (wordsOf after) k 0 ≡ getD (wordsOf before) k 0
+  pub place-is : placeAt (cellsOf after) h ≡ at
+  pub link-is : linkAt (cellsOf after) h ≡ linkAt (cellsOf before) h
+  pub op-is : opAt (cellsOf after) opens ≡ theParameters
+  pub fors-is : placeAt (cellsOf after) opens ≡ fors
+  pub others : (k : ℕ) → (k ≡ h * 2 + 1 → ⊥) → (k ≡ opens * 2 → ⊥) → (k ≡ opens * 2 + 1 → ⊥) → getD (cellsOf after) k 0 ≡ getD (cellsOf before) k 0
 
 -- where the ERROR list begins, if e is its ERROR; 0 is no step
 unfoldable pub leadsTo : (C : List ℕ) → (e : ℕ) → ℕ
@@ -73,14 +73,14 @@ pub record Inside (text values : List ℕ) (k h : ℕ) : Type 0 where
 -- The check comes to the word `at`: what is left of the routine is as it was loaded, and no routine's signature stands in it.
 pub record Onward {text values : List ℕ} {k h : ℕ} (s : Inside text values k h) (code : List ℕ) (at : ℕ) : Type 0 where
   pub unread : Unread (s .stands .W) code at (s .stands .form .end)
-  pub calls : (D : List ℕ) → Apart (wordsOf code) D at (s .stands .form .end) → Heads D (headsFor (s .stands .m .routines)) (signatures (s .stands .W) (s .stands .m) 0 (s .stands .m .routines))
+  pub calls : (D : List ℕ) → Apart (cellsOf code) D at (s .stands .form .end) → Heads D (headsFor (s .stands .m .routines)) (signatures (s .stands .W) (s .stands .m) 0 (s .stands .m .routines))
   pub room : storeBytes ≤ length code
 
 abbrev pub groundIn : {text values : List ℕ} {k h : ℕ} → Inside text values k h → Ground
 groundIn {text = text} s = groundOf text (s .stands .W) (s .stands .m)
 
-abbrev pub dataWords : {text values : List ℕ} {k h : ℕ} → Inside text values k h → ℕ
-dataWords s = wordsOfData (groundIn s) (s .stands .m) (s .stands .r)
+abbrev pub dataSlots : {text values : List ℕ} {k h : ℕ} → Inside text values k h → ℕ
+dataSlots s = slotsOfData (groundIn s) (s .stands .m) (s .stands .r)
 
 abbrev pub faultsIn : {text values : List ℕ} {k h : ℕ} → Inside text values k h → List Fault
 faultsIn {k = k} s = routineFaults (s .stands .W) (s .stands .m) (signatures (s .stands .W) (s .stands .m) 0 (s .stands .m .routines)) k (s .stands .r)
@@ -93,14 +93,14 @@ pub record ErrorsStand (text code values : List ℕ) (result used e leads : ℕ)
   pub inside : Inside text values k h
   pub closes : e ≡ inside .stands .r .body .closes
   pub onward : Onward inside code e
-  pub leads-is : leads ≡ leadsTo (wordsOf code) e
+  pub leads-is : leads ≡ leadsTo (cellsOf code) e
   pub result-is : ResultIs (resultAsked (inside .stands .W) k (inside .stands .r .result)) result
-  pub used-is : used ≡ dataWords inside + forsInList (inside .stands .r .body .statements)
-  pub few : used ≤ callWords
+  pub used-is : used ≡ dataSlots inside + forsInList (inside .stands .r .body .statements)
+  pub few : used ≤ callSlots
 
 unfoldable pub ErrorLines : (g : Ground) (C : List ℕ) (m : Module) → Routine → Option RoutineList → Type 0
 ErrorLines g C m r none = Unit {0}
-ErrorLines g C m r (some l) = RawLines g C m r l (wordsOfData g m r + forsInList (r .body .statements)) (r .body .closes + 1)
+ErrorLines g C m r (some l) = RawLines g C m r l (slotsOfData g m r + forsInList (r .body .statements)) (r .body .closes + 1)
 
 -- The word that closes the first list is its end; an ERROR list is written.
 pub record Ended (g : Ground) (C : List ℕ) (m : Module) (r : Routine) : Type 0 where
@@ -111,8 +111,8 @@ pub record Ended (g : Ground) (C : List ℕ) (m : Module) (r : Routine) : Type 0
 pub record Errors (text code values code′ values′ : List ℕ) (result used e leads : ℕ) (r : Walked) : Type 0 where
   pub is : (s : ErrorsStand text code values result used e leads)
       → Answer (inHandler (s .inside .stands .W) (s .inside .stands .m) (signatures (s .inside .stands .W) (s .inside .stands .m) 0 (s .inside .stands .m .routines)) (s .k) (s .inside .stands .r))
-      code code′ values values′ e (s .inside .stands .to) (dataWords (s .inside) + forsOf (s .inside .stands .W) (s .inside .stands .r))
-      (Ended (groundIn (s .inside)) (wordsOf code′) (s .inside .stands .m) (s .inside .stands .r)) r
+      code code′ values values′ e (s .inside .stands .to) (dataSlots (s .inside) + forsOf (s .inside .stands .W) (s .inside .stands .r))
+      (Ended (groundIn (s .inside)) (cellsOf code′) (s .inside .stands .m) (s .inside .stands .r)) r
 
 -- ---- both lists
 -- They begin at the word `at`, behind the data.
@@ -122,18 +122,18 @@ pub record ListsStand (text code values : List ℕ) (result data-words h at : �
   pub begins : at ≡ inside .stands .form .begin
   pub onward : Onward inside code at
   pub result-is : ResultIs (resultAsked (inside .stands .W) k (inside .stands .r .result)) result
-  pub used-is : data-words ≡ dataWords inside
+  pub used-is : data-words ≡ dataSlots inside
 
 pub record ListsDone {text code values : List ℕ} {result data-words h at : ℕ} (s : ListsStand text code values result data-words h at) (code′ values′ : List ℕ) (next used : ℕ) : Type 0 where
   pub none : faultsIn (s .inside) ≡ []
   pub next-is : next ≡ s .inside .stands .to
   pub used-is : used ≡ data-words + forsOf (s .inside .stands .W) (s .inside .stands .r)
-  pub few : used ≤ callWords
-  pub body : RawLines (groundIn (s .inside)) (wordsOf code′) (s .inside .stands .m) (s .inside .stands .r) (s .inside .stands .r .body) data-words at
-  pub handler : RawHandler (groundIn (s .inside)) (wordsOf code′) (s .inside .stands .m) (s .inside .stands .r) (s .inside .stands .r .handler) (h + 1)
+  pub few : used ≤ callSlots
+  pub body : RawLines (groundIn (s .inside)) (cellsOf code′) (s .inside .stands .m) (s .inside .stands .r) (s .inside .stands .r .body) data-words at
+  pub handler : RawHandler (groundIn (s .inside)) (cellsOf code′) (s .inside .stands .m) (s .inside .stands .r) (s .inside .stands .r .handler) (h + 1)
   -- nothing before them has changed but the link of the routine's second word
-  pub below : (i : ℕ) → i < at * 2 → (i ≡ h * 2 + 3 → ⊥) → getD (wordsOf code′) i 0 ≡ getD (wordsOf code) i 0
-  pub above : (i : ℕ) → s .inside .stands .to * 2 ≤ i → getD (wordsOf code′) i 0 ≡ getD (wordsOf code) i 0
+  pub below : (i : ℕ) → i < at * 2 → (i ≡ h * 2 + 3 → ⊥) → getD (cellsOf code′) i 0 ≡ getD (cellsOf code) i 0
+  pub above : (i : ℕ) → s .inside .stands .to * 2 ≤ i → getD (cellsOf code′) i 0 ≡ getD (cellsOf code) i 0
   pub same : SameValues values values′
 
 unfoldable pub SaysLists : {text code values : List ℕ} {result data-words h at : ℕ} (s : ListsStand text code values result data-words h at) (code′ values′ : List ℕ) → Walked → Type 0

@@ -17,7 +17,7 @@ ghost use Rattle.layout.specs.Parts.{linkPart};
 ghost use mathlib.Core.Path.{_≡_};
 ghost use Prim.Native.Nat.{_+_, _*_, _<_, _≤_};
 ghost use lib.ListN.{length};
-ghost use Rattle.store_cells.specs.Words.{wordsOf};
+ghost use Rattle.store_cells.specs.Cells.{cellsOf};
 ghost use Rattle.code.specs.Cells.{linkAt};
 ghost use Rattle.check_links.specs.Raw.{endOf};
 ghost use Rattle.store_writing.specs.Promises.{Linked};
@@ -43,7 +43,7 @@ fn names_routine(m: u32, h: usize) -> bool
 // The type of what it gives back.
 fn result_of(code: &[u8], h: usize) -> Type
     requires { ⌜ h * 8 + 16 ≤ length (now code) ⌝ }
-    ensures { λ r. ⌜ r ≡ resultIn (wordsOf (now (code .entry))) h ⌝ }
+    ensures { λ r. ⌜ r ≡ resultIn (cellsOf (now (code .entry))) h ⌝ }
 {
     if sort(code, h) == text_sorts::PROC {
         return types::NONE;
@@ -78,7 +78,7 @@ fn finish(code: &mut [u8], h: usize, opens: usize, at: usize, fors: u32)
 // The word e is a list's end.
 fn end_list(code: &mut [u8], function: bool, e: usize)
     requires { ⌜ e * 8 + 8 ≤ length (now code) ⌝ }
-    ensures { λ _. ⌜ Linked (now (code .entry)) (now (code .exit)) e (endOf function) 0 (linkAt (wordsOf (now (code .entry))) e) ⌝ }
+    ensures { λ _. ⌜ Linked (now (code .entry)) (now (code .exit)) e (endOf function) 0 (linkAt (cellsOf (now (code .entry))) e) ⌝ }
 {
     if function {
         set_head(code, e, ops::FUNCTION_END, 0);
@@ -92,7 +92,7 @@ fn end_list(code: &mut [u8], function: bool, e: usize)
 // Where the ERROR list begins, if the word e that closes the other is ERROR; else 0.
 fn leads_to(code: &[u8], e: usize) -> usize
     requires { ⌜ (e * 8 + 8 ≤ length (now code)) × (e < wordLimit) ⌝ }
-    ensures { λ r. ⌜ r ≡ leadsTo (wordsOf (now (code .entry))) e ⌝ }
+    ensures { λ r. ⌜ r ≡ leadsTo (cellsOf (now (code .entry))) e ⌝ }
 {
     if sort(code, e) == text_sorts::ERROR {
         return e + 1;

@@ -15,7 +15,7 @@ use Rattle.paper.specs.Words.{Word, wordLimit}
 use Rattle.paper.specs.Trees.{Expr, leaf, joined, signed}
 use Rattle.paper.specs.Expressions.{Parsed, got, parts, relations, disjunctions, sums, nestings, levelOf, standsBefore, isLiteral, chain, prefixed, level, operand, exprIn}
 use Rattle.paper.specs.Names.{sortIn}
-use Rattle.store_cells.specs.Words.{wordsOf}
+use Rattle.store_cells.specs.Cells.{cellsOf}
 use Rattle.code.specs.Cells.{opAt}
 use Rattle.climb.proofs.Climb.{got-no, went, after, chain-on, chain-stop}
 use Rattle.climb.proofs.Operands.{got-same, op-paren, op-element, op-name, op-literal, op-none}
@@ -189,7 +189,7 @@ pub record Goes (code : List ℕ) (first closing i count : ℕ) : Type 0 where
   pub is : (g : Counts code first closing) → Counting code first closing g i count
 
 module _ (code : List ℕ) (first closing : ℕ) where
-  fresh-sort : (g : Counts code first closing) (i : ℕ) → first ≤ i → i ≤ g .end → opAt (wordsOf code) i ≡ sortIn (g .W) i
+  fresh-sort : (g : Counts code first closing) (i : ℕ) → first ≤ i → i ≤ g .end → opAt (cellsOf code) i ≡ sortIn (g .W) i
   fresh-sort g i a b = g .loaded .words i a b .sort
 
   first-inside : (g : Counts code first closing) → first ≤ g .end
@@ -205,7 +205,7 @@ module _ (code : List ℕ) (first closing : ℕ) where
   pub count-room : Counts code first closing → first * 8 + 8 ≤ length code
   count-room g = omega (arith, first-inside g, g .loaded .room)
 
-  module _ (s : ℕ) (e : s ≡ opAt (wordsOf code) first) where
+  module _ (s : ℕ) (e : s ≡ opAt (cellsOf code) first) where
     sort-first : (g : Counts code first closing) → s ≡ sortIn (g .W) first
     sort-first g = e ∙ fresh-sort g first (omega arith) (first-inside g)
 
@@ -244,7 +244,7 @@ module _ (code : List ℕ) (first closing : ℕ) where
     pub count-fits : Counts code first closing → (s k : ℕ) → Commas s k → Fits w32 (count + k)
     count-fits g s k c = record { fits = omega (arith, goes-inside g, g .loaded .last, h .is g .few, c .few) }
 
-    module _ (s : ℕ) (e : s ≡ opAt (wordsOf code) i) where
+    module _ (s : ℕ) (e : s ≡ opAt (cellsOf code) i) where
       sort-here : (g : Counts code first closing) → s ≡ sortIn (g .W) i
       sort-here g = e ∙ fresh-sort g i (h .is g .on) (goes-inside g)
 

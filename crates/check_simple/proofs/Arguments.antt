@@ -14,7 +14,7 @@ use Rattle.paper.specs.Expressions.{levelOf, nestings, disjunctions}
 use Rattle.paper.specs.Names.{DataType, sortIn}
 use Rattle.paper.specs.Types.{Fault, judge, ofType, termOf}
 use Rattle.paper.specs.Checks.{argumentFaults}
-use Rattle.store_cells.specs.Words.{wordsOf}
+use Rattle.store_cells.specs.Cells.{cellsOf}
 use Rattle.code.specs.Cells.{opIn, valueIn, linkIn, opAt, linkAt}
 use Rattle.code.specs.Steps.{aNextArgument}
 use Rattle.code.specs.Signatures.{typeAt, typesAt}
@@ -42,7 +42,7 @@ use Rattle.check_simple.proofs.Expressions.{no-operator, level-comma, q
 use Rattle.layout.specs.Types.{noType}
 
 -- ---- words that are not changed
-pub link-below : {before after : List ℕ} {x y : ℕ} → Kept before after x y → (i : ℕ) → i < x → linkAt (wordsOf after) i ≡ linkAt (wordsOf before) i
+pub link-below : {before after : List ℕ} {x y : ℕ} → Kept before after x y → (i : ℕ) → i < x → linkAt (cellsOf after) i ≡ linkAt (cellsOf before) i
 link-below k i h = ap linkIn (cell-below k (i * 2 + 1) (omega arith))
 
 pub unread-part : (W : List Word) (code : List ℕ) (at to a b : ℕ) → Unread W code at to → at ≤ a → b ≤ to → Unread W code a b
@@ -60,8 +60,8 @@ unread-after W code after from to a b u k h = record {
 }
 
 -- what has changed from x up to y only is the same outside of more
-pub apart-kept : {before after : List ℕ} {x y : ℕ} (k : Kept before after x y) (D : List ℕ) (a b c d : ℕ) → Apart (wordsOf after) D a b → c ≤ a → b ≤ d → c ≤ x → y ≤ d + 1
-    → Apart (wordsOf before) D c d
+pub apart-kept : {before after : List ℕ} {x y : ℕ} (k : Kept before after x y) (D : List ℕ) (a b c d : ℕ) → Apart (cellsOf after) D a b → c ≤ a → b ≤ d → c ≤ x → y ≤ d + 1
+    → Apart (cellsOf before) D c d
 apart-kept k D a b c d p ca bd cx yd = record {
   below = λ i h. p .below i (omega arith) ∙ head-below k i (omega arith);
   above = λ i h. p .above i (omega arith) ∙ head-above k i (omega arith);
@@ -77,10 +77,10 @@ module _ (m n : ℕ) where
   reads-grow C a b (reads-more {us = us} {y = y} {z = z} t r o l h e) =
       omega (arith, reads-grow C a b r, span-grows m n C (y + 1) z t h, ap length e, length-append us (t ∷ []))
 
-  pub reads-below : {before after : List ℕ} {x y : ℕ} → Kept before after x y → (a b : ℕ) {us : List Term} {z : ℕ} → z ≤ x → Reads m n (wordsOf before) a b us z → Reads m n (wordsOf after) a b us z
+  pub reads-below : {before after : List ℕ} {x y : ℕ} → Kept before after x y → (a b : ℕ) {us : List Term} {z : ℕ} → z ≤ x → Reads m n (cellsOf before) a b us z → Reads m n (cellsOf after) a b us z
   reads-below k a b h (reads-one {t = t} e q) = reads-one e (term-below k m n a b t (omega (arith, e, h)) q)
   reads-below {before} k a b h (reads-more {y = y} {z = z} t r o l q e) =
-      let g = span-grows m n (wordsOf before) (y + 1) z t q in
+      let g = span-grows m n (cellsOf before) (y + 1) z t q in
       reads-more t (reads-below k a b (omega (arith, g, h)) r)
       (ap opIn (head-below k y (omega (arith, g, h))) ∙ o) (link-below k y (omega (arith, g, h)) ∙ l) (term-below k m n (y + 1) z t h q) e
 
@@ -106,24 +106,24 @@ module _ {text values : List ℕ} (around : Around text values) (now : List ℕ)
     unfolding one-asks asks
     one-long = h .is one-asks .kept .long
 
-    passed-faults : passed (typeAt (wordsOf now) p) (first e) (judge (around .known .W) false (around .known .S) e) .faults ≡ ofType (around .known .W) (typeAt (wordsOf now) p) (around .known .S) e
+    passed-faults : passed (typeAt (cellsOf now) p) (first e) (judge (around .known .W) false (around .known .S) e) .faults ≡ ofType (around .known .W) (typeAt (cellsOf now) p) (around .known .S) e
     unfolding ofType
     passed-faults = refl
 
-    passed-term : passed (typeAt (wordsOf now) p) (first e) (judge (around .known .W) false (around .known .S) e) .term ≡ termOf (around .known .W) (around .known .S) e
+    passed-term : passed (typeAt (cellsOf now) p) (first e) (judge (around .known .W) false (around .known .S) e) .term ≡ termOf (around .known .W) (around .known .S) e
     unfolding termOf
     passed-term = refl
 
-    pub one-told : (b : ℕ) (next : ℕ) → r ≡ Typed b next → Told (around .known) (ofType (around .known .W) (typeAt (wordsOf now) p) (around .known .S) e) now mid e at n next
+    pub one-told : (b : ℕ) (next : ℕ) → r ≡ Typed b next → Told (around .known) (ofType (around .known .W) (typeAt (cellsOf now) p) (around .known .S) e) now mid e at n next
     unfolding one-asks asks
     one-told b next q =
-        told (around .known) (around .sorts) (suc nestings) at e n one load no (omega arith) mid (typeAt (wordsOf now) p) (passed (typeAt (wordsOf now) p) (first e) (judge (around .known .W) false (around .known .S) e)) passed-faults passed-term r
+        told (around .known) (around .sorts) (suc nestings) at e n one load no (omega arith) mid (typeAt (cellsOf now) p) (passed (typeAt (cellsOf now) p) (first e) (judge (around .known .W) false (around .known .S) e)) passed-faults passed-term r
         (h .is one-asks) b next q
 
-    pub one-first : (number word : ℕ) → r ≡ Faulty number word → First (record { number = number; at = word }) (ofType (around .known .W) (typeAt (wordsOf now) p) (around .known .S) e)
+    pub one-first : (number word : ℕ) → r ≡ Faulty number word → First (record { number = number; at = word }) (ofType (around .known .W) (typeAt (cellsOf now) p) (around .known .S) e)
     unfolding one-asks asks
     one-first number word q =
-        told-first (around .known) (around .sorts) (suc nestings) at e n one load no (omega arith) mid (typeAt (wordsOf now) p) (passed (typeAt (wordsOf now) p) (first e) (judge (around .known .W) false (around .known .S) e)) passed-faults passed-term r
+        told-first (around .known) (around .sorts) (suc nestings) at e n one load no (omega arith) mid (typeAt (cellsOf now) p) (passed (typeAt (cellsOf now) p) (first e) (judge (around .known .W) false (around .known .S) e)) passed-faults passed-term r
         (h .is one-asks) number word q
 
 -- the faults of several, by those of the first
@@ -168,7 +168,7 @@ same-tail x y xs ys e = cc
 
 module _ {text values : List ℕ} (around : Around text values) (a b₀ z : ℕ) (now : List ℕ) (q end : ℕ) (us : List Term) (rest : List Expr) (ts : List DataType)
     (r : Rest around a b₀ z now q end us rest ts) where
-  pub rest-sort : opAt (wordsOf now) end ≡ sortIn (around .known .W) end
+  pub rest-sort : opAt (cellsOf now) end ≡ sortIn (around .known .W) end
   rest-sort = r .unread .loaded .words end (omega arith) (r .inside) .sort
 
   pub rest-room : end * 8 + 8 ≤ length now
@@ -199,18 +199,18 @@ module _ {text values : List ℕ} (around : Around text values) (a b₀ z : ℕ)
 
     -- the types that are left
     pub left : List DataType
-    left = typesAt (wordsOf now) (length (next .rest)) (q + 3 + 3)
+    left = typesAt (cellsOf now) (length (next .rest)) (q + 3 + 3)
 
-    types-are : (D : List ℕ) → Apart (wordsOf now) D end z → typeAt D (q + 3) ∷ typesAt D (length (next .rest)) (q + 3 + 3) ≡ ts
+    types-are : (D : List ℕ) → Apart (cellsOf now) D end z → typeAt D (q + 3) ∷ typesAt D (length (next .rest)) (q + 3 + 3) ≡ ts
     unfolding typesAt
     types-are D p = sym (ap (λ (k : ℕ). typesAt D k (q + 3)) (ap length (next .is))) ∙ r .types D p
 
-    here : typeAt (wordsOf now) (q + 3) ∷ left ≡ ts
+    here : typeAt (cellsOf now) (q + 3) ∷ left ≡ ts
     unfolding left
-    here = types-are (wordsOf now) (apart-same (wordsOf now) end z)
+    here = types-are (cellsOf now) (apart-same (cellsOf now) end z)
 
     -- what the faults are, by the next argument
-    faults-are : argumentFaults (around .known .W) (around .known .S) ts rest ≡ argumentFaults (around .known .W) (around .known .S) (typeAt (wordsOf now) (q + 3) ∷ left) (next .a ∷ next .rest)
+    faults-are : argumentFaults (around .known .W) (around .known .S) ts rest ≡ argumentFaults (around .known .W) (around .known .S) (typeAt (cellsOf now) (q + 3) ∷ left) (next .a ∷ next .rest)
     faults-are = ap₂ (argumentFaults (around .known .W) (around .known .S)) (sym here) (next .is)
 
     module _ (mid : List ℕ) (j : Judged) (h : Passed now values mid (q + 3) (end + 1) j) where
@@ -220,11 +220,11 @@ module _ {text values : List ℕ} (around : Around text values) (a b₀ z : ℕ)
       pub next-faulty : (number word : ℕ) → j ≡ Faulty number word → First (record { number = number; at = word }) (argumentFaults (around .known .W) (around .known .S) ts rest)
       next-faulty number word e =
           subst (First (record { number = number; at = word })) (sym faults-are)
-          (one-is-first around (typeAt (wordsOf now) (q + 3)) left (next .a) (next .rest) (end + 1) (next .n) z (next .one) (next .more) (next .done) (record { number = number; at = word })
+          (one-is-first around (typeAt (cellsOf now) (q + 3)) left (next .a) (next .rest) (end + 1) (next .n) z (next .one) (next .more) (next .done) (record { number = number; at = word })
           (one-first around now (q + 3) (end + 1) (next .a) (next .n) (next .one) next-load next-no mid j h number word e))
 
       module _ (b : ℕ) (n : ℕ) (e : j ≡ Typed b n) where
-        next-told : Told (around .known) (ofType (around .known .W) (typeAt (wordsOf now) (q + 3)) (around .known .S) (next .a)) now mid (next .a) (end + 1) (next .n) n
+        next-told : Told (around .known) (ofType (around .known .W) (typeAt (cellsOf now) (q + 3)) (around .known .S) (next .a)) now mid (next .a) (end + 1) (next .n) n
         next-told = one-told around now (q + 3) (end + 1) (next .a) (next .n) (next .one) next-load next-no mid j h b n e
 
         pub next-end : (n < wordLimit) × (end < n) × (end * 8 + 8 ≤ length mid) × (n ≤ z)
@@ -235,15 +235,15 @@ module _ {text values : List ℕ} (around : Around text values) (a b₀ z : ℕ)
           next-kept : Kept now after end (next .n)
           next-kept = kept-on (kept-wider (next-told .kept) end (next .n) (omega arith) (omega arith)) (kept-wider (l .kept) end (next .n) (omega arith) (omega (arith, next-on)))
 
-          next-read : Reads (around .known .m) (around .known .n) (wordsOf after) a b₀ (us ++ (termOf (around .known .W) (around .known .S) (next .a) ∷ [])) (next .n)
+          next-read : Reads (around .known .m) (around .known .n) (cellsOf after) a b₀ (us ++ (termOf (around .known .W) (around .known .S) (next .a) ∷ [])) (next .n)
           next-read =
               reads-more (termOf (around .known .W) (around .known .S) (next .a)) (reads-below (around .known .m) (around .known .n) next-kept a b₀ (omega arith) (r .read)) (l .op-is) (l .link-is ∙ next-told .next-is)
               (term-above (l .kept) (around .known .m) (around .known .n) (end + 1) (next .n) (termOf (around .known .W) (around .known .S) (next .a)) (omega arith) (next-told .term)) refl
 
-          next-quiet : Quiet (wordsOf after) a (next .n)
+          next-quiet : Quiet (cellsOf after) a (next .n)
           next-quiet =
-              quiet-append (wordsOf after) a end (next .n) (quiet-below next-kept a end (omega arith) (r .quiet))
-              (quiet-append (wordsOf after) end (end + 1) (next .n) (quiet-word (wordsOf after) end (ap isLed (l .op-is) ∙ comma-still)) (quiet-above (l .kept) (end + 1) (next .n) (omega arith) (next-told .quiet)))
+              quiet-append (cellsOf after) a end (next .n) (quiet-below next-kept a end (omega arith) (r .quiet))
+              (quiet-append (cellsOf after) end (end + 1) (next .n) (quiet-word (cellsOf after) end (ap isLed (l .op-is) ∙ comma-still)) (quiet-above (l .kept) (end + 1) (next .n) (omega arith) (next-told .quiet)))
 
           pub next-rest : Rest around a b₀ z after (q + 3) n (us ++ (termOf (around .known .W) (around .known .S) (next .a) ∷ [])) (next .rest) left
           unfolding left
@@ -265,7 +265,7 @@ module _ {text values : List ℕ} (around : Around text values) (a b₀ z : ℕ)
           pub next-fine : argumentFaults (around .known .W) (around .known .S) ts rest ≡ argumentFaults (around .known .W) (around .known .S) left (next .rest)
           next-fine =
               faults-are
-              ∙ one-is-fine around (typeAt (wordsOf now) (q + 3)) left (next .a) (next .rest) (end + 1) (next .n) z (next .one) (next .more) (next .done) (next-told .none)
+              ∙ one-is-fine around (typeAt (cellsOf now) (q + 3)) left (next .a) (next .rest) (end + 1) (next .n) z (next .one) (next .more) (next .done) (next-told .none)
 
           pub next-terms : (us ++ (termOf (around .known .W) (around .known .S) (next .a) ∷ [])) ++ map (termOf (around .known .W) (around .known .S)) (next .rest) ≡ us ++ map (termOf (around .known .W) (around .known .S)) rest
           next-terms =
@@ -300,7 +300,7 @@ module _ (code values now : List ℕ) (p b q end : ℕ) (run : Runs code values 
   pub run-long : More code values p b → length now ≡ length code
   run-long g = run .is g .kept .long
 
-  module _ (s : ℕ) (es : s ≡ opAt (wordsOf now) end) where
+  module _ (s : ℕ) (es : s ≡ opAt (cellsOf now) end) where
     here-sort : (g : More code values p b) → s ≡ sortIn (g .around .known .W) end
     here-sort g = es ∙ rest-sort (g .around) (g .a) (g .b₀) (g .z) now q end _ _ _ (run .is g .is)
 
@@ -316,9 +316,9 @@ module _ (code values now : List ℕ) (p b q end : ℕ) (run : Runs code values 
             none = a .faults ∙ ap (argumentFaults (g .around .known .W) (g .around .known .S) (a .ts)) (f .0);
             next-is = sym (f .1);
             written = record {
-              read = subst (λ (l : List Term). Reads (g .around .known .m) (g .around .known .n) (wordsOf now) (g .a) (g .b₀) l (g .z)) all
-                  (subst (λ (i : ℕ). Reads (g .around .known .m) (g .around .known .n) (wordsOf now) (g .a) (g .b₀) (a .us) i) (sym (f .1)) (a .is .read));
-              quiet = subst (λ (i : ℕ). Quiet (wordsOf now) (g .a) i) (sym (f .1)) (a .is .quiet);
+              read = subst (λ (l : List Term). Reads (g .around .known .m) (g .around .known .n) (cellsOf now) (g .a) (g .b₀) l (g .z)) all
+                  (subst (λ (i : ℕ). Reads (g .around .known .m) (g .around .known .n) (cellsOf now) (g .a) (g .b₀) (a .us) i) (sym (f .1)) (a .is .read));
+              quiet = subst (λ (i : ℕ). Quiet (cellsOf now) (g .a) i) (sym (f .1)) (a .is .quiet);
             };
             kept = a .kept;
           });

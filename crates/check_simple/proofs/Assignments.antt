@@ -16,7 +16,7 @@ use Rattle.paper.specs.Trees.{Target}
 use Rattle.paper.specs.Expressions.{nestings, disjunctions}
 use Rattle.paper.specs.Types.{ofType}
 use Rattle.paper.specs.Steps.{Spot, scalar, elementOf, spotOf}
-use Rattle.store_cells.specs.Words.{wordsOf}
+use Rattle.store_cells.specs.Cells.{cellsOf}
 use Rattle.code.specs.Cells.{opIn, valueIn, linkIn, headAt, opAt, valueAt, linkAt}
 use Rattle.code.specs.Spans.{guard, _then_, firstIn, sizeIn, termIn}
 use Rattle.code.specs.Steps.{aTarget, Head, scalarIn, elementIn, targetIn}
@@ -42,15 +42,15 @@ use Rattle.check_simple.proofs.Expressions.{no-operator, level-semicolo
 use Rattle.check_simple.proofs.Arguments.{link-below}
 use Rattle.paper.specs.Words.{wordLimit}
 
-pub link-above : {before after : List ℕ} {x y : ℕ} → Kept before after x y → (i : ℕ) → y ≤ i → linkAt (wordsOf after) i ≡ linkAt (wordsOf before) i
+pub link-above : {before after : List ℕ} {x y : ℕ} → Kept before after x y → (i : ℕ) → y ≤ i → linkAt (cellsOf after) i ≡ linkAt (cellsOf before) i
 link-above k i h = ap linkIn (cell-above k (i * 2 + 1) (omega arith))
 
 -- ---- what stands behind a target's first word
 module _ {before after : List ℕ} {x y : ℕ} (c : Kept before after x y) (m n k v : ℕ) (spot : Spot) (at to : ℕ) where
-  pub aims-below : to ≤ x → Aims m n (wordsOf before) k v spot at to → Aims m n (wordsOf after) k v spot at to
+  pub aims-below : to ≤ x → Aims m n (cellsOf before) k v spot at to → Aims m n (cellsOf after) k v spot at to
   aims-below h (scalar-aims s) = scalar-aims s
   aims-below h (element-aims e) =
-      let g = span-grows m n (wordsOf before) (at + 2) (e .z) (e .t) (e .index) in
+      let g = span-grows m n (cellsOf before) (at + 2) (e .z) (e .t) (e .index) in
       element-aims (record {
         own = e .own;
         op-is = e .op-is;
@@ -64,7 +64,7 @@ module _ {before after : List ℕ} {x y : ℕ} (c : Kept before after x y) (m n 
         end = e .end;
       })
 
-  pub aims-above : y ≤ at + 1 → Aims m n (wordsOf before) k v spot at to → Aims m n (wordsOf after) k v spot at to
+  pub aims-above : y ≤ at + 1 → Aims m n (cellsOf before) k v spot at to → Aims m n (cellsOf after) k v spot at to
   aims-above h (scalar-aims s) = scalar-aims s
   aims-above h (element-aims e) = element-aims (record {
     own = e .own;
@@ -155,22 +155,22 @@ module _ (code values : List ℕ) (wants : ℕ) (i b : ℕ) (g : ValueSide code 
       pub value-end : (end < wordLimit) × (b * 8 + 8 ≤ length mid) × (i * 8 + 8 ≤ length mid)
       value-end = (omega (arith, value-told .next-is, value-load .last), omega (arith, value-on, value-load .room, value-long), omega (arith, g .before, value-on, value-load .room, value-long))
 
-      module _ (one : List ℕ) (l : Linked mid one b (opAt (wordsOf mid) b) (valueAt (wordsOf mid) b) end) (after : List ℕ)
-          (x : Linked one after i (opAt (wordsOf one) i) (valueAt (wordsOf one) i) (end + 1)) where
+      module _ (one : List ℕ) (l : Linked mid one b (opAt (cellsOf mid) b) (valueAt (cellsOf mid) b) end) (after : List ℕ)
+          (x : Linked one after i (opAt (cellsOf one) i) (valueAt (cellsOf one) i) (end + 1)) where
         -- words up to b are those of before
         value-kept : Kept code one b (g .to)
         value-kept = kept-on (kept-wider (value-told .kept) b (g .to) (omega arith) (omega arith)) (kept-wider (l .kept) b (g .to) (omega arith) (omega (arith, value-on)))
 
-        head-same : headAt (wordsOf one) i ≡ headAt (wordsOf code) i
+        head-same : headAt (cellsOf one) i ≡ headAt (cellsOf code) i
         head-same = head-below value-kept i (g .before)
 
-        becomes-op : opAt (wordsOf after) b ≡ becomes
+        becomes-op : opAt (cellsOf after) b ≡ becomes
         becomes-op =
             ap opIn (head-above (x .kept) b (omega (arith, g .before))) ∙ l .op-is ∙ ap opIn (head-below (value-told .kept) b (omega arith))
             ∙ g .unread .loaded .words b (omega arith) (omega (arith, value-on)) .sort ∙ g .becomes-is
 
         value-fine : Fine (ofType (g .around .known .W) (g .type) (g .around .known .S) (g .e)) code after i (g .to + 1) (end + 1)
-            (RawAssign (groundOf (g .around)) (g .around .known .n) (wordsOf after) (g .around .known .S) (g .t) (g .e) i (g .to + 1) (g .to + 1))
+            (RawAssign (groundOf (g .around)) (g .around .known .n) (cellsOf after) (g .around .known .S) (g .t) (g .e) i (g .to + 1) (g .to + 1))
         value-fine =
             let known = g .around .known in
             let spot = spotOf (known .W) (known .S) (g .t) in
@@ -180,13 +180,13 @@ module _ (code values : List ℕ) (wants : ℕ) (i b : ℕ) (g : ValueSide code 
               written = record {
                 b = b;
                 z = g .to;
-                target = raw-target (g .around) (wordsOf after) aTarget (g .t) i b (g .target .k) (g .target .v) (x .op-is ∙ ap opIn head-same ∙ g .target .op-is) (x .value-is ∙ ap valueIn head-same ∙ g .target .value-is)
+                target = raw-target (g .around) (cellsOf after) aTarget (g .t) i b (g .target .k) (g .target .v) (x .op-is ∙ ap opIn head-same ∙ g .target .op-is) (x .value-is ∙ ap valueIn head-same ∙ g .target .value-is)
                     (aims-above (x .kept) (known .m) (known .n) (g .target .k) (g .target .v) spot i b (omega arith)
                     (aims-below value-kept (known .m) (known .n) (g .target .k) (g .target .v) spot i b (omega arith) (g .target .aims)))
                     (quiet-above (x .kept) (i + 1) b (omega arith) (quiet-below value-kept (i + 1) b (omega arith) (g .target .quiet)));
                 term = record {
                   link = link-above (x .kept) b (omega (arith, g .before)) ∙ l .link-is ∙ value-told .next-is;
-                  still = low-still (opAt (wordsOf after) b) (omega (arith, becomes-op));
+                  still = low-still (opAt (cellsOf after) b) (omega (arith, becomes-op));
                   term = raw-term-after (g .around) one after (g .e) (b + 1) (g .to) i (i + 1) (x .kept) (omega (arith, g .before))
                       (raw-term-after (g .around) mid one (g .e) (b + 1) (g .to) b (b + 1) (l .kept) (omega arith) (raw-term (g .around) _ code mid (g .e) (b + 1) (g .to) end value-told));
                 };
@@ -202,6 +202,6 @@ module _ (code values : List ℕ) (wants : ℕ) (i b : ℕ) (mid : List ℕ) (r 
     is = λ g. answer-first _ code mid i (g .to + 1) _ r number word e (value-long code values wants i b g mid r o) (value-first code values wants i b g mid r o number word e);
   }
 
-  pub assigned-typed : (bool : ℕ) (end : ℕ) → r ≡ Typed bool end → (one : List ℕ) → Linked mid one b (opAt (wordsOf mid) b) (valueAt (wordsOf mid) b) end → (after : List ℕ)
-      → Linked one after i (opAt (wordsOf one) i) (valueAt (wordsOf one) i) (end + 1) → ValueAssigned code values after wants i b (Typed bool (end + 1))
+  pub assigned-typed : (bool : ℕ) (end : ℕ) → r ≡ Typed bool end → (one : List ℕ) → Linked mid one b (opAt (cellsOf mid) b) (valueAt (cellsOf mid) b) end → (after : List ℕ)
+      → Linked one after i (opAt (cellsOf one) i) (valueAt (cellsOf one) i) (end + 1) → ValueAssigned code values after wants i b (Typed bool (end + 1))
   assigned-typed bool end e one l after x = record { is = λ g. answer-fine _ code after i (g .to + 1) _ bool (end + 1) (value-fine code values wants i b g mid r o bool end e one l after x) }

@@ -15,7 +15,7 @@ use Rattle.paper.specs.Names.{DataType, Meaning, theRoutine, usesOf, routineIn,
 use Rattle.paper.specs.Types.{fault}
 use Rattle.paper.specs.Declarations.{Signature}
 use Rattle.paper.specs.Checks.{noSignature, isOtherKind, signatureFaults, calleeFaults, signatureOf}
-use Rattle.store_cells.specs.Words.{wordsOf}
+use Rattle.store_cells.specs.Cells.{cellsOf}
 use Rattle.code.specs.Cells.{valueIn, opAt}
 use Rattle.code.specs.Steps.{numbered}
 use Rattle.code.specs.Signatures.{typeAt, resultAt}
@@ -31,10 +31,10 @@ use Rattle.layout.specs.Rules.{unknownName, wrongKind}
 use Rattle.layout.specs.Kinds.{aRoutine, kindIn, aVariable, anArray, aConstant, aLoop, anErrno, anErrorNumber, boolIn, ownIn}
 
 -- ---- a name by its cell
-pub name-means : {values : List ℕ} (k : expressions.Known values) (code : List ℕ) (i m : ℕ) → sortIn (k .W) i ≡ NAME → Fresh (k .W) (wordsOf code) i → m ≡ meaningAt (wordsOf code) (wordsOf values) i
+pub name-means : {values : List ℕ} (k : expressions.Known values) (code : List ℕ) (i m : ℕ) → sortIn (k .W) i ≡ NAME → Fresh (k .W) (cellsOf code) i → m ≡ meaningAt (cellsOf code) (cellsOf values) i
     → meaningIn (k .routine) m ≡ meaning (k .S) (spelled (k .W) i)
 name-means {values} k code i m n f e =
-    ap (meaningIn (k .routine)) (e ∙ ap (λ (x : ℕ). getD (wordsOf values) (firstMeaning + x) 0) (f .number n)) ∙ k .means .means i n
+    ap (meaningIn (k .routine)) (e ∙ ap (λ (x : ℕ). getD (cellsOf values) (firstMeaning + x) 0) (f .number n)) ∙ k .means .means i n
 
 no-routine : (routine : ℕ → ℕ) (kind bool own value : ℕ) → (kind ≡ aRoutine → ⊥) → routineIn (meaningWith routine kind bool own value) ≡ none
 unfolding meaningWith routineIn
@@ -63,7 +63,7 @@ some-kind : (function : Bool) (t : DataType) (o : Option DataType) → function 
 unfolding isOtherKind
 some-kind function t o e f = rw (e, f)
 
-module _ (code values : List ℕ) (function : Bool) (i m : ℕ) (em : m ≡ meaningAt (wordsOf code) (wordsOf values) i) where
+module _ (code values : List ℕ) (function : Bool) (i m : ℕ) (em : m ≡ meaningAt (cellsOf code) (cellsOf values) i) where
   module _ (g : Callees code values i) where
     means : meaningWith (g .around .known .routine) (kindIn m) (boolIn m) (ownIn m) (valueIn m) ≡ meaning (g .around .known .S) (spelled (g .around .known .W) i)
     unfolding meaningIn
@@ -90,18 +90,18 @@ module _ (code values : List ℕ) (function : Bool) (i m : ℕ) (em : m ≡ mean
       among : numbered (g .around .R) (valueIn m) < length (g .around .R)
       among = g .around .callable i (numbered (g .around .R) (valueIn m)) (g .name) routine-means
 
-      callee-known : Known (wordsOf code) (g .around .R) (g .around .K .routines) (valueIn m)
-      callee-known = known (wordsOf code) (g .around .R) (g .around .K .routines) (valueIn m) (g .calls .heads (wordsOf code) (apart-same (wordsOf code) i (g .to))) among
+      callee-known : Known (cellsOf code) (g .around .R) (g .around .K .routines) (valueIn m)
+      callee-known = known (cellsOf code) (g .around .R) (g .around .K .routines) (valueIn m) (g .calls .heads (cellsOf code) (apart-same (cellsOf code) i (g .to))) among
 
       known-room : valueIn m * 8 + 8 ≤ length code
       known-room = omega (arith, callee-known .low, callee-known .inside, g .calls .room)
 
-      found-says : eqb (opAt (wordsOf code) (valueIn m)) FUNC ≡ function → CalleeSays (g .around) code function i (At (valueIn m))
+      found-says : eqb (opAt (cellsOf code) (valueIn m)) FUNC ≡ function → CalleeSays (g .around) code function i (At (valueIn m))
       unfolding CalleeSays
       found-says k = record { means = routine-means; among = among; kind = k }
 
       -- a routine of the other kind
-      other-says : isOtherKind function (resultAt (wordsOf code) (valueIn m)) ≡ true → (function ≡ true → resultAt (wordsOf code) (valueIn m) ≡ none) → CalleeSays (g .around) code function i (Wrong wrongKind)
+      other-says : isOtherKind function (resultAt (cellsOf code) (valueIn m)) ≡ true → (function ≡ true → resultAt (cellsOf code) (valueIn m) ≡ none) → CalleeSays (g .around) code function i (Wrong wrongKind)
       unfolding CalleeSays calleeFaults signatureFaults signatureOf routineIn
       other-says k z =
           let sig : Signature = getD (g .around .K .routines) (numbered (g .around .R) (valueIn m)) noSignature in
@@ -124,26 +124,26 @@ module _ (code values : List ℕ) (function : Bool) (i m : ℕ) (em : m ≡ mean
       pub callee-room : Callees code values i → h * 8 + 8 ≤ length code
       callee-room g = rw eh (known-room g of-kind)
 
-      module _ (s : ℕ) (es : s ≡ opAt (wordsOf code) h) where
-        head-sort : opAt (wordsOf code) (valueIn m) ≡ s
-        head-sort = sym (es ∙ ap (opAt (wordsOf code)) eh)
+      module _ (s : ℕ) (es : s ≡ opAt (cellsOf code) h) where
+        head-sort : opAt (cellsOf code) (valueIn m) ≡ s
+        head-sort = sym (es ∙ ap (opAt (cellsOf code)) eh)
 
-        func-result : s ≡ FUNC → resultAt (wordsOf code) (valueIn m) ≡ some (typeAt (wordsOf code) (valueIn m + 1))
+        func-result : s ≡ FUNC → resultAt (cellsOf code) (valueIn m) ≡ some (typeAt (cellsOf code) (valueIn m + 1))
         unfolding resultAt
-        func-result f = rw (eq-eqb (opAt (wordsOf code) (valueIn m)) FUNC (head-sort ∙ f), resultAt)
+        func-result f = rw (eq-eqb (opAt (cellsOf code) (valueIn m)) FUNC (head-sort ∙ f), resultAt)
 
-        proc-result : (s ≡ FUNC → ⊥) → resultAt (wordsOf code) (valueIn m) ≡ none
+        proc-result : (s ≡ FUNC → ⊥) → resultAt (cellsOf code) (valueIn m) ≡ none
         unfolding resultAt
-        proc-result f = rw (ne-eqb (opAt (wordsOf code) (valueIn m)) FUNC (λ q. f (sym head-sort ∙ q)), resultAt)
+        proc-result f = rw (ne-eqb (opAt (cellsOf code) (valueIn m)) FUNC (λ q. f (sym head-sort ∙ q)), resultAt)
 
         pub callee-no-func : function ≡ true → (s ≡ FUNC → ⊥) → CalleeTold code values function i (Wrong wrongKind)
         callee-no-func t f = record { is = λ g. other-says g of-kind (same-kind function _ t (proc-result f)) (λ _. proc-result f) }
 
         pub callee-func : function ≡ true → s ≡ FUNC → CalleeTold code values function i (At h)
-        callee-func t f = rw eh (record { is = λ g. found-says g of-kind (eq-eqb (opAt (wordsOf code) (valueIn m)) FUNC (head-sort ∙ f) ∙ sym t) })
+        callee-func t f = rw eh (record { is = λ g. found-says g of-kind (eq-eqb (opAt (cellsOf code) (valueIn m)) FUNC (head-sort ∙ f) ∙ sym t) })
 
         pub callee-no-proc : function ≡ false → s ≡ FUNC → CalleeTold code values function i (Wrong wrongKind)
         callee-no-proc t f = record { is = λ g. other-says g of-kind (some-kind function _ _ t (func-result f)) (λ e. false-true (sym t ∙ e)) }
 
         pub callee-proc : function ≡ false → (s ≡ FUNC → ⊥) → CalleeTold code values function i (At h)
-        callee-proc t f = rw eh (record { is = λ g. found-says g of-kind (ne-eqb (opAt (wordsOf code) (valueIn m)) FUNC (λ q. f (sym head-sort ∙ q)) ∙ sym t) })
+        callee-proc t f = rw eh (record { is = λ g. found-says g of-kind (ne-eqb (opAt (cellsOf code) (valueIn m)) FUNC (λ q. f (sym head-sort ∙ q)) ∙ sym t) })

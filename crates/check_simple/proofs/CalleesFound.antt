@@ -15,7 +15,7 @@ use Rattle.paper.specs.Names.{DataType, aNum, aBool, refusedPiece, routineIn, s
 use Rattle.paper.specs.Types.{faultIf, differs, termOf}
 use Rattle.paper.specs.Checks.{isSome, isOtherKind, signatureFaults, calleeFaults, signatureOf}
 use Rattle.paper.specs.Steps.{routineOf}
-use Rattle.store_cells.specs.Words.{wordsOf}
+use Rattle.store_cells.specs.Cells.{cellsOf}
 use Rattle.code.specs.Cells.{opAt, valueAt, placeAt}
 use Rattle.code.specs.Spans.{guard}
 use Rattle.code.specs.Steps.{Head, noHead, numbered, agree, calleeIn}
@@ -59,8 +59,8 @@ differs-turned refusedPiece refusedPiece = refl
 
 module _ {text values : List ℕ} (a : Around text values) (code : List ℕ) (i to : ℕ) (function : Bool) (h : ℕ)
     (f : CalleeFound (numbered (a .R)) (length (a .R)) code (meaning (a .known .S) (spelled (a .known .W) i)) function h) (calls : Calls a code i to) where
-  pub found-known : Known (wordsOf code) (a .R) (a .K .routines) h
-  found-known = known (wordsOf code) (a .R) (a .K .routines) h (calls .heads (wordsOf code) (apart-same (wordsOf code) i to)) (f .among)
+  pub found-known : Known (cellsOf code) (a .R) (a .K .routines) h
+  found-known = known (cellsOf code) (a .R) (a .K .routines) h (calls .heads (cellsOf code) (apart-same (cellsOf code) i to)) (f .among)
 
   pub found-room : (h + 1 < wordLimit) × ((h + 1) * 8 + 8 ≤ length code)
   found-room = (omega (arith, found-known .low, found-known .inside), omega (arith, found-known .low, found-known .inside, calls .room))
@@ -72,10 +72,10 @@ module _ {text values : List ℕ} (a : Around text values) (code : List ℕ) (i 
   pub found-faults : (es : List Expr) → calleeFaults (a .known .W) (a .K) function (meaning (a .known .S) (spelled (a .known .W) i)) i es ≡ faultIf (not (eqb (length (signatureFor a h .parameters)) (length es))) wrongCount i
   unfolding calleeFaults signatureFaults routineIn
   found-faults es =
-      let o : isOtherKind function (signatureFor a h .result) ≡ false = ap (isOtherKind function) (found-known .result) ∙ own-kind (wordsOf code) h function (f .kind) in
+      let o : isOtherKind function (signatureFor a h .result) ≡ false = ap (isOtherKind function) (found-known .result) ∙ own-kind (cellsOf code) h function (f .kind) in
       rw (f .means, calleeFaults) (rw (o, signatureFaults))
 
-  pub found-result : function ≡ true → signatureFor a h .result ≡ some (typeAt (wordsOf code) (h + 1))
+  pub found-result : function ≡ true → signatureFor a h .result ≡ some (typeAt (cellsOf code) (h + 1))
   unfolding resultAt
   found-result e = found-known .result ∙ rw (f .kind ∙ e, resultAt)
 

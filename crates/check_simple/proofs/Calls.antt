@@ -18,7 +18,7 @@ use Rattle.paper.specs.Expressions.{levelOf, nestings, disjunctions}
 use Rattle.paper.specs.Names.{DataType, sortIn}
 use Rattle.paper.specs.Types.{Fault, faultIf, ofType, termOf}
 use Rattle.paper.specs.Checks.{isSome, argumentFaults}
-use Rattle.store_cells.specs.Words.{wordsOf}
+use Rattle.store_cells.specs.Cells.{cellsOf}
 use Rattle.code.specs.Cells.{opIn, valueIn, headAt, opAt, valueAt, linkAt}
 use Rattle.code.specs.Spans.{termIn}
 use Rattle.code.specs.Steps.{aNextArgument, Head, parts, argumentsIn, anyArguments}
@@ -97,7 +97,7 @@ raw-arguments {text} x C es a b z (some-arguments l r) q o h = record {
   quiet = q;
 }
 
-pub read-below : (m n : ℕ) {before after : List ℕ} {x y : ℕ} → Kept before after x y → (ts : List Term) (a b z : ℕ) → z ≤ x → ReadAll m n (wordsOf before) ts a b z → ReadAll m n (wordsOf after) ts a b z
+pub read-below : (m n : ℕ) {before after : List ℕ} {x y : ℕ} → Kept before after x y → (ts : List Term) (a b z : ℕ) → z ≤ x → ReadAll m n (cellsOf before) ts a b z → ReadAll m n (cellsOf after) ts a b z
 read-below m n k ts a b z h (no-arguments e f g) = no-arguments e f g
 read-below m n k ts a b z h (some-arguments l r) = some-arguments l (reads-below m n k a b h r)
 
@@ -127,8 +127,8 @@ module _ (code values : List ℕ) (h callee first closing : ℕ) (g : CallSide c
   pub counts : Counts code first closing
   counts = record { W = g .around .known .W; es = g .es; z = g .z; end = g .end; stand = g .stand; loaded = g .unread .loaded }
 
-  head-known : Known (wordsOf code) (g .around .R) (g .around .K .routines) h
-  head-known = known (wordsOf code) (g .around .R) (g .around .K .routines) h (g .calls .heads (wordsOf code) (apart-same (wordsOf code) callee (g .end))) (g .among)
+  head-known : Known (cellsOf code) (g .around .R) (g .around .K .routines) h
+  head-known = known (cellsOf code) (g .around .R) (g .around .K .routines) h (g .calls .heads (cellsOf code) (apart-same (cellsOf code) callee (g .end))) (g .among)
 
   pub head-here : h * 8 + 8 ≤ length code
   head-here = omega (arith, head-known .low, head-known .inside, g .calls .room)
@@ -152,7 +152,7 @@ module _ (code values : List ℕ) (h callee first closing : ℕ) (g : CallSide c
   first-small = omega (arith, call-on, call-end, g .unread .loaded .last)
 
   -- the word that closes them is as it was
-  pub closes-low : (after : List ℕ) (x : ℕ) → Kept code after x (g .z) → opAt (wordsOf after) (g .z) ≡ aNextArgument → ⊥
+  pub closes-low : (after : List ℕ) (x : ℕ) → Kept code after x (g .z) → opAt (cellsOf after) (g .z) ≡ aNextArgument → ⊥
   closes-low after x k e =
       omega (arith, sym (ap opIn (head-above k (g .z) (omega arith)) ∙ g .unread .loaded .words (g .z) call-on call-end .sort) ∙ e, g .around .sorts (g .z))
 
@@ -162,7 +162,7 @@ module _ (code values : List ℕ) (h callee first closing : ℕ) (g : CallSide c
   abbrev passing : List DataType → List Expr → List Fault
   passing ts es = argumentFaults (g .around .known .W) (g .around .known .S) ts es
 
-  module _ (count : ℕ) (c : Counted code first closing count) (w : ℕ) (ew : w ≡ headAt (wordsOf code) h) where
+  module _ (count : ℕ) (c : Counted code first closing count) (w : ℕ) (ew : w ≡ headAt (cellsOf code) h) where
     count-is : count ≡ length (g .es)
     unfolding counts
     count-is = c .is counts
@@ -189,7 +189,7 @@ module _ (code values : List ℕ) (h callee first closing : ℕ) (g : CallSide c
 
       -- there are none
       none-answer : count ≡ 0 → (op : ℕ) (after : List ℕ) → Linked code after callee op h first
-          → Answer (faultIf (not (eqb (length params) (length (g .es)))) wrongCount callee ++ passing params (g .es)) code after callee (g .z) (CallWritten g (wordsOf after) op) (Typed noType first)
+          → Answer (faultIf (not (eqb (length params) (length (g .es)))) wrongCount callee ++ passing params (g .es)) code after callee (g .z) (CallWritten g (cellsOf after) op) (Typed noType first)
       unfolding argumentFaults groundOf params
       none-answer zero-is op after l =
           let n = none-closed (g .stand .arguments) (sym count-is ∙ zero-is) in
@@ -207,7 +207,7 @@ module _ (code values : List ℕ) (h callee first closing : ℕ) (g : CallSide c
           })
 
       -- there is a first one
-      module _ (some-are : count ≡ 0 → ⊥) (p : ℕ) (ep : p ≡ firstParameter (wordsOf code) h) where
+      module _ (some-are : count ≡ 0 → ⊥) (p : ℕ) (ep : p ≡ firstParameter (cellsOf code) h) where
         one : FirstOf (sortIn (g .around .known .W)) (ExprAt (sortIn (g .around .known .W)) (Parses (sortIn (g .around .known .W)))) (g .es) first (g .z)
         one =
             separated-first (sortIn (g .around .known .W)) (ExprAt (sortIn (g .around .known .W)) (Parses (sortIn (g .around .known .W))))
@@ -228,7 +228,7 @@ module _ (code values : List ℕ) (h callee first closing : ℕ) (g : CallSide c
         one-no : levelOf (sortIn (g .around .known .W) (one .n)) ≡ 0
         one-no = next-level (g .around) (one .n) (g .z) (one .rest) (one .done) call-no
 
-        value-suc : valueAt (wordsOf code) h ≡ suc (length (one .rest))
+        value-suc : valueAt (cellsOf code) h ≡ suc (length (one .rest))
         value-suc = sym (ap valueIn ew) ∙ sym many-is ∙ sym as-many ∙ ap length (one .is)
 
         pub call-asks : (p * 8 + 8 ≤ length code) × (p < wordLimit) × expressions.Stands code values disjunctions first
@@ -237,21 +237,21 @@ module _ (code values : List ℕ) (h callee first closing : ℕ) (g : CallSide c
 
         -- the types of the others
         left : List DataType
-        left = typesAt (wordsOf code) (length (one .rest)) (p + 3)
+        left = typesAt (cellsOf code) (length (one .rest)) (p + 3)
 
-        types-are : params ≡ typeAt (wordsOf code) p ∷ left
+        types-are : params ≡ typeAt (cellsOf code) p ∷ left
         unfolding params left typesAt
-        types-are = head-known .types ∙ ap₂ (typesAt (wordsOf code)) value-suc (sym ep)
+        types-are = head-known .types ∙ ap₂ (typesAt (cellsOf code)) value-suc (sym ep)
 
-        types-in : (D : List ℕ) → Apart (wordsOf code) D callee (g .end) → typesAt D (length (one .rest)) (p + 3) ≡ left
+        types-in : (D : List ℕ) → Apart (cellsOf code) D callee (g .end) → typesAt D (length (one .rest)) (p + 3) ≡ left
         unfolding params typesAt
         types-in D q =
             let k = known D (g .around .R) (g .around .K .routines) h (g .calls .heads D q) (g .among) in
             let v : valueAt D h ≡ suc (length (one .rest)) = sym (k .many) ∙ head-known .many ∙ value-suc in
-            let f : firstParameter D h ≡ p = parameter-same D (wordsOf code) h (sym (k .function) ∙ head-known .function) ∙ sym ep in
+            let f : firstParameter D h ≡ p = parameter-same D (cellsOf code) h (sym (k .function) ∙ head-known .function) ∙ sym ep in
             same-tail _ _ _ _ (sym (ap₂ (typesAt D) v f) ∙ sym (k .types) ∙ types-are)
 
-        faults-are : faultIf (not (eqb (length params) (length (g .es)))) wrongCount callee ++ passing params (g .es) ≡ passing (typeAt (wordsOf code) p ∷ left) (one .a ∷ one .rest)
+        faults-are : faultIf (not (eqb (length params) (length (g .es)))) wrongCount callee ++ passing params (g .es) ≡ passing (typeAt (cellsOf code) p ∷ left) (one .a ∷ one .rest)
         faults-are = all-faults ∙ ap₂ passing types-are (one .is)
 
         module _ (mid : List ℕ) (j : Judged) (pass : Passed code values mid p first j) where
@@ -261,11 +261,11 @@ module _ (code values : List ℕ) (h callee first closing : ℕ) (g : CallSide c
           first-wrong : (number word : ℕ) → j ≡ Faulty number word → First (record { number = number; at = word }) (faultIf (not (eqb (length params) (length (g .es)))) wrongCount callee ++ passing params (g .es))
           first-wrong number word e =
               subst (First (record { number = number; at = word })) (sym faults-are)
-              (one-is-first (g .around) (typeAt (wordsOf code) p) left (one .a) (one .rest) first (one .n) (g .z) (one .one) (one .more) (one .done) (record { number = number; at = word })
+              (one-is-first (g .around) (typeAt (cellsOf code) p) left (one .a) (one .rest) first (one .n) (g .z) (one .one) (one .more) (one .done) (record { number = number; at = word })
               (one-first (g .around) code p first (one .a) (one .n) (one .one) one-load one-no mid j pass number word e))
 
           module _ (b : ℕ) (n : ℕ) (e : j ≡ Typed b n) where
-            first-told : Told (g .around .known) (ofType (g .around .known .W) (typeAt (wordsOf code) p) (g .around .known .S) (one .a)) code mid (one .a) first (one .n) n
+            first-told : Told (g .around .known) (ofType (g .around .known .W) (typeAt (cellsOf code) p) (g .around .known .S) (one .a)) code mid (one .a) first (one .n) n
             first-told = one-told (g .around) code p first (one .a) (one .n) (one .one) one-load one-no mid j pass b n e
 
             pub first-end : (n < wordLimit) × (callee * 8 + 8 ≤ length mid)
@@ -307,17 +307,17 @@ module _ (code values : List ℕ) (h callee first closing : ℕ) (g : CallSide c
               }
 
               fine-faults : faultIf (not (eqb (length params) (length (g .es)))) wrongCount callee ++ passing params (g .es) ≡ passing left (one .rest)
-              fine-faults = faults-are ∙ one-is-fine (g .around) (typeAt (wordsOf code) p) left (one .a) (one .rest) first (one .n) (g .z) (one .one) (one .more) (one .done) (first-told .none)
+              fine-faults = faults-are ∙ one-is-fine (g .around) (typeAt (cellsOf code) p) left (one .a) (one .rest) first (one .n) (g .z) (one .one) (one .more) (one .done) (first-told .none)
 
               module _ (final : List ℕ) (r : Judged) (m : MoreJudged after values final p n r) where
-                fine-on : (next : ℕ) → Fine (passing left (one .rest)) after final n (g .z) next (MoreRead call-more (wordsOf final))
-                    → Fine (faultIf (not (eqb (length params) (length (g .es)))) wrongCount callee ++ passing params (g .es)) code final callee (g .z) next (CallWritten g (wordsOf final) op)
+                fine-on : (next : ℕ) → Fine (passing left (one .rest)) after final n (g .z) next (MoreRead call-more (cellsOf final))
+                    → Fine (faultIf (not (eqb (length params) (length (g .es)))) wrongCount callee ++ passing params (g .es)) code final callee (g .z) next (CallWritten g (cellsOf final) op)
                 unfolding call-more groundOf params
                 fine-on next f =
                     let below : callee < n = omega (arith, first-told .next-is, g .before, one-on) in
                     let inner : n ≤ g .z = omega (arith, first-told .next-is, one-in) in
                     let k : Kept code final callee (g .z) = kept-on (kept-wider first-kept callee (g .z) (omega arith) one-in) (kept-wider (f .kept) callee (g .z) (omega (arith, below)) (omega arith)) in
-                    let lk : one .n ≡ linkAt (wordsOf final) callee = sym (link-below (f .kept) callee below ∙ l .link-is ∙ first-told .next-is) in
+                    let lk : one .n ≡ linkAt (cellsOf final) callee = sym (link-below (f .kept) callee below ∙ l .link-is ∙ first-told .next-is) in
                     let all : map (termOf (g .around .known .W) (g .around .known .S)) (one .a ∷ one .rest) ≡ map (termOf (g .around .known .W) (g .around .known .S)) (g .es) =
                     ap (map (termOf (g .around .known .W) (g .around .known .S))) (sym (one .is)) in
                     record {
@@ -327,22 +327,22 @@ module _ (code values : List ℕ) (h callee first closing : ℕ) (g : CallSide c
                         op-is = ap opIn (head-below (f .kept) callee below) ∙ l .op-is;
                         value-is = ap valueIn (head-below (f .kept) callee below) ∙ l .value-is;
                         as-many = as-many;
-                        read = subst (λ (ts : List Term). ReadAll (g .around .known .m) (g .around .known .n) (wordsOf final) ts first (linkAt (wordsOf final) callee) (g .z)) all
-                            (subst (λ (i : ℕ). ReadAll (g .around .known .m) (g .around .known .n) (wordsOf final) (termOf (g .around .known .W) (g .around .known .S) (one .a) ∷ map (termOf (g .around .known .W) (g .around .known .S)) (one .rest)) first i (g .z)) lk
+                        read = subst (λ (ts : List Term). ReadAll (g .around .known .m) (g .around .known .n) (cellsOf final) ts first (linkAt (cellsOf final) callee) (g .z)) all
+                            (subst (λ (i : ℕ). ReadAll (g .around .known .m) (g .around .known .n) (cellsOf final) (termOf (g .around .known .W) (g .around .known .S) (one .a) ∷ map (termOf (g .around .known .W) (g .around .known .S)) (one .rest)) first i (g .z)) lk
                             (some-arguments one-on (f .written .read)));
                         quiet = f .written .quiet;
                       };
                       kept = k;
                     }
 
-                call-answer : Answer (faultIf (not (eqb (length params) (length (g .es)))) wrongCount callee ++ passing params (g .es)) code final callee (g .z) (CallWritten g (wordsOf final) op) r
+                call-answer : Answer (faultIf (not (eqb (length params) (length (g .es)))) wrongCount callee ++ passing params (g .es)) code final callee (g .z) (CallWritten g (cellsOf final) op) r
                 unfolding call-more
                 call-answer =
-                    answer-on (passing left (one .rest)) _ code after final n (g .z) callee (g .z) (MoreRead call-more (wordsOf final)) (CallWritten g (wordsOf final) op) r (m .is call-more) (first-kept .long)
+                    answer-on (passing left (one .rest)) _ code after final n (g .z) callee (g .z) (MoreRead call-more (cellsOf final)) (CallWritten g (cellsOf final) op) r (m .is call-more) (first-kept .long)
                     (λ x y. subst (First x) (sym fine-faults) y) fine-on
 
 -- ---- what the call answers
-module _ (code values : List ℕ) (op h callee first closing : ℕ) (count : ℕ) (c : Counted code first closing count) (w : ℕ) (ew : w ≡ headAt (wordsOf code) h) where
+module _ (code values : List ℕ) (op h callee first closing : ℕ) (count : ℕ) (c : Counted code first closing count) (w : ℕ) (ew : w ≡ headAt (cellsOf code) h) where
   pub called-wrong : (count ≡ valueIn w → ⊥) → CallJudged code values code op h callee first closing (Faulty wrongCount callee)
   unfolding params
   called-wrong d = record {
@@ -354,7 +354,7 @@ module _ (code values : List ℕ) (op h callee first closing : ℕ) (count : ℕ
     unfolding params
     called-none z after l = record { is = λ g. none-answer code values h callee first closing g count c w ew same z op after l }
 
-    module _ (some-are : count ≡ 0 → ⊥) (p : ℕ) (ep : p ≡ firstParameter (wordsOf code) h) (mid : List ℕ) (j : Judged) (pass : Passed code values mid p first j) where
+    module _ (some-are : count ≡ 0 → ⊥) (p : ℕ) (ep : p ≡ firstParameter (cellsOf code) h) (mid : List ℕ) (j : Judged) (pass : Passed code values mid p first j) where
       pub called-faulty : (number word : ℕ) → j ≡ Faulty number word → CallJudged code values mid op h callee first closing j
       unfolding params
       called-faulty number word e = record {

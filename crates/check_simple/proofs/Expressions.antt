@@ -12,7 +12,7 @@ use Rattle.paper.specs.Expressions.{levelOf, nestings, disjunctions}
 use Rattle.paper.specs.Names.{DataType, sortIn}
 use Rattle.paper.specs.Types.{Fault, judge, ofType, termOf}
 use Rattle.paper.specs.Types as types
-use Rattle.store_cells.specs.Words.{wordsOf}
+use Rattle.store_cells.specs.Cells.{cellsOf}
 use Rattle.code.specs.Cells.{opIn, opAt, valueAt}
 use Rattle.code.specs.Spans.{termIn}
 use Rattle.climb.proofs.Operands.{deeper}
@@ -59,19 +59,19 @@ level-brace = refl
 
 -- ---- words that lead nowhere
 module _ {before after : List ℕ} {a b : ℕ} (k : Kept before after a b) where
-  pub quiet-below : (from to : ℕ) → to ≤ a → Quiet (wordsOf before) from to → Quiet (wordsOf after) from to
+  pub quiet-below : (from to : ℕ) → to ≤ a → Quiet (cellsOf before) from to → Quiet (cellsOf after) from to
   quiet-below from to h q i l g = ap (λ (w : ℕ). isLed (opIn w)) (head-below k i (omega arith)) ∙ q i l g
 
-  pub quiet-above : (from to : ℕ) → b ≤ from → Quiet (wordsOf before) from to → Quiet (wordsOf after) from to
+  pub quiet-above : (from to : ℕ) → b ≤ from → Quiet (cellsOf before) from to → Quiet (cellsOf after) from to
   quiet-above from to h q i l g = ap (λ (w : ℕ). isLed (opIn w)) (head-above k i (omega arith)) ∙ q i l g
 
 -- ---- what is told of an expression with these faults
 pub record Told {values : List ℕ} (k : Known values) (fs : List Fault) (before after : List ℕ) (e : Expr) (at to next : ℕ) : Type 0 where
   pub none : fs ≡ []
   pub next-is : next ≡ to
-  pub term : termIn (k .m) (k .n) (wordsOf after) at to ≡ some (termOf (k .W) (k .S) e)
+  pub term : termIn (k .m) (k .n) (cellsOf after) at to ≡ some (termOf (k .W) (k .S) e)
   pub kept : Kept before after at to
-  pub quiet : Quiet (wordsOf after) at to
+  pub quiet : Quiet (cellsOf after) at to
 
 module _ {code values : List ℕ} (k : Known values) (sorts : (i : ℕ) → sortIn (k .W) i < aTarget) (d at : ℕ) (e : Expr) (to : ℕ) (p : Parses (sortIn (k .W)) d at e to) (l : Loaded (k .W) code at to)
     (no : levelOf (sortIn (k .W) to) ≡ 0) (deep : d ≤ suc nestings) where
@@ -88,24 +88,24 @@ module _ {code values : List ℕ} (k : Known values) (sorts : (i : ℕ) → sort
     loaded = l;
   }
 
-  low-before : (i : ℕ) → at ≤ i → i < to → opAt (wordsOf code) i < aTarget
+  low-before : (i : ℕ) → at ≤ i → i < to → opAt (cellsOf code) i < aTarget
   low-before i h g = subst (λ (o : ℕ). o < aTarget) (sym (l .words i h (omega arith) .sort)) (sorts i)
 
   module _ (after : List ℕ) (t : DataType) (j : types.Judged) (q : j .faults ≡ ofType (k .W) t (k .S) e) (x : j .term ≡ termOf (k .W) (k .S) e) (r : Judged) (h : Judges (k .m) (k .n) code after at to j r) where
     pub told : (b : ℕ) (next : ℕ) → r ≡ Typed b next → Told k (ofType (k .W) t (k .S) e) code after e at to next
     told b next z =
-        let s = says-typed (k .m) (k .n) (wordsOf after) at to j r b next z (h .says) in
+        let s = says-typed (k .m) (k .n) (cellsOf after) at to j r b next z (h .says) in
         record {
           none = sym q ∙ s .none;
           next-is = s .next-is;
           term = s .stands ∙ ap some x;
           kept = h .kept;
-          quiet = quiet-low (wordsOf after) at to (λ i g m. h .low .stays i (low-before i g m));
+          quiet = quiet-low (cellsOf after) at to (λ i g m. h .low .stays i (low-before i g m));
         }
 
     pub told-first : (number word : ℕ) → r ≡ Faulty number word → First (record { number = number; at = word }) (ofType (k .W) t (k .S) e)
     told-first number word z =
-        let s = says-faulty (k .m) (k .n) (wordsOf after) at to j r number word z (h .says) in
+        let s = says-faulty (k .m) (k .n) (cellsOf after) at to j r number word z (h .says) in
         of-type-first (k .W) d at e to p (record { number = number; at = word }) (s .others) t (k .S) (sym q ∙ s .faults-are)
 
   -- the same of one that has to be of a type
@@ -170,13 +170,13 @@ module _ (code values : List ℕ) (from i : ℕ) (g : Values code values from i)
 
 -- a term that is told of, as the links know it
 pub raw-term : {text values : List ℕ} (a : Around text values) (fs : List Fault) (before after : List ℕ) (e : Expr) (at to next : ℕ) → Told (a .known) fs before after e at to next
-    → RawTerm (groundOf a) (a .known .n) (wordsOf after) (a .known .S) e at to
+    → RawTerm (groundOf a) (a .known .n) (cellsOf after) (a .known .S) e at to
 unfolding groundOf
 raw-term a fs before after e at to next t = record { is = t .term; quiet = t .quiet }
 
 -- and still so after a word before it is written
 pub raw-term-after : {text values : List ℕ} (a : Around text values) (mid after : List ℕ) (e : Expr) (at to x y : ℕ) → Kept mid after x y → y ≤ at
-    → RawTerm (groundOf a) (a .known .n) (wordsOf mid) (a .known .S) e at to → RawTerm (groundOf a) (a .known .n) (wordsOf after) (a .known .S) e at to
+    → RawTerm (groundOf a) (a .known .n) (cellsOf mid) (a .known .S) e at to → RawTerm (groundOf a) (a .known .n) (cellsOf after) (a .known .S) e at to
 unfolding groundOf
 raw-term-after a mid after e at to x y k h t = record {
   is = term-above k (a .known .m) (a .known .n) at to (termOf (a .known .W) (a .known .S) e) h (t .is);
@@ -199,14 +199,14 @@ valued-typed code values mid after op wants from i r o b end e l = record {
   is = λ g u w.
       let t = values-told code values from i g mid wants u w r o b end e in
       let grow = values-grow code values from i g in
-      let v : g .to ≡ valueAt (wordsOf after) i = sym (l .value-is ∙ t .next-is) in
+      let v : g .to ≡ valueAt (cellsOf after) i = sym (l .value-is ∙ t .next-is) in
       answer-fine _ code after i (g .to + 1) _ b (end + 1) (record {
         none = t .none;
         next-is = ap (λ (x : ℕ). x + 1) (t .next-is);
         written = record {
           raw = record {
             word = record { is = l .op-is; leaves = l .link-is ∙ ap (λ (x : ℕ). x + 1) (t .next-is) };
-            term = subst (λ (z : ℕ). RawTerm (groundOf (g .around)) (g .around .known .n) (wordsOf after) (g .around .known .S) (g .e) from z) v
+            term = subst (λ (z : ℕ). RawTerm (groundOf (g .around)) (g .around .known .n) (cellsOf after) (g .around .known .S) (g .e) from z) v
                 (raw-term-after (g .around) mid after (g .e) from (g .to) i (i + 1) (l .kept) (omega (arith, g .before)) (raw-term (g .around) _ code mid (g .e) from (g .to) end t));
             within = omega (arith, v);
           };

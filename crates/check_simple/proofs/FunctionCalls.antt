@@ -18,7 +18,7 @@ use Rattle.paper.specs.Types as types
 use Rattle.paper.specs.Declarations.{Signature}
 use Rattle.paper.specs.Checks.{argumentFaults, calleeFaults, signatureOf, callFaults, resultFaults}
 use Rattle.paper.specs.Steps.{spotOf}
-use Rattle.store_cells.specs.Words.{wordsOf}
+use Rattle.store_cells.specs.Cells.{cellsOf}
 use Rattle.code.specs.Cells.{opIn, valueIn, headAt, opAt, linkAt}
 use Rattle.code.specs.Steps.{aCallTarget, numbered, aTarget}
 use Rattle.code.specs.Signatures.{typeAt}
@@ -72,8 +72,8 @@ a-result : (W : List Word) (j : types.Judged) (o : Option DataType) (t : DataTyp
 unfolding resultFaults
 a-result W j o t i e = rw e
 
-pub same-above : {before after : List ℕ} {x y : ℕ} → Kept before after x y → (a b : ℕ) → y ≤ a → SameWords (wordsOf before) (wordsOf after) a b
-same-above {before} {after} k a b h = same-cells (wordsOf before) (wordsOf after) a b (λ c l m. sym (cell-above k c (omega arith)))
+pub same-above : {before after : List ℕ} {x y : ℕ} → Kept before after x y → (a b : ℕ) → y ≤ a → SameWords (cellsOf before) (cellsOf after) a b
+same-above {before} {after} k a b h = same-cells (cellsOf before) (cellsOf after) a b (λ c l m. sym (cell-above k c (omega arith)))
 
 -- ---- f(args)
 module _ (code values : List ℕ) (i : ℕ) (g : ForCalls code values i) where
@@ -140,15 +140,15 @@ module _ (code values : List ℕ) (i : ℕ) (g : ForCalls code values i) where
       callee-are = found-faults (g .around) code i (g .z + 1) true h for-found (g .calls) (g .es)
 
       result-are : (j : types.Judged) → resultFaults (g .around .known .W) j (signatureOf (g .around .known .W) (g .around .K) (meaning (g .around .known .S) (spelled (g .around .known .W) i)) .result) i
-          ≡ faultIf (differs (j .type) (typeAt (wordsOf code) (h + 1))) wrongType i
+          ≡ faultIf (differs (j .type) (typeAt (cellsOf code) (h + 1))) wrongType i
       result-are j =
-          a-result (g .around .known .W) j _ (typeAt (wordsOf code) (h + 1)) i
+          a-result (g .around .known .W) j _ (typeAt (cellsOf code) (h + 1)) i
           (ap (λ (x : Signature). x .result) (found-signature (g .around) code i (g .z + 1) true h for-found (g .calls)) ∙ found-result (g .around) code i (g .z + 1) true h for-found (g .calls) refl)
 
-      module _ (w : ℕ) (ew : w ≡ headAt (wordsOf code) (h + 1)) (wants : ℕ) (t : Bool) (d : TypeDiffers w wants t) (j : types.Judged) (ty : typeIn wants ≡ some (j .type)) where
-        result-differs : differs (j .type) (typeAt (wordsOf code) (h + 1)) ≡ t
+      module _ (w : ℕ) (ew : w ≡ headAt (cellsOf code) (h + 1)) (wants : ℕ) (t : Bool) (d : TypeDiffers w wants t) (j : types.Judged) (ty : typeIn wants ≡ some (j .type)) where
+        result-differs : differs (j .type) (typeAt (cellsOf code) (h + 1)) ≡ t
         result-differs =
-            differs-turned (j .type) (typeAt (wordsOf code) (h + 1)) ∙ sym (ap (λ (x : DataType). differs x (j .type)) (type-at (wordsOf code) (h + 1) w ew)) ∙ d .is (j .type) ty
+            differs-turned (j .type) (typeAt (cellsOf code) (h + 1)) ∙ sym (ap (λ (x : DataType). differs x (j .type)) (type-at (cellsOf code) (h + 1) w ew)) ∙ d .is (j .type) ty
 
         for-differs-first : t ≡ true → First (record { number = wrongType; at = i }) (forFaults g j)
         unfolding callFaults
@@ -170,33 +170,33 @@ module _ (code values : List ℕ) (i : ℕ) (g : ForCalls code values i) where
 
         for-written : (final : List ℕ) (next : ℕ) → t ≡ false
             → Fine (faultIf (not (eqb (length (signatureFor (g .around) h .parameters)) (length (g .es)))) wrongCount i ++ argumentFaults (g .around .known .W) (g .around .known .S) (signatureFor (g .around) h .parameters) (g .es))
-            code final i (g .z) next (CallWritten for-side (wordsOf final) 1)
-            → Fine (forFaults g j) code final i (g .z) next (ForWritten g (wordsOf final))
+            code final i (g .z) next (CallWritten for-side (cellsOf final) 1)
+            → Fine (forFaults g j) code final i (g .z) next (ForWritten g (cellsOf final))
         unfolding for-side
         for-written final next y f = record {
           none = for-faults y ∙ f .none;
           next-is = f .next-is;
           written = record {
-            callee-is = found-read (g .around) code i (g .z + 1) true h for-found (g .calls) (wordsOf final) (g .es) (f .written .value-is) (f .written .as-many)
+            callee-is = found-read (g .around) code i (g .z + 1) true h for-found (g .calls) (cellsOf final) (g .es) (f .written .value-is) (f .written .as-many)
                 (f .kept .places i ∙ g .unread .places i (omega arith) (omega (arith, for-on)));
-            still = low-still (opAt (wordsOf final) i) (omega (arith, f .written .op-is));
-            arguments = raw-arguments (g .around) (wordsOf final) (g .es) (i + 2) (linkAt (wordsOf final) i) (g .z) (f .written .read) (f .written .quiet) (closes-low code values h i (i + 2) 7 for-side final i (f .kept))
+            still = low-still (opAt (cellsOf final) i) (omega (arith, f .written .op-is));
+            arguments = raw-arguments (g .around) (cellsOf final) (g .es) (i + 2) (linkAt (cellsOf final) i) (g .z) (f .written .read) (f .written .quiet) (closes-low code values h i (i + 2) 7 for-side final i (f .kept))
                 (omega (arith, g .unread .loaded .last));
           };
           kept = f .kept;
         }
 
-        for-answer : (final : List ℕ) (q : Judged) → t ≡ false → CallJudged code values final 1 h i (i + 2) 7 q → Answer (forFaults g j) code final i (g .z) (ForWritten g (wordsOf final)) q
+        for-answer : (final : List ℕ) (q : Judged) → t ≡ false → CallJudged code values final 1 h i (i + 2) 7 q → Answer (forFaults g j) code final i (g .z) (ForWritten g (cellsOf final)) q
         unfolding for-side
         for-answer final q y c =
-            answer-on _ (forFaults g j) code code final i (g .z) i (g .z) (CallWritten for-side (wordsOf final) 1) (ForWritten g (wordsOf final)) q (c .is for-side) refl
+            answer-on _ (forFaults g j) code code final i (g .z) i (g .z) (CallWritten for-side (cellsOf final) 1) (ForWritten g (cellsOf final)) q (c .is for-side) refl
             (λ x f. subst (First x) (sym (for-faults y)) f) (λ next f. for-written final next y f)
 
 module _ (code values : List ℕ) (wants : ℕ) (i : ℕ) (r : Callee) (c : CalleeTold code values true i r) where
   pub for-wrong : (number : ℕ) → r ≡ Wrong number → ForJudged code values code wants i (Faulty number i)
   for-wrong number e = record { is = λ g j ty. answer-first (forFaults g j) code code i (g .z) _ (Faulty number i) number i refl refl (for-wrong-first code values i g r c number e j) }
 
-  module _ (h : ℕ) (e : r ≡ At h) (w : ℕ) (ew : w ≡ headAt (wordsOf code) (h + 1)) (t : Bool) (d : TypeDiffers w wants t) where
+  module _ (h : ℕ) (e : r ≡ At h) (w : ℕ) (ew : w ≡ headAt (cellsOf code) (h + 1)) (t : Bool) (d : TypeDiffers w wants t) where
     pub for-differs : t ≡ true → ForJudged code values code wants i (Faulty wrongType i)
     for-differs y = record { is = λ g j ty. answer-first (forFaults g j) code code i (g .z) _ (Faulty wrongType i) wrongType i refl refl (for-differs-first code values i g r c h e w ew wants t d j ty y) }
 
@@ -212,29 +212,29 @@ module _ (code values : List ℕ) (i b : ℕ) (g : CallAssigns code values i b) 
   assign-small = omega (arith, assign-on, g .for .unread .loaded .last)
 
   module _ (wants : ℕ) (j : types.Judged) (ty : typeIn wants ≡ some (j .type)) (mid : List ℕ) (r : Judged) (f : ForJudged code values mid wants (b + 1) r) where
-    assign-answer : Answer (forFaults (g .for) j) code mid (b + 1) (g .for .z) (ForWritten (g .for) (wordsOf mid)) r
+    assign-answer : Answer (forFaults (g .for) j) code mid (b + 1) (g .for .z) (ForWritten (g .for) (cellsOf mid)) r
     assign-answer = f .is (g .for) j ty
 
     assign-first : (number word : ℕ) → r ≡ Faulty number word → First (record { number = number; at = word }) (forFaults (g .for) j)
     assign-first number word e = answered-first _ _ _ _ _ _ r assign-answer number word e
 
     module _ (bool : ℕ) (end : ℕ) (e : r ≡ Typed bool end) where
-      assign-fine : Fine (forFaults (g .for) j) code mid (b + 1) (g .for .z) end (ForWritten (g .for) (wordsOf mid))
+      assign-fine : Fine (forFaults (g .for) j) code mid (b + 1) (g .for .z) end (ForWritten (g .for) (cellsOf mid))
       assign-fine = answered-fine _ _ _ _ _ _ r assign-answer bool end e
 
-      module _ (w : ℕ) (ew : w ≡ headAt (wordsOf mid) i) (after : List ℕ) (l : Linked mid after i (opIn w + 4) (valueIn w) (end + 2)) where
-        head-same : w ≡ headAt (wordsOf code) i
+      module _ (w : ℕ) (ew : w ≡ headAt (cellsOf mid) i) (after : List ℕ) (l : Linked mid after i (opIn w + 4) (valueIn w) (end + 2)) where
+        head-same : w ≡ headAt (cellsOf code) i
         head-same = ew ∙ head-below (assign-fine .kept) i (omega (arith, g .before))
 
         call-assigned : Fine (forFaults (g .for) j) code after i (g .for .z + 2) (end + 2)
-            (RawAssignCall (groundOf (g .for .around)) (g .for .around .known .n) (wordsOf after) (g .for .around .known .S) (g .t) (b + 1) (g .for .es) i (g .for .z + 2) (g .for .z + 2))
+            (RawAssignCall (groundOf (g .for .around)) (g .for .around .known .n) (cellsOf after) (g .for .around .known .S) (g .t) (b + 1) (g .for .es) i (g .for .z + 2) (g .for .z + 2))
         call-assigned =
             let a = g .for .around in
             let known = a .known in
             let spot = spotOf (known .W) (known .S) (g .t) in
             let x = assign-fine .written in
             let k = assign-fine .kept in
-            let mv = same-moves (wordsOf mid) (wordsOf after) (b + 1) (g .for .z + 1) 0 (same-above (l .kept) (b + 1) (g .for .z + 1) (omega (arith, g .before))) in
+            let mv = same-moves (cellsOf mid) (cellsOf after) (b + 1) (g .for .z + 1) 0 (same-above (l .kept) (b + 1) (g .for .z + 1) (omega (arith, g .before))) in
             let three : b + 1 + 2 ≡ b + 3 = omega arith in
             record {
               none = assign-fine .none;
@@ -242,18 +242,18 @@ module _ (code values : List ℕ) (i b : ℕ) (g : CallAssigns code values i b) 
               written = record {
                 b = b;
                 z = g .for .z;
-                target = raw-target a (wordsOf after) aCallTarget (g .t) i b (g .target .k) (g .target .v)
+                target = raw-target a (cellsOf after) aCallTarget (g .t) i b (g .target .k) (g .target .v)
                     (l .op-is ∙ ap (λ (y : ℕ). opIn y + 4) head-same ∙ ap (λ (y : ℕ). y + 4) (g .target .op-is) ∙ omega arith)
                     (l .value-is ∙ ap valueIn head-same ∙ g .target .value-is)
                     (aims-above (l .kept) (known .m) (known .n) (g .target .k) (g .target .v) spot i b (omega arith)
                     (aims-below k (known .m) (known .n) (g .target .k) (g .target .v) spot i b (omega arith) (g .target .aims)))
                     (quiet-above (l .kept) (i + 1) b (omega arith) (quiet-below k (i + 1) b (omega arith) (g .target .quiet)));
-                callee = callee-moves (groundOf a) (known .n) (known .n) (omega arith) (wordsOf mid) (wordsOf after) (b + 1) (g .for .z + 1) 0 0 mv (known .S) true (b + 1) (g .for .es) (omega arith) (omega (arith, assign-on))
-                    (still-value (opAt (wordsOf mid) (b + 1)) (x .still)) (still-place (opAt (wordsOf mid) (b + 1)) (x .still)) (x .callee-is);
+                callee = callee-moves (groundOf a) (known .n) (known .n) (omega arith) (cellsOf mid) (cellsOf after) (b + 1) (g .for .z + 1) 0 0 mv (known .S) true (b + 1) (g .for .es) (omega arith) (omega (arith, assign-on))
+                    (still-value (opAt (cellsOf mid) (b + 1)) (x .still)) (still-place (opAt (cellsOf mid) (b + 1)) (x .still)) (x .callee-is);
                 name = refl;
-                still = still-moves (groundOf a) (known .n) (known .n) (omega arith) (wordsOf mid) (wordsOf after) (b + 1) (g .for .z + 1) 0 0 mv (b + 1) (omega arith) (omega (arith, assign-on)) (x .still);
-                arguments = subst (λ (y : ℕ). RawArguments (groundOf a) (known .n) (wordsOf after) (known .S) (g .for .es) y (linkAt (wordsOf after) (b + 1)) (g .for .z)) three
-                    (arguments-move (groundOf a) (known .n) (known .n) (omega arith) (wordsOf mid) (wordsOf after) (b + 1) (g .for .z + 1) 0 0 mv (known .S) (g .for .es) (b + 1 + 2) (linkAt (wordsOf mid) (b + 1)) (linkAt (wordsOf after) (b + 1)) (g .for .z)
+                still = still-moves (groundOf a) (known .n) (known .n) (omega arith) (cellsOf mid) (cellsOf after) (b + 1) (g .for .z + 1) 0 0 mv (b + 1) (omega arith) (omega (arith, assign-on)) (x .still);
+                arguments = subst (λ (y : ℕ). RawArguments (groundOf a) (known .n) (cellsOf after) (known .S) (g .for .es) y (linkAt (cellsOf after) (b + 1)) (g .for .z)) three
+                    (arguments-move (groundOf a) (known .n) (known .n) (omega arith) (cellsOf mid) (cellsOf after) (b + 1) (g .for .z + 1) 0 0 mv (known .S) (g .for .es) (b + 1 + 2) (linkAt (cellsOf mid) (b + 1)) (linkAt (cellsOf after) (b + 1)) (g .for .z)
                     (omega arith) (omega arith) (sym (link-above (l .kept) (b + 1) (omega (arith, g .before)))) (x .arguments));
                 within = omega arith;
                 leaves = l .link-is ∙ ap (λ (y : ℕ). y + 2) (assign-fine .next-is);
@@ -266,10 +266,10 @@ module _ (code values : List ℕ) (i b : ℕ) (g : CallAssigns code values i b) 
     assign-room bool end e =
         (omega (arith, assign-fine bool end e .next-is, g .for .unread .loaded .last), omega (arith, assign-fine bool end e .kept .long, g .before, assign-on, g .for .unread .loaded .room))
 
-    pub assign-op : (w : ℕ) → w ≡ headAt (wordsOf mid) i → (bool : ℕ) (end : ℕ) → r ≡ Typed bool end → opIn w + 4 < valuePart
+    pub assign-op : (w : ℕ) → w ≡ headAt (cellsOf mid) i → (bool : ℕ) (end : ℕ) → r ≡ Typed bool end → opIn w + 4 < valuePart
     assign-op w ew bool end e =
         let h : opIn w ≡ aTarget + g .target .k = ap opIn (ew ∙ head-below (assign-fine bool end e .kept) i (omega (arith, g .before))) ∙ g .target .op-is in
-        omega (arith, h, aims-few (g .for .around .known .m) (g .for .around .known .n) (wordsOf code) (g .target .k) (g .target .v) _ i b (g .target .aims))
+        omega (arith, h, aims-few (g .for .around .known .m) (g .for .around .known .n) (cellsOf code) (g .target .k) (g .target .v) _ i b (g .target .aims))
 
 module _ (code values : List ℕ) (wants : ℕ) (i b : ℕ) (mid : List ℕ) (r : Judged) (f : ForJudged code values mid wants (b + 1) r) where
   pub call-faulty : (number word : ℕ) → r ≡ Faulty number word → CallAssigned code values mid wants i b r
@@ -277,7 +277,7 @@ module _ (code values : List ℕ) (wants : ℕ) (i b : ℕ) (mid : List ℕ) (r 
     is = λ g j ty. answer-first _ code mid i (g .for .z + 2) _ r number word e (assign-answer code values i b g wants j ty mid r f .long) (assign-first code values i b g wants j ty mid r f number word e);
   }
 
-  pub call-typed : (bool : ℕ) (end : ℕ) → r ≡ Typed bool end → (w : ℕ) → w ≡ headAt (wordsOf mid) i → (after : List ℕ) → Linked mid after i (opIn w + 4) (valueIn w) (end + 2)
+  pub call-typed : (bool : ℕ) (end : ℕ) → r ≡ Typed bool end → (w : ℕ) → w ≡ headAt (cellsOf mid) i → (after : List ℕ) → Linked mid after i (opIn w + 4) (valueIn w) (end + 2)
       → CallAssigned code values after wants i b (Typed bool (end + 2))
   call-typed bool end e w ew after l = record {
     is = λ g j ty. answer-fine _ code after i (g .for .z + 2) _ bool (end + 2) (call-assigned code values i b g wants j ty mid r f bool end e w ew after l);
@@ -296,6 +296,6 @@ module _ (code values : List ℕ) (wants : ℕ) (i b : ℕ) (g : CallAssigns cod
   pub assign-next : Fits w64 (end + 2)
   assign-next = record { fits = omega (arith, assign-fits .0) }
 
-  pub assign-op-fits : (w : ℕ) → w ≡ headAt (wordsOf mid) i → opIn w + 4 < valuePart
+  pub assign-op-fits : (w : ℕ) → w ≡ headAt (cellsOf mid) i → opIn w + 4 < valuePart
   unfolding of-type-wanted
   assign-op-fits w ew = assign-op code values i b g wants of-type-wanted (k .is) mid r f w ew bool end e

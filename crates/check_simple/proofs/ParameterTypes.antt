@@ -7,7 +7,7 @@ use Rattle.paper.specs.Trees.{first}
 use Rattle.paper.specs.Names.{DataType, sortIn}
 use Rattle.paper.specs.Types.{fault, faultIf, differs, wanted, judge}
 use Rattle.paper.specs.Types as types
-use Rattle.store_cells.specs.Words.{wordsOf}
+use Rattle.store_cells.specs.Cells.{cellsOf}
 use Rattle.code.specs.Cells.{headAt}
 use Rattle.code.specs.Signatures.{typeAt}
 use Rattle.climb.proofs.Places.{spans-first, stands}
@@ -33,13 +33,13 @@ wanted-bad : (t : DataType) (i : ℕ) (j : types.Judged) → j .faults ≡ [] �
 unfolding wanted faultIf
 wanted-bad t i j n d = rw (n, d, wanted)
 
-module _ (code values after : List ℕ) (p at asked : ℕ) (e : asked ≡ headAt (wordsOf code) p) (r : Judged) (c : Checked code values after false 5 at r) where
+module _ (code values after : List ℕ) (p at asked : ℕ) (e : asked ≡ headAt (cellsOf code) p) (r : Judged) (c : Checked code values after false 5 at r) where
   pub passed-faulty : (number word : ℕ) → r ≡ Faulty number word → Passed code values after p at r
   unfolding SaysUnder
   passed-faulty number word q = record {
     is = λ s.
         let j = judge (s .known .W) false (s .known .S) (s .e) in
-        let t = typeAt (wordsOf code) p in
+        let t = typeAt (cellsOf code) p in
         let f = says-faulty _ _ _ _ _ _ r number word q (c .is s .says) in
         subst (Judges (s .known .m) (s .known .n) code after at (s .to) (passed t (first (s .e)) j)) (sym q)
         (record {
@@ -53,8 +53,8 @@ module _ (code values after : List ℕ) (p at asked : ℕ) (e : asked ≡ headAt
   }
 
   module _ (bool end : ℕ) (q : r ≡ Typed bool end) (t : Bool) (d : TypeDiffers asked bool t) where
-    differs-is : (x : DataType) → typeIn bool ≡ some x → differs (typeAt (wordsOf code) p) x ≡ t
-    differs-is x z = sym (ap (λ (y : DataType). differs y x) (type-at (wordsOf code) p asked e)) ∙ d .is x z
+    differs-is : (x : DataType) → typeIn bool ≡ some x → differs (typeAt (cellsOf code) p) x ≡ t
+    differs-is x z = sym (ap (λ (y : DataType). differs y x) (type-at (cellsOf code) p asked e)) ∙ d .is x z
 
     pub passed-wrong : t ≡ true → Passed code values after p at (Faulty wrongType at)
     unfolding SaysUnder fault
@@ -66,7 +66,7 @@ module _ (code values after : List ℕ) (p at asked : ℕ) (e : asked ≡ headAt
           record {
             says = record {
               others = [];
-              faults-are = wanted-bad (typeAt (wordsOf code) p) (first (s .e)) j (x .none) (differs-is (j .type) (x .type-is) ∙ y) ∙ ap (fault wrongType) start;
+              faults-are = wanted-bad (typeAt (cellsOf code) p) (first (s .e)) j (x .none) (differs-is (j .type) (x .type-is) ∙ y) ∙ ap (fault wrongType) start;
             };
             kept = c .is s .kept;
             low = c .is s .low;
@@ -81,7 +81,7 @@ module _ (code values after : List ℕ) (p at asked : ℕ) (e : asked ≡ headAt
           let x = says-typed _ _ _ _ _ _ r bool end q (c .is s .says) in
           record {
             says = record {
-              none = wanted-fine (typeAt (wordsOf code) p) (first (s .e)) j (x .none) (differs-is (j .type) (x .type-is) ∙ y);
+              none = wanted-fine (typeAt (cellsOf code) p) (first (s .e)) j (x .none) (differs-is (j .type) (x .type-is) ∙ y);
               type-is = x .type-is;
               next-is = x .next-is;
               stands = x .stands;

@@ -11,7 +11,7 @@ use Rattle.paper.specs.Names.{sortIn, spelled, meaning}
 use Rattle.paper.specs.Types.{Fault, faultIf}
 use Rattle.paper.specs.Declarations.{Signature}
 use Rattle.paper.specs.Checks.{argumentFaults, callFaults, simpleFaults}
-use Rattle.store_cells.specs.Words.{wordsOf}
+use Rattle.store_cells.specs.Cells.{cellsOf}
 use Rattle.code.specs.Cells.{opIn, valueIn, linkAt}
 use Rattle.code.specs.Steps.{numbered, aProcedureCall, aClose}
 use Rattle.grammar.specs.Form.{Parses}
@@ -117,7 +117,7 @@ module _ (code values : List ℕ) (i : ℕ) (c : CallsOf code values i) where
         of-answer : Answer
             (faultIf (not (eqb (length (signatureFor (c .begins .stands .around) h .parameters)) (length (of-calls .es)))) wrongCount i
             ++ argumentFaults (c .begins .stands .around .known .W) (c .begins .stands .around .known .S) (signatureFor (c .begins .stands .around) h .parameters) (of-calls .es))
-            code mid i (c .begins .stands .to) (CallWritten of-side (wordsOf mid) aProcedureCall) q
+            code mid i (c .begins .stands .to) (CallWritten of-side (cellsOf mid) aProcedureCall) q
         unfolding of-side
         of-answer = j .is of-side
 
@@ -130,7 +130,7 @@ module _ (code values : List ℕ) (i : ℕ) (c : CallsOf code values i) where
           of-fine : Fine
               (faultIf (not (eqb (length (signatureFor (c .begins .stands .around) h .parameters)) (length (of-calls .es)))) wrongCount i
               ++ argumentFaults (c .begins .stands .around .known .W) (c .begins .stands .around .known .S) (signatureFor (c .begins .stands .around) h .parameters) (of-calls .es))
-              code mid i (c .begins .stands .to) end (CallWritten of-side (wordsOf mid) aProcedureCall)
+              code mid i (c .begins .stands .to) end (CallWritten of-side (cellsOf mid) aProcedureCall)
           of-fine = answered-fine _ _ _ _ _ _ q of-answer bool end x
 
           pub of-end : (end < wordLimit) × (end * 8 + 8 ≤ length mid)
@@ -151,11 +151,11 @@ module _ (code values : List ℕ) (i : ℕ) (c : CallsOf code values i) where
               (record {
                 z = s .to;
                 op = ap opIn head ∙ w .op-is;
-                callee = found-read (s .around) code i (s .to) false h of-found (s .calls) (wordsOf after) (of-calls .es) (ap valueIn head ∙ w .value-is) (w .as-many)
+                callee = found-read (s .around) code i (s .to) false h of-found (s .calls) (cellsOf after) (of-calls .es) (ap valueIn head ∙ w .value-is) (w .as-many)
                     (l .kept .places i ∙ of-fine .kept .places i ∙ s .unread .places i (omega arith) (omega (arith, of-on)));
-                arguments = subst (λ (z : ℕ). RawArguments (groundOf (s .around)) (known .n) (wordsOf after) (known .S) (of-calls .es) (i + 1) z (s .to)) (sym link)
-                    (raw-arguments (s .around) (wordsOf after) (of-calls .es) (i + 1) (linkAt (wordsOf mid) i) (s .to)
-                    (read-below (known .m) (known .n) (l .kept) _ (i + 1) (linkAt (wordsOf mid) i) (s .to) (omega arith) (w .read)) (quiet-below (l .kept) (i + 1) (s .to) (omega arith) (w .quiet))
+                arguments = subst (λ (z : ℕ). RawArguments (groundOf (s .around)) (known .n) (cellsOf after) (known .S) (of-calls .es) (i + 1) z (s .to)) (sym link)
+                    (raw-arguments (s .around) (cellsOf after) (of-calls .es) (i + 1) (linkAt (cellsOf mid) i) (s .to)
+                    (read-below (known .m) (known .n) (l .kept) _ (i + 1) (linkAt (cellsOf mid) i) (s .to) (omega arith) (w .read)) (quiet-below (l .kept) (i + 1) (s .to) (omega arith) (w .quiet))
                     (λ o. omega (arith, l .op-is, o)) (omega (arith, s .unread .loaded .last)));
                 closes = record { is = l .op-is; leaves = l .link-is };
                 within = omega arith;

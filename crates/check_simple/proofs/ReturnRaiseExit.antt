@@ -16,7 +16,7 @@ use Rattle.paper.specs.Names.{DataType, aNum, Scopes, sortIn}
 use Rattle.paper.specs.Types.{Fault, fault, faultIf, faultsOf, ofType}
 use Rattle.paper.specs.Checks.{isSome, inError, returnFaults, simpleFaults}
 use Rattle.paper.specs.Checks as checks
-use Rattle.store_cells.specs.Words.{wordsOf}
+use Rattle.store_cells.specs.Cells.{cellsOf}
 use Rattle.code.specs.Cells.{opAt}
 use Rattle.grammar.specs.Form.{Parses, ExprAt}
 use Rattle.grammar.proofs.Inversions.{WithOptional, Given, Alone, simple-return, simple-raise, simple-exit, simple-retry, simple-trynext, optional-none, optional-some}
@@ -44,7 +44,7 @@ use Rattle.paper.specs.Sorts.{semicolon, EXIT, RAISE, RETRY, RETURN, TRYNEXT}
 module _ (code values : List ℕ) (at : ℕ) (g : Stands code values at) (s : Simple) (is : g .s ≡ s) (one : g .to ≡ at + 1) (op : ℕ) (fine : Bool) (after : List ℕ) (r : Judged) (a : parts.Alone code after op fine at r) where
   -- where it may stand
   pub word-fine : fine ≡ true → simpleFaults (g .around .known .W) (g .around .K) (g .around .known .S) s ≡ []
-      → (RawWord (wordsOf after) op at (g .to + 1) → RawDoes (groundOf (g .around)) (g .around .known .n) (wordsOf after) (g .around .known .S) s at (g .to + 1) (g .to + 1)) → Answers g after r
+      → (RawWord (cellsOf after) op at (g .to + 1) → RawDoes (groundOf (g .around)) (g .around .known .n) (cellsOf after) (g .around .known .S) s at (g .to + 1) (g .to + 1)) → Answers g after r
   word-fine t n d =
       let y = a .yes t in
       let l = y .0 in
@@ -98,7 +98,7 @@ func-faults W K S i e t n = rw (n, returnFaults)
 
 -- ---- a word with an expression behind it, or with none: RETURN and RAISE
 module _ (code values : List ℕ) (i : ℕ) (g : Stands code values i) (make : ℕ → Option Expr → Simple)
-    (x : WithOptional (sortIn (g .around .known .W)) (Parses (sortIn (g .around .known .W))) make (g .s) i (g .to)) (s : ℕ) (es : s ≡ opAt (wordsOf code) (i + 1)) where
+    (x : WithOptional (sortIn (g .around .known .W)) (Parses (sortIn (g .around .known .W))) make (g .s) i (g .to)) (s : ℕ) (es : s ≡ opAt (cellsOf code) (i + 1)) where
   abbrev faults : Option Expr → List Fault
   faults e = simpleFaults (g .around .known .W) (g .around .K) (g .around .known .S) (make i e)
 
@@ -113,7 +113,7 @@ module _ (code values : List ℕ) (i : ℕ) (g : Stands code values i) (make : �
 
   -- the word alone, which may stand here or not
   word-alone : s ≡ semicolon → (op : ℕ) (fine : Bool) (after : List ℕ) (r : Judged) → parts.Alone code after op fine i r
-      → (fine ≡ true → (faults none ≡ []) × (RawWord (wordsOf after) op i (g .to + 1) → does (wordsOf after) none)) → (fine ≡ false → First (record { number = barred; at = i }) (faults none))
+      → (fine ≡ true → (faults none ≡ []) × (RawWord (cellsOf after) op i (g .to + 1) → does (cellsOf after) none)) → (fine ≡ false → First (record { number = barred; at = i }) (faults none))
       → Answers g after r
   word-alone e op fine after r a fits breaks =
       let is : g .s ≡ make i none = x .is ∙ ap (make i) (without e .0) in
@@ -135,7 +135,7 @@ module _ (code values : List ℕ) (i : ℕ) (g : Stands code values i) (make : �
     given-broken f = stated-first code values i g (make i (some (given .e))) given-is code (Faulty barred i) barred i refl refl f
 
     given-fine : (op wants : ℕ) (t : DataType) → typeIn wants ≡ some t → faults (some (given .e)) ≡ ofType (g .around .known .W) t (g .around .known .S) (given .e) → (after : List ℕ)
-        → (RawValued (groundOf (g .around)) (g .around .known .n) (wordsOf after) (g .around .known .S) op (given .e) (i + 1) i (g .to + 1) (g .to + 1) → does (wordsOf after) (some (given .e)))
+        → (RawValued (groundOf (g .around)) (g .around .known .n) (cellsOf after) (g .around .known .S) op (given .e) (i + 1) i (g .to + 1) (g .to + 1) → does (cellsOf after) (some (given .e)))
         → (r : Judged) → Valued code values after op wants (i + 1) i r → Answers g after r
     unfolding given-values value-side
     given-fine op wants t w fs after raw r v =
@@ -151,7 +151,7 @@ module _ (k : Setting) (code values : List ℕ) (i : ℕ) (c : BeginsIn RETURN k
   return-is : WithOptional (sortIn (g .around .known .W)) (Parses (sortIn (g .around .known .W))) returns (g .s) i (g .to)
   return-is = simple-return (sortIn (g .around .known .W)) (Parses (sortIn (g .around .known .W))) (g .is) (c .begins .here)
 
-  module _ (s : ℕ) (es : s ≡ opAt (wordsOf code) (i + 1)) where
+  module _ (s : ℕ) (es : s ≡ opAt (cellsOf code) (i + 1)) where
     return-alone : s ≡ semicolon → (after : List ℕ) (r : Judged) → parts.Alone code after aReturn (eqb (k .result) 0) i r → Answers g after r
     unfolding simpleFaults returnFaults isSome RawDoes groundOf faultIf
     return-alone e after r a =
@@ -186,7 +186,7 @@ module _ (k : Setting) (code values : List ℕ) (i : ℕ) (c : BeginsIn RETURN k
           (λ w. record { valued = w; a-function = ap isSome (n .is) }) r v
 
 -- what it answers
-module _ (k : Setting) (code values : List ℕ) (i s : ℕ) (es : s ≡ opAt (wordsOf code) (i + 1)) where
+module _ (k : Setting) (code values : List ℕ) (i s : ℕ) (es : s ≡ opAt (cellsOf code) (i + 1)) where
   pub returned-alone : s ≡ semicolon → (after : List ℕ) (r : Judged) → parts.Alone code after aReturn (eqb (k .result) 0) i r → BegunIn RETURN k code values after i r
   returned-alone e after r a = record { is = λ c. return-alone k code values i c s es e after r a }
 
@@ -205,7 +205,7 @@ module _ (k : Setting) (code values : List ℕ) (i : ℕ) (c : BeginsIn RAISE k 
   raise-is : WithOptional (sortIn (u .around .known .W)) (Parses (sortIn (u .around .known .W))) raises (u .s) i (u .to)
   raise-is = simple-raise (sortIn (u .around .known .W)) (Parses (sortIn (u .around .known .W))) (u .is) (c .begins .here)
 
-  module _ (s : ℕ) (es : s ≡ opAt (wordsOf code) (i + 1)) where
+  module _ (s : ℕ) (es : s ≡ opAt (cellsOf code) (i + 1)) where
     raise-alone : s ≡ semicolon → (after : List ℕ) (r : Judged) → parts.Alone code after aRaise (k .handler) i r → Answers u after r
     unfolding simpleFaults RawDoes faultIf
     raise-alone e after r a =
@@ -234,7 +234,7 @@ module _ (k : Setting) (code values : List ℕ) (i : ℕ) (c : BeginsIn RAISE k 
           (ap (λ (b : Bool). faultIf b barred i ++ ofType (u .around .known .W) aNum (u .around .known .S) (raise-given .e)) (sym (c .tells .handler) ∙ z)) after
           (λ w. w) r v
 
-module _ (k : Setting) (code values : List ℕ) (i s : ℕ) (es : s ≡ opAt (wordsOf code) (i + 1)) where
+module _ (k : Setting) (code values : List ℕ) (i s : ℕ) (es : s ≡ opAt (cellsOf code) (i + 1)) where
   pub raised-alone : s ≡ semicolon → (after : List ℕ) (r : Judged) → parts.Alone code after aRaise (k .handler) i r → BegunIn RAISE k code values after i r
   raised-alone e after r a = record { is = λ c. raise-alone k code values i c s es e after r a }
 
@@ -246,7 +246,7 @@ module _ (k : Setting) (code values : List ℕ) (i s : ℕ) (es : s ≡ opAt (wo
     raised-number z after r v = record { is = λ c. raise-number k code values i c s es d z after r v }
 
 -- ---- EXIT, RETRY, TRYNEXT
-module _ (text code values : List ℕ) (k : Setting) (i s : ℕ) (es : s ≡ opAt (wordsOf code) i) where
+module _ (text code values : List ℕ) (k : Setting) (i s : ℕ) (es : s ≡ opAt (cellsOf code) i) where
   module _ (g : Statement text code values k i) where
     pub statement-sort : s ≡ sortIn (g .stands .around .known .W) i
     statement-sort = es ∙ stands-sort code values i (g .stands) i (omega arith) (omega (arith, stands-on code values i (g .stands)))

@@ -9,7 +9,7 @@ use Rattle.paper.specs.Trees.{Simple, firstSimple}
 use Rattle.paper.specs.Names.{sortIn}
 use Rattle.paper.specs.Types.{Fault}
 use Rattle.paper.specs.Checks.{simpleFaults}
-use Rattle.store_cells.specs.Words.{wordsOf}
+use Rattle.store_cells.specs.Cells.{cellsOf}
 use Rattle.code.specs.Cells.{opAt}
 use Rattle.grammar.specs.Form.{Parses}
 use Rattle.grammar.proofs.Places.{simple-first, simple-grows}
@@ -39,26 +39,26 @@ module _ (code values : List ℕ) (at : ℕ) (g : Stands code values at) where
   pub stands-small : at + 1 < wordLimit
   stands-small = omega (arith, stands-on, g .unread .loaded .last)
 
-  pub stands-sort : (i : ℕ) → at ≤ i → i ≤ g .to → opAt (wordsOf code) i ≡ sortIn (g .around .known .W) i
+  pub stands-sort : (i : ℕ) → at ≤ i → i ≤ g .to → opAt (cellsOf code) i ≡ sortIn (g .around .known .W) i
   stands-sort i a b = g .unread .loaded .words i a b .sort
 
   -- what is answered of the statement that it is
   module _ (s : Simple) (is : g .s ≡ s) (after : List ℕ) where
     holds : Type 0
-    holds = RawSimple (groundOf (g .around)) (g .around .known .n) (wordsOf after) (g .around .known .S) s at (g .to + 1)
+    holds = RawSimple (groundOf (g .around)) (g .around .known .n) (cellsOf after) (g .around .known .S) s at (g .to + 1)
 
     stated : (r : Judged) → Answer (simpleFaults (g .around .known .W) (g .around .K) (g .around .known .S) s) code after at (g .to + 1) holds r → Answers g after r
     unfolding holds
     stated r a =
         subst (λ (x : Simple). Answer (simpleFaults (g .around .known .W) (g .around .K) (g .around .known .S) x) code after at (g .to + 1)
-        (RawSimple (groundOf (g .around)) (g .around .known .n) (wordsOf after) (g .around .known .S) x at (g .to + 1)) r) (sym is) a
+        (RawSimple (groundOf (g .around)) (g .around .known .n) (cellsOf after) (g .around .known .S) x at (g .to + 1)) r) (sym is) a
 
     pub stated-first : (r : Judged) (number word : ℕ) → r ≡ Faulty number word → length after ≡ length code
         → First (record { number = number; at = word }) (simpleFaults (g .around .known .W) (g .around .K) (g .around .known .S) s) → Answers g after r
     stated-first r number word e long f = stated r (answer-first _ code after at (g .to + 1) _ r number word e long f)
 
     pub stated-fine : (b : ℕ) (next : ℕ) → simpleFaults (g .around .known .W) (g .around .K) (g .around .known .S) s ≡ [] → next ≡ g .to + 1 → Kept code after at (g .to + 1)
-        → RawDoes (groundOf (g .around)) (g .around .known .n) (wordsOf after) (g .around .known .S) s at (g .to + 1) (g .to + 1) → Answers g after (Typed b next)
+        → RawDoes (groundOf (g .around)) (g .around .known .n) (cellsOf after) (g .around .known .S) s at (g .to + 1) (g .to + 1) → Answers g after (Typed b next)
     unfolding holds groundOf offsetIn
     stated-fine b next n e k d =
         stated (Typed b next) (answer-fine _ code after at (g .to + 1) _ b next (record {

@@ -16,7 +16,7 @@ use Rattle.paper.specs.Types.{Fault, ofType}
 use Rattle.paper.specs.Checks.{judgeTarget, signatureOf, callFaults, resultFaults, simpleFaults}
 use Rattle.paper.specs.Checks as checks
 use Rattle.paper.specs.Steps.{spotOf}
-use Rattle.store_cells.specs.Words.{wordsOf}
+use Rattle.store_cells.specs.Cells.{cellsOf}
 use Rattle.code.specs.Cells.{opIn, opAt}
 use Rattle.grammar.specs.Form.{Parses, ArgumentsAt}
 use Rattle.grammar.proofs.Places.{target-grows, arguments-grow}
@@ -135,7 +135,7 @@ module _ (code values : List ℕ) (i : ℕ) (c : Assigns code values i) where
 
     module _ (bool : ℕ) (b : ℕ) (e : r ≡ Typed bool b) where
       aimed : Fine (judgeTarget (c .begins .stands .around .known .W) (c .begins .stands .around .known .S) (assigns .t) .faults) code mid i (assigns .n) b
-          (Aimed (c .begins .stands .around .known .m) (c .begins .stands .around .known .n) (wordsOf mid) (judgeTarget (c .begins .stands .around .known .W) (c .begins .stands .around .known .S) (assigns .t))
+          (Aimed (c .begins .stands .around .known .m) (c .begins .stands .around .known .n) (cellsOf mid) (judgeTarget (c .begins .stands .around .known .W) (c .begins .stands .around .known .S) (assigns .t))
           (spotOf (c .begins .stands .around .known .W) (c .begins .stands .around .known .S) (assigns .t)) i (assigns .n) bool)
       aimed = aimed-fine _ _ _ _ code mid i (assigns .n) r target-answer bool b e
 
@@ -144,7 +144,7 @@ module _ (code values : List ℕ) (i : ℕ) (c : Assigns code values i) where
           (omega (arith, aimed .next-is, assigns-in, c .begins .stands .unread .loaded .last), omega (arith, aimed .next-is, assigns-in, c .begins .stands .unread .loaded .room, target-answer .long))
 
       -- words behind the target are unread
-      mid-sort : (k : ℕ) → assigns .n ≤ k → k ≤ c .begins .stands .to → opAt (wordsOf mid) k ≡ sortIn (c .begins .stands .around .known .W) k
+      mid-sort : (k : ℕ) → assigns .n ≤ k → k ≤ c .begins .stands .to → opAt (cellsOf mid) k ≡ sortIn (c .begins .stands .around .known .W) k
       mid-sort k l h = ap opIn (head-above (aimed .kept) k l) ∙ stands-sort code values i (c .begins .stands) k (omega (arith, assigns-on)) h
 
       mid-unread : Unread (c .begins .stands .around .known .W) mid (assigns .n) (c .begins .stands .to)
@@ -152,14 +152,14 @@ module _ (code values : List ℕ) (i : ℕ) (c : Assigns code values i) where
           unread-after (c .begins .stands .around .known .W) code mid i (assigns .n) (assigns .n) (c .begins .stands .to)
           (unread-part (c .begins .stands .around .known .W) code i (c .begins .stands .to) (assigns .n) (c .begins .stands .to) (c .begins .stands .unread) (omega (arith, assigns-on)) (omega arith)) (aimed .kept) (omega arith)
 
-      module _ (q : Bool) (call : IsCall (wordsOf mid) (b + 1) q) where
-        next-one : opAt (wordsOf mid) (b + 1) ≡ sortIn (c .begins .stands .around .known .W) (assigns .n + 1)
-        next-one = ap (λ (k : ℕ). opAt (wordsOf mid) (k + 1)) (aimed .next-is) ∙ mid-sort (assigns .n + 1) (omega arith) (omega (arith, assigns-in))
+      module _ (q : Bool) (call : IsCall (cellsOf mid) (b + 1) q) where
+        next-one : opAt (cellsOf mid) (b + 1) ≡ sortIn (c .begins .stands .around .known .W) (assigns .n + 1)
+        next-one = ap (λ (k : ℕ). opAt (cellsOf mid) (k + 1)) (aimed .next-is) ∙ mid-sort (assigns .n + 1) (omega arith) (omega (arith, assigns-in))
 
-        next-two : opAt (wordsOf mid) (b + 1 + 1) ≡ sortIn (c .begins .stands .around .known .W) (assigns .n + 2)
+        next-two : opAt (cellsOf mid) (b + 1 + 1) ≡ sortIn (c .begins .stands .around .known .W) (assigns .n + 2)
         next-two =
             let x : b + 1 + 1 ≡ assigns .n + 2 = omega (arith, aimed .next-is) in
-            ap (opAt (wordsOf mid)) x ∙ mid-sort (assigns .n + 2) (omega arith) assigns-in
+            ap (opAt (cellsOf mid)) x ∙ mid-sort (assigns .n + 2) (omega arith) assigns-in
 
         module _ (y : q ≡ true) where
           call-side : inversions.CallSide (sortIn (c .begins .stands .around .known .W)) (Parses (sortIn (c .begins .stands .around .known .W))) (c .begins .stands .s) (assigns .t) (assigns .n) (c .begins .stands .to)
@@ -216,7 +216,7 @@ module _ (code values : List ℕ) (i : ℕ) (c : Assigns code values i) where
               let two : call-side .m + 2 ≡ g .to + 1 = omega (arith, call-side .after) in
               stated-fine code values i g s (call-side .is) after bb next (call-all ∙ f .none) (f .next-is ∙ two)
               (kept-on (kept-wider (aimed .kept) i (g .to + 1) (omega arith) (omega (arith, assigns-in))) (kept-wider (f .kept) i (g .to + 1) (omega arith) (omega (arith, two))))
-              (subst (λ (k : ℕ). RawDoes (groundOf (g .around)) (g .around .known .n) (wordsOf after) (g .around .known .S) s i k k) two (f .written)))
+              (subst (λ (k : ℕ). RawDoes (groundOf (g .around)) (g .around .known .n) (cellsOf after) (g .around .known .S) s i k k) two (f .written)))
 
         module _ (y : q ≡ false) where
           value-side : inversions.ValueSide (sortIn (c .begins .stands .around .known .W)) (Parses (sortIn (c .begins .stands .around .known .W))) (c .begins .stands .s) (assigns .t) (assigns .n) (c .begins .stands .to)
@@ -262,7 +262,7 @@ module _ (code values : List ℕ) (i : ℕ) (mid : List ℕ) (r : Judged) (t : T
   pub assigned-no-target : (number word : ℕ) → r ≡ Faulty number word → Assigned code values mid i r
   assigned-no-target number word e = record { is = λ c. assign-faulty code values i c mid r t number word e }
 
-  module _ (bool : ℕ) (b : ℕ) (e : r ≡ Typed bool b) (q : Bool) (call : IsCall (wordsOf mid) (b + 1) q) (after : List ℕ) (p : Judged) where
+  module _ (bool : ℕ) (b : ℕ) (e : r ≡ Typed bool b) (q : Bool) (call : IsCall (cellsOf mid) (b + 1) q) (after : List ℕ) (p : Judged) where
     pub assigned-call : q ≡ true → CallAssigned mid values after bool i b p → Assigned code values after i p
     assigned-call y x = record { is = λ c. call-answers code values i c mid r t bool b e q call y after p x }
 
@@ -270,7 +270,7 @@ module _ (code values : List ℕ) (i : ℕ) (mid : List ℕ) (r : Judged) (t : T
     assigned-value y x = record { is = λ c. value-answers code values i c mid r t bool b e q call y after p x }
 
 -- ---- a name first
-module _ (code values : List ℕ) (i s : ℕ) (es : s ≡ opAt (wordsOf code) (i + 1)) where
+module _ (code values : List ℕ) (i s : ℕ) (es : s ≡ opAt (cellsOf code) (i + 1)) where
   module _ (c : Begins NAME code values i) where
     name-next : s ≡ sortIn (c .stands .around .known .W) (i + 1)
     name-next = es ∙ stands-sort code values i (c .stands) (i + 1) (omega arith) (omega (arith, stands-on code values i (c .stands)))
@@ -299,7 +299,7 @@ module _ (code values : List ℕ) (i s : ℕ) (es : s ≡ opAt (wordsOf code) (i
 
 -- ---- all
 module _ (text code values : List ℕ) (k : Setting) (i : ℕ) where
-  module _ (s : ℕ) (es : s ≡ opAt (wordsOf code) i) where
+  module _ (s : ℕ) (es : s ≡ opAt (cellsOf code) i) where
     pub begins-by : (sort : ℕ) → s ≡ sort → (g : Statement text code values k i) → Begins sort code values i
     begins-by sort e g = record { stands = g .stands; here = sym (statement-sort text code values k i s es g) ∙ e }
 

@@ -11,7 +11,7 @@ use Rattle.laws.proofs.Lists.{part-length}
 use Rattle.paper.specs.Sorts.{STRING}
 use Rattle.paper.specs.Words.{QUOTE}
 use Rattle.paper.specs.Steps.{unquoted}
-use Rattle.store_cells.specs.Words.{wordsOf}
+use Rattle.store_cells.specs.Cells.{cellsOf}
 use Rattle.code.specs.Cells.{valueAt, placeAt}
 use Rattle.store_writing.specs.Promises.{Headed}
 use Rattle.check_simple.specs.Parts.{Width, Characters, Strings, Spelled}
@@ -89,7 +89,7 @@ counting-done text first n k count room c h =
     record { is = omega (arith, c .left, ap (λ (l : List ℕ). length (unquoted l)) e, none-left); most = c .most }
 
 -- ---- the string at a word
-module _ (text code : List ℕ) (i v p : ℕ) (ev : v ≡ valueAt (wordsOf code) i) (ep : p ≡ placeAt (wordsOf code) i) where
+module _ (text code : List ℕ) (i v p : ℕ) (ev : v ≡ valueAt (cellsOf code) i) (ep : p ≡ placeAt (cellsOf code) i) where
   module _ (g : Strings text code i) where
     bytes-are : v ≡ length (g .w .covers)
     bytes-are = ev ∙ g .value

@@ -15,7 +15,7 @@ use Rattle.paper.specs.Types.{Fault, fault, faultIf, differs, wanted}
 use Rattle.paper.specs.Types as types
 use Rattle.paper.specs.Checks.{judgeTarget, simpleFaults}
 use Rattle.paper.specs.Steps.{unquoted, spotOf}
-use Rattle.store_cells.specs.Words.{wordsOf}
+use Rattle.store_cells.specs.Cells.{cellsOf}
 use Rattle.code.specs.Cells.{opIn, valueIn, valueAt, linkAt}
 use Rattle.code.specs.Steps.{aTarget, aRead}
 use Rattle.grammar.specs.Form.{Parses}
@@ -107,7 +107,7 @@ module _ (code values : List ℕ) (i : ℕ) (c : Begins TPREADNUM code values i)
 
     module _ (bool : ℕ) (b : ℕ) (e : r ≡ Typed bool b) where
       aimed : Fine (judgeTarget (c .stands .around .known .W) (c .stands .around .known .S) (read-is .t) .faults) code mid (i + 1) (read-is .n) b
-          (Aimed (c .stands .around .known .m) (c .stands .around .known .n) (wordsOf mid) (judgeTarget (c .stands .around .known .W) (c .stands .around .known .S) (read-is .t))
+          (Aimed (c .stands .around .known .m) (c .stands .around .known .n) (cellsOf mid) (judgeTarget (c .stands .around .known .W) (c .stands .around .known .S) (read-is .t))
           (spotOf (c .stands .around .known .W) (c .stands .around .known .S) (read-is .t)) (i + 1) (read-is .n) bool)
       aimed = aimed-fine _ _ _ _ code mid (i + 1) (read-is .n) r read-answer bool b e
 
@@ -132,7 +132,7 @@ module _ (code values : List ℕ) (i : ℕ) (c : Begins TPREADNUM code values i)
         module _ (one : List ℕ) (sp : Spelled (c .stands .text) mid one (b + 1)) where
           read-linked : Linked mid one (read-is .n + 1) STRING
               (length (nth (c .stands .around .known .W) (read-is .n + 1) .covers) + charactersPart * length (unquoted (take (length (nth (c .stands .around .known .W) (read-is .n + 1) .covers) - 2) (drop (nth (c .stands .around .known .W) (read-is .n + 1) .place + 1) (c .stands .text)))))
-              (linkAt (wordsOf mid) (read-is .n + 1))
+              (linkAt (cellsOf mid) (read-is .n + 1))
           unfolding string-at
           read-linked =
               let q : b + 1 ≡ read-is .n + 1 = ap (λ (x : ℕ). x + 1) (aimed .next-is) in
@@ -149,7 +149,7 @@ module _ (code values : List ℕ) (i : ℕ) (c : Begins TPREADNUM code values i)
               let known = g .around .known in
               let spot = spotOf (known .W) (known .S) (read-is .t) in
               let t2 = aimed .written .target in
-              let v : read-is .n + 1 ≡ valueAt (wordsOf after) i = sym (l .value-is ∙ ap (λ (x : ℕ). x + 1) (aimed .next-is)) in
+              let v : read-is .n + 1 ≡ valueAt (cellsOf after) i = sym (l .value-is ∙ ap (λ (x : ℕ). x + 1) (aimed .next-is)) in
               let three : b + 3 ≡ g .to + 1 = omega (arith, aimed .next-is, read-is .after) in
               let head = head-above (l .kept) (i + 1) (omega arith) ∙ head-below (read-linked .kept) (i + 1) (omega (arith, read-on)) in
               let text-head = head-above (l .kept) (read-is .n + 1) (omega (arith, read-on)) in
@@ -160,13 +160,13 @@ module _ (code values : List ℕ) (i : ℕ) (c : Begins TPREADNUM code values i)
               (record {
                 word = record { is = l .op-is; leaves = l .link-is ∙ three };
                 b = read-is .n;
-                target = raw-target (g .around) (wordsOf after) aTarget (read-is .t) (i + 1) (read-is .n) (t2 .k) (t2 .v) (ap opIn head ∙ t2 .op-is) (ap valueIn head ∙ t2 .value-is)
+                target = raw-target (g .around) (cellsOf after) aTarget (read-is .t) (i + 1) (read-is .n) (t2 .k) (t2 .v) (ap opIn head ∙ t2 .op-is) (ap valueIn head ∙ t2 .value-is)
                     (aims-above (l .kept) (known .m) (known .n) (t2 .k) (t2 .v) spot (i + 1) (read-is .n) (omega arith)
                     (aims-below (read-linked .kept) (known .m) (known .n) (t2 .k) (t2 .v) spot (i + 1) (read-is .n) (omega arith) (t2 .aims)))
                     (quiet-above (l .kept) (i + 1 + 1) (read-is .n) (omega arith) (quiet-below (read-linked .kept) (i + 1 + 1) (read-is .n) (omega arith) (t2 .quiet)));
                 target-within = omega (arith, read-is .after);
-                text = subst (λ (x : ℕ). RawText (groundOf (g .around)) (known .n) (wordsOf after) (read-is .n + 1) x) v
-                    (raw-text (g .around) (wordsOf after) (read-is .n + 1) (g .around .quoted (read-is .n + 1) (read-is .text)) (ap opIn text-head ∙ read-linked .op-is) (ap valueIn text-head ∙ read-linked .value-is)
+                text = subst (λ (x : ℕ). RawText (groundOf (g .around)) (known .n) (cellsOf after) (read-is .n + 1) x) v
+                    (raw-text (g .around) (cellsOf after) (read-is .n + 1) (g .around .quoted (read-is .n + 1) (read-is .text)) (ap opIn text-head ∙ read-linked .op-is) (ap valueIn text-head ∙ read-linked .value-is)
                     (l .kept .places (read-is .n + 1) ∙ read-linked .kept .places (read-is .n + 1) ∙ aimed .kept .places (read-is .n + 1) ∙ g .unread .places (read-is .n + 1) (omega (arith, read-on)) (omega (arith, read-is .after))));
                 behind = omega (arith, v, read-on);
                 within = omega (arith, v, read-is .after);

@@ -18,7 +18,7 @@ use Rattle.paper.specs.Expressions.{nestings}
 use Rattle.paper.specs.Names.{nth, sortIn}
 use Rattle.paper.specs.Checks.{isSome, optionalNum, simpleFaults}
 use Rattle.paper.specs.Steps.{unquoted, characters}
-use Rattle.store_cells.specs.Words.{wordsOf}
+use Rattle.store_cells.specs.Cells.{cellsOf}
 use Rattle.code.specs.Cells.{opIn, valueIn, headAt, opAt, valueAt, placeAt, linkAt}
 use Rattle.code.specs.Spans.{guard}
 use Rattle.code.specs.Steps.{Head, charactersIn, aWrite, aWriteOf}
@@ -79,7 +79,7 @@ raw-text {text} a C i q o v p = record {
 
 -- a string at word i, in words that are unread
 unfoldable pub string-at : (code values : List ℕ) (at : ℕ) (g : Stands code values at) (now : List ℕ) (i : ℕ) → at ≤ i → i ≤ g .to → sortIn (g .around .known .W) i ≡ STRING
-    → headAt (wordsOf now) i ≡ headAt (wordsOf code) i → placeAt (wordsOf now) i ≡ placeAt (wordsOf code) i → length now ≡ length code → Strings (g .text) now i
+    → headAt (cellsOf now) i ≡ headAt (cellsOf code) i → placeAt (cellsOf now) i ≡ placeAt (cellsOf code) i → length now ≡ length code → Strings (g .text) now i
 string-at code values at g now i l h s e p k = record {
   w = nth (g .around .known .W) i;
   quoted = g .around .quoted i s;
@@ -117,21 +117,21 @@ module _ (code values : List ℕ) (i : ℕ) (c : Begins TPWRITE code values i) w
   module _ (mid : List ℕ) (sp : Spelled (c .stands .text) code mid (i + 1)) where
     string-linked : Linked code mid (i + 1) STRING
         (length (nth (c .stands .around .known .W) (i + 1) .covers) + charactersPart * length (unquoted (take (length (nth (c .stands .around .known .W) (i + 1) .covers) - 2) (drop (nth (c .stands .around .known .W) (i + 1) .place + 1) (c .stands .text)))))
-        (linkAt (wordsOf code) (i + 1))
+        (linkAt (cellsOf code) (i + 1))
     unfolding write-string string-at
     string-linked = sp .is write-string
 
     -- it is still so where its head is
-    string-raw : (after : List ℕ) → headAt (wordsOf after) (i + 1) ≡ headAt (wordsOf mid) (i + 1) → placeAt (wordsOf after) (i + 1) ≡ placeAt (wordsOf mid) (i + 1)
-        → RawText (groundOf (c .stands .around)) (c .stands .around .known .n) (wordsOf after) (i + 1) (i + 1)
+    string-raw : (after : List ℕ) → headAt (cellsOf after) (i + 1) ≡ headAt (cellsOf mid) (i + 1) → placeAt (cellsOf after) (i + 1) ≡ placeAt (cellsOf mid) (i + 1)
+        → RawText (groundOf (c .stands .around)) (c .stands .around .known .n) (cellsOf after) (i + 1) (i + 1)
     string-raw after h p =
-        raw-text (c .stands .around) (wordsOf after) (i + 1) (c .stands .around .quoted (i + 1) (write-is .text)) (ap opIn h ∙ string-linked .op-is) (ap valueIn h ∙ string-linked .value-is)
+        raw-text (c .stands .around) (cellsOf after) (i + 1) (c .stands .around .quoted (i + 1) (write-is .text)) (ap opIn h ∙ string-linked .op-is) (ap valueIn h ∙ string-linked .value-is)
         (p ∙ string-linked .kept .places (i + 1) ∙ c .stands .unread .places (i + 1) (omega arith) (omega (arith, write-on)))
 
     pub string-long : length mid ≡ length code
     string-long = string-linked .kept .long
 
-    module _ (s : ℕ) (es : s ≡ opAt (wordsOf mid) (i + 2)) where
+    module _ (s : ℕ) (es : s ≡ opAt (cellsOf mid) (i + 2)) where
       write-next : s ≡ sortIn (c .stands .around .known .W) (i + 2)
       write-next = es ∙ ap opIn (head-above (string-linked .kept) (i + 2) (omega arith)) ∙ stands-sort code values i (c .stands) (i + 2) (omega arith) write-on
 
@@ -203,13 +203,13 @@ module _ (text code values : List ℕ) (i : ℕ) (c : BeginsOf TPWRITE text code
     pub writes-behind : (i + 2) * 8 + 8 ≤ length mid
     writes-behind = omega (arith, string-long code values i (c .begins) mid spelled-here, write-here code values i (c .begins))
 
-    pub writes-values : (s : ℕ) → s ≡ opAt (wordsOf mid) (i + 2) → s ≡ backslash → Values mid values (i + 5) i
+    pub writes-values : (s : ℕ) → s ≡ opAt (cellsOf mid) (i + 2) → s ≡ backslash → Values mid values (i + 5) i
     writes-values s es b = write-values code values i (c .begins) mid spelled-here s es b
 
-    pub writes-fits : (s : ℕ) → s ≡ opAt (wordsOf mid) (i + 2) → s ≡ backslash → Fits w64 (i + 5)
+    pub writes-fits : (s : ℕ) → s ≡ opAt (cellsOf mid) (i + 2) → s ≡ backslash → Fits w64 (i + 5)
     writes-fits s es b = record { fits = omega (arith, write-small code values i (c .begins) mid spelled-here s es b) }
 
-module _ (text code values : List ℕ) (i : ℕ) (mid : List ℕ) (sp : Spelled text code mid (i + 1)) (s : ℕ) (es : s ≡ opAt (wordsOf mid) (i + 2)) where
+module _ (text code values : List ℕ) (i : ℕ) (mid : List ℕ) (sp : Spelled text code mid (i + 1)) (s : ℕ) (es : s ≡ opAt (cellsOf mid) (i + 2)) where
   pub wrote-number : s ≡ backslash → (after : List ℕ) (r : Judged) → Valued mid values after aWriteOf numType (i + 5) i r → BegunOf TPWRITE text code values after i r
   wrote-number b after r v = record { is = λ c. written-number code values i (c .begins) mid (spelled-here text code values i c mid sp) s es b after r v }
 

@@ -21,7 +21,7 @@ use Rattle.paper.specs.Types.{fault, judged, judgedNothing, judgeElement, judge
 use Rattle.paper.specs.Types as types
 use Rattle.paper.specs.Checks.{judgeScalarTarget, judgeTarget}
 use Rattle.paper.specs.Steps.{Spot, scalar, elementOf, spotFor, spotOf}
-use Rattle.store_cells.specs.Words.{wordsOf}
+use Rattle.store_cells.specs.Cells.{cellsOf}
 use Rattle.code.specs.Cells.{opIn, valueIn, opAt, valueAt, linkAt}
 use Rattle.check_names.specs.Meanings.{typeWith, refWith, meaningWith, meaningIn}
 use Rattle.check_names.specs.Promises.{meaningAt}
@@ -62,12 +62,12 @@ module _ (m n : ℕ) (j : types.Judged) (spot : Spot) (before after : List ℕ) 
   unfolding AimTells
   aim-first r number word e long f = subst (AimAnswer m n j spot before after at to) (sym e) (record { tells = f; long = long })
 
-  pub aim-fine : (b : ℕ) (next : ℕ) → Fine (j .faults) before after at to next (Aimed m n (wordsOf after) j spot at to b) → AimAnswer m n j spot before after at to (Typed b next)
+  pub aim-fine : (b : ℕ) (next : ℕ) → Fine (j .faults) before after at to next (Aimed m n (cellsOf after) j spot at to b) → AimAnswer m n j spot before after at to (Typed b next)
   unfolding AimTells
   aim-fine b next f = record { tells = f; long = f .kept .long }
 
   module _ (r : Judged) (a : AimAnswer m n j spot before after at to r) where
-    pub aimed-fine : (b : ℕ) (next : ℕ) → r ≡ Typed b next → Fine (j .faults) before after at to next (Aimed m n (wordsOf after) j spot at to b)
+    pub aimed-fine : (b : ℕ) (next : ℕ) → r ≡ Typed b next → Fine (j .faults) before after at to next (Aimed m n (cellsOf after) j spot at to b)
     unfolding AimTells
     aimed-fine b next e = subst (AimTells m n j spot before after at to) e (a .tells)
 
@@ -148,15 +148,15 @@ module _ (code values : List ℕ) (at : ℕ) (g : Targets code values at) where
   pub target-asks : (at * 8 + 8 ≤ length code) × (storeBytes ≤ length values)
   target-asks = (target-here, g .known .table)
 
-  target-sort : (i : ℕ) → at ≤ i → i ≤ g .to → opAt (wordsOf code) i ≡ sortIn (g .known .W) i
+  target-sort : (i : ℕ) → at ≤ i → i ≤ g .to → opAt (cellsOf code) i ≡ sortIn (g .known .W) i
   target-sort i a b = g .loaded .words i a b .sort
 
-  module _ (cell : ℕ) (ec : cell ≡ meaningAt (wordsOf code) (wordsOf values) at) where
+  module _ (cell : ℕ) (ec : cell ≡ meaningAt (cellsOf code) (cellsOf values) at) where
     means : meaningWith (g .known .routine) (kindIn cell) (boolIn cell) (ownIn cell) (valueIn cell) ≡ meaning (g .known .S) (spelled (g .known .W) at)
     unfolding meaningIn
     means = name-means (g .known) code at cell (g .is .name) (g .loaded .words at (omega arith) (omega (arith, target-on))) ec
 
-    module _ (s : ℕ) (es : s ≡ opAt (wordsOf code) (at + 1)) where
+    module _ (s : ℕ) (es : s ≡ opAt (cellsOf code) (at + 1)) where
       next-sort : s ≡ sortIn (g .known .W) (at + 1)
       next-sort = es ∙ target-sort (at + 1) (omega arith) (omega (arith, target-on))
 
@@ -189,9 +189,9 @@ module _ (code values : List ℕ) (at : ℕ) (g : Targets code values at) where
               judged-scalar (g .known .W) (g .known .S) (g .t) at (g .is .named) (plain-is .0)
               ∙ scalar-right (meaning (g .known .S) (spelled (g .known .W) at)) at (typeWith (boolIn cell)) (refWith (ownIn cell) (valueIn cell)) plain-means
 
-          plain-fine : (type : ℕ) → TypeOf cell type → (after : List ℕ) → Linked code after at (aTarget + ownIn cell) (valueIn cell) (linkAt (wordsOf code) at)
+          plain-fine : (type : ℕ) → TypeOf cell type → (after : List ℕ) → Linked code after at (aTarget + ownIn cell) (valueIn cell) (linkAt (cellsOf code) at)
               → Fine (judgeTarget (g .known .W) (g .known .S) (g .t) .faults) code after at (g .to) (at + 1)
-              (Aimed (g .known .m) (g .known .n) (wordsOf after) (judgeTarget (g .known .W) (g .known .S) (g .t)) (spotOf (g .known .W) (g .known .S) (g .t)) at (g .to) type)
+              (Aimed (g .known .m) (g .known .n) (cellsOf after) (judgeTarget (g .known .W) (g .known .S) (g .t)) (spotOf (g .known .W) (g .known .S) (g .t)) at (g .to) type)
           plain-fine type ty after l =
               let term = ap (λ (x : types.Judged). x .term) plain-judged ∙ judged-term _ _ _ in
               record {
@@ -216,7 +216,7 @@ module _ (code values : List ℕ) (at : ℕ) (g : Targets code values at) where
                 kept = kept-wider (l .kept) at (g .to) (omega arith) (omega (arith, target-on));
               }
 
-module _ (code values : List ℕ) (at cell : ℕ) (ec : cell ≡ meaningAt (wordsOf code) (wordsOf values) at) (s : ℕ) (es : s ≡ opAt (wordsOf code) (at + 1)) where
+module _ (code values : List ℕ) (at cell : ℕ) (ec : cell ≡ meaningAt (cellsOf code) (cellsOf values) at) (s : ℕ) (es : s ≡ opAt (cellsOf code) (at + 1)) where
   pub target-element : s ≡ openBrace → (after : List ℕ) (r : Judged) → ElementJudged code values after cell at r → TargetJudged code values after at r
   unfolding element-stands
   target-element b after r j = record { is = λ g. j .is (element-stands code values at g cell ec s es b) }
@@ -229,7 +229,7 @@ module _ (code values : List ℕ) (at cell : ℕ) (ec : cell ≡ meaningAt (word
     }
 
     pub target-right : k ≡ aVariable → (own value : ℕ) → own ≡ ownIn cell → value ≡ valueIn cell → (type : ℕ) → TypeOf cell type
-        → (after : List ℕ) → Linked code after at (aTarget + own) value (linkAt (wordsOf code) at) → TargetJudged code values after at (Typed type (at + 1))
+        → (after : List ℕ) → Linked code after at (aTarget + own) value (linkAt (cellsOf code) at) → TargetJudged code values after at (Typed type (at + 1))
     target-right e own value eo ev type ty after l = record {
       is = λ g. aim-fine _ _ _ _ code after at (g .to) type (at + 1) (plain-fine code values at g cell ec s es no (sym ek ∙ e) type ty after (rw (eo, ev) at l));
     }
@@ -312,15 +312,15 @@ module _ (code values : List ℕ) (cell at : ℕ) (g : Elements code values cell
         abbrev told : Told (g .targets .known) (ofType (g .targets .known .W) (aNum) (g .targets .known .S) (braces .e)) code mid (braces .e) (at + 2) (braces .n) end
         told = index-told mid r o b end e
 
-        module _ (one : List ℕ) (l : Linked mid one at (aTarget + 2 + ownIn cell) (valueIn cell) (linkAt (wordsOf mid) at)) (after : List ℕ)
-            (x : Linked one after (at + 1) (opAt (wordsOf one) (at + 1)) (valueAt (wordsOf one) (at + 1)) end) where
+        module _ (one : List ℕ) (l : Linked mid one at (aTarget + 2 + ownIn cell) (valueIn cell) (linkAt (cellsOf mid) at)) (after : List ℕ)
+            (x : Linked one after (at + 1) (opAt (cellsOf one) (at + 1)) (valueAt (cellsOf one) (at + 1)) end) where
           -- the brace's word has its op still
-          brace-op : opAt (wordsOf after) (at + 1) ≡ openBrace
+          brace-op : opAt (cellsOf after) (at + 1) ≡ openBrace
           brace-op =
               x .op-is ∙ ap opIn (head-above (l .kept) (at + 1) (omega arith)) ∙ ap opIn (head-below (told .kept) (at + 1) (omega arith))
               ∙ g .targets .loaded .words (at + 1) (omega arith) (omega (arith, braces .after, index-on)) .sort ∙ g .brace
 
-          close-op : opAt (wordsOf after) (braces .n) ≡ closeBrace
+          close-op : opAt (cellsOf after) (braces .n) ≡ closeBrace
           close-op =
               ap opIn (head-above (x .kept) (braces .n) (omega (arith, index-on)) ∙ head-above (l .kept) (braces .n) (omega (arith, index-on)) ∙ head-above (told .kept) (braces .n) (omega arith))
               ∙ g .targets .loaded .words (braces .n) (omega (arith, index-on)) (omega (arith, braces .after)) .sort ∙ braces .closes
@@ -330,18 +330,18 @@ module _ (code values : List ℕ) (cell at : ℕ) (g : Elements code values cell
               kept-on (kept-on (kept-wider (told .kept) at (g .targets .to) (omega arith) (omega (arith, braces .after))) (kept-wider (l .kept) at (g .targets .to) (omega arith) (omega (arith, braces .after, index-on))))
               (kept-wider (x .kept) at (g .targets .to) (omega arith) (omega (arith, braces .after, index-on)))
 
-          element-quiet : Quiet (wordsOf after) (at + 1) (g .targets .to)
+          element-quiet : Quiet (cellsOf after) (at + 1) (g .targets .to)
           element-quiet =
               let q : at + 1 + 1 ≡ at + 2 = omega arith in
               let inner = quiet-above (x .kept) (at + 2) (braces .n) (omega arith) (quiet-above (l .kept) (at + 2) (braces .n) (omega arith) (told .quiet)) in
-              subst (λ (i : ℕ). Quiet (wordsOf after) (at + 1) i) (sym (braces .after))
-              (quiet-append (wordsOf after) (at + 1) (at + 1 + 1) (braces .n + 1)
-              (quiet-word (wordsOf after) (at + 1) (low-still (opAt (wordsOf after) (at + 1)) (omega (arith, brace-op))))
-              (subst (λ (i : ℕ). Quiet (wordsOf after) i (braces .n + 1)) (sym q)
-              (quiet-append (wordsOf after) (at + 2) (braces .n) (braces .n + 1) inner (quiet-word (wordsOf after) (braces .n) (low-still (opAt (wordsOf after) (braces .n)) (omega (arith, close-op)))))))
+              subst (λ (i : ℕ). Quiet (cellsOf after) (at + 1) i) (sym (braces .after))
+              (quiet-append (cellsOf after) (at + 1) (at + 1 + 1) (braces .n + 1)
+              (quiet-word (cellsOf after) (at + 1) (low-still (opAt (cellsOf after) (at + 1)) (omega (arith, brace-op))))
+              (subst (λ (i : ℕ). Quiet (cellsOf after) i (braces .n + 1)) (sym q)
+              (quiet-append (cellsOf after) (at + 2) (braces .n) (braces .n + 1) inner (quiet-word (cellsOf after) (braces .n) (low-still (opAt (cellsOf after) (braces .n)) (omega (arith, close-op)))))))
 
           element-fine : (type : ℕ) → TypeOf cell type → Fine (judgeTarget (g .targets .known .W) (g .targets .known .S) (g .targets .t) .faults) code after at (g .targets .to) (end + 1)
-              (Aimed (g .targets .known .m) (g .targets .known .n) (wordsOf after) (judgeTarget (g .targets .known .W) (g .targets .known .S) (g .targets .t)) (spotOf (g .targets .known .W) (g .targets .known .S) (g .targets .t)) at (g .targets .to) type)
+              (Aimed (g .targets .known .m) (g .targets .known .n) (cellsOf after) (judgeTarget (g .targets .known .W) (g .targets .known .S) (g .targets .t)) (spotOf (g .targets .known .W) (g .targets .known .S) (g .targets .t)) at (g .targets .to) type)
           element-fine type ty =
               let f = told .none in
               let head = head-below (x .kept) at (omega arith) in
@@ -392,8 +392,8 @@ module _ (code values : List ℕ) (cell at : ℕ) where
       }
 
       pub element-typed : (b : ℕ) (end : ℕ) → r ≡ Typed b end → (own value : ℕ) → own ≡ ownIn cell → value ≡ valueIn cell
-          → (one : List ℕ) → Linked mid one at (aTarget + 2 + own) value (linkAt (wordsOf mid) at) → (after : List ℕ)
-          → Linked one after (at + 1) (opAt (wordsOf one) (at + 1)) (valueAt (wordsOf one) (at + 1)) end → (type : ℕ) → TypeOf cell type → ElementJudged code values after cell at (Typed type (end + 1))
+          → (one : List ℕ) → Linked mid one at (aTarget + 2 + own) value (linkAt (cellsOf mid) at) → (after : List ℕ)
+          → Linked one after (at + 1) (opAt (cellsOf one) (at + 1)) (valueAt (cellsOf one) (at + 1)) end → (type : ℕ) → TypeOf cell type → ElementJudged code values after cell at (Typed type (end + 1))
       element-typed b end e own value eo ev one l after x type ty = record {
         is = λ g. aim-fine _ _ _ _ code after at (g .targets .to) type (end + 1) (element-fine code values cell at g of-kind mid r o b end e one (rw (eo, ev) at l) after x type ty);
       }

@@ -6,7 +6,7 @@ use Rattle.paper.specs.Sorts.{semicolon}
 use Rattle.paper.specs.Trees.{Simple}
 use Rattle.paper.specs.Names.{sortIn}
 use Rattle.paper.specs.Checks.{simpleFaults}
-use Rattle.store_cells.specs.Words.{wordsOf}
+use Rattle.store_cells.specs.Cells.{cellsOf}
 use Rattle.grammar.specs.Form.{Parses, SimpleAt}
 use Rattle.check_expressions.specs.declared.Judged.{Judged}
 use Rattle.check_links.specs.Raw.{RawSimple}
@@ -30,7 +30,7 @@ pub record Stands (code values : List ℕ) (at : ℕ) : Type 0 where
 abbrev pub Answers : {code values : List ℕ} {at : ℕ} → (g : Stands code values at) → (after : List ℕ) → Judged → Type 0
 Answers {code} {at = at} g after r =
     Answer (simpleFaults (g .around .known .W) (g .around .K) (g .around .known .S) (g .s)) code after at (g .to + 1)
-    (RawSimple (groundOf (g .around)) (g .around .known .n) (wordsOf after) (g .around .known .S) (g .s) at (g .to + 1)) r
+    (RawSimple (groundOf (g .around)) (g .around .known .n) (cellsOf after) (g .around .known .S) (g .s) at (g .to + 1)) r
 
 -- The same for `statement`, which is told the text and the setting.
 pub record Statement (text code values : List ℕ) (k : Setting) (at : ℕ) : Type 0 where

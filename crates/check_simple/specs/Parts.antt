@@ -19,7 +19,7 @@ use Rattle.paper.specs.Declarations.{Signature}
 use Rattle.paper.specs.Checks.{judgeTarget, argumentFaults, callFaults, resultFaults, signatureOf, noSignature}
 use Rattle.paper.specs.Checks as checks
 use Rattle.paper.specs.Steps.{Spot, scalar, elementOf, unquoted, spotOf}
-use Rattle.store_cells.specs.Words.{wordsOf}
+use Rattle.store_cells.specs.Cells.{cellsOf}
 use Rattle.code.specs.Cells.{opIn, valueIn, headAt, opAt, valueAt, placeAt, linkAt}
 use Rattle.code.specs.Spans.{firstIn, sizeIn, termIn}
 use Rattle.code.specs.Steps.{aTarget, aNextArgument, numbered}
@@ -152,7 +152,7 @@ pub record Aimed (m n : ℕ) (C : List ℕ) (j : types.Judged) (spot : Spot) (at
   pub target : Targeted m n C spot at to
 
 unfoldable pub AimTells : (m n : ℕ) (j : types.Judged) (spot : Spot) (before after : List ℕ) (at to : ℕ) → Judged → Type 0
-AimTells m n j spot before after at to (Typed type next) = Fine (j .faults) before after at to next (Aimed m n (wordsOf after) j spot at to type)
+AimTells m n j spot before after at to (Typed type next) = Fine (j .faults) before after at to next (Aimed m n (cellsOf after) j spot at to type)
 AimTells m n j spot before after at to (Faulty number word) = First (record { number = number; at = word }) (j .faults)
 
 pub record AimAnswer (m n : ℕ) (j : types.Judged) (spot : Spot) (before after : List ℕ) (at to : ℕ) (r : Judged) : Type 0 where
@@ -184,7 +184,7 @@ pub record ValueSide (code values : List ℕ) (wants i b : ℕ) : Type 0 where
   pub e : Expr
   pub to : ℕ
   pub before : i < b
-  pub target : Targeted (around .known .m) (around .known .n) (wordsOf code) (spotOf (around .known .W) (around .known .S) t) i b
+  pub target : Targeted (around .known .m) (around .known .n) (cellsOf code) (spotOf (around .known .W) (around .known .S) t) i b
   pub becomes-is : sortIn (around .known .W) b ≡ becomes
   pub value : ExprAt (sortIn (around .known .W)) (Parses (sortIn (around .known .W))) e (b + 1) to
   pub ends : sortIn (around .known .W) to ≡ semicolon
@@ -193,7 +193,7 @@ pub record ValueSide (code values : List ℕ) (wants i b : ℕ) : Type 0 where
 pub record ValueAssigned (code values after : List ℕ) (wants i b : ℕ) (r : Judged) : Type 0 where
   pub is : (g : ValueSide code values wants i b)
       → Answer (ofType (g .around .known .W) (g .type) (g .around .known .S) (g .e)) code after i (g .to + 1)
-      (RawAssign (groundOf (g .around)) (g .around .known .n) (wordsOf after) (g .around .known .S) (g .t) (g .e) i (g .to + 1) (g .to + 1)) r
+      (RawAssign (groundOf (g .around)) (g .around .known .n) (cellsOf after) (g .around .known .S) (g .t) (g .e) i (g .to + 1) (g .to + 1)) r
 
 -- ---- callees
 -- the name of a callee, at i, in words up to `to`
@@ -202,7 +202,7 @@ pub record Callees (code values : List ℕ) (i : ℕ) : Type 0 where
   pub around : Around text values
   pub to : ℕ
   pub name : sortIn (around .known .W) i ≡ NAME
-  pub fresh : Fresh (around .known .W) (wordsOf code) i
+  pub fresh : Fresh (around .known .W) (cellsOf code) i
   pub inside : i ≤ to
   pub last : to < wordLimit
   pub calls : Calls around code i to
@@ -211,7 +211,7 @@ pub record Callees (code values : List ℕ) (i : ℕ) : Type 0 where
 pub record CalleeFound (R : ℕ → ℕ) (count : ℕ) (code : List ℕ) (m : Meaning) (function : Bool) (h : ℕ) : Type 0 where
   pub means : m ≡ theRoutine (R h)
   pub among : R h < count
-  pub kind : eqb (opAt (wordsOf code) h) FUNC ≡ function
+  pub kind : eqb (opAt (cellsOf code) h) FUNC ≡ function
 
 -- It is no such routine: a rule is broken, whatever the arguments are.
 pub record CalleeWrong (W : List Word) (K : checks.Setting) (m : Meaning) (function : Bool) (i number : ℕ) : Type 0 where
@@ -234,7 +234,7 @@ passed t i j = record { type = j .type; faults = wanted t i j; term = j .term }
 
 pub record Passed (code values after : List ℕ) (p at : ℕ) (r : Judged) : Type 0 where
   pub is : (s : expressions.Stands code values disjunctions at)
-      → Judges (s .known .m) (s .known .n) code after at (s .to) (passed (typeAt (wordsOf code) p) (first (s .e)) (judge (s .known .W) false (s .known .S) (s .e))) r
+      → Judges (s .known .m) (s .known .n) code after at (s .to) (passed (typeAt (cellsOf code) p) (first (s .e)) (judge (s .known .W) false (s .known .S) (s .e))) r
 
 -- Terms read from a on, the first up to b, with commas between that lead on; the last up to z.
 pub data Reads (m n : ℕ) (C : List ℕ) (a b : ℕ) : List Term → (z : ℕ) → Type 0 where
@@ -250,15 +250,15 @@ pub data ReadAll (m n : ℕ) (C : List ℕ) (ts : List Term) (a b z : ℕ) : Typ
 -- Behind an argument that ends at b, against a parameter whose type is the word p: `rest` is left, up to the word z that closes them, for parameters of types `ts`.
 -- The first argument stands from a up to b₀, and `us` are the terms so far.
 pub record Rest {text values : List ℕ} (around : Around text values) (a b₀ z : ℕ) (code : List ℕ) (p b : ℕ) (us : List Term) (rest : List Expr) (ts : List DataType) : Type 0 where
-  pub read : Reads (around .known .m) (around .known .n) (wordsOf code) a b₀ us b
-  pub quiet : Quiet (wordsOf code) a b
+  pub read : Reads (around .known .m) (around .known .n) (cellsOf code) a b₀ us b
+  pub quiet : Quiet (cellsOf code) a b
   pub inside : b ≤ z
   pub more : sortIn (around .known .W) b ≡ comma → SeparatedAt (sortIn (around .known .W)) (ExprAt (sortIn (around .known .W)) (Parses (sortIn (around .known .W)))) rest (b + 1) z
   pub done : (sortIn (around .known .W) b ≡ comma → ⊥) → (rest ≡ []) × (z ≡ b)
   pub closes : levelOf (sortIn (around .known .W) z) ≡ 0
   pub unread : Unread (around .known .W) code b z
   -- the types of the other parameters, whatever is written from b up to z
-  pub types : (D : List ℕ) → Apart (wordsOf code) D b z → typesAt D (length rest) (p + 3) ≡ ts
+  pub types : (D : List ℕ) → Apart (cellsOf code) D b z → typesAt D (length rest) (p + 3) ≡ ts
   pub words : p + 3 + 3 * length rest ≤ wordLimit
   pub room : storeBytes ≤ length code
 
@@ -280,7 +280,7 @@ pub record MoreRead {code values : List ℕ} {p b : ℕ} (g : More code values p
 
 pub record MoreJudged (code values after : List ℕ) (p b : ℕ) (r : Judged) : Type 0 where
   pub is : (g : More code values p b)
-      → Answer (argumentFaults (g .around .known .W) (g .around .known .S) (g .ts) (g .rest)) code after b (g .z) (MoreRead g (wordsOf after)) r
+      → Answer (argumentFaults (g .around .known .W) (g .around .known .S) (g .ts) (g .rest)) code after b (g .z) (MoreRead g (cellsOf after)) r
 
 -- ---- calls
 -- Arguments from `first` on, closed by a word of this sort at z, and the semicolon that ends the statement.
@@ -338,7 +338,7 @@ pub record CallJudged (code values after : List ℕ) (op h callee first closing 
       → Answer
       (faultIf (not (eqb (length (signatureFor (g .around) h .parameters)) (length (g .es)))) wrongCount callee
       ++ argumentFaults (g .around .known .W) (g .around .known .S) (signatureFor (g .around) h .parameters) (g .es))
-      code after callee (g .z) (CallWritten g (wordsOf after) op) r
+      code after callee (g .z) (CallWritten g (cellsOf after) op) r
 
 -- a function's call, for a target of a type
 pub record ForCalls (code values : List ℕ) (callee : ℕ) : Type 0 where
@@ -363,19 +363,19 @@ forFaults {callee = callee} g j =
     ++ resultFaults (g .around .known .W) j (signatureOf (g .around .known .W) (g .around .K) (meaning (g .around .known .S) (spelled (g .around .known .W) callee)) .result) callee
 
 pub record ForJudged (code values after : List ℕ) (wants callee : ℕ) (r : Judged) : Type 0 where
-  pub is : (g : ForCalls code values callee) (j : types.Judged) → typeIn wants ≡ some (j .type) → Answer (forFaults g j) code after callee (g .z) (ForWritten g (wordsOf after)) r
+  pub is : (g : ForCalls code values callee) (j : types.Judged) → typeIn wants ≡ some (j .type) → Answer (forFaults g j) code after callee (g .z) (ForWritten g (cellsOf after)) r
 
 -- the target at i ends before b
 pub record CallAssigns (code values : List ℕ) (i b : ℕ) : Type 0 where
   pub for : ForCalls code values (b + 1)
   pub t : Target
   pub before : i < b
-  pub target : Targeted (for .around .known .m) (for .around .known .n) (wordsOf code) (spotOf (for .around .known .W) (for .around .known .S) t) i b
+  pub target : Targeted (for .around .known .m) (for .around .known .n) (cellsOf code) (spotOf (for .around .known .W) (for .around .known .S) t) i b
 
 pub record CallAssigned (code values after : List ℕ) (wants i b : ℕ) (r : Judged) : Type 0 where
   pub is : (g : CallAssigns code values i b) (j : types.Judged) → typeIn wants ≡ some (j .type)
       → Answer (forFaults (g .for) j) code after i (g .for .z + 2)
-      (RawAssignCall (groundOf (g .for .around)) (g .for .around .known .n) (wordsOf after) (g .for .around .known .S) (g .t) (b + 1) (g .for .es) i (g .for .z + 2) (g .for .z + 2)) r
+      (RawAssignCall (groundOf (g .for .around)) (g .for .around .known .n) (cellsOf after) (g .for .around .known .S) (g .t) (b + 1) (g .for .es) i (g .for .z + 2) (g .for .z + 2)) r
 
 -- ---- words and values
 -- a statement of one word
@@ -397,11 +397,11 @@ pub record Values (code values : List ℕ) (from i : ℕ) : Type 0 where
 -- what is written of it; the words between the two are as they were
 pub record ValueWritten {code values : List ℕ} {from i : ℕ} (g : Values code values from i) (C : List ℕ) (op : ℕ) : Type 0 where
   pub raw : RawValued (groundOf (g .around)) (g .around .known .n) C (g .around .known .S) op (g .e) from i (g .to + 1) (g .to + 1)
-  pub between : (k : ℕ) → i < k → k < from → headAt C k ≡ headAt (wordsOf code) k
+  pub between : (k : ℕ) → i < k → k < from → headAt C k ≡ headAt (cellsOf code) k
 
 pub record Valued (code values after : List ℕ) (op wants from i : ℕ) (r : Judged) : Type 0 where
   pub is : (g : Values code values from i) (t : DataType) → typeIn wants ≡ some t
-      → Answer (ofType (g .around .known .W) t (g .around .known .S) (g .e)) code after i (g .to + 1) (ValueWritten g (wordsOf after) op) r
+      → Answer (ofType (g .around .known .W) t (g .around .known .S) (g .e)) code after i (g .to + 1) (ValueWritten g (cellsOf after) op) r
 
 -- ---- strings
 -- how many bytes a character takes that begins with this one
@@ -420,10 +420,10 @@ pub record Characters (text : List ℕ) (first n r : ℕ) : Type 0 where
 pub record Strings (text code : List ℕ) (i : ℕ) : Type 0 where
   pub w : Word
   pub quoted : Quoted text w
-  pub value : valueAt (wordsOf code) i ≡ length (w .covers)
-  pub place : placeAt (wordsOf code) i ≡ w .place
+  pub value : valueAt (cellsOf code) i ≡ length (w .covers)
+  pub place : placeAt (cellsOf code) i ≡ w .place
   pub room : i * 8 + 8 ≤ length code
 
 pub record Spelled (text before after : List ℕ) (i : ℕ) : Type 0 where
   pub is : (g : Strings text before i)
-      → Linked before after i STRING (length (g .w .covers) + charactersPart * length (unquoted (take (length (g .w .covers) - 2) (drop (g .w .place + 1) text)))) (linkAt (wordsOf before) i)
+      → Linked before after i STRING (length (g .w .covers) + charactersPart * length (unquoted (take (length (g .w .covers) - 2) (drop (g .w .place + 1) text)))) (linkAt (cellsOf before) i)

@@ -18,7 +18,7 @@ ghost use lib.ListN.{length};
 ghost use Rattle.paper.specs.Sorts.{NAME, RETURN, RAISE, TPWRITE, TPREADNUM};
 ghost use Rattle.paper.specs.Words.{wordLimit};
 ghost use Rattle.paper.specs.Expressions.{disjunctions};
-ghost use Rattle.store_cells.specs.Words.{wordsOf};
+ghost use Rattle.store_cells.specs.Cells.{cellsOf};
 ghost use Rattle.code.specs.Cells.{headAt, opAt, valueAt, placeAt, linkAt};
 ghost use Rattle.code.specs.Signatures.{firstParameter};
 ghost use Rattle.layout.specs.Parts.{valuePart, linkPart, charactersPart};
@@ -207,7 +207,7 @@ fn more_arguments(code: &mut [u8], values: &[u8], p: usize, b: usize) -> Judged
 
 fn first_parameter(code: &[u8], h: usize) -> usize
     requires { ⌜ (h * 8 + 8 ≤ length (now code)) × (h < wordLimit) ⌝ }
-    ensures { λ r. ⌜ r ≡ firstParameter (wordsOf (now (code .entry))) h ⌝ }
+    ensures { λ r. ⌜ r ≡ firstParameter (cellsOf (now (code .entry))) h ⌝ }
 {
     if sort(code, h) == text_sorts::FUNC {
         return h + 4;
@@ -332,7 +332,7 @@ fn assign_call(code: &mut [u8], values: &[u8], wants: Type, i: usize, b: usize) 
 // Whether a name with a parenthesis behind it stands at a word.
 fn is_call(code: &[u8], at: usize) -> bool
     requires { ⌜ at * 8 + 16 ≤ length (now code) ⌝ }
-    ensures { λ r. ⌜ IsCall (wordsOf (now (code .entry))) at r ⌝ }
+    ensures { λ r. ⌜ IsCall (cellsOf (now (code .entry))) at r ⌝ }
 {
     if sort(code, at) != text_sorts::NAME {
         return false;

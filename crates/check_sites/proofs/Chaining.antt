@@ -13,7 +13,7 @@ use Rattle.paper.specs.Names.{Meaning, Text, Names, textOf, isAmong, cannotDecl
 use Rattle.code.specs.Cells.{opIn, placeIn, linkIn, headAt, opAt, valueAt, placeAt, linkAt}
 use Rattle.code.specs.Spans.{bias}
 use Rattle.code.specs.Steps.{constantAt, aDatum}
-use Rattle.store_cells.specs.Words.{wordsOf}
+use Rattle.store_cells.specs.Cells.{cellsOf}
 use Rattle.check_names.specs.Meanings.{meaningIn, protectsCell}
 use Rattle.check_expressions.proofs.Judging.{append-none}
 use Rattle.check_sites.specs.Sites.{Site}
@@ -28,11 +28,11 @@ pub record Agrees (C E : List ℕ) (i last : ℕ) : Type 0 where
   pub places : (j : ℕ) → j < i → placeAt E j ≡ placeAt C j
   pub links : (j : ℕ) → j < i → (j ≡ last → ⊥) → linkAt E j ≡ linkAt C j
 
-pub agrees-changed : (code mid after : List ℕ) (i last link : ℕ) → ((k : ℕ) → k < i * 2 → getD (wordsOf mid) k 0 ≡ getD (wordsOf code) k 0) → Relinked mid after last link → Agrees (wordsOf code) (wordsOf after) i last
+pub agrees-changed : (code mid after : List ℕ) (i last link : ℕ) → ((k : ℕ) → k < i * 2 → getD (cellsOf mid) k 0 ≡ getD (cellsOf code) k 0) → Relinked mid after last link → Agrees (cellsOf code) (cellsOf after) i last
 agrees-changed code mid after i last link below s = record {
   heads = λ j l. relinked-others s (j * 2) (λ e. omega arith) ∙ below (j * 2) (omega arith);
   places = λ j l. by-same j last
-      (λ e. subst (λ (k : ℕ). placeAt (wordsOf after) k ≡ placeAt (wordsOf code) k) (sym e) (s .kept .places last ∙ ap placeIn (below (last * 2 + 1) (omega arith))))
+      (λ e. subst (λ (k : ℕ). placeAt (cellsOf after) k ≡ placeAt (cellsOf code) k) (sym e) (s .kept .places last ∙ ap placeIn (below (last * 2 + 1) (omega arith))))
       (λ d. ap placeIn (relinked-others s (j * 2 + 1) (λ e. d (omega arith)) ∙ below (j * 2 + 1) (omega arith)));
   links = λ j l d. ap linkIn (relinked-others s (j * 2 + 1) (λ e. d (omega arith)) ∙ below (j * 2 + 1) (omega arith));
 }

@@ -8,7 +8,7 @@ use native.Mathlib.Omega.{arith}
 use lib.ListN.{length, getD}
 use Rattle.paper.specs.Words.{Word}
 use Rattle.paper.specs.Declarations.{moduleFilling, routineFilling}
-use Rattle.store_cells.specs.Words.{wordsOf}
+use Rattle.store_cells.specs.Cells.{cellsOf}
 use Rattle.code.specs.Cells.{opIn, valueIn, linkIn}
 use Rattle.check_expressions.specs.Known.{Loaded}
 use Rattle.check_sites.specs.Sites.{Site, theModule, filling, aRoutine}
@@ -21,7 +21,7 @@ use Rattle.check_sites.specs.Walks.{outerOf}
 use Rattle.check_sites.proofs.Sitting.{may-declare}
 
 -- ---- words that are still as they were loaded
-pub loaded-changed : (W : List Word) (code code′ : List ℕ) (from i to : ℕ) → length code′ ≡ length code → ((k : ℕ) → from * 2 ≤ k → getD (wordsOf code′) k 0 ≡ getD (wordsOf code) k 0) → from ≤ i → Loaded W code i to
+pub loaded-changed : (W : List Word) (code code′ : List ℕ) (from i to : ℕ) → length code′ ≡ length code → ((k : ℕ) → from * 2 ≤ k → getD (cellsOf code′) k 0 ≡ getD (cellsOf code) k 0) → from ≤ i → Loaded W code i to
     → Loaded W code′ i to
 loaded-changed W code code′ from i to long same h l = record {
   words = λ j lo hi.

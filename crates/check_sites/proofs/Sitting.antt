@@ -16,7 +16,7 @@ use Rattle.paper.specs.Terms.{Ref, ofModule, ofRoutine, load}
 use Rattle.paper.specs.Names.{Meaning, Text, Names, textOf, Scopes, spelled, isAmong, meaning, cannotDeclare, declare}
 use Rattle.paper.specs.Types.{Fault}
 use Rattle.paper.specs.Declarations.{Data, moduleFilling, routineFilling, crosses, moduleWordLimit}
-use Rattle.store_cells.specs.Words.{wordsOf}
+use Rattle.store_cells.specs.Cells.{cellsOf}
 use Rattle.store_cells.proofs.Kept.{put-length, put-other}
 use Rattle.check_names.specs.Numbers.{numberOf, IsName}
 use Rattle.check_names.specs.Meanings.{refWith, meaningIn, isProtected, protectsCell, firstMeaning, Means, Hides}
@@ -24,7 +24,7 @@ use Rattle.check_names.specs.Promises.{numberAt}
 use Rattle.check_names.specs.Promises as names
 use Rattle.check_names.proofs.Spellings.{same-texts, texts-same, differing}
 use Rattle.check_names.proofs.Tables.{declare-means, own-hides, globals-hides}
-use Rattle.check_expressions.specs.Known.{InRoom, HeldWords, heldBy}
+use Rattle.check_expressions.specs.Known.{InRoom, HeldSlots, heldBy}
 use Rattle.check_expressions.proofs.Holding.{holds, room-one}
 use Rattle.check_constants.specs.Answers.{cellOf, InNum}
 use Rattle.check_sites.specs.Sites.{Site, theModule, aRoutine, filling, ownOf, Among, InPlace, Placed, isOwn, owned, Filled}
@@ -154,7 +154,7 @@ module _ (W : List Word) where
   unfolding Placed
   placed-more s ws vs a = holds (heldBy a) more (λ k h. h)
     where
-      more : (w : HeldWords) → InPlace (filling W s .memoryWith ws) w → InPlace (filling W s .memoryWith (ws ++ vs)) w
+      more : (w : HeldSlots) → InPlace (filling W s .memoryWith ws) w → InPlace (filling W s .memoryWith (ws ++ vs)) w
       more w p = record {
         room = among-more s ws vs (w .first) (w .size) (p .room);
         some = p .some;
@@ -170,7 +170,7 @@ means-same routine W S X Y h t = record {
 
 -- ---- one name more
 module _ (W : List Word) (routine : ℕ → ℕ) (s : Site) (D : Data) (values mid after code code′ : List ℕ) (i cell : ℕ) (a : Meaning) (vs : List ℤ) (x : ℕ) (f : Filled W routine s D values) where
-  pub filled-on : IsName W i → cannotDeclare (map textOf (D .names)) (spelled W i) ≡ false → numberAt (wordsOf code) i ≡ numberOf W i
+  pub filled-on : IsName W i → cannotDeclare (map textOf (D .names)) (spelled W i) ≡ false → numberAt (cellsOf code) i ≡ numberOf W i
       → names.Declared code values i cell code′ mid → protectsCell cell ≡ false → meaningIn routine cell ≡ a
       → Fills mid after (baseOf (ownOf s) + length (D .words)) (length vs) x → ((j : ℕ) → j < length vs → getD vs j (pos 0) ≡ toZ w32 x)
       → length (D .words) + length vs ≤ filling W s .limit → owned (ownOf s) a ≡ true → Placed (filling W s .memoryWith (D .words ++ vs)) a → (fs : List Fault)
@@ -182,16 +182,16 @@ module _ (W : List Word) (routine : ℕ → ℕ) (s : Site) (D : Data) (values m
       let S = filling W s .scopesWith N in
       let T = filling W s .scopesWith (declare text a N) in
       let hides : Hides S T text a = site-hides W s N text a free in
-      let row : ℕ = firstMeaning + numberAt (wordsOf code) i in
+      let row : ℕ = firstMeaning + numberAt (cellsOf code) i in
       let room : row * 4 + 4 ≤ length values = omega (arith, f .table) in
       let long : length after ≡ length values = fills .long ∙ put-length (d .table) room in
       let end : baseOf (ownOf s) + length (D .words) + length vs ≤ 1088 = omega (arith, cells-end W s (length (D .words) + length vs) fits) in
-      let table : Means routine W T (wordsOf mid) =
+      let table : Means routine W T (cellsOf mid) =
       declare-means routine W S T i name code values code′ mid cell d number (f .table) (subst (Hides S T text) (sym says) hides) (may-declare (map textOf N) text free) plain (f .means) in
-      let word-mid : (k : ℕ) → k < firstMeaning → getD (wordsOf mid) k 0 ≡ getD (wordsOf values) k 0 = λ k l. put-other (d .table) room k (λ e. omega arith) in
+      let word-mid : (k : ℕ) → k < firstMeaning → getD (cellsOf mid) k 0 ≡ getD (cellsOf values) k 0 = λ k l. put-other (d .table) room k (λ e. omega arith) in
       record {
         table = omega (arith, f .table, long);
-        means = means-same routine W T (wordsOf mid) (wordsOf after) (λ k l. fills .above k (omega (arith, end))) table;
+        means = means-same routine W T (cellsOf mid) (cellsOf after) (λ k l. fills .above k (omega (arith, end))) table;
         owns = record {
           is = λ u p. test (equalTexts text u)
               (λ t. let e : text ≡ u = same-texts text u t in
@@ -208,7 +208,7 @@ module _ (W : List Word) (routine : ℕ → ℕ) (s : Site) (D : Data) (values m
             ∙ f .cells r o ∙ sym (load-more W s (D .words) vs r o))
             (λ j l e.
             let c : cellOf r ≡ baseOf (ownOf s) + length (D .words) + j = ap cellOf e ∙ cell-new W s (length (D .words) + j) ∙ omega arith in
-            ap (λ (k : ℕ). toZ w32 (getD (wordsOf after) k 0)) c ∙ ap (toZ w32) (fills .here j l) ∙ sym (starts j l) ∙ sym (load-new W s (D .words) vs j) ∙ sym (ap (load M) e));
+            ap (λ (k : ℕ). toZ w32 (getD (cellsOf after) k 0)) c ∙ ap (toZ w32) (fills .here j l) ∙ sym (starts j l) ∙ sym (load-new W s (D .words) vs j) ∙ sym (ap (load M) e));
         most = most-more W s (D .words) vs fits (f .most);
         window = window-more W s (D .words) vs fits (f .window);
         errno = fills .above 1263 (omega (arith, end)) ∙ word-mid 1263 (omega arith) ∙ f .errno;

@@ -11,7 +11,7 @@ use borrow.Author.Tests.{ne-eqb}
 use Rattle.laws.proofs.Tests.{by-same, by-last}
 use Rattle.paper.specs.Words.{Word}
 use Rattle.paper.specs.Names.{textOf, Scopes, spelled, isAmong, cannotDeclare}
-use Rattle.store_cells.specs.Words.{wordsOf}
+use Rattle.store_cells.specs.Cells.{cellsOf}
 use Rattle.code.specs.Cells.{valueIn}
 use Rattle.check_names.specs.Numbers.{numberOf, IsName}
 use Rattle.check_names.specs.Meanings.{aVariable, anArray, aConstant, aLoop, aRoutine, anErrno, anErrorNumber, kindIn, boolIn, ownIn, refWith, meaningWith, meaningIn, isProtected, protectsCell, firstMeaning, cellFor, Means}
@@ -56,10 +56,10 @@ module _ (own : ℕ) (routine : ℕ → ℕ) where
 
 -- ---- a name
 module _ (code values : List ℕ) (own i m : ℕ) (says : Meant code values i m) (t : Bool) (guard : Protects m t) where
-  cell-is : (W : List Word) → numberAt (wordsOf code) i ≡ numberOf W i → m ≡ cellFor W (wordsOf values) i
-  cell-is W e = says ∙ ap (λ (k : ℕ). getD (wordsOf values) (firstMeaning + k) 0) e
+  cell-is : (W : List Word) → numberAt (cellsOf code) i ≡ numberOf W i → m ≡ cellFor W (cellsOf values) i
+  cell-is W e = says ∙ ap (λ (k : ℕ). getD (cellsOf values) (firstMeaning + k) 0) e
 
-  protected-is : (routine : ℕ → ℕ) (W : List Word) (S : Scopes) → Means routine W S (wordsOf values) → IsName W i → numberAt (wordsOf code) i ≡ numberOf W i → isProtected (spelled W i) ≡ t
+  protected-is : (routine : ℕ → ℕ) (W : List Word) (S : Scopes) → Means routine W S (cellsOf values) → IsName W i → numberAt (cellsOf code) i ≡ numberOf W i → isProtected (spelled W i) ≡ t
   protected-is routine W S table name e = sym (table .guards i name) ∙ sym (ap protectsCell (cell-is W e)) ∙ sym guard
 
   pub taken-protected : t ≡ true → Taken code values own i true

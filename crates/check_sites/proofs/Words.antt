@@ -8,7 +8,7 @@ use borrow.Author.Tests.{ne-eqb}
 use Rattle.laws.proofs.Tests.{by-same}
 use Rattle.paper.specs.Sorts.{NUM}
 use Rattle.paper.specs.Names.{typeOf}
-use Rattle.store_cells.specs.Words.{wordsOf, Put}
+use Rattle.store_cells.specs.Cells.{cellsOf, Put}
 use Rattle.store_cells.proofs.Kept.{put-length, put-same, put-other}
 use Rattle.code.specs.Cells.{opAt}
 use Rattle.check_names.specs.declared.Scope.{Scope}
@@ -35,7 +35,7 @@ fills-more values mid after from count k v room less f p =
     let r : (from + k) * 4 + 4 ≤ length mid = omega (arith, f .long) in
     record {
       long = put-length p r ∙ f .long;
-      here = λ j l. by-same j k (λ e. ap (λ (i : ℕ). getD (wordsOf after) (from + i) 0) e ∙ put-same p r) (λ d. put-other p r (from + j) (λ e. d (omega arith)) ∙ f .here j (omega (arith, d)));
+      here = λ j l. by-same j k (λ e. ap (λ (i : ℕ). getD (cellsOf after) (from + i) 0) e ∙ put-same p r) (λ d. put-other p r (from + j) (λ e. d (omega arith)) ∙ f .here j (omega (arith, d)));
       below = λ j l. put-other p r j (λ e. omega arith) ∙ f .below j l;
       above = λ j l. put-other p r j (λ e. omega arith) ∙ f .above j (omega arith);
     }
@@ -47,7 +47,7 @@ pub fills-done : (before after : List ℕ) (from count k v : ℕ) → Fills befo
 fills-done before after from count k v f h g = let e : k ≡ count = omega arith in subst (λ (n : ℕ). Fills before after from n v) e f
 
 -- ---- a name
-pub makes : (scope r : Scope) (code values code′ values′ : List ℕ) (i kind own value words s bool m : ℕ) → s ≡ opAt (wordsOf code) (i - 1) → TypeBit s bool → m ≡ cellWith kind bool own value
+pub makes : (scope r : Scope) (code values code′ values′ : List ℕ) (i kind own value words s bool m : ℕ) → s ≡ opAt (cellsOf code) (i - 1) → TypeBit s bool → m ≡ cellWith kind bool own value
     → Declares scope code values i m words code′ values′ r → MakesIn scope code values code′ values′ i kind own value words r
 makes scope r code values code′ values′ i kind own value words s bool m e t q d = record {
   makes = record { bool = bool; type = subst (λ (k : ℕ). TypeBit k bool) e t; declared = subst (λ (k : ℕ). names.Declared code values i k code′ values′) q (d .known) };

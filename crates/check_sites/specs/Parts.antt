@@ -8,7 +8,7 @@ use lib.ListN.{length, getD}
 use Rattle.paper.specs.Basics.{if_then_else_}
 use Rattle.paper.specs.Words.{Word}
 use Rattle.paper.specs.Names.{typeOf, Names, textOf, Scopes, spelled, cannotDeclare}
-use Rattle.store_cells.specs.Words.{wordsOf}
+use Rattle.store_cells.specs.Cells.{cellsOf}
 use Rattle.code.specs.Cells.{firstWindow, opAt}
 use Rattle.check_names.specs.Numbers.{numberOf, IsName}
 use Rattle.check_names.specs.Meanings.{cellWith, typeWith, Means}
@@ -32,20 +32,20 @@ baseOf own = if eqb own 1 then firstWindow else 0
 -- The cells from `from` on have the word v now, so many of them, and all others are as they were.
 pub record Fills (before after : List ℕ) (from count v : ℕ) : Type 0 where
   pub long : length after ≡ length before
-  pub here : (k : ℕ) → k < count → getD (wordsOf after) (from + k) 0 ≡ v
-  pub below : (k : ℕ) → k < from → getD (wordsOf after) k 0 ≡ getD (wordsOf before) k 0
-  pub above : (k : ℕ) → from + count ≤ k → getD (wordsOf after) k 0 ≡ getD (wordsOf before) k 0
+  pub here : (k : ℕ) → k < count → getD (cellsOf after) (from + k) 0 ≡ v
+  pub below : (k : ℕ) → k < from → getD (cellsOf after) k 0 ≡ getD (cellsOf before) k 0
+  pub above : (k : ℕ) → from + count ≤ k → getD (cellsOf after) k 0 ≡ getD (cellsOf before) k 0
 
 -- ---- a name
 -- r says whether the name at a word cannot be declared beside the names of a scope.
 pub record Taken (code values : List ℕ) (own i : ℕ) (r : Bool) : Type 0 where
-  pub is : (routine : ℕ → ℕ) (W : List Word) (S : Scopes) (N : Names) → Means routine W S (wordsOf values) → IsName W i → numberAt (wordsOf code) i ≡ numberOf W i → Owns own N S
+  pub is : (routine : ℕ → ℕ) (W : List Word) (S : Scopes) (N : Names) → Means routine W S (cellsOf values) → IsName W i → numberAt (cellsOf code) i ≡ numberOf W i → Owns own N S
       → r ≡ cannotDeclare (map textOf N) (spelled W i)
 
 -- The name at word i means, from now on, data of this kind and this value, of the type that stands before it.
 pub record Makes (code values code′ values′ : List ℕ) (i kind own value : ℕ) : Type 0 where
   pub bool : ℕ
-  pub type : TypeBit (opAt (wordsOf code) (i - 1)) bool
+  pub type : TypeBit (opAt (cellsOf code) (i - 1)) bool
   pub declared : names.Declared code values i (cellWith kind bool own value) code′ values′
 
 -- So it does in a scope, and has so many of its words.

@@ -14,12 +14,12 @@ use Rattle.paper.specs.Terms.{Ref, ofModule, ofRoutine, Memory, load}
 use Rattle.paper.specs.Trees.{Module}
 use Rattle.paper.specs.Names.{Meaning, Text, Names, textOf, Scopes, nth, sortIn, isAmong, meaning}
 use Rattle.paper.specs.Declarations.{Data, Filling, moduleFilling, routineFilling}
-use Rattle.store_cells.specs.Words.{wordsOf}
+use Rattle.store_cells.specs.Cells.{cellsOf}
 use Rattle.code.specs.Cells.{firstWindow, errnoCell}
 use Rattle.check_names.specs.Meanings.{isProtected, Means}
 use Rattle.check_names.specs.Promises.{storeBytes}
-use Rattle.store_evaluation.specs.Answers.{callWords}
-use Rattle.check_expressions.specs.Known.{largest, InRoom, HeldWords, nothing, words, number, heldBy, Holds}
+use Rattle.store_evaluation.specs.Answers.{callSlots}
+use Rattle.check_expressions.specs.Known.{largest, InRoom, HeldSlots, nothing, words, number, heldBy, Holds}
 use Rattle.check_constants.specs.Answers.{cellOf, InNum}
 
 -- ---- the two scopes that data are declared in
@@ -49,7 +49,7 @@ abbrev pub Among : Memory → Ref → (size : ℕ) → Type 0
 Among M r size = InRoom (length (M .module-words)) (length (M .routine-words)) r size
 
 -- What a name means has its words among those declared, and a constant's is a number of num.
-pub record InPlace (M : Memory) (w : HeldWords) : Type 0 where
+pub record InPlace (M : Memory) (w : HeldSlots) : Type 0 where
   pub room : Among M (w .first) (w .size)
   pub some : 0 < w .size
   pub ranged : w .fixed ≡ true → InNum (load M (w .first))
@@ -73,11 +73,11 @@ pub record Owns (own : ℕ) (N : Names) (S : Scopes) : Type 0 where
 -- It says what D declares: the table has the names, and the cells of words have what these start with.
 pub record Filled (W : List Word) (routine : ℕ → ℕ) (s : Site) (D : Data) (values : List ℕ) : Type 0 where
   pub table : storeBytes ≤ length values
-  pub means : Means routine W (scopesOf W s D) (wordsOf values)
+  pub means : Means routine W (scopesOf W s D) (cellsOf values)
   pub owns : Owns (ownOf s) (D .names) (scopesOf W s D)
   pub placed : (text : Text) → Placed (memoryOf W s D) (meaning (scopesOf W s D) text)
-  pub cells : (r : Ref) → Among (memoryOf W s D) r 1 → toZ w32 (getD (wordsOf values) (cellOf r) 0) ≡ load (memoryOf W s D) r
+  pub cells : (r : Ref) → Among (memoryOf W s D) r 1 → toZ w32 (getD (cellsOf values) (cellOf r) 0) ≡ load (memoryOf W s D) r
   pub most : length (memoryOf W s D .module-words) ≤ firstWindow
-  pub window : length (memoryOf W s D .routine-words) ≤ callWords
-  pub errno : getD (wordsOf values) errnoCell 0 ≡ 0
+  pub window : length (memoryOf W s D .routine-words) ≤ callSlots
+  pub errno : getD (cellsOf values) errnoCell 0 ≡ 0
   pub small : (i : ℕ) → sortIn W i ≡ NUMBER → nth W i .value ≤ largest

@@ -8,17 +8,17 @@ use lib.ListN.{length, take, drop, length-take, take-append-drop, List·getD-eq-
 use lib.Seq.{getD-take, length-take-le, take-all, take-suc}
 use borrow.Author.Tests.{eq-eqb}
 use Rattle.laws.proofs.Tests.{by-less}
-use Rattle.store_cells.specs.Words.{wordsOf, bytesOf, Got}
+use Rattle.store_cells.specs.Cells.{cellsOf, bytesOf, Got}
 use Rattle.store_cells.proofs.Laws.{Bytes, length-words, bytes-words, words-take}
 use Rattle.paper.specs.Sorts.{folded, equalTexts}
 use Rattle.check_spelling.specs.Fronts.{Fours}
 use Rattle.check_spelling.proofs.Letters.{sameNames, Agrees}
 
 -- bytes up to a place, by their words
-pub front-bytes : (n : ℕ) (l : List ℕ) → Bytes l → n * 4 ≤ length l → take (n * 4) l ≡ bytesOf (take n (wordsOf l))
+pub front-bytes : (n : ℕ) (l : List ℕ) → Bytes l → n * 4 ≤ length l → take (n * 4) l ≡ bytesOf (take n (cellsOf l))
 front-bytes n l b h =
     let size : length (take (n * 4) l) ≡ n * 4 = length-take-le (n * 4) l h in
-    sym (take-all (length (wordsOf (take (n * 4) l)) * 4) (take (n * 4) l) (omega (arith, length-words (take (n * 4) l))))
+    sym (take-all (length (cellsOf (take (n * 4) l)) * 4) (take (n * 4) l) (omega (arith, length-words (take (n * 4) l))))
     ∙ sym (bytes-words (take (n * 4) l) (few n l b)) ∙ ap bytesOf (words-take n l)
   where
     few : (n : ℕ) (l : List ℕ) → Bytes l → Bytes (take (n * 4) l)
@@ -32,9 +32,9 @@ fours-start a b = record { inside = omega arith; same = refl }
 
 pub fours-on : (a b : List ℕ) (k x y : ℕ) → length a ≡ length b → Fours a b k → k * 4 + 4 ≤ length a → Got a k x → Got b k y → x ≡ y → Fours a b (k + 1)
 fours-on a b k x y e f h p q z =
-    let ha : k < length (wordsOf a) = omega (arith, length-words a) in
-    let hb : k < length (wordsOf b) = omega (arith, length-words b) in
-    record { inside = omega arith; same = rw (add-one k, take-suc (wordsOf a) k 0 ha, take-suc (wordsOf b) k 0 hb, f .same, sym p ∙ z ∙ q) }
+    let ha : k < length (cellsOf a) = omega (arith, length-words a) in
+    let hb : k < length (cellsOf b) = omega (arith, length-words b) in
+    record { inside = omega arith; same = rw (add-one k, take-suc (cellsOf a) k 0 ha, take-suc (cellsOf b) k 0 hb, f .same, sym p ∙ z ∙ q) }
 
 -- ---- what is equal in front need not be compared again
 front-same : (x u v : List ℕ) → equalTexts (x ++ u) (x ++ v) ≡ equalTexts u v

@@ -9,7 +9,7 @@ use Prim.Native.Nat.{ℕ, _+_, _-_, _*_, _/_, _%_, _<_, _≤_}
 use native.Mathlib.Omega.{arith}
 use lib.ListN.{length}
 use Rattle.laws.proofs.Tests.{by-same}
-use Rattle.store_cells.specs.Words.{wordsOf}
+use Rattle.store_cells.specs.Cells.{cellsOf}
 use Rattle.paper.specs.Sorts.{ELSE, ELSEIF}
 use Rattle.paper.specs.Words.{Word, wordLimit}
 use Rattle.paper.specs.Trees.{Expr, Statements, Arms, noArm, arm, fullIf}
@@ -82,12 +82,12 @@ pub record Arming {text code values : List ℕ} {k : Setting} {used i first : �
   pub rest : Arms
   pub is : ThenAt (sortIn (g .around .known .W)) (g .d) b rest t (g .last)
   pub here : Here (g .around) now k n t (g .to)
-  pub term : RawTerm (groundOf (g .around)) (g .around .known .n) (wordsOf now) (g .around .known .S) e (c + 1) t
+  pub term : RawTerm (groundOf (g .around)) (g .around .known .n) (cellsOf now) (g .around .known .S) e (c + 1) t
   pub low : i ≤ c
   pub next : c < t
   pub before : Option ℕ
-  pub opened : Opened (wordsOf now) i op c before
-  pub head : i < c → opAt (wordsOf now) i ≡ anIf
+  pub opened : Opened (cellsOf now) i op c before
+  pub head : i < c → opAt (cellsOf now) i ≡ anIf
   pub faults-are : listFaults (g .around .known .W) (g .around .K) (g .around .M) (g .b) (g .around .known .S) used
       ++ armFaults (g .around .known .W) (g .around .K) (g .around .M) (g .rest) (g .around .known .S) (used + forsInList (g .b))
       ++ listFaults (g .around .known .W) (g .around .K) (g .around .M) (g .o) (g .around .known .S) (used + (forsInList (g .b) + forsInArms (g .rest)))
@@ -96,11 +96,11 @@ pub record Arming {text code values : List ℕ} {k : Setting} {used i first : �
       ++ listFaults (g .around .known .W) (g .around .K) (g .around .M) (g .o) (g .around .known .S) (used + (forsInList (g .b) + forsInArms (g .rest)))
   pub count : n + (forsInList b + forsInArms rest) ≡ used + (forsInList (g .b) + forsInArms (g .rest))
   pub later : first ≤ t
-  pub outside : Outside (wordsOf code) (wordsOf now) i t
-  pub place : placeAt (wordsOf now) i ≡ offsetIn (g .around .known .W) i
+  pub outside : Outside (cellsOf code) (cellsOf now) i t
+  pub place : placeAt (cellsOf now) i ≡ offsetIn (g .around .known .W) i
   pub long : length now ≡ length code
   -- what is written of the rest makes the whole; the IF leads on in the end alone
-  pub on : (C : List ℕ) (else-first : ℕ) → SameWords (wordsOf now) C (i + 1) c → (i < c → headAt (wordsOf now) i ≡ headAt C i)
+  pub on : (C : List ℕ) (else-first : ℕ) → SameWords (cellsOf now) C (i + 1) c → (i < c → headAt (cellsOf now) i ≡ headAt C i)
       → RawArms (groundOf (g .around)) (g .around .known .n) C (arm e b rest) (g .around .known .S) n else-first before c (g .last)
       → RawArms (groundOf (g .around)) (g .around .known .n) C (arm (g .e) (g .b) (g .rest)) (g .around .known .S) used else-first none i (g .last)
 
@@ -126,7 +126,7 @@ arms-begin text code values k used i first = record {
     faults-are = refl;
     count = refl;
     later = omega arith;
-    outside = outside-same (wordsOf code) i first;
+    outside = outside-same (cellsOf code) i first;
     place = g .place;
     long = refl;
     on = λ C f s h x. x;
@@ -198,11 +198,11 @@ module _ (text code values : List ℕ) (k : Setting) (used i first : ℕ) (now v
         ++ armFaults (a .known .W) (a .K) (a .M) (g .rest) (a .known .S) (used + forsInList (g .b))
         ++ listFaults (a .known .W) (a .K) (a .M) (g .o) (a .known .S) (used + (forsInList (g .b) + forsInArms (g .rest))))
         code after values v i (g .to) (used + (forsInList (g .b) + forsInArms (g .rest) + forsInList (g .o)))
-        (RawStatement (groundOf a) (a .known .n) (wordsOf after) (fullIf i (arm (g .e) (g .b) (g .rest)) (g .o)) (a .known .S) used i (g .to)) r
+        (RawStatement (groundOf a) (a .known .n) (cellsOf after) (fullIf i (arm (g .e) (g .b) (g .rest)) (g .o)) (a .known .S) used i (g .to)) r
 
     module _ (one values″ : List ℕ) (r : Walked) (l : Listed text now values′ one values″ k n (t + 1) r) where
       inner : Answer (listFaults (a .known .W) (a .K) (a .M) (x .b) (a .known .S) n) now one values values″ (t + 1) (x .is .m) (n + forsInList (x .b))
-          (RawList (groundOf a) (a .known .n) (wordsOf one) (x .b) (a .known .S) n (t + 1) (x .is .m)) r
+          (RawList (groundOf a) (a .known .n) (cellsOf one) (x .b) (a .known .S) n (t + 1) (x .is .m)) r
       unfolding lists groundOf
       inner = answer-as (x .same) _ _ _ _ _ _ _ _ r (l .is (lists-as (x .same) lists))
 
@@ -217,10 +217,10 @@ module _ (text code values : List ℕ) (k : Setting) (used i first : ℕ) (now v
 
       module _ (e : ℕ) (u : Scope) (q : r ≡ Upto e u) where
         done : Done (listFaults (a .known .W) (a .K) (a .M) (x .b) (a .known .S) n) now one values values″ (t + 1) (x .is .m) (n + forsInList (x .b)) e (u .used)
-            (RawList (groundOf a) (a .known .n) (wordsOf one) (x .b) (a .known .S) n (t + 1) (x .is .m))
+            (RawList (groundOf a) (a .known .n) (cellsOf one) (x .b) (a .known .S) n (t + 1) (x .is .m))
         done = upto-done r inner e u q
 
-        small : (o : Option ℕ) → Opened (wordsOf now) i op c o → op < 256
+        small : (o : Option ℕ) → Opened (cellsOf now) i op c o → op < 256
         unfolding Opened
         small none p = omega (arith, p .1)
         small (some p) q = omega (arith, q .0)
@@ -235,13 +235,13 @@ module _ (text code values : List ℕ) (k : Setting) (used i first : ℕ) (now v
           y : ArmEnded one two op c t m
           y = subst (λ (v : ℕ). ArmEnded one two op c t v) (done .next-is) ended
 
-          at-then : Outside (wordsOf one) (wordsOf (y .mid)) t (t + 1)
+          at-then : Outside (cellsOf one) (cellsOf (y .mid)) t (t + 1)
           at-then = linked-outside (y .then-is)
 
-          at-arm : Outside (wordsOf (y .mid)) (wordsOf two) c (c + 1)
+          at-arm : Outside (cellsOf (y .mid)) (cellsOf two) c (c + 1)
           at-arm = linked-outside (y .arm-is)
 
-          written : Outside (wordsOf now) (wordsOf two) c m
+          written : Outside (cellsOf now) (cellsOf two) c m
           written =
               outside-on (outside-on (outside-wider c m (done .outside) (omega (arith, x .next)) (omega arith)) (outside-wider c m at-then (omega (arith, x .next)) (omega (arith, order))))
               (outside-wider c m at-arm (omega arith) (omega (arith, x .next, order)))
@@ -249,7 +249,7 @@ module _ (text code values : List ℕ) (k : Setting) (used i first : ℕ) (now v
           pub arm-long : length two ≡ length code
           arm-long = y .arm-is .kept .long ∙ y .then-is .kept .long ∙ inner .long ∙ x .long
 
-          changed : Outside (wordsOf code) (wordsOf two) i m
+          changed : Outside (cellsOf code) (cellsOf two) i m
           changed = outside-on (outside-wider i m (x .outside) (omega arith) (omega (arith, order))) (outside-wider i m written (x .low) (omega arith))
 
           next-here : Here a two k (n + forsInList (x .b)) m (g .to)
@@ -258,18 +258,18 @@ module _ (text code values : List ℕ) (k : Setting) (used i first : ℕ) (now v
               (calls-behind a changed arm-long m (g .to) (g .calls) (omega arith) (omega (arith, order, ending)) (omega (arith, x .low, x .next, order)) (omega arith))
 
           -- ---- the arm that is written
-          module _ (C : List ℕ) (else-first : ℕ) (same : SameWords (wordsOf two) C (i + 1) m) (head : headAt (wordsOf two) i ≡ headAt C i) where
-            head-of : headAt (wordsOf two) c ≡ headAt C c
-            head-of = by-same c i (λ q. subst (λ (v : ℕ). headAt (wordsOf two) v ≡ headAt C v) (sym q) head) (λ f. same .heads c (omega (arith, f, x .low)) (omega (arith, x .next, order)))
+          module _ (C : List ℕ) (else-first : ℕ) (same : SameWords (cellsOf two) C (i + 1) m) (head : headAt (cellsOf two) i ≡ headAt C i) where
+            head-of : headAt (cellsOf two) c ≡ headAt C c
+            head-of = by-same c i (λ q. subst (λ (v : ℕ). headAt (cellsOf two) v ≡ headAt C v) (sym q) head) (λ f. same .heads c (omega (arith, f, x .low)) (omega (arith, x .next, order)))
 
-            begins-of : (o : Option ℕ) → Opened (wordsOf now) i op c o → Begins (groundOf a) (a .known .n) C o c m
+            begins-of : (o : Option ℕ) → Opened (cellsOf now) i op c o → Begins (groundOf a) (a .known .n) C o c m
             unfolding Opened Begins
             begins-of none p = tt
             begins-of (some p) q =
                 let to-one = same-before p (p + 1) (done .outside) (omega (arith, q .3, x .next)) in
                 let to-mid = same-before p (p + 1) at-then (omega (arith, q .3, x .next)) in
                 let to-two = same-before p (p + 1) at-arm (omega (arith, q .3)) in
-                let all = same-on (same-on (same-on to-one to-mid) to-two) (same-part (wordsOf two) C (i + 1) m p (p + 1) (omega (arith, q .2)) (omega (arith, q .3, x .next, order)) same) in
+                let all = same-on (same-on (same-on to-one to-mid) to-two) (same-part (cellsOf two) C (i + 1) m p (p + 1) (omega (arith, q .2)) (omega (arith, q .3, x .next, order)) same) in
                 record {
                   then-leaves = link-same all p (omega arith) (omega arith) c (q .1);
                   word = subst (λ (v : ℕ). RawWord C v c m) (q .0) (word-same same c (omega (arith, q .2, q .3)) (omega (arith, x .next, order)) op m (linked-word (y .arm-is)));
@@ -279,46 +279,46 @@ module _ (text code values : List ℕ) (k : Setting) (used i first : ℕ) (now v
                 → RawArms (groundOf a) (a .known .n) C (arm (x .e) (x .b) (x .rest)) (a .known .S) n else-first (x .before) c (g .last)
             unfolding RawArms
             arm-raw others =
-                let then-same = same-on (same-behind t (t + 1) at-arm (omega (arith, x .next))) (same-part (wordsOf two) C (i + 1) m t (t + 1) (omega (arith, x .low, x .next)) (omega (arith, order)) same) in
+                let then-same = same-on (same-behind t (t + 1) at-arm (omega (arith, x .next))) (same-part (cellsOf two) C (i + 1) m t (t + 1) (omega (arith, x .low, x .next)) (omega (arith, order)) same) in
                 record {
                   t = t;
                   y = m;
                   value = sym (ap valueIn head-of) ∙ y .arm-is .value-is;
-                  term = term-same (groundOf a) (a .known .n) (wordsOf now) C (a .known .S) (x .e) (c + 1) t
+                  term = term-same (groundOf a) (a .known .n) (cellsOf now) C (a .known .S) (x .e) (c + 1) t
                       (same-on (same-on (same-on (same-before (c + 1) t (done .outside) (omega arith)) (same-before (c + 1) t at-then (omega arith))) (same-behind (c + 1) t at-arm (omega arith)))
-                      (same-part (wordsOf two) C (i + 1) m (c + 1) t (omega (arith, x .low)) (omega (arith, order)) same)) (x .term);
+                      (same-part (cellsOf two) C (i + 1) m (c + 1) t (omega (arith, x .low)) (omega (arith, order)) same)) (x .term);
                   then-op = op-same then-same t (omega arith) (omega arith) _ (y .then-is .op-is);
                   then-value = value-same then-same t (omega arith) (omega arith) _ (y .then-is .value-is);
-                  list = list-same (groundOf a) (a .known .n) (wordsOf one) C (x .b) (a .known .S) n (t + 1) m
+                  list = list-same (groundOf a) (a .known .n) (cellsOf one) C (x .b) (a .known .S) n (t + 1) m
                       (same-on (same-on (same-behind (t + 1) m at-then (omega arith)) (same-behind (t + 1) m at-arm (omega (arith, x .next))))
-                      (same-part (wordsOf two) C (i + 1) m (t + 1) m (omega (arith, x .low, x .next)) (omega arith) same)) (done .written);
+                      (same-part (cellsOf two) C (i + 1) m (t + 1) m (omega (arith, x .low, x .next)) (omega arith) same)) (done .written);
                   begins = begins-of (x .before) (x .opened);
                   rest = others;
                 }
 
           -- where the IF's word is not that of this arm it is as it was
-          head-kept : i < c → headAt (wordsOf now) i ≡ headAt (wordsOf two) i
+          head-kept : i < c → headAt (cellsOf now) i ≡ headAt (cellsOf two) i
           head-kept h = sym (head-before written i h)
 
-          head-if : (o : Option ℕ) → Opened (wordsOf now) i op c o → opAt (wordsOf two) i ≡ anIf
+          head-if : (o : Option ℕ) → Opened (cellsOf now) i op c o → opAt (cellsOf two) i ≡ anIf
           unfolding Opened
-          head-if none p = subst (λ (v : ℕ). opAt (wordsOf two) v ≡ anIf) (p .0) (y .arm-is .op-is ∙ p .1)
+          head-if none p = subst (λ (v : ℕ). opAt (cellsOf two) v ≡ anIf) (p .0) (y .arm-is .op-is ∙ p .1)
           head-if (some p) q = ap opIn (head-before written i (omega (arith, q .2, q .3))) ∙ x .head (omega (arith, q .2, q .3))
 
-          place : placeAt (wordsOf two) i ≡ offsetIn (a .known .W) i
+          place : placeAt (cellsOf two) i ≡ offsetIn (a .known .W) i
           place = y .arm-is .kept .places i ∙ y .then-is .kept .places i ∙ ap (λ (v : ℕ). v % linkPart) (tail-before (done .outside) i (omega (arith, x .low, x .next))) ∙ x .place
 
-          kept-on : (C : List ℕ) → SameWords (wordsOf two) C (i + 1) m → SameWords (wordsOf now) C (i + 1) c
-          kept-on C s = same-on (same-before (i + 1) c written (omega arith)) (same-part (wordsOf two) C (i + 1) m (i + 1) c (omega arith) (omega (arith, x .next, order)) s)
+          kept-on : (C : List ℕ) → SameWords (cellsOf two) C (i + 1) m → SameWords (cellsOf now) C (i + 1) c
+          kept-on C s = same-on (same-before (i + 1) c written (omega arith)) (same-part (cellsOf two) C (i + 1) m (i + 1) c (omega arith) (omega (arith, x .next, order)) s)
 
           left : total ≡ armFaults (a .known .W) (a .K) (a .M) (x .rest) (a .known .S) (n + forsInList (x .b)) ++ else-faults
           unfolding total else-faults
           left = x .faults-are ∙ ap (λ (l : List Fault). l ++ armFaults (a .known .W) (a .K) (a .M) (x .rest) (a .known .S) (n + forsInList (x .b))
               ++ listFaults (a .known .W) (a .K) (a .M) (g .o) (a .known .S) (used + (forsInList (g .b) + forsInArms (g .rest)))) (done .none)
 
-          module _ (s : ℕ) (es : s ≡ opAt (wordsOf two) e) where
+          module _ (s : ℕ) (es : s ≡ opAt (cellsOf two) e) where
             sort-is : sortIn (a .known .W) m ≡ s
-            sort-is = sym (es ∙ ap (opAt (wordsOf two)) (done .next-is) ∙ next-here .unread .loaded .words m (omega arith) (omega (arith, order, ending)) .sort)
+            sort-is = sym (es ∙ ap (opAt (cellsOf two)) (done .next-is) ∙ next-here .unread .loaded .words m (omega arith) (omega (arith, order, ending)) .sort)
 
             -- ---- ELSE or ENDIF closes it
             module _ (f : s ≡ ELSEIF → ⊥) where
@@ -354,7 +354,7 @@ module _ (text code values : List ℕ) (k : Setting) (used i first : ℕ) (now v
               module _ (three values‴ : List ℕ) (r2 : Walked) (el : Elsed text two values″ three values‴ k (u .used) e r2) where
                 last-answer : Answer (listFaults (a .known .W) (a .K) (a .M) (g .o) (a .known .S) (n + forsInList (x .b))) two three values values‴ m (g .to) (n + forsInList (x .b) + forsInList (g .o))
                     (ElseWritten (sortIn (a .known .W))
-                    (λ (first : ℕ). RawElse (groundOf a) (a .known .n) (wordsOf three) (λ (x2 y2 : ℕ). RawList (groundOf a) (a .known .n) (wordsOf three) (g .o) (a .known .S) (n + forsInList (x .b)) x2 y2) m first (g .to)) m) r2
+                    (λ (first : ℕ). RawElse (groundOf a) (a .known .n) (cellsOf three) (λ (x2 y2 : ℕ). RawList (groundOf a) (a .known .n) (cellsOf three) (g .o) (a .known .S) (n + forsInList (x .b)) x2 y2) m first (g .to)) m) r2
                 unfolding elses groundOf
                 last-answer =
                     answer-as (done .same) _ _ _ _ _ _ _ _ r2
@@ -371,30 +371,30 @@ module _ (text code values : List ℕ) (k : Setting) (used i first : ℕ) (now v
                 module _ (z : ℕ) (v : Scope) (q2 : r2 ≡ Upto z v) where
                   ends : Done (listFaults (a .known .W) (a .K) (a .M) (g .o) (a .known .S) (n + forsInList (x .b))) two three values values‴ m (g .to) (n + forsInList (x .b) + forsInList (g .o)) z (v .used)
                       (ElseWritten (sortIn (a .known .W))
-                      (λ (first : ℕ). RawElse (groundOf a) (a .known .n) (wordsOf three) (λ (x2 y2 : ℕ). RawList (groundOf a) (a .known .n) (wordsOf three) (g .o) (a .known .S) (n + forsInList (x .b)) x2 y2) m first (g .to)) m)
+                      (λ (first : ℕ). RawElse (groundOf a) (a .known .n) (cellsOf three) (λ (x2 y2 : ℕ). RawList (groundOf a) (a .known .n) (cellsOf three) (g .o) (a .known .S) (n + forsInList (x .b)) x2 y2) m first (g .to)) m)
                   ends = upto-done r2 last-answer z v q2
 
                   pub arm-ends : (i * 8 + 8 ≤ length three) × (z < linkPart)
                   arm-ends = (omega (arith, last-answer .long, arm-long, g .calls .room, x .low, x .next, order, ending), omega (arith, ends .next-is, ending))
 
-                  module _ (four : List ℕ) (l2 : Linked three four i (opAt (wordsOf three) i) (valueAt (wordsOf three) i) z) where
-                    at-if : Outside (wordsOf three) (wordsOf four) i (i + 1)
+                  module _ (four : List ℕ) (l2 : Linked three four i (opAt (cellsOf three) i) (valueAt (cellsOf three) i) z) where
+                    at-if : Outside (cellsOf three) (cellsOf four) i (i + 1)
                     at-if = linked-outside l2
 
-                    to-three : SameWords (wordsOf two) (wordsOf three) (i + 1) m
+                    to-three : SameWords (cellsOf two) (cellsOf three) (i + 1) m
                     to-three = same-before (i + 1) m (ends .outside) (omega arith)
 
-                    to-four : SameWords (wordsOf two) (wordsOf four) (i + 1) m
+                    to-four : SameWords (cellsOf two) (cellsOf four) (i + 1) m
                     to-four = same-on to-three (same-behind (i + 1) m at-if (omega arith))
 
-                    head-three : headAt (wordsOf three) i ≡ headAt (wordsOf two) i
+                    head-three : headAt (cellsOf three) i ≡ headAt (cellsOf two) i
                     head-three = head-before (ends .outside) i (omega (arith, x .low, x .next, order))
 
                     same-head : (p q3 : ℕ) → p % 256 ≡ q3 % 256 → p / 256 ≡ q3 / 256 → p ≡ q3
                     same-head p q3 d1 d2 = omega arith
 
-                    head-four : headAt (wordsOf two) i ≡ headAt (wordsOf four) i
-                    head-four = sym head-three ∙ sym (same-head (headAt (wordsOf four) i) (headAt (wordsOf three) i) (l2 .op-is) (l2 .value-is))
+                    head-four : headAt (cellsOf two) i ≡ headAt (cellsOf four) i
+                    head-four = sym head-three ∙ sym (same-head (headAt (cellsOf four) i) (headAt (cellsOf three) i) (l2 .op-is) (l2 .value-is))
 
                     first-is : (y .link ≡ ends .written .first)
                     first-is =
@@ -402,36 +402,36 @@ module _ (text code values : List ℕ) (k : Setting) (used i first : ℕ) (now v
                         (λ w. y .behind .at-else (sort-one ∙ w) ∙ sym (ends .written .at-else w))
                         (λ w. y .behind .elsewhere (λ w2. w (sym sort-one ∙ w2)) ∙ sym (ends .written .elsewhere w))
                       where
-                        sort-one : opAt (wordsOf one) m ≡ sortIn (a .known .W) m
+                        sort-one : opAt (cellsOf one) m ≡ sortIn (a .known .W) m
                         sort-one = ap opIn (head-behind (done .outside) m (omega arith)) ∙ x .here .unread .loaded .words m (omega (arith, order)) (omega (arith, order, ending)) .sort
 
-                    then-link : linkAt (wordsOf four) t ≡ ends .written .first
+                    then-link : linkAt (cellsOf four) t ≡ ends .written .first
                     then-link =
-                        link-same (same-on (same-behind t (t + 1) at-arm (omega (arith, x .next))) (same-part (wordsOf two) (wordsOf four) (i + 1) m t (t + 1) (omega (arith, x .low, x .next)) (omega (arith, order)) to-four))
+                        link-same (same-on (same-behind t (t + 1) at-arm (omega (arith, x .next))) (same-part (cellsOf two) (cellsOf four) (i + 1) m t (t + 1) (omega (arith, x .low, x .next)) (omega (arith, order)) to-four))
                         t (omega arith) (omega arith) _ (y .then-is .link-is ∙ first-is)
 
-                    no-more : RawArms (groundOf a) (a .known .n) (wordsOf four) (x .rest) (a .known .S) (n + forsInList (x .b)) (ends .written .first) (some t) m (g .last)
+                    no-more : RawArms (groundOf a) (a .known .n) (cellsOf four) (x .rest) (a .known .S) (n + forsInList (x .b)) (ends .written .first) (some t) m (g .last)
                     unfolding RawArms NoMore
                     no-more =
-                        subst (λ (r3 : Arms). RawArms (groundOf a) (a .known .n) (wordsOf four) r3 (a .known .S) (n + forsInList (x .b)) (ends .written .first) (some t) m (g .last)) (sym (none-left .0))
+                        subst (λ (r3 : Arms). RawArms (groundOf a) (a .known .n) (cellsOf four) r3 (a .known .S) (n + forsInList (x .b)) (ends .written .first) (some t) m (g .last)) (sym (none-left .0))
                         (record { is-last = sym (none-left .1); then-leaves = then-link })
 
-                    else-same : RawElse (groundOf a) (a .known .n) (wordsOf four) (λ (x2 y2 : ℕ). RawList (groundOf a) (a .known .n) (wordsOf four) (g .o) (a .known .S) (n + forsInList (x .b)) x2 y2) m (ends .written .first) (g .to)
+                    else-same : RawElse (groundOf a) (a .known .n) (cellsOf four) (λ (x2 y2 : ℕ). RawList (groundOf a) (a .known .n) (cellsOf four) (g .o) (a .known .S) (n + forsInList (x .b)) x2 y2) m (ends .written .first) (g .to)
                     else-same =
                         let w = ends .written .is in
-                        let r3 = last-order (groundOf a) (a .known .n) (wordsOf three) m (ends .written .first) (w .z) (w .begins) in
-                        let o3 = list-order (groundOf a) (a .known .n) (wordsOf three) (g .o) (a .known .S) (n + forsInList (x .b)) (ends .written .first) (w .z) (w .list) in
+                        let r3 = last-order (groundOf a) (a .known .n) (cellsOf three) m (ends .written .first) (w .z) (w .begins) in
+                        let o3 = list-order (groundOf a) (a .known .n) (cellsOf three) (g .o) (a .known .S) (n + forsInList (x .b)) (ends .written .first) (w .z) (w .list) in
                         let s3 = same-behind m (w .z + 1) at-if (omega (arith, x .low, x .next, order)) in
                         record {
                           z = w .z;
                           begins = last-same (w .begins) s3 o3 r3;
-                          list = list-same (groundOf a) (a .known .n) (wordsOf three) (wordsOf four) (g .o) (a .known .S) (n + forsInList (x .b)) (ends .written .first) (w .z)
+                          list = list-same (groundOf a) (a .known .n) (cellsOf three) (cellsOf four) (g .o) (a .known .S) (n + forsInList (x .b)) (ends .written .first) (w .z)
                               (same-behind (ends .written .first) (w .z) at-if (omega (arith, x .low, x .next, order))) (w .list);
                           word = word-same s3 (w .z) (omega arith) (omega arith) _ (g .to) (w .word);
                           end = w .end;
                         }
                       where
-                        last-same : {z3 : ℕ} → LastOf (wordsOf three) m (ends .written .first) z3 → SameWords (wordsOf three) (wordsOf four) m (z3 + 1) → ends .written .first ≤ z3 → m ≤ ends .written .first → LastOf (wordsOf four) m (ends .written .first) z3
+                        last-same : {z3 : ℕ} → LastOf (cellsOf three) m (ends .written .first) z3 → SameWords (cellsOf three) (cellsOf four) m (z3 + 1) → ends .written .first ≤ z3 → m ≤ ends .written .first → LastOf (cellsOf four) m (ends .written .first) z3
                         last-same {z3} (an-else w3 e3) s3 o3 r3 = an-else (word-same s3 m (omega arith) (omega arith) _ z3 w3) e3
                         last-same (no-else d3 e3) s3 o3 r3 = no-else d3 e3
 
@@ -452,12 +452,12 @@ module _ (text code values : List ℕ) (k : Setting) (used i first : ℕ) (now v
                             };
                             last = g .last;
                             first = ends .written .first;
-                            arms-are = x .on (wordsOf four) (ends .written .first) (kept-on (wordsOf four) to-four) (λ h. head-kept h ∙ head-four)
-                                (arm-raw (wordsOf four) (ends .written .first) to-four head-four no-more);
-                            otherwise-is = subst (λ (c3 : ℕ). RawElse (groundOf a) (a .known .n) (wordsOf four)
-                                (λ (x2 y2 : ℕ). RawList (groundOf a) (a .known .n) (wordsOf four) (g .o) (a .known .S) (used + (forsInList (g .b) + forsInArms (g .rest))) x2 y2) c3 (ends .written .first) (g .to))
+                            arms-are = x .on (cellsOf four) (ends .written .first) (kept-on (cellsOf four) to-four) (λ h. head-kept h ∙ head-four)
+                                (arm-raw (cellsOf four) (ends .written .first) to-four head-four no-more);
+                            otherwise-is = subst (λ (c3 : ℕ). RawElse (groundOf a) (a .known .n) (cellsOf four)
+                                (λ (x2 y2 : ℕ). RawList (groundOf a) (a .known .n) (cellsOf four) (g .o) (a .known .S) (used + (forsInList (g .b) + forsInArms (g .rest))) x2 y2) c3 (ends .written .first) (g .to))
                                 (sym (none-left .1))
-                                (subst (λ (u3 : ℕ). RawElse (groundOf a) (a .known .n) (wordsOf four) (λ (x2 y2 : ℕ). RawList (groundOf a) (a .known .n) (wordsOf four) (g .o) (a .known .S) u3 x2 y2) m (ends .written .first) (g .to)) counted else-same);
+                                (subst (λ (u3 : ℕ). RawElse (groundOf a) (a .known .n) (cellsOf four) (λ (x2 y2 : ℕ). RawList (groundOf a) (a .known .n) (cellsOf four) (g .o) (a .known .S) u3 x2 y2) m (ends .written .first) (g .to)) counted else-same);
                           };
                           outside = outside-on (outside-on (outside-wider i (g .to) changed (omega arith) (omega (arith, order, ending))) (outside-wider i (g .to) (ends .outside) (omega (arith, x .low, x .next, order)) (omega arith)))
                               (outside-wider i (g .to) at-if (omega arith) (omega (arith, x .low, x .next, order, ending)));
@@ -528,13 +528,13 @@ module _ (text code values : List ℕ) (k : Setting) (used i first : ℕ) (now v
                   fine : ofType (a .known .W) aBool (a .known .S) (f .e) ≡ []
                   fine = judged-none text two values a k (n + forsInList (x .b)) m (g .to) next-here (f .e) (m + 1) (f .n) (f .condition) no-operator (omega arith) (omega (arith, next-order, ending)) three boolType aBool bool-in j o3 bool m2 q2
 
-                  new-term : RawTerm (groundOf a) (a .known .n) (wordsOf three) (a .known .S) (f .e) (m + 1) (f .n)
+                  new-term : RawTerm (groundOf a) (a .known .n) (cellsOf three) (a .known .S) (f .e) (m + 1) (f .n)
                   new-term = judged-term text two values a k (n + forsInList (x .b)) m (g .to) next-here (f .e) (m + 1) (f .n) (f .condition) no-operator (omega arith) (omega (arith, next-order, ending)) three boolType aBool bool-in j o3 bool m2 q2
 
                   kept : Kept two three (m + 1) (f .n)
                   kept = judged-kept text two values a k (n + forsInList (x .b)) m (g .to) next-here (f .e) (m + 1) (f .n) (f .condition) no-operator (omega arith) (omega (arith, next-order, ending)) three boolType aBool bool-in j o3 bool m2 q2
 
-                  three-is : Outside (wordsOf two) (wordsOf three) (m + 1) (f .n)
+                  three-is : Outside (cellsOf two) (cellsOf three) (m + 1) (f .n)
                   three-is = kept-outside kept
 
                   pub arm-less : wordLimit - m2 < wordLimit - t
@@ -585,7 +585,7 @@ module _ (text code values : List ℕ) (k : Setting) (used i first : ℕ) (now v
                         (arm-raw C ef s4 h4 (subst (λ (r3 : Arms). RawArms (groundOf a) (a .known .n) C r3 (a .known .S) (n + forsInList (x .b)) ef (some t) m (g .last)) (sym (f .is)) others));
                   }
                     where
-                      sort-one : opAt (wordsOf one) m ≡ sortIn (a .known .W) m
+                      sort-one : opAt (cellsOf one) m ≡ sortIn (a .known .W) m
                       sort-one = ap opIn (head-behind (done .outside) m (omega arith)) ∙ x .here .unread .loaded .words m (omega (arith, order)) (omega (arith, order, ending)) .sort
 
                   goes-on : Arming g three values″ anElseIf e m2 (u .used)
@@ -598,12 +598,12 @@ module _ (text code values : List ℕ) (k : Setting) (used i first : ℕ) (now v
     pub arm-list-wrong : (number word : ℕ) → r ≡ Faulty number word → Thened text code values one values″ k used i first r
     arm-list-wrong number word q = record { is = λ g. list-wrong g one values″ r l number word q }
 
-    module _ (e : ℕ) (u : Scope) (q : r ≡ Upto e u) (two : List ℕ) (ended : ArmEnded one two op c t e) (s : ℕ) (es : s ≡ opAt (wordsOf two) e) where
+    module _ (e : ℕ) (u : Scope) (q : r ≡ Upto e u) (two : List ℕ) (ended : ArmEnded one two op c t e) (s : ℕ) (es : s ≡ opAt (cellsOf two) e) where
       module _ (f : s ≡ ELSEIF → ⊥) (three values‴ : List ℕ) (r2 : Walked) (el : Elsed text two values″ three values‴ k (u .used) e r2) where
         pub arm-else-wrong : (number word : ℕ) → r2 ≡ Faulty number word → Thened text code values three values‴ k used i first r2
         arm-else-wrong number word q2 = record { is = λ g. else-wrong g one values″ r l e u q two ended s es f three values‴ r2 el number word q2 }
 
-        pub arms-finished : (z : ℕ) (v : Scope) → r2 ≡ Upto z v → (four : List ℕ) → Linked three four i (opAt (wordsOf three) i) (valueAt (wordsOf three) i) z → Thened text code values four values‴ k used i first (Upto z v)
+        pub arms-finished : (z : ℕ) (v : Scope) → r2 ≡ Upto z v → (four : List ℕ) → Linked three four i (opAt (cellsOf three) i) (valueAt (cellsOf three) i) z → Thened text code values four values‴ k used i first (Upto z v)
         arms-finished z v q2 four l2 = record { is = λ g. finished g one values″ r l e u q two ended s es f three values‴ r2 el z v q2 four l2 }
 
       module _ (h : s ≡ ELSEIF) (three : List ℕ) (j : Judged) (o2 : OfType two values″ three false boolType (e + 1) j) where

@@ -5,7 +5,7 @@ use mathlib.Core.List.{List}
 use Prim.Native.Nat.{ℕ, _+_, _-_, _<_, _≤_}
 use native.Mathlib.Omega.{arith}
 use lib.ListN.{length}
-use Rattle.store_cells.specs.Words.{wordsOf}
+use Rattle.store_cells.specs.Cells.{cellsOf}
 use Rattle.paper.specs.Trees.{Statements}
 use Rattle.paper.specs.Names.{sortIn}
 use Rattle.paper.specs.Types.{Fault}
@@ -64,7 +64,7 @@ module _ {text code values : List ℕ} {k : Setting} {used c words : ℕ} (b : B
   behind-raw C x y = RawList (groundOf a) (a .known .n) C (b .o) (a .known .S) used x y
 
   module _ (one values′ : List ℕ) (r : Walked) (l : Listed text code values one values′ k used (c + words) r) where
-    pub behind-answer : Answer behind-faults code one values values′ (c + words) (b .z) (used + forsInList (b .o)) (behind-raw (wordsOf one) (c + words) (b .z)) r
+    pub behind-answer : Answer behind-faults code one values values′ (c + words) (b .z) (used + forsInList (b .o)) (behind-raw (cellsOf one) (c + words) (b .z)) r
     unfolding behind-lists
     behind-answer = l .is behind-lists
 
@@ -73,7 +73,7 @@ module _ {text code values : List ℕ} {k : Setting} {used c words : ℕ} (b : B
     behind-wrong raw number word q = faulty-answer _ _ _ _ _ _ _ _ _ r number word q (faulty-first r behind-answer number word q) (behind-answer .long)
 
     module _ (z : ℕ) (n : Scope) (q : r ≡ Upto z n) where
-      pub behind-done : Done behind-faults code one values values′ (c + words) (b .z) (used + forsInList (b .o)) z (n .used) (behind-raw (wordsOf one) (c + words) (b .z))
+      pub behind-done : Done behind-faults code one values values′ (c + words) (b .z) (used + forsInList (b .o)) z (n .used) (behind-raw (cellsOf one) (c + words) (b .z))
       behind-done = upto-done r behind-answer z n q
 
       pub behind-closes : (c + words ≤ z) × (z < 8191) × (z + 1 ≡ b .to) × (length one ≡ length code)
@@ -81,16 +81,16 @@ module _ {text code values : List ℕ} {k : Setting} {used c words : ℕ} (b : B
           (omega (arith, behind-grows, behind-done .next-is), omega (arith, behind-small, behind-done .next-is), omega (arith, behind-done .next-is, b .after), behind-answer .long)
 
       -- the word c and the word that closes it are written over
-      module _ (two three : List ℕ) (first : Outside (wordsOf one) (wordsOf two) c (c + 1)) (last : Outside (wordsOf two) (wordsOf three) z (z + 1)) (some : 0 < words) where
-        behind-outside : Outside (wordsOf code) (wordsOf three) c (b .to)
+      module _ (two three : List ℕ) (first : Outside (cellsOf one) (cellsOf two) c (c + 1)) (last : Outside (cellsOf two) (cellsOf three) z (z + 1)) (some : 0 < words) where
+        behind-outside : Outside (cellsOf code) (cellsOf three) c (b .to)
         behind-outside =
             outside-on (outside-on (outside-wider c (b .to) (behind-done .outside) (omega arith) (omega (arith, b .after))) (outside-wider c (b .to) first (omega arith) (omega (arith, behind-grows, b .after))))
             (outside-wider c (b .to) last (omega (arith, behind-closes)) (omega (arith, behind-closes)))
 
-        pub behind-list : behind-raw (wordsOf three) (c + words) z
+        pub behind-list : behind-raw (cellsOf three) (c + words) z
         behind-list =
-            subst (behind-raw (wordsOf three) (c + words)) (sym (behind-done .next-is))
-            (list-same (groundOf a) (a .known .n) (wordsOf one) (wordsOf three) (b .o) (a .known .S) used (c + words) (b .z)
+            subst (behind-raw (cellsOf three) (c + words)) (sym (behind-done .next-is))
+            (list-same (groundOf a) (a .known .n) (cellsOf one) (cellsOf three) (b .o) (a .known .S) used (c + words) (b .z)
             (same-on (same-behind (c + words) (b .z) first (omega arith)) (same-before (c + words) (b .z) last (omega (arith, behind-done .next-is)))) (behind-done .written))
 
         -- and then what is written of the whole

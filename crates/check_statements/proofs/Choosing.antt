@@ -6,7 +6,7 @@ use mathlib.Core.List.{List, [], _++_}
 use Prim.Native.Nat.{ℕ, _+_, _-_, _*_, _<_, _≤_}
 use native.Mathlib.Omega.{arith}
 use lib.ListN.{length}
-use Rattle.store_cells.specs.Words.{wordsOf}
+use Rattle.store_cells.specs.Cells.{cellsOf}
 use Rattle.paper.specs.Sorts.{CASE}
 use Rattle.paper.specs.Trees.{Cases, noCase}
 use Rattle.paper.specs.Names.{sortIn}
@@ -50,10 +50,10 @@ pub record Casing {text code values : List ℕ} {k : Setting} {used first : ℕ}
   pub here : Here (g .around) now k n c (g .to)
   pub count : n + forsInCases cs ≡ used + forsInCases (g .cs)
   pub faults-are : casesFaults (g .around .known .W) (g .around .K) (g .around .M) (g .cs) (g .around .known .S) used ≡ casesFaults (g .around .known .W) (g .around .K) (g .around .M) cs (g .around .known .S) n
-  pub outside : Outside (wordsOf code) (wordsOf now) first c
+  pub outside : Outside (cellsOf code) (cellsOf now) first c
   pub order : first ≤ c
   pub long : length now ≡ length code
-  pub on : (C : List ℕ) → Outside (wordsOf now) C c (g .to) → RawCases (groundOf (g .around)) (g .around .known .n) C cs (g .around .known .S) n c (g .last)
+  pub on : (C : List ℕ) → Outside (cellsOf now) C c (g .to) → RawCases (groundOf (g .around)) (g .around .known .n) C cs (g .around .known .S) n c (g .last)
       → RawCases (groundOf (g .around)) (g .around .known .n) C (g .cs) (g .around .known .S) used first (g .last)
 
 pub record Casings (text code values : List ℕ) (k : Setting) (used first : ℕ) (now values′ : List ℕ) (c n : ℕ) : Type 0 where
@@ -68,7 +68,7 @@ cases-begin text code values k used first = record {
     here = g .here;
     count = refl;
     faults-are = refl;
-    outside = outside-same (wordsOf code) first first;
+    outside = outside-same (cellsOf code) first first;
     order = omega arith;
     long = refl;
     on = λ C o x. x;
@@ -108,10 +108,10 @@ module _ (text code values : List ℕ) (k : Setting) (used first : ℕ) (now val
         (casesFaults (a .known .W) (a .K) (a .M) (g .cs) (a .known .S) used ++ listFaults (a .known .W) (a .K) (a .M) (g .o) (a .known .S) (used + forsInCases (g .cs)))
         code after values v first (g .to) (used + (forsInCases (g .cs) + forsInList (g .o)))
         (CasesWritten
-        (λ (last : ℕ). RawCases (groundOf a) (a .known .n) (wordsOf after) (g .cs) (a .known .S) used first last)
-        (λ (last : ℕ). RawDefault (groundOf a) (a .known .n) (wordsOf after) (λ (x2 y2 : ℕ). RawList (groundOf a) (a .known .n) (wordsOf after) (g .o) (a .known .S) (used + forsInCases (g .cs)) x2 y2) last (g .to))) r
+        (λ (last : ℕ). RawCases (groundOf a) (a .known .n) (cellsOf after) (g .cs) (a .known .S) used first last)
+        (λ (last : ℕ). RawDefault (groundOf a) (a .known .n) (cellsOf after) (λ (x2 y2 : ℕ). RawList (groundOf a) (a .known .n) (cellsOf after) (g .o) (a .known .S) (used + forsInCases (g .cs)) x2 y2) last (g .to))) r
 
-    module _ (s : ℕ) (es : s ≡ opAt (wordsOf now) c) where
+    module _ (s : ℕ) (es : s ≡ opAt (cellsOf now) c) where
       sort-is : sortIn (a .known .W) c ≡ s
       sort-is = sym (es ∙ x .here .unread .loaded .words c (omega arith) (omega (arith, ending)) .sort)
 
@@ -157,7 +157,7 @@ module _ (text code values : List ℕ) (k : Setting) (used first : ℕ) (now val
         finished after values″ r dd = by-answer r (answer-as (x .same) _ _ _ _ _ _ _ _ r (dd .is (defaults-as (x .same) defaults)))
           where
             by-answer : (q : Walked) → Answer (listFaults (a .known .W) (a .K) (a .M) (g .o) (a .known .S) n) now after values values″ c (g .to) (n + forsInList (g .o))
-                (RawDefault (groundOf a) (a .known .n) (wordsOf after) (λ (x2 y2 : ℕ). RawList (groundOf a) (a .known .n) (wordsOf after) (g .o) (a .known .S) n x2 y2) c (g .to)) q → ForCases after values″ q
+                (RawDefault (groundOf a) (a .known .n) (cellsOf after) (λ (x2 y2 : ℕ). RawList (groundOf a) (a .known .n) (cellsOf after) (g .o) (a .known .S) n x2 y2) c (g .to)) q → ForCases after values″ q
             by-answer (Upto next u) y =
                 let d = y .tells in
                 done-answer _ _ _ _ _ _ _ _ _ _ _
@@ -168,9 +168,9 @@ module _ (text code values : List ℕ) (k : Setting) (used first : ℕ) (now val
                   few = d .few;
                   written = record {
                     last = g .last;
-                    cases-are = x .on (wordsOf after) (d .outside) (nothing-more (wordsOf after));
-                    default-is = subst (λ (v : ℕ). RawDefault (groundOf a) (a .known .n) (wordsOf after) (λ (x2 y2 : ℕ). RawList (groundOf a) (a .known .n) (wordsOf after) (g .o) (a .known .S) (used + forsInCases (g .cs)) x2 y2) v (g .to)) (sym (none-left .1))
-                        (subst (λ (v : ℕ). RawDefault (groundOf a) (a .known .n) (wordsOf after) (λ (x2 y2 : ℕ). RawList (groundOf a) (a .known .n) (wordsOf after) (g .o) (a .known .S) v x2 y2) c (g .to)) counted (d .written));
+                    cases-are = x .on (cellsOf after) (d .outside) (nothing-more (cellsOf after));
+                    default-is = subst (λ (v : ℕ). RawDefault (groundOf a) (a .known .n) (cellsOf after) (λ (x2 y2 : ℕ). RawList (groundOf a) (a .known .n) (cellsOf after) (g .o) (a .known .S) (used + forsInCases (g .cs)) x2 y2) v (g .to)) (sym (none-left .1))
+                        (subst (λ (v : ℕ). RawDefault (groundOf a) (a .known .n) (cellsOf after) (λ (x2 y2 : ℕ). RawList (groundOf a) (a .known .n) (cellsOf after) (g .o) (a .known .S) v x2 y2) c (g .to)) counted (d .written));
                   };
                   outside = outside-on (outside-wider first (g .to) (x .outside) (omega arith) (omega (arith, ending))) (outside-wider first (g .to) (d .outside) (x .order) (omega arith));
                   same = d .same;
@@ -245,7 +245,7 @@ module _ (text code values : List ℕ) (k : Setting) (used first : ℕ) (now val
             first-before (first-before q j1 rest-in (omega arith)) j2 else-in (omega arith)
 
         module _ (one : List ℕ) (j : Judged) (cv : CaseValued now values′ one c j) where
-          va : answered.Answer value-faults now one c (f .n) (CaseChain (a .known .W) (a .known .S) (a .M) (wordsOf one) (f .cs) (f .n) c) j
+          va : answered.Answer value-faults now one c (f .n) (CaseChain (a .known .W) (a .known .S) (a .M) (cellsOf one) (f .cs) (f .n) c) j
           unfolding values-at value-faults
           va = cv .is values-at
 
@@ -256,7 +256,7 @@ module _ (text code values : List ℕ) (k : Setting) (used first : ℕ) (now val
               (subst (First (record { number = number; at = word })) (sym whole) (behind-list _ (first-before (faulty-found j va number word q) value-in list-in (omega arith)))) (va .long ∙ x .long)
 
           module _ (bool : ℕ) (colon : ℕ) (q : j ≡ judged.Typed bool colon) where
-            v : answered.Fine value-faults now one c (f .n) colon (CaseChain (a .known .W) (a .known .S) (a .M) (wordsOf one) (f .cs) (f .n) c)
+            v : answered.Fine value-faults now one c (f .n) colon (CaseChain (a .known .W) (a .known .S) (a .M) (cellsOf one) (f .cs) (f .n) c)
             v = typed-fine j va bool colon q
 
             lists : Lists text one values k n (f .n + 1)
@@ -278,7 +278,7 @@ module _ (text code values : List ℕ) (k : Setting) (used first : ℕ) (now val
             case-colon = (omega (arith, v .next-is, orders), omega (arith, v .next-is, orders, ending))
 
             module _ (two values″ : List ℕ) (r : Walked) (l : Listed text one values′ two values″ k n (colon + 1) r) where
-              inner : Answer list-faults one two values values″ (f .n + 1) (f .m) (n + forsInList (f .b)) (RawList (groundOf a) (a .known .n) (wordsOf two) (f .b) (a .known .S) n (f .n + 1) (f .m)) r
+              inner : Answer list-faults one two values values″ (f .n + 1) (f .m) (n + forsInList (f .b)) (RawList (groundOf a) (a .known .n) (cellsOf two) (f .b) (a .known .S) n (f .n + 1) (f .m)) r
               unfolding lists groundOf list-faults
               inner = answer-as (x .same) _ _ _ _ _ _ _ _ r (subst (λ (w : ℕ). Listed text one values′ two values″ k n (w + 1) r) (v .next-is) l .is (lists-as (x .same) lists))
 
@@ -288,27 +288,27 @@ module _ (text code values : List ℕ) (k : Setting) (used first : ℕ) (now val
                   faulty-answer _ _ _ _ _ _ _ _ _ r number word e (subst (First (record { number = number; at = word })) (sym whole) (behind-list _ (first-after (v .none) (faulty-first r inner number word e)))) (inner .long ∙ va .long ∙ x .long)
 
               module _ (e : ℕ) (u : Scope) (q2 : r ≡ Upto e u) where
-                done : Done list-faults one two values values″ (f .n + 1) (f .m) (n + forsInList (f .b)) e (u .used) (RawList (groundOf a) (a .known .n) (wordsOf two) (f .b) (a .known .S) n (f .n + 1) (f .m))
+                done : Done list-faults one two values values″ (f .n + 1) (f .m) (n + forsInList (f .b)) e (u .used) (RawList (groundOf a) (a .known .n) (cellsOf two) (f .b) (a .known .S) n (f .n + 1) (f .m))
                 done = upto-done r inner e u q2
 
                 pub case-closes : (c < e) × (e < 8191) × ((c + 1) * 8 + 8 ≤ length two)
                 case-closes = (omega (arith, done .next-is, orders), omega (arith, done .next-is, orders, ending), omega (arith, inner .long, va .long, orders, ending, x .here .unread .loaded .room))
 
                 module _ (three : List ℕ) (lk : Linked two three (c + 1) aPass 0 e) where
-                  at-next : Outside (wordsOf two) (wordsOf three) (c + 1) (c + 1 + 1)
+                  at-next : Outside (cellsOf two) (cellsOf three) (c + 1) (c + 1 + 1)
                   at-next = linked-outside lk
 
                   long-three : length three ≡ length code
                   long-three = lk .kept .long ∙ inner .long ∙ va .long ∙ x .long
 
-                  to-three : (p q3 : ℕ) → c + 2 ≤ p → q3 ≤ f .n → SameWords (wordsOf one) (wordsOf three) p q3
+                  to-three : (p q3 : ℕ) → c + 2 ≤ p → q3 ≤ f .n → SameWords (cellsOf one) (cellsOf three) p q3
                   to-three p q3 l1 l2 = same-on (same-before p q3 (done .outside) (omega arith)) (same-behind p q3 at-next (omega arith))
 
-                  first-three : SameWords (wordsOf one) (wordsOf three) c (c + 1)
+                  first-three : SameWords (cellsOf one) (cellsOf three) c (c + 1)
                   first-three = same-on (same-before c (c + 1) (done .outside) (omega (arith, orders))) (same-before c (c + 1) at-next (omega arith))
 
-                  chained : CaseChain (a .known .W) (a .known .S) (a .M) (wordsOf three) (f .cs) (f .n) c
-                  chained = case-chain-same (a .known .W) (a .known .S) (a .M) (wordsOf one) (wordsOf three) (f .n) (c + 2) (to-three (c + 2) (f .n) (omega arith) (omega arith)) (f .cs) c first-three (omega arith) (v .written)
+                  chained : CaseChain (a .known .W) (a .known .S) (a .M) (cellsOf three) (f .cs) (f .n) c
+                  chained = case-chain-same (a .known .W) (a .known .S) (a .M) (cellsOf one) (cellsOf three) (f .n) (c + 2) (to-three (c + 2) (f .n) (omega arith) (omega arith)) (f .cs) c first-three (omega arith) (v .written)
 
                   pub case-links : Chained three colon c × (e < wordLimit)
                   case-links = (
@@ -329,12 +329,12 @@ module _ (text code values : List ℕ) (k : Setting) (used first : ℕ) (now val
                     y : ValuesLinked three four (f .n) (f .m) c
                     y = subst (λ (w : ℕ). ValuesLinked three four w (f .m) c) (v .next-is) (subst (λ (w : ℕ). ValuesLinked three four colon w c) (done .next-is) vl)
 
-                    written : Outside (wordsOf now) (wordsOf four) c (f .m)
+                    written : Outside (cellsOf now) (cellsOf four) c (f .m)
                     written =
                         outside-on (outside-on (outside-on (outside-wider c (f .m) (kept-outside (v .kept)) (omega arith) (omega (arith, orders))) (outside-wider c (f .m) (done .outside) (omega (arith, orders)) (omega arith)))
                         (outside-wider c (f .m) at-next (omega arith) (omega (arith, orders)))) (outside-wider c (f .m) (y .outside) (omega arith) (omega (arith, orders)))
 
-                    raw : RawConstants (groundOf a) (a .known .n) (wordsOf four) (a .known .S) (f .cs) (f .n + 1) (f .m) c
+                    raw : RawConstants (groundOf a) (a .known .n) (cellsOf four) (a .known .S) (f .cs) (f .n + 1) (f .m) c
                     unfolding groundOf
                     raw = y .values (groundOf a) (a .known .n) (a .known .S) (f .cs) chained
 
@@ -361,12 +361,12 @@ module _ (text code values : List ℕ) (k : Setting) (used first : ℕ) (now val
                           (record {
                             first = f .n + 1;
                             next = f .m;
-                            op = op-same sc c (omega arith) (omega (arith, orders)) _ (y .op ∙ case-chain-op (a .known .W) (a .known .S) (a .M) (wordsOf three) (f .cs) (f .n) c chained);
+                            op = op-same sc c (omega arith) (omega (arith, orders)) _ (y .op ∙ case-chain-op (a .known .W) (a .known .S) (a .M) (cellsOf three) (f .cs) (f .n) c chained);
                             place = place-same sc c (omega arith) (omega (arith, orders)) _ (y .place);
-                            values = constants-same (groundOf a) (a .known .n) (wordsOf four) C c (f .m) sc (a .known .S) (f .n + 1) (f .m) (omega (arith, orders)) (f .cs) c (omega arith) (omega (arith, orders)) raw;
+                            values = constants-same (groundOf a) (a .known .n) (cellsOf four) C c (f .m) sc (a .known .S) (f .n + 1) (f .m) (omega (arith, orders)) (f .cs) c (omega arith) (omega (arith, orders)) raw;
                             behind = subst (RawWord C aPass (c + 1)) (done .next-is) (word-same sc (c + 1) (omega arith) (omega (arith, orders)) _ e (word-same (y .behind) (c + 1) (omega arith) (omega arith) _ e (linked-word lk)));
                             before = omega (arith, orders);
-                            list = list-same (groundOf a) (a .known .n) (wordsOf two) C (f .b) (a .known .S) n (f .n + 1) (f .m)
+                            list = list-same (groundOf a) (a .known .n) (cellsOf two) C (f .b) (a .known .S) n (f .n + 1) (f .m)
                                 (same-on (same-on (same-behind (f .n + 1) (f .m) at-next (omega (arith, orders))) (same-behind (f .n + 1) (f .m) (y .outside) (omega arith))) (same-before (f .n + 1) (f .m) o (omega arith))) (done .written);
                             rest = others;
                           }));
@@ -376,7 +376,7 @@ module _ (text code values : List ℕ) (k : Setting) (used first : ℕ) (now val
                     goes-on = subst (λ (w : ℕ). Casing g four values″ e w) (sym (done .used-is)) (subst (λ (w : ℕ). Casing g four values″ w (n + forsInList (f .b))) (sym (done .next-is)) goes)
 
   -- ---- for whatever the statement is
-  module _ (s : ℕ) (es : s ≡ opAt (wordsOf now) c) where
+  module _ (s : ℕ) (es : s ≡ opAt (cellsOf now) c) where
     pub cases-finished : (s ≡ CASE → ⊥) → (after values″ : List ℕ) (r : Walked) → Defaulted text now values′ after values″ k n c r → Chosen text code values after values″ k used first r
     cases-finished f after values″ r dd = record { is = λ g. finished g s es f after values″ r dd }
 

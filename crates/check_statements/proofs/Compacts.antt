@@ -6,7 +6,7 @@ use mathlib.Core.List.{List}
 use Prim.Native.Nat.{ℕ, _+_, _-_, _*_, _<_, _≤_}
 use native.Mathlib.Omega.{arith}
 use lib.ListN.{length}
-use Rattle.store_cells.specs.Words.{wordsOf}
+use Rattle.store_cells.specs.Cells.{cellsOf}
 use Rattle.paper.specs.Sorts.{semicolon}
 use Rattle.paper.specs.Trees.{Simple, Statement, compactIf}
 use Rattle.paper.specs.Names.{sortIn}
@@ -55,7 +55,7 @@ module _ (text code values : List ℕ) (a : Around text values) (k : Setting) (u
   }
 
   pub simple-answers : (one : List ℕ) (j : Judged) → simples.Stated text code values one k t j
-      → answered.Answer (simpleFaults (a .known .W) (a .K) (a .known .S) s) code one t (n + 1) (RawSimple (groundOf a) (a .known .n) (wordsOf one) (a .known .S) s t (n + 1)) j
+      → answered.Answer (simpleFaults (a .known .W) (a .K) (a .known .S) s) code one t (n + 1) (RawSimple (groundOf a) (a .known .n) (cellsOf one) (a .known .S) s t (n + 1)) j
   unfolding simple-stands
   simple-answers one j x = x .is simple-stands
 
@@ -75,10 +75,10 @@ module _ (text code values : List ℕ) (k : Setting) (used i : ℕ) (g : Plain t
 
   abbrev ForStatement : (after : List ℕ) → Walked → Statement → Type 0
   ForStatement after r t =
-      Answer (statementFaults (a .known .W) (a .K) (a .M) t (a .known .S) used) code after values values i (s .to) (used + forsIn t) (RawStatement (groundOf a) (a .known .n) (wordsOf after) t (a .known .S) used i (s .to)) r
+      Answer (statementFaults (a .known .W) (a .K) (a .M) t (a .known .S) used) code after values values i (s .to) (used + forsIn t) (RawStatement (groundOf a) (a .known .n) (cellsOf after) t (a .known .S) used i (s .to)) r
 
   module _ (one : List ℕ) (j : Judged) (x : simples.Stated text code values one k i j) where
-    answers : answered.Answer (simpleFaults (a .known .W) (a .K) (a .known .S) (w .simply)) code one i (w .n + 1) (RawSimple (groundOf a) (a .known .n) (wordsOf one) (a .known .S) (w .simply) i (w .n + 1)) j
+    answers : answered.Answer (simpleFaults (a .known .W) (a .K) (a .known .S) (w .simply)) code one i (w .n + 1) (RawSimple (groundOf a) (a .known .n) (cellsOf one) (a .known .S) (w .simply) i (w .n + 1)) j
     answers = simple-answers text code values a k used i (s .to) (s .here) (w .simply) (w .n) (w .stands) (w .ends) (omega (arith, w .after)) one j x
 
     wrong : (number word : ℕ) → j ≡ judged.Faulty number word → StatementAnswer (g .stands) one values (Faulty number word)
@@ -96,7 +96,7 @@ module _ (text code values : List ℕ) (k : Setting) (used i : ℕ) (g : Plain t
           next-is = f .next-is ∙ sym (w .after);
           used-is = omega arith;
           few = s .here .few;
-          written = subst (RawSimple (groundOf a) (a .known .n) (wordsOf one) (a .known .S) (w .simply) i) (sym (w .after)) (f .written);
+          written = subst (RawSimple (groundOf a) (a .known .n) (cellsOf one) (a .known .S) (w .simply) i) (sym (w .after)) (f .written);
           outside = outside-wider i (s .to) (kept-outside (f .kept)) (omega arith) (omega (arith, w .after));
           same = same-values values;
         })
@@ -124,27 +124,27 @@ module _ (text code values : List ℕ) (k : Setting) (used i t : ℕ) (g : Compa
       bound = (forward text code values b k used t (g .to) (g .here) (g .s) (g .n) (g .is) (g .ends) (omega (arith, g .after)), omega (arith, g .after), g .here .unread .loaded .room)
 
   module _ (one : List ℕ) (j : Judged) (x : simples.Stated text code values one k t j) where
-    found : answered.Answer (simpleFaults (b .known .W) (b .K) (b .known .S) (g .s)) code one t (g .n + 1) (RawSimple (groundOf b) (b .known .n) (wordsOf one) (b .known .S) (g .s) t (g .n + 1)) j
+    found : answered.Answer (simpleFaults (b .known .W) (b .K) (b .known .S) (g .s)) code one t (g .n + 1) (RawSimple (groundOf b) (b .known .n) (cellsOf one) (b .known .S) (g .s) t (g .n + 1)) j
     found = simple-answers text code values b k used t (g .to) (g .here) (g .s) (g .n) (g .is) (g .ends) (omega (arith, g .after)) one j x
 
     compact-no : (number word : ℕ) → j ≡ judged.Faulty number word → Answer (simpleFaults (b .known .W) (b .K) (b .known .S) (g .s)) code one values values i (g .to) used
-        (RawStatement (groundOf b) (b .known .n) (wordsOf one) (compactIf i (g .e) (g .s)) (b .known .S) used i (g .to)) (Faulty number word)
+        (RawStatement (groundOf b) (b .known .n) (cellsOf one) (compactIf i (g .e) (g .s)) (b .known .S) used i (g .to)) (Faulty number word)
     compact-no number word q = first-answer _ _ _ _ _ _ _ _ number word _ (faulty-found j found number word q) (found .long)
 
     module _ (bool : ℕ) (next : ℕ) (q : j ≡ judged.Typed bool next) where
-      f : answered.Fine (simpleFaults (b .known .W) (b .K) (b .known .S) (g .s)) code one t (g .n + 1) next (RawSimple (groundOf b) (b .known .n) (wordsOf one) (b .known .S) (g .s) t (g .n + 1))
+      f : answered.Fine (simpleFaults (b .known .W) (b .K) (b .known .S) (g .s)) code one t (g .n + 1) next (RawSimple (groundOf b) (b .known .n) (cellsOf one) (b .known .S) (g .s) t (g .n + 1))
       f = typed-fine j found bool next q
 
       pub compact-next : (next ≤ wordLimit) × (length one ≡ length code)
       compact-next = (omega (arith, f .next-is, g .after, g .here .unread .loaded .last), found .long)
 
       compact-yes : (two : List ℕ) → Linked one two i aCompactIf t next → (scope : Scope) → Answer (simpleFaults (b .known .W) (b .K) (b .known .S) (g .s)) code two values values i (g .to) used
-          (RawStatement (groundOf b) (b .known .n) (wordsOf two) (compactIf i (g .e) (g .s)) (b .known .S) used i (g .to)) (Upto next (withUsed used scope))
+          (RawStatement (groundOf b) (b .known .n) (cellsOf two) (compactIf i (g .e) (g .s)) (b .known .S) used i (g .to)) (Upto next (withUsed used scope))
       unfolding RawStatement groundOf offsetIn
       compact-yes two l scope =
           let o = linked-outside l in
           let v = l .value-is in
-          let r : RawSimple (groundOf b) (b .known .n) (wordsOf one) (b .known .S) (g .s) t (g .to) = subst (RawSimple (groundOf b) (b .known .n) (wordsOf one) (b .known .S) (g .s) t) (sym (g .after)) (f .written) in
+          let r : RawSimple (groundOf b) (b .known .n) (cellsOf one) (b .known .S) (g .s) t (g .to) = subst (RawSimple (groundOf b) (b .known .n) (cellsOf one) (b .known .S) (g .s) t) (sym (g .after)) (f .written) in
           done-answer _ _ _ _ _ _ _ _ _ _ _
           (record {
             none = f .none;
@@ -152,12 +152,12 @@ module _ (text code values : List ℕ) (k : Setting) (used i t : ℕ) (g : Compa
             used-is = refl;
             few = g .here .few;
             written = record {
-              head = record { first = refl; place = l .kept .places i ∙ f .kept .places i ∙ g .place; word = subst (RawWord (wordsOf two) aCompactIf i) (f .next-is ∙ sym (g .after)) (linked-word l) };
-              term = subst (RawTerm (groundOf b) (b .known .n) (wordsOf two) (b .known .S) (g .e) (i + 1)) (sym v)
-                  (term-same (groundOf b) (b .known .n) (wordsOf code) (wordsOf two) (b .known .S) (g .e) (i + 1) t
+              head = record { first = refl; place = l .kept .places i ∙ f .kept .places i ∙ g .place; word = subst (RawWord (cellsOf two) aCompactIf i) (f .next-is ∙ sym (g .after)) (linked-word l) };
+              term = subst (RawTerm (groundOf b) (b .known .n) (cellsOf two) (b .known .S) (g .e) (i + 1)) (sym v)
+                  (term-same (groundOf b) (b .known .n) (cellsOf code) (cellsOf two) (b .known .S) (g .e) (i + 1) t
                   (same-on (same-before (i + 1) t (kept-outside (f .kept)) (omega arith)) (same-behind (i + 1) t o (omega arith))) (g .term));
-              does = subst (λ (x : ℕ). RawSimple (groundOf b) (b .known .n) (wordsOf two) (b .known .S) (g .s) x (g .to)) (sym v)
-                  (simple-frame (groundOf b) (b .known .n) (b .known .n) (omega arith) (wordsOf one) (wordsOf two) (b .known .S) (g .s) t (g .to) (same-behind t (g .to) o (omega (arith, g .before))) r);
+              does = subst (λ (x : ℕ). RawSimple (groundOf b) (b .known .n) (cellsOf two) (b .known .S) (g .s) x (g .to)) (sym v)
+                  (simple-frame (groundOf b) (b .known .n) (b .known .n) (omega arith) (cellsOf one) (cellsOf two) (b .known .S) (g .s) t (g .to) (same-behind t (g .to) o (omega (arith, g .before))) r);
             };
             outside = outside-on (outside-wider i (g .to) (kept-outside (f .kept)) (omega (arith, g .before)) (omega (arith, g .after)))
                 (outside-wider i (g .to) o (omega arith) (omega (arith, g .before, g .after, r .forward)));

@@ -7,7 +7,7 @@ use mathlib.Core.List.{List}
 use Prim.Native.Nat.{ℕ, _+_, _-_, _*_, _<_, _≤_}
 use native.Mathlib.Omega.{arith}
 use lib.ListN.{length}
-use Rattle.store_cells.specs.Words.{wordsOf}
+use Rattle.store_cells.specs.Cells.{cellsOf}
 use Rattle.paper.specs.Sorts.{DEFAULT}
 use Rattle.paper.specs.Trees.{Statements}
 use Rattle.paper.specs.Names.{sortIn}
@@ -37,13 +37,13 @@ use Rattle.code.specs.Steps.{aPass, anOtherwise}
 
 -- a word that is written with its place
 module _ {before after : List ℕ} {i op : ℕ} (place link : ℕ) (r : Rewritten before after i op (tailWith place link)) (room : i * 8 + 8 ≤ length before) where
-  pub rewritten-op : op < 256 → opAt (wordsOf after) i ≡ op
+  pub rewritten-op : op < 256 → opAt (cellsOf after) i ≡ op
   rewritten-op h = ap opIn (rewritten-head r room) ∙ omega arith
 
-  pub rewritten-place : place < linkPart → placeAt (wordsOf after) i ≡ place
+  pub rewritten-place : place < linkPart → placeAt (cellsOf after) i ≡ place
   rewritten-place h = ap placeIn (rewritten-tail r room) ∙ omega arith
 
-  pub rewritten-link : place < linkPart → linkAt (wordsOf after) i ≡ link
+  pub rewritten-link : place < linkPart → linkAt (cellsOf after) i ≡ link
   rewritten-link h = ap linkIn (rewritten-tail r room) ∙ omega arith
 
 module _ (text code values : List ℕ) (k : Setting) (used c : ℕ) (g : Defaults text code values k used c) where
@@ -62,9 +62,9 @@ module _ (text code values : List ℕ) (k : Setting) (used c : ℕ) (g : Default
   abbrev ForDefault : (after values′ : List ℕ) → Walked → Type 0
   ForDefault after values′ r =
       Answer (listFaults (a .known .W) (a .K) (a .M) (g .o) (a .known .S) used) code after values values′ c (g .to) (used + forsInList (g .o))
-      (RawDefault (groundOf a) (a .known .n) (wordsOf after) (λ (x y : ℕ). RawList (groundOf a) (a .known .n) (wordsOf after) (g .o) (a .known .S) used x y) c (g .to)) r
+      (RawDefault (groundOf a) (a .known .n) (cellsOf after) (λ (x y : ℕ). RawList (groundOf a) (a .known .n) (cellsOf after) (g .o) (a .known .S) used x y) c (g .to)) r
 
-  module _ (s : ℕ) (es : s ≡ opAt (wordsOf code) c) where
+  module _ (s : ℕ) (es : s ≡ opAt (cellsOf code) c) where
     sort-is : sortIn (a .known .W) c ≡ s
     sort-is = sym (es ∙ g .here .unread .loaded .words c (omega arith) (omega (arith, order, g .after)) .sort)
 
@@ -88,7 +88,7 @@ module _ (text code values : List ℕ) (k : Setting) (used c : ℕ) (g : Default
             word = record { is = rewritten-op (c + 1) (c + 1) l (default-room .1) (omega arith); leaves = rewritten-link (c + 1) (c + 1) l (default-room .1) small };
             place = rewritten-place (c + 1) (c + 1) l (default-room .1) small;
             before = omega arith;
-            list = subst (λ (o : Statements). RawList (groundOf a) (a .known .n) (wordsOf one) o (a .known .S) used (c + 1) (c + 1)) (sym (q .0)) refl;
+            list = subst (λ (o : Statements). RawList (groundOf a) (a .known .n) (cellsOf one) o (a .known .S) used (c + 1) (c + 1)) (sym (q .0)) refl;
             ends = at-once to-is;
           };
           outside = outside-wider c (g .to) (rewritten-outside l (default-room .1)) (omega arith) (omega (arith, to-is));
@@ -138,12 +138,12 @@ module _ (text code values : List ℕ) (k : Setting) (used c : ℕ) (g : Default
                 place = place-same sp c (omega arith) (omega arith) _ (rewritten-place (c + 2) z x (default-closes .2) small);
                 before = omega arith;
                 list = behind-list behind one values′ r l z n q two three o p (omega arith);
-                ends = closed (subst (RawWord (wordsOf three) aPass z) (closes .2) (linked-word y)) (sym (closes .2));
+                ends = closed (subst (RawWord (cellsOf three) aPass z) (closes .2) (linked-word y)) (sym (closes .2));
               })
               (y .kept .long ∙ rewritten-length x (default-closes .2) ∙ closes .3)
 
 -- ---- for whatever it is
-module _ (text code values : List ℕ) (k : Setting) (used c s : ℕ) (es : s ≡ opAt (wordsOf code) c) where
+module _ (text code values : List ℕ) (k : Setting) (used c s : ℕ) (es : s ≡ opAt (cellsOf code) c) where
   pub default-no : (s ≡ DEFAULT → ⊥) → (one : List ℕ) → Rewritten code one c anOtherwise (tailWith (c + 1) (c + 1)) → (scope : Scope) → scope .used ≡ used
       → Defaulted text code values one values k used c (Upto (c + 1) scope)
   default-no f one l scope u = as-scope (Defaulted text code values one values k used c) (c + 1) scope u (record { is = λ g. no text code values k used c g s es f one l scope })

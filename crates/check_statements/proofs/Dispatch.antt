@@ -6,7 +6,7 @@ use Prim.Native.Nat.{ℕ, _+_, _*_, _<_, _≤_}
 use native.Mathlib.Omega.{arith}
 use lib.ListN.{length}
 use borrow.Author.Tests.{ne-eqb}
-use Rattle.store_cells.specs.Words.{wordsOf}
+use Rattle.store_cells.specs.Cells.{cellsOf}
 use Rattle.paper.specs.Sorts.{NAME, RETURN, RAISE, EXIT, RETRY, TRYNEXT, TPWRITE, TPREADNUM, IF, FOR, WHILE, TEST}
 use Rattle.paper.specs.Expressions.{startsSimple, startsStatement}
 use Rattle.paper.specs.Names.{sortIn}
@@ -29,7 +29,7 @@ module _ (text code values : List ℕ) (k : Setting) (used i : ℕ) where
   pub stands-early : Stands text code values k used i → i < 8191
   stands-early g = omega (arith, forward g, g .here .unread .loaded .last)
 
-  module _ (s : ℕ) (es : s ≡ opAt (wordsOf code) i) where
+  module _ (s : ℕ) (es : s ≡ opAt (cellsOf code) i) where
     sort-is : (g : Stands text code values k used i) → sortIn (g .around .known .W) i ≡ s
     sort-is g = sym (es ∙ g .here .unread .loaded .words i (omega arith) (omega (arith, forward g)) .sort)
 

@@ -6,7 +6,7 @@ use mathlib.Core.List.{List}
 use Prim.Native.Nat.{ℕ, _+_, _-_, _<_, _≤_}
 use native.Mathlib.Omega.{arith}
 use lib.ListN.{length}
-use Rattle.store_cells.specs.Words.{wordsOf}
+use Rattle.store_cells.specs.Cells.{cellsOf}
 use Rattle.paper.specs.Sorts.{ELSE}
 use Rattle.paper.specs.Trees.{Statements}
 use Rattle.paper.specs.Names.{sortIn}
@@ -49,9 +49,9 @@ module _ (text code values : List ℕ) (k : Setting) (used c : ℕ) (g : Elses t
   ForElse after values′ r =
       Answer (listFaults (a .known .W) (a .K) (a .M) (g .o) (a .known .S) used) code after values values′ c (g .to) (used + forsInList (g .o))
       (ElseWritten (sortIn (a .known .W))
-      (λ (first : ℕ). RawElse (groundOf a) (a .known .n) (wordsOf after) (λ (x y : ℕ). RawList (groundOf a) (a .known .n) (wordsOf after) (g .o) (a .known .S) used x y) c first (g .to)) c) r
+      (λ (first : ℕ). RawElse (groundOf a) (a .known .n) (cellsOf after) (λ (x y : ℕ). RawList (groundOf a) (a .known .n) (cellsOf after) (g .o) (a .known .S) used x y) c first (g .to)) c) r
 
-  module _ (s : ℕ) (es : s ≡ opAt (wordsOf code) c) where
+  module _ (s : ℕ) (es : s ≡ opAt (cellsOf code) c) where
     sort-is : sortIn (a .known .W) c ≡ s
     sort-is = sym (es ∙ g .here .unread .loaded .words c (omega arith) (omega (arith, order, g .after)) .sort)
 
@@ -75,8 +75,8 @@ module _ (text code values : List ℕ) (k : Setting) (used c : ℕ) (g : Elses t
             is = record {
               z = c;
               begins = no-else refl refl;
-              list = subst (λ (o : Statements). RawList (groundOf a) (a .known .n) (wordsOf one) o (a .known .S) used c c) (sym (q .0)) refl;
-              word = subst (RawWord (wordsOf one) aPass c) to-is (linked-word l);
+              list = subst (λ (o : Statements). RawList (groundOf a) (a .known .n) (cellsOf one) o (a .known .S) used c c) (sym (q .0)) refl;
+              word = subst (RawWord (cellsOf one) aPass c) to-is (linked-word l);
               end = sym to-is;
             };
           };
@@ -125,14 +125,14 @@ module _ (text code values : List ℕ) (k : Setting) (used c : ℕ) (g : Elses t
                   z = z;
                   begins = an-else (word-same (same-before c (c + 1) p (omega (arith, closes))) c (omega arith) (omega arith) _ z (linked-word x)) refl;
                   list = behind-list behind one values′ r l z n q two three (linked-outside x) p (omega arith);
-                  word = subst (RawWord (wordsOf three) aPass z) (closes .2) (linked-word y);
+                  word = subst (RawWord (cellsOf three) aPass z) (closes .2) (linked-word y);
                   end = sym (closes .2);
                 };
               })
               (y .kept .long ∙ x .kept .long ∙ closes .3)
 
 -- ---- for whatever it is
-module _ (text code values : List ℕ) (k : Setting) (used c s : ℕ) (es : s ≡ opAt (wordsOf code) c) where
+module _ (text code values : List ℕ) (k : Setting) (used c s : ℕ) (es : s ≡ opAt (cellsOf code) c) where
   pub else-no : (s ≡ ELSE → ⊥) → (one : List ℕ) → Linked code one c aPass 0 (c + 1) → (scope : Scope) → scope .used ≡ used → Elsed text code values one values k used c (Upto (c + 1) scope)
   else-no f one l scope u = as-scope (Elsed text code values one values k used c) (c + 1) scope u (record { is = λ g. no text code values k used c g s es f one l scope })
 

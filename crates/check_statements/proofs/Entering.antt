@@ -10,7 +10,7 @@ use lib.ListN.{length, getD, set}
 use mir.Syntax.{w32}
 use mir.Val.{toZ}
 use Rattle.laws.proofs.Tests.{test, apart, false-true}
-use Rattle.store_cells.specs.Words.{wordsOf}
+use Rattle.store_cells.specs.Cells.{cellsOf}
 use Rattle.store_cells.proofs.Kept.{put-length, put-other}
 use Rattle.paper.specs.Sorts.{equalTexts}
 use Rattle.paper.specs.Terms.{Ref, ofModule, ofRoutine}
@@ -53,11 +53,11 @@ pub loop-plain : (m used : ℕ) → m ≡ cellWith aLoop 0 1 used → protectsCe
 loop-plain m used e = let o : opIn m ≡ 17 = omega arith in rw o
 
 module _ {text values : List ℕ} (a : Around text values) (one two values′ : List ℕ) (used i m : ℕ) (em : m ≡ cellWith aLoop 0 1 used) (name : IsName (a .known .W) i) (free : isProtected (spelled (a .known .W) i) ≡ false)
-    (number : numberAt (wordsOf one) i ≡ numberOf (a .known .W) i) (room : i * 8 + 8 ≤ length one) (dec : Declared one values i m two values′) where
+    (number : numberAt (cellsOf one) i ≡ numberOf (a .known .W) i) (room : i * 8 + 8 ≤ length one) (dec : Declared one values i m two values′) where
   pub hides : Hides (a .known .S) (enter (spelled (a .known .W) i) (ofRoutine used) (a .known .S)) (spelled (a .known .W) i) (loop (ofRoutine used))
   hides = enter-hides (a .known .S) (spelled (a .known .W) i) (ofRoutine used) free
 
-  low : numberAt (wordsOf one) i < numberLimit
+  low : numberAt (cellsOf one) i < numberLimit
   low = omega arith
 
   pub longer : length values′ ≡ length values
@@ -98,12 +98,12 @@ module _ {text values : List ℕ} (a : Around text values) (one two values′ : 
   }
 
   -- ---- constants are worth what they were: their words lie before the table
-  data-cell : (x y : ℕ) (r : Ref) → InRoom x y r 1 → x ≤ moduleWordLimit → y ≤ 64 → getD (wordsOf values′) (cellOf r) 0 ≡ getD (wordsOf values) (cellOf r) 0
+  data-cell : (x y : ℕ) (r : Ref) → InRoom x y r 1 → x ≤ moduleWordLimit → y ≤ 64 → getD (cellsOf values′) (cellOf r) 0 ≡ getD (cellsOf values) (cellOf r) 0
   unfolding InRoom cellOf
   data-cell x y (ofModule c) h q r = put-other (dec .table) (omega (arith, low, a .known .table)) c (λ e. omega arith)
   data-cell x y (ofRoutine c) h q r = put-other (dec .table) (omega (arith, low, a .known .table)) (firstWindow + c) (λ e. omega arith)
 
-  fine-on : (x y : ℕ) (z : Meaning) → x ≤ moduleWordLimit → y ≤ 64 → Fine x y (wordsOf values) (a .M) z → Fine x y (wordsOf values′) (a .M) z
+  fine-on : (x y : ℕ) (z : Meaning) → x ≤ moduleWordLimit → y ≤ 64 → Fine x y (cellsOf values) (a .M) z → Fine x y (cellsOf values′) (a .M) z
   unfolding Fine
   fine-on x y z q r =
       holds (heldBy z) (λ w v e. record { room = v e .room; is = ap (toZ w32) (data-cell x y (w .first) (v e .room) q r) ∙ v e .is; ranged = v e .ranged }) (λ k g. g)
@@ -113,7 +113,7 @@ module _ {text values : List ℕ} (a : Around text values) (one two values′ : 
   loop-fine x y X e = false-true e
 
   -- ---- the words of the list
-  pub enters : (n : used < a .known .n) (code : List ℕ) (k : Setting) (at to x y : ℕ) {p q : ℕ} → Here a code k used at to → used < 64 → Outside (wordsOf code) (wordsOf two) p q → length two ≡ length code
+  pub enters : (n : used < a .known .n) (code : List ℕ) (k : Setting) (at to x y : ℕ) {p q : ℕ} → Here a code k used at to → used < 64 → Outside (cellsOf code) (cellsOf two) p q → length two ≡ length code
       → at ≤ p → q ≤ to + 1 → at ≤ x → q ≤ x → y ≤ to → Here (inner n) two k (used + 1) x y
   enters n code k at to x y h few o long l1 l2 l3 l4 l5 =
       let c = calls-behind a o long x y (h .calls) l1 l2 l3 l5 in
@@ -121,31 +121,31 @@ module _ {text values : List ℕ} (a : Around text values) (one two values′ : 
         tells = h .tells;
         few = omega arith;
         within = λ j q. by-text (Within (a .known .m) (used + 1)) (spelled (a .known .W) j) (loop-within used (a .known .m) (used + 1) (omega arith)) (within-more _ used (used + 1) _ (omega arith) (h .within j q));
-        fine = λ t. by-text (Fine (a .known .m) (used + 1) (wordsOf values′) (a .M)) t (loop-fine (a .known .m) (used + 1) (wordsOf values′))
-            (fine-more (a .known .m) used (used + 1) (wordsOf values′) (a .M) _ (omega arith) (fine-on (a .known .m) used _ (a .known .most) (omega arith) (h .fine t)));
+        fine = λ t. by-text (Fine (a .known .m) (used + 1) (cellsOf values′) (a .M)) t (loop-fine (a .known .m) (used + 1) (cellsOf values′))
+            (fine-more (a .known .m) used (used + 1) (cellsOf values′) (a .M) _ (omega arith) (fine-on (a .known .m) used _ (a .known .most) (omega arith) (h .fine t)));
         number = subst (λ (v : ℕ). v < 2147483648) (sym (put-other (dec .table) (omega (arith, low, a .known .table)) 1263 (λ e. omega arith))) (h .number);
         unread = unread-behind (a .known .W) code two o long x y (h .unread) l3 l4 l5;
         calls = record { heads = c .heads; room = c .room };
       }
 
   -- ---- the name is left
-  module _ (three values″ values‴ : List ℕ) (head : headAt (wordsOf three) i ≡ headAt (wordsOf two) i) (tail : tailAt (wordsOf three) i ≡ tailAt (wordsOf two) i) (same : SameValues values′ values″) where
-    link-is : linkAt (wordsOf three) i ≡ numberAt (wordsOf one) i
-    link-is = ap (λ (v : ℕ). v / linkPart) (tail ∙ rewritten-tail (dec .word) room) ∙ part (tailAt (wordsOf one) i) (numberAt (wordsOf one) i)
+  module _ (three values″ values‴ : List ℕ) (head : headAt (cellsOf three) i ≡ headAt (cellsOf two) i) (tail : tailAt (cellsOf three) i ≡ tailAt (cellsOf two) i) (same : SameValues values′ values″) where
+    link-is : linkAt (cellsOf three) i ≡ numberAt (cellsOf one) i
+    link-is = ap (λ (v : ℕ). v / linkPart) (tail ∙ rewritten-tail (dec .word) room) ∙ part (tailAt (cellsOf one) i) (numberAt (cellsOf one) i)
       where
         part : (t n : ℕ) → (t % linkPart + linkPart * n) / linkPart ≡ n
         part t n = omega arith
 
-    pub leaves-links : (linkAt (wordsOf three) i < numberLimit) × (storeBytes ≤ length values″)
+    pub leaves-links : (linkAt (cellsOf three) i < numberLimit) × (storeBytes ≤ length values″)
     leaves-links = (omega (arith, link-is), omega (arith, same .long, longer, a .known .table))
 
     pub leaves : Left three values″ i values‴ → SameValues values values‴
     leaves l =
-        let cell : headAt (wordsOf three) i ≡ getD (wordsOf values) (firstMeaning + numberAt (wordsOf one) i) 0 = head ∙ rewritten-head (dec .word) room in
+        let cell : headAt (cellsOf three) i ≡ getD (cellsOf values) (firstMeaning + numberAt (cellsOf one) i) 0 = head ∙ rewritten-head (dec .word) room in
         record {
-          words = l .words ∙ ap (λ (X : List ℕ). set X (firstMeaning + linkAt (wordsOf three) i) (headAt (wordsOf three) i)) (same .words ∙ dec .table .words)
-              ∙ ap (λ (v : ℕ). set (set (wordsOf values) (firstMeaning + numberAt (wordsOf one) i) m) (firstMeaning + v) (headAt (wordsOf three) i)) link-is
-              ∙ ap (set (set (wordsOf values) (firstMeaning + numberAt (wordsOf one) i) m) (firstMeaning + numberAt (wordsOf one) i)) cell
-              ∙ restored (wordsOf values) (firstMeaning + numberAt (wordsOf one) i) m;
+          words = l .words ∙ ap (λ (X : List ℕ). set X (firstMeaning + linkAt (cellsOf three) i) (headAt (cellsOf three) i)) (same .words ∙ dec .table .words)
+              ∙ ap (λ (v : ℕ). set (set (cellsOf values) (firstMeaning + numberAt (cellsOf one) i) m) (firstMeaning + v) (headAt (cellsOf three) i)) link-is
+              ∙ ap (set (set (cellsOf values) (firstMeaning + numberAt (cellsOf one) i) m) (firstMeaning + numberAt (cellsOf one) i)) cell
+              ∙ restored (cellsOf values) (firstMeaning + numberAt (cellsOf one) i) m;
           long = put-length l (omega (arith, link-is, low, same .long, longer, a .known .table)) ∙ same .long ∙ longer;
         }

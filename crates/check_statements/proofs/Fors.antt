@@ -8,7 +8,7 @@ use mathlib.Core.Option.{Option, none, some}
 use Prim.Native.Nat.{ℕ, suc, _+_, _-_, _*_, _/_, _%_, _<_, _≤_}
 use native.Mathlib.Omega.{arith}
 use lib.ListN.{length}
-use Rattle.store_cells.specs.Words.{wordsOf}
+use Rattle.store_cells.specs.Cells.{cellsOf}
 use Rattle.paper.specs.Sorts.{FOR}
 use Rattle.paper.specs.Terms.{ofRoutine}
 use Rattle.paper.specs.Trees.{Expr, Statement}
@@ -117,7 +117,7 @@ module _ (text code values : List ℕ) (k : Setting) (used i : ℕ) (g : Begins 
 
   abbrev ForStatement : (after values′ : List ℕ) → Walked → Statement → Type 0
   ForStatement after values′ r t =
-      Answer (statementFaults (a .known .W) (a .K) (a .M) t (a .known .S) used) code after values values′ i (s .to) (used + forsIn t) (RawStatement (groundOf a) (a .known .n) (wordsOf after) t (a .known .S) used i (s .to)) r
+      Answer (statementFaults (a .known .W) (a .K) (a .M) t (a .known .S) used) code after values values′ i (s .to) (used + forsIn t) (RawStatement (groundOf a) (a .known .n) (cellsOf after) t (a .known .S) used i (s .to)) r
 
   counted : used + suc (forsInList (w .body)) ≤ a .known .n
   unfolding forsIn
@@ -127,7 +127,7 @@ module _ (text code values : List ℕ) (k : Setting) (used i : ℕ) (g : Begins 
   room-for = omega (arith, counted)
 
   module _ (one : List ℕ) (j : Judged) (h : ForHeaded code values one used i j) where
-    ha : answered.Answer head-faults code one (i + 2) (w .doAt) (ForMay (groundOf a) (a .known .n) (wordsOf one) (a .known .S) used (w .a) (w .b) (w .c) i (w .doAt)) j
+    ha : answered.Answer head-faults code one (i + 2) (w .doAt) (ForMay (groundOf a) (a .known .n) (cellsOf one) (a .known .S) used (w .a) (w .b) (w .c) i (w .doAt)) j
     unfolding heads
     ha = h .is heads
 
@@ -138,10 +138,10 @@ module _ (text code values : List ℕ) (k : Setting) (used i : ℕ) (g : Begins 
         (first-answer _ _ _ _ _ _ _ _ number word _ (first-before (faulty-found j ha number word q) in-head (in-body (suc used)) (omega arith)) (ha .long))
 
     module _ (bool : ℕ) (d : ℕ) (q : j ≡ judged.Typed bool d) where
-      f : answered.Fine head-faults code one (i + 2) (w .doAt) d (ForMay (groundOf a) (a .known .n) (wordsOf one) (a .known .S) used (w .a) (w .b) (w .c) i (w .doAt))
+      f : answered.Fine head-faults code one (i + 2) (w .doAt) d (ForMay (groundOf a) (a .known .n) (cellsOf one) (a .known .S) used (w .a) (w .b) (w .c) i (w .doAt))
       f = typed-fine j ha bool d q
 
-      number : numberAt (wordsOf one) (i + 1) ≡ numberOf (a .known .W) (i + 1)
+      number : numberAt (cellsOf one) (i + 1) ≡ numberOf (a .known .W) (i + 1)
       number = ap (λ (v : ℕ). v / 256 % numberLimit) (head-before (kept-outside (f .kept)) (i + 1) (omega arith)) ∙ s .here .unread .loaded .words (i + 1) (omega arith) (omega (arith, orders, last)) .number (w .head .name)
 
       room : (i + 1) * 8 + 8 ≤ length one
@@ -158,8 +158,8 @@ module _ (text code values : List ℕ) (k : Setting) (used i : ℕ) (g : Begins 
         unfolding groundOf
         unprotected = f .written .free
 
-        named : Outside (wordsOf one) (wordsOf two) (i + 1) (i + 2)
-        named = subst (Outside (wordsOf one) (wordsOf two) (i + 1)) next-two (rewritten-outside (dec .word) room)
+        named : Outside (cellsOf one) (cellsOf two) (i + 1) (i + 2)
+        named = subst (Outside (cellsOf one) (cellsOf two) (i + 1)) next-two (rewritten-outside (dec .word) room)
           where
             next-two : i + 1 + 1 ≡ i + 2
             next-two = omega arith
@@ -167,7 +167,7 @@ module _ (text code values : List ℕ) (k : Setting) (used i : ℕ) (g : Begins 
         long-two : length two ≡ length code
         long-two = rewritten-length (dec .word) room ∙ ha .long
 
-        changed : Outside (wordsOf code) (wordsOf two) (i + 1) (w .doAt)
+        changed : Outside (cellsOf code) (cellsOf two) (i + 1) (w .doAt)
         changed = outside-on (outside-wider (i + 1) (w .doAt) (kept-outside (f .kept)) (omega arith) (omega arith)) (outside-wider (i + 1) (w .doAt) named (omega arith) (omega (arith, orders)))
 
         abbrev around : Around text values′
@@ -191,7 +191,7 @@ module _ (text code values : List ℕ) (k : Setting) (used i : ℕ) (g : Begins 
 
         module _ (three values″ : List ℕ) (r : Walked) (l : Listed text two values′ three values″ k (used + 1) (d + 1) r) where
           body : Answer (body-faults (used + 1)) two three values′ values″ (w .doAt + 1) (w .end) (used + 1 + forsInList (w .body))
-              (RawList (groundOf a) (a .known .n) (wordsOf three) (w .body) S′ (used + 1) (w .doAt + 1) (w .end)) r
+              (RawList (groundOf a) (a .known .n) (cellsOf three) (w .body) S′ (used + 1) (w .doAt + 1) (w .end)) r
           unfolding lists groundOf
           body = subst (λ (v : ℕ). Listed text two values′ three values″ k (used + 1) (v + 1) r) (f .next-is) l .is lists
 
@@ -203,7 +203,7 @@ module _ (text code values : List ℕ) (k : Setting) (used i : ℕ) (g : Begins 
 
           module _ (e : ℕ) (n : Scope) (q2 : r ≡ Upto e n) where
             done : Done (body-faults (used + 1)) two three values′ values″ (w .doAt + 1) (w .end) (used + 1 + forsInList (w .body)) e (n .used)
-                (RawList (groundOf a) (a .known .n) (wordsOf three) (w .body) S′ (used + 1) (w .doAt + 1) (w .end))
+                (RawList (groundOf a) (a .known .n) (cellsOf three) (w .body) S′ (used + 1) (w .doAt + 1) (w .end))
             done = upto-done r body e n q2
 
             pub for-closes : (used < 64) × (i < d) × (d < e) × (e < wordLimit) × (storeBytes ≤ length three)
@@ -221,62 +221,62 @@ module _ (text code values : List ℕ) (k : Setting) (used i : ℕ) (g : Begins 
               y : ForEnded three four used i (w .doAt) (w .end)
               y = subst (λ (v : ℕ). ForEnded three four used i v (w .end)) (f .next-is) (subst (λ (v : ℕ). ForEnded three four used i d v) (done .next-is) x)
 
-              at-do : Outside (wordsOf three) (wordsOf (y .one)) (w .doAt) (w .doAt + 1)
+              at-do : Outside (cellsOf three) (cellsOf (y .one)) (w .doAt) (w .doAt + 1)
               at-do = linked-outside (y .opens)
 
-              at-for : Outside (wordsOf (y .one)) (wordsOf (y .two)) i (i + 1)
+              at-for : Outside (cellsOf (y .one)) (cellsOf (y .two)) i (i + 1)
               at-for = linked-outside (y .head)
 
               end-room : w .end * 8 + 8 ≤ length (y .two)
               end-room = omega (arith, y .head .kept .long, y .opens .kept .long, body .long, long-two, last, s .here .unread .loaded .room)
 
-              at-end : Outside (wordsOf (y .two)) (wordsOf four) (w .end) (w .end + 1)
+              at-end : Outside (cellsOf (y .two)) (cellsOf four) (w .end) (w .end + 1)
               at-end = rewritten-outside (y .test) end-room
 
-              abbrev b : RawHead (groundOf a) (a .known .n) (wordsOf one) (a .known .S) (w .a) (w .b) (w .c) i (w .doAt)
+              abbrev b : RawHead (groundOf a) (a .known .n) (cellsOf one) (a .known .S) (w .a) (w .b) (w .c) i (w .doAt)
               b = f .written .bounds
 
               bound-orders : (i + 2 + 1 < b .t) × (b .t + 1 < b .s) × (b .s ≤ w .doAt)
               bound-orders = (
-                bound-order (groundOf a) (a .known .n) (wordsOf one) (a .known .S) (w .a) (i + 2) (b .t) (b .lower),
-                bound-order (groundOf a) (a .known .n) (wordsOf one) (a .known .S) (w .b) (b .t) (b .s) (b .upper),
-                step-order (groundOf a) (a .known .n) (wordsOf one) (a .known .S) (w .c) (b .s) (w .doAt) (b .steps),
+                bound-order (groundOf a) (a .known .n) (cellsOf one) (a .known .S) (w .a) (i + 2) (b .t) (b .lower),
+                bound-order (groundOf a) (a .known .n) (cellsOf one) (a .known .S) (w .b) (b .t) (b .s) (b .upper),
+                step-order (groundOf a) (a .known .n) (cellsOf one) (a .known .S) (w .c) (b .s) (w .doAt) (b .steps),
               )
 
-              head-same : (p q : ℕ) → i + 2 ≤ p → q ≤ w .doAt → SameWords (wordsOf one) (wordsOf four) p q
+              head-same : (p q : ℕ) → i + 2 ≤ p → q ≤ w .doAt → SameWords (cellsOf one) (cellsOf four) p q
               head-same p q l h =
                   same-on (same-on (same-on (same-on (same-behind p q named (omega arith)) (same-before p q (done .outside) (omega arith))) (same-before p q at-do (omega arith))) (same-behind p q at-for (omega arith)))
                   (same-before p q at-end (omega (arith, orders)))
 
-              place-two : placeAt (wordsOf (y .two)) i ≡ offsetIn (a .known .W) i
+              place-two : placeAt (cellsOf (y .two)) i ≡ offsetIn (a .known .W) i
               unfolding offsetIn
               place-two =
                   y .head .kept .places i ∙ y .opens .kept .places i ∙ ap (λ (v : ℕ). v % linkPart) (tail-before (done .outside) i (omega (arith, orders)) ∙ tail-before named i (omega arith)) ∙ f .kept .places i
                   ∙ s .here .unread .places i (omega arith) (omega (arith, orders, last))
 
-              do-same : SameWords (wordsOf (y .one)) (wordsOf four) (w .doAt) (w .doAt + 1)
+              do-same : SameWords (cellsOf (y .one)) (cellsOf four) (w .doAt) (w .doAt + 1)
               do-same = same-on (same-behind (w .doAt) (w .doAt + 1) at-for (omega (arith, orders))) (same-before (w .doAt) (w .doAt + 1) at-end (omega (arith, orders)))
 
-              test-head : headAt (wordsOf four) (w .end) ≡ aForTest + 256 * (used + 256 * i)
+              test-head : headAt (cellsOf four) (w .end) ≡ aForTest + 256 * (used + 256 * i)
               test-head = rewritten-head (y .test) end-room
 
-              test-tail : tailAt (wordsOf four) (w .end) ≡ placeAt (wordsOf (y .two)) i + linkPart * (w .doAt + 1)
+              test-tail : tailAt (cellsOf four) (w .end) ≡ placeAt (cellsOf (y .two)) i + linkPart * (w .doAt + 1)
               test-tail = rewritten-tail (y .test) end-room
 
               parts : (v p o : ℕ) → (((aForTest + 256 * v) % 256 ≡ aForTest) × ((aForTest + 256 * v) / 256 ≡ v)) × (((p % linkPart + linkPart * o) % linkPart ≡ p % linkPart) × ((p % linkPart + linkPart * o) / linkPart ≡ o))
               parts v p o = ((omega arith, omega arith), (omega arith, omega arith))
 
-              raw : RawFor (groundOf a) (a .known .n) (wordsOf four) (a .known .S) used i (w .a) (w .b) (w .c)
-                  (λ (x2 y2 : ℕ). RawList (groundOf a) (a .known .n) (wordsOf four) (w .body) S′ (suc used) x2 y2) (w .end) i (s .to)
+              raw : RawFor (groundOf a) (a .known .n) (cellsOf four) (a .known .S) used i (w .a) (w .b) (w .c)
+                  (λ (x2 y2 : ℕ). RawList (groundOf a) (a .known .n) (cellsOf four) (w .body) S′ (suc used) x2 y2) (w .end) i (s .to)
               unfolding groundOf
               raw =
                   let sp = same-before i (i + 1) at-end (omega (arith, orders)) in
-                  let z = parts (used + 256 * i) (tailAt (wordsOf (y .two)) i) (w .doAt + 1) in
+                  let z = parts (used + 256 * i) (tailAt (cellsOf (y .two)) i) (w .doAt + 1) in
                   record {
                     head = record {
                       first = refl;
                       place = place-same sp i (omega arith) (omega arith) _ place-two;
-                      word = subst (RawWord (wordsOf four) aFor i) (sym (w .after)) (word-same sp i (omega arith) (omega arith) _ _ (linked-word (y .head)));
+                      word = subst (RawWord (cellsOf four) aFor i) (sym (w .after)) (word-same sp i (omega arith) (omega arith) _ _ (linked-word (y .head)));
                     };
                     value = value-same sp i (omega arith) (omega arith) _ (y .head .value-is);
                     room = room-for;
@@ -284,12 +284,12 @@ module _ (text code values : List ℕ) (k : Setting) (used i : ℕ) (g : Begins 
                     t = b .t;
                     s = b .s;
                     d = w .doAt;
-                    lower = bound-same (groundOf a) (a .known .n) (wordsOf one) (wordsOf four) (a .known .S) (w .a) (i + 2) (b .t) (head-same (i + 2) (b .t) (omega arith) (omega (arith, bound-orders))) (b .lower);
-                    upper = bound-same (groundOf a) (a .known .n) (wordsOf one) (wordsOf four) (a .known .S) (w .b) (b .t) (b .s) (head-same (b .t) (b .s) (omega (arith, bound-orders)) (omega (arith, bound-orders))) (b .upper);
-                    steps = step-same (groundOf a) (a .known .n) (wordsOf one) (wordsOf four) (a .known .S) (w .c) (b .s) (w .doAt) (head-same (b .s) (w .doAt) (omega (arith, bound-orders)) (omega arith)) (b .steps);
+                    lower = bound-same (groundOf a) (a .known .n) (cellsOf one) (cellsOf four) (a .known .S) (w .a) (i + 2) (b .t) (head-same (i + 2) (b .t) (omega arith) (omega (arith, bound-orders))) (b .lower);
+                    upper = bound-same (groundOf a) (a .known .n) (cellsOf one) (cellsOf four) (a .known .S) (w .b) (b .t) (b .s) (head-same (b .t) (b .s) (omega (arith, bound-orders)) (omega (arith, bound-orders))) (b .upper);
+                    steps = step-same (groundOf a) (a .known .n) (cellsOf one) (cellsOf four) (a .known .S) (w .c) (b .s) (w .doAt) (head-same (b .s) (w .doAt) (omega (arith, bound-orders)) (omega arith)) (b .steps);
                     do-is = record { op = op-same do-same (w .doAt) (omega arith) (omega arith) _ (y .opens .op-is); value = value-same do-same (w .doAt) (omega arith) (omega arith) _ (y .opens .value-is) };
-                    list = subst (λ (v : ℕ). RawList (groundOf a) (a .known .n) (wordsOf four) (w .body) S′ v (w .doAt + 1) (w .end)) next-is
-                        (list-same (groundOf a) (a .known .n) (wordsOf three) (wordsOf four) (w .body) S′ (used + 1) (w .doAt + 1) (w .end)
+                    list = subst (λ (v : ℕ). RawList (groundOf a) (a .known .n) (cellsOf four) (w .body) S′ v (w .doAt + 1) (w .end)) next-is
+                        (list-same (groundOf a) (a .known .n) (cellsOf three) (cellsOf four) (w .body) S′ (used + 1) (w .doAt + 1) (w .end)
                         (same-on (same-on (same-behind (w .doAt + 1) (w .end) at-do (omega arith)) (same-behind (w .doAt + 1) (w .end) at-for (omega (arith, orders)))) (same-before (w .doAt + 1) (w .end) at-end (omega arith))) (done .written));
                     test = record { is = ap opIn test-head ∙ z .0 .0; leaves = ap linkIn test-tail ∙ z .1 .1 };
                     test-value = ap valueIn test-head ∙ z .0 .1;
@@ -300,7 +300,7 @@ module _ (text code values : List ℕ) (k : Setting) (used i : ℕ) (g : Begins 
               pub for-long : length four ≡ length code
               for-long = rewritten-length (y .test) end-room ∙ y .head .kept .long ∙ y .opens .kept .long ∙ body .long ∙ long-two
 
-              outside : Outside (wordsOf code) (wordsOf four) i (s .to)
+              outside : Outside (cellsOf code) (cellsOf four) i (s .to)
               outside =
                   outside-on (outside-on (outside-on (outside-on (outside-wider i (s .to) changed (omega arith) (omega (arith, orders, last))) (outside-wider i (s .to) (done .outside) (omega (arith, orders)) (omega (arith, last))))
                   (outside-wider i (s .to) at-do (omega (arith, orders)) (omega (arith, orders, last)))) (outside-wider i (s .to) at-for (omega arith) (omega (arith, orders, last))))

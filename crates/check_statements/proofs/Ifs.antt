@@ -8,7 +8,7 @@ use native.Mathlib.Omega.{arith}
 use lib.ListN.{length}
 use borrow.Author.Tests.{ne-eqb}
 use Rattle.laws.proofs.Tests.{false-true, by-same}
-use Rattle.store_cells.specs.Words.{wordsOf}
+use Rattle.store_cells.specs.Cells.{cellsOf}
 use Rattle.paper.specs.Sorts.{NAME, RETURN, RAISE, EXIT, RETRY, TRYNEXT, TPWRITE, TPREADNUM, IF, THEN}
 use Rattle.paper.specs.Trees.{Statement}
 use Rattle.paper.specs.Expressions.{levelOf, startsSimple}
@@ -101,7 +101,7 @@ module _ (text code values : List ℕ) (k : Setting) (used i : ℕ) (g : Begins 
 
   abbrev ForStatement : (after values′ : List ℕ) → Walked → Statement → Type 0
   ForStatement after values′ r t =
-      Answer (statementFaults (a .known .W) (a .K) (a .M) t (a .known .S) used) code after values values′ i (s .to) (used + forsIn t) (RawStatement (groundOf a) (a .known .n) (wordsOf after) t (a .known .S) used i (s .to)) r
+      Answer (statementFaults (a .known .W) (a .K) (a .M) t (a .known .S) used) code after values values′ i (s .to) (used + forsIn t) (RawStatement (groundOf a) (a .known .n) (cellsOf after) t (a .known .S) used i (s .to)) r
 
   condition-inside : Inside (i + 1) (w .n) (ofType (a .known .W) aBool (a .known .S) (w .e))
   condition-inside = of-type-inside (a .known .W) _ _ _ _ (w .condition) aBool (a .known .S)
@@ -136,7 +136,7 @@ module _ (text code values : List ℕ) (k : Setting) (used i : ℕ) (g : Begins 
       fine : ofType (a .known .W) aBool (a .known .S) (w .e) ≡ []
       fine = judged-none text code values a k used i (s .to) (s .here) (w .e) (i + 1) (w .n) (w .condition) (bounded .0) (omega arith) (omega (arith, bounded)) one boolType aBool bool-in j c bool t q
 
-      term : RawTerm (groundOf a) (a .known .n) (wordsOf one) (a .known .S) (w .e) (i + 1) (w .n)
+      term : RawTerm (groundOf a) (a .known .n) (cellsOf one) (a .known .S) (w .e) (i + 1) (w .n)
       term = judged-term text code values a k used i (s .to) (s .here) (w .e) (i + 1) (w .n) (w .condition) (bounded .0) (omega arith) (omega (arith, bounded)) one boolType aBool bool-in j c bool t q
 
       kept : Kept code one (i + 1) (w .n)
@@ -146,11 +146,11 @@ module _ (text code values : List ℕ) (k : Setting) (used i : ℕ) (g : Begins 
       next-here =
           here-on a code one k used i (s .to) used (w .n) (s .to) (s .here) (kept-outside kept) (kept .long) (omega arith) (s .here .few) (omega arith) (omega (arith, bounded)) (omega (arith, begins)) (omega arith) (omega arith)
 
-      place : placeAt (wordsOf one) i ≡ offsetIn (a .known .W) i
+      place : placeAt (cellsOf one) i ≡ offsetIn (a .known .W) i
       unfolding offsetIn
       place = kept .places i ∙ s .here .unread .places i (omega arith) (omega (arith, begins, bounded))
 
-      changed : Outside (wordsOf code) (wordsOf one) i (s .to)
+      changed : Outside (cellsOf code) (cellsOf one) i (s .to)
       changed = outside-wider i (s .to) (kept-outside kept) (omega arith) (omega (arith, bounded))
 
       pub if-forward : i < t
@@ -159,9 +159,9 @@ module _ (text code values : List ℕ) (k : Setting) (used i : ℕ) (g : Begins 
       pub if-room : (t < wordLimit) × (t * 8 + 8 ≤ length one)
       if-room = (omega (arith, at-is, bounded, s .here .unread .loaded .last), omega (arith, at-is, bounded, next-here .unread .loaded .room))
 
-      module _ (v : ℕ) (ev : v ≡ opAt (wordsOf one) t) where
+      module _ (v : ℕ) (ev : v ≡ opAt (cellsOf one) t) where
         sort-is : sortIn (a .known .W) (w .n) ≡ v
-        sort-is = sym (ev ∙ ap (opAt (wordsOf one)) at-is ∙ next-here .unread .loaded .words (w .n) (omega arith) (omega (arith, bounded)) .sort)
+        sort-is = sym (ev ∙ ap (opAt (cellsOf one)) at-is ∙ next-here .unread .loaded .words (w .n) (omega arith) (omega (arith, bounded)) .sort)
 
         -- ---- a simple statement follows
         module _ (n : v ≡ THEN → ⊥) where
@@ -241,7 +241,7 @@ module _ (text code values : List ℕ) (k : Setting) (used i : ℕ) (one : List 
   pub if-wrong : (number word : ℕ) → j ≡ judged.Faulty number word → Begun IF text code values one values k used i (Faulty number word)
   if-wrong number word q = record { is = λ g. wrong text code values k used i g one j c number word q }
 
-  module _ (bool : ℕ) (t : ℕ) (q : j ≡ judged.Typed bool t) (v : ℕ) (ev : v ≡ opAt (wordsOf one) t) where
+  module _ (bool : ℕ) (t : ℕ) (q : j ≡ judged.Typed bool t) (v : ℕ) (ev : v ≡ opAt (cellsOf one) t) where
     pub if-compact : (v ≡ THEN → ⊥) → (two : List ℕ) (r : Walked) → Compacted text one values two k used i t r → Begun IF text code values two values k used i r
     if-compact n two r x = record { is = λ g. compact-is text code values k used i g one j c bool t q v ev n two r x }
 

@@ -8,7 +8,7 @@ use Prim.Native.Nat.{ℕ, _+_, _-_, _*_, _%_, _<_, _≤_}
 use native.Mathlib.Omega.{arith}
 use lib.ListN.{length}
 use Rattle.laws.proofs.Tests.{by-same}
-use Rattle.store_cells.specs.Words.{wordsOf}
+use Rattle.store_cells.specs.Cells.{cellsOf}
 use Rattle.paper.specs.Sorts.{CASE, DEFAULT, TEST}
 use Rattle.paper.specs.Trees.{Statement}
 use Rattle.paper.specs.Expressions.{levelOf}
@@ -77,7 +77,7 @@ module _ (text code values : List ℕ) (k : Setting) (used i : ℕ) (g : Begins 
 
   abbrev ForStatement : (after values′ : List ℕ) → Walked → Statement → Type 0
   ForStatement after values′ r t =
-      Answer (statementFaults (a .known .W) (a .K) (a .M) t (a .known .S) used) code after values values′ i (s .to) (used + forsIn t) (RawStatement (groundOf a) (a .known .n) (wordsOf after) t (a .known .S) used i (s .to)) r
+      Answer (statementFaults (a .known .W) (a .K) (a .M) t (a .known .S) used) code after values values′ i (s .to) (used + forsIn t) (RawStatement (groundOf a) (a .known .n) (cellsOf after) t (a .known .S) used i (s .to)) r
 
   module _ (one : List ℕ) (j : Judged) (c : OfType code values one false numType (i + 1) j) where
     wrong : (number word : ℕ) → j ≡ judged.Faulty number word → StatementAnswer (g .stands) one values (Faulty number word)
@@ -99,7 +99,7 @@ module _ (text code values : List ℕ) (k : Setting) (used i : ℕ) (g : Begins 
       fine : ofType (a .known .W) aNum (a .known .S) (w .e) ≡ []
       fine = judged-none text code values a k used i (s .to) (s .here) (w .e) (i + 1) (w .n) (w .selector) no-operator (omega arith) (omega (arith, orders, last)) one numType aNum num-in j c bool t q
 
-      term : RawTerm (groundOf a) (a .known .n) (wordsOf one) (a .known .S) (w .e) (i + 1) (w .n)
+      term : RawTerm (groundOf a) (a .known .n) (cellsOf one) (a .known .S) (w .e) (i + 1) (w .n)
       term = judged-term text code values a k used i (s .to) (s .here) (w .e) (i + 1) (w .n) (w .selector) no-operator (omega arith) (omega (arith, orders, last)) one numType aNum num-in j c bool t q
 
       kept : Kept code one (i + 1) (w .n)
@@ -133,8 +133,8 @@ module _ (text code values : List ℕ) (k : Setting) (used i : ℕ) (g : Begins 
         inner : Answer (casesFaults (a .known .W) (a .K) (a .M) (w .c) (a .known .S) used ++ listFaults (a .known .W) (a .K) (a .M) (w .default) (a .known .S) (used + forsInCases (w .c)))
             one two values values′ (w .n) (s .to) (used + (forsInCases (w .c) + forsInList (w .default)))
             (CasesWritten
-            (λ (last : ℕ). RawCases (groundOf a) (a .known .n) (wordsOf two) (w .c) (a .known .S) used (w .n) last)
-            (λ (last : ℕ). RawDefault (groundOf a) (a .known .n) (wordsOf two) (λ (x2 y2 : ℕ). RawList (groundOf a) (a .known .n) (wordsOf two) (w .default) (a .known .S) (used + forsInCases (w .c)) x2 y2) last (s .to))) r
+            (λ (last : ℕ). RawCases (groundOf a) (a .known .n) (cellsOf two) (w .c) (a .known .S) used (w .n) last)
+            (λ (last : ℕ). RawDefault (groundOf a) (a .known .n) (cellsOf two) (λ (x2 y2 : ℕ). RawList (groundOf a) (a .known .n) (cellsOf two) (w .default) (a .known .S) (used + forsInCases (w .c)) x2 y2) last (s .to))) r
         unfolding chooses
         inner = subst (λ (v : ℕ). Chosen text one values two values′ k used v r) at-is x .is chooses
 
@@ -152,8 +152,8 @@ module _ (text code values : List ℕ) (k : Setting) (used i : ℕ) (g : Begins 
           done : Done (casesFaults (a .known .W) (a .K) (a .M) (w .c) (a .known .S) used ++ listFaults (a .known .W) (a .K) (a .M) (w .default) (a .known .S) (used + forsInCases (w .c)))
               one two values values′ (w .n) (s .to) (used + (forsInCases (w .c) + forsInList (w .default))) z (n .used)
               (CasesWritten
-              (λ (last : ℕ). RawCases (groundOf a) (a .known .n) (wordsOf two) (w .c) (a .known .S) used (w .n) last)
-              (λ (last : ℕ). RawDefault (groundOf a) (a .known .n) (wordsOf two) (λ (x2 y2 : ℕ). RawList (groundOf a) (a .known .n) (wordsOf two) (w .default) (a .known .S) (used + forsInCases (w .c)) x2 y2) last (s .to)))
+              (λ (last : ℕ). RawCases (groundOf a) (a .known .n) (cellsOf two) (w .c) (a .known .S) used (w .n) last)
+              (λ (last : ℕ). RawDefault (groundOf a) (a .known .n) (cellsOf two) (λ (x2 y2 : ℕ). RawList (groundOf a) (a .known .n) (cellsOf two) (w .default) (a .known .S) (used + forsInCases (w .c)) x2 y2) last (s .to)))
           done = upto-done r inner z n q2
 
           pub test-room : (i * 8 + 8 ≤ length two) × (z < linkPart)
@@ -161,33 +161,33 @@ module _ (text code values : List ℕ) (k : Setting) (used i : ℕ) (g : Begins 
 
           -- what a run reads stays: the TEST's own word alone is written
           module _ (three : List ℕ) (l : Linked two three i aTest t z) where
-            o : Outside (wordsOf two) (wordsOf three) i (i + 1)
+            o : Outside (cellsOf two) (cellsOf three) i (i + 1)
             o = linked-outside l
 
-            whole : RawTest (groundOf a) (a .known .n) (wordsOf three) (a .known .S) i (w .e)
-                (λ (x2 last : ℕ). RawCases (groundOf a) (a .known .n) (wordsOf three) (w .c) (a .known .S) used x2 last)
-                (λ (x2 y2 : ℕ). RawList (groundOf a) (a .known .n) (wordsOf three) (w .default) (a .known .S) (used + forsInCases (w .c)) x2 y2) i (s .to)
+            whole : RawTest (groundOf a) (a .known .n) (cellsOf three) (a .known .S) i (w .e)
+                (λ (x2 last : ℕ). RawCases (groundOf a) (a .known .n) (cellsOf three) (w .c) (a .known .S) used x2 last)
+                (λ (x2 y2 : ℕ). RawList (groundOf a) (a .known .n) (cellsOf three) (w .default) (a .known .S) (used + forsInCases (w .c)) x2 y2) i (s .to)
             unfolding groundOf offsetIn
             whole =
                 let v = l .value-is ∙ at-is in
                 let d = done .written .default-is in
-                let lo = cases-order (groundOf a) (a .known .n) (wordsOf two) (w .c) (a .known .S) used (w .n) (done .written .last) (done .written .cases-are) in
+                let lo = cases-order (groundOf a) (a .known .n) (cellsOf two) (w .c) (a .known .S) used (w .n) (done .written .last) (done .written .cases-are) in
                 let so = same-behind (done .written .last) (s .to) o (omega (arith, orders)) in
-                let le = list-order (groundOf a) (a .known .n) (wordsOf two) (w .default) (a .known .S) (used + forsInCases (w .c)) (d .first) (d .z) (d .list) in
-                let en = ends-order (groundOf a) (a .known .n) (wordsOf two) (d .z) (s .to) (d .ends) in
+                let le = list-order (groundOf a) (a .known .n) (cellsOf two) (w .default) (a .known .S) (used + forsInCases (w .c)) (d .first) (d .z) (d .list) in
+                let en = ends-order (groundOf a) (a .known .n) (cellsOf two) (d .z) (s .to) (d .ends) in
                 let bf = d .before in
                 record {
                   head = record {
                     first = refl;
                     place = l .kept .places i ∙ ap (λ (x3 : ℕ). x3 % linkPart) (tail-before (done .outside) i (omega (arith, orders))) ∙ kept .places i ∙ s .here .unread .places i (omega arith) (omega (arith, orders, last));
-                    word = subst (RawWord (wordsOf three) aTest i) (done .next-is) (linked-word l);
+                    word = subst (RawWord (cellsOf three) aTest i) (done .next-is) (linked-word l);
                   };
-                  term = subst (RawTerm (groundOf a) (a .known .n) (wordsOf three) (a .known .S) (w .e) (i + 1)) (sym v)
-                      (term-same (groundOf a) (a .known .n) (wordsOf one) (wordsOf three) (a .known .S) (w .e) (i + 1) (w .n)
+                  term = subst (RawTerm (groundOf a) (a .known .n) (cellsOf three) (a .known .S) (w .e) (i + 1)) (sym v)
+                      (term-same (groundOf a) (a .known .n) (cellsOf one) (cellsOf three) (a .known .S) (w .e) (i + 1) (w .n)
                       (same-on (same-before (i + 1) (w .n) (done .outside) (omega arith)) (same-behind (i + 1) (w .n) o (omega arith))) term);
                   last = done .written .last;
-                  cases-are = subst (λ (x3 : ℕ). RawCases (groundOf a) (a .known .n) (wordsOf three) (w .c) (a .known .S) used x3 (done .written .last)) (sym v)
-                      (cases-frame (groundOf a) (a .known .n) (a .known .n) (omega arith) (wordsOf two) (wordsOf three) (w .n) (done .written .last + 1) (same-behind (w .n) (done .written .last + 1) o (omega (arith, orders)))
+                  cases-are = subst (λ (x3 : ℕ). RawCases (groundOf a) (a .known .n) (cellsOf three) (w .c) (a .known .S) used x3 (done .written .last)) (sym v)
+                      (cases-frame (groundOf a) (a .known .n) (a .known .n) (omega arith) (cellsOf two) (cellsOf three) (w .n) (done .written .last + 1) (same-behind (w .n) (done .written .last + 1) o (omega (arith, orders)))
                       (w .c) (a .known .S) used (w .n) (done .written .last) (omega arith) (omega arith) (done .written .cases-are));
                   default-is = record {
                     z = d .z;
@@ -195,12 +195,12 @@ module _ (text code values : List ℕ) (k : Setting) (used i : ℕ) (g : Begins 
                     word = word-same so (done .written .last) (omega arith) (omega arith) _ (d .z) (d .word);
                     place = place-same so (done .written .last) (omega arith) (omega arith) _ (d .place);
                     before = bf;
-                    list = list-same (groundOf a) (a .known .n) (wordsOf two) (wordsOf three) (w .default) (a .known .S) (used + forsInCases (w .c)) (d .first) (d .z) (same-behind (d .first) (d .z) o (omega (arith, orders))) (d .list);
+                    list = list-same (groundOf a) (a .known .n) (cellsOf two) (cellsOf three) (w .default) (a .known .S) (used + forsInCases (w .c)) (d .first) (d .z) (same-behind (d .first) (d .z) o (omega (arith, orders))) (d .list);
                     ends = ends-same (d .ends) (same-behind (d .z) (s .to) o (omega (arith, orders)));
                   };
                 }
               where
-                ends-same : {z3 : ℕ} → Ends (wordsOf two) z3 (s .to) → SameWords (wordsOf two) (wordsOf three) z3 (s .to) → Ends (wordsOf three) z3 (s .to)
+                ends-same : {z3 : ℕ} → Ends (cellsOf two) z3 (s .to) → SameWords (cellsOf two) (cellsOf three) z3 (s .to) → Ends (cellsOf three) z3 (s .to)
                 ends-same (at-once e) s3 = at-once e
                 ends-same {z3} (closed w3 e) s3 = closed (word-same s3 z3 (omega arith) (omega arith) _ (s .to) w3) e
 

@@ -6,7 +6,7 @@ use mathlib.Core.List.{List, _++_}
 use Prim.Native.Nat.{ℕ, _+_, _-_, _*_, _<_, _≤_}
 use native.Mathlib.Omega.{arith}
 use lib.ListN.{length}
-use Rattle.store_cells.specs.Words.{wordsOf}
+use Rattle.store_cells.specs.Cells.{cellsOf}
 use Rattle.paper.specs.Trees.{Statements}
 use Rattle.paper.specs.Expressions.{startsStatement}
 use Rattle.paper.specs.Names.{sortIn}
@@ -68,7 +68,7 @@ faulty-answer fs before after values values′ at to count holds r number word e
     subst (Answer fs before after values values′ at to count holds) (sym e) (first-answer fs before after values values′ at to count number word holds f long)
 
 -- what is answered of a piece, where words before it have been written without a fault
-pub answer-behind : (fs gs : List Fault) (code one two values values′ : List ℕ) (at to count total : ℕ) (holds : Type 0) (r : Walked) → gs ≡ fs → count ≡ total → Outside (wordsOf code) (wordsOf one) at to → length one ≡ length code
+pub answer-behind : (fs gs : List Fault) (code one two values values′ : List ℕ) (at to count total : ℕ) (holds : Type 0) (r : Walked) → gs ≡ fs → count ≡ total → Outside (cellsOf code) (cellsOf one) at to → length one ≡ length code
     → Answer fs one two values values′ at to count holds r → Answer gs code two values values′ at to total holds r
 unfolding Tell
 answer-behind fs gs code one two values values′ at to count total holds (Upto next u) e c o long x =
@@ -88,12 +88,12 @@ pub record Going {text code values : List ℕ} {k : Setting} {used at : ℕ} (g 
   pub here : Here (g .around) now k n i (g .to)
   pub count : n + forsInList l ≡ used + forsInList (g .l)
   pub faults-are : listFaults (g .around .known .W) (g .around .K) (g .around .M) (g .l) (g .around .known .S) used ≡ listFaults (g .around .known .W) (g .around .K) (g .around .M) l (g .around .known .S) n
-  pub outside : Outside (wordsOf code) (wordsOf now) at i
+  pub outside : Outside (cellsOf code) (cellsOf now) at i
   pub order : at ≤ i
   pub inside : i ≤ g .to
   pub long : length now ≡ length code
   -- what is written of the rest makes the whole
-  pub on : (C : List ℕ) → Outside (wordsOf now) C i (g .to) → RawList (groundOf (g .around)) (g .around .known .n) C l (g .around .known .S) n i (g .to)
+  pub on : (C : List ℕ) → Outside (cellsOf now) C i (g .to) → RawList (groundOf (g .around)) (g .around .known .n) C l (g .around .known .S) n i (g .to)
       → RawList (groundOf (g .around)) (g .around .known .n) C (g .l) (g .around .known .S) used at (g .to)
 
 pub record Goings (text code values : List ℕ) (k : Setting) (used at : ℕ) (now values′ : List ℕ) (i n : ℕ) : Type 0 where
@@ -111,7 +111,7 @@ list-begins text code values k used at = record {
     here = g .here;
     count = refl;
     faults-are = refl;
-    outside = outside-same (wordsOf code) at at;
+    outside = outside-same (cellsOf code) at at;
     order = omega arith;
     inside = list-order g;
     long = refl;
@@ -136,7 +136,7 @@ module _ (text code values : List ℕ) (k : Setting) (used at : ℕ) (now values
       let x = inv .is g in
       omega (arith, x .inside, x .here .unread .loaded .room)
 
-  module _ (s : ℕ) (b : Bool) (es : s ≡ opAt (wordsOf now) i) (eb : b ≡ startsStatement s) where
+  module _ (s : ℕ) (b : Bool) (es : s ≡ opAt (cellsOf now) i) (eb : b ≡ startsStatement s) where
     starts-is : (g : Lists text code values k used at) → startsStatement (sortIn (g .around .known .W) i) ≡ b
     starts-is g =
         let x = inv .is g in
@@ -144,7 +144,7 @@ module _ (text code values : List ℕ) (k : Setting) (used at : ℕ) (now values
 
     -- ---- the list has ended
     ends-here : (g : Lists text code values k used at) → b ≡ false → (scope : Scope) → Answer (listFaults (g .around .known .W) (g .around .K) (g .around .M) (g .l) (g .around .known .S) used) code now values values′ at (g .to) (used + forsInList (g .l))
-        (RawList (groundOf (g .around)) (g .around .known .n) (wordsOf now) (g .l) (g .around .known .S) used at (g .to)) (Upto i (withUsed n scope))
+        (RawList (groundOf (g .around)) (g .around .known .n) (cellsOf now) (g .l) (g .around .known .S) used at (g .to)) (Upto i (withUsed n scope))
     unfolding listFaults forsInList RawList
     ends-here g f scope =
         let x = inv .is g in
@@ -156,8 +156,8 @@ module _ (text code values : List ℕ) (k : Setting) (used at : ℕ) (now values
           next-is = sym (e .1);
           used-is = omega (arith, x .count, none);
           few = x .here .few;
-          written = x .on (wordsOf now) (outside-same (wordsOf now) i (g .to))
-              (subst (λ (l : Statements). RawList (groundOf (g .around)) (g .around .known .n) (wordsOf now) l (g .around .known .S) n i (g .to)) (sym (e .0)) (sym (e .1)));
+          written = x .on (cellsOf now) (outside-same (cellsOf now) i (g .to))
+              (subst (λ (l : Statements). RawList (groundOf (g .around)) (g .around .known .n) (cellsOf now) l (g .around .known .S) n i (g .to)) (sym (e .0)) (sym (e .1)));
           outside = outside-wider at (g .to) (x .outside) (omega arith) (x .inside);
           same = x .same;
         })
@@ -217,7 +217,7 @@ module _ (text code values : List ℕ) (k : Setting) (used at : ℕ) (now values
         answer = answer-as (x .same) _ _ _ _ _ _ _ _ r (st .is (stands-as (x .same) one))
 
         faulty-is : (number word : ℕ) → r ≡ Faulty number word → Answer (listFaults (g .around .known .W) (g .around .K) (g .around .M) (g .l) (g .around .known .S) used) code after values values″ at (g .to) (used + forsInList (g .l))
-            (RawList (groundOf (g .around)) (g .around .known .n) (wordsOf after) (g .l) (g .around .known .S) used at (g .to)) r
+            (RawList (groundOf (g .around)) (g .around .known .n) (cellsOf after) (g .l) (g .around .known .S) used at (g .to)) r
         unfolding one first-faults other-faults
         faulty-is number word e =
             faulty-answer _ _ _ _ _ _ _ _ _ r number word e
@@ -227,7 +227,7 @@ module _ (text code values : List ℕ) (k : Setting) (used at : ℕ) (now values
             (answer .long ∙ x .long)
 
         module _ (m : ℕ) (u : Scope) (e : r ≡ Upto m u) where
-          done : Done first-faults now after values values″ i (f .n) (n + forsIn (f .s)) m (u .used) (RawStatement (groundOf (g .around)) (g .around .known .n) (wordsOf after) (f .s) (g .around .known .S) n i (f .n))
+          done : Done first-faults now after values values″ i (f .n) (n + forsIn (f .s)) m (u .used) (RawStatement (groundOf (g .around)) (g .around .known .n) (cellsOf after) (f .s) (g .around .known .S) n i (f .n))
           unfolding one first-faults
           done = upto-done r answer m u e
 
@@ -252,7 +252,7 @@ module _ (text code values : List ℕ) (k : Setting) (used at : ℕ) (now values
                 (subst (λ (l : Statements). RawList (groundOf (g .around)) (g .around .known .n) C l (g .around .known .S) n i (g .to)) (sym (f .is))
                 (record {
                   mid = f .n;
-                  first = statement-frame (groundOf (g .around)) (g .around .known .n) (g .around .known .n) (omega arith) (wordsOf after) C i (f .n) (same-before i (f .n) o (omega arith))
+                  first = statement-frame (groundOf (g .around)) (g .around .known .n) (g .around .known .n) (omega arith) (cellsOf after) C i (f .n) (same-before i (f .n) o (omega arith))
                       (f .s) (g .around .known .S) n i (f .n) (omega arith) (omega arith) (done .written);
                   others = y;
                 }));

@@ -8,7 +8,7 @@ use mathlib.Core.List.{List, []}
 use Prim.Native.Nat.{ℕ, _+_, _-_, _%_, _<_, _≤_}
 use native.Mathlib.Omega.{arith}
 use lib.ListN.{length}
-use Rattle.store_cells.specs.Words.{wordsOf}
+use Rattle.store_cells.specs.Cells.{cellsOf}
 use Rattle.paper.specs.Sorts.{WHILE}
 use Rattle.paper.specs.Trees.{Statement}
 use Rattle.paper.specs.Expressions.{levelOf}
@@ -73,7 +73,7 @@ module _ (text code values : List ℕ) (k : Setting) (used i : ℕ) (g : Begins 
   -- ---- the answer, for the statement that it is
   abbrev ForStatement : (after values′ : List ℕ) → Walked → Statement → Type 0
   ForStatement after values′ r t =
-      Answer (statementFaults (a .known .W) (a .K) (a .M) t (a .known .S) used) code after values values′ i (s .to) (used + forsIn t) (RawStatement (groundOf a) (a .known .n) (wordsOf after) t (a .known .S) used i (s .to)) r
+      Answer (statementFaults (a .known .W) (a .K) (a .M) t (a .known .S) used) code after values values′ i (s .to) (used + forsIn t) (RawStatement (groundOf a) (a .known .n) (cellsOf after) t (a .known .S) used i (s .to)) r
 
   condition-inside : Inside (i + 1) (w .doAt) (ofType (a .known .W) aBool (a .known .S) (w .e))
   condition-inside = of-type-inside (a .known .W) _ _ _ _ (w .condition) aBool (a .known .S)
@@ -98,7 +98,7 @@ module _ (text code values : List ℕ) (k : Setting) (used i : ℕ) (g : Begins 
       fine : ofType (a .known .W) aBool (a .known .S) (w .e) ≡ []
       fine = judged-none text code values a k used i (s .to) (s .here) (w .e) (i + 1) (w .doAt) (w .condition) no-operator (omega arith) (omega (arith, listed, w .after)) one boolType aBool bool-in j c bool d q
 
-      term : RawTerm (groundOf a) (a .known .n) (wordsOf one) (a .known .S) (w .e) (i + 1) (w .doAt)
+      term : RawTerm (groundOf a) (a .known .n) (cellsOf one) (a .known .S) (w .e) (i + 1) (w .doAt)
       term = judged-term text code values a k used i (s .to) (s .here) (w .e) (i + 1) (w .doAt) (w .condition) no-operator (omega arith) (omega (arith, listed, w .after)) one boolType aBool bool-in j c bool d q
 
       kept : Kept code one (i + 1) (w .doAt)
@@ -125,7 +125,7 @@ module _ (text code values : List ℕ) (k : Setting) (used i : ℕ) (g : Begins 
 
       module _ (two values′ : List ℕ) (r : Walked) (l : Listed text one values two values′ k used (d + 1) r) where
         body : Answer (listFaults (a .known .W) (a .K) (a .M) (w .body) (a .known .S) used) one two values values′ (w .doAt + 1) (w .end) (used + forsInList (w .body))
-            (RawList (groundOf a) (a .known .n) (wordsOf two) (w .body) (a .known .S) used (w .doAt + 1) (w .end)) r
+            (RawList (groundOf a) (a .known .n) (cellsOf two) (w .body) (a .known .S) used (w .doAt + 1) (w .end)) r
         unfolding lists
         body = subst (λ (x : ℕ). Listed text one values two values′ k used (x + 1) r) do-at l .is lists
 
@@ -137,7 +137,7 @@ module _ (text code values : List ℕ) (k : Setting) (used i : ℕ) (g : Begins 
 
         module _ (e : ℕ) (n : Scope) (q2 : r ≡ Upto e n) where
           done : Done (listFaults (a .known .W) (a .K) (a .M) (w .body) (a .known .S) used) one two values values′ (w .doAt + 1) (w .end) (used + forsInList (w .body)) e (n .used)
-              (RawList (groundOf a) (a .known .n) (wordsOf two) (w .body) (a .known .S) used (w .doAt + 1) (w .end))
+              (RawList (groundOf a) (a .known .n) (cellsOf two) (w .body) (a .known .S) used (w .doAt + 1) (w .end))
           done = upto-done r body e n q2
 
           pub while-closes : (i < d) × (d < e) × (e < wordLimit) × (storeBytes ≤ length two)
@@ -148,47 +148,47 @@ module _ (text code values : List ℕ) (k : Setting) (used i : ℕ) (g : Begins 
             y = subst (λ (v : ℕ). WhileEnded two three i v (w .end)) do-at (subst (λ (v : ℕ). WhileEnded two three i d v) (done .next-is) x)
 
             C : List ℕ
-            C = wordsOf three
+            C = cellsOf three
 
-            from-two : Outside (wordsOf two) (wordsOf (y .one)) (w .doAt) (w .doAt + 1)
+            from-two : Outside (cellsOf two) (cellsOf (y .one)) (w .doAt) (w .doAt + 1)
             from-two = linked-outside (y .opens)
 
-            from-mid : Outside (wordsOf (y .one)) (wordsOf (y .two)) (w .end) (w .end + 1)
+            from-mid : Outside (cellsOf (y .one)) (cellsOf (y .two)) (w .end) (w .end + 1)
             from-mid = linked-outside (y .again)
 
-            from-last : Outside (wordsOf (y .two)) (wordsOf three) i (i + 1)
+            from-last : Outside (cellsOf (y .two)) (cellsOf three) i (i + 1)
             from-last = linked-outside (y .head)
 
-            place : placeAt (wordsOf three) i ≡ offsetIn (a .known .W) i
+            place : placeAt (cellsOf three) i ≡ offsetIn (a .known .W) i
             unfolding offsetIn
             place =
                 y .head .kept .places i ∙ y .again .kept .places i ∙ y .opens .kept .places i ∙ ap (λ (t : ℕ). t % linkPart) (tail-before (done .outside) i (omega (arith, begins))) ∙ kept .places i
                 ∙ s .here .unread .places i (omega arith) (omega (arith, begins, listed, w .after))
 
-            raw : RawWhile (groundOf a) (a .known .n) (wordsOf three) (a .known .S) i (w .e)
-                (λ (x y : ℕ). RawList (groundOf a) (a .known .n) (wordsOf three) (w .body) (a .known .S) used x y) i (s .to)
+            raw : RawWhile (groundOf a) (a .known .n) (cellsOf three) (a .known .S) i (w .e)
+                (λ (x y : ℕ). RawList (groundOf a) (a .known .n) (cellsOf three) (w .body) (a .known .S) used x y) i (s .to)
             unfolding groundOf
             raw =
                 let v = y .head .value-is in
                 record {
-                  head = record { first = refl; place = place; word = subst (λ (t : ℕ). RawWord (wordsOf three) aWhile i t) (sym (w .after)) (linked-word (y .head)) };
-                  term = subst (λ (t : ℕ). RawTerm (groundOf a) (a .known .n) (wordsOf three) (a .known .S) (w .e) (i + 1) t) (sym v)
-                      (term-same (groundOf a) (a .known .n) (wordsOf one) (wordsOf three) (a .known .S) (w .e) (i + 1) (w .doAt)
+                  head = record { first = refl; place = place; word = subst (λ (t : ℕ). RawWord (cellsOf three) aWhile i t) (sym (w .after)) (linked-word (y .head)) };
+                  term = subst (λ (t : ℕ). RawTerm (groundOf a) (a .known .n) (cellsOf three) (a .known .S) (w .e) (i + 1) t) (sym v)
+                      (term-same (groundOf a) (a .known .n) (cellsOf one) (cellsOf three) (a .known .S) (w .e) (i + 1) (w .doAt)
                       (same-on (same-on (same-on (same-before (i + 1) (w .doAt) (done .outside) (omega arith)) (same-before (i + 1) (w .doAt) from-two (omega arith)))
                       (same-before (i + 1) (w .doAt) from-mid (omega (arith, listed)))) (same-behind (i + 1) (w .doAt) from-last (omega arith))) term);
-                  do-is = subst (RawDo (wordsOf three)) (sym v)
+                  do-is = subst (RawDo (cellsOf three)) (sym v)
                       (let q = same-on (same-before (w .doAt) (w .doAt + 1) from-mid (omega (arith, listed))) (same-behind (w .doAt) (w .doAt + 1) from-last (omega (arith, begins))) in
                       record { op = op-same q (w .doAt) (omega arith) (omega arith) _ (y .opens .op-is); value = value-same q (w .doAt) (omega arith) (omega arith) _ (y .opens .value-is) });
                   z = w .end;
-                  list = subst (λ (t : ℕ). RawList (groundOf a) (a .known .n) (wordsOf three) (w .body) (a .known .S) used (t + 1) (w .end)) (sym v)
-                      (list-same (groundOf a) (a .known .n) (wordsOf two) (wordsOf three) (w .body) (a .known .S) used (w .doAt + 1) (w .end)
+                  list = subst (λ (t : ℕ). RawList (groundOf a) (a .known .n) (cellsOf three) (w .body) (a .known .S) used (t + 1) (w .end)) (sym v)
+                      (list-same (groundOf a) (a .known .n) (cellsOf two) (cellsOf three) (w .body) (a .known .S) used (w .doAt + 1) (w .end)
                       (same-on (same-on (same-behind (w .doAt + 1) (w .end) from-two (omega arith)) (same-before (w .doAt + 1) (w .end) from-mid (omega arith)))
                       (same-behind (w .doAt + 1) (w .end) from-last (omega (arith, begins)))) (done .written));
                   again = word-same (same-behind (w .end) (w .end + 1) from-last (omega (arith, begins, listed))) (w .end) (omega arith) (omega arith) _ i (linked-word (y .again));
                   end = w .after;
                 }
 
-            outside : Outside (wordsOf code) (wordsOf three) i (s .to)
+            outside : Outside (cellsOf code) (cellsOf three) i (s .to)
             outside =
                 outside-on (outside-on (outside-on (outside-on (outside-wider i (s .to) (kept-outside kept) (omega arith) (omega (arith, listed, w .after)))
                 (outside-wider i (s .to) (done .outside) (omega (arith, begins)) (omega (arith, w .after))))

@@ -7,8 +7,8 @@ use Rattle.paper.specs.Trees.{Statement, Statements}
 use Rattle.paper.specs.Names.{sortIn}
 use Rattle.paper.specs.Types.{Fault}
 use Rattle.paper.specs.Checks.{forsIn, forsInList, statementFaults, listFaults}
-use Rattle.store_cells.specs.Words.{wordsOf}
-use Rattle.store_evaluation.specs.Answers.{callWords}
+use Rattle.store_cells.specs.Cells.{cellsOf}
+use Rattle.store_evaluation.specs.Answers.{callSlots}
 use Rattle.grammar.specs.Form.{Parses, StatementAt, ListAt}
 use Rattle.faults.specs.First.{First}
 use Rattle.check_links.specs.Raw.{RawStatement, RawList}
@@ -42,7 +42,7 @@ pub record Lists (text code values : List ℕ) (k : Setting) (used at : ℕ) : T
 -- ---- the value store
 -- The cells are as they were.
 pub record SameValues (before after : List ℕ) : Type 0 where
-  pub words : wordsOf after ≡ wordsOf before
+  pub words : cellsOf after ≡ cellsOf before
   pub long : length after ≡ length before
 
 -- ---- answers
@@ -51,9 +51,9 @@ pub record Done (fs : List Fault) (before after values values′ : List ℕ) (at
   pub none : fs ≡ []
   pub next-is : next ≡ to
   pub used-is : u ≡ count
-  pub few : u ≤ callWords
+  pub few : u ≤ callSlots
   pub written : holds
-  pub outside : Outside (wordsOf before) (wordsOf after) at to
+  pub outside : Outside (cellsOf before) (cellsOf after) at to
   pub same : SameValues values values′
 
 unfoldable pub Tell : (fs : List Fault) (before after values values′ : List ℕ) (at to count : ℕ) (holds : Type 0) → Walked → Type 0
@@ -68,7 +68,7 @@ pub record Answer (fs : List Fault) (before after values values′ : List ℕ) (
 abbrev pub StatementAnswer : {text code values : List ℕ} {k : Setting} {used at : ℕ} → (g : Stands text code values k used at) → (after values′ : List ℕ) → Walked → Type 0
 StatementAnswer {code = code} {values = values} {used = used} {at = at} g after values′ r =
     Answer (statementFaults (g .around .known .W) (g .around .K) (g .around .M) (g .s) (g .around .known .S) used) code after values values′ at (g .to) (used + forsIn (g .s))
-    (RawStatement (groundOf (g .around)) (g .around .known .n) (wordsOf after) (g .s) (g .around .known .S) used at (g .to)) r
+    (RawStatement (groundOf (g .around)) (g .around .known .n) (cellsOf after) (g .s) (g .around .known .S) used at (g .to)) r
 
 pub record Stated (text code values after values′ : List ℕ) (k : Setting) (used at : ℕ) (r : Walked) : Type 0 where
   pub is : (g : Stands text code values k used at) → StatementAnswer g after values′ r
@@ -76,7 +76,7 @@ pub record Stated (text code values after values′ : List ℕ) (k : Setting) (u
 pub record Listed (text code values after values′ : List ℕ) (k : Setting) (used at : ℕ) (r : Walked) : Type 0 where
   pub is : (g : Lists text code values k used at)
       → Answer (listFaults (g .around .known .W) (g .around .K) (g .around .M) (g .l) (g .around .known .S) used) code after values values′ at (g .to) (used + forsInList (g .l))
-      (RawList (groundOf (g .around)) (g .around .known .n) (wordsOf after) (g .l) (g .around .known .S) used at (g .to)) r
+      (RawList (groundOf (g .around)) (g .around .known .n) (cellsOf after) (g .l) (g .around .known .S) used at (g .to)) r
 
 -- ---- a statement by its first word
 pub record Begins (sort : ℕ) (text code values : List ℕ) (k : Setting) (used at : ℕ) : Type 0 where

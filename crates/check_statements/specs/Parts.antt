@@ -6,7 +6,7 @@ use Rattle.paper.specs.Sorts.{IF, FOR, WHILE, TEST, ELSE, ELSEIF, ENDIF, THEN, 
 use Rattle.paper.specs.Trees.{Expr, Simple, Statements, Arms, Cases, arm, noArm, compactIf, fullIf}
 use Rattle.paper.specs.Names.{sortIn}
 use Rattle.paper.specs.Checks.{forsInList, forsInArms, forsInCases, simpleFaults, listFaults, armFaults, casesFaults}
-use Rattle.store_cells.specs.Words.{wordsOf}
+use Rattle.store_cells.specs.Cells.{cellsOf}
 use Rattle.code.specs.Cells.{placeAt}
 use Rattle.grammar.specs.Form.{Parses, SimpleAt, ListAt, ArmsAt, ElseAt, CasesAt, DefaultAt}
 use Rattle.check_links.specs.Raw.{RawTerm, RawElse, RawDefault, RawStatement, RawList, RawCases}
@@ -34,9 +34,9 @@ pub record Compacts (text code values : List ℕ) (k : Setting) (used i t : ℕ)
   pub around : Around text values
   pub here : Here around code k used t to
   pub before : i < t
-  pub place : placeAt (wordsOf code) i ≡ offsetIn (around .known .W) i
+  pub place : placeAt (cellsOf code) i ≡ offsetIn (around .known .W) i
   pub e : Expr
-  pub term : RawTerm (groundOf (around)) (around .known .n) (wordsOf code) (around .known .S) e (i + 1) t
+  pub term : RawTerm (groundOf (around)) (around .known .n) (cellsOf code) (around .known .S) e (i + 1) t
   pub s : Simple
   pub n : ℕ
   pub is : SimpleAt (sortIn (around .known .W)) (Parses (sortIn (around .known .W))) s t n
@@ -46,7 +46,7 @@ pub record Compacts (text code values : List ℕ) (k : Setting) (used i t : ℕ)
 pub record Compacted (text code values after : List ℕ) (k : Setting) (used i t : ℕ) (r : Walked) : Type 0 where
   pub is : (g : Compacts text code values k used i t)
       → Answer (simpleFaults (g .around .known .W) (g .around .K) (g .around .known .S) (g .s)) code after values values i (g .to) used
-      (RawStatement (groundOf (g .around)) (g .around .known .n) (wordsOf after) (compactIf i (g .e) (g .s)) (g .around .known .S) used i (g .to)) r
+      (RawStatement (groundOf (g .around)) (g .around .known .n) (cellsOf after) (compactIf i (g .e) (g .s)) (g .around .known .S) used i (g .to)) r
 
 -- THEN at t and its list b, and the other arms, up to ELSE or ENDIF
 pub record ThenAt (W : ℕ → ℕ) (d : ℕ) (b : Statements) (rest : Arms) (t last : ℕ) : Type 0 where
@@ -63,9 +63,9 @@ pub record Thens (text code values : List ℕ) (k : Setting) (used i t : ℕ) : 
   pub here : Here around code k used t to
   pub calls : Calls (around) code i to
   pub before : i < t
-  pub place : placeAt (wordsOf code) i ≡ offsetIn (around .known .W) i
+  pub place : placeAt (cellsOf code) i ≡ offsetIn (around .known .W) i
   pub e : Expr
-  pub term : RawTerm (groundOf (around)) (around .known .n) (wordsOf code) (around .known .S) e (i + 1) t
+  pub term : RawTerm (groundOf (around)) (around .known .n) (cellsOf code) (around .known .S) e (i + 1) t
   pub d : ℕ
   pub b : Statements
   pub rest : Arms
@@ -85,7 +85,7 @@ pub record Thened (text code values after values′ : List ℕ) (k : Setting) (u
       ++ armFaults (g .around .known .W) (g .around .K) (g .around .M) (g .rest) (g .around .known .S) (used + forsInList (g .b))
       ++ listFaults (g .around .known .W) (g .around .K) (g .around .M) (g .o) (g .around .known .S) (used + (forsInList (g .b) + forsInArms (g .rest))))
       code after values values′ i (g .to) (used + (forsInList (g .b) + forsInArms (g .rest) + forsInList (g .o)))
-      (RawStatement (groundOf (g .around)) (g .around .known .n) (wordsOf after) (fullIf i (arm (g .e) (g .b) (g .rest)) (g .o)) (g .around .known .S) used i (g .to)) r
+      (RawStatement (groundOf (g .around)) (g .around .known .n) (cellsOf after) (fullIf i (arm (g .e) (g .b) (g .rest)) (g .o)) (g .around .known .S) used i (g .to)) r
 
 -- ELSE with its list, or ENDIF, at c
 pub record Elses (text code values : List ℕ) (k : Setting) (used c : ℕ) : Type 0 where
@@ -111,8 +111,8 @@ pub record Elsed (text code values after values′ : List ℕ) (k : Setting) (us
   pub is : (g : Elses text code values k used c)
       → Answer (listFaults (g .around .known .W) (g .around .K) (g .around .M) (g .o) (g .around .known .S) used) code after values values′ c (g .to) (used + forsInList (g .o))
       (ElseWritten (sortIn (g .around .known .W))
-      (λ (first : ℕ). RawElse (groundOf (g .around)) (g .around .known .n) (wordsOf after)
-      (λ (x y : ℕ). RawList (groundOf (g .around)) (g .around .known .n) (wordsOf after) (g .o) (g .around .known .S) used x y) c first (g .to)) c) r
+      (λ (first : ℕ). RawElse (groundOf (g .around)) (g .around .known .n) (cellsOf after)
+      (λ (x y : ℕ). RawList (groundOf (g .around)) (g .around .known .n) (cellsOf after) (g .o) (g .around .known .S) used x y) c first (g .to)) c) r
 
 -- DEFAULT with its list, or ENDTEST, at c
 pub record Defaults (text code values : List ℕ) (k : Setting) (used c : ℕ) : Type 0 where
@@ -130,8 +130,8 @@ pub record Defaults (text code values : List ℕ) (k : Setting) (used c : ℕ) :
 pub record Defaulted (text code values after values′ : List ℕ) (k : Setting) (used c : ℕ) (r : Walked) : Type 0 where
   pub is : (g : Defaults text code values k used c)
       → Answer (listFaults (g .around .known .W) (g .around .K) (g .around .M) (g .o) (g .around .known .S) used) code after values values′ c (g .to) (used + forsInList (g .o))
-      (RawDefault (groundOf (g .around)) (g .around .known .n) (wordsOf after)
-      (λ (x y : ℕ). RawList (groundOf (g .around)) (g .around .known .n) (wordsOf after) (g .o) (g .around .known .S) used x y) c (g .to)) r
+      (RawDefault (groundOf (g .around)) (g .around .known .n) (cellsOf after)
+      (λ (x y : ℕ). RawList (groundOf (g .around)) (g .around .known .n) (cellsOf after) (g .o) (g .around .known .S) used x y) c (g .to)) r
 
 -- the cases of a TEST from c on, and its DEFAULT
 pub record Chooses (text code values : List ℕ) (k : Setting) (used c : ℕ) : Type 0 where
@@ -161,6 +161,6 @@ pub record Chosen (text code values after values′ : List ℕ) (k : Setting) (u
       ++ listFaults (g .around .known .W) (g .around .K) (g .around .M) (g .o) (g .around .known .S) (used + forsInCases (g .cs)))
       code after values values′ c (g .to) (used + (forsInCases (g .cs) + forsInList (g .o)))
       (CasesWritten
-      (λ (last : ℕ). RawCases (groundOf (g .around)) (g .around .known .n) (wordsOf after) (g .cs) (g .around .known .S) used c last)
-      (λ (last : ℕ). RawDefault (groundOf (g .around)) (g .around .known .n) (wordsOf after)
-      (λ (x y : ℕ). RawList (groundOf (g .around)) (g .around .known .n) (wordsOf after) (g .o) (g .around .known .S) (used + forsInCases (g .cs)) x y) last (g .to))) r
+      (λ (last : ℕ). RawCases (groundOf (g .around)) (g .around .known .n) (cellsOf after) (g .cs) (g .around .known .S) used c last)
+      (λ (last : ℕ). RawDefault (groundOf (g .around)) (g .around .known .n) (cellsOf after)
+      (λ (x y : ℕ). RawList (groundOf (g .around)) (g .around .known .n) (cellsOf after) (g .o) (g .around .known .S) (used + forsInCases (g .cs)) x y) last (g .to))) r

@@ -12,7 +12,7 @@ use mir.Val.{toZ}
 use borrow.Author.Tests.{lt-ltb, le-ltb}
 use Rattle.paper.specs.Steps.{Program}
 use Rattle.paper.specs.Answer.{Accepted, Verdict, refusedBy, accepted, verdict, offsetOf, storeWords}
-use Rattle.store_cells.specs.Words.{wordsOf}
+use Rattle.store_cells.specs.Cells.{cellsOf}
 use Rattle.store_cells.proofs.Laws.{length-words, words-append, words-take}
 use Rattle.code.specs.Holds.{Holds}
 use Rattle.check_whole.specs.declared.Checked.{Checked}
@@ -59,17 +59,17 @@ module _ (l a : List ℕ) (g : storeBytes ≤ length l) (e : length a ≡ length
   emptied : Emptied (take storeBytes l) a → Emptied l (a ++ drop storeBytes l)
   emptied h = ap (λ (x : List ℕ). x ++ drop storeBytes l) (h ∙ ap (λ (x : List ℕ). replicate storeBytes 0 ++ x) (nothing-past (take storeBytes l) (part l g)) ∙ append-nil (replicate storeBytes 0))
 
-  words-split : wordsOf (a ++ drop storeBytes l) ≡ wordsOf a ++ wordsOf (drop storeBytes l)
+  words-split : cellsOf (a ++ drop storeBytes l) ≡ cellsOf a ++ cellsOf (drop storeBytes l)
   words-split = words-append storeWords a (drop storeBytes l) long
 
-  words-many : length (wordsOf a) ≡ storeWords
+  words-many : length (cellsOf a) ≡ storeWords
   words-many = omega (arith, length-words a, long)
 
-  first-words : (n : ℕ) → n ≤ storeWords → take n (wordsOf (a ++ drop storeBytes l)) ≡ take n (wordsOf a)
-  first-words n h = ap (take n) words-split ∙ take-append-le n (wordsOf a) (wordsOf (drop storeBytes l)) (omega (arith, words-many))
+  first-words : (n : ℕ) → n ≤ storeWords → take n (cellsOf (a ++ drop storeBytes l)) ≡ take n (cellsOf a)
+  first-words n h = ap (take n) words-split ∙ take-append-le n (cellsOf a) (cellsOf (drop storeBytes l)) (omega (arith, words-many))
 
-  word-in : (c : ℕ) → c < storeWords → getD (wordsOf (a ++ drop storeBytes l)) c 0 ≡ getD (wordsOf a) c 0
-  word-in c h = ap (λ (x : List ℕ). getD x c 0) words-split ∙ List·getD-append (wordsOf a) (wordsOf (drop storeBytes l)) 0 c (omega (arith, words-many))
+  word-in : (c : ℕ) → c < storeWords → getD (cellsOf (a ++ drop storeBytes l)) c 0 ≡ getD (cellsOf a) c 0
+  word-in c h = ap (λ (x : List ℕ). getD x c 0) words-split ∙ List·getD-append (cellsOf a) (cellsOf (drop storeBytes l)) 0 c (omega (arith, words-many))
 
 pub checked-parts : (text code values : List ℕ) (r : Checked) (code′ values′ : List ℕ) → storeBytes ≤ length code → storeBytes ≤ length values
     → Judges text (take storeBytes code) (take storeBytes values) (verdict text) r code′ values′ → Checks text code values r (code′ ++ drop storeBytes code) (values′ ++ drop storeBytes values)
@@ -90,7 +90,7 @@ checked-parts text code values r code′ values′ g h j =
       R = k .R;
       heads-are = k .heads-are;
       answer = k .answer;
-      holds = subst (λ (x : List ℕ). Holds text (k .R) (offsetOf text (a .words)) (wordsOf x) (a .program)) (take-all storeBytes code′ (omega (arith, k .code-long, part code g)) ∙ sym (whole-part code code′ g (k .code-long))) (k .holds);
+      holds = subst (λ (x : List ℕ). Holds text (k .R) (offsetOf text (a .words)) (cellsOf x) (a .program)) (take-all storeBytes code′ (omega (arith, k .code-long, part code g)) ∙ sym (whole-part code code′ g (k .code-long))) (k .holds);
       there = k .there;
       alone = k .alone;
       words = ap (map (toZ w32)) (first-words values values′ h (k .values-long) (length (a .program .words)) (omega (arith, k .holds .room))) ∙ k .words;

@@ -14,7 +14,7 @@ use Rattle.paper.specs.Trees.{Module}
 use Rattle.paper.specs.Expressions.{got, isType, startsRoutine}
 use Rattle.paper.specs.Form.{formed}
 use Rattle.paper.specs.Names.{noWord, nth, sortIn}
-use Rattle.store_cells.specs.Words.{wordsOf}
+use Rattle.store_cells.specs.Cells.{cellsOf}
 use Rattle.code.specs.Cells.{headAt, tailAt, opAt, valueAt, placeAt, valueIn, placeIn, opIn}
 use Rattle.code.specs.Steps.{aTarget}
 use Rattle.check_names.specs.Numbers.{numberOf, IsName}
@@ -85,7 +85,7 @@ plain-name = refl
 
 module _ (text code values : List ℕ) (words : ℕ) (l : Laid text code values words) where
   -- a word that is no name has its value, and a string its length
-  value-of : (i : ℕ) → i < length (wordsIn text) → sortIn (wordsIn text) i ≡ NUMBER → valueAt (wordsOf code) i ≡ nth (wordsIn text) i .value
+  value-of : (i : ℕ) → i < length (wordsIn text) → sortIn (wordsIn text) i ≡ NUMBER → valueAt (cellsOf code) i ≡ nth (wordsIn text) i .value
   unfolding headValue
   value-of i h e =
       ap valueIn (l .loads .heads i h ∙ ap (λ (x : ℕ). x + valuePart * headValue (wordsIn text) i) e)
@@ -94,7 +94,7 @@ module _ (text code values : List ℕ) (words : ℕ) (l : Laid text code values 
       high : (sort v : ℕ) → sort < valuePart → valueIn (sort + valuePart * v) ≡ v
       high sort v b = omega arith
 
-  length-of : (i : ℕ) → i < length (wordsIn text) → sortIn (wordsIn text) i ≡ STRING → valueAt (wordsOf code) i ≡ length (nth (wordsIn text) i .covers)
+  length-of : (i : ℕ) → i < length (wordsIn text) → sortIn (wordsIn text) i ≡ STRING → valueAt (cellsOf code) i ≡ length (nth (wordsIn text) i .covers)
   unfolding headValue
   length-of i h e =
       ap valueIn (l .loads .heads i h ∙ ap (λ (x : ℕ). x + valuePart * headValue (wordsIn text) i) e)
@@ -104,13 +104,13 @@ module _ (text code values : List ℕ) (words : ℕ) (l : Laid text code values 
       high sort v b = omega arith
 
   module _ (code′ : List ℕ) (from upto : ℕ) (k : Marked code code′ from upto) where
-    sort-of : (i : ℕ) → i < length (wordsIn text) → opAt (wordsOf code) i ≡ sortIn (wordsIn text) i
+    sort-of : (i : ℕ) → i < length (wordsIn text) → opAt (cellsOf code) i ≡ sortIn (wordsIn text) i
     sort-of i h = loads-sorts text (l .code₀) (l .values₀) (l .answer) code values (l .loads) i h
 
-    same-head : (i s : ℕ) → i < length (wordsIn text) → sortIn (wordsIn text) i ≡ s → isValued s ≡ false → headAt (wordsOf code′) i ≡ headAt (wordsOf code) i
+    same-head : (i s : ℕ) → i < length (wordsIn text) → sortIn (wordsIn text) i ≡ s → isValued s ≡ false → headAt (cellsOf code′) i ≡ headAt (cellsOf code) i
     same-head i s h e q = k .heads i (ap isValued (sort-of i h ∙ e) ∙ q)
 
-    fresh-word : (i : ℕ) → i < length (wordsIn text) → Fresh (wordsIn text) (wordsOf code′) i
+    fresh-word : (i : ℕ) → i < length (wordsIn text) → Fresh (wordsIn text) (cellsOf code′) i
     fresh-word i h = record {
       sort = k .ops i ∙ sort-of i h;
       value = λ e. ap valueIn (same-head i NUMBER h e plain-number) ∙ value-of i h e;
@@ -130,7 +130,7 @@ module _ (text code values : List ℕ) (words : ℕ) (l : Laid text code values 
     }
 
 -- Later words are as they were.
-pub unread-kept : (W : List Word) (code code′ : List ℕ) (at low to : ℕ) → at ≤ low → ((k : ℕ) → low * 2 ≤ k → getD (wordsOf code′) k 0 ≡ getD (wordsOf code) k 0) → length code′ ≡ length code
+pub unread-kept : (W : List Word) (code code′ : List ℕ) (at low to : ℕ) → at ≤ low → ((k : ℕ) → low * 2 ≤ k → getD (cellsOf code′) k 0 ≡ getD (cellsOf code) k 0) → length code′ ≡ length code
     → Unread W code at to → Unread W code′ low to
 unread-kept W code code′ at low to h same e u = record {
   loaded = record {

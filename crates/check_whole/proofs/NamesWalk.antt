@@ -24,7 +24,7 @@ use Rattle.paper.specs.Types.{Fault}
 use Rattle.paper.specs.Declarations.{Signature, Data, noData, dataTexts, routineNames, moduleFilling, moduleData, signatures, declareData, moduleWordLimit}
 use Rattle.paper.specs.Checks.{noSignature, faults, isMain, mainIn, mainOf}
 use Rattle.paper.specs.Answer.{offsetOf}
-use Rattle.store_cells.specs.Words.{wordsOf}
+use Rattle.store_cells.specs.Cells.{cellsOf}
 use Rattle.store_cells.proofs.Laws.{length-words}
 use Rattle.code.specs.Cells.{headAt, valueAt}
 use Rattle.code.specs.Steps.{Head, noHead, numbered}
@@ -150,9 +150,9 @@ module _ (W : List Word) (routine : ℕ → ℕ) (known : Names) (D : Data) (val
   unfolding filling moduleFilling
   data-most = x .most
 
-  data-words : map (toZ w32) (take (length (D .words)) (wordsOf values)) ≡ D .words
+  data-words : map (toZ w32) (take (length (D .words)) (cellsOf values)) ≡ D .words
   unfolding filling moduleFilling InRoom cellOf load
-  data-words = words-from (D .words) (wordsOf values) (length (D .words)) refl (omega (arith, data-most, length-words values, x .table)) (λ i h. x .cells (ofModule i) (omega arith))
+  data-words = words-from (D .words) (cellsOf values) (length (D .words)) refl (omega (arith, data-most, length-words values, x .table)) (λ i h. x .cells (ofModule i) (omega arith))
 
 -- ---- module data come next
 module _ (text code values : List ℕ) (words : ℕ) (f : Formed text code values words) (code₁ values₁ : List ℕ) (main : ℕ) (reads : heads.Reads text code values code₁ values₁ main) where
@@ -261,7 +261,7 @@ module _ (text code values : List ℕ) (words : ℕ) (f : Formed text code value
             none = data-left W (moduleFilling W known) (m .declared) noData refl ∙ x .none;
             filled = x .filled;
             unread = unread-kept W code₁ code₂ 2 at (words - 1) (omega (arith, in-order .0)) (λ k h. x .changed .above k (omega arith)) long (unread (words - 1) (omega (arith, all-words)));
-            heads = heads-kept W (wordsOf code₁) (wordsOf code₂) (m .routines) (stands .form .begin) (stands .form .end) _ (stands .form .routines) (λ i a. x .changed .above (i * 2) (omega arith)) (foretold .heads);
+            heads = heads-kept W (cellsOf code₁) (cellsOf code₂) (m .routines) (stands .form .begin) (stands .form .end) _ (stands .form .routines) (λ i a. x .changed .above (i * 2) (omega arith)) (foretold .heads);
             room = omega (arith, long, foretold .marked .kept .long, f .laid .code-room);
           }
 
@@ -314,7 +314,7 @@ module _ (text code values : List ℕ) (words : ℕ) (f : Formed text code value
                   main-is = foretold .main .found z;
                   there = foretold .main .inside z;
                   begins = foretold .main .begins z;
-                  alone = alone-of W (wordsOf code₁) R (signatures W m 0 (m .routines)) (foretold .heads) _ k (foretold .main .found z) (foretold .main .inside z);
+                  alone = alone-of W (cellsOf code₁) R (signatures W m 0 (m .routines)) (foretold .heads) _ k (foretold .main .found z) (foretold .main .inside z);
                   raw = record {
                     begin = at;
                     end = words - 1;
@@ -325,7 +325,7 @@ module _ (text code values : List ℕ) (words : ℕ) (f : Formed text code value
                     room = data-most W (numbered R) known (moduleData W m) values₃ (x .filled);
                   };
                   count-is = count-words;
-                  values-are = ap (λ (q : ℕ). map (toZ w32) (take q (wordsOf values₃))) count-words ∙ data-words W (numbered R) known (moduleData W m) values₃ (x .filled);
+                  values-are = ap (λ (q : ℕ). map (toZ w32) (take q (cellsOf values₃))) count-words ∙ data-words W (numbered R) known (moduleData W m) values₃ (x .filled);
                 });
                 code-long = code-long₃;
                 values-long = values-long₃;

@@ -24,7 +24,7 @@ use Rattle.paper.specs.Declarations.{moduleData}
 use Rattle.paper.specs.Checks.{faults, mainOf}
 use Rattle.paper.specs.Steps.{Program, programOf}
 use Rattle.paper.specs.Answer.{Accepted, Verdict, refusedBy, accepted, refuse, offsetOf, judgeMain, judgeModule, judgeForm, judgeReading, verdict, storeWords}
-use Rattle.store_cells.specs.Words.{wordsOf, Cleared}
+use Rattle.store_cells.specs.Cells.{cellsOf, Cleared}
 use Rattle.store_cells.proofs.Laws.{words-take}
 use Rattle.store_cells.proofs.Kept.{clear-length, clear-take, clear-in}
 use Rattle.code.specs.Steps.{Head, noHead}
@@ -140,25 +140,25 @@ module _ (text code values : List ℕ) (words : ℕ) (f : Formed text code value
       values-same : length values″ ≡ length values′
       values-same = clear-length cleared count-fits
 
-      holds-here : Holds text (named .g .R) (offsetOf text W) (wordsOf (take storeBytes code″)) P
+      holds-here : Holds text (named .g .R) (offsetOf text W) (cellsOf (take storeBytes code″)) P
       holds-here =
           let n = named in
-          let h : Holds (n .g .text) (n .g .R) (n .g .offset) (wordsOf code″) (programOf (n .g .W) (f .m))
+          let h : Holds (n .g .text) (n .g .R) (n .g .offset) (cellsOf code″) (programOf (n .g .W) (f .m))
           = module-holds (n .g) (f .m) code′ code″ (length W) (n .raw) (subst (Resolved code′ code″) (f .laid .many) resolved) in
-          let k : Holds text (n .g .R) (n .g .offset) (wordsOf code″) P
-          = subst (λ (t : List ℕ). Holds t (n .g .R) (n .g .offset) (wordsOf code″) P) (n .text-is)
-          (subst (λ (x : List Word). Holds (n .g .text) (n .g .R) (n .g .offset) (wordsOf code″) (programOf x (f .m))) (n .words-are) h) in
+          let k : Holds text (n .g .R) (n .g .offset) (cellsOf code″) P
+          = subst (λ (t : List ℕ). Holds t (n .g .R) (n .g .offset) (cellsOf code″) P) (n .text-is)
+          (subst (λ (x : List Word). Holds (n .g .text) (n .g .R) (n .g .offset) (cellsOf code″) (programOf x (f .m))) (n .words-are) h) in
           let at = formed-parses (sortIn W) (f .m) (f .form) .form in
           let q : length W ≡ at .end + 1 = module-words text (f .m) (formed-parses (sortIn W) (f .m) (f .form)) in
-          rw (take-all storeBytes code″ (omega (arith, code-whole))) (offsets-same (length W) (n .g .offset) (offsetOf text W) (n .offset-is) W (f .m) text (n .g .R) (wordsOf code″) (at .begin) (at .end) (at .routines) (omega arith) k)
+          rw (take-all storeBytes code″ (omega (arith, code-whole))) (offsets-same (length W) (n .g .offset) (offsetOf text W) (n .offset-is) W (f .m) text (n .g .R) (cellsOf code″) (at .begin) (at .end) (at .routines) (omega arith) k)
 
       heads-here : headsIn W ≡ headsFor (f .m .routines)
       unfolding headsIn
       heads-here = rw (f .form, headsIn)
 
-      words-here : map (toZ w32) (take count (wordsOf values″)) ≡ moduleData W (f .m) .words
+      words-here : map (toZ w32) (take count (cellsOf values″)) ≡ moduleData W (f .m) .words
       words-here =
-          ap (map (toZ w32)) (sym (words-take count values″) ∙ ap wordsOf (clear-take cleared count-fits (count * 4) (omega arith)) ∙ words-take count values′) ∙ named .values-are
+          ap (map (toZ w32)) (sym (words-take count values″) ∙ ap cellsOf (clear-take cleared count-fits (count * 4) (omega arith)) ∙ words-take count values′) ∙ named .values-are
 
       pub names-accepted : Formal text code values (checked.Accepted words count main) code″ values″
       unfolding judgeForm judgeModule judgeMain Settles programOf
@@ -173,7 +173,7 @@ module _ (text code values : List ℕ) (words : ℕ) (f : Formed text code value
             holds = holds-here;
             there = n .there;
             alone = n .alone;
-            words = ap (λ (k : ℕ). map (toZ w32) (take k (wordsOf values″))) (sym (n .count-is)) ∙ words-here;
+            words = ap (λ (k : ℕ). map (toZ w32) (take k (cellsOf values″))) (sym (n .count-is)) ∙ words-here;
             zeros = λ c a b. zero-at c (omega (arith, n .count-is)) b;
             code-past = same-past code″ code code-whole (f .laid .code-room);
             values-past = same-past values″ values (values-same ∙ w .values-long ∙ f .laid .values-room) (f .laid .values-room);
@@ -181,7 +181,7 @@ module _ (text code values : List ℕ) (words : ℕ) (f : Formed text code value
             values-long = values-same ∙ w .values-long;
           })
         where
-          zero-at : (c : ℕ) → count ≤ c → c < storeWords → getD (wordsOf values″) c 0 ≡ 0
+          zero-at : (c : ℕ) → count ≤ c → c < storeWords → getD (cellsOf values″) c 0 ≡ 0
           zero-at c a b =
               let e : c ≡ count + (c - count) = omega arith in
               rw e (clear-in cleared count-fits (c - count) (omega arith))
@@ -202,7 +202,7 @@ module _ (text code values : List ℕ) (words : ℕ) (l : Laid text code values 
       at : (i : ℕ) → sortsIn code words i ≡ sortIn (wordsIn text) i
       at i =
           test (ltb i words)
-          (λ t. rw (t, sortsIn) (ap (λ (k : ℕ). opIn (getD (wordsOf code) k 0)) (omega arith) ∙ loads-sorts text (l .code₀) (l .values₀) (l .answer) code values (l .loads) i (omega (arith, ltb-true i words t, l .many))))
+          (λ t. rw (t, sortsIn) (ap (λ (k : ℕ). opIn (getD (cellsOf code) k 0)) (omega arith) ∙ loads-sorts text (l .code₀) (l .values₀) (l .answer) code values (l .loads) i (omega (arith, ltb-true i words t, l .many))))
           (λ t. rw (t, sortsIn) (sym (nothing-behind i (omega (arith, ltb-false i words t, l .many)))))
 
   module _ (r : form.Verdict) (j : Judged code words r) where
@@ -280,7 +280,7 @@ module _ (code values values₁ : List ℕ) (w : Whole code values) (z : Cleared
   from-zero k = omega arith
 
   pub clean-now : Clean code values₁
-  clean-now = record { whole = record { code-room = w .code-room; values-room = still-long ∙ w .values-room }; zeros = λ k h. subst (λ (i : ℕ). getD (wordsOf values₁) i 0 ≡ 0) (from-zero k) (clear-in z (omega (arith, w .values-room)) k h) }
+  clean-now = record { whole = record { code-room = w .code-room; values-room = still-long ∙ w .values-room }; zeros = λ k h. subst (λ (i : ℕ). getD (cellsOf values₁) i 0 ≡ 0) (from-zero k) (clear-in z (omega (arith, w .values-room)) k h) }
 
   module _ (text : List ℕ) (r : Checked) (code′ values′ : List ℕ) (s : Settles text code values₁ (verdict text) r code′ values′) where
     settled : Settles text code values (verdict text) r code′ values′

@@ -17,7 +17,7 @@ use Rattle.paper.specs.Names.{Text, sortIn, spelled}
 use Rattle.paper.specs.Types.{Fault}
 use Rattle.paper.specs.Declarations.{Signature, dataTexts, moduleData, signatures}
 use Rattle.paper.specs.Checks.{faults}
-use Rattle.store_cells.specs.Words.{wordsOf}
+use Rattle.store_cells.specs.Cells.{cellsOf}
 use Rattle.code.specs.Steps.{Head, numbered}
 use Rattle.code.specs.Signatures.{Heads}
 use Rattle.check_names.specs.Promises.{storeBytes}
@@ -67,10 +67,10 @@ earlier-next W earlier (suc k) (q ∷ rs) r rest e = earlier-next W (spelled W (
 -- ---- the invariant: the first k routines are checked, and the check has come to word h
 pub record Going {text code₀ values₀ : List ℕ} {at end : ℕ} (b : RoutinesStand text code₀ values₀ at end) (code values : List ℕ) (h k : ℕ) : Type 0 where
   pub left : Left (wordsIn text) (b .m) (earlierOf (wordsIn text) (dataTexts (wordsIn text) (b .m .declared)) k (b .m .routines)) k (drop k (b .m .routines)) h end
-  pub raw : RawRoutines (groundOf text (wordsIn text) (b .m)) (wordsOf code) (b .m) (take k (b .m .routines)) (headsFor (take k (b .m .routines))) at h
+  pub raw : RawRoutines (groundOf text (wordsIn text) (b .m)) (cellsOf code) (b .m) (take k (b .m .routines)) (headsFor (take k (b .m .routines))) at h
   pub filled : ModuleFilled (wordsIn text) (b .m) values
   pub unread : Unread (wordsIn text) code h end
-  pub heads : Heads (wordsOf code) (headsFor (b .m .routines)) (signatures (wordsIn text) (b .m) 0 (b .m .routines))
+  pub heads : Heads (cellsOf code) (headsFor (b .m .routines)) (signatures (wordsIn text) (b .m) 0 (b .m .routines))
   pub few : k ≤ h
 
 pub record Invariant (text code₀ values₀ : List ℕ) (at end : ℕ) (code values : List ℕ) (h k : ℕ) : Type 0 where
@@ -158,7 +158,7 @@ module _ {text code₀ values₀ : List ℕ} {at end : ℕ} (b : RoutinesStand t
     };
     filled = g .filled;
     unread = unread-less W code h (next .one .end) end (omega (arith, next .one .after, next-inside)) (g .unread);
-    calls = λ D s. calls-kept W (b .m) (wordsOf code) D (groundOf text W (b .m)) at end k h (next .n) (next .r) (next .rest) _ ground-words (g .raw) (next .is) (next .one) (next .more) (g .heads) s;
+    calls = λ D s. calls-kept W (b .m) (cellsOf code) D (groundOf text W (b .m)) at end k h (next .n) (next .r) (next .rest) _ ground-words (g .raw) (next .is) (next .one) (next .more) (g .heads) s;
     room = omega (arith, b .room, long);
   }
 
@@ -178,16 +178,16 @@ module _ {text code₀ values₀ : List ℕ} {at end : ℕ} (b : RoutinesStand t
         let t : n ≡ next .n = s .goes .next-is in
         let d : drop (suc k) rs ≡ next .rest = drop-next rs k (next .r) (next .rest) (next .is) in
         let q : earlierOf W (dataTexts W (b .m .declared)) (suc k) rs ≡ spelled W (next .r .name) ∷ earlierOf W (dataTexts W (b .m .declared)) k rs = earlier-next W (dataTexts W (b .m .declared)) k rs (next .r) (next .rest) (next .is) in
-        let same : SameWords (wordsOf code) (wordsOf code′) at h = record { heads = λ i a l. sym (s .goes .below (i * 2) (omega arith)); tails = λ i a l. sym (s .goes .below (i * 2 + 1) (omega arith)) } in
-        let old = routines-frame (groundOf text W (b .m)) (wordsOf code) (wordsOf code′) (b .m) (take k rs) (headsFor (take k rs)) at h same (g .raw) in
-        let all = routines-on (groundOf text W (b .m)) (wordsOf code′) (b .m) (take k rs) (headsFor (take k rs)) at h (next .n) (next .r) (headFor (next .r)) old (head-word (sortIn W) (next .r) h (next .n) (next .one)) (s .goes .raw) in
+        let same : SameWords (cellsOf code) (cellsOf code′) at h = record { heads = λ i a l. sym (s .goes .below (i * 2) (omega arith)); tails = λ i a l. sym (s .goes .below (i * 2 + 1) (omega arith)) } in
+        let old = routines-frame (groundOf text W (b .m)) (cellsOf code) (cellsOf code′) (b .m) (take k rs) (headsFor (take k rs)) at h same (g .raw) in
+        let all = routines-on (groundOf text W (b .m)) (cellsOf code′) (b .m) (take k rs) (headsFor (take k rs)) at h (next .n) (next .r) (headFor (next .r)) old (head-word (sortIn W) (next .r) h (next .n) (next .one)) (s .goes .raw) in
         let u = left-on W (b .m) (subst (λ (x : List Routine). Left W (b .m) (earlierOf W (dataTexts W (b .m .declared)) k rs) k x h end) (next .is) (g .left)) (next .more) (s .none-in-head) (s .goes .none) in
         rw (z, t) (record {
           left = rw (d, q) u;
           raw = rw (take-next rs k (next .r) (next .rest) (next .is)) (rw (heads-more (take k rs) (next .r)) all);
           filled = s .goes .filled;
           unread = unread-kept W code code′ h (next .n) end (omega (arith, next-on)) (s .goes .above) kept (g .unread);
-          heads = begins .calls (wordsOf code′) (s .goes .spares);
+          heads = begins .calls (cellsOf code′) (s .goes .spares);
           few = omega (arith, g .few, next-on);
         })
 
@@ -225,7 +225,7 @@ module _ (text code₀ values₀ : List ℕ) (at end : ℕ) (code values : List 
           let all : take k rs ≡ rs = take-all k rs (drop-all rs k (n .0)) in
           record {
             clear = left-end (wordsIn text) (b .m) (subst (λ (x : List Routine). Left (wordsIn text) (b .m) (earlierOf (wordsIn text) (dataTexts (wordsIn text) (b .m .declared)) k (b .m .routines)) k x h end) (n .0) (g .left));
-            raw = rw (n .1) (subst (λ (x : List Routine). RawRoutines (groundOf text (wordsIn text) (b .m)) (wordsOf code) (b .m) x (headsFor x) at h) all (g .raw));
+            raw = rw (n .1) (subst (λ (x : List Routine). RawRoutines (groundOf text (wordsIn text) (b .m)) (cellsOf code) (b .m) x (headsFor x) at h) all (g .raw));
             filled = g .filled;
           }
 

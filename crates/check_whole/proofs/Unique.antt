@@ -15,7 +15,7 @@ use mir.Facts.{ofZ-toZ}
 use borrow.Author.Tests.{ltb-false}
 use Rattle.laws.proofs.Tests.{test, by-less, false-true}
 use Rattle.paper.specs.Answer.{Accepted, Verdict, refusedBy, accepted, verdict, offsetOf, storeWords}
-use Rattle.store_cells.specs.Words.{wordsOf}
+use Rattle.store_cells.specs.Cells.{cellsOf}
 use Rattle.store_cells.proofs.Laws.{Bytes, words-small}
 use Rattle.code.specs.Steps.{Head, noHead}
 use Rattle.code.specs.Holds.{Holds}
@@ -28,8 +28,8 @@ use Rattle.check_whole.specs.Checks.{storeBytes, headsIn, Ready, Judges,
 pub record OneProgram (text c d : List ℕ) : Type 0 where
   pub a : Accepted
   pub verdict-is : verdict text ≡ accepted a
-  pub first : Holds text (headsIn (a .words)) (offsetOf text (a .words)) (wordsOf (take storeBytes c)) (a .program)
-  pub second : Holds text (headsIn (a .words)) (offsetOf text (a .words)) (wordsOf (take storeBytes d)) (a .program)
+  pub first : Holds text (headsIn (a .words)) (offsetOf text (a .words)) (cellsOf (take storeBytes c)) (a .program)
+  pub second : Holds text (headsIn (a .words)) (offsetOf text (a .words)) (cellsOf (take storeBytes d)) (a .program)
 
 unfoldable pub SameCode : (text : List ℕ) → Checked → (c d : List ℕ) → Type 0
 SameCode text (checked.Refused number offset) c d = c ≡ d
@@ -51,11 +51,11 @@ word-at l n k h = List·getD-map (toZ w32) (take n l) k 0 ∙ ap (toZ w32) (getD
 
 module _ (text code values : List ℕ) (r s : Checked) (c d v w : List ℕ) where
   module _ (room : storeBytes ≤ length values) (a : Accepted) (p : Ready text code values a r c v) (q : Ready text code values a s d w) where
-    cells : Bytes v → Bytes w → (k : ℕ) → k < storeWords → getD (wordsOf v) k 0 ≡ getD (wordsOf w) k 0
+    cells : Bytes v → Bytes w → (k : ℕ) → k < storeWords → getD (cellsOf v) k 0 ≡ getD (cellsOf w) k 0
     cells bytes others k l =
         by-less k (length (a .program .words))
         (λ m. same-number _ _ (words-small v bytes k) (words-small w others k)
-        (sym (word-at (wordsOf v) _ k m) ∙ ap (λ (x : List ℤ). getD x k (toZ w32 0)) (p .words ∙ sym (q .words)) ∙ word-at (wordsOf w) _ k m))
+        (sym (word-at (cellsOf v) _ k m) ∙ ap (λ (x : List ℤ). getD x k (toZ w32 0)) (p .words ∙ sym (q .words)) ∙ word-at (cellsOf w) _ k m))
         (λ m. p .zeros k m l ∙ sym (q .zeros k m l))
 
     ready-answer : r ≡ s
@@ -64,9 +64,9 @@ module _ (text code values : List ℕ) (r s : Checked) (c d v w : List ℕ) wher
         ∙ ap (λ (R : List Head). checked.Accepted (length (a .words)) (length (a .program .words)) (getD R (a .main) noHead .word)) (p .heads-are ∙ sym (q .heads-are))
         ∙ sym (q .answer)
 
-    holding : (R : List Head) (x : List ℕ) → R ≡ headsIn (a .words) → Holds text R (offsetOf text (a .words)) (wordsOf (take storeBytes x)) (a .program)
-        → Holds text (headsIn (a .words)) (offsetOf text (a .words)) (wordsOf (take storeBytes x)) (a .program)
-    holding R x e h = subst (λ (y : List Head). Holds text y (offsetOf text (a .words)) (wordsOf (take storeBytes x)) (a .program)) e h
+    holding : (R : List Head) (x : List ℕ) → R ≡ headsIn (a .words) → Holds text R (offsetOf text (a .words)) (cellsOf (take storeBytes x)) (a .program)
+        → Holds text (headsIn (a .words)) (offsetOf text (a .words)) (cellsOf (take storeBytes x)) (a .program)
+    holding R x e h = subst (λ (y : List Head). Holds text y (offsetOf text (a .words)) (cellsOf (take storeBytes x)) (a .program)) e h
 
     ready-same : verdict text ≡ accepted a → Same text r s c d v w
     unfolding SameCode

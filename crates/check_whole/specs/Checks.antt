@@ -12,7 +12,7 @@ use Rattle.paper.specs.Expressions.{got, no}
 use Rattle.paper.specs.Form.{formed}
 use Rattle.paper.specs.Names.{sortIn}
 use Rattle.paper.specs.Answer.{Accepted, Verdict, refusedBy, accepted, verdict, offsetOf}
-use Rattle.store_cells.specs.Words.{wordsOf}
+use Rattle.store_cells.specs.Cells.{cellsOf}
 use Rattle.code.specs.Steps.{Head, noHead}
 use Rattle.code.specs.Holds.{Holds}
 use Rattle.check_heads.specs.Trees.{headsFor}
@@ -36,11 +36,11 @@ pub record Ready (text code values : List ℕ) (a : Accepted) (r : Checked) (cod
   pub R : List Head
   pub heads-are : R ≡ headsIn (a .words)
   pub answer : r ≡ checked.Accepted (length (a .words)) (length (a .program .words)) (getD R (a .main) noHead .word)
-  pub holds : Holds text R (offsetOf text (a .words)) (wordsOf (take storeBytes code′)) (a .program)
+  pub holds : Holds text R (offsetOf text (a .words)) (cellsOf (take storeBytes code′)) (a .program)
   pub there : a .main < length R
   pub alone : getD R (a .main) noHead .parameters ≡ 0
-  pub words : map (toZ w32) (take (length (a .program .words)) (wordsOf values′)) ≡ a .program .words
-  pub zeros : (c : ℕ) → length (a .program .words) ≤ c → c < 16384 → getD (wordsOf values′) c 0 ≡ 0
+  pub words : map (toZ w32) (take (length (a .program .words)) (cellsOf values′)) ≡ a .program .words
+  pub zeros : (c : ℕ) → length (a .program .words) ≤ c → c < 16384 → getD (cellsOf values′) c 0 ≡ 0
   pub code-past : drop storeBytes code′ ≡ drop storeBytes code
   pub values-past : drop storeBytes values′ ≡ drop storeBytes values
   pub code-long : length code′ ≡ length code

@@ -7,7 +7,7 @@ use Rattle.paper.specs.Words.{Refusal, reading}
 use Rattle.paper.specs.Names.{sortIn}
 use Rattle.paper.specs.Form.{formed}
 use Rattle.paper.specs.Answer.{Verdict, refusedBy, accepted, judgeForm, verdict}
-use Rattle.store_cells.specs.Words.{wordsOf}
+use Rattle.store_cells.specs.Cells.{cellsOf}
 use Rattle.check_load.specs.Layout.{wordsIn}
 use Rattle.check_whole.specs.declared.Checked.{Checked}
 use Rattle.check_whole.specs.declared.Checked.the-variants as checked
@@ -21,7 +21,7 @@ pub record Whole (code values : List ℕ) : Type 0 where
 -- and the value store's cells are 0
 pub record Clean (code values : List ℕ) : Type 0 where
   pub whole : Whole code values
-  pub zeros : (k : ℕ) → k < 16384 → getD (wordsOf values) k 0 ≡ 0
+  pub zeros : (k : ℕ) → k < 16384 → getD (cellsOf values) k 0 ≡ 0
 
 -- a refusal before clearing
 pub record Turned (code values : List ℕ) (f : Refusal) (r : Checked) (code′ values′ : List ℕ) : Type 0 where

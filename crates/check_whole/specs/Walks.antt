@@ -14,7 +14,7 @@ use Rattle.paper.specs.Types.{Fault}
 use Rattle.paper.specs.Declarations.{moduleData, signatures}
 use Rattle.paper.specs.Checks.{faults, mainOf}
 use Rattle.paper.specs.Answer.{offsetOf}
-use Rattle.store_cells.specs.Words.{wordsOf}
+use Rattle.store_cells.specs.Cells.{cellsOf}
 use Rattle.code.specs.Steps.{noHead}
 use Rattle.check_names.specs.Promises.{storeBytes}
 use Rattle.check_load.specs.declared.Loaded.{Loaded}
@@ -64,9 +64,9 @@ pub record Named (text : List ℕ) (m : Module) (count main : ℕ) (code′ valu
   pub there : number < length (g .R)
   pub begins : getD (g .R) number noHead .word ≡ main
   pub alone : getD (g .R) number noHead .parameters ≡ 0
-  pub raw : RawModule g (wordsOf code′) m (length (wordsIn text))
+  pub raw : RawModule g (cellsOf code′) m (length (wordsIn text))
   pub count-is : count ≡ length (moduleData (wordsIn text) m .words)
-  pub values-are : map (toZ w32) (take count (wordsOf values′)) ≡ moduleData (wordsIn text) m .words
+  pub values-are : map (toZ w32) (take count (cellsOf values′)) ≡ moduleData (wordsIn text) m .words
 
 pub record Nameless (text : List ℕ) (m : Module) : Type 0 where
   pub clear : faults (wordsIn text) m ≡ []
@@ -86,13 +86,13 @@ pub record RoutinesStand (text code values : List ℕ) (at end : ℕ) : Type 0 w
   pub none : moduleData (wordsIn text) m .faults ≡ []
   pub filled : ModuleFilled (wordsIn text) m values
   pub unread : Unread (wordsIn text) code at end
-  pub heads : Heads (wordsOf code) (headsFor (m .routines)) (signatures (wordsIn text) m 0 (m .routines))
+  pub heads : Heads (cellsOf code) (headsFor (m .routines)) (signatures (wordsIn text) m 0 (m .routines))
   pub room : storeBytes ≤ length code
 
 -- No rule is broken in them, and the walk has left in the code store what it leaves of each.
 pub record RoutinesDone {text code values : List ℕ} {at end : ℕ} (b : RoutinesStand text code values at end) (code′ values′ : List ℕ) : Type 0 where
   pub clear : faults (wordsIn text) (b .m) ≡ []
-  pub raw : RawRoutines (groundOf text (wordsIn text) (b .m)) (wordsOf code′) (b .m) (b .m .routines) (headsFor (b .m .routines)) at end
+  pub raw : RawRoutines (groundOf text (wordsIn text) (b .m)) (cellsOf code′) (b .m) (b .m .routines) (headsFor (b .m .routines)) at end
   pub filled : ModuleFilled (wordsIn text) (b .m) values′
 
 unfoldable pub SaysRoutines : {text code values : List ℕ} {at end : ℕ} (b : RoutinesStand text code values at end) (code′ values′ : List ℕ) → Walked → Type 0

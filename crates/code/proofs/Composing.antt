@@ -8,7 +8,7 @@ use lib.ListN.{getD, set}
 use lib.Seq.{getD-set-other}
 use Rattle.paper.specs.Terms.{Term, unary, binary}
 use Rattle.code.specs.Cells.{linkIn, headAt, opAt, valueAt, linkAt}
-use Rattle.code.specs.Spans.{aCallWord, aCallElement, aParenthesis, aSpan, rightIn, operatorIn, operatorOf, opOf, prefixIn, leafTerm, elementTerm, within, operandTerm, termWithin, termIn}
+use Rattle.code.specs.Spans.{aCallSlot, aCallElement, aParenthesis, aSpan, rightIn, operatorIn, operatorOf, opOf, prefixIn, leafTerm, elementTerm, within, operandTerm, termWithin, termIn}
 use Rattle.code.proofs.Operands.{to-leaf, to-element, to-nested, to-prefix}
 use Rattle.code.proofs.Spanning.{Agree, end-span, end-leaf, right-span, right-leaf, chain-stop, kept, ended, composed, agree-same}
 
@@ -17,7 +17,7 @@ module _ (m n : ℕ) (C : List ℕ) (d : ℕ) where
   alone from to t e = ended m n C d from to 0 (t, to) t e (chain-stop m n C (termWithin m n C d) 0 t to to refl)
 
   -- a word alone
-  pub leaf-span : (i : ℕ) (t : Term) → opAt C i ≤ aCallWord → leafTerm m n (opAt C i) (valueAt C i) ≡ some t → termWithin m n C d i (i + 1) ≡ some t
+  pub leaf-span : (i : ℕ) (t : Term) → opAt C i ≤ aCallSlot → leafTerm m n (opAt C i) (valueAt C i) ≡ some t → termWithin m n C d i (i + 1) ≡ some t
   leaf-span i t h e = alone i (i + 1) t (to-leaf m n (headAt C i) (linkAt C i) (within (termWithin m n C) d) (termWithin m n C d) i (t, i + 1) h (record { is = e; end = refl }))
 
   -- NOT or a sign at i, before what stands up to r
@@ -56,7 +56,7 @@ module _ (m n : ℕ) (C : List ℕ) (d : ℕ) where
       (record { inside = within-one (i + 1) (linkAt C i) ∙ ap (termWithin m n C d (i + 1)) l ∙ e; end = omega arith }))
 
   -- an array's name at i, { behind it, its } at r
-  pub element-span : (i r : ℕ) (t u : Term) → aCallWord < opAt C i → opAt C i ≤ aCallElement → linkAt C i ≡ r → termWithin m n C d (i + 2) r ≡ some t
+  pub element-span : (i r : ℕ) (t u : Term) → aCallSlot < opAt C i → opAt C i ≤ aCallElement → linkAt C i ≡ r → termWithin m n C d (i + 2) r ≡ some t
       → elementTerm m n (opAt C i) (valueAt C i) t ≡ some u → termWithin m n C (suc d) i (r + 1) ≡ some u
   element-span i r t u h k l e g =
       alone m n C (suc d) i (r + 1) u

@@ -7,7 +7,7 @@ use lib.IntN.{pos}
 use Rattle.paper.specs.Sorts.{lessEqual, plus, minusSign, times, AND, NOT, equal}
 use Rattle.paper.specs.Terms.{literal, errno, stored, elementAt, unary, binary, ofModule, ofRoutine}
 use Rattle.code.specs.Cells.{errnoCell}
-use Rattle.code.specs.Spans.{aLiteral, aModuleWord, aCallWord, aModuleElement, aParenthesis, aNot, aSpan, opOf, operators, operatorOf, bias, guard, _then_, prefixIn, moduleLeaf, leafTerm, elementTerm, operandOf, rightEnd, rightTerm, chain, within, spanTerm, termWithin, termIn}
+use Rattle.code.specs.Spans.{aLiteral, aModuleSlot, aCallSlot, aModuleElement, aParenthesis, aNot, aSpan, opOf, operators, operatorOf, bias, guard, _then_, prefixIn, moduleLeaf, leafTerm, elementTerm, operandOf, rightEnd, rightTerm, chain, within, spanTerm, termWithin, termIn}
 
 head : (op value : ℕ) → ℕ
 head op v = op + 256 * v
@@ -18,7 +18,7 @@ link r = 65536 * r
 -- (x + 1) * 2 <= a{3}: words 0 to 11, x the routine's first word, a 20 words of the module from the tenth on
 comparison : List ℕ
 comparison =
-    head aParenthesis 0 ∷ link 4 ∷ head aCallWord 0 ∷ 0 ∷ head (opOf 0 aLiteral) (1 + bias) ∷ 0 ∷ head aLiteral (1 + bias) ∷ 0 ∷ 0 ∷ 0 ∷
+    head aParenthesis 0 ∷ link 4 ∷ head aCallSlot 0 ∷ 0 ∷ head (opOf 0 aLiteral) (1 + bias) ∷ 0 ∷ head aLiteral (1 + bias) ∷ 0 ∷ 0 ∷ 0 ∷
     head (opOf 2 aLiteral) (2 + bias) ∷ 0 ∷ head aLiteral (2 + bias) ∷ 0 ∷ head (opOf 6 aSpan) 0 ∷ link 12 ∷
     head aModuleElement (10 + 1024 * 20) ∷ link 11 ∷ 0 ∷ 0 ∷ head aLiteral (3 + bias) ∷ 0 ∷ 0 ∷ 0 ∷ []
 
@@ -45,7 +45,7 @@ comparison-short = refl
 -- a - b - c goes from left to right, and so does a + b * c where the checker has given b * c a span of its own
 differences : List ℕ
 differences =
-    head aModuleWord 0 ∷ 0 ∷ head (opOf 1 aModuleWord) 1 ∷ 0 ∷ head aModuleWord 1 ∷ 0 ∷ head (opOf 1 aModuleWord) 2 ∷ 0 ∷ head aModuleWord 2 ∷ 0 ∷ []
+    head aModuleSlot 0 ∷ 0 ∷ head (opOf 1 aModuleSlot) 1 ∷ 0 ∷ head aModuleSlot 1 ∷ 0 ∷ head (opOf 1 aModuleSlot) 2 ∷ 0 ∷ head aModuleSlot 2 ∷ 0 ∷ []
 
 differences-term : termIn 3 0 differences 0 5 ≡ some (binary minusSign (binary minusSign (stored (ofModule 0)) (stored (ofModule 1))) (stored (ofModule 2)))
 unfolding differences head link termWithin spanTerm within chain rightTerm rightEnd operandOf leafTerm moduleLeaf guard _then_ operatorOf operators
@@ -53,7 +53,7 @@ differences-term = refl
 
 sum : List ℕ
 sum =
-    head aModuleWord 0 ∷ 0 ∷ head (opOf 0 aSpan) 0 ∷ link 5 ∷ head aModuleWord 1 ∷ 0 ∷ head (opOf 2 aModuleWord) 2 ∷ 0 ∷ head aModuleWord 2 ∷ 0 ∷ []
+    head aModuleSlot 0 ∷ 0 ∷ head (opOf 0 aSpan) 0 ∷ link 5 ∷ head aModuleSlot 1 ∷ 0 ∷ head (opOf 2 aModuleSlot) 2 ∷ 0 ∷ head aModuleSlot 2 ∷ 0 ∷ []
 
 sum-term : termIn 3 0 sum 0 5 ≡ some (binary plus (stored (ofModule 0)) (binary times (stored (ofModule 1)) (stored (ofModule 2))))
 unfolding sum head link termWithin spanTerm within chain rightTerm rightEnd operandOf leafTerm moduleLeaf guard _then_ operatorOf operators
@@ -62,7 +62,7 @@ sum-term = refl
 -- NOT ERRNO = 0 AND x: NOT covers all of it
 condition : List ℕ
 condition =
-    head aNot 0 ∷ link 6 ∷ head aModuleWord errnoCell ∷ 0 ∷ head (opOf 9 aLiteral) bias ∷ 0 ∷ head aLiteral bias ∷ 0 ∷ head (opOf 12 aCallWord) 0 ∷ 0 ∷ head aCallWord 0 ∷ 0 ∷ []
+    head aNot 0 ∷ link 6 ∷ head aModuleSlot errnoCell ∷ 0 ∷ head (opOf 9 aLiteral) bias ∷ 0 ∷ head aLiteral bias ∷ 0 ∷ head (opOf 12 aCallSlot) 0 ∷ 0 ∷ head aCallSlot 0 ∷ 0 ∷ []
 
 condition-term : termIn 0 1 condition 0 6 ≡ some (unary NOT (binary AND (binary equal errno (literal (pos 0))) (stored (ofRoutine 0))))
 unfolding condition head link termWithin spanTerm within chain rightTerm rightEnd operandOf leafTerm moduleLeaf guard _then_ prefixIn operatorOf operators

@@ -10,7 +10,7 @@ use borrow.Author.Tests.{eq-eqb, ne-eqb, ltb-true, lt-ltb, leb-true, le-leb, lt-
 use Rattle.laws.proofs.Tests.{test, by-most, by-same}
 use Rattle.paper.specs.Terms.{Ref, ofModule, ofRoutine, Term, literal, errno, stored, elementAt, unary}
 use Rattle.code.specs.Cells.{opIn, valueIn, errnoCell}
-use Rattle.code.specs.Spans.{aLiteral, aModuleWord, aCallWord, aModuleElement, aCallElement, aParenthesis, bias, _then_, firstIn, sizeIn, prefixIn, moduleLeaf, leafTerm, elementTerm, operandOf}
+use Rattle.code.specs.Spans.{aLiteral, aModuleSlot, aCallSlot, aModuleElement, aCallElement, aParenthesis, bias, _then_, firstIn, sizeIn, prefixIn, moduleLeaf, leafTerm, elementTerm, operandOf}
 use Rattle.code.proofs.Options.{none-some, same-some, Guarded, guarded, guards, went, goes}
 
 -- ---- a leaf, by its op
@@ -19,26 +19,26 @@ module _ (m n v : ℕ) (t : Term) where
   unfolding leafTerm
   leaf-literal e = same-some (literal (pos v -ℤ pos bias)) t e
 
-  pub leaf-errno : v ≡ errnoCell → leafTerm m n aModuleWord v ≡ some t → errno ≡ t
+  pub leaf-errno : v ≡ errnoCell → leafTerm m n aModuleSlot v ≡ some t → errno ≡ t
   unfolding leafTerm moduleLeaf
   leaf-errno h e = same-some errno t (rw (h, moduleLeaf) at e)
 
-  pub leaf-module : (v ≡ errnoCell → ⊥) → leafTerm m n aModuleWord v ≡ some t → Guarded (ltb v m) (stored (ofModule v)) t
+  pub leaf-module : (v ≡ errnoCell → ⊥) → leafTerm m n aModuleSlot v ≡ some t → Guarded (ltb v m) (stored (ofModule v)) t
   unfolding leafTerm moduleLeaf
   leaf-module h e = guarded (ltb v m) (stored (ofModule v)) t (rw (ne-eqb v errnoCell h, moduleLeaf) at e)
 
-  pub leaf-call : leafTerm m n aCallWord v ≡ some t → Guarded (ltb v n) (stored (ofRoutine v)) t
+  pub leaf-call : leafTerm m n aCallSlot v ≡ some t → Guarded (ltb v n) (stored (ofRoutine v)) t
   unfolding leafTerm
   leaf-call e = guarded (ltb v n) (stored (ofRoutine v)) t e
 
 -- no other op is a leaf's
-pub by-leaf : {A : Type 0} (m n op v : ℕ) (t : Term) → leafTerm m n op v ≡ some t → (op ≡ aLiteral → A) → (op ≡ aModuleWord → A) → (op ≡ aCallWord → A) → A
+pub by-leaf : {A : Type 0} (m n op v : ℕ) (t : Term) → leafTerm m n op v ≡ some t → (op ≡ aLiteral → A) → (op ≡ aModuleSlot → A) → (op ≡ aCallSlot → A) → A
 unfolding leafTerm
 by-leaf m n op v t e a b c =
     by-same op aLiteral a (λ h.
-    by-same op aModuleWord b (λ k.
-    by-same op aCallWord c (λ j.
-    none-some t (rw (ne-eqb op aCallWord j) at (rw (ne-eqb op aModuleWord k) at (rw (ne-eqb op aLiteral h, leafTerm) at e))))))
+    by-same op aModuleSlot b (λ k.
+    by-same op aCallSlot c (λ j.
+    none-some t (rw (ne-eqb op aCallSlot j) at (rw (ne-eqb op aModuleSlot k) at (rw (ne-eqb op aLiteral h, leafTerm) at e))))))
 
 -- ---- an element's head
 unfoldable pub arrayIn : (op value : ℕ) → Ref
@@ -76,11 +76,11 @@ module _ (m n p q : ℕ) (hm : m ≤ p) (hn : n ≤ q) where
   leaf-more op v t e =
       by-leaf m n op v t e
       (λ h. rw h (rw h at e))
-      (λ h. let d : leafTerm m n aModuleWord v ≡ some t = rw h at e in
+      (λ h. let d : leafTerm m n aModuleSlot v ≡ some t = rw h at e in
       rw h (by-same v errnoCell (λ k. rw (k, moduleLeaf) (ap some (leaf-errno m n v t k d)))
       (λ k. let g = leaf-module m n v t k d in
       rw (ne-eqb v errnoCell k, moduleLeaf) (guards (ltb v p) (stored (ofModule v)) t (lt-ltb v p (omega (arith, ltb-true v m (g .holds)))) (g .is)))))
-      (λ h. let d : leafTerm m n aCallWord v ≡ some t = rw h at e in
+      (λ h. let d : leafTerm m n aCallSlot v ≡ some t = rw h at e in
       let g = leaf-call m n v t d in
       rw h (guards (ltb v q) (stored (ofRoutine v)) t (lt-ltb v q (omega (arith, ltb-true v n (g .holds)))) (g .is)))
 
@@ -116,25 +116,25 @@ module _ (m n w l : ℕ) (inner covered : ℕ → ℕ → Option Term) (at : ℕ
     pub end : x .1 ≡ l
 
   -- neither leaf nor element
-  past : aCallWord < opIn w → aCallElement < opIn w → operandOf m n w l inner covered at
+  past : aCallSlot < opIn w → aCallElement < opIn w → operandOf m n w l inner covered at
       ≡ elim (eqb (opIn w) aParenthesis) [ true ↦ inner (at + 1) l then (λ t. some (t, l + 1)) | false ↦ covered (at + 1) l then (λ t. some (unary (prefixIn (opIn w)) t, l)) ]
   unfolding operandOf
-  past h k = rw (lt-leb (opIn w) aCallWord h, operandOf) (rw (lt-leb (opIn w) aCallElement k))
+  past h k = rw (lt-leb (opIn w) aCallSlot h, operandOf) (rw (lt-leb (opIn w) aCallElement k))
 
   module _ (e : operandOf m n w l inner covered at ≡ some x) where
-    pub of-leaf : opIn w ≤ aCallWord → LeafAt
+    pub of-leaf : opIn w ≤ aCallSlot → LeafAt
     unfolding operandOf
     of-leaf h =
-        let g = went (leafTerm m n (opIn w) (valueIn w)) (λ t. some (t, at + 1)) x (rw (le-leb (opIn w) aCallWord h, operandOf) at e) in
+        let g = went (leafTerm m n (opIn w) (valueIn w)) (λ t. some (t, at + 1)) x (rw (le-leb (opIn w) aCallSlot h, operandOf) at e) in
         let q = same-some (g .a, at + 1) x (g .next) in
         record { is = g .first ∙ ap (λ (y : Term × ℕ). some (y .0)) q; end = sym (ap (λ (y : Term × ℕ). y .1) q) }
 
-    module _ (h : aCallWord < opIn w) where
+    module _ (h : aCallSlot < opIn w) where
       pub of-element : opIn w ≤ aCallElement → ElementAt
       unfolding operandOf
       of-element k =
           let g = went (inner (at + 2) l) (λ x. elementTerm m n (opIn w) (valueIn w) x then (λ t. some (t, l + 1))) x
-          (rw (le-leb (opIn w) aCallElement k) at (rw (lt-leb (opIn w) aCallWord h, operandOf) at e)) in
+          (rw (le-leb (opIn w) aCallElement k) at (rw (lt-leb (opIn w) aCallSlot h, operandOf) at e)) in
           let d = went (elementTerm m n (opIn w) (valueIn w) (g .a)) (λ t. some (t, l + 1)) x (g .next) in
           let q = same-some (d .a, l + 1) x (d .next) in
           record { t = g .a; inside = g .first; is = d .first ∙ ap (λ (y : Term × ℕ). some (y .0)) q; end = sym (ap (λ (y : Term × ℕ). y .1) q) }
@@ -154,13 +154,13 @@ module _ (m n w l : ℕ) (inner covered : ℕ → ℕ → Option Term) (at : ℕ
 
   -- by cases
   pub of-any : {A : Type 0} → operandOf m n w l inner covered at ≡ some x
-      → (opIn w ≤ aCallWord → LeafAt → A)
-      → (aCallWord < opIn w → opIn w ≤ aCallElement → ElementAt → A)
+      → (opIn w ≤ aCallSlot → LeafAt → A)
+      → (aCallSlot < opIn w → opIn w ≤ aCallElement → ElementAt → A)
       → (opIn w ≡ aParenthesis → NestedAt → A)
       → (aParenthesis < opIn w → PrefixAt → A)
       → A
   of-any e a b c d =
-      by-most (opIn w) aCallWord (λ h. a h (of-leaf e h)) (λ h.
+      by-most (opIn w) aCallSlot (λ h. a h (of-leaf e h)) (λ h.
       by-most (opIn w) aCallElement (λ k. b h k (of-element e h k)) (λ k.
       by-same (opIn w) aParenthesis (λ s. c s (of-nested e h k s)) (λ s. d (omega (arith, s)) (of-prefix e h k s))))
 
@@ -168,15 +168,15 @@ module _ (m n w l : ℕ) (inner covered : ℕ → ℕ → Option Term) (at : ℕ
   pair-is t j p q = ap₂ (λ (s : Term) (k : ℕ). some (s, k)) p (sym q)
 
   -- and back
-  pub to-leaf : opIn w ≤ aCallWord → LeafAt → operandOf m n w l inner covered at ≡ some x
+  pub to-leaf : opIn w ≤ aCallSlot → LeafAt → operandOf m n w l inner covered at ≡ some x
   unfolding operandOf
   to-leaf h g =
-      rw (le-leb (opIn w) aCallWord h, operandOf) (goes (leafTerm m n (opIn w) (valueIn w)) (λ t. some (t, at + 1)) (x .0) (g .is) ∙ pair-is (x .0) (at + 1) refl (g .end))
+      rw (le-leb (opIn w) aCallSlot h, operandOf) (goes (leafTerm m n (opIn w) (valueIn w)) (λ t. some (t, at + 1)) (x .0) (g .is) ∙ pair-is (x .0) (at + 1) refl (g .end))
 
-  pub to-element : aCallWord < opIn w → opIn w ≤ aCallElement → ElementAt → operandOf m n w l inner covered at ≡ some x
+  pub to-element : aCallSlot < opIn w → opIn w ≤ aCallElement → ElementAt → operandOf m n w l inner covered at ≡ some x
   unfolding operandOf
   to-element h k g =
-      rw (lt-leb (opIn w) aCallWord h, operandOf) (rw (le-leb (opIn w) aCallElement k)
+      rw (lt-leb (opIn w) aCallSlot h, operandOf) (rw (le-leb (opIn w) aCallElement k)
       (goes (inner (at + 2) l) (λ x. elementTerm m n (opIn w) (valueIn w) x then (λ t. some (t, l + 1))) (g .t) (g .inside)
       ∙ goes (elementTerm m n (opIn w) (valueIn w) (g .t)) (λ t. some (t, l + 1)) (x .0) (g .is)
       ∙ pair-is (x .0) (l + 1) refl (g .end)))

@@ -16,15 +16,15 @@ use Rattle.paper.specs.Terms.{ofModule, ofRoutine, Term, literal, errno, stored
 use Rattle.code.specs.Cells.{opIn, valueIn, headAt, opAt, valueAt, linkAt, errnoCell}
 
 -- ---- ops
--- an operand of one word: a number, a word of the module or ERRNO, a word of the call
+-- an operand of one word: a number, a slot of the module or ERRNO, a slot of the call
 abbrev pub aLiteral : ℕ
 aLiteral = 1
 
-abbrev pub aModuleWord : ℕ
-aModuleWord = 2
+abbrev pub aModuleSlot : ℕ
+aModuleSlot = 2
 
-abbrev pub aCallWord : ℕ
-aCallWord = 3
+abbrev pub aCallSlot : ℕ
+aCallSlot = 3
 
 -- an element: its link is its closing brace
 abbrev pub aModuleElement : ℕ
@@ -48,7 +48,7 @@ abbrev pub aMinus : ℕ
 aMinus = 9
 
 -- An operator between two sides: its number among these in the low four bits, and above it how its right side is given. aSpan: it stands from the next word
--- up to the link. aLiteral, aModuleWord, aCallWord: it is the next word alone, and the operator has its value. (Four whole bits for the number make the
+-- up to the link. aLiteral, aModuleSlot, aCallSlot: it is the next word alone, and the operator has its value. (Four whole bits for the number make the
 -- choice of an operator one jump with no test.)
 abbrev pub anOperator : ℕ
 anOperator = 64
@@ -121,8 +121,8 @@ module _ (m n : ℕ) where
   unfoldable pub leafTerm : (op value : ℕ) → Option Term
   leafTerm op v =
       if eqb op aLiteral then some (literal (pos v -ℤ pos bias))
-      else if eqb op aModuleWord then moduleLeaf v
-      else if eqb op aCallWord then guard (ltb v n) (stored (ofRoutine v))
+      else if eqb op aModuleSlot then moduleLeaf v
+      else if eqb op aCallSlot then guard (ltb v n) (stored (ofRoutine v))
       else none
 
   unfoldable pub elementTerm : (op value : ℕ) → Term → Option Term
@@ -135,7 +135,7 @@ module _ (m n : ℕ) where
   -- sign covers.
   unfoldable pub operandOf : (head link : ℕ) → (inside covered : ℕ → ℕ → Option Term) → (at : ℕ) → Option (Term × ℕ)
   operandOf w l inside covered at =
-      elim (leb (opIn w) aCallWord) [
+      elim (leb (opIn w) aCallSlot) [
         | true ↦ leafTerm (opIn w) (valueIn w) then (λ t. some (t, at + 1))
         | false ↦
             elim (leb (opIn w) aCallElement) [

@@ -10,7 +10,7 @@ use mir.Syntax.{w32}
 use mir.Val.{toZ}
 use Rattle.paper.specs.Basics.{if_then_else_}
 use Rattle.paper.specs.Steps.{Program}
-use Rattle.paper.specs.States.{Loop, Location, moduleWord, callWord, Call, State}
+use Rattle.paper.specs.States.{Loop, Location, moduleSlot, callSlot, Call, State}
 use Rattle.paper.specs.Running.{codeAt, stepOf, idle}
 use Rattle.code.specs.Cells.{windowCells, firstWindow, windowOf, errnoCell}
 use Rattle.code.specs.Steps.{Head, numbered}
@@ -58,8 +58,8 @@ module _ (P : Program) (R : List Head) (X : List ℕ) where
   -- A cell as a location: of the module's words, or in the window of a call.
   unfoldable pub locationIn : (cell : ℕ) → Location
   locationIn c =
-      if ltb c firstWindow then moduleWord c
-      else callWord ((c - firstWindow) / windowCells + 1) ((c - firstWindow) % windowCells)
+      if ltb c firstWindow then moduleSlot c
+      else callSlot ((c - firstWindow) / windowCells + 1) ((c - firstWindow) % windowCells)
 
   unfoldable pub resultIn : (cell : ℕ) → Option Location
   resultIn zero = none

@@ -9,7 +9,7 @@ use lib.IntN.{ℤ, pos}
 use mir.Syntax.{w32}
 use mir.Val.{toZ, ofZ}
 use mir.ValLaws.{ofZ-toZ}
-use Rattle.paper.specs.Answer.{wordsOf, lowFirst, bytesOf, recordSize, Record, recordBytes, bytesAfter}
+use Rattle.paper.specs.Answer.{cellsOf, lowFirst, bytesOf, recordSize, Record, recordBytes, bytesAfter}
 use Rattle.demands.proofs.Alls.{first-of, rest-of}
 use Rattle.demands.specs.Vocabulary.{All, IsByte, number, fieldIn}
 
@@ -47,8 +47,8 @@ unfolding bytesOf lowFirst
 bytes-zeros zero = refl
 bytes-zeros (suc k) = rw (four k) (ap (λ (l : List ℕ). 0 ∷ 0 ∷ 0 ∷ 0 ∷ l) (bytes-zeros k))
 
-pub whole-words : (l : List ℕ) → 4 * length (wordsOf l) ≤ length l
-unfolding wordsOf
+pub whole-words : (l : List ℕ) → 4 * length (cellsOf l) ≤ length l
+unfolding cellsOf
 whole-words [] = omega arith
 whole-words (a ∷ []) = omega arith
 whole-words (a ∷ b ∷ []) = omega arith
@@ -71,8 +71,8 @@ low-word a b c d ha hb hc hd =
     rw e (rw (ea, q₁, q₂, q₃, eb, ec, ed))
 
 -- The bytes of the words from k on, and a part word, are the bytes from 4 k on.
-pub words-past : (k : ℕ) (l : List ℕ) → All IsByte l → k ≤ length (wordsOf l) → bytesOf (drop k (wordsOf l)) ++ drop (4 * length (wordsOf l)) l ≡ drop (4 * k) l
-unfolding wordsOf bytesOf
+pub words-past : (k : ℕ) (l : List ℕ) → All IsByte l → k ≤ length (cellsOf l) → bytesOf (drop k (cellsOf l)) ++ drop (4 * length (cellsOf l)) l ≡ drop (4 * k) l
+unfolding cellsOf bytesOf
 words-past zero [] h g = refl
 words-past zero (a ∷ []) h g = refl
 words-past zero (a ∷ b ∷ []) h g = refl
@@ -81,13 +81,13 @@ words-past zero (a ∷ b ∷ c ∷ d ∷ r) h g =
     let hb = rest-of h in
     let hc = rest-of hb in
     let hd = rest-of hc in
-    rw (low-word a b c d (first-of h) (first-of hb) (first-of hc) (first-of hd), four (length (wordsOf r)))
+    rw (low-word a b c d (first-of h) (first-of hb) (first-of hc) (first-of hd), four (length (cellsOf r)))
     (ap (λ (x : List ℕ). a ∷ b ∷ c ∷ d ∷ x) (words-past zero r (rest-of hd) (omega arith)))
 words-past (suc k) [] h g = absurd (omega arith)
 words-past (suc k) (a ∷ []) h g = absurd (omega arith)
 words-past (suc k) (a ∷ b ∷ []) h g = absurd (omega arith)
 words-past (suc k) (a ∷ b ∷ c ∷ []) h g = absurd (omega arith)
-words-past (suc k) (a ∷ b ∷ c ∷ d ∷ r) h g = rw (four (length (wordsOf r)), four k) (words-past k r (rest-of (rest-of (rest-of (rest-of h)))) (omega arith))
+words-past (suc k) (a ∷ b ∷ c ∷ d ∷ r) h g = rw (four (length (cellsOf r)), four k) (words-past k r (rest-of (rest-of (rest-of (rest-of h)))) (omega arith))
 
 -- ---- parts: the bytes of the first k words, and of the rest
 module _ (k : ℕ) (w : List ℤ) (x : List ℕ) (h : k ≤ length w) where
@@ -107,18 +107,18 @@ module _ (k : ℕ) (w : List ℤ) (x : List ℕ) (h : k ≤ length w) where
   drop-bytes = ap (drop (4 * k)) split-bytes ∙ drop-at (bytesOf (take k w)) (bytesOf (drop k w) ++ x) (4 * k) front-bytes
 
 -- ---- a store of bytes l whose whole words are w now
-module _ (w : List ℤ) (l : List ℕ) (same : length w ≡ length (wordsOf l)) where
+module _ (w : List ℤ) (l : List ℕ) (same : length w ≡ length (cellsOf l)) where
   pub after-length : length (bytesAfter w l) ≡ length l
   unfolding bytesAfter
   after-length =
       length-append (bytesOf w) (drop (4 * length w) l) ∙ omega (arith, length-bytes w, length-drop (4 * length w) l, whole-words l)
 
-  pub after-past : (k : ℕ) → k ≤ length w → All IsByte l → drop k w ≡ drop k (wordsOf l) → drop (4 * k) (bytesAfter w l) ≡ drop (4 * k) l
+  pub after-past : (k : ℕ) → k ≤ length w → All IsByte l → drop k w ≡ drop k (cellsOf l) → drop (4 * k) (bytesAfter w l) ≡ drop (4 * k) l
   unfolding bytesAfter
   after-past k h b e =
       drop-bytes k w (drop (4 * length w) l) h
       ∙ ap (λ (v : List ℤ). bytesOf v ++ drop (4 * length w) l) e
-      ∙ ap (λ (n : ℕ). bytesOf (drop k (wordsOf l)) ++ drop (4 * n) l) same
+      ∙ ap (λ (n : ℕ). bytesOf (drop k (cellsOf l)) ++ drop (4 * n) l) same
       ∙ words-past k l b (omega arith)
 
   pub after-zeros : (k n : ℕ) → k ≤ length w → n ≤ k → drop n (take k w) ≡ replicate (k - n) (pos 0) → drop (4 * n) (take (4 * k) (bytesAfter w l)) ≡ replicate (4 * (k - n)) 0
@@ -130,7 +130,7 @@ module _ (w : List ℤ) (l : List ℕ) (same : length w ≡ length (wordsOf l)) 
       ∙ ap bytesOf e
       ∙ bytes-zeros (k - n)
 
-pub after-same : (l : List ℕ) → All IsByte l → bytesAfter (wordsOf l) l ≡ l
+pub after-same : (l : List ℕ) → All IsByte l → bytesAfter (cellsOf l) l ≡ l
 unfolding bytesAfter
 after-same l b = words-past 0 l b (omega arith)
 

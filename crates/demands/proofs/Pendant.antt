@@ -9,7 +9,7 @@ use lib.IntN.{ℤ, pos}
 use borrow.Author.Tests.{lt-ltb, le-ltb}
 use Rattle.laws.proofs.Tests.{by-most, by-same}
 use Rattle.paper.specs.Declarations.{moduleWordLimit}
-use Rattle.paper.specs.Answer.{storeWords, recordSize, Record, recordBytes, Lent, Answer, answer, LentBytes, wordsOf, bytesOf, lentOf, bytesAfter, spread, pendantCall}
+use Rattle.paper.specs.Answer.{storeWords, recordSize, Record, recordBytes, Lent, Answer, answer, LentBytes, cellsOf, bytesOf, lentOf, bytesAfter, spread, pendantCall}
 use Rattle.demands.proofs.Bytes.{after-length, after-past, after-zeros, after-same, length-record, take-bytes, whole-words, ending-in, steps-in, output-in, inputs-in, words-in}
 use Rattle.demands.proofs.Memory.{demand-1}
 use Rattle.demands.proofs.MoreRoom.{demand-3}
@@ -24,7 +24,7 @@ long-enough k n w h e =
     omega (arith, length-drop n (take k w), length-take k w)
 
 -- Past k words the bytes are as they were: either there are k words, or nothing was stored.
-past-either : (k : ℕ) (w : List ℤ) (l : List ℕ) → All IsByte l → length w ≡ length (wordsOf l) → drop k w ≡ drop k (wordsOf l) → (¬ (k ≤ length w) → w ≡ wordsOf l)
+past-either : (k : ℕ) (w : List ℤ) (l : List ℕ) → All IsByte l → length w ≡ length (cellsOf l) → drop k w ≡ drop k (cellsOf l) → (¬ (k ≤ length w) → w ≡ cellsOf l)
     → drop (4 * k) (bytesAfter w l) ≡ drop (4 * k) l
 past-either k w l b same e f =
     by-most k (length w)

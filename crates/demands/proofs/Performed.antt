@@ -13,7 +13,7 @@ use Rattle.paper.specs.Basics.{if_then_else_}
 use Rattle.paper.specs.Numbers.{Value, value, error, num, ranged, isZero}
 use Rattle.paper.specs.Terms.{Term, Memory, Located, at, fails, locate, worth}
 use Rattle.paper.specs.Steps.{Spot, scalar, elementOf, Action, store, callFor, callOf, giveBack, raise, handOn, exit, retry, tryNext, write, read, choose, select, testWhile, enterFor, repeatFor, endList, Program}
-use Rattle.paper.specs.States.{Loop, Location, moduleWord, callWord, Call, State, Rooms, Effect, made, failing, handing, ending, lacking, withValue, withSpot, withValues, withCalls, withWords, withOutput, withInput, locationOf, onTop, onDepth, goTo, setWord, setLoop, setFailed, storeAt}
+use Rattle.paper.specs.States.{Loop, Location, moduleSlot, callSlot, Call, State, Rooms, Effect, made, failing, handing, ending, lacking, withValue, withSpot, withValues, withCalls, withWords, withOutput, withInput, locationOf, onTop, onDepth, goTo, setWord, setLoop, setFailed, storeAt}
 use Rattle.paper.specs.Running.{newCall, calling, storeResult, returning, retrying, tryingNext, adding, taking, writing, readNum, choosing, holds, matching, looping, passes, withStep, entering, repeating, ending-list, perform, codeAt, stepOf}
 use Rattle.raised.proofs.Choices.{chosen, chosen-by, forked}
 use Rattle.demands.proofs.Errors.{Sound, SoundPlace, locate-sound, worth-sound, ranged-sound, raised-number}
@@ -69,8 +69,8 @@ module _ (R : Rooms) (s : State) where
 
   changed-store : (l : Location) (v : ℤ) (s′ : State) → Changed R s s′ → Changed R s (storeAt l v s′)
   unfolding storeAt
-  changed-store (moduleWord k) v s′ h = with-word k v h
-  changed-store (callWord d k) v s′ h = with-calls _ h
+  changed-store (moduleSlot k) v s′ h = with-word k v h
+  changed-store (callSlot d k) v s′ h = with-calls _ h
 
   changed-result : (l : Option Location) (v : Option ℤ) (s′ : State) → Changed R s s′ → Changed R s (storeResult l v s′)
   unfolding storeResult
@@ -101,8 +101,8 @@ bare-result : (l : Option Location) (v : Option ℤ) (s : State) → map bare (s
 unfolding storeResult storeAt
 bare-result none v s = refl
 bare-result (some l) none s = refl
-bare-result (some (moduleWord k)) (some z) s = refl
-bare-result (some (callWord d k)) (some z) s = bare-depth d k z (s .calls)
+bare-result (some (moduleSlot k)) (some z) s = refl
+bare-result (some (callSlot d k)) (some z) s = bare-depth d k z (s .calls)
 
 top-calls : (f : Call → Call) (s : State) (c : Call) (r : List Call) → s .calls ≡ c ∷ r → onTop f s .calls ≡ f c ∷ r
 unfolding onTop
@@ -143,8 +143,8 @@ module _ (c : Call) (r : List Call) (ways : List ℕ) where
 
   stays-store : (l : Location) (v : ℤ) (s : State) → GoesOn c r ways (s .calls) → GoesOn c r ways (storeAt l v s .calls)
   unfolding storeAt onDepth
-  stays-store (moduleWord k) v s h = h
-  stays-store (callWord d k) v s h =
+  stays-store (moduleSlot k) v s h = h
+  stays-store (callSlot d k) v s h =
       rw (h .live)
       (forked (GoesOn c r ways) (eqb d (length (h .newest ∷ h .callers))) _ _
       (record { newest = setWord k v (h .newest); callers = h .callers; live = refl; routine = h .routine; failed = h .failed; result = h .result; goes-to = h .goes-to; waiting = h .waiting })

@@ -16,7 +16,7 @@ use Rattle.grammar.specs.Form.{SeparatedAt, last-one, one-more, closed-at-once,
 use Rattle.grammar.specs.Form.{ContentAt, no-content, initial, sized, constant, DeclaredAt, DeclarationsAt, ParameterAt, ParametersAt}
 use Rattle.grammar.proofs.Places.{content-grows, declared-grows, declarations-grow, parameter-grows, separated-grows}
 use Rattle.faults.specs.First.{no-fault, Inside, First}
-use Rattle.faults.specs.Added.{nameFaults, contentWords, contentFaults, declaredFaults, dataFaults, parameterFaults}
+use Rattle.faults.specs.Added.{nameFaults, contentSlots, contentFaults, declaredFaults, dataFaults, parameterFaults}
 use Rattle.faults.proofs.First.{_and_, widen, inside-if, first-before, first-after, first-alone, first-lower, first-higher, neither-rule, nothing-in-both}
 use Rattle.faults.proofs.Expressions.{grows, constant-inside}
 
@@ -27,7 +27,7 @@ module _ (W : List Word) (F : Filling) where
   name-adds i m words fs D = simp append-assoc
 
   pub content-adds : (t : DataType) (i : ℕ) (c : Content) (D : Data) → declareContent W F t i c D .faults ≡ D .faults ++ declaredFaults W F t i c D
-  unfolding declareContent declaredFaults contentWords contentFaults
+  unfolding declareContent declaredFaults contentSlots contentFaults
   content-adds t i variableData D = name-adds i _ _ _ D
   content-adds t i (initialData e) D = name-adds i _ _ _ D
   content-adds t i (arrayData e) D = name-adds i _ _ _ D
@@ -113,12 +113,12 @@ module _ (W : List Word) (F : Filling) where
     unfolding nameFaults
     name-fits e g = neither-rule _ _ 10 16 i e g
 
-  pub found-in-name : {f : Fault} (t : DataType) (D : Data) {d : Declared} {at to : ℕ} → DeclaredAt (sortIn W) (Parses (sortIn W)) d at to → First f (nameFaults W F (d .name) (contentWords W F (d .content) D) D)
+  pub found-in-name : {f : Fault} (t : DataType) (D : Data) {d : Declared} {at to : ℕ} → DeclaredAt (sortIn W) (Parses (sortIn W)) d at to → First f (nameFaults W F (d .name) (contentSlots W F (d .content) D) D)
       → First f (declaredFaults W F t (d .name) (d .content) D)
   unfolding declaredFaults
   found-in-name t D {d} h g = first-before g (name-inside (d .name) (d .name) (suc (d .name)) _ D (omega arith) (omega arith)) (content-inside t D (h .content)) (omega (arith, h .named))
 
-  pub found-in-content : {f : Fault} (t : DataType) (i : ℕ) (c : Content) (D : Data) → nameFaults W F i (contentWords W F c D) D ≡ [] → First f (contentFaults W F t c D) → First f (declaredFaults W F t i c D)
+  pub found-in-content : {f : Fault} (t : DataType) (i : ℕ) (c : Content) (D : Data) → nameFaults W F i (contentSlots W F c D) D ≡ [] → First f (contentFaults W F t c D) → First f (declaredFaults W F t i c D)
   unfolding declaredFaults
   found-in-content t i c D e g = first-after e g
 

@@ -17,11 +17,11 @@ module _ (W : List Word) (F : Filling) where
       ++ faultIf (crosses (F .limit) (length (D .words)) (length words)) 16 i
 
   -- The words that a name gets, and the faults of its constant expression.
-  unfoldable pub contentWords : Content → Data → List ℤ
-  contentWords variableData D = pos 0 ∷ []
-  contentWords (initialData e) D = constantValue W (F .scopesWith (D .names)) (F .memoryWith (D .words)) e ∷ []
-  contentWords (arrayData e) D = replicate (sizeOf W (F .scopesWith (D .names)) (F .memoryWith (D .words)) e) (pos 0)
-  contentWords (constantData e) D = constantValue W (F .scopesWith (D .names)) (F .memoryWith (D .words)) e ∷ []
+  unfoldable pub contentSlots : Content → Data → List ℤ
+  contentSlots variableData D = pos 0 ∷ []
+  contentSlots (initialData e) D = constantValue W (F .scopesWith (D .names)) (F .memoryWith (D .words)) e ∷ []
+  contentSlots (arrayData e) D = replicate (sizeOf W (F .scopesWith (D .names)) (F .memoryWith (D .words)) e) (pos 0)
+  contentSlots (constantData e) D = constantValue W (F .scopesWith (D .names)) (F .memoryWith (D .words)) e ∷ []
 
   unfoldable pub contentFaults : DataType → Content → Data → List Fault
   contentFaults t variableData D = []
@@ -31,7 +31,7 @@ module _ (W : List Word) (F : Filling) where
 
   -- What a declaration adds, and what several do.
   unfoldable pub declaredFaults : DataType → (name : ℕ) → Content → Data → List Fault
-  declaredFaults t i c D = nameFaults i (contentWords c D) D ++ contentFaults t c D
+  declaredFaults t i c D = nameFaults i (contentSlots c D) D ++ contentFaults t c D
 
   unfoldable pub dataFaults : List Declared → Data → List Fault
   dataFaults [] D = []

@@ -14,12 +14,12 @@ use Rattle.paper.specs.Declarations.{routineLimit, moduleWordLimit, routineWord
 use Rattle.paper.specs.Answer.{depthLimit, storeWords, recordSize}
 use Rattle.code.specs.Cells.{firstWindow, windowCells, errnoCell}
 use Rattle.code.specs.Windows.{endsCell, stepsCell, routineCell, waitsCell, afterCell, failedCell, resultCell, writtenCell, usedCell}
-use Rattle.code.specs.Spans.{bias, aLiteral, aModuleWord, aCallWord, aModuleElement, aCallElement, aParenthesis, aNot, aPlus, aMinus, anOperator, aSpan}
+use Rattle.code.specs.Spans.{bias, aLiteral, aModuleSlot, aCallSlot, aModuleElement, aCallElement, aParenthesis, aNot, aPlus, aMinus, anOperator, aSpan}
 use Rattle.code.specs.Steps.{aTarget, aCallTarget, aProcedureCall, aReturnOf, aReturn, aRaiseOf, aRaise, anExit, aRetry, aTryNext, aWrite, aWriteOf, aRead, aCompactIf, anIf, aWhile, aFor, aForTest, aTest, anEnd, aFunctionEnd, anElseIf, aStep, aCase, aNextValue, aNextArgument, aDatum, theParameters, aThen, aDo, aPass, anOtherwise, aClose}
 
 abbrev pub ops : List ℕ
 ops =
-    aLiteral ∷ aModuleWord ∷ aCallWord ∷ aModuleElement ∷ aCallElement ∷ aParenthesis ∷ aNot ∷ aPlus ∷ aMinus ∷ anOperator ∷ aTarget ∷ aCallTarget ∷ aProcedureCall ∷ aReturnOf ∷ aReturn ∷ aRaiseOf ∷ aRaise ∷ anExit ∷ aRetry ∷ aTryNext ∷ aWrite ∷ aWriteOf ∷ aRead ∷ aCompactIf ∷ anIf ∷ aWhile ∷ aFor ∷ aForTest ∷ aTest ∷ anEnd ∷ aFunctionEnd ∷ anElseIf ∷ aStep ∷ aCase ∷ aNextValue ∷ aNextArgument ∷ aDatum ∷ theParameters ∷ aThen ∷ aDo ∷ aPass ∷ anOtherwise ∷ aClose ∷ aSpan ∷ []
+    aLiteral ∷ aModuleSlot ∷ aCallSlot ∷ aModuleElement ∷ aCallElement ∷ aParenthesis ∷ aNot ∷ aPlus ∷ aMinus ∷ anOperator ∷ aTarget ∷ aCallTarget ∷ aProcedureCall ∷ aReturnOf ∷ aReturn ∷ aRaiseOf ∷ aRaise ∷ anExit ∷ aRetry ∷ aTryNext ∷ aWrite ∷ aWriteOf ∷ aRead ∷ aCompactIf ∷ anIf ∷ aWhile ∷ aFor ∷ aForTest ∷ aTest ∷ anEnd ∷ aFunctionEnd ∷ anElseIf ∷ aStep ∷ aCase ∷ aNextValue ∷ aNextArgument ∷ aDatum ∷ theParameters ∷ aThen ∷ aDo ∷ aPass ∷ anOtherwise ∷ aClose ∷ aSpan ∷ []
 
 abbrev pub cells : List ℕ
 cells =

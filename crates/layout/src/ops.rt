@@ -7,9 +7,9 @@ ghost use Rattle.layout.specs.Named.{ops};
 // ---- operands of one word
 pub const LITERAL: u32 = 1;
 
-pub const MODULE_WORD: u32 = 2;
+pub const MODULE_SLOT: u32 = 2;
 
-pub const CALL_WORD: u32 = 3;
+pub const CALL_SLOT: u32 = 3;
 
 // ---- operands of several
 pub const MODULE_ELEMENT: u32 = 4;
@@ -153,8 +153,8 @@ pub fn all() -> [u32; 44]
 {
     [
         LITERAL,
-        MODULE_WORD,
-        CALL_WORD,
+        MODULE_SLOT,
+        CALL_SLOT,
         MODULE_ELEMENT,
         CALL_ELEMENT,
         PARENTHESIS,

@@ -19,7 +19,7 @@ use Rattle.paper.specs.Steps.{Spot, Program}
 use Rattle.paper.specs.Steps as action
 use Rattle.paper.specs.States.{locationOf, memoryOf}
 use Rattle.paper.specs.Running.{perform, calling}
-use Rattle.store_cells.specs.Words.{wordsOf}
+use Rattle.store_cells.specs.Cells.{cellsOf}
 use Rattle.store_numbers.proofs.Whole.{read}
 use Rattle.code.specs.Cells.{opAt, linkAt, windowOf}
 use Rattle.code.specs.Steps.{Head, parts, aCallTarget, anyArguments, aNextArgument, aProcedureCall}
@@ -30,7 +30,7 @@ use Rattle.code.proofs.Spanning.{span-grows}
 use Rattle.store_evaluation.specs.Answers.{firstError}
 use Rattle.store_evaluation.proofs.Places.{link-in}
 use Rattle.store_reading.specs.Reading.{halfEnd, Part}
-use Rattle.run_machine.specs.Live.{wordsOfCall, codeOfCall, ResultFits, nowhere, inModule, inCaller}
+use Rattle.run_machine.specs.Live.{slotsOfCall, codeOfCall, ResultFits, nowhere, inModule, inCaller}
 use Rattle.run_machine.specs.Machine.{storeBytes, Here, Calls}
 use Rattle.run_targets.specs.Targets.{refCell, RefFits, spotIn, Aims}
 use Rattle.run_calls.specs.Calling.{Passes, Passed, MayEnter, Entered, Deepest, goesOnAt, Calling, MayCall, CallsFor}
@@ -47,7 +47,7 @@ use Rattle.run_calls.proofs.Called.{call-passes, here-after, call-fails
 
 -- ---- any call
 module _ (code values : List ℕ) (base last i callee first result : ℕ) (mc : MayCall code values base i last callee first result) where
-  own : Calling code values base i (mc .here) first (linkAt (wordsOf code) callee) callee result
+  own : Calling code values base i (mc .here) first (linkAt (cellsOf code) callee) callee result
   own = mc .calls (mc .here)
 
   pub call-inside : callee * 8 + 8 ≤ length code
@@ -59,7 +59,7 @@ module _ (code values : List ℕ) (base last i callee first result : ℕ) (mc : 
   pub lack-signed : SFits w64 (pos (lacked + callee))
   lack-signed = record { sfits = omega (arith, call-inside, mc .here .code-size) }
 
-  module _ (l : ℕ) (pl : Part halfEnd (linkAt (wordsOf code) callee) l) where
+  module _ (l : ℕ) (pl : Part halfEnd (linkAt (cellsOf code) callee) l) where
     -- the arguments begin as the code has read it
     begins : (h : Here code values base i) → Calling code values base i h first l callee result
     begins h = subst (λ (e : ℕ). Calling code values base i h first e callee result) (sym (pl .same)) (mc .calls h)
@@ -68,7 +68,7 @@ module _ (code values : List ℕ) (base last i callee first result : ℕ) (mc : 
     passes = call-passes code values base i (mc .here) last (mc .deepest .rooms) (mc .deepest .is) first l callee result (begins (mc .here)) (pl .small)
 
     module _ (after : List ℕ) (r : ℤ) (s : SFits w64 r) (ps : Passed code values after base first l (ltb base last) r) where
-      kept-below : (c : ℕ) → writtenCell ≤ c → c ≤ usedCell → getD (wordsOf after) c 0 ≡ getD (wordsOf values) c 0
+      kept-below : (c : ℕ) → writtenCell ≤ c → c ≤ usedCell → getD (cellsOf after) c 0 ≡ getD (cellsOf values) c 0
       kept-below c x y = ps .below c (omega (arith, mc .here .base-is))
 
       pub argument-error : leZ (pos firstError) (read r) ≡ true → Calls code values after base last i (read r)
@@ -93,15 +93,15 @@ module _ (code values : List ℕ) (base last i callee first result : ℕ) (mc : 
 
         -- where the caller goes on
         module _ (w : ℕ) (e : w ≡ goesOnAt i (natAbs (read r) % answers) result) where
-          leads : (h : Here code values base i) → linkAt (wordsOf code) w ≡ here.stepHere code values base i h .after
-          leads h = ap (linkAt (wordsOf code)) (e ∙ ap (λ (c : ℕ). goesOnAt i c result) (closes-is h)) ∙ sym (begins h .after-is)
+          leads : (h : Here code values base i) → linkAt (cellsOf code) w ≡ here.stepHere code values base i h .after
+          leads h = ap (linkAt (cellsOf code)) (e ∙ ap (λ (c : ℕ). goesOnAt i c result) (closes-is h)) ∙ sym (begins h .after-is)
 
           pub leads-inside : w * 8 + 8 ≤ length code
           leads-inside =
               link-in code w (here.whole-here code values base i (mc .here))
               (λ z. omega (arith, here.small-name code values base i (mc .here) (here.stepHere code values base i (mc .here) .after) (here.named-after code values base i (mc .here)) .0, leads (mc .here)))
 
-          module _ (u : ltb base last ≡ true) (l2 : ℕ) (p2 : Part halfEnd (linkAt (wordsOf code) w) l2) where
+          module _ (u : ltb base last ≡ true) (l2 : ℕ) (p2 : Part halfEnd (linkAt (cellsOf code) w) l2) where
             goes : (h : Here code values base i) → l2 ≡ here.stepHere code values base i h .after
             goes h = p2 .same ∙ leads h
 
@@ -136,18 +136,18 @@ goes-own i closes result z = rw (ne-eqb result 0 z)
 
 -- ---- a procedure call
 module _ (code values : List ℕ) (base i : ℕ) where
-  of-read : (h : Here code values base i) → opAt (wordsOf code) i ≡ aProcedureCall
-      → reads.CallsOf (here.m code values base i h) (here.n code values base i h) (here.codeHere code values base i h .function) (h .text) (h .R) (wordsOf code) i (here.stepHere code values base i h .after) (here.stepHere code values base i h .does)
+  of-read : (h : Here code values base i) → opAt (cellsOf code) i ≡ aProcedureCall
+      → reads.CallsOf (here.m code values base i h) (here.n code values base i h) (here.codeHere code values base i h .function) (h .text) (h .R) (cellsOf code) i (here.stepHere code values base i h .after) (here.stepHere code values base i h .does)
   of-read h op =
       let s = here.stepHere code values base i h in
-      reads-call-of (here.m code values base i h) (here.n code values base i h) (here.codeHere code values base i h .function) (h .text) (h .R) (wordsOf code) i (s .after) (s .does) (here.action-here code values base i h) op
+      reads-call-of (here.m code values base i h) (here.n code values base i h) (here.codeHere code values base i h .function) (h .text) (h .R) (cellsOf code) i (s .after) (s .does) (here.action-here code values base i h) op
 
-  module _ (op : opAt (wordsOf code) i ≡ aProcedureCall) where
-    of-calling : (h : Here code values base i) → Calling code values base i h (i + 1) (linkAt (wordsOf code) i) i 0
+  module _ (op : opAt (cellsOf code) i ≡ aProcedureCall) where
+    of-calling : (h : Here code values base i) → Calling code values base i h (i + 1) (linkAt (cellsOf code) i) i 0
     unfolding perform CalleeIn resultIn
     of-calling h =
         let g = of-read h op in
-        let q : CalleeIn (h .R) (h .offset) (wordsOf code) (action.callOf i (g .k) (g .es)) = subst (CalleeIn (h .R) (h .offset) (wordsOf code)) (g .does-is) (here.callee-here code values base i h) in
+        let q : CalleeIn (h .R) (h .offset) (cellsOf code) (action.callOf i (g .k) (g .es)) = subst (CalleeIn (h .R) (h .offset) (cellsOf code)) (g .does-is) (here.callee-here code values base i h) in
         record {
           es = g .es;
           closes = g .closes;
@@ -163,7 +163,7 @@ module _ (code values : List ℕ) (base i : ℕ) where
           location = none;
           location-is = λ Z. refl;
           effect = λ rooms steps out. here.effect-here code values base i h rooms steps out (here.stepHere code values base i h .after) (action.callOf i (g .k) (g .es)) refl (g .does-is);
-          after-is = g .after-is ∙ ap (linkAt (wordsOf code)) (goes-closing i (g .closes) 0 refl);
+          after-is = g .after-is ∙ ap (linkAt (cellsOf code)) (goes-closing i (g .closes) 0 refl);
         }
 
     pub of-may : (last : ℕ) → Deepest last → Here code values base i → MayCall code values base i last i (i + 1) 0
@@ -171,21 +171,21 @@ module _ (code values : List ℕ) (base i : ℕ) where
 
 -- ---- a call for a result
 module _ (code values : List ℕ) (base i : ℕ) where
-  pub for-read : (h : Here code values base i) → aCallTarget ≤ opAt (wordsOf code) i → opAt (wordsOf code) i < aProcedureCall
-      → reads.CallsFor (here.m code values base i h) (here.n code values base i h) (here.codeHere code values base i h .function) (h .text) (h .R) (wordsOf code) i (here.stepHere code values base i h .after) (here.stepHere code values base i h .does)
+  pub for-read : (h : Here code values base i) → aCallTarget ≤ opAt (cellsOf code) i → opAt (cellsOf code) i < aProcedureCall
+      → reads.CallsFor (here.m code values base i h) (here.n code values base i h) (here.codeHere code values base i h .function) (h .text) (h .R) (cellsOf code) i (here.stepHere code values base i h .after) (here.stepHere code values base i h .does)
   for-read h low high =
       let s = here.stepHere code values base i h in
-      reads-call-for (here.m code values base i h) (here.n code values base i h) (here.codeHere code values base i h .function) (h .text) (h .R) (wordsOf code) i (s .after) (s .does) (here.action-here code values base i h) low high
+      reads-call-for (here.m code values base i h) (here.n code values base i h) (here.codeHere code values base i h .function) (h .text) (h .R) (cellsOf code) i (s .after) (s .does) (here.action-here code values base i h) low high
 
   -- where its result goes, as the new call has it
-  goes-fits : (P : Program) (R : List Head) (X : List ℕ) (d cell : ℕ) (w : Ref) → RefFits (length (P .words)) (wordsOfCall (codeOfCall P R X d)) w 1 → cell ≡ refCell (windowOf d) w → ResultFits P R X (suc d) (cell + 1)
+  goes-fits : (P : Program) (R : List Head) (X : List ℕ) (d cell : ℕ) (w : Ref) → RefFits (length (P .words)) (slotsOfCall (codeOfCall P R X d)) w 1 → cell ≡ refCell (windowOf d) w → ResultFits P R X (suc d) (cell + 1)
   unfolding RefFits refCell
   goes-fits P R X d cell (ofModule k) f q = inModule k (omega arith) (omega arith)
   goes-fits P R X d cell (ofRoutine k) f q = inCaller d k refl (omega arith) (omega arith)
 
-  module _ (next cell : ℕ) (low : aCallTarget ≤ opAt (wordsOf code) i) (high : opAt (wordsOf code) i < aProcedureCall) where
+  module _ (next cell : ℕ) (low : aCallTarget ≤ opAt (cellsOf code) i) (high : opAt (cellsOf code) i < aProcedureCall) where
     module _ (h : Here code values base i) (a : Aims code values base i h aCallTarget cell next) where
-      read-at : reads.CallsFor (here.m code values base i h) (here.n code values base i h) (here.codeHere code values base i h .function) (h .text) (h .R) (wordsOf code) i (here.stepHere code values base i h .after) (here.stepHere code values base i h .does)
+      read-at : reads.CallsFor (here.m code values base i h) (here.n code values base i h) (here.codeHere code values base i h .function) (h .text) (h .R) (cellsOf code) i (here.stepHere code values base i h .after) (here.stepHere code values base i h .does)
       read-at = for-read h low high
 
       spot-same : _≡_ {A = Spot × ℕ} (read-at .s, read-at .j) (a .s, next)
@@ -201,22 +201,22 @@ module _ (code values : List ℕ) (base i : ℕ) where
       cell-is = a .cell-is ∙ ap (λ (b : ℕ). refCell b (a .w)) (h .base-is)
 
       -- its arguments are read from behind its callee, so that word is in the store
-      callee-linked : linkAt (wordsOf code) (next + 1) ≡ 0 → ⊥
+      callee-linked : linkAt (cellsOf code) (next + 1) ≡ 0 → ⊥
       callee-linked z =
           let m = here.m code values base i h in
           let n = here.n code values base i h in
           let f = here.codeHere code values base i h .function in
-          let e : linkAt (wordsOf code) (read-at .j + 1) ≡ 0 = ap (λ (x : ℕ). linkAt (wordsOf code) (x + 1)) next-is ∙ z in
-          let q : anyArguments m n f (h .text) (h .R) (wordsOf code) (read-at .j + 3) 0 ≡ some (read-at .es, read-at .closes) = ap (anyArguments m n f (h .text) (h .R) (wordsOf code) (read-at .j + 3)) (sym e) ∙ read-at .arguments in
-          let p = some-arguments m n f (h .text) (h .R) (wordsOf code) (read-at .j + 3) 0 (read-at .es) (read-at .closes) (λ y. omega arith) q in
-          by-same (opAt (wordsOf code) 0) aNextArgument
-          (λ y. let x = argument-more m n f (h .text) (h .R) (wordsOf code) (read-at .j + 3) 0 (read-at .es) (read-at .closes) (parts - 1) p y in omega (arith, span-grows m n (wordsOf code) (read-at .j + 3) 0 (x .e) (x .reads)))
-          (λ y. let x = argument-last m n f (h .text) (h .R) (wordsOf code) (read-at .j + 3) 0 (read-at .es) (read-at .closes) (parts - 1) p y in omega (arith, span-grows m n (wordsOf code) (read-at .j + 3) 0 (x .e) (x .reads)))
+          let e : linkAt (cellsOf code) (read-at .j + 1) ≡ 0 = ap (λ (x : ℕ). linkAt (cellsOf code) (x + 1)) next-is ∙ z in
+          let q : anyArguments m n f (h .text) (h .R) (cellsOf code) (read-at .j + 3) 0 ≡ some (read-at .es, read-at .closes) = ap (anyArguments m n f (h .text) (h .R) (cellsOf code) (read-at .j + 3)) (sym e) ∙ read-at .arguments in
+          let p = some-arguments m n f (h .text) (h .R) (cellsOf code) (read-at .j + 3) 0 (read-at .es) (read-at .closes) (λ y. omega arith) q in
+          by-same (opAt (cellsOf code) 0) aNextArgument
+          (λ y. let x = argument-more m n f (h .text) (h .R) (cellsOf code) (read-at .j + 3) 0 (read-at .es) (read-at .closes) (parts - 1) p y in omega (arith, span-grows m n (cellsOf code) (read-at .j + 3) 0 (x .e) (x .reads)))
+          (λ y. let x = argument-last m n f (h .text) (h .R) (cellsOf code) (read-at .j + 3) 0 (read-at .es) (read-at .closes) (parts - 1) p y in omega (arith, span-grows m n (cellsOf code) (read-at .j + 3) 0 (x .e) (x .reads)))
 
       callee-in : (next + 1) * 8 + 8 ≤ length code
       callee-in = link-in code (next + 1) (here.whole-here code values base i h) callee-linked
 
-      for-calling : Calling code values base i h (next + 3) (linkAt (wordsOf code) (next + 1)) (next + 1) (cell + 1)
+      for-calling : Calling code values base i h (next + 3) (linkAt (cellsOf code) (next + 1)) (next + 1) (cell + 1)
       unfolding perform CalleeIn resultIn
       for-calling =
           let m = here.m code values base i h in
@@ -227,13 +227,13 @@ module _ (code values : List ℕ) (base i : ℕ) where
           let three : g .j + 3 ≡ next + 3 = omega (arith, next-is) in
           let one : g .j + 1 ≡ next + 1 = omega (arith, next-is) in
           let does : here.stepHere code values base i h .does ≡ action.callFor (a .s) (next + 1) k (g .es) = g .does-is ∙ ap₂ (λ (y : Spot) (x : ℕ). action.callFor y x k (g .es)) s-is one in
-          let q : CalleeIn (h .R) (h .offset) (wordsOf code) (action.callFor (a .s) (next + 1) k (g .es)) = subst (CalleeIn (h .R) (h .offset) (wordsOf code)) does (here.callee-here code values base i h) in
-          let called : reads.Callee m n f (h .text) (h .R) (wordsOf code) true (next + 1) (g .es) k = subst (λ (x : ℕ). reads.Callee m n f (h .text) (h .R) (wordsOf code) true x (g .es) k) one (g .called) in
+          let q : CalleeIn (h .R) (h .offset) (cellsOf code) (action.callFor (a .s) (next + 1) k (g .es)) = subst (CalleeIn (h .R) (h .offset) (cellsOf code)) does (here.callee-here code values base i h) in
+          let called : reads.Callee m n f (h .text) (h .R) (cellsOf code) true (next + 1) (g .es) k = subst (λ (x : ℕ). reads.Callee m n f (h .text) (h .R) (cellsOf code) true x (g .es) k) one (g .called) in
           let suc-is : cell + 1 ≡ suc (refCell (windowOf (h .d)) (a .w)) = omega (arith, cell-is) in
           record {
             es = g .es;
             closes = g .closes;
-            arguments = ap₂ (anyArguments m n f (h .text) (h .R) (wordsOf code)) (sym three) (ap (linkAt (wordsOf code)) (sym one)) ∙ g .arguments;
+            arguments = ap₂ (anyArguments m n f (h .text) (h .R) (cellsOf code)) (sym three) (ap (linkAt (cellsOf code)) (sym one)) ∙ g .arguments;
             inside = callee-in;
             k = k;
             number = called .number;
@@ -241,18 +241,18 @@ module _ (code values : List ℕ) (base i : ℕ) where
             word = called .word;
             as-many = called .as-many;
             place = q .0;
-            result-fits = goes-fits (h .P) (h .R) (wordsOf values) (h .d) cell (a .w) (a .fits) cell-is;
+            result-fits = goes-fits (h .P) (h .R) (cellsOf values) (h .d) cell (a .w) (a .fits) cell-is;
             location = some (locationOf (suc (h .d)) (a .w));
             location-is = λ Z.
                 ap (resultIn (h .P) (h .R) Z) suc-is
-                ∙ ap some (location-any (h .P) (h .R) (wordsOf values) Z (refCell (windowOf (h .d)) (a .w)) ∙ ref-location (h .P) (h .R) (wordsOf values) (h .d) (roomy h) (a .w) (a .fits));
+                ∙ ap some (location-any (h .P) (h .R) (cellsOf values) Z (refCell (windowOf (h .d)) (a .w)) ∙ ref-location (h .P) (h .R) (cellsOf values) (h .d) (roomy h) (a .w) (a .fits));
             effect = λ rooms steps out.
                 let S = here.stateHere code values base i h rooms steps out in
                 let M = memoryOf S (here.callHere code values base i h rooms steps out) in
                 here.effect-here code values base i h rooms steps out (here.stepHere code values base i h .after) (action.callFor (a .s) (next + 1) k (g .es)) refl does
                 ∙ spot-found M S (λ y. calling (h .P) rooms M (next + 1) k (g .es) (some y) S) (a .s) (a .w) (ap (λ (N : Memory). spotIn N (a .s)) (memory-is code values base i h rooms steps out) ∙ a .is)
-                ∙ ap (λ (x : ℕ). calling (h .P) rooms M (next + 1) k (g .es) (some (locationOf x (a .w))) S) (depth-is (h .P) (h .R) (wordsOf values) (h .d) i steps out);
-            after-is = g .after-is ∙ ap (linkAt (wordsOf code)) (goes-own i (g .closes) (cell + 1) (λ z. omega (arith, z)));
+                ∙ ap (λ (x : ℕ). calling (h .P) rooms M (next + 1) k (g .es) (some (locationOf x (a .w))) S) (depth-is (h .P) (h .R) (cellsOf values) (h .d) i steps out);
+            after-is = g .after-is ∙ ap (linkAt (cellsOf code)) (goes-own i (g .closes) (cell + 1) (λ z. omega (arith, z)));
           }
 
   module _ (last next cell : ℕ) (cf : CallsFor code values base i last next cell) where
@@ -268,7 +268,7 @@ module _ (code values : List ℕ) (base i : ℕ) where
     pub to-cell : cell < storeBytes
     to-cell =
         let a = cf .aims (cf .here) in
-        omega (arith, a .cell-is, cf .here .base-is, cf .here .deep, cell-most (length (cf .here .P .words)) (wordsOfCall (codeOfCall (cf .here .P) (cf .here .R) (wordsOf values) (cf .here .d))) base (a .w) 1 (a .fits) (cf .here .holds .room) (here.routine-holds code values base i (cf .here) .room))
+        omega (arith, a .cell-is, cf .here .base-is, cf .here .deep, cell-most (length (cf .here .P .words)) (slotsOfCall (codeOfCall (cf .here .P) (cf .here .R) (cellsOf values) (cf .here .d))) base (a .w) 1 (a .fits) (cf .here .holds .room) (here.routine-holds code values base i (cf .here) .room))
 
     pub to-may : MayCall code values base i last (next + 1) (next + 3) (cell + 1)
     to-may = record { here = cf .here; deepest = cf .deepest; calls = λ h. for-calling next cell (cf .low) (cf .high) h (cf .aims h) }

@@ -15,7 +15,7 @@ use mir.Facts.{toZ-ofZ}
 use Rattle.paper.specs.Steps as action
 use Rattle.paper.specs.States.{memoryOf}
 use Rattle.paper.specs.Running.{perform, calling}
-use Rattle.store_cells.specs.Words.{wordsOf}
+use Rattle.store_cells.specs.Cells.{cellsOf}
 use Rattle.store_numbers.proofs.Whole.{read}
 use Rattle.code.specs.Cells.{opAt, linkAt}
 use Rattle.code.specs.Steps.{aCallTarget, aProcedureCall}
@@ -30,12 +30,12 @@ use Rattle.run_calls.proofs.CallSteps.{for-read}
 
 module _ (code values : List ℕ) (base last i : ℕ) (dp : Deepest last) where
   -- ---- a word
-  module _ (cell : ℕ) (w : WordAt (wordsOf code) base aCallTarget i cell) where
-    word-low : (x : WordAt (wordsOf code) base aCallTarget i cell) → aCallTarget ≤ opAt (wordsOf code) i
+  module _ (cell : ℕ) (w : WordAt (cellsOf code) base aCallTarget i cell) where
+    word-low : (x : WordAt (cellsOf code) base aCallTarget i cell) → aCallTarget ≤ opAt (cellsOf code) i
     word-low (ofModuleWord q z) = omega arith
     word-low (ofCallWord q z) = omega arith
 
-    word-high : (x : WordAt (wordsOf code) base aCallTarget i cell) → opAt (wordsOf code) i < aProcedureCall
+    word-high : (x : WordAt (cellsOf code) base aCallTarget i cell) → opAt (cellsOf code) i < aProcedureCall
     word-high (ofModuleWord q z) = omega arith
     word-high (ofCallWord q z) = omega arith
 
@@ -46,19 +46,19 @@ module _ (code values : List ℕ) (base last i : ℕ) (dp : Deepest last) where
     word-calls h = record { here = h; deepest = dp; low = word-low w; high = word-high w; aims = aims-word }
 
   -- ---- an element
-  module _ (first size : ℕ) (a : ArrayAt (wordsOf code) base aCallTarget i first size) where
-    array-low : (x : ArrayAt (wordsOf code) base aCallTarget i first size) → aCallTarget ≤ opAt (wordsOf code) i
+  module _ (first size : ℕ) (a : ArrayAt (cellsOf code) base aCallTarget i first size) where
+    array-low : (x : ArrayAt (cellsOf code) base aCallTarget i first size) → aCallTarget ≤ opAt (cellsOf code) i
     array-low (ofModuleArray q z y) = omega arith
     array-low (ofCallArray q z y) = omega arith
 
-    array-high : (x : ArrayAt (wordsOf code) base aCallTarget i first size) → opAt (wordsOf code) i < aProcedureCall
+    array-high : (x : ArrayAt (cellsOf code) base aCallTarget i first size) → opAt (cellsOf code) i < aProcedureCall
     array-high (ofModuleArray q z y) = omega arith
     array-high (ofCallArray q z y) = omega arith
 
     pub call-brace : Here code values base i → (i + 1) * 8 + 8 ≤ length code
     call-brace h = let g = for-read code values base i h (array-low a) (array-high a) in brace-inside code values base i h aCallTarget (g .s) (g .j) (g .target) first size a
 
-    module _ (end : ℕ) (p : Part halfEnd (linkAt (wordsOf code) (i + 1)) end) where
+    module _ (end : ℕ) (p : Part halfEnd (linkAt (cellsOf code) (i + 1)) end) where
       pub call-indexes : Here code values base i → Indexes code base first size i end
       call-indexes h = let g = for-read code values base i h (array-low a) (array-high a) in element-indexes code values base i h aCallTarget (g .s) (g .j) (g .target) first size a end p
 
@@ -96,6 +96,6 @@ module _ (code values : List ℕ) (base last i : ℕ) (dp : Deepest last) where
               let M = memoryOf S (here.callHere code values base i h rooms steps out) in
               element-fails code values base i h aCallTarget (g .s) (g .j) (g .target) first size a end p k f (rw (toZ-ofZ s) at t) rooms steps out
               (λ y. calling (h .P) rooms M (g .j + 1) (g .k) (g .es) (some y) S)
-              (effectAt (h .P) (h .R) rooms (wordsOf values) (h .d) i steps out)
+              (effectAt (h .P) (h .R) rooms (cellsOf values) (h .d) i steps out)
               (here.effect-here code values base i h rooms steps out (here.stepHere code values base i h .after) (action.callFor (g .s) (g .j + 1) (g .k) (g .es)) refl (g .does-is));
         })

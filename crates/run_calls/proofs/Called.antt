@@ -18,12 +18,12 @@ use Rattle.paper.specs.Terms.{Term, Memory}
 use Rattle.paper.specs.States.{Location, State, Rooms, Effect, made, failing, lacking, withCalls, memoryOf, withValues}
 use Rattle.paper.specs.Steps.{Code}
 use Rattle.paper.specs.Running.{codeAt, stepNamed, newCall, calling}
-use Rattle.store_cells.specs.Words.{wordsOf}
+use Rattle.store_cells.specs.Cells.{cellsOf}
 use Rattle.store_cells.proofs.Laws.{length-words}
 use Rattle.code.specs.Cells.{windowOf, windowCells}
 use Rattle.code.specs.Steps.{noHead}
 use Rattle.code.specs.Windows.{routineCell, stateIn}
-use Rattle.store_evaluation.specs.Answers.{firstError, callWords, Counts}
+use Rattle.store_evaluation.specs.Answers.{firstError, callSlots, Counts}
 use Rattle.store_evaluation.specs.Answers as answers
 use Rattle.run_machine.specs.Live.{codeOfCall, Live}
 use Rattle.run_machine.specs.Machine.{Here, Comes, enters, fails, lacks, lackedBy, effectAt, LastWindow}
@@ -44,7 +44,7 @@ pub record Given (c : Counts) (values after : List ℕ) (base : ℕ) (room : Boo
   pub zs : List ℤ
   pub count : length zs ≡ length es
   pub goes : (S : State) (go : List ℤ → Effect) → withValues (answers.memoryOf c values base) es S go ≡ go zs
-  pub holds : room ≡ true → Holding (wordsOf after) (base + windowCells) zs
+  pub holds : room ≡ true → Holding (cellsOf after) (base + windowCells) zs
   pub small : closes < answers
   pub is : r ≡ pos (closes + answers * (base + windowCells + length es))
 
@@ -61,7 +61,7 @@ module _ (c : Counts) (values after : List ℕ) (base : ℕ) (room : Bool) (es :
       let y : ltb (firstError + e) firstError ≡ true = subst (λ (x : ℤ). ltZ x (pos firstError) ≡ true) z t in
       absurd (omega (arith, ltb-true (firstError + e) firstError y))
 
-  pub argued-raised : base < storeWords → length es ≤ callWords → Argued c values after base room es closes r → ltZ r (pos firstError) ≡ false → Raised c values base es r
+  pub argued-raised : base < storeWords → length es ≤ callSlots → Argued c values after base room es closes r → ltZ r (pos firstError) ≡ false → Raised c values base es r
   argued-raised b l (raises e s g z) t = record { e = e; small = s; goes = g; is = z }
   argued-raised b l (given zs q g h s e) t =
       let y : ltb (closes + answers * (base + windowCells + length es)) firstError ≡ false = subst (λ (x : ℤ). ltZ x (pos firstError) ≡ false) e t in
@@ -72,7 +72,7 @@ module _ (code values : List ℕ) (base i : ℕ) where
   base-low : (h : Here code values base i) → base < storeWords
   base-low h = omega (arith, h .base-is, h .deep)
 
-  few : (h : Here code values base i) (first end callee result : ℕ) (g : Calling code values base i h first end callee result) → length (g .es) ≤ callWords
+  few : (h : Here code values base i) (first end callee result : ℕ) (g : Calling code values base i h first end callee result) → length (g .es) ≤ callSlots
   few h first end callee result g =
       let r = h .holds .routines (g .k) (g .there) in
       omega (arith, g .as-many, ap length (r .words-are), length-append (replicate (getD (h .R) (g .k) noHead .parameters) (pos 0)) (r .starts), length-replicate (getD (h .R) (g .k) noHead .parameters) (pos 0), r .room)
@@ -104,25 +104,25 @@ module _ (code values : List ℕ) (base i : ℕ) where
     }
 
   module _ (last first end : ℕ) (after : List ℕ) (r : ℤ) (ps : Passed code values after base first end (ltb base last) r) where
-    long-words : length (wordsOf after) ≡ length (wordsOf values)
+    long-words : length (cellsOf after) ≡ length (cellsOf values)
     long-words = length-words after ∙ ap (λ (x : ℕ). x / 4) (ps .long) ∙ sym (length-words values)
 
     -- the state is the same after the arguments
     module _ (h : Here code values base i) where
-      low-same : SameIn (wordsOf values) (wordsOf after) 0 (windowOf (suc (h .d)))
+      low-same : SameIn (cellsOf values) (cellsOf after) 0 (windowOf (suc (h .d)))
       low-same c x y = ps .below c (omega (arith, h .base-is))
 
-      pub live-same : Live (h .P) (h .R) (wordsOf after) (h .d) i
-      live-same = live-past (h .P) (h .R) (wordsOf values) (h .d) (wordsOf after) low-same i (h .live)
+      pub live-same : Live (h .P) (h .R) (cellsOf after) (h .d) i
+      live-same = live-past (h .P) (h .R) (cellsOf values) (h .d) (cellsOf after) low-same i (h .live)
 
-      state-same : (steps : ℕ) (out : List ℕ) → stateIn (h .P) (h .R) (wordsOf after) (h .d) i steps out ≡ stateIn (h .P) (h .R) (wordsOf values) (h .d) i steps out
-      state-same steps out = past (h .P) (h .R) (wordsOf values) (h .d) (roomy h) (wordsOf after) long-words low-same i steps out
+      state-same : (steps : ℕ) (out : List ℕ) → stateIn (h .P) (h .R) (cellsOf after) (h .d) i steps out ≡ stateIn (h .P) (h .R) (cellsOf values) (h .d) i steps out
+      state-same steps out = past (h .P) (h .R) (cellsOf values) (h .d) (roomy h) (cellsOf after) long-words low-same i steps out
 
-      same-routine : getD (wordsOf after) (windowOf (h .d) + routineCell) 0 ≡ getD (wordsOf values) (windowOf (h .d) + routineCell) 0
+      same-routine : getD (cellsOf after) (windowOf (h .d) + routineCell) 0 ≡ getD (cellsOf values) (windowOf (h .d) + routineCell) 0
       same-routine = low-same (windowOf (h .d) + routineCell) (omega arith) (omega arith)
 
-      code-same : codeOfCall (h .P) (h .R) (wordsOf after) (h .d) ≡ codeOfCall (h .P) (h .R) (wordsOf values) (h .d)
-      code-same = routine-code (h .P) (h .R) (wordsOf values) (wordsOf after) (h .d) same-routine
+      code-same : codeOfCall (h .P) (h .R) (cellsOf after) (h .d) ≡ codeOfCall (h .P) (h .R) (cellsOf values) (h .d)
+      code-same = routine-code (h .P) (h .R) (cellsOf values) (cellsOf after) (h .d) same-routine
 
       abbrev pub here-after : Here code after base i
       here-after = elsewhere h after (h .d) base i (ps .long) (h .deep) (h .base-is) live-same
@@ -136,7 +136,7 @@ module _ (code values : List ℕ) (base i : ℕ) where
 
       -- an argument raises an error
       pub call-fails : ltZ r (pos firstError) ≡ false → (rooms : Rooms) (steps : ℕ) (out : List ℕ)
-          → Comes (h .P) (h .R) (wordsOf code) (h .offset) (h .d) i steps (wordsOf values) (wordsOf after) out out (effectAt (h .P) (h .R) rooms (wordsOf values) (h .d) i steps out) r
+          → Comes (h .P) (h .R) (cellsOf code) (h .offset) (h .d) i steps (cellsOf values) (cellsOf after) out out (effectAt (h .P) (h .R) rooms (cellsOf values) (h .d) i steps out) r
       unfolding calling memory
       call-fails t rooms steps out =
           let S = here.stateHere code values base i h rooms steps out in
@@ -167,7 +167,7 @@ module _ (code values : List ℕ) (base i : ℕ) where
         answer-next = omega (arith, answer-is, values-of .small)
 
         effect-is : (rooms : Rooms) (steps : ℕ) (out : List ℕ) (y : Bool) → ltb (length (here.stateHere code values base i h rooms steps out .calls)) (rooms .depth) ≡ y
-            → effectAt (h .P) (h .R) rooms (wordsOf values) (h .d) i steps out
+            → effectAt (h .P) (h .R) rooms (cellsOf values) (h .d) i steps out
             ≡ (if y then made (withCalls (newCall (h .P) (g .k) (values-of .zs) (g .location) ∷ here.stateHere code values base i h rooms steps out .calls) (here.stateHere code values base i h rooms steps out)) else lacking 6 callee)
         unfolding calling memory
         effect-is rooms steps out y e =
@@ -180,14 +180,14 @@ module _ (code values : List ℕ) (base i : ℕ) where
 
         -- no room
         pub call-lacks : (rooms : Rooms) → LastWindow rooms last → ltb base last ≡ false → (steps : ℕ) (out : List ℕ)
-            → Comes (h .P) (h .R) (wordsOf code) (h .offset) (h .d) i steps (wordsOf values) (wordsOf after) out out (effectAt (h .P) (h .R) rooms (wordsOf values) (h .d) i steps out) (toZ w64 (lacked + callee))
+            → Comes (h .P) (h .R) (cellsOf code) (h .offset) (h .d) i steps (cellsOf values) (cellsOf after) out out (effectAt (h .P) (h .R) rooms (cellsOf values) (h .d) i steps out) (toZ w64 (lacked + callee))
         unfolding lackedBy
         call-lacks rooms lw u steps out =
             let S = here.stateHere code values base i h rooms steps out in
             let s : callee < wordLimit = omega (arith, g .inside, h .code-size) in
             rw (toZ-pos w64 (lacked + callee) (omega arith))
             (lacks 6 callee callee (ap pos (omega arith)) (omega arith) (omega arith) (omega arith) (g .place) (ps .idle u) refl
-            (effect-is rooms steps out false (le-ltb (length (S .calls)) (rooms .depth) (omega (arith, depth-is (h .P) (h .R) (wordsOf values) (h .d) i steps out, no-room h last rooms lw u)))))
+            (effect-is rooms steps out false (le-ltb (length (S .calls)) (rooms .depth) (omega (arith, depth-is (h .P) (h .R) (cellsOf values) (h .d) i steps out, no-room h last rooms lw u)))))
 
         -- room
         module _ (rooms : Rooms) (lw : LastWindow rooms last) (u : ltb base last ≡ true) (after′ : ℕ) (ea : after′ ≡ here.stepHere code values base i h .after) where
@@ -203,17 +203,17 @@ module _ (code values : List ℕ) (base i : ℕ) where
             as-many = values-of .count ∙ g .as-many;
             holds = values-of .holds u;
             next = omega (arith, answer-next, values-of .count);
-            result-fits = fits-same (h .P) (h .R) (wordsOf values) (wordsOf after) (suc (h .d)) result
-                (λ c z. let y : h .d ≡ c = omega arith in subst (λ (x : ℕ). getD (wordsOf after) (windowOf x + routineCell) 0 ≡ getD (wordsOf values) (windowOf x + routineCell) 0) y (same-routine h)) (g .result-fits);
+            result-fits = fits-same (h .P) (h .R) (cellsOf values) (cellsOf after) (suc (h .d)) result
+                (λ c z. let y : h .d ≡ c = omega arith in subst (λ (x : ℕ). getD (cellsOf after) (windowOf x + routineCell) 0 ≡ getD (cellsOf values) (windowOf x + routineCell) 0) y (same-routine h)) (g .result-fits);
             after-is = ea ∙ sym (ap (λ (c : Code). stepNamed (c .steps) i .after) (code-same h));
           }
 
           pub call-enters : (after2 : List ℕ) (r2 : ℤ) → Entered code after base i callee result after′ (natAbs r / answers) after2 r2 → (steps : ℕ) (out : List ℕ)
-              → Comes (h .P) (h .R) (wordsOf code) (h .offset) (h .d) i steps (wordsOf values) (wordsOf after2) out out (effectAt (h .P) (h .R) rooms (wordsOf values) (h .d) i steps out) r2
+              → Comes (h .P) (h .R) (cellsOf code) (h .offset) (h .d) i steps (cellsOf values) (cellsOf after2) out out (effectAt (h .P) (h .R) rooms (cellsOf values) (h .d) i steps out) r2
           unfolding call-may
           call-enters after2 r2 en steps out =
               let S = here.stateHere code values base i h rooms steps out in
               enters (codeAt (h .P) (g .k) .start) (en .answer (here-after h) call-may) (call-may .deep) (en .live (here-after h) call-may)
-              (effect-is rooms steps out true (lt-ltb (length (S .calls)) (rooms .depth) (omega (arith, depth-is (h .P) (h .R) (wordsOf values) (h .d) i steps out, room-deep h last rooms lw u)))
+              (effect-is rooms steps out true (lt-ltb (length (S .calls)) (rooms .depth) (omega (arith, depth-is (h .P) (h .R) (cellsOf values) (h .d) i steps out, room-deep h last rooms lw u)))
               ∙ ap made (sym (en .state (here-after h) call-may steps out
-              ∙ ap₂ (λ (l : Option Location) (T : State). withCalls (newCall (h .P) (g .k) (values-of .zs) l ∷ T .calls) T) (g .location-is (wordsOf after)) (state-same h steps out))))
+              ∙ ap₂ (λ (l : Option Location) (T : State). withCalls (newCall (h .P) (g .k) (values-of .zs) l ∷ T .calls) T) (g .location-is (cellsOf after)) (state-same h steps out))))

@@ -19,7 +19,7 @@ use Rattle.laws.proofs.Tests.{test, by-same, false-true}
 use Rattle.paper.specs.Numbers.{Value, error}
 use Rattle.paper.specs.Terms.{Term, Memory, worth}
 use Rattle.paper.specs.States.{State, Effect, withValue, withValues}
-use Rattle.store_cells.specs.Words.{wordsOf}
+use Rattle.store_cells.specs.Cells.{cellsOf}
 use Rattle.store_cells.proofs.Laws.{length-words}
 use Rattle.store_numbers.proofs.Whole.{read}
 use Rattle.code.specs.Cells.{headAt, opAt, linkAt, firstWindow, windowCells, errnoCell, opIn}
@@ -46,12 +46,12 @@ pub packed-is : (low high : ℕ) → low < answers → high < answers → toZ w6
 packed-is low high a b = toZ-pos w64 (low + answers * high) (omega arith)
 
 -- ---- a comma
-pub comma-in : (code : List ℕ) (b w : ℕ) → w ≡ headAt (wordsOf code) b → eqb (opIn w) aNextArgument ≡ eqb (opAt (wordsOf code) b) aNextArgument
+pub comma-in : (code : List ℕ) (b w : ℕ) → w ≡ headAt (cellsOf code) b → eqb (opIn w) aNextArgument ≡ eqb (opAt (cellsOf code) b) aNextArgument
 comma-in code b w e = ap (λ (x : ℕ). eqb (opIn x) aNextArgument) e
 
-pub comma-past : (code : List ℕ) (b : ℕ) → length code ≡ storeBytes → wordLimit ≤ b → false ≡ eqb (opAt (wordsOf code) b) aNextArgument
+pub comma-past : (code : List ℕ) (b : ℕ) → length code ≡ storeBytes → wordLimit ≤ b → false ≡ eqb (opAt (cellsOf code) b) aNextArgument
 comma-past code b l h =
-    let z : headAt (wordsOf code) b ≡ 0 = List·getD-eq-default (wordsOf code) 0 (omega (arith, length-words code)) in
+    let z : headAt (cellsOf code) b ≡ 0 = List·getD-eq-default (cellsOf code) 0 (omega (arith, length-words code)) in
     sym (ap (λ (x : ℕ). eqb (opIn x) aNextArgument) z)
 
 -- ---- one with its value
@@ -67,15 +67,15 @@ module _ (before : List ℕ) (room : Bool) (n : ℕ) (v : ℤ) (s : SFits w64 v)
   let-same h = record { long = refl; stored = λ e. false-true (sym h ∙ e); same = λ e. refl }
 
 -- ---- the memory that they are worked out in
-module _ (c : Counts) (before now : List ℕ) (base : ℕ) (long : length now ≡ length before) (low : firstWindow ≤ base) (below : (k : ℕ) → k < base + windowCells → getD (wordsOf now) k 0 ≡ getD (wordsOf before) k 0) where
-  words-long : length (wordsOf now) ≡ length (wordsOf before)
+module _ (c : Counts) (before now : List ℕ) (base : ℕ) (long : length now ≡ length before) (low : firstWindow ≤ base) (below : (k : ℕ) → k < base + windowCells → getD (cellsOf now) k 0 ≡ getD (cellsOf before) k 0) where
+  words-long : length (cellsOf now) ≡ length (cellsOf before)
   words-long = length-words now ∙ ap (λ (k : ℕ). k / 4) long ∙ sym (length-words before)
 
   pub memory-same : memoryOf c now base ≡ memoryOf c before base
   unfolding memoryIn
   memory-same = λ j. record {
-    module-words = map (toZ w32) (part-same (wordsOf before) (wordsOf now) words-long 0 (c .m) (λ k x y. below k (omega (arith, c .most))) j);
-    routine-words = map (toZ w32) (part-same (wordsOf before) (wordsOf now) words-long base (c .n) (λ k x y. below k (omega (arith, c .window))) j);
+    module-words = map (toZ w32) (part-same (cellsOf before) (cellsOf now) words-long 0 (c .m) (λ k x y. below k (omega (arith, c .most))) j);
+    routine-words = map (toZ w32) (part-same (cellsOf before) (cellsOf now) words-long base (c .n) (λ k x y. below k (omega (arith, c .window))) j);
     error-number = below errnoCell (omega arith) j;
   }
 
@@ -115,20 +115,20 @@ module _ (code before : List ℕ) (base : ℕ) (room : Bool) where
     pub f : ℕ
     pub fuel : suc f ≤ parts
     pub rest : List Term
-    pub reads : argumentsIn (c .m) (c .n) function text R (wordsOf code) (suc f) a b ≡ some (rest, closes)
+    pub reads : argumentsIn (c .m) (c .n) function text R (cellsOf code) (suc f) a b ≡ some (rest, closes)
     pub zs : List ℤ
     pub count : length zs + length rest ≡ length es
     pub next : n ≡ base + windowCells + length zs
     pub goes : (S : State) (go : List ℤ → Effect) → withValues (memoryOf c before base) es S go ≡ withValues (memoryOf c before base) rest S (λ ys. go (zs ++ ys))
-    pub holds : room ≡ true → Holding (wordsOf now) (base + windowCells) zs
+    pub holds : room ≡ true → Holding (cellsOf now) (base + windowCells) zs
 
   pub record Passing (first end : ℕ) (now : List ℕ) (a b n : ℕ) : Type 0 where
     pub asks : Passes code before base first end room
     pub long : length now ≡ length before
-    pub below : (c : ℕ) → c < base + windowCells → getD (wordsOf now) c 0 ≡ getD (wordsOf before) c 0
-    pub idle : room ≡ false → wordsOf now ≡ wordsOf before
+    pub below : (c : ℕ) → c < base + windowCells → getD (cellsOf now) c 0 ≡ getD (cellsOf before) c 0
+    pub idle : room ≡ false → cellsOf now ≡ cellsOf before
     pub small : b < answers
-    pub left : (c : Counts) (function : Bool) (text : List ℕ) (R : List Head) (es : List Term) (closes : ℕ) → anyArguments (c .m) (c .n) function text R (wordsOf code) first end ≡ some (es, closes)
+    pub left : (c : Counts) (function : Bool) (text : List ℕ) (R : List Head) (es : List Term) (closes : ℕ) → anyArguments (c .m) (c .n) function text R (cellsOf code) first end ≡ some (es, closes)
         → Left c function text R es closes now a b n
 
   module _ (first end : ℕ) (p : Passes code before base first end room) where
@@ -142,7 +142,7 @@ module _ (code before : List ℕ) (base : ℕ) (room : Bool) where
       below = λ c x. refl;
       idle = λ x. refl;
       is = λ c f t R es closes q.
-          let g = no-arguments (c .m) (c .n) f t R (wordsOf code) first end es closes h q in
+          let g = no-arguments (c .m) (c .n) f t R (cellsOf code) first end es closes h q in
           given [] (sym (ap length (g .es-is))) (λ S go. ap (λ (l : List Term). withValues (memoryOf c before base) l S go) (g .es-is)) (λ x. refl) (omega (arith, g .closes-is, p .small))
           (e ∙ ap pos (omega (arith, g .closes-is, ap length (g .es-is))));
     })
@@ -158,7 +158,7 @@ module _ (code before : List ℕ) (base : ℕ) (room : Bool) where
         f = parts - 1;
         fuel = omega arith;
         rest = es;
-        reads = some-arguments (c .m) (c .n) f t R (wordsOf code) first end es closes h q;
+        reads = some-arguments (c .m) (c .n) f t R (cellsOf code) first end es closes h q;
         zs = [];
         count = omega arith;
         next = omega arith;
@@ -183,9 +183,9 @@ module _ (code before : List ℕ) (base : ℕ) (room : Bool) where
 
     first-of : (c : Counts) (function : Bool) (text : List ℕ) (R : List Head) (es : List Term) (closes : ℕ) (l : Left c function text R es closes now a b n) → First c function text R es closes l
     first-of c f t R es closes l =
-        by-same (opAt (wordsOf code) b) aNextArgument
-        (λ q. let x = argument-more (c .m) (c .n) f t R (wordsOf code) a b (l .rest) closes (l .f) (l .reads) q in record { e = x .e; reads = x .reads; others = x .rest; is = x .es-is })
-        (λ q. let x = argument-last (c .m) (c .n) f t R (wordsOf code) a b (l .rest) closes (l .f) (l .reads) q in record { e = x .e; reads = x .reads; others = []; is = x .es-is })
+        by-same (opAt (cellsOf code) b) aNextArgument
+        (λ q. let x = argument-more (c .m) (c .n) f t R (cellsOf code) a b (l .rest) closes (l .f) (l .reads) q in record { e = x .e; reads = x .reads; others = x .rest; is = x .es-is })
+        (λ q. let x = argument-last (c .m) (c .n) f t R (cellsOf code) a b (l .rest) closes (l .f) (l .reads) q in record { e = x .e; reads = x .reads; others = []; is = x .es-is })
 
     ghost-first : First (g .asks .c) (g .asks .function) (g .asks .text) (g .asks .R) (g .asks .es) (g .asks .closes) ghost
     ghost-first = first-of (g .asks .c) (g .asks .function) (g .asks .text) (g .asks .R) (g .asks .es) (g .asks .closes) ghost
@@ -210,12 +210,12 @@ module _ (code before : List ℕ) (base : ℕ) (room : Bool) where
     pass-next = omega (arith, g .asks .high, ghost .next, count-is, g .asks .few)
 
     -- the word that ends it is a comma, or none
-    module _ (y : Bool) (ey : y ≡ eqb (opAt (wordsOf code) b) aNextArgument) where
-      comma-is : not y ≡ false → opAt (wordsOf code) b ≡ aNextArgument
-      comma-is t = eqb-true (opAt (wordsOf code) b) aNextArgument (sym ey ∙ not-false y t)
+    module _ (y : Bool) (ey : y ≡ eqb (opAt (cellsOf code) b) aNextArgument) where
+      comma-is : not y ≡ false → opAt (cellsOf code) b ≡ aNextArgument
+      comma-is t = eqb-true (opAt (cellsOf code) b) aNextArgument (sym ey ∙ not-false y t)
 
-      no-comma : not y ≡ true → opAt (wordsOf code) b ≡ aNextArgument → ⊥
-      no-comma t = eqb-false (opAt (wordsOf code) b) aNextArgument (sym ey ∙ not-true y t)
+      no-comma : not y ≡ true → opAt (cellsOf code) b ≡ aNextArgument → ⊥
+      no-comma t = eqb-false (opAt (cellsOf code) b) aNextArgument (sym ey ∙ not-true y t)
 
       pub comma-inside : not y ≡ false → b * 8 + 8 ≤ length code
       comma-inside t = op-in code b whole (λ z. omega (arith, comma-is t))
@@ -223,10 +223,10 @@ module _ (code before : List ℕ) (base : ℕ) (room : Bool) where
       pub comma-next : not y ≡ false → Fits w64 (b + 1)
       comma-next t = record { fits = omega (arith, g .small) }
 
-      pub comma-less : not y ≡ false → (l : ℕ) → Part halfEnd (linkAt (wordsOf code) b) l → argumentsLeft (wordsOf code) l < argumentsLeft (wordsOf code) b
+      pub comma-less : not y ≡ false → (l : ℕ) → Part halfEnd (linkAt (cellsOf code) b) l → argumentsLeft (cellsOf code) l < argumentsLeft (cellsOf code) b
       comma-less t l el =
-          subst (λ (j : ℕ). argumentsLeft (wordsOf code) j < argumentsLeft (wordsOf code) b) (sym (el .same))
-          (argument-less (wordsOf code) (g .asks .c .m) (g .asks .c .n) (g .asks .function) (g .asks .text) (g .asks .R) (ghost .f) a b (ghost .rest) (g .asks .closes) (ghost .reads) (ghost .fuel) (comma-is t))
+          subst (λ (j : ℕ). argumentsLeft (cellsOf code) j < argumentsLeft (cellsOf code) b) (sym (el .same))
+          (argument-less (cellsOf code) (g .asks .c .m) (g .asks .c .n) (g .asks .function) (g .asks .text) (g .asks .R) (ghost .f) a b (ghost .rest) (g .asks .closes) (ghost .reads) (ghost .fuel) (comma-is t))
 
     module _ (v : ℤ) (s : SFits w64 v) (ev : Evaluated code now base a b v) where
       worth-is : (c : Counts) (t : Term) → termOf c code a b ≡ some t → worth (memoryOf c before base) t ≡ decoded v
@@ -269,14 +269,14 @@ module _ (code before : List ℕ) (base : ℕ) (room : Bool) where
           long-is : length after ≡ length before
           long-is = lt .long ∙ g .long
 
-          below-is : (c : ℕ) → c < base + windowCells → getD (wordsOf after) c 0 ≡ getD (wordsOf before) c 0
+          below-is : (c : ℕ) → c < base + windowCells → getD (cellsOf after) c 0 ≡ getD (cellsOf before) c 0
           below-is c k =
               test room
-              (λ r. ap (λ (X : List ℕ). getD X c 0) (stored r .words) ∙ set-same (wordsOf now) n (ofZ w32 v) c (λ q. omega (arith, ghost .next)) ∙ g .below c k)
-              (λ r. ap (λ (x : List ℕ). getD (wordsOf x) c 0) (lt .same r) ∙ g .below c k)
+              (λ r. ap (λ (X : List ℕ). getD X c 0) (stored r .words) ∙ set-same (cellsOf now) n (ofZ w32 v) c (λ q. omega (arith, ghost .next)) ∙ g .below c k)
+              (λ r. ap (λ (x : List ℕ). getD (cellsOf x) c 0) (lt .same r) ∙ g .below c k)
 
-          idle-is : room ≡ false → wordsOf after ≡ wordsOf before
-          idle-is r = ap wordsOf (lt .same r) ∙ g .idle r
+          idle-is : room ≡ false → cellsOf after ≡ cellsOf before
+          idle-is r = ap cellsOf (lt .same r) ∙ g .idle r
 
           -- one more has its value
           module _ (c : Counts) (f : Bool) (t : List ℕ) (R : List Head) (es : List Term) (closes : ℕ) (l : Left c f t R es closes now a b n)
@@ -289,15 +289,15 @@ module _ (code before : List ℕ) (base : ℕ) (room : Bool) where
                 ∙ ap (λ (y : Value). withValue y S (λ z. withValues M others S (λ ys. go (l .zs ++ (z ∷ ys))))) (worth-is c e reads ∙ is-value v value-is)
                 ∙ sym (λ j. withValues M others S (λ ys. go (append-snoc (l .zs) v ys j)))
 
-            holds-on : room ≡ true → Holding (wordsOf after) (base + windowCells) (l .zs ++ (v ∷ []))
+            holds-on : room ≡ true → Holding (cellsOf after) (base + windowCells) (l .zs ++ (v ∷ []))
             holds-on r =
-                subst (λ (X : List ℕ). Holding X (base + windowCells) (l .zs ++ (v ∷ []))) (sym (stored r .words ∙ ap (λ (k : ℕ). set (wordsOf now) k (ofZ w32 v)) (l .next)))
-                (holding-one (wordsOf now) (base + windowCells) (l .zs) (ofZ w32 v) v (l .holds r) (omega (arith, pass-inside r, length-words now, l .next)) (toZ-ofZ small))
+                subst (λ (X : List ℕ). Holding X (base + windowCells) (l .zs ++ (v ∷ []))) (sym (stored r .words ∙ ap (λ (k : ℕ). set (cellsOf now) k (ofZ w32 v)) (l .next)))
+                (holding-one (cellsOf now) (base + windowCells) (l .zs) (ofZ w32 v) v (l .holds r) (omega (arith, pass-inside r, length-words now, l .next)) (toZ-ofZ small))
 
             zs-count : length (l .zs ++ (v ∷ [])) ≡ length (l .zs) + 1
             zs-count = length-append (l .zs) (v ∷ [])
 
-          module _ (y : Bool) (ey : y ≡ eqb (opAt (wordsOf code) b) aNextArgument) where
+          module _ (y : Bool) (ey : y ≡ eqb (opAt (cellsOf code) b) aNextArgument) where
             pub pass-last : not y ≡ true → (r : ℤ) → SFits w64 r → r ≡ pos (b + answers * (n + 1)) → Passed code before after base first end room (read r)
             unfolding withValues
             pass-last u r sr er = rw (toZ-ofZ sr) (record {
@@ -306,7 +306,7 @@ module _ (code before : List ℕ) (base : ℕ) (room : Bool) where
               idle = idle-is;
               is = λ c f t R es closes q.
                   let l = g .left c f t R es closes q in
-                  let x = argument-last (c .m) (c .n) f t R (wordsOf code) a b (l .rest) closes (l .f) (l .reads) (no-comma y ey u) in
+                  let x = argument-last (c .m) (c .n) f t R (cellsOf code) a b (l .rest) closes (l .f) (l .reads) (no-comma y ey u) in
                   let k = zs-count c f t R es closes l (x .e) (x .reads) [] (x .es-is) in
                   given (l .zs ++ (v ∷ [])) (omega (arith, k, l .count, ap length (x .es-is)))
                   (λ S go. goes-on c f t R es closes l (x .e) (x .reads) [] (x .es-is) S go ∙ ap go (append-nil (l .zs ++ (v ∷ []))))
@@ -314,7 +314,7 @@ module _ (code before : List ℕ) (base : ℕ) (room : Bool) where
                   (er ∙ ap pos (omega (arith, x .closes-is, l .next, l .count, ap length (x .es-is))));
             })
 
-            pub pass-on : not y ≡ false → (b′ : ℕ) → Part halfEnd (linkAt (wordsOf code) b) b′ → Passing first end after (b + 1) b′ (n + 1)
+            pub pass-on : not y ≡ false → (b′ : ℕ) → Part halfEnd (linkAt (cellsOf code) b) b′ → Passing first end after (b + 1) b′ (n + 1)
             pass-on u b′ el = record {
               asks = g .asks;
               long = long-is;
@@ -323,14 +323,14 @@ module _ (code before : List ℕ) (base : ℕ) (room : Bool) where
               small = el .small;
               left = λ c f t R es closes q.
                   let l = g .left c f t R es closes q in
-                  let x = argument-more (c .m) (c .n) f t R (wordsOf code) a b (l .rest) closes (l .f) (l .reads) (comma-is y ey u) in
-                  let k : l .f ≡ suc (l .f - 1) = omega (arith, arguments-some (c .m) (c .n) f t R (wordsOf code) (b + 1) (linkAt (wordsOf code) b) (x .rest) closes (l .f) (x .more)) in
+                  let x = argument-more (c .m) (c .n) f t R (cellsOf code) a b (l .rest) closes (l .f) (l .reads) (comma-is y ey u) in
+                  let k : l .f ≡ suc (l .f - 1) = omega (arith, arguments-some (c .m) (c .n) f t R (cellsOf code) (b + 1) (linkAt (cellsOf code) b) (x .rest) closes (l .f) (x .more)) in
                   let z = zs-count c f t R es closes l (x .e) (x .reads) (x .rest) (x .es-is) in
                   record {
                     f = l .f - 1;
                     fuel = omega (arith, l .fuel);
                     rest = x .rest;
-                    reads = ap₂ (λ (i j : ℕ). argumentsIn (c .m) (c .n) f t R (wordsOf code) i (b + 1) j) (sym k) (el .same) ∙ x .more;
+                    reads = ap₂ (λ (i j : ℕ). argumentsIn (c .m) (c .n) f t R (cellsOf code) i (b + 1) j) (sym k) (el .same) ∙ x .more;
                     zs = l .zs ++ (v ∷ []);
                     count = omega (arith, z, l .count, ap length (x .es-is));
                     next = omega (arith, z, l .next);

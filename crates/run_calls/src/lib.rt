@@ -7,7 +7,7 @@ ghost use lib.ListN.{length};
 ghost use lib.IntN.{pos};
 ghost use mir.Syntax.{w32};
 ghost use mir.Val.{SFits};
-ghost use Rattle.store_cells.specs.Words.{wordsOf};
+ghost use Rattle.store_cells.specs.Cells.{cellsOf};
 ghost use Rattle.code.specs.Cells.{opAt};
 ghost use Rattle.code.specs.Steps.{aNextArgument, aProcedureCall, aCallTarget};
 ghost use Rattle.layout.specs.Answers.{answers};
@@ -46,7 +46,7 @@ fn packed(low: usize, high: usize) -> i64
 // A comma stands at a word, which may lie past the store.
 fn is_comma(code: &[u8], b: usize) -> bool
     requires { ⌜ length (now code) ≡ storeBytes ⌝ }
-    ensures { λ r. ⌜ r ≡ eqb (opAt (wordsOf (now (code .entry))) b) aNextArgument ⌝ }
+    ensures { λ r. ⌜ r ≡ eqb (opAt (cellsOf (now (code .entry))) b) aNextArgument ⌝ }
 {
     if b < limits::WORDS {
         return head(code, b) % parts::VALUE == ops::NEXT_ARGUMENT;
@@ -171,7 +171,7 @@ fn call<'a>(
 
 // A procedure call; `last` is the window of the last call that the depth lent admits.
 pub fn call_of<'a>(code: &'a [u8], values: &'a mut [u8], base: usize, last: usize, i: usize) -> i64
-    requires { ⌜ Here (now code) (now values) base i × Deepest last × (opAt (wordsOf (now code)) i ≡ aProcedureCall) ⌝ }
+    requires { ⌜ Here (now code) (now values) base i × Deepest last × (opAt (cellsOf (now code)) i ≡ aProcedureCall) ⌝ }
     ensures { λ r. ⌜ Calls (now (code .entry)) (now (values .entry)) (now (values .exit)) base last i r ⌝ }
 {
     call(&*code, values, base, last, i, i, i + 1, 0)
@@ -202,7 +202,7 @@ pub fn call_for<'a>(
     i: usize,
     cell: usize,
 ) -> i64
-    requires { ⌜ Here (now code) (now values) base i × Deepest last × WordAt (wordsOf (now code)) base aCallTarget i cell ⌝ }
+    requires { ⌜ Here (now code) (now values) base i × Deepest last × WordAt (cellsOf (now code)) base aCallTarget i cell ⌝ }
     ensures { λ r. ⌜ Calls (now (code .entry)) (now (values .entry)) (now (values .exit)) base last i r ⌝ }
 {
     call_to(&*code, values, base, last, i, i + 1, cell)
@@ -218,7 +218,7 @@ pub fn call_for_element<'a>(
     first: usize,
     size: usize,
 ) -> i64
-    requires { ⌜ Here (now code) (now values) base i × Deepest last × ArrayAt (wordsOf (now code)) base aCallTarget i first size ⌝ }
+    requires { ⌜ Here (now code) (now values) base i × Deepest last × ArrayAt (cellsOf (now code)) base aCallTarget i first size ⌝ }
     ensures { λ r. ⌜ Calls (now (code .entry)) (now (values .entry)) (now (values .exit)) base last i r ⌝ }
 {
     let end = link(code, i + 1);

@@ -15,7 +15,7 @@ use borrow.Author.Tests.{eq-eqb, ne-eqb, eqb-true}
 use Rattle.laws.proofs.Tests.{test, by-same}
 use Rattle.paper.specs.Numbers.{same}
 use Rattle.paper.specs.Running.{holds, matching}
-use Rattle.store_cells.specs.Words.{wordsOf}
+use Rattle.store_cells.specs.Cells.{cellsOf}
 use Rattle.store_numbers.proofs.Whole.{read, bits-same, minus-cases}
 use Rattle.code.specs.Cells.{opIn, valueIn, headAt, opAt, placeAt, linkAt}
 use Rattle.code.specs.Spans.{_then_, bias}
@@ -38,7 +38,7 @@ abbrev pub most : ℕ
 most = suc (parts + parts * parts)
 
 abbrev pub wordsLeft : List ℕ → ℕ → ℕ
-wordsLeft code j = hops (further (wordsOf code)) (linkAt (wordsOf code)) most j
+wordsLeft code j = hops (further (cellsOf code)) (linkAt (cellsOf code)) most j
 
 module _ (m n : ℕ) (function : Bool) (text : List ℕ) (R : List Head) (C : List ℕ) where
   abbrev values : (fuel step i : ℕ) → Option (List ℤ × ℕ)
@@ -329,10 +329,10 @@ module _ (code : List ℕ) (first : ℕ) (v : ℤ) where
   pub record Searching (j : ℕ) : Type 0 where
     pub cases-are : Cases code first
     pub left : (m n : ℕ) (function : Bool) (text : List ℕ) (R : List Head) (cs : List (List ℤ × ℕ)) (o : ℕ)
-        → casesIn m n function text R (wordsOf code) parts first ≡ some (cs, o) → Rest m n function text R (wordsOf code) v (matching v cs o) j
+        → casesIn m n function text R (cellsOf code) parts first ≡ some (cs, o) → Rest m n function text R (cellsOf code) v (matching v cs o) j
 
   pub search-starts : Cases code first → Searching first
-  search-starts k = record { cases-are = k; left = λ m n function text R cs o e. starts m n function text R (wordsOf code) v first cs o e }
+  search-starts k = record { cases-are = k; left = λ m n function text R cs o e. starts m n function text R (cellsOf code) v first cs o e }
 
   -- ---- a value, by its key
   module _ (sv : SFits w64 v) (fv : SFits w32 v) where
@@ -365,44 +365,44 @@ module _ (code : List ℕ) (first : ℕ) (v : ℤ) where
           n (ap (ofZ w64) (sym (ap (λ (z : ℤ). z +ℤ pos bias) (toZ-ofZ sv ∙ q) ∙ -ℤ-+ℤ-cancel (pos x) (pos bias))))))
 
     -- ---- a turn of the loop
-    module _ (j : ℕ) (l : Searching j) (w : ℕ) (ew : w ≡ headAt (wordsOf code) j) where
-      op-is : opIn w ≡ opAt (wordsOf code) j
+    module _ (j : ℕ) (l : Searching j) (w : ℕ) (ew : w ≡ headAt (cellsOf code) j) where
+      op-is : opIn w ≡ opAt (cellsOf code) j
       op-is = ap opIn ew
 
-      found : (r : ℕ) → Part halfEnd (placeAt (wordsOf code) j) r
+      found : (r : ℕ) → Part halfEnd (placeAt (cellsOf code) j) r
           → ((m n : ℕ) (function : Bool) (text : List ℕ) (R : List Head) (cs : List (List ℤ × ℕ)) (o : ℕ)
-          → casesIn m n function text R (wordsOf code) parts first ≡ some (cs, o) → placeAt (wordsOf code) j ≡ matching v cs o)
+          → casesIn m n function text R (cellsOf code) parts first ≡ some (cs, o) → placeAt (cellsOf code) j ≡ matching v cs o)
           → Matches code first v r
       found r p f = record { is = λ m n function text R cs o e. p .same ∙ f m n function text R cs o e; small = p .small }
 
-      ends-there : opIn w ≡ anOtherwise → (r : ℕ) → Part halfEnd (placeAt (wordsOf code) j) r → Matches code first v r
+      ends-there : opIn w ≡ anOtherwise → (r : ℕ) → Part halfEnd (placeAt (cellsOf code) j) r → Matches code first v r
       ends-there k r p =
-          found r p (λ m n function text R cs o e. rest-ends m n function text R (wordsOf code) v (matching v cs o) j (l .left m n function text R cs o e) (sym op-is ∙ k))
+          found r p (λ m n function text R cs o e. rest-ends m n function text R (cellsOf code) v (matching v cs o) j (l .left m n function text R cs o e) (sym op-is ∙ k))
 
       module _ (k : opIn w ≡ anOtherwise → ⊥) (hw : w < cellValues) where
-        same-constant : (b : Bool) → same v (pos (valueIn w) -ℤ pos bias) ≡ b → same v (constantAt (wordsOf code) j) ≡ b
+        same-constant : (b : Bool) → same v (pos (valueIn w) -ℤ pos bias) ≡ b → same v (constantAt (cellsOf code) j) ≡ b
         unfolding constantAt
         same-constant b e = ap (λ (y : ℕ). same v (pos (valueIn y) -ℤ pos bias)) (sym ew) ∙ e
 
-        finds-there : valueIn w ≡ ofZ w64 (read v +ℤ pos bias) → (r : ℕ) → Part halfEnd (placeAt (wordsOf code) j) r → Matches code first v r
+        finds-there : valueIn w ≡ ofZ w64 (read v +ℤ pos bias) → (r : ℕ) → Part halfEnd (placeAt (cellsOf code) j) r → Matches code first v r
         unfolding constant
         finds-there e r p =
-            found r p (λ m n function text R cs o y. rest-takes m n function text R (wordsOf code) v (matching v cs o) j (l .left m n function text R cs o y) (λ z. k (op-is ∙ z))
+            found r p (λ m n function text R cs o y. rest-takes m n function text R (cellsOf code) v (matching v cs o) j (l .left m n function text R cs o y) (λ z. k (op-is ∙ z))
             (same-constant true (key-same (valueIn w) (omega arith) e)))
 
-        goes-on : (valueIn w ≡ ofZ w64 (read v +ℤ pos bias) → ⊥) → Searching (linkAt (wordsOf code) j)
+        goes-on : (valueIn w ≡ ofZ w64 (read v +ℤ pos bias) → ⊥) → Searching (linkAt (cellsOf code) j)
         unfolding constant
         goes-on e = record {
           cases-are = l .cases-are;
           left = λ m n function text R cs o y.
-              rest-passes m n function text R (wordsOf code) v (matching v cs o) j (l .left m n function text R cs o y) (λ z. k (op-is ∙ z))
+              rest-passes m n function text R (cellsOf code) v (matching v cs o) j (l .left m n function text R cs o y) (λ z. k (op-is ∙ z))
               (same-constant false (key-other (valueIn w) (omega arith) e));
         }
 
-        goes-less : (valueIn w ≡ ofZ w64 (read v +ℤ pos bias) → ⊥) → wordsLeft code (linkAt (wordsOf code) j) < wordsLeft code j
+        goes-less : (valueIn w ≡ ofZ w64 (read v +ℤ pos bias) → ⊥) → wordsLeft code (linkAt (cellsOf code) j) < wordsLeft code j
         goes-less e =
             let c = l .cases-are in
-            rest-less (c .m) (c .n) (c .function) (c .text) (c .R) (wordsOf code) v (matching v (c .cs) (c .o)) j (λ z. k (op-is ∙ z))
+            rest-less (c .m) (c .n) (c .function) (c .text) (c .R) (cellsOf code) v (matching v (c .cs) (c .o)) j (λ z. k (op-is ∙ z))
             (goes-on e .left (c .m) (c .n) (c .function) (c .text) (c .R) (c .cs) (c .o) (c .is))
 
 -- ---- the same, for v as the loop has it
@@ -417,17 +417,17 @@ module _ (code : List ℕ) (first : ℕ) (v : ℤ) (sv : SFits w64 v) where
     pub search-in : j * 8 + 8 ≤ length code
     search-in =
         let c = l .cases-are in
-        op-in code j (c .whole) (rest-op (c .m) (c .n) (c .function) (c .text) (c .R) (wordsOf code) (read v) (matching (read v) (c .cs) (c .o)) j (l .left (c .m) (c .n) (c .function) (c .text) (c .R) (c .cs) (c .o) (c .is)))
+        op-in code j (c .whole) (rest-op (c .m) (c .n) (c .function) (c .text) (c .R) (cellsOf code) (read v) (matching (read v) (c .cs) (c .o)) j (l .left (c .m) (c .n) (c .function) (c .text) (c .R) (c .cs) (c .o) (c .is)))
 
-    module _ (fv : SFits w32 v) (w : ℕ) (ew : w ≡ headAt (wordsOf code) j) where
-      pub search-ends : opIn w ≡ anOtherwise → (r : ℕ) → Part halfEnd (placeAt (wordsOf code) j) r → Matches code first v r
+    module _ (fv : SFits w32 v) (w : ℕ) (ew : w ≡ headAt (cellsOf code) j) where
+      pub search-ends : opIn w ≡ anOtherwise → (r : ℕ) → Part halfEnd (placeAt (cellsOf code) j) r → Matches code first v r
       search-ends k r p = ends-there code first v sv fv j unread w ew k r p
 
       module _ (k : opIn w ≡ anOtherwise → ⊥) (hw : w < cellValues) where
-        pub search-finds : valueIn w ≡ ofZ w64 (read v +ℤ pos bias) → (r : ℕ) → Part halfEnd (placeAt (wordsOf code) j) r → Matches code first v r
+        pub search-finds : valueIn w ≡ ofZ w64 (read v +ℤ pos bias) → (r : ℕ) → Part halfEnd (placeAt (cellsOf code) j) r → Matches code first v r
         search-finds e r p = finds-there code first v sv fv j unread w ew k hw e r p
 
-        module _ (e : valueIn w ≡ ofZ w64 (read v +ℤ pos bias) → ⊥) (b : ℕ) (p : Part halfEnd (linkAt (wordsOf code) j) b) where
+        module _ (e : valueIn w ≡ ofZ w64 (read v +ℤ pos bias) → ⊥) (b : ℕ) (p : Part halfEnd (linkAt (cellsOf code) j) b) where
           pub search-on : Searching code first (read v) b
           search-on = rw (p .same, toZ-ofZ sv) (goes-on code first v sv fv j unread w ew k hw e)
 

@@ -14,7 +14,7 @@ use Rattle.laws.proofs.Tests.{test}
 use Rattle.paper.specs.Steps.{Action, Step, select}
 use Rattle.paper.specs.States.{made, goTo, onTop}
 use Rattle.paper.specs.Running.{perform, holds, matching}
-use Rattle.store_cells.specs.Words.{wordsOf}
+use Rattle.store_cells.specs.Cells.{cellsOf}
 use Rattle.store_numbers.proofs.Whole.{read}
 use Rattle.code.specs.Spans.{termIn}
 use Rattle.code.specs.Steps.{parts, casesIn, aTest}
@@ -34,7 +34,7 @@ matching-named S z (c ∷ cs) o k =
     test (holds z (c .0)) (λ t. rw (t, matching) (k .1 .0)) (λ t. rw (t, matching) (matching-named S z cs o (k .0, k .1 .1)))
 
 module _ (code values : List ℕ) (base i t : ℕ) (q : Says code i aTest t) where
-  selects : (h : Here code values base i) → Selects (m code values base i h) (n code values base i h) (codeHere code values base i h .function) (h .text) (h .R) (wordsOf code) i
+  selects : (h : Here code values base i) → Selects (m code values base i h) (n code values base i h) (codeHere code values base i h .function) (h .text) (h .R) (cellsOf code) i
       (stepHere code values base i h .after) (stepHere code values base i h .does)
   selects h = reads-test _ _ _ _ _ _ i _ _ (action-here code values base i h) (q .op-is)
 
@@ -45,13 +45,13 @@ module _ (code values : List ℕ) (base i t : ℕ) (q : Says code i aTest t) whe
   unfolding goes perform
   selecting h = record {
     e = selects h .e;
-    reads = ap (termIn (m code values base i h) (n code values base i h) (wordsOf code) (i + 1)) (q .value-is) ∙ selects h .reads;
+    reads = ap (termIn (m code values base i h) (n code values base i h) (cellsOf code) (i + 1)) (q .value-is) ∙ selects h .reads;
     effect = λ rooms steps out.
         effect-here code values base i h rooms steps out (stepHere code values base i h .after) (select (selects h .e) (selects h .cs) (selects h .o)) refl (selects h .does-is);
   }
 
-  cases-at : (h : Here code values base i) → casesIn (m code values base i h) (n code values base i h) (codeHere code values base i h .function) (h .text) (h .R) (wordsOf code) parts t ≡ some (selects h .cs, selects h .o)
-  cases-at h = ap (casesIn (m code values base i h) (n code values base i h) (codeHere code values base i h .function) (h .text) (h .R) (wordsOf code) parts) (q .value-is) ∙ selects h .cases
+  cases-at : (h : Here code values base i) → casesIn (m code values base i h) (n code values base i h) (codeHere code values base i h .function) (h .text) (h .R) (cellsOf code) parts t ≡ some (selects h .cs, selects h .o)
+  cases-at h = ap (casesIn (m code values base i h) (n code values base i h) (codeHere code values base i h .function) (h .text) (h .R) (cellsOf code) parts) (q .value-is) ∙ selects h .cases
 
   pub test-stands : Here code values base i → Stands code (i + 1) t
   test-stands h = decided-stands code values base i t goes selecting h
@@ -82,5 +82,5 @@ module _ (code values : List ℕ) (base i t : ℕ) (q : Says code i aTest t) whe
         let c = matching r (g .cs) (g .o) in
         let e = y .is (m code values base i h) (n code values base i h) (codeHere code values base i h .function) (h .text) (h .R) (g .cs) (g .o) (cases-at h) in
         let z = matching-named (stepsHere code values base i h) r (g .cs) (g .o) (subst (λ (a : Action). Named (stepsHere code values base i h) (targetsOf a)) (g .does-is) (named-targets code values base i h)) in
-        subst (λ (j : ℕ). Comes (h .P) (h .R) (wordsOf code) (h .offset) (h .d) i steps (wordsOf values) (wordsOf values) out out (effectAt (h .P) (h .R) rooms (wordsOf values) (h .d) i steps out) (toZ w64 j)) (sym e)
+        subst (λ (j : ℕ). Comes (h .P) (h .R) (cellsOf code) (h .offset) (h .d) i steps (cellsOf values) (cellsOf values) out out (effectAt (h .P) (h .R) rooms (cellsOf values) (h .d) i steps out) (toZ w64 j)) (sym e)
         (goes-here code values base i h rooms steps out c _ z (decided code values base i t goes selecting r s v k h rooms steps out)))

@@ -9,7 +9,7 @@ use lib.IntN.{ℤ, pos}
 use Rattle.paper.specs.Numbers.{Value, value}
 use Rattle.paper.specs.Terms.{Term, Memory, worth}
 use Rattle.paper.specs.Running.{matching}
-use Rattle.store_cells.specs.Words.{wordsOf}
+use Rattle.store_cells.specs.Cells.{cellsOf}
 use Rattle.code.specs.Steps.{Head, parts, forStep, casesIn}
 use Rattle.store_evaluation.specs.Answers.{decoded, Small, Counts, memoryOf}
 use Rattle.store_reading.specs.Reading.{halfEnd}
@@ -23,11 +23,11 @@ pub record Cases (code : List ℕ) (first : ℕ) : Type 0 where
   pub R : List Head
   pub cs : List (List ℤ × ℕ)
   pub o : ℕ
-  pub is : casesIn m n function text R (wordsOf code) parts first ≡ some (cs, o)
+  pub is : casesIn m n function text R (cellsOf code) parts first ≡ some (cs, o)
   pub whole : length code % 8 ≡ 0
 
 -- r is where they go on for v.
 pub record Matches (code : List ℕ) (first : ℕ) (v : ℤ) (r : ℕ) : Type 0 where
   pub is : (m n : ℕ) (function : Bool) (text : List ℕ) (R : List Head) (cs : List (List ℤ × ℕ)) (o : ℕ)
-      → casesIn m n function text R (wordsOf code) parts first ≡ some (cs, o) → r ≡ matching v cs o
+      → casesIn m n function text R (cellsOf code) parts first ≡ some (cs, o) → r ≡ matching v cs o
   pub small : r < halfEnd

@@ -19,7 +19,7 @@ use Rattle.paper.specs.Terms.{Term, worth}
 use Rattle.paper.specs.Steps.{Action, Step, choose, testWhile, raise}
 use Rattle.paper.specs.States.{Call, Rooms, Effect, made, failing, goTo, onTop, memoryOf, withValue}
 use Rattle.paper.specs.Running.{perform, choosing, raised}
-use Rattle.store_cells.specs.Words.{wordsOf}
+use Rattle.store_cells.specs.Cells.{cellsOf}
 use Rattle.store_numbers.proofs.Whole.{read}
 use Rattle.code.specs.Cells.{valueAt, linkAt}
 use Rattle.code.specs.Spans.{termIn}
@@ -38,32 +38,32 @@ use Rattle.run_machine.proofs.Deciding.{stepsHere, Going, Deciding, decides, de
 module _ (code values : List ℕ) (base i : ℕ) where
   -- ---- a compact IF
   module _ (t : ℕ) (q : Says code i aCompactIf t) where
-    if-here : (h : Here code values base i) → Expression (m code values base i h) (n code values base i h) (codeHere code values base i h .function) (h .text) (h .R) (wordsOf code) i
-        (stepHere code values base i h .after) (stepHere code values base i h .does) (λ e. choose ((e, valueAt (wordsOf code) i) ∷ []) (linkAt (wordsOf code) i))
+    if-here : (h : Here code values base i) → Expression (m code values base i h) (n code values base i h) (codeHere code values base i h .function) (h .text) (h .R) (cellsOf code) i
+        (stepHere code values base i h .after) (stepHere code values base i h .does) (λ e. choose ((e, valueAt (cellsOf code) i) ∷ []) (linkAt (cellsOf code) i))
     if-here h = reads-compact-if _ _ _ _ _ _ i _ _ (action-here code values base i h) (q .op-is)
 
     if-goes : Going code values base i
     if-goes h rooms steps out z =
         elim (isZero z) [
-          | true ↦ made (onTop (goTo (linkAt (wordsOf code) i)) (stateHere code values base i h rooms steps out))
-          | false ↦ made (onTop (goTo (valueAt (wordsOf code) i)) (stateHere code values base i h rooms steps out))
+          | true ↦ made (onTop (goTo (linkAt (cellsOf code) i)) (stateHere code values base i h rooms steps out))
+          | false ↦ made (onTop (goTo (valueAt (cellsOf code) i)) (stateHere code values base i h rooms steps out))
         ]
 
     if-decides : (h : Here code values base i) → Deciding code values base i t if-goes h
     unfolding if-goes perform choosing
-    if-decides h = decides code values base i t aCompactIf q (λ e. choose ((e, valueAt (wordsOf code) i) ∷ []) (linkAt (wordsOf code) i)) if-goes h (if-here h) (λ rooms steps out c rest place. refl)
+    if-decides h = decides code values base i t aCompactIf q (λ e. choose ((e, valueAt (cellsOf code) i) ∷ []) (linkAt (cellsOf code) i)) if-goes h (if-here h) (λ rooms steps out c rest place. refl)
 
-    if-named : (h : Here code values base i) → (isNamed (stepsHere code values base i h) (linkAt (wordsOf code) i) ≡ true) × (isNamed (stepsHere code values base i h) (valueAt (wordsOf code) i) ≡ true)
+    if-named : (h : Here code values base i) → (isNamed (stepsHere code values base i h) (linkAt (cellsOf code) i) ≡ true) × (isNamed (stepsHere code values base i h) (valueAt (cellsOf code) i) ≡ true)
     unfolding Named targetsOf
     if-named h =
-        let g = action-named code values base i h (choose ((if-here h .e, valueAt (wordsOf code) i) ∷ []) (linkAt (wordsOf code) i)) (if-here h .does-is) in
+        let g = action-named code values base i h (choose ((if-here h .e, valueAt (cellsOf code) i) ∷ []) (linkAt (cellsOf code) i)) (if-here h .does-is) in
         (g .0, g .1 .0)
 
     pub if-stands : Here code values base i → Stands code (i + 1) t
     if-stands h = decided-stands code values base i t if-goes if-decides h
 
     pub if-small : Here code values base i → SFits w64 (pos t)
-    if-small h = record { sfits = omega (arith, q .value-is, small-name code values base i h (valueAt (wordsOf code) i) (if-named h .1) .1) }
+    if-small h = record { sfits = omega (arith, q .value-is, small-name code values base i h (valueAt (cellsOf code) i) (if-named h .1) .1) }
 
     module _ (r : ℤ) (s : SFits w64 r) (v : Evaluated code values base (i + 1) t r) where
       pub if-fails : leZ (pos firstError) (read r) ≡ true → Performs code values values base i (read r)
@@ -73,33 +73,33 @@ module _ (code values : List ℕ) (base i : ℕ) where
         pub if-then : (ofZ w64 r ≡ 0 → ⊥) → Performs code values values base i (toZ w64 t)
         unfolding if-goes
         if-then z =
-            decided-goes code values base i t if-goes if-decides r s v k t (valueAt (wordsOf code) i) (q .value-is) (λ h. if-named h .1) (λ h rooms steps out. rw (told-other r s z, if-goes))
+            decided-goes code values base i t if-goes if-decides r s v k t (valueAt (cellsOf code) i) (q .value-is) (λ h. if-named h .1) (λ h rooms steps out. rw (told-other r s z, if-goes))
 
-        pub if-else : ofZ w64 r ≡ 0 → (b : ℕ) → Part halfEnd (linkAt (wordsOf code) i) b → Performs code values values base i (toZ w64 b)
+        pub if-else : ofZ w64 r ≡ 0 → (b : ℕ) → Part halfEnd (linkAt (cellsOf code) i) b → Performs code values values base i (toZ w64 b)
         unfolding if-goes
         if-else z b p =
-            decided-goes code values base i t if-goes if-decides r s v k b (linkAt (wordsOf code) i) (p .same) (λ h. if-named h .0) (λ h rooms steps out. rw (told-zero r s z, if-goes))
+            decided-goes code values base i t if-goes if-decides r s v k b (linkAt (cellsOf code) i) (p .same) (λ h. if-named h .0) (λ h rooms steps out. rw (told-zero r s z, if-goes))
 
   -- ---- WHILE
   module _ (t : ℕ) (q : Says code i aWhile t) where
-    while-here : (h : Here code values base i) → Expression (m code values base i h) (n code values base i h) (codeHere code values base i h .function) (h .text) (h .R) (wordsOf code) i
-        (stepHere code values base i h .after) (stepHere code values base i h .does) (λ e. testWhile e (valueAt (wordsOf code) (valueAt (wordsOf code) i)))
+    while-here : (h : Here code values base i) → Expression (m code values base i h) (n code values base i h) (codeHere code values base i h .function) (h .text) (h .R) (cellsOf code) i
+        (stepHere code values base i h .after) (stepHere code values base i h .does) (λ e. testWhile e (valueAt (cellsOf code) (valueAt (cellsOf code) i)))
     while-here h = reads-while _ _ _ _ _ _ i _ _ (action-here code values base i h) (q .op-is)
 
     while-goes : Going code values base i
     while-goes h rooms steps out z =
-        made (onTop (goTo (if isZero z then linkAt (wordsOf code) i else valueAt (wordsOf code) (valueAt (wordsOf code) i))) (stateHere code values base i h rooms steps out))
+        made (onTop (goTo (if isZero z then linkAt (cellsOf code) i else valueAt (cellsOf code) (valueAt (cellsOf code) i))) (stateHere code values base i h rooms steps out))
 
     while-decides : (h : Here code values base i) → Deciding code values base i t while-goes h
     unfolding while-goes perform
-    while-decides h = decides code values base i t aWhile q (λ e. testWhile e (valueAt (wordsOf code) (valueAt (wordsOf code) i))) while-goes h (while-here h) (λ rooms steps out c rest place. refl)
+    while-decides h = decides code values base i t aWhile q (λ e. testWhile e (valueAt (cellsOf code) (valueAt (cellsOf code) i))) while-goes h (while-here h) (λ rooms steps out c rest place. refl)
 
-    body-is : valueAt (wordsOf code) t ≡ valueAt (wordsOf code) (valueAt (wordsOf code) i)
-    body-is = ap (valueAt (wordsOf code)) (q .value-is)
+    body-is : valueAt (cellsOf code) t ≡ valueAt (cellsOf code) (valueAt (cellsOf code) i)
+    body-is = ap (valueAt (cellsOf code)) (q .value-is)
 
-    body-named : (h : Here code values base i) → isNamed (stepsHere code values base i h) (valueAt (wordsOf code) (valueAt (wordsOf code) i)) ≡ true
+    body-named : (h : Here code values base i) → isNamed (stepsHere code values base i h) (valueAt (cellsOf code) (valueAt (cellsOf code) i)) ≡ true
     unfolding Named targetsOf
-    body-named h = action-named code values base i h (testWhile (while-here h .e) (valueAt (wordsOf code) (valueAt (wordsOf code) i))) (while-here h .does-is) .0
+    body-named h = action-named code values base i h (testWhile (while-here h .e) (valueAt (cellsOf code) (valueAt (cellsOf code) i))) (while-here h .does-is) .0
 
     pub while-stands : Here code values base i → Stands code (i + 1) t
     while-stands h = decided-stands code values base i t while-goes while-decides h
@@ -107,23 +107,23 @@ module _ (code values : List ℕ) (base i : ℕ) where
     pub while-body-in : Here code values base i → t * 8 + 8 ≤ length code
     while-body-in h =
         value-in code t (whole-here code values base i h)
-        (λ z. omega (arith, body-is, small-name code values base i h (valueAt (wordsOf code) (valueAt (wordsOf code) i)) (body-named h) .0))
+        (λ z. omega (arith, body-is, small-name code values base i h (valueAt (cellsOf code) (valueAt (cellsOf code) i)) (body-named h) .0))
 
     module _ (r : ℤ) (s : SFits w64 r) (v : Evaluated code values base (i + 1) t r) where
       pub while-fails : leZ (pos firstError) (read r) ≡ true → Performs code values values base i (read r)
       while-fails k = decided-fails code values base i t while-goes while-decides r s v k
 
       module _ (k : leZ (pos firstError) (read r) ≡ false) where
-        pub while-body : (ofZ w64 r ≡ 0 → ⊥) → (b : ℕ) → Part valueEnd (valueAt (wordsOf code) t) b → Performs code values values base i (toZ w64 b)
+        pub while-body : (ofZ w64 r ≡ 0 → ⊥) → (b : ℕ) → Part valueEnd (valueAt (cellsOf code) t) b → Performs code values values base i (toZ w64 b)
         unfolding while-goes
         while-body z b p =
-            decided-goes code values base i t while-goes while-decides r s v k b (valueAt (wordsOf code) (valueAt (wordsOf code) i)) (p .same ∙ body-is) body-named
+            decided-goes code values base i t while-goes while-decides r s v k b (valueAt (cellsOf code) (valueAt (cellsOf code) i)) (p .same ∙ body-is) body-named
             (λ h rooms steps out. rw (told-other r s z, while-goes))
 
-        pub while-after : ofZ w64 r ≡ 0 → (b : ℕ) → Part halfEnd (linkAt (wordsOf code) i) b → Performs code values values base i (toZ w64 b)
+        pub while-after : ofZ w64 r ≡ 0 → (b : ℕ) → Part halfEnd (linkAt (cellsOf code) i) b → Performs code values values base i (toZ w64 b)
         unfolding while-goes
         while-after z b p =
-            decided-goes code values base i t while-goes while-decides r s v k b (linkAt (wordsOf code) i) (p .same)
+            decided-goes code values base i t while-goes while-decides r s v k b (linkAt (cellsOf code) i) (p .same)
             (λ h. subst (λ (j : ℕ). isNamed (stepsHere code values base i h) j ≡ true) (while-here h .after-is) (named-after code values base i h))
             (λ h rooms steps out. rw (told-zero r s z, while-goes))
 

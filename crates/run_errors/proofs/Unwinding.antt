@@ -19,7 +19,7 @@ use Rattle.paper.specs.Steps.{Program}
 use Rattle.paper.specs.States.{Call, State, withCalls, withErrno, goTo, setFailed, onTop}
 use Rattle.paper.specs.Running.{codeAt, takes, caught, stopping, goesOn, arising}
 use Rattle.store_numbers.proofs.Whole.{read}
-use Rattle.store_cells.specs.Words.{wordsOf, Put}
+use Rattle.store_cells.specs.Cells.{cellsOf, Put}
 use Rattle.store_cells.proofs.Laws.{length-words}
 use Rattle.store_cells.proofs.Kept.{put-length}
 use Rattle.code.specs.Cells.{windowOf, linkAt, errnoCell, firstWindow, windowCells}
@@ -44,7 +44,7 @@ use Rattle.run_errors.proofs.Cases.{none-case, some-case, positive}
 -- ---- a call's routine
 module _ (code values : List ℕ) (base i : ℕ) (h : Here code values base i) where
   abbrev X : List ℕ
-  X = wordsOf values
+  X = cellsOf values
 
   word-is : getD X (base + routineCell) 0 ≡ getD (h .R) (routineOfCall (h .P) (h .R) X (h .d)) noHead .word
   word-is = ap (λ (b : ℕ). getD X (b + routineCell) 0) (h .base-is) ∙ sym (h .live .top .word)
@@ -56,7 +56,7 @@ module _ (code values : List ℕ) (base i : ℕ) (h : Here code values base i) w
   }
 
   pub handler-is : codeHere code values base i h .handler ≡ optionally (handlerAt code values base)
-  handler-is = routine-holds code values base i h .handler-is ∙ ap (λ (w : ℕ). optionally (linkAt (wordsOf code) (w + 1))) (sym word-is)
+  handler-is = routine-holds code values base i h .handler-is ∙ ap (λ (w : ℕ). optionally (linkAt (cellsOf code) (w + 1))) (sym word-is)
 
   pub window-in : (base + windowCells) * 4 ≤ length values
   window-in = omega (arith, h .values-size, h .base-is, h .deep)
@@ -89,7 +89,7 @@ zero-handler = refl
 
 -- ---- the search
 abbrev pub Seeking : (code values : List ℕ) → (base i b s : ℕ) → Type 0
-Seeking code values base i b s = (h : Here code values base i) → Seeks (h .P) (h .R) (wordsOf values) (h .d) i b s
+Seeking code values base i b s = (h : Here code values base i) → Seeks (h .P) (h .R) (cellsOf values) (h .d) i b s
 
 pub seek-start : (code values : List ℕ) (base i : ℕ) → Seeking code values base i base i
 seek-start code values base i h = record { e = h .d; up = omega arith; base-is = h .base-is; live = h .live; rest = refl }
@@ -126,14 +126,14 @@ module _ (code values : List ℕ) (base i b s : ℕ) (k : Seeking code values ba
   pub seek-less : (b ≡ firstWindow → ⊥) → b - windowCells < b
   seek-less d = omega (arith, seek-above d)
 
-  handler-here : codeAt (h .P) (callIn (h .P) (h .R) (wordsOf values) (windowOf (k h .e)) s .routine) .handler ≡ optionally (handlerAt code values b)
+  handler-here : codeAt (h .P) (callIn (h .P) (h .R) (cellsOf values) (windowOf (k h .e)) s .routine) .handler ≡ optionally (handlerAt code values b)
   unfolding callIn come
   handler-here = handler-is code values b s come
 
 module _ (code values : List ℕ) (base i b s : ℕ) (k : Seeking code values base i b s) (g : handlerAt code values b ≡ 0) (d : b ≡ firstWindow → ⊥) where
-  up-one : (h : Here code values base i) (q : Seeks (h .P) (h .R) (wordsOf values) (h .d) i b s) (e : ℕ) → q .e ≡ suc e
-      → codeAt (h .P) (callIn (h .P) (h .R) (wordsOf values) (windowOf (q .e)) s .routine) .handler ≡ none
-      → Seeks (h .P) (h .R) (wordsOf values) (h .d) i (b - windowCells) (getD (wordsOf values) (b - windowCells + waitsCell) 0)
+  up-one : (h : Here code values base i) (q : Seeks (h .P) (h .R) (cellsOf values) (h .d) i b s) (e : ℕ) → q .e ≡ suc e
+      → codeAt (h .P) (callIn (h .P) (h .R) (cellsOf values) (windowOf (q .e)) s .routine) .handler ≡ none
+      → Seeks (h .P) (h .R) (cellsOf values) (h .d) i (b - windowCells) (getD (cellsOf values) (b - windowCells + waitsCell) 0)
   unfolding waiting
   up-one h q e z n =
       let a : b - windowCells ≡ windowOf e = omega (arith, q .base-is) in
@@ -141,21 +141,21 @@ module _ (code values : List ℕ) (base i b s : ℕ) (k : Seeking code values ba
         e = e;
         up = omega (arith, q .up);
         base-is = a;
-        live = live-caller (h .P) (h .R) (wordsOf values) (q .e) e s z (q .live) (b - windowCells) (getD (wordsOf values) (b - windowCells + waitsCell) 0) a refl;
-        rest = q .rest ∙ caught-on (h .P) (callIn (h .P) (h .R) (wordsOf values) (windowOf (q .e)) s) (waiting (h .P) (h .R) (wordsOf values) (q .e)) n
-            ∙ ap (λ (j : ℕ). caught (h .P) (waiting (h .P) (h .R) (wordsOf values) j)) z
-            ∙ ap (λ (j : ℕ). caught (h .P) (callIn (h .P) (h .R) (wordsOf values) (windowOf e) (getD (wordsOf values) (j + waitsCell) 0) ∷ waiting (h .P) (h .R) (wordsOf values) e)) (sym a);
+        live = live-caller (h .P) (h .R) (cellsOf values) (q .e) e s z (q .live) (b - windowCells) (getD (cellsOf values) (b - windowCells + waitsCell) 0) a refl;
+        rest = q .rest ∙ caught-on (h .P) (callIn (h .P) (h .R) (cellsOf values) (windowOf (q .e)) s) (waiting (h .P) (h .R) (cellsOf values) (q .e)) n
+            ∙ ap (λ (j : ℕ). caught (h .P) (waiting (h .P) (h .R) (cellsOf values) j)) z
+            ∙ ap (λ (j : ℕ). caught (h .P) (callIn (h .P) (h .R) (cellsOf values) (windowOf e) (getD (cellsOf values) (j + waitsCell) 0) ∷ waiting (h .P) (h .R) (cellsOf values) e)) (sym a);
       }
 
-  pub seek-next : (x : ℕ) → x ≡ getD (wordsOf values) (b - windowCells + waitsCell) 0 → Seeking code values base i (b - windowCells) x
+  pub seek-next : (x : ℕ) → x ≡ getD (cellsOf values) (b - windowCells + waitsCell) 0 → Seeking code values base i (b - windowCells) x
   seek-next x ex h =
-      subst (Seeks (h .P) (h .R) (wordsOf values) (h .d) i (b - windowCells)) (sym ex)
+      subst (Seeks (h .P) (h .R) (cellsOf values) (h .d) i (b - windowCells)) (sym ex)
       (go (k h .e) refl)
     where
-      no : codeAt (h .P) (callIn (h .P) (h .R) (wordsOf values) (windowOf (k h .e)) s .routine) .handler ≡ none
+      no : codeAt (h .P) (callIn (h .P) (h .R) (cellsOf values) (windowOf (k h .e)) s .routine) .handler ≡ none
       no = handler-here code values base i b s k h ∙ ap optionally g ∙ zero-handler
 
-      go : (e : ℕ) → k h .e ≡ e → Seeks (h .P) (h .R) (wordsOf values) (h .d) i (b - windowCells) (getD (wordsOf values) (b - windowCells + waitsCell) 0)
+      go : (e : ℕ) → k h .e ≡ e → Seeks (h .P) (h .R) (cellsOf values) (h .d) i (b - windowCells) (getD (cellsOf values) (b - windowCells + waitsCell) 0)
       go zero z = absurd (d (k h .base-is ∙ ap windowOf z))
       go (suc e) z = up-one h (k h) e z no
 
@@ -167,7 +167,7 @@ module _ (code values : List ℕ) (base i b s : ℕ) (k : Seeking code values ba
   pub nearest-main : b ≡ firstWindow → Nearest code values base i (record { next = s; base = b })
   nearest-main m = record { is = k; main = λ z. m }
 
-  pub seek-on : (x : ℕ) → x ≡ handlerAt code values b → x ≡ 0 → (b ≡ firstWindow → ⊥) → (w : ℕ) → w ≡ getD (wordsOf values) (b - windowCells + waitsCell) 0 → Seeking code values base i (b - windowCells) w
+  pub seek-on : (x : ℕ) → x ≡ handlerAt code values b → x ≡ 0 → (b ≡ firstWindow → ⊥) → (w : ℕ) → w ≡ getD (cellsOf values) (b - windowCells + waitsCell) 0 → Seeking code values base i (b - windowCells) w
   seek-on x e z d w ew = seek-next code values base i b s k (sym e ∙ z) d w ew
 
 -- ---- the call that was found
@@ -193,100 +193,100 @@ module _ (code values : List ℕ) (base i : ℕ) (t : Taken) (nr : Nearest code 
 
   module _ (x : ℕ) (ex : x ≡ handlerAt code values (t .base)) where
     -- no call has an ERROR list
-    nobody : (h : Here code values base i) → x ≡ 0 → caught (h .P) (callIn (h .P) (h .R) (wordsOf values) (windowOf (h .d)) i ∷ waiting (h .P) (h .R) (wordsOf values) (h .d)) ≡ none
+    nobody : (h : Here code values base i) → x ≡ 0 → caught (h .P) (callIn (h .P) (h .R) (cellsOf values) (windowOf (h .d)) i ∷ waiting (h .P) (h .R) (cellsOf values) (h .d)) ≡ none
     unfolding waiting
     nobody h z =
         let q = nr .is h in
         let m : q .e ≡ 0 = omega (arith, nr .main (sym ex ∙ z), q .base-is) in
         q .rest
-        ∙ caught-on (h .P) (callIn (h .P) (h .R) (wordsOf values) (windowOf (q .e)) (t .next)) (waiting (h .P) (h .R) (wordsOf values) (q .e))
+        ∙ caught-on (h .P) (callIn (h .P) (h .R) (cellsOf values) (windowOf (q .e)) (t .next)) (waiting (h .P) (h .R) (cellsOf values) (q .e))
         (handler-here code values base i (t .base) (t .next) (nr .is) h ∙ ap optionally (sym ex ∙ z) ∙ zero-handler)
-        ∙ ap (λ (j : ℕ). caught (h .P) (waiting (h .P) (h .R) (wordsOf values) j)) m
+        ∙ ap (λ (j : ℕ). caught (h .P) (waiting (h .P) (h .R) (cellsOf values) j)) m
         ∙ caught-nobody (h .P)
 
     pub unwind-none : x ≡ 0 → Unwound code values values base i (record { next = 0; base = t .base })
     unwind-none z = record { long = refl; kept = λ c a b. refl; does = λ h. dies refl refl (nobody h z) }
 
-    module _ (d : x ≡ 0 → ⊥) (f : ℕ) (ef : f ≡ getD (wordsOf values) (t .base + failedCell) 0) where
+    module _ (d : x ≡ 0 → ⊥) (f : ℕ) (ef : f ≡ getD (cellsOf values) (t .base + failedCell) 0) where
       module _ (h : Here code values base i) where
-        handler-some : codeAt (h .P) (callIn (h .P) (h .R) (wordsOf values) (windowOf (nr .is h .e)) (t .next) .routine) .handler ≡ some x
+        handler-some : codeAt (h .P) (callIn (h .P) (h .R) (cellsOf values) (windowOf (nr .is h .e)) (t .next) .routine) .handler ≡ some x
         handler-some = handler-here code values base i (t .base) (t .next) (nr .is) h ∙ ap optionally (sym ex) ∙ positive x d
 
-        failed-is : callIn (h .P) (h .R) (wordsOf values) (windowOf (nr .is h .e)) (t .next) .failed ≡ optionally f
+        failed-is : callIn (h .P) (h .R) (cellsOf values) (windowOf (nr .is h .e)) (t .next) .failed ≡ optionally f
         unfolding callIn
-        failed-is = ap optionally (ap (λ (b : ℕ). getD (wordsOf values) (b + failedCell) 0) (sym (nr .is h .base-is)) ∙ sym ef)
+        failed-is = ap optionally (ap (λ (b : ℕ). getD (cellsOf values) (b + failedCell) 0) (sym (nr .is h .base-is)) ∙ sym ef)
 
       -- it is in its ERROR list
       pub unwind-dies : (f ≡ 0 → ⊥) → Unwound code values values base i (record { next = 0; base = t .base })
       unwind-dies g = record {
         long = refl;
         kept = λ c a b. refl;
-        does = λ h. dies refl refl (nr .is h .rest ∙ caught-dies (h .P) (callIn (h .P) (h .R) (wordsOf values) (windowOf (nr .is h .e)) (t .next)) (waiting (h .P) (h .R) (wordsOf values) (nr .is h .e)) x f (handler-some h) (failed-is h ∙ positive f g));
+        does = λ h. dies refl refl (nr .is h .rest ∙ caught-dies (h .P) (callIn (h .P) (h .R) (cellsOf values) (windowOf (nr .is h .e)) (t .next)) (waiting (h .P) (h .R) (cellsOf values) (nr .is h .e)) x f (handler-some h) (failed-is h ∙ positive f g));
       }
 
       -- it takes the error
       module _ (z : f ≡ 0) (after : List ℕ) (p : Put values after (t .base + failedCell) (t .next)) where
         module _ (h : Here code values base i) where
-          words-are : wordsOf after ≡ set (wordsOf values) (windowOf (nr .is h .e) + failedCell) (t .next)
-          words-are = p .words ∙ ap (λ (b : ℕ). set (wordsOf values) (b + failedCell) (t .next)) (nr .is h .base-is)
+          words-are : cellsOf after ≡ set (cellsOf values) (windowOf (nr .is h .e) + failedCell) (t .next)
+          words-are = p .words ∙ ap (λ (b : ℕ). set (cellsOf values) (b + failedCell) (t .next)) (nr .is h .base-is)
 
-          kept-run : KeepsRun (wordsOf values) (wordsOf after)
+          kept-run : KeepsRun (cellsOf values) (cellsOf after)
           kept-run c a b =
               ap (λ (x : List ℕ). getD x c 0) words-are
-              ∙ getD-set-other (wordsOf values) (windowOf (nr .is h .e) + failedCell) c (t .next) 0 (λ e. omega arith)
+              ∙ getD-set-other (cellsOf values) (windowOf (nr .is h .e) + failedCell) c (t .next) 0 (λ e. omega arith)
 
-          in-store : windowOf (nr .is h .e) + failedCell < length (wordsOf values)
+          in-store : windowOf (nr .is h .e) + failedCell < length (cellsOf values)
           in-store = omega (arith, length-words values, found-in h, nr .is h .base-is)
 
           some-step : optionally (t .next) ≡ some (t .next)
           some-step = positive (t .next) (λ e. omega (arith, small-name code values (t .base) (t .next) (at-call h) (t .next) (at-call h .live .named) .0))
 
           on-top-takes : (steps : ℕ) (out : List ℕ)
-              → onTop (goTo x) (onTop (setFailed (some (t .next))) (stateIn (h .P) (h .R) (wordsOf values) (nr .is h .e) (t .next) steps out))
-              ≡ withCalls (takes x (callIn (h .P) (h .R) (wordsOf values) (windowOf (nr .is h .e)) (t .next)) ∷ waiting (h .P) (h .R) (wordsOf values) (nr .is h .e)) (stateIn (h .P) (h .R) (wordsOf values) (nr .is h .e) (t .next) steps out)
+              → onTop (goTo x) (onTop (setFailed (some (t .next))) (stateIn (h .P) (h .R) (cellsOf values) (nr .is h .e) (t .next) steps out))
+              ≡ withCalls (takes x (callIn (h .P) (h .R) (cellsOf values) (windowOf (nr .is h .e)) (t .next)) ∷ waiting (h .P) (h .R) (cellsOf values) (nr .is h .e)) (stateIn (h .P) (h .R) (cellsOf values) (nr .is h .e) (t .next) steps out)
           unfolding onTop stateIn takes callIn
           on-top-takes steps out = refl
 
           state-failed : (steps : ℕ) (out : List ℕ)
-              → stateIn (h .P) (h .R) (set (wordsOf values) (windowOf (nr .is h .e) + failedCell) (t .next)) (nr .is h .e) (t .next) steps out
-              ≡ onTop (setFailed (optionally (t .next))) (stateIn (h .P) (h .R) (wordsOf values) (nr .is h .e) (t .next) steps out)
+              → stateIn (h .P) (h .R) (set (cellsOf values) (windowOf (nr .is h .e) + failedCell) (t .next)) (nr .is h .e) (t .next) steps out
+              ≡ onTop (setFailed (optionally (t .next))) (stateIn (h .P) (h .R) (cellsOf values) (nr .is h .e) (t .next) steps out)
           unfolding at-call come
-          state-failed steps out = call-failed (h .P) (h .R) (wordsOf values) (nr .is h .e) (roomy (at-call h)) (t .next) (t .next) steps out
+          state-failed steps out = call-failed (h .P) (h .R) (cellsOf values) (nr .is h .e) (roomy (at-call h)) (t .next) (t .next) steps out
 
           taken-state : (steps : ℕ) (out : List ℕ)
-              → stateIn (h .P) (h .R) (wordsOf after) (nr .is h .e) x steps out
-              ≡ withCalls (takes x (callIn (h .P) (h .R) (wordsOf values) (windowOf (nr .is h .e)) (t .next)) ∷ waiting (h .P) (h .R) (wordsOf values) (nr .is h .e)) (stateIn (h .P) (h .R) (wordsOf values) (nr .is h .e) (t .next) steps out)
+              → stateIn (h .P) (h .R) (cellsOf after) (nr .is h .e) x steps out
+              ≡ withCalls (takes x (callIn (h .P) (h .R) (cellsOf values) (windowOf (nr .is h .e)) (t .next)) ∷ waiting (h .P) (h .R) (cellsOf values) (nr .is h .e)) (stateIn (h .P) (h .R) (cellsOf values) (nr .is h .e) (t .next) steps out)
           taken-state steps out =
-              goes-to (h .P) (h .R) (wordsOf after) (nr .is h .e) (t .next) steps out x
+              goes-to (h .P) (h .R) (cellsOf after) (nr .is h .e) (t .next) steps out x
               ∙ ap (onTop (goTo x))
               (ap (λ (y : List ℕ). stateIn (h .P) (h .R) y (nr .is h .e) (t .next) steps out) words-are
               ∙ state-failed steps out
-              ∙ ap (λ (o : Option ℕ). onTop (setFailed o) (stateIn (h .P) (h .R) (wordsOf values) (nr .is h .e) (t .next) steps out)) some-step)
+              ∙ ap (λ (o : Option ℕ). onTop (setFailed o) (stateIn (h .P) (h .R) (cellsOf values) (nr .is h .e) (t .next) steps out)) some-step)
               ∙ on-top-takes steps out
 
-          calls-are : callIn (h .P) (h .R) (wordsOf after) (windowOf (nr .is h .e)) x ∷ waiting (h .P) (h .R) (wordsOf after) (nr .is h .e)
-              ≡ takes x (callIn (h .P) (h .R) (wordsOf values) (windowOf (nr .is h .e)) (t .next)) ∷ waiting (h .P) (h .R) (wordsOf values) (nr .is h .e)
+          calls-are : callIn (h .P) (h .R) (cellsOf after) (windowOf (nr .is h .e)) x ∷ waiting (h .P) (h .R) (cellsOf after) (nr .is h .e)
+              ≡ takes x (callIn (h .P) (h .R) (cellsOf values) (windowOf (nr .is h .e)) (t .next)) ∷ waiting (h .P) (h .R) (cellsOf values) (nr .is h .e)
           unfolding stateIn
           calls-are = ap (λ (s : State). s .calls) (taken-state 0 [])
 
           rest-state : (e j steps : ℕ) (out : List ℕ)
-              → withCalls (callIn (h .P) (h .R) (wordsOf after) (windowOf (nr .is h .e)) x ∷ waiting (h .P) (h .R) (wordsOf after) (nr .is h .e)) (stateIn (h .P) (h .R) (wordsOf values) e j steps out)
-              ≡ stateIn (h .P) (h .R) (wordsOf after) (nr .is h .e) x steps out
+              → withCalls (callIn (h .P) (h .R) (cellsOf after) (windowOf (nr .is h .e)) x ∷ waiting (h .P) (h .R) (cellsOf after) (nr .is h .e)) (stateIn (h .P) (h .R) (cellsOf values) e j steps out)
+              ≡ stateIn (h .P) (h .R) (cellsOf after) (nr .is h .e) x steps out
           unfolding stateIn
           rest-state e j steps out =
-              ap (λ (cs : List Call). withCalls cs (stateIn (h .P) (h .R) (wordsOf values) e j steps out)) calls-are ∙ sym (taken-state steps out)
+              ap (λ (cs : List Call). withCalls cs (stateIn (h .P) (h .R) (cellsOf values) e j steps out)) calls-are ∙ sym (taken-state steps out)
 
-          named-x : isNamed (codeOfCall (h .P) (h .R) (wordsOf values) (nr .is h .e) .steps) x ≡ true
+          named-x : isNamed (codeOfCall (h .P) (h .R) (cellsOf values) (nr .is h .e) .steps) x ≡ true
           unfolding at-call come
           named-x =
               let q = at-call h in
               routine-holds code values (t .base) (t .next) q .closed .handles x (handler-is code values (t .base) (t .next) q ∙ ap optionally (sym ex) ∙ positive x d)
 
-          live-after : Live (h .P) (h .R) (wordsOf after) (nr .is h .e) x
+          live-after : Live (h .P) (h .R) (cellsOf after) (nr .is h .e) x
           live-after =
               let q = nr .is h in
               subst (λ (y : List ℕ). Live (h .P) (h .R) y (q .e) x) (sym words-are)
-              (live-failed (h .P) (h .R) (wordsOf values) (q .e) (windowOf (q .e) + failedCell) (t .next) x (live-next (h .P) (h .R) (wordsOf values) (q .e) (t .next) x (q .live) named-x) refl in-store (hasFailed (q .live .named)))
+              (live-failed (h .P) (h .R) (cellsOf values) (q .e) (windowOf (q .e) + failedCell) (t .next) x (live-next (h .P) (h .R) (cellsOf values) (q .e) (t .next) x (q .live) named-x) refl in-store (hasFailed (q .live .named)))
 
         pub unwind-takes : Here code values base i → Unwound code values after base i (record { next = x; base = t .base })
         unwind-takes h₀ = record {
@@ -296,7 +296,7 @@ module _ (code values : List ℕ) (base i : ℕ) (t : Taken) (nr : Nearest code 
               let q = nr .is h in
               errors.takes (q .e) (omega (arith, d)) (q .base-is) (omega (arith, q .up, h .deep)) (live-after h)
               (q .rest
-              ∙ caught-here (h .P) (callIn (h .P) (h .R) (wordsOf values) (windowOf (q .e)) (t .next)) (waiting (h .P) (h .R) (wordsOf values) (q .e)) x (handler-some h) (failed-is h ∙ ap optionally z ∙ zero-handler)
+              ∙ caught-here (h .P) (callIn (h .P) (h .R) (cellsOf values) (windowOf (q .e)) (t .next)) (waiting (h .P) (h .R) (cellsOf values) (q .e)) x (handler-some h) (failed-is h ∙ ap optionally z ∙ zero-handler)
               ∙ ap some (sym (calls-are h)))
               (rest-state h);
         }
@@ -350,10 +350,10 @@ module _ (code values mid : List ℕ) (base i e : ℕ) (p : Put values mid errno
   pub errno-here : Here code mid base i
   errno-here =
       elsewhere h mid (h .d) base i (put-length p (omega (arith, h .values-size))) (h .deep) (h .base-is)
-      (rw (p .words) (live-errno (h .P) (h .R) (wordsOf values) (h .d) errnoCell e i (h .live) refl (omega (arith, length-words values, h .values-size)) (omega arith)))
+      (rw (p .words) (live-errno (h .P) (h .R) (cellsOf values) (h .d) errnoCell e i (h .live) refl (omega (arith, length-words values, h .values-size)) (omega arith)))
 
-  errno-state : (steps : ℕ) (out : List ℕ) → stateIn (h .P) (h .R) (wordsOf mid) (h .d) i steps out ≡ withErrno e (stateIn (h .P) (h .R) (wordsOf values) (h .d) i steps out)
-  errno-state steps out = rw (p .words) (errno-cell (h .P) (h .R) (wordsOf values) (h .d) (roomy h) e i steps out)
+  errno-state : (steps : ℕ) (out : List ℕ) → stateIn (h .P) (h .R) (cellsOf mid) (h .d) i steps out ≡ withErrno e (stateIn (h .P) (h .R) (cellsOf values) (h .d) i steps out)
+  errno-state steps out = rw (p .words) (errno-cell (h .P) (h .R) (cellsOf values) (h .d) (roomy h) e i steps out)
 
 -- what `arising` comes to
 arising-none : (P : Program) (e place : ℕ) (calls : List Call) (s : State) → caught P calls ≡ none → arising P e place calls s ≡ stopping true 3 place (withErrno e s)
@@ -393,16 +393,16 @@ module _ (code values : List ℕ) (base i : ℕ) (r : ℤ) (f : SFits w64 r) (a 
     unfolding arise-here errno-here
     arise-fails h₀ after k u = record {
       long = u .long ∙ put-length p (omega (arith, h₀ .values-size));
-      kept = λ c x y. u .kept c x y ∙ ap (λ (w : List ℕ). getD w c 0) (p .words) ∙ getD-set-other (wordsOf values) errnoCell c (natAbs (read r) - firstError) 0 (λ z. omega arith);
+      kept = λ c x y. u .kept c x y ∙ ap (λ (w : List ℕ). getD w c 0) (p .words) ∙ getD-set-other (cellsOf values) errnoCell c (natAbs (read r) - firstError) 0 (λ z. omega arith);
       hands = λ h z steps place out. raised-not r f a t z;
       fails = λ h e z steps place out.
           let e-is : e ≡ natAbs (read r) - firstError = raised-same r f a t e z in
-          let s = stateIn (h .P) (h .R) (wordsOf values) (h .d) i steps out in
+          let s = stateIn (h .P) (h .R) (cellsOf values) (h .d) i steps out in
           let low : natAbs (read r) - firstError < answers = omega (arith, raised-is r f a t, raised r f a t .low) in
           let st = errno-state code values mid base i (natAbs (read r) - firstError) p h low steps out in
-          subst (λ (cs : List Call). Settles (h .P) (h .R) (wordsOf after) (h .d) i steps place out k (arising (h .P) e place cs s))
-          (sym (calls-of (h .P) (h .R) (wordsOf mid) (h .d) i steps out) ∙ ap (λ (x : State). x .calls) st)
-          (settles (h .P) (h .R) (wordsOf mid) (wordsOf after) (h .d) i (h .d) i steps place out k e s (ap (λ (x : ℕ). withErrno x s) e-is ∙ sym st) (u .does (arise-here h)));
+          subst (λ (cs : List Call). Settles (h .P) (h .R) (cellsOf after) (h .d) i steps place out k (arising (h .P) e place cs s))
+          (sym (calls-of (h .P) (h .R) (cellsOf mid) (h .d) i steps out) ∙ ap (λ (x : State). x .calls) st)
+          (settles (h .P) (h .R) (cellsOf mid) (cellsOf after) (h .d) i (h .d) i steps place out k e s (ap (λ (x : ℕ). withErrno x s) e-is ∙ sym st) (u .does (arise-here h)));
     }
 
   module _ (t : leZ (pos firstError) (read r) ≡ false) where
@@ -414,12 +414,12 @@ module _ (code values : List ℕ) (base i : ℕ) (r : ℤ) (f : SFits w64 r) (a 
       fails = λ h e z steps place out. handed-not r f a e t z;
       hands = λ h z steps place out.
           let d : h .d ≡ 0 = omega (arith, h .base-is) in
-          let s = stateIn (h .P) (h .R) (wordsOf values) (h .d) i steps out in
-          let n : caught (h .P) (waiting (h .P) (h .R) (wordsOf values) (h .d)) ≡ none = ap (λ (j : ℕ). caught (h .P) (waiting (h .P) (h .R) (wordsOf values) j)) d ∙ caught-nobody (h .P) in
-          stops refl (arising-none (h .P) (getD (wordsOf values) errnoCell 0) place (waiting (h .P) (h .R) (wordsOf values) (h .d)) s n ∙ ap (stopping true 3 place) (with-errno (h .P) (h .R) (wordsOf values) (h .d) i steps out));
+          let s = stateIn (h .P) (h .R) (cellsOf values) (h .d) i steps out in
+          let n : caught (h .P) (waiting (h .P) (h .R) (cellsOf values) (h .d)) ≡ none = ap (λ (j : ℕ). caught (h .P) (waiting (h .P) (h .R) (cellsOf values) j)) d ∙ caught-nobody (h .P) in
+          stops refl (arising-none (h .P) (getD (cellsOf values) errnoCell 0) place (waiting (h .P) (h .R) (cellsOf values) (h .d)) s n ∙ ap (stopping true 3 place) (with-errno (h .P) (h .R) (cellsOf values) (h .d) i steps out));
     }
 
-    module _ (m : base ≡ firstWindow → ⊥) (w : ℕ) (ew : w ≡ getD (wordsOf values) (base - windowCells + waitsCell) 0) where
+    module _ (m : base ≡ firstWindow → ⊥) (w : ℕ) (ew : w ≡ getD (cellsOf values) (base - windowCells + waitsCell) 0) where
       one-up : (h : Here code values base i) (e : ℕ) → h .d ≡ suc e → Here code values (base - windowCells) w
       one-up h e z = caller h e z (base - windowCells) w (omega (arith, h .base-is)) ew
 
@@ -431,18 +431,18 @@ module _ (code values : List ℕ) (base i : ℕ) (r : ℤ) (f : SFits w64 r) (a 
       arise-up h = above h (h .d) refl
 
       hands-on : (after : List ℕ) (k : Taken) → Unwound code values after (base - windowCells) w k → (h : Here code values base i) (d : ℕ) → h .d ≡ d → (steps place : ℕ) (out : List ℕ)
-          → Settles (h .P) (h .R) (wordsOf after) (h .d) i steps place out k
-          (arising (h .P) (getD (wordsOf values) errnoCell 0) place (waiting (h .P) (h .R) (wordsOf values) (h .d)) (stateIn (h .P) (h .R) (wordsOf values) (h .d) i steps out))
+          → Settles (h .P) (h .R) (cellsOf after) (h .d) i steps place out k
+          (arising (h .P) (getD (cellsOf values) errnoCell 0) place (waiting (h .P) (h .R) (cellsOf values) (h .d)) (stateIn (h .P) (h .R) (cellsOf values) (h .d) i steps out))
       unfolding waiting one-up
       hands-on after k u h zero z steps place out = absurd (m (h .base-is ∙ ap windowOf z))
       hands-on after k u h (suc e) z steps place out =
           let b : base - windowCells ≡ windowOf e = omega (arith, h .base-is) in
-          let ws : w ≡ getD (wordsOf values) (windowOf e + waitsCell) 0 = ew ∙ ap (λ (j : ℕ). getD (wordsOf values) (j + waitsCell) 0) b in
-          let s = stateIn (h .P) (h .R) (wordsOf values) (h .d) i steps out in
-          let q : callIn (h .P) (h .R) (wordsOf values) (windowOf e) w ∷ waiting (h .P) (h .R) (wordsOf values) e ≡ waiting (h .P) (h .R) (wordsOf values) (h .d) =
-          ap (λ (j : ℕ). callIn (h .P) (h .R) (wordsOf values) (windowOf e) j ∷ waiting (h .P) (h .R) (wordsOf values) e) ws ∙ sym (ap (waiting (h .P) (h .R) (wordsOf values)) z) in
-          subst (λ (cs : List Call). Settles (h .P) (h .R) (wordsOf after) (h .d) i steps place out k (arising (h .P) (getD (wordsOf values) errnoCell 0) place cs s)) q
-          (settles (h .P) (h .R) (wordsOf values) (wordsOf after) e w (h .d) i steps place out k (getD (wordsOf values) errnoCell 0) s (with-errno (h .P) (h .R) (wordsOf values) (h .d) i steps out) (u .does (one-up h e z)))
+          let ws : w ≡ getD (cellsOf values) (windowOf e + waitsCell) 0 = ew ∙ ap (λ (j : ℕ). getD (cellsOf values) (j + waitsCell) 0) b in
+          let s = stateIn (h .P) (h .R) (cellsOf values) (h .d) i steps out in
+          let q : callIn (h .P) (h .R) (cellsOf values) (windowOf e) w ∷ waiting (h .P) (h .R) (cellsOf values) e ≡ waiting (h .P) (h .R) (cellsOf values) (h .d) =
+          ap (λ (j : ℕ). callIn (h .P) (h .R) (cellsOf values) (windowOf e) j ∷ waiting (h .P) (h .R) (cellsOf values) e) ws ∙ sym (ap (waiting (h .P) (h .R) (cellsOf values)) z) in
+          subst (λ (cs : List Call). Settles (h .P) (h .R) (cellsOf after) (h .d) i steps place out k (arising (h .P) (getD (cellsOf values) errnoCell 0) place cs s)) q
+          (settles (h .P) (h .R) (cellsOf values) (cellsOf after) e w (h .d) i steps place out k (getD (cellsOf values) errnoCell 0) s (with-errno (h .P) (h .R) (cellsOf values) (h .d) i steps out) (u .does (one-up h e z)))
 
       pub arise-hands : (after : List ℕ) (k : Taken) → Unwound code values after (base - windowCells) w k → Arisen code values after base i r k
       arise-hands after k u = record {

@@ -9,7 +9,7 @@ use lib.IntN.{ℤ, pos}
 use Rattle.paper.specs.Steps.{Program}
 use Rattle.paper.specs.States.{withCalls}
 use Rattle.paper.specs.Running.{caught, Outcome, goesOn, stopping, arising}
-use Rattle.store_cells.specs.Words.{wordsOf}
+use Rattle.store_cells.specs.Cells.{cellsOf}
 use Rattle.code.specs.Cells.{windowOf, linkAt, errnoCell}
 use Rattle.code.specs.Steps.{Head}
 use Rattle.code.specs.Windows.{routineCell, writtenCell, usedCell, callIn, waiting, stateIn}
@@ -26,10 +26,10 @@ KeepsRun X X′ = (c : ℕ) → writtenCell ≤ c → c ≤ usedCell → getD X�
 -- the window at b has a word of the code store for its routine
 pub record HasRoutine (code values : List ℕ) (b : ℕ) : Type 0 where
   pub cell : (b + routineCell) * 4 + 4 ≤ length values
-  pub word : (getD (wordsOf values) (b + routineCell) 0 + 1) * 8 + 8 ≤ length code
+  pub word : (getD (cellsOf values) (b + routineCell) 0 + 1) * 8 + 8 ≤ length code
 
 abbrev pub handlerAt : (code values : List ℕ) → (b : ℕ) → ℕ
-handlerAt code values b = linkAt (wordsOf code) (getD (wordsOf values) (b + routineCell) 0 + 1)
+handlerAt code values b = linkAt (cellsOf code) (getD (cellsOf values) (b + routineCell) 0 + 1)
 
 -- The calls above step s of the call with its window at b do not take an error that step i of the call with d callers has.
 pub record Seeks (P : Program) (R : List Head) (X : List ℕ) (d i b s : ℕ) : Type 0 where
@@ -40,7 +40,7 @@ pub record Seeks (P : Program) (R : List Head) (X : List ℕ) (d i b s : ℕ) : 
   pub rest : caught P (callIn P R X (windowOf d) i ∷ waiting P R X d) ≡ caught P (callIn P R X (windowOf e) s ∷ waiting P R X e)
 
 pub record Nearest (code values : List ℕ) (base i : ℕ) (t : Taken) : Type 0 where
-  pub is : (h : Here code values base i) → Seeks (h .P) (h .R) (wordsOf values) (h .d) i (t .base) (t .next)
+  pub is : (h : Here code values base i) → Seeks (h .P) (h .R) (cellsOf values) (h .d) i (t .base) (t .next)
   pub main : handlerAt code values (t .base) ≡ 0 → t .base ≡ windowOf 0
 
 -- By what step of what call an error is taken that arises in step i of the call with d callers, or that it hands on while it waits there: 0 where the run dies.
@@ -54,8 +54,8 @@ module _ (P : Program) (R : List Head) (X X′ : List ℕ) (d i : ℕ) where
 
 pub record Unwound (code values after : List ℕ) (base i : ℕ) (t : Taken) : Type 0 where
   pub long : length after ≡ length values
-  pub does : (h : Here code values base i) → Takes (h .P) (h .R) (wordsOf values) (wordsOf after) (h .d) i t
-  pub kept : KeepsRun (wordsOf values) (wordsOf after)
+  pub does : (h : Here code values base i) → Takes (h .P) (h .R) (cellsOf values) (cellsOf after) (h .d) i t
+  pub kept : KeepsRun (cellsOf values) (cellsOf after)
 
 -- What a step answers that fails, or hands an error on.
 pub data Raises (r : ℤ) : Type 0 where
@@ -71,9 +71,9 @@ module _ (P : Program) (R : List Head) (X′ : List ℕ) (d i steps place : ℕ)
 pub record Arisen (code values after : List ℕ) (base i : ℕ) (r : ℤ) (t : Taken) : Type 0 where
   pub long : length after ≡ length values
   pub fails : (h : Here code values base i) (e : ℕ) → r ≡ pos (firstError + e) → (steps place : ℕ) (out : List ℕ)
-      → Settles (h .P) (h .R) (wordsOf after) (h .d) i steps place out t
-      (arising (h .P) e place (stateIn (h .P) (h .R) (wordsOf values) (h .d) i steps out .calls) (stateIn (h .P) (h .R) (wordsOf values) (h .d) i steps out))
+      → Settles (h .P) (h .R) (cellsOf after) (h .d) i steps place out t
+      (arising (h .P) e place (stateIn (h .P) (h .R) (cellsOf values) (h .d) i steps out .calls) (stateIn (h .P) (h .R) (cellsOf values) (h .d) i steps out))
   pub hands : (h : Here code values base i) → r ≡ pos handed → (steps place : ℕ) (out : List ℕ)
-      → Settles (h .P) (h .R) (wordsOf after) (h .d) i steps place out t
-      (arising (h .P) (getD (wordsOf values) errnoCell 0) place (waiting (h .P) (h .R) (wordsOf values) (h .d)) (stateIn (h .P) (h .R) (wordsOf values) (h .d) i steps out))
-  pub kept : KeepsRun (wordsOf values) (wordsOf after)
+      → Settles (h .P) (h .R) (cellsOf after) (h .d) i steps place out t
+      (arising (h .P) (getD (cellsOf values) errnoCell 0) place (waiting (h .P) (h .R) (cellsOf values) (h .d)) (stateIn (h .P) (h .R) (cellsOf values) (h .d) i steps out))
+  pub kept : KeepsRun (cellsOf values) (cellsOf after)

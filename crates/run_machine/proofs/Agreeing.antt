@@ -15,8 +15,8 @@ use Rattle.code.specs.Cells.{windowOf}
 use Rattle.code.specs.Steps.{Head, numbered}
 use Rattle.code.specs.Holds.{optionally}
 use Rattle.code.specs.Windows.{endsCell, stepsCell, routineCell, waitsCell, failedCell, resultCell, locationIn, resultIn, loopsFrom, callIn, waiting}
-use Rattle.store_evaluation.specs.Answers.{callWords}
-use Rattle.run_machine.specs.Live.{wordsOfCall}
+use Rattle.store_evaluation.specs.Answers.{callSlots}
+use Rattle.run_machine.specs.Live.{slotsOfCall}
 
 -- ---- cells
 abbrev pub Same : (X Y : List ℕ) → (cell : ℕ) → Type 0
@@ -66,7 +66,7 @@ module _ (P : Program) (R : List Head) where
   result-any X Y zero = refl
   result-any X Y (suc c) = ap some (location-any X Y c)
 
-  pub loops-same : (X Y : List ℕ) (base f k : ℕ) → SameIn X Y (base + endsCell) (base + routineCell) → k + f ≤ callWords → loopsFrom P R Y base f k ≡ loopsFrom P R X base f k
+  pub loops-same : (X Y : List ℕ) (base f k : ℕ) → SameIn X Y (base + endsCell) (base + routineCell) → k + f ≤ callSlots → loopsFrom P R Y base f k ≡ loopsFrom P R X base f k
   unfolding loopsFrom
   loops-same X Y base zero k s h = refl
   loops-same X Y base (suc f) k s h =
@@ -81,14 +81,14 @@ module _ (P : Program) (R : List Head) where
   abbrev pub codeIn : (X : List ℕ) → (base : ℕ) → Code
   codeIn X base = codeAt P (numbered R (getD X (base + routineCell) 0))
 
-  module _ (room : (k : ℕ) → wordsOfCall (codeAt P k) ≤ callWords) (X Y : List ℕ) (long : length Y ≡ length X) (base : ℕ) (same : Same X Y (base + routineCell)) where
+  module _ (room : (k : ℕ) → slotsOfCall (codeAt P k) ≤ callSlots) (X Y : List ℕ) (long : length Y ≡ length X) (base : ℕ) (same : Same X Y (base + routineCell)) where
     pub code-same : codeIn Y base ≡ codeIn X base
     code-same = ap (λ (r : ℕ). codeAt P (numbered R r)) same
 
-    pub words-same : SameIn X Y base (base + callWords) → take (wordsOfCall (codeIn Y base)) (drop base Y) ≡ take (wordsOfCall (codeIn X base)) (drop base X)
+    pub words-same : SameIn X Y base (base + callSlots) → take (slotsOfCall (codeIn Y base)) (drop base Y) ≡ take (slotsOfCall (codeIn X base)) (drop base X)
     words-same s =
-        ap (λ (c : Code). take (wordsOfCall c) (drop base Y)) code-same
-        ∙ part-same X Y long base (wordsOfCall (codeIn X base)) (λ c l m. s c l (omega (arith, room (numbered R (getD X (base + routineCell) 0)))))
+        ap (λ (c : Code). take (slotsOfCall c) (drop base Y)) code-same
+        ∙ part-same X Y long base (slotsOfCall (codeIn X base)) (λ c l m. s c l (omega (arith, room (numbered R (getD X (base + routineCell) 0)))))
 
     pub call-loops-same : SameIn X Y (base + endsCell) (base + routineCell) → (n : ℕ) → callIn P R Y base n .loops ≡ callIn P R X base n .loops
     unfolding callIn
@@ -101,7 +101,7 @@ module _ (P : Program) (R : List Head) where
     unfolding callIn
     result-same s n = ap (resultIn P R Y) s ∙ result-any X Y (getD X (base + resultCell) 0)
 
-  module _ (room : (k : ℕ) → wordsOfCall (codeAt P k) ≤ callWords) (X Y : List ℕ) (long : length Y ≡ length X) where
+  module _ (room : (k : ℕ) → slotsOfCall (codeAt P k) ≤ callSlots) (X Y : List ℕ) (long : length Y ≡ length X) where
     pub call-same : (base n : ℕ) → SameCall X Y base → callIn P R Y base n ≡ callIn P R X base n
     unfolding callIn
     call-same base n s =

@@ -19,7 +19,7 @@ use Rattle.paper.specs.Terms.{Term, Memory, worth}
 use Rattle.paper.specs.Steps.{Action, Step, Code}
 use Rattle.paper.specs.States.{Call, State, Rooms, Effect, made, memoryOf, goTo, onTop, withValue}
 use Rattle.paper.specs.Running.{stepNamed, stepOf, nextStep, perform}
-use Rattle.store_cells.specs.Words.{wordsOf}
+use Rattle.store_cells.specs.Cells.{cellsOf}
 use Rattle.code.specs.Cells.{windowOf, placeAt}
 use Rattle.code.specs.Spans.{termIn, memoryIn}
 use Rattle.code.specs.Steps.{noHead, parts, actionIn, stepIn}
@@ -31,7 +31,7 @@ use Rattle.code.proofs.Options.{same-some, went}
 use Rattle.store_evaluation.specs.Answers.{firstError, decoded, Counts, Stores, Stands, Evaluated}
 use Rattle.store_evaluation.proofs.Numbers.{is-value, is-error, not-less, zero-bits}
 use Rattle.store_numbers.proofs.Whole.{read}
-use Rattle.run_machine.specs.Live.{wordsOfCall, routineOfCall, codeOfCall}
+use Rattle.run_machine.specs.Live.{slotsOfCall, routineOfCall, codeOfCall}
 use Rattle.run_machine.specs.Machine.{Here, effectAt, Comes, goesOn, fails, Performs}
 use Rattle.run_machine.proofs.States.{goes-to}
 use Rattle.run_machine.proofs.Living.{live-next}
@@ -76,7 +76,7 @@ module _ (r : ℤ) (s : SFits w64 r) where
 -- a step that changes nothing but where the call is
 pub performs : (code values : List ℕ) (base i : ℕ) (r : ℤ)
     → ((h : Here code values base i) (rooms : Rooms) (steps : ℕ) (out : List ℕ)
-    → Comes (h .P) (h .R) (wordsOf code) (h .offset) (h .d) i steps (wordsOf values) (wordsOf values) out out (effectAt (h .P) (h .R) rooms (wordsOf values) (h .d) i steps out) r)
+    → Comes (h .P) (h .R) (cellsOf code) (h .offset) (h .d) i steps (cellsOf values) (cellsOf values) out out (effectAt (h .P) (h .R) rooms (cellsOf values) (h .d) i steps out) r)
     → Performs code values values base i r
 performs code values base i r f = record { long = refl; does = f; kept = λ c a b. refl }
 
@@ -84,7 +84,7 @@ performs code values base i r f = record { long = refl; does = f; kept = λ c a 
 module _ (code values : List ℕ) (base i : ℕ) (h : Here code values base i) where
   -- the routine of the newest call, and its step
   abbrev pub codeHere : Code
-  codeHere = codeOfCall (h .P) (h .R) (wordsOf values) (h .d)
+  codeHere = codeOfCall (h .P) (h .R) (cellsOf values) (h .d)
 
   abbrev pub stepHere : Step
   stepHere = stepNamed (codeHere .steps) i
@@ -94,13 +94,13 @@ module _ (code values : List ℕ) (base i : ℕ) (h : Here code values base i) w
   m = length (h .P .words)
 
   abbrev pub n : ℕ
-  n = wordsOfCall codeHere
+  n = slotsOfCall codeHere
 
   abbrev pub C : List ℕ
-  C = wordsOf code
+  C = cellsOf code
 
   abbrev pub X : List ℕ
-  X = wordsOf values
+  X = cellsOf values
 
   pub routine-holds : HoldsRoutine m (h .text) (h .R) (h .offset) C (getD (h .R) (routineOfCall (h .P) (h .R) X (h .d)) noHead) codeHere
   routine-holds = h .holds .routines (routineOfCall (h .P) (h .R) X (h .d)) (h .live .top .routine)

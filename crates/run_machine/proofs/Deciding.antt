@@ -15,7 +15,7 @@ use Rattle.paper.specs.Terms.{Term, worth}
 use Rattle.paper.specs.Steps.{Action, Step}
 use Rattle.paper.specs.States.{Call, Rooms, Effect, made, goTo, onTop, memoryOf, withValue}
 use Rattle.paper.specs.Running.{perform}
-use Rattle.store_cells.specs.Words.{wordsOf}
+use Rattle.store_cells.specs.Cells.{cellsOf}
 use Rattle.store_numbers.proofs.Whole.{read}
 use Rattle.code.specs.Cells.{linkAt}
 use Rattle.code.specs.Spans.{termIn}
@@ -42,21 +42,21 @@ module _ (code values : List ℕ) (base i : ℕ) where
 
   pub record Deciding (t : ℕ) (go : Going) (h : Here code values base i) : Type 0 where
     pub e : Term
-    pub reads : termIn (m code values base i h) (n code values base i h) (wordsOf code) (i + 1) t ≡ some e
-    pub effect : (rooms : Rooms) (steps : ℕ) (out : List ℕ) → effectAt (h .P) (h .R) rooms (wordsOf values) (h .d) i steps out
+    pub reads : termIn (m code values base i h) (n code values base i h) (cellsOf code) (i + 1) t ≡ some e
+    pub effect : (rooms : Rooms) (steps : ℕ) (out : List ℕ) → effectAt (h .P) (h .R) rooms (cellsOf values) (h .d) i steps out
         ≡ withValue (worth (memoryOf (stateHere code values base i h rooms steps out) (callHere code values base i h rooms steps out)) e) (stateHere code values base i h rooms steps out) (go h rooms steps out)
 
   -- such a step, as its word is read
   pub decides : (t op : ℕ) (q : Says code i op t) (f : Term → Action) (go : Going) (h : Here code values base i)
-      → (x : Expression (m code values base i h) (n code values base i h) (codeHere code values base i h .function) (h .text) (h .R) (wordsOf code) i
+      → (x : Expression (m code values base i h) (n code values base i h) (codeHere code values base i h .function) (h .text) (h .R) (cellsOf code) i
       (stepHere code values base i h .after) (stepHere code values base i h .does) f)
-      → ((rooms : Rooms) (steps : ℕ) (out : List ℕ) (c : Call) (rest : List Call) (place : ℕ) → perform (h .P) rooms c rest place (linkAt (wordsOf code) i) (f (x .e)) (stateHere code values base i h rooms steps out)
+      → ((rooms : Rooms) (steps : ℕ) (out : List ℕ) (c : Call) (rest : List Call) (place : ℕ) → perform (h .P) rooms c rest place (linkAt (cellsOf code) i) (f (x .e)) (stateHere code values base i h rooms steps out)
       ≡ withValue (worth (memoryOf (stateHere code values base i h rooms steps out) c) (x .e)) (stateHere code values base i h rooms steps out) (go h rooms steps out))
       → Deciding t go h
   decides t op q f go h x p = record {
     e = x .e;
-    reads = ap (termIn (m code values base i h) (n code values base i h) (wordsOf code) (i + 1)) (q .value-is) ∙ x .reads;
-    effect = λ rooms steps out. effect-here code values base i h rooms steps out (linkAt (wordsOf code) i) (f (x .e)) (x .after-is) (x .does-is) ∙ p rooms steps out _ _ _;
+    reads = ap (termIn (m code values base i h) (n code values base i h) (cellsOf code) (i + 1)) (q .value-is) ∙ x .reads;
+    effect = λ rooms steps out. effect-here code values base i h rooms steps out (linkAt (cellsOf code) i) (f (x .e)) (x .after-is) (x .does-is) ∙ p rooms steps out _ _ _;
   }
 
   module _ (t : ℕ) (go : Going) (d : (h : Here code values base i) → Deciding t go h) where
@@ -70,7 +70,7 @@ module _ (code values : List ℕ) (base i : ℕ) where
           failed-here code values base i h rooms steps out (i + 1) t (d h .e) (d h .reads) r v (told-error r s k) (go h rooms steps out) _ (d h .effect rooms steps out)))
 
       pub decided : leZ (pos firstError) (read r) ≡ false → (h : Here code values base i) (rooms : Rooms) (steps : ℕ) (out : List ℕ)
-          → effectAt (h .P) (h .R) rooms (wordsOf values) (h .d) i steps out ≡ go h rooms steps out r
+          → effectAt (h .P) (h .R) rooms (cellsOf values) (h .d) i steps out ≡ go h rooms steps out r
       unfolding withValue
       decided k h rooms steps out =
           d h .effect rooms steps out ∙ ap (λ (y : Value). withValue y (stateHere code values base i h rooms steps out) (go h rooms steps out))

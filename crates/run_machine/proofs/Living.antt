@@ -13,7 +13,7 @@ use Rattle.code.specs.Steps.{Head, noHead, numbered}
 use Rattle.code.specs.Closed.{isNamed}
 use Rattle.code.specs.Windows.{routineCell, waitsCell, afterCell, failedCell, resultCell, writtenCell}
 use Rattle.store_evaluation.specs.Answers.{firstNegative}
-use Rattle.run_machine.specs.Live.{wordsOfCall, cellOfCall, codeOfCall, ResultFits, nowhere, inModule, inCaller, FailedFits, noneFailed, hasFailed, Sane, Waits, Below, Live}
+use Rattle.run_machine.specs.Live.{slotsOfCall, cellOfCall, codeOfCall, ResultFits, nowhere, inModule, inCaller, FailedFits, noneFailed, hasFailed, Sane, Waits, Below, Live}
 use Rattle.run_machine.proofs.Agreeing.{Same, SameIn, callCells, set-same}
 
 module _ (P : Program) (R : List Head) (X Y : List ℕ) where
@@ -27,7 +27,7 @@ module _ (P : Program) (R : List Head) (X Y : List ℕ) where
   pub fits-same : (e r : ℕ) → ((c : ℕ) → e ≡ suc c → SameRoutine c) → ResultFits P R X e r → ResultFits P R Y e r
   fits-same e r s (nowhere z) = nowhere z
   fits-same e r s (inModule k h z) = inModule k h z
-  fits-same e r s (inCaller c k q h z) = inCaller c k q (subst (λ (w : Code). k < wordsOfCall w) (sym (routine-code c (s c q))) h) z
+  fits-same e r s (inCaller c k q h z) = inCaller c k q (subst (λ (w : Code). k < slotsOfCall w) (sym (routine-code c (s c q))) h) z
 
   pub failed-same : (e f : ℕ) → SameRoutine e → FailedFits P R X e f → FailedFits P R Y e f
   failed-same e f s (noneFailed z) = noneFailed z

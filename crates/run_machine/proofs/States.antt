@@ -12,18 +12,18 @@ use borrow.Author.Tests.{eq-eqb}
 use Rattle.laws.proofs.Lists.{map-set}
 use Rattle.laws.proofs.Tests.{by-less}
 use Rattle.paper.specs.Steps.{Code, Program}
-use Rattle.paper.specs.States.{Loop, moduleWord, callWord, Call, withCalls, withErrno, withOutput, withInput, goTo, setWord, setLoop, setFailed, onTop, onDepth, storeAt}
+use Rattle.paper.specs.States.{Loop, moduleSlot, callSlot, Call, withCalls, withErrno, withOutput, withInput, goTo, setWord, setLoop, setFailed, onTop, onDepth, storeAt}
 use Rattle.paper.specs.Answer.{storeWords}
 use Rattle.paper.specs.Running.{codeAt, noCode, stepOf, nextStep, resume, idle}
-use Rattle.store_cells.specs.Words.{wordsOf}
+use Rattle.store_cells.specs.Cells.{cellsOf}
 use Rattle.store_cells.proofs.Laws.{length-words}
 use Rattle.code.specs.Cells.{windowOf, firstWindow, errnoCell}
 use Rattle.code.specs.Steps.{Head, numbered}
 use Rattle.code.specs.Holds.{optionally, Holds}
 use Rattle.code.specs.Windows.{endsCell, stepsCell, routineCell, waitsCell, afterCell, failedCell, resultCell, writtenCell, usedCell, loopsFrom, callIn, waiting, writtenIn, stateIn}
 use Rattle.store_reading.specs.Reading.{cellValues}
-use Rattle.store_evaluation.specs.Answers.{callWords}
-use Rattle.run_machine.specs.Live.{wordsOfCall, cellOfCall, codeOfCall, Waits}
+use Rattle.store_evaluation.specs.Answers.{callSlots}
+use Rattle.run_machine.specs.Live.{slotsOfCall, cellOfCall, codeOfCall, Waits}
 use Rattle.run_machine.specs.Machine.{depthLimit, Here}
 use Rattle.run_machine.proofs.Agreeing.{Same, SameIn, callCells, SameCall, set-same, set-before, set-behind, part-same, call-eq, code-same, words-same, call-loops-same, result-same, call-same, waiting-same, state-eq}
 
@@ -33,25 +33,25 @@ pub record Roomy (P : Program) (X : List ℕ) (d : ℕ) : Type 0 where
   pub long : length X ≡ storeWords
   pub deep : d < depthLimit
   pub words : length (P .words) ≤ firstWindow
-  pub calls : (k : ℕ) → wordsOfCall (codeAt P k) ≤ callWords
+  pub calls : (k : ℕ) → slotsOfCall (codeAt P k) ≤ callSlots
 
-no-room : wordsOfCall noCode ≤ callWords
+no-room : slotsOfCall noCode ≤ callSlots
 unfolding noCode
 no-room = omega arith
 
-code-room : (text : List ℕ) (R : List Head) (offset : ℕ → ℕ) (C : List ℕ) (P : Program) → Holds text R offset C P → (k : ℕ) → wordsOfCall (codeAt P k) ≤ callWords
+code-room : (text : List ℕ) (R : List Head) (offset : ℕ → ℕ) (C : List ℕ) (P : Program) → Holds text R offset C P → (k : ℕ) → slotsOfCall (codeAt P k) ≤ callSlots
 unfolding codeAt
 code-room text R offset C P h k =
     by-less k (length R)
     (λ l. h .routines k l .room)
-    (λ l. subst (λ (c : Code). wordsOfCall c ≤ callWords) (sym (List·getD-eq-default (P .routines) noCode (omega (arith, h .as-many)))) no-room)
+    (λ l. subst (λ (c : Code). slotsOfCall c ≤ callSlots) (sym (List·getD-eq-default (P .routines) noCode (omega (arith, h .as-many)))) no-room)
 
-pub roomy : {code values : List ℕ} {base i : ℕ} (h : Here code values base i) → Roomy (h .P) (wordsOf values) (h .d)
+pub roomy : {code values : List ℕ} {base i : ℕ} (h : Here code values base i) → Roomy (h .P) (cellsOf values) (h .d)
 roomy {code} {values} h = record {
   long = omega (arith, length-words values, h .values-size);
   deep = h .deep;
   words = h .holds .room;
-  calls = code-room (h .text) (h .R) (h .offset) (wordsOf code) (h .P) (h .holds);
+  calls = code-room (h .text) (h .R) (h .offset) (cellsOf code) (h .P) (h .holds);
 }
 
 -- ---- cells of the run
@@ -94,7 +94,7 @@ module _ (P : Program) (R : List Head) (X : List ℕ) where
     goes-to n = refl
 
     -- a word of the newest call, by its location
-    pub on-top-word : (k : ℕ) (z : ℤ) → storeAt (callWord (suc d) k) z (stateIn P R X d i steps out) ≡ onTop (setWord k z) (stateIn P R X d i steps out)
+    pub on-top-word : (k : ℕ) (z : ℤ) → storeAt (callSlot (suc d) k) z (stateIn P R X d i steps out) ≡ onTop (setWord k z) (stateIn P R X d i steps out)
     unfolding stateIn onTop storeAt onDepth
     on-top-word k z = rw (eq-eqb (suc d) (suc (length (waiting P R X d))) (ap suc (sym (waiting-length d))), onDepth)
 
@@ -141,7 +141,7 @@ set-append-add (b ∷ x) y n a =
 module _ (P : Program) (R : List Head) (X Y : List ℕ) (base k : ℕ) (l : Loop)
     (ends : toZ w32 (getD Y (base + endsCell + k) 0) ≡ l .end) (steps : toZ w32 (getD Y (base + stepsCell + k) 0) ≡ l .step)
     (else : (c : ℕ) → base + endsCell ≤ c → c < base + routineCell → (c ≡ base + endsCell + k → ⊥) → (c ≡ base + stepsCell + k → ⊥) → Same X Y c) where
-  pub loop-set : (f j from : ℕ) → from + f ≤ callWords → k ≡ from + j → j < f → loopsFrom P R Y base f from ≡ set (loopsFrom P R X base f from) j l
+  pub loop-set : (f j from : ℕ) → from + f ≤ callSlots → k ≡ from + j → j < f → loopsFrom P R Y base f from ≡ set (loopsFrom P R X base f from) j l
   unfolding loopsFrom
   loop-set zero j from r q h = absurd (omega arith)
   loop-set (suc f) zero from r q h =
@@ -151,7 +151,7 @@ module _ (P : Program) (R : List Head) (X Y : List ℕ) (base k : ℕ) (l : Loop
       (λ t. record { end = (ap (λ (c : ℕ). toZ w32 (getD Y c 0)) (sym e) ∙ ends) t; step = (ap (λ (c : ℕ). toZ w32 (getD Y c 0)) (sym s) ∙ steps) t })
       (later f (suc from) (omega arith) (omega arith))
     where
-      later : (f from : ℕ) → from + f ≤ callWords → k < from → loopsFrom P R Y base f from ≡ loopsFrom P R X base f from
+      later : (f from : ℕ) → from + f ≤ callSlots → k < from → loopsFrom P R Y base f from ≡ loopsFrom P R X base f from
       later zero from r h = refl
       later (suc f) from r h =
           ap₂ (λ (x : Loop) (y : List Loop). x ∷ y)
@@ -204,11 +204,11 @@ module _ (P : Program) (R : List Head) (X : List ℕ) (d : ℕ) (g : Roomy P X d
     other c q = set-same X (windowOf d + j) v c q
 
   -- a word of the newest call
-  pub call-word : (k v i steps : ℕ) (out : List ℕ) → k < wordsOfCall (codeOfCall P R X d)
+  pub call-word : (k v i steps : ℕ) (out : List ℕ) → k < slotsOfCall (codeOfCall P R X d)
       → stateIn P R (set X (windowOf d + k) v) d i steps out ≡ onTop (setWord k (toZ w32 v)) (stateIn P R X d i steps out)
   unfolding callIn
   call-word k v i steps out h =
-      let m : k < callWords = omega (arith, g .calls (numbered R (cellOfCall P R X d routineCell))) in
+      let m : k < callSlots = omega (arith, g .calls (numbered R (cellOfCall P R X d routineCell))) in
       let Y : List ℕ = set X (windowOf d + k) v in
       let long : length Y ≡ length X = length-set X (windowOf d + k) v in
       let o : (c : ℕ) → (c ≡ windowOf d + k → ⊥) → Same X Y c = other k v (omega arith) in
@@ -217,10 +217,10 @@ module _ (P : Program) (R : List Head) (X : List ℕ) (d : ℕ) (g : Roomy P X d
       (call-eq (callIn P R Y (windowOf d) i) (setWord k (toZ w32 v) (callIn P R X (windowOf d) i))
       (ap (numbered R) q)
       refl
-      (ap (λ (c : Code). map (toZ w32) (take (wordsOfCall c) (drop (windowOf d) Y))) (code-same P R (g .calls) X Y long (windowOf d) q)
-      ∙ ap (λ (l : List ℕ). map (toZ w32) (take (wordsOfCall (codeOfCall P R X d)) l)) (drop-set-add (windowOf d) X k v)
-      ∙ ap (map (toZ w32)) (take-set-lt (wordsOfCall (codeOfCall P R X d)) (drop (windowOf d) X) k v h)
-      ∙ map-set (toZ w32) (take (wordsOfCall (codeOfCall P R X d)) (drop (windowOf d) X)) k v)
+      (ap (λ (c : Code). map (toZ w32) (take (slotsOfCall c) (drop (windowOf d) Y))) (code-same P R (g .calls) X Y long (windowOf d) q)
+      ∙ ap (λ (l : List ℕ). map (toZ w32) (take (slotsOfCall (codeOfCall P R X d)) l)) (drop-set-add (windowOf d) X k v)
+      ∙ ap (map (toZ w32)) (take-set-lt (slotsOfCall (codeOfCall P R X d)) (drop (windowOf d) X) k v h)
+      ∙ map-set (toZ w32) (take (slotsOfCall (codeOfCall P R X d)) (drop (windowOf d) X)) k v)
       (call-loops-same P R (g .calls) X Y long (windowOf d) q (λ c x y. o c (λ z. omega arith)) i)
       (ap optionally (o (windowOf d + failedCell) (λ z. omega arith)))
       (result-same P R (g .calls) X Y long (windowOf d) q (o (windowOf d + resultCell) (λ z. omega arith)) i))
@@ -262,11 +262,11 @@ module _ (P : Program) (R : List Head) (X : List ℕ) (d : ℕ) (g : Roomy P X d
 
   -- the loop of a FOR variable: its end and its step
   pub call-loop : (k a b p q : ℕ) → p ≡ windowOf d + k + endsCell → q ≡ windowOf d + k + stepsCell → (i steps : ℕ) (out : List ℕ)
-      → length (codeOfCall P R X d .words) ≤ k → k < wordsOfCall (codeOfCall P R X d)
+      → length (codeOfCall P R X d .words) ≤ k → k < slotsOfCall (codeOfCall P R X d)
       → stateIn P R (set (set X p a) q b) d i steps out ≡ onTop (setLoop k (record { end = toZ w32 a; step = toZ w32 b })) (stateIn P R X d i steps out)
   unfolding callIn
   call-loop k a b p q ep eq i steps out low h =
-      let r : wordsOfCall (codeOfCall P R X d) ≤ callWords = g .calls (numbered R (cellOfCall P R X d routineCell)) in
+      let r : slotsOfCall (codeOfCall P R X d) ≤ callSlots = g .calls (numbered R (cellOfCall P R X d routineCell)) in
       let Y : List ℕ = set (set X p a) q b in
       let l : Loop = record { end = toZ w32 a; step = toZ w32 b } in
       let w : ℕ = length (codeOfCall P R X d .words) in
@@ -304,13 +304,13 @@ module _ (P : Program) (R : List Head) (X : List ℕ) (d : ℕ) (g : Roomy P X d
 
   -- a word of the module
   pub module-word : (k v i steps : ℕ) (out : List ℕ) → k < length (P .words)
-      → stateIn P R (set X k v) d i steps out ≡ storeAt (moduleWord k) (toZ w32 v) (stateIn P R X d i steps out)
+      → stateIn P R (set X k v) d i steps out ≡ storeAt (moduleSlot k) (toZ w32 v) (stateIn P R X d i steps out)
   unfolding stateIn storeAt
   module-word k v i steps out h =
       let Y : List ℕ = set X k v in
       let low : k < firstWindow = omega (arith, g .words) in
       let run : SameRun X Y = run-in X Y (set-behind X k v writtenCell (errnoCell + 1) (omega arith)) in
-      state-eq (stateIn P R Y d i steps out) (storeAt (moduleWord k) (toZ w32 v) (stateIn P R X d i steps out))
+      state-eq (stateIn P R Y d i steps out) (storeAt (moduleSlot k) (toZ w32 v) (stateIn P R X d i steps out))
       (ap (map (toZ w32)) (take-set-lt (length (P .words)) X k v h) ∙ map-set (toZ w32) (take (length (P .words)) X) k v)
       (calls-same Y (length-set X k v) (λ e m. set-behind X k v (windowOf e) (windowOf e + callCells) (omega arith)) i)
       refl

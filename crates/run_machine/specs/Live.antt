@@ -13,8 +13,8 @@ use Rattle.code.specs.Windows.{routineCell, waitsCell, afterCell, failedCell, r
 use Rattle.store_evaluation.specs.Answers.{firstNegative}
 
 -- how many words a call of a routine has
-abbrev pub wordsOfCall : Code → ℕ
-wordsOfCall c = length (c .words) + c .fors
+abbrev pub slotsOfCall : Code → ℕ
+slotsOfCall c = length (c .words) + c .fors
 
 module _ (P : Program) (R : List Head) (X : List ℕ) where
   -- of the call with e callers: a cell of its window, the number of its routine, its routine
@@ -31,7 +31,7 @@ module _ (P : Program) (R : List Head) (X : List ℕ) where
   pub data ResultFits (e r : ℕ) : Type 0 where
     nowhere : r ≡ 0 → ResultFits e r
     inModule : (k : ℕ) → k < length (P .words) → r ≡ suc k → ResultFits e r
-    inCaller : (c k : ℕ) → e ≡ suc c → k < wordsOfCall (codeOfCall c) → r ≡ suc (windowOf c + k) → ResultFits e r
+    inCaller : (c k : ℕ) → e ≡ suc c → k < slotsOfCall (codeOfCall c) → r ≡ suc (windowOf c + k) → ResultFits e r
 
   -- The step that failed: none, or a step of its routine.
   pub data FailedFits (e f : ℕ) : Type 0 where

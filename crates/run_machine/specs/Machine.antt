@@ -9,7 +9,7 @@ use mir.Val.{toZ}
 use Rattle.paper.specs.Steps.{Program}
 use Rattle.paper.specs.States.{Rooms, Effect, made, failing, handing, ending, lacking}
 use Rattle.paper.specs.Running.{nextStep, perform}
-use Rattle.store_cells.specs.Words.{wordsOf}
+use Rattle.store_cells.specs.Cells.{cellsOf}
 use Rattle.code.specs.Cells.{windowOf, opAt, valueAt, placeAt}
 use Rattle.code.specs.Steps.{Head}
 use Rattle.code.specs.Holds.{Holds}
@@ -51,18 +51,18 @@ pub record Here (code values : List ℕ) (base i : ℕ) : Type 0 where
   pub P : Program
   pub R : List Head
   pub offset : ℕ → ℕ
-  pub holds : Holds text R offset (wordsOf code) P
+  pub holds : Holds text R offset (cellsOf code) P
   pub code-size : length code ≡ storeBytes
   pub values-size : length values ≡ storeBytes
   pub d : ℕ
   pub deep : d < depthLimit
   pub base-is : base ≡ windowOf d
-  pub live : Live P R (wordsOf values) d i
+  pub live : Live P R (cellsOf values) d i
 
 -- The word at i has this op and this value.
 pub record Says (code : List ℕ) (i op v : ℕ) : Type 0 where
-  pub op-is : opAt (wordsOf code) i ≡ op
-  pub value-is : v ≡ valueAt (wordsOf code) i
+  pub op-is : opAt (cellsOf code) i ≡ op
+  pub value-is : v ≡ valueAt (cellsOf code) i
 
 -- The window of the last call that the depth lent admits.
 pub record LastWindow (rooms : Rooms) (last : ℕ) : Type 0 where
@@ -75,39 +75,39 @@ pub record LastWindow (rooms : Rooms) (last : ℕ) : Type 0 where
 pub record Performs (code values after : List ℕ) (base i : ℕ) (r : ℤ) : Type 0 where
   pub long : length after ≡ length values
   pub does : (h : Here code values base i) (rooms : Rooms) (steps : ℕ) (out : List ℕ) →
-      Comes (h .P) (h .R) (wordsOf code) (h .offset) (h .d) i steps (wordsOf values) (wordsOf after) out out (effectAt (h .P) (h .R) rooms (wordsOf values) (h .d) i steps out) r
+      Comes (h .P) (h .R) (cellsOf code) (h .offset) (h .d) i steps (cellsOf values) (cellsOf after) out out (effectAt (h .P) (h .R) rooms (cellsOf values) (h .d) i steps out) r
   -- output and inputs are not touched
-  pub kept : (c : ℕ) → writtenCell ≤ c → c ≤ usedCell → getD (wordsOf after) c 0 ≡ getD (wordsOf values) c 0
+  pub kept : (c : ℕ) → writtenCell ≤ c → c ≤ usedCell → getD (cellsOf after) c 0 ≡ getD (cellsOf values) c 0
 
 -- A call.
 pub record Calls (code values after : List ℕ) (base last i : ℕ) (r : ℤ) : Type 0 where
   pub long : length after ≡ length values
   pub does : (h : Here code values base i) (rooms : Rooms) → LastWindow rooms last → (steps : ℕ) (out : List ℕ) →
-      Comes (h .P) (h .R) (wordsOf code) (h .offset) (h .d) i steps (wordsOf values) (wordsOf after) out out (effectAt (h .P) (h .R) rooms (wordsOf values) (h .d) i steps out) r
-  pub kept : (c : ℕ) → writtenCell ≤ c → c ≤ usedCell → getD (wordsOf after) c 0 ≡ getD (wordsOf values) c 0
+      Comes (h .P) (h .R) (cellsOf code) (h .offset) (h .d) i steps (cellsOf values) (cellsOf after) out out (effectAt (h .P) (h .R) rooms (cellsOf values) (h .d) i steps out) r
+  pub kept : (c : ℕ) → writtenCell ≤ c → c ≤ usedCell → getD (cellsOf after) c 0 ≡ getD (cellsOf values) c 0
 
 -- ---- any step
 -- what a run lends besides its steps and its depth
 pub record Lends (rooms : Rooms) (inputs out : List ℕ) : Type 0 where
   pub room : rooms .output ≡ length out
-  pub reads : rooms .inputs ≡ map (toZ w32) (wordsOf inputs)
+  pub reads : rooms .inputs ≡ map (toZ w32) (cellsOf inputs)
 
 pub record Steps (text code values out : List ℕ) (base last i : ℕ) : Type 0 where
   pub here : Here code values base i
   pub text-is : here .text ≡ text
   pub rooms : Rooms
   pub deepest : LastWindow rooms last
-  pub written : writtenIn (here .P) (here .R) (wordsOf values) ≤ length out
+  pub written : writtenIn (here .P) (here .R) (cellsOf values) ≤ length out
   -- another one can be counted
-  pub used : getD (wordsOf values) usedCell 0 + 1 < cellValues
+  pub used : getD (cellsOf values) usedCell 0 + 1 < cellValues
 
 pub record Stepped (text code values after inputs out out′ : List ℕ) (base last i : ℕ) (r : ℤ) : Type 0 where
   pub long : length after ≡ length values
   pub out-long : length out′ ≡ length out
   pub does : (h : Here code values base i) → h .text ≡ text → (rooms : Rooms) → LastWindow rooms last → Lends rooms inputs out → (steps : ℕ) →
-      Comes (h .P) (h .R) (wordsOf code) (h .offset) (h .d) i steps (wordsOf values) (wordsOf after) out out′ (effectAt (h .P) (h .R) rooms (wordsOf values) (h .d) i steps out) r
+      Comes (h .P) (h .R) (cellsOf code) (h .offset) (h .d) i steps (cellsOf values) (cellsOf after) out out′ (effectAt (h .P) (h .R) rooms (cellsOf values) (h .d) i steps out) r
   -- the count only grows, and output past it is untouched
-  pub grows : (P : Program) (R : List Head) → writtenIn P R (wordsOf values) ≤ writtenIn P R (wordsOf after)
-  pub written : (P : Program) (R : List Head) → writtenIn P R (wordsOf after) ≤ length out
-  pub past : (P : Program) (R : List Head) → drop (writtenIn P R (wordsOf after)) out′ ≡ drop (writtenIn P R (wordsOf after)) out
-  pub used : getD (wordsOf after) usedCell 0 ≤ getD (wordsOf values) usedCell 0 + 1
+  pub grows : (P : Program) (R : List Head) → writtenIn P R (cellsOf values) ≤ writtenIn P R (cellsOf after)
+  pub written : (P : Program) (R : List Head) → writtenIn P R (cellsOf after) ≤ length out
+  pub past : (P : Program) (R : List Head) → drop (writtenIn P R (cellsOf after)) out′ ≡ drop (writtenIn P R (cellsOf after)) out
+  pub used : getD (cellsOf after) usedCell 0 ≤ getD (cellsOf values) usedCell 0 + 1

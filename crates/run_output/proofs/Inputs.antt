@@ -13,7 +13,7 @@ use mir.Facts.{toZ-ofZ}
 use Rattle.laws.proofs.Tests.{false-true}
 use Rattle.paper.specs.Numbers.{num, value, error, ranged, overflow}
 use Rattle.store_numbers.proofs.Whole.{read}
-use Rattle.store_cells.specs.Words.{wordsOf, Put}
+use Rattle.store_cells.specs.Cells.{cellsOf, Put}
 use Rattle.store_cells.proofs.Kept.{put-length}
 use Rattle.store_evaluation.specs.Parts.{outside}
 use Rattle.store_evaluation.proofs.Numbers.{outside-low, outside-high, ranged-inside, ranged-outside}
@@ -21,7 +21,7 @@ use Rattle.store_reading.specs.Reading.{Stored, Loaded}
 use Rattle.code.specs.Windows.{usedCell}
 use Rattle.run_output.specs.Output.{Takes, Took}
 
-module _ (values inputs mid : List ℕ) (used cell : ℕ) (t : Takes values inputs used cell) (p : Put values mid usedCell (used + 1)) (z : ℤ) (s : SFits w64 z) (l : Loaded (getD (wordsOf inputs) used 0) z) where
+module _ (values inputs mid : List ℕ) (used cell : ℕ) (t : Takes values inputs used cell) (p : Put values mid usedCell (used + 1)) (z : ℤ) (s : SFits w64 z) (l : Loaded (getD (cellsOf inputs) used 0) z) where
   refused : outside z ≡ true → Took values mid inputs used cell false
   refused o = record {
     long = put-length p (omega (arith, t .used-in));
@@ -44,7 +44,7 @@ module _ (values inputs mid : List ℕ) (used cell : ℕ) (t : Takes values inpu
       long = q .long ∙ put-length p (omega (arith, t .used-in));
       small = subst (SFits w32) (l .is) (l .small);
       in-num = λ e. subst (λ (x : ℤ). ranged num x ≡ value x) (l .is) (ranged-inside z (sym (outside-high z s h) ∙ g));
-      stored = λ e. q .words ∙ ap (λ (x : List ℕ). set x cell (ofZ w32 (read z))) (p .words) ∙ ap (λ (x : ℤ). set (set (wordsOf values) usedCell (used + 1)) cell (ofZ w32 x)) (toZ-ofZ s ∙ l .is);
+      stored = λ e. q .words ∙ ap (λ (x : List ℕ). set x cell (ofZ w32 (read z))) (p .words) ∙ ap (λ (x : ℤ). set (set (cellsOf values) usedCell (used + 1)) cell (ofZ w32 x)) (toZ-ofZ s ∙ l .is);
       outside = λ e. false-true (sym e);
       consumed = λ e. false-true (sym e);
     }

@@ -18,7 +18,7 @@ use Rattle.laws.proofs.Tests.{by-most}
 use Rattle.paper.specs.Words.{LF}
 use Rattle.paper.specs.Numbers.{decimal}
 use Rattle.paper.specs.Steps.{unquoted}
-use Rattle.store_cells.specs.Words.{wordsOf, Put}
+use Rattle.store_cells.specs.Cells.{cellsOf, Put}
 use Rattle.store_cells.proofs.Laws.{length-words}
 use Rattle.store_cells.proofs.Kept.{put-length}
 use Rattle.store_numbers.proofs.Whole.{read}
@@ -41,10 +41,10 @@ empty-of [] e = refl
 empty-of (x ∷ l) e = absurd (omega arith)
 
 -- ---- a string
-pub no-characters : (code : List ℕ) (i : ℕ) → length code % 8 ≡ 0 → length code / 8 ≤ i → (0 ≡ valueAt (wordsOf code) i / charactersPart) × (0 < valueEnd / charactersPart)
-no-characters code i w h = (sym (ap (λ (x : ℕ). x / charactersPart / charactersPart) (List·getD-eq-default (wordsOf code) 0 {n = i * 2} (omega (arith, length-words code)))), omega arith)
+pub no-characters : (code : List ℕ) (i : ℕ) → length code % 8 ≡ 0 → length code / 8 ≤ i → (0 ≡ valueAt (cellsOf code) i / charactersPart) × (0 < valueEnd / charactersPart)
+no-characters code i w h = (sym (ap (λ (x : ℕ). x / charactersPart / charactersPart) (List·getD-eq-default (cellsOf code) 0 {n = i * 2} (omega (arith, length-words code)))), omega arith)
 
-pub string-there : (code : List ℕ) (i n : ℕ) → n ≡ valueAt (wordsOf code) i / charactersPart → length code % 8 ≡ 0 → (n ≡ 0 → ⊥) → i * 8 + 8 ≤ length code
+pub string-there : (code : List ℕ) (i n : ℕ) → n ≡ valueAt (cellsOf code) i / charactersPart → length code % 8 ≡ 0 → (n ≡ 0 → ⊥) → i * 8 + 8 ≤ length code
 string-there code i n e w d = value-in code i w (λ z. d (e ∙ ap (λ (x : ℕ). x / charactersPart) z))
 
 module _ (text C : List ℕ) (i n : ℕ) (en : n ≡ valueAt C i / charactersPart) (many : valueAt C i / charactersPart ≡ length (charactersAt text C i)) where
@@ -124,10 +124,10 @@ module _ (text C values out : List ℕ) (i : ℕ) (f : HasRoom values out (lineA
   line-length : length (lineAt text C i) ≡ length (charactersAt text C i) + 1
   line-length = length-append (charactersAt text C i) (LF ∷ [])
 
-  pub line-string : (w : ℕ) → w ≡ countIn (wordsOf values) → w + length (charactersAt text C i) ≤ length out
+  pub line-string : (w : ℕ) → w ≡ countIn (cellsOf values) → w + length (charactersAt text C i) ≤ length out
   line-string w e = omega (arith, f .room, line-length)
 
-  module _ (w : ℕ) (ew : w ≡ countIn (wordsOf values)) (out1 : List ℕ) (e : ℕ) (p : Placed out out1 w (charactersAt text C i) e) where
+  module _ (w : ℕ) (ew : w ≡ countIn (cellsOf values)) (out1 : List ℕ) (e : ℕ) (p : Placed out out1 w (charactersAt text C i) e) where
     out1-length : length out1 ≡ length out
     out1-length = ap length (p .bytes) ∙ replaced-length out (charactersAt text C i) w (length (charactersAt text C i)) refl (omega (arith, line-string w ew))
 
@@ -136,9 +136,9 @@ module _ (text C values out : List ℕ) (i : ℕ) (f : HasRoom values out (lineA
 
     pub line-done : (after : List ℕ) → Counted values after (e + 1) → Added values after out (set out1 e LF) (lineAt text C i)
     line-done after c =
-        let q : e + 1 ≡ countIn (wordsOf values) + length (lineAt text C i) = omega (arith, line-length, p .place) in
+        let q : e + 1 ≡ countIn (cellsOf values) + length (lineAt text C i) = omega (arith, line-length, p .place) in
         record {
-          count = record { words = c .words ∙ ap (withCount (wordsOf values)) q; long = c .long };
+          count = record { words = c .words ∙ ap (withCount (cellsOf values)) q; long = c .long };
           bytes =
               ap₂ (λ (x : List ℕ) (j : ℕ). set x j LF) (p .bytes) (p .place)
               ∙ one-more out (charactersAt text C i) w LF (omega (arith, f .room, line-length))
@@ -153,10 +153,10 @@ module _ (text C values out : List ℕ) (i : ℕ) (z : ℤ) (s : SFits w64 z) (f
   of-length : length (lineOf text C i z) ≡ length (charactersAt text C i) + length (decimal z) + 1
   of-length = length-append (charactersAt text C i ++ decimal z) (LF ∷ []) ∙ ap (λ (n : ℕ). n + 1) (length-append (charactersAt text C i) (decimal z))
 
-  pub of-string : (w : ℕ) → w ≡ countIn (wordsOf values) → w + length (charactersAt text C i) ≤ length out
+  pub of-string : (w : ℕ) → w ≡ countIn (cellsOf values) → w + length (charactersAt text C i) ≤ length out
   of-string w e = omega (arith, f .room, of-length)
 
-  module _ (w : ℕ) (ew : w ≡ countIn (wordsOf values)) (out1 : List ℕ) (e : ℕ) (p : Placed out out1 w (charactersAt text C i) e) (n : ℕ) (n-is : n ≡ length (decimal z)) where
+  module _ (w : ℕ) (ew : w ≡ countIn (cellsOf values)) (out1 : List ℕ) (e : ℕ) (p : Placed out out1 w (charactersAt text C i) e) (n : ℕ) (n-is : n ≡ length (decimal z)) where
     of1-length : length out1 ≡ length out
     of1-length = ap length (p .bytes) ∙ replaced-length out (charactersAt text C i) w (length (charactersAt text C i)) refl (omega (arith, of-string w ew))
 
@@ -194,10 +194,10 @@ module _ (text C values out : List ℕ) (i : ℕ) (z : ℤ) (s : SFits w64 z) (f
       pub of-done : (after : List ℕ) → Counted values after (e + n + 1) → Added values after out (set out2 (e + n) LF) (lineOf text C i z)
       of-done after c =
           let l = length-append (charactersAt text C i) (decimal z) in
-          let k : e + n + 1 ≡ countIn (wordsOf values) + length (lineOf text C i z) = omega (arith, of-length, p .place, n-is) in
+          let k : e + n + 1 ≡ countIn (cellsOf values) + length (lineOf text C i z) = omega (arith, of-length, p .place, n-is) in
           let j : e + n ≡ w + length (charactersAt text C i ++ decimal z) = omega (arith, p .place, n-is, l) in
           record {
-            count = record { words = c .words ∙ ap (withCount (wordsOf values)) k; long = c .long };
+            count = record { words = c .words ∙ ap (withCount (cellsOf values)) k; long = c .long };
             bytes =
                 ap₂ (λ (x : List ℕ) (j : ℕ). set x j LF) number-placed j
                 ∙ one-more out (charactersAt text C i ++ decimal z) w LF (omega (arith, f .room, of-length, l))

@@ -19,7 +19,7 @@ use Rattle.paper.specs.Words.{LF, wordLimit}
 use Rattle.paper.specs.Steps.{Program, write}
 use Rattle.paper.specs.States.{State, Rooms, Effect, made, lacking, withOutput, goTo, onTop}
 use Rattle.paper.specs.Running.{perform, adding, writing}
-use Rattle.store_cells.specs.Words.{wordsOf}
+use Rattle.store_cells.specs.Cells.{cellsOf}
 use Rattle.store_cells.proofs.Laws.{length-words}
 use Rattle.code.specs.Cells.{opAt, valueAt, linkAt}
 use Rattle.code.specs.Steps.{Head, aWrite}
@@ -63,103 +63,103 @@ module _ (X : List ℕ) (n : ℕ) (long : length X ≡ storeWords) where
       ∙ getD-set-other X writtenCell usedCell (n % cellValues) 0 (λ q. omega arith)
 
 -- ---- a line was added
-module _ (values after out out′ line : List ℕ) (a : Added values after out out′ line) (long : length values ≡ storeBytes) (fits : countIn (wordsOf values) + length line ≤ length out) where
-  words-long : length (wordsOf values) ≡ storeWords
+module _ (values after out out′ line : List ℕ) (a : Added values after out out′ line) (long : length values ≡ storeBytes) (fits : countIn (cellsOf values) + length line ≤ length out) where
+  words-long : length (cellsOf values) ≡ storeWords
   words-long = omega (arith, length-words values)
 
-  pub added-count : countIn (wordsOf after) ≡ countIn (wordsOf values) + length line
-  added-count = ap countIn (a .count .words) ∙ count-set (wordsOf values) (countIn (wordsOf values) + length line) words-long
+  pub added-count : countIn (cellsOf after) ≡ countIn (cellsOf values) + length line
+  added-count = ap countIn (a .count .words) ∙ count-set (cellsOf values) (countIn (cellsOf values) + length line) words-long
 
-  pub added-used : getD (wordsOf after) usedCell 0 ≡ getD (wordsOf values) usedCell 0
-  added-used = ap (λ (x : List ℕ). getD x usedCell 0) (a .count .words) ∙ used-kept (wordsOf values) (countIn (wordsOf values) + length line) words-long
+  pub added-used : getD (cellsOf after) usedCell 0 ≡ getD (cellsOf values) usedCell 0
+  added-used = ap (λ (x : List ℕ). getD x usedCell 0) (a .count .words) ∙ used-kept (cellsOf values) (countIn (cellsOf values) + length line) words-long
 
   pub added-long : length out′ ≡ length out
-  added-long = ap length (a .bytes) ∙ replaced-length out line (countIn (wordsOf values)) (length line) refl fits
+  added-long = ap length (a .bytes) ∙ replaced-length out line (countIn (cellsOf values)) (length line) refl fits
 
-  pub added-past : drop (countIn (wordsOf after)) out′ ≡ drop (countIn (wordsOf after)) out
+  pub added-past : drop (countIn (cellsOf after)) out′ ≡ drop (countIn (cellsOf after)) out
   added-past =
-      ap (drop (countIn (wordsOf after))) (a .bytes)
-      ∙ replaced-drop out line (countIn (wordsOf values)) (length line) refl fits (countIn (wordsOf after)) (omega (arith, added-count))
+      ap (drop (countIn (cellsOf after))) (a .bytes)
+      ∙ replaced-drop out line (countIn (cellsOf values)) (length line) refl fits (countIn (cellsOf after)) (omega (arith, added-count))
 
-  taken : take (countIn (wordsOf values) + length line) out′ ≡ take (countIn (wordsOf values)) out ++ line
+  taken : take (countIn (cellsOf values) + length line) out′ ≡ take (countIn (cellsOf values)) out ++ line
   taken =
-      let w = countIn (wordsOf values) in
+      let w = countIn (cellsOf values) in
       ap (take (w + length line)) (a .bytes)
       ∙ take-at (take w out ++ line) (drop (w + length line) out) (w + length line) (length-append (take w out) line ∙ ap (λ (k : ℕ). k + length line) (length-take-le w out (omega arith)))
 
   -- the step that comes next, with the line
   module _ (code : List ℕ) (base i : ℕ) (h : Here code values base i) where
-    pub added-live : (n : ℕ) → Live (h .P) (h .R) (wordsOf values) (h .d) n → Live (h .P) (h .R) (wordsOf after) (h .d) n
+    pub added-live : (n : ℕ) → Live (h .P) (h .R) (cellsOf values) (h .d) n → Live (h .P) (h .R) (cellsOf after) (h .d) n
     added-live n l =
-        let k = countIn (wordsOf values) + length line in
+        let k = countIn (cellsOf values) + length line in
         subst (λ (x : List ℕ). Live (h .P) (h .R) x (h .d) n) (sym (a .count .words))
-        (live-run (h .P) (h .R) (set (wordsOf values) writtenCell (k % cellValues)) (h .d) (suc writtenCell) (k / cellValues) n
-        (live-run (h .P) (h .R) (wordsOf values) (h .d) writtenCell (k % cellValues) n l (omega arith) (omega arith))
+        (live-run (h .P) (h .R) (set (cellsOf values) writtenCell (k % cellValues)) (h .d) (suc writtenCell) (k / cellValues) n
+        (live-run (h .P) (h .R) (cellsOf values) (h .d) writtenCell (k % cellValues) n l (omega arith) (omega arith))
         (omega arith) (omega arith))
 
-    pub added-state : (steps : ℕ) → stateIn (h .P) (h .R) (wordsOf after) (h .d) i steps out′
-        ≡ withOutput (stateIn (h .P) (h .R) (wordsOf values) (h .d) i steps out .output ++ line) (stateIn (h .P) (h .R) (wordsOf values) (h .d) i steps out)
+    pub added-state : (steps : ℕ) → stateIn (h .P) (h .R) (cellsOf after) (h .d) i steps out′
+        ≡ withOutput (stateIn (h .P) (h .R) (cellsOf values) (h .d) i steps out .output ++ line) (stateIn (h .P) (h .R) (cellsOf values) (h .d) i steps out)
     unfolding stateIn writtenIn
     added-state steps =
-        let k = countIn (wordsOf values) + length line in
+        let k = countIn (cellsOf values) + length line in
         ap (λ (x : List ℕ). stateIn (h .P) (h .R) x (h .d) i steps out′) (a .count .words)
-        ∙ written-cells (h .P) (h .R) (wordsOf values) (h .d) (roomy h) (k % cellValues) (k / cellValues) i steps out out′
-        ∙ ap (λ (o : List ℕ). withOutput o (stateIn (h .P) (h .R) (wordsOf values) (h .d) i steps out)) (ap (λ (n : ℕ). take n out′) (split-is k) ∙ taken)
+        ∙ written-cells (h .P) (h .R) (cellsOf values) (h .d) (roomy h) (k % cellValues) (k / cellValues) i steps out out′
+        ∙ ap (λ (o : List ℕ). withOutput o (stateIn (h .P) (h .R) (cellsOf values) (h .d) i steps out)) (ap (λ (n : ℕ). take n out′) (split-is k) ∙ taken)
 
 -- ---- where there is room
-module _ (code values : List ℕ) (base i : ℕ) (h : Here code values base i) (out : List ℕ) (w : countIn (wordsOf values) ≤ length out) (rooms : Rooms) (room : rooms .output ≡ length out) (place steps : ℕ) (line : List ℕ) (go : State → Effect) where
-  output-length : length (stateIn (h .P) (h .R) (wordsOf values) (h .d) i steps out .output) ≡ countIn (wordsOf values)
+module _ (code values : List ℕ) (base i : ℕ) (h : Here code values base i) (out : List ℕ) (w : countIn (cellsOf values) ≤ length out) (rooms : Rooms) (room : rooms .output ≡ length out) (place steps : ℕ) (line : List ℕ) (go : State → Effect) where
+  output-length : length (stateIn (h .P) (h .R) (cellsOf values) (h .d) i steps out .output) ≡ countIn (cellsOf values)
   unfolding stateIn writtenIn
-  output-length = length-take-le (countIn (wordsOf values)) out w
+  output-length = length-take-le (countIn (cellsOf values)) out w
 
-  pub adding-fits : countIn (wordsOf values) + length line ≤ length out
-      → adding rooms place line (stateIn (h .P) (h .R) (wordsOf values) (h .d) i steps out) go
-      ≡ go (withOutput (stateIn (h .P) (h .R) (wordsOf values) (h .d) i steps out .output ++ line) (stateIn (h .P) (h .R) (wordsOf values) (h .d) i steps out))
+  pub adding-fits : countIn (cellsOf values) + length line ≤ length out
+      → adding rooms place line (stateIn (h .P) (h .R) (cellsOf values) (h .d) i steps out) go
+      ≡ go (withOutput (stateIn (h .P) (h .R) (cellsOf values) (h .d) i steps out .output ++ line) (stateIn (h .P) (h .R) (cellsOf values) (h .d) i steps out))
   unfolding adding
   adding-fits f =
-      let s = stateIn (h .P) (h .R) (wordsOf values) (h .d) i steps out in
+      let s = stateIn (h .P) (h .R) (cellsOf values) (h .d) i steps out in
       let t : leb (length (s .output) + length line) (rooms .output) ≡ true = le-leb (length (s .output) + length line) (rooms .output) (omega (arith, output-length)) in
       ap (λ b. if b then go (withOutput (s .output ++ line) s) else lacking 8 place) t
 
-  pub adding-lacks : length out < countIn (wordsOf values) + length line → adding rooms place line (stateIn (h .P) (h .R) (wordsOf values) (h .d) i steps out) go ≡ lacking 8 place
+  pub adding-lacks : length out < countIn (cellsOf values) + length line → adding rooms place line (stateIn (h .P) (h .R) (cellsOf values) (h .d) i steps out) go ≡ lacking 8 place
   unfolding adding
   adding-lacks f =
-      let s = stateIn (h .P) (h .R) (wordsOf values) (h .d) i steps out in
+      let s = stateIn (h .P) (h .R) (cellsOf values) (h .d) i steps out in
       let t : leb (length (s .output) + length line) (rooms .output) ≡ false = lt-leb (length (s .output) + length line) (rooms .output) (omega (arith, output-length)) in
       ap (λ b. if b then go (withOutput (s .output ++ line) s) else lacking 8 place) t
 
 -- ---- a step that writes nothing, as any step
 module _ (text code values after inputs out : List ℕ) (base last i : ℕ) (r : ℤ) (long : length after ≡ length values)
-    (kept : (c : ℕ) → writtenCell ≤ c → c ≤ usedCell → getD (wordsOf after) c 0 ≡ getD (wordsOf values) c 0) (w : countIn (wordsOf values) ≤ length out) where
-  same-count : countIn (wordsOf after) ≡ countIn (wordsOf values)
+    (kept : (c : ℕ) → writtenCell ≤ c → c ≤ usedCell → getD (cellsOf after) c 0 ≡ getD (cellsOf values) c 0) (w : countIn (cellsOf values) ≤ length out) where
+  same-count : countIn (cellsOf after) ≡ countIn (cellsOf values)
   same-count = ap₂ (λ (x y : ℕ). x + cellValues * y) (kept writtenCell (omega arith) (omega arith)) (kept (suc writtenCell) (omega arith) (omega arith))
 
   pub silent : ((h : Here code values base i) → h .text ≡ text → (rooms : Rooms) → LastWindow rooms last → Lends rooms inputs out → (steps : ℕ) →
-      Comes (h .P) (h .R) (wordsOf code) (h .offset) (h .d) i steps (wordsOf values) (wordsOf after) out out (effectAt (h .P) (h .R) rooms (wordsOf values) (h .d) i steps out) r)
+      Comes (h .P) (h .R) (cellsOf code) (h .offset) (h .d) i steps (cellsOf values) (cellsOf after) out out (effectAt (h .P) (h .R) rooms (cellsOf values) (h .d) i steps out) r)
       → Stepped text code values after inputs out out base last i r
   silent d = record {
     long = long;
     out-long = refl;
     does = d;
-    grows = λ P R. rw (count-is P R (wordsOf after), count-is P R (wordsOf values)) (omega (arith, same-count));
-    written = λ P R. rw (count-is P R (wordsOf after), same-count) w;
+    grows = λ P R. rw (count-is P R (cellsOf after), count-is P R (cellsOf values)) (omega (arith, same-count));
+    written = λ P R. rw (count-is P R (cellsOf after), same-count) w;
     past = λ P R. refl;
     used = omega (arith, kept usedCell (omega arith) (omega arith));
   }
 
 -- ---- a step that adds a line
 module _ (text code values after inputs out out′ line : List ℕ) (base last i : ℕ) (r : ℤ) (a : Added values after out out′ line) (long : length values ≡ storeBytes)
-    (fits : countIn (wordsOf values) + length line ≤ length out) where
+    (fits : countIn (cellsOf values) + length line ≤ length out) where
   pub lined : ((h : Here code values base i) → h .text ≡ text → (rooms : Rooms) → LastWindow rooms last → Lends rooms inputs out → (steps : ℕ) →
-      Comes (h .P) (h .R) (wordsOf code) (h .offset) (h .d) i steps (wordsOf values) (wordsOf after) out out′ (effectAt (h .P) (h .R) rooms (wordsOf values) (h .d) i steps out) r)
+      Comes (h .P) (h .R) (cellsOf code) (h .offset) (h .d) i steps (cellsOf values) (cellsOf after) out out′ (effectAt (h .P) (h .R) rooms (cellsOf values) (h .d) i steps out) r)
       → Stepped text code values after inputs out out′ base last i r
   lined d = record {
     long = a .count .long;
     out-long = added-long values after out out′ line a long fits;
     does = d;
-    grows = λ P R. rw (count-is P R (wordsOf after), count-is P R (wordsOf values)) (omega (arith, added-count values after out out′ line a long fits));
-    written = λ P R. rw (count-is P R (wordsOf after), added-count values after out out′ line a long fits) fits;
-    past = λ P R. rw (count-is P R (wordsOf after)) (added-past values after out out′ line a long fits);
+    grows = λ P R. rw (count-is P R (cellsOf after), count-is P R (cellsOf values)) (omega (arith, added-count values after out out′ line a long fits));
+    written = λ P R. rw (count-is P R (cellsOf after), added-count values after out out′ line a long fits) fits;
+    past = λ P R. rw (count-is P R (cellsOf after)) (added-past values after out out′ line a long fits);
     used = omega (arith, added-used values after out out′ line a long fits);
   }
 
@@ -177,55 +177,55 @@ module _ (code values : List ℕ) (base i : ℕ) (h : Here code values base i) w
 
   -- what lacks room
   pub lacks-room : (steps : ℕ) (out : List ℕ) (E : Effect) → E ≡ lacking 8 (stepHere code values base i h .place)
-      → Comes (h .P) (h .R) (wordsOf code) (h .offset) (h .d) i steps (wordsOf values) (wordsOf values) out out E (toZ w64 (roomLacked + i))
+      → Comes (h .P) (h .R) (cellsOf code) (h .offset) (h .d) i steps (cellsOf values) (cellsOf values) out out E (toZ w64 (roomLacked + i))
   lacks-room steps out E e =
       lacks 8 i (stepHere code values base i h .place) (no-room i low-step) (omega arith) (omega arith) (omega (arith, low-step)) (place-here code values base i h) refl refl e
 
   -- what goes on after a line
-  pub goes-lined : (after out out′ line : List ℕ) → Added values after out out′ line → countIn (wordsOf values) + length line ≤ length out → (steps n : ℕ) (E : Effect)
+  pub goes-lined : (after out out′ line : List ℕ) → Added values after out out′ line → countIn (cellsOf values) + length line ≤ length out → (steps n : ℕ) (E : Effect)
       → n ≡ stepHere code values base i h .after
-      → E ≡ made (onTop (goTo (stepHere code values base i h .after)) (withOutput (stateIn (h .P) (h .R) (wordsOf values) (h .d) i steps out .output ++ line) (stateIn (h .P) (h .R) (wordsOf values) (h .d) i steps out)))
-      → Comes (h .P) (h .R) (wordsOf code) (h .offset) (h .d) i steps (wordsOf values) (wordsOf after) out out′ E (toZ w64 n)
+      → E ≡ made (onTop (goTo (stepHere code values base i h .after)) (withOutput (stateIn (h .P) (h .R) (cellsOf values) (h .d) i steps out .output ++ line) (stateIn (h .P) (h .R) (cellsOf values) (h .d) i steps out)))
+      → Comes (h .P) (h .R) (cellsOf code) (h .offset) (h .d) i steps (cellsOf values) (cellsOf after) out out′ E (toZ w64 n)
   goes-lined after out out′ line a fits steps n E en e =
       let s = stepHere code values base i h in
       let na = named-after code values base i h in
       goesOn n (toZ-pos w64 {n = n} (omega (arith, small-name code values base i h (s .after) na .1)))
-      (subst (Live (h .P) (h .R) (wordsOf after) (h .d)) (sym en)
-      (added-live values after out out′ line a (h .values-size) fits code base i h (s .after) (live-next (h .P) (h .R) (wordsOf values) (h .d) i (s .after) (h .live) na)))
+      (subst (Live (h .P) (h .R) (cellsOf after) (h .d)) (sym en)
+      (added-live values after out out′ line a (h .values-size) fits code base i h (s .after) (live-next (h .P) (h .R) (cellsOf values) (h .d) i (s .after) (h .live) na)))
       (e ∙ ap made
       (ap (onTop (goTo (s .after))) (sym (added-state values after out out′ line a (h .values-size) fits code base i h steps))
-      ∙ sym (goes-to (h .P) (h .R) (wordsOf after) (h .d) i steps out′ (s .after))
-      ∙ sym (ap (λ (k : ℕ). stateIn (h .P) (h .R) (wordsOf after) (h .d) k steps out′) en)))
+      ∙ sym (goes-to (h .P) (h .R) (cellsOf after) (h .d) i steps out′ (s .after))
+      ∙ sym (ap (λ (k : ℕ). stateIn (h .P) (h .R) (cellsOf after) (h .d) k steps out′) en)))
 
 -- ---- TPWrite
-module _ (code values : List ℕ) (base i : ℕ) (h : Here code values base i) (o : opAt (wordsOf code) i ≡ aWrite) where
-  reads : Actions.Writes (here.m code values base i h) (here.n code values base i h) (codeHere code values base i h .function) (h .text) (h .R) (wordsOf code) i (stepHere code values base i h .after) (stepHere code values base i h .does)
+module _ (code values : List ℕ) (base i : ℕ) (h : Here code values base i) (o : opAt (cellsOf code) i ≡ aWrite) where
+  reads : Actions.Writes (here.m code values base i h) (here.n code values base i h) (codeHere code values base i h .function) (h .text) (h .R) (cellsOf code) i (stepHere code values base i h .after) (stepHere code values base i h .does)
   reads = Actions.reads-write _ _ _ _ _ _ i _ _ (action-here code values base i h) o
 
-  says : Actions.Characters (here.m code values base i h) (here.n code values base i h) (codeHere code values base i h .function) (h .text) (h .R) (wordsOf code) (i + 1) (reads .s)
+  says : Actions.Characters (here.m code values base i h) (here.n code values base i h) (codeHere code values base i h .function) (h .text) (h .R) (cellsOf code) (i + 1) (reads .s)
   says = Actions.characters _ _ _ _ _ _ (i + 1) (reads .s) (reads .says)
 
-  s-is : reads .s ≡ charactersAt (h .text) (wordsOf code) (i + 1)
+  s-is : reads .s ≡ charactersAt (h .text) (cellsOf code) (i + 1)
   unfolding charactersAt
   s-is = says .is
 
   pub write-spells : Spells (h .text) code (i + 1)
   write-spells = record { many = says .count ∙ ap length s-is; whole = rw (h .code-size) }
 
-  pub write-link : stepHere code values base i h .after ≡ linkAt (wordsOf code) i
+  pub write-link : stepHere code values base i h .after ≡ linkAt (cellsOf code) i
   write-link = reads .after-is
 
-  pub write-effect : (rooms : Rooms) (steps : ℕ) (out : List ℕ) → effectAt (h .P) (h .R) rooms (wordsOf values) (h .d) i steps out
-      ≡ adding rooms (stepHere code values base i h .place) (lineAt (h .text) (wordsOf code) (i + 1)) (stateIn (h .P) (h .R) (wordsOf values) (h .d) i steps out)
+  pub write-effect : (rooms : Rooms) (steps : ℕ) (out : List ℕ) → effectAt (h .P) (h .R) rooms (cellsOf values) (h .d) i steps out
+      ≡ adding rooms (stepHere code values base i h .place) (lineAt (h .text) (cellsOf code) (i + 1)) (stateIn (h .P) (h .R) (cellsOf values) (h .d) i steps out)
       (λ s. made (onTop (goTo (stepHere code values base i h .after)) s))
   unfolding perform writing
   write-effect rooms steps out =
-      effect-here code values base i h rooms steps out (stepHere code values base i h .after) (write (charactersAt (h .text) (wordsOf code) (i + 1)) none) refl
+      effect-here code values base i h rooms steps out (stepHere code values base i h .after) (write (charactersAt (h .text) (cellsOf code) (i + 1)) none) refl
       (reads .does-is ∙ ap (λ (s : List ℕ). write s none) s-is)
 
 -- ---- each return of `write`
 module _ (text code values out : List ℕ) (i : ℕ) (w : Writes text code values out i) where
-  op-at : opAt (wordsOf code) i ≡ aWrite
+  op-at : opAt (cellsOf code) i ≡ aWrite
   op-at = w .op
 
   pub write-low : i < wordLimit
@@ -246,33 +246,33 @@ module _ (text code values out : List ℕ) (i : ℕ) (w : Writes text code value
   spells-text : Spells text code (i + 1)
   spells-text = subst (λ (t : List ℕ). Spells t code (i + 1)) (w .prints .text-is) (write-spells code values (w .base) i (w .prints .here) (w .op))
 
-  module _ (at : ℕ) (ea : at ≡ countIn (wordsOf values)) (n : ℕ) (en : n ≡ valueAt (wordsOf code) (i + 1) / charactersPart) where
-    line-long : length (lineAt text (wordsOf code) (i + 1)) ≡ n + 1
-    line-long = length-append (charactersAt text (wordsOf code) (i + 1)) (LF ∷ []) ∙ ap (λ (k : ℕ). k + 1) (sym (en ∙ spells-text .many))
+  module _ (at : ℕ) (ea : at ≡ countIn (cellsOf values)) (n : ℕ) (en : n ≡ valueAt (cellsOf code) (i + 1) / charactersPart) where
+    line-long : length (lineAt text (cellsOf code) (i + 1)) ≡ n + 1
+    line-long = length-append (charactersAt text (cellsOf code) (i + 1)) (LF ∷ []) ∙ ap (λ (k : ℕ). k + 1) (sym (en ∙ spells-text .many))
 
     pub write-lacks : length out - at ≤ n → Wrote text code values values out out i (toZ w64 (roomLacked + i))
     write-lacks g = record {
       steps = λ inputs base last. silent text code values values inputs out base last i (toZ w64 (roomLacked + i)) refl (λ c x y. refl) (w .prints .written)
           (λ h t rooms lw l steps. lacks-room code values base i h steps out _
           (write-effect code values base i h (w .op) rooms steps out
-          ∙ adding-lacks code values base i h out (w .prints .written) rooms (l .room) (stepHere code values base i h .place) steps (lineAt (h .text) (wordsOf code) (i + 1)) _
-          (subst (λ (x : List ℕ). length out < countIn (wordsOf values) + length (lineAt x (wordsOf code) (i + 1))) (sym t) (omega (arith, line-long, w .prints .written)))));
+          ∙ adding-lacks code values base i h out (w .prints .written) rooms (l .room) (stepHere code values base i h .place) steps (lineAt (h .text) (cellsOf code) (i + 1)) _
+          (subst (λ (x : List ℕ). length out < countIn (cellsOf values) + length (lineAt x (cellsOf code) (i + 1))) (sym t) (omega (arith, line-long, w .prints .written)))));
     }
 
     module _ (g : n < length out - at) where
-      room : countIn (wordsOf values) + length (lineAt text (wordsOf code) (i + 1)) ≤ length out
+      room : countIn (cellsOf values) + length (lineAt text (cellsOf code) (i + 1)) ≤ length out
       room = omega (arith, line-long)
 
-      pub write-adds : Spells text code (i + 1) × HasRoom values out (lineAt text (wordsOf code) (i + 1))
+      pub write-adds : Spells text code (i + 1) × HasRoom values out (lineAt text (cellsOf code) (i + 1))
       write-adds = (spells-text, record { room = room; cells = omega (arith, w .prints .here .values-size) })
 
-      pub write-done : (after out′ : List ℕ) → Added values after out out′ (lineAt text (wordsOf code) (i + 1)) → (l : ℕ) → l ≡ linkAt (wordsOf code) i
+      pub write-done : (after out′ : List ℕ) → Added values after out out′ (lineAt text (cellsOf code) (i + 1)) → (l : ℕ) → l ≡ linkAt (cellsOf code) i
           → Wrote text code values after out out′ i (toZ w64 l)
       write-done after out′ a l el = record {
-        steps = λ inputs base last. lined text code values after inputs out out′ (lineAt text (wordsOf code) (i + 1)) base last i (toZ w64 l) a (w .prints .here .values-size) room
+        steps = λ inputs base last. lined text code values after inputs out out′ (lineAt text (cellsOf code) (i + 1)) base last i (toZ w64 l) a (w .prints .here .values-size) room
             (λ h t rooms lw k steps.
-            goes-lined code values base i h after out out′ (lineAt text (wordsOf code) (i + 1)) a room steps l _ (el ∙ sym (write-link code values base i h (w .op)))
+            goes-lined code values base i h after out out′ (lineAt text (cellsOf code) (i + 1)) a room steps l _ (el ∙ sym (write-link code values base i h (w .op)))
             (write-effect code values base i h (w .op) rooms steps out
-            ∙ ap (λ (x : List ℕ). adding rooms (stepHere code values base i h .place) (lineAt x (wordsOf code) (i + 1)) (stateIn (h .P) (h .R) (wordsOf values) (h .d) i steps out) (λ s. made (onTop (goTo (stepHere code values base i h .after)) s))) t
-            ∙ adding-fits code values base i h out (w .prints .written) rooms (k .room) (stepHere code values base i h .place) steps (lineAt text (wordsOf code) (i + 1)) _ room));
+            ∙ ap (λ (x : List ℕ). adding rooms (stepHere code values base i h .place) (lineAt x (cellsOf code) (i + 1)) (stateIn (h .P) (h .R) (cellsOf values) (h .d) i steps out) (λ s. made (onTop (goTo (stepHere code values base i h .after)) s))) t
+            ∙ adding-fits code values base i h out (w .prints .written) rooms (k .room) (stepHere code values base i h .place) steps (lineAt text (cellsOf code) (i + 1)) _ room));
       }

@@ -19,14 +19,14 @@ use Rattle.paper.specs.Steps.{read}
 use Rattle.paper.specs.States.{Location, locationOf, State, Rooms, Effect, made, failing, lacking, withOutput, withInput, goTo, onTop, storeAt, memoryOf, withValue, withSpot}
 use Rattle.paper.specs.Running.{perform, adding, taking, readNum}
 use Rattle.store_numbers.proofs.Whole as whole
-use Rattle.store_cells.specs.Words.{wordsOf}
+use Rattle.store_cells.specs.Cells.{cellsOf}
 use Rattle.store_cells.proofs.Laws.{length-words}
 use Rattle.code.specs.Cells.{windowOf, opAt, valueAt, linkAt}
 use Rattle.code.specs.Spans.{memoryIn}
 use Rattle.code.specs.Windows.{routineCell, writtenCell, usedCell, stateIn}
 use Rattle.store_reading.specs.Reading.{cellValues}
 use Rattle.store_evaluation.specs.Answers.{firstError, Stores}
-use Rattle.run_machine.specs.Live.{Live, codeOfCall, wordsOfCall}
+use Rattle.run_machine.specs.Live.{Live, codeOfCall, slotsOfCall}
 use Rattle.run_machine.specs.Machine.{Here, LastWindow, Lends, Comes, goesOn, lacks, lackedBy, Stepped, effectAt, Says}
 use Rattle.run_machine.specs.Machine as machine
 use Rattle.run_targets.specs.Targets.{Target, Spotted, Tells, RefFits, refCell, spotIn}
@@ -49,18 +49,18 @@ use Rattle.paper.specs.Answer.{storeWords}
 use Rattle.run_output.proofs.Printing.{count-is, low-step, silent, added-count, added-used, added-long, added-past, added-live, added-state, adding-fits, adding-lacks, lacks-room, no-room-fits}
 
 -- ---- the step, by the cells
-module _ (code values : List ℕ) (base i : ℕ) (h : Here code values base i) (o : opAt (wordsOf code) i ≡ aRead) where
-  pub reads : Actions.ReadsNum (here.m code values base i h) (here.n code values base i h) (codeHere code values base i h .function) (h .text) (h .R) (wordsOf code) i (stepHere code values base i h .after) (stepHere code values base i h .does)
+module _ (code values : List ℕ) (base i : ℕ) (h : Here code values base i) (o : opAt (cellsOf code) i ≡ aRead) where
+  pub reads : Actions.ReadsNum (here.m code values base i h) (here.n code values base i h) (codeHere code values base i h .function) (h .text) (h .R) (cellsOf code) i (stepHere code values base i h .after) (stepHere code values base i h .does)
   reads = Actions.reads-read _ _ _ _ _ _ i _ _ (action-here code values base i h) o
 
-  says : Actions.Characters (here.m code values base i h) (here.n code values base i h) (codeHere code values base i h .function) (h .text) (h .R) (wordsOf code) (valueAt (wordsOf code) i) (reads .s)
-  says = Actions.characters _ _ _ _ _ _ (valueAt (wordsOf code) i) (reads .s) (reads .says)
+  says : Actions.Characters (here.m code values base i h) (here.n code values base i h) (codeHere code values base i h .function) (h .text) (h .R) (cellsOf code) (valueAt (cellsOf code) i) (reads .s)
+  says = Actions.characters _ _ _ _ _ _ (valueAt (cellsOf code) i) (reads .s) (reads .says)
 
-  s-is : reads .s ≡ charactersAt (h .text) (wordsOf code) (valueAt (wordsOf code) i)
+  s-is : reads .s ≡ charactersAt (h .text) (cellsOf code) (valueAt (cellsOf code) i)
   unfolding charactersAt
   s-is = says .is
 
-  spells : (s : ℕ) → s ≡ valueAt (wordsOf code) i → Spells (h .text) code s
+  spells : (s : ℕ) → s ≡ valueAt (cellsOf code) i → Spells (h .text) code s
   spells s e = rw e (record { many = says .count ∙ ap length s-is; whole = whole-here code values base i h })
 
   target-here : Target code (i + 1)
@@ -76,36 +76,36 @@ module _ (code values : List ℕ) (base i : ℕ) (h : Here code values base i) (
     inside = omega (arith, small-next code values base i h i (h .live .named), h .code-size);
   }
 
-  read-effect : (s : ℕ) → s ≡ valueAt (wordsOf code) i → (rooms : Rooms) (steps : ℕ) (out : List ℕ) → effectAt (h .P) (h .R) rooms (wordsOf values) (h .d) i steps out
+  read-effect : (s : ℕ) → s ≡ valueAt (cellsOf code) i → (rooms : Rooms) (steps : ℕ) (out : List ℕ) → effectAt (h .P) (h .R) rooms (cellsOf values) (h .d) i steps out
       ≡ withSpot (memoryOf (stateHere code values base i h rooms steps out) (callHere code values base i h rooms steps out)) (reads .t) (stateHere code values base i h rooms steps out)
-      (λ l. adding rooms (stepHere code values base i h .place) (lineAt (h .text) (wordsOf code) s) (stateHere code values base i h rooms steps out)
+      (λ l. adding rooms (stepHere code values base i h .place) (lineAt (h .text) (cellsOf code) s) (stateHere code values base i h rooms steps out)
       (λ s′. taking (stepHere code values base i h .place) (stepHere code values base i h .after) l (drop (stateHere code values base i h rooms steps out .used) (rooms .inputs)) s′))
   unfolding perform readNum
   read-effect s e rooms steps out =
-      effect-here code values base i h rooms steps out (stepHere code values base i h .after) (read (reads .t) (charactersAt (h .text) (wordsOf code) s)) refl
-      (reads .does-is ∙ ap (read (reads .t)) (s-is ∙ ap (charactersAt (h .text) (wordsOf code)) (sym e)))
+      effect-here code values base i h rooms steps out (stepHere code values base i h .after) (read (reads .t) (charactersAt (h .text) (cellsOf code) s)) refl
+      (reads .does-is ∙ ap (read (reads .t)) (s-is ∙ ap (charactersAt (h .text) (cellsOf code)) (sym e)))
 
   module _ (k : ℤ) (sp : Spotted code values base (i + 1) k) where
-    tells : Tells (here.m code values base i h) (here.n code values base i h) base (spotIn (memoryIn (here.m code values base i h) (here.n code values base i h) (wordsOf values) base) (reads .t)) k
+    tells : Tells (here.m code values base i h) (here.n code values base i h) base (spotIn (memoryIn (here.m code values base i h) (here.n code values base i h) (cellsOf values) base) (reads .t)) k
     tells = sp .is (counts-here code values base i h) (codeHere code values base i h .function) (h .text) (h .R) (reads .t) (reads .j) (reads .target)
 
     -- its index fails
-    read-lost : ltZ k (pos firstError) ≡ false → (s : ℕ) → s ≡ valueAt (wordsOf code) i → (rooms : Rooms) (steps : ℕ) (out : List ℕ)
-        → Comes (h .P) (h .R) (wordsOf code) (h .offset) (h .d) i steps (wordsOf values) (wordsOf values) out out (effectAt (h .P) (h .R) rooms (wordsOf values) (h .d) i steps out) k
+    read-lost : ltZ k (pos firstError) ≡ false → (s : ℕ) → s ≡ valueAt (cellsOf code) i → (rooms : Rooms) (steps : ℕ) (out : List ℕ)
+        → Comes (h .P) (h .R) (cellsOf code) (h .offset) (h .d) i steps (cellsOf values) (cellsOf values) out out (effectAt (h .P) (h .R) rooms (cellsOf values) (h .d) i steps out) k
     read-lost g s es rooms steps out =
         let S = stateHere code values base i h rooms steps out in
         let M = memoryOf S (callHere code values base i h rooms steps out) in
         let q = targeting.told-error (here.m code values base i h) (here.n code values base i h) base _ k (h .holds .room) (here.routine-holds code values base i h .room) (omega (arith, h .base-is, h .deep)) tells g in
         machine.fails (q .0) (q .3) (q .2) (h .live)
         (read-effect s es rooms steps out
-        ∙ spot-lost M S (λ l. adding rooms (stepHere code values base i h .place) (lineAt (h .text) (wordsOf code) s) S
+        ∙ spot-lost M S (λ l. adding rooms (stepHere code values base i h .place) (lineAt (h .text) (cellsOf code) s) S
         (λ s′. taking (stepHere code values base i h .place) (stepHere code values base i h .after) l (drop (S .used) (rooms .inputs)) s′)) (reads .t) (q .0)
         (ap (λ (N : Memory). spotIn N (reads .t)) (memory-is code values base i h rooms steps out) ∙ q .1))
 
     module _ (g : ltZ k (pos firstError) ≡ true) where
       pub record Aimed : Type 0 where
         pub w : Ref
-        pub is : spotIn (memoryIn (here.m code values base i h) (here.n code values base i h) (wordsOf values) base) (reads .t) ≡ at w
+        pub is : spotIn (memoryIn (here.m code values base i h) (here.n code values base i h) (cellsOf values) base) (reads .t) ≡ at w
         pub fits : RefFits (here.m code values base i h) (here.n code values base i h) w 1
         pub cell : k ≡ pos (refCell (windowOf (h .d)) w)
 
@@ -114,27 +114,27 @@ module _ (code values : List ℕ) (base i : ℕ) (h : Here code values base i) (
           let q = targeting.told-less (here.m code values base i h) (here.n code values base i h) base _ k tells g in
           record { w = q .0; is = q .1; fits = q .2; cell = q .3 ∙ ap (λ (b : ℕ). pos (refCell b (q .0))) (h .base-is) }
 
-      found-effect : (s : ℕ) → s ≡ valueAt (wordsOf code) i → (rooms : Rooms) (steps : ℕ) (out : List ℕ) → effectAt (h .P) (h .R) rooms (wordsOf values) (h .d) i steps out
-          ≡ adding rooms (stepHere code values base i h .place) (lineAt (h .text) (wordsOf code) s) (stateHere code values base i h rooms steps out)
+      found-effect : (s : ℕ) → s ≡ valueAt (cellsOf code) i → (rooms : Rooms) (steps : ℕ) (out : List ℕ) → effectAt (h .P) (h .R) rooms (cellsOf values) (h .d) i steps out
+          ≡ adding rooms (stepHere code values base i h .place) (lineAt (h .text) (cellsOf code) s) (stateHere code values base i h rooms steps out)
           (λ s′. taking (stepHere code values base i h .place) (stepHere code values base i h .after) (locationOf (suc (h .d)) (aimed .w)) (drop (stateHere code values base i h rooms steps out .used) (rooms .inputs)) s′)
       found-effect s es rooms steps out =
           let S = stateHere code values base i h rooms steps out in
           let M = memoryOf S (callHere code values base i h rooms steps out) in
-          let go : Location → Effect = λ l. adding rooms (stepHere code values base i h .place) (lineAt (h .text) (wordsOf code) s) S
+          let go : Location → Effect = λ l. adding rooms (stepHere code values base i h .place) (lineAt (h .text) (cellsOf code) s) S
           (λ s′. taking (stepHere code values base i h .place) (stepHere code values base i h .after) l (drop (S .used) (rooms .inputs)) s′) in
           read-effect s es rooms steps out
           ∙ spot-found M S go (reads .t) (aimed .w) (ap (λ (N : Memory). spotIn N (reads .t)) (memory-is code values base i h rooms steps out) ∙ aimed .is)
-          ∙ ap (λ (n : ℕ). go (locationOf n (aimed .w))) (depth-is (h .P) (h .R) (wordsOf values) (h .d) i steps out)
+          ∙ ap (λ (n : ℕ). go (locationOf n (aimed .w))) (depth-is (h .P) (h .R) (cellsOf values) (h .d) i steps out)
 
 -- ---- the inputs
 module _ (inputs : List ℕ) (used : ℕ) where
-  pub no-input : length inputs / 4 ≤ used → drop used (map (toZ w32) (wordsOf inputs)) ≡ []
-  no-input h = drop-of-length-le (map (toZ w32) (wordsOf inputs)) {i = used} (omega (arith, length-map (wordsOf inputs) (toZ w32), length-words inputs))
+  pub no-input : length inputs / 4 ≤ used → drop used (map (toZ w32) (cellsOf inputs)) ≡ []
+  no-input h = drop-of-length-le (map (toZ w32) (cellsOf inputs)) {i = used} (omega (arith, length-map (cellsOf inputs) (toZ w32), length-words inputs))
 
-  pub next-input : used < length inputs / 4 → drop used (map (toZ w32) (wordsOf inputs)) ≡ inputAt inputs used ∷ drop (suc used) (map (toZ w32) (wordsOf inputs))
+  pub next-input : used < length inputs / 4 → drop used (map (toZ w32) (cellsOf inputs)) ≡ inputAt inputs used ∷ drop (suc used) (map (toZ w32) (cellsOf inputs))
   next-input h =
-      drop-cons (map (toZ w32) (wordsOf inputs)) used (toZ w32 0) (omega (arith, length-map (wordsOf inputs) (toZ w32), length-words inputs))
-      ∙ ap (λ (z : ℤ). z ∷ drop (suc used) (map (toZ w32) (wordsOf inputs))) (List·getD-map (toZ w32) (wordsOf inputs) used 0)
+      drop-cons (map (toZ w32) (cellsOf inputs)) used (toZ w32 0) (omega (arith, length-map (cellsOf inputs) (toZ w32), length-words inputs))
+      ∙ ap (λ (z : ℤ). z ∷ drop (suc used) (map (toZ w32) (cellsOf inputs))) (List·getD-map (toZ w32) (cellsOf inputs) used 0)
 
 taking-none : (place after : ℕ) (l : Location) (zs : List ℤ) (s : State) → zs ≡ [] → taking place after l zs s ≡ lacking 7 place
 unfolding taking
@@ -155,67 +155,67 @@ module _ (place after : ℕ) (l : Location) (z : ℤ) (rest zs : List ℤ) (s : 
 
 -- ---- the line was added, and the input is counted
 module _ (code values : List ℕ) (base i : ℕ) (h : Here code values base i) (mid out out′ line : List ℕ) (a : Added values mid out out′ line)
-    (fits : countIn (wordsOf values) + length line ≤ length out) (used : ℕ) (eu : used ≡ getD (wordsOf values) usedCell 0) where
+    (fits : countIn (cellsOf values) + length line ≤ length out) (used : ℕ) (eu : used ≡ getD (cellsOf values) usedCell 0) where
   abbrev Y : List ℕ
-  Y = set (wordsOf mid) usedCell (used + 1)
+  Y = set (cellsOf mid) usedCell (used + 1)
 
-  mid-long : length (wordsOf mid) ≡ storeWords
+  mid-long : length (cellsOf mid) ≡ storeWords
   mid-long = omega (arith, length-words mid, a .count .long, h .values-size)
 
-  mid-roomy : Roomy (h .P) (wordsOf mid) (h .d)
+  mid-roomy : Roomy (h .P) (cellsOf mid) (h .d)
   mid-roomy = record { long = mid-long; deep = h .deep; words = roomy h .words; calls = roomy h .calls }
 
   pub Y-roomy : Roomy (h .P) Y (h .d)
-  Y-roomy = record { long = length-set (wordsOf mid) usedCell (used + 1) ∙ mid-long; deep = h .deep; words = roomy h .words; calls = roomy h .calls }
+  Y-roomy = record { long = length-set (cellsOf mid) usedCell (used + 1) ∙ mid-long; deep = h .deep; words = roomy h .words; calls = roomy h .calls }
 
   counted-state : (steps : ℕ) → stateIn (h .P) (h .R) Y (h .d) i steps out′
-      ≡ withInput (withOutput (stateIn (h .P) (h .R) (wordsOf values) (h .d) i steps out .output ++ line) (stateIn (h .P) (h .R) (wordsOf values) (h .d) i steps out))
+      ≡ withInput (withOutput (stateIn (h .P) (h .R) (cellsOf values) (h .d) i steps out .output ++ line) (stateIn (h .P) (h .R) (cellsOf values) (h .d) i steps out))
   counted-state steps =
-      used-cell (h .P) (h .R) (wordsOf mid) (h .d) mid-roomy (used + 1) i steps out′ (ap (λ (x : ℕ). x + 1) (eu ∙ sym (added-used values mid out out′ line a (h .values-size) fits)))
+      used-cell (h .P) (h .R) (cellsOf mid) (h .d) mid-roomy (used + 1) i steps out′ (ap (λ (x : ℕ). x + 1) (eu ∙ sym (added-used values mid out out′ line a (h .values-size) fits)))
       ∙ ap withInput (added-state values mid out out′ line a (h .values-size) fits code base i h steps)
 
-  counted-live : (n : ℕ) → Live (h .P) (h .R) (wordsOf values) (h .d) n → Live (h .P) (h .R) Y (h .d) n
+  counted-live : (n : ℕ) → Live (h .P) (h .R) (cellsOf values) (h .d) n → Live (h .P) (h .R) Y (h .d) n
   counted-live n l =
-      live-run (h .P) (h .R) (wordsOf mid) (h .d) usedCell (used + 1) n (added-live values mid out out′ line a (h .values-size) fits code base i h n l) (omega arith) (omega arith)
+      live-run (h .P) (h .R) (cellsOf mid) (h .d) usedCell (used + 1) n (added-live values mid out out′ line a (h .values-size) fits code base i h n l) (omega arith) (omega arith)
 
-  kept-mid : (c : ℕ) → (c ≡ writtenCell → ⊥) → (c ≡ suc writtenCell → ⊥) → getD (wordsOf mid) c 0 ≡ getD (wordsOf values) c 0
+  kept-mid : (c : ℕ) → (c ≡ writtenCell → ⊥) → (c ≡ suc writtenCell → ⊥) → getD (cellsOf mid) c 0 ≡ getD (cellsOf values) c 0
   kept-mid c x y =
-      let k = countIn (wordsOf values) + length line in
+      let k = countIn (cellsOf values) + length line in
       ap (λ (z : List ℕ). getD z c 0) (a .count .words)
-      ∙ getD-set-other (set (wordsOf values) writtenCell (k % cellValues)) (suc writtenCell) c (k / cellValues) 0 y
-      ∙ getD-set-other (wordsOf values) writtenCell c (k % cellValues) 0 x
+      ∙ getD-set-other (set (cellsOf values) writtenCell (k % cellValues)) (suc writtenCell) c (k / cellValues) 0 y
+      ∙ getD-set-other (cellsOf values) writtenCell c (k % cellValues) 0 x
 
-  same-routine : Same (wordsOf values) Y (windowOf (h .d) + routineCell)
+  same-routine : Same (cellsOf values) Y (windowOf (h .d) + routineCell)
   same-routine =
-      getD-set-other (wordsOf mid) usedCell (windowOf (h .d) + routineCell) (used + 1) 0 (λ e. omega arith)
+      getD-set-other (cellsOf mid) usedCell (windowOf (h .d) + routineCell) (used + 1) 0 (λ e. omega arith)
       ∙ kept-mid (windowOf (h .d) + routineCell) (λ e. omega arith) (λ e. omega arith)
 
-  fits-now : (w : Ref) → RefFits (here.m code values base i h) (here.n code values base i h) w 1 → RefFits (length (h .P .words)) (wordsOfCall (codeOfCall (h .P) (h .R) Y (h .d))) w 1
-  fits-now w f = subst (λ c. RefFits (length (h .P .words)) (wordsOfCall c) w 1) (sym (routine-code (h .P) (h .R) (wordsOf values) Y (h .d) same-routine)) f
+  fits-now : (w : Ref) → RefFits (here.m code values base i h) (here.n code values base i h) w 1 → RefFits (length (h .P .words)) (slotsOfCall (codeOfCall (h .P) (h .R) Y (h .d))) w 1
+  fits-now w f = subst (λ c. RefFits (length (h .P .words)) (slotsOfCall c) w 1) (sym (routine-code (h .P) (h .R) (cellsOf values) Y (h .d) same-routine)) f
 
-  count-kept : (c : ℕ) → writtenCell ≤ c → c ≤ suc writtenCell → getD Y c 0 ≡ getD (wordsOf mid) c 0
-  count-kept c x y = getD-set-other (wordsOf mid) usedCell c (used + 1) 0 (λ e. omega arith)
+  count-kept : (c : ℕ) → writtenCell ≤ c → c ≤ suc writtenCell → getD Y c 0 ≡ getD (cellsOf mid) c 0
+  count-kept c x y = getD-set-other (cellsOf mid) usedCell c (used + 1) 0 (λ e. omega arith)
 
   -- as any step, where the count of bytes is that of the line
   module _ (text inputs after : List ℕ) (last : ℕ) (r : ℤ) (long : length after ≡ length mid)
-      (kept : (c : ℕ) → writtenCell ≤ c → c ≤ usedCell → getD (wordsOf after) c 0 ≡ getD Y c 0) where
-    same-count : countIn (wordsOf after) ≡ countIn (wordsOf mid)
+      (kept : (c : ℕ) → writtenCell ≤ c → c ≤ usedCell → getD (cellsOf after) c 0 ≡ getD Y c 0) where
+    same-count : countIn (cellsOf after) ≡ countIn (cellsOf mid)
     same-count =
         ap₂ (λ (x y : ℕ). x + cellValues * y) (kept writtenCell (omega arith) (omega arith) ∙ count-kept writtenCell (omega arith) (omega arith))
         (kept (suc writtenCell) (omega arith) (omega arith) ∙ count-kept (suc writtenCell) (omega arith) (omega arith))
 
     pub consumed : ((h : Here code values base i) → h .text ≡ text → (rooms : Rooms) → LastWindow rooms last → Lends rooms inputs out → (steps : ℕ) →
-        Comes (h .P) (h .R) (wordsOf code) (h .offset) (h .d) i steps (wordsOf values) (wordsOf after) out out′ (effectAt (h .P) (h .R) rooms (wordsOf values) (h .d) i steps out) r)
+        Comes (h .P) (h .R) (cellsOf code) (h .offset) (h .d) i steps (cellsOf values) (cellsOf after) out out′ (effectAt (h .P) (h .R) rooms (cellsOf values) (h .d) i steps out) r)
         → Stepped text code values after inputs out out′ base last i r
     consumed d = record {
       long = long ∙ a .count .long;
       out-long = added-long values mid out out′ line a (h .values-size) fits;
       does = d;
-      grows = λ P R. rw (count-is P R (wordsOf after), count-is P R (wordsOf values)) (omega (arith, same-count, added-count values mid out out′ line a (h .values-size) fits));
-      written = λ P R. rw (count-is P R (wordsOf after), same-count, added-count values mid out out′ line a (h .values-size) fits) fits;
-      past = λ P R. rw (count-is P R (wordsOf after), same-count) (added-past values mid out out′ line a (h .values-size) fits);
+      grows = λ P R. rw (count-is P R (cellsOf after), count-is P R (cellsOf values)) (omega (arith, same-count, added-count values mid out out′ line a (h .values-size) fits));
+      written = λ P R. rw (count-is P R (cellsOf after), same-count, added-count values mid out out′ line a (h .values-size) fits) fits;
+      past = λ P R. rw (count-is P R (cellsOf after), same-count) (added-past values mid out out′ line a (h .values-size) fits);
       used =
-          let u : getD (wordsOf after) usedCell 0 ≡ used + 1 = kept usedCell (omega arith) (omega arith) ∙ getD-set-same (wordsOf mid) usedCell (used + 1) 0 (omega (arith, mid-long)) in
+          let u : getD (cellsOf after) usedCell 0 ≡ used + 1 = kept usedCell (omega arith) (omega arith) ∙ getD-set-same (cellsOf mid) usedCell (used + 1) 0 (omega (arith, mid-long)) in
           omega (arith, eu);
     }
 
@@ -272,9 +272,9 @@ pub record Asking : Type 0 where
   pub spot : Spotted code values base (i + 1) k
   pub found : leZ (pos firstError) (whole.read k) ≡ false
   pub at : ℕ
-  pub at-is : at ≡ countIn (wordsOf values)
+  pub at-is : at ≡ countIn (cellsOf values)
   pub n : ℕ
-  pub n-is : n ≡ valueAt (wordsOf code) s / charactersPart
+  pub n-is : n ≡ valueAt (cellsOf code) s / charactersPart
 
 module _ (here : Asking) where
   open Asking here using (text, code, values, inputs, out, base, i, s, reads as p, says as q, k, fits as fk, spot as sp, found as g, at, at-is as ea, n, n-is as en)
@@ -283,21 +283,21 @@ module _ (here : Asking) where
   aim h = aimed code values base i h (q .op-is) k sp (told-value k fk g)
 
   abbrev line : List ℕ
-  line = lineAt text (wordsOf code) s
+  line = lineAt text (cellsOf code) s
 
   line-long : length line ≡ n + 1
-  line-long = length-append (charactersAt text (wordsOf code) s) (LF ∷ []) ∙ ap (λ (k : ℕ). k + 1) (sym (en ∙ spells-text text code values inputs out base i s p q .many))
+  line-long = length-append (charactersAt text (cellsOf code) s) (LF ∷ []) ∙ ap (λ (k : ℕ). k + 1) (sym (en ∙ spells-text text code values inputs out base i s p q .many))
 
   abbrev takes-on : (h : Here code values base i) (rooms : Rooms) (steps : ℕ) → State → Effect
   takes-on h rooms steps s′ =
       taking (stepHere code values base i h .place) (stepHere code values base i h .after) (locationOf (suc (h .d)) (aim h .w)) (drop (stateHere code values base i h rooms steps out .used) (rooms .inputs)) s′
 
-  effect-is : (h : Here code values base i) → h .text ≡ text → (rooms : Rooms) (steps : ℕ) → effectAt (h .P) (h .R) rooms (wordsOf values) (h .d) i steps out
+  effect-is : (h : Here code values base i) → h .text ≡ text → (rooms : Rooms) (steps : ℕ) → effectAt (h .P) (h .R) rooms (cellsOf values) (h .d) i steps out
       ≡ adding rooms (stepHere code values base i h .place) line (stateHere code values base i h rooms steps out) (takes-on h rooms steps)
   unfolding aim
   effect-is h x rooms steps =
       found-effect code values base i h (q .op-is) k sp (told-value k fk g) s (q .value-is) rooms steps out
-      ∙ ap (λ (y : List ℕ). adding rooms (stepHere code values base i h .place) (lineAt y (wordsOf code) s) (stateHere code values base i h rooms steps out) (takes-on h rooms steps)) x
+      ∙ ap (λ (y : List ℕ). adding rooms (stepHere code values base i h .place) (lineAt y (cellsOf code) s) (stateHere code values base i h rooms steps out) (takes-on h rooms steps)) x
 
   pub read-lacks : length out - at ≤ n → WasRead text code values values inputs out out base i (toZ w64 (roomLacked + i))
   read-lacks f = record {
@@ -307,15 +307,15 @@ module _ (here : Asking) where
         ∙ adding-lacks code values base i h out (p .prints .written) rooms (l .room) (stepHere code values base i h .place) steps line _ (omega (arith, line-long, p .prints .written))));
   }
 
-  module _ (f : n < length out - at) (used : ℕ) (eu : used ≡ getD (wordsOf values) usedCell 0) where
-    room : countIn (wordsOf values) + length line ≤ length out
+  module _ (f : n < length out - at) (used : ℕ) (eu : used ≡ getD (cellsOf values) usedCell 0) where
+    room : countIn (cellsOf values) + length line ≤ length out
     room = omega (arith, line-long)
 
-    inputs-are : (h : Here code values base i) (rooms : Rooms) → Lends rooms inputs out → (steps : ℕ) → drop (stateHere code values base i h rooms steps out .used) (rooms .inputs) ≡ drop used (map (toZ w32) (wordsOf inputs))
+    inputs-are : (h : Here code values base i) (rooms : Rooms) → Lends rooms inputs out → (steps : ℕ) → drop (stateHere code values base i h rooms steps out .used) (rooms .inputs) ≡ drop used (map (toZ w32) (cellsOf inputs))
     unfolding stateIn
     inputs-are h rooms l steps = ap₂ (λ (u : ℕ) (zs : List ℤ). drop u zs) (sym eu) (l .reads)
 
-    added-effect : (h : Here code values base i) → h .text ≡ text → (rooms : Rooms) → Lends rooms inputs out → (steps : ℕ) → effectAt (h .P) (h .R) rooms (wordsOf values) (h .d) i steps out
+    added-effect : (h : Here code values base i) → h .text ≡ text → (rooms : Rooms) → Lends rooms inputs out → (steps : ℕ) → effectAt (h .P) (h .R) rooms (cellsOf values) (h .d) i steps out
         ≡ takes-on h rooms steps (withOutput (stateHere code values base i h rooms steps out .output ++ line) (stateHere code values base i h rooms steps out))
     added-effect h x rooms l steps =
         effect-is h x rooms steps ∙ adding-fits code values base i h out (p .prints .written) rooms (l .room) (stepHere code values base i h .place) steps line (takes-on h rooms steps) room
@@ -339,11 +339,11 @@ pub record Asked : Type 0 where
   pub asking : Asking
   pub room : asking .n < length (asking .out) - asking .at
   pub used : ℕ
-  pub used-is : used ≡ getD (wordsOf (asking .values)) usedCell 0
+  pub used-is : used ≡ getD (cellsOf (asking .values)) usedCell 0
   pub more : used < length (asking .inputs) / 4
   pub mid : List ℕ
   pub out′ : List ℕ
-  pub added : Added (asking .values) mid (asking .out) out′ (lineAt (asking .text) (wordsOf (asking .code)) (asking .s))
+  pub added : Added (asking .values) mid (asking .out) out′ (lineAt (asking .text) (cellsOf (asking .code)) (asking .s))
 
 module _ (known : Asked) where
   open Asked known using (asking as here, room as f, used, used-is as eu, more as e, mid, out′, added as a)
@@ -356,13 +356,13 @@ module _ (known : Asked) where
   read-cast =
       let h = p .prints .here in
       let c : whole.read k ≡ pos (refCell (windowOf (h .d)) (aim here h .w)) = toZ-ofZ fk ∙ aim here h .cell in
-      let l = ref-inside (h .P) (h .R) (wordsOf values) (h .d) (roomy h) (aim here h .w) (aim here h .fits) in
+      let l = ref-inside (h .P) (h .R) (cellsOf values) (h .d) (roomy h) (aim here h .w) (aim here h .fits) in
       rw c (tt, record { fits = omega arith })
 
   pub read-takes : Takes mid inputs used (natAbs (whole.read k))
   read-takes =
       let h = p .prints .here in
-      let l = ref-inside (h .P) (h .R) (wordsOf values) (h .d) (roomy h) (aim here h .w) (aim here h .fits) in
+      let l = ref-inside (h .P) (h .R) (cellsOf values) (h .d) (roomy h) (aim here h .w) (aim here h .fits) in
       record {
         cell-in = omega (arith, cell-is h, a .count .long, h .values-size);
         used-in = omega (arith, a .count .long, h .values-size);
@@ -385,40 +385,40 @@ module _ (known : Asked) where
       abbrev v : ℕ
       v = ofZ w32 (inputAt inputs used)
 
-      words-are : (h : Here code values base i) → wordsOf after ≡ set (set (wordsOf mid) usedCell (used + 1)) (refCell (windowOf (h .d)) (aim here h .w)) v
-      words-are h = t .stored z ∙ ap (λ (c : ℕ). set (set (wordsOf mid) usedCell (used + 1)) c v) (cell-is h)
+      words-are : (h : Here code values base i) → cellsOf after ≡ set (set (cellsOf mid) usedCell (used + 1)) (refCell (windowOf (h .d)) (aim here h .w)) v
+      words-are h = t .stored z ∙ ap (λ (c : ℕ). set (set (cellsOf mid) usedCell (used + 1)) c v) (cell-is h)
 
-      fits-at : (h : Here code values base i) → RefFits (length (h .P .words)) (wordsOfCall (codeOfCall (h .P) (h .R) (set (wordsOf mid) usedCell (used + 1)) (h .d))) (aim here h .w) 1
+      fits-at : (h : Here code values base i) → RefFits (length (h .P .words)) (slotsOfCall (codeOfCall (h .P) (h .R) (set (cellsOf mid) usedCell (used + 1)) (h .d))) (aim here h .w) 1
       fits-at h = fits-now code values base i h mid out out′ (line here) a (room here f used eu) used eu (aim here h .w) (aim here h .fits)
 
-      stored-state : (h : Here code values base i) (rooms : Rooms) (steps : ℕ) → stateIn (h .P) (h .R) (wordsOf after) (h .d) i steps out′
+      stored-state : (h : Here code values base i) (rooms : Rooms) (steps : ℕ) → stateIn (h .P) (h .R) (cellsOf after) (h .d) i steps out′
           ≡ storeAt (locationOf (suc (h .d)) (aim here h .w)) (inputAt inputs used) (withInput (withOutput (stateHere code values base i h rooms steps out .output ++ line here) (stateHere code values base i h rooms steps out)))
       stored-state h rooms steps =
-          let Y = set (wordsOf mid) usedCell (used + 1) in
+          let Y = set (cellsOf mid) usedCell (used + 1) in
           ap (λ (w : List ℕ). stateIn (h .P) (h .R) w (h .d) i steps out′) (words-are h)
           ∙ ref-word (h .P) (h .R) Y (h .d) (Y-roomy code values base i h mid out out′ (line here) a (room here f used eu) used eu) (aim here h .w) (fits-at h) v i steps out′
           ∙ ap₂ (λ (n : ℕ) (x : ℤ). storeAt (locationOf n (aim here h .w)) x (stateIn (h .P) (h .R) Y (h .d) i steps out′)) (depth-is (h .P) (h .R) Y (h .d) i steps out′) (toZ-ofZ (t .small))
           ∙ ap (storeAt (locationOf (suc (h .d)) (aim here h .w)) (inputAt inputs used)) (counted-state code values base i h mid out out′ (line here) a (room here f used eu) used eu steps)
 
-      pub read-done : (l : ℕ) → l ≡ linkAt (wordsOf code) i → WasRead text code values after inputs out out′ base i (toZ w64 l)
+      pub read-done : (l : ℕ) → l ≡ linkAt (cellsOf code) i → WasRead text code values after inputs out out′ base i (toZ w64 l)
       read-done m em = record {
         steps = λ last. consumed code values base i (p .prints .here) mid out out′ (line here) a (room here f used eu) used eu text inputs after last (toZ w64 m) (t .long)
             (λ c x y. let h = p .prints .here in
             ap (λ (w : List ℕ). getD w c 0) (words-are h)
-            ∙ ref-kept (h .P) (h .R) (set (wordsOf mid) usedCell (used + 1)) (h .d) (Y-roomy code values base i h mid out out′ (line here) a (room here f used eu) used eu) (aim here h .w) (fits-at h) v c x y)
+            ∙ ref-kept (h .P) (h .R) (set (cellsOf mid) usedCell (used + 1)) (h .d) (Y-roomy code values base i h mid out out′ (line here) a (room here f used eu) used eu) (aim here h .w) (fits-at h) v c x y)
             (λ h x rooms lw l steps.
             let st = stepHere code values base i h in
             let na = named-after code values base i h in
             let n-is : m ≡ st .after = em ∙ sym (reads code values base i h (q .op-is) .after-is) in
             goesOn m (toZ-pos w64 {n = m} (omega (arith, small-name code values base i h (st .after) na .1)))
-            (subst (Live (h .P) (h .R) (wordsOf after) (h .d)) (sym n-is)
+            (subst (Live (h .P) (h .R) (cellsOf after) (h .d)) (sym n-is)
             (subst (λ (w : List ℕ). Live (h .P) (h .R) w (h .d) (st .after)) (sym (words-are h))
-            (ref-live (h .P) (h .R) (set (wordsOf mid) usedCell (used + 1)) (h .d) (Y-roomy code values base i h mid out out′ (line here) a (room here f used eu) used eu) (aim here h .w) (fits-at h) v (st .after)
-            (counted-live code values base i h mid out out′ (line here) a (room here f used eu) used eu (st .after) (live-next (h .P) (h .R) (wordsOf values) (h .d) i (st .after) (h .live) na)))))
+            (ref-live (h .P) (h .R) (set (cellsOf mid) usedCell (used + 1)) (h .d) (Y-roomy code values base i h mid out out′ (line here) a (room here f used eu) used eu) (aim here h .w) (fits-at h) v (st .after)
+            (counted-live code values base i h mid out out′ (line here) a (room here f used eu) used eu (st .after) (live-next (h .P) (h .R) (cellsOf values) (h .d) i (st .after) (h .live) na)))))
             (added-effect here f used eu h x rooms l steps
             ∙ taking-in _ _ _ (inputAt inputs used) _ (drop (stateHere code values base i h rooms steps out .used) (rooms .inputs)) _ (inputs-are here f used eu h rooms l steps ∙ next-input inputs used e) (t .in-num z)
             ∙ ap made
             (ap (onTop (goTo (st .after))) (sym (stored-state h rooms steps))
-            ∙ sym (goes-to (h .P) (h .R) (wordsOf after) (h .d) i steps out′ (st .after))
-            ∙ sym (ap (λ (j : ℕ). stateIn (h .P) (h .R) (wordsOf after) (h .d) j steps out′) n-is))));
+            ∙ sym (goes-to (h .P) (h .R) (cellsOf after) (h .d) i steps out′ (st .after))
+            ∙ sym (ap (λ (j : ℕ). stateIn (h .P) (h .R) (cellsOf after) (h .d) j steps out′) n-is))));
       }

@@ -11,7 +11,7 @@ use Rattle.laws.specs.Lists.{replaced}
 use Rattle.paper.specs.Words.{LF}
 use Rattle.paper.specs.Numbers.{num, value, error, ranged, overflow, decimal}
 use Rattle.paper.specs.Steps.{unquoted}
-use Rattle.store_cells.specs.Words.{wordsOf}
+use Rattle.store_cells.specs.Cells.{cellsOf}
 use Rattle.code.specs.Cells.{opAt, valueAt, placeAt}
 use Rattle.code.specs.Steps.{aWrite}
 use Rattle.code.specs.Windows.{writtenCell, usedCell}
@@ -27,7 +27,7 @@ abbrev pub withCount : (X : List ℕ) → ℕ → List ℕ
 withCount X n = set (set X writtenCell (n % cellValues)) (suc writtenCell) (n / cellValues)
 
 pub record Counted (before after : List ℕ) (n : ℕ) : Type 0 where
-  pub words : wordsOf after ≡ withCount (wordsOf before) n
+  pub words : cellsOf after ≡ withCount (cellsOf before) n
   pub long : length after ≡ length before
 
 -- ---- strings
@@ -52,7 +52,7 @@ charactersAt text C i = unquoted (take (valueAt C i % charactersPart - 2) (drop 
 
 -- A string stands at word i: an empty one where there is no such word.
 pub record Spells (text code : List ℕ) (i : ℕ) : Type 0 where
-  pub many : valueAt (wordsOf code) i / charactersPart ≡ length (charactersAt text (wordsOf code) i)
+  pub many : valueAt (cellsOf code) i / charactersPart ≡ length (charactersAt text (cellsOf code) i)
   pub whole : length code % 8 ≡ 0
 
 -- The bytes s stand from `at` on, and r is the place after them.
@@ -70,26 +70,26 @@ lineOf text C i z = charactersAt text C i ++ decimal z ++ (LF ∷ [])
 
 -- There is room for a line behind what is written.
 pub record HasRoom (values out line : List ℕ) : Type 0 where
-  pub room : countIn (wordsOf values) + length line ≤ length out
+  pub room : countIn (cellsOf values) + length line ≤ length out
   pub cells : suc usedCell * 4 ≤ length values
 
 -- The line was added.
 pub record Added (values after out out′ line : List ℕ) : Type 0 where
-  pub count : Counted values after (countIn (wordsOf values) + length line)
-  pub bytes : out′ ≡ replaced out (countIn (wordsOf values)) line (length line)
+  pub count : Counted values after (countIn (cellsOf values) + length line)
+  pub bytes : out′ ≡ replaced out (countIn (cellsOf values)) line (length line)
 
 -- ---- steps
 -- A step of the call with its window at `base` that adds a line.
 pub record Prints (text code values out : List ℕ) (base i : ℕ) : Type 0 where
   pub here : Here code values base i
   pub text-is : here .text ≡ text
-  pub written : countIn (wordsOf values) ≤ length out
+  pub written : countIn (cellsOf values) ≤ length out
 
 -- TPWrite without a number
 pub record Writes (text code values out : List ℕ) (i : ℕ) : Type 0 where
   pub base : ℕ
   pub prints : Prints text code values out base i
-  pub op : opAt (wordsOf code) i ≡ aWrite
+  pub op : opAt (cellsOf code) i ≡ aWrite
 
 pub record Wrote (text code values after out out′ : List ℕ) (i : ℕ) (r : ℤ) : Type 0 where
   pub steps : (inputs : List ℕ) (base last : ℕ) → Stepped text code values after inputs out out′ base last i r
@@ -106,19 +106,19 @@ pub record Takes (values inputs : List ℕ) (used cell : ℕ) : Type 0 where
   pub count : used + 1 < cellValues
 
 abbrev pub inputAt : (inputs : List ℕ) → ℕ → ℤ
-inputAt inputs k = toZ w32 (getD (wordsOf inputs) k 0)
+inputAt inputs k = toZ w32 (getD (cellsOf inputs) k 0)
 
 pub record Took (values after inputs : List ℕ) (used cell : ℕ) (ok : Bool) : Type 0 where
   pub long : length after ≡ length values
   pub small : SFits w32 (inputAt inputs used)
   pub in-num : ok ≡ true → ranged num (inputAt inputs used) ≡ value (inputAt inputs used)
-  pub stored : ok ≡ true → wordsOf after ≡ set (set (wordsOf values) usedCell (used + 1)) cell (ofZ w32 (inputAt inputs used))
+  pub stored : ok ≡ true → cellsOf after ≡ set (set (cellsOf values) usedCell (used + 1)) cell (ofZ w32 (inputAt inputs used))
   pub outside : ok ≡ false → ranged num (inputAt inputs used) ≡ error overflow
-  pub consumed : ok ≡ false → wordsOf after ≡ set (wordsOf values) usedCell (used + 1)
+  pub consumed : ok ≡ false → cellsOf after ≡ set (cellsOf values) usedCell (used + 1)
 
 pub record Reads (text code values inputs out : List ℕ) (base i : ℕ) : Type 0 where
   pub prints : Prints text code values out base i
-  pub count : getD (wordsOf values) usedCell 0 + 1 < cellValues
+  pub count : getD (cellsOf values) usedCell 0 + 1 < cellValues
 
 pub record WasRead (text code values after inputs out out′ : List ℕ) (base i : ℕ) (r : ℤ) : Type 0 where
   pub steps : (last : ℕ) → Stepped text code values after inputs out out′ base last i r

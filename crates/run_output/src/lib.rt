@@ -9,7 +9,7 @@ ghost use Rattle.paper.specs.Basics.{if_then_else_};
 ghost use Rattle.paper.specs.Numbers.{decimal};
 ghost use Rattle.paper.specs.Words.{QUOTE};
 ghost use Rattle.paper.specs.Steps.{unquoted};
-ghost use Rattle.store_cells.specs.Words.{wordsOf};
+ghost use Rattle.store_cells.specs.Cells.{cellsOf};
 ghost use Rattle.code.specs.Cells.{valueAt};
 ghost use Rattle.code.specs.Steps.{aWriteOf, aRead};
 ghost use Rattle.run_machine.specs.Machine.{Says};
@@ -34,7 +34,7 @@ use store_reading::value;
 
 fn written(values: &[u8]) -> usize
     requires { ⌜ suc (suc writtenCell) * 4 ≤ length (now values) ⌝ }
-    ensures { λ r. ⌜ r ≡ countIn (wordsOf (now (values .entry))) ⌝ }
+    ensures { λ r. ⌜ r ≡ countIn (cellsOf (now (values .entry))) ⌝ }
 {
     store_cells::get(values, WRITTEN) as usize
         + HALF * (store_cells::get(values, WRITTEN_HIGH) as usize)
@@ -101,7 +101,7 @@ fn copy<'a>(text: &'a [u8], out: &'a mut [u8], count: usize, bytes: usize)
 // How many characters the string at word i has: none where there is no such word.
 fn characters(code: &[u8], i: usize) -> usize
     requires { ⌜ length (now code) % 8 ≡ 0 ⌝ }
-    ensures { λ r. ⌜ (r ≡ valueAt (wordsOf (now (code .entry))) i / charactersPart) × (r < valueEnd / charactersPart) ⌝ }
+    ensures { λ r. ⌜ (r ≡ valueAt (cellsOf (now (code .entry))) i / charactersPart) × (r < valueEnd / charactersPart) ⌝ }
 {
     if code.len() / 8 <= i {
         return 0;
@@ -111,8 +111,8 @@ fn characters(code: &[u8], i: usize) -> usize
 
 // The string at word i.
 fn string<'a>(text: &'a [u8], code: &'a [u8], out: &'a mut [u8], at: usize, i: usize) -> usize
-    requires { ⌜ Spells (now text) (now code) i × (at + length (charactersAt (now text) (wordsOf (now code)) i) ≤ length (now out)) ⌝ }
-    ensures { λ r. ⌜ Placed (now (out .entry)) (now (out .exit)) at (charactersAt (now (text .entry)) (wordsOf (now (code .entry))) i) r ⌝ }
+    requires { ⌜ Spells (now text) (now code) i × (at + length (charactersAt (now text) (cellsOf (now code)) i) ≤ length (now out)) ⌝ }
+    ensures { λ r. ⌜ Placed (now (out .entry)) (now (out .exit)) at (charactersAt (now (text .entry)) (cellsOf (now (code .entry))) i) r ⌝ }
 {
     let n = characters(code, i);
     if n == 0 {
@@ -136,8 +136,8 @@ fn number(out: &mut [u8], at: usize, z: i64, n: usize)
 
 // The string at word i and LF, behind what is written.
 fn add<'a>(text: &'a [u8], code: &'a [u8], values: &'a mut [u8], out: &'a mut [u8], i: usize)
-    requires { ⌜ Spells (now text) (now code) i × HasRoom (now values) (now out) (lineAt (now text) (wordsOf (now code)) i) ⌝ }
-    ensures { λ _. ⌜ Added (now (values .entry)) (now (values .exit)) (now (out .entry)) (now (out .exit)) (lineAt (now (text .entry)) (wordsOf (now (code .entry))) i) ⌝ }
+    requires { ⌜ Spells (now text) (now code) i × HasRoom (now values) (now out) (lineAt (now text) (cellsOf (now code)) i) ⌝ }
+    ensures { λ _. ⌜ Added (now (values .entry)) (now (values .exit)) (now (out .entry)) (now (out .exit)) (lineAt (now (text .entry)) (cellsOf (now (code .entry))) i) ⌝ }
 {
     let e = string(text, code, out, written(values), i);
     out[e] = b'\n';
@@ -154,8 +154,8 @@ fn add_of<'a>(
     v: i64,
     n: usize,
 )
-    requires { ⌜ Spells (now text) (now code) i × HasRoom (now values) (now out) (lineOf (now text) (wordsOf (now code)) i v) × decimals.Takes v n ⌝ }
-    ensures { λ _. ⌜ Added (now (values .entry)) (now (values .exit)) (now (out .entry)) (now (out .exit)) (lineOf (now (text .entry)) (wordsOf (now (code .entry))) i v) ⌝ }
+    requires { ⌜ Spells (now text) (now code) i × HasRoom (now values) (now out) (lineOf (now text) (cellsOf (now code)) i v) × decimals.Takes v n ⌝ }
+    ensures { λ _. ⌜ Added (now (values .entry)) (now (values .exit)) (now (out .entry)) (now (out .exit)) (lineOf (now (text .entry)) (cellsOf (now (code .entry))) i v) ⌝ }
 {
     let e = string(text, code, out, written(values), i);
     number(out, e, v, n);

@@ -8,7 +8,7 @@ use native.Mathlib.Omega.{arith}
 use lib.ListN.{length}
 use Rattle.laws.proofs.Tests.{by-less, by-same}
 use Rattle.paper.specs.Terms.{Term}
-use Rattle.store_cells.specs.Words.{wordsOf}
+use Rattle.store_cells.specs.Cells.{cellsOf}
 use Rattle.code.specs.Cells.{headAt, opAt, valueAt, linkAt, opIn}
 use Rattle.layout.specs.Parts.{valuePart, loopPart}
 use Rattle.store_evaluation.specs.Parts.{addresses}
@@ -25,7 +25,7 @@ pub record Rest (code : List ℕ) (first end : ℕ) (c : Closes code first end) 
   pub f : ℕ
   pub a : ℕ
   pub es : List Term
-  pub is : argumentsIn (c .m) (c .n) (c .function) (c .text) (c .R) (wordsOf code) (suc f) a b ≡ some (es, c .closing)
+  pub is : argumentsIn (c .m) (c .n) (c .function) (c .text) (c .R) (cellsOf code) (suc f) a b ≡ some (es, c .closing)
 
 abbrev pub Closed : (code : List ℕ) → (first end b : ℕ) → Type 0
 Closed code first end b = (c : Closes code first end) → Rest code first end c b
@@ -40,47 +40,47 @@ grows m n function text R C (suc f) a b es closes e =
 
 module _ (code : List ℕ) (first end : ℕ) where
   pub closed-none : first ≡ end → Closing code first end end
-  closed-none e = record { is = λ c. sym (Actions.no-arguments (c .m) (c .n) (c .function) (c .text) (c .R) (wordsOf code) first end (c .terms) (c .closing) e (c .is) .closes-is) }
+  closed-none e = record { is = λ c. sym (Actions.no-arguments (c .m) (c .n) (c .function) (c .text) (c .R) (cellsOf code) first end (c .terms) (c .closing) e (c .is) .closes-is) }
 
   pub closed-start : (first ≡ end → ⊥) → Closed code first end end
   closed-start d c =
-      record { f = parts - 1; a = first; es = c .terms; is = Actions.some-arguments (c .m) (c .n) (c .function) (c .text) (c .R) (wordsOf code) first end (c .terms) (c .closing) d (c .is) }
+      record { f = parts - 1; a = first; es = c .terms; is = Actions.some-arguments (c .m) (c .n) (c .function) (c .text) (c .R) (cellsOf code) first end (c .terms) (c .closing) d (c .is) }
 
   module _ (b : ℕ) (k : Closed code first end b) (c : Closes code first end) where
-    last : (opAt (wordsOf code) b ≡ aNextArgument → ⊥) → c .closing ≡ b
-    last d = let r = k c in Actions.argument-last (c .m) (c .n) (c .function) (c .text) (c .R) (wordsOf code) (r .a) b (r .es) (c .closing) (r .f) (r .is) d .closes-is
+    last : (opAt (cellsOf code) b ≡ aNextArgument → ⊥) → c .closing ≡ b
+    last d = let r = k c in Actions.argument-last (c .m) (c .n) (c .function) (c .text) (c .R) (cellsOf code) (r .a) b (r .es) (c .closing) (r .f) (r .is) d .closes-is
 
     whole : length code % 8 ≡ 0
     whole = omega (arith, c .size)
 
     pub closed-in : b * 8 + 8 ≤ length code
     closed-in =
-        by-same (opAt (wordsOf code) b) aNextArgument
+        by-same (opAt (cellsOf code) b) aNextArgument
         (λ e. op-in code b whole (λ z. absurd (omega arith)))
-        (λ d. link-in code b whole (λ z. let q = ap (linkAt (wordsOf code)) (last d) in absurd (omega (arith, c .linked))))
+        (λ d. link-in code b whole (λ z. let q = ap (linkAt (cellsOf code)) (last d) in absurd (omega (arith, c .linked))))
 
-  pub closed-end : (b w : ℕ) → w ≡ headAt (wordsOf code) b → (opIn w ≡ aNextArgument → ⊥) → Closed code first end b → Closing code first end b
+  pub closed-end : (b w : ℕ) → w ≡ headAt (cellsOf code) b → (opIn w ≡ aNextArgument → ⊥) → Closed code first end b → Closing code first end b
   closed-end b w e d k = record { is = λ c. sym (last b k c (λ z. d (ap (λ (x : ℕ). opIn x) e ∙ z))) }
 
-  module _ (b w : ℕ) (ew : w ≡ headAt (wordsOf code) b) (h : opIn w ≡ aNextArgument) (k : Closed code first end b) (l : ℕ) (el : l ≡ linkAt (wordsOf code) b) where
-    op-is : opAt (wordsOf code) b ≡ aNextArgument
+  module _ (b w : ℕ) (ew : w ≡ headAt (cellsOf code) b) (h : opIn w ≡ aNextArgument) (k : Closed code first end b) (l : ℕ) (el : l ≡ linkAt (cellsOf code) b) where
+    op-is : opAt (cellsOf code) b ≡ aNextArgument
     op-is = sym (ap (λ (x : ℕ). opIn x) ew) ∙ h
 
     module _ (c : Closes code first end) where
-      more : Actions.Argument (c .m) (c .n) (c .function) (c .text) (c .R) (wordsOf code) (k c .a) b (k c .es) (c .closing) (k c .f)
-      more = let r = k c in Actions.argument-more (c .m) (c .n) (c .function) (c .text) (c .R) (wordsOf code) (r .a) b (r .es) (c .closing) (r .f) (r .is) op-is
+      more : Actions.Argument (c .m) (c .n) (c .function) (c .text) (c .R) (cellsOf code) (k c .a) b (k c .es) (c .closing) (k c .f)
+      more = let r = k c in Actions.argument-more (c .m) (c .n) (c .function) (c .text) (c .R) (cellsOf code) (r .a) b (r .es) (c .closing) (r .f) (r .is) op-is
 
-      next-fuel : (f : ℕ) → argumentsIn (c .m) (c .n) (c .function) (c .text) (c .R) (wordsOf code) f (b + 1) (linkAt (wordsOf code) b) ≡ some (more .rest, c .closing)
-          → Rest code first end c (linkAt (wordsOf code) b)
-      next-fuel zero e = absurd (omega (arith, Actions.arguments-some (c .m) (c .n) (c .function) (c .text) (c .R) (wordsOf code) (b + 1) (linkAt (wordsOf code) b) (more .rest) (c .closing) zero e))
+      next-fuel : (f : ℕ) → argumentsIn (c .m) (c .n) (c .function) (c .text) (c .R) (cellsOf code) f (b + 1) (linkAt (cellsOf code) b) ≡ some (more .rest, c .closing)
+          → Rest code first end c (linkAt (cellsOf code) b)
+      next-fuel zero e = absurd (omega (arith, Actions.arguments-some (c .m) (c .n) (c .function) (c .text) (c .R) (cellsOf code) (b + 1) (linkAt (cellsOf code) b) (more .rest) (c .closing) zero e))
       next-fuel (suc f) e = record { f = f; a = b + 1; es = more .rest; is = e }
 
-      next : Rest code first end c (linkAt (wordsOf code) b)
+      next : Rest code first end c (linkAt (cellsOf code) b)
       next = next-fuel (k c .f) (more .more)
 
     pub closed-less : Closes code first end → wordLimit - l < wordLimit - b
     closed-less c =
-        let g = grows (c .m) (c .n) (c .function) (c .text) (c .R) (wordsOf code) (k c .f) (b + 1) (linkAt (wordsOf code) b) (more c .rest) (c .closing) (more c .more) in
+        let g = grows (c .m) (c .n) (c .function) (c .text) (c .R) (cellsOf code) (k c .f) (b + 1) (linkAt (cellsOf code) b) (more c .rest) (c .closing) (more c .more) in
         omega (arith, g, closed-in b k c, c .size)
 
     pub closed-next : Closed code first end l
@@ -94,9 +94,9 @@ by-next a k h f g = by-same a k f (λ d. g (above d))
     above : (a ≡ k → ⊥) → suc k ≤ a
     above d = omega (arith, d)
 
-module _ (code : List ℕ) (i w : ℕ) (ew : w ≡ headAt (wordsOf code) i) where
+module _ (code : List ℕ) (i w : ℕ) (ew : w ≡ headAt (cellsOf code) i) where
   abbrev C : List ℕ
-  C = wordsOf code
+  C = cellsOf code
 
   op-at : (k : ℕ) → opIn w ≡ k → opAt C i ≡ k
   op-at k e = sym (ap (λ (x : ℕ). opIn x) ew) ∙ e
@@ -170,14 +170,14 @@ module _ (code : List ℕ) (i w : ℕ) (ew : w ≡ headAt (wordsOf code) i) wher
 module _ (code : List ℕ) (i : ℕ) where
   pub step-in : StepAt code i → i * 8 + 8 ≤ length code
   step-in s =
-      let low = Actions.op-low (s .m) (s .n) (s .function) (s .text) (s .R) (wordsOf code) i (s .next) (s .does) (s .is) in
+      let low = Actions.op-low (s .m) (s .n) (s .function) (s .text) (s .R) (cellsOf code) i (s .next) (s .does) (s .is) in
       op-in code i (omega (arith, s .size)) (λ z. absurd (omega arith))
 
   pub step-small : StepAt code i → i + 1 < addresses
   step-small s = omega (arith, step-in s, s .size)
 
-  module _ (w : ℕ) (ew : w ≡ headAt (wordsOf code) i) where
-    module _ (h : opIn w ≡ aProcedureCall) (l : ℕ) (el : l ≡ linkAt (wordsOf code) i) where
+  module _ (w : ℕ) (ew : w ≡ headAt (cellsOf code) i) where
+    module _ (h : opIn w ≡ aProcedureCall) (l : ℕ) (el : l ≡ linkAt (cellsOf code) i) where
       pub call-closes : StepAt code i → Closes code (i + 1) l
       call-closes s = closes-of code i w ew s (op-at code i w ew aProcedureCall h) l el
 
@@ -185,29 +185,29 @@ module _ (code : List ℕ) (i : ℕ) where
         pub call-in : StepAt code i → r * 8 + 8 ≤ length code
         call-in s = linked-in code i w ew s r (closed-at code i w ew s (op-at code i w ew aProcedureCall h) l el r c)
 
-        pub call-after : (q : ℕ) → q ≡ linkAt (wordsOf code) r → After code i q
+        pub call-after : (q : ℕ) → q ≡ linkAt (cellsOf code) r → After code i q
         call-after q e = record { is = λ s. e ∙ sym (closed-at code i w ew s (op-at code i w ew aProcedureCall h) l el r c) }
 
     module _ (h : opIn w ≡ aForTest) where
       pub for-in : StepAt code i → w / (valuePart * loopPart) * 8 + 8 ≤ length code
       for-in s = linked-in code i w ew s (w / (valuePart * loopPart)) (for-at code i w ew s (op-at code i w ew aForTest h))
 
-      pub for-after : (q : ℕ) → q ≡ linkAt (wordsOf code) (w / (valuePart * loopPart)) → After code i q
+      pub for-after : (q : ℕ) → q ≡ linkAt (cellsOf code) (w / (valuePart * loopPart)) → After code i q
       for-after q e = record { is = λ s. e ∙ sym (for-at code i w ew s (op-at code i w ew aForTest h)) }
 
     pub end-after : opIn w ≡ anEnd → After code i i
-    end-after h = record { is = λ s. sym (Actions.reads-end (s .m) (s .n) (s .function) (s .text) (s .R) (wordsOf code) i (s .next) (s .does) (s .is) (op-at code i w ew anEnd h) .after-is) }
+    end-after h = record { is = λ s. sym (Actions.reads-end (s .m) (s .n) (s .function) (s .text) (s .R) (cellsOf code) i (s .next) (s .does) (s .is) (op-at code i w ew anEnd h) .after-is) }
 
     pub function-end-after : opIn w ≡ aFunctionEnd → After code i i
     function-end-after h =
-        record { is = λ s. sym (Actions.reads-function-end (s .m) (s .n) (s .function) (s .text) (s .R) (wordsOf code) i (s .next) (s .does) (s .is) (op-at code i w ew aFunctionEnd h) .after-is) }
+        record { is = λ s. sym (Actions.reads-function-end (s .m) (s .n) (s .function) (s .text) (s .R) (cellsOf code) i (s .next) (s .does) (s .is) (op-at code i w ew aFunctionEnd h) .after-is) }
 
-    pub plain-after : (opIn w ≡ aProcedureCall → ⊥) → (opIn w ≡ aForTest → ⊥) → (opIn w ≡ anEnd → ⊥) → (opIn w ≡ aFunctionEnd → ⊥) → (q : ℕ) → q ≡ linkAt (wordsOf code) i → After code i q
+    pub plain-after : (opIn w ≡ aProcedureCall → ⊥) → (opIn w ≡ aForTest → ⊥) → (opIn w ≡ anEnd → ⊥) → (opIn w ≡ aFunctionEnd → ⊥) → (q : ℕ) → q ≡ linkAt (cellsOf code) i → After code i q
     plain-after d1 d2 d3 d4 q e =
-        let o : opAt (wordsOf code) i ≡ opIn w = op-at code i w ew (opIn w) refl in
+        let o : opAt (cellsOf code) i ≡ opIn w = op-at code i w ew (opIn w) refl in
         record {
           is = λ s. e ∙ sym (plain-at code i w ew s
-              (Actions.op-low (s .m) (s .n) (s .function) (s .text) (s .R) (wordsOf code) i (s .next) (s .does) (s .is))
-              (Actions.op-high (s .m) (s .n) (s .function) (s .text) (s .R) (wordsOf code) i (s .next) (s .does) (s .is))
+              (Actions.op-low (s .m) (s .n) (s .function) (s .text) (s .R) (cellsOf code) i (s .next) (s .does) (s .is))
+              (Actions.op-high (s .m) (s .n) (s .function) (s .text) (s .R) (cellsOf code) i (s .next) (s .does) (s .is))
               (λ z. d1 (sym o ∙ z)) (λ z. d2 (sym o ∙ z)) (λ z. d3 (sym o ∙ z)) (λ z. d4 (sym o ∙ z)));
         }

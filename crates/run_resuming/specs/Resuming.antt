@@ -7,7 +7,7 @@ use Prim.Native.Nat.{ℕ, _+_, _<_}
 use lib.ListN.{length, getD, set}
 use Rattle.paper.specs.Terms.{Term}
 use Rattle.paper.specs.Steps.{Action}
-use Rattle.store_cells.specs.Words.{wordsOf}
+use Rattle.store_cells.specs.Cells.{cellsOf}
 use Rattle.code.specs.Cells.{linkAt}
 use Rattle.code.specs.Steps.{Head, anyArguments, actionIn}
 use Rattle.code.specs.Windows.{failedCell}
@@ -23,8 +23,8 @@ pub record Closes (code : List ℕ) (first end : ℕ) : Type 0 where
   pub R : List Head
   pub terms : List Term
   pub closing : ℕ
-  pub is : anyArguments m n function text R (wordsOf code) first end ≡ some (terms, closing)
-  pub linked : 0 < linkAt (wordsOf code) closing
+  pub is : anyArguments m n function text R (cellsOf code) first end ≡ some (terms, closing)
+  pub linked : 0 < linkAt (cellsOf code) closing
   pub size : length code ≡ storeBytes
 
 pub record Closing (code : List ℕ) (first end r : ℕ) : Type 0 where
@@ -39,7 +39,7 @@ pub record StepAt (code : List ℕ) (i : ℕ) : Type 0 where
   pub R : List Head
   pub next : ℕ
   pub does : Action
-  pub is : actionIn m n function text R (wordsOf code) i ≡ some (next, does)
+  pub is : actionIn m n function text R (cellsOf code) i ≡ some (next, does)
   pub goes-on : 0 < next
   pub size : length code ≡ storeBytes
 
@@ -49,6 +49,6 @@ pub record After (code : List ℕ) (i r : ℕ) : Type 0 where
 -- ---- the failed step
 -- The call with its window at `base` is in its ERROR list no more: r was its failed step.
 pub record Forgot (before after : List ℕ) (base r : ℕ) : Type 0 where
-  pub was : r ≡ getD (wordsOf before) (base + failedCell) 0
-  pub words : wordsOf after ≡ set (wordsOf before) (base + failedCell) 0
+  pub was : r ≡ getD (cellsOf before) (base + failedCell) 0
+  pub words : cellsOf after ≡ set (cellsOf before) (base + failedCell) 0
   pub long : length after ≡ length before

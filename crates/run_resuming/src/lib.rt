@@ -2,7 +2,7 @@
 ghost use mathlib.Core.Path.{_≡_};
 ghost use Prim.Native.Nat.{_+_, _*_, _≤_};
 ghost use lib.ListN.{length};
-ghost use Rattle.store_cells.specs.Words.{wordsOf};
+ghost use Rattle.store_cells.specs.Cells.{cellsOf};
 ghost use Rattle.code.specs.Cells.{opAt};
 ghost use Rattle.code.specs.Steps.{aRetry, aTryNext};
 ghost use Rattle.code.specs.Windows.{failedCell};
@@ -56,7 +56,7 @@ fn forget(values: &mut [u8], base: usize) -> usize
 }
 
 pub fn retry<'a>(code: &'a [u8], values: &'a mut [u8], base: usize, i: usize) -> i64
-    requires { ⌜ Here (now code) (now values) base i × (opAt (wordsOf (now code)) i ≡ aRetry) ⌝ }
+    requires { ⌜ Here (now code) (now values) base i × (opAt (cellsOf (now code)) i ≡ aRetry) ⌝ }
     ensures { λ r. ⌜ Performs (now (code .entry)) (now (values .entry)) (now (values .exit)) base i r ⌝ }
 {
     let f = forget(values, base);
@@ -67,7 +67,7 @@ pub fn retry<'a>(code: &'a [u8], values: &'a mut [u8], base: usize, i: usize) ->
 }
 
 pub fn try_next<'a>(code: &'a [u8], values: &'a mut [u8], base: usize, i: usize) -> i64
-    requires { ⌜ Here (now code) (now values) base i × (opAt (wordsOf (now code)) i ≡ aTryNext) ⌝ }
+    requires { ⌜ Here (now code) (now values) base i × (opAt (cellsOf (now code)) i ≡ aTryNext) ⌝ }
     ensures { λ r. ⌜ Performs (now (code .entry)) (now (values .entry)) (now (values .exit)) base i r ⌝ }
 {
     let f = forget(values, base);

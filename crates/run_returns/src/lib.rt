@@ -3,7 +3,7 @@ ghost use Prim.Native.Nat.{_*_, _≤_};
 ghost use lib.ListN.{length};
 ghost use mir.Syntax.{w32};
 ghost use mir.Val.{SFits};
-ghost use Rattle.store_cells.specs.Words.{wordsOf};
+ghost use Rattle.store_cells.specs.Cells.{cellsOf};
 ghost use Rattle.code.specs.Steps.{aReturnOf};
 ghost use Rattle.run_machine.specs.Machine.{Here, Performs, Says};
 ghost use Rattle.run_returns.specs.Returning.{Gave, Returns};
@@ -45,7 +45,7 @@ pub fn give_back<'a>(code: &'a [u8], values: &'a mut [u8], base: usize, i: usize
 
 // A return with nothing: the caller goes on.
 pub fn back<'a>(code: &'a [u8], values: &'a [u8], base: usize, i: usize) -> i64
-    requires { ⌜ Here (now code) (now values) base i × Returns (wordsOf (now code)) i ⌝ }
+    requires { ⌜ Here (now code) (now values) base i × Returns (cellsOf (now code)) i ⌝ }
     ensures { λ r. ⌜ Performs (now (code .entry)) (now (values .entry)) (now (values .entry)) base i r ⌝ }
 {
     if base == FIRST_WINDOW {

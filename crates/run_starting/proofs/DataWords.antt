@@ -14,7 +14,7 @@ use mir.Facts.{toZ-ofZ}
 use mir.ValLaws.{toZ-pos}
 use borrow.Author.Tests.{eq-eqb, ne-eqb}
 use Rattle.laws.proofs.Tests.{by-same}
-use Rattle.store_cells.specs.Words.{wordsOf}
+use Rattle.store_cells.specs.Cells.{cellsOf}
 use Rattle.store_cells.proofs.Laws.{length-words}
 use Rattle.store_numbers.proofs.Whole.{read, minus-cases}
 use Rattle.code.specs.Cells.{opIn, valueIn, headAt, opAt, placeAt, linkAt}
@@ -96,19 +96,19 @@ pub record Starting (code before now : List ℕ) (first at q n w : ℕ) : Type 0
   pub f : ℕ
   pub fuel : suc f ≤ parts
   pub rest : List ℤ
-  pub left : dataIn (wordsOf code) (suc f) q ≡ some (rest, asks .opens)
+  pub left : dataIn (cellsOf code) (suc f) q ≡ some (rest, asks .opens)
   pub done : List ℤ
   pub is : asks .starts ≡ done ++ rest
   pub wrote : Wrote before now at done
   pub next : n ≡ at + length done
-  pub head : w ≡ headAt (wordsOf code) q
+  pub head : w ≡ headAt (cellsOf code) q
   pub small : w < cellValues
 
 module _ (code before : List ℕ) (first at : ℕ) (s : Starts code before first at) where
   pub starts-in : first * 8 + 8 ≤ length code
-  starts-in = op-in code first (s .whole) (data-op (wordsOf code) parts first (s .starts) (s .opens) (s .reads))
+  starts-in = op-in code first (s .whole) (data-op (cellsOf code) parts first (s .starts) (s .opens) (s .reads))
 
-  pub starts-begin : (w : ℕ) → w ≡ headAt (wordsOf code) first → w < cellValues → Starting code before before first at first at w
+  pub starts-begin : (w : ℕ) → w ≡ headAt (cellsOf code) first → w < cellValues → Starting code before before first at first at w
   starts-begin w e b = record {
     asks = s;
     f = parts - 1;
@@ -124,11 +124,11 @@ module _ (code before : List ℕ) (first at : ℕ) (s : Starts code before first
   }
 
 module _ (code before now : List ℕ) (first at q n w : ℕ) (g : Starting code before now first at q n w) where
-  op-is : opIn w ≡ opAt (wordsOf code) q
+  op-is : opIn w ≡ opAt (cellsOf code) q
   op-is = ap opIn (g .head)
 
   pub datum-in : q * 8 + 8 ≤ length code
-  datum-in = op-in code q (g .asks .whole) (data-op (wordsOf code) (suc (g .f)) q (g .rest) (g .asks .opens) (g .left))
+  datum-in = op-in code q (g .asks .whole) (data-op (cellsOf code) (suc (g .f)) q (g .rest) (g .asks .opens) (g .left))
 
   count : length (g .asks .starts) ≡ length (g .done) + length (g .rest)
   count = ap length (g .is) ∙ length-append (g .done) (g .rest)
@@ -138,7 +138,7 @@ module _ (code before now : List ℕ) (first at q n w : ℕ) (g : Starting code 
       rw (toZ-pos w64 (valueIn w) (omega (arith, g .small)))
       (minus-cases (λ z. SFits w64 z) (valueIn w) bias (λ h. record { sfits = omega arith }) (λ h. record { sfits = omega (arith, g .small) }))
 
-  number-is : read (toZ w64 (valueIn w) -ℤ pos bias) ≡ constantAt (wordsOf code) q
+  number-is : read (toZ w64 (valueIn w) -ℤ pos bias) ≡ constantAt (cellsOf code) q
   unfolding constantAt
   number-is = toZ-ofZ number-fits ∙ ap (λ (z : ℤ). z -ℤ pos bias) (toZ-pos w64 (valueIn w) (omega (arith, g .small)) ∙ ap (λ (x : ℕ). pos (valueIn x)) (g .head))
 
@@ -148,15 +148,15 @@ module _ (code before now : List ℕ) (first at q n w : ℕ) (g : Starting code 
       (minus-cases (λ z. SFits w32 z) (valueIn w) bias (λ h. record { sfits = omega arith }) (λ h. record { sfits = omega (arith, g .small) }))
 
   module _ (t : opIn w ≡ aDatum) where
-    here : Datum (wordsOf code) (g .f) q (g .rest) (g .asks .opens)
-    here = datum (wordsOf code) (g .f) q (g .rest) (g .asks .opens) (g .left) (sym op-is ∙ t)
+    here : Datum (cellsOf code) (g .f) q (g .rest) (g .asks .opens)
+    here = datum (cellsOf code) (g .f) q (g .rest) (g .asks .opens) (g .left) (sym op-is ∙ t)
 
-    rest-count : length (g .rest) ≡ placeAt (wordsOf code) q + length (here .rest)
+    rest-count : length (g .rest) ≡ placeAt (cellsOf code) q + length (here .rest)
     rest-count =
-        ap length (here .is) ∙ length-append (replicate (placeAt (wordsOf code) q) (constantAt (wordsOf code) q)) (here .rest)
-        ∙ ap (λ (k : ℕ). k + length (here .rest)) (length-replicate (placeAt (wordsOf code) q) (constantAt (wordsOf code) q))
+        ap length (here .is) ∙ length-append (replicate (placeAt (cellsOf code) q) (constantAt (cellsOf code) q)) (here .rest)
+        ∙ ap (λ (k : ℕ). k + length (here .rest)) (length-replicate (placeAt (cellsOf code) q) (constantAt (cellsOf code) q))
 
-    pub datum-room : (p : ℕ) → Part halfEnd (placeAt (wordsOf code) q) p → (n + p) * 4 ≤ length now
+    pub datum-room : (p : ℕ) → Part halfEnd (placeAt (cellsOf code) q) p → (n + p) * 4 ≤ length now
     datum-room p ep = omega (arith, g .next, g .wrote .long, g .asks .room, count, rest-count, ep .same)
 
     -- the next one is read with less fuel, of which there is some
@@ -164,31 +164,31 @@ module _ (code before now : List ℕ) (first at q n w : ℕ) (g : Starting code 
       pub h : ℕ
       pub is : f ≡ suc h
 
-    next-of : (f : ℕ) → dataIn (wordsOf code) f (linkAt (wordsOf code) q) ≡ some (here .rest, g .asks .opens) → Next f
+    next-of : (f : ℕ) → dataIn (cellsOf code) f (linkAt (cellsOf code) q) ≡ some (here .rest, g .asks .opens) → Next f
     unfolding dataIn
     next-of zero e = none-some (here .rest, g .asks .opens) e
     next-of (suc f) e = record { h = f; is = refl }
 
-    module _ (l : ℕ) (el : Part halfEnd (linkAt (wordsOf code) q) l) where
+    module _ (l : ℕ) (el : Part halfEnd (linkAt (cellsOf code) q) l) where
       pub datum-next : l * 8 + 8 ≤ length code
       datum-next =
           subst (λ (j : ℕ). j * 8 + 8 ≤ length code) (sym (el .same))
-          (op-in code (linkAt (wordsOf code) q) (g .asks .whole) (data-op (wordsOf code) (g .f) (linkAt (wordsOf code) q) (here .rest) (g .asks .opens) (here .more)))
+          (op-in code (linkAt (cellsOf code) q) (g .asks .whole) (data-op (cellsOf code) (g .f) (linkAt (cellsOf code) q) (here .rest) (g .asks .opens) (here .more)))
 
-      pub datum-less : dataLeft (wordsOf code) l < dataLeft (wordsOf code) q
+      pub datum-less : dataLeft (cellsOf code) l < dataLeft (cellsOf code) q
       datum-less =
-          subst (λ (j : ℕ). dataLeft (wordsOf code) j < dataLeft (wordsOf code) q) (sym (el .same))
-          (data-less (wordsOf code) (g .f) q (g .rest) (g .asks .opens) (g .left) (g .fuel) (sym op-is ∙ t))
+          subst (λ (j : ℕ). dataLeft (cellsOf code) j < dataLeft (cellsOf code) q) (sym (el .same))
+          (data-less (cellsOf code) (g .f) q (g .rest) (g .asks .opens) (g .left) (g .fuel) (sym op-is ∙ t))
 
-      module _ (p : ℕ) (ep : Part halfEnd (placeAt (wordsOf code) q) p) (after : List ℕ) (n′ : ℕ) (fd : Filled now after n p (read (toZ w64 (valueIn w) -ℤ pos bias)) n′) where
+      module _ (p : ℕ) (ep : Part halfEnd (placeAt (cellsOf code) q) p) (after : List ℕ) (n′ : ℕ) (fd : Filled now after n p (read (toZ w64 (valueIn w) -ℤ pos bias)) n′) where
         block : List ℤ
-        block = replicate (placeAt (wordsOf code) q) (constantAt (wordsOf code) q)
+        block = replicate (placeAt (cellsOf code) q) (constantAt (cellsOf code) q)
 
         block-is : replicate p (read (toZ w64 (valueIn w) -ℤ pos bias)) ≡ block
         unfolding block
         block-is = ap₂ (λ (k : ℕ) (z : ℤ). replicate k z) (ep .same) number-is
 
-        pub datum-on : (w′ : ℕ) → w′ ≡ headAt (wordsOf code) l → w′ < cellValues → Starting code before after first at l n′ w′
+        pub datum-on : (w′ : ℕ) → w′ ≡ headAt (cellsOf code) l → w′ < cellValues → Starting code before after first at l n′ w′
         unfolding block
         datum-on w′ e b =
             let x = next-of (g .f) (here .more) in
@@ -197,26 +197,26 @@ module _ (code before now : List ℕ) (first at q n w : ℕ) (g : Starting code 
               f = x .h;
               fuel = omega (arith, g .fuel, x .is);
               rest = here .rest;
-              left = ap₂ (dataIn (wordsOf code)) (sym (x .is)) (el .same) ∙ here .more;
+              left = ap₂ (dataIn (cellsOf code)) (sym (x .is)) (el .same) ∙ here .more;
               done = g .done ++ block;
               is = g .is ∙ ap (λ (y : List ℤ). g .done ++ y) (here .is) ∙ sym (append-assoc (g .done) block (here .rest));
               wrote = wrote-more before now after at (g .done) (g .wrote) block
                   (subst₂ (λ (a : ℕ) (zs : List ℤ). Wrote now after a zs) (g .next) block-is (fd .wrote));
-              next = omega (arith, fd .next, g .next, length-append (g .done) block, length-replicate (placeAt (wordsOf code) q) (constantAt (wordsOf code) q), ep .same);
+              next = omega (arith, fd .next, g .next, length-append (g .done) block, length-replicate (placeAt (cellsOf code) q) (constantAt (cellsOf code) q), ep .same);
               head = e;
               small = b;
             }
 
   module _ (t : opIn w ≡ aDatum → ⊥) where
-    last : LastDatum (wordsOf code) q (g .rest) (g .asks .opens)
-    last = last-datum (wordsOf code) (g .f) q (g .rest) (g .asks .opens) (g .left) (λ z. t (op-is ∙ z))
+    last : LastDatum (cellsOf code) q (g .rest) (g .asks .opens)
+    last = last-datum (cellsOf code) (g .f) q (g .rest) (g .asks .opens) (g .left) (λ z. t (op-is ∙ z))
 
     starts-are : g .asks .starts ≡ g .done
     starts-are = g .is ∙ ap (λ (y : List ℤ). g .done ++ y) (last .is) ∙ append-nil (g .done)
 
-    module _ (p : ℕ) (ep : Part halfEnd (placeAt (wordsOf code) q) p) where
-      fors-are : p ≡ placeAt (wordsOf code) (g .asks .opens)
-      fors-are = ep .same ∙ ap (placeAt (wordsOf code)) (sym (last .opens-is))
+    module _ (p : ℕ) (ep : Part halfEnd (placeAt (cellsOf code) q) p) where
+      fors-are : p ≡ placeAt (cellsOf code) (g .asks .opens)
+      fors-are = ep .same ∙ ap (placeAt (cellsOf code)) (sym (last .opens-is))
 
       pub fors-room : (n + p + stepsCell) * 4 ≤ length now
       fors-room = omega (arith, g .next, g .wrote .long, g .asks .room, ap length starts-are, fors-are)
@@ -225,26 +225,26 @@ module _ (code before now : List ℕ) (first at q n w : ℕ) (g : Starting code 
         n-is : n ≡ at + length (g .asks .starts)
         n-is = g .next ∙ ap (λ (y : List ℤ). at + length y) (sym starts-are)
 
-        same-reading : (starts : List ℤ) (opens : ℕ) → dataIn (wordsOf code) parts first ≡ some (starts, opens) → _≡_ {A = List ℤ × ℕ} (g .asks .starts, g .asks .opens) (starts, opens)
+        same-reading : (starts : List ℤ) (opens : ℕ) → dataIn (cellsOf code) parts first ≡ some (starts, opens) → _≡_ {A = List ℤ × ℕ} (g .asks .starts, g .asks .opens) (starts, opens)
         same-reading starts opens e = same-some (g .asks .starts, g .asks .opens) (starts, opens) (sym (g .asks .reads) ∙ e)
 
-        cells-long : length (wordsOf after) ≡ length (wordsOf now)
+        cells-long : length (cellsOf after) ≡ length (cellsOf now)
         cells-long = length-words after ∙ ap (λ (k : ℕ). k / 4) (id .long) ∙ sym (length-words now)
 
         pub started : Started code before after first at
         started = record {
           long = id .long ∙ g .wrote .long;
           is = λ starts opens e.
-              subst (λ (y : List ℤ × ℕ). Holding (wordsOf after) at (y .0)) (same-reading starts opens e)
-              (subst (Holding (wordsOf after) at) (sym starts-are)
-              (holding-same (wordsOf now) (wordsOf after) at (g .done) cells-long (λ c x y. id .below c (omega (arith, g .next))) (g .wrote .holds)));
+              subst (λ (y : List ℤ × ℕ). Holding (cellsOf after) at (y .0)) (same-reading starts opens e)
+              (subst (Holding (cellsOf after) at) (sym starts-are)
+              (holding-same (cellsOf now) (cellsOf after) at (g .done) cells-long (λ c x y. id .below c (omega (arith, g .next))) (g .wrote .holds)));
           idle = λ starts opens j e h.
-              subst (λ (y : List ℤ × ℕ). j < placeAt (wordsOf code) (y .1) → Idle (wordsOf after) (at + length (y .0) + j)) (same-reading starts opens e)
+              subst (λ (y : List ℤ × ℕ). j < placeAt (cellsOf code) (y .1) → Idle (cellsOf after) (at + length (y .0) + j)) (same-reading starts opens e)
               (λ k.
               let r : j < p = omega (arith, fors-are) in
-              subst (λ (x : ℕ). Idle (wordsOf after) (x + j)) n-is (id .zeros j r, id .ends j r, id .steps j r)) h;
+              subst (λ (x : ℕ). Idle (cellsOf after) (x + j)) n-is (id .zeros j r, id .ends j r, id .steps j r)) h;
           below = λ c h. id .below c (omega (arith, g .next)) ∙ g .wrote .kept c (λ x y. omega arith);
           above = λ starts opens c e h.
-              subst (λ (y : List ℤ × ℕ). at + length (y .0) + placeAt (wordsOf code) (y .1) + stepsCell ≤ c → getD (wordsOf after) c 0 ≡ getD (wordsOf before) c 0) (same-reading starts opens e)
+              subst (λ (y : List ℤ × ℕ). at + length (y .0) + placeAt (cellsOf code) (y .1) + stepsCell ≤ c → getD (cellsOf after) c 0 ≡ getD (cellsOf before) c 0) (same-reading starts opens e)
               (λ k. id .above c (omega (arith, n-is, fors-are)) ∙ g .wrote .kept c (λ x y. omega (arith, ap length starts-are))) h;
         }

@@ -14,7 +14,7 @@ use Rattle.paper.specs.Running.{codeAt, idle, newCall}
 use Rattle.code.specs.Steps.{Head, numbered}
 use Rattle.code.specs.Holds.{optionally}
 use Rattle.code.specs.Windows.{endsCell, stepsCell, routineCell, failedCell, resultCell, resultIn, loopsFrom, callIn}
-use Rattle.run_machine.specs.Live.{wordsOfCall}
+use Rattle.run_machine.specs.Live.{slotsOfCall}
 use Rattle.run_starting.specs.Starting.{Holding}
 use Rattle.run_machine.proofs.Agreeing.{call-eq, result-any}
 
@@ -55,7 +55,7 @@ module _ (P : Program) (R : List Head) where
     unfolding code
     code-is = ap (codeAt P) (g .routine)
 
-    length-is : length (zs ++ g .starts ++ replicate (code .fors) (pos 0)) ≡ wordsOfCall code
+    length-is : length (zs ++ g .starts ++ replicate (code .fors) (pos 0)) ≡ slotsOfCall code
     unfolding code
     length-is =
         length-append (zs ++ g .starts) (replicate (codeAt P k .fors) (pos 0))
@@ -71,7 +71,7 @@ module _ (P : Program) (R : List Head) where
         call-eq (callIn P R X base (codeAt P k .start)) (newCall P k zs (resultIn P R Z result))
         (g .routine)
         refl
-        (ap (λ (c : Code). map (toZ w32) (take (wordsOfCall c) (drop base X))) code-is
+        (ap (λ (c : Code). map (toZ w32) (take (slotsOfCall c) (drop base X))) code-is
         ∙ sym (ap (λ (n : ℕ). map (toZ w32) (take n (drop base X))) length-is)
         ∙ g .holds
         ∙ sym (ap (λ (s : List ℤ). zs ++ s ++ replicate (codeAt P k .fors) (pos 0)) starts-are))

@@ -11,7 +11,7 @@ use mir.Val.{SFits, toZ, ofZ}
 use mir.Facts.{toZ-ofZ}
 use Rattle.laws.proofs.Lists.{part-length}
 use Rattle.laws.proofs.Tests.{by-less, by-same, by-last}
-use Rattle.store_cells.specs.Words.{wordsOf}
+use Rattle.store_cells.specs.Cells.{cellsOf}
 use Rattle.store_cells.proofs.Laws.{length-words}
 use Rattle.store_numbers.proofs.Whole.{read}
 use Rattle.code.specs.Windows.{stepsCell, endsCell}
@@ -60,18 +60,18 @@ module _ (before between after : List ℕ) (a : ℕ) (zs : List ℤ) (w : Wrote 
   wrote-one v s l st = record {
     long = st .long ∙ w .long;
     holds = subst (λ (Y : List ℕ). Holding Y a (zs ++ (v ∷ []))) (sym (st .words))
-        (holding-one (wordsOf between) a zs (ofZ w32 v) v (w .holds) (omega (arith, length-words between)) (toZ-ofZ s));
+        (holding-one (cellsOf between) a zs (ofZ w32 v) v (w .holds) (omega (arith, length-words between)) (toZ-ofZ s));
     kept = λ c h.
         ap (λ (Y : List ℕ). getD Y c 0) (st .words)
-        ∙ set-same (wordsOf between) (a + length zs) (ofZ w32 v) c (λ q. h (omega arith) (omega (arith, length-append zs (v ∷ []))))
+        ∙ set-same (cellsOf between) (a + length zs) (ofZ w32 v) c (λ q. h (omega arith) (omega (arith, length-append zs (v ∷ []))))
         ∙ w .kept c (λ x y. h x (omega (arith, length-append zs (v ∷ []))));
   }
 
   pub wrote-more : (ys : List ℤ) → Wrote between after (a + length zs) ys → Wrote before after a (zs ++ ys)
   wrote-more ys g = record {
     long = g .long ∙ w .long;
-    holds = holding-append (wordsOf after) a zs ys
-        (holding-same (wordsOf between) (wordsOf after) a zs (length-words after ∙ ap (λ (n : ℕ). n / 4) (g .long) ∙ sym (length-words between)) (λ c x y. g .kept c (λ p q. omega arith)) (w .holds))
+    holds = holding-append (cellsOf after) a zs ys
+        (holding-same (cellsOf between) (cellsOf after) a zs (length-words after ∙ ap (λ (n : ℕ). n / 4) (g .long) ∙ sym (length-words between)) (λ c x y. g .kept c (λ p q. omega arith)) (w .holds))
         (g .holds);
     kept = λ c h. g .kept c (λ x y. h (omega arith) (omega (arith, length-append zs ys))) ∙ w .kept c (λ x y. h x (omega (arith, length-append zs ys)));
   }
@@ -154,43 +154,43 @@ module _ (before now : List ℕ) (at fors k : ℕ) (i : Idling before now at for
       idle-inside-steps = omega (arith, i .idled .long, s1 .long, s2 .long)
 
       module _ (three : List ℕ) (s3 : Stored two three (at + k + stepsCell) (pos 0)) where
-        words-are : wordsOf three ≡ set (set (set (wordsOf now) (at + k) 0) (at + k + endsCell) 0) (at + k + stepsCell) 0
+        words-are : cellsOf three ≡ set (set (set (cellsOf now) (at + k) 0) (at + k + endsCell) 0) (at + k + stepsCell) 0
         words-are =
             s3 .words ∙ ap (λ (Y : List ℕ). set Y (at + k + stepsCell) 0) (s2 .words ∙ ap (λ (Y : List ℕ). set Y (at + k + endsCell) 0) (s1 .words))
 
         X : List ℕ
-        X = wordsOf now
+        X = cellsOf now
 
         long-is : length X ≡ length before / 4
         unfolding X
         long-is = length-words now ∙ ap (λ (n : ℕ). n / 4) (i .idled .long)
 
         -- a cell that was 0, and the three
-        was : (c : ℕ) → getD X c 0 ≡ 0 → getD (wordsOf three) c 0 ≡ 0
+        was : (c : ℕ) → getD X c 0 ≡ 0 → getD (cellsOf three) c 0 ≡ 0
         unfolding X
         was c h =
             ap (λ (Y : List ℕ). getD Y c 0) words-are
             ∙ zero-stays (set (set X (at + k) 0) (at + k + endsCell) 0) (at + k + stepsCell) c (zero-stays (set X (at + k) 0) (at + k + endsCell) c (zero-stays X (at + k) c h))
 
-        other : (c : ℕ) → (c ≡ at + k → ⊥) → (c ≡ at + k + endsCell → ⊥) → (c ≡ at + k + stepsCell → ⊥) → getD (wordsOf three) c 0 ≡ getD X c 0
+        other : (c : ℕ) → (c ≡ at + k → ⊥) → (c ≡ at + k + endsCell → ⊥) → (c ≡ at + k + stepsCell → ⊥) → getD (cellsOf three) c 0 ≡ getD X c 0
         unfolding X
         other c a b d =
             ap (λ (Y : List ℕ). getD Y c 0) words-are
             ∙ set-same (set (set X (at + k) 0) (at + k + endsCell) 0) (at + k + stepsCell) 0 c d ∙ set-same (set X (at + k) 0) (at + k + endsCell) 0 c b ∙ set-same X (at + k) 0 c a
 
-        new : getD (wordsOf three) (at + k) 0 ≡ 0
+        new : getD (cellsOf three) (at + k) 0 ≡ 0
         unfolding X
         new =
             ap (λ (Y : List ℕ). getD Y (at + k) 0) words-are
             ∙ zero-stays (set (set X (at + k) 0) (at + k + endsCell) 0) (at + k + stepsCell) (at + k) (zero-stays (set X (at + k) 0) (at + k + endsCell) (at + k) (zero-in X (at + k) (at + k) (omega (arith, long-is))))
 
-        new-end : getD (wordsOf three) (at + k + endsCell) 0 ≡ 0
+        new-end : getD (cellsOf three) (at + k + endsCell) 0 ≡ 0
         unfolding X
         new-end =
             ap (λ (Y : List ℕ). getD Y (at + k + endsCell) 0) words-are
             ∙ zero-stays (set (set X (at + k) 0) (at + k + endsCell) 0) (at + k + stepsCell) (at + k + endsCell) (zero-in (set X (at + k) 0) (at + k + endsCell) (at + k + endsCell) (omega (arith, long-is, length-set X (at + k) 0)))
 
-        new-step : getD (wordsOf three) (at + k + stepsCell) 0 ≡ 0
+        new-step : getD (cellsOf three) (at + k + stepsCell) 0 ≡ 0
         unfolding X
         new-step =
             ap (λ (Y : List ℕ). getD Y (at + k + stepsCell) 0) words-are
@@ -202,9 +202,9 @@ module _ (before now : List ℕ) (at fors k : ℕ) (i : Idling before now at for
           low = omega arith;
           idled = record {
             long = s3 .long ∙ s2 .long ∙ s1 .long ∙ i .idled .long;
-            zeros = λ j h. by-last j k (omega arith) (λ q. ap (λ (n : ℕ). getD (wordsOf three) (at + n) 0) q ∙ new) (λ l. was (at + j) (i .idled .zeros j l));
-            ends = λ j h. by-last j k (omega arith) (λ q. ap (λ (n : ℕ). getD (wordsOf three) (at + n + endsCell) 0) q ∙ new-end) (λ l. was (at + j + endsCell) (i .idled .ends j l));
-            steps = λ j h. by-last j k (omega arith) (λ q. ap (λ (n : ℕ). getD (wordsOf three) (at + n + stepsCell) 0) q ∙ new-step) (λ l. was (at + j + stepsCell) (i .idled .steps j l));
+            zeros = λ j h. by-last j k (omega arith) (λ q. ap (λ (n : ℕ). getD (cellsOf three) (at + n) 0) q ∙ new) (λ l. was (at + j) (i .idled .zeros j l));
+            ends = λ j h. by-last j k (omega arith) (λ q. ap (λ (n : ℕ). getD (cellsOf three) (at + n + endsCell) 0) q ∙ new-end) (λ l. was (at + j + endsCell) (i .idled .ends j l));
+            steps = λ j h. by-last j k (omega arith) (λ q. ap (λ (n : ℕ). getD (cellsOf three) (at + n + stepsCell) 0) q ∙ new-step) (λ l. was (at + j + stepsCell) (i .idled .steps j l));
             below = λ c h. other c (λ q. omega arith) (λ q. omega arith) (λ q. omega arith) ∙ i .idled .below c h;
             above = λ c h. other c (λ q. omega arith) (λ q. omega arith) (λ q. omega arith) ∙ i .idled .above c (omega arith);
           };

@@ -14,7 +14,7 @@ use Rattle.paper.specs.Basics.{if_then_else_}
 use Rattle.paper.specs.Steps as action
 use Rattle.paper.specs.States.{Rooms, Effect, ending, handing}
 use Rattle.paper.specs.Running.{perform, returning, ending-list}
-use Rattle.store_cells.specs.Words.{wordsOf}
+use Rattle.store_cells.specs.Cells.{cellsOf}
 use Rattle.store_numbers.proofs.Whole.{read}
 use Rattle.code.specs.Cells.{opAt, valueAt, headAt, opIn, valueIn}
 use Rattle.code.specs.Steps.{aTarget, aCallTarget, aFunctionEnd, aRaise, aReturn, aWrite, anEnd, anExit}
@@ -43,76 +43,76 @@ past-all op (suc k) low n = let e = n .1 in omega (arith, past-all op k low (n .
 -- ---- steps that only answer
 module _ (code values : List ℕ) (base i : ℕ) (h : Here code values base i) (rooms : Rooms) (steps : ℕ) (out : List ℕ) where
   abbrev E : Effect
-  E = effectAt (h .P) (h .R) rooms (wordsOf values) (h .d) i steps out
+  E = effectAt (h .P) (h .R) rooms (cellsOf values) (h .d) i steps out
 
-  raise-hands : opAt (wordsOf code) i ≡ aRaise → E ≡ handing (here.stateHere code values base i h rooms steps out)
+  raise-hands : opAt (cellsOf code) i ≡ aRaise → E ≡ handing (here.stateHere code values base i h rooms steps out)
   unfolding perform
   raise-hands o =
       let s = here.stepHere code values base i h in
       here.effect-here code values base i h rooms steps out (s .after) action.handOn refl
-      (reads-raise (here.m code values base i h) (here.n code values base i h) (here.codeHere code values base i h .function) (h .text) (h .R) (wordsOf code) i (s .after) (s .does) (here.action-here code values base i h) o .does-is)
+      (reads-raise (here.m code values base i h) (here.n code values base i h) (here.codeHere code values base i h .function) (h .text) (h .R) (cellsOf code) i (s .after) (s .does) (here.action-here code values base i h) o .does-is)
 
-  exit-ends : opAt (wordsOf code) i ≡ anExit → E ≡ ending exited (here.stateHere code values base i h rooms steps out)
+  exit-ends : opAt (cellsOf code) i ≡ anExit → E ≡ ending exited (here.stateHere code values base i h rooms steps out)
   unfolding perform
   exit-ends o =
       let s = here.stepHere code values base i h in
       here.effect-here code values base i h rooms steps out (s .after) action.exit refl
-      (reads-exit (here.m code values base i h) (here.n code values base i h) (here.codeHere code values base i h .function) (h .text) (h .R) (wordsOf code) i (s .after) (s .does) (here.action-here code values base i h) o .does-is)
+      (reads-exit (here.m code values base i h) (here.n code values base i h) (here.codeHere code values base i h .function) (h .text) (h .R) (cellsOf code) i (s .after) (s .does) (here.action-here code values base i h) o .does-is)
 
   -- a FUNC must not come to the end of its list
-  function-ends : opAt (wordsOf code) i ≡ aFunctionEnd → E ≡ ending fellOff (here.stateHere code values base i h rooms steps out)
+  function-ends : opAt (cellsOf code) i ≡ aFunctionEnd → E ≡ ending fellOff (here.stateHere code values base i h rooms steps out)
   unfolding perform ending-list callIn
   function-ends o =
       let s = here.stepHere code values base i h in
       let S = here.stateHere code values base i h rooms steps out in
       here.effect-here code values base i h rooms steps out (s .after) action.endList refl
-      (reads-function-end (here.m code values base i h) (here.n code values base i h) (here.codeHere code values base i h .function) (h .text) (h .R) (wordsOf code) i (s .after) (s .does) (here.action-here code values base i h) o .does-is)
-      ∙ ap (λ (b : Bool). if b then ending 4 S else returning (h .P) (here.callHere code values base i h rooms steps out) (waiting (h .P) (h .R) (wordsOf values) (h .d)) none S)
-      (function-end-function (here.m code values base i h) (here.n code values base i h) (here.codeHere code values base i h .function) (h .text) (h .R) (wordsOf code) i (s .after) (s .does) (here.action-here code values base i h) o)
+      (reads-function-end (here.m code values base i h) (here.n code values base i h) (here.codeHere code values base i h .function) (h .text) (h .R) (cellsOf code) i (s .after) (s .does) (here.action-here code values base i h) o .does-is)
+      ∙ ap (λ (b : Bool). if b then ending 4 S else returning (h .P) (here.callHere code values base i h rooms steps out) (waiting (h .P) (h .R) (cellsOf values) (h .d)) none S)
+      (function-end-function (here.m code values base i h) (here.n code values base i h) (here.codeHere code values base i h .function) (h .text) (h .R) (cellsOf code) i (s .after) (s .does) (here.action-here code values base i h) o)
 
-last-op : (code values : List ℕ) (base i : ℕ) → Here code values base i → NoneOf (opAt (wordsOf code) i) 26 → opAt (wordsOf code) i ≡ aFunctionEnd
+last-op : (code values : List ℕ) (base i : ℕ) → Here code values base i → NoneOf (opAt (cellsOf code) i) 26 → opAt (cellsOf code) i ≡ aFunctionEnd
 last-op code values base i h n =
     let s = here.stepHere code values base i h in
-    let low = op-low (here.m code values base i h) (here.n code values base i h) (here.codeHere code values base i h .function) (h .text) (h .R) (wordsOf code) i (s .after) (s .does) (here.action-here code values base i h) in
-    let high = op-high (here.m code values base i h) (here.n code values base i h) (here.codeHere code values base i h .function) (h .text) (h .R) (wordsOf code) i (s .after) (s .does) (here.action-here code values base i h) in
-    omega (arith, high, past-all (opAt (wordsOf code) i) 26 low n)
+    let low = op-low (here.m code values base i h) (here.n code values base i h) (here.codeHere code values base i h .function) (h .text) (h .R) (cellsOf code) i (s .after) (s .does) (here.action-here code values base i h) in
+    let high = op-high (here.m code values base i h) (here.n code values base i h) (here.codeHere code values base i h .function) (h .text) (h .R) (cellsOf code) i (s .after) (s .does) (here.action-here code values base i h) in
+    omega (arith, high, past-all (opAt (cellsOf code) i) 26 low n)
 
 -- ---- what a word says, by its op
-module _ (code : List ℕ) (base i w : ℕ) (ew : w ≡ headAt (wordsOf code) i) where
-  op-at : (n : ℕ) → opIn w ≡ n → opAt (wordsOf code) i ≡ n
+module _ (code : List ℕ) (base i w : ℕ) (ew : w ≡ headAt (cellsOf code) i) where
+  op-at : (n : ℕ) → opIn w ≡ n → opAt (cellsOf code) i ≡ n
   op-at n o = ap (λ (x : ℕ). opIn x) (sym ew) ∙ o
 
-  value-is : valueIn w ≡ valueAt (wordsOf code) i
+  value-is : valueIn w ≡ valueAt (cellsOf code) i
   value-is = ap (λ (x : ℕ). valueIn x) ew
 
-  pub to-module-word : opIn w ≡ aTarget → WordAt (wordsOf code) base aTarget i (valueIn w)
+  pub to-module-word : opIn w ≡ aTarget → WordAt (cellsOf code) base aTarget i (valueIn w)
   to-module-word o = ofModuleWord (op-at aTarget o) value-is
 
-  pub to-call-word : opIn w ≡ (aTarget + 1) → WordAt (wordsOf code) base aTarget i (base + valueIn w)
+  pub to-call-word : opIn w ≡ (aTarget + 1) → WordAt (cellsOf code) base aTarget i (base + valueIn w)
   to-call-word o = ofCallWord (op-at (aTarget + 1) o) (ap (λ (v : ℕ). base + v) value-is)
 
-  pub to-module-element : opIn w ≡ (aTarget + 2) → ArrayAt (wordsOf code) base aTarget i (valueIn w % sizePart) (valueIn w / sizePart)
+  pub to-module-element : opIn w ≡ (aTarget + 2) → ArrayAt (cellsOf code) base aTarget i (valueIn w % sizePart) (valueIn w / sizePart)
   to-module-element o = ofModuleArray (op-at (aTarget + 2) o) (ap (λ (v : ℕ). v % sizePart) value-is) (ap (λ (v : ℕ). v / sizePart) value-is)
 
-  pub to-call-element : opIn w ≡ (aTarget + 3) → ArrayAt (wordsOf code) base aTarget i (base + valueIn w % sizePart) (valueIn w / sizePart)
+  pub to-call-element : opIn w ≡ (aTarget + 3) → ArrayAt (cellsOf code) base aTarget i (base + valueIn w % sizePart) (valueIn w / sizePart)
   to-call-element o = ofCallArray (op-at (aTarget + 3) o) (ap (λ (v : ℕ). base + v % sizePart) value-is) (ap (λ (v : ℕ). v / sizePart) value-is)
 
-  pub for-module-word : opIn w ≡ aCallTarget → WordAt (wordsOf code) base aCallTarget i (valueIn w)
+  pub for-module-word : opIn w ≡ aCallTarget → WordAt (cellsOf code) base aCallTarget i (valueIn w)
   for-module-word o = ofModuleWord (op-at aCallTarget o) value-is
 
-  pub for-call-word : opIn w ≡ (aCallTarget + 1) → WordAt (wordsOf code) base aCallTarget i (base + valueIn w)
+  pub for-call-word : opIn w ≡ (aCallTarget + 1) → WordAt (cellsOf code) base aCallTarget i (base + valueIn w)
   for-call-word o = ofCallWord (op-at (aCallTarget + 1) o) (ap (λ (v : ℕ). base + v) value-is)
 
-  pub for-module-element : opIn w ≡ (aCallTarget + 2) → ArrayAt (wordsOf code) base aCallTarget i (valueIn w % sizePart) (valueIn w / sizePart)
+  pub for-module-element : opIn w ≡ (aCallTarget + 2) → ArrayAt (cellsOf code) base aCallTarget i (valueIn w % sizePart) (valueIn w / sizePart)
   for-module-element o = ofModuleArray (op-at (aCallTarget + 2) o) (ap (λ (v : ℕ). v % sizePart) value-is) (ap (λ (v : ℕ). v / sizePart) value-is)
 
-  pub for-call-element : opIn w ≡ (aCallTarget + 3) → ArrayAt (wordsOf code) base aCallTarget i (base + valueIn w % sizePart) (valueIn w / sizePart)
+  pub for-call-element : opIn w ≡ (aCallTarget + 3) → ArrayAt (cellsOf code) base aCallTarget i (base + valueIn w % sizePart) (valueIn w / sizePart)
   for-call-element o = ofCallArray (op-at (aCallTarget + 3) o) (ap (λ (v : ℕ). base + v % sizePart) value-is) (ap (λ (v : ℕ). v / sizePart) value-is)
 
-  pub by-return : opIn w ≡ aReturn → Returns (wordsOf code) i
+  pub by-return : opIn w ≡ aReturn → Returns (cellsOf code) i
   by-return o = byReturn (op-at aReturn o)
 
-  pub by-end : opIn w ≡ anEnd → Returns (wordsOf code) i
+  pub by-end : opIn w ≡ anEnd → Returns (cellsOf code) i
   by-end o = byEnd (op-at anEnd o)
 
 -- ---- a step
@@ -120,8 +120,8 @@ module _ (text code values out : List ℕ) (base last i : ℕ) (s : Steps text c
   pub step-inside : i * 8 + 8 ≤ length code
   step-inside = here.step-in code values base i (s .here)
 
-  count : countIn (wordsOf values) ≤ length out
-  count = subst (λ (n : ℕ). n ≤ length out) (count-is (s .here .P) (s .here .R) (wordsOf values)) (s .written)
+  count : countIn (cellsOf values) ≤ length out
+  count = subst (λ (n : ℕ). n ≤ length out) (count-is (s .here .P) (s .here .R) (cellsOf values)) (s .written)
 
   pub prints : Prints text code values out base i
   prints = record { here = s .here; text-is = s .text-is; written = count }
@@ -152,7 +152,7 @@ module _ (text code values out : List ℕ) (base last i : ℕ) (s : Steps text c
       was-read p = subst (Stepped text code values after inputs out out′ base last i) (sym (toZ-ofZ f)) (p .steps last)
 
   -- ---- by its word
-  module _ (w : ℕ) (ew : w ≡ headAt (wordsOf code) i) where
+  module _ (w : ℕ) (ew : w ≡ headAt (cellsOf code) i) where
     pub writes : opIn w ≡ aWrite → Writes text code values out i
     writes o = record { base = base; prints = prints; op = op-at code base i w ew aWrite o }
 

@@ -16,11 +16,11 @@ use mir.ValLaws.{toZ-pos}
 use borrow.Author.Tests.{ltb-false}
 use Rattle.paper.specs.Numbers.{value, error, outOfBound}
 use Rattle.paper.specs.Terms.{Ref, ofModule, ofRoutine, onward, Term, at, fails, locate, worth}
-use Rattle.store_cells.specs.Words.{wordsOf}
+use Rattle.store_cells.specs.Cells.{cellsOf}
 use Rattle.store_numbers.proofs.Whole.{read}
 use Rattle.code.specs.Cells.{firstWindow}
 use Rattle.code.proofs.Spanning.{span-grows}
-use Rattle.store_evaluation.specs.Answers.{firstError, Counts, callWords, termOf, memoryOf, Stores, Evaluated}
+use Rattle.store_evaluation.specs.Answers.{firstError, Counts, callSlots, termOf, memoryOf, Stores, Evaluated}
 use Rattle.store_evaluation.specs.Parts.{addresses}
 use Rattle.store_evaluation.proofs.Numbers.{is-value, is-error}
 use Rattle.run_targets.specs.Targets.{refCell, RefFits, found, lost, Indexes, Found}
@@ -39,19 +39,19 @@ module _ (m n base : ℕ) where
   fits-onward (ofModule j) k size h l = omega arith
   fits-onward (ofRoutine j) k size h l = omega arith
 
-  pub size-most : (a : Ref) (size : ℕ) → RefFits m n a size → m ≤ firstWindow → n ≤ callWords → size ≤ firstWindow
+  pub size-most : (a : Ref) (size : ℕ) → RefFits m n a size → m ≤ firstWindow → n ≤ callSlots → size ≤ firstWindow
   unfolding RefFits
   size-most (ofModule j) size h p q = omega arith
   size-most (ofRoutine j) size h p q = omega arith
 
-  pub cell-most : (a : Ref) (size : ℕ) → RefFits m n a size → m ≤ firstWindow → n ≤ callWords → refCell base a + size ≤ base + firstWindow
+  pub cell-most : (a : Ref) (size : ℕ) → RefFits m n a size → m ≤ firstWindow → n ≤ callSlots → refCell base a + size ≤ base + firstWindow
   unfolding RefFits refCell
   cell-most (ofModule j) size h p q = omega arith
   cell-most (ofRoutine j) size h p q = omega arith
 
 module _ (code values : List ℕ) (base first size i end : ℕ) (st : Stores values base) (ix : Indexes code base first size i end) where
   index-more : i + 2 < end
-  index-more = span-grows (ix .c .m) (ix .c .n) (wordsOf code) (i + 2) end (ix .t) (ix .is)
+  index-more = span-grows (ix .c .m) (ix .c .n) (cellsOf code) (i + 2) end (ix .t) (ix .is)
 
   pub index-at : Fits w64 end → Fits w64 (i + 2)
   index-at h = record { fits = omega (arith, h .fits, index-more) }

@@ -9,12 +9,12 @@ use mir.Val.{toZ}
 use borrow.Author.Tests.{lt-ltb, le-ltb}
 use Rattle.paper.specs.Terms.{Ref, ofModule, ofRoutine, Memory, at, fails}
 use Rattle.paper.specs.Steps.{Program, Spot, scalar, elementOf}
-use Rattle.paper.specs.States.{Location, callWord, locationOf, State, storeAt, Effect, failing, withSpot}
+use Rattle.paper.specs.States.{Location, callSlot, locationOf, State, storeAt, Effect, failing, withSpot}
 use Rattle.code.specs.Cells.{windowOf, firstWindow, windowCells}
 use Rattle.code.specs.Steps.{Head, numbered}
 use Rattle.code.specs.Windows.{routineCell, writtenCell, usedCell, locationIn, stateIn}
-use Rattle.store_evaluation.specs.Answers.{callWords}
-use Rattle.run_machine.specs.Live.{wordsOfCall, codeOfCall, cellOfCall, Live}
+use Rattle.store_evaluation.specs.Answers.{callSlots}
+use Rattle.run_machine.specs.Live.{slotsOfCall, codeOfCall, cellOfCall, Live}
 use Rattle.run_targets.specs.Targets.{refCell, RefFits, spotIn}
 use Rattle.run_machine.proofs.Agreeing.{Same, set-same}
 use Rattle.paper.specs.Answer.{storeWords}
@@ -38,11 +38,11 @@ module _ (M : Memory) (S : State) (go : Location → Effect) where
 
 -- ---- its cell
 module _ (P : Program) (R : List Head) (X : List ℕ) (d : ℕ) (g : Roomy P X d) where
-  call-room : wordsOfCall (codeOfCall P R X d) ≤ callWords
+  call-room : slotsOfCall (codeOfCall P R X d) ≤ callSlots
   call-room = g .calls (numbered R (cellOfCall P R X d routineCell))
 
   abbrev pub FitsHere : Ref → Type 0
-  FitsHere w = RefFits (length (P .words)) (wordsOfCall (codeOfCall P R X d)) w 1
+  FitsHere w = RefFits (length (P .words)) (slotsOfCall (codeOfCall P R X d)) w 1
 
   pub ref-inside : (w : Ref) → FitsHere w → refCell (windowOf d) w < storeWords
   unfolding RefFits refCell
@@ -56,7 +56,7 @@ module _ (P : Program) (R : List Head) (X : List ℕ) (d : ℕ) (g : Roomy P X d
   ref-word (ofRoutine k) h v i steps out =
       call-word P R X d g k v i steps out (omega arith)
       ∙ sym (on-top-word P R X d i steps out k (toZ w32 v))
-      ∙ ap (λ (n : ℕ). storeAt (callWord n k) (toZ w32 v) (stateIn P R X d i steps out)) (sym (depth-is P R X d i steps out))
+      ∙ ap (λ (n : ℕ). storeAt (callSlot n k) (toZ w32 v) (stateIn P R X d i steps out)) (sym (depth-is P R X d i steps out))
 
   pub ref-live : (w : Ref) → FitsHere w → (v i : ℕ) → Live P R X d i → Live P R (set X (refCell (windowOf d) w) v) d i
   unfolding RefFits refCell
@@ -74,4 +74,4 @@ module _ (P : Program) (R : List Head) (X : List ℕ) (d : ℕ) (g : Roomy P X d
   ref-location (ofRoutine k) h =
       let a : (windowOf d + k - firstWindow) / windowCells + 1 ≡ suc d = omega (arith, call-room) in
       let b : (windowOf d + k - firstWindow) % windowCells ≡ k = omega (arith, call-room) in
-      rw (le-ltb (windowOf d + k) firstWindow (omega arith), locationIn) (ap₂ callWord a b)
+      rw (le-ltb (windowOf d + k) firstWindow (omega arith), locationIn) (ap₂ callSlot a b)

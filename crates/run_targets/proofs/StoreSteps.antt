@@ -17,7 +17,7 @@ use Rattle.paper.specs.Steps.{Spot}
 use Rattle.paper.specs.Steps as action
 use Rattle.paper.specs.States.{Location, Rooms, Effect, made, goTo, onTop, storeAt, memoryOf, withValue, withSpot}
 use Rattle.paper.specs.Running.{perform}
-use Rattle.store_cells.specs.Words.{wordsOf}
+use Rattle.store_cells.specs.Cells.{cellsOf}
 use Rattle.store_numbers.proofs.Whole.{read}
 use Rattle.code.specs.Cells.{opAt, linkAt}
 use Rattle.code.specs.Spans.{memoryIn}
@@ -37,41 +37,41 @@ use Rattle.run_targets.proofs.Assigning.{memory-is}
 
 -- ---- where the target of any step is
 module _ (code values : List ℕ) (base i : ℕ) (h : Here code values base i) (ops : ℕ) (s : Spot) (j : ℕ)
-    (e : targetIn (here.m code values base i h) (here.n code values base i h) (here.codeHere code values base i h .function) (h .text) (h .R) (wordsOf code) ops i ≡ some (s, j)) where
-  pub word-aims : (cell : ℕ) → WordAt (wordsOf code) base ops i cell → Aims code values base i h ops cell (i + 1)
+    (e : targetIn (here.m code values base i h) (here.n code values base i h) (here.codeHere code values base i h .function) (h .text) (h .R) (cellsOf code) ops i ≡ some (s, j)) where
+  pub word-aims : (cell : ℕ) → WordAt (cellsOf code) base ops i cell → Aims code values base i h ops cell (i + 1)
   unfolding spotIn
   word-aims cell w =
-      let g = word-read (here.m code values base i h) (here.n code values base i h) (here.codeHere code values base i h .function) (h .text) (h .R) (wordsOf code) base ops i s j e cell w in
+      let g = word-read (here.m code values base i h) (here.n code values base i h) (here.codeHere code values base i h .function) (h .text) (h .R) (cellsOf code) base ops i s j e cell w in
       record {
         s = s;
         reads = e ∙ ap (λ (k : ℕ). some (s, k)) (g .next);
         w = g .w;
-        is = ap (spotIn (memoryIn (here.m code values base i h) (here.n code values base i h) (wordsOf values) base)) (g .is);
+        is = ap (spotIn (memoryIn (here.m code values base i h) (here.n code values base i h) (cellsOf values) base)) (g .is);
         fits = g .fits;
         cell-is = g .cell-is;
       }
 
-  module _ (first size : ℕ) (a : ArrayAt (wordsOf code) base ops i first size) where
-    read-array : ArrayRead (here.m code values base i h) (here.n code values base i h) (here.codeHere code values base i h .function) (h .text) (h .R) (wordsOf code) base ops i s j e first size
-    read-array = array-read (here.m code values base i h) (here.n code values base i h) (here.codeHere code values base i h .function) (h .text) (h .R) (wordsOf code) base ops i s j e first size a
+  module _ (first size : ℕ) (a : ArrayAt (cellsOf code) base ops i first size) where
+    read-array : ArrayRead (here.m code values base i h) (here.n code values base i h) (here.codeHere code values base i h .function) (h .text) (h .R) (cellsOf code) base ops i s j e first size
+    read-array = array-read (here.m code values base i h) (here.n code values base i h) (here.codeHere code values base i h .function) (h .text) (h .R) (cellsOf code) base ops i s j e first size a
 
     pub brace-inside : (i + 1) * 8 + 8 ≤ length code
     brace-inside =
         link-in code (i + 1) (here.whole-here code values base i h)
         (λ z. omega (arith, array-more (here.counts-here code values base i h) (here.codeHere code values base i h .function) (h .text) (h .R) code values base ops i s j e first size read-array))
 
-    module _ (end : ℕ) (p : Part halfEnd (linkAt (wordsOf code) (i + 1)) end) where
+    module _ (end : ℕ) (p : Part halfEnd (linkAt (cellsOf code) (i + 1)) end) where
       pub element-indexes : Indexes code base first size i end
       element-indexes =
           array-indexes (here.counts-here code values base i h) (here.codeHere code values base i h .function) (h .text) (h .R) code values base ops i s j e first size read-array end p (here.whole-here code values base i h)
 
       module _ (k : ℤ) (f : Found code values base first size i end k) where
-        tells : Tells (here.m code values base i h) (here.n code values base i h) base (spotIn (memoryIn (here.m code values base i h) (here.n code values base i h) (wordsOf values) base) s) k
+        tells : Tells (here.m code values base i h) (here.n code values base i h) base (spotIn (memoryIn (here.m code values base i h) (here.n code values base i h) (cellsOf values) base) s) k
         tells = array-tells (here.counts-here code values base i h) (here.codeHere code values base i h .function) (h .text) (h .R) code values base ops i s j e first size read-array end p k f
 
         module _ (t : ltZ k (pos firstError) ≡ true) where
-          told : (w : Ref) × (spotIn (memoryIn (here.m code values base i h) (here.n code values base i h) (wordsOf values) base) s ≡ at w) × RefFits (here.m code values base i h) (here.n code values base i h) w 1 × (k ≡ pos (refCell base w))
-          told = told-less (here.m code values base i h) (here.n code values base i h) base (spotIn (memoryIn (here.m code values base i h) (here.n code values base i h) (wordsOf values) base) s) k tells t
+          told : (w : Ref) × (spotIn (memoryIn (here.m code values base i h) (here.n code values base i h) (cellsOf values) base) s ≡ at w) × RefFits (here.m code values base i h) (here.n code values base i h) w 1 × (k ≡ pos (refCell base w))
+          told = told-less (here.m code values base i h) (here.n code values base i h) base (spotIn (memoryIn (here.m code values base i h) (here.n code values base i h) (cellsOf values) base) s) k tells t
 
           pub element-aims : Aims code values base i h ops (natAbs k) (end + 1)
           element-aims = record {
@@ -93,9 +93,9 @@ module _ (code values : List ℕ) (base i : ℕ) (h : Here code values base i) (
         -- an index that fails
         module _ (t : ltZ k (pos firstError) ≡ false) (rooms : Rooms) (steps : ℕ) (out : List ℕ) where
           pub element-fails : (go : Location → Effect) (E : Effect) → E ≡ withSpot (memoryOf (here.stateHere code values base i h rooms steps out) (here.callHere code values base i h rooms steps out)) s (here.stateHere code values base i h rooms steps out) go
-              → Comes (h .P) (h .R) (wordsOf code) (h .offset) (h .d) i steps (wordsOf values) (wordsOf values) out out E k
+              → Comes (h .P) (h .R) (cellsOf code) (h .offset) (h .d) i steps (cellsOf values) (cellsOf values) out out E k
           element-fails go E q =
-              let M = memoryIn (here.m code values base i h) (here.n code values base i h) (wordsOf values) base in
+              let M = memoryIn (here.m code values base i h) (here.n code values base i h) (cellsOf values) base in
               let l = told-error (here.m code values base i h) (here.n code values base i h) base (spotIn M s) k (h .holds .room) (here.routine-holds code values base i h .room) (omega (arith, h .base-is, h .deep)) tells t in
               let S = here.stateHere code values base i h rooms steps out in
               machine.fails (l .0) (l .3) (l .2) (h .live)
@@ -104,28 +104,28 @@ module _ (code values : List ℕ) (base i : ℕ) (h : Here code values base i) (
 -- ---- a store
 module _ (code values : List ℕ) (base i : ℕ) where
   -- what the table says of it
-  store-read : (h : Here code values base i) → opAt (wordsOf code) i < aCallTarget
-      → Reads (here.m code values base i h) (here.n code values base i h) (here.codeHere code values base i h .function) (h .text) (h .R) (wordsOf code) i (here.stepHere code values base i h .after) (here.stepHere code values base i h .does)
+  store-read : (h : Here code values base i) → opAt (cellsOf code) i < aCallTarget
+      → Reads (here.m code values base i h) (here.n code values base i h) (here.codeHere code values base i h .function) (h .text) (h .R) (cellsOf code) i (here.stepHere code values base i h .after) (here.stepHere code values base i h .does)
   store-read h op =
       let m = here.m code values base i h in
       let n = here.n code values base i h in
       let f = here.codeHere code values base i h .function in
       let s = here.stepHere code values base i h in
       let act = here.action-here code values base i h in
-      reads-store m n f (h .text) (h .R) (wordsOf code) i (s .after) (s .does) act (op-low m n f (h .text) (h .R) (wordsOf code) i (s .after) (s .does) act) op
+      reads-store m n f (h .text) (h .R) (cellsOf code) i (s .after) (s .does) act (op-low m n f (h .text) (h .R) (cellsOf code) i (s .after) (s .does) act) op
 
   pub after-fits : Here code values base i → Fits w64 (i + 1)
   after-fits h = record { fits = omega (arith, here.small-name code values base i h i (h .live .named) .1) }
 
-  word-op : (cell : ℕ) → WordAt (wordsOf code) base aTarget i cell → opAt (wordsOf code) i < aCallTarget
+  word-op : (cell : ℕ) → WordAt (cellsOf code) base aTarget i cell → opAt (cellsOf code) i < aCallTarget
   word-op cell (ofModuleWord q z) = omega arith
   word-op cell (ofCallWord q z) = omega arith
 
-  array-op : (first size : ℕ) → ArrayAt (wordsOf code) base aTarget i first size → opAt (wordsOf code) i < aCallTarget
+  array-op : (first size : ℕ) → ArrayAt (cellsOf code) base aTarget i first size → opAt (cellsOf code) i < aCallTarget
   array-op first size (ofModuleArray q z y) = omega arith
   array-op first size (ofCallArray q z y) = omega arith
 
-  module _ (cell : ℕ) (w : WordAt (wordsOf code) base aTarget i cell) where
+  module _ (cell : ℕ) (w : WordAt (cellsOf code) base aTarget i cell) where
     store-aims : (h : Here code values base i) → Aims code values base i h aTarget cell (i + 1)
     store-aims h = let g = store-read h (word-op cell w) in word-aims code values base i h aTarget (g .s) (g .j) (g .target) cell w
 
@@ -135,11 +135,11 @@ module _ (code values : List ℕ) (base i : ℕ) where
     pub store-done : (after : List ℕ) (r : ℤ) → SFits w64 r → Assigned code values base i (i + 1) cell after r → Performs code values after base i (read r)
     store-done after r s a = rw (toZ-ofZ s) (record { long = a .long; kept = a .kept; does = λ h rooms steps out. a .does h (store-aims h) rooms steps out })
 
-  module _ (first size : ℕ) (a : ArrayAt (wordsOf code) base aTarget i first size) where
+  module _ (first size : ℕ) (a : ArrayAt (cellsOf code) base aTarget i first size) where
     pub store-brace : Here code values base i → (i + 1) * 8 + 8 ≤ length code
     store-brace h = let g = store-read h (array-op first size a) in brace-inside code values base i h aTarget (g .s) (g .j) (g .target) first size a
 
-    module _ (end : ℕ) (p : Part halfEnd (linkAt (wordsOf code) (i + 1)) end) where
+    module _ (end : ℕ) (p : Part halfEnd (linkAt (cellsOf code) (i + 1)) end) where
       pub store-indexes : Here code values base i → Indexes code base first size i end
       store-indexes h = let g = store-read h (array-op first size a) in element-indexes code values base i h aTarget (g .s) (g .j) (g .target) first size a end p
 
@@ -179,7 +179,7 @@ module _ (code values : List ℕ) (base i : ℕ) where
               let S = here.stateHere code values base i h rooms steps out in
               let M = memoryOf S (here.callHere code values base i h rooms steps out) in
               element-fails code values base i h aTarget (g .s) (g .j) (g .target) first size a end p k f (rw (toZ-ofZ s) at t) rooms steps out
-              (λ w. withValue (worth M (g .e)) S (λ z. made (onTop (goTo (linkAt (wordsOf code) i)) (storeAt w z S))))
-              (effectAt (h .P) (h .R) rooms (wordsOf values) (h .d) i steps out)
-              (here.effect-here code values base i h rooms steps out (linkAt (wordsOf code) i) (action.store (g .s) (g .e)) (g .after-is) (g .does-is));
+              (λ w. withValue (worth M (g .e)) S (λ z. made (onTop (goTo (linkAt (cellsOf code) i)) (storeAt w z S))))
+              (effectAt (h .P) (h .R) rooms (cellsOf values) (h .d) i steps out)
+              (here.effect-here code values base i h rooms steps out (linkAt (cellsOf code) i) (action.store (g .s) (g .e)) (g .after-is) (g .does-is));
         })

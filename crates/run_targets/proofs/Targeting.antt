@@ -18,14 +18,14 @@ use Rattle.laws.proofs.Tests.{by-same}
 use Rattle.paper.specs.Terms.{Ref, ofModule, ofRoutine, Term, Located, at, fails}
 use Rattle.paper.specs.Answer.{storeWords}
 use Rattle.paper.specs.Steps.{Spot, scalar, elementOf}
-use Rattle.store_cells.specs.Words.{wordsOf}
+use Rattle.store_cells.specs.Cells.{cellsOf}
 use Rattle.store_numbers.proofs.Whole.{read}
 use Rattle.code.specs.Cells.{opIn, valueIn, headAt, opAt, valueAt, linkAt, firstWindow}
 use Rattle.code.specs.Spans.{firstIn, sizeIn, termIn}
 use Rattle.code.specs.Steps.{Head, aTarget, targetIn}
 use Rattle.code.proofs.Spanning.{span-grows}
 use Rattle.layout.specs.Answers.{answers}
-use Rattle.store_evaluation.specs.Answers.{firstError, Counts, callWords, termOf, memoryOf, Stores}
+use Rattle.store_evaluation.specs.Answers.{firstError, Counts, callSlots, termOf, memoryOf, Stores}
 use Rattle.store_evaluation.specs.Parts.{addresses}
 use Rattle.store_evaluation.proofs.Places.{link-in}
 use Rattle.store_reading.specs.Reading.{halfEnd, Part, cellValues}
@@ -96,16 +96,16 @@ module _ (m n : ℕ) (function : Bool) (text : List ℕ) (R : List Head) (C : Li
   array-read first size (ofCallArray h q z) = array-of-call (omega arith) first size q z
 
 -- ---- finding it
-module _ (c : Counts) (function : Bool) (text : List ℕ) (R : List Head) (code values : List ℕ) (base ops i : ℕ) (s : Spot) (j : ℕ) (e : targetIn (c .m) (c .n) function text R (wordsOf code) ops i ≡ some (s, j)) where
-  pub word-tells : (cell : ℕ) → WordRead (c .m) (c .n) function text R (wordsOf code) base ops i s j e cell → Tells (c .m) (c .n) base (spotIn (memoryOf c values base) s) (pos cell)
+module _ (c : Counts) (function : Bool) (text : List ℕ) (R : List Head) (code values : List ℕ) (base ops i : ℕ) (s : Spot) (j : ℕ) (e : targetIn (c .m) (c .n) function text R (cellsOf code) ops i ≡ some (s, j)) where
+  pub word-tells : (cell : ℕ) → WordRead (c .m) (c .n) function text R (cellsOf code) base ops i s j e cell → Tells (c .m) (c .n) base (spotIn (memoryOf c values base) s) (pos cell)
   unfolding spotIn
   word-tells cell g = found (g .w) (ap (spotIn (memoryOf c values base)) (g .is)) (g .fits) (ap pos (g .cell-is))
 
-  module _ (first size : ℕ) (g : ArrayRead (c .m) (c .n) function text R (wordsOf code) base ops i s j e first size) where
-    pub array-more : i + 2 < linkAt (wordsOf code) (i + 1)
-    array-more = span-grows (c .m) (c .n) (wordsOf code) (i + 2) (linkAt (wordsOf code) (i + 1)) (g .index) (g .reads)
+  module _ (first size : ℕ) (g : ArrayRead (c .m) (c .n) function text R (cellsOf code) base ops i s j e first size) where
+    pub array-more : i + 2 < linkAt (cellsOf code) (i + 1)
+    array-more = span-grows (c .m) (c .n) (cellsOf code) (i + 2) (linkAt (cellsOf code) (i + 1)) (g .index) (g .reads)
 
-    module _ (end : ℕ) (p : Part halfEnd (linkAt (wordsOf code) (i + 1)) end) where
+    module _ (end : ℕ) (p : Part halfEnd (linkAt (cellsOf code) (i + 1)) end) where
       reads-at : termOf c code (i + 2) end ≡ some (g .index)
       reads-at = ap (termOf c code (i + 2)) (p .same) ∙ g .reads
 
@@ -124,7 +124,7 @@ told-less m n base l r (lost e q f z) h =
     let t : ltb (firstError + e) firstError ≡ true = subst (λ (y : ℤ). ltZ y (pos firstError) ≡ true) z h in
     absurd (omega (arith, ltb-true (firstError + e) firstError t))
 
-pub told-error : (m n base : ℕ) (l : Located) (r : ℤ) → m ≤ firstWindow → n ≤ callWords → base < storeWords → Tells m n base l r → ltZ r (pos firstError) ≡ false → (e : ℕ) × (l ≡ fails e) × (e < answers) × (r ≡ pos (firstError + e))
+pub told-error : (m n base : ℕ) (l : Located) (r : ℤ) → m ≤ firstWindow → n ≤ callSlots → base < storeWords → Tells m n base l r → ltZ r (pos firstError) ≡ false → (e : ℕ) × (l ≡ fails e) × (e < answers) × (r ≡ pos (firstError + e))
 told-error m n base l r x y b (lost e q f z) h = (e, q, f, z)
 told-error m n base l r x y b (found w q f z) h =
     let t : ltb (refCell base w) firstError ≡ false = subst (λ (y : ℤ). ltZ y (pos firstError) ≡ false) z h in
@@ -146,8 +146,8 @@ module _ (base w : ℕ) where
   first-cell : (first : ℕ) × FirstCell first
   first-cell = by-same (opIn w) (aTarget + 2) (λ q. (firstIn (valueIn w), in-module q)) (λ q. (base + firstIn (valueIn w), in-call q))
 
-module _ (code values : List ℕ) (base i : ℕ) (st : Stores values base) (t : Target code i) (w : ℕ) (ew : w ≡ headAt (wordsOf code) i) where
-  op-is : opIn w ≡ opAt (wordsOf code) i
+module _ (code values : List ℕ) (base i : ℕ) (st : Stores values base) (t : Target code i) (w : ℕ) (ew : w ≡ headAt (cellsOf code) i) where
+  op-is : opIn w ≡ opAt (cellsOf code) i
   op-is = ap opIn ew
 
   pub target-module : opIn w ≡ aTarget → w < cellValues → Spotted code values base i (toZ w64 (valueIn w))
@@ -155,7 +155,7 @@ module _ (code values : List ℕ) (base i : ℕ) (st : Stores values base) (t : 
       rw (toZ-pos w64 (valueIn w) (omega arith)) (record {
         is = λ c f x R s j e.
             word-tells c f x R code values base aTarget i s j e (valueIn w)
-            (word-of-module (c .m) (c .n) f x R (wordsOf code) base aTarget i s j e (sym op-is ∙ h) (valueIn w) (ap valueIn ew));
+            (word-of-module (c .m) (c .n) f x R (cellsOf code) base aTarget i s j e (sym op-is ∙ h) (valueIn w) (ap valueIn ew));
       })
 
   pub target-call : (opIn w ≡ aTarget → ⊥) → opIn w ≤ aTarget + 1 → w < cellValues → length values < addresses → Spotted code values base i (toZ w64 (base + valueIn w))
@@ -163,16 +163,16 @@ module _ (code values : List ℕ) (base i : ℕ) (st : Stores values base) (t : 
       rw (toZ-pos w64 (base + valueIn w) (omega (arith, st .call))) (record {
         is = λ c f x R s j e.
             word-tells c f x R code values base aTarget i s j e (base + valueIn w)
-            (word-of-call (c .m) (c .n) f x R (wordsOf code) base aTarget i s j e (λ q. h (op-is ∙ q)) (omega (arith, op-is)) (base + valueIn w) (ap (λ (x : ℕ). base + valueIn x) ew));
+            (word-of-call (c .m) (c .n) f x R (cellsOf code) base aTarget i s j e (λ q. h (op-is ∙ q)) (omega (arith, op-is)) (base + valueIn w) (ap (λ (x : ℕ). base + valueIn x) ew));
       })
 
   module _ (k : aTarget + 1 < opIn w) where
-    array-at : (first : ℕ) → FirstCell base w first → (c : Counts) (f : Bool) (x : List ℕ) (R : List Head) (s : Spot) (j : ℕ) (e : targetIn (c .m) (c .n) f x R (wordsOf code) aTarget i ≡ some (s, j))
-        → ArrayRead (c .m) (c .n) f x R (wordsOf code) base aTarget i s j e first (sizeIn (valueIn w))
+    array-at : (first : ℕ) → FirstCell base w first → (c : Counts) (f : Bool) (x : List ℕ) (R : List Head) (s : Spot) (j : ℕ) (e : targetIn (c .m) (c .n) f x R (cellsOf code) aTarget i ≡ some (s, j))
+        → ArrayRead (c .m) (c .n) f x R (cellsOf code) base aTarget i s j e first (sizeIn (valueIn w))
     array-at first (inModule q a) c f x R s j e =
-        array-of-module (c .m) (c .n) f x R (wordsOf code) base aTarget i s j e (sym op-is ∙ q) first (sizeIn (valueIn w)) (a ∙ ap (λ (y : ℕ). firstIn (valueIn y)) ew) (ap (λ (y : ℕ). sizeIn (valueIn y)) ew)
+        array-of-module (c .m) (c .n) f x R (cellsOf code) base aTarget i s j e (sym op-is ∙ q) first (sizeIn (valueIn w)) (a ∙ ap (λ (y : ℕ). firstIn (valueIn y)) ew) (ap (λ (y : ℕ). sizeIn (valueIn y)) ew)
     array-at first (inCall q a) c f x R s j e =
-        array-of-call (c .m) (c .n) f x R (wordsOf code) base aTarget i s j e (omega (arith, op-is, q)) first (sizeIn (valueIn w)) (a ∙ ap (λ (y : ℕ). base + firstIn (valueIn y)) ew) (ap (λ (y : ℕ). sizeIn (valueIn y)) ew)
+        array-of-call (c .m) (c .n) f x R (cellsOf code) base aTarget i s j e (omega (arith, op-is, q)) first (sizeIn (valueIn w)) (a ∙ ap (λ (y : ℕ). base + firstIn (valueIn y)) ew) (ap (λ (y : ℕ). sizeIn (valueIn y)) ew)
 
     pub target-link : (i + 1) * 8 + 8 ≤ length code
     target-link =
@@ -184,7 +184,7 @@ module _ (code values : List ℕ) (base i : ℕ) (st : Stores values base) (t : 
               (array-at (a .0) (a .1) (t .c) (t .function) (t .text) (t .R) (t .s) (t .next) (t .reads)),
         ))
 
-    module _ (end : ℕ) (p : Part halfEnd (linkAt (wordsOf code) (i + 1)) end) (first : ℕ) (a : FirstCell base w first) where
+    module _ (end : ℕ) (p : Part halfEnd (linkAt (cellsOf code) (i + 1)) end) (first : ℕ) (a : FirstCell base w first) where
       pub target-indexes : Indexes code base first (sizeIn (valueIn w)) i end
       target-indexes =
           array-indexes (t .c) (t .function) (t .text) (t .R) code values base aTarget i (t .s) (t .next) (t .reads) first (sizeIn (valueIn w))

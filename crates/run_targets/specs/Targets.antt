@@ -9,14 +9,14 @@ use lib.IntN.{ℤ, pos}
 use Rattle.paper.specs.Terms.{Ref, ofModule, ofRoutine, Term, Memory, Located, at, fails, locate, worth}
 use Rattle.paper.specs.Steps.{Spot, scalar, elementOf}
 use Rattle.paper.specs.States.{Rooms}
-use Rattle.store_cells.specs.Words.{wordsOf}
+use Rattle.store_cells.specs.Cells.{cellsOf}
 use Rattle.code.specs.Cells.{opAt, valueAt}
 use Rattle.code.specs.Spans.{firstIn, sizeIn, memoryIn}
 use Rattle.code.specs.Steps.{Head, aTarget, aCallTarget, targetIn}
 use Rattle.code.specs.Windows.{writtenCell, usedCell}
 use Rattle.layout.specs.Answers.{answers}
 use Rattle.store_evaluation.specs.Answers.{firstError, Counts, termOf, memoryOf}
-use Rattle.run_machine.specs.Live.{wordsOfCall, codeOfCall}
+use Rattle.run_machine.specs.Live.{slotsOfCall, codeOfCall}
 use Rattle.run_machine.specs.Machine.{Here, Comes, effectAt}
 
 -- ---- words
@@ -62,12 +62,12 @@ pub record Target (code : List ℕ) (i : ℕ) : Type 0 where
   pub R : List Head
   pub s : Spot
   pub next : ℕ
-  pub reads : targetIn (c .m) (c .n) function text R (wordsOf code) aTarget i ≡ some (s, next)
+  pub reads : targetIn (c .m) (c .n) function text R (cellsOf code) aTarget i ≡ some (s, next)
   pub whole : length code % 8 ≡ 0
   pub inside : i * 8 + 8 ≤ length code
 
 pub record Spotted (code values : List ℕ) (base i : ℕ) (r : ℤ) : Type 0 where
-  pub is : (c : Counts) (function : Bool) (text : List ℕ) (R : List Head) (s : Spot) (next : ℕ) → targetIn (c .m) (c .n) function text R (wordsOf code) aTarget i ≡ some (s, next) →
+  pub is : (c : Counts) (function : Bool) (text : List ℕ) (R : List Head) (s : Spot) (next : ℕ) → targetIn (c .m) (c .n) function text R (cellsOf code) aTarget i ≡ some (s, next) →
       Tells (c .m) (c .n) base (spotIn (memoryOf c values base) s) r
 
 -- ---- the target of a step
@@ -84,21 +84,21 @@ module _ (code values : List ℕ) (base i : ℕ) where
   -- The target is at `cell`, and `next` is the word behind it.
   pub record Aims (h : Here code values base i) (ops cell next : ℕ) : Type 0 where
     pub s : Spot
-    pub reads : let c = codeOfCall (h .P) (h .R) (wordsOf values) (h .d) in
-        targetIn (length (h .P .words)) (wordsOfCall c) (c .function) (h .text) (h .R) (wordsOf code) ops i ≡ some (s, next)
+    pub reads : let c = codeOfCall (h .P) (h .R) (cellsOf values) (h .d) in
+        targetIn (length (h .P .words)) (slotsOfCall c) (c .function) (h .text) (h .R) (cellsOf code) ops i ≡ some (s, next)
     pub w : Ref
-    pub is : spotIn (memoryIn (length (h .P .words)) (wordsOfCall (codeOfCall (h .P) (h .R) (wordsOf values) (h .d))) (wordsOf values) base) s ≡ at w
-    pub fits : RefFits (length (h .P .words)) (wordsOfCall (codeOfCall (h .P) (h .R) (wordsOf values) (h .d))) w 1
+    pub is : spotIn (memoryIn (length (h .P .words)) (slotsOfCall (codeOfCall (h .P) (h .R) (cellsOf values) (h .d))) (cellsOf values) base) s ≡ at w
+    pub fits : RefFits (length (h .P .words)) (slotsOfCall (codeOfCall (h .P) (h .R) (cellsOf values) (h .d))) w 1
     pub cell-is : cell ≡ refCell base w
 
   -- A store to a cell that is known.
   pub record Assigns (next cell : ℕ) : Type 0 where
     pub here : Here code values base i
-    pub op : opAt (wordsOf code) i < aCallTarget
+    pub op : opAt (cellsOf code) i < aCallTarget
     pub aims : Aims here aTarget cell next
 
   pub record Assigned (next cell : ℕ) (after : List ℕ) (r : ℤ) : Type 0 where
     pub long : length after ≡ length values
     pub does : (h : Here code values base i) → Aims h aTarget cell next → (rooms : Rooms) (steps : ℕ) (out : List ℕ) →
-        Comes (h .P) (h .R) (wordsOf code) (h .offset) (h .d) i steps (wordsOf values) (wordsOf after) out out (effectAt (h .P) (h .R) rooms (wordsOf values) (h .d) i steps out) r
-    pub kept : (c : ℕ) → writtenCell ≤ c → c ≤ usedCell → getD (wordsOf after) c 0 ≡ getD (wordsOf values) c 0
+        Comes (h .P) (h .R) (cellsOf code) (h .offset) (h .d) i steps (cellsOf values) (cellsOf after) out out (effectAt (h .P) (h .R) rooms (cellsOf values) (h .d) i steps out) r
+    pub kept : (c : ℕ) → writtenCell ≤ c → c ≤ usedCell → getD (cellsOf after) c 0 ≡ getD (cellsOf values) c 0

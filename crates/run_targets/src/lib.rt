@@ -1,5 +1,5 @@
 // Where a target is, and what is stored there.
-ghost use Rattle.store_cells.specs.Words.{wordsOf};
+ghost use Rattle.store_cells.specs.Cells.{cellsOf};
 ghost use Rattle.code.specs.Steps.{aTarget};
 ghost use Rattle.store_evaluation.specs.Answers.{Stores};
 ghost use Rattle.run_machine.specs.Machine.{Here, Performs};
@@ -86,7 +86,7 @@ fn assign<'a>(
 
 // A store to the word at a cell.
 pub fn store<'a>(code: &'a [u8], values: &'a mut [u8], base: usize, i: usize, cell: usize) -> i64
-    requires { ⌜ Here (now code) (now values) base i × WordAt (wordsOf (now code)) base aTarget i cell ⌝ }
+    requires { ⌜ Here (now code) (now values) base i × WordAt (cellsOf (now code)) base aTarget i cell ⌝ }
     ensures { λ r. ⌜ Performs (now (code .entry)) (now (values .entry)) (now (values .exit)) base i r ⌝ }
 {
     assign(&*code, values, base, i, i + 1, cell)
@@ -101,7 +101,7 @@ pub fn store_element<'a>(
     first: usize,
     size: usize,
 ) -> i64
-    requires { ⌜ Here (now code) (now values) base i × ArrayAt (wordsOf (now code)) base aTarget i first size ⌝ }
+    requires { ⌜ Here (now code) (now values) base i × ArrayAt (cellsOf (now code)) base aTarget i first size ⌝ }
     ensures { λ r. ⌜ Performs (now (code .entry)) (now (values .entry)) (now (values .exit)) base i r ⌝ }
 {
     let end = link(code, i + 1);

@@ -8,7 +8,7 @@ use lib.Dec.{eqb}
 use lib.ListN.{length, List·getD-eq-default}
 use borrow.Author.Tests.{ne-eqb}
 use Rattle.paper.specs.Basics.{if_then_else_}
-use Rattle.store_cells.specs.Words.{wordsOf}
+use Rattle.store_cells.specs.Cells.{cellsOf}
 use Rattle.store_cells.proofs.Laws.{length-words}
 use Rattle.code.specs.Cells.{placeIn, placeAt}
 use Rattle.run_machine.specs.Machine.{lackedBy}
@@ -17,8 +17,8 @@ use Rattle.layout.specs.Rules.{beyondDepth, mainReturned}
 use Rattle.store_reading.specs.Reading.{cellValues}
 use Rattle.run_whole.specs.Runs.{Stops, byStep, byLack, Stopped}
 
-pub no-place : (code : List ℕ) (i : ℕ) → length code % 8 ≡ 0 → length code / 8 ≤ i → 0 ≡ placeAt (wordsOf code) i
-no-place code i w h = sym (ap placeIn (List·getD-eq-default (wordsOf code) 0 {n = i * 2 + 1} (omega (arith, length-words code))))
+pub no-place : (code : List ℕ) (i : ℕ) → length code % 8 ≡ 0 → length code / 8 ≤ i → 0 ≡ placeAt (cellsOf code) i
+no-place code i w h = sym (ap placeIn (List·getD-eq-default (cellsOf code) 0 {n = i * 2 + 1} (omega (arith, length-words code))))
 
 lacked-is : (n w answer : ℕ) → beyondDepth ≤ n → answer ≡ lackedBy n + w → answer ≡ lacked + answers * (n - beyondDepth) + w
 unfolding lackedBy
@@ -44,23 +44,23 @@ module _ (code : List ℕ) (answer left : ℕ) where
   module _ (i : ℕ) where
     pub stopped-main : answer < lacked → answer ≡ ended + mainReturned → Stopped code i answer left (record { ending = mainReturned; place = 0; left = left })
     stopped-main k e = record {
-      by-step = λ n h q. let m : n ≡ 1 = omega arith in (sym m, ap (λ (x : ℕ). if eqb x 1 then 0 else placeAt (wordsOf code) i) (sym m), refl);
+      by-step = λ n h q. let m : n ≡ 1 = omega arith in (sym m, ap (λ (x : ℕ). if eqb x 1 then 0 else placeAt (cellsOf code) i) (sym m), refl);
       by-lack = λ n w a b c q. absurd (omega (arith, lacked-is n w answer a q));
     }
 
-    pub stopped-step : answer < lacked → (answer ≡ ended + mainReturned → ⊥) → (p : ℕ) → p ≡ placeAt (wordsOf code) i → Stopped code i answer left (record { ending = answer - ended; place = p; left = left })
+    pub stopped-step : answer < lacked → (answer ≡ ended + mainReturned → ⊥) → (p : ℕ) → p ≡ placeAt (cellsOf code) i → Stopped code i answer left (record { ending = answer - ended; place = p; left = left })
     stopped-step k d p ep = record {
       by-step = λ n h q.
           let t : eqb n 1 ≡ false = ne-eqb n 1 (λ z. d (omega arith)) in
-          (omega arith, ep ∙ sym (ap (λ b. if b then 0 else placeAt (wordsOf code) i) t), refl);
+          (omega arith, ep ∙ sym (ap (λ b. if b then 0 else placeAt (cellsOf code) i) t), refl);
       by-lack = λ n w a b c q. absurd (omega (arith, lacked-is n w answer a q));
     }
 
-    pub stopped-lack : lacked ≤ answer → (p : ℕ) → p ≡ placeAt (wordsOf code) (answer % answers) → Stopped code i answer left (record { ending = beyondDepth + (answer - lacked) / answers; place = p; left = left + 1 })
+    pub stopped-lack : lacked ≤ answer → (p : ℕ) → p ≡ placeAt (cellsOf code) (answer % answers) → Stopped code i answer left (record { ending = beyondDepth + (answer - lacked) / answers; place = p; left = left + 1 })
     stopped-lack k p ep = record {
       by-step = λ n h q. absurd (omega arith);
       by-lack = λ n w a b c q.
           let g = lacked-is n w answer a q in
           let m : answer % answers ≡ w = omega arith in
-          (omega arith, ep ∙ ap (placeAt (wordsOf code)) m, refl);
+          (omega arith, ep ∙ ap (placeAt (cellsOf code)) m, refl);
     }

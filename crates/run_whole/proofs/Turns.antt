@@ -20,7 +20,7 @@ use Rattle.paper.specs.States as states
 use Rattle.paper.specs.Running.{nextStep, stepOf, Outcome, stopped, settled, takeStep, nextPlace, arising, run}
 use Rattle.paper.specs.Running as running
 use Rattle.store_numbers.proofs.Whole.{read}
-use Rattle.store_cells.specs.Words.{wordsOf}
+use Rattle.store_cells.specs.Cells.{cellsOf}
 use Rattle.code.specs.Cells.{windowOf, placeAt, errnoCell, firstWindow, windowCells}
 use Rattle.code.specs.Steps.{Head}
 use Rattle.code.specs.Windows.{writtenCell, usedCell, callIn, waiting, writtenIn, stateIn}
@@ -124,11 +124,11 @@ pub record Turning (text code values₀ inputs out₀ : List ℕ) (base₀ i₀ 
   pub long : length values ≡ length values₀
   pub out-long : length out ≡ length out₀
   pub on : n ≤ steps
-  pub written : countIn (wordsOf values) ≤ length out
-  pub past : drop (countIn (wordsOf values)) out ≡ drop (countIn (wordsOf values)) out₀
-  pub used : getD (wordsOf values) usedCell 0 ≤ steps - n
+  pub written : countIn (cellsOf values) ≤ length out
+  pub past : drop (countIn (cellsOf values)) out ≡ drop (countIn (cellsOf values)) out₀
+  pub used : getD (cellsOf values) usedCell 0 ≤ steps - n
   pub is : (h : Here code values₀ base₀ i₀) → h .text ≡ text → (rooms : Rooms) → LastWindow rooms last → Lends rooms inputs out₀
-      → Rest (h .P) (h .R) rooms (wordsOf values₀) out₀ (h .d) i₀ steps (wordsOf values) out base i n
+      → Rest (h .P) (h .R) rooms (cellsOf values₀) out₀ (h .d) i₀ steps (cellsOf values) out base i n
 
 -- an answer's size
 module _ (r : ℤ) (s : SFits w64 r) (k : ℕ) (e : r ≡ pos k) (c : ℕ) where
@@ -161,7 +161,7 @@ lackedBy-is n = refl
 module _ (text code values₀ inputs out₀ : List ℕ) (base₀ i₀ steps last : ℕ) (values out : List ℕ) (base i n : ℕ) (t : Turning text code values₀ inputs out₀ base₀ i₀ steps last values out base i n) where
   -- the step that comes next
   module _ (h : Here code values₀ base₀ i₀) (x : h .text ≡ text) (rooms : Rooms) (lw : LastWindow rooms last) (l : Lends rooms inputs out₀) where
-    abbrev left-of : Rest (h .P) (h .R) rooms (wordsOf values₀) out₀ (h .d) i₀ steps (wordsOf values) out base i n
+    abbrev left-of : Rest (h .P) (h .R) rooms (cellsOf values₀) out₀ (h .d) i₀ steps (cellsOf values) out base i n
     left-of = t .is h x rooms lw l
 
     now-here : Here code values base i
@@ -186,7 +186,7 @@ module _ (text code values₀ inputs out₀ : List ℕ) (base₀ i₀ steps last
     text-is = g .text-is;
     rooms = g .rooms;
     deepest = g .deepest;
-    written = subst (λ (k : ℕ). k ≤ length out) (sym (count-is (g .here .P) (g .here .R) (wordsOf values))) (t .written);
+    written = subst (λ (k : ℕ). k ≤ length out) (sym (count-is (g .here .P) (g .here .R) (cellsOf values))) (t .written);
     used = omega (arith, t .used, t .small, t .on);
   }
 
@@ -194,17 +194,17 @@ module _ (text code values₀ inputs out₀ : List ℕ) (base₀ i₀ steps last
   module _ (p : 0 < n) (after out′ : List ℕ) (r : ℤ) (s : SFits w64 r) (sd : Stepped text code values after inputs out out′ base last i r) where
     module _ (h : Here code values₀ base₀ i₀) (x : h .text ≡ text) (rooms : Rooms) (lw : LastWindow rooms last) (l : Lends rooms inputs out₀) where
       abbrev Came : Type 0
-      Came = Comes (h .P) (h .R) (wordsOf code) (h .offset) (t .is h x rooms lw l .d) i (steps - n) (wordsOf values) (wordsOf after) out out′ (effectAt (h .P) (h .R) rooms (wordsOf values) (t .is h x rooms lw l .d) i (steps - n) out) r
+      Came = Comes (h .P) (h .R) (cellsOf code) (h .offset) (t .is h x rooms lw l .d) i (steps - n) (cellsOf values) (cellsOf after) out out′ (effectAt (h .P) (h .R) rooms (cellsOf values) (t .is h x rooms lw l .d) i (steps - n) out) r
 
       came : Came
       unfolding now-here
       came = sd .does (now-here h x rooms lw l) x rooms lw (now-lends h x rooms lw l) (steps - n)
 
       -- a step that the newest call may come to
-      after-here : (base′ e m : ℕ) → e < depthLimit → base′ ≡ windowOf e → Live (h .P) (h .R) (wordsOf after) e m → Here code after base′ m
+      after-here : (base′ e m : ℕ) → e < depthLimit → base′ ≡ windowOf e → Live (h .P) (h .R) (cellsOf after) e m → Here code after base′ m
       after-here base′ e m de b lv = elsewhere h after e base′ m (sd .long ∙ t .long) de b lv
 
-      low : (e m : ℕ) → e < depthLimit → Live (h .P) (h .R) (wordsOf after) e m → m < wordLimit
+      low : (e m : ℕ) → e < depthLimit → Live (h .P) (h .R) (cellsOf after) e m → m < wordLimit
       unfolding after-here
       low e m de lv = small-name code after (windowOf e) m (after-here (windowOf e) e m de refl lv) m (lv .named) .1
 
@@ -212,9 +212,9 @@ module _ (text code values₀ inputs out₀ : List ℕ) (base₀ i₀ steps last
       n-is = omega arith
 
       -- the run goes on from a state
-      onward : (e m : ℕ) → run (h .P) rooms (suc (n - 1)) (stateIn (h .P) (h .R) (wordsOf values) (t .is h x rooms lw l .d) i (steps - n) out) ≡ run (h .P) rooms (n - 1) (stateIn (h .P) (h .R) (wordsOf after) e m (steps - n + 1) out′)
-          → (base′ : ℕ) → e < depthLimit → base′ ≡ windowOf e → Live (h .P) (h .R) (wordsOf after) e m
-          → Rest (h .P) (h .R) rooms (wordsOf values₀) out₀ (h .d) i₀ steps (wordsOf after) out′ base′ m (n - 1)
+      onward : (e m : ℕ) → run (h .P) rooms (suc (n - 1)) (stateIn (h .P) (h .R) (cellsOf values) (t .is h x rooms lw l .d) i (steps - n) out) ≡ run (h .P) rooms (n - 1) (stateIn (h .P) (h .R) (cellsOf after) e m (steps - n + 1) out′)
+          → (base′ : ℕ) → e < depthLimit → base′ ≡ windowOf e → Live (h .P) (h .R) (cellsOf after) e m
+          → Rest (h .P) (h .R) rooms (cellsOf values₀) out₀ (h .d) i₀ steps (cellsOf after) out′ base′ m (n - 1)
       onward e m q base′ de b lv =
           let k : steps - n + 1 ≡ steps - (n - 1) = omega (arith, t .on) in
           record {
@@ -223,35 +223,35 @@ module _ (text code values₀ inputs out₀ : List ℕ) (base₀ i₀ steps last
             base-is = b;
             live = lv;
             rest = t .is h x rooms lw l .rest
-                ∙ sym (ap (λ (j : ℕ). run (h .P) rooms j (stateIn (h .P) (h .R) (wordsOf values) (t .is h x rooms lw l .d) i (steps - n) out)) n-is)
+                ∙ sym (ap (λ (j : ℕ). run (h .P) rooms j (stateIn (h .P) (h .R) (cellsOf values) (t .is h x rooms lw l .d) i (steps - n) out)) n-is)
                 ∙ q
-                ∙ ap (λ (j : ℕ). run (h .P) rooms (n - 1) (stateIn (h .P) (h .R) (wordsOf after) e m j out′)) k;
+                ∙ ap (λ (j : ℕ). run (h .P) rooms (n - 1) (stateIn (h .P) (h .R) (cellsOf after) e m j out′)) k;
           }
 
-      onward-made : (e m : ℕ) → effectAt (h .P) (h .R) rooms (wordsOf values) (t .is h x rooms lw l .d) i (steps - n) out ≡ made (stateIn (h .P) (h .R) (wordsOf after) e m (steps - n) out′)
-          → (base′ : ℕ) → e < depthLimit → base′ ≡ windowOf e → Live (h .P) (h .R) (wordsOf after) e m
-          → Rest (h .P) (h .R) rooms (wordsOf values₀) out₀ (h .d) i₀ steps (wordsOf after) out′ base′ m (n - 1)
+      onward-made : (e m : ℕ) → effectAt (h .P) (h .R) rooms (cellsOf values) (t .is h x rooms lw l .d) i (steps - n) out ≡ made (stateIn (h .P) (h .R) (cellsOf after) e m (steps - n) out′)
+          → (base′ : ℕ) → e < depthLimit → base′ ≡ windowOf e → Live (h .P) (h .R) (cellsOf after) e m
+          → Rest (h .P) (h .R) rooms (cellsOf values₀) out₀ (h .d) i₀ steps (cellsOf after) out′ base′ m (n - 1)
       onward-made e m q base′ de b lv =
           onward e m
-          (run-made (h .P) rooms (h .R) (wordsOf values) (t .is h x rooms lw l .d) i (steps - n) out (n - 1) (stateIn (h .P) (h .R) (wordsOf after) e m (steps - n) out′) q
-          ∙ ap (run (h .P) rooms (n - 1)) (counted-is (h .P) (h .R) (wordsOf after) e m (steps - n) out′)) base′ de b lv
+          (run-made (h .P) rooms (h .R) (cellsOf values) (t .is h x rooms lw l .d) i (steps - n) out (n - 1) (stateIn (h .P) (h .R) (cellsOf after) e m (steps - n) out′) q
+          ∙ ap (run (h .P) rooms (n - 1)) (counted-is (h .P) (h .R) (cellsOf after) e m (steps - n) out′)) base′ de b lv
 
     -- the other parts of the invariant, whatever call is the newest then
-    count-now : countIn (wordsOf after) ≤ length out′
+    count-now : countIn (cellsOf after) ≤ length out′
     count-now =
-        subst (λ (k : ℕ). k ≤ length out′) (count-is (g .here .P) (g .here .R) (wordsOf after))
-        (subst (λ (k : ℕ). writtenIn (g .here .P) (g .here .R) (wordsOf after) ≤ k) (sym (sd .out-long)) (sd .written (g .here .P) (g .here .R)))
+        subst (λ (k : ℕ). k ≤ length out′) (count-is (g .here .P) (g .here .R) (cellsOf after))
+        (subst (λ (k : ℕ). writtenIn (g .here .P) (g .here .R) (cellsOf after) ≤ k) (sym (sd .out-long)) (sd .written (g .here .P) (g .here .R)))
 
-    past-now : drop (countIn (wordsOf after)) out′ ≡ drop (countIn (wordsOf after)) out₀
+    past-now : drop (countIn (cellsOf after)) out′ ≡ drop (countIn (cellsOf after)) out₀
     past-now =
-        let c : writtenIn (g .here .P) (g .here .R) (wordsOf after) ≡ countIn (wordsOf after) = count-is (g .here .P) (g .here .R) (wordsOf after) in
-        let b : writtenIn (g .here .P) (g .here .R) (wordsOf values) ≡ countIn (wordsOf values) = count-is (g .here .P) (g .here .R) (wordsOf values) in
-        let grows : countIn (wordsOf values) ≤ countIn (wordsOf after) = omega (arith, sd .grows (g .here .P) (g .here .R)) in
+        let c : writtenIn (g .here .P) (g .here .R) (cellsOf after) ≡ countIn (cellsOf after) = count-is (g .here .P) (g .here .R) (cellsOf after) in
+        let b : writtenIn (g .here .P) (g .here .R) (cellsOf values) ≡ countIn (cellsOf values) = count-is (g .here .P) (g .here .R) (cellsOf values) in
+        let grows : countIn (cellsOf values) ≤ countIn (cellsOf after) = omega (arith, sd .grows (g .here .P) (g .here .R)) in
         subst (λ (k : ℕ). drop k out′ ≡ drop k out) c (sd .past (g .here .P) (g .here .R))
-        ∙ past-on (countIn (wordsOf values)) (countIn (wordsOf after)) out out₀ grows (t .past)
+        ∙ past-on (countIn (cellsOf values)) (countIn (cellsOf after)) out out₀ grows (t .past)
 
     turned : (base′ m : ℕ) → ((h : Here code values₀ base₀ i₀) → h .text ≡ text → (rooms : Rooms) → LastWindow rooms last → Lends rooms inputs out₀
-        → Rest (h .P) (h .R) rooms (wordsOf values₀) out₀ (h .d) i₀ steps (wordsOf after) out′ base′ m (n - 1))
+        → Rest (h .P) (h .R) rooms (cellsOf values₀) out₀ (h .d) i₀ steps (cellsOf after) out′ base′ m (n - 1))
         → Turning text code values₀ inputs out₀ base₀ i₀ steps last after out′ base′ m (n - 1)
     turned base′ m f = record {
       given = g;
@@ -280,9 +280,9 @@ module _ (text code values₀ inputs out₀ : List ℕ) (base₀ i₀ steps last
       answer-pos (lacks m w at e f k j pl a b q) = (lackedBy m + w, e)
 
       -- the next step
-      arm-goes : ltZ (read r) (pos entered) ≡ true → Came h x rooms lw l → Rest (h .P) (h .R) rooms (wordsOf values₀) out₀ (h .d) i₀ steps (wordsOf after) out′ base (natAbs (read r)) (n - 1)
+      arm-goes : ltZ (read r) (pos entered) ≡ true → Came h x rooms lw l → Rest (h .P) (h .R) rooms (cellsOf values₀) out₀ (h .d) i₀ steps (cellsOf after) out′ base (natAbs (read r)) (n - 1)
       arm-goes z (goesOn m e lv q) =
-          subst (λ (j : ℕ). Rest (h .P) (h .R) rooms (wordsOf values₀) out₀ (h .d) i₀ steps (wordsOf after) out′ base j (n - 1)) (sym (answer-is r s m e))
+          subst (λ (j : ℕ). Rest (h .P) (h .R) rooms (cellsOf values₀) out₀ (h .d) i₀ steps (cellsOf after) out′ base j (n - 1)) (sym (answer-is r s m e))
           (onward-made h x rooms lw l d m q base (t .is h x rooms lw l .deep) (t .is h x rooms lw l .base-is) lv)
       arm-goes z (enters m e de lv q) = absurd (omega (arith, answer-below r s (entered + m) e entered z))
       arm-goes z (leaves c m e y lv q) = absurd (omega (arith, answer-below r s (left + m) e entered z))
@@ -294,11 +294,11 @@ module _ (text code values₀ inputs out₀ : List ℕ) (base₀ i₀ steps last
       -- a call is entered
       module _ (z : ltZ (read r) (pos entered) ≡ false) where
         arm-enters : ltZ (read r) (pos left) ≡ true → Came h x rooms lw l
-            → Rest (h .P) (h .R) rooms (wordsOf values₀) out₀ (h .d) i₀ steps (wordsOf after) out′ (base + windowCells) (natAbs (read r) - entered) (n - 1)
+            → Rest (h .P) (h .R) rooms (cellsOf values₀) out₀ (h .d) i₀ steps (cellsOf after) out′ (base + windowCells) (natAbs (read r) - entered) (n - 1)
         arm-enters y (goesOn m e lv q) = absurd (omega (arith, answer-above r s m e entered z, low h x rooms lw l d m (t .is h x rooms lw l .deep) lv))
         arm-enters y (enters m e de lv q) =
             let k : natAbs (read r) - entered ≡ m = omega (arith, answer-is r s (entered + m) e) in
-            subst (λ (j : ℕ). Rest (h .P) (h .R) rooms (wordsOf values₀) out₀ (h .d) i₀ steps (wordsOf after) out′ (base + windowCells) j (n - 1)) (sym k)
+            subst (λ (j : ℕ). Rest (h .P) (h .R) rooms (cellsOf values₀) out₀ (h .d) i₀ steps (cellsOf after) out′ (base + windowCells) j (n - 1)) (sym k)
             (onward-made h x rooms lw l (suc d) m q (base + windowCells) de (omega (arith, t .is h x rooms lw l .base-is)) lv)
         arm-enters y (leaves c m e o lv q) = absurd (omega (arith, answer-below r s (left + m) e left y))
         arm-enters y (fails e o f lv q) = absurd (omega (arith, answer-below r s (firstError + e) o left y))
@@ -309,13 +309,13 @@ module _ (text code values₀ inputs out₀ : List ℕ) (base₀ i₀ steps last
         -- a call is left
         module _ (y : ltZ (read r) (pos left) ≡ false) where
           arm-leaves : ltZ (read r) (pos ended) ≡ true → Came h x rooms lw l
-              → (windowCells ≤ base) × Rest (h .P) (h .R) rooms (wordsOf values₀) out₀ (h .d) i₀ steps (wordsOf after) out′ (base - windowCells) (natAbs (read r) - left) (n - 1)
+              → (windowCells ≤ base) × Rest (h .P) (h .R) rooms (cellsOf values₀) out₀ (h .d) i₀ steps (cellsOf after) out′ (base - windowCells) (natAbs (read r) - left) (n - 1)
           arm-leaves v (goesOn m e lv q) = absurd (omega (arith, answer-above r s m e entered z, low h x rooms lw l d m (t .is h x rooms lw l .deep) lv))
           arm-leaves v (enters m e de lv q) = absurd (omega (arith, answer-above r s (entered + m) e left y, low h x rooms lw l (suc d) m de lv))
           arm-leaves v (leaves c m e o lv q) =
               let k : natAbs (read r) - left ≡ m = omega (arith, answer-is r s (left + m) e) in (
                 omega (arith, t .is h x rooms lw l .base-is),
-                subst (λ (j : ℕ). Rest (h .P) (h .R) rooms (wordsOf values₀) out₀ (h .d) i₀ steps (wordsOf after) out′ (base - windowCells) j (n - 1)) (sym k)
+                subst (λ (j : ℕ). Rest (h .P) (h .R) rooms (cellsOf values₀) out₀ (h .d) i₀ steps (cellsOf after) out′ (base - windowCells) j (n - 1)) (sym k)
                     (onward-made h x rooms lw l c m q (base - windowCells) (omega (arith, t .is h x rooms lw l .deep)) (omega (arith, t .is h x rooms lw l .base-is)) lv),
               )
           arm-leaves v (fails e o f lv q) = absurd (omega (arith, answer-below r s (firstError + e) o ended v))
@@ -388,12 +388,12 @@ module _ (text code values₀ inputs out₀ : List ℕ) (base₀ i₀ steps last
 -- ---- the end of a run
 -- a state that a run ended in, as the answer and the stores have it
 module _ (P : Program) (R : List Head) (offset : ℕ → ℕ) (after out₀ out′ : List ℕ) (d i k steps m p : ℕ) (rec : Ended) where
-  finished : rec .ending ≡ m → rec .place ≡ (if eqb m 1 then 0 else offset p) → rec .left ≤ steps → k ≡ steps - rec .left → countIn (wordsOf after) ≤ length out′
-      → drop (countIn (wordsOf after)) out′ ≡ drop (countIn (wordsOf after)) out₀
-      → runs.Comes P offset after out₀ out′ steps (record { ending = m; place = p; state = stateIn P R (wordsOf after) d i k out′ }) rec
+  finished : rec .ending ≡ m → rec .place ≡ (if eqb m 1 then 0 else offset p) → rec .left ≤ steps → k ≡ steps - rec .left → countIn (cellsOf after) ≤ length out′
+      → drop (countIn (cellsOf after)) out′ ≡ drop (countIn (cellsOf after)) out₀
+      → runs.Comes P offset after out₀ out′ steps (record { ending = m; place = p; state = stateIn P R (cellsOf after) d i k out′ }) rec
   unfolding stateIn writtenIn
   finished a b c e w q =
-      let w′ = countIn (wordsOf after) in
+      let w′ = countIn (cellsOf after) in
       let len : length (take w′ out′) ≡ w′ = length-take-le w′ out′ w in
       record {
         ending = a;
@@ -409,7 +409,7 @@ module _ (P : Program) (R : List Head) (offset : ℕ → ℕ) (after out₀ out�
       }
 
 module _ (code values : List ℕ) (base i : ℕ) (h : Here code values base i) where
-  place-now : placeAt (wordsOf code) i ≡ h .offset (nextStep (h .P) (callIn (h .P) (h .R) (wordsOf values) (windowOf (h .d)) i) .place)
+  place-now : placeAt (cellsOf code) i ≡ h .offset (nextStep (h .P) (callIn (h .P) (h .R) (cellsOf values) (windowOf (h .d)) i) .place)
   unfolding nextStep stepOf callIn
   place-now = place-here code values base i h
 
@@ -425,27 +425,27 @@ run-spent P rooms s = refl
 abbrev pub Finishes : (text code values₀ inputs out₀ : List ℕ) (base₀ i₀ steps last : ℕ) (after out′ : List ℕ) (rec : Ended) → Type 0
 Finishes text code values₀ inputs out₀ base₀ i₀ steps last after out′ rec =
     (h : Here code values₀ base₀ i₀) → h .text ≡ text → (rooms : Rooms) → LastWindow rooms last → Lends rooms inputs out₀
-    → runs.Comes (h .P) (h .offset) after out₀ out′ steps (run (h .P) rooms steps (stateIn (h .P) (h .R) (wordsOf values₀) (h .d) i₀ 0 out₀)) rec
+    → runs.Comes (h .P) (h .offset) after out₀ out′ steps (run (h .P) rooms steps (stateIn (h .P) (h .R) (cellsOf values₀) (h .d) i₀ 0 out₀)) rec
 
 module _ (text code values₀ inputs out₀ : List ℕ) (base₀ i₀ steps last : ℕ) (values out : List ℕ) (base i n : ℕ) (t : Turning text code values₀ inputs out₀ base₀ i₀ steps last values out base i n) where
   abbrev at-now : (h : Here code values₀ base₀ i₀) → h .text ≡ text → (rooms : Rooms) → LastWindow rooms last → Lends rooms inputs out₀ → Here code values base i
   at-now h x rooms lw l = now-here text code values₀ inputs out₀ base₀ i₀ steps last values out base i n t h x rooms lw l
 
   now-place : (h : Here code values₀ base₀ i₀) (x : h .text ≡ text) (rooms : Rooms) (lw : LastWindow rooms last) (l : Lends rooms inputs out₀)
-      → placeAt (wordsOf code) i ≡ h .offset (nextStep (h .P) (callIn (h .P) (h .R) (wordsOf values) (windowOf (t .is h x rooms lw l .d)) i) .place)
+      → placeAt (cellsOf code) i ≡ h .offset (nextStep (h .P) (callIn (h .P) (h .R) (cellsOf values) (windowOf (t .is h x rooms lw l .d)) i) .place)
   unfolding now-here
   now-place h x rooms lw l = place-now code values base i (at-now h x rooms lw l)
 
   -- the steps are spent
-  pub spent : n ≤ 0 → (p : ℕ) → p ≡ placeAt (wordsOf code) i → Finishes text code values₀ inputs out₀ base₀ i₀ steps last values out (record { ending = 5; place = p; left = n })
+  pub spent : n ≤ 0 → (p : ℕ) → p ≡ placeAt (cellsOf code) i → Finishes text code values₀ inputs out₀ base₀ i₀ steps last values out (record { ending = 5; place = p; left = n })
   spent z p ep h x rooms lw l =
       let q = t .is h x rooms lw l in
       let e : n ≡ 0 = omega arith in
-      let S = stateIn (h .P) (h .R) (wordsOf values) (q .d) i (steps - n) out in
+      let S = stateIn (h .P) (h .R) (cellsOf values) (q .d) i (steps - n) out in
       subst (λ (w : running.Ended). runs.Comes (h .P) (h .offset) values out₀ out steps w (record { ending = 5; place = p; left = n }))
       (sym (q .rest ∙ ap (λ (j : ℕ). run (h .P) rooms j S) e ∙ run-spent (h .P) rooms S))
       (finished (h .P) (h .R) (h .offset) values out₀ out (q .d) i (steps - n) steps 5 (nextPlace (h .P) S) (record { ending = 5; place = p; left = n })
-      refl (ep ∙ now-place h x rooms lw l ∙ sym (ap (h .offset) (next-place (h .P) (h .R) (wordsOf values) (q .d) i (steps - n) out))) (t .on) refl (t .written) (t .past))
+      refl (ep ∙ now-place h x rooms lw l ∙ sym (ap (h .offset) (next-place (h .P) (h .R) (cellsOf values) (q .d) i (steps - n) out))) (t .on) refl (t .written) (t .past))
 
   module _ (p : 0 < n) (after out′ : List ℕ) (r : ℤ) (s : SFits w64 r) (sd : Stepped text code values after inputs out out′ base last i r)
       (z : ltZ (read r) (pos entered) ≡ false) (y : ltZ (read r) (pos left) ≡ false) (v : ltZ (read r) (pos ended) ≡ false) where
@@ -453,7 +453,7 @@ module _ (text code values₀ inputs out₀ : List ℕ) (base₀ i₀ steps last
         → Came text code values₀ inputs out₀ base₀ i₀ steps last values out base i n t p after out′ r s sd h x rooms lw l
     cm h x rooms lw l = came text code values₀ inputs out₀ base₀ i₀ steps last values out base i n t p after out′ r s sd h x rooms lw l
 
-    abbrev lw-of : (h : Here code values₀ base₀ i₀) (x : h .text ≡ text) (rooms : Rooms) (lw : LastWindow rooms last) (l : Lends rooms inputs out₀) (e m : ℕ) → e < depthLimit → Live (h .P) (h .R) (wordsOf after) e m → m < wordLimit
+    abbrev lw-of : (h : Here code values₀ base₀ i₀) (x : h .text ≡ text) (rooms : Rooms) (lw : LastWindow rooms last) (l : Lends rooms inputs out₀) (e m : ℕ) → e < depthLimit → Live (h .P) (h .R) (cellsOf after) e m → m < wordLimit
     lw-of h x rooms lw l e m de lv = low text code values₀ inputs out₀ base₀ i₀ steps last values out base i n t p after out′ r s sd h x rooms lw l e m de lv
 
     n-suc : suc (n - 1) ≡ n
@@ -461,24 +461,24 @@ module _ (text code values₀ inputs out₀ : List ℕ) (base₀ i₀ steps last
 
     -- what is left of the run is its last step
     by-last : (h : Here code values₀ base₀ i₀) (x : h .text ≡ text) (rooms : Rooms) (lw : LastWindow rooms last) (l : Lends rooms inputs out₀) (e : running.Ended)
-        → run (h .P) rooms (suc (n - 1)) (stateIn (h .P) (h .R) (wordsOf values) (t .is h x rooms lw l .d) i (steps - n) out) ≡ e
-        → run (h .P) rooms steps (stateIn (h .P) (h .R) (wordsOf values₀) (h .d) i₀ 0 out₀) ≡ e
+        → run (h .P) rooms (suc (n - 1)) (stateIn (h .P) (h .R) (cellsOf values) (t .is h x rooms lw l .d) i (steps - n) out) ≡ e
+        → run (h .P) rooms steps (stateIn (h .P) (h .R) (cellsOf values₀) (h .d) i₀ 0 out₀) ≡ e
     by-last h x rooms lw l e q =
         t .is h x rooms lw l .rest
-        ∙ sym (ap (λ (j : ℕ). run (h .P) rooms j (stateIn (h .P) (h .R) (wordsOf values) (t .is h x rooms lw l .d) i (steps - n) out)) n-suc)
+        ∙ sym (ap (λ (j : ℕ). run (h .P) rooms j (stateIn (h .P) (h .R) (cellsOf values) (t .is h x rooms lw l .d) i (steps - n) out)) n-suc)
         ∙ q
 
     -- it was ended by the step
     module _ (u : ltZ (read r) (pos handed) ≡ true) (rec : Ended) (st : Stopped code i (natAbs (read r)) (n - 1) rec) where
       module _ (h : Here code values₀ base₀ i₀) (x : h .text ≡ text) (rooms : Rooms) (lw : LastWindow rooms last) (l : Lends rooms inputs out₀) where
-        abbrev q : Rest (h .P) (h .R) rooms (wordsOf values₀) out₀ (h .d) i₀ steps (wordsOf values) out base i n
+        abbrev q : Rest (h .P) (h .R) rooms (cellsOf values₀) out₀ (h .d) i₀ steps (cellsOf values) out base i n
         q = t .is h x rooms lw l
 
-        stop-place : (m : ℕ) → rec .place ≡ (if eqb m 1 then 0 else placeAt (wordsOf code) i)
-            → rec .place ≡ (if eqb m 1 then 0 else h .offset (nextStep (h .P) (callIn (h .P) (h .R) (wordsOf values) (windowOf (q .d)) i) .place))
+        stop-place : (m : ℕ) → rec .place ≡ (if eqb m 1 then 0 else placeAt (cellsOf code) i)
+            → rec .place ≡ (if eqb m 1 then 0 else h .offset (nextStep (h .P) (callIn (h .P) (h .R) (cellsOf values) (windowOf (q .d)) i) .place))
         stop-place m e = e ∙ ap (λ (j : ℕ). if eqb m 1 then 0 else j) (now-place h x rooms lw l)
 
-        same-stores : (f : running.Ended) → wordsOf after ≡ wordsOf values → out′ ≡ out → runs.Comes (h .P) (h .offset) values out₀ out steps f rec → runs.Comes (h .P) (h .offset) after out₀ out′ steps f rec
+        same-stores : (f : running.Ended) → cellsOf after ≡ cellsOf values → out′ ≡ out → runs.Comes (h .P) (h .offset) values out₀ out steps f rec → runs.Comes (h .P) (h .offset) after out₀ out′ steps f rec
         same-stores f a b c = record {
           ending = c .ending;
           place = c .place;
@@ -493,7 +493,7 @@ module _ (text code values₀ inputs out₀ : List ℕ) (base₀ i₀ steps last
         }
 
         ended-at : Came text code values₀ inputs out₀ base₀ i₀ steps last values out base i n t p after out′ r s sd h x rooms lw l
-            → runs.Comes (h .P) (h .offset) after out₀ out′ steps (run (h .P) rooms steps (stateIn (h .P) (h .R) (wordsOf values₀) (h .d) i₀ 0 out₀)) rec
+            → runs.Comes (h .P) (h .offset) after out₀ out′ steps (run (h .P) rooms steps (stateIn (h .P) (h .R) (cellsOf values₀) (h .d) i₀ 0 out₀)) rec
         ended-at (goesOn m e lv o) = absurd (omega (arith, answer-above r s m e entered z, lw-of h x rooms lw l (q .d) m (q .deep) lv))
         ended-at (enters m e de lv o) = absurd (omega (arith, answer-above r s (entered + m) e left y, lw-of h x rooms lw l (suc (q .d)) m de lv))
         ended-at (leaves c m e w lv o) = absurd (omega (arith, answer-above r s (left + m) e ended v, lw-of h x rooms lw l c m (omega (arith, q .deep)) lv))
@@ -501,22 +501,22 @@ module _ (text code values₀ inputs out₀ : List ℕ) (base₀ i₀ steps last
         ended-at (hands e a b o) = absurd (omega (arith, answer-below r s handed e handed u))
         ended-at (ends m e f a b o) =
             let g = st .by-step m f (answer-is r s (ended + m) e) in
-            let place = nextStep (h .P) (callIn (h .P) (h .R) (wordsOf values) (windowOf (q .d)) i) .place in
-            let S = stateIn (h .P) (h .R) (wordsOf values) (q .d) i (steps - n) out in
+            let place = nextStep (h .P) (callIn (h .P) (h .R) (cellsOf values) (windowOf (q .d)) i) .place in
+            let S = stateIn (h .P) (h .R) (cellsOf values) (q .d) i (steps - n) out in
             let k : steps - n + 1 ≡ steps - rec .left = omega (arith, g .2, t .on) in
             subst (λ (w : running.Ended). runs.Comes (h .P) (h .offset) after out₀ out′ steps w rec)
-            (sym (by-last h x rooms lw l (record { ending = m; place = place; state = stateIn (h .P) (h .R) (wordsOf values) (q .d) i (steps - n + 1) out })
-            (run-ends (h .P) rooms (h .R) (wordsOf values) (q .d) i (steps - n) out (n - 1) m S o
-            ∙ ap (λ (w : State). record { ending = m; place = place; state = w }) (counted-is (h .P) (h .R) (wordsOf values) (q .d) i (steps - n) out))))
+            (sym (by-last h x rooms lw l (record { ending = m; place = place; state = stateIn (h .P) (h .R) (cellsOf values) (q .d) i (steps - n + 1) out })
+            (run-ends (h .P) rooms (h .R) (cellsOf values) (q .d) i (steps - n) out (n - 1) m S o
+            ∙ ap (λ (w : State). record { ending = m; place = place; state = w }) (counted-is (h .P) (h .R) (cellsOf values) (q .d) i (steps - n) out))))
             (same-stores _ a b
             (finished (h .P) (h .R) (h .offset) values out₀ out (q .d) i (steps - n + 1) steps m place rec (g .0) (stop-place m (g .1)) (omega (arith, g .2, t .on)) k (t .written) (t .past)))
         ended-at (lacks m w at e f k j pl a b o) =
             let g = st .by-lack m w f k j (answer-is r s (lackedBy m + w) e) in
             let c : eqb m 1 ≡ false = ne-eqb m 1 (λ z. omega arith) in
-            let S = stateIn (h .P) (h .R) (wordsOf values) (q .d) i (steps - n) out in
+            let S = stateIn (h .P) (h .R) (cellsOf values) (q .d) i (steps - n) out in
             let left-is : rec .left ≡ n = omega (arith, g .2) in
             subst (λ (w : running.Ended). runs.Comes (h .P) (h .offset) after out₀ out′ steps w rec)
-            (sym (by-last h x rooms lw l (record { ending = m; place = at; state = S }) (run-lacks (h .P) rooms (h .R) (wordsOf values) (q .d) i (steps - n) out (n - 1) m at o)))
+            (sym (by-last h x rooms lw l (record { ending = m; place = at; state = S }) (run-lacks (h .P) rooms (h .R) (cellsOf values) (q .d) i (steps - n) out (n - 1) m at o)))
             (same-stores _ a b
             (finished (h .P) (h .R) (h .offset) values out₀ out (q .d) i (steps - n) steps m at rec (g .0) (g .1 ∙ pl ∙ sym (ap (λ b. if b then 0 else h .offset at) c)) (omega (arith, t .on)) (ap (λ (x : ℕ). steps - x) (sym left-is)) (t .written) (t .past)))
 
@@ -529,67 +529,67 @@ module _ (text code values₀ inputs out₀ : List ℕ) (base₀ i₀ steps last
       ar-is = rw (toZ-ofZ s) at ar
 
       module _ (h : Here code values₀ base₀ i₀) (x : h .text ≡ text) (rooms : Rooms) (lw : LastWindow rooms last) (l : Lends rooms inputs out₀) where
-        abbrev now : Rest (h .P) (h .R) rooms (wordsOf values₀) out₀ (h .d) i₀ steps (wordsOf values) out base i n
+        abbrev now : Rest (h .P) (h .R) rooms (cellsOf values₀) out₀ (h .d) i₀ steps (cellsOf values) out base i n
         now = t .is h x rooms lw l
 
         abbrev place : ℕ
-        place = nextStep (h .P) (callIn (h .P) (h .R) (wordsOf values) (windowOf (now .d)) i) .place
+        place = nextStep (h .P) (callIn (h .P) (h .R) (cellsOf values) (windowOf (now .d)) i) .place
 
         abbrev now-settled : Outcome
         now-settled =
-            settled (h .P) place (waiting (h .P) (h .R) (wordsOf values) (now .d)) (stateIn (h .P) (h .R) (wordsOf values) (now .d) i (steps - n) out) (effectAt (h .P) (h .R) rooms (wordsOf values) (now .d) i (steps - n) out)
+            settled (h .P) place (waiting (h .P) (h .R) (cellsOf values) (now .d)) (stateIn (h .P) (h .R) (cellsOf values) (now .d) i (steps - n) out) (effectAt (h .P) (h .R) rooms (cellsOf values) (now .d) i (steps - n) out)
 
         -- the step after which it arose
-        at-after : Live (h .P) (h .R) (wordsOf after) (now .d) i → Here code after base i
+        at-after : Live (h .P) (h .R) (cellsOf after) (now .d) i → Here code after base i
         at-after lv = after-here text code values₀ inputs out₀ base₀ i₀ steps last values out base i n t p after out′ r s sd h x rooms lw l base (now .d) i (now .deep) (now .base-is) lv
 
         settles : Came text code values₀ inputs out₀ base₀ i₀ steps last values out base i n t p after out′ r s sd h x rooms lw l
-            → Settles (h .P) (h .R) (wordsOf after2) (now .d) i (steps - n + 1) place out′ k now-settled
+            → Settles (h .P) (h .R) (cellsOf after2) (now .d) i (steps - n + 1) place out′ k now-settled
         unfolding at-after after-here
         settles (goesOn m e lv o) = absurd (omega (arith, answer-above r s m e entered z, lw-of h x rooms lw l (now .d) m (now .deep) lv))
         settles (enters m e de lv o) = absurd (omega (arith, answer-above r s (entered + m) e left y, lw-of h x rooms lw l (suc (now .d)) m de lv))
         settles (leaves c m e w lv o) = absurd (omega (arith, answer-above r s (left + m) e ended v, lw-of h x rooms lw l c m (omega (arith, now .deep)) lv))
         settles (fails e w f lv o) =
-            subst (Settles (h .P) (h .R) (wordsOf after2) (now .d) i (steps - n + 1) place out′ k)
-            (sym (ap (settled (h .P) place (waiting (h .P) (h .R) (wordsOf values) (now .d)) (stateIn (h .P) (h .R) (wordsOf values) (now .d) i (steps - n) out)) o
-            ∙ settled-fails (h .P) place (h .R) (wordsOf values) (wordsOf after) (now .d) i (steps - n) out out′ e))
+            subst (Settles (h .P) (h .R) (cellsOf after2) (now .d) i (steps - n + 1) place out′ k)
+            (sym (ap (settled (h .P) place (waiting (h .P) (h .R) (cellsOf values) (now .d)) (stateIn (h .P) (h .R) (cellsOf values) (now .d) i (steps - n) out)) o
+            ∙ settled-fails (h .P) place (h .R) (cellsOf values) (cellsOf after) (now .d) i (steps - n) out out′ e))
             (ar-is .fails (at-after lv) e w (steps - n + 1) place out′)
         settles (hands e a b o) =
-            let lv : Live (h .P) (h .R) (wordsOf after) (now .d) i = subst (λ (w : List ℕ). Live (h .P) (h .R) w (now .d) i) (sym a) (now .live) in
-            subst (Settles (h .P) (h .R) (wordsOf after2) (now .d) i (steps - n + 1) place out′ k)
-            (sym (ap (settled (h .P) place (waiting (h .P) (h .R) (wordsOf values) (now .d)) (stateIn (h .P) (h .R) (wordsOf values) (now .d) i (steps - n) out)) o
-            ∙ settled-hands (h .P) place (h .R) (wordsOf values) (now .d) i (steps - n) out
+            let lv : Live (h .P) (h .R) (cellsOf after) (now .d) i = subst (λ (w : List ℕ). Live (h .P) (h .R) w (now .d) i) (sym a) (now .live) in
+            subst (Settles (h .P) (h .R) (cellsOf after2) (now .d) i (steps - n + 1) place out′ k)
+            (sym (ap (settled (h .P) place (waiting (h .P) (h .R) (cellsOf values) (now .d)) (stateIn (h .P) (h .R) (cellsOf values) (now .d) i (steps - n) out)) o
+            ∙ settled-hands (h .P) place (h .R) (cellsOf values) (now .d) i (steps - n) out
             ∙ sym (ap₂ (λ (w y : List ℕ). arising (h .P) (getD w errnoCell 0) place (waiting (h .P) (h .R) w (now .d)) (stateIn (h .P) (h .R) w (now .d) i (steps - n + 1) y)) a b)))
             (ar-is .hands (at-after lv) e (steps - n + 1) place out′)
         settles (ends m e f a b o) = absurd (omega (arith, answer-above r s (ended + m) e handed u))
         settles (lacks m w at e f j d pl a b o) = absurd (omega (arith, answer-above r s (lackedBy m + w) e handed u, lackedBy-is m))
 
-        settled-now : Settles (h .P) (h .R) (wordsOf after2) (now .d) i (steps - n + 1) place out′ k now-settled
+        settled-now : Settles (h .P) (h .R) (cellsOf after2) (now .d) i (steps - n + 1) place out′ k now-settled
         settled-now = settles (cm h x rooms lw l)
 
       -- the stores then
-      kept-count : countIn (wordsOf after2) ≡ countIn (wordsOf after)
+      kept-count : countIn (cellsOf after2) ≡ countIn (cellsOf after)
       kept-count = ap₂ (λ (x y : ℕ). x + cellValues * y) (ar-is .kept writtenCell (omega arith) (omega arith)) (ar-is .kept (suc writtenCell) (omega arith) (omega arith))
 
-      count-2 : countIn (wordsOf after2) ≤ length out′
+      count-2 : countIn (cellsOf after2) ≤ length out′
       count-2 = subst (λ (j : ℕ). j ≤ length out′) (sym kept-count) (count-now text code values₀ inputs out₀ base₀ i₀ steps last values out base i n t p after out′ r s sd)
 
-      past-2 : drop (countIn (wordsOf after2)) out′ ≡ drop (countIn (wordsOf after2)) out₀
+      past-2 : drop (countIn (cellsOf after2)) out′ ≡ drop (countIn (cellsOf after2)) out₀
       past-2 = subst (λ (j : ℕ). drop j out′ ≡ drop j out₀) (sym kept-count) (past-now text code values₀ inputs out₀ base₀ i₀ steps last values out base i n t p after out′ r s sd)
 
       -- nobody takes it
-      module _ (nx : k .next ≡ 0) (pl : ℕ) (ep : pl ≡ placeAt (wordsOf code) i) where
+      module _ (nx : k .next ≡ 0) (pl : ℕ) (ep : pl ≡ placeAt (cellsOf code) i) where
         abbrev died : Ended
         died = record { ending = 3; place = pl; left = n - 1 }
 
         dies-by : (h : Here code values₀ base₀ i₀) (x : h .text ≡ text) (rooms : Rooms) (lw : LastWindow rooms last) (l : Lends rooms inputs out₀)
-            → Settles (h .P) (h .R) (wordsOf after2) (t .is h x rooms lw l .d) i (steps - n + 1) (place h x rooms lw l) out′ k (now-settled h x rooms lw l)
-            → runs.Comes (h .P) (h .offset) after2 out₀ out′ steps (run (h .P) rooms steps (stateIn (h .P) (h .R) (wordsOf values₀) (h .d) i₀ 0 out₀)) died
+            → Settles (h .P) (h .R) (cellsOf after2) (t .is h x rooms lw l .d) i (steps - n + 1) (place h x rooms lw l) out′ k (now-settled h x rooms lw l)
+            → runs.Comes (h .P) (h .offset) after2 out₀ out′ steps (run (h .P) rooms steps (stateIn (h .P) (h .R) (cellsOf values₀) (h .d) i₀ 0 out₀)) died
         dies-by h x rooms lw l (stops w o) =
             let g = t .is h x rooms lw l in
-            let e : running.Ended = record { ending = 3; place = place h x rooms lw l; state = stateIn (h .P) (h .R) (wordsOf after2) (g .d) i (steps - n + 1) out′ } in
+            let e : running.Ended = record { ending = 3; place = place h x rooms lw l; state = stateIn (h .P) (h .R) (cellsOf after2) (g .d) i (steps - n + 1) out′ } in
             subst (λ (w : running.Ended). runs.Comes (h .P) (h .offset) after2 out₀ out′ steps w died)
-            (sym (by-last h x rooms lw l e (run-dies (h .P) rooms (h .R) (wordsOf values) (g .d) i (steps - n) out (n - 1) (now-settled h x rooms lw l) refl e o)))
+            (sym (by-last h x rooms lw l e (run-dies (h .P) rooms (h .R) (cellsOf values) (g .d) i (steps - n) out (n - 1) (now-settled h x rooms lw l) refl e o)))
             (finished (h .P) (h .R) (h .offset) after2 out₀ out′ (g .d) i (steps - n + 1) steps 3 (place h x rooms lw l) died
             refl (ep ∙ now-place h x rooms lw l) (omega (arith, t .on)) (omega (arith, t .on)) count-2 past-2)
         dies-by h x rooms lw l (resumes c w b de lv o) = absurd (omega arith)
@@ -600,8 +600,8 @@ module _ (text code values₀ inputs out₀ : List ℕ) (base₀ i₀ steps last
       -- a call takes it
       module _ (nx : k .next ≡ 0 → ⊥) where
         resumes-by : (h : Here code values₀ base₀ i₀) (x : h .text ≡ text) (rooms : Rooms) (lw : LastWindow rooms last) (l : Lends rooms inputs out₀)
-            → Settles (h .P) (h .R) (wordsOf after2) (t .is h x rooms lw l .d) i (steps - n + 1) (place h x rooms lw l) out′ k (now-settled h x rooms lw l)
-            → Rest (h .P) (h .R) rooms (wordsOf values₀) out₀ (h .d) i₀ steps (wordsOf after2) out′ (k .base) (k .next) (n - 1)
+            → Settles (h .P) (h .R) (cellsOf after2) (t .is h x rooms lw l .d) i (steps - n + 1) (place h x rooms lw l) out′ k (now-settled h x rooms lw l)
+            → Rest (h .P) (h .R) rooms (cellsOf values₀) out₀ (h .d) i₀ steps (cellsOf after2) out′ (k .base) (k .next) (n - 1)
         resumes-by h x rooms lw l (stops w o) = absurd (nx w)
         resumes-by h x rooms lw l (resumes c w b de lv o) =
             let g = t .is h x rooms lw l in
@@ -612,9 +612,9 @@ module _ (text code values₀ inputs out₀ : List ℕ) (base₀ i₀ steps last
               base-is = b;
               live = lv;
               rest = g .rest
-                  ∙ sym (ap (λ (j : ℕ). run (h .P) rooms j (stateIn (h .P) (h .R) (wordsOf values) (g .d) i (steps - n) out)) n-suc)
-                  ∙ run-resumes (h .P) rooms (h .R) (wordsOf values) (g .d) i (steps - n) out (n - 1) (now-settled h x rooms lw l) refl (stateIn (h .P) (h .R) (wordsOf after2) c (k .next) (steps - n + 1) out′) o
-                  ∙ ap (λ (j : ℕ). run (h .P) rooms (n - 1) (stateIn (h .P) (h .R) (wordsOf after2) c (k .next) j out′)) e;
+                  ∙ sym (ap (λ (j : ℕ). run (h .P) rooms j (stateIn (h .P) (h .R) (cellsOf values) (g .d) i (steps - n) out)) n-suc)
+                  ∙ run-resumes (h .P) rooms (h .R) (cellsOf values) (g .d) i (steps - n) out (n - 1) (now-settled h x rooms lw l) refl (stateIn (h .P) (h .R) (cellsOf after2) c (k .next) (steps - n + 1) out′) o
+                  ∙ ap (λ (j : ℕ). run (h .P) rooms (n - 1) (stateIn (h .P) (h .R) (cellsOf after2) c (k .next) j out′)) e;
             }
 
         pub turn-resumes : Turning text code values₀ inputs out₀ base₀ i₀ steps last after2 out′ (k .base) (k .next) (n - 1)
@@ -635,7 +635,7 @@ pub run-begins : (text code values : List ℕ) (h depth : ℕ) → Begins text c
 run-begins text code values h depth b = record { text = text; depth = depth; begins = b }
 
 module _ (text code values inputs out : List ℕ) (h steps depth : ℕ) (b : Begins text code values h depth) where
-  module _ (values₀ : List ℕ) (bg : Begun code values values₀ h) (i₀ : ℕ) (ei : i₀ ≡ placeAt (wordsOf code) h) where
+  module _ (values₀ : List ℕ) (bg : Begun code values values₀ h) (i₀ : ℕ) (ei : i₀ ≡ placeAt (cellsOf code) h) where
     first-here : Begins text code values h depth → Here code values₀ firstWindow i₀
     first-here c = record {
       text = text;
@@ -648,19 +648,19 @@ module _ (text code values inputs out : List ℕ) (h steps depth : ℕ) (b : Beg
       d = 0;
       deep = omega arith;
       base-is = refl;
-      live = subst (Live (c .P) (c .R) (wordsOf values₀) 0) (sym ei) (bg .live text depth c);
+      live = subst (Live (c .P) (c .R) (cellsOf values₀) 0) (sym ei) (bg .live text depth c);
     }
 
     last-of : (c : Begins text code values h depth) (rooms : Rooms) → rooms .depth ≡ depth → LastWindow rooms (firstWindow + windowCells * (depth - 1))
     last-of c rooms e = record { some = omega (arith, c .some); most = omega (arith, c .most); is = sym (ap (λ (n : ℕ). firstWindow + windowCells * (n - 1)) e) }
 
     lent : Rooms
-    lent = record { depth = depth; output = length out; inputs = map (toZ w32) (wordsOf inputs) }
+    lent = record { depth = depth; output = length out; inputs = map (toZ w32) (cellsOf inputs) }
 
     pub run-starts : steps < cellValues → Turning text code values₀ inputs out firstWindow i₀ steps (firstWindow + windowCells * (depth - 1)) values₀ out firstWindow i₀ steps
     unfolding lent first-here
     run-starts sm =
-        let w : countIn (wordsOf values₀) ≡ 0 = sym (count-is (b .P) (b .R) (wordsOf values₀)) ∙ bg .written (b .P) (b .R) text depth b in
+        let w : countIn (cellsOf values₀) ≡ 0 = sym (count-is (b .P) (b .R) (cellsOf values₀)) ∙ bg .written (b .P) (b .R) text depth b in
         let z : steps - steps ≡ 0 = omega arith in
         record {
           given = record { here = first-here b; text-is = refl; rooms = lent; deepest = last-of b lent refl; lends = record { room = refl; reads = refl } };
@@ -676,7 +676,7 @@ module _ (text code values inputs out : List ℕ) (h steps depth : ℕ) (b : Beg
             deep = h .deep;
             base-is = h .base-is;
             live = h .live;
-            rest = sym (ap (λ (k : ℕ). run (h .P) rooms steps (stateIn (h .P) (h .R) (wordsOf values₀) (h .d) i₀ k out)) z);
+            rest = sym (ap (λ (k : ℕ). run (h .P) rooms steps (stateIn (h .P) (h .R) (cellsOf values₀) (h .d) i₀ k out)) z);
           };
         }
 
@@ -688,6 +688,6 @@ module _ (text code values inputs out : List ℕ) (h steps depth : ℕ) (b : Beg
       out-long = lo;
       is = λ c rooms e l.
           subst (λ (s : State). runs.Comes (c .P) (c .offset) after out out′ steps (run (c .P) rooms steps s) rec)
-          (ap (λ (j : ℕ). stateIn (c .P) (c .R) (wordsOf values₀) 0 j 0 out) ei ∙ bg .state text depth c out)
+          (ap (λ (j : ℕ). stateIn (c .P) (c .R) (cellsOf values₀) 0 j 0 out) ei ∙ bg .state text depth c out)
           (f (first-here c) refl rooms (last-of c rooms e) l);
     }

@@ -11,7 +11,7 @@ use Rattle.paper.specs.Steps.{Program}
 use Rattle.paper.specs.States.{Rooms}
 use Rattle.paper.specs.Running.{run, started}
 use Rattle.paper.specs.Running as running
-use Rattle.store_cells.specs.Words.{wordsOf}
+use Rattle.store_cells.specs.Cells.{cellsOf}
 use Rattle.code.specs.Cells.{errnoCell, placeAt}
 use Rattle.code.specs.Steps.{Head, noHead}
 use Rattle.code.specs.Holds.{Holds}
@@ -29,7 +29,7 @@ pub record Begins (text code values : List ℕ) (h depth : ℕ) : Type 0 where
   pub R : List Head
   pub offset : ℕ → ℕ
   pub main : ℕ
-  pub holds : Holds text R offset (wordsOf code) P
+  pub holds : Holds text R offset (cellsOf code) P
   pub code-size : length code ≡ storeBytes
   pub values-size : length values ≡ storeBytes
   pub some : 0 < depth
@@ -37,8 +37,8 @@ pub record Begins (text code values : List ℕ) (h depth : ℕ) : Type 0 where
   pub there : main < length R
   pub main-is : getD R main noHead .word ≡ h
   pub alone : getD R main noHead .parameters ≡ 0
-  pub words : map (toZ w32) (take (length (P .words)) (wordsOf values)) ≡ P .words
-  pub zeros : (c : ℕ) → length (P .words) ≤ c → getD (wordsOf values) c 0 ≡ 0
+  pub words : map (toZ w32) (take (length (P .words)) (cellsOf values)) ≡ P .words
+  pub zeros : (c : ℕ) → length (P .words) ≤ c → getD (cellsOf values) c 0 ≡ 0
 
 -- The answer and the stores are those of the state that the paper's run ends in.
 pub record Comes (P : Program) (offset : ℕ → ℕ) (after out out′ : List ℕ) (steps : ℕ) (e : running.Ended) (r : Ended) : Type 0 where
@@ -46,10 +46,10 @@ pub record Comes (P : Program) (offset : ℕ → ℕ) (after out out′ : List �
   pub place : r .place ≡ (if eqb (e .ending) 1 then 0 else offset (e .place))
   pub left : r .left ≤ steps
   pub counted : e .state .steps ≡ steps - r .left
-  pub errno : getD (wordsOf after) errnoCell 0 ≡ e .state .errno
-  pub used : getD (wordsOf after) usedCell 0 ≡ e .state .used
-  pub words : map (toZ w32) (take (length (P .words)) (wordsOf after)) ≡ e .state .words
-  pub written : (R : List Head) → writtenIn P R (wordsOf after) ≡ length (e .state .output)
+  pub errno : getD (cellsOf after) errnoCell 0 ≡ e .state .errno
+  pub used : getD (cellsOf after) usedCell 0 ≡ e .state .used
+  pub words : map (toZ w32) (take (length (P .words)) (cellsOf after)) ≡ e .state .words
+  pub written : (R : List Head) → writtenIn P R (cellsOf after) ≡ length (e .state .output)
   pub output : take (length (e .state .output)) out′ ≡ e .state .output
   pub past : drop (length (e .state .output)) out′ ≡ drop (length (e .state .output)) out
 
@@ -66,8 +66,8 @@ pub data Stops (code : List ℕ) (answer left : ℕ) : Type 0 where
   byLack : (n w : ℕ) → beyondDepth ≤ n → n ≤ noRoom → w < answers → answer ≡ lackedBy n + w → left + 1 < cellValues → length code ≡ storeBytes → Stops code answer left
 
 pub record Stopped (code : List ℕ) (i answer left : ℕ) (e : Ended) : Type 0 where
-  pub by-step : (n : ℕ) → n ≤ fellOff → answer ≡ ended + n → (e .ending ≡ n) × (e .place ≡ (if eqb n mainReturned then 0 else placeAt (wordsOf code) i)) × (e .left ≡ left)
-  pub by-lack : (n w : ℕ) → beyondDepth ≤ n → n ≤ noRoom → w < answers → answer ≡ lackedBy n + w → (e .ending ≡ n) × (e .place ≡ placeAt (wordsOf code) w) × (e .left ≡ left + 1)
+  pub by-step : (n : ℕ) → n ≤ fellOff → answer ≡ ended + n → (e .ending ≡ n) × (e .place ≡ (if eqb n mainReturned then 0 else placeAt (cellsOf code) i)) × (e .left ≡ left)
+  pub by-lack : (n w : ℕ) → beyondDepth ≤ n → n ≤ noRoom → w < answers → answer ≡ lackedBy n + w → (e .ending ≡ n) × (e .place ≡ placeAt (cellsOf code) w) × (e .left ≡ left + 1)
 
 pub record MayBegin (code values : List ℕ) (h : ℕ) : Type 0 where
   pub text : List ℕ
@@ -77,7 +77,7 @@ pub record MayBegin (code values : List ℕ) (h : ℕ) : Type 0 where
 -- The state is that of a run that has begun.
 pub record Begun (code values after : List ℕ) (h : ℕ) : Type 0 where
   pub long : length after ≡ length values
-  pub written : (P : Program) (R : List Head) → (text : List ℕ) (depth : ℕ) → Begins text code values h depth → writtenIn P R (wordsOf after) ≡ 0
-  pub used : (text : List ℕ) (depth : ℕ) → Begins text code values h depth → getD (wordsOf after) usedCell 0 ≡ 0
-  pub live : (text : List ℕ) (depth : ℕ) (b : Begins text code values h depth) → Live (b .P) (b .R) (wordsOf after) 0 (placeAt (wordsOf code) h)
-  pub state : (text : List ℕ) (depth : ℕ) (b : Begins text code values h depth) (out : List ℕ) → stateIn (b .P) (b .R) (wordsOf after) 0 (placeAt (wordsOf code) h) 0 out ≡ started (b .P) (b .main)
+  pub written : (P : Program) (R : List Head) → (text : List ℕ) (depth : ℕ) → Begins text code values h depth → writtenIn P R (cellsOf after) ≡ 0
+  pub used : (text : List ℕ) (depth : ℕ) → Begins text code values h depth → getD (cellsOf after) usedCell 0 ≡ 0
+  pub live : (text : List ℕ) (depth : ℕ) (b : Begins text code values h depth) → Live (b .P) (b .R) (cellsOf after) 0 (placeAt (cellsOf code) h)
+  pub state : (text : List ℕ) (depth : ℕ) (b : Begins text code values h depth) (out : List ℕ) → stateIn (b .P) (b .R) (cellsOf after) 0 (placeAt (cellsOf code) h) 0 out ≡ started (b .P) (b .main)

@@ -2,7 +2,7 @@
 ghost use mathlib.Core.Path.{_≡_};
 ghost use Prim.Native.Nat.{_%_};
 ghost use lib.ListN.{length};
-ghost use Rattle.store_cells.specs.Words.{wordsOf};
+ghost use Rattle.store_cells.specs.Cells.{cellsOf};
 ghost use Rattle.code.specs.Cells.{placeAt};
 ghost use Rattle.run_whole.specs.Runs.{Stops, Stopped, MayBegin, Begun, Begins, Ran};
 use layout::answers;
@@ -26,7 +26,7 @@ pub struct Ended {
 // The place that a word has: 0 where there is no such word.
 fn place_of(code: &[u8], i: usize) -> usize
     requires { ⌜ length (now code) % 8 ≡ 0 ⌝ }
-    ensures { λ r. ⌜ r ≡ placeAt (wordsOf (now (code .entry))) i ⌝ }
+    ensures { λ r. ⌜ r ≡ placeAt (cellsOf (now (code .entry))) i ⌝ }
 {
     if code.len() / 8 <= i {
         return 0;

@@ -7,7 +7,7 @@ use lib.ListN.{length, take, drop, replicate, getD, length-replicate, getD-repli
 use lib.Seq.{getD-set-same, getD-set-other}
 pub use Rattle.laws.proofs.Lists.{replaced-length}
 use Rattle.laws.proofs.Lists.{replaced-take, replaced-drop, replaced-at, replaced-below, replaced-above}
-use Rattle.store_cells.specs.Words.{wordsOf, bytesOf, Got, Put, Cleared, PutField}
+use Rattle.store_cells.specs.Cells.{cellsOf, bytesOf, Got, Put, Cleared, PutField}
 use Rattle.store_cells.proofs.Laws.{length-words}
 
 -- ---- put
@@ -26,11 +26,11 @@ module _ {before after : List ℕ} {i v : ℕ} (p : Put before after i v) (h : i
   pub put-drop : (k : ℕ) → i * 4 + 4 ≤ k → drop k after ≡ drop k before
   put-drop k g = ap (drop k) (p .bytes) ∙ replaced-drop before (bytesOf (v ∷ [])) (i * 4) 4 four-bytes h k g
 
-  pub put-same : getD (wordsOf after) i 0 ≡ v
-  put-same = ap (λ (w : List ℕ). getD w i 0) (p .words) ∙ getD-set-same (wordsOf before) i v 0 (omega (arith, length-words before))
+  pub put-same : getD (cellsOf after) i 0 ≡ v
+  put-same = ap (λ (w : List ℕ). getD w i 0) (p .words) ∙ getD-set-same (cellsOf before) i v 0 (omega (arith, length-words before))
 
-  pub put-other : (j : ℕ) → (j ≡ i → ⊥) → getD (wordsOf after) j 0 ≡ getD (wordsOf before) j 0
-  put-other j d = ap (λ (w : List ℕ). getD w j 0) (p .words) ∙ getD-set-other (wordsOf before) i j v 0 d
+  pub put-other : (j : ℕ) → (j ≡ i → ⊥) → getD (cellsOf after) j 0 ≡ getD (cellsOf before) j 0
+  put-other j d = ap (λ (w : List ℕ). getD w j 0) (p .words) ∙ getD-set-other (cellsOf before) i j v 0 d
 
 -- ---- clear
 
@@ -50,20 +50,20 @@ module _ {before after : List ℕ} {from count : ℕ} (p : Cleared before after 
   unfolding zeros
   clear-drop k g = ap (drop k) (p .bytes) ∙ replaced-drop before zeros (from * 4) (count * 4) (length-replicate (count * 4) 0) (omega arith) k (omega arith)
 
-  room : from + count ≤ length (wordsOf before)
+  room : from + count ≤ length (cellsOf before)
   room = omega (arith, length-words before)
 
-  pub clear-in : (j : ℕ) → j < count → getD (wordsOf after) (from + j) 0 ≡ 0
+  pub clear-in : (j : ℕ) → j < count → getD (cellsOf after) (from + j) 0 ≡ 0
   clear-in j g =
       ap (λ (w : List ℕ). getD w (from + j) 0) (p .words)
-      ∙ replaced-at (wordsOf before) (replicate count 0) from count (length-replicate count 0) room j 0 g
+      ∙ replaced-at (cellsOf before) (replicate count 0) from count (length-replicate count 0) room j 0 g
       ∙ getD-replicate {A = ℕ} count j 0 0 g
 
-  pub clear-below : (j : ℕ) → j < from → getD (wordsOf after) j 0 ≡ getD (wordsOf before) j 0
-  clear-below j g = ap (λ (w : List ℕ). getD w j 0) (p .words) ∙ replaced-below (wordsOf before) (replicate count 0) from count (length-replicate count 0) room j 0 g
+  pub clear-below : (j : ℕ) → j < from → getD (cellsOf after) j 0 ≡ getD (cellsOf before) j 0
+  clear-below j g = ap (λ (w : List ℕ). getD w j 0) (p .words) ∙ replaced-below (cellsOf before) (replicate count 0) from count (length-replicate count 0) room j 0 g
 
-  pub clear-above : (j : ℕ) → from + count ≤ j → getD (wordsOf after) j 0 ≡ getD (wordsOf before) j 0
-  clear-above j g = ap (λ (w : List ℕ). getD w j 0) (p .words) ∙ replaced-above (wordsOf before) (replicate count 0) from count (length-replicate count 0) room j 0 g
+  pub clear-above : (j : ℕ) → from + count ≤ j → getD (cellsOf after) j 0 ≡ getD (cellsOf before) j 0
+  clear-above j g = ap (λ (w : List ℕ). getD w j 0) (p .words) ∙ replaced-above (cellsOf before) (replicate count 0) from count (length-replicate count 0) room j 0 g
 
 -- ---- one outcome
 

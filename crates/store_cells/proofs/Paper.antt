@@ -12,14 +12,14 @@ use Rattle.laws.specs.Lists.{replaced}
 use Rattle.laws.proofs.Lists.{map-set, map-replaced, map-replicate, replaced-on}
 use Rattle.paper.specs.Answer as paper
 use Rattle.paper.specs.Answer.{lowFirst, Record, recordBytes}
-use Rattle.store_cells.specs.Words.{wordsOf, bytesOf, Put, Cleared, PutField}
+use Rattle.store_cells.specs.Cells.{cellsOf, bytesOf, Put, Cleared, PutField}
 use Rattle.store_cells.proofs.Laws.{Bytes, Words, length-words, words-small, bytes-words}
 use Rattle.store_cells.proofs.Kept.{put-length, put-drop, clear-length, clear-drop}
 
 -- ---- words
 
-pub words-paper : (bytes : List ℕ) → paper.wordsOf bytes ≡ map (toZ w32) (wordsOf bytes)
-unfolding wordsOf paper.wordsOf
+pub words-paper : (bytes : List ℕ) → paper.cellsOf bytes ≡ map (toZ w32) (cellsOf bytes)
+unfolding cellsOf paper.cellsOf
 words-paper [] = refl
 words-paper (a ∷ []) = refl
 words-paper (a ∷ b ∷ []) = refl
@@ -49,16 +49,16 @@ bytes-numbers (v ∷ r) s =
 
 -- ---- changes
 
-pub put-paper : {before after : List ℕ} {i v : ℕ} → Put before after i v → paper.wordsOf after ≡ set (paper.wordsOf before) i (toZ w32 v)
+pub put-paper : {before after : List ℕ} {i v : ℕ} → Put before after i v → paper.cellsOf after ≡ set (paper.cellsOf before) i (toZ w32 v)
 put-paper {before} {after} {i} {v} p =
-    words-paper after ∙ ap (map (toZ w32)) (p .words) ∙ map-set (toZ w32) (wordsOf before) i v ∙ ap (λ (x : List ℤ). set x i (toZ w32 v)) (sym (words-paper before))
+    words-paper after ∙ ap (map (toZ w32)) (p .words) ∙ map-set (toZ w32) (cellsOf before) i v ∙ ap (λ (x : List ℤ). set x i (toZ w32 v)) (sym (words-paper before))
 
 pub clear-paper : {before after : List ℕ} {from count : ℕ} → Cleared before after from count
-    → paper.wordsOf after ≡ replaced (paper.wordsOf before) from (replicate count (pos 0)) count
+    → paper.cellsOf after ≡ replaced (paper.cellsOf before) from (replicate count (pos 0)) count
 clear-paper {before} {after} {from} {count} p =
     words-paper after
     ∙ ap (map (toZ w32)) (p .words)
-    ∙ map-replaced (toZ w32) (wordsOf before) from (replicate count 0) count
+    ∙ map-replaced (toZ w32) (cellsOf before) from (replicate count 0) count
     ∙ ap₂ (λ (x y : List ℤ). replaced x from y count) (sym (words-paper before)) (map-replicate (toZ w32) count 0)
 
 -- Whole words may have changed; a part word at the end is as it was.
@@ -79,13 +79,13 @@ pub clear-kept : {before after : List ℕ} {from count : ℕ} → Cleared before
 clear-kept {before} p h = record { size = clear-length p h; part = clear-drop p h (length before / 4 * 4) (omega arith) }
 
 -- after such a change the bytes are what the paper says by the words
-pub kept-paper : {before after : List ℕ} → Kept before after → Bytes after → after ≡ paper.bytesAfter (paper.wordsOf after) before
+pub kept-paper : {before after : List ℕ} → Kept before after → Bytes after → after ≡ paper.bytesAfter (paper.cellsOf after) before
 unfolding paper.bytesAfter
 kept-paper {before} {after} k s =
-    let n : length (paper.wordsOf after) ≡ length before / 4 = ap length (words-paper after) ∙ length-map (wordsOf after) (toZ w32) ∙ length-words after ∙ ap (λ (x : ℕ). x / 4) (k .size) in
-    let q : length before / 4 * 4 ≡ 4 * length (paper.wordsOf after) = omega arith in
-    let whole : paper.bytesOf (paper.wordsOf after) ≡ take (length before / 4 * 4) after =
-    ap paper.bytesOf (words-paper after) ∙ bytes-numbers (wordsOf after) (words-small after s) ∙ bytes-words after s
+    let n : length (paper.cellsOf after) ≡ length before / 4 = ap length (words-paper after) ∙ length-map (cellsOf after) (toZ w32) ∙ length-words after ∙ ap (λ (x : ℕ). x / 4) (k .size) in
+    let q : length before / 4 * 4 ≡ 4 * length (paper.cellsOf after) = omega arith in
+    let whole : paper.bytesOf (paper.cellsOf after) ≡ take (length before / 4 * 4) after =
+    ap paper.bytesOf (words-paper after) ∙ bytes-numbers (cellsOf after) (words-small after s) ∙ bytes-words after s
     ∙ ap (λ (x : ℕ). take (x * 4) after) (length-words after ∙ ap (λ (x : ℕ). x / 4) (k .size)) in
     sym (take-append-drop (length before / 4 * 4) after)
     ∙ ap₂ _++_ (sym whole) (k .part ∙ ap (λ (x : ℕ). drop x before) q)

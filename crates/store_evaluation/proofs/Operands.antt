@@ -18,10 +18,10 @@ use borrow.Author.Tests.{eq-eqb, ne-eqb, ltb-true, ltb-false, le-leb, lt-leb}
 use Rattle.laws.proofs.Tests.{test, by-same}
 use Rattle.paper.specs.Numbers.{Value, value, error, outOfBound}
 use Rattle.paper.specs.Terms.{ofModule, ofRoutine, onward, Term, literal, errno, unary, applied, worth, load, at, locate, loadFrom}
-use Rattle.store_cells.specs.Words.{wordsOf}
+use Rattle.store_cells.specs.Cells.{cellsOf}
 use Rattle.store_numbers.proofs.Whole.{read, minus-cases}
 use Rattle.code.specs.Cells.{opIn, valueIn, errnoCell}
-use Rattle.code.specs.Spans.{bias, aLiteral, aModuleWord, aCallWord, aModuleElement, aCallElement, aParenthesis, firstIn, sizeIn, prefixIn, leafTerm, elementTerm, memoryIn}
+use Rattle.code.specs.Spans.{bias, aLiteral, aModuleSlot, aCallSlot, aModuleElement, aCallElement, aParenthesis, firstIn, sizeIn, prefixIn, leafTerm, elementTerm, memoryIn}
 use Rattle.code.proofs.Options.{same-some}
 use Rattle.code.proofs.Operands.{leaf-literal, leaf-errno, leaf-module, leaf-call, by-leaf, arrayIn, roomIn, Shaped, shaped}
 use Rattle.store_reading.specs.Reading.{cellValues, Loaded}
@@ -54,38 +54,38 @@ module _ (base op own k : ℕ) where
 module _ (values : List ℕ) (base : ℕ) (st : Stores values base) (op v : ℕ) where
   -- where a leaf that is no literal stands, and what it is worth
   record At (c : Counts) (t : Term) : Type 0 where
-    pub inside : cellOf base op aModuleWord v * 4 + 4 ≤ length values
-    pub is : worth (memoryOf c values base) t ≡ value (toZ w32 (getD (wordsOf values) (cellOf base op aModuleWord v) 0))
+    pub inside : cellOf base op aModuleSlot v * 4 + 4 ≤ length values
+    pub is : worth (memoryOf c values base) t ≡ value (toZ w32 (getD (cellsOf values) (cellOf base op aModuleSlot v) 0))
 
-  at-cell : (c : Counts) (t : Term) (k : ℕ) → k ≡ cellOf base op aModuleWord v → k * 4 + 4 ≤ length values
-      → worth (memoryOf c values base) t ≡ value (toZ w32 (getD (wordsOf values) k 0)) → At c t
-  at-cell c t k e h w = record { inside = omega arith; is = w ∙ ap (λ (j : ℕ). value (toZ w32 (getD (wordsOf values) j 0))) e }
+  at-cell : (c : Counts) (t : Term) (k : ℕ) → k ≡ cellOf base op aModuleSlot v → k * 4 + 4 ≤ length values
+      → worth (memoryOf c values base) t ≡ value (toZ w32 (getD (cellsOf values) k 0)) → At c t
+  at-cell c t k e h w = record { inside = omega arith; is = w ∙ ap (λ (j : ℕ). value (toZ w32 (getD (cellsOf values) j 0))) e }
 
-  errno-worth : (c : Counts) → worth (memoryOf c values base) errno ≡ value (toZ w32 (getD (wordsOf values) errnoCell 0))
+  errno-worth : (c : Counts) → worth (memoryOf c values base) errno ≡ value (toZ w32 (getD (cellsOf values) errnoCell 0))
   unfolding worth memoryIn
-  errno-worth c = ap value (sym (toZ-pos w32 (getD (wordsOf values) errnoCell 0) (st .number)))
+  errno-worth c = ap value (sym (toZ-pos w32 (getD (cellsOf values) errnoCell 0) (st .number)))
 
   stands-at : (c : Counts) (t : Term) → (op ≡ aLiteral → ⊥) → leafTerm (c .m) (c .n) op v ≡ some t → At c t
   unfolding worth
   stands-at c t h e =
       by-leaf (c .m) (c .n) op v t e (λ k. absurd (h k))
       (λ k.
-      let d : leafTerm (c .m) (c .n) aModuleWord v ≡ some t = rw k at e in
+      let d : leafTerm (c .m) (c .n) aModuleSlot v ≡ some t = rw k at e in
       by-same v errnoCell
       (λ q.
-      at-cell c t v (cell-own base op aModuleWord v k) (omega (arith, st .words))
-      (ap (worth (memoryOf c values base)) (sym (leaf-errno (c .m) (c .n) v t q d)) ∙ errno-worth c ∙ ap (λ (j : ℕ). value (toZ w32 (getD (wordsOf values) j 0))) (sym q)))
+      at-cell c t v (cell-own base op aModuleSlot v k) (omega (arith, st .words))
+      (ap (worth (memoryOf c values base)) (sym (leaf-errno (c .m) (c .n) v t q d)) ∙ errno-worth c ∙ ap (λ (j : ℕ). value (toZ w32 (getD (cellsOf values) j 0))) (sym q)))
       (λ q.
       let g = leaf-module (c .m) (c .n) v t q d in
       let l = ltb-true v (c .m) (g .holds) in
-      at-cell c t v (cell-own base op aModuleWord v k) (omega (arith, st .words, c .most))
-      (ap (worth (memoryOf c values base)) (sym (g .is)) ∙ ap value (load-module (c .m) (c .n) (wordsOf values) base v l))))
+      at-cell c t v (cell-own base op aModuleSlot v k) (omega (arith, st .words, c .most))
+      (ap (worth (memoryOf c values base)) (sym (g .is)) ∙ ap value (load-module (c .m) (c .n) (cellsOf values) base v l))))
       (λ k.
-      let d : leafTerm (c .m) (c .n) aCallWord v ≡ some t = rw k at e in
+      let d : leafTerm (c .m) (c .n) aCallSlot v ≡ some t = rw k at e in
       let g = leaf-call (c .m) (c .n) v t d in
       let l = ltb-true v (c .n) (g .holds) in
-      at-cell c t (base + v) (cell-call base op aModuleWord v (λ z. omega arith)) (omega (arith, st .call, c .window))
-      (ap (worth (memoryOf c values base)) (sym (g .is)) ∙ ap value (load-call (c .m) (c .n) (wordsOf values) base v l)))
+      at-cell c t (base + v) (cell-call base op aModuleSlot v (λ z. omega arith)) (omega (arith, st .call, c .window))
+      (ap (worth (memoryOf c values base)) (sym (g .is)) ∙ ap value (load-call (c .m) (c .n) (cellsOf values) base v l)))
 
   module _ (lf : Leaf op v) where
     pub literal-fits : SFits w64 (toZ w64 v -ℤ pos bias)
@@ -110,23 +110,23 @@ module _ (values : List ℕ) (base : ℕ) (st : Stores values base) (op v : ℕ)
         pub leaf-inside : k * 4 + 4 ≤ length values
         leaf-inside = omega (arith, stands-at (lf .c) (lf .t) h (lf .is) .inside)
 
-        pub read-word : (z : ℤ) → SFits w64 z → Loaded (getD (wordsOf values) k 0) z → Read values base op v (read z)
+        pub read-word : (z : ℤ) → SFits w64 z → Loaded (getD (cellsOf values) k 0) z → Read values base op v (read z)
         read-word z s l =
             rw (toZ-ofZ s) (record {
-              is = λ c t d. stands-at c t h d .is ∙ ap (λ (j : ℕ). value (toZ w32 (getD (wordsOf values) j 0))) (sym e) ∙ ap value (sym (l .is));
+              is = λ c t d. stands-at c t h d .is ∙ ap (λ (j : ℕ). value (toZ w32 (getD (cellsOf values) j 0))) (sym e) ∙ ap value (sym (l .is));
               small = l .small;
             })
 
 -- ---- elements
 module _ (values : List ℕ) (base op v i : ℕ) (c : Counts) (h : firstIn v + i < roomIn (c .m) (c .n) op) where
-  load-at : load (memoryOf c values base) (onward (arrayIn op v) i) ≡ toZ w32 (getD (wordsOf values) (cellOf base op aModuleElement (firstIn v) + i) 0)
+  load-at : load (memoryOf c values base) (onward (arrayIn op v) i) ≡ toZ w32 (getD (cellsOf values) (cellOf base op aModuleElement (firstIn v) + i) 0)
   unfolding arrayIn roomIn cellOf onward
   load-at =
       test (eqb op aModuleElement)
-      (λ t. rw (t, arrayIn) (load-module (c .m) (c .n) (wordsOf values) base (firstIn v + i) (rw (t, roomIn) at h)))
+      (λ t. rw (t, arrayIn) (load-module (c .m) (c .n) (cellsOf values) base (firstIn v + i) (rw (t, roomIn) at h)))
       (λ t.
       let q : base + (firstIn v + i) ≡ base + firstIn v + i = omega arith in
-      rw (t, arrayIn) (load-call (c .m) (c .n) (wordsOf values) base (firstIn v + i) (rw (t, roomIn) at h) ∙ rw q))
+      rw (t, arrayIn) (load-call (c .m) (c .n) (cellsOf values) base (firstIn v + i) (rw (t, roomIn) at h) ∙ rw q))
 
   element-inside : Stores values base → (cellOf base op aModuleElement (firstIn v) + i) * 4 + 4 ≤ length values
   unfolding roomIn cellOf
@@ -216,7 +216,7 @@ module _ (values : List ℕ) (base w : ℕ) (x : ℤ) (st : Stores values base) 
               rw q (element-inside values base (opIn w) (valueIn w) (natAbs (read x) - 1) (ar .c)
               (room-is (ar .c) (ar .t) (ar .u) (shaped (ar .c .m) (ar .c .n) (opIn w) (valueIn w) (ar .t) (ar .u) (ar .is))) st)
 
-          pub index-done : (z : ℤ) → SFits w64 z → Loaded (getD (wordsOf values) (p + (natAbs (read x) - 1)) 0) z → Indexed values base w x (read z)
+          pub index-done : (z : ℤ) → SFits w64 z → Loaded (getD (cellsOf values) (p + (natAbs (read x) - 1)) 0) z → Indexed values base w x (read z)
           unfolding loadFrom locate located
           index-done z y ld =
               rw (toZ-ofZ y) (by-value z (value z) (gives-value z (ld .small)) (λ c t u k.

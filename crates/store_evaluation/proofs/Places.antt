@@ -7,7 +7,7 @@ use native.Mathlib.Omega.{arith}
 use lib.ListN.{length, getD, List·getD-eq-default}
 use Rattle.laws.proofs.Tests.{by-less, by-same}
 use Rattle.paper.specs.Terms.{Term}
-use Rattle.store_cells.specs.Words.{wordsOf}
+use Rattle.store_cells.specs.Cells.{cellsOf}
 use Rattle.store_cells.proofs.Laws.{length-words}
 use Rattle.code.specs.Cells.{opIn, headAt, tailAt, opAt, valueAt, placeAt, linkAt}
 use Rattle.code.specs.Spans.{aSpan, rightIn, within, operandTerm, rightTerm}
@@ -15,37 +15,37 @@ use Rattle.code.proofs.Operands.{by-leaf, of-any}
 use Rattle.code.proofs.Spanning.{right-span}
 
 -- a cell that is not 0 is in the list
-cell-in : (l : List ℕ) (k : ℕ) → (getD (wordsOf l) k 0 ≡ 0 → ⊥) → k * 4 + 4 ≤ length l
+cell-in : (l : List ℕ) (k : ℕ) → (getD (cellsOf l) k 0 ≡ 0 → ⊥) → k * 4 + 4 ≤ length l
 cell-in l k h =
-    by-less k (length (wordsOf l))
+    by-less k (length (cellsOf l))
     (λ g. omega (arith, length-words l))
-    (λ g. absurd (h (List·getD-eq-default (wordsOf l) 0 g)))
+    (λ g. absurd (h (List·getD-eq-default (cellsOf l) 0 g)))
 
 module _ (code : List ℕ) (i : ℕ) (w : length code % 8 ≡ 0) where
-  pub head-in : (headAt (wordsOf code) i ≡ 0 → ⊥) → i * 8 + 8 ≤ length code
+  pub head-in : (headAt (cellsOf code) i ≡ 0 → ⊥) → i * 8 + 8 ≤ length code
   head-in h = omega (arith, cell-in code (i * 2) h)
 
-  pub tail-in : (tailAt (wordsOf code) i ≡ 0 → ⊥) → i * 8 + 8 ≤ length code
+  pub tail-in : (tailAt (cellsOf code) i ≡ 0 → ⊥) → i * 8 + 8 ≤ length code
   tail-in h = omega (arith, cell-in code (i * 2 + 1) h)
 
-  pub op-in : (opAt (wordsOf code) i ≡ 0 → ⊥) → i * 8 + 8 ≤ length code
+  pub op-in : (opAt (cellsOf code) i ≡ 0 → ⊥) → i * 8 + 8 ≤ length code
   op-in h = head-in (λ e. h (ap (λ (v : ℕ). v % 256) e))
 
-  pub value-in : (valueAt (wordsOf code) i ≡ 0 → ⊥) → i * 8 + 8 ≤ length code
+  pub value-in : (valueAt (cellsOf code) i ≡ 0 → ⊥) → i * 8 + 8 ≤ length code
   value-in h = head-in (λ e. h (ap (λ (v : ℕ). v / 256) e))
 
-  pub place-in : (placeAt (wordsOf code) i ≡ 0 → ⊥) → i * 8 + 8 ≤ length code
+  pub place-in : (placeAt (cellsOf code) i ≡ 0 → ⊥) → i * 8 + 8 ≤ length code
   place-in h = tail-in (λ e. h (ap (λ (v : ℕ). v % 65536) e))
 
-  pub link-in : (linkAt (wordsOf code) i ≡ 0 → ⊥) → i * 8 + 8 ≤ length code
+  pub link-in : (linkAt (cellsOf code) i ≡ 0 → ⊥) → i * 8 + 8 ≤ length code
   link-in h = tail-in (λ e. h (ap (λ (v : ℕ). v / 65536) e))
 
   -- an operator, whose right side can be read
   pub right-in : (m n : ℕ) (inner : ℕ → ℕ → Option Term) → ((a b : ℕ) (t : Term) → inner a b ≡ some t → a < b)
-      → (u : Term) → rightTerm m n (wordsOf code) inner i ≡ some u → i * 8 + 8 ≤ length code
+      → (u : Term) → rightTerm m n (cellsOf code) inner i ≡ some u → i * 8 + 8 ≤ length code
   right-in m n inner grow u e =
-      by-same (rightIn (opAt (wordsOf code) i)) aSpan
-      (λ h. link-in (λ z. let g = grow (i + 1) (linkAt (wordsOf code) i) u (sym (right-span (wordsOf code) i m n inner h) ∙ e) in omega arith))
+      by-same (rightIn (opAt (cellsOf code) i)) aSpan
+      (λ h. link-in (λ z. let g = grow (i + 1) (linkAt (cellsOf code) i) u (sym (right-span (cellsOf code) i m n inner h) ∙ e) in omega arith))
       (λ h. op-in (λ z. h (ap (λ (v : ℕ). rightIn v) z)))
 
 -- an operand that can be read

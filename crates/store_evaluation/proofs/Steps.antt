@@ -16,7 +16,7 @@ use borrow.Author.Tests.{le-leb, lt-leb, eq-eqb, ne-eqb}
 use Rattle.laws.proofs.Tests.{test, by-same}
 use Rattle.paper.specs.Numbers.{Value, value, error}
 use Rattle.paper.specs.Terms.{Memory, Term, binary, worth, known, combined}
-use Rattle.store_cells.specs.Words.{wordsOf}
+use Rattle.store_cells.specs.Cells.{cellsOf}
 use Rattle.store_numbers.proofs.Whole.{read}
 use Rattle.code.specs.Cells.{opIn, valueIn, headAt, opAt, linkAt}
 use Rattle.code.specs.Spans.{rightIn, operatorOf, operatorIn, leafTerm, operandTerm, rightEnd, rightTerm, chain, within, termWithin}
@@ -75,26 +75,26 @@ left-error op e b = refl
 
 -- what fails goes through to the end
 chain-error : (nest : ℕ) (c : Counts) (code values : List ℕ) (base e g : ℕ) (u : Term) (i to : ℕ) (t : Term)
-    → chain (c .m) (c .n) (wordsOf code) (termWithin (c .m) (c .n) (wordsOf code) nest) g u i to ≡ some t
+    → chain (c .m) (c .n) (cellsOf code) (termWithin (c .m) (c .n) (cellsOf code) nest) g u i to ≡ some t
     → worth (memoryOf c values base) u ≡ error e → worth (memoryOf c values base) t ≡ error e
 chain-error nest c code values base e zero u i to t r w =
     by-same i to
-    (λ h. sym (ap (worth (memoryOf c values base)) (chain-done (c .m) (c .n) (wordsOf code) (termWithin (c .m) (c .n) (wordsOf code) nest) zero u i to t h r)) ∙ w)
-    (λ h. let s = chain-step (c .m) (c .n) (wordsOf code) (termWithin (c .m) (c .n) (wordsOf code) nest) zero u i to t h r in absurd (omega (arith, s .more)))
+    (λ h. sym (ap (worth (memoryOf c values base)) (chain-done (c .m) (c .n) (cellsOf code) (termWithin (c .m) (c .n) (cellsOf code) nest) zero u i to t h r)) ∙ w)
+    (λ h. let s = chain-step (c .m) (c .n) (cellsOf code) (termWithin (c .m) (c .n) (cellsOf code) nest) zero u i to t h r in absurd (omega (arith, s .more)))
 chain-error nest c code values base e (suc g) u i to t r w =
     by-same i to
-    (λ h. sym (ap (worth (memoryOf c values base)) (chain-done (c .m) (c .n) (wordsOf code) (termWithin (c .m) (c .n) (wordsOf code) nest) (suc g) u i to t h r)) ∙ w)
+    (λ h. sym (ap (worth (memoryOf c values base)) (chain-done (c .m) (c .n) (cellsOf code) (termWithin (c .m) (c .n) (cellsOf code) nest) (suc g) u i to t h r)) ∙ w)
     (λ h.
-    let s = chain-step (c .m) (c .n) (wordsOf code) (termWithin (c .m) (c .n) (wordsOf code) nest) (suc g) u i to t h r in
+    let s = chain-step (c .m) (c .n) (cellsOf code) (termWithin (c .m) (c .n) (cellsOf code) nest) (suc g) u i to t h r in
     let p : s .p ≡ g = omega (arith, s .more) in
-    chain-error nest c code values base e g (binary (operatorIn (opAt (wordsOf code) i)) u (s .u)) (rightEnd (wordsOf code) i) to t
-    (subst (λ (j : ℕ). chain (c .m) (c .n) (wordsOf code) (termWithin (c .m) (c .n) (wordsOf code) nest) j (binary (operatorIn (opAt (wordsOf code) i)) u (s .u)) (rightEnd (wordsOf code) i) to ≡ some t) p (s .rest))
-    (worth-joined (memoryOf c values base) (operatorIn (opAt (wordsOf code) i)) u (s .u)
-    ∙ ap (λ (v : Value). joined (operatorIn (opAt (wordsOf code) i)) v (worth (memoryOf c values base) (s .u))) w
-    ∙ left-error (operatorIn (opAt (wordsOf code) i)) e (worth (memoryOf c values base) (s .u))))
+    chain-error nest c code values base e g (binary (operatorIn (opAt (cellsOf code) i)) u (s .u)) (rightEnd (cellsOf code) i) to t
+    (subst (λ (j : ℕ). chain (c .m) (c .n) (cellsOf code) (termWithin (c .m) (c .n) (cellsOf code) nest) j (binary (operatorIn (opAt (cellsOf code) i)) u (s .u)) (rightEnd (cellsOf code) i) to ≡ some t) p (s .rest))
+    (worth-joined (memoryOf c values base) (operatorIn (opAt (cellsOf code) i)) u (s .u)
+    ∙ ap (λ (v : Value). joined (operatorIn (opAt (cellsOf code) i)) v (worth (memoryOf c values base) (s .u))) w
+    ∙ left-error (operatorIn (opAt (cellsOf code) i)) e (worth (memoryOf c values base) (s .u))))
 
 -- what stands in parentheses or braces, of which one may open
-within-less : (c : Counts) (code : List ℕ) (nest from to : ℕ) (t : Term) → within (termWithin (c .m) (c .n) (wordsOf code)) nest from to ≡ some t → (0 < nest) × (termUnder (nest - 1) c code from to ≡ some t)
+within-less : (c : Counts) (code : List ℕ) (nest from to : ℕ) (t : Term) → within (termWithin (c .m) (c .n) (cellsOf code)) nest from to ≡ some t → (0 < nest) × (termUnder (nest - 1) c code from to ≡ some t)
 unfolding within
 within-less c code zero from to t e = none-some t e
 within-less c code (suc d) from to t e = let q : suc d - 1 ≡ d = omega arith in (omega arith, rw q e)
@@ -102,16 +102,16 @@ within-less c code (suc d) from to t e = let q : suc d - 1 ≡ d = omega arith i
 module _ (nest : ℕ) (code values : List ℕ) (base : ℕ) where
   -- ---- the start
   module _ (from to : ℕ) (sd : StandsUnder nest code from to) where
-    begins : (c : Counts) (t : Term) → termUnder nest c code from to ≡ some t → Begun (c .m) (c .n) (wordsOf code) nest from to t
-    begins c t e = begun (c .m) (c .n) (wordsOf code) nest from to t e
+    begins : (c : Counts) (t : Term) → termUnder nest c code from to ≡ some t → Begun (c .m) (c .n) (cellsOf code) nest from to t
+    begins c t e = begun (c .m) (c .n) (cellsOf code) nest from to t e
 
     pub stands-less : from < to
-    stands-less = term-grows (sd .c .m) (sd .c .n) (wordsOf code) nest from to (sd .t) (sd .is)
+    stands-less = term-grows (sd .c .m) (sd .c .n) (cellsOf code) nest from to (sd .t) (sd .is)
 
     pub stands-in : from * 8 + 8 ≤ length code
     stands-in =
         let b = begins (sd .c) (sd .t) (sd .is) in
-        head-in code from (sd .whole) (operand-some (sd .c .m) (sd .c .n) (wordsOf code) (termWithin (sd .c .m) (sd .c .n) (wordsOf code)) nest from (b .x) (b .first))
+        head-in code from (sd .whole) (operand-some (sd .c .m) (sd .c .n) (cellsOf code) (termWithin (sd .c .m) (sd .c .n) (cellsOf code)) nest from (b .x) (b .first))
 
     -- the first operand is worth a, and i is the word after it
     pub record Opened (a : ℤ) (i : ℕ) : Type 0 where
@@ -121,7 +121,7 @@ module _ (nest : ℕ) (code values : List ℕ) (base : ℕ) where
       pub on : i ≤ to
 
     module _ (a : ℤ) (i : ℕ)
-        (f : (c : Counts) (x : Term × ℕ) → operandTerm (c .m) (c .n) (wordsOf code) (termWithin (c .m) (c .n) (wordsOf code)) nest from ≡ some x → (decoded a ≡ worth (memoryOf c values base) (x .0)) × (i ≡ x .1))
+        (f : (c : Counts) (x : Term × ℕ) → operandTerm (c .m) (c .n) (cellsOf code) (termWithin (c .m) (c .n) (cellsOf code)) nest from ≡ some x → (decoded a ≡ worth (memoryOf c values base) (x .0)) × (i ≡ x .1))
         (s : Small a) where
       opens : ltZ a (pos firstError) ≡ true → Opened a i
       opens h =
@@ -134,7 +134,7 @@ module _ (nest : ℕ) (code values : List ℕ) (base : ℕ) where
             left = λ c t e.
                 let d = begins c t e in
                 let o = f c (d .x) (d .first) in
-                record { u = d .x .0; is = sym (o .0) ∙ is-value a h; g = d .g; rest = ap (λ (j : ℕ). chain (c .m) (c .n) (wordsOf code) (termWithin (c .m) (c .n) (wordsOf code) nest) (d .g) (d .x .0) j to) (o .1) ∙ d .rest };
+                record { u = d .x .0; is = sym (o .0) ∙ is-value a h; g = d .g; rest = ap (λ (j : ℕ). chain (c .m) (c .n) (cellsOf code) (termWithin (c .m) (c .n) (cellsOf code) nest) (d .g) (d .x .0) j to) (o .1) ∙ d .rest };
           }
 
       -- an error leaves at once
@@ -154,14 +154,14 @@ module _ (nest : ℕ) (code values : List ℕ) (base : ℕ) where
       pub opened-evaluated : (r : ℤ) → Followed nest code values base a i to r → EvaluatedUnder nest code values base from to r
       opened-evaluated r d = record { is = λ c t e. d .is c t (o .left c t e); small = d .small }
 
-    module _ (w : ℕ) (ew : w ≡ headAt (wordsOf code) from) where
-      op-is : w % 256 ≡ opAt (wordsOf code) from
+    module _ (w : ℕ) (ew : w ≡ headAt (cellsOf code) from) where
+      op-is : w % 256 ≡ opAt (cellsOf code) from
       op-is = ap (λ (v : ℕ). v % 256) ew
 
-      leaf-at : w % 256 ≤ 3 → (c : Counts) (x : Term × ℕ) → operandTerm (c .m) (c .n) (wordsOf code) (termWithin (c .m) (c .n) (wordsOf code)) nest from ≡ some x
+      leaf-at : w % 256 ≤ 3 → (c : Counts) (x : Term × ℕ) → operandTerm (c .m) (c .n) (cellsOf code) (termWithin (c .m) (c .n) (cellsOf code)) nest from ≡ some x
           → (leafTerm (c .m) (c .n) (w % 256) (w / 256) ≡ some (x .0)) × (x .1 ≡ from + 1)
       leaf-at h c x e =
-          let g = of-leaf (c .m) (c .n) (headAt (wordsOf code) from) (linkAt (wordsOf code) from) (within (termWithin (c .m) (c .n) (wordsOf code)) nest) (termWithin (c .m) (c .n) (wordsOf code) nest) from x e (omega (arith, op-is)) in
+          let g = of-leaf (c .m) (c .n) (headAt (cellsOf code) from) (linkAt (cellsOf code) from) (within (termWithin (c .m) (c .n) (cellsOf code)) nest) (termWithin (c .m) (c .n) (cellsOf code) nest) from x e (omega (arith, op-is)) in
           (ap (λ (v : ℕ). leafTerm (c .m) (c .n) (v % 256) (v / 256)) ew ∙ g .is, g .end)
 
       pub first-leaf : w % 256 ≤ 3 → w < cellValues → Leaf (w % 256) (w / 256)
@@ -182,11 +182,11 @@ module _ (nest : ℕ) (code values : List ℕ) (base : ℕ) where
         pub is : closedTerm c (opIn w) (valueIn w) t ≡ some (x .0)
         pub end : x .1 ≡ endsAt (w % 256) l
 
-      module _ (h : 3 < w % 256) (l : ℕ) (el : l ≡ linkAt (wordsOf code) from) where
-        enclosed : (c : Counts) (x : Term × ℕ) → operandTerm (c .m) (c .n) (wordsOf code) (termWithin (c .m) (c .n) (wordsOf code)) nest from ≡ some x → Enclosed c x l
+      module _ (h : 3 < w % 256) (l : ℕ) (el : l ≡ linkAt (cellsOf code) from) where
+        enclosed : (c : Counts) (x : Term × ℕ) → operandTerm (c .m) (c .n) (cellsOf code) (termWithin (c .m) (c .n) (cellsOf code)) nest from ≡ some x → Enclosed c x l
         unfolding closedTerm opensAt endsAt nestsIn
         enclosed c x e =
-            of-any (c .m) (c .n) w l (within (termWithin (c .m) (c .n) (wordsOf code)) nest) (termWithin (c .m) (c .n) (wordsOf code) nest) from x (rw (ew, el) e)
+            of-any (c .m) (c .n) w l (within (termWithin (c .m) (c .n) (cellsOf code)) nest) (termWithin (c .m) (c .n) (cellsOf code) nest) from x (rw (ew, el) e)
             (λ k g. absurd (omega arith))
             (λ k j g. record {
               t = g .t;
@@ -232,7 +232,7 @@ module _ (nest : ℕ) (code values : List ℕ) (base : ℕ) where
         }
 
         module _ (z : ℤ) (d : Entered nest code values base from w l z) where
-          entered-as : (c : Counts) (x : Term × ℕ) → operandTerm (c .m) (c .n) (wordsOf code) (termWithin (c .m) (c .n) (wordsOf code)) nest from ≡ some x → (decoded z ≡ worth (memoryOf c values base) (x .0)) × (endsAt (w % 256) l ≡ x .1)
+          entered-as : (c : Counts) (x : Term × ℕ) → operandTerm (c .m) (c .n) (cellsOf code) (termWithin (c .m) (c .n) (cellsOf code)) nest from ≡ some x → (decoded z ≡ worth (memoryOf c values base) (x .0)) × (endsAt (w % 256) l ≡ x .1)
           entered-as c x e = let g = enclosed c x e in (d .is c (g .t) (x .0) (g .inside) (g .is), sym (g .end))
 
           pub start-enclosed : SFits w64 z → ltZ z (pos firstError) ≡ true → Opened (read z) (endsAt (w % 256) l)
@@ -242,9 +242,9 @@ module _ (nest : ℕ) (code values : List ℕ) (base : ℕ) where
           start-fails h = fails z (endsAt (w % 256) l) entered-as (d .small) h
 
   -- ---- a word alone
-  module _ (from to : ℕ) (sd : StandsUnder nest code from to) (k : to ≡ from + 1) (v : ℕ) (ev : v ≡ headAt (wordsOf code) from) where
+  module _ (from to : ℕ) (sd : StandsUnder nest code from to) (k : to ≡ from + 1) (v : ℕ) (ev : v ≡ headAt (cellsOf code) from) where
     alone-is : (c : Counts) (t : Term) → termUnder nest c code from to ≡ some t → leafTerm (c .m) (c .n) (v % 256) (v / 256) ≡ some t
-    alone-is c t e = ap (λ (j : ℕ). leafTerm (c .m) (c .n) (j % 256) (j / 256)) ev ∙ single (c .m) (c .n) (wordsOf code) nest from to t k e
+    alone-is c t e = ap (λ (j : ℕ). leafTerm (c .m) (c .n) (j % 256) (j / 256)) ev ∙ single (c .m) (c .n) (cellsOf code) nest from to t k e
 
     pub alone-leaf : v < cellValues → Leaf (v % 256) (v / 256)
     alone-leaf b = record { c = sd .c; t = sd .t; is = alone-is (sd .c) (sd .t) (sd .is); bits = omega arith }
@@ -262,7 +262,7 @@ module _ (nest : ℕ) (code values : List ℕ) (base : ℕ) where
     left = λ c t e. e;
     small = f .small;
     after = omega arith;
-    on = chain-on (f .c .m) (f .c .n) (wordsOf code) (termWithin (f .c .m) (f .c .n) (wordsOf code) nest) (term-grows (f .c .m) (f .c .n) (wordsOf code) nest) (f .left .g) (f .left .u) start to (f .t) (f .left .rest);
+    on = chain-on (f .c .m) (f .c .n) (cellsOf code) (termWithin (f .c .m) (f .c .n) (cellsOf code) nest) (term-grows (f .c .m) (f .c .n) (cellsOf code) nest) (f .left .g) (f .left .u) start to (f .t) (f .left .rest);
   }
 
   pub goes-begun : (first : ℤ) (start to : ℕ) → SFits w64 first → Follows nest code values base first start to → Going nest code values base (read first) start to (read first) start
@@ -275,58 +275,58 @@ module _ (nest : ℕ) (code values : List ℕ) (base : ℕ) where
       is = λ c t e.
           let l = go .left c t e in
           is-value a (small-value a (go .small)) ∙ sym (l .is)
-          ∙ ap (worth (memoryOf c values base)) (chain-done (c .m) (c .n) (wordsOf code) (termWithin (c .m) (c .n) (wordsOf code) nest) (l .g) (l .u) i to t (omega (arith, go .on)) (l .rest));
+          ∙ ap (worth (memoryOf c values base)) (chain-done (c .m) (c .n) (cellsOf code) (termWithin (c .m) (c .n) (cellsOf code) nest) (l .g) (l .u) i to t (omega (arith, go .on)) (l .rest));
     }
 
     module _ (h : i < to) where
-      next : (c : Counts) (t : Term) (e : Left nest c code values base first start to t) → Step (c .m) (c .n) (wordsOf code) (termWithin (c .m) (c .n) (wordsOf code) nest) (go .left c t e .g) (go .left c t e .u) i to t
-      next c t e = chain-step (c .m) (c .n) (wordsOf code) (termWithin (c .m) (c .n) (wordsOf code) nest) (go .left c t e .g) (go .left c t e .u) i to t (λ q. omega arith) (go .left c t e .rest)
+      next : (c : Counts) (t : Term) (e : Left nest c code values base first start to t) → Step (c .m) (c .n) (cellsOf code) (termWithin (c .m) (c .n) (cellsOf code) nest) (go .left c t e .g) (go .left c t e .u) i to t
+      next c t e = chain-step (c .m) (c .n) (cellsOf code) (termWithin (c .m) (c .n) (cellsOf code) nest) (go .left c t e .g) (go .left c t e .u) i to t (λ q. omega arith) (go .left c t e .rest)
 
-      ghost-next : Step (go .asked .c .m) (go .asked .c .n) (wordsOf code) (termWithin (go .asked .c .m) (go .asked .c .n) (wordsOf code) nest)
+      ghost-next : Step (go .asked .c .m) (go .asked .c .n) (cellsOf code) (termWithin (go .asked .c .m) (go .asked .c .n) (cellsOf code) nest)
           (go .left (go .asked .c) (go .asked .t) (go .asked .left) .g) (go .left (go .asked .c) (go .asked .t) (go .asked .left) .u) i to (go .asked .t)
       ghost-next = next (go .asked .c) (go .asked .t) (go .asked .left)
 
-      right-on : rightEnd (wordsOf code) i ≤ to
+      right-on : rightEnd (cellsOf code) i ≤ to
       right-on = ghost-next .on
 
-      right-more : i + 1 < rightEnd (wordsOf code) i
+      right-more : i + 1 < rightEnd (cellsOf code) i
       right-more =
-          right-moves (go .asked .c .m) (go .asked .c .n) (wordsOf code) (termWithin (go .asked .c .m) (go .asked .c .n) (wordsOf code) nest)
-          (term-grows (go .asked .c .m) (go .asked .c .n) (wordsOf code) nest) i (ghost-next .u) (ghost-next .right)
+          right-moves (go .asked .c .m) (go .asked .c .n) (cellsOf code) (termWithin (go .asked .c .m) (go .asked .c .n) (cellsOf code) nest)
+          (term-grows (go .asked .c .m) (go .asked .c .n) (cellsOf code) nest) i (ghost-next .u) (ghost-next .right)
 
       pub turn-room : i + 2 ≤ to
       turn-room = omega (arith, right-more, right-on)
 
       pub turn-in : i * 8 + 8 ≤ length code
       turn-in =
-          right-in code i (go .asked .whole) (go .asked .c .m) (go .asked .c .n) (termWithin (go .asked .c .m) (go .asked .c .n) (wordsOf code) nest)
-          (term-grows (go .asked .c .m) (go .asked .c .n) (wordsOf code) nest) (ghost-next .u) (ghost-next .right)
+          right-in code i (go .asked .whole) (go .asked .c .m) (go .asked .c .n) (termWithin (go .asked .c .m) (go .asked .c .n) (cellsOf code) nest)
+          (term-grows (go .asked .c .m) (go .asked .c .n) (cellsOf code) nest) (ghost-next .u) (ghost-next .right)
 
-      module _ (w : ℕ) (ew : w ≡ headAt (wordsOf code) i) where
+      module _ (w : ℕ) (ew : w ≡ headAt (cellsOf code) i) where
         number : ℕ
         number = w % 256 % 16
 
-        class-is : w % 256 / 16 % 4 ≡ rightIn (opAt (wordsOf code) i)
+        class-is : w % 256 / 16 % 4 ≡ rightIn (opAt (cellsOf code) i)
         class-is = ap (λ (v : ℕ). v % 256 / 16 % 4) ew
 
         -- the right side's answer b, and the word r after it
         pub record Sided (b : ℤ) (r : ℕ) : Type 0 where
-          pub end : r ≡ rightEnd (wordsOf code) i
+          pub end : r ≡ rightEnd (cellsOf code) i
           pub small : SFits w32 b
-          pub is : (c : Counts) (u : Term) → rightTerm (c .m) (c .n) (wordsOf code) (termWithin (c .m) (c .n) (wordsOf code) nest) i ≡ some u
+          pub is : (c : Counts) (u : Term) → rightTerm (c .m) (c .n) (cellsOf code) (termWithin (c .m) (c .n) (cellsOf code) nest) i ≡ some u
               → joined (operatorOf (w % 256 % 16)) (value a) (value b) ≡ joined (operatorOf (w % 256 % 16)) (value a) (worth (memoryOf c values base) u)
 
         pub sided-read : (b : ℤ) (r : ℕ) → SFits w64 b → Sided b r → Sided (read b) r
         sided-read b r s d = rw (toZ-ofZ s) d
 
         -- a span
-        module _ (k : w % 256 / 16 % 4 ≡ 0) (r : ℕ) (er : r ≡ linkAt (wordsOf code) i) where
-          end-is : r ≡ rightEnd (wordsOf code) i
-          end-is = er ∙ sym (end-span (wordsOf code) i (sym class-is ∙ k))
+        module _ (k : w % 256 / 16 % 4 ≡ 0) (r : ℕ) (er : r ≡ linkAt (cellsOf code) i) where
+          end-is : r ≡ rightEnd (cellsOf code) i
+          end-is = er ∙ sym (end-span (cellsOf code) i (sym class-is ∙ k))
 
-          right-is : (c : Counts) (u : Term) → rightTerm (c .m) (c .n) (wordsOf code) (termWithin (c .m) (c .n) (wordsOf code) nest) i ≡ some u → termUnder nest c code (i + 1) r ≡ some u
+          right-is : (c : Counts) (u : Term) → rightTerm (c .m) (c .n) (cellsOf code) (termWithin (c .m) (c .n) (cellsOf code) nest) i ≡ some u → termUnder nest c code (i + 1) r ≡ some u
           right-is c u e =
-              ap (termWithin (c .m) (c .n) (wordsOf code) nest (i + 1)) er ∙ sym (right-span (wordsOf code) i (c .m) (c .n) (termWithin (c .m) (c .n) (wordsOf code) nest) (sym class-is ∙ k)) ∙ e
+              ap (termWithin (c .m) (c .n) (cellsOf code) nest (i + 1)) er ∙ sym (right-span (cellsOf code) i (c .m) (c .n) (termWithin (c .m) (c .n) (cellsOf code) nest) (sym class-is ∙ k)) ∙ e
 
           pub span-stands : StandsUnder nest code (i + 1) r
           span-stands = record {
@@ -365,26 +365,26 @@ module _ (nest : ℕ) (code values : List ℕ) (base : ℕ) where
                   let l = go .left c t e in
                   let s = next c t e in
                   let d = is-error b q in
-                  d ∙ sym (chain-error nest c code values base (natAbs b - firstError) (s .p) (binary (operatorIn (opAt (wordsOf code) i)) (l .u) (s .u)) (rightEnd (wordsOf code) i) to t (s .rest)
-                  (worth-joined (memoryOf c values base) (operatorIn (opAt (wordsOf code) i)) (l .u) (s .u)
-                  ∙ ap₂ (joined (operatorIn (opAt (wordsOf code) i))) (l .is) (sym (v .is c (s .u) (right-is c (s .u) (s .right))) ∙ d)
+                  d ∙ sym (chain-error nest c code values base (natAbs b - firstError) (s .p) (binary (operatorIn (opAt (cellsOf code) i)) (l .u) (s .u)) (rightEnd (cellsOf code) i) to t (s .rest)
+                  (worth-joined (memoryOf c values base) (operatorIn (opAt (cellsOf code) i)) (l .u) (s .u)
+                  ∙ ap₂ (joined (operatorIn (opAt (cellsOf code) i))) (l .is) (sym (v .is c (s .u) (right-is c (s .u) (s .right))) ∙ d)
                   ∙ ap (λ (j : ℕ). joined (operatorOf (j % 256 % 16)) (value a) (error (natAbs b - firstError))) (sym ew)
                   ∙ joined-not (operatorOf (w % 256 % 16)) (value a) (error (natAbs b - firstError)) n));
             }
 
         -- a leaf
         module _ (k : w % 256 / 16 % 4 ≡ 0 → ⊥) where
-          fused-is : (c : Counts) (u : Term) → rightTerm (c .m) (c .n) (wordsOf code) (termWithin (c .m) (c .n) (wordsOf code) nest) i ≡ some u → leafTerm (c .m) (c .n) (w % 256 / 16 % 4) (w / 256) ≡ some u
+          fused-is : (c : Counts) (u : Term) → rightTerm (c .m) (c .n) (cellsOf code) (termWithin (c .m) (c .n) (cellsOf code) nest) i ≡ some u → leafTerm (c .m) (c .n) (w % 256 / 16 % 4) (w / 256) ≡ some u
           fused-is c u e =
               ap (λ (v : ℕ). leafTerm (c .m) (c .n) (v % 256 / 16 % 4) (v / 256)) ew
-              ∙ sym (right-leaf (wordsOf code) i (c .m) (c .n) (termWithin (c .m) (c .n) (wordsOf code) nest) (λ z. k (class-is ∙ z))) ∙ e
+              ∙ sym (right-leaf (cellsOf code) i (c .m) (c .n) (termWithin (c .m) (c .n) (cellsOf code) nest) (λ z. k (class-is ∙ z))) ∙ e
 
           pub fused-leaf : w < cellValues → Leaf (w % 256 / 16 % 4) (w / 256)
           fused-leaf b = record { c = go .asked .c; t = ghost-next .u; is = fused-is (go .asked .c) (ghost-next .u) (ghost-next .right); bits = omega arith }
 
           pub side-leaf : (b : ℤ) → Read values base (w % 256 / 16 % 4) (w / 256) b → Sided b (i + 2)
           side-leaf b r = record {
-            end = sym (end-leaf (wordsOf code) i (λ z. k (class-is ∙ z)));
+            end = sym (end-leaf (cellsOf code) i (λ z. k (class-is ∙ z)));
             small = r .small;
             is = λ c u e. ap (joined (operatorOf (w % 256 % 16)) (value a)) (sym (r .is c u (fused-is c u e)));
           }
@@ -398,10 +398,10 @@ module _ (nest : ℕ) (code values : List ℕ) (base : ℕ) where
           turn-less = omega (arith, sd .end, right-on, right-more)
 
           worth-is : (c : Counts) (t : Term) (e : Left nest c code values base first start to t)
-              → worth (memoryOf c values base) (binary (operatorIn (opAt (wordsOf code) i)) (go .left c t e .u) (next c t e .u)) ≡ joined (operatorOf (w % 256 % 16)) (value a) (value b)
+              → worth (memoryOf c values base) (binary (operatorIn (opAt (cellsOf code) i)) (go .left c t e .u) (next c t e .u)) ≡ joined (operatorOf (w % 256 % 16)) (value a) (value b)
           worth-is c t e =
-              worth-joined (memoryOf c values base) (operatorIn (opAt (wordsOf code) i)) (go .left c t e .u) (next c t e .u)
-              ∙ ap (λ (v : Value). joined (operatorIn (opAt (wordsOf code) i)) v (worth (memoryOf c values base) (next c t e .u))) (go .left c t e .is)
+              worth-joined (memoryOf c values base) (operatorIn (opAt (cellsOf code) i)) (go .left c t e .u) (next c t e .u)
+              ∙ ap (λ (v : Value). joined (operatorIn (opAt (cellsOf code) i)) v (worth (memoryOf c values base) (next c t e .u))) (go .left c t e .is)
               ∙ ap (λ (j : ℕ). joined (operatorOf (j % 256 % 16)) (value a) (worth (memoryOf c values base) (next c t e .u))) (sym ew)
               ∙ sym (sd .is c (next c t e .u) (next c t e .right))
 
@@ -412,10 +412,10 @@ module _ (nest : ℕ) (code values : List ℕ) (base : ℕ) where
             after = omega (arith, sd .end, right-more, go .after);
             on = turn-on;
             left = λ c t e. record {
-              u = binary (operatorIn (opAt (wordsOf code) i)) (go .left c t e .u) (next c t e .u);
+              u = binary (operatorIn (opAt (cellsOf code) i)) (go .left c t e .u) (next c t e .u);
               is = worth-is c t e ∙ q;
               g = next c t e .p;
-              rest = ap (λ (j : ℕ). chain (c .m) (c .n) (wordsOf code) (termWithin (c .m) (c .n) (wordsOf code) nest) (next c t e .p) (binary (operatorIn (opAt (wordsOf code) i)) (go .left c t e .u) (next c t e .u)) j to) (sd .end) ∙ next c t e .rest;
+              rest = ap (λ (j : ℕ). chain (c .m) (c .n) (cellsOf code) (termWithin (c .m) (c .n) (cellsOf code) nest) (next c t e .p) (binary (operatorIn (opAt (cellsOf code) i)) (go .left c t e .u) (next c t e .u)) j to) (sd .end) ∙ next c t e .rest;
             };
           }
 
@@ -428,11 +428,11 @@ module _ (nest : ℕ) (code values : List ℕ) (base : ℕ) where
               small = g .small;
               is = λ c t e.
                   g .is ∙ sym (chain-error nest c code values base (failureOf (w % 256 % 16) b) (next c t e .p)
-                  (binary (operatorIn (opAt (wordsOf code) i)) (go .left c t e .u) (next c t e .u)) (rightEnd (wordsOf code) i) to t (next c t e .rest) (worth-is c t e ∙ k .fails o));
+                  (binary (operatorIn (opAt (cellsOf code) i)) (go .left c t e .u) (next c t e .u)) (rightEnd (cellsOf code) i) to t (next c t e .rest) (worth-is c t e ∙ k .fails o));
             }
 
         -- AND and OR with a span
-        module _ (k : w % 256 / 16 % 4 ≡ 0) (r : ℕ) (er : r ≡ linkAt (wordsOf code) i) where
+        module _ (k : w % 256 / 16 % 4 ≡ 0) (r : ℕ) (er : r ≡ linkAt (cellsOf code) i) where
           -- the left side tells the answer
           pub skip-known : known (operatorOf (w % 256 % 16)) (value a) ≡ true → Going nest code values base first start to a r
           skip-known q = goes-on a r (side-known k r er q) a (go .small) (joined-known (operatorOf (w % 256 % 16)) (value a) (value a) q)
@@ -452,25 +452,25 @@ module _ (nest : ℕ) (code values : List ℕ) (base : ℕ) where
                   v .is c (s .u) (ap (termUnder nest c code (i + 1)) (sym z) ∙ right-is k r er c (s .u) (s .right))
                   ∙ sym (sk (worth (memoryOf c values base) (s .u)))
                   ∙ ap (λ (j : ℕ). joined (operatorOf (j % 256 % 16)) (value a) (worth (memoryOf c values base) (s .u))) ew
-                  ∙ ap (λ (x : Value). joined (operatorIn (opAt (wordsOf code) i)) x (worth (memoryOf c values base) (s .u))) (sym (l .is))
-                  ∙ sym (worth-joined (memoryOf c values base) (operatorIn (opAt (wordsOf code) i)) (l .u) (s .u))
-                  ∙ ap (worth (memoryOf c values base)) (chain-done (c .m) (c .n) (wordsOf code) (termWithin (c .m) (c .n) (wordsOf code) nest) (s .p) (binary (operatorIn (opAt (wordsOf code) i)) (l .u) (s .u)) (rightEnd (wordsOf code) i) to t (sym (end-is k r er) ∙ z) (s .rest));
+                  ∙ ap (λ (x : Value). joined (operatorIn (opAt (cellsOf code) i)) x (worth (memoryOf c values base) (s .u))) (sym (l .is))
+                  ∙ sym (worth-joined (memoryOf c values base) (operatorIn (opAt (cellsOf code) i)) (l .u) (s .u))
+                  ∙ ap (worth (memoryOf c values base)) (chain-done (c .m) (c .n) (cellsOf code) (termWithin (c .m) (c .n) (cellsOf code) nest) (s .p) (binary (operatorIn (opAt (cellsOf code) i)) (l .u) (s .u)) (rightEnd (cellsOf code) i) to t (sym (end-is k r er) ∙ z) (s .rest));
             }
 
           pub last-stands : r ≡ to → StandsUnder nest code (i + 1) to
           last-stands z = subst (StandsUnder nest code (i + 1)) z (span-stands k r er)
 
   -- ---- one operator between two words
-  module _ (from to : ℕ) (sd : StandsUnder nest code from to) (l : to ≡ from + 3) (w : ℕ) (ew : w ≡ headAt (wordsOf code) from) (h : w % 256 ≤ 3) where
+  module _ (from to : ℕ) (sd : StandsUnder nest code from to) (l : to ≡ from + 3) (w : ℕ) (ew : w ≡ headAt (cellsOf code) from) (h : w % 256 ≤ 3) where
     pub second-in : (from + 1) * 8 + 8 ≤ length code
     second-in =
         let b = begins from to sd (sd .c) (sd .t) (sd .is) in
         let q : b .x .1 ≡ from + 1 = leaf-at from to sd w ew h (sd .c) (b .x) (b .first) .1 in
-        let s = chain-step (sd .c .m) (sd .c .n) (wordsOf code) (termWithin (sd .c .m) (sd .c .n) (wordsOf code) nest) (b .g) (b .x .0) (b .x .1) to (sd .t) (λ z. omega arith) (b .rest) in
-        let r = right-in code (b .x .1) (sd .whole) (sd .c .m) (sd .c .n) (termWithin (sd .c .m) (sd .c .n) (wordsOf code) nest) (term-grows (sd .c .m) (sd .c .n) (wordsOf code) nest) (s .u) (s .right) in
+        let s = chain-step (sd .c .m) (sd .c .n) (cellsOf code) (termWithin (sd .c .m) (sd .c .n) (cellsOf code) nest) (b .g) (b .x .0) (b .x .1) to (sd .t) (λ z. omega arith) (b .rest) in
+        let r = right-in code (b .x .1) (sd .whole) (sd .c .m) (sd .c .n) (termWithin (sd .c .m) (sd .c .n) (cellsOf code) nest) (term-grows (sd .c .m) (sd .c .n) (cellsOf code) nest) (s .u) (s .right) in
         omega (arith, q, r)
 
-    module _ (x : ℕ) (ex : x ≡ headAt (wordsOf code) (from + 1)) (k : x / 16 % 4 ≡ 0 → ⊥) (a : ℤ) (sa : SFits w64 a) (ra : Read values base (w % 256) (w / 256) a) where
+    module _ (x : ℕ) (ex : x ≡ headAt (cellsOf code) (from + 1)) (k : x / 16 % 4 ≡ 0 → ⊥) (a : ℤ) (sa : SFits w64 a) (ra : Read values base (w % 256) (w / 256) a) where
       opened : Opened from to sd (read a) (from + 1)
       opened = start-leaf from to sd w ew h a sa ra
 
@@ -494,32 +494,32 @@ module _ (nest : ℕ) (code values : List ℕ) (base : ℕ) where
             is = λ c t e.
                 let g = opened .left c t e in
                 let s = next (read a) (from + 1) to (read a) (from + 1) going (omega arith) c t g in
-                let o : x % 64 % 16 ≡ opAt (wordsOf code) (from + 1) % 16 = let q : x % 64 % 16 ≡ x % 256 % 16 = omega arith in q ∙ ap (λ (j : ℕ). j % 256 % 16) ex in
+                let o : x % 64 % 16 ≡ opAt (cellsOf code) (from + 1) % 16 = let q : x % 64 % 16 ≡ x % 256 % 16 = omega arith in q ∙ ap (λ (j : ℕ). j % 256 % 16) ex in
                 f .is c (s .u) (ap (λ (j : ℕ). leafTerm (c .m) (c .n) j (x / 256)) (sym class-low) ∙ fused-is (read a) (from + 1) to (read a) (from + 1) going (omega arith) x ex carried c (s .u) (s .right))
                 ∙ ap (λ (j : ℕ). joined (operatorOf j) (value (read a)) (worth (memoryOf c values base) (s .u))) o
-                ∙ ap (λ (v : Value). joined (operatorIn (opAt (wordsOf code) (from + 1))) v (worth (memoryOf c values base) (s .u))) (sym (g .is))
-                ∙ sym (worth-joined (memoryOf c values base) (operatorIn (opAt (wordsOf code) (from + 1))) (g .u) (s .u))
-                ∙ ap (worth (memoryOf c values base)) (chain-done (c .m) (c .n) (wordsOf code) (termWithin (c .m) (c .n) (wordsOf code) nest) (s .p) (binary (operatorIn (opAt (wordsOf code) (from + 1))) (g .u) (s .u)) (rightEnd (wordsOf code) (from + 1)) to t
-                (end-leaf (wordsOf code) (from + 1) (λ z. carried (ap (λ (j : ℕ). j % 256 / 16 % 4) ex ∙ z)) ∙ omega arith) (s .rest));
+                ∙ ap (λ (v : Value). joined (operatorIn (opAt (cellsOf code) (from + 1))) v (worth (memoryOf c values base) (s .u))) (sym (g .is))
+                ∙ sym (worth-joined (memoryOf c values base) (operatorIn (opAt (cellsOf code) (from + 1))) (g .u) (s .u))
+                ∙ ap (worth (memoryOf c values base)) (chain-done (c .m) (c .n) (cellsOf code) (termWithin (c .m) (c .n) (cellsOf code) nest) (s .p) (binary (operatorIn (opAt (cellsOf code) (from + 1))) (g .u) (s .u)) (rightEnd (cellsOf code) (from + 1)) to t
+                (end-leaf (cellsOf code) (from + 1) (λ z. carried (ap (λ (j : ℕ). j % 256 / 16 % 4) ex ∙ z)) ∙ omega arith) (s .rest));
           })
 
   -- ---- and told to be that
   module _ (from to : ℕ) (sd : StandsUnder nest code from to) where
     module _ (sh : Shorts code from to true) where
-      first-word : (w : ℕ) → w ≡ headAt (wordsOf code) from → w % 256 ≤ 3
+      first-word : (w : ℕ) → w ≡ headAt (cellsOf code) from → w % 256 ≤ 3
       first-word w ew = omega (arith, ew, sh .first refl)
 
-      second-word : (x : ℕ) → x ≡ headAt (wordsOf code) (from + 1) → x / 16 % 4 ≡ 0 → ⊥
+      second-word : (x : ℕ) → x ≡ headAt (cellsOf code) (from + 1) → x / 16 % 4 ≡ 0 → ⊥
       second-word x ex z = sh .carried refl (omega (arith, ex))
 
       pub short-second : (from + 1) * 8 + 8 ≤ length code
-      short-second = second-in from to sd (sh .end refl) (headAt (wordsOf code) from) refl (sh .first refl)
+      short-second = second-in from to sd (sh .end refl) (headAt (cellsOf code) from) refl (sh .first refl)
 
-      module _ (w : ℕ) (ew : w ≡ headAt (wordsOf code) from) where
+      module _ (w : ℕ) (ew : w ≡ headAt (cellsOf code) from) where
         pub short-first : w < cellValues → Leaf (w % 256) (w / 256)
         short-first b = first-leaf from to sd w ew (first-word w ew) b
 
-        module _ (x : ℕ) (ex : x ≡ headAt (wordsOf code) (from + 1)) (a : ℤ) (sa : SFits w64 a) (ra : Read values base (w % 256) (w / 256) a) where
+        module _ (x : ℕ) (ex : x ≡ headAt (cellsOf code) (from + 1)) (a : ℤ) (sa : SFits w64 a) (ra : Read values base (w % 256) (w / 256) a) where
           pub short-carried : x < cellValues → Leaf (x % 64 / 16 % 4) (x / 256)
           short-carried b = second-leaf from to sd (sh .end refl) w ew (first-word w ew) x ex (second-word x ex) a sa ra b
 
@@ -552,7 +552,7 @@ module _ (nest : ℕ) (code values : List ℕ) (base at w l : ℕ) (en : Enclose
     pub inside-room : s + 1 ≤ l
     inside-room = omega (arith, stands-less (nestsIn (w % 256) nest) code values base s l stands-inside)
 
-    pub short-leaf : l ≡ s + 1 → (v : ℕ) → v ≡ headAt (wordsOf code) s → v < cellValues → Leaf (v % 256) (v / 256)
+    pub short-leaf : l ≡ s + 1 → (v : ℕ) → v ≡ headAt (cellsOf code) s → v < cellValues → Leaf (v % 256) (v / 256)
     short-leaf k v ev b = alone-leaf (nestsIn (w % 256) nest) code values base s l stands-inside k v ev b
 
     enters : (x : ℤ) → SFits w64 x → EvaluatedUnder (nestsIn (w % 256) nest) code values base s l x → (z : ℤ) → SFits w64 z → Closed values base w (read x) z → Entered nest code values base at w l (read z)
@@ -563,7 +563,7 @@ module _ (nest : ℕ) (code values : List ℕ) (base at w l : ℕ) (en : Enclose
           small = d .small;
         })
 
-    pub entered-short : l ≡ s + 1 → (v : ℕ) → v ≡ headAt (wordsOf code) s → (x : ℤ) → SFits w64 x → Read values base (v % 256) (v / 256) x → (z : ℤ) → SFits w64 z
+    pub entered-short : l ≡ s + 1 → (v : ℕ) → v ≡ headAt (cellsOf code) s → (x : ℤ) → SFits w64 x → Read values base (v % 256) (v / 256) x → (z : ℤ) → SFits w64 z
         → Closed values base w (read x) z → Entered nest code values base at w l (read z)
     entered-short k v ev x sx r z sz d = enters x sx (alone-evaluated (nestsIn (w % 256) nest) code values base s l stands-inside k v ev x r) z sz d
 
@@ -593,11 +593,11 @@ module _ (code : List ℕ) (from to : ℕ) where
     pub shorts-first : from * 8 + 8 ≤ length code
     shorts-first = stands-in nest code code 0 from to sd
 
-    module _ (l : to ≡ from + 3) (w : ℕ) (ew : w ≡ headAt (wordsOf code) from) (h : w % 256 ≤ 3) where
+    module _ (l : to ≡ from + 3) (w : ℕ) (ew : w ≡ headAt (cellsOf code) from) (h : w % 256 ≤ 3) where
       pub shorts-second : (from + 1) * 8 + 8 ≤ length code
       shorts-second = second-in nest code code 0 from to sd l w ew h
 
-      pub shorts-is : (x : ℕ) → x ≡ headAt (wordsOf code) (from + 1) → (x / 16 % 4 ≡ 0 → ⊥) → Shorts code from to true
+      pub shorts-is : (x : ℕ) → x ≡ headAt (cellsOf code) (from + 1) → (x / 16 % 4 ≡ 0 → ⊥) → Shorts code from to true
       shorts-is x ex k = record {
         end = λ q. l;
         first = λ q. omega (arith, ew);

@@ -12,7 +12,7 @@ use mir.Val.{SFits}
 use Rattle.paper.specs.Expressions.{nestings}
 use Rattle.paper.specs.Numbers.{Value, value, error}
 use Rattle.paper.specs.Terms.{Term, Memory, worth}
-use Rattle.store_cells.specs.Words.{wordsOf}
+use Rattle.store_cells.specs.Cells.{cellsOf}
 use Rattle.code.specs.Cells.{firstWindow, errnoCell}
 use Rattle.code.specs.Spans.{termWithin, memoryIn}
 pub use Rattle.layout.specs.Answers.{firstError}
@@ -32,8 +32,8 @@ pub record Gives (v : Value) (r : ℤ) : Type 0 where
 
 -- ---- the stores
 -- a call's words, at the beginning of its window
-abbrev pub callWords : ℕ
-callWords = 64
+abbrev pub callSlots : ℕ
+callSlots = 64
 
 -- the words below it are the same number with a sign and without
 abbrev pub firstNegative : ℕ
@@ -44,23 +44,23 @@ pub record Counts : Type 0 where
   pub m : ℕ
   pub n : ℕ
   pub most : m ≤ firstWindow
-  pub window : n ≤ callWords
+  pub window : n ≤ callSlots
 
 -- the expression that stands in a span, in which so many parentheses and braces may nest; and one in which 16 may
 abbrev pub termUnder : (nesting : ℕ) → Counts → (code : List ℕ) → (from to : ℕ) → Option Term
-termUnder nest c code from to = termWithin (c .m) (c .n) (wordsOf code) nest from to
+termUnder nest c code from to = termWithin (c .m) (c .n) (cellsOf code) nest from to
 
 abbrev pub termOf : Counts → (code : List ℕ) → (from to : ℕ) → Option Term
 termOf c code from to = termUnder nestings c code from to
 
 abbrev pub memoryOf : Counts → (values : List ℕ) → (base : ℕ) → Memory
-memoryOf c values base = memoryIn (c .m) (c .n) (wordsOf values) base
+memoryOf c values base = memoryIn (c .m) (c .n) (cellsOf values) base
 
 -- The value store has the module's words, ERRNO, which is no large number, and the call's words from `base` on.
 pub record Stores (values : List ℕ) (base : ℕ) : Type 0 where
   pub words : errnoCell * 4 + 4 ≤ length values
-  pub call : (base + callWords) * 4 ≤ length values
-  pub number : getD (wordsOf values) errnoCell 0 < firstNegative
+  pub call : (base + callSlots) * 4 ≤ length values
+  pub number : getD (cellsOf values) errnoCell 0 < firstNegative
 
 -- An expression stands in the words from `from` up to `to`, in which so many parentheses and braces may nest. The code store has whole words, of two cells
 -- each: so those that say something are in it.

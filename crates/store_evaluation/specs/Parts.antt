@@ -13,9 +13,9 @@ use mir.Val.{SFits}
 use Rattle.paper.specs.Basics.{if_then_else_}
 use Rattle.paper.specs.Numbers.{num, Value, value, error, isZero, overflow, divZero}
 use Rattle.paper.specs.Terms.{Term, unary, known, combined, worth}
-use Rattle.store_cells.specs.Words.{wordsOf}
+use Rattle.store_cells.specs.Cells.{cellsOf}
 use Rattle.code.specs.Cells.{opIn, valueIn, opAt}
-use Rattle.code.specs.Spans.{aSpan, aCallWord, aCallElement, aParenthesis, rightIn, prefixIn, operatorOf, operatorIn, leafTerm, elementTerm, chain, termWithin}
+use Rattle.code.specs.Spans.{aSpan, aCallSlot, aCallElement, aParenthesis, rightIn, prefixIn, operatorOf, operatorIn, leafTerm, elementTerm, chain, termWithin}
 use Rattle.store_reading.specs.Reading.{valueEnd}
 use Rattle.store_evaluation.specs.Answers.{decoded, Small, Counts, termUnder, memoryOf}
 
@@ -134,8 +134,8 @@ pub record Closed (values : List ℕ) (base w : ℕ) (x r : ℤ) : Type 0 where
 -- where r is true, one operator stands between two words
 pub record Shorts (code : List ℕ) (from to : ℕ) (r : Bool) : Type 0 where
   pub end : r ≡ true → to ≡ from + 3
-  pub first : r ≡ true → opAt (wordsOf code) from ≤ aCallWord
-  pub carried : r ≡ true → rightIn (opAt (wordsOf code) (from + 1)) ≡ aSpan → ⊥
+  pub first : r ≡ true → opAt (cellsOf code) from ≤ aCallSlot
+  pub carried : r ≡ true → rightIn (opAt (cellsOf code) (from + 1)) ≡ aSpan → ⊥
 
 -- an operand of several words begins at a word with the head w: what stands inside it ends at l
 pub record Encloses (nesting : ℕ) (code : List ℕ) (at w l : ℕ) : Type 0 where
@@ -158,7 +158,7 @@ pub record Left (nesting : ℕ) (c : Counts) (code values : List ℕ) (base : �
   pub u : Term
   pub is : worth (memoryOf c values base) u ≡ value a
   pub g : ℕ
-  pub rest : chain (c .m) (c .n) (wordsOf code) (termWithin (c .m) (c .n) (wordsOf code) nesting) g u i to ≡ some t
+  pub rest : chain (c .m) (c .n) (cellsOf code) (termWithin (c .m) (c .n) (cellsOf code) nesting) g u i to ≡ some t
 
 pub record Follows (nesting : ℕ) (code values : List ℕ) (base : ℕ) (a : ℤ) (i to : ℕ) : Type 0 where
   pub c : Counts

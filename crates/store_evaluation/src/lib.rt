@@ -252,7 +252,7 @@ fn leaf(values: &[u8], base: usize, op: u32, v: u32) -> i64
     if op == ops::LITERAL {
         return v as i64 - parts::SIGNED_BIAS;
     }
-    load(values, cell(base, op, ops::MODULE_WORD, v as usize))
+    load(values, cell(base, op, ops::MODULE_SLOT, v as usize))
 }
 
 // What an operator gives that carries its right side: one choice among operators and kinds of right sides, each arm with code of its own.
@@ -287,86 +287,86 @@ fn fused(values: &[u8], base: usize, op: u32, v: u32, a: i64) -> i64
         carried::XOR_LITERAL => combine(ops::XOR, a, leaf(values, base, ops::LITERAL, v)),
         carried::AND_LITERAL => combine(ops::AND, a, leaf(values, base, ops::LITERAL, v)),
         carried::OR_LITERAL => combine(ops::OR, a, leaf(values, base, ops::LITERAL, v)),
-        carried::SUM_MODULE_WORD => combine(ops::SUM, a, leaf(values, base, ops::MODULE_WORD, v)),
+        carried::SUM_MODULE_WORD => combine(ops::SUM, a, leaf(values, base, ops::MODULE_SLOT, v)),
         carried::DIFFERENCE_MODULE_WORD => combine(
             ops::DIFFERENCE,
             a,
-            leaf(values, base, ops::MODULE_WORD, v),
+            leaf(values, base, ops::MODULE_SLOT, v),
         ),
         carried::PRODUCT_MODULE_WORD => combine(
             ops::PRODUCT,
             a,
-            leaf(values, base, ops::MODULE_WORD, v),
+            leaf(values, base, ops::MODULE_SLOT, v),
         ),
-        carried::DIV_MODULE_WORD => combine(ops::DIV, a, leaf(values, base, ops::MODULE_WORD, v)),
-        carried::MOD_MODULE_WORD => combine(ops::MOD, a, leaf(values, base, ops::MODULE_WORD, v)),
-        carried::LESS_MODULE_WORD => combine(ops::LESS, a, leaf(values, base, ops::MODULE_WORD, v)),
+        carried::DIV_MODULE_WORD => combine(ops::DIV, a, leaf(values, base, ops::MODULE_SLOT, v)),
+        carried::MOD_MODULE_WORD => combine(ops::MOD, a, leaf(values, base, ops::MODULE_SLOT, v)),
+        carried::LESS_MODULE_WORD => combine(ops::LESS, a, leaf(values, base, ops::MODULE_SLOT, v)),
         carried::LESS_EQUAL_MODULE_WORD => combine(
             ops::LESS_EQUAL,
             a,
-            leaf(values, base, ops::MODULE_WORD, v),
+            leaf(values, base, ops::MODULE_SLOT, v),
         ),
         carried::GREATER_MODULE_WORD => combine(
             ops::GREATER,
             a,
-            leaf(values, base, ops::MODULE_WORD, v),
+            leaf(values, base, ops::MODULE_SLOT, v),
         ),
         carried::GREATER_EQUAL_MODULE_WORD => combine(
             ops::GREATER_EQUAL,
             a,
-            leaf(values, base, ops::MODULE_WORD, v),
+            leaf(values, base, ops::MODULE_SLOT, v),
         ),
         carried::EQUAL_MODULE_WORD => combine(
             ops::EQUAL,
             a,
-            leaf(values, base, ops::MODULE_WORD, v),
+            leaf(values, base, ops::MODULE_SLOT, v),
         ),
         carried::UNEQUAL_MODULE_WORD => combine(
             ops::UNEQUAL,
             a,
-            leaf(values, base, ops::MODULE_WORD, v),
+            leaf(values, base, ops::MODULE_SLOT, v),
         ),
-        carried::XOR_MODULE_WORD => combine(ops::XOR, a, leaf(values, base, ops::MODULE_WORD, v)),
-        carried::AND_MODULE_WORD => combine(ops::AND, a, leaf(values, base, ops::MODULE_WORD, v)),
-        carried::OR_MODULE_WORD => combine(ops::OR, a, leaf(values, base, ops::MODULE_WORD, v)),
-        carried::SUM_CALL_WORD => combine(ops::SUM, a, leaf(values, base, ops::CALL_WORD, v)),
+        carried::XOR_MODULE_WORD => combine(ops::XOR, a, leaf(values, base, ops::MODULE_SLOT, v)),
+        carried::AND_MODULE_WORD => combine(ops::AND, a, leaf(values, base, ops::MODULE_SLOT, v)),
+        carried::OR_MODULE_WORD => combine(ops::OR, a, leaf(values, base, ops::MODULE_SLOT, v)),
+        carried::SUM_CALL_WORD => combine(ops::SUM, a, leaf(values, base, ops::CALL_SLOT, v)),
         carried::DIFFERENCE_CALL_WORD => combine(
             ops::DIFFERENCE,
             a,
-            leaf(values, base, ops::CALL_WORD, v),
+            leaf(values, base, ops::CALL_SLOT, v),
         ),
         carried::PRODUCT_CALL_WORD => combine(
             ops::PRODUCT,
             a,
-            leaf(values, base, ops::CALL_WORD, v),
+            leaf(values, base, ops::CALL_SLOT, v),
         ),
-        carried::DIV_CALL_WORD => combine(ops::DIV, a, leaf(values, base, ops::CALL_WORD, v)),
-        carried::MOD_CALL_WORD => combine(ops::MOD, a, leaf(values, base, ops::CALL_WORD, v)),
-        carried::LESS_CALL_WORD => combine(ops::LESS, a, leaf(values, base, ops::CALL_WORD, v)),
+        carried::DIV_CALL_WORD => combine(ops::DIV, a, leaf(values, base, ops::CALL_SLOT, v)),
+        carried::MOD_CALL_WORD => combine(ops::MOD, a, leaf(values, base, ops::CALL_SLOT, v)),
+        carried::LESS_CALL_WORD => combine(ops::LESS, a, leaf(values, base, ops::CALL_SLOT, v)),
         carried::LESS_EQUAL_CALL_WORD => combine(
             ops::LESS_EQUAL,
             a,
-            leaf(values, base, ops::CALL_WORD, v),
+            leaf(values, base, ops::CALL_SLOT, v),
         ),
         carried::GREATER_CALL_WORD => combine(
             ops::GREATER,
             a,
-            leaf(values, base, ops::CALL_WORD, v),
+            leaf(values, base, ops::CALL_SLOT, v),
         ),
         carried::GREATER_EQUAL_CALL_WORD => combine(
             ops::GREATER_EQUAL,
             a,
-            leaf(values, base, ops::CALL_WORD, v),
+            leaf(values, base, ops::CALL_SLOT, v),
         ),
-        carried::EQUAL_CALL_WORD => combine(ops::EQUAL, a, leaf(values, base, ops::CALL_WORD, v)),
+        carried::EQUAL_CALL_WORD => combine(ops::EQUAL, a, leaf(values, base, ops::CALL_SLOT, v)),
         carried::UNEQUAL_CALL_WORD => combine(
             ops::UNEQUAL,
             a,
-            leaf(values, base, ops::CALL_WORD, v),
+            leaf(values, base, ops::CALL_SLOT, v),
         ),
-        carried::XOR_CALL_WORD => combine(ops::XOR, a, leaf(values, base, ops::CALL_WORD, v)),
-        carried::AND_CALL_WORD => combine(ops::AND, a, leaf(values, base, ops::CALL_WORD, v)),
-        carried::OR_CALL_WORD => combine(ops::OR, a, leaf(values, base, ops::CALL_WORD, v)),
+        carried::XOR_CALL_WORD => combine(ops::XOR, a, leaf(values, base, ops::CALL_SLOT, v)),
+        carried::AND_CALL_WORD => combine(ops::AND, a, leaf(values, base, ops::CALL_SLOT, v)),
+        carried::OR_CALL_WORD => combine(ops::OR, a, leaf(values, base, ops::CALL_SLOT, v)),
         _ => combine(
             ops::XOR,
             a,
@@ -481,7 +481,7 @@ fn is_short(code: &[u8], from: usize, to: usize, nesting: usize) -> bool
 {
     if to == from + 3 {
         let w = head(&*code, from);
-        if w % parts::VALUE <= ops::CALL_WORD {
+        if w % parts::VALUE <= ops::CALL_SLOT {
             let x = head(&*code, from + 1);
             if x / parts::RIGHT % parts::RIGHTS != ops::SPAN {
                 return true;
@@ -587,7 +587,7 @@ fn whole<'a, 'b>(
     let w = head(*code, from);
     let mut acc = 0;
     let mut i = from + 1;
-    if w % parts::VALUE <= ops::CALL_WORD {
+    if w % parts::VALUE <= ops::CALL_SLOT {
         acc = leaf(*values, base, w % parts::VALUE, w / parts::VALUE);
     } else {
         let l = link(*code, from);

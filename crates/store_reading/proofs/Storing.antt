@@ -8,7 +8,7 @@ use mir.Syntax.{w32, w64}
 use mir.Val.{SFits, toZ, ofZ}
 use mir.Facts.{toZ-ofZ, sfits-widen}
 use mir.ValLaws.{toZ-fits}
-use Rattle.store_cells.specs.Words.{wordsOf, Put}
+use Rattle.store_cells.specs.Cells.{cellsOf, Put}
 use Rattle.store_cells.proofs.Kept.{put-length}
 use Rattle.store_numbers.proofs.Whole.{read}
 use Rattle.store_reading.specs.Reading.{cellValues, Loaded, Stored}
@@ -18,6 +18,6 @@ loads k n h e z s q = rw (toZ-ofZ s) (record { is = q ∙ ap (toZ w32) e; small 
 
 pub stores : (before after : List ℕ) (i : ℕ) (v : ℤ) → i * 4 + 4 ≤ length before → SFits w32 v → (x : ℕ) → x ≡ ofZ w32 (toZ w32 (ofZ w32 (read v))) → Put before after i x → Stored before after i v
 stores before after i v h s x e p = record {
-  words = p .words ∙ ap (set (wordsOf before) i) (e ∙ ap (λ (z : ℤ). ofZ w32 (toZ w32 (ofZ w32 z))) (toZ-ofZ (sfits-widen tt s)) ∙ ap (ofZ w32) (toZ-ofZ s));
+  words = p .words ∙ ap (set (cellsOf before) i) (e ∙ ap (λ (z : ℤ). ofZ w32 (toZ w32 (ofZ w32 z))) (toZ-ofZ (sfits-widen tt s)) ∙ ap (ofZ w32) (toZ-ofZ s));
   long = put-length p h;
 }

@@ -6,7 +6,7 @@ use lib.ListN.{length, set}
 use lib.IntN.{ℤ}
 use mir.Syntax.{w32}
 use mir.Val.{SFits, toZ, ofZ}
-use Rattle.store_cells.specs.Words.{wordsOf}
+use Rattle.store_cells.specs.Cells.{cellsOf}
 use Rattle.layout.specs.Parts.{linkPart}
 
 -- what a cell counts to, the value in it above its op, and a place or a link
@@ -30,5 +30,5 @@ pub record Loaded (k : ℕ) (z : ℤ) : Type 0 where
   pub small : SFits w32 z
 
 pub record Stored (before after : List ℕ) (i : ℕ) (v : ℤ) : Type 0 where
-  pub words : wordsOf after ≡ set (wordsOf before) i (ofZ w32 v)
+  pub words : cellsOf after ≡ set (cellsOf before) i (ofZ w32 v)
   pub long : length after ≡ length before

@@ -8,7 +8,7 @@ use lib.ListN.{length, take, drop, getD}
 use lib.Seq.{take-take, drop-drop, getD-take, getD-drop}
 use Rattle.laws.proofs.Tests.{by-less}
 use Rattle.paper.specs.Terms.{Term}
-use Rattle.store_cells.specs.Words.{wordsOf}
+use Rattle.store_cells.specs.Cells.{cellsOf}
 use Rattle.store_cells.proofs.Laws.{words-take, words-drop}
 use Rattle.code.specs.Cells.{linkIn, headAt}
 use Rattle.code.specs.Spans.{termWithin, termIn}
@@ -17,39 +17,39 @@ use Rattle.store_writing.specs.Promises.{Kept}
 
 -- ---- cells outside
 module _ {before after : List ℕ} {from to : ℕ} (k : Kept before after from to) where
-  pub cell-below : (i : ℕ) → i < from * 2 → getD (wordsOf after) i 0 ≡ getD (wordsOf before) i 0
+  pub cell-below : (i : ℕ) → i < from * 2 → getD (cellsOf after) i 0 ≡ getD (cellsOf before) i 0
   cell-below i h =
       let q : from * 8 ≡ from * 2 * 4 = omega arith in
-      let t : take (from * 2) (wordsOf after) ≡ take (from * 2) (wordsOf before) =
-      sym (words-take (from * 2) after) ∙ ap wordsOf (subst (λ (n : ℕ). take n after ≡ take n before) q (k .below)) ∙ words-take (from * 2) before in
-      sym (getD-take (from * 2) (wordsOf after) i 0 h) ∙ ap (λ (l : List ℕ). getD l i 0) t ∙ getD-take (from * 2) (wordsOf before) i 0 h
+      let t : take (from * 2) (cellsOf after) ≡ take (from * 2) (cellsOf before) =
+      sym (words-take (from * 2) after) ∙ ap cellsOf (subst (λ (n : ℕ). take n after ≡ take n before) q (k .below)) ∙ words-take (from * 2) before in
+      sym (getD-take (from * 2) (cellsOf after) i 0 h) ∙ ap (λ (l : List ℕ). getD l i 0) t ∙ getD-take (from * 2) (cellsOf before) i 0 h
 
-  pub cell-above : (i : ℕ) → to * 2 ≤ i → getD (wordsOf after) i 0 ≡ getD (wordsOf before) i 0
+  pub cell-above : (i : ℕ) → to * 2 ≤ i → getD (cellsOf after) i 0 ≡ getD (cellsOf before) i 0
   cell-above i h =
       let q : to * 8 ≡ to * 2 * 4 = omega arith in
-      let t : drop (to * 2) (wordsOf after) ≡ drop (to * 2) (wordsOf before) =
-      sym (words-drop (to * 2) after) ∙ ap wordsOf (subst (λ (n : ℕ). drop n after ≡ drop n before) q (k .above)) ∙ words-drop (to * 2) before in
+      let t : drop (to * 2) (cellsOf after) ≡ drop (to * 2) (cellsOf before) =
+      sym (words-drop (to * 2) after) ∙ ap cellsOf (subst (λ (n : ℕ). drop n after ≡ drop n before) q (k .above)) ∙ words-drop (to * 2) before in
       let s : to * 2 + (i - to * 2) ≡ i = omega arith in
-      sym (ap (λ (n : ℕ). getD (wordsOf after) n 0) s) ∙ sym (getD-drop (to * 2) (wordsOf after) (i - to * 2) 0)
+      sym (ap (λ (n : ℕ). getD (cellsOf after) n 0) s) ∙ sym (getD-drop (to * 2) (cellsOf after) (i - to * 2) 0)
       ∙ ap (λ (l : List ℕ). getD l (i - to * 2) 0) t
-      ∙ getD-drop (to * 2) (wordsOf before) (i - to * 2) 0 ∙ ap (λ (n : ℕ). getD (wordsOf before) n 0) s
+      ∙ getD-drop (to * 2) (cellsOf before) (i - to * 2) 0 ∙ ap (λ (n : ℕ). getD (cellsOf before) n 0) s
 
-  pub head-below : (i : ℕ) → i < from → headAt (wordsOf after) i ≡ headAt (wordsOf before) i
+  pub head-below : (i : ℕ) → i < from → headAt (cellsOf after) i ≡ headAt (cellsOf before) i
   head-below i h = cell-below (i * 2) (omega arith)
 
-  pub head-above : (i : ℕ) → to ≤ i → headAt (wordsOf after) i ≡ headAt (wordsOf before) i
+  pub head-above : (i : ℕ) → to ≤ i → headAt (cellsOf after) i ≡ headAt (cellsOf before) i
   head-above i h = cell-above (i * 2) (omega arith)
 
-  pub within-below : (d m n a b : ℕ) (t : Term) → b ≤ from → termWithin m n (wordsOf before) d a b ≡ some t → termWithin m n (wordsOf after) d a b ≡ some t
-  within-below d m n a b t h e = frame d m n (wordsOf before) (wordsOf after) a b t (λ i l u. sym (cell-below i (omega arith))) e
+  pub within-below : (d m n a b : ℕ) (t : Term) → b ≤ from → termWithin m n (cellsOf before) d a b ≡ some t → termWithin m n (cellsOf after) d a b ≡ some t
+  within-below d m n a b t h e = frame d m n (cellsOf before) (cellsOf after) a b t (λ i l u. sym (cell-below i (omega arith))) e
 
-  pub within-above : (d m n a b : ℕ) (t : Term) → to ≤ a → termWithin m n (wordsOf before) d a b ≡ some t → termWithin m n (wordsOf after) d a b ≡ some t
-  within-above d m n a b t h e = frame d m n (wordsOf before) (wordsOf after) a b t (λ i l u. sym (cell-above i (omega arith))) e
+  pub within-above : (d m n a b : ℕ) (t : Term) → to ≤ a → termWithin m n (cellsOf before) d a b ≡ some t → termWithin m n (cellsOf after) d a b ≡ some t
+  within-above d m n a b t h e = frame d m n (cellsOf before) (cellsOf after) a b t (λ i l u. sym (cell-above i (omega arith))) e
 
-  pub term-below : (m n a b : ℕ) (t : Term) → b ≤ from → termIn m n (wordsOf before) a b ≡ some t → termIn m n (wordsOf after) a b ≡ some t
+  pub term-below : (m n a b : ℕ) (t : Term) → b ≤ from → termIn m n (cellsOf before) a b ≡ some t → termIn m n (cellsOf after) a b ≡ some t
   term-below m n a b t h e = within-below _ m n a b t h e
 
-  pub term-above : (m n a b : ℕ) (t : Term) → to ≤ a → termIn m n (wordsOf before) a b ≡ some t → termIn m n (wordsOf after) a b ≡ some t
+  pub term-above : (m n a b : ℕ) (t : Term) → to ≤ a → termIn m n (cellsOf before) a b ≡ some t → termIn m n (cellsOf after) a b ≡ some t
   term-above m n a b t h e = within-above _ m n a b t h e
 
   pub kept-wider : (a b : ℕ) → a ≤ from → to ≤ b → Kept before after a b
@@ -65,13 +65,13 @@ module _ {before after : List ℕ} {from to : ℕ} (k : Kept before after from t
       }
 
 -- one word
-pub kept-rewritten : (before after : List ℕ) (i : ℕ) → Kept before after i (i + 1) → Rewritten (wordsOf before) (wordsOf after) i
+pub kept-rewritten : (before after : List ℕ) (i : ℕ) → Kept before after i (i + 1) → Rewritten (cellsOf before) (cellsOf after) i
 kept-rewritten before after i k = record {
   heads = λ j d. same (j * 2) (λ e. d (omega arith)) (λ e. omega arith);
   links = λ j d. ap linkIn (same (j * 2 + 1) (λ e. omega arith) (λ e. d (omega arith)));
 }
   where
-    same : (j : ℕ) → (j ≡ i * 2 → ⊥) → (j ≡ i * 2 + 1 → ⊥) → getD (wordsOf before) j 0 ≡ getD (wordsOf after) j 0
+    same : (j : ℕ) → (j ≡ i * 2 → ⊥) → (j ≡ i * 2 + 1 → ⊥) → getD (cellsOf before) j 0 ≡ getD (cellsOf after) j 0
     same j f g = by-less j (i * 2) (λ l. sym (cell-below k j l)) (λ l. sym (cell-above k j (omega (arith, f, g))))
 
 pub kept-same : (code : List ℕ) (a b : ℕ) → Kept code code a b

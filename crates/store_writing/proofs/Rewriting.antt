@@ -7,7 +7,7 @@ use lib.ListN.{length, take, drop, set, getD, length-set}
 use lib.Seq.{getD-set-same, getD-set-other}
 use Rattle.laws.specs.Lists.{replaced}
 use Rattle.laws.proofs.Lists.{replaced-on, replaced-length, replaced-take, replaced-drop}
-use Rattle.store_cells.specs.Words.{wordsOf, bytesOf, Put}
+use Rattle.store_cells.specs.Cells.{cellsOf, bytesOf, Put}
 use Rattle.store_cells.proofs.Laws.{length-words}
 use Rattle.code.specs.Cells.{headAt, tailAt}
 use Rattle.store_writing.specs.Promises.{Rewritten}
@@ -39,27 +39,27 @@ module _ {before after : List ℕ} {i head tail : ℕ} (p : Rewritten before aft
   pub rewritten-drop : (k : ℕ) → i * 8 + 8 ≤ k → drop k after ≡ drop k before
   rewritten-drop k g = ap (drop k) (p .bytes) ∙ replaced-drop before (bytesOf (head ∷ tail ∷ [])) (i * 8) 8 eight-bytes h k g
 
-  pub rewritten-head : headAt (wordsOf after) i ≡ head
+  pub rewritten-head : headAt (cellsOf after) i ≡ head
   rewritten-head =
       ap (λ (w : List ℕ). headAt w i) (p .words)
-      ∙ getD-set-other (set (wordsOf before) (i * 2) head) (i * 2 + 1) (i * 2) tail 0 (λ e. omega arith)
-      ∙ getD-set-same (wordsOf before) (i * 2) head 0 (omega (arith, length-words before))
+      ∙ getD-set-other (set (cellsOf before) (i * 2) head) (i * 2 + 1) (i * 2) tail 0 (λ e. omega arith)
+      ∙ getD-set-same (cellsOf before) (i * 2) head 0 (omega (arith, length-words before))
 
-  pub rewritten-tail : tailAt (wordsOf after) i ≡ tail
+  pub rewritten-tail : tailAt (cellsOf after) i ≡ tail
   rewritten-tail =
       ap (λ (w : List ℕ). tailAt w i) (p .words)
-      ∙ getD-set-same (set (wordsOf before) (i * 2) head) (i * 2 + 1) tail 0 (simp length-set (omega (arith, length-words before)))
+      ∙ getD-set-same (set (cellsOf before) (i * 2) head) (i * 2 + 1) tail 0 (simp length-set (omega (arith, length-words before)))
 
   -- any cell but the word's own
-  pub rewritten-other : (k : ℕ) → (k ≡ i * 2 → ⊥) → (k ≡ i * 2 + 1 → ⊥) → getD (wordsOf after) k 0 ≡ getD (wordsOf before) k 0
+  pub rewritten-other : (k : ℕ) → (k ≡ i * 2 → ⊥) → (k ≡ i * 2 + 1 → ⊥) → getD (cellsOf after) k 0 ≡ getD (cellsOf before) k 0
   rewritten-other k f g =
       ap (λ (w : List ℕ). getD w k 0) (p .words)
-      ∙ getD-set-other (set (wordsOf before) (i * 2) head) (i * 2 + 1) k tail 0 g
-      ∙ getD-set-other (wordsOf before) (i * 2) k head 0 f
+      ∙ getD-set-other (set (cellsOf before) (i * 2) head) (i * 2 + 1) k tail 0 g
+      ∙ getD-set-other (cellsOf before) (i * 2) k head 0 f
 
   module _ (j : ℕ) (d : j ≡ i → ⊥) where
-    pub rewritten-heads : headAt (wordsOf after) j ≡ headAt (wordsOf before) j
+    pub rewritten-heads : headAt (cellsOf after) j ≡ headAt (cellsOf before) j
     rewritten-heads = rewritten-other (j * 2) (λ e. d (omega arith)) (λ e. omega arith)
 
-    pub rewritten-tails : tailAt (wordsOf after) j ≡ tailAt (wordsOf before) j
+    pub rewritten-tails : tailAt (cellsOf after) j ≡ tailAt (cellsOf before) j
     rewritten-tails = rewritten-other (j * 2 + 1) (λ e. omega arith) (λ e. d (omega arith))

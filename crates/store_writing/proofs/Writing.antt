@@ -6,7 +6,7 @@ use native.Mathlib.Omega.{arith}
 use lib.ListN.{length, take, drop, set, getD, length-set}
 use lib.Seq.{getD-set-same, getD-set-other, set-getD}
 use Rattle.laws.proofs.Tests.{by-same}
-use Rattle.store_cells.specs.Words.{wordsOf, Put}
+use Rattle.store_cells.specs.Cells.{cellsOf, Put}
 use Rattle.store_cells.proofs.Laws.{length-words}
 use Rattle.store_cells.proofs.Kept.{put-length, put-take, put-drop}
 use Rattle.code.specs.Cells.{opIn, valueIn, placeIn, linkIn, headAt, tailAt, opAt, valueAt, placeAt, linkAt}
@@ -25,83 +25,83 @@ head-whole C i = omega arith
 
 -- a word's new cells, with the bytes around them as they were
 module _ (before after : List ℕ) (i op value link : ℕ) (room : i * 8 + 8 ≤ length before) (small : op < valuePart)
-    (w : wordsOf after ≡ set (set (wordsOf before) (i * 2) (headWith op value)) (i * 2 + 1) (tailWith (placeAt (wordsOf before) i) link)) where
+    (w : cellsOf after ≡ set (set (cellsOf before) (i * 2) (headWith op value)) (i * 2 + 1) (tailWith (placeAt (cellsOf before) i) link)) where
   abbrev mid : List ℕ
-  mid = set (wordsOf before) (i * 2) (headWith op value)
+  mid = set (cellsOf before) (i * 2) (headWith op value)
 
-  head : headAt (wordsOf after) i ≡ headWith op value
+  head : headAt (cellsOf after) i ≡ headWith op value
   head =
       ap (λ (x : List ℕ). headAt x i) w
-      ∙ getD-set-other mid (i * 2 + 1) (i * 2) (tailWith (placeAt (wordsOf before) i) link) 0 (λ e. omega arith)
-      ∙ getD-set-same (wordsOf before) (i * 2) (headWith op value) 0 (omega (arith, length-words before))
+      ∙ getD-set-other mid (i * 2 + 1) (i * 2) (tailWith (placeAt (cellsOf before) i) link) 0 (λ e. omega arith)
+      ∙ getD-set-same (cellsOf before) (i * 2) (headWith op value) 0 (omega (arith, length-words before))
 
-  tail : tailAt (wordsOf after) i ≡ tailWith (placeAt (wordsOf before) i) link
-  tail = ap (λ (x : List ℕ). tailAt x i) w ∙ getD-set-same mid (i * 2 + 1) (tailWith (placeAt (wordsOf before) i) link) 0 (simp length-set (omega (arith, length-words before)))
+  tail : tailAt (cellsOf after) i ≡ tailWith (placeAt (cellsOf before) i) link
+  tail = ap (λ (x : List ℕ). tailAt x i) w ∙ getD-set-same mid (i * 2 + 1) (tailWith (placeAt (cellsOf before) i) link) 0 (simp length-set (omega (arith, length-words before)))
 
-  places : (j : ℕ) → placeAt (wordsOf after) j ≡ placeAt (wordsOf before) j
+  places : (j : ℕ) → placeAt (cellsOf after) j ≡ placeAt (cellsOf before) j
   places j = by-same j i
-      (λ e. ap (placeAt (wordsOf after)) e ∙ ap placeIn tail ∙ low-part (tailAt (wordsOf before) i) link ∙ sym (ap (placeAt (wordsOf before)) e))
+      (λ e. ap (placeAt (cellsOf after)) e ∙ ap placeIn tail ∙ low-part (tailAt (cellsOf before) i) link ∙ sym (ap (placeAt (cellsOf before)) e))
       (λ d. ap placeIn
       (ap (λ (x : List ℕ). tailAt x j) w
-      ∙ getD-set-other mid (i * 2 + 1) (j * 2 + 1) (tailWith (placeAt (wordsOf before) i) link) 0 (λ e. d (omega arith))
-      ∙ getD-set-other (wordsOf before) (i * 2) (j * 2 + 1) (headWith op value) 0 (λ e. omega arith)))
+      ∙ getD-set-other mid (i * 2 + 1) (j * 2 + 1) (tailWith (placeAt (cellsOf before) i) link) 0 (λ e. d (omega arith))
+      ∙ getD-set-other (cellsOf before) (i * 2) (j * 2 + 1) (headWith op value) 0 (λ e. omega arith)))
 
   pub linked : take (i * 8) after ≡ take (i * 8) before → drop ((i + 1) * 8) after ≡ drop ((i + 1) * 8) before → length after ≡ length before → Linked before after i op value link
   linked b a l = record {
     words = w;
     op-is = ap opIn head ∙ omega arith;
     value-is = ap valueIn head ∙ omega arith;
-    link-is = ap linkIn tail ∙ high-part (tailAt (wordsOf before) i) link;
+    link-is = ap linkIn tail ∙ high-part (tailAt (cellsOf before) i) link;
     kept = record { below = b; above = a; long = l; places = places };
   }
 
 module _ (before after : List ℕ) (i : ℕ) (room : i * 8 + 8 ≤ length before) where
-  pub head-written : (op value : ℕ) → op < valuePart → Put before after (i * 2) (headWith op value) → Linked before after i op value (linkAt (wordsOf before) i)
+  pub head-written : (op value : ℕ) → op < valuePart → Put before after (i * 2) (headWith op value) → Linked before after i op value (linkAt (cellsOf before) i)
   head-written op value small p =
-      linked before after i op value (linkAt (wordsOf before) i) room small
-      (p .words ∙ sym (ap (set mid (i * 2 + 1)) (tail-is ∙ sym (getD-set-other (wordsOf before) (i * 2) (i * 2 + 1) _ 0 (λ e. omega arith))) ∙ set-getD mid (i * 2 + 1) 0))
+      linked before after i op value (linkAt (cellsOf before) i) room small
+      (p .words ∙ sym (ap (set mid (i * 2 + 1)) (tail-is ∙ sym (getD-set-other (cellsOf before) (i * 2) (i * 2 + 1) _ 0 (λ e. omega arith))) ∙ set-getD mid (i * 2 + 1) 0))
       (put-take p (omega arith) (i * 8) (omega arith))
       (put-drop p (omega arith) ((i + 1) * 8) (omega arith))
       (put-length p (omega arith))
     where
       mid : List ℕ
-      mid = set (wordsOf before) (i * 2) (headWith op value)
+      mid = set (cellsOf before) (i * 2) (headWith op value)
 
-      tail-is : tailWith (placeAt (wordsOf before) i) (linkAt (wordsOf before) i) ≡ tailAt (wordsOf before) i
+      tail-is : tailWith (placeAt (cellsOf before) i) (linkAt (cellsOf before) i) ≡ tailAt (cellsOf before) i
       tail-is = omega arith
 
-  pub link-written : (link place : ℕ) → place ≡ placeAt (wordsOf before) i → Put before after (i * 2 + 1) (tailWith place link)
+  pub link-written : (link place : ℕ) → place ≡ placeAt (cellsOf before) i → Put before after (i * 2 + 1) (tailWith place link)
       → Relinked before after i link
   link-written link place e p =
-      linked before after i (opAt (wordsOf before) i) (valueAt (wordsOf before) i) link room (omega arith)
-      (p .words ∙ ap₂ (λ (l : List ℕ) (x : ℕ). set l (i * 2 + 1) (tailWith x link)) (sym (ap (set (wordsOf before) (i * 2)) head-is ∙ set-getD (wordsOf before) (i * 2) 0)) e)
+      linked before after i (opAt (cellsOf before) i) (valueAt (cellsOf before) i) link room (omega arith)
+      (p .words ∙ ap₂ (λ (l : List ℕ) (x : ℕ). set l (i * 2 + 1) (tailWith x link)) (sym (ap (set (cellsOf before) (i * 2)) head-is ∙ set-getD (cellsOf before) (i * 2) 0)) e)
       (put-take p (omega arith) (i * 8) (omega arith))
       (put-drop p (omega arith) ((i + 1) * 8) (omega arith))
       (put-length p (omega arith))
     where
-      head-is : headWith (opAt (wordsOf before) i) (valueAt (wordsOf before) i) ≡ headAt (wordsOf before) i
-      head-is = head-whole (wordsOf before) i
+      head-is : headWith (opAt (cellsOf before) i) (valueAt (cellsOf before) i) ≡ headAt (cellsOf before) i
+      head-is = head-whole (cellsOf before) i
 
-  pub word-written : (op value link place : ℕ) → op < valuePart → place ≡ placeAt (wordsOf before) i → Rewritten before after i (headWith op value) (tailWith place link)
+  pub word-written : (op value link place : ℕ) → op < valuePart → place ≡ placeAt (cellsOf before) i → Rewritten before after i (headWith op value) (tailWith place link)
       → Linked before after i op value link
   word-written op value link place small e r =
       linked before after i op value link room small
-      (r .words ∙ ap (λ (x : ℕ). set (set (wordsOf before) (i * 2) (headWith op value)) (i * 2 + 1) (tailWith x link)) e)
+      (r .words ∙ ap (λ (x : ℕ). set (set (cellsOf before) (i * 2) (headWith op value)) (i * 2 + 1) (tailWith x link)) e)
       (rewritten-take r room (i * 8) (omega arith))
       (rewritten-drop r room ((i + 1) * 8) (omega arith))
       (rewritten-length r room)
 
-pub value-written : (before after : List ℕ) (i value op : ℕ) → op ≡ opAt (wordsOf before) i → Put before after (i * 2) (headWith op value)
-    → Put before after (i * 2) (headWith (opAt (wordsOf before) i) value)
+pub value-written : (before after : List ℕ) (i value op : ℕ) → op ≡ opAt (cellsOf before) i → Put before after (i * 2) (headWith op value)
+    → Put before after (i * 2) (headWith (opAt (cellsOf before) i) value)
 value-written before after i value op e p = subst (λ (x : ℕ). Put before after (i * 2) (headWith x value)) e p
 
-pub place-written : (before after : List ℕ) (i place link : ℕ) → link ≡ linkAt (wordsOf before) i → Put before after (i * 2 + 1) (tailWith place link)
-    → Put before after (i * 2 + 1) (tailWith place (linkAt (wordsOf before) i))
+pub place-written : (before after : List ℕ) (i place link : ℕ) → link ≡ linkAt (cellsOf before) i → Put before after (i * 2 + 1) (tailWith place link)
+    → Put before after (i * 2 + 1) (tailWith place (linkAt (cellsOf before) i))
 place-written before after i place link e p = subst (λ (x : ℕ). Put before after (i * 2 + 1) (tailWith place x)) e p
 
 -- where a link alone has changed, every other cell is as it was
-pub relinked-others : {before after : List ℕ} {i link : ℕ} → Relinked before after i link → (k : ℕ) → (k ≡ i * 2 + 1 → ⊥) → getD (wordsOf after) k 0 ≡ getD (wordsOf before) k 0
+pub relinked-others : {before after : List ℕ} {i link : ℕ} → Relinked before after i link → (k : ℕ) → (k ≡ i * 2 + 1 → ⊥) → getD (cellsOf after) k 0 ≡ getD (cellsOf before) k 0
 relinked-others {before} {after} {i} {link} l k d =
     ap (λ (x : List ℕ). getD x k 0) (l .words)
-    ∙ getD-set-other (set (wordsOf before) (i * 2) (headWith (opAt (wordsOf before) i) (valueAt (wordsOf before) i))) (i * 2 + 1) k _ 0 d
-    ∙ ap (λ (x : List ℕ). getD x k 0) (ap (set (wordsOf before) (i * 2)) (head-whole (wordsOf before) i) ∙ set-getD (wordsOf before) (i * 2) 0)
+    ∙ getD-set-other (set (cellsOf before) (i * 2) (headWith (opAt (cellsOf before) i) (valueAt (cellsOf before) i))) (i * 2 + 1) k _ 0 d
+    ∙ ap (λ (x : List ℕ). getD x k 0) (ap (set (cellsOf before) (i * 2)) (head-whole (cellsOf before) i) ∙ set-getD (cellsOf before) (i * 2) 0)

@@ -2,7 +2,7 @@
 ghost use mathlib.Core.Path.{_≡_};
 ghost use Prim.Native.Nat.{_+_, _*_, _<_, _≤_};
 ghost use lib.ListN.{length};
-ghost use Rattle.store_cells.specs.Words.{wordsOf, Put};
+ghost use Rattle.store_cells.specs.Cells.{cellsOf, Put};
 ghost use Rattle.code.specs.Cells.{opAt, linkAt};
 ghost use Rattle.layout.specs.Parts.{valuePart};
 ghost use Rattle.store_reading.specs.Reading.{valueEnd, halfEnd};
@@ -12,7 +12,7 @@ use layout::parts;
 // The op of a word, which is its sort as long as the check has not come to it.
 pub fn sort(code: &[u8], i: usize) -> u32
     requires { ⌜ i * 8 + 8 ≤ length (now code) ⌝ }
-    ensures { λ r. ⌜ r ≡ opAt (wordsOf (now (code .entry))) i ⌝ }
+    ensures { λ r. ⌜ r ≡ opAt (cellsOf (now (code .entry))) i ⌝ }
 {
     store_reading::head(code, i) % parts::VALUE
 }
@@ -47,7 +47,7 @@ pub fn set_head(code: &mut [u8], i: usize, op: u32, value: u32)
 
 pub fn set_value(code: &mut [u8], i: usize, value: u32)
     requires { ⌜ (i * 8 + 8 ≤ length (now code)) × (value < valueEnd) ⌝ }
-    ensures { λ _. ⌜ Put (now (code .entry)) (now (code .exit)) (i * 2) (headWith (opAt (wordsOf (now (code .entry))) i) value) ⌝ }
+    ensures { λ _. ⌜ Put (now (code .entry)) (now (code .exit)) (i * 2) (headWith (opAt (cellsOf (now (code .entry))) i) value) ⌝ }
 {
     let old = sort(code, i);
     put_head(code, i, old, value);
@@ -55,7 +55,7 @@ pub fn set_value(code: &mut [u8], i: usize, value: u32)
 
 pub fn set_place(code: &mut [u8], i: usize, place: usize)
     requires { ⌜ (i * 8 + 8 ≤ length (now code)) × (place < halfEnd) ⌝ }
-    ensures { λ _. ⌜ Put (now (code .entry)) (now (code .exit)) (i * 2 + 1) (tailWith place (linkAt (wordsOf (now (code .entry))) i)) ⌝ }
+    ensures { λ _. ⌜ Put (now (code .entry)) (now (code .exit)) (i * 2 + 1) (tailWith place (linkAt (cellsOf (now (code .entry))) i)) ⌝ }
 {
     let old = store_reading::link(code, i);
     put_tail(code, i, place, old);

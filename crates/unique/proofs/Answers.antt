@@ -6,7 +6,7 @@ use Prim.Native.Nat.{ℕ, _*_, _<_, _≤_}
 use lib.ListN.{length, getD, take, drop}
 use Rattle.laws.proofs.Tests.{apart}
 use Rattle.paper.specs.Types.{Fault}
-use Rattle.store_cells.specs.Words.{wordsOf}
+use Rattle.store_cells.specs.Cells.{cellsOf}
 use Rattle.code.specs.Cells.{placeAt, linkAt}
 use Rattle.faults.specs.First.{First}
 use Rattle.faults.proofs.First.{least-none, least-first}
@@ -59,7 +59,7 @@ pub record SameOutside (a b : List ℕ) (from to : ℕ) : Type 0 where
   pub below : take (from * 8) a ≡ take (from * 8) b
   pub above : drop (to * 8) a ≡ drop (to * 8) b
   pub long : length a ≡ length b
-  pub places : (i : ℕ) → placeAt (wordsOf a) i ≡ placeAt (wordsOf b) i
+  pub places : (i : ℕ) → placeAt (cellsOf a) i ≡ placeAt (cellsOf b) i
 
 pub kept-unique : (before a b : List ℕ) (from to : ℕ) → Kept before a from to → Kept before b from to → SameOutside a b from to
 kept-unique before a b from to p q = record {

@@ -16,7 +16,7 @@ use Rattle.paper.specs.Types as types
 use Rattle.paper.specs.Expressions.{disjunctions, nestings}
 use Rattle.paper.specs.Declarations.{Filling, noData, declareData, dataTexts, routineNames, moduleData}
 use Rattle.paper.specs.Checks.{forsInList, listFaults}
-use Rattle.store_cells.specs.Words.{wordsOf}
+use Rattle.store_cells.specs.Cells.{cellsOf}
 use Rattle.code.specs.Cells.{linkAt}
 use Rattle.code.specs.Steps.{numbered}
 use Rattle.code.specs.Spans.{bias, termIn}
@@ -61,7 +61,7 @@ use Rattle.unique.proofs.Stores.{SameCells, same-cells}
 pub record SameExpression {code values : List ℕ} {top at : ℕ} (k : Stands code values top at) (c d : List ℕ) (r s : Judged) : Type 0 where
   pub answer : r ≡ s
   pub outside : SameOutside c d at (k .to)
-  pub term : (type next : ℕ) → r ≡ judged.Typed type next → termIn (k .known .m) (k .known .n) (wordsOf c) at (k .to) ≡ termIn (k .known .m) (k .known .n) (wordsOf d) at (k .to)
+  pub term : (type next : ℕ) → r ≡ judged.Typed type next → termIn (k .known .m) (k .known .n) (cellsOf c) at (k .to) ≡ termIn (k .known .m) (k .known .n) (cellsOf d) at (k .to)
 
 module _ (code values c d : List ℕ) (only : Bool) (at : ℕ) (r s : Judged) where
   same-expression : {top : ℕ} (k : Stands code values top at) (j : types.Judged) → Judges (k .known .m) (k .known .n) code c at (k .to) j r → Judges (k .known .m) (k .known .n) code d at (k .to) j s
@@ -70,11 +70,11 @@ module _ (code values c d : List ℕ) (only : Bool) (at : ℕ) (r s : Judged) wh
   same-expression k j p q e = record {
     answer = e;
     outside = kept-unique code c d at (k .to) (p .kept) (q .kept);
-    term = λ type next t. both type next (subst (SaysUnder nestings (k .known .m) (k .known .n) (wordsOf c) at (k .to) j) t (p .says)) (subst (SaysUnder nestings (k .known .m) (k .known .n) (wordsOf d) at (k .to) j) (sym e ∙ t) (q .says));
+    term = λ type next t. both type next (subst (SaysUnder nestings (k .known .m) (k .known .n) (cellsOf c) at (k .to) j) t (p .says)) (subst (SaysUnder nestings (k .known .m) (k .known .n) (cellsOf d) at (k .to) j) (sym e ∙ t) (q .says));
   }
     where
-      both : (type next : ℕ) → Sound (k .known .m) (k .known .n) (wordsOf c) at (k .to) j type next → Sound (k .known .m) (k .known .n) (wordsOf d) at (k .to) j type next
-          → termIn (k .known .m) (k .known .n) (wordsOf c) at (k .to) ≡ termIn (k .known .m) (k .known .n) (wordsOf d) at (k .to)
+      both : (type next : ℕ) → Sound (k .known .m) (k .known .n) (cellsOf c) at (k .to) j type next → Sound (k .known .m) (k .known .n) (cellsOf d) at (k .to) j type next
+          → termIn (k .known .m) (k .known .n) (cellsOf c) at (k .to) ≡ termIn (k .known .m) (k .known .n) (cellsOf d) at (k .to)
       both type next p q = p .stands ∙ sym (q .stands)
 
   pub expression-same : (top : ℕ) (k : Stands code values top at) → Checked code values c only top at r → Checked code values d only top at s → SameExpression k c d r s
@@ -138,11 +138,11 @@ module _ (code values c d v w : List ℕ) (r s : Walked) where
     datum-comes c v (walked.Faulty number word) (p, g) = p
 
     abbrev DatumStores : Type 0
-    DatumStores = SameOthers (wordsOf c) (wordsOf d) i (b .to) × SameFilled (b .routine) (b .W) (b .s) (datum.after b) v w
+    DatumStores = SameOthers (cellsOf c) (cellsOf d) i (b .to) × SameFilled (b .routine) (b .W) (b .s) (datum.after b) v w
 
     datum-stores : (next : ℕ) (end : Scope) → DatumSays c v (walked.Upto next end) → DatumSays d w (walked.Upto next end) → DatumStores
     unfolding datum.Says
-    datum-stores next end (p, g) (q, h) = (changed-unique (wordsOf code) (wordsOf c) (wordsOf d) i (b .to) (p .changed) (q .changed), filled-unique _ _ _ _ v w (p .filled) (q .filled))
+    datum-stores next end (p, g) (q, h) = (changed-unique (cellsOf code) (cellsOf c) (cellsOf d) i (b .to) (p .changed) (q .changed), filled-unique _ _ _ _ v w (p .filled) (q .filled))
 
     pub datum-unique : datum.Declares code values c v own limit (scope .used) i r × Stays scope r → datum.Declares code values d w own limit (scope .used) i s × Stays scope s → SameWalk r s DatumStores
     datum-unique (p, g) (q, h) = same-walk r s _ _ _ (DatumSays c v) (DatumSays d w) DatumStores (datum-comes c v) (datum-comes d w) datum-stores (p .is b, g) (q .is b, h)
@@ -161,11 +161,11 @@ module _ (code values c d v w : List ℕ) (r s : Walked) where
     module-comes c v (walked.Faulty number word) (p, g) = p
 
     abbrev ModuleStores : Type 0
-    ModuleStores = SameOthers (wordsOf c) (wordsOf d) at (b .to) × SameFilled (b .routine) (b .W) (theModule (b .routines)) (declareData (b .W) module-filling (b .ds) noData) v w
+    ModuleStores = SameOthers (cellsOf c) (cellsOf d) at (b .to) × SameFilled (b .routine) (b .W) (theModule (b .routines)) (declareData (b .W) module-filling (b .ds) noData) v w
 
     module-stores : (next : ℕ) (end : Scope) → ModuleSays c v (walked.Upto next end) → ModuleSays d w (walked.Upto next end) → ModuleStores
     unfolding SaysModule
-    module-stores next end (p, g) (q, h) = (changed-unique (wordsOf code) (wordsOf c) (wordsOf d) at (b .to) (p .changed) (q .changed), filled-unique _ _ _ _ v w (p .filled) (q .filled))
+    module-stores next end (p, g) (q, h) = (changed-unique (cellsOf code) (cellsOf c) (cellsOf d) at (b .to) (p .changed) (q .changed), filled-unique _ _ _ _ v w (p .filled) (q .filled))
 
     pub module-data-unique : DeclaresModule code values c v at r × Stays before r → DeclaresModule code values d w at s × Stays before s → SameWalk r s ModuleStores
     module-data-unique (p, g) (q, h) = same-walk r s _ _ _ (ModuleSays c v) (ModuleSays d w) ModuleStores (module-comes c v) (module-comes d w) module-stores (p .is b, g) (q .is b, h)
@@ -182,13 +182,13 @@ module _ (code values c d v w : List ℕ) (r s : Walked) where
 
     -- the routine's first word may change too: its link leads to the first declaration
     abbrev RoutineStores : Type 0
-    RoutineStores = SameBut (wordsOf c) (wordsOf d) (before .head * 2 + 1) at (b .to) × (linkAt (wordsOf c) (before .head) ≡ linkAt (wordsOf d) (before .head)) × SameFilled (b .routine) (b .W) (aRoutine (b .m)) (routineAfter b) v w
+    RoutineStores = SameBut (cellsOf c) (cellsOf d) (before .head * 2 + 1) at (b .to) × (linkAt (cellsOf c) (before .head) ≡ linkAt (cellsOf d) (before .head)) × SameFilled (b .routine) (b .W) (aRoutine (b .m)) (routineAfter b) v w
 
     routine-stores : (next : ℕ) (end : Scope) → RoutineSays c v (walked.Upto next end) → RoutineSays d w (walked.Upto next end) → RoutineStores
     unfolding SaysRoutine
     routine-stores next end (p, g) (q, h) = (
       record { below = λ k l n. p .below k l n ∙ sym (q .below k l n); above = λ k l. p .above k l ∙ sym (q .above k l) },
-      first-link (wordsOf c) (wordsOf d) (before .head) _ opens (p .chain) (q .chain),
+      first-link (cellsOf c) (cellsOf d) (before .head) _ opens (p .chain) (q .chain),
       filled-unique _ _ _ _ v w (p .filled) (q .filled),
     )
 
@@ -209,12 +209,12 @@ module _ (code values c d v w : List ℕ) (r s : Walked) where
 
     -- all cells but those of the names' words
     abbrev ParameterStores : Type 0
-    ParameterStores = OtherWords (wordsOf d) (wordsOf c) (entered .first) (length (b .ps)) × SameFilled (b .routine) (b .W) (aRoutine (b .m)) (parametersAfter b) v w
+    ParameterStores = OtherWords (cellsOf d) (cellsOf c) (entered .first) (length (b .ps)) × SameFilled (b .routine) (b .W) (aRoutine (b .m)) (parametersAfter b) v w
 
     parameter-stores : (next : ℕ) (end : Scope) → ParametersSay c v (walked.Upto next end) → ParametersSay d w (walked.Upto next end) → ParameterStores
     unfolding SaysParameters
     parameter-stores next end (p, g) (q, h) =
-        (subst (OtherWords (wordsOf d) (wordsOf c) (entered .first)) (p .used-is) (record { is = λ k n. p .others .is k n ∙ sym (q .others .is k n) }), filled-unique _ _ _ _ v w (p .filled) (q .filled))
+        (subst (OtherWords (cellsOf d) (cellsOf c) (entered .first)) (p .used-is) (record { is = λ k n. p .others .is k n ∙ sym (q .others .is k n) }), filled-unique _ _ _ _ v w (p .filled) (q .filled))
 
     pub parameters-unique : DeclaresParameters code values c v (entered .first) r × Opens entered r → DeclaresParameters code values d w (entered .first) s × Opens entered s → SameWalk r s ParameterStores
     parameters-unique (p, g) (q, h) =
@@ -224,7 +224,7 @@ module _ (code values c d v w : List ℕ) (r s : Walked) where
   module _ (text : List ℕ) (k : Setting) (scope : Scope) (at : ℕ) (b : statements.Lists text code values k (scope .used) at) where
     abbrev Told : (c v : List ℕ) → Walked → Type 0
     Told c v x = statements.Tell (listFaults (b .around .known .W) (b .around .K) (b .around .M) (b .l) (b .around .known .S) (scope .used)) code c values v at (b .to) (scope .used + forsInList (b .l))
-        (RawList (groundOf (b .around)) (b .around .known .n) (wordsOf c) (b .l) (b .around .known .S) (scope .used) at (b .to)) x × Stays scope x
+        (RawList (groundOf (b .around)) (b .around .known .n) (cellsOf c) (b .l) (b .around .known .S) (scope .used) at (b .to)) x × Stays scope x
 
     list-comes : (c v : List ℕ) (x : Walked) → Told c v x → Comes (listFaults (b .around .known .W) (b .around .K) (b .around .M) (b .l) (b .around .known .S) (scope .used)) (b .to) (withUsed (scope .used + forsInList (b .l)) scope) x
     unfolding Comes statements.Tell
@@ -232,7 +232,7 @@ module _ (code values c d v w : List ℕ) (r s : Walked) where
     list-comes c v (walked.Faulty number word) (p, g) = p
 
     abbrev ListStores : Type 0
-    ListStores = SameOthers (wordsOf c) (wordsOf d) at (b .to) × SameCells v w
+    ListStores = SameOthers (cellsOf c) (cellsOf d) at (b .to) × SameCells v w
 
     list-stores : (next : ℕ) (end : Scope) → Told c v (walked.Upto next end) → Told d w (walked.Upto next end) → ListStores
     unfolding statements.Tell
@@ -246,7 +246,7 @@ module _ (code values c d v w : List ℕ) (r s : Walked) where
 
 -- a routine left: its scope, the cells before the table, and what names mean
 pub leave-unique : (scope outer : Scope) (code values v w : List ℕ) (r s : Scope) (l : Leaving code values (scope .first) (scope .names) (scope .head)) → leaving.Leaves scope outer code values v r
-    → leaving.Leaves scope outer code values w s → (r ≡ s) × leaving.SameWords w v × SameMeans (l .routine) (l .W) (wordsOf v) (wordsOf w)
+    → leaving.Leaves scope outer code values w s → (r ≡ s) × leaving.SameWords w v × SameMeans (l .routine) (l .W) (cellsOf v) (cellsOf w)
 leave-unique scope outer code values v w r s l p q =
     (p .scope-is ∙ sym (q .scope-is), record { is = λ k h. p .same .is k h ∙ sym (q .same .is k h) }, means-unique _ _ _ _ _ (p .means l) (q .means l))
 
@@ -268,7 +268,7 @@ abbrev pub SameRest : {text code values : List ℕ} {k h : ℕ} → routines.Beg
 SameRest {h = h} b c d v w =
     let W = b .stands .W in
     let m = b .stands .m in
-    SameOthers (wordsOf c) (wordsOf d) h (b .stands .to)
+    SameOthers (cellsOf c) (cellsOf d) h (b .stands .to)
     × SameFilled (numbered (headsFor (m .routines))) W (theModule (routineNames W (dataTexts W (m .declared)) 0 (m .routines))) (moduleData W m) v w
 
 module _ (text code values c d v w : List ℕ) (outer : Scope) (k h : ℕ) (r s : Walked) (b : routines.Begins text code values k h) where

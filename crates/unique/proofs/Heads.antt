@@ -9,7 +9,7 @@ use lib.ListN.{length, getD, take, drop}
 use Rattle.laws.proofs.Tests.{apart, by-same}
 use Rattle.paper.specs.Trees.{Module}
 use Rattle.paper.specs.Checks.{mainOf}
-use Rattle.store_cells.specs.Words.{wordsOf}
+use Rattle.store_cells.specs.Cells.{cellsOf}
 use Rattle.code.specs.Cells.{headAt, tailAt, opAt}
 use Rattle.code.specs.Steps.{Head, noHead, numbered}
 use Rattle.code.specs.Signatures.{headIn, signatureIn}
@@ -37,16 +37,16 @@ pub record SameHeads (R : List Head) (code c d : List ℕ) (first words : ℕ) :
   pub below : take (first * 2 * 4) c ≡ take (first * 2 * 4) d
   pub above : drop (words * 2 * 4) c ≡ drop (words * 2 * 4) d
   pub long : length c ≡ length d
-  pub ops : (i : ℕ) → opAt (wordsOf c) i ≡ opAt (wordsOf d) i
-  pub tails : (i : ℕ) → tailAt (wordsOf c) i ≡ tailAt (wordsOf d) i
-  pub others : (i : ℕ) → isValued (opAt (wordsOf code) i) ≡ false → headAt (wordsOf c) i ≡ headAt (wordsOf d) i
-  pub routines : (k : ℕ) → k < length R → headIn (wordsOf c) (getD R k noHead .word) ≡ headIn (wordsOf d) (getD R k noHead .word)
-  pub signatures : (k : ℕ) → k < length R → signatureIn (wordsOf c) (getD R k noHead .word) ≡ signatureIn (wordsOf d) (getD R k noHead .word)
+  pub ops : (i : ℕ) → opAt (cellsOf c) i ≡ opAt (cellsOf d) i
+  pub tails : (i : ℕ) → tailAt (cellsOf c) i ≡ tailAt (cellsOf d) i
+  pub others : (i : ℕ) → isValued (opAt (cellsOf code) i) ≡ false → headAt (cellsOf c) i ≡ headAt (cellsOf d) i
+  pub routines : (k : ℕ) → k < length R → headIn (cellsOf c) (getD R k noHead .word) ≡ headIn (cellsOf d) (getD R k noHead .word)
+  pub signatures : (k : ℕ) → k < length R → signatureIn (cellsOf c) (getD R k noHead .word) ≡ signatureIn (cellsOf d) (getD R k noHead .word)
 
 -- the value store: all but the table, and what the table says
 pub record SameTable (text : List ℕ) (m : Module) (v w : List ℕ) : Type 0 where
-  pub names : SameMeans (numbered (headsFor (m .routines))) (wordsIn text) (wordsOf v) (wordsOf w)
-  pub zeros : (k : ℕ) → k < firstMeaning → getD (wordsOf v) k 0 ≡ getD (wordsOf w) k 0
+  pub names : SameMeans (numbered (headsFor (m .routines))) (wordsIn text) (cellsOf v) (cellsOf w)
+  pub zeros : (k : ℕ) → k < firstMeaning → getD (cellsOf v) k 0 ≡ getD (cellsOf w) k 0
   pub beyond : drop storeBytes v ≡ drop storeBytes w
   pub long : length v ≡ length w
 
@@ -66,7 +66,7 @@ module _ (text code values c d v w : List ℕ) (r s : ℕ) where
 
     same-table : SameTable text m v w
     same-table = record {
-      names = means-unique _ _ _ (wordsOf v) (wordsOf w) (p .tables .means) (q .tables .means);
+      names = means-unique _ _ _ (cellsOf v) (cellsOf w) (p .tables .means) (q .tables .means);
       zeros = λ k h. p .filled .zeros k h ∙ sym (q .filled .zeros k h);
       beyond = p .filled .beyond ∙ sym (q .filled .beyond);
       long = p .filled .long ∙ sym (q .filled .long);

@@ -7,7 +7,7 @@ use native.Mathlib.Omega.{arith}
 use lib.ListN.{length, getD, drop, set}
 use borrow.Author.Tests.{eq-eqb, ne-eqb, lt-ltb, le-ltb}
 use Rattle.laws.proofs.Tests.{test, by-less, by-same}
-use Rattle.store_cells.specs.Words.{wordsOf}
+use Rattle.store_cells.specs.Cells.{cellsOf}
 use Rattle.store_cells.proofs.Laws.{Bytes}
 use Rattle.code.specs.Cells.{headAt, tailAt, opAt, valueAt, placeAt, linkAt}
 use Rattle.code.specs.Steps.{anElseIf, aThen, aCase, constantAt}
@@ -97,28 +97,28 @@ module _ (C D E : List ℕ) (words : ℕ) (p : (i : ℕ) → i < words → Led C
 
 -- every word from which all ways lead on, and all bytes behind the words; where all words are such, every byte
 pub record SameResolved (before a b : List ℕ) (words : ℕ) : Type 0 where
-  pub word : (i : ℕ) → i < words → LeadsOn (wordsOf before) words i → (headAt (wordsOf a) i ≡ headAt (wordsOf b) i) × (tailAt (wordsOf a) i ≡ tailAt (wordsOf b) i)
+  pub word : (i : ℕ) → i < words → LeadsOn (cellsOf before) words i → (headAt (cellsOf a) i ≡ headAt (cellsOf b) i) × (tailAt (cellsOf a) i ≡ tailAt (cellsOf b) i)
   pub past : drop (words * 8) a ≡ drop (words * 8) b
   pub long : length a ≡ length b
-  pub whole : Bytes a → Bytes b → words * 8 ≤ length before → ((i : ℕ) → i < words → LeadsOn (wordsOf before) words i) → a ≡ b
+  pub whole : Bytes a → Bytes b → words * 8 ≤ length before → ((i : ℕ) → i < words → LeadsOn (cellsOf before) words i) → a ≡ b
 
 pub resolve-unique : (before a b : List ℕ) (words : ℕ) → Resolved before a words → Resolved before b words → SameResolved before a b words
 resolve-unique before a b words p q =
     let at : words * 8 ≡ words * 2 * 4 = omega arith in
     let past = p .past ∙ sym (q .past) in
     record {
-      word = same-word (wordsOf before) (wordsOf a) (wordsOf b) words (p .led) (q .led);
+      word = same-word (cellsOf before) (cellsOf a) (cellsOf b) words (p .led) (q .led);
       past = past;
       long = p .long ∙ sym (q .long);
       whole = λ x y room g.
-          same-store (words * 2) a b x y (p .long ∙ sym (q .long)) (omega (arith, p .long)) (same-cell (wordsOf before) (wordsOf a) (wordsOf b) words (p .led) (q .led) g)
+          same-store (words * 2) a b x y (p .long ∙ sym (q .long)) (omega (arith, p .long)) (same-cell (cellsOf before) (cellsOf a) (cellsOf b) words (p .led) (q .led) g)
           (subst (λ (n : ℕ). drop n a ≡ drop n b) at past);
     }
 
 -- ---- words that close a list
 -- Two stores of the same cells, and of the same bytes from word n on.
 record Behind (x y : List ℕ) (n : ℕ) : Type 0 where
-  cells : wordsOf x ≡ wordsOf y
+  cells : cellsOf x ≡ cellsOf y
   above : drop (n * 8) x ≡ drop (n * 8) y
   long : length x ≡ length y
 
@@ -169,18 +169,18 @@ module _ (before a b : List ℕ) (x : Bytes a) (y : Bytes b) where
       behind-bytes a b t x y (omega (arith, p .then-is .kept .long, p .arm-is .kept .long)) last
     where
       else-unique : (e r s : ℕ) → BehindElse before e r → BehindElse before e s → r ≡ s
-      else-unique e r s p q = by-same (opAt (wordsOf before) e) ELSE (λ h. p .at-else h ∙ sym (q .at-else h)) (λ h. p .elsewhere h ∙ sym (q .elsewhere h))
+      else-unique e r s p q = by-same (opAt (cellsOf before) e) ELSE (λ h. p .at-else h ∙ sym (q .at-else h)) (λ h. p .elsewhere h ∙ sym (q .elsewhere h))
 
 -- ---- the values of a CASE
 -- All cells but those of the words between CASE's neighbour and the colon; of CASE itself its op, its place and its value. Between them both stores have the same values (`RawConstants`), at words that
 -- the promise leaves open.
 pub record SameValues (a b : List ℕ) (colon c : ℕ) : Type 0 where
-  pub op : opAt (wordsOf a) c ≡ opAt (wordsOf b) c
-  pub place : placeAt (wordsOf a) c ≡ placeAt (wordsOf b) c
-  pub value : constantAt (wordsOf a) c ≡ constantAt (wordsOf b) c
-  pub behind : SameWords (wordsOf b) (wordsOf a) (c + 1) (c + 2)
-  pub below : (k : ℕ) → k < c * 2 → getD (wordsOf a) k 0 ≡ getD (wordsOf b) k 0
-  pub above : (k : ℕ) → colon * 2 ≤ k → getD (wordsOf a) k 0 ≡ getD (wordsOf b) k 0
+  pub op : opAt (cellsOf a) c ≡ opAt (cellsOf b) c
+  pub place : placeAt (cellsOf a) c ≡ placeAt (cellsOf b) c
+  pub value : constantAt (cellsOf a) c ≡ constantAt (cellsOf b) c
+  pub behind : SameWords (cellsOf b) (cellsOf a) (c + 1) (c + 2)
+  pub below : (k : ℕ) → k < c * 2 → getD (cellsOf a) k 0 ≡ getD (cellsOf b) k 0
+  pub above : (k : ℕ) → colon * 2 ≤ k → getD (cellsOf a) k 0 ≡ getD (cellsOf b) k 0
   pub long : length a ≡ length b
 
 pub link-values-unique : (before a b : List ℕ) (colon next c : ℕ) → Chained before colon c → ValuesLinked before a colon next c → ValuesLinked before b colon next c → SameValues a b colon c
@@ -202,6 +202,6 @@ link-values-unique before a b colon next c h p q = record {
     ground : Ground
     ground = record { m = 0; function = false; text = []; R = []; W = h .W; M = h .M; offset = λ i. i }
 
-    first : (es : List Expr) → CaseChain (h .W) (h .S) (h .M) (wordsOf before) es colon c → constantAt (wordsOf a) c ≡ constantAt (wordsOf b) c
+    first : (es : List Expr) → CaseChain (h .W) (h .S) (h .M) (cellsOf before) es colon c → constantAt (cellsOf a) c ≡ constantAt (cellsOf b) c
     first [] z = absurd z
     first (e ∷ es) z = p .values ground 0 (h .S) (e ∷ es) z .0 ∙ sym (q .values ground 0 (h .S) (e ∷ es) z .0)

@@ -15,7 +15,7 @@ use Rattle.paper.specs.Words.{Word}
 use Rattle.paper.specs.Terms.{Ref}
 use Rattle.paper.specs.Names.{aNum, aBool, Names, Scopes}
 use Rattle.paper.specs.Declarations.{Data}
-use Rattle.store_cells.specs.Words.{wordsOf}
+use Rattle.store_cells.specs.Cells.{cellsOf}
 use Rattle.store_cells.proofs.Laws.{length-words}
 use Rattle.code.specs.Cells.{opAt}
 use Rattle.layout.proofs.Typing.{same-codes}
@@ -65,11 +65,11 @@ means-unique routine W S X Y p q = record { means = λ i n. p .means i n ∙ sym
 
 -- and the cells of declared words have the same numbers
 pub record SameFilled (routine : ℕ → ℕ) (W : List Word) (s : Site) (D : Data) (v w : List ℕ) : Type 0 where
-  pub names : SameMeans routine W (wordsOf v) (wordsOf w)
-  pub words : (r : Ref) → Among (memoryOf W s D) r 1 → toZ w32 (getD (wordsOf v) (cellOf r) 0) ≡ toZ w32 (getD (wordsOf w) (cellOf r) 0)
+  pub names : SameMeans routine W (cellsOf v) (cellsOf w)
+  pub words : (r : Ref) → Among (memoryOf W s D) r 1 → toZ w32 (getD (cellsOf v) (cellOf r) 0) ≡ toZ w32 (getD (cellsOf w) (cellOf r) 0)
 
 pub filled-unique : (routine : ℕ → ℕ) (W : List Word) (s : Site) (D : Data) (v w : List ℕ) → Filled W routine s D v → Filled W routine s D w → SameFilled routine W s D v w
-filled-unique routine W s D v w p q = record { names = means-unique routine W _ (wordsOf v) (wordsOf w) (p .means) (q .means); words = λ r a. p .cells r a ∙ sym (q .cells r a) }
+filled-unique routine W s D v w p q = record { names = means-unique routine W _ (cellsOf v) (cellsOf w) (p .means) (q .means); words = λ r a. p .cells r a ∙ sym (q .cells r a) }
 
 -- ---- spelling and form
 pub hash-unique : (name : List ℕ) (r s : ℕ) → (r ≡ hashOf name) × (r < buckets) → (s ≡ hashOf name) × (s < buckets) → r ≡ s
@@ -80,32 +80,32 @@ form-unique code words r s p q = p ∙ sym q
 
 -- ---- cells with one word
 pub fill-unique : (before a b : List ℕ) (from count v : ℕ) → Fills before a from count v → Fills before b from count v → SameCells a b
-fill-unique before a b from count v p q = same-cells a b (ext-getD 0 (wordsOf a) (wordsOf b) (length-words a ∙ ap (λ (n : ℕ). n / 4) size ∙ sym (length-words b)) (λ k l. same k)) size
+fill-unique before a b from count v p q = same-cells a b (ext-getD 0 (cellsOf a) (cellsOf b) (length-words a ∙ ap (λ (n : ℕ). n / 4) size ∙ sym (length-words b)) (λ k l. same k)) size
   where
     size : length a ≡ length b
     size = p .long ∙ sym (q .long)
 
-    inside : (k : ℕ) → from ≤ k → k < from + count → getD (wordsOf a) k 0 ≡ getD (wordsOf b) k 0
+    inside : (k : ℕ) → from ≤ k → k < from + count → getD (cellsOf a) k 0 ≡ getD (cellsOf b) k 0
     inside k h g =
         let at : from + (k - from) ≡ k = omega arith in
-        subst (λ (n : ℕ). getD (wordsOf a) n 0 ≡ getD (wordsOf b) n 0) at (p .here (k - from) (omega arith) ∙ sym (q .here (k - from) (omega arith)))
+        subst (λ (n : ℕ). getD (cellsOf a) n 0 ≡ getD (cellsOf b) n 0) at (p .here (k - from) (omega arith) ∙ sym (q .here (k - from) (omega arith)))
 
-    same : (k : ℕ) → getD (wordsOf a) k 0 ≡ getD (wordsOf b) k 0
+    same : (k : ℕ) → getD (cellsOf a) k 0 ≡ getD (cellsOf b) k 0
     same k =
         by-less k from (λ h. p .below k h ∙ sym (q .below k h))
         (λ h. by-less k (from + count) (inside k h) (λ g. p .above k g ∙ sym (q .above k g)))
 
 -- ---- a name that is declared
 -- The table says what some scopes mean, and the word is a name of the text: the promise is about no other stores.
-pub taken-unique : (code values : List ℕ) (own i : ℕ) (r s : Bool) (routine : ℕ → ℕ) (W : List Word) (S : Scopes) (N : Names) → Means routine W S (wordsOf values) → IsName W i
-    → numberAt (wordsOf code) i ≡ numberOf W i → Owns own N S → Taken code values own i r → Taken code values own i s → r ≡ s
+pub taken-unique : (code values : List ℕ) (own i : ℕ) (r s : Bool) (routine : ℕ → ℕ) (W : List Word) (S : Scopes) (N : Names) → Means routine W S (cellsOf values) → IsName W i
+    → numberAt (cellsOf code) i ≡ numberOf W i → Owns own N S → Taken code values own i r → Taken code values own i s → r ≡ s
 taken-unique code values own i r s routine W S N m n e o p q = p .is routine W S N m n e o ∙ sym (q .is routine W S N m n e o)
 
 -- both stores whole, and the scope
 pub known-unique : (scope : Scope) (code values c d v w : List ℕ) (i kind own value words : ℕ) (r s : Scope) → MakesIn scope code values c v i kind own value words r
     → MakesIn scope code values d w i kind own value words s → (c ≡ d) × (v ≡ w) × (r ≡ s)
 known-unique scope code values c d v w i kind own value words r s p q =
-    let bit : q .makes .bool ≡ p .makes .bool = type-bit-unique (opAt (wordsOf code) (i - 1)) _ _ (q .makes .type) (p .makes .type) in
+    let bit : q .makes .bool ≡ p .makes .bool = type-bit-unique (opAt (cellsOf code) (i - 1)) _ _ (q .makes .type) (p .makes .type) in
     let other : names.Declared code values i (cellWith kind (p .makes .bool) own value) d w =
     subst (λ (b : ℕ). names.Declared code values i (cellWith kind b own value) d w) bit (q .makes .declared) in
     let same = declare-unique code values i _ c d v w (p .makes .declared) other in

@@ -15,7 +15,7 @@ use Rattle.paper.specs.States.{State, Rooms}
 use Rattle.paper.specs.Running.{nextStep, Outcome}
 use Rattle.paper.specs.Running as running
 use Rattle.paper.specs.Answer.{storeWords}
-use Rattle.store_cells.specs.Words.{wordsOf}
+use Rattle.store_cells.specs.Cells.{cellsOf}
 use Rattle.store_cells.proofs.Laws.{Bytes, words-small}
 use Rattle.code.specs.Cells.{windowOf, errnoCell, placeAt}
 use Rattle.code.specs.Windows.{endsCell, stepsCell, writtenCell, usedCell, callIn, waiting, writtenIn, stateIn}
@@ -56,20 +56,20 @@ target-unique {base = base} {r = r} {s = s} x p q =
 -- What two value stores share whatever a step does: the count of the output, and every byte where every cell is settled.
 pub record OneStore (a b : List ℕ) : Type 0 where
   pub long : length a ≡ length b
-  pub written : countIn (wordsOf a) ≡ countIn (wordsOf b)
-  pub bytes : wordsOf a ≡ wordsOf b → Bytes a → Bytes b → a ≡ b
+  pub written : countIn (cellsOf a) ≡ countIn (cellsOf b)
+  pub bytes : cellsOf a ≡ cellsOf b → Bytes a → Bytes b → a ≡ b
 
 module _ (values a b : List ℕ) (size : length values ≡ storeBytes) (p : length a ≡ length values) (q : length b ≡ length values) where
-  whole-store : wordsOf a ≡ wordsOf b → Bytes a → Bytes b → a ≡ b
+  whole-store : cellsOf a ≡ cellsOf b → Bytes a → Bytes b → a ≡ b
   whole-store same x y =
       same-store storeWords a b x y (p ∙ sym q) (omega arith) (λ k l. ap (λ (w : List ℕ). getD w k 0) same)
       (drop-of-length-le a {i = storeBytes} (omega arith) ∙ sym (drop-of-length-le b {i = storeBytes} (omega arith)))
 
-  one-store : countIn (wordsOf a) ≡ countIn (wordsOf b) → OneStore a b
+  one-store : countIn (cellsOf a) ≡ countIn (cellsOf b) → OneStore a b
   one-store count = record { long = p ∙ sym q; written = count; bytes = whole-store }
 
   -- Who keeps the cells of the output keeps its count.
-  kept-store : KeepsRun (wordsOf values) (wordsOf a) → KeepsRun (wordsOf values) (wordsOf b) → OneStore a b
+  kept-store : KeepsRun (cellsOf values) (cellsOf a) → KeepsRun (cellsOf values) (cellsOf b) → OneStore a b
   kept-store x y =
       one-store (ap₂ (λ (m n : ℕ). m + cellValues * n)
       (x writtenCell (omega arith) (omega arith) ∙ sym (y writtenCell (omega arith) (omega arith)))
@@ -80,30 +80,30 @@ module _ (values a b : List ℕ) (size : length values ≡ storeBytes) (p : leng
 module _ {code values : List ℕ} {base i : ℕ} (h : Here code values base i) (a b : List ℕ) (r s : ℤ) where
   pub record OneStep : Type 0 where
     pub answer : r ≡ s
-    pub agrees : (steps : ℕ) (out : List ℕ) → Agrees (h .P) (h .R) (wordsOf code) (h .d) i steps (wordsOf values) out (wordsOf a) out r (wordsOf b) out s
+    pub agrees : (steps : ℕ) (out : List ℕ) → Agrees (h .P) (h .R) (cellsOf code) (h .d) i steps (cellsOf values) out (cellsOf a) out r (cellsOf b) out s
     pub store : OneStore a b
 
   -- the same of a step that may lack room
   pub record OneCall : Type 0 where
-    pub agrees : (steps : ℕ) (out : List ℕ) → AgreesOrLacks (h .P) (h .R) (wordsOf code) (h .d) i steps (wordsOf values) out (wordsOf a) out r (wordsOf b) out s
+    pub agrees : (steps : ℕ) (out : List ℕ) → AgreesOrLacks (h .P) (h .R) (cellsOf code) (h .d) i steps (cellsOf values) out (cellsOf a) out r (cellsOf b) out s
     pub store : OneStore a b
 
   module _ (p : Performs code values a base i r) (q : Performs code values b base i s) where
     -- A step promises this for all rooms, so also for some with which it lacks nothing.
-    performs-agree : (steps : ℕ) (out : List ℕ) → Agrees (h .P) (h .R) (wordsOf code) (h .d) i steps (wordsOf values) out (wordsOf a) out r (wordsOf b) out s
+    performs-agree : (steps : ℕ) (out : List ℕ) → Agrees (h .P) (h .R) (cellsOf code) (h .d) i steps (cellsOf values) out (cellsOf a) out r (cellsOf b) out s
     unfolding effectAt
     performs-agree steps out =
         let P = h .P in
-        let X = wordsOf values in
+        let X = cellsOf values in
         let c = callIn P (h .R) X (windowOf (h .d)) i in
         let n = nextStep P c in
         let g = enough P c (waiting P (h .R) X (h .d)) (n .place) (n .after) (n .does) (stateIn P (h .R) X (h .d) i steps out) in
-        agree-where P (h .R) (wordsOf code) (h .d) i steps X out (wordsOf a) out r (wordsOf b) out s (h .offset) _
+        agree-where P (h .R) (cellsOf code) (h .d) i steps X out (cellsOf a) out r (cellsOf b) out s (h .offset) _
         (p .does h (g .rooms) steps out) (q .does h (g .rooms) steps out) (g .lacks-nothing)
 
     pub performs-unique : OneStep
     performs-unique = record {
-      answer = answer-of (h .P) (h .R) (wordsOf code) (h .d) i 0 (wordsOf values) [] (wordsOf a) [] r (wordsOf b) [] s (performs-agree 0 []);
+      answer = answer-of (h .P) (h .R) (cellsOf code) (h .d) i 0 (cellsOf values) [] (cellsOf a) [] r (cellsOf b) [] s (performs-agree 0 []);
       agrees = performs-agree;
       store = kept-store values a b (h .values-size) (p .long) (q .long) (p .kept) (q .kept);
     }
@@ -111,7 +111,7 @@ module _ {code values : List ℕ} {base i : ℕ} (h : Here code values base i) (
   pub calls-unique : (last : ℕ) → Deepest last → Calls code values a base last i r → Calls code values b base last i s → OneCall
   calls-unique last w p q = record {
     agrees = λ steps out.
-        agree (h .P) (h .R) (wordsOf code) (h .d) i steps (wordsOf values) out (wordsOf a) out r (wordsOf b) out s (h .offset) _
+        agree (h .P) (h .R) (cellsOf code) (h .d) i steps (cellsOf values) out (cellsOf a) out r (cellsOf b) out s (h .offset) _
         (p .does h (w .rooms) (w .is) steps out) (q .does h (w .rooms) (w .is) steps out);
     store = kept-store values a b (h .values-size) (p .long) (q .long) (p .kept) (q .kept);
   }
@@ -129,7 +129,7 @@ same-output a b o p out count front rest other =
 -- a and b are the value stores after the step, o and p the outputs
 module _ {code values : List ℕ} {base i : ℕ} (h : Here code values base i) (out a o b p : List ℕ) (r s : ℤ) where
   pub record OneStepped : Type 0 where
-    pub agrees : (steps : ℕ) → AgreesOrLacks (h .P) (h .R) (wordsOf code) (h .d) i steps (wordsOf values) out (wordsOf a) o r (wordsOf b) p s
+    pub agrees : (steps : ℕ) → AgreesOrLacks (h .P) (h .R) (cellsOf code) (h .d) i steps (cellsOf values) out (cellsOf a) o r (cellsOf b) p s
     pub output : o ≡ p
     pub store : OneStore a b
 
@@ -137,31 +137,31 @@ module _ {code values : List ℕ} {base i : ℕ} (h : Here code values base i) (
       (x : Stepped text code values a inputs out o base last i r) (y : Stepped text code values b inputs out p base last i s) where
     -- as much is lent as the slices have
     lent : Rooms
-    lent = record { depth = depth .depth; output = length out; inputs = map (toZ w32) (wordsOf inputs) }
+    lent = record { depth = depth .depth; output = length out; inputs = map (toZ w32) (cellsOf inputs) }
 
-    stepped-agree : (steps : ℕ) → AgreesOrLacks (h .P) (h .R) (wordsOf code) (h .d) i steps (wordsOf values) out (wordsOf a) o r (wordsOf b) p s
+    stepped-agree : (steps : ℕ) → AgreesOrLacks (h .P) (h .R) (cellsOf code) (h .d) i steps (cellsOf values) out (cellsOf a) o r (cellsOf b) p s
     unfolding lent
     stepped-agree steps =
         let deep : LastWindow lent last = record { some = w .some; most = w .most; is = w .is } in
         let lends : Lends lent inputs out = record { room = refl; reads = refl } in
-        agree (h .P) (h .R) (wordsOf code) (h .d) i steps (wordsOf values) out (wordsOf a) o r (wordsOf b) p s (h .offset) _
+        agree (h .P) (h .R) (cellsOf code) (h .d) i steps (cellsOf values) out (cellsOf a) o r (cellsOf b) p s (h .offset) _
         (x .does h is lent deep lends steps) (y .does h is lent deep lends steps)
 
     -- The output, and how much of it there is.
     abbrev OneOutput : Type 0
-    OneOutput = (o ≡ p) × (countIn (wordsOf a) ≡ countIn (wordsOf b))
+    OneOutput = (o ≡ p) × (countIn (cellsOf a) ≡ countIn (cellsOf b))
 
-    state-output : (e n : ℕ) → stateIn (h .P) (h .R) (wordsOf a) e n 0 o ≡ stateIn (h .P) (h .R) (wordsOf b) e n 0 p → OneOutput
+    state-output : (e n : ℕ) → stateIn (h .P) (h .R) (cellsOf a) e n 0 o ≡ stateIn (h .P) (h .R) (cellsOf b) e n 0 p → OneOutput
     unfolding stateIn writtenIn
     state-output e n same =
-        let front : take (countIn (wordsOf a)) o ≡ take (countIn (wordsOf b)) p = ap (λ (z : State). z .output) same in
-        let count = same-count (countIn (wordsOf a)) (countIn (wordsOf b)) o p out (x .written (h .P) (h .R)) (y .written (h .P) (h .R)) (x .out-long) (y .out-long) front in
-        (same-output (countIn (wordsOf a)) (countIn (wordsOf b)) o p out count front (x .past (h .P) (h .R)) (y .past (h .P) (h .R)), count)
+        let front : take (countIn (cellsOf a)) o ≡ take (countIn (cellsOf b)) p = ap (λ (z : State). z .output) same in
+        let count = same-count (countIn (cellsOf a)) (countIn (cellsOf b)) o p out (x .written (h .P) (h .R)) (y .written (h .P) (h .R)) (x .out-long) (y .out-long) front in
+        (same-output (countIn (cellsOf a)) (countIn (cellsOf b)) o p out count front (x .past (h .P) (h .R)) (y .past (h .P) (h .R)), count)
 
-    kept-output : wordsOf a ≡ wordsOf values → wordsOf b ≡ wordsOf values → o ≡ out → p ≡ out → OneOutput
+    kept-output : cellsOf a ≡ cellsOf values → cellsOf b ≡ cellsOf values → o ≡ out → p ≡ out → OneOutput
     kept-output c d f g = (f ∙ sym g, ap countIn (c ∙ sym d))
 
-    agreed-output : AgreesOrLacks (h .P) (h .R) (wordsOf code) (h .d) i 0 (wordsOf values) out (wordsOf a) o r (wordsOf b) p s → OneOutput
+    agreed-output : AgreesOrLacks (h .P) (h .R) (cellsOf code) (h .d) i 0 (cellsOf values) out (cellsOf a) o r (cellsOf b) p s → OneOutput
     agreed-output (agreed (moved e n c d same)) = state-output e n (same .state)
     agreed-output (agreed (failed e c d same)) = state-output (h .d) i (same .state)
     agreed-output (agreed (kept c d e f g)) = kept-output d e f g
@@ -211,11 +211,11 @@ module _ {code values : List ℕ} {base i : ℕ} (h : Here code values base i) (
   module _ (steps : ℕ) (out : List ℕ) where
     pub data OneTaken : Type 0 where
       -- the run dies: no call is named, and one state is left
-      died : t .next ≡ 0 → u .next ≡ 0 → stateIn (h .P) (h .R) (wordsOf a) (h .d) i steps out ≡ stateIn (h .P) (h .R) (wordsOf b) (h .d) i steps out → OneTaken
+      died : t .next ≡ 0 → u .next ≡ 0 → stateIn (h .P) (h .R) (cellsOf a) (h .d) i steps out ≡ stateIn (h .P) (h .R) (cellsOf b) (h .d) i steps out → OneTaken
       -- it goes on: by one call, in one state
-      taken : (c : ℕ) → t ≡ u → t .base ≡ windowOf c → OneState (h .P) (h .R) c (t .next) steps (wordsOf a) out (wordsOf b) out → OneTaken
+      taken : (c : ℕ) → t ≡ u → t .base ≡ windowOf c → OneState (h .P) (h .R) c (t .next) steps (cellsOf a) out (cellsOf b) out → OneTaken
 
-    settled : (place : ℕ) (o : Outcome) → Settles (h .P) (h .R) (wordsOf a) (h .d) i steps place out t o → Settles (h .P) (h .R) (wordsOf b) (h .d) i steps place out u o → OneTaken
+    settled : (place : ℕ) (o : Outcome) → Settles (h .P) (h .R) (cellsOf a) (h .d) i steps place out t o → Settles (h .P) (h .R) (cellsOf b) (h .d) i steps place out u o → OneTaken
     unfolding stateOf
     settled place o (stops n e) (stops m f) = died n m (ap stateOf (sym e ∙ f))
     settled place o (stops n e) (resumes c m g d l f) = apart (cc)
@@ -223,11 +223,11 @@ module _ {code values : List ℕ} {base i : ℕ} (h : Here code values base i) (
     settled place o (resumes c n g d l e) (resumes k m j q v f) =
         let P = h .P in
         let R = h .R in
-        let state : stateIn P R (wordsOf a) c (t .next) steps out ≡ stateIn P R (wordsOf b) k (u .next) steps out = ap stateOf (sym e ∙ f) in
-        let depth : c ≡ k = same-depth P R steps (wordsOf a) (wordsOf b) out out c (t .next) k (u .next) state in
-        let next : t .next ≡ u .next = same-next P R steps (wordsOf a) (wordsOf b) out out c (t .next) k (u .next) state in
+        let state : stateIn P R (cellsOf a) c (t .next) steps out ≡ stateIn P R (cellsOf b) k (u .next) steps out = ap stateOf (sym e ∙ f) in
+        let depth : c ≡ k = same-depth P R steps (cellsOf a) (cellsOf b) out out c (t .next) k (u .next) state in
+        let next : t .next ≡ u .next = same-next P R steps (cellsOf a) (cellsOf b) out out c (t .next) k (u .next) state in
         let window : t .base ≡ u .base = g ∙ ap windowOf depth ∙ sym j in
-        taken c (λ x. record { next = next x; base = window x }) g (meet P R steps (wordsOf a) (wordsOf b) out out c (t .next) k (u .next) state l v)
+        taken c (λ x. record { next = next x; base = window x }) g (meet P R steps (cellsOf a) (cellsOf b) out out c (t .next) k (u .next) state l v)
 
   pub record OneArisen : Type 0 where
     pub settles : (steps : ℕ) (out : List ℕ) → OneTaken steps out
@@ -253,16 +253,16 @@ pub data OfStart (at words fors c : ℕ) : Type 0 where
 
 pub record OneStart (code before a b : List ℕ) (first at : ℕ) (h : Starts code before first at) : Type 0 where
   pub long : length a ≡ length b
-  pub cells : Bytes a → Bytes b → (c : ℕ) → OfStart at (length (h .starts)) (placeAt (wordsOf code) (h .opens)) c → getD (wordsOf a) c 0 ≡ getD (wordsOf b) c 0
+  pub cells : Bytes a → Bytes b → (c : ℕ) → OfStart at (length (h .starts)) (placeAt (cellsOf code) (h .opens)) c → getD (cellsOf a) c 0 ≡ getD (cellsOf b) c 0
 
 module _ (code before a b : List ℕ) (first at : ℕ) (h : Starts code before first at) (p : Started code before a first at) (q : Started code before b first at) where
   abbrev fors : ℕ
-  fors = placeAt (wordsOf code) (h .opens)
+  fors = placeAt (cellsOf code) (h .opens)
 
-  start-cells : Bytes a → Bytes b → (c : ℕ) → OfStart at (length (h .starts)) fors c → getD (wordsOf a) c 0 ≡ getD (wordsOf b) c 0
+  start-cells : Bytes a → Bytes b → (c : ℕ) → OfStart at (length (h .starts)) fors c → getD (cellsOf a) c 0 ≡ getD (cellsOf b) c 0
   start-cells x y c (beneath l) = p .below c l ∙ sym (q .below c l)
   start-cells x y c (datum k l e) =
-      rw e (same-part at (length (h .starts)) (wordsOf a) (wordsOf b) (words-small a x) (words-small b y) (p .is (h .starts) (h .opens) (h .reads) ∙ sym (q .is (h .starts) (h .opens) (h .reads))) k l)
+      rw e (same-part at (length (h .starts)) (cellsOf a) (cellsOf b) (words-small a x) (words-small b y) (p .is (h .starts) (h .opens) (h .reads) ∙ sym (q .is (h .starts) (h .opens) (h .reads))) k l)
   start-cells x y c (variable j l e) = rw e (p .idle (h .starts) (h .opens) j (h .reads) l .0 ∙ sym (q .idle (h .starts) (h .opens) j (h .reads) l .0))
   start-cells x y c (itsEnd j l e) = rw e (p .idle (h .starts) (h .opens) j (h .reads) l .1 ∙ sym (q .idle (h .starts) (h .opens) j (h .reads) l .1))
   start-cells x y c (itsStep j l e) = rw e (p .idle (h .starts) (h .opens) j (h .reads) l .2 ∙ sym (q .idle (h .starts) (h .opens) j (h .reads) l .2))
@@ -277,10 +277,10 @@ pub record OneRun (P : Program) (a o b p : List ℕ) (r s : Ended) : Type 0 wher
   pub answer : r ≡ s
   pub output : o ≡ p
   pub long : length a ≡ length b
-  pub errno : getD (wordsOf a) errnoCell 0 ≡ getD (wordsOf b) errnoCell 0
-  pub used : getD (wordsOf a) usedCell 0 ≡ getD (wordsOf b) usedCell 0
-  pub written : countIn (wordsOf a) ≡ countIn (wordsOf b)
-  pub words : Bytes a → Bytes b → (k : ℕ) → k < length (P .words) → getD (wordsOf a) k 0 ≡ getD (wordsOf b) k 0
+  pub errno : getD (cellsOf a) errnoCell 0 ≡ getD (cellsOf b) errnoCell 0
+  pub used : getD (cellsOf a) usedCell 0 ≡ getD (cellsOf b) usedCell 0
+  pub written : countIn (cellsOf a) ≡ countIn (cellsOf b)
+  pub words : Bytes a → Bytes b → (k : ℕ) → k < length (P .words) → getD (cellsOf a) k 0 ≡ getD (cellsOf b) k 0
 
 module _ {P : Program} {offset : ℕ → ℕ} {a out o b p : List ℕ} {steps : ℕ} {e : running.Ended} {r s : Ended} (x : runs.Comes P offset a out o steps e r) (y : runs.Comes P offset b out p steps e s) where
   came-answer : r ≡ s
@@ -304,12 +304,12 @@ module _ {P : Program} {offset : ℕ → ℕ} {a out o b p : List ℕ} {steps : 
     errno = x .errno ∙ sym (y .errno);
     used = x .used ∙ sym (y .used);
     written = x .written [] ∙ sym (y .written []);
-    words = λ i j. same-cells (length (P .words)) (wordsOf a) (wordsOf b) (words-small a i) (words-small b j) (x .words ∙ sym (y .words));
+    words = λ i j. same-cells (length (P .words)) (cellsOf a) (cellsOf b) (words-small a i) (words-small b j) (x .words ∙ sym (y .words));
   }
 
 pub run-unique : {text code values inputs out a o b p : List ℕ} {h steps depth : ℕ} {r s : Ended} (g : Begins text code values h depth)
     → Ran text code values a inputs out o h steps depth r → Ran text code values b inputs out p h steps depth s → OneRun (g .P) a o b p r s
 run-unique {inputs = inputs} {out = out} {depth = depth} g x y =
-    let rooms : Rooms = record { depth = depth; output = length out; inputs = map (toZ w32) (wordsOf inputs) } in
+    let rooms : Rooms = record { depth = depth; output = length out; inputs = map (toZ w32) (cellsOf inputs) } in
     let lends : Lends rooms inputs out = record { room = refl; reads = refl } in
     came-unique (x .is g rooms refl lends) (y .is g rooms refl lends) (x .long ∙ sym (y .long))

@@ -13,7 +13,7 @@ use mir.Facts.{ofZ-toZ}
 use borrow.Author.Tests.{lt-ltb, le-ltb}
 use Rattle.laws.proofs.Tests.{by-less, by-last, apart}
 use Rattle.paper.specs.Steps.{Code, Program}
-use Rattle.paper.specs.States.{Loop, moduleWord, callWord, Call, State, Rooms, Effect, ending}
+use Rattle.paper.specs.States.{Loop, moduleSlot, callSlot, Call, State, Rooms, Effect, ending}
 use Rattle.paper.specs.Running.{codeAt, stepNamed, idle, nextStep, perform}
 use Rattle.store_cells.proofs.Laws.{Words}
 use Rattle.code.specs.Cells.{windowOf, windowCells, firstWindow, errnoCell}
@@ -23,7 +23,7 @@ use Rattle.code.specs.Windows.{endsCell, stepsCell, routineCell, waitsCell, aft
 use Rattle.store_reading.specs.Reading.{cellValues}
 use Rattle.run_output.specs.Output.{countIn}
 use Rattle.run_machine.specs.Machine.{effectAt}
-use Rattle.run_machine.specs.Live.{wordsOfCall, cellOfCall, routineOfCall, codeOfCall, Sane, Waits, Below, Live}
+use Rattle.run_machine.specs.Live.{slotsOfCall, cellOfCall, routineOfCall, codeOfCall, Sane, Waits, Below, Live}
 
 -- ---- numbers in cells
 -- Words that stand for the same numbers are the same.
@@ -51,7 +51,7 @@ count-cells X Y p q e = (omega (arith, p writtenCell, q writtenCell), omega (ari
 -- ---- the cells of a state
 -- In the window of a call of a routine: its words, its FOR variables' loops, and what it is.
 pub data OfCall (c : Code) (k : ℕ) : Type 0 where
-  itsWord : k < wordsOfCall c → OfCall c k
+  itsWord : k < slotsOfCall c → OfCall c k
   loopEnd : (j : ℕ) → j < c .fors → k ≡ endsCell + (length (c .words) + j) → OfCall c k
   loopStep : (j : ℕ) → j < c .fors → k ≡ stepsCell + (length (c .words) + j) → OfCall c k
   itsRoutine : k ≡ routineCell → OfCall c k
@@ -86,11 +86,11 @@ module _ (P : Program) (R : List Head) (X Y : List ℕ) where
   same-location c d e =
       by-less c firstWindow
       (λ l. by-less d firstWindow
-      (λ m. let q : moduleWord c ≡ moduleWord d = rw (lt-ltb c firstWindow l, lt-ltb d firstWindow m) at e in cc)
-      (λ m. let q : moduleWord c ≡ callWord ((d - firstWindow) / windowCells + 1) ((d - firstWindow) % windowCells) = rw (lt-ltb c firstWindow l, le-ltb d firstWindow m) at e in apart (cc)))
+      (λ m. let q : moduleSlot c ≡ moduleSlot d = rw (lt-ltb c firstWindow l, lt-ltb d firstWindow m) at e in cc)
+      (λ m. let q : moduleSlot c ≡ callSlot ((d - firstWindow) / windowCells + 1) ((d - firstWindow) % windowCells) = rw (lt-ltb c firstWindow l, le-ltb d firstWindow m) at e in apart (cc)))
       (λ l. by-less d firstWindow
-      (λ m. let q : callWord ((c - firstWindow) / windowCells + 1) ((c - firstWindow) % windowCells) ≡ moduleWord d = rw (le-ltb c firstWindow l, lt-ltb d firstWindow m) at e in apart (cc))
-      (λ m. let q : callWord ((c - firstWindow) / windowCells + 1) ((c - firstWindow) % windowCells) ≡ callWord ((d - firstWindow) / windowCells + 1) ((d - firstWindow) % windowCells) = rw (le-ltb c firstWindow l, le-ltb d firstWindow m) at e in
+      (λ m. let q : callSlot ((c - firstWindow) / windowCells + 1) ((c - firstWindow) % windowCells) ≡ moduleSlot d = rw (le-ltb c firstWindow l, lt-ltb d firstWindow m) at e in apart (cc))
+      (λ m. let q : callSlot ((c - firstWindow) / windowCells + 1) ((c - firstWindow) % windowCells) ≡ callSlot ((d - firstWindow) / windowCells + 1) ((d - firstWindow) % windowCells) = rw (le-ltb c firstWindow l, le-ltb d firstWindow m) at e in
       let window : (c - firstWindow) / windowCells + 1 ≡ (d - firstWindow) / windowCells + 1 = cc in
       let cell : (c - firstWindow) % windowCells ≡ (d - firstWindow) % windowCells = cc in
       omega arith))
@@ -130,9 +130,9 @@ module _ (P : Program) (R : List Head) (X Y : List ℕ) where
     same-code : codeOfCall P R Y j ≡ code
     same-code = ap (codeAt P) (sym same-routine)
 
-    words-alike : map (toZ w32) (take (wordsOfCall code) (drop (windowOf j) X)) ≡ map (toZ w32) (take (wordsOfCall code) (drop (windowOf j) Y))
+    words-alike : map (toZ w32) (take (slotsOfCall code) (drop (windowOf j) X)) ≡ map (toZ w32) (take (slotsOfCall code) (drop (windowOf j) Y))
     unfolding callIn
-    words-alike = ap (λ (c : Call). c .words) same ∙ ap (λ (c : Code). map (toZ w32) (take (wordsOfCall c) (drop (windowOf j) Y))) same-code
+    words-alike = ap (λ (c : Call). c .words) same ∙ ap (λ (c : Code). map (toZ w32) (take (slotsOfCall c) (drop (windowOf j) Y))) same-code
 
     loops-alike : loopsFrom P R X (windowOf j) (code .fors) (length (code .words)) ≡ loopsFrom P R Y (windowOf j) (code .fors) (length (code .words))
     unfolding callIn
@@ -144,7 +144,7 @@ module _ (P : Program) (R : List Head) (X Y : List ℕ) where
 
     call-cells : (k : ℕ) → OfCall code k → getD X (windowOf j + k) 0 ≡ getD Y (windowOf j + k) 0
     unfolding callIn
-    call-cells k (itsWord l) = same-part (windowOf j) (wordsOfCall code) X Y p q words-alike k l
+    call-cells k (itsWord l) = same-part (windowOf j) (slotsOfCall code) X Y p q words-alike k l
     call-cells k (loopEnd i l e) =
         let at : windowOf j + endsCell + (length (code .words) + i) ≡ windowOf j + k = omega arith in
         subst (λ (c : ℕ). getD X c 0 ≡ getD Y c 0) at (same-loops p q (windowOf j) (code .fors) (length (code .words)) loops-alike i l .0)

@@ -6,7 +6,7 @@ use native.Mathlib.Omega.{arith}
 use lib.ListN.{length, getD, take, drop}
 use lib.Seq.{take-all}
 use lib.IntN.{ℤ}
-use Rattle.store_cells.specs.Words.{wordsOf, bytesOf}
+use Rattle.store_cells.specs.Cells.{cellsOf, bytesOf}
 use Rattle.store_cells.proofs.Laws.{Bytes}
 use Rattle.store_reading.specs.Reading.{Part, Loaded, Stored}
 use Rattle.store_writing.specs.Promises.{Linked, Headed, Relinked}
@@ -23,12 +23,12 @@ loaded-unique k y z p q = p .is ∙ sym (q .is)
 -- ---- a store by all its cells
 -- Two stores that can differ in nothing but bytes behind the last whole cell, three at most; where there are none the stores are equal.
 pub record SameCells (a b : List ℕ) : Type 0 where
-  pub cells : wordsOf a ≡ wordsOf b
+  pub cells : cellsOf a ≡ cellsOf b
   pub long : length a ≡ length b
   pub bytes : Bytes a → Bytes b → (n : ℕ) → n * 4 ≤ length a → take (n * 4) a ≡ take (n * 4) b
   pub whole : Bytes a → Bytes b → length a % 4 ≡ 0 → a ≡ b
 
-module _ (a b : List ℕ) (same : wordsOf a ≡ wordsOf b) (size : length a ≡ length b) where
+module _ (a b : List ℕ) (same : cellsOf a ≡ cellsOf b) (size : length a ≡ length b) where
   fronts : Bytes a → Bytes b → (n : ℕ) → n * 4 ≤ length a → take (n * 4) a ≡ take (n * 4) b
   fronts p q n h = front-bytes n a p h ∙ ap (λ (w : List ℕ). bytesOf (take n w)) same ∙ sym (front-bytes n b q (omega arith))
 
@@ -46,7 +46,7 @@ stored-unique before a b i v p q = same-cells a b (p .words ∙ sym (q .words)) 
 
 -- ---- a word of the code store: its cells, and every byte around it
 -- two stores of the same cells, with the same bytes behind word i
-pub same-behind : (a b : List ℕ) (i : ℕ) → Bytes a → Bytes b → i * 8 + 8 ≤ length a → length a ≡ length b → wordsOf a ≡ wordsOf b → drop ((i + 1) * 8) a ≡ drop ((i + 1) * 8) b → a ≡ b
+pub same-behind : (a b : List ℕ) (i : ℕ) → Bytes a → Bytes b → i * 8 + 8 ≤ length a → length a ≡ length b → cellsOf a ≡ cellsOf b → drop ((i + 1) * 8) a ≡ drop ((i + 1) * 8) b → a ≡ b
 same-behind a b i p q room size same above =
     let at : (i + 1) * 8 ≡ (i * 2 + 2) * 4 = omega arith in
     same-store (i * 2 + 2) a b p q size (omega arith) (λ k l. ap (λ (w : List ℕ). getD w k 0) same) (subst (λ (n : ℕ). drop n a ≡ drop n b) at above)

@@ -1,7 +1,7 @@
 use borrow.Author.Needs.{needs}
 use Prim.Native.Nat.{_-_, _<_, _≤_}
 use native.Mathlib.Omega.{arith}
-use Rattle.store_cells.specs.Words.{wordsOf}
+use Rattle.store_cells.specs.Cells.{cellsOf}
 use Rattle.paper.specs.Words.{wordLimit}
 use Rattle.check_leaving.proofs.Parting.{chainLength, DataLeft, head-room, data-kept, datum-room, data-values, name-adds, name-room, name-table, name-links, data-fall, data-leave, data-left}
 use Rattle.check_leaving.proofs.leave_data.Statement.{statement}
@@ -11,7 +11,7 @@ abbrev Inv-loop : tie.InvT-loop
 Inv-loop code values₀ head i₀ values i = DataLeft code values₀ head values i
 
 abbrev μ-loop : tie.MeasureT-loop
-μ-loop code values₀ head i₀ values i = chainLength (wordsOf code) wordLimit i
+μ-loop code values₀ head i₀ values i = chainLength (cellsOf code) wordLimit i
 
 link-requires : tie.Need-link-requires Inv-loop μ-loop
 link-requires c κs = search (needs, head-room)

@@ -1,5 +1,5 @@
 use borrow.Author.Needs.{needs}
-use Rattle.store_cells.specs.Words.{wordsOf}
+use Rattle.store_cells.specs.Cells.{cellsOf}
 use Rattle.run_calls.proofs.Passing.{Passing, argumentsLeft, next-small, none-passed, passing, pass-stores, pass-stands, pass-inside, pass-next, pass-fails, pass-small, pass-last, pass-on, comma-inside, comma-next, comma-less}
 use Rattle.run_calls.proofs.arguments.Statement.{statement}
 use Rattle.run_calls.proofs.arguments.Tie as tie
@@ -8,7 +8,7 @@ abbrev Inv-loop : tie.InvT-loop
 Inv-loop code values₀ base room first end n₀ a₀ b₀ values n a b = Passing code values₀ base room first end values a b n
 
 abbrev μ-loop : tie.MeasureT-loop
-μ-loop code values₀ base room first end n₀ a₀ b₀ values n a b = argumentsLeft (wordsOf code) b
+μ-loop code values₀ base room first end n₀ a₀ b₀ values n a b = argumentsLeft (cellsOf code) b
 
 add-n : tie.Need-add-n Inv-loop μ-loop
 add-n c = search needs

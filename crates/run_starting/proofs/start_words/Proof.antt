@@ -1,5 +1,5 @@
 use borrow.Author.Needs.{needs}
-use Rattle.store_cells.specs.Words.{wordsOf}
+use Rattle.store_cells.specs.Cells.{cellsOf}
 use Rattle.run_starting.proofs.DataWords.{Starting, dataLeft, starts-in, starts-begin, datum-in, number-fits, number-small, datum-room, datum-next, datum-less, datum-on, fors-room, started}
 use Rattle.run_starting.proofs.start_words.Statement.{statement}
 use Rattle.run_starting.proofs.start_words.Tie as tie
@@ -8,7 +8,7 @@ abbrev Inv-loop : tie.InvT-loop
 Inv-loop code values₀ first at q₀ n₀ w₀ values q n w = Starting code values₀ values first at q n w
 
 abbrev μ-loop : tie.MeasureT-loop
-μ-loop code values₀ first at q₀ n₀ w₀ values q n w = dataLeft (wordsOf code) q
+μ-loop code values₀ first at q₀ n₀ w₀ values q n w = dataLeft (cellsOf code) q
 
 head-requires : tie.Need-head-requires Inv-loop μ-loop
 head-requires c κs = search (needs, starts-in)

@@ -15,7 +15,7 @@ use borrow.Fn.Kinds.{In}
 use borrow.Fn.PlainCycle.{Measures, is, falls, and}
 use Rattle.paper.specs.Numbers.{Value, value}
 use Rattle.paper.specs.Terms.{known}
-use Rattle.store_cells.specs.Words.{wordsOf}
+use Rattle.store_cells.specs.Cells.{cellsOf}
 use Rattle.code.specs.Cells.{headAt, linkAt}
 use Rattle.code.specs.Spans.{operatorOf}
 use Rattle.store_numbers.proofs.Whole.{read}
@@ -245,7 +245,7 @@ going t h = h .before .before .before .loop .inv
 abbrev more : (t : ℕ) (h : Turn t) → h .before .before .before .loop .i < asked t h .to
 more t h = h .before .before .loop-test .taken
 
-abbrev word : (t : ℕ) (h : Turn t) → h .head .result ≡ headAt (wordsOf (now (now (asked t h .code)))) (h .before .before .before .loop .i)
+abbrev word : (t : ℕ) (h : Turn t) → h .head .result ≡ headAt (cellsOf (now (now (asked t h .code)))) (h .before .before .before .loop .i)
 word t h = h .head .ensures
 
 turn-fits : (t : ℕ) (h : Turn t) → h .before .before .before .loop .i + 2 < addresses
@@ -265,7 +265,7 @@ turn t k = k .before .before .before
 abbrev spans : (t : ℕ) (k : Spanning t) → turn t k .head .result % 256 / 16 % 4 ≡ 0
 spans t k = k .before .before .if1 .taken
 
-abbrev linked : (t : ℕ) (k : Spanning t) → k .link .result ≡ linkAt (wordsOf (now (now (asked t (turn t k) .code)))) (turn t k .before .before .before .loop .i)
+abbrev linked : (t : ℕ) (k : Spanning t) → k .link .result ≡ linkAt (cellsOf (now (now (asked t (turn t k) .code)))) (turn t k .before .before .before .loop .i)
 linked t k = k .link .ensures .same
 
 -- AND or OR, of which the left side does not tell the answer
