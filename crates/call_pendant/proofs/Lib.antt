@@ -1,6 +1,6 @@
 pub mod Stores
 pub mod Depths
-pub mod Carrying
-pub mod Judging
-pub mod Answering
+pub mod CarriedOut
+pub mod TextJudged
+pub mod PaperAnswer
 pub mod Unique

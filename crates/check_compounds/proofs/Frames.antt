@@ -10,7 +10,7 @@ use Rattle.paper.specs.Trees.{Expr, Statements}
 use Rattle.paper.specs.Names.{Scopes, Meaning}
 use Rattle.code.specs.Cells.{opIn, valueIn, placeIn, linkIn, headAt, tailAt, opAt, valueAt, placeAt, linkAt}
 use Rattle.check_expressions.specs.Known.{Fresh, heldBy, Within}
-use Rattle.check_expressions.proofs.Holding.{holds, room-more}
+use Rattle.check_expressions.proofs.NamesHeld.{holds, room-more}
 use Rattle.store_writing.specs.Promises.{Kept, Linked}
 use Rattle.store_writing.proofs.Keeping.{cell-below, cell-above}
 use Rattle.check_constants.specs.Answers.{Fine}

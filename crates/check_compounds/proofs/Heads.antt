@@ -42,9 +42,9 @@ use Rattle.check_around.specs.Answers.{Fine, Tell, Answer}
 use Rattle.check_compounds.specs.Here.{Here}
 use Rattle.check_compounds.specs.Parts.{Bounds, BoundWritten, Bounded, Steps, Stepped, ForHeads, ForMay, ForHeaded}
 use Rattle.check_compounds.proofs.Frames.{kept-outside, same-before, same-behind, same-on, head-before, here-on, here-part, term-same, bound-same, linked-outside}
-use Rattle.check_compounds.proofs.Judging.{inside-both, expression-stands, judged-faulty, judged-long, judged-none, judged-next, judged-term, judged-kept}
-use Rattle.check_compounds.proofs.Telling.{typed-fine, faulty-found}
-use Rattle.check_compounds.proofs.Telling.{fine-answer, found-answer, found-as}
+use Rattle.check_compounds.proofs.ExpressionsJudged.{inside-both, expression-stands, judged-faulty, judged-long, judged-none, judged-next, judged-term, judged-kept}
+use Rattle.check_compounds.proofs.AnswerShapes.{typed-fine, faulty-found}
+use Rattle.check_compounds.proofs.AnswerShapes.{fine-answer, found-answer, found-as}
 use Rattle.code.specs.Steps.{aTarget, aStep}
 use Rattle.layout.specs.Rules.{takenName, tooMany}
 use Rattle.check_links.proofs.Ops.{low-still}

@@ -1,9 +1,9 @@
 pub mod Frames
-pub mod Judging
-pub mod Telling
+pub mod ExpressionsJudged
+pub mod AnswerShapes
 pub mod Heads
-pub mod Holding
-pub mod Valuing
-pub mod Staying
-pub mod Linking
+pub mod NumbersHeld
+pub mod ValuesOfCase
+pub mod CaseValuesStay
+pub mod CaseLinks
 pub mod Ends

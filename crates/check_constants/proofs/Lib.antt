@@ -1,3 +1,3 @@
 pub mod Terms
-pub mod Working
-pub mod Holding
+pub mod ConstantsWorth
+pub mod NumbersHeld

@@ -27,7 +27,7 @@ use Rattle.code.specs.Cells.{firstWindow}
 use Rattle.code.specs.Spans.{memoryIn}
 use Rattle.check_expressions.specs.Known.{largest, InRoom}
 use Rattle.check_expressions.specs.Parts.{askedOf, resultOf, signedOf}
-use Rattle.check_expressions.proofs.Judging.{judged-faults, judged-term, joined-is, signed-is}
+use Rattle.check_expressions.proofs.FaultsOfParts.{judged-faults, judged-term, joined-is, signed-is}
 use Rattle.check_constants.specs.Answers.{cellOf, InNum, Worth, Fine}
 
 -- ---- numbers in num

@@ -46,8 +46,8 @@ use Rattle.check_sites.specs.Sites.{filling, ownOf, scopesOf, memoryOf, Placed,
 use Rattle.check_datum.specs.Answers.{Begins, Free, after, faultsOf, Says, Declares, Near}
 use Rattle.check_sites.specs.Parts.{Taken, Makes}
 use Rattle.check_datum.specs.Parts.{Starts, DeclaresFree}
-use Rattle.check_sites.proofs.Sitting.{site-ref, own-small, own-here, among-new, limit-most, used-most, crossing, not-crossing}
-use Rattle.check_datum.proofs.Declaring.{asks-of, contentMeaning, content-used, Around, name-keeps, words-changed, words-written, now-filled}
+use Rattle.check_sites.proofs.TwoSites.{site-ref, own-small, own-here, among-new, limit-most, used-most, crossing, not-crossing}
+use Rattle.check_datum.proofs.OneDeclaration.{asks-of, contentMeaning, content-used, Around, name-keeps, words-changed, words-written, now-filled}
 
 -- ---- of any declaration
 module _ {code values : List ℕ} {own limit used i : ℕ} (b : Begins code values own limit used i) where

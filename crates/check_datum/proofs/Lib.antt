@@ -1,4 +1,4 @@
 pub mod Words
-pub mod Declaring
+pub mod OneDeclaration
 pub mod Contents
 pub mod Scalars

@@ -50,9 +50,9 @@ use Rattle.check_sites.specs.Sites.{ownOf, scopesOf, memoryOf, Placed, owned}
 use Rattle.check_datum.specs.Answers.{Begins, Free, after, Goes, Says}
 use Rattle.check_sites.specs.Parts.{MakesIn, Makes}
 use Rattle.check_datum.specs.Parts.{scalarKind, Initial, Starts, FitValue, Fit, PlacedAs, Placing, DeclaresFree}
-use Rattle.check_constants.proofs.Holding.{in-num-32, in-num-64}
-use Rattle.check_sites.proofs.Sitting.{own-here, among-new, load-new}
-use Rattle.check_datum.proofs.Declaring.{asks-of, contentMeaning, content-used, Around, name-keeps, words-changed, words-written, now-filled}
+use Rattle.check_constants.proofs.NumbersHeld.{in-num-32, in-num-64}
+use Rattle.check_sites.proofs.TwoSites.{own-here, among-new, load-new}
+use Rattle.check_datum.proofs.OneDeclaration.{asks-of, contentMeaning, content-used, Around, name-keeps, words-changed, words-written, now-filled}
 use Rattle.check_datum.proofs.Contents.{F, type, content, far, near, sort-is, opens-is, ref-is, clean, in-content, too-many, around-kept}
 
 -- ---- meanings

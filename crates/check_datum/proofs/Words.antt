@@ -20,7 +20,7 @@ use Rattle.store_writing.specs.Promises.{Rewritten}
 use Rattle.store_writing.proofs.Rewriting.{rewritten-head, rewritten-tail, rewritten-other}
 use Rattle.store_numbers.proofs.Whole.{read}
 use Rattle.check_constants.specs.Answers.{InNum}
-use Rattle.check_constants.proofs.Holding.{in-num-32, in-num-64}
+use Rattle.check_constants.proofs.NumbersHeld.{in-num-32, in-num-64}
 use Rattle.check_datum.specs.Parts.{scalarKind, SetDatum, Starts}
 use Rattle.check_sites.specs.Parts.{baseOf, Fills}
 

@@ -1,2 +1,2 @@
-pub mod Walking
-pub mod Routing
+pub mod DataWalk
+pub mod RoutineWalk

@@ -39,8 +39,8 @@ use Rattle.check_expressions.specs.Answers.{Sound, SoundUnder, Refused, 
 use Rattle.store_writing.specs.Promises.{Headed, Linked}
 use Rattle.check_expressions.specs.Parts.{askedOf, resultOf, Numbered, isPrefix, Prefixes, SignType, Gives, signedOf, Tied, Meant, Short, Nested, Signed, Indexed, Right, Joined}
 use Rattle.store_writing.proofs.Keeping.{kept-same, kept-wider, kept-rewritten, within-above}
-use Rattle.check_expressions.proofs.Keeping.{low-written}
-use Rattle.check_expressions.proofs.Judging.{judged-faults, judged-term, judged-type, wanted-none, wanted-wrong, wanted-first, joined-is, signed-is, element-is}
+use Rattle.check_expressions.proofs.NoSteps.{low-written}
+use Rattle.check_expressions.proofs.FaultsOfParts.{judged-faults, judged-term, judged-type, wanted-none, wanted-wrong, wanted-first, joined-is, signed-is, element-is}
 use Rattle.check_expressions.proofs.Leaves.{judges-refused}
 
 -- ---- answers by their cases

@@ -34,8 +34,8 @@ use Rattle.check_expressions.specs.Known.{largest, Fresh, InRoom, Within
 use Rattle.check_expressions.specs.Answers.{Refused, SoundUnder, SaysUnder, JudgesUnder}
 use Rattle.check_expressions.specs.Parts.{Meant, faultOf, BreaksAlone, BreaksIndexed, Alone, SmallNumber, Literal}
 use Rattle.store_writing.proofs.Keeping.{kept-same}
-use Rattle.check_expressions.proofs.Keeping.{low-same, low-written}
-use Rattle.check_expressions.proofs.Judging.{judged-faults, judged-term, judged-type}
+use Rattle.check_expressions.proofs.NoSteps.{low-same, low-written}
+use Rattle.check_expressions.proofs.FaultsOfParts.{judged-faults, judged-term, judged-type}
 
 -- ---- answers
 -- nothing is written, and a rule is broken

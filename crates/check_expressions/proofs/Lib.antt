@@ -1,11 +1,11 @@
-pub mod Keeping
-pub mod Holding
-pub mod Judging
+pub mod NoSteps
+pub mod NamesHeld
+pub mod FaultsOfParts
 pub mod Order
 pub mod Operators
 pub mod Leaves
 pub mod Around
 pub mod Starts
-pub mod Climbing
+pub mod OperatorChain
 pub mod Callers
 pub mod Unique

@@ -16,7 +16,7 @@ use Rattle.climb.specs.Rise.{height}
 use Rattle.layout.specs.Types.{numType, boolType, typeIn}
 use Rattle.layout.proofs.Typing.{num-in, bool-in}
 use Rattle.check_expressions.specs.Parts.{askedOf, resultOf, signedOf, Asks, Gives, Numbered, isPrefix, Prefixes, SignType}
-use Rattle.check_expressions.proofs.Judging.{level-equal}
+use Rattle.check_expressions.proofs.FaultsOfParts.{level-equal}
 
 pub level-here : (s k : ℕ) → s ≡ k → levelOf k ≡ levelOf s
 level-here s k e = ap levelOf (sym e)

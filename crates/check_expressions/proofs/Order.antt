@@ -22,7 +22,7 @@ use Rattle.climb.proofs.Places.{spans-grow, spans-first, stands}
 use Rattle.layout.specs.Rules.{unknownName, wrongKind, wrongType}
 use Rattle.check_expressions.specs.Answers.{Refused}
 use Rattle.check_expressions.specs.Parts.{askedOf, resultOf, signedOf}
-use Rattle.check_expressions.proofs.Judging.{append-none, judged-faults, judged-refused, joined-is, signed-is}
+use Rattle.check_expressions.proofs.FaultsOfParts.{append-none, judged-faults, judged-refused, joined-is, signed-is}
 
 -- Their words are from low up to high, and each comes before the next.
 unfoldable pub Rising : (low high : ℕ) → List Fault → Type 0

@@ -33,7 +33,7 @@ use Rattle.store_writing.specs.Promises.{Kept}
 use Rattle.check_expressions.specs.Answers.{Low, Refused, SaysUnder, JudgesUnder, StandsUnder, CheckedUnder}
 use Rattle.check_expressions.specs.Parts.{isPrefix, Meant, BreaksIndexed, Alone, SmallNumber, Literal, Short, Nested, Signed, Indexed, Begins, Began}
 use Rattle.store_writing.proofs.Keeping.{head-above, kept-wider, kept-on}
-use Rattle.check_expressions.proofs.Keeping.{low-on}
+use Rattle.check_expressions.proofs.NoSteps.{low-on}
 use Rattle.check_expressions.proofs.Leaves.{judges-refused}
 
 -- ---- words as they were loaded

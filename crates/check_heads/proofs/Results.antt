@@ -26,10 +26,10 @@ use Rattle.check_heads.specs.Stores.{isValued}
 use Rattle.check_heads.specs.Trees.{firstScopes, earlierOf}
 use Rattle.check_heads.specs.Reads.{Begins, Foretells}
 use Rattle.check_heads.proofs.Frames.{lain-kept}
-use Rattle.check_heads.proofs.Announcing.{not-found}
-use Rattle.check_heads.proofs.Scoping.{look-here, look-further, look-found, names-taken, names-new, cannot-protected, cannot-among, cannot-shielded, routine-meant}
-use Rattle.check_heads.proofs.Taking.{protected-plain}
-use Rattle.check_heads.proofs.Whole.{begins-lain}
+use Rattle.check_heads.proofs.DataToCome.{not-found}
+use Rattle.check_heads.proofs.NamesOfRoutines.{look-here, look-further, look-found, names-taken, names-new, cannot-protected, cannot-among, cannot-shielded, routine-meant}
+use Rattle.check_heads.proofs.NamesTaken.{protected-plain}
+use Rattle.check_heads.proofs.WholePass.{begins-lain}
 
 -- ---- words
 module _ {text code values code′ values′ : List ℕ} {r : ℕ} (g : Begins text code values) (f : Foretells text code values code′ values′ r (g .stands .words) (g .m)) where

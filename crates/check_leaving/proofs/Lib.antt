@@ -1,1 +1,1 @@
-pub mod Parting
+pub mod NamesAgain

@@ -23,7 +23,7 @@ use Rattle.check_links.specs.Resolved.{goesByLink, goesByValue, goesByPlace, is
 use Rattle.check_links.specs.Raw.{Ground, Quiet, endOf, RawDoes, RawSimple, RawStatement, RawList}
 use Rattle.store_writing.specs.Chains.{Leads, lastOf, startsIn, Rise}
 use Rattle.check_program.specs.Routines.{groundFor, RawHandler, RawRoutine, no-routine, a-routine, RawModule}
-use Rattle.check_program.proofs.Holding.{module-holds}
+use Rattle.check_program.proofs.ProgramHeld.{module-holds}
 
 -- ---- the module
 unfoldable text : List ℕ

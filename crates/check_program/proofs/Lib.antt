@@ -1,6 +1,6 @@
-pub mod Closing
-pub mod Chaining
+pub mod ClosedSteps
+pub mod DataChain
 pub mod Orders
-pub mod Framing
-pub mod Holding
+pub mod WalkStays
+pub mod ProgramHeld
 pub mod Examples

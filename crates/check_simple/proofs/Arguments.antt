@@ -28,7 +28,7 @@ use Rattle.check_expressions.specs.Known.{Loaded}
 use Rattle.store_writing.specs.Promises.{Kept, Linked}
 use Rattle.check_expressions.specs.Answers as expressions
 use Rattle.store_writing.proofs.Keeping.{cell-below, head-below, head-above, kept-same, kept-wider, kept-on, term-below, term-above}
-use Rattle.check_expressions.proofs.Judging.{append-none}
+use Rattle.check_expressions.proofs.FaultsOfParts.{append-none}
 use Rattle.check_expressions.proofs.Starts.{loaded-part, loaded-after}
 use Rattle.faults.specs.First.{Inside, First}
 use Rattle.faults.proofs.First.{every-none, widen, first-before}

@@ -32,7 +32,7 @@ use Rattle.check_expressions.specs.Known.{Loaded}
 use Rattle.store_writing.specs.Promises.{Kept, Linked}
 use Rattle.check_expressions.specs.Answers as expressions
 use Rattle.store_writing.proofs.Keeping.{head-below, head-above, kept-wider, kept-on, term-above}
-use Rattle.check_expressions.proofs.Judging.{append-none}
+use Rattle.check_expressions.proofs.FaultsOfParts.{append-none}
 use Rattle.check_expressions.proofs.Starts.{loaded-part}
 use Rattle.faults.specs.First.{First}
 use Rattle.faults.proofs.First.{first-if, first-left, leads-later}

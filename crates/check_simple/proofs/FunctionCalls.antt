@@ -28,7 +28,7 @@ use Rattle.check_expressions.specs.declared.Judged.{Judged}
 use Rattle.check_expressions.specs.declared.Judged.the-variants.{Typed, Faulty}
 use Rattle.store_writing.specs.Promises.{Kept, Linked}
 use Rattle.store_writing.proofs.Keeping.{cell-above, head-below, kept-wider, kept-on}
-use Rattle.check_expressions.proofs.Judging.{append-none}
+use Rattle.check_expressions.proofs.FaultsOfParts.{append-none}
 use Rattle.faults.specs.First.{First, Leads}
 use Rattle.faults.proofs.First.{_and_, every-none, first-fault, first-if, first-left, first-right, leads-later, leads-same-if}
 use Rattle.faults.proofs.Expressions.{grows}

@@ -14,7 +14,7 @@ use Rattle.climb.proofs.Places.{spans-first, stands}
 use Rattle.check_expressions.specs.declared.Judged.{Judged}
 use Rattle.check_expressions.specs.declared.Judged.the-variants.{Typed, Faulty}
 use Rattle.check_expressions.specs.Answers.{SaysUnder, Judges, Checked}
-use Rattle.check_expressions.proofs.Judging.{wanted-first}
+use Rattle.check_expressions.proofs.FaultsOfParts.{wanted-first}
 use Rattle.check_expressions.proofs.Around.{says-typed, says-faulty}
 use Rattle.check_simple.specs.Parts.{saidType, TypeDiffers, passed, Passed}
 use Rattle.layout.specs.Rules.{wrongType}

@@ -25,7 +25,7 @@ use Rattle.check_expressions.specs.declared.Judged.{Judged}
 use Rattle.check_expressions.specs.declared.Judged.the-variants.{Typed, Faulty}
 use Rattle.store_writing.specs.Promises.{Linked}
 use Rattle.store_writing.proofs.Keeping.{head-below, head-above, kept-wider, kept-on}
-use Rattle.check_expressions.proofs.Judging.{append-none}
+use Rattle.check_expressions.proofs.FaultsOfParts.{append-none}
 use Rattle.check_expressions.proofs.Starts.{loaded-part}
 use Rattle.faults.specs.First.{First}
 use Rattle.faults.proofs.First.{first-fault}

@@ -35,7 +35,7 @@ use Rattle.store_writing.specs.Promises.{Kept, Linked}
 use Rattle.check_expressions.specs.Answers.{OfType}
 use Rattle.check_expressions.specs.Answers as answers
 use Rattle.store_writing.proofs.Keeping.{head-below, head-above, kept-wider, kept-on, term-above}
-use Rattle.check_expressions.proofs.Judging.{judged-faults, judged-term, judged-type, element-is}
+use Rattle.check_expressions.proofs.FaultsOfParts.{judged-faults, judged-term, judged-type, element-is}
 use Rattle.check_expressions.proofs.Starts.{loaded-part}
 use Rattle.faults.specs.First.{First}
 use Rattle.faults.proofs.Expressions.{grows}

@@ -1,5 +1,5 @@
 pub mod Words
-pub mod Taking
-pub mod Sitting
-pub mod Keeping
-pub mod Chaining
+pub mod TakenNames
+pub mod TwoSites
+pub mod WordsKept
+pub mod DataChain

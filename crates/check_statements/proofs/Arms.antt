@@ -48,8 +48,8 @@ use Rattle.check_compounds.specs.Parts.{ArmEnded}
 use Rattle.check_statements.proofs.Same.{same-values, lists-as, elses-as, expression-as, of-type-as, answer-as}
 use Rattle.check_compounds.proofs.Frames.{outside-same, outside-wider, outside-on, kept-outside, same-before, same-behind, same-on, head-before, head-behind, tail-before, here-from}
 use Rattle.check_compounds.proofs.Frames.{here-on, here-part, calls-behind, term-same, list-same, op-same, value-same, link-same, word-same, linked-outside, linked-word}
-use Rattle.check_compounds.proofs.Judging.{inside-both, expression-stands, judged-faulty, judged-long, judged-none, judged-next, judged-term, judged-kept}
-use Rattle.check_statements.proofs.Walking.{upto-done, faulty-first, done-answer, first-answer, faulty-answer}
+use Rattle.check_compounds.proofs.ExpressionsJudged.{inside-both, expression-stands, judged-faulty, judged-long, judged-none, judged-next, judged-term, judged-kept}
+use Rattle.check_statements.proofs.ListWalk.{upto-done, faulty-first, done-answer, first-answer, faulty-answer}
 use Rattle.layout.specs.Types.{boolType}
 use Rattle.layout.proofs.Typing.{bool-in}
 

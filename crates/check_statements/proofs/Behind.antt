@@ -22,7 +22,7 @@ use Rattle.check_names.specs.declared.Scope.{Scope}
 use Rattle.check_names.specs.declared.Walked.{Walked}
 use Rattle.check_names.specs.declared.Walked.the-variants.{Upto, Faulty}
 use Rattle.check_statements.specs.Answers.{Lists, Done, Answer, Listed}
-use Rattle.check_statements.proofs.Walking.{upto-done, faulty-first, done-answer, faulty-answer}
+use Rattle.check_statements.proofs.ListWalk.{upto-done, faulty-first, done-answer, faulty-answer}
 
 -- so many words behind c
 pub record Behind (text code values : List ℕ) (k : Setting) (used c words : ℕ) : Type 0 where

@@ -34,9 +34,9 @@ use Rattle.check_compounds.specs.Here.{Here}
 use Rattle.check_statements.specs.Parts.{Plain, Plainly, Compacts, Compacted}
 use Rattle.check_statements.proofs.Same.{same-values}
 use Rattle.check_compounds.proofs.Frames.{outside-wider, outside-on, kept-outside, same-before, same-behind, same-on, here-part, term-same, linked-outside, linked-word}
-use Rattle.check_statements.proofs.Walking.{as-scope, done-answer, first-answer}
+use Rattle.check_statements.proofs.ListWalk.{as-scope, done-answer, first-answer}
 use Rattle.code.specs.Steps.{aCompactIf}
-use Rattle.check_compounds.proofs.Telling.{typed-fine, faulty-found}
+use Rattle.check_compounds.proofs.AnswerShapes.{typed-fine, faulty-found}
 
 -- ---- a simple statement from t up to its semicolon at n
 module _ (text code values : List ℕ) (a : Around text values) (k : Setting) (used t to : ℕ) (h : Here a code k used t to) (s : Simple) (n : ℕ)

@@ -29,7 +29,7 @@ use Rattle.check_statements.specs.Parts.{Elses, ElseWritten, Elsed}
 use Rattle.check_statements.proofs.Same.{same-values}
 use Rattle.check_compounds.proofs.Frames.{outside-wider, same-before, word-same, linked-outside, linked-word}
 use Rattle.check_statements.proofs.Behind.{Behind, behind-lists, behind-wrong, behind-closes, behind-list, behind-right}
-use Rattle.check_statements.proofs.Walking.{as-scope, done-answer}
+use Rattle.check_statements.proofs.ListWalk.{as-scope, done-answer}
 use Rattle.code.specs.Steps.{aPass}
 
 module _ (text code values : List ℕ) (k : Setting) (used c : ℕ) (g : Elses text code values k used c) where

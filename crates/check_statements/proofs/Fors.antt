@@ -44,11 +44,11 @@ use Rattle.check_statements.specs.Answers.{SameValues, Stands, Lists, Do
 use Rattle.check_compounds.specs.Here.{Outside}
 use Rattle.check_compounds.specs.Parts.{ForHeads, RawHead, ForMay, ForHeaded, ForEnded}
 use Rattle.check_compounds.proofs.Frames.{outside-wider, outside-on, kept-outside, same-before, same-behind, same-on, head-before, tail-before, bound-same, list-same, op-same, value-same, place-same, word-same, linked-outside, linked-word}
-use Rattle.check_statements.proofs.Walking.{as-scope, upto-done, faulty-first, done-answer, first-answer, faulty-answer}
-use Rattle.check_compounds.proofs.Telling.{typed-fine, faulty-found}
+use Rattle.check_statements.proofs.ListWalk.{as-scope, upto-done, faulty-first, done-answer, first-answer, faulty-answer}
+use Rattle.check_compounds.proofs.AnswerShapes.{typed-fine, faulty-found}
 use Rattle.check_compounds.proofs.Heads.{head-inside}
 use Rattle.check_compounds.proofs.Frames.{rewritten-outside}
-use Rattle.check_statements.proofs.Entering.{inner, enters, leaves-links, leaves}
+use Rattle.check_statements.proofs.ForScope.{inner, enters, leaves-links, leaves}
 use Rattle.code.specs.Steps.{aFor, aForTest}
 use Rattle.layout.specs.Rules.{tooMany, takenName}
 use Rattle.layout.specs.Kinds.{aLoop, cellWith}

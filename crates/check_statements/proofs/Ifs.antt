@@ -37,8 +37,8 @@ use Rattle.check_compounds.specs.Here.{Outside, Here}
 use Rattle.check_statements.specs.Answers.{Stands, Answer, StatementAnswer, Begins, Begun}
 use Rattle.check_statements.specs.Parts.{Compacts, Compacted, ThenAt, Thens, Thened}
 use Rattle.check_compounds.proofs.Frames.{outside-wider, kept-outside, here-on, calls-behind}
-use Rattle.check_compounds.proofs.Judging.{inside-both, expression-stands, judged-faulty, judged-long, judged-none, judged-next, judged-term, judged-kept}
-use Rattle.check_statements.proofs.Walking.{first-answer, answer-behind}
+use Rattle.check_compounds.proofs.ExpressionsJudged.{inside-both, expression-stands, judged-faulty, judged-long, judged-none, judged-next, judged-term, judged-kept}
+use Rattle.check_statements.proofs.ListWalk.{first-answer, answer-behind}
 use Rattle.check_statements.proofs.Arms.{then-order, rest-inside}
 use Rattle.layout.specs.Types.{boolType}
 use Rattle.layout.proofs.Typing.{bool-in}

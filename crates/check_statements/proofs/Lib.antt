@@ -1,5 +1,5 @@
 pub mod Same
-pub mod Walking
+pub mod ListWalk
 pub mod Whiles
 pub mod Compacts
 pub mod Behind
@@ -7,8 +7,8 @@ pub mod Elses
 pub mod Arms
 pub mod Ifs
 pub mod Dispatch
-pub mod Entering
+pub mod ForScope
 pub mod Fors
-pub mod Defaulting
-pub mod Choosing
+pub mod DefaultPart
+pub mod TestCases
 pub mod Tests

@@ -39,8 +39,8 @@ use Rattle.check_statements.specs.Answers.{Stands, Done, Answer, Stateme
 use Rattle.check_compounds.specs.Here.{Outside}
 use Rattle.check_statements.specs.Parts.{Chooses, CasesWritten, Chosen}
 use Rattle.check_compounds.proofs.Frames.{outside-wider, outside-on, kept-outside, same-before, same-behind, same-on, here-on, term-same, list-same, place-same, word-same, linked-outside, linked-word}
-use Rattle.check_compounds.proofs.Judging.{inside-both, expression-stands, judged-faulty, judged-long, judged-none, judged-next, judged-term, judged-kept}
-use Rattle.check_statements.proofs.Walking.{upto-done, faulty-first, done-answer, first-answer, faulty-answer}
+use Rattle.check_compounds.proofs.ExpressionsJudged.{inside-both, expression-stands, judged-faulty, judged-long, judged-none, judged-next, judged-term, judged-kept}
+use Rattle.check_statements.proofs.ListWalk.{upto-done, faulty-first, done-answer, first-answer, faulty-answer}
 use Rattle.check_compounds.proofs.Frames.{tail-before}
 use Rattle.code.specs.Steps.{aTest}
 use Rattle.layout.specs.Types.{numType}

@@ -38,8 +38,8 @@ use Rattle.check_statements.specs.Answers.{Stands, Lists, Done, Answer, 
 use Rattle.check_compounds.specs.Here.{Outside}
 use Rattle.check_compounds.specs.Parts.{WhileEnded}
 use Rattle.check_compounds.proofs.Frames.{outside-wider, outside-on, kept-outside, same-before, same-behind, same-on, tail-before, here-on, term-same, list-same, op-same, value-same, word-same, linked-outside, linked-word}
-use Rattle.check_compounds.proofs.Judging.{expression-stands, judged-faulty, judged-long, judged-none, judged-next, judged-term, judged-kept}
-use Rattle.check_statements.proofs.Walking.{upto-done, faulty-first, done-answer, first-answer, faulty-answer}
+use Rattle.check_compounds.proofs.ExpressionsJudged.{expression-stands, judged-faulty, judged-long, judged-none, judged-next, judged-term, judged-kept}
+use Rattle.check_statements.proofs.ListWalk.{upto-done, faulty-first, done-answer, first-answer, faulty-answer}
 use Rattle.code.specs.Steps.{aWhile}
 use Rattle.layout.specs.Types.{boolType}
 use Rattle.layout.proofs.Typing.{bool-in}

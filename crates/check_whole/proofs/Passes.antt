@@ -46,7 +46,7 @@ use Rattle.faults.proofs.First.{least-none, least-first}
 use Rattle.check_links.specs.Resolved.{Resolved}
 use Rattle.check_links.specs.Raw.{Ground}
 use Rattle.check_program.specs.Routines.{RawModule}
-use Rattle.check_program.proofs.Holding.{module-holds}
+use Rattle.check_program.proofs.ProgramHeld.{module-holds}
 use Rattle.check_heads.specs.Trees.{headsFor}
 use Rattle.grammar.proofs.Reading.{formed-parses}
 use Rattle.check_whole.proofs.Loaded.{module-words}

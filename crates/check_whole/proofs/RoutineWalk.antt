@@ -30,9 +30,9 @@ use Rattle.faults.proofs.Expressions.{grows}
 use Rattle.faults.proofs.Routines.{faults-are, found-in-left, left-on, left-end}
 use Rattle.check_links.specs.Raw.{SameWords}
 use Rattle.check_program.specs.Routines.{RawRoutines, no-routine}
-use Rattle.check_program.proofs.Framing.{routines-frame, routines-on}
+use Rattle.check_program.proofs.WalkStays.{routines-frame, routines-on}
 use Rattle.check_heads.specs.Trees.{wordOf, headFor, headsFor, earlierOf}
-use Rattle.check_heads.proofs.Numbering.{drop-next, drop-all, word-at, numbered-at}
+use Rattle.check_heads.proofs.RoutineNumbers.{drop-next, drop-all, word-at, numbered-at}
 use Rattle.check_around.specs.Around.{Unread}
 use Rattle.check_names.specs.declared.Scope.{Scope}
 use Rattle.check_names.specs.Scopes.{BackTo}

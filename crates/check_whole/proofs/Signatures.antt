@@ -25,9 +25,9 @@ use Rattle.grammar.proofs.Places.{routine-grows, routines-grow, declarations-gr
 use Rattle.faults.proofs.Expressions.{grows}
 use Rattle.check_links.specs.Raw.{Ground}
 use Rattle.check_program.specs.Routines.{RawRoutine, RawRoutines, no-routine, a-routine}
-use Rattle.check_program.proofs.Framing.{routines-order}
+use Rattle.check_program.proofs.WalkStays.{routines-order}
 use Rattle.check_heads.specs.Trees.{wordOf, headFor, headsFor}
-use Rattle.check_heads.proofs.Numbering.{word-at}
+use Rattle.check_heads.proofs.RoutineNumbers.{word-at}
 use Rattle.check_routines.specs.Answers.{Spares}
 
 -- ---- one signature

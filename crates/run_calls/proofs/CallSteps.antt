@@ -41,7 +41,7 @@ use Rattle.run_machine.proofs.Agreeing.{location-any}
 use Rattle.run_targets.proofs.Elements.{cell-most}
 use Rattle.run_machine.proofs.States.{roomy, depth-is}
 use Rattle.run_targets.proofs.References.{spot-found, ref-location}
-use Rattle.run_targets.proofs.Assigning.{memory-is}
+use Rattle.run_targets.proofs.TargetStores.{memory-is}
 use Rattle.layout.specs.Answers.{answers, lacked}
 use Rattle.run_calls.proofs.Called.{call-passes, here-after, call-fails, answer-signed, answer-fits, answer-closes, call-lacks, call-may, call-enters}
 

@@ -37,7 +37,7 @@ use Rattle.run_machine.proofs.Current as here
 use Rattle.layout.specs.Answers.{answers, lacked}
 use Rattle.paper.specs.Answer.{storeWords}
 use Rattle.paper.specs.Words.{wordLimit}
-use Rattle.run_targets.proofs.Assigning.{memory-is}
+use Rattle.run_targets.proofs.TargetStores.{memory-is}
 
 -- ---- what the answer for the arguments tells
 pub record Given (c : Counts) (values after : List ℕ) (base : ℕ) (room : Bool) (es : List Term) (closes : ℕ) (r : ℤ) : Type 0 where

@@ -1,5 +1,5 @@
-pub mod Passing
-pub mod Entering
+pub mod ArgumentsPassed
+pub mod CallEntered
 pub mod Called
 pub mod CallSteps
 pub mod CallTargets

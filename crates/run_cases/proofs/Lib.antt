@@ -1,2 +1,2 @@
-pub mod Selecting
+pub mod TestValues
 pub mod TestSteps

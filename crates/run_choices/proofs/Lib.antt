@@ -1,2 +1,2 @@
-pub mod Choosing
+pub mod ChoiceSteps
 pub mod Conditions

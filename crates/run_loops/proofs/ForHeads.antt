@@ -42,7 +42,7 @@ use Rattle.run_machine.proofs.Living.{routine-code, live-next, live-call}
 use Rattle.run_machine.proofs.Current.{codeHere, stepHere, m, n, callHere, stateHere, action-here, routine-holds, whole-here, counts-here, stands-here, memory-here}
 use Rattle.run_machine.proofs.Current.{named-after, named-targets, loop-here, small-name, step-in, effect-here, value-here, failed-here, error-is, told-error, told-value, performs}
 use Rattle.run_machine.proofs.Deciding.{stepsHere}
-use Rattle.run_loops.proofs.Looping.{word-goes}
+use Rattle.run_loops.proofs.ForTests.{word-goes}
 
 -- ---- the step, given or not
 step-as : (M : Memory) (c : Option Term) (z y : ℤ) (s : State) (go : ℤ → Effect) → withStep M c z y s go ≡ withValue (stepWorth M c z y) s go

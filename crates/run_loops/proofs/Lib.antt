@@ -1,2 +1,2 @@
-pub mod Looping
+pub mod ForTests
 pub mod ForHeads

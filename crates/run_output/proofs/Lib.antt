@@ -1,6 +1,6 @@
-pub mod Copying
+pub mod StringCharacters
 pub mod Inputs
 pub mod Lines
-pub mod Printing
-pub mod PrintingOf
-pub mod Prompting
+pub mod OneLine
+pub mod TPWriteNumber
+pub mod TPReadNum

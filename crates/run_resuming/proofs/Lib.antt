@@ -1,2 +1,2 @@
-pub mod Following
-pub mod Resuming
+pub mod NextStep
+pub mod RetryTryNext

@@ -1,1 +1,1 @@
-pub mod Returning
+pub mod ReturnSteps

@@ -28,7 +28,7 @@ use Rattle.store_reading.specs.Reading.{halfEnd, Part, cellValues}
 use Rattle.run_starting.specs.Starting.{Holding, Wrote, Filled, Idle, Idled, Starts, Started}
 use Rattle.run_machine.proofs.Actions.{first-is, second-is}
 use Rattle.run_machine.proofs.Hops.{hops, hops-on, hops-end, hops-less}
-use Rattle.run_starting.proofs.Writing.{wrote-none, wrote-more, holding-same}
+use Rattle.run_starting.proofs.CellsWritten.{wrote-none, wrote-more, holding-same}
 
 -- ---- what a datum's word says
 module _ (C : List ℕ) where

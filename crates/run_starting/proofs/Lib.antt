@@ -1,3 +1,3 @@
-pub mod Writing
+pub mod CellsWritten
 pub mod DataWords
 pub mod Fresh

@@ -28,7 +28,7 @@ use Rattle.run_machine.proofs.Current as here
 use Rattle.layout.specs.Answers.{ended, handed}
 use Rattle.layout.specs.Rules.{exited, fellOff}
 use Rattle.layout.specs.Parts.{sizePart}
-use Rattle.run_output.proofs.Printing.{count-is, silent}
+use Rattle.run_output.proofs.OneLine.{count-is, silent}
 
 -- ---- what the last arm knows: the op is none of the k from 128 on
 unfoldable pub NoneOf : (op k : ℕ) → Type 0

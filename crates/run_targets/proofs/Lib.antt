@@ -1,5 +1,5 @@
-pub mod Assigning
+pub mod TargetStores
 pub mod Elements
 pub mod References
 pub mod StoreSteps
-pub mod Targeting
+pub mod TargetWords

@@ -32,8 +32,8 @@ use Rattle.run_machine.proofs.Actions.{op-low, reads-store, Stores as Reads}
 use Rattle.run_machine.proofs.Current as here
 use Rattle.run_targets.proofs.Elements.{cell-most}
 use Rattle.run_targets.proofs.References.{spot-lost}
-use Rattle.run_targets.proofs.Targeting.{word-read, ArrayRead, array-read, array-more, array-indexes, array-tells, told-less, told-error}
-use Rattle.run_targets.proofs.Assigning.{memory-is}
+use Rattle.run_targets.proofs.TargetWords.{word-read, ArrayRead, array-read, array-more, array-indexes, array-tells, told-less, told-error}
+use Rattle.run_targets.proofs.TargetStores.{memory-is}
 
 -- ---- where the target of any step is
 module _ (code values : List ℕ) (base i : ℕ) (h : Here code values base i) (ops : ℕ) (s : Spot) (j : ℕ)

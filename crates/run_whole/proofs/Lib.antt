@@ -1,3 +1,3 @@
-pub mod Stopping
-pub mod Beginning
+pub mod RunStops
+pub mod RunBegins
 pub mod Turns

@@ -40,7 +40,7 @@ use Rattle.run_machine.proofs.Elsewhere.{elsewhere}
 use Rattle.layout.specs.Answers.{answers, lacked}
 use Rattle.layout.specs.Rules.{beyondDepth}
 use Rattle.paper.specs.Words.{wordLimit}
-use Rattle.run_output.proofs.Printing.{count-is}
+use Rattle.run_output.proofs.OneLine.{count-is}
 
 -- ---- one step of the paper's run
 module _ (P : Program) (rooms : Rooms) (n : ℕ) (s : State) where

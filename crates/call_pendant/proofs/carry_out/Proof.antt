@@ -1,5 +1,5 @@
 use borrow.Author.Needs.{needs}
-use Rattle.call_pendant.proofs.Carrying.{starts, steps-left, settles, carried}
+use Rattle.call_pendant.proofs.CarriedOut.{starts, steps-left, settles, carried}
 use Rattle.call_pendant.proofs.carry_out.Statement.{statement}
 use Rattle.call_pendant.proofs.carry_out.Tie as tie
 

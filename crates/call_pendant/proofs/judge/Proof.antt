@@ -1,5 +1,5 @@
 use borrow.Author.Needs.{needs}
-use Rattle.call_pendant.proofs.Judging.{accepts, judged-refused, judged-carried}
+use Rattle.call_pendant.proofs.TextJudged.{accepts, judged-refused, judged-carried}
 use Rattle.call_pendant.proofs.judge.Statement.{statement}
 use Rattle.call_pendant.proofs.judge.Tie as tie
 

@@ -1,5 +1,5 @@
 use borrow.Author.Needs.{needs}
-use Rattle.call_pendant.proofs.Judging.{deep-empties, deep-refused}
+use Rattle.call_pendant.proofs.TextJudged.{deep-empties, deep-refused}
 use Rattle.call_pendant.proofs.refuse_depth.Statement.{statement}
 use Rattle.call_pendant.proofs.refuse_depth.Tie as tie
 

@@ -1,7 +1,7 @@
 use Rattle.paper.specs.Words.{wordLimit}
 use borrow.Author.Needs.{needs}
-use Rattle.check_compounds.proofs.Holding.{read-in-num, held-as}
-use Rattle.check_compounds.proofs.Valuing.{Valuings, values-begin, value-room, value-asks, value-ranged, value-next, value-long, value-wrong, values-end, values-go}
+use Rattle.check_compounds.proofs.NumbersHeld.{read-in-num, held-as}
+use Rattle.check_compounds.proofs.ValuesOfCase.{Valuings, values-begin, value-room, value-asks, value-ranged, value-next, value-long, value-wrong, values-end, values-go}
 use Prim.Native.Nat.{_-_}
 use native.Mathlib.Omega.{arith}
 use Rattle.check_compounds.proofs.case_values.Statement.{statement}

@@ -1,5 +1,5 @@
 use borrow.Author.Needs.{needs}
-use Rattle.check_compounds.proofs.Linking.{Linkings, link-begins, link-room, link-long, link-next, link-ends, link-goes, link-less}
+use Rattle.check_compounds.proofs.CaseLinks.{Linkings, link-begins, link-room, link-long, link-next, link-ends, link-goes, link-less}
 use Prim.Native.Nat.{_-_}
 use mathlib.Core.Path.{refl}
 use native.Mathlib.Omega.{arith}

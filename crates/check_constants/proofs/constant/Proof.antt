@@ -1,5 +1,5 @@
 use borrow.Author.Needs.{needs}
-use Rattle.check_constants.proofs.Working.{stores, answers-faulty, evaluable, answers-value, answers-error}
+use Rattle.check_constants.proofs.ConstantsWorth.{stores, answers-faulty, evaluable, answers-value, answers-error}
 use Rattle.check_constants.proofs.constant.Statement.{statement}
 use Rattle.check_constants.proofs.constant.Tie as tie
 

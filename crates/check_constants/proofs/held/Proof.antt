@@ -1,5 +1,5 @@
 use borrow.Author.Needs.{needs}
-use Rattle.check_constants.proofs.Holding.{held-fits, held-cast, held-is}
+use Rattle.check_constants.proofs.NumbersHeld.{held-fits, held-cast, held-is}
 use Rattle.check_constants.proofs.held.Statement.{statement}
 use Rattle.check_constants.proofs.held.Tie as tie
 

@@ -1,6 +1,6 @@
 use borrow.Author.Needs.{needs}
 use Rattle.layout.proofs.Typing.{num-type}
-use Rattle.check_constants.proofs.Working.{size-faulty, size-low, size-high, size-cast, size-fine}
+use Rattle.check_constants.proofs.ConstantsWorth.{size-faulty, size-low, size-high, size-cast, size-fine}
 use Rattle.check_constants.proofs.size.Statement.{statement}
 use Rattle.check_constants.proofs.size.Tie as tie
 

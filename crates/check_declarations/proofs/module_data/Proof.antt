@@ -4,7 +4,7 @@ use native.Mathlib.Omega.{arith}
 use Rattle.paper.specs.Words.{wordLimit}
 use Rattle.check_names.specs.Scopes.{Grown}
 use Rattle.check_names.proofs.Growing.{grown-self, grown-on, grown-upto, stays-on}
-use Rattle.check_declarations.proofs.Walking.{ModuleWalk, module-begun, module-room, module-datum, module-near, module-faulty, module-falls, module-long, module-long-values, module-on, module-done}
+use Rattle.check_declarations.proofs.DataWalk.{ModuleWalk, module-begun, module-room, module-datum, module-near, module-faulty, module-falls, module-long, module-long-values, module-on, module-done}
 use Rattle.check_declarations.proofs.module_data.Statement.{statement}
 use Rattle.check_declarations.proofs.module_data.Tie as tie
 

@@ -5,7 +5,7 @@ use native.Mathlib.Omega.{arith}
 use Rattle.paper.specs.Words.{wordLimit}
 use Rattle.check_names.specs.Scopes.{Grown}
 use Rattle.check_names.proofs.Growing.{grown-self, grown-on, grown-upto, stays-on}
-use Rattle.check_declarations.proofs.Routing.{RoutineWalk, routine-begun, routine-room, last-room, routine-small, routine-long, routine-long-values, routine-datum, routine-near, routine-faulty, routine-falls, routine-on, routine-done}
+use Rattle.check_declarations.proofs.RoutineWalk.{RoutineWalk, routine-begun, routine-room, last-room, routine-small, routine-long, routine-long-values, routine-datum, routine-near, routine-faulty, routine-falls, routine-on, routine-done}
 use Rattle.check_declarations.proofs.routine_data.Statement.{statement}
 use Rattle.check_declarations.proofs.routine_data.Tie as tie
 

@@ -7,7 +7,7 @@ use native.Mathlib.Omega.{arith}
 use Rattle.paper.specs.Words.{wordLimit}
 use Rattle.check_expressions.proofs.Starts.{begins-room, begins-next, begins-add, begins-add-2, begins-near, begins-falls, name-meant, element-stands, element-some, element-falls, index-short, paren-stands, paren-some, paren-falls, inner-short, part-stands, part-short, literal-small}
 use Rattle.check_expressions.proofs.Starts.{began-room, began-name, began-wrong, began-element, began-paren, began-signed, began-literal}
-use Rattle.check_expressions.proofs.Climbing.{Runs, wordsLeft, stands-begins, runs-first, run-faulty, run-long, run-room, run-add, run-falls, run-none, run-loose, run-wrong, run-right, run-joins, run-less, run-on}
+use Rattle.check_expressions.proofs.OperatorChain.{Runs, wordsLeft, stands-begins, runs-first, run-faulty, run-long, run-room, run-add, run-falls, run-none, run-loose, run-wrong, run-right, run-joins, run-less, run-on}
 use borrow.Fn.Kinds.{In}
 use borrow.Fn.PlainCycle.{Measures, is, falls, and}
 use Rattle.check_expressions.proofs.begin.Reads as begin

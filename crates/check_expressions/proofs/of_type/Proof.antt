@@ -1,5 +1,5 @@
 use borrow.Author.Needs.{needs}
-use Rattle.check_expressions.proofs.Climbing.{typed-faulty, typed-wrong, typed-right}
+use Rattle.check_expressions.proofs.OperatorChain.{typed-faulty, typed-wrong, typed-right}
 use Rattle.check_expressions.proofs.of_type.Statement.{statement}
 use Rattle.check_expressions.proofs.of_type.Tie as tie
 

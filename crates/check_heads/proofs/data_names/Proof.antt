@@ -1,7 +1,7 @@
 -- `check_heads::data_names` meets its contract.
 use Prim.Native.Nat.{_-_}
 use lib.ListN.{length}
-use Rattle.check_heads.proofs.Announcing.{DataGo, data-start, data-done, data-announce, data-ends, data-again}
+use Rattle.check_heads.proofs.DataToCome.{DataGo, data-start, data-done, data-announce, data-ends, data-again}
 use borrow.Author.Needs.{needs}
 use Rattle.check_heads.proofs.data_names.Statement.{statement}
 use Rattle.check_heads.proofs.data_names.Tie as tie

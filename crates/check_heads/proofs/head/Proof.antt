@@ -1,6 +1,6 @@
 -- `check_heads::head` meets its contract.
 use native.Mathlib.Omega.{arith}
-use Rattle.check_heads.proofs.Heading.{head-room, head-small, name-small, head-parameters, head-begun}
+use Rattle.check_heads.proofs.RoutineHead.{head-room, head-small, name-small, head-parameters, head-begun}
 use borrow.Author.Needs.{needs}
 use Rattle.check_heads.proofs.head.Statement.{statement}
 use Rattle.check_heads.proofs.head.Tie as tie

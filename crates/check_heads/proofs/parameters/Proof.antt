@@ -1,7 +1,7 @@
 -- `check_heads::parameters` meets its contract.
 use Prim.Native.Nat.{_-_}
 use lib.ListN.{length}
-use Rattle.check_heads.proofs.Marking.{ParamsGo, params-room, params-none, params-start, params-on, params-end}
+use Rattle.check_heads.proofs.ParameterMarks.{ParamsGo, params-room, params-none, params-start, params-on, params-end}
 use borrow.Author.Needs.{needs}
 use Rattle.check_heads.proofs.parameters.Statement.{statement}
 use Rattle.check_heads.proofs.parameters.Tie as tie

@@ -1,5 +1,5 @@
 -- `check_heads::read` meets its contract.
-use Rattle.check_heads.proofs.Whole.{read-data, routines-asked, read-done}
+use Rattle.check_heads.proofs.WholePass.{read-data, routines-asked, read-done}
 use borrow.Author.Needs.{needs}
 use Rattle.check_heads.proofs.read.Statement.{statement}
 use Rattle.check_heads.proofs.read.Tie as tie

@@ -2,7 +2,7 @@
 use Prim.Native.Nat.{_-_}
 use native.Mathlib.Omega.{arith}
 use lib.ListN.{length}
-use Rattle.check_heads.proofs.Walking.{RoutinesGo, routines-start, routines-done, head-asks, name-asks, next-asks, name-further, routines-again}
+use Rattle.check_heads.proofs.AllRoutines.{RoutinesGo, routines-start, routines-done, head-asks, name-asks, next-asks, name-further, routines-again}
 use borrow.Author.Needs.{needs}
 use Rattle.check_heads.proofs.routines.Statement.{statement}
 use Rattle.check_heads.proofs.routines.Tie as tie

@@ -3,7 +3,7 @@ use Prim.Native.Nat.{_-_, _<_, _≤_}
 use native.Mathlib.Omega.{arith}
 use Rattle.store_cells.specs.Cells.{cellsOf}
 use Rattle.paper.specs.Words.{wordLimit}
-use Rattle.check_leaving.proofs.Parting.{chainLength, DataLeft, head-room, data-kept, datum-room, data-values, name-adds, name-room, name-table, name-links, data-fall, data-leave, data-left}
+use Rattle.check_leaving.proofs.NamesAgain.{chainLength, DataLeft, head-room, data-kept, datum-room, data-values, name-adds, name-room, name-table, name-links, data-fall, data-leave, data-left}
 use Rattle.check_leaving.proofs.leave_data.Statement.{statement}
 use Rattle.check_leaving.proofs.leave_data.Tie as tie
 

@@ -1,7 +1,7 @@
 use borrow.Author.Needs.{needs}
 use Prim.Native.Nat.{_-_, _<_, _≤_}
 use native.Mathlib.Omega.{arith}
-use Rattle.check_leaving.proofs.Parting.{ParametersLeft, parameters-kept, leave-room, leave-table, leave-links, leave-adds, next-adds, parameters-leave, left-values, parameters-left}
+use Rattle.check_leaving.proofs.NamesAgain.{ParametersLeft, parameters-kept, leave-room, leave-table, leave-links, leave-adds, next-adds, parameters-leave, left-values, parameters-left}
 use Rattle.check_leaving.proofs.leave_parameters.Statement.{statement}
 use Rattle.check_leaving.proofs.leave_parameters.Tie as tie
 

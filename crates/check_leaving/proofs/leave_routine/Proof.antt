@@ -1,5 +1,5 @@
 use borrow.Author.Needs.{needs}
-use Rattle.check_leaving.proofs.Parting.{leaving-parameters, leaving-data, routine-left}
+use Rattle.check_leaving.proofs.NamesAgain.{leaving-parameters, leaving-data, routine-left}
 use Rattle.check_leaving.proofs.leave_routine.Statement.{statement}
 use Rattle.check_leaving.proofs.leave_routine.Tie as tie
 

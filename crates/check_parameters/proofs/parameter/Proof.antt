@@ -1,5 +1,5 @@
 use borrow.Author.Needs.{needs}
-use Rattle.check_parameters.proofs.Passing.{parameter-taken, parameter-crosses, parameter-goes, counting-few, counting-fits, parameter-opens}
+use Rattle.check_parameters.proofs.ParameterWalk.{parameter-taken, parameter-crosses, parameter-goes, counting-few, counting-fits, parameter-opens}
 use Rattle.check_parameters.proofs.parameter.Statement.{statement}
 use Rattle.check_parameters.proofs.parameter.Tie as tie
 

@@ -2,8 +2,8 @@ use borrow.Author.Needs.{needs}
 use Prim.Native.Nat.{_-_, _<_, _≤_}
 use native.Mathlib.Omega.{arith}
 use Rattle.paper.specs.Words.{wordLimit}
-use Rattle.check_parameters.proofs.Passing.{ParametersWalk, parameters-room, parameters-none, parameters-begun, parameters-next, parameters-long, parameters-long-values, parameters-faulty, end-room, behind-adds, parameters-fall, parameters-done, parameters-go}
-use Rattle.check_parameters.proofs.Passing.{unopened-self, opened-names, opens-upto, opens-faulty}
+use Rattle.check_parameters.proofs.ParameterWalk.{ParametersWalk, parameters-room, parameters-none, parameters-begun, parameters-next, parameters-long, parameters-long-values, parameters-faulty, end-room, behind-adds, parameters-fall, parameters-done, parameters-go}
+use Rattle.check_parameters.proofs.ParameterWalk.{unopened-self, opened-names, opens-upto, opens-faulty}
 use Rattle.check_parameters.specs.Answers.{Opened}
 use Rattle.check_parameters.proofs.parameters.Statement.{statement}
 use Rattle.check_parameters.proofs.parameters.Tie as tie

@@ -2,7 +2,7 @@
 use borrow.Author.Needs.{needs}
 use native.Mathlib.Omega.{arith}
 use Rattle.check_names.proofs.Growing.{grown-upto}
-use Rattle.check_routines.proofs.Whole.{back-wrong, data-name, data-head, data-opens, data-lists, data-words, data-at, lists-so, used-few, used-most, scope-leaving, scope-done}
+use Rattle.check_routines.proofs.BehindTheName.{back-wrong, data-name, data-head, data-opens, data-lists, data-words, data-at, lists-so, used-few, used-most, scope-leaving, scope-done}
 use Rattle.check_routines.proofs.behind_data.Statement.{statement}
 use Rattle.check_routines.proofs.behind_data.Tie as tie
 

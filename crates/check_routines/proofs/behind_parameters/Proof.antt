@@ -2,7 +2,7 @@
 use borrow.Author.Needs.{needs}
 use native.Mathlib.Omega.{arith}
 use Rattle.check_names.proofs.Growing.{grown-upto}
-use Rattle.check_routines.proofs.Whole.{back-wrong, own-name, own-close, own-stands, data-so, data-declared, own-passed}
+use Rattle.check_routines.proofs.BehindTheName.{back-wrong, own-name, own-close, own-stands, data-so, data-declared, own-passed}
 use Rattle.check_routines.proofs.behind_parameters.Statement.{statement}
 use Rattle.check_routines.proofs.behind_parameters.Tie as tie
 

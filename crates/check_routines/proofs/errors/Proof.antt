@@ -1,7 +1,7 @@
 use borrow.Author.Needs.{needs}
 use mathlib.Core.Path.{refl}
 use native.Mathlib.Omega.{arith}
-use Rattle.check_routines.proofs.Erring.{closes-room, closes-small, errors-list, errors-none, errors-faulty, next-room, next-small, errors-some}
+use Rattle.check_routines.proofs.ErrorList.{closes-room, closes-small, errors-list, errors-none, errors-faulty, next-room, next-small, errors-some}
 use Rattle.check_names.proofs.Growing.{grown-self, grown-upto}
 use Rattle.check_routines.proofs.errors.Statement.{statement}
 use Rattle.check_routines.proofs.errors.Tie as tie

@@ -1,6 +1,6 @@
 use borrow.Author.Needs.{needs}
 use native.Mathlib.Omega.{arith}
-use Rattle.check_routines.proofs.Listing.{lists-list, first-faulty, e-room, e-small, lists-errors, second-faulty, link-room, link-small, leads-few, lists-done}
+use Rattle.check_routines.proofs.BothLists.{lists-list, first-faulty, e-room, e-small, lists-errors, second-faulty, link-room, link-small, leads-few, lists-done}
 use Rattle.check_names.proofs.Growing.{grown-on, grown-upto, stays-on, has-word}
 use Rattle.check_routines.proofs.lists.Statement.{statement}
 use Rattle.check_routines.proofs.lists.Tie as tie

@@ -1,7 +1,7 @@
 use borrow.Author.Needs.{needs}
 use borrow.Author.Tests.{not-true, not-false}
 use mathlib.Core.Path.{sym, _∙_}
-use Rattle.check_routines.proofs.Routing.{head-room, head-small, name-room, routine-taken, routine-many, routine-scope, routine-done}
+use Rattle.check_routines.proofs.RoutineRules.{head-room, head-small, name-room, routine-taken, routine-many, routine-scope, routine-done}
 use Rattle.check_routines.proofs.routine.Statement.{statement}
 use Rattle.check_routines.proofs.routine.Tie as tie
 use Rattle.check_routines.proofs.routine.Reads as reads

@@ -1,7 +1,7 @@
 -- `check_routines::scope` meets its contract.
 use borrow.Author.Needs.{needs}
 use native.Mathlib.Omega.{arith}
-use Rattle.check_routines.proofs.Whole.{name-small, scope-parameters, parameters-so, parameters-declared, scope-passed, back-wrong, entered-first, entered-none, opened-routine, opened-count}
+use Rattle.check_routines.proofs.BehindTheName.{name-small, scope-parameters, parameters-so, parameters-declared, scope-passed, back-wrong, entered-first, entered-none, opened-routine, opened-count}
 use Rattle.check_routines.proofs.scope.Statement.{statement}
 use Rattle.check_routines.proofs.scope.Tie as tie
 

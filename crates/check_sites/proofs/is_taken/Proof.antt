@@ -1,5 +1,5 @@
 use borrow.Author.Needs.{needs}
-use Rattle.check_sites.proofs.Taking.{taken-protected, not-known, not-data, data-here}
+use Rattle.check_sites.proofs.TakenNames.{taken-protected, not-known, not-data, data-here}
 use Rattle.check_sites.proofs.is_taken.Statement.{statement}
 use Rattle.check_sites.proofs.is_taken.Tie as tie
 

@@ -2,7 +2,7 @@ use Rattle.paper.specs.Words.{wordLimit}
 use borrow.Author.Needs.{needs}
 use Prim.Native.Nat.{_+_, _-_, _*_}
 use native.Mathlib.Omega.{arith}
-use Rattle.check_statements.proofs.Walking.{stays-wrong, Goings, list-begins, list-long, list-values, list-forward, list-room, list-ends, list-stands, list-less, list-faulty, list-goes}
+use Rattle.check_statements.proofs.ListWalk.{stays-wrong, Goings, list-begins, list-long, list-values, list-forward, list-room, list-ends, list-stands, list-less, list-faulty, list-goes}
 use Rattle.check_statements.proofs.Dispatch.{stands-room, stands-early, begins-by, stated-by, plain-by, stated-plain}
 use Rattle.check_statements.proofs.Whiles.{while-condition, while-forward, while-lists, while-closes, while-wrong, while-list-wrong, while-finished}
 use Rattle.check_statements.proofs.Elses.{else-room, else-lists, else-closes, else-no, else-wrong, else-yes}
@@ -10,8 +10,8 @@ use Rattle.check_statements.proofs.Arms.{Armings, arms-begin, arm-lists
 use Rattle.check_statements.proofs.Ifs.{if-condition, if-room, if-forward, if-compacts, if-thens, if-wrong, if-compact, if-full}
 use mathlib.Core.Path.{refl}
 use Rattle.check_statements.proofs.Fors.{entered-used, entered-word, entered-opened, left-used, entered-left, entered-grown, for-heads, for-declares, for-spare, for-lists, for-listed, for-closes, for-leaves, for-wrong, for-list-wrong, for-long, for-finished}
-use Rattle.check_statements.proofs.Defaulting.{default-room, default-lists, default-closes, default-no, default-wrong, default-yes}
-use Rattle.check_statements.proofs.Choosing.{Casings, cases-begin, case-room, case-long, case-values-long, case-defaults, case-values-stand, case-lists, case-colon, case-closes, case-links, cases-finished, case-wrong, case-list-wrong, cases-go}
+use Rattle.check_statements.proofs.DefaultPart.{default-room, default-lists, default-closes, default-no, default-wrong, default-yes}
+use Rattle.check_statements.proofs.TestCases.{Casings, cases-begin, case-room, case-long, case-values-long, case-defaults, case-values-stand, case-lists, case-colon, case-closes, case-links, cases-finished, case-wrong, case-list-wrong, cases-go}
 use Rattle.check_statements.proofs.Tests.{test-selector, test-chooses, test-forward, test-room, test-wrong, test-cases-wrong, test-finished}
 use Rattle.store_writing.proofs.Rewriting.{rewritten-length}
 use Rattle.check_names.specs.Scopes.{Grown}

@@ -1,6 +1,6 @@
 use borrow.Author.Needs.{needs}
 use Rattle.store_cells.specs.Cells.{cellsOf}
-use Rattle.run_calls.proofs.Passing.{Passing, argumentsLeft, next-small, none-passed, passing, pass-stores, pass-stands, pass-inside, pass-next, pass-fails, pass-small, pass-last, pass-on, comma-inside, comma-next, comma-less}
+use Rattle.run_calls.proofs.ArgumentsPassed.{Passing, argumentsLeft, next-small, none-passed, passing, pass-stores, pass-stands, pass-inside, pass-next, pass-fails, pass-small, pass-last, pass-on, comma-inside, comma-next, comma-less}
 use Rattle.run_calls.proofs.arguments.Statement.{statement}
 use Rattle.run_calls.proofs.arguments.Tie as tie
 

@@ -1,5 +1,5 @@
 use borrow.Author.Needs.{needs}
-use Rattle.run_calls.proofs.Entering.{step-fits, after-fits, result-fits, word-inside, enter-starts, enter-done}
+use Rattle.run_calls.proofs.CallEntered.{step-fits, after-fits, result-fits, word-inside, enter-starts, enter-done}
 use Rattle.run_calls.proofs.enter.Statement.{statement}
 use Rattle.run_calls.proofs.enter.Tie as tie
 

@@ -1,5 +1,5 @@
 use borrow.Author.Needs.{needs}
-use Rattle.run_calls.proofs.Passing.{comma-in, comma-past}
+use Rattle.run_calls.proofs.ArgumentsPassed.{comma-in, comma-past}
 use Rattle.run_calls.proofs.is_comma.Statement.{statement}
 use Rattle.run_calls.proofs.is_comma.Tie as tie
 

@@ -1,5 +1,5 @@
 use borrow.Author.Needs.{needs}
-use Rattle.run_calls.proofs.Passing.{packed-is}
+use Rattle.run_calls.proofs.ArgumentsPassed.{packed-is}
 use Rattle.run_calls.proofs.packed.Statement.{statement}
 use Rattle.run_calls.proofs.packed.Tie as tie
 

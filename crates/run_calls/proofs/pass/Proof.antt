@@ -1,5 +1,5 @@
 use borrow.Author.Needs.{needs}
-use Rattle.run_calls.proofs.Passing.{let-stored, let-same}
+use Rattle.run_calls.proofs.ArgumentsPassed.{let-stored, let-same}
 use Rattle.run_calls.proofs.pass.Statement.{statement}
 use Rattle.run_calls.proofs.pass.Tie as tie
 

@@ -1,10 +1,10 @@
 use mir.Syntax.{w64}
 use mir.Val.{toZ}
 use borrow.Author.Needs.{needs}
-use Rattle.run_cases.proofs.Selecting.{Searching, wordsLeft}
+use Rattle.run_cases.proofs.TestValues.{Searching, wordsLeft}
 use Rattle.run_cases.proofs.matching.Statement.{statement}
 use Rattle.run_cases.proofs.matching.Tie as tie
-use Rattle.run_cases.proofs.Selecting.{key-fits, search-begins, search-in, search-ends, search-finds, search-on, search-less}
+use Rattle.run_cases.proofs.TestValues.{key-fits, search-begins, search-in, search-ends, search-finds, search-on, search-less}
 
 abbrev Inv-loop : tie.InvT-loop
 Inv-loop code first v key j₀ j = Searching code first (toZ w64 v) j

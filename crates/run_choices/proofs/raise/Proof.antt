@@ -4,7 +4,7 @@ use Rattle.run_choices.proofs.raise.Tie as tie
 use native.Mathlib.Omega.{arith}
 use Rattle.run_machine.proofs.Current.{stores-here}
 use Rattle.run_machine.proofs.Deciding.{word-in}
-use Rattle.run_choices.proofs.Choosing.{raise-stands, raise-fails, raise-low, raise-high, raise-fits, raise-given}
+use Rattle.run_choices.proofs.ChoiceSteps.{raise-stands, raise-fails, raise-low, raise-high, raise-fits, raise-given}
 
 add-worth : tie.Need-add-worth
 add-worth c = omega (arith, word-in _ _ _ _ (c .before .before .pre .0))

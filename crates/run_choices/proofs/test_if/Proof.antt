@@ -4,7 +4,7 @@ use Rattle.run_choices.proofs.test_if.Tie as tie
 use native.Mathlib.Omega.{arith}
 use Rattle.run_machine.proofs.Current.{stores-here}
 use Rattle.run_machine.proofs.Deciding.{word-in}
-use Rattle.run_choices.proofs.Choosing.{if-stands, if-small, if-fails, if-then, if-else}
+use Rattle.run_choices.proofs.ChoiceSteps.{if-stands, if-small, if-fails, if-then, if-else}
 
 add-worth : tie.Need-add-worth
 add-worth c = omega (arith, word-in _ _ _ _ (c .before .before .pre .0))

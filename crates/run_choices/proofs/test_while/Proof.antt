@@ -4,7 +4,7 @@ use Rattle.run_choices.proofs.test_while.Tie as tie
 use native.Mathlib.Omega.{arith}
 use Rattle.run_machine.proofs.Current.{stores-here}
 use Rattle.run_machine.proofs.Deciding.{word-in}
-use Rattle.run_choices.proofs.Choosing.{while-stands, while-body-in, while-fails, while-body, while-after}
+use Rattle.run_choices.proofs.ChoiceSteps.{while-stands, while-body-in, while-fails, while-body, while-after}
 
 add-worth : tie.Need-add-worth
 add-worth c = omega (arith, word-in _ _ _ _ (c .before .before .pre .0))

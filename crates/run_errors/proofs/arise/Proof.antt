@@ -1,5 +1,5 @@
 use borrow.Author.Needs.{needs}
-use Rattle.run_errors.proofs.Unwinding.{raised-cast, raised-sub, raised-small, arise-here, arise-fails, arise-main, arise-up, arise-hands}
+use Rattle.run_errors.proofs.CallsDropped.{raised-cast, raised-sub, raised-small, arise-here, arise-fails, arise-main, arise-up, arise-hands}
 use Rattle.run_errors.proofs.arise.Statement.{statement}
 use Rattle.run_errors.proofs.arise.Tie as tie
 

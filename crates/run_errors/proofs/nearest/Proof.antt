@@ -1,5 +1,5 @@
 use borrow.Author.Needs.{needs}
-use Rattle.run_errors.proofs.Unwinding.{Seeking, seek-start, seek-routine, seek-get, seek-add, seek-sub, seek-less, seek-on, nearest-found, nearest-main}
+use Rattle.run_errors.proofs.CallsDropped.{Seeking, seek-start, seek-routine, seek-get, seek-add, seek-sub, seek-less, seek-on, nearest-found, nearest-main}
 use Rattle.run_errors.proofs.nearest.Statement.{statement}
 use Rattle.run_errors.proofs.nearest.Tie as tie
 

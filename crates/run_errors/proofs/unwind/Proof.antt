@@ -1,5 +1,5 @@
 use borrow.Author.Needs.{needs}
-use Rattle.run_errors.proofs.Unwinding.{found-routine, found-get, found-add, found-small, unwind-none, unwind-dies, unwind-takes}
+use Rattle.run_errors.proofs.CallsDropped.{found-routine, found-get, found-add, found-small, unwind-none, unwind-dies, unwind-takes}
 use Rattle.run_errors.proofs.unwind.Statement.{statement}
 use Rattle.run_errors.proofs.unwind.Tie as tie
 

@@ -1,7 +1,7 @@
 use borrow.Author.Needs.{needs}
 use Rattle.run_loops.proofs.do_of.Statement.{statement}
 use Rattle.run_loops.proofs.do_of.Tie as tie
-use Rattle.run_loops.proofs.Looping.{do-behind, do-here}
+use Rattle.run_loops.proofs.ForTests.{do-behind, do-here}
 
 head-requires : tie.Need-head-requires
 head-requires c κs = search needs

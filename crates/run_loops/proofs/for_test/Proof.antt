@@ -2,7 +2,7 @@ use borrow.Author.Needs.{needs}
 use Rattle.run_loops.proofs.for_test.Statement.{statement}
 use Rattle.run_loops.proofs.for_test.Tie as tie
 use Rattle.run_machine.proofs.Deciding.{word-in}
-use Rattle.run_loops.proofs.Looping.{for-inside, for-end-inside, for-word-inside, for-word-in, for-sum, for-small, for-again, for-done}
+use Rattle.run_loops.proofs.ForTests.{for-inside, for-end-inside, for-word-inside, for-word-in, for-sum, for-small, for-again, for-done}
 
 add-k : tie.Need-add-k
 add-k c = search needs

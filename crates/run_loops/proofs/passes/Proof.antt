@@ -1,7 +1,7 @@
 use borrow.Author.Needs.{needs}
 use Rattle.run_loops.proofs.passes.Statement.{statement}
 use Rattle.run_loops.proofs.passes.Tie as tie
-use Rattle.run_loops.proofs.Looping.{passes-down, passes-up}
+use Rattle.run_loops.proofs.ForTests.{passes-down, passes-up}
 
 returns : tie.Need-returns
 returns c = search (needs, passes-down)

@@ -1,7 +1,7 @@
 use borrow.Author.Needs.{needs}
 use Rattle.run_loops.proofs.step_of.Statement.{statement}
 use Rattle.run_loops.proofs.step_of.Tie as tie
-use Rattle.run_loops.proofs.Looping.{step-stands, step-given, step-down, step-up}
+use Rattle.run_loops.proofs.ForTests.{step-stands, step-given, step-down, step-up}
 
 head-requires : tie.Need-head-requires
 head-requires c κs = search needs

@@ -1,4 +1,4 @@
-use Rattle.run_output.proofs.Copying.{quoted-copies, quoted-done, plain-in, plain-done}
+use Rattle.run_output.proofs.StringCharacters.{quoted-copies, quoted-done, plain-in, plain-done}
 use borrow.Author.Needs.{needs}
 use Rattle.run_output.proofs.copy.Statement.{statement}
 use Rattle.run_output.proofs.copy.Tie as tie

@@ -1,6 +1,6 @@
 use Prim.Native.Nat.{_-_}
 use borrow.Author.Needs.{needs}
-use Rattle.run_output.proofs.Copying.{Plainly, plainly-start, plainly-step, plainly-end}
+use Rattle.run_output.proofs.StringCharacters.{Plainly, plainly-start, plainly-step, plainly-end}
 use Rattle.run_output.proofs.copy_plain.Statement.{statement}
 use Rattle.run_output.proofs.copy_plain.Tie as tie
 

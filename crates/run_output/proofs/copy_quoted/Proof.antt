@@ -1,6 +1,6 @@
 use Prim.Native.Nat.{_-_}
 use borrow.Author.Needs.{needs}
-use Rattle.run_output.proofs.Copying.{Copying, copy-start, copy-in, copy-fits, copy-step, copy-end}
+use Rattle.run_output.proofs.StringCharacters.{Copying, copy-start, copy-in, copy-fits, copy-step, copy-end}
 use Rattle.run_output.proofs.copy_quoted.Statement.{statement}
 use Rattle.run_output.proofs.copy_quoted.Tie as tie
 

@@ -1,4 +1,4 @@
-use Rattle.run_output.proofs.Prompting.{Asking, Asked, read-in, read-next, read-sum, read-sum-7, read-answer, read-answer-7, read-target, read-fails, read-lacks, read-none, read-adds, read-cast, read-takes, read-out, read-done}
+use Rattle.run_output.proofs.TPReadNum.{Asking, Asked, read-in, read-next, read-sum, read-sum-7, read-answer, read-answer-7, read-target, read-fails, read-lacks, read-none, read-adds, read-cast, read-takes, read-out, read-done}
 use borrow.Author.Needs.{needs}
 use Rattle.run_output.proofs.read.Statement.{statement}
 use Rattle.run_output.proofs.read.Tie as tie

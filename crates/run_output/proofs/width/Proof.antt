@@ -1,5 +1,5 @@
 use borrow.Author.Needs.{needs}
-use Rattle.run_output.proofs.Copying.{width-quote, width-plain}
+use Rattle.run_output.proofs.StringCharacters.{width-quote, width-plain}
 use Rattle.run_output.proofs.width.Statement.{statement}
 use Rattle.run_output.proofs.width.Tie as tie
 

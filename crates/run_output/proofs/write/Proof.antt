@@ -1,4 +1,4 @@
-use Rattle.run_output.proofs.Printing.{write-in, write-next, write-sum, write-fits, write-lacks, write-adds, write-done}
+use Rattle.run_output.proofs.OneLine.{write-in, write-next, write-sum, write-fits, write-lacks, write-adds, write-done}
 use borrow.Author.Needs.{needs}
 use Rattle.run_output.proofs.write.Statement.{statement}
 use Rattle.run_output.proofs.write.Tie as tie

@@ -1,5 +1,5 @@
 use Rattle.run_machine.proofs.Current.{stores-here}
-use Rattle.run_output.proofs.PrintingOf.{of-in, of-next, of-from, of-sum, of-answer, of-stands, of-short, of-fails, of-lacks, of-adds, of-done}
+use Rattle.run_output.proofs.TPWriteNumber.{of-in, of-next, of-from, of-sum, of-answer, of-stands, of-short, of-fails, of-lacks, of-adds, of-done}
 use borrow.Author.Needs.{needs}
 use Rattle.run_output.proofs.write_of.Statement.{statement}
 use Rattle.run_output.proofs.write_of.Tie as tie

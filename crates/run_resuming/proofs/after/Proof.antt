@@ -1,5 +1,5 @@
 use borrow.Author.Needs.{needs}
-use Rattle.run_resuming.proofs.Following.{step-in, step-small, call-closes, call-in, call-after, for-in, for-after, end-after, function-end-after, plain-after}
+use Rattle.run_resuming.proofs.NextStep.{step-in, step-small, call-closes, call-in, call-after, for-in, for-after, end-after, function-end-after, plain-after}
 use Rattle.run_resuming.proofs.after.Statement.{statement}
 use Rattle.run_resuming.proofs.after.Tie as tie
 

@@ -1,6 +1,6 @@
 use Prim.Native.Nat.{_-_}
 use borrow.Author.Needs.{needs}
-use Rattle.run_resuming.proofs.Following.{Closed, closed-none, closed-start, closed-in, closed-less, closed-next, closed-end}
+use Rattle.run_resuming.proofs.NextStep.{Closed, closed-none, closed-start, closed-in, closed-less, closed-next, closed-end}
 use Rattle.run_resuming.proofs.closing.Statement.{statement}
 use Rattle.paper.specs.Words.{wordLimit}
 use Rattle.run_resuming.proofs.closing.Tie as tie

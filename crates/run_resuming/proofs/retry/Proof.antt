@@ -1,5 +1,5 @@
 use borrow.Author.Needs.{needs}
-use Rattle.run_resuming.proofs.Resuming.{answer-fits, step-fits, failed-low, retry-none, retry-again}
+use Rattle.run_resuming.proofs.RetryTryNext.{answer-fits, step-fits, failed-low, retry-none, retry-again}
 use Rattle.run_resuming.proofs.retry.Statement.{statement}
 use Rattle.run_resuming.proofs.retry.Tie as tie
 

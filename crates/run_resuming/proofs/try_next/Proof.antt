@@ -1,5 +1,5 @@
 use borrow.Author.Needs.{needs}
-use Rattle.run_resuming.proofs.Resuming.{answer-fits, step-fits, next-low, failed-step, try-none, try-again}
+use Rattle.run_resuming.proofs.RetryTryNext.{answer-fits, step-fits, next-low, failed-step, try-none, try-again}
 use Rattle.run_resuming.proofs.try_next.Statement.{statement}
 use Rattle.run_resuming.proofs.try_next.Tie as tie
 

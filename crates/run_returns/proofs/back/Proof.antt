@@ -1,5 +1,5 @@
 use borrow.Author.Needs.{needs}
-use Rattle.run_returns.proofs.Returning.{back-main, back-caller}
+use Rattle.run_returns.proofs.ReturnSteps.{back-main, back-caller}
 use Rattle.run_returns.proofs.back.Statement.{statement}
 use Rattle.run_returns.proofs.back.Tie as tie
 

@@ -1,5 +1,5 @@
 use borrow.Author.Needs.{needs}
-use Rattle.run_returns.proofs.Returning.{gave-stored, gave-nothing}
+use Rattle.run_returns.proofs.ReturnSteps.{gave-stored, gave-nothing}
 use Rattle.run_returns.proofs.give.Statement.{statement}
 use Rattle.run_returns.proofs.give.Tie as tie
 

@@ -1,7 +1,7 @@
 use borrow.Author.Needs.{needs}
 use Rattle.run_targets.proofs.StoreSteps.{after-fits}
 use Rattle.run_machine.proofs.Current.{stores-here}
-use Rattle.run_returns.proofs.Returning.{return-stands, return-fails, return-main, return-inside, return-small, return-done}
+use Rattle.run_returns.proofs.ReturnSteps.{return-stands, return-fails, return-main, return-inside, return-small, return-done}
 use Rattle.run_returns.proofs.give_back.Statement.{statement}
 use Rattle.run_returns.proofs.give_back.Tie as tie
 

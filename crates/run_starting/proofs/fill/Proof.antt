@@ -2,7 +2,7 @@ use borrow.Author.Needs.{needs}
 use Prim.Native.Nat.{_-_}
 use mir.Syntax.{w64}
 use mir.Val.{toZ}
-use Rattle.run_starting.proofs.Writing.{Filling, fill-start, fill-inside, fill-on, fill-end, filled-read, fill-one}
+use Rattle.run_starting.proofs.CellsWritten.{Filling, fill-start, fill-inside, fill-on, fill-end, filled-read, fill-one}
 use Rattle.run_starting.proofs.fill.Statement.{statement}
 use Rattle.run_starting.proofs.fill.Tie as tie
 

@@ -1,6 +1,6 @@
 use borrow.Author.Needs.{needs}
 use Prim.Native.Nat.{_-_}
-use Rattle.run_starting.proofs.Writing.{Idling, idle-start, idle-inside, idle-inside-ends, idle-inside-steps, idle-on, idle-end}
+use Rattle.run_starting.proofs.CellsWritten.{Idling, idle-start, idle-inside, idle-inside-ends, idle-inside-steps, idle-on, idle-end}
 use Rattle.run_starting.proofs.start_loops.Statement.{statement}
 use Rattle.run_starting.proofs.start_loops.Tie as tie
 

@@ -1,5 +1,5 @@
 use borrow.Author.Needs.{needs}
-use Rattle.run_targets.proofs.Assigning.{next-inside, next-fits, assign-stores, assign-stands, cell-inside, value-small, step-inside, assign-fails, assign-done}
+use Rattle.run_targets.proofs.TargetStores.{next-inside, next-fits, assign-stores, assign-stands, cell-inside, value-small, step-inside, assign-fails, assign-done}
 use Rattle.run_targets.proofs.assign.Statement.{statement}
 use Rattle.run_targets.proofs.assign.Tie as tie
 

@@ -1,5 +1,5 @@
 use borrow.Author.Needs.{needs}
-use Rattle.run_targets.proofs.Targeting.{target-module, target-call, in-module, in-call, target-link, target-indexes, target-element}
+use Rattle.run_targets.proofs.TargetWords.{target-module, target-call, in-module, in-call, target-link, target-indexes, target-element}
 use Rattle.run_targets.proofs.target_cell.Statement.{statement}
 use Rattle.run_targets.proofs.target_cell.Tie as tie
 

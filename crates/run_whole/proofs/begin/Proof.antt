@@ -1,4 +1,4 @@
-use Rattle.run_whole.proofs.Beginning.{begin-low, begin-in, begin-starts, begun}
+use Rattle.run_whole.proofs.RunBegins.{begin-low, begin-in, begin-starts, begun}
 use borrow.Author.Needs.{needs}
 use Rattle.run_whole.proofs.begin.Statement.{statement}
 use Rattle.run_whole.proofs.begin.Tie as tie

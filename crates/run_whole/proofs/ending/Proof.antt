@@ -1,4 +1,4 @@
-use Rattle.run_whole.proofs.Stopping.{stops-whole, stops-low, stops-high, stops-left, stopped-main, stopped-step, stopped-lack}
+use Rattle.run_whole.proofs.RunStops.{stops-whole, stops-low, stops-high, stops-left, stopped-main, stopped-step, stopped-lack}
 use borrow.Author.Needs.{needs}
 use Rattle.run_whole.proofs.ending.Statement.{statement}
 use Rattle.run_whole.proofs.ending.Tie as tie

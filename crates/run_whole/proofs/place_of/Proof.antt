@@ -1,4 +1,4 @@
-use Rattle.run_whole.proofs.Stopping.{no-place}
+use Rattle.run_whole.proofs.RunStops.{no-place}
 use borrow.Author.Needs.{needs}
 use Rattle.run_whole.proofs.place_of.Statement.{statement}
 use Rattle.run_whole.proofs.place_of.Tie as tie

@@ -1,7 +1,7 @@
 use mathlib.Core.Path.{_∙_}
 use native.Mathlib.Omega.{arith}
 use borrow.Author.Needs.{needs}
-use Rattle.run_whole.proofs.Beginning.{begin-in}
+use Rattle.run_whole.proofs.RunBegins.{begin-in}
 use Rattle.run_whole.proofs.Turns.{Turning, turn-steps, turn-in, turn-cast, turn-goes, turn-up, turn-sub-1, turn-enters, turn-sub-2, turn-down, turn-leaves, turn-stops, turn-raises, turn-resumes, spent, stopped-run, died-run, run-begins, run-starts, run-ran}
 use Rattle.run_whole.proofs.run.Statement.{statement}
 use Rattle.run_whole.proofs.run.Tie as tie
