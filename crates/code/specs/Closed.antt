@@ -42,6 +42,7 @@ GoesOn S s = Named S (s .after ∷ targetsOf (s .does))
 pub record Closed (c : Code) : Type 0 where
   pub starts : isNamed (c .steps) (c .start) ≡ true
   pub handles : (h : ℕ) → c .handler ≡ some h → isNamed (c .steps) h ≡ true
+  pub undoes : (u : ℕ) → c .undo ≡ some u → isNamed (c .steps) u ≡ true
   pub goes-on : Every (GoesOn (c .steps)) (c .steps)
 
 -- A step's name is the index of a word, and not of the first, which is MODULE, nor of the last, which is ENDMODULE.

@@ -42,9 +42,10 @@ CalleeIn R offset C a = WhereSome (λ c. (placeAt C (c .0) ≡ offset (c .0)) ×
 module _ (m : ℕ) (text : List ℕ) (R : List Head) (offset : ℕ → ℕ) (C : List ℕ) where
   pub record HoldsRoutine (h : Head) (c : Code) : Type 0 where
     pub function-is : h .function ≡ c .function
-    -- in place of its offset its first word has the first step; the link of the word behind it is the first of the ERROR list
+    -- in place of its offset its first word has the first step; the link of the word behind it is the first of the ERROR list, and its place that of the UNDO list
     pub start-is : c .start ≡ placeAt C (h .word)
     pub handler-is : c .handler ≡ optionally (linkAt C (h .word + 1))
+    pub undo-is : c .undo ≡ optionally (placeAt C (h .word + 1))
     -- its words as a call begins: the arguments, its data, the FOR variables
     pub starts : List ℤ
     pub opens : ℕ

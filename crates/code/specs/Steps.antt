@@ -8,7 +8,7 @@ use lib.ListN.{length, getD, take, drop}
 use lib.IntN.{ℤ, pos, _-ℤ_}
 use Rattle.paper.specs.Basics.{if_then_else_}
 use Rattle.paper.specs.Terms.{ofModule, ofRoutine, Term}
-use Rattle.paper.specs.Steps.{Spot, scalar, elementOf, Action, store, callFor, callOf, giveBack, raise, handOn, exit, retry, tryNext, write, read, choose, select, testWhile, enterFor, repeatFor, endList, unquoted}
+use Rattle.paper.specs.Steps.{Spot, scalar, elementOf, Action, store, callFor, callOf, giveBack, raise, handOn, exit, retry, tryNext, write, read, choose, select, testWhile, enterFor, repeatFor, endList, endUndo, unquoted}
 use Rattle.code.specs.Cells.{opAt, valueAt, placeAt, linkAt}
 use Rattle.code.specs.Spans.{guard, _then_, bias, firstIn, sizeIn, termIn}
 
@@ -79,6 +79,10 @@ anEnd = 153
 -- the end of a FUNC's list
 abbrev pub aFunctionEnd : ℕ
 aFunctionEnd = 154
+
+-- the end of an UNDO list
+abbrev pub anUndoEnd : ℕ
+anUndoEnd = 155
 
 -- Words that are no steps have the highest ops, from that of ELSEIF on: below them there is room for more steps.
 abbrev pub anElseIf : ℕ
@@ -345,6 +349,7 @@ module _ (m n : ℕ) (function : Bool) (text : List ℕ) (R : List Head) (C : Li
       else if eqb op aTest then testIn i
       else if eqb op anEnd then guard (not function) (i, endList)
       else if eqb op aFunctionEnd then guard function (i, endList)
+      else if eqb op anUndoEnd then some (i, endUndo)
       else none
 
   -- What the cells say at the word of a step.

@@ -2,7 +2,7 @@
 use mathlib.Core.List.{List, [], _∷_, map}
 use Prim.Native.Nat.{ℕ, _*_}
 use lib.IntN.{ℤ, pos}
-use Rattle.layout.specs.Rules.{smallStore, wrongDepth, longText, badByte, malformed, tooLarge, manyWords, noForm, deepNesting, takenName, unknownName, wrongKind, wrongType, wrongCount, noValue, tooMany, barred, noMain, mainReturned, exited, unhandled, fellOff, stepsSpent, beyondDepth, noInput, noRoom}
+use Rattle.layout.specs.Rules.{smallStore, wrongDepth, longText, badByte, malformed, tooLarge, manyWords, noForm, deepNesting, takenName, unknownName, wrongKind, wrongType, wrongCount, noValue, tooMany, barred, noMain, mainReturned, exited, unhandled, fellOff, stepsSpent, beyondDepth, noInput, noRoom, aborted, undoSpent}
 use Rattle.layout.specs.Answers.{entered, left, ended, lacked, handed, firstError}
 use Rattle.layout.specs.Kinds.{aVariable, anArray, aConstant, aLoop, aRoutine, anErrno, anErrorNumber}
 use Rattle.layout.specs.Types.{noType, numType, boolType}
@@ -15,11 +15,11 @@ use Rattle.paper.specs.Answer.{depthLimit, storeWords, recordSize}
 use Rattle.code.specs.Cells.{firstWindow, windowCells, errnoCell}
 use Rattle.code.specs.Windows.{endsCell, stepsCell, routineCell, waitsCell, afterCell, failedCell, resultCell, writtenCell, usedCell}
 use Rattle.code.specs.Spans.{bias, aLiteral, aModuleSlot, aCallSlot, aModuleElement, aCallElement, aParenthesis, aNot, aPlus, aMinus, anOperator, aSpan}
-use Rattle.code.specs.Steps.{aTarget, aCallTarget, aProcedureCall, aReturnOf, aReturn, aRaiseOf, aRaise, anExit, aRetry, aTryNext, aWrite, aWriteOf, aRead, aCompactIf, anIf, aWhile, aFor, aForTest, aTest, anEnd, aFunctionEnd, anElseIf, aStep, aCase, aNextValue, aNextArgument, aDatum, theParameters, aThen, aDo, aPass, anOtherwise, aClose}
+use Rattle.code.specs.Steps.{aTarget, aCallTarget, aProcedureCall, aReturnOf, aReturn, aRaiseOf, aRaise, anExit, aRetry, aTryNext, aWrite, aWriteOf, aRead, aCompactIf, anIf, aWhile, aFor, aForTest, aTest, anEnd, aFunctionEnd, anUndoEnd, anElseIf, aStep, aCase, aNextValue, aNextArgument, aDatum, theParameters, aThen, aDo, aPass, anOtherwise, aClose}
 
 abbrev pub ops : List ℕ
 ops =
-    aLiteral ∷ aModuleSlot ∷ aCallSlot ∷ aModuleElement ∷ aCallElement ∷ aParenthesis ∷ aNot ∷ aPlus ∷ aMinus ∷ anOperator ∷ aTarget ∷ aCallTarget ∷ aProcedureCall ∷ aReturnOf ∷ aReturn ∷ aRaiseOf ∷ aRaise ∷ anExit ∷ aRetry ∷ aTryNext ∷ aWrite ∷ aWriteOf ∷ aRead ∷ aCompactIf ∷ anIf ∷ aWhile ∷ aFor ∷ aForTest ∷ aTest ∷ anEnd ∷ aFunctionEnd ∷ anElseIf ∷ aStep ∷ aCase ∷ aNextValue ∷ aNextArgument ∷ aDatum ∷ theParameters ∷ aThen ∷ aDo ∷ aPass ∷ anOtherwise ∷ aClose ∷ aSpan ∷ []
+    aLiteral ∷ aModuleSlot ∷ aCallSlot ∷ aModuleElement ∷ aCallElement ∷ aParenthesis ∷ aNot ∷ aPlus ∷ aMinus ∷ anOperator ∷ aTarget ∷ aCallTarget ∷ aProcedureCall ∷ aReturnOf ∷ aReturn ∷ aRaiseOf ∷ aRaise ∷ anExit ∷ aRetry ∷ aTryNext ∷ aWrite ∷ aWriteOf ∷ aRead ∷ aCompactIf ∷ anIf ∷ aWhile ∷ aFor ∷ aForTest ∷ aTest ∷ anEnd ∷ aFunctionEnd ∷ anUndoEnd ∷ anElseIf ∷ aStep ∷ aCase ∷ aNextValue ∷ aNextArgument ∷ aDatum ∷ theParameters ∷ aThen ∷ aDo ∷ aPass ∷ anOtherwise ∷ aClose ∷ aSpan ∷ []
 
 abbrev pub cells : List ℕ
 cells =
@@ -38,7 +38,7 @@ rules =
 
 abbrev pub endings : List ℕ
 endings =
-    mainReturned ∷ exited ∷ unhandled ∷ fellOff ∷ stepsSpent ∷ beyondDepth ∷ noInput ∷ noRoom ∷ []
+    mainReturned ∷ exited ∷ unhandled ∷ fellOff ∷ stepsSpent ∷ beyondDepth ∷ noInput ∷ noRoom ∷ aborted ∷ undoSpent ∷ []
 
 -- four bytes a cell
 abbrev pub storeBytes : ℕ

@@ -66,7 +66,7 @@ noValue = 15
 abbrev pub tooMany : ℕ
 tooMany = 16
 
--- "RETRY, TRYNEXT or plain RAISE outside ERROR, `RAISE e` in it, RETURN with a value in PROC or without in FUNC"
+-- "RETRY, TRYNEXT or plain RAISE outside ERROR, `RAISE e` in it, RETURN with a value in PROC or without in FUNC"; "17 covers the barred words and calls" of UNDO
 abbrev pub barred : ℕ
 barred = 17
 
@@ -106,3 +106,11 @@ noInput = 7
 -- "a whole line lacks output room"
 abbrev pub noRoom : ℕ
 noRoom = 8
+
+-- "aborted"
+abbrev pub aborted : ℕ
+aborted = 9
+
+-- "spent UNDO steps"
+abbrev pub undoSpent : ℕ
+undoSpent = 10

@@ -18,11 +18,15 @@ pub const NO_INPUT: u32 = 7;
 
 pub const NO_ROOM: u32 = 8;
 
+pub const ABORTED: u32 = 9;
+
+pub const UNDO_SPENT: u32 = 10;
+
 // the first that lacks something, as words count
 pub const BEYOND_DEPTH_AT: usize = BEYOND_DEPTH as usize;
 
 // All of them, as the specs name them: a wrong one breaks this contract.
-pub fn all() -> [u32; 8]
+pub fn all() -> [u32; 10]
     ensures { λ r. ⌜ r ≡ endings ⌝ }
 {
     [
@@ -34,5 +38,7 @@ pub fn all() -> [u32; 8]
         BEYOND_DEPTH,
         NO_INPUT,
         NO_ROOM,
+        ABORTED,
+        UNDO_SPENT,
     ]
 }

@@ -70,6 +70,8 @@ pub const END: u32 = 153;
 
 pub const FUNCTION_END: u32 = 154;
 
+pub const UNDO_END: u32 = 155;
+
 // ---- words that are no steps
 pub const ELSE_IF: u32 = 240;
 
@@ -148,7 +150,7 @@ pub const CALL_TARGET_ELEMENT: u32 = CALL_TARGET + 2;
 pub const CALL_TARGET_ELEMENT_IN_CALL: u32 = CALL_TARGET + 3;
 
 // All of them, as the specs name them: a wrong one breaks this contract.
-pub fn all() -> [u32; 44]
+pub fn all() -> [u32; 45]
     ensures { λ r. ⌜ r ≡ ops ⌝ }
 {
     [
@@ -183,6 +185,7 @@ pub fn all() -> [u32; 44]
         TEST,
         END,
         FUNCTION_END,
+        UNDO_END,
         ELSE_IF,
         STEP,
         CASE,
