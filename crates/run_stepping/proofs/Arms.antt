@@ -23,7 +23,7 @@ use Rattle.code.specs.Windows.{callIn, waiting}
 use Rattle.run_machine.specs.Machine.{Here, hands, ends, effectAt, Performs, Calls, Steps, Stepped}
 use Rattle.run_targets.specs.Targets.{WordAt, ofModuleWord, ofCallWord, ArrayAt, ofModuleArray, ofCallArray}
 use Rattle.run_returns.specs.Returning.{Returns, byReturn, byEnd}
-use Rattle.run_output.specs.Output.{countIn, Prints, Writes, Wrote, WroteOf, Reads, WasRead}
+use Rattle.run_output.specs.Output.{countIn, Prints, Writes, Wrote, WroteOf, WasRead}
 use Rattle.run_machine.proofs.Actions.{reads-raise, reads-exit, reads-function-end, function-end-function, reads-undo-end, op-low, op-high}
 use Rattle.run_machine.proofs.Current as here
 use Rattle.layout.specs.Answers.{ended, handed}
@@ -142,9 +142,6 @@ module _ (text code values out : List ℕ) (base last i : ℕ) (s : Steps text c
 
   pub prints : Prints text code values out base i
   prints = record { here = s .here; text-is = s .text-is; written = count }
-
-  pub reads-num : (inputs : List ℕ) → Reads text code values inputs out base i
-  reads-num inputs = record { prints = prints; count = s .used }
 
   -- ---- what a promise says of it
   module _ (after inputs : List ℕ) (r : ℤ) (f : SFits w64 r) where
