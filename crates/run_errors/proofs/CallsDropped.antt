@@ -97,7 +97,7 @@ module _ (A : Type 0) (ask : Program → List Call → A) where
 
   module _ (code values : List ℕ) (base i b s : ℕ) (h : Here code values base i) (q : Seeks A (ask (h .P)) (h .P) (h .R) (cellsOf values) (h .d) i b s) where
     -- the call that was come to
-    pub come : Here code values b s
+    abbrev pub come : Here code values b s
     come = elsewhere h values (q .e) b s refl (omega (arith, q .up, h .deep)) (q .base-is) (q .live)
 
     -- past main's window there is a caller's
@@ -167,7 +167,7 @@ module _ (code values : List ℕ) (base i b s : ℕ) (k : Seeking code values ba
   seek-less d = omega (arith, come-above (Option (List Call)) caught code values base i b s h (k h) d)
 
   handler-here : codeAt (h .P) (callIn (h .P) (h .R) (cellsOf values) (windowOf (k h .e)) s .routine) .handler ≡ optionally (handlerAt code values b)
-  unfolding callIn come come-here
+  unfolding callIn come-here
   handler-here = handler-is code values b s come-here
 
 -- found, or at main
@@ -265,7 +265,7 @@ module _ (code values : List ℕ) (base i : ℕ) (t : Taken) (nr : Nearest code 
           state-failed : (steps : ℕ) (out : List ℕ)
               → stateIn (h .P) (h .R) (set (cellsOf values) (windowOf (nr .is h .e) + failedCell) (t .next)) (nr .is h .e) (t .next) steps out
               ≡ onTop (setFailed (optionally (t .next))) (stateIn (h .P) (h .R) (cellsOf values) (nr .is h .e) (t .next) steps out)
-          unfolding at-call come-here come
+          unfolding at-call come-here
           state-failed steps out = call-failed (h .P) (h .R) (cellsOf values) (nr .is h .e) (roomy (at-call h)) (t .next) (t .next) steps out
 
           taken-state : (steps : ℕ) (out : List ℕ)
@@ -292,7 +292,7 @@ module _ (code values : List ℕ) (base i : ℕ) (t : Taken) (nr : Nearest code 
               ap (λ (cs : List Call). withCalls cs (stateIn (h .P) (h .R) (cellsOf values) e j steps out)) calls-are ∙ sym (taken-state steps out)
 
           named-x : isNamed (codeOfCall (h .P) (h .R) (cellsOf values) (nr .is h .e) .steps) x ≡ true
-          unfolding at-call come-here come
+          unfolding at-call come-here
           named-x =
               let q = at-call h in
               routine-holds code values (t .base) (t .next) q .closed .handles x (handler-is code values (t .base) (t .next) q ∙ ap optionally (sym ex) ∙ positive x d)
@@ -362,12 +362,12 @@ module _ (r : ℤ) (f : SFits w64 r) (a : Raises r) where
 
 -- ERRNO is set
 module _ (code values mid : List ℕ) (base i e : ℕ) (p : Put values mid errnoCell e) (h : Here code values base i) (l : e < answers) where
-  pub errno-here : Here code mid base i
+  abbrev pub errno-here : Here code mid base i
   errno-here =
       elsewhere h mid (h .d) base i (put-length p (omega (arith, h .values-size))) (h .deep) (h .base-is)
       (rw (p .words) (live-errno (h .P) (h .R) (cellsOf values) (h .d) errnoCell e i (h .live) refl (omega (arith, length-words values, h .values-size)) (omega arith)))
 
-  errno-state : (steps : ℕ) (out : List ℕ) → stateIn (h .P) (h .R) (cellsOf mid) (h .d) i steps out ≡ withErrno e (stateIn (h .P) (h .R) (cellsOf values) (h .d) i steps out)
+  pub errno-state : (steps : ℕ) (out : List ℕ) → stateIn (h .P) (h .R) (cellsOf mid) (h .d) i steps out ≡ withErrno e (stateIn (h .P) (h .R) (cellsOf values) (h .d) i steps out)
   errno-state steps out = rw (p .words) (errno-cell (h .P) (h .R) (cellsOf values) (h .d) (roomy h) e i steps out)
 
 -- what `arising` comes to
@@ -405,7 +405,7 @@ module _ (code values : List ℕ) (base i : ℕ) (r : ℤ) (f : SFits w64 r) (a 
     arise-here h = errno-here code values mid base i (natAbs (read r) - firstError) p h (omega (arith, raised-is r f a t, raised r f a t .low))
 
     pub arise-fails : Here code values base i → (after : List ℕ) (k : Taken) → Unwound code mid after base i k → Arisen code values after base i r k
-    unfolding arise-here errno-here
+    unfolding arise-here
     arise-fails h₀ after k u = record {
       long = u .long ∙ put-length p (omega (arith, h₀ .values-size));
       kept = λ c x y. u .kept c x y ∙ ap (λ (w : List ℕ). getD w c 0) (p .words) ∙ getD-set-other (cellsOf values) errnoCell c (natAbs (read r) - firstError) 0 (λ z. omega arith);
