@@ -128,13 +128,18 @@ module _ (text code values inputs out : List ℕ) (h n depth : ℕ) (b : Begins 
 
         -- it ended before
         module _ (ns : ofZ w64 (w .answer) ≡ ended + stepsSpent → ⊥) where
+          -- what its last step comes to
+          came : (c : Begins text code values h depth) (rooms : Rooms) → (d at′ : ℕ) → Effect → running.Ended
+          came c rooms d at′ E =
+              follows false (c .P) rooms (w .left) (outcome false (c .P) at′ (waiting (c .P) (c .R) (cellsOf after) d) (stateIn (c .P) (c .R) (cellsOf after) d (w .next) (0 + (n - suc (w .left))) out′) E)
+
           other : (c : Begins text code values h depth) (rooms : Rooms) → H c rooms → run (c .P) rooms n (started (c .P) (c .main)) .ending ≡ 5 → ⊥
-          unfolding follows outcome settled
+          unfolding follows outcome settled came
           other c rooms (spent s q z r) k = ns (ap (ofZ w64) q)
           other c rooms (breaks s lt f E (ends m q g r) o) k =
-              let z : run (c .P) rooms n (started (c .P) (c .main)) .ending ≡ m = ap (λ (x : running.Ended). x .ending) (o ∙ ap (λ (y : Effect). follows false (c .P) rooms (w .left) (outcome false (c .P) (s .at) (waiting (c .P) (c .R) (cellsOf after) (s .d)) (stateIn (c .P) (c .R) (cellsOf after) (s .d) (w .next) (0 + (n - suc (w .left))) out′) y)) r) in omega arith
+              let z : run (c .P) rooms n (started (c .P) (c .main)) .ending ≡ m = ap (λ (x : running.Ended). x .ending) (o ∙ ap (came c rooms (s .d) (s .at)) r) in omega arith
           other c rooms (breaks s lt f E (lacks m v p q g j i pl r) o) k =
-              let z : run (c .P) rooms n (started (c .P) (c .main)) .ending ≡ m = ap (λ (x : running.Ended). x .ending) (o ∙ ap (λ (y : Effect). follows false (c .P) rooms (w .left) (outcome false (c .P) (s .at) (waiting (c .P) (c .R) (cellsOf after) (s .d)) (stateIn (c .P) (c .R) (cellsOf after) (s .d) (w .next) (0 + (n - suc (w .left))) out′) y)) r) in omega arith
+              let z : run (c .P) rooms n (started (c .P) (c .main)) .ending ≡ m = ap (λ (x : running.Ended). x .ending) (o ∙ ap (came c rooms (s .d) (s .at)) r) in omega arith
           other c rooms (breaks s lt f E (hands q r) o) k = not-handed w (f refl) q
           other c rooms (breaks s lt f E (fails m q g r) o) k = not-failed w m (f refl) q
           other c rooms (dies d p pl f q lt r) k = let z : run (c .P) rooms n (started (c .P) (c .main)) .ending ≡ unhandled = ap (λ (x : running.Ended). x .ending) r in omega arith
