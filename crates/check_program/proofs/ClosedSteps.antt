@@ -15,7 +15,8 @@ use Rattle.paper.specs.Names.{Scopes, spelled, enter}
 use Rattle.paper.specs.Declarations.{routineData, routineScopes}
 use Rattle.paper.specs.Checks.{WhichList, theBody, theHandler, theUndo, forsIn, forsInList, forsInArms, forsInCases, forsInOptional}
 use Rattle.paper.specs.Types.{termOf}
-use Rattle.paper.specs.Steps.{Action, choose, select, testWhile, enterFor, repeatFor, endList, endUndo, optionalTerm, Step, step, firstWord, begin, actionOf, simpleStep, conditions, constants, stepsOf, stepsOfList, stepsOfArms, stepsOfCases, firstStep, listSteps, optionalSteps, optionalStart, codeOf}
+use Rattle.paper.specs.Steps.{Action, choose, select, testWhile, enterFor, repeatFor, endList, endUndo, optionalTerm, Step, step, firstWord, begin, actionOf, simpleStep, conditions, constants}
+use Rattle.paper.specs.Steps.{stepsOf, stepsOfList, stepsOfArms, stepsOfCases, firstStep, listSteps, optionalSteps, optionalStart, codeOf}
 use Rattle.code.specs.Closed.{Every, done, also, isNamed, Named, whereOf, caseOf, targetsOf, GoesOn, Closed, LoopFits, OwnLoop}
 use Rattle.code.proofs.Options.{none-some, same-some}
 use Rattle.faults.specs.Parts.{memoryOf}

@@ -51,7 +51,7 @@ module _ (g : Ground) (C D : List ℕ) (m : Module) (r : Routine) (low to : ℕ)
         place = sym (ap placeIn (same .tails (l .closes) (omega arith) z)) ∙ x .place;
       }
 
-  optional-frame : {sort : ℕ} (which : WhichList) (o : Option RoutineList) (used at end leads said : ℕ) → ListBehindAt (sortIn (g .W)) (Parses (sortIn (g .W))) sort o at end → leads ≡ said → low ≤ at → end < to
+  pub optional-frame : {sort : ℕ} (which : WhichList) (o : Option RoutineList) (used at end leads said : ℕ) → ListBehindAt (sortIn (g .W)) (Parses (sortIn (g .W))) sort o at end → leads ≡ said → low ≤ at → end < to
       → RawOptional g C m r which o used at leads → RawOptional g D m r which o used at said
   unfolding RawOptional
   optional-frame which none used at end leads said f e a b x = sym e ∙ x
