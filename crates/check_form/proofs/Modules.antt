@@ -1,7 +1,7 @@
 -- Lists, routines and the module: the paper's parser with its trees forgotten (Trees) reads them as the code does.
 use mathlib.Core.Path.{_≡_, refl, sym, ap, _∙_}
 use mathlib.Core.Bool.{Bool, true, false, _||_}
-use mathlib.Core.List.{List}
+use mathlib.Core.List.{List, [], _∷_}
 use mathlib.Core.Option.{Option, none, some}
 use Prim.Native.Nat.{ℕ, zero, suc, _+_, _-_, _<_, _≤_}
 use native.Mathlib.Omega.{arith}
@@ -23,7 +23,7 @@ use Rattle.check_form.specs.Places.{Lent, sortsIn, _▸_, _▹_, turns, 
 use Rattle.check_form.proofs.Beyond.{Beyond}
 use Rattle.check_form.proofs.Moves.{list-on}
 use Rattle.check_form.proofs.Compounds.{arm-again, closing, into-list, case-rest, to-end}
-use Rattle.check_form.proofs.Trees.{place, second, itself, forget, then-0, then-1, then-2, then-3, then-4, then-5, then-6, then-7, ends-so, choice, Same, word-is, type-is, nested-is, expression-is, separated-is, repeated-is, expressions-is, simple-is}
+use Rattle.check_form.proofs.Trees.{place, second, itself, forget, behind, then-more, then-0, then-1, then-2, ends-so, ends-behind, choice, Same, word-is, type-is, nested-is, expression-is, separated-is, repeated-is, expressions-is, simple-is}
 
 -- a reading goes on into a part
 into-part : {A B : Type 0} {q : Read} (W : ℕ → ℕ) (list : ℕ → Read) (p : Parsed (A × ℕ)) (f : A × ℕ → Parsed (B × ℕ)) (g : ℕ → Part) → forget p ≡ q
@@ -85,18 +85,23 @@ module _ (W : ℕ → ℕ) (list : Parser Statements) (list′ : ℕ → Read) (
   step-is at =
       test (eqb (W at) 75) (λ t. rw (t, statements.stepPart) (ends-so second (paper.expr W (at + 1)) _ (expression-is W (at + 1)))) (λ t. rw (t, statements.stepPart))
 
+  for-behind : (at : ℕ) → forget (statements.forStatement W list at)
+      ≡ behind (places.word W 1 (at + 1)) (places.word W 56 ∷ places.expression W ∷ places.word W 79 ∷ places.expression W ∷ places.stepPart W ∷ places.word W 40 ∷ list′ ∷ places.word W 43 ∷ [])
+  unfolding statements.forStatement
+  for-behind at =
+      then-more itself (paper.expect W 1 (at + 1)) _ _ _ (word-is W 1 (at + 1))
+      (λ a. then-more itself (paper.expect W 56 a) _ _ _ (word-is W 56 a)
+      (λ b. then-more second (paper.expr W b) _ _ _ (expression-is W b)
+      (λ c. then-more itself (paper.expect W 79 (c .1)) _ _ _ (word-is W 79 (c .1))
+      (λ d. then-more second (paper.expr W d) _ _ _ (expression-is W d)
+      (λ e. then-more second (statements.stepPart W (e .1)) _ _ _ (step-is (e .1))
+      (λ f. then-more itself (paper.expect W 40 (f .1)) _ _ _ (word-is W 40 (f .1))
+      (λ g. then-more second (list g) _ _ _ (same g)
+      (λ h. ends-behind itself (paper.expect W 43 (h .1)) _ (word-is W 43 (h .1))))))))))
+
   for-is : (at : ℕ) → forget (statements.forStatement W list at) ≡ (places.forHead W (at + 1) ▸ list′ ▸ places.word W 43)
-  unfolding statements.forStatement places.forHead
-  for-is at =
-      then-7 itself (paper.expect W 1 (at + 1)) _ _ _ _ _ _ _ _ _ (word-is W 1 (at + 1))
-      (λ a. then-6 itself (paper.expect W 56 a) _ _ _ _ _ _ _ _ (word-is W 56 a)
-      (λ b. then-5 second (paper.expr W b) _ _ _ _ _ _ _ (expression-is W b)
-      (λ c. then-4 itself (paper.expect W 79 (c .1)) _ _ _ _ _ _ (word-is W 79 (c .1))
-      (λ d. then-3 second (paper.expr W d) _ _ _ _ _ (expression-is W d)
-      (λ e. then-2 second (statements.stepPart W (e .1)) _ _ _ _ (step-is (e .1))
-      (λ f. then-1 itself (paper.expect W 40 (f .1)) _ _ _ (word-is W 40 (f .1))
-      (λ g. then-0 second (list g) _ _ (same g)
-      (λ h. ends-so itself (paper.expect W 43 (h .1)) _ (word-is W 43 (h .1))))))))))
+  unfolding places.forHead behind
+  for-is at = for-behind at
 
   while-is : (at : ℕ) → forget (statements.whileStatement W list at) ≡ (places.expression W (at + 1) ▸ places.word W 40 ▸ list′ ▸ places.word W 51)
   unfolding statements.whileStatement

@@ -6,7 +6,7 @@ use native.Mathlib.Omega.{arith}
 use lib.Dec.{eqb}
 use Rattle.laws.proofs.Tests.{apart}
 use Rattle.paper.specs.Basics.{if_then_else_}
-use Rattle.paper.specs.Sorts.{NOTHING}
+use Rattle.paper.specs.Sorts.{NOTHING, ERROR, UNDO}
 use Rattle.paper.specs.Expressions.{startsSimple, startsData, startsRoutine, parts}
 use Rattle.check_form.specs.declared.Read.{Read}
 use Rattle.check_form.specs.declared.Read.the-variants.{Upto, Refused}
@@ -15,7 +15,7 @@ use Rattle.check_form.specs.declared.Part.the-variants as part
 use Rattle.check_form.specs.Places.{_▸_, _▹_, turns, word, typeWord, expressionIn, afterOne, separatedTurn, separated, repeatedTurn, repeated, expressions, arguments, optional}
 use Rattle.check_form.specs.Places.{target, rightSide, assigns, startedByName, number, writing, wanting, simpleWord, simple, armEnd, caseEnd, listEnd, stepPart, forHead, condition, ifHead, testHead, opened}
 use Rattle.check_form.specs.Places.{elsePart, afterArm, armsTurn, arms, defaultPart, casesTurn, cases, ending, resume, startsCompound, listTurn, listBelow, compound}
-use Rattle.check_form.specs.Places.{content, startedBy, declaration, declarations, parameter, parameters, errorPart, routineFrom, routine}
+use Rattle.check_form.specs.Places.{content, startedBy, declaration, declarations, parameter, parameters, listBehind, routineFrom, routine}
 use Rattle.check_form.proofs.Beyond.{Beyond, refuses, ends, sooner, either, follows, on, strictly, turns-on, Kind, word-on, type-on, nested-on}
 use Rattle.paper.specs.Words.{wordLimit}
 
@@ -276,14 +276,14 @@ module _ (W : ℕ → ℕ) where
   unfolding parameters
   parameters-on at = either (eqb (W at) 7) (ends at at (omega arith)) (sooner at (omega arith) (separated-on (parameter W) parameter-on at))
 
-  error-on : (at : ℕ) → Beyond at (errorPart W at)
-  unfolding errorPart
-  error-on at = either (eqb (W at) 52) (sooner at (omega arith) (list-on 17 (at + 1))) (ends at at (omega arith))
+  behind-on : (s at : ℕ) → Beyond at (listBehind W s at)
+  unfolding listBehind
+  behind-on s at = either (eqb (W at) s) (sooner at (omega arith) (list-on 17 (at + 1))) (ends at at (omega arith))
 
   from-on : (lo c : ℕ) (r : Read) → Beyond lo r → Beyond lo (routineFrom W c r)
   unfolding routineFrom
   from-on lo c r h =
-      on (on (on (on (on (on (on (on h (strictly (word-on W 1))) (strictly (word-on W 6))) parameters-on) (strictly (word-on W 7))) declarations-on) (list-on 17)) error-on) (strictly (word-on W c))
+      on (on (on (on (on (on (on (on (on h (strictly (word-on W 1))) (strictly (word-on W 6))) parameters-on) (strictly (word-on W 7))) declarations-on) (list-on 17)) (behind-on ERROR)) (behind-on UNDO)) (strictly (word-on W c))
 
   routine-on : (s at : ℕ) → Beyond at (routine W s at)
   unfolding routine

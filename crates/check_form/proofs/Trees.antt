@@ -1,7 +1,7 @@
 -- The paper's parser, with its trees forgotten, goes over the same places and refuses the same words.
 use mathlib.Core.Path.{_≡_, refl, sym, ap, _∙_}
 use mathlib.Core.Bool.{Bool, true, false, _||_, _&&_}
-use mathlib.Core.List.{List, []}
+use mathlib.Core.List.{List, [], _∷_}
 use mathlib.Core.Option.{Option, none, some}
 use Prim.Native.Nat.{ℕ, zero, suc, _+_, _-_, _<_, _≤_}
 use native.Mathlib.Omega.{arith}
@@ -41,51 +41,46 @@ unfolding place _>>=_ _▸_
 goes at (got x) f g K s h e = e x ∙ ap (λ (r : Read). K (r ▸ g)) h
 goes at (no k i) f g K s h e = sym (s k i) ∙ ap (λ (r : Read). K (r ▸ g)) h
 
+-- a reading, and others behind it
+unfoldable pub behind : Read → List (ℕ → Read) → Read
+behind r [] = r
+behind r (g ∷ gs) = behind (r ▸ g) gs
+
+stays-refused : (k i : ℕ) (gs : List (ℕ → Read)) → behind (Refused k i) gs ≡ Refused k i
+unfolding behind _▸_
+stays-refused k i [] = refl
+stays-refused k i (g ∷ gs) = stays-refused k i gs
+
+pub then-more : {A B : Type 0} {q : Read} (at : A → ℕ) (p : Parsed A) (f : A → Parsed (B × ℕ)) (g : ℕ → Read) (gs : List (ℕ → Read)) → place at p ≡ q
+    → ((x : A) → forget (f x) ≡ behind (g (at x)) gs) → forget (p >>= f) ≡ behind q (g ∷ gs)
+unfolding behind
+then-more at p f g gs h e = goes at p f g (λ (y : Read). behind y gs) (λ k i. stays-refused k i gs) h e
+
+-- with so many more behind it
 pub then-0 : {A B : Type 0} {q : Read} (at : A → ℕ) (p : Parsed A) (f : A → Parsed (B × ℕ)) (g : ℕ → Read) → place at p ≡ q
-    → ((x : A) → forget (f x) ≡ (g (at x))) → forget (p >>= f) ≡ (q ▸ g)
-unfolding _▸_
-then-0 at p f g h e = goes at p f g (λ (y : Read). y) (λ k i. refl) h e
+    → ((x : A) → forget (f x) ≡ g (at x)) → forget (p >>= f) ≡ (q ▸ g)
+unfolding behind
+then-0 at p f g h e = then-more at p f g [] h e
 
-pub then-1 : {A B : Type 0} {q : Read} (at : A → ℕ) (p : Parsed A) (f : A → Parsed (B × ℕ)) (g : ℕ → Read) (h1 : ℕ → Read) → place at p ≡ q
+pub then-1 : {A B : Type 0} {q : Read} (at : A → ℕ) (p : Parsed A) (f : A → Parsed (B × ℕ)) (g h1 : ℕ → Read) → place at p ≡ q
     → ((x : A) → forget (f x) ≡ (g (at x) ▸ h1)) → forget (p >>= f) ≡ (q ▸ g ▸ h1)
-unfolding _▸_
-then-1 at p f g h1 h e = goes at p f g (λ (y : Read). y ▸ h1) (λ k i. refl) h e
+unfolding behind
+then-1 at p f g h1 h e = then-more at p f g (h1 ∷ []) h e
 
-pub then-2 : {A B : Type 0} {q : Read} (at : A → ℕ) (p : Parsed A) (f : A → Parsed (B × ℕ)) (g : ℕ → Read) (h1 : ℕ → Read) (h2 : ℕ → Read) → place at p ≡ q
+pub then-2 : {A B : Type 0} {q : Read} (at : A → ℕ) (p : Parsed A) (f : A → Parsed (B × ℕ)) (g h1 h2 : ℕ → Read) → place at p ≡ q
     → ((x : A) → forget (f x) ≡ (g (at x) ▸ h1 ▸ h2)) → forget (p >>= f) ≡ (q ▸ g ▸ h1 ▸ h2)
-unfolding _▸_
-then-2 at p f g h1 h2 h e = goes at p f g (λ (y : Read). y ▸ h1 ▸ h2) (λ k i. refl) h e
-
-pub then-3 : {A B : Type 0} {q : Read} (at : A → ℕ) (p : Parsed A) (f : A → Parsed (B × ℕ)) (g : ℕ → Read) (h1 : ℕ → Read) (h2 : ℕ → Read) (h3 : ℕ → Read) → place at p ≡ q
-    → ((x : A) → forget (f x) ≡ (g (at x) ▸ h1 ▸ h2 ▸ h3)) → forget (p >>= f) ≡ (q ▸ g ▸ h1 ▸ h2 ▸ h3)
-unfolding _▸_
-then-3 at p f g h1 h2 h3 h e = goes at p f g (λ (y : Read). y ▸ h1 ▸ h2 ▸ h3) (λ k i. refl) h e
-
-pub then-4 : {A B : Type 0} {q : Read} (at : A → ℕ) (p : Parsed A) (f : A → Parsed (B × ℕ)) (g : ℕ → Read) (h1 : ℕ → Read) (h2 : ℕ → Read) (h3 : ℕ → Read) (h4 : ℕ → Read) → place at p ≡ q
-    → ((x : A) → forget (f x) ≡ (g (at x) ▸ h1 ▸ h2 ▸ h3 ▸ h4)) → forget (p >>= f) ≡ (q ▸ g ▸ h1 ▸ h2 ▸ h3 ▸ h4)
-unfolding _▸_
-then-4 at p f g h1 h2 h3 h4 h e = goes at p f g (λ (y : Read). y ▸ h1 ▸ h2 ▸ h3 ▸ h4) (λ k i. refl) h e
-
-pub then-5 : {A B : Type 0} {q : Read} (at : A → ℕ) (p : Parsed A) (f : A → Parsed (B × ℕ)) (g : ℕ → Read) (h1 : ℕ → Read) (h2 : ℕ → Read) (h3 : ℕ → Read) (h4 : ℕ → Read) (h5 : ℕ → Read) → place at p ≡ q
-    → ((x : A) → forget (f x) ≡ (g (at x) ▸ h1 ▸ h2 ▸ h3 ▸ h4 ▸ h5)) → forget (p >>= f) ≡ (q ▸ g ▸ h1 ▸ h2 ▸ h3 ▸ h4 ▸ h5)
-unfolding _▸_
-then-5 at p f g h1 h2 h3 h4 h5 h e = goes at p f g (λ (y : Read). y ▸ h1 ▸ h2 ▸ h3 ▸ h4 ▸ h5) (λ k i. refl) h e
-
-pub then-6 : {A B : Type 0} {q : Read} (at : A → ℕ) (p : Parsed A) (f : A → Parsed (B × ℕ)) (g : ℕ → Read) (h1 : ℕ → Read) (h2 : ℕ → Read) (h3 : ℕ → Read) (h4 : ℕ → Read) (h5 : ℕ → Read) (h6 : ℕ → Read) → place at p ≡ q
-    → ((x : A) → forget (f x) ≡ (g (at x) ▸ h1 ▸ h2 ▸ h3 ▸ h4 ▸ h5 ▸ h6)) → forget (p >>= f) ≡ (q ▸ g ▸ h1 ▸ h2 ▸ h3 ▸ h4 ▸ h5 ▸ h6)
-unfolding _▸_
-then-6 at p f g h1 h2 h3 h4 h5 h6 h e = goes at p f g (λ (y : Read). y ▸ h1 ▸ h2 ▸ h3 ▸ h4 ▸ h5 ▸ h6) (λ k i. refl) h e
-
-pub then-7 : {A B : Type 0} {q : Read} (at : A → ℕ) (p : Parsed A) (f : A → Parsed (B × ℕ)) (g : ℕ → Read) (h1 : ℕ → Read) (h2 : ℕ → Read) (h3 : ℕ → Read) (h4 : ℕ → Read) (h5 : ℕ → Read) (h6 : ℕ → Read) (h7 : ℕ → Read) → place at p ≡ q
-    → ((x : A) → forget (f x) ≡ (g (at x) ▸ h1 ▸ h2 ▸ h3 ▸ h4 ▸ h5 ▸ h6 ▸ h7)) → forget (p >>= f) ≡ (q ▸ g ▸ h1 ▸ h2 ▸ h3 ▸ h4 ▸ h5 ▸ h6 ▸ h7)
-unfolding _▸_
-then-7 at p f g h1 h2 h3 h4 h5 h6 h7 h e = goes at p f g (λ (y : Read). y ▸ h1 ▸ h2 ▸ h3 ▸ h4 ▸ h5 ▸ h6 ▸ h7) (λ k i. refl) h e
+unfolding behind
+then-2 at p f g h1 h2 h e = then-more at p f g (h1 ∷ h2 ∷ []) h e
 
 -- it ends there, but for the tree
 pub ends-so : {A B : Type 0} {q : Read} (at : A → ℕ) (p : Parsed A) (t : A → B) → place at p ≡ q → forget (p >>= (λ x. got (t x, at x))) ≡ q
 unfolding place _>>=_
 ends-so at (got x) t h = h
 ends-so at (no k i) t h = h
+
+pub ends-behind : {A B : Type 0} {q : Read} (at : A → ℕ) (p : Parsed A) (t : A → B) → place at p ≡ q → forget (p >>= (λ x. got (t x, at x))) ≡ behind q []
+unfolding behind
+ends-behind at p t h = ends-so at p t h
 
 pub choice : {A : Type 0} {q s : Read} (b : Bool) (p r : Parsed (A × ℕ)) → forget p ≡ q → forget r ≡ s → forget (if b then p else r) ≡ (if b then q else s)
 choice true p r h e = h

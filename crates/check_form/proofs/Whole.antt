@@ -1,13 +1,14 @@
 -- Data, routines and the module: the paper's verdict is what the code comes to.
 use mathlib.Core.Path.{_≡_, refl, sym, ap, _∙_}
 use mathlib.Core.Bool.{Bool, true, false}
-use mathlib.Core.List.{List}
+use mathlib.Core.List.{List, [], _∷_}
 use mathlib.Core.Option.{Option, none, some}
 use Prim.Native.Nat.{ℕ, zero, suc, _+_}
 use lib.Dec.{eqb}
 use borrow.Author.Tests.{eqb-true, eq-eqb, ne-eqb}
 use Rattle.laws.proofs.Tests.{test}
 use Rattle.paper.specs.Basics.{if_then_else_}
+use Rattle.paper.specs.Sorts.{ERROR, UNDO}
 use Rattle.paper.specs.Trees.{Module}
 use Rattle.paper.specs.Expressions as paper
 use Rattle.paper.specs.Expressions.{Parsed, Parser, got, no, _>>=_, startsData, startsRoutine}
@@ -21,7 +22,7 @@ use Rattle.check_form.specs.declared.Verdict.the-variants as verdict
 use Rattle.check_form.specs.Places as places
 use Rattle.check_form.specs.Places.{Lent, sortsIn, _▸_}
 use Rattle.check_form.specs.Judged.{outcome, Judged}
-use Rattle.check_form.proofs.Trees.{place, second, itself, forget, then-0, then-1, then-2, then-3, then-4, then-5, then-6, then-7, ends-so, choice, Same, word-is, type-is, expression-is, separated-is, repeated-is}
+use Rattle.check_form.proofs.Trees.{place, second, itself, forget, behind, then-more, then-0, then-1, then-2, ends-so, ends-behind, choice, Same, word-is, type-is, expression-is, separated-is, repeated-is}
 use Rattle.check_form.proofs.Modules.{list-is}
 
 module _ (W : ℕ → ℕ) where
@@ -86,29 +87,34 @@ module _ (code : List ℕ) (words : ℕ) (lent : Lent code words) where
   abbrev W : ℕ → ℕ
   W = sortsIn code words
 
-  error-is : Same (modules.errorPart W) (places.errorPart W)
-  unfolding modules.errorPart places.errorPart place
-  error-is at =
-      test (eqb (W at) 52) (λ t. rw (t, modules.errorPart) (ends-so second (statements.list W (at + 1)) _ (list-is code words lent (at + 1)))) (λ t. rw (t, modules.errorPart))
+  behind-is : (s : ℕ) → Same (modules.listBehind W s) (places.listBehind W s)
+  unfolding modules.listBehind places.listBehind place
+  behind-is s at =
+      test (eqb (W at) s) (λ t. rw (t, modules.listBehind) (ends-so second (statements.list W (at + 1)) _ (list-is code words lent (at + 1)))) (λ t. rw (t, modules.listBehind))
 
-  from-is : (result : Option ℕ) (closing at : ℕ) → forget (modules.routineFrom W result closing at)
-      ≡ (places.word W 1 at ▸ places.word W 6 ▸ places.parameters W ▸ places.word W 7 ▸ places.declarations W ▸ places.listBelow W 17 ▸ places.errorPart W ▸ places.word W closing)
+  -- what stands behind a routine's name
+  abbrev behindName : (closing : ℕ) → List (ℕ → Read)
+  behindName closing =
+      places.word W 6 ∷ places.parameters W ∷ places.word W 7 ∷ places.declarations W ∷ places.listBelow W 17 ∷ places.listBehind W ERROR ∷ places.listBehind W UNDO ∷ places.word W closing ∷ []
+
+  from-is : (result : Option ℕ) (closing at : ℕ) → forget (modules.routineFrom W result closing at) ≡ behind (places.word W 1 at) (behindName closing)
   unfolding modules.routineFrom
   from-is result closing at =
-      then-6 itself (paper.expect W 1 at) _ _ _ _ _ _ _ _ (word-is W 1 at)
-      (λ a. then-5 itself (paper.expect W 6 a) _ _ _ _ _ _ _ (word-is W 6 a)
-      (λ b. then-4 second (modules.parameters W b) _ _ _ _ _ _ (parameters-is W b)
-      (λ c. then-3 itself (paper.expect W 7 (c .1)) _ _ _ _ _ (word-is W 7 (c .1))
-      (λ d. then-2 second (modules.declarations W d) _ _ _ _ (declarations-is W d)
-      (λ e. then-1 second (statements.list W (e .1)) _ _ _ (list-is code words lent (e .1))
-      (λ f. then-0 second (modules.errorPart W (f .1)) _ _ (error-is (f .1))
-      (λ g. ends-so itself (paper.expect W closing (g .1)) _ (word-is W closing (g .1)))))))))
+      then-more itself (paper.expect W 1 at) _ _ _ (word-is W 1 at)
+      (λ a. then-more itself (paper.expect W 6 a) _ _ _ (word-is W 6 a)
+      (λ b. then-more second (modules.parameters W b) _ _ _ (parameters-is W b)
+      (λ c. then-more itself (paper.expect W 7 (c .1)) _ _ _ (word-is W 7 (c .1))
+      (λ d. then-more second (modules.declarations W d) _ _ _ (declarations-is W d)
+      (λ e. then-more second (statements.list W (e .1)) _ _ _ (list-is code words lent (e .1))
+      (λ f. then-more second (modules.listBehind W ERROR (f .1)) _ _ _ (behind-is ERROR (f .1))
+      (λ g. then-more second (modules.listBehind W UNDO (g .1)) _ _ _ (behind-is UNDO (g .1))
+      (λ h. ends-behind itself (paper.expect W closing (h .1)) _ (word-is W closing (h .1))))))))))
 
   routine-is : Same (modules.routine W) (places.startedBy W (places.routine W))
-  unfolding modules.routine modules.function places.startedBy places.routine places.routineFrom _▸_
+  unfolding modules.routine modules.function places.startedBy places.routine places.routineFrom behind _▸_
   routine-is at =
       choice (eqb (W at) 69) _ _ (from-is none 47 (at + 1))
-      (then-7 itself (paper.expectType W (at + 1)) _ _ _ _ _ _ _ _ _ (type-is W (at + 1)) (λ n. from-is (some (W (at + 1))) 44 n))
+      (then-more itself (paper.expectType W (at + 1)) _ (places.word W 1) (behindName 44) (type-is W (at + 1)) (λ n. from-is (some (W (at + 1))) 44 n))
 
   routines-is : Same (modules.routines W) (places.routines W)
   unfolding modules.routines

@@ -7,7 +7,7 @@ use lib.Dec.{eqb, ltb}
 use lib.ListN.{length, getD}
 use Rattle.paper.specs.Basics.{if_then_else_}
 use Rattle.paper.specs.Sorts.{NOTHING, NAME, STRING, semicolon, comma, openParen, closeParen, openBrace, closeBrace, colon, becomes, plus, minusSign, backslash}
-use Rattle.paper.specs.Sorts.{CASE, CONST, DEFAULT, DO, ELSE, ELSEIF, ENDFOR, ENDFUNC, ENDIF, ENDMODULE, ENDPROC, ENDTEST, ENDWHILE, ERROR, EXIT, FOR, FROM, FUNC, IF, MODULE, NOT, PROC, RAISE, RETRY, RETURN, STEP, TEST, THEN, TO, TRYNEXT, VAR, WHILE, NUM, TPWRITE, TPREADNUM}
+use Rattle.paper.specs.Sorts.{CASE, CONST, DEFAULT, DO, ELSE, ELSEIF, ENDFOR, ENDFUNC, ENDIF, ENDMODULE, ENDPROC, ENDTEST, ENDWHILE, ERROR, EXIT, FOR, FROM, FUNC, IF, MODULE, NOT, PROC, RAISE, RETRY, RETURN, STEP, TEST, THEN, TO, TRYNEXT, UNDO, VAR, WHILE, NUM, TPWRITE, TPREADNUM}
 use Rattle.paper.specs.Words.{wordLimit}
 use Rattle.paper.specs.Expressions.{parts, nestings, relations, conjunctions, disjunctions, levelOf, standsBefore, isLiteral, isType, startsData, startsRoutine, startsSimple, startsStatement}
 use Rattle.layout.specs.Rules.{noForm, deepNesting}
@@ -261,12 +261,13 @@ module _ (W : ℕ → ℕ) where
   unfoldable pub parameters : ℕ → Read
   parameters at = if eqb (W at) closeParen then Upto at else separated parameter at
 
-  unfoldable pub errorPart : ℕ → Read
-  errorPart at = if eqb (W at) ERROR then listBelow (suc nestings) (at + 1) else Upto at
+  -- the list behind a word of that sort, if any
+  unfoldable pub listBehind : (sort : ℕ) → ℕ → Read
+  listBehind s at = if eqb (W at) s then listBelow (suc nestings) (at + 1) else Upto at
 
   unfoldable pub routineFrom : (closing : ℕ) → Read → Read
   routineFrom closing r =
-      r ▸ word NAME ▸ word openParen ▸ parameters ▸ word closeParen ▸ declarations ▸ listBelow (suc nestings) ▸ errorPart ▸ word closing
+      r ▸ word NAME ▸ word openParen ▸ parameters ▸ word closeParen ▸ declarations ▸ listBelow (suc nestings) ▸ listBehind ERROR ▸ listBehind UNDO ▸ word closing
 
   unfoldable pub routine : (starts : ℕ) → ℕ → Read
   routine s at = if eqb s PROC then routineFrom ENDPROC (Upto at) else routineFrom ENDFUNC (typeWord at)

@@ -11,7 +11,7 @@ ghost use Rattle.paper.specs.Expressions.{levelOf, startsSimple};
 ghost use Rattle.check_form.specs.Places.{Lent, sortsIn, _▸_, _▹_, word, typeWord, expressionIn, expression, expressions, arguments, optional};
 ghost use Rattle.check_form.specs.Places.{target, rightSide, assigns, startedByName, writing, wanting, simpleWord, simple, stepPart, forHead};
 ghost use Rattle.check_form.specs.Places.{startsCompound, armEnd, caseEnd, listEnd, ifHead, testHead, opened, compound, listBelow};
-ghost use Rattle.check_form.specs.Places.{content, declaration, declarations, parameters, errorPart, routineFrom, routine, routines};
+ghost use Rattle.check_form.specs.Places.{content, declaration, declarations, parameters, listBehind, routineFrom, routine, routines};
 ghost use Rattle.check_form.specs.Places.{operand, behindNot, behindSign};
 ghost use Rattle.check_form.specs.Judged.{Judged};
 
@@ -712,15 +712,15 @@ impl Read {
         list(code, words, n, NESTINGS)
     }
 
-    // The ERROR list, if any.
-    fn handler(self, code: &[u8], words: usize) -> Read
-        requires { ⌜ Lent (now code) words ⌝ }
-        ensures { λ r. ⌜ r ≡ (self ▸ errorPart (sortsIn (now (code .entry)) words)) ⌝ }
+    // The list behind a word of that sort, ERROR or UNDO, if any.
+    fn list_behind(self, code: &[u8], words: usize, s: u32) -> Read
+        requires { ⌜ Lent (now code) words × (0 < s) ⌝ }
+        ensures { λ r. ⌜ r ≡ (self ▸ listBehind (sortsIn (now (code .entry)) words) s) ⌝ }
     {
         let Read::Upto(n) = self else {
             return self;
         };
-        if sort(code, words, n) != ERROR {
+        if sort(code, words, n) != s {
             return self;
         }
         list(code, words, n + 1, NESTINGS)
@@ -737,7 +737,8 @@ impl Read {
             .word(code, words, CLOSE_PAREN)
             .declarations(code, words)
             .list(code, words)
-            .handler(code, words)
+            .list_behind(code, words, ERROR)
+            .list_behind(code, words, UNDO)
             .word(code, words, closing)
     }
 

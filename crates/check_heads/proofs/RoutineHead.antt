@@ -23,7 +23,7 @@ use Rattle.code.specs.Signatures.{typeAt, typesAt, firstParameter, resultAt, he
 use Rattle.code.proofs.Signatures.{type-kept, types-kept}
 use Rattle.grammar.specs.Form.{Parses, ParametersAt, HeadAt, a-proc, a-func, RoutineAt}
 use Rattle.grammar.proofs.Inversions.{IsProc, IsFunc, head-proc, head-func}
-use Rattle.grammar.proofs.Places.{parameters-grow, declarations-grow, list-grows, handler-grows, head-grows}
+use Rattle.grammar.proofs.Places.{parameters-grow, declarations-grow, list-grows, behind-grows, head-grows}
 use Rattle.check_heads.specs.Stores.{Marked, Valued, Lain}
 use Rattle.check_heads.specs.Trees.{headFor, givenTypes, givenSignature}
 use Rattle.check_heads.specs.Parts.{markOf, ParametersStand, ParametersMarked, Parameters, Names, RoutineStands, RoutineKnown, Begun}
@@ -57,7 +57,8 @@ module _ (W : List Word) (r : Routine) (h to : ℕ) (form : RoutineAt (sortIn W)
         arith,
         declarations-grow (sortIn W) (Parses (sortIn W)) (expression-grows (sortIn W)) (form .declared),
         list-grows (sortIn W) (Parses (sortIn W)) (expression-grows (sortIn W)) (form .body .statements),
-        handler-grows (sortIn W) (Parses (sortIn W)) (expression-grows (sortIn W)) (form .handler),
+        behind-grows (sortIn W) (Parses (sortIn W)) (expression-grows (sortIn W)) (form .handler),
+        behind-grows (sortIn W) (Parses (sortIn W)) (expression-grows (sortIn W)) (form .undo),
       )
 
   pub name-before : r .name + 2 ≤ form .close

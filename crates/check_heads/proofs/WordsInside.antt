@@ -18,7 +18,7 @@ use Rattle.grammar.specs.Form.{Parses, SeparatedAt, last-one, one-more, ClosedA
 use Rattle.grammar.specs.Form.{ExprAt, ExprsAt, ArgumentsAt, IndexAt, no-index, in-braces, TargetAt, OptionalAt, no-value, a-value, NumberAt, no-number, a-number}
 use Rattle.grammar.specs.Form.{SimpleAt, assigning, assigning-call, calling, returning, raising, exiting, retrying, trying-next, writing, reading, StepAt, no-step, a-step, ForHeadAt}
 use Rattle.grammar.specs.Form.{StatementAt, plain, compact, full, counting, looping, testing, ListAt, ended, begun, ArmsAt, last-arm, more-arms, ElseAt, no-else, an-else, CasesAt, no-more-cases, one-case, DefaultAt, no-default, a-default}
-use Rattle.grammar.specs.Form.{ContentAt, no-content, initial, sized, constant, DeclaredAt, ParameterAt, HandlerAt, no-handler, a-handler, RoutineAt}
+use Rattle.grammar.specs.Form.{ContentAt, no-content, initial, sized, constant, DeclaredAt, ParameterAt, ListBehindAt, no-list, a-list, RoutineAt}
 use Rattle.check_heads.specs.Parts.{isOneOf}
 
 -- ---- words from a on and before b
@@ -295,17 +295,16 @@ module _ (W : ℕ → ℕ) where
   unfolding inRoutine isOneOf
   parameter-in p at to h = upto (word refl (type-in (W at) (h .typed)) ▸ second at (h .name) refl) (h .after)
 
-  handler-in : {o : Option RoutineList} {at to : ℕ} → HandlerAt W E o at to → In at to
-  unfolding inRoutine isOneOf
-  handler-in (no-handler f e) = upto (none (omega arith)) e
-  handler-in (a-handler c h) = word c refl ▸ list-in (h .statements)
+  behind-in : {sort : ℕ} {o : Option RoutineList} {at to : ℕ} → inRoutine sort ≡ true → ListBehindAt W E sort o at to → In at to
+  behind-in s (no-list f e) = upto (none (omega arith)) e
+  behind-in s (a-list c h) = word c s ▸ list-in (h .statements)
 
   -- from its name on
   pub routine-words : (r : Routine) (at to : ℕ) (h : RoutineAt W E r at to) → In (r .name) (h .end)
   unfolding inRoutine isOneOf
   routine-words r at to h =
       word (h .name) refl ▸ second (r .name) (h .opens) refl ▸ closed-in (ParameterAt W E) parameter-in (h .parameters) ▸ word (h .closes) refl
-      ▸ repeated-in (DeclaredAt W E) declared-in (h .declared) ▸ list-in (h .body .statements) ▸ handler-in (h .handler)
+      ▸ repeated-in (DeclaredAt W E) declared-in (h .declared) ▸ list-in (h .body .statements) ▸ behind-in refl (h .handler) ▸ behind-in refl (h .undo)
 
   -- ---- expressions have words
   pub expression-grows : (d at : ℕ) (e : Expr) (to : ℕ) → Parses W d at e to → at < to

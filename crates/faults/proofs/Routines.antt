@@ -11,13 +11,13 @@ use Rattle.paper.specs.Types.{Fault}
 use Rattle.paper.specs.Declarations.{routineLimit, crosses, noData, Signature, declareParameters, dataTexts, routineNameFaults, moduleFilling, routineNames, moduleData, routineFilling, routineData, signatures}
 use Rattle.paper.specs.Checks.{routineFaults, allRoutineFaults, faults}
 use Rattle.grammar.specs.Form.{none-starts, one-starts, Parses, RoutineAt, RoutinesAt, ModuleAt}
-use Rattle.grammar.proofs.Places.{parameters-grow, declarations-grow, list-grows, handler-grows, head-grows, routines-grow}
+use Rattle.grammar.proofs.Places.{parameters-grow, declarations-grow, list-grows, behind-grows, head-grows, routines-grow}
 use Rattle.faults.specs.First.{no-fault, Inside, First}
-use Rattle.faults.specs.Parts.{inParameters, inData, inBody, inHandler}
+use Rattle.faults.specs.Parts.{inParameters, inData, inBody, inHandler, inUndoList}
 use Rattle.faults.specs.Left.{headFaults, ownFaults, leftFaults, Left}
 use Rattle.faults.proofs.First.{_and_, widen, inside-if, leads-later, first-inside, first-left, first-before, first-after, first-between, first-lower, first-higher, neither-rule, nothing-in-both}
 use Rattle.faults.proofs.Expressions.{grows}
-use Rattle.faults.proofs.Statements.{list-inside, handler-inside}
+use Rattle.faults.proofs.Statements.{list-inside, behind-inside}
 use Rattle.faults.proofs.Declarations.{data-adds, parameters-add, data-left, data-inside, parameters-inside}
 
 -- ---- places
@@ -31,15 +31,18 @@ module _ (W : List Word) {r : Routine} {at to : ℕ} (h : RoutineAt (sortIn W) (
   body-on : h .begin ≤ r .body .closes
   body-on = list-grows (sortIn W) (Parses (sortIn W)) (grows W) (h .body .statements)
 
-  handler-on : r .body .closes ≤ h .end
-  handler-on = handler-grows (sortIn W) (Parses (sortIn W)) (grows W) (h .handler)
+  handler-on : r .body .closes ≤ h .undoAt
+  handler-on = behind-grows (sortIn W) (Parses (sortIn W)) (grows W) (h .handler)
+
+  undo-on : h .undoAt ≤ h .end
+  undo-on = behind-grows (sortIn W) (Parses (sortIn W)) (grows W) (h .undo)
 
   -- The name is one of the routine's words.
   pub name-after : at < r .name
   name-after = head-grows (sortIn W) (Parses (sortIn W)) (grows W) (h .head)
 
   pub name-below : r .name < to
-  name-below = omega (arith, parameters-on, data-on, body-on, handler-on, h .after)
+  name-below = omega (arith, parameters-on, data-on, body-on, handler-on, undo-on, h .after)
 
 -- ---- one routine
 module _ (W : List Word) (m : Module) where
@@ -49,9 +52,9 @@ module _ (W : List Word) (m : Module) where
       data-adds W (routineFilling W m) (r .declared) (declareParameters W (routineFilling W m) (r .parameters) noData)
       ∙ ap (λ (l : List Fault). l ++ inData W m r) (parameters-add W (routineFilling W m) (r .parameters) noData)
 
-  pub routine-are : (sigs : List Signature) (k : ℕ) (r : Routine) → routineFaults W m sigs k r ≡ inParameters W m r ++ inData W m r ++ inBody W m sigs k r ++ inHandler W m sigs k r
+  pub routine-are : (sigs : List Signature) (k : ℕ) (r : Routine) → routineFaults W m sigs k r ≡ inParameters W m r ++ inData W m r ++ inBody W m sigs k r ++ inHandler W m sigs k r ++ inUndoList W m sigs k r
   unfolding routineFaults
-  routine-are sigs k r = ap (λ (l : List Fault). l ++ inBody W m sigs k r ++ inHandler W m sigs k r) (routine-data-are r)
+  routine-are sigs k r = ap (λ (l : List Fault). l ++ inBody W m sigs k r ++ inHandler W m sigs k r ++ inUndoList W m sigs k r) (routine-data-are r)
 
   module _ (sigs : List Signature) (k : ℕ) {r : Routine} {at to : ℕ} (h : RoutineAt (sortIn W) (Parses (sortIn W)) r at to) where
     -- Where each part lies.
@@ -64,8 +67,11 @@ module _ (W : List Word) (m : Module) where
     pub in-body : Inside (h .begin) (r .body .closes) (inBody W m sigs k r)
     in-body = list-inside W _ _ (h .body .statements) _ _
 
-    pub in-handler : Inside (r .body .closes) (h .end) (inHandler W m sigs k r)
-    in-handler = handler-inside W _ _ (h .handler) _ _
+    pub in-handler : Inside (r .body .closes) (h .undoAt) (inHandler W m sigs k r)
+    in-handler = behind-inside W _ _ (h .handler) _ _
+
+    pub in-undo : Inside (h .undoAt) (h .end) (inUndoList W m sigs k r)
+    in-undo = behind-inside W _ _ (h .undo) _ _
 
     pub routine-inside : Inside (suc (r .name)) to (routineFaults W m sigs k r)
     routine-inside =
@@ -73,42 +79,54 @@ module _ (W : List Word) (m : Module) where
         let d = data-on W h in
         let b = body-on W h in
         let l = handler-on W h in
+        let u = undo-on W h in
         rw (routine-are sigs k r)
         (widen in-parameters (omega arith) (omega (arith, h .after))
         and widen in-data (omega arith) (omega (arith, h .after))
         and widen in-body (omega arith) (omega (arith, h .after))
-        and widen in-handler (omega arith) (omega (arith, h .after)))
+        and widen in-handler (omega arith) (omega (arith, h .after))
+        and widen in-undo (omega arith) (omega (arith, h .after)))
 
     -- A fault is found in one of them, and none before it.
     module _ {f : Fault} where
+      -- it stands before all lists
+      before-lists : {xs : List Fault} → First f xs → f .at < h .begin → First f (xs ++ inBody W m sigs k r ++ inHandler W m sigs k r ++ inUndoList W m sigs k r)
+      before-lists g low =
+          let b = body-on W h in
+          let l = handler-on W h in
+          first-left (first-left (first-left g (leads-later f in-body low)) (leads-later f in-handler (omega arith))) (leads-later f in-undo (omega arith))
+
       pub found-in-parameters : First f (inParameters W m r) → First f (routineFaults W m sigs k r)
       found-in-parameters g =
           let d = data-on W h in
-          let b = body-on W h in
-          rw (routine-are sigs k r)
-          (first-left (first-left (first-left g (leads-later f in-data (omega (arith, first-inside g in-parameters .high))))
-          (leads-later f in-body (omega (arith, first-inside g in-parameters .high)))) (leads-later f in-handler (omega (arith, first-inside g in-parameters .high))))
+          let p = first-inside g in-parameters .high in
+          rw (routine-are sigs k r) (before-lists (first-left g (leads-later f in-data (omega arith))) (omega arith))
 
       pub found-in-data : inParameters W m r ≡ [] → First f (inData W m r) → First f (routineFaults W m sigs k r)
-      found-in-data e g =
-          let b = body-on W h in
-          rw (routine-are sigs k r)
-          (first-left (first-left (first-after e g) (leads-later f in-body (omega (arith, first-inside g in-data .high)))) (leads-later f in-handler (omega (arith, first-inside g in-data .high))))
+      found-in-data e g = rw (routine-are sigs k r) (before-lists (first-after e g) (first-inside g in-data .high))
 
       pub found-in-body : routineData W m r .faults ≡ [] → First f (inBody W m sigs k r) → First f (routineFaults W m sigs k r)
       unfolding routineFaults
-      found-in-body e g = first-left (first-after e g) (leads-later f in-handler (omega (arith, first-inside g in-body .high)))
+      found-in-body e g =
+          let b = first-inside g in-body .high in
+          let l = handler-on W h in
+          first-left (first-left (first-after e g) (leads-later f in-handler b)) (leads-later f in-undo (omega arith))
 
       pub found-in-handler : routineData W m r .faults ≡ [] → inBody W m sigs k r ≡ [] → First f (inHandler W m sigs k r) → First f (routineFaults W m sigs k r)
       unfolding routineFaults
-      found-in-handler e l g = first-after (nothing-in-both e l) g
+      found-in-handler e l g = first-left (first-after (nothing-in-both e l) g) (leads-later f in-undo (first-inside g in-handler .high))
+
+      pub found-in-undo : routineData W m r .faults ≡ [] → inBody W m sigs k r ≡ [] → inHandler W m sigs k r ≡ [] → First f (inUndoList W m sigs k r) → First f (routineFaults W m sigs k r)
+      unfolding routineFaults
+      found-in-undo e l n g = first-after (nothing-in-both (nothing-in-both e l) n) g
 
   pub nothing-in-data : (r : Routine) → inParameters W m r ≡ [] → inData W m r ≡ [] → routineData W m r .faults ≡ []
   nothing-in-data r e g = routine-data-are r ∙ nothing-in-both e g
 
-  pub nothing-in-routine : (sigs : List Signature) (k : ℕ) (r : Routine) → routineData W m r .faults ≡ [] → inBody W m sigs k r ≡ [] → inHandler W m sigs k r ≡ [] → routineFaults W m sigs k r ≡ []
+  pub nothing-in-routine : (sigs : List Signature) (k : ℕ) (r : Routine) → routineData W m r .faults ≡ [] → inBody W m sigs k r ≡ [] → inHandler W m sigs k r ≡ []
+      → inUndoList W m sigs k r ≡ [] → routineFaults W m sigs k r ≡ []
   unfolding routineFaults
-  nothing-in-routine sigs k r e l g = nothing-in-both (nothing-in-both e l) g
+  nothing-in-routine sigs k r e l n g = nothing-in-both (nothing-in-both (nothing-in-both e l) n) g
 
 -- ---- routines
 module _ (W : List Word) where

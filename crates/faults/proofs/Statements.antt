@@ -13,12 +13,12 @@ use Rattle.paper.specs.Trees.{Expr, element, Target, Simple, Statement, Stateme
 use Rattle.paper.specs.Names.{DataType, aNum, aBool, Meaning, routineIn, variableIn, wrongName, Scopes, sortIn, spelled, meaning}
 use Rattle.paper.specs.Types.{Fault, Judged, wanted, raisesError}
 use Rattle.paper.specs.Declarations.{Signature}
-use Rattle.paper.specs.Checks.{Setting, isOtherKind, noSignature, judgeScalarTarget, judgeTarget, argumentFaults, signatureFaults, calleeFaults, callFaults, resultFaults, returnFaults, optionalNum, simpleFaults, caseFaults, statementFaults, listFaults, armFaults, casesFaults, handlerFaults}
+use Rattle.paper.specs.Checks.{Setting, isOtherKind, noSignature, judgeScalarTarget, judgeTarget, argumentFaults, signatureFaults, calleeFaults, callFaults, resultFaults, returnFaults, optionalNum, simpleFaults, caseFaults, statementFaults, listFaults, armFaults, casesFaults, optionalFaults}
 use Rattle.climb.specs.Places.{Spans}
 use Rattle.grammar.specs.Form.{last-one, one-more, closed-at-once, closed-later, Parses}
 use Rattle.grammar.specs.Form.{ExprsAt, ArgumentsAt, IndexAt, no-index, in-braces, TargetAt, OptionalAt, no-value, a-value, NumberAt, no-number, a-number}
 use Rattle.grammar.specs.Form.{SimpleAt, assigning, assigning-call, calling, returning, raising, exiting, retrying, trying-next, writing, reading, StepAt, no-step, a-step}
-use Rattle.grammar.specs.Form.{StatementAt, plain, compact, full, counting, looping, testing, ListAt, ended, begun, ArmsAt, last-arm, more-arms, ElseAt, no-else, an-else, CasesAt, no-more-cases, one-case, DefaultAt, no-default, a-default, HandlerAt, no-handler, a-handler}
+use Rattle.grammar.specs.Form.{StatementAt, plain, compact, full, counting, looping, testing, ListAt, ended, begun, ArmsAt, last-arm, more-arms, ElseAt, no-else, an-else, CasesAt, no-more-cases, one-case, DefaultAt, no-default, a-default, ListBehindAt, no-list, a-list}
 use Rattle.grammar.proofs.Places.{exprs-grow, arguments-grow, target-grows, simple-grows, step-grows, statement-grows, list-grows, arms-grow, else-grows, cases-grow, default-grows}
 use Rattle.faults.specs.First.{no-fault, Inside, First, Ordered}
 use Rattle.faults.proofs.First.{_and_, widen, inside-fault, inside-if, headed-first, ordered-none}
@@ -99,7 +99,7 @@ module _ (W : List Word) where
 
     pub call-inside : (K : Setting) (f : Bool) (S : Scopes) (es : List Expr) → ((ts : List DataType) → Inside a b (argumentFaults W S ts es)) → Inside a b (callFaults W K f S i es)
     unfolding callFaults
-    call-inside K f S es h = callee-inside K f (meaning S (spelled W i)) es and h _
+    call-inside K f S es h = inside-if _ 17 i a b low high and callee-inside K f (meaning S (spelled W i)) es and h _
 
     pub result-inside : (j : Judged) (o : Option DataType) → Inside a b (resultFaults W j o i)
     unfolding resultFaults
@@ -115,7 +115,8 @@ module _ (W : List Word) where
       by-result : (o : Option DataType) → K .result ≡ o → Inside at to (returnFaults W K S i (some x))
       by-result none q =
           rw (q, returnFaults) (inside-fault 17 i at to (omega arith) (omega (arith, grows W _ _ _ _ k)) and widen (faults-of-inside W _ _ _ _ k S) (omega arith) (omega arith))
-      by-result (some t) q = rw (q, returnFaults) (widen (of-type-inside W _ _ _ _ k t S) (omega arith) (omega arith))
+      by-result (some t) q =
+          rw (q, returnFaults) (inside-if _ 17 i at to (omega arith) (omega (arith, grows W _ _ _ _ k)) and widen (of-type-inside W _ _ _ _ k t S) (omega arith) (omega arith))
 
   pub number-inside : (S : Scopes) {o : Option Expr} {at to : ℕ} → NumberAt (sortIn W) (Parses (sortIn W)) o at to → Inside at to (optionalNum W S o)
   unfolding optionalNum
@@ -158,7 +159,7 @@ module _ (W : List Word) where
   simple-inside K S (raising {i = j} {at = at} {to = to} i a (no-value s e)) = inside-if _ 17 j at to (omega arith) (omega arith)
   simple-inside K S (raising {i = j} {at = at} {to = to} i a (a-value f k)) =
       inside-if _ 17 j at to (omega arith) (omega (arith, grows W _ _ _ _ k)) and widen (of-type-inside W _ _ _ _ k aNum S) (omega arith) (omega arith)
-  simple-inside K S (exiting i a z) = no-fault
+  simple-inside K S (exiting {i = j} {at = at} {to = to} i a z) = inside-if _ 17 j at to (omega arith) (omega arith)
   simple-inside K S (retrying {i = j} {at = at} {to = to} i a z) = inside-if _ 17 j at to (omega arith) (omega arith)
   simple-inside K S (trying-next {i = j} {at = at} {to = to} i a z) = inside-if _ 17 j at to (omega arith) (omega arith)
   simple-inside K S (writing i a j s k) = widen (number-inside S k) (omega arith) (omega arith)
@@ -232,7 +233,7 @@ module _ (W : List Word) where
       default-inside (no-default f e) S n = no-fault
       default-inside (a-default c i l) S n = widen (list-inside l S n) (omega arith) (omega arith)
 
-    pub handler-inside : {o : Option RoutineList} {at to : ℕ} → HandlerAt (sortIn W) (Parses (sortIn W)) o at to → (S : Scopes) (n : ℕ) → Inside at to (handlerFaults W K M S n o)
-    unfolding handlerFaults
-    handler-inside (no-handler f e) S n = no-fault
-    handler-inside (a-handler c h) S n = widen (list-inside (h .statements) S n) (omega arith) (omega arith)
+    pub behind-inside : {sort : ℕ} {o : Option RoutineList} {at to : ℕ} → ListBehindAt (sortIn W) (Parses (sortIn W)) sort o at to → (S : Scopes) (n : ℕ) → Inside at to (optionalFaults W K M S n o)
+    unfolding optionalFaults
+    behind-inside (no-list f e) S n = no-fault
+    behind-inside (a-list c h) S n = widen (list-inside (h .statements) S n) (omega arith) (omega arith)

@@ -1,4 +1,4 @@
--- What the faults of a routine are made of: those of its parameters, of its data, of its statements and of its ERROR list.
+-- What the faults of a routine are made of: those of its parameters, of its data, of its statements, of its ERROR list and of its UNDO list.
 use mathlib.Core.List.{List}
 use Prim.Native.Nat.{ℕ, _+_}
 use lib.ListN.{length}
@@ -7,7 +7,7 @@ use Rattle.paper.specs.Terms.{Memory}
 use Rattle.paper.specs.Trees.{Routine, Module}
 use Rattle.paper.specs.Types.{Fault}
 use Rattle.paper.specs.Declarations.{noData, Signature, declareParameters, routineFilling, routineData, routineScopes}
-use Rattle.paper.specs.Checks.{theBody, theHandler, forsInList, listFaults, handlerFaults, settingIn}
+use Rattle.paper.specs.Checks.{theBody, theHandler, theUndo, forsInList, forsInOptional, listFaults, optionalFaults, settingIn}
 use Rattle.faults.specs.Added.{dataFaults, parameterFaults}
 
 module _ (W : List Word) (m : Module) where
@@ -25,4 +25,8 @@ module _ (W : List Word) (m : Module) where
 
   abbrev pub inHandler : List Signature → ℕ → Routine → List Fault
   inHandler sigs k r =
-      handlerFaults W (settingIn W sigs k r theHandler) (memoryOf r) (routineScopes W m r) (length (routineData W m r .words) + forsInList (r .body .statements)) (r .handler)
+      optionalFaults W (settingIn W sigs k r theHandler) (memoryOf r) (routineScopes W m r) (length (routineData W m r .words) + forsInList (r .body .statements)) (r .handler)
+
+  abbrev pub inUndoList : List Signature → ℕ → Routine → List Fault
+  inUndoList sigs k r =
+      optionalFaults W (settingIn W sigs k r theUndo) (memoryOf r) (routineScopes W m r) (length (routineData W m r .words) + forsInList (r .body .statements) + forsInOptional (r .handler)) (r .undo)

@@ -12,7 +12,7 @@ use Rattle.laws.proofs.Tests.{test, false-true}
 use Rattle.paper.specs.Basics.{if_then_else_}
 use Rattle.paper.specs.Sorts.{NOT, plus, minusSign, NAME, NUMBER, STRING, NUM, NOTHING, closeBrace, closeParen, openBrace, openParen, comma, semicolon, becomes, colon, backslash, CASE, DEFAULT, DO}
 use Rattle.paper.specs.Sorts.{ELSE, ELSEIF, ENDFOR, ENDFUNC, ENDIF, ENDMODULE, ENDPROC, ENDTEST, ENDWHILE, ERROR, EXIT, FOR, FROM, IF, MODULE, PROC, RAISE, RETRY, RETURN, STEP, TEST, THEN, TO}
-use Rattle.paper.specs.Sorts.{TPREADNUM, TPWRITE, TRYNEXT, VAR, WHILE}
+use Rattle.paper.specs.Sorts.{TPREADNUM, TPWRITE, TRYNEXT, UNDO, VAR, WHILE}
 use Rattle.paper.specs.Words.{wordLimit}
 use Rattle.paper.specs.Trees.{variableData, initialData, arrayData, constantData, Expr, leaf, element, nested, signed, joined, Target, Simple, assign, assignCall, call, returns, raises, exits}
 use Rattle.paper.specs.Trees.{retries, triesNext, writes, reads, Statement, Statements, Cases, simple, compactIf, fullIf, for, while, empty, _then_, noArm, arm, noCase, case, Content, Module}
@@ -22,7 +22,7 @@ use Rattle.paper.specs.Expressions.{startsStatement, expect, inParentheses, ind
 use Rattle.paper.specs.Statements.{targetIndex, target, valueSide, callSide, rightSide, assignment, procedureCall, startedByName, withOptional, written, tpWrite, tpReadNum, simpleWord}
 use Rattle.paper.specs.Statements.{simpleStatement, elsePart, lastArm, arms, ifThen, ifSimple, ifStatement, stepPart, forStatement, whileStatement, defaultPart, lastCase, cases, testStatement}
 use Rattle.paper.specs.Statements.{opening, plainStatement, statement, statements, listIn, list}
-use Rattle.paper.specs.Form.{initialPart, sizePart, varPart, constPart, datum, declaration, declarations, parameter, parameters, errorPart, routineFrom, function, routine, routines, formed}
+use Rattle.paper.specs.Form.{initialPart, sizePart, varPart, constPart, datum, declaration, declarations, parameter, parameters, listBehind, routineFrom, function, routine, routines, formed}
 use Rattle.grammar.proofs.Completing.{both-true, not-both-false, neither-false}
 use Rattle.grammar.proofs.Completions.{Family, Made, reads-as, yes-if, no-if, yes-when, no-when, then-made, Agrees, Real, GoesBy, Goes, PastBy, Past, Both, then-goes, then-past, goes-then}
 use Rattle.grammar.proofs.Completions.{both-then, goes-last, both-last, start, begun, goes-as, later, next, filled, refused-here, done-both, done, far, real-word, real-join, past-if, if-else}
@@ -651,38 +651,39 @@ module _ (W : ℕ → ℕ) where
   unfolding parameters
   parameters-both at = closed-both parameter NUM (NAME ∷ []) closeParen refl (λ n. parameter-both closeParen n) at
 
-  error-both : (c at : ℕ) → eqb c ERROR ≡ false → startsStatement c ≡ false → Both W [] c at (λ U. errorPart U at)
-  unfolding errorPart
-  error-both c at r s =
-      when-else W (λ w. eqb w ERROR) [] c at _ (λ U. got (none, at)) r refl
+  behind-both : (sort c at : ℕ) → eqb NOTHING sort ≡ false → eqb c sort ≡ false → startsStatement c ≡ false → Both W [] c at (λ U. listBehind U sort at)
+  unfolding listBehind
+  behind-both sort c at v r s =
+      when-else W (λ w. eqb w sort) [] c at _ (λ U. got (none, at)) r v
       (λ _ r. next W [] c at _ r (mapped-goes W (λ U. list U (at + 1)) [] c (at + 1) (list-both c (at + 1) s .goes) (λ x. some (record { statements = x .0; closes = x .1 }))))
       (done W c at none)
 
   -- From the routine's name on; `result` is what the words before it tell.
   from-both : (result : (ℕ → ℕ) → Option ℕ) (closing c at : ℕ) → ((U : ℕ → ℕ) → Agrees W U at → result U ≡ result W) → eqb NOTHING closing ≡ false
-      → eqb closing ERROR ≡ false → startsStatement closing ≡ false → startsData closing ≡ false
+      → eqb closing ERROR ≡ false → eqb closing UNDO ≡ false → startsStatement closing ≡ false → startsData closing ≡ false
       → Both W (NAME ∷ openParen ∷ closeParen ∷ closing ∷ []) c at (λ U. routineFrom U (result U) closing at)
   unfolding routineFrom
-  from-both result closing c at same v r s d =
+  from-both result closing c at same v r u s d =
       expect-both W (openParen ∷ closeParen ∷ closing ∷ []) c at _ NAME refl (
       expect-both W (closeParen ∷ closing ∷ []) c (at + 1) _ openParen refl (
       both-then W (λ U. parameters U (at + 1 + 1)) _ [] (closeParen ∷ closing ∷ []) c (at + 1 + 1) (parameters-both (at + 1 + 1)) (λ ps l₁.
       expect-both W (closing ∷ []) c (ps .1) _ closeParen refl (
       both-then W (λ U. declarations U (ps .1 + 1)) _ [] (closing ∷ []) c (ps .1 + 1) (declarations-both closing (ps .1 + 1) d) (λ ds l₂.
       both-then W (λ U. list U (ds .1)) _ [] (closing ∷ []) c (ds .1) (list-both closing (ds .1) s) (λ ss l₃.
-      both-then W (λ U. errorPart U (ss .1)) _ [] (closing ∷ []) c (ss .1) (error-both closing (ss .1) r s) (λ h l₄.
-      expect-both W [] c (h .1) _ closing v (
-      done-both W c (h .1 + 1) (λ U. record { name = at; result = result U; parameters = ps .0; declared = ds .0; body = record { statements = ss .0; closes = ss .1 }; handler = h .0 }) (λ U a.
-      ap (λ (t : Option ℕ). record { name = at; result = t; parameters = ps .0; declared = ds .0; body = record { statements = ss .0; closes = ss .1 }; handler = h .0 }) (same U (λ j m. a j (omega arith))))))))))))
+      both-then W (λ U. listBehind U ERROR (ss .1)) _ [] (closing ∷ []) c (ss .1) (behind-both ERROR closing (ss .1) refl r s) (λ h l₄.
+      both-then W (λ U. listBehind U UNDO (h .1)) _ [] (closing ∷ []) c (h .1) (behind-both UNDO closing (h .1) refl u s) (λ us l₅.
+      expect-both W [] c (us .1) _ closing v (
+      done-both W c (us .1 + 1) (λ U. record { name = at; result = result U; parameters = ps .0; declared = ds .0; body = record { statements = ss .0; closes = ss .1 }; handler = h .0; undo = us .0 }) (λ U a.
+      ap (λ (t : Option ℕ). record { name = at; result = t; parameters = ps .0; declared = ds .0; body = record { statements = ss .0; closes = ss .1 }; handler = h .0; undo = us .0 }) (same U (λ j m. a j (omega arith)))))))))))))
 
   routine-past : (c at : ℕ) → Real W at (at + 1) → Past W c at (λ U. routine U at)
   unfolding routine function startsStatement startsSimple startsData
   routine-past c at r =
       past-if W (λ s. eqb s PROC) c at (λ U. routineFrom U none ENDPROC (at + 1)) (λ U. function U (at + 1)) refl
-      (λ _ _. next W (NAME ∷ openParen ∷ closeParen ∷ ENDPROC ∷ []) c at _ r (from-both (λ U. none) ENDPROC c (at + 1) (λ U a. refl) refl refl refl refl .goes))
+      (λ _ _. next W (NAME ∷ openParen ∷ closeParen ∷ ENDPROC ∷ []) c at _ r (from-both (λ U. none) ENDPROC c (at + 1) (λ U a. refl) refl refl refl refl refl .goes))
       (λ _. next W (NUM ∷ NAME ∷ openParen ∷ closeParen ∷ ENDFUNC ∷ []) c at _ r (
       type-both W (NAME ∷ openParen ∷ closeParen ∷ ENDFUNC ∷ []) c (at + 1) _ (
-      from-both (λ U. some (U (at + 1))) ENDFUNC c (at + 1 + 1) (λ U a. ap some (a (at + 1) (omega arith))) refl refl refl refl) .goes))
+      from-both (λ U. some (U (at + 1))) ENDFUNC c (at + 1 + 1) (λ U a. ap some (a (at + 1) (omega arith))) refl refl refl refl refl) .goes))
 
   routines-both : (c at : ℕ) → startsRoutine c ≡ false → Both W [] c at (λ U. routines U at)
   unfolding routines startsRoutine

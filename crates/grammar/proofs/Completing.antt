@@ -11,23 +11,23 @@ use borrow.Author.Tests.{eqb-true, eq-eqb, ne-eqb}
 use Rattle.laws.proofs.Tests.{false-true}
 use Rattle.paper.specs.Basics.{if_then_else_}
 use Rattle.paper.specs.Sorts.{NAME, STRING, NUM, NOTHING, CONST, closeBrace, closeParen, openBrace, openParen, comma, semicolon, becomes, colon, backslash, CASE, DEFAULT, DO, ELSE, ELSEIF, ENDFOR}
-use Rattle.paper.specs.Sorts.{ENDFUNC, ENDIF, ENDMODULE, ENDPROC, ENDTEST, ENDWHILE, ERROR, EXIT, FROM, MODULE, PROC, RAISE, RETRY, RETURN, STEP, THEN, TO, TPREADNUM, TPWRITE, TRYNEXT, VAR}
+use Rattle.paper.specs.Sorts.{ENDFUNC, ENDIF, ENDMODULE, ENDPROC, ENDTEST, ENDWHILE, ERROR, EXIT, FROM, MODULE, PROC, RAISE, RETRY, RETURN, STEP, THEN, TO, TPREADNUM, TPWRITE, TRYNEXT, UNDO, VAR}
 use Rattle.paper.specs.Trees.{Expr, Target, Simple, assign, assignCall, call, returns, raises, writes, reads, Statement, Statements, Arms, Cases, simple, compactIf, fullIf, for, while, test, _then_, Content, Declared, Parameter, RoutineList, Routine, Module}
 use Rattle.paper.specs.Expressions.{Parsed, Parser, got, _>>=_, parts, nestings, disjunctions, levelOf, startsData, startsRoutine, startsStatement, exprIn, expr, unless, separated, repeated, exprs, arguments}
 use Rattle.paper.specs.Statements.{targetIndex, target, valueSide, callSide, rightSide, assignment, procedureCall, startedByName, withOptional, written, tpWrite, tpReadNum, simpleWord}
 use Rattle.paper.specs.Statements.{simpleStatement, elsePart, lastArm, arms, ifThen, ifSimple, ifStatement, stepPart, forStatement, whileStatement, defaultPart, lastCase, cases, testStatement}
 use Rattle.paper.specs.Statements.{opening, plainStatement, statement, statements, listIn, list}
-use Rattle.paper.specs.Form.{initialPart, sizePart, varPart, constPart, datum, declaration, declarations, parameter, parameters, errorPart, routineFrom, function, routine, routines, formed}
+use Rattle.paper.specs.Form.{initialPart, sizePart, varPart, constPart, datum, declaration, declarations, parameter, parameters, listBehind, routineFrom, function, routine, routines, formed}
 use Rattle.grammar.specs.Form.{SeparatedAt, last-one, one-more, ClosedAt, closed-at-once, closed-later, RepeatedAt, none-starts, one-starts}
 use Rattle.grammar.specs.Form.{ExprAt, ExprsAt, ArgumentsAt, IndexAt, no-index, in-braces, TargetAt, OptionalAt, no-value, a-value, NumberAt, no-number, a-number}
 use Rattle.grammar.specs.Form.{SimpleAt, assigning, assigning-call, calling, returning, raising, exiting, retrying, trying-next, writing, reading, StepAt, no-step, a-step, ForHeadAt}
 use Rattle.grammar.specs.Form.{StatementAt, plain, compact, full, counting, looping, testing, ListAt, ended, begun, ArmsAt, last-arm, more-arms, ElseAt, no-else, an-else, CasesAt, no-more-cases, one-case, DefaultAt, no-default, a-default}
-use Rattle.grammar.specs.Form.{ContentAt, no-content, initial, sized, constant, DeclaredAt, DeclarationsAt, ParameterAt, ParametersAt, HandlerIn, no-handler, a-handler, HeadAt, a-proc, a-func, RoutineIn, RoutinesIn, StandsIn}
+use Rattle.grammar.specs.Form.{ContentAt, no-content, initial, sized, constant, DeclaredAt, DeclarationsAt, ParameterAt, ParametersAt, ListBehindIn, no-list, a-list, HeadAt, a-proc, a-func, RoutineIn, RoutinesIn, StandsIn}
 use Rattle.grammar.proofs.Steps.{Comes, exactly, too-deep, too-long, done, through, bind-got, if-true, if-false, when-true, when-false, expect-on, type-on}
 use Rattle.grammar.proofs.Levels.{Ends, closing-ends}
 use Rattle.grammar.proofs.Inversions.{target-behind, Behind, behind-name, behind-brace}
 use Rattle.grammar.proofs.Places.{separated-grows, repeated-grows, exprs-grow, arguments-grow, simple-grows, step-grows, statement-grows, list-grows, arms-grow, else-grows, cases-grow}
-use Rattle.grammar.proofs.Places.{default-grows, declared-grows, declarations-grow, parameter-grows, handler-grows, routine-grows, routines-grow}
+use Rattle.grammar.proofs.Places.{default-grows, declared-grows, declarations-grow, parameter-grows, behind-grows, routine-grows, routines-grow}
 
 pub both-true : (a b : Bool) → a ≡ true → b ≡ true → (a && b) ≡ true
 both-true true b e f = f
@@ -547,11 +547,11 @@ module _ (D : Type 0) (T : ℕ → Type 0) (top : ℕ) (long : (j : ℕ) → par
   unfolding parameters
   parameters-read h w = closed-reads D T top long W (ParameterAt W E) (parameter W) (parameter-grows W E grows) (λ s. Unit {0}) (λ i c. tt) (λ p at to k _ _. parameter-reads p at to k) closeParen h w tt
 
-  error-reads : {o : Option RoutineList} {at to : ℕ} → HandlerIn W E N o at to → to ≤ top → errorPart W at gives got (o, to)
-  unfolding errorPart
-  error-reads {at = at} (no-handler f z) w = when-false (eqb (W at) ERROR) _ _ (ne-eqb _ _ f) (rw z done)
-  error-reads {at = at} {to = to} (a-handler {l = l} e k) w =
-      when-true (eqb (W at) ERROR) _ _ (eq-eqb _ _ e) (bind-got (list W (at + 1)) _ (l .statements, to) (list-reads (k .statements) w) (exactly (made (k .closes))))
+  behind-reads : {sort : ℕ} {o : Option RoutineList} {at to : ℕ} → ListBehindIn W E N sort o at to → to ≤ top → listBehind W sort at gives got (o, to)
+  unfolding listBehind
+  behind-reads {sort} {at = at} (no-list f z) w = when-false (eqb (W at) sort) _ _ (ne-eqb _ _ f) (rw z done)
+  behind-reads {sort} {at = at} {to = to} (a-list {l = l} e k) w =
+      when-true (eqb (W at) sort) _ _ (eq-eqb _ _ e) (bind-got (list W (at + 1)) _ (l .statements, to) (list-reads (k .statements) w) (exactly (made (k .closes))))
     where
       made : {ss : Statements} {i j : ℕ} → i ≡ j → _≡_ {A = Parsed (Option RoutineList × ℕ)} (got (some (record { statements = ss; closes = j }), j)) (got (some (record { statements = ss; closes = i }), j))
       made z = rw z
@@ -560,7 +560,8 @@ module _ (D : Type 0) (T : ℕ → Type 0) (top : ℕ) (long : (j : ℕ) → par
   unfolding routineFrom
   from-reads r at to h w =
       let a = h .after in
-      let b = handler-grows W E grows (h .handler) in
+      let u = behind-grows W E grows (h .undo) in
+      let b = behind-grows W E grows (h .handler) in
       let c = list-grows W E grows (h .body .statements) in
       let d = declarations-grow W E grows (h .declared) in
       expect-on W NAME (r .name) (r .name + 1) _ refl (h .name) (
@@ -569,8 +570,9 @@ module _ (D : Type 0) (T : ℕ → Type 0) (top : ℕ) (long : (j : ℕ) → par
       expect-on W closeParen (h .close) (h .close + 1) _ refl (h .closes) (
       bind-got (declarations W (h .close + 1)) _ (r .declared, h .begin) (declarations-read (h .declared) (omega arith)) (
       bind-got (list W (h .begin)) _ (r .body .statements, r .body .closes) (list-reads (h .body .statements) (omega arith)) (
-      bind-got (errorPart W (r .body .closes)) _ (r .handler, h .end) (error-reads (h .handler) (omega arith)) (
-      expect-on W (W (h .end)) (h .end) (h .end + 1) _ refl refl (exactly (ap (λ (i : ℕ). got (r, i)) (sym a))))))))))
+      bind-got (listBehind W ERROR (r .body .closes)) _ (r .handler, h .undoAt) (behind-reads (h .handler) (omega arith)) (
+      bind-got (listBehind W UNDO (h .undoAt)) _ (r .undo, h .end) (behind-reads (h .undo) (omega arith)) (
+      expect-on W (W (h .end)) (h .end) (h .end + 1) _ refl refl (exactly (ap (λ (i : ℕ). got (r, i)) (sym a)))))))))))
 
   routine-by : {result : Option ℕ} {closing at name : ℕ} {r : Parsed (Routine × ℕ)} → HeadAt W E result closing at name → routineFrom W result closing name gives r → routine W at gives r
   unfolding routine function

@@ -9,7 +9,7 @@ use lib.Dec.{eqb}
 use borrow.Author.Tests.{ne-eqb}
 use Rattle.laws.proofs.Tests.{false-true}
 use Rattle.paper.specs.Sorts.{NAME, STRING, CONST, FUNC, closeBrace, closeParen, openBrace, openParen, comma, semicolon, becomes, colon, backslash, CASE, DEFAULT, DO, ELSE, ELSEIF, ENDFOR, ENDFUNC}
-use Rattle.paper.specs.Sorts.{ENDIF, ENDPROC, ENDTEST, ENDWHILE, ERROR, EXIT, FOR, IF, PROC, RAISE, RETRY, RETURN, STEP, TEST, THEN, TPREADNUM, TPWRITE, TRYNEXT, VAR, WHILE}
+use Rattle.paper.specs.Sorts.{ENDIF, ENDPROC, ENDTEST, ENDWHILE, EXIT, FOR, IF, PROC, RAISE, RETRY, RETURN, STEP, TEST, THEN, TPREADNUM, TPWRITE, TRYNEXT, VAR, WHILE}
 use Rattle.paper.specs.Trees.{variableData, initialData, arrayData, constantData, Expr, Target, Simple, assign, assignCall, call, returns, raises, exits, retries, triesNext, writes, reads, Statement}
 use Rattle.paper.specs.Trees.{Statements, Arms, Cases, simple, compactIf, fullIf, for, while, test, empty, _then_, noArm, arm, noCase, case, Content, RoutineList}
 use Rattle.paper.specs.Expressions.{nestings, isType, startsSimple, startsStatement}
@@ -17,7 +17,7 @@ use Rattle.grammar.specs.Form.{SeparatedAt, last-one, one-more, ClosedAt
 use Rattle.grammar.specs.Form.{ExprAt, ExprsAt, ArgumentsAt, IndexAt, no-index, in-braces, TargetAt, OptionalAt, no-value, a-value, NumberAt, no-number, a-number}
 use Rattle.grammar.specs.Form.{SimpleAt, assigning, assigning-call, calling, returning, raising, exiting, retrying, trying-next, writing, reading, StepAt, no-step, a-step, ForHeadAt}
 use Rattle.grammar.specs.Form.{StatementAt, plain, compact, full, counting, looping, testing, ListAt, ended, begun, ArmsAt, last-arm, more-arms, ElseAt, no-else, an-else, CasesAt, no-more-cases, one-case, DefaultAt, no-default, a-default}
-use Rattle.grammar.specs.Form.{ContentAt, no-content, initial, sized, constant, RoutineListAt, HandlerAt, no-handler, a-handler, HeadAt, a-proc, a-func}
+use Rattle.grammar.specs.Form.{ContentAt, no-content, initial, sized, constant, RoutineListAt, ListBehindAt, no-list, a-list, HeadAt, a-proc, a-func}
 
 -- one of two types, by a test
 abbrev pub Fork : Bool → Type 0 → Type 0 → Type 0
@@ -595,18 +595,18 @@ module _ (W : ℕ → ℕ) (E : (d at : ℕ) → Expr → (to : ℕ) → Type 0)
     content-becomes (sized v b k c z) o = absurd (omega arith)
     content-becomes (constant v b k) o = b
 
-  pub record HasHandler (o : Option RoutineList) (at to : ℕ) : Type 0 where
+  pub record HasList (o : Option RoutineList) (at to : ℕ) : Type 0 where
     pub l : RoutineList
     pub is : o ≡ some l
     pub stands : RoutineListAt W E l at to
 
-  pub handler-some : {o : Option RoutineList} {at to : ℕ} → HandlerAt W E o at to → W at ≡ ERROR → HasHandler o (at + 1) to
-  handler-some (no-handler f e) q = absurd (f q)
-  handler-some (a-handler {l = l} c h) q = record { l = l; is = refl; stands = h }
+  pub behind-some : {sort : ℕ} {o : Option RoutineList} {at to : ℕ} → ListBehindAt W E sort o at to → W at ≡ sort → HasList o (at + 1) to
+  behind-some (no-list f e) q = absurd (f q)
+  behind-some (a-list {l = l} c h) q = record { l = l; is = refl; stands = h }
 
-  pub handler-none : {o : Option RoutineList} {at to : ℕ} → HandlerAt W E o at to → ¬ (W at ≡ ERROR) → (o ≡ none) × (to ≡ at)
-  handler-none (no-handler f e) q = (refl, e)
-  handler-none (a-handler c h) q = absurd (q c)
+  pub behind-none : {sort : ℕ} {o : Option RoutineList} {at to : ℕ} → ListBehindAt W E sort o at to → ¬ (W at ≡ sort) → (o ≡ none) × (to ≡ at)
+  behind-none (no-list f e) q = (refl, e)
+  behind-none (a-list c h) q = absurd (q c)
 
   pub record IsProc (result : Option ℕ) (closing at name : ℕ) : Type 0 where
     pub is : result ≡ none

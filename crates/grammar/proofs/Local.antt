@@ -10,13 +10,13 @@ use borrow.Author.Tests.{eqb-true, eqb-false}
 use Rattle.laws.proofs.Tests.{false-true, by-most, by-same}
 use Rattle.paper.specs.Basics.{if_then_else_}
 use Rattle.paper.specs.Sorts.{NAME, STRING, NUM, NOTHING, closeBrace, closeParen, openBrace, openParen, comma, semicolon, becomes, colon, backslash, CASE, DEFAULT, DO, ELSE, ELSEIF, ENDFOR, ENDFUNC}
-use Rattle.paper.specs.Sorts.{ENDIF, ENDMODULE, ENDPROC, ENDTEST, ENDWHILE, ERROR, EXIT, FOR, FROM, IF, MODULE, PROC, RAISE, RETRY, RETURN, STEP, TEST, THEN, TO, TPREADNUM, TPWRITE, TRYNEXT, VAR}
+use Rattle.paper.specs.Sorts.{ENDIF, ENDMODULE, ENDPROC, ENDTEST, ENDWHILE, ERROR, EXIT, FOR, FROM, IF, MODULE, PROC, RAISE, RETRY, RETURN, STEP, TEST, THEN, TO, TPREADNUM, TPWRITE, TRYNEXT, UNDO, VAR}
 use Rattle.paper.specs.Sorts.{WHILE}
 use Rattle.paper.specs.Trees.{Expr, joined, Target, Simple, returns, raises, Statement, Statements, _then_, Content, Declared, Routine, Module}
 use Rattle.paper.specs.Statements.{targetIndex, target, valueSide, callSide, rightSide, assignment, procedureCall, startedByName, withOptional, written, tpWrite, tpReadNum, simpleWord}
 use Rattle.paper.specs.Statements.{simpleStatement, elsePart, lastArm, arms, ifThen, ifSimple, ifStatement, stepPart, forStatement, whileStatement, defaultPart, lastCase, cases, testStatement}
 use Rattle.paper.specs.Statements.{opening, plainStatement, statement, statements, listIn, list}
-use Rattle.paper.specs.Form.{initialPart, sizePart, varPart, constPart, datum, declaration, declarations, parameter, parameters, errorPart, routineFrom, function, routine, routines, formed}
+use Rattle.paper.specs.Form.{initialPart, sizePart, varPart, constPart, datum, declaration, declarations, parameter, parameters, listBehind, routineFrom, function, routine, routines, formed}
 use Rattle.paper.specs.Expressions.{Parsed, Parser, got, no, _>>=_, parts, nestings, relations, disjunctions, levelOf, standsBefore, isLiteral, isType, startsData, startsRoutine, startsStatement}
 use Rattle.paper.specs.Expressions.{expect, expectType, inParentheses, indexed, named, operand, chain, prefixed, level, exprIn, expr, unless, separated, repeated, exprs, arguments}
 
@@ -507,10 +507,10 @@ module _ (W U : ℕ → ℕ) (i : ℕ) (same : (j : ℕ) → j ≤ i → U j ≡
   unfolding parameters
   parameters-see at = closed-sees (parameter W) (parameter U) parameter-sees closeParen at
 
-  error-sees : Follows (errorPart W) (errorPart U)
-  unfolding errorPart
-  error-sees at =
-      when-sees i _ at (eqb (W at) ERROR) (eqb (U at) ERROR) _ _ _ _ (same-test (λ (s : ℕ). eqb s ERROR) at at (omega arith))
+  behind-sees : (sort : ℕ) → Follows (listBehind W sort) (listBehind U sort)
+  unfolding listBehind
+  behind-sees sort at =
+      when-sees i _ at (eqb (W at) sort) (eqb (U at) sort) _ _ _ _ (same-test (λ (s : ℕ). eqb s sort) at at (omega arith))
       (λ _. read-on at (at + 1) (list W (at + 1)) (list U (at + 1)) _ _ (omega arith) (list-sees (at + 1)) (λ x _. same-sees (x .1) (x .1) _ (omega arith)))
       (λ _. same-sees at at _ (omega arith))
 
@@ -523,10 +523,11 @@ module _ (W U : ℕ → ℕ) (i : ℕ) (same : (j : ℕ) → j ≤ i → U j ≡
       expect-on closeParen (ps .1) _ _ (λ n₄ l₄.
       read-on n₄ n₄ (declarations W n₄) (declarations U n₄) _ _ (omega arith) (declarations-see n₄) (λ ds l₅.
       read-on (ds .1) (ds .1) (list W (ds .1)) (list U (ds .1)) _ _ (omega arith) (list-sees (ds .1)) (λ ss l₆.
-      read-on (ss .1) (ss .1) (errorPart W (ss .1)) (errorPart U (ss .1)) _ _ (omega arith) (error-sees (ss .1)) (λ h l₇.
-      expect-on closing (h .1) _ _ (λ n l₈.
+      read-on (ss .1) (ss .1) (listBehind W ERROR (ss .1)) (listBehind U ERROR (ss .1)) _ _ (omega arith) (behind-sees ERROR (ss .1)) (λ h l₇.
+      read-on (h .1) (h .1) (listBehind W UNDO (h .1)) (listBehind U UNDO (h .1)) _ _ (omega arith) (behind-sees UNDO (h .1)) (λ u l₈.
+      expect-on closing (u .1) _ _ (λ n l₉.
       done-sees i n n _ _ (omega arith) (λ m.
-      ap (λ (t : Option ℕ). record { name = at; result = t; parameters = ps .0; declared = ds .0; body = record { statements = ss .0; closes = ss .1 }; handler = h .0 }) (e (omega arith)))))))))))
+      ap (λ (t : Option ℕ). record { name = at; result = t; parameters = ps .0; declared = ds .0; body = record { statements = ss .0; closes = ss .1 }; handler = h .0; undo = u .0 }) (e (omega arith))))))))))))
 
   routine-sees : Follows (routine W) (routine U)
   unfolding routine function

@@ -17,7 +17,7 @@ use Rattle.grammar.specs.Form.{SeparatedAt, last-one, one-more, ClosedAt
 use Rattle.grammar.specs.Form.{ExprAt, ExprsAt, ArgumentsAt, IndexAt, no-index, in-braces, TargetAt, OptionalAt, no-value, a-value, NumberAt, no-number, a-number}
 use Rattle.grammar.specs.Form.{SimpleAt, assigning, assigning-call, calling, returning, raising, exiting, retrying, trying-next, writing, reading, StepAt, no-step, a-step, ForHeadAt}
 use Rattle.grammar.specs.Form.{StatementAt, plain, compact, full, counting, looping, testing, ListAt, ended, begun, ArmsAt, last-arm, more-arms, ElseAt, no-else, an-else, CasesAt, no-more-cases, one-case, DefaultAt, no-default, a-default}
-use Rattle.grammar.specs.Form.{ContentAt, no-content, initial, sized, constant, DeclaredAt, DeclarationsAt, ParameterAt, ParametersAt, RoutineListAt, HandlerIn, no-handler, a-handler, HeadAt, a-proc, a-func, RoutineIn, RoutinesIn}
+use Rattle.grammar.specs.Form.{ContentAt, no-content, initial, sized, constant, DeclaredAt, DeclarationsAt, ParameterAt, ParametersAt, RoutineListAt, ListBehindIn, no-list, a-list, HeadAt, a-proc, a-func, RoutineIn, RoutinesIn}
 
 -- ---- first words
 module _ (W : ℕ → ℕ) (E : (d at : ℕ) → Expr → (to : ℕ) → Type 0) where
@@ -159,9 +159,9 @@ module _ (W : ℕ → ℕ) (E : (d at : ℕ) → Expr → (to : ℕ) → Type 0)
   pub parameters-grow : {ps : List Parameter} {at to : ℕ} → ParametersAt W E ps at to → at ≤ to
   parameters-grow h = closed-grows W (ParameterAt W E) parameter-grows h
 
-  pub handler-grows : {N : ℕ} {o : Option RoutineList} {at to : ℕ} → HandlerIn W E N o at to → at ≤ to
-  handler-grows (no-handler f e) = omega arith
-  handler-grows (a-handler c h) = omega (arith, list-grows (h .statements))
+  pub behind-grows : {N sort : ℕ} {o : Option RoutineList} {at to : ℕ} → ListBehindIn W E N sort o at to → at ≤ to
+  behind-grows (no-list f e) = omega arith
+  behind-grows (a-list c h) = omega (arith, list-grows (h .statements))
 
   pub head-grows : {result : Option ℕ} {closing at name : ℕ} → HeadAt W E result closing at name → at < name
   head-grows (a-proc p n c) = omega arith
@@ -169,7 +169,7 @@ module _ (W : ℕ → ℕ) (E : (d at : ℕ) → Expr → (to : ℕ) → Type 0)
 
   pub routine-grows : {N : ℕ} (r : Routine) (at to : ℕ) → RoutineIn W E N r at to → at < to
   routine-grows r at to h =
-      omega (arith, head-grows (h .head), parameters-grow (h .parameters), declarations-grow (h .declared), list-grows (h .body .statements), handler-grows (h .handler), h .after)
+      omega (arith, head-grows (h .head), parameters-grow (h .parameters), declarations-grow (h .declared), list-grows (h .body .statements), behind-grows (h .handler), behind-grows (h .undo), h .after)
 
   pub routines-grow : {N : ℕ} {rs : List Routine} {at to : ℕ} → RoutinesIn W E N rs at to → at ≤ to
   routines-grow {N} h = repeated-grows W (RoutineIn W E N) routine-grows h
@@ -249,8 +249,8 @@ module _ (W : ℕ → ℕ) (E : (d at : ℕ) → Expr → (to : ℕ) → Type 0)
       default-within (a-default c i l) h g S n around after = list-within l (omega arith) g S n around after
 
     -- a routine's list, with the step that is its end
-    pub routine-list-within : {l : RoutineList} {at to : ℕ} → RoutineListAt W E l at to → a ≤ at → to < b → (S : Scopes) (n : ℕ) → Within a b (listSteps T M S n l)
+    pub routine-list-within : {l : RoutineList} {at to : ℕ} → RoutineListAt W E l at to → a ≤ at → to < b → (end : Action) (S : Scopes) (n : ℕ) → Within a b (listSteps T end M S n l)
     unfolding listSteps
-    routine-list-within {l} k h g S n =
+    routine-list-within {l} k h g end S n =
         list-within (k .statements) h (omega arith) S n [] (l .closes)
         and one-within (l .closes) [] (l .closes) _ (omega (arith, list-grows (k .statements), k .closes)) (omega (arith, k .closes))

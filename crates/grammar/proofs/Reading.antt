@@ -11,18 +11,18 @@ use Rattle.laws.proofs.Tests.{false-true}
 use Rattle.paper.specs.Basics.{if_then_else_}
 use Rattle.paper.specs.Sorts.{NAME, STRING, NUM, NOTHING, CONST, closeBrace, closeParen, openBrace, openParen, comma, semicolon, becomes, colon, backslash, CASE, DEFAULT, DO, ELSE, ELSEIF, ENDFOR}
 use Rattle.paper.specs.Sorts.{ENDFUNC, ENDIF, ENDMODULE, ENDPROC, ENDTEST, ENDWHILE, ERROR, EXIT, FOR, FROM, IF, MODULE, PROC, RAISE, RETRY, RETURN, STEP, TEST, THEN, TO, TPREADNUM, TPWRITE, TRYNEXT}
-use Rattle.paper.specs.Sorts.{VAR, WHILE}
+use Rattle.paper.specs.Sorts.{UNDO, VAR, WHILE}
 use Rattle.paper.specs.Trees.{Expr, Target, Simple, returns, raises, Statement, Statements, Arms, Cases, _then_, Content, Module}
 use Rattle.paper.specs.Expressions.{Parsed, Parser, got, no, _>>=_, parts, nestings, isType, startsData, startsRoutine, startsStatement, expect, expectType, exprIn, expr, unless, separated, repeated, exprs, arguments}
 use Rattle.paper.specs.Statements.{targetIndex, target, valueSide, callSide, rightSide, assignment, procedureCall, startedByName, withOptional, written, tpWrite, tpReadNum, simpleWord}
 use Rattle.paper.specs.Statements.{simpleStatement, elsePart, lastArm, arms, ifThen, ifSimple, ifStatement, stepPart, forStatement, whileStatement, defaultPart, lastCase, cases, testStatement}
 use Rattle.paper.specs.Statements.{opening, plainStatement, statement, statements, listIn, list}
-use Rattle.paper.specs.Form.{initialPart, sizePart, varPart, constPart, datum, declaration, declarations, parameter, parameters, errorPart, routineFrom, function, routine, routines, formed}
+use Rattle.paper.specs.Form.{initialPart, sizePart, varPart, constPart, datum, declaration, declarations, parameter, parameters, listBehind, routineFrom, function, routine, routines, formed}
 use Rattle.grammar.specs.Form.{SeparatedAt, last-one, one-more, ClosedAt, closed-at-once, closed-later, RepeatedAt, none-starts, one-starts, Parses}
 use Rattle.grammar.specs.Form.{ExprAt, ExprsAt, ArgumentsAt, no-index, in-braces, TargetAt, OptionalAt, no-value, a-value, NumberAt, no-number, a-number}
 use Rattle.grammar.specs.Form.{SimpleAt, assigning, assigning-call, calling, returning, raising, exiting, retrying, trying-next, writing, reading, StepAt, no-step, a-step}
 use Rattle.grammar.specs.Form.{StatementAt, plain, compact, full, counting, looping, testing, ListAt, ended, begun, ArmsAt, last-arm, more-arms, ElseAt, no-else, an-else, CasesAt, no-more-cases, one-case, DefaultAt, no-default, a-default}
-use Rattle.grammar.specs.Form.{ContentAt, no-content, initial, sized, constant, DeclaredAt, DeclarationsAt, ParameterAt, ParametersAt, HandlerAt, no-handler, a-handler, HeadAt, a-proc, a-func, RoutineAt, RoutinesAt, Stands}
+use Rattle.grammar.specs.Form.{ContentAt, no-content, initial, sized, constant, DeclaredAt, DeclarationsAt, ParameterAt, ParametersAt, ListBehindAt, no-list, a-list, HeadAt, a-proc, a-func, RoutineAt, RoutinesAt, Stands}
 
 -- ---- what holds of whatever is read
 abbrev pub Gives : {A : Type 0} → (A → Type 0) → Parsed A → Type 0
@@ -470,12 +470,12 @@ module _ (W : ℕ → ℕ) (E : (d at : ℕ) → Expr → (to : ℕ) → Type 0)
   unfolding parameters
   parameters-gives at = closed-gives W (ParameterAt W E) (parameter W) parameter-gives closeParen at
 
-  error-gives : (at : ℕ) → Gives (λ x. HandlerAt W E (x .0) at (x .1)) (errorPart W at)
-  unfolding errorPart
-  error-gives at =
-      forked-gives (λ x. HandlerAt W E (x .0) at (x .1)) (eqb (W at) ERROR) _ _
-      (λ t. then-gives (λ x. ListAt W E nestings (x .0) (at + 1) (x .1)) _ _ _ (list-gives (at + 1)) (λ l k. a-handler (eqb-true _ _ t) (record { statements = k; closes = refl })))
-      (λ t. no-handler (eqb-false _ _ t) refl)
+  behind-gives : (sort at : ℕ) → Gives (λ x. ListBehindAt W E sort (x .0) at (x .1)) (listBehind W sort at)
+  unfolding listBehind
+  behind-gives sort at =
+      forked-gives (λ x. ListBehindAt W E sort (x .0) at (x .1)) (eqb (W at) sort) _ _
+      (λ t. then-gives (λ x. ListAt W E nestings (x .0) (at + 1) (x .1)) _ _ _ (list-gives (at + 1)) (λ l k. a-list (eqb-true _ _ t) (record { statements = k; closes = refl })))
+      (λ t. no-list (eqb-false _ _ t) refl)
 
   from-gives : (result : Option ℕ) (closing at i : ℕ) → HeadAt W E result closing at i → Gives (λ x. RoutineAt W E (x .0) at (x .1)) (routineFrom W result closing i)
   unfolding routineFrom
@@ -486,12 +486,14 @@ module _ (W : ℕ → ℕ) (E : (d at : ℕ) → Expr → (to : ℕ) → Type 0)
       expect-then W _ closeParen (ps .1) (ps .1 + 1) _ refl (λ c.
       then-gives (λ x. DeclarationsAt W E (x .0) (ps .1 + 1) (x .1)) _ _ _ (declarations-gives (ps .1 + 1)) (λ ds kd.
       then-gives (λ x. ListAt W E nestings (x .0) (ds .1) (x .1)) _ _ _ (list-gives (ds .1)) (λ ss k.
-      then-gives (λ x. HandlerAt W E (x .0) (ss .1) (x .1)) _ _ _ (error-gives (ss .1)) (λ e ke.
-      expect-then W _ closing (e .1) (e .1 + 1) _ refl (λ q.
+      then-gives (λ x. ListBehindAt W E ERROR (x .0) (ss .1) (x .1)) _ _ _ (behind-gives ERROR (ss .1)) (λ e ke.
+      then-gives (λ x. ListBehindAt W E UNDO (x .0) (e .1) (x .1)) _ _ _ (behind-gives UNDO (e .1)) (λ u ku.
+      expect-then W _ closing (u .1) (u .1 + 1) _ refl (λ q.
       record {
         close = ps .1;
         begin = ds .1;
-        end = e .1;
+        undoAt = e .1;
+        end = u .1;
         head = rw q h;
         name = n;
         opens = o;
@@ -500,8 +502,9 @@ module _ (W : ℕ → ℕ) (E : (d at : ℕ) → Expr → (to : ℕ) → Type 0)
         declared = kd;
         body = record { statements = k; closes = refl };
         handler = ke;
+        undo = ku;
         after = refl;
-      }))))))))
+      })))))))))
 
   routine-gives : (at : ℕ) → startsRoutine (W at) ≡ true → Gives (λ x. RoutineAt W E (x .0) at (x .1)) (routine W at)
   unfolding routine function startsRoutine

@@ -7,7 +7,7 @@ use mathlib.Core.List.{List, [], _∷_}
 use mathlib.Core.Option.{Option, none, some}
 use Prim.Native.Nat.{ℕ, suc, _+_, _-_, _<_}
 use Rattle.paper.specs.Sorts.{NOTHING, NAME, STRING, semicolon, comma, openParen, closeParen, openBrace, closeBrace, colon, becomes, backslash}
-use Rattle.paper.specs.Sorts.{CASE, CONST, DEFAULT, DO, ELSE, ELSEIF, ENDFOR, ENDFUNC, ENDIF, ENDMODULE, ENDPROC, ENDTEST, ENDWHILE, ERROR, EXIT, FOR, FROM, FUNC, IF, MODULE, NUM, PROC, RAISE, RETRY, RETURN, STEP, TEST, THEN, TO, TPREADNUM, TPWRITE, TRYNEXT, VAR, WHILE}
+use Rattle.paper.specs.Sorts.{CASE, CONST, DEFAULT, DO, ELSE, ELSEIF, ENDFOR, ENDFUNC, ENDIF, ENDMODULE, ENDPROC, ENDTEST, ENDWHILE, ERROR, EXIT, FOR, FROM, FUNC, IF, MODULE, NUM, PROC, RAISE, RETRY, RETURN, STEP, TEST, THEN, TO, TPREADNUM, TPWRITE, TRYNEXT, UNDO, VAR, WHILE}
 use Rattle.paper.specs.Trees.{Expr, Target, Simple, assign, assignCall, call, returns, raises, exits, retries, triesNext, writes, reads}
 use Rattle.paper.specs.Trees.{Statement, Statements, Arms, Cases, simple, compactIf, fullIf, for, while, test, empty, _then_, noArm, arm, noCase, case}
 use Rattle.paper.specs.Trees.{Content, variableData, initialData, arrayData, constantData, Declared, Parameter, RoutineList, Routine, Module}
@@ -203,16 +203,18 @@ module _ (W : ℕ → ℕ) (E : (d at : ℕ) → Expr → (to : ℕ) → Type 0)
       pub statements : ListAt N (l .statements) at to
       pub closes : l .closes ≡ to
 
-    -- "optionally ERROR and statements"
-    pub data HandlerIn : Option RoutineList → (at to : ℕ) → Type 0 where
-      no-handler : {at to : ℕ} → ¬ (W at ≡ ERROR) → to ≡ at → HandlerIn none at to
-      a-handler : {l : RoutineList} {at to : ℕ} → W at ≡ ERROR → RoutineListIn l (at + 1) to → HandlerIn (some l) at to
+    -- "optionally ERROR and statements", and UNDO and statements: a list behind a word of that sort.
+    pub data ListBehindIn (sort : ℕ) : Option RoutineList → (at to : ℕ) → Type 0 where
+      no-list : {at to : ℕ} → ¬ (W at ≡ sort) → to ≡ at → ListBehindIn sort none at to
+      a-list : {l : RoutineList} {at to : ℕ} → W at ≡ sort → RoutineListIn l (at + 1) to → ListBehindIn sort (some l) at to
 
     -- "PROC name(params) or FUNC type name(params): data, statements, optionally ERROR and statements, ENDPROC or ENDFUNC."
+    -- Request 6: "Last, after any ERROR list, a routine may have UNDO and statements."
     pub record RoutineIn (r : Routine) (at to : ℕ) : Type 0 where
-      -- the parenthesis behind the parameters, the first word of the list, the word at the end
+      -- the parenthesis behind the parameters, the first word of the list, the word that closes it or its ERROR list, the word at the end
       pub close : ℕ
       pub begin : ℕ
+      pub undoAt : ℕ
       pub end : ℕ
       pub head : HeadAt (r .result) (W end) at (r .name)
       pub name : W (r .name) ≡ NAME
@@ -221,7 +223,8 @@ module _ (W : ℕ → ℕ) (E : (d at : ℕ) → Expr → (to : ℕ) → Type 0)
       pub closes : W close ≡ closeParen
       pub declared : DeclarationsAt (r .declared) (close + 1) begin
       pub body : RoutineListIn (r .body) begin (r .body .closes)
-      pub handler : HandlerIn (r .handler) (r .body .closes) end
+      pub handler : ListBehindIn ERROR (r .handler) (r .body .closes) undoAt
+      pub undo : ListBehindIn UNDO (r .undo) undoAt end
       pub after : to ≡ end + 1
 
     abbrev pub RoutinesIn : List Routine → (at to : ℕ) → Type 0
@@ -249,8 +252,8 @@ module _ (W : ℕ → ℕ) (E : (d at : ℕ) → Expr → (to : ℕ) → Type 0)
   abbrev pub RoutineListAt : RoutineList → (at to : ℕ) → Type 0
   RoutineListAt l at to = RoutineListIn nestings l at to
 
-  abbrev pub HandlerAt : Option RoutineList → (at to : ℕ) → Type 0
-  HandlerAt o at to = HandlerIn nestings o at to
+  abbrev pub ListBehindAt : (sort : ℕ) → Option RoutineList → (at to : ℕ) → Type 0
+  ListBehindAt sort o at to = ListBehindIn nestings sort o at to
 
   abbrev pub RoutineAt : Routine → (at to : ℕ) → Type 0
   RoutineAt r at to = RoutineIn nestings r at to

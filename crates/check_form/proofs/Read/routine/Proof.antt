@@ -22,17 +22,20 @@ declarations-requires c κs = search needs
 list-requires : tie.Need-list-requires
 list-requires c κs = search needs
 
-handler-requires : tie.Need-handler-requires
-handler-requires c κs = search needs
+list-behind-requires : tie.Need-list-behind-requires
+list-behind-requires c κs = search needs
+
+list-behind-requires-2 : tie.Need-list-behind-requires-2
+list-behind-requires-2 c κs = search needs
 
 word-requires-4 : tie.Need-word-requires-4
 word-requires-4 c κs = search needs
 
 returns : tie.Need-returns
 unfolding routineFrom
-returns c = search (needs, branches) depth 11
+returns c = search (needs, branches) depth 12
 
 pub routine-spec : {M : Type 1} → statement M
 routine-spec =
     tie.close
-    (tie.spec word-requires word-requires-2 parameters-requires word-requires-3 declarations-requires list-requires handler-requires word-requires-4 returns)
+    (tie.spec word-requires word-requires-2 parameters-requires word-requires-3 declarations-requires list-requires list-behind-requires list-behind-requires-2 word-requires-4 returns)

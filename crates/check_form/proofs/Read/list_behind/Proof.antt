@@ -1,8 +1,8 @@
 use borrow.Author.Needs.{needs}
 use Rattle.check_form.proofs.Reading.{branches, fits}
-use Rattle.check_form.specs.Places.{errorPart}
-use Rattle.check_form.proofs.Read.handler.Statement.{statement}
-use Rattle.check_form.proofs.Read.handler.Tie as tie
+use Rattle.check_form.specs.Places.{listBehind}
+use Rattle.check_form.proofs.Read.list_behind.Statement.{statement}
+use Rattle.check_form.proofs.Read.list_behind.Tie as tie
 
 enum-known-self : tie.Need-enum-known-self
 enum-known-self c = search needs
@@ -17,7 +17,7 @@ sort-requires : tie.Need-sort-requires
 sort-requires c κs = search needs
 
 returns-2 : tie.Need-returns-2
-unfolding errorPart
+unfolding listBehind
 returns-2 c = search (needs, branches)
 
 add-list : tie.Need-add-list
@@ -27,10 +27,10 @@ list-requires : tie.Need-list-requires
 list-requires c κs = search needs
 
 returns-3 : tie.Need-returns-3
-unfolding errorPart
+unfolding listBehind
 returns-3 c = search (needs, branches)
 
-pub handler-spec : {M : Type 1} → statement M
-handler-spec =
+pub list-behind-spec : {M : Type 1} → statement M
+list-behind-spec =
     tie.close
     (tie.spec enum-known-self enum-told returns sort-requires returns-2 add-list list-requires returns-3)
