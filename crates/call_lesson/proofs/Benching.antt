@@ -7,6 +7,7 @@ use lib.ListN.{length, take, length-map}
 use mir.Syntax.{w32}
 use mir.Val.{toZ}
 use Rattle.paper.specs.Answer.{Question, questionOf, lentOf, Result, refusedWith, result, cellsOf, storeWords}
+use Rattle.paper.specs.Undoing.{plainly}
 use Rattle.paper.specs.Numbers.{decimal, digits}
 use Rattle.paper.specs.Sorts.{bytes}
 use Rattle.paper.specs.Examples.{lines, tray, asking, row, fields, examples}
@@ -25,15 +26,15 @@ store-words : (bytes : List ℕ) → storeBytes ≡ length bytes → length (cel
 store-words bytes e = ap length (words-paper bytes) ∙ length-map (cells.cellsOf bytes) (toZ w32) ∙ omega (arith, length-words bytes)
 
 asks-is : (text out code values : List ℕ) → 4096 ≡ length out → storeBytes ≡ length code → storeBytes ≡ length values
-    → questionOf (lentOf (lent text 10000 16 (take 0 text) out code values [])) ≡ asks text
+    → questionOf (lentOf (lent plainly text 10000 16 (take 0 text) out code values [])) ≡ asks text
 unfolding questionOf lentOf lent asks cellsOf
 asks-is text out code values o c v = λ i.
-    record { text = text; steps = 10000; depth = 16; inputs = []; room = sym o i; code = store-words code c i; values = store-words values v i }
+    record { text = text; steps = 10000; depth = 16; inputs = []; room = sym o i; code = store-words code c i; values = store-words values v i; asked = plainly }
 
 pub bench-law : (text out code values line : List ℕ) (r : Shown) (out′ code′ values′ line′ : List ℕ) → 4096 ≡ length out → storeBytes ≡ length code → storeBytes ≡ length values
-    → Shows (lent text 10000 16 (take 0 text) out code values []) line r out′ code′ values′ line′ → Benched text r out′ line′
+    → Shows (lent plainly text 10000 16 (take 0 text) out code values []) line r out′ code′ values′ line′ → Benched text r out′ line′
 bench-law text out code values line r out′ code′ values′ line′ o c v s = record {
-  screen = shows-screen (lent text 10000 16 (take 0 text) out code values []) line r out′ code′ values′ line′ s ∙ ap (λ (q : Question). screenOf (result q)) (asks-is text out code values o c v);
+  screen = shows-screen (lent plainly text 10000 16 (take 0 text) out code values []) line r out′ code′ values′ line′ s ∙ ap (λ (q : Question). screenOf (result q)) (asks-is text out code values o c v);
   output-inside = s .output-inside;
   line-inside = s .line-inside;
 }

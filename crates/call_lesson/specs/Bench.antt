@@ -3,6 +3,7 @@ use mathlib.Core.Path.{_≡_}
 use mathlib.Core.List.{List, [], _++_}
 use Prim.Native.Nat.{ℕ, _+_, _≤_}
 use lib.ListN.{length, take}
+use Rattle.paper.specs.Undoing.{plainly}
 use Rattle.paper.specs.Answer.{Question, result, storeWords}
 use Rattle.call_screen.specs.declared.Shown.{Shown}
 use Rattle.paper.specs.Words.{textLimit}
@@ -13,7 +14,7 @@ abbrev pub textRoom : ℕ
 textRoom = textLimit + 1
 
 unfoldable pub asks : (text : List ℕ) → Question
-asks text = record { text = text; steps = 10000; depth = 16; inputs = []; room = 4096; code = storeWords; values = storeWords }
+asks text = record { text = text; steps = 10000; depth = 16; inputs = []; room = 4096; code = storeWords; values = storeWords; asked = plainly }
 
 -- What is printed for a text: the first bytes of the output and those of the line, one behind the other.
 pub record Benched (text : List ℕ) (r : Shown) (out line : List ℕ) : Type 0 where

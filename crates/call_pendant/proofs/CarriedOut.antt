@@ -13,18 +13,20 @@ use Rattle.paper.specs.Answer as paper
 use Rattle.paper.specs.Answer.{storeWords, Record, lentOf, questionOf, verdict, accepted, endedWith, ranTo, carriedOut, offsetOf}
 use Rattle.paper.specs.States as states
 use Rattle.paper.specs.Running as running
+use Rattle.paper.specs.Undoing.{runAbort, runAsked}
 use Rattle.store_cells.specs.Cells.{cellsOf}
 use Rattle.store_cells.proofs.Laws.{length-words, words-take, words-append}
 use Rattle.store_cells.proofs.Paper.{words-paper}
 use Rattle.code.specs.Cells.{errnoCell}
-use Rattle.code.specs.Windows.{writtenCell, usedCell, writtenIn}
+use Rattle.code.specs.Windows.{writtenCell, usedCell, countAt, writtenIn}
 use Rattle.check_whole.specs.declared.Checked.{Checked}
 use Rattle.check_whole.specs.declared.Checked.the-variants as checked
 use Rattle.check_whole.specs.Checks.{storeBytes}
+use Rattle.run_whole.specs.declared.Abort.{Abort}
 use Rattle.run_whole.specs.declared.Ended.{Ended}
-use Rattle.run_whole.specs.Runs.{Begins, Comes, Ran}
+use Rattle.run_whole.specs.Runs.{Begins, abortOf, Comes, Ran}
 use Rattle.call_pendant.specs.Calls.{lent}
-use Rattle.call_pendant.specs.Carries.{asked, Rooms, Accepts, Starts, Ends, Settles, Settled, Tells}
+use Rattle.call_pendant.specs.Carries.{askedBy, put, Rooms, Accepts, Starts, Ends, Settles, Settled, Tells}
 use Rattle.layout.specs.Parts.{halfPart}
 use Rattle.call_records.specs.Records.{reported, Written, Emptied}
 use Rattle.paper.specs.Declarations.{moduleWordLimit}
@@ -84,15 +86,15 @@ module _ {text code values fields : List ℕ} {words main depth : ℕ} (a : Acce
   starts = record { code-room = a .rooms .code-room; values-room = a .rooms .values-room; begins = begins }
 
   -- ---- after the run
-  module _ {inputs out after out′ : List ℕ} {steps : ℕ} {e : Ended}
-      (ran : Ran text (take storeBytes code) (take storeBytes values) after inputs out out′ main steps depth e) where
+  module _ {inputs out after out′ : List ℕ} {steps : ℕ} {abort : Abort} {e : Ended}
+      (ran : Ran text (take storeBytes code) (take storeBytes values) after inputs out out′ main steps depth abort e) where
     rooms : states.Rooms
     rooms = record { depth = depth; output = length out; inputs = paper.cellsOf inputs }
 
     ended : running.Ended
-    ended = running.run (a .a .program) rooms steps (running.started (a .a .program) (a .a .main))
+    ended = runAbort (a .a .program) rooms steps (abortOf abort) (running.started (a .a .program) (a .a .main))
 
-    comes : Comes (a .a .program) (offsetOf text (a .a .words)) after out out′ steps ended e
+    comes : Comes (a .a .program) (offsetOf text (a .a .words)) after out out′ ended e
     unfolding rooms ended begins
     comes = ran .is begins rooms refl (record { room = refl; reads = words-paper inputs })
 
@@ -121,6 +123,9 @@ module _ {text code values fields : List ℕ} {words main depth : ℕ} (a : Acce
         ap (λ (x : List ℕ). getD x c 0) whole-words
         ∙ List·getD-append (cellsOf after) (cellsOf (drop storeBytes values)) 0 c (rw after-words h)
 
+    count : (c : ℕ) → suc c < storeWords → countAt (cellsOf (after ++ drop storeBytes values)) c ≡ countAt (cellsOf after) c
+    count c h = ap₂ (λ (x y : ℕ). x + halfPart * y) (cell c (omega arith)) (cell (suc c) h)
+
     kept-are : take words (paper.cellsOf (after ++ drop storeBytes values)) ≡ ended .state .words
     kept-are =
         ap (take words) (words-paper (after ++ drop storeBytes values))
@@ -137,19 +142,19 @@ module _ {text code values fields : List ℕ} {words main depth : ℕ} (a : Acce
         ∙ ap (λ (m : ℕ). length (take m (cellsOf after))) (sym words-are)
         ∙ length-take-le words (cellsOf after) (rw after-words (omega (arith, few-words)))
 
-    fields-are : reported (e .ending) (e .place) (steps - e .left) (after ++ drop storeBytes values) words ≡ ranTo text (a .a .words) ended .fields
+    fields-are : reported (e .ending) (e .place) (e .made) (after ++ drop storeBytes values) words ≡ ranTo text (a .a .words) ended .fields
     unfolding reported ranTo endedWith writtenIn
     fields-are =
         let e₁ = comes .ending in
         let e₂ = comes .place in
-        let e₃ = sym (comes .counted) in
+        let e₃ = comes .made in
         let e₄ = cell errnoCell (omega arith) ∙ comes .errno in
-        let e₅ = ap₂ (λ (x y : ℕ). x + halfPart * y) (cell writtenCell (omega arith)) (cell (suc writtenCell) (omega arith)) ∙ comes .written (a .ready .R) in
-        let e₆ = cell usedCell (omega arith) ∙ comes .used in
+        let e₅ = count writtenCell (omega arith) ∙ comes .written (a .ready .R) in
+        let e₆ = count usedCell (omega arith) ∙ comes .used in
         let e₇ = sym kept-many in
         λ i. record { ending = e₁ i; refusal = 0; offset = e₂ i; steps = e₃ i; errno = e₄ i; output = e₅ i; inputs = e₆ i; words = e₇ i }
 
-    tells : {code′ values′ fields′ : List ℕ} → Written fields fields′ (reported (e .ending) (e .place) (steps - e .left) (after ++ drop storeBytes values) words)
+    tells : {code′ values′ fields′ : List ℕ} → Written fields fields′ (reported (e .ending) (e .place) (e .made) (after ++ drop storeBytes values) words)
         → Emptied code (after ++ drop storeBytes values) code′ values′ words
         → Tells (ranTo text (a .a .words) ended) out code values fields out′ code′ values′ fields′
     unfolding ranTo endedWith
@@ -161,20 +166,14 @@ module _ {text code values fields : List ℕ} {words main depth : ℕ} (a : Acce
           told = record { bytes = w .bytes ∙ ap (λ (f : Record). paper.recordBytes f ++ drop paper.recordSize fields) fields-are };
         }
 
-    told-all : {code′ values′ fields′ : List ℕ} → Written fields fields′ (reported (e .ending) (e .place) (steps - e .left) (after ++ drop storeBytes values) words)
+    told-all : {code′ values′ fields′ : List ℕ} → Written fields fields′ (reported (e .ending) (e .place) (e .made) (after ++ drop storeBytes values) words)
         → Emptied code (after ++ drop storeBytes values) code′ values′ words
-        → Tells (carriedOut (asked text steps depth inputs out) (verdict text)) out code values fields out′ code′ values′ fields′
-    unfolding asked questionOf lentOf lent carriedOut rooms ended
+        → Tells (carriedOut (put (askedBy abort) text steps depth inputs out) (verdict text)) out code values fields out′ code′ values′ fields′
+    unfolding put questionOf lentOf lent carriedOut rooms ended runAsked
     told-all w z = rw (a .judged) (tells w z)
 
-    left-over : e .left ≤ steps
-    left-over = comes .left
-
   -- ---- the whole store after it
-  module _ {inputs out values′ out′ : List ℕ} {steps : ℕ} {e : Ended} (ends : Ends text code values values′ inputs out out′ main steps depth e) where
-    pub steps-left : e .left ≤ steps
-    steps-left = left-over (ends .ran)
-
+  module _ {inputs out values′ out′ : List ℕ} {steps : ℕ} {abort : Abort} {e : Ended} (ends : Ends text code values values′ inputs out out′ main steps depth abort e) where
     pub same-size : length values′ ≡ length values
     same-size = ap length (ends .whole) ∙ whole-size (ends .ran)
 
@@ -185,6 +184,6 @@ module _ {text code values fields : List ℕ} {words main depth : ℕ} (a : Acce
           few = omega (arith, few-words);
         }
 
-    pub carried : {code′ values″ fields′ : List ℕ} → Settled (e .ending) (e .place) (steps - e .left) words code values′ fields code′ values″ fields′
-        → Tells (carriedOut (asked text steps depth inputs out) (verdict text)) out code values fields out′ code′ values″ fields′
+    pub carried : {code′ values″ fields′ : List ℕ} → Settled (e .ending) (e .place) (e .made) words code values′ fields code′ values″ fields′
+        → Tells (carriedOut (put (askedBy abort) text steps depth inputs out) (verdict text)) out code values fields out′ code′ values″ fields′
     carried s = told-all (ends .ran) (rw (ends .whole) at (s .told)) (rw (ends .whole) at (s .cleared))

@@ -8,6 +8,7 @@ use lib.ListN.{length, drop, length-map}
 use mir.Syntax.{w32}
 use mir.Val.{toZ}
 use borrow.Author.Tests.{lt-ltb, le-ltb}
+use Rattle.paper.specs.Undoing.{Asked}
 use Rattle.paper.specs.Answer as paper
 use Rattle.paper.specs.Answer.{storeWords, recordSize, Verdict, refusedBy, accepted, verdict, Question, Result, LentBytes, lentOf, questionOf, refusedWith, carriedOut, tooSmall, badDepth, result, answer, spread, pendantCall}
 use Rattle.store_cells.specs.Cells.{cellsOf}
@@ -17,7 +18,7 @@ use Rattle.check_whole.specs.Checks.{storeBytes}
 use Rattle.layout.specs.Rules.{smallStore, wrongDepth}
 use Rattle.call_records.specs.Records.{refusedFields, Written}
 use Rattle.call_pendant.specs.Calls.{lent, Calls}
-use Rattle.call_pendant.specs.Carries.{asked, Refuses, Tells}
+use Rattle.call_pendant.specs.Carries.{put, Refuses, Tells}
 use Rattle.call_pendant.proofs.Stores.{AllBytes, left-bytes, same-bytes}
 use Rattle.call_pendant.proofs.Depths.{isBad}
 use Rattle.call_pendant.proofs.TextJudged.{refusal-tells}
@@ -26,9 +27,9 @@ word-count : (l : List ℕ) → length (paper.cellsOf l) ≡ length l / 4
 word-count l = ap length (words-paper l) ∙ length-map (cellsOf l) (toZ w32) ∙ length-words l
 
 -- ---- what was lent
-module _ (text : List ℕ) (steps depth : ℕ) (inputs out code values fields : List ℕ) where
+module _ (asked : Asked) (text : List ℕ) (steps depth : ℕ) (inputs out code values fields : List ℕ) where
   abbrev all : LentBytes
-  all = lent text steps depth inputs out code values fields
+  all = lent asked text steps depth inputs out code values fields
 
   abbrev question : Question
   question = questionOf (lentOf all)
@@ -93,13 +94,13 @@ module _ (text : List ℕ) (steps depth : ℕ) (inputs out code values fields : 
     call-deep b code′ values′ fields′ f =
         call-tells _ (rw (not-small, result) (rw (sym b))) out code′ values′ fields′ (refusal-tells out wrongDepth 0 f)
 
-    asked-same : (v : Verdict) → carriedOut question v ≡ carriedOut (asked text steps depth inputs out) v
-    unfolding carriedOut asked lent lentOf questionOf
+    asked-same : (v : Verdict) → carriedOut question v ≡ carriedOut (put asked text steps depth inputs out) v
+    unfolding carriedOut put lent lentOf questionOf
     asked-same (refusedBy f) = refl
     asked-same (accepted a) = refl
 
     pub call-judged : false ≡ isBad depth → (out′ code′ values′ fields′ : List ℕ)
-        → Tells (carriedOut (asked text steps depth inputs out) (verdict text)) out code values fields out′ code′ values′ fields′
+        → Tells (carriedOut (put asked text steps depth inputs out) (verdict text)) out code values fields out′ code′ values′ fields′
         → AllBytes code′ → AllBytes values′ → Calls all 1 out′ code′ values′ fields′
     unfolding lent lentOf questionOf result badDepth
     call-judged d =

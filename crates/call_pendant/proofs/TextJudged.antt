@@ -12,9 +12,10 @@ use Rattle.paper.specs.Answer.{recordSize, recordBytes, depthLimit, Verdict, re
 use Rattle.check_whole.specs.declared.Checked.{Checked}
 use Rattle.check_whole.specs.declared.Checked.the-variants as checked
 use Rattle.check_whole.specs.Checks.{storeBytes, TooSmall, Judges, Checks}
+use Rattle.run_whole.specs.declared.Abort.{Abort}
 use Rattle.layout.specs.Rules.{wrongDepth}
 use Rattle.call_records.specs.Records.{refusedFields, Written, Empties, Emptied}
-use Rattle.call_pendant.specs.Carries.{asked, Rooms, Refuses, Accepts, Tells}
+use Rattle.call_pendant.specs.Carries.{askedBy, put, Rooms, Refuses, Accepts, Tells}
 use Rattle.call_pendant.proofs.Stores.{left-empty, left-emptied, left-on}
 
 -- ---- a refusal
@@ -89,13 +90,13 @@ module _ (text code values fields : List ℕ) (room : Rooms code values fields) 
             most = most;
           }
 
-  pub judged-refused : (number offset steps depth : ℕ) (inputs out fields′ : List ℕ) → Checks text code values r code′ values′ → r ≡ checked.Refused number offset
+  pub judged-refused : (number offset steps depth : ℕ) (abort : Abort) (inputs out fields′ : List ℕ) → Checks text code values r code′ values′ → r ≡ checked.Refused number offset
       → Written fields fields′ (refusedFields number offset)
-      → Tells (carriedOut (asked text steps depth inputs out) (verdict text)) out code values fields out code′ values′ fields′
+      → Tells (carriedOut (put (askedBy abort) text steps depth inputs out) (verdict text)) out code values fields out code′ values′ fields′
   unfolding Judges carriedOut
-  judged-refused number offset steps depth inputs out fields′ c e w = by-verdict (verdict text) (judges c)
+  judged-refused number offset steps depth abort inputs out fields′ c e w = by-verdict (verdict text) (judges c)
     where
-      by-verdict : (v : Verdict) → Judges text code values v r code′ values′ → Tells (carriedOut (asked text steps depth inputs out) v) out code values fields out code′ values′ fields′
+      by-verdict : (v : Verdict) → Judges text code values v r code′ values′ → Tells (carriedOut (put (askedBy abort) text steps depth inputs out) v) out code values fields out code′ values′ fields′
       by-verdict (accepted a) j = apart (not-both e (j .answer))
       by-verdict (refusedBy f) j =
           let n = same-number e (j .answer) in

@@ -3,11 +3,21 @@ use mathlib.Core.Path.{_≡_, sym, ap, _∙_}
 use mathlib.Core.List.{List}
 use Prim.Native.Nat.{ℕ}
 use Rattle.paper.specs.Answer.{LentBytes, BytesAnswer}
-use Rattle.call_pendant.specs.Calls.{Calls}
+use Rattle.call_pendant.specs.Calls.{Calls, FlaggedCalls}
 
-module _ {l : LentBytes} {r r′ : ℕ} {out out′ code code′ values values′ fields fields′ : List ℕ} (p : Calls l r out code values fields) (q : Calls l r′ out′ code′ values′ fields′) where
-  same : _≡_ {A = BytesAnswer} (record { returned = r; output = out; code = code; values = values; fields = fields }) (record { returned = r′; output = out′; code = code′; values = values′; fields = fields′ })
-  same = p .is ∙ sym (q .is)
+abbrev Left : (r : ℕ) (out code values fields : List ℕ) → BytesAnswer
+Left r out code values fields = record { returned = r; output = out; code = code; values = values; fields = fields }
 
-  pub call-unique : (r ≡ r′) × (out ≡ out′) × (code ≡ code′) × (values ≡ values′) × (fields ≡ fields′)
-  call-unique = (ap (λ (b : BytesAnswer). b .returned) same, ap (λ (b : BytesAnswer). b .output) same, ap (λ (b : BytesAnswer). b .code) same, ap (λ (b : BytesAnswer). b .values) same, ap (λ (b : BytesAnswer). b .fields) same)
+-- What is returned, and every lent byte.
+module _ {r r′ : ℕ} {out out′ code code′ values values′ fields fields′ : List ℕ} where
+  abbrev pub One : Type 0
+  One = (r ≡ r′) × (out ≡ out′) × (code ≡ code′) × (values ≡ values′) × (fields ≡ fields′)
+
+  one : Left r out code values fields ≡ Left r′ out′ code′ values′ fields′ → One
+  one e = (ap (λ (x : BytesAnswer). x .returned) e, ap (λ (x : BytesAnswer). x .output) e, ap (λ (x : BytesAnswer). x .code) e, ap (λ (x : BytesAnswer). x .values) e, ap (λ (x : BytesAnswer). x .fields) e)
+
+  pub call-unique : {l : LentBytes} → Calls l r out code values fields → Calls l r′ out′ code′ values′ fields′ → One
+  call-unique p q = one (p .is ∙ sym (q .is))
+
+  pub flagged-unique : {flags : ℕ} {l : LentBytes} → FlaggedCalls flags l r out code values fields → FlaggedCalls flags l r′ out′ code′ values′ fields′ → One
+  flagged-unique p q = one (p .is ∙ sym (q .is))

@@ -4,17 +4,23 @@ use mathlib.Core.List.{List, [], _++_}
 use Prim.Native.Nat.{ℕ, _<_, _≤_}
 use lib.ListN.{length, take, drop}
 use lib.IntN.{ℤ}
+use Rattle.paper.specs.Undoing.{Asked}
 use Rattle.paper.specs.Answer.{storeWords, Accepted, accepted, verdict, recordSize, depthLimit, Question, questionOf, lentOf, Result, cellsOf, storeAfter}
 use Rattle.check_whole.specs.declared.Checked.the-variants as checked
 use Rattle.check_whole.specs.Checks.{storeBytes, Ready}
+use Rattle.run_whole.specs.declared.Abort.{Abort}
 use Rattle.run_whole.specs.declared.Ended.{Ended}
-use Rattle.run_whole.specs.Runs.{Begins, Ran}
+use Rattle.run_whole.specs.Runs.{Begins, abortOf, Ran}
 use Rattle.call_records.specs.Records.{refusedFields, reported, Written, Emptied}
 use Rattle.call_pendant.specs.Calls.{lent}
 
--- What a call asks for but for its stores, of which a run knows nothing.
-unfoldable pub asked : (text : List ℕ) → (steps depth : ℕ) → (inputs out : List ℕ) → Question
-asked text steps depth inputs out = questionOf (lentOf (lent text steps depth inputs out [] [] []))
+-- What is asked of a run besides its rooms.
+abbrev pub askedBy : Abort → Asked
+askedBy a = record { abort = abortOf a }
+
+-- The question that a call puts but for its stores, of which a run knows nothing.
+unfoldable pub put : Asked → (text : List ℕ) → (steps depth : ℕ) → (inputs out : List ℕ) → Question
+put asked text steps depth inputs out = questionOf (lentOf (lent asked text steps depth inputs out [] [] []))
 
 -- ---- the stores
 -- Both stores and the record are as long as the paper asks.
@@ -47,9 +53,9 @@ pub record Starts (text code values : List ℕ) (main depth : ℕ) : Type 0 wher
   pub begins : Begins text (take storeBytes code) (take storeBytes values) main depth
 
 -- It has ended: its bytes stand where the store's words were, and past them is what was there.
-pub record Ends (text code values values′ inputs out out′ : List ℕ) (main steps depth : ℕ) (e : Ended) : Type 0 where
+pub record Ends (text code values values′ inputs out out′ : List ℕ) (main steps depth : ℕ) (abort : Abort) (e : Ended) : Type 0 where
   pub after : List ℕ
-  pub ran : Ran text (take storeBytes code) (take storeBytes values) after inputs out out′ main steps depth e
+  pub ran : Ran text (take storeBytes code) (take storeBytes values) after inputs out out′ main steps depth abort e
   pub whole : values′ ≡ after ++ drop storeBytes values
 
 -- The stores can be cleared but for so many words of values, and there is room for the record.

@@ -8,6 +8,7 @@ use mir.Syntax.{w32}
 use mir.Val.{Fits}
 use borrow.Author.Tests.{le-ltb}
 use Rattle.paper.specs.Answer.{recordSize, Record, lowFirst, recordBytes, Lent, Answer, answer, LentBytes, BytesAnswer, lentOf, spread, pendantCall}
+use Rattle.paper.specs.Undoing.{plainly}
 use Rattle.paper.specs.Answer as paper
 use Rattle.store_cells.specs.Cells.{cell, cellsOf, Got}
 use Rattle.demands.specs.Vocabulary.{Errno, before-any, latest, ErrorNumber, by-raise, named}
@@ -73,16 +74,16 @@ written-inside l f (ended p r) = r .output
 -- ---- the call
 module _ (text : List ℕ) (steps depth : ℕ) (inputs out code values fields line : List ℕ) (r₁ : ℕ) (out′ code′ values′ fields′ line′ : List ℕ) (n count : ℕ)
     (fits : Fits w32 steps) (lends : Lends text inputs out line) (room : recordSize ≤ length fields)
-    (called : Calls (lent text steps depth inputs out code values fields) r₁ out′ code′ values′ fields′)
+    (called : Calls (lent plainly text steps depth inputs out code values fields) r₁ out′ code′ values′ fields′)
     (put : PutLine line line′ (lowFields fields′) n) (got : Got fields′ 10 count) where
   -- what is lent, but for the record
   abbrev l : LentBytes
-  l = lent text steps depth inputs out code values []
+  l = lent plainly text steps depth inputs out code values []
 
   abbrev a : Answer
   a = answer (lentOf l)
 
-  is : record { returned = r₁; output = out′; code = code′; values = values′; fields = fields′ } ≡ spread a (lent text steps depth inputs out code values fields)
+  is : record { returned = r₁; output = out′; code = code′; values = values′; fields = fields′ } ≡ spread a (lent plainly text steps depth inputs out code values fields)
   unfolding pendantCall lentOf lent
   is = called .is ∙ rw (le-ltb (length fields) recordSize room, pendantCall)
 
@@ -107,7 +108,7 @@ module _ (text : List ℕ) (steps depth : ℕ) (inputs out code values fields li
   unfolding spread Demand1 lentOf lent
   inside = omega (arith, count-is, ap (λ (x : BytesAnswer). length (x .output)) is, demand-1 (lentOf l) .1 .output-length, written-inside (lentOf l) (a .fields) (demand-1 (lentOf l) .0))
 
-  pub show-law : Shows (lent text steps depth inputs out code values []) line (record { output = count; line = n }) out′ code′ values′ line′
+  pub show-law : Shows (lent plainly text steps depth inputs out code values []) line (record { output = count; line = n }) out′ code′ values′ line′
   unfolding spread lent Demand1 lentOf recordLine
   show-law = record {
     out-is = ap (λ (x : BytesAnswer). x .output) is;

@@ -5,6 +5,7 @@ ghost use mathlib.Core.Path.{_≡_};
 ghost use mathlib.Core.List.{[]};
 ghost use Prim.Native.Nat.{_+_, _≤_};
 ghost use lib.ListN.{length};
+ghost use Rattle.paper.specs.Undoing.{plainly};
 ghost use Rattle.paper.specs.Answer.{recordSize};
 ghost use Rattle.call_pendant.specs.Calls.{lent};
 ghost use Rattle.call_screen.specs.Screen.{lineRoom, fieldRoom, behindAt, PutOne, PutLine, lowFields, Lends, Shows};
@@ -78,7 +79,7 @@ pub fn show<'a>(
     line: &mut [u8],
 ) -> Shown
     requires { ⌜ Lends (now text) (now inputs) (now out) (now line) ⌝ }
-    ensures { λ r. ⌜ Shows (lent (now (text .entry)) steps depth (now (inputs .entry)) (now (out .entry)) (now (code .entry)) (now (values .entry)) []) (now (line .entry)) r (now (out .exit)) (now (code .exit)) (now (values .exit)) (now (line .exit)) ⌝ }
+    ensures { λ r. ⌜ Shows (lent plainly (now (text .entry)) steps depth (now (inputs .entry)) (now (out .entry)) (now (code .entry)) (now (values .entry)) []) (now (line .entry)) r (now (out .exit)) (now (code .exit)) (now (values .exit)) (now (line .exit)) ⌝ }
 {
     let mut fields = [0u8; limits::RECORD_BYTES];
     call_pendant::rapid_run(text, steps, depth, inputs, out, code, values, &mut fields);

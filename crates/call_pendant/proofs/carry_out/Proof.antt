@@ -1,5 +1,5 @@
 use borrow.Author.Needs.{needs}
-use Rattle.call_pendant.proofs.CarriedOut.{starts, steps-left, settles, carried}
+use Rattle.call_pendant.proofs.CarriedOut.{starts, settles, carried}
 use Rattle.call_pendant.proofs.carry_out.Statement.{statement}
 use Rattle.call_pendant.proofs.carry_out.Tie as tie
 
@@ -14,11 +14,6 @@ run-words-requires : tie.Need-run-words-requires
 run-words-requires c κs =
     let start = c .before .before .before .before .before .before .before .before .before in
     starts (start .pre)
-
-sub-settle : tie.Need-sub-settle
-sub-settle c =
-    let at-run = c .before .before .before .before .before .before .before .before in
-    steps-left (start at-run .pre) (at-run .run-words .ensures)
 
 settle-requires : tie.Need-settle-requires
 settle-requires c κs =
@@ -47,7 +42,6 @@ carry-out-spec =
     tie.close
     (tie.spec
     run-words-requires
-    sub-settle
     settle-requires
     same-length
     same-length-2

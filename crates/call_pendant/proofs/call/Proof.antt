@@ -3,11 +3,11 @@ use mathlib.Core.Path.{sym, _∙_}
 use native.Mathlib.Omega.{arith}
 use Rattle.call_pendant.proofs.Depths.{good}
 use Rattle.call_pendant.proofs.PaperAnswer.{call-short, small-code, small-values, call-deep, call-judged}
-use Rattle.call_pendant.proofs.rapid_run.Statement.{statement}
-use Rattle.call_pendant.proofs.rapid_run.Tie as tie
+use Rattle.call_pendant.proofs.call.Statement.{statement}
+use Rattle.call_pendant.proofs.call.Tie as tie
 
 returns : tie.Need-returns
-returns c = call-short _ _ _ _ _ _ _ _ (omega (arith, c .if1 .taken))
+returns c = call-short _ _ _ _ _ _ _ _ _ (omega (arith, c .if1 .taken))
 
 refuse-requires : tie.Need-refuse-requires
 refuse-requires c κs = search needs
@@ -20,7 +20,7 @@ returns-2 c =
     let at-if1 = c .before .before .before .before .before in
     let at-slice-known3 = at-if1 .before .before in
     let at-slice-known2 = at-slice-known3 .before in
-    small-code _ _ _ _ _ _ _ _ (at-if1 .if1 .left) (c .before .before .before .before .if2 .taken) _ (c .before .before .refuse .ensures)
+    small-code _ _ _ _ _ _ _ _ _ (at-if1 .if1 .left) (c .before .before .before .before .if2 .taken) _ (c .before .before .refuse .ensures)
     (at-slice-known2 .slice-known2 .given) (at-slice-known3 .slice-known3 .given)
 
 refuse-requires-2 : tie.Need-refuse-requires-2
@@ -35,7 +35,7 @@ returns-3 c =
     let at-if1 = at-if2 .before in
     let at-slice-known3 = at-if1 .before .before in
     let at-slice-known2 = at-slice-known3 .before in
-    small-values _ _ _ _ _ _ _ _ (at-if1 .if1 .left) (at-if2 .if2 .left) (c .before .before .before .before .if3 .taken) _
+    small-values _ _ _ _ _ _ _ _ _ (at-if1 .if1 .left) (at-if2 .if2 .left) (c .before .before .before .before .if3 .taken) _
     (c .before .before .refuse2 .ensures) (at-slice-known2 .slice-known2 .given) (at-slice-known3 .slice-known3 .given)
 
 bad-depth-requires : tie.Need-bad-depth-requires
@@ -62,7 +62,7 @@ returns-4 c =
     let at-refuse-depth = c .before .before .before .before .before .before in
     let at-if4 = at-refuse-depth .before .before .before .before in
     let b = c .before .before .before .before .before .before .before .before .before .before .before in
-    call-deep _ _ _ _ _ _ _ _ (b .before .before .before .if1 .left) (b .before .before .if2 .left) (b .before .if3 .left)
+    call-deep _ _ _ _ _ _ _ _ _ (b .before .before .before .if1 .left) (b .before .before .if2 .left) (b .before .if3 .left)
     (sym (at-if4 .if4 .taken) ∙ b .bad-depth .ensures) _ _ _ (at-refuse-depth .refuse-depth .ensures)
     (c .before .before .before .before .slice-known7 .given) (c .before .before .slice-known8 .given)
 
@@ -89,12 +89,12 @@ returns-5 c =
     let at-judge = c .before .before .before .before .before .before .before .before in
     let at-if4 = at-judge .before .before .before .before .before in
     let b = c .before .before .before .before .before .before .before .before .before .before .before .before .before .before in
-    call-judged _ _ _ _ _ _ _ _ (b .before .before .before .if1 .left) (b .before .before .if2 .left) (b .before .if3 .left)
+    call-judged _ _ _ _ _ _ _ _ _ (b .before .before .before .if1 .left) (b .before .before .if2 .left) (b .before .if3 .left)
     (sym (at-if4 .if4 .left) ∙ b .bad-depth .ensures) _ _ _ _ (at-judge .judge .ensures) (c .before .before .before .before .slice-known11 .given)
     (c .before .before .slice-known12 .given)
 
-pub rapid-run-spec : {M : Type 1} → statement M
-rapid-run-spec =
+pub call-spec : {M : Type 1} → statement M
+call-spec =
     tie.close
     (tie.spec
     returns
