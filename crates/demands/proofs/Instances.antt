@@ -2,6 +2,7 @@
 use mathlib.Core.Path.{_≡_, refl}
 use mathlib.Core.Bool.{true, false}
 use mathlib.Core.List.{List, [], _∷_, _++_, map}
+use mathlib.Core.Option.{none, some}
 use Prim.Native.Nat.{ℕ, zero, suc, _+_, _≤_}
 use native.Mathlib.Omega.{arith}
 use lib.Dec.{T, leb, leb→le}
@@ -15,19 +16,24 @@ use Rattle.paper.specs.Names.{sortIn}
 use Rattle.paper.specs.Steps.{Program}
 use Rattle.paper.specs.States.{State, Rooms}
 use Rattle.paper.specs.Running.{passes, countingStep, goesOn, stopped, takeStep, nextPlace, started}
+use Rattle.paper.specs.Undoing.{Asked, plainly}
 use Rattle.paper.specs.Computing.{computed}
 use Rattle.paper.specs.Examples.{row, asking, fields, lines, tray, moduleOf, slips}
 use Rattle.paper.specs.Answer.{storeWords, depthLimit, refusedBy, accepted, verdict, Lent, answer}
 use Rattle.demands.proofs.MoreRoom.{demand-3}
 use Rattle.demands.proofs.Alls.{all-map}
 use Rattle.demands.specs.Vocabulary.{All, nothing, _also_}
-use Rattle.demands.specs.Demands.{MoreRoom, told, NeverChanged, Demand3, loopBetween, valueAfter}
+use Rattle.demands.specs.Demands.{without, MoreRoom, told, NeverChanged, Demand3, loopBetween, valueAfter}
 
 -- ---- Demand 1: each ending of the table, 0 to 8.
 -- A text with the smallest stores.
 unfoldable pub lent : List ℕ → (steps depth : ℕ) → (inputs : List ℤ) → (room : ℕ) → Lent
 lent text steps depth inputs room =
-    record { text = text; steps = steps; depth = depth; inputs = inputs; output = replicate room 0; code = replicate storeWords (pos 0); values = replicate storeWords (pos 0) }
+    record { text = text; steps = steps; depth = depth; inputs = inputs; output = replicate room 0; code = replicate storeWords (pos 0); values = replicate storeWords (pos 0); asked = plainly }
+
+-- K and the UNDO allowance.
+unfoldable pub until : (k undo : ℕ) → Asked
+until k undo = record { abort = some (record { at = k; undo = undo }) }
 
 -- The text of a classroom slip: 1 is that of TRYNEXT, where fetch reads a part, fails and is dropped; 2 that of an error inside ERROR.
 pub slip : ℕ → List ℕ
@@ -106,6 +112,7 @@ more p h =
       depth = omega arith;
       output = omega (arith, length-replicate (p .room) (zero), length-replicate (p .room + p .more-room) (zero));
       inputs = record { rest = p .more-inputs; whole = refl };
+      asked = without;
     }
 
 pub pairs-never-change : All (λ p. NeverChanged (told (answer (first p))) (told (answer (second p)))) pairs

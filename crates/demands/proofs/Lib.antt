@@ -13,7 +13,10 @@ pub mod Faults
 pub mod Places
 pub mod Routines
 pub mod Tables
+pub mod Apart
+pub mod Barred
 pub mod Sitting
+pub mod Aborted
 pub mod Records
 pub mod Memory
 pub mod Bytes
