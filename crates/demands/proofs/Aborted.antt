@@ -1,7 +1,7 @@
 -- In every state of an abort of an accepted module the newest call sits at a step of its UNDO list, and its callers where they were: what may be said of aborts rests on this.
 use mathlib.Core.Path.{_≡_, refl, sym, ap, _∙_}
 use mathlib.Core.Bool.{Bool, true, false}
-use mathlib.Core.List.{List, [], _∷_, _++_}
+use mathlib.Core.List.{List, [], _∷_, _++_, append-assoc}
 use mathlib.Core.Option.{Option, none, some}
 use Prim.Native.Nat.{ℕ, zero, suc, _+_, _≤_, _<_}
 use native.Mathlib.Omega.{arith}
@@ -11,9 +11,9 @@ use borrow.Author.Tests.{eqb-true, ne-eqb, ltb-false}
 use Rattle.laws.proofs.Tests.{apart}
 use Rattle.paper.specs.Basics.{if_then_else_}
 use Rattle.paper.specs.Words.{Word}
-use Rattle.paper.specs.Trees.{Module}
+use Rattle.paper.specs.Trees.{Routine, Module}
 use Rattle.paper.specs.Names.{sortIn}
-use Rattle.paper.specs.Steps.{Action, retry, tryNext, endUndo, Step, Program, programOf}
+use Rattle.paper.specs.Steps.{Action, retry, tryNext, endUndo, Step, Program, codeOf, programOf}
 use Rattle.paper.specs.States.{Call, State, Rooms, Effect, made, failing, handing, ending, lacking, withCalls, withErrno, counted, goTo}
 use Rattle.paper.specs.Running.{codeAt, stepOf, nextStep, perform, Ended, Outcome, goesOn, stopped, stopping, takeStep, run, started}
 use Rattle.paper.specs.Undoing.{Abort, dropping, leaving, undone, undoStep, aborted, undoSpent, undoing, aborting, runAbort}
@@ -22,9 +22,11 @@ use Rattle.demands.proofs.Alls.{first-of, rest-of, back-of, one-among, 
 use Rattle.demands.proofs.Tables.{StandsAt, Fits, Known, known-second, CodeFits, ModuleFits, code-at}
 use Rattle.demands.proofs.Performed.{CallsMade, made-move, made-call, made-return, made-retry, made-trynext, Performed, makes, fails-with, hands-on, ends, lacks, performed, Callee, of-function, of-procedure, Lacking, no-depth, no-input, no-room}
 use Rattle.demands.proofs.Growing.{Came, goes, stops, came, run-goes, run-stops, CameUndo, goes-undo, stops-undo, came-undo, undoFrom, undoing-from}
+use Rattle.demands.proofs.Calls.{never-live-again}
 use Rattle.demands.proofs.Sitting.{each-among, among-known, Sits, next-among, Sitting, sitting, EndedAt, by-abort, at-word, at-undo-or-end, lacking-word, reached-sits, program-ends}
-use Rattle.demands.specs.Vocabulary.{All, nothing, _also_, Among, CallsRoutine, for-result, for-nothing, Returns, by-return, at-its-end, effectOf, waysOf, GoesOn, EndsWith, at-undo, Reached, at-start, by-step}
-use Rattle.demands.specs.Aborts.{ownStepsOf, undoStepsOf, Undoable, struck, UndoLeads, no-step, undo-step, NextList, no-more, begins-list, StillLive, none-left, one-left, UndoCalls, stays-in-list, leaves-list, InAbort}
+use Rattle.demands.specs.Vocabulary.{All, nothing, _also_, Among, CallsRoutine, for-result, for-nothing, Returns, by-return, at-its-end, effectOf, waysOf, GoesOn, EndsWith, at-undo, Reached, at-start, by-step, Leads}
+use Rattle.demands.specs.Demands.{BegunSince, NeverLiveAgain}
+use Rattle.demands.specs.Aborts.{ownSteps, undoSteps, routineAt, ownStepsOf, undoStepsOf, Undoable, struck, UndoLeads, no-step, undo-step, NextList, no-more, begins-list, StillLive, none-left, one-left, UndoCalls, stays-in-list, leaves-list}
 
 -- ---- of every program
 -- A run that ended with 5 has come to a state of its own.
@@ -193,6 +195,13 @@ module _ (W : List Word) (m : Module) (fits : ModuleFits W m) where
   abbrev undo : Call → List Step
   undo c = undoStepsOf W m (c .routine)
 
+  among-routines : (rs : List Routine) (k : ℕ) → All (λ r. CodeFits W (length (m .routines)) (ownSteps W m r) (undoSteps W m r) (codeOf W m r)) rs
+      → All (λ (s : Step). Undoable (s .does)) (elim (routineAt rs k) [ none ↦ [] | some r ↦ undoSteps W m r ])
+  unfolding routineAt
+  among-routines [] k h = nothing
+  among-routines (r ∷ rs) zero h = first-of h .undoable
+  among-routines (r ∷ rs) (suc k) h = among-routines rs k (rest-of h)
+
   -- a call in its UNDO list
   pub record SitsUndo (c : Call) : Type 0 where
     pub routine : c .routine < length (m .routines)
@@ -305,3 +314,59 @@ module _ (W : List Word) (m : Module) (fits : ModuleFits W m) where
       (chosen-by (EndedAt W) (eqb (x .ending) 5) _ _
       (λ t. struck-ends R main below (x .state) (run-reaches program R main (a .at) _ at-start (eqb-true (x .ending) 5 t)) (a .undo) .0)
       (λ t. program-ends W m fits R main (a .at) below))
+
+  -- ---- what may be said of aborts
+  pub undoable-at : (k : ℕ) → All (λ s. Undoable (s .does)) (undoStepsOf W m k)
+  unfolding undoStepsOf
+  undoable-at k = among-routines (m .routines) k (fits .codes)
+
+  pub own-not-undo : (c : Call) → Sits W m fits c → Among (nextStep program c) (ownStepsOf W m (c .routine)) × ¬ Among (nextStep program c) (undo c)
+  own-not-undo c h =
+      let own = next-among W m fits c h in
+      (own, λ u. code-at W m fits (c .routine) (h .routine) .apart _ (among-known own) (among-known u))
+
+  pub never-in-undo : (R : Rooms) (main : ℕ) (s : State) → main < length (m .routines) → Reached program R main s
+      → All (λ c. Among (nextStep program c) (ownStepsOf W m (c .routine)) × ¬ Among (nextStep program c) (undo c)) (s .calls)
+  never-in-undo R main s below h = all-map own-not-undo (all-sit (reached-sits W m fits R main s below h))
+
+  -- the live calls
+  still-next : {was r after : List Call} (gone : List Call) → was ≡ gone ++ r → NextList program r after → StillLive was after
+  still-next gone e (no-more a) = none-left
+  still-next gone e (begins-list dropped d callers list q a h) =
+      one-left (gone ++ dropped) d (goTo list d) callers (e ∙ ap (gone ++_) q ∙ sym (append-assoc gone dropped (d ∷ callers))) refl refl refl
+
+  still-after : {was : List Call} (c : Call) (r : List Call) {after : List Call} → StillLive was (c ∷ r) → UndoCalls program c r after → StillLive was after
+  still-after c r (one-left gone d _ _ e i f o) (stays-in-list k g) = rw (g .live) (one-left gone d (g .newest) r e (g .routine ∙ i) (g .failed ∙ f) (g .result ∙ o))
+  still-after c r (one-left gone d _ _ e i f o) (leaves-list n) = still-next (gone ++ (d ∷ [])) (e ∙ sym (append-assoc gone (d ∷ []) r)) n
+
+  module _ (R : Rooms) (main : ℕ) (below : main < length (m .routines)) (first s : State) (reached : Reached program R main first) (way : UndoLeads program R (struck program first) s) where
+    since : Since (struck program first) s
+    since = leads-sit R (struck program first) s (struck-sits R main below first reached) way
+
+    sits-at : (c : Call) (r : List Call) → s .calls ≡ c ∷ r → SitsUndo c
+    sits-at c r live = newest (rw live at (since .sits))
+      where
+        newest : SittingUndo (c ∷ r) → SitsUndo c
+        newest (sits-in-undo h g) = h
+
+    pub newest-in-undo : (c : Call) (r : List Call) → s .calls ≡ c ∷ r → Among (nextStep program c) (undo c)
+    newest-in-undo c r live = next-is (λ x. Among x (undo c)) c (sits-at c r live) (each-among (undo c))
+
+    pub step-on-calls : (s′ : State) (c : Call) (r : List Call) → s .calls ≡ c ∷ r → undoStep program R c r s ≡ goesOn s′ → UndoCalls program c r (s′ .calls)
+    step-on-calls s′ c r live e = step-calls R s s′ c r (sits-at c r live) live e
+
+    pub never-twice : (s′ s″ : State) (c : Call) (r : List Call) → s .calls ≡ c ∷ r → undoStep program R c r s ≡ goesOn s′ → NextList program r (s′ .calls) → UndoLeads program R s′ s″
+        → length (s″ .calls) < length (c ∷ r)
+    never-twice s′ s″ c r live e n later =
+        let sits : SittingUndo (s′ .calls) = leads-sit R (struck program first) s′ (struck-sits R main below first reached) (undo-step c r way live e) .sits in
+        omega (arith, next-shorter program r n, leads-sit R s′ s″ sits later .fewer)
+
+    pub dropped-run-none : (taken : State) (n : ℕ) → Leads program R (λ x. Unit) taken first → length (taken .calls) ≤ n → n < length (s .calls) → BegunSince program R n taken first
+    unfolding NeverLiveAgain
+    dropped-run-none taken n leads low high =
+        never-live-again program R n taken first leads low (omega (arith, since .fewer, next-shorter program (first .calls) (next-list program (first .calls))))
+
+  pub only-those-live : (R : Rooms) (main : ℕ) (first s : State) → main < length (m .routines) → Reached program R main first → UndoLeads program R (struck program first) s → StillLive (first .calls) (s .calls)
+  only-those-live R main first s below reached no-step = still-next [] refl (next-list program (first .calls))
+  only-those-live R main first s below reached (undo-step {s₁ = s₁} {s₂ = s₂} c r way live e) =
+      still-after c r (rw live at (only-those-live R main first s₁ below reached way)) (step-on-calls R main below first s₁ reached way s₂ c r live e)

@@ -18,6 +18,7 @@ pub mod Barred
 pub mod Sitting
 pub mod Aborted
 pub mod Records
+pub mod AbortLessons
 pub mod Memory
 pub mod Bytes
 pub mod Pendant

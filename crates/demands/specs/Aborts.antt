@@ -11,12 +11,12 @@ use Rattle.paper.specs.Form.{formed}
 use Rattle.paper.specs.Names.{sortIn}
 use Rattle.paper.specs.Declarations.{routineData, routineScopes, routineFilling}
 use Rattle.paper.specs.Checks.{forsInList, forsInOptional}
-use Rattle.paper.specs.Steps.{Action, store, callFor, callOf, giveBack, raise, handOn, exit, retry, tryNext, write, read, choose, select, testWhile, enterFor, repeatFor, endList, endUndo, Step, Program, listSteps, optionalSteps, programOf}
+use Rattle.paper.specs.Steps.{Action, store, callFor, callOf, giveBack, raise, handOn, exit, retry, tryNext, write, read, choose, select, testWhile, enterFor, repeatFor, endList, endUndo, Step, Program, listSteps, optionalSteps}
 use Rattle.paper.specs.States.{Call, State, Rooms, goTo, withCalls, failing}
-use Rattle.paper.specs.Running.{codeAt, nextStep, Ended, goesOn, takeStep, run, started}
+use Rattle.paper.specs.Running.{codeAt, nextStep, goesOn, run, started}
 use Rattle.paper.specs.Undoing.{Abort, dropping, undoStep, undoing, runAbort}
 use Rattle.paper.specs.Answer.{Accepted, accepted, verdict}
-use Rattle.demands.specs.Vocabulary.{All, Among, effectOf, waysOf, Taken, GoesOn, Reached, Leads}
+use Rattle.demands.specs.Vocabulary.{All, Among, effectOf, waysOf, GoesOn, Reached, Leads}
 use Rattle.demands.specs.Demands.{BegunSince}
 
 -- ---- the lists of a routine
@@ -124,10 +124,9 @@ pub record AbortLesson (W : List Word) (m : Module) (P : Program) (main : ℕ) :
   -- A list that is left never runs again: its call is gone for good.
   pub never-twice : (R : Rooms) (first s s′ s″ : State) (c : Call) (r : List Call) → InAbort P R main first s c r → undoStep P R c r s ≡ goesOn s′ → NextList P r (s′ .calls) → UndoLeads P R s′ s″
       → length (s″ .calls) < length (c ∷ r)
-  -- "Routines dropped by an error run none": an error is taken, and the calls `before` that are newer than who takes it are dropped; then K strikes in `first`. A call that is live in the abort deeper than
-  -- those left by the error was begun since.
-  pub dropped-run-none : (R : Rooms) (before : List Call) (taken first s : State) (n : ℕ) → Taken P before (taken .calls) → Leads P R (λ x. Unit) taken first → Reached P R main first
-      → UndoLeads P R (struck P first) s → length (taken .calls) ≤ n → n < length (s .calls) → BegunSince P R n taken first
+  -- "Routines dropped by an error run none": an error has been taken and `taken` are live (`newer-gone`); later K strikes in `first`. A call that is live in the abort, deeper than those, was begun since.
+  pub dropped-run-none : (R : Rooms) (taken first s : State) (n : ℕ) → Leads P R (λ x. Unit) taken first → Reached P R main first → UndoLeads P R (struck P first) s
+      → length (taken .calls) ≤ n → n < length (s .calls) → BegunSince P R n taken first
   -- All of an abort, whatever its allowance, is such states.
   pub ends-so : (R : Rooms) (u : ℕ) (s : State) → UndoLeads P R s (undoing P R u s .state)
 
