@@ -209,9 +209,9 @@ module _ (P : Program) (R : Rooms) where
   came-undone : (c : Call) (r : List Call) (a : Action) (place onward : ℕ) (s : State) (e : Effect) → Performed P R c r place onward a s e → CameUndo R s (undone P r s e)
   unfolding undone
   came-undone c r a place onward s e (makes h k) = goes-undo (later-counted R s _ (later-changed R s _ h))
-  came-undone c r a place onward s e (fails-with {s′ = s′} n k live h) = left-later r s _ (later-errno R s s′ 0 n r (λ g. latest k) (later-changed R s s′ h))
-  came-undone c r a place onward s e (hands-on k) = left-later r s s (later-same R s)
-  came-undone c r a place onward s e (ends n k) = left-later r s s (later-same R s)
+  came-undone c r a place onward s e (fails-with {s′ = s′} n k live h) = left-later _ s _ (later-errno R s s′ 0 n r (λ g. latest k) (later-changed R s s′ h))
+  came-undone c r a place onward s e (hands-on k) = left-later _ s s (later-same R s)
+  came-undone c r a place onward s e (ends n k) = left-later _ s s (later-same R s)
   came-undone c r a place onward s e (lacks n at′ (no-depth callee k)) = stops-undo 6 callee (omega arith) (omega arith)
   came-undone c r a place onward s e (lacks n at′ (no-input t text k)) = stops-undo 7 place (omega arith) (omega arith)
   came-undone c r a place onward s e (lacks n at′ (no-room w)) = stops-undo 8 place (omega arith) (omega arith)

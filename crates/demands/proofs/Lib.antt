@@ -23,4 +23,5 @@ pub mod Memory
 pub mod Bytes
 pub mod Pendant
 pub mod Instances
+pub mod AbortInstances
 pub mod Fakes
