@@ -1,6 +1,7 @@
 -- What a call shows: the record's fields are small, so that their low words are the fields.
 use mathlib.Core.Path.{_≡_, refl, sym, ap, _∙_}
 use mathlib.Core.List.{List, [], _∷_, _++_}
+use mathlib.Core.Option.{none}
 use Prim.Native.Nat.{ℕ, _+_, _*_, _/_, _%_, _≤_, _<_}
 use native.Mathlib.Omega.{arith}
 use lib.ListN.{length, getD, drop}
@@ -11,8 +12,9 @@ use Rattle.paper.specs.Answer.{recordSize, Record, lowFirst, recordBytes, Lent,
 use Rattle.paper.specs.Undoing.{plainly}
 use Rattle.paper.specs.Answer as paper
 use Rattle.store_cells.specs.Cells.{cell, cellsOf, Got}
+use Rattle.code.proofs.Options.{none-some}
 use Rattle.demands.specs.Vocabulary.{Errno, before-any, latest, ErrorNumber, by-raise, named}
-use Rattle.demands.specs.Demands.{Allowed, refused, ended, Demand1}
+use Rattle.demands.specs.Demands.{StepsLent, plain, struck, Allowed, refused, ended, Demand1}
 use Rattle.demands.proofs.Memory.{demand-1}
 use Rattle.demands.proofs.Bytes.{whole-words}
 use Rattle.call_pendant.specs.Calls.{lent, Calls}
@@ -45,8 +47,13 @@ small-errno e (before-any h) = omega arith
 small-errno e (latest (by-raise l h)) = omega arith
 small-errno e (latest (named l h)) = omega arith
 
-allowed-low : (l : Lent) (f : Record) → l .steps < 4294967296 → length (l .text) < 4294967296 → length (l .inputs) < 4294967296 → length (l .output) < 4294967296 → Allowed l f → Low f
-allowed-low l f s t i o (refused e p r) = record {
+-- of the run without K the steps are those allowed
+plain-steps : (l : Lent) (f : Record) → l .asked .abort ≡ none → StepsLent l f → f .steps ≤ l .steps
+plain-steps l f e (plain h s) = s
+plain-steps l f e (struck h s) = none-some (s .abort) (sym e ∙ s .given)
+
+allowed-low : (l : Lent) (f : Record) → l .asked .abort ≡ none → l .steps < 4294967296 → length (l .text) < 4294967296 → length (l .inputs) < 4294967296 → length (l .output) < 4294967296 → Allowed l f → Low f
+allowed-low l f k s t i o (refused e p r) = record {
   ending = omega arith;
   refusal = omega (arith, r .to-18);
   offset = omega arith;
@@ -56,11 +63,11 @@ allowed-low l f s t i o (refused e p r) = record {
   inputs = omega (arith, r .inputs);
   words = omega (arith, r .words);
 }
-allowed-low l f s t i o (ended p r) = record {
-  ending = omega (arith, r .to-8);
+allowed-low l f k s t i o (ended p r) = record {
+  ending = omega (arith, r .to-10);
   refusal = omega (arith, r .refusal);
   offset = omega arith;
-  steps = omega (arith, r .steps);
+  steps = omega (arith, plain-steps l f k (r .steps));
   errno = small-errno (f .errno) (r .errno);
   output = omega (arith, r .output);
   inputs = omega (arith, r .inputs);
@@ -89,7 +96,7 @@ module _ (text : List ℕ) (steps depth : ℕ) (inputs out code values fields li
 
   low : Low (a .fields)
   unfolding Demand1 lentOf lent
-  low = allowed-low (lentOf l) (a .fields) (omega (arith, fits .fits)) (omega (arith, lends .text-small)) (omega (arith, whole-words inputs, lends .inputs-small)) (omega (arith, lends .out-small)) (demand-1 (lentOf l) .0)
+  low = allowed-low (lentOf l) (a .fields) refl (omega (arith, fits .fits)) (omega (arith, lends .text-small)) (omega (arith, whole-words inputs, lends .inputs-small)) (omega (arith, lends .out-small)) (demand-1 (lentOf l) .0)
 
   fields-is : fields′ ≡ recordBytes (a .fields) ++ drop recordSize fields
   unfolding spread lent

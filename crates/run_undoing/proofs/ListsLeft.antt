@@ -181,7 +181,7 @@ module _ (values : List ℕ) (r : ℤ) (f : SFits w64 r) (n : Notes values r) wh
   }
 
 -- the call stands as it stood
-noted-here : (code values after : List ℕ) (base i : ℕ) (r : ℤ) → Noted values after r → Quits r → Here code values base i → Here code after base i
+pub noted-here : (code values after : List ℕ) (base i : ℕ) (r : ℤ) → Noted values after r → Quits r → Here code values base i → Here code after base i
 noted-here code values after base i r n (without t) h = subst (λ (x : List ℕ). Here code x base i) (sym (n .same t)) h
 noted-here code values after base i r n (raises e l z) h = errno-here code values after base i e (n .errno e z) h l
 

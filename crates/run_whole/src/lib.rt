@@ -268,10 +268,10 @@ fn allowed(steps: u32, abort: Abort) -> u32
     let Abort::At(at, _) = abort else {
         return steps;
     };
-    if steps < at {
-        return steps;
+    if at <= steps {
+        return at;
     }
-    at
+    steps
 }
 
 // A run of the module whose main begins at word h.

@@ -14,7 +14,7 @@ use Rattle.paper.specs.Basics.{if_then_else_}
 use Rattle.paper.specs.Words.{LF}
 use Rattle.paper.specs.Numbers.{Value, value, error, num, ranged, isZero, decimal}
 use Rattle.paper.specs.Terms.{Term, Memory, Located, at, fails, locate, worth}
-use Rattle.paper.specs.Steps.{Spot, scalar, elementOf, Action, store, callFor, callOf, giveBack, raise, handOn, exit, retry, tryNext, write, read, choose, select, testWhile, enterFor, repeatFor, endList, Program}
+use Rattle.paper.specs.Steps.{Spot, scalar, elementOf, Action, store, callFor, callOf, giveBack, raise, handOn, exit, retry, tryNext, write, read, choose, select, testWhile, enterFor, repeatFor, endList, endUndo, Program}
 use Rattle.paper.specs.States.{Loop, Location, Call, State, Rooms, Effect, failing, lacking, withValue, withSpot, withValues, locationOf, memoryOf}
 use Rattle.paper.specs.Running.{codeAt, calling, returning, adding, writing, taking, readNum, choosing, passes, looping, withStep, entering, repeating, ending-list, perform}
 use Rattle.unique.proofs.Coming.{Suffices}
@@ -141,3 +141,4 @@ module _ (P : Program) (c : Call) (r : List Call) (place after : ℕ) where
   enough (enterFor k a b d body) s = record { rooms = wide s 0; lacks-nothing = entering-enough s _ k a b d body after }
   enough (repeatFor k body) s = record { rooms = wide s 0; lacks-nothing = repeating-enough s _ c k body after }
   enough endList s = record { rooms = wide s 0; lacks-nothing = list-enough s P c r }
+  enough endUndo s = record { rooms = wide s 0; lacks-nothing = tt }

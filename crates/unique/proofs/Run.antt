@@ -1,5 +1,5 @@
 -- The layer Run: what its promises settle. That a list is one of bytes (`Bytes`) is known of everything that is lent.
-use mathlib.Core.Path.{_≡_, refl, sym, ap, ap₂, _∙_}
+use mathlib.Core.Path.{_≡_, refl, sym, ap, ap₂, subst, _∙_}
 use mathlib.Core.List.{List, [], _++_, map}
 use Prim.Native.Nat.{ℕ, suc, _+_, _-_, _*_, _<_, _≤_}
 use native.Mathlib.Omega.{arith}
@@ -11,23 +11,30 @@ use mir.Val.{toZ}
 use Rattle.laws.proofs.Tests.{apart}
 use Rattle.paper.specs.Terms.{Ref, Located, at, fails}
 use Rattle.paper.specs.Steps.{Program}
-use Rattle.paper.specs.States.{State, Rooms}
+use Rattle.paper.specs.States.{State, Rooms, withCalls}
 use Rattle.paper.specs.Running.{nextStep, Outcome}
 use Rattle.paper.specs.Running as running
 use Rattle.paper.specs.Answer.{storeWords}
 use Rattle.store_cells.specs.Cells.{cellsOf}
 use Rattle.store_cells.proofs.Laws.{Bytes, words-small}
+use Rattle.store_cells.proofs.Kept.{put-unique}
 use Rattle.code.specs.Cells.{windowOf, errnoCell, placeAt}
-use Rattle.code.specs.Windows.{endsCell, stepsCell, writtenCell, usedCell, callIn, waiting, writtenIn, stateIn}
+use Rattle.code.specs.Steps.{Head}
+use Rattle.code.specs.Windows.{endsCell, stepsCell, writtenCell, usedCell, countAt, callIn, waiting, writtenIn, stateIn}
 use Rattle.store_reading.specs.Reading.{cellValues}
 use Rattle.check_load.proofs.Unique.{same-store}
-use Rattle.run_machine.specs.Machine.{storeBytes, effectAt, Here, LastWindow, Performs, Calls, Lends, Steps, Stepped}
+use Rattle.run_machine.specs.Machine.{storeBytes, effectAt, Here, LastWindow, KeepsRun, Performs, Calls, Lends, Steps, Stepped}
+use Rattle.run_machine.proofs.States.{depth-is}
 use Rattle.run_targets.specs.Targets.{refCell, Tells, found, lost, Indexes, Found, Target, Spotted}
 use Rattle.run_starting.specs.Starting.{Starts, Started}
 use Rattle.run_errors.specs.declared.Taken.{Taken}
 use Rattle.run_calls.specs.Calling.{Deepest}
-use Rattle.run_errors.specs.Errors.{KeepsRun, Raises, raises, handsOn, Settles, stops, resumes, Arisen}
-use Rattle.run_output.specs.Output.{countIn, Prints, Writes, Wrote, WroteOf, Reads, WasRead}
+use Rattle.run_errors.specs.Errors.{Raises, raises, handsOn, Settles, stops, resumes, Arisen}
+use Rattle.run_undoing.specs.Dropping as drops
+use Rattle.run_undoing.specs.Dropping.{Stands, Falls, gone, begins, Dropped, Quits, without, Left}
+use Rattle.run_undoing.proofs.ListsLeft.{noted-here}
+use Rattle.run_output.specs.Output.{countIn, Prints, Writes, Wrote, WroteOf, WasRead}
+use Rattle.run_whole.specs.declared.Abort.{Abort}
 use Rattle.run_whole.specs.declared.Ended.{Ended}
 use Rattle.run_whole.specs.Runs.{Begins, Ran}
 use Rattle.run_whole.specs.Runs as runs
@@ -195,10 +202,10 @@ module _ {text code values out a o b p : List ℕ} {i : ℕ} {r s : ℤ} where
       → OneStepped (h .here) out a o b p r s
   write-of-unique h x y = stepped-unique (h .here) out a o b p r s text [] (windowOf 0) (h .text-is) shallow shallow-last (x .steps [] (windowOf 0)) (y .steps [] (windowOf 0))
 
-  pub read-unique : {inputs : List ℕ} {base : ℕ} (h : Reads text code values inputs out base i) → WasRead text code values a inputs out o base i r → WasRead text code values b inputs out p base i s
-      → OneStepped (h .prints .here) out a o b p r s
+  pub read-unique : {inputs : List ℕ} {base : ℕ} (h : Prints text code values out base i) → WasRead text code values a inputs out o base i r → WasRead text code values b inputs out p base i s
+      → OneStepped (h .here) out a o b p r s
   read-unique {inputs} h x y =
-      stepped-unique (h .prints .here) out a o b p r s text inputs (windowOf 0) (h .prints .text-is) shallow shallow-last (x .steps (windowOf 0)) (y .steps (windowOf 0))
+      stepped-unique (h .here) out a o b p r s text inputs (windowOf 0) (h .text-is) shallow shallow-last (x .steps (windowOf 0)) (y .steps (windowOf 0))
 
 -- ---- errors
 -- The state that an outcome leaves.
@@ -241,6 +248,40 @@ module _ {code values : List ℕ} {base i : ℕ} (h : Here code values base i) (
     pub arise-unique : Raises r → OneArisen
     arise-unique k = record { settles = arisen-taken k; store = kept-store values a b (h .values-size) (p .long) (q .long) (p .kept) (q .kept) }
 
+-- ---- the UNDO lists
+module _ (P : Program) (R : List Head) (X : List ℕ) (k : ℕ) (out : List ℕ) (t u : Taken) (s : State) where
+  -- no call is left, or one
+  none-left : (n : ℕ) (c : ℕ) → s ≡ withCalls [] (stateIn P R X 0 0 k out) → s ≡ stateIn P R X c n k out → t ≡ u
+  none-left n c e f = absurd (omega (arith, ap (λ (x : State). length (x .calls)) (sym e ∙ f), depth-is P R X c n k out))
+
+  falls-unique : Falls P R X k out t s → Falls P R X k out u s → t ≡ u
+  falls-unique (gone n b e) (gone m c f) = λ j. record { next = (n ∙ sym m) j; base = (b ∙ sym c) j }
+  falls-unique (gone n b e) (begins c m g d l f) = none-left (u .next) c e f
+  falls-unique (begins c m g d l f) (gone n b e) = none-left (t .next) c e f
+  falls-unique (begins c m g d l e) (begins c′ m′ g′ d′ l′ f) =
+      let depth : c ≡ c′ = same-depth P R k X X out out c (t .next) c′ (u .next) (sym e ∙ f) in
+      let next : t .next ≡ u .next = same-next P R k X X out out c (t .next) c′ (u .next) (sym e ∙ f) in
+      let window : t .base ≡ u .base = g ∙ ap windowOf depth ∙ sym g′ in
+      λ j. record { next = next j; base = window j }
+
+pub drop-to-unique : {code values : List ℕ} {base : ℕ} {t u : Taken} → Stands code values base → Dropped code values base t → Dropped code values base u → t ≡ u
+drop-to-unique {values = values} {t = t} {u = u} s p q =
+    let h = s .here in
+    falls-unique (h .P) (h .R) (cellsOf values) 0 [] t u _ (p .does (s .i) h 0 []) (q .does (s .i) h 0 [])
+
+module _ {code values a b : List ℕ} {base : ℕ} {r : ℤ} {t u : Taken} (s : Stands code values base) (k : Quits r) (p : Left code values a base r t) (q : Left code values b base r u) where
+  left-store : Quits r → a ≡ b
+  left-store (without f) = p .notes .same f ∙ sym (q .notes .same f)
+  left-store (drops.raises e l z) = put-unique values a b errnoCell e (p .notes .errno e z) (q .notes .errno e z)
+
+  left-taken : (q′ : Left code values a base r u) → t ≡ u
+  left-taken q′ =
+      let h = noted-here code values a base (s .i) r (p .notes) k (s .here) in
+      falls-unique (h .P) (h .R) (cellsOf a) 0 [] t u _ (p .does (s .i) h 0 []) (q′ .does (s .i) h 0 [])
+
+  pub leave-unique : (t ≡ u) × (a ≡ b)
+  leave-unique = (left-taken (subst (λ (x : List ℕ). Left code values x base r u) (sym (left-store k)) q), left-store k)
+
 -- ---- a new call
 -- The cells that the promise speaks of: all but those between the call's words, its loops' ends and its loops' steps, which no FOR variable has.
 pub data OfStart (at words fors c : ℕ) : Type 0 where
@@ -278,17 +319,17 @@ pub record OneRun (P : Program) (a o b p : List ℕ) (r s : Ended) : Type 0 wher
   pub output : o ≡ p
   pub long : length a ≡ length b
   pub errno : getD (cellsOf a) errnoCell 0 ≡ getD (cellsOf b) errnoCell 0
-  pub used : getD (cellsOf a) usedCell 0 ≡ getD (cellsOf b) usedCell 0
+  pub used : countAt (cellsOf a) usedCell ≡ countAt (cellsOf b) usedCell
   pub written : countIn (cellsOf a) ≡ countIn (cellsOf b)
   pub words : Bytes a → Bytes b → (k : ℕ) → k < length (P .words) → getD (cellsOf a) k 0 ≡ getD (cellsOf b) k 0
 
-module _ {P : Program} {offset : ℕ → ℕ} {a out o b p : List ℕ} {steps : ℕ} {e : running.Ended} {r s : Ended} (x : runs.Comes P offset a out o steps e r) (y : runs.Comes P offset b out p steps e s) where
+module _ {P : Program} {offset : ℕ → ℕ} {a out o b p : List ℕ} {e : running.Ended} {r s : Ended} (x : runs.Comes P offset a out o e r) (y : runs.Comes P offset b out p e s) where
   came-answer : r ≡ s
   came-answer =
       let ending : r .ending ≡ s .ending = x .ending ∙ sym (y .ending) in
       let place : r .place ≡ s .place = x .place ∙ sym (y .place) in
-      let left : r .left ≡ s .left = omega (arith, x .counted, y .counted, x .left, y .left) in
-      λ j. record { ending = ending j; place = place j; left = left j }
+      let made : r .made ≡ s .made = x .made ∙ sym (y .made) in
+      λ j. record { ending = ending j; place = place j; made = made j }
 
   came-output : o ≡ p
   came-output =
@@ -307,8 +348,8 @@ module _ {P : Program} {offset : ℕ → ℕ} {a out o b p : List ℕ} {steps : 
     words = λ i j. same-cells (length (P .words)) (cellsOf a) (cellsOf b) (words-small a i) (words-small b j) (x .words ∙ sym (y .words));
   }
 
-pub run-unique : {text code values inputs out a o b p : List ℕ} {h steps depth : ℕ} {r s : Ended} (g : Begins text code values h depth)
-    → Ran text code values a inputs out o h steps depth r → Ran text code values b inputs out p h steps depth s → OneRun (g .P) a o b p r s
+pub run-unique : {text code values inputs out a o b p : List ℕ} {h steps depth : ℕ} {abort : Abort} {r s : Ended} (g : Begins text code values h depth)
+    → Ran text code values a inputs out o h steps depth abort r → Ran text code values b inputs out p h steps depth abort s → OneRun (g .P) a o b p r s
 run-unique {inputs = inputs} {out = out} {depth = depth} g x y =
     let rooms : Rooms = record { depth = depth; output = length out; inputs = map (toZ w32) (cellsOf inputs) } in
     let lends : Lends rooms inputs out = record { room = refl; reads = refl } in

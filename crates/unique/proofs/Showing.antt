@@ -19,9 +19,8 @@ use Rattle.store_cells.proofs.Laws.{Words}
 use Rattle.code.specs.Cells.{windowOf, windowCells, firstWindow, errnoCell}
 use Rattle.code.specs.Steps.{Head, noHead}
 use Rattle.code.specs.Holds.{optionally}
-use Rattle.code.specs.Windows.{endsCell, stepsCell, routineCell, waitsCell, afterCell, failedCell, resultCell, writtenCell, usedCell, locationIn, resultIn, loopsFrom, callIn, waiting, stateIn}
+use Rattle.code.specs.Windows.{endsCell, stepsCell, routineCell, waitsCell, afterCell, failedCell, resultCell, usedCell, countAt, locationIn, resultIn, loopsFrom, callIn, waiting, stateIn}
 use Rattle.store_reading.specs.Reading.{cellValues}
-use Rattle.run_output.specs.Output.{countIn}
 use Rattle.run_machine.specs.Machine.{effectAt}
 use Rattle.run_machine.specs.Live.{slotsOfCall, cellOfCall, routineOfCall, codeOfCall, Sane, Waits, Below, Live}
 
@@ -44,9 +43,9 @@ same-part a n l m p q e k below =
     ∙ same-cells n (drop a l) (drop a m) (λ j. rw (getD-drop a l j 0) (p (a + j))) (λ j. rw (getD-drop a m j 0) (q (a + j))) e k below
     ∙ getD-drop a m k 0
 
--- How many bytes are written stands in two cells: one count, the same cells.
-pub count-cells : (X Y : List ℕ) → Words X → Words Y → countIn X ≡ countIn Y → (getD X writtenCell 0 ≡ getD Y writtenCell 0) × (getD X (suc writtenCell) 0 ≡ getD Y (suc writtenCell) 0)
-count-cells X Y p q e = (omega (arith, p writtenCell, q writtenCell), omega (arith, p writtenCell, q writtenCell))
+-- How many bytes are written, and how many inputs used, stands in two cells: one count, the same cells.
+pub count-cells : (X Y : List ℕ) (c : ℕ) → Words X → Words Y → countAt X c ≡ countAt Y c → (getD X c 0 ≡ getD Y c 0) × (getD X (suc c) 0 ≡ getD Y (suc c) 0)
+count-cells X Y c p q e = (omega (arith, p c, q c), omega (arith, p c, q c))
 
 -- ---- the cells of a state
 -- In the window of a call of a routine: its words, its FOR variables' loops, and what it is.
@@ -69,6 +68,7 @@ module _ (P : Program) (R : List Head) (X : List ℕ) where
     ofModule : c < length (P .words) → OfState e c
     theErrno : c ≡ errnoCell → OfState e c
     theUsed : c ≡ usedCell → OfState e c
+    theUsedHigh : c ≡ suc usedCell → OfState e c
     ofLive : (j k : ℕ) → j ≤ e → OfCall (codeOfCall P R X j) k → c ≡ windowOf j + k → OfState e c
     ofCaller : (j k : ℕ) → j < e → OfWaiting k → c ≡ windowOf j + k → OfState e c
 
@@ -210,7 +210,8 @@ module _ (P : Program) (R : List Head) (e n steps : ℕ) (X out Y out′ : List 
     unfolding stateIn
     state-cells p q c (ofModule l) = same-cells (length (P .words)) X Y p q (ap (λ (s : State). s .words) same) c l
     state-cells p q c (theErrno z) = rw z (ap (λ (s : State). s .errno) same)
-    state-cells p q c (theUsed z) = rw z (ap (λ (s : State). s .used) same)
+    state-cells p q c (theUsed z) = rw z (count-cells X Y usedCell p q (ap (λ (s : State). s .used) same) .0)
+    state-cells p q c (theUsedHigh z) = rw z (count-cells X Y usedCell p q (ap (λ (s : State). s .used) same) .1)
     state-cells p q c (ofLive j k l o z) = rw z (live-cells p q j k l o)
     state-cells p q c (ofCaller j k l (itsCall a) z) = rw z (rw a (waits-alike j l))
     state-cells p q c (ofCaller j k l (itsNext a) z) = rw z (rw a (after-alike j l))

@@ -13,10 +13,10 @@ returns : tie.Need-returns
 returns c = search (needs, allowed-never)
 
 returns-2 : tie.Need-returns-2
-returns-2 c = search (needs, allowed-below)
+returns-2 c = search (needs, allowed-at)
 
 returns-3 : tie.Need-returns-3
-returns-3 c = search (needs, allowed-at)
+returns-3 c = search (needs, allowed-below)
 
 pub allowed-spec : {M : Type 1} → statement M
 allowed-spec = tie.close (tie.spec enum-known-abort enum-told returns returns-2 returns-3)
