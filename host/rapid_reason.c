@@ -175,7 +175,7 @@ static const char *wrong_type(size_t i, char *sentence, size_t room) {
 
 /* ---- 12: what a name is, and is taken for */
 static int in_constant_expression(size_t i) {
-    static const char *const holders[] = {"VAR", "CONST", "CASE", NULL}, *const ends[] = {";", ":", "THEN", "DO", "ELSE", "ERROR", NULL};
+    static const char *const holders[] = {"VAR", "CONST", "CASE", NULL}, *const ends[] = {";", ":", "THEN", "DO", "ELSE", "ERROR", "UNDO", NULL};
     for (i = before(i); i < count && !one_of(i, ends); i = before(i))
         if (one_of(i, holders))
             return 1;
@@ -186,7 +186,7 @@ static int is_target(size_t i) { return is(before(i), "TPReadNum") || is(behind_
 
 /* A statement also begins behind a compact IF's condition, which ends with an operand; but behind a name that begins one, there is its first argument. */
 static int begins_statement(size_t i) {
-    static const char *const ends[] = {";", ":", "THEN", "DO", "ELSE", "ERROR", ")", "}", "TRUE", "FALSE", NULL};
+    static const char *const ends[] = {";", ":", "THEN", "DO", "ELSE", "ERROR", "UNDO", ")", "}", "TRUE", "FALSE", NULL};
     size_t p = before(i);
     return one_of(p, ends) || has_kind(p, RAPID_NUMBER) || (has_kind(p, RAPID_NAME) && !begins_statement(p));
 }
@@ -217,7 +217,25 @@ static const char *malformed(uint8_t first) {
     return upper((char)first) >= 'A' && upper((char)first) <= 'Z' ? "malformed word: a name has at most 32 characters" : "malformed word: no word starts so";
 }
 
+/* Whether a word stands in its routine's UNDO list, which is the last. */
+static int in_undo(size_t i) {
+    static const char *const begins[] = {"UNDO", "ERROR", "PROC", "FUNC", NULL};
+    while (i < count && !one_of(i, begins))
+        i = before(i);
+    return is(i, "UNDO");
+}
+
+static const char *barred_in_undo(size_t i) {
+    static const char *const barred_words[] = {"RETURN", "RAISE", "EXIT", "RETRY", "TRYNEXT", NULL}, *const sentences[] = {"RETURN in UNDO", "RAISE in UNDO", "EXIT in UNDO", "RETRY in UNDO", "TRYNEXT in UNDO"};
+    for (size_t k = 0; barred_words[k]; k++)
+        if (is(i, barred_words[k]))
+            return sentences[k];
+    return "a call in UNDO";
+}
+
 static const char *barred(size_t i) {
+    if (in_undo(i))
+        return barred_in_undo(i);
     if (is(i, "RETURN"))
         return is(i + 1, ";") ? "RETURN without a value in a FUNC" : "RETURN with a value in a PROC";
     if (is(i, "RAISE"))
