@@ -166,7 +166,8 @@ same-length-3 c =
     let at-step = c .before .before .before .before .before .before .before .before .before .before .before .before .before .before in
     let at-loop = at-step .before .before .before .before in
     let at-begin = at-loop .before .before .before .before in
-    (c .before .before .before .before .arise .ensures) .long ∙ (at-step .step .ensures) .long ∙ (at-loop .loop .inv) .long ∙
+    let at-arise = c .before .before .before .before in
+    (at-arise .arise .ensures) .long ∙ (at-step .step .ensures) .long ∙ (at-loop .loop .inv) .long ∙
     (at-begin .begin .ensures .long)
 
 same-length-4 : tie.Need-same-length-4 Inv-loop μ-loop
@@ -177,7 +178,8 @@ same-length-4 c =
 
 returns-2 : tie.Need-returns-2 Inv-loop μ-loop
 returns-2 c =
-    let at-if4 = c .before .before .before .before .before .before in
+    let at-arise = c .before .before .before .before in
+    let at-if4 = at-arise .before .before in
     let at-if3 = at-if4 .before in
     let at-if2 = at-if3 .before in
     let at-if1 = at-if2 .before in
@@ -188,10 +190,10 @@ returns-2 c =
     let at-begin = at-place .before .before .before in
     let start = at-begin .before .before .before .before .before .before .before in
     run-ran _ _ _ _ _ _ _ _ (start .pre) _ (at-begin .begin .ensures) _ (at-place .place .ensures .same) _ _ _
-    ((c .before .before .before .before .arise .ensures) .long ∙ (at-step .step .ensures) .long ∙ (at-loop .loop .inv) .long)
+    ((at-arise .arise .ensures) .long ∙ (at-step .step .ensures) .long ∙ (at-loop .loop .inv) .long)
     ((at-step .step .ensures) .out-long ∙ (at-loop .loop .inv) .out-long)
     (died-run _ _ _ _ _ _ _ _ _ _ _ _ _ _ (at-loop .loop .inv) (at-loop-test .loop-test .taken) _ _ _ record { sfits = (at-step .step .ok) }
-    (at-step .step .ensures) (at-if1 .if1 .left) (at-if2 .if2 .left) (at-if3 .if3 .left) (at-if4 .if4 .left) _ _ (c .before .before .before .before .arise .ensures) (c .before .if5 .taken) _ (c .place2 .ensures .same))
+    (at-step .step .ensures) (at-if1 .if1 .left) (at-if2 .if2 .left) (at-if3 .if3 .left) (at-if4 .if4 .left) _ _ (at-arise .arise .ensures) (c .before .if5 .taken) _ (c .place2 .ensures .same))
 
 loop-less-4 : tie.Need-loop-less-4 Inv-loop μ-loop
 loop-less-4 c = omega arith
