@@ -10,7 +10,7 @@ use Rattle.laws.proofs.Tests.{apart, by-less}
 use Rattle.paper.specs.Steps.{Action, retry, tryNext, Program}
 use Rattle.paper.specs.States.{Call, State, Rooms, Effect, made, failing, withCalls, withErrno, counted, goTo, setFailed, onTop}
 use Rattle.paper.specs.Running.{Outcome, goesOn, stopped, stopping, codeAt, stepOf, nextStep, newCall, resume, takes, caught, retrying, tryingNext, perform, arising, settled, takeStep, started}
-use Rattle.demands.proofs.Performed.{Performed, makes, fails-with, ends, lacks, performed}
+use Rattle.demands.proofs.Performed.{after-made, Performed, makes, fails-with, ends, lacks, performed}
 use Rattle.demands.proofs.Performed as steps
 use Rattle.demands.proofs.Alls.{first-of, rest-of, back-of}
 use Rattle.demands.specs.Vocabulary.{All, nothing, _also_, bare, effectOf, Waits, Taken, CallsAfter, goes-on, begins, returns, retries, tries-next, fails, hands-on, Reached, at-start, by-step, Leads, at-once, and-then}
@@ -72,7 +72,7 @@ module _ (P : Program) where
   left-settled : (R : Rooms) (c : Call) (r : List Call) (a : Action) (place onward : ℕ) (s : State) (e : Effect) → s .calls ≡ c ∷ r → Performed P R c r place onward a s e
       → GoingOn (CallsAfter P c r onward a) (settled P place r s e)
   unfolding settled
-  left-settled R c r a place onward s e live (makes h k) = k
+  left-settled R c r a place onward s e live (makes h k) = after-made k
   left-settled R c r a place onward s e live (fails-with {s′ = s′} n k same h) =
       left-arising (CallsAfter P c r onward a) n place (s′ .calls) (counted s′) (λ after t. fails (rw (same ∙ live) at t))
   left-settled R c r a place onward s e live (steps.hands-on k) = left-arising (CallsAfter P c r onward a) (s .errno) place r (counted s) (λ after t. hands-on k t)
@@ -142,11 +142,10 @@ module _ (P : Program) where
       where
         by-case : CallsAfter P c r (nextStep P c .after) (nextStep P c .does) (s′ .calls) → Begun P c r (s′ .calls)
         by-case (goes-on g) =
-            let l : length (s′ .calls) ≡ suc (length (g .callers)) = ap length (g .live) in
-            let k : length (map bare (g .callers)) ≡ length (map bare r) = ap length (g .waiting) in
-            absurd (omega (arith, length-map (g .callers) bare, length-map r bare))
+            let l : length (s′ .calls) ≡ suc (length r) = ap length (g .live) in
+            absurd (omega arith)
         by-case (begins k args result st l) = record { routine = k; arguments = args; result = result; statement = st; live = l }
-        by-case (returns d older l b) =
+        by-case (returns d older q l b) =
             let k : length (map bare (s′ .calls)) ≡ suc (length (map bare older)) = ap length b in
             let m : length r ≡ suc (length older) = ap length l in
             absurd (omega (arith, length-map (s′ .calls) bare, length-map older bare))
@@ -228,12 +227,12 @@ module _ (P : Program) where
   orderly-after c r after h (goes-on g) =
       rw (g .live)
       (record {
-        waiting = all-bare (Waits P) waits-bare r (g .callers) (sym (g .waiting)) (h .waiting);
-        lists = list-like c (g .newest) (sym (g .routine)) (sym (g .failed)) (first-of (h .lists)) also all-bare (HasList P) list-bare r (g .callers) (sym (g .waiting)) (rest-of (h .lists));
+        waiting = h .waiting;
+        lists = list-like c (g .newest) (sym (g .routine)) (sym (g .failed)) (first-of (h .lists)) also rest-of (h .lists);
       })
   orderly-after c r after h (begins k args result st l) =
       rw l (record { waiting = record { routine = k; statement = st } also h .waiting; lists = no-list (newCall P k args result) refl also h .lists })
-  orderly-after c r after h (returns d older l b) =
+  orderly-after c r after h (returns d older q l b) =
       let o : Orderly P (d ∷ older) = rw l at (orderly-callers c r h) in
       orderly-bare (resume P d ∷ older) after (sym b) (record { waiting = o .waiting; lists = list-like d (resume P d) refl refl (first-of (o .lists)) also rest-of (o .lists) })
   orderly-after c r after h (retries f d k l) = rw l (record { waiting = h .waiting; lists = no-list (goTo f (setFailed none c)) refl also rest-of (h .lists) })

@@ -14,7 +14,7 @@ use Rattle.laws.proofs.Tests.{apart, false-true}
 use Rattle.paper.specs.Basics.{if_then_else_}
 use Rattle.paper.specs.Numbers.{Value, value, error}
 use Rattle.paper.specs.Terms.{Term, Memory, Located, at, fails, locate, worth}
-use Rattle.paper.specs.Steps.{Spot, scalar, elementOf, Action, store, callFor, callOf, giveBack, raise, handOn, exit, retry, tryNext, write, read, choose, select, testWhile, enterFor, repeatFor, endList, Program}
+use Rattle.paper.specs.Steps.{Spot, scalar, elementOf, Action, store, callFor, callOf, giveBack, raise, handOn, exit, retry, tryNext, write, read, choose, select, testWhile, enterFor, repeatFor, endList, endUndo, Program}
 use Rattle.paper.specs.States.{Location, Call, State, Rooms, Effect, failing, lacking, withValue, withSpot, withValues, locationOf}
 use Rattle.paper.specs.Running.{calling, adding, taking, writing, readNum, perform}
 use Rattle.demands.specs.Vocabulary.{Begins}
@@ -138,3 +138,4 @@ module _ (R R′ : Rooms) (more : RoomsAtLeast R R′) where
   perform-more P c r place after (enterFor k a b d body) s = same _
   perform-more P c r place after (repeatFor k body) s = same _
   perform-more P c r place after endList s = same _
+  perform-more P c r place after endUndo s = same _

@@ -12,13 +12,14 @@ use Rattle.paper.specs.Sorts.{bytes}
 use Rattle.paper.specs.Steps.{Program, Action}
 use Rattle.paper.specs.States.{Call, State, Rooms}
 use Rattle.paper.specs.Running.{Ended, Outcome, goesOn, stopped, started, settled, takeStep, nextPlace, perform, writing, adding, run, newCall, nextStep}
+use Rattle.paper.specs.Undoing.{runAbort, runAsked}
 use Rattle.paper.specs.Computing.{computed}
-use Rattle.paper.specs.Examples.{fields, lines, moduleOf}
+use Rattle.paper.specs.Examples.{fields, lines, moduleOf, belt}
 use Rattle.paper.specs.Answer.{Accepted, Verdict, refusedBy, accepted, verdict, Result, refusedWith, carriedOut, ranTo, tooSmall, badDepth, result, Lent, Answer, questionOf, storeAfter, answer}
-use Rattle.demands.proofs.Instances.{lent}
-use Rattle.demands.specs.Fakes.{Bench, AnswersAsDefined, withText, withSteps, withInputs, withCount, RefusesEvery, refuser, SameRecord, repeater, TouchesNoOutput, silent, TouchesNoData, idler}
-use Rattle.demands.specs.Fakes.{firstStepOf, Plain, assigns, tpwrites, BeginsPlain, upToSecond, FakesWhatFollows, closedAfterFirst, skipper, FakesWhatIsRead, returned, pretender, InventsSteps}
-use Rattle.demands.specs.Fakes.{inventor, HasWhatItShould, Demand2}
+use Rattle.demands.proofs.Instances.{lent, until}
+use Rattle.demands.specs.Fakes.{Bench, AnswersAsDefined, withText, withInputs, withAsked, withCount, RefusesEvery, refuser, SameRecord, repeater, TouchesNoOutput, silent, TouchesNoData, idler}
+use Rattle.demands.specs.Fakes.{firstStepOf, Plain, assigns, tpwrites, BeginsPlain, upToSecond, FakesWhatFollows, closedAfterFirst, skipper, FakesWhatIsRead, returned, oneStep, pretender, InventsSteps}
+use Rattle.demands.specs.Fakes.{inventor, IgnoresK, deaf, HasWhatItShould, Demand2}
 
 -- ---- a plain first statement does the same whatever there is to read
 module _ (P : Program) (d o : ℕ) (i j : List ℤ) where
@@ -72,11 +73,11 @@ module _ (l : Lent) (i : List ℤ) where
       uncounted-answered l small r′ ∙ ap (answered l small) e ∙ sym (uncounted-answered l small r)
 
   one-step-carried : (v : Verdict) (m : Accepted) → v ≡ accepted m → Plain (firstStepOf m .does)
-      → carriedOut (questionOf (withSteps 1 (withInputs i l))) v ≡ carriedOut (questionOf (withSteps 1 l)) v
-  unfolding carriedOut questionOf firstStepOf
+      → carriedOut (questionOf (oneStep (withInputs i l))) v ≡ carriedOut (questionOf (oneStep l)) v
+  unfolding carriedOut questionOf firstStepOf runAsked runAbort
   one-step-carried v m e h = rw e (ap (ranTo (l .text) (m .words)) (plain-run (m .program) (l .depth) (length (l .output)) i (l .inputs) (m .main) h))
 
-  one-step : BeginsPlain (l .text) → answer (withSteps 1 (withInputs i l)) ≡ answer (withSteps 1 l)
+  one-step : BeginsPlain (l .text) → answer (oneStep (withInputs i l)) ≡ answer (oneStep l)
   unfolding answer result questionOf tooSmall badDepth
   one-step b = ap (λ x. answered l (tooSmall (questionOf l)) (inside x)) (one-step-carried (verdict (l .text)) (b .m) (b .is-module) (b .plain))
     where
@@ -89,7 +90,7 @@ module _ (l : Lent) (i : List ℤ) where
 
 -- ---- the properties are general
 general : (bench : Bench) → HasWhatItShould bench
-unfolding RefusesEvery SameRecord TouchesNoOutput TouchesNoData FakesWhatFollows FakesWhatIsRead InventsSteps
+unfolding RefusesEvery SameRecord TouchesNoOutput TouchesNoData FakesWhatFollows FakesWhatIsRead InventsSteps IgnoresK
 general bench =
     record {
       refuses-every = λ h l m e. h l;
@@ -100,6 +101,7 @@ general bench =
           h (withText text l) (other .m) (other .is-module) ∙ ap (λ t. f t (withText [] l)) e ∙ sym (h l (one .m) (one .is-module));
       fakes-what-is-read = λ f h l i b _. h (withInputs i l) ∙ ap (f (l .text)) (one-step l i b) ∙ sym (h l);
       invents-steps = λ f h l i _ e. h (withInputs i l) ∙ ap (λ a. f (l .text) (l .steps) (a .output)) e ∙ sym (h l);
+      ignores-k = λ f h l asked. ap (λ a. a .fields .ending) (h (withAsked asked l) ∙ sym (h l));
     }
 
 -- ---- the definition has none of them
@@ -191,6 +193,13 @@ steps-differ h =
     let e : Same 8 6 = h (reading countdown 1) (pos 2 ∷ []) refl (rest-same (reading countdown 1) (pos 2 ∷ []) same) in
     omega arith
 
+-- aborted, and steps spent
+k-matters : ¬ IgnoresK answer
+unfolding IgnoresK computed lent until lines belt
+k-matters h =
+    let e : Same 9 5 = h (lent (lines belt) 100 16 [] 64) (until 7 50) in
+    omega arith
+
 -- ---- two of the benches do run main's first statement
 -- the ending, the steps, and n
 seen : Answer → ℕ × ℕ × ℕ
@@ -207,7 +216,7 @@ shut-out : (Fake : Bench → Type 0) → ¬ Fake answer → (bench : Bench) → 
 shut-out Fake none-has bench h same = none-has (subst Fake (fun-ext same) h)
 
 pub demand-2 : Demand2
-unfolding refuser repeater silent idler skipper closedAfterFirst pretender inventor
+unfolding refuser repeater silent idler skipper closedAfterFirst pretender inventor deaf
 demand-2 =
     record {
       general = general;
@@ -218,6 +227,7 @@ demand-2 =
       fakes-what-follows = record { such = general skipper .fakes-what-follows (λ t l. answer (withText (t ++ bytes "ENDPROC ENDMODULE") l) .fields) closed; shut-out = shut-out FakesWhatFollows what-follows-matters };
       fakes-what-is-read = record { such = general pretender .fakes-what-is-read (λ t a. returned (a .fields)) (λ l. refl); shut-out = shut-out FakesWhatIsRead what-is-read-matters };
       invents-steps = record { such = general inventor .invents-steps (λ t n o. n) (λ l. refl); shut-out = shut-out InventsSteps steps-differ };
+      ignores-k = record { such = general deaf .ignores-k answer (λ l. refl); shut-out = shut-out IgnoresK k-matters };
     }
   where
     closed : (l : Lent) (m : Accepted) → verdict (l .text) ≡ accepted m → skipper l .fields ≡ answer (withText (upToSecond (l .text) m ++ bytes "ENDPROC ENDMODULE") l) .fields

@@ -20,10 +20,10 @@ use Rattle.paper.specs.Expressions.{levelOf, relations, conjunctions}
 use Rattle.paper.specs.Names.{DataType, aNum, aBool, refusedPiece, Meaning, unknown, variable, array, constant, loop, theRoutine, theErrno, errorNumber, usesOf, routineIn, arrayIn, variableIn, wrongName, Text, textOf, Scopes, sortIn, spelled, meaning, cannotDeclare}
 use Rattle.paper.specs.Types.{Fault, fault, faultIf, leastOf, least, comesFirst, Judged, judged, judgedNothing, differs, wanted, judgeName, judgeElement, judgeJoined, judgeSigned, judgeLeaf, judge, faultsOf, ofType, constantWorth, constantFaults, raisesError, isNoSize}
 use Rattle.paper.specs.Declarations.{moduleWordLimit, crosses, Data, Filling, declareName, declareContent, declareData, declareParameters, noData, Signature, dataTexts, routineNames, routineNameFaults, moduleFilling, moduleData, routineFilling, routineData}
-use Rattle.paper.specs.Checks.{Setting, isOtherKind, noSignature, judgeScalarTarget, judgeTarget, argumentFaults, signatureFaults, calleeFaults, callFaults, resultFaults, returnFaults, optionalNum}
-use Rattle.paper.specs.Checks.{simpleFaults, caseFaults, statementFaults, listFaults, armFaults, casesFaults, handlerFaults, routineFaults, allRoutineFaults, faults}
+use Rattle.paper.specs.Checks.{Setting, inUndo, isOtherKind, noSignature, judgeScalarTarget, judgeTarget, argumentFaults, signatureFaults, calleeFaults, callFaults, resultFaults, returnFaults, optionalNum}
+use Rattle.paper.specs.Checks.{simpleFaults, caseFaults, statementFaults, listFaults, armFaults, casesFaults, optionalFaults, routineFaults, allRoutineFaults, faults}
 use Rattle.raised.proofs.Choices.{chosen, forked}
-use Rattle.demands.proofs.Parsing.{Is, is-by, ExprIn, first-in, OptionalIn, SortsOfTarget, SimpleSorts, Sorts, SortsOfList, SortsOfArms, SortsOfCases, SortsOfHandler, ContentIn, DeclaredIn, ParameterIn, SortsOfRoutine, SortsOfModule}
+use Rattle.demands.proofs.Parsing.{Is, is-by, ExprIn, first-in, OptionalIn, SortsOfTarget, SimpleSorts, Sorts, SortsOfList, SortsOfArms, SortsOfCases, SortsOfOptional, ContentIn, DeclaredIn, ParameterIn, SortsOfRoutine, SortsOfModule}
 use Rattle.demands.proofs.Alls.{_and_, first-of, rest-of}
 use Rattle.demands.specs.Vocabulary.{All, nothing, _also_}
 
@@ -155,15 +155,15 @@ pub record Declares (W : List Word) (limit : ℕ) (D : Data) : Type 0 where
   pub ranked : Ranked W (D .faults)
   pub words : D .faults ≡ [] → length (D .words) ≤ limit
 
-left-empty : (a b : List Fault) → a ++ b ≡ [] → a ≡ []
+pub left-empty : (a b : List Fault) → a ++ b ≡ [] → a ≡ []
 left-empty [] b e = refl
 left-empty (f ∷ a) b e = apart (cc)
 
-right-empty : (a b : List Fault) → a ++ b ≡ [] → b ≡ []
+pub right-empty : (a b : List Fault) → a ++ b ≡ [] → b ≡ []
 right-empty [] b e = e
 right-empty (f ∷ a) b e = apart (cc)
 
-if-empty : (b : Bool) (number i : ℕ) → faultIf b number i ≡ [] → b ≡ false
+pub if-empty : (b : Bool) (number i : ℕ) → faultIf b number i ≡ [] → b ≡ false
 unfolding faultIf fault
 if-empty true number i e = apart (cc)
 if-empty false number i e = refl
@@ -264,7 +264,7 @@ module _ (W : List Word) where
 
   call-ranked : (K : Setting) (f : Bool) (S : Scopes) (i : ℕ) (es : List Expr) → IsWord W i → All (In W) es → Ranked W (callFaults W K f S i es)
   unfolding callFaults
-  call-ranked K f S i es w v = callee-ranked K f _ i es w and arguments-ranked S _ es v
+  call-ranked K f S i es w v = if-ranked W _ 17 i (tt, tt) w and callee-ranked K f _ i es w and arguments-ranked S _ es v
 
   result-ranked : (j : Judged) (t : Option DataType) (i : ℕ) → IsWord W i → Ranked W (resultFaults W j t i)
   unfolding resultFaults
@@ -276,9 +276,9 @@ module _ (W : List Word) where
   return-ranked K S i none w v = if-ranked W _ 17 i (tt, tt) w
   return-ranked K S i (some e) w v = by-result (K .result)
     where
-      by-result : (o : Option DataType) → Ranked W (elim o [ none ↦ fault 17 i ++ faultsOf W S e | some t ↦ ofType W t S e ])
+      by-result : (o : Option DataType) → Ranked W (elim o [ none ↦ fault 17 i ++ faultsOf W S e | some t ↦ faultIf (inUndo (K .list)) 17 i ++ ofType W t S e ])
       by-result none = fault-ranked W 17 i (tt, tt) w and faults-of-ranked W S e v
-      by-result (some t) = of-type-ranked W t S e v
+      by-result (some t) = if-ranked W _ 17 i (tt, tt) w and of-type-ranked W t S e v
 
   optional-ranked : (S : Scopes) (e : Option Expr) → OptionalIn (sortIn W) e → Ranked W (optionalNum W S e)
   unfolding optionalNum
@@ -295,7 +295,7 @@ module _ (W : List Word) where
   simple-ranked K S (returns i e) h = return-ranked K S i e (is-by (sortIn W) i _ (h .0)) (h .1)
   simple-ranked K S (raises i none) h = if-ranked W _ 17 i (tt, tt) (is-by (sortIn W) i _ (h .0))
   simple-ranked K S (raises i (some e)) h = if-ranked W _ 17 i (tt, tt) (is-by (sortIn W) i _ (h .0)) and of-type-ranked W aNum S e (h .1)
-  simple-ranked K S (exits i) h = nothing
+  simple-ranked K S (exits i) h = if-ranked W _ 17 i (tt, tt) (is-by (sortIn W) i _ h)
   simple-ranked K S (retries i) h = if-ranked W _ 17 i (tt, tt) (is-by (sortIn W) i _ h)
   simple-ranked K S (triesNext i) h = if-ranked W _ 17 i (tt, tt) (is-by (sortIn W) i _ h)
   simple-ranked K S (writes i s e) h = optional-ranked S e (h .1)
@@ -338,15 +338,18 @@ module _ (W : List Word) where
       cases-ranked (case es b r) S n h = case-ranked S M es (h .0) and list-ranked b S n (h .1) and cases-ranked r S _ (h .2)
 
   -- ---- routines and the module
-  handler-ranked : (K : Setting) (M : Memory) (S : Scopes) (n : ℕ) (o : Option RoutineList) (function : Bool) → SortsOfHandler (sortIn W) function o → Ranked W (handlerFaults W K M S n o)
-  unfolding handlerFaults
-  handler-ranked K M S n none f h = nothing
-  handler-ranked K M S n (some l) f h = list-ranked K M (l .statements) S n (h .statements)
+  optional-list-ranked : (K : Setting) (M : Memory) (S : Scopes) (n : ℕ) (o : Option RoutineList) (closing : ℕ → Type 0) → SortsOfOptional (sortIn W) closing o → Ranked W (optionalFaults W K M S n o)
+  unfolding optionalFaults
+  optional-list-ranked K M S n none c h = nothing
+  optional-list-ranked K M S n (some l) c h = list-ranked K M (l .statements) S n (h .statements)
 
   routine-faults-ranked : (m : Module) (sigs : List Signature) (k : ℕ) (r : Routine) → SortsOfRoutine (sortIn W) r → Ranked W (routineFaults W m sigs k r)
   unfolding routineFaults
   routine-faults-ranked m sigs k r h =
-      routine-ranked m r h and list-ranked _ _ (r .body .statements) _ _ (h .body .statements) and handler-ranked _ _ _ _ (r .handler) _ (h .handler)
+      routine-ranked m r h
+      and list-ranked _ _ (r .body .statements) _ _ (h .body .statements)
+      and optional-list-ranked _ _ _ _ (r .handler) _ (h .handler)
+      and optional-list-ranked _ _ _ _ (r .undo) _ (h .undo)
 
   all-routines-ranked : (m : Module) (sigs : List Signature) (k : ℕ) (rs : List Routine) → All (SortsOfRoutine (sortIn W)) rs → Ranked W (allRoutineFaults W m sigs k rs)
   unfolding allRoutineFaults

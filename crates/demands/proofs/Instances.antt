@@ -2,6 +2,7 @@
 use mathlib.Core.Path.{_≡_, refl}
 use mathlib.Core.Bool.{true, false}
 use mathlib.Core.List.{List, [], _∷_, _++_, map}
+use mathlib.Core.Option.{none, some}
 use Prim.Native.Nat.{ℕ, zero, suc, _+_, _≤_}
 use native.Mathlib.Omega.{arith}
 use lib.Dec.{T, leb, leb→le}
@@ -15,19 +16,24 @@ use Rattle.paper.specs.Names.{sortIn}
 use Rattle.paper.specs.Steps.{Program}
 use Rattle.paper.specs.States.{State, Rooms}
 use Rattle.paper.specs.Running.{passes, countingStep, goesOn, stopped, takeStep, nextPlace, started}
+use Rattle.paper.specs.Undoing.{Asked, plainly}
 use Rattle.paper.specs.Computing.{computed}
 use Rattle.paper.specs.Examples.{row, asking, fields, lines, tray, moduleOf, slips}
 use Rattle.paper.specs.Answer.{storeWords, depthLimit, refusedBy, accepted, verdict, Lent, answer}
 use Rattle.demands.proofs.MoreRoom.{demand-3}
 use Rattle.demands.proofs.Alls.{all-map}
 use Rattle.demands.specs.Vocabulary.{All, nothing, _also_}
-use Rattle.demands.specs.Demands.{MoreRoom, told, NeverChanged, Demand3, loopBetween, valueAfter}
+use Rattle.demands.specs.Demands.{without, MoreRoom, told, NeverChanged, Demand3, loopBetween, valueAfter}
 
--- ---- Demand 1: each ending of the table, 0 to 8.
+-- ---- Demand 1: each ending of the table, 0 to 8; those with K are in AbortInstances.
 -- A text with the smallest stores.
 unfoldable pub lent : List ℕ → (steps depth : ℕ) → (inputs : List ℤ) → (room : ℕ) → Lent
 lent text steps depth inputs room =
-    record { text = text; steps = steps; depth = depth; inputs = inputs; output = replicate room 0; code = replicate storeWords (pos 0); values = replicate storeWords (pos 0) }
+    record { text = text; steps = steps; depth = depth; inputs = inputs; output = replicate room 0; code = replicate storeWords (pos 0); values = replicate storeWords (pos 0); asked = plainly }
+
+-- K and the UNDO allowance.
+unfoldable pub until : (k undo : ℕ) → Asked
+until k undo = record { abort = some (record { at = k; undo = undo }) }
 
 -- The text of a classroom slip: 1 is that of TRYNEXT, where fetch reads a part, fails and is dropped; 2 that of an error inside ERROR.
 pub slip : ℕ → List ℕ
@@ -64,10 +70,10 @@ pub record Pair : Type 0 where
   pub room : ℕ
   pub more-room : ℕ
 
-pub first : Pair → Lent
+unfoldable pub first : Pair → Lent
 first p = lent (p .text) (p .steps) (p .depth) (p .inputs) (p .room)
 
-pub second : Pair → Lent
+unfoldable pub second : Pair → Lent
 second p = lent (p .text) (p .steps + p .more-steps) (p .depth + p .more-depth) (p .inputs ++ p .more-inputs) (p .room + p .more-room)
 
 pub pairs : List Pair
@@ -87,14 +93,14 @@ unfolding computed lent slip pairs second slips row asking fields lines tray mod
 finished = refl
 
 -- The demand speaks of them: they are such pairs.
-InDepth : Pair → Type 0
+abbrev pub InDepth : Pair → Type 0
 InDepth p = T (leb 1 (p .depth)) × T (leb (p .depth + p .more-depth) depthLimit)
 
 store-long : storeWords ≤ length (replicate storeWords (pos 0))
 store-long = omega (arith, length-replicate storeWords (pos 0))
 
-more : (p : Pair) → InDepth p → MoreRoom (first p) (second p)
-unfolding first second lent InDepth
+pub more : (p : Pair) → InDepth p → MoreRoom (first p) (second p)
+unfolding first second lent
 more p h =
     let low : 1 ≤ p .depth = leb→le 1 (p .depth) (h .0) in
     let high : p .depth + p .more-depth ≤ depthLimit = leb→le _ _ (h .1) in
@@ -106,10 +112,11 @@ more p h =
       depth = omega arith;
       output = omega (arith, length-replicate (p .room) (zero), length-replicate (p .room + p .more-room) (zero));
       inputs = record { rest = p .more-inputs; whole = refl };
+      asked = without;
     }
 
 pub pairs-never-change : All (λ p. NeverChanged (told (answer (first p))) (told (answer (second p)))) pairs
-unfolding pairs Demand3 InDepth
+unfolding pairs Demand3
 pairs-never-change = all-map (λ p h. demand-3 (first p) (second p) (more p h)) in-depth
   where
     in-depth : All InDepth pairs
@@ -117,13 +124,13 @@ pairs-never-change = all-map (λ p h. demand-3 (first p) (second p) (more p h)) 
 
 -- ---- The lesson on errors
 -- A run, step by step: how many calls are live, and the place of the next step.
-trace : ℕ → Program → Rooms → State → List ℕ → List (ℕ × ℕ)
+unfoldable pub trace : ℕ → Program → Rooms → State → List ℕ → List (ℕ × ℕ)
 trace zero P R s places = []
 trace (suc n) P R s places =
     (length (s .calls), getD places (nextPlace P s) 0)
     ∷ elim (takeStep P R s) [ goesOn s′ ↦ trace n P R s′ places | stopped b e ↦ [] ]
 
-pub traceOf : List ℕ → List ℤ → List (ℕ × ℕ)
+unfoldable pub traceOf : List ℕ → List ℤ → List (ℕ × ℕ)
 traceOf text inputs =
     elim (verdict text) [
       | refusedBy f ↦ []

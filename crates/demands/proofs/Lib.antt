@@ -13,10 +13,15 @@ pub mod Faults
 pub mod Places
 pub mod Routines
 pub mod Tables
+pub mod Apart
+pub mod Barred
 pub mod Sitting
+pub mod Aborted
 pub mod Records
+pub mod AbortLessons
 pub mod Memory
 pub mod Bytes
 pub mod Pendant
 pub mod Instances
+pub mod AbortInstances
 pub mod Fakes

@@ -2,6 +2,7 @@
 use mathlib.Core.Path.{_≡_, refl, sym, ap}
 use mathlib.Core.Bool.{false}
 use mathlib.Core.List.{List, [], _++_, append-assoc}
+use mathlib.Core.Option.{Option}
 use Prim.Native.Nat.{ℕ, _≤_}
 use native.Mathlib.Omega.{arith}
 use lib.ListN.{length, take, drop}
@@ -9,14 +10,16 @@ use lib.Seq.{take-at}
 use lib.IntN.{ℤ}
 use borrow.Author.Tests.{le-ltb, ne-eqb}
 use Rattle.paper.specs.Words.{Word, Refusal}
+use Rattle.paper.specs.Steps.{Program}
 use Rattle.paper.specs.States.{State, Rooms}
 use Rattle.paper.specs.Running.{Ended, started}
+use Rattle.paper.specs.Undoing.{Abort, runAbort, runAsked}
 use Rattle.paper.specs.Answer.{depthLimit, Verdict, refusedBy, accepted, verdict, Record, Question, Result, refusedWith, endedWith, ranTo, carriedOut, tooSmall, badDepth, result, Lent, questionOf, storeAfter, answer}
 use Rattle.raised.proofs.Choices.{forked}
-use Rattle.demands.proofs.Growing.{begins-self, ran}
+use Rattle.demands.proofs.Growing.{RanAsked, as-lent, as-struck, ran-abort}
 use Rattle.demands.proofs.Effects.{RoomsAtLeast}
-use Rattle.demands.proofs.Runs.{Precedes, SameOrBrokeOff, ended-alike, broke-off, run-more}
-use Rattle.demands.specs.Demands.{InsideBounds, Told, told, RefusedAlike, alike, neither, BrokeOff, NeverChanged, Demand3}
+use Rattle.demands.proofs.Runs.{Precedes, precedes-self, SameOrBroke, same-end, broke, abort-more}
+use Rattle.demands.specs.Demands.{InsideBounds, Told, told, RefusedAlike, alike, neither, BrokeOff, Final, came-to-an-end, was-aborted, Breaks, lacked-room, lacked-undo-steps, SameK, NeverChanged, Demand3}
 
 -- ---- what a result tells
 abbrev shown : Result → Told Record ℤ
@@ -79,12 +82,21 @@ told-inside l h =
     rw (s, answer) (rw e (told-shown l _ (counted-carried q (verdict (l .text)))))
 
 -- ---- two results
+-- A refusal is not broken off.
+refused-breaks : Breaks 0 → ⊥
+refused-breaks (lacked-room l h) = omega arith
+refused-breaks (lacked-undo-steps e) = omega arith
+
+-- What broke off is not final.
+not-both : (n : ℕ) → Final n → Breaks n → ⊥
+not-both n (came-to-an-end l h) (lacked-room l′ h′) = omega arith
+not-both n (was-aborted e) (lacked-room l h) = omega arith
+not-both n (came-to-an-end l h) (lacked-undo-steps e) = omega arith
+not-both n (was-aborted e) (lacked-undo-steps e′) = omega arith
+
 refused-twice : (f : Refusal) → NeverChanged (shown (refusedWith f)) (shown (refusedWith f))
 unfolding refusedWith
-refused-twice f = record { refused = alike refl refl; finished = λ l h. refl; broke-off = λ l h. absurd (omega arith) }
-
-precedes-self : (s : State) → Precedes s s
-precedes-self s = record { output = begins-self (s .output); steps = omega arith; used = omega arith }
+refused-twice f = record { refused = alike refl refl; finished = λ l. refl; broke-off = λ l. absurd (refused-breaks l) }
 
 module _ (text : List ℕ) (W : List Word) (x y : Ended) (low : 1 ≤ x .ending) (low′ : 1 ≤ y .ending) where
   broken : Precedes (x .state) (y .state) → BrokeOff (shown (ranTo text W x)) (shown (ranTo text W y))
@@ -95,28 +107,36 @@ module _ (text : List ℕ) (W : List Word) (x y : Ended) (low : 1 ≤ x .ending)
   unfolding ranTo endedWith
   neither-refused = neither (λ e. omega arith) (λ e. omega arith)
 
-  ended-more : SameOrBrokeOff x y → NeverChanged (shown (ranTo text W x)) (shown (ranTo text W y))
+  ended-more : SameOrBroke x y → NeverChanged (shown (ranTo text W x)) (shown (ranTo text W y))
   unfolding ranTo endedWith
-  ended-more (ended-alike e) =
+  ended-more (same-end e) =
       let p : Precedes (x .state) (y .state) = rw (← e) (precedes-self (x .state)) in
-      record { refused = neither-refused; finished = λ l h. ap (λ z. shown (ranTo text W z)) e; broke-off = λ l h. broken p }
-  ended-more (broke-off l h p) = record { refused = neither-refused; finished = λ l′ h′. absurd (omega arith); broke-off = λ l′ h′. broken p }
+      record { refused = neither-refused; finished = λ l. ap (λ z. shown (ranTo text W z)) e; broke-off = λ l. broken p }
+  ended-more (broke b p) = record { refused = neither-refused; finished = λ l. absurd (not-both (x .ending) l b); broke-off = λ l. broken p }
 
 abbrev roomsOf : Question → Rooms
 roomsOf q = record { depth = q .depth; output = q .room; inputs = q .inputs }
 
-carried-more : (q q′ : Question) (v : Verdict) → q .text ≡ q′ .text → q .steps ≤ q′ .steps → RoomsAtLeast (roomsOf q) (roomsOf q′)
+-- A run ends with 1 or more.
+ended-low : (P : Program) (R : Rooms) (n : ℕ) (o : Option Abort) (s : State) → 1 ≤ runAbort P R n o s .ending
+ended-low P R n o s = by-case (ran-abort P R n o s)
+  where
+    by-case : RanAsked P R s n o (runAbort P R n o s) → 1 ≤ runAbort P R n o s .ending
+    by-case (as-lent h) = h .least
+    by-case (as-struck a e h) = omega (arith, h .least)
+
+carried-more : (q q′ : Question) (v : Verdict) → q .text ≡ q′ .text → q .steps ≤ q′ .steps → RoomsAtLeast (roomsOf q) (roomsOf q′) → SameK (q .asked .abort) (q′ .asked .abort)
     → NeverChanged (shown (carriedOut q v)) (shown (carriedOut q′ v))
-unfolding carriedOut
-carried-more q q′ (refusedBy f) t n more = refused-twice f
-carried-more q q′ (accepted a) t n more =
+unfolding carriedOut runAsked
+carried-more q q′ (refusedBy f) t n more k = refused-twice f
+carried-more q q′ (accepted a) t n more k =
     let P = a .program in
     let s = started P (a .main) in
-    let both = run-more P (roomsOf q) (roomsOf q′) more (q .steps) (q′ .steps) s n in
-    rw (← t) (ended-more (q .text) (a .words) _ _ (ran P (roomsOf q) (q .steps) s .least) (ran P (roomsOf q′) (q′ .steps) s .least) both)
+    let both = abort-more P (roomsOf q) (roomsOf q′) more (q .steps) (q′ .steps) (q .asked .abort) (q′ .asked .abort) s n k in
+    rw (← t) (ended-more (q .text) (a .words) _ _ (ended-low P (roomsOf q) (q .steps) (q .asked .abort) s) (ended-low P (roomsOf q′) (q′ .steps) (q′ .asked .abort) s) both)
 
 pub demand-3 : Demand3
 unfolding Demand3 questionOf
 demand-3 a b m =
     rw (told-inside a (m .first-inside), told-inside b (m .second-inside), ← ap verdict (m .text))
-    (carried-more (questionOf a) (questionOf b) (verdict (a .text)) (m .text) (m .steps) (record { depth = m .depth; output = m .output; inputs = m .inputs }))
+    (carried-more (questionOf a) (questionOf b) (verdict (a .text)) (m .text) (m .steps) (record { depth = m .depth; output = m .output; inputs = m .inputs }) (m .asked))

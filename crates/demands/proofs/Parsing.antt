@@ -9,7 +9,7 @@ use lib.Dec.{eqb}
 use borrow.Author.Tests.{eqb-true}
 use Rattle.laws.proofs.Tests.{false-true}
 use Rattle.paper.specs.Sorts.{NAME, STRING, NUM, NOTHING, closeBrace, closeParen, openBrace, openParen, comma, semicolon, becomes, colon, backslash, CASE, DEFAULT, DO, ELSE, ELSEIF, ENDFOR, ENDFUNC}
-use Rattle.paper.specs.Sorts.{ENDIF, ENDMODULE, ENDPROC, ENDTEST, ENDWHILE, ERROR, EXIT, FOR, FROM, IF, MODULE, PROC, RAISE, RETRY, RETURN, STEP, TEST, THEN, TO, TPREADNUM, TPWRITE, TRYNEXT, VAR}
+use Rattle.paper.specs.Sorts.{ENDIF, ENDMODULE, ENDPROC, ENDTEST, ENDWHILE, ERROR, EXIT, FOR, FROM, IF, MODULE, PROC, RAISE, RETRY, RETURN, STEP, TEST, THEN, TO, TPREADNUM, TPWRITE, TRYNEXT, UNDO, VAR}
 use Rattle.paper.specs.Sorts.{WHILE}
 use Rattle.paper.specs.Trees.{variableData, initialData, arrayData, constantData, first, Expr, leaf, element, nested, signed, joined, Target, Simple, assign, assignCall, call, returns, raises, exits}
 use Rattle.paper.specs.Trees.{retries, triesNext, writes, reads, Statement, Statements, Arms, Cases, simple, compactIf, fullIf, for, while, test, empty, _then_, noArm, arm, noCase, case, Content}
@@ -19,10 +19,10 @@ use Rattle.paper.specs.Expressions.{startsStatement, expect, expectType, inPare
 use Rattle.paper.specs.Statements.{targetIndex, target, valueSide, callSide, rightSide, assignment, procedureCall, startedByName, withOptional, written, tpWrite, tpReadNum, simpleWord}
 use Rattle.paper.specs.Statements.{simpleStatement, elsePart, lastArm, arms, ifThen, ifSimple, ifStatement, stepPart, forStatement, whileStatement, defaultPart, lastCase, cases, testStatement}
 use Rattle.paper.specs.Statements.{opening, plainStatement, statement, statements, listIn, list}
-use Rattle.paper.specs.Form.{initialPart, sizePart, varPart, constPart, datum, declaration, declarations, parameter, parameters, errorPart, routineFrom, function, routine, routines, formed}
+use Rattle.paper.specs.Form.{initialPart, sizePart, varPart, constPart, datum, declaration, declarations, parameter, parameters, listBehind, routineFrom, function, routine, routines, formed}
 use Rattle.paper.specs.Checks.{isSome}
 use Rattle.raised.proofs.Choices.{chosen, forked, chosen-by, forked-by}
-use Rattle.demands.specs.Vocabulary.{All, nothing, _also_, Closes, by-error, by-endproc, by-endfunc}
+use Rattle.demands.specs.Vocabulary.{All, nothing, _also_, ClosesRoutine, by-endproc, by-endfunc, Closes, by-error, by-undo, by-end}
 
 -- The word i is there.
 abbrev pub Is : (ℕ → ℕ) → ℕ → Type 0
@@ -228,13 +228,14 @@ module _ (W : ℕ → ℕ) where
     SortsOfCases noCase = Unit
     SortsOfCases (case cs b r) = All (ExprIn W) cs × SortsOfList b × SortsOfCases r
 
-  pub record SortsOfRoutineList (function : Bool) (l : RoutineList) : Type 0 where
+  -- A list of a routine, closed by a word of such a sort; and one that it may have or not.
+  pub record SortsOfRoutineList (closing : ℕ → Type 0) (l : RoutineList) : Type 0 where
     pub statements : SortsOfList (l .statements)
-    pub closes : Closes (W (l .closes)) function
+    pub closes : closing (W (l .closes))
 
-  abbrev pub SortsOfHandler : (function : Bool) → Option RoutineList → Type 0
-  SortsOfHandler function none = Unit
-  SortsOfHandler function (some l) = SortsOfRoutineList function l
+  abbrev pub SortsOfOptional : (closing : ℕ → Type 0) → Option RoutineList → Type 0
+  SortsOfOptional closing none = Unit
+  SortsOfOptional closing (some l) = SortsOfRoutineList closing l
 
   -- data and parameters
   abbrev pub ContentIn : Content → Type 0
@@ -254,8 +255,9 @@ module _ (W : ℕ → ℕ) where
     pub name : Is W (r .name)
     pub parameters : All ParameterIn (r .parameters)
     pub declared : All DeclaredIn (r .declared)
-    pub body : SortsOfRoutineList (isSome (r .result)) (r .body)
-    pub handler : SortsOfHandler (isSome (r .result)) (r .handler)
+    pub body : SortsOfRoutineList (λ s. Closes s (isSome (r .result))) (r .body)
+    pub handler : SortsOfOptional (λ s. Closes s (isSome (r .result))) (r .handler)
+    pub undo : SortsOfOptional (λ s. ClosesRoutine s (isSome (r .result))) (r .undo)
 
 -- a test of two
 both-first : (a b : Bool) → (a && b) ≡ true → a ≡ true
@@ -546,28 +548,28 @@ module _ (W : ℕ → ℕ) where
   parameters-reads at =
       chosen (Reads W (λ x. All (ParameterIn W) (x .0))) (eqb (W at) closeParen) _ _ nothing (separated-reads W (ParameterIn W) parts (parameter W) parameter-reads at)
 
-  -- an ERROR list, if there is one, from the word `at` on
-  abbrev ErrorPart : ℕ → Option RoutineList × ℕ → Type 0
-  ErrorPart at x = elim (x .0) [ none ↦ x .1 ≡ at | some l ↦ (W at ≡ ERROR) × SortsOfList W (l .statements) × (l .closes ≡ x .1) ]
+  -- a list behind a word of that sort, if there is one, from the word `at` on
+  abbrev Behind : ℕ → ℕ → Option RoutineList × ℕ → Type 0
+  Behind sort at x = elim (x .0) [ none ↦ x .1 ≡ at | some l ↦ (W at ≡ sort) × SortsOfList W (l .statements) × (l .closes ≡ x .1) ]
 
-  error-reads : (at : ℕ) → Reads W (ErrorPart at) (errorPart W at)
-  unfolding errorPart
-  error-reads at =
-      forked-by (Reads W (ErrorPart at)) (eqb (W at) ERROR) _ _
+  behind-reads : (sort at : ℕ) → Reads W (Behind sort at) (listBehind W sort at)
+  unfolding listBehind
+  behind-reads sort at =
+      forked-by (Reads W (Behind sort at)) (eqb (W at) sort) _ _
       (λ t. then-reads W (λ x. SortsOfList W (x .0)) _ _ _ (list-reads (at + 1)) (λ ss k. (eqb-true _ _ t, k, refl)))
       (λ t. refl)
 
-  closed : (ss : Statements) (n : ℕ) (x : Option RoutineList × ℕ) (r : Routine) → SortsOfList W ss → ErrorPart n x → Closes (W (x .1)) (isSome (r .result))
-      → r .body ≡ record { statements = ss; closes = n } → r .handler ≡ x .0 → Is W (r .name) → All (ParameterIn W) (r .parameters) → All (DeclaredIn W) (r .declared)
-      → SortsOfRoutine W r
-  closed ss n x r k e c b h i ps ds = by-handler (x .0) (x .1) e c h
-    where
-      by-handler : (o : Option RoutineList) (m : ℕ) → ErrorPart n (o, m) → Closes (W m) (isSome (r .result)) → r .handler ≡ o → SortsOfRoutine W r
-      by-handler none m e c h = record { name = i; parameters = ps; declared = ds; body = rw b (record { statements = k; closes = rw e at c }); handler = rw h tt }
-      by-handler (some l) m e c h =
-          record { name = i; parameters = ps; declared = ds; body = rw b (record { statements = k; closes = by-error (e .0) }); handler = rw h (record { statements = e .1; closes = rw (e .2) c }) }
+  -- the word that closes the list before it: of that sort, or the one behind
+  closed-by : (sort at : ℕ) (o : Option RoutineList) (n : ℕ) (Q : ℕ → Type 0) → Behind sort at (o, n) → (W at ≡ sort → Q (W at)) → Q (W n) → Q (W at)
+  closed-by sort at none n Q e f h = rw e at h
+  closed-by sort at (some l) n Q e f h = f (e .0)
 
-  routine-from-reads : (result : Option ℕ) (closing at : ℕ) → Closes closing (isSome result) → Reads W (λ x. SortsOfRoutine W (x .0)) (routineFrom W result closing at)
+  -- and its own
+  optional-closed : (sort at : ℕ) (o : Option RoutineList) (n : ℕ) (Q : ℕ → Type 0) → Behind sort at (o, n) → Q (W n) → SortsOfOptional W Q o
+  optional-closed sort at none n Q e h = tt
+  optional-closed sort at (some l) n Q e h = record { statements = e .1; closes = rw (e .2) h }
+
+  routine-from-reads : (result : Option ℕ) (closing at : ℕ) → ClosesRoutine closing (isSome result) → Reads W (λ x. SortsOfRoutine W (x .0)) (routineFrom W result closing at)
   unfolding routineFrom
   routine-from-reads result closing at c =
       then-reads W _ _ _ _ (expect-reads W NAME at) (λ n₁ i.
@@ -576,8 +578,19 @@ module _ (W : ℕ → ℕ) where
       then-reads W _ _ _ _ (expect-reads W closeParen (ps .1)) (λ n₄ _.
       then-reads W (λ x. All (DeclaredIn W) (x .0)) _ _ _ (declarations-reads n₄) (λ ds hd.
       then-reads W (λ x. SortsOfList W (x .0)) _ _ _ (list-reads (ds .1)) (λ ss k.
-      then-reads W (ErrorPart (ss .1)) _ _ _ (error-reads (ss .1)) (λ h e.
-      then-reads W _ _ _ _ (expect-reads W closing (h .1)) (λ n₈ q. closed (ss .0) (ss .1) h _ k e (rw q c) refl refl (is-by W at 0 i) hp hd))))))))
+      then-reads W (Behind ERROR (ss .1)) _ _ _ (behind-reads ERROR (ss .1)) (λ h e.
+      then-reads W (Behind UNDO (h .1)) _ _ _ (behind-reads UNDO (h .1)) (λ u e′.
+      then-reads W _ _ _ _ (expect-reads W closing (u .1)) (λ n₉ q.
+      let last : ClosesRoutine (W (u .1)) (isSome result) = rw q c in
+      let second : Closes (W (h .1)) (isSome result) = closed-by UNDO (h .1) (u .0) (u .1) (λ s. Closes s (isSome result)) e′ by-undo (by-end last) in
+      record {
+        name = is-by W at 0 i;
+        parameters = hp;
+        declared = hd;
+        body = record { statements = k; closes = closed-by ERROR (ss .1) (h .0) (h .1) (λ s. Closes s (isSome result)) e by-error second };
+        handler = optional-closed ERROR (ss .1) (h .0) (h .1) (λ s. Closes s (isSome result)) e second;
+        undo = optional-closed UNDO (h .1) (u .0) (u .1) (λ s. ClosesRoutine s (isSome result)) e′ last;
+      })))))))))
 
   function-reads : (at : ℕ) → Reads W (λ x. SortsOfRoutine W (x .0)) (function W at)
   unfolding function isSome

@@ -1,7 +1,7 @@
 -- Demands 1 and 3 of the call on bytes, carried over from the call on words.
 use mathlib.Core.Path.{_≡_, refl, ap, _∙_}
 use mathlib.Core.List.{List, _++_}
-use Prim.Native.Nat.{ℕ, _-_, _*_, _≤_, _<_}
+use Prim.Native.Nat.{ℕ, _+_, _-_, _*_, _≤_, _<_}
 use native.Mathlib.Omega.{arith}
 use lib.ListN.{length, take, drop, replicate, length-append, length-take, length-drop, length-replicate}
 use lib.Seq.{take-at, drop-at}
@@ -14,7 +14,7 @@ use Rattle.demands.proofs.Bytes.{after-length, after-past, after-zeros,
 use Rattle.demands.proofs.Memory.{demand-1}
 use Rattle.demands.proofs.MoreRoom.{demand-3}
 use Rattle.demands.specs.Vocabulary.{All, IsByte, fieldIn}
-use Rattle.demands.specs.Demands.{Allowed, refused, ended, Touched, Demand1, TouchedBytes, CallMade, Demand1InBytes, Told, told, RefusedAlike, alike, neither, NeverChanged, Demand3, toldInBytes, CountedIn64, Demand3InBytes}
+use Rattle.demands.specs.Demands.{StepsLent, plain, struck, undoAllowed, Allowed, refused, ended, Touched, Demand1, TouchedBytes, CallMade, Demand1InBytes, Told, told, RefusedAlike, alike, neither, NeverChanged, Demand3, toldInBytes, CountedIn64, Demand3InBytes}
 
 -- ---- a store: its words w after the call, its bytes l before
 -- Zeros from n on to k are there only if there are k words.
@@ -100,8 +100,8 @@ never-in-bytes : (x y : Told Record ℤ) → NeverChanged x y → NeverChanged (
 never-in-bytes x y h =
     record {
       refused = by-case (h .refused);
-      finished = λ l u. ap inBytes (h .finished l u);
-      broke-off = λ l u. let b = h .broke-off l u in record { output = b .output; steps = b .steps; inputs = b .inputs };
+      finished = λ f. ap inBytes (h .finished f);
+      broke-off = λ f. let b = h .broke-off f in record { output = b .output; steps = b .steps; inputs = b .inputs };
     }
   where
     by-case : RefusedAlike x y → RefusedAlike (inBytes x) (inBytes y)
@@ -110,12 +110,18 @@ never-in-bytes x y h =
 
 -- The counts of a record that the tables allow.
 record Counts (l : Lent) (a : Answer) : Type 0 where
-  ending : a .fields .ending ≤ 8
-  steps : a .fields .steps ≤ l .steps
+  ending : a .fields .ending ≤ 10
+  steps : a .fields .steps ≤ l .steps + undoAllowed (l .asked .abort)
   output : a .fields .output ≤ length (l .output)
   inputs : a .fields .inputs ≤ length (l .inputs)
   words : a .fields .words ≤ moduleWordLimit
   kept : a .fields .words ≤ length (a .values)
+
+-- K is at most the allowance.
+steps-counted : (l : Lent) (f : Record) → StepsLent l f → f .steps ≤ l .steps + undoAllowed (l .asked .abort)
+unfolding undoAllowed
+steps-counted l f (plain e h) = omega arith
+steps-counted l f (struck e h) = rw (h .given) (omega (arith, h .reached, h .most))
 
 counts : (l : Lent) (a : Answer) → Allowed l (a .fields) → Touched l a → Counts l a
 counts l a (refused e p h) t =
@@ -128,7 +134,7 @@ counts l a (refused e p h) t =
 counts l a (ended p h) t =
     let k : storeWords ≤ length (a .values) =
     long-enough storeWords (a .fields .words) (a .values) (omega (arith, h .words)) (t .values-cleared (λ e. omega (arith, h .refusal))) in
-    record { ending = h .to-8; steps = h .steps; output = h .output; inputs = h .inputs; words = h .words; kept = omega (arith, h .words) }
+    record { ending = h .to-10; steps = steps-counted l (a .fields) (h .steps); output = h .output; inputs = h .inputs; words = h .words; kept = omega (arith, h .words) }
 
 told-spread : (l : LentBytes) (a : Answer) → CountedIn64 l → Counts (lentOf l) a → toldInBytes (spread a l) ≡ inBytes (told a)
 unfolding toldInBytes told spread bytesAfter lentOf

@@ -8,16 +8,16 @@ use native.Mathlib.Omega.{arith}
 use lib.Dec.{eqb, ltb}
 use lib.ListN.{length, drop, set, length-drop}
 use lib.IntN.{ℤ}
-use borrow.Author.Tests.{leb-true}
+use borrow.Author.Tests.{leb-true, eqb-false}
 use Rattle.paper.specs.Basics.{if_then_else_}
 use Rattle.paper.specs.Numbers.{Value, value, error, num, ranged, isZero}
-use Rattle.paper.specs.Terms.{Term, Memory, Located, at, fails, locate, worth}
-use Rattle.paper.specs.Steps.{Spot, scalar, elementOf, Action, store, callFor, callOf, giveBack, raise, handOn, exit, retry, tryNext, write, read, choose, select, testWhile, enterFor, repeatFor, endList, Program}
+use Rattle.paper.specs.Terms.{Ref, ofModule, ofRoutine, Term, Memory, Located, at, fails, locate, worth}
+use Rattle.paper.specs.Steps.{Spot, scalar, elementOf, Action, store, callFor, callOf, giveBack, raise, handOn, exit, retry, tryNext, write, read, choose, select, testWhile, enterFor, repeatFor, endList, endUndo, Program}
 use Rattle.paper.specs.States.{Loop, Location, moduleSlot, callSlot, Call, State, Rooms, Effect, made, failing, handing, ending, lacking, withValue, withSpot, withValues, withCalls, withWords, withOutput, withInput, locationOf, onTop, onDepth, goTo, setWord, setLoop, setFailed, storeAt}
-use Rattle.paper.specs.Running.{newCall, calling, storeResult, returning, retrying, tryingNext, adding, taking, writing, readNum, choosing, holds, matching, looping, passes, withStep, entering, repeating, ending-list, perform, codeAt, stepOf}
-use Rattle.raised.proofs.Choices.{chosen, chosen-by, forked}
+use Rattle.paper.specs.Running.{newCall, resume, calling, storeResult, returning, retrying, tryingNext, adding, taking, writing, readNum, choosing, holds, matching, looping, passes, withStep, entering, repeating, ending-list, perform, codeAt, stepOf}
+use Rattle.raised.proofs.Choices.{chosen, chosen-by, forked, forked-by}
 use Rattle.demands.proofs.Errors.{Sound, SoundPlace, locate-sound, worth-sound, ranged-sound, raised-number}
-use Rattle.demands.specs.Vocabulary.{ErrorNumber, bare, CallsRoutine, for-result, for-nothing, Among, here, there, waysOf, GoesOn, CallsAfter, goes-on, begins, returns, retries, tries-next}
+use Rattle.demands.specs.Vocabulary.{ErrorNumber, bare, CallsRoutine, for-result, for-nothing, Returns, by-return, at-its-end, Among, here, there, waysOf, GoesOn, CallsAfter, goes-on, begins, returns, retries, tries-next}
 
 -- A state later in one step: its calls, a word, a line of output, an input are other ones or more; nothing else changes.
 pub data Changed (R : Rooms) (s : State) : State → Type 0 where
@@ -32,6 +32,8 @@ pub data OwnEnding (function : Bool) (a : Action) : ℕ → Type 0 where
   returned : OwnEnding function a 1
   exited : a ≡ exit → OwnEnding function a 2
   unreturned : function ≡ true → a ≡ endList → OwnEnding function a 4
+  -- no run comes to such a step but in an abort, which does not end there
+  undo-ended : a ≡ endUndo → OwnEnding function a 4
 
 -- The callee's word of a call statement.
 pub data Callee (callee : ℕ) : Action → Type 0 where
@@ -49,9 +51,24 @@ pub data Lacking (a : Action) (place : ℕ) : (number at′ : ℕ) → Type 0 wh
   no-input : (t : Spot) (text : List ℕ) → a ≡ read t text → Lacking a place 7 place
   no-room : Writes a → Lacking a place 8 place
 
+-- What a step that is made does to the live calls: all that a step can do to them but for errors.
+pub data CallsMade (P : Program) (c : Call) (r : List Call) (onward : ℕ) (does : Action) (after : List Call) : Type 0 where
+  made-move : GoesOn c r (c .next ∷ onward ∷ waysOf does) after → CallsMade P c r onward does after
+  made-call : (k : ℕ) (arguments : List ℤ) (result : Option Location) → CallsRoutine k does → after ≡ newCall P k arguments result ∷ c ∷ r → CallsMade P c r onward does after
+  made-return : (d : Call) (older : List Call) → Returns does → r ≡ d ∷ older → map bare after ≡ map bare (resume P d ∷ older) → CallsMade P c r onward does after
+  made-retry : (f : ℕ) → does ≡ retry → c .failed ≡ some f → after ≡ goTo f (setFailed none c) ∷ r → CallsMade P c r onward does after
+  made-trynext : (f : ℕ) → does ≡ tryNext → c .failed ≡ some f → after ≡ goTo (stepOf P c f .after) (setFailed none c) ∷ r → CallsMade P c r onward does after
+
+pub after-made : {P : Program} {c : Call} {r : List Call} {onward : ℕ} {does : Action} {after : List Call} → CallsMade P c r onward does after → CallsAfter P c r onward does after
+after-made (made-move g) = goes-on g
+after-made (made-call k args result st l) = begins k args result st l
+after-made (made-return d older q l b) = returns d older q l b
+after-made (made-retry f d k l) = retries f d k l
+after-made (made-trynext f d k l) = tries-next f d k l
+
 -- What the step a, at a place, of a statement that `onward` comes after, of the call c with callers r comes to, from state s.
 pub data Performed (P : Program) (R : Rooms) (c : Call) (r : List Call) (place onward : ℕ) (a : Action) (s : State) : Effect → Type 0 where
-  makes : {s′ : State} → Changed R s s′ → CallsAfter P c r onward a (s′ .calls) → Performed P R c r place onward a s (made s′)
+  makes : {s′ : State} → Changed R s s′ → CallsMade P c r onward a (s′ .calls) → Performed P R c r place onward a s (made s′)
   fails-with : {s′ : State} (e : ℕ) → ErrorNumber e → s′ .calls ≡ s .calls → Changed R s s′ → Performed P R c r place onward a s (failing e s′)
   hands-on : a ≡ handOn → Performed P R c r place onward a s (handing s)
   ends : (n : ℕ) → OwnEnding (codeAt P (c .routine) .function) a n → Performed P R c r place onward a s (ending n s)
@@ -108,9 +125,19 @@ top-calls : (f : Call → Call) (s : State) (c : Call) (r : List Call) → s .ca
 unfolding onTop
 top-calls f s c r e = rw (e, onTop)
 
+-- A word of the module, or of the call at that depth: what a call stores in is its own.
+data OfDepth (d : ℕ) : Location → Type 0 where
+  of-module : (k : ℕ) → OfDepth d (moduleSlot k)
+  of-call : (k : ℕ) → OfDepth d (callSlot d k)
+
+location-of : (d : ℕ) (r : Ref) → OfDepth d (locationOf d r)
+unfolding locationOf
+location-of d (ofModule k) = of-module k
+location-of d (ofRoutine k) = of-call k
+
 module _ (c : Call) (r : List Call) (ways : List ℕ) where
   stays-here : Among (c .next) ways → GoesOn c r ways (c ∷ r)
-  stays-here m = record { newest = c; callers = r; live = refl; routine = refl; failed = refl; result = refl; goes-to = m; waiting = refl }
+  stays-here m = record { newest = c; live = refl; routine = refl; failed = refl; result = refl; goes-to = m }
 
   stays-live : (s : State) → s .calls ≡ c ∷ r → Among (c .next) ways → GoesOn c r ways (s .calls)
   stays-live s live m = rw live (stays-here m)
@@ -119,45 +146,32 @@ module _ (c : Call) (r : List Call) (ways : List ℕ) where
   stays-top f s k h =
       record {
         newest = f (h .newest);
-        callers = h .callers;
-        live = top-calls f s (h .newest) (h .callers) (h .live);
+        live = top-calls f s (h .newest) r (h .live);
         routine = k .routine (h .newest) ∙ h .routine;
         failed = k .failed (h .newest) ∙ h .failed;
         result = k .result (h .newest) ∙ h .result;
         goes-to = rw (k .next (h .newest)) (h .goes-to);
-        waiting = h .waiting;
       }
 
   goes-top : (n : ℕ) (s : State) → Among n ways → GoesOn c r ways (s .calls) → GoesOn c r ways (onTop (goTo n) s .calls)
   goes-top n s m h =
       record {
         newest = goTo n (h .newest);
-        callers = h .callers;
-        live = top-calls (goTo n) s (h .newest) (h .callers) (h .live);
+        live = top-calls (goTo n) s (h .newest) r (h .live);
         routine = h .routine;
         failed = h .failed;
         result = h .result;
         goes-to = m;
-        waiting = h .waiting;
       }
 
-  stays-store : (l : Location) (v : ℤ) (s : State) → GoesOn c r ways (s .calls) → GoesOn c r ways (storeAt l v s .calls)
+  stays-store : (l : Location) (v : ℤ) (s : State) → OfDepth (suc (length r)) l → GoesOn c r ways (s .calls) → GoesOn c r ways (storeAt l v s .calls)
   unfolding storeAt onDepth
-  stays-store (moduleSlot k) v s h = h
-  stays-store (callSlot d k) v s h =
+  stays-store l v s (of-module k) h = h
+  stays-store l v s (of-call k) h =
       rw (h .live)
-      (forked (GoesOn c r ways) (eqb d (length (h .newest ∷ h .callers))) _ _
-      (record { newest = setWord k v (h .newest); callers = h .callers; live = refl; routine = h .routine; failed = h .failed; result = h .result; goes-to = h .goes-to; waiting = h .waiting })
-      (record {
-        newest = h .newest;
-        callers = onDepth d (setWord k v) (h .callers);
-        live = refl;
-        routine = h .routine;
-        failed = h .failed;
-        result = h .result;
-        goes-to = h .goes-to;
-        waiting = bare-depth d k v (h .callers) ∙ h .waiting;
-      }))
+      (forked-by (GoesOn c r ways) (eqb (suc (length r)) (suc (length r))) _ _
+      (λ t. record { newest = setWord k v (h .newest); live = refl; routine = h .routine; failed = h .failed; result = h .result; goes-to = h .goes-to })
+      (λ t. absurd (eqb-false (suc (length r)) (suc (length r)) t refl)))
 
 -- ---- the step a of the call c
 module _ (P : Program) (R : Rooms) (c : Call) (r : List Call) (place onward : ℕ) (a : Action) (s : State) (live : s .calls ≡ c ∷ r) where
@@ -175,7 +189,7 @@ module _ (P : Program) (R : Rooms) (c : Call) (r : List Call) (place onward : �
 
   -- The call goes on, perhaps with other words, at a step that is among the ways.
   moves : (n : ℕ) (s′ : State) → Among n ways → Changed R s s′ → Goes s′ → Does (made (onTop (goTo n) s′))
-  moves n s′ m h g = makes (changed-top R s (goTo n) s′ h) (goes-on (goes-top c r ways n s′ m g))
+  moves n s′ m h g = makes (changed-top R s (goTo n) s′ h) (made-move (goes-top c r ways n s′ m g))
 
   -- It goes on after its statement.
   passes-on : (s′ : State) → Changed R s s′ → Goes s′ → Does (made (onTop (goTo onward) s′))
@@ -190,13 +204,16 @@ module _ (P : Program) (R : Rooms) (c : Call) (r : List Call) (place onward : �
   term-done : (M : Memory) (t : Term) (go : ℤ → Effect) → ((z : ℤ) → Does (go z)) → Does (withValue (worth M t) s go)
   term-done M t go f = value-done (worth M t) s go (worth-sound M t) refl unchanged f
 
-  spot-done : (M : Memory) (t : Spot) (go : Location → Effect) → ((l : Location) → Does (go l)) → Does (withSpot M t s go)
+  own-location : (w : Ref) → OfDepth (suc (length r)) (locationOf (length (s .calls)) w)
+  own-location w = rw live (location-of (suc (length r)) w)
+
+  spot-done : (M : Memory) (t : Spot) (go : Location → Effect) → ((l : Location) → OfDepth (suc (length r)) l → Does (go l)) → Does (withSpot M t s go)
   unfolding withSpot
-  spot-done M (scalar w) go f = f _
+  spot-done M (scalar w) go f = f _ (own-location w)
   spot-done M (elementOf w n e) go f = located (locate w n (worth M e)) (locate-sound w n (worth M e) (worth-sound M e))
     where
       located : (l : Located) → SoundPlace l → Does (elim l [ at w ↦ go (locationOf (length (s .calls)) w) | fails e′ ↦ failing e′ s ])
-      located (at w) k = f _
+      located (at w) k = f _ (own-location w)
       located (fails e′) k = fails-with e′ k refl unchanged
 
   values-done : (M : Memory) (es : List Term) (go : List ℤ → Effect) → ((zs : List ℤ) → Does (go zs)) → Does (withValues M es s go)
@@ -223,22 +240,22 @@ module _ (P : Program) (R : Rooms) (c : Call) (r : List Call) (place onward : �
   calling-done : (M : Memory) (callee k : ℕ) (es : List Term) (result : Option Location) → CallsRoutine k a → Callee callee a → Does (calling P R M callee k es result s)
   unfolding calling
   calling-done M callee k es result h w =
-      values-done M es _ (λ args. room-done (ltb (length (s .calls)) (R .depth)) _ 6 callee (no-depth callee w) (λ t. makes (with-calls _ unchanged) (begins k args result h (ap (newCall P k args result ∷_) live))))
+      values-done M es _ (λ args. room-done (ltb (length (s .calls)) (R .depth)) _ 6 callee (no-depth callee w) (λ t. makes (with-calls _ unchanged) (made-call k args result h (ap (newCall P k args result ∷_) live))))
 
-  returning-done : (cs : List Call) (v : Option ℤ) → r ≡ cs → Does (returning P c cs v s)
+  returning-done : (cs : List Call) (v : Option ℤ) → Returns a → r ≡ cs → Does (returning P c cs v s)
   unfolding returning
-  returning-done [] v e = ends 1 returned
-  returning-done (d ∷ older) v e = makes (changed-result R s (c .result) v _ (with-calls _ unchanged)) (returns d older e (bare-result (c .result) v _))
+  returning-done [] v h e = ends 1 returned
+  returning-done (d ∷ older) v h e = makes (changed-result R s (c .result) v _ (with-calls _ unchanged)) (made-return d older h e (bare-result (c .result) v _))
 
   writing-done : (M : Memory) (text : List ℕ) (e : Option Term) → Writes a → Does (writing R M place onward text e s)
   unfolding writing
   writing-done M text none w = adding-done _ _ w (λ h. passes-on _ h stays)
   writing-done M text (some e) w = term-done M e _ (λ z. adding-done _ _ w (λ h. passes-on _ h stays))
 
-  taking-done : (l : Location) (line : List ℕ) → Lacking a place 7 place → Changed R s (withOutput (s .output ++ line) s)
+  taking-done : (l : Location) (line : List ℕ) → OfDepth (suc (length r)) l → Lacking a place 7 place → Changed R s (withOutput (s .output ++ line) s)
       → Does (taking place onward l (drop (s .used) (R .inputs)) (withOutput (s .output ++ line) s))
   unfolding taking
-  taking-done l line w h = taken (drop (s .used) (R .inputs)) refl
+  taking-done l line o w h = taken (drop (s .used) (R .inputs)) refl
     where
       taken : (i : List ℤ) → drop (s .used) (R .inputs) ≡ i → Does (taking place onward l i (withOutput (s .output ++ line) s))
       taken [] e = lacks 7 place w
@@ -246,11 +263,11 @@ module _ (P : Program) (R : Rooms) (c : Call) (r : List Call) (place onward : �
           let left : length (drop (s .used) (R .inputs)) ≡ suc (length rest) = ap length e in
           let lent : s .used < length (R .inputs) = omega (arith, length-drop (s .used) (R .inputs)) in
           let h′ = with-input lent h in
-          value-done (ranged num z) _ _ (ranged-sound num z) refl h′ (λ v. passes-on _ (changed-store R s l v _ h′) (stays-store c r ways l v _ stays))
+          value-done (ranged num z) _ _ (ranged-sound num z) refl h′ (λ v. passes-on _ (changed-store R s l v _ h′) (stays-store c r ways l v _ o stays))
 
   reading-done : (M : Memory) (t : Spot) (text : List ℕ) → Writes a → Lacking a place 7 place → Does (readNum R M place onward t text s)
   unfolding readNum
-  reading-done M t text w v = spot-done M t _ (λ l. adding-done _ _ w (λ h. taking-done l _ v h))
+  reading-done M t text w v = spot-done M t _ (λ l o. adding-done _ _ w (λ h. taking-done l _ o v h))
 
   choosing-done : (M : Memory) (arms : List (Term × ℕ)) (otherwise : ℕ) → ((n : ℕ) → Among n (otherwise ∷ map (λ x. x .1) arms) → Among n ways)
       → Does (choosing M arms otherwise s)
@@ -283,28 +300,28 @@ module _ (P : Program) (R : Rooms) (c : Call) (r : List Call) (place onward : �
 
   list-done : a ≡ endList → Does (ending-list P c r s)
   unfolding ending-list
-  list-done e = chosen-by Does (codeAt P (c .routine) .function) _ _ (λ t. ends 4 (unreturned t e)) (λ t. returning-done r none refl)
+  list-done e = chosen-by Does (codeAt P (c .routine) .function) _ _ (λ t. ends 4 (unreturned t e)) (λ t. returning-done r none (rw e at-its-end) refl)
 
 -- ---- RETRY and TRYNEXT
 module _ (P : Program) (c : Call) (r : List Call) (onward : ℕ) where
-  after-retry : CallsAfter P c r onward retry (retrying c ∷ r)
+  after-retry : CallsMade P c r onward retry (retrying c ∷ r)
   unfolding retrying
   after-retry = by-failed (c .failed) refl
     where
-      by-failed : (f : Option ℕ) → c .failed ≡ f → CallsAfter P c r onward retry (elim f [ none ↦ c | some n ↦ goTo n (setFailed none c) ] ∷ r)
-      by-failed none e = goes-on (stays-here c r _ here)
-      by-failed (some n) e = retries n refl e refl
+      by-failed : (f : Option ℕ) → c .failed ≡ f → CallsMade P c r onward retry (elim f [ none ↦ c | some n ↦ goTo n (setFailed none c) ] ∷ r)
+      by-failed none e = made-move (stays-here c r _ here)
+      by-failed (some n) e = made-retry n refl e refl
 
-  after-tryNext : CallsAfter P c r onward tryNext (tryingNext P c ∷ r)
+  after-tryNext : CallsMade P c r onward tryNext (tryingNext P c ∷ r)
   unfolding tryingNext
   after-tryNext = by-failed (c .failed) refl
     where
-      by-failed : (f : Option ℕ) → c .failed ≡ f → CallsAfter P c r onward tryNext (elim f [ none ↦ c | some n ↦ goTo (stepOf P c n .after) (setFailed none c) ] ∷ r)
-      by-failed none e = goes-on (stays-here c r _ here)
-      by-failed (some n) e = tries-next n refl e refl
+      by-failed : (f : Option ℕ) → c .failed ≡ f → CallsMade P c r onward tryNext (elim f [ none ↦ c | some n ↦ goTo (stepOf P c n .after) (setFailed none c) ] ∷ r)
+      by-failed none e = made-move (stays-here c r _ here)
+      by-failed (some n) e = made-trynext n refl e refl
 
   -- one change of the newest call
-  top-done : (R : Rooms) (place : ℕ) (a : Action) (f : Call → Call) (s : State) → s .calls ≡ c ∷ r → CallsAfter P c r onward a (f c ∷ r) → Performed P R c r place onward a s (made (onTop f s))
+  top-done : (R : Rooms) (place : ℕ) (a : Action) (f : Call → Call) (s : State) → s .calls ≡ c ∷ r → CallsMade P c r onward a (f c ∷ r) → Performed P R c r place onward a s (made (onTop f s))
   top-done R place a f s live h = makes (changed-top R s f s unchanged) (rw (top-calls f s c r live) h)
 
 -- ---- every step
@@ -321,14 +338,14 @@ pub performed : (P : Program) (R : Rooms) (c : Call) (r : List Call) (place onwa
     → Performed P R c r place onward a s (perform P R c r place onward a s)
 unfolding perform waysOf
 performed P R c r place onward (store t e) s live =
-    spot-done P R c r place onward _ s live _ t _ (λ l. term-done P R c r place onward _ s live _ e _ (λ z.
-    passes-on P R c r place onward _ s live _ (changed-store R s l z s unchanged) (stays-store c r _ l z s (stays-live c r _ s live here))))
+    spot-done P R c r place onward _ s live _ t _ (λ l o. term-done P R c r place onward _ s live _ e _ (λ z.
+    passes-on P R c r place onward _ s live _ (changed-store R s l z s unchanged) (stays-store c r _ l z s o (stays-live c r _ s live here))))
 performed P R c r place onward (callFor t callee k es) s live =
-    spot-done P R c r place onward _ s live _ t _ (λ l. calling-done P R c r place onward _ s live _ callee k es (some l) (for-result t callee es) (of-function t k es))
+    spot-done P R c r place onward _ s live _ t _ (λ l o. calling-done P R c r place onward _ s live _ callee k es (some l) (for-result t callee es) (of-function t k es))
 performed P R c r place onward (callOf callee k es) s live = calling-done P R c r place onward _ s live _ callee k es none (for-nothing callee es) (of-procedure k es)
-performed P R c r place onward (giveBack none) s live = returning-done P R c r place onward _ s live r none refl
+performed P R c r place onward (giveBack none) s live = returning-done P R c r place onward _ s live r none (by-return none) refl
 performed P R c r place onward (giveBack (some e)) s live =
-    term-done P R c r place onward _ s live _ e _ (λ z. returning-done P R c r place onward _ s live r (some z) refl)
+    term-done P R c r place onward _ s live _ e _ (λ z. returning-done P R c r place onward _ s live r (some z) (by-return (some e)) refl)
 performed P R c r place onward (raise e) s live = term-done P R c r place onward _ s live _ e _ (λ z. fails-with _ (raised-number z) refl unchanged)
 performed P R c r place onward handOn s live = hands-on refl
 performed P R c r place onward exit s live = ends 2 (exited refl)
@@ -348,3 +365,4 @@ performed P R c r place onward (testWhile e body) s live =
 performed P R c r place onward (enterFor k from to d body) s live = entering-done P R c r place onward _ s live _ k from to d body (there (there here))
 performed P R c r place onward (repeatFor k body) s live = repeating-done P R c r place onward _ s live _ k body (there (there here))
 performed P R c r place onward endList s live = list-done P R c r place onward _ s live refl
+performed P R c r place onward endUndo s live = ends 4 (undo-ended refl)

@@ -1,39 +1,45 @@
 -- Demand 1: the record.
 use mathlib.Core.Path.{_≡_, refl, sym, ap}
-use mathlib.Core.Bool.{Bool, true, false}
-use mathlib.Core.List.{List}
+use mathlib.Core.Bool.{Bool, true, false, _||_}
+use mathlib.Core.List.{List, [], _∷_}
 use mathlib.Core.Option.{Option, none, some}
-use Prim.Native.Nat.{ℕ, _≤_, _<_}
+use Prim.Native.Nat.{ℕ, _+_, _≤_, _<_}
 use native.Mathlib.Omega.{arith}
 use lib.Dec.{eqb}
-use lib.ListN.{length, getD, length-map, List·getD-eq-default}
+use lib.ListN.{length, getD, List·getD-eq-default}
 use borrow.Author.Tests.{lt-ltb, le-ltb, eq-eqb, ne-eqb}
 use Rattle.laws.proofs.Tests.{apart, by-less, by-same}
 use Rattle.paper.specs.Basics.{if_then_else_}
 use Rattle.paper.specs.Sorts.{bytes}
 use Rattle.paper.specs.Words.{textLimit, Word, Refusal, reading}
-use Rattle.paper.specs.Trees.{Module}
+use Rattle.paper.specs.Trees.{Routine, Module}
 use Rattle.paper.specs.Expressions.{Parsed, got, no, startsStatement, startsSimple}
 use Rattle.paper.specs.Form.{formed}
 use Rattle.paper.specs.Names.{Meaning, routineIn, noWord, nth, sortIn}
 use Rattle.paper.specs.Types.{Fault, least}
 use Rattle.paper.specs.Declarations.{moduleWordLimit, Signature, moduleScopes}
 use Rattle.paper.specs.Checks.{faults, isMain, noSignature, mainIn, mainOf}
-use Rattle.paper.specs.Steps.{programOf, codeOf}
+use Rattle.paper.specs.Steps.{Program, programOf}
 use Rattle.paper.specs.States.{Rooms}
 use Rattle.paper.specs.Running.{Ended, run, started}
+use Rattle.paper.specs.Undoing.{Abort, runAbort, runAsked}
 use Rattle.paper.specs.Answer.{Accepted, Verdict, refusedBy, refuse, accepted, offsetOf, judgeMain, judgeModule, judgeForm, judgeReading, verdict, Record, Result, refusedWith, endedWith, ranTo, carriedOut, tooSmall, badDepth, result, Lent, questionOf}
 use Rattle.demands.proofs.Places.{ReadingRefuses, not, too-long, in-text, reading-refuses, words-in-text}
-use Rattle.demands.proofs.Alls.{one-at}
+use Rattle.demands.proofs.Alls.{first-of, rest-of, one-at}
 use Rattle.demands.proofs.Parsing.{Is, by-8, by-9, Reads, SortsOfModule, formed-reads}
 use Rattle.demands.proofs.Faults.{faults-ranked, least-ranked, accepted-words}
 use Rattle.demands.proofs.Routines.{InRange, meaning-in, module-in}
-use Rattle.demands.proofs.Tables.{ProgramFits, program-fits}
-use Rattle.demands.proofs.Growing.{RanTo, ran}
-use Rattle.demands.proofs.Sitting.{EndedAt, by-return, at-word, program-ends}
-use Rattle.demands.specs.Vocabulary.{before-any, EndsWith, at-exit, at-statement, at-list-end, at-next, at-callee, at-read, at-line, by-error, by-endproc, by-endfunc, a-statement, the-end, by-tpwrite, by-tpreadnum, WordAt}
+use Rattle.demands.proofs.Tables.{Known, UndoFits, ModuleFits, module-fits}
+use Rattle.demands.proofs.Apart.{all-apart}
+use Rattle.demands.proofs.Barred.{all-undoable}
+use Rattle.demands.proofs.Growing.{Later, RanAsked, as-lent, as-struck, ran-abort}
+use Rattle.demands.proofs.Sitting.{EndedAt, by-returning, by-abort, at-word, program-ends}
+use Rattle.demands.proofs.Aborted.{run-reaches, struck-ends, abort-ends}
+use Rattle.demands.specs.Vocabulary.{before-any, EndsWith, at-exit, at-statement, at-list-end, at-next, at-callee, at-read, at-line, at-undo, by-error, by-undo, by-end, by-endproc, by-endfunc, a-statement, the-end}
+use Rattle.demands.specs.Vocabulary.{undo-statement, undo-end, by-tpwrite, by-tpreadnum, WordAt, All, nothing, _also_, Reached, at-start}
+use Rattle.demands.specs.Aborts.{ownSteps, undoSteps, Undoable}
 use Rattle.demands.specs.Demands as demands
-use Rattle.demands.specs.Demands.{RefusalAt, EndedRecord, Allowed}
+use Rattle.demands.specs.Demands.{RefusalAt, StepsLent, EndedRecord, Allowed}
 
 -- ---- offsets
 -- Past the last word there is none.
@@ -47,11 +53,16 @@ unfolding startsStatement startsSimple
 no-ending n (at-exit e) = omega arith
 no-ending n (at-statement e) = apart (cc)
 no-ending n (at-list-end (by-error e)) = omega arith
-no-ending n (at-list-end (by-endfunc e)) = omega arith
+no-ending n (at-list-end (by-undo e)) = omega arith
+no-ending n (at-list-end (by-end (by-endfunc e))) = omega arith
 no-ending n (at-next (a-statement e)) = apart (cc)
 no-ending n (at-next (the-end f (by-error e))) = omega arith
-no-ending n (at-next (the-end f (by-endproc e))) = omega arith
-no-ending n (at-next (the-end f (by-endfunc e))) = omega arith
+no-ending n (at-next (the-end f (by-undo e))) = omega arith
+no-ending n (at-next (the-end f (by-end (by-endproc e)))) = omega arith
+no-ending n (at-next (the-end f (by-end (by-endfunc e)))) = omega arith
+no-ending n (at-undo (undo-statement e)) = apart (cc)
+no-ending n (at-undo (undo-end f (by-endproc e))) = omega arith
+no-ending n (at-undo (undo-end f (by-endfunc e))) = omega arith
 no-ending n (at-callee e) = omega arith
 no-ending n (at-read e) = omega arith
 no-ending n (at-line (by-tpwrite e)) = omega arith
@@ -96,8 +107,11 @@ module _ (text : List ℕ) (i : ℕ) where
 -- An accepted module of these words.
 pub record Accepts (W : List Word) (a : Accepted) : Type 0 where
   pub words : a .words ≡ W
-  pub fits : ProgramFits W (a .program)
-  pub main : a .main < length (a .program .routines)
+  pub m : Module
+  pub parsed : formed (sortIn W) ≡ got m
+  pub program : a .program ≡ programOf W m
+  pub fits : ModuleFits W m
+  pub main : a .main < length (m .routines)
   pub size : length (a .program .words) ≤ moduleWordLimit
 
 pub data Judges (text : List ℕ) : Verdict → Type 0 where
@@ -125,40 +139,47 @@ module _ (text : List ℕ) where
   abbrev words : List Word
   words = reading text .words
 
-  main-judges : (m : Module) → SortsOfModule (sortIn words) m → least (faults words m) ≡ none → Judges text (judgeMain words m (mainOf words m))
+  main-judges : (m : Module) → formed (sortIn words) ≡ got m → SortsOfModule (sortIn words) m → least (faults words m) ≡ none → Judges text (judgeMain words m (mainOf words m))
   unfolding judgeMain programOf
-  main-judges m h e = by-main (mainOf words m) refl
+  main-judges m p h e = by-main (mainOf words m) refl
     where
+      undo-fits : (rs : List Routine) → All (λ r. (i : ℕ) → Known (ownSteps words m r) i → Known (undoSteps words m r) i → ⊥) rs → All (λ r. All (λ s. Undoable (s .does)) (undoSteps words m r)) rs → All (UndoFits words m) rs
+      undo-fits [] a u = nothing
+      undo-fits (r ∷ rs) a u = record { apart = first-of a; undoable = first-of u } also undo-fits rs (rest-of a) (rest-of u)
+
       by-main : (o : Option ℕ) → mainOf words m ≡ o → Judges text (judgeMain words m o)
       by-main none q = refuses 18 0 (omega arith) (omega arith) demands.no-main
       by-main (some k) q =
           let below = main-below words m k q in
           accepts (record { words = words; program = programOf words m; main = k }) (record {
             words = refl;
-            fits = program-fits words m (omega arith) (h .routines);
-            main = rw (length-map (m .routines) (codeOf words m)) below;
+            m = m;
+            parsed = p;
+            program = refl;
+            fits = module-fits words m (omega arith) (h .routines) (undo-fits (m .routines) (all-apart words m p) (all-undoable words m e));
+            main = below;
             size = accepted-words words m h e;
           })
 
-  module-judges : (m : Module) → SortsOfModule (sortIn words) m → (o : Option Fault) → least (faults words m) ≡ o → Judges text (judgeModule text words m o)
+  module-judges : (m : Module) → formed (sortIn words) ≡ got m → SortsOfModule (sortIn words) m → (o : Option Fault) → least (faults words m) ≡ o → Judges text (judgeModule text words m o)
   unfolding judgeModule
-  module-judges m h none e = main-judges m h e
-  module-judges m h (some f) e =
+  module-judges m p h none e = main-judges m p h e
+  module-judges m p h (some f) e =
       let k = least-ranked words (faults words m) f (faults-ranked words m h) e in
       refuses (f .number) _ (omega arith) (omega arith) (word-there text (f .at) (f .number) (omega arith) (k .high) (k .there))
 
-  form-judges : (p : Parsed Module) → Reads (sortIn words) (SortsOfModule (sortIn words)) p → Judges text (judgeForm text words p)
+  form-judges : (p : Parsed Module) → formed (sortIn words) ≡ p → Reads (sortIn words) (SortsOfModule (sortIn words)) p → Judges text (judgeForm text words p)
   unfolding judgeForm
-  form-judges (no number i) (by-8 e) = refuses number (offsetOf text words i) (omega arith) (omega arith) (rw e (refusal-8 text i))
-  form-judges (no number i) (by-9 e w) = refuses number (offsetOf text words i) (omega arith) (omega arith) (rw e (word-there text i 9 (omega arith) (omega arith) w))
-  form-judges (got m) h = module-judges m h (least (faults words m)) refl
+  form-judges (no number i) q (by-8 e) = refuses number (offsetOf text words i) (omega arith) (omega arith) (rw e (refusal-8 text i))
+  form-judges (no number i) q (by-9 e w) = refuses number (offsetOf text words i) (omega arith) (omega arith) (rw e (word-there text i 9 (omega arith) (omega arith) w))
+  form-judges (got m) q h = module-judges m q h (least (faults words m)) refl
 
   pub judges : Judges text (verdict text)
   unfolding verdict judgeReading
   judges = by-refusal (reading text .refusal) (reading-refuses text)
     where
       by-refusal : (o : Option Refusal) → ReadingRefuses text o → Judges text (elim o [ some f ↦ refusedBy f | none ↦ judgeForm text words (formed (sortIn words)) ])
-      by-refusal o not = form-judges (formed (sortIn words)) (formed-reads (sortIn words))
+      by-refusal o not = form-judges (formed (sortIn words)) refl (formed-reads (sortIn words))
       by-refusal o (too-long k) = refuses 3 textLimit (omega arith) (omega arith) (demands.too-long k)
       by-refusal o (in-text {f = f} l h p) = refuses (f .number) (f .offset) (omega arith) (omega arith) (demands.in-text (f .number) (f .offset) l h p)
 
@@ -188,34 +209,63 @@ module _ (l : Lent) (a : Accepted) (h : Accepts (reading (l .text) .words) a) wh
   abbrev R : Rooms
   R = record { depth = l .depth; output = length (l .output); inputs = l .inputs }
 
+  abbrev P : Program
+  P = programOf W (h .m)
+
   -- what is left of a run: its offset
-  ended-at : (x : Ended) → EndedAt W x → ¬ (x .ending ≡ 1) → WordAt W (if eqb (x .ending) 1 then 0 else offsetOf (l .text) W (x .place)) (EndsWith (x .ending))
-  ended-at x by-return f = absurd (f refl)
-  ended-at x (at-word {n = n} {place = place} e) f = rw (ne-eqb n 1 f) (ending-word (l .text) W place n e)
+  ended-at : (x : Ended) → EndedAt W x → ¬ (x .ending ≡ 1) → ¬ (x .ending ≡ 9)
+      → WordAt W (if eqb (x .ending) 1 || eqb (x .ending) 9 then 0 else offsetOf (l .text) W (x .place)) (EndsWith (x .ending))
+  ended-at x by-returning f g = absurd (f refl)
+  ended-at x by-abort f g = absurd (g refl)
+  ended-at x (at-word {n = n} {place = place} e) f g = rw (ne-eqb n 1 f, ne-eqb n 9 g) (ending-word (l .text) W place n e)
 
   -- no offset of a run is past the text
   offset-inside-text : (f : Record) → EndedRecord l f → f .offset ≤ length (l .text)
   offset-inside-text f h =
       by-same (f .ending) 1
       (λ e. let z : f .offset ≡ 0 = h .returned e in omega arith)
-      (λ e. let p = word-place (l .text) (f .offset) _ (h .offset e) in omega arith)
+      (λ e. by-same (f .ending) 9
+      (λ k. let z : f .offset ≡ 0 = h .aborted k in omega arith)
+      (λ k. let p = word-place (l .text) (f .offset) _ (h .offset e k) in omega arith))
 
-  ended-record : (x : Ended) → RanTo R (started (a .program) (a .main)) (l .steps) x → EndedAt W x → EndedRecord l (ranTo (l .text) W x .fields)
-  unfolding ranTo endedWith started
-  ended-record x r e =
-      let later = r .later in
+  -- A run that was struck, or was not.
+  ended-record : (x : Ended) (count : ℕ) → 1 ≤ x .ending → x .ending ≤ 10 → Later R (started P (a .main)) count (x .state) → StepsLent l (ranTo (l .text) W x .fields) → EndedAt W x
+      → EndedRecord l (ranTo (l .text) W x .fields)
+  unfolding ranTo endedWith started programOf
+  ended-record x count low high later steps e =
       record {
-        from-1 = r .least;
-        to-8 = r .most;
+        from-1 = low;
+        to-10 = high;
         refusal = refl;
-        steps = omega (arith, later .steps, r .within);
+        steps = steps;
         errno = later .errno (before-any refl);
         output = later .in-room (omega arith);
         inputs = later .in-inputs (omega arith);
-        words = rw (later .words) (h .size);
+        words = rw (later .words) (rw (h .program) at (h .size));
         returned = λ q. rw (eq-eqb (x .ending) 1 q);
+        aborted = λ q. rw (q);
         offset = ended-at x e;
       }
+
+  abbrev ended : Ended
+  ended = runAbort P R (l .steps) (l .asked .abort) (started P (a .main))
+
+  run-record : EndedRecord l (ranTo (l .text) W ended .fields)
+  unfolding ranTo endedWith started
+  run-record = by-case (ran-abort P R (l .steps) (l .asked .abort) (started P (a .main)))
+    where
+      at-end : EndedAt W ended
+      at-end = abort-ends W (h .m) (h .fits) R (a .main) (l .steps) (l .asked .abort) (h .main)
+
+      by-case : RanAsked P R (started P (a .main)) (l .steps) (l .asked .abort) ended → EndedRecord l (ranTo (l .text) W ended .fields)
+      by-case (as-lent r) =
+          ended-record ended (r .count) (r .least) (omega (arith, r .most)) (r .later) (demands.plain (r .most) (omega (arith, r .later .steps, r .within))) at-end
+      by-case (as-struck b e s) =
+          let high = struck-ends W (h .m) (h .fits) R (a .main) (h .main) _ (run-reaches P R (a .main) (b .at) _ at-start (s .would-be-5)) (b .undo) .1 in
+          let seven : 7 ≤ ended .ending = rw (s .is) high in
+          ended-record ended (b .at + s .count) (omega (arith, s .least)) (s .most) (s .later)
+          (demands.struck seven (record { abort = b; given = e; reached = s .reached; least = omega (arith, s .later .steps); most = omega (arith, s .later .steps, s .within) }))
+          at-end
 
 -- What may be said of a record: the tables allow it, and the refusal 1 is none of it.
 pub record Sound (l : Lent) (f : Record) : Type 0 where
@@ -224,17 +274,12 @@ pub record Sound (l : Lent) (f : Record) : Type 0 where
 
 module _ (l : Lent) where
   carried-allowed : (v : Verdict) → Judges (l .text) v → Sound l (carriedOut (questionOf l) v .fields)
-  unfolding carriedOut questionOf refusedWith ranTo endedWith
+  unfolding carriedOut runAsked questionOf refusedWith ranTo endedWith
   carried-allowed v (refuses n offset low high h) =
       record { allowed = refused-allowed l (record { number = n; offset = offset }) (omega arith) high h; not-1 = λ e. omega arith }
   carried-allowed v (accepts a h) =
-      let P = a .program in
-      let rooms = R l a h in
-      let fits : ProgramFits (reading (l .text) .words) P = h .fits in
-      let x = run P rooms (l .steps) (started P (a .main)) in
-      let e : EndedRecord l (ranTo (l .text) (reading (l .text) .words) x .fields) =
-      ended-record l a h x (ran P rooms (l .steps) (started P (a .main))) (program-ends (reading (l .text) .words) P rooms fits (a .main) (l .steps) (h .main)) in
-      rw (h .words)
+      let e : EndedRecord l (ranTo (l .text) (reading (l .text) .words) (ended l a h) .fields) = run-record l a h in
+      rw (h .words, h .program)
       (record {
         allowed = demands.ended (offset-inside-text l a h _ e) e;
         not-1 = λ e. omega arith;

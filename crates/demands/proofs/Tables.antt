@@ -1,13 +1,13 @@
--- The tables of steps: each step stands at a word of its statement's sort, calls a routine of the module, and goes on at a step of its own table.
+-- The tables of steps: each step stands at a word of its statement's sort, calls a routine of the module, and goes on at a step of its own list.
 use mathlib.Core.Path.{_≡_, refl, ap, _∙_}
-use mathlib.Core.Bool.{Bool, true}
+use mathlib.Core.Bool.{Bool, true, false}
 use mathlib.Core.List.{List, [], _∷_, _++_, map}
 use mathlib.Core.Option.{Option, none, some}
-use Prim.Native.Nat.{ℕ, suc, _<_}
+use Prim.Native.Nat.{ℕ, zero, suc, _+_, _<_}
+use native.Mathlib.Omega.{arith}
 use lib.Dec.{eqb}
-use borrow.Author.Tests.{eqb-false}
-use lib.ListN.{length, length-map}
-use lib.IntN.{ℤ}
+use borrow.Author.Tests.{eqb-true, eqb-false}
+use lib.ListN.{length, getD}
 use Rattle.laws.specs.Options.{WhereSome}
 use Rattle.laws.proofs.Tests.{apart}
 use Rattle.paper.specs.Sorts.{NAME, IF, FOR, WHILE, TEST, RETURN, RAISE, EXIT, RETRY, TRYNEXT, TPWRITE, TPREADNUM}
@@ -17,16 +17,18 @@ use Rattle.paper.specs.Trees.{Simple, firstSimple, assign, assignCall, call, re
 use Rattle.paper.specs.Expressions.{startsStatement, startsSimple}
 use Rattle.paper.specs.Names.{sortIn, spelled, enter, Scopes}
 use Rattle.paper.specs.Types.{termOf}
-use Rattle.paper.specs.Declarations.{routineScopes}
+use Rattle.paper.specs.Declarations.{routineData, routineScopes, routineFilling}
+use Rattle.paper.specs.Checks.{isSome, forsInList, forsInOptional}
 use Rattle.paper.specs.Steps.{optionalTerm, conditions, constants, begin, firstWord, firstStep, Action, store, callFor, callOf, giveBack, raise, handOn, exit, retry, tryNext, write, read, choose}
-use Rattle.paper.specs.Steps.{select, testWhile, enterFor, repeatFor, endList, partsOf, Step, step, actionOf, simpleStep, stepsOf, stepsOfList, stepsOfArms, stepsOfCases, Code, Program, listSteps}
+use Rattle.paper.specs.Steps.{select, testWhile, enterFor, repeatFor, endList, endUndo, partsOf, Step, step, actionOf, simpleStep, stepsOf, stepsOfList, stepsOfArms, stepsOfCases, Code, listSteps, optionalSteps, optionalStart}
 use Rattle.paper.specs.Steps.{codeOf, programOf}
-use Rattle.paper.specs.Running.{stepNamed}
+use Rattle.paper.specs.Running.{noCode, codeAt, stepNamed}
 use Rattle.raised.proofs.Choices.{forked, forked-by}
 use Rattle.demands.proofs.Alls.{_and_, first-of, rest-of, front-of, back-of, all-map}
 use Rattle.demands.proofs.Routines.{ScopesIn, meaning-in, routine-in, enter-in, scopes-in}
-use Rattle.demands.proofs.Parsing.{SimpleSorts, Sorts, SortsOfList, SortsOfArms, SortsOfCases, SortsOfRoutineList, SortsOfHandler, SortsOfRoutine}
-use Rattle.demands.specs.Vocabulary.{All, nothing, _also_, Among, here, there, Closes, waysOf}
+use Rattle.demands.proofs.Parsing.{SimpleSorts, Sorts, SortsOfList, SortsOfArms, SortsOfCases, SortsOfRoutineList, SortsOfOptional, SortsOfRoutine}
+use Rattle.demands.specs.Vocabulary.{All, nothing, _also_, Among, here, there, ClosesRoutine, Closes, waysOf}
+use Rattle.demands.specs.Aborts.{ownSteps, undoSteps, routineAt, ownStepsOf, undoStepsOf, Undoable}
 
 module _ (W : List Word) where
   -- A statement begins with the word i.
@@ -36,8 +38,17 @@ module _ (W : List Word) where
   starts-by : (sort i : ℕ) → sortIn W i ≡ sort → startsStatement sort ≡ true → Starts i
   starts-by sort i e h = ap startsStatement e ∙ h
 
--- The steps of a function or of a procedure.
-module _ (W : List Word) (function : Bool) where
+-- What is at the end of a body or an ERROR list is not at that of an UNDO list, nor the reverse.
+abbrev ListEnd : (undo : Bool) → (sort : ℕ) → (function : Bool) → Type 0
+ListEnd true sort function = ⊥
+ListEnd false sort function = Closes sort function
+
+abbrev UndoEnd : (undo : Bool) → (sort : ℕ) → (function : Bool) → Type 0
+UndoEnd true sort function = ClosesRoutine sort function
+UndoEnd false sort function = ⊥
+
+-- The steps of an UNDO list or of another one, of a function or of a procedure.
+module _ (W : List Word) (undo function : Bool) where
   -- A step that does a stands at the word i.
   abbrev pub StandsAt : ℕ → Action → Type 0
   StandsAt i (store t e) = Starts W i
@@ -56,7 +67,8 @@ module _ (W : List Word) (function : Bool) where
   StandsAt i (testWhile e body) = Starts W i
   StandsAt i (enterFor k from to d body) = Starts W i
   StandsAt i (repeatFor k body) = Starts W i
-  StandsAt i endList = Closes (sortIn W i) function
+  StandsAt i endList = ListEnd undo (sortIn W i) function
+  StandsAt i endUndo = UndoEnd undo (sortIn W i) function
 
   abbrev pub Stands : Step → Type 0
   Stands s = StandsAt (s .place) (s .does)
@@ -229,79 +241,135 @@ names-known : (l : List Step) → All (λ s. Known l (s .name)) l
 names-known [] = nothing
 names-known (s ∷ l) = here also all-map (λ x m. there m) (names-known l)
 
-pub known-step : (Q : Step → Type 0) (l : List Step) (i : ℕ) → All Q l → Known l i → Q (stepNamed l i)
+known-step : (Q : Step → Type 0) (l : List Step) (i : ℕ) → All Q l → Known l i → Q (stepNamed l i)
 unfolding stepNamed
 known-step Q (s ∷ l) i h here = forked-by Q (eqb (s .name) (s .name)) _ _ (λ t. first-of h) (λ t. absurd (eqb-false (s .name) (s .name) t refl))
 known-step Q (s ∷ l) i h (there m) = forked Q (eqb (s .name) i) _ _ (first-of h) (known-step Q l i (rest-of h) m)
 
--- ---- routines and the module
--- A routine's code: its lists begin in its table, and each step of the table fits.
-pub record CodeFits (W : List Word) (n : ℕ) (code : Code) : Type 0 where
-  pub start : Known (code .steps) (code .start)
-  pub handler : (h : ℕ) → code .handler ≡ some h → Known (code .steps) h
-  pub steps : All (Fits W (code .function) n (Known (code .steps))) (code .steps)
+-- in the first of two parts of a table; in the second, if its name is none of the first
+pub known-first : (Q : Step → Type 0) (l r : List Step) (i : ℕ) → All Q l → Known l i → Q (stepNamed (l ++ r) i)
+unfolding stepNamed
+known-first Q (s ∷ l) r i h here = forked-by Q (eqb (s .name) (s .name)) _ _ (λ t. first-of h) (λ t. absurd (eqb-false (s .name) (s .name) t refl))
+known-first Q (s ∷ l) r i h (there m) = forked Q (eqb (s .name) i) _ _ (first-of h) (known-first Q l r i (rest-of h) m)
 
-module _ (W : List Word) where
-  module _ (function : Bool) (n : ℕ) (N : ℕ → Type 0) (some-routine : 0 < n) (M : Memory) (S : Scopes) (c : ScopesIn n S) (k : ℕ) (l : RoutineList) where
-    closing-named : All (Named W function n N) (listSteps W M S k l) → N (l .closes)
+pub known-second : (Q : Step → Type 0) (l r : List Step) (i : ℕ) → (Known l i → ⊥) → All Q r → Known r i → Q (stepNamed (l ++ r) i)
+unfolding stepNamed
+known-second Q [] r i f h m = known-step Q r i h m
+known-second Q (s ∷ l) r i f h m =
+    forked-by Q (eqb (s .name) i) _ _
+    (λ t. absurd (f (rw (← eqb-true (s .name) i t) here)))
+    (λ t. known-second Q l r i (λ k. f (there k)) h m)
+
+-- ---- routines and the module
+-- A routine's code: its table has the steps of its body and ERROR list, then those of its UNDO list. Its lists begin in their parts, and each step goes on in its own.
+pub record CodeFits (W : List Word) (n : ℕ) (own undoing : List Step) (code : Code) : Type 0 where
+  pub table : code .steps ≡ own ++ undoing
+  pub start : Known own (code .start)
+  pub handler : (h : ℕ) → code .handler ≡ some h → Known own h
+  pub undo : (u : ℕ) → code .undo ≡ some u → Known undoing u
+  pub own-fit : All (Fits W false (code .function) n (Known own)) own
+  pub undo-fit : All (Fits W true (code .function) n (Known undoing)) undoing
+  -- no name is in both
+  pub apart : (i : ℕ) → Known own i → Known undoing i → ⊥
+  -- rule 17
+  pub undoable : All (λ s. Undoable (s .does)) undoing
+
+-- Lists that all end with one action: what closes them is such.
+module _ (W : List Word) (undo function : Bool) (n : ℕ) (N : ℕ → Type 0) (some-routine : 0 < n) (M : Memory) (S : Scopes) (c : ScopesIn n S)
+    (end : Action) (closing : ℕ → Type 0) (stands : (i : ℕ) → closing (sortIn W i) → StandsAt W undo function i end) (calls : CallsIn W undo function n N end) (ways : All N (waysOf end)) where
+  abbrev NamedAll : List Step → Type 0
+  NamedAll l = All (Named W undo function n N) l
+
+  module _ (k : ℕ) (l : RoutineList) where
+    closing-named : NamedAll (listSteps W end M S k l) → N (l .closes)
     unfolding listSteps step
     closing-named g = first-of (back-of (stepsOfList W M (l .statements) S k [] (l .closes)) _ g)
 
-    first-step-named : All (Named W function n N) (listSteps W M S k l) → N (firstStep W l)
+    first-step-named : NamedAll (listSteps W end M S k l) → N (firstStep W l)
     unfolding listSteps firstStep
     first-step-named g =
-        begin-named W function n N some-routine M (l .statements) S k [] (l .closes) (closing-named g) (front-of (stepsOfList W M (l .statements) S k [] (l .closes)) _ g)
+        begin-named W undo function n N some-routine M (l .statements) S k [] (l .closes) (closing-named g) (front-of (stepsOfList W M (l .statements) S k [] (l .closes)) _ g)
 
-    routine-list-fits : SortsOfRoutineList (sortIn W) function l → All (Named W function n N) (listSteps W M S k l) → All (Fits W function n N) (listSteps W M S k l)
-    unfolding listSteps waysOf
+    routine-list-fits : SortsOfRoutineList (sortIn W) closing l → NamedAll (listSteps W end M S k l) → All (Fits W undo function n N) (listSteps W end M S k l)
+    unfolding listSteps
     routine-list-fits h g =
         let f = closing-named g in
-        list-fits W function n N some-routine M (l .statements) S k [] (l .closes) (h .statements) c f (front-of (stepsOfList W M (l .statements) S k [] (l .closes)) _ g)
-        and one-step W function n N some-routine (l .closes) [] (l .closes) endList (h .closes) tt f nothing
+        list-fits W undo function n N some-routine M (l .statements) S k [] (l .closes) (h .statements) c f (front-of (stepsOfList W M (l .statements) S k [] (l .closes)) _ g)
+        and one-step W undo function n N some-routine (l .closes) [] (l .closes) end (stands (l .closes) (h .closes)) calls f ways
 
-  -- a routine's two lists, in one table
-  lists-fit : (n : ℕ) → 0 < n → (M : Memory) (S : Scopes) → ScopesIn n S → (k j : ℕ) (body : RoutineList) (o : Option RoutineList) (function : Bool) (words : List ℤ) (fors : ℕ)
-      → SortsOfRoutineList (sortIn W) function body → SortsOfHandler (sortIn W) function o
-      → CodeFits W n (record {
-        function = function;
-        words = words;
-        fors = fors;
-        steps = listSteps W M S k body ++ elim o [ none ↦ [] | some l ↦ listSteps W M S j l ];
-        start = firstStep W body;
-        handler = elim o [ none ↦ none | some l ↦ some (firstStep W l) ];
-      })
-  lists-fit n z M S c k j body none function words fors h g =
-      let A = listSteps W M S k body in
-      let N = Known (A ++ []) in
-      let names = front-of A [] (names-known (A ++ [])) in
-      record { start = first-step-named function n N z M S c k body names; handler = λ i e. apart (cc); steps = routine-list-fits function n N z M S c k body h names and nothing }
-  lists-fit n z M S c k j body (some l) function words fors h g =
-      let A = listSteps W M S k body in
-      let B = listSteps W M S j l in
+  -- a list that a routine may have or not
+  optional-start-named : (k : ℕ) (o : Option RoutineList) (i : ℕ) → NamedAll (optionalSteps W end M S k o) → optionalStart W o ≡ some i → N i
+  unfolding optionalSteps optionalStart
+  optional-start-named k none i g e = apart (cc)
+  optional-start-named k (some l) i g e =
+      let q : firstStep W l ≡ i = cc in
+      rw q at (first-step-named k l g)
+
+  optional-fits : (k : ℕ) (o : Option RoutineList) → SortsOfOptional (sortIn W) closing o → NamedAll (optionalSteps W end M S k o) → All (Fits W undo function n N) (optionalSteps W end M S k o)
+  unfolding optionalSteps
+  optional-fits k none h g = nothing
+  optional-fits k (some l) h g = routine-list-fits k l h g
+
+module _ (W : List Word) (m : Module) where
+  abbrev count : ℕ
+  count = length (m .routines)
+
+  -- No name of a step of a routine's UNDO list is one of its other steps', and none of its actions is barred.
+  pub record UndoFits (r : Routine) : Type 0 where
+    pub apart : (i : ℕ) → Known (ownSteps W m r) i → Known (undoSteps W m r) i → ⊥
+    pub undoable : All (λ s. Undoable (s .does)) (undoSteps W m r)
+
+  code-fits : (r : Routine) → 0 < count → SortsOfRoutine (sortIn W) r → UndoFits r → CodeFits W count (ownSteps W m r) (undoSteps W m r) (codeOf W m r)
+  unfolding codeOf ownSteps undoSteps waysOf
+  code-fits r z h u =
+      let S = routineScopes W m r in
+      let words = routineData W m r .words in
+      let M = routineFilling W m .memoryWith words in
+      let A = listSteps W endList M S (length words) (r .body) in
+      let B = optionalSteps W endList M S (length words + forsInList (r .body .statements)) (r .handler) in
+      let U = optionalSteps W endUndo M S (length words + forsInList (r .body .statements) + forsInOptional (r .handler)) (r .undo) in
       let N = Known (A ++ B) in
+      let f = isSome (r .result) in
       let front = front-of A B (names-known (A ++ B)) in
       let back = back-of A B (names-known (A ++ B)) in
+      let closes : ℕ → Type 0 = λ s. Closes s f in
+      let closes-routine : ℕ → Type 0 = λ s. ClosesRoutine s f in
       record {
-        start = first-step-named function n N z M S c k body front;
-        handler = λ i e. let q : firstStep W l ≡ i = cc in rw q at (first-step-named function n N z M S c j l back);
-        steps = routine-list-fits function n N z M S c k body h front and routine-list-fits function n N z M S c j l g back;
+        table = refl;
+        start = first-step-named W false f count N z M S (scopes-in W m r) endList closes (λ i k. k) tt nothing (length words) (r .body) front;
+        handler = λ i e. optional-start-named W false f count N z M S (scopes-in W m r) endList closes (λ i k. k) tt nothing _ (r .handler) i back e;
+        undo = λ i e. optional-start-named W true f count (Known U) z M S (scopes-in W m r) endUndo closes-routine (λ i k. k) tt nothing _ (r .undo) i (names-known U) e;
+        own-fit =
+            routine-list-fits W false f count N z M S (scopes-in W m r) endList closes (λ i k. k) tt nothing (length words) (r .body) (h .body) front
+            and optional-fits W false f count N z M S (scopes-in W m r) endList closes (λ i k. k) tt nothing _ (r .handler) (h .handler) back;
+        undo-fit = optional-fits W true f count (Known U) z M S (scopes-in W m r) endUndo closes-routine (λ i k. k) tt nothing _ (r .undo) (h .undo) (names-known U);
+        apart = u .apart;
+        undoable = u .undoable;
       }
 
-  code-fits : (m : Module) (r : Routine) → 0 < length (m .routines) → SortsOfRoutine (sortIn W) r → CodeFits W (length (m .routines)) (codeOf W m r)
-  unfolding codeOf
-  code-fits m r z h = lists-fit (length (m .routines)) z _ (routineScopes W m r) (scopes-in W m r) _ _ (r .body) (r .handler) _ _ _ (h .body) (h .handler)
+  -- A module ready to run.
+  pub record ModuleFits : Type 0 where
+    pub some-routine : 0 < count
+    pub codes : All (λ r. CodeFits W count (ownSteps W m r) (undoSteps W m r) (codeOf W m r)) (m .routines)
 
-  codes-fit : (m : Module) (rs : List Routine) → 0 < length (m .routines) → All (SortsOfRoutine (sortIn W)) rs → All (CodeFits W (length (m .routines))) (map (codeOf W m) rs)
-  codes-fit m [] z h = nothing
-  codes-fit m (r ∷ rs) z h = code-fits m r z (first-of h) also codes-fit m rs z (rest-of h)
+  pub module-fits : 0 < count → All (SortsOfRoutine (sortIn W)) (m .routines) → All UndoFits (m .routines) → ModuleFits
+  module-fits z h u = record { some-routine = z; codes = both (m .routines) h u }
+    where
+      both : (rs : List Routine) → All (SortsOfRoutine (sortIn W)) rs → All UndoFits rs → All (λ r. CodeFits W count (ownSteps W m r) (undoSteps W m r) (codeOf W m r)) rs
+      both [] h u = nothing
+      both (r ∷ rs) h u = code-fits r z (first-of h) (first-of u) also both rs (rest-of h) (rest-of u)
 
--- A module ready to run.
-pub record ProgramFits (W : List Word) (P : Program) : Type 0 where
-  pub some-routine : 0 < length (P .routines)
-  pub codes : All (CodeFits W (length (P .routines))) (P .routines)
+  -- the code of routine k
+  abbrev stepsBy : (Routine → List Step) → Option Routine → List Step
+  stepsBy f o = elim o [ none ↦ [] | some r ↦ f r ]
 
-pub program-fits : (W : List Word) (m : Module) → 0 < length (m .routines) → All (SortsOfRoutine (sortIn W)) (m .routines) → ProgramFits W (programOf W m)
-unfolding programOf
-program-fits W m z h =
-    let e : length (map (codeOf W m) (m .routines)) ≡ length (m .routines) = length-map (m .routines) (codeOf W m) in
-    record { some-routine = rw e z; codes = rw e (codes-fit W m (m .routines) z h) }
+  code-among : (rs : List Routine) (k : ℕ) → All (λ r. CodeFits W count (ownSteps W m r) (undoSteps W m r) (codeOf W m r)) rs → k < length rs
+      → CodeFits W count (stepsBy (ownSteps W m) (routineAt rs k)) (stepsBy (undoSteps W m) (routineAt rs k)) (getD (map (codeOf W m) rs) k noCode)
+  unfolding routineAt
+  code-among [] k a g = absurd (omega arith)
+  code-among (r ∷ rs) zero a g = first-of a
+  code-among (r ∷ rs) (suc k) a g = code-among rs k (rest-of a) (omega arith)
+
+  pub code-at : ModuleFits → (k : ℕ) → k < count → CodeFits W count (ownStepsOf W m k) (undoStepsOf W m k) (codeAt (programOf W m) k)
+  unfolding codeAt programOf ownStepsOf undoStepsOf
+  code-at fits k h = code-among (m .routines) k (fits .codes) h

@@ -20,6 +20,7 @@ use Rattle.paper.specs.Declarations.{moduleWordLimit}
 use Rattle.paper.specs.Steps.{retry, tryNext, enterFor, Program}
 use Rattle.paper.specs.States.{Loop, Location, Call, State, Rooms, failing, withCalls, withErrno, counted, goTo, setWord, setLoop, setFailed, onTop, memoryOf}
 use Rattle.paper.specs.Running.{stepOf, nextStep, newCall, passes, countingStep, takeStep, goesOn, stopping}
+use Rattle.paper.specs.Undoing.{Abort, Asked}
 use Rattle.paper.specs.Answer.{storeWords, depthLimit, recordSize, Record, recordBytes, Lent, Answer, answer, LentBytes, BytesAnswer, lentOf, pendantCall}
 use Rattle.demands.specs.Vocabulary.{Begins, All, IsByte, fieldIn, Errno, EndsWith, WordAt, effectOf, CallsRoutine, Waits, Taken, CallsAfter, Reached, Leads}
 
@@ -50,19 +51,33 @@ pub record RefusedRecord (l : Lent) (f : Record) : Type 0 where
   pub inputs : f .inputs ≡ 0
   pub words : f .words ≡ 0
 
--- Ended with 1 to 8: nothing is used that was not lent.
+-- A run that was given K, and that K has struck: its allowance is at least K, it has made K steps, and then at most so many UNDO steps as were allowed.
+pub record Struck (l : Lent) (f : Record) : Type 0 where
+  pub abort : Abort
+  pub given : l .asked .abort ≡ some abort
+  pub reached : abort .at ≤ l .steps
+  pub least : abort .at ≤ f .steps
+  pub most : f .steps ≤ abort .at + abort .undo
+
+-- "The step field counts UNDO steps too." 9 and 10 end a run that was struck, 1 to 6 one that was not, 7 and 8 either.
+pub data StepsLent (l : Lent) (f : Record) : Type 0 where
+  plain : f .ending ≤ 8 → f .steps ≤ l .steps → StepsLent l f
+  struck : 7 ≤ f .ending → Struck l f → StepsLent l f
+
+-- Ended with 1 to 10: nothing is used that was not lent.
 pub record EndedRecord (l : Lent) (f : Record) : Type 0 where
   pub from-1 : 1 ≤ f .ending
-  pub to-8 : f .ending ≤ 8
+  pub to-10 : f .ending ≤ 10
   pub refusal : f .refusal ≡ 0
-  pub steps : f .steps ≤ l .steps
+  pub steps : StepsLent l f
   pub errno : Errno (f .errno)
   pub output : f .output ≤ length (l .output)
   pub inputs : f .inputs ≤ length (l .inputs)
   pub words : f .words ≤ moduleWordLimit
-  -- "1: main returned: 0"; 2 to 8: the word that the table names
+  -- "1: main returned: 0", "9: aborted, offset 0"; 2 to 8 and 10: the word that the table names
   pub returned : f .ending ≡ 1 → f .offset ≡ 0
-  pub offset : ¬ (f .ending ≡ 1) → WordAt (reading (l .text) .words) (f .offset) (EndsWith (f .ending))
+  pub aborted : f .ending ≡ 9 → f .offset ≡ 0
+  pub offset : ¬ (f .ending ≡ 1) → ¬ (f .ending ≡ 9) → WordAt (reading (l .text) .words) (f .offset) (EndsWith (f .ending))
 
 -- No offset is past the text.
 pub data Allowed (l : Lent) (f : Record) : Type 0 where
@@ -131,6 +146,11 @@ pub record InsideBounds (l : Lent) : Type 0 where
   pub deep : 1 ≤ l .depth
   pub not-too-deep : l .depth ≤ depthLimit
 
+-- "Demand 3 then reads for equal K, with an UNDO allowance that may grow": both runs are given K, the same, or neither is.
+pub data SameK : (first second : Option Abort) → Type 0 where
+  without : SameK none none
+  with-equal : {a b : Abort} → a .at ≡ b .at → a .undo ≤ b .undo → SameK (some a) (some b)
+
 -- "One text and two runs, both with stores and call depth inside the paper's bounds, the second lent at least as many steps, as much depth and output room, and
 -- an input list that begins with the first one's."
 pub record MoreRoom (first second : Lent) : Type 0 where
@@ -141,6 +161,7 @@ pub record MoreRoom (first second : Lent) : Type 0 where
   pub depth : first .depth ≤ second .depth
   pub output : length (first .output) ≤ length (second .output)
   pub inputs : Begins (first .inputs) (second .inputs)
+  pub asked : SameK (first .asked .abort) (second .asked .abort)
 
 -- What an answer tells: its record, and of it the ending, the steps and the inputs used; the module data; the output.
 pub record Told (Fields Datum : Type 0) : Type 0 where
@@ -167,12 +188,21 @@ pub record BrokeOff {F D : Type 0} (first second : Told F D) : Type 0 where
   pub steps : first .steps ≤ second .steps
   pub inputs : first .inputs ≤ second .inputs
 
+-- "endings 1 to 4 and 9 are final": the others are of a run that broke off.
+pub data Final : (ending : ℕ) → Type 0 where
+  came-to-an-end : {n : ℕ} → 1 ≤ n → n ≤ 4 → Final n
+  was-aborted : {n : ℕ} → n ≡ 9 → Final n
+
+pub data Breaks : (ending : ℕ) → Type 0 where
+  lacked-room : {n : ℕ} → 5 ≤ n → n ≤ 8 → Breaks n
+  lacked-undo-steps : {n : ℕ} → n ≡ 10 → Breaks n
+
 pub record NeverChanged {F D : Type 0} (first second : Told F D) : Type 0 where
   pub refused : RefusedAlike first second
   -- "If the first ended with 1, 2, 3 or 4: the second has the same record, module data and output."
-  pub finished : 1 ≤ first .ending → first .ending ≤ 4 → first ≡ second
+  pub finished : Final (first .ending) → first ≡ second
   -- "If the first ended with 5, 6, 7 or 8: [..]"
-  pub broke-off : 5 ≤ first .ending → first .ending ≤ 8 → BrokeOff first second
+  pub broke-off : Breaks (first .ending) → BrokeOff first second
 
 unfoldable pub Demand3 : Type 0
 Demand3 = (first second : Lent) → MoreRoom first second → NeverChanged (told (answer first)) (told (answer second))
@@ -189,10 +219,15 @@ toldInBytes b =
       output = take (fieldIn 5 (b .fields)) (b .output);
     }
 
+-- The UNDO steps that are allowed.
+unfoldable pub undoAllowed : Option Abort → ℕ
+undoAllowed none = 0
+undoAllowed (some a) = a .undo
+
 -- What both are lent is counted in 64 bits: steps, bytes of output, inputs.
 pub record CountedIn64 (l : LentBytes) : Type 0 where
   pub record-lent : recordSize ≤ length (l .fields)
-  pub steps : l .steps < 2 ^ 64
+  pub steps : l .steps + undoAllowed (l .asked .abort) < 2 ^ 64
   pub output : length (l .output) < 2 ^ 64
   pub inputs : length (l .inputs) < 2 ^ 64
 

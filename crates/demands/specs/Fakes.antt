@@ -1,5 +1,5 @@
 -- Demand 2: "a bench that refuses every module, gives all the same record, touches no output or data, runs the first statement and fakes the others, or invents
--- its step count": the definition shuts out all of these.
+-- its step count": the definition shuts out all of these. And, of request 6, one that does not heed K.
 use mathlib.Core.Path.{_≡_}
 use mathlib.Core.List.{List, [], _++_}
 use mathlib.Core.Option.{Option, none}
@@ -10,6 +10,7 @@ use Rattle.paper.specs.Sorts.{bytes}
 use Rattle.paper.specs.Terms.{Term}
 use Rattle.paper.specs.Steps.{Spot, Action, store, write, Step}
 use Rattle.paper.specs.Running.{nextStep, newCall}
+use Rattle.paper.specs.Undoing.{Asked, plainly}
 use Rattle.paper.specs.Answer.{Accepted, Verdict, refusedBy, accepted, offsetOf, verdict, Record, Lent, Answer, answer}
 
 -- A bench answers what is lent, somehow.
@@ -19,15 +20,18 @@ Bench = Lent → Answer
 abbrev pub AnswersAsDefined : Bench → Type 0
 AnswersAsDefined bench = (l : Lent) → bench l ≡ answer l
 
--- ---- the same call with another text, allowance or inputs; the same answer with another record, step count, output or value store
+-- ---- the same call with another text, allowance, inputs or K; the same answer with another record, step count, output or value store
 abbrev pub withText : List ℕ → Lent → Lent
-withText text l = record { text = text; steps = l .steps; depth = l .depth; inputs = l .inputs; output = l .output; code = l .code; values = l .values }
+withText text l = record { text = text; steps = l .steps; depth = l .depth; inputs = l .inputs; output = l .output; code = l .code; values = l .values; asked = l .asked }
 
 abbrev pub withSteps : ℕ → Lent → Lent
-withSteps steps l = record { text = l .text; steps = steps; depth = l .depth; inputs = l .inputs; output = l .output; code = l .code; values = l .values }
+withSteps steps l = record { text = l .text; steps = steps; depth = l .depth; inputs = l .inputs; output = l .output; code = l .code; values = l .values; asked = l .asked }
 
 abbrev pub withInputs : List ℤ → Lent → Lent
-withInputs inputs l = record { text = l .text; steps = l .steps; depth = l .depth; inputs = inputs; output = l .output; code = l .code; values = l .values }
+withInputs inputs l = record { text = l .text; steps = l .steps; depth = l .depth; inputs = inputs; output = l .output; code = l .code; values = l .values; asked = l .asked }
+
+abbrev pub withAsked : Asked → Lent → Lent
+withAsked asked l = record { text = l .text; steps = l .steps; depth = l .depth; inputs = l .inputs; output = l .output; code = l .code; values = l .values; asked = asked }
 
 abbrev pub withRecord : Record → Answer → Answer
 withRecord f a = record { fields = f; output = a .output; code = a .code; values = a .values }
@@ -121,8 +125,12 @@ FakesWhatIsRead bench =
 unfoldable pub returned : Record → Record
 returned f = record { ending = 1; refusal = 0; offset = 0; steps = f .steps; errno = f .errno; output = f .output; inputs = f .inputs; words = f .words }
 
+-- A run of one step, without K.
+abbrev pub oneStep : Lent → Lent
+oneStep l = withSteps 1 (withAsked plainly l)
+
 unfoldable pub pretender : Bench
-pretender l = let a = answer (withSteps 1 l) in withRecord (returned (a .fields)) a
+pretender l = let a = answer (oneStep l) in withRecord (returned (a .fields)) a
 
 -- ---- "invents its step count"
 -- Where other numbers are read and all else that is answered is the same, the step count is too: it is made up from what else there is to see.
@@ -134,6 +142,15 @@ InventsSteps bench =
 -- It says that all steps are spent.
 unfoldable pub inventor : Bench
 inventor l = withCount (l .steps) (answer l)
+
+-- ---- request 6: "A run takes an optional step number K and an UNDO allowance"
+-- The ending does not depend on K, nor on whether K is given.
+unfoldable pub IgnoresK : Bench → Type 0
+IgnoresK bench = (l : Lent) (asked : Asked) → bench (withAsked asked l) .fields .ending ≡ bench l .fields .ending
+
+-- It runs every module without K.
+unfoldable pub deaf : Bench
+deaf l = answer (withAsked plainly l)
 
 -- ---- the demand
 -- The properties are general: each bench that is a fake in the plain sense of the paper's words has its property.
@@ -148,9 +165,11 @@ pub record HasWhatItShould (bench : Bench) : Type 0 where
   -- of a module, it reads no more than main's first statement and what stands before it
   pub fakes-what-follows : (f : List ℕ → Lent → Record) → ((l : Lent) (m : Accepted) → verdict (l .text) ≡ accepted m → bench l .fields ≡ f (upToSecond (l .text) m) (withText [] l)) → FakesWhatFollows bench
   -- it takes one step, and makes up its record from the text and what it has then
-  pub fakes-what-is-read : (f : List ℕ → Answer → Record) → ((l : Lent) → bench l .fields ≡ f (l .text) (answer (withSteps 1 l))) → FakesWhatIsRead bench
+  pub fakes-what-is-read : (f : List ℕ → Answer → Record) → ((l : Lent) → bench l .fields ≡ f (l .text) (answer (oneStep l))) → FakesWhatIsRead bench
   -- it makes up its step count from the text, the allowance and the output
   pub invents-steps : (f : List ℕ → ℕ → List ℕ → ℕ) → ((l : Lent) → bench l .fields .steps ≡ f (l .text) (l .steps) (bench l .output)) → InventsSteps bench
+  -- its answer is made up from what is lent, without K
+  pub ignores-k : (f : Lent → Answer) → ((l : Lent) → bench l ≡ f (withAsked plainly l)) → IgnoresK bench
 
 -- There is a bench with the property, and none with it answers as the definition does.
 pub record ShutOut (Fake : Bench → Type 0) (example : Bench) : Type 0 where
@@ -166,3 +185,4 @@ pub record Demand2 : Type 0 where
   pub fakes-what-follows : ShutOut FakesWhatFollows skipper
   pub fakes-what-is-read : ShutOut FakesWhatIsRead pretender
   pub invents-steps : ShutOut InventsSteps inventor
+  pub ignores-k : ShutOut IgnoresK deaf

@@ -6,12 +6,12 @@ use mathlib.Core.Option.{Option, none, some}
 use Prim.Native.Nat.{ℕ, _+_, _*_, _≤_, _<_}
 use lib.IntN.{ℤ}
 use lib.ListN.{length, take, drop}
-use Rattle.paper.specs.Sorts.{NAME, ERROR, EXIT, ENDPROC, ENDFUNC, TPWRITE, TPREADNUM}
+use Rattle.paper.specs.Sorts.{NAME, ERROR, EXIT, ENDPROC, ENDFUNC, TPWRITE, TPREADNUM, UNDO}
 use Rattle.paper.specs.Words.{Word}
 use Rattle.paper.specs.Expressions.{startsStatement}
 use Rattle.paper.specs.Names.{nth, sortIn}
 use Rattle.paper.specs.Terms.{Term}
-use Rattle.paper.specs.Steps.{Spot, Action, callFor, callOf, handOn, retry, tryNext, partsOf, Program}
+use Rattle.paper.specs.Steps.{Spot, Action, callFor, callOf, giveBack, handOn, retry, tryNext, endList, partsOf, Program}
 use Rattle.paper.specs.States.{Location, Call, State, Rooms, Effect, goTo, setFailed}
 use Rattle.paper.specs.Running.{codeAt, stepOf, nextStep, newCall, resume, takes, perform, goesOn, takeStep, started}
 
@@ -54,11 +54,16 @@ unfoldable pub fieldIn : ℕ → List ℕ → ℕ
 fieldIn i bytes = number (take 8 (drop (8 * i) bytes))
 
 -- ---- words
--- "the word that closes the list": ERROR, or else ENDPROC in a PROC and ENDFUNC in a FUNC.
-pub data Closes (sort : ℕ) : (function : Bool) → Type 0 where
-  by-error : {function : Bool} → sort ≡ ERROR → Closes sort function
-  by-endproc : sort ≡ ENDPROC → Closes sort false
-  by-endfunc : sort ≡ ENDFUNC → Closes sort true
+-- The word that closes a routine: ENDPROC in a PROC and ENDFUNC in a FUNC. It closes an UNDO list, which is a routine's last.
+pub data ClosesRoutine (sort : ℕ) : (function : Bool) → Type 0 where
+  by-endproc : sort ≡ ENDPROC → ClosesRoutine sort false
+  by-endfunc : sort ≡ ENDFUNC → ClosesRoutine sort true
+
+-- "the word that closes the list", of a body or an ERROR list: ERROR, UNDO, or else the word that closes the routine.
+pub data Closes (sort : ℕ) (function : Bool) : Type 0 where
+  by-error : sort ≡ ERROR → Closes sort function
+  by-undo : sort ≡ UNDO → Closes sort function
+  by-end : ClosesRoutine sort function → Closes sort function
 
 -- TPWrite and TPReadNum write a line.
 pub data WritesLine (sort : ℕ) : Type 0 where
@@ -69,6 +74,11 @@ pub data WritesLine (sort : ℕ) : Type 0 where
 pub data Next (sort : ℕ) : Type 0 where
   a-statement : startsStatement sort ≡ true → Next sort
   the-end : (function : Bool) → Closes sort function → Next sort
+
+-- The same of the next step of an UNDO list.
+pub data NextUndo (sort : ℕ) : Type 0 where
+  undo-statement : startsStatement sort ≡ true → NextUndo sort
+  undo-end : (function : Bool) → ClosesRoutine sort function → NextUndo sort
 
 -- The table of endings: the sort of the word at the offset.
 pub data EndsWith : (ending sort : ℕ) → Type 0 where
@@ -86,6 +96,8 @@ pub data EndsWith : (ending sort : ℕ) → Type 0 where
   at-read : {s : ℕ} → s ≡ TPREADNUM → EndsWith 7 s
   -- "8: a whole line lacks output room: statement"
   at-line : {s : ℕ} → WritesLine s → EndsWith 8 s
+  -- "spent UNDO steps give 10, at the next step's place"
+  at-undo : {s : ℕ} → NextUndo s → EndsWith 10 s
 
 -- At an offset there is a word of W, of such a sort.
 pub record WordAt (W : List Word) (offset : ℕ) (such : ℕ → Type 0) : Type 0 where
@@ -107,6 +119,11 @@ effectOf P R c r s = perform P R c r (nextStep P c .place) (nextStep P c .after)
 pub data CallsRoutine (k : ℕ) : Action → Type 0 where
   for-result : (t : Spot) (callee : ℕ) (es : List Term) → CallsRoutine k (callFor t callee k es)
   for-nothing : (callee : ℕ) (es : List Term) → CallsRoutine k (callOf callee k es)
+
+-- The step returns: a RETURN, or the end of a list.
+pub data Returns : Action → Type 0 where
+  by-return : (e : Option Term) → Returns (giveBack e)
+  at-its-end : Returns endList
 
 -- A call waits for a call that it has made: its next step is that call statement.
 pub record Waits (P : Program) (c : Call) : Type 0 where
@@ -132,16 +149,14 @@ pub record Taken (P : Program) (before after : List Call) : Type 0 where
 unfoldable pub waysOf : Action → List ℕ
 waysOf a = partsOf a .ways
 
--- The newest call goes on in its routine; its callers are as they were, but that a word of theirs may have been stored.
+-- The newest call goes on in its routine; its callers are as they were.
 pub record GoesOn (c : Call) (r : List Call) (ways : List ℕ) (after : List Call) : Type 0 where
   pub newest : Call
-  pub callers : List Call
-  pub live : after ≡ newest ∷ callers
+  pub live : after ≡ newest ∷ r
   pub routine : newest .routine ≡ c .routine
   pub failed : newest .failed ≡ c .failed
   pub result : newest .result ≡ c .result
   pub goes-to : Among (newest .next) ways
-  pub waiting : map bare callers ≡ map bare r
 
 -- What a step can do to the live calls: c is the newest one, whose step it is, r are its callers, `after` are live then. `onward` is the step after its statement.
 pub data CallsAfter (P : Program) (c : Call) (r : List Call) (onward : ℕ) (does : Action) (after : List Call) : Type 0 where
@@ -149,7 +164,7 @@ pub data CallsAfter (P : Program) (c : Call) (r : List Call) (onward : ℕ) (doe
   -- a call statement begins a new call
   begins : (k : ℕ) (arguments : List ℤ) (result : Option Location) → CallsRoutine k does → after ≡ newCall P k arguments result ∷ c ∷ r → CallsAfter P c r onward does after
   -- it returns: its caller goes on after the call
-  returns : (d : Call) (older : List Call) → r ≡ d ∷ older → map bare after ≡ map bare (resume P d ∷ older) → CallsAfter P c r onward does after
+  returns : (d : Call) (older : List Call) → Returns does → r ≡ d ∷ older → map bare after ≡ map bare (resume P d ∷ older) → CallsAfter P c r onward does after
   -- "RETRY begins the failed statement of this routine again; TRYNEXT goes to the one after it."
   retries : (f : ℕ) → does ≡ retry → c .failed ≡ some f → after ≡ goTo f (setFailed none c) ∷ r → CallsAfter P c r onward does after
   tries-next : (f : ℕ) → does ≡ tryNext → c .failed ≡ some f → after ≡ goTo (stepOf P c f .after) (setFailed none c) ∷ r → CallsAfter P c r onward does after
