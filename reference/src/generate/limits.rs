@@ -329,7 +329,7 @@ fn steps_spent(random: &mut Random, size: Size) -> Lent {
     let text = write_out(random, &words);
     let mut lent = lend(random, text);
     lent.steps = 2_000;
-    let taken = answer(&lent).steps;
+    let taken = answer(&lent).steps as u32;
     lent.steps = (taken + random.below(2) as u32).saturating_sub(random.below(3) as u32);
     lent
 }

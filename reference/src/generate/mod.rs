@@ -226,6 +226,7 @@ fn lend(random: &mut Random, text: Vec<u8>) -> Lent {
         output_room: output_room as u64,
         code_words: STORE_WORDS,
         value_words: STORE_WORDS + u64::from(random.chance(2)),
+        abort: None,
     }
 }
 
