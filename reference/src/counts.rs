@@ -52,9 +52,11 @@ pub enum Event {
     ErrorInUndo,
     LoopInUndo,
     UndoDone,
+    NoInputInUndo,
+    NoRoomInUndo,
 }
 
-const NAMES: [&str; 49] = [
+const NAMES: [&str; 51] = [
     "assignment",
     "element of an array stored",
     "line written",
@@ -104,6 +106,8 @@ const NAMES: [&str; 49] = [
     "error in an UNDO list",
     "loop in an UNDO list",
     "UNDO list run to its end",
+    "no input left in an UNDO list",
+    "no room for a line in an UNDO list",
 ];
 
 /// How often each event came up.
@@ -119,6 +123,10 @@ impl Default for Counts {
 impl Counts {
     pub fn add(&mut self, event: Event) {
         self.0[event as usize] += 1;
+    }
+
+    pub fn times(&self, event: Event) -> u64 {
+        self.0[event as usize]
     }
 }
 

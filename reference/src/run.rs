@@ -384,7 +384,13 @@ impl<'m> Machine<'m> {
             let error = match done {
                 Ok(()) => None,
                 Err(Halt::Error(number)) => Some(number),
-                Err(Halt::Ending(ending @ 7..=8, place)) => return Err((ending, place)),
+                Err(Halt::Ending(ending @ 7..=8, place)) => {
+                    self.counts.add(match ending {
+                        7 => Event::NoInputInUndo,
+                        _ => Event::NoRoomInUndo,
+                    });
+                    return Err((ending, place));
+                }
                 Err(_) => unreachable!("rule 17 bars calls and what leaves a list"),
             };
             *left -= 1;

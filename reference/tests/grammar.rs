@@ -193,6 +193,7 @@ fn two_routes_refuse_the_same_words() {
         (Kind::Bytes, 500),
         (Kind::Valid, 200),
         (Kind::Limits, 500),
+        (Kind::Undo, 400),
     ];
     for (kind, count) in kinds {
         for line in Cases::new(21, kind, Size::Short).take(count) {
