@@ -58,7 +58,9 @@ enum rapid_ending {
     RAPID_STEPS_SPENT,      /* the allowance: the next step's place */
     RAPID_DEPTH_SPENT,      /* a call beyond the depth: the callee */
     RAPID_NO_INPUT_LEFT,    /* TPReadNum: the statement */
-    RAPID_NO_OUTPUT_ROOM    /* a whole line does not fit: the statement */
+    RAPID_NO_OUTPUT_ROOM,   /* a whole line does not fit: the statement */
+    RAPID_ABORTED,          /* aborted at step K, all UNDO lists done: 0 */
+    RAPID_UNDO_SPENT        /* the UNDO allowance: the next step's place */
 };
 
 /* Why a module is refused; what the offset is then. */
@@ -127,6 +129,11 @@ int rapid_call(const struct rapid_lent *lent, struct rapid_record *record);
 /* The same, as the proved code takes it: bytes for words, four each, low byte first. 0, and nothing is touched, where the record has fewer than RAPID_RECORD_BYTES. */
 uint32_t rapid_run(const uint8_t *text, size_t text_length, uint32_t steps, uint32_t depth, const uint8_t *inputs, size_t inputs_length, uint8_t *output, size_t output_length, uint8_t *code,
                    size_t code_length, uint8_t *values, size_t values_length, uint8_t *record, size_t record_length);
+
+/* The same for a run that is given a step number K, `at`, and an UNDO allowance: where it would end with RAPID_STEPS_SPENT after K steps, and `steps` are not fewer, every live routine is dropped there, the
+ * innermost first, and runs any UNDO list it has. No flag has a meaning yet: 0, and nothing is touched, where `flags` is not 0. */
+uint32_t rapid_run_until(const uint8_t *text, size_t text_length, uint32_t flags, uint32_t steps, uint32_t depth, uint32_t at, uint32_t undo, const uint8_t *inputs, size_t inputs_length,
+                         uint8_t *output, size_t output_length, uint8_t *code, size_t code_length, uint8_t *values, size_t values_length, uint8_t *record, size_t record_length);
 
 /* A sentence for an ending, for a refusal, and the name of an error; NULL for any other number. */
 const char *rapid_ending_sentence(uint64_t ending);

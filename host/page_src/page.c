@@ -38,9 +38,13 @@ SHOWN(uint32_t, depth_limit)(void) { return RAPID_DEPTH_LIMIT; }
 SHOWN(uint32_t, version)(void) { return rapid_version(); }
 
 /* ---- the calls */
+static int fits(uint32_t length, uint32_t input_count, uint32_t room, uint32_t code_words, uint32_t value_words) {
+    return length <= TEXT_ROOM && input_count <= INPUT_ROOM && room <= OUTPUT_ROOM && code_words <= STORE_ROOM && value_words <= STORE_ROOM;
+}
+
 SHOWN(uint32_t, run)(uint32_t length, uint32_t steps, uint32_t depth, uint32_t input_count, uint32_t room, uint32_t code_words, uint32_t value_words) {
     struct rapid_lent lent = {0};
-    if (length > TEXT_ROOM || input_count > INPUT_ROOM || room > OUTPUT_ROOM || code_words > STORE_ROOM || value_words > STORE_ROOM)
+    if (!fits(length, input_count, room, code_words, value_words))
         return 0;
     lent.text = text, lent.text_length = length;
     lent.steps = steps, lent.depth = depth;
@@ -49,6 +53,14 @@ SHOWN(uint32_t, run)(uint32_t length, uint32_t steps, uint32_t depth, uint32_t i
     lent.code = code, lent.code_words = code_words;
     lent.values = values, lent.value_words = value_words;
     return (uint32_t)rapid_call(&lent, &record);
+}
+
+/* The run that is given a step number K. */
+SHOWN(uint32_t, run_until)(uint32_t length, uint32_t steps, uint32_t depth, uint32_t at, uint32_t undo, uint32_t input_count, uint32_t room, uint32_t code_words, uint32_t value_words) {
+    if (!fits(length, input_count, room, code_words, value_words))
+        return 0;
+    return rapid_run_until(text, length, 0, steps, depth, at, undo, (const uint8_t *)inputs, 4 * (size_t)input_count, output, room, (uint8_t *)code, 4 * (size_t)code_words, (uint8_t *)values,
+                           4 * (size_t)value_words, (uint8_t *)&record, RAPID_RECORD_BYTES);
 }
 
 SHOWN(uint32_t, list)(uint32_t length) { return length <= TEXT_ROOM && rapid_words(text, length, words, RAPID_WORD_LIMIT, &listing); }
