@@ -362,7 +362,7 @@ static void data(void) {
 
 /* ---- statements */
 static struct routine *current; /* the routine around them */
-static int in_handler;          /* in its ERROR list */
+static int in_handler, in_undo; /* in its ERROR list, in its UNDO list */
 static int32_t case_values[WORD_LIMIT], *next_case_value;
 
 static struct step *list(int depth);
@@ -405,6 +405,8 @@ static void call(struct step *s, int is_func, enum type wanted) {
         fault(RAPID_WRONG_KIND, callee->place);
         routine = NULL;
     }
+    if (in_undo)
+        fault(RAPID_BARRED_HERE, callee->place);
     if (is_func)
         expect(S_OPEN);
     s->routine = routine;
@@ -501,9 +503,9 @@ static struct step *read(void) {
 static struct step *simple(void) {
     switch (now->sort) {
     case S_NAME: return assignment_or_call();
-    case S_RETURN: return valued(RETURN_VALUE, RETURN, !current->is_func, current->is_func, current->result);
-    case S_RAISE: return valued(RAISE_VALUE, RAISE_ON, in_handler, !in_handler, NUM);
-    case S_EXIT: return word_alone(EXIT, 0);
+    case S_RETURN: return valued(RETURN_VALUE, RETURN, in_undo || !current->is_func, in_undo || current->is_func, current->result);
+    case S_RAISE: return valued(RAISE_VALUE, RAISE_ON, in_undo || in_handler, !in_handler, NUM);
+    case S_EXIT: return word_alone(EXIT, in_undo);
     case S_RETRY: return word_alone(RETRY, !in_handler);
     case S_TRYNEXT: return word_alone(TRYNEXT, !in_handler);
     case S_TPWRITE: return write();
@@ -663,7 +665,7 @@ static void link_list(struct step **first, struct step *after) {
 /* A list of the routine and the step of its end, at the word there. */
 static struct step *routine_list(void) {
     struct step *first = list(0);
-    struct step *end = new_step(current->is_func ? END_OF_FUNC : END_OF_PROC, now->place);
+    struct step *end = new_step(in_undo ? END_OF_UNDO : current->is_func ? END_OF_FUNC : END_OF_PROC, now->place);
     link_list(&first, end);
     return first;
 }
@@ -701,7 +703,7 @@ static void routine(size_t number) {
     routine_name(expect(S_NAME), number);
     size_t mark = symbol_count;
     level = ROUTINE_LEVEL;
-    in_handler = 0;
+    in_handler = in_undo = 0;
     parameters();
     data();
     current->first = routine_list();
@@ -709,6 +711,12 @@ static void routine(size_t number) {
         in_handler = 1;
         current->has_handler = 1;
         current->handler = routine_list();
+        in_handler = 0;
+    }
+    if (accept(S_UNDO)) {
+        in_undo = 1;
+        current->has_undo = 1;
+        current->undo = routine_list();
     }
     expect(current->is_func ? S_ENDFUNC : S_ENDPROC);
     current->start = room.start;

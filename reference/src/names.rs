@@ -127,12 +127,20 @@ enum Use {
     Constant,
 }
 
+/// The list of a routine that a statement stands in.
+#[derive(Clone, Copy, PartialEq)]
+enum Within {
+    Body,
+    Error,
+    Undo,
+}
+
 /// The part of a routine that a statement stands in.
 #[derive(Clone, Copy)]
 struct Part {
     result: Option<Type>,
     is_func: bool,
-    in_error: bool,
+    within: Within,
 }
 
 struct Checker {
@@ -315,20 +323,20 @@ impl Checker {
             self.data(data);
         }
         let is_func = routine.result.is_some();
-        let part = Part {
-            result: routine.result,
-            is_func,
-            in_error: false,
-        };
-        self.list(&mut routine.body, part);
-        if let Some(list) = &mut routine.error {
-            self.list(
-                list,
-                Part {
-                    in_error: true,
-                    ..part
-                },
-            );
+        let lists = [
+            (Some(&mut routine.body), Within::Body),
+            (routine.error.as_mut(), Within::Error),
+            (routine.undo.as_mut(), Within::Undo),
+        ];
+        for (list, within) in lists {
+            let part = Part {
+                result: routine.result,
+                is_func,
+                within,
+            };
+            if let Some(list) = list {
+                self.list(list, part);
+            }
         }
         routine.words = std::mem::take(&mut self.room.words);
     }
@@ -348,13 +356,17 @@ impl Checker {
             Action::Assign(target, right) => self.assign(target, right),
             Action::Compute(target, call) => {
                 let wanted = self.target(target);
+                self.bar(part.within == Within::Undo, call.callee.place);
                 self.call(call, true, wanted);
             }
-            Action::Invoke(call) => self.call(call, false, None),
+            Action::Invoke(call) => {
+                self.bar(part.within == Within::Undo, call.callee.place);
+                self.call(call, false, None);
+            }
             Action::Return(value) => self.give_back(place, value.as_mut(), part),
             Action::Raise(value) => self.raise(place, value.as_mut(), part),
-            Action::Exit => {}
-            Action::Retry | Action::TryNext => self.bar(!part.in_error, place),
+            Action::Exit => self.bar(part.within == Within::Undo, place),
+            Action::Retry | Action::TryNext => self.bar(part.within != Within::Error, place),
             Action::Write { number, .. } => {
                 if let Some(number) = number {
                     self.running(number, Type::Num);
@@ -435,7 +447,8 @@ impl Checker {
     }
 
     fn give_back(&mut self, place: usize, value: Option<&mut Expression>, part: Part) {
-        self.bar(value.is_some() != part.is_func, place);
+        let misplaced = part.within == Within::Undo || value.is_some() != part.is_func;
+        self.bar(misplaced, place);
         let Some(value) = value else { return };
         match part.result {
             Some(kind) => self.running(value, kind),
@@ -444,7 +457,12 @@ impl Checker {
     }
 
     fn raise(&mut self, place: usize, value: Option<&mut Expression>, part: Part) {
-        self.bar(value.is_some() == part.in_error, place);
+        let misplaced = match part.within {
+            Within::Body => value.is_none(),
+            Within::Error => value.is_some(),
+            Within::Undo => true,
+        };
+        self.bar(misplaced, place);
         if let Some(value) = value {
             self.running(value, Type::Num);
         }

@@ -1,6 +1,6 @@
 //! How often each refusal and each ending occurs.
 
-const ENDINGS: usize = 9;
+const ENDINGS: usize = 11;
 const REFUSALS: usize = 19;
 
 #[derive(Default)]

@@ -56,7 +56,7 @@ fn every_refusal_and_ending_has_a_case() {
             "no refusal {refusal}"
         );
     }
-    for ending in 1..=8 {
+    for ending in 1..=10 {
         let start = format!("{ending} 0 ");
         assert!(
             answers.iter().any(|answer| answer.starts_with(&start)),

@@ -256,7 +256,7 @@ const MISTAKEN: [&str; 36] = [
 ];
 
 /// A name declared as the letter asks, or any.
-fn name_for(random: &mut Random, words: &[Token], letter: &str) -> Vec<u8> {
+pub fn name_for(random: &mut Random, words: &[Token], letter: &str) -> Vec<u8> {
     let before =
         |place: usize, back: usize, word: &str| place >= back && words[place - back].is(word);
     let fits = |place: &usize| match letter {
