@@ -1,20 +1,19 @@
 -- Request 6: what may be said of UNDO lists, from the verdict on a text.
-use mathlib.Core.Path.{_≡_, sym, _∙_, ap}
+use mathlib.Core.Path.{_≡_}
 use mathlib.Core.List.{List}
-use mathlib.Core.Option.{some}
 use Prim.Native.Nat.{ℕ, _<_}
 use lib.ListN.{length}
 use Rattle.laws.proofs.Tests.{apart}
 use Rattle.paper.specs.Words.{Word, reading}
 use Rattle.paper.specs.Trees.{Module}
-use Rattle.paper.specs.Expressions.{Parsed, got}
+use Rattle.paper.specs.Expressions.{got}
 use Rattle.paper.specs.Form.{formed}
 use Rattle.paper.specs.Names.{sortIn}
 use Rattle.paper.specs.Steps.{programOf}
 use Rattle.paper.specs.Running.{started}
-use Rattle.paper.specs.Answer.{Accepted, Verdict, refuse, accepted, verdict}
+use Rattle.paper.specs.Answer.{Accepted, Verdict, accepted, verdict}
 use Rattle.demands.proofs.Tables.{ModuleFits}
-use Rattle.demands.proofs.Aborted.{run-reaches, not-struck, error-leaves, end-leaves, ends-so, undoable-at, never-in-undo, newest-in-undo, only-those-live, step-on-calls, never-twice, dropped-run-none}
+use Rattle.demands.proofs.Aborted.{run-reaches, below-k, is-struck, not-struck, error-leaves, end-leaves, ends-so, spent-in-undo, undoable-at, never-in-undo, newest-in-undo, only-those-live, step-on-calls, never-twice, dropped-run-none}
 use Rattle.demands.proofs.Records.{Accepts, Judges, refuses, accepts, judges}
 use Rattle.demands.specs.Vocabulary.{at-start}
 use Rattle.demands.specs.Aborts.{AbortLesson, Aborting}
@@ -26,7 +25,9 @@ module _ (W : List Word) (m : Module) (fits : ModuleFits W m) (main : ℕ) (belo
       record {
         barred = undoable-at W m fits;
         never-in-undo = λ R s h. never-in-undo W m fits R main s below h;
-        strikes = λ R k e. run-reaches P R main k (started P main) at-start e;
+        is-struck = λ R n a h e. is-struck P R n a (started P main) h e;
+        strikes-in-run = λ R k e. run-reaches P R main k (started P main) at-start e;
+        below-k = λ R n a h. below-k P R n a (started P main) h;
         not-struck = λ R n a f. not-struck P R n a (started P main) f;
         newest-in-undo = λ R first s c r i. newest-in-undo W m fits R main below first s (i .reached) (i .since) c r (i .live);
         only-those-live = λ R first s h way. only-those-live W m fits R main first s below h way;
@@ -36,6 +37,7 @@ module _ (W : List Word) (m : Module) (fits : ModuleFits W m) (main : ℕ) (belo
         never-twice = λ R first s s′ s″ c r i e n later. never-twice W m fits R main below first s (i .reached) (i .since) s′ s″ c r (i .live) e n later;
         dropped-run-none = λ R taken first s n leads h way low high. dropped-run-none W m fits R main below first s h way taken n leads low high;
         ends-so = ends-so P;
+        spent-in-undo = λ R first u h e. spent-in-undo W m fits R main first u below h e;
       }
 
 accepted-fits : (text : List ℕ) (v : Verdict) (a : Accepted) → Judges text v → v ≡ accepted a → Accepts (reading text .words) a

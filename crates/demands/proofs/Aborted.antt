@@ -7,26 +7,24 @@ use Prim.Native.Nat.{ℕ, zero, suc, _+_, _≤_, _<_}
 use native.Mathlib.Omega.{arith}
 use lib.Dec.{eqb, ltb}
 use lib.ListN.{length, length-append}
-use borrow.Author.Tests.{eqb-true, ne-eqb, ltb-false}
+use borrow.Author.Tests.{eqb-true, eq-eqb, ne-eqb, ltb-false, lt-ltb, le-ltb}
 use Rattle.laws.proofs.Tests.{apart}
-use Rattle.paper.specs.Basics.{if_then_else_}
 use Rattle.paper.specs.Words.{Word}
 use Rattle.paper.specs.Trees.{Routine, Module}
-use Rattle.paper.specs.Names.{sortIn}
-use Rattle.paper.specs.Steps.{Action, retry, tryNext, endUndo, Step, Program, codeOf, programOf}
-use Rattle.paper.specs.States.{Call, State, Rooms, Effect, made, failing, handing, ending, lacking, withCalls, withErrno, counted, goTo}
-use Rattle.paper.specs.Running.{codeAt, stepOf, nextStep, perform, Ended, Outcome, goesOn, stopped, stopping, takeStep, run, started}
+use Rattle.paper.specs.Steps.{Action, endUndo, Step, Program, codeOf, programOf}
+use Rattle.paper.specs.States.{Call, State, Rooms, Effect, made, failing, ending, withCalls, withErrno, counted, goTo}
+use Rattle.paper.specs.Running.{codeAt, stepOf, nextStep, perform, Ended, Outcome, goesOn, stopped, takeStep, run, started}
 use Rattle.paper.specs.Undoing.{Abort, dropping, leaving, undone, undoStep, aborted, undoSpent, undoing, aborting, runAbort}
 use Rattle.raised.proofs.Choices.{chosen, chosen-by}
 use Rattle.demands.proofs.Alls.{first-of, rest-of, back-of, one-among, all-map}
 use Rattle.demands.proofs.Tables.{StandsAt, Fits, Known, known-second, CodeFits, ModuleFits, code-at}
 use Rattle.demands.proofs.Performed.{CallsMade, made-move, made-call, made-return, made-retry, made-trynext, Performed, makes, fails-with, hands-on, ends, lacks, performed, Callee, of-function, of-procedure, Lacking, no-depth, no-input, no-room}
-use Rattle.demands.proofs.Growing.{Came, goes, stops, came, run-goes, run-stops, CameUndo, goes-undo, stops-undo, came-undo, undoFrom, undoing-from}
+use Rattle.demands.proofs.Growing.{Came, goes, stops, came, run-goes, run-stops, CameUndo, goes-undo, stops-undo, came-undo, undoFrom}
 use Rattle.demands.proofs.Calls.{never-live-again}
 use Rattle.demands.proofs.Sitting.{each-among, among-known, Sits, next-among, Sitting, sitting, EndedAt, by-abort, at-word, at-undo-or-end, lacking-word, reached-sits, program-ends}
-use Rattle.demands.specs.Vocabulary.{All, nothing, _also_, Among, CallsRoutine, for-result, for-nothing, Returns, by-return, at-its-end, effectOf, waysOf, GoesOn, EndsWith, at-undo, Reached, at-start, by-step, Leads}
+use Rattle.demands.specs.Vocabulary.{All, nothing, _also_, Among, CallsRoutine, for-result, for-nothing, Returns, by-return, at-its-end, effectOf, waysOf, GoesOn, at-undo, Reached, at-start, by-step, Leads}
 use Rattle.demands.specs.Demands.{BegunSince, NeverLiveAgain}
-use Rattle.demands.specs.Aborts.{ownSteps, undoSteps, routineAt, ownStepsOf, undoStepsOf, Undoable, struck, UndoLeads, no-step, undo-step, NextList, no-more, begins-list, StillLive, none-left, one-left, UndoCalls, stays-in-list, leaves-list}
+use Rattle.demands.specs.Aborts.{ownSteps, undoSteps, routineAt, ownStepsOf, undoStepsOf, Undoable, struck, UndoLeads, no-step, undo-step, NextList, no-more, begins-list, StillLive, none-left, one-left, UndoCalls, stays-in-list, leaves-list, StandsInUndo}
 
 -- ---- of every program
 -- A run that ended with 5 has come to a state of its own.
@@ -50,6 +48,14 @@ run-longer P R (suc k) (suc n) s h f = after (takeStep P R s) refl (λ s′ g. r
     after : (o : Outcome) → takeStep P R s ≡ o → ((s′ : State) → ¬ (run P R k s′ .ending ≡ 5) → run P R k s′ ≡ run P R n s′) → run P R (suc k) s ≡ run P R (suc n) s
     after (goesOn s′) q on = run-goes P R k s s′ q ∙ on s′ (λ e. f (ap (λ x. x .ending) (run-goes P R k s s′ q) ∙ e)) ∙ sym (run-goes P R n s s′ q)
     after (stopped b x) q on = run-stops P R k s b x q ∙ sym (run-stops P R n s b x q)
+
+pub below-k : (P : Program) (R : Rooms) (n : ℕ) (a : Abort) (s : State) → n < a .at → runAbort P R n (some a) s ≡ run P R n s
+unfolding runAbort
+below-k P R n a s h = rw (lt-ltb n (a .at) h)
+
+pub is-struck : (P : Program) (R : Rooms) (n : ℕ) (a : Abort) (s : State) → a .at ≤ n → run P R (a .at) s .ending ≡ 5 → runAbort P R n (some a) s ≡ undoing P R (a .undo) (struck P (run P R (a .at) s .state))
+unfolding runAbort aborting
+is-struck P R n a s h e = rw (le-ltb n (a .at) h, eq-eqb (run P R (a .at) s .ending) 5 e)
 
 pub not-struck : (P : Program) (R : Rooms) (n : ℕ) (a : Abort) (s : State) → ¬ (run P R (a .at) s .ending ≡ 5) → runAbort P R n (some a) s ≡ run P R n s
 unfolding runAbort aborting
@@ -117,6 +123,36 @@ ends-along P R first (suc n) s h = newest (s .calls) refl (λ s′ g. ends-along
 
 pub ends-so : (P : Program) (R : Rooms) (u : ℕ) (s : State) → UndoLeads P R s (undoing P R u s .state)
 ends-so P R u s = ends-along P R s u s no-step
+
+-- Where the UNDO steps are spent.
+record SpentAt (P : Program) (x : Ended) : Type 0 where
+  newest : Call
+  callers : List Call
+  live : x .state .calls ≡ newest ∷ callers
+  place : x .place ≡ nextStep P newest .place
+
+spent-at : (P : Program) (R : Rooms) (n : ℕ) (s : State) → undoing P R n s .ending ≡ 10 → SpentAt P (undoing P R n s)
+unfolding undoing
+spent-at P R zero s = newest (s .calls) refl
+  where
+    left : List Call → Ended
+    left cs = elim cs [ [] ↦ aborted s | c ∷ r ↦ undoSpent (nextStep P c .place) s ]
+
+    newest : (cs : List Call) → s .calls ≡ cs → left cs .ending ≡ 10 → SpentAt P (left cs)
+    newest [] e q = absurd (omega arith)
+    newest (c ∷ r) e q = record { newest = c; callers = r; live = e; place = refl }
+spent-at P R (suc n) s = newest (s .calls) refl (λ s′. spent-at P R n s′)
+  where
+    left : Outcome → Ended
+    left o = elim o [ goesOn s′ ↦ undoing P R n s′ | stopped b x ↦ x ]
+
+    after : (o : Outcome) → CameUndo R s o → ((s′ : State) → undoing P R n s′ .ending ≡ 10 → SpentAt P (undoing P R n s′)) → left o .ending ≡ 10 → SpentAt P (left o)
+    after o (goes-undo {s′ = s′} l) on q = on s′ q
+    after o (stops-undo i place low high) on q = absurd (omega arith)
+
+    newest : (cs : List Call) → s .calls ≡ cs → ((s′ : State) → undoing P R n s′ .ending ≡ 10 → SpentAt P (undoing P R n s′)) → undoFrom P R n s cs .ending ≡ 10 → SpentAt P (undoFrom P R n s cs)
+    newest [] e on q = absurd (omega arith)
+    newest (c ∷ r) e on q = after (undoStep P R c r s) (came-undo P R c r s e) on q
 
 -- ---- one step of an UNDO list
 -- It makes no call, and returns, retries and raises nothing: where it is made, it goes on in its list.
@@ -370,3 +406,10 @@ module _ (W : List Word) (m : Module) (fits : ModuleFits W m) where
   only-those-live R main first s below reached no-step = still-next [] refl (next-list program (first .calls))
   only-those-live R main first s below reached (undo-step {s₁ = s₁} {s₂ = s₂} c r way live e) =
       still-after c r (rw live at (only-those-live R main first s₁ below reached way)) (step-on-calls R main below first s₁ reached way s₂ c r live e)
+
+  pub spent-in-undo : (R : Rooms) (main : ℕ) (first : State) (u : ℕ) → main < length (m .routines) → Reached program R main first → undoing program R u (struck program first) .ending ≡ 10
+      → StandsInUndo W m program (undoing program R u (struck program first))
+  spent-in-undo R main first u below reached e =
+      let x = spent-at program R u (struck program first) e in
+      let way = ends-so program R u (struck program first) in
+      record { newest = x .newest; callers = x .callers; live = x .live; place = x .place; in-undo = newest-in-undo R main below first _ reached way (x .newest) (x .callers) (x .live) }

@@ -1,9 +1,9 @@
 -- The steps of an UNDO list are named by words behind its word UNDO, those of the other lists by words up to it: no name is in both.
 use mathlib.Core.Path.{_≡_}
 use mathlib.Core.Bool.{Bool}
-use mathlib.Core.List.{List, [], _∷_, _++_, map}
+use mathlib.Core.List.{List, [], _∷_}
 use mathlib.Core.Option.{Option}
-use Prim.Native.Nat.{ℕ, suc, _+_, _≤_, _<_}
+use Prim.Native.Nat.{ℕ, _+_, _≤_, _<_}
 use native.Mathlib.Omega.{arith}
 use Rattle.paper.specs.Words.{Word}
 use Rattle.paper.specs.Terms.{Memory}
@@ -20,7 +20,7 @@ use Rattle.grammar.proofs.Levels.{disjunction-grows}
 use Rattle.grammar.proofs.Places.{behind-grows, routine-list-within}
 use Rattle.demands.proofs.Alls.{_and_}
 use Rattle.demands.proofs.Tables.{Known}
-use Rattle.demands.specs.Vocabulary.{All, nothing, _also_, Among, here, there}
+use Rattle.demands.specs.Vocabulary.{All, nothing, _also_, here, there}
 use Rattle.demands.specs.Aborts.{ownSteps, undoSteps}
 
 -- Each of these steps is named by a word from a on and before b.

@@ -15,7 +15,7 @@ use Rattle.paper.specs.Types.{Fault, fault, faultIf, least, faultsOf, ofType}
 use Rattle.paper.specs.Declarations.{routineWordLimit, crosses, Signature, signatures, dataTexts, routineNameFaults, moduleData, routineFilling, routineData, routineScopes}
 use Rattle.paper.specs.Checks.{theBody, theHandler, theUndo, inError, inUndo, Setting, forsIn, forsInList, forsInArms, forsInCases, forsInOptional, judgeTarget, callFaults, returnFaults, optionalNum}
 use Rattle.paper.specs.Checks.{simpleFaults, caseFaults, statementFaults, listFaults, armFaults, casesFaults, optionalFaults, settingIn, routineFaults, allRoutineFaults, faults}
-use Rattle.paper.specs.Steps.{Action, endUndo, Step, step, actionOf, simpleStep, stepsOf, stepsOfList, stepsOfArms, stepsOfCases, listSteps, optionalSteps}
+use Rattle.paper.specs.Steps.{endUndo, Step, step, actionOf, simpleStep, stepsOf, stepsOfList, stepsOfArms, stepsOfCases, listSteps, optionalSteps}
 use Rattle.demands.proofs.Alls.{_and_}
 use Rattle.demands.proofs.Faults.{left-empty, right-empty, if-empty, least-none}
 use Rattle.demands.specs.Vocabulary.{All, nothing, _also_}

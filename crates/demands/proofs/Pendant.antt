@@ -6,15 +6,15 @@ use native.Mathlib.Omega.{arith}
 use lib.ListN.{length, take, drop, replicate, length-append, length-take, length-drop, length-replicate}
 use lib.Seq.{take-at, drop-at}
 use lib.IntN.{ℤ, pos}
-use borrow.Author.Tests.{lt-ltb, le-ltb}
+use borrow.Author.Tests.{lt-ltb, le-ltb, eq-eqb, ne-eqb}
 use Rattle.laws.proofs.Tests.{by-most, by-same}
 use Rattle.paper.specs.Declarations.{moduleWordLimit}
-use Rattle.paper.specs.Answer.{storeWords, recordSize, Record, recordBytes, Lent, Answer, answer, LentBytes, cellsOf, bytesOf, lentOf, bytesAfter, spread, pendantCall}
+use Rattle.paper.specs.Answer.{storeWords, recordSize, Record, recordBytes, Lent, Answer, answer, LentBytes, cellsOf, bytesOf, lentOf, bytesAfter, spread, pendantCall, flaggedCall}
 use Rattle.demands.proofs.Bytes.{after-length, after-past, after-zeros, after-same, length-record, take-bytes, whole-words, ending-in, steps-in, output-in, inputs-in, words-in}
 use Rattle.demands.proofs.Memory.{demand-1}
 use Rattle.demands.proofs.MoreRoom.{demand-3}
 use Rattle.demands.specs.Vocabulary.{All, IsByte, fieldIn}
-use Rattle.demands.specs.Demands.{StepsLent, plain, struck, undoAllowed, Allowed, refused, ended, Touched, Demand1, TouchedBytes, CallMade, Demand1InBytes, Told, told, RefusedAlike, alike, neither, NeverChanged, Demand3, toldInBytes, CountedIn64, Demand3InBytes}
+use Rattle.demands.specs.Demands.{StepsLent, plain, struck, undoAllowed, Allowed, refused, ended, Touched, Demand1, TouchedBytes, CallMade, Demand1InBytes, Told, told, RefusedAlike, alike, neither, NeverChanged, Demand3, toldInBytes, CountedIn64, Demand3InBytes, Flagged}
 
 -- ---- a store: its words w after the call, its bytes l before
 -- Zeros from n on to k are there only if there are k words.
@@ -118,7 +118,7 @@ record Counts (l : Lent) (a : Answer) : Type 0 where
   kept : a .fields .words ≤ length (a .values)
 
 -- K is at most the allowance.
-steps-counted : (l : Lent) (f : Record) → StepsLent l f → f .steps ≤ l .steps + undoAllowed (l .asked .abort)
+pub steps-counted : (l : Lent) (f : Record) → StepsLent l f → f .steps ≤ l .steps + undoAllowed (l .asked .abort)
 unfolding undoAllowed
 steps-counted l f (plain e h) = omega arith
 steps-counted l f (struck e h) = rw (h .given) (omega (arith, h .reached, h .most))
@@ -162,3 +162,8 @@ told-call l c =
 pub demand-3-in-bytes : Demand3InBytes
 unfolding Demand3InBytes Demand3
 demand-3-in-bytes a b c d m = rw (told-call a c, told-call b d) (never-in-bytes _ _ (demand-3 (lentOf a) (lentOf b) m))
+
+-- ---- the call with flags
+pub flagged : Flagged
+unfolding Flagged flaggedCall
+flagged flags l = record { same = λ e. rw (eq-eqb flags 0 e, flaggedCall); unknown = λ e. rw (ne-eqb flags 0 e, flaggedCall) }

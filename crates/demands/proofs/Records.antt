@@ -21,8 +21,8 @@ use Rattle.paper.specs.Declarations.{moduleWordLimit, Signature, moduleScopes}
 use Rattle.paper.specs.Checks.{faults, isMain, noSignature, mainIn, mainOf}
 use Rattle.paper.specs.Steps.{Program, programOf}
 use Rattle.paper.specs.States.{Rooms}
-use Rattle.paper.specs.Running.{Ended, run, started}
-use Rattle.paper.specs.Undoing.{Abort, runAbort, runAsked}
+use Rattle.paper.specs.Running.{Ended, started}
+use Rattle.paper.specs.Undoing.{runAbort, runAsked}
 use Rattle.paper.specs.Answer.{Accepted, Verdict, refusedBy, refuse, accepted, offsetOf, judgeMain, judgeModule, judgeForm, judgeReading, verdict, Record, Result, refusedWith, endedWith, ranTo, carriedOut, tooSmall, badDepth, result, Lent, questionOf}
 use Rattle.demands.proofs.Places.{ReadingRefuses, not, too-long, in-text, reading-refuses, words-in-text}
 use Rattle.demands.proofs.Alls.{first-of, rest-of, one-at}
@@ -33,10 +33,10 @@ use Rattle.demands.proofs.Tables.{Known, UndoFits, ModuleFits, module-f
 use Rattle.demands.proofs.Apart.{all-apart}
 use Rattle.demands.proofs.Barred.{all-undoable}
 use Rattle.demands.proofs.Growing.{Later, RanAsked, as-lent, as-struck, ran-abort}
-use Rattle.demands.proofs.Sitting.{EndedAt, by-returning, by-abort, at-word, program-ends}
+use Rattle.demands.proofs.Sitting.{EndedAt, by-returning, by-abort, at-word}
 use Rattle.demands.proofs.Aborted.{run-reaches, struck-ends, abort-ends}
 use Rattle.demands.specs.Vocabulary.{before-any, EndsWith, at-exit, at-statement, at-list-end, at-next, at-callee, at-read, at-line, at-undo, by-error, by-undo, by-end, by-endproc, by-endfunc, a-statement, the-end}
-use Rattle.demands.specs.Vocabulary.{undo-statement, undo-end, by-tpwrite, by-tpreadnum, WordAt, All, nothing, _also_, Reached, at-start}
+use Rattle.demands.specs.Vocabulary.{undo-statement, undo-end, by-tpwrite, by-tpreadnum, WordAt, All, nothing, _also_, at-start}
 use Rattle.demands.specs.Aborts.{ownSteps, undoSteps, Undoable}
 use Rattle.demands.specs.Demands as demands
 use Rattle.demands.specs.Demands.{RefusalAt, StepsLent, EndedRecord, Allowed}

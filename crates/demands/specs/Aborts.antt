@@ -13,7 +13,7 @@ use Rattle.paper.specs.Declarations.{routineData, routineScopes, routineFilling
 use Rattle.paper.specs.Checks.{forsInList, forsInOptional}
 use Rattle.paper.specs.Steps.{Action, store, callFor, callOf, giveBack, raise, handOn, exit, retry, tryNext, write, read, choose, select, testWhile, enterFor, repeatFor, endList, endUndo, Step, Program, listSteps, optionalSteps}
 use Rattle.paper.specs.States.{Call, State, Rooms, goTo, withCalls, failing}
-use Rattle.paper.specs.Running.{codeAt, nextStep, goesOn, run, started}
+use Rattle.paper.specs.Running.{codeAt, nextStep, Ended, goesOn, run, started}
 use Rattle.paper.specs.Undoing.{Abort, dropping, undoStep, undoing, runAbort}
 use Rattle.paper.specs.Answer.{Accepted, accepted, verdict}
 use Rattle.demands.specs.Vocabulary.{All, Among, effectOf, waysOf, GoesOn, Reached, Leads}
@@ -102,15 +102,26 @@ pub record InAbort (P : Program) (R : Rooms) (main : ℕ) (first s : State) (c :
   pub since : UndoLeads P R (struck P first) s
   pub live : s .calls ≡ c ∷ r
 
+-- A run has ended at the next step of its newest call, and that is a step of its UNDO list.
+pub record StandsInUndo (W : List Word) (m : Module) (P : Program) (x : Ended) : Type 0 where
+  pub newest : Call
+  pub callers : List Call
+  pub live : x .state .calls ≡ newest ∷ callers
+  pub place : x .place ≡ nextStep P newest .place
+  pub in-undo : Among (nextStep P newest) (undoStepsOf W m (newest .routine))
+
 pub record AbortLesson (W : List Word) (m : Module) (P : Program) (main : ℕ) : Type 0 where
   -- "Calls, RETRY, TRYNEXT, RAISE, RETURN and EXIT are barred there"
   pub barred : (k : ℕ) → All (λ s. Undoable (s .does)) (undoStepsOf W m k)
   -- A run without K makes no step of an UNDO list, nor does one with K before K strikes: in each of its states each live call is at a step of its body or its ERROR list, and at none of its UNDO list.
   pub never-in-undo : (R : Rooms) (s : State) → Reached P R main s
       → All (λ c. Among (nextStep P c) (ownStepsOf W m (c .routine)) × ¬ Among (nextStep P c) (undoStepsOf W m (c .routine))) (s .calls)
-  -- K strikes in a state of the run.
-  pub strikes : (R : Rooms) (k : ℕ) → run P R k (started P main) .ending ≡ 5 → Reached P R main (run P R k (started P main) .state)
-  -- "A run that stops with 5 to 8 before that runs no UNDO"; one that has ended by then neither. It is the run without K.
+  -- "if its allowance is at least K and K steps would end it with 5, every live routine is dropped there instead": K strikes in a state of the run.
+  pub is-struck : (R : Rooms) (n : ℕ) (a : Abort) → a .at ≤ n → run P R (a .at) (started P main) .ending ≡ 5
+      → runAbort P R n (some a) (started P main) ≡ undoing P R (a .undo) (struck P (run P R (a .at) (started P main) .state))
+  pub strikes-in-run : (R : Rooms) (k : ℕ) → run P R k (started P main) .ending ≡ 5 → Reached P R main (run P R k (started P main) .state)
+  -- Else it is the run without K: where its allowance is below K, and where it has ended or stopped by then.
+  pub below-k : (R : Rooms) (n : ℕ) (a : Abort) → n < a .at → runAbort P R n (some a) (started P main) ≡ run P R n (started P main)
   pub not-struck : (R : Rooms) (n : ℕ) (a : Abort) → ¬ (run P R (a .at) (started P main) .ending ≡ 5) → runAbort P R n (some a) (started P main) ≡ run P R n (started P main)
   -- In an abort the list that runs is that of the newest call;
   pub newest-in-undo : (R : Rooms) (first s : State) (c : Call) (r : List Call) → InAbort P R main first s c r → Among (nextStep P c) (undoStepsOf W m (c .routine))
@@ -127,8 +138,10 @@ pub record AbortLesson (W : List Word) (m : Module) (P : Program) (main : ℕ) :
   -- "Routines dropped by an error run none": an error has been taken and `taken` are live (`newer-gone`); later K strikes in `first`. A call that is live in the abort, deeper than those, was begun since.
   pub dropped-run-none : (R : Rooms) (taken first s : State) (n : ℕ) → Leads P R (λ x. Unit) taken first → Reached P R main first → UndoLeads P R (struck P first) s
       → length (taken .calls) ≤ n → n < length (s .calls) → BegunSince P R n taken first
-  -- All of an abort, whatever its allowance, is such states.
+  -- All of an abort, whatever its allowance, is such states;
   pub ends-so : (R : Rooms) (u : ℕ) (s : State) → UndoLeads P R s (undoing P R u s .state)
+  -- and "spent UNDO steps give 10, at the next step's place", which is in an UNDO list.
+  pub spent-in-undo : (R : Rooms) (first : State) (u : ℕ) → Reached P R main first → undoing P R u (struck P first) .ending ≡ 10 → StandsInUndo W m P (undoing P R u (struck P first))
 
 unfoldable pub Aborting : Type 0
 Aborting = (text : List ℕ) (a : Accepted) (m : Module) → verdict text ≡ accepted a → formed (sortIn (a .words)) ≡ got m → AbortLesson (a .words) m (a .program) (a .main)

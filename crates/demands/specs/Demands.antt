@@ -20,8 +20,8 @@ use Rattle.paper.specs.Declarations.{moduleWordLimit}
 use Rattle.paper.specs.Steps.{retry, tryNext, enterFor, Program}
 use Rattle.paper.specs.States.{Loop, Location, Call, State, Rooms, failing, withCalls, withErrno, counted, goTo, setWord, setLoop, setFailed, onTop, memoryOf}
 use Rattle.paper.specs.Running.{stepOf, nextStep, newCall, passes, countingStep, takeStep, goesOn, stopping}
-use Rattle.paper.specs.Undoing.{Abort, Asked}
-use Rattle.paper.specs.Answer.{storeWords, depthLimit, recordSize, Record, recordBytes, Lent, Answer, answer, LentBytes, BytesAnswer, lentOf, pendantCall}
+use Rattle.paper.specs.Undoing.{Abort}
+use Rattle.paper.specs.Answer.{storeWords, depthLimit, recordSize, Record, recordBytes, Lent, Answer, answer, LentBytes, BytesAnswer, lentOf, untouched, pendantCall, flaggedCall}
 use Rattle.demands.specs.Vocabulary.{Begins, All, IsByte, fieldIn, Errno, EndsWith, WordAt, effectOf, CallsRoutine, Waits, Taken, CallsAfter, Reached, Leads}
 
 -- ---- Demand 1: every answer is one that the paper's tables allow, and no memory is touched but what the paper says. For everything that can be lent.
@@ -131,7 +131,7 @@ pub record CallMade (l : LentBytes) (b : BytesAnswer) : Type 0 where
 
 -- "lent fewer, it returns 0 and touches nothing, otherwise 1"
 pub record CallAnswered (l : LentBytes) (b : BytesAnswer) : Type 0 where
-  pub fewer : length (l .fields) < recordSize → b ≡ record { returned = 0; output = l .output; code = l .code; values = l .values; fields = l .fields }
+  pub fewer : length (l .fields) < recordSize → b ≡ untouched l
   pub otherwise : recordSize ≤ length (l .fields) → CallMade l b
 
 unfoldable pub Demand1InBytes : Type 0
@@ -235,6 +235,14 @@ unfoldable pub Demand3InBytes : Type 0
 Demand3InBytes =
     (first second : LentBytes) → CountedIn64 first → CountedIn64 second → MoreRoom (lentOf first) (lentOf second)
     → NeverChanged (toldInBytes (pendantCall first)) (toldInBytes (pendantCall second))
+
+-- Request 6: the call that is given K. Demands 1 and 3 are of it too: with no flag it is the same call, and with one that it does not know it returns 0 and touches nothing.
+pub record FlagsHeeded (flags : ℕ) (l : LentBytes) : Type 0 where
+  pub same : flags ≡ 0 → flaggedCall flags l ≡ pendantCall l
+  pub unknown : ¬ (flags ≡ 0) → flaggedCall flags l ≡ untouched l
+
+unfoldable pub Flagged : Type 0
+Flagged = (flags : ℕ) (l : LentBytes) → FlagsHeeded flags l
 
 -- ---- The user's lesson: errors, for all programs, texts and states.
 
