@@ -13,6 +13,7 @@ pub enum Event {
     WhileRound,
     ForHead,
     ForTurned,
+    ForHides,
     ForRound,
     LoopInLoop,
     Call,
@@ -45,7 +46,7 @@ pub enum Event {
     LoopInError,
 }
 
-const NAMES: [&str; 40] = [
+const NAMES: [&str; 41] = [
     "assignment",
     "element of an array stored",
     "line written",
@@ -56,6 +57,7 @@ const NAMES: [&str; 40] = [
     "WHILE round",
     "FOR head",
     "FOR head without STEP that counts down",
+    "FOR head whose variable hides something",
     "FOR round",
     "loop entered in a loop (a WHILE at each round)",
     "call",

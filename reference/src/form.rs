@@ -280,6 +280,7 @@ impl Reader<'_> {
             to,
             step,
             body,
+            hides: false,
         })))
     }
 

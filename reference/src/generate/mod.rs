@@ -5,6 +5,7 @@ mod chains;
 mod counting;
 mod courses;
 mod damage;
+mod hiding;
 mod layout;
 mod limits;
 mod phrases;
@@ -26,6 +27,7 @@ pub enum Kind {
     Valid,
     Courses,
     Counting,
+    Hiding,
     Mistyped,
     Words,
     Bytes,
@@ -40,6 +42,7 @@ impl Kind {
             "valid" => Kind::Valid,
             "courses" => Kind::Courses,
             "counting" => Kind::Counting,
+            "hiding" => Kind::Hiding,
             "mistyped" => Kind::Mistyped,
             "words" => Kind::Words,
             "bytes" => Kind::Bytes,
@@ -122,7 +125,8 @@ fn case_line(random: &mut Random, kind: Kind, size: Size) -> String {
         Kind::Listing => listing_line(random, size),
         Kind::Limits => show_run(&limits::limit_case(random, size)),
         Kind::Courses => show_run(&course_case(random)),
-        Kind::Counting => show_run(&counting_case(random)),
+        Kind::Counting => show_run(&loops_case(random, counting::counting)),
+        Kind::Hiding => show_run(&loops_case(random, hiding::hiding)),
         _ => {
             let text = text_of(random, kind, size);
             show_run(&lend(random, text))
@@ -131,16 +135,17 @@ fn case_line(random: &mut Random, kind: Kind, size: Size) -> String {
 }
 
 fn mixed_line(random: &mut Random, size: Size) -> String {
-    const KINDS: [Kind; 7] = [
+    const KINDS: [Kind; 8] = [
         Kind::Valid,
         Kind::Counting,
+        Kind::Hiding,
         Kind::Mistyped,
         Kind::Words,
         Kind::Bytes,
         Kind::Limits,
         Kind::Listing,
     ];
-    let kind = KINDS[random.weighted(&[30, 5, 22, 10, 10, 15, 8])];
+    let kind = KINDS[random.weighted(&[29, 4, 5, 21, 9, 9, 15, 8])];
     case_line(random, kind, size)
 }
 
@@ -187,8 +192,8 @@ fn course_case(random: &mut Random) -> Lent {
 }
 
 /// A module of loops, with steps for most of them.
-fn counting_case(random: &mut Random) -> Lent {
-    let words = counting::counting(random);
+fn loops_case(random: &mut Random, module: fn(&mut Random) -> Vec<Token>) -> Lent {
+    let words = module(random);
     let text = write_out(random, &words);
     let mut lent = lend(random, text);
     if random.chance(90) {
