@@ -8,7 +8,7 @@
 uint32_t proved_run(const uint8_t *text, size_t text_length, uint32_t steps, uint32_t depth, const uint8_t *inputs, size_t inputs_length, uint8_t *output, size_t output_length,
                     uint8_t *code, size_t code_length, uint8_t *values, size_t values_length, uint8_t *record, size_t record_length);
 
-enum { READS_PAST_TEXT = 1, WRITES_PAST_OUTPUT, WRITES_PAST_COUNT, LEAVES_CODE, WRITES_BEYOND_STORE, WRITES_PAST_RECORD, WRITES_TEXT, COUNTS_WRONG, ASKS_OLD_MEMORY, TAKES_LESS_DEPTH, CHANGES_OUTPUT, NEVER_TURNS };
+enum { READS_PAST_TEXT = 1, WRITES_PAST_OUTPUT, WRITES_PAST_COUNT, LEAVES_CODE, WRITES_BEYOND_STORE, WRITES_PAST_RECORD, WRITES_TEXT, COUNTS_WRONG, ASKS_OLD_MEMORY, TAKES_LESS_DEPTH, CHANGES_OUTPUT, NEVER_TURNS, HIDES_OWN };
 
 static size_t written(const uint8_t *record) { return record[40] | (size_t)record[41] << 8 | (size_t)record[42] << 16; }
 
@@ -74,6 +74,58 @@ static void never_turning(const uint8_t **text, size_t *length, uint32_t steps, 
     *length = n;
 }
 
+/* ---- HIDES_OWN: a FOR variable may be named like a parameter or data of its routine. */
+enum { MOST_NAME = 32 };
+
+static int is_used(const uint8_t *text, size_t length, const char *name) {
+    for (size_t i = 0, n; i < length; i += n) {
+        n = piece(text + i, length - i);
+        if (is(text + i, n, name))
+            return 1;
+    }
+    return 0;
+}
+
+/* Names the FOR variable at a place anew, in as many letters, and all that mean it: they stand behind its DO, up to its ENDFOR. Whether there is such a name. */
+static int name_anew(uint8_t *text, size_t length, size_t at) {
+    char old[MOST_NAME + 1] = {0}, new[MOST_NAME + 1] = {0};
+    size_t n = piece(text + at, length - at), i = at + n;
+    memcpy(old, text + at, n);
+    memset(new, 'a', n);
+    while (is_used(text, length, new)) {
+        if (new[0] == 'z')
+            return 0;
+        memset(new, new[0] + 1, n);
+    }
+    memcpy(text + at, new, n);
+    while (i < length && !is(text + i, piece(text + i, length - i), "DO"))
+        i += piece(text + i, length - i);
+    for (size_t p, inside = 1; i < length && inside; i += p) {
+        p = piece(text + i, length - i);
+        if (is(text + i, p, old))
+            memcpy(text + i, new, n);
+        inside += is(text + i, p, "FOR");
+        inside -= is(text + i, p, "ENDFOR");
+    }
+    return 1;
+}
+
+/* Puts a text in place of the lent one in which no FOR variable is refused by 19. */
+static void hiding_own(const uint8_t **text, size_t length) {
+    static uint8_t other[RAPID_TEXT_LIMIT], code[RAPID_STORE_BYTES], values[RAPID_STORE_BYTES], record[RAPID_RECORD_BYTES];
+    if (length > RAPID_TEXT_LIMIT)
+        return;
+    memcpy(other, *text, length);
+    for (;;) {
+        proved_run(other, length, 0, 1, 0, 0, 0, 0, code, sizeof code, values, sizeof values, record, sizeof record);
+        if (record[8] != RAPID_HIDING_LOOP)
+            break;
+        if (!name_anew(other, length, record[16] | (size_t)record[17] << 8))
+            return;
+    }
+    *text = other;
+}
+
 uint32_t rapid_run(const uint8_t *text, size_t text_length, uint32_t steps, uint32_t depth, const uint8_t *inputs, size_t inputs_length, uint8_t *output, size_t output_length, uint8_t *code,
                    size_t code_length, uint8_t *values, size_t values_length, uint8_t *record, size_t record_length) {
     int often = text_length % 5 == 0;
@@ -83,6 +135,8 @@ uint32_t rapid_run(const uint8_t *text, size_t text_length, uint32_t steps, uint
         depth--;
     if (FAULT == NEVER_TURNS)
         never_turning(&text, &text_length, steps, depth, inputs, inputs_length, output_length);
+    if (FAULT == HIDES_OWN)
+        hiding_own(&text, text_length);
     uint32_t returned = proved_run(text, text_length, steps, depth, inputs, inputs_length, output, output_length, code, code_length, values, values_length, record, record_length);
     if (!returned)
         return 0;
