@@ -53,7 +53,7 @@ module _ (S : Scopes) (text : Text) (r : Ref) where
   unfolding hidesOwn
   none-of-own h = h
 
-  enter-owns : isProtected text ≡ false → hidesOwn S text ≡ false → Owns 1 (S .own) S → Owns 1 (enter text r S .own) (enter text r S)
+  pub enter-owns : isProtected text ≡ false → hidesOwn S text ≡ false → Owns 1 (S .own) S → Owns 1 (enter text r S .own) (enter text r S)
   enter-owns free apart o =
       let h = enter-hides S text r free in
       record {
