@@ -1,5 +1,5 @@
 /* Checks a module as one would write it in C: one recursive descent over the tokens that looks at form, names and types and makes the tree. Refusals 8 and 9
- * end it at once; of 10 to 17 the least is kept. */
+ * end it at once; of 10 to 17 and 19 the least is kept. */
 #include "plain_tokens.h"
 #include <setjmp.h>
 #include <string.h>
@@ -8,9 +8,14 @@
 static const struct token *now;
 static jmp_buf refused_form;
 static struct refusal form_refusal;
-static uint32_t least_fault; /* of 10 to 17: its place and then its number */
+static uint32_t least_fault; /* its place, and then its standing among those at one place */
 #define NO_FAULT UINT32_MAX
-enum { NUMBER_BITS = 5 };
+enum { STANDING_BITS = 6, BEHIND_10 = 2 * 10 + 1 };
+
+/* By their numbers, but that 19 comes between 10 and 11. */
+static uint32_t standing(uint32_t number) { return number == RAPID_HIDING_LOOP ? BEHIND_10 : 2 * number; }
+
+static uint32_t number_of(uint32_t standing) { return standing == BEHIND_10 ? RAPID_HIDING_LOOP : standing / 2; }
 
 static _Noreturn void refuse_form(uint32_t number, uint32_t place) {
     form_refusal = (struct refusal){number, place};
@@ -18,7 +23,7 @@ static _Noreturn void refuse_form(uint32_t number, uint32_t place) {
 }
 
 static void fault(uint32_t number, uint32_t place) {
-    uint32_t code = place << NUMBER_BITS | number;
+    uint32_t code = place << STANDING_BITS | standing(number);
     if (code < least_fault)
         least_fault = code;
 }
@@ -567,6 +572,8 @@ static struct step *for_statement(int depth) {
     struct step *s = new_step(FOR, now->place);
     new_step(FOR_NEXT, now++->place);
     const struct token *name = expect(S_NAME);
+    if (symbols[plain_names[name->value].symbol].level == ROUTINE_LEVEL)
+        fault(RAPID_HIDING_LOOP, name->place);
     level++;
     int fresh = declarable(name);
     s->word = s[1].word = (uint16_t)take_words(name, 1, 0);
@@ -806,7 +813,7 @@ struct refusal plain_check(const uint8_t *text, size_t length, struct module *mo
         return form_refusal;
     whole_module(module);
     if (least_fault != NO_FAULT)
-        return (struct refusal){least_fault & ((1 << NUMBER_BITS) - 1), least_fault >> NUMBER_BITS};
+        return (struct refusal){number_of(least_fault & ((1 << STANDING_BITS) - 1)), least_fault >> STANDING_BITS};
     const struct symbol *main_symbol = &symbols[plain_names[MAIN_NAME].symbol];
     module->main = &routines[main_symbol->value];
     if (main_symbol->meaning != M_ROUTINE || module->main->is_func || module->main->parameters)

@@ -12,7 +12,7 @@ uint32_t proved_run_until(const uint8_t *text, size_t text_length, uint32_t flag
 
 enum {
     READS_PAST_TEXT = 1, WRITES_PAST_OUTPUT, WRITES_PAST_COUNT, LEAVES_CODE, WRITES_BEYOND_STORE, WRITES_PAST_RECORD, WRITES_TEXT, COUNTS_WRONG, ASKS_OLD_MEMORY, TAKES_LESS_DEPTH, CHANGES_OUTPUT,
-    NEVER_TURNS, RUNS_LISTS_TWICE, UNDOES_ERRORS, SPARES_LAST_STEP
+    NEVER_TURNS, RUNS_LISTS_TWICE, UNDOES_ERRORS, SPARES_LAST_STEP, HIDES_OWN
 };
 
 /* One call; `at` and `undo` where it has a step number K. */
@@ -48,6 +48,7 @@ static uint8_t tried_output[MOST_OUTPUT], tried_code[RAPID_STORE_BYTES], tried_v
 
 /* How the call ends with this text; RAPID_REFUSED where it cannot be tried. */
 static int tried(struct call c, const uint8_t *text, size_t length) {
+    memset(tried_record, 0, sizeof tried_record);
     if (c.output_length > MOST_OUTPUT || length == 0)
         return RAPID_REFUSED;
     c.text = text, c.text_length = length;
@@ -80,6 +81,15 @@ static size_t piece(const uint8_t *text, size_t length) {
 }
 
 static int is(const uint8_t *word, size_t length, const char *name) { return length == strlen(name) && strncasecmp((const char *)word, name, length) == 0; }
+
+static int has_word(const uint8_t *text, size_t length, const char *word) {
+    for (size_t i = 0, n; i < length; i += n) {
+        n = piece(text + i, length - i);
+        if (is(text + i, n, word))
+            return 1;
+    }
+    return 0;
+}
 
 /* ---- another text in place of the lent one */
 static uint8_t other[RAPID_TEXT_LIMIT];
@@ -137,18 +147,9 @@ static void take_other(struct call *c, int (*change)(const uint8_t *, size_t), i
 /* ---- UNDOES_ERRORS: where an error ends the run, the routines that were live before it run their UNDO lists; of the record only the output tells. */
 enum { SOME_STEPS = 100 };
 
-static int has_undo(const uint8_t *text, size_t length) {
-    for (size_t i = 0, n; i < length; i += n) {
-        n = piece(text + i, length - i);
-        if (is(text + i, n, "UNDO"))
-            return 1;
-    }
-    return 0;
-}
-
 static uint32_t undoing_errors(const struct call *c) {
     uint8_t record[RAPID_RECORD_BYTES];
-    if (!has_undo(c->text, c->text_length) || tried(*c, c->text, c->text_length) != RAPID_ERROR_UNHANDLED)
+    if (!has_word(c->text, c->text_length, "UNDO") || tried(*c, c->text, c->text_length) != RAPID_ERROR_UNHANDLED)
         return proved(c);
     memcpy(record, tried_record, sizeof record);
     struct call d = *c;
@@ -161,6 +162,44 @@ static uint32_t undoing_errors(const struct call *c) {
         memcpy(d.record, record, sizeof record);
     }
     return returned;
+}
+
+/* ---- HIDES_OWN: a FOR variable may be named like a parameter or data of its routine. */
+enum { MOST_NAME = 32 };
+
+/* Names the FOR variable at a place anew, in as many letters, and all that mean it: they stand behind its DO, up to its ENDFOR. Whether there is such a name. */
+static int name_anew(uint8_t *text, size_t length, size_t at) {
+    char old[MOST_NAME + 1] = {0}, new[MOST_NAME + 1] = {0};
+    size_t n = piece(text + at, length - at), i = at + n;
+    memcpy(old, text + at, n);
+    memset(new, 'a', n);
+    while (has_word(text, length, new)) {
+        if (new[0] == 'z')
+            return 0;
+        memset(new, new[0] + 1, n);
+    }
+    memcpy(text + at, new, n);
+    while (i < length && !is(text + i, piece(text + i, length - i), "DO"))
+        i += piece(text + i, length - i);
+    for (size_t p, inside = 1; i < length && inside; i += p) {
+        p = piece(text + i, length - i);
+        if (is(text + i, p, old))
+            memcpy(text + i, new, n);
+        inside += is(text + i, p, "FOR");
+        inside -= is(text + i, p, "ENDFOR");
+    }
+    return 1;
+}
+
+/* Puts a text in place of the lent one in which no FOR variable is refused by 19. */
+static void hide_own(struct call *c) {
+    if (c->text_length > RAPID_TEXT_LIMIT)
+        return;
+    memcpy(other, c->text, c->text_length);
+    while (tried(*c, other, c->text_length) == RAPID_REFUSED && tried_record[8] == RAPID_HIDING_LOOP)
+        if (!name_anew(other, c->text_length, tried_record[16] | (size_t)tried_record[17] << 8))
+            return;
+    c->text = other;
 }
 
 /* ---- the call */
@@ -176,6 +215,8 @@ static uint32_t faulty(struct call c) {
         take_other(&c, stepped, RAPID_RETURNED);
     if (FAULT == RUNS_LISTS_TWICE && c.aborts)
         take_other(&c, doubled, RAPID_ABORTED);
+    if (FAULT == HIDES_OWN)
+        hide_own(&c);
     if (FAULT == SPARES_LAST_STEP && c.at == c.steps)
         c.aborts = 0;
     uint32_t returned = FAULT == UNDOES_ERRORS ? undoing_errors(&c) : proved(&c);

@@ -109,6 +109,7 @@ static const char *const refusals[] = {
     "over 64 routines, 1,024 module words, or 64 words a routine (parameters, data, each FOR variable)",
     "barred here: RETRY, TRYNEXT or plain RAISE outside ERROR, RAISE with a value in it, RETURN with a value in a PROC or without one in a FUNC; in UNDO a call, RETRY, TRYNEXT, RAISE, RETURN or EXIT",
     "no PROC main without parameters",
+    "FOR variable named like a parameter or data of its routine",
 };
 
 static const char *const errors[] = {"ERR_OVERFLOW", "ERR_DIVZERO", "ERR_OUTOFBND", "ERR_ILLRAISE"};

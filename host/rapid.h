@@ -83,7 +83,8 @@ enum rapid_refusal {
     RAPID_BAD_CONSTANT = 15,       /* of its expression */
     RAPID_LIMIT_CROSSED = 16,      /* of the name that crosses it */
     RAPID_BARRED_HERE = 17,        /* of the word; for a call in UNDO, the callee */
-    RAPID_NO_MAIN = 18             /* 0 */
+    RAPID_NO_MAIN = 18,            /* 0 */
+    RAPID_HIDING_LOOP = 19         /* of the FOR variable; it comes between 10 and 11 */
 };
 
 /* Numbers in ERRNO that the language raises itself; RAISE gives 1 to 90. */

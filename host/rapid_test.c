@@ -133,11 +133,11 @@ static void test_word_at(void) {
 static void test_sentences(void) {
     for (uint64_t i = 0; i <= RAPID_UNDO_SPENT; i++)
         expect(rapid_ending_sentence(i) != NULL, "a sentence for each ending");
-    for (uint64_t i = 1; i <= RAPID_NO_MAIN; i++)
+    for (uint64_t i = 1; i <= RAPID_HIDING_LOOP; i++)
         expect(rapid_refusal_sentence(i) != NULL, "a sentence for each refusal");
     for (uint64_t i = RAPID_ERR_OVERFLOW; i <= RAPID_ERR_ILLRAISE; i++)
         expect(rapid_error_name(i) != NULL, "a name for each error");
-    expect(!rapid_ending_sentence(RAPID_UNDO_SPENT + 1) && !rapid_refusal_sentence(RAPID_NOT_REFUSED) && !rapid_refusal_sentence(RAPID_NO_MAIN + 1), "NULL for any other number");
+    expect(!rapid_ending_sentence(RAPID_UNDO_SPENT + 1) && !rapid_refusal_sentence(RAPID_NOT_REFUSED) && !rapid_refusal_sentence(RAPID_HIDING_LOOP + 1), "NULL for any other number");
     expect(!rapid_error_name(7) && !rapid_error_name(1000) && !rapid_error_name(1005) && !rapid_ending_sentence(UINT64_MAX), "NULL for any other number");
 }
 

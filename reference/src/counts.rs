@@ -13,6 +13,7 @@ pub enum Event {
     WhileRound,
     ForHead,
     ForTurned,
+    ForHides,
     ForRound,
     LoopInLoop,
     Call,
@@ -56,7 +57,7 @@ pub enum Event {
     NoRoomInUndo,
 }
 
-const NAMES: [&str; 51] = [
+const NAMES: [&str; 52] = [
     "assignment",
     "element of an array stored",
     "line written",
@@ -67,6 +68,7 @@ const NAMES: [&str; 51] = [
     "WHILE round",
     "FOR head",
     "FOR head without STEP that counts down",
+    "FOR head whose variable hides something",
     "FOR round",
     "loop entered in a loop (a WHILE at each round)",
     "call",

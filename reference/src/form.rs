@@ -292,6 +292,7 @@ impl Reader<'_> {
             to,
             step,
             body,
+            hides: false,
         })))
     }
 

@@ -1,4 +1,4 @@
-//! Names, types, constants and limits: refusals 10 to 18.
+//! Names, types, constants and limits: refusals 10 to 19.
 //!
 //! Every violation is noted and the least taken at the end. A checking function
 //! hands back `None` for a refused piece, so that whatever needs its type, size
@@ -15,12 +15,22 @@ const MODULE_WORD_LIMIT: usize = 1_024;
 const ROUTINE_WORD_LIMIT: usize = 64;
 const LARGEST_ARRAY: i64 = 512;
 
-/// Settles every name of a module and finds its first refusal of 10 to 18.
+/// Where a refusal stands in the order of those at one place: by its number, but
+/// 19 is "between 10 and 11".
+fn standing(number: u32) -> u32 {
+    match number {
+        19 => 2 * 10 + 1,
+        _ => 2 * number,
+    }
+}
+
+/// Settles every name of a module and finds its first refusal of 10 to 19.
 /// The index of main is handed back.
 pub fn settle(module: &mut Module) -> Result<usize, Refusal> {
     let mut checker = Checker::new(module);
     checker.module(module);
-    if let Some(least) = checker.violations.iter().min() {
+    let in_order = |refusal: &&Refusal| (refusal.place, standing(refusal.number));
+    if let Some(least) = checker.violations.iter().min_by_key(in_order) {
         return Err(*least);
     }
     match checker.module_scope.get("main") {
@@ -426,6 +436,11 @@ impl Checker {
         let variable = &mut counted.variable;
         if protected(&variable.text).is_some() {
             self.note(10, variable.place);
+        }
+        counted.hides = self.look_up(&variable.text).is_some();
+        let own = self.routine_scope.as_ref();
+        if own.is_some_and(|own| own.contains_key(&variable.text)) {
+            self.note(19, variable.place);
         }
         variable.meaning = self.take_words(variable, 1, 0);
         let known = (variable.text.clone(), Known::LoopVariable(variable.meaning));

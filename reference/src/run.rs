@@ -722,6 +722,9 @@ impl<'m> Machine<'m> {
             unreachable!("a FOR variable is a word of its routine");
         };
         self.counts.add(Event::ForHead);
+        if counted.hides {
+            self.counts.add(Event::ForHides);
+        }
         if goes_on(start, last, step) {
             self.counts.add(Event::ForRound);
             self.store(Slot::Local(variable), start);

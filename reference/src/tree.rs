@@ -131,6 +131,8 @@ pub struct Loop {
     pub to: Expression,
     pub step: Option<Expression>,
     pub body: List,
+    /// The variable's name meant something around; `check_names` puts it in.
+    pub hides: bool,
 }
 
 pub struct Case {

@@ -75,8 +75,8 @@ fn the_same_seed_gives_the_same_lines() {
 #[test]
 fn every_line_is_a_case_line() {
     for name in [
-        "valid", "courses", "counting", "undo", "mistyped", "words", "bytes", "limits", "listing",
-        "all",
+        "valid", "courses", "counting", "undo", "hiding", "mistyped", "words", "bytes", "limits",
+        "listing", "all",
     ] {
         let kind = Kind::named(name).expect("a kind of cases");
         for (count, size) in [(1_000, Size::Short), (20, Size::Long)] {

@@ -47,7 +47,7 @@ small-errno e (latest (named l h)) = omega arith
 allowed-low : (l : Lent) (f : Record) → l .steps < 4294967296 → length (l .text) < 4294967296 → length (l .inputs) < 4294967296 → length (l .output) < 4294967296 → Allowed l f → Low f
 allowed-low l f s t i o (refused e p r) = record {
   ending = omega arith;
-  refusal = omega (arith, r .to-18);
+  refusal = omega (arith, r .to-19);
   offset = omega arith;
   steps = omega (arith, r .steps);
   errno = omega (arith, r .errno);

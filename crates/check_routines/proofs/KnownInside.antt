@@ -98,6 +98,7 @@ module _ {text values : List ℕ} {k h : ℕ} (s : Inside text values k h) where
     M = memoryOf W m r;
     numbers = λ q. refl;
     callable = λ i j a e. callable (spelled W i) j e;
+    owns = s .filled .owns;
     quoted = s .stands .quoted;
     sorts = s .stands .sorts;
   }

@@ -30,7 +30,7 @@ use Rattle.store_writing.specs.Promises.{Kept, Linked}
 use Rattle.store_writing.proofs.Keeping.{cell-above, head-below, kept-wider, kept-on}
 use Rattle.check_expressions.proofs.FaultsOfParts.{append-none}
 use Rattle.faults.specs.First.{First, Leads}
-use Rattle.faults.proofs.First.{_and_, every-none, first-fault, first-if, first-left, first-right, leads-later, leads-same-if}
+use Rattle.faults.proofs.First.{_and_, every-none, first-fault, first-if, first-left, first-right, leads-later, ranks, leads-same-if}
 use Rattle.faults.proofs.Expressions.{grows}
 use Rattle.faults.proofs.Statements.{arguments-inside}
 use Rattle.check_links.specs.Raw.{SameWords, RawArguments, RawAssignCall}
@@ -154,7 +154,7 @@ module _ (code values : List ℕ) (i : ℕ) (g : ForCalls code values i) where
         unfolding callFaults
         for-differs-first y =
             first-right
-            (subst (Leads (record { number = wrongType; at = i })) (sym callee-are) (leads-same-if (record { number = wrongType; at = i }) _ wrongCount i refl (omega arith)) and for-later wrongType _)
+            (subst (Leads (record { number = wrongType; at = i })) (sym callee-are) (leads-same-if (record { number = wrongType; at = i }) _ wrongCount i refl (ranks wrongType wrongCount (omega arith) (omega arith))) and for-later wrongType _)
             (subst (First (record { number = wrongType; at = i })) (sym (result-are j)) (first-if _ wrongType i (result-differs ∙ y)))
 
         -- nothing but the count and the arguments

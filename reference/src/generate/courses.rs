@@ -315,7 +315,12 @@ impl Course<'_> {
 /// Compound statements.
 impl Course<'_> {
     fn for_loop(&mut self) {
-        let counter = COUNTERS[self.counters.len().min(COUNTERS.len() - 1)];
+        let counter = if self.random.chance(5) {
+            // hides the routine
+            "main"
+        } else {
+            COUNTERS[self.counters.len().min(COUNTERS.len() - 1)]
+        };
         self.loops += 1;
         let head = self.random.pick(&[
             "1 TO 4",

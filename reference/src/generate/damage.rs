@@ -42,7 +42,7 @@ fn any_name(random: &mut Random, words: &[Token]) -> Vec<u8> {
     }
 }
 
-/// Mistakes against rules 10 to 18.
+/// Mistakes against rules 10 to 19.
 pub fn mistype(random: &mut Random, words: &mut Vec<Token>) {
     for _ in 0..mistakes(random) {
         match random.weighted(&[22, 10, 10, 10, 12, 6, 6, 4, 8, 20]) {

@@ -5,6 +5,7 @@ mod chains;
 mod counting;
 mod courses;
 mod damage;
+mod hiding;
 mod layout;
 mod limits;
 mod phrases;
@@ -30,6 +31,7 @@ pub enum Kind {
     Courses,
     Counting,
     Undo,
+    Hiding,
     Mistyped,
     Words,
     Bytes,
@@ -45,6 +47,7 @@ impl Kind {
             "courses" => Kind::Courses,
             "counting" => Kind::Counting,
             "undo" => Kind::Undo,
+            "hiding" => Kind::Hiding,
             "mistyped" => Kind::Mistyped,
             "words" => Kind::Words,
             "bytes" => Kind::Bytes,
@@ -127,8 +130,9 @@ fn case_line(random: &mut Random, kind: Kind, size: Size) -> String {
         Kind::Listing => listing_line(random, size),
         Kind::Limits => show_run(&limits::limit_case(random, size)),
         Kind::Courses => show_run(&course_case(random)),
-        Kind::Counting => show_run(&counting_case(random)),
+        Kind::Counting => show_run(&loops_case(random, counting::counting)),
         Kind::Undo => show_run(&undo::undo_case(random, size)),
+        Kind::Hiding => show_run(&loops_case(random, hiding::hiding)),
         _ => {
             let text = text_of(random, kind, size);
             show_run(&lend(random, text))
@@ -137,17 +141,18 @@ fn case_line(random: &mut Random, kind: Kind, size: Size) -> String {
 }
 
 fn mixed_line(random: &mut Random, size: Size) -> String {
-    const KINDS: [Kind; 8] = [
+    const KINDS: [Kind; 9] = [
         Kind::Valid,
         Kind::Counting,
         Kind::Undo,
+        Kind::Hiding,
         Kind::Mistyped,
         Kind::Words,
         Kind::Bytes,
         Kind::Limits,
         Kind::Listing,
     ];
-    let kind = KINDS[random.weighted(&[26, 5, 8, 20, 10, 8, 15, 8])];
+    let kind = KINDS[random.weighted(&[24, 4, 8, 5, 19, 9, 8, 15, 8])];
     case_line(random, kind, size)
 }
 
@@ -195,8 +200,8 @@ fn course_case(random: &mut Random) -> Lent {
 }
 
 /// A module of loops, with steps for most of them.
-fn counting_case(random: &mut Random) -> Lent {
-    let words = counting::counting(random);
+fn loops_case(random: &mut Random, module: fn(&mut Random) -> Vec<Token>) -> Lent {
+    let words = module(random);
     let text = write_out(random, &words);
     let mut lent = lend(random, text);
     if random.chance(90) {

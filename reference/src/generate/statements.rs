@@ -321,7 +321,9 @@ impl Author<'_> {
     }
 
     fn for_statement(&mut self) {
-        let name = self.local_name(&[]);
+        // It may hide everything but what is its routine's own.
+        let own = self.scopes[1].clone();
+        let name = self.local_name(&own);
         self.part.words += 1;
         self.start_statement(&format!("FOR {name} FROM"));
         let ends = self.random.pick(&[
