@@ -13,7 +13,7 @@ use Rattle.paper.specs.Steps.{programOf}
 use Rattle.paper.specs.Running.{started}
 use Rattle.paper.specs.Answer.{Accepted, Verdict, accepted, verdict}
 use Rattle.demands.proofs.Tables.{ModuleFits}
-use Rattle.demands.proofs.Aborted.{run-reaches, below-k, is-struck, not-struck, error-leaves, end-leaves, ends-so, spent-in-undo, undoable-at, never-in-undo, newest-in-undo, only-those-live, step-on-calls, never-twice, dropped-run-none}
+use Rattle.demands.proofs.Aborted.{run-reaches, below-k, is-struck, not-struck, next-list, none-left-at-9, error-leaves, end-leaves, ends-so, spent-in-undo, undoable-at, never-in-undo, newest-in-undo, only-those-live, step-on-calls, never-twice, dropped-run-none}
 use Rattle.demands.proofs.Records.{Accepts, Judges, refuses, accepts, judges}
 use Rattle.demands.specs.Vocabulary.{at-start}
 use Rattle.demands.specs.Aborts.{AbortLesson, Aborting}
@@ -29,6 +29,7 @@ module _ (W : List Word) (m : Module) (fits : ModuleFits W m) (main : ℕ) (belo
         strikes-in-run = λ R k e. run-reaches P R main k (started P main) at-start e;
         below-k = λ R n a h. below-k P R n a (started P main) h;
         not-struck = λ R n a f. not-struck P R n a (started P main) f;
+        first-list = λ s. next-list P (s .calls);
         newest-in-undo = λ R first s c r i. newest-in-undo W m fits R main below first s (i .reached) (i .since) c r (i .live);
         only-those-live = λ R first s h way. only-those-live W m fits R main first s below h way;
         step-on-calls = λ R first s s′ c r i e. step-on-calls W m fits R main below first s (i .reached) (i .since) s′ c r (i .live) e;
@@ -37,6 +38,7 @@ module _ (W : List Word) (m : Module) (fits : ModuleFits W m) (main : ℕ) (belo
         never-twice = λ R first s s′ s″ c r i e n later. never-twice W m fits R main below first s (i .reached) (i .since) s′ s″ c r (i .live) e n later;
         dropped-run-none = λ R taken first s n leads h way low high. dropped-run-none W m fits R main below first s h way taken n leads low high;
         ends-so = ends-so P;
+        none-left-at-9 = none-left-at-9 P;
         spent-in-undo = λ R first u h e. spent-in-undo W m fits R main first u below h e;
       }
 

@@ -124,35 +124,36 @@ ends-along P R first (suc n) s h = newest (s .calls) refl (λ s′ g. ends-along
 pub ends-so : (P : Program) (R : Rooms) (u : ℕ) (s : State) → UndoLeads P R s (undoing P R u s .state)
 ends-so P R u s = ends-along P R s u s no-step
 
--- Where the UNDO steps are spent.
-record SpentAt (P : Program) (x : Ended) : Type 0 where
-  newest : Call
-  callers : List Call
-  live : x .state .calls ≡ newest ∷ callers
-  place : x .place ≡ nextStep P newest .place
+-- How an abort ends: no call is left, or its UNDO steps are spent, or a step of it lacks something.
+data Undid (P : Program) (x : Ended) : Type 0 where
+  to-its-end : x .ending ≡ 9 → x .state .calls ≡ [] → Undid P x
+  spent-at : (c : Call) (r : List Call) → x .ending ≡ 10 → x .state .calls ≡ c ∷ r → x .place ≡ nextStep P c .place → Undid P x
+  lacked : x .ending ≤ 8 → Undid P x
 
-spent-at : (P : Program) (R : Rooms) (n : ℕ) (s : State) → undoing P R n s .ending ≡ 10 → SpentAt P (undoing P R n s)
+how-it-ends : (P : Program) (R : Rooms) (n : ℕ) (s : State) → Undid P (undoing P R n s)
 unfolding undoing
-spent-at P R zero s = newest (s .calls) refl
+how-it-ends P R zero s = newest (s .calls) refl
   where
-    left : List Call → Ended
-    left cs = elim cs [ [] ↦ aborted s | c ∷ r ↦ undoSpent (nextStep P c .place) s ]
-
-    newest : (cs : List Call) → s .calls ≡ cs → left cs .ending ≡ 10 → SpentAt P (left cs)
-    newest [] e q = absurd (omega arith)
-    newest (c ∷ r) e q = record { newest = c; callers = r; live = e; place = refl }
-spent-at P R (suc n) s = newest (s .calls) refl (λ s′. spent-at P R n s′)
+    newest : (cs : List Call) → s .calls ≡ cs → Undid P (elim cs [ [] ↦ aborted s | c ∷ r ↦ undoSpent (nextStep P c .place) s ])
+    newest [] e = to-its-end refl e
+    newest (c ∷ r) e = spent-at c r refl e refl
+how-it-ends P R (suc n) s = newest (s .calls) refl (λ s′. how-it-ends P R n s′)
   where
-    left : Outcome → Ended
-    left o = elim o [ goesOn s′ ↦ undoing P R n s′ | stopped b x ↦ x ]
+    after : (o : Outcome) → CameUndo R s o → ((s′ : State) → Undid P (undoing P R n s′)) → Undid P (elim o [ goesOn s′ ↦ undoing P R n s′ | stopped b x ↦ x ])
+    after o (goes-undo {s′ = s′} l) on = on s′
+    after o (stops-undo i place low high) on = lacked high
 
-    after : (o : Outcome) → CameUndo R s o → ((s′ : State) → undoing P R n s′ .ending ≡ 10 → SpentAt P (undoing P R n s′)) → left o .ending ≡ 10 → SpentAt P (left o)
-    after o (goes-undo {s′ = s′} l) on q = on s′ q
-    after o (stops-undo i place low high) on q = absurd (omega arith)
+    newest : (cs : List Call) → s .calls ≡ cs → ((s′ : State) → Undid P (undoing P R n s′)) → Undid P (undoFrom P R n s cs)
+    newest [] e on = to-its-end refl e
+    newest (c ∷ r) e on = after (undoStep P R c r s) (came-undo P R c r s e) on
 
-    newest : (cs : List Call) → s .calls ≡ cs → ((s′ : State) → undoing P R n s′ .ending ≡ 10 → SpentAt P (undoing P R n s′)) → undoFrom P R n s cs .ending ≡ 10 → SpentAt P (undoFrom P R n s cs)
-    newest [] e on q = absurd (omega arith)
-    newest (c ∷ r) e on q = after (undoStep P R c r s) (came-undo P R c r s e) on q
+pub none-left-at-9 : (P : Program) (R : Rooms) (u : ℕ) (s : State) → undoing P R u s .ending ≡ 9 → undoing P R u s .state .calls ≡ []
+none-left-at-9 P R u s e = by-case (how-it-ends P R u s)
+  where
+    by-case : Undid P (undoing P R u s) → undoing P R u s .state .calls ≡ []
+    by-case (to-its-end q l) = l
+    by-case (spent-at c r q l p) = absurd (omega arith)
+    by-case (lacked h) = absurd (omega arith)
 
 -- ---- one step of an UNDO list
 -- It makes no call, and returns, retries and raises nothing: where it is made, it goes on in its list.
@@ -409,7 +410,10 @@ module _ (W : List Word) (m : Module) (fits : ModuleFits W m) where
 
   pub spent-in-undo : (R : Rooms) (main : ℕ) (first : State) (u : ℕ) → main < length (m .routines) → Reached program R main first → undoing program R u (struck program first) .ending ≡ 10
       → StandsInUndo W m program (undoing program R u (struck program first))
-  spent-in-undo R main first u below reached e =
-      let x = spent-at program R u (struck program first) e in
-      let way = ends-so program R u (struck program first) in
-      record { newest = x .newest; callers = x .callers; live = x .live; place = x .place; in-undo = newest-in-undo R main below first _ reached way (x .newest) (x .callers) (x .live) }
+  spent-in-undo R main first u below reached e = by-case (how-it-ends program R u (struck program first))
+    where
+      by-case : Undid program (undoing program R u (struck program first)) → StandsInUndo W m program (undoing program R u (struck program first))
+      by-case (to-its-end q l) = absurd (omega arith)
+      by-case (spent-at c r q l p) =
+          record { newest = c; callers = r; live = l; place = p; in-undo = newest-in-undo R main below first _ reached (ends-so program R u (struck program first)) c r l }
+      by-case (lacked h) = absurd (omega arith)

@@ -123,6 +123,8 @@ pub record AbortLesson (W : List Word) (m : Module) (P : Program) (main : ℕ) :
   -- Else it is the run without K: where its allowance is below K, and where it has ended or stopped by then.
   pub below-k : (R : Rooms) (n : ℕ) (a : Abort) → n < a .at → runAbort P R n (some a) (started P main) ≡ run P R n (started P main)
   pub not-struck : (R : Rooms) (n : ℕ) (a : Abort) → ¬ (run P R (a .at) (started P main) .ending ≡ 5) → runAbort P R n (some a) (started P main) ≡ run P R n (started P main)
+  -- Where K strikes, the nearest call that has an UNDO list begins it.
+  pub first-list : (s : State) → NextList P (s .calls) (struck P s .calls)
   -- In an abort the list that runs is that of the newest call;
   pub newest-in-undo : (R : Rooms) (first s : State) (c : Call) (r : List Call) → InAbort P R main first s c r → Among (nextStep P c) (undoStepsOf W m (c .routine))
   -- no call is live but those that were as K struck;
@@ -140,6 +142,8 @@ pub record AbortLesson (W : List Word) (m : Module) (P : Program) (main : ℕ) :
       → length (taken .calls) ≤ n → n < length (s .calls) → BegunSince P R n taken first
   -- All of an abort, whatever its allowance, is such states;
   pub ends-so : (R : Rooms) (u : ℕ) (s : State) → UndoLeads P R s (undoing P R u s .state)
+  -- "9: aborted": no list is left;
+  pub none-left-at-9 : (R : Rooms) (u : ℕ) (s : State) → undoing P R u s .ending ≡ 9 → undoing P R u s .state .calls ≡ []
   -- and "spent UNDO steps give 10, at the next step's place", which is in an UNDO list.
   pub spent-in-undo : (R : Rooms) (first : State) (u : ℕ) → Reached P R main first → undoing P R u (struck P first) .ending ≡ 10 → StandsInUndo W m P (undoing P R u (struck P first))
 
