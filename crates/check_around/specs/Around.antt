@@ -8,7 +8,7 @@ use Rattle.paper.specs.Sorts.{STRING}
 use Rattle.paper.specs.Words.{Word}
 use Rattle.paper.specs.Terms.{Memory}
 use Rattle.paper.specs.Names.{DataType, theRoutine, nth, sortIn, spelled, meaning}
-use Rattle.paper.specs.Checks.{isSome, inError}
+use Rattle.paper.specs.Checks.{WhichList, theBody, theHandler, theUndo, isSome}
 use Rattle.paper.specs.Checks as checks
 use Rattle.store_cells.specs.Cells.{cellsOf}
 use Rattle.code.specs.Cells.{headAt, valueAt, placeAt}
@@ -84,6 +84,21 @@ pub record ResultIs (o : Option DataType) (result : ℕ) : Type 0 where
   pub is : o ≡ typeIn result
   pub plain : o ≡ none → result ≡ noType
 
+-- a list by its number
+abbrev pub bodyList : ℕ
+bodyList = 0
+
+abbrev pub handlerList : ℕ
+handlerList = 1
+
+abbrev pub undoList : ℕ
+undoList = 2
+
+unfoldable pub listCode : WhichList → ℕ
+listCode theBody = bodyList
+listCode theHandler = handlerList
+listCode theUndo = undoList
+
 pub record Tells (k : Setting) (K : checks.Setting) : Type 0 where
   pub result : ResultIs (K .result) (k .result)
-  pub handler : k .handler ≡ inError (K .list)
+  pub list : k .list ≡ listCode (K .list)

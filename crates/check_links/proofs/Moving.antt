@@ -18,7 +18,7 @@ use Rattle.paper.specs.Steps.{Spot, scalar, elementOf, spotOf}
 use Rattle.code.specs.Cells.{opIn, valueIn, placeIn, linkIn, headAt, tailAt, opAt, valueAt, placeAt, linkAt}
 use Rattle.code.specs.Spans.{guard, _then_, firstIn, sizeIn, termIn}
 use Rattle.code.specs.Steps.{aTarget, aCallTarget, aReturnOf, aReturn, aRaiseOf, aRaise, anExit, aRetry, aTryNext, aWrite, aWriteOf, aRead, aNextArgument, aThen, aClose}
-use Rattle.code.specs.Steps.{parts, Head, noHead, numbered, agree, scalarIn, elementIn, targetIn, argumentsIn, anyArguments, calleeIn, charactersIn, aProcedureCall, aFunctionEnd, aDo}
+use Rattle.code.specs.Steps.{parts, Head, noHead, numbered, agree, scalarIn, elementIn, targetIn, argumentsIn, anyArguments, calleeIn, charactersIn, aProcedureCall, anUndoEnd, aDo}
 use Rattle.code.proofs.Options.{none-some, same-some, guarded, guards, went, goes}
 use Rattle.code.proofs.Spanning.{Agree, agree-same, span-grows}
 use Rattle.code.proofs.Composing.{framed}
@@ -59,7 +59,7 @@ target-op op ops h l u = rw (ne-eqb op aThen (λ e. omega arith), goesByValue) (
 
 target-link : (op ops : ℕ) → aTarget ≤ ops → ops ≤ aCallTarget → ops ≤ op → op < ops + 4 → goesByLink op ≡ true
 target-link op ops k h l u =
-    sym (link-step op (omega arith) (omega arith) true (sym (ap not (ne-eqb op aFunctionEnd (λ e. omega arith))) ∙ step-other op (λ e. omega arith) (λ e. omega arith)))
+    sym (link-step op (omega arith) (omega arith) true (sym (ap not (ne-eqb op anUndoEnd (λ e. omega arith))) ∙ step-other op (λ e. omega arith) (λ e. omega arith) (λ e. omega arith)))
 
 room-more : {A : Type 0} (v n p : ℕ) (x s : A) → n ≤ p → guard (ltb v n) x ≡ some s → guard (ltb v p) x ≡ some s
 room-more v n p x s h e = let d = guarded (ltb v n) x s e in guards (ltb v p) x s (lt-ltb v p (omega (arith, ltb-true v n (d .holds)))) (d .is)

@@ -10,7 +10,7 @@ use Rattle.laws.proofs.Tests.{false-true}
 use Rattle.paper.specs.Basics.{if_then_else_}
 use Rattle.store_cells.specs.Cells.{cellsOf}
 use Rattle.code.specs.Cells.{opAt, linkAt, linkIn}
-use Rattle.code.specs.Steps.{aTarget, anElseIf, aCase, aThen, aProcedureCall, anEnd, aFunctionEnd, aNextValue, aDo, aPass, anOtherwise, aClose}
+use Rattle.code.specs.Steps.{aTarget, anElseIf, aCase, aThen, aProcedureCall, anEnd, aFunctionEnd, anUndoEnd, aNextValue, aDo, aPass, anOtherwise, aClose}
 use Rattle.store_reading.specs.Reading.{halfEnd, Part}
 use Rattle.check_links.specs.Resolved.{stepByLink, goesByLink, goesByValue, goesByPlace, isLed, beyond, Beyond, LedValue, LedPlace, LedLink}
 use Rattle.check_links.specs.Raw.{Quiet}
@@ -32,8 +32,11 @@ module _ (op : ℕ) where
   pub step-end : (op ≡ aProcedureCall → ⊥) → op ≡ anEnd → false ≡ stepByLink op
   step-end h g = rw (ne-eqb op aProcedureCall h) (rw (eq-eqb op anEnd g))
 
-  pub step-other : (op ≡ aProcedureCall → ⊥) → (op ≡ anEnd → ⊥) → not (eqb op aFunctionEnd) ≡ stepByLink op
-  step-other h g = rw (ne-eqb op aProcedureCall h) (rw (ne-eqb op anEnd g))
+  pub step-function-end : (op ≡ aProcedureCall → ⊥) → (op ≡ anEnd → ⊥) → op ≡ aFunctionEnd → false ≡ stepByLink op
+  step-function-end h g e = rw (ne-eqb op aProcedureCall h) (rw (ne-eqb op anEnd g) (rw (eq-eqb op aFunctionEnd e)))
+
+  pub step-other : (op ≡ aProcedureCall → ⊥) → (op ≡ anEnd → ⊥) → (op ≡ aFunctionEnd → ⊥) → not (eqb op anUndoEnd) ≡ stepByLink op
+  step-other h g e = rw (ne-eqb op aProcedureCall h) (rw (ne-eqb op anEnd g) (rw (ne-eqb op aFunctionEnd e)))
 
   pub link-here : (k : ℕ) → op ≡ k → true ≡ goesByLink k → true ≡ goesByLink op
   link-here k e h = h ∙ ap goesByLink (sym e)

@@ -13,14 +13,15 @@ use Rattle.paper.specs.Terms.{Term}
 use Rattle.paper.specs.Trees.{Expr, Target, Simple, firstSimple, assign, assignCall, call, returns, raises, exits, retries, triesNext, writes, reads}
 use Rattle.paper.specs.Names.{Scopes, routineIn, spelled, meaning}
 use Rattle.paper.specs.Types.{termOf}
-use Rattle.paper.specs.Steps.{Spot, Action, store, callFor, callOf, giveBack, raise, handOn, exit, retry, tryNext, write, read, endList, routineOf, characters, spotOf, optionalTerm, actionOf}
+use Rattle.paper.specs.Checks.{WhichList, theBody, theHandler, theUndo}
+use Rattle.paper.specs.Steps.{Spot, Action, store, callFor, callOf, giveBack, raise, handOn, exit, retry, tryNext, write, read, routineOf, characters, spotOf, optionalTerm, actionOf}
 use Rattle.code.specs.Cells.{opAt, valueAt, placeAt, linkAt}
 use Rattle.code.specs.Spans.{guard, _then_, termIn}
 use Rattle.code.specs.Steps.{aTarget, aCallTarget, aProcedureCall, Head, Stands, targetIn, anyArguments, calleeIn, charactersIn, linked, storeIn, callForIn, callOfIn, withTerm, writeIn, writeOfIn, readIn, compactIfIn, ifIn, whileIn}
 use Rattle.code.specs.Steps.{forIn, forTestIn, testIn, actionIn, stepIn, aCompactIf, aReturnOf, aReturn, aRaiseOf, aRaise, anExit, aRetry, aTryNext, aWrite, aWriteOf, aRead, anIf, aWhile, aFor, aForTest, aTest}
 use Rattle.code.specs.Holds.{CalleeIn}
 use Rattle.code.proofs.Options.{goes}
-use Rattle.check_links.specs.Raw.{Ground, RawWord, RawTerm, RawBound, RawTarget, RawArguments, RawCallee, RawText, RawAssign, RawAssignCall, RawCall, RawValued, RawReturn, RawReturnOf, RawWrite, RawWriteOf, RawRead, RawDoes, endOf}
+use Rattle.check_links.specs.Raw.{Ground, RawWord, RawTerm, RawBound, RawTarget, RawArguments, RawCallee, RawText, RawAssign, RawAssignCall, RawCall, RawValued, RawReturn, RawReturnOf, RawWrite, RawWriteOf, RawRead, RawDoes, endOf, endingOf}
 
 -- The module has m words, the routine n, and it is a function or is none; `text` is the module's, `R` its routines, `C` the cells.
 module _ (m n : ℕ) (fn : Bool) (text : List ℕ) (R : List Head) (C : List ℕ) where
@@ -110,9 +111,11 @@ module _ (m n : ℕ) (fn : Bool) (text : List ℕ) (R : List Head) (C : List ℕ
     unfolding actionIn
     acts-test h = rw (h, actionIn)
 
-    pub acts-end : opAt C i ≡ endOf fn → actionIn m n fn text R C i ≡ some (i, endList)
-    unfolding actionIn endOf guard
-    acts-end h = test fn (λ t. rw (h, actionIn) (rw t)) (λ t. rw (h, actionIn) (rw t))
+    pub acts-end : (which : WhichList) → opAt C i ≡ endOf which fn → actionIn m n fn text R C i ≡ some (i, endingOf which)
+    unfolding actionIn endOf endingOf guard
+    acts-end theBody h = test fn (λ t. rw (h, actionIn) (rw t)) (λ t. rw (h, actionIn) (rw t))
+    acts-end theHandler h = test fn (λ t. rw (h, actionIn) (rw t)) (λ t. rw (h, actionIn) (rw t))
+    acts-end theUndo h = rw (h, actionIn)
 
     -- ---- what they read
     module _ (out : ℕ) (leaves : linkAt C i ≡ out) where

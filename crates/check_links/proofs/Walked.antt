@@ -8,15 +8,15 @@ use native.Mathlib.Omega.{arith}
 use Rattle.paper.specs.Terms.{ofRoutine}
 use Rattle.paper.specs.Trees.{Statement, Statements, Arms, Cases, simple, compactIf, fullIf, for, while, test, empty, _then_, noArm, arm, noCase, case, RoutineList}
 use Rattle.paper.specs.Names.{Scopes, spelled, enter}
-use Rattle.paper.specs.Checks.{forsIn, forsInList, forsInArms, forsInCases}
-use Rattle.paper.specs.Steps.{Step, endList, begin, listSteps, stepsOf, stepsOfList, stepsOfArms, stepsOfCases}
+use Rattle.paper.specs.Checks.{WhichList, theBody, theHandler, theUndo, forsIn, forsInList, forsInArms, forsInCases}
+use Rattle.paper.specs.Steps.{Step, begin, listSteps, stepsOf, stepsOfList, stepsOfArms, stepsOfCases}
 use Rattle.store_cells.specs.Cells.{cellsOf}
 use Rattle.code.specs.Cells.{headAt, tailAt, opAt, valueAt}
 use Rattle.code.specs.Steps.{aPass, anElseIf, parts, stepIn}
 use Rattle.code.specs.Closed.{Every, done, also}
 use Rattle.code.specs.Holds.{known, CalleeIn}
 use Rattle.check_links.specs.Resolved.{isLed, beyond, Led, Resolved}
-use Rattle.check_links.specs.Raw.{Ground, RawStatement, RawList, RawArms, RawCases, endOf, RawRoutineList}
+use Rattle.check_links.specs.Raw.{Ground, RawStatement, RawList, RawArms, RawCases, endOf, endingOf, RawRoutineList}
 use Rattle.check_links.proofs.Moving.{still-link, still-value, still-place}
 use Rattle.check_links.proofs.SimpleSteps.{acts-end}
 use Rattle.check_links.proofs.Orders.{term-order, statement-order, list-order, begins}
@@ -106,20 +106,30 @@ module _ (g : Ground) (n : ℕ) (C D : List ℕ) (words : ℕ) (led : (i : ℕ) 
         (cases-stand r S (used + forsInList b) around after (x .next) last (x .rest) y)
 
   -- ---- the lists of a routine
-  end-step : (function : Bool) → endOf function < anElseIf
+  end-step : (which : WhichList) (function : Bool) → endOf which function < anElseIf
   unfolding endOf
-  end-step true = omega arith
-  end-step false = omega arith
+  end-step theBody true = omega arith
+  end-step theBody false = omega arith
+  end-step theHandler true = omega arith
+  end-step theHandler false = omega arith
+  end-step theUndo function = omega arith
 
-  pub routine-list-stands : (l : RoutineList) (S : Scopes) (used at : ℕ) → RawRoutineList g n C l S used at → l .closes + 1 < words → Every Stands (listSteps (g .W) (g .M) S used l)
-  unfolding listSteps CalleeIn
-  routine-list-stands l S used at x h =
+  end-calls : (which : WhichList) → CalleeIn (g .R) (g .offset) D (endingOf which)
+  unfolding endingOf CalleeIn
+  end-calls theBody = tt
+  end-calls theHandler = tt
+  end-calls theUndo = tt
+
+  pub routine-list-stands : (which : WhichList) (l : RoutineList) (S : Scopes) (used at : ℕ) → RawRoutineList g n C which l S used at → l .closes + 1 < words
+      → Every Stands (listSteps (g .W) (endingOf which) (g .M) S used l)
+  unfolding listSteps
+  routine-list-stands which l S used at x h =
       let z = l .closes in
-      let o : opAt C z < anElseIf = subst (λ (k : ℕ). k < anElseIf) (sym (x .op)) (end-step (g .function)) in
+      let o : opAt C z < anElseIf = subst (λ (k : ℕ). k < anElseIf) (sym (x .op)) (end-step which (g .function)) in
       every-both _ _
       (list-stands (l .statements) S used [] z at z (x .list) (step-goes C D words led z h o))
-      (standing.begun g n C D words led few z z [] z z endList refl (omega arith) o (x .place)
-      (acts-end (g .m) n (g .function) (g .text) (g .R) D z (op-same C D words led z (omega arith) ∙ x .op)) tt)
+      (standing.begun g n C D words led few z z [] z z (endingOf which) refl (omega arith) o (x .place)
+      (acts-end (g .m) n (g .function) (g .text) (g .R) D z which (op-same C D words led z (omega arith) ∙ x .op)) (end-calls which))
 
 -- ---- what others ask for
 -- a routine's list begins with the word that it stands from
@@ -139,12 +149,12 @@ module _ (g : Ground) (n : ℕ) (before after : List ℕ) (words : ℕ) (few : w
   abbrev Calls : Step → Type 0
   Calls s = CalleeIn (g .R) (g .offset) D (s .does)
 
-  module _ (l : RoutineList) (S : Scopes) (used at : ℕ) (x : RawRoutineList g n (cellsOf before) l S used at) (h : l .closes + 1 < words) where
-    pub steps-read : Every Reads (listSteps (g .W) (g .M) S used l)
-    steps-read = every-as (λ s z. z .is) _ (routine-list-stands g n (cellsOf before) D words (resolved .led) few l S used at x h)
+  module _ (which : WhichList) (l : RoutineList) (S : Scopes) (used at : ℕ) (x : RawRoutineList g n (cellsOf before) which l S used at) (h : l .closes + 1 < words) where
+    pub steps-read : Every Reads (listSteps (g .W) (endingOf which) (g .M) S used l)
+    steps-read = every-as (λ s z. z .is) _ (routine-list-stands g n (cellsOf before) D words (resolved .led) few which l S used at x h)
 
-    pub callees-read : Every Calls (listSteps (g .W) (g .M) S used l)
-    callees-read = every-as (λ s z. z .callee) _ (routine-list-stands g n (cellsOf before) D words (resolved .led) few l S used at x h)
+    pub callees-read : Every Calls (listSteps (g .W) (endingOf which) (g .M) S used l)
+    callees-read = every-as (λ s z. z .callee) _ (routine-list-stands g n (cellsOf before) D words (resolved .led) few which l S used at x h)
 
   -- a word that does not lead on is as it was
   module _ (i : ℕ) (h : i < words) (s : isLed (opAt (cellsOf before) i) ≡ false) where

@@ -11,11 +11,11 @@ use Rattle.paper.specs.Terms.{ofRoutine, Memory}
 use Rattle.paper.specs.Trees.{Expr, Target, Simple, firstSimple, assign, assignCall, call, returns, raises, exits, retries, triesNext, writes, reads, Statement, Statements, Arms, Cases, simple, compactIf, fullIf, for, while, test, empty, _then_, noArm, arm, noCase, case, RoutineList}
 use Rattle.paper.specs.Names.{routineIn, Scopes, spelled, meaning, enter}
 use Rattle.paper.specs.Types.{termOf, constantValue}
-use Rattle.paper.specs.Checks.{forsIn, forsInList, forsInArms, forsInCases}
-use Rattle.paper.specs.Steps.{routineOf, characters, spotOf}
+use Rattle.paper.specs.Checks.{WhichList, theBody, theHandler, theUndo, forsIn, forsInList, forsInArms, forsInCases}
+use Rattle.paper.specs.Steps.{Action, endList, endUndo, routineOf, characters, spotOf}
 use Rattle.code.specs.Cells.{headAt, tailAt, opAt, valueAt, placeAt, linkAt}
 use Rattle.code.specs.Spans.{termIn}
-use Rattle.code.specs.Steps.{aTarget, aCallTarget, aProcedureCall, aReturnOf, aReturn, aRaiseOf, aRaise, anExit, aRetry, aTryNext, aWrite, aWriteOf, aRead, aCompactIf, anIf, aWhile, aFor, aForTest, aTest, anEnd, aFunctionEnd, anElseIf, aStep, aCase, aNextValue, aThen, aDo, aPass, anOtherwise, aClose, Head, constantAt, targetIn, anyArguments, calleeIn, charactersIn}
+use Rattle.code.specs.Steps.{aTarget, aCallTarget, aProcedureCall, aReturnOf, aReturn, aRaiseOf, aRaise, anExit, aRetry, aTryNext, aWrite, aWriteOf, aRead, aCompactIf, anIf, aWhile, aFor, aForTest, aTest, anEnd, aFunctionEnd, anUndoEnd, anElseIf, aStep, aCase, aNextValue, aThen, aDo, aPass, anOtherwise, aClose, Head, constantAt, targetIn, anyArguments, calleeIn, charactersIn}
 use Rattle.check_links.specs.Resolved.{isLed}
 
 -- What does not change while a routine is walked: the words of data that its module has, whether it is a function, the module's text and routines, what its
@@ -61,10 +61,18 @@ module _ (C : List ℕ) where
     an-else : RawWord aPass last z → first ≡ last + 1 → LastOf last first z
     no-else : last ≡ z → first ≡ z → LastOf last first z
 
--- the op of the end of a list
-unfoldable pub endOf : (function : Bool) → ℕ
-endOf true = aFunctionEnd
-endOf false = anEnd
+-- the end of a list: its op, and what it does
+unfoldable pub endOf : WhichList → (function : Bool) → ℕ
+endOf theBody true = aFunctionEnd
+endOf theBody false = anEnd
+endOf theHandler true = aFunctionEnd
+endOf theHandler false = anEnd
+endOf theUndo function = anUndoEnd
+
+unfoldable pub endingOf : WhichList → Action
+endingOf theBody = endList
+endingOf theHandler = endList
+endingOf theUndo = endUndo
 
 -- The routine has n words of data in the end.
 module _ (g : Ground) (n : ℕ) (C : List ℕ) where
@@ -365,7 +373,7 @@ module _ (g : Ground) (n : ℕ) (C : List ℕ) where
     RawCases (case es b r) S used c last = RawCase S es (λ x y. RawList b S used x y) (λ x last. RawCases r S (used + forsInList b) x last) c last
 
   -- A list of a routine, with the word that closes it, which is a step of its own.
-  pub record RawRoutineList (l : RoutineList) (S : Scopes) (used at : ℕ) : Type 0 where
+  pub record RawRoutineList (which : WhichList) (l : RoutineList) (S : Scopes) (used at : ℕ) : Type 0 where
     pub list : RawList (l .statements) S used at (l .closes)
-    pub op : opAt C (l .closes) ≡ endOf (g .function)
+    pub op : opAt C (l .closes) ≡ endOf which (g .function)
     pub place : placeAt C (l .closes) ≡ g .offset (l .closes)

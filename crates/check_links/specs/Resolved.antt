@@ -9,7 +9,7 @@ use lib.ListN.{length, drop}
 use Rattle.paper.specs.Basics.{if_then_else_}
 use Rattle.store_cells.specs.Cells.{cellsOf}
 use Rattle.code.specs.Cells.{headAt, tailAt, opAt, valueAt, placeAt, linkAt}
-use Rattle.code.specs.Steps.{aTarget, aProcedureCall, anEnd, aFunctionEnd, anElseIf, aCase, aNextValue, aThen, aDo, aPass, anOtherwise, aClose}
+use Rattle.code.specs.Steps.{aTarget, aProcedureCall, anEnd, aFunctionEnd, anUndoEnd, anElseIf, aCase, aNextValue, aThen, aDo, aPass, anOtherwise, aClose}
 use Rattle.layout.specs.Parts.{linkPart}
 
 -- ---- which words lead on, by their ops
@@ -18,7 +18,8 @@ abbrev pub stepByLink : (op : ℕ) → Bool
 stepByLink op =
     if eqb op aProcedureCall then false
     else if eqb op anEnd then false
-    else not (eqb op aFunctionEnd)
+    else if eqb op aFunctionEnd then false
+    else not (eqb op anUndoEnd)
 
 unfoldable pub goesByLink : (op : ℕ) → Bool
 goesByLink op =

@@ -18,7 +18,10 @@ fn step_by_link(op: u32) -> bool
     if op == ops::END {
         return false;
     }
-    op != ops::FUNCTION_END
+    if op == ops::FUNCTION_END {
+        return false;
+    }
+    op != ops::UNDO_END
 }
 
 fn goes_by_link(op: u32) -> bool

@@ -13,12 +13,14 @@ use Rattle.paper.specs.Terms.{ofRoutine, Memory}
 use Rattle.paper.specs.Trees.{Simple, firstSimple, assign, assignCall, call, returns, raises, exits, retries, triesNext, writes, reads, Statement, Statements, Arms, Cases, simple, compactIf, fullIf, for, while, test, empty, _then_, noArm, arm, noCase, case, RoutineList, Routine, Module}
 use Rattle.paper.specs.Names.{Scopes, spelled, enter}
 use Rattle.paper.specs.Declarations.{routineData, routineScopes}
-use Rattle.paper.specs.Checks.{forsIn, forsInList, forsInArms, forsInCases}
+use Rattle.paper.specs.Checks.{WhichList, theBody, theHandler, theUndo, forsIn, forsInList, forsInArms, forsInCases, forsInOptional}
 use Rattle.paper.specs.Types.{termOf}
-use Rattle.paper.specs.Steps.{Action, choose, select, testWhile, enterFor, repeatFor, endList, optionalTerm, Step, step, firstWord, begin, actionOf, simpleStep, conditions, constants, stepsOf, stepsOfList, stepsOfArms, stepsOfCases, firstStep, listSteps, codeOf}
+use Rattle.paper.specs.Steps.{Action, choose, select, testWhile, enterFor, repeatFor, endList, endUndo, optionalTerm, Step, step, firstWord, begin, actionOf, simpleStep, conditions, constants}
+use Rattle.paper.specs.Steps.{stepsOf, stepsOfList, stepsOfArms, stepsOfCases, firstStep, listSteps, optionalSteps, optionalStart, codeOf}
 use Rattle.code.specs.Closed.{Every, done, also, isNamed, Named, whereOf, caseOf, targetsOf, GoesOn, Closed, LoopFits, OwnLoop}
 use Rattle.code.proofs.Options.{none-some, same-some}
 use Rattle.faults.specs.Parts.{memoryOf}
+use Rattle.check_links.specs.Raw.{endingOf}
 use Rattle.check_links.proofs.Walked.{every-both, every-as}
 
 -- ---- names of steps
@@ -207,49 +209,97 @@ module _ (T : List Step) where
           (cases-sound k r S (n + forsInList b) around after (omega arith) (right (stepsOfList W M b S n around after) _ f) h)
 
     -- ---- the lists of a routine
-    routine-list-sound : (k : ℕ) (l : RoutineList) (S : Scopes) (n : ℕ) → k ≤ n → Into (listSteps W M S n l) → Every (Sound k) (listSteps W M S n l)
-    unfolding listSteps Named targetsOf LoopFits
-    routine-list-sound k l S n kn f =
-        let z : Has (l .closes) = right (stepsOfList W M (l .statements) S n [] (l .closes)) _ f .into (l .closes) (one-named (l .closes) [] (l .closes) endList) in
-        every-both _ _ (list-sound k (l .statements) S n [] (l .closes) kn (left _ _ f) z) (one-sound k (l .closes) [] (l .closes) endList z tt tt)
+    end-targets : (which : WhichList) → Named T (targetsOf (endingOf which))
+    unfolding endingOf Named targetsOf
+    end-targets theBody = tt
+    end-targets theHandler = tt
+    end-targets theUndo = tt
 
-    handler-sound : (k : ℕ) (o : Option RoutineList) (S : Scopes) (n : ℕ) → k ≤ n → Into (elim o [ none ↦ [] | some h ↦ listSteps W M S n h ]) → Every (Sound k) (elim o [ none ↦ [] | some h ↦ listSteps W M S n h ])
-    handler-sound k none S n kn f = done
-    handler-sound k (some l) S n kn f = routine-list-sound k l S n kn f
+    end-fits : (k : ℕ) (which : WhichList) → LoopFits k (endingOf which)
+    unfolding endingOf LoopFits
+    end-fits k theBody = tt
+    end-fits k theHandler = tt
+    end-fits k theUndo = tt
 
-    list-starts : (l : RoutineList) (S : Scopes) (n : ℕ) → Into (listSteps W M S n l) → Has (firstStep W l)
-    unfolding listSteps firstStep
-    list-starts l S n f = begin-named (l .statements) S n [] (l .closes) (left _ _ f) (right (stepsOfList W M (l .statements) S n [] (l .closes)) _ f .into (l .closes) (one-named (l .closes) [] (l .closes) endList))
+    module _ (which : WhichList) where
+      abbrev end : Action
+      end = endingOf which
 
-    handler-starts : (o : Option RoutineList) (S : Scopes) (n h : ℕ) → Into (elim o [ none ↦ [] | some h ↦ listSteps W M S n h ]) → elim o [ none ↦ none | some h ↦ some (firstStep W h) ] ≡ some h → Has h
-    handler-starts none S n h f e = none-some h e
-    handler-starts (some l) S n h f e = sym (rw (same-some (firstStep W l) h e)) ∙ list-starts l S n f
+      end-named : (l : RoutineList) (S : Scopes) (n : ℕ) → Into (listSteps W end M S n l) → Has (l .closes)
+      unfolding listSteps
+      end-named l S n f = right (stepsOfList W M (l .statements) S n [] (l .closes)) _ f .into (l .closes) (one-named (l .closes) [] (l .closes) end)
+
+      routine-list-sound : (k : ℕ) (l : RoutineList) (S : Scopes) (n : ℕ) → k ≤ n → Into (listSteps W end M S n l) → Every (Sound k) (listSteps W end M S n l)
+      unfolding listSteps
+      routine-list-sound k l S n kn f =
+          let z : Has (l .closes) = end-named l S n f in
+          every-both _ _ (list-sound k (l .statements) S n [] (l .closes) kn (left _ _ f) z) (one-sound k (l .closes) [] (l .closes) end z (end-targets which) (end-fits k which))
+
+      optional-sound : (k : ℕ) (o : Option RoutineList) (S : Scopes) (n : ℕ) → k ≤ n → Into (optionalSteps W end M S n o) → Every (Sound k) (optionalSteps W end M S n o)
+      unfolding optionalSteps
+      optional-sound k none S n kn f = done
+      optional-sound k (some l) S n kn f = routine-list-sound k l S n kn f
+
+      list-starts : (l : RoutineList) (S : Scopes) (n : ℕ) → Into (listSteps W end M S n l) → Has (firstStep W l)
+      unfolding listSteps firstStep
+      list-starts l S n f = begin-named (l .statements) S n [] (l .closes) (left _ _ f) (end-named l S n f)
+
+      optional-starts : (o : Option RoutineList) (S : Scopes) (n h : ℕ) → Into (optionalSteps W end M S n o) → optionalStart W o ≡ some h → Has h
+      unfolding optionalSteps optionalStart
+      optional-starts none S n h f e = none-some h e
+      optional-starts (some l) S n h f e = sym (rw (same-some (firstStep W l) h e)) ∙ list-starts l S n f
 
 -- ---- routines
 module _ (W : List Word) (m : Module) (r : Routine) where
   abbrev T : List Step
   T = codeOf W m r .steps
 
+  abbrev S : Scopes
+  S = routineScopes W m r
+
+  abbrev M : Memory
+  M = memoryOf W m r
+
+  abbrev n : ℕ
+  n = length (routineData W m r .words)
+
   all : Into T T
   all = record { into = λ n h. h }
 
-  sound : Every (Sound T (length (routineData W m r .words))) T
+  abbrev bodySteps : List Step
+  bodySteps = listSteps W endList M S n (r .body)
+
+  abbrev handlerSteps : List Step
+  handlerSteps = optionalSteps W endList M S (n + forsInList (r .body .statements)) (r .handler)
+
+  abbrev undoSteps : List Step
+  undoSteps = optionalSteps W endUndo M S (n + forsInList (r .body .statements) + forsInOptional (r .handler)) (r .undo)
+
+  -- all steps are those of the three lists
+  in-both : Into T (bodySteps ++ handlerSteps)
   unfolding codeOf
+  in-both = left T (bodySteps ++ handlerSteps) undoSteps all
+
+  in-undo : Into T undoSteps
+  unfolding codeOf
+  in-undo = right T (bodySteps ++ handlerSteps) undoSteps all
+
+  sound : Every (Sound T n) T
+  unfolding codeOf endingOf
   sound =
-      let S = routineScopes W m r in
-      let n = length (routineData W m r .words) in
       every-both _ _
-      (routine-list-sound T W (memoryOf W m r) n (r .body) S n (omega arith) (left T _ _ all))
-      (handler-sound T W (memoryOf W m r) n (r .handler) S (n + forsInList (r .body .statements)) (omega arith) (right T (listSteps W (memoryOf W m r) S n (r .body)) _ all))
+      (every-both _ _
+      (routine-list-sound T W M theBody n (r .body) S n (omega arith) (left T bodySteps handlerSteps in-both))
+      (optional-sound T W M theHandler n (r .handler) S _ (omega arith) (right T bodySteps handlerSteps in-both)))
+      (optional-sound T W M theUndo n (r .undo) S _ (omega arith) in-undo)
 
   pub closed : Closed (codeOf W m r)
-  unfolding codeOf
+  unfolding codeOf endingOf
   closed =
-      let S = routineScopes W m r in
-      let n = length (routineData W m r .words) in
       record {
-        starts = list-starts T W (memoryOf W m r) (r .body) S n (left T _ _ all);
-        handles = λ h e. handler-starts T W (memoryOf W m r) (r .handler) S (n + forsInList (r .body .statements)) h (right T (listSteps W (memoryOf W m r) S n (r .body)) _ all) e;
+        starts = list-starts T W M theBody (r .body) S n (left T bodySteps handlerSteps in-both);
+        handles = λ h e. optional-starts T W M theHandler (r .handler) S _ h (right T bodySteps handlerSteps in-both) e;
+        undoes = λ u e. optional-starts T W M theUndo (r .undo) S _ u in-undo e;
         goes-on = every-as (λ s x. x .goes) T sound;
       }
 

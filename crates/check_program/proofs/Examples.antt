@@ -2,11 +2,11 @@
 use mathlib.Core.Path.{_≡_, refl}
 use mathlib.Core.Bool.{false}
 use mathlib.Core.List.{List, [], _∷_}
-use mathlib.Core.Option.{none}
+use mathlib.Core.Option.{none, some}
 use Prim.Native.Nat.{ℕ, _+_, _*_}
 use native.Mathlib.Omega.{arith}
 use Rattle.paper.specs.Computing.{computed}
-use Rattle.paper.specs.Sorts.{bytes, NAME, MODULE, PROC, ENDPROC, ENDMODULE, ERROR, NUM, openParen, closeParen, openBrace, becomes, semicolon}
+use Rattle.paper.specs.Sorts.{bytes, NAME, MODULE, PROC, ENDPROC, ENDMODULE, ERROR, UNDO, NUM, openParen, closeParen, openBrace, becomes, semicolon}
 use Rattle.paper.specs.Words.{Word, reading}
 use Rattle.paper.specs.Trees.{leaf, initialData, assign, simple, empty, _then_, RoutineList, Routine, Module}
 use Rattle.paper.specs.Names.{Scopes, nth, sortIn}
@@ -16,18 +16,18 @@ use Rattle.store_cells.specs.Cells.{cellsOf}
 use Rattle.code.specs.Cells.{opAt}
 use Rattle.code.specs.Spans.{aLiteral, bias}
 use Rattle.code.specs.Spans as spans
-use Rattle.code.specs.Steps.{aTarget, anEnd, aDatum, theParameters, Head, constantAt, scalarIn, targetIn}
+use Rattle.code.specs.Steps.{aTarget, anEnd, anUndoEnd, aDatum, theParameters, Head, constantAt, scalarIn, targetIn}
 use Rattle.code.specs.Holds.{Holds}
-use Rattle.grammar.specs.Form.{Parses, closed-at-once, none-starts, one-starts, no-index, assigning, plain, ended, begun, initial, no-handler, a-proc, RoutineAt}
+use Rattle.grammar.specs.Form.{Parses, closed-at-once, none-starts, one-starts, no-index, assigning, plain, ended, begun, initial, no-list, a-list, a-proc, RoutineAt}
 use Rattle.check_links.specs.Resolved.{goesByLink, goesByValue, goesByPlace, isLed, Resolved}
 use Rattle.check_links.specs.Raw.{Ground, Quiet, endOf, RawDoes, RawSimple, RawStatement, RawList}
 use Rattle.store_writing.specs.Chains.{Leads, lastOf, startsIn, Rise}
-use Rattle.check_program.specs.Routines.{groundFor, RawHandler, RawRoutine, no-routine, a-routine, RawModule}
+use Rattle.check_program.specs.Routines.{groundFor, RawOptional, RawRoutine, no-routine, a-routine, RawModule}
 use Rattle.check_program.proofs.ProgramHeld.{module-holds}
 
 -- ---- the module
 unfoldable text : List ℕ
-text = bytes "MODULE t PROC main() VAR num x:=3; x:=2; ENDPROC ENDMODULE"
+text = bytes "MODULE t PROC main() VAR num x:=3; x:=2; UNDO ENDPROC ENDMODULE"
 
 unfoldable W : List Word
 W = reading text .words
@@ -44,6 +44,7 @@ main = record {
   declared = record { type = NUM; name = 8; content = initialData (leaf 10) } ∷ [];
   body = body;
   handler = none;
+  undo = some (record { statements = empty; closes = 17 });
 }
 
 unfoldable example : Module
@@ -59,13 +60,13 @@ head op v = op + 256 * v
 unfoldable tail : (place link : ℕ) → ℕ
 tail p l = p + 65536 * l
 
--- PROC leads to VAR and VAR to the parenthesis; PROC has the list's first word as its place, VAR how many words it is.
+-- PROC leads to VAR and VAR to the parenthesis; PROC has the list's first word as its place, the name behind it that of the UNDO list, VAR how many words it is.
 unfoldable cells : List ℕ
 cells =
     head MODULE 0 ∷ tail 0 0 ∷
     head NAME 0 ∷ tail 7 0 ∷
     head PROC 0 ∷ tail 12 6 ∷
-    head NAME 0 ∷ tail 14 0 ∷
+    head NAME 0 ∷ tail 17 0 ∷
     head theParameters 0 ∷ tail 0 0 ∷
     head closeParen 0 ∷ tail 19 0 ∷
     head aDatum (3 + bias) ∷ tail 1 4 ∷
@@ -80,7 +81,9 @@ cells =
     head aLiteral (2 + bias) ∷ tail 38 0 ∷
     head semicolon 0 ∷ tail 39 0 ∷
     head anEnd 0 ∷ tail 41 0 ∷
-    head ENDMODULE 0 ∷ tail 49 0 ∷ []
+    -- behind UNDO
+    head anUndoEnd 0 ∷ tail 46 0 ∷
+    head ENDMODULE 0 ∷ tail 54 0 ∷ []
 
 unfoldable offset : ℕ → ℕ
 offset i = nth W i .place
@@ -103,15 +106,16 @@ no-brace e = omega arith
 no-call : semicolon ≡ openParen → ⊥
 no-call e = omega arith
 
-no-error : ENDPROC ≡ ERROR → ⊥
+no-error : UNDO ≡ ERROR → ⊥
 no-error e = omega arith
 
-unfoldable main-form : RoutineAt (sortIn W) (Parses (sortIn W)) main 2 17
+unfoldable main-form : RoutineAt (sortIn W) (Parses (sortIn W)) main 2 18
 unfolding computed text W main body
 main-form = record {
   close = 5;
   begin = 12;
-  end = 16;
+  undoAt = 16;
+  end = 17;
   head = a-proc refl refl refl;
   name = refl;
   opens = refl;
@@ -128,7 +132,8 @@ main-form = record {
         (ended refl refl);
     closes = refl;
   };
-  handler = no-handler {at = 16} no-error refl;
+  handler = no-list {at = 16} no-error refl;
+  undo = a-list {at = 16} refl (record { statements = ended refl refl; closes = refl });
   after = refl;
 }
 
@@ -158,8 +163,8 @@ assigns = record {
 }
 
 -- ---- its routine, and all of it
-main-walked : RawRoutine ground cells example main mainHead 17
-unfolding computed text W main body example mainHead head tail cells offset ground groundFor isLed goesByLink goesByValue goesByPlace RawStatement RawList endOf RawHandler Leads lastOf startsIn Rise constantAt main-form
+main-walked : RawRoutine ground cells example main mainHead 18
+unfolding computed text W main body example mainHead head tail cells offset ground groundFor isLed goesByLink goesByValue goesByPlace RawStatement RawList endOf RawOptional Leads lastOf startsIn Rise constantAt main-form
 main-walked = record {
   form = main-form;
   parameters = refl;
@@ -169,6 +174,7 @@ main-walked = record {
   starts = refl;
   body = record { list = record { mid = 16; first = assigns; others = refl }; op = refl; place = refl };
   handler = refl;
+  undo = record { first = refl; list = record { list = refl; op = refl; place = refl } };
   ds = 6 ∷ [];
   chain = record { leads = (refl, refl, tt); ends = refl };
   rise = (omega arith, omega arith);
@@ -178,11 +184,11 @@ main-walked = record {
   room = omega arith;
 }
 
-example-walked : RawModule ground cells example 18
+example-walked : RawModule ground cells example 19
 unfolding computed text W main body example mainHead ground
 example-walked = record {
   begin = 2;
-  end = 17;
+  end = 18;
   routines = a-routine {at = 2} refl main-walked (no-routine refl);
   behind = omega arith;
   inside = omega arith;
@@ -191,6 +197,6 @@ example-walked = record {
 }
 
 -- Whatever resolving leaves of them holds the program.
-example-holds : (before after : List ℕ) → cellsOf before ≡ cells → Resolved before after 18 → Holds text (mainHead ∷ []) offset (cellsOf after) (programOf W example)
+example-holds : (before after : List ℕ) → cellsOf before ≡ cells → Resolved before after 19 → Holds text (mainHead ∷ []) offset (cellsOf after) (programOf W example)
 unfolding ground
-example-holds before after e x = module-holds ground example before after 18 (rw e example-walked) x
+example-holds before after e x = module-holds ground example before after 19 (rw e example-walked) x

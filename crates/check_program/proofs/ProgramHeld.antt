@@ -13,27 +13,27 @@ use Rattle.paper.specs.Terms.{Memory}
 use Rattle.paper.specs.Trees.{RoutineList, Routine, Module}
 use Rattle.paper.specs.Names.{Scopes, sortIn}
 use Rattle.paper.specs.Declarations.{moduleData, routineScopes}
-use Rattle.paper.specs.Checks.{forsInList, isSome}
-use Rattle.paper.specs.Steps.{Step, begin, firstStep, listSteps, codeOf, programOf}
+use Rattle.paper.specs.Checks.{WhichList, theBody, theHandler, theUndo, isSome}
+use Rattle.paper.specs.Steps.{Step, endList, endUndo, begin, firstStep, listSteps, optionalSteps, optionalStart, codeOf, programOf}
 use Rattle.paper.specs.Running.{noCode, codeAt}
 use Rattle.store_cells.specs.Cells.{cellsOf}
-use Rattle.code.specs.Cells.{opIn, placeIn, linkIn, opAt, linkAt}
+use Rattle.code.specs.Cells.{opIn, placeIn, linkIn, opAt}
 use Rattle.code.specs.Steps.{Head, noHead, numbered, stepIn, parts}
 use Rattle.code.specs.Closed.{Every, done, also, SmallName}
 use Rattle.code.specs.Holds.{known, optionally, CalleeIn, HoldsRoutine, Holds}
 use Rattle.grammar.specs.Places.{Within, no-step-left, one-step}
-use Rattle.grammar.specs.Form.{Parses}
+use Rattle.grammar.specs.Form.{Parses, ListBehindAt}
 use Rattle.grammar.proofs.Places.{routine-list-within}
 use Rattle.faults.specs.Parts.{memoryOf}
 use Rattle.faults.proofs.Expressions.{grows}
 use Rattle.check_links.specs.Resolved.{Resolved}
-use Rattle.check_links.specs.Raw.{Ground}
+use Rattle.check_links.specs.Raw.{Ground, endingOf}
 use Rattle.check_links.proofs.Walked.{every-both, steps-read, callees-read, starts-at}
 use Rattle.store_writing.specs.Chains.{startsIn}
-use Rattle.check_program.specs.Routines.{groundFor, slotsOfData, wordsInAll, RawHandler, RawRoutine, RawRoutines, no-routine, a-routine, RawModule}
+use Rattle.check_program.specs.Routines.{groundFor, slotsOfData, wordsInAll, usedByBody, usedByBoth, RawOptional, RawRoutine, RawRoutines, no-routine, a-routine, RawModule}
 use Rattle.check_program.proofs.ClosedSteps.{closed, loops-fit}
 use Rattle.check_program.proofs.DataChain.{parameters-still, rise-all, rise-on, chain-reads, Stays, stays-resolved, data-stay, chain-kept, starts-kept}
-use Rattle.check_program.proofs.Orders.{lies, handler-form, handler-raw, handler-every}
+use Rattle.check_program.proofs.Orders.{lies, behind-form, behind-raw, optional-every}
 use Rattle.check_program.proofs.WalkStays.{routine-order, routines-order}
 
 -- ---- small parts
@@ -53,15 +53,15 @@ module _ (g : Ground) (m : Module) (before after : List ℕ) (words : ℕ) (few 
   abbrev D : List ℕ
   D = cellsOf after
 
-  handler-starts : (r : Routine) (o : Option RoutineList) (leader : ℕ) → RawHandler g C m r o leader → linkAt D leader ≡ linkAt C leader
-      → elim o [ none ↦ none | some h ↦ some (firstStep (g .W) h) ] ≡ optionally (linkAt D leader)
-  unfolding RawHandler optionally firstStep
-  handler-starts r none leader x e = rw (e ∙ x)
-  handler-starts r (some l) leader x e =
-      let k = r .body .closes in
-      rw (e ∙ x .leads)
-      (ap some (starts-at (groundFor g m r) (wordsInAll g m r) C (l .statements) (routineScopes (g .W) m r) (slotsOfData g m r + forsInList (r .body .statements)) (k + 1) (l .closes) (x .list .list))
-      ∙ sym (optionally-next k))
+  -- what is said of a list that may be there or not is where it begins
+  optional-starts : (r : Routine) (which : WhichList) (o : Option RoutineList) (used closes leads said : ℕ) → RawOptional g C m r which o used closes leads → said ≡ leads
+      → optionalStart (g .W) o ≡ optionally said
+  unfolding RawOptional optionally optionalStart firstStep
+  optional-starts r which none used closes leads said x e = rw (e ∙ x)
+  optional-starts r which (some l) used closes leads said x e =
+      rw (e ∙ x .first)
+      (ap some (starts-at (groundFor g m r) (wordsInAll g m r) C (l .statements) (routineScopes (g .W) m r) used (closes + 1) (l .closes) (x .list .list))
+      ∙ sym (optionally-next closes))
 
   module _ (r : Routine) (h : Head) (to : ℕ) (x : RawRoutine g C m r h to) (inside : to < words) (behind : 0 < h .word) where
     abbrev W : List Word
@@ -79,23 +79,16 @@ module _ (g : Ground) (m : Module) (before after : List ℕ) (words : ℕ) (few 
     abbrev n : ℕ
     n = slotsOfData g m r
 
-    abbrev late : ℕ
-    late = slotsOfData g m r + forsInList (r .body .statements)
-
     body-inside : r .body .closes + 1 < words
     body-inside =
         let o = lies W (x .form) in
-        omega (arith, o .end, o .after)
+        omega (arith, o .handler, o .end, o .after)
 
-    handler-inside : (l : RoutineList) → r .handler ≡ some l → l .closes + 1 < words
-    handler-inside l e =
-        let f = handler-form (sortIn W) (Parses (sortIn W)) (r .handler) (r .body .closes) (x .form .end) l e (x .form .handler) in
-        omega (arith, f .closes, x .form .after)
-
-    -- what holds of both lists holds of the steps
-    both : (A : Step → Type 0) → Every A (listSteps W M S n (r .body)) → ((l : RoutineList) → r .handler ≡ some l → Every A (listSteps W M S late l)) → Every A (codeOf W m r .steps)
+    -- what holds of the steps of the three lists holds of all steps
+    lists : (A : Step → Type 0) → Every A (listSteps W endList M S n (r .body)) → Every A (optionalSteps W endList M S (usedByBody g m r) (r .handler))
+        → Every A (optionalSteps W endUndo M S (usedByBoth g m r) (r .undo)) → Every A (codeOf W m r .steps)
     unfolding codeOf
-    both A a f = every-both _ _ a (handler-every A W M S late (r .handler) f)
+    lists A a b c = every-both _ _ (every-both _ _ a b) c
 
     abbrev Reads : Step → Type 0
     Reads s = stepIn (length (moduleData W m .words)) (wordsInAll g m r) (isSome (r .result)) (g .text) (g .R) D (s .name) ≡ some (known (g .offset) s)
@@ -103,33 +96,65 @@ module _ (g : Ground) (m : Module) (before after : List ℕ) (words : ℕ) (few 
     abbrev Calls : Step → Type 0
     Calls s = CalleeIn (g .R) (g .offset) D (s .does)
 
+    -- a list behind the word that closes another, if it is there
+    module _ (which : WhichList) {sort : ℕ} (o : Option RoutineList) (used at end leads : ℕ) (f : ListBehindAt (sortIn W) (Parses (sortIn W)) sort o at end) (ends : end < to) where
+      ends-inside : (l : RoutineList) → o ≡ some l → l .closes + 1 < words
+      ends-inside l e = omega (arith, behind-form (sortIn W) (Parses (sortIn W)) o at end l e f .closes)
+
+      module _ (y : RawOptional g C m r which o used at leads) where
+        optional-read : Every Reads (optionalSteps W (endingOf which) M S used o)
+        unfolding groundFor
+        optional-read =
+            optional-every Reads W (endingOf which) M S used o
+            (λ l e. steps-read G (wordsInAll g m r) before after words few resolved which l S used (at + 1) (behind-raw g C m r which o used at leads l e y .list) (ends-inside l e))
+
+        optional-callees : Every Calls (optionalSteps W (endingOf which) M S used o)
+        unfolding groundFor
+        optional-callees =
+            optional-every Calls W (endingOf which) M S used o
+            (λ l e. callees-read G (wordsInAll g m r) before after words few resolved which l S used (at + 1) (behind-raw g C m r which o used at leads l e y .list) (ends-inside l e))
+
+      optional-small : h .word ≤ at → Every SmallName (optionalSteps W (endingOf which) M S used o)
+      optional-small low =
+          optional-every SmallName W (endingOf which) M S used o (λ l e.
+          within-small (h .word) to behind (omega arith)
+          (routine-list-within (sortIn W) (Parses (sortIn W)) (grows W) W M (h .word) to (behind-form (sortIn W) (Parses (sortIn W)) o at end l e f) (omega arith) ends (endingOf which) S used))
+
+    handler-ends : x .form .undoAt < to
+    handler-ends =
+        let o = lies W (x .form) in
+        omega (arith, o .end, o .after)
+
+    undo-ends : x .form .end < to
+    undo-ends = omega (arith, x .form .after)
+
     all-read : Every Reads (codeOf W m r .steps)
-    unfolding groundFor
+    unfolding groundFor endingOf
     all-read =
-        both Reads (steps-read G (wordsInAll g m r) before after words few resolved (r .body) S n (x .form .begin) (x .body) body-inside)
-        (λ l e. steps-read G (wordsInAll g m r) before after words few resolved l S late (r .body .closes + 1) (handler-raw g C m r (r .handler) (h .word + 1) l e (x .handler) .list) (handler-inside l e))
+        lists Reads (steps-read G (wordsInAll g m r) before after words few resolved theBody (r .body) S n (x .form .begin) (x .body) body-inside)
+        (optional-read theHandler (r .handler) (usedByBody g m r) (r .body .closes) (x .form .undoAt) _ (x .form .handler) handler-ends (x .handler))
+        (optional-read theUndo (r .undo) (usedByBoth g m r) (x .form .undoAt) (x .form .end) _ (x .form .undo) undo-ends (x .undo))
 
     all-callees : Every Calls (codeOf W m r .steps)
-    unfolding groundFor
+    unfolding groundFor endingOf
     all-callees =
-        both Calls (callees-read G (wordsInAll g m r) before after words few resolved (r .body) S n (x .form .begin) (x .body) body-inside)
-        (λ l e. callees-read G (wordsInAll g m r) before after words few resolved l S late (r .body .closes + 1) (handler-raw g C m r (r .handler) (h .word + 1) l e (x .handler) .list) (handler-inside l e))
+        lists Calls (callees-read G (wordsInAll g m r) before after words few resolved theBody (r .body) S n (x .form .begin) (x .body) body-inside)
+        (optional-callees theHandler (r .handler) (usedByBody g m r) (r .body .closes) (x .form .undoAt) _ (x .form .handler) handler-ends (x .handler))
+        (optional-callees theUndo (r .undo) (usedByBoth g m r) (x .form .undoAt) (x .form .end) _ (x .form .undo) undo-ends (x .undo))
 
     all-small : Every SmallName (codeOf W m r .steps)
+    unfolding endingOf
     all-small =
         let o = lies W (x .form) in
         let a = o .name in
         let b = o .opens in
         let c = o .body in
-        let d = o .end in
-        let z = o .after in
-        both SmallName
+        let d = o .handler in
+        lists SmallName
         (within-small (h .word) to behind (omega arith)
-        (routine-list-within (sortIn W) (Parses (sortIn W)) (grows W) W M (h .word) to (x .form .body) (omega arith) (omega arith) S n))
-        (λ l e.
-        let f = handler-form (sortIn W) (Parses (sortIn W)) (r .handler) (r .body .closes) (x .form .end) l e (x .form .handler) in
-        within-small (h .word) to behind (omega arith)
-        (routine-list-within (sortIn W) (Parses (sortIn W)) (grows W) W M (h .word) to f (omega arith) (omega arith) S late))
+        (routine-list-within (sortIn W) (Parses (sortIn W)) (grows W) W M (h .word) to (x .form .body) (omega arith) (omega (arith, handler-ends)) endList S n))
+        (optional-small theHandler (r .handler) (usedByBody g m r) (r .body .closes) (x .form .undoAt) 0 (x .form .handler) handler-ends (omega arith))
+        (optional-small theUndo (r .undo) (usedByBoth g m r) (x .form .undoAt) (x .form .end) 0 (x .form .undo) undo-ends (omega arith))
 
     pub routine-holds : HoldsRoutine (length (moduleData W m .words)) (g .text) (g .R) (g .offset) D h (codeOf W m r)
     unfolding codeOf firstStep
@@ -138,8 +163,8 @@ module _ (g : Ground) (m : Module) (before after : List ℕ) (words : ℕ) (few 
         let a = o .name in
         let b = o .opens in
         let c = o .body in
-        let d = o .end in
-        let z = o .after in
+        let d = o .handler in
+        let z = handler-ends in
         let w = h .word in
         let p = r .name + 1 in
         let s : Stays C D 0 words = stays-resolved g before after words few resolved in
@@ -151,7 +176,8 @@ module _ (g : Ground) (m : Module) (before after : List ℕ) (words : ℕ) (few 
         record {
           function-is = x .function;
           start-is = starts-at G (wordsInAll g m r) C (r .body .statements) S n (x .form .begin) (r .body .closes) (x .body .list) ∙ sym (ap placeIn (s .tails w (omega arith) (omega arith) (x .still)) ∙ x .starts);
-          handler-is = handler-starts r (r .handler) (w + 1) (x .handler) (ap linkIn (s .tails (w + 1) (omega arith) (omega arith) (x .still-next)));
+          handler-is = optional-starts r theHandler (r .handler) _ _ _ _ (x .handler) (ap linkIn (s .tails (w + 1) (omega arith) (omega arith) (x .still-next)));
+          undo-is = optional-starts r theUndo (r .undo) _ _ _ _ (x .undo) (ap placeIn (s .tails (w + 1) (omega arith) (omega arith) (x .still-next)));
           starts = startsIn D (x .ds);
           opens = p;
           data-is = chain-reads D p (ap opIn (s .heads p (omega arith) (omega arith) still) ∙ x .opens) parts w (x .ds) (omega (arith, rise-all w words (x .ds) rise)) (chain .leads) (chain .ends);

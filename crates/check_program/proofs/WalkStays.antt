@@ -11,10 +11,10 @@ use Rattle.paper.specs.Terms.{Memory}
 use Rattle.paper.specs.Trees.{RoutineList, Routine, Module}
 use Rattle.paper.specs.Names.{sortIn}
 use Rattle.paper.specs.Declarations.{moduleWordLimit, routineScopes, moduleData}
-use Rattle.paper.specs.Checks.{isSome}
+use Rattle.paper.specs.Checks.{WhichList, theBody, theHandler, theUndo, isSome}
 use Rattle.code.specs.Cells.{opIn, placeIn, linkIn}
 use Rattle.code.specs.Steps.{Head, parts}
-use Rattle.grammar.specs.Form.{Parses, HandlerAt, a-handler, ModuleAt}
+use Rattle.grammar.specs.Form.{Parses, ListBehindAt, a-list, ModuleAt}
 use Rattle.grammar.proofs.Places.{declarations-grow}
 use Rattle.faults.specs.Parts.{memoryOf}
 use Rattle.faults.proofs.Expressions.{grows}
@@ -22,7 +22,7 @@ use Rattle.check_links.specs.Resolved.{isLed}
 use Rattle.check_links.specs.Raw.{Ground, SameWords, RawRoutineList}
 use Rattle.check_links.proofs.Framing.{list-frame, same-part}
 use Rattle.check_links.proofs.Orders.{list-order}
-use Rattle.check_program.specs.Routines.{groundFor, wordsInAll, RawLines, RawHandler, RawRoutine, RawRoutines, no-routine, a-routine, RawModule}
+use Rattle.check_program.specs.Routines.{groundFor, wordsInAll, RawLines, RawOptional, RawRoutine, RawRoutines, no-routine, a-routine, RawModule}
 use Rattle.check_program.proofs.Orders.{lies}
 use Rattle.check_program.proofs.DataChain.{rise-on, stays-same, data-stay, chain-kept, starts-kept}
 
@@ -36,15 +36,14 @@ own-ground g m r a b c =
     ∙ ap (λ (k : Memory). record { m = length (moduleData (g .W) m .words); function = isSome (r .result); text = g .text; R = g .R; W = g .W; M = k; offset = g .offset }) c
 
 -- so a list that was walked on that ground is one of the routine's
-pub own-lines : (g : Ground) (C : List ℕ) (m : Module) (r : Routine) (l : RoutineList) (used at : ℕ) → g .m ≡ length (moduleData (g .W) m .words) → g .function ≡ isSome (r .result) → g .M ≡ memoryOf (g .W) m r
-    → RawRoutineList g (wordsInAll g m r) C l (routineScopes (g .W) m r) used at → RawLines g C m r l used at
-own-lines g C m r l used at a b c x = subst (λ (k : Ground). RawRoutineList k (wordsInAll g m r) C l (routineScopes (g .W) m r) used at) (own-ground g m r a b c) x
+pub own-lines : (g : Ground) (C : List ℕ) (m : Module) (r : Routine) (which : WhichList) (l : RoutineList) (used at : ℕ) → g .m ≡ length (moduleData (g .W) m .words) → g .function ≡ isSome (r .result) → g .M ≡ memoryOf (g .W) m r
+    → RawRoutineList g (wordsInAll g m r) C which l (routineScopes (g .W) m r) used at → RawLines g C m r which l used at
+own-lines g C m r which l used at a b c x = subst (λ (k : Ground). RawRoutineList k (wordsInAll g m r) C which l (routineScopes (g .W) m r) used at) (own-ground g m r a b c) x
 
 -- ---- one routine
 module _ (g : Ground) (C D : List ℕ) (m : Module) (r : Routine) (low to : ℕ) (same : SameWords C D low to) where
-  pub lines-frame : (l : RoutineList) (used at : ℕ) → low ≤ at → l .closes < to → RawRoutineList (groundFor g m r) (wordsInAll g m r) C l (routineScopes (g .W) m r) used at
-      → RawRoutineList (groundFor g m r) (wordsInAll g m r) D l (routineScopes (g .W) m r) used at
-  lines-frame l used at a z x =
+  pub lines-frame : (which : WhichList) (l : RoutineList) (used at : ℕ) → low ≤ at → l .closes < to → RawLines g C m r which l used at → RawLines g D m r which l used at
+  lines-frame which l used at a z x =
       let o = list-order (groundFor g m r) (wordsInAll g m r) C (l .statements) (routineScopes (g .W) m r) used at (l .closes) (x .list) in
       record {
         list = list-frame (groundFor g m r) (wordsInAll g m r) (wordsInAll g m r) (omega arith) C D low to same (l .statements) (routineScopes (g .W) m r) used at (l .closes) a (omega arith) (x .list);
@@ -52,13 +51,13 @@ module _ (g : Ground) (C D : List ℕ) (m : Module) (r : Routine) (low to : ℕ)
         place = sym (ap placeIn (same .tails (l .closes) (omega arith) z)) ∙ x .place;
       }
 
-  handler-frame : (o : Option RoutineList) (leader end : ℕ) → HandlerAt (sortIn (g .W)) (Parses (sortIn (g .W))) o (r .body .closes) end → low ≤ leader → leader < to → low ≤ r .body .closes → end < to
-      → RawHandler g C m r o leader → RawHandler g D m r o leader
-  unfolding RawHandler
-  handler-frame none leader end f a b c d x = sym (ap linkIn (same .tails leader a b)) ∙ x
-  handler-frame (some l) leader end (a-handler w f) a b c d x = record {
-    leads = sym (ap linkIn (same .tails leader a b)) ∙ x .leads;
-    list = lines-frame l _ (r .body .closes + 1) (omega arith) (omega (arith, f .closes)) (x .list);
+  pub optional-frame : {sort : ℕ} (which : WhichList) (o : Option RoutineList) (used at end leads said : ℕ) → ListBehindAt (sortIn (g .W)) (Parses (sortIn (g .W))) sort o at end → leads ≡ said → low ≤ at → end < to
+      → RawOptional g C m r which o used at leads → RawOptional g D m r which o used at said
+  unfolding RawOptional
+  optional-frame which none used at end leads said f e a b x = sym e ∙ x
+  optional-frame which (some l) used at end leads said (a-list w f) e a b x = record {
+    first = sym e ∙ x .first;
+    list = lines-frame which l used (at + 1) (omega arith) (omega (arith, f .closes)) (x .list);
   }
 
 pub routine-frame : (g : Ground) (C D : List ℕ) (m : Module) (r : Routine) (h : Head) (to : ℕ) → SameWords C D (h .word) to → RawRoutine g C m r h to → RawRoutine g D m r h to
@@ -68,10 +67,12 @@ routine-frame g C D m r h to same x =
     let a = o .name in
     let b = o .opens in
     let c = o .body in
-    let d = o .end in
-    let e = o .after in
+    let d = o .handler in
+    let e = o .end in
+    let z = o .after in
     let s = data-stay C D w to w (stays-same C D w to same) (omega arith) (omega arith) (x .still) in
-    let z = rise-on w (x .form .begin) to (x .ds) (omega arith) (x .rise) in
+    let rise = rise-on w (x .form .begin) to (x .ds) (omega arith) (x .rise) in
+    let next = same .tails (w + 1) (omega arith) (omega arith) in
     let p = r .name + 1 in
     record {
       form = x .form;
@@ -80,12 +81,13 @@ routine-frame g C D m r h to same x =
       still = sym (ap (λ (k : ℕ). isLed (opIn k)) (same .heads w (omega arith) (omega arith))) ∙ x .still;
       still-next = sym (ap (λ (k : ℕ). isLed (opIn k)) (same .heads (w + 1) (omega arith) (omega arith))) ∙ x .still-next;
       starts = sym (ap placeIn (same .tails w (omega arith) (omega arith))) ∙ x .starts;
-      body = lines-frame g C D m r w to same (r .body) _ (x .form .begin) (omega arith) (omega arith) (x .body);
-      handler = handler-frame g C D m r w to same (r .handler) (w + 1) (x .form .end) (x .form .handler) (omega arith) (omega arith) (omega arith) (omega arith) (x .handler);
+      body = lines-frame g C D m r w to same theBody (r .body) _ (x .form .begin) (omega arith) (omega arith) (x .body);
+      handler = optional-frame g C D m r w to same theHandler (r .handler) _ _ _ _ _ (x .form .handler) (ap linkIn next) (omega arith) (omega arith) (x .handler);
+      undo = optional-frame g C D m r w to same theUndo (r .undo) _ _ _ _ _ (x .form .undo) (ap placeIn next) (omega arith) (omega arith) (x .undo);
       ds = x .ds;
-      chain = chain-kept C D to w (x .ds) p s z (x .chain);
+      chain = chain-kept C D to w (x .ds) p s rise (x .chain);
       rise = x .rise;
-      words = x .words ∙ ap (λ (l : List ℤ). replicate (length (r .parameters)) (pos 0) ++ l) (sym (starts-kept C D to w (x .ds) s z (x .chain .leads)));
+      words = x .words ∙ ap (λ (l : List ℤ). replicate (length (r .parameters)) (pos 0) ++ l) (sym (starts-kept C D to w (x .ds) s rise (x .chain .leads)));
       opens = sym (ap opIn (same .heads p (omega arith) (omega arith))) ∙ x .opens;
       fors = sym (ap placeIn (same .tails p (omega arith) (omega arith))) ∙ x .fors;
       room = x .room;
@@ -95,7 +97,7 @@ routine-frame g C D m r h to same x =
 pub routine-order : (g : Ground) (C : List ℕ) (m : Module) (r : Routine) (h : Head) (to : ℕ) → RawRoutine g C m r h to → h .word + 1 < to
 routine-order g C m r h to x =
     let o = lies (g .W) (x .form) in
-    omega (arith, o .name, o .opens, o .body, o .end, o .after)
+    omega (arith, o .name, o .opens, o .body, o .handler, o .end, o .after)
 
 pub routines-order : (g : Ground) (C : List ℕ) (m : Module) (rs : List Routine) (R : List Head) (at to : ℕ) → RawRoutines g C m rs R at to → at ≤ to
 routines-order g C m rs R at to (no-routine e) = omega arith

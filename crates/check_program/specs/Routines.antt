@@ -9,7 +9,7 @@ use lib.IntN.{pos}
 use Rattle.paper.specs.Trees.{RoutineList, Routine, Module}
 use Rattle.paper.specs.Names.{sortIn}
 use Rattle.paper.specs.Declarations.{routineWordLimit, moduleWordLimit, moduleData, routineData, routineScopes}
-use Rattle.paper.specs.Checks.{forsInList, isSome}
+use Rattle.paper.specs.Checks.{WhichList, theBody, theHandler, theUndo, forsInList, forsInOptional, isSome}
 use Rattle.paper.specs.Steps.{forsOf}
 use Rattle.code.specs.Cells.{opAt, placeAt, linkAt}
 use Rattle.code.specs.Steps.{Head, parts, theParameters}
@@ -40,19 +40,26 @@ module _ (g : Ground) (m : Module) (r : Routine) where
   abbrev pub wordsInAll : ℕ
   wordsInAll = slotsOfData + forsOf (g .W) r
 
-module _ (g : Ground) (C : List ℕ) (m : Module) where
-  abbrev pub RawLines : Routine → RoutineList → (used at : ℕ) → Type 0
-  RawLines r l used at = RawRoutineList (groundFor g m r) (wordsInAll g m r) C l (routineScopes (g .W) m r) used at
+  -- how many are used where its ERROR list begins, and its UNDO list
+  abbrev pub usedByBody : ℕ
+  usedByBody = slotsOfData + forsInList (r .body .statements)
 
-  -- an ERROR list, behind the word that closes the other
-  pub record RawErrors (r : Routine) (l : RoutineList) (leader : ℕ) : Type 0 where
-    pub leads : linkAt C leader ≡ r .body .closes + 1
-    pub list : RawLines r l (slotsOfData g m r + forsInList (r .body .statements)) (r .body .closes + 1)
+  abbrev pub usedByBoth : ℕ
+  usedByBoth = usedByBody + forsInOptional (r .handler)
+
+module _ (g : Ground) (C : List ℕ) (m : Module) where
+  abbrev pub RawLines : Routine → WhichList → RoutineList → (used at : ℕ) → Type 0
+  RawLines r which l used at = RawRoutineList (groundFor g m r) (wordsInAll g m r) C which l (routineScopes (g .W) m r) used at
+
+  -- A list behind the word that closes the one before it. What says where it begins says `leads`.
+  pub record RawBehind (r : Routine) (which : WhichList) (l : RoutineList) (used closes leads : ℕ) : Type 0 where
+    pub first : leads ≡ closes + 1
+    pub list : RawLines r which l used (closes + 1)
 
   -- 0 is no step, and says that there is none
-  unfoldable pub RawHandler : Routine → (handler : Option RoutineList) → (leader : ℕ) → Type 0
-  RawHandler r none leader = linkAt C leader ≡ 0
-  RawHandler r (some l) leader = RawErrors r l leader
+  unfoldable pub RawOptional : Routine → WhichList → Option RoutineList → (used closes leads : ℕ) → Type 0
+  RawOptional r which none used closes leads = leads ≡ 0
+  RawOptional r which (some l) used closes leads = RawBehind r which l used closes leads
 
   -- It stands from its first word up to `to`.
   pub record RawRoutine (r : Routine) (h : Head) (to : ℕ) : Type 0 where
@@ -63,8 +70,10 @@ module _ (g : Ground) (C : List ℕ) (m : Module) where
     pub still : isLed (opAt C (h .word)) ≡ false
     pub still-next : isLed (opAt C (h .word + 1)) ≡ false
     pub starts : placeAt C (h .word) ≡ form .begin
-    pub body : RawLines r (r .body) (slotsOfData g m r) (form .begin)
-    pub handler : RawHandler r (r .handler) (h .word + 1)
+    pub body : RawLines r theBody (r .body) (slotsOfData g m r) (form .begin)
+    -- its second word leads to its ERROR list, and has the first word of its UNDO list as its place
+    pub handler : RawOptional r theHandler (r .handler) (usedByBody g m r) (r .body .closes) (linkAt C (h .word + 1))
+    pub undo : RawOptional r theUndo (r .undo) (usedByBoth g m r) (form .undoAt) (placeAt C (h .word + 1))
     -- the first words of its data, which the parenthesis before the parameters ends
     pub ds : List ℕ
     pub chain : Chain C (h .word) ds (r .name + 1)

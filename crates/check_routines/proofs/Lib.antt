@@ -3,8 +3,8 @@ pub mod RoutineName
 pub mod ValueStore
 pub mod KnownInside
 pub mod OneList
-pub mod ErrorList
-pub mod BothLists
+pub mod ListBehind
+pub mod RoutineLists
 pub mod ParametersAndData
 pub mod ScopeEntered
 pub mod ScopeLeft

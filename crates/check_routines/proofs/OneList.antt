@@ -1,7 +1,7 @@
 -- A list of a routine: what its walk asks, and what it leaves.
 use Rattle.check_names.specs.Promises.{numberLimit}
 use mathlib.Core.Path.{_≡_, refl, sym, ap, subst, _∙_}
-use mathlib.Core.Bool.{Bool, true, false, not}
+use mathlib.Core.Bool.{true, false, not}
 use mathlib.Core.List.{List, []}
 use mathlib.Core.Option.{Option, none, some}
 use Prim.Native.Nat.{ℕ, _+_, _*_, _%_, _/_, _<_, _≤_}
@@ -16,17 +16,15 @@ use Rattle.paper.specs.Trees.{RoutineList, Routine, Module}
 use Rattle.paper.specs.Names.{Scopes, sortIn}
 use Rattle.paper.specs.Expressions.{nestings}
 use Rattle.paper.specs.Declarations.{resultAsked, routineData, routineScopes, signatures}
-use Rattle.paper.specs.Checks.{WhichList, theBody, theHandler, isSome, inError, settingIn, forsInList, listFaults}
+use Rattle.paper.specs.Checks.{WhichList, isSome, settingIn, forsInList, listFaults}
 use Rattle.store_cells.specs.Cells.{cellsOf}
-use Rattle.code.specs.Cells.{opIn, valueIn, placeIn, headAt, tailAt, opAt, placeAt, linkAt}
+use Rattle.code.specs.Cells.{opIn, valueIn, placeIn, headAt, tailAt, opAt, placeAt}
 use Rattle.store_evaluation.specs.Answers.{callSlots}
 use Rattle.grammar.specs.Form.{Parses, ListAt, RoutineListAt}
 use Rattle.faults.specs.Parts.{memoryOf}
 use Rattle.check_expressions.specs.Known.{Fresh}
-use Rattle.store_writing.specs.Promises.{Kept, Linked}
-use Rattle.store_writing.proofs.Keeping.{cell-below, cell-above}
-use Rattle.check_links.specs.Raw.{Ground, RawList, endOf}
-use Rattle.check_links.proofs.Framing.{same-cells, list-frame}
+use Rattle.check_links.specs.Raw.{Ground, SameWords, RawList, endOf}
+use Rattle.check_links.proofs.Framing.{list-frame}
 use Rattle.check_around.specs.declared.Setting.{Setting}
 use Rattle.check_around.specs.Around.{Apart, ResultIs, Tells}
 use Rattle.check_around.specs.Around as simple
@@ -43,14 +41,8 @@ use borrow.Author.Tests.{eqb-true, eqb-false}
 use Rattle.laws.proofs.Tests.{false-true}
 
 -- ---- cells outside
-pub outside-kept : (before after : List ℕ) (a b : ℕ) → Kept before after a b → Outside (cellsOf before) (cellsOf after) a b
-outside-kept before after a b k = record { below = λ i h. cell-below k i h; above = λ i h. cell-above k i h }
-
 pub outside-on : {C D E : List ℕ} {a b x y p q : ℕ} → p ≤ a → p ≤ x → b ≤ q → y ≤ q → Outside C D a b → Outside D E x y → Outside C E p q
 outside-on g h i j s t = record { below = λ k z. t .below k (omega arith) ∙ s .below k (omega arith); above = λ k z. t .above k (omega arith) ∙ s .above k (omega arith) }
-
-pub outside-wider : {C D : List ℕ} {a b : ℕ} (p q : ℕ) → p ≤ a → b ≤ q → Outside C D a b → Outside C D p q
-outside-wider p q h i s = record { below = λ k z. s .below k (omega arith); above = λ k z. s .above k (omega arith) }
 
 -- ---- the result
 kind-asked : (W : List Word) (k : ℕ) (o : Option ℕ) → isSome (resultAsked W k o) ≡ isSome o
@@ -133,15 +125,12 @@ module _ {text values : List ℕ} {k h : ℕ} (s : Inside text values k h) where
       (used + forsInList (rl .statements)) (RawList q (wordsInAll (groundIn s) m r) (cellsOf after) (rl .statements) (routineScopes W m r) used at to) x) (ground-is s l)
       (y .is (list-stands l rl code at to used g o t f e many few room))
 
-  -- what is written, with the word that closes it
-  pub lines-closed : (rl : RoutineList) (mid after : List ℕ) (used at z : ℕ) (f : Bool) → RawList (groundFor (groundIn s) m r) (wordsInAll (groundIn s) m r) (cellsOf mid) (rl .statements) (routineScopes W m r) used at z
-      → z ≡ rl .closes → f ≡ isSome (r .result) → Linked mid after z (endOf f) 0 (linkAt (cellsOf mid) z) → placeAt (cellsOf mid) z ≡ groundIn s .offset z → RawLines (groundIn s) (cellsOf after) m r rl used at
-  unfolding groundFor groundOf
-  lines-closed rl mid after used at z f x e q k p = record {
-    list = subst (λ (i : ℕ). RawList (groundFor (groundIn s) m r) (wordsInAll (groundIn s) m r) (cellsOf after) (rl .statements) (routineScopes W m r) used at i) e
-        (list-frame (groundFor (groundIn s) m r) (wordsInAll (groundIn s) m r) (wordsInAll (groundIn s) m r) (omega arith) (cellsOf mid) (cellsOf after) at z
-        (same-cells (cellsOf mid) (cellsOf after) at z (λ i a b. sym (cell-below (k .kept) i (omega arith)))) (rl .statements) (routineScopes W m r) used at z (omega arith) (omega arith)
-        x);
-    op = subst (λ (i : ℕ). opAt (cellsOf after) i ≡ endOf (isSome (r .result))) e (k .op-is ∙ ap endOf q);
-    place = subst (λ (i : ℕ). placeAt (cellsOf after) i ≡ groundIn s .offset i) e (k .kept .places z ∙ p);
-  }
+-- what is written of a list stays, and the word that closes it is its end
+pub lines-of : (g : Ground) (C D : List ℕ) (m : Module) (r : Routine) (which : WhichList) (l : RoutineList) (used at : ℕ) → RawList (groundFor g m r) (wordsInAll g m r) C (l .statements) (routineScopes (g .W) m r) used at (l .closes)
+    → SameWords C D at (l .closes) → opAt D (l .closes) ≡ endOf which (isSome (r .result)) → placeAt D (l .closes) ≡ g .offset (l .closes) → RawLines g D m r which l used at
+unfolding groundFor
+lines-of g C D m r which l used at x same op place = record {
+  list = list-frame (groundFor g m r) (wordsInAll g m r) (wordsInAll g m r) (omega arith) C D at (l .closes) same (l .statements) (routineScopes (g .W) m r) used at (l .closes) (omega arith) (omega arith) x;
+  op = op;
+  place = place;
+}

@@ -2,7 +2,6 @@
 use mathlib.Core.Path.{_≡_, refl, sym, ap, ap₂, subst, _∙_}
 use mathlib.Core.Bool.{Bool, true, false}
 use mathlib.Core.List.{List, [], _∷_, _++_, map}
-use mathlib.Core.Option.{Option, none, some}
 use Prim.Native.Nat.{ℕ, zero, suc, _+_, _-_, _*_, _<_, _≤_}
 use native.Mathlib.Omega.{arith}
 use lib.ListN.{length, getD, replicate}
@@ -10,7 +9,7 @@ use lib.IntN.{ℤ}
 use Rattle.laws.proofs.Tests.{test, false-true}
 use Rattle.paper.specs.Sorts.{equalTexts}
 use Rattle.paper.specs.Words.{Word}
-use Rattle.paper.specs.Trees.{Declared, Parameter, RoutineList, Routine, Module}
+use Rattle.paper.specs.Trees.{Declared, Parameter}
 use Rattle.paper.specs.Names.{Text, Scopes, sortIn, spelled, isAmong}
 use Rattle.paper.specs.Checks.{forsInList}
 use Rattle.code.specs.Cells.{placeIn, linkIn, headAt, tailAt, opAt, placeAt, linkAt}
@@ -18,15 +17,12 @@ use Rattle.code.specs.Steps.{constantAt, aDatum}
 use Rattle.check_names.specs.Numbers.{IsName}
 use Rattle.check_names.specs.Meanings.{isProtected, meaningIn, protectsCell, Keeps}
 use Rattle.grammar.specs.Form.{Parses, SeparatedAt, last-one, one-more, ClosedAt, closed-at-once, closed-later, RepeatedAt, none-starts, one-starts}
-use Rattle.grammar.specs.Form.{ParameterAt, ParametersAt, DeclaredAt, DeclarationsAt, HandlerAt, no-handler, a-handler}
+use Rattle.grammar.specs.Form.{ParameterAt, ParametersAt, DeclaredAt, DeclarationsAt}
 use Rattle.grammar.proofs.Places.{content-grows, declarations-grow}
 use Rattle.faults.proofs.Expressions.{grows}
-use Rattle.check_links.specs.Raw.{Ground, SameWords}
 use Rattle.check_sites.specs.Sites.{Site}
 use Rattle.check_declarations.specs.Answers.{firstOf}
 use Rattle.check_sites.specs.Walks.{nameOf, nameWords, KeepsName, KeepsAll}
-use Rattle.check_program.specs.Routines.{RawHandler}
-use Rattle.check_program.proofs.WalkStays.{lines-frame}
 
 -- ---- where parameters end
 module _ (W : ℕ → ℕ) where
@@ -93,13 +89,3 @@ module _ (routine : ℕ → ℕ) (W : List Word) (s : Site) (C D : List ℕ) whe
         keeps-name (nameOf (firstOf x)) (h (nameOf (firstOf x)) low (omega arith)) (t (nameOf (firstOf x)) low (omega arith)) (k .0),
         keeps-data more (λ i a b. h i (omega arith) b) (λ i a b. t i (omega arith) b) (k .1),
       )
-
--- ---- an ERROR list
-pub handler-moves : (W : List Word) (g : Ground) (C D : List ℕ) (m : Module) (r : Routine) (o : Option RoutineList) (leader end : ℕ) → HandlerAt (sortIn W) (Parses (sortIn W)) o (r .body .closes) end
-    → tailAt D leader ≡ tailAt C leader → SameWords C D (r .body .closes) (end + 1) → RawHandler g C m r o leader → RawHandler g D m r o leader
-unfolding RawHandler
-handler-moves W g C D m r none leader end f t s x = ap linkIn t ∙ x
-handler-moves W g C D m r (some l) leader end (a-handler c h) t s x = record {
-  leads = ap linkIn t ∙ x .leads;
-  list = lines-frame g C D m r (r .body .closes) (end + 1) s l _ (r .body .closes + 1) (omega arith) (omega (arith, h .closes)) (x .list);
-}

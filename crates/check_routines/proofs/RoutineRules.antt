@@ -118,24 +118,24 @@ module _ (text code values : List ℕ) (k h : ℕ) where
   G = Begins text code values k h
 
   pub head-room : G → h * 8 + 16 ≤ length code
-  head-room b = let o = lies (b .stands .W) (b .stands .form) in omega (arith, o .name, o .opens, o .body, o .end, b .unread .loaded .room)
+  head-room b = let o = lies (b .stands .W) (b .stands .form) in omega (arith, o .name, o .opens, o .body, o .handler, o .end, b .unread .loaded .room)
 
   pub head-small : G → h < wordLimit
-  head-small b = let o = lies (b .stands .W) (b .stands .form) in omega (arith, o .name, o .opens, o .body, o .end, b .unread .loaded .last)
+  head-small b = let o = lies (b .stands .W) (b .stands .form) in omega (arith, o .name, o .opens, o .body, o .handler, o .end, b .unread .loaded .last)
 
   module _ (result name : ℕ) (t : result ≡ resultIn (cellsOf code) h) (n : name ≡ nameWith result h) where
     read : (b : G) → HeadRead (b .stands .W) k (b .stands .r .result) h (b .stands .r .name) result
     read b =
         let o = lies (b .stands .W) (b .stands .form) in
         subst (HeadRead (b .stands .W) k (b .stands .r .result) h (b .stands .r .name)) (sym t)
-        (head-read (b .stands .W) k (cellsOf code) (b .stands .form .head) (b .unread .loaded .words h (omega arith) (omega (arith, o .name, o .opens, o .body, o .end)) .sort)
-        (b .unread .loaded .words (h + 1) (omega arith) (omega (arith, o .name, o .opens, o .body, o .end)) .sort))
+        (head-read (b .stands .W) k (cellsOf code) (b .stands .form .head) (b .unread .loaded .words h (omega arith) (omega (arith, o .name, o .opens, o .body, o .handler, o .end)) .sort)
+        (b .unread .loaded .words (h + 1) (omega arith) (omega (arith, o .name, o .opens, o .body, o .handler, o .end)) .sort))
 
     name-so : (b : G) → name ≡ b .stands .r .name
     name-so b = n ∙ read b .name-is
 
     pub name-room : G → name * 8 + 8 ≤ length code
-    name-room b = let o = lies (b .stands .W) (b .stands .form) in omega (arith, name-so b, o .opens, o .body, o .end, b .unread .loaded .room)
+    name-room b = let o = lies (b .stands .W) (b .stands .form) in omega (arith, name-so b, o .opens, o .body, o .handler, o .end, b .unread .loaded .room)
 
     module _ (cell : ℕ) (c : Meant code values name cell) where
       -- what the name means
@@ -143,7 +143,7 @@ module _ (text code values : List ℕ) (k h : ℕ) where
       unfolding filling moduleFilling moduleScopes
       meant b =
           let o = lies (b .stands .W) (b .stands .form) in
-          let q = b .unread .loaded .words (b .stands .r .name) (omega (arith, o .name)) (omega (arith, o .opens, o .body, o .end)) .number (b .stands .form .name) in
+          let q = b .unread .loaded .words (b .stands .r .name) (omega (arith, o .name)) (omega (arith, o .opens, o .body, o .handler, o .end)) .number (b .stands .form .name) in
           ap (meaningIn (numbered (headsFor (b .stands .m .routines))))
           (c ∙ ap (λ (i : ℕ). getD (cellsOf values) (firstMeaning + numberAt (cellsOf code) i) 0) (name-so b) ∙ ap (λ (i : ℕ). getD (cellsOf values) (firstMeaning + i) 0) q)
           ∙ b .filled .means .means (b .stands .r .name) (b .stands .form .name)

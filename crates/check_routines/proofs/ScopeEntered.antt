@@ -92,7 +92,7 @@ module _ (text code values : List ℕ) (result h name : ℕ) where
           types = omega (arith, g .name-is);
           close = d;
           body = o .body;
-          end = o .end;
+          end = omega (arith, o .handler, o .end);
           after = o .after;
           last = b .unread .loaded .last;
           room = b .unread .loaded .room;

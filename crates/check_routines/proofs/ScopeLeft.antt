@@ -12,7 +12,7 @@ use Rattle.paper.specs.Trees.{Routine, Module}
 use Rattle.paper.specs.Names.{Meaning, unknown, Text, Names, textOf, sortIn, spelled, lookIn, protected, isAmong, meaning}
 use Rattle.paper.specs.Types.{Fault}
 use Rattle.paper.specs.Declarations.{Data, noData, Signature, routineFilling, routineData, routineScopes, moduleScopes, signatures}
-use Rattle.paper.specs.Checks.{isSome, routineFaults}
+use Rattle.paper.specs.Checks.{theBody, theHandler, theUndo, isSome, routineFaults}
 use Rattle.paper.specs.Steps.{forsOf}
 use Rattle.store_cells.specs.Cells.{cellsOf}
 use Rattle.code.specs.Cells.{opIn, valueIn, placeIn, linkIn, headAt, tailAt, opAt, placeAt, linkAt}
@@ -22,7 +22,7 @@ use Rattle.check_names.specs.Promises.{storeBytes}
 use Rattle.store_evaluation.specs.Answers.{callSlots}
 use Rattle.grammar.specs.Form.{Parses, DeclarationsAt, RoutineAt}
 use Rattle.faults.specs.First.{First}
-use Rattle.check_links.specs.Raw.{Ground}
+use Rattle.check_links.specs.Raw.{Ground, SameWords}
 use Rattle.check_links.specs.Resolved.{isLed}
 use Rattle.check_links.proofs.Framing.{same-cells}
 use Rattle.check_links.proofs.Ops.{low-still}
@@ -33,12 +33,14 @@ use Rattle.check_sites.specs.Sites.{aRoutine, filling, Filled}
 use Rattle.check_sites.proofs.DataChain.{rise-wider}
 use Rattle.check_sites.specs.Walks.{outerOf, nameOf, nameWords}
 use Rattle.check_declarations.specs.Answers.{firstOf, DeclaresRoutine}
-use Rattle.check_leaving.specs.Answers.{MeansBut, SameWords, Leaving}
+use Rattle.check_leaving.specs.Answers.{MeansBut, Leaving}
+use Rattle.check_leaving.specs.Answers as leaves
 use Rattle.check_parameters.specs.Answers.{DeclaresParameters}
 use Rattle.check_statements.specs.Answers.{SameValues}
 use Rattle.store_writing.specs.Chains.{Chain, Rise, startsIn}
-use Rattle.check_program.specs.Routines.{wordsInAll, RawLines, RawHandler, RawRoutine}
-use Rattle.check_program.proofs.WalkStays.{lines-frame}
+use Rattle.check_program.specs.Routines.{wordsInAll, usedByBody, usedByBoth, RawLines, RawOptional, RawRoutine}
+use Rattle.check_program.proofs.Orders.{lies}
+use Rattle.check_program.proofs.WalkStays.{lines-frame, optional-frame}
 use Rattle.check_program.proofs.DataChain.{DataStay, chain-kept, starts-kept}
 use Rattle.check_names.specs.declared.Scope.{Scope}
 use Rattle.check_names.specs.declared.Walked.{Walked}
@@ -46,7 +48,7 @@ use Rattle.check_names.specs.declared.Walked.the-variants.{Upto, Faulty}
 use Rattle.check_routines.specs.Answers.{groundOf, ModuleFilled, Spares, Begins, Goes}
 use Rattle.check_routines.specs.Parts.{Finishes, Inside, groundIn, ListsStand, ListsDone, SaysLists, Lists, ScopeStands, SaysScope, Scoped}
 use Rattle.check_routines.proofs.ValueStore.{filled-same, routine-left}
-use Rattle.check_routines.proofs.ParametersAndData.{spelled-apart, keeps-parameters, keeps-data, handler-moves}
+use Rattle.check_routines.proofs.ParametersAndData.{spelled-apart, keeps-parameters, keeps-data}
 use Rattle.check_routines.proofs.ScopeEntered.{Order, order, parameters-stand, parameters-faulty, Entered, entered, data-stand, data-faulty, Declared, declared, low₂, high₂, type₂, spares-from, inside, lists-stand}
 
 -- ---- names that are none of the routine's own mean what they mean outside
@@ -114,15 +116,16 @@ module _ (text code values : List ℕ) (result h name : ℕ) (g : ScopeStands te
       pub next-is : next ≡ to
       pub used-is : all .used ≡ taken .used + forsOf W r
       pub few : all .used ≤ callSlots
-      pub body : RawLines (groundOf text W m) (cellsOf code₃) m r (r .body) (taken .used) at
-      pub handler : RawHandler (groundOf text W m) (cellsOf code₃) m r (r .handler) (h + 1)
+      pub body : RawLines (groundOf text W m) (cellsOf code₃) m r theBody (r .body) (taken .used) at
+      pub handler : RawOptional (groundOf text W m) (cellsOf code₃) m r theHandler (r .handler) (usedByBody (groundOf text W m) m r) (r .body .closes) (linkAt (cellsOf code₃) (h + 1))
+      pub undo : RawOptional (groundOf text W m) (cellsOf code₃) m r theUndo (r .undo) (usedByBoth (groundOf text W m) m r) (form .undoAt) (placeAt (cellsOf code₃) (h + 1))
       pub below : (i : ℕ) → i < at * 2 → (i ≡ h * 2 + 3 → ⊥) → getD (cellsOf code₃) i 0 ≡ getD (cellsOf code₂) i 0
       pub above : (i : ℕ) → to * 2 ≤ i → getD (cellsOf code₃) i 0 ≡ getD (cellsOf code₂) i 0
       pub same : SameValues values₂ values₃
 
     pub listed : Listed
     unfolding scope-lists lists-stand inside
-    listed = record { none = l .none; next-is = l .next-is; used-is = l .used-is; few = l .few; body = l .body; handler = l .handler; below = l .below; above = l .above; same = l .same }
+    listed = record { none = l .none; next-is = l .next-is; used-is = l .used-is; few = l .few; body = l .body; handler = l .handler; undo = l .undo; below = l .below; above = l .above; same = l .same }
 
     pub finish-few : all .used - taken .used < linkPart
     finish-few = omega (arith, listed .few)
@@ -227,6 +230,13 @@ module _ (text code values : List ℕ) (result h name : ℕ) (g : ScopeStands te
           }
 
       -- ---- what is written
+      lists-same : SameWords (cellsOf code₃) (cellsOf code₄) (form .begin) to
+      lists-same = let a = d .at-is in same-cells (cellsOf code₃) (cellsOf code₄) (form .begin) to (λ i x y. sym (lists₄ i (omega arith)))
+
+      -- the second word, which leads to the optional lists
+      second₄ : tailAt (cellsOf code₃) (h + 1) ≡ tailAt (cellsOf code₄) (h + 1)
+      second₄ = let o′ = o in sym (f .others ((h + 1) * 2 + 1) (λ q. omega arith) (λ q. omega arith) (λ q. omega arith))
+
       raw₄ : RawRoutine (groundOf text W m) (cellsOf code₄) m r (record { word = h; parameters = length (r .parameters); function = isSome (r .result) }) to
       unfolding groundOf
       raw₄ =
@@ -235,6 +245,9 @@ module _ (text code values : List ℕ) (result h name : ℕ) (g : ScopeStands te
           let n = g .name-is in
           let t = d .taken-is in
           let u = listed .used-is in
+          let w = lies W form in
+          let v = w .handler in
+          let z = w .end in
           record {
             form = form;
             parameters = refl;
@@ -242,12 +255,11 @@ module _ (text code values : List ℕ) (result h name : ℕ) (g : ScopeStands te
             still = low-still (opAt (cellsOf code₄) h) (subst (λ (w : ℕ). opIn w < aTarget) (sym (head₄ h (omega arith) (λ q. omega arith))) (low-op h (omega arith) (omega arith)));
             still-next = low-still (opAt (cellsOf code₄) (h + 1)) (subst (λ (w : ℕ). opIn w < aTarget) (sym (head₄ (h + 1) (omega arith) (λ q. omega arith))) (low-op (h + 1) (omega arith) (omega arith)));
             starts = f .place-is ∙ a;
-            body = lines-frame (groundOf text W m) (cellsOf code₃) (cellsOf code₄) m r (form .begin) to
-                (same-cells (cellsOf code₃) (cellsOf code₄) (form .begin) to (λ i x y. sym (lists₄ i (omega arith)))) (r .body) (length (routineData W m r .words)) (form .begin) (omega arith) (omega arith)
-                (subst (λ (x : ℕ). RawLines (groundOf text W m) (cellsOf code₃) m r (r .body) x (form .begin)) t (subst (λ (x : ℕ). RawLines (groundOf text W m) (cellsOf code₃) m r (r .body) (taken .used) x) a (listed .body)));
-            handler = handler-moves W (groundOf text W m) (cellsOf code₃) (cellsOf code₄) m r (r .handler) (h + 1) (form .end) (form .handler)
-                (f .others ((h + 1) * 2 + 1) (λ q. omega arith) (λ q. omega arith) (λ q. omega arith))
-                (same-cells (cellsOf code₃) (cellsOf code₄) (r .body .closes) (form .end + 1) (λ i x y. sym (lists₄ i (omega arith)))) (listed .handler);
+            body = lines-frame (groundOf text W m) (cellsOf code₃) (cellsOf code₄) m r (form .begin) to lists-same theBody (r .body) (length (routineData W m r .words)) (form .begin) (omega arith) (omega arith)
+                (subst (λ (x : ℕ). RawLines (groundOf text W m) (cellsOf code₃) m r theBody (r .body) x (form .begin)) t
+                (subst (λ (x : ℕ). RawLines (groundOf text W m) (cellsOf code₃) m r theBody (r .body) (taken .used) x) a (listed .body)));
+            handler = optional-frame (groundOf text W m) (cellsOf code₃) (cellsOf code₄) m r (form .begin) to lists-same theHandler (r .handler) _ _ _ _ _ (form .handler) (ap linkIn second₄) (omega arith) (omega arith) (listed .handler);
+            undo = optional-frame (groundOf text W m) (cellsOf code₃) (cellsOf code₄) m r (form .begin) to lists-same theUndo (r .undo) _ _ _ _ _ (form .undo) (ap placeIn second₄) (omega arith) (omega arith) (listed .undo);
             ds = ds;
             chain = subst (λ (x : ℕ). Chain (cellsOf code₄) h ds (x + 1)) n chain₄;
             rise = rise₄;
@@ -261,7 +273,7 @@ module _ (text code values : List ℕ) (result h name : ℕ) (g : ScopeStands te
       unfolding headFor
       head-is = ap (λ (w : ℕ). record { word = w; parameters = length (r .parameters); function = isSome (r .result) }) (sym (word-at (sortIn W) r h to form))
 
-      pub goes : (values₄ : List ℕ) → length values₄ ≡ length values₃ → SameWords values₃ values₄
+      pub goes : (values₄ : List ℕ) → length values₄ ≡ length values₃ → leaves.SameWords values₃ values₄
           → ((l : Leaving code₄ values₃ (name + 2) (own .used) h) → Means (l .routine) (l .W) (outerOf (l .W) (l .s)) (cellsOf values₄)) → Goes (g .begins) code₄ values₄ next
       unfolding leaving
       goes values₄ same-long same again = record {

@@ -7,12 +7,12 @@ use Prim.Native.Nat.{ℕ, _+_, _*_, _/_, _<_, _≤_}
 use lib.Dec.{eqb}
 use lib.ListN.{length, getD}
 use Rattle.paper.specs.Basics.{if_then_else_}
-use Rattle.paper.specs.Sorts.{PROC, BOOL, ERROR}
+use Rattle.paper.specs.Sorts.{PROC, BOOL}
 use Rattle.paper.specs.Trees.{RoutineList, Routine, Module}
 use Rattle.paper.specs.Names.{sortIn}
 use Rattle.paper.specs.Types.{Fault}
-use Rattle.paper.specs.Declarations.{routineLimit, crosses, resultAsked, routineData, signatures}
-use Rattle.paper.specs.Checks.{isSome, forsInList, routineFaults}
+use Rattle.paper.specs.Declarations.{routineLimit, crosses, resultAsked, routineData, routineScopes, signatures}
+use Rattle.paper.specs.Checks.{WhichList, theBody, theHandler, theUndo, forsInOptional, optionalFaults, settingIn, routineFaults}
 use Rattle.paper.specs.Steps.{forsOf}
 use Rattle.store_cells.specs.Cells.{cellsOf}
 use Rattle.code.specs.Cells.{opIn, valueIn, opAt, placeAt, linkAt}
@@ -21,12 +21,14 @@ use Rattle.code.specs.Signatures.{Heads}
 use Rattle.check_names.specs.Meanings as meanings
 use Rattle.check_names.specs.Promises.{storeBytes}
 use Rattle.store_evaluation.specs.Answers.{callSlots}
+use Rattle.grammar.specs.Form.{Parses, ListBehindAt}
 use Rattle.faults.specs.First.{First}
-use Rattle.faults.specs.Parts.{inHandler}
-use Rattle.check_links.specs.Raw.{Ground, endOf}
+use Rattle.faults.specs.Parts.{memoryOf}
+use Rattle.check_links.specs.Raw.{Ground, RawList, endOf}
 use Rattle.check_heads.specs.Trees.{headsFor}
 use Rattle.check_sites.specs.Sites.{aRoutine, Filled}
-use Rattle.check_around.specs.Around.{Unread, Apart, ResultIs}
+use Rattle.check_around.specs.declared.Setting.{Setting}
+use Rattle.check_around.specs.Around.{Unread, Apart, ResultIs, Tells}
 use Rattle.check_names.specs.declared.Scope.{Scope}
 use Rattle.check_names.specs.declared.Walked.{Walked}
 use Rattle.check_names.specs.declared.Walked.the-variants.{Upto, Faulty}
@@ -34,7 +36,7 @@ use Rattle.check_names.specs.Scopes.{Grown, OfRoutine}
 use Rattle.check_statements.specs.Answers.{SameValues, Answer}
 use Rattle.check_parameters.specs.Answers.{DeclaresParameters}
 use Rattle.check_declarations.specs.Answers.{DeclaresRoutine}
-use Rattle.check_program.specs.Routines.{slotsOfData, RawLines, RawHandler}
+use Rattle.check_program.specs.Routines.{groundFor, slotsOfData, wordsInAll, usedByBody, usedByBoth, RawLines, RawOptional}
 use Rattle.check_routines.specs.Answers.{Stands, groundOf, Begins, Goes}
 
 -- ---- the head
@@ -58,9 +60,19 @@ pub record Finishes (before after : List ℕ) (h opens at fors : ℕ) : Type 0 w
   pub fors-is : placeAt (cellsOf after) opens ≡ fors
   pub others : (k : ℕ) → (k ≡ h * 2 + 1 → ⊥) → (k ≡ opens * 2 → ⊥) → (k ≡ opens * 2 + 1 → ⊥) → getD (cellsOf after) k 0 ≡ getD (cellsOf before) k 0
 
--- where the ERROR list begins, if e is its ERROR; 0 is no step
-unfoldable pub leadsTo : (C : List ℕ) → (e : ℕ) → ℕ
-leadsTo C e = if eqb (opAt C e) ERROR then e + 1 else 0
+-- where the list begins that stands behind the word e and is closed by z; 0 is no step, and says that there is none
+unfoldable pub firstBehind : (e z : ℕ) → ℕ
+firstBehind e z = if eqb z e then 0 else e + 1
+
+-- The words e, z and w that close the lists are their ends. Of an optional list that is not there the word is that of the list before it.
+pub record Closes (before after : List ℕ) (function : Bool) (h e z w : ℕ) : Type 0 where
+  pub body : opAt (cellsOf after) e ≡ endOf theBody function
+  pub handler : opAt (cellsOf after) z ≡ endOf theHandler function
+  pub undo : (w ≡ z → ⊥) → opAt (cellsOf after) w ≡ endOf theUndo function
+  -- the second word of the routine leads to its ERROR list, and has the first word of its UNDO list as its place
+  pub link-is : linkAt (cellsOf after) (h + 1) ≡ firstBehind e z
+  pub place-is : placeAt (cellsOf after) (h + 1) ≡ firstBehind z w
+  pub others : (k : ℕ) → (k ≡ e * 2 → ⊥) → (k ≡ z * 2 → ⊥) → (k ≡ w * 2 → ⊥) → (k ≡ h * 2 + 3 → ⊥) → getD (cellsOf after) k 0 ≡ getD (cellsOf before) k 0
 
 -- ---- in a routine
 -- Its parameters and data are declared, and break no rule.
@@ -85,36 +97,38 @@ dataSlots s = slotsOfData (groundIn s) (s .stands .m) (s .stands .r)
 abbrev pub faultsIn : {text values : List ℕ} {k h : ℕ} → Inside text values k h → List Fault
 faultsIn {k = k} s = routineFaults (s .stands .W) (s .stands .m) (signatures (s .stands .W) (s .stands .m) 0 (s .stands .m .routines)) k (s .stands .r)
 
--- ---- the ERROR list
--- Word e closes the first list.
-pub record ErrorsStand (text code values : List ℕ) (result used e leads : ℕ) : Type 0 where
+-- ---- a list that a routine may have or not
+-- Word e closes the list before it; where it is of the sort that leads this one, it stands behind it, up to the word `to`.
+pub record BehindStands (text code values : List ℕ) (setting : Setting) (used leader e : ℕ) : Type 0 where
   pub k : ℕ
   pub h : ℕ
   pub inside : Inside text values k h
-  pub closes : e ≡ inside .stands .r .body .closes
+  pub which : WhichList
+  pub o : Option RoutineList
+  pub to : ℕ
+  pub form : ListBehindAt (sortIn (inside .stands .W)) (Parses (sortIn (inside .stands .W))) leader o e to
+  pub within : to ≤ inside .stands .form .end
   pub onward : Onward inside code e
-  pub leads-is : leads ≡ leadsTo (cellsOf code) e
-  pub result-is : ResultIs (resultAsked (inside .stands .W) k (inside .stands .r .result)) result
-  pub used-is : used ≡ dataSlots inside + forsInList (inside .stands .r .body .statements)
+  pub tells : Tells setting (settingIn (inside .stands .W) (signatures (inside .stands .W) (inside .stands .m) 0 (inside .stands .m .routines)) k (inside .stands .r) which)
+  pub many : dataSlots inside ≤ used
   pub few : used ≤ callSlots
+  pub room : used + forsInOptional o ≤ wordsInAll (groundIn inside) (inside .stands .m) (inside .stands .r)
 
-unfoldable pub ErrorLines : (g : Ground) (C : List ℕ) (m : Module) → Routine → Option RoutineList → Type 0
-ErrorLines g C m r none = Unit {0}
-ErrorLines g C m r (some l) = RawLines g C m r l (slotsOfData g m r + forsInList (r .body .statements)) (r .body .closes + 1)
+-- its statements, without its end
+unfoldable pub LinesBehind : (g : Ground) (C : List ℕ) (m : Module) → Routine → Option RoutineList → (used e : ℕ) → Type 0
+LinesBehind g C m r none used e = Unit {0}
+LinesBehind g C m r (some l) used e = RawList (groundFor g m r) (wordsInAll g m r) C (l .statements) (routineScopes (g .W) m r) used (e + 1) (l .closes)
 
--- The word that closes the first list is its end; an ERROR list is written.
-pub record Ended (g : Ground) (C : List ℕ) (m : Module) (r : Routine) : Type 0 where
-  pub op : opAt C (r .body .closes) ≡ endOf (isSome (r .result))
-  pub place : placeAt C (r .body .closes) ≡ g .offset (r .body .closes)
-  pub errors : ErrorLines g C m r (r .handler)
+pub record Behind (text code values code′ values′ : List ℕ) (setting : Setting) (used leader e : ℕ) (r : Walked) : Type 0 where
+  pub is : (s : BehindStands text code values setting used leader e)
+      → Answer
+      (optionalFaults (s .inside .stands .W)
+      (settingIn (s .inside .stands .W) (signatures (s .inside .stands .W) (s .inside .stands .m) 0 (s .inside .stands .m .routines)) (s .k) (s .inside .stands .r) (s .which))
+      (memoryOf (s .inside .stands .W) (s .inside .stands .m) (s .inside .stands .r)) (routineScopes (s .inside .stands .W) (s .inside .stands .m) (s .inside .stands .r)) used (s .o))
+      code code′ values values′ (e + 1) (s .to) (used + forsInOptional (s .o))
+      (LinesBehind (groundIn (s .inside)) (cellsOf code′) (s .inside .stands .m) (s .inside .stands .r) (s .o) used e) r
 
-pub record Errors (text code values code′ values′ : List ℕ) (result used e leads : ℕ) (r : Walked) : Type 0 where
-  pub is : (s : ErrorsStand text code values result used e leads)
-      → Answer (inHandler (s .inside .stands .W) (s .inside .stands .m) (signatures (s .inside .stands .W) (s .inside .stands .m) 0 (s .inside .stands .m .routines)) (s .k) (s .inside .stands .r))
-      code code′ values values′ e (s .inside .stands .to) (dataSlots (s .inside) + forsOf (s .inside .stands .W) (s .inside .stands .r))
-      (Ended (groundIn (s .inside)) (cellsOf code′) (s .inside .stands .m) (s .inside .stands .r)) r
-
--- ---- both lists
+-- ---- all lists
 -- They begin at the word `at`, behind the data.
 pub record ListsStand (text code values : List ℕ) (result data-words h at : ℕ) : Type 0 where
   pub k : ℕ
@@ -129,9 +143,12 @@ pub record ListsDone {text code values : List ℕ} {result data-words h at : ℕ
   pub next-is : next ≡ s .inside .stands .to
   pub used-is : used ≡ data-words + forsOf (s .inside .stands .W) (s .inside .stands .r)
   pub few : used ≤ callSlots
-  pub body : RawLines (groundIn (s .inside)) (cellsOf code′) (s .inside .stands .m) (s .inside .stands .r) (s .inside .stands .r .body) data-words at
-  pub handler : RawHandler (groundIn (s .inside)) (cellsOf code′) (s .inside .stands .m) (s .inside .stands .r) (s .inside .stands .r .handler) (h + 1)
-  -- nothing before them has changed but the link of the routine's second word
+  pub body : RawLines (groundIn (s .inside)) (cellsOf code′) (s .inside .stands .m) (s .inside .stands .r) theBody (s .inside .stands .r .body) data-words at
+  pub handler : RawOptional (groundIn (s .inside)) (cellsOf code′) (s .inside .stands .m) (s .inside .stands .r) theHandler (s .inside .stands .r .handler)
+      (usedByBody (groundIn (s .inside)) (s .inside .stands .m) (s .inside .stands .r)) (s .inside .stands .r .body .closes) (linkAt (cellsOf code′) (h + 1))
+  pub undo : RawOptional (groundIn (s .inside)) (cellsOf code′) (s .inside .stands .m) (s .inside .stands .r) theUndo (s .inside .stands .r .undo)
+      (usedByBoth (groundIn (s .inside)) (s .inside .stands .m) (s .inside .stands .r)) (s .inside .stands .form .undoAt) (placeAt (cellsOf code′) (h + 1))
+  -- nothing before them has changed but the tail of the routine's second word
   pub below : (i : ℕ) → i < at * 2 → (i ≡ h * 2 + 3 → ⊥) → getD (cellsOf code′) i 0 ≡ getD (cellsOf code) i 0
   pub above : (i : ℕ) → s .inside .stands .to * 2 ≤ i → getD (cellsOf code′) i 0 ≡ getD (cellsOf code) i 0
   pub same : SameValues values values′

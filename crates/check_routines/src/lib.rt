@@ -1,4 +1,4 @@
-// The check of a routine: its name, parameters, data, list and ERROR list. What a run has to know of it is written over its words in the code store; when its scope is left the table
+// The check of a routine: its name, parameters, data, list, ERROR list and UNDO list. What a run has to know of it is written over its words in the code store; when its scope is left the table
 // of meanings says again what names mean in the module.
 use check_around::Setting;
 use check_names::Scope;
@@ -10,9 +10,9 @@ use layout::rules;
 use layout::types;
 use layout::types::Type;
 use store_writing::set_head;
-use store_writing::set_link;
 use store_writing::sort;
 ghost use Rattle.paper.specs.Words.{wordLimit};
+ghost use Rattle.paper.specs.Checks.{theBody};
 ghost use Rattle.layout.specs.Parts.{linkPart};
 ghost use mathlib.Core.Path.{_≡_};
 ghost use Prim.Native.Nat.{_+_, _*_, _<_, _≤_};
@@ -23,7 +23,7 @@ ghost use Rattle.check_links.specs.Raw.{endOf};
 ghost use Rattle.store_writing.specs.Promises.{Linked};
 ghost use Rattle.check_names.specs.Scopes.{EachHasWord, Stays, BackTo};
 ghost use Rattle.check_routines.specs.Answers.{Begins, Checks};
-ghost use Rattle.check_routines.specs.Parts.{namesRoutine, resultIn, nameWith, Finishes, leadsTo, ErrorsStand, Errors, ListsStand, Lists, ScopeStands, Scoped, ParametersDeclared, ParametersPassed, DataStand, DataPassed};
+ghost use Rattle.check_routines.specs.Parts.{namesRoutine, resultIn, nameWith, Finishes, firstBehind, Closes, BehindStands, Behind, ListsStand, Lists, ScopeStands, Scoped, ParametersDeclared, ParametersPassed, DataStand, DataPassed};
 
 // the number that the first routine too many has
 const ROUTINES: u32 = limits::ROUTINES as u32;
@@ -75,10 +75,10 @@ fn finish(code: &mut [u8], h: usize, opens: usize, at: usize, fors: u32)
     store_writing::rewrite(code, opens, ops::PARAMETERS, fors as usize, 0);
 }
 
-// The word e is a list's end.
+// The word e is a list's end, but for an UNDO list.
 fn end_list(code: &mut [u8], function: bool, e: usize)
     requires { ⌜ e * 8 + 8 ≤ length (now code) ⌝ }
-    ensures { λ _. ⌜ Linked (now (code .entry)) (now (code .exit)) e (endOf function) 0 (linkAt (cellsOf (now (code .entry))) e) ⌝ }
+    ensures { λ _. ⌜ Linked (now (code .entry)) (now (code .exit)) e (endOf theBody function) 0 (linkAt (cellsOf (now (code .entry))) e) ⌝ }
 {
     if function {
         set_head(code, e, ops::FUNCTION_END, 0);
@@ -87,49 +87,54 @@ fn end_list(code: &mut [u8], function: bool, e: usize)
     }
 }
 
-// ---- lists
-
-// Where the ERROR list begins, if the word e that closes the other is ERROR; else 0.
-fn leads_to(code: &[u8], e: usize) -> usize
-    requires { ⌜ (e * 8 + 8 ≤ length (now code)) × (e < wordLimit) ⌝ }
-    ensures { λ r. ⌜ r ≡ leadsTo (cellsOf (now (code .entry))) e ⌝ }
+// Where the list begins that stands behind the word e and is closed by z; 0 where there is none.
+fn first_behind(e: usize, z: usize) -> usize
+    requires { ⌜ e < wordLimit ⌝ }
+    ensures { λ r. ⌜ r ≡ firstBehind e z ⌝ }
 {
-    if sort(code, e) == text_sorts::ERROR {
-        return e + 1;
+    if z == e {
+        return 0;
     }
-    0
+    e + 1
 }
 
-// The end of the first list, and the ERROR list with its end, if there is one.
-fn errors(
+// The words e, z and w close the list, the ERROR list and the UNDO list of the routine that begins at h: each is its list's end. Where there is no such list, its word closes the one
+// before it, so the last is written first.
+fn close(code: &mut [u8], function: bool, h: usize, e: usize, z: usize, w: usize)
+    requires { ⌜ (h + 1 < e) × (e ≤ z) × (z ≤ w) × (w < wordLimit) × (w * 8 + 8 ≤ length (now code)) ⌝ }
+    ensures { λ _. ⌜ Closes (now (code .entry)) (now (code .exit)) function h e z w ⌝ }
+{
+    set_head(code, w, ops::UNDO_END, 0);
+    end_list(code, function, z);
+    end_list(code, function, e);
+    let head = store_reading::head(code, h + 1);
+    let undo = first_behind(z, w);
+    let handler = first_behind(e, z);
+    store_writing::rewrite(code, h + 1, head, undo, handler);
+}
+
+// ---- lists
+
+// The list behind the word e that closes another, if e is of the sort that leads it.
+fn list_behind(
     text: &[u8],
     code: &mut [u8],
     values: &mut [u8],
-    result: Type,
+    setting: Setting,
     scope: Scope,
+    leader: u32,
     e: usize,
-    leads: usize,
 ) -> Walked
-    requires { ⌜ ErrorsStand (now text) (now code) (now values) result (scope .used) e leads × EachHasWord scope ⌝ }
-    ensures { λ r. ⌜ Errors (now (text .entry)) (now (code .entry)) (now (values .entry)) (now (code .exit)) (now (values .exit)) result (scope .used) e leads r × Stays scope r ⌝ }
+    requires { ⌜ BehindStands (now text) (now code) (now values) setting (scope .used) leader e × EachHasWord scope ⌝ }
+    ensures { λ r. ⌜ Behind (now (text .entry)) (now (code .entry)) (now (values .entry)) (now (code .exit)) (now (values .exit)) setting (scope .used) leader e r × Stays scope r ⌝ }
 {
-    end_list(code, result != types::NONE, e);
-    if leads == 0 {
-        return Walked::Upto(e + 1, scope);
+    if sort(code, e) != leader {
+        return Walked::Upto(e, scope);
     }
-    let setting = Setting {
-        result: result,
-        handler: true,
-    };
-    let r = check_statements::list(text, code, values, setting, scope, leads);
-    let Walked::Upto(z, n) = r else {
-        return r;
-    };
-    end_list(code, result != types::NONE, z);
-    Walked::Upto(z + 1, n)
+    check_statements::list(text, code, values, setting, scope, e + 1)
 }
 
-// Both lists of the routine that begins at h, from the word `at` on. Its second word leads to its ERROR list.
+// The lists of the routine that begins at h, from the word `at` on, with their ends. Its second word leads to its ERROR list, and has the first word of its UNDO list as its place.
 fn lists(
     text: &[u8],
     code: &mut [u8],
@@ -144,24 +149,35 @@ fn lists(
 {
     let setting = Setting {
         result: result,
-        handler: false,
+        list: check_around::lists::BODY,
     };
     let r = check_statements::list(text, code, values, setting, scope, at);
-    let Walked::Upto(e, n) = r else {
+    let Walked::Upto(e, body) = r else {
         return r;
     };
-    let leads = leads_to(code, e);
-    let r = errors(text, code, values, result, n, e, leads);
-    let Walked::Upto(z, used) = r else {
+    let setting = Setting {
+        result: result,
+        list: check_around::lists::HANDLER,
+    };
+    let r = list_behind(text, code, values, setting, body, text_sorts::ERROR, e);
+    let Walked::Upto(z, both) = r else {
         return r;
     };
-    set_link(code, h + 1, leads);
-    Walked::Upto(z, used)
+    let setting = Setting {
+        result: result,
+        list: check_around::lists::UNDO,
+    };
+    let r = list_behind(text, code, values, setting, both, text_sorts::UNDO, z);
+    let Walked::Upto(w, all) = r else {
+        return r;
+    };
+    close(code, result != types::NONE, h, e, z, w);
+    Walked::Upto(w + 1, all)
 }
 
 // ---- a routine
 
-// Behind its data, with which its scope is `taken`: both lists, from the word `at` on. Then it is left to the scope around it.
+// Behind its data, with which its scope is `taken`: its lists, from the word `at` on. Then it is left to the scope around it.
 fn behind_data(
     text: &[u8],
     code: &mut [u8],

@@ -1,6 +1,6 @@
 -- A call: its arguments are as many as the callee's parameters, and each is of the type of its parameter.
 use mathlib.Core.Path.{_≡_, refl, sym, ap, ap₂, subst, _∙_}
-use mathlib.Core.Bool.{Bool, false, not}
+use mathlib.Core.Bool.{Bool, true, false, not}
 use mathlib.Core.List.{List, [], _∷_, _++_, map, append-assoc}
 use mathlib.Core.Option.{Option, some}
 use Prim.Native.Nat.{ℕ, suc, _+_, _-_, _*_, _/_, _<_, _≤_}
@@ -34,8 +34,8 @@ use Rattle.check_expressions.specs.Answers as expressions
 use Rattle.store_writing.proofs.Keeping.{head-below, head-above, kept-wider, kept-on, term-above}
 use Rattle.check_expressions.proofs.FaultsOfParts.{append-none}
 use Rattle.check_expressions.proofs.Starts.{loaded-part}
-use Rattle.faults.specs.First.{First}
-use Rattle.faults.proofs.First.{first-if, first-left, leads-later}
+use Rattle.faults.specs.First.{First, Leads}
+use Rattle.faults.proofs.First.{every-none, first-if, first-left, first-right, leads-later, ranks, leads-same-if}
 use Rattle.faults.proofs.Expressions.{grows}
 use Rattle.faults.proofs.Statements.{arguments-inside}
 use Rattle.check_links.specs.Raw.{Quiet, RawArguments}
@@ -46,7 +46,7 @@ use Rattle.check_simple.specs.Parts.{Passed, Reads, reads-one, reads-mor
 use Rattle.check_simple.proofs.Expressions.{no-operator, level-semicolon, level-paren, quiet-above, Told, answer-first, answer-fine}
 use Rattle.check_simple.proofs.Callees.{Known, known}
 use Rattle.check_simple.proofs.Arguments.{link-below, unread-part, unread-after, apart-kept, apart-same, reads-grow, reads-below, one-asks, one-long, one-told, one-first, one-is-first, one-is-fine, next-level, same-tail}
-use Rattle.layout.specs.Rules.{wrongCount}
+use Rattle.layout.specs.Rules.{wrongCount, barred}
 use Rattle.layout.specs.Types.{noType}
 
 -- ---- terms that have been read are the arguments
@@ -123,7 +123,7 @@ unfolding firstParameter
 parameter-same C D h e = ap (λ (b : Bool). if b then h + 4 else h + 3) e
 
 -- ---- a call
-module _ (code values : List ℕ) (h callee first closing : ℕ) (g : CallSide code values h callee first closing) where
+module _ (code values : List ℕ) (undo : Bool) (h callee first closing : ℕ) (g : CallSide code values undo h callee first closing) where
   pub counts : Counts code first closing
   counts = record { W = g .around .known .W; es = g .es; z = g .z; end = g .end; stand = g .stand; loaded = g .unread .loaded }
 
@@ -162,6 +162,17 @@ module _ (code values : List ℕ) (h callee first closing : ℕ) (g : CallSide c
   abbrev passing : List DataType → List Expr → List Fault
   passing ts es = argumentFaults (g .around .known .W) (g .around .known .S) ts es
 
+  -- all its faults
+  abbrev counting : List Fault
+  counting = faultIf (not (eqb (length params) (length (g .es)))) wrongCount callee
+
+  abbrev called : List Fault
+  called = faultIf undo barred callee ++ counting ++ passing params (g .es)
+
+  -- those of its arguments come later
+  passing-later : (number : ℕ) → Leads (record { number = number; at = callee }) (passing params (g .es))
+  passing-later number = leads-later (record { number = number; at = callee }) (arguments-inside (g .around .known .W) (g .around .known .S) params (g .stand .arguments)) (g .before)
+
   module _ (count : ℕ) (c : Counted code first closing count) (w : ℕ) (ew : w ≡ headAt (cellsOf code) h) where
     count-is : count ≡ length (g .es)
     unfolding counts
@@ -171,25 +182,34 @@ module _ (code values : List ℕ) (h callee first closing : ℕ) (g : CallSide c
     unfolding params
     many-is = head-known .many ∙ sym (ap valueIn ew)
 
-    many-wrong : (count ≡ valueIn w → ⊥) → First (record { number = wrongCount; at = callee }) (faultIf (not (eqb (length params) (length (g .es)))) wrongCount callee ++ passing params (g .es))
+    many-wrong : (count ≡ valueIn w → ⊥) → First (record { number = wrongCount; at = callee }) called
     many-wrong d =
-        first-left (first-if (not (eqb (length params) (length (g .es)))) wrongCount callee (rw (ne-eqb (length params) (length (g .es)) (λ e. d (count-is ∙ sym e ∙ many-is)))))
-        (leads-later (record { number = wrongCount; at = callee }) (arguments-inside (g .around .known .W) (g .around .known .S) params (g .stand .arguments)) (g .before))
+        first-left
+        (first-right (leads-same-if (record { number = wrongCount; at = callee }) undo barred callee refl (ranks wrongCount barred (omega arith) (omega arith)))
+        (first-if (not (eqb (length params) (length (g .es)))) wrongCount callee (rw (ne-eqb (length params) (length (g .es)) (λ e. d (count-is ∙ sym e ∙ many-is))))))
+        (passing-later wrongCount)
 
     module _ (same : count ≡ valueIn w) where
       as-many : length (g .es) ≡ length params
       as-many = sym count-is ∙ same ∙ sym many-is
 
-      many-right : faultIf (not (eqb (length params) (length (g .es)))) wrongCount callee ≡ []
+      many-right : counting ≡ []
       unfolding faultIf
       many-right = rw (eq-eqb (length params) (length (g .es)) (sym as-many))
 
-      all-faults : faultIf (not (eqb (length params) (length (g .es)))) wrongCount callee ++ passing params (g .es) ≡ passing params (g .es)
-      all-faults = ap (λ (l : List Fault). l ++ passing params (g .es)) many-right
+      -- "17 covers the barred words and calls (at the callee)"
+      barred-first : undo ≡ true → First (record { number = barred; at = callee }) called
+      barred-first t = first-left (first-left (first-if undo barred callee t) (every-none many-right)) (passing-later barred)
+
+    -- it is not barred
+    module _ (same : count ≡ valueIn w) (may : undo ≡ false) where
+      all-faults : called ≡ passing params (g .es)
+      unfolding faultIf
+      all-faults = ap₂ {C = List Fault} (λ (b : Bool) (l : List Fault). faultIf b barred callee ++ l ++ passing params (g .es)) may (many-right same)
 
       -- there are none
       none-answer : count ≡ 0 → (op : ℕ) (after : List ℕ) → Linked code after callee op h first
-          → Answer (faultIf (not (eqb (length params) (length (g .es)))) wrongCount callee ++ passing params (g .es)) code after callee (g .z) (CallWritten g (cellsOf after) op) (Typed noType first)
+          → Answer called code after callee (g .z) (CallWritten g (cellsOf after) op) (Typed noType first)
       unfolding argumentFaults groundOf params
       none-answer zero-is op after l =
           let n = none-closed (g .stand .arguments) (sym count-is ∙ zero-is) in
@@ -199,7 +219,7 @@ module _ (code values : List ℕ) (h callee first closing : ℕ) (g : CallSide c
             written = record {
               op-is = l .op-is;
               value-is = l .value-is;
-              as-many = as-many;
+              as-many = as-many same;
               read = no-arguments (ap (map (termOf (g .around .known .W) (g .around .known .S))) (n .0)) (l .link-is) (n .1);
               quiet = λ i x y. absurd (omega (arith, n .1));
             };
@@ -229,7 +249,7 @@ module _ (code values : List ℕ) (h callee first closing : ℕ) (g : CallSide c
         one-no = next-level (g .around) (one .n) (g .z) (one .rest) (one .done) call-no
 
         value-suc : valueAt (cellsOf code) h ≡ suc (length (one .rest))
-        value-suc = sym (ap valueIn ew) ∙ sym many-is ∙ sym as-many ∙ ap length (one .is)
+        value-suc = sym (ap valueIn ew) ∙ sym many-is ∙ sym (as-many same) ∙ ap length (one .is)
 
         pub call-asks : (p * 8 + 8 ≤ length code) × (p < wordLimit) × expressions.Stands code values disjunctions first
         call-asks =
@@ -251,14 +271,14 @@ module _ (code values : List ℕ) (h callee first closing : ℕ) (g : CallSide c
             let f : firstParameter D h ≡ p = parameter-same D (cellsOf code) h (sym (k .function) ∙ head-known .function) ∙ sym ep in
             same-tail _ _ _ _ (sym (ap₂ (typesAt D) v f) ∙ sym (k .types) ∙ types-are)
 
-        faults-are : faultIf (not (eqb (length params) (length (g .es)))) wrongCount callee ++ passing params (g .es) ≡ passing (typeAt (cellsOf code) p ∷ left) (one .a ∷ one .rest)
+        faults-are : called ≡ passing (typeAt (cellsOf code) p ∷ left) (one .a ∷ one .rest)
         faults-are = all-faults ∙ ap₂ passing types-are (one .is)
 
         module _ (mid : List ℕ) (j : Judged) (pass : Passed code values mid p first j) where
           first-long : length mid ≡ length code
           first-long = one-long (g .around) code p first (one .a) (one .n) (one .one) one-load one-no mid j pass
 
-          first-wrong : (number word : ℕ) → j ≡ Faulty number word → First (record { number = number; at = word }) (faultIf (not (eqb (length params) (length (g .es)))) wrongCount callee ++ passing params (g .es))
+          first-wrong : (number word : ℕ) → j ≡ Faulty number word → First (record { number = number; at = word }) called
           first-wrong number word e =
               subst (First (record { number = number; at = word })) (sym faults-are)
               (one-is-first (g .around) (typeAt (cellsOf code) p) left (one .a) (one .rest) first (one .n) (g .z) (one .one) (one .more) (one .done) (record { number = number; at = word })
@@ -306,12 +326,12 @@ module _ (code values : List ℕ) (h callee first closing : ℕ) (g : CallSide c
                 is = subst (λ (i : ℕ). Rest (g .around) first (one .n) (g .z) after p i (termOf (g .around .known .W) (g .around .known .S) (one .a) ∷ []) (one .rest) left) (sym (first-told .next-is)) first-rest;
               }
 
-              fine-faults : faultIf (not (eqb (length params) (length (g .es)))) wrongCount callee ++ passing params (g .es) ≡ passing left (one .rest)
+              fine-faults : called ≡ passing left (one .rest)
               fine-faults = faults-are ∙ one-is-fine (g .around) (typeAt (cellsOf code) p) left (one .a) (one .rest) first (one .n) (g .z) (one .one) (one .more) (one .done) (first-told .none)
 
               module _ (final : List ℕ) (r : Judged) (m : MoreJudged after values final p n r) where
                 fine-on : (next : ℕ) → Fine (passing left (one .rest)) after final n (g .z) next (MoreRead call-more (cellsOf final))
-                    → Fine (faultIf (not (eqb (length params) (length (g .es)))) wrongCount callee ++ passing params (g .es)) code final callee (g .z) next (CallWritten g (cellsOf final) op)
+                    → Fine called code final callee (g .z) next (CallWritten g (cellsOf final) op)
                 unfolding call-more groundOf params
                 fine-on next f =
                     let below : callee < n = omega (arith, first-told .next-is, g .before, one-on) in
@@ -326,7 +346,7 @@ module _ (code values : List ℕ) (h callee first closing : ℕ) (g : CallSide c
                       written = record {
                         op-is = ap opIn (head-below (f .kept) callee below) ∙ l .op-is;
                         value-is = ap valueIn (head-below (f .kept) callee below) ∙ l .value-is;
-                        as-many = as-many;
+                        as-many = as-many same;
                         read = subst (λ (ts : List Term). ReadAll (g .around .known .m) (g .around .known .n) (cellsOf final) ts first (linkAt (cellsOf final) callee) (g .z)) all
                             (subst (λ (i : ℕ). ReadAll (g .around .known .m) (g .around .known .n) (cellsOf final) (termOf (g .around .known .W) (g .around .known .S) (one .a) ∷ map (termOf (g .around .known .W) (g .around .known .S)) (one .rest)) first i (g .z)) lk
                             (some-arguments one-on (f .written .read)));
@@ -335,37 +355,43 @@ module _ (code values : List ℕ) (h callee first closing : ℕ) (g : CallSide c
                       kept = k;
                     }
 
-                call-answer : Answer (faultIf (not (eqb (length params) (length (g .es)))) wrongCount callee ++ passing params (g .es)) code final callee (g .z) (CallWritten g (cellsOf final) op) r
+                call-answer : Answer called code final callee (g .z) (CallWritten g (cellsOf final) op) r
                 unfolding call-more
                 call-answer =
                     answer-on (passing left (one .rest)) _ code after final n (g .z) callee (g .z) (MoreRead call-more (cellsOf final)) (CallWritten g (cellsOf final) op) r (m .is call-more) (first-kept .long)
                     (λ x y. subst (First x) (sym fine-faults) y) fine-on
 
 -- ---- what the call answers
-module _ (code values : List ℕ) (op h callee first closing : ℕ) (count : ℕ) (c : Counted code first closing count) (w : ℕ) (ew : w ≡ headAt (cellsOf code) h) where
-  pub called-wrong : (count ≡ valueIn w → ⊥) → CallJudged code values code op h callee first closing (Faulty wrongCount callee)
+module _ (code values : List ℕ) (undo : Bool) (op h callee first closing : ℕ) (count : ℕ) (c : Counted code first closing count) (w : ℕ) (ew : w ≡ headAt (cellsOf code) h) where
+  pub called-wrong : (count ≡ valueIn w → ⊥) → CallJudged code values code undo op h callee first closing (Faulty wrongCount callee)
   unfolding params
   called-wrong d = record {
-    is = λ g. answer-first _ code code callee (g .z) _ (Faulty wrongCount callee) wrongCount callee refl refl (many-wrong code values h callee first closing g count c w ew d);
+    is = λ g. answer-first _ code code callee (g .z) _ (Faulty wrongCount callee) wrongCount callee refl refl (many-wrong code values undo h callee first closing g count c w ew d);
   }
 
-  module _ (same : count ≡ valueIn w) where
-    pub called-none : count ≡ 0 → (after : List ℕ) → Linked code after callee op h first → CallJudged code values after op h callee first closing (Typed noType first)
+  pub called-barred : count ≡ valueIn w → undo ≡ true → CallJudged code values code undo op h callee first closing (Faulty barred callee)
+  unfolding params
+  called-barred same t = record {
+    is = λ g. answer-first _ code code callee (g .z) _ (Faulty barred callee) barred callee refl refl (barred-first code values undo h callee first closing g count c w ew same t);
+  }
+
+  module _ (same : count ≡ valueIn w) (may : undo ≡ false) where
+    pub called-none : count ≡ 0 → (after : List ℕ) → Linked code after callee op h first → CallJudged code values after undo op h callee first closing (Typed noType first)
     unfolding params
-    called-none z after l = record { is = λ g. none-answer code values h callee first closing g count c w ew same z op after l }
+    called-none z after l = record { is = λ g. none-answer code values undo h callee first closing g count c w ew same may z op after l }
 
     module _ (some-are : count ≡ 0 → ⊥) (p : ℕ) (ep : p ≡ firstParameter (cellsOf code) h) (mid : List ℕ) (j : Judged) (pass : Passed code values mid p first j) where
-      pub called-faulty : (number word : ℕ) → j ≡ Faulty number word → CallJudged code values mid op h callee first closing j
+      pub called-faulty : (number word : ℕ) → j ≡ Faulty number word → CallJudged code values mid undo op h callee first closing j
       unfolding params
       called-faulty number word e = record {
         is = λ g.
-            answer-first _ code mid callee (g .z) _ j number word e (first-long code values h callee first closing g count c w ew same some-are p ep mid j pass)
-            (first-wrong code values h callee first closing g count c w ew same some-are p ep mid j pass number word e);
+            answer-first _ code mid callee (g .z) _ j number word e (first-long code values undo h callee first closing g count c w ew same may some-are p ep mid j pass)
+            (first-wrong code values undo h callee first closing g count c w ew same may some-are p ep mid j pass number word e);
       }
 
       pub called-on : (b : ℕ) (n : ℕ) → j ≡ Typed b n → (after : List ℕ) → Linked mid after callee op h n → (final : List ℕ) (r : Judged) → MoreJudged after values final p n r
-          → CallJudged code values final op h callee first closing r
+          → CallJudged code values final undo op h callee first closing r
       unfolding params
       called-on b n e after l final r m = record {
-        is = λ g. call-answer code values h callee first closing g count c w ew same some-are p ep mid j pass b n e op after l final r m;
+        is = λ g. call-answer code values undo h callee first closing g count c w ew same may some-are p ep mid j pass b n e op after l final r m;
       }

@@ -41,14 +41,14 @@ use Rattle.check_simple.specs.declared.Callee.{Callee}
 use Rattle.check_simple.specs.declared.Callee.the-variants.{At, Wrong}
 use Rattle.check_around.specs.Around.{Around, groundOf}
 use Rattle.check_around.specs.Answers.{Fine, Answer}
-use Rattle.check_simple.specs.Parts.{TypeDiffers, Callees, CalleeFound, CalleeWrong, CalleeSays, CalleeTold, CallSide, signatureFor, CallWritten, CallJudged, ForCalls, ForWritten, forFaults, ForJudged, CallAssigns, CallAssigned}
+use Rattle.check_simple.specs.Parts.{TypeDiffers, Callees, CalleeFound, CalleeWrong, CalleeSays, CalleeTold, CallSide, signatureFor, sideFaults, CallWritten, CallJudged, ForCalls, ForWritten, forFaults, ForJudged, CallAssigns, CallAssigned}
 use Rattle.check_simple.proofs.Expressions.{quiet-below, quiet-above, answer-first, answer-fine, answered-fine, answered-first}
 use Rattle.check_simple.proofs.ParameterTypes.{type-at}
 use Rattle.check_simple.proofs.Arguments.{unread-part}
 use Rattle.check_simple.proofs.Calls.{raw-arguments, answer-on, closes-low}
 use Rattle.check_simple.proofs.CalleesFound.{differs-turned, found-room, found-signature, found-faults, found-result, found-read}
 use Rattle.check_simple.proofs.Assignments.{link-above, aims-below, aims-above, aims-few, raw-target}
-use Rattle.layout.specs.Rules.{wrongType, wrongCount}
+use Rattle.layout.specs.Rules.{wrongType, wrongCount, barred}
 use Rattle.layout.specs.Types.{typeIn, IsType}
 use mathlib.Core.Option.{some}
 use Rattle.layout.specs.Parts.{valuePart, linkPart}
@@ -76,7 +76,7 @@ pub same-above : {before after : List ℕ} {x y : ℕ} → Kept before after x y
 same-above {before} {after} k a b h = same-cells (cellsOf before) (cellsOf after) a b (λ c l m. sym (cell-above k c (omega arith)))
 
 -- ---- f(args)
-module _ (code values : List ℕ) (i : ℕ) (g : ForCalls code values i) where
+module _ (code values : List ℕ) (undo : Bool) (i : ℕ) (g : ForCalls code values undo i) where
   for-on : i + 2 ≤ g .z
   for-on = arguments-grow (sortIn (g .around .known .W)) (Parses (sortIn (g .around .known .W))) (grows (g .around .known .W)) (g .stand .arguments)
 
@@ -109,7 +109,10 @@ module _ (code values : List ℕ) (i : ℕ) (g : ForCalls code values i) where
     for-wrong-first number e j =
         let w = told-wrong (g .around) code true i r number e for-says in
         first-left
-        (first-left (subst (First (record { number = number; at = i })) (sym (w .is (g .es))) (first-fault number i)) (for-later number _))
+        (first-left
+        (first-right (leads-same-if (record { number = number; at = i }) _ barred i refl (ranks number barred (omega arith) (omega (arith, w .low))))
+        (subst (First (record { number = number; at = i })) (sym (w .is (g .es))) (first-fault number i)))
+        (for-later number _))
         (every-none (no-result (g .around .known .W) j _ i (w .no-result refl)))
 
     module _ (h : ℕ) (e : r ≡ At h) where
@@ -119,10 +122,11 @@ module _ (code values : List ℕ) (i : ℕ) (g : ForCalls code values i) where
       pub for-head : (h + 1 < wordLimit) × ((h + 1) * 8 + 8 ≤ length code)
       for-head = found-room (g .around) code i (g .z + 1) true h for-found (g .calls)
 
-      pub for-side : CallSide code values h i (i + 2) 7
+      pub for-side : CallSide code values undo h i (i + 2) 7
       for-side = record {
         text = g .text;
         around = g .around;
+        undo-is = g .undo-is;
         es = g .es;
         z = g .z;
         end = g .z + 1;
@@ -154,22 +158,23 @@ module _ (code values : List ℕ) (i : ℕ) (g : ForCalls code values i) where
         unfolding callFaults
         for-differs-first y =
             first-right
-            (subst (Leads (record { number = wrongType; at = i })) (sym callee-are) (leads-same-if (record { number = wrongType; at = i }) _ wrongCount i refl (ranks wrongType wrongCount (omega arith) (omega arith))) and for-later wrongType _)
+            (leads-same-if (record { number = wrongType; at = i }) _ barred i refl (ranks wrongType barred (omega arith) (omega arith))
+            and subst (Leads (record { number = wrongType; at = i })) (sym callee-are) (leads-same-if (record { number = wrongType; at = i }) _ wrongCount i refl (ranks wrongType wrongCount (omega arith) (omega arith)))
+            and for-later wrongType _)
             (subst (First (record { number = wrongType; at = i })) (sym (result-are j)) (first-if _ wrongType i (result-differs ∙ y)))
 
-        -- nothing but the count and the arguments
-        for-faults : t ≡ false → forFaults g j
-            ≡ faultIf (not (eqb (length (signatureFor (g .around) h .parameters)) (length (g .es)))) wrongCount i ++ argumentFaults (g .around .known .W) (g .around .known .S) (signatureFor (g .around) h .parameters) (g .es)
+        -- nothing but those of the call
+        for-faults : t ≡ false → forFaults g j ≡ sideFaults (g .around) undo h i (g .es)
         unfolding callFaults faultIf
         for-faults y =
             ap₂ {C = List Fault} (λ (x z : List Fault). x ++ z)
-            (ap₂ {C = List Fault} (λ (x : List Fault) (s : Signature). x ++ argumentFaults (g .around .known .W) (g .around .known .S) (s .parameters) (g .es)) callee-are
+            (ap₂ {C = List Fault} (λ (x : List Fault) (s : Signature). x ++ argumentFaults (g .around .known .W) (g .around .known .S) (s .parameters) (g .es))
+            (ap₂ {C = List Fault} (λ (b : Bool) (x : List Fault). faultIf b barred i ++ x) (sym (g .undo-is)) callee-are)
             (found-signature (g .around) code i (g .z + 1) true h for-found (g .calls)))
             (result-are j ∙ ap (λ (b : Bool). faultIf b wrongType i) (result-differs ∙ y))
             ∙ append-none _
 
-        for-written : (final : List ℕ) (next : ℕ) → t ≡ false
-            → Fine (faultIf (not (eqb (length (signatureFor (g .around) h .parameters)) (length (g .es)))) wrongCount i ++ argumentFaults (g .around .known .W) (g .around .known .S) (signatureFor (g .around) h .parameters) (g .es))
+        for-written : (final : List ℕ) (next : ℕ) → t ≡ false → Fine (sideFaults (g .around) undo h i (g .es))
             code final i (g .z) next (CallWritten for-side (cellsOf final) 1)
             → Fine (forFaults g j) code final i (g .z) next (ForWritten g (cellsOf final))
         unfolding for-side
@@ -180,38 +185,38 @@ module _ (code values : List ℕ) (i : ℕ) (g : ForCalls code values i) where
             callee-is = found-read (g .around) code i (g .z + 1) true h for-found (g .calls) (cellsOf final) (g .es) (f .written .value-is) (f .written .as-many)
                 (f .kept .places i ∙ g .unread .places i (omega arith) (omega (arith, for-on)));
             still = low-still (opAt (cellsOf final) i) (omega (arith, f .written .op-is));
-            arguments = raw-arguments (g .around) (cellsOf final) (g .es) (i + 2) (linkAt (cellsOf final) i) (g .z) (f .written .read) (f .written .quiet) (closes-low code values h i (i + 2) 7 for-side final i (f .kept))
+            arguments = raw-arguments (g .around) (cellsOf final) (g .es) (i + 2) (linkAt (cellsOf final) i) (g .z) (f .written .read) (f .written .quiet) (closes-low code values undo h i (i + 2) 7 for-side final i (f .kept))
                 (omega (arith, g .unread .loaded .last));
           };
           kept = f .kept;
         }
 
-        for-answer : (final : List ℕ) (q : Judged) → t ≡ false → CallJudged code values final 1 h i (i + 2) 7 q → Answer (forFaults g j) code final i (g .z) (ForWritten g (cellsOf final)) q
+        for-answer : (final : List ℕ) (q : Judged) → t ≡ false → CallJudged code values final undo 1 h i (i + 2) 7 q → Answer (forFaults g j) code final i (g .z) (ForWritten g (cellsOf final)) q
         unfolding for-side
         for-answer final q y c =
             answer-on _ (forFaults g j) code code final i (g .z) i (g .z) (CallWritten for-side (cellsOf final) 1) (ForWritten g (cellsOf final)) q (c .is for-side) refl
             (λ x f. subst (First x) (sym (for-faults y)) f) (λ next f. for-written final next y f)
 
-module _ (code values : List ℕ) (wants : ℕ) (i : ℕ) (r : Callee) (c : CalleeTold code values true i r) where
-  pub for-wrong : (number : ℕ) → r ≡ Wrong number → ForJudged code values code wants i (Faulty number i)
-  for-wrong number e = record { is = λ g j ty. answer-first (forFaults g j) code code i (g .z) _ (Faulty number i) number i refl refl (for-wrong-first code values i g r c number e j) }
+module _ (code values : List ℕ) (undo : Bool) (wants : ℕ) (i : ℕ) (r : Callee) (c : CalleeTold code values true i r) where
+  pub for-wrong : (number : ℕ) → r ≡ Wrong number → ForJudged code values code undo wants i (Faulty number i)
+  for-wrong number e = record { is = λ g j ty. answer-first (forFaults g j) code code i (g .z) _ (Faulty number i) number i refl refl (for-wrong-first code values undo i g r c number e j) }
 
   module _ (h : ℕ) (e : r ≡ At h) (w : ℕ) (ew : w ≡ headAt (cellsOf code) (h + 1)) (t : Bool) (d : TypeDiffers w wants t) where
-    pub for-differs : t ≡ true → ForJudged code values code wants i (Faulty wrongType i)
-    for-differs y = record { is = λ g j ty. answer-first (forFaults g j) code code i (g .z) _ (Faulty wrongType i) wrongType i refl refl (for-differs-first code values i g r c h e w ew wants t d j ty y) }
+    pub for-differs : t ≡ true → ForJudged code values code undo wants i (Faulty wrongType i)
+    for-differs y = record { is = λ g j ty. answer-first (forFaults g j) code code i (g .z) _ (Faulty wrongType i) wrongType i refl refl (for-differs-first code values undo i g r c h e w ew wants t d j ty y) }
 
-    pub for-called : t ≡ false → (final : List ℕ) (q : Judged) → CallJudged code values final 1 h i (i + 2) 7 q → ForJudged code values final wants i q
-    for-called y final q x = record { is = λ g j ty. for-answer code values i g r c h e w ew wants t d j ty final q y x }
+    pub for-called : t ≡ false → (final : List ℕ) (q : Judged) → CallJudged code values final undo 1 h i (i + 2) 7 q → ForJudged code values final undo wants i q
+    for-called y final q x = record { is = λ g j ty. for-answer code values undo i g r c h e w ew wants t d j ty final q y x }
 
 -- ---- target := f(args)
-module _ (code values : List ℕ) (i b : ℕ) (g : CallAssigns code values i b) where
+module _ (code values : List ℕ) (undo : Bool) (i b : ℕ) (g : CallAssigns code values undo i b) where
   assign-on : b + 3 ≤ g .for .z
-  assign-on = let x = for-on code values (b + 1) (g .for) in omega (arith, x)
+  assign-on = let x = for-on code values undo (b + 1) (g .for) in omega (arith, x)
 
   pub assign-small : b + 1 < wordLimit
   assign-small = omega (arith, assign-on, g .for .unread .loaded .last)
 
-  module _ (wants : ℕ) (j : types.Judged) (ty : typeIn wants ≡ some (j .type)) (mid : List ℕ) (r : Judged) (f : ForJudged code values mid wants (b + 1) r) where
+  module _ (wants : ℕ) (j : types.Judged) (ty : typeIn wants ≡ some (j .type)) (mid : List ℕ) (r : Judged) (f : ForJudged code values mid undo wants (b + 1) r) where
     assign-answer : Answer (forFaults (g .for) j) code mid (b + 1) (g .for .z) (ForWritten (g .for) (cellsOf mid)) r
     assign-answer = f .is (g .for) j ty
 
@@ -271,31 +276,31 @@ module _ (code values : List ℕ) (i b : ℕ) (g : CallAssigns code values i b) 
         let h : opIn w ≡ aTarget + g .target .k = ap opIn (ew ∙ head-below (assign-fine bool end e .kept) i (omega (arith, g .before))) ∙ g .target .op-is in
         omega (arith, h, aims-few (g .for .around .known .m) (g .for .around .known .n) (cellsOf code) (g .target .k) (g .target .v) _ i b (g .target .aims))
 
-module _ (code values : List ℕ) (wants : ℕ) (i b : ℕ) (mid : List ℕ) (r : Judged) (f : ForJudged code values mid wants (b + 1) r) where
-  pub call-faulty : (number word : ℕ) → r ≡ Faulty number word → CallAssigned code values mid wants i b r
+module _ (code values : List ℕ) (undo : Bool) (wants : ℕ) (i b : ℕ) (mid : List ℕ) (r : Judged) (f : ForJudged code values mid undo wants (b + 1) r) where
+  pub call-faulty : (number word : ℕ) → r ≡ Faulty number word → CallAssigned code values mid undo wants i b r
   call-faulty number word e = record {
-    is = λ g j ty. answer-first _ code mid i (g .for .z + 2) _ r number word e (assign-answer code values i b g wants j ty mid r f .long) (assign-first code values i b g wants j ty mid r f number word e);
+    is = λ g j ty. answer-first _ code mid i (g .for .z + 2) _ r number word e (assign-answer code values undo i b g wants j ty mid r f .long) (assign-first code values undo i b g wants j ty mid r f number word e);
   }
 
   pub call-typed : (bool : ℕ) (end : ℕ) → r ≡ Typed bool end → (w : ℕ) → w ≡ headAt (cellsOf mid) i → (after : List ℕ) → Linked mid after i (opIn w + 4) (valueIn w) (end + 2)
-      → CallAssigned code values after wants i b (Typed bool (end + 2))
+      → CallAssigned code values after undo wants i b (Typed bool (end + 2))
   call-typed bool end e w ew after l = record {
-    is = λ g j ty. answer-fine _ code after i (g .for .z + 2) _ bool (end + 2) (call-assigned code values i b g wants j ty mid r f bool end e w ew after l);
+    is = λ g j ty. answer-fine _ code after i (g .for .z + 2) _ bool (end + 2) (call-assigned code values undo i b g wants j ty mid r f bool end e w ew after l);
   }
 
 -- room for what is written
-module _ (code values : List ℕ) (wants : ℕ) (i b : ℕ) (g : CallAssigns code values i b) (mid : List ℕ) (r : Judged) (f : ForJudged code values mid wants (b + 1) r) (bool end : ℕ) (e : r ≡ Typed bool end) (k : IsType wants) where
+module _ (code values : List ℕ) (undo : Bool) (wants : ℕ) (i b : ℕ) (g : CallAssigns code values undo i b) (mid : List ℕ) (r : Judged) (f : ForJudged code values mid undo wants (b + 1) r) (bool end : ℕ) (e : r ≡ Typed bool end) (k : IsType wants) where
   -- any target of the type
   of-type-wanted : types.Judged
   of-type-wanted = record { type = k .type; faults = []; term = literal (pos 0) }
 
   pub assign-fits : (end + 2 < linkPart) × (i * 8 + 8 ≤ length mid)
   unfolding of-type-wanted
-  assign-fits = assign-room code values i b g wants of-type-wanted (k .is) mid r f bool end e
+  assign-fits = assign-room code values undo i b g wants of-type-wanted (k .is) mid r f bool end e
 
   pub assign-next : Fits w64 (end + 2)
   assign-next = record { fits = omega (arith, assign-fits .0) }
 
   pub assign-op-fits : (w : ℕ) → w ≡ headAt (cellsOf mid) i → opIn w + 4 < valuePart
   unfolding of-type-wanted
-  assign-op-fits w ew = assign-op code values i b g wants of-type-wanted (k .is) mid r f w ew bool end e
+  assign-op-fits w ew = assign-op code values undo i b g wants of-type-wanted (k .is) mid r f w ew bool end e

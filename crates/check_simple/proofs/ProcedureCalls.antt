@@ -1,10 +1,9 @@
 -- Calls of procedures: p args;
 use mathlib.Core.Path.{_≡_, refl, sym, ap, ap₂, subst, _∙_}
-use mathlib.Core.Bool.{Bool, false, not}
+use mathlib.Core.Bool.{Bool, false}
 use mathlib.Core.List.{List, _++_}
 use Prim.Native.Nat.{ℕ, _+_, _*_, _<_, _≤_}
 use native.Mathlib.Omega.{arith}
-use lib.Dec.{eqb}
 use lib.ListN.{length}
 use Rattle.paper.specs.Trees.{call}
 use Rattle.paper.specs.Names.{sortIn, spelled, meaning}
@@ -22,7 +21,7 @@ use Rattle.check_expressions.specs.declared.Judged.the-variants.{Typed, Faulty}
 use Rattle.store_writing.specs.Promises.{Linked}
 use Rattle.store_writing.proofs.Keeping.{head-below, kept-wider, kept-on}
 use Rattle.faults.specs.First.{First}
-use Rattle.faults.proofs.First.{first-fault, first-left, leads-later}
+use Rattle.faults.proofs.First.{first-fault, first-left, first-right, leads-later, ranks, leads-same-if}
 use Rattle.faults.proofs.Expressions.{grows}
 use Rattle.faults.proofs.Statements.{arguments-inside}
 use Rattle.check_links.specs.Raw.{RawArguments, RawDoes}
@@ -31,17 +30,17 @@ use Rattle.check_simple.specs.declared.Callee.the-variants.{At, Wrong}
 use Rattle.check_around.specs.Around.{groundOf}
 use Rattle.check_around.specs.Answers.{Fine, Answer}
 use Rattle.check_simple.specs.Answers.{Answers}
-use Rattle.check_simple.specs.Parts.{CallsOf, CalledOf, Callees, CalleeFound, CalleeSays, CalleeTold, ArgumentsStand, CallSide, signatureFor, CallWritten, CallJudged}
+use Rattle.check_simple.specs.Parts.{CallsOf, CalledOf, Callees, CalleeFound, CalleeSays, CalleeTold, ArgumentsStand, CallSide, sideFaults, CallWritten, CallJudged}
 use Rattle.check_simple.proofs.Expressions.{quiet-below, answered-fine, answered-first}
 use Rattle.check_simple.proofs.Arguments.{link-below, unread-part}
 use Rattle.check_simple.proofs.Calls.{raw-arguments, read-below}
 use Rattle.check_simple.proofs.CalleesFound.{found-signature, found-faults, found-read}
 use Rattle.check_simple.proofs.FunctionCalls.{told-found, told-wrong}
 use Rattle.check_simple.proofs.SimpleStatements.{stands-on, stated-first, stated-fine}
-use Rattle.layout.specs.Rules.{wrongCount}
+use Rattle.layout.specs.Rules.{barred}
 use Rattle.paper.specs.Words.{wordLimit}
 
-module _ (code values : List ℕ) (i : ℕ) (c : CallsOf code values i) where
+module _ (code values : List ℕ) (undo : Bool) (i : ℕ) (c : CallsOf code values undo i) where
   of-calls : inversions.Calls (sortIn (c .begins .stands .around .known .W)) (Parses (sortIn (c .begins .stands .around .known .W))) (c .begins .stands .s) i (c .begins .stands .to)
   of-calls = inversions.simple-name (sortIn (c .begins .stands .around .known .W)) (Parses (sortIn (c .begins .stands .around .known .W))) (c .begins .stands .is) (c .begins .here) .calls (c .no-becomes) (c .no-brace)
 
@@ -82,17 +81,20 @@ module _ (code values : List ℕ) (i : ℕ) (c : CallsOf code values i) where
     unfolding simpleFaults callFaults
     of-wrong-first number e =
         let w = told-wrong (c .begins .stands .around) code false i r number e of-says in
-        first-left (subst (First (record { number = number; at = i })) (sym (w .is (of-calls .es))) (first-fault number i))
+        first-left
+        (first-right (leads-same-if (record { number = number; at = i }) _ barred i refl (ranks number barred (omega arith) (omega (arith, w .low))))
+        (subst (First (record { number = number; at = i })) (sym (w .is (of-calls .es))) (first-fault number i)))
         (leads-later (record { number = number; at = i }) (arguments-inside (c .begins .stands .around .known .W) (c .begins .stands .around .known .S) _ (of-calls .arguments)) (omega arith))
 
     module _ (h : ℕ) (e : r ≡ At h) where
       of-found : CalleeFound (numbered (c .begins .stands .around .R)) (length (c .begins .stands .around .R)) code (meaning (c .begins .stands .around .known .S) (spelled (c .begins .stands .around .known .W) i)) false h
       of-found = told-found (c .begins .stands .around) code false i r h e of-says
 
-      pub of-side : CallSide code values h i (i + 1) 4
+      pub of-side : CallSide code values undo h i (i + 1) 4
       of-side = record {
         text = c .begins .stands .text;
         around = c .begins .stands .around;
+        undo-is = c .undo-is;
         es = of-calls .es;
         z = c .begins .stands .to;
         end = c .begins .stands .to;
@@ -103,21 +105,20 @@ module _ (code values : List ℕ) (i : ℕ) (c : CallsOf code values i) where
         calls = c .begins .stands .calls;
       }
 
-      -- its faults are those of the count and of the arguments
-      of-faults : simpleFaults (c .begins .stands .around .known .W) (c .begins .stands .around .K) (c .begins .stands .around .known .S) (call i (of-calls .es))
-          ≡ faultIf (not (eqb (length (signatureFor (c .begins .stands .around) h .parameters)) (length (of-calls .es)))) wrongCount i
-          ++ argumentFaults (c .begins .stands .around .known .W) (c .begins .stands .around .known .S) (signatureFor (c .begins .stands .around) h .parameters) (of-calls .es)
+      abbrev mine : List Fault
+      mine = sideFaults (c .begins .stands .around) undo h i (of-calls .es)
+
+      -- its faults are those of the call
+      of-faults : simpleFaults (c .begins .stands .around .known .W) (c .begins .stands .around .K) (c .begins .stands .around .known .S) (call i (of-calls .es)) ≡ mine
       unfolding simpleFaults callFaults
       of-faults =
           ap₂ {C = List Fault} (λ (x : List Fault) (s : Signature). x ++ argumentFaults (c .begins .stands .around .known .W) (c .begins .stands .around .known .S) (s .parameters) (of-calls .es))
-          (found-faults (c .begins .stands .around) code i (c .begins .stands .to) false h of-found (c .begins .stands .calls) (of-calls .es))
+          (ap₂ {C = List Fault} (λ (b : Bool) (x : List Fault). faultIf b barred i ++ x) (sym (c .undo-is))
+          (found-faults (c .begins .stands .around) code i (c .begins .stands .to) false h of-found (c .begins .stands .calls) (of-calls .es)))
           (found-signature (c .begins .stands .around) code i (c .begins .stands .to) false h of-found (c .begins .stands .calls))
 
-      module _ (mid : List ℕ) (q : Judged) (j : CallJudged code values mid aProcedureCall h i (i + 1) 4 q) where
-        of-answer : Answer
-            (faultIf (not (eqb (length (signatureFor (c .begins .stands .around) h .parameters)) (length (of-calls .es)))) wrongCount i
-            ++ argumentFaults (c .begins .stands .around .known .W) (c .begins .stands .around .known .S) (signatureFor (c .begins .stands .around) h .parameters) (of-calls .es))
-            code mid i (c .begins .stands .to) (CallWritten of-side (cellsOf mid) aProcedureCall) q
+      module _ (mid : List ℕ) (q : Judged) (j : CallJudged code values mid undo aProcedureCall h i (i + 1) 4 q) where
+        of-answer : Answer mine code mid i (c .begins .stands .to) (CallWritten of-side (cellsOf mid) aProcedureCall) q
         unfolding of-side
         of-answer = j .is of-side
 
@@ -127,10 +128,7 @@ module _ (code values : List ℕ) (i : ℕ) (c : CallsOf code values i) where
             (subst (First (record { number = number; at = word })) (sym of-faults) (answered-first _ _ _ _ _ _ q of-answer number word x))
 
         module _ (bool : ℕ) (end : ℕ) (x : q ≡ Typed bool end) where
-          of-fine : Fine
-              (faultIf (not (eqb (length (signatureFor (c .begins .stands .around) h .parameters)) (length (of-calls .es)))) wrongCount i
-              ++ argumentFaults (c .begins .stands .around .known .W) (c .begins .stands .around .known .S) (signatureFor (c .begins .stands .around) h .parameters) (of-calls .es))
-              code mid i (c .begins .stands .to) end (CallWritten of-side (cellsOf mid) aProcedureCall)
+          of-fine : Fine mine code mid i (c .begins .stands .to) end (CallWritten of-side (cellsOf mid) aProcedureCall)
           of-fine = answered-fine _ _ _ _ _ _ q of-answer bool end x
 
           pub of-end : (end < wordLimit) × (end * 8 + 8 ≤ length mid)
@@ -161,15 +159,17 @@ module _ (code values : List ℕ) (i : ℕ) (c : CallsOf code values i) where
                 within = omega arith;
               })
 
-module _ (code values : List ℕ) (i : ℕ) (r : Callee) (t : CalleeTold code values false i r) where
-  pub called-of-wrong : (number : ℕ) → r ≡ Wrong number → CalledOf code values code i (Faulty number i)
+module _ (code values : List ℕ) (undo : Bool) (i : ℕ) (r : Callee) (t : CalleeTold code values false i r) where
+  pub called-of-wrong : (number : ℕ) → r ≡ Wrong number → CalledOf code values code undo i (Faulty number i)
   called-of-wrong number e = record {
-    is = λ c. stated-first code values i (c .begins .stands) (call i (of-calls code values i c .es)) (of-calls code values i c .is) code (Faulty number i) number i refl refl (of-wrong-first code values i c r t number e);
+    is = λ c.
+        stated-first code values i (c .begins .stands) (call i (of-calls code values undo i c .es)) (of-calls code values undo i c .is) code (Faulty number i) number i refl refl
+        (of-wrong-first code values undo i c r t number e);
   }
 
-  module _ (h : ℕ) (e : r ≡ At h) (mid : List ℕ) (q : Judged) (j : CallJudged code values mid aProcedureCall h i (i + 1) 4 q) where
-    pub called-of-faulty : (number word : ℕ) → q ≡ Faulty number word → CalledOf code values mid i q
-    called-of-faulty number word x = record { is = λ c. of-faulty code values i c r t h e mid q j number word x }
+  module _ (h : ℕ) (e : r ≡ At h) (mid : List ℕ) (q : Judged) (j : CallJudged code values mid undo aProcedureCall h i (i + 1) 4 q) where
+    pub called-of-faulty : (number word : ℕ) → q ≡ Faulty number word → CalledOf code values mid undo i q
+    called-of-faulty number word x = record { is = λ c. of-faulty code values undo i c r t h e mid q j number word x }
 
-    pub called-of-typed : (bool : ℕ) (end : ℕ) → q ≡ Typed bool end → (after : List ℕ) → Linked mid after end aClose 0 (end + 1) → CalledOf code values after i (Typed bool (end + 1))
-    called-of-typed bool end x after l = record { is = λ c. of-typed code values i c r t h e mid q j bool end x after l }
+    pub called-of-typed : (bool : ℕ) (end : ℕ) → q ≡ Typed bool end → (after : List ℕ) → Linked mid after end aClose 0 (end + 1) → CalledOf code values after undo i (Typed bool (end + 1))
+    called-of-typed bool end x after l = record { is = λ c. of-typed code values undo i c r t h e mid q j bool end x after l }

@@ -4,6 +4,7 @@ use mathlib.Core.Bool.{Bool, true, false}
 use mathlib.Core.List.{List, [], _++_}
 use Prim.Native.Nat.{ℕ, suc, _+_, _*_, _<_, _≤_}
 use native.Mathlib.Omega.{arith}
+use lib.Dec.{eqb}
 use lib.ListN.{length}
 use borrow.Author.Tests.{eqb-true, ne-eqb}
 use Rattle.laws.proofs.Tests.{by-same}
@@ -13,7 +14,7 @@ use Rattle.paper.specs.Trees.{Expr, Target, assign, assignCall}
 use Rattle.paper.specs.Expressions.{nestings, startsSimple}
 use Rattle.paper.specs.Names.{DataType, Scopes, sortIn, spelled, meaning}
 use Rattle.paper.specs.Types.{Fault, ofType}
-use Rattle.paper.specs.Checks.{judgeTarget, signatureOf, callFaults, resultFaults, simpleFaults}
+use Rattle.paper.specs.Checks.{inUndo, judgeTarget, signatureOf, callFaults, resultFaults, simpleFaults}
 use Rattle.paper.specs.Checks as checks
 use Rattle.paper.specs.Steps.{spotOf}
 use Rattle.store_cells.specs.Cells.{cellsOf}
@@ -33,10 +34,11 @@ use Rattle.faults.proofs.Expressions.{grows, of-type-inside}
 use Rattle.faults.proofs.Statements.{arguments-inside, target-inside, call-inside, result-inside}
 use Rattle.check_links.specs.Raw.{RawDoes}
 use Rattle.check_around.specs.declared.Setting.{Setting}
-use Rattle.check_around.specs.Around.{Around, groundOf, Unread, Calls}
+use Rattle.check_around.specs.Around.{Around, groundOf, Unread, Calls, undoList}
+use Rattle.check_around.proofs.WhichLists.{in-undo}
 use Rattle.check_around.specs.Answers.{Fine}
-use Rattle.check_simple.specs.Answers.{Answers, Statement, Stated}
-use Rattle.check_simple.specs.Parts.{Begins, Begun, BeginsIn, BegunIn, BeginsOf, BegunOf, Assigns, Assigned, CallsOf, CalledOf, IsCall, Targets, Aimed, AimAnswer, TargetJudged, ValueSide, ValueAssigned, ArgumentsStand, CallAssigns, CallAssigned}
+use Rattle.check_simple.specs.Answers.{Stands, Answers, Statement, Stated}
+use Rattle.check_simple.specs.Parts.{BeginsIn, BegunIn, BeginsOf, BegunOf, Assigns, Assigned, CallsOf, CalledOf, IsCall, Targets, Aimed, AimAnswer, TargetJudged, ValueSide, ValueAssigned, ArgumentsStand, CallAssigns, CallAssigned}
 use Rattle.check_simple.proofs.Arguments.{unread-part, unread-after, apart-kept}
 use Rattle.check_simple.proofs.Targets.{aimed-fine, aimed-first}
 use Rattle.check_simple.proofs.SimpleStatements.{stands-on, stands-sort, stated-first, stated-fine, stated-on}
@@ -72,7 +74,7 @@ module _ (W : List Word) (K : checks.Setting) (S : Scopes) (t : Target) where
   value-first e x a b h l c = first-left h (leads-later x c l)
 
 -- ---- assignments
-module _ (code values : List ℕ) (i : ℕ) (c : Assigns code values i) where
+module _ (code values : List ℕ) (undo : Bool) (i : ℕ) (c : Assigns code values undo i) where
   assigns : inversions.Assigns (sortIn (c .begins .stands .around .known .W)) (Parses (sortIn (c .begins .stands .around .known .W))) (c .begins .stands .s) i (c .begins .stands .to)
   assigns =
       inversions.simple-name (sortIn (c .begins .stands .around .known .W)) (Parses (sortIn (c .begins .stands .around .known .W))) (c .begins .stands .is) (c .begins .here) .assigns
@@ -175,11 +177,12 @@ module _ (code values : List ℕ) (i : ℕ) (c : Assigns code values i) where
             past-end = λ _. (refl, refl);
           }
 
-          call-assigns-n : CallAssigns mid values i (assigns .n)
+          call-assigns-n : CallAssigns mid values undo i (assigns .n)
           call-assigns-n = record {
             for = record {
               text = c .begins .stands .text;
               around = c .begins .stands .around;
+              undo-is = c .undo-is;
               es = call-side .es;
               z = call-side .m;
               stand = call-args;
@@ -195,8 +198,8 @@ module _ (code values : List ℕ) (i : ℕ) (c : Assigns code values i) where
           pub call-type : IsType bool
           call-type = record { type = judgeTarget (c .begins .stands .around .known .W) (c .begins .stands .around .known .S) (assigns .t) .type; is = aimed .written .type-is }
 
-          pub call-assigns : CallAssigns mid values i b
-          call-assigns = subst (CallAssigns mid values i) (sym (aimed .next-is)) call-assigns-n
+          pub call-assigns : CallAssigns mid values undo i b
+          call-assigns = subst (CallAssigns mid values undo i) (sym (aimed .next-is)) call-assigns-n
 
           call-all : simpleFaults (c .begins .stands .around .known .W) (c .begins .stands .around .K) (c .begins .stands .around .known .S) (assignCall (assigns .t) (assigns .n + 1) (call-side .es))
               ≡ callFaults (c .begins .stands .around .known .W) (c .begins .stands .around .K) true (c .begins .stands .around .known .S) (assigns .n + 1) (call-side .es)
@@ -204,11 +207,11 @@ module _ (code values : List ℕ) (i : ℕ) (c : Assigns code values i) where
               (signatureOf (c .begins .stands .around .known .W) (c .begins .stands .around .K) (meaning (c .begins .stands .around .known .S) (spelled (c .begins .stands .around .known .W) (assigns .n + 1))) .result) (assigns .n + 1)
           call-all = call-faults (c .begins .stands .around .known .W) (c .begins .stands .around .K) (c .begins .stands .around .known .S) (assigns .t) (assigns .n + 1) (call-side .es) (aimed .none)
 
-          call-answers : (after : List ℕ) (p : Judged) → CallAssigned mid values after bool i b p → Answers (c .begins .stands) after p
+          call-answers : (after : List ℕ) (p : Judged) → CallAssigned mid values after undo bool i b p → Answers (c .begins .stands) after p
           unfolding RawDoes call-assigns-n
           call-answers after p x =
               let g = c .begins .stands in
-              let x2 : CallAssigned mid values after bool i (assigns .n) p = subst (λ (k : ℕ). CallAssigned mid values after bool i k p) (aimed .next-is) x in
+              let x2 : CallAssigned mid values after undo bool i (assigns .n) p = subst (λ (k : ℕ). CallAssigned mid values after undo bool i k p) (aimed .next-is) x in
               let s = assignCall (assigns .t) (assigns .n + 1) (call-side .es) in
               stated-on code values i g s (call-side .is) after _ mid i (call-side .m + 2) _ p (x2 .is call-assigns-n (judgeTarget (g .around .known .W) (g .around .known .S) (assigns .t)) (aimed .written .type-is)) (target-answer .long)
               (λ f h. subst (First f) (sym call-all) h)
@@ -258,51 +261,57 @@ module _ (code values : List ℕ) (i : ℕ) (c : Assigns code values i) where
               stated-fine code values i g s (value-side .is) after bb next (value-all ∙ f .none) (f .next-is)
               (kept-on (kept-wider (aimed .kept) i (g .to + 1) (omega arith) (omega (arith, assigns-in))) (f .kept)) (f .written))
 
-module _ (code values : List ℕ) (i : ℕ) (mid : List ℕ) (r : Judged) (t : TargetJudged code values mid i r) where
-  pub assigned-no-target : (number word : ℕ) → r ≡ Faulty number word → Assigned code values mid i r
-  assigned-no-target number word e = record { is = λ c. assign-faulty code values i c mid r t number word e }
+module _ (code values : List ℕ) (undo : Bool) (i : ℕ) (mid : List ℕ) (r : Judged) (t : TargetJudged code values mid i r) where
+  pub assigned-no-target : (number word : ℕ) → r ≡ Faulty number word → Assigned code values mid undo i r
+  assigned-no-target number word e = record { is = λ c. assign-faulty code values undo i c mid r t number word e }
 
   module _ (bool : ℕ) (b : ℕ) (e : r ≡ Typed bool b) (q : Bool) (call : IsCall (cellsOf mid) (b + 1) q) (after : List ℕ) (p : Judged) where
-    pub assigned-call : q ≡ true → CallAssigned mid values after bool i b p → Assigned code values after i p
-    assigned-call y x = record { is = λ c. call-answers code values i c mid r t bool b e q call y after p x }
+    pub assigned-call : q ≡ true → CallAssigned mid values after undo bool i b p → Assigned code values after undo i p
+    assigned-call y x = record { is = λ c. call-answers code values undo i c mid r t bool b e q call y after p x }
 
-    pub assigned-value : q ≡ false → ValueAssigned mid values after bool i b p → Assigned code values after i p
-    assigned-value y x = record { is = λ c. value-answers code values i c mid r t bool b e q call y after p x }
+    pub assigned-value : q ≡ false → ValueAssigned mid values after bool i b p → Assigned code values after undo i p
+    assigned-value y x = record { is = λ c. value-answers code values undo i c mid r t bool b e q call y after p x }
 
 -- ---- a name first
-module _ (code values : List ℕ) (i s : ℕ) (es : s ≡ opAt (cellsOf code) (i + 1)) where
-  module _ (c : Begins NAME code values i) where
-    name-next : s ≡ sortIn (c .stands .around .known .W) (i + 1)
-    name-next = es ∙ stands-sort code values i (c .stands) (i + 1) (omega arith) (omega (arith, stands-on code values i (c .stands)))
+module _ (k : Setting) (code values : List ℕ) (i s : ℕ) (es : s ≡ opAt (cellsOf code) (i + 1)) where
+  abbrev undo : Bool
+  undo = eqb (k .list) undoList
 
-    pub name-becomes : s ≡ becomes → Assigns code values i
-    name-becomes e = record { begins = c; behind = λ d. absurd (d (sym name-next ∙ e)) }
+  module _ (c : BeginsIn NAME k code values i) where
+    abbrev g : Stands code values i
+    g = c .begins .stands
 
-    pub name-brace : s ≡ openBrace → Assigns code values i
-    name-brace e = record { begins = c; behind = λ _. sym name-next ∙ e }
+    name-next : s ≡ sortIn (g .around .known .W) (i + 1)
+    name-next = es ∙ stands-sort code values i g (i + 1) (omega arith) (omega (arith, stands-on code values i g))
 
-    pub name-calls : (s ≡ becomes → ⊥) → (s ≡ openBrace → ⊥) → CallsOf code values i
-    name-calls a b = record { begins = c; no-becomes = λ q. a (name-next ∙ q); no-brace = λ q. b (name-next ∙ q) }
+    name-undo : undo ≡ inUndo (g .around .K .list)
+    name-undo = in-undo (k .list) (g .around .K .list) (c .tells .list)
+
+    pub name-becomes : s ≡ becomes → Assigns code values undo i
+    name-becomes e = record { begins = c .begins; undo-is = name-undo; behind = λ d. absurd (d (sym name-next ∙ e)) }
+
+    pub name-brace : s ≡ openBrace → Assigns code values undo i
+    name-brace e = record { begins = c .begins; undo-is = name-undo; behind = λ _. sym name-next ∙ e }
+
+    pub name-calls : (s ≡ becomes → ⊥) → (s ≡ openBrace → ⊥) → CallsOf code values undo i
+    name-calls a b = record { begins = c .begins; undo-is = name-undo; no-becomes = λ q. a (name-next ∙ q); no-brace = λ q. b (name-next ∙ q) }
 
   module _ (after : List ℕ) (r : Judged) where
-    pub begun-becomes : s ≡ becomes → Assigned code values after i r → Begun NAME code values after i r
+    pub begun-becomes : s ≡ becomes → Assigned code values after undo i r → BegunIn NAME k code values after i r
     unfolding name-becomes
     begun-becomes e a = record { is = λ c. a .is (name-becomes c e) }
 
-    pub begun-brace : s ≡ openBrace → Assigned code values after i r → Begun NAME code values after i r
+    pub begun-brace : s ≡ openBrace → Assigned code values after undo i r → BegunIn NAME k code values after i r
     unfolding name-brace
     begun-brace e a = record { is = λ c. a .is (name-brace c e) }
 
-    pub begun-calls : (s ≡ becomes → ⊥) → (s ≡ openBrace → ⊥) → CalledOf code values after i r → Begun NAME code values after i r
+    pub begun-calls : (s ≡ becomes → ⊥) → (s ≡ openBrace → ⊥) → CalledOf code values after undo i r → BegunIn NAME k code values after i r
     unfolding name-calls
     begun-calls a b x = record { is = λ c. x .is (name-calls c a b) }
 
 -- ---- all
 module _ (text code values : List ℕ) (k : Setting) (i : ℕ) where
   module _ (s : ℕ) (es : s ≡ opAt (cellsOf code) i) where
-    pub begins-by : (sort : ℕ) → s ≡ sort → (g : Statement text code values k i) → Begins sort code values i
-    begins-by sort e g = record { stands = g .stands; here = sym (statement-sort text code values k i s es g) ∙ e }
-
     pub begins-in : (sort : ℕ) → s ≡ sort → Statement text code values k i → BeginsIn sort k code values i
     begins-in sort e g = record { begins = record { stands = g .stands; here = sym (statement-sort text code values k i s es g) ∙ e }; tells = g .tells }
 
@@ -320,17 +329,9 @@ module _ (text code values : List ℕ) (k : Setting) (i : ℕ) where
     begins-read a b c d e f h g = begins-of TPREADNUM (reads-left a b c d e f h g) g
 
     module _ (after : List ℕ) (r : Judged) where
-      pub stated-name : s ≡ NAME → Begun NAME code values after i r → Stated text code values after k i r
-      unfolding begins-by
-      stated-name e b = record { is = λ g. b .is (begins-by NAME e g) }
-
-      pub stated-return : s ≡ RETURN → BegunIn RETURN k code values after i r → Stated text code values after k i r
+      pub stated-in : (sort : ℕ) → s ≡ sort → BegunIn sort k code values after i r → Stated text code values after k i r
       unfolding begins-in
-      stated-return e b = record { is = λ g. b .is (begins-in RETURN e g) }
-
-      pub stated-raise : s ≡ RAISE → BegunIn RAISE k code values after i r → Stated text code values after k i r
-      unfolding begins-in
-      stated-raise e b = record { is = λ g. b .is (begins-in RAISE e g) }
+      stated-in sort e b = record { is = λ g. b .is (begins-in sort e g) }
 
       pub stated-write : s ≡ TPWRITE → BegunOf TPWRITE text code values after i r → Stated text code values after k i r
       unfolding begins-of

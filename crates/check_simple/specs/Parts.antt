@@ -52,9 +52,6 @@ pub record Begins (sort : ℕ) (code values : List ℕ) (at : ℕ) : Type 0 wher
   pub stands : Stands code values at
   pub here : sortIn (stands .around .known .W) at ≡ sort
 
-pub record Begun (sort : ℕ) (code values after : List ℕ) (at : ℕ) (r : Judged) : Type 0 where
-  pub is : (g : Begins sort code values at) → Answers (g .stands) after r
-
 -- where the setting matters
 pub record BeginsIn (sort : ℕ) (k : Setting) (code values : List ℕ) (at : ℕ) : Type 0 where
   pub begins : Begins sort code values at
@@ -71,21 +68,23 @@ pub record BeginsOf (sort : ℕ) (text code values : List ℕ) (at : ℕ) : Type
 pub record BegunOf (sort : ℕ) (text code values after : List ℕ) (at : ℕ) (r : Judged) : Type 0 where
   pub is : (g : BeginsOf sort text code values at) → Answers (g .begins .stands) after r
 
--- a name with := or { behind it, or with neither
-pub record Assigns (code values : List ℕ) (at : ℕ) : Type 0 where
+-- a name with := or { behind it, or with neither, in an UNDO list or not
+pub record Assigns (code values : List ℕ) (undo : Bool) (at : ℕ) : Type 0 where
   pub begins : Begins NAME code values at
+  pub undo-is : undo ≡ checks.inUndo (begins .stands .around .K .list)
   pub behind : (sortIn (begins .stands .around .known .W) (at + 1) ≡ becomes → ⊥) → sortIn (begins .stands .around .known .W) (at + 1) ≡ openBrace
 
-pub record Assigned (code values after : List ℕ) (at : ℕ) (r : Judged) : Type 0 where
-  pub is : (g : Assigns code values at) → Answers (g .begins .stands) after r
+pub record Assigned (code values after : List ℕ) (undo : Bool) (at : ℕ) (r : Judged) : Type 0 where
+  pub is : (g : Assigns code values undo at) → Answers (g .begins .stands) after r
 
-pub record CallsOf (code values : List ℕ) (at : ℕ) : Type 0 where
+pub record CallsOf (code values : List ℕ) (undo : Bool) (at : ℕ) : Type 0 where
   pub begins : Begins NAME code values at
+  pub undo-is : undo ≡ checks.inUndo (begins .stands .around .K .list)
   pub no-becomes : sortIn (begins .stands .around .known .W) (at + 1) ≡ becomes → ⊥
   pub no-brace : sortIn (begins .stands .around .known .W) (at + 1) ≡ openBrace → ⊥
 
-pub record CalledOf (code values after : List ℕ) (at : ℕ) (r : Judged) : Type 0 where
-  pub is : (g : CallsOf code values at) → Answers (g .begins .stands) after r
+pub record CalledOf (code values after : List ℕ) (undo : Bool) (at : ℕ) (r : Judged) : Type 0 where
+  pub is : (g : CallsOf code values undo at) → Answers (g .begins .stands) after r
 
 -- ---- names and types
 -- r is the rule that a name of this kind breaks where another is asked for
@@ -308,10 +307,11 @@ pub record Counts (code : List ℕ) (first closing : ℕ) : Type 0 where
 pub record Counted (code : List ℕ) (first closing r : ℕ) : Type 0 where
   pub is : (g : Counts code first closing) → r ≡ length (g .es)
 
--- a call of the routine that begins at h
-pub record CallSide (code values : List ℕ) (h callee first closing : ℕ) : Type 0 where
+-- a call of the routine that begins at h, in an UNDO list or not
+pub record CallSide (code values : List ℕ) (undo : Bool) (h callee first closing : ℕ) : Type 0 where
   pub text : List ℕ
   pub around : Around text values
+  pub undo-is : undo ≡ checks.inUndo (around .K .list)
   pub es : List Expr
   pub z : ℕ
   pub end : ℕ
@@ -326,24 +326,28 @@ abbrev pub signatureFor : {text values : List ℕ} → Around text values → (h
 signatureFor a h = getD (a .K .routines) (numbered (a .R) h) noSignature
 
 -- its word, which leads to the end of the first argument, and the arguments
-pub record CallWritten {code values : List ℕ} {h callee first closing : ℕ} (g : CallSide code values h callee first closing) (C : List ℕ) (op : ℕ) : Type 0 where
+pub record CallWritten {code values : List ℕ} {undo : Bool} {h callee first closing : ℕ} (g : CallSide code values undo h callee first closing) (C : List ℕ) (op : ℕ) : Type 0 where
   pub op-is : opAt C callee ≡ op
   pub value-is : valueAt C callee ≡ h
   pub as-many : length (g .es) ≡ length (signatureFor (g .around) h .parameters)
   pub read : ReadAll (g .around .known .m) (g .around .known .n) C (map (termOf (g .around .known .W) (g .around .known .S)) (g .es)) first (linkAt C callee) (g .z)
   pub quiet : Quiet C first (g .z)
 
-pub record CallJudged (code values after : List ℕ) (op h callee first closing : ℕ) (r : Judged) : Type 0 where
-  pub is : (g : CallSide code values h callee first closing)
-      → Answer
-      (faultIf (not (eqb (length (signatureFor (g .around) h .parameters)) (length (g .es)))) wrongCount callee
-      ++ argumentFaults (g .around .known .W) (g .around .known .S) (signatureFor (g .around) h .parameters) (g .es))
-      code after callee (g .z) (CallWritten g (cellsOf after) op) r
+-- its faults: it is barred, its arguments are too many or too few, and theirs
+abbrev pub sideFaults : {text values : List ℕ} → Around text values → (undo : Bool) → (h callee : ℕ) → List Expr → List Fault
+sideFaults a undo h callee es =
+    faultIf undo barred callee
+    ++ faultIf (not (eqb (length (signatureFor a h .parameters)) (length es))) wrongCount callee
+    ++ argumentFaults (a .known .W) (a .known .S) (signatureFor a h .parameters) es
+
+pub record CallJudged (code values after : List ℕ) (undo : Bool) (op h callee first closing : ℕ) (r : Judged) : Type 0 where
+  pub is : (g : CallSide code values undo h callee first closing) → Answer (sideFaults (g .around) undo h callee (g .es)) code after callee (g .z) (CallWritten g (cellsOf after) op) r
 
 -- a function's call, for a target of a type
-pub record ForCalls (code values : List ℕ) (callee : ℕ) : Type 0 where
+pub record ForCalls (code values : List ℕ) (undo : Bool) (callee : ℕ) : Type 0 where
   pub text : List ℕ
   pub around : Around text values
+  pub undo-is : undo ≡ checks.inUndo (around .K .list)
   pub es : List Expr
   pub z : ℕ
   pub stand : ArgumentsStand (around .known .W) es (callee + 2) closeParen z (z + 1)
@@ -351,29 +355,29 @@ pub record ForCalls (code values : List ℕ) (callee : ℕ) : Type 0 where
   pub unread : Unread (around .known .W) code callee (z + 1)
   pub calls : Calls around code callee (z + 1)
 
-pub record ForWritten {code values : List ℕ} {callee : ℕ} (g : ForCalls code values callee) (C : List ℕ) : Type 0 where
+pub record ForWritten {code values : List ℕ} {undo : Bool} {callee : ℕ} (g : ForCalls code values undo callee) (C : List ℕ) : Type 0 where
   pub callee-is : RawCallee (groundOf (g .around)) (g .around .known .n) C (g .around .known .S) true callee (g .es)
   pub still : isLed (opAt C callee) ≡ false
   pub arguments : RawArguments (groundOf (g .around)) (g .around .known .n) C (g .around .known .S) (g .es) (callee + 2) (linkAt C callee) (g .z)
 
 -- all its faults, where j is judged of the target
-abbrev pub forFaults : {code values : List ℕ} {callee : ℕ} → ForCalls code values callee → types.Judged → List Fault
+abbrev pub forFaults : {code values : List ℕ} {undo : Bool} {callee : ℕ} → ForCalls code values undo callee → types.Judged → List Fault
 forFaults {callee = callee} g j =
     callFaults (g .around .known .W) (g .around .K) true (g .around .known .S) callee (g .es)
     ++ resultFaults (g .around .known .W) j (signatureOf (g .around .known .W) (g .around .K) (meaning (g .around .known .S) (spelled (g .around .known .W) callee)) .result) callee
 
-pub record ForJudged (code values after : List ℕ) (wants callee : ℕ) (r : Judged) : Type 0 where
-  pub is : (g : ForCalls code values callee) (j : types.Judged) → typeIn wants ≡ some (j .type) → Answer (forFaults g j) code after callee (g .z) (ForWritten g (cellsOf after)) r
+pub record ForJudged (code values after : List ℕ) (undo : Bool) (wants callee : ℕ) (r : Judged) : Type 0 where
+  pub is : (g : ForCalls code values undo callee) (j : types.Judged) → typeIn wants ≡ some (j .type) → Answer (forFaults g j) code after callee (g .z) (ForWritten g (cellsOf after)) r
 
 -- the target at i ends before b
-pub record CallAssigns (code values : List ℕ) (i b : ℕ) : Type 0 where
-  pub for : ForCalls code values (b + 1)
+pub record CallAssigns (code values : List ℕ) (undo : Bool) (i b : ℕ) : Type 0 where
+  pub for : ForCalls code values undo (b + 1)
   pub t : Target
   pub before : i < b
   pub target : Targeted (for .around .known .m) (for .around .known .n) (cellsOf code) (spotOf (for .around .known .W) (for .around .known .S) t) i b
 
-pub record CallAssigned (code values after : List ℕ) (wants i b : ℕ) (r : Judged) : Type 0 where
-  pub is : (g : CallAssigns code values i b) (j : types.Judged) → typeIn wants ≡ some (j .type)
+pub record CallAssigned (code values after : List ℕ) (undo : Bool) (wants i b : ℕ) (r : Judged) : Type 0 where
+  pub is : (g : CallAssigns code values undo i b) (j : types.Judged) → typeIn wants ≡ some (j .type)
       → Answer (forFaults (g .for) j) code after i (g .for .z + 2)
       (RawAssignCall (groundOf (g .for .around)) (g .for .around .known .n) (cellsOf after) (g .for .around .known .S) (g .t) (b + 1) (g .for .es) i (g .for .z + 2) (g .for .z + 2)) r
 

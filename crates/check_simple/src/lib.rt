@@ -1,5 +1,6 @@
 // The check of a simple statement: its names, its types, its place, and what a run has to know of it, written over its words in the code store.
 use check_around::Setting;
+use check_around::lists;
 use check_expressions::Judged;
 use layout::kinds;
 use layout::levels;
@@ -25,7 +26,7 @@ ghost use Rattle.layout.specs.Parts.{valuePart, linkPart, charactersPart};
 ghost use Rattle.layout.specs.Types.{IsType};
 ghost use Rattle.check_expressions.specs.Answers as expressions;
 ghost use Rattle.check_simple.specs.Answers.{Statement, Stated};
-ghost use Rattle.check_simple.specs.Parts.{Begins, Begun, BeginsIn, BegunIn, BeginsOf, BegunOf, Assigns, Assigned, CallsOf, CalledOf, WrongName, TypeDiffers, IsCall};
+ghost use Rattle.check_simple.specs.Parts.{BeginsIn, BegunIn, BeginsOf, BegunOf, Assigns, Assigned, CallsOf, CalledOf, WrongName, TypeDiffers, IsCall};
 ghost use Rattle.check_simple.specs.Parts.{Targets, TargetJudged, Elements, ElementJudged, ValueSide, ValueAssigned, Callees, CalleeTold, Passed, More, MoreJudged, Commas, Counts, Counted, CallSide, CallJudged, ForCalls, ForJudged, CallAssigns, CallAssigned, Alone, Values, Valued, Width, Characters, Strings, Spelled};
 
 // What the name of a callee is.
@@ -215,22 +216,26 @@ fn first_parameter(code: &[u8], h: usize) -> usize
     h + 3
 }
 
-// A call of the routine that begins at h. The callee's word gets this op, and leads to the end of its first argument.
+// A call of the routine that begins at h, which is barred in an UNDO list. The callee's word gets this op, and leads to the end of its first argument.
 fn call(
     code: &mut [u8],
     values: &[u8],
+    undo: bool,
     op: u32,
     h: usize,
     callee: usize,
     first: usize,
     closing: u32,
 ) -> Judged
-    requires { ⌜ CallSide (now code) (now values) h callee first closing × (op < valuePart) ⌝ }
-    ensures { λ r. ⌜ CallJudged (now (code .entry)) (now (values .entry)) (now (code .exit)) op h callee first closing r ⌝ }
+    requires { ⌜ CallSide (now code) (now values) undo h callee first closing × (op < valuePart) ⌝ }
+    ensures { λ r. ⌜ CallJudged (now (code .entry)) (now (values .entry)) (now (code .exit)) undo op h callee first closing r ⌝ }
 {
     let count = count_arguments(code, first, closing);
     if count != store_reading::head(code, h) / parts::VALUE {
         return Judged::Faulty(rules::WRONG_COUNT, callee);
+    }
+    if undo {
+        return Judged::Faulty(rules::BARRED, callee);
     }
     if count == 0 {
         set_word(code, callee, op, h as u32, first);
@@ -246,9 +251,9 @@ fn call(
 }
 
 // The right side of an assignment to a target of a type: up to the parenthesis that closes.
-fn call_for(code: &mut [u8], values: &[u8], wants: Type, i: usize) -> Judged
-    requires { ⌜ ForCalls (now code) (now values) i ⌝ }
-    ensures { λ r. ⌜ ForJudged (now (code .entry)) (now (values .entry)) (now (code .exit)) wants i r ⌝ }
+fn call_for(code: &mut [u8], values: &[u8], undo: bool, wants: Type, i: usize) -> Judged
+    requires { ⌜ ForCalls (now code) (now values) undo i ⌝ }
+    ensures { λ r. ⌜ ForJudged (now (code .entry)) (now (values .entry)) (now (code .exit)) undo wants i r ⌝ }
 {
     match callee_at(code, values, true, i) {
         Callee::Wrong(number) => Judged::Faulty(number, i),
@@ -259,6 +264,7 @@ fn call_for(code: &mut [u8], values: &[u8], wants: Type, i: usize) -> Judged
             call(
                 code,
                 values,
+                undo,
                 text_sorts::NAME,
                 h,
                 i,
@@ -270,9 +276,9 @@ fn call_for(code: &mut [u8], values: &[u8], wants: Type, i: usize) -> Judged
 }
 
 // A procedure call goes on by its semicolon.
-fn call_of(code: &mut [u8], values: &[u8], i: usize) -> Judged
-    requires { ⌜ CallsOf (now code) (now values) i ⌝ }
-    ensures { λ r. ⌜ CalledOf (now (code .entry)) (now (values .entry)) (now (code .exit)) i r ⌝ }
+fn call_of(code: &mut [u8], values: &[u8], undo: bool, i: usize) -> Judged
+    requires { ⌜ CallsOf (now code) (now values) undo i ⌝ }
+    ensures { λ r. ⌜ CalledOf (now (code .entry)) (now (values .entry)) (now (code .exit)) undo i r ⌝ }
 {
     match callee_at(code, values, false, i) {
         Callee::Wrong(number) => Judged::Faulty(number, i),
@@ -280,6 +286,7 @@ fn call_of(code: &mut [u8], values: &[u8], i: usize) -> Judged
             let r = call(
                 code,
                 values,
+                undo,
                 ops::PROCEDURE_CALL,
                 h,
                 i,
@@ -310,11 +317,18 @@ fn assign_value(code: &mut [u8], values: &[u8], wants: Type, i: usize, b: usize)
     Judged::Typed(t, end + 1)
 }
 
-fn assign_call(code: &mut [u8], values: &[u8], wants: Type, i: usize, b: usize) -> Judged
-    requires { ⌜ CallAssigns (now code) (now values) i b × IsType wants ⌝ }
-    ensures { λ r. ⌜ CallAssigned (now (code .entry)) (now (values .entry)) (now (code .exit)) wants i b r ⌝ }
+fn assign_call(
+    code: &mut [u8],
+    values: &[u8],
+    undo: bool,
+    wants: Type,
+    i: usize,
+    b: usize,
+) -> Judged
+    requires { ⌜ CallAssigns (now code) (now values) undo i b × IsType wants ⌝ }
+    ensures { λ r. ⌜ CallAssigned (now (code .entry)) (now (values .entry)) (now (code .exit)) undo wants i b r ⌝ }
 {
-    let r = call_for(code, values, wants, b + 1);
+    let r = call_for(code, values, undo, wants, b + 1);
     let Judged::Typed(t, end) = r else {
         return r;
     };
@@ -340,32 +354,33 @@ fn is_call(code: &[u8], at: usize) -> bool
     sort(code, at + 1) == text_sorts::OPEN_PAREN
 }
 
-fn assignment(code: &mut [u8], values: &[u8], i: usize) -> Judged
-    requires { ⌜ Assigns (now code) (now values) i ⌝ }
-    ensures { λ r. ⌜ Assigned (now (code .entry)) (now (values .entry)) (now (code .exit)) i r ⌝ }
+fn assignment(code: &mut [u8], values: &[u8], undo: bool, i: usize) -> Judged
+    requires { ⌜ Assigns (now code) (now values) undo i ⌝ }
+    ensures { λ r. ⌜ Assigned (now (code .entry)) (now (values .entry)) (now (code .exit)) undo i r ⌝ }
 {
     let r = target(code, values, i);
     let Judged::Typed(t, b) = r else {
         return r;
     };
     if is_call(code, b + 1) {
-        return assign_call(code, values, t, i, b);
+        return assign_call(code, values, undo, t, i, b);
     }
     assign_value(code, values, t, i, b)
 }
 
-fn started_by_name(code: &mut [u8], values: &[u8], i: usize) -> Judged
-    requires { ⌜ Begins NAME (now code) (now values) i ⌝ }
-    ensures { λ r. ⌜ Begun NAME (now (code .entry)) (now (values .entry)) (now (code .exit)) i r ⌝ }
+fn started_by_name(code: &mut [u8], values: &[u8], k: Setting, i: usize) -> Judged
+    requires { ⌜ BeginsIn NAME k (now code) (now values) i ⌝ }
+    ensures { λ r. ⌜ BegunIn NAME k (now (code .entry)) (now (values .entry)) (now (code .exit)) i r ⌝ }
 {
+    let undo = k.list == lists::UNDO;
     let s = sort(code, i + 1);
     if s == text_sorts::BECOMES {
-        return assignment(code, values, i);
+        return assignment(code, values, undo, i);
     }
     if s == text_sorts::OPEN_BRACE {
-        return assignment(code, values, i);
+        return assignment(code, values, undo, i);
     }
-    call_of(code, values, i)
+    call_of(code, values, undo, i)
 }
 
 // ---- other statements
@@ -400,6 +415,9 @@ fn returns(code: &mut [u8], values: &[u8], k: Setting, i: usize) -> Judged
     ensures { λ r. ⌜ BegunIn RETURN k (now (code .entry)) (now (values .entry)) (now (code .exit)) i r ⌝ }
 {
     let result = k.result;
+    if k.list == lists::UNDO {
+        return Judged::Faulty(rules::BARRED, i);
+    }
     if sort(code, i + 1) == text_sorts::SEMICOLON {
         return word(code, ops::RETURN, result == types::NONE, i);
     }
@@ -413,11 +431,11 @@ fn raises(code: &mut [u8], values: &[u8], k: Setting, i: usize) -> Judged
     requires { ⌜ BeginsIn RAISE k (now code) (now values) i ⌝ }
     ensures { λ r. ⌜ BegunIn RAISE k (now (code .entry)) (now (values .entry)) (now (code .exit)) i r ⌝ }
 {
-    let handler = k.handler;
+    let list = k.list;
     if sort(code, i + 1) == text_sorts::SEMICOLON {
-        return word(code, ops::RAISE, handler, i);
+        return word(code, ops::RAISE, list == lists::HANDLER, i);
     }
-    if handler {
+    if list != lists::BODY {
         return Judged::Faulty(rules::BARRED, i);
     }
     with_value(code, values, ops::RAISE_OF, types::NUM, i + 1, i)
@@ -499,14 +517,14 @@ pub fn statement(text: &[u8], code: &mut [u8], values: &[u8], k: Setting, i: usi
     ensures { λ r. ⌜ Stated (now (text .entry)) (now (code .entry)) (now (values .entry)) (now (code .exit)) k i r ⌝ }
 {
     let s = sort(code, i);
-    let handler = k.handler;
+    let list = k.list;
     match s {
-        text_sorts::NAME => started_by_name(code, values, i),
+        text_sorts::NAME => started_by_name(code, values, k, i),
         text_sorts::RETURN => returns(code, values, k, i),
         text_sorts::RAISE => raises(code, values, k, i),
-        text_sorts::EXIT => word(code, ops::EXIT, true, i),
-        text_sorts::RETRY => word(code, ops::RETRY, handler, i),
-        text_sorts::TRYNEXT => word(code, ops::TRY_NEXT, handler, i),
+        text_sorts::EXIT => word(code, ops::EXIT, list != lists::UNDO, i),
+        text_sorts::RETRY => word(code, ops::RETRY, list == lists::HANDLER, i),
+        text_sorts::TRYNEXT => word(code, ops::TRY_NEXT, list == lists::HANDLER, i),
         text_sorts::TPWRITE => writes(text, code, values, i),
         _ => reads(text, code, values, i),
     }

@@ -12,15 +12,15 @@ use Rattle.paper.specs.Terms.{Memory}
 use Rattle.paper.specs.Trees.{Expr, Target, Simple, firstSimple, assign, assignCall, call, returns, raises, exits, retries, triesNext, writes, reads, Statement, Statements, Arms, Cases, RoutineList, Routine, Module}
 use Rattle.paper.specs.Names.{Scopes, sortIn}
 use Rattle.paper.specs.Declarations.{moduleData}
-use Rattle.paper.specs.Steps.{Action, partsOf, Step, Code, step, actionOf, simpleStep, stepsOf, stepsOfList, stepsOfArms, stepsOfCases, listSteps, codeOf, programOf}
+use Rattle.paper.specs.Steps.{Action, endList, endUndo, partsOf, Step, Code, step, actionOf, simpleStep, stepsOf, stepsOfList, stepsOfArms, stepsOfCases, listSteps, optionalSteps, codeOf, programOf}
 use Rattle.paper.specs.Running.{noCode, codeAt}
 use Rattle.code.specs.Steps.{Head, noHead, stepIn}
 use Rattle.code.specs.Closed.{Every, done, also}
 use Rattle.code.specs.Holds.{known, CalleeIn, HoldsRoutine, Holds}
 use Rattle.grammar.specs.Form.{SimpleAt, assigning, assigning-call, calling, returning, raising, exiting, retrying, trying-next, writing, reading}
 use Rattle.grammar.specs.Form.{StatementAt, plain, compact, full, counting, looping, testing, ListAt, ended, begun, ArmsAt, last-arm, more-arms, ElseAt, no-else, an-else, CasesAt, no-more-cases, one-case, DefaultAt, no-default, a-default}
-use Rattle.grammar.specs.Form.{Parses, RepeatedAt, none-starts, one-starts, RoutineListAt, HandlerAt, no-handler, a-handler, RoutineAt, RoutinesAt}
-use Rattle.grammar.proofs.Places.{arguments-grow, simple-first, simple-grows, statement-grows, list-grows, arms-grow, else-grows, cases-grow, default-grows, for-head-grows, handler-grows, routines-grow}
+use Rattle.grammar.specs.Form.{Parses, RepeatedAt, none-starts, one-starts, RoutineListAt, ListBehindAt, no-list, a-list, RoutineAt, RoutinesAt}
+use Rattle.grammar.proofs.Places.{arguments-grow, simple-first, simple-grows, statement-grows, list-grows, arms-grow, else-grows, cases-grow, default-grows, for-head-grows, behind-grows, routines-grow}
 use Rattle.faults.proofs.Expressions.{grows}
 
 -- ---- steps of the first n words
@@ -114,18 +114,23 @@ module _ (T : List Word) (b : ℕ) where
       default-in (no-default f e) g S n around after = done
       default-in (a-default c i l) g S n around after = list-in l g S n around after
 
-    lines-in : {l : RoutineList} {at to : ℕ} → RoutineListAt W E l at to → to < b → (S : Scopes) (n : ℕ) → In (listSteps T M S n l)
-    unfolding listSteps CallsIn
-    lines-in {l} k g S n = list-in (k .statements) (omega (arith, k .closes)) S n [] (l .closes) and one-in (l .closes) [] (l .closes) _ (omega (arith, k .closes)) tt
+    -- the lists of a routine, with their ends
+    lines-in : {l : RoutineList} {at to : ℕ} (end : Action) → CallsIn b end → RoutineListAt W E l at to → to < b → (S : Scopes) (n : ℕ) → In (listSteps T end M S n l)
+    unfolding listSteps
+    lines-in {l} end c k g S n = list-in (k .statements) (omega (arith, k .closes)) S n [] (l .closes) and one-in (l .closes) [] (l .closes) end (omega (arith, k .closes)) c
 
-    handler-in : {o : Option RoutineList} {at to : ℕ} → HandlerAt W E o at to → to < b → (S : Scopes) (n : ℕ) → In (elim o [ none ↦ [] | some h ↦ listSteps T M S n h ])
-    handler-in (no-handler f e) g S n = done
-    handler-in (a-handler c k) g S n = lines-in k g S n
+    behind-in : {sort : ℕ} {o : Option RoutineList} {at to : ℕ} (end : Action) → CallsIn b end → ListBehindAt W E sort o at to → to < b → (S : Scopes) (n : ℕ) → In (optionalSteps T end M S n o)
+    unfolding optionalSteps
+    behind-in end c (no-list f e) g S n = done
+    behind-in end c (a-list w k) g S n = lines-in end c k g S n
 
   code-in : (m : Module) (r : Routine) (at to : ℕ) → RoutineAt W E r at to → to ≤ b → In (codeOf T m r .steps)
-  unfolding codeOf
+  unfolding codeOf CallsIn
   code-in m r at to f g =
-      lines-in _ (f .body) (omega (arith, handler-grows W E on (f .handler), f .after)) _ _ and handler-in _ (f .handler) (omega (arith, f .after)) _ _
+      let h = behind-grows W E on (f .handler) in
+      let u = behind-grows W E on (f .undo) in
+      let z = f .after in
+      lines-in _ endList tt (f .body) (omega arith) _ _ and behind-in _ endList tt (f .handler) (omega arith) _ _ and behind-in _ endUndo tt (f .undo) (omega arith) _ _
 
   codes-in : (m : Module) (rs : List Routine) (at to : ℕ) → RoutinesAt W E rs at to → to ≤ b → (k : ℕ) → In (getD (map (codeOf T m) rs) k noCode .steps)
   unfolding noCode
@@ -152,6 +157,7 @@ module _ (n : ℕ) (o p : ℕ → ℕ) (same : (i : ℕ) → i < n → o i ≡ p
     function-is = x .function-is;
     start-is = x .start-is;
     handler-is = x .handler-is;
+    undo-is = x .undo-is;
     starts = x .starts;
     opens = x .opens;
     data-is = x .data-is;

@@ -21,7 +21,7 @@ use Rattle.code.specs.Steps.{Head, noHead}
 use Rattle.code.specs.Signatures.{typeAt, typesAt, firstParameter, resultAt, headIn, signatureIn, SignatureAt, Heads}
 use Rattle.code.proofs.Signatures.{type-kept}
 use Rattle.grammar.specs.Form.{Parses, SeparatedAt, last-one, one-more, ClosedAt, closed-at-once, closed-later, RepeatedAt, none-starts, one-starts, ParameterAt, ParametersAt, HeadAt, a-proc, a-func, RoutineAt, RoutinesAt}
-use Rattle.grammar.proofs.Places.{routine-grows, routines-grow, declarations-grow, list-grows, handler-grows}
+use Rattle.grammar.proofs.Places.{routine-grows, routines-grow, declarations-grow, list-grows, behind-grows}
 use Rattle.faults.proofs.Expressions.{grows}
 use Rattle.check_links.specs.Raw.{Ground}
 use Rattle.check_program.specs.Routines.{RawRoutine, RawRoutines, no-routine, a-routine}
@@ -116,7 +116,15 @@ module _ (W : List Word) (C D : List ℕ) (r : Routine) (h to : ℕ) (s : Spares
   -- the words that are asked of a routine lie in it
   last-type : (q : Routine) (w n : ℕ) → RoutineAt at-word (Parses at-word) q w n → q .name + 2 + 3 * length (q .parameters) ≤ n + 1
   last-type q w n f =
-      omega (arith, closed-in at-word (f .parameters), declarations-grow at-word (Parses at-word) (grows W) (f .declared), list-grows at-word (Parses at-word) (grows W) (f .body .statements), handler-grows at-word (Parses at-word) (grows W) (f .handler), f .after)
+      omega (
+        arith,
+        closed-in at-word (f .parameters),
+        declarations-grow at-word (Parses at-word) (grows W) (f .declared),
+        list-grows at-word (Parses at-word) (grows W) (f .body .statements),
+        behind-grows at-word (Parses at-word) (grows W) (f .handler),
+        behind-grows at-word (Parses at-word) (grows W) (f .undo),
+        f .after,
+      )
 
   short : (q : Routine) (w n : ℕ) → RoutineAt at-word (Parses at-word) q w n → w + 1 < n
   short q w n f = omega (arith, last-type q w n f, second-in at-word (f .head))

@@ -26,7 +26,7 @@ head-requires : tie.Need-head-requires
 head-requires c κs =
     let at-call-for = c .before .before .before .before .before .before in
     let start = at-call-for .before .before .before .before in
-    assign-fits _ _ _ _ _ (start .pre .0) _ _ (at-call-for .call-for .ensures) _ _ (c .before .before .r .given .1) (start .pre .1) .1
+    assign-fits _ _ _ _ _ _ (start .pre .0) _ _ (at-call-for .call-for .ensures) _ _ (c .before .before .r .given .1) (start .pre .1) .1
 
 add-set-word : tie.Need-add-set-word
 add-set-word c = search needs
@@ -39,11 +39,11 @@ set-word-requires c κs =
     let at-r = c .before .before .before .before in
     let at-call-for = at-r .before .before .before .before in
     let start = at-call-for .before .before .before .before in
-    let x = assign-fits _ _ _ _ _ (start .pre .0) _ _ (at-call-for .call-for .ensures) _ _ (at-r .r .given .1) (start .pre .1) in let y = assign-op-fits _ _ _ _ _ (start .pre .0) _ _
+    let x = assign-fits _ _ _ _ _ _ (start .pre .0) _ _ (at-call-for .call-for .ensures) _ _ (at-r .r .given .1) (start .pre .1) in let y = assign-op-fits _ _ _ _ _ _ (start .pre .0) _ _
     (at-call-for .call-for .ensures) _ _ (at-r .r .given .1) (start .pre .1) _ (c .before .head .ensures) in let u = x .0 in let v = x .1 in search needs
 
-add-t12 : tie.Need-add-t12
-add-t12 c = search (needs, assign-next)
+add-t13 : tie.Need-add-t13
+add-t13 c = search (needs, assign-next)
 
 same-length-2 : tie.Need-same-length-2
 same-length-2 c = search needs
@@ -65,6 +65,6 @@ assign-call-spec =
     add-set-word
     add-set-word-2
     set-word-requires
-    add-t12
+    add-t13
     same-length-2
     returns-2)

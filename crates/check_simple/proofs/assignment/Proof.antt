@@ -23,21 +23,21 @@ add-is-call : tie.Need-add-is-call
 add-is-call c =
     let at-target = c .before .before .before .before .before .before in
     let start = at-target .before .before .before .before in
-    omega (arith, assign-end _ _ _ (start .pre) _ _ (at-target .target .ensures) _ _ (c .before .before .r .given .1) .0)
+    omega (arith, assign-end _ _ _ _ (start .pre) _ _ (at-target .target .ensures) _ _ (c .before .before .r .given .1) .0)
 
 is-call-requires : tie.Need-is-call-requires
 is-call-requires c κs =
     let at-target = c .before .before .before .before .before .before in
     let start = at-target .before .before .before .before in
-    assign-end _ _ _ (start .pre) _ _ (at-target .target .ensures) _ _ (c .before .before .r .given .1) .1
+    assign-end _ _ _ _ (start .pre) _ _ (at-target .target .ensures) _ _ (c .before .before .r .given .1) .1
 
 assign-call-requires : tie.Need-assign-call-requires
 assign-call-requires c κs =
     let at-r = c .before .before .before .before .before in
     let at-target = at-r .before .before .before .before in
     let start = at-target .before .before .before .before in (
-      call-assigns _ _ _ (start .pre) _ _ (at-target .target .ensures) _ _ (at-r .r .given .1) _ (c .before .before .is-call .ensures) (c .before .if1 .taken),
-      call-type _ _ _ (start .pre) _ _ (at-target .target .ensures) _ _ (at-r .r .given .1) _ (c .before .before .is-call .ensures) (c .before .if1 .taken),
+      call-assigns _ _ _ _ (start .pre) _ _ (at-target .target .ensures) _ _ (at-r .r .given .1) _ (c .before .before .is-call .ensures) (c .before .if1 .taken),
+      call-type _ _ _ _ (start .pre) _ _ (at-target .target .ensures) _ _ (at-r .r .given .1) _ (c .before .before .is-call .ensures) (c .before .if1 .taken),
     )
 
 same-length-2 : tie.Need-same-length-2
@@ -51,7 +51,7 @@ assign-value-requires c κs =
     let at-r = c .before .before .before .before .before in
     let at-target = at-r .before .before .before .before in
     let start = at-target .before .before .before .before in
-    value-assigns _ _ _ (start .pre) _ _ (at-target .target .ensures) _ _ (at-r .r .given .1) _ (c .before .before .is-call .ensures) (c .before .if1 .left)
+    value-assigns _ _ _ _ (start .pre) _ _ (at-target .target .ensures) _ _ (at-r .r .given .1) _ (c .before .before .is-call .ensures) (c .before .if1 .left)
 
 same-length-3 : tie.Need-same-length-3
 same-length-3 c = search needs

@@ -17,13 +17,13 @@ add-head : tie.Need-add-head
 add-head c =
     let at-callee-at = c .before .before .before .before in
     let start = at-callee-at .before .before .before .before in
-    omega (arith, for-head _ _ _ (start .pre) _ (at-callee-at .callee-at .ensures) _ (c .before .before .h .given .1) .0)
+    omega (arith, for-head _ _ _ _ (start .pre) _ (at-callee-at .callee-at .ensures) _ (c .before .before .h .given .1) .0)
 
 head-requires : tie.Need-head-requires
 head-requires c κs =
     let at-callee-at = c .before .before .before .before in
     let start = at-callee-at .before .before .before .before in
-    for-head _ _ _ (start .pre) _ (at-callee-at .callee-at .ensures) _ (c .before .before .h .given .1) .1
+    for-head _ _ _ _ (start .pre) _ (at-callee-at .callee-at .ensures) _ (c .before .before .h .given .1) .1
 
 differs-requires : tie.Need-differs-requires
 differs-requires c κs = search needs
@@ -42,7 +42,7 @@ call-requires c κs =
     let at-h = c .before .before .before .before .before .before in
     let at-callee-at = at-h .before .before in
     let start = at-callee-at .before .before .before .before in
-    (for-side _ _ _ (start .pre) _ (at-callee-at .callee-at .ensures) _ (at-h .h .given .1), omega arith)
+    (for-side _ _ _ _ (start .pre) _ (at-callee-at .callee-at .ensures) _ (at-h .h .given .1), omega arith)
 
 same-length-2 : tie.Need-same-length-2
 same-length-2 c = search needs

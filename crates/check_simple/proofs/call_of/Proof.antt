@@ -20,7 +20,7 @@ call-requires : tie.Need-call-requires
 call-requires c κs =
     let at-callee-at = c .before .before .before .before in
     let start = at-callee-at .before .before .before .before in
-    (of-side _ _ _ (start .pre) _ (at-callee-at .callee-at .ensures) _ (c .before .before .h .given .1), omega arith)
+    (of-side _ _ _ _ (start .pre) _ (at-callee-at .callee-at .ensures) _ (c .before .before .h .given .1), omega arith)
 
 enum-known-r : tie.Need-enum-known-r
 enum-known-r c = search needs
@@ -42,7 +42,7 @@ add-set-word c =
     let start = at-callee-at .before .before .before .before in
     omega (
       arith,
-      of-end _ _ _ (start .pre) _ (at-callee-at .callee-at .ensures) _ (at-h .h .given .1) _ _ (at-call .call .ensures) _ _
+      of-end _ _ _ _ (start .pre) _ (at-callee-at .callee-at .ensures) _ (at-h .h .given .1) _ _ (at-call .call .ensures) _ _
           (c .before .before .r .given .1) .0,
     )
 
@@ -52,17 +52,17 @@ set-word-requires c κs =
     let at-h = at-call .before .before .before in
     let at-callee-at = at-h .before .before in
     let start = at-callee-at .before .before .before .before in
-    let x = of-end _ _ _ (start .pre) _ (at-callee-at .callee-at .ensures) _ (at-h .h .given .1) _ _ (at-call .call .ensures) _ _
+    let x = of-end _ _ _ _ (start .pre) _ (at-callee-at .callee-at .ensures) _ (at-h .h .given .1) _ _ (at-call .call .ensures) _ _
     (c .before .before .r .given .1) in (x .1, omega arith, omega arith, omega (arith, x .0))
 
-add-t15 : tie.Need-add-t15
-add-t15 c =
+add-t16 : tie.Need-add-t16
+add-t16 c =
     let at-r = c .before .before .before .before .before in
     let at-call = at-r .before .before .before .before in
     let at-h = at-call .before .before .before in
     let at-callee-at = at-h .before .before in
     let start = at-callee-at .before .before .before .before in
-    omega (arith, of-end _ _ _ (start .pre) _ (at-callee-at .callee-at .ensures) _ (at-h .h .given .1) _ _ (at-call .call .ensures) _ _ (at-r .r .given .1) .0)
+    omega (arith, of-end _ _ _ _ (start .pre) _ (at-callee-at .callee-at .ensures) _ (at-h .h .given .1) _ _ (at-call .call .ensures) _ _ (at-r .r .given .1) .0)
 
 same-length-2 : tie.Need-same-length-2
 same-length-2 c = search needs
@@ -91,7 +91,7 @@ call-of-spec =
     returns
     add-set-word
     set-word-requires
-    add-t15
+    add-t16
     same-length-2
     returns-2
     same-length-3

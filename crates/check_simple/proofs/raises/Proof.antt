@@ -1,6 +1,6 @@
 use borrow.Author.Needs.{needs}
 use Rattle.check_simple.proofs.SimpleStatements.{stands-here, stands-next, stands-small}
-use Rattle.check_simple.proofs.ReturnRaiseExit.{raise-values, raised-alone, raised-handled, raised-number}
+use Rattle.check_simple.proofs.ReturnRaiseExit.{raise-values, raised-alone, raised-barred, raised-number}
 use native.Mathlib.Omega.{arith}
 use Rattle.layout.proofs.Typing.{num-type}
 use Rattle.check_simple.proofs.raises.Statement.{statement}
@@ -25,7 +25,7 @@ same-length-2 : tie.Need-same-length-2
 same-length-2 c = search needs
 
 returns-2 : tie.Need-returns-2
-returns-2 c = search (needs, raised-handled)
+returns-2 c = search (needs, raised-barred)
 
 add-with-value : tie.Need-add-with-value
 add-with-value c = omega (arith, stands-small)

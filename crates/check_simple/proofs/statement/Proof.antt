@@ -1,6 +1,6 @@
 use borrow.Author.Needs.{needs}
 use Rattle.check_simple.proofs.SimpleStatements.{stands-here, stands-small}
-use Rattle.check_simple.proofs.Statements.{begins-by, begins-in, begins-of, begins-read, stated-name, stated-return, stated-raise, stated-write, stated-read}
+use Rattle.check_simple.proofs.Statements.{begins-in, begins-of, begins-read, stated-in, stated-write, stated-read}
 use Rattle.check_simple.proofs.ReturnRaiseExit.{exited, retried, tried-next}
 use native.Mathlib.Omega.{arith}
 use Rattle.check_simple.proofs.statement.Statement.{statement}
@@ -10,7 +10,7 @@ sort-requires : tie.Need-sort-requires
 sort-requires c κs = search (needs, stands-here)
 
 started-by-name-requires : tie.Need-started-by-name-requires
-started-by-name-requires c κs = search (needs, begins-by)
+started-by-name-requires c κs = search (needs, begins-in)
 
 returns-requires : tie.Need-returns-requires
 returns-requires c κs = search (needs, begins-in)
@@ -37,19 +37,19 @@ same-length : tie.Need-same-length
 same-length c = search needs
 
 returns : tie.Need-returns
-returns c = search (needs, stated-name)
+returns c = search (needs, stated-in)
 
 same-length-2 : tie.Need-same-length-2
 same-length-2 c = search needs
 
 returns-2 : tie.Need-returns-2
-returns-2 c = search (needs, stated-return)
+returns-2 c = search (needs, stated-in)
 
 same-length-3 : tie.Need-same-length-3
 same-length-3 c = search needs
 
 returns-3 : tie.Need-returns-3
-returns-3 c = search (needs, stated-raise)
+returns-3 c = search (needs, stated-in)
 
 same-length-4 : tie.Need-same-length-4
 same-length-4 c = search needs
