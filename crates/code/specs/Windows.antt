@@ -44,12 +44,15 @@ abbrev pub resultCell : ℕ
 resultCell = 196
 
 -- ---- cells of the run, in main's window
--- bytes of output written, in two cells, the low half first, and inputs used
+-- bytes of output written, and inputs used: each count in two cells, the low half first
 abbrev pub writtenCell : ℕ
-writtenCell = 1260
+writtenCell = 1259
 
 abbrev pub usedCell : ℕ
-usedCell = 1262
+usedCell = 1261
+
+abbrev pub countAt : (X : List ℕ) → (cell : ℕ) → ℕ
+countAt X c = getD X c 0 + 4294967296 * getD X (suc c) 0
 
 module _ (P : Program) (R : List Head) (X : List ℕ) where
   abbrev pub numberAt : ℕ → ℤ
@@ -92,7 +95,7 @@ module _ (P : Program) (R : List Head) (X : List ℕ) where
 
   -- bytes written
   unfoldable pub writtenIn : ℕ
-  writtenIn = getD X writtenCell 0 + 4294967296 * getD X (suc writtenCell) 0
+  writtenIn = countAt X writtenCell
 
   -- The state of a run with d callers below the newest call, so many steps made, and `out` the lent output.
   unfoldable pub stateIn : (d next steps : ℕ) → (out : List ℕ) → State
@@ -103,7 +106,7 @@ module _ (P : Program) (R : List Head) (X : List ℕ) where
         steps = steps;
         errno = getD X errnoCell 0;
         output = take writtenIn out;
-        used = getD X usedCell 0;
+        used = countAt X usedCell;
       }
 
   -- A caller knows the step after the call that it waits for.

@@ -26,20 +26,22 @@ pub const FAILED: usize = 195;
 // 1 more than the cell that its result goes to, 0 if it is not called for one
 pub const RESULT: usize = 196;
 
-// ---- cells of the run: bytes of output written, in two cells, the low half first; inputs used; ERRNO
-pub const WRITTEN: usize = 1260;
+// ---- cells of the run: bytes of output written, and inputs used, each in two cells, the low half first; ERRNO
+pub const WRITTEN: usize = 1259;
 
-pub const USED: usize = 1262;
+pub const USED: usize = 1261;
 
 pub const ERRNO: usize = 1263;
 
 // what a cell counts to: a number in two cells has its high half above it
 pub const HALF: usize = 4294967296;
 
-// the cell of main's window that has its routine, and the high half of the bytes written
+// the cell of main's window that has its routine, and the high halves of the two counts
 pub const MAIN_ROUTINE: usize = FIRST_WINDOW + ROUTINE;
 
 pub const WRITTEN_HIGH: usize = WRITTEN + 1;
+
+pub const USED_HIGH: usize = USED + 1;
 
 // as a word's value has it
 pub const ERRNO_VALUE: u32 = ERRNO as u32;

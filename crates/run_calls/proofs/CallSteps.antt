@@ -24,14 +24,14 @@ use Rattle.store_numbers.proofs.Whole.{read}
 use Rattle.code.specs.Cells.{opAt, linkAt, windowOf}
 use Rattle.code.specs.Steps.{Head, parts, aCallTarget, anyArguments, aNextArgument, aProcedureCall}
 use Rattle.code.specs.Holds.{CalleeIn}
-use Rattle.code.specs.Windows.{writtenCell, usedCell, resultIn}
+use Rattle.code.specs.Windows.{resultIn}
 use Rattle.code.proofs.Options.{same-some}
 use Rattle.code.proofs.Spanning.{span-grows}
 use Rattle.store_evaluation.specs.Answers.{firstError}
 use Rattle.store_evaluation.proofs.Places.{link-in}
 use Rattle.store_reading.specs.Reading.{halfEnd, Part}
 use Rattle.run_machine.specs.Live.{slotsOfCall, codeOfCall, ResultFits, nowhere, inModule, inCaller}
-use Rattle.run_machine.specs.Machine.{storeBytes, Here, Calls}
+use Rattle.run_machine.specs.Machine.{storeBytes, Here, KeepsRun, Calls}
 use Rattle.run_targets.specs.Targets.{refCell, RefFits, spotIn, Aims}
 use Rattle.run_calls.specs.Calling.{Passes, Passed, MayEnter, Entered, Deepest, goesOnAt, Calling, MayCall, CallsFor}
 use Rattle.run_machine.proofs.Actions.{reads-call-for, reads-call-of, some-arguments, argument-more, argument-last}
@@ -68,7 +68,7 @@ module _ (code values : List ℕ) (base last i callee first result : ℕ) (mc : 
     passes = call-passes code values base i (mc .here) last (mc .deepest .rooms) (mc .deepest .is) first l callee result (begins (mc .here)) (pl .small)
 
     module _ (after : List ℕ) (r : ℤ) (s : SFits w64 r) (ps : Passed code values after base first l (ltb base last) r) where
-      kept-below : (c : ℕ) → writtenCell ≤ c → c ≤ usedCell → getD (cellsOf after) c 0 ≡ getD (cellsOf values) c 0
+      kept-below : KeepsRun (cellsOf values) (cellsOf after)
       kept-below c x y = ps .below c (omega (arith, mc .here .base-is))
 
       pub argument-error : leZ (pos firstError) (read r) ≡ true → Calls code values after base last i (read r)

@@ -15,11 +15,11 @@ use Rattle.paper.specs.Running.{codeAt, stepNamed, newCall, calling}
 use Rattle.store_cells.specs.Cells.{cellsOf}
 use Rattle.code.specs.Cells.{opAt, linkAt, placeAt, valueAt, firstWindow, windowOf, windowCells}
 use Rattle.code.specs.Steps.{Head, noHead, numbered, aCallTarget, aProcedureCall, anyArguments}
-use Rattle.code.specs.Windows.{writtenCell, usedCell, resultIn, callIn, stateIn}
+use Rattle.code.specs.Windows.{resultIn, callIn, stateIn}
 use Rattle.store_evaluation.specs.Answers.{firstError, callSlots, Counts, memoryOf, Stores}
 use Rattle.run_machine.specs.Live.{slotsOfCall, codeOfCall, ResultFits, Live}
 use Rattle.store_reading.specs.Reading.{Stored}
-use Rattle.run_machine.specs.Machine.{Here, effectAt, entered, depthLimit, LastWindow}
+use Rattle.run_machine.specs.Machine.{Here, effectAt, entered, depthLimit, LastWindow, KeepsRun}
 use Rattle.run_targets.specs.Targets.{Aims}
 use Rattle.layout.specs.Answers.{answers}
 use Rattle.layout.specs.Named.{storeBytes}
@@ -96,7 +96,7 @@ module _ (code values : List ℕ) (base i : ℕ) where
   -- It is the newest call then, and its caller waits.
   pub record Entered (callee result after n : ℕ) (after′ : List ℕ) (r : ℤ) : Type 0 where
     pub long : length after′ ≡ length values
-    pub kept : (c : ℕ) → writtenCell ≤ c → c ≤ usedCell → getD (cellsOf after′) c 0 ≡ getD (cellsOf values) c 0
+    pub kept : KeepsRun (cellsOf values) (cellsOf after′)
     pub answer : (h : Here code values base i) (e : Enters h callee result after n) → r ≡ pos (entered + codeAt (h .P) (e .k) .start)
     pub live : (h : Here code values base i) (e : Enters h callee result after n) → Live (h .P) (h .R) (cellsOf after′) (suc (h .d)) (codeAt (h .P) (e .k) .start)
     pub state : (h : Here code values base i) (e : Enters h callee result after n) (steps : ℕ) (out : List ℕ) →

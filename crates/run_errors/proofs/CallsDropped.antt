@@ -31,9 +31,9 @@ use Rattle.layout.specs.Answers.{firstError, answers}
 use Rattle.store_evaluation.specs.Parts.{addresses}
 use Rattle.run_errors.specs.declared.Taken.{Taken}
 use Rattle.run_machine.specs.Live.{Live, hasFailed, routineOfCall, codeOfCall}
-use Rattle.run_machine.specs.Machine.{handed, Here}
+use Rattle.run_machine.specs.Machine.{handed, Here, KeepsRun}
 use Rattle.run_errors.specs.Errors as errors
-use Rattle.run_errors.specs.Errors.{HasRoutine, handlerAt, Seeks, Nearest, Takes, dies, Unwound, Raises, raises, handsOn, Settles, stops, resumes, Arisen, KeepsRun}
+use Rattle.run_errors.specs.Errors.{HasRoutine, handlerAt, Seeks, Nearest, Takes, dies, Unwound, Raises, raises, handsOn, Settles, stops, resumes, Arisen}
 use Rattle.run_machine.proofs.States.{roomy, goes-to, call-failed, errno-cell}
 use Rattle.run_machine.proofs.Living.{live-next, live-caller, live-failed, live-errno}
 use Rattle.run_machine.proofs.Elsewhere.{elsewhere, caller}
@@ -46,7 +46,7 @@ module _ (code values : List ℕ) (base i : ℕ) (h : Here code values base i) w
   abbrev X : List ℕ
   X = cellsOf values
 
-  word-is : getD X (base + routineCell) 0 ≡ getD (h .R) (routineOfCall (h .P) (h .R) X (h .d)) noHead .word
+  pub word-is : getD X (base + routineCell) 0 ≡ getD (h .R) (routineOfCall (h .P) (h .R) X (h .d)) noHead .word
   word-is = ap (λ (b : ℕ). getD X (b + routineCell) 0) (h .base-is) ∙ sym (h .live .top .word)
 
   pub has-routine : HasRoutine code values base
@@ -87,32 +87,72 @@ zero-handler : optionally 0 ≡ none
 unfolding optionally
 zero-handler = refl
 
--- ---- the search
-abbrev pub Seeking : (code values : List ℕ) → (base i b s : ℕ) → Type 0
-Seeking code values base i b s = (h : Here code values base i) → Seeks (h .P) (h .R) (cellsOf values) (h .d) i b s
+-- ---- the search up the chain, whatever is asked of the calls
+module _ (A : Type 0) (ask : Program → List Call → A) where
+  abbrev pub SeekingFor : (code values : List ℕ) → (base i b s : ℕ) → Type 0
+  SeekingFor code values base i b s = (h : Here code values base i) → Seeks A (ask (h .P)) (h .P) (h .R) (cellsOf values) (h .d) i b s
 
-pub seek-start : (code values : List ℕ) (base i : ℕ) → Seeking code values base i base i
-seek-start code values base i h = record { e = h .d; up = omega arith; base-is = h .base-is; live = h .live; rest = refl }
+  pub seek-first : (code values : List ℕ) (base i : ℕ) → SeekingFor code values base i base i
+  seek-first code values base i h = record { e = h .d; up = omega arith; base-is = h .base-is; live = h .live; rest = refl }
 
-module _ (code values : List ℕ) (base i b s : ℕ) (k : Seeking code values base i b s) (h : Here code values base i) where
-  -- the call that was come to
-  pub come : Here code values b s
-  come = let q = k h in elsewhere h values (q .e) b s refl (omega (arith, q .up, h .deep)) (q .base-is) (q .live)
+  module _ (code values : List ℕ) (base i b s : ℕ) (h : Here code values base i) (q : Seeks A (ask (h .P)) (h .P) (h .R) (cellsOf values) (h .d) i b s) where
+    -- the call that was come to
+    abbrev pub come : Here code values b s
+    come = elsewhere h values (q .e) b s refl (omega (arith, q .up, h .deep)) (q .base-is) (q .live)
 
-  pub seek-routine : HasRoutine code values b
-  seek-routine = has-routine code values b s come
-
-  pub seek-in : (b + windowCells) * 4 ≤ length values
-  seek-in = window-in code values b s come
-
-  -- past main's window there is a caller's
-  module _ (d : b ≡ firstWindow → ⊥) where
-    pub seek-above : windowOf 1 ≤ b
-    seek-above = above (k h .e) (k h .base-is)
+    -- past main's window there is a caller's
+    pub come-above : (b ≡ firstWindow → ⊥) → windowOf 1 ≤ b
+    come-above d = above (q .e) (q .base-is)
       where
         above : (e : ℕ) → b ≡ windowOf e → windowOf 1 ≤ b
         above zero z = absurd (d z)
         above (suc e) z = omega arith
+
+    -- the next call up is asked, where this one does not matter
+    abbrev Skips : Type 0
+    Skips =
+        ask (h .P) (callIn (h .P) (h .R) (cellsOf values) (windowOf (q .e)) s ∷ waiting (h .P) (h .R) (cellsOf values) (q .e)) ≡ ask (h .P) (waiting (h .P) (h .R) (cellsOf values) (q .e))
+
+    abbrev Above : Type 0
+    Above = Seeks A (ask (h .P)) (h .P) (h .R) (cellsOf values) (h .d) i (b - windowCells) (getD (cellsOf values) (b - windowCells + waitsCell) 0)
+
+    up-one : (e : ℕ) → q .e ≡ suc e → Skips → Above
+    unfolding waiting
+    up-one e z n =
+        let a : b - windowCells ≡ windowOf e = omega (arith, q .base-is) in
+        record {
+          e = e;
+          up = omega (arith, q .up);
+          base-is = a;
+          live = live-caller (h .P) (h .R) (cellsOf values) (q .e) e s z (q .live) (b - windowCells) (getD (cellsOf values) (b - windowCells + waitsCell) 0) a refl;
+          rest = q .rest ∙ n
+              ∙ ap (λ (j : ℕ). ask (h .P) (waiting (h .P) (h .R) (cellsOf values) j)) z
+              ∙ ap (λ (j : ℕ). ask (h .P) (callIn (h .P) (h .R) (cellsOf values) (windowOf e) (getD (cellsOf values) (j + waitsCell) 0) ∷ waiting (h .P) (h .R) (cellsOf values) e)) (sym a);
+        }
+
+    pub seek-up : (b ≡ firstWindow → ⊥) → Skips → Above
+    seek-up d n = go (q .e) refl
+      where
+        go : (e : ℕ) → q .e ≡ e → Above
+        go zero z = absurd (d (q .base-is ∙ ap windowOf z))
+        go (suc e) z = up-one e z n
+
+-- ---- who takes an error
+abbrev pub Seeking : (code values : List ℕ) → (base i b s : ℕ) → Type 0
+Seeking code values base i b s = SeekingFor (Option (List Call)) caught code values base i b s
+
+pub seek-start : (code values : List ℕ) (base i : ℕ) → Seeking code values base i base i
+seek-start code values base i = seek-first (Option (List Call)) caught code values base i
+
+module _ (code values : List ℕ) (base i b s : ℕ) (k : Seeking code values base i b s) (h : Here code values base i) where
+  pub come-here : Here code values b s
+  come-here = come (Option (List Call)) caught code values base i b s h (k h)
+
+  pub seek-routine : HasRoutine code values b
+  seek-routine = has-routine code values b s come-here
+
+  pub seek-in : (b + windowCells) * 4 ≤ length values
+  seek-in = window-in code values b s come-here
 
   pub seek-get : (j : ℕ) → j < windowCells → (b - windowCells + j) * 4 + 4 ≤ length values
   seek-get j l = omega (arith, seek-in)
@@ -121,43 +161,14 @@ module _ (code values : List ℕ) (base i b s : ℕ) (k : Seeking code values ba
   seek-add j l = omega (arith, seek-in, h .values-size)
 
   pub seek-sub : (b ≡ firstWindow → ⊥) → windowCells ≤ b
-  seek-sub d = omega (arith, seek-above d)
+  seek-sub d = omega (arith, come-above (Option (List Call)) caught code values base i b s h (k h) d)
 
   pub seek-less : (b ≡ firstWindow → ⊥) → b - windowCells < b
-  seek-less d = omega (arith, seek-above d)
+  seek-less d = omega (arith, come-above (Option (List Call)) caught code values base i b s h (k h) d)
 
   handler-here : codeAt (h .P) (callIn (h .P) (h .R) (cellsOf values) (windowOf (k h .e)) s .routine) .handler ≡ optionally (handlerAt code values b)
-  unfolding callIn come
-  handler-here = handler-is code values b s come
-
-module _ (code values : List ℕ) (base i b s : ℕ) (k : Seeking code values base i b s) (g : handlerAt code values b ≡ 0) (d : b ≡ firstWindow → ⊥) where
-  up-one : (h : Here code values base i) (q : Seeks (h .P) (h .R) (cellsOf values) (h .d) i b s) (e : ℕ) → q .e ≡ suc e
-      → codeAt (h .P) (callIn (h .P) (h .R) (cellsOf values) (windowOf (q .e)) s .routine) .handler ≡ none
-      → Seeks (h .P) (h .R) (cellsOf values) (h .d) i (b - windowCells) (getD (cellsOf values) (b - windowCells + waitsCell) 0)
-  unfolding waiting
-  up-one h q e z n =
-      let a : b - windowCells ≡ windowOf e = omega (arith, q .base-is) in
-      record {
-        e = e;
-        up = omega (arith, q .up);
-        base-is = a;
-        live = live-caller (h .P) (h .R) (cellsOf values) (q .e) e s z (q .live) (b - windowCells) (getD (cellsOf values) (b - windowCells + waitsCell) 0) a refl;
-        rest = q .rest ∙ caught-on (h .P) (callIn (h .P) (h .R) (cellsOf values) (windowOf (q .e)) s) (waiting (h .P) (h .R) (cellsOf values) (q .e)) n
-            ∙ ap (λ (j : ℕ). caught (h .P) (waiting (h .P) (h .R) (cellsOf values) j)) z
-            ∙ ap (λ (j : ℕ). caught (h .P) (callIn (h .P) (h .R) (cellsOf values) (windowOf e) (getD (cellsOf values) (j + waitsCell) 0) ∷ waiting (h .P) (h .R) (cellsOf values) e)) (sym a);
-      }
-
-  pub seek-next : (x : ℕ) → x ≡ getD (cellsOf values) (b - windowCells + waitsCell) 0 → Seeking code values base i (b - windowCells) x
-  seek-next x ex h =
-      subst (Seeks (h .P) (h .R) (cellsOf values) (h .d) i (b - windowCells)) (sym ex)
-      (go (k h .e) refl)
-    where
-      no : codeAt (h .P) (callIn (h .P) (h .R) (cellsOf values) (windowOf (k h .e)) s .routine) .handler ≡ none
-      no = handler-here code values base i b s k h ∙ ap optionally g ∙ zero-handler
-
-      go : (e : ℕ) → k h .e ≡ e → Seeks (h .P) (h .R) (cellsOf values) (h .d) i (b - windowCells) (getD (cellsOf values) (b - windowCells + waitsCell) 0)
-      go zero z = absurd (d (k h .base-is ∙ ap windowOf z))
-      go (suc e) z = up-one h (k h) e z no
+  unfolding callIn come-here
+  handler-here = handler-is code values b s come-here
 
 -- found, or at main
 module _ (code values : List ℕ) (base i b s : ℕ) (k : Seeking code values base i b s) where
@@ -168,13 +179,17 @@ module _ (code values : List ℕ) (base i b s : ℕ) (k : Seeking code values ba
   nearest-main m = record { is = k; main = λ z. m }
 
   pub seek-on : (x : ℕ) → x ≡ handlerAt code values b → x ≡ 0 → (b ≡ firstWindow → ⊥) → (w : ℕ) → w ≡ getD (cellsOf values) (b - windowCells + waitsCell) 0 → Seeking code values base i (b - windowCells) w
-  seek-on x e z d w ew = seek-next code values base i b s k (sym e ∙ z) d w ew
+  seek-on x e z d w ew h =
+      subst (Seeks (Option (List Call)) (caught (h .P)) (h .P) (h .R) (cellsOf values) (h .d) i (b - windowCells)) (sym ew)
+      (seek-up (Option (List Call)) caught code values base i b s h (k h) d
+      (caught-on (h .P) (callIn (h .P) (h .R) (cellsOf values) (windowOf (k h .e)) s) (waiting (h .P) (h .R) (cellsOf values) (k h .e))
+      (handler-here code values base i b s k h ∙ ap optionally (sym e ∙ z) ∙ zero-handler)))
 
 -- ---- the call that was found
 module _ (code values : List ℕ) (base i : ℕ) (t : Taken) (nr : Nearest code values base i t) where
   module _ (h : Here code values base i) where
     at-call : Here code values (t .base) (t .next)
-    at-call = come code values base i (t .base) (t .next) (nr .is) h
+    at-call = come-here code values base i (t .base) (t .next) (nr .is) h
 
     pub found-routine : HasRoutine code values (t .base)
     found-routine = seek-routine code values base i (t .base) (t .next) (nr .is) h
@@ -250,7 +265,7 @@ module _ (code values : List ℕ) (base i : ℕ) (t : Taken) (nr : Nearest code 
           state-failed : (steps : ℕ) (out : List ℕ)
               → stateIn (h .P) (h .R) (set (cellsOf values) (windowOf (nr .is h .e) + failedCell) (t .next)) (nr .is h .e) (t .next) steps out
               ≡ onTop (setFailed (optionally (t .next))) (stateIn (h .P) (h .R) (cellsOf values) (nr .is h .e) (t .next) steps out)
-          unfolding at-call come
+          unfolding at-call come-here
           state-failed steps out = call-failed (h .P) (h .R) (cellsOf values) (nr .is h .e) (roomy (at-call h)) (t .next) (t .next) steps out
 
           taken-state : (steps : ℕ) (out : List ℕ)
@@ -277,7 +292,7 @@ module _ (code values : List ℕ) (base i : ℕ) (t : Taken) (nr : Nearest code 
               ap (λ (cs : List Call). withCalls cs (stateIn (h .P) (h .R) (cellsOf values) e j steps out)) calls-are ∙ sym (taken-state steps out)
 
           named-x : isNamed (codeOfCall (h .P) (h .R) (cellsOf values) (nr .is h .e) .steps) x ≡ true
-          unfolding at-call come
+          unfolding at-call come-here
           named-x =
               let q = at-call h in
               routine-holds code values (t .base) (t .next) q .closed .handles x (handler-is code values (t .base) (t .next) q ∙ ap optionally (sym ex) ∙ positive x d)
@@ -347,12 +362,12 @@ module _ (r : ℤ) (f : SFits w64 r) (a : Raises r) where
 
 -- ERRNO is set
 module _ (code values mid : List ℕ) (base i e : ℕ) (p : Put values mid errnoCell e) (h : Here code values base i) (l : e < answers) where
-  pub errno-here : Here code mid base i
+  abbrev pub errno-here : Here code mid base i
   errno-here =
       elsewhere h mid (h .d) base i (put-length p (omega (arith, h .values-size))) (h .deep) (h .base-is)
       (rw (p .words) (live-errno (h .P) (h .R) (cellsOf values) (h .d) errnoCell e i (h .live) refl (omega (arith, length-words values, h .values-size)) (omega arith)))
 
-  errno-state : (steps : ℕ) (out : List ℕ) → stateIn (h .P) (h .R) (cellsOf mid) (h .d) i steps out ≡ withErrno e (stateIn (h .P) (h .R) (cellsOf values) (h .d) i steps out)
+  pub errno-state : (steps : ℕ) (out : List ℕ) → stateIn (h .P) (h .R) (cellsOf mid) (h .d) i steps out ≡ withErrno e (stateIn (h .P) (h .R) (cellsOf values) (h .d) i steps out)
   errno-state steps out = rw (p .words) (errno-cell (h .P) (h .R) (cellsOf values) (h .d) (roomy h) e i steps out)
 
 -- what `arising` comes to
@@ -390,7 +405,7 @@ module _ (code values : List ℕ) (base i : ℕ) (r : ℤ) (f : SFits w64 r) (a 
     arise-here h = errno-here code values mid base i (natAbs (read r) - firstError) p h (omega (arith, raised-is r f a t, raised r f a t .low))
 
     pub arise-fails : Here code values base i → (after : List ℕ) (k : Taken) → Unwound code mid after base i k → Arisen code values after base i r k
-    unfolding arise-here errno-here
+    unfolding arise-here
     arise-fails h₀ after k u = record {
       long = u .long ∙ put-length p (omega (arith, h₀ .values-size));
       kept = λ c x y. u .kept c x y ∙ ap (λ (w : List ℕ). getD w c 0) (p .words) ∙ getD-set-other (cellsOf values) errnoCell c (natAbs (read r) - firstError) 0 (λ z. omega arith);

@@ -2,27 +2,23 @@
 use mathlib.Core.Path.{_≡_}
 use mathlib.Core.Bool.{true}
 use mathlib.Core.List.{List, _∷_}
-use mathlib.Core.Option.{none, some}
+use mathlib.Core.Option.{Option, none, some}
 use Prim.Native.Nat.{ℕ, _+_, _*_, _<_, _≤_}
 use lib.ListN.{length, getD}
 use lib.IntN.{ℤ, pos}
 use Rattle.paper.specs.Steps.{Program}
-use Rattle.paper.specs.States.{withCalls}
+use Rattle.paper.specs.States.{Call, withCalls}
 use Rattle.paper.specs.Running.{caught, Outcome, goesOn, stopping, arising}
 use Rattle.store_cells.specs.Cells.{cellsOf}
 use Rattle.code.specs.Cells.{windowOf, linkAt, errnoCell}
 use Rattle.code.specs.Steps.{Head}
-use Rattle.code.specs.Windows.{routineCell, writtenCell, usedCell, callIn, waiting, stateIn}
+use Rattle.code.specs.Windows.{routineCell, callIn, waiting, stateIn}
 use Rattle.layout.specs.Answers.{firstError, answers}
 use Rattle.run_errors.specs.declared.Taken.{Taken}
 use Rattle.run_machine.specs.Live.{Live}
-use Rattle.run_machine.specs.Machine.{depthLimit, handed, Here}
+use Rattle.run_machine.specs.Machine.{depthLimit, handed, Here, KeepsRun}
 
 -- ---- an error
--- The cells of the run's output and inputs are as they were.
-abbrev pub KeepsRun : (X X′ : List ℕ) → Type 0
-KeepsRun X X′ = (c : ℕ) → writtenCell ≤ c → c ≤ usedCell → getD X′ c 0 ≡ getD X c 0
-
 -- the window at b has a word of the code store for its routine
 pub record HasRoutine (code values : List ℕ) (b : ℕ) : Type 0 where
   pub cell : (b + routineCell) * 4 + 4 ≤ length values
@@ -31,16 +27,17 @@ pub record HasRoutine (code values : List ℕ) (b : ℕ) : Type 0 where
 abbrev pub handlerAt : (code values : List ℕ) → (b : ℕ) → ℕ
 handlerAt code values b = linkAt (cellsOf code) (getD (cellsOf values) (b + routineCell) 0 + 1)
 
--- The calls above step s of the call with its window at b do not take an error that step i of the call with d callers has.
-pub record Seeks (P : Program) (R : List Head) (X : List ℕ) (d i b s : ℕ) : Type 0 where
+-- What is asked of the calls hangs on none above step s of the call with its window at b, where the newest, which has d callers, is at step i.
+pub record Seeks (A : Type 0) (ask : List Call → A) (P : Program) (R : List Head) (X : List ℕ) (d i b s : ℕ) : Type 0 where
   pub e : ℕ
   pub up : e ≤ d
   pub base-is : b ≡ windowOf e
   pub live : Live P R X e s
-  pub rest : caught P (callIn P R X (windowOf d) i ∷ waiting P R X d) ≡ caught P (callIn P R X (windowOf e) s ∷ waiting P R X e)
+  pub rest : ask (callIn P R X (windowOf d) i ∷ waiting P R X d) ≡ ask (callIn P R X (windowOf e) s ∷ waiting P R X e)
 
+-- here: who takes an error
 pub record Nearest (code values : List ℕ) (base i : ℕ) (t : Taken) : Type 0 where
-  pub is : (h : Here code values base i) → Seeks (h .P) (h .R) (cellsOf values) (h .d) i (t .base) (t .next)
+  pub is : (h : Here code values base i) → Seeks (Option (List Call)) (caught (h .P)) (h .P) (h .R) (cellsOf values) (h .d) i (t .base) (t .next)
   pub main : handlerAt code values (t .base) ≡ 0 → t .base ≡ windowOf 0
 
 -- By what step of what call an error is taken that arises in step i of the call with d callers, or that it hands on while it waits there: 0 where the run dies.

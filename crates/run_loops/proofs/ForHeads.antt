@@ -25,14 +25,14 @@ use Rattle.code.specs.Cells.{opAt, valueAt, linkAt, windowOf}
 use Rattle.code.specs.Spans.{termIn, memoryIn}
 use Rattle.code.specs.Steps.{aStep, forStep, aFor}
 use Rattle.code.specs.Closed.{isNamed, Named, targetsOf, LoopFits}
-use Rattle.code.specs.Windows.{routineCell, stateIn, endsCell, stepsCell, writtenCell, usedCell}
+use Rattle.code.specs.Windows.{routineCell, stateIn, endsCell, stepsCell}
 use Rattle.code.proofs.Spanning.{span-grows}
 use Rattle.store_evaluation.specs.Answers.{firstError, decoded, Stands, Evaluated}
 use Rattle.store_evaluation.proofs.Places.{op-in, value-in, link-in}
 use Rattle.store_evaluation.proofs.Numbers.{is-value, is-error, not-less}
 use Rattle.store_reading.specs.Reading.{valueEnd, halfEnd, Part, Stored}
 use Rattle.run_machine.specs.Live.{slotsOfCall, codeOfCall, Live}
-use Rattle.run_machine.specs.Machine.{Here, Comes, goesOn, fails, effectAt, Performs, Says}
+use Rattle.run_machine.specs.Machine.{Here, Comes, goesOn, fails, effectAt, KeepsRun, Performs, Says}
 use Rattle.run_loops.specs.Loops.{ForSteps, stepWorth, StepGiven, DoAt, Begins}
 use Rattle.raised.proofs.Raised.{errors, worth-error}
 use Rattle.run_machine.proofs.Actions.{EntersFor, reads-for, no-step}
@@ -289,7 +289,7 @@ module _ (code values : List ℕ) (base i t : ℕ) (q : Says code i aFor t) wher
                       Y-code : codeOfCall (h .P) (h .R) Y (h .d) ≡ codeHere code values base i h
                       Y-code = routine-code (h .P) (h .R) (cellsOf values) Y (h .d) (Y-same (windowOf (h .d) + routineCell) (λ e. omega (arith, t-room, h .base-is)) (λ e. omega (arith, t-room, h .base-is)))
 
-                      Y-kept : (j : ℕ) → writtenCell ≤ j → j ≤ usedCell → Same (cellsOf values) Y j
+                      Y-kept : KeepsRun (cellsOf values) Y
                       Y-kept j x y = Y-same j (λ e. omega (arith, t-room, h .base-is)) (λ e. omega (arith, t-room, h .base-is))
 
                       Y-state : (rooms : Rooms) (steps : ℕ) (out : List ℕ) → onTop (setLoop t (record { end = b; step = c })) (S h rooms steps out) ≡ stateIn (h .P) (h .R) Y (h .d) i steps out

@@ -12,10 +12,10 @@ use borrow.Author.Tests.{eq-eqb, ne-eqb, lt-ltb, le-ltb, ltb-true, ltb-false, le
 use Rattle.laws.proofs.Tests.{test, by-most, false-true}
 use Rattle.paper.specs.Basics.{if_then_else_}
 use Rattle.paper.specs.Terms.{ofModule, ofRoutine, Term}
-use Rattle.paper.specs.Steps.{Spot, scalar, elementOf, Action, store, callFor, callOf, giveBack, raise, handOn, exit, retry, tryNext, write, read, choose, select, testWhile, enterFor, repeatFor, endList, unquoted}
+use Rattle.paper.specs.Steps.{Spot, scalar, elementOf, Action, store, callFor, callOf, giveBack, raise, handOn, exit, retry, tryNext, write, read, choose, select, testWhile, enterFor, repeatFor, endList, endUndo, unquoted}
 use Rattle.code.specs.Cells.{opAt, valueAt, placeAt, linkAt}
 use Rattle.code.specs.Spans.{guard, _then_, firstIn, sizeIn, termIn}
-use Rattle.code.specs.Steps.{aTarget, aCallTarget, anElseIf, aStep, aNextArgument, aProcedureCall, aReturnOf, aReturn, aRaiseOf, aRaise, anExit, aRetry, aTryNext, aWrite, aWriteOf, aRead, aCompactIf, anIf, aWhile, aFor, aForTest, aTest, anEnd, aFunctionEnd}
+use Rattle.code.specs.Steps.{aTarget, aCallTarget, anElseIf, aStep, aNextArgument, aProcedureCall, aReturnOf, aReturn, aRaiseOf, aRaise, anExit, aRetry, aTryNext, aWrite, aWriteOf, aRead, aCompactIf, anIf, aWhile, aFor, aForTest, aTest, anEnd, aFunctionEnd, anUndoEnd}
 use Rattle.code.specs.Steps.{Head, noHead, numbered, agree, parts, scalarIn, elementIn, targetIn, argumentsIn, anyArguments, calleeIn, charactersIn, conditionsIn, casesIn, forStep, forIn}
 use Rattle.code.specs.Steps.{linked, storeIn, callForIn, callOfIn, withTerm, writeIn, writeOfIn, readIn, compactIfIn, ifIn, whileIn, forTestIn, testIn, actionIn}
 use Rattle.code.proofs.Options.{none-some, same-some, guarded, went}
@@ -409,9 +409,9 @@ module _ (m n : ℕ) (function : Bool) (text : List ℕ) (R : List Head) (C : Li
       pub after-is : after ≡ linkAt C i
       pub does-is : does ≡ select e cs o
 
-    pub record Ends : Type 0 where
+    pub record Ends (a : Action) : Type 0 where
       pub after-is : after ≡ i
-      pub does-is : does ≡ endList
+      pub does-is : does ≡ a
 
     module _ (e : actionIn m n function text R C i ≡ some (after, does)) where
       pub reads-store : aTarget ≤ opAt C i → opAt C i < aCallTarget → Stores
@@ -590,12 +590,12 @@ module _ (m n : ℕ) (function : Bool) (text : List ℕ) (R : List Head) (C : Li
           let p = plain (select (g .a) (d .a .0) (d .a .1)) (d .next) in
           record { e = g .a; reads = g .first; cs = d .a .0; o = d .a .1; cases = d .first; after-is = p .after-is; does-is = p .does-is }
 
-      ends-with : (b : Bool) → guard {A = ℕ × Action} b (i, endList) ≡ some (after, does) → (b ≡ true) × Ends
+      ends-with : (b : Bool) → guard {A = ℕ × Action} b (i, endList) ≡ some (after, does) → (b ≡ true) × Ends endList
       ends-with b q =
           let g = guarded b (i, endList) (after, does) q in
           (g .holds, record { after-is = sym (ap (λ (y : ℕ × Action). y .0) (g .is)); does-is = sym (ap (λ (y : ℕ × Action). y .1) (g .is)) })
 
-      pub reads-end : opAt C i ≡ anEnd → Ends
+      pub reads-end : opAt C i ≡ anEnd → Ends endList
       unfolding actionIn
       reads-end h = ends-with (not function) (rw (h, actionIn) at e) .1
 
@@ -603,7 +603,7 @@ module _ (m n : ℕ) (function : Bool) (text : List ℕ) (R : List Head) (C : Li
       unfolding actionIn
       end-function h = not-is function (ends-with (not function) (rw (h, actionIn) at e) .0)
 
-      pub reads-function-end : opAt C i ≡ aFunctionEnd → Ends
+      pub reads-function-end : opAt C i ≡ aFunctionEnd → Ends endList
       unfolding actionIn
       reads-function-end h = ends-with function (rw (h, actionIn) at e) .1
 
@@ -611,14 +611,20 @@ module _ (m n : ℕ) (function : Bool) (text : List ℕ) (R : List Head) (C : Li
       unfolding actionIn
       function-end-function h = ends-with function (rw (h, actionIn) at e) .0
 
+      pub reads-undo-end : opAt C i ≡ anUndoEnd → Ends endUndo
+      unfolding actionIn
+      reads-undo-end h =
+          let q : _≡_ {A = Option (ℕ × Action)} (some (i, endUndo)) (some (after, does)) = rw (h, actionIn) at e in
+          record { after-is = first-is i endUndo (after, does) q; does-is = second-is i endUndo (after, does) q }
+
       -- a step's op is one of these
       pub op-low : aTarget ≤ opAt C i
       unfolding actionIn
       op-low = test (ltb (opAt C i) aTarget) (λ t. none-some (after, does) (rw (t, actionIn) at e)) (λ t. omega (arith, ltb-false (opAt C i) aTarget t))
 
-      pub op-high : opAt C i ≤ aFunctionEnd
+      pub op-high : opAt C i ≤ anUndoEnd
       unfolding actionIn
-      op-high = by-most (opAt C i) aFunctionEnd (λ h. h) (λ h. none-some (after, does) (rw (
+      op-high = by-most (opAt C i) anUndoEnd (λ h. h) (λ h. none-some (after, does) (rw (
         le-ltb (opAt C i) aCallTarget (omega arith),
         le-ltb (opAt C i) aProcedureCall (omega arith),
         ne-eqb (opAt C i) aProcedureCall (λ q. omega arith),
@@ -640,4 +646,5 @@ module _ (m n : ℕ) (function : Bool) (text : List ℕ) (R : List Head) (C : Li
         ne-eqb (opAt C i) aTest (λ q. omega arith),
         ne-eqb (opAt C i) anEnd (λ q. omega arith),
         ne-eqb (opAt C i) aFunctionEnd (λ q. omega arith),
+        ne-eqb (opAt C i) anUndoEnd (λ q. omega arith),
       ) at (rw (le-ltb (opAt C i) aTarget (omega arith), actionIn) at e)))

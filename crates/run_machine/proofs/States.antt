@@ -20,7 +20,7 @@ use Rattle.store_cells.proofs.Laws.{length-words}
 use Rattle.code.specs.Cells.{windowOf, firstWindow, errnoCell}
 use Rattle.code.specs.Steps.{Head, numbered}
 use Rattle.code.specs.Holds.{optionally, Holds}
-use Rattle.code.specs.Windows.{endsCell, stepsCell, routineCell, waitsCell, afterCell, failedCell, resultCell, writtenCell, usedCell, loopsFrom, callIn, waiting, writtenIn, stateIn}
+use Rattle.code.specs.Windows.{endsCell, stepsCell, routineCell, waitsCell, afterCell, failedCell, resultCell, writtenCell, usedCell, countAt, loopsFrom, callIn, waiting, writtenIn, stateIn}
 use Rattle.store_reading.specs.Reading.{cellValues}
 use Rattle.store_evaluation.specs.Answers.{callSlots}
 use Rattle.run_machine.specs.Live.{slotsOfCall, cellOfCall, codeOfCall, Waits}
@@ -59,19 +59,22 @@ pub record SameRun (X Y : List ℕ) : Type 0 where
   pub errno : Same X Y errnoCell
   pub written : Same X Y writtenCell
   pub written-high : Same X Y (suc writtenCell)
-  pub used : Same X Y usedCell
+  pub used : countAt Y usedCell ≡ countAt X usedCell
+
+pub count-same : (X Y : List ℕ) (c : ℕ) → Same X Y c → Same X Y (suc c) → countAt Y c ≡ countAt X c
+count-same X Y c a b = ap₂ (λ (x y : ℕ). x + cellValues * y) a b
 
 pub run-in : (X Y : List ℕ) → SameIn X Y writtenCell (errnoCell + 1) → SameRun X Y
 run-in X Y s = record {
   errno = s errnoCell (omega arith) (omega arith);
   written = s writtenCell (omega arith) (omega arith);
   written-high = s (suc writtenCell) (omega arith) (omega arith);
-  used = s usedCell (omega arith) (omega arith);
+  used = count-same X Y usedCell (s usedCell (omega arith) (omega arith)) (s (suc usedCell) (omega arith) (omega arith));
 }
 
 pub written-same : (P : Program) (R : List Head) (X Y : List ℕ) → Same X Y writtenCell → Same X Y (suc writtenCell) → writtenIn P R Y ≡ writtenIn P R X
 unfolding writtenIn
-written-same P R X Y a b = ap₂ (λ (x y : ℕ). x + cellValues * y) a b
+written-same P R X Y a b = count-same X Y writtenCell a b
 
 pub module-same : (P : Program) (X Y : List ℕ) → length Y ≡ length X → SameIn X Y 0 (length (P .words)) → map (toZ w32) (take (length (P .words)) Y) ≡ map (toZ w32) (take (length (P .words)) X)
 module-same P X Y long s = ap (map (toZ w32)) (part-same X Y long 0 (length (P .words)) (λ c l m. s c l (omega arith)))
@@ -109,7 +112,7 @@ module _ (P : Program) (R : List Head) (X : List ℕ) where
           steps = steps;
           errno = getD X errnoCell 0;
           output = take (writtenIn P R X) out;
-          used = getD X usedCell 0;
+          used = countAt X usedCell;
         }) e
 
   -- the caller that goes on
@@ -128,7 +131,7 @@ module _ (P : Program) (R : List Head) (X : List ℕ) where
         steps = steps;
         errno = getD X errnoCell 0;
         output = take (writtenIn P R X) out;
-        used = getD X usedCell 0;
+        used = countAt X usedCell;
       }) (sym (resumed e w))
 
 -- ---- what a write does to a call
@@ -330,37 +333,66 @@ module _ (P : Program) (R : List Head) (X : List ℕ) (d : ℕ) (g : Roomy P X d
       refl
       (getD-set-same X errnoCell e 0 (omega (arith, g .long)))
       (ap (λ (w : ℕ). take w out) (written-same P R X Y (o writtenCell (λ q. omega arith)) (o (suc writtenCell) (λ q. omega arith))))
-      (o usedCell (λ q. omega arith))
+      (count-same X Y usedCell (o usedCell (λ q. omega arith)) (o (suc usedCell) (λ q. omega arith)))
+
+  -- two cells above the module's words and the calls, as a count has them
+  module _ (c a b : ℕ) (low : writtenCell ≤ c) (high : suc c < errnoCell) where
+    abbrev Z : List ℕ
+    Z = set X c a
+
+    abbrev pub withPair : List ℕ
+    withPair = set Z (suc c) b
+
+    pair-long : length withPair ≡ length X
+    pair-long = length-set Z (suc c) b ∙ length-set X c a
+
+    pair-other : (k : ℕ) → (k ≡ c → ⊥) → (k ≡ suc c → ⊥) → Same X withPair k
+    pair-other k x y = set-same Z (suc c) b k y ∙ set-same X c a k x
+
+    pair-count : countAt withPair c ≡ a + cellValues * b
+    pair-count =
+        ap₂ (λ (x y : ℕ). x + cellValues * y)
+        (set-same Z (suc c) b c (λ q. omega arith) ∙ getD-set-same X c a 0 (omega (arith, g .long)))
+        (getD-set-same Z (suc c) b 0 (omega (arith, length-set X c a, g .long)))
+
+    pair-words : map (toZ w32) (take (length (P .words)) withPair) ≡ map (toZ w32) (take (length (P .words)) X)
+    pair-words = module-same P X withPair pair-long (λ k l m. pair-other k (λ q. omega (arith, g .words)) (λ q. omega (arith, g .words)))
+
+    pair-calls : (i : ℕ) → callIn P R withPair (windowOf d) i ∷ waiting P R withPair d ≡ callIn P R X (windowOf d) i ∷ waiting P R X d
+    pair-calls i = calls-same withPair pair-long (λ e m k x y. pair-other k (λ q. omega arith) (λ q. omega arith)) i
+
+    pair-errno : Same X withPair errnoCell
+    pair-errno = pair-other errnoCell (λ q. omega arith) (λ q. omega arith)
 
   -- inputs used
-  pub used-cell : (u i steps : ℕ) (out : List ℕ) → u ≡ getD X usedCell 0 + 1 → stateIn P R (set X usedCell u) d i steps out ≡ withInput (stateIn P R X d i steps out)
+  pub used-cells : (a b i steps : ℕ) (out : List ℕ) → a + cellValues * b ≡ countAt X usedCell + 1
+      → stateIn P R (set (set X usedCell a) (suc usedCell) b) d i steps out ≡ withInput (stateIn P R X d i steps out)
   unfolding stateIn
-  used-cell u i steps out e =
-      let Y : List ℕ = set X usedCell u in
-      let o : (c : ℕ) → (c ≡ usedCell → ⊥) → Same X Y c = set-same X usedCell u in
+  used-cells a b i steps out e =
+      let low : writtenCell ≤ usedCell = omega arith in
+      let high : suc usedCell < errnoCell = omega arith in
+      let Y : List ℕ = withPair usedCell a b low high in
       state-eq (stateIn P R Y d i steps out) (withInput (stateIn P R X d i steps out))
-      (module-same P X Y (length-set X usedCell u) (λ c l m. o c (λ q. omega (arith, g .words))))
-      (calls-same Y (length-set X usedCell u) (λ a m c x y. o c (λ q. omega arith)) i)
+      (pair-words usedCell a b low high)
+      (pair-calls usedCell a b low high i)
       refl
-      (o errnoCell (λ q. omega arith))
-      (ap (λ (w : ℕ). take w out) (written-same P R X Y (o writtenCell (λ q. omega arith)) (o (suc writtenCell) (λ q. omega arith))))
-      (getD-set-same X usedCell u 0 (omega (arith, g .long)) ∙ e)
+      (pair-errno usedCell a b low high)
+      (ap (λ (w : ℕ). take w out)
+      (written-same P R X Y (pair-other usedCell a b low high writtenCell (λ q. omega arith) (λ q. omega arith)) (pair-other usedCell a b low high (suc writtenCell) (λ q. omega arith) (λ q. omega arith))))
+      (pair-count usedCell a b low high ∙ e)
 
   -- bytes written, and output whose first bytes are those
   pub written-cells : (a b i steps : ℕ) (out out′ : List ℕ)
       → stateIn P R (set (set X writtenCell a) (suc writtenCell) b) d i steps out′ ≡ withOutput (take (a + cellValues * b) out′) (stateIn P R X d i steps out)
   unfolding stateIn writtenIn
   written-cells a b i steps out out′ =
-      let Z : List ℕ = set X writtenCell a in
-      let Y : List ℕ = set Z (suc writtenCell) b in
-      let long : length Y ≡ length X = length-set Z (suc writtenCell) b ∙ length-set X writtenCell a in
-      let o : (c : ℕ) → (c ≡ writtenCell → ⊥) → (c ≡ suc writtenCell → ⊥) → Same X Y c = λ c x y. set-same Z (suc writtenCell) b c y ∙ set-same X writtenCell a c x in
-      let ea : getD Y writtenCell 0 ≡ a = set-same Z (suc writtenCell) b writtenCell (λ q. omega arith) ∙ getD-set-same X writtenCell a 0 (omega (arith, g .long)) in
-      let eb : getD Y (suc writtenCell) 0 ≡ b = getD-set-same Z (suc writtenCell) b 0 (omega (arith, length-set X writtenCell a, g .long)) in
+      let low : writtenCell ≤ writtenCell = omega arith in
+      let high : suc writtenCell < errnoCell = omega arith in
+      let Y : List ℕ = withPair writtenCell a b low high in
       state-eq (stateIn P R Y d i steps out′) (withOutput (take (a + cellValues * b) out′) (stateIn P R X d i steps out))
-      (module-same P X Y long (λ c l m. o c (λ q. omega (arith, g .words)) (λ q. omega (arith, g .words))))
-      (calls-same Y long (λ e m c x y. o c (λ q. omega arith) (λ q. omega arith)) i)
+      (pair-words writtenCell a b low high)
+      (pair-calls writtenCell a b low high i)
       refl
-      (o errnoCell (λ q. omega arith) (λ q. omega arith))
-      (ap₂ (λ (x y : ℕ). take (x + cellValues * y) out′) ea eb)
-      (o usedCell (λ q. omega arith) (λ q. omega arith))
+      (pair-errno writtenCell a b low high)
+      (ap (λ (w : ℕ). take w out′) (pair-count writtenCell a b low high))
+      (count-same X Y usedCell (pair-other writtenCell a b low high usedCell (λ q. omega arith) (λ q. omega arith)) (pair-other writtenCell a b low high (suc usedCell) (λ q. omega arith) (λ q. omega arith)))

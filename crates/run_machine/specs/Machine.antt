@@ -10,11 +10,10 @@ use Rattle.paper.specs.Steps.{Program}
 use Rattle.paper.specs.States.{Rooms, Effect, made, failing, handing, ending, lacking}
 use Rattle.paper.specs.Running.{nextStep, perform}
 use Rattle.store_cells.specs.Cells.{cellsOf}
-use Rattle.code.specs.Cells.{windowOf, opAt, valueAt, placeAt}
+use Rattle.code.specs.Cells.{windowOf, opAt, valueAt, placeAt, errnoCell}
 use Rattle.code.specs.Steps.{Head}
 use Rattle.code.specs.Holds.{Holds}
-use Rattle.code.specs.Windows.{callIn, waiting, writtenIn, stateIn, writtenCell, usedCell}
-use Rattle.store_reading.specs.Reading.{cellValues}
+use Rattle.code.specs.Windows.{callIn, waiting, writtenIn, stateIn, writtenCell}
 use Rattle.layout.specs.Answers.{firstError, answers}
 use Rattle.layout.specs.Rules.{fellOff, beyondDepth, noRoom}
 -- the sizes of what is lent, and what a step answers
@@ -71,20 +70,24 @@ pub record LastWindow (rooms : Rooms) (last : ℕ) : Type 0 where
   pub is : last ≡ windowOf (rooms .depth - 1)
 
 -- ---- what it promises
+-- The counts of the run, of output and inputs, are as they were.
+abbrev pub KeepsRun : (X X′ : List ℕ) → Type 0
+KeepsRun X X′ = (c : ℕ) → writtenCell ≤ c → c < errnoCell → getD X′ c 0 ≡ getD X c 0
+
 -- A step that makes no output and no call.
 pub record Performs (code values after : List ℕ) (base i : ℕ) (r : ℤ) : Type 0 where
   pub long : length after ≡ length values
   pub does : (h : Here code values base i) (rooms : Rooms) (steps : ℕ) (out : List ℕ) →
       Comes (h .P) (h .R) (cellsOf code) (h .offset) (h .d) i steps (cellsOf values) (cellsOf after) out out (effectAt (h .P) (h .R) rooms (cellsOf values) (h .d) i steps out) r
   -- output and inputs are not touched
-  pub kept : (c : ℕ) → writtenCell ≤ c → c ≤ usedCell → getD (cellsOf after) c 0 ≡ getD (cellsOf values) c 0
+  pub kept : KeepsRun (cellsOf values) (cellsOf after)
 
 -- A call.
 pub record Calls (code values after : List ℕ) (base last i : ℕ) (r : ℤ) : Type 0 where
   pub long : length after ≡ length values
   pub does : (h : Here code values base i) (rooms : Rooms) → LastWindow rooms last → (steps : ℕ) (out : List ℕ) →
       Comes (h .P) (h .R) (cellsOf code) (h .offset) (h .d) i steps (cellsOf values) (cellsOf after) out out (effectAt (h .P) (h .R) rooms (cellsOf values) (h .d) i steps out) r
-  pub kept : (c : ℕ) → writtenCell ≤ c → c ≤ usedCell → getD (cellsOf after) c 0 ≡ getD (cellsOf values) c 0
+  pub kept : KeepsRun (cellsOf values) (cellsOf after)
 
 -- ---- any step
 -- what a run lends besides its steps and its depth
@@ -98,8 +101,6 @@ pub record Steps (text code values out : List ℕ) (base last i : ℕ) : Type 0 
   pub rooms : Rooms
   pub deepest : LastWindow rooms last
   pub written : writtenIn (here .P) (here .R) (cellsOf values) ≤ length out
-  -- another one can be counted
-  pub used : getD (cellsOf values) usedCell 0 + 1 < cellValues
 
 pub record Stepped (text code values after inputs out out′ : List ℕ) (base last i : ℕ) (r : ℤ) : Type 0 where
   pub long : length after ≡ length values
@@ -110,4 +111,3 @@ pub record Stepped (text code values after inputs out out′ : List ℕ) (base l
   pub grows : (P : Program) (R : List Head) → writtenIn P R (cellsOf values) ≤ writtenIn P R (cellsOf after)
   pub written : (P : Program) (R : List Head) → writtenIn P R (cellsOf after) ≤ length out
   pub past : (P : Program) (R : List Head) → drop (writtenIn P R (cellsOf after)) out′ ≡ drop (writtenIn P R (cellsOf after)) out
-  pub used : getD (cellsOf after) usedCell 0 ≤ getD (cellsOf values) usedCell 0 + 1

@@ -5,7 +5,7 @@ use Prim.Native.Nat.{ℕ, suc, _+_, _-_, _*_, _/_, _%_, _≤_, _<_}
 use native.Mathlib.Nat.{add-zero}
 use native.Mathlib.Numerals.{add-one}
 use native.Mathlib.Omega.{arith}
-use lib.ListN.{length, take, drop, set, length-append, length-drop, take-append-drop, drop-of-length-le, List·getD-eq-default}
+use lib.ListN.{length, getD, take, drop, set, length-append, length-drop, take-append-drop, drop-of-length-le, List·getD-eq-default}
 use lib.Seq.{take-nil, set-split, append-snoc}
 use lib.IntN.{ℤ}
 use mir.Syntax.{w64}
@@ -28,13 +28,19 @@ use Rattle.store_reading.specs.Reading.{cellValues, valueEnd}
 use Rattle.store_evaluation.specs.Parts.{addresses}
 use Rattle.store_evaluation.proofs.Places.{value-in}
 use Rattle.layout.specs.Parts.{charactersPart}
-use Rattle.code.specs.Windows.{writtenCell}
+use Rattle.code.specs.Windows.{writtenCell, countAt}
 use Rattle.run_output.specs.Output.{countIn, withCount, Counted, Spelled, charactersAt, Placed, lineAt, lineOf, HasRoom, Added}
 
-pub counted : (before mid after : List ℕ) (n : ℕ) → suc (suc writtenCell) * 4 ≤ length before → Put before mid writtenCell (n % cellValues) → Put mid after (suc writtenCell) (n / cellValues) → Counted before after n
-counted before mid after n h p q =
+next-is : (c : ℕ) → c + 1 ≡ suc c
+next-is c = omega arith
+
+pub count-of : (X : List ℕ) (c a b : ℕ) → a ≡ getD X c 0 → b ≡ getD X (c + 1) 0 → a + cellValues * b ≡ countAt X c
+count-of X c a b x y = ap₂ (λ (m n : ℕ). m + cellValues * n) x (y ∙ ap (λ (k : ℕ). getD X k 0) (next-is c))
+
+pub counted : (before mid after : List ℕ) (c n : ℕ) → suc (suc c) * 4 ≤ length before → Put before mid c (n % cellValues) → Put mid after (c + 1) (n / cellValues) → Counted before after c n
+counted before mid after c n h p q =
     let l : length mid ≡ length before = put-length p (omega arith) in
-    record { words = q .words ∙ ap (λ (x : List ℕ). set x (suc writtenCell) (n / cellValues)) (p .words); long = put-length q (omega arith) ∙ l }
+    record { words = q .words ∙ ap₂ (λ (x : List ℕ) (k : ℕ). set x k (n / cellValues)) (p .words) (next-is c); long = put-length q (omega arith) ∙ l }
 
 empty-of : (l : List ℕ) → length l ≡ 0 → l ≡ []
 empty-of [] e = refl
@@ -134,11 +140,11 @@ module _ (text C values out : List ℕ) (i : ℕ) (f : HasRoom values out (lineA
     pub line-room : e < length out1
     line-room = omega (arith, out1-length, f .room, line-length, p .place)
 
-    pub line-done : (after : List ℕ) → Counted values after (e + 1) → Added values after out (set out1 e LF) (lineAt text C i)
+    pub line-done : (after : List ℕ) → Counted values after writtenCell (e + 1) → Added values after out (set out1 e LF) (lineAt text C i)
     line-done after c =
         let q : e + 1 ≡ countIn (cellsOf values) + length (lineAt text C i) = omega (arith, line-length, p .place) in
         record {
-          count = record { words = c .words ∙ ap (withCount (cellsOf values)) q; long = c .long };
+          count = record { words = c .words ∙ ap (withCount (cellsOf values) writtenCell) q; long = c .long };
           bytes =
               ap₂ (λ (x : List ℕ) (j : ℕ). set x j LF) (p .bytes) (p .place)
               ∙ one-more out (charactersAt text C i) w LF (omega (arith, f .room, line-length))
@@ -191,13 +197,13 @@ module _ (text C values out : List ℕ) (i : ℕ) (z : ℤ) (s : SFits w64 z) (f
       pub of-room : e + n < length out2
       of-room = omega (arith, of2-length, f .room, of-length, p .place, n-is)
 
-      pub of-done : (after : List ℕ) → Counted values after (e + n + 1) → Added values after out (set out2 (e + n) LF) (lineOf text C i z)
+      pub of-done : (after : List ℕ) → Counted values after writtenCell (e + n + 1) → Added values after out (set out2 (e + n) LF) (lineOf text C i z)
       of-done after c =
           let l = length-append (charactersAt text C i) (decimal z) in
           let k : e + n + 1 ≡ countIn (cellsOf values) + length (lineOf text C i z) = omega (arith, of-length, p .place, n-is) in
           let j : e + n ≡ w + length (charactersAt text C i ++ decimal z) = omega (arith, p .place, n-is, l) in
           record {
-            count = record { words = c .words ∙ ap (withCount (cellsOf values)) k; long = c .long };
+            count = record { words = c .words ∙ ap (withCount (cellsOf values) writtenCell) k; long = c .long };
             bytes =
                 ap₂ (λ (x : List ℕ) (j : ℕ). set x j LF) number-placed j
                 ∙ one-more out (charactersAt text C i ++ decimal z) w LF (omega (arith, f .room, of-length, l))

@@ -23,12 +23,12 @@ use Rattle.store_cells.specs.Cells.{cellsOf}
 use Rattle.store_cells.proofs.Laws.{length-words}
 use Rattle.code.specs.Cells.{opAt, valueAt, linkAt}
 use Rattle.code.specs.Steps.{Head, aWrite}
-use Rattle.code.specs.Windows.{writtenCell, usedCell, writtenIn, stateIn}
+use Rattle.code.specs.Windows.{writtenCell, usedCell, countAt, writtenIn, stateIn}
 use Rattle.store_reading.specs.Reading.{cellValues}
 use Rattle.run_machine.specs.Live.{Live}
-use Rattle.run_machine.specs.Machine.{Here, LastWindow, Lends, Comes, goesOn, lacks, lackedBy, Stepped, effectAt}
+use Rattle.run_machine.specs.Machine.{Here, LastWindow, Lends, Comes, goesOn, lacks, lackedBy, KeepsRun, Stepped, effectAt}
 use Rattle.run_output.specs.Output.{countIn, withCount, charactersAt, Spells, lineAt, HasRoom, Added, Writes, Wrote}
-use Rattle.run_machine.proofs.States.{roomy, goes-to, written-cells}
+use Rattle.run_machine.proofs.States.{roomy, count-same, goes-to, written-cells}
 use Rattle.run_machine.proofs.Living.{live-next, live-run}
 use Rattle.run_machine.proofs.Actions
 use Rattle.run_machine.proofs.Current as here
@@ -44,23 +44,20 @@ pub count-is : (P : Program) (R : List Head) (X : List ℕ) → writtenIn P R X 
 unfolding writtenIn
 count-is P R X = refl
 
-split-is : (n : ℕ) → n % cellValues + cellValues * (n / cellValues) ≡ n
+pub split-is : (n : ℕ) → n % cellValues + cellValues * (n / cellValues) ≡ n
 split-is n = omega arith
 
--- the two cells of the count
-module _ (X : List ℕ) (n : ℕ) (long : length X ≡ storeWords) where
-  pub count-set : countIn (withCount X n) ≡ n
+-- the two cells of a count
+module _ (X : List ℕ) (c n : ℕ) (long : suc c < length X) where
+  pub count-set : countAt (withCount X c n) c ≡ n
   count-set =
-      let Z = set X writtenCell (n % cellValues) in
-      let a : getD (withCount X n) writtenCell 0 ≡ n % cellValues =
-      getD-set-other Z (suc writtenCell) writtenCell (n / cellValues) 0 (λ q. omega arith) ∙ getD-set-same X writtenCell (n % cellValues) 0 (omega arith) in
-      let b : getD (withCount X n) (suc writtenCell) 0 ≡ n / cellValues = getD-set-same Z (suc writtenCell) (n / cellValues) 0 (omega (arith, length-set X writtenCell (n % cellValues))) in
+      let Z = set X c (n % cellValues) in
+      let a : getD (withCount X c n) c 0 ≡ n % cellValues = getD-set-other Z (suc c) c (n / cellValues) 0 (λ q. omega arith) ∙ getD-set-same X c (n % cellValues) 0 (omega arith) in
+      let b : getD (withCount X c n) (suc c) 0 ≡ n / cellValues = getD-set-same Z (suc c) (n / cellValues) 0 (omega (arith, length-set X c (n % cellValues))) in
       ap₂ (λ (x y : ℕ). x + cellValues * y) a b ∙ split-is n
 
-  pub used-kept : getD (withCount X n) usedCell 0 ≡ getD X usedCell 0
-  used-kept =
-      getD-set-other (set X writtenCell (n % cellValues)) (suc writtenCell) usedCell (n / cellValues) 0 (λ q. omega arith)
-      ∙ getD-set-other X writtenCell usedCell (n % cellValues) 0 (λ q. omega arith)
+pub count-kept : (X : List ℕ) (c n k : ℕ) → (k ≡ c → ⊥) → (k ≡ suc c → ⊥) → getD (withCount X c n) k 0 ≡ getD X k 0
+count-kept X c n k x y = getD-set-other (set X c (n % cellValues)) (suc c) k (n / cellValues) 0 y ∙ getD-set-other X c k (n % cellValues) 0 x
 
 -- ---- a line was added
 module _ (values after out out′ line : List ℕ) (a : Added values after out out′ line) (long : length values ≡ storeBytes) (fits : countIn (cellsOf values) + length line ≤ length out) where
@@ -68,10 +65,14 @@ module _ (values after out out′ line : List ℕ) (a : Added values after out o
   words-long = omega (arith, length-words values)
 
   pub added-count : countIn (cellsOf after) ≡ countIn (cellsOf values) + length line
-  added-count = ap countIn (a .count .words) ∙ count-set (cellsOf values) (countIn (cellsOf values) + length line) words-long
+  added-count = ap countIn (a .count .words) ∙ count-set (cellsOf values) writtenCell (countIn (cellsOf values) + length line) (omega (arith, words-long))
 
-  pub added-used : getD (cellsOf after) usedCell 0 ≡ getD (cellsOf values) usedCell 0
-  added-used = ap (λ (x : List ℕ). getD x usedCell 0) (a .count .words) ∙ used-kept (cellsOf values) (countIn (cellsOf values) + length line) words-long
+  pub added-kept : (c : ℕ) → (c ≡ writtenCell → ⊥) → (c ≡ suc writtenCell → ⊥) → getD (cellsOf after) c 0 ≡ getD (cellsOf values) c 0
+  added-kept c x y = ap (λ (z : List ℕ). getD z c 0) (a .count .words) ∙ count-kept (cellsOf values) writtenCell (countIn (cellsOf values) + length line) c x y
+
+  pub added-used : countAt (cellsOf after) usedCell ≡ countAt (cellsOf values) usedCell
+  added-used =
+      count-same (cellsOf values) (cellsOf after) usedCell (added-kept usedCell (λ q. omega arith) (λ q. omega arith)) (added-kept (suc usedCell) (λ q. omega arith) (λ q. omega arith))
 
   pub added-long : length out′ ≡ length out
   added-long = ap length (a .bytes) ∙ replaced-length out line (countIn (cellsOf values)) (length line) refl fits
@@ -130,7 +131,7 @@ module _ (code values : List ℕ) (base i : ℕ) (h : Here code values base i) (
 
 -- ---- a step that writes nothing, as any step
 module _ (text code values after inputs out : List ℕ) (base last i : ℕ) (r : ℤ) (long : length after ≡ length values)
-    (kept : (c : ℕ) → writtenCell ≤ c → c ≤ usedCell → getD (cellsOf after) c 0 ≡ getD (cellsOf values) c 0) (w : countIn (cellsOf values) ≤ length out) where
+    (kept : KeepsRun (cellsOf values) (cellsOf after)) (w : countIn (cellsOf values) ≤ length out) where
   same-count : countIn (cellsOf after) ≡ countIn (cellsOf values)
   same-count = ap₂ (λ (x y : ℕ). x + cellValues * y) (kept writtenCell (omega arith) (omega arith)) (kept (suc writtenCell) (omega arith) (omega arith))
 
@@ -144,7 +145,6 @@ module _ (text code values after inputs out : List ℕ) (base last i : ℕ) (r :
     grows = λ P R. rw (count-is P R (cellsOf after), count-is P R (cellsOf values)) (omega (arith, same-count));
     written = λ P R. rw (count-is P R (cellsOf after), same-count) w;
     past = λ P R. refl;
-    used = omega (arith, kept usedCell (omega arith) (omega arith));
   }
 
 -- ---- a step that adds a line
@@ -160,7 +160,6 @@ module _ (text code values after inputs out out′ line : List ℕ) (base last i
     grows = λ P R. rw (count-is P R (cellsOf after), count-is P R (cellsOf values)) (omega (arith, added-count values after out out′ line a long fits));
     written = λ P R. rw (count-is P R (cellsOf after), added-count values after out out′ line a long fits) fits;
     past = λ P R. rw (count-is P R (cellsOf after)) (added-past values after out out′ line a long fits);
-    used = omega (arith, added-used values after out out′ line a long fits);
   }
 
 -- ---- answers

@@ -23,17 +23,17 @@ use Rattle.store_cells.specs.Cells.{cellsOf}
 use Rattle.store_cells.proofs.Laws.{length-words}
 use Rattle.code.specs.Cells.{windowOf, opAt, valueAt, linkAt}
 use Rattle.code.specs.Spans.{memoryIn}
-use Rattle.code.specs.Windows.{routineCell, writtenCell, usedCell, stateIn}
+use Rattle.code.specs.Windows.{routineCell, writtenCell, usedCell, countAt, stateIn}
 use Rattle.store_reading.specs.Reading.{cellValues}
 use Rattle.store_evaluation.specs.Answers.{firstError, Stores}
 use Rattle.run_machine.specs.Live.{Live, codeOfCall, slotsOfCall}
-use Rattle.run_machine.specs.Machine.{Here, LastWindow, Lends, Comes, goesOn, lacks, lackedBy, Stepped, effectAt, Says}
+use Rattle.run_machine.specs.Machine.{Here, LastWindow, Lends, Comes, goesOn, lacks, lackedBy, KeepsRun, Stepped, effectAt, Says}
 use Rattle.run_machine.specs.Machine as machine
 use Rattle.run_targets.specs.Targets.{Target, Spotted, Tells, RefFits, refCell, spotIn}
-use Rattle.run_output.specs.Output.{countIn, charactersAt, Spells, lineAt, HasRoom, Added, Takes, Took, inputAt, Reads, WasRead}
+use Rattle.run_output.specs.Output.{countIn, charactersAt, Spells, lineAt, withCount, HasRoom, Added, Takes, Took, inputAt, Prints, WasRead}
 use Rattle.run_machine.proofs.Actions
 use Rattle.run_machine.proofs.Agreeing.{Same}
-use Rattle.run_machine.proofs.States.{Roomy, roomy, depth-is, goes-to, used-cell}
+use Rattle.run_machine.proofs.States.{Roomy, roomy, count-same, depth-is, goes-to, used-cells}
 use Rattle.run_machine.proofs.Living.{live-next, live-run, routine-code}
 use Rattle.run_targets.proofs.References.{spot-found, spot-lost, ref-inside, ref-word, ref-live, ref-kept}
 use Rattle.run_targets.proofs.TargetStores.{memory-is}
@@ -46,7 +46,7 @@ use Rattle.store_evaluation.specs.Parts.{addresses}
 use Rattle.layout.specs.Answers.{inputLacked, roomLacked}
 use Rattle.layout.specs.Rules.{noInput}
 use Rattle.paper.specs.Answer.{storeWords}
-use Rattle.run_output.proofs.OneLine.{count-is, low-step, silent, added-count, added-used, added-long, added-past, added-live, added-state, adding-fits, adding-lacks, lacks-room, no-room-fits}
+use Rattle.run_output.proofs.OneLine.{count-is, split-is, count-kept, low-step, silent, added-count, added-kept, added-used, added-long, added-past, added-live, added-state, adding-fits, adding-lacks, lacks-room, no-room-fits}
 
 -- ---- the step, by the cells
 module _ (code values : List ℕ) (base i : ℕ) (h : Here code values base i) (o : opAt (cellsOf code) i ≡ aRead) where
@@ -155,9 +155,9 @@ module _ (place after : ℕ) (l : Location) (z : ℤ) (rest zs : List ℤ) (s : 
 
 -- ---- the line was added, and the input is counted
 module _ (code values : List ℕ) (base i : ℕ) (h : Here code values base i) (mid out out′ line : List ℕ) (a : Added values mid out out′ line)
-    (fits : countIn (cellsOf values) + length line ≤ length out) (used : ℕ) (eu : used ≡ getD (cellsOf values) usedCell 0) where
+    (fits : countIn (cellsOf values) + length line ≤ length out) (used : ℕ) (eu : used ≡ countAt (cellsOf values) usedCell) where
   abbrev Y : List ℕ
-  Y = set (cellsOf mid) usedCell (used + 1)
+  Y = withCount (cellsOf mid) usedCell (used + 1)
 
   mid-long : length (cellsOf mid) ≡ storeWords
   mid-long = omega (arith, length-words mid, a .count .long, h .values-size)
@@ -166,43 +166,37 @@ module _ (code values : List ℕ) (base i : ℕ) (h : Here code values base i) (
   mid-roomy = record { long = mid-long; deep = h .deep; words = roomy h .words; calls = roomy h .calls }
 
   pub Y-roomy : Roomy (h .P) Y (h .d)
-  Y-roomy = record { long = length-set (cellsOf mid) usedCell (used + 1) ∙ mid-long; deep = h .deep; words = roomy h .words; calls = roomy h .calls }
+  Y-roomy = record { long = length-set (set (cellsOf mid) usedCell ((used + 1) % cellValues)) (suc usedCell) ((used + 1) / cellValues) ∙ length-set (cellsOf mid) usedCell ((used + 1) % cellValues) ∙ mid-long; deep = h .deep; words = roomy h .words; calls = roomy h .calls }
 
   counted-state : (steps : ℕ) → stateIn (h .P) (h .R) Y (h .d) i steps out′
       ≡ withInput (withOutput (stateIn (h .P) (h .R) (cellsOf values) (h .d) i steps out .output ++ line) (stateIn (h .P) (h .R) (cellsOf values) (h .d) i steps out))
   counted-state steps =
-      used-cell (h .P) (h .R) (cellsOf mid) (h .d) mid-roomy (used + 1) i steps out′ (ap (λ (x : ℕ). x + 1) (eu ∙ sym (added-used values mid out out′ line a (h .values-size) fits)))
+      used-cells (h .P) (h .R) (cellsOf mid) (h .d) mid-roomy ((used + 1) % cellValues) ((used + 1) / cellValues) i steps out′
+      (split-is (used + 1) ∙ ap (λ (x : ℕ). x + 1) (eu ∙ sym (added-used values mid out out′ line a (h .values-size) fits)))
       ∙ ap withInput (added-state values mid out out′ line a (h .values-size) fits code base i h steps)
 
   counted-live : (n : ℕ) → Live (h .P) (h .R) (cellsOf values) (h .d) n → Live (h .P) (h .R) Y (h .d) n
   counted-live n l =
-      live-run (h .P) (h .R) (cellsOf mid) (h .d) usedCell (used + 1) n (added-live values mid out out′ line a (h .values-size) fits code base i h n l) (omega arith) (omega arith)
-
-  kept-mid : (c : ℕ) → (c ≡ writtenCell → ⊥) → (c ≡ suc writtenCell → ⊥) → getD (cellsOf mid) c 0 ≡ getD (cellsOf values) c 0
-  kept-mid c x y =
-      let k = countIn (cellsOf values) + length line in
-      ap (λ (z : List ℕ). getD z c 0) (a .count .words)
-      ∙ getD-set-other (set (cellsOf values) writtenCell (k % cellValues)) (suc writtenCell) c (k / cellValues) 0 y
-      ∙ getD-set-other (cellsOf values) writtenCell c (k % cellValues) 0 x
+      live-run (h .P) (h .R) (set (cellsOf mid) usedCell ((used + 1) % cellValues)) (h .d) (suc usedCell) ((used + 1) / cellValues) n
+      (live-run (h .P) (h .R) (cellsOf mid) (h .d) usedCell ((used + 1) % cellValues) n (added-live values mid out out′ line a (h .values-size) fits code base i h n l) (omega arith) (omega arith))
+      (omega arith) (omega arith)
 
   same-routine : Same (cellsOf values) Y (windowOf (h .d) + routineCell)
   same-routine =
-      getD-set-other (cellsOf mid) usedCell (windowOf (h .d) + routineCell) (used + 1) 0 (λ e. omega arith)
-      ∙ kept-mid (windowOf (h .d) + routineCell) (λ e. omega arith) (λ e. omega arith)
+      count-kept (cellsOf mid) usedCell (used + 1) (windowOf (h .d) + routineCell) (λ e. omega arith) (λ e. omega arith)
+      ∙ added-kept values mid out out′ line a (h .values-size) fits (windowOf (h .d) + routineCell) (λ e. omega arith) (λ e. omega arith)
 
   fits-now : (w : Ref) → RefFits (here.m code values base i h) (here.n code values base i h) w 1 → RefFits (length (h .P .words)) (slotsOfCall (codeOfCall (h .P) (h .R) Y (h .d))) w 1
   fits-now w f = subst (λ c. RefFits (length (h .P .words)) (slotsOfCall c) w 1) (sym (routine-code (h .P) (h .R) (cellsOf values) Y (h .d) same-routine)) f
 
-  count-kept : (c : ℕ) → writtenCell ≤ c → c ≤ suc writtenCell → getD Y c 0 ≡ getD (cellsOf mid) c 0
-  count-kept c x y = getD-set-other (cellsOf mid) usedCell c (used + 1) 0 (λ e. omega arith)
-
   -- as any step, where the count of bytes is that of the line
   module _ (text inputs after : List ℕ) (last : ℕ) (r : ℤ) (long : length after ≡ length mid)
-      (kept : (c : ℕ) → writtenCell ≤ c → c ≤ usedCell → getD (cellsOf after) c 0 ≡ getD Y c 0) where
+      (kept : KeepsRun Y (cellsOf after)) where
+    same-cell : (c : ℕ) → writtenCell ≤ c → c ≤ suc writtenCell → Same (cellsOf mid) (cellsOf after) c
+    same-cell c x y = kept c x (omega arith) ∙ count-kept (cellsOf mid) usedCell (used + 1) c (λ e. omega arith) (λ e. omega arith)
+
     same-count : countIn (cellsOf after) ≡ countIn (cellsOf mid)
-    same-count =
-        ap₂ (λ (x y : ℕ). x + cellValues * y) (kept writtenCell (omega arith) (omega arith) ∙ count-kept writtenCell (omega arith) (omega arith))
-        (kept (suc writtenCell) (omega arith) (omega arith) ∙ count-kept (suc writtenCell) (omega arith) (omega arith))
+    same-count = count-same (cellsOf mid) (cellsOf after) writtenCell (same-cell writtenCell (omega arith) (omega arith)) (same-cell (suc writtenCell) (omega arith) (omega arith))
 
     pub consumed : ((h : Here code values base i) → h .text ≡ text → (rooms : Rooms) → LastWindow rooms last → Lends rooms inputs out → (steps : ℕ) →
         Comes (h .P) (h .R) (cellsOf code) (h .offset) (h .d) i steps (cellsOf values) (cellsOf after) out out′ (effectAt (h .P) (h .R) rooms (cellsOf values) (h .d) i steps out) r)
@@ -214,18 +208,15 @@ module _ (code values : List ℕ) (base i : ℕ) (h : Here code values base i) (
       grows = λ P R. rw (count-is P R (cellsOf after), count-is P R (cellsOf values)) (omega (arith, same-count, added-count values mid out out′ line a (h .values-size) fits));
       written = λ P R. rw (count-is P R (cellsOf after), same-count, added-count values mid out out′ line a (h .values-size) fits) fits;
       past = λ P R. rw (count-is P R (cellsOf after), same-count) (added-past values mid out out′ line a (h .values-size) fits);
-      used =
-          let u : getD (cellsOf after) usedCell 0 ≡ used + 1 = kept usedCell (omega arith) (omega arith) ∙ getD-set-same (cellsOf mid) usedCell (used + 1) 0 (omega (arith, mid-long)) in
-          omega (arith, eu);
     }
 
 -- ---- each return of `read`
-module _ (text code values inputs out : List ℕ) (base i s : ℕ) (p : Reads text code values inputs out base i) (q : Says code i aRead s) where
+module _ (text code values out : List ℕ) (base i s : ℕ) (p : Prints text code values out base i) (q : Says code i aRead s) where
   pub read-low : i < wordLimit
-  read-low = low-step code values base i (p .prints .here)
+  read-low = low-step code values base i (p .here)
 
   pub read-in : i * 8 + 8 ≤ length code
-  read-in = omega (arith, read-low, p .prints .here .code-size)
+  read-in = omega (arith, read-low, p .here .code-size)
 
   pub read-next : i + 1 < addresses
   read-next = omega (arith, read-low)
@@ -243,15 +234,15 @@ module _ (text code values inputs out : List ℕ) (base i s : ℕ) (p : Reads te
   read-answer-7 = let l = read-low in record { sfits = omega arith }
 
   pub read-target : Stores values base × Target code (i + 1)
-  read-target = (stores-here code values base i (p .prints .here), target-here code values base i (p .prints .here) (q .op-is))
+  read-target = (stores-here code values base i (p .here), target-here code values base i (p .here) (q .op-is))
 
   spells-text : Spells text code s
-  spells-text = subst (λ (x : List ℕ). Spells x code s) (p .prints .text-is) (spells code values base i (p .prints .here) (q .op-is) s (q .value-is))
+  spells-text = subst (λ (x : List ℕ). Spells x code s) (p .text-is) (spells code values base i (p .here) (q .op-is) s (q .value-is))
 
-  module _ (k : ℤ) (fk : SFits w64 k) (sp : Spotted code values base (i + 1) k) where
+  module _ (inputs : List ℕ) (k : ℤ) (fk : SFits w64 k) (sp : Spotted code values base (i + 1) k) where
     pub read-fails : leZ (pos firstError) (whole.read k) ≡ true → WasRead text code values values inputs out out base i (whole.read k)
     read-fails g = rw (toZ-ofZ fk) (record {
-      steps = λ last. silent text code values values inputs out base last i k refl (λ c x y. refl) (p .prints .written)
+      steps = λ last. silent text code values values inputs out base last i k refl (λ c x y. refl) (p .written)
           (λ h x rooms lw l steps. read-lost code values base i h (q .op-is) k sp (told-error k fk g) s (q .value-is) rooms steps out);
     })
 
@@ -265,7 +256,7 @@ pub record Asking : Type 0 where
   pub base : ℕ
   pub i : ℕ
   pub s : ℕ
-  pub reads : Reads text code values inputs out base i
+  pub reads : Prints text code values out base i
   pub says : Says code i aRead s
   pub k : ℤ
   pub fits : SFits w64 k
@@ -286,7 +277,7 @@ module _ (here : Asking) where
   line = lineAt text (cellsOf code) s
 
   line-long : length line ≡ n + 1
-  line-long = length-append (charactersAt text (cellsOf code) s) (LF ∷ []) ∙ ap (λ (k : ℕ). k + 1) (sym (en ∙ spells-text text code values inputs out base i s p q .many))
+  line-long = length-append (charactersAt text (cellsOf code) s) (LF ∷ []) ∙ ap (λ (k : ℕ). k + 1) (sym (en ∙ spells-text text code values out base i s p q .many))
 
   abbrev takes-on : (h : Here code values base i) (rooms : Rooms) (steps : ℕ) → State → Effect
   takes-on h rooms steps s′ =
@@ -301,13 +292,13 @@ module _ (here : Asking) where
 
   pub read-lacks : length out - at ≤ n → WasRead text code values values inputs out out base i (toZ w64 (roomLacked + i))
   read-lacks f = record {
-    steps = λ last. silent text code values values inputs out base last i (toZ w64 (roomLacked + i)) refl (λ c x y. refl) (p .prints .written)
+    steps = λ last. silent text code values values inputs out base last i (toZ w64 (roomLacked + i)) refl (λ c x y. refl) (p .written)
         (λ h x rooms lw l steps. lacks-room code values base i h steps out _
         (effect-is h x rooms steps
-        ∙ adding-lacks code values base i h out (p .prints .written) rooms (l .room) (stepHere code values base i h .place) steps line _ (omega (arith, line-long, p .prints .written))));
+        ∙ adding-lacks code values base i h out (p .written) rooms (l .room) (stepHere code values base i h .place) steps line _ (omega (arith, line-long, p .written))));
   }
 
-  module _ (f : n < length out - at) (used : ℕ) (eu : used ≡ getD (cellsOf values) usedCell 0) where
+  module _ (f : n < length out - at) (used : ℕ) (eu : used ≡ countAt (cellsOf values) usedCell) where
     room : countIn (cellsOf values) + length line ≤ length out
     room = omega (arith, line-long)
 
@@ -318,28 +309,28 @@ module _ (here : Asking) where
     added-effect : (h : Here code values base i) → h .text ≡ text → (rooms : Rooms) → Lends rooms inputs out → (steps : ℕ) → effectAt (h .P) (h .R) rooms (cellsOf values) (h .d) i steps out
         ≡ takes-on h rooms steps (withOutput (stateHere code values base i h rooms steps out .output ++ line) (stateHere code values base i h rooms steps out))
     added-effect h x rooms l steps =
-        effect-is h x rooms steps ∙ adding-fits code values base i h out (p .prints .written) rooms (l .room) (stepHere code values base i h .place) steps line (takes-on h rooms steps) room
+        effect-is h x rooms steps ∙ adding-fits code values base i h out (p .written) rooms (l .room) (stepHere code values base i h .place) steps line (takes-on h rooms steps) room
 
     pub read-none : length inputs / 4 ≤ used → WasRead text code values values inputs out out base i (toZ w64 (inputLacked + i))
     unfolding lackedBy
     read-none e = record {
-      steps = λ last. silent text code values values inputs out base last i (toZ w64 (inputLacked + i)) refl (λ c x y. refl) (p .prints .written)
+      steps = λ last. silent text code values values inputs out base last i (toZ w64 (inputLacked + i)) refl (λ c x y. refl) (p .written)
           (λ h x rooms lw l steps.
-          lacks noInput i (stepHere code values base i h .place) (toZ-pos w64 {n = inputLacked + i} (omega (arith, read-low text code values inputs out base i s p q)))
-          (omega arith) (omega arith) (omega (arith, read-low text code values inputs out base i s p q)) (place-here code values base i h) refl refl
+          lacks noInput i (stepHere code values base i h .place) (toZ-pos w64 {n = inputLacked + i} (omega (arith, read-low text code values out base i s p q)))
+          (omega arith) (omega arith) (omega (arith, read-low text code values out base i s p q)) (place-here code values base i h) refl refl
           (added-effect h x rooms l steps
           ∙ taking-none _ _ _ (drop (stateHere code values base i h rooms steps out .used) (rooms .inputs)) _ (inputs-are h rooms l steps ∙ no-input inputs used e)));
     }
 
     pub read-adds : Spells text code s × HasRoom values out line
-    read-adds = (spells-text text code values inputs out base i s p q, record { room = room; cells = omega (arith, p .prints .here .values-size) })
+    read-adds = (spells-text text code values out base i s p q, record { room = room; cells = omega (arith, p .here .values-size) })
 
 -- And where there is room for its line, and an input, once the line is added.
 pub record Asked : Type 0 where
   pub asking : Asking
   pub room : asking .n < length (asking .out) - asking .at
   pub used : ℕ
-  pub used-is : used ≡ getD (cellsOf (asking .values)) usedCell 0
+  pub used-is : used ≡ countAt (cellsOf (asking .values)) usedCell
   pub more : used < length (asking .inputs) / 4
   pub mid : List ℕ
   pub out′ : List ℕ
@@ -354,26 +345,25 @@ module _ (known : Asked) where
 
   pub read-cast : T (nonNeg (whole.read k)) × Fits w64 (natAbs (whole.read k))
   read-cast =
-      let h = p .prints .here in
+      let h = p .here in
       let c : whole.read k ≡ pos (refCell (windowOf (h .d)) (aim here h .w)) = toZ-ofZ fk ∙ aim here h .cell in
       let l = ref-inside (h .P) (h .R) (cellsOf values) (h .d) (roomy h) (aim here h .w) (aim here h .fits) in
       rw c (tt, record { fits = omega arith })
 
   pub read-takes : Takes mid inputs used (natAbs (whole.read k))
   read-takes =
-      let h = p .prints .here in
+      let h = p .here in
       let l = ref-inside (h .P) (h .R) (cellsOf values) (h .d) (roomy h) (aim here h .w) (aim here h .fits) in
       record {
         cell-in = omega (arith, cell-is h, a .count .long, h .values-size);
         used-in = omega (arith, a .count .long, h .values-size);
         input = omega arith;
-        count = omega (arith, p .count);
       }
 
   module _ (after : List ℕ) (ok : Bool) (t : Took mid after inputs used (natAbs (whole.read k)) ok) where
     pub read-out : ok ≡ false → WasRead text code values after inputs out out′ base i (pos (firstError + overflow))
     read-out z = record {
-      steps = λ last. consumed code values base i (p .prints .here) mid out out′ (line here) a (room here f used eu) used eu text inputs after last (pos (firstError + overflow)) (t .long) (λ c x y. ap (λ (w : List ℕ). getD w c 0) (t .consumed z))
+      steps = λ last. consumed code values base i (p .here) mid out out′ (line here) a (room here f used eu) used eu text inputs after last (pos (firstError + overflow)) (t .long) (λ c x y. ap (λ (w : List ℕ). getD w c 0) (t .consumed z))
           (λ h x rooms lw l steps.
           machine.fails overflow refl (omega arith) (rw (t .consumed z) (counted-live code values base i h mid out out′ (line here) a (room here f used eu) used eu i (h .live)))
           (added-effect here f used eu h x rooms l steps
@@ -385,16 +375,16 @@ module _ (known : Asked) where
       abbrev v : ℕ
       v = ofZ w32 (inputAt inputs used)
 
-      words-are : (h : Here code values base i) → cellsOf after ≡ set (set (cellsOf mid) usedCell (used + 1)) (refCell (windowOf (h .d)) (aim here h .w)) v
-      words-are h = t .stored z ∙ ap (λ (c : ℕ). set (set (cellsOf mid) usedCell (used + 1)) c v) (cell-is h)
+      words-are : (h : Here code values base i) → cellsOf after ≡ set (withCount (cellsOf mid) usedCell (used + 1)) (refCell (windowOf (h .d)) (aim here h .w)) v
+      words-are h = t .stored z ∙ ap (λ (c : ℕ). set (withCount (cellsOf mid) usedCell (used + 1)) c v) (cell-is h)
 
-      fits-at : (h : Here code values base i) → RefFits (length (h .P .words)) (slotsOfCall (codeOfCall (h .P) (h .R) (set (cellsOf mid) usedCell (used + 1)) (h .d))) (aim here h .w) 1
+      fits-at : (h : Here code values base i) → RefFits (length (h .P .words)) (slotsOfCall (codeOfCall (h .P) (h .R) (withCount (cellsOf mid) usedCell (used + 1)) (h .d))) (aim here h .w) 1
       fits-at h = fits-now code values base i h mid out out′ (line here) a (room here f used eu) used eu (aim here h .w) (aim here h .fits)
 
       stored-state : (h : Here code values base i) (rooms : Rooms) (steps : ℕ) → stateIn (h .P) (h .R) (cellsOf after) (h .d) i steps out′
           ≡ storeAt (locationOf (suc (h .d)) (aim here h .w)) (inputAt inputs used) (withInput (withOutput (stateHere code values base i h rooms steps out .output ++ line here) (stateHere code values base i h rooms steps out)))
       stored-state h rooms steps =
-          let Y = set (cellsOf mid) usedCell (used + 1) in
+          let Y = withCount (cellsOf mid) usedCell (used + 1) in
           ap (λ (w : List ℕ). stateIn (h .P) (h .R) w (h .d) i steps out′) (words-are h)
           ∙ ref-word (h .P) (h .R) Y (h .d) (Y-roomy code values base i h mid out out′ (line here) a (room here f used eu) used eu) (aim here h .w) (fits-at h) v i steps out′
           ∙ ap₂ (λ (n : ℕ) (x : ℤ). storeAt (locationOf n (aim here h .w)) x (stateIn (h .P) (h .R) Y (h .d) i steps out′)) (depth-is (h .P) (h .R) Y (h .d) i steps out′) (toZ-ofZ (t .small))
@@ -402,10 +392,10 @@ module _ (known : Asked) where
 
       pub read-done : (l : ℕ) → l ≡ linkAt (cellsOf code) i → WasRead text code values after inputs out out′ base i (toZ w64 l)
       read-done m em = record {
-        steps = λ last. consumed code values base i (p .prints .here) mid out out′ (line here) a (room here f used eu) used eu text inputs after last (toZ w64 m) (t .long)
-            (λ c x y. let h = p .prints .here in
+        steps = λ last. consumed code values base i (p .here) mid out out′ (line here) a (room here f used eu) used eu text inputs after last (toZ w64 m) (t .long)
+            (λ c x y. let h = p .here in
             ap (λ (w : List ℕ). getD w c 0) (words-are h)
-            ∙ ref-kept (h .P) (h .R) (set (cellsOf mid) usedCell (used + 1)) (h .d) (Y-roomy code values base i h mid out out′ (line here) a (room here f used eu) used eu) (aim here h .w) (fits-at h) v c x y)
+            ∙ ref-kept (h .P) (h .R) (withCount (cellsOf mid) usedCell (used + 1)) (h .d) (Y-roomy code values base i h mid out out′ (line here) a (room here f used eu) used eu) (aim here h .w) (fits-at h) v c x y)
             (λ h x rooms lw l steps.
             let st = stepHere code values base i h in
             let na = named-after code values base i h in
@@ -413,7 +403,7 @@ module _ (known : Asked) where
             goesOn m (toZ-pos w64 {n = m} (omega (arith, small-name code values base i h (st .after) na .1)))
             (subst (Live (h .P) (h .R) (cellsOf after) (h .d)) (sym n-is)
             (subst (λ (w : List ℕ). Live (h .P) (h .R) w (h .d) (st .after)) (sym (words-are h))
-            (ref-live (h .P) (h .R) (set (cellsOf mid) usedCell (used + 1)) (h .d) (Y-roomy code values base i h mid out out′ (line here) a (room here f used eu) used eu) (aim here h .w) (fits-at h) v (st .after)
+            (ref-live (h .P) (h .R) (withCount (cellsOf mid) usedCell (used + 1)) (h .d) (Y-roomy code values base i h mid out out′ (line here) a (room here f used eu) used eu) (aim here h .w) (fits-at h) v (st .after)
             (counted-live code values base i h mid out out′ (line here) a (room here f used eu) used eu (st .after) (live-next (h .P) (h .R) (cellsOf values) (h .d) i (st .after) (h .live) na)))))
             (added-effect here f used eu h x rooms l steps
             ∙ taking-in _ _ _ (inputAt inputs used) _ (drop (stateHere code values base i h rooms steps out .used) (rooms .inputs)) _ (inputs-are here f used eu h rooms l steps ∙ next-input inputs used e) (t .in-num z)

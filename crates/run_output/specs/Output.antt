@@ -14,20 +14,21 @@ use Rattle.paper.specs.Steps.{unquoted}
 use Rattle.store_cells.specs.Cells.{cellsOf}
 use Rattle.code.specs.Cells.{opAt, valueAt, placeAt}
 use Rattle.code.specs.Steps.{aWrite}
-use Rattle.code.specs.Windows.{writtenCell, usedCell}
+use Rattle.code.specs.Windows.{writtenCell, usedCell, countAt}
 use Rattle.store_reading.specs.Reading.{cellValues}
 use Rattle.layout.specs.Parts.{charactersPart}
 use Rattle.run_machine.specs.Machine.{Here, Stepped}
 
 -- ---- how many bytes are written
 abbrev pub countIn : (X : List ℕ) → ℕ
-countIn X = getD X writtenCell 0 + cellValues * getD X (suc writtenCell) 0
+countIn X = countAt X writtenCell
 
-abbrev pub withCount : (X : List ℕ) → ℕ → List ℕ
-withCount X n = set (set X writtenCell (n % cellValues)) (suc writtenCell) (n / cellValues)
+-- a count in two cells set anew: of bytes written, or of inputs used
+abbrev pub withCount : (X : List ℕ) → (cell : ℕ) → ℕ → List ℕ
+withCount X c n = set (set X c (n % cellValues)) (suc c) (n / cellValues)
 
-pub record Counted (before after : List ℕ) (n : ℕ) : Type 0 where
-  pub words : cellsOf after ≡ withCount (cellsOf before) n
+pub record Counted (before after : List ℕ) (cell n : ℕ) : Type 0 where
+  pub words : cellsOf after ≡ withCount (cellsOf before) cell n
   pub long : length after ≡ length before
 
 -- ---- strings
@@ -71,11 +72,11 @@ lineOf text C i z = charactersAt text C i ++ decimal z ++ (LF ∷ [])
 -- There is room for a line behind what is written.
 pub record HasRoom (values out line : List ℕ) : Type 0 where
   pub room : countIn (cellsOf values) + length line ≤ length out
-  pub cells : suc usedCell * 4 ≤ length values
+  pub cells : suc (suc usedCell) * 4 ≤ length values
 
 -- The line was added.
 pub record Added (values after out out′ line : List ℕ) : Type 0 where
-  pub count : Counted values after (countIn (cellsOf values) + length line)
+  pub count : Counted values after writtenCell (countIn (cellsOf values) + length line)
   pub bytes : out′ ≡ replaced out (countIn (cellsOf values)) line (length line)
 
 -- ---- steps
@@ -101,9 +102,8 @@ pub record WroteOf (text code values after out out′ : List ℕ) (base i : ℕ)
 -- The next input, z, goes to a cell if it is in num.
 pub record Takes (values inputs : List ℕ) (used cell : ℕ) : Type 0 where
   pub cell-in : cell * 4 + 4 ≤ length values
-  pub used-in : suc usedCell * 4 ≤ length values
+  pub used-in : suc (suc usedCell) * 4 ≤ length values
   pub input : used * 4 + 4 ≤ length inputs
-  pub count : used + 1 < cellValues
 
 abbrev pub inputAt : (inputs : List ℕ) → ℕ → ℤ
 inputAt inputs k = toZ w32 (getD (cellsOf inputs) k 0)
@@ -112,13 +112,9 @@ pub record Took (values after inputs : List ℕ) (used cell : ℕ) (ok : Bool) :
   pub long : length after ≡ length values
   pub small : SFits w32 (inputAt inputs used)
   pub in-num : ok ≡ true → ranged num (inputAt inputs used) ≡ value (inputAt inputs used)
-  pub stored : ok ≡ true → cellsOf after ≡ set (set (cellsOf values) usedCell (used + 1)) cell (ofZ w32 (inputAt inputs used))
+  pub stored : ok ≡ true → cellsOf after ≡ set (withCount (cellsOf values) usedCell (used + 1)) cell (ofZ w32 (inputAt inputs used))
   pub outside : ok ≡ false → ranged num (inputAt inputs used) ≡ error overflow
-  pub consumed : ok ≡ false → cellsOf after ≡ set (cellsOf values) usedCell (used + 1)
-
-pub record Reads (text code values inputs out : List ℕ) (base i : ℕ) : Type 0 where
-  pub prints : Prints text code values out base i
-  pub count : getD (cellsOf values) usedCell 0 + 1 < cellValues
+  pub consumed : ok ≡ false → cellsOf after ≡ withCount (cellsOf values) usedCell (used + 1)
 
 pub record WasRead (text code values after inputs out out′ : List ℕ) (base i : ℕ) (r : ℤ) : Type 0 where
   pub steps : (last : ℕ) → Stepped text code values after inputs out out′ base last i r

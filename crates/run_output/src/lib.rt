@@ -14,15 +14,14 @@ ghost use Rattle.code.specs.Cells.{valueAt};
 ghost use Rattle.code.specs.Steps.{aWriteOf, aRead};
 ghost use Rattle.run_machine.specs.Machine.{Says};
 ghost use Rattle.run_decimals.specs.Placed as decimals;
-ghost use Rattle.run_output.specs.Output.{countIn, Counted, Copies, Copied, Spelled, charactersAt, Spells, Placed, lineAt, lineOf, HasRoom, Added, Prints, Writes, Wrote, WroteOf, Takes, Took, Reads, WasRead};
+ghost use Rattle.run_output.specs.Output.{Counted, Copies, Copied, Spelled, charactersAt, Spells, Placed, lineAt, lineOf, HasRoom, Added, Prints, Writes, Wrote, WroteOf, Takes, Took, WasRead};
 ghost use Rattle.layout.specs.Parts.{charactersPart};
 ghost use Rattle.store_reading.specs.Reading.{valueEnd};
-ghost use Rattle.code.specs.Windows.{writtenCell};
+ghost use Rattle.code.specs.Windows.{countAt};
 use layout::answers;
 use layout::cells::HALF;
 use layout::cells::USED;
 use layout::cells::WRITTEN;
-use layout::cells::WRITTEN_HIGH;
 use layout::parts;
 use run_targets::target_cell;
 use store_evaluation::worth;
@@ -32,20 +31,20 @@ use store_reading::place;
 use store_reading::put;
 use store_reading::value;
 
-fn written(values: &[u8]) -> usize
-    requires { ⌜ suc (suc writtenCell) * 4 ≤ length (now values) ⌝ }
-    ensures { λ r. ⌜ r ≡ countIn (cellsOf (now (values .entry))) ⌝ }
+// The count in two cells from `cell` on: bytes written, or inputs used.
+fn count_at(values: &[u8], cell: usize) -> usize
+    requires { ⌜ suc (suc cell) * 4 ≤ length (now values) ⌝ }
+    ensures { λ r. ⌜ r ≡ countAt (cellsOf (now (values .entry))) cell ⌝ }
 {
-    store_cells::get(values, WRITTEN) as usize
-        + HALF * (store_cells::get(values, WRITTEN_HIGH) as usize)
+    store_cells::get(values, cell) as usize + HALF * (store_cells::get(values, cell + 1) as usize)
 }
 
-fn set_written(values: &mut [u8], n: usize)
-    requires { ⌜ suc (suc writtenCell) * 4 ≤ length (now values) ⌝ }
-    ensures { λ _. ⌜ Counted (now (values .entry)) (now (values .exit)) n ⌝ }
+fn set_count(values: &mut [u8], cell: usize, n: usize)
+    requires { ⌜ suc (suc cell) * 4 ≤ length (now values) ⌝ }
+    ensures { λ _. ⌜ Counted (now (values .entry)) (now (values .exit)) cell n ⌝ }
 {
-    store_cells::put(values, WRITTEN, (n % HALF) as u32);
-    store_cells::put(values, WRITTEN_HIGH, (n / HALF) as u32);
+    store_cells::put(values, cell, (n % HALF) as u32);
+    store_cells::put(values, cell + 1, (n / HALF) as u32);
 }
 
 // How many bytes a character takes that begins with b: a quote stands twice.
@@ -139,9 +138,9 @@ fn add<'a>(text: &'a [u8], code: &'a [u8], values: &'a mut [u8], out: &'a mut [u
     requires { ⌜ Spells (now text) (now code) i × HasRoom (now values) (now out) (lineAt (now text) (cellsOf (now code)) i) ⌝ }
     ensures { λ _. ⌜ Added (now (values .entry)) (now (values .exit)) (now (out .entry)) (now (out .exit)) (lineAt (now (text .entry)) (cellsOf (now (code .entry))) i) ⌝ }
 {
-    let e = string(text, code, out, written(values), i);
+    let e = string(text, code, out, count_at(values, WRITTEN), i);
     out[e] = b'\n';
-    set_written(values, e + 1);
+    set_count(values, WRITTEN, e + 1);
 }
 
 // The string at word i, a number of n bytes and LF.
@@ -157,10 +156,10 @@ fn add_of<'a>(
     requires { ⌜ Spells (now text) (now code) i × HasRoom (now values) (now out) (lineOf (now text) (cellsOf (now code)) i v) × decimals.Takes v n ⌝ }
     ensures { λ _. ⌜ Added (now (values .entry)) (now (values .exit)) (now (out .entry)) (now (out .exit)) (lineOf (now (text .entry)) (cellsOf (now (code .entry))) i v) ⌝ }
 {
-    let e = string(text, code, out, written(values), i);
+    let e = string(text, code, out, count_at(values, WRITTEN), i);
     number(out, e, v, n);
     out[e + n] = b'\n';
-    set_written(values, e + n + 1);
+    set_count(values, WRITTEN, e + n + 1);
 }
 
 // ---- TPWrite
@@ -175,7 +174,7 @@ pub fn write<'a>(
     requires { ⌜ Writes (now text) (now code) (now values) (now out) i ⌝ }
     ensures { λ r. ⌜ Wrote (now (text .entry)) (now (code .entry)) (now (values .entry)) (now (values .exit)) (now (out .entry)) (now (out .exit)) i r ⌝ }
 {
-    if out.len() - written(&*values) <= characters(code, i + 1) {
+    if out.len() - count_at(&*values, WRITTEN) <= characters(code, i + 1) {
         return (answers::NO_ROOM + i) as i64;
     }
     add(text, code, values, out, i + 1);
@@ -200,7 +199,7 @@ pub fn write_of<'a>(
         return v;
     }
     let n = run_decimals::number_length(v);
-    if out.len() - written(&*values) <= characters(code, i + 1) + n {
+    if out.len() - count_at(&*values, WRITTEN) <= characters(code, i + 1) + n {
         return (answers::NO_ROOM + i) as i64;
     }
     add_of(text, code, values, out, i + 1, v, n);
@@ -210,12 +209,12 @@ pub fn write_of<'a>(
 // ---- TPReadNum
 
 // The next input, which is consumed, into a cell, if it is in num.
-fn take<'a>(values: &'a mut [u8], inputs: &'a [u8], used: u32, cell: usize) -> bool
+fn take<'a>(values: &'a mut [u8], inputs: &'a [u8], used: usize, cell: usize) -> bool
     requires { ⌜ Takes (now values) (now inputs) used cell ⌝ }
     ensures { λ r. ⌜ Took (now (values .entry)) (now (values .exit)) (now (inputs .entry)) used cell r ⌝ }
 {
-    let v = load(inputs, used as usize);
-    store_cells::put(values, USED, used + 1);
+    let v = load(inputs, used);
+    set_count(values, USED, used + 1);
     if v < store_numbers::LOWEST_NUM {
         return false;
     }
@@ -237,18 +236,18 @@ pub fn read<'a>(
     i: usize,
     s: usize,
 ) -> i64
-    requires { ⌜ Reads (now text) (now code) (now values) (now inputs) (now out) base i × Says (now code) i aRead s ⌝ }
+    requires { ⌜ Prints (now text) (now code) (now values) (now out) base i × Says (now code) i aRead s ⌝ }
     ensures { λ r. ⌜ WasRead (now (text .entry)) (now (code .entry)) (now (values .entry)) (now (values .exit)) (now (inputs .entry)) (now (out .entry)) (now (out .exit)) base i r ⌝ }
 {
     let k = target_cell(&*code, &*values, base, i + 1);
     if answers::FIRST_ERROR <= k {
         return k;
     }
-    if out.len() - written(&*values) <= characters(code, s) {
+    if out.len() - count_at(&*values, WRITTEN) <= characters(code, s) {
         return (answers::NO_ROOM + i) as i64;
     }
-    let used = store_cells::get(&*values, USED);
-    if inputs.len() / 4 <= used as usize {
+    let used = count_at(&*values, USED);
+    if inputs.len() / 4 <= used {
         return (answers::NO_INPUT + i) as i64;
     }
     add(text, code, values, out, s);

@@ -12,7 +12,7 @@ use Rattle.store_cells.specs.Cells.{cellsOf}
 use Rattle.code.specs.Cells.{headAt, opAt, valueAt, linkAt, opIn}
 use Rattle.layout.specs.Parts.{valuePart, loopPart}
 use Rattle.store_evaluation.specs.Parts.{addresses}
-use Rattle.code.specs.Steps.{Head, parts, argumentsIn, aCallTarget, aCompactIf, aFor, aForTest, aFunctionEnd, aNextArgument, aProcedureCall, aRaise, aRaiseOf, aRead, aRetry, aReturn, aReturnOf, aTarget, aTest, aTryNext, aWhile, aWrite, aWriteOf, anEnd, anExit, anIf}
+use Rattle.code.specs.Steps.{Head, parts, argumentsIn, aCallTarget, aCompactIf, aFor, aForTest, aFunctionEnd, aNextArgument, aProcedureCall, aRaise, aRaiseOf, aRead, aRetry, aReturn, aReturnOf, aTarget, aTest, aTryNext, aWhile, aWrite, aWriteOf, anEnd, anExit, anIf, anUndoEnd}
 use Rattle.code.proofs.Spanning.{span-grows}
 use Rattle.store_evaluation.proofs.Places.{op-in, link-in}
 use Rattle.run_resuming.specs.Resuming.{Closes, Closing, StepAt, After}
@@ -140,7 +140,8 @@ module _ (code : List ℕ) (i w : ℕ) (ew : w ≡ headAt (cellsOf code) i) wher
           let q : valueAt C i / loopPart ≡ w / (valuePart * loopPart) = omega arith in
           g .after-is ∙ ap (linkAt C) q
 
-    module _ (low : aTarget ≤ opAt C i) (high : opAt C i ≤ aFunctionEnd) (call : opAt C i ≡ aProcedureCall → ⊥) (test : opAt C i ≡ aForTest → ⊥) (end : opAt C i ≡ anEnd → ⊥) (last : opAt C i ≡ aFunctionEnd → ⊥) where
+    module _ (low : aTarget ≤ opAt C i) (high : opAt C i ≤ anUndoEnd) (call : opAt C i ≡ aProcedureCall → ⊥) (test : opAt C i ≡ aForTest → ⊥)
+        (end : opAt C i ≡ anEnd → ⊥) (last : opAt C i ≡ aFunctionEnd → ⊥) (undo : opAt C i ≡ anUndoEnd → ⊥) where
       plain-at : s .next ≡ linkAt C i
       plain-at =
           by-less (opAt C i) aCallTarget (λ h. Actions.reads-store (s .m) (s .n) (s .function) (s .text) (s .R) C i (s .next) (s .does) (s .is) low h .after-is) (λ k.
@@ -164,7 +165,8 @@ module _ (code : List ℕ) (i w : ℕ) (ew : w ≡ headAt (cellsOf code) i) wher
           by-next (opAt C i) aTest l152 (λ h. Actions.reads-test (s .m) (s .n) (s .function) (s .text) (s .R) C i (s .next) (s .does) (s .is) h .after-is) (λ l153.
           by-next (opAt C i) anEnd l153 (λ h. absurd (end h)) (λ l154.
           by-next (opAt C i) aFunctionEnd l154 (λ h. absurd (last h)) (λ l155.
-          absurd (omega arith))))))))))))))))))))))
+          by-next (opAt C i) anUndoEnd l155 (λ h. absurd (undo h)) (λ l156.
+          absurd (omega arith)))))))))))))))))))))))
 
 -- ---- what the code does with it
 module _ (code : List ℕ) (i : ℕ) where
@@ -202,12 +204,16 @@ module _ (code : List ℕ) (i : ℕ) where
     function-end-after h =
         record { is = λ s. sym (Actions.reads-function-end (s .m) (s .n) (s .function) (s .text) (s .R) (cellsOf code) i (s .next) (s .does) (s .is) (op-at code i w ew aFunctionEnd h) .after-is) }
 
-    pub plain-after : (opIn w ≡ aProcedureCall → ⊥) → (opIn w ≡ aForTest → ⊥) → (opIn w ≡ anEnd → ⊥) → (opIn w ≡ aFunctionEnd → ⊥) → (q : ℕ) → q ≡ linkAt (cellsOf code) i → After code i q
-    plain-after d1 d2 d3 d4 q e =
+    pub undo-end-after : opIn w ≡ anUndoEnd → After code i i
+    undo-end-after h =
+        record { is = λ s. sym (Actions.reads-undo-end (s .m) (s .n) (s .function) (s .text) (s .R) (cellsOf code) i (s .next) (s .does) (s .is) (op-at code i w ew anUndoEnd h) .after-is) }
+
+    pub plain-after : (opIn w ≡ aProcedureCall → ⊥) → (opIn w ≡ aForTest → ⊥) → (opIn w ≡ anEnd → ⊥) → (opIn w ≡ aFunctionEnd → ⊥) → (opIn w ≡ anUndoEnd → ⊥) → (q : ℕ) → q ≡ linkAt (cellsOf code) i → After code i q
+    plain-after d1 d2 d3 d4 d5 q e =
         let o : opAt (cellsOf code) i ≡ opIn w = op-at code i w ew (opIn w) refl in
         record {
           is = λ s. e ∙ sym (plain-at code i w ew s
               (Actions.op-low (s .m) (s .n) (s .function) (s .text) (s .R) (cellsOf code) i (s .next) (s .does) (s .is))
               (Actions.op-high (s .m) (s .n) (s .function) (s .text) (s .R) (cellsOf code) i (s .next) (s .does) (s .is))
-              (λ z. d1 (sym o ∙ z)) (λ z. d2 (sym o ∙ z)) (λ z. d3 (sym o ∙ z)) (λ z. d4 (sym o ∙ z)));
+              (λ z. d1 (sym o ∙ z)) (λ z. d2 (sym o ∙ z)) (λ z. d3 (sym o ∙ z)) (λ z. d4 (sym o ∙ z)) (λ z. d5 (sym o ∙ z)));
         }

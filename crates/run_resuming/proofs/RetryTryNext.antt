@@ -21,9 +21,8 @@ use Rattle.code.specs.Closed.{isNamed}
 use Rattle.code.specs.Holds.{optionally}
 use Rattle.code.specs.Windows.{failedCell, callIn, waiting, stateIn}
 use Rattle.run_machine.specs.Live.{Live, FailedFits, noneFailed, hasFailed}
-use Rattle.run_machine.specs.Machine.{Here, Comes, goesOn, Performs, effectAt}
+use Rattle.run_machine.specs.Machine.{Here, Comes, goesOn, KeepsRun, Performs, effectAt}
 use Rattle.run_resuming.specs.Resuming.{StepAt, After, Forgot}
-use Rattle.run_errors.specs.Errors.{KeepsRun}
 use Rattle.run_machine.proofs.States.{roomy, goes-to, call-failed}
 use Rattle.run_machine.proofs.Living.{live-next, live-failed}
 use Rattle.run_machine.proofs.Elsewhere.{elsewhere}

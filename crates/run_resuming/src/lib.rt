@@ -41,6 +41,7 @@ fn after(code: &[u8], i: usize) -> usize
         ops::FOR_TEST => link(code, (w / parts::LOOP_IN_HEAD) as usize),
         ops::END => i,
         ops::FUNCTION_END => i,
+        ops::UNDO_END => i,
         _ => link(code, i),
     }
 }

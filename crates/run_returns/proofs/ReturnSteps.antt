@@ -24,11 +24,11 @@ use Rattle.store_numbers.proofs.Whole.{read}
 use Rattle.code.specs.Cells.{windowOf, firstWindow, windowCells}
 use Rattle.code.specs.Spans.{termIn}
 use Rattle.code.specs.Closed.{isNamed}
-use Rattle.code.specs.Windows.{waitsCell, afterCell, resultCell, writtenCell, usedCell, resultIn, callIn, waiting, stateIn}
+use Rattle.code.specs.Windows.{waitsCell, afterCell, resultCell, resultIn, callIn, waiting, stateIn}
 use Rattle.store_evaluation.specs.Answers.{firstError, Stands, Evaluated}
 use Rattle.store_reading.specs.Reading.{Stored}
 use Rattle.run_machine.specs.Live.{slotsOfCall, cellOfCall, codeOfCall, ResultFits, nowhere, inModule, inCaller, Waits, Live}
-use Rattle.run_machine.specs.Machine.{Here, Comes, leaves, ends, effectAt, Performs, Says}
+use Rattle.run_machine.specs.Machine.{Here, Comes, leaves, ends, effectAt, KeepsRun, Performs, Says}
 use Rattle.run_targets.specs.Targets.{refCell, RefFits}
 use Rattle.run_returns.specs.Returning.{Gave, Returns, byReturn, byEnd}
 use Rattle.run_machine.proofs.Actions.{reads-return-of, reads-return, reads-end, end-function}
@@ -116,7 +116,7 @@ module _ (code values : List ℕ) (base i : ℕ) (h : Here code values base i) (
       pub live : Live (h .P) (h .R) (cellsOf after) e (cellOfCall (h .P) (h .R) (cellsOf values) e afterCell)
       pub state : (steps : ℕ) (out : List ℕ) → storeResult (resultIn (h .P) (h .R) (cellsOf values) result-cell) (some v) (stateIn (h .P) (h .R) (cellsOf values) e (cellOfCall (h .P) (h .R) (cellsOf values) e afterCell) steps out)
           ≡ stateIn (h .P) (h .R) (cellsOf after) e (cellOfCall (h .P) (h .R) (cellsOf values) e afterCell) steps out
-      pub kept : (c : ℕ) → writtenCell ≤ c → c ≤ usedCell → getD (cellsOf after) c 0 ≡ getD (cellsOf values) c 0
+      pub kept : KeepsRun (cellsOf values) (cellsOf after)
 
     placed-of : Goes result-cell → Placed
     unfolding storeResult resultIn

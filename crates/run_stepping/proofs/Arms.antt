@@ -10,6 +10,7 @@ use lib.IntN.{ℤ, pos}
 use mir.Syntax.{w64}
 use mir.Val.{SFits}
 use mir.Facts.{toZ-ofZ}
+use Rattle.laws.proofs.Tests.{by-same}
 use Rattle.paper.specs.Basics.{if_then_else_}
 use Rattle.paper.specs.Steps as action
 use Rattle.paper.specs.States.{Rooms, Effect, ending, handing}
@@ -17,13 +18,13 @@ use Rattle.paper.specs.Running.{perform, returning, ending-list}
 use Rattle.store_cells.specs.Cells.{cellsOf}
 use Rattle.store_numbers.proofs.Whole.{read}
 use Rattle.code.specs.Cells.{opAt, valueAt, headAt, opIn, valueIn}
-use Rattle.code.specs.Steps.{aTarget, aCallTarget, aFunctionEnd, aRaise, aReturn, aWrite, anEnd, anExit}
+use Rattle.code.specs.Steps.{aTarget, aCallTarget, aFunctionEnd, aRaise, aReturn, aWrite, anEnd, anExit, anUndoEnd}
 use Rattle.code.specs.Windows.{callIn, waiting}
 use Rattle.run_machine.specs.Machine.{Here, hands, ends, effectAt, Performs, Calls, Steps, Stepped}
 use Rattle.run_targets.specs.Targets.{WordAt, ofModuleWord, ofCallWord, ArrayAt, ofModuleArray, ofCallArray}
 use Rattle.run_returns.specs.Returning.{Returns, byReturn, byEnd}
-use Rattle.run_output.specs.Output.{countIn, Prints, Writes, Wrote, WroteOf, Reads, WasRead}
-use Rattle.run_machine.proofs.Actions.{reads-raise, reads-exit, reads-function-end, function-end-function, op-low, op-high}
+use Rattle.run_output.specs.Output.{countIn, Prints, Writes, Wrote, WroteOf, WasRead}
+use Rattle.run_machine.proofs.Actions.{reads-raise, reads-exit, reads-function-end, function-end-function, reads-undo-end, op-low, op-high}
 use Rattle.run_machine.proofs.Current as here
 use Rattle.layout.specs.Answers.{ended, handed}
 use Rattle.layout.specs.Rules.{exited, fellOff}
@@ -39,6 +40,14 @@ past-all : (op k : ℕ) → aTarget ≤ op → NoneOf op k → aTarget + k ≤ o
 unfolding NoneOf
 past-all op zero low n = omega arith
 past-all op (suc k) low n = let e = n .1 in omega (arith, past-all op k low (n .0))
+
+-- no op is above that of the end of an UNDO list
+last-op : (code values : List ℕ) (base i : ℕ) → Here code values base i → NoneOf (opAt (cellsOf code) i) 26 → (aFunctionEnd ≤ opAt (cellsOf code) i) × (opAt (cellsOf code) i ≤ anUndoEnd)
+last-op code values base i h n =
+    let s = here.stepHere code values base i h in
+    let low = op-low (here.m code values base i h) (here.n code values base i h) (here.codeHere code values base i h .function) (h .text) (h .R) (cellsOf code) i (s .after) (s .does) (here.action-here code values base i h) in
+    let high = op-high (here.m code values base i h) (here.n code values base i h) (here.codeHere code values base i h .function) (h .text) (h .R) (cellsOf code) i (s .after) (s .does) (here.action-here code values base i h) in
+    (omega (arith, past-all (opAt (cellsOf code) i) 26 low n), high)
 
 -- ---- steps that only answer
 module _ (code values : List ℕ) (base i : ℕ) (h : Here code values base i) (rooms : Rooms) (steps : ℕ) (out : List ℕ) where
@@ -70,12 +79,20 @@ module _ (code values : List ℕ) (base i : ℕ) (h : Here code values base i) (
       ∙ ap (λ (b : Bool). if b then ending 4 S else returning (h .P) (here.callHere code values base i h rooms steps out) (waiting (h .P) (h .R) (cellsOf values) (h .d)) none S)
       (function-end-function (here.m code values base i h) (here.n code values base i h) (here.codeHere code values base i h .function) (h .text) (h .R) (cellsOf code) i (s .after) (s .does) (here.action-here code values base i h) o)
 
-last-op : (code values : List ℕ) (base i : ℕ) → Here code values base i → NoneOf (opAt (cellsOf code) i) 26 → opAt (cellsOf code) i ≡ aFunctionEnd
-last-op code values base i h n =
-    let s = here.stepHere code values base i h in
-    let low = op-low (here.m code values base i h) (here.n code values base i h) (here.codeHere code values base i h .function) (h .text) (h .R) (cellsOf code) i (s .after) (s .does) (here.action-here code values base i h) in
-    let high = op-high (here.m code values base i h) (here.n code values base i h) (here.codeHere code values base i h .function) (h .text) (h .R) (cellsOf code) i (s .after) (s .does) (here.action-here code values base i h) in
-    omega (arith, high, past-all (opAt (cellsOf code) i) 26 low n)
+  -- nor does any run come to the end of an UNDO list
+  undo-ends : opAt (cellsOf code) i ≡ anUndoEnd → E ≡ ending fellOff (here.stateHere code values base i h rooms steps out)
+  unfolding perform
+  undo-ends o =
+      let s = here.stepHere code values base i h in
+      here.effect-here code values base i h rooms steps out (s .after) action.endUndo refl
+      (reads-undo-end (here.m code values base i h) (here.n code values base i h) (here.codeHere code values base i h .function) (h .text) (h .R) (cellsOf code) i (s .after) (s .does) (here.action-here code values base i h) o .does-is)
+
+  -- the last arm has these two
+  last-ends : NoneOf (opAt (cellsOf code) i) 26 → E ≡ ending fellOff (here.stateHere code values base i h rooms steps out)
+  last-ends n = by-same (opAt (cellsOf code) i) aFunctionEnd function-ends (λ d. undo-ends (last d))
+    where
+      last : (opAt (cellsOf code) i ≡ aFunctionEnd → ⊥) → opAt (cellsOf code) i ≡ anUndoEnd
+      last d = omega (arith, d, last-op code values base i h n)
 
 -- ---- what a word says, by its op
 module _ (code : List ℕ) (base i w : ℕ) (ew : w ≡ headAt (cellsOf code) i) where
@@ -126,9 +143,6 @@ module _ (text code values out : List ℕ) (base last i : ℕ) (s : Steps text c
   pub prints : Prints text code values out base i
   prints = record { here = s .here; text-is = s .text-is; written = count }
 
-  pub reads-num : (inputs : List ℕ) → Reads text code values inputs out base i
-  reads-num inputs = record { prints = prints; count = s .used }
-
   -- ---- what a promise says of it
   module _ (after inputs : List ℕ) (r : ℤ) (f : SFits w64 r) where
     pub performed : Performs code values after base i r → Stepped text code values after inputs out out base last i (read r)
@@ -168,6 +182,6 @@ module _ (text code values out : List ℕ) (base last i : ℕ) (s : Steps text c
 
     pub fell-off : NoneOf (opIn w) 26 → (inputs : List ℕ) → Stepped text code values values inputs out out base last i (pos (ended + fellOff))
     fell-off n inputs =
-        let o = last-op code values base i (s .here) (subst (λ (x : ℕ). NoneOf (opIn x) 26) ew n) in
+        let m = subst (λ (x : ℕ). NoneOf (opIn x) 26) ew n in
         silent text code values values inputs out base last i (pos (ended + fellOff)) refl (λ c x y. refl) count
-        (λ h t rooms lw l steps. ends fellOff refl (omega arith) refl refl (function-ends code values base i h rooms steps out o))
+        (λ h t rooms lw l steps. ends fellOff refl (omega arith) refl refl (last-ends code values base i h rooms steps out m))

@@ -10,9 +10,9 @@ use borrow.Author.Tests.{lt-ltb, le-ltb}
 use Rattle.paper.specs.Terms.{Ref, ofModule, ofRoutine, Memory, at, fails}
 use Rattle.paper.specs.Steps.{Program, Spot, scalar, elementOf}
 use Rattle.paper.specs.States.{Location, callSlot, locationOf, State, storeAt, Effect, failing, withSpot}
-use Rattle.code.specs.Cells.{windowOf, firstWindow, windowCells}
+use Rattle.code.specs.Cells.{windowOf, firstWindow, windowCells, errnoCell}
 use Rattle.code.specs.Steps.{Head, numbered}
-use Rattle.code.specs.Windows.{routineCell, writtenCell, usedCell, locationIn, stateIn}
+use Rattle.code.specs.Windows.{routineCell, writtenCell, locationIn, stateIn}
 use Rattle.store_evaluation.specs.Answers.{callSlots}
 use Rattle.run_machine.specs.Live.{slotsOfCall, codeOfCall, cellOfCall, Live}
 use Rattle.run_targets.specs.Targets.{refCell, RefFits, spotIn}
@@ -63,7 +63,7 @@ module _ (P : Program) (R : List Head) (X : List ℕ) (d : ℕ) (g : Roomy P X d
   ref-live (ofModule k) h v i l = live-module P R X d k v i l (omega (arith, g .words))
   ref-live (ofRoutine k) h v i l = live-call P R X d (windowOf d + k) v i l d k (omega (arith, call-room)) refl
 
-  pub ref-kept : (w : Ref) → FitsHere w → (v c : ℕ) → writtenCell ≤ c → c ≤ usedCell → Same X (set X (refCell (windowOf d) w) v) c
+  pub ref-kept : (w : Ref) → FitsHere w → (v c : ℕ) → writtenCell ≤ c → c < errnoCell → Same X (set X (refCell (windowOf d) w) v) c
   unfolding RefFits refCell
   ref-kept (ofModule k) h v c a b = set-same X k v c (λ q. omega (arith, g .words))
   ref-kept (ofRoutine k) h v c a b = set-same X (windowOf d + k) v c (λ q. omega (arith, call-room))

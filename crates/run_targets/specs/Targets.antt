@@ -13,11 +13,10 @@ use Rattle.store_cells.specs.Cells.{cellsOf}
 use Rattle.code.specs.Cells.{opAt, valueAt}
 use Rattle.code.specs.Spans.{firstIn, sizeIn, memoryIn}
 use Rattle.code.specs.Steps.{Head, aTarget, aCallTarget, targetIn}
-use Rattle.code.specs.Windows.{writtenCell, usedCell}
 use Rattle.layout.specs.Answers.{answers}
 use Rattle.store_evaluation.specs.Answers.{firstError, Counts, termOf, memoryOf}
 use Rattle.run_machine.specs.Live.{slotsOfCall, codeOfCall}
-use Rattle.run_machine.specs.Machine.{Here, Comes, effectAt}
+use Rattle.run_machine.specs.Machine.{Here, Comes, effectAt, KeepsRun}
 
 -- ---- words
 -- The cell of a word that the call with its window at `base` refers to.
@@ -101,4 +100,4 @@ module _ (code values : List ℕ) (base i : ℕ) where
     pub long : length after ≡ length values
     pub does : (h : Here code values base i) → Aims h aTarget cell next → (rooms : Rooms) (steps : ℕ) (out : List ℕ) →
         Comes (h .P) (h .R) (cellsOf code) (h .offset) (h .d) i steps (cellsOf values) (cellsOf after) out out (effectAt (h .P) (h .R) rooms (cellsOf values) (h .d) i steps out) r
-    pub kept : (c : ℕ) → writtenCell ≤ c → c ≤ usedCell → getD (cellsOf after) c 0 ≡ getD (cellsOf values) c 0
+    pub kept : KeepsRun (cellsOf values) (cellsOf after)

@@ -3,8 +3,8 @@ use Rattle.run_output.proofs.Lines.{line-string, line-room, line-fits, 
 use Rattle.run_output.proofs.add.Statement.{statement}
 use Rattle.run_output.proofs.add.Tie as tie
 
-written-requires : tie.Need-written-requires
-written-requires c κs = search needs
+count-at-requires : tie.Need-count-at-requires
+count-at-requires c κs = search needs
 
 string-requires : tie.Need-string-requires
 string-requires c κs = search (needs, line-string)
@@ -12,11 +12,11 @@ string-requires c κs = search (needs, line-string)
 slice-write-out : tie.Need-slice-write-out
 slice-write-out c = search (needs, line-room)
 
-add-set-written : tie.Need-add-set-written
-add-set-written c = search (needs, line-fits)
+add-set-count : tie.Need-add-set-count
+add-set-count c = search (needs, line-fits)
 
-set-written-requires : tie.Need-set-written-requires
-set-written-requires c κs = search needs
+set-count-requires : tie.Need-set-count-requires
+set-count-requires c κs = search needs
 
 same-length : tie.Need-same-length
 same-length c = search needs
@@ -31,11 +31,11 @@ pub add-spec : {M : Type 1} → statement M
 add-spec =
     tie.close
     (tie.spec
-    written-requires
+    count-at-requires
     string-requires
     slice-write-out
-    add-set-written
-    set-written-requires
+    add-set-count
+    set-count-requires
     same-length
     same-length-2
     returns)

@@ -5,8 +5,8 @@ use borrow.Author.Needs.{needs}
 use Rattle.run_output.proofs.add_of.Statement.{statement}
 use Rattle.run_output.proofs.add_of.Tie as tie
 
-written-requires : tie.Need-written-requires
-written-requires c κs = search needs
+count-at-requires : tie.Need-count-at-requires
+count-at-requires c κs = search needs
 
 string-requires : tie.Need-string-requires
 string-requires c κs = search (needs, of-string)
@@ -20,14 +20,14 @@ add-out c = search (needs, of-fits-first)
 slice-write-out : tie.Need-slice-write-out
 slice-write-out c = search (needs, of-room)
 
-add-set-written : tie.Need-add-set-written
-add-set-written c = search (needs, of-fits-first)
+add-set-count : tie.Need-add-set-count
+add-set-count c = search (needs, of-fits-first)
 
-add-set-written-2 : tie.Need-add-set-written-2
-add-set-written-2 c = search (needs, of-fits)
+add-set-count-2 : tie.Need-add-set-count-2
+add-set-count-2 c = search (needs, of-fits)
 
-set-written-requires : tie.Need-set-written-requires
-set-written-requires c κs = search needs
+set-count-requires : tie.Need-set-count-requires
+set-count-requires c κs = search needs
 
 same-length : tie.Need-same-length
 same-length c = search needs
@@ -44,21 +44,21 @@ returns c =
     let at-string = at-number .before .before .before .before in
     let at-written = at-string .before in
     let s = c .before .before .before .before .before .before .before .before .before .before .before .before .before .before .before .before .before .before in
-    of-done _ _ _ _ _ _ (s .fits .v) (s .pre .1) _ (at-written .written .ensures) _ _ (at-string .string .ensures) _ (s .pre .2) _
-    (at-number .number .ensures) _ (c .before .before .set-written .ensures)
+    of-done _ _ _ _ _ _ (s .fits .v) (s .pre .1) _ (at-written .count-at .ensures) _ _ (at-string .string .ensures) _ (s .pre .2) _
+    (at-number .number .ensures) _ (c .before .before .set-count .ensures)
 
 pub add-of-spec : {M : Type 1} → statement M
 add-of-spec =
     tie.close
     (tie.spec
-    written-requires
+    count-at-requires
     string-requires
     number-requires
     add-out
     slice-write-out
-    add-set-written
-    add-set-written-2
-    set-written-requires
+    add-set-count
+    add-set-count-2
+    set-count-requires
     same-length
     same-length-2
     returns)

@@ -1,4 +1,5 @@
 use Rattle.run_output.proofs.TPReadNum.{Asking, Asked, read-in, read-next, read-sum, read-sum-7, read-answer, read-answer-7, read-target, read-fails, read-lacks, read-none, read-adds, read-cast, read-takes, read-out, read-done}
+use denote.Ref.{now}
 use borrow.Author.Needs.{needs}
 use Rattle.run_output.proofs.read.Statement.{statement}
 use Rattle.run_output.proofs.read.Tie as tie
@@ -13,7 +14,7 @@ asking c =
       text = _;
       code = _;
       values = _;
-      inputs = _;
+      inputs = now (start .args .inputs);
       out = _;
       base = _;
       i = _;
@@ -25,7 +26,7 @@ asking c =
       spot = at-target-cell .target-cell .ensures;
       found = at-if1 .if1 .left;
       at = _;
-      at-is = c .before .written .ensures;
+      at-is = c .before .count-at .ensures;
       n = _;
       n-is = c .characters .ensures .0;
     }
@@ -33,13 +34,13 @@ asking c =
 abbrev asked : tie.After-add → Asked
 asked c =
     let at-if3 = c .before .before .before in
-    let at-get = at-if3 .before in
-    let at-if2 = at-get .before .before in
+    let at-used = at-if3 .before in
+    let at-if2 = at-used .before .before in
     record {
       asking = asking (at-if2 .before);
       room = at-if2 .if2 .left;
       used = _;
-      used-is = at-get .get .ensures;
+      used-is = at-used .count-at2 .ensures;
       more = at-if3 .if3 .left;
       mid = _;
       out′ = _;
@@ -52,7 +53,7 @@ add-target-cell c = search (needs, read-next)
 target-cell-requires : tie.Need-target-cell-requires
 target-cell-requires c κs =
     let start = c .before .before .before .before .before .before in
-    read-target _ _ _ _ _ _ _ _ (start .pre .0) (start .pre .1)
+    read-target _ _ _ _ _ _ _ (start .pre .0) (start .pre .1)
 
 same-length : tie.Need-same-length
 same-length c = search needs
@@ -60,11 +61,11 @@ same-length c = search needs
 returns : tie.Need-returns
 returns c =
     let start = c .before .before .before .before .before .before .before .before in
-    read-fails _ _ _ _ _ _ _ _ (start .pre .0) (start .pre .1) _ record { sfits = c .before .target-cell .ok } (c .before .target-cell .ensures)
+    read-fails _ _ _ _ _ _ _ (start .pre .0) (start .pre .1) _ _ record { sfits = c .before .target-cell .ok } (c .before .target-cell .ensures)
     (c .if1 .taken)
 
-written-requires : tie.Need-written-requires
-written-requires c κs = search needs
+count-at-requires : tie.Need-count-at-requires
+count-at-requires c κs = search needs
 
 sub-if2 : tie.Need-sub-if2
 sub-if2 c = search needs
@@ -84,11 +85,8 @@ same-length-2 c = search needs
 returns-2 : tie.Need-returns-2
 returns-2 c = read-lacks (asking (c .before)) (c .if2 .taken)
 
-get-requires : tie.Need-get-requires
-get-requires c κs = search needs
-
-cast-if3 : tie.Need-cast-if3
-cast-if3 c = search needs
+count-at-requires-2 : tie.Need-count-at-requires-2
+count-at-requires-2 c κs = search needs
 
 add-result-2 : tie.Need-add-result-2
 add-result-2 c = search (needs, read-sum-7)
@@ -102,12 +100,12 @@ same-length-3 c = search needs
 returns-3 : tie.Need-returns-3
 returns-3 c =
     let at-if2 = c .before .before .before in
-    read-none (asking (at-if2 .before)) (at-if2 .if2 .left) _ (c .before .get .ensures) (c .if3 .taken)
+    read-none (asking (at-if2 .before)) (at-if2 .if2 .left) _ (c .before .count-at2 .ensures) (c .if3 .taken)
 
 add-requires : tie.Need-add-requires
 add-requires c κs =
     let at-if2 = c .before .before .before .before .before in
-    read-adds (asking (at-if2 .before)) (at-if2 .if2 .left) _ (c .before .before .before .get .ensures)
+    read-adds (asking (at-if2 .before)) (at-if2 .if2 .left) _ (c .before .before .before .count-at2 .ensures)
 
 cast-take : tie.Need-cast-take
 cast-take c = read-cast (asked (c .before .before .before .before .before))
@@ -151,15 +149,14 @@ read-spec =
     target-cell-requires
     same-length
     returns
-    written-requires
+    count-at-requires
     sub-if2
     characters-requires
     add-result
     cast-result
     same-length-2
     returns-2
-    get-requires
-    cast-if3
+    count-at-requires-2
     add-result-2
     cast-result-2
     same-length-3

@@ -3,8 +3,8 @@ use borrow.Author.Needs.{needs}
 use Rattle.run_output.proofs.write.Statement.{statement}
 use Rattle.run_output.proofs.write.Tie as tie
 
-written-requires : tie.Need-written-requires
-written-requires c κs = search needs
+count-at-requires : tie.Need-count-at-requires
+count-at-requires c κs = search needs
 
 sub-if1 : tie.Need-sub-if1
 sub-if1 c = search needs
@@ -27,7 +27,7 @@ same-length c = search needs
 returns : tie.Need-returns
 returns c =
     let start = c .before .before .before .before .before .before .before .before in
-    write-lacks _ _ _ _ _ (start .pre) _ (c .before .before .written .ensures) _ (c .before .characters .ensures .0) (c .if1 .taken)
+    write-lacks _ _ _ _ _ (start .pre) _ (c .before .before .count-at .ensures) _ (c .before .characters .ensures .0) (c .if1 .taken)
 
 add-add : tie.Need-add-add
 add-add c = search (needs, write-next)
@@ -35,7 +35,7 @@ add-add c = search (needs, write-next)
 add-requires : tie.Need-add-requires
 add-requires c κs =
     let start = c .before .before .before .before .before .before .before .before .before .before in
-    write-adds _ _ _ _ _ (start .pre) _ (c .before .before .before .before .written .ensures) _ (c .before .before .before .characters .ensures .0)
+    write-adds _ _ _ _ _ (start .pre) _ (c .before .before .before .before .count-at .ensures) _ (c .before .before .before .characters .ensures .0)
     (c .before .before .if1 .left)
 
 link-requires : tie.Need-link-requires
@@ -57,14 +57,14 @@ returns-2 c =
     let at-characters = at-if1 .before in
     let at-written = at-characters .before in
     let start = at-written .before .before .before .before .before .before in
-    write-done _ _ _ _ _ (start .pre) _ (at-written .written .ensures) _ (at-characters .characters .ensures .0) (at-if1 .if1 .left) _ _
+    write-done _ _ _ _ _ (start .pre) _ (at-written .count-at .ensures) _ (at-characters .characters .ensures .0) (at-if1 .if1 .left) _ _
     (at-add .add .ensures) _ (c .link .ensures .same)
 
 pub write-spec : {M : Type 1} → statement M
 write-spec =
     tie.close
     (tie.spec
-    written-requires
+    count-at-requires
     sub-if1
     add-characters
     characters-requires

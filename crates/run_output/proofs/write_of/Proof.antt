@@ -23,8 +23,8 @@ returns c =
 number-length-requires : tie.Need-number-length-requires
 number-length-requires c κs = search needs
 
-written-requires : tie.Need-written-requires
-written-requires c κs = search needs
+count-at-requires : tie.Need-count-at-requires
+count-at-requires c κs = search needs
 
 sub-if2 : tie.Need-sub-if2
 sub-if2 c = search needs
@@ -53,7 +53,7 @@ returns-2 c =
     let at-worth = at-if1 .before in
     let start = at-worth .before .before .before .before .before .before in
     of-lacks _ _ _ _ _ _ _ (start .pre .0) (start .pre .1) _ record { sfits = at-worth .worth .ok } (at-worth .worth .ensures) (at-if1 .if1 .left) _
-    (c .before .before .before .before .number-length .ensures) _ (c .before .before .written .ensures) _ (c .before .characters .ensures .0)
+    (c .before .before .before .before .number-length .ensures) _ (c .before .before .count-at .ensures) _ (c .before .characters .ensures .0)
     (c .if2 .taken)
 
 add-add-of : tie.Need-add-add-of
@@ -66,7 +66,7 @@ add-of-requires c κs =
     let at-worth = at-if1 .before in
     let start = at-worth .before .before .before .before .before .before in
     of-adds _ _ _ _ _ _ _ (start .pre .0) (start .pre .1) _ record { sfits = at-worth .worth .ok } (at-worth .worth .ensures) (at-if1 .if1 .left) _
-    (at-number-length .number-length .ensures) _ (c .before .before .before .before .written .ensures) _
+    (at-number-length .number-length .ensures) _ (c .before .before .before .before .count-at .ensures) _
     (c .before .before .before .characters .ensures .0) (c .before .before .if2 .left)
 
 link-requires : tie.Need-link-requires
@@ -92,7 +92,7 @@ returns-3 c =
     let at-worth = at-if1 .before in
     let start = at-worth .before .before .before .before .before .before in
     of-done _ _ _ _ _ _ _ (start .pre .0) (start .pre .1) _ record { sfits = at-worth .worth .ok } (at-worth .worth .ensures) (at-if1 .if1 .left) _
-    (at-number-length .number-length .ensures) _ (at-written .written .ensures) _ (at-characters .characters .ensures .0) (at-if2 .if2 .left) _ _
+    (at-number-length .number-length .ensures) _ (at-written .count-at .ensures) _ (at-characters .characters .ensures .0) (at-if2 .if2 .left) _ _
     (at-add-of .add-of .ensures) _ (c .link .ensures .same)
 
 pub write-of-spec : {M : Type 1} → statement M
@@ -104,7 +104,7 @@ write-of-spec =
     same-length
     returns
     number-length-requires
-    written-requires
+    count-at-requires
     sub-if2
     add-characters
     characters-requires

@@ -1,5 +1,5 @@
 use borrow.Author.Needs.{needs}
-use Rattle.run_resuming.proofs.NextStep.{step-in, step-small, call-closes, call-in, call-after, for-in, for-after, end-after, function-end-after, plain-after}
+use Rattle.run_resuming.proofs.NextStep.{step-in, step-small, call-closes, call-in, call-after, for-in, for-after, end-after, function-end-after, undo-end-after, plain-after}
 use Rattle.run_resuming.proofs.after.Statement.{statement}
 use Rattle.run_resuming.proofs.after.Tie as tie
 
@@ -40,7 +40,10 @@ returns-4 : tie.Need-returns-4
 returns-4 c = search (needs, function-end-after)
 
 returns-5 : tie.Need-returns-5
-returns-5 c = search (needs, plain-after)
+returns-5 c = search (needs, undo-end-after)
+
+returns-6 : tie.Need-returns-6
+returns-6 c = search (needs, plain-after)
 
 pub after-spec : {M : Type 1} → statement M
 after-spec =
@@ -58,4 +61,5 @@ after-spec =
     returns-2
     returns-3
     returns-4
-    returns-5)
+    returns-5
+    returns-6)

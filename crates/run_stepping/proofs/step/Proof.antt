@@ -1,6 +1,6 @@
 use borrow.Author.Needs.{needs}
 use Rattle.run_stepping.proofs.Arms.{NoneOf, by-end, by-return, called, exits, fell-off, for-call-element, for-call-word, for-module-element, for-module-word, handed-on}
-use Rattle.run_stepping.proofs.Arms.{performed, reads-num, step-inside, to-call-element, to-call-word, to-module-element, to-module-word, was-read, prints, writes, wrote, wrote-of}
+use Rattle.run_stepping.proofs.Arms.{performed, step-inside, to-call-element, to-call-word, to-module-element, to-module-word, was-read, prints, writes, wrote, wrote-of}
 use Rattle.run_stepping.proofs.step.Statement.{statement}
 use Rattle.run_stepping.proofs.step.Tie as tie
 
@@ -71,7 +71,7 @@ write-of-requires : tie.Need-write-of-requires
 write-of-requires c κs = search (needs, prints)
 
 read-requires : tie.Need-read-requires
-read-requires c κs = search (needs, reads-num)
+read-requires c κs = search (needs, prints)
 
 test-if-requires : tie.Need-test-if-requires
 test-if-requires c κs = search needs
