@@ -173,7 +173,7 @@ module _ (text : List ℕ) where
     where
       by-rule : InRules words f → Judges text (refuse (f .number) (offsetOf text words (f .at)))
       by-rule (in-group l k w) = refuses (f .number) _ (omega arith) (omega arith) (word-there text (f .at) (f .number) (omega arith) k w)
-      by-rule (hiding q n) = refuses (f .number) _ (omega arith) (omega arith) (rw q (name-there text (f .at) n))
+      by-rule (hiding q n) = refuses (f .number) (offsetOf text words (f .at)) (omega arith) (omega arith) (rw q (name-there text (f .at) n))
 
   form-judges : (p : Parsed Module) → formed (sortIn words) ≡ p → Reads (sortIn words) (SortsOfModule (sortIn words)) p → Judges text (judgeForm text words p)
   unfolding judgeForm
@@ -203,6 +203,7 @@ refusal-place text n offset (demands.in-text k o l h p) = omega arith
 refusal-place text n offset (demands.at-word k o l h w) = let p = word-place text o _ w in omega arith
 refusal-place text n offset demands.at-end = omega arith
 refusal-place text n offset demands.no-main = omega arith
+refusal-place text n offset (demands.hiding-loop o w) = let p = word-place text o _ w in omega arith
 
 refused-allowed : (l : Lent) (f : Refusal) → 1 ≤ f .number → f .number ≤ 19 → RefusalAt (l .text) (f .number) (f .offset) → Allowed l (refusedWith f .fields)
 unfolding refusedWith
