@@ -22,12 +22,14 @@ pub refusal-written : (before after : List ℕ) (number offset : ℕ) → Writte
 unfolding refusedFields refusedWith
 refusal-written before after number offset w = w
 
-pub report-written : (fields fields′ values : List ℕ) (ending place made words errno low high output used : ℕ)
-    → Got values errnoCell errno → Got values writtenCell low → Got values (suc writtenCell) high → output ≡ low + halfPart * high → Got values usedCell used
+pub report-written : (fields fields′ values : List ℕ) (ending place made words errno low high output low′ high′ used : ℕ)
+    → Got values errnoCell errno → Got values writtenCell low → Got values (suc writtenCell) high → output ≡ low + halfPart * high
+    → Got values usedCell low′ → Got values (suc usedCell) high′ → used ≡ low′ + halfPart * high′
     → Written fields fields′ (fieldsOf ending 0 place made errno output used words) → Written fields fields′ (reported ending place made values words)
 unfolding reported
-report-written fields fields′ values ending place made words errno low high output used a b c d u w =
+report-written fields fields′ values ending place made words errno low high output low′ high′ used a b c d e f g w =
     let o = d ∙ ap₂ (λ (x y : ℕ). x + halfPart * y) b c in
-    let f : fieldsOf ending 0 place made errno output used words ≡ reported ending place made values words =
+    let u = g ∙ ap₂ (λ (x y : ℕ). x + halfPart * y) e f in
+    let q : fieldsOf ending 0 place made errno output used words ≡ reported ending place made values words =
     λ i. record { ending = ending; refusal = 0; offset = place; steps = made; errno = a i; output = o i; inputs = u i; words = words } in
-    record { bytes = w .bytes ∙ ap (λ (x : Record). recordBytes x ++ drop recordSize fields) f }
+    record { bytes = w .bytes ∙ ap (λ (x : Record). recordBytes x ++ drop recordSize fields) q }

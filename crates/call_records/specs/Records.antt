@@ -1,14 +1,13 @@
 -- What a call leaves in the record, and in the stores.
 use mathlib.Core.Path.{_≡_}
 use mathlib.Core.List.{List, _++_}
-use Prim.Native.Nat.{ℕ, suc, _+_, _-_, _*_, _≤_}
+use Prim.Native.Nat.{ℕ, _-_, _≤_}
 use lib.ListN.{length, getD, drop}
 use Rattle.paper.specs.Answer.{recordSize, storeWords, Record, recordBytes, refusedWith}
 use Rattle.store_cells.specs.Cells.{cellsOf, Cleared}
 use Rattle.code.specs.Cells.{errnoCell}
-use Rattle.code.specs.Windows.{writtenCell, usedCell}
+use Rattle.code.specs.Windows.{writtenCell, usedCell, countAt}
 use Rattle.layout.specs.Named.{storeBytes}
-use Rattle.layout.specs.Parts.{halfPart}
 
 -- ---- the record
 abbrev pub fieldsOf : (ending refusal offset steps errno output inputs words : ℕ) → Record
@@ -22,7 +21,7 @@ refusedFields number offset = refusedWith (record { number = number; offset = of
 unfoldable pub reported : (ending place made : ℕ) → (values : List ℕ) → (words : ℕ) → Record
 reported ending place made values words =
     let X = cellsOf values in
-    fieldsOf ending 0 place made (getD X errnoCell 0) (getD X writtenCell 0 + halfPart * getD X (suc writtenCell) 0) (getD X usedCell 0) words
+    fieldsOf ending 0 place made (getD X errnoCell 0) (countAt X writtenCell) (countAt X usedCell) words
 
 -- The record has these fields now, and every byte past it is as it was.
 pub record Written (before after : List ℕ) (f : Record) : Type 0 where

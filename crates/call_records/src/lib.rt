@@ -8,6 +8,7 @@ ghost use Rattle.paper.specs.Answer.{recordSize};
 ghost use Rattle.call_records.specs.Records.{fieldsOf, refusedFields, Written, Reports, reported, Empties, Emptied};
 use layout::cells::ERRNO;
 use layout::cells::USED;
+use layout::cells::USED_HIGH;
 use layout::cells::WRITTEN;
 use layout::cells::WRITTEN_HIGH;
 use layout::limits;
@@ -53,7 +54,7 @@ pub fn refuse(fields: &mut [u8], number: u32, offset: usize)
 }
 
 // Writes the record of a run that has ended after so many steps, from what it leaves in the value store.
-pub fn report(values: &[u8], fields: &mut [u8], ending: u32, place: usize, made: u32, words: usize)
+pub fn report(values: &[u8], fields: &mut [u8], ending: u32, place: usize, made: u64, words: usize)
     requires { ⌜ Reports (now values) (now fields) ⌝ }
     ensures { λ _. ⌜ Written (now (fields .entry)) (now (fields .exit)) (reported ending place made (now (values .entry)) words) ⌝ }
 {
@@ -62,16 +63,19 @@ pub fn report(values: &[u8], fields: &mut [u8], ending: u32, place: usize, made:
         store_cells::get(values, WRITTEN),
         store_cells::get(values, WRITTEN_HIGH),
     );
-    let used = store_cells::get(values, USED);
+    let used = joined(
+        store_cells::get(values, USED),
+        store_cells::get(values, USED_HIGH),
+    );
     put_record(
         fields,
         ending as u64,
         0,
         place as u64,
-        made as u64,
+        made,
         errno as u64,
         output,
-        used as u64,
+        used,
         words as u64,
     );
 }

@@ -148,9 +148,6 @@ module _ (code values : List ℕ) (h : ℕ) where
         unfolding writtenIn
         begun-written P R = ap₂ (λ (x y : ℕ). x + halfPart * y) (zero-behind writtenCell (omega arith)) (zero-behind (suc writtenCell) (omega arith))
 
-        pub begun-used : getD (cellsOf after) usedCell 0 ≡ 0
-        begun-used = zero-behind usedCell (omega arith)
-
         module-is : map (toZ w32) (take (length (b .P .words)) (cellsOf after)) ≡ b .P .words
         module-is =
             module-same (b .P) (cellsOf values) (cellsOf after) (length-words after ∙ ap (λ (n : ℕ). n / 4) (st .long ∙ mid-long text depth b) ∙ sym (length-words values))
@@ -166,7 +163,7 @@ module _ (code values : List ℕ) (h : ℕ) where
             refl
             (zero-behind errnoCell (omega arith))
             (ap (λ (n : ℕ). take n out) (begun-written (b .P) (b .R)))
-            begun-used
+            (ap₂ (λ (x y : ℕ). x + halfPart * y) (zero-behind usedCell (omega arith)) (zero-behind (suc usedCell) (omega arith)))
 
         code-is : codeOfCall (b .P) (b .R) (cellsOf after) 0 ≡ codeAt (b .P) (b .main)
         code-is = ap (codeAt (b .P)) number
@@ -189,7 +186,6 @@ module _ (code values : List ℕ) (h : ℕ) where
       begun m = record {
         long = st .long ∙ mid-long (m .text) (m .depth) (m .begins);
         written = λ P R text depth b. begun-written text depth b P R;
-        used = λ text depth b. begun-used text depth b;
         live = λ text depth b. begun-live text depth b;
         state = λ text depth b out. begun-state text depth b out;
       }

@@ -24,31 +24,31 @@ lacked-is : (n w answer : ℕ) → beyondDepth ≤ n → answer ≡ lackedBy n +
 unfolding lackedBy
 lacked-is n w answer h e = e
 
-module _ (code : List ℕ) (answer left : ℕ) where
-  pub stops-whole : Stops code answer left → length code % 8 ≡ 0
+module _ (code : List ℕ) (answer made : ℕ) where
+  pub stops-whole : Stops code answer made → length code % 8 ≡ 0
   stops-whole (byStep n h e s) = omega arith
   stops-whole (byLack n w a b c e l s) = omega arith
 
-  pub stops-low : Stops code answer left → answer < lacked → ended ≤ answer
+  pub stops-low : Stops code answer made → answer < lacked → ended ≤ answer
   stops-low (byStep n h e s) k = omega arith
   stops-low (byLack n w a b c e l s) k = absurd (omega (arith, lacked-is n w answer a e))
 
-  pub stops-high : Stops code answer left → lacked ≤ answer → beyondDepth + (answer - lacked) / answers < cellValues
+  pub stops-high : Stops code answer made → lacked ≤ answer → beyondDepth + (answer - lacked) / answers < cellValues
   stops-high (byStep n h e s) k = absurd (omega arith)
   stops-high (byLack n w a b c e l s) k = omega (arith, lacked-is n w answer a e)
 
-  pub stops-left : Stops code answer left → lacked ≤ answer → left + 1 < cellValues
-  stops-left (byStep n h e s) k = absurd (omega arith)
-  stops-left (byLack n w a b c e l s) k = l
+  pub stops-made : Stops code answer made → lacked ≤ answer → 1 ≤ made
+  stops-made (byStep n h e s) k = absurd (omega arith)
+  stops-made (byLack n w a b c e l s) k = l
 
   module _ (i : ℕ) where
-    pub stopped-main : answer < lacked → answer ≡ ended + mainReturned → Stopped code i answer left (record { ending = mainReturned; place = 0; left = left })
+    pub stopped-main : answer < lacked → answer ≡ ended + mainReturned → Stopped code i answer made (record { ending = mainReturned; place = 0; made = made })
     stopped-main k e = record {
       by-step = λ n h q. let m : n ≡ 1 = omega arith in (sym m, ap (λ (x : ℕ). if eqb x 1 then 0 else placeAt (cellsOf code) i) (sym m), refl);
       by-lack = λ n w a b c q. absurd (omega (arith, lacked-is n w answer a q));
     }
 
-    pub stopped-step : answer < lacked → (answer ≡ ended + mainReturned → ⊥) → (p : ℕ) → p ≡ placeAt (cellsOf code) i → Stopped code i answer left (record { ending = answer - ended; place = p; left = left })
+    pub stopped-step : answer < lacked → (answer ≡ ended + mainReturned → ⊥) → (p : ℕ) → p ≡ placeAt (cellsOf code) i → Stopped code i answer made (record { ending = answer - ended; place = p; made = made })
     stopped-step k d p ep = record {
       by-step = λ n h q.
           let t : eqb n 1 ≡ false = ne-eqb n 1 (λ z. d (omega arith)) in
@@ -56,7 +56,7 @@ module _ (code : List ℕ) (answer left : ℕ) where
       by-lack = λ n w a b c q. absurd (omega (arith, lacked-is n w answer a q));
     }
 
-    pub stopped-lack : lacked ≤ answer → (p : ℕ) → p ≡ placeAt (cellsOf code) (answer % answers) → Stopped code i answer left (record { ending = beyondDepth + (answer - lacked) / answers; place = p; left = left + 1 })
+    pub stopped-lack : lacked ≤ answer → (p : ℕ) → p ≡ placeAt (cellsOf code) (answer % answers) → Stopped code i answer made (record { ending = beyondDepth + (answer - lacked) / answers; place = p; made = made - 1 })
     stopped-lack k p ep = record {
       by-step = λ n h q. absurd (omega arith);
       by-lack = λ n w a b c q.

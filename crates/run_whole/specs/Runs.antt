@@ -1,26 +1,31 @@
 -- What a run asks of what it is lent, and what it promises.
 use mathlib.Core.Path.{_≡_}
+use mathlib.Core.Bool.{Bool, true, false, _||_}
 use mathlib.Core.List.{List, map}
-use Prim.Native.Nat.{ℕ, _+_, _-_, _<_, _≤_}
-use lib.Dec.{eqb}
+use mathlib.Core.Option.{Option, none, some}
+use Prim.Native.Nat.{ℕ, suc, _+_, _-_, _<_, _≤_}
+use lib.Dec.{eqb, ltb}
 use lib.ListN.{length, getD, take, drop}
 use mir.Syntax.{w32}
 use mir.Val.{toZ}
 use Rattle.paper.specs.Basics.{if_then_else_}
 use Rattle.paper.specs.Steps.{Program}
 use Rattle.paper.specs.States.{Rooms}
-use Rattle.paper.specs.Running.{run, started}
+use Rattle.paper.specs.Running.{started}
 use Rattle.paper.specs.Running as running
+use Rattle.paper.specs.Undoing.{runAbort}
+use Rattle.paper.specs.Undoing as undoing
 use Rattle.store_cells.specs.Cells.{cellsOf}
 use Rattle.code.specs.Cells.{errnoCell, placeAt}
 use Rattle.code.specs.Steps.{Head, noHead}
 use Rattle.code.specs.Holds.{Holds}
-use Rattle.code.specs.Windows.{writtenIn, usedCell, stateIn}
+use Rattle.code.specs.Windows.{usedCell, countAt, writtenIn, stateIn}
+use Rattle.run_whole.specs.declared.Abort.{Abort}
+use Rattle.run_whole.specs.declared.Abort.the-variants.{Never, At}
 use Rattle.run_whole.specs.declared.Ended.{Ended}
 use Rattle.run_machine.specs.Live.{Live}
 use Rattle.layout.specs.Answers.{answers}
-use Rattle.layout.specs.Rules.{mainReturned, fellOff, beyondDepth, noRoom}
-use Rattle.store_reading.specs.Reading.{cellValues}
+use Rattle.layout.specs.Rules.{mainReturned, stepsSpent, beyondDepth, noRoom}
 use Rattle.run_machine.specs.Machine.{storeBytes, depthLimit, ended, lackedBy, Lends}
 
 -- The code store holds a program, of which main begins at word h; the value store has the module's words as a run begins, and zeros.
@@ -40,34 +45,43 @@ pub record Begins (text code values : List ℕ) (h depth : ℕ) : Type 0 where
   pub words : map (toZ w32) (take (length (P .words)) (cellsOf values)) ≡ P .words
   pub zeros : (c : ℕ) → length (P .words) ≤ c → getD (cellsOf values) c 0 ≡ 0
 
+-- what a run is asked for, as the paper has it
+unfoldable pub abortOf : Abort → Option undoing.Abort
+abortOf Never = none
+abortOf (At at undo) = some (record { at = at; undo = undo })
+
+-- how many steps come before the abort
+unfoldable pub allowedBy : (steps : ℕ) → Abort → ℕ
+allowedBy steps Never = steps
+allowedBy steps (At at undo) = if ltb steps at then steps else at
+
 -- The answer and the stores are those of the state that the paper's run ends in.
-pub record Comes (P : Program) (offset : ℕ → ℕ) (after out out′ : List ℕ) (steps : ℕ) (e : running.Ended) (r : Ended) : Type 0 where
+pub record Comes (P : Program) (offset : ℕ → ℕ) (after out out′ : List ℕ) (e : running.Ended) (r : Ended) : Type 0 where
   pub ending : r .ending ≡ e .ending
-  pub place : r .place ≡ (if eqb (e .ending) 1 then 0 else offset (e .place))
-  pub left : r .left ≤ steps
-  pub counted : e .state .steps ≡ steps - r .left
+  pub place : r .place ≡ (if eqb (e .ending) 1 || eqb (e .ending) 9 then 0 else offset (e .place))
+  pub made : r .made ≡ e .state .steps
   pub errno : getD (cellsOf after) errnoCell 0 ≡ e .state .errno
-  pub used : getD (cellsOf after) usedCell 0 ≡ e .state .used
+  pub used : countAt (cellsOf after) usedCell ≡ e .state .used
   pub words : map (toZ w32) (take (length (P .words)) (cellsOf after)) ≡ e .state .words
   pub written : (R : List Head) → writtenIn P R (cellsOf after) ≡ length (e .state .output)
   pub output : take (length (e .state .output)) out′ ≡ e .state .output
   pub past : drop (length (e .state .output)) out′ ≡ drop (length (e .state .output)) out
 
-pub record Ran (text code values after inputs out out′ : List ℕ) (h steps depth : ℕ) (r : Ended) : Type 0 where
+pub record Ran (text code values after inputs out out′ : List ℕ) (h steps depth : ℕ) (abort : Abort) (r : Ended) : Type 0 where
   pub long : length after ≡ length values
   pub out-long : length out′ ≡ length out
   pub is : (b : Begins text code values h depth) (rooms : Rooms) → rooms .depth ≡ depth → Lends rooms inputs out →
-      Comes (b .P) (b .offset) after out out′ steps (run (b .P) rooms steps (started (b .P) (b .main))) r
+      Comes (b .P) (b .offset) after out out′ (runAbort (b .P) rooms steps (abortOf abort) (started (b .P) (b .main))) r
 
 -- ---- the parts of a run
--- a step's answer that ends the run
-pub data Stops (code : List ℕ) (answer left : ℕ) : Type 0 where
-  byStep : (n : ℕ) → n ≤ fellOff → answer ≡ ended + n → length code ≡ storeBytes → Stops code answer left
-  byLack : (n w : ℕ) → beyondDepth ≤ n → n ≤ noRoom → w < answers → answer ≡ lackedBy n + w → left + 1 < cellValues → length code ≡ storeBytes → Stops code answer left
+-- An answer that ends a run, by a step, or because no more are lent, after so many steps with the one that it is of.
+pub data Stops (code : List ℕ) (answer made : ℕ) : Type 0 where
+  byStep : (n : ℕ) → n ≤ stepsSpent → answer ≡ ended + n → length code ≡ storeBytes → Stops code answer made
+  byLack : (n w : ℕ) → beyondDepth ≤ n → n ≤ noRoom → w < answers → answer ≡ lackedBy n + w → 0 < made → length code ≡ storeBytes → Stops code answer made
 
-pub record Stopped (code : List ℕ) (i answer left : ℕ) (e : Ended) : Type 0 where
-  pub by-step : (n : ℕ) → n ≤ fellOff → answer ≡ ended + n → (e .ending ≡ n) × (e .place ≡ (if eqb n mainReturned then 0 else placeAt (cellsOf code) i)) × (e .left ≡ left)
-  pub by-lack : (n w : ℕ) → beyondDepth ≤ n → n ≤ noRoom → w < answers → answer ≡ lackedBy n + w → (e .ending ≡ n) × (e .place ≡ placeAt (cellsOf code) w) × (e .left ≡ left + 1)
+pub record Stopped (code : List ℕ) (i answer made : ℕ) (e : Ended) : Type 0 where
+  pub by-step : (n : ℕ) → n ≤ stepsSpent → answer ≡ ended + n → (e .ending ≡ n) × (e .place ≡ (if eqb n mainReturned then 0 else placeAt (cellsOf code) i)) × (e .made ≡ made)
+  pub by-lack : (n w : ℕ) → beyondDepth ≤ n → n ≤ noRoom → w < answers → answer ≡ lackedBy n + w → (e .ending ≡ n) × (e .place ≡ placeAt (cellsOf code) w) × (e .made ≡ made - 1)
 
 pub record MayBegin (code values : List ℕ) (h : ℕ) : Type 0 where
   pub text : List ℕ
@@ -78,6 +92,5 @@ pub record MayBegin (code values : List ℕ) (h : ℕ) : Type 0 where
 pub record Begun (code values after : List ℕ) (h : ℕ) : Type 0 where
   pub long : length after ≡ length values
   pub written : (P : Program) (R : List Head) → (text : List ℕ) (depth : ℕ) → Begins text code values h depth → writtenIn P R (cellsOf after) ≡ 0
-  pub used : (text : List ℕ) (depth : ℕ) → Begins text code values h depth → getD (cellsOf after) usedCell 0 ≡ 0
   pub live : (text : List ℕ) (depth : ℕ) (b : Begins text code values h depth) → Live (b .P) (b .R) (cellsOf after) 0 (placeAt (cellsOf code) h)
   pub state : (text : List ℕ) (depth : ℕ) (b : Begins text code values h depth) (out : List ℕ) → stateIn (b .P) (b .R) (cellsOf after) 0 (placeAt (cellsOf code) h) 0 out ≡ started (b .P) (b .main)

@@ -18,11 +18,14 @@ joined-requires c κs = search needs
 get-requires-4 : tie.Need-get-requires-4
 get-requires-4 c κs = search needs
 
+get-requires-5 : tie.Need-get-requires-5
+get-requires-5 c κs = search needs
+
+joined-requires-2 : tie.Need-joined-requires-2
+joined-requires-2 c κs = search needs
+
 cast-put-record : tie.Need-cast-put-record
 cast-put-record c = search needs
-
-cast-put-record-2 : tie.Need-cast-put-record-2
-cast-put-record-2 c = search needs
 
 put-record-requires : tie.Need-put-record-requires
 put-record-requires c κs = search needs
@@ -42,8 +45,9 @@ report-spec =
     get-requires-3
     joined-requires
     get-requires-4
+    get-requires-5
+    joined-requires-2
     cast-put-record
-    cast-put-record-2
     put-record-requires
     same-length
     returns)

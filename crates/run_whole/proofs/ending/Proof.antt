@@ -1,4 +1,4 @@
-use Rattle.run_whole.proofs.RunStops.{stops-whole, stops-low, stops-high, stops-left, stopped-main, stopped-step, stopped-lack}
+use Rattle.run_whole.proofs.RunStops.{stops-whole, stops-low, stops-high, stops-made, stopped-main, stopped-step, stopped-lack}
 use borrow.Author.Needs.{needs}
 use Rattle.run_whole.proofs.ending.Statement.{statement}
 use Rattle.run_whole.proofs.ending.Tie as tie
@@ -30,8 +30,8 @@ cast-t13 c = search (needs, stops-high)
 place-of-requires-2 : tie.Need-place-of-requires-2
 place-of-requires-2 c κs = search (needs, stops-whole)
 
-add-t16 : tie.Need-add-t16
-add-t16 c = search (needs, stops-left)
+sub-t16 : tie.Need-sub-t16
+sub-t16 c = search (needs, stops-made)
 
 returns-3 : tie.Need-returns-3
 returns-3 c = search (needs, stopped-lack)
@@ -49,5 +49,5 @@ ending-spec =
     add-t12
     cast-t13
     place-of-requires-2
-    add-t16
+    sub-t16
     returns-3)
