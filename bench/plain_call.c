@@ -27,8 +27,8 @@ static void answer(uint8_t *record, const struct run *run) {
     put_field(record, 7, module.words);
 }
 
-uint32_t plain_run(const uint8_t *text, size_t text_length, uint32_t steps, uint32_t depth, const uint8_t *inputs, size_t inputs_length, uint8_t *output,
-                   size_t output_length, uint8_t *code, size_t code_length, uint8_t *values, size_t values_length, uint8_t *record, size_t record_length) {
+/* The call for a run of which the allowances, inputs and output are set. */
+static uint32_t call(const uint8_t *text, size_t text_length, struct run run, uint8_t *code, size_t code_length, uint8_t *values, size_t values_length, uint8_t *record, size_t record_length) {
     if (record_length < RAPID_RECORD_BYTES)
         return 0;
     if (code_length < RAPID_STORE_BYTES || values_length < RAPID_STORE_BYTES) {
@@ -37,7 +37,7 @@ uint32_t plain_run(const uint8_t *text, size_t text_length, uint32_t steps, uint
     }
     memset(code, 0, RAPID_STORE_BYTES);
     memset(values, 0, RAPID_STORE_BYTES);
-    if (depth < 1 || depth > RAPID_DEPTH_LIMIT) {
+    if (run.depth < 1 || run.depth > RAPID_DEPTH_LIMIT) {
         refuse(record, RAPID_DEPTH_OUT_OF_RANGE, 0);
         return 1;
     }
@@ -46,10 +46,24 @@ uint32_t plain_run(const uint8_t *text, size_t text_length, uint32_t steps, uint
         refuse(record, refusal.number, refusal.place);
         return 1;
     }
-    struct run run = {.inputs = inputs, .input_count = inputs_length / 4, .output = output, .room = output_length, .allowance = steps, .depth = depth};
     memcpy(data, module.start, module.words * sizeof *data);
     plain_perform(&module, data, &run);
     memcpy(values, data, module.words * sizeof *data);
     answer(record, &run);
     return 1;
+}
+
+uint32_t plain_run(const uint8_t *text, size_t text_length, uint32_t steps, uint32_t depth, const uint8_t *inputs, size_t inputs_length, uint8_t *output,
+                   size_t output_length, uint8_t *code, size_t code_length, uint8_t *values, size_t values_length, uint8_t *record, size_t record_length) {
+    struct run run = {.inputs = inputs, .input_count = inputs_length / 4, .output = output, .room = output_length, .allowance = steps, .depth = depth};
+    return call(text, text_length, run, code, code_length, values, values_length, record, record_length);
+}
+
+uint32_t plain_run_until(const uint8_t *text, size_t text_length, uint32_t flags, uint32_t steps, uint32_t depth, uint32_t at, uint32_t undo, const uint8_t *inputs, size_t inputs_length,
+                         uint8_t *output, size_t output_length, uint8_t *code, size_t code_length, uint8_t *values, size_t values_length, uint8_t *record, size_t record_length) {
+    struct run run = {
+        .inputs = inputs, .input_count = inputs_length / 4, .output = output, .room = output_length, .allowance = steps, .depth = depth, .aborts = 1, .at = at, .undo = undo};
+    if (flags)
+        return 0;
+    return call(text, text_length, run, code, code_length, values, values_length, record, record_length);
 }

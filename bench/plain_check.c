@@ -1,5 +1,5 @@
 /* Checks a module as one would write it in C: one recursive descent over the tokens that looks at form, names and types and makes the tree. Refusals 8 and 9
- * end it at once; of 10 to 17 the least is kept. */
+ * end it at once; of 10 to 17 and 19 the least is kept. */
 #include "plain_tokens.h"
 #include <setjmp.h>
 #include <string.h>
@@ -8,9 +8,14 @@
 static const struct token *now;
 static jmp_buf refused_form;
 static struct refusal form_refusal;
-static uint32_t least_fault; /* of 10 to 17: its place and then its number */
+static uint32_t least_fault; /* its place, and then its standing among those at one place */
 #define NO_FAULT UINT32_MAX
-enum { NUMBER_BITS = 5 };
+enum { STANDING_BITS = 6, BEHIND_10 = 2 * 10 + 1 };
+
+/* By their numbers, but that 19 comes between 10 and 11. */
+static uint32_t standing(uint32_t number) { return number == RAPID_HIDING_LOOP ? BEHIND_10 : 2 * number; }
+
+static uint32_t number_of(uint32_t standing) { return standing == BEHIND_10 ? RAPID_HIDING_LOOP : standing / 2; }
 
 static _Noreturn void refuse_form(uint32_t number, uint32_t place) {
     form_refusal = (struct refusal){number, place};
@@ -18,7 +23,7 @@ static _Noreturn void refuse_form(uint32_t number, uint32_t place) {
 }
 
 static void fault(uint32_t number, uint32_t place) {
-    uint32_t code = place << NUMBER_BITS | number;
+    uint32_t code = place << STANDING_BITS | standing(number);
     if (code < least_fault)
         least_fault = code;
 }
@@ -362,7 +367,7 @@ static void data(void) {
 
 /* ---- statements */
 static struct routine *current; /* the routine around them */
-static int in_handler;          /* in its ERROR list */
+static int in_handler, in_undo; /* in its ERROR list, in its UNDO list */
 static int32_t case_values[WORD_LIMIT], *next_case_value;
 
 static struct step *list(int depth);
@@ -405,6 +410,8 @@ static void call(struct step *s, int is_func, enum type wanted) {
         fault(RAPID_WRONG_KIND, callee->place);
         routine = NULL;
     }
+    if (in_undo)
+        fault(RAPID_BARRED_HERE, callee->place);
     if (is_func)
         expect(S_OPEN);
     s->routine = routine;
@@ -501,9 +508,9 @@ static struct step *read(void) {
 static struct step *simple(void) {
     switch (now->sort) {
     case S_NAME: return assignment_or_call();
-    case S_RETURN: return valued(RETURN_VALUE, RETURN, !current->is_func, current->is_func, current->result);
-    case S_RAISE: return valued(RAISE_VALUE, RAISE_ON, in_handler, !in_handler, NUM);
-    case S_EXIT: return word_alone(EXIT, 0);
+    case S_RETURN: return valued(RETURN_VALUE, RETURN, in_undo || !current->is_func, in_undo || current->is_func, current->result);
+    case S_RAISE: return valued(RAISE_VALUE, RAISE_ON, in_undo || in_handler, !in_handler, NUM);
+    case S_EXIT: return word_alone(EXIT, in_undo);
     case S_RETRY: return word_alone(RETRY, !in_handler);
     case S_TRYNEXT: return word_alone(TRYNEXT, !in_handler);
     case S_TPWRITE: return write();
@@ -565,6 +572,8 @@ static struct step *for_statement(int depth) {
     struct step *s = new_step(FOR, now->place);
     new_step(FOR_NEXT, now++->place);
     const struct token *name = expect(S_NAME);
+    if (symbols[plain_names[name->value].symbol].level == ROUTINE_LEVEL)
+        fault(RAPID_HIDING_LOOP, name->place);
     level++;
     int fresh = declarable(name);
     s->word = s[1].word = (uint16_t)take_words(name, 1, 0);
@@ -663,7 +672,7 @@ static void link_list(struct step **first, struct step *after) {
 /* A list of the routine and the step of its end, at the word there. */
 static struct step *routine_list(void) {
     struct step *first = list(0);
-    struct step *end = new_step(current->is_func ? END_OF_FUNC : END_OF_PROC, now->place);
+    struct step *end = new_step(in_undo ? END_OF_UNDO : current->is_func ? END_OF_FUNC : END_OF_PROC, now->place);
     link_list(&first, end);
     return first;
 }
@@ -701,7 +710,7 @@ static void routine(size_t number) {
     routine_name(expect(S_NAME), number);
     size_t mark = symbol_count;
     level = ROUTINE_LEVEL;
-    in_handler = 0;
+    in_handler = in_undo = 0;
     parameters();
     data();
     current->first = routine_list();
@@ -709,6 +718,12 @@ static void routine(size_t number) {
         in_handler = 1;
         current->has_handler = 1;
         current->handler = routine_list();
+        in_handler = 0;
+    }
+    if (accept(S_UNDO)) {
+        in_undo = 1;
+        current->has_undo = 1;
+        current->undo = routine_list();
     }
     expect(current->is_func ? S_ENDFUNC : S_ENDPROC);
     current->start = room.start;
@@ -798,7 +813,7 @@ struct refusal plain_check(const uint8_t *text, size_t length, struct module *mo
         return form_refusal;
     whole_module(module);
     if (least_fault != NO_FAULT)
-        return (struct refusal){least_fault & ((1 << NUMBER_BITS) - 1), least_fault >> NUMBER_BITS};
+        return (struct refusal){number_of(least_fault & ((1 << STANDING_BITS) - 1)), least_fault >> STANDING_BITS};
     const struct symbol *main_symbol = &symbols[plain_names[MAIN_NAME].symbol];
     module->main = &routines[main_symbol->value];
     if (main_symbol->meaning != M_ROUTINE || module->main->is_func || module->main->parameters)

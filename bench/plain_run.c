@@ -362,20 +362,58 @@ static const struct step *after_failure(struct machine *m, const struct step *s)
 /* Does an ending count the step that it ends? */
 static uint32_t counts_step(uint32_t ending) { return ending < RAPID_STEPS_SPENT; }
 
+/* The UNDO list of a live call, up to its end or an error; 0 where the run ends in it. */
+static int undo_list(struct machine *m, struct call *c, uint32_t *left) {
+    const struct step *s = c->routine->undo, *next;
+    m->top = c;
+    m->words = c->words;
+    for (; *left; s = next) {
+        next = s->kind == END_OF_UNDO ? NULL : perform(m, s);
+        if (next == NULL && s->kind != END_OF_UNDO) {
+            if (m->raised == 0)
+                return 0;
+            error = m->raised;
+        }
+        --*left;
+        if (next == NULL)
+            return 1;
+    }
+    ends(m, RAPID_UNDO_SPENT, s->place);
+    return 0;
+}
+
+/* Drops the live calls, the newest first. */
+static void drop_all(struct machine *m) {
+    uint32_t left = m->run->undo;
+    size_t live = (size_t)(m->top - calls) + 1;
+    int goes_on = 1;
+    while (goes_on && live--)
+        goes_on = !calls[live].routine->has_undo || undo_list(m, &calls[live], &left);
+    if (goes_on)
+        ends(m, RAPID_ABORTED, 0);
+    m->run->steps = (uint64_t)m->run->at + (m->run->undo - left);
+    m->run->error = (uint32_t)error;
+}
+
 void plain_perform(const struct module *module, int32_t *module_data, struct run *run) {
     struct machine m = {.top = calls, .last = calls + run->depth - 1, .run = run};
     data = module_data;
     error = 0;
     const struct step *s = enter(&m, module->main, NULL), *next;
-    uint32_t left = run->allowance;
+    int aborts = run->aborts && run->at <= run->allowance;
+    uint32_t steps = aborts ? run->at : run->allowance, left = steps;
     for (; left; left--) {
         next = perform(&m, s);
         if (next == NULL && (next = after_failure(&m, s)) == NULL)
             break;
         s = next;
     }
+    if (left == 0 && aborts) {
+        drop_all(&m);
+        return;
+    }
     if (left == 0)
         ends(&m, RAPID_STEPS_SPENT, s->place);
-    run->steps = run->allowance - left + counts_step(run->ending);
+    run->steps = steps - left + counts_step(run->ending);
     run->error = (uint32_t)error;
 }

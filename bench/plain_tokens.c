@@ -6,8 +6,8 @@
 static const char *const reserved[] = {
     "and", "bool", "case", "const", "default", "div", "do", "else", "elseif", "endfor", "endfunc", "endif", "endmodule", "endproc", "endtest", "endwhile", "error",
     "exit", "false", "for", "from", "func", "if", "mod", "module", "not", "num", "or", "proc", "raise", "retry", "return", "step", "test", "then", "to",
-    "tpreadnum", "tpwrite", "true", "trynext", "var", "while", "xor",
-    "alias", "backward", "connect", "endrecord", "endtrap", "goto", "inout", "local", "nostepin", "noview", "pers", "readonly", "record", "sysmodule", "trap", "undo",
+    "tpreadnum", "tpwrite", "true", "trynext", "undo", "var", "while", "xor",
+    "alias", "backward", "connect", "endrecord", "endtrap", "goto", "inout", "local", "nostepin", "noview", "pers", "readonly", "record", "sysmodule", "trap",
     "viewonly", "with",
 };
 _Static_assert(sizeof reserved / sizeof *reserved == RESERVED_WORDS, "all reserved words");

@@ -36,7 +36,7 @@ struct node {
 };
 
 enum kind {
-    ASSIGN, CALL, RETURN, RETURN_VALUE, RAISE_VALUE, RAISE_ON, EXIT, RETRY, TRYNEXT, WRITE, READ, CHOOSE, WHILE, FOR, FOR_NEXT, TEST, END_OF_PROC, END_OF_FUNC
+    ASSIGN, CALL, RETURN, RETURN_VALUE, RAISE_VALUE, RAISE_ON, EXIT, RETRY, TRYNEXT, WRITE, READ, CHOOSE, WHILE, FOR, FOR_NEXT, TEST, END_OF_PROC, END_OF_FUNC, END_OF_UNDO
 };
 
 /* One way out of an IF (by a condition; an ELSE has none) or of a TEST (by values). */
@@ -64,12 +64,12 @@ struct step {
 };
 
 struct routine {
-    uint8_t is_func, has_handler;
+    uint8_t is_func, has_handler, has_undo;
     enum type result;
     uint16_t parameters, words;
     const enum type *types;   /* of the parameters */
     const int32_t *start;     /* what its words start with */
-    struct step *first, *handler;
+    struct step *first, *handler, *undo;
 };
 
 struct refusal {
@@ -88,8 +88,11 @@ struct run {
     uint8_t *output;
     size_t room;
     uint32_t allowance, depth;
+    int aborts; /* at this step; so many steps for UNDO lists then */
+    uint32_t at, undo;
     /* the answer */
-    uint32_t ending, place, steps, error;
+    uint32_t ending, place, error;
+    uint64_t steps;
     size_t written, read;
 };
 

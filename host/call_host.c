@@ -1,9 +1,8 @@
-/* Answers case lines `run TEXT STEPS DEPTH INPUTS OUTLEN CODELEN VALUELEN` (reference/README.md has their form) by the whole call, so that `diff` compares
+/* Answers case lines `run TEXT STEPS DEPTH INPUTS OUTLEN CODELEN VALUELEN [AT UNDO]` (reference/README.md has their form) by the whole call, so that `diff` compares
  * it with the independent program. Everything is lent between guard pages (guarded.h), at each of its edges; the host ends with a message and status 1
  * where a call returns anything else than the paper says, leaves another store than module words and zeros, or writes a byte that it may not. */
-#include "case_lines.h"
+#include "case_call.h"
 #include "guarded.h"
-#include "rapid.h"
 #include <stdio.h>
 #include <stdlib.h>
 #include <string.h>
@@ -33,17 +32,22 @@ static void expect_store(struct guarded *g, size_t words, size_t kept_words, int
     expect(guarded_kept(g, end), otherwise);
 }
 
+/* Lends memory for the case: text and inputs filled in, stores and inputs with `part` bytes more, and so many for the record. */
+static struct case_memory lend(enum edge edge, size_t part, size_t record_length) {
+    struct case_memory m = {.inputs_length = 4 * asked.input_count + part, .code_length = 4 * asked.code_words + part, .values_length = 4 * asked.value_words + part, .record_length = record_length};
+    m.text = memcpy(guarded_lend(&lent_text, asked.text_length, edge), asked.text, asked.text_length);
+    m.inputs = memcpy(guarded_lend(&lent_inputs, m.inputs_length, edge), asked.inputs, 4 * asked.input_count);
+    m.output = guarded_lend(&lent_output, asked.room, edge);
+    m.code = guarded_lend(&lent_code, m.code_length, edge);
+    m.values = guarded_lend(&lent_values, m.values_length, edge);
+    m.record = guarded_lend(&lent_record, m.record_length, edge);
+    return m;
+}
+
 /* One call. `part` bytes more than whole words are lent of inputs and stores: a part word is left out. */
 static void call_once(enum edge edge, size_t part) {
-    memcpy(guarded_lend(&lent_text, asked.text_length, edge), asked.text, asked.text_length);
-    memcpy(guarded_lend(&lent_inputs, 4 * asked.input_count + part, edge), asked.inputs, 4 * asked.input_count);
-    guarded_lend(&lent_output, asked.room, edge);
-    guarded_lend(&lent_code, 4 * asked.code_words + part, edge);
-    guarded_lend(&lent_values, 4 * asked.value_words + part, edge);
-    guarded_lend(&lent_record, RAPID_RECORD_BYTES + part, edge);
-    int returned = (int)rapid_run(lent_text.lent, asked.text_length, asked.steps, asked.depth, lent_inputs.lent, 4 * asked.input_count + part, lent_output.lent, asked.room, lent_code.lent,
-                                  4 * asked.code_words + part, lent_values.lent, 4 * asked.value_words + part, lent_record.lent, RAPID_RECORD_BYTES + part);
-    expect(returned == 1, "rapid_run did not return 1");
+    struct case_memory m = lend(edge, part, RAPID_RECORD_BYTES + part);
+    expect(case_call(&asked, 0, &m) == 1, "the call did not return 1");
     expect(memcmp(lent_text.lent, asked.text, asked.text_length) == 0 && guarded_kept(&lent_text, asked.text_length), "the text was written to");
     expect(memcmp(lent_inputs.lent, asked.inputs, 4 * asked.input_count) == 0 && guarded_kept(&lent_inputs, 4 * asked.input_count), "the inputs were written to");
     expect(guarded_kept(&lent_record, RAPID_RECORD_BYTES), "bytes beside the record were written");
@@ -71,17 +75,18 @@ static void expect_same(void) {
         expect(kept[i] == (int32_t)number_at(lent_values.lent + 4 * i, 4), "other memory, other data");
 }
 
-/* Fewer than 64 bytes for the record: 0, and nothing is touched. */
-static void call_without_record(enum edge edge) {
-    memcpy(guarded_lend(&lent_text, asked.text_length, edge), asked.text, asked.text_length);
-    guarded_lend(&lent_output, asked.room, edge);
-    guarded_lend(&lent_code, 4 * asked.code_words, edge);
-    guarded_lend(&lent_values, 4 * asked.value_words, edge);
-    guarded_lend(&lent_record, RAPID_RECORD_BYTES - 1, edge);
-    int returned = (int)rapid_run(lent_text.lent, asked.text_length, asked.steps, asked.depth, NULL, 0, lent_output.lent, asked.room, lent_code.lent, 4 * asked.code_words, lent_values.lent, 4 * asked.value_words,
-                                  lent_record.lent, RAPID_RECORD_BYTES - 1);
-    expect(returned == 0, "rapid_run did not return 0 for too short a record");
-    expect(guarded_kept(&lent_output, 0) && guarded_kept(&lent_code, 0) && guarded_kept(&lent_values, 0) && guarded_kept(&lent_record, 0), "touched without a record");
+/* A call that is not answered: 0, and nothing is touched. */
+static void expect_none(enum edge edge, uint32_t flags, size_t record_length, const char *otherwise) {
+    struct case_memory m = lend(edge, 0, record_length);
+    expect(case_call(&asked, flags, &m) == 0, otherwise);
+    expect(guarded_kept(&lent_output, 0) && guarded_kept(&lent_code, 0) && guarded_kept(&lent_values, 0) && guarded_kept(&lent_record, 0), "touched though there is no answer");
+}
+
+/* Fewer than 64 bytes for the record, and for a case with K each flag, since none has a meaning. */
+static void call_for_nothing(enum edge edge) {
+    expect_none(edge, 0, RAPID_RECORD_BYTES - 1, "the call did not return 0 for too short a record");
+    if (asked.aborts)
+        expect_none(edge, (uint32_t)1 << line_number / 16 % 32, RAPID_RECORD_BYTES, "the call did not return 0 for a flag");
 }
 
 static void print_answer(void) {
@@ -123,7 +128,7 @@ int main(int count, char **words) {
         call_once(other, 3);
         expect_same();
         if (line_number % 16 == 0)
-            call_without_record(one);
+            call_for_nothing(one);
         print_answer();
     }
     return 0;

@@ -55,6 +55,17 @@ static const char *read_inputs(const char *field, struct call_case *into) {
     return NULL;
 }
 
+/* What may follow the store lengths: K and the UNDO allowance. 1 where the line ends well. */
+static int read_abort(const char *field, struct call_case *into) {
+    uint64_t at = 0, undo = 0;
+    into->aborts = field[-1] == ' ';
+    if (into->aborts)
+        field = read_count(read_count(field, UINT32_MAX, &at), UINT32_MAX, &undo);
+    into->at = (uint32_t)at;
+    into->undo = (uint32_t)undo;
+    return field != NULL && field[-1] == '\n';
+}
+
 int case_read(const char *line, struct call_case *into) {
     uint64_t steps, depth, room, code, values;
     const char *at;
@@ -66,7 +77,7 @@ int case_read(const char *line, struct call_case *into) {
     at = read_count(read_count(at + 1, UINT32_MAX, &steps), UINT32_MAX, &depth);
     at = read_count(read_inputs(at, into), MOST_OUTPUT, &room);
     at = read_count(read_count(at, MOST_STORE_BYTES / 4 - 1, &code), MOST_STORE_BYTES / 4 - 1, &values);
-    if (at == NULL)
+    if (at == NULL || !read_abort(at, into))
         return 0;
     into->text_length = (size_t)length;
     into->steps = (uint32_t)steps;

@@ -1,4 +1,4 @@
-/* Case lines `run TEXT STEPS DEPTH INPUTS OUTLEN CODELEN VALUELEN`; reference/README.md has their form. */
+/* Case lines `run TEXT STEPS DEPTH INPUTS OUTLEN CODELEN VALUELEN [AT UNDO]`; reference/README.md has their form. */
 #ifndef CASE_LINES_H
 #define CASE_LINES_H
 #include <stddef.h>
@@ -11,6 +11,8 @@ struct call_case {
     uint8_t text[MOST_TEXT], inputs[4 * MOST_INPUTS]; /* inputs as the call takes them: four bytes each, low byte first */
     size_t text_length, input_count, room, code_words, value_words;
     uint32_t steps, depth;
+    int aborts; /* whether there is a step number K, `at`, and an UNDO allowance */
+    uint32_t at, undo;
 };
 
 /* Whether the line is a case, within what a host lends. */

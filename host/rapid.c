@@ -33,18 +33,30 @@ static int may_be_lent(const struct slice *slices, size_t count) {
     return 1;
 }
 
-/* ---- the calls */
-int rapid_call(const struct rapid_lent *lent, struct rapid_record *record) {
+/* Whether a call may be made with what is lent, and the struct that is filled in. */
+static int may_call(const struct rapid_lent *lent, const struct rapid_record *record) {
     if (lent == NULL || record == NULL)
         return 0;
     const struct slice slices[] = {
         {lent->text, lent->text_length, 1}, {lent->inputs, lent->input_count, sizeof(int32_t)}, {lent->output, lent->output_length, 1}, {lent->code, lent->code_words, sizeof(int32_t)},
         {lent->values, lent->value_words, sizeof(int32_t)}, {lent, 1, sizeof *lent}, {record, 1, sizeof *record},
     };
-    if (!may_be_lent(slices, sizeof slices / sizeof *slices))
+    return may_be_lent(slices, sizeof slices / sizeof *slices);
+}
+
+/* ---- the calls */
+int rapid_call(const struct rapid_lent *lent, struct rapid_record *record) {
+    if (!may_call(lent, record))
         return 0;
     return (int)rapid_run(lent->text, lent->text_length, lent->steps, lent->depth, (const uint8_t *)lent->inputs, 4 * lent->input_count, lent->output, lent->output_length,
                           (uint8_t *)lent->code, 4 * lent->code_words, (uint8_t *)lent->values, 4 * lent->value_words, (uint8_t *)record, RAPID_RECORD_BYTES);
+}
+
+int rapid_call_until(const struct rapid_lent *lent, uint32_t at, uint32_t undo, struct rapid_record *record) {
+    if (!may_call(lent, record))
+        return 0;
+    return (int)rapid_run_until(lent->text, lent->text_length, 0, lent->steps, lent->depth, at, undo, (const uint8_t *)lent->inputs, 4 * lent->input_count, lent->output,
+                                lent->output_length, (uint8_t *)lent->code, 4 * lent->code_words, (uint8_t *)lent->values, 4 * lent->value_words, (uint8_t *)record, RAPID_RECORD_BYTES);
 }
 
 int rapid_words(const uint8_t *text, size_t text_length, struct rapid_word *words, size_t room, struct rapid_listing *listing) {
@@ -73,6 +85,8 @@ static const char *const endings[] = {
     "a call goes beyond the call depth",
     "no input is left for TPReadNum",
     "a whole line does not fit into the output",
+    "the pointer was moved to main, and every UNDO list is done",
+    "all UNDO steps are spent",
 };
 
 static const char *const refusals[] = {
@@ -93,8 +107,9 @@ static const char *const refusals[] = {
     "wrong argument count",
     "constant expression that would raise an error, or size outside 1..512",
     "over 64 routines, 1,024 module words, or 64 words a routine (parameters, data, each FOR variable)",
-    "barred here: RETRY, TRYNEXT or plain RAISE outside ERROR, RAISE with a value in it, RETURN with a value in a PROC or without one in a FUNC",
+    "barred here: RETRY, TRYNEXT or plain RAISE outside ERROR, RAISE with a value in it, RETURN with a value in a PROC or without one in a FUNC; in UNDO a call, RETRY, TRYNEXT, RAISE, RETURN or EXIT",
     "no PROC main without parameters",
+    "FOR variable named like a parameter or data of its routine",
 };
 
 static const char *const errors[] = {"ERR_OVERFLOW", "ERR_DIVZERO", "ERR_OUTOFBND", "ERR_ILLRAISE"};

@@ -1,7 +1,7 @@
 /* The RAPID lesson bench for C and C++: check and run a module's text, list its words, and ask about a place in it. docs/EMBEDDING.md shows how it is used.
  *
- * Behind it stand three proved libraries of one function each: `call_pendant` (rapid_run), `call_listing` (rapid_list) and `call_asking` (rapid_ask). rapid.c has thin wrappers
- * on C's own types (rapid_call, rapid_words, rapid_word_at) and the sentences; nothing else stands between a caller and the proved code. host/build puts all of it
+ * Behind it stand three proved libraries: `call_pendant` (rapid_run, rapid_run_until), `call_listing` (rapid_list) and `call_asking` (rapid_ask). rapid.c has thin wrappers
+ * on C's own types (rapid_call, rapid_call_until, rapid_words, rapid_word_at) and the sentences; nothing else stands between a caller and the proved code. host/build puts all of it
  * into one librapid.a. No memory is used but what is lent, and some stack. Nothing is kept between calls: with memory of its own each thread may call at any time.
  *
  * A slice is a pointer and its length. It must be readable, or writable where it is not const, over its whole length, which is at most PTRDIFF_MAX bytes, and no two
@@ -28,7 +28,7 @@ extern "C" {
 
 /* ---- version */
 /* Version 1.2.3 is 10203. The first number changes where the rule above is broken, the second where something is new, the third where something is mended. */
-#define RAPID_VERSION 10100
+#define RAPID_VERSION 10200
 
 /* RAPID_VERSION of the header that the library was compiled with. */
 uint32_t rapid_version(void);
@@ -58,7 +58,9 @@ enum rapid_ending {
     RAPID_STEPS_SPENT,      /* the allowance: the next step's place */
     RAPID_DEPTH_SPENT,      /* a call beyond the depth: the callee */
     RAPID_NO_INPUT_LEFT,    /* TPReadNum: the statement */
-    RAPID_NO_OUTPUT_ROOM    /* a whole line does not fit: the statement */
+    RAPID_NO_OUTPUT_ROOM,   /* a whole line does not fit: the statement */
+    RAPID_ABORTED,          /* the pointer was moved to main, all UNDO lists are done: 0 */
+    RAPID_UNDO_SPENT        /* the UNDO allowance: the next UNDO step's place */
 };
 
 /* Why a module is refused; what the offset is then. */
@@ -80,8 +82,9 @@ enum rapid_refusal {
     RAPID_WRONG_COUNT = 14,        /* of the callee */
     RAPID_BAD_CONSTANT = 15,       /* of its expression */
     RAPID_LIMIT_CROSSED = 16,      /* of the name that crosses it */
-    RAPID_BARRED_HERE = 17,        /* of the word */
-    RAPID_NO_MAIN = 18             /* 0 */
+    RAPID_BARRED_HERE = 17,        /* of the word; for a call in UNDO, the callee */
+    RAPID_NO_MAIN = 18,            /* 0 */
+    RAPID_HIDING_LOOP = 19         /* of the FOR variable; it comes between 10 and 11 */
 };
 
 /* Numbers in ERRNO that the language raises itself; RAISE gives 1 to 90. */
@@ -127,6 +130,18 @@ int rapid_call(const struct rapid_lent *lent, struct rapid_record *record);
 /* The same, as the proved code takes it: bytes for words, four each, low byte first. 0, and nothing is touched, where the record has fewer than RAPID_RECORD_BYTES. */
 uint32_t rapid_run(const uint8_t *text, size_t text_length, uint32_t steps, uint32_t depth, const uint8_t *inputs, size_t inputs_length, uint8_t *output, size_t output_length, uint8_t *code,
                    size_t code_length, uint8_t *values, size_t values_length, uint8_t *record, size_t record_length);
+
+/* ---- a call that moves the pointer to main
+ * If the allowance is at least `at` and that many steps would end the run with RAPID_STEPS_SPENT, every live routine is dropped there instead, innermost first, and each
+ * runs its UNDO list, if it has one; all lists together take at most `undo` steps. The run then ends with RAPID_ABORTED, or with RAPID_UNDO_SPENT, RAPID_NO_INPUT_LEFT or
+ * RAPID_NO_OUTPUT_ROOM inside a list; the record's steps count those of the lists too. Else it is the run of rapid_call. docs/UNDO.md says it for a trainer. */
+
+/* As rapid_call, with the step at which the pointer is moved, and the UNDO allowance. */
+int rapid_call_until(const struct rapid_lent *lent, uint32_t at, uint32_t undo, struct rapid_record *record);
+
+/* The same, as the proved code takes it. `flags` is 0: with a flag that is not known it returns 0 and touches nothing. */
+uint32_t rapid_run_until(const uint8_t *text, size_t text_length, uint32_t flags, uint32_t steps, uint32_t depth, uint32_t at, uint32_t undo, const uint8_t *inputs, size_t inputs_length,
+                         uint8_t *output, size_t output_length, uint8_t *code, size_t code_length, uint8_t *values, size_t values_length, uint8_t *record, size_t record_length);
 
 /* A sentence for an ending, for a refusal, and the name of an error; NULL for any other number. */
 const char *rapid_ending_sentence(uint64_t ending);

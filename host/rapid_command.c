@@ -12,7 +12,7 @@
 
 enum { FINISHED = 0, REFUSED = 1, ENDED_OTHERWISE = 2, USAGE = 64 };
 enum { MOST_TEXT = 1 << 20, MOST_INPUTS = 10000, MOST_ROOM = 1 << 24, MOST_TRACED = 20000 };
-enum { STEPS = 10000, DEPTH = 16, ROOM = 4096, TRACED = 200 }; /* where no option says otherwise */
+enum { STEPS = 10000, DEPTH = 16, ROOM = 4096, TRACED = 200, UNDO_STEPS = 1000 }; /* where no option says otherwise */
 
 static const char help[] =
     "rapid: check and run RAPID lessons on the proved bench\n"
@@ -22,6 +22,9 @@ static const char help[] =
     "  rapid list FILE..                                                        the words, with place and kind\n"
     "  rapid trace FILE.. [--steps N] [--depth N] [--input N,N,..] [--room N]   the place of each step\n"
     "  rapid --version                                                          the version of library and command\n"
+    "\n"
+    "run and trace also take --abort-at K [--undo N]: before step K + 1 the pointer is moved to main, and the\n"
+    "routines that are live run their UNDO lists, the innermost first, in at most N steps (1,000 without --undo).\n"
     "\n"
     "FILE may be -, for standard input; each of several files gets the same options. Without options a run has\n"
     "10,000 steps, call depth 16, no input and room for 4,096 bytes of output, as the bench program has; a trace\n"
@@ -38,10 +41,10 @@ static const char help[] =
 
 static struct {
     char **files;
-    int file_count, steps_given, json;
-    uint32_t steps, depth;
+    int file_count, steps_given, json, aborts, undo_given;
+    uint32_t steps, depth, abort_at, undo;
     size_t room, input_count;
-} asked = {NULL, 0, 0, 0, STEPS, DEPTH, ROOM, 0};
+} asked = {NULL, 0, 0, 0, 0, 0, STEPS, DEPTH, 0, UNDO_STEPS, ROOM, 0};
 static int32_t inputs[MOST_INPUTS], code[RAPID_STORE_WORDS], values[RAPID_STORE_WORDS];
 static uint8_t text[MOST_TEXT + 1], output[MOST_ROOM];
 static size_t text_length;
@@ -91,12 +94,18 @@ static void read_option(const char *option, const char *value) {
         asked.depth = number(value, option, UINT32_MAX);
     else if (strcmp(option, "--room") == 0)
         asked.room = number(value, option, MOST_ROOM);
-    else
+    else if (strcmp(option, "--abort-at") == 0) {
+        asked.abort_at = number(value, option, UINT32_MAX);
+        asked.aborts = 1;
+    } else if (strcmp(option, "--undo") == 0) {
+        asked.undo = number(value, option, UINT32_MAX);
+        asked.undo_given = 1;
+    } else
         read_inputs(value);
 }
 
 static int is_numbered(const char *word) {
-    static const char *const options[] = {"--steps", "--depth", "--room", "--input", NULL};
+    static const char *const options[] = {"--steps", "--depth", "--room", "--input", "--abort-at", "--undo", NULL};
     for (const char *const *option = options; *option; option++)
         if (strcmp(*option, word) == 0)
             return 1;
@@ -133,6 +142,8 @@ static void read_words(char **words, int takes_numbers) {
     }
     if (asked.file_count == 0)
         give_up("a file is missing (see rapid --help)", NULL);
+    if (asked.undo_given && !asked.aborts)
+        give_up("--undo says how many steps UNDO lists may take once --abort-at has moved the pointer", NULL);
 }
 
 /* NULL, or why a file is not read. */
@@ -238,7 +249,8 @@ static int object_ends(const struct rapid_record *r, const char *sentence, int s
 }
 
 /* ---- what is said of a file */
-static struct rapid_record called(uint32_t steps) {
+/* A call with so many steps; or, with UNDO steps allowed, one that moves the pointer to main where it is to be moved. */
+static struct rapid_record called_with(uint32_t steps, const uint32_t *undo) {
     struct rapid_record r = {0};
     struct rapid_lent lent = {0};
     lent.text = text, lent.text_length = text_length;
@@ -247,10 +259,12 @@ static struct rapid_record called(uint32_t steps) {
     lent.output = output, lent.output_length = asked.room;
     lent.code = code, lent.code_words = RAPID_STORE_WORDS;
     lent.values = values, lent.value_words = RAPID_STORE_WORDS;
-    if (!rapid_call(&lent, &r))
+    if (!(undo ? rapid_call_until(&lent, asked.abort_at, *undo, &r) : rapid_call(&lent, &r)))
         give_up("the bench did not answer", NULL);
     return r;
 }
+
+static struct rapid_record called(uint32_t steps) { return called_with(steps, NULL); }
 
 /* Where several files are asked about, each is named above what is said of it. A refusal names its own file. */
 static void tell_file(void) {
@@ -304,11 +318,11 @@ static void tell_counts(const struct rapid_record *r) {
 
 static int told_end(const struct rapid_record *r) {
     struct place p = place_of(r->offset);
-    int returned = r->ending == RAPID_RETURNED;
+    int returned = r->ending == RAPID_RETURNED, has_place = !returned && r->ending != RAPID_ABORTED;
     if (asked.json)
         return object_ends(r, rapid_ending_sentence(r->ending), returned ? FINISHED : ENDED_OTHERWISE);
     printf("%sended%s: ", returned || r->ending == RAPID_EXITED ? GREEN(stdout) : YELLOW(stdout), PLAIN(stdout));
-    if (!returned)
+    if (has_place)
         printf("line %zu, column %zu: ", p.line, p.column);
     printf("%" PRIu64 ": %s", r->ending, rapid_ending_sentence(r->ending));
     if (r->ending == RAPID_ERROR_UNHANDLED) {
@@ -316,14 +330,14 @@ static int told_end(const struct rapid_record *r) {
         tell_error(r->error);
     }
     putchar('\n');
-    if (!returned)
+    if (has_place)
         show_place(stdout, r->offset);
     tell_counts(r);
     return returned ? FINISHED : ENDED_OTHERWISE;
 }
 
 static int run(void) {
-    struct rapid_record r = called(asked.steps);
+    struct rapid_record r = called_with(asked.steps, asked.aborts ? &asked.undo : NULL);
     if (told_refusal(&r))
         return REFUSED;
     tell_file();
@@ -347,10 +361,13 @@ static int check(void) {
 }
 
 /* ---- a trace */
-static void show_step(uint32_t number, size_t offset) {
+/* A step of an UNDO list is marked as one. */
+static void show_step(uint64_t number, size_t offset, int undo) {
     struct place p = place_of(offset);
     size_t behind = offset + word_at(offset);
-    printf("%s%6" PRIu32 "  %4zu:%-4zu|%s ", DIM(stdout), number, p.line, p.column, PLAIN(stdout));
+    printf("%s%6" PRIu64 "  %4zu:%-4zu|%s ", DIM(stdout), number, p.line, p.column, PLAIN(stdout));
+    if (undo)
+        printf("%sUNDO%s ", YELLOW(stdout), PLAIN(stdout));
     show_bytes(stdout, p.begin, offset);
     fputs(CYAN(stdout), stdout);
     show_bytes(stdout, offset, behind);
@@ -367,31 +384,57 @@ static void show_output(size_t begin, size_t end) {
     }
 }
 
-static void object_step(uint32_t number, size_t offset) {
-    printf("%s{\"step\":%" PRIu32 ",", number > 1 ? "," : "", number);
+static void object_step(uint64_t number, size_t offset, int undo) {
+    printf("%s{\"step\":%" PRIu64 ",", number > 1 ? "," : "", number);
     object_place(offset);
-    putchar('}');
+    fputs(undo ? ",\"undo\":true}" : "}", stdout);
+}
+
+/* The step at an offset, and what the call that ends behind it wrote more than the one before. */
+static void tell_step(uint64_t number, size_t offset, int undo, size_t before, size_t written) {
+    if (asked.json)
+        object_step(number, offset, undo);
+    else {
+        show_step(number, offset, undo);
+        show_output(before, written);
+    }
 }
 
 /* One step more at each call: more room never changes an answer, so the place where a run of n steps stops is that of its step n + 1. */
+static struct rapid_record trace_steps(struct rapid_record r, uint32_t most) {
+    size_t before = 0;
+    for (uint32_t n = 0; r.ending == RAPID_STEPS_SPENT && n < most; before = r.output) {
+        size_t offset = r.offset;
+        r = called(++n);
+        tell_step(n, offset, 0, before, r.output);
+    }
+    return r;
+}
+
+/* The same of the UNDO allowance, behind the step at which the pointer is moved. */
+static struct rapid_record trace_undo(struct rapid_record stopped) {
+    uint32_t undo = 0;
+    struct rapid_record r = called_with(asked.abort_at, &undo);
+    for (size_t before = stopped.output; r.ending == RAPID_UNDO_SPENT && undo < asked.undo && undo < MOST_TRACED; before = r.output) {
+        size_t offset = r.offset;
+        undo++;
+        r = called_with(asked.abort_at, &undo);
+        tell_step((uint64_t)asked.abort_at + undo, offset, 1, before, r.output);
+    }
+    return r;
+}
+
 static int trace(void) {
     uint32_t most = asked.steps_given ? asked.steps : TRACED;
-    size_t before = 0;
+    int strikes = asked.aborts && asked.abort_at <= most;
     struct rapid_record r = called(0);
     if (told_refusal(&r))
         return REFUSED;
     tell_file();
     fputs(asked.json ? ",\"trace\":[" : "", stdout);
-    for (uint32_t n = 0; r.ending == RAPID_STEPS_SPENT && n < most; before = r.output) {
-        size_t offset = r.offset;
-        r = called(++n);
-        if (asked.json)
-            object_step(n, offset);
-        else {
-            show_step(n, offset);
-            show_output(before, r.output);
-        }
-    }
+    r = trace_steps(r, strikes ? asked.abort_at : most);
+    if (strikes && r.ending == RAPID_STEPS_SPENT)
+        r = trace_undo(r);
     fputs(asked.json ? "]" : "", stdout);
     return told_end(&r);
 }

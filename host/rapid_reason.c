@@ -66,13 +66,19 @@ static int opens_call(size_t i) { return is(i, "(") && has_kind(before(i), RAPID
 /* ---- the type of an operand; of one in parentheses it is not asked */
 enum type { UNKNOWN, NUM, BOOL };
 
+struct name { char letters[RAPID_NAME_LIMIT + 1]; };
+
+/* The name at i, empty where there is none. */
+static struct name name_at(size_t i) {
+    struct name name = {{0}};
+    if (has_kind(i, RAPID_NAME) && words[i].length < sizeof name.letters)
+        memcpy(name.letters, text + words[i].place, words[i].length);
+    return name;
+}
+
 static int same_name(size_t i, size_t k) {
-    char name[RAPID_NAME_LIMIT + 1];
-    if (!has_kind(i, RAPID_NAME) || words[i].length >= sizeof name)
-        return 0;
-    memcpy(name, text + words[i].place, words[i].length);
-    name[words[i].length] = 0;
-    return is(k, name);
+    struct name name = name_at(i);
+    return has_kind(i, RAPID_NAME) && is(k, name.letters);
 }
 
 /* The word that begins the first routine, behind the module's data. */
@@ -175,7 +181,7 @@ static const char *wrong_type(size_t i, char *sentence, size_t room) {
 
 /* ---- 12: what a name is, and is taken for */
 static int in_constant_expression(size_t i) {
-    static const char *const holders[] = {"VAR", "CONST", "CASE", NULL}, *const ends[] = {";", ":", "THEN", "DO", "ELSE", "ERROR", NULL};
+    static const char *const holders[] = {"VAR", "CONST", "CASE", NULL}, *const ends[] = {";", ":", "THEN", "DO", "ELSE", "ERROR", "UNDO", NULL};
     for (i = before(i); i < count && !one_of(i, ends); i = before(i))
         if (one_of(i, holders))
             return 1;
@@ -186,7 +192,7 @@ static int is_target(size_t i) { return is(before(i), "TPReadNum") || is(behind_
 
 /* A statement also begins behind a compact IF's condition, which ends with an operand; but behind a name that begins one, there is its first argument. */
 static int begins_statement(size_t i) {
-    static const char *const ends[] = {";", ":", "THEN", "DO", "ELSE", "ERROR", ")", "}", "TRUE", "FALSE", NULL};
+    static const char *const ends[] = {";", ":", "THEN", "DO", "ELSE", "ERROR", "UNDO", ")", "}", "TRUE", "FALSE", NULL};
     size_t p = before(i);
     return one_of(p, ends) || has_kind(p, RAPID_NUMBER) || (has_kind(p, RAPID_NAME) && !begins_statement(p));
 }
@@ -208,6 +214,44 @@ static const char *wrong_kind(size_t i) {
     return is_target(i) ? "barred target: ERRNO, constants and FOR variables cannot be targets" : NULL;
 }
 
+/* ---- 19: what a FOR variable is named like */
+/* The type of the parameter or data that the routine of the FOR variable at i declares by this name. */
+static size_t own_declaration(size_t i) {
+    size_t k = i;
+    while (k < count && !is(k, "PROC") && !is(k, "FUNC"))
+        k = before(k);
+    for (; k < i; k++)
+        if ((is(k, "num") || is(k, "bool")) && !is(before(k), "FUNC") && same_name(i, k + 1))
+            return k;
+    return NO_WORD;
+}
+
+static const char *decimal(size_t n, char *digits, size_t room) {
+    digits[--room] = 0;
+    do
+        digits[--room] = (char)('0' + n % 10);
+    while ((n /= 10) > 0);
+    return digits + room;
+}
+
+static size_t line_of(size_t i) {
+    size_t line = 1;
+    for (size_t k = 0; k < words[i].place; k++)
+        line += text[k] == '\n';
+    return line;
+}
+
+static const char *hidden(size_t i, char *sentence, size_t room) {
+    size_t k = own_declaration(i);
+    char line[8]; /* of a text's 32,768 bytes */
+    if (k == NO_WORD)
+        return NULL;
+    const char *kind = is(before(k), "CONST") ? "constant" : is(k + 2, "{") ? "array" : is(before(k), "VAR") ? "variable" : "parameter";
+    struct name name = name_at(k + 1);
+    snprintf(sentence, room, "FOR variable named like the %s %s of its routine, declared in line %s", kind, name.letters, decimal(line_of(k + 1), line, sizeof line));
+    return sentence;
+}
+
 /* ---- the other rules */
 static const char *malformed(uint8_t first) {
     if (first == '"')
@@ -217,7 +261,25 @@ static const char *malformed(uint8_t first) {
     return upper((char)first) >= 'A' && upper((char)first) <= 'Z' ? "malformed word: a name has at most 32 characters" : "malformed word: no word starts so";
 }
 
+/* Whether a word stands in its routine's UNDO list, which is the last. */
+static int in_undo(size_t i) {
+    static const char *const begins[] = {"UNDO", "ERROR", "PROC", "FUNC", NULL};
+    while (i < count && !one_of(i, begins))
+        i = before(i);
+    return is(i, "UNDO");
+}
+
+static const char *barred_in_undo(size_t i) {
+    static const char *const barred_words[] = {"RETURN", "RAISE", "EXIT", "RETRY", "TRYNEXT", NULL}, *const sentences[] = {"RETURN in UNDO", "RAISE in UNDO", "EXIT in UNDO", "RETRY in UNDO", "TRYNEXT in UNDO"};
+    for (size_t k = 0; barred_words[k]; k++)
+        if (is(i, barred_words[k]))
+            return sentences[k];
+    return "a call in UNDO";
+}
+
 static const char *barred(size_t i) {
+    if (in_undo(i))
+        return barred_in_undo(i);
     if (is(i, "RETURN"))
         return is(i + 1, ";") ? "RETURN without a value in a FUNC" : "RETURN with a value in a PROC";
     if (is(i, "RAISE"))
@@ -245,6 +307,8 @@ static const char *narrower(uint64_t refusal, size_t i, char *sentence, size_t r
         return wrong_type(i, sentence, room);
     case RAPID_BARRED_HERE:
         return barred(i);
+    case RAPID_HIDING_LOOP:
+        return hidden(i, sentence, room);
     default:
         return NULL;
     }
@@ -252,7 +316,7 @@ static const char *narrower(uint64_t refusal, size_t i, char *sentence, size_t r
 
 const char *rapid_reason(const uint8_t *lent, size_t text_length, uint64_t refusal, size_t offset, char *sentence, size_t room) {
     struct rapid_listing listing = {0, 0, 0};
-    char part[64];
+    char part[128];
     text = lent;
     rapid_words(text, text_length, words, RAPID_WORD_LIMIT, &listing);
     count = listing.words;

@@ -85,6 +85,25 @@ static void test_overlap(void) {
     expect(rapid_call(&lent, &record) == 0, "the output stands in what lends it");
 }
 
+/* The pointer is moved to main; and what the wrapper does not let through. */
+static void test_until(void) {
+    static const char undoes[] = "MODULE m PROC main() WHILE TRUE DO ENDWHILE UNDO TPWrite \"off\"; ENDPROC ENDMODULE";
+    struct rapid_lent lent = good;
+    lent.text = (const uint8_t *)undoes, lent.text_length = sizeof undoes - 1;
+    expect(rapid_call_until(&lent, 5, 2, &record) == 1 && record.ending == RAPID_ABORTED && record.offset == 0 && record.steps == 7 && record.output == 4, "an UNDO list is run");
+    expect(rapid_call_until(&lent, 5, 1, &record) == 1 && record.ending == RAPID_UNDO_SPENT && record.steps == 6, "the UNDO steps are spent");
+    expect(rapid_call_until(&lent, lent.steps + 1, 2, &record) == 1 && record.ending == RAPID_STEPS_SPENT && record.output == 0, "an allowance below the step at which the pointer is moved");
+    expect(rapid_call_until(&lent, 0, UINT32_MAX, &record) == 1 && record.ending == RAPID_ABORTED && record.steps == 2, "the pointer is moved before the first step");
+    expect(rapid_call_until(NULL, 5, 2, &record) == 0 && rapid_call_until(&lent, 5, 2, NULL) == 0, "NULL where it may not be");
+    struct rapid_record before = record;
+    lent.values = lent.code;
+    expect(rapid_call_until(&lent, 5, 2, &record) == 0, "one store for both");
+    lent = good;
+    expect(rapid_run_until(lent.text, lent.text_length, 1, 100, 4, 5, 2, NULL, 0, output, sizeof output, (uint8_t *)code, sizeof code, (uint8_t *)values, sizeof values, (uint8_t *)&record, sizeof record) == 0,
+           "a flag that is not known");
+    expect(memcmp(&before, &record, sizeof record) == 0, "a call that is not made touches nothing");
+}
+
 static void test_words(void) {
     struct rapid_word words[2] = {{9, 9, 9}, {9, 9, 9}};
     struct rapid_listing listing;
@@ -112,13 +131,13 @@ static void test_word_at(void) {
 }
 
 static void test_sentences(void) {
-    for (uint64_t i = 0; i <= RAPID_NO_OUTPUT_ROOM; i++)
+    for (uint64_t i = 0; i <= RAPID_UNDO_SPENT; i++)
         expect(rapid_ending_sentence(i) != NULL, "a sentence for each ending");
-    for (uint64_t i = 1; i <= RAPID_NO_MAIN; i++)
+    for (uint64_t i = 1; i <= RAPID_HIDING_LOOP; i++)
         expect(rapid_refusal_sentence(i) != NULL, "a sentence for each refusal");
     for (uint64_t i = RAPID_ERR_OVERFLOW; i <= RAPID_ERR_ILLRAISE; i++)
         expect(rapid_error_name(i) != NULL, "a name for each error");
-    expect(!rapid_ending_sentence(RAPID_NO_OUTPUT_ROOM + 1) && !rapid_refusal_sentence(RAPID_NOT_REFUSED) && !rapid_refusal_sentence(RAPID_NO_MAIN + 1), "NULL for any other number");
+    expect(!rapid_ending_sentence(RAPID_UNDO_SPENT + 1) && !rapid_refusal_sentence(RAPID_NOT_REFUSED) && !rapid_refusal_sentence(RAPID_HIDING_LOOP + 1), "NULL for any other number");
     expect(!rapid_error_name(7) && !rapid_error_name(1000) && !rapid_error_name(1005) && !rapid_ending_sentence(UINT64_MAX), "NULL for any other number");
 }
 
@@ -127,6 +146,7 @@ int main(void) {
     good = lent;
     test_call();
     test_overlap();
+    test_until();
     test_words();
     test_word_at();
     expect(rapid_version() == RAPID_VERSION, "the library is of the header's version");

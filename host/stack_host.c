@@ -1,7 +1,6 @@
 /* Reads case lines and says how many bytes of stack the deepest of the calls used: each runs in a thread on a stack of its own that was painted before. */
 #define _POSIX_C_SOURCE 200809L
-#include "case_lines.h"
-#include "rapid.h"
+#include "case_call.h"
 #include <pthread.h>
 #include <stdio.h>
 #include <stdlib.h>
@@ -15,8 +14,8 @@ static uint8_t output[MOST_OUTPUT], code[RAPID_STORE_BYTES], values[RAPID_STORE_
 static void *nothing(void *unused) { return unused; }
 
 static void *call(void *unused) {
-    rapid_run(asked.text, asked.text_length, asked.steps, asked.depth, asked.inputs, 4 * asked.input_count, output, asked.room, code, sizeof code, values, sizeof values, record,
-              sizeof record);
+    const struct case_memory m = {asked.text, asked.inputs, output, code, values, record, 4 * asked.input_count, sizeof code, sizeof values, sizeof record};
+    case_call(&asked, 0, &m);
     return unused;
 }
 

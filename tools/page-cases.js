@@ -36,12 +36,13 @@ const all = (bytes, value) => Buffer.from(bytes.buffer, bytes.byteOffset, bytes.
 
 function answerRun(calls, fields) {
   const at = (name, count) => new Uint8Array(calls.memory.buffer, calls[`${name}_at`](), count);
-  const text = bytesOf(fields[1]), inputs = fields[4] === "-" ? [] : fields[4].split(",").map(Number), [room, code, values] = fields.slice(5).map(Number);
+  const text = bytesOf(fields[1]), inputs = fields[4] === "-" ? [] : fields[4].split(",").map(Number), [room, code, values, ...abort] = fields.slice(5).map(Number), [steps, depth] = fields.slice(2, 4).map(Number);
   at("text", calls.text_room()).fill(MARK).set(text);
   new Int32Array(calls.memory.buffer, calls.inputs_at(), inputs.length).set(inputs);
   at("output", room + 64 <= calls.output_room() ? room + 64 : room).fill(MARK);
   for (const [name, count] of [["code", code], ["values", values]]) at(name, 4 * count).fill(MARK);
-  expect(calls.run(text.length, Number(fields[2]), Number(fields[3]), inputs.length, room, code, values) === 1, "no answer");
+  const rooms = [inputs.length, room, code, values], returned = abort.length ? calls.run_until(text.length, steps, depth, ...abort, ...rooms) : calls.run(text.length, steps, depth, ...rooms);
+  expect(returned === 1, "no answer");
   const record = Array.from(new BigUint64Array(calls.memory.buffer, calls.record_at(), 8), Number), touched = record[1] !== 1;
   expect(Buffer.compare(Buffer.from(at("text", text.length)), text) === 0, "the text was written to");
   expect(record[5] <= room && all(at("output", room).subarray(record[5]), MARK), "output past the count was written");
@@ -72,7 +73,11 @@ function refuseLengths(bench) {
   const { calls } = bench, room = calls.text_room(), fits = [0, 1, 1, 0, 0, STORE, STORE], most = [room, 0, 0, calls.input_room(), calls.output_room(), 65536, 65536];
   const record = new Uint8Array(calls.memory.buffer, calls.record_at(), 64).fill(MARK);
   for (const i of [0, 3, 4, 5, 6]) {
-    for (const length of [most[i] + 1, 2 ** 31, 2 ** 32 - 1]) expect(calls.run(...fits.map((fit, k) => (k === i ? length : fit))) === 0 && all(record, MARK), `run takes ${length} as its number ${i + 1}`);
+    for (const length of [most[i] + 1, 2 ** 31, 2 ** 32 - 1]) {
+      const lent = fits.map((fit, k) => (k === i ? length : fit));
+      expect(calls.run(...lent) === 0 && all(record, MARK), `run takes ${length} as its number ${i + 1}`);
+      expect(calls.run_until(...lent.slice(0, 3), 0, 0, ...lent.slice(3)) === 0 && all(record, MARK), `run_until takes ${length} for number ${i + 1} of run`);
+    }
   }
   for (const length of [room + 1, 2 ** 31, 2 ** 32 - 1]) expect(calls.list(length) === 0 && calls.ask(length, 0n) === 0 && calls.names(length) === 0 && calls.reason(length, 8, 0) === 0, `a text of ${length} bytes is taken`);
   for (const refusal of [0, 99, 2 ** 32 - 1]) expect(calls.reason(0, refusal, 0) === 0, "a reason for no refusal");
@@ -149,7 +154,7 @@ async function main() {
   for (const line of fs.readFileSync(0, "latin1").split("\n").slice(0, -1)) {
     number += 1;
     const fields = line.split(" ");
-    out.push(fields[0] === "run" && fields.length === 8 ? answerRun(bench.calls, fields) : fields[0] === "list" || fields[0] === "at" ? answerList(bench.calls, fields) : "bad line");
+    out.push(fields[0] === "run" && (fields.length === 8 || fields.length === 10) ? answerRun(bench.calls, fields) : fields[0] === "list" || fields[0] === "at" ? answerList(bench.calls, fields) : "bad line");
   }
   fs.writeFileSync(1, `${out.join("\n")}\n`);
 }

@@ -37,11 +37,12 @@ async function openBench(library) {
     return length;
   }
 
-  // { text, steps, depth, inputs, room }: checks and runs, as the proved call does
+  // { text, steps, depth, inputs, room }: checks and runs, as the proved call does; with { at, undo } the pointer is moved to main at that step
   function run(asked) {
     const length = lend(asked.text), { inputs } = asked;
     if (inputs.length <= calls.input_room()) memory(Int32Array, calls.inputs_at(), inputs.length).set(inputs);
-    if (!calls.run(length, asked.steps, asked.depth, inputs.length, asked.room, calls.store_words(), calls.store_words())) throw new Error("the bench did not answer");
+    const rooms = [inputs.length, asked.room, calls.store_words(), calls.store_words()];
+    if (!("at" in asked ? calls.run_until(length, asked.steps, asked.depth, asked.at, asked.undo, ...rooms) : calls.run(length, asked.steps, asked.depth, ...rooms))) throw new Error("the bench did not answer");
     const fields = memory(BigUint64Array, calls.record_at(), RECORD.length), answer = {};
     RECORD.forEach((name, i) => { answer[name] = Number(fields[i]); });
     answer.stand = STANDS[calls.stand(answer.ending)];

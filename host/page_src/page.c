@@ -38,17 +38,27 @@ SHOWN(uint32_t, depth_limit)(void) { return RAPID_DEPTH_LIMIT; }
 SHOWN(uint32_t, version)(void) { return rapid_version(); }
 
 /* ---- the calls */
-SHOWN(uint32_t, run)(uint32_t length, uint32_t steps, uint32_t depth, uint32_t input_count, uint32_t room, uint32_t code_words, uint32_t value_words) {
-    struct rapid_lent lent = {0};
+static int lends(struct rapid_lent *lent, uint32_t length, uint32_t steps, uint32_t depth, uint32_t input_count, uint32_t room, uint32_t code_words, uint32_t value_words) {
     if (length > TEXT_ROOM || input_count > INPUT_ROOM || room > OUTPUT_ROOM || code_words > STORE_ROOM || value_words > STORE_ROOM)
         return 0;
-    lent.text = text, lent.text_length = length;
-    lent.steps = steps, lent.depth = depth;
-    lent.inputs = inputs, lent.input_count = input_count;
-    lent.output = output, lent.output_length = room;
-    lent.code = code, lent.code_words = code_words;
-    lent.values = values, lent.value_words = value_words;
-    return (uint32_t)rapid_call(&lent, &record);
+    lent->text = text, lent->text_length = length;
+    lent->steps = steps, lent->depth = depth;
+    lent->inputs = inputs, lent->input_count = input_count;
+    lent->output = output, lent->output_length = room;
+    lent->code = code, lent->code_words = code_words;
+    lent->values = values, lent->value_words = value_words;
+    return 1;
+}
+
+SHOWN(uint32_t, run)(uint32_t length, uint32_t steps, uint32_t depth, uint32_t input_count, uint32_t room, uint32_t code_words, uint32_t value_words) {
+    struct rapid_lent lent = {0};
+    return lends(&lent, length, steps, depth, input_count, room, code_words, value_words) && rapid_call(&lent, &record);
+}
+
+/* The pointer is moved to main at a step. */
+SHOWN(uint32_t, run_until)(uint32_t length, uint32_t steps, uint32_t depth, uint32_t at, uint32_t undo, uint32_t input_count, uint32_t room, uint32_t code_words, uint32_t value_words) {
+    struct rapid_lent lent = {0};
+    return lends(&lent, length, steps, depth, input_count, room, code_words, value_words) && rapid_call_until(&lent, at, undo, &record);
 }
 
 SHOWN(uint32_t, list)(uint32_t length) { return length <= TEXT_ROOM && rapid_words(text, length, words, RAPID_WORD_LIMIT, &listing); }
@@ -123,7 +133,7 @@ SHOWN(uint32_t, stand)(uint32_t ending) {
 /* Whether an ending, or else a refusal, has a place in the text. */
 SHOWN(uint32_t, has_place)(uint32_t ending, uint32_t refusal) {
     if (ending != RAPID_REFUSED)
-        return ending != RAPID_RETURNED;
+        return ending != RAPID_RETURNED && ending != RAPID_ABORTED;
     return refusal > RAPID_DEPTH_OUT_OF_RANGE && refusal != RAPID_NO_MAIN;
 }
 

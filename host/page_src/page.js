@@ -3,6 +3,7 @@
 
 async function openPage() {
   const PAUSE = 250; // milliseconds without a key until the text is checked
+  const UNDO_STEPS = 1000; // that UNDO lists may make, as the command has it
   const element = (id) => document.getElementById(id);
   const library = Uint8Array.from(atob(element("library").textContent.trim()), (c) => c.charCodeAt(0));
   const bench = await openBench(library);
@@ -10,6 +11,7 @@ async function openPage() {
   const lessons = JSON.parse(element("lesson-texts").textContent);
   let name = "", pause = 0, accepted = false, names = null, running = false, wanted = null, isOwn = false, own = null; // own: the latest text that was written here and then left for another
   let inputs = [], total = null, at = null, stepping = false; // of the run that is shown: its numbers, its steps, after how many of them it is shown, and whether one goes through it by steps
+  let moved = null; // after how many of its steps the pointer was moved to main; the steps behind them are those of UNDO lists
 
   // ---- parts
   const editor = makeEditor(bench, edited);
@@ -26,6 +28,7 @@ async function openPage() {
     forth: () => (at === null ? begin() : stepTo(at + 1)),
     last: () => { stepping = false; return at === null ? runAll() : show(total); },
     to: stepTo,
+    toMain: moveToMain,
   });
   const list = makeLessons(lessons, (lesson) => open(lesson.name, lesson.text));
 
@@ -56,7 +59,7 @@ async function openPage() {
   function forget() {
     if (running) runner.stop();
     inputs = [];
-    total = at = wanted = names = null;
+    total = at = wanted = names = moved = null;
     stepping = false;
     data.forget();
     screen.show("", false);
@@ -90,7 +93,8 @@ async function openPage() {
   editor.field.addEventListener("input", tellWord);
 
   // ---- runs
-  const asked = (allowed) => ({ text: editor.text(), ...settings(), steps: allowed, inputs });
+  const asked = (allowed) => ({ text: editor.text(), ...settings(), inputs, ...(moved === null || allowed <= moved ? { steps: allowed } : { steps: moved, at: moved, undo: allowed - moved }) });
+  const most = () => (moved === null ? settings().steps : moved + UNDO_STEPS);
 
   // an answer, or null where it was stopped or the text has changed
   async function called(allowed) {
@@ -103,7 +107,7 @@ async function openPage() {
     } finally {
       running = false;
       steps.busy(false);
-      steps.show(at, total, accepted);
+      steps.show(at, total, accepted, moved);
     }
   }
 
@@ -122,7 +126,7 @@ async function openPage() {
 
   // the whole run with the numbers so far, then as it is after so many steps; without a count, at its end
   async function runOn(after) {
-    const answer = await called(settings().steps);
+    const answer = await called(most());
     if (!answer) { if (accepted && total === null) message.say("quiet", "Stopped"); return; }
     total = answer.steps;
     if (after === null || after >= total) tell(answer, total);
@@ -134,12 +138,19 @@ async function openPage() {
     return show(after);
   }
 
+  // the rest of the run is that of the UNDO lists, which are then gone through by steps
+  async function moveToMain() {
+    moved = at;
+    stepping = true;
+    await runOn(at);
+  }
+
   // a run with fewer steps is a beginning of the longer one (demand 3). While a finger moves on the track, only the latest place is shown.
   async function show(after) {
     wanted = Math.max(0, Math.min(total, after));
     if (running) return;
     while (wanted !== null && total !== null) {
-      const next = wanted, answer = await called(next === total ? settings().steps : next);
+      const next = wanted, answer = await called(next === total ? most() : next);
       if (!answer) return;
       if (wanted === next) { wanted = null; tell(answer, next); }
     }
@@ -155,13 +166,13 @@ async function openPage() {
     const isEnd = after === total, place = !isEnd || answer.hasPlace ? { offset: answer.offset, ...editor.placeOf(answer.offset) } : null;
     names = names || bench.names(editor.text());
     if (isEnd) message.say(answer.stand, `${answer.stand === "asks" ? "Waits" : "Ended"}: ${answer.sentence}`);
-    else message.say("step", `Step ${after.toLocaleString("en")} of ${total.toLocaleString("en")}`);
+    else message.say("step", `Step ${after.toLocaleString("en")} of ${total.toLocaleString("en")}${moved !== null && after >= moved ? ": UNDO" : ""}`);
     message.at(place, isEnd ? "" : "next: ");
     message.counts(answer, isEnd);
     editor.markStep(place && place.offset);
     screen.show(answer.output, isEnd && answer.stand === "asks", answer.question);
     data.show(names, answer.values);
-    steps.show(at, total, accepted);
+    steps.show(at, total, accepted, moved);
   }
 
   // ---- the beginning

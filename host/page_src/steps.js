@@ -7,6 +7,8 @@ function makeSteps(actions) {
     buttons[name] = document.getElementById(name);
     buttons[name].addEventListener("click", () => actions[name]());
   }
+  const toMain = document.getElementById("to-main");
+  toMain.addEventListener("click", () => actions.toMain());
   const track = document.getElementById("track"), progress = document.getElementById("progress"), caption = buttons.run.querySelector("span");
   track.addEventListener("input", () => actions.to(Number(track.value)));
   document.addEventListener("keydown", (event) => {
@@ -17,9 +19,10 @@ function makeSteps(actions) {
   });
 
   return {
-    // `at` of `total` steps are shown; null where nothing has run
-    show(at, total, mayRun) {
+    // `at` of `total` steps are shown; null where nothing has run. The pointer can be moved where a step is left, and no UNDO list runs.
+    show(at, total, mayRun, moved = null) {
       const runs = at !== null;
+      toMain.disabled = !mayRun || !runs || at >= (moved === null ? total : moved);
       buttons.run.disabled = !mayRun;
       buttons.forth.disabled = buttons.last.disabled = !mayRun || (runs && at === total);
       buttons.first.disabled = buttons.back.disabled = !mayRun || !runs || at === 0;
@@ -34,7 +37,7 @@ function makeSteps(actions) {
       if (isBusy) {
         for (const name of ["first", "back", "forth", "last"]) buttons[name].disabled = true;
         buttons.run.disabled = false;
-        track.disabled = true;
+        track.disabled = toMain.disabled = true;
       }
       progress.hidden = true;
       track.hidden = false;

@@ -3,7 +3,7 @@
 use crate::counts::Counts;
 use crate::form::form;
 use crate::names::settle;
-use crate::run::{run, Allowance};
+use crate::run::{run, Abort, Allowance};
 use crate::scan::{list, Refusal};
 
 const STORE_WORDS: u64 = 16_384;
@@ -18,6 +18,8 @@ pub struct Lent {
     pub output_room: u64,
     pub code_words: u64,
     pub value_words: u64,
+    /// Request 6: the step at which the pointer is moved to main, if it is.
+    pub abort: Option<Abort>,
 }
 
 /// The record, what was written and the module's words.
@@ -26,7 +28,7 @@ pub struct Answer {
     pub ending: u32,
     pub refusal: u32,
     pub offset: usize,
-    pub steps: u32,
+    pub steps: u64,
     pub errno: i64,
     pub inputs_used: usize,
     pub output: Vec<u8>,
@@ -62,6 +64,7 @@ pub fn lesson(text: Vec<u8>) -> Answer {
         output_room: 4_096,
         code_words: STORE_WORDS,
         value_words: STORE_WORDS,
+        abort: None,
     })
 }
 
@@ -93,6 +96,7 @@ fn accepted(lent: &Lent) -> Result<Answer, Refusal> {
         depth: lent.depth,
         inputs: &lent.inputs,
         output_room: lent.output_room,
+        abort: lent.abort,
     };
     let run = run(&module, main, &allowance);
     Ok(Answer {

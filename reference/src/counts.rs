@@ -13,6 +13,7 @@ pub enum Event {
     WhileRound,
     ForHead,
     ForTurned,
+    ForHides,
     ForRound,
     LoopInLoop,
     Call,
@@ -43,9 +44,20 @@ pub enum Event {
     ErrorInError,
     CallInError,
     LoopInError,
+    UndoPassedOver,
+    Struck,
+    UndoBegun,
+    UndoOfFunction,
+    UndoInError,
+    DroppedWithoutUndo,
+    ErrorInUndo,
+    LoopInUndo,
+    UndoDone,
+    NoInputInUndo,
+    NoRoomInUndo,
 }
 
-const NAMES: [&str; 40] = [
+const NAMES: [&str; 52] = [
     "assignment",
     "element of an array stored",
     "line written",
@@ -56,6 +68,7 @@ const NAMES: [&str; 40] = [
     "WHILE round",
     "FOR head",
     "FOR head without STEP that counts down",
+    "FOR head whose variable hides something",
     "FOR round",
     "loop entered in a loop (a WHILE at each round)",
     "call",
@@ -86,6 +99,17 @@ const NAMES: [&str; 40] = [
     "error in an ERROR list",
     "call from an ERROR list",
     "loop in an ERROR list",
+    "routine with an UNDO list dropped by an error",
+    "run aborted at its step K",
+    "UNDO list begun",
+    "UNDO list of a FUNC begun",
+    "UNDO list begun by a routine in its ERROR list",
+    "routine without an UNDO list dropped at step K",
+    "error in an UNDO list",
+    "loop in an UNDO list",
+    "UNDO list run to its end",
+    "no input left in an UNDO list",
+    "no room for a line in an UNDO list",
 ];
 
 /// How often each event came up.
@@ -102,16 +126,20 @@ impl Counts {
     pub fn add(&mut self, event: Event) {
         self.0[event as usize] += 1;
     }
+
+    pub fn times(&self, event: Event) -> u64 {
+        self.0[event as usize]
+    }
 }
 
 /// The bounds below which numbers of steps are counted together.
-const STEP_BOUNDS: [u32; 7] = [1, 10, 100, 1_000, 10_000, 100_000, u32::MAX];
+const STEP_BOUNDS: [u64; 7] = [1, 10, 100, 1_000, 10_000, 100_000, u64::MAX];
 
 /// The counts of many runs.
 pub struct Measures {
     runs: u64,
     steps: u64,
-    longest: u32,
+    longest: u64,
     by_steps: [u64; STEP_BOUNDS.len()],
     events: [u64; NAMES.len()],
     runs_with: [u64; NAMES.len()],
@@ -131,9 +159,9 @@ impl Default for Measures {
 }
 
 impl Measures {
-    pub fn count(&mut self, steps: u32, counts: &Counts) {
+    pub fn count(&mut self, steps: u64, counts: &Counts) {
         self.runs += 1;
-        self.steps += u64::from(steps);
+        self.steps += steps;
         self.longest = self.longest.max(steps);
         let bound = STEP_BOUNDS.iter().position(|bound| steps < *bound);
         self.by_steps[bound.unwrap_or(STEP_BOUNDS.len() - 1)] += 1;

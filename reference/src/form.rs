@@ -181,12 +181,15 @@ impl Reader<'_> {
         let data = self.data()?;
         let body = self.list(0)?;
         let body_end = self.place();
-        let error = if self.accept("ERROR") {
-            Some(self.list(0)?)
-        } else {
-            None
+        let error = self.list_after("ERROR")?;
+        let error_end = self.place();
+        let undo = self.list_after("UNDO")?;
+        let undo_end = self.expect(if is_func { "ENDFUNC" } else { "ENDPROC" })?;
+        let ends = Ends {
+            body: body_end,
+            error: error_end,
+            undo: undo_end,
         };
-        let end = self.expect(if is_func { "ENDFUNC" } else { "ENDPROC" })?;
         let words = Vec::new();
         Ok(Routine {
             name,
@@ -194,11 +197,20 @@ impl Reader<'_> {
             parameters,
             data,
             body,
-            body_end,
             error,
-            end,
+            undo,
+            ends,
             words,
         })
+    }
+
+    /// A further list of a routine, if the word that opens it is next.
+    fn list_after(&mut self, word: &str) -> Formed<Option<List>> {
+        if self.accept(word) {
+            self.list(0).map(Some)
+        } else {
+            Ok(None)
+        }
     }
 
     fn parameters(&mut self) -> Formed<Vec<Parameter>> {
@@ -280,6 +292,7 @@ impl Reader<'_> {
             to,
             step,
             body,
+            hides: false,
         })))
     }
 

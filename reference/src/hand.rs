@@ -1,4 +1,4 @@
-//! The table of cases worked out by hand, `run_cases/hand.txt`, and how it is read.
+//! The table of cases worked out by hand, `cases/hand.txt`, and how it is read.
 //!
 //! The table's own first lines describe its notation.
 
@@ -6,6 +6,7 @@ use std::collections::HashMap;
 
 use crate::bench::{Answer, Lent};
 use crate::lines::{show_answer, show_bytes, show_run};
+use crate::run::Abort;
 
 /// What stands around the lines that begin with `>`.
 const FRAME: [&str; 2] = [
@@ -140,7 +141,17 @@ impl Draft {
             output_room: self.setting("room", 4_096)?,
             code_words: self.setting("code", 16_384)?,
             value_words: self.setting("values", 16_384)?,
+            abort: self.abort()?,
         })
+    }
+
+    fn abort(&self) -> Result<Option<Abort>, String> {
+        if !self.settings.contains_key("at") {
+            return Ok(None);
+        }
+        let at = self.setting("at", 0)? as u32;
+        let undo = self.setting("undo", 1_000)? as u32;
+        Ok(Some(Abort { at, undo }))
     }
 
     fn expectation(&self, expected: &str) -> Result<HandCase, String> {
@@ -195,7 +206,7 @@ fn expected_answer(expected: &str, marker: Option<usize>) -> Result<Answer, Stri
             "refused" => answer.refusal = numbers[0] as u32,
             "ending" => answer.ending = numbers[0] as u32,
             "offset" => answer.offset = numbers[0] as usize,
-            "steps" => answer.steps = numbers[0] as u32,
+            "steps" => answer.steps = numbers[0] as u64,
             "errno" => answer.errno = numbers[0],
             "inputs" => answer.inputs_used = numbers[0] as usize,
             "words" => answer.words = numbers,

@@ -1,7 +1,7 @@
 //! A second, independent implementation of the RAPID lesson bench.
 //!
 //! It goes its own straightforward route: `scan` cuts the text into words,
-//! `check_form` builds trees, `check_names` collects every violation of rules 10 to 17 and
+//! `form` builds trees, `names` collects every violation of rules 10 to 17 and
 //! `run` steps through the trees. `lines` reads case lines and writes answers;
 //! `generate` makes case lines.
 

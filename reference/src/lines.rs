@@ -4,7 +4,11 @@ use std::fmt::Write;
 use std::str::FromStr;
 
 use crate::bench::{answer, Answer, Lent};
+use crate::run::Abort;
 use crate::scan::{list, word_at, Kind, Listing};
+
+/// What a `run` line without a step number K has behind its first word.
+const PLAIN_FIELDS: usize = 7;
 
 /// The answer line of a case line.
 pub fn answer_line(line: &str) -> String {
@@ -39,6 +43,13 @@ pub fn lent_of(line: &str) -> Option<Lent> {
 }
 
 fn read_run(fields: &[&str]) -> Option<Lent> {
+    let (fields, abort) = match fields {
+        [lent @ .., at, undo] if lent.len() == PLAIN_FIELDS => {
+            let (at, undo) = (read_count(at)?, read_count(undo)?);
+            (lent, Some(Abort { at, undo }))
+        }
+        lent => (lent, None),
+    };
     let [text, steps, depth, inputs, output, code, values] = fields else {
         return None;
     };
@@ -50,14 +61,18 @@ fn read_run(fields: &[&str]) -> Option<Lent> {
         output_room: read_count(output)?,
         code_words: read_count(code)?,
         value_words: read_count(values)?,
+        abort,
     })
 }
 
 /// The `run` line of a call.
 pub fn show_run(lent: &Lent) -> String {
     let inputs = show_list(&lent.inputs);
+    let abort = lent.abort.map_or(String::new(), |abort| {
+        format!(" {} {}", abort.at, abort.undo)
+    });
     format!(
-        "run {} {} {} {inputs} {} {} {}",
+        "run {} {} {} {inputs} {} {} {}{abort}",
         show_bytes(&lent.text),
         lent.steps,
         lent.depth,

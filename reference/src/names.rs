@@ -1,4 +1,4 @@
-//! Names, types, constants and limits: refusals 10 to 18.
+//! Names, types, constants and limits: refusals 10 to 19.
 //!
 //! Every violation is noted and the least taken at the end. A checking function
 //! hands back `None` for a refused piece, so that whatever needs its type, size
@@ -15,12 +15,22 @@ const MODULE_WORD_LIMIT: usize = 1_024;
 const ROUTINE_WORD_LIMIT: usize = 64;
 const LARGEST_ARRAY: i64 = 512;
 
-/// Settles every name of a module and finds its first refusal of 10 to 18.
+/// Where a refusal stands in the order of those at one place: by its number, but
+/// 19 is "between 10 and 11".
+fn standing(number: u32) -> u32 {
+    match number {
+        19 => 2 * 10 + 1,
+        _ => 2 * number,
+    }
+}
+
+/// Settles every name of a module and finds its first refusal of 10 to 19.
 /// The index of main is handed back.
 pub fn settle(module: &mut Module) -> Result<usize, Refusal> {
     let mut checker = Checker::new(module);
     checker.module(module);
-    if let Some(least) = checker.violations.iter().min() {
+    let in_order = |refusal: &&Refusal| (refusal.place, standing(refusal.number));
+    if let Some(least) = checker.violations.iter().min_by_key(in_order) {
         return Err(*least);
     }
     match checker.module_scope.get("main") {
@@ -127,12 +137,20 @@ enum Use {
     Constant,
 }
 
+/// The list of a routine that a statement stands in.
+#[derive(Clone, Copy, PartialEq)]
+enum Within {
+    Body,
+    Error,
+    Undo,
+}
+
 /// The part of a routine that a statement stands in.
 #[derive(Clone, Copy)]
 struct Part {
     result: Option<Type>,
     is_func: bool,
-    in_error: bool,
+    within: Within,
 }
 
 struct Checker {
@@ -315,20 +333,20 @@ impl Checker {
             self.data(data);
         }
         let is_func = routine.result.is_some();
-        let part = Part {
-            result: routine.result,
-            is_func,
-            in_error: false,
-        };
-        self.list(&mut routine.body, part);
-        if let Some(list) = &mut routine.error {
-            self.list(
-                list,
-                Part {
-                    in_error: true,
-                    ..part
-                },
-            );
+        let lists = [
+            (Some(&mut routine.body), Within::Body),
+            (routine.error.as_mut(), Within::Error),
+            (routine.undo.as_mut(), Within::Undo),
+        ];
+        for (list, within) in lists {
+            let part = Part {
+                result: routine.result,
+                is_func,
+                within,
+            };
+            if let Some(list) = list {
+                self.list(list, part);
+            }
         }
         routine.words = std::mem::take(&mut self.room.words);
     }
@@ -348,13 +366,17 @@ impl Checker {
             Action::Assign(target, right) => self.assign(target, right),
             Action::Compute(target, call) => {
                 let wanted = self.target(target);
+                self.bar(part.within == Within::Undo, call.callee.place);
                 self.call(call, true, wanted);
             }
-            Action::Invoke(call) => self.call(call, false, None),
+            Action::Invoke(call) => {
+                self.bar(part.within == Within::Undo, call.callee.place);
+                self.call(call, false, None);
+            }
             Action::Return(value) => self.give_back(place, value.as_mut(), part),
             Action::Raise(value) => self.raise(place, value.as_mut(), part),
-            Action::Exit => {}
-            Action::Retry | Action::TryNext => self.bar(!part.in_error, place),
+            Action::Exit => self.bar(part.within == Within::Undo, place),
+            Action::Retry | Action::TryNext => self.bar(part.within != Within::Error, place),
             Action::Write { number, .. } => {
                 if let Some(number) = number {
                     self.running(number, Type::Num);
@@ -415,6 +437,11 @@ impl Checker {
         if protected(&variable.text).is_some() {
             self.note(10, variable.place);
         }
+        counted.hides = self.look_up(&variable.text).is_some();
+        let own = self.routine_scope.as_ref();
+        if own.is_some_and(|own| own.contains_key(&variable.text)) {
+            self.note(19, variable.place);
+        }
         variable.meaning = self.take_words(variable, 1, 0);
         let known = (variable.text.clone(), Known::LoopVariable(variable.meaning));
         self.running(&mut counted.from, Type::Num);
@@ -435,7 +462,8 @@ impl Checker {
     }
 
     fn give_back(&mut self, place: usize, value: Option<&mut Expression>, part: Part) {
-        self.bar(value.is_some() != part.is_func, place);
+        let misplaced = part.within == Within::Undo || value.is_some() != part.is_func;
+        self.bar(misplaced, place);
         let Some(value) = value else { return };
         match part.result {
             Some(kind) => self.running(value, kind),
@@ -444,7 +472,12 @@ impl Checker {
     }
 
     fn raise(&mut self, place: usize, value: Option<&mut Expression>, part: Part) {
-        self.bar(value.is_some() == part.in_error, place);
+        let misplaced = match part.within {
+            Within::Body => value.is_none(),
+            Within::Error => value.is_some(),
+            Within::Undo => true,
+        };
+        self.bar(misplaced, place);
         if let Some(value) = value {
             self.running(value, Type::Num);
         }

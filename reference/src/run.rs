@@ -10,13 +10,22 @@ pub struct Allowance<'a> {
     pub depth: u32,
     pub inputs: &'a [i32],
     pub output_room: u64,
+    pub abort: Option<Abort>,
+}
+
+/// Request 6: the pointer is moved to main where the run has made `at` steps; the
+/// UNDO lists then have `undo` steps.
+#[derive(Clone, Copy, Debug, PartialEq, Eq)]
+pub struct Abort {
+    pub at: u32,
+    pub undo: u32,
 }
 
 /// How a run ended and what it left.
 pub struct Run {
     pub ending: u32,
     pub place: usize,
-    pub steps: u32,
+    pub steps: u64,
     pub errno: i64,
     pub inputs_used: usize,
     pub output: Vec<u8>,
@@ -95,6 +104,8 @@ struct Live<'m> {
     levels: Vec<Level<'m>>,
     /// Where the routine's list stood when its error came; `Some` in its ERROR list.
     failed: Option<Vec<Level<'m>>>,
+    /// Whether it is dropped and runs its UNDO list.
+    undoing: bool,
     /// The caller's word that gets the result of a FUNC.
     result: Option<Slot>,
 }
@@ -139,7 +150,7 @@ struct Machine<'m> {
     calls: Vec<Live<'m>>,
     words: Vec<i64>,
     errno: i64,
-    steps: u32,
+    steps: u64,
     inputs_used: usize,
     output: Vec<u8>,
     counts: Counts,
@@ -161,7 +172,10 @@ impl<'m> Machine<'m> {
     fn go(&mut self) -> (u32, usize) {
         loop {
             let next = self.next();
-            if self.steps == self.allowance.steps {
+            if let Some(abort) = self.struck() {
+                return self.undo_all(abort.undo);
+            }
+            if self.steps == u64::from(self.allowance.steps) {
                 return (5, next.place());
             }
             let done = self.perform(next);
@@ -239,10 +253,13 @@ impl<'m> Machine<'m> {
 
     fn list_end(&mut self) -> usize {
         let live = self.live();
-        if live.failed.is_some() {
-            live.routine.end
+        let ends = &live.routine.ends;
+        if live.undoing {
+            ends.undo
+        } else if live.failed.is_some() {
+            ends.error
         } else {
-            live.routine.body_end
+            ends.body
         }
     }
 
@@ -259,16 +276,20 @@ impl<'m> Machine<'m> {
         self.live().levels.push(Level::start(list, repeat));
     }
 
-    /// Counts a loop that begins inside another one, or in an ERROR list.
+    /// Counts a loop that begins inside another one, or in an ERROR or UNDO list.
     fn count_loop(&mut self) {
         let live = self.live();
         let in_loop = live.levels.iter().any(|level| level.repeat.is_loop());
-        let in_error = live.failed.is_some();
+        let in_error = live.failed.is_some() && !live.undoing;
+        let in_undo = live.undoing;
         if in_loop {
             self.counts.add(Event::LoopInLoop);
         }
         if in_error {
             self.counts.add(Event::LoopInError);
+        }
+        if in_undo {
+            self.counts.add(Event::LoopInUndo);
         }
     }
 
@@ -296,8 +317,12 @@ impl<'m> Machine<'m> {
             .last()
             .is_some_and(|live| live.routine.error.is_none())
         {
+            let undoes = self.live().routine.undo.is_some();
             self.calls.pop();
             self.counts.add(Event::RoutineDropped);
+            if undoes {
+                self.counts.add(Event::UndoPassedOver);
+            }
         }
         let dropped = self.calls.len() < live_before;
         if self.calls.last().is_some_and(|live| live.failed.is_some()) {
@@ -314,6 +339,86 @@ impl<'m> Machine<'m> {
         let handler = vec![Level::start(list, Repeat::Never)];
         live.failed = Some(std::mem::replace(&mut live.levels, handler));
         Ok(())
+    }
+}
+
+/// The pointer moved to main.
+impl<'m> Machine<'m> {
+    /// Whether the run, had it this many steps and no more, would end here with 5.
+    fn struck(&self) -> Option<Abort> {
+        self.allowance
+            .abort
+            .filter(|abort| abort.at <= self.allowance.steps && u64::from(abort.at) == self.steps)
+    }
+
+    /// Drops every live call, the innermost first; each runs any UNDO list it has.
+    fn undo_all(&mut self, steps: u32) -> (u32, usize) {
+        self.counts.add(Event::Struck);
+        let mut left = steps;
+        while let Some(live) = self.calls.last_mut() {
+            if let Some(list) = &live.routine.undo {
+                live.levels = vec![Level::start(list, Repeat::Never)];
+                live.undoing = true;
+                self.count_undo();
+                if let Err(ending) = self.undo_list(&mut left) {
+                    return ending;
+                }
+            } else {
+                self.counts.add(Event::DroppedWithoutUndo);
+            }
+            self.calls.pop();
+        }
+        (9, 0)
+    }
+
+    /// Runs the UNDO list on top to its end, or to an error, which ends it.
+    fn undo_list(&mut self, left: &mut u32) -> Result<(), (u32, usize)> {
+        loop {
+            let next = self.next();
+            if *left == 0 {
+                return Err((10, next.place()));
+            }
+            let is_end = matches!(next, Next::ListEnd(_));
+            // The end of the list does nothing, in a FUNC too.
+            let done = if is_end { Ok(()) } else { self.perform(next) };
+            let error = match done {
+                Ok(()) => None,
+                Err(Halt::Error(number)) => Some(number),
+                Err(Halt::Ending(ending @ 7..=8, place)) => {
+                    self.counts.add(match ending {
+                        7 => Event::NoInputInUndo,
+                        _ => Event::NoRoomInUndo,
+                    });
+                    return Err((ending, place));
+                }
+                Err(_) => unreachable!("rule 17 bars calls and what leaves a list"),
+            };
+            *left -= 1;
+            self.steps += 1;
+            if let Some(number) = error {
+                self.errno = number;
+                self.counts.add(Event::ErrorInUndo);
+            }
+            if is_end {
+                self.counts.add(Event::UndoDone);
+            }
+            if is_end || error.is_some() {
+                return Ok(());
+            }
+        }
+    }
+
+    /// Counts an UNDO list that begins.
+    fn count_undo(&mut self) {
+        let live = self.live();
+        let (in_error, of_func) = (live.failed.is_some(), live.routine.result.is_some());
+        self.counts.add(Event::UndoBegun);
+        if in_error {
+            self.counts.add(Event::UndoInError);
+        }
+        if of_func {
+            self.counts.add(Event::UndoOfFunction);
+        }
     }
 }
 
@@ -351,6 +456,7 @@ impl<'m> Machine<'m> {
             words,
             levels,
             failed: None,
+            undoing: false,
             result,
         });
     }
@@ -616,6 +722,9 @@ impl<'m> Machine<'m> {
             unreachable!("a FOR variable is a word of its routine");
         };
         self.counts.add(Event::ForHead);
+        if counted.hides {
+            self.counts.add(Event::ForHides);
+        }
         if goes_on(start, last, step) {
             self.counts.add(Event::ForRound);
             self.store(Slot::Local(variable), start);

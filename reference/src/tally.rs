@@ -1,7 +1,7 @@
 //! How often each refusal and each ending occurs.
 
-const ENDINGS: usize = 9;
-const REFUSALS: usize = 19;
+const ENDINGS: usize = 11;
+const REFUSALS: usize = 20;
 
 #[derive(Default)]
 pub struct Tally {

@@ -1,4 +1,4 @@
-//! The trees that `check_form` builds, `check_names` completes and `run` walks.
+//! The trees that `form` builds, `names` completes and `run` walks.
 
 #[derive(Clone, Copy, Debug, PartialEq, Eq)]
 pub enum Type {
@@ -6,7 +6,7 @@ pub enum Type {
     Bool,
 }
 
-/// What a name stands for at a run; `check_names` puts it in.
+/// What a name stands for at a run; `names` puts it in.
 #[derive(Clone, Copy, Debug)]
 pub enum Meaning {
     Unsettled,
@@ -131,11 +131,13 @@ pub struct Loop {
     pub to: Expression,
     pub step: Option<Expression>,
     pub body: List,
+    /// The variable's name meant something around; `check_names` puts it in.
+    pub hides: bool,
 }
 
 pub struct Case {
     pub values: Vec<Expression>,
-    /// The values worked out; `check_names` puts them in.
+    /// The values worked out; `names` puts them in.
     pub numbers: Vec<i64>,
     pub body: List,
 }
@@ -157,6 +159,17 @@ pub struct Parameter {
     pub kind: Type,
 }
 
+/// The places of the words that close a routine's lists. One that it does not have
+/// is closed with the list before it.
+pub struct Ends {
+    /// ERROR, UNDO, ENDPROC or ENDFUNC.
+    pub body: usize,
+    /// UNDO, ENDPROC or ENDFUNC.
+    pub error: usize,
+    /// ENDPROC or ENDFUNC.
+    pub undo: usize,
+}
+
 pub struct Routine {
     pub name: Name,
     /// The result's type of a FUNC; a PROC has none.
@@ -164,17 +177,16 @@ pub struct Routine {
     pub parameters: Vec<Parameter>,
     pub data: Vec<Data>,
     pub body: List,
-    pub body_end: usize,
     pub error: Option<List>,
-    /// The place of ENDPROC or ENDFUNC.
-    pub end: usize,
-    /// The words a call starts with; `check_names` puts them in.
+    pub undo: Option<List>,
+    pub ends: Ends,
+    /// The words a call starts with; `names` puts them in.
     pub words: Vec<i64>,
 }
 
 pub struct Module {
     pub data: Vec<Data>,
     pub routines: Vec<Routine>,
-    /// The words a run starts with; `check_names` puts them in.
+    /// The words a run starts with; `names` puts them in.
     pub words: Vec<i64>,
 }

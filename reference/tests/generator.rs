@@ -1,7 +1,7 @@
 //! The generator keeps its promises.
 
-use reference::bench::answer;
-use reference::counts::Measures;
+use reference::bench::{answer, Lent};
+use reference::counts::{Event, Measures};
 use reference::generate::{less_room, more_room, Cases, Kind, Random, Size};
 use reference::lines::{answer_line, lent_of};
 use reference::tally::Tally;
@@ -40,6 +40,25 @@ fn a_mix_of_2000_misses_nothing() {
     }
 }
 
+/// Most cases of request 6 are aborted where some routine has an UNDO list, and end in
+/// every way that the request speaks of.
+#[test]
+fn lists_are_run() {
+    let mut times = [0; 11];
+    let (mut aborted, mut with_lists, mut lasting) = (0, 0, 0);
+    for line in lines(7, 2_000, Kind::Undo, Size::Short) {
+        let answer = answer(&lent_of(&line).expect("a run line"));
+        times[answer.ending as usize] += 1;
+        aborted += answer.counts.times(Event::Struck);
+        with_lists += u64::from(answer.counts.times(Event::UndoBegun) > 0);
+        lasting += u64::from(answer.steps >= 10);
+    }
+    assert!(times[0] > 100 && times[0] < 300, "{times:?}");
+    assert!(times[9] > 700 && times[10] > 250, "{times:?}");
+    assert!(times[7] > 10 && times[8] > 10 && times[5] > 50, "{times:?}");
+    assert!(aborted > 1_300 && with_lists > 1_200 && lasting > 1_300);
+}
+
 #[test]
 fn the_same_seed_gives_the_same_lines() {
     let kind = Kind::All;
@@ -56,7 +75,8 @@ fn the_same_seed_gives_the_same_lines() {
 #[test]
 fn every_line_is_a_case_line() {
     for name in [
-        "valid", "courses", "counting", "mistyped", "words", "bytes", "limits", "listing", "all",
+        "valid", "courses", "counting", "undo", "hiding", "mistyped", "words", "bytes", "limits",
+        "listing", "all",
     ] {
         let kind = Kind::named(name).expect("a kind of cases");
         for (count, size) in [(1_000, Size::Short), (20, Size::Long)] {
@@ -70,8 +90,12 @@ fn every_line_is_a_case_line() {
 #[test]
 fn a_second_room_is_as_large() {
     let mut random = Random::new(3);
-    let mut scarce = 0;
-    for line in lines(3, 1_000, Kind::Valid, Size::Short) {
+    let (mut scarce, mut undo_spent) = (0, 0);
+    let plain = lines(3, 1_000, Kind::Valid, Size::Short);
+    for line in plain
+        .into_iter()
+        .chain(lines(3, 1_000, Kind::Undo, Size::Short))
+    {
         let mut second = lent_of(&line).expect("a run line");
         more_room(&mut random, &mut second);
         let first = less_room(&mut random, &second).expect("inside the bounds");
@@ -79,16 +103,33 @@ fn a_second_room_is_as_large() {
         assert!(first.steps <= second.steps && first.depth <= second.depth);
         assert!(first.output_room <= second.output_room);
         assert!(second.inputs.starts_with(&first.inputs));
-        scarce += usize::from((5..=8).contains(&answer(&first).ending));
+        assert_eq!(
+            first.abort.map(|abort| abort.at),
+            second.abort.map(|abort| abort.at)
+        );
+        let undo = |lent: &Lent| lent.abort.map(|abort| abort.undo);
+        assert!(undo(&first) <= undo(&second));
+        let ending = answer(&first).ending;
+        scarce += usize::from((5..=8).contains(&ending));
+        undo_spent += usize::from(ending == 10);
     }
-    assert!(scarce > 300, "only {scarce} of 1,000 first runs broke off");
+    assert!(scarce > 300, "only {scarce} of 2,000 first runs broke off");
+    assert!(
+        undo_spent > 100,
+        "only {undo_spent} of 1,000 spent their UNDO steps"
+    );
 }
 
-/// Modules as a course has them run long and come across everything that is counted.
+/// Modules as a course has them run long; with those of request 6 they come across
+/// everything that is counted.
 #[test]
 fn courses_miss_nothing() {
     let mut measures = Measures::default();
-    for line in lines(3, 1_500, Kind::Courses, Size::Short) {
+    let courses = lines(3, 1_500, Kind::Courses, Size::Short);
+    for line in courses
+        .into_iter()
+        .chain(lines(3, 500, Kind::Undo, Size::Short))
+    {
         let answer = answer(&lent_of(&line).expect("a run line"));
         measures.count(answer.steps, &answer.counts);
     }

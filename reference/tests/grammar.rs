@@ -17,11 +17,12 @@ datum = VAR type NAME ; / VAR type NAME := expr ; / VAR type NAME { expr } ;
 datum = CONST type NAME := expr ;
 type = NUM / BOOL
 routines = / routines routine
-routine = PROC NAME ( params ) data list handler ENDPROC
-routine = FUNC type NAME ( params ) data list handler ENDFUNC
+routine = PROC NAME ( params ) data list handler undo ENDPROC
+routine = FUNC type NAME ( params ) data list handler undo ENDFUNC
 params = / parameters
 parameters = type NAME / parameters , type NAME
 handler = / ERROR list
+undo = / UNDO list
 list = / list statement
 statement = simple / IF expr simple / IF expr THEN list elseifs else ENDIF
 statement = FOR NAME FROM expr TO expr step DO list ENDFOR
@@ -192,6 +193,7 @@ fn two_routes_refuse_the_same_words() {
         (Kind::Bytes, 500),
         (Kind::Valid, 200),
         (Kind::Limits, 500),
+        (Kind::Undo, 400),
     ];
     for (kind, count) in kinds {
         for line in Cases::new(21, kind, Size::Short).take(count) {

@@ -49,14 +49,14 @@ fn every_ruling_has_a_case() {
 #[test]
 fn every_refusal_and_ending_has_a_case() {
     let answers: Vec<String> = table().into_iter().map(|case| case.answer).collect();
-    for refusal in 1..=18 {
+    for refusal in 1..=19 {
         let start = format!("0 {refusal} ");
         assert!(
             answers.iter().any(|answer| answer.starts_with(&start)),
             "no refusal {refusal}"
         );
     }
-    for ending in 1..=8 {
+    for ending in 1..=10 {
         let start = format!("{ending} 0 ");
         assert!(
             answers.iter().any(|answer| answer.starts_with(&start)),

@@ -55,7 +55,7 @@ plain-steps l f e (struck h s) = none-some (s .abort) (sym e ∙ s .given)
 allowed-low : (l : Lent) (f : Record) → l .asked .abort ≡ none → l .steps < 4294967296 → length (l .text) < 4294967296 → length (l .inputs) < 4294967296 → length (l .output) < 4294967296 → Allowed l f → Low f
 allowed-low l f k s t i o (refused e p r) = record {
   ending = omega arith;
-  refusal = omega (arith, r .to-18);
+  refusal = omega (arith, r .to-19);
   offset = omega arith;
   steps = omega (arith, r .steps);
   errno = omega (arith, r .errno);

@@ -17,6 +17,7 @@ use Rattle.code.specs.Signatures.{Heads}
 use Rattle.check_names.specs.Numbers.{IsName}
 use Rattle.check_names.specs.Promises.{storeBytes}
 use Rattle.check_expressions.specs.Known.{Loaded, Known}
+use Rattle.check_expressions.specs.Owned.{Owns}
 use Rattle.layout.specs.Types.{noType, typeIn}
 use Rattle.check_links.specs.Raw.{Ground}
 use Rattle.check_around.specs.declared.Setting.{Setting}
@@ -42,6 +43,8 @@ pub record Around (text values : List ℕ) : Type 0 where
   pub M : Memory
   pub numbers : (h : ℕ) → known .routine h ≡ numbered R h
   pub callable : (i k : ℕ) → IsName (known .W) i → meaning (known .S) (spelled (known .W) i) ≡ theRoutine k → k < length R
+  -- 1 as a cell of the table has it: a name means a parameter or data of the routine exactly where it is named like one, so that no loop hides these
+  pub owns : Owns 1 (known .S .own) (known .S)
   pub quoted : (i : ℕ) → sortIn (known .W) i ≡ STRING → Quoted text (nth (known .W) i)
   -- sorts are lower than the ops of steps
   pub sorts : (i : ℕ) → sortIn (known .W) i < aTarget

@@ -12,8 +12,8 @@ use Rattle.paper.specs.Words.{Word, wordLimit}
 use Rattle.paper.specs.Terms.{Memory}
 use Rattle.paper.specs.Trees.{Expr}
 use Rattle.paper.specs.Expressions.{levelOf}
-use Rattle.paper.specs.Names.{aNum, Scopes, sortIn, spelled, cannotDeclare}
-use Rattle.paper.specs.Types.{faultIf, ofType, constantValue}
+use Rattle.paper.specs.Names.{aNum, Scopes, sortIn, spelled, cannotDeclare, hidesOwn}
+use Rattle.paper.specs.Types.{Fault, faultIf, ofType, constantValue}
 use Rattle.paper.specs.Declarations.{routineWordLimit, crosses}
 use Rattle.paper.specs.Checks.{optionalNum, caseFaults}
 use Rattle.store_cells.specs.Cells.{cellsOf}
@@ -31,7 +31,7 @@ use Rattle.check_around.specs.declared.Setting.{Setting}
 use Rattle.check_around.specs.Around.{Around, groundOf}
 use Rattle.check_around.specs.Answers as answered
 use Rattle.check_compounds.specs.Here.{Outside, Here}
-use Rattle.layout.specs.Rules.{tooMany, takenName}
+use Rattle.layout.specs.Rules.{tooMany, takenName, hidingLoop}
 
 -- ---- WHILE at i, DO at d, ENDWHILE at e
 pub record WhileEnded (before after : List ℕ) (i d e : ℕ) : Type 0 where
@@ -108,17 +108,31 @@ pub record RawHead (g : Ground) (n : ℕ) (C : List ℕ) (S : Scopes) (a b : Exp
   pub upper : RawBound g n C S b t s
   pub steps : RawStep g n C S c s d
 
--- the name is free, and there is a word for it
-pub record ForMay (g : Ground) (n : ℕ) (C : List ℕ) (S : Scopes) (used : ℕ) (a b : Expr) (c : Option Expr) (i d : ℕ) : Type 0 where
-  pub free : isProtected (spelled (g .W) (i + 1)) ≡ false
+-- the rules at the variable of the FOR at i, in their order
+abbrev pub nameFaults : (W : List Word) (S : Scopes) (used i : ℕ) → List Fault
+nameFaults W S used i =
+    faultIf (cannotDeclare [] (spelled W (i + 1))) takenName (i + 1)
+    ++ faultIf (hidesOwn S (spelled W (i + 1))) hidingLoop (i + 1)
+    ++ faultIf (crosses routineWordLimit used 1) tooMany (i + 1)
+
+-- its name is free and hides nothing of its routine, and there is a word for it
+pub record NameMay (W : List Word) (S : Scopes) (used i : ℕ) : Type 0 where
+  pub free : isProtected (spelled W (i + 1)) ≡ false
+  pub hides-none : hidesOwn S (spelled W (i + 1)) ≡ false
   pub spare : used < callSlots
+
+pub record ForNamed (code values : List ℕ) (used i : ℕ) (r : Judged) : Type 0 where
+  pub is : (g : ForHeads code values used i)
+      → answered.Answer (nameFaults (g .around .known .W) (g .around .known .S) used i) code code (i + 1) (i + 2) (NameMay (g .around .known .W) (g .around .known .S) used i) r
+
+pub record ForMay (g : Ground) (n : ℕ) (C : List ℕ) (S : Scopes) (used : ℕ) (a b : Expr) (c : Option Expr) (i d : ℕ) : Type 0 where
+  pub name : NameMay (g .W) S used i
   pub bounds : RawHead g n C S a b c i d
 
 pub record ForHeaded (code values after : List ℕ) (used i : ℕ) (r : Judged) : Type 0 where
   pub is : (g : ForHeads code values used i)
       → answered.Answer
-      (faultIf (cannotDeclare [] (spelled (g .around .known .W) (i + 1))) takenName (i + 1)
-      ++ faultIf (crosses routineWordLimit used 1) tooMany (i + 1)
+      (nameFaults (g .around .known .W) (g .around .known .S) used i
       ++ ofType (g .around .known .W) aNum (g .around .known .S) (g .a)
       ++ ofType (g .around .known .W) aNum (g .around .known .S) (g .b)
       ++ optionalNum (g .around .known .W) (g .around .known .S) (g .c))

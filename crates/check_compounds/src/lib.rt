@@ -15,7 +15,7 @@ ghost use Rattle.paper.specs.Words.{wordLimit};
 ghost use Rattle.check_names.specs.Promises.{storeBytes};
 ghost use Prim.Native.Nat.{_+_, _*_, _<_, _≤_};
 ghost use lib.ListN.{length};
-ghost use Rattle.check_compounds.specs.Parts.{WhileEnded, Bounds, Bounded, Steps, Stepped, ForHeads, ForHeaded, ForEnded, BehindElse, ArmEnded, CaseValues, CaseValued, Chained, ValuesLinked};
+ghost use Rattle.check_compounds.specs.Parts.{WhileEnded, Bounds, Bounded, Steps, Stepped, ForHeads, ForNamed, ForHeaded, ForEnded, BehindElse, ArmEnded, CaseValues, CaseValued, Chained, ValuesLinked};
 
 // ---- WHILE
 
@@ -56,19 +56,34 @@ fn for_step(code: &mut [u8], values: &[u8], s: usize) -> Judged
     bound(code, values, s)
 }
 
-// From the FOR at i up to its DO.
-pub fn for_head(code: &mut [u8], values: &[u8], used: u32, i: usize) -> Judged
+// The variable of the FOR at i, and what comes behind it.
+fn for_name<'a>(code: &'a [u8], values: &'a [u8], used: u32, i: usize) -> Judged
     requires { ⌜ ForHeads (now code) (now values) used i ⌝ }
-    ensures { λ r. ⌜ ForHeaded (now (code .entry)) (now (values .entry)) (now (code .exit)) used i r ⌝ }
+    ensures { λ r. ⌜ ForNamed (now (code .entry)) (now (values .entry)) used i r ⌝ }
 {
     let m = check_names::meaning(code, values, i + 1);
     if check_names::is_protected(m) {
         return Judged::Faulty(rules::TAKEN_NAME, i + 1);
     }
+    if check_sites::is_taken(code, values, check_names::OF_ROUTINE, i + 1) {
+        return Judged::Faulty(rules::HIDING_LOOP, i + 1);
+    }
     if used == limits::ROUTINE_COUNT {
         return Judged::Faulty(rules::TOO_MANY, i + 1);
     }
-    let j = bound(code, values, i + 2);
+    Judged::Typed(types::NONE, i + 2)
+}
+
+// From the FOR at i up to its DO.
+pub fn for_head(code: &mut [u8], values: &[u8], used: u32, i: usize) -> Judged
+    requires { ⌜ ForHeads (now code) (now values) used i ⌝ }
+    ensures { λ r. ⌜ ForHeaded (now (code .entry)) (now (values .entry)) (now (code .exit)) used i r ⌝ }
+{
+    let j = for_name(code, values, used, i);
+    let Judged::Typed(_, from) = j else {
+        return j;
+    };
+    let j = bound(code, values, from);
     let Judged::Typed(_, to) = j else {
         return j;
     };

@@ -30,7 +30,7 @@ use Rattle.store_evaluation.specs.Answers as evaluation
 use Rattle.store_evaluation.proofs.Numbers.{is-value, is-error}
 use Rattle.store_numbers.proofs.Whole.{read}
 use Rattle.faults.specs.First.{Every, no-fault, _also_, Inside, First}
-use Rattle.faults.proofs.First.{every-one, widen, leads-same-if, first-fault, first-rising, first-left, first-alone}
+use Rattle.faults.proofs.First.{every-one, widen, ranks, leads-same-if, first-fault, first-rising, first-left, first-alone}
 use Rattle.check_expressions.specs.declared.Judged.{Judged}
 use Rattle.check_expressions.specs.declared.Judged.the-variants.{Typed, Faulty}
 use Rattle.store_writing.specs.Promises.{Kept}
@@ -107,7 +107,7 @@ module _ (W : List Word) (S : Scopes) (M : Memory) (e : Expr) where
         by-faults [] q =
             let w : wanted t (first e) (judge W true S e) ≡ faultIf (differs t (judge W true S e .type)) wrongType (first e) = rw (q, wanted) in
             let y : Early (first e) f = every-one (early-if (differs t (judge W true S e .type)) (first e)) (subst (First f) w h .among) in
-            first-left h (leads-same-if f (bad (constantWorth W S M e)) noValue (first e) (y .at-is) (y .low))
+            first-left h (leads-same-if f (bad (constantWorth W S M e)) noValue (first e) (y .at-is) (ranks (f .number) noValue (omega arith) (y .low)))
 
 -- ---- an answer
 raises-value : (z : ℤ) (x : Option Value) → x ≡ some (value z) → raisesError x ≡ false

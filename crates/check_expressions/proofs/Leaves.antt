@@ -27,6 +27,7 @@ use Rattle.layout.specs.Types.{numType, boolType, typeIn}
 use Rattle.layout.proofs.Typing.{num-in, bool-in}
 use Rattle.check_names.specs.Meanings.{aVariable, anArray, aConstant, aLoop, aRoutine, anErrno, anErrorNumber, kindIn, boolIn, ownIn, typeWith, refWith, meaningWith, meaningIn}
 use Rattle.check_names.specs.Promises.{TypeOf}
+use Rattle.store_reading.specs.Reading.{valueEnd}
 use Rattle.store_writing.specs.Promises.{Headed}
 use Rattle.check_expressions.specs.declared.Judged.{Judged}
 use Rattle.check_expressions.specs.declared.Judged.the-variants.{Typed, Faulty}
@@ -293,8 +294,8 @@ module _ (before after : List ℕ) (cell : ℕ) (only : Bool) (at kind broken : 
               refused _ _ (sym (unknown-faults g n1 (eqb-false kind anArray t2) n3 d (eqb-false kind aRoutine t5) e f) ∙ c)))
 
 -- ---- literals
-pub number-small : (w h : ℕ) → w ≡ h → SmallNumber h → SmallNumber w
-number-small w h e f = subst SmallNumber (sym e) f
+pub number-fits : (w h : ℕ) → w ≡ h → SmallNumber h → opIn w ≡ NUMBER → valueIn w + bias < valueEnd
+number-fits w h e f n = let s = subst SmallNumber (sym e) f n in omega arith
 
 module _ (before after : List ℕ) (at w : ℕ) (e : w ≡ headAt (cellsOf before) at) where
   head-op : (W : List Word) → Fresh W (cellsOf before) at → opIn w ≡ sortIn W at

@@ -1,3 +1,4 @@
 pub mod Known
+pub mod Owned
 pub mod Answers
 pub mod Parts

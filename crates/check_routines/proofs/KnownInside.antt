@@ -79,7 +79,7 @@ module _ {text values : List ℕ} {k h : ℕ} (s : Inside text values k h) where
   more = omega arith
 
   unfoldable pub around : WhichList → Around text values
-  unfolding routineScopes filling routineFilling groundOf
+  unfolding routineScopes filling ownOf routineFilling groundOf
   around l = record {
     known = record {
       W = W;
@@ -98,6 +98,7 @@ module _ {text values : List ℕ} {k h : ℕ} (s : Inside text values k h) where
     M = memoryOf W m r;
     numbers = λ q. refl;
     callable = λ i j a e. callable (spelled W i) j e;
+    owns = s .filled .owns;
     quoted = s .stands .quoted;
     sorts = s .stands .sorts;
   }

@@ -35,7 +35,7 @@ use Rattle.store_writing.proofs.Keeping.{head-below, head-above, kept-wider, ke
 use Rattle.check_expressions.proofs.FaultsOfParts.{append-none}
 use Rattle.check_expressions.proofs.Starts.{loaded-part}
 use Rattle.faults.specs.First.{First, Leads}
-use Rattle.faults.proofs.First.{every-none, first-if, first-left, first-right, leads-later, leads-same-if}
+use Rattle.faults.proofs.First.{every-none, first-if, first-left, first-right, leads-later, ranks, leads-same-if}
 use Rattle.faults.proofs.Expressions.{grows}
 use Rattle.faults.proofs.Statements.{arguments-inside}
 use Rattle.check_links.specs.Raw.{Quiet, RawArguments}
@@ -185,7 +185,7 @@ module _ (code values : List ℕ) (undo : Bool) (h callee first closing : ℕ) (
     many-wrong : (count ≡ valueIn w → ⊥) → First (record { number = wrongCount; at = callee }) called
     many-wrong d =
         first-left
-        (first-right (leads-same-if (record { number = wrongCount; at = callee }) undo barred callee refl (omega arith))
+        (first-right (leads-same-if (record { number = wrongCount; at = callee }) undo barred callee refl (ranks wrongCount barred (omega arith) (omega arith)))
         (first-if (not (eqb (length params) (length (g .es)))) wrongCount callee (rw (ne-eqb (length params) (length (g .es)) (λ e. d (count-is ∙ sym e ∙ many-is))))))
         (passing-later wrongCount)
 

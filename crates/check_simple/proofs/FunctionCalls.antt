@@ -30,7 +30,7 @@ use Rattle.store_writing.specs.Promises.{Kept, Linked}
 use Rattle.store_writing.proofs.Keeping.{cell-above, head-below, kept-wider, kept-on}
 use Rattle.check_expressions.proofs.FaultsOfParts.{append-none}
 use Rattle.faults.specs.First.{First, Leads}
-use Rattle.faults.proofs.First.{_and_, every-none, first-fault, first-if, first-left, first-right, leads-later, leads-same-if}
+use Rattle.faults.proofs.First.{_and_, every-none, first-fault, first-if, first-left, first-right, leads-later, ranks, leads-same-if}
 use Rattle.faults.proofs.Expressions.{grows}
 use Rattle.faults.proofs.Statements.{arguments-inside}
 use Rattle.check_links.specs.Raw.{SameWords, RawArguments, RawAssignCall}
@@ -110,7 +110,7 @@ module _ (code values : List ℕ) (undo : Bool) (i : ℕ) (g : ForCalls code val
         let w = told-wrong (g .around) code true i r number e for-says in
         first-left
         (first-left
-        (first-right (leads-same-if (record { number = number; at = i }) _ barred i refl (omega (arith, w .low)))
+        (first-right (leads-same-if (record { number = number; at = i }) _ barred i refl (ranks number barred (omega arith) (omega (arith, w .low))))
         (subst (First (record { number = number; at = i })) (sym (w .is (g .es))) (first-fault number i)))
         (for-later number _))
         (every-none (no-result (g .around .known .W) j _ i (w .no-result refl)))
@@ -158,8 +158,8 @@ module _ (code values : List ℕ) (undo : Bool) (i : ℕ) (g : ForCalls code val
         unfolding callFaults
         for-differs-first y =
             first-right
-            (leads-same-if (record { number = wrongType; at = i }) _ barred i refl (omega arith)
-            and subst (Leads (record { number = wrongType; at = i })) (sym callee-are) (leads-same-if (record { number = wrongType; at = i }) _ wrongCount i refl (omega arith))
+            (leads-same-if (record { number = wrongType; at = i }) _ barred i refl (ranks wrongType barred (omega arith) (omega arith))
+            and subst (Leads (record { number = wrongType; at = i })) (sym callee-are) (leads-same-if (record { number = wrongType; at = i }) _ wrongCount i refl (ranks wrongType wrongCount (omega arith) (omega arith)))
             and for-later wrongType _)
             (subst (First (record { number = wrongType; at = i })) (sym (result-are j)) (first-if _ wrongType i (result-differs ∙ y)))
 

@@ -21,7 +21,7 @@ use Rattle.check_expressions.specs.declared.Judged.the-variants.{Typed, Faulty}
 use Rattle.store_writing.specs.Promises.{Linked}
 use Rattle.store_writing.proofs.Keeping.{head-below, kept-wider, kept-on}
 use Rattle.faults.specs.First.{First}
-use Rattle.faults.proofs.First.{first-fault, first-left, first-right, leads-later, leads-same-if}
+use Rattle.faults.proofs.First.{first-fault, first-left, first-right, leads-later, ranks, leads-same-if}
 use Rattle.faults.proofs.Expressions.{grows}
 use Rattle.faults.proofs.Statements.{arguments-inside}
 use Rattle.check_links.specs.Raw.{RawArguments, RawDoes}
@@ -82,7 +82,7 @@ module _ (code values : List ℕ) (undo : Bool) (i : ℕ) (c : CallsOf code valu
     of-wrong-first number e =
         let w = told-wrong (c .begins .stands .around) code false i r number e of-says in
         first-left
-        (first-right (leads-same-if (record { number = number; at = i }) _ barred i refl (omega (arith, w .low)))
+        (first-right (leads-same-if (record { number = number; at = i }) _ barred i refl (ranks number barred (omega arith) (omega (arith, w .low))))
         (subst (First (record { number = number; at = i })) (sym (w .is (of-calls .es))) (first-fault number i)))
         (leads-later (record { number = number; at = i }) (arguments-inside (c .begins .stands .around .known .W) (c .begins .stands .around .known .S) _ (of-calls .arguments)) (omega arith))
 

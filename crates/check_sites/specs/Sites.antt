@@ -1,26 +1,26 @@
 -- The scope that a walk over declarations fills, and what the value store says of it.
 use mathlib.Core.Path.{_≡_}
-use mathlib.Core.Bool.{Bool, true, false}
-use mathlib.Core.List.{List, map}
+use mathlib.Core.Bool.{true}
+use mathlib.Core.List.{List}
 use Prim.Native.Nat.{ℕ, _<_, _≤_}
-use lib.Dec.{eqb}
 use lib.ListN.{length, getD}
 use mir.Syntax.{w32}
 use mir.Val.{toZ}
-use Rattle.paper.specs.Basics.{if_then_else_}
 use Rattle.paper.specs.Sorts.{NUMBER}
 use Rattle.paper.specs.Words.{Word}
-use Rattle.paper.specs.Terms.{Ref, ofModule, ofRoutine, Memory, load}
+use Rattle.paper.specs.Terms.{Ref, Memory, load}
 use Rattle.paper.specs.Trees.{Module}
-use Rattle.paper.specs.Names.{Meaning, Text, Names, textOf, Scopes, nth, sortIn, isAmong, meaning}
+use Rattle.paper.specs.Names.{Meaning, Text, Names, Scopes, nth, sortIn, meaning}
 use Rattle.paper.specs.Declarations.{Data, Filling, moduleFilling, routineFilling}
 use Rattle.store_cells.specs.Cells.{cellsOf}
 use Rattle.code.specs.Cells.{firstWindow, errnoCell}
-use Rattle.check_names.specs.Meanings.{isProtected, Means}
+use Rattle.check_names.specs.Meanings.{Means}
 use Rattle.check_names.specs.Promises.{storeBytes}
 use Rattle.store_evaluation.specs.Answers.{callSlots}
-use Rattle.check_expressions.specs.Known.{largest, InRoom, HeldSlots, nothing, words, number, heldBy, Holds}
+use Rattle.check_expressions.specs.Known.{largest, InRoom, HeldSlots, heldBy, Holds}
 use Rattle.check_constants.specs.Answers.{cellOf, InNum}
+unfoldable pub use Rattle.check_expressions.specs.Owned.{isOwn, owned}
+pub use Rattle.check_expressions.specs.Owned.{Owns}
 
 -- ---- the two scopes that data are declared in
 -- The module's, where the routines' names are known before, or a routine's of a module.
@@ -56,18 +56,6 @@ pub record InPlace (M : Memory) (w : HeldSlots) : Type 0 where
 
 unfoldable pub Placed : Memory → Meaning → Type 0
 Placed M a = Holds (InPlace M) (λ k. k ≤ largest) (heldBy a)
-
--- Data of the module, if own is 0, or of the routine.
-unfoldable pub isOwn : (own : ℕ) → Ref → Bool
-isOwn own (ofModule k) = eqb own 0
-isOwn own (ofRoutine k) = eqb own 1
-
-unfoldable pub owned : (own : ℕ) → Meaning → Bool
-owned own a = elim (heldBy a) [ nothing ↦ false | words w ↦ if w .declared then isOwn own (w .first) else false | number k ↦ false ]
-
--- The names of a scope are those, of all that are not protected, that mean its data.
-pub record Owns (own : ℕ) (N : Names) (S : Scopes) : Type 0 where
-  pub is : (text : Text) → isProtected text ≡ false → isAmong (map textOf N) text ≡ owned own (meaning S text)
 
 -- ---- the value store
 -- It says what D declares: the table has the names, and the cells of words have what these start with.

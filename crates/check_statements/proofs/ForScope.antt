@@ -3,7 +3,7 @@ use Rattle.paper.specs.Declarations.{moduleWordLimit}
 use Rattle.layout.specs.Parts.{linkPart}
 use mathlib.Core.Path.{_≡_, refl, sym, ap, subst, _∙_}
 use mathlib.Core.Bool.{false}
-use mathlib.Core.List.{List, [], _∷_}
+use mathlib.Core.List.{List, [], _∷_, map}
 use Prim.Native.Nat.{ℕ, zero, suc, _+_, _-_, _*_, _/_, _%_, _<_, _≤_}
 use native.Mathlib.Omega.{arith}
 use lib.ListN.{length, getD, set}
@@ -14,7 +14,7 @@ use Rattle.store_cells.specs.Cells.{cellsOf}
 use Rattle.store_cells.proofs.Kept.{put-length, put-other}
 use Rattle.paper.specs.Sorts.{equalTexts}
 use Rattle.paper.specs.Terms.{Ref, ofModule, ofRoutine}
-use Rattle.paper.specs.Names.{Meaning, loop, theRoutine, Text, spelled, meaning, enter}
+use Rattle.paper.specs.Names.{Meaning, loop, theRoutine, Text, Names, textOf, Scopes, spelled, isAmong, meaning, hidesOwn, enter}
 use Rattle.code.specs.Cells.{opIn, headAt, tailAt, linkAt, firstWindow}
 use Rattle.check_names.specs.Numbers.{numberOf, IsName}
 use Rattle.check_names.specs.Meanings.{cellWith, meaningWith, meaningIn, isProtected, protectsCell, Hides, firstMeaning}
@@ -23,6 +23,7 @@ use Rattle.check_names.proofs.Spellings.{same-texts, differing}
 use Rattle.check_names.proofs.Tables.{meaning-with, declare-means, enter-hides}
 use Rattle.store_writing.proofs.Rewriting.{rewritten-head, rewritten-tail}
 use Rattle.check_expressions.specs.Known.{InRoom, heldBy, Within}
+use Rattle.check_expressions.specs.Owned.{owned, Owns}
 use Rattle.check_expressions.proofs.NamesHeld.{holds}
 use Rattle.check_constants.specs.Answers.{cellOf, Fine}
 use Rattle.check_around.specs.declared.Setting.{Setting}
@@ -37,6 +38,31 @@ restored : (X : List ℕ) (c m : ℕ) → set (set X c m) c (getD X c 0) ≡ X
 restored [] c m = refl
 restored (x ∷ X) zero m = refl
 restored (x ∷ X) (suc c) m = ap (λ (r : List ℕ). x ∷ r) (restored X c m)
+
+-- ---- a FOR's name hides nothing of its routine: names of that are told by what they mean inside too
+module _ (S : Scopes) (text : Text) (r : Ref) where
+  entered-own : enter text r S .own ≡ S .own
+  unfolding enter
+  entered-own = refl
+
+  no-data : owned 1 (loop r) ≡ false
+  unfolding owned
+  no-data = refl
+
+  none-of-own : hidesOwn S text ≡ false → isAmong (map textOf (S .own)) text ≡ false
+  unfolding hidesOwn
+  none-of-own h = h
+
+  pub enter-owns : isProtected text ≡ false → hidesOwn S text ≡ false → Owns 1 (S .own) S → Owns 1 (enter text r S .own) (enter text r S)
+  enter-owns free apart o =
+      let h = enter-hides S text r free in
+      record {
+        is = λ u p.
+            ap (λ (N : Names). isAmong (map textOf N) u) entered-own
+            ∙ test (equalTexts u text)
+            (λ e. let q = same-texts u text e in ap (isAmong (map textOf (S .own))) q ∙ none-of-own apart ∙ sym (ap (owned 1) (ap (meaning (enter text r S)) q ∙ h .here) ∙ no-data))
+            (λ f. o .is u p ∙ sym (ap (owned 1) (h .elsewhere u (differing u text f))));
+      }
 
 -- ---- the cell of a FOR's name
 pub loop-within : (used x y : ℕ) → used < y → Within x y (loop (ofRoutine used))
@@ -53,7 +79,7 @@ pub loop-plain : (m used : ℕ) → m ≡ cellWith aLoop 0 1 used → protectsCe
 loop-plain m used e = let o : opIn m ≡ 17 = omega arith in rw o
 
 module _ {text values : List ℕ} (a : Around text values) (one two values′ : List ℕ) (used i m : ℕ) (em : m ≡ cellWith aLoop 0 1 used) (name : IsName (a .known .W) i) (free : isProtected (spelled (a .known .W) i) ≡ false)
-    (number : numberAt (cellsOf one) i ≡ numberOf (a .known .W) i) (room : i * 8 + 8 ≤ length one) (dec : Declared one values i m two values′) where
+    (unhidden : hidesOwn (a .known .S) (spelled (a .known .W) i) ≡ false) (number : numberAt (cellsOf one) i ≡ numberOf (a .known .W) i) (room : i * 8 + 8 ≤ length one) (dec : Declared one values i m two values′) where
   pub hides : Hides (a .known .S) (enter (spelled (a .known .W) i) (ofRoutine used) (a .known .S)) (spelled (a .known .W) i) (loop (ofRoutine used))
   hides = enter-hides (a .known .S) (spelled (a .known .W) i) (ofRoutine used) free
 
@@ -93,6 +119,7 @@ module _ {text values : List ℕ} (a : Around text values) (one two values′ : 
     M = a .M;
     numbers = a .numbers;
     callable = λ j k q e. by-text (λ (x : Meaning). x ≡ theRoutine k → k < length (a .R)) (spelled (a .known .W) j) (no-routine k) (a .callable j k q) e;
+    owns = enter-owns (a .known .S) (spelled (a .known .W) i) (ofRoutine used) free unhidden (a .owns);
     quoted = a .quoted;
     sorts = a .sorts;
   }

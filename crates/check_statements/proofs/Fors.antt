@@ -12,7 +12,7 @@ use Rattle.store_cells.specs.Cells.{cellsOf}
 use Rattle.paper.specs.Sorts.{FOR}
 use Rattle.paper.specs.Terms.{ofRoutine}
 use Rattle.paper.specs.Trees.{Expr, Statement}
-use Rattle.paper.specs.Names.{aNum, Scopes, sortIn, spelled, cannotDeclare, enter}
+use Rattle.paper.specs.Names.{aNum, Scopes, sortIn, spelled, cannotDeclare, hidesOwn, enter}
 use Rattle.paper.specs.Types.{Fault, faultIf, ofType}
 use Rattle.paper.specs.Declarations.{routineWordLimit, crosses}
 use Rattle.paper.specs.Checks.{forsIn, forsInList, optionalNum, statementFaults, listFaults}
@@ -42,7 +42,7 @@ use Rattle.check_names.specs.declared.Walked.{Walked}
 use Rattle.check_names.specs.declared.Walked.the-variants.{Upto, Faulty}
 use Rattle.check_statements.specs.Answers.{SameValues, Stands, Lists, Done, Answer, StatementAnswer, Listed, Begins, Begun}
 use Rattle.check_compounds.specs.Here.{Outside}
-use Rattle.check_compounds.specs.Parts.{ForHeads, RawHead, ForMay, ForHeaded, ForEnded}
+use Rattle.check_compounds.specs.Parts.{ForHeads, nameFaults, RawHead, ForMay, ForHeaded, ForEnded}
 use Rattle.check_compounds.proofs.Frames.{outside-wider, outside-on, kept-outside, same-before, same-behind, same-on, head-before, tail-before, bound-same, list-same, op-same, value-same, place-same, word-same, linked-outside, linked-word}
 use Rattle.check_statements.proofs.ListWalk.{as-scope, upto-done, faulty-first, done-answer, first-answer, faulty-answer}
 use Rattle.check_compounds.proofs.AnswerShapes.{typed-fine, faulty-found}
@@ -50,7 +50,7 @@ use Rattle.check_compounds.proofs.Heads.{head-inside}
 use Rattle.check_compounds.proofs.Frames.{rewritten-outside}
 use Rattle.check_statements.proofs.ForScope.{inner, enters, leaves-links, leaves}
 use Rattle.code.specs.Steps.{aFor, aForTest}
-use Rattle.layout.specs.Rules.{tooMany, takenName}
+use Rattle.layout.specs.Rules.{tooMany, takenName, hidingLoop}
 use Rattle.layout.specs.Kinds.{aLoop, cellWith}
 
 step-same : (g : Ground) (n : ℕ) (C D : List ℕ) (S : Scopes) (c : Option Expr) (s d : ℕ) → SameWords C D s d → RawStep g n C S c s d → RawStep g n D S c s d
@@ -96,8 +96,7 @@ module _ (text code values : List ℕ) (k : Setting) (used i : ℕ) (g : Begins 
   for-heads = heads
 
   abbrev head-faults : List Fault
-  head-faults = faultIf (cannotDeclare [] (spelled (a .known .W) (i + 1))) takenName (i + 1) ++ faultIf (crosses routineWordLimit used 1) tooMany (i + 1) ++ ofType (a .known .W) aNum (a .known .S) (w .a)
-      ++ ofType (a .known .W) aNum (a .known .S) (w .b) ++ optionalNum (a .known .W) (a .known .S) (w .c)
+  head-faults = nameFaults (a .known .W) (a .known .S) used i ++ ofType (a .known .W) aNum (a .known .S) (w .a) ++ ofType (a .known .W) aNum (a .known .S) (w .b) ++ optionalNum (a .known .W) (a .known .S) (w .c)
 
   abbrev S′ : Scopes
   S′ = enter (spelled (a .known .W) (i + 1)) (ofRoutine used) (a .known .S)
@@ -151,12 +150,16 @@ module _ (text code values : List ℕ) (k : Setting) (used i : ℕ) (g : Begins 
       for-declares = (room, a .known .table)
 
       pub for-spare : (used < 64) × (i < d) × (d < 8191)
-      for-spare = (f .written .spare, omega (arith, f .next-is, orders), omega (arith, f .next-is, orders, last))
+      for-spare = (f .written .name .spare, omega (arith, f .next-is, orders), omega (arith, f .next-is, orders, last))
 
       module _ (m : ℕ) (em : m ≡ cellWith aLoop 0 1 used) (two values′ : List ℕ) (dec : Declared one values (i + 1) m two values′) where
         unprotected : isProtected (spelled (a .known .W) (i + 1)) ≡ false
         unfolding groundOf
-        unprotected = f .written .free
+        unprotected = f .written .name .free
+
+        unhidden : hidesOwn (a .known .S) (spelled (a .known .W) (i + 1)) ≡ false
+        unfolding groundOf
+        unhidden = f .written .name .hides-none
 
         named : Outside (cellsOf one) (cellsOf two) (i + 1) (i + 2)
         named = subst (Outside (cellsOf one) (cellsOf two) (i + 1)) next-two (rewritten-outside (dec .word) room)
@@ -171,13 +174,13 @@ module _ (text code values : List ℕ) (k : Setting) (used i : ℕ) (g : Begins 
         changed = outside-on (outside-wider (i + 1) (w .doAt) (kept-outside (f .kept)) (omega arith) (omega arith)) (outside-wider (i + 1) (w .doAt) named (omega arith) (omega (arith, orders)))
 
         abbrev around : Around text values′
-        around = inner a one two values′ used (i + 1) m em (w .head .name) unprotected number room dec room-for
+        around = inner a one two values′ used (i + 1) m em (w .head .name) unprotected unhidden number room dec room-for
 
         lists : Lists text two values′ k (used + 1) (w .doAt + 1)
         lists = record {
           to = w .end;
           around = around;
-          here = enters a one two values′ used (i + 1) m em (w .head .name) unprotected number room dec room-for code k i (s .to) (w .doAt + 1) (w .end) (s .here) (f .written .spare) changed long-two
+          here = enters a one two values′ used (i + 1) m em (w .head .name) unprotected unhidden number room dec room-for code k i (s .to) (w .doAt + 1) (w .end) (s .here) (f .written .name .spare) changed long-two
               (omega arith) (omega (arith, orders, last)) (omega (arith, orders)) (omega arith) (omega (arith, last));
           d = s .d - 1;
           l = w .body;
@@ -207,16 +210,16 @@ module _ (text code values : List ℕ) (k : Setting) (used i : ℕ) (g : Begins 
             done = upto-done r body e n q2
 
             pub for-closes : (used < 64) × (i < d) × (d < e) × (e < wordLimit) × (storeBytes ≤ length three)
-            for-closes = (f .written .spare, omega (arith, f .next-is, orders), omega (arith, f .next-is, orders, done .next-is), omega (arith, done .next-is, last), omega (arith, body .long, long-two, s .here .calls .room))
+            for-closes = (f .written .name .spare, omega (arith, f .next-is, orders), omega (arith, f .next-is, orders, done .next-is), omega (arith, done .next-is, last), omega (arith, body .long, long-two, s .here .calls .room))
 
             pub for-leaves : n .first ≡ i → (n .first * 8 + 16 ≤ length three) × (storeBytes ≤ length values″) × Links three (n .first + 1)
             for-leaves o =
-                let x = leaves-links a one two values′ used (i + 1) m em (w .head .name) unprotected number room dec three values″ [] (head-before (done .outside) (i + 1) (omega (arith, orders))) (tail-before (done .outside) (i + 1) (omega (arith, orders))) (done .same) in
+                let x = leaves-links a one two values′ used (i + 1) m em (w .head .name) unprotected unhidden number room dec three values″ [] (head-before (done .outside) (i + 1) (omega (arith, orders))) (tail-before (done .outside) (i + 1) (omega (arith, orders))) (done .same) in
                 (omega (arith, o, room, body .long, long-two, ha .long), x .1, subst (λ (v : ℕ). Links three (v + 1)) (sym o) (x .0))
 
             module _ (four values‴ : List ℕ) (left : Left three values″ (i + 1) values‴) (x : ForEnded three four used i d e) where
               back : SameValues values values‴
-              back = leaves a one two values′ used (i + 1) m em (w .head .name) unprotected number room dec three values″ values‴ (head-before (done .outside) (i + 1) (omega (arith, orders))) (tail-before (done .outside) (i + 1) (omega (arith, orders))) (done .same) left
+              back = leaves a one two values′ used (i + 1) m em (w .head .name) unprotected unhidden number room dec three values″ values‴ (head-before (done .outside) (i + 1) (omega (arith, orders))) (tail-before (done .outside) (i + 1) (omega (arith, orders))) (done .same) left
 
               y : ForEnded three four used i (w .doAt) (w .end)
               y = subst (λ (v : ℕ). ForEnded three four used i v (w .end)) (f .next-is) (subst (λ (v : ℕ). ForEnded three four used i d v) (done .next-is) x)
@@ -280,7 +283,7 @@ module _ (text code values : List ℕ) (k : Setting) (used i : ℕ) (g : Begins 
                     };
                     value = value-same sp i (omega arith) (omega arith) _ (y .head .value-is);
                     room = room-for;
-                    small = omega (arith, f .written .spare);
+                    small = omega (arith, f .written .name .spare);
                     t = b .t;
                     s = b .s;
                     d = w .doAt;

@@ -50,6 +50,7 @@ module _ {values values′ : List ℕ} (s : SameValues values values′) where
     M = a .M;
     numbers = a .numbers;
     callable = a .callable;
+    owns = a .owns;
     quoted = a .quoted;
     sorts = a .sorts;
   }

@@ -10,7 +10,7 @@ use Rattle.paper.specs.Words.{Word}
 use Rattle.paper.specs.Terms.{ofRoutine, Memory}
 use Rattle.paper.specs.Trees.{Expr, Simple, assign, assignCall, call, returns, raises, exits, retries, triesNext, writes, reads, Statement, Statements, Arms, Cases, simple, compactIf, fullIf, for, while, test, empty, _then_}
 use Rattle.paper.specs.Trees.{noArm, arm, noCase, case, RoutineList, Routine, Module}
-use Rattle.paper.specs.Names.{DataType, aNum, aBool, Scopes, spelled, cannotDeclare, enter}
+use Rattle.paper.specs.Names.{DataType, aNum, aBool, Scopes, spelled, cannotDeclare, hidesOwn, enter}
 use Rattle.paper.specs.Types.{Fault, fault, faultIf, least, faultsOf, ofType}
 use Rattle.paper.specs.Declarations.{routineWordLimit, crosses, Signature, signatures, dataTexts, routineNameFaults, moduleData, routineFilling, routineData, routineScopes}
 use Rattle.paper.specs.Checks.{theBody, theHandler, theUndo, inError, inUndo, Setting, forsIn, forsInList, forsInArms, forsInCases, forsInOptional, judgeTarget, callFaults, returnFaults, optionalNum}
@@ -92,7 +92,7 @@ module _ (W : List Word) where
             (tt also arms-undoable a S S′ n n′ around after (left-empty front back h)) and list-undoable o S S′ (n + forsInArms a) _ around after (right-empty front back h)
         statement-undoable (for i v a b c body end) S S′ n n′ around after h =
             let S₁ = enter (spelled W v) (ofRoutine n) S in
-            let name = faultIf (cannotDeclare [] (spelled W v)) 10 v ++ faultIf (crosses routineWordLimit n 1) 16 v in
+            let name = faultIf (cannotDeclare [] (spelled W v)) 10 v ++ faultIf (hidesOwn S (spelled W v)) 19 v ++ faultIf (crosses routineWordLimit n 1) 16 v in
             let front = name ++ ofType W aNum S a ++ ofType W aNum S b ++ optionalNum W S c in
             (tt also list-undoable body S₁ _ (suc n) _ _ end (right-empty front (listFaults W K M body S₁ (suc n)) h)) and (tt also nothing)
         statement-undoable (while i e body) S S′ n n′ around after h = tt also list-undoable body S S′ n n′ around i (right-empty (ofType W aBool S e) _ h)

@@ -1,4 +1,4 @@
--- What the checks ensure: every fault is of rules 10 to 17 and at a word, and where there is none the module has at most 1,024 words. One law for each thing that is checked.
+-- What the checks ensure: every fault is of rules 10 to 17 and at a word, or of rule 19 and at a name, and where there is none the module has at most 1,024 words. One law for each thing that is checked.
 use mathlib.Core.Path.{_≡_, refl}
 use mathlib.Core.Bool.{Bool, true, false, _||_}
 use mathlib.Core.List.{List, [], _∷_, _++_, map}
@@ -41,11 +41,10 @@ module _ (W : List Word) where
   named : (i : ℕ) → sortIn W i ≡ NAME → IsWord i
   named i e = is-by (sortIn W) i 0 e
 
-  -- ---- faults of rules 10 to 17, at a word
-  pub record InRules (f : Fault) : Type 0 where
-    pub low : 10 ≤ f .number
-    pub high : f .number ≤ 17
-    pub there : IsWord (f .at)
+  -- ---- faults of rules 10 to 17, at a word, and of rule 19, at a name
+  pub data InRules (f : Fault) : Type 0 where
+    in-group : 10 ≤ f .number → f .number ≤ 17 → IsWord (f .at) → InRules f
+    hiding : f .number ≡ 19 → sortIn W (f .at) ≡ NAME → InRules f
 
   abbrev pub Ranked : List Fault → Type 0
   Ranked fs = All InRules fs
@@ -56,12 +55,17 @@ module _ (W : List Word) where
 
   fault-ranked : (number i : ℕ) → Rule number → IsWord i → Ranked (fault number i)
   unfolding fault
-  fault-ranked number i h w = record { low = leb→le 10 number (h .0); high = leb→le number 17 (h .1); there = w } also nothing
+  fault-ranked number i h w = in-group (leb→le 10 number (h .0)) (leb→le number 17 (h .1)) w also nothing
 
   if-ranked : (b : Bool) (number i : ℕ) → Rule number → IsWord i → Ranked (faultIf b number i)
   unfolding faultIf
   if-ranked true number i h w = fault-ranked number i h w
   if-ranked false number i h w = nothing
+
+  hiding-ranked : (b : Bool) (i : ℕ) → sortIn W i ≡ NAME → Ranked (faultIf b 19 i)
+  unfolding faultIf fault
+  hiding-ranked true i e = hiding refl e also nothing
+  hiding-ranked false i e = nothing
 
   -- ---- expressions
   judged-ranked : (t : DataType) (fs : List Fault) (x : Term) → Ranked fs → Ranked (judged t fs x .faults)
@@ -317,6 +321,7 @@ module _ (W : List Word) where
       statement-ranked (for i v a b c body end) S n h =
           let w = named W v (h .0 .variable) in
           if-ranked W _ 10 v (tt, tt) w
+          and hiding-ranked W _ v (h .0 .variable)
           and if-ranked W _ 16 v (tt, tt) w
           and of-type-ranked W aNum S a (h .0 .start)
           and of-type-ranked W aNum S b (h .0 .end)

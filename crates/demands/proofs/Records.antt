@@ -10,7 +10,7 @@ use lib.ListN.{length, getD, List·getD-eq-default}
 use borrow.Author.Tests.{lt-ltb, le-ltb, eq-eqb, ne-eqb}
 use Rattle.laws.proofs.Tests.{apart, by-less, by-same}
 use Rattle.paper.specs.Basics.{if_then_else_}
-use Rattle.paper.specs.Sorts.{bytes}
+use Rattle.paper.specs.Sorts.{NAME, bytes}
 use Rattle.paper.specs.Words.{textLimit, Word, Refusal, reading}
 use Rattle.paper.specs.Trees.{Routine, Module}
 use Rattle.paper.specs.Expressions.{Parsed, got, no, startsStatement, startsSimple}
@@ -26,8 +26,8 @@ use Rattle.paper.specs.Undoing.{runAbort, runAsked}
 use Rattle.paper.specs.Answer.{Accepted, Verdict, refusedBy, refuse, accepted, offsetOf, judgeMain, judgeModule, judgeForm, judgeReading, verdict, Record, Result, refusedWith, endedWith, ranTo, carriedOut, tooSmall, badDepth, result, Lent, questionOf}
 use Rattle.demands.proofs.Places.{ReadingRefuses, not, too-long, in-text, reading-refuses, words-in-text}
 use Rattle.demands.proofs.Alls.{first-of, rest-of, one-at}
-use Rattle.demands.proofs.Parsing.{Is, by-8, by-9, Reads, SortsOfModule, formed-reads}
-use Rattle.demands.proofs.Faults.{faults-ranked, least-ranked, accepted-words}
+use Rattle.demands.proofs.Parsing.{Is, is-by, by-8, by-9, Reads, SortsOfModule, formed-reads}
+use Rattle.demands.proofs.Faults.{InRules, in-group, hiding, faults-ranked, least-ranked, accepted-words}
 use Rattle.demands.proofs.Routines.{InRange, meaning-in, module-in}
 use Rattle.demands.proofs.Tables.{Known, UndoFits, ModuleFits, module-fits}
 use Rattle.demands.proofs.Apart.{all-apart}
@@ -94,6 +94,11 @@ module _ (text : List ℕ) (i : ℕ) where
   word-there : (n : ℕ) → 8 ≤ n → n ≤ 17 → Is (sortIn read) i → RefusalAt text n (offsetOf text read i)
   word-there n l h w = by-less i (length read) (there n l h) (λ k. absurd (w (no-sort read i k)))
 
+  -- at a name
+  name-there : sortIn read i ≡ NAME → RefusalAt text 19 (offsetOf text read i)
+  name-there e =
+      by-less i (length read) (λ k. demands.hiding-loop _ (record { index = i; inside = k; place = sym (offset-inside text read i k); sort = e })) (λ k. absurd (is-by (sortIn read) i 0 e (no-sort read i k)))
+
   -- at a word or at the end
   refusal-8 : RefusalAt text 8 (offsetOf text read i)
   unfolding offsetOf
@@ -115,7 +120,7 @@ pub record Accepts (W : List Word) (a : Accepted) : Type 0 where
   pub size : length (a .program .words) ≤ moduleWordLimit
 
 pub data Judges (text : List ℕ) : Verdict → Type 0 where
-  refuses : (n offset : ℕ) → 3 ≤ n → n ≤ 18 → RefusalAt text n offset → Judges text (refuse n offset)
+  refuses : (n offset : ℕ) → 3 ≤ n → n ≤ 19 → RefusalAt text n offset → Judges text (refuse n offset)
   accepts : (a : Accepted) → Accepts (reading text .words) a → Judges text (accepted a)
 
 main-named : (W : List Word) (sigs : List Signature) (o : Option ℕ) (k : ℕ) → mainIn W sigs o ≡ some k → o ≡ some k
@@ -164,9 +169,11 @@ module _ (text : List ℕ) where
   module-judges : (m : Module) → formed (sortIn words) ≡ got m → SortsOfModule (sortIn words) m → (o : Option Fault) → least (faults words m) ≡ o → Judges text (judgeModule text words m o)
   unfolding judgeModule
   module-judges m p h none e = main-judges m p h e
-  module-judges m p h (some f) e =
-      let k = least-ranked words (faults words m) f (faults-ranked words m h) e in
-      refuses (f .number) _ (omega arith) (omega arith) (word-there text (f .at) (f .number) (omega arith) (k .high) (k .there))
+  module-judges m p h (some f) e = by-rule (least-ranked words (faults words m) f (faults-ranked words m h) e)
+    where
+      by-rule : InRules words f → Judges text (refuse (f .number) (offsetOf text words (f .at)))
+      by-rule (in-group l k w) = refuses (f .number) _ (omega arith) (omega arith) (word-there text (f .at) (f .number) (omega arith) k w)
+      by-rule (hiding q n) = refuses (f .number) (offsetOf text words (f .at)) (omega arith) (omega arith) (rw q (name-there text (f .at) n))
 
   form-judges : (p : Parsed Module) → formed (sortIn words) ≡ p → Reads (sortIn words) (SortsOfModule (sortIn words)) p → Judges text (judgeForm text words p)
   unfolding judgeForm
@@ -196,11 +203,12 @@ refusal-place text n offset (demands.in-text k o l h p) = omega arith
 refusal-place text n offset (demands.at-word k o l h w) = let p = word-place text o _ w in omega arith
 refusal-place text n offset demands.at-end = omega arith
 refusal-place text n offset demands.no-main = omega arith
+refusal-place text n offset (demands.hiding-loop o w) = let p = word-place text o _ w in omega arith
 
-refused-allowed : (l : Lent) (f : Refusal) → 1 ≤ f .number → f .number ≤ 18 → RefusalAt (l .text) (f .number) (f .offset) → Allowed l (refusedWith f .fields)
+refused-allowed : (l : Lent) (f : Refusal) → 1 ≤ f .number → f .number ≤ 19 → RefusalAt (l .text) (f .number) (f .offset) → Allowed l (refusedWith f .fields)
 unfolding refusedWith
 refused-allowed l f low high h =
-    demands.refused refl (refusal-place (l .text) (f .number) (f .offset) h) (record { from-1 = low; to-18 = high; offset = h; steps = refl; errno = refl; output = refl; inputs = refl; words = refl })
+    demands.refused refl (refusal-place (l .text) (f .number) (f .offset) h) (record { from-1 = low; to-19 = high; offset = h; steps = refl; errno = refl; output = refl; inputs = refl; words = refl })
 
 module _ (l : Lent) (a : Accepted) (h : Accepts (reading (l .text) .words) a) where
   abbrev W : List Word

@@ -8,7 +8,7 @@ use lib.Dec.{leb}
 use lib.ListN.{length, take, drop, replicate}
 use lib.IntN.{ℤ, pos, negsuc, natAbs, _+ℤ_, _-ℤ_}
 use lib.Signed.{ltZ}
-use Rattle.paper.specs.Sorts.{NOT, AND}
+use Rattle.paper.specs.Sorts.{NAME, NOT, AND}
 use Rattle.paper.specs.Words.{textLimit, Word, reading}
 use Rattle.paper.specs.Trees.{Expr, nested, signed, joined}
 use Rattle.paper.specs.Expressions.{Parser, got, parts, products, sums, relations, conjunctions, disjunctions, levelOf, standsBefore, chain, level}
@@ -39,11 +39,13 @@ pub data RefusalAt (text : List ℕ) : (number offset : ℕ) → Type 0 where
   at-end : RefusalAt text 8 (length text)
   -- "18: no PROC main without parameters": at 0
   no-main : RefusalAt text 18 0
+  -- request 3: "new 19 at the loop variable": a name
+  hiding-loop : (offset : ℕ) → WordAt (reading text .words) offset (λ sort. sort ≡ NAME) → RefusalAt text 19 offset
 
 -- "0: refused; all other counts 0"
 pub record RefusedRecord (l : Lent) (f : Record) : Type 0 where
   pub from-1 : 1 ≤ f .refusal
-  pub to-18 : f .refusal ≤ 18
+  pub to-19 : f .refusal ≤ 19
   pub offset : RefusalAt (l .text) (f .refusal) (f .offset)
   pub steps : f .steps ≡ 0
   pub errno : f .errno ≡ 0

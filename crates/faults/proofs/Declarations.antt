@@ -17,7 +17,7 @@ use Rattle.grammar.specs.Form.{ContentAt, no-content, initial, sized, constant,
 use Rattle.grammar.proofs.Places.{content-grows, declared-grows, declarations-grow, parameter-grows, separated-grows}
 use Rattle.faults.specs.First.{no-fault, Inside, First}
 use Rattle.faults.specs.Added.{nameFaults, contentSlots, contentFaults, declaredFaults, dataFaults, parameterFaults}
-use Rattle.faults.proofs.First.{_and_, widen, inside-if, first-before, first-after, first-alone, first-lower, first-higher, neither-rule, nothing-in-both}
+use Rattle.faults.proofs.First.{_and_, widen, inside-if, first-before, first-after, first-alone, ranks, first-lower, first-higher, neither-rule, nothing-in-both}
 use Rattle.faults.proofs.Expressions.{grows, constant-inside}
 
 module _ (W : List Word) (F : Filling) where
@@ -102,7 +102,7 @@ module _ (W : List Word) (F : Filling) where
   module _ (i : ℕ) (words : List ℤ) (D : Data) where
     pub name-taken : cannotDeclare (map textOf (D .names)) (spelled W i) ≡ true → First (record { number = 10; at = i }) (nameFaults W F i words D)
     unfolding nameFaults
-    name-taken e = first-lower _ _ 10 16 i (omega arith) e
+    name-taken e = first-lower _ _ 10 16 i (ranks 10 16 (omega arith) (omega arith)) e
 
     pub name-crosses : cannotDeclare (map textOf (D .names)) (spelled W i) ≡ false → crosses (F .limit) (length (D .words)) (length words) ≡ true
         → First (record { number = 16; at = i }) (nameFaults W F i words D)

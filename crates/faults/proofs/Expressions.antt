@@ -20,7 +20,7 @@ use Rattle.climb.proofs.Climb.{got-no}
 use Rattle.climb.proofs.Places.{spans-grow, spans-first, stands}
 use Rattle.grammar.specs.Form.{Parses}
 use Rattle.faults.specs.First.{Inside, First, Headed, leads-others, Ordered}
-use Rattle.faults.proofs.First.{_and_, inside-if, leads-same-if, headed-first, ordered-none, ordered-fault, ordered-if, ordered-wider, ordered-append}
+use Rattle.faults.proofs.First.{_and_, inside-if, ranks, leads-same-if, headed-first, ordered-none, ordered-fault, ordered-if, ordered-wider, ordered-append}
 
 -- ---- the words of what the parser reads
 module _ (W : List Word) where
@@ -188,7 +188,7 @@ module _ (W : List Word) where
 
       one-word : (x y : Bool) → Headed (faultIf x 13 (first e) ++ faultIf y 15 (first e))
       unfolding faultIf fault
-      one-word true y = leads-others (leads-same-if (record { number = 13; at = first e }) y 15 (first e) refl (omega arith))
+      one-word true y = leads-others (leads-same-if (record { number = 13; at = first e }) y 15 (first e) refl (ranks 13 15 (omega arith) (omega arith)))
       one-word false y = ordered-if y 15 (first e) (first e) (suc (first e)) (omega arith) (omega arith) .headed
 
       pub constant-ordered : bad none ≡ false → Ordered at to (constantFaults W bad t S M e)

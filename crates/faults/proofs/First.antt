@@ -4,13 +4,41 @@ use mathlib.Core.Bool.{Bool, true, false}
 use mathlib.Core.List.{List, [], _∷_, _++_, List·Memᴰ, List·Memᴰ·head, List·Memᴰ·tail, List·Memᴰ·append-cases, Memᴰ·append-left, Memᴰ·append-right}
 use mathlib.Core.Option.{none, some}
 use mathlib.Core.Logic.{_⊎_, inl, inr}
-use Prim.Native.Nat.{ℕ, suc, _≤_, _<_}
+use Prim.Native.Nat.{ℕ, suc, _+_, _*_, _≤_, _<_}
 use native.Mathlib.Omega.{arith}
 use lib.Dec.{eqb}
 use borrow.Author.Tests.{eqb-true, eq-eqb, ne-eqb, ltb-true, lt-ltb, leb-true, le-leb}
-use Rattle.laws.proofs.Tests.{test, apart, false-true}
+use Rattle.laws.proofs.Tests.{test, by-same, apart, false-true}
 use Rattle.paper.specs.Types.{Fault, fault, faultIf, rank, comesFirst, leastOf, least}
 use Rattle.faults.specs.First.{Every, no-fault, _also_, Between, Inside, Leads, First, Headed, none-there, leads-others, Ordered}
+
+-- ---- the order of rules at one word: 10, 19, 11 to 17
+-- every rule but 19, by its number
+rank-plain : (n : ℕ) → (n ≡ 19 → ⊥) → rank n ≡ 2 * n
+unfolding rank
+rank-plain n d = rw (ne-eqb n 19 d)
+
+rank-hiding : (n : ℕ) → n ≡ 19 → rank n ≡ 21
+unfolding rank
+rank-hiding n e = rw (eq-eqb n 19 e)
+
+-- no two rules share a place in it
+rank-same : (m n : ℕ) → rank m ≡ rank n → m ≡ n
+rank-same m n e =
+    by-same m 19
+    (λ a. by-same n 19 (λ b. a ∙ sym b) (λ b. absurd (omega (arith, rank-hiding m a, rank-plain n b, e))))
+    (λ a. by-same n 19 (λ b. absurd (omega (arith, rank-plain m a, rank-hiding n b, e))) (λ b. omega (arith, rank-plain m a, rank-plain n b, e)))
+
+-- rules of the paper come by their numbers
+pub ranks : (m n : ℕ) → n < 19 → m ≤ n → rank m ≤ rank n
+ranks m n k h = omega (arith, rank-plain m (λ e. omega arith), rank-plain n (λ e. omega arith), h)
+
+-- 19 comes behind 10, and before those from 11 on
+pub ranks-before : rank 10 ≤ rank 19
+ranks-before = omega (arith, rank-plain 10 (λ e. omega arith), rank-hiding 19 refl)
+
+pub ranks-behind : (n : ℕ) → 10 < n → n < 19 → rank 19 ≤ rank n
+ranks-behind n l h = omega (arith, rank-hiding 19 refl, rank-plain n (λ e. omega arith), l)
 
 -- ---- the order
 module _ (f g : Fault) where
@@ -18,15 +46,15 @@ module _ (f g : Fault) where
   unfolding comesFirst
   comes-earlier h = rw (ne-eqb (f .at) (g .at) (λ e. omega arith), lt-ltb (f .at) (g .at) h, comesFirst)
 
-  pub comes-lower : f .at ≡ g .at → f .number ≤ g .number → comesFirst f g ≡ true
-  unfolding comesFirst rank
-  comes-lower e h = rw (eq-eqb (f .at) (g .at) e, le-leb (f .number) (g .number) h, comesFirst)
+  pub comes-lower : f .at ≡ g .at → rank (f .number) ≤ rank (g .number) → comesFirst f g ≡ true
+  unfolding comesFirst
+  comes-lower e h = rw (eq-eqb (f .at) (g .at) e, le-leb (rank (f .number)) (rank (g .number)) h, comesFirst)
 
-  -- what it says of places and numbers
-  pub by-order : {A : Type 0} → comesFirst f g ≡ true → (f .at < g .at → A) → (f .at ≡ g .at → f .number ≤ g .number → A) → A
-  unfolding comesFirst rank
+  -- what it says of places and rules
+  pub by-order : {A : Type 0} → comesFirst f g ≡ true → (f .at < g .at → A) → (f .at ≡ g .at → rank (f .number) ≤ rank (g .number) → A) → A
+  unfolding comesFirst
   by-order c earlier lower =
-      test (eqb (f .at) (g .at)) (λ t. lower (eqb-true (f .at) (g .at) t) (leb-true (f .number) (g .number) (rw (t, comesFirst) at c)))
+      test (eqb (f .at) (g .at)) (λ t. lower (eqb-true (f .at) (g .at) t) (leb-true (rank (f .number)) (rank (g .number)) (rw (t, comesFirst) at c)))
       (λ t. earlier (ltb-true (f .at) (g .at) (rw (t, comesFirst) at c)))
 
 pub comes-itself : (f : Fault) → comesFirst f f ≡ true
@@ -38,7 +66,7 @@ same-fault f g n i = ap₂ {C = Fault} (λ (number at : ℕ). record { number = 
 comes-both : (f g : Fault) → comesFirst f g ≡ true → comesFirst g f ≡ true → f ≡ g
 comes-both f g c d =
     by-order f g c (λ h. by-order g f d (λ k. absurd (omega arith)) (λ e k. absurd (omega arith)))
-    (λ e h. by-order g f d (λ k. absurd (omega arith)) (λ i k. same-fault f g (omega arith) e))
+    (λ e h. by-order g f d (λ k. absurd (omega arith)) (λ i k. same-fault f g (rank-same (f .number) (g .number) (omega arith)) e))
 
 -- ---- every fault
 infixl 4 _and_
@@ -85,11 +113,11 @@ first-inside h k = every-one k (h .among)
 pub leads-later : (f : Fault) {a b : ℕ} {fs : List Fault} → Inside a b fs → f .at < a → Leads f fs
 leads-later f h low = every-weaker h (λ g q. record { comes = comes-earlier f g (omega (arith, q .low)) })
 
-pub leads-same : (f : Fault) (number i : ℕ) → f .at ≡ i → f .number ≤ number → Leads f (fault number i)
+pub leads-same : (f : Fault) (number i : ℕ) → f .at ≡ i → rank (f .number) ≤ rank number → Leads f (fault number i)
 unfolding fault
 leads-same f number i e h = record { comes = comes-lower f (record { number = number; at = i }) e h } also no-fault
 
-pub leads-same-if : (f : Fault) (t : Bool) (number i : ℕ) → f .at ≡ i → f .number ≤ number → Leads f (faultIf t number i)
+pub leads-same-if : (f : Fault) (t : Bool) (number i : ℕ) → f .at ≡ i → rank (f .number) ≤ rank number → Leads f (faultIf t number i)
 unfolding faultIf
 leads-same-if f true number i e h = leads-same f number i e h
 leads-same-if f false number i e h = no-fault
@@ -143,9 +171,9 @@ first-between {f} xs ys vs ws h k l = record { among = there (List·Memᴰ·appe
 pub nothing-in-both : {xs ys : List Fault} → xs ≡ [] → ys ≡ [] → xs ++ ys ≡ []
 nothing-in-both e g = rw (e, g)
 
--- two rules at one word, the lower number first
+-- two rules at one word, the one that comes first by rank before the other
 module _ (x y : Bool) (m n i : ℕ) where
-  pub first-lower : m ≤ n → x ≡ true → First (record { number = m; at = i }) (faultIf x m i ++ faultIf y n i)
+  pub first-lower : rank m ≤ rank n → x ≡ true → First (record { number = m; at = i }) (faultIf x m i ++ faultIf y n i)
   first-lower le e = first-left (first-if x m i e) (leads-same-if (record { number = m; at = i }) y n i refl le)
 
   pub first-higher : x ≡ false → y ≡ true → First (record { number = n; at = i }) (faultIf x m i ++ faultIf y n i)
@@ -155,6 +183,21 @@ module _ (x y : Bool) (m n i : ℕ) where
   pub neither-rule : x ≡ false → y ≡ false → faultIf x m i ++ faultIf y n i ≡ []
   unfolding faultIf
   neither-rule e g = rw (e, g)
+
+-- and three
+module _ (x y z : Bool) (l m n i : ℕ) where
+  pub first-of-three : rank l ≤ rank m → rank l ≤ rank n → x ≡ true → First (record { number = l; at = i }) (faultIf x l i ++ faultIf y m i ++ faultIf z n i)
+  first-of-three p q e = first-left (first-lower x y l m i p e) (leads-same-if (record { number = l; at = i }) z n i refl q)
+
+  pub second-of-three : rank m ≤ rank n → x ≡ false → y ≡ true → First (record { number = m; at = i }) (faultIf x l i ++ faultIf y m i ++ faultIf z n i)
+  second-of-three q e g = first-left (first-higher x y l m i e g) (leads-same-if (record { number = m; at = i }) z n i refl q)
+
+  pub third-of-three : x ≡ false → y ≡ false → z ≡ true → First (record { number = n; at = i }) (faultIf x l i ++ faultIf y m i ++ faultIf z n i)
+  third-of-three e g h = first-after (neither-rule x y l m i e g) (first-if z n i h)
+
+  pub none-of-three : x ≡ false → y ≡ false → z ≡ false → faultIf x l i ++ faultIf y m i ++ faultIf z n i ≡ []
+  unfolding faultIf
+  none-of-three e g h = rw (e, g, h)
 
 -- ---- pieces whose head comes first
 pub headed-first : (f : Fault) (others : List Fault) {fs : List Fault} → Headed fs → fs ≡ f ∷ others → First f fs

@@ -15,7 +15,7 @@ use Rattle.grammar.proofs.Places.{parameters-grow, declarations-grow, list-grow
 use Rattle.faults.specs.First.{no-fault, Inside, First}
 use Rattle.faults.specs.Parts.{inParameters, inData, inBody, inHandler, inUndoList}
 use Rattle.faults.specs.Left.{headFaults, ownFaults, leftFaults, Left}
-use Rattle.faults.proofs.First.{_and_, widen, inside-if, leads-later, first-inside, first-left, first-before, first-after, first-between, first-lower, first-higher, neither-rule, nothing-in-both}
+use Rattle.faults.proofs.First.{_and_, widen, inside-if, leads-later, first-inside, first-left, first-before, first-after, first-between, ranks, first-lower, first-higher, neither-rule, nothing-in-both}
 use Rattle.faults.proofs.Expressions.{grows}
 use Rattle.faults.proofs.Statements.{list-inside, behind-inside}
 use Rattle.faults.proofs.Declarations.{data-adds, parameters-add, data-left, data-inside, parameters-inside}
@@ -138,7 +138,7 @@ module _ (W : List Word) where
   module _ (earlier : List Text) (k : ℕ) (r : Routine) where
     pub head-taken : cannotDeclare earlier (spelled W (r .name)) ≡ true → First (record { number = 10; at = r .name }) (headFaults W earlier k r)
     unfolding headFaults
-    head-taken e = first-lower _ _ 10 16 (r .name) (omega arith) e
+    head-taken e = first-lower _ _ 10 16 (r .name) (ranks 10 16 (omega arith) (omega arith)) e
 
     pub head-crosses : cannotDeclare earlier (spelled W (r .name)) ≡ false → crosses routineLimit k 1 ≡ true → First (record { number = 16; at = r .name }) (headFaults W earlier k r)
     unfolding headFaults

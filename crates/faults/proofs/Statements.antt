@@ -183,6 +183,7 @@ module _ (W : List Word) where
           let steps = step-grows (sortIn W) (Parses (sortIn W)) (grows W) (p .stepPart) in
           let lists = list-on l in
           inside-if _ 10 v at to (omega (arith, p .variable)) (omega (arith, p .variable))
+          and inside-if _ 19 v at to (omega (arith, p .variable)) (omega (arith, p .variable))
           and inside-if _ 16 v at to (omega (arith, p .variable)) (omega (arith, p .variable))
           and widen (of-type-inside W _ _ _ _ (p .start) aNum S) (omega arith) (omega arith)
           and widen (of-type-inside W _ _ _ _ (p .end) aNum S) (omega arith) (omega arith)

@@ -3,6 +3,7 @@ use mathlib.Core.List.{List, [], _∷_, map}
 use Prim.Native.Nat.{ℕ, _*_}
 use lib.IntN.{ℤ, pos}
 use Rattle.layout.specs.Rules.{smallStore, wrongDepth, longText, badByte, malformed, tooLarge, manyWords, noForm, deepNesting, takenName, unknownName, wrongKind, wrongType, wrongCount, noValue, tooMany, barred, noMain, mainReturned, exited, unhandled, fellOff, stepsSpent, beyondDepth, noInput, noRoom, aborted, undoSpent}
+use Rattle.layout.specs.Rules.{hidingLoop}
 use Rattle.layout.specs.Answers.{entered, left, ended, lacked, handed, firstError}
 use Rattle.layout.specs.Kinds.{aVariable, anArray, aConstant, aLoop, aRoutine, anErrno, anErrorNumber}
 use Rattle.layout.specs.Types.{noType, numType, boolType}
@@ -34,7 +35,7 @@ kinds =
 
 abbrev pub rules : List ℕ
 rules =
-    smallStore ∷ wrongDepth ∷ longText ∷ badByte ∷ malformed ∷ tooLarge ∷ manyWords ∷ noForm ∷ deepNesting ∷ takenName ∷ unknownName ∷ wrongKind ∷ wrongType ∷ wrongCount ∷ noValue ∷ tooMany ∷ barred ∷ noMain ∷ []
+    smallStore ∷ wrongDepth ∷ longText ∷ badByte ∷ malformed ∷ tooLarge ∷ manyWords ∷ noForm ∷ deepNesting ∷ takenName ∷ unknownName ∷ wrongKind ∷ wrongType ∷ wrongCount ∷ noValue ∷ tooMany ∷ barred ∷ noMain ∷ hidingLoop ∷ []
 
 abbrev pub endings : List ℕ
 endings =

@@ -74,6 +74,10 @@ barred = 17
 abbrev pub noMain : ℕ
 noMain = 18
 
+-- "a FOR variable named like a parameter or data of its routine"
+abbrev pub hidingLoop : ℕ
+hidingLoop = 19
+
 -- ---- "Ending"
 -- "main returned"
 abbrev pub mainReturned : ℕ

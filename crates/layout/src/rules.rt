@@ -38,8 +38,11 @@ pub const BARRED: u32 = 17;
 
 pub const NO_MAIN: u32 = 18;
 
+// a FOR variable named like a parameter or data of its routine; it comes between 10 and 11
+pub const HIDING_LOOP: u32 = 19;
+
 // All of them, as the specs name them: a wrong one breaks this contract.
-pub fn all() -> [u32; 18]
+pub fn all() -> [u32; 19]
     ensures { λ r. ⌜ r ≡ rules ⌝ }
 {
     [
@@ -61,5 +64,6 @@ pub fn all() -> [u32; 18]
         TOO_MANY,
         BARRED,
         NO_MAIN,
+        HIDING_LOOP,
     ]
 }

@@ -36,6 +36,7 @@ pub struct Part {
     pub result: Option<Type>,
     pub rank: usize,
     pub in_error: bool,
+    pub in_undo: bool,
     /// Words of the routine in use; the paper allows 64.
     pub words: usize,
     /// Compound statements around the place.
@@ -49,6 +50,8 @@ pub struct Author<'r> {
     pub scopes: Vec<Vec<Symbol>>,
     pub heads: Vec<Head>,
     pub part: Part,
+    /// How many of a hundred routines have an UNDO list.
+    undoing: usize,
     /// Where the text of the list being written should end.
     pub goal: usize,
     pub size: usize,
@@ -60,14 +63,16 @@ const DATA_NAMES: [&str; 14] = [
 ];
 const ROUTINE_NAMES: [&str; 7] = ["p", "q", "f", "g", "half", "To_", "h2"];
 
-/// The words of an accepted module of about `goal` bytes.
-pub fn module(random: &mut Random, goal: usize) -> Vec<Token> {
+/// The words of an accepted module of about `goal` bytes; so many of a hundred
+/// routines have an UNDO list.
+pub fn module(random: &mut Random, goal: usize, undoing: usize) -> Vec<Token> {
     let mut author = Author {
         random,
         written: Vec::new(),
         scopes: Vec::new(),
         heads: Vec::new(),
         part: Part::default(),
+        undoing,
         goal,
         size: 0,
     };
@@ -311,9 +316,8 @@ impl Author<'_> {
         self.part = Part {
             result,
             rank,
-            in_error: false,
             words,
-            nest: 0,
+            ..Part::default()
         };
         self.scopes.push(head.parameters.clone());
         for _ in 0..self.random.weighted(&[75, 20, 5]) {
@@ -331,9 +335,10 @@ impl Author<'_> {
     fn lists(&mut self, head: &Head) {
         let end = self.goal;
         let handles = self.random.chance(if head.rank == 0 { 65 } else { 45 });
-        if handles {
-            self.goal = end.saturating_sub(self.room() / 3);
-        }
+        let undoes = self.random.chance(self.undoing);
+        let share = self.room() / 3;
+        let further = usize::from(handles) + usize::from(undoes);
+        self.goal = end.saturating_sub(share * further);
         if self.random.chance(60) {
             self.way_out(head);
         }
@@ -345,12 +350,19 @@ impl Author<'_> {
         if head.result.is_some() && self.random.chance(90) {
             self.return_value();
         }
-        self.goal = end;
         if handles {
+            self.goal += share;
             self.put("ERROR");
             self.part.in_error = true;
             self.handler();
             self.part.in_error = false;
+        }
+        self.goal = end;
+        if undoes {
+            self.put("UNDO");
+            self.part.in_undo = true;
+            self.undo();
+            self.part.in_undo = false;
         }
     }
 

@@ -50,10 +50,11 @@ const NAMES: [&str; 4] = ["main", "q", "r", "s"];
 struct Link {
     is_func: bool,
     call: Option<String>,
+    undoes: bool,
 }
 
-/// The words of a chain of two to four routines.
-pub fn chain(random: &mut Random) -> Vec<Token> {
+/// The words of a chain of two to four routines; so many of a hundred have an UNDO list.
+pub fn chain(random: &mut Random, undoing: usize) -> Vec<Token> {
     let length = random.between(2, NAMES.len());
     let funcs: Vec<bool> = (0..length)
         .map(|place| place > 0 && random.chance(40))
@@ -63,7 +64,12 @@ pub fn chain(random: &mut Random) -> Vec<Token> {
         let next = funcs.get(place + 1);
         let call = next.map(|is_func| call_of(random, NAMES[place + 1], *is_func));
         let is_func = funcs[place];
-        text += &routine(random, NAMES[place], &Link { is_func, call });
+        let link = Link {
+            is_func,
+            call,
+            undoes: random.chance(undoing),
+        };
+        text += &routine(random, NAMES[place], &link);
     }
     text += "ENDMODULE";
     mark_starts(tokens(&text))
@@ -83,6 +89,9 @@ fn routine(random: &mut Random, name: &str, link: &Link) -> String {
     text += &body(random, link);
     if random.chance(60) {
         text += &format!("ERROR {}", handler(random, link));
+    }
+    if link.undoes {
+        text += &format!("UNDO {}", undo(random));
     }
     text + if link.is_func { "ENDFUNC " } else { "ENDPROC " }
 }
@@ -134,6 +143,14 @@ fn handler(random: &mut Random, link: &Link) -> String {
     let back = random.pick(&WAYS_BACK);
     text += if back == "LEAVE" { leave(link) } else { back };
     text + " "
+}
+
+fn undo(random: &mut Random) -> String {
+    let mut text = some_of(random, &["n := n * 3 + ERRNO ;", "k := k + 1 ;"], 60);
+    text += &some_of(random, &QUIET, 80);
+    // RAISE is barred here.
+    text += &some_of(random, &TROUBLE[RAISING..], 40);
+    text + &some_of(random, &QUIET, 60)
 }
 
 /// Marks the words after a semicolon that start a statement.

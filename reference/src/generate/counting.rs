@@ -19,7 +19,9 @@ const EDGES: [&str; 8] = [
     "- 8388607 TO - 8388607",
     "- 8388607 TO - 8388606",
 ];
-const STEPS: [&str; 9] = ["1", "- 1", "- 1", "2", "- 2", "- 3", "k", "d - 1", "6 DIV d"];
+const STEPS: [&str; 9] = [
+    "1", "- 1", "- 1", "2", "- 2", "- 3", "k", "d - 1", "6 DIV d",
+];
 /// ERROR lists: most change a bound before the head is tried again.
 const MENDING: [&str; 6] = [
     "d := d + 1 ; IF d < 5 RETRY ; TRYNEXT ;",

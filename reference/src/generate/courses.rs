@@ -46,10 +46,13 @@ struct Course<'r> {
     loops: usize,
     nest: usize,
     in_error: bool,
+    in_undo: bool,
+    /// How many of a hundred routines have an UNDO list.
+    undoing: usize,
 }
 
-/// The words of a module that runs long.
-pub fn course(random: &mut Random) -> Vec<Token> {
+/// The words of a module that runs long; so many of a hundred routines have an UNDO list.
+pub fn course(random: &mut Random, undoing: usize) -> Vec<Token> {
     let count = random.between(1, 4);
     let sorts = (0..count)
         .map(|_| {
@@ -72,6 +75,8 @@ pub fn course(random: &mut Random) -> Vec<Token> {
         loops: 0,
         nest: 0,
         in_error: false,
+        in_undo: false,
+        undoing,
     };
     for rank in 0..=count {
         course.routine(rank);
@@ -118,6 +123,9 @@ impl Course<'_> {
         if self.random.chance(if rank == 0 { 92 } else { 50 }) {
             self.handler();
         }
+        if self.random.chance(self.undoing) {
+            self.undo();
+        }
         let end = if self.sort() == Sort::Proc {
             "ENDPROC"
         } else {
@@ -154,6 +162,17 @@ impl Course<'_> {
             _ => self.give_back(),
         }
         self.in_error = false;
+    }
+}
+
+/// UNDO lists.
+impl Course<'_> {
+    fn undo(&mut self) {
+        self.put("UNDO");
+        self.in_undo = true;
+        self.put("TPWrite \"u\" \\ num := u * 10 + v ;");
+        self.list(0, 3);
+        self.in_undo = false;
     }
 }
 
@@ -207,7 +226,7 @@ impl Course<'_> {
             }
             4 => self.put("TPReadNum v , \"v\" ;"),
             // a way out of the loops around, too
-            5 if self.rank > 0 && !self.counters.is_empty() => self.give_back(),
+            5 if self.rank > 0 && !self.counters.is_empty() && !self.in_undo => self.give_back(),
             _ => self.assign(),
         }
     }
@@ -234,7 +253,7 @@ impl Course<'_> {
 
     /// A call of a routine behind this one, or an assignment where there is none.
     fn call(&mut self) {
-        if self.rank >= self.sorts.len() {
+        if self.rank >= self.sorts.len() || self.in_undo {
             return self.assign();
         }
         let callee = self.random.between(self.rank + 1, self.sorts.len());
@@ -271,17 +290,20 @@ impl Course<'_> {
     fn trouble(&mut self) {
         let name = self.random.pick(&NUMS);
         let gives_num = matches!(self.sort(), Sort::Num | Sort::Recursive);
+        let raises = !self.in_error && !self.in_undo;
         let words = match self.random.below(13) {
             0 => format!("u := 12 DIV {name} ;"),
             1 => format!("v := 7 MOD ( {name} - 2 ) ;"),
             2 => format!("a {{ {name} }} := 1 ;"),
             3 => format!("u := 8388600 + {name} ;"),
             4 => format!("FOR e FROM 1 TO 6 DIV {name} DO v := e ; ENDFOR"),
-            5 | 6 if !self.in_error => format!("IF {name} MOD 3 = 1 RAISE {name} ;"),
-            7 if !self.in_error => format!("IF {name} > 4 RAISE {name} * 20 ;"),
+            5 | 6 if raises => format!("IF {name} MOD 3 = 1 RAISE {name} ;"),
+            7 if raises => format!("IF {name} > 4 RAISE {name} * 20 ;"),
             8 => format!("WHILE 12 DIV {name} > 4 DO {name} := {name} + 1 ; ENDWHILE"),
             9 => format!("TPWrite \"q=\" \\ num := 9 DIV {name} ;"),
-            10 if gives_num => format!("IF {name} < 3 RETURN 5 MOD ( {name} - 1 ) ;"),
+            10 if gives_num && !self.in_undo => {
+                format!("IF {name} < 3 RETURN 5 MOD ( {name} - 1 ) ;")
+            }
             11 => format!("TEST 5 MOD {name} CASE 1 : u := 2 ; ENDTEST"),
             _ => format!("IF c {{ {name} }} > 1 THEN u := 1 ; ENDIF"),
         };
@@ -293,7 +315,12 @@ impl Course<'_> {
 /// Compound statements.
 impl Course<'_> {
     fn for_loop(&mut self) {
-        let counter = COUNTERS[self.counters.len().min(COUNTERS.len() - 1)];
+        let counter = if self.random.chance(5) {
+            // hides the routine
+            "main"
+        } else {
+            COUNTERS[self.counters.len().min(COUNTERS.len() - 1)]
+        };
         self.loops += 1;
         let head = self.random.pick(&[
             "1 TO 4",

@@ -42,7 +42,7 @@ fn any_name(random: &mut Random, words: &[Token]) -> Vec<u8> {
     }
 }
 
-/// Mistakes against rules 10 to 18.
+/// Mistakes against rules 10 to 19.
 pub fn mistype(random: &mut Random, words: &mut Vec<Token>) {
     for _ in 0..mistakes(random) {
         match random.weighted(&[22, 10, 10, 10, 12, 6, 6, 4, 8, 20]) {
@@ -256,7 +256,7 @@ const MISTAKEN: [&str; 36] = [
 ];
 
 /// A name declared as the letter asks, or any.
-fn name_for(random: &mut Random, words: &[Token], letter: &str) -> Vec<u8> {
+pub fn name_for(random: &mut Random, words: &[Token], letter: &str) -> Vec<u8> {
     let before =
         |place: usize, back: usize, word: &str| place >= back && words[place - back].is(word);
     let fits = |place: &usize| match letter {

@@ -2,8 +2,9 @@
 
 use super::layout::write_out;
 use super::random::Random;
-use super::{author, lend, module_words, Size, STORE_WORDS};
+use super::{author, lend, module_words, Size, FEW_UNDO, STORE_WORDS};
 use crate::bench::{answer, Lent};
+use crate::run::Abort;
 
 /// A module of module data, the lists of main and further routines.
 fn module(data: &str, main: &str, routines: &str) -> Vec<u8> {
@@ -63,13 +64,26 @@ fn compounds(random: &mut Random) -> Lent {
     let count = random.between(15, 18);
     let innermost = random.pick(&["", "IF b b:=FALSE;", "EXIT;", "IF b EXIT;"]);
     let nested = nest(random, count, innermost);
-    let main = match random.below(3) {
+    let main = match random.below(5) {
         0 => format!("RAISE 1; ERROR {nested}"),
         1 => format!("{nested} ERROR IF b THEN ENDIF"),
+        2 => format!("{nested} UNDO IF b THEN ENDIF"),
+        3 => format!("EXIT; ERROR IF b THEN ENDIF UNDO {nested}"),
         _ => nested,
     };
     let text = module("VAR bool b:=TRUE;", &main, "");
-    lend(random, text)
+    let mut lent = lend(random, text);
+    if random.chance(40) {
+        lent.abort = abort_near(random, 2);
+    }
+    lent
+}
+
+/// K at a step near a number of them, and few UNDO steps or many.
+fn abort_near(random: &mut Random, steps: usize) -> Option<Abort> {
+    let at = (steps + random.below(3)).saturating_sub(random.below(3)) as u32;
+    let undo = random.pick(&[0, 1, 2, 3, 5, 20, 200, u32::MAX]);
+    Some(Abort { at, undo })
 }
 
 /// A word out of place in the head of the last compound: before or after its 9.
@@ -212,20 +226,31 @@ fn routine_words(random: &mut Random) -> Lent {
     let constant = random.pick(&["", "CONST num c:=1;", "VAR num c:=zz;"]);
     let loops = "FOR i FROM 1 TO 1 DO ENDFOR ".repeat(random.below(3));
     let handler = random.pick(&["", "ERROR FOR j FROM 1 TO 1 DO ENDFOR"]);
+    let undo = random.pick(&["", "", " UNDO FOR j FROM 2 TO x DO a{j}:=j;ENDFOR"]);
     let head =
-        format!("PROC p(num x,bool y)VAR num a{{{size}}};{constant}{loops}{handler} ENDPROC");
+        format!("PROC p(num x,bool y)VAR num a{{{size}}};{constant}{loops}{handler}{undo} ENDPROC");
     let text = module("", "p 1,TRUE;", &head);
-    lend(random, text)
+    let mut lent = lend(random, text);
+    if !undo.is_empty() {
+        lent.abort = abort_near(random, 2);
+    }
+    lent
 }
 
 /// Recursion to a known depth, and depths that are none.
 fn depths(random: &mut Random) -> Lent {
     let reached = random.pick(&[1, 2, 3, 62, 63, 64]);
-    let routines = "PROC p(num x)IF x>1 p x-1;TPWrite \"d\"\\Num:=x;ENDPROC";
-    let text = module("VAR num n;", &format!("n:=1;p {reached};n:=2;"), routines);
+    let undo = random.pick(&["", " UNDO n:=n+x;", " UNDO TPWrite \"u\"\\Num:=x;"]);
+    let routines = format!("PROC p(num x)IF x>1 p x-1;TPWrite \"d\"\\Num:=x;{undo}ENDPROC");
+    let main = format!("n:=1;p {reached};n:=2;{undo}").replace('x', "n");
+    let text = module("VAR num n;", &main, &routines);
     let mut lent = lend(random, text);
     lent.depth = random.pick(&[0, 1, 2, 3, 4, 63, 64, 64, 65, 255]);
     lent.steps = 1_000;
+    if !undo.is_empty() {
+        // where the deepest call has begun
+        lent.abort = abort_near(random, 2 * reached);
+    }
     lent
 }
 
@@ -325,11 +350,11 @@ fn range_ends(random: &mut Random) -> Lent {
 
 /// Just the steps that the run takes, one less or one more.
 fn steps_spent(random: &mut Random, size: Size) -> Lent {
-    let words = module_words(random, size);
+    let words = module_words(random, size, FEW_UNDO);
     let text = write_out(random, &words);
     let mut lent = lend(random, text);
     lent.steps = 2_000;
-    let taken = answer(&lent).steps;
+    let taken = answer(&lent).steps as u32;
     lent.steps = (taken + random.below(2) as u32).saturating_sub(random.below(3) as u32);
     lent
 }
@@ -347,7 +372,7 @@ pub fn too_long(random: &mut Random) -> Lent {
 /// A module with something behind it up to a length.
 fn filled(random: &mut Random, length: usize) -> Lent {
     let goal = random.between(60, 400);
-    let words = author::module(random, goal);
+    let words = author::module(random, goal, FEW_UNDO);
     let mut text = write_out(random, &words);
     if random.chance(50) {
         text.push(b'!');

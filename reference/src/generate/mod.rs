@@ -5,12 +5,14 @@ mod chains;
 mod counting;
 mod courses;
 mod damage;
+mod hiding;
 mod layout;
 mod limits;
 mod phrases;
 mod random;
 mod rooms;
 mod statements;
+mod undo;
 
 use crate::bench::Lent;
 use crate::lines::{show_bytes, show_run};
@@ -20,12 +22,16 @@ pub use random::Random;
 pub use rooms::{less_room, more_room};
 
 const STORE_WORDS: u64 = 16_384;
+/// How many of a hundred routines have an UNDO list in kinds that are not about them.
+const FEW_UNDO: usize = 8;
 
 #[derive(Clone, Copy, PartialEq, Eq)]
 pub enum Kind {
     Valid,
     Courses,
     Counting,
+    Undo,
+    Hiding,
     Mistyped,
     Words,
     Bytes,
@@ -40,6 +46,8 @@ impl Kind {
             "valid" => Kind::Valid,
             "courses" => Kind::Courses,
             "counting" => Kind::Counting,
+            "undo" => Kind::Undo,
+            "hiding" => Kind::Hiding,
             "mistyped" => Kind::Mistyped,
             "words" => Kind::Words,
             "bytes" => Kind::Bytes,
@@ -122,7 +130,9 @@ fn case_line(random: &mut Random, kind: Kind, size: Size) -> String {
         Kind::Listing => listing_line(random, size),
         Kind::Limits => show_run(&limits::limit_case(random, size)),
         Kind::Courses => show_run(&course_case(random)),
-        Kind::Counting => show_run(&counting_case(random)),
+        Kind::Counting => show_run(&loops_case(random, counting::counting)),
+        Kind::Undo => show_run(&undo::undo_case(random, size)),
+        Kind::Hiding => show_run(&loops_case(random, hiding::hiding)),
         _ => {
             let text = text_of(random, kind, size);
             show_run(&lend(random, text))
@@ -131,34 +141,37 @@ fn case_line(random: &mut Random, kind: Kind, size: Size) -> String {
 }
 
 fn mixed_line(random: &mut Random, size: Size) -> String {
-    const KINDS: [Kind; 7] = [
+    const KINDS: [Kind; 9] = [
         Kind::Valid,
         Kind::Counting,
+        Kind::Undo,
+        Kind::Hiding,
         Kind::Mistyped,
         Kind::Words,
         Kind::Bytes,
         Kind::Limits,
         Kind::Listing,
     ];
-    let kind = KINDS[random.weighted(&[30, 5, 22, 10, 10, 15, 8])];
+    let kind = KINDS[random.weighted(&[24, 4, 8, 5, 19, 9, 8, 15, 8])];
     case_line(random, kind, size)
 }
 
-/// The words of an accepted module of one sort or the other.
-fn module_words(random: &mut Random, size: Size) -> Vec<Token> {
+/// The words of an accepted module of one sort or the other; so many of a hundred
+/// routines have an UNDO list.
+fn module_words(random: &mut Random, size: Size, undoing: usize) -> Vec<Token> {
     if size == Size::Long && random.chance(40) {
-        return courses::course(random);
+        return courses::course(random, undoing);
     }
     if random.chance(25) {
-        return chains::chain(random);
+        return chains::chain(random, undoing);
     }
     let goal = size.goal(random);
-    author::module(random, goal)
+    author::module(random, goal, undoing)
 }
 
 /// The text of a module that is accepted, or damaged in the way of its kind.
 fn text_of(random: &mut Random, kind: Kind, size: Size) -> Vec<u8> {
-    let mut words = module_words(random, size);
+    let mut words = module_words(random, size, FEW_UNDO);
     match kind {
         Kind::Mistyped => damage::mistype(random, &mut words),
         Kind::Words => damage::damage_words(random, &mut words),
@@ -173,7 +186,7 @@ fn text_of(random: &mut Random, kind: Kind, size: Size) -> Vec<u8> {
 
 /// A module that runs long, with allowances that mostly let it.
 fn course_case(random: &mut Random) -> Lent {
-    let words = courses::course(random);
+    let words = courses::course(random, FEW_UNDO);
     let text = write_out(random, &words);
     let mut lent = lend(random, text);
     if random.chance(85) {
@@ -187,8 +200,8 @@ fn course_case(random: &mut Random) -> Lent {
 }
 
 /// A module of loops, with steps for most of them.
-fn counting_case(random: &mut Random) -> Lent {
-    let words = counting::counting(random);
+fn loops_case(random: &mut Random, module: fn(&mut Random) -> Vec<Token>) -> Lent {
+    let words = module(random);
     let text = write_out(random, &words);
     let mut lent = lend(random, text);
     if random.chance(90) {
@@ -226,6 +239,7 @@ fn lend(random: &mut Random, text: Vec<u8>) -> Lent {
         output_room: output_room as u64,
         code_words: STORE_WORDS,
         value_words: STORE_WORDS + u64::from(random.chance(2)),
+        abort: None,
     }
 }
 

@@ -2,6 +2,7 @@
 
 use super::random::Random;
 use crate::bench::{answer, Lent};
+use crate::run::Abort;
 
 const DEEPEST: u32 = 64;
 const STORE_WORDS: u64 = 16_384;
@@ -37,6 +38,12 @@ pub fn less_room(random: &mut Random, second: &Lent) -> Option<Lent> {
         let inputs = random.below(used.inputs_used + 2);
         first.inputs.truncate(inputs);
     }
+    // K stays, and the allowance for what follows it is a room.
+    if let Some(Abort { at, undo }) = second.abort.filter(|_| random.chance(50)) {
+        let used = used.steps.saturating_sub(u64::from(at)) as usize;
+        let undo = undo.min(random.below(used + 2) as u32);
+        first.abort = Some(Abort { at, undo });
+    }
     Some(first)
 }
 
@@ -50,6 +57,9 @@ pub fn more_room(random: &mut Random, lent: &mut Lent) {
     }
     if random.chance(50) {
         lent.output_room = (lent.output_room + random.below(500) as u64).min(MOST_ROOM);
+    }
+    if let Some(abort) = &mut lent.abort {
+        abort.undo = abort.undo.saturating_add(random.below(100) as u32);
     }
     let more = random.below(4);
     lent.inputs

@@ -56,7 +56,13 @@ impl Author<'_> {
     }
 
     fn simple(&mut self) {
-        match self.random.weighted(&[30, 30, 12, 8, 4, 16]) {
+        // Calls and jumps are barred in an UNDO list.
+        let weights = if self.part.in_undo {
+            [40, 0, 24, 12, 0, 24]
+        } else {
+            [30, 30, 12, 8, 4, 16]
+        };
+        match self.random.weighted(&weights) {
             0 => self.assignment(),
             1 => self.call(),
             2 => self.write(),
@@ -198,7 +204,9 @@ impl Author<'_> {
             0 => self.start_statement(&format!("{name} := 7 DIV {name} ;")),
             1 => self.start_statement(&format!("{name} := 8388608 + {name} ;")),
             2 => self.start_statement(&format!("{name} := 5 MOD ( {name} - 1 ) ;")),
-            3 if !self.part.in_error => self.start_statement(&format!("RAISE {name} ;")),
+            3 if !self.part.in_error && !self.part.in_undo => {
+                self.start_statement(&format!("RAISE {name} ;"));
+            }
             _ => match arrays.first() {
                 Some(Symbol {
                     name: array, kind, ..
@@ -212,9 +220,10 @@ impl Author<'_> {
         }
     }
 
-    /// A statement that leaves the list.
+    /// A statement that leaves the list, or writes a line where it may not.
     fn jump(&mut self) {
         match self.random.below(10) {
+            _ if self.part.in_undo => self.write(),
             0 => self.start_statement("EXIT ;"),
             1..=3 => self.return_value(),
             _ if self.part.in_error => {
@@ -241,6 +250,22 @@ impl Author<'_> {
 
 fn is_counter(symbol: &Symbol) -> bool {
     symbol.kind == Type::Num && symbol.form == Form::Scalar
+}
+
+/// UNDO lists.
+impl Author<'_> {
+    /// A list that mostly shows some data and goes on from there.
+    pub fn undo(&mut self) {
+        if self.random.chance(8) {
+            return;
+        }
+        let counters = self.visible_as(is_counter);
+        if !counters.is_empty() && self.random.chance(70) {
+            let name = &self.random.choose(&counters).name;
+            self.start_statement(&format!("TPWrite \"u\" \\ num := {name} ;"));
+        }
+        self.list(1, 4);
+    }
 }
 
 /// ERROR lists.
@@ -296,7 +321,9 @@ impl Author<'_> {
     }
 
     fn for_statement(&mut self) {
-        let name = self.local_name(&[]);
+        // It may hide everything but what is its routine's own.
+        let own = self.scopes[1].clone();
+        let name = self.local_name(&own);
         self.part.words += 1;
         self.start_statement(&format!("FOR {name} FROM"));
         let ends = self.random.pick(&[

@@ -1,5 +1,5 @@
 use borrow.Author.Needs.{needs}
-use Rattle.check_expressions.proofs.Leaves.{number-small, literal-number, literal-true, literal-false}
+use Rattle.check_expressions.proofs.Leaves.{number-fits, literal-number, literal-true, literal-false}
 use Rattle.check_expressions.proofs.literal.Statement.{statement}
 use Rattle.check_expressions.proofs.literal.Tie as tie
 
@@ -10,7 +10,7 @@ add-set-head : tie.Need-add-set-head
 add-set-head c = search needs
 
 set-head-requires : tie.Need-set-head-requires
-set-head-requires c κs = let z = number-small _ _ (c .before .before .head .ensures) (c .before .before .before .before .before .pre .1) (c .before .if1 .taken) in search needs
+set-head-requires c κs = search (needs, number-fits)
 
 add-t13 : tie.Need-add-t13
 add-t13 c = search needs

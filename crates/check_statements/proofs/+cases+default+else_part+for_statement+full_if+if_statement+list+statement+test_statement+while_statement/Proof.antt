@@ -81,7 +81,9 @@ abbrev μ-for-statement : Measures 3 for-statement-kinds.ps ℕ
 μ-for-statement κs a = (wordLimit - a .1 .1 .1 .1 .1 .0) * 3
 
 abbrev μ-full-if : Measures 3 full-if-kinds.ps ℕ
-μ-full-if κs a = (wordLimit - a .1 .1 .1 .1 .1 .1 .0) * 3
+μ-full-if κs a =
+    let first = a .1 .1 .1 .1 .1 .1 .0 in
+    (wordLimit - first) * 3
 
 abbrev μ-if-statement : Measures 3 if-statement-kinds.ps ℕ
 μ-if-statement κs a = (wordLimit - a .1 .1 .1 .1 .1 .0) * 3

@@ -63,10 +63,14 @@ abbrev left : (from to nesting : ℕ) → ℕ
 left from to nesting = (to - from) * 3 + nesting
 
 abbrev μ-enclosed : Measures 2 enclosed-kinds.ps ℕ
-μ-enclosed κs a = left (a .1 .1 .1 .0) (a .1 .1 .1 .1 .1 .0) (a .1 .1 .1 .1 .1 .1 .0)
+μ-enclosed κs a =
+    let nesting = a .1 .1 .1 .1 .1 .1 .0 in
+    left (a .1 .1 .1 .0) (a .1 .1 .1 .1 .1 .0) nesting
 
 abbrev μ-rest : Measures 2 rest-kinds.ps ℕ
-μ-rest κs a = left (a .1 .1 .1 .0) (a .1 .1 .1 .1 .0) (a .1 .1 .1 .1 .1 .1 .0)
+μ-rest κs a =
+    let nesting = a .1 .1 .1 .1 .1 .1 .0 in
+    left (a .1 .1 .1 .0) (a .1 .1 .1 .1 .0) nesting
 
 abbrev μ-whole : Measures 2 whole-kinds.ps ℕ
 μ-whole κs a = left (a .1 .1 .1 .0) (a .1 .1 .1 .1 .0) (a .1 .1 .1 .1 .1 .0) + 1
@@ -229,8 +233,11 @@ part-returns-2 t c = search (needs, evaluated-read)
 abbrev Turn : ℕ → Type 0
 Turn t = rest-lts.After-head (calls-rest t) (rest-at t) rest.Post Inv-loop μ-loop
 
-abbrev asked : (t : ℕ) (h : Turn t) → rest-lts.Args (calls-rest t) (rest-at t) rest.Post Inv-loop μ-loop (h .before .before .before .before .κs)
-asked t h = h .before .before .before .before .args
+abbrev begun : (t : ℕ) → Turn t → rest-lts.Start (calls-rest t) (rest-at t) rest.Post Inv-loop μ-loop
+begun t h = h .before .before .before .before
+
+abbrev asked : (t : ℕ) (h : Turn t) → rest-lts.Args (calls-rest t) (rest-at t) rest.Post Inv-loop μ-loop (begun t h .κs)
+asked t h = begun t h .args
 
 abbrev IsGoing : (t : ℕ) (h : Turn t) → Type 0
 IsGoing t h =
@@ -250,7 +257,7 @@ word t h = h .head .ensures
 
 turn-fits : (t : ℕ) (h : Turn t) → h .before .before .before .loop .i + 2 < addresses
 turn-fits t h =
-    let s = h .before .before .before .before in
+    let s = begun t h in
     let f : s .args .to < addresses = s .fits .to .fits in
     let r : h .before .before .before .loop .i + 2 ≤ s .args .to = turn-room _ _ _ _ _ _ _ _ _ (going t h) (more t h) in
     omega arith
@@ -346,7 +353,7 @@ rest-whole-requires : (t : ℕ) → rest-lts.Need-whole-requires (calls-rest t) 
 rest-whole-requires t c κs =
     let k = span t (c .before) in
     let h = turn t k in
-    (omega (arith, c .if4 .taken, span-less _ _ _ _ _ _ _ _ _ (going t h) (more t h) _ (word t h) (spans t k) _ (linked t k)), (h .before .before .before .before .pre .1 .0, last-stands _ _ _ _ _ _ _ _ _ (going t h) (more t h) _ (word t h) (spans t k) _ (linked t k) (c .if4 .taken)))
+    (omega (arith, c .if4 .taken, span-less _ _ _ _ _ _ _ _ _ (going t h) (more t h) _ (word t h) (spans t k) _ (linked t k)), (begun t h .pre .1 .0, last-stands _ _ _ _ _ _ _ _ _ (going t h) (more t h) _ (word t h) (spans t k) _ (linked t k) (c .if4 .taken)))
 
 rest-returns : (t : ℕ) → rest-lts.Need-returns (calls-rest t) (rest-at t) rest.Post Inv-loop μ-loop
 rest-returns t c =
@@ -365,7 +372,7 @@ part-asks : (t : ℕ) (k : Spanning t) → let h = turn t k in let s = asked t h
     × (Stores (now (now (s .values))) (s .base) × StandsUnder (s .nesting) (now (now (s .code))) (h .before .before .before .loop .i + 1) (k .link .result))
 part-asks t k =
     let h = turn t k in
-    let s = h .before .before .before .before in
+    let s = begun t h in
     (omega (arith, s .pre .0, span-less _ _ _ _ _ _ _ _ _ (going t h) (more t h) _ (word t h) (spans t k) _ (linked t k)), (s .pre .1 .0, span-stands _ _ _ _ _ _ _ _ _ (going t h) (more t h) _ (word t h) (spans t k) _ (linked t k)))
 
 rest-part-requires : (t : ℕ) → rest-lts.Need-part-requires (calls-rest t) (rest-at t) rest.Post Inv-loop μ-loop
@@ -438,10 +445,10 @@ rest-returns-3 t c =
 rest-leaf-requires : (t : ℕ) → rest-lts.Need-leaf-requires (calls-rest t) (rest-at t) rest.Post Inv-loop μ-loop
 rest-leaf-requires t c κs =
     let h = c .before .before in
-    (h .before .before .before .before .pre .1 .0, fused-leaf _ _ _ _ _ _ _ _ _ (going t h) (more t h) _ (word t h) (c .before .if1 .left) (search needs))
+    (begun t h .pre .1 .0, fused-leaf _ _ _ _ _ _ _ _ _ (going t h) (more t h) _ (word t h) (c .before .if1 .left) (search needs))
 
 rest-operate-requires : (t : ℕ) → rest-lts.Need-operate-requires (calls-rest t) (rest-at t) rest.Post Inv-loop μ-loop
-rest-operate-requires t c κs = (c .before .before .before .before .loop .inv .small, sided t c .small)
+rest-operate-requires t c κs = (going t (c .before) .small, sided t c .small)
 
 rest-is-failing-requires : (t : ℕ) → rest-lts.Need-is-failing-requires (calls-rest t) (rest-at t) rest.Post Inv-loop μ-loop
 rest-is-failing-requires t c κs = search needs

@@ -1,0 +1,23 @@
+/* The call that a case line asks for. */
+#ifndef CASE_CALL_H
+#define CASE_CALL_H
+#include "case_lines.h"
+#include "rapid.h"
+
+/* Memory for it; how much text and output there is says the case. */
+struct case_memory {
+    const uint8_t *text, *inputs;
+    uint8_t *output, *code, *values, *record;
+    size_t inputs_length, code_length, values_length, record_length;
+};
+
+/* By rapid_run; by rapid_run_until where the case has a step number K, or where flags are given. */
+static inline uint32_t case_call(const struct call_case *c, uint32_t flags, const struct case_memory *m) {
+    if (!c->aborts && flags == 0)
+        return rapid_run(m->text, c->text_length, c->steps, c->depth, m->inputs, m->inputs_length, m->output, c->room, m->code, m->code_length, m->values, m->values_length, m->record,
+                         m->record_length);
+    return rapid_run_until(m->text, c->text_length, flags, c->steps, c->depth, c->at, c->undo, m->inputs, m->inputs_length, m->output, c->room, m->code, m->code_length, m->values,
+                           m->values_length, m->record, m->record_length);
+}
+
+#endif
