@@ -159,15 +159,15 @@ pub record Declares (W : List Word) (limit : ℕ) (D : Data) : Type 0 where
   pub ranked : Ranked W (D .faults)
   pub words : D .faults ≡ [] → length (D .words) ≤ limit
 
-left-empty : (a b : List Fault) → a ++ b ≡ [] → a ≡ []
+pub left-empty : (a b : List Fault) → a ++ b ≡ [] → a ≡ []
 left-empty [] b e = refl
 left-empty (f ∷ a) b e = apart (cc)
 
-right-empty : (a b : List Fault) → a ++ b ≡ [] → b ≡ []
+pub right-empty : (a b : List Fault) → a ++ b ≡ [] → b ≡ []
 right-empty [] b e = e
 right-empty (f ∷ a) b e = apart (cc)
 
-if-empty : (b : Bool) (number i : ℕ) → faultIf b number i ≡ [] → b ≡ false
+pub if-empty : (b : Bool) (number i : ℕ) → faultIf b number i ≡ [] → b ≡ false
 unfolding faultIf fault
 if-empty true number i e = apart (cc)
 if-empty false number i e = refl

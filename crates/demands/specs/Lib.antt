@@ -2,3 +2,4 @@
 pub mod Vocabulary
 pub mod Demands
 pub mod Fakes
+pub mod LoopNames
