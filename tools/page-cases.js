@@ -102,6 +102,7 @@ function sameSentences(bench) {
     const text = fs.readFileSync(path.join(lessons, name), "latin1"), listed = bench.words(text);
     for (let i = 0; i < listed.length; i += 15) for (const word of ["TRUE", "3", "", "RETRY"]) texts.push(text.slice(0, listed[i + 1]) + word + text.slice(listed[i + 1] + listed[i + 2]));
   }
+  texts.push(fs.readFileSync(path.join(lessons, "loop-names.mod"), "latin1").replace("FOR slot", "FOR i")); // the sentence that tells a line
   texts.forEach((text, i) => fs.writeFileSync(path.join(folder, String(i)), text, "latin1"));
   const command = path.join(__dirname, "..", "target", "host", "rapid"), seen = new Set();
   let said = "";

@@ -10,6 +10,7 @@ pub mod Counting
 pub mod Signs
 pub mod Parsing
 pub mod Faults
+pub mod LoopNames
 pub mod Places
 pub mod Routines
 pub mod Tables

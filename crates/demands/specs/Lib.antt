@@ -3,3 +3,4 @@ pub mod Vocabulary
 pub mod Demands
 pub mod Aborts
 pub mod Fakes
+pub mod LoopNames
