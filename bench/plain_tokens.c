@@ -56,7 +56,7 @@ static void enter_first_names(void) {
     for (size_t i = 0; i < sizeof known_names / sizeof *known_names; i++)
         name_index((const uint8_t *)known_names[i], strlen(known_names[i]));
     memcpy(first_buckets, buckets, sizeof buckets);
-    keyed_start();
+    decided_start();
 }
 
 /* For each check: only the first names. */
@@ -133,7 +133,7 @@ struct refusal plain_read(const uint8_t *text, size_t length) {
     uint32_t answer[3], entry[3];
     forget_names();
     string_bytes = 0;
-    keyed_list(text, length, entries, sizeof entries, (uint8_t *)answer);
+    decided_list(text, length, entries, sizeof entries, (uint8_t *)answer);
     if (answer[1])
         return (struct refusal){answer[1], answer[2]};
     for (uint32_t i = 0; i < answer[0]; i++) {

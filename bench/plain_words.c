@@ -1,12 +1,12 @@
 /* A plain scanner of the same rules, as one would write it in C: nothing about it is proved. It is here to be measured against. It is compiled twice:
- * with BY_KEYS it tells reserved words as the proved one does, without it by halving a sorted table. */
+ * with BY_LENGTH it tells reserved words as the proved one does, without it by halving a sorted table. */
 #include "plain_words.h"
 #include "../host/rapid.h"
 #include <string.h>
-#ifdef BY_KEYS
-#include "reserved_keys.h"
-#define plain_start keyed_start
-#define plain_list keyed_list
+#ifdef BY_LENGTH
+#include "reserved_lengths.h"
+#define plain_start decided_start
+#define plain_list decided_list
 #else
 #include "reserved_halving.h"
 #endif
@@ -33,19 +33,19 @@ struct scan {
 static struct scan refused(uint32_t number, size_t after) { return (struct scan){number, 0, after}; }
 static struct scan word(uint32_t kind, size_t length) { return (struct scan){0, kind, length}; }
 
-#ifdef BY_KEYS
-/* The key of the letters, which are counted in the same loop; what follows them makes the name no reserved word. */
+#ifdef BY_LENGTH
+/* The number of the letters behind the first, which are counted in the same loop; what follows them makes the name no reserved word. */
 static struct scan scan_name(const uint8_t *t, size_t n) {
     size_t letters = 1;
-    uint64_t key = 1 << 5 | (t[0] & 31);
+    uint64_t rest = 0;
     while (letters < n && class_of[t[letters]] & LETTER)
-        key = key << 5 | (t[letters++] & 31);
+        rest = rest << 5 | ((t[letters++] & 0xdfu) - 'A');
     size_t k = letters;
     while (k < n && class_of[t[k]] & IN_NAME)
         k++;
     if (k > NAME_LIMIT)
         return refused(RAPID_MALFORMED_WORD, 0);
-    return word(k == letters && is_reserved(key, k) ? RAPID_RESERVED : RAPID_NAME, k);
+    return word(k == letters && is_reserved(letters, t[0] & 0xdf, rest) ? RAPID_RESERVED : RAPID_NAME, k);
 }
 #else
 static struct scan scan_name(const uint8_t *t, size_t n) {

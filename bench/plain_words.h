@@ -5,7 +5,7 @@
 void plain_start(void);
 /* As rapid_list, with twelve bytes of answer. */
 void plain_list(const uint8_t *text, size_t length, uint8_t *out, size_t room, uint8_t *answer);
-/* The same, with reserved words told by the proved scanner's keys. */
-void keyed_start(void);
-void keyed_list(const uint8_t *text, size_t length, uint8_t *out, size_t room, uint8_t *answer);
+/* The same, with reserved words told by length and first letter, as the proved scanner does. */
+void decided_start(void);
+void decided_list(const uint8_t *text, size_t length, uint8_t *out, size_t room, uint8_t *answer);
 #endif

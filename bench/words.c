@@ -1,7 +1,7 @@
-/* words: nanoseconds of processor time a byte of the reading, the proved scanner beside the plain one and the plain one with keys, and of asking about a
- * place, on a text of 1 to 32 kB made of a lesson from standard input. `shifted` is the proved scanner's same code 16 bytes further on in memory.
+/* words: nanoseconds of processor time a byte of the reading, the proved scanner beside the plain one and the plain one with its decision, and of asking about
+ * a place, on a text of 1 to 32 kB made of a lesson from standard input. `shifted` is the proved scanner's same code 16 bytes further on in memory.
  * words KB: of that size only.
- * words KB proved|plain|keyed TIMES: that one only, untimed, for counting instructions. */
+ * words KB proved|plain|decided TIMES: that one only, untimed, for counting instructions. */
 #include "../host/rapid.h"
 #include "plain_words.h"
 #include <stdio.h>
@@ -13,8 +13,8 @@
 #define ROUNDS 100
 #endif
 enum { LESSON = 16384, TURN = 1 << 19 };
-enum reading { PROVED, SHIFTED, PLAIN, KEYED, LISTINGS, ASK = LISTINGS, READINGS };
-static const char *const names[READINGS] = {"proved", "shifted", "plain", "keyed", "ask"};
+enum reading { PROVED, SHIFTED, PLAIN, DECIDED, LISTINGS, ASK = LISTINGS, READINGS };
+static const char *const names[READINGS] = {"proved", "shifted", "plain", "decided", "ask"};
 
 /* as rapid_list */
 uint32_t shifted_list(const uint8_t *text, size_t text_length, uint8_t *out, size_t out_length, uint8_t *answer, size_t answer_length);
@@ -42,8 +42,8 @@ static void read_once(enum reading r, size_t n) {
     case PLAIN:
         plain_list(text, n, out[r], sizeof out[r], answer[r]);
         break;
-    case KEYED:
-        keyed_list(text, n, out[r], sizeof out[r], answer[r]);
+    case DECIDED:
+        decided_list(text, n, out[r], sizeof out[r], answer[r]);
         break;
     default: /* asked about the end, so that the whole text is read */
         asked += rapid_ask(text, n, n);
@@ -98,7 +98,7 @@ static int measure(size_t n) {
     printf("%8zu %7u", n, answer[0][0] | answer[0][1] << 8);
     for (int r = 0; r < READINGS; r++)
         printf(" %7.2f", best[r]);
-    printf(" %13.2f %13.2f\n", best[PROVED] / best[PLAIN], best[PROVED] / best[KEYED]);
+    printf(" %13.2f %14.2f\n", best[PROVED] / best[PLAIN], best[PROVED] / best[DECIDED]);
     return 1;
 }
 
@@ -106,7 +106,7 @@ static void headline(void) {
     printf("%8s %7s", "bytes", "words");
     for (int r = 0; r < READINGS; r++)
         printf(" %7s", names[r]);
-    printf(" %13s %13s\n", "proved/plain", "proved/keyed");
+    printf(" %13s %14s\n", "proved/plain", "proved/decided");
 }
 
 int main(int argc, char **argv) {
@@ -114,7 +114,7 @@ int main(int argc, char **argv) {
     if (have == 0 || kb < 1 || kb > 32)
         return 1;
     plain_start();
-    keyed_start();
+    decided_start();
     for (int r = 0; argc == 4 && r < LISTINGS; r++)
         if (strcmp(argv[2], names[r]) == 0)
             return count((enum reading)r, make_text(have, kb * 1024), atoi(argv[3])), 0;

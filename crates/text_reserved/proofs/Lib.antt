@@ -1,6 +1,7 @@
 pub mod Ranges
 pub mod Folds
 pub mod Runs
-pub mod Table
+pub mod Texts
+pub mod Rows
 pub mod Packs
 pub mod Unique

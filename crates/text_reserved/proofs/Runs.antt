@@ -1,14 +1,15 @@
 -- Runs of bytes of a kind.
 use mathlib.Core.Path.{_≡_, refl, sym, _∙_}
-use mathlib.Core.Bool.{Bool, true, false}
+use mathlib.Core.Bool.{Bool, true, false, _||_}
 use mathlib.Core.List.{List, [], _∷_}
 use Prim.Native.Nat.{ℕ, suc, _+_, _<_, _≤_}
 use native.Mathlib.Nat.{zero-add}
 use native.Mathlib.Omega.{arith}
+use lib.Dec.{eqb}
 use lib.ListN.{length, getD, drop, drop-of-length-le, List·getD-eq-default}
 use Rattle.laws.proofs.Lists.{rest}
 use Rattle.laws.proofs.Tests.{test, false-true, by-less}
-use Rattle.paper.specs.Words.{between, leading, letter, digit, inName}
+use Rattle.paper.specs.Words.{UNDERSCORE, between, leading, letter, digit, inName}
 use Rattle.text_reserved.specs.Runs.{Counted}
 
 -- What is left of a leading of which n bytes are passed.
@@ -47,6 +48,11 @@ module _ (such : ℕ → Bool) (text : List ℕ) where
 letter-in-name : (b : ℕ) → letter b ≡ true → inName b ≡ true
 unfolding inName
 letter-in-name b t = rw (t, inName)
+
+-- by what follows the letters
+pub goes-by : (b : ℕ) (t more : Bool) → t ≡ letter b → t ≡ false → more ≡ digit b || eqb b UNDERSCORE → more ≡ inName b
+unfolding inName
+goes-by b t more is h e = rw (sym is ∙ h, inName) e
 
 letters-in-name : (l : List ℕ) → leading inName l ≡ leading letter l + leading inName (drop (leading letter l) l)
 unfolding leading

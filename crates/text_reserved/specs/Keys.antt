@@ -1,63 +1,109 @@
--- Keys: a few letters as one number, and the paper's table of reserved words by their keys.
+-- Reserved words as the code tells them: by length, by first letter, and by the letters behind it, which are one number.
 use mathlib.Core.Path.{_≡_}
 use mathlib.Core.Bool.{Bool, true, false}
 use mathlib.Core.List.{List, [], _∷_, map}
-use Prim.Native.Nat.{ℕ, zero, suc, _+_, _*_, _/_, _%_, _<_, _≤_}
+use Prim.Native.Nat.{ℕ, _+_, _*_, _-_, _<_}
 use Prim.Native.String.{String}
 use lib.Dec.{eqb}
-use lib.ListN.{take, getD}
-use Rattle.paper.specs.Sorts.{bytes, folded, reserved, nameSort, firstReserved, NAME}
-use Rattle.paper.specs.Words.{letter, inName}
+use lib.ListN.{length, take, getD}
+use Rattle.paper.specs.Sorts.{bytes, folded, nameSort, NAME}
+use Rattle.paper.specs.Words.{between, letter, inName}
 use Rattle.text_reserved.specs.Runs.{Counted}
+use Rattle.text_reserved.specs.declared.words.Word.{Word}
 
--- The key of letters, after letters with the key k. The low five bits tell a letter, small or capital.
+-- Capitals as a number to the base 32, after letters with the number k.
 unfoldable pub packed : List ℕ → ℕ → ℕ
 packed [] k = k
-packed (b ∷ r) k = packed r (k * 32 + b % 32)
+packed (b ∷ r) k = packed r (k * 32 + (b - 65))
 
-unfoldable pub keysOf : List String → List ℕ
-keysOf [] = []
-keysOf (s ∷ r) = packed (map folded (bytes s)) 1 ∷ keysOf r
+-- The number of a text's letters behind the first.
+unfoldable pub behind : List ℕ → ℕ
+behind [] = 0
+behind (b ∷ r) = packed r 0
 
--- The number of a key among keys of which the first has the number n, or 0.
-unfoldable pub numberOfKey : List ℕ → ℕ → ℕ → ℕ
-numberOfKey [] n key = 0
-numberOfKey (k ∷ r) n key = elim (eqb k key) [ true ↦ n | false ↦ numberOfKey r (n + 1) key ]
+-- A reserved word as the code has it.
+unfoldable pub wordOf : String → Word
+wordOf s = record { rest = behind (map folded (bytes s)); sort = nameSort (map folded (bytes s)) }
 
--- The sort of the name that has a key.
-unfoldable pub sortOf : ℕ → ℕ
-sortOf key = elim (numberOfKey (keysOf reserved) firstReserved key) [ zero ↦ NAME | suc n ↦ suc n ]
+-- What stands in a table under a number.
+unfoldable pub look : {A : Type 0} → List (ℕ × List A) → ℕ → List A
+look [] n = []
+look (e ∷ r) n = elim (eqb n (e .0)) [ true ↦ e .1 | false ↦ look r n ]
 
--- Above the keys of nine letters, the longest reserved words.
-abbrev pub keyBound : ℕ
-keyBound = 70368744177664
+unfoldable pub of : {A : Type 0} → ℕ → List A → ℕ × List A
+of n l = (n, l)
 
--- A key below it has room in 64 bits for a letter more.
-abbrev pub keyRoom : ℕ
-keyRoom = 576460752303423488
+-- The words that begin with a letter.
+unfoldable pub row : String → List String → ℕ × List String
+row s words = (getD (bytes s) 0 0, words)
 
--- A key's place is its product with a factor, divided, and moved by a shift that its rest by 32 tells.
-abbrev pub shifts : List ℕ
-shifts =
-    0 ∷ 0 ∷ 0 ∷ 37 ∷ 23 ∷ 0 ∷ 1 ∷ 0 ∷ 4 ∷ 0 ∷ 0 ∷ 0 ∷ 19 ∷ 9 ∷ 22 ∷ 17 ∷
-    1 ∷ 0 ∷ 7 ∷ 53 ∷ 12 ∷ 0 ∷ 8 ∷ 5 ∷ 0 ∷ 16 ∷ 0 ∷ 0 ∷ 0 ∷ 0 ∷ 0 ∷ 0 ∷ []
+-- The words by length, and those of a length by their first letter.
+unfoldable pub table : List (ℕ × List (ℕ × List String))
+table =
+    of 2 (
+    row "D" ("DO" ∷ []) ∷ row "I" ("IF" ∷ []) ∷ row "O" ("OR" ∷ []) ∷ row "T" ("TO" ∷ []) ∷ []
+    ) ∷
+    of 3 (
+    row "A" ("AND" ∷ []) ∷ row "D" ("DIV" ∷ []) ∷ row "F" ("FOR" ∷ []) ∷ row "M" ("MOD" ∷ []) ∷
+    row "N" ("NOT" ∷ "NUM" ∷ []) ∷ row "V" ("VAR" ∷ []) ∷ row "X" ("XOR" ∷ []) ∷ []
+    ) ∷
+    of 4 (
+    row "B" ("BOOL" ∷ []) ∷ row "C" ("CASE" ∷ []) ∷ row "E" ("ELSE" ∷ "EXIT" ∷ []) ∷ row "F" ("FROM" ∷ "FUNC" ∷ []) ∷
+    row "G" ("GOTO" ∷ []) ∷ row "P" ("PERS" ∷ "PROC" ∷ []) ∷ row "S" ("STEP" ∷ []) ∷
+    row "T" ("TEST" ∷ "THEN" ∷ "TRAP" ∷ "TRUE" ∷ []) ∷ row "U" ("UNDO" ∷ []) ∷ row "W" ("WITH" ∷ []) ∷ []
+    ) ∷
+    of 5 (
+    row "A" ("ALIAS" ∷ []) ∷ row "C" ("CONST" ∷ []) ∷ row "E" ("ENDIF" ∷ "ERROR" ∷ []) ∷ row "F" ("FALSE" ∷ []) ∷
+    row "I" ("INOUT" ∷ []) ∷ row "L" ("LOCAL" ∷ []) ∷ row "R" ("RAISE" ∷ "RETRY" ∷ []) ∷ row "W" ("WHILE" ∷ []) ∷ []
+    ) ∷
+    of 6 (
+    row "E" ("ELSEIF" ∷ "ENDFOR" ∷ []) ∷ row "M" ("MODULE" ∷ []) ∷ row "N" ("NOVIEW" ∷ []) ∷
+    row "R" ("RECORD" ∷ "RETURN" ∷ []) ∷ []
+    ) ∷
+    of 7 (
+    row "C" ("CONNECT" ∷ []) ∷ row "D" ("DEFAULT" ∷ []) ∷ row "E" ("ENDFUNC" ∷ "ENDPROC" ∷ "ENDTEST" ∷ "ENDTRAP" ∷ []) ∷
+    row "T" ("TPWRITE" ∷ "TRYNEXT" ∷ []) ∷ []
+    ) ∷
+    of 8 (
+    row "B" ("BACKWARD" ∷ []) ∷ row "E" ("ENDWHILE" ∷ []) ∷ row "N" ("NOSTEPIN" ∷ []) ∷ row "R" ("READONLY" ∷ []) ∷
+    row "V" ("VIEWONLY" ∷ []) ∷ []
+    ) ∷
+    of 9 (
+    row "E" ("ENDMODULE" ∷ "ENDRECORD" ∷ []) ∷ row "S" ("SYSMODULE" ∷ []) ∷ row "T" ("TPREADNUM" ∷ []) ∷ []
+    ) ∷
+    []
 
-unfoldable pub placeOf : ℕ → ℕ
-placeOf key = (key * 223279 / 67108864 + getD shifts (key % 32) 0) % 64
+unfoldable pub candidates : (length letter : ℕ) → List Word
+candidates length letter = map wordOf (look (look table length) letter)
 
--- The key that has a place among keys, or 0.
-unfoldable pub keyIn : List ℕ → (place : ℕ) → ℕ
-keyIn [] place = 0
-keyIn (k ∷ r) place = elim (eqb (placeOf k) place) [ true ↦ k | false ↦ keyIn r place ]
+-- A word's sort, if a number is that of its letters behind the first, or else another sort.
+unfoldable pub orElse : Word → ℕ → ℕ → ℕ
+orElse w rest other = elim (eqb rest (w .rest)) [ true ↦ w .sort | false ↦ other ]
 
--- The reserved word's key that stands at a place of the table.
-unfoldable pub keyAt : (place : ℕ) → ℕ
-keyAt place = keyIn (keysOf reserved) place
+-- The sort of that word among some whose letters behind the first have a number, or a name's.
+unfoldable pub chosen : List Word → ℕ → ℕ
+chosen [] rest = NAME
+chosen (w ∷ r) rest = orElse w rest (chosen r rest)
 
--- The letters that a text begins with: how many, whether the byte after them goes on with a name, and where they are few enough to be a reserved word,
--- their key.
-pub record Packs (text : List ℕ) (letters key : ℕ) (more : Bool) : Type 0 where
+-- r is a byte with letter case folded: a letter's capital, and of another byte none.
+pub record Folds (b r : ℕ) : Type 0 where
+  pub capital : between 65 90 r ≡ letter b
+  pub same : letter b ≡ true → r ≡ folded b
+  pub byte : r < 256
+
+-- A text begins with a letter, which is this one, folded.
+pub record Begins (text : List ℕ) (first : ℕ) : Type 0 where
+  pub some : 0 < length text
+  pub is : letter (getD text 0 0) ≡ true
+  pub folds : first ≡ folded (getD text 0 0)
+
+-- A number below it has room in 64 bits for a letter more.
+abbrev pub room : ℕ
+room = 576460752303423488
+
+-- The letters that a text begins with: how many, whether the byte after them goes on with a name, and by the first and by the number of those behind it,
+-- their sort.
+pub record Packs (text : List ℕ) (letters first rest : ℕ) (more : Bool) : Type 0 where
   pub count : Counted letter text letters
   pub goes : more ≡ inName (getD text letters 0)
-  pub fits : letters ≤ 9 → key < keyBound
-  pub sort : letters ≤ 9 → nameSort (map folded (take letters text)) ≡ sortOf key
+  pub sort : nameSort (map folded (take letters text)) ≡ chosen (candidates letters first) rest

@@ -10,7 +10,7 @@ use borrow.Author.Tests.{eqb-true, eq-eqb, ne-eqb, lt-leb, leb-true}
 use Rattle.paper.specs.Sorts.{bytes, folded, signs, equalTexts, numberIn, signSort, firstSign, NOTHING, becomes, lessEqual, greaterEqual, unequal}
 use Rattle.paper.specs.Words.{between, letter, digit, spoilsNumber, barredInString, permitted}
 use Rattle.laws.proofs.Tests.{test, false-true, by-last}
-use Rattle.text_reserved.proofs.Packs.{every, unlike}
+use Rattle.text_reserved.proofs.Texts.{every, unlike}
 use Rattle.text_reserved.proofs.Ranges.{failed, passed, left-to, below-range, in-range, range, ranges}
 
 -- ---- a test at every number below a bound

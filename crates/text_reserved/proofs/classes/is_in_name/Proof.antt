@@ -1,6 +1,7 @@
 -- `text_reserved::classes::is_in_name` meets its contract.
 use Rattle.paper.specs.Words.{inName}
 use Rattle.text_reserved.proofs.Ranges.{chain}
+use Rattle.text_reserved.proofs.Runs.{goes-by}
 use borrow.Author.Needs.{needs}
 use Rattle.text_reserved.proofs.classes.is_in_name.Statement.{statement}
 use Rattle.text_reserved.proofs.classes.is_in_name.Tie as tie
@@ -12,17 +13,11 @@ returns : tie.Need-returns
 unfolding inName
 returns c = search (needs, chain)
 
-is-digit-requires : tie.Need-is-digit-requires
-is-digit-requires c κs = search needs
+goes-on-requires : tie.Need-goes-on-requires
+goes-on-requires c κs = search needs
 
 returns-2 : tie.Need-returns-2
-unfolding inName
-returns-2 c = search (needs, chain)
-
-returns-3 : tie.Need-returns-3
-unfolding inName
-returns-3 c = search (needs, chain)
+returns-2 c = search (needs, goes-by)
 
 pub is-in-name-spec : {M : Type 1} → statement M
-is-in-name-spec =
-    tie.close (tie.spec is-letter-requires returns is-digit-requires returns-2 returns-3)
+is-in-name-spec = tie.close (tie.spec is-letter-requires returns goes-on-requires returns-2)
