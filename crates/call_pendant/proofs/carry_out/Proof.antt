@@ -5,7 +5,7 @@ use Rattle.call_pendant.proofs.carry_out.Tie as tie
 
 -- from where the stores are settled back to where the run has ended, and from there to the start
 abbrev ran : tie.After-settle → tie.After-run-words
-ran c = c .before .before .before .before .before .before .before .before .before
+ran c = c .before .before .before .before .before .before .before .before
 
 abbrev start : tie.After-run-words → tie.Start
 start c = c .before .before .before .before .before .before .before .before .before .before
@@ -17,7 +17,7 @@ run-words-requires c κs =
 
 settle-requires : tie.Need-settle-requires
 settle-requires c κs =
-    let at-run = c .before .before .before .before .before .before .before .before in
+    let at-run = c .before .before .before .before .before .before .before in
     settles (start at-run .pre) (at-run .run-words .ensures)
 
 same-length : tie.Need-same-length
