@@ -69,8 +69,16 @@ host_tool() { # gcc|g++|ar|size|objcopy WORDS..
     if host_is_this; then "$@"; else "${HOST_FOR:-x86_64-linux-gnu}-$1" "${@:2}"; fi
 }
 
+host_maths() { # a folder with the static libm, which g++ links: in Debian's package for another machine libm.a is a script that names files where that machine would have them
+    local folder=${root:-$PWD}/target/maths archive
+    archive=$(host_tool gcc -print-file-name=libm.a)
+    mkdir -p "$folder"
+    for archive in "${archive%.a}"-*.a; do [ ! -f "$archive" ] || ln -sf "$archive" "$folder/libm.a"; done
+    echo "$folder"
+}
+
 host_compile() { # gcc|g++ WORDS..
-    if host_is_this; then host_tool "$1" -Wall -Wextra -Werror "${@:2}"; else host_tool "$1" -static -Wall -Wextra -Werror "${@:2}"; fi
+    if host_is_this; then host_tool "$1" -Wall -Wextra -Werror "${@:2}"; else host_tool "$1" -static -L"$(host_maths)" -Wall -Wextra -Werror "${@:2}"; fi
 }
 
 host_cc() { host_compile gcc "$@"; } # as cc

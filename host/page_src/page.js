@@ -93,7 +93,7 @@ async function openPage() {
   editor.field.addEventListener("input", tellWord);
 
   // ---- runs
-  const asked = (allowed) => ({ text: editor.text(), ...settings(), inputs, ...(moved === null || allowed <= moved ? { steps: allowed } : { steps: moved, at: moved, undo: allowed - moved }) });
+  const asked = (allowed) => ({ text: editor.text(), ...settings(), inputs, ...(moved === null || allowed < moved ? { steps: allowed } : { steps: moved, at: moved, undo: allowed - moved }) });
   const most = () => (moved === null ? settings().steps : moved + UNDO_STEPS);
 
   // an answer, or null where it was stopped or the text has changed
