@@ -70,7 +70,8 @@ def items_of(file, module, lines):
             public = bool(public) or (name, file) == ("main", "src/main.rt")
             yield Item(name, "function", public, module, owner if indent else None, file, n, brace, last, "\n".join(lines[brace : last - 1]))
         if constant:
-            yield Item(constant[2], "constant", bool(constant[1]), module, None, file, n, n - 1, n, constant[3])
+            last = next(i for i in range(n, len(lines) + 1) if lines[i - 1].endswith(";"))
+            yield Item(constant[2], "constant", bool(constant[1]), module, None, file, n, n - 1, last, "\n".join([constant[3], *lines[n:last]]))
 
 
 def crate_of(path):
