@@ -1,0 +1,89 @@
+#include "rapid_places.h"
+
+/* A call with n steps tells one place, that of step n + 1; so n places would take n runs, each longer than the one before. But a run repeats itself: what comes next is mostly what came
+ * next when the steps before it were the same. So places are guessed, many at a time, and rapid_call_mark says how many of the guesses are right; behind the last of these one call more
+ * tells the place that was guessed wrongly. Whatever is guessed, the places are those of the run: guesses only spare calls. */
+enum { FEWEST_GUESSES = 16 };
+
+/* So many steps back two beginnings of a run are compared, the most first. */
+static const size_t orders[] = {4096, 1024, 256, 64, 16, 4, 1};
+enum { ORDERS = sizeof orders / sizeof *orders, SLOTS = 1 << 16 };
+static uint32_t behind[ORDERS][SLOTS]; /* by the steps before it, the place that was next when they came last; 0 where they never did: a module begins with a word that is no step */
+static uint64_t hashes[MOST_PLACES + 1], powers[ORDERS]; /* of all places before one; of the factor, by orders */
+
+static const uint64_t FACTOR = 0x9e3779b97f4a7c15;
+
+static void forget(void) {
+    for (int o = 0; o < ORDERS; o++) {
+        powers[o] = 1;
+        for (size_t k = 0; k < orders[o]; k++)
+            powers[o] *= FACTOR;
+        for (size_t k = 0; k < SLOTS; k++)
+            behind[o][k] = 0;
+    }
+}
+
+/* The slot of the steps before step i, by an order that is at most i. */
+static uint32_t *slot(int o, size_t i) {
+    uint64_t h = hashes[i] - hashes[i - orders[o]] * powers[o];
+    return &behind[o][(h ^ h >> 29) * FACTOR >> 48];
+}
+
+static uint32_t guessed(size_t i) {
+    for (int o = 0; o < ORDERS; o++)
+        if (orders[o] <= i && *slot(o, i) != 0)
+            return *slot(o, i);
+    return 0;
+}
+
+static void follows(size_t i, uint32_t place) { hashes[i + 1] = hashes[i] * FACTOR + place + 1; }
+
+/* Step i is known. */
+static void learn(size_t i, uint32_t place) {
+    for (int o = 0; o < ORDERS; o++)
+        if (orders[o] <= i)
+            *slot(o, i) = place;
+    follows(i, place);
+}
+
+/* How many of the places are right, where those before `known` are, and the rest up to `count` is guessed. */
+static int right_guesses(struct rapid_lent lent, uint32_t *places, size_t known, size_t count, size_t *right, struct rapid_record *record) {
+    struct rapid_marking marking = {0};
+    for (size_t i = known; i < count; i++) {
+        places[i] = guessed(i);
+        follows(i, places[i]);
+    }
+    lent.steps = (uint32_t)count;
+    if (!rapid_call_mark(&lent, places, count, record, &marking))
+        return 0;
+    *right = marking.index;
+    return 1;
+}
+
+int rapid_places(const struct rapid_lent *lent, uint32_t *places, struct rapid_record *record) {
+    struct rapid_record r = {0};
+    struct rapid_lent part = *lent;
+    if (lent->steps > MOST_PLACES || !rapid_call(lent, record))
+        return 0;
+    forget();
+    for (size_t known = 0, guesses = FEWEST_GUESSES, right; known < record->steps;) {
+        size_t count = record->steps - known < guesses ? record->steps : known + guesses;
+        if (!right_guesses(part, places, known, count, &right, &r))
+            return 0;
+        /* twice as many as were right, so that few are made in vain */
+        guesses = right - known < FEWEST_GUESSES / 2 ? FEWEST_GUESSES : 2 * (right - known);
+        for (; known < right; known++)
+            learn(known, places[known]);
+        if (known == record->steps)
+            break;
+        /* where all were right, that call itself stopped before the next step */
+        part.steps = (uint32_t)known;
+        if (right < count && !rapid_call(&part, &r))
+            return 0;
+        places[known] = (uint32_t)r.offset;
+        learn(known, places[known]);
+        known++;
+    }
+    /* the output and the stores as the whole run leaves them */
+    return rapid_call(lent, record);
+}
