@@ -138,8 +138,6 @@ static void object_line(const char *whose, struct step step) {
 static int told_marks(const struct rapid_record *r, const struct rapid_marking *m, struct step ours, struct step other) {
     int status = m->same ? FINISHED : ENDED_OTHERWISE;
     if (asked.json) {
-        fputs(",\"listing\":", stdout);
-        json_name(asked.listing);
         printf(",\"same\":%s,\"index\":%" PRIu32 ",\"entries\":%zu", m->same ? "true" : "false", m->index, theirs.count);
         object_line("ours", ours);
         object_line("theirs", other);
@@ -174,6 +172,10 @@ int mark(void) {
     struct rapid_marking m = {0};
     struct rapid_lent lent = lent_with(asked.steps);
     const char *why = read_listing();
+    if (asked.json) {
+        fputs(",\"listing\":", stdout);
+        json_name(asked.listing);
+    }
     if (why)
         return told_unread(asked.listing, why);
     if (!rapid_call_mark(&lent, theirs.places, theirs.count, &r, &m))
