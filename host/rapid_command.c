@@ -20,8 +20,8 @@ static const char help[] =
     "  rapid check FILE..                                                       check only\n"
     "  rapid list FILE..                                                        the words, with place and kind\n"
     "  rapid trace FILE.. [--steps N] [--depth N] [--input N,N,..] [--room N]   the place of each step\n"
-    "  rapid mark FILE LISTING [--steps N] [--depth N] [--input N,N,..] [--room N]   whether another simulator's listing\n"
-    "                                                                           of the steps is that of the run\n"
+    "  rapid mark FILE LISTING [the same options]                               whether another simulator's listing of\n"
+    "                                                                           the steps is that of the run\n"
     "  rapid --version                                                          the version of library and command\n"
     "\n"
     "run and trace also take --abort-at K [--undo N]: before step K + 1 the pointer is moved to main, and the\n"
@@ -43,7 +43,8 @@ static const char help[] =
     "  rapid mark lessons/slip-trynext.mod lessons/slip-trynext.places\n"
     "\n"
     "Status: 0 main returned, or accepted, or marked as the same; 1 refused; 2 ended otherwise, or marked as another;\n"
-    "64 not used as above, or a file cannot be read; of several files the highest. Colours are shown on a terminal only, and not where NO_COLOR is set.\n";
+    "64 not used as above, or a file cannot be read; of several files the highest. Colours are shown on a terminal\n"
+    "only, and not where NO_COLOR is set.\n";
 
 struct asked asked = {.steps = STEPS, .depth = DEPTH, .undo = UNDO_STEPS, .room = ROOM};
 static int32_t inputs[MOST_INPUTS], code[RAPID_STORE_WORDS], values[RAPID_STORE_WORDS];
