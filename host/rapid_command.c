@@ -47,11 +47,11 @@ static const char help[] =
     "only, and not where NO_COLOR is set.\n";
 
 struct asked asked = {.steps = STEPS, .depth = DEPTH, .undo = UNDO_STEPS, .room = ROOM};
-static int32_t inputs[MOST_INPUTS], code[RAPID_STORE_WORDS], values[RAPID_STORE_WORDS];
-static uint8_t output[MOST_ROOM];
-uint8_t text[MOST_TEXT + 1];
+int32_t inputs[MOST_INPUTS];
+static int32_t code[RAPID_STORE_WORDS], values[RAPID_STORE_WORDS];
+uint8_t text[MOST_TEXT + 1], output[MOST_ROOM];
 size_t text_length;
-static const char *file; /* whose text it is */
+const char *file;
 
 _Noreturn void give_up(const char *what, const char *about) {
     fprintf(stderr, "rapid: %s%s%s\n", what, about ? ": " : "", about ? about : "");
@@ -491,14 +491,14 @@ static int list(void) {
 
 /* ---- the command */
 /* A file that cannot be read does not keep the others from being read. */
-int told_unread(const char *name, const char *why) {
+int told_unread(const char *why) {
     if (asked.json) {
         printf(",\"status\":%d,\"sentence\":", USAGE);
         json_name(why);
         fputs("}\n", stdout);
     } else {
         fflush(stdout);
-        fprintf(stderr, "rapid: %s: %s\n", name, why);
+        fprintf(stderr, "rapid: %s: %s\n", file, why);
     }
     return USAGE;
 }
@@ -510,7 +510,7 @@ static int told_all(int (*tell)(void)) {
         const char *why = read_file();
         if (asked.json)
             object_begins();
-        int status = why ? told_unread(file, why) : tell();
+        int status = why ? told_unread(why) : tell();
         worst = status > worst ? status : worst;
     }
     if (fflush(stdout) != 0 || ferror(stdout))

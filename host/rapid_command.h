@@ -14,8 +14,10 @@ struct asked {
     size_t room, input_count;
 };
 extern struct asked asked;
-extern uint8_t text[];
+extern int32_t inputs[];
+extern uint8_t text[], output[];
 extern size_t text_length;
+extern const char *file; /* whose text it is */
 
 /* Ends the command with a message. */
 _Noreturn void give_up(const char *what, const char *about);
@@ -50,7 +52,7 @@ int told_refusal(const struct rapid_record *r);
 void tell_count(uint64_t count, const char *what, const char *then);
 
 /* A file that cannot be read, and the status for it. */
-int told_unread(const char *name, const char *why);
+int told_unread(const char *why);
 
 /* Fields of an object for scripts: a place, and all that a call says. */
 void object_place(size_t offset);

@@ -176,8 +176,10 @@ int mark(void) {
         fputs(",\"listing\":", stdout);
         json_name(asked.listing);
     }
-    if (why)
-        return told_unread(asked.listing, why);
+    if (why) {
+        file = asked.listing;
+        return told_unread(why);
+    }
     if (!rapid_call_mark(&lent, theirs.places, theirs.count, &r, &m))
         give_up("the bench did not answer", NULL);
     if (told_refusal(&r))
