@@ -2,8 +2,8 @@
 
 use crate::counts::Counts;
 use crate::form::form;
-use crate::names::settle;
 use crate::mark::Marked;
+use crate::names::settle;
 use crate::run::{run, Abort, Allowance, Slip};
 use crate::scan::{list, Refusal};
 
