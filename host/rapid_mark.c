@@ -154,9 +154,9 @@ static int told_marks(const struct rapid_record *r, const struct rapid_marking *
         show_line("before", (struct step){1, theirs.places[m->index - 1]});
     show_line("ours", ours);
     show_line("theirs", other);
-    printf("the run has ");
-    tell_count(r->steps, "step", ", the listing ");
-    printf("%zu; it ended with %" PRIu64 ": %s\n", theirs.count, r->ending, rapid_ending_sentence(r->ending));
+    printf("the listing has ");
+    tell_count(theirs.count, "step", ", the run ");
+    printf("%" PRIu64 "; it ended with %" PRIu64 ": %s\n", r->steps, r->ending, rapid_ending_sentence(r->ending));
     return status;
 }
 
@@ -168,22 +168,22 @@ void settle_mark(void) {
 }
 
 int mark(void) {
-    struct rapid_record r = {0};
+    struct rapid_record r = called(0);
     struct rapid_marking m = {0};
     struct rapid_lent lent = lent_with(asked.steps);
-    const char *why = read_listing();
+    const char *why;
     if (asked.json) {
         fputs(",\"listing\":", stdout);
         json_name(asked.listing);
     }
-    if (why) {
+    if (told_refusal(&r))
+        return REFUSED;
+    if ((why = read_listing()) != NULL) {
         file = asked.listing;
         return told_unread(why);
     }
     if (!rapid_call_mark(&lent, theirs.places, theirs.count, &r, &m))
         give_up("the bench did not answer", NULL);
-    if (told_refusal(&r))
-        return REFUSED;
     struct step ours = {m.index < r.steps, 0}, other = {m.index < theirs.count, 0};
     if (other.is_there)
         other.offset = theirs.places[m.index];
