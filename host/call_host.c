@@ -59,8 +59,15 @@ static void expect_marking(void) {
     expect(guarded_kept(&lent_answer, lent_record.lent[0] == RAPID_REFUSED ? 0 : RAPID_MARKING_BYTES), "bytes beside the answer of marking were written");
 }
 
-/* The call that the case asks for. */
-static uint32_t made(uint32_t flags, const struct case_memory *m, const struct case_marking *k) { return asked.marks ? case_mark(&asked, m, k) : case_call(&asked, flags, m); }
+/* The call that the case asks for. bench/compare-plain tries a bench without the one that marks. */
+static uint32_t made(uint32_t flags, const struct case_memory *m, const struct case_marking *k) {
+#ifndef WITHOUT_MARKING
+    if (asked.marks)
+        return case_mark(&asked, m, k);
+#endif
+    (void)k;
+    return case_call(&asked, flags, m);
+}
 
 /* One call. `part` bytes more than whole words are lent of inputs and stores: a part word is left out. */
 static void call_once(enum edge edge, size_t part) {
