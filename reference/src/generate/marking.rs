@@ -9,9 +9,9 @@ use crate::bench::{answer, answer_by, Answer, Lent};
 use crate::mark::{case_of_mark, listing_of};
 use crate::run::Slip;
 
-/// Modules are made until one runs for so many steps; so often at most.
+/// Modules are made until one runs for so many steps, and shows its slip; so often at most.
 const LASTING: u64 = 12;
-const TRIES: usize = 12;
+const TRIES: usize = 40;
 /// Longer listings make long lines.
 const MOST_STEPS: u32 = 2_000;
 const SLIPS: [Slip; 3] = [
@@ -21,32 +21,39 @@ const SLIPS: [Slip; 3] = [
 ];
 const PART_WORD: usize = 3;
 
+/// A call, our run, and the listing of a simulator with or without a slip.
+struct Case {
+    lent: Lent,
+    ours: Answer,
+    theirs: Vec<usize>,
+}
+
 pub fn marking_line(random: &mut Random, size: Size) -> String {
     if random.chance(8) {
         return refused_line(random, size);
     }
-    let slipping = random.chance(30);
-    let lasting = random.chance(94);
-    let (mut lent, mut ours) = any_case(random, size, slipping);
-    let mut theirs = slipped(random, &lent, slipping);
+    let slip = random.chance(30).then(|| random.pick(&SLIPS));
+    let steps = if random.chance(94) { LASTING } else { 0 };
+    let shows = |case: &Case| {
+        case.ours.steps >= steps && (slip.is_none() || case.theirs != case.ours.places)
+    };
+    let mut case = any_case(random, size, slip);
     for _ in 0..TRIES {
-        let differs = theirs.as_ref().is_some_and(|theirs| *theirs != ours.places);
-        if (!lasting || ours.steps >= LASTING) && (!slipping || differs) {
+        if shows(&case) {
             break;
         }
-        (lent, ours) = any_case(random, size, slipping);
-        theirs = slipped(random, &lent, slipping);
+        case = any_case(random, size, slip);
     }
-    let mut listing = places(theirs.as_ref().unwrap_or(&ours.places));
-    if !slipping {
-        change(random, &mut listing, ours.offset as u32);
+    let mut listing = places(&case.theirs);
+    if slip.is_none() {
+        change(random, &mut listing, case.ours.offset as u32);
     }
-    let whole = listing.len();
+    let missing = case.ours.places.get(listing.len());
     let mut listing = listing_of(&listing);
     if random.chance(15) {
-        part_word(random, &mut listing, ours.places.get(whole));
+        part_word(random, &mut listing, missing);
     }
-    case_of_mark(&lent, &listing)
+    case_of_mark(&case.lent, &listing)
 }
 
 fn places(listing: &[usize]) -> Vec<u32> {
@@ -69,9 +76,9 @@ fn refused_line(random: &mut Random, size: Size) -> String {
     case_of_mark(&lent, &listing)
 }
 
-/// An accepted module with its run, mostly lent enough.
-fn any_case(random: &mut Random, size: Size, slipping: bool) -> (Lent, Answer) {
-    let words = any_module(random, size, slipping);
+/// An accepted module, mostly lent enough.
+fn any_case(random: &mut Random, size: Size, slip: Option<Slip>) -> Case {
+    let words = any_module(random, size, slip.is_some());
     let text = write_out(random, &words);
     let mut lent = lend(random, text);
     if random.chance(85) {
@@ -80,8 +87,9 @@ fn any_case(random: &mut Random, size: Size, slipping: bool) -> (Lent, Answer) {
         lent.output_room = random.pick(&[256, 4_096]);
     }
     lent.steps = lent.steps.min(MOST_STEPS);
-    let answer = answer(&lent);
-    (lent, answer)
+    let ours = answer(&lent);
+    let theirs = answer_by(&lent, slip).places;
+    Case { lent, ours, theirs }
 }
 
 /// One that has errors and what handles them where a slip is to be seen.
@@ -95,11 +103,6 @@ fn any_module(random: &mut Random, size: Size, slipping: bool) -> Vec<Token> {
         2 => counting::counting(random),
         _ => hiding::hiding(random),
     }
-}
-
-/// The listing of a simulator with a slip.
-fn slipped(random: &mut Random, lent: &Lent, slipping: bool) -> Option<Vec<usize>> {
-    slipping.then(|| answer_by(lent, Some(random.pick(&SLIPS))).places)
 }
 
 /// Leaves the run's listing as it is, or changes, cuts, widens or lengthens it.
