@@ -66,18 +66,28 @@ static int read_abort(const char *field, struct call_case *into) {
     return field != NULL && field[-1] == '\n';
 }
 
+/* What follows them in a case of marking: the listing. 1 where the line ends well. */
+static int read_listing(const char *field, struct call_case *into) {
+    const char *end = field;
+    long length = field[-1] == ' ' ? case_text(field, into->listing, MOST_LISTING, &end) : -1;
+    into->aborts = 0;
+    into->listing_length = (size_t)length;
+    return length >= 0 && *end == '\n';
+}
+
 int case_read(const char *line, struct call_case *into) {
     uint64_t steps, depth, room, code, values;
     const char *at;
-    if (strncmp(line, "run ", 4) != 0)
+    into->marks = strncmp(line, "mark ", 5) == 0;
+    if (!into->marks && strncmp(line, "run ", 4) != 0)
         return 0;
-    long length = case_text(line + 4, into->text, MOST_TEXT, &at);
+    long length = case_text(line + (into->marks ? 5 : 4), into->text, MOST_TEXT, &at);
     if (length < 0 || *at != ' ')
         return 0;
     at = read_count(read_count(at + 1, UINT32_MAX, &steps), UINT32_MAX, &depth);
     at = read_count(read_inputs(at, into), MOST_OUTPUT, &room);
     at = read_count(read_count(at, MOST_STORE_BYTES / 4 - 1, &code), MOST_STORE_BYTES / 4 - 1, &values);
-    if (at == NULL || !read_abort(at, into))
+    if (at == NULL || !(into->marks ? read_listing(at, into) : read_abort(at, into)))
         return 0;
     into->text_length = (size_t)length;
     into->steps = (uint32_t)steps;

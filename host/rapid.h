@@ -1,8 +1,8 @@
 /* The RAPID lesson bench for C and C++: check and run a module's text, list its words, and ask about a place in it. docs/EMBEDDING.md shows how it is used.
  *
- * Behind it stand three proved libraries: `call_pendant` (rapid_run, rapid_run_until), `call_listing` (rapid_list) and `call_asking` (rapid_ask). rapid.c has thin wrappers
- * on C's own types (rapid_call, rapid_call_until, rapid_words, rapid_word_at) and the sentences; nothing else stands between a caller and the proved code. host/build puts all of it
- * into one librapid.a. No memory is used but what is lent, and some stack. Nothing is kept between calls: with memory of its own each thread may call at any time.
+ * Behind it stand proved libraries: `call_pendant` (rapid_run, rapid_run_until), `call_listing` (rapid_list), `call_asking` (rapid_ask) and `call_marking` (rapid_mark). rapid.c has thin
+ * wrappers on C's own types (rapid_call, rapid_call_until, rapid_words, rapid_word_at) and the sentences, rapid_marking.c that of rapid_mark (rapid_call_mark); nothing else stands between
+ * a caller and the proved code. host/build puts all of it into one librapid.a, of which a program is linked with what it calls. No memory is used but what is lent, and some stack. Nothing is kept between calls: with memory of its own each thread may call at any time.
  *
  * A slice is a pointer and its length. It must be readable, or writable where it is not const, over its whole length, which is at most PTRDIFF_MAX bytes, and no two
  * slices of one call may overlap. A slice of length 0 may have any pointer, NULL too: nothing is read or written through it.
@@ -12,7 +12,7 @@
  * How this header grows. The language grows, and with it the library; a program that uses it is only compiled again.
  * - A call that exists keeps its signature and its answers; only a text that was refused may be accepted, or be refused otherwise, once the language has something new for
  *   it. What else is new is a new call, or a new field.
- * - The structs of a call (rapid_lent, rapid_record, rapid_listing) are zeroed by the caller before their fields are filled in. New fields are appended, and 0 in one means
+ * - The structs of a call (rapid_lent, rapid_record, rapid_listing, rapid_marking) are zeroed by the caller before their fields are filled in. New fields are appended, and 0 in one means
  *   that it is absent: the call then answers as it did before there was that field. rapid_word stands in arrays, and stays as it is.
  * - Numbers that are named here keep their names and what they say. An enum may get further numbers, which come up only with such texts and with new fields: a switch over
  *   an ending, a refusal or a kind has a default. Sizes may grow: use their names.
@@ -28,7 +28,7 @@ extern "C" {
 
 /* ---- version */
 /* Version 1.2.3 is 10203. The first number changes where the rule above is broken, the second where something is new, the third where something is mended. */
-#define RAPID_VERSION 10200
+#define RAPID_VERSION 10300
 
 /* RAPID_VERSION of the header that the library was compiled with. */
 uint32_t rapid_version(void);
@@ -44,7 +44,8 @@ enum {
     RAPID_DEPTH_LIMIT = 64,    /* live calls, main's own included */
     RAPID_MODULE_WORD_LIMIT = 1024, /* words of a module's data */
     RAPID_ENTRY_BYTES = 12,    /* an entry of a listing */
-    RAPID_ANSWER_BYTES = 12    /* the end of a listing */
+    RAPID_ANSWER_BYTES = 12,   /* the end of a listing */
+    RAPID_MARKING_BYTES = 8    /* the answer of rapid_mark */
 };
 
 /* ---- the record */
@@ -142,6 +143,25 @@ int rapid_call_until(const struct rapid_lent *lent, uint32_t at, uint32_t undo, 
 /* The same, as the proved code takes it. `flags` is 0: with a flag that is not known it returns 0 and touches nothing. */
 uint32_t rapid_run_until(const uint8_t *text, size_t text_length, uint32_t flags, uint32_t steps, uint32_t depth, uint32_t at, uint32_t undo, const uint8_t *inputs, size_t inputs_length,
                          uint8_t *output, size_t output_length, uint8_t *code, size_t code_length, uint8_t *values, size_t values_length, uint8_t *record, size_t record_length);
+
+/* ---- a call that marks another simulator
+ * Another simulator's listing of a run: the place of each counted step, in order, as an offset in the text (where the record's offset is that of a step, it is the same number). A step
+ * in which an error arose is counted; one that ended the run with 6, 7 or 8 is not. The call is that of rapid_call, and besides says whether the listing is that of the whole run, whatever
+ * its ending, or else where the two part. docs/MARKING.md says it for a trainer. */
+struct rapid_marking {
+    uint32_t same;  /* 1 where the listing is that of the run, else 0 */
+    uint32_t index; /* how many places they have in common at their beginning: else the index, from 0, of the first that differs, is missing or is surplus */
+};
+
+/* As rapid_call, with the listing. 1, and record and marking are filled in; where the module is refused the marking is untouched. 0, and nothing is touched, where `marking` is NULL, and
+ * where rapid_call would refuse slices like these. */
+int rapid_call_mark(const struct rapid_lent *lent, const uint32_t *places, size_t place_count, struct rapid_record *record, struct rapid_marking *marking);
+
+/* The same, as the proved code takes it: four bytes a place, low byte first; what is left of a part word is not read. `answer` gets the two numbers of struct rapid_marking, four bytes
+ * each; bytes past RAPID_MARKING_BYTES are not touched. 0, and nothing is touched, where the record has fewer than RAPID_RECORD_BYTES or the answer fewer than RAPID_MARKING_BYTES. */
+uint32_t rapid_mark(const uint8_t *text, size_t text_length, uint32_t steps, uint32_t depth, const uint8_t *inputs, size_t inputs_length, uint8_t *output, size_t output_length, uint8_t *code,
+                    size_t code_length, uint8_t *values, size_t values_length, const uint8_t *listing, size_t listing_length, uint8_t *record, size_t record_length, uint8_t *answer,
+                    size_t answer_length);
 
 /* A sentence for an ending, for a refusal, and the name of an error; NULL for any other number. */
 const char *rapid_ending_sentence(uint64_t ending);

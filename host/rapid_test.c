@@ -104,6 +104,38 @@ static void test_until(void) {
     expect(memcmp(&before, &record, sizeof record) == 0, "a call that is not made touches nothing");
 }
 
+/* A listing is marked; and what the wrapper does not let through. */
+static void test_mark(void) {
+    static const char counts[] = "MODULE m PROC main() FOR i FROM 1 TO 2 DO ENDFOR ENDPROC ENDMODULE";
+    static const uint32_t places[] = {21, 21, 21, 49, 49};
+    struct rapid_lent lent = good;
+    struct rapid_marking marking = {9, 9}, before;
+    lent.text = (const uint8_t *)counts, lent.text_length = sizeof counts - 1;
+    expect(rapid_call_mark(&lent, places, 4, &record, &marking) == 1 && record.ending == RAPID_RETURNED && record.steps == 4 && marking.same == 1 && marking.index == 4, "the listing of the run");
+    expect(rapid_call_mark(&lent, places, 5, &record, &marking) == 1 && marking.same == 0 && marking.index == 4, "a place more");
+    expect(rapid_call_mark(&lent, places, 3, &record, &marking) == 1 && marking.same == 0 && marking.index == 3, "a place fewer");
+    expect(rapid_call_mark(&lent, places + 1, 4, &record, &marking) == 1 && marking.same == 0 && marking.index == 2, "a place that differs");
+    lent.steps = 0;
+    expect(rapid_call_mark(&lent, NULL, 0, &record, &marking) == 1 && record.ending == RAPID_STEPS_SPENT && marking.same == 1 && marking.index == 0, "no places may be NULL");
+    memset(&marking, 0x5a, sizeof marking);
+    before = marking;
+    lent.text_length = 8;
+    expect(rapid_call_mark(&lent, places, 4, &record, &marking) == 1 && record.refusal == RAPID_WORD_OUT_OF_PLACE && memcmp(&before, &marking, sizeof marking) == 0, "a refused module has no marks");
+    struct rapid_record as_it_was = record;
+    lent.text_length = sizeof counts - 1;
+    expect(rapid_call_mark(NULL, places, 4, &record, &marking) == 0 && rapid_call_mark(&lent, places, 4, NULL, &marking) == 0 && rapid_call_mark(&lent, places, 4, &record, NULL) == 0 &&
+               rapid_call_mark(&lent, NULL, 4, &record, &marking) == 0,
+           "NULL where it may not be");
+    expect(rapid_call_mark(&lent, places, PTRDIFF_MAX / sizeof *places + 1, &record, &marking) == 0, "more places than a slice has");
+    expect(rapid_call_mark(&lent, (const uint32_t *)code, 4, &record, &marking) == 0 && rapid_call_mark(&lent, (const uint32_t *)&record, 1, &record, &marking) == 0 &&
+               rapid_call_mark(&lent, (const uint32_t *)&marking, 1, &record, &marking) == 0,
+           "the listing is written over");
+    expect(rapid_call_mark(&lent, places, 4, &record, (struct rapid_marking *)values) == 0, "the answer stands in a store");
+    lent.values = lent.code;
+    expect(rapid_call_mark(&lent, places, 4, &record, &marking) == 0, "one store for both");
+    expect(memcmp(&as_it_was, &record, sizeof record) == 0 && memcmp(&before, &marking, sizeof marking) == 0, "a call that is not made touches nothing");
+}
+
 static void test_words(void) {
     struct rapid_word words[2] = {{9, 9, 9}, {9, 9, 9}};
     struct rapid_listing listing;
@@ -147,6 +179,7 @@ int main(void) {
     test_call();
     test_overlap();
     test_until();
+    test_mark();
     test_words();
     test_word_at();
     expect(rapid_version() == RAPID_VERSION, "the library is of the header's version");

@@ -9,13 +9,17 @@
 enum { STACK = 1 << 20, PAINT = 0xa5 };
 static char line[MOST_LINE];
 static struct call_case asked;
-static uint8_t output[MOST_OUTPUT], code[RAPID_STORE_BYTES], values[RAPID_STORE_BYTES], record[RAPID_RECORD_BYTES];
+static uint8_t output[MOST_OUTPUT], code[RAPID_STORE_BYTES], values[RAPID_STORE_BYTES], record[RAPID_RECORD_BYTES], answer[RAPID_MARKING_BYTES];
 
 static void *nothing(void *unused) { return unused; }
 
 static void *call(void *unused) {
     const struct case_memory m = {asked.text, asked.inputs, output, code, values, record, 4 * asked.input_count, sizeof code, sizeof values, sizeof record};
-    case_call(&asked, 0, &m);
+    const struct case_marking k = {asked.listing, answer, asked.listing_length, sizeof answer};
+    if (asked.marks)
+        case_mark(&asked, &m, &k);
+    else
+        case_call(&asked, 0, &m);
     return unused;
 }
 

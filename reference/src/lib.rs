@@ -11,6 +11,7 @@ pub mod form;
 pub mod generate;
 pub mod hand;
 pub mod lines;
+pub mod mark;
 pub mod names;
 pub mod run;
 pub mod scan;

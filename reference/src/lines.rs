@@ -4,6 +4,7 @@ use std::fmt::Write;
 use std::str::FromStr;
 
 use crate::bench::{answer, Answer, Lent};
+use crate::mark::{answer_marking, show_marked};
 use crate::run::Abort;
 use crate::scan::{list, word_at, Kind, Listing};
 
@@ -18,7 +19,8 @@ pub fn answer_line(line: &str) -> String {
 fn reply(line: &str) -> Option<String> {
     let fields: Vec<&str> = line.split(' ').collect();
     match fields.as_slice() {
-        ["run", rest @ ..] => Some(show_answer(&answer(&read_run(rest)?))),
+        ["run", ..] => Some(show_answer(&called(line)?)),
+        ["mark", ..] => Some(show_marked(&called(line)?)),
         ["list", text] => Some(show_listing(&list(&read_bytes(text)?))),
         ["at", text, place] => {
             let text = read_bytes(text)?;
@@ -28,6 +30,18 @@ fn reply(line: &str) -> Option<String> {
                 .ok()
                 .and_then(|place| word_at(&text, place));
             Some(covered.map_or("none".to_string(), show_bytes))
+        }
+        _ => None,
+    }
+}
+
+/// The answer to a line that makes a call, `run` or `mark`; `None` for any other line.
+pub fn called(line: &str) -> Option<Answer> {
+    let fields: Vec<&str> = line.split(' ').collect();
+    match fields.as_slice() {
+        ["run", rest @ ..] => Some(answer(&read_run(rest)?)),
+        ["mark", rest @ .., listing] if rest.len() == PLAIN_FIELDS => {
+            Some(answer_marking(&read_run(rest)?, &read_bytes(listing)?))
         }
         _ => None,
     }

@@ -40,10 +40,13 @@ impl Tally {
     }
 }
 
-/// The first two fields of a record, if the line is the answer of a `run` case.
+/// What the answer lines of `run` and `mark` have.
+const FIELDS: [usize; 2] = [10, 12];
+
+/// The first two fields of a record, if the line is the answer of a `run` or `mark` case.
 fn ending_and_refusal(line: &str) -> Option<(usize, usize)> {
     let fields: Vec<&str> = line.split(' ').collect();
-    if fields.len() != 10 {
+    if !FIELDS.contains(&fields.len()) {
         return None;
     }
     let ending = fields[0].parse().ok().filter(|ending| *ending < ENDINGS)?;

@@ -8,6 +8,7 @@ mod damage;
 mod hiding;
 mod layout;
 mod limits;
+mod marking;
 mod phrases;
 mod random;
 mod rooms;
@@ -32,6 +33,7 @@ pub enum Kind {
     Counting,
     Undo,
     Hiding,
+    Marking,
     Mistyped,
     Words,
     Bytes,
@@ -48,6 +50,7 @@ impl Kind {
             "counting" => Kind::Counting,
             "undo" => Kind::Undo,
             "hiding" => Kind::Hiding,
+            "marking" => Kind::Marking,
             "mistyped" => Kind::Mistyped,
             "words" => Kind::Words,
             "bytes" => Kind::Bytes,
@@ -133,6 +136,7 @@ fn case_line(random: &mut Random, kind: Kind, size: Size) -> String {
         Kind::Counting => show_run(&loops_case(random, counting::counting)),
         Kind::Undo => show_run(&undo::undo_case(random, size)),
         Kind::Hiding => show_run(&loops_case(random, hiding::hiding)),
+        Kind::Marking => marking::marking_line(random, size),
         _ => {
             let text = text_of(random, kind, size);
             show_run(&lend(random, text))
