@@ -8,6 +8,8 @@ use crate::bench::{Answer, Lent};
 use crate::lines::{show_answer, show_bytes, show_run};
 use crate::run::Abort;
 
+mod class;
+
 /// What stands around the lines that begin with `>`.
 const FRAME: [&str; 2] = [
     "MODULE m\nVAR num n;\nVAR bool b;\nVAR num a{3};\nVAR bool flag{2};\nCONST num c := 2;\n\
@@ -29,6 +31,7 @@ struct Draft {
     settings: HashMap<String, String>,
     text: Vec<u8>,
     framed: Vec<u8>,
+    class: class::ClassDraft,
 }
 
 /// Reads the whole table; what it says wrongly is reported with its line.
@@ -48,6 +51,7 @@ pub fn read_table(table: &str) -> Result<Vec<HandCase>, String> {
             Some('w') => draft.set(line),
             Some('|') => expand(&line[1..]).map(|bytes| draft.text.extend(bytes)),
             Some('>') => expand(&line[1..]).map(|bytes| draft.framed.extend(bytes)),
+            Some('&') => draft.module(line[1..].trim()),
             Some('=') => draft
                 .expectation(line[1..].trim())
                 .map(|case| cases.push(case)),
@@ -168,6 +172,7 @@ impl Draft {
                 };
                 (format!("at {text} {place}"), covered)
             }
+            "class" => self.class_expectation(rest)?,
             _ => {
                 let answer = expected_answer(expected, marker)?;
                 (show_run(&self.lent()?), show_answer(&answer))
@@ -195,6 +200,8 @@ fn expected_answer(expected: &str, marker: Option<usize>) -> Result<Answer, Stri
         .iter()
         .map(|byte| if *byte == b'/' { b'\n' } else { *byte })
         .collect();
+    let fields = expand(&format!("{fields}~."))?;
+    let fields = String::from_utf8_lossy(&fields);
     let fields: Vec<&str> = fields.split_whitespace().collect();
     for pair in fields.chunks(2) {
         let [name, value] = pair else {
