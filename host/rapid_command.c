@@ -1,6 +1,6 @@
 /* rapid: a teacher's command on the proved bench. `rapid --help` says how it is used. */
 #define _POSIX_C_SOURCE 200809L
-#include "rapid.h"
+#include "rapid_command.h"
 #include "rapid_json.h"
 #include "rapid_reason.h"
 #include <errno.h>
@@ -10,7 +10,6 @@
 #include <string.h>
 #include <unistd.h>
 
-enum { FINISHED = 0, REFUSED = 1, ENDED_OTHERWISE = 2, USAGE = 64 };
 enum { MOST_TEXT = 1 << 20, MOST_INPUTS = 10000, MOST_ROOM = 1 << 24, MOST_TRACED = 20000 };
 enum { STEPS = 10000, DEPTH = 16, ROOM = 4096, TRACED = 200, UNDO_STEPS = 1000 }; /* where no option says otherwise */
 
@@ -21,6 +20,7 @@ static const char help[] =
     "  rapid check FILE..                                                       check only\n"
     "  rapid list FILE..                                                        the words, with place and kind\n"
     "  rapid trace FILE.. [--steps N] [--depth N] [--input N,N,..] [--room N]   the place of each step\n"
+    "  rapid class FILE.. [--steps N] [--depth N] [--input N,N,..] [--room N]   check and run a whole class: a table\n"
     "  rapid --version                                                          the version of library and command\n"
     "\n"
     "run and trace also take --abort-at K [--undo N]: before step K + 1 the pointer is moved to main, and the\n"
@@ -29,28 +29,26 @@ static const char help[] =
     "FILE may be -, for standard input; each of several files gets the same options. Without options a run has\n"
     "10,000 steps, call depth 16, no input and room for 4,096 bytes of output, as the bench program has; a trace\n"
     "shows at most 200 steps. A refusal goes to standard error, as FILE:LINE:COLUMN: refused N: why. With --json\n"
-    "all that is said of a file is one object on a line of standard output (see the page rapid(1)).\n"
+    "all that is said of a file is one object on a line of standard output (see the page rapid(1)). For class a\n"
+    "FILE may also be a folder: the .mod files in it.\n"
     "\n"
     "  rapid run lessons/tray.mod\n"
     "  rapid run lessons/sum.mod --input 3,4,5,0\n"
     "  rapid check lessons/*.mod\n"
     "  rapid trace lessons/tray.mod --steps 20\n"
+    "  rapid class lessons/class\n"
     "\n"
     "Status: 0 main returned, or accepted; 1 refused; 2 ended otherwise; 64 not used as above, or a file cannot\n"
     "be read; of several files the highest. Colours are shown on a terminal only, and not where NO_COLOR is set.\n";
 
-static struct {
-    char **files;
-    int file_count, steps_given, json, aborts, undo_given;
-    uint32_t steps, depth, abort_at, undo;
-    size_t room, input_count;
-} asked = {NULL, 0, 0, 0, 0, 0, STEPS, DEPTH, 0, UNDO_STEPS, ROOM, 0};
-static int32_t inputs[MOST_INPUTS], code[RAPID_STORE_WORDS], values[RAPID_STORE_WORDS];
-static uint8_t text[MOST_TEXT + 1], output[MOST_ROOM];
-static size_t text_length;
-static const char *file; /* whose text it is */
+struct asked asked = {.steps = STEPS, .depth = DEPTH, .undo = UNDO_STEPS, .room = ROOM};
+int32_t inputs[MOST_INPUTS];
+static int32_t code[RAPID_STORE_WORDS], values[RAPID_STORE_WORDS];
+uint8_t text[MOST_TEXT + 1], output[MOST_ROOM];
+size_t text_length;
+const char *file;
 
-static _Noreturn void give_up(const char *what, const char *about) {
+_Noreturn void give_up(const char *what, const char *about) {
     fprintf(stderr, "rapid: %s%s%s\n", what, about ? ": " : "", about ? about : "");
     exit(USAGE);
 }
@@ -134,7 +132,7 @@ static void read_words(char **words, int takes_numbers) {
         else if (!is_numbered(*words))
             give_up("no such option (see rapid --help)", *words);
         else if (!takes_numbers)
-            give_up("only run and trace take", *words);
+            give_up("only run, trace and class take", *words);
         else {
             read_option(words[0], words[1]);
             words++;
@@ -146,8 +144,7 @@ static void read_words(char **words, int takes_numbers) {
         give_up("--undo says how many steps UNDO lists may take once --abort-at has moved the pointer", NULL);
 }
 
-/* NULL, or why a file is not read. */
-static const char *read_file(void) {
+const char *read_file(void) {
     FILE *in = strcmp(file, "-") == 0 ? stdin : fopen(file, "rb");
     if (in == NULL)
         return strerror(errno);
@@ -161,14 +158,7 @@ static const char *read_file(void) {
 /* ---- colours */
 static int coloured[STDERR_FILENO + 1]; /* by the stream's number */
 
-static const char *shown(FILE *to, const char *colour) { return coloured[to == stderr ? STDERR_FILENO : STDOUT_FILENO] ? colour : ""; }
-#define RED(to) shown(to, "\033[31m")
-#define GREEN(to) shown(to, "\033[32m")
-#define YELLOW(to) shown(to, "\033[33m")
-#define BLUE(to) shown(to, "\033[34m")
-#define CYAN(to) shown(to, "\033[36m")
-#define DIM(to) shown(to, "\033[2m")
-#define PLAIN(to) shown(to, "\033[0m")
+const char *shown(FILE *to, const char *colour) { return coloured[to == stderr ? STDERR_FILENO : STDOUT_FILENO] ? colour : ""; }
 
 static void choose_colours(void) {
     const char *no = getenv("NO_COLOR");
@@ -177,9 +167,7 @@ static void choose_colours(void) {
 }
 
 /* ---- places */
-struct place { size_t line, column, begin, end; };
-
-static struct place place_of(size_t offset) {
+struct place place_of(size_t offset) {
     struct place p = {1, 1, 0, 0};
     if (offset > text_length)
         offset = text_length;
@@ -193,6 +181,11 @@ static struct place place_of(size_t offset) {
         p.end++;
     return p;
 }
+
+/* Three refusals lie at no place of the text, and two endings. */
+int refusal_has_place(uint64_t refusal) { return refusal > RAPID_DEPTH_OUT_OF_RANGE && refusal != RAPID_NO_MAIN; }
+
+int ending_has_place(uint64_t ending) { return ending != RAPID_RETURNED && ending != RAPID_ABORTED; }
 
 /* How long the word is that starts at an offset; 0 where none does. */
 static size_t word_at(size_t offset) {
@@ -221,7 +214,7 @@ static void show_place(FILE *to, size_t offset) {
 }
 
 /* ---- one object a file, for scripts: it has the same fields however a run ends */
-static void object_begins(void) {
+void object_begins(void) {
     fputs("{\"file\":", stdout);
     json_name(file);
 }
@@ -232,7 +225,7 @@ static void object_place(size_t offset) {
 }
 
 /* What a call says, and in which words; none where a module was only checked: it is accepted, without an ending and a place. */
-static int object_ends(const struct rapid_record *r, const char *sentence, int status) {
+int object_ends(const struct rapid_record *r, const char *sentence, int status) {
     printf(",\"status\":%d,\"ending\":", status);
     if (sentence == NULL)
         fputs("null", stdout);
@@ -272,15 +265,14 @@ static void tell_file(void) {
         printf("==> %s <==\n", file);
 }
 
-/* In the form that editors and scripts know from compilers. Three refusals lie at no place of the text; they stand at its beginning, as the record has them. */
+/* In the form that editors and scripts know from compilers. Refusals that lie at no place of the text stand at its beginning, as the record has them. */
 static void tell_refusal(uint64_t refusal, size_t offset) {
     char sentence[256];
     struct place p = place_of(offset);
-    int has_place = refusal > RAPID_DEPTH_OUT_OF_RANGE && refusal != RAPID_NO_MAIN;
     fflush(stdout); /* so that both streams come in order where they go to one place */
     fprintf(stderr, "%s:%zu:%zu: %srefused%s %" PRIu64 ": %s\n", file, p.line, p.column, RED(stderr), PLAIN(stderr), refusal,
             rapid_reason(text, text_length, refusal, offset, sentence, sizeof sentence));
-    if (has_place)
+    if (refusal_has_place(refusal))
         show_place(stderr, offset);
 }
 
@@ -318,7 +310,7 @@ static void tell_counts(const struct rapid_record *r) {
 
 static int told_end(const struct rapid_record *r) {
     struct place p = place_of(r->offset);
-    int returned = r->ending == RAPID_RETURNED, has_place = !returned && r->ending != RAPID_ABORTED;
+    int returned = r->ending == RAPID_RETURNED, has_place = ending_has_place(r->ending);
     if (asked.json)
         return object_ends(r, rapid_ending_sentence(r->ending), returned ? FINISHED : ENDED_OTHERWISE);
     printf("%sended%s: ", returned || r->ending == RAPID_EXITED ? GREEN(stdout) : YELLOW(stdout), PLAIN(stdout));
@@ -486,7 +478,7 @@ static int list(void) {
 
 /* ---- the command */
 /* A file that cannot be read does not keep the others from being read. */
-static int told_unread(const char *why) {
+int told_unread(const char *why) {
     if (asked.json) {
         printf(",\"status\":%d,\"sentence\":", USAGE);
         json_name(why);
@@ -496,6 +488,12 @@ static int told_unread(const char *why) {
         fprintf(stderr, "rapid: %s: %s\n", file, why);
     }
     return USAGE;
+}
+
+static int finished(int worst) {
+    if (fflush(stdout) != 0 || ferror(stdout))
+        give_up("standard output", strerror(errno));
+    return worst;
 }
 
 static int told_all(int (*tell)(void)) {
@@ -508,9 +506,7 @@ static int told_all(int (*tell)(void)) {
         int status = why ? told_unread(why) : tell();
         worst = status > worst ? status : worst;
     }
-    if (fflush(stdout) != 0 || ferror(stdout))
-        give_up("standard output", strerror(errno));
-    return worst;
+    return finished(worst);
 }
 
 /* Whether a word stands anywhere before the end of the options. */
@@ -537,6 +533,12 @@ int main(int count, char **words) {
         return FINISHED;
     }
     choose_colours();
+    if (strcmp(words[1], "class") == 0) {
+        read_words(words + 2, 1);
+        if (asked.aborts)
+            give_up("a class has no --abort-at", NULL);
+        return finished(told_class());
+    }
     for (size_t i = 0; i < sizeof commands / sizeof *commands; i++)
         if (strcmp(words[1], commands[i].name) == 0) {
             read_words(words + 2, commands[i].takes_numbers);
