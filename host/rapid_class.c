@@ -1,7 +1,6 @@
 /* rapid class: all files in calls for a whole class, and a table of how they ended. */
 #define _DEFAULT_SOURCE
 #include "rapid_command.h"
-#include "rapid_json.h"
 #include "rapid_reason.h"
 #include <dirent.h>
 #include <errno.h>
@@ -155,13 +154,16 @@ static void show_table(void) {
 
 static void show_sum(void) {
     static const struct { int status; const char *what; } sums[] = {{FINISHED, "returned"}, {ENDED_OTHERWISE, "ended otherwise"}, {REFUSED, "refused"}, {USAGE, "not read"}};
+    const char *before = ": ";
     printf("%zu file%s", row_count, row_count == 1 ? "" : "s");
     for (size_t i = 0; i < sizeof sums / sizeof *sums; i++) {
         size_t times = 0;
         for (const struct row *row = rows; row < rows + row_count; row++)
             times += row->status == sums[i].status;
-        if (times)
-            printf("%s%zu %s", i ? ", " : ": ", times, sums[i].what);
+        if (times == 0)
+            continue;
+        printf("%s%zu %s", before, times, sums[i].what);
+        before = ", ";
     }
     putchar('\n');
 }
@@ -182,9 +184,12 @@ static size_t tell_batch(size_t first) {
     size_t last = first, at = 0, module = 0;
     count = texts_length = 0;
     for (; last < row_count && count < RAPID_CLASS_LIMIT; last++) {
+        const char *why = rows[last].why;
         file = rows[last].name;
-        if (rows[last].why == NULL && (rows[last].why = read_file()) == NULL)
+        if (why == NULL && (why = read_file()) == NULL)
             add_text();
+        else
+            rows[last].why = copied(why, strlen(why)); /* the system may say the next thing in the same place */
     }
     call();
     for (struct row *row = rows + first; row < rows + last; row++) {
