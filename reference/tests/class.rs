@@ -68,7 +68,11 @@ fn classes_miss_nothing() {
         let lent = class_of(&line).expect("a class line");
         let answer = class_answer(&lent);
         answered += usize::from(answer.refusal == 0);
-        running += answer.modules.iter().filter(|module| module.steps >= 10).count();
+        running += answer
+            .modules
+            .iter()
+            .filter(|module| module.steps >= 10)
+            .count();
         measures.count(&lent, &answer);
         tally.count(&answer_line(&line));
     }
@@ -76,6 +80,13 @@ fn classes_miss_nothing() {
     assert!(running > 2_000, "only {running} modules made ten steps");
     let shown = measures.show() + &tally.show();
     let missing: Vec<&str> = shown.lines().filter(|line| line.ends_with(": 0")).collect();
-    // A class has no K.
-    assert_eq!(missing, ["ending 9: 0", "ending 10: 0"], "{shown}");
+    // 1 and 2 refuse the class, 7 takes a long text, and a class has no K.
+    let none = [
+        "refusal 1: 0",
+        "refusal 2: 0",
+        "refusal 7: 0",
+        "ending 9: 0",
+        "ending 10: 0",
+    ];
+    assert_eq!(missing, none, "{shown}");
 }

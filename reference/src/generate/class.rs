@@ -76,8 +76,16 @@ fn lend_class(random: &mut Random, texts: &[Vec<u8>]) -> ClassLent {
     ClassLent {
         texts: texts.concat(),
         lengths: length_bytes(&lengths, &part),
-        steps: if ample { random.between(50, 500) as u32 } else { single.steps },
-        depth: if ample { single.depth.max(4) } else { single.depth },
+        steps: if ample {
+            random.between(50, 500) as u32
+        } else {
+            single.steps
+        },
+        depth: if ample {
+            single.depth.max(4)
+        } else {
+            single.depth
+        },
         inputs: single.inputs,
         output_room: modules * random.pick(&[256, 1_024, 4_096]),
         code_words: single.code_words + u64::from(random.chance(2)),
