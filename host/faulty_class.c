@@ -14,8 +14,9 @@ static size_t word_at(const uint8_t *bytes) { return bytes[0] | (size_t)bytes[1]
 uint32_t rapid_class(const uint8_t *texts, size_t texts_length, const uint8_t *lengths, size_t lengths_length, uint32_t steps, uint32_t depth, const uint8_t *inputs, size_t inputs_length,
                      uint8_t *output, size_t output_length, uint8_t *code, size_t code_length, uint8_t *values, size_t values_length, uint8_t *records, size_t records_length, uint8_t *data,
                      size_t data_length) {
-    uint32_t refusal = proved_class(texts, texts_length, lengths, lengths_length, steps, depth, inputs, inputs_length, output, output_length, code, code_length, values, values_length, records,
-                                    records_length, data, data_length);
+    /* without steps nothing is written that a second call would not write over */
+    uint32_t refusal = proved_class(texts, texts_length, lengths, lengths_length, FAULT == READS_ON ? 0 : steps, depth, inputs, inputs_length, output, output_length, code, code_length, values,
+                                    values_length, records, records_length, data, data_length);
     size_t count = refusal ? 0 : lengths_length / 4, share = count ? output_length / count : 0;
     /* each module reads on where the one before it stopped */
     for (size_t i = 0, at = 0, used = 0; FAULT == READS_ON && i < count; i++) {

@@ -107,7 +107,7 @@ static void test_until(void) {
 /* ---- a class */
 enum { MODULES = 3, SHARE = 5 };
 static const uint32_t lengths[MODULES] = {sizeof module - 1, 3, sizeof module - 1};
-static uint8_t joined[2 * sizeof module], shares[MODULES * SHARE + 1];
+static uint8_t joined[3 * sizeof module], shares[MODULES * SHARE + 1];
 static struct rapid_record records[MODULES + 1];
 static int32_t data[MODULES * RAPID_MODULE_WORD_LIMIT + 1];
 
