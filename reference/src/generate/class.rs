@@ -42,8 +42,9 @@ fn texts(random: &mut Random, size: Size) -> Vec<Vec<u8>> {
 }
 
 fn module_text(random: &mut Random, size: Size) -> Vec<u8> {
-    const KINDS: [Kind; 8] = [
+    const KINDS: [Kind; 9] = [
         Kind::Valid,
+        Kind::Courses,
         Kind::Counting,
         Kind::Undo,
         Kind::Hiding,
@@ -58,9 +59,25 @@ fn module_text(random: &mut Random, size: Size) -> Vec<u8> {
     if random.below(300) == 0 {
         return super::limits::too_long(random).text;
     }
-    let kind = KINDS[random.weighted(&[45, 10, 10, 8, 10, 5, 5, 7])];
+    if random.chance(25) {
+        return asking(random);
+    }
+    let kind = KINDS[random.weighted(&[25, 25, 9, 9, 7, 8, 4, 6, 7])];
     let line = case_line(random, kind, size);
     lent_of(&line).map_or(Vec::new(), |lent| lent.text)
+}
+
+/// A module that asks for numbers and writes each with the sum so far: what it answers depends on
+/// where it begins to read, and how much room it has.
+fn asking(random: &mut Random) -> Vec<u8> {
+    let numbers = random.between(1, 9);
+    let prompt = random.pick(&["", "n", "a number"]);
+    let data = random.pick(&["VAR num sum;", "VAR num before{3};\nVAR num sum := 7;"]);
+    let main = format!(
+        "PROC main()\nVAR num n;\nFOR i FROM 1 TO {numbers} DO\nTPReadNum n, \"{prompt}\";\n\
+         sum := sum + n;\nTPWrite \"sum \" \\Num:=sum;\nENDFOR\nENDPROC\n"
+    );
+    format!("MODULE asking\n{data}\n{main}ENDMODULE\n").into_bytes()
 }
 
 /// A call for these texts, without mistakes and with room for all lines.
@@ -72,6 +89,9 @@ fn lend_class(random: &mut Random, texts: &[Vec<u8>]) -> ClassLent {
         .map(|_| random.byte())
         .collect();
     let ample = random.chance(80);
+    let more_inputs = random.below(12);
+    let inputs = (0..more_inputs).map(|_| random.below(20) as i32);
+    let inputs = single.inputs.iter().copied().chain(inputs).collect();
     let more = |random: &mut Random| random.weighted(&[80, 10, 10]) * random.below(100);
     ClassLent {
         texts: texts.concat(),
@@ -86,7 +106,7 @@ fn lend_class(random: &mut Random, texts: &[Vec<u8>]) -> ClassLent {
         } else {
             single.depth
         },
-        inputs: single.inputs,
+        inputs,
         output_room: modules * random.pick(&[256, 1_024, 4_096]),
         code_words: single.code_words + u64::from(random.chance(2)),
         value_words: single.value_words,
@@ -107,8 +127,10 @@ fn room(random: &mut Random, lent: &ClassLent) -> u64 {
     if random.chance(40) {
         return lent.output_room + fraction;
     }
-    let written = random.choose(&answer.modules).output.len();
-    let share = (written + random.below(3)).saturating_sub(1);
+    let written: Vec<usize> = answer.modules.iter().map(|m| m.output.len()).collect();
+    let some: Vec<usize> = written.iter().copied().filter(|bytes| *bytes > 0).collect();
+    let one = random.pick(if some.is_empty() { &written } else { &some });
+    let share = (one + random.below(3)).saturating_sub(1);
     (share * count) as u64 + fraction
 }
 
