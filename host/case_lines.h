@@ -24,6 +24,10 @@ int case_read(const char *line, struct call_case *into);
 /* The digits of a text, which end at a blank or the line's end: how many bytes; -1 where there are none. `end` is where they end. */
 long case_text(const char *field, uint8_t *text, size_t most, const char **end);
 
+/* A field each, and the fields STEPS to VALUELEN; they return where the next one begins, or NULL where the line is no case. */
+const char *case_count(const char *field, uint64_t most, uint64_t *count);
+const char *case_rooms(const char *field, struct call_case *into);
+
 /* A number of so many bytes, low byte first. */
 uint64_t number_at(const uint8_t *bytes, int count);
 

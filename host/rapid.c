@@ -2,8 +2,8 @@
 #include "rapid_slices.h"
 
 /* Numbers are lent as the machine has them: the low byte first, as the library wants it, since it is compiled for no other machine; and without gaps. What is appended to
- * the record or to the end of a listing stands behind what the proved code fills in. */
-_Static_assert(offsetof(struct rapid_record, module_words) + sizeof(uint64_t) == RAPID_RECORD_BYTES && sizeof(struct rapid_word) == RAPID_ENTRY_BYTES &&
+ * the end of a listing stands behind what the proved code fills in. */
+_Static_assert(sizeof(struct rapid_record) == RAPID_RECORD_BYTES && sizeof(struct rapid_word) == RAPID_ENTRY_BYTES &&
                    offsetof(struct rapid_listing, offset) + sizeof(uint32_t) == RAPID_ANSWER_BYTES,
                "the library's numbers stand side by side");
 
@@ -83,6 +83,10 @@ static const char *const refusals[] = {
     "barred here: RETRY, TRYNEXT or plain RAISE outside ERROR, RAISE with a value in it, RETURN with a value in a PROC or without one in a FUNC; in UNDO a call, RETRY, TRYNEXT, RAISE, RETURN or EXIT",
     "no PROC main without parameters",
     "FOR variable named like a parameter or data of its routine",
+    /* of a class, by number: those between are of nobody yet */
+    [RAPID_LENGTHS_DIFFER] = "the lengths of the modules do not add up to the text",
+    [RAPID_TOO_MANY_MODULES] = "more than 64 modules in one call",
+    [RAPID_LIST_TOO_SHORT] = "a list too short: each module takes a record and 1,024 words of data",
 };
 
 static const char *const errors[] = {"ERR_OVERFLOW", "ERR_DIVZERO", "ERR_OUTOFBND", "ERR_ILLRAISE"};

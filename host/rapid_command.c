@@ -22,6 +22,7 @@ static const char help[] =
     "  rapid trace FILE.. [--steps N] [--depth N] [--input N,N,..] [--room N]   the place of each step\n"
     "  rapid mark FILE LISTING [the same options]                               whether another simulator's listing of\n"
     "                                                                           the steps is that of the run\n"
+    "  rapid class FILE.. [--steps N] [--depth N] [--input N,N,..] [--room N]   check and run a whole class: a table\n"
     "  rapid --version                                                          the version of library and command\n"
     "\n"
     "run and trace also take --abort-at K [--undo N]: before step K + 1 the pointer is moved to main, and the\n"
@@ -34,13 +35,15 @@ static const char help[] =
     "FILE may be -, for standard input; each of several files gets the same options. Without options a run has\n"
     "10,000 steps, call depth 16, no input and room for 4,096 bytes of output, as the bench program has; a trace\n"
     "shows at most 200 steps. A refusal goes to standard error, as FILE:LINE:COLUMN: refused N: why. With --json\n"
-    "all that is said of a file is one object on a line of standard output (see the page rapid(1)).\n"
+    "all that is said of a file is one object on a line of standard output (see the page rapid(1)). For class a\n"
+    "FILE may also be a folder: the .mod files in it.\n"
     "\n"
     "  rapid run lessons/tray.mod\n"
     "  rapid run lessons/sum.mod --input 3,4,5,0\n"
     "  rapid check lessons/*.mod\n"
     "  rapid trace lessons/tray.mod --steps 20\n"
     "  rapid mark lessons/slip-trynext.mod lessons/slip-trynext.places\n"
+    "  rapid class lessons/class\n"
     "\n"
     "Status: 0 main returned, or accepted, or marked as the same; 1 refused; 2 ended otherwise, or marked as another;\n"
     "64 not used as above, or a file cannot be read; of several files the highest. Colours are shown on a terminal\n"
@@ -141,7 +144,7 @@ static void read_words(char **words, int takes_numbers) {
         else if (!is_numbered(*words))
             give_up("no such option (see rapid --help)", *words);
         else if (!takes_numbers)
-            give_up("only run, trace and mark take", *words);
+            give_up("only run, trace, mark and class take", *words);
         else {
             read_option(words[0], words[1]);
             words++;
@@ -153,8 +156,7 @@ static void read_words(char **words, int takes_numbers) {
         give_up("--undo says how many steps UNDO lists may take once --abort-at has moved the pointer", NULL);
 }
 
-/* NULL, or why a file is not read. */
-static const char *read_file(void) {
+const char *read_file(void) {
     FILE *in = strcmp(file, "-") == 0 ? stdin : fopen(file, "rb");
     if (in == NULL)
         return strerror(errno);
@@ -192,6 +194,11 @@ struct place place_of(size_t offset) {
     return p;
 }
 
+/* Three refusals lie at no place of the text, and two endings. */
+int refusal_has_place(uint64_t refusal) { return refusal > RAPID_DEPTH_OUT_OF_RANGE && refusal != RAPID_NO_MAIN; }
+
+int ending_has_place(uint64_t ending) { return ending != RAPID_RETURNED && ending != RAPID_ABORTED; }
+
 /* How long the word is that starts at an offset; 0 where none does. */
 static size_t word_at(size_t offset) {
     size_t length = 0;
@@ -219,7 +226,7 @@ void show_place(FILE *to, size_t offset) {
 }
 
 /* ---- one object a file, for scripts: it has the same fields however a run ends */
-static void object_begins(void) {
+void object_begins(void) {
     fputs("{\"file\":", stdout);
     json_name(file);
 }
@@ -275,15 +282,14 @@ static void tell_file(void) {
         printf("==> %s <==\n", file);
 }
 
-/* In the form that editors and scripts know from compilers. Three refusals lie at no place of the text; they stand at its beginning, as the record has them. */
+/* In the form that editors and scripts know from compilers. Refusals that lie at no place of the text stand at its beginning, as the record has them. */
 static void tell_refusal(uint64_t refusal, size_t offset) {
     char sentence[256];
     struct place p = place_of(offset);
-    int has_place = refusal > RAPID_DEPTH_OUT_OF_RANGE && refusal != RAPID_NO_MAIN;
     fflush(stdout); /* so that both streams come in order where they go to one place */
     fprintf(stderr, "%s:%zu:%zu: %srefused%s %" PRIu64 ": %s\n", file, p.line, p.column, RED(stderr), PLAIN(stderr), refusal,
             rapid_reason(text, text_length, refusal, offset, sentence, sizeof sentence));
-    if (has_place)
+    if (refusal_has_place(refusal))
         show_place(stderr, offset);
 }
 
@@ -321,7 +327,7 @@ static void tell_counts(const struct rapid_record *r) {
 
 static int told_end(const struct rapid_record *r) {
     struct place p = place_of(r->offset);
-    int returned = r->ending == RAPID_RETURNED, has_place = !returned && r->ending != RAPID_ABORTED;
+    int returned = r->ending == RAPID_RETURNED, has_place = ending_has_place(r->ending);
     if (asked.json)
         return object_ends(r, rapid_ending_sentence(r->ending), returned ? FINISHED : ENDED_OTHERWISE);
     printf("%sended%s: ", returned || r->ending == RAPID_EXITED ? GREEN(stdout) : YELLOW(stdout), PLAIN(stdout));
@@ -503,6 +509,12 @@ int told_unread(const char *why) {
     return USAGE;
 }
 
+static int finished(int worst) {
+    if (fflush(stdout) != 0 || ferror(stdout))
+        give_up("standard output", strerror(errno));
+    return worst;
+}
+
 static int told_all(int (*tell)(void)) {
     int worst = FINISHED;
     for (int i = 0; i < asked.file_count; i++) {
@@ -513,9 +525,7 @@ static int told_all(int (*tell)(void)) {
         int status = why ? told_unread(why) : tell();
         worst = status > worst ? status : worst;
     }
-    if (fflush(stdout) != 0 || ferror(stdout))
-        give_up("standard output", strerror(errno));
-    return worst;
+    return finished(worst);
 }
 
 /* Whether a word stands anywhere before the end of the options. */
@@ -558,6 +568,12 @@ int main(int count, char **words) {
         return FINISHED;
     }
     choose_colours();
+    if (strcmp(words[1], "class") == 0) {
+        read_words(words + 2, 1);
+        if (asked.aborts)
+            give_up("a class has no --abort-at", NULL);
+        return finished(told_class());
+    }
     for (size_t i = 0; i < sizeof commands / sizeof *commands; i++)
         if (strcmp(words[1], commands[i].name) == 0) {
             read_words(words + 2, commands[i].takes_numbers);

@@ -22,6 +22,9 @@ extern const char *file; /* whose text it is */
 /* Ends the command with a message. */
 _Noreturn void give_up(const char *what, const char *about);
 
+/* Reads the file into the text: NULL, or why it is not read. */
+const char *read_file(void);
+
 /* A colour where the stream is a terminal, else nothing. */
 const char *shown(FILE *to, const char *colour);
 #define RED(to) shown(to, "\033[31m")
@@ -51,6 +54,13 @@ int told_refusal(const struct rapid_record *r);
 
 void tell_count(uint64_t count, const char *what, const char *then);
 
+/* Whether a refusal, or an ending of a module that is not refused, lies at a place of the text. */
+int refusal_has_place(uint64_t refusal);
+int ending_has_place(uint64_t ending);
+
+/* The beginning of an object for scripts, and all that a call says in it. */
+void object_begins(void);
+
 /* A file that cannot be read, and the status for it. */
 int told_unread(const char *why);
 
@@ -63,5 +73,8 @@ void settle_mark(void);
 void settle_places(void);
 int mark(void);
 int trace_places(void);
+
+/* rapid_class.c: all files in calls for a whole class. */
+int told_class(void);
 
 #endif

@@ -86,14 +86,18 @@ pub fn answer_by(lent: &Lent, slip: Option<Slip>) -> Answer {
     })
 }
 
+/// Refusals 1 and 2, for which no text matters.
+pub fn refused_rooms(code_words: u64, value_words: u64, depth: u32) -> Option<u32> {
+    if code_words.min(value_words) < STORE_WORDS {
+        return Some(1);
+    }
+    (!(1..=DEEPEST).contains(&depth)).then_some(2)
+}
+
 /// The answer of an accepted call, or what it is refused for.
 fn accepted(lent: &Lent, slip: Option<Slip>) -> Result<Answer, Refusal> {
-    let refuse = |number| Err(Refusal { place: 0, number });
-    if lent.code_words.min(lent.value_words) < STORE_WORDS {
-        return refuse(1);
-    }
-    if !(1..=DEEPEST).contains(&lent.depth) {
-        return refuse(2);
+    if let Some(number) = refused_rooms(lent.code_words, lent.value_words, lent.depth) {
+        return Err(Refusal { place: 0, number });
     }
     let listing = list(&lent.text);
     if let Some(refusal) = listing.refusal {

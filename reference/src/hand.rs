@@ -9,6 +9,8 @@ use crate::lines::{show_answer, show_bytes, show_run};
 use crate::mark::{case_of_mark, listed, show_marked, Marked};
 use crate::run::Abort;
 
+mod class;
+
 /// What stands around the lines that begin with `>`.
 const FRAME: [&str; 2] = [
     "MODULE m\nVAR num n;\nVAR bool b;\nVAR num a{3};\nVAR bool flag{2};\nCONST num c := 2;\n\
@@ -34,6 +36,7 @@ struct Draft {
     places: Vec<(String, usize)>,
     /// The listing of a case of marking.
     listing: Option<String>,
+    class: class::ClassDraft,
 }
 
 /// Reads the whole table; what it says wrongly is reported with its line.
@@ -57,6 +60,7 @@ pub fn read_table(table: &str) -> Result<Vec<HandCase>, String> {
                 draft.listing = Some(line[1..].to_string());
                 Ok(())
             }
+            Some('&') => draft.module(line[1..].trim()),
             Some('=') => draft
                 .expectation(line[1..].trim())
                 .map(|case| cases.push(case)),
@@ -207,6 +211,7 @@ impl Draft {
                 };
                 (format!("at {text} {place}"), covered)
             }
+            "class" => self.class_expectation(rest)?,
             _ => {
                 let answer = expected_answer(expected, marker)?;
                 let lent = self.lent()?;
@@ -242,6 +247,8 @@ fn expected_answer(expected: &str, marker: Option<usize>) -> Result<Answer, Stri
         .iter()
         .map(|byte| if *byte == b'/' { b'\n' } else { *byte })
         .collect();
+    let fields = expand(&format!("{fields}~."))?;
+    let fields = String::from_utf8_lossy(&fields);
     let fields: Vec<&str> = fields.split_whitespace().collect();
     for pair in fields.chunks(2) {
         let [name, value] = pair else {

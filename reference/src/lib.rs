@@ -6,6 +6,8 @@
 //! `generate` makes case lines.
 
 pub mod bench;
+pub mod class;
+pub mod class_counts;
 pub mod counts;
 pub mod form;
 pub mod generate;

@@ -4,6 +4,7 @@ use std::fmt::Write;
 use std::str::FromStr;
 
 use crate::bench::{answer, Answer, Lent};
+use crate::class::{class_answer, read_class, show_class_answer};
 use crate::mark::{answer_marking, show_marked};
 use crate::run::Abort;
 use crate::scan::{list, word_at, Kind, Listing};
@@ -31,6 +32,7 @@ fn reply(line: &str) -> Option<String> {
                 .and_then(|place| word_at(&text, place));
             Some(covered.map_or("none".to_string(), show_bytes))
         }
+        ["class", rest @ ..] => Some(show_class_answer(&class_answer(&read_class(rest)?))),
         _ => None,
     }
 }
@@ -96,12 +98,12 @@ pub fn show_run(lent: &Lent) -> String {
     )
 }
 
-fn read_count<T: FromStr>(field: &str) -> Option<T> {
+pub(crate) fn read_count<T: FromStr>(field: &str) -> Option<T> {
     let digits = !field.is_empty() && field.bytes().all(|byte| byte.is_ascii_digit());
     digits.then(|| field.parse().ok()).flatten()
 }
 
-fn read_inputs(field: &str) -> Option<Vec<i32>> {
+pub(crate) fn read_inputs(field: &str) -> Option<Vec<i32>> {
     if field == "-" {
         return Some(Vec::new());
     }
@@ -149,7 +151,7 @@ pub fn show_bytes(bytes: &[u8]) -> String {
         })
 }
 
-fn show_list<T: ToString>(numbers: &[T]) -> String {
+pub(crate) fn show_list<T: ToString>(numbers: &[T]) -> String {
     if numbers.is_empty() {
         return "-".to_string();
     }

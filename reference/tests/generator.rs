@@ -104,7 +104,7 @@ fn the_same_seed_gives_the_same_lines() {
 fn every_line_is_a_case_line() {
     for name in [
         "valid", "courses", "counting", "undo", "hiding", "marking", "mistyped", "words", "bytes",
-        "limits", "listing", "all",
+        "limits", "class", "listing", "all",
     ] {
         let kind = Kind::named(name).expect("a kind of cases");
         for (count, size) in [(1_000, Size::Short), (20, Size::Long)] {

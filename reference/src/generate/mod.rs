@@ -2,6 +2,7 @@
 
 mod author;
 mod chains;
+mod class;
 mod counting;
 mod courses;
 mod damage;
@@ -16,6 +17,7 @@ mod statements;
 mod undo;
 
 use crate::bench::Lent;
+use crate::class::show_class;
 use crate::lines::{show_bytes, show_run};
 use crate::scan::list;
 use layout::{write_out, Token};
@@ -38,6 +40,7 @@ pub enum Kind {
     Words,
     Bytes,
     Limits,
+    Class,
     Listing,
     All,
 }
@@ -55,6 +58,7 @@ impl Kind {
             "words" => Kind::Words,
             "bytes" => Kind::Bytes,
             "limits" => Kind::Limits,
+            "class" => Kind::Class,
             "listing" => Kind::Listing,
             "all" => Kind::All,
             _ => return None,
@@ -132,6 +136,7 @@ fn case_line(random: &mut Random, kind: Kind, size: Size) -> String {
         Kind::All => mixed_line(random, size),
         Kind::Listing => listing_line(random, size),
         Kind::Limits => show_run(&limits::limit_case(random, size)),
+        Kind::Class => show_class(&class::class_case(random, size)),
         Kind::Courses => show_run(&course_case(random)),
         Kind::Counting => show_run(&loops_case(random, counting::counting)),
         Kind::Undo => show_run(&undo::undo_case(random, size)),
