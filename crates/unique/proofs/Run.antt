@@ -224,9 +224,9 @@ module _ {code values : List ℕ} {base i : ℕ} (h : Here code values base i) (
 
     settled : (place : ℕ) (o : Outcome) → Settles (h .P) (h .R) (cellsOf a) (h .d) i steps place out t o → Settles (h .P) (h .R) (cellsOf b) (h .d) i steps place out u o → OneTaken
     unfolding stateOf
-    settled place o (stops n e) (stops m f) = died n m (ap stateOf (sym e ∙ f))
-    settled place o (stops n e) (resumes c m g d l f) = apart (cc)
-    settled place o (resumes c m g d l e) (stops n f) = apart (cc)
+    settled place o (stops n l e) (stops m v f) = died n m (ap stateOf (sym e ∙ f))
+    settled place o (stops n v e) (resumes c m g d l f) = apart (cc)
+    settled place o (resumes c m g d l e) (stops n v f) = apart (cc)
     settled place o (resumes c n g d l e) (resumes k m j q v f) =
         let P = h .P in
         let R = h .R in
