@@ -4,7 +4,7 @@ use mathlib.Core.List.{List, [], map}
 use mathlib.Core.Option.{Option, none, some}
 use Prim.Native.Nat.{ℕ, _<_, _≤_}
 use lib.Dec.{ltb}
-use lib.ListN.{length, getD, take, drop}
+use lib.ListN.{length, getD, take}
 use mir.Syntax.{w32}
 use mir.Val.{toZ}
 use Rattle.paper.specs.Basics.{if_then_else_}
@@ -25,7 +25,7 @@ use Rattle.run_whole.specs.declared.Ended.{Ended}
 use Rattle.run_machine.specs.Live.{Live}
 use Rattle.layout.specs.Rules.{aborted}
 use Rattle.run_machine.specs.Machine.{storeBytes, depthLimit, Lends}
-use Rattle.run_advancing.specs.Turns.{told, written}
+use Rattle.run_advancing.specs.Turns.{told, Leaves}
 
 -- The code store holds a program, of which main begins at word h; the value store has the module's words as a run begins, and zeros.
 pub record Begins (text code values : List ℕ) (h depth : ℕ) : Type 0 where
@@ -61,20 +61,16 @@ module _ (P : Program) (R : List Head) (X out : List ℕ) where
     callless : ending ≡ aborted → S ≡ withCalls [] (stateIn P R X 0 0 (S .steps) out) → EndsIn ending S
 
 -- The answer is the paper's, and so is the state that the lent words hold.
-pub record Comes (P : Program) (R : List Head) (offset : ℕ → ℕ) (after out out′ : List ℕ) (e : running.Ended) (r : Ended) : Type 0 where
+pub record Comes (P : Program) (R : List Head) (offset : ℕ → ℕ) (after out : List ℕ) (e : running.Ended) (r : Ended) : Type 0 where
   pub ending : r .ending ≡ e .ending
   pub place : r .place ≡ told offset (e .ending) (e .place)
   pub made : r .made ≡ e .state .steps
-  pub state : EndsIn P R (cellsOf after) out′ (e .ending) (e .state)
-  -- the output is in what is lent, and past it nothing is touched
-  pub fits : written after ≤ length out′
-  pub past : drop (written after) out′ ≡ drop (written after) out
+  pub state : EndsIn P R (cellsOf after) out (e .ending) (e .state)
 
 pub record Ran (text code values after inputs out out′ : List ℕ) (h steps depth : ℕ) (abort : Abort) (r : Ended) : Type 0 where
-  pub long : length after ≡ length values
-  pub out-long : length out′ ≡ length out
+  pub leaves : Leaves values after out out′
   pub is : (b : Begins text code values h depth) (rooms : Rooms) → rooms .depth ≡ depth → Lends rooms inputs out →
-      Comes (b .P) (b .R) (b .offset) after out out′ (runAbort (b .P) rooms steps (abortOf abort) (started (b .P) (b .main))) r
+      Comes (b .P) (b .R) (b .offset) after out′ (runAbort (b .P) rooms steps (abortOf abort) (started (b .P) (b .main))) r
 
 -- ---- a run begins
 pub record MayBegin (code values : List ℕ) (h : ℕ) : Type 0 where

@@ -69,8 +69,8 @@ pub record Strikes (text code values out : List ℕ) (base last : ℕ) : Type 0 
   pub deepest : LastWindow rooms last
   pub room : written values ≤ length out
 
-pub record Undoes (text code values after inputs out out′ : List ℕ) (base last at undo : ℕ) (r : Ended) : Type 0 where
+pub record Undoes (text code values after inputs out out′ : List ℕ) (base last made undo : ℕ) (r : Ended) : Type 0 where
   pub leaves : Leaves values after out out′
   pub is : (i : ℕ) (h : Here code values base i) → h .text ≡ text → (rooms : Rooms) → LastWindow rooms last → Lends rooms inputs out
-      → Comes (h .P) (h .R) (h .offset) after out out′
-      (undoing (h .P) rooms undo (withCalls (dropping (h .P) (callIn (h .P) (h .R) (cellsOf values) (windowOf (h .d)) i ∷ waiting (h .P) (h .R) (cellsOf values) (h .d))) (stateIn (h .P) (h .R) (cellsOf values) (h .d) i at out))) r
+      → Comes (h .P) (h .R) (h .offset) after out′
+      (undoing (h .P) rooms undo (withCalls (dropping (h .P) (callIn (h .P) (h .R) (cellsOf values) (windowOf (h .d)) i ∷ waiting (h .P) (h .R) (cellsOf values) (h .d))) (stateIn (h .P) (h .R) (cellsOf values) (h .d) i made out))) r

@@ -149,7 +149,7 @@ fn set_out<'a>(
     )
 }
 
-// The UNDO lists of a run that is aborted after `at` steps, while the call with its window at `base` is the newest: for all of them there are `most` steps.
+// The UNDO lists of a run that is aborted after so many steps, while the call with its window at `base` is the newest: for all of them there are `most` steps.
 fn undo<'a>(
     text: &'a [u8],
     code: &'a [u8],
@@ -158,11 +158,11 @@ fn undo<'a>(
     out: &'a mut [u8],
     base: usize,
     last: usize,
-    at: u32,
+    made: u32,
     most: u32,
 ) -> Ended
     requires { ⌜ Strikes (now text) (now code) (now values) (now out) base last ⌝ }
-    ensures { λ r. ⌜ Undoes (now (text .entry)) (now (code .entry)) (now (values .entry)) (now (values .exit)) (now (inputs .entry)) (now (out .entry)) (now (out .exit)) base last at most r ⌝ }
+    ensures { λ r. ⌜ Undoes (now (text .entry)) (now (code .entry)) (now (values .entry)) (now (values .exit)) (now (inputs .entry)) (now (out .entry)) (now (out .exit)) base last made most r ⌝ }
 {
     let t = drop_to(&*code, &*values, base);
     let next = t.next;
@@ -170,7 +170,7 @@ fn undo<'a>(
         return Ended {
             ending: endings::ABORTED,
             place: 0,
-            made: at as u64,
+            made: made as u64,
         };
     }
     let w = walk(
@@ -187,7 +187,7 @@ fn undo<'a>(
     Ended {
         ending: w.ending,
         place: w.place,
-        made: at as u64 + (most - w.left) as u64,
+        made: made as u64 + (most - w.left) as u64,
     }
 }
 
@@ -221,10 +221,11 @@ pub fn run<'a>(
 {
     let n = allowed(steps, abort);
     let w = set_out(text, code, values, inputs, out, h, n, depth);
+    let made = n - w.left;
     let ended = Ended {
         ending: w.ending,
         place: w.place,
-        made: (n - w.left) as u64,
+        made: made as u64,
     };
     let Abort::At(at, most) = abort else {
         return ended;
@@ -243,7 +244,7 @@ pub fn run<'a>(
         out,
         w.base,
         last_window(depth),
-        at,
+        made,
         most,
     )
 }
