@@ -124,9 +124,9 @@ module _ (text code values out : List ℕ) (base last : ℕ) (st : Strikes text 
   struck-stands = record { i = st .i; here = st .here }
 
   module _ (t : Taken) (dropped : Dropped code values base t) where
-    abbrev All : (i : ℕ) (h : Here code values base i) (rooms : Rooms) (at most : ℕ) → running.Ended
-    All i h rooms at most =
-        undoing (h .P) rooms most (withCalls (dropping (h .P) (callIn (h .P) (h .R) (cellsOf values) (windowOf (h .d)) i ∷ waiting (h .P) (h .R) (cellsOf values) (h .d))) (stateIn (h .P) (h .R) (cellsOf values) (h .d) i at out))
+    -- the state with its calls dropped
+    abbrev struck : (i : ℕ) (h : Here code values base i) (k : ℕ) → State
+    struck i h k = withCalls (dropping (h .P) (callIn (h .P) (h .R) (cellsOf values) (windowOf (h .d)) i ∷ waiting (h .P) (h .R) (cellsOf values) (h .d))) (stateIn (h .P) (h .R) (cellsOf values) (h .d) i k out)
 
     -- no call has one
     module _ (z : t .next ≡ 0) (inputs : List ℕ) (at most : ℕ) where
@@ -155,8 +155,8 @@ module _ (text code values out : List ℕ) (base last : ℕ) (st : Strikes text 
       opens i h k s (gone e b q) = absurd (nz e)
       opens i h k s (begins c g b de lv q) = record { c = c; base-is = b; deep = de; live = lv; state = q }
 
-      abbrev opened : (i : ℕ) (h : Here code values base i) (k : ℕ) → Opens i h k _
-      opened i h k = opens i h k _ (dropped .does i h k out)
+      abbrev opened : (i : ℕ) (h : Here code values base i) (k : ℕ) → Opens i h k (struck i h k)
+      opened i h k = opens i h k (struck i h k) (dropped .does i h k out)
 
       abbrev list-here : (i : ℕ) (h : Here code values base i) (k : ℕ) → Here code values (t .base) (t .next)
       list-here i h k = let o = opened i h k in elsewhere h values (o .c) (t .base) (t .next) refl (o .deep) (o .base-is) (o .live)
