@@ -52,7 +52,11 @@ last-window-requires : tie.Need-last-window-requires
 last-window-requires c κs = search needs
 
 undo-requires : tie.Need-undo-requires
-undo-requires c κs = search (needs, run-strikes)
+undo-requires c κs =
+    let at-if2 = c .before .before .before in
+    let at-set-out = at-if2 .before .before .before .before .before .before .before .before .before .before .before in
+    let start = at-set-out .before .before .before .before .before .before .before .before .before in
+    run-strikes _ _ _ _ _ _ _ _ (start .pre) _ _ _ (at-set-out .set-out .ensures) (at-if2 .if2 .left) _ (c .last-window .ensures)
 
 same-length-7 : tie.Need-same-length-7
 same-length-7 c = search needs
@@ -61,7 +65,17 @@ same-length-8 : tie.Need-same-length-8
 same-length-8 c = search needs
 
 returns-4 : tie.Need-returns-4
-returns-4 c = search (needs, run-struck)
+returns-4 c =
+    let at-undo = c .before .before .before .before in
+    let at-last = at-undo .before in
+    let at-if2 = at-last .before .before .before in
+    let at-if1 = at-if2 .before .before in
+    let at-abort = at-if1 .before .before in
+    let at-set-out = at-abort .before .before .before .before .before .before .before in
+    let at-allowed = at-set-out .before .before .before in
+    let start = at-allowed .before .before .before .before .before .before in
+    run-struck _ _ _ _ _ _ _ _ (start .pre) _ _ _ (at-set-out .set-out .ensures) (at-if2 .if2 .left) _ (at-last .last-window .ensures)
+    _ _ (at-allowed .allowed .ensures) _ _ (at-abort .abort .given .1) (at-if1 .if1 .left) _ _ _ (at-undo .undo .ensures)
 
 pub run-spec : {M : Type 1} → statement M
 run-spec =
