@@ -1,16 +1,13 @@
 -- Where a walk has ended the run has, or it is aborted: what is answered, and what the stores hold. From main's first step on, and from the first UNDO list on.
 use mathlib.Core.Path.{_≡_, refl, sym, ap, ap₂, subst, _∙_}
 use mathlib.Core.Bool.{Bool, true, false}
-use mathlib.Core.List.{List, [], _∷_, map}
+use mathlib.Core.List.{List, [], _∷_}
 use Prim.Native.Nat.{ℕ, suc, _+_, _-_, _*_, _<_, _≤_}
 use native.Mathlib.Omega.{arith}
 use lib.ListN.{length}
-use mir.Syntax.{w32}
-use mir.Val.{toZ}
-use Rattle.laws.proofs.Tests.{false-true}
 use Rattle.paper.specs.Steps.{Program}
 use Rattle.paper.specs.States.{State, Rooms, withCalls}
-use Rattle.paper.specs.Running.{run, started}
+use Rattle.paper.specs.Running.{run}
 use Rattle.paper.specs.Running as running
 use Rattle.paper.specs.Undoing.{dropping, undoing}
 use Rattle.store_cells.specs.Cells.{cellsOf}
@@ -20,17 +17,17 @@ use Rattle.code.specs.Windows.{writtenCell, callIn, waiting, writtenIn, stateIn
 use Rattle.layout.specs.Parts.{halfPart}
 use Rattle.layout.specs.Rules.{aborted}
 use Rattle.run_machine.specs.Live.{Live}
-use Rattle.run_machine.specs.Machine.{depthLimit, Here, LastWindow, Lends, Steps}
+use Rattle.run_machine.specs.Machine.{depthLimit, Here, LastWindow, Steps}
 use Rattle.run_machine.proofs.Elsewhere.{elsewhere}
 use Rattle.run_output.proofs.OneLine.{count-is}
 use Rattle.run_errors.specs.declared.Taken.{Taken}
 use Rattle.run_undoing.specs.Dropping as drops
 use Rattle.run_undoing.specs.Dropping.{Falls, gone, begins, Dropped}
-use Rattle.run_advancing.specs.Turns.{told, written, Leaves}
+use Rattle.run_advancing.specs.Turns.{told, written}
 use Rattle.run_advancing.proofs.Answers.{leaves-nothing}
 use Rattle.run_whole.specs.declared.Ended.{Ended}
 use Rattle.run_whole.specs.declared.Walked.{Walked}
-use Rattle.run_whole.specs.Runs.{Begins, Begun, EndsIn, standing, callless, Comes}
+use Rattle.run_whole.specs.Runs.{Begins, Begun, standing, callless, Comes}
 use Rattle.run_whole.specs.Walks.{goes, Halts, stands, falls, Walks, SetsOut, Strikes, Undoes}
 use Rattle.run_whole.proofs.RunBegins.{begin-in}
 use Rattle.run_whole.proofs.Walking.{undoing-gone}

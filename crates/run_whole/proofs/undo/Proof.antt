@@ -1,5 +1,5 @@
 use borrow.Author.Needs.{needs}
-use Rattle.run_whole.proofs.RunEnds.{struck-stands, undo-none, undo-steps, undo-walked}
+use Rattle.run_whole.proofs.RunEnds.{undo-none, undo-steps, undo-walked}
 use Rattle.run_whole.proofs.undo.Statement.{statement}
 use Rattle.run_whole.proofs.undo.Tie as tie
 
