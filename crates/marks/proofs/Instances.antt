@@ -9,7 +9,7 @@ use Rattle.paper.specs.Examples.{asking, lines, tray, moduleOf}
 use Rattle.paper.specs.Answer.{result}
 use Rattle.marks.specs.Marks.{ours, yes, differs, marked, Marking, mark, entriesOf, MarkLent, answerAfter, markCall}
 use Rattle.marks.specs.Computing.{computedMark, computedMarkCall}
-use Rattle.marks.specs.Examples.{MarkRow, entries, tells, markRow, trayWith, traySteps, markRows}
+use Rattle.marks.specs.MarkRows.{MarkRow, entries, tells, markRow, trayWith, traySteps, markRows}
 use Rattle.marks.specs.Theorems.{withSteps, SpentAt, ListingOf, Listing}
 use Rattle.marks.proofs.Listings.{listing}
 
