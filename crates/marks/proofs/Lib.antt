@@ -1,4 +1,5 @@
 pub mod Parting
+pub mod Meeting
 pub mod Counting
 pub mod Listings
 pub mod MoreListed

@@ -13,7 +13,7 @@ use Rattle.paper.specs.Running.{Ended, run, started}
 use Rattle.paper.specs.Undoing.{Asked, plainly, runAbort, runAsked}
 use Rattle.paper.specs.Answer.{Accepted, Verdict, refusedBy, accepted, offsetOf, verdict, Question, Result, refusedWith, endedWith, ranTo, carriedOut, tooSmall, badDepth, result}
 use Rattle.demands.proofs.Growing.{ran}
-use Rattle.marks.specs.Marks.{listed, roomsOf, listingOf, judged, ours, Mark, yes, differs, marked, Marking, marking, mark}
+use Rattle.marks.specs.Marks.{listed, roomsOf, listingOf, judged, ours, Mark, yes, differs, marked, Marking, marking, beside, mark}
 use Rattle.marks.specs.Theorems.{withSteps, SpentAt, ListingOf, Listing, OnlyRefusal, Refusing, OneListing}
 use Rattle.marks.proofs.Parting.{shared-low, equal-marked, marking-yes, marking-differs, told-shared}
 use Rattle.marks.proofs.Counting.{as-many, within, entry, Spent}
@@ -185,10 +185,9 @@ told-yes o t m e = by-mark (marked o t) refl
         apart d
 
 pub one-listing : OneListing
-unfolding OneListing mark
+unfolding OneListing mark beside
 one-listing q a b m n e f = by-ours (ours q) e f
   where
-    by-ours : (x : Option (List ℕ)) → (elim x as (λ _. Option Marking) [ none ↦ none | some o ↦ some (marking o a) ]) ≡ some (record { same = 1; index = m })
-        → (elim x as (λ _. Option Marking) [ none ↦ none | some o ↦ some (marking o b) ]) ≡ some (record { same = 1; index = n }) → a ≡ b
+    by-ours : (x : Option (List ℕ)) → beside x a ≡ some (record { same = 1; index = m }) → beside x b ≡ some (record { same = 1; index = n }) → a ≡ b
     by-ours none e f = none-some _ e
     by-ours (some o) e f = sym (told-yes o a m (cc)) ∙ told-yes o b n (cc)

@@ -43,7 +43,7 @@ unfolding equalTexts
 equal-self [] = refl
 equal-self (a ∷ r) = equal-goes a a r r refl ∙ equal-self r
 
-shared-self : (o : List ℕ) → shared o o ≡ length o
+pub shared-self : (o : List ℕ) → shared o o ≡ length o
 unfolding shared
 shared-self [] = refl
 shared-self (a ∷ r) = shared-goes a a r r refl ∙ ap suc (shared-self r)
@@ -130,6 +130,9 @@ module _ (o t : List ℕ) where
   pub marking-differs : (i : ℕ) → marked o t ≡ differs i → marking o t ≡ record { same = 0; index = i }
   unfolding marking
   marking-differs i e = rw (e, marking)
+
+  pub unequal-marking : (o ≡ t → ⊥) → marking o t ≡ record { same = 0; index = shared o t }
+  unequal-marking d = test (equalTexts o t) (λ u. absurd (d (equal-same o t u))) (λ u. marking-differs (shared o t) (marked-differs o t u))
 
   pub told-shared : marking o t .index ≡ shared o t
   told-shared =

@@ -64,9 +64,14 @@ unfoldable pub marking : (ours theirs : List ℕ) → Marking
 marking ours theirs =
     elim (marked ours theirs) [ yes ↦ record { same = 1; index = length ours } | differs i ↦ record { same = 0; index = i } ]
 
--- "Given module, allowances, input and listing": a refused module has no mark.
+-- A refused module has no listing, and so no mark.
+unfoldable pub beside : Option (List ℕ) → (theirs : List ℕ) → Option Marking
+beside none theirs = none
+beside (some o) theirs = some (marking o theirs)
+
+-- "Given module, allowances, input and listing"
 unfoldable pub mark : Question → (theirs : List ℕ) → Option Marking
-mark q theirs = elim (ours q) [ none ↦ none | some o ↦ some (marking o theirs) ]
+mark q theirs = beside (ours q) theirs
 
 -- ---- the call on bytes
 -- A lent listing: "bytes for words, four each, low byte first (a part word is left out)". An entry is an offset, so it has no sign.
