@@ -50,7 +50,7 @@ pub record Follows (text code values after inputs out out′ listing : List ℕ)
   pub is : (h : Here code values (from .base) (from .next)) → h .text ≡ text → (rooms : Rooms) → LastWindow rooms last → Lends rooms inputs out
       → ComesBeside (h .P) (h .R) (h .offset) rooms steps (stateIn (h .P) (h .R) (cellsOf values) (h .d) (from .next) 0 out) after out out′ listing r
 
-pub record Marks (text code values after inputs out out′ listing : List ℕ) (h steps depth : ℕ) (r : Marked) : Type 0 where
+pub record RanBeside (text code values after inputs out out′ listing : List ℕ) (h steps depth : ℕ) (r : Marked) : Type 0 where
   -- as if it had been run alone, without K
   pub ran : Ran text code values after inputs out out′ h steps depth Never (endedOf r)
   pub told : (b : Begins text code values h depth) (rooms : Rooms) → rooms .depth ≡ depth → Lends rooms inputs out

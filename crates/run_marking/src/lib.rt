@@ -3,7 +3,7 @@ ghost use mathlib.Core.Path.{_≡_};
 ghost use Prim.Native.Nat.{_<_};
 ghost use Rattle.run_machine.specs.Machine.{Steps};
 ghost use Rattle.run_whole.specs.Runs.{Begins};
-ghost use Rattle.run_marking.specs.Beside.{mostSteps, Meets, Agrees, Settles, Follows, Marks};
+ghost use Rattle.run_marking.specs.Beside.{mostSteps, Meets, Agrees, Settles, Follows, RanBeside};
 use layout::cells::FIRST_WINDOW;
 use layout::endings;
 use run_advancing::Machine;
@@ -126,7 +126,7 @@ pub fn mark<'a>(
     listing: &'a [u8],
 ) -> Marked
     requires { ⌜ Begins (now text) (now code) (now values) h depth ⌝ }
-    ensures { λ r. ⌜ Marks (now (text .entry)) (now (code .entry)) (now (values .entry)) (now (values .exit)) (now (inputs .entry)) (now (out .entry)) (now (out .exit)) (now (listing .entry)) h steps depth r ⌝ }
+    ensures { λ r. ⌜ RanBeside (now (text .entry)) (now (code .entry)) (now (values .entry)) (now (values .exit)) (now (inputs .entry)) (now (out .entry)) (now (out .exit)) (now (listing .entry)) h steps depth r ⌝ }
 {
     begin(&*code, values, h);
     follow(
