@@ -75,9 +75,7 @@ fn carry_out<'a>(
     requires { ⌜ (Accepts (now text) (now code) (now values) (now fields) words main depth) × (markSize ≤ length (now answer)) ⌝ }
     ensures { λ _. ⌜ TellsMark (now (text .entry)) steps depth (now (inputs .entry)) (now (listing .entry)) (now (out .entry)) (now (code .entry)) (now (values .entry)) (now (fields .entry)) (now (answer .entry)) (now (out .exit)) (now (code .exit)) (now (values .exit)) (now (fields .exit)) (now (answer .exit)) ⌝ }
 {
-    let r = mark_words(
-        text, steps, depth, inputs, out, code, values, listing, main,
-    );
+    let r = mark_words(text, steps, depth, inputs, out, code, values, listing, main);
     settle(code, values, fields, r.ending, r.place, r.made, words);
     put_mark(answer, r.same, r.index);
 }
@@ -101,7 +99,18 @@ fn judge<'a>(
     match check_whole::check(text, code, values) {
         Checked::Refused(number, offset) => refuse(fields, number, offset),
         Checked::Accepted(_, words, main) => carry_out(
-            text, steps, depth, inputs, out, code, values, listing, fields, answer, words, main,
+            text,
+            steps,
+            depth,
+            inputs,
+            out,
+            code,
+            values,
+            listing,
+            fields,
+            answer,
+            words,
+            main,
         ),
     }
 }
@@ -141,7 +150,16 @@ pub extern "C" fn rapid_mark<'a>(
         return 1;
     }
     judge(
-        text, steps, depth, inputs, out, code, values, listing, fields, answer,
+        text,
+        steps,
+        depth,
+        inputs,
+        out,
+        code,
+        values,
+        listing,
+        fields,
+        answer,
     );
     1
 }

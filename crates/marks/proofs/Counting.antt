@@ -66,13 +66,13 @@ module _ (P : Program) (R : Rooms) where
       first (goesOn s′) e = spent-first s _ (ap (λ (l : List ℕ). getD l 0 0) (listed-goes n s s′ e))
       first (stopped true x) e = spent-first s _ (ap (λ (l : List ℕ). getD l 0 0) (listed-counted n s x e))
       first (stopped false x) e = absurd (omega (arith, h, ap length (listed-uncounted n s x e)))
-  entry (suc i) (suc n) s h = later (takeStep P R s) refl
+  entry (suc i) (suc n) s h = later (takeStep P R s) refl (λ s′ g. entry i n s′ g)
     where
-      later : (o : Outcome) → takeStep P R s ≡ o → Spent (suc i) s (getD (listed P R (suc n) s) (suc i) 0)
-      later (goesOn s′) e =
+      later : (o : Outcome) → takeStep P R s ≡ o → ((s′ : State) → i < length (listed P R n s′) → Spent i s′ (getD (listed P R n s′) i 0)) → Spent (suc i) s (getD (listed P R (suc n) s) (suc i) 0)
+      later (goesOn s′) e on =
           let q = listed-goes n s s′ e in
-          let x = entry i n s′ (omega (arith, h, ap length q)) in
+          let x = on s′ (omega (arith, h, ap length q)) in
           let g = run-goes P R i s s′ e in
           record { ending = ap (λ (z : Ended). z .ending) g ∙ x .ending; there = ap (λ (z : Ended). z .place) g ∙ x .there ∙ sym (ap (λ (l : List ℕ). getD l (suc i) 0) q) }
-      later (stopped true x) e = absurd (omega (arith, h, ap length (listed-counted n s x e)))
-      later (stopped false x) e = absurd (omega (arith, h, ap length (listed-uncounted n s x e)))
+      later (stopped true x) e on = absurd (omega (arith, h, ap length (listed-counted n s x e)))
+      later (stopped false x) e on = absurd (omega (arith, h, ap length (listed-uncounted n s x e)))

@@ -42,7 +42,7 @@ unfolding computedMark trayWith traySteps asking lines tray
 tray-begins = (refl, refl)
 
 -- ---- the call, where it is refused by 1 and where it is lent too little
-unfoldable lentNothing : (fields answer : List ℕ) → MarkLent
+unfoldable pub lentNothing : (fields answer : List ℕ) → MarkLent
 lentNothing fields answer = record { text = []; steps = 9; depth = 1; inputs = []; output = 7 ∷ []; code = 5 ∷ []; values = []; listing = 1 ∷ []; fields = fields; answer = answer }
 
 -- refused by 1: a record, and the answer is untouched

@@ -60,6 +60,7 @@ module _ (q : Question) where
   result-judged t u = rw (t, result) (rw u)
 
   pub given : (o : List ℕ) → ours q ≡ some o → Given q o
+  unfolding judged
   given o e =
       test (tooSmall q)
       (λ t. none-some o (sym (ours-small t) ∙ e))
@@ -68,7 +69,6 @@ module _ (q : Question) where
       (λ u. by-verdict t u (verdict (q .text)) refl))
     where
       by-verdict : tooSmall q ≡ false → badDepth q ≡ false → (v : Verdict) → verdict (q .text) ≡ v → Given q o
-      unfolding judged
       by-verdict t u (refusedBy f) w = none-some o (sym (ours-judged t u ∙ ap (judged q) w) ∙ e)
       by-verdict t u (accepted a) w =
           let s : some (listingOf q a) ≡ some o = sym (ours-judged t u ∙ ap (judged q) w) ∙ e in
@@ -101,9 +101,6 @@ unfolding ranTo endedWith
 offset-of q a e h = ap (λ (n : ℕ). if eqb n 1 || eqb n 9 then 0 else offsetOf (q .text) (a .words) (e .place)) h
 
 module _ (q : Question) (k : q .asked ≡ plainly) (o : List ℕ) (g : Given q o) where
-  a : Accepted
-  a = g .a
-
   places : List ℕ
   places = listed (g .a .program) (roomsOf q) (q .steps) (started (g .a .program) (g .a .main))
 
@@ -119,7 +116,8 @@ module _ (q : Question) (k : q .asked ≡ plainly) (o : List ℕ) (g : Given q o
   many =
       let r = result-ran q k (g .small) (g .shallow) (g .a) (g .is-accepted) in
       let n = as-many (g .a .program) (roomsOf q) (q .steps) (started (g .a .program) (g .a .main)) in
-      long ∙ sym n ∙ sym (ap (λ (x : Result). x .fields .steps) r ∙ steps-of q (g .a) _)
+      let t : result q .fields .steps ≡ runOf q (g .a) .state .steps = ap (λ (x : Result). x .fields .steps) r ∙ steps-of q (g .a) _ in
+      omega (arith, long, n, t)
 
   few : length o ≤ q .steps
   unfolding places
@@ -152,7 +150,7 @@ listing q k o e =
 
 -- ---- refused
 pub refusing : Refusing
-unfolding Refusing
+unfolding Refusing judged carriedOut refusedWith
 refusing q k =
     test (tooSmall q)
     (λ t. record { without = λ e. result-small q t; refused = λ e. ours-small q t })
@@ -161,7 +159,6 @@ refusing q k =
     (λ u. by-verdict t u (verdict (q .text)) refl))
   where
     by-verdict : tooSmall q ≡ false → badDepth q ≡ false → (v : Verdict) → verdict (q .text) ≡ v → OnlyRefusal q
-    unfolding judged carriedOut refusedWith
     by-verdict t u (refusedBy f) w = record {
       without = λ e. ap (λ (x : Result). x .fields .ending) (result-judged q t u ∙ ap (carriedOut q) w);
       refused = λ e. ours-judged q t u ∙ ap (judged q) w;

@@ -75,7 +75,7 @@ module _ (q q′ : Question) (k : q .asked ≡ plainly) (text : q .text ≡ q′
       let f = offsetOf (q .text) (g .a .words) in
       let r : result q .fields .ending ≡ run P (roomsOf q) (q .steps) s .ending = ap (λ (x : Result). x .fields .ending) (result-ran q k (g .small) (g .shallow) (g .a) (g .is-accepted)) in
       let theirs : p ≡ map f (listed P (roomsOf q′) (q′ .steps) s) =
-          sym (g′ .is) ∙ ap (listingOf q′) same-module ∙ ap (λ (t : List ℕ). map (offsetOf t (g .a .words)) (listed P (roomsOf q′) (q′ .steps) s)) (sym text) in
+      sym (g′ .is) ∙ ap (listingOf q′) same-module ∙ ap (λ (t : List ℕ). map (offsetOf t (g .a .words)) (listed P (roomsOf q′) (q′ .steps) s)) (sym text) in
       rw (r, theirs, ← g .is) (mapped-more f _ _ _ (listed-more P (roomsOf q) (roomsOf q′) more (q .steps) (q′ .steps) s steps))
 
 pub more-listed : MoreListed
