@@ -24,7 +24,8 @@ use Rattle.check_whole.specs.declared.Checked.the-variants as checked
 use Rattle.check_whole.specs.Checks.{storeBytes}
 use Rattle.run_whole.specs.declared.Abort.{Abort}
 use Rattle.run_whole.specs.declared.Ended.{Ended}
-use Rattle.run_whole.specs.Runs.{Begins, abortOf, Comes, Ran}
+use Rattle.run_whole.specs.Runs.{Begins, abortOf, Ran}
+use Rattle.run_whole.proofs.RunTold.{Told, run-told}
 use Rattle.call_pendant.specs.Calls.{lent}
 use Rattle.call_pendant.specs.Carries.{askedBy, put, Rooms, Accepts, Starts, Ends, Settles, Settled, Tells}
 use Rattle.layout.specs.Parts.{halfPart}
@@ -94,18 +95,18 @@ module _ {text code values fields : List ℕ} {words main depth : ℕ} (a : Acce
     ended : running.Ended
     ended = runAbort (a .a .program) rooms steps (abortOf abort) (running.started (a .a .program) (a .a .main))
 
-    comes : Comes (a .a .program) (offsetOf text (a .a .words)) after out out′ ended e
+    comes : Told (a .a .program) (offsetOf text (a .a .words)) after out out′ ended e
     unfolding rooms ended begins
-    comes = ran .is begins rooms refl (record { room = refl; reads = words-paper inputs })
+    comes = run-told _ _ _ _ _ _ _ _ _ (ran .leaves) (ran .is begins rooms refl (record { room = refl; reads = words-paper inputs }))
 
     -- the part that the run was lent is back in its store
     after-size : length after ≡ storeBytes
-    after-size = ran .long ∙ length-take-le storeBytes values (a .rooms .values-room)
+    after-size = ran .leaves .long ∙ length-take-le storeBytes values (a .rooms .values-room)
 
     whole-size : length (after ++ drop storeBytes values) ≡ length values
     whole-size =
         length-append after (drop storeBytes values)
-        ∙ ap (λ (n : ℕ). n + length (drop storeBytes values)) (ran .long)
+        ∙ ap (λ (n : ℕ). n + length (drop storeBytes values)) (ran .leaves .long)
         ∙ sym (length-append (take storeBytes values) (drop storeBytes values))
         ∙ ap length (take-append-drop storeBytes values)
 

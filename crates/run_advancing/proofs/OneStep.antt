@@ -3,7 +3,7 @@ use mathlib.Core.Path.{_≡_, refl, sym, ap, _∙_}
 use mathlib.Core.Bool.{Bool, true, false}
 use mathlib.Core.List.{List, [], _∷_, _++_}
 use mathlib.Core.Option.{Option, none, some}
-use Prim.Native.Nat.{ℕ, zero, suc, _+_}
+use Prim.Native.Nat.{ℕ, _+_}
 use lib.Dec.{ltb, leb}
 use lib.ListN.{length, getD}
 use lib.IntN.{ℤ}
@@ -12,15 +12,14 @@ use Rattle.paper.specs.Basics.{if_then_else_}
 use Rattle.paper.specs.Numbers.{Value, value, error, num, ranged, isZero, decimal}
 use Rattle.paper.specs.Terms.{Term, Memory, Located, at, fails, locate, worth}
 use Rattle.paper.specs.Steps.{Spot, scalar, elementOf, Action, store, callFor, callOf, giveBack, raise, handOn, exit, retry, tryNext, write, read, choose, select, testWhile, enterFor, repeatFor, endList, endUndo, Program}
-use Rattle.paper.specs.States.{Loop, Location, Call, State, Rooms, Effect, made, failing, handing, ending, lacking, counted, withCalls, withErrno, withOutput, withValue, withSpot, withValues, locationOf}
-use Rattle.paper.specs.Running.{codeAt, nextStep, calling, returning, adding, writing, taking, readNum, choosing, passes, looping, withStep, entering, repeating, ending-list, perform, arising, Outcome, goesOn, stopped, settled, takeStep, nextPlace, run}
-use Rattle.paper.specs.Running as running
-use Rattle.paper.specs.Undoing.{leaving, undone, undoStep, undoing, aborted}
+use Rattle.paper.specs.States.{Loop, Location, Call, State, Rooms, Effect, made, failing, handing, ending, lacking, counted, withErrno, withOutput, withValue, withSpot, withValues, locationOf}
+use Rattle.paper.specs.Running.{codeAt, nextStep, calling, returning, adding, writing, taking, readNum, choosing, passes, looping, withStep, entering, repeating, ending-list, perform, arising, goesOn, stopping, settled, takeStep}
+use Rattle.paper.specs.Undoing.{leaving, undone, undoStep}
 use Rattle.code.specs.Cells.{windowOf, errnoCell}
 use Rattle.code.specs.Steps.{Head}
 use Rattle.code.specs.Windows.{callIn, waiting, stateIn}
 use Rattle.run_machine.specs.Machine.{effectAt}
-use Rattle.run_whole.specs.Walks.{goes, outcome, follows, spentBy}
+use Rattle.run_advancing.specs.Turns.{turned, outcome}
 
 -- ---- a step that fails leaves the calls as they were
 unfoldable Keeps : List Call → Effect → Type 0
@@ -133,29 +132,15 @@ module _ (P : Program) (rooms : Rooms) (R : List Head) (X : List ℕ) (d i k : �
       tail (c ∷ r) = r
 
   -- what the rules make of it
-  pub goes-step : (a : Bool) (n : ℕ) → goes a P rooms (suc n) state ≡ follows a P rooms n (outcome a P placeNow (waiting P R X d) state effect)
-  unfolding goes follows outcome run undoing takeStep undoStep stateIn effectAt
-  goes-step false n = steps (settled P placeNow (waiting P R X d) state effect)
-    where
-      steps : (o : Outcome) → (elim o as (λ _. running.Ended) [ goesOn s ↦ run P rooms n s | stopped c e ↦ e ]) ≡ follows false P rooms n o
-      steps (goesOn s) = refl
-      steps (stopped c e) = refl
-  goes-step true n = steps (undone P (waiting P R X d) state effect)
-    where
-      steps : (o : Outcome) → (elim o as (λ _. running.Ended) [ goesOn s ↦ undoing P rooms n s | stopped c e ↦ e ]) ≡ follows true P rooms n o
-      steps (goesOn s) = refl
-      steps (stopped c e) = refl
+  pub turned-is : (a : Bool) → turned a P rooms state ≡ outcome a P placeNow (waiting P R X d) state effect
+  unfolding turned outcome takeStep undoStep stateIn effectAt
+  turned-is false = refl
+  turned-is true = refl
 
-  pub goes-made : (a : Bool) (n : ℕ) (S : State) → effect ≡ made S → goes a P rooms (suc n) state ≡ goes a P rooms n (counted S)
-  unfolding outcome follows settled undone
-  goes-made false n S q = goes-step false n ∙ ap (λ (E : Effect). follows false P rooms n (outcome false P placeNow (waiting P R X d) state E)) q
-  goes-made true n S q = goes-step true n ∙ ap (λ (E : Effect). follows true P rooms n (outcome true P placeNow (waiting P R X d) state E)) q
-
-  -- no step is left
-  pub goes-spent : (a : Bool) → goes a P rooms 0 state ≡ record { ending = spentBy a; place = placeNow; state = state }
-  unfolding goes run undoing stateIn nextPlace spentBy
-  goes-spent false = refl
-  goes-spent true = refl
+  pub turned-made : (a : Bool) (S : State) → effect ≡ made S → turned a P rooms state ≡ goesOn (counted S)
+  unfolding outcome settled undone
+  turned-made false S q = turned-is false ∙ ap (outcome false P placeNow (waiting P R X d) state) q
+  turned-made true S q = turned-is true ∙ ap (outcome true P placeNow (waiting P R X d) state) q
 
   pub counted-is : counted state ≡ stateIn P R X d i (k + 1) out
   unfolding stateIn
@@ -170,6 +155,12 @@ failed-outcome a P place r r′ s s′ t e E q c = ap (outcome a P place r s) q 
     same false = refl
     same true = ap (λ (cs : List Call). leaving P cs (withErrno e t)) (sym c)
 
+-- Where something lacks nothing is done.
+pub lacks-stops : (a : Bool) (P : Program) (place : ℕ) (r : List Call) (s : State) (n at : ℕ) → outcome a P place r s (lacking n at) ≡ stopping false n at s
+unfolding outcome settled undone
+lacks-stops false P place r s n at = refl
+lacks-stops true P place r s n at = refl
+
 -- By the rules of a run an error arises.
 module _ (P : Program) (place : ℕ) (R : List Head) (X : List ℕ) (d i k : ℕ) (out : List ℕ) where
   pub fails-arises : (r : List Call) (s : State) (e : ℕ)
@@ -177,12 +168,10 @@ module _ (P : Program) (place : ℕ) (R : List Head) (X : List ℕ) (d i k : ℕ
   unfolding outcome settled stateIn
   fails-arises r s e = refl
 
+  pub ends-stops : (r : List Call) (s : State) (n : ℕ) → outcome false P place r s (ending n (stateIn P R X d i k out)) ≡ stopping true n place (stateIn P R X d i (k + 1) out)
+  unfolding outcome settled stateIn
+  ends-stops r s n = refl
+
   pub hands-arises : (s : State) → outcome false P place (waiting P R X d) s (handing (stateIn P R X d i k out)) ≡ arising P (getD X errnoCell 0) place (waiting P R X d) (stateIn P R X d i (k + 1) out)
   unfolding outcome settled stateIn
   hands-arises s = refl
-
--- no call is left
-pub undoing-gone : (P : Program) (rooms : Rooms) (n : ℕ) (s : State) → undoing P rooms n (withCalls [] s) ≡ aborted (withCalls [] s)
-unfolding undoing
-undoing-gone P rooms zero s = refl
-undoing-gone P rooms (suc n) s = refl

@@ -1,7 +1,7 @@
-use Rattle.run_whole.proofs.RunStops.{stops-whole, stops-low, stops-high, stops-made, stopped-main, stopped-step, stopped-lack}
+use Rattle.run_advancing.proofs.RunStops.{stops-whole, stops-low, stops-high, stopped-main, stopped-step, stopped-lack}
 use borrow.Author.Needs.{needs}
-use Rattle.run_whole.proofs.ending.Statement.{statement}
-use Rattle.run_whole.proofs.ending.Tie as tie
+use Rattle.run_advancing.proofs.over.Statement.{statement}
+use Rattle.run_advancing.proofs.over.Tie as tie
 
 cast-if2 : tie.Need-cast-if2
 cast-if2 c = search needs
@@ -30,14 +30,11 @@ cast-t13 c = search (needs, stops-high)
 place-of-requires-2 : tie.Need-place-of-requires-2
 place-of-requires-2 c κs = search (needs, stops-whole)
 
-sub-t16 : tie.Need-sub-t16
-sub-t16 c = search (needs, stops-made)
-
 returns-3 : tie.Need-returns-3
 returns-3 c = search (needs, stopped-lack)
 
-pub ending-spec : {M : Type 1} → statement M
-ending-spec =
+pub over-spec : {M : Type 1} → statement M
+over-spec =
     tie.close
     (tie.spec
     cast-if2
@@ -49,5 +46,4 @@ ending-spec =
     add-t12
     cast-t13
     place-of-requires-2
-    sub-t16
     returns-3)

@@ -1,7 +1,7 @@
 use borrow.Author.Needs.{needs}
-use Rattle.run_whole.proofs.UndoLists.{lack-low, lack-high}
-use Rattle.run_whole.proofs.is_lack.Statement.{statement}
-use Rattle.run_whole.proofs.is_lack.Tie as tie
+use Rattle.run_advancing.proofs.Answers.{lack-low, lack-high}
+use Rattle.run_advancing.proofs.is_lack.Statement.{statement}
+use Rattle.run_advancing.proofs.is_lack.Tie as tie
 
 returns : tie.Need-returns
 returns c = search (needs, lack-low)

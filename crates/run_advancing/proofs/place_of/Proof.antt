@@ -1,7 +1,7 @@
-use Rattle.run_whole.proofs.RunStops.{no-place}
+use Rattle.run_advancing.proofs.RunStops.{no-place}
 use borrow.Author.Needs.{needs}
-use Rattle.run_whole.proofs.place_of.Statement.{statement}
-use Rattle.run_whole.proofs.place_of.Tie as tie
+use Rattle.run_advancing.proofs.place_of.Statement.{statement}
+use Rattle.run_advancing.proofs.place_of.Tie as tie
 
 returns : tie.Need-returns
 returns c = no-place _ _ (c .before .before .pre) (c .if1 .taken)
