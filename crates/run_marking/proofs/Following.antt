@@ -5,8 +5,6 @@ use mathlib.Core.List.{List, [], _∷_, _++_, map, append-nil, append-assoc}
 use Prim.Native.Nat.{ℕ, zero, suc, _+_, _-_, _*_, _<_, _≤_}
 use native.Mathlib.Omega.{arith}
 use lib.ListN.{length, length-append}
-use mir.Syntax.{w32}
-use mir.Val.{toZ}
 use Rattle.laws.proofs.Tests.{apart, false-true}
 use Rattle.paper.specs.Steps.{Program}
 use Rattle.paper.specs.States.{State, Rooms}
@@ -19,16 +17,17 @@ use Rattle.code.specs.Windows.{callIn, stateIn}
 use Rattle.layout.specs.Rules.{stepsSpent}
 use Rattle.run_machine.specs.Live.{Live}
 use Rattle.run_machine.specs.Machine.{depthLimit, Here, LastWindow, Lends, Steps}
-use Rattle.run_machine.proofs.Current.{place-here, small-name}
+use Rattle.run_machine.proofs.Current.{place-here, step-in}
 use Rattle.run_machine.proofs.Elsewhere.{elsewhere}
 use Rattle.run_output.proofs.OneLine.{count-is}
 use Rattle.run_advancing.specs.declared.Machine.{Machine}
 use Rattle.run_advancing.specs.declared.Turn.{Turn}
 use Rattle.run_advancing.specs.declared.Turn.the-variants.{On, Over}
 use Rattle.run_advancing.specs.Turns.{turned, told, madeWith, Turns, on, over, gone, Leaves, Advances}
-use Rattle.run_advancing.proofs.Answers.{leaves-then, leaves-nothing}
+use Rattle.run_advancing.proofs.Answers.{leaves-then}
 use Rattle.run_whole.specs.declared.Ended.{Ended}
 use Rattle.run_whole.specs.Runs.{standing, Comes}
+use Rattle.run_whole.proofs.Walking.{Given, turn-starts}
 use Rattle.demands.proofs.Growing.{run-goes, run-stops}
 use Rattle.marks.specs.Marks.{listed, shared, marking}
 use Rattle.marks.proofs.Counting.{listed-goes, listed-counted, listed-uncounted}
@@ -48,14 +47,6 @@ pub record SoFar (P : Program) (R : List Head) (offset : ℕ → ℕ) (rooms : R
   pub ours : map offset (listed P rooms steps s₀) ≡ entries ++ map offset (listed P rooms (steps - made) (stateIn P R X d (m .next) made out))
   pub met : shared entries theirs ≡ common
 
--- there is such a run
-pub record Given (text code values₀ inputs out₀ : List ℕ) (last : ℕ) (from : Machine) : Type 0 where
-  pub here : Here code values₀ (from .base) (from .next)
-  pub text-is : here .text ≡ text
-  pub rooms : Rooms
-  pub deepest : LastWindow rooms last
-  pub lends : Lends rooms inputs out₀
-
 pub record Following (text code values₀ inputs out₀ listing : List ℕ) (last : ℕ) (from : Machine) (steps : ℕ) (values out : List ℕ) (m : Machine) (made common : ℕ) : Type 0 where
   pub given : Given text code values₀ inputs out₀ last from
   pub leaves : Leaves values₀ values out₀ out
@@ -63,41 +54,31 @@ pub record Following (text code values₀ inputs out₀ listing : List ℕ) (las
   pub is : (h : Here code values₀ (from .base) (from .next)) → h .text ≡ text → (rooms : Rooms) → LastWindow rooms last → Lends rooms inputs out₀
       → SoFar (h .P) (h .R) (h .offset) rooms steps (stateIn (h .P) (h .R) (cellsOf values₀) (h .d) (from .next) 0 out₀) (cellsOf values) out (cellsOf listing) m made common
 
--- as much is lent as the slices have
-lent : Rooms → (inputs out : List ℕ) → Rooms
-lent rooms inputs out = record { depth = rooms .depth; output = length out; inputs = map (toZ w32) (cellsOf inputs) }
-
 pub follow-starts : (text code values inputs out listing : List ℕ) (last : ℕ) (from : Machine) (steps : ℕ) → Steps text code values out (from .base) last (from .next)
     → Following text code values inputs out listing last from steps values out from 0 0
-unfolding lent shared
-follow-starts text code values inputs out listing last from steps s = record {
-  given = record {
-    here = s .here;
-    text-is = s .text-is;
-    rooms = lent (s .rooms) inputs out;
-    deepest = record { some = s .deepest .some; most = s .deepest .most; is = s .deepest .is };
-    lends = record { room = refl; reads = refl };
-  };
-  leaves = leaves-nothing values out (subst (λ (k : ℕ). k ≤ length out) (count-is (s .here .P) (s .here .R) (cellsOf values)) (s .written));
-  within = omega arith;
-  is = λ h x rooms lw l. record { d = h .d; deep = h .deep; base-is = h .base-is; live = h .live; rest = refl; entries = []; many = refl; ours = refl; met = refl };
-}
+unfolding shared
+follow-starts text code values inputs out listing last from steps s =
+    let t = turn-starts text code values inputs out last from steps false s in
+    record {
+      given = t .given;
+      leaves = t .leaves;
+      within = omega arith;
+      is = λ h x rooms lw l. record { d = h .d; deep = h .deep; base-is = h .base-is; live = h .live; rest = refl; entries = []; many = refl; ours = refl; met = refl };
+    }
 
 -- ---- a run that has ended
 -- after k steps, at a step of the call with d callers, with these entries of ours
-module _ (P : Program) (R : List Head) (offset : ℕ → ℕ) (rooms : Rooms) (steps : ℕ) (s₀ : State) (values after out₀ out listing : List ℕ) (l : Leaves values after out₀ out) (r : Marked) where
+module _ (P : Program) (R : List Head) (offset : ℕ → ℕ) (rooms : Rooms) (steps : ℕ) (s₀ : State) (after out listing : List ℕ) (r : Marked) where
   comes-beside : (n p d i k : ℕ) (o : List ℕ) → d < depthLimit → Live P R (cellsOf after) d i → run P rooms steps s₀ ≡ record { ending = n; place = p; state = stateIn P R (cellsOf after) d i k out }
       → endedOf r ≡ record { ending = n; place = told offset n p; made = k } → map offset (listed P rooms steps s₀) ≡ o → marking o (cellsOf listing) ≡ markingOf r
-      → ComesBeside P R offset rooms steps s₀ after out₀ out listing r
+      → ComesBeside P R offset rooms steps s₀ after out listing r
   unfolding stateIn
   comes-beside n p d i k o de lv e q w t = record {
-    comes = subst (λ (z : running.Ended). Comes P R offset after out₀ out z (endedOf r)) (sym e) (record {
+    comes = subst (λ (z : running.Ended). Comes P R offset after out z (endedOf r)) (sym e) (record {
       ending = ap (λ (z : Ended). z .ending) q;
       place = ap (λ (z : Ended). z .place) q;
       made = ap (λ (z : Ended). z .made) q;
       state = standing d i de lv refl;
-      fits = l .fits;
-      past = l .past;
     });
     told = ap (λ (y : List ℕ). marking y (cellsOf listing)) w ∙ t;
   }
@@ -143,7 +124,7 @@ module _ (text code values₀ inputs out₀ listing : List ℕ) (last : ℕ) (fr
 
   -- the word that it stands at is one of the code store
   pub follow-place : m .next * 8 + 8 ≤ length code
-  follow-place = omega (arith, small-name code values (m .base) (m .next) follow-here (m .next) (follow-here .live .named) .1, follow-here .code-size)
+  follow-place = step-in code values (m .base) (m .next) follow-here
 
   -- ---- the steps are spent
   module _ (z : steps ≤ made) (p : ℕ) (ep : p ≡ placeAt (cellsOf code) (m .next)) (r : Marked) (st : Settles listing stepsSpent p made common r) where
@@ -151,12 +132,12 @@ module _ (text code values₀ inputs out₀ listing : List ℕ) (last : ℕ) (fr
     none-left = omega arith
 
     spent-beside : (h : Here code values₀ (from .base) (from .next)) (x : h .text ≡ text) (rooms : Rooms) (lw : LastWindow rooms last) (l : Lends rooms inputs out₀)
-        → ComesBeside (h .P) (h .R) (h .offset) rooms steps (s₀ h x rooms lw l) values out₀ out listing r
+        → ComesBeside (h .P) (h .R) (h .offset) rooms steps (s₀ h x rooms lw l) values out listing r
     unfolding run listed
     spent-beside h x rooms lw l =
         let q = now h x rooms lw l in
         let s = S h x rooms lw l in
-        comes-beside (h .P) (h .R) (h .offset) rooms steps (s₀ h x rooms lw l) values₀ values out₀ out listing (f .leaves) r
+        comes-beside (h .P) (h .R) (h .offset) rooms steps (s₀ h x rooms lw l) values out listing r
         stepsSpent (nextPlace (h .P) s) (q .d) (m .next) made (q .entries) (q .deep) (q .live)
         (q .rest ∙ ap (λ (n : ℕ). run (h .P) rooms n s) none-left)
         (st .ended ∙ ap (λ (y : ℕ). record { ending = stepsSpent; place = y; made = made }) (ep ∙ now-place h x rooms lw l))
@@ -236,14 +217,14 @@ module _ (text code values₀ inputs out₀ listing : List ℕ) (last : ℕ) (fr
 
         -- it ends
         counted-by : (c : ℕ) → Meets listing common made at c → (n p : ℕ) → t ≡ Over n p true → (r : Marked) → Settles listing n p (made + 1) c r → Turned
-            → ComesBeside (h .P) (h .R) (h .offset) rooms steps (s₀ h x rooms lw l) after out₀ out′ listing r
+            → ComesBeside (h .P) (h .R) (h .offset) rooms steps (s₀ h x rooms lw l) after out′ listing r
         counted-by c mt n p tn r st (on e j et de b lv o) = apart (cc)
         counted-by c mt n p tn r st (over n′ p′ b et lv o) =
             let counts : b ≡ true = cc in
             let number : n ≡ n′ = cc in
             let place : p ≡ told (h .offset) n′ p′ = cc in
             let stops = subst (λ (y : Bool). takeStep (h .P) rooms (S h x rooms lw l) ≡ stopping y n′ p′ (stateIn (h .P) (h .R) (cellsOf after) (q .d) (m .next) (madeWith y made) out′)) counts o in
-            comes-beside (h .P) (h .R) (h .offset) rooms steps (s₀ h x rooms lw l) values₀ after out₀ out′ listing turn-leaves r
+            comes-beside (h .P) (h .R) (h .offset) rooms steps (s₀ h x rooms lw l) after out′ listing r
             n′ p′ (q .d) (m .next) (made + 1) entries (q .deep) lv
             (this-step ∙ run-stops (h .P) rooms (steps - (made + 1)) (S h x rooms lw l) true _ stops)
             (st .ended ∙ ap₂ (λ (y z : ℕ). record { ending = y; place = z; made = made + 1 }) number place)
@@ -253,14 +234,14 @@ module _ (text code values₀ inputs out₀ listing : List ℕ) (last : ℕ) (fr
 
       -- it ends by a step that does not count
       uncounted-by : (n p : ℕ) → t ≡ Over n p false → (r : Marked) → Settles listing n p made common r → Turned
-          → ComesBeside (h .P) (h .R) (h .offset) rooms steps (s₀ h x rooms lw l) after out₀ out′ listing r
+          → ComesBeside (h .P) (h .R) (h .offset) rooms steps (s₀ h x rooms lw l) after out′ listing r
       uncounted-by n p tn r st (on e j et de b lv o) = apart (cc)
       uncounted-by n p tn r st (over n′ p′ b et lv o) =
           let counts : b ≡ false = cc in
           let number : n ≡ n′ = cc in
           let place : p ≡ told (h .offset) n′ p′ = cc in
           let stops = subst (λ (y : Bool). takeStep (h .P) rooms (S h x rooms lw l) ≡ stopping y n′ p′ (stateIn (h .P) (h .R) (cellsOf after) (q .d) (m .next) (madeWith y made) out′)) counts o in
-          comes-beside (h .P) (h .R) (h .offset) rooms steps (s₀ h x rooms lw l) values₀ after out₀ out′ listing turn-leaves r
+          comes-beside (h .P) (h .R) (h .offset) rooms steps (s₀ h x rooms lw l) after out′ listing r
           n′ p′ (q .d) (m .next) made (q .entries) (q .deep) lv
           (this-step ∙ run-stops (h .P) rooms (steps - (made + 1)) (S h x rooms lw l) false _ stops)
           (st .ended ∙ ap₂ (λ (y z : ℕ). record { ending = y; place = z; made = made }) number place)

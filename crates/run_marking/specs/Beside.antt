@@ -1,7 +1,7 @@
 -- What a run beside a listing promises: how it ends is the run's own promise, and what is told of the listing is the mark of request 14.
 use mathlib.Core.Path.{_≡_}
 use mathlib.Core.List.{List, [], _∷_, _++_, map}
-use Prim.Native.Nat.{ℕ, _-_, _^_}
+use Prim.Native.Nat.{ℕ}
 use lib.ListN.{length}
 use Rattle.paper.specs.Steps.{Program}
 use Rattle.paper.specs.States.{State, Rooms}
@@ -41,14 +41,14 @@ pub record Settles (listing : List ℕ) (ending place made common : ℕ) (r : Ma
 
 -- ---- the run
 -- It comes to what the paper says of so many steps from s on, and the listing is told what it is told beside the places of those that counted.
-pub record ComesBeside (P : Program) (R : List Head) (offset : ℕ → ℕ) (rooms : Rooms) (steps : ℕ) (s : State) (after out out′ listing : List ℕ) (r : Marked) : Type 0 where
-  pub comes : Comes P R offset after out out′ (run P rooms steps s) (endedOf r)
+pub record ComesBeside (P : Program) (R : List Head) (offset : ℕ → ℕ) (rooms : Rooms) (steps : ℕ) (s : State) (after out listing : List ℕ) (r : Marked) : Type 0 where
+  pub comes : Comes P R offset after out (run P rooms steps s) (endedOf r)
   pub told : marking (map offset (listed P rooms steps s)) (cellsOf listing) ≡ markingOf r
 
 pub record Follows (text code values after inputs out out′ listing : List ℕ) (last : ℕ) (from : Machine) (steps : ℕ) (r : Marked) : Type 0 where
   pub leaves : Leaves values after out out′
   pub is : (h : Here code values (from .base) (from .next)) → h .text ≡ text → (rooms : Rooms) → LastWindow rooms last → Lends rooms inputs out
-      → ComesBeside (h .P) (h .R) (h .offset) rooms steps (stateIn (h .P) (h .R) (cellsOf values) (h .d) (from .next) 0 out) after out out′ listing r
+      → ComesBeside (h .P) (h .R) (h .offset) rooms steps (stateIn (h .P) (h .R) (cellsOf values) (h .d) (from .next) 0 out) after out′ listing r
 
 pub record RanBeside (text code values after inputs out out′ listing : List ℕ) (h steps depth : ℕ) (r : Marked) : Type 0 where
   -- as if it had been run alone, without K
