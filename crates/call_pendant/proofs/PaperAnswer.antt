@@ -14,14 +14,15 @@ use Rattle.paper.specs.Answer.{storeWords, recordSize, Verdict, refusedBy, acce
 use Rattle.store_cells.specs.Cells.{cellsOf}
 use Rattle.store_cells.proofs.Laws.{length-words}
 use Rattle.store_cells.proofs.Paper.{words-paper}
-use Rattle.check_whole.specs.Checks.{storeBytes}
+use Rattle.layout.specs.Named.{storeBytes}
 use Rattle.layout.specs.Rules.{smallStore, wrongDepth}
 use Rattle.call_records.specs.Records.{refusedFields, Written}
+use Rattle.call_records.specs.Leaves.{Refuses, Tells}
+use Rattle.call_records.proofs.Stores.{AllBytes, left-bytes, same-bytes}
+use Rattle.call_records.proofs.Depths.{isBad}
+use Rattle.call_records.proofs.Refusals.{refusal-tells}
+use Rattle.call_judging.specs.Carries.{put}
 use Rattle.call_pendant.specs.Calls.{lent, Calls}
-use Rattle.call_pendant.specs.Carries.{put, Refuses, Tells}
-use Rattle.call_pendant.proofs.Stores.{AllBytes, left-bytes, same-bytes}
-use Rattle.call_pendant.proofs.Depths.{isBad}
-use Rattle.call_pendant.proofs.TextJudged.{refusal-tells}
 
 word-count : (l : List ℕ) → length (paper.cellsOf l) ≡ length l / 4
 word-count l = ap length (words-paper l) ∙ length-map (cellsOf l) (toZ w32) ∙ length-words l
