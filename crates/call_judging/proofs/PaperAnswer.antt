@@ -14,14 +14,15 @@ use Rattle.paper.specs.Answer.{storeWords, recordSize, Verdict, refusedBy, acce
 use Rattle.store_cells.specs.Cells.{cellsOf}
 use Rattle.store_cells.proofs.Laws.{length-words}
 use Rattle.store_cells.proofs.Paper.{words-paper}
-use Rattle.check_whole.specs.Checks.{storeBytes}
+use Rattle.layout.specs.Named.{storeBytes}
 use Rattle.layout.specs.Rules.{smallStore, wrongDepth}
 use Rattle.call_records.specs.Records.{refusedFields, Written}
-use Rattle.call_pendant.specs.Calls.{lent, Calls}
-use Rattle.call_pendant.specs.Carries.{put, Refuses, Tells}
-use Rattle.call_pendant.proofs.Stores.{AllBytes, left-bytes, same-bytes}
-use Rattle.call_pendant.proofs.Depths.{isBad}
-use Rattle.call_pendant.proofs.TextJudged.{refusal-tells}
+use Rattle.call_records.specs.Leaves.{Refuses, Tells}
+use Rattle.call_records.proofs.Stores.{AllBytes, left-bytes, same-bytes}
+use Rattle.call_records.proofs.Depths.{isBad}
+use Rattle.call_records.proofs.Refusals.{refusal-tells}
+use Rattle.call_judging.specs.Carries.{put}
+use Rattle.call_judging.specs.Calls.{lent, Calls}
 
 word-count : (l : List ℕ) → length (paper.cellsOf l) ≡ length l / 4
 word-count l = ap length (words-paper l) ∙ length-map (cellsOf l) (toZ w32) ∙ length-words l
@@ -54,20 +55,26 @@ module _ (asked : Asked) (text : List ℕ) (steps depth : ℕ) (inputs out code 
             ∙ sym (p ∙ ap (λ (b : paper.Answer). spread b all) q);
       }
 
+  pub few-code : length code < storeBytes → tooSmall question ≡ true
+  unfolding lent lentOf questionOf tooSmall
+  few-code s = rw (lt-ltb (length (paper.cellsOf code)) storeWords (omega (arith, word-count code)))
+
+  pub few-values : storeBytes ≤ length code → length values < storeBytes → tooSmall question ≡ true
+  unfolding lent lentOf questionOf tooSmall
+  few-values l s =
+      rw (le-ltb (length (paper.cellsOf code)) storeWords (omega (arith, word-count code)), lt-ltb (length (paper.cellsOf values)) storeWords (omega (arith, word-count values)))
+
   pub small-code : recordSize ≤ length fields → length code < storeBytes → (fields′ : List ℕ) → Written fields fields′ (refusedFields smallStore 0) → AllBytes code → AllBytes values
       → Calls all 1 out code values fields′
-  unfolding lent lentOf questionOf tooSmall
-  small-code h s = call-small h (rw (lt-ltb (length (paper.cellsOf code)) storeWords (omega (arith, word-count code))))
+  small-code h s = call-small h (few-code s)
 
   pub small-values : recordSize ≤ length fields → storeBytes ≤ length code → length values < storeBytes → (fields′ : List ℕ) → Written fields fields′ (refusedFields smallStore 0) → AllBytes code → AllBytes values
       → Calls all 1 out code values fields′
-  unfolding lent lentOf questionOf tooSmall
-  small-values h l s =
-      call-small h (rw (le-ltb (length (paper.cellsOf code)) storeWords (omega (arith, word-count code)), lt-ltb (length (paper.cellsOf values)) storeWords (omega (arith, word-count values))))
+  small-values h l s = call-small h (few-values l s)
 
   -- ---- the stores are lent
   module _ (h : recordSize ≤ length fields) (g : storeBytes ≤ length code) (k : storeBytes ≤ length values) where
-    not-small : tooSmall question ≡ false
+    pub not-small : tooSmall question ≡ false
     unfolding lent lentOf questionOf tooSmall
     not-small = rw (le-ltb (length (paper.cellsOf code)) storeWords (omega (arith, word-count code)), le-ltb (length (paper.cellsOf values)) storeWords (omega (arith, word-count values)))
 

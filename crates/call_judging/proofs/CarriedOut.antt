@@ -10,7 +10,8 @@ use mir.Val.{toZ}
 use Rattle.laws.proofs.Lists.{map-take}
 use Rattle.laws.proofs.Tests.{by-less}
 use Rattle.paper.specs.Answer as paper
-use Rattle.paper.specs.Answer.{storeWords, Record, lentOf, questionOf, verdict, accepted, endedWith, ranTo, carriedOut, offsetOf}
+use Rattle.paper.specs.Answer.{storeWords, Record, verdict, accepted, endedWith, ranTo, carriedOut, offsetOf}
+use Rattle.paper.specs.Declarations.{moduleWordLimit}
 use Rattle.paper.specs.States as states
 use Rattle.paper.specs.Running as running
 use Rattle.paper.specs.Undoing.{runAbort, runAsked}
@@ -21,17 +22,16 @@ use Rattle.code.specs.Cells.{errnoCell}
 use Rattle.code.specs.Windows.{writtenCell, usedCell, countAt, writtenIn}
 use Rattle.check_whole.specs.declared.Checked.{Checked}
 use Rattle.check_whole.specs.declared.Checked.the-variants as checked
-use Rattle.check_whole.specs.Checks.{storeBytes}
 use Rattle.run_whole.specs.declared.Abort.{Abort}
 use Rattle.run_whole.specs.declared.Ended.{Ended}
 use Rattle.run_whole.specs.Runs.{Begins, abortOf, Ran}
 use Rattle.run_whole.proofs.RunTold.{Told, run-told}
-use Rattle.call_pendant.specs.Calls.{lent}
-use Rattle.call_pendant.specs.Carries.{askedBy, put, Rooms, Accepts, Starts, Ends, Settles, Settled, Tells}
+use Rattle.layout.specs.Named.{storeBytes}
 use Rattle.layout.specs.Parts.{halfPart}
 use Rattle.call_records.specs.Records.{reported, Written, Emptied}
-use Rattle.paper.specs.Declarations.{moduleWordLimit}
-use Rattle.call_pendant.proofs.Stores.{left-cleared, left-empty}
+use Rattle.call_records.specs.Leaves.{Settles, Settled, Tells}
+use Rattle.call_records.proofs.Stores.{left-cleared, left-empty}
+use Rattle.call_judging.specs.Carries.{askedBy, put, Accepts, Starts, Ends}
 
 -- ---- what the check's answer says
 wordsIn : Checked → ℕ
@@ -57,7 +57,7 @@ module _ {text code values fields : List ℕ} {words main depth : ℕ} (a : Acce
   many : storeWords ≤ length (cellsOf values)
   many = omega (arith, length-words values, a .rooms .values-room)
 
-  begins : Begins text (take storeBytes code) (take storeBytes values) main depth
+  unfoldable pub begins : Begins text (take storeBytes code) (take storeBytes values) main depth
   unfolding mainIn
   begins =
       let few : length (a .a .program .words) ≤ moduleWordLimit = a .ready .holds .room in
@@ -170,7 +170,7 @@ module _ {text code values fields : List ℕ} {words main depth : ℕ} (a : Acce
     told-all : {code′ values′ fields′ : List ℕ} → Written fields fields′ (reported (e .ending) (e .place) (e .made) (after ++ drop storeBytes values) words)
         → Emptied code (after ++ drop storeBytes values) code′ values′ words
         → Tells (carriedOut (put (askedBy abort) text steps depth inputs out) (verdict text)) out code values fields out′ code′ values′ fields′
-    unfolding put questionOf lentOf lent carriedOut rooms ended runAsked
+    unfolding put carriedOut rooms ended runAsked
     told-all w z = rw (a .judged) (tells w z)
 
   -- ---- the whole store after it

@@ -3,34 +3,22 @@ use mathlib.Core.Path.{_≡_, refl, sym, ap₂, _∙_}
 use mathlib.Core.Bool.{Bool, true, false, _||_}
 use mathlib.Core.List.{List, _++_}
 use Prim.Native.Nat.{ℕ, _≤_, _<_}
-use native.Mathlib.Omega.{arith}
 use lib.Dec.{ltb}
 use lib.ListN.{length, drop}
 use borrow.Author.Tests.{le-ltb}
 use Rattle.laws.proofs.Tests.{apart, false-true}
-use Rattle.paper.specs.Answer.{recordSize, recordBytes, depthLimit, Verdict, refusedBy, accepted, verdict, Result, refusedWith, carriedOut}
+use Rattle.paper.specs.Words.{Refusal}
+use Rattle.paper.specs.Answer.{recordSize, recordBytes, depthLimit, Verdict, refusedBy, accepted, verdict, Result, carriedOut}
 use Rattle.check_whole.specs.declared.Checked.{Checked}
 use Rattle.check_whole.specs.declared.Checked.the-variants as checked
-use Rattle.check_whole.specs.Checks.{storeBytes, TooSmall, Judges, Checks}
+use Rattle.check_whole.specs.Checks.{TooSmall, Judges, Checks}
 use Rattle.run_whole.specs.declared.Abort.{Abort}
-use Rattle.layout.specs.Rules.{wrongDepth}
-use Rattle.call_records.specs.Records.{refusedFields, Written, Empties, Emptied}
-use Rattle.call_pendant.specs.Carries.{askedBy, put, Rooms, Refuses, Accepts, Tells}
-use Rattle.call_pendant.proofs.Stores.{left-empty, left-emptied, left-on}
-
--- ---- a refusal
-pub deep-empties : (code values fields : List ℕ) → Rooms code values fields → Empties code values 0
-deep-empties code values fields r = record { code-room = r .code-room; values-room = r .values-room; few = omega arith }
-
-pub deep-refused : (code values fields code′ values′ fields′ : List ℕ) → Rooms code values fields → Emptied code values code′ values′ 0
-    → Written fields fields′ (refusedFields wrongDepth 0) → Refuses wrongDepth 0 code values fields code′ values′ fields′
-deep-refused code values fields code′ values′ fields′ r e w =
-    record { code-left = left-empty code code′ (r .code-room) (e .code-cleared); values-left = left-empty values values′ (r .values-room) (e .values-cleared); told = w }
-
-pub refusal-tells : {code values fields code′ values′ fields′ : List ℕ} (out : List ℕ) (number offset : ℕ) → Refuses number offset code values fields code′ values′ fields′
-    → Tells (refusedWith (record { number = number; offset = offset })) out code values fields out code′ values′ fields′
-unfolding refusedWith refusedFields
-refusal-tells out number offset f = record { output = refl; code-left = f .code-left; values-left = f .values-left; told = f .told }
+use Rattle.layout.specs.Named.{storeBytes}
+use Rattle.call_records.specs.Records.{refusedFields, Written}
+use Rattle.call_records.specs.Leaves.{Rooms, Tells}
+use Rattle.call_records.proofs.Stores.{left-emptied, left-on}
+use Rattle.call_records.proofs.Refusals.{refusal-tells}
+use Rattle.call_judging.specs.Carries.{askedBy, put, Accepts}
 
 -- ---- the check's answer
 forked : (T F : Type 0) → Bool → Type 0
@@ -89,6 +77,15 @@ module _ (text code values fields : List ℕ) (room : Rooms code values fields) 
             some = some;
             most = most;
           }
+
+  -- the text is refused
+  pub refused-by : (number offset : ℕ) → Checks text code values r code′ values′ → r ≡ checked.Refused number offset → (f : Refusal) × (verdict text ≡ refusedBy f)
+  unfolding Judges
+  refused-by number offset c e = by-verdict (verdict text) refl (judges c)
+    where
+      by-verdict : (v : Verdict) → verdict text ≡ v → Judges text code values v r code′ values′ → (f : Refusal) × (verdict text ≡ refusedBy f)
+      by-verdict (accepted a) q j = apart (not-both e (j .answer))
+      by-verdict (refusedBy f) q j = (f, q)
 
   pub judged-refused : (number offset steps depth : ℕ) (abort : Abort) (inputs out fields′ : List ℕ) → Checks text code values r code′ values′ → r ≡ checked.Refused number offset
       → Written fields fields′ (refusedFields number offset)

@@ -1,7 +1,7 @@
 use borrow.Author.Needs.{needs}
-use Rattle.call_pendant.proofs.TextJudged.{accepts, judged-refused, judged-carried}
-use Rattle.call_pendant.proofs.judge.Statement.{statement}
-use Rattle.call_pendant.proofs.judge.Tie as tie
+use Rattle.call_judging.proofs.TextJudged.{accepts, judged-refused, judged-carried}
+use Rattle.call_judging.proofs.judge.Statement.{statement}
+use Rattle.call_judging.proofs.judge.Tie as tie
 
 check-requires : tie.Need-check-requires
 check-requires c κs = search needs

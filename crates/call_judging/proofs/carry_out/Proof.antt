@@ -1,7 +1,7 @@
 use borrow.Author.Needs.{needs}
-use Rattle.call_pendant.proofs.CarriedOut.{starts, settles, carried}
-use Rattle.call_pendant.proofs.carry_out.Statement.{statement}
-use Rattle.call_pendant.proofs.carry_out.Tie as tie
+use Rattle.call_judging.proofs.CarriedOut.{starts, settles, carried}
+use Rattle.call_judging.proofs.carry_out.Statement.{statement}
+use Rattle.call_judging.proofs.carry_out.Tie as tie
 
 -- from where the stores are settled back to where the run has ended, and from there to the start
 abbrev ran : tie.After-settle → tie.After-run-words

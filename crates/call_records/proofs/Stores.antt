@@ -16,8 +16,8 @@ use Rattle.store_cells.specs.Cells.{cellsOf, Cleared}
 use Rattle.store_cells.proofs.Laws.{words-drop, words-replaced, words-zeros}
 use Rattle.store_cells.proofs.Kept.{clear-length, clear-drop}
 use Rattle.store_cells.proofs.Paper.{words-paper, clear-paper, kept-none, kept-paper}
-use Rattle.check_whole.specs.Checks.{storeBytes, Emptied}
-use Rattle.call_pendant.specs.Carries.{Left}
+use Rattle.layout.specs.Named.{storeBytes}
+use Rattle.call_records.specs.Leaves.{Left}
 
 -- every element of a lent slice is a byte
 abbrev pub AllBytes : List ℕ → Type 0
@@ -72,7 +72,7 @@ zeros-cleared before after n h e =
 pub left-empty : (before after : List ℕ) → storeBytes ≤ length before → Cleared before after 0 storeWords → Left [] before after
 left-empty before after h c = left-cleared before before after 0 c (omega arith) h refl refl [] refl refl
 
-pub left-emptied : (before after : List ℕ) → storeBytes ≤ length before → Emptied before after → Left [] before after
+pub left-emptied : (before after : List ℕ) → storeBytes ≤ length before → after ≡ replicate storeBytes 0 ++ drop storeBytes before → Left [] before after
 left-emptied before after h e = left-empty before after h (zeros-cleared before after storeWords h e)
 
 -- ---- the store that was lent first

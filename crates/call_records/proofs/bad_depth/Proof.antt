@@ -1,7 +1,7 @@
 use borrow.Author.Needs.{needs}
-use Rattle.call_pendant.proofs.Depths.{bad-none, bad-some}
-use Rattle.call_pendant.proofs.bad_depth.Statement.{statement}
-use Rattle.call_pendant.proofs.bad_depth.Tie as tie
+use Rattle.call_records.proofs.Depths.{bad-none, bad-some}
+use Rattle.call_records.proofs.bad_depth.Statement.{statement}
+use Rattle.call_records.proofs.bad_depth.Tie as tie
 
 returns : tie.Need-returns
 returns c = search (needs, bad-none)

@@ -1,7 +1,7 @@
 use borrow.Author.Needs.{needs}
-use Rattle.call_pendant.proofs.TextJudged.{deep-empties, deep-refused}
-use Rattle.call_pendant.proofs.refuse_depth.Statement.{statement}
-use Rattle.call_pendant.proofs.refuse_depth.Tie as tie
+use Rattle.call_records.proofs.Refusals.{deep-empties, deep-refused}
+use Rattle.call_records.proofs.refuse_depth.Statement.{statement}
+use Rattle.call_records.proofs.refuse_depth.Tie as tie
 
 empty-requires : tie.Need-empty-requires
 empty-requires c κs = search (needs, deep-empties)
