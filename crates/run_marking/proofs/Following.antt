@@ -59,11 +59,24 @@ pub follow-starts : (text code values inputs out listing : List ℕ) (last : ℕ
 unfolding shared
 follow-starts text code values inputs out listing last from steps s =
     let t = turn-starts text code values inputs out last from steps false s in
+    let all : steps ≡ steps - 0 = omega arith in
     record {
       given = t .given;
       leaves = t .leaves;
       within = omega arith;
-      is = λ h x rooms lw l. record { d = h .d; deep = h .deep; base-is = h .base-is; live = h .live; rest = refl; entries = []; many = refl; ours = refl; met = refl };
+      is = λ h x rooms lw l.
+          let s₀ = stateIn (h .P) (h .R) (cellsOf values) (h .d) (from .next) 0 out in
+          record {
+            d = h .d;
+            deep = h .deep;
+            base-is = h .base-is;
+            live = h .live;
+            rest = ap (λ (n : ℕ). run (h .P) rooms n s₀) all;
+            entries = [];
+            many = refl;
+            ours = ap (λ (n : ℕ). map (h .offset) (listed (h .P) rooms n s₀)) all;
+            met = refl;
+          };
     }
 
 -- ---- a run that has ended
