@@ -156,10 +156,10 @@ failed-outcome a P place r r′ s s′ t e E q c = ap (outcome a P place r s) q 
     same true = ap (λ (cs : List Call). leaving P cs (withErrno e t)) (sym c)
 
 -- Where something lacks nothing is done.
-pub lacks-stops : (a : Bool) (P : Program) (place : ℕ) (r : List Call) (s : State) (n at : ℕ) → outcome a P place r s (lacking n at) ≡ stopping false n at s
+pub lacks-stops : (a : Bool) (P : Program) (place : ℕ) (r : List Call) (s : State) (n k : ℕ) → outcome a P place r s (lacking n k) ≡ stopping false n k s
 unfolding outcome settled undone
-lacks-stops false P place r s n at = refl
-lacks-stops true P place r s n at = refl
+lacks-stops false P place r s n k = refl
+lacks-stops true P place r s n k = refl
 
 -- By the rules of a run an error arises.
 module _ (P : Program) (place : ℕ) (R : List Head) (X : List ℕ) (d i k : ℕ) (out : List ℕ) where

@@ -118,7 +118,10 @@ pub fn advance<'a>(
     let base = m.base;
     let r = step(text, &*code, values, inputs, out, base, last, i);
     if r < answers::ENTERED {
-        return Turn::On(Machine { next: r as usize, base });
+        return Turn::On(Machine {
+            next: r as usize,
+            base,
+        });
     }
     if r < answers::LEFT {
         return Turn::On(Machine {

@@ -110,7 +110,7 @@ pub record Given (text code values₀ inputs out₀ : List ℕ) (last : ℕ) (fr
 pub record Turning (text code values₀ inputs out₀ : List ℕ) (last : ℕ) (from : Machine) (steps : ℕ) (a : Bool) (values out : List ℕ) (m : Machine) (n : ℕ) : Type 0 where
   pub given : Given text code values₀ inputs out₀ last from
   pub leaves : Leaves values₀ values out₀ out
-  pub on : n ≤ steps
+  pub few : n ≤ steps
   pub is : (h : Here code values₀ (from .base) (from .next)) → h .text ≡ text → (rooms : Rooms) → LastWindow rooms last → Lends rooms inputs out₀ → (before : ℕ)
       → Rest a (h .P) (h .R) rooms (cellsOf values₀) out₀ (h .d) (from .next) before steps (cellsOf values) out m n
 
@@ -130,7 +130,7 @@ turn-starts text code values inputs out last from steps a s = record {
     lends = record { room = refl; reads = refl };
   };
   leaves = leaves-nothing values out (subst (λ (k : ℕ). k ≤ length out) (count-is (s .here .P) (s .here .R) (cellsOf values)) (s .written));
-  on = omega arith;
+  few = omega arith;
   is = λ h x rooms lw l before. record {
     d = h .d;
     deep = h .deep;
@@ -207,7 +207,7 @@ module _ (text code values₀ inputs out₀ : List ℕ) (last : ℕ) (from : Mac
         (ap (λ (y : running.Ended). y .state) all)
 
     pub turn-spent : Walks text code values₀ values inputs out₀ out last from steps a spent-walk
-    turn-spent = record { leaves = t .leaves; fewer = t .on; is = spent-by }
+    turn-spent = record { leaves = t .leaves; fewer = t .few; is = spent-by }
 
   -- ---- after a step
   module _ (p : 0 < n) (after out′ : List ℕ) (r : Turn) (adv : Advances text code values after inputs out out′ last m a r) where
@@ -251,7 +251,7 @@ module _ (text code values₀ inputs out₀ : List ℕ) (last : ℕ) (from : Mac
         unfolding follows
         next-by (on e j′ q de b lv oq) =
             let same : j′ ≡ j = cc in
-            let k-is : k + 1 ≡ before + (steps - (n - 1)) = omega (arith, t .on) in
+            let k-is : k + 1 ≡ before + (steps - (n - 1)) = omega (arith, t .few) in
             subst (λ (y : Machine). Rest a (h .P) (h .R) rooms (cellsOf values₀) out₀ (h .d) (from .next) before steps (cellsOf after) out′ y (n - 1)) same
             (record {
               d = e;
@@ -269,7 +269,7 @@ module _ (text code values₀ inputs out₀ : List ℕ) (last : ℕ) (from : Mac
         over-walk = record { ending = e; place = q; base = m .base; left = leftWith c n }
 
         k-counted : (c : Bool) → madeWith c k ≡ before + (steps - leftWith c n)
-        k-counted true = omega (arith, t .on)
+        k-counted true = omega (arith, t .few)
         k-counted false = refl
 
         halts-by : Turns a (h .P) (h .R) (h .offset) d (m .next) k (cellsOf after) out′ o r → Halts a (h .P) (h .R) (h .offset) (All h x rooms lw l before) (cellsOf after) out′ before steps over-walk
@@ -297,11 +297,11 @@ module _ (text code values₀ inputs out₀ : List ℕ) (last : ℕ) (from : Mac
             ∙ ap (λ (w : ℕ). withCalls [] (stateIn (h .P) (h .R) (cellsOf after) 0 0 w out′)) (k-counted c))
 
     pub turn-on : (j : Machine) → r ≡ On j → Turning text code values₀ inputs out₀ last from steps a after out′ j (n - 1)
-    turn-on j e = record { given = g; leaves = step-leaves; on = omega (arith, t .on); is = λ h x rooms lw l before. next-by h x rooms lw l before j e (turns h x rooms lw l before) }
+    turn-on j e = record { given = g; leaves = step-leaves; few = omega (arith, t .few); is = λ h x rooms lw l before. next-by h x rooms lw l before j e (turns h x rooms lw l before) }
 
     fewer-left : (c : Bool) → leftWith c n ≤ steps
-    fewer-left true = omega (arith, t .on)
-    fewer-left false = t .on
+    fewer-left true = omega (arith, t .few)
+    fewer-left false = t .few
 
     pub turn-over : (e q : ℕ) (c : Bool) → r ≡ Over e q c → (b : ℕ) → b ≡ leftWith c n → Walks text code values₀ after inputs out₀ out′ last from steps a (record { ending = e; place = q; base = m .base; left = b })
     turn-over e q c is b eb =

@@ -9,11 +9,11 @@ cast-if2 c = search needs
 returns : tie.Need-returns
 returns c = search (needs, stopped-main)
 
-sub-t6 : tie.Need-sub-t6
-sub-t6 c = search (needs, stops-low)
+sub-t5 : tie.Need-sub-t5
+sub-t5 c = search (needs, stops-low)
 
-cast-t8 : tie.Need-cast-t8
-cast-t8 c = search needs
+cast-t7 : tie.Need-cast-t7
+cast-t7 c = search needs
 
 place-of-requires : tie.Need-place-of-requires
 place-of-requires c κs = search (needs, stops-whole)
@@ -21,11 +21,11 @@ place-of-requires c κs = search (needs, stops-whole)
 returns-2 : tie.Need-returns-2
 returns-2 c = search (needs, stopped-step)
 
-add-t12 : tie.Need-add-t12
-add-t12 c = search needs
+add-t11 : tie.Need-add-t11
+add-t11 c = search needs
 
-cast-t13 : tie.Need-cast-t13
-cast-t13 c = search (needs, stops-high)
+cast-t12 : tie.Need-cast-t12
+cast-t12 c = search (needs, stops-high)
 
 place-of-requires-2 : tie.Need-place-of-requires-2
 place-of-requires-2 c κs = search (needs, stops-whole)
@@ -39,11 +39,11 @@ over-spec =
     (tie.spec
     cast-if2
     returns
-    sub-t6
-    cast-t8
+    sub-t5
+    cast-t7
     place-of-requires
     returns-2
-    add-t12
-    cast-t13
+    add-t11
+    cast-t12
     place-of-requires-2
     returns-3)
