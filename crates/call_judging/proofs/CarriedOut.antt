@@ -43,7 +43,7 @@ mainIn (checked.Accepted n w h) = h
 mainIn (checked.Refused n o) = 0
 
 -- ---- the first part of a list of bytes
-first-words : (l : List ℕ) → cellsOf (take storeBytes l) ≡ take storeWords (cellsOf l)
+pub first-words : (l : List ℕ) → cellsOf (take storeBytes l) ≡ take storeWords (cellsOf l)
 first-words l = words-take storeWords l
 
 module _ {text code values fields : List ℕ} {words main depth : ℕ} (a : Accepts text code values fields words main depth) where
@@ -54,7 +54,7 @@ module _ {text code values fields : List ℕ} {words main depth : ℕ} (a : Acce
   few-words : words ≤ moduleWordLimit
   few-words = rw words-are (a .ready .holds .room)
 
-  many : storeWords ≤ length (cellsOf values)
+  pub many : storeWords ≤ length (cellsOf values)
   many = omega (arith, length-words values, a .rooms .values-room)
 
   unfoldable pub begins : Begins text (take storeBytes code) (take storeBytes values) main depth

@@ -18,7 +18,7 @@ use Rattle.call_records.proofs.Depths.{isBad}
 use Rattle.call_judging.specs.Carries.{put}
 use Rattle.call_judging.specs.Calls.{lent, Calls}
 use Rattle.call_judging.proofs.PaperAnswer.{small-code, small-values, call-deep, call-judged, few-code, few-values, not-small}
-use Rattle.marks.specs.Marks.{judged, ours, Marking, beside, mark, entriesOf, markSize, plainCall, answerAfter, markOf, tooFew, markCall, MarkLent, MarkAnswer}
+use Rattle.marks.specs.Marks.{listingOf, judged, ours, Marking, beside, mark, entriesOf, markSize, plainCall, answerAfter, markOf, tooFew, markCall, MarkLent, MarkAnswer}
 use Rattle.call_marking.specs.Marks.{markLent, Marks}
 use Rattle.call_marking.specs.Carries.{asks, TellsMark}
 
@@ -101,7 +101,7 @@ module _ (text : List ℕ) (steps depth : ℕ) (inputs out code values listing f
           (unmarked (ours-deep large (sym b)))
 
       same-judged : (v : Verdict) → judged question v ≡ judged (asks text steps depth inputs out) v
-      unfolding judged put lent lentOf questionOf
+      unfolding judged listingOf put lent lentOf questionOf
       same-judged (refusedBy f) = refl
       same-judged (accepted a) = refl
 
