@@ -13,18 +13,16 @@ use mir.Syntax.{w64}
 use mir.Val.{Fits, SFits}
 use mir.Facts.{toZ-ofZ}
 use borrow.Author.Tests.{lt-ltb}
-use Rattle.laws.proofs.Tests.{false-true}
-use Rattle.paper.specs.Basics.{if_then_else_}
-use Rattle.paper.specs.States.{Call, State, Effect, withCalls, withErrno, counted, failing, handing, ending, lacking}
-use Rattle.paper.specs.Running.{Outcome, goesOn, stopping}
+use Rattle.paper.specs.States.{Call, State, Effect, withCalls, withErrno, counted, lacking}
+use Rattle.paper.specs.Running.{Outcome, goesOn}
 use Rattle.paper.specs.Undoing.{dropping, leaving, undone}
 use Rattle.store_numbers.proofs.Whole.{read}
 use Rattle.store_cells.specs.Cells.{cellsOf}
 use Rattle.store_cells.proofs.Kept.{put-length}
 use Rattle.code.specs.Cells.{placeAt, errnoCell}
-use Rattle.code.specs.Windows.{writtenCell, waiting, stateIn}
+use Rattle.code.specs.Windows.{waiting, stateIn}
 use Rattle.layout.specs.Answers.{firstError, answers, lacked}
-use Rattle.layout.specs.Rules.{unhandled, fellOff, beyondDepth, noRoom}
+use Rattle.layout.specs.Rules.{unhandled, beyondDepth, noRoom}
 use Rattle.layout.specs.Rules as rules
 use Rattle.run_machine.specs.Live.{Live}
 use Rattle.run_machine.specs.Machine.{ended, lackedBy, handed, Here, KeepsRun}
@@ -34,11 +32,11 @@ use Rattle.run_errors.specs.declared.Taken.{Taken}
 use Rattle.run_errors.specs.Errors.{Raises, raises, handsOn, Settles, stops, resumes, Arisen}
 use Rattle.run_errors.proofs.CallsDropped.{errno-here, errno-state}
 use Rattle.run_undoing.specs.Dropping as drops
-use Rattle.run_undoing.specs.Dropping.{Falls, Quits, Noted, Left}
+use Rattle.run_undoing.specs.Dropping.{Falls, Quits, Left}
 use Rattle.run_advancing.specs.declared.Machine.{Machine}
 use Rattle.run_advancing.specs.declared.Turn.{Turn}
 use Rattle.run_advancing.specs.declared.Turn.the-variants.{On, Over}
-use Rattle.run_advancing.specs.Turns.{told, Turns, on, over, gone, Breaks, ends, lacks, hands, fails, Unmade, outcome, Settled, isLack, Stops, byStep, byLack, Stopped}
+use Rattle.run_advancing.specs.Turns.{Turns, on, over, gone, Breaks, ends, lacks, hands, fails, Unmade, outcome, Settled, isLack, Stops, byStep, byLack, Stopped}
 use Rattle.run_advancing.proofs.OneStep.{lacks-stops, ends-stops, fails-arises, hands-arises}
 use Rattle.run_advancing.proofs.Answers.{answer-below, answer-above, answer-is, answer-casts, lackedBy-is, lack-range, lack-outside, told-plain, told-there}
 

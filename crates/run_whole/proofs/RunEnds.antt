@@ -1,16 +1,13 @@
 -- Where a walk has ended the run has, or it is aborted: what is answered, and what the stores hold. From main's first step on, and from the first UNDO list on.
 use mathlib.Core.Path.{_≡_, refl, sym, ap, ap₂, subst, _∙_}
 use mathlib.Core.Bool.{Bool, true, false}
-use mathlib.Core.List.{List, [], _∷_, map}
+use mathlib.Core.List.{List, [], _∷_}
 use Prim.Native.Nat.{ℕ, suc, _+_, _-_, _*_, _<_, _≤_}
 use native.Mathlib.Omega.{arith}
 use lib.ListN.{length}
-use mir.Syntax.{w32}
-use mir.Val.{toZ}
-use Rattle.laws.proofs.Tests.{false-true}
 use Rattle.paper.specs.Steps.{Program}
 use Rattle.paper.specs.States.{State, Rooms, withCalls}
-use Rattle.paper.specs.Running.{run, started}
+use Rattle.paper.specs.Running.{run}
 use Rattle.paper.specs.Running as running
 use Rattle.paper.specs.Undoing.{dropping, undoing}
 use Rattle.store_cells.specs.Cells.{cellsOf}
@@ -20,17 +17,17 @@ use Rattle.code.specs.Windows.{writtenCell, callIn, waiting, writtenIn, stateIn
 use Rattle.layout.specs.Parts.{halfPart}
 use Rattle.layout.specs.Rules.{aborted}
 use Rattle.run_machine.specs.Live.{Live}
-use Rattle.run_machine.specs.Machine.{depthLimit, Here, LastWindow, Lends, Steps}
+use Rattle.run_machine.specs.Machine.{depthLimit, Here, LastWindow, Steps}
 use Rattle.run_machine.proofs.Elsewhere.{elsewhere}
 use Rattle.run_output.proofs.OneLine.{count-is}
 use Rattle.run_errors.specs.declared.Taken.{Taken}
 use Rattle.run_undoing.specs.Dropping as drops
 use Rattle.run_undoing.specs.Dropping.{Falls, gone, begins, Dropped}
-use Rattle.run_advancing.specs.Turns.{told, written, Leaves}
+use Rattle.run_advancing.specs.Turns.{told, written}
 use Rattle.run_advancing.proofs.Answers.{leaves-nothing}
 use Rattle.run_whole.specs.declared.Ended.{Ended}
 use Rattle.run_whole.specs.declared.Walked.{Walked}
-use Rattle.run_whole.specs.Runs.{Begins, Begun, EndsIn, standing, callless, Comes}
+use Rattle.run_whole.specs.Runs.{Begins, Begun, standing, callless, Comes}
 use Rattle.run_whole.specs.Walks.{goes, Halts, stands, falls, Walks, SetsOut, Strikes, Undoes}
 use Rattle.run_whole.proofs.RunBegins.{begin-in}
 use Rattle.run_whole.proofs.Walking.{undoing-gone}
@@ -130,9 +127,9 @@ module _ (text code values out : List ℕ) (base last : ℕ) (st : Strikes text 
   struck-stands = record { i = st .i; here = st .here }
 
   module _ (t : Taken) (dropped : Dropped code values base t) where
-    abbrev All : (i : ℕ) (h : Here code values base i) (rooms : Rooms) (at most : ℕ) → running.Ended
-    All i h rooms at most =
-        undoing (h .P) rooms most (withCalls (dropping (h .P) (callIn (h .P) (h .R) (cellsOf values) (windowOf (h .d)) i ∷ waiting (h .P) (h .R) (cellsOf values) (h .d))) (stateIn (h .P) (h .R) (cellsOf values) (h .d) i at out))
+    -- the state with its calls dropped
+    abbrev struck : (i : ℕ) (h : Here code values base i) (k : ℕ) → State
+    struck i h k = withCalls (dropping (h .P) (callIn (h .P) (h .R) (cellsOf values) (windowOf (h .d)) i ∷ waiting (h .P) (h .R) (cellsOf values) (h .d))) (stateIn (h .P) (h .R) (cellsOf values) (h .d) i k out)
 
     -- no call has one
     module _ (z : t .next ≡ 0) (inputs : List ℕ) (at most : ℕ) where
@@ -161,8 +158,8 @@ module _ (text code values out : List ℕ) (base last : ℕ) (st : Strikes text 
       opens i h k s (gone e b q) = absurd (nz e)
       opens i h k s (begins c g b de lv q) = record { c = c; base-is = b; deep = de; live = lv; state = q }
 
-      abbrev opened : (i : ℕ) (h : Here code values base i) (k : ℕ) → Opens i h k _
-      opened i h k = opens i h k _ (dropped .does i h k out)
+      abbrev opened : (i : ℕ) (h : Here code values base i) (k : ℕ) → Opens i h k (struck i h k)
+      opened i h k = opens i h k (struck i h k) (dropped .does i h k out)
 
       abbrev list-here : (i : ℕ) (h : Here code values base i) (k : ℕ) → Here code values (t .base) (t .next)
       list-here i h k = let o = opened i h k in elsewhere h values (o .c) (t .base) (t .next) refl (o .deep) (o .base-is) (o .live)

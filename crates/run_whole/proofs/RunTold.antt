@@ -1,13 +1,13 @@
 -- What is told of a run that has ended, and what of the lent words the call keeps: it follows from the state that they hold.
-use mathlib.Core.Path.{_≡_, refl, sym, ap, _∙_}
-use mathlib.Core.List.{List, [], map}
+use mathlib.Core.Path.{_≡_, sym, ap, _∙_}
+use mathlib.Core.List.{List, map}
 use Prim.Native.Nat.{ℕ}
 use lib.ListN.{length, getD, take, drop}
 use lib.Seq.{length-take-le}
 use mir.Syntax.{w32}
 use mir.Val.{toZ}
 use Rattle.paper.specs.Steps.{Program}
-use Rattle.paper.specs.States.{State, withCalls}
+use Rattle.paper.specs.States.{State}
 use Rattle.paper.specs.Running as running
 use Rattle.store_cells.specs.Cells.{cellsOf}
 use Rattle.code.specs.Cells.{errnoCell}

@@ -8,12 +8,11 @@ use lib.ListN.{length}
 use mir.Syntax.{w32}
 use mir.Val.{toZ}
 use Rattle.laws.proofs.Tests.{apart}
-use Rattle.paper.specs.Basics.{if_then_else_}
 use Rattle.paper.specs.Steps.{Program}
 use Rattle.paper.specs.States.{State, Rooms, withCalls}
 use Rattle.paper.specs.Running.{nextStep, stepOf, Outcome, goesOn, stopped, takeStep, nextPlace, run}
 use Rattle.paper.specs.Running as running
-use Rattle.paper.specs.Undoing.{undoStep, undoing, aborted}
+use Rattle.paper.specs.Undoing.{undoing, aborted}
 use Rattle.store_cells.specs.Cells.{cellsOf}
 use Rattle.code.specs.Cells.{windowOf, placeAt}
 use Rattle.code.specs.Steps.{Head}
@@ -28,7 +27,7 @@ use Rattle.run_advancing.specs.declared.Machine.{Machine}
 use Rattle.run_advancing.specs.declared.Turn.{Turn}
 use Rattle.run_advancing.specs.declared.Turn.the-variants.{On, Over}
 use Rattle.run_advancing.specs.Turns.{turned, told, madeWith, Turns, on, over, gone, Leaves, Advances}
-use Rattle.run_advancing.proofs.Answers.{told-there, leaves-then, leaves-nothing}
+use Rattle.run_advancing.proofs.Answers.{leaves-then, leaves-nothing}
 use Rattle.run_whole.specs.declared.Walked.{Walked}
 use Rattle.run_whole.specs.Walks.{goes, spentBy, leftWith, Halts, stands, falls, Walks}
 

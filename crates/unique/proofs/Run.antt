@@ -294,6 +294,11 @@ module _ {code values a b : List ℕ} {base : ℕ} {r : ℤ} {t u : Taken} (s : 
   leave-unique = (left-taken (subst (λ (x : List ℕ). Left code values x base r u) (sym (left-store k)) q), left-store k)
 
 -- ---- a whole step
+-- The end that an outcome tells; of a run that goes on nothing but its state.
+endOf : Outcome → running.Ended
+endOf (running.goesOn s) = record { ending = 0; place = 0; state = s }
+endOf (running.stopped counted e) = e
+
 same-writing : {values out a o b p : List ℕ} → Leaves values a out o → Leaves values b out p → take (countIn (cellsOf a)) o ≡ take (countIn (cellsOf b)) p → (o ≡ p) × (countIn (cellsOf a) ≡ countIn (cellsOf b))
 same-writing {out = out} {a = a} {o = o} {b = b} {p = p} x y front =
     let count = same-count (countIn (cellsOf a)) (countIn (cellsOf b)) o p out (omega (arith, x .fits, x .out-long)) (omega (arith, y .fits, y .out-long)) (x .out-long) (y .out-long) front in
@@ -321,7 +326,7 @@ module _ (P : Program) (R : List Head) (d i steps : ℕ) (a o b p : List ℕ) (t
 
   module _ (isAborted : Bool) (offset : ℕ → ℕ) (q : Outcome) where
     turns-unique : Turns isAborted P R offset d i steps (cellsOf a) o q t → Turns isAborted P R offset d i steps (cellsOf b) p q u → OneTurn
-    unfolding stateOf
+    unfolding stateOf endOf
     turns-unique (on e m x de g l f) (on e′ m′ x′ de′ g′ l′ f′) =
         let state : stateIn P R (cellsOf a) e (m .next) (steps + 1) o ≡ stateIn P R (cellsOf b) e′ (m′ .next) (steps + 1) p = ap stateOf (sym f ∙ f′) in
         let depth : e ≡ e′ = same-depth P R (steps + 1) (cellsOf a) (cellsOf b) o p e (m .next) e′ (m′ .next) state in
@@ -333,8 +338,8 @@ module _ (P : Program) (R : List Head) (d i steps : ℕ) (a o b p : List ℕ) (t
     turns-unique (on e m x de g l f) (turns.gone ab x′ f′) = absurd (callless-not P R (steps + 1) (cellsOf b) p (cellsOf a) o e (m .next) (ap stateOf (sym f′ ∙ f)))
     turns-unique (over n k c x l f) (on e′ m′ x′ de′ g′ l′ f′) = apart (cc)
     turns-unique (over n k c x l f) (over n′ k′ c′ x′ l′ f′) =
-        let ending : n ≡ n′ = cc in
-        let place : k ≡ k′ = cc in
+        let ending : n ≡ n′ = ap (λ (y : Outcome). endOf y .ending) (sym f ∙ f′) in
+        let place : k ≡ k′ = ap (λ (y : Outcome). endOf y .place) (sym f ∙ f′) in
         let counts : c ≡ c′ = cc in
         let state : stateIn P R (cellsOf a) d i (madeWith c steps) o ≡ stateIn P R (cellsOf b) d i (madeWith c steps) p = ap stateOf (sym f ∙ f′) ∙ ap (λ (y : Bool). stateIn P R (cellsOf b) d i (madeWith y steps) p) (sym counts) in
         bothOver c (x ∙ ap₂ (λ (y z : ℕ). Over y (told offset y z) c) ending place ∙ ap (Over n′ (told offset n′ k′)) counts ∙ sym x′)
@@ -344,15 +349,16 @@ module _ (P : Program) (R : List Head) (d i steps : ℕ) (a o b p : List ℕ) (t
     turns-unique (turns.gone ab x f) (over n k c x′ l f′) = apart (cc)
     turns-unique (turns.gone ab x f) (turns.gone ab′ x′ f′) = bothGone (x ∙ sym x′) (ap stateOf (sym f ∙ f′))
 
-module _ {text code values inputs out a o b p : List ℕ} {last : ℕ} {m : Machine} {isAborted : Bool} {t u : Turn} (h : Steps text code values out (m .base) last (m .next)) where
-  pub record OneAdvanced : Type 0 where
-    pub answer : t ≡ u
-    pub output : o ≡ p
-    pub turns : (steps : ℕ) → OneTurn (h .here .P) (h .here .R) (h .here .d) (m .next) steps a o b p t u
-    pub store : OneStore a b
+pub record OneAdvanced (P : Program) (R : List Head) (d i : ℕ) (a o b p : List ℕ) (t u : Turn) : Type 0 where
+  pub answer : t ≡ u
+  pub output : o ≡ p
+  pub turns : (steps : ℕ) → OneTurn P R d i steps a o b p t u
+  pub store : OneStore a b
 
-  pub advance-unique : Advances text code values a inputs out o last m isAborted t → Advances text code values b inputs out p last m isAborted u → OneAdvanced
-  advance-unique x y =
+module _ {text code values inputs out a o b p : List ℕ} {last : ℕ} {m : Machine} {isAborted : Bool} {t u : Turn} where
+  pub advance-unique : (h : Steps text code values out (m .base) last (m .next))
+      → Advances text code values a inputs out o last m isAborted t → Advances text code values b inputs out p last m isAborted u → OneAdvanced (h .here .P) (h .here .R) (h .here .d) (m .next) a o b p t u
+  advance-unique h x y =
       let rooms : Rooms = record { depth = h .rooms .depth; output = length out; inputs = map (toZ w32) (cellsOf inputs) } in
       let deep : LastWindow rooms last = record { some = h .deepest .some; most = h .deepest .most; is = h .deepest .is } in
       let lends : Lends rooms inputs out = record { room = refl; reads = refl } in
