@@ -3,3 +3,4 @@ pub mod Walking
 pub mod RunEnds
 pub mod RunAborted
 pub mod RunTold
+pub mod Unique

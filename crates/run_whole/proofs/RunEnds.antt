@@ -70,7 +70,7 @@ module _ (text code values : List ℕ) (h depth : ℕ) where
   out-place b = begin-in code values h (record { text = text; depth = depth; begins = b })
 
   module _ (values₀ : List ℕ) (bg : Begun code values values₀ h) (i₀ : ℕ) (ei : i₀ ≡ placeAt (cellsOf code) h) (last : ℕ) (el : last ≡ windowOf (depth - 1)) where
-    abbrev first-here : Begins text code values h depth → Here code values₀ firstWindow i₀
+    abbrev pub first-here : Begins text code values h depth → Here code values₀ firstWindow i₀
     first-here c = record {
       text = text;
       P = c .P;
@@ -85,8 +85,17 @@ module _ (text code values : List ℕ) (h depth : ℕ) where
       live = subst (Live (c .P) (c .R) (cellsOf values₀) 0) (sym ei) (bg .live text depth c);
     }
 
-    last-of : Begins text code values h depth → (rooms : Rooms) → rooms .depth ≡ depth → LastWindow rooms last
+    pub last-of : Begins text code values h depth → (rooms : Rooms) → rooms .depth ≡ depth → LastWindow rooms last
     last-of c rooms e = record { some = omega (arith, c .some); most = omega (arith, c .most); is = el ∙ sym (ap (λ (n : ℕ). windowOf (n - 1)) e) }
+
+    pub first-state : (b : Begins text code values h depth) (out : List ℕ) → stateIn (b .P) (b .R) (cellsOf values₀) 0 i₀ 0 out ≡ started (b .P) (b .main)
+    first-state b out = ap (λ (j : ℕ). stateIn (b .P) (b .R) (cellsOf values₀) 0 j 0 out) ei ∙ bg .state text depth b out
+
+    -- nothing is written as it begins
+    pub out-leaves : {after out out′ : List ℕ} → Begins text code values h depth → Leaves values₀ after out out′ → Leaves values after out out′
+    out-leaves b l =
+        let zero-count : written values ≡ 0 = no-output b in
+        record { long = l .long ∙ bg .long; out-long = l .out-long; grows = omega arith; fits = l .fits; past = l .past }
 
     alone : Rooms
     alone = record { depth = depth; output = 0; inputs = [] }
@@ -103,17 +112,14 @@ module _ (text code values : List ℕ) (h depth : ℕ) where
 
     pub sets-out : (inputs out after out′ : List ℕ) (steps : ℕ) (w : Walked) → Begins text code values h depth
         → Walks text code values₀ after inputs out out′ last (record { next = i₀; base = firstWindow }) steps false w → SetsOut text code values after inputs out out′ h steps depth w
-    unfolding goes writtenIn
-    sets-out inputs out after out′ steps w b₀ k =
-        let zero-count : written values ≡ 0 = no-output b₀ in
-        record {
-          leaves = record { long = k .leaves .long ∙ bg .long; out-long = k .leaves .out-long; grows = omega arith; fits = k .leaves .fits; past = k .leaves .past };
-          fewer = k .fewer;
-          is = λ b rooms e l.
-              subst (λ (s : State). Halts false (b .P) (b .R) (b .offset) (run (b .P) rooms steps s) (cellsOf after) out′ 0 steps w)
-              (ap (λ (j : ℕ). stateIn (b .P) (b .R) (cellsOf values₀) 0 j 0 out) ei ∙ bg .state text depth b out)
-              (k .is (first-here b) refl rooms (last-of b rooms e) l 0);
-        }
+    unfolding goes
+    sets-out inputs out after out′ steps w b₀ k = record {
+      leaves = out-leaves b₀ (k .leaves);
+      fewer = k .fewer;
+      is = λ b rooms e l.
+          subst (λ (s : State). Halts false (b .P) (b .R) (b .offset) (run (b .P) rooms steps s) (cellsOf after) out′ 0 steps w) (first-state b out)
+          (k .is (first-here b) refl rooms (last-of b rooms e) l 0);
+    }
 
 -- ---- from the first UNDO list on
 module _ (text code values out : List ℕ) (base last : ℕ) (st : Strikes text code values out base last) where

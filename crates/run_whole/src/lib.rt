@@ -38,8 +38,8 @@ pub struct Walked {
     pub left: u32,
 }
 
-// main's window as a run begins: its routine begins at word h
-fn begin<'a>(code: &'a [u8], values: &'a mut [u8], h: usize)
+// main's window as a run begins: its routine begins at word h. Every loop over whole steps begins so, a run and one beside a listing.
+pub fn begin<'a>(code: &'a [u8], values: &'a mut [u8], h: usize)
     requires { ⌜ MayBegin (now code) (now values) h ⌝ }
     ensures { λ _. ⌜ Begun (now (code .entry)) (now (values .entry)) (now (values .exit)) h ⌝ }
 {
@@ -111,7 +111,7 @@ fn walk<'a>(
 }
 
 // The window of the last call that the depth lent admits.
-fn last_window(depth: u32) -> usize
+pub fn last_window(depth: u32) -> usize
     requires { ⌜ (0 < depth) × (depth ≤ depthLimit) ⌝ }
     ensures { λ r. ⌜ r ≡ windowOf (depth - 1) ⌝ }
 {
