@@ -1,0 +1,5 @@
+pub mod Lengths
+pub mod Refusing
+pub mod Modules
+pub mod Whole
+pub mod Unique
