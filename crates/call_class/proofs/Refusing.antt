@@ -40,10 +40,6 @@ module _ (texts lengths : List ℕ) (depth : ℕ) (code values records′ data�
         sym (rw (le-ltb (length (paper.cellsOf code)) storeWords (omega (arith, word-count code)), lt-ltb (length (paper.cellsOf values)) storeWords (omega (arith, word-count values)), classRefusal))
 
     module _ (v : storeBytes ≤ length values) where
-      -- the stores are lent
-      behind-stores : (n : ℕ) → n ≡ classRefusal asked → n ≡ classRefusal asked
-      behind-stores n e = e
-
       pub wrong-depth : true ≡ isBad depth → 2 ≡ classRefusal asked
       unfolding sized classQuestionOf lent
       wrong-depth b =

@@ -4,14 +4,11 @@ use mathlib.Core.List.{List, [], _++_}
 use Prim.Native.Nat.{ℕ}
 use native.Mathlib.Omega.{arith}
 use lib.ListN.{length, drop, replicate}
-use borrow.Author.Tests.{eq-eqb, ne-eqb}
 use Rattle.paper.specs.Answer.{storeWords}
 use Rattle.layout.specs.Named.{storeBytes}
 use Rattle.demands.proofs.Bytes.{whole-words}
-use Rattle.classes.specs.Classes.{ClassLent, lengthsOf, modulesOf, classQuestionOf, addUp, tooMany, tooShort, classRefusal, zeroed, taken, refused, untouched, classCall}
-use Rattle.classes.specs.Lesson.{RefusalsLeave}
-use Rattle.classes.proofs.Taken.{is-taken, stores-lent}
-use Rattle.classes.proofs.Lessons.{refusals-leave}
+use Rattle.classes.specs.Classes.{ClassLent, lengthsOf, modulesOf, classQuestionOf, addUp, tooMany, tooShort, classRefusal, zeroed, taken, refused, untouched}
+use Rattle.classes.proofs.Taken.{is-taken, is-refused, is-untouched, stores-lent}
 use Rattle.store_cells.specs.Cells.{Cleared}
 use Rattle.call_records.specs.Records.{Empties, Emptied}
 use Rattle.call_class.specs.Classes.{lent, Classes}
@@ -35,9 +32,9 @@ module _ (texts lengths : List ℕ) (steps depth : ℕ) (inputs out code values 
     refusal-is = sym (e ∙ same-refusal)
 
     pub class-small : r ≡ 1 → Classes all r out code values records′ data′
-    unfolding lent untouched RefusalsLeave
+    unfolding lent untouched
     class-small o =
-        record { is = (λ i. record { returned = o i; output = out; code = code; values = values; records = records′; module-data = data′ }) ∙ sym (refusals-leave all .one (refusal-is ∙ o)) }
+        record { is = (λ i. record { returned = o i; output = out; code = code; values = values; records = records′; module-data = data′ }) ∙ sym (is-untouched all (refusal-is ∙ o)) }
 
     pub class-accepts : r ≡ 0 → Accepts all
     class-accepts z = record { taken = refusal-is ∙ z }
@@ -51,13 +48,13 @@ module _ (texts lengths : List ℕ) (steps depth : ℕ) (inputs out code values 
           record { code-room = omega (arith, a, c, whole-words code); values-room = omega (arith, b, v, whole-words values); few = omega arith }
 
       pub class-refused : (r ≡ 0 → ⊥) → (code₂ values₂ : List ℕ) → Emptied code values code₂ values₂ 0 → Classes all r out code₂ values₂ records′ data′
-      unfolding lent refused RefusalsLeave
+      unfolding lent refused
       class-refused z code₂ values₂ m =
           let c = cleared-is code code₂ (m .code-cleared) in
           let v = cleared-is values values₂ (m .values-cleared) in
           record {
             is = (λ i. record { returned = r; output = out; code = c i; values = v i; records = records′; module-data = data′ })
-                ∙ sym (refusals-leave all .others (λ o. z (sym refusal-is ∙ o)) (λ o. n (sym refusal-is ∙ o)) ∙ ap (refused all) refusal-is);
+                ∙ sym (is-refused all (λ o. z (sym refusal-is ∙ o)) (λ o. n (sym refusal-is ∙ o)) ∙ ap (refused all) refusal-is);
           }
 
     pub class-taken : r ≡ 0 → (out₁ code₁ values₁ records₁ data₁ code₂ values₂ : List ℕ) → Reached all (length (lengthsOf lengths)) out₁ code₁ values₁ records₁ data₁ → Emptied code₁ values₁ code₂ values₂ 0

@@ -5,22 +5,27 @@ use mathlib.Core.List.{List, [], _++_}
 use Prim.Native.Nat.{ℕ, suc, _*_, _≤_, _<_}
 use native.Mathlib.Nat.{mul-comm, div-mul-le-self}
 use native.Mathlib.Omega.{arith}
-use lib.ListN.{length, take, drop}
+use lib.ListN.{length, take, drop, replicate, length-replicate}
 use lib.Seq.{take-at, drop-at}
-use borrow.Author.Tests.{eq-eqb, ne-eqb}
+use lib.Dec.{eqb}
+use borrow.Author.Tests.{eqb-true, eqb-false}
+use Rattle.laws.proofs.Tests.{test, by-same, apart}
 use Rattle.paper.specs.Undoing.{plainly}
-use Rattle.paper.specs.Answer.{recordSize, Verdict, verdict, Question, Result, carriedOut, recordBytes, bytesOf, storeAfter, cellsOf}
+use Rattle.paper.specs.Answer.{storeWords, recordSize, verdict, Question, Result, carriedOut, recordBytes, bytesOf, storeAfter, cellsOf}
 use Rattle.demands.proofs.Bytes.{whole-words}
 use Rattle.classes.specs.Classes.{shareOf, askedAlone, classRefusal, ClassLent, ClassAnswer, lengthsOf, modulesOf, classQuestionOf, shareIn, part, single, dataBytes, outputOf, recordOf, dataOf, filled, zeroed, taken, refused, untouched, classCall}
-use Rattle.classes.specs.Lesson.{refusalIn, textAt, outputAfter, recordAfter, dataAfter, countOf, Alone, ModuleAlone, Else, ElseUntouched, Agree, SamePart, NeverChangesAnother, Refusals, RefusalsLeave}
+use Rattle.classes.specs.Lesson.{refusalIn, textAt, outputAfter, recordAfter, dataAfter, countOf, Alone, ModuleAlone, Zeros, Else, ElseUntouched, Agree, SamePart, NeverChangesAnother, ListsKept, RefusalsLeave}
 use Rattle.classes.proofs.Orders.{filled-part, filled-past, filled-length}
-use Rattle.classes.proofs.Taken.{good, is-taken}
+use Rattle.classes.proofs.Taken.{good, is-taken, is-refused, is-untouched}
 use Rattle.classes.proofs.Singles as singles
 
-module _ (l : ClassLent) (e : refusalIn l ≡ 0) where
-  n : ℕ
-  n = modulesOf l
+zeroed-zeros : (store : List ℕ) → Zeros store (zeroed store)
+unfolding zeroed
+zeroed-zeros store =
+    let z = length-replicate {A = ℕ} (4 * storeWords) 0 in
+    record { zeros = take-at (replicate (4 * storeWords) 0) (drop (4 * storeWords) store) (4 * storeWords) z; past = drop-at (replicate (4 * storeWords) 0) (drop (4 * storeWords) store) (4 * storeWords) z }
 
+module _ (l : ClassLent) (e : refusalIn l ≡ 0) where
   outputs : (i : ℕ) → i < modulesOf l → length (outputOf l i) ≡ shareIn l
   outputs = singles.output-long l e
 
@@ -93,8 +98,8 @@ module _ (l : ClassLent) (e : refusalIn l ≡ 0) where
             (omega (arith, mul-comm (modulesOf l) (shareIn l), div-mul-le-self (length (l .output)) (modulesOf l)));
         records-length = ap length records-now ∙ filled-length (recordOf l) recordSize (modulesOf l) (l .records) records (omega (arith, g .records-room));
         data-length = ap length data-now ∙ filled-length (dataOf l) dataBytes (modulesOf l) (l .module-data) datas (omega (arith, g .data-room, whole-words (l .module-data)));
-        code = ap (λ (a : ClassAnswer). a .code) (is-taken l e);
-        values = ap (λ (a : ClassAnswer). a .values) (is-taken l e);
+        code = rw (is-taken l e) (zeroed-zeros (l .code));
+        values = rw (is-taken l e) (zeroed-zeros (l .values));
       }
 
 pub module-alone : ModuleAlone
@@ -129,13 +134,31 @@ unfolding NeverChangesAnother
 never-changes-another l m p q i j h k a = same l m p q i j h k a
 
 pub refusals-leave : RefusalsLeave
-unfolding RefusalsLeave classCall
+unfolding RefusalsLeave untouched refused taken
 refusals-leave l =
-    record {
-      one = λ e. by-one l (refusalIn l) e;
-      others = λ z o. rw (ne-eqb (refusalIn l) 0 z, classCall) (rw (ne-eqb (refusalIn l) 1 o));
-    }
-  where
-    by-one : (l : ClassLent) (n : ℕ) → refusalIn l ≡ 1 → classCall l ≡ untouched l
-    unfolding classCall
-    by-one l n e = rw (e, classCall)
+    test (eqb (refusalIn l) 0)
+    (λ t.
+      let z = eqb-true (refusalIn l) 0 t in
+      let c = is-taken l z in
+      record {
+        kept = λ n. absurd (n z);
+        one = λ o. apart (sym z ∙ o);
+        others = λ n. (rw c (zeroed-zeros (l .code)), rw c (zeroed-zeros (l .values)));
+      })
+    (λ f.
+      let n = eqb-false (refusalIn l) 0 f in
+      by-same (refusalIn l) 1
+      (λ o.
+        let c = is-untouched l o in
+        record {
+          kept = λ z. record { returned = ap (λ (a : ClassAnswer). a .returned) c ∙ sym o; output = ap (λ (a : ClassAnswer). a .output) c; records = ap (λ (a : ClassAnswer). a .records) c; module-data = ap (λ (a : ClassAnswer). a .module-data) c };
+          one = λ z. (ap (λ (a : ClassAnswer). a .code) c, ap (λ (a : ClassAnswer). a .values) c);
+          others = λ m. absurd (m o);
+        })
+      (λ m.
+        let c = is-refused l n m in
+        record {
+          kept = λ z. record { returned = ap (λ (a : ClassAnswer). a .returned) c; output = ap (λ (a : ClassAnswer). a .output) c; records = ap (λ (a : ClassAnswer). a .records) c; module-data = ap (λ (a : ClassAnswer). a .module-data) c };
+          one = λ o. absurd (m o);
+          others = λ z. (rw c (zeroed-zeros (l .code)), rw c (zeroed-zeros (l .values)));
+        }))

@@ -6,11 +6,11 @@ use Prim.Native.Nat.{ℕ, suc, _*_, _≤_, _<_}
 use native.Mathlib.Omega.{arith}
 use lib.Dec.{eqb, ltb}
 use lib.ListN.{length}
-use borrow.Author.Tests.{eqb-true, eqb-false, ltb-false, eq-eqb}
+use borrow.Author.Tests.{eqb-true, eqb-false, ltb-false, eq-eqb, ne-eqb}
 use Rattle.laws.proofs.Tests.{test, apart, false-true}
 use Rattle.paper.specs.Declarations.{moduleWordLimit}
 use Rattle.paper.specs.Answer.{storeWords, depthLimit}
-use Rattle.classes.specs.Classes.{ClassQuestion, sum, recordWords, classLimit, addUp, tooMany, tooShort, classRefusal, ClassLent, classQuestionOf, taken, classCall}
+use Rattle.classes.specs.Classes.{ClassQuestion, sum, recordWords, classLimit, addUp, tooMany, tooShort, classRefusal, ClassLent, classQuestionOf, taken, refused, untouched, classCall}
 
 pub record Good (q : ClassQuestion) : Type 0 where
   pub code-room : storeWords ≤ q .code
@@ -75,6 +75,14 @@ good q e =
 pub is-taken : (l : ClassLent) → classRefusal (classQuestionOf l) ≡ 0 → classCall l ≡ taken l
 unfolding classCall
 is-taken l e = rw (eq-eqb (classRefusal (classQuestionOf l)) 0 e, classCall)
+
+pub is-untouched : (l : ClassLent) → classRefusal (classQuestionOf l) ≡ 1 → classCall l ≡ untouched l
+unfolding classCall
+is-untouched l e = rw (e, classCall)
+
+pub is-refused : (l : ClassLent) → (classRefusal (classQuestionOf l) ≡ 0 → ⊥) → (classRefusal (classQuestionOf l) ≡ 1 → ⊥) → classCall l ≡ refused l (classRefusal (classQuestionOf l))
+unfolding classCall
+is-refused l z o = rw (ne-eqb (classRefusal (classQuestionOf l)) 0 z, classCall) (rw (ne-eqb (classRefusal (classQuestionOf l)) 1 o))
 
 -- One that is not refused by 1 has both stores.
 pub stores-lent : (q : ClassQuestion) → (classRefusal q ≡ 1 → ⊥) → (storeWords ≤ q .code) × (storeWords ≤ q .values)

@@ -1,11 +1,10 @@
 -- What the request says of every class.
 use mathlib.Core.Path.{_≡_}
-use mathlib.Core.Bool.{true, false}
 use mathlib.Core.List.{List}
 use Prim.Native.Nat.{ℕ, _*_, _<_}
-use lib.ListN.{length, take, drop}
-use Rattle.paper.specs.Answer.{recordSize, result}
-use Rattle.classes.specs.Classes.{askedAlone, addUp, tooMany, tooShort, classRefusal, ClassQuestion, ClassLent, lengthsOf, modulesOf, classQuestionOf, textIn, shareIn, part, single, dataBytes, zeroed, refused, untouched, classCall}
+use lib.ListN.{length, take, drop, replicate}
+use Rattle.paper.specs.Answer.{storeWords, recordSize, result}
+use Rattle.classes.specs.Classes.{askedAlone, classRefusal, ClassLent, ClassAnswer, lengthsOf, modulesOf, classQuestionOf, textIn, shareIn, part, single, dataBytes, classCall}
 
 abbrev pub refusalIn : ClassLent → ℕ
 refusalIn l = classRefusal (classQuestionOf l)
@@ -39,6 +38,11 @@ unfoldable pub ModuleAlone : Type 0
 ModuleAlone = (l : ClassLent) → refusalIn l ≡ 0 → (i : ℕ) → i < modulesOf l → Alone l i
 
 -- ---- "all else untouched; the stores end as zeros, even with no modules"
+-- A store is zeros up to 16,384 words, and beyond as it was.
+pub record Zeros (before after : List ℕ) : Type 0 where
+  pub zeros : take (4 * storeWords) after ≡ replicate (4 * storeWords) 0
+  pub past : drop (4 * storeWords) after ≡ drop (4 * storeWords) before
+
 pub record Else (l : ClassLent) : Type 0 where
   pub returned : classCall l .returned ≡ 0
   -- of a share what lies past the module's count
@@ -50,8 +54,8 @@ pub record Else (l : ClassLent) : Type 0 where
   pub output-length : length (classCall l .output) ≡ length (l .output)
   pub records-length : length (classCall l .records) ≡ length (l .records)
   pub data-length : length (classCall l .module-data) ≡ length (l .module-data)
-  pub code : classCall l .code ≡ zeroed (l .code)
-  pub values : classCall l .values ≡ zeroed (l .values)
+  pub code : Zeros (l .code) (classCall l .code)
+  pub values : Zeros (l .values) (classCall l .values)
 
 unfoldable pub ElseUntouched : Type 0
 ElseUntouched = (l : ClassLent) → refusalIn l ≡ 0 → Else l
@@ -76,9 +80,18 @@ unfoldable pub NeverChangesAnother : Type 0
 NeverChangesAnother = (l m : ClassLent) → refusalIn l ≡ 0 → refusalIn m ≡ 0 → (i j : ℕ) → i < modulesOf l → j < modulesOf m → Agree l m i j → SamePart l m i j
 
 -- ---- "Refusals: 20 [..], 21 [..], 27 [..], in this order after 2, offset 0; these and 2 leave output and lists untouched and zero the stores"
-pub record Refusals (l : ClassLent) : Type 0 where
-  pub one : refusalIn l ≡ 1 → classCall l ≡ untouched l
-  pub others : ¬ (refusalIn l ≡ 0) → ¬ (refusalIn l ≡ 1) → classCall l ≡ refused l (refusalIn l)
+-- Output and lists are as they were, whatever the refusal is.
+pub record ListsKept (l : ClassLent) (a : ClassAnswer) : Type 0 where
+  pub returned : a .returned ≡ refusalIn l
+  pub output : a .output ≡ l .output
+  pub records : a .records ≡ l .records
+  pub module-data : a .module-data ≡ l .module-data
+
+pub record Refusals (l : ClassLent) (a : ClassAnswer) : Type 0 where
+  pub kept : ¬ (refusalIn l ≡ 0) → ListsKept l a
+  -- 1 leaves the stores as they were
+  pub one : refusalIn l ≡ 1 → (a .code ≡ l .code) × (a .values ≡ l .values)
+  pub others : ¬ (refusalIn l ≡ 1) → Zeros (l .code) (a .code) × Zeros (l .values) (a .values)
 
 unfoldable pub RefusalsLeave : Type 0
-RefusalsLeave = (l : ClassLent) → Refusals l
+RefusalsLeave = (l : ClassLent) → Refusals l (classCall l)
