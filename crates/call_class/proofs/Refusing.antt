@@ -29,52 +29,64 @@ module _ (texts lengths : List ℕ) (depth : ℕ) (code values records′ data�
   abbrev asked : ClassQuestion
   asked = sized texts lengths depth code values records′ data′
 
+  -- how many modules
+  abbrev n : ℕ
+  n = length (lengthsOf lengths)
+
+  counted : n ≡ length lengths / 4
+  counted = count-lengths lengths
+
   pub small-code : length code < storeBytes → 1 ≡ classRefusal asked
   unfolding sized classQuestionOf lent
   small-code h = sym (rw (lt-ltb (length (paper.cellsOf code)) storeWords (omega (arith, word-count code)), classRefusal))
 
   module _ (c : storeBytes ≤ length code) where
+    code-lent : ltb (length (paper.cellsOf code)) storeWords ≡ false
+    code-lent = le-ltb (length (paper.cellsOf code)) storeWords (omega (arith, word-count code))
+
     pub small-values : length values < storeBytes → 1 ≡ classRefusal asked
     unfolding sized classQuestionOf lent
-    small-values h =
-        sym (rw (le-ltb (length (paper.cellsOf code)) storeWords (omega (arith, word-count code)), lt-ltb (length (paper.cellsOf values)) storeWords (omega (arith, word-count values)), classRefusal))
+    small-values h = sym (rw (code-lent, lt-ltb (length (paper.cellsOf values)) storeWords (omega (arith, word-count values)), classRefusal))
 
     module _ (v : storeBytes ≤ length values) where
+      values-lent : ltb (length (paper.cellsOf values)) storeWords ≡ false
+      values-lent = le-ltb (length (paper.cellsOf values)) storeWords (omega (arith, word-count values))
+
       pub wrong-depth : true ≡ isBad depth → 2 ≡ classRefusal asked
       unfolding sized classQuestionOf lent
-      wrong-depth b =
-          sym (rw (le-ltb (length (paper.cellsOf code)) storeWords (omega (arith, word-count code)), le-ltb (length (paper.cellsOf values)) storeWords (omega (arith, word-count values)), classRefusal) (rw (sym b)))
+      wrong-depth b = sym (rw (code-lent, values-lent, classRefusal) (rw (sym b)))
 
       module _ (b : false ≡ isBad depth) where
         pub not-adding : false ≡ eqb (sum (lengthsOf lengths)) (length texts) → 20 ≡ classRefusal asked
         unfolding sized classQuestionOf lent addUp
-        not-adding a =
-            sym (rw (le-ltb (length (paper.cellsOf code)) storeWords (omega (arith, word-count code)), le-ltb (length (paper.cellsOf values)) storeWords (omega (arith, word-count values)), classRefusal) (rw (sym b) (rw (sym a))))
+        not-adding a = sym (rw (code-lent, values-lent, classRefusal) (rw (sym b) (rw (sym a))))
 
         module _ (a : true ≡ eqb (sum (lengthsOf lengths)) (length texts)) where
           -- what is left of the tests
           lists : classRefusal asked ≡ elim (tooMany asked) [ true ↦ 21 | false ↦ elim (tooShort asked) [ true ↦ 27 | false ↦ 0 ] ]
           unfolding sized classQuestionOf lent addUp
-          lists =
-              rw (le-ltb (length (paper.cellsOf code)) storeWords (omega (arith, word-count code)), le-ltb (length (paper.cellsOf values)) storeWords (omega (arith, word-count values)), classRefusal) (rw (sym b) (rw (sym a)))
+          lists = rw (code-lent, values-lent, classRefusal) (rw (sym b) (rw (sym a)))
 
           pub too-many : classLimit < length lengths / 4 → 21 ≡ classRefusal asked
           unfolding sized classQuestionOf lent tooMany
-          too-many h = sym (lists ∙ rw (lt-ltb classLimit (length (lengthsOf lengths)) (omega (arith, count-lengths lengths))))
+          too-many h = sym (lists ∙ rw (lt-ltb classLimit n (omega (arith, counted))))
 
           module _ (m : length lengths / 4 ≤ classLimit) where
+            few : ltb classLimit n ≡ false
+            few = le-ltb classLimit n (omega (arith, counted))
+
             pub short-records : length records′ < recordSize * (length lengths / 4) → 27 ≡ classRefusal asked
             unfolding sized classQuestionOf lent tooMany tooShort
-            short-records h =
-                sym (lists ∙ rw (le-ltb classLimit (length (lengthsOf lengths)) (omega (arith, count-lengths lengths)), lt-ltb (length records′ / 8) (recordWords * length (lengthsOf lengths)) (omega (arith, count-lengths lengths))))
+            short-records h = sym (lists ∙ rw (few, lt-ltb (length records′ / 8) (recordWords * n) (omega (arith, counted))))
 
             module _ (r : recordSize * (length lengths / 4) ≤ length records′) where
+              records-lent : ltb (length records′ / 8) (recordWords * n) ≡ false
+              records-lent = le-ltb (length records′ / 8) (recordWords * n) (omega (arith, counted))
+
               pub short-data : length data′ < dataBytes * (length lengths / 4) → 27 ≡ classRefusal asked
               unfolding sized classQuestionOf lent tooMany tooShort
-              short-data h =
-                  sym (lists ∙ rw (le-ltb classLimit (length (lengthsOf lengths)) (omega (arith, count-lengths lengths)), le-ltb (length records′ / 8) (recordWords * length (lengthsOf lengths)) (omega (arith, count-lengths lengths)), lt-ltb (length (paper.cellsOf data′)) (moduleWordLimit * length (lengthsOf lengths)) (omega (arith, count-lengths lengths, word-count data′))))
+              short-data h = sym (lists ∙ rw (few, records-lent, lt-ltb (length (paper.cellsOf data′)) (moduleWordLimit * n) (omega (arith, counted, word-count data′))))
 
               pub not-refused : dataBytes * (length lengths / 4) ≤ length data′ → 0 ≡ classRefusal asked
               unfolding sized classQuestionOf lent tooMany tooShort
-              not-refused h =
-                  sym (lists ∙ rw (le-ltb classLimit (length (lengthsOf lengths)) (omega (arith, count-lengths lengths)), le-ltb (length records′ / 8) (recordWords * length (lengthsOf lengths)) (omega (arith, count-lengths lengths)), le-ltb (length (paper.cellsOf data′)) (moduleWordLimit * length (lengthsOf lengths)) (omega (arith, count-lengths lengths, word-count data′))))
+              not-refused h = sym (lists ∙ rw (few, records-lent, le-ltb (length (paper.cellsOf data′)) (moduleWordLimit * n) (omega (arith, counted, word-count data′))))

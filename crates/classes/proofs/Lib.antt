@@ -3,3 +3,4 @@ pub mod Taken
 pub mod Singles
 pub mod Lessons
 pub mod Rows
+pub mod Instances

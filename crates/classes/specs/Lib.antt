@@ -3,3 +3,4 @@ pub mod Classes
 pub mod Computing
 pub mod Rows
 pub mod Lesson
+pub mod Instances
