@@ -104,6 +104,10 @@ module _ (l : ClassLent) (e : classRefusal (classQuestionOf l) ≡ 0) where
     pub count-written : R .fields .output ≡ length (R .written)
     count-written = ap (λ (r : Result). r .fields .output) result-is ∙ count-is Q (verdict (textAt l i)) ∙ ap (λ (r : Result). length (r .written)) (sym result-is)
 
+    not-small : tooSmall (askedAlone (classQuestionOf l) i) ≡ false
+    unfolding tooSmall askedAlone
+    not-small = rw (le-ltb (classQuestionOf l .code) storeWords (g .code-room), le-ltb (classQuestionOf l .values) storeWords (g .values-room))
+
     answered : answer (lentOf (alone l i))
         ≡ record { fields = R .fields; output = R .written ++ drop (length (R .written)) (part (shareIn l) i (l .output)); code = storeAfter [] (cellsOf (l .code)); values = storeAfter (R .kept) (cellsOf (l .values)) }
     unfolding answer lentOf alone
@@ -111,10 +115,6 @@ module _ (l : ClassLent) (e : classRefusal (classQuestionOf l) ≡ 0) where
         let t : tooSmall (questionOf (lentOf (alone l i))) ≡ false = ap tooSmall same-question ∙ not-small in
         let r : result (questionOf (lentOf (alone l i))) ≡ R = ap result same-question in
         rw (t, answer) (rw r)
-      where
-        not-small : tooSmall (askedAlone (classQuestionOf l) i) ≡ false
-        unfolding tooSmall askedAlone
-        not-small = rw (le-ltb (classQuestionOf l .code) storeWords (g .code-room), le-ltb (classQuestionOf l .values) storeWords (g .values-room))
 
     made : single l i ≡ spread (answer (lentOf (alone l i))) (alone l i)
     unfolding single pendantCall alone

@@ -78,7 +78,7 @@ is-taken l e = rw (eq-eqb (classRefusal (classQuestionOf l)) 0 e, classCall)
 
 pub is-untouched : (l : ClassLent) → classRefusal (classQuestionOf l) ≡ 1 → classCall l ≡ untouched l
 unfolding classCall
-is-untouched l e = rw (e, classCall)
+is-untouched l e = rw (e, classCall) (rw e)
 
 pub is-refused : (l : ClassLent) → (classRefusal (classQuestionOf l) ≡ 0 → ⊥) → (classRefusal (classQuestionOf l) ≡ 1 → ⊥) → classCall l ≡ refused l (classRefusal (classQuestionOf l))
 unfolding classCall

@@ -134,7 +134,7 @@ lengthsOf [] = []
 lengthsOf (a ∷ []) = []
 lengthsOf (a ∷ b ∷ []) = []
 lengthsOf (a ∷ b ∷ c ∷ []) = []
-lengthsOf (a ∷ b ∷ c ∷ d ∷ r) = a + 256 * b + 65536 * c + 16777216 * d ∷ lengthsOf r
+lengthsOf (a ∷ b ∷ c ∷ d ∷ r) = (a + 256 * b + 65536 * c + 16777216 * d) ∷ lengthsOf r
 
 unfoldable pub modulesOf : ClassLent → ℕ
 modulesOf l = length (lengthsOf (l .lengths))
