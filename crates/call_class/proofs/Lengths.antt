@@ -6,12 +6,16 @@ use Prim.Native.Nat.{ℕ, zero, suc, _+_, _-_, _*_, _/_, _≤_, _<_}
 use native.Mathlib.Numerals.{add-one}
 use native.Mathlib.Omega.{arith}
 use lib.Dec.{eqb}
-use lib.ListN.{length, getD, take}
+use lib.ListN.{length, getD, take, length-map}
 use lib.Seq.{take-suc, take-length}
+use mir.Syntax.{w32}
+use mir.Val.{toZ}
 use borrow.Author.Tests.{eq-eqb, ne-eqb}
 use Rattle.laws.proofs.Tests.{by-same}
+use Rattle.paper.specs.Answer as paper
 use Rattle.store_cells.specs.Cells.{cellsOf, Got}
 use Rattle.store_cells.proofs.Laws.{length-words}
+use Rattle.store_cells.proofs.Paper.{words-paper}
 use Rattle.classes.specs.Classes.{sum, lengthsOf}
 
 pub lengths-cells : (b : List ℕ) → lengthsOf b ≡ cellsOf b
@@ -20,15 +24,19 @@ lengths-cells [] = refl
 lengths-cells (a ∷ []) = refl
 lengths-cells (a ∷ b ∷ []) = refl
 lengths-cells (a ∷ b ∷ c ∷ []) = refl
-lengths-cells (a ∷ b ∷ c ∷ d ∷ r) = ap (λ (x : List ℕ). a + 256 * b + 65536 * c + 16777216 * d ∷ x) (lengths-cells r)
+lengths-cells (a ∷ b ∷ c ∷ d ∷ r) = ap (λ (x : List ℕ). (a + 256 * b + 65536 * c + 16777216 * d) ∷ x) (lengths-cells r)
 
 pub count-lengths : (b : List ℕ) → length (lengthsOf b) ≡ length b / 4
 count-lengths b = ap length (lengths-cells b) ∙ length-words b
 
+-- how many words bytes are
+pub word-count : (l : List ℕ) → length (paper.cellsOf l) ≡ length l / 4
+word-count l = ap length (words-paper l) ∙ length-map (cellsOf l) (toZ w32) ∙ length-words l
+
 -- ---- sums
 sum-append : (a b : List ℕ) → sum (a ++ b) ≡ sum a + sum b
 unfolding sum
-sum-append [] b = refl
+sum-append [] b = omega arith
 sum-append (n ∷ a) b = omega (arith, sum-append a b)
 
 pub sum-next : (l : List ℕ) (i : ℕ) → i < length l → sum (take (suc i) l) ≡ sum (take i l) + getD l i 0

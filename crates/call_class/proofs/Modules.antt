@@ -2,6 +2,7 @@
 use mathlib.Core.Path.{_≡_, refl, sym, ap, ap₂, _∙_}
 use mathlib.Core.List.{List, [], _++_, append-assoc, append-nil}
 use Prim.Native.Nat.{ℕ, zero, suc, _+_, _-_, _*_, _/_, _≤_, _<_}
+use native.Mathlib.Nat.{zero-mul}
 use native.Mathlib.Numerals.{add-one}
 use native.Mathlib.Omega.{arith}
 use lib.ListN.{length, getD, take, drop, length-append}
@@ -14,7 +15,6 @@ use Rattle.paper.specs.Answer as paper
 use Rattle.paper.specs.Answer.{recordSize, Result, recordBytes, bytesOf, storeAfter, bytesAfter, carriedOut, verdict}
 use Rattle.store_cells.specs.Cells.{Got}
 use Rattle.layout.specs.Named.{storeBytes}
-use Rattle.demands.proofs.Bytes.{length-record, whole-words}
 use Rattle.classes.specs.Classes.{sum, textIn, lengthsOf, shareOf, ClassLent, modulesOf, classQuestionOf, classRefusal, shareIn, part, dataBytes, outputOf, recordOf, dataOf, inOrder, filled}
 use Rattle.classes.specs.Lesson.{textAt}
 use Rattle.classes.proofs.Orders.{filled-here, filled-next, filled-length}
@@ -26,7 +26,7 @@ use Rattle.call_records.proofs.Stores.{AllBytes, left-bytes}
 use Rattle.call_judging.specs.Carries.{put}
 use Rattle.call_class.specs.Classes.{lent}
 use Rattle.call_class.specs.Parts.{Takes, Carries, Carried, Accepts, Reached}
-use Rattle.call_class.proofs.Lengths.{lengths-cells, count-lengths, sum-next, sum-most}
+use Rattle.call_class.proofs.Lengths.{lengths-cells, word-count, sum-next, sum-most}
 
 -- ---- a part that was lent, and is back
 part-back : (l m : List ℕ) (a k : ℕ) → putMid a k l m ≡ replaced l a m k
@@ -74,7 +74,7 @@ pub record Going (l : ClassLent) (at i : ℕ) (out code values records′ data�
 
 pub none-yet : (l : ClassLent) → Reached l 0 (l .output) (l .code) (l .values) (l .records) (l .module-data)
 unfolding filled inOrder
-none-yet l = record { output = refl; records = refl; module-data = refl; code-past = refl; values-past = refl }
+none-yet l = record { output = sym (ap (λ (k : ℕ). drop k (l .output)) (zero-mul (shareIn l))); records = refl; module-data = refl; code-past = refl; values-past = refl }
 
 pub going-start : (l : ClassLent) → Going l 0 0 (l .output) (l .code) (l .values) (l .records) (l .module-data)
 unfolding sum
@@ -110,8 +110,8 @@ module _ (l : ClassLent) (a : Accepts l) where
     carries =
         record {
           out-room = rw w (omega (arith, s .out-long, singles.output-room l (a .taken) i h));
-          code-room = omega (arith, s .code-long, g .code-room, whole-words (l .code));
-          values-room = omega (arith, s .values-long, g .values-room, whole-words (l .values));
+          code-room = omega (arith, s .code-long, g .code-room, word-count (l .code));
+          values-room = omega (arith, s .values-long, g .values-room, word-count (l .values));
           records-room = omega (arith, s .records-long, singles.records-room l (a .taken) i h);
           data-room = omega (arith, s .data-long, singles.data-room l (a .taken) i h);
           some = g .some;

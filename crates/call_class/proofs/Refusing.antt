@@ -5,25 +5,17 @@ use mathlib.Core.List.{List, []}
 use Prim.Native.Nat.{ℕ, _*_, _/_, _≤_, _<_}
 use native.Mathlib.Omega.{arith}
 use lib.Dec.{eqb, ltb}
-use lib.ListN.{length, length-map}
-use mir.Syntax.{w32}
-use mir.Val.{toZ}
-use borrow.Author.Tests.{lt-ltb, le-ltb}
+use lib.ListN.{length}
+use borrow.Author.Tests.{lt-ltb, le-ltb, not-true, not-false}
 use Rattle.paper.specs.Answer as paper
 use Rattle.paper.specs.Answer.{storeWords, recordSize}
 use Rattle.paper.specs.Declarations.{moduleWordLimit}
-use Rattle.store_cells.specs.Cells.{cellsOf}
-use Rattle.store_cells.proofs.Laws.{length-words}
-use Rattle.store_cells.proofs.Paper.{words-paper}
 use Rattle.layout.specs.Named.{storeBytes}
 use Rattle.classes.specs.Classes.{sum, lengthsOf, classLimit, recordWords, dataBytes, ClassQuestion, classQuestionOf, addUp, tooMany, tooShort, classRefusal}
 use Rattle.call_records.proofs.Depths.{isBad}
 use Rattle.call_class.specs.Classes.{lent}
 use Rattle.call_class.specs.Parts.{sized}
-use Rattle.call_class.proofs.Lengths.{count-lengths}
-
-pub word-count : (l : List ℕ) → length (paper.cellsOf l) ≡ length l / 4
-word-count l = ap length (words-paper l) ∙ length-map (cellsOf l) (toZ w32) ∙ length-words l
+use Rattle.call_class.proofs.Lengths.{count-lengths, word-count}
 
 module _ (texts lengths : List ℕ) (depth : ℕ) (code values records′ data′ : List ℕ) where
   abbrev asked : ClassQuestion
@@ -37,7 +29,7 @@ module _ (texts lengths : List ℕ) (depth : ℕ) (code values records′ data�
   counted = count-lengths lengths
 
   pub small-code : length code < storeBytes → 1 ≡ classRefusal asked
-  unfolding sized classQuestionOf lent
+  unfolding sized classQuestionOf lent classRefusal
   small-code h = sym (rw (lt-ltb (length (paper.cellsOf code)) storeWords (omega (arith, word-count code)), classRefusal))
 
   module _ (c : storeBytes ≤ length code) where
@@ -45,27 +37,27 @@ module _ (texts lengths : List ℕ) (depth : ℕ) (code values records′ data�
     code-lent = le-ltb (length (paper.cellsOf code)) storeWords (omega (arith, word-count code))
 
     pub small-values : length values < storeBytes → 1 ≡ classRefusal asked
-    unfolding sized classQuestionOf lent
+    unfolding sized classQuestionOf lent classRefusal
     small-values h = sym (rw (code-lent, lt-ltb (length (paper.cellsOf values)) storeWords (omega (arith, word-count values)), classRefusal))
 
     module _ (v : storeBytes ≤ length values) where
       values-lent : ltb (length (paper.cellsOf values)) storeWords ≡ false
       values-lent = le-ltb (length (paper.cellsOf values)) storeWords (omega (arith, word-count values))
 
-      pub wrong-depth : true ≡ isBad depth → 2 ≡ classRefusal asked
-      unfolding sized classQuestionOf lent
-      wrong-depth b = sym (rw (code-lent, values-lent, classRefusal) (rw (sym b)))
+      pub wrong-depth : (d : Bool) → d ≡ isBad depth → d ≡ true → 2 ≡ classRefusal asked
+      unfolding sized classQuestionOf lent classRefusal
+      wrong-depth d b t = sym (rw (code-lent, values-lent, classRefusal) (rw (sym b ∙ t)))
 
-      module _ (b : false ≡ isBad depth) where
-        pub not-adding : false ≡ eqb (sum (lengthsOf lengths)) (length texts) → 20 ≡ classRefusal asked
-        unfolding sized classQuestionOf lent addUp
-        not-adding a = sym (rw (code-lent, values-lent, classRefusal) (rw (sym b) (rw (sym a))))
+      module _ (d : Bool) (is-bad : d ≡ isBad depth) (good-depth : d ≡ false) where
+        pub not-adding : (t : Bool) → t ≡ eqb (sum (lengthsOf lengths)) (length texts) → not t ≡ true → 20 ≡ classRefusal asked
+        unfolding sized classQuestionOf lent addUp classRefusal
+        not-adding t a f = sym (rw (code-lent, values-lent, classRefusal) (rw (sym is-bad ∙ good-depth) (rw (sym a ∙ not-true t f))))
 
-        module _ (a : true ≡ eqb (sum (lengthsOf lengths)) (length texts)) where
+        module _ (t : Bool) (adds : t ≡ eqb (sum (lengthsOf lengths)) (length texts)) (met : not t ≡ false) where
           -- what is left of the tests
           lists : classRefusal asked ≡ elim (tooMany asked) [ true ↦ 21 | false ↦ elim (tooShort asked) [ true ↦ 27 | false ↦ 0 ] ]
-          unfolding sized classQuestionOf lent addUp
-          lists = rw (code-lent, values-lent, classRefusal) (rw (sym b) (rw (sym a)))
+          unfolding sized classQuestionOf lent addUp classRefusal
+          lists = rw (code-lent, values-lent, classRefusal) (rw (sym is-bad ∙ good-depth) (rw (sym adds ∙ not-false t met)))
 
           pub too-many : classLimit < length lengths / 4 → 21 ≡ classRefusal asked
           unfolding sized classQuestionOf lent tooMany

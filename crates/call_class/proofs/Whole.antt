@@ -6,13 +6,13 @@ use native.Mathlib.Omega.{arith}
 use lib.ListN.{length, drop, replicate}
 use Rattle.paper.specs.Answer.{storeWords}
 use Rattle.layout.specs.Named.{storeBytes}
-use Rattle.demands.proofs.Bytes.{whole-words}
 use Rattle.classes.specs.Classes.{ClassLent, lengthsOf, modulesOf, classQuestionOf, addUp, tooMany, tooShort, classRefusal, zeroed, taken, refused, untouched}
 use Rattle.classes.proofs.Taken.{is-taken, is-refused, is-untouched, stores-lent}
 use Rattle.store_cells.specs.Cells.{Cleared}
 use Rattle.call_records.specs.Records.{Empties, Emptied}
 use Rattle.call_class.specs.Classes.{lent, Classes}
 use Rattle.call_class.specs.Parts.{sized, Accepts, Reached}
+use Rattle.call_class.proofs.Lengths.{word-count}
 
 -- a store that was cleared
 cleared-is : (before after : List ℕ) → Cleared before after 0 storeWords → after ≡ zeroed before
@@ -45,7 +45,7 @@ module _ (texts lengths : List ℕ) (steps depth : ℕ) (inputs out code values 
       unfolding lent classQuestionOf
       class-empties code₁ values₁ c v =
           let (a, b) = stores-lent (classQuestionOf all) (λ o. n (sym refusal-is ∙ o)) in
-          record { code-room = omega (arith, a, c, whole-words code); values-room = omega (arith, b, v, whole-words values); few = omega arith }
+          record { code-room = omega (arith, a, c, word-count code); values-room = omega (arith, b, v, word-count values); few = omega arith }
 
       pub class-refused : (r ≡ 0 → ⊥) → (code₂ values₂ : List ℕ) → Emptied code values code₂ values₂ 0 → Classes all r out code₂ values₂ records′ data′
       unfolding lent refused

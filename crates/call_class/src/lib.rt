@@ -59,9 +59,9 @@ fn refusal_of(
     code: &[u8],
     values: &[u8],
     records: &[u8],
-    data: &[u8],
+    kept: &[u8],
 ) -> u32
-    ensures { λ r. ⌜ r ≡ classRefusal (sized (now (texts .entry)) (now (lengths .entry)) depth (now (code .entry)) (now (values .entry)) (now (records .entry)) (now (data .entry))) ⌝ }
+    ensures { λ r. ⌜ r ≡ classRefusal (sized (now (texts .entry)) (now (lengths .entry)) depth (now (code .entry)) (now (values .entry)) (now (records .entry)) (now (kept .entry))) ⌝ }
 {
     if code.len() < limits::STORE_BYTES {
         return rules::SMALL_STORE;
@@ -82,20 +82,20 @@ fn refusal_of(
     if records.len() < limits::RECORD_BYTES * n {
         return SHORT_LIST;
     }
-    if data.len() < DATA_BYTES * n {
+    if kept.len() < DATA_BYTES * n {
         return SHORT_LIST;
     }
     0
 }
 
 // Copies the words of a module from the value store, byte by byte, which compiles to one copy.
-fn copy_words(values: &[u8], data: &mut [u8], at: usize)
-    requires { ⌜ Takes (now values) (now data) at ⌝ }
-    ensures { λ _. ⌜ now (data .exit) ≡ replaced (now (data .entry)) at (take dataBytes (now (values .entry))) dataBytes ⌝ }
+fn copy_words(values: &[u8], kept: &mut [u8], at: usize)
+    requires { ⌜ Takes (now values) (now kept) at ⌝ }
+    ensures { λ _. ⌜ now (kept .exit) ≡ replaced (now (kept .entry)) at (take dataBytes (now (values .entry))) dataBytes ⌝ }
 {
     let mut j = 0;
     while j < DATA_BYTES {
-        data[at + j] = values[j];
+        kept[at + j] = values[j];
         j += 1;
     }
 }
@@ -110,12 +110,12 @@ fn carry_module<'a>(
     code: &mut [u8],
     values: &mut [u8],
     records: &mut [u8],
-    data: &mut [u8],
+    kept: &mut [u8],
     i: usize,
     share: usize,
 )
-    requires { ⌜ Carries (now out) (now code) (now values) (now records) (now data) depth i share ⌝ }
-    ensures { λ _. ⌜ Carried (carriedOut (put plainly (now (text .entry)) steps depth (now (inputs .entry)) (part share i (now (out .entry)))) (verdict (now (text .entry)))) i share (now (out .entry)) (now (code .entry)) (now (values .entry)) (now (records .entry)) (now (data .entry)) (now (out .exit)) (now (code .exit)) (now (values .exit)) (now (records .exit)) (now (data .exit)) ⌝ }
+    requires { ⌜ Carries (now out) (now code) (now values) (now records) (now kept) depth i share ⌝ }
+    ensures { λ _. ⌜ Carried (carriedOut (put plainly (now (text .entry)) steps depth (now (inputs .entry)) (part share i (now (out .entry)))) (verdict (now (text .entry)))) i share (now (out .entry)) (now (code .entry)) (now (values .entry)) (now (records .entry)) (now (kept .entry)) (now (out .exit)) (now (code .exit)) (now (values .exit)) (now (records .exit)) (now (kept .exit)) ⌝ }
 {
     let o = i * share;
     let p = o + share;
@@ -132,7 +132,7 @@ fn carry_module<'a>(
         &mut records[r..s],
         Abort::Never,
     );
-    copy_words(values, data, i * DATA_BYTES);
+    copy_words(values, kept, i * DATA_BYTES);
 }
 
 // All modules of a class that is not refused, in order.
@@ -146,10 +146,10 @@ fn carry_class<'a>(
     code: &mut [u8],
     values: &mut [u8],
     records: &mut [u8],
-    data: &mut [u8],
+    kept: &mut [u8],
 )
-    requires { ⌜ Accepts (lent (now texts) (now lengths) steps depth (now inputs) (now out) (now code) (now values) (now records) (now data)) ⌝ }
-    ensures { λ _. ⌜ Reached (lent (now (texts .entry)) (now (lengths .entry)) steps depth (now (inputs .entry)) (now (out .entry)) (now (code .entry)) (now (values .entry)) (now (records .entry)) (now (data .entry))) (length (lengthsOf (now (lengths .entry)))) (now (out .exit)) (now (code .exit)) (now (values .exit)) (now (records .exit)) (now (data .exit)) ⌝ }
+    requires { ⌜ Accepts (lent (now texts) (now lengths) steps depth (now inputs) (now out) (now code) (now values) (now records) (now kept)) ⌝ }
+    ensures { λ _. ⌜ Reached (lent (now (texts .entry)) (now (lengths .entry)) steps depth (now (inputs .entry)) (now (out .entry)) (now (code .entry)) (now (values .entry)) (now (records .entry)) (now (kept .entry))) (length (lengthsOf (now (lengths .entry)))) (now (out .exit)) (now (code .exit)) (now (values .exit)) (now (records .exit)) (now (kept .exit)) ⌝ }
 {
     let n = lengths.len() / LENGTH_BYTES;
     if n == 0 {
@@ -169,7 +169,7 @@ fn carry_class<'a>(
             code,
             values,
             records,
-            data,
+            kept,
             i,
             share,
         );
@@ -190,17 +190,17 @@ pub extern "C" fn rapid_class<'a>(
     code: &mut [u8],
     values: &mut [u8],
     records: &mut [u8],
-    data: &mut [u8],
+    kept: &mut [u8],
 ) -> u32
-    ensures { λ r. ⌜ Classes (lent (now (texts .entry)) (now (lengths .entry)) steps depth (now (inputs .entry)) (now (out .entry)) (now (code .entry)) (now (values .entry)) (now (records .entry)) (now (data .entry))) r (now (out .exit)) (now (code .exit)) (now (values .exit)) (now (records .exit)) (now (data .exit)) ⌝ }
+    ensures { λ r. ⌜ Classes (lent (now (texts .entry)) (now (lengths .entry)) steps depth (now (inputs .entry)) (now (out .entry)) (now (code .entry)) (now (values .entry)) (now (records .entry)) (now (kept .entry))) r (now (out .exit)) (now (code .exit)) (now (values .exit)) (now (records .exit)) (now (kept .exit)) ⌝ }
 {
-    let refusal = refusal_of(texts, lengths, depth, code, values, records, data);
+    let refusal = refusal_of(texts, lengths, depth, code, values, records, kept);
     if refusal == rules::SMALL_STORE {
         return refusal;
     }
     if refusal == 0 {
         carry_class(
-            texts, lengths, steps, depth, inputs, out, code, values, records, data,
+            texts, lengths, steps, depth, inputs, out, code, values, records, kept,
         );
         empty(code, values, 0);
         return 0;
