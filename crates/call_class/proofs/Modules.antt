@@ -23,10 +23,12 @@ use Rattle.classes.proofs.Singles as singles
 use Rattle.classes.proofs.Singles.{first-words}
 use Rattle.call_records.specs.Leaves.{Rooms, Left, Tells}
 use Rattle.call_records.proofs.Stores.{AllBytes, left-bytes}
-use Rattle.call_judging.specs.Carries.{put}
+use Rattle.run_whole.specs.declared.Abort.the-variants.{Never}
+use Rattle.run_whole.specs.Runs.{abortOf}
+use Rattle.call_judging.specs.Carries.{askedBy, put}
 use Rattle.call_class.specs.Classes.{lent}
 use Rattle.call_class.specs.Parts.{Takes, Carries, Carried, Accepts, Reached}
-use Rattle.call_class.proofs.Lengths.{lengths-cells, word-count, sum-next, sum-most}
+use Rattle.call_class.proofs.Lengths.{lengths-cells, count-lengths, word-count, sum-next, sum-most}
 
 -- ---- a part that was lent, and is back
 part-back : (l m : List ℕ) (a k : ℕ) → putMid a k l m ≡ replaced l a m k
@@ -55,10 +57,21 @@ module _ (text inputs out code values records′ data′ : List ℕ) (steps dept
           values-past = t .values-left .past;
         }
 
+    carried-so : (k n : ℕ) → k ≡ share → n ≡ recordSize
+        → Tells (carriedOut (put (askedBy Never) text steps depth inputs (midOf (i * share) k out)) (verdict text)) (midOf (i * share) k out) code values (midOf (i * recordSize) n records′) ys code″ values″ zs
+        → Carried (carriedOut (put plainly text steps depth inputs (part share i out)) (verdict text)) i share out code values records′ data′ (putMid (i * share) k out ys) code″ values″ (putMid (i * recordSize) n records′ zs) data″
+    unfolding abortOf part
+    carried-so k n p q t = rw (p, q) (in-its-parts (rw (p, q) at t))
+
     -- as the parts are lent: from a place to another
-    pub module-carried : (k n : ℕ) → k ≡ share → n ≡ recordSize → Tells (comes-to k) (midOf (i * share) k out) code values (midOf (i * recordSize) n records′) ys code″ values″ zs
-        → Carried (comes-to share) i share out code values records′ data′ (putMid (i * share) k out ys) code″ values″ (putMid (i * recordSize) n records′ zs) data″
-    module-carried k n p q t = rw (p, q) (in-its-parts (rw (p, q) at t))
+    abbrev wide : ℕ → ℕ
+    wide n = i * n + n - i * n
+
+    pub module-carried : Tells (carriedOut (put (askedBy Never) text steps depth inputs (midOf (i * share) (wide share) out)) (verdict text)) (midOf (i * share) (wide share) out) code values
+        (midOf (i * recordSize) (wide recordSize) records′) ys code″ values″ zs
+        → Carried (carriedOut (put plainly text steps depth inputs (part share i out)) (verdict text)) i share out code values records′ data′ (putMid (i * share) (wide share) out ys) code″ values″
+        (putMid (i * recordSize) (wide recordSize) records′ zs) data″
+    module-carried t = carried-so (wide share) (wide recordSize) (omega arith) (omega arith) t
 
 -- ---- all of them
 -- i modules are carried out, and the next text begins at a place.
@@ -165,3 +178,57 @@ module _ (l : ClassLent) (a : Accepts l) where
           records-long = lr ∙ s .records-long;
           data-long = ld ∙ s .data-long;
         }
+
+-- ---- the same as the call has it: by what is lent
+module _ (texts lengths : List ℕ) (steps depth : ℕ) (inputs out₀ code₀ values₀ records₀ kept₀ : List ℕ) where
+  abbrev all : ClassLent
+  all = lent texts lengths steps depth inputs out₀ code₀ values₀ records₀ kept₀
+
+  counted : modulesOf all ≡ length lengths / 4
+  unfolding modulesOf lent
+  counted = count-lengths lengths
+
+  -- the share that each module has
+  abbrev each : ℕ
+  each = length out₀ / (length lengths / 4)
+
+  share-is : each ≡ shareIn all
+  unfolding shareIn shareOf lent
+  share-is = ap (λ (n : ℕ). length out₀ / n) (sym counted)
+
+  pub class-none : length lengths / 4 ≡ 0 → Reached all (length (lengthsOf lengths)) out₀ code₀ values₀ records₀ kept₀
+  unfolding lent
+  class-none z = rw (count-lengths lengths ∙ z) (none-yet all)
+
+  pub class-start : Going all 0 0 out₀ code₀ values₀ records₀ kept₀
+  unfolding lent
+  class-start = going-start all
+
+  pub class-end : (at i : ℕ) (out code values records′ data′ : List ℕ) → Going all at i out code values records′ data′ → length lengths / 4 ≤ i
+      → Reached all (length (lengthsOf lengths)) out code values records′ data′
+  class-end at i out code values records′ data′ s h =
+      let q : i ≡ length (lengthsOf lengths) = omega (arith, s .within, counted, count-lengths lengths) in
+      rw q at (s .reached)
+
+  module _ (a : Accepts all) (at i k : ℕ) (out code values records′ data′ : List ℕ) (s : Going all at i out code values records′ data′) (h : i < length lengths / 4) (e : Got lengths i k) where
+    below : i < modulesOf all
+    below = omega (arith, counted, h)
+
+    got : Got (all .lengths) i k
+    unfolding lent
+    got = e
+
+    pub class-text : at + k ≤ length texts
+    unfolding lent
+    class-text = text-end all a at i k each out code values records′ data′ s below got share-is
+
+    pub class-carries : Carries out code values records′ data′ depth i each
+    unfolding lent
+    class-carries = carries all a at i k each out code values records′ data′ s below got share-is
+
+    pub class-step : {out″ code″ values″ records″ data″ : List ℕ}
+        → Carried (carriedOut (put plainly (midOf at (at + k - at) texts) steps depth inputs (part each i out)) (verdict (midOf at (at + k - at) texts))) i each out code values records′ data′ out″ code″ values″ records″ data″
+        → length out″ ≡ length out → length code″ ≡ length code → length values″ ≡ length values → length records″ ≡ length records′ → length data″ ≡ length data′
+        → Going all (at + k) (i + 1) out″ code″ values″ records″ data″
+    unfolding lent
+    class-step {out″} {code″} {values″} {records″} {data″} = going-step all a at i k each out code values records′ data′ s below got share-is (at + k - at) (omega arith) out″ code″ values″ records″ data″
