@@ -1,5 +1,6 @@
 use borrow.Author.Needs.{needs}
 use mathlib.Core.Path.{refl}
+use mathlib.Core.List.{[]}
 use Rattle.call_class.proofs.Whole.{class-small, class-accepts, class-empties, class-taken, class-refused}
 use Rattle.call_class.proofs.rapid_class.Statement.{statement}
 use Rattle.call_class.proofs.rapid_class.Tie as tie
@@ -39,7 +40,7 @@ empty-requires c κs =
     let at-values = c .before .before .before .before .before .before .before in
     let at-code = at-values .before .before in
     let at-if2 = taken (at-code .before .before .before) in
-    class-empties _ _ _ _ _ _ _ _ _ _ _ (at-if2 .before .before .refusal-of .ensures) (at-if2 .before .if1 .left) _ _ (at-code .code .given) (at-values .values .given)
+    class-empties _ _ 0 _ [] [] _ _ _ _ _ (at-if2 .before .before .refusal-of .ensures) (at-if2 .before .if1 .left) _ _ (at-code .code .given) (at-values .values .given)
 
 same-length-5 : tie.Need-same-length-5
 same-length-5 c = search needs
@@ -66,7 +67,7 @@ returns-2 c =
 empty-requires-2 : tie.Need-empty-requires-2
 empty-requires-2 c κs =
     let at-if1 = c .before .before .before in
-    class-empties _ _ _ _ _ _ _ _ _ _ _ (at-if1 .before .refusal-of .ensures) (at-if1 .if1 .left) _ _ refl refl
+    class-empties _ _ 0 _ [] [] _ _ _ _ _ (at-if1 .before .refusal-of .ensures) (at-if1 .if1 .left) _ _ refl refl
 
 same-length-10 : tie.Need-same-length-10
 same-length-10 c = search needs
