@@ -5,11 +5,11 @@
  * is told by a call of its own. Whatever is guessed, the places are those of the run: guesses only spare calls. */
 enum { FEWEST_GUESSES = 16 };
 
-/* So many steps back two beginnings of a run are compared, the most first. */
+/* So many steps back two parts of a run are compared, the most first. */
 static const size_t orders[] = {4096, 1024, 256, 64, 16, 4, 1};
 enum { ORDERS = sizeof orders / sizeof *orders, SLOTS = 1 << 16 };
-static uint32_t behind[ORDERS][SLOTS]; /* by the steps before it, the place that was next when they came last; 0 where they never did: a module begins with a word that is no step */
-static uint64_t hashes[MOST_PLACES + 1], powers[ORDERS]; /* of all places before one; of the factor, by orders */
+static uint32_t last[ORDERS][SLOTS]; /* by the steps before it, which step came behind them last; 0 where none did: step 0 has none before it */
+static uint64_t hashes[MOST_PLACES + 1], powers[ORDERS]; /* of all places before a step; of the factor, by orders */
 
 static const uint64_t FACTOR = 0x9e3779b97f4a7c15;
 
@@ -19,31 +19,36 @@ static void forget(void) {
         for (size_t k = 0; k < orders[o]; k++)
             powers[o] *= FACTOR;
         for (size_t k = 0; k < SLOTS; k++)
-            behind[o][k] = 0;
+            last[o][k] = 0;
     }
 }
 
-/* The slot of the steps before step i, by an order that is at most i. */
-static uint32_t *slot(int o, size_t i) {
-    uint64_t h = hashes[i] - hashes[i - orders[o]] * powers[o];
-    return &behind[o][(h ^ h >> 29) * FACTOR >> 48];
-}
+/* Of the steps before step i, by an order that is at most i. */
+static uint64_t hash(int o, size_t i) { return hashes[i] - hashes[i - orders[o]] * powers[o]; }
 
-/* What step i may be, and not that which it is known not to be; 0 where nothing is left. */
-static uint32_t guessed(size_t i, uint32_t wrong) {
-    for (int o = 0; o < ORDERS; o++)
-        if (orders[o] <= i && *slot(o, i) != wrong && *slot(o, i) != 0)
-            return *slot(o, i);
+static uint32_t *slot(int o, uint64_t h) { return &last[o][(h ^ h >> 29) * FACTOR >> 48]; }
+
+/* What step i may be, and not that which it is known not to be; 0, which is no step's place, where nothing is left. */
+static uint32_t guessed(const uint32_t *places, size_t i, uint32_t wrong) {
+    for (int o = 0; o < ORDERS; o++) {
+        if (orders[o] > i)
+            continue;
+        uint64_t h = hash(o, i);
+        uint32_t step = *slot(o, h);
+        if (step != 0 && hash(o, step) == h && places[step] != wrong)
+            return places[step];
+    }
     return 0;
 }
 
+/* Step i has a place, or is guessed to have it. */
 static void follows(size_t i, uint32_t place) { hashes[i + 1] = hashes[i] * FACTOR + place + 1; }
 
 /* Step i is known. */
 static void learn(size_t i, uint32_t place) {
     for (int o = 0; o < ORDERS; o++)
         if (orders[o] <= i)
-            *slot(o, i) = place;
+            *slot(o, hash(o, i)) = (uint32_t)i;
     follows(i, place);
 }
 
@@ -52,7 +57,7 @@ static int right_guesses(struct rapid_lent lent, uint32_t *places, size_t known,
     struct rapid_marking marking = {0};
     struct rapid_record record = {0};
     for (size_t i = known; i < count; i++) {
-        places[i] = i == known ? first : guessed(i, 0);
+        places[i] = i == known ? first : guessed(places, i, 0);
         follows(i, places[i]);
     }
     lent.steps = (uint32_t)count;
@@ -79,7 +84,7 @@ int rapid_places(const struct rapid_lent *lent, uint32_t *places, struct rapid_r
         return 0;
     forget();
     while (known < record->steps) {
-        uint32_t first = guessed(known, wrong);
+        uint32_t first = guessed(places, known, wrong);
         size_t count = record->steps - known < guesses ? record->steps : known + guesses, right = known;
         if (first != 0 && !right_guesses(*lent, places, known, first, count, &right))
             return 0;
