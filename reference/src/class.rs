@@ -3,11 +3,11 @@
 use crate::bench::{answer, refused_rooms, Answer, Lent};
 use crate::lines::{read_bytes, read_count, read_inputs, show_answer, show_bytes, show_list};
 
-const MOST_MODULES: usize = 64;
+pub const MOST_MODULES: usize = 64;
 /// Eight 64-bit words a module.
-const RECORD_BYTES: u64 = 64;
+pub const RECORD_BYTES: u64 = 64;
 /// 1,024 words a module.
-const DATA_BYTES: u64 = 4_096;
+pub const DATA_BYTES: u64 = 4_096;
 const LENGTH_BYTES: usize = 4;
 
 /// What a call for a class is lent.

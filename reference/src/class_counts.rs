@@ -1,6 +1,7 @@
 //! What classes are like, counted: whether generated ones have what request 7 speaks of.
 
-use crate::class::{ClassAnswer, ClassLent};
+use crate::bench::{refused_rooms, Answer};
+use crate::class::{ClassAnswer, ClassLent, DATA_BYTES, MOST_MODULES, RECORD_BYTES};
 
 const NAMES: [&str; 15] = [
     "class answered",
@@ -42,16 +43,17 @@ fn features(lent: &ClassLent, answer: &ClassAnswer) -> [u64; NAMES.len()] {
     let modules = &answer.modules;
     let answered = answer.refusal == 0;
     let count = modules.len();
-    let with = |has: fn(&crate::bench::Answer) -> bool| modules.iter().filter(|m| has(m)).count();
+    let with = |has: fn(&Answer) -> bool| modules.iter().filter(|m| has(m)).count();
     let refused = with(|module| module.ending == 0);
     let less_data = modules
         .windows(2)
         .any(|pair| 0 < pair[1].words.len() && pair[1].words.len() < pair[0].words.len());
     let lacking = with(|module| module.ending == 8);
-    let longer = lent.records_room > 64 * count as u64 || lent.data_room > 4_096 * count as u64;
+    let lists = [RECORD_BYTES, DATA_BYTES].map(|bytes| bytes * count as u64);
+    let longer = lent.records_room > lists[0] || lent.data_room > lists[1];
     let lengths = lent.module_lengths();
     let later = match answer.refusal {
-        1 => !(1..=64).contains(&lent.depth) || lent.sum_differs(),
+        1 => refused_rooms(u64::MAX, u64::MAX, lent.depth).is_some() || lent.sum_differs(),
         2 => lent.sum_differs() || lent.too_many() || lent.list_too_short(),
         20 => lent.too_many() || lent.list_too_short(),
         21 => lent.list_too_short(),
@@ -61,7 +63,7 @@ fn features(lent: &ClassLent, answer: &ClassAnswer) -> [u64; NAMES.len()] {
     [
         in_class(true),
         in_class(count == 0),
-        in_class(count == 64),
+        in_class(count == MOST_MODULES),
         in_class(count > 0 && lent.output_room % count as u64 > 0),
         in_class(0 < refused && refused < count),
         in_class(lacking > 0 && with(|module| module.ending != 8 && !module.output.is_empty()) > 0),

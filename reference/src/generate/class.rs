@@ -2,11 +2,9 @@
 
 use super::random::Random;
 use super::{case_line, lend, Kind, Size};
-use crate::class::{class_answer, length_bytes, ClassLent};
+use crate::class::{class_answer, length_bytes, ClassLent, DATA_BYTES, RECORD_BYTES};
 use crate::lines::lent_of;
 
-const RECORD_BYTES: u64 = 64;
-const DATA_BYTES: u64 = 4_096;
 /// A class has no more modules once its texts are as long.
 const MOST_BYTES: usize = 90_000;
 

@@ -1,7 +1,7 @@
 //! The lines of the table that speak of a class (request 7): `&` and `= class R`.
 
 use super::{expand, expected_answer, Draft};
-use crate::class::{joined, length_bytes, show_class, ClassLent};
+use crate::class::{joined, length_bytes, show_class, ClassLent, DATA_BYTES, RECORD_BYTES};
 use crate::lines::show_answer;
 
 /// The modules of a class that were read so far.
@@ -63,8 +63,8 @@ impl Draft {
             output_room: single.output_room,
             code_words: single.code_words,
             value_words: single.value_words,
-            records_room: self.setting("records", 64 * modules)?,
-            data_room: self.setting("data", 4_096 * modules)?,
+            records_room: self.setting("records", RECORD_BYTES * modules)?,
+            data_room: self.setting("data", DATA_BYTES * modules)?,
         })
     }
 
