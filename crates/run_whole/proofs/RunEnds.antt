@@ -7,7 +7,7 @@ use native.Mathlib.Omega.{arith}
 use lib.ListN.{length}
 use Rattle.paper.specs.Steps.{Program}
 use Rattle.paper.specs.States.{State, Rooms, withCalls}
-use Rattle.paper.specs.Running.{run}
+use Rattle.paper.specs.Running.{run, started}
 use Rattle.paper.specs.Running as running
 use Rattle.paper.specs.Undoing.{dropping, undoing}
 use Rattle.store_cells.specs.Cells.{cellsOf}
@@ -23,7 +23,7 @@ use Rattle.run_output.proofs.OneLine.{count-is}
 use Rattle.run_errors.specs.declared.Taken.{Taken}
 use Rattle.run_undoing.specs.Dropping as drops
 use Rattle.run_undoing.specs.Dropping.{Falls, gone, begins, Dropped}
-use Rattle.run_advancing.specs.Turns.{told, written}
+use Rattle.run_advancing.specs.Turns.{told, written, Leaves}
 use Rattle.run_advancing.proofs.Answers.{leaves-nothing}
 use Rattle.run_whole.specs.declared.Ended.{Ended}
 use Rattle.run_whole.specs.declared.Walked.{Walked}
