@@ -200,7 +200,16 @@ pub extern "C" fn rapid_class<'a>(
     }
     if refusal == 0 {
         carry_class(
-            texts, lengths, steps, depth, inputs, out, code, values, records, kept,
+            texts,
+            lengths,
+            steps,
+            depth,
+            inputs,
+            out,
+            code,
+            values,
+            records,
+            kept,
         );
         empty(code, values, 0);
         return 0;

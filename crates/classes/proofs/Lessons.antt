@@ -138,27 +138,27 @@ unfolding RefusalsLeave untouched refused taken
 refusals-leave l =
     test (eqb (refusalIn l) 0)
     (λ t.
-      let z = eqb-true (refusalIn l) 0 t in
-      let c = is-taken l z in
-      record {
-        kept = λ n. absurd (n z);
-        one = λ o. apart (sym z ∙ o);
-        others = λ n. (rw c (zeroed-zeros (l .code)), rw c (zeroed-zeros (l .values)));
-      })
+    let z = eqb-true (refusalIn l) 0 t in
+    let c = is-taken l z in
+    record {
+      kept = λ n. absurd (n z);
+      one = λ o. apart (sym z ∙ o);
+      others = λ n. (rw c (zeroed-zeros (l .code)), rw c (zeroed-zeros (l .values)));
+    })
     (λ f.
-      let n = eqb-false (refusalIn l) 0 f in
-      by-same (refusalIn l) 1
-      (λ o.
-        let c = is-untouched l o in
-        record {
-          kept = λ z. record { returned = ap (λ (a : ClassAnswer). a .returned) c ∙ sym o; output = ap (λ (a : ClassAnswer). a .output) c; records = ap (λ (a : ClassAnswer). a .records) c; module-data = ap (λ (a : ClassAnswer). a .module-data) c };
-          one = λ z. (ap (λ (a : ClassAnswer). a .code) c, ap (λ (a : ClassAnswer). a .values) c);
-          others = λ m. absurd (m o);
-        })
-      (λ m.
-        let c = is-refused l n m in
-        record {
-          kept = λ z. record { returned = ap (λ (a : ClassAnswer). a .returned) c; output = ap (λ (a : ClassAnswer). a .output) c; records = ap (λ (a : ClassAnswer). a .records) c; module-data = ap (λ (a : ClassAnswer). a .module-data) c };
-          one = λ o. absurd (m o);
-          others = λ z. (rw c (zeroed-zeros (l .code)), rw c (zeroed-zeros (l .values)));
-        }))
+    let n = eqb-false (refusalIn l) 0 f in
+    by-same (refusalIn l) 1
+    (λ o.
+    let c = is-untouched l o in
+    record {
+      kept = λ z. record { returned = ap (λ (a : ClassAnswer). a .returned) c ∙ sym o; output = ap (λ (a : ClassAnswer). a .output) c; records = ap (λ (a : ClassAnswer). a .records) c; module-data = ap (λ (a : ClassAnswer). a .module-data) c };
+      one = λ z. (ap (λ (a : ClassAnswer). a .code) c, ap (λ (a : ClassAnswer). a .values) c);
+      others = λ m. absurd (m o);
+    })
+    (λ m.
+    let c = is-refused l n m in
+    record {
+      kept = λ z. record { returned = ap (λ (a : ClassAnswer). a .returned) c; output = ap (λ (a : ClassAnswer). a .output) c; records = ap (λ (a : ClassAnswer). a .records) c; module-data = ap (λ (a : ClassAnswer). a .module-data) c };
+      one = λ o. absurd (m o);
+      others = λ z. (rw c (zeroed-zeros (l .code)), rw c (zeroed-zeros (l .values)));
+    }))

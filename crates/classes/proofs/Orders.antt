@@ -28,10 +28,10 @@ module _ (f : ℕ → List ℕ) (size : ℕ) where
       ap (part size i) (append-assoc (inOrder f n) (f n) rest)
       ∙ by-last i n g
       (λ q.
-        ap (λ (j : ℕ). part size j (inOrder f n ++ (f n ++ rest))) q
-        ∙ ap (take size) (drop-at (inOrder f n) (f n ++ rest) (n * size) (order-length n s))
-        ∙ take-at (f n) rest size (h n (omega arith))
-        ∙ ap f (sym q))
+      ap (λ (j : ℕ). part size j (inOrder f n ++ (f n ++ rest))) q
+      ∙ ap (take size) (drop-at (inOrder f n) (f n ++ rest) (n * size) (order-length n s))
+      ∙ take-at (f n) rest size (h n (omega arith))
+      ∙ ap f (sym q))
       (order-part n (f n ++ rest) s i)
 
   module _ (n : ℕ) (list : List ℕ) (s : Sized n) where

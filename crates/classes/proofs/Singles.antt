@@ -11,7 +11,8 @@ use lib.Seq.{take-append-le, take-at, drop-nil, drop-length, length-take-le}
 use borrow.Author.Tests.{le-ltb, ne-eqb}
 use Rattle.laws.proofs.Lists.{part-length}
 use Rattle.paper.specs.Undoing.{plainly}
-use Rattle.paper.specs.Answer.{storeWords, recordSize, depthLimit, Verdict, refusedBy, accepted, verdict, Question, Result, refusedWith, endedWith, ranTo, carriedOut, tooSmall, badDepth, result, Lent, Answer, questionOf, storeAfter, answer, cellsOf, bytesOf, recordBytes, LentBytes, BytesAnswer, lentOf, bytesAfter, spread, pendantCall}
+use Rattle.paper.specs.Answer.{Verdict, refusedBy, accepted, verdict, Question, Result, refusedWith, endedWith, ranTo, carriedOut, tooSmall, badDepth, result, Lent, Answer}
+use Rattle.paper.specs.Answer.{storeWords, recordSize, depthLimit, questionOf, storeAfter, answer, cellsOf, bytesOf, recordBytes, LentBytes, BytesAnswer, lentOf, bytesAfter, spread, pendantCall}
 use Rattle.demands.specs.Demands.{Demand1}
 use Rattle.demands.proofs.Bytes.{length-bytes, bytes-append, length-record, whole-words}
 use Rattle.demands.proofs.Memory.{demand-1}

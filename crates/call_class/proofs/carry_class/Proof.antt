@@ -58,13 +58,15 @@ loop-less c = omega arith
 
 loop-again : tie.Need-loop-again Inv-loop μ-loop
 loop-again c =
-    let at-out = c .before .before .before .before .before .before .before .before .before in
+    let at-values = c .before .before .before .before .before in
+    let at-code = at-values .before .before in
+    let at-out = at-code .before .before in
     let at-module = at-out .before in
     let at-get = at-module .before .before .before .before .before .before .before in
     let at-loop = at-get .before .before in
     class-step _ _ _ _ _ _ _ _ _ _ (start at-loop .pre) _ _ _ _ _ _ _ _ (at-loop .loop .inv) (at-get .before .loop-test .taken) (at-get .get .ensures)
     (at-module .carry-module .ensures)
-    (at-out .out .given) (c .before .before .before .before .before .before .before .code .given) (c .before .before .before .before .before .values .given) (c .before .before .before .records .given) (c .before .kept .given)
+    (at-out .out .given) (at-code .code .given) (at-values .values .given) (c .before .before .before .records .given) (c .before .kept .given)
 
 same-length : tie.Need-same-length Inv-loop μ-loop
 unfolding lent
