@@ -88,7 +88,7 @@ fn refusal_of(
     0
 }
 
-// Copies the words of a module from the value store, byte by byte, which compiles to one copy.
+// Copies the words of a module from the value store, byte by byte.
 fn copy_words(values: &[u8], kept: &mut [u8], at: usize)
     requires { ⌜ Takes (now values) (now kept) at ⌝ }
     ensures { λ _. ⌜ now (kept .exit) ≡ replaced (now (kept .entry)) at (take dataBytes (now (values .entry))) dataBytes ⌝ }

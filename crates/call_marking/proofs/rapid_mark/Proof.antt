@@ -76,11 +76,13 @@ same-length-10 c = search needs
 
 returns-6 : tie.Need-returns-6
 returns-6 c =
-    let at-judge = c .before .before .before .before .before .before .before .before .before .before in
+    let at-values = c .before .before .before .before in
+    let at-code = at-values .before .before in
+    let at-judge = at-code .before .before .before .before in
     let at-if5 = at-judge .before .before .before .before .before .before in
     let at-bad = at-if5 .before in
     mark-told _ _ _ _ _ _ _ _ _ _ (at-bad .before .before .before .before .if1 .left) (at-bad .before .before .before .if2 .left) (at-bad .before .before .if3 .left) (at-bad .before .if4 .left)
-    (sym (at-if5 .if5 .left) ∙ at-bad .bad-depth .ensures) _ _ _ _ _ (at-judge .judge .ensures) (c .before .before .before .before .before .before .slice-known12 .given) (c .before .before .before .before .slice-known13 .given)
+    (sym (at-if5 .if5 .left) ∙ at-bad .bad-depth .ensures) _ _ _ _ _ (at-judge .judge .ensures) (at-code .slice-known12 .given) (at-values .slice-known13 .given)
 
 pub rapid-mark-spec : {M : Type 1} → statement M
 rapid-mark-spec =
