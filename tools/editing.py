@@ -1,5 +1,5 @@
 """What the tools for edits and `unique` share: edits, that is files *.edit as rt reads them, and the functions and constants of a crate, as rt fmt lays them out."""
-import os, re
+import os, re, subprocess, sys, zlib
 from collections import namedtuple
 
 ROOT = os.path.dirname(os.path.dirname(os.path.abspath(__file__)))
@@ -104,3 +104,17 @@ def names(crate, item, file, text):
     module = item.module[-1] if item.module else "(?:super|crate)"
     near = file == item.file or any(re.fullmatch(rf"(?:.*::)?{module}::{item.name}", path) for path in crate.imported[file])
     return re.search(rf"\b{module}::{item.name}{called}" + (rf"|(?<![\w.:]){item.name}{called}" if near else ""), text)
+
+
+# ---- edits by turns
+def is_changed(root, since, paths):
+    """Whether something at these paths differs from a revision."""
+    status = subprocess.run(["git", "diff", "--quiet", since, "--", *paths], cwd=root).returncode
+    if status > 1:
+        sys.exit(f"{since} is no revision")
+    return status == 1
+
+
+def is_in_turn(labels, third):
+    """Whether edits of these names are of a turn, 0 to 2."""
+    return zlib.crc32(" ".join(labels).encode()) % 3 == third
