@@ -1,5 +1,5 @@
-/* Answers case lines `run TEXT STEPS DEPTH INPUTS OUTLEN CODELEN VALUELEN [AT UNDO]` (reference/README.md has their form) by the whole call, so that `diff` compares
- * it with the independent program. Everything is lent between guard pages (guarded.h), at each of its edges; the host ends with a message and status 1
+/* Answers case lines `run TEXT STEPS DEPTH INPUTS OUTLEN CODELEN VALUELEN [AT UNDO]` by the whole call, and `mark .. LISTING` by that which marks a listing (reference/README.md has
+ * their form), so that `diff` compares them with the independent program. Everything is lent between guard pages (guarded.h), at each of its edges; the host ends with a message and status 1
  * where a call returns anything else than the paper says, leaves another store than module words and zeros, or writes a byte that it may not. */
 #include "case_call.h"
 #include "guarded.h"
@@ -9,13 +9,14 @@
 
 static char line[MOST_LINE];
 static unsigned long line_number;
-static struct guarded lent_text, lent_inputs, lent_output, lent_code, lent_values, lent_record;
+static struct guarded lent_text, lent_inputs, lent_output, lent_code, lent_values, lent_record, lent_listing, lent_answer;
 
 /* One case, and the first call's answer to it. */
 static struct call_case asked;
 static uint64_t fields[8];
 static uint8_t output[MOST_OUTPUT];
 static int32_t kept[RAPID_MODULE_WORD_LIMIT];
+static uint32_t marking[2]; /* of a case with a listing */
 
 static void expect(int holds, const char *otherwise) {
     if (holds)
@@ -44,10 +45,39 @@ static struct case_memory lend(enum edge edge, size_t part, size_t record_length
     return m;
 }
 
+/* Lends memory for a listing and its answer. Where a part is lent, the listing's part word becomes three bytes, which are left out as well. */
+static struct case_marking lend_listing(enum edge edge, size_t part, size_t answer_length) {
+    struct case_marking k = {.listing_length = asked.listing_length + (part ? 3 - asked.listing_length % 4 : 0), .answer_length = answer_length};
+    k.listing = memcpy(guarded_lend(&lent_listing, k.listing_length, edge), asked.listing, asked.listing_length);
+    k.answer = guarded_lend(&lent_answer, k.answer_length, edge);
+    return k;
+}
+
+/* What a call leaves of a listing, which is only read, and of its answer, which is untouched where the module is refused. */
+static void expect_marking(void) {
+    expect(memcmp(lent_listing.lent, asked.listing, asked.listing_length) == 0 && guarded_kept(&lent_listing, asked.listing_length), "the listing was written to");
+    expect(guarded_kept(&lent_answer, lent_record.lent[0] == RAPID_REFUSED ? 0 : RAPID_MARKING_BYTES), "bytes beside the answer of marking were written");
+}
+
+/* The call that the case asks for. bench/compare-plain tries a bench without the one that marks. */
+static uint32_t made(uint32_t flags, const struct case_memory *m, const struct case_marking *k) {
+#ifndef WITHOUT_MARKING
+    if (asked.marks)
+        return case_mark(&asked, m, k);
+#endif
+    (void)k;
+    return case_call(&asked, flags, m);
+}
+
 /* One call. `part` bytes more than whole words are lent of inputs and stores: a part word is left out. */
 static void call_once(enum edge edge, size_t part) {
     struct case_memory m = lend(edge, part, RAPID_RECORD_BYTES + part);
-    expect(case_call(&asked, 0, &m) == 1, "the call did not return 1");
+    struct case_marking k = {0};
+    if (asked.marks)
+        k = lend_listing(edge, part, RAPID_MARKING_BYTES + part);
+    expect(made(0, &m, &k) == 1, "the call did not return 1");
+    if (asked.marks)
+        expect_marking();
     expect(memcmp(lent_text.lent, asked.text, asked.text_length) == 0 && guarded_kept(&lent_text, asked.text_length), "the text was written to");
     expect(memcmp(lent_inputs.lent, asked.inputs, 4 * asked.input_count) == 0 && guarded_kept(&lent_inputs, 4 * asked.input_count), "the inputs were written to");
     expect(guarded_kept(&lent_record, RAPID_RECORD_BYTES), "bytes beside the record were written");
@@ -65,6 +95,8 @@ static void keep_answer(void) {
     memcpy(output, lent_output.lent, fields[5]);
     for (size_t i = 0; i < fields[7]; i++)
         kept[i] = (int32_t)number_at(lent_values.lent + 4 * i, 4);
+    for (int i = 0; i < 2 && asked.marks && fields[0] != RAPID_REFUSED; i++)
+        marking[i] = (uint32_t)number_at(lent_answer.lent + 4 * i, 4);
 }
 
 static void expect_same(void) {
@@ -73,20 +105,28 @@ static void expect_same(void) {
     expect(memcmp(output, lent_output.lent, fields[5]) == 0, "other memory, another output");
     for (size_t i = 0; i < fields[7]; i++)
         expect(kept[i] == (int32_t)number_at(lent_values.lent + 4 * i, 4), "other memory, other data");
+    for (int i = 0; i < 2 && asked.marks && fields[0] != RAPID_REFUSED; i++)
+        expect(marking[i] == number_at(lent_answer.lent + 4 * i, 4), "other memory, other marks");
 }
 
 /* A call that is not answered: 0, and nothing is touched. */
-static void expect_none(enum edge edge, uint32_t flags, size_t record_length, const char *otherwise) {
+static void expect_none(enum edge edge, uint32_t flags, size_t record_length, size_t answer_length, const char *otherwise) {
     struct case_memory m = lend(edge, 0, record_length);
-    expect(case_call(&asked, flags, &m) == 0, otherwise);
+    struct case_marking k = {0};
+    if (asked.marks)
+        k = lend_listing(edge, 0, answer_length);
+    expect(made(flags, &m, &k) == 0, otherwise);
+    expect(!asked.marks || (guarded_kept(&lent_answer, 0) && guarded_kept(&lent_listing, asked.listing_length)), "touched though there is no answer");
     expect(guarded_kept(&lent_output, 0) && guarded_kept(&lent_code, 0) && guarded_kept(&lent_values, 0) && guarded_kept(&lent_record, 0), "touched though there is no answer");
 }
 
-/* Fewer than 64 bytes for the record, and for a case with K each flag, since none has a meaning. */
+/* Fewer than 64 bytes for the record, or 8 for the answer of marking; and for a case with K each flag, since none has a meaning. */
 static void call_for_nothing(enum edge edge) {
-    expect_none(edge, 0, RAPID_RECORD_BYTES - 1, "the call did not return 0 for too short a record");
+    expect_none(edge, 0, RAPID_RECORD_BYTES - 1, RAPID_MARKING_BYTES, "the call did not return 0 for too short a record");
+    if (asked.marks)
+        expect_none(edge, 0, RAPID_RECORD_BYTES, RAPID_MARKING_BYTES - 1, "the call did not return 0 for too short an answer of marking");
     if (asked.aborts)
-        expect_none(edge, (uint32_t)1 << line_number / 16 % 32, RAPID_RECORD_BYTES, "the call did not return 0 for a flag");
+        expect_none(edge, (uint32_t)1 << line_number / 16 % 32, RAPID_RECORD_BYTES, 0, "the call did not return 0 for a flag");
 }
 
 static void print_answer(void) {
@@ -97,7 +137,12 @@ static void print_answer(void) {
     printf("%s ", fields[5] ? "" : "-");
     for (size_t i = 0; i < fields[7]; i++)
         printf("%s%d", i ? "," : "", kept[i]);
-    puts(fields[7] ? "" : "-");
+    fputs(fields[7] ? "" : "-", stdout);
+    if (asked.marks && fields[0] == RAPID_REFUSED)
+        fputs(" - -", stdout);
+    else if (asked.marks)
+        printf(" %u %u", marking[0], marking[1]);
+    putchar('\n');
 }
 
 static void make_guards(void) {
@@ -107,6 +152,8 @@ static void make_guards(void) {
     lent_code = guarded_make(MOST_STORE_BYTES);
     lent_values = guarded_make(MOST_STORE_BYTES);
     lent_record = guarded_make(RAPID_RECORD_BYTES + 4);
+    lent_listing = guarded_make(MOST_LISTING + 4);
+    lent_answer = guarded_make(RAPID_MARKING_BYTES + 4);
 }
 
 /* With the word `unwritten`, for valgrind, unwritten memory is lent in place of that between guards. */

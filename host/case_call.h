@@ -20,4 +20,17 @@ static inline uint32_t case_call(const struct call_case *c, uint32_t flags, cons
                            m->values_length, m->record, m->record_length);
 }
 
+/* Memory for a case of marking besides. */
+struct case_marking {
+    const uint8_t *listing;
+    uint8_t *answer;
+    size_t listing_length, answer_length;
+};
+
+/* By rapid_mark, where the case has a listing. */
+static inline uint32_t case_mark(const struct call_case *c, const struct case_memory *m, const struct case_marking *k) {
+    return rapid_mark(m->text, c->text_length, c->steps, c->depth, m->inputs, m->inputs_length, m->output, c->room, m->code, m->code_length, m->values, m->values_length, k->listing,
+                      k->listing_length, m->record, m->record_length, k->answer, k->answer_length);
+}
+
 #endif

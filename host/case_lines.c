@@ -25,8 +25,7 @@ long case_text(const char *field, uint8_t *text, size_t most, const char **end) 
     return n == 0 ? -1 : (long)n;
 }
 
-/* A field each; they return where the next one begins, or NULL where the line is no case. */
-static const char *read_count(const char *field, uint64_t most, uint64_t *count) {
+const char *case_count(const char *field, uint64_t most, uint64_t *count) {
     char *end;
     if (field == NULL || *field < '0' || *field > '9')
         return NULL;
@@ -60,30 +59,45 @@ static int read_abort(const char *field, struct call_case *into) {
     uint64_t at = 0, undo = 0;
     into->aborts = field[-1] == ' ';
     if (into->aborts)
-        field = read_count(read_count(field, UINT32_MAX, &at), UINT32_MAX, &undo);
+        field = case_count(case_count(field, UINT32_MAX, &at), UINT32_MAX, &undo);
     into->at = (uint32_t)at;
     into->undo = (uint32_t)undo;
     return field != NULL && field[-1] == '\n';
 }
 
-int case_read(const char *line, struct call_case *into) {
+/* What follows them in a case of marking: the listing. 1 where the line ends well. */
+static int read_listing(const char *field, struct call_case *into) {
+    const char *end = field;
+    long length = field[-1] == ' ' ? case_text(field, into->listing, MOST_LISTING, &end) : -1;
+    into->aborts = 0;
+    into->listing_length = (size_t)length;
+    return length >= 0 && *end == '\n';
+}
+
+const char *case_rooms(const char *at, struct call_case *into) {
     uint64_t steps, depth, room, code, values;
-    const char *at;
-    if (strncmp(line, "run ", 4) != 0)
-        return 0;
-    long length = case_text(line + 4, into->text, MOST_TEXT, &at);
-    if (length < 0 || *at != ' ')
-        return 0;
-    at = read_count(read_count(at + 1, UINT32_MAX, &steps), UINT32_MAX, &depth);
-    at = read_count(read_inputs(at, into), MOST_OUTPUT, &room);
-    at = read_count(read_count(at, MOST_STORE_BYTES / 4 - 1, &code), MOST_STORE_BYTES / 4 - 1, &values);
-    if (at == NULL || !read_abort(at, into))
-        return 0;
-    into->text_length = (size_t)length;
+    at = case_count(case_count(at, UINT32_MAX, &steps), UINT32_MAX, &depth);
+    at = case_count(read_inputs(at, into), MOST_OUTPUT, &room);
+    at = case_count(case_count(at, MOST_STORE_BYTES / 4 - 1, &code), MOST_STORE_BYTES / 4 - 1, &values);
+    if (at == NULL)
+        return NULL;
     into->steps = (uint32_t)steps;
     into->depth = (uint32_t)depth;
     into->room = room;
     into->code_words = code;
     into->value_words = values;
-    return 1;
+    return at;
+}
+
+int case_read(const char *line, struct call_case *into) {
+    const char *at;
+    into->marks = strncmp(line, "mark ", 5) == 0;
+    if (!into->marks && strncmp(line, "run ", 4) != 0)
+        return 0;
+    long length = case_text(line + (into->marks ? 5 : 4), into->text, MOST_TEXT, &at);
+    if (length < 0 || *at != ' ')
+        return 0;
+    into->text_length = (size_t)length;
+    at = case_rooms(at + 1, into);
+    return at != NULL && (into->marks ? read_listing(at, into) : read_abort(at, into));
 }

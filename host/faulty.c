@@ -12,7 +12,8 @@ uint32_t proved_run_until(const uint8_t *text, size_t text_length, uint32_t flag
 
 enum {
     READS_PAST_TEXT = 1, WRITES_PAST_OUTPUT, WRITES_PAST_COUNT, LEAVES_CODE, WRITES_BEYOND_STORE, WRITES_PAST_RECORD, WRITES_TEXT, COUNTS_WRONG, ASKS_OLD_MEMORY, TAKES_LESS_DEPTH, CHANGES_OUTPUT,
-    NEVER_TURNS, RUNS_LISTS_TWICE, UNDOES_ERRORS, SPARES_LAST_STEP, HIDES_OWN
+    NEVER_TURNS, RUNS_LISTS_TWICE, UNDOES_ERRORS, SPARES_LAST_STEP, HIDES_OWN,
+    MISCOUNTS_SURPLUS = 20, WRITES_PAST_MARKING
 };
 
 /* One call; `at` and `undo` where it has a step number K. */
@@ -253,4 +254,24 @@ uint32_t rapid_run_until(const uint8_t *text, size_t text_length, uint32_t flags
     if (flags)
         return proved_run_until(text, text_length, flags, steps, depth, at, undo, inputs, inputs_length, output, output_length, code, code_length, values, values_length, record, record_length);
     return faulty((struct call){text, text_length, steps, depth, 1, at, undo, inputs, inputs_length, output, code, values, record, output_length, code_length, values_length, record_length});
+}
+
+/* ---- the call that marks a listing */
+uint32_t proved_mark(const uint8_t *text, size_t text_length, uint32_t steps, uint32_t depth, const uint8_t *inputs, size_t inputs_length, uint8_t *output, size_t output_length, uint8_t *code,
+                     size_t code_length, uint8_t *values, size_t values_length, const uint8_t *listing, size_t listing_length, uint8_t *record, size_t record_length, uint8_t *answer,
+                     size_t answer_length);
+
+/* MISCOUNTS_SURPLUS: the index of a surplus entry is one too large. */
+uint32_t rapid_mark(const uint8_t *text, size_t text_length, uint32_t steps, uint32_t depth, const uint8_t *inputs, size_t inputs_length, uint8_t *output, size_t output_length, uint8_t *code,
+                    size_t code_length, uint8_t *values, size_t values_length, const uint8_t *listing, size_t listing_length, uint8_t *record, size_t record_length, uint8_t *answer,
+                    size_t answer_length) {
+    uint32_t returned = proved_mark(text, text_length, steps, depth, inputs, inputs_length, output, output_length, code, code_length, values, values_length, listing, listing_length, record,
+                                    record_length, answer, answer_length);
+    if (!returned || record[0] == RAPID_REFUSED)
+        return returned;
+    if (FAULT == MISCOUNTS_SURPLUS && !answer[0] && memcmp(answer + 4, record + 24, 4) == 0)
+        answer[4]++;
+    if (FAULT == WRITES_PAST_MARKING && answer_length > RAPID_MARKING_BYTES)
+        answer[RAPID_MARKING_BYTES] = 1;
+    return returned;
 }

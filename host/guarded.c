@@ -78,6 +78,8 @@ uint8_t *guarded_lend(struct guarded *g, size_t length, enum edge edge) {
 
 int all_are(uint8_t value, const uint8_t *bytes, size_t count) { return count == 0 || (bytes[0] == value && memcmp(bytes, bytes + 1, count - 1) == 0); }
 
+int guarded_kept_from(const struct guarded *g, size_t begin, size_t count) { return g->of_heap || all_are(g->pattern, g->lent + begin, count); }
+
 int guarded_kept(const struct guarded *g, size_t written) {
     if (g->of_heap)
         return 1;

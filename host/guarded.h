@@ -32,6 +32,9 @@ uint8_t *guarded_lend(struct guarded *g, size_t length, enum edge edge);
 /* Whether all of these bytes have this value. */
 int all_are(uint8_t value, const uint8_t *bytes, size_t count);
 
+/* Whether these bytes of what was lent are still the pattern. Of unwritten bytes only valgrind can tell. */
+int guarded_kept_from(const struct guarded *g, size_t begin, size_t count);
+
 /* Whether all but the first `written` bytes of what was lent, and the bytes next to it, are still the pattern. Of unwritten bytes only valgrind can tell. */
 int guarded_kept(const struct guarded *g, size_t written);
 

@@ -3,6 +3,10 @@
 # On another processor a host is cross-compiled, linked statically and run under the kit's emulator.
 # Where HOST_FOR is aarch64-linux-gnu, hosts are for that machine, with the library that host/build --for made; elsewhere they run under Debian's emulator.
 
+# The proved library that has rapid_class, for all scripts: one of its own, or that of rapid_run.
+# shellcheck disable=SC2034
+HOST_CLASS=call_class
+
 host_packages() { # the Debian packages that this machine lacks for a C host
     if [ "$(uname -m)" = x86_64 ]; then
         command -v gcc >/dev/null 2>&1 || echo gcc libc6-dev

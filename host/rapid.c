@@ -1,46 +1,19 @@
 #include "rapid.h"
+#include "rapid_slices.h"
 
 /* Numbers are lent as the machine has them: the low byte first, as the library wants it, since it is compiled for no other machine; and without gaps. What is appended to
- * the record or to the end of a listing stands behind what the proved code fills in. */
-_Static_assert(offsetof(struct rapid_record, module_words) + sizeof(uint64_t) == RAPID_RECORD_BYTES && sizeof(struct rapid_word) == RAPID_ENTRY_BYTES &&
+ * the end of a listing stands behind what the proved code fills in. */
+_Static_assert(sizeof(struct rapid_record) == RAPID_RECORD_BYTES && sizeof(struct rapid_word) == RAPID_ENTRY_BYTES &&
                    offsetof(struct rapid_listing, offset) + sizeof(uint32_t) == RAPID_ANSWER_BYTES,
                "the library's numbers stand side by side");
 
 uint32_t rapid_version(void) { return RAPID_VERSION; }
 
-/* ---- what is lent */
-struct slice { const void *first; size_t count, size; };
-
-/* The proved code counts on what is so of every slice in Rust: its pointer is not NULL, and it has at most PTRDIFF_MAX bytes. */
-static int is_slice(const struct slice *s) { return s->count == 0 || (s->first != NULL && s->count <= PTRDIFF_MAX / s->size); }
-
-/* By the distance from the lower to the higher one: no sum, so nothing wraps around. */
-static int overlap(const struct slice *s, const struct slice *t) {
-    uintptr_t a = (uintptr_t)s->first, b = (uintptr_t)t->first;
-    if (s->count == 0 || t->count == 0)
-        return 0;
-    return a <= b ? b - a < s->count * s->size : a - b < t->count * t->size;
-}
-
-static int may_be_lent(const struct slice *slices, size_t count) {
-    for (size_t i = 0; i < count; i++) {
-        if (!is_slice(&slices[i]))
-            return 0;
-        for (size_t k = 0; k < i; k++)
-            if (overlap(&slices[k], &slices[i]))
-                return 0;
-    }
-    return 1;
-}
-
 /* Whether a call may be made with what is lent, and the struct that is filled in. */
 static int may_call(const struct rapid_lent *lent, const struct rapid_record *record) {
     if (lent == NULL || record == NULL)
         return 0;
-    const struct slice slices[] = {
-        {lent->text, lent->text_length, 1}, {lent->inputs, lent->input_count, sizeof(int32_t)}, {lent->output, lent->output_length, 1}, {lent->code, lent->code_words, sizeof(int32_t)},
-        {lent->values, lent->value_words, sizeof(int32_t)}, {lent, 1, sizeof *lent}, {record, 1, sizeof *record},
-    };
+    const struct slice slices[] = {LENT_SLICES(lent, record)};
     return may_be_lent(slices, sizeof slices / sizeof *slices);
 }
 
@@ -110,6 +83,10 @@ static const char *const refusals[] = {
     "barred here: RETRY, TRYNEXT or plain RAISE outside ERROR, RAISE with a value in it, RETURN with a value in a PROC or without one in a FUNC; in UNDO a call, RETRY, TRYNEXT, RAISE, RETURN or EXIT",
     "no PROC main without parameters",
     "FOR variable named like a parameter or data of its routine",
+    /* of a class, by number: those between are of nobody yet */
+    [RAPID_LENGTHS_DIFFER] = "the lengths of the modules do not add up to the text",
+    [RAPID_TOO_MANY_MODULES] = "more than 64 modules in one call",
+    [RAPID_LIST_TOO_SHORT] = "a list too short: each module takes a record and 1,024 words of data",
 };
 
 static const char *const errors[] = {"ERR_OVERFLOW", "ERR_DIVZERO", "ERR_OUTOFBND", "ERR_ILLRAISE"};

@@ -1,8 +1,8 @@
-/* The RAPID lesson bench for C and C++: check and run a module's text, list its words, and ask about a place in it. docs/EMBEDDING.md shows how it is used.
+/* The RAPID lesson bench for C and C++: check and run a module's text or those of a whole class, list its words, and ask about a place in it. docs/EMBEDDING.md shows how it is used.
  *
- * Behind it stand three proved libraries: `call_pendant` (rapid_run, rapid_run_until), `call_listing` (rapid_list) and `call_asking` (rapid_ask). rapid.c has thin wrappers
- * on C's own types (rapid_call, rapid_call_until, rapid_words, rapid_word_at) and the sentences; nothing else stands between a caller and the proved code. host/build puts all of it
- * into one librapid.a. No memory is used but what is lent, and some stack. Nothing is kept between calls: with memory of its own each thread may call at any time.
+ * Behind it stand proved libraries: `call_pendant` (rapid_run, rapid_run_until), `call_class` (rapid_class), `call_marking` (rapid_mark), `call_listing` (rapid_list) and `call_asking` (rapid_ask). rapid.c has thin
+ * wrappers on C's own types (rapid_call, rapid_call_until, rapid_words, rapid_word_at) and the sentences, rapid_classes.c that of rapid_class (rapid_call_class), rapid_marking.c that of rapid_mark (rapid_call_mark);
+ * nothing else stands between a caller and the proved code. host/build puts all of it into one librapid.a, of which a program is linked with what it calls. No memory is used but what is lent, and some stack. Nothing is kept between calls: with memory of its own each thread may call at any time.
  *
  * A slice is a pointer and its length. It must be readable, or writable where it is not const, over its whole length, which is at most PTRDIFF_MAX bytes, and no two
  * slices of one call may overlap. A slice of length 0 may have any pointer, NULL too: nothing is read or written through it.
@@ -12,8 +12,8 @@
  * How this header grows. The language grows, and with it the library; a program that uses it is only compiled again.
  * - A call that exists keeps its signature and its answers; only a text that was refused may be accepted, or be refused otherwise, once the language has something new for
  *   it. What else is new is a new call, or a new field.
- * - The structs of a call (rapid_lent, rapid_record, rapid_listing) are zeroed by the caller before their fields are filled in. New fields are appended, and 0 in one means
- *   that it is absent: the call then answers as it did before there was that field. rapid_word stands in arrays, and stays as it is.
+ * - The structs of a call (rapid_lent, rapid_class, rapid_listing, rapid_marking) are zeroed by the caller before their fields are filled in. New fields are appended, and 0 in one means
+ *   that it is absent: the call then answers as it did before there was that field. rapid_word and rapid_record stand in arrays, and stay as they are.
  * - Numbers that are named here keep their names and what they say. An enum may get further numbers, which come up only with such texts and with new fields: a switch over
  *   an ending, a refusal or a kind has a default. Sizes may grow: use their names.
  * - A program is compiled with the header of the library that it is linked with: rapid_version() == RAPID_VERSION. */
@@ -28,7 +28,7 @@ extern "C" {
 
 /* ---- version */
 /* Version 1.2.3 is 10203. The first number changes where the rule above is broken, the second where something is new, the third where something is mended. */
-#define RAPID_VERSION 10200
+#define RAPID_VERSION 10300
 
 /* RAPID_VERSION of the header that the library was compiled with. */
 uint32_t rapid_version(void);
@@ -42,9 +42,11 @@ enum {
     RAPID_STORE_BYTES = 65536, /* the same in bytes */
     RAPID_RECORD_BYTES = 64,   /* the record that rapid_run writes, eight bytes a field */
     RAPID_DEPTH_LIMIT = 64,    /* live calls, main's own included */
-    RAPID_MODULE_WORD_LIMIT = 1024, /* words of a module's data */
+    RAPID_MODULE_WORD_LIMIT = 1024, /* words of a module's data; in a class each module has as many in the list for data */
+    RAPID_CLASS_LIMIT = 64,    /* modules of a class */
     RAPID_ENTRY_BYTES = 12,    /* an entry of a listing */
-    RAPID_ANSWER_BYTES = 12    /* the end of a listing */
+    RAPID_ANSWER_BYTES = 12,   /* the end of a listing */
+    RAPID_MARKING_BYTES = 8    /* the answer of rapid_mark */
 };
 
 /* ---- the record */
@@ -84,7 +86,11 @@ enum rapid_refusal {
     RAPID_LIMIT_CROSSED = 16,      /* of the name that crosses it */
     RAPID_BARRED_HERE = 17,        /* of the word; for a call in UNDO, the callee */
     RAPID_NO_MAIN = 18,            /* 0 */
-    RAPID_HIDING_LOOP = 19         /* of the FOR variable; it comes between 10 and 11 */
+    RAPID_HIDING_LOOP = 19,        /* of the FOR variable; it comes between 10 and 11 */
+    /* of a class, after 2 and in this order, at no place */
+    RAPID_LENGTHS_DIFFER = 20,     /* the lengths do not add up to the text */
+    RAPID_TOO_MANY_MODULES = 21,   /* more than RAPID_CLASS_LIMIT */
+    RAPID_LIST_TOO_SHORT = 27      /* the list for the records or that for the data */
 };
 
 /* Numbers in ERRNO that the language raises itself; RAISE gives 1 to 90. */
@@ -142,6 +148,61 @@ int rapid_call_until(const struct rapid_lent *lent, uint32_t at, uint32_t undo, 
 /* The same, as the proved code takes it. `flags` is 0: with a flag that is not known it returns 0 and touches nothing. */
 uint32_t rapid_run_until(const uint8_t *text, size_t text_length, uint32_t flags, uint32_t steps, uint32_t depth, uint32_t at, uint32_t undo, const uint8_t *inputs, size_t inputs_length,
                          uint8_t *output, size_t output_length, uint8_t *code, size_t code_length, uint8_t *values, size_t values_length, uint8_t *record, size_t record_length);
+
+/* ---- a call that marks another simulator
+ * Another simulator's listing of a run: the place of each counted step, in order, as an offset in the text (where the record's offset is that of a step, it is the same number). A step
+ * in which an error arose is counted; one that ended the run with 6, 7 or 8 is not. The call is that of rapid_call, and besides says whether the listing is that of the whole run, whatever
+ * its ending, or else where the two part. docs/MARKING.md says it for a trainer. */
+struct rapid_marking {
+    uint32_t same;  /* 1 where the listing is that of the run, else 0 */
+    uint32_t index; /* how many places they have in common at their beginning: else the index, from 0, of the first that differs, is missing or is surplus */
+};
+
+/* As rapid_call, with the listing. 1, and record and marking are filled in; where the module is refused the marking is untouched. 0, and nothing is touched, where `marking` is NULL, and
+ * where rapid_call would refuse slices like these. */
+int rapid_call_mark(const struct rapid_lent *lent, const uint32_t *places, size_t place_count, struct rapid_record *record, struct rapid_marking *marking);
+
+/* The same, as the proved code takes it: four bytes a place, low byte first; what is left of a part word is not read. `answer` gets the two numbers of struct rapid_marking, four bytes
+ * each; bytes past RAPID_MARKING_BYTES are not touched. 0, and nothing is touched, where the record has fewer than RAPID_RECORD_BYTES or the answer fewer than RAPID_MARKING_BYTES. */
+uint32_t rapid_mark(const uint8_t *text, size_t text_length, uint32_t steps, uint32_t depth, const uint8_t *inputs, size_t inputs_length, uint8_t *output, size_t output_length, uint8_t *code,
+                    size_t code_length, uint8_t *values, size_t values_length, const uint8_t *listing, size_t listing_length, uint8_t *record, size_t record_length, uint8_t *answer,
+                    size_t answer_length);
+
+/* ---- a whole class in one call
+ * Each module gets the same steps, depth and inputs, which it reads from the first on, and its share of the output: the output's length over the number of modules, fraction
+ * dropped. Its record, output and data are those of rapid_call for it alone with that share. */
+struct rapid_class {
+    const uint8_t *texts; /* the modules back to back */
+    size_t text_length;   /* of all of them */
+    const uint32_t *lengths; /* of each module, in bytes */
+    size_t count;            /* how many there are, RAPID_CLASS_LIMIT at most; with none the texts must be empty */
+    uint32_t steps; /* for each module, as the depth and the inputs are */
+    uint32_t depth;
+    const int32_t *inputs;
+    size_t input_count;
+    uint8_t *output; /* module i's begins at i times the share; what it did not write of its share is not touched, and nothing behind the last share is */
+    size_t output_length;
+    int32_t *code; /* RAPID_STORE_WORDS words each, used for one module after the other. After the call both are 0 up to there. */
+    size_t code_words;
+    int32_t *values;
+    size_t value_words;
+    struct rapid_record *records; /* one a module, `count` at least; those beyond are not touched */
+    size_t record_count;
+    int32_t *data; /* RAPID_MODULE_WORD_LIMIT words a module: its data in order of declaration, 0 behind them; what is beyond the last module's is not touched */
+    size_t data_words;
+};
+
+/* Checks and runs the modules of a class. 1, and `*refusal` is the class's refusal, RAPID_NOT_REFUSED for none: then each module has its record, where its own refusal
+ * stands, if it has one. The class is refused by RAPID_STORE_TOO_SMALL, RAPID_DEPTH_OUT_OF_RANGE, RAPID_LENGTHS_DIFFER, RAPID_TOO_MANY_MODULES and RAPID_LIST_TOO_SHORT, in this
+ * order: output, records and data are not touched then, and the stores are 0, but for RAPID_STORE_TOO_SMALL, which leaves them too.
+ * 0, and nothing is touched, where `lent` or `refusal` is NULL and where rapid_call would refuse slices like these. */
+int rapid_call_class(const struct rapid_class *lent, uint32_t *refusal);
+
+/* The same, as the proved code takes it: lengths, inputs, stores and data as bytes, four a word, low byte first, a part word is left out; RAPID_RECORD_BYTES a record. Returns the
+ * class's refusal. */
+uint32_t rapid_class(const uint8_t *texts, size_t texts_length, const uint8_t *lengths, size_t lengths_length, uint32_t steps, uint32_t depth, const uint8_t *inputs, size_t inputs_length,
+                     uint8_t *output, size_t output_length, uint8_t *code, size_t code_length, uint8_t *values, size_t values_length, uint8_t *records, size_t records_length, uint8_t *data,
+                     size_t data_length);
 
 /* A sentence for an ending, for a refusal, and the name of an error; NULL for any other number. */
 const char *rapid_ending_sentence(uint64_t ending);

@@ -1,6 +1,6 @@
 /* rapid: a teacher's command on the proved bench. `rapid --help` says how it is used. */
 #define _POSIX_C_SOURCE 200809L
-#include "rapid.h"
+#include "rapid_command.h"
 #include "rapid_json.h"
 #include "rapid_reason.h"
 #include <errno.h>
@@ -10,7 +10,6 @@
 #include <string.h>
 #include <unistd.h>
 
-enum { FINISHED = 0, REFUSED = 1, ENDED_OTHERWISE = 2, USAGE = 64 };
 enum { MOST_TEXT = 1 << 20, MOST_INPUTS = 10000, MOST_ROOM = 1 << 24, MOST_TRACED = 20000 };
 enum { STEPS = 10000, DEPTH = 16, ROOM = 4096, TRACED = 200, UNDO_STEPS = 1000 }; /* where no option says otherwise */
 
@@ -21,36 +20,43 @@ static const char help[] =
     "  rapid check FILE..                                                       check only\n"
     "  rapid list FILE..                                                        the words, with place and kind\n"
     "  rapid trace FILE.. [--steps N] [--depth N] [--input N,N,..] [--room N]   the place of each step\n"
+    "  rapid mark FILE LISTING [the same options]                               whether another simulator's listing of\n"
+    "                                                                           the steps is that of the run\n"
+    "  rapid class FILE.. [--steps N] [--depth N] [--input N,N,..] [--room N]   check and run a whole class: a table\n"
     "  rapid --version                                                          the version of library and command\n"
     "\n"
     "run and trace also take --abort-at K [--undo N]: before step K + 1 the pointer is moved to main, and the\n"
     "routines that are live run their UNDO lists, the innermost first, in at most N steps (1,000 without --undo).\n"
     "\n"
+    "A listing has a line for each step: LINE:COLUMN or the offset, and behind it whatever people like to read; lines\n"
+    "that begin with ! are passed over. trace --places FILE writes one. With --binary it is four bytes a step, the\n"
+    "offset, low byte first.\n"
+    "\n"
     "FILE may be -, for standard input; each of several files gets the same options. Without options a run has\n"
     "10,000 steps, call depth 16, no input and room for 4,096 bytes of output, as the bench program has; a trace\n"
     "shows at most 200 steps. A refusal goes to standard error, as FILE:LINE:COLUMN: refused N: why. With --json\n"
-    "all that is said of a file is one object on a line of standard output (see the page rapid(1)).\n"
+    "all that is said of a file is one object on a line of standard output (see the page rapid(1)). For class a\n"
+    "FILE may also be a folder: the .mod files in it.\n"
     "\n"
     "  rapid run lessons/tray.mod\n"
     "  rapid run lessons/sum.mod --input 3,4,5,0\n"
     "  rapid check lessons/*.mod\n"
     "  rapid trace lessons/tray.mod --steps 20\n"
+    "  rapid mark lessons/slip-trynext.mod lessons/slip-trynext.places\n"
+    "  rapid class lessons/class\n"
     "\n"
-    "Status: 0 main returned, or accepted; 1 refused; 2 ended otherwise; 64 not used as above, or a file cannot\n"
-    "be read; of several files the highest. Colours are shown on a terminal only, and not where NO_COLOR is set.\n";
+    "Status: 0 main returned, or accepted, or marked as the same; 1 refused; 2 ended otherwise, or marked as another;\n"
+    "64 not used as above, or a file cannot be read; of several files the highest. Colours are shown on a terminal\n"
+    "only, and not where NO_COLOR is set.\n";
 
-static struct {
-    char **files;
-    int file_count, steps_given, json, aborts, undo_given;
-    uint32_t steps, depth, abort_at, undo;
-    size_t room, input_count;
-} asked = {NULL, 0, 0, 0, 0, 0, STEPS, DEPTH, 0, UNDO_STEPS, ROOM, 0};
-static int32_t inputs[MOST_INPUTS], code[RAPID_STORE_WORDS], values[RAPID_STORE_WORDS];
-static uint8_t text[MOST_TEXT + 1], output[MOST_ROOM];
-static size_t text_length;
-static const char *file; /* whose text it is */
+struct asked asked = {.steps = STEPS, .depth = DEPTH, .undo = UNDO_STEPS, .room = ROOM};
+int32_t inputs[MOST_INPUTS];
+static int32_t code[RAPID_STORE_WORDS], values[RAPID_STORE_WORDS];
+uint8_t text[MOST_TEXT + 1], output[MOST_ROOM];
+size_t text_length;
+const char *file;
 
-static _Noreturn void give_up(const char *what, const char *about) {
+_Noreturn void give_up(const char *what, const char *about) {
     fprintf(stderr, "rapid: %s%s%s\n", what, about ? ": " : "", about ? about : "");
     exit(USAGE);
 }
@@ -131,10 +137,14 @@ static void read_words(char **words, int takes_numbers) {
             options_end = 1;
         else if (strcmp(*words, "--json") == 0)
             asked.json = 1;
+        else if (strcmp(*words, "--places") == 0)
+            asked.places = 1;
+        else if (strcmp(*words, "--binary") == 0)
+            asked.binary = 1;
         else if (!is_numbered(*words))
             give_up("no such option (see rapid --help)", *words);
         else if (!takes_numbers)
-            give_up("only run and trace take", *words);
+            give_up("only run, trace, mark and class take", *words);
         else {
             read_option(words[0], words[1]);
             words++;
@@ -146,8 +156,7 @@ static void read_words(char **words, int takes_numbers) {
         give_up("--undo says how many steps UNDO lists may take once --abort-at has moved the pointer", NULL);
 }
 
-/* NULL, or why a file is not read. */
-static const char *read_file(void) {
+const char *read_file(void) {
     FILE *in = strcmp(file, "-") == 0 ? stdin : fopen(file, "rb");
     if (in == NULL)
         return strerror(errno);
@@ -161,14 +170,7 @@ static const char *read_file(void) {
 /* ---- colours */
 static int coloured[STDERR_FILENO + 1]; /* by the stream's number */
 
-static const char *shown(FILE *to, const char *colour) { return coloured[to == stderr ? STDERR_FILENO : STDOUT_FILENO] ? colour : ""; }
-#define RED(to) shown(to, "\033[31m")
-#define GREEN(to) shown(to, "\033[32m")
-#define YELLOW(to) shown(to, "\033[33m")
-#define BLUE(to) shown(to, "\033[34m")
-#define CYAN(to) shown(to, "\033[36m")
-#define DIM(to) shown(to, "\033[2m")
-#define PLAIN(to) shown(to, "\033[0m")
+const char *shown(FILE *to, const char *colour) { return coloured[to == stderr ? STDERR_FILENO : STDOUT_FILENO] ? colour : ""; }
 
 static void choose_colours(void) {
     const char *no = getenv("NO_COLOR");
@@ -177,9 +179,7 @@ static void choose_colours(void) {
 }
 
 /* ---- places */
-struct place { size_t line, column, begin, end; };
-
-static struct place place_of(size_t offset) {
+struct place place_of(size_t offset) {
     struct place p = {1, 1, 0, 0};
     if (offset > text_length)
         offset = text_length;
@@ -194,6 +194,11 @@ static struct place place_of(size_t offset) {
     return p;
 }
 
+/* Three refusals lie at no place of the text, and two endings. */
+int refusal_has_place(uint64_t refusal) { return refusal > RAPID_DEPTH_OUT_OF_RANGE && refusal != RAPID_NO_MAIN; }
+
+int ending_has_place(uint64_t ending) { return ending != RAPID_RETURNED && ending != RAPID_ABORTED; }
+
 /* How long the word is that starts at an offset; 0 where none does. */
 static size_t word_at(size_t offset) {
     size_t length = 0;
@@ -201,13 +206,13 @@ static size_t word_at(size_t offset) {
 }
 
 /* Bytes of a text, each in one column: a tab is shown as a blank, and what is no printable ASCII as a dot. */
-static void show_bytes(FILE *to, size_t begin, size_t end) {
+void show_bytes(FILE *to, size_t begin, size_t end) {
     for (size_t i = begin; i < end; i++)
         putc(text[i] == '\t' ? ' ' : text[i] >= 32 && text[i] < 127 ? text[i] : '.', to);
 }
 
 /* The line that an offset lies on, with the word there underlined; of a long line a part. */
-static void show_place(FILE *to, size_t offset) {
+void show_place(FILE *to, size_t offset) {
     enum { MOST_BEFORE = 80, MOST_SHOWN = 120 };
     struct place p = place_of(offset);
     size_t at = p.begin + p.column - 1, begin = at - p.begin > MOST_BEFORE ? at - MOST_BEFORE : p.begin, end = p.end - begin > MOST_SHOWN ? begin + MOST_SHOWN : p.end;
@@ -221,18 +226,18 @@ static void show_place(FILE *to, size_t offset) {
 }
 
 /* ---- one object a file, for scripts: it has the same fields however a run ends */
-static void object_begins(void) {
+void object_begins(void) {
     fputs("{\"file\":", stdout);
     json_name(file);
 }
 
-static void object_place(size_t offset) {
+void object_place(size_t offset) {
     struct place p = place_of(offset);
     printf("\"offset\":%zu,\"line\":%zu,\"column\":%zu", offset, p.line, p.column);
 }
 
 /* What a call says, and in which words; none where a module was only checked: it is accepted, without an ending and a place. */
-static int object_ends(const struct rapid_record *r, const char *sentence, int status) {
+int object_ends(const struct rapid_record *r, const char *sentence, int status) {
     printf(",\"status\":%d,\"ending\":", status);
     if (sentence == NULL)
         fputs("null", stdout);
@@ -249,9 +254,7 @@ static int object_ends(const struct rapid_record *r, const char *sentence, int s
 }
 
 /* ---- what is said of a file */
-/* A call with so many steps; or, with UNDO steps allowed, one that moves the pointer to main where it is to be moved. */
-static struct rapid_record called_with(uint32_t steps, const uint32_t *undo) {
-    struct rapid_record r = {0};
+struct rapid_lent lent_with(uint32_t steps) {
     struct rapid_lent lent = {0};
     lent.text = text, lent.text_length = text_length;
     lent.steps = steps, lent.depth = asked.depth;
@@ -259,12 +262,19 @@ static struct rapid_record called_with(uint32_t steps, const uint32_t *undo) {
     lent.output = output, lent.output_length = asked.room;
     lent.code = code, lent.code_words = RAPID_STORE_WORDS;
     lent.values = values, lent.value_words = RAPID_STORE_WORDS;
+    return lent;
+}
+
+/* A call with so many steps; or, with UNDO steps allowed, one that moves the pointer to main where it is to be moved. */
+static struct rapid_record called_with(uint32_t steps, const uint32_t *undo) {
+    struct rapid_record r = {0};
+    struct rapid_lent lent = lent_with(steps);
     if (!(undo ? rapid_call_until(&lent, asked.abort_at, *undo, &r) : rapid_call(&lent, &r)))
         give_up("the bench did not answer", NULL);
     return r;
 }
 
-static struct rapid_record called(uint32_t steps) { return called_with(steps, NULL); }
+struct rapid_record called(uint32_t steps) { return called_with(steps, NULL); }
 
 /* Where several files are asked about, each is named above what is said of it. A refusal names its own file. */
 static void tell_file(void) {
@@ -272,20 +282,19 @@ static void tell_file(void) {
         printf("==> %s <==\n", file);
 }
 
-/* In the form that editors and scripts know from compilers. Three refusals lie at no place of the text; they stand at its beginning, as the record has them. */
+/* In the form that editors and scripts know from compilers. Refusals that lie at no place of the text stand at its beginning, as the record has them. */
 static void tell_refusal(uint64_t refusal, size_t offset) {
     char sentence[256];
     struct place p = place_of(offset);
-    int has_place = refusal > RAPID_DEPTH_OUT_OF_RANGE && refusal != RAPID_NO_MAIN;
     fflush(stdout); /* so that both streams come in order where they go to one place */
     fprintf(stderr, "%s:%zu:%zu: %srefused%s %" PRIu64 ": %s\n", file, p.line, p.column, RED(stderr), PLAIN(stderr), refusal,
             rapid_reason(text, text_length, refusal, offset, sentence, sizeof sentence));
-    if (has_place)
+    if (refusal_has_place(refusal))
         show_place(stderr, offset);
 }
 
 /* Whether a call was refused; then it is told. */
-static int told_refusal(const struct rapid_record *r) {
+int told_refusal(const struct rapid_record *r) {
     char sentence[256];
     if (r->ending != RAPID_REFUSED)
         return 0;
@@ -296,7 +305,7 @@ static int told_refusal(const struct rapid_record *r) {
     return 1;
 }
 
-static void tell_count(uint64_t count, const char *what, const char *then) { printf("%" PRIu64 " %s%s%s", count, what, count == 1 ? "" : "s", then); }
+void tell_count(uint64_t count, const char *what, const char *then) { printf("%" PRIu64 " %s%s%s", count, what, count == 1 ? "" : "s", then); }
 
 static void tell_error(uint64_t error) {
     const char *name = rapid_error_name(error);
@@ -318,7 +327,7 @@ static void tell_counts(const struct rapid_record *r) {
 
 static int told_end(const struct rapid_record *r) {
     struct place p = place_of(r->offset);
-    int returned = r->ending == RAPID_RETURNED, has_place = !returned && r->ending != RAPID_ABORTED;
+    int returned = r->ending == RAPID_RETURNED, has_place = ending_has_place(r->ending);
     if (asked.json)
         return object_ends(r, rapid_ending_sentence(r->ending), returned ? FINISHED : ENDED_OTHERWISE);
     printf("%sended%s: ", returned || r->ending == RAPID_EXITED ? GREEN(stdout) : YELLOW(stdout), PLAIN(stdout));
@@ -430,6 +439,8 @@ static int trace(void) {
     struct rapid_record r = called(0);
     if (told_refusal(&r))
         return REFUSED;
+    if (asked.places)
+        return trace_places();
     tell_file();
     fputs(asked.json ? ",\"trace\":[" : "", stdout);
     r = trace_steps(r, strikes ? asked.abort_at : most);
@@ -486,7 +497,7 @@ static int list(void) {
 
 /* ---- the command */
 /* A file that cannot be read does not keep the others from being read. */
-static int told_unread(const char *why) {
+int told_unread(const char *why) {
     if (asked.json) {
         printf(",\"status\":%d,\"sentence\":", USAGE);
         json_name(why);
@@ -496,6 +507,12 @@ static int told_unread(const char *why) {
         fprintf(stderr, "rapid: %s: %s\n", file, why);
     }
     return USAGE;
+}
+
+static int finished(int worst) {
+    if (fflush(stdout) != 0 || ferror(stdout))
+        give_up("standard output", strerror(errno));
+    return worst;
 }
 
 static int told_all(int (*tell)(void)) {
@@ -508,9 +525,7 @@ static int told_all(int (*tell)(void)) {
         int status = why ? told_unread(why) : tell();
         worst = status > worst ? status : worst;
     }
-    if (fflush(stdout) != 0 || ferror(stdout))
-        give_up("standard output", strerror(errno));
-    return worst;
+    return finished(worst);
 }
 
 /* Whether a word stands anywhere before the end of the options. */
@@ -521,8 +536,24 @@ static int has_word(char **words, const char *word) {
     return 0;
 }
 
+/* What is asked together, and cannot be. */
+static void settle(int (*tell)(void)) {
+    if (tell == trace && !asked.places && asked.steps_given && asked.steps > MOST_TRACED)
+        give_up("--steps: a trace shows at most 20,000 steps", NULL);
+    if (asked.places && tell != trace)
+        give_up("only trace takes", "--places");
+    if (asked.binary && !asked.places && tell != mark)
+        give_up("--binary is how mark reads a listing and trace --places writes one", NULL);
+    if (asked.aborts && (asked.places || tell == mark))
+        give_up("a listing is that of a run without", "--abort-at");
+    if (asked.places)
+        settle_places();
+    if (tell == mark)
+        settle_mark();
+}
+
 int main(int count, char **words) {
-    static const struct { const char *name; int (*tell)(void); int takes_numbers; } commands[] = {{"run", run, 1}, {"check", check, 0}, {"list", list, 0}, {"trace", trace, 1}};
+    static const struct { const char *name; int (*tell)(void); int takes_numbers; } commands[] = {{"run", run, 1}, {"check", check, 0}, {"list", list, 0}, {"trace", trace, 1}, {"mark", mark, 1}};
     if (count < 2) {
         fputs(help, stderr);
         return USAGE;
@@ -537,11 +568,16 @@ int main(int count, char **words) {
         return FINISHED;
     }
     choose_colours();
+    if (strcmp(words[1], "class") == 0) {
+        read_words(words + 2, 1);
+        if (asked.aborts)
+            give_up("a class has no --abort-at", NULL);
+        return finished(told_class());
+    }
     for (size_t i = 0; i < sizeof commands / sizeof *commands; i++)
         if (strcmp(words[1], commands[i].name) == 0) {
             read_words(words + 2, commands[i].takes_numbers);
-            if (commands[i].tell == trace && asked.steps_given && asked.steps > MOST_TRACED)
-                give_up("--steps: a trace shows at most 20,000 steps", NULL);
+            settle(commands[i].tell);
             return told_all(commands[i].tell);
         }
     give_up("no such command (see rapid --help)", words[1]);

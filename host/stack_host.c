@@ -1,21 +1,34 @@
 /* Reads case lines and says how many bytes of stack the deepest of the calls used: each runs in a thread on a stack of its own that was painted before. */
 #define _POSIX_C_SOURCE 200809L
 #include "case_call.h"
+#include "class_lines.h"
 #include <pthread.h>
 #include <stdio.h>
 #include <stdlib.h>
 #include <string.h>
 
 enum { STACK = 1 << 20, PAINT = 0xa5 };
-static char line[MOST_LINE];
+static char line[MOST_CLASS_LINE];
 static struct call_case asked;
-static uint8_t output[MOST_OUTPUT], code[RAPID_STORE_BYTES], values[RAPID_STORE_BYTES], record[RAPID_RECORD_BYTES];
+static struct class_case asked_class;
+static uint8_t output[MOST_OUTPUT], code[RAPID_STORE_BYTES], values[RAPID_STORE_BYTES], record[RAPID_RECORD_BYTES], answer[RAPID_MARKING_BYTES], records[MOST_RECORDS], data[MOST_DATA];
 
 static void *nothing(void *unused) { return unused; }
 
 static void *call(void *unused) {
     const struct case_memory m = {asked.text, asked.inputs, output, code, values, record, 4 * asked.input_count, sizeof code, sizeof values, sizeof record};
-    case_call(&asked, 0, &m);
+    const struct case_marking k = {asked.listing, answer, asked.listing_length, sizeof answer};
+    if (asked.marks)
+        case_mark(&asked, &m, &k);
+    else
+        case_call(&asked, 0, &m);
+    return unused;
+}
+
+static void *call_for_class(void *unused) {
+    const struct call_case *each = &asked_class.each;
+    const struct class_memory m = {each->text, asked_class.lengths, each->inputs, output, code, values, records, data, 4 * each->input_count, sizeof code, sizeof values};
+    class_call(&asked_class, &m);
     return unused;
 }
 
@@ -42,9 +55,10 @@ int main(void) {
         return 1;
     size_t without = touched(stack, nothing);
     for (; fgets(line, sizeof line, stdin); calls++) {
-        if (!case_read(line, &asked))
+        int is_class = class_read(line, &asked_class);
+        if (!is_class && !case_read(line, &asked))
             continue;
-        size_t used = touched(stack, call) - without;
+        size_t used = touched(stack, is_class ? call_for_class : call) - without;
         if (used > deepest)
             deepest = used;
     }

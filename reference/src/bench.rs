@@ -2,8 +2,9 @@
 
 use crate::counts::Counts;
 use crate::form::form;
+use crate::mark::Marked;
 use crate::names::settle;
-use crate::run::{run, Abort, Allowance};
+use crate::run::{run, Abort, Allowance, Slip};
 use crate::scan::{list, Refusal};
 
 const STORE_WORDS: u64 = 16_384;
@@ -35,6 +36,10 @@ pub struct Answer {
     pub words: Vec<i64>,
     /// What the run came across; no part of the paper's answer.
     pub counts: Counts,
+    /// The place of each counted step, in order.
+    pub places: Vec<usize>,
+    /// Request 14: how a listing was marked; none where the module is refused.
+    pub marked: Option<Marked>,
 }
 
 impl Answer {
@@ -69,21 +74,30 @@ pub fn lesson(text: Vec<u8>) -> Answer {
 }
 
 pub fn answer(lent: &Lent) -> Answer {
-    accepted(lent).unwrap_or_else(|refusal| Answer {
+    answer_by(lent, None)
+}
+
+/// The answer of a bench with a slip, if one is given.
+pub fn answer_by(lent: &Lent, slip: Option<Slip>) -> Answer {
+    accepted(lent, slip).unwrap_or_else(|refusal| Answer {
         refusal: refusal.number,
         offset: refusal.place,
         ..Answer::default()
     })
 }
 
-/// The answer of an accepted call, or what it is refused for.
-fn accepted(lent: &Lent) -> Result<Answer, Refusal> {
-    let refuse = |number| Err(Refusal { place: 0, number });
-    if lent.code_words.min(lent.value_words) < STORE_WORDS {
-        return refuse(1);
+/// Refusals 1 and 2, for which no text matters.
+pub fn refused_rooms(code_words: u64, value_words: u64, depth: u32) -> Option<u32> {
+    if code_words.min(value_words) < STORE_WORDS {
+        return Some(1);
     }
-    if !(1..=DEEPEST).contains(&lent.depth) {
-        return refuse(2);
+    (!(1..=DEEPEST).contains(&depth)).then_some(2)
+}
+
+/// The answer of an accepted call, or what it is refused for.
+fn accepted(lent: &Lent, slip: Option<Slip>) -> Result<Answer, Refusal> {
+    if let Some(number) = refused_rooms(lent.code_words, lent.value_words, lent.depth) {
+        return Err(Refusal { place: 0, number });
     }
     let listing = list(&lent.text);
     if let Some(refusal) = listing.refusal {
@@ -97,6 +111,7 @@ fn accepted(lent: &Lent) -> Result<Answer, Refusal> {
         inputs: &lent.inputs,
         output_room: lent.output_room,
         abort: lent.abort,
+        slip,
     };
     let run = run(&module, main, &allowance);
     Ok(Answer {
@@ -109,5 +124,7 @@ fn accepted(lent: &Lent) -> Result<Answer, Refusal> {
         output: run.output,
         words: run.words,
         counts: run.counts,
+        places: run.places,
+        marked: None,
     })
 }

@@ -55,9 +55,14 @@ pub enum Event {
     UndoDone,
     NoInputInUndo,
     NoRoomInUndo,
+    ListingEqual,
+    EntryDiffers,
+    EntryMissing,
+    EntrySurplus,
+    PartWord,
 }
 
-const NAMES: [&str; 52] = [
+const NAMES: [&str; 57] = [
     "assignment",
     "element of an array stored",
     "line written",
@@ -110,6 +115,11 @@ const NAMES: [&str; 52] = [
     "UNDO list run to its end",
     "no input left in an UNDO list",
     "no room for a line in an UNDO list",
+    "listing that is the run's",
+    "listing with an entry that differs",
+    "listing with an entry missing",
+    "listing with an entry that is surplus",
+    "listing with a part word at its end",
 ];
 
 /// How often each event came up.

@@ -6,7 +6,10 @@ use std::collections::HashMap;
 
 use crate::bench::{Answer, Lent};
 use crate::lines::{show_answer, show_bytes, show_run};
+use crate::mark::{case_of_mark, listed, show_marked, Marked};
 use crate::run::Abort;
+
+mod class;
 
 /// What stands around the lines that begin with `>`.
 const FRAME: [&str; 2] = [
@@ -29,6 +32,11 @@ struct Draft {
     settings: HashMap<String, String>,
     text: Vec<u8>,
     framed: Vec<u8>,
+    /// Names of places, each with how much of its text stands before it.
+    places: Vec<(String, usize)>,
+    /// The listing of a case of marking.
+    listing: Option<String>,
+    class: class::ClassDraft,
 }
 
 /// Reads the whole table; what it says wrongly is reported with its line.
@@ -46,8 +54,13 @@ pub fn read_table(table: &str) -> Result<Vec<HandCase>, String> {
                 Ok(())
             }
             Some('w') => draft.set(line),
-            Some('|') => expand(&line[1..]).map(|bytes| draft.text.extend(bytes)),
-            Some('>') => expand(&line[1..]).map(|bytes| draft.framed.extend(bytes)),
+            Some('|') => add_line(&line[1..], &mut draft.text, &mut draft.places),
+            Some('>') => add_line(&line[1..], &mut draft.framed, &mut draft.places),
+            Some('@') => {
+                draft.listing = Some(line[1..].to_string());
+                Ok(())
+            }
+            Some('&') => draft.module(line[1..].trim()),
             Some('=') => draft
                 .expectation(line[1..].trim())
                 .map(|case| cases.push(case)),
@@ -82,6 +95,23 @@ fn expand(line: &str) -> Result<Vec<u8>, String> {
     bytes.extend_from_slice(rest.as_bytes());
     bytes.push(b'\n');
     Ok(bytes)
+}
+
+/// Adds a line to a text, without the marks `~(name)` of places, which are noted.
+fn add_line(
+    line: &str,
+    text: &mut Vec<u8>,
+    places: &mut Vec<(String, usize)>,
+) -> Result<(), String> {
+    let mut rest = line;
+    while let Some((before, behind)) = rest.split_once("~(") {
+        let (name, after) = behind.split_once(')').ok_or("an open mark")?;
+        text.extend(expand(&format!("{before}~."))?);
+        places.push((name.to_string(), text.len()));
+        rest = after;
+    }
+    text.extend(expand(rest)?);
+    Ok(())
 }
 
 /// Adds `[N*part]` and hands back what follows it.
@@ -126,6 +156,19 @@ impl Draft {
         (text, marker)
     }
 
+    /// Where a named place lies in the text without its marker.
+    fn place(&self, name: &str) -> Option<usize> {
+        let (_, before) = self.places.iter().find(|(named, _)| named == name)?;
+        let frame = if self.framed.is_empty() {
+            0
+        } else {
+            FRAME[0].len()
+        };
+        let place = frame + before;
+        let marker = self.marked_text().1;
+        Some(place - usize::from(marker.is_some_and(|marker| marker < place)))
+    }
+
     fn lent(&self) -> Result<Lent, String> {
         let inputs = self.settings.get("inputs").map_or("", String::as_str);
         let inputs: Result<Vec<i32>, _> = inputs
@@ -168,9 +211,17 @@ impl Draft {
                 };
                 (format!("at {text} {place}"), covered)
             }
+            "class" => self.class_expectation(rest)?,
             _ => {
                 let answer = expected_answer(expected, marker)?;
-                (show_run(&self.lent()?), show_answer(&answer))
+                let lent = self.lent()?;
+                match &self.listing {
+                    None => (show_run(&lent), show_answer(&answer)),
+                    Some(listing) => {
+                        let listing = listed(listing, |name| self.place(name))?;
+                        (case_of_mark(&lent, &listing), show_marked(&answer))
+                    }
+                }
             }
         };
         Ok(HandCase {
@@ -181,8 +232,9 @@ impl Draft {
     }
 }
 
-/// `refused N [offset O]` or `ending E steps S [errno N] [inputs I] [words W] [output O]`;
-/// the offset is the marker's unless given.
+/// `refused N [offset O]` or `ending E steps S [errno N] [inputs I] [words W] [output O]`,
+/// with `same I` or `differs I` before the output where a listing is marked; the offset is
+/// the marker's unless given.
 fn expected_answer(expected: &str, marker: Option<usize>) -> Result<Answer, String> {
     let mut answer = Answer {
         offset: marker.unwrap_or(0),
@@ -195,6 +247,8 @@ fn expected_answer(expected: &str, marker: Option<usize>) -> Result<Answer, Stri
         .iter()
         .map(|byte| if *byte == b'/' { b'\n' } else { *byte })
         .collect();
+    let fields = expand(&format!("{fields}~."))?;
+    let fields = String::from_utf8_lossy(&fields);
     let fields: Vec<&str> = fields.split_whitespace().collect();
     for pair in fields.chunks(2) {
         let [name, value] = pair else {
@@ -210,6 +264,12 @@ fn expected_answer(expected: &str, marker: Option<usize>) -> Result<Answer, Stri
             "errno" => answer.errno = numbers[0],
             "inputs" => answer.inputs_used = numbers[0] as usize,
             "words" => answer.words = numbers,
+            "same" | "differs" => {
+                answer.marked = Some(Marked {
+                    same: *name == "same",
+                    index: numbers[0] as usize,
+                })
+            }
             _ => return Err(format!("no field {name}")),
         }
     }

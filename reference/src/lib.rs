@@ -6,11 +6,14 @@
 //! `generate` makes case lines.
 
 pub mod bench;
+pub mod class;
+pub mod class_counts;
 pub mod counts;
 pub mod form;
 pub mod generate;
 pub mod hand;
 pub mod lines;
+pub mod mark;
 pub mod names;
 pub mod run;
 pub mod scan;

@@ -4,6 +4,8 @@ use std::fmt::Write;
 use std::str::FromStr;
 
 use crate::bench::{answer, Answer, Lent};
+use crate::class::{class_answer, read_class, show_class_answer};
+use crate::mark::{answer_marking, show_marked};
 use crate::run::Abort;
 use crate::scan::{list, word_at, Kind, Listing};
 
@@ -18,7 +20,8 @@ pub fn answer_line(line: &str) -> String {
 fn reply(line: &str) -> Option<String> {
     let fields: Vec<&str> = line.split(' ').collect();
     match fields.as_slice() {
-        ["run", rest @ ..] => Some(show_answer(&answer(&read_run(rest)?))),
+        ["run", ..] => Some(show_answer(&called(line)?)),
+        ["mark", ..] => Some(show_marked(&called(line)?)),
         ["list", text] => Some(show_listing(&list(&read_bytes(text)?))),
         ["at", text, place] => {
             let text = read_bytes(text)?;
@@ -28,6 +31,19 @@ fn reply(line: &str) -> Option<String> {
                 .ok()
                 .and_then(|place| word_at(&text, place));
             Some(covered.map_or("none".to_string(), show_bytes))
+        }
+        ["class", rest @ ..] => Some(show_class_answer(&class_answer(&read_class(rest)?))),
+        _ => None,
+    }
+}
+
+/// The answer to a line that makes a call, `run` or `mark`; `None` for any other line.
+pub fn called(line: &str) -> Option<Answer> {
+    let fields: Vec<&str> = line.split(' ').collect();
+    match fields.as_slice() {
+        ["run", rest @ ..] => Some(answer(&read_run(rest)?)),
+        ["mark", rest @ .., listing] if rest.len() == PLAIN_FIELDS => {
+            Some(answer_marking(&read_run(rest)?, &read_bytes(listing)?))
         }
         _ => None,
     }
@@ -82,12 +98,12 @@ pub fn show_run(lent: &Lent) -> String {
     )
 }
 
-fn read_count<T: FromStr>(field: &str) -> Option<T> {
+pub(crate) fn read_count<T: FromStr>(field: &str) -> Option<T> {
     let digits = !field.is_empty() && field.bytes().all(|byte| byte.is_ascii_digit());
     digits.then(|| field.parse().ok()).flatten()
 }
 
-fn read_inputs(field: &str) -> Option<Vec<i32>> {
+pub(crate) fn read_inputs(field: &str) -> Option<Vec<i32>> {
     if field == "-" {
         return Some(Vec::new());
     }
@@ -135,7 +151,7 @@ pub fn show_bytes(bytes: &[u8]) -> String {
         })
 }
 
-fn show_list<T: ToString>(numbers: &[T]) -> String {
+pub(crate) fn show_list<T: ToString>(numbers: &[T]) -> String {
     if numbers.is_empty() {
         return "-".to_string();
     }

@@ -11,6 +11,18 @@ pub struct Allowance<'a> {
     pub inputs: &'a [i32],
     pub output_room: u64,
     pub abort: Option<Abort>,
+    pub slip: Option<Slip>,
+}
+
+/// Classroom slips that another simulator may have (request 14); the program has none.
+#[derive(Clone, Copy, Debug, PartialEq, Eq)]
+pub enum Slip {
+    /// TRYNEXT goes on behind the statement that failed, in the routine that is dropped.
+    TryNextInDropped,
+    /// RETRY begins the routine of the ERROR list again.
+    RetryFromStart,
+    /// An error in an ERROR list goes to the caller's.
+    ErrorInErrorHandedOn,
 }
 
 /// Request 6: the pointer is moved to main where the run has made `at` steps; the
@@ -31,6 +43,7 @@ pub struct Run {
     pub output: Vec<u8>,
     pub words: Vec<i64>,
     pub counts: Counts,
+    pub places: Vec<usize>,
 }
 
 pub fn run(module: &Module, main: usize, allowance: &Allowance) -> Run {
@@ -44,6 +57,7 @@ pub fn run(module: &Module, main: usize, allowance: &Allowance) -> Run {
         inputs_used: 0,
         output: Vec::new(),
         counts: Counts::default(),
+        places: Vec::new(),
     };
     machine.enter(main, &[], None);
     let (ending, place) = machine.go();
@@ -56,6 +70,7 @@ pub fn run(module: &Module, main: usize, allowance: &Allowance) -> Run {
         output: machine.output,
         words: machine.words,
         counts: machine.counts,
+        places: machine.places,
     }
 }
 
@@ -104,6 +119,8 @@ struct Live<'m> {
     levels: Vec<Level<'m>>,
     /// Where the routine's list stood when its error came; `Some` in its ERROR list.
     failed: Option<Vec<Level<'m>>>,
+    /// The calls above it that its error dropped; only a simulator with a slip takes them up.
+    dropped: Vec<Live<'m>>,
     /// Whether it is dropped and runs its UNDO list.
     undoing: bool,
     /// The caller's word that gets the result of a FUNC.
@@ -154,6 +171,8 @@ struct Machine<'m> {
     inputs_used: usize,
     output: Vec<u8>,
     counts: Counts,
+    /// The place of each counted step.
+    places: Vec<usize>,
 }
 
 impl<'m> Level<'m> {
@@ -183,6 +202,7 @@ impl<'m> Machine<'m> {
                 return (ending, place);
             }
             self.steps += 1;
+            self.places.push(next.place());
             let settled = match done {
                 Ok(()) => Ok(()),
                 Err(Halt::Error(number)) => {
@@ -311,20 +331,17 @@ impl<'m> Machine<'m> {
     fn raise(&mut self, number: i64, place: usize) -> Result<(), (u32, usize)> {
         self.errno = number;
         self.counts.add(event_of(number));
-        let live_before = self.calls.len();
-        while self
-            .calls
-            .last()
-            .is_some_and(|live| live.routine.error.is_none())
-        {
-            let undoes = self.live().routine.undo.is_some();
-            self.calls.pop();
+        let handed_on = self.allowance.slip == Some(Slip::ErrorInErrorHandedOn);
+        let takes =
+            |live: &Live| live.routine.error.is_some() && !(handed_on && live.failed.is_some());
+        let kept = self.calls.iter().rposition(takes).map_or(0, |at| at + 1);
+        let dropped = self.calls.split_off(kept);
+        for live in &dropped {
             self.counts.add(Event::RoutineDropped);
-            if undoes {
+            if live.routine.undo.is_some() {
                 self.counts.add(Event::UndoPassedOver);
             }
         }
-        let dropped = self.calls.len() < live_before;
         if self.calls.last().is_some_and(|live| live.failed.is_some()) {
             self.counts.add(Event::ErrorInError);
         }
@@ -332,12 +349,13 @@ impl<'m> Machine<'m> {
             return Err((3, place));
         };
         self.counts.add(Event::Handled);
-        if dropped {
+        if !dropped.is_empty() {
             self.counts.add(Event::HandledAbove);
         }
         let list = live.routine.error.as_ref().expect("the others are dropped");
         let handler = vec![Level::start(list, Repeat::Never)];
         live.failed = Some(std::mem::replace(&mut live.levels, handler));
+        live.dropped = dropped;
         Ok(())
     }
 }
@@ -456,6 +474,7 @@ impl<'m> Machine<'m> {
             words,
             levels,
             failed: None,
+            dropped: Vec::new(),
             undoing: false,
             result,
         });
@@ -570,6 +589,10 @@ impl<'m> Machine<'m> {
             Action::Retry => {
                 self.counts.add(Event::Retry);
                 self.resume();
+                if self.allowance.slip == Some(Slip::RetryFromStart) {
+                    let live = self.live();
+                    live.levels = vec![Level::start(&live.routine.body, Repeat::Never)];
+                }
                 let level = self.level();
                 if level.list.get(level.at).is_some_and(is_compound) {
                     self.counts.add(Event::RetryOfCompound);
@@ -578,6 +601,10 @@ impl<'m> Machine<'m> {
             Action::TryNext => {
                 self.counts.add(Event::TryNext);
                 self.resume();
+                if self.allowance.slip == Some(Slip::TryNextInDropped) {
+                    let dropped = std::mem::take(&mut self.live().dropped);
+                    self.calls.extend(dropped);
+                }
                 if self.level().repeat.is_loop() {
                     self.counts.add(Event::TryNextInLoop);
                 }

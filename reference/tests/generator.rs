@@ -3,7 +3,7 @@
 use reference::bench::{answer, Lent};
 use reference::counts::{Event, Measures};
 use reference::generate::{less_room, more_room, Cases, Kind, Random, Size};
-use reference::lines::{answer_line, lent_of};
+use reference::lines::{answer_line, called, lent_of};
 use reference::tally::Tally;
 
 fn lines(seed: u64, count: usize, kind: Kind, size: Size) -> Vec<String> {
@@ -59,6 +59,34 @@ fn lists_are_run() {
     assert!(aborted > 1_300 && with_lists > 1_200 && lasting > 1_300);
 }
 
+/// Cases of request 14 run, and are marked in every way that the request speaks of, at every
+/// part of the listing.
+#[test]
+fn listings_are_marked() {
+    let (mut refused, mut lasting, mut middle) = (0, 0, 0);
+    let mut times = [0; 5];
+    for line in lines(7, 2_000, Kind::Marking, Size::Short) {
+        let answer = called(&line).expect("a mark line");
+        refused += usize::from(answer.ending == 0);
+        lasting += usize::from(answer.steps > 10);
+        let index = answer.marked.map_or(0, |marked| marked.index);
+        middle += usize::from(index > 0 && index + 1 < answer.places.len());
+        for (times, event) in times.iter_mut().zip([
+            Event::ListingEqual,
+            Event::EntryDiffers,
+            Event::EntryMissing,
+            Event::EntrySurplus,
+            Event::PartWord,
+        ]) {
+            *times += answer.counts.times(event);
+        }
+    }
+    assert!((100..240).contains(&refused), "{refused} are refused");
+    assert!(lasting > 1_500, "{lasting} run for more than ten steps");
+    assert!(middle > 600, "{middle} differ in the middle");
+    assert!(times.iter().all(|times| *times > 150), "{times:?}");
+}
+
 #[test]
 fn the_same_seed_gives_the_same_lines() {
     let kind = Kind::All;
@@ -75,8 +103,8 @@ fn the_same_seed_gives_the_same_lines() {
 #[test]
 fn every_line_is_a_case_line() {
     for name in [
-        "valid", "courses", "counting", "undo", "hiding", "mistyped", "words", "bytes", "limits",
-        "listing", "all",
+        "valid", "courses", "counting", "undo", "hiding", "marking", "mistyped", "words", "bytes",
+        "limits", "class", "listing", "all",
     ] {
         let kind = Kind::named(name).expect("a kind of cases");
         for (count, size) in [(1_000, Size::Short), (20, Size::Long)] {
@@ -120,7 +148,7 @@ fn a_second_room_is_as_large() {
     );
 }
 
-/// Modules as a course has them run long; with those of request 6 they come across
+/// Modules as a course has them run long; with those of requests 6 and 14 they come across
 /// everything that is counted.
 #[test]
 fn courses_miss_nothing() {
@@ -129,8 +157,9 @@ fn courses_miss_nothing() {
     for line in courses
         .into_iter()
         .chain(lines(3, 500, Kind::Undo, Size::Short))
+        .chain(lines(3, 200, Kind::Marking, Size::Short))
     {
-        let answer = answer(&lent_of(&line).expect("a run line"));
+        let answer = called(&line).expect("a run or mark line");
         measures.count(answer.steps, &answer.counts);
     }
     assert!(

@@ -29,6 +29,11 @@ fn lines_that_cannot_be_read() {
         "run - 0 1 2147483648 0 16384 16384",
         "run - 0 1 1, 0 16384 16384",
         "run - +1 1 - 0 16384 16384",
+        "mark - 0 1 - 0 16384 16384",
+        "mark - 0 1 - 0 16384 16384 0",
+        "mark - 0 1 - 0 16384 16384 00000",
+        "mark - 0 1 - 0 16384 16384 - -",
+        "mark - 0 1 - 0 16384 16384 0 0 -",
     ];
     for line in bad {
         assert_eq!(answer_line(line), "bad line", "{line}");
@@ -49,6 +54,10 @@ fn lines_at_the_edges_of_their_fields() {
     assert_eq!(
         answer_line("run - 0 4294967295 - 0 16384 16384"),
         "0 2 0 0 0 0 0 0 - -"
+    );
+    assert_eq!(
+        answer_line("mark - 0 1 - 0 16384 16384 00"),
+        format!("{refused} - -")
     );
     assert_eq!(answer_line("list -"), "-");
     assert_eq!(answer_line("list 41"), "n@0+1");

@@ -7,8 +7,8 @@ use Rattle.paper.specs.Undoing.{plainly}
 use Rattle.paper.specs.Answer.{pendantCall, untouched, flaggedCall}
 use Rattle.run_whole.specs.declared.Abort.the-variants.{Never, At}
 use Rattle.run_whole.specs.Runs.{abortOf}
+use Rattle.call_judging.specs.Carries.{askedBy}
 use Rattle.call_pendant.specs.Calls.{lent, Calls, until, FlaggedCalls}
-use Rattle.call_pendant.specs.Carries.{askedBy}
 
 module _ (text : List ℕ) (steps depth : ℕ) (inputs out code values fields : List ℕ) where
   pub run-called : (r : ℕ) (out′ code′ values′ fields′ : List ℕ) → Calls (lent (askedBy Never) text steps depth inputs out code values fields) r out′ code′ values′ fields′

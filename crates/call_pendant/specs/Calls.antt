@@ -4,14 +4,10 @@ use mathlib.Core.List.{List}
 use mathlib.Core.Option.{some}
 use Prim.Native.Nat.{ℕ}
 use Rattle.paper.specs.Undoing.{Asked}
-use Rattle.paper.specs.Answer.{LentBytes, pendantCall, flaggedCall}
-
-unfoldable pub lent : Asked → (text : List ℕ) → (steps depth : ℕ) → (inputs out code values record′ : List ℕ) → LentBytes
-lent asked text steps depth inputs out code values fields =
-    record { text = text; steps = steps; depth = depth; inputs = inputs; output = out; code = code; values = values; fields = fields; asked = asked }
-
-pub record Calls (l : LentBytes) (r : ℕ) (out code values fields : List ℕ) : Type 0 where
-  pub is : record { returned = r; output = out; code = code; values = values; fields = fields } ≡ pendantCall l
+use Rattle.paper.specs.Answer.{LentBytes, flaggedCall}
+-- the call without K: what `pendantCall` says
+unfoldable pub use Rattle.call_judging.specs.Calls.{lent}
+pub use Rattle.call_judging.specs.Calls.{Calls}
 
 -- the run with K
 abbrev pub until : (at undo : ℕ) → Asked

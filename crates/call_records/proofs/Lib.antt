@@ -1,1 +1,4 @@
 pub mod Records
+pub mod Stores
+pub mod Depths
+pub mod Refusals

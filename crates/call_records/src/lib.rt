@@ -1,17 +1,22 @@
 // What a call leaves: the record, and the stores with all but a module's words cleared.
 ghost use mathlib.Core.Path.{_≡_};
+ghost use mathlib.Core.Bool.{_||_};
 ghost use Prim.Native.Nat.{_+_, _*_, _≤_};
+ghost use lib.Dec.{eqb, ltb};
 ghost use lib.ListN.{length};
 ghost use Rattle.layout.specs.Named.{storeBytes};
 ghost use Rattle.layout.specs.Parts.{halfPart};
-ghost use Rattle.paper.specs.Answer.{recordSize};
+ghost use Rattle.layout.specs.Rules.{wrongDepth};
+ghost use Rattle.paper.specs.Answer.{recordSize, depthLimit};
 ghost use Rattle.call_records.specs.Records.{fieldsOf, refusedFields, Written, Reports, reported, Empties, Emptied};
+ghost use Rattle.call_records.specs.Leaves.{Rooms, Refuses, Settles, Settled};
 use layout::cells::ERRNO;
 use layout::cells::USED;
 use layout::cells::USED_HIGH;
 use layout::cells::WRITTEN;
 use layout::cells::WRITTEN_HIGH;
 use layout::limits;
+use layout::rules;
 
 // A number from its two halves.
 fn joined(low: u32, high: u32) -> u64
@@ -87,4 +92,40 @@ pub fn empty(code: &mut [u8], values: &mut [u8], words: usize)
 {
     store_cells::clear(code, 0, limits::STORE_CELLS);
     store_cells::clear(values, words, limits::STORE_CELLS - words);
+}
+
+// Fewer live calls than one, or more than the paper allows.
+pub fn bad_depth(depth: u32) -> bool
+    ensures { λ r. ⌜ r ≡ (eqb depth 0 || ltb depthLimit depth) ⌝ }
+{
+    if depth == 0 {
+        return true;
+    }
+    limits::DEEPEST < depth
+}
+
+// Empties both stores and refuses the depth.
+pub fn refuse_depth(code: &mut [u8], values: &mut [u8], fields: &mut [u8])
+    requires { ⌜ Rooms (now code) (now values) (now fields) ⌝ }
+    ensures { λ _. ⌜ Refuses wrongDepth 0 (now (code .entry)) (now (values .entry)) (now (fields .entry)) (now (code .exit)) (now (values .exit)) (now (fields .exit)) ⌝ }
+{
+    empty(code, values, 0);
+    refuse(fields, rules::WRONG_DEPTH, 0);
+}
+
+// Writes the record of a run that has ended, and clears the stores but for the module's words.
+pub fn settle(
+    code: &mut [u8],
+    values: &mut [u8],
+    fields: &mut [u8],
+    ending: u32,
+    place: usize,
+    made: u64,
+    words: usize,
+)
+    requires { ⌜ Settles (now code) (now values) (now fields) words ⌝ }
+    ensures { λ _. ⌜ Settled ending place made words (now (code .entry)) (now (values .entry)) (now (fields .entry)) (now (code .exit)) (now (values .exit)) (now (fields .exit)) ⌝ }
+{
+    report(values, fields, ending, place, made, words);
+    empty(code, values, words);
 }

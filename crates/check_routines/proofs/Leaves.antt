@@ -115,7 +115,7 @@ headed-others : {before after : List ℕ} {i op value : ℕ} → Headed before a
 headed-others {before} {after} {i} l k d =
     by-less k (i * 2) (λ h. cell-below (l .kept) k h)
     (λ h. by-same k (i * 2 + 1)
-    (λ w. ap (λ (j : ℕ). getD (cellsOf after) j 0) w ∙ same-tail (tailAt (cellsOf after) i) (tailAt (cellsOf before) i) (l .kept .places i) (l .link-is) ∙ sym (ap (λ (j : ℕ). getD (cellsOf before) j 0) w))
+    (λ w. ap (λ (j : ℕ). getD (cellsOf after) j 0) w ∙ same-tail (tailAt (cellsOf after) i) (tailAt (cellsOf before) i) (l .place-is) (l .link-is) ∙ sym (ap (λ (j : ℕ). getD (cellsOf before) j 0) w))
     (λ w. cell-above (l .kept) k (omega (arith, w, d))))
 
 module _ (code c₁ c₂ c₃ c₄ : List ℕ) (f : Bool) (h e z w : ℕ) (before : h + 1 < e) (inner : e ≤ z) (last : z ≤ w) (few : w < wordLimit) (room : w * 8 + 8 ≤ length code) where

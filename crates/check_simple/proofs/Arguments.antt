@@ -27,7 +27,7 @@ use Rattle.check_expressions.specs.declared.Judged.the-variants.{Typed, Faulty}
 use Rattle.check_expressions.specs.Known.{Loaded}
 use Rattle.store_writing.specs.Promises.{Kept, Linked}
 use Rattle.check_expressions.specs.Answers as expressions
-use Rattle.store_writing.proofs.Keeping.{cell-below, head-below, head-above, kept-same, kept-wider, kept-on, term-below, term-above}
+use Rattle.store_writing.proofs.Keeping.{cell-below, head-below, head-above, place-above, kept-same, kept-wider, kept-on, term-below, term-above}
 use Rattle.check_expressions.proofs.FaultsOfParts.{append-none}
 use Rattle.check_expressions.proofs.Starts.{loaded-part, loaded-after}
 use Rattle.faults.specs.First.{Inside, First}
@@ -56,7 +56,7 @@ pub unread-after : (W : List Word) (code after : List ℕ) (from to a b : ℕ) �
 unread-after W code after from to a b u k h = record {
   loaded = loaded-after W code after from to a b (u .loaded) k h;
   strings = λ i l m s. ap (λ (w : ℕ). valueIn w) (head-above k i (omega arith)) ∙ u .strings i l m s;
-  places = λ i l m. k .places i ∙ u .places i l m;
+  places = λ i l m. place-above k i (omega arith) ∙ u .places i l m;
 }
 
 -- what has changed from x up to y only is the same outside of more

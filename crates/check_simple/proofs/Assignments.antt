@@ -29,7 +29,7 @@ use Rattle.check_expressions.specs.Known.{Loaded, InRoom}
 use Rattle.store_writing.specs.Promises.{Kept, Linked}
 use Rattle.check_expressions.specs.Answers.{OfType}
 use Rattle.check_expressions.specs.Answers as expressions
-use Rattle.store_writing.proofs.Keeping.{cell-above, head-below, head-above, kept-wider, kept-on, term-below, term-above}
+use Rattle.store_writing.proofs.Keeping.{cell-above, head-below, head-above, place-below, kept-wider, kept-on, term-below, term-above}
 use Rattle.check_expressions.proofs.Starts.{loaded-part}
 use Rattle.faults.specs.First.{First}
 use Rattle.faults.proofs.Expressions.{grows}
@@ -37,7 +37,7 @@ use Rattle.check_links.specs.Raw.{Quiet, RawTarget, RawAssign}
 use Rattle.check_links.proofs.Ops.{low-still}
 use Rattle.check_around.specs.Around.{Around, groundOf}
 use Rattle.check_around.specs.Answers.{Fine}
-use Rattle.check_simple.specs.Parts.{Aims, scalar-aims, element-aims, ValueSide, ValueAssigned}
+use Rattle.check_simple.specs.Parts.{Aims, scalar-aims, element-aims, ValueSide, AssignWritten, ValueAssigned}
 use Rattle.check_simple.proofs.Expressions.{no-operator, level-semicolon, quiet-below, quiet-above, Told, asks, typed-told, typed-first, typed-long, answer-first, answer-fine, raw-term, raw-term-after}
 use Rattle.check_simple.proofs.Arguments.{link-below}
 use Rattle.paper.specs.Words.{wordLimit}
@@ -170,7 +170,7 @@ module _ (code values : List ℕ) (wants : ℕ) (i b : ℕ) (g : ValueSide code 
             ∙ g .unread .loaded .words b (omega arith) (omega (arith, value-on)) .sort ∙ g .becomes-is
 
         value-fine : Fine (ofType (g .around .known .W) (g .type) (g .around .known .S) (g .e)) code after i (g .to + 1) (end + 1)
-            (RawAssign (groundOf (g .around)) (g .around .known .n) (cellsOf after) (g .around .known .S) (g .t) (g .e) i (g .to + 1) (g .to + 1))
+            (AssignWritten (RawAssign (groundOf (g .around)) (g .around .known .n) (cellsOf after) (g .around .known .S) (g .t) (g .e) i (g .to + 1) (g .to + 1)) code after i)
         value-fine =
             let known = g .around .known in
             let spot = spotOf (known .W) (known .S) (g .t) in
@@ -178,20 +178,23 @@ module _ (code values : List ℕ) (wants : ℕ) (i b : ℕ) (g : ValueSide code 
               none = value-told .none;
               next-is = ap (λ (y : ℕ). y + 1) (value-told .next-is);
               written = record {
-                b = b;
-                z = g .to;
-                target = raw-target (g .around) (cellsOf after) aTarget (g .t) i b (g .target .k) (g .target .v) (x .op-is ∙ ap opIn head-same ∙ g .target .op-is) (x .value-is ∙ ap valueIn head-same ∙ g .target .value-is)
-                    (aims-above (x .kept) (known .m) (known .n) (g .target .k) (g .target .v) spot i b (omega arith)
-                    (aims-below value-kept (known .m) (known .n) (g .target .k) (g .target .v) spot i b (omega arith) (g .target .aims)))
-                    (quiet-above (x .kept) (i + 1) b (omega arith) (quiet-below value-kept (i + 1) b (omega arith) (g .target .quiet)));
-                term = record {
-                  link = link-above (x .kept) b (omega (arith, g .before)) ∙ l .link-is ∙ value-told .next-is;
-                  still = low-still (opAt (cellsOf after) b) (omega (arith, becomes-op));
-                  term = raw-term-after (g .around) one after (g .e) (b + 1) (g .to) i (i + 1) (x .kept) (omega (arith, g .before))
-                      (raw-term-after (g .around) mid one (g .e) (b + 1) (g .to) b (b + 1) (l .kept) (omega arith) (raw-term (g .around) _ code mid (g .e) (b + 1) (g .to) end value-told));
+                is = record {
+                  b = b;
+                  z = g .to;
+                  target = raw-target (g .around) (cellsOf after) aTarget (g .t) i b (g .target .k) (g .target .v) (x .op-is ∙ ap opIn head-same ∙ g .target .op-is) (x .value-is ∙ ap valueIn head-same ∙ g .target .value-is)
+                      (aims-above (x .kept) (known .m) (known .n) (g .target .k) (g .target .v) spot i b (omega arith)
+                      (aims-below value-kept (known .m) (known .n) (g .target .k) (g .target .v) spot i b (omega arith) (g .target .aims)))
+                      (quiet-above (x .kept) (i + 1) b (omega arith) (quiet-below value-kept (i + 1) b (omega arith) (g .target .quiet)));
+                  term = record {
+                    link = link-above (x .kept) b (omega (arith, g .before)) ∙ l .link-is ∙ value-told .next-is;
+                    still = low-still (opAt (cellsOf after) b) (omega (arith, becomes-op));
+                    term = raw-term-after (g .around) one after (g .e) (b + 1) (g .to) i (i + 1) (x .kept) (omega (arith, g .before))
+                        (raw-term-after (g .around) mid one (g .e) (b + 1) (g .to) b (b + 1) (l .kept) (omega arith) (raw-term (g .around) _ code mid (g .e) (b + 1) (g .to) end value-told));
+                  };
+                  within = omega arith;
+                  leaves = x .link-is ∙ ap (λ (y : ℕ). y + 1) (value-told .next-is);
                 };
-                within = omega arith;
-                leaves = x .link-is ∙ ap (λ (y : ℕ). y + 1) (value-told .next-is);
+                place = x .place-is ∙ place-below value-kept i (g .before);
               };
               kept = kept-on (kept-wider value-kept i (g .to + 1) (omega (arith, g .before)) (omega arith)) (kept-wider (x .kept) i (g .to + 1) (omega arith) (omega (arith, g .before, value-on)));
             }

@@ -31,7 +31,7 @@ use Rattle.check_expressions.specs.declared.Judged.the-variants.{Typed, Faulty}
 use Rattle.check_expressions.specs.Known.{Loaded}
 use Rattle.store_writing.specs.Promises.{Kept, Linked}
 use Rattle.check_expressions.specs.Answers as expressions
-use Rattle.store_writing.proofs.Keeping.{head-below, head-above, kept-wider, kept-on, term-above}
+use Rattle.store_writing.proofs.Keeping.{head-below, head-above, place-below, kept-wider, kept-on, term-above}
 use Rattle.check_expressions.proofs.FaultsOfParts.{append-none}
 use Rattle.check_expressions.proofs.Starts.{loaded-part}
 use Rattle.faults.specs.First.{First, Leads}
@@ -219,6 +219,7 @@ module _ (code values : List ℕ) (undo : Bool) (h callee first closing : ℕ) (
             written = record {
               op-is = l .op-is;
               value-is = l .value-is;
+              place = l .place-is;
               as-many = as-many same;
               read = no-arguments (ap (map (termOf (g .around .known .W) (g .around .known .S))) (n .0)) (l .link-is) (n .1);
               quiet = λ i x y. absurd (omega (arith, n .1));
@@ -346,6 +347,7 @@ module _ (code values : List ℕ) (undo : Bool) (h callee first closing : ℕ) (
                       written = record {
                         op-is = ap opIn (head-below (f .kept) callee below) ∙ l .op-is;
                         value-is = ap valueIn (head-below (f .kept) callee below) ∙ l .value-is;
+                        place = place-below (f .kept) callee below ∙ l .place-is ∙ place-below (first-told .kept) callee (g .before);
                         as-many = as-many same;
                         read = subst (λ (ts : List Term). ReadAll (g .around .known .m) (g .around .known .n) (cellsOf final) ts first (linkAt (cellsOf final) callee) (g .z)) all
                             (subst (λ (i : ℕ). ReadAll (g .around .known .m) (g .around .known .n) (cellsOf final) (termOf (g .around .known .W) (g .around .known .S) (one .a) ∷ map (termOf (g .around .known .W) (g .around .known .S)) (one .rest)) first i (g .z)) lk

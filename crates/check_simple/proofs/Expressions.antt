@@ -23,7 +23,7 @@ use Rattle.check_expressions.specs.Known.{Loaded, Known}
 use Rattle.store_writing.specs.Promises.{Kept, Linked}
 use Rattle.check_expressions.specs.Answers.{Judges, OfType}
 use Rattle.check_expressions.specs.Answers as expressions
-use Rattle.store_writing.proofs.Keeping.{head-below, head-above, kept-wider, kept-on, term-above}
+use Rattle.store_writing.proofs.Keeping.{head-below, head-above, place-below, linked-place, kept-wider, kept-on, term-above}
 use Rattle.check_expressions.proofs.Around.{says-typed, says-faulty}
 use Rattle.faults.specs.First.{First}
 use Rattle.faults.proofs.Expressions.{grows, of-type-first}
@@ -211,6 +211,7 @@ valued-typed code values mid after op wants from i r o b end e l = record {
             within = omega (arith, v);
           };
           between = λ k x y. head-above (l .kept) k (omega arith) ∙ head-below (t .kept) k y;
+          places = λ k x y. linked-place l k ∙ place-below (t .kept) k y;
         };
         kept = kept-on (kept-wider (t .kept) i (g .to + 1) (omega (arith, g .before)) (omega arith)) (kept-wider (l .kept) i (g .to + 1) (omega arith) (omega (arith, g .before, grow)));
       });

@@ -27,7 +27,7 @@ use Rattle.grammar.proofs.Places.{arguments-grow}
 use Rattle.check_expressions.specs.declared.Judged.{Judged}
 use Rattle.check_expressions.specs.declared.Judged.the-variants.{Typed, Faulty}
 use Rattle.store_writing.specs.Promises.{Kept, Linked}
-use Rattle.store_writing.proofs.Keeping.{cell-above, head-below, kept-wider, kept-on}
+use Rattle.store_writing.proofs.Keeping.{cell-above, head-below, place-below, kept-wider, kept-on}
 use Rattle.check_expressions.proofs.FaultsOfParts.{append-none}
 use Rattle.faults.specs.First.{First, Leads}
 use Rattle.faults.proofs.First.{_and_, every-none, first-fault, first-if, first-left, first-right, leads-later, ranks, leads-same-if}
@@ -41,7 +41,7 @@ use Rattle.check_simple.specs.declared.Callee.{Callee}
 use Rattle.check_simple.specs.declared.Callee.the-variants.{At, Wrong}
 use Rattle.check_around.specs.Around.{Around, groundOf}
 use Rattle.check_around.specs.Answers.{Fine, Answer}
-use Rattle.check_simple.specs.Parts.{TypeDiffers, Callees, CalleeFound, CalleeWrong, CalleeSays, CalleeTold, CallSide, signatureFor, sideFaults, CallWritten, CallJudged, ForCalls, ForWritten, forFaults, ForJudged, CallAssigns, CallAssigned}
+use Rattle.check_simple.specs.Parts.{TypeDiffers, Callees, CalleeFound, CalleeWrong, CalleeSays, CalleeTold, CallSide, signatureFor, sideFaults, CallWritten, CallJudged, ForCalls, ForWritten, forFaults, ForJudged, AssignWritten, CallAssigns, CallAssigned}
 use Rattle.check_simple.proofs.Expressions.{quiet-below, quiet-above, answer-first, answer-fine, answered-fine, answered-first}
 use Rattle.check_simple.proofs.ParameterTypes.{type-at}
 use Rattle.check_simple.proofs.Arguments.{unread-part}
@@ -183,7 +183,7 @@ module _ (code values : List ℕ) (undo : Bool) (i : ℕ) (g : ForCalls code val
           next-is = f .next-is;
           written = record {
             callee-is = found-read (g .around) code i (g .z + 1) true h for-found (g .calls) (cellsOf final) (g .es) (f .written .value-is) (f .written .as-many)
-                (f .kept .places i ∙ g .unread .places i (omega arith) (omega (arith, for-on)));
+                (f .written .place ∙ g .unread .places i (omega arith) (omega (arith, for-on)));
             still = low-still (opAt (cellsOf final) i) (omega (arith, f .written .op-is));
             arguments = raw-arguments (g .around) (cellsOf final) (g .es) (i + 2) (linkAt (cellsOf final) i) (g .z) (f .written .read) (f .written .quiet) (closes-low code values undo h i (i + 2) 7 for-side final i (f .kept))
                 (omega (arith, g .unread .loaded .last));
@@ -232,7 +232,7 @@ module _ (code values : List ℕ) (undo : Bool) (i b : ℕ) (g : CallAssigns cod
         head-same = ew ∙ head-below (assign-fine .kept) i (omega (arith, g .before))
 
         call-assigned : Fine (forFaults (g .for) j) code after i (g .for .z + 2) (end + 2)
-            (RawAssignCall (groundOf (g .for .around)) (g .for .around .known .n) (cellsOf after) (g .for .around .known .S) (g .t) (b + 1) (g .for .es) i (g .for .z + 2) (g .for .z + 2))
+            (AssignWritten (RawAssignCall (groundOf (g .for .around)) (g .for .around .known .n) (cellsOf after) (g .for .around .known .S) (g .t) (b + 1) (g .for .es) i (g .for .z + 2) (g .for .z + 2)) code after i)
         call-assigned =
             let a = g .for .around in
             let known = a .known in
@@ -245,23 +245,26 @@ module _ (code values : List ℕ) (undo : Bool) (i b : ℕ) (g : CallAssigns cod
               none = assign-fine .none;
               next-is = ap (λ (y : ℕ). y + 2) (assign-fine .next-is);
               written = record {
-                b = b;
-                z = g .for .z;
-                target = raw-target a (cellsOf after) aCallTarget (g .t) i b (g .target .k) (g .target .v)
-                    (l .op-is ∙ ap (λ (y : ℕ). opIn y + 4) head-same ∙ ap (λ (y : ℕ). y + 4) (g .target .op-is) ∙ omega arith)
-                    (l .value-is ∙ ap valueIn head-same ∙ g .target .value-is)
-                    (aims-above (l .kept) (known .m) (known .n) (g .target .k) (g .target .v) spot i b (omega arith)
-                    (aims-below k (known .m) (known .n) (g .target .k) (g .target .v) spot i b (omega arith) (g .target .aims)))
-                    (quiet-above (l .kept) (i + 1) b (omega arith) (quiet-below k (i + 1) b (omega arith) (g .target .quiet)));
-                callee = callee-moves (groundOf a) (known .n) (known .n) (omega arith) (cellsOf mid) (cellsOf after) (b + 1) (g .for .z + 1) 0 0 mv (known .S) true (b + 1) (g .for .es) (omega arith) (omega (arith, assign-on))
-                    (still-value (opAt (cellsOf mid) (b + 1)) (x .still)) (still-place (opAt (cellsOf mid) (b + 1)) (x .still)) (x .callee-is);
-                name = refl;
-                still = still-moves (groundOf a) (known .n) (known .n) (omega arith) (cellsOf mid) (cellsOf after) (b + 1) (g .for .z + 1) 0 0 mv (b + 1) (omega arith) (omega (arith, assign-on)) (x .still);
-                arguments = subst (λ (y : ℕ). RawArguments (groundOf a) (known .n) (cellsOf after) (known .S) (g .for .es) y (linkAt (cellsOf after) (b + 1)) (g .for .z)) three
-                    (arguments-move (groundOf a) (known .n) (known .n) (omega arith) (cellsOf mid) (cellsOf after) (b + 1) (g .for .z + 1) 0 0 mv (known .S) (g .for .es) (b + 1 + 2) (linkAt (cellsOf mid) (b + 1)) (linkAt (cellsOf after) (b + 1)) (g .for .z)
-                    (omega arith) (omega arith) (sym (link-above (l .kept) (b + 1) (omega (arith, g .before)))) (x .arguments));
-                within = omega arith;
-                leaves = l .link-is ∙ ap (λ (y : ℕ). y + 2) (assign-fine .next-is);
+                is = record {
+                  b = b;
+                  z = g .for .z;
+                  target = raw-target a (cellsOf after) aCallTarget (g .t) i b (g .target .k) (g .target .v)
+                      (l .op-is ∙ ap (λ (y : ℕ). opIn y + 4) head-same ∙ ap (λ (y : ℕ). y + 4) (g .target .op-is) ∙ omega arith)
+                      (l .value-is ∙ ap valueIn head-same ∙ g .target .value-is)
+                      (aims-above (l .kept) (known .m) (known .n) (g .target .k) (g .target .v) spot i b (omega arith)
+                      (aims-below k (known .m) (known .n) (g .target .k) (g .target .v) spot i b (omega arith) (g .target .aims)))
+                      (quiet-above (l .kept) (i + 1) b (omega arith) (quiet-below k (i + 1) b (omega arith) (g .target .quiet)));
+                  callee = callee-moves (groundOf a) (known .n) (known .n) (omega arith) (cellsOf mid) (cellsOf after) (b + 1) (g .for .z + 1) 0 0 mv (known .S) true (b + 1) (g .for .es) (omega arith) (omega (arith, assign-on))
+                      (still-value (opAt (cellsOf mid) (b + 1)) (x .still)) (still-place (opAt (cellsOf mid) (b + 1)) (x .still)) (x .callee-is);
+                  name = refl;
+                  still = still-moves (groundOf a) (known .n) (known .n) (omega arith) (cellsOf mid) (cellsOf after) (b + 1) (g .for .z + 1) 0 0 mv (b + 1) (omega arith) (omega (arith, assign-on)) (x .still);
+                  arguments = subst (λ (y : ℕ). RawArguments (groundOf a) (known .n) (cellsOf after) (known .S) (g .for .es) y (linkAt (cellsOf after) (b + 1)) (g .for .z)) three
+                      (arguments-move (groundOf a) (known .n) (known .n) (omega arith) (cellsOf mid) (cellsOf after) (b + 1) (g .for .z + 1) 0 0 mv (known .S) (g .for .es) (b + 1 + 2) (linkAt (cellsOf mid) (b + 1)) (linkAt (cellsOf after) (b + 1)) (g .for .z)
+                      (omega arith) (omega arith) (sym (link-above (l .kept) (b + 1) (omega (arith, g .before)))) (x .arguments));
+                  within = omega arith;
+                  leaves = l .link-is ∙ ap (λ (y : ℕ). y + 2) (assign-fine .next-is);
+                };
+                place = l .place-is ∙ place-below k i (omega (arith, g .before));
               };
               kept = kept-on (kept-wider k i (g .for .z + 2) (omega (arith, g .before)) (omega arith)) (kept-wider (l .kept) i (g .for .z + 2) (omega arith) (omega (arith, g .before, assign-on)));
             }

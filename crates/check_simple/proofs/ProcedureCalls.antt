@@ -19,7 +19,7 @@ use Rattle.grammar.proofs.Inversions as inversions
 use Rattle.check_expressions.specs.declared.Judged.{Judged}
 use Rattle.check_expressions.specs.declared.Judged.the-variants.{Typed, Faulty}
 use Rattle.store_writing.specs.Promises.{Linked}
-use Rattle.store_writing.proofs.Keeping.{head-below, kept-wider, kept-on}
+use Rattle.store_writing.proofs.Keeping.{head-below, place-below, kept-wider, kept-on}
 use Rattle.faults.specs.First.{First}
 use Rattle.faults.proofs.First.{first-fault, first-left, first-right, leads-later, ranks, leads-same-if}
 use Rattle.faults.proofs.Expressions.{grows}
@@ -144,13 +144,15 @@ module _ (code values : List ℕ) (undo : Bool) (i : ℕ) (c : CallsOf code valu
               let head = head-below (l .kept) i (stands-on code values i s) in
               let w = of-fine .written in
               let link = link-below (l .kept) i (stands-on code values i s) in
+              let place = place-below (l .kept) i (stands-on code values i s) ∙ w .place in
               stated-fine code values i s (call i (of-calls .es)) (of-calls .is) after bool (end + 1) (of-faults ∙ of-fine .none) (ap (λ (z : ℕ). z + 1) to-is)
               (kept-on (kept-wider (of-fine .kept) i (s .to + 1) (omega arith) (omega arith)) (kept-wider (l .kept) i (s .to + 1) (omega (arith, of-on)) (omega arith)))
+              place
               (record {
                 z = s .to;
                 op = ap opIn head ∙ w .op-is;
                 callee = found-read (s .around) code i (s .to) false h of-found (s .calls) (cellsOf after) (of-calls .es) (ap valueIn head ∙ w .value-is) (w .as-many)
-                    (l .kept .places i ∙ of-fine .kept .places i ∙ s .unread .places i (omega arith) (omega (arith, of-on)));
+                    (place ∙ s .unread .places i (omega arith) (omega (arith, of-on)));
                 arguments = subst (λ (z : ℕ). RawArguments (groundOf (s .around)) (known .n) (cellsOf after) (known .S) (of-calls .es) (i + 1) z (s .to)) (sym link)
                     (raw-arguments (s .around) (cellsOf after) (of-calls .es) (i + 1) (linkAt (cellsOf mid) i) (s .to)
                     (read-below (known .m) (known .n) (l .kept) _ (i + 1) (linkAt (cellsOf mid) i) (s .to) (omega arith) (w .read)) (quiet-below (l .kept) (i + 1) (s .to) (omega arith) (w .quiet))

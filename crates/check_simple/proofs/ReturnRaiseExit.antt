@@ -51,7 +51,7 @@ module _ (code values : List ℕ) (at : ℕ) (g : Stands code values at) (s : Si
       let l = y .0 in
       let two : at + 2 ≡ g .to + 1 = omega (arith, one) in
       subst (Answers g after) (sym (y .1))
-      (stated-fine code values at g s is after noType (at + 2) n two (kept-wider (l .kept) at (g .to + 1) (omega arith) (omega (arith, one))) (d (record { is = l .op-is; leaves = l .link-is ∙ two })))
+      (stated-fine code values at g s is after noType (at + 2) n two (kept-wider (l .kept) at (g .to + 1) (omega arith) (omega (arith, one))) (l .place-is) (d (record { is = l .op-is; leaves = l .link-is ∙ two })))
 
   -- and where it may not: "17"
   pub word-broken : fine ≡ false → First (record { number = barred; at = at }) (simpleFaults (g .around .known .W) (g .around .K) (g .around .known .S) s) → Answers g after r
@@ -159,7 +159,7 @@ module _ (code values : List ℕ) (i : ℕ) (g : Stands code values i) (make : �
     given-fine op wants t w fs after raw r v =
         stated-on code values i g (make i (some (given .e))) given-is after _ code i (g .to + 1) _ r (v .is given-values t w) refl
         (λ y f. subst (First y) (sym fs) f)
-        (λ b next f. stated-fine code values i g (make i (some (given .e))) given-is after b next (fs ∙ f .none) (f .next-is) (f .kept) (raw (f .written .raw)))
+        (λ b next f. stated-fine code values i g (make i (some (given .e))) given-is after b next (fs ∙ f .none) (f .next-is) (f .kept) (f .written .places i (omega arith) (omega arith)) (raw (f .written .raw)))
 
 -- ---- RETURN
 module _ (k : Setting) (code values : List ℕ) (i : ℕ) (c : BeginsIn RETURN k code values i) where

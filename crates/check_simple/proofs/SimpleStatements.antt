@@ -10,7 +10,7 @@ use Rattle.paper.specs.Names.{sortIn}
 use Rattle.paper.specs.Types.{Fault}
 use Rattle.paper.specs.Checks.{simpleFaults}
 use Rattle.store_cells.specs.Cells.{cellsOf}
-use Rattle.code.specs.Cells.{opAt}
+use Rattle.code.specs.Cells.{opAt, placeAt}
 use Rattle.grammar.specs.Form.{Parses}
 use Rattle.grammar.proofs.Places.{simple-first, simple-grows}
 use Rattle.check_expressions.specs.declared.Judged.{Judged}
@@ -57,16 +57,16 @@ module _ (code values : List ℕ) (at : ℕ) (g : Stands code values at) where
         → First (record { number = number; at = word }) (simpleFaults (g .around .known .W) (g .around .K) (g .around .known .S) s) → Answers g after r
     stated-first r number word e long f = stated r (answer-first _ code after at (g .to + 1) _ r number word e long f)
 
-    pub stated-fine : (b : ℕ) (next : ℕ) → simpleFaults (g .around .known .W) (g .around .K) (g .around .known .S) s ≡ [] → next ≡ g .to + 1 → Kept code after at (g .to + 1)
+    pub stated-fine : (b : ℕ) (next : ℕ) → simpleFaults (g .around .known .W) (g .around .K) (g .around .known .S) s ≡ [] → next ≡ g .to + 1 → Kept code after at (g .to + 1) → placeAt (cellsOf after) at ≡ placeAt (cellsOf code) at
         → RawDoes (groundOf (g .around)) (g .around .known .n) (cellsOf after) (g .around .known .S) s at (g .to + 1) (g .to + 1) → Answers g after (Typed b next)
     unfolding holds groundOf offsetIn
-    stated-fine b next n e k d =
+    stated-fine b next n e k p d =
         stated (Typed b next) (answer-fine _ code after at (g .to + 1) _ b next (record {
           none = n;
           next-is = e;
           written = record {
             first = ap firstSimple (sym is) ∙ simple-first (sortIn (g .around .known .W)) (Parses (sortIn (g .around .known .W))) (g .is);
-            place = k .places at ∙ g .unread .places at (omega arith) (omega (arith, stands-on));
+            place = p ∙ g .unread .places at (omega arith) (omega (arith, stands-on));
             forward = omega (arith, stands-on);
             does = d;
           };

@@ -137,7 +137,7 @@ module _ (code values : List ℕ) (undo : Bool) (i : ℕ) (c : Assigns code valu
 
     module _ (bool : ℕ) (b : ℕ) (e : r ≡ Typed bool b) where
       aimed : Fine (judgeTarget (c .begins .stands .around .known .W) (c .begins .stands .around .known .S) (assigns .t) .faults) code mid i (assigns .n) b
-          (Aimed (c .begins .stands .around .known .m) (c .begins .stands .around .known .n) (cellsOf mid) (judgeTarget (c .begins .stands .around .known .W) (c .begins .stands .around .known .S) (assigns .t))
+          (Aimed (c .begins .stands .around .known .m) (c .begins .stands .around .known .n) (cellsOf code) (cellsOf mid) (judgeTarget (c .begins .stands .around .known .W) (c .begins .stands .around .known .S) (assigns .t))
           (spotOf (c .begins .stands .around .known .W) (c .begins .stands .around .known .S) (assigns .t)) i (assigns .n) bool)
       aimed = aimed-fine _ _ _ _ code mid i (assigns .n) r target-answer bool b e
 
@@ -219,7 +219,8 @@ module _ (code values : List ℕ) (undo : Bool) (i : ℕ) (c : Assigns code valu
               let two : call-side .m + 2 ≡ g .to + 1 = omega (arith, call-side .after) in
               stated-fine code values i g s (call-side .is) after bb next (call-all ∙ f .none) (f .next-is ∙ two)
               (kept-on (kept-wider (aimed .kept) i (g .to + 1) (omega arith) (omega (arith, assigns-in))) (kept-wider (f .kept) i (g .to + 1) (omega arith) (omega (arith, two))))
-              (subst (λ (k : ℕ). RawDoes (groundOf (g .around)) (g .around .known .n) (cellsOf after) (g .around .known .S) s i k k) two (f .written)))
+              (f .written .place ∙ aimed .written .place)
+              (subst (λ (k : ℕ). RawDoes (groundOf (g .around)) (g .around .known .n) (cellsOf after) (g .around .known .S) s i k k) two (f .written .is)))
 
         module _ (y : q ≡ false) where
           value-side : inversions.ValueSide (sortIn (c .begins .stands .around .known .W)) (Parses (sortIn (c .begins .stands .around .known .W))) (c .begins .stands .s) (assigns .t) (assigns .n) (c .begins .stands .to)
@@ -259,7 +260,7 @@ module _ (code values : List ℕ) (undo : Bool) (i : ℕ) (c : Assigns code valu
               (λ f h. subst (First f) (sym value-all) h)
               (λ bb next f.
               stated-fine code values i g s (value-side .is) after bb next (value-all ∙ f .none) (f .next-is)
-              (kept-on (kept-wider (aimed .kept) i (g .to + 1) (omega arith) (omega (arith, assigns-in))) (f .kept)) (f .written))
+              (kept-on (kept-wider (aimed .kept) i (g .to + 1) (omega arith) (omega (arith, assigns-in))) (f .kept)) (f .written .place ∙ aimed .written .place) (f .written .is))
 
 module _ (code values : List ℕ) (undo : Bool) (i : ℕ) (mid : List ℕ) (r : Judged) (t : TargetJudged code values mid i r) where
   pub assigned-no-target : (number word : ℕ) → r ≡ Faulty number word → Assigned code values mid undo i r

@@ -24,7 +24,7 @@ use Rattle.grammar.proofs.Inversions as inversions
 use Rattle.check_expressions.specs.declared.Judged.{Judged}
 use Rattle.check_expressions.specs.declared.Judged.the-variants.{Typed, Faulty}
 use Rattle.store_writing.specs.Promises.{Linked}
-use Rattle.store_writing.proofs.Keeping.{head-below, head-above, kept-wider, kept-on}
+use Rattle.store_writing.proofs.Keeping.{head-below, head-above, place-below, place-above, kept-wider, kept-on}
 use Rattle.check_expressions.proofs.FaultsOfParts.{append-none}
 use Rattle.check_expressions.proofs.Starts.{loaded-part}
 use Rattle.faults.specs.First.{First}
@@ -107,7 +107,7 @@ module _ (code values : List ℕ) (i : ℕ) (c : Begins TPREADNUM code values i)
 
     module _ (bool : ℕ) (b : ℕ) (e : r ≡ Typed bool b) where
       aimed : Fine (judgeTarget (c .stands .around .known .W) (c .stands .around .known .S) (read-is .t) .faults) code mid (i + 1) (read-is .n) b
-          (Aimed (c .stands .around .known .m) (c .stands .around .known .n) (cellsOf mid) (judgeTarget (c .stands .around .known .W) (c .stands .around .known .S) (read-is .t))
+          (Aimed (c .stands .around .known .m) (c .stands .around .known .n) (cellsOf code) (cellsOf mid) (judgeTarget (c .stands .around .known .W) (c .stands .around .known .S) (read-is .t))
           (spotOf (c .stands .around .known .W) (c .stands .around .known .S) (read-is .t)) (i + 1) (read-is .n) bool)
       aimed = aimed-fine _ _ _ _ code mid (i + 1) (read-is .n) r read-answer bool b e
 
@@ -127,7 +127,7 @@ module _ (code values : List ℕ) (i : ℕ) (c : Begins TPREADNUM code values i)
         read-string =
             let q : read-is .n + 1 ≡ b + 1 = ap (λ (x : ℕ). x + 1) (sym (aimed .next-is)) in
             subst (λ (x : ℕ). Strings (c .stands .text) mid x) q
-            (string-at code values i (c .stands) mid (read-is .n + 1) (omega (arith, read-on)) (omega (arith, read-is .after)) (read-is .text) (head-above (aimed .kept) (read-is .n + 1) (omega arith)) (aimed .kept .places (read-is .n + 1)) (read-answer .long))
+            (string-at code values i (c .stands) mid (read-is .n + 1) (omega (arith, read-on)) (omega (arith, read-is .after)) (read-is .text) (head-above (aimed .kept) (read-is .n + 1) (omega arith)) (place-above (aimed .kept) (read-is .n + 1) (omega arith)) (read-answer .long))
 
         module _ (one : List ℕ) (sp : Spelled (c .stands .text) mid one (b + 1)) where
           read-linked : Linked mid one (read-is .n + 1) STRING
@@ -137,7 +137,7 @@ module _ (code values : List ℕ) (i : ℕ) (c : Begins TPREADNUM code values i)
           read-linked =
               let q : b + 1 ≡ read-is .n + 1 = ap (λ (x : ℕ). x + 1) (aimed .next-is) in
               let sp2 : Spelled (c .stands .text) mid one (read-is .n + 1) = subst (λ (x : ℕ). Spelled (c .stands .text) mid one x) q sp in
-              sp2 .is (string-at code values i (c .stands) mid (read-is .n + 1) (omega (arith, read-on)) (omega (arith, read-is .after)) (read-is .text) (head-above (aimed .kept) (read-is .n + 1) (omega arith)) (aimed .kept .places (read-is .n + 1)) (read-answer .long))
+              sp2 .is (string-at code values i (c .stands) mid (read-is .n + 1) (omega (arith, read-on)) (omega (arith, read-is .after)) (read-is .text) (head-above (aimed .kept) (read-is .n + 1) (omega arith)) (place-above (aimed .kept) (read-is .n + 1) (omega arith)) (read-answer .long))
 
           pub read-room : (i * 8 + 8 ≤ length one) × (length one ≡ length code)
           read-room = (omega (arith, read-end .1, read-linked .kept .long), read-linked .kept .long ∙ read-answer .long)
@@ -157,6 +157,7 @@ module _ (code values : List ℕ) (i : ℕ) (c : Begins TPREADNUM code values i)
               (wanted-num (judgeTarget (known .W) (known .S) (read-is .t)) (read-is .t .name) (aimed .none) (same-types bool numType _ aNum (aimed .written .type-is) num-in n)) three
               (kept-on (kept-on (kept-wider (aimed .kept) i (g .to + 1) (omega arith) (omega (arith, read-is .after))) (kept-wider (read-linked .kept) i (g .to + 1) (omega (arith, read-on)) (omega (arith, read-is .after))))
               (kept-wider (l .kept) i (g .to + 1) (omega arith) (omega (arith, read-is .after, read-on))))
+              (l .place-is ∙ place-below (read-linked .kept) i (omega (arith, read-on)) ∙ place-below (aimed .kept) i (omega arith))
               (record {
                 word = record { is = l .op-is; leaves = l .link-is ∙ three };
                 b = read-is .n;
@@ -167,7 +168,7 @@ module _ (code values : List ℕ) (i : ℕ) (c : Begins TPREADNUM code values i)
                 target-within = omega (arith, read-is .after);
                 text = subst (λ (x : ℕ). RawText (groundOf (g .around)) (known .n) (cellsOf after) (read-is .n + 1) x) v
                     (raw-text (g .around) (cellsOf after) (read-is .n + 1) (g .around .quoted (read-is .n + 1) (read-is .text)) (ap opIn text-head ∙ read-linked .op-is) (ap valueIn text-head ∙ read-linked .value-is)
-                    (l .kept .places (read-is .n + 1) ∙ read-linked .kept .places (read-is .n + 1) ∙ aimed .kept .places (read-is .n + 1) ∙ g .unread .places (read-is .n + 1) (omega (arith, read-on)) (omega (arith, read-is .after))));
+                    (place-above (l .kept) (read-is .n + 1) (omega (arith, read-on)) ∙ read-linked .place-is ∙ place-above (aimed .kept) (read-is .n + 1) (omega arith) ∙ g .unread .places (read-is .n + 1) (omega (arith, read-on)) (omega (arith, read-is .after))));
                 behind = omega (arith, v, read-on);
                 within = omega (arith, v, read-is .after);
               })

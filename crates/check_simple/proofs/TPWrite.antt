@@ -27,7 +27,7 @@ use Rattle.grammar.proofs.Inversions as inversions
 use Rattle.check_expressions.specs.declared.Judged.{Judged}
 use Rattle.check_expressions.specs.declared.Judged.the-variants.{Typed}
 use Rattle.store_writing.specs.Promises.{Linked}
-use Rattle.store_writing.proofs.Keeping.{head-above, kept-wider, kept-on}
+use Rattle.store_writing.proofs.Keeping.{head-above, place-below, place-above, kept-wider, kept-on}
 use Rattle.check_expressions.proofs.Starts.{loaded-part, loaded-after}
 use Rattle.faults.proofs.Expressions.{grows}
 use Rattle.check_links.specs.Raw.{RawText, RawDoes}
@@ -126,7 +126,7 @@ module _ (code values : List ℕ) (i : ℕ) (c : Begins TPWRITE code values i) w
         → RawText (groundOf (c .stands .around)) (c .stands .around .known .n) (cellsOf after) (i + 1) (i + 1)
     string-raw after h p =
         raw-text (c .stands .around) (cellsOf after) (i + 1) (c .stands .around .quoted (i + 1) (write-is .text)) (ap opIn h ∙ string-linked .op-is) (ap valueIn h ∙ string-linked .value-is)
-        (p ∙ string-linked .kept .places (i + 1) ∙ c .stands .unread .places (i + 1) (omega arith) (omega (arith, write-on)))
+        (p ∙ string-linked .place-is ∙ c .stands .unread .places (i + 1) (omega arith) (omega (arith, write-on)))
 
     pub string-long : length mid ≡ length code
     string-long = string-linked .kept .long
@@ -169,7 +169,8 @@ module _ (code values : List ℕ) (i : ℕ) (c : Begins TPWRITE code values i) w
             (λ b next f.
             stated-fine code values i g (writes i (i + 1) (some (given .e))) write-of after b next (f .none) (f .next-is)
             (kept-on (kept-wider (string-linked .kept) i (g .to + 1) (omega arith) (omega (arith, write-on))) (f .kept))
-            (record { valued = f .written .raw; text = string-raw after (f .written .between (i + 1) (omega arith) (omega arith)) (f .kept .places (i + 1)); within = omega (arith, write-on) }))
+            (f .written .places i (omega arith) (omega arith) ∙ place-below (string-linked .kept) i (omega arith))
+            (record { valued = f .written .raw; text = string-raw after (f .written .between (i + 1) (omega arith) (omega arith)) (f .written .places (i + 1) (omega arith) (omega arith)); within = omega (arith, write-on) }))
 
       module _ (d : s ≡ backslash → ⊥) where
         plain : (write-is .e ≡ none) × (c .stands .to ≡ i + 2)
@@ -182,9 +183,10 @@ module _ (code values : List ℕ) (i : ℕ) (c : Begins TPWRITE code values i) w
             let three : i + 3 ≡ g .to + 1 = omega (arith, plain .1) in
             stated-fine code values i g (writes i (i + 1) none) (write-is .is ∙ ap (writes i (i + 1)) (plain .0)) after noType (i + 3) refl three
             (kept-on (kept-wider (string-linked .kept) i (g .to + 1) (omega arith) (omega (arith, plain .1))) (kept-wider (l .kept) i (g .to + 1) (omega arith) (omega (arith, plain .1))))
+            (l .place-is ∙ place-below (string-linked .kept) i (omega arith))
             (record {
               word = record { is = l .op-is; leaves = l .link-is ∙ three };
-              text = string-raw after (head-above (l .kept) (i + 1) (omega arith)) (l .kept .places (i + 1));
+              text = string-raw after (head-above (l .kept) (i + 1) (omega arith)) (place-above (l .kept) (i + 1) (omega arith));
               within = omega (arith, plain .1);
             })
 

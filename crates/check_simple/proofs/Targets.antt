@@ -34,7 +34,7 @@ use Rattle.check_expressions.specs.Known.{Loaded, InRoom, Within}
 use Rattle.store_writing.specs.Promises.{Kept, Linked}
 use Rattle.check_expressions.specs.Answers.{OfType}
 use Rattle.check_expressions.specs.Answers as answers
-use Rattle.store_writing.proofs.Keeping.{head-below, head-above, kept-wider, kept-on, term-above}
+use Rattle.store_writing.proofs.Keeping.{head-below, head-above, place-below, kept-wider, kept-on, term-above}
 use Rattle.check_expressions.proofs.FaultsOfParts.{judged-faults, judged-term, judged-type, element-is}
 use Rattle.check_expressions.proofs.Starts.{loaded-part}
 use Rattle.faults.specs.First.{First}
@@ -62,12 +62,12 @@ module _ (m n : ℕ) (j : types.Judged) (spot : Spot) (before after : List ℕ) 
   unfolding AimTells
   aim-first r number word e long f = subst (AimAnswer m n j spot before after at to) (sym e) (record { tells = f; long = long })
 
-  pub aim-fine : (b : ℕ) (next : ℕ) → Fine (j .faults) before after at to next (Aimed m n (cellsOf after) j spot at to b) → AimAnswer m n j spot before after at to (Typed b next)
+  pub aim-fine : (b : ℕ) (next : ℕ) → Fine (j .faults) before after at to next (Aimed m n (cellsOf before) (cellsOf after) j spot at to b) → AimAnswer m n j spot before after at to (Typed b next)
   unfolding AimTells
   aim-fine b next f = record { tells = f; long = f .kept .long }
 
   module _ (r : Judged) (a : AimAnswer m n j spot before after at to r) where
-    pub aimed-fine : (b : ℕ) (next : ℕ) → r ≡ Typed b next → Fine (j .faults) before after at to next (Aimed m n (cellsOf after) j spot at to b)
+    pub aimed-fine : (b : ℕ) (next : ℕ) → r ≡ Typed b next → Fine (j .faults) before after at to next (Aimed m n (cellsOf before) (cellsOf after) j spot at to b)
     unfolding AimTells
     aimed-fine b next e = subst (AimTells m n j spot before after at to) e (a .tells)
 
@@ -191,7 +191,7 @@ module _ (code values : List ℕ) (at : ℕ) (g : Targets code values at) where
 
           plain-fine : (type : ℕ) → TypeOf cell type → (after : List ℕ) → Linked code after at (aTarget + ownIn cell) (valueIn cell) (linkAt (cellsOf code) at)
               → Fine (judgeTarget (g .known .W) (g .known .S) (g .t) .faults) code after at (g .to) (at + 1)
-              (Aimed (g .known .m) (g .known .n) (cellsOf after) (judgeTarget (g .known .W) (g .known .S) (g .t)) (spotOf (g .known .W) (g .known .S) (g .t)) at (g .to) type)
+              (Aimed (g .known .m) (g .known .n) (cellsOf code) (cellsOf after) (judgeTarget (g .known .W) (g .known .S) (g .t)) (spotOf (g .known .W) (g .known .S) (g .t)) at (g .to) type)
           plain-fine type ty after l =
               let term = ap (λ (x : types.Judged). x .term) plain-judged ∙ judged-term _ _ _ in
               record {
@@ -212,6 +212,7 @@ module _ (code values : List ℕ) (at : ℕ) (g : Targets code values at) where
                     });
                     quiet = λ i a b. absurd (omega (arith, plain-is .1));
                   };
+                  place = l .place-is;
                 };
                 kept = kept-wider (l .kept) at (g .to) (omega arith) (omega (arith, target-on));
               }
@@ -341,7 +342,7 @@ module _ (code values : List ℕ) (cell at : ℕ) (g : Elements code values cell
               (quiet-append (cellsOf after) (at + 2) (braces .n) (braces .n + 1) inner (quiet-word (cellsOf after) (braces .n) (low-still (opAt (cellsOf after) (braces .n)) (omega (arith, close-op)))))))
 
           element-fine : (type : ℕ) → TypeOf cell type → Fine (judgeTarget (g .targets .known .W) (g .targets .known .S) (g .targets .t) .faults) code after at (g .targets .to) (end + 1)
-              (Aimed (g .targets .known .m) (g .targets .known .n) (cellsOf after) (judgeTarget (g .targets .known .W) (g .targets .known .S) (g .targets .t)) (spotOf (g .targets .known .W) (g .targets .known .S) (g .targets .t)) at (g .targets .to) type)
+              (Aimed (g .targets .known .m) (g .targets .known .n) (cellsOf code) (cellsOf after) (judgeTarget (g .targets .known .W) (g .targets .known .S) (g .targets .t)) (spotOf (g .targets .known .W) (g .targets .known .S) (g .targets .t)) at (g .targets .to) type)
           element-fine type ty =
               let f = told .none in
               let head = head-below (x .kept) at (omega arith) in
@@ -370,6 +371,7 @@ module _ (code values : List ℕ) (cell at : ℕ) (g : Elements code values cell
                     });
                     quiet = element-quiet;
                   };
+                  place = place-below (x .kept) at (omega arith) ∙ l .place-is ∙ place-below (told .kept) at (omega arith);
                 };
                 kept = element-kept;
               }

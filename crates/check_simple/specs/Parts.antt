@@ -145,13 +145,14 @@ pub record Targets (code values : List ℕ) (at : ℕ) : Type 0 where
   pub is : TargetAt (sortIn (known .W)) (Parses (sortIn (known .W))) t at to
   pub loaded : Loaded (known .W) code at to
 
--- what is said of it: its type, and where its value goes
-pub record Aimed (m n : ℕ) (C : List ℕ) (j : types.Judged) (spot : Spot) (at to type : ℕ) : Type 0 where
+-- what is said of it: its type, and where its value goes; its first word has the place that it has in C₀
+pub record Aimed (m n : ℕ) (C₀ C : List ℕ) (j : types.Judged) (spot : Spot) (at to type : ℕ) : Type 0 where
   pub type-is : typeIn type ≡ some (j .type)
   pub target : Targeted m n C spot at to
+  pub place : placeAt C at ≡ placeAt C₀ at
 
 unfoldable pub AimTells : (m n : ℕ) (j : types.Judged) (spot : Spot) (before after : List ℕ) (at to : ℕ) → Judged → Type 0
-AimTells m n j spot before after at to (Typed type next) = Fine (j .faults) before after at to next (Aimed m n (cellsOf after) j spot at to type)
+AimTells m n j spot before after at to (Typed type next) = Fine (j .faults) before after at to next (Aimed m n (cellsOf before) (cellsOf after) j spot at to type)
 AimTells m n j spot before after at to (Faulty number word) = First (record { number = number; at = word }) (j .faults)
 
 pub record AimAnswer (m n : ℕ) (j : types.Judged) (spot : Spot) (before after : List ℕ) (at to : ℕ) (r : Judged) : Type 0 where
@@ -189,10 +190,15 @@ pub record ValueSide (code values : List ℕ) (wants i b : ℕ) : Type 0 where
   pub ends : sortIn (around .known .W) to ≡ semicolon
   pub unread : Unread (around .known .W) code b to
 
+-- what a run reads there; the target's first word, which is the statement's, has its place still
+pub record AssignWritten (raw : Type 0) (before after : List ℕ) (i : ℕ) : Type 0 where
+  pub is : raw
+  pub place : placeAt (cellsOf after) i ≡ placeAt (cellsOf before) i
+
 pub record ValueAssigned (code values after : List ℕ) (wants i b : ℕ) (r : Judged) : Type 0 where
   pub is : (g : ValueSide code values wants i b)
       → Answer (ofType (g .around .known .W) (g .type) (g .around .known .S) (g .e)) code after i (g .to + 1)
-      (RawAssign (groundOf (g .around)) (g .around .known .n) (cellsOf after) (g .around .known .S) (g .t) (g .e) i (g .to + 1) (g .to + 1)) r
+      (AssignWritten (RawAssign (groundOf (g .around)) (g .around .known .n) (cellsOf after) (g .around .known .S) (g .t) (g .e) i (g .to + 1) (g .to + 1)) code after i) r
 
 -- ---- callees
 -- the name of a callee, at i, in words up to `to`
@@ -325,10 +331,11 @@ pub record CallSide (code values : List ℕ) (undo : Bool) (h callee first closi
 abbrev pub signatureFor : {text values : List ℕ} → Around text values → (h : ℕ) → Signature
 signatureFor a h = getD (a .K .routines) (numbered (a .R) h) noSignature
 
--- its word, which leads to the end of the first argument, and the arguments
+-- its word, which has its place still and leads to the end of the first argument, and the arguments
 pub record CallWritten {code values : List ℕ} {undo : Bool} {h callee first closing : ℕ} (g : CallSide code values undo h callee first closing) (C : List ℕ) (op : ℕ) : Type 0 where
   pub op-is : opAt C callee ≡ op
   pub value-is : valueAt C callee ≡ h
+  pub place : placeAt C callee ≡ placeAt (cellsOf code) callee
   pub as-many : length (g .es) ≡ length (signatureFor (g .around) h .parameters)
   pub read : ReadAll (g .around .known .m) (g .around .known .n) C (map (termOf (g .around .known .W) (g .around .known .S)) (g .es)) first (linkAt C callee) (g .z)
   pub quiet : Quiet C first (g .z)
@@ -379,7 +386,7 @@ pub record CallAssigns (code values : List ℕ) (undo : Bool) (i b : ℕ) : Type
 pub record CallAssigned (code values after : List ℕ) (undo : Bool) (wants i b : ℕ) (r : Judged) : Type 0 where
   pub is : (g : CallAssigns code values undo i b) (j : types.Judged) → typeIn wants ≡ some (j .type)
       → Answer (forFaults (g .for) j) code after i (g .for .z + 2)
-      (RawAssignCall (groundOf (g .for .around)) (g .for .around .known .n) (cellsOf after) (g .for .around .known .S) (g .t) (b + 1) (g .for .es) i (g .for .z + 2) (g .for .z + 2)) r
+      (AssignWritten (RawAssignCall (groundOf (g .for .around)) (g .for .around .known .n) (cellsOf after) (g .for .around .known .S) (g .t) (b + 1) (g .for .es) i (g .for .z + 2) (g .for .z + 2)) code after i) r
 
 -- ---- words and values
 -- a statement of one word
@@ -398,10 +405,11 @@ pub record Values (code values : List ℕ) (from i : ℕ) : Type 0 where
   pub before : i < from
   pub loaded : Loaded (around .known .W) code from to
 
--- what is written of it; the words between the two are as they were
+-- what is written of it; the words between the two are as they were, and the statement's has its place still
 pub record ValueWritten {code values : List ℕ} {from i : ℕ} (g : Values code values from i) (C : List ℕ) (op : ℕ) : Type 0 where
   pub raw : RawValued (groundOf (g .around)) (g .around .known .n) C (g .around .known .S) op (g .e) from i (g .to + 1) (g .to + 1)
   pub between : (k : ℕ) → i < k → k < from → headAt C k ≡ headAt (cellsOf code) k
+  pub places : (k : ℕ) → i ≤ k → k < from → placeAt C k ≡ placeAt (cellsOf code) k
 
 pub record Valued (code values after : List ℕ) (op wants from i : ℕ) (r : Judged) : Type 0 where
   pub is : (g : Values code values from i) (t : DataType) → typeIn wants ≡ some t

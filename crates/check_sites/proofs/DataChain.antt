@@ -32,7 +32,7 @@ pub agrees-changed : (code mid after : List ℕ) (i last link : ℕ) → ((k : �
 agrees-changed code mid after i last link below s = record {
   heads = λ j l. relinked-others s (j * 2) (λ e. omega arith) ∙ below (j * 2) (omega arith);
   places = λ j l. by-same j last
-      (λ e. subst (λ (k : ℕ). placeAt (cellsOf after) k ≡ placeAt (cellsOf code) k) (sym e) (s .kept .places last ∙ ap placeIn (below (last * 2 + 1) (omega arith))))
+      (λ e. subst (λ (k : ℕ). placeAt (cellsOf after) k ≡ placeAt (cellsOf code) k) (sym e) (s .place-is ∙ ap placeIn (below (last * 2 + 1) (omega arith))))
       (λ d. ap placeIn (relinked-others s (j * 2 + 1) (λ e. d (omega arith)) ∙ below (j * 2 + 1) (omega arith)));
   links = λ j l d. ap linkIn (relinked-others s (j * 2 + 1) (λ e. d (omega arith)) ∙ below (j * 2 + 1) (omega arith));
 }

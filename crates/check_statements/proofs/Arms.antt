@@ -27,6 +27,7 @@ use Rattle.grammar.proofs.Places.{list-grows, arms-grow, else-grows}
 use Rattle.check_expressions.specs.declared.Judged.{Judged}
 use Rattle.check_expressions.specs.declared.Judged.the-variants as judged
 use Rattle.store_writing.specs.Promises.{Kept, Linked}
+use Rattle.store_writing.proofs.Keeping.{place-below, linked-place}
 use Rattle.check_expressions.specs.Answers.{OfType}
 use Rattle.check_expressions.specs.Answers as expressions
 use Rattle.faults.specs.First.{First, Inside}
@@ -306,7 +307,7 @@ module _ (text code values : List ℕ) (k : Setting) (used i first : ℕ) (now v
           head-if (some p) q = ap opIn (head-before written i (omega (arith, q .2, q .3))) ∙ x .head (omega (arith, q .2, q .3))
 
           place : placeAt (cellsOf two) i ≡ offsetIn (a .known .W) i
-          place = y .arm-is .kept .places i ∙ y .then-is .kept .places i ∙ ap (λ (v : ℕ). v % linkPart) (tail-before (done .outside) i (omega (arith, x .low, x .next))) ∙ x .place
+          place = linked-place (y .arm-is) i ∙ linked-place (y .then-is) i ∙ ap (λ (v : ℕ). v % linkPart) (tail-before (done .outside) i (omega (arith, x .low, x .next))) ∙ x .place
 
           kept-on : (C : List ℕ) → SameWords (cellsOf two) C (i + 1) m → SameWords (cellsOf now) C (i + 1) c
           kept-on C s = same-on (same-before (i + 1) c written (omega arith)) (same-part (cellsOf two) C (i + 1) m (i + 1) c (omega arith) (omega (arith, x .next, order)) s)
@@ -447,7 +448,7 @@ module _ (text code values : List ℕ) (k : Setting) (used i first : ℕ) (now v
                           written = record {
                             head = record {
                               first = refl;
-                              place = l2 .kept .places i ∙ ap (λ (w : ℕ). w % linkPart) (tail-before (ends .outside) i (omega (arith, x .low, x .next, order))) ∙ place;
+                              place = l2 .place-is ∙ ap (λ (w : ℕ). w % linkPart) (tail-before (ends .outside) i (omega (arith, x .low, x .next, order))) ∙ place;
                               word = record { is = l2 .op-is ∙ ap opIn head-three ∙ head-if (x .before) (x .opened); leaves = l2 .link-is ∙ ends .next-is };
                             };
                             last = g .last;
@@ -576,7 +577,7 @@ module _ (text code values : List ℕ) (k : Setting) (used i first : ℕ) (now v
                     count = new-count;
                     later = omega (arith, x .later, spans, order);
                     outside = outside-on (outside-wider i (f .n) changed (omega arith) (omega (arith, spans))) (outside-wider i (f .n) three-is (omega (arith, x .low, x .next, order)) (omega arith));
-                    place = kept .places i ∙ place;
+                    place = place-below kept i (omega (arith, x .low, x .next, order)) ∙ place;
                     long = kept .long ∙ arm-long;
                     on = λ C ef s3 h3 others.
                         let h4 = sym (head-before three-is i (omega (arith, x .low, x .next, order))) ∙ h3 (omega (arith, x .low, x .next, order)) in

@@ -18,6 +18,7 @@ use Rattle.grammar.proofs.Places.{simple-grows}
 use Rattle.check_expressions.specs.declared.Judged.{Judged}
 use Rattle.check_expressions.specs.declared.Judged.the-variants as judged
 use Rattle.store_writing.specs.Promises.{Linked}
+use Rattle.store_writing.proofs.Keeping.{place-below}
 use Rattle.faults.proofs.Expressions.{grows}
 use Rattle.check_links.specs.Raw.{RawWord, RawTerm, RawSimple, RawStatement}
 use Rattle.check_links.proofs.Framing.{simple-frame}
@@ -152,7 +153,7 @@ module _ (text code values : List ℕ) (k : Setting) (used i t : ℕ) (g : Compa
             used-is = refl;
             few = g .here .few;
             written = record {
-              head = record { first = refl; place = l .kept .places i ∙ f .kept .places i ∙ g .place; word = subst (RawWord (cellsOf two) aCompactIf i) (f .next-is ∙ sym (g .after)) (linked-word l) };
+              head = record { first = refl; place = l .place-is ∙ place-below (f .kept) i (g .before) ∙ g .place; word = subst (RawWord (cellsOf two) aCompactIf i) (f .next-is ∙ sym (g .after)) (linked-word l) };
               term = subst (RawTerm (groundOf b) (b .known .n) (cellsOf two) (b .known .S) (g .e) (i + 1)) (sym v)
                   (term-same (groundOf b) (b .known .n) (cellsOf code) (cellsOf two) (b .known .S) (g .e) (i + 1) t
                   (same-on (same-before (i + 1) t (kept-outside (f .kept)) (omega arith)) (same-behind (i + 1) t o (omega arith))) (g .term));

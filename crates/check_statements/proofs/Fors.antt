@@ -22,6 +22,7 @@ use Rattle.check_names.specs.Meanings.{isProtected}
 use Rattle.check_names.specs.Promises.{numberAt, Declared, Links, Left, storeBytes, numberLimit}
 use Rattle.check_names.specs.declared.Scope.{Scope}
 use Rattle.store_writing.proofs.Rewriting.{rewritten-length, rewritten-head, rewritten-tail}
+use Rattle.store_writing.proofs.Keeping.{place-below, linked-place}
 use Rattle.grammar.specs.Form.{Parses}
 use Rattle.grammar.proofs.Inversions.{IsFor, statement-for}
 use Rattle.grammar.proofs.Places.{list-grows, step-grows}
@@ -254,7 +255,7 @@ module _ (text code values : List ℕ) (k : Setting) (used i : ℕ) (g : Begins 
               place-two : placeAt (cellsOf (y .two)) i ≡ offsetIn (a .known .W) i
               unfolding offsetIn
               place-two =
-                  y .head .kept .places i ∙ y .opens .kept .places i ∙ ap (λ (v : ℕ). v % linkPart) (tail-before (done .outside) i (omega (arith, orders)) ∙ tail-before named i (omega arith)) ∙ f .kept .places i
+                  y .head .place-is ∙ linked-place (y .opens) i ∙ ap (λ (v : ℕ). v % linkPart) (tail-before (done .outside) i (omega (arith, orders)) ∙ tail-before named i (omega arith)) ∙ place-below (f .kept) i (omega arith)
                   ∙ s .here .unread .places i (omega arith) (omega (arith, orders, last))
 
               do-same : SameWords (cellsOf (y .one)) (cellsOf four) (w .doAt) (w .doAt + 1)

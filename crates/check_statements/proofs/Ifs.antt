@@ -22,6 +22,7 @@ use Rattle.grammar.proofs.Places.{simple-grows, else-grows}
 use Rattle.check_expressions.specs.declared.Judged.{Judged}
 use Rattle.check_expressions.specs.declared.Judged.the-variants as judged
 use Rattle.store_writing.specs.Promises.{Kept}
+use Rattle.store_writing.proofs.Keeping.{place-below}
 use Rattle.check_expressions.specs.Answers.{OfType}
 use Rattle.check_expressions.specs.Answers as expressions
 use Rattle.faults.specs.First.{Inside}
@@ -148,7 +149,7 @@ module _ (text code values : List ℕ) (k : Setting) (used i : ℕ) (g : Begins 
 
       place : placeAt (cellsOf one) i ≡ offsetIn (a .known .W) i
       unfolding offsetIn
-      place = kept .places i ∙ s .here .unread .places i (omega arith) (omega (arith, begins, bounded))
+      place = place-below kept i (omega arith) ∙ s .here .unread .places i (omega arith) (omega (arith, begins, bounded))
 
       changed : Outside (cellsOf code) (cellsOf one) i (s .to)
       changed = outside-wider i (s .to) (kept-outside kept) (omega arith) (omega (arith, bounded))

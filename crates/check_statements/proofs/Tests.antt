@@ -21,6 +21,7 @@ use Rattle.grammar.proofs.Places.{cases-grow, default-grows}
 use Rattle.check_expressions.specs.declared.Judged.{Judged}
 use Rattle.check_expressions.specs.declared.Judged.the-variants as judged
 use Rattle.store_writing.specs.Promises.{Kept, Linked}
+use Rattle.store_writing.proofs.Keeping.{place-below}
 use Rattle.check_expressions.specs.Answers.{OfType}
 use Rattle.check_expressions.specs.Answers as expressions
 use Rattle.faults.specs.First.{First}
@@ -179,7 +180,7 @@ module _ (text code values : List ℕ) (k : Setting) (used i : ℕ) (g : Begins 
                 record {
                   head = record {
                     first = refl;
-                    place = l .kept .places i ∙ ap (λ (x3 : ℕ). x3 % linkPart) (tail-before (done .outside) i (omega (arith, orders))) ∙ kept .places i ∙ s .here .unread .places i (omega arith) (omega (arith, orders, last));
+                    place = l .place-is ∙ ap (λ (x3 : ℕ). x3 % linkPart) (tail-before (done .outside) i (omega (arith, orders))) ∙ place-below kept i (omega arith) ∙ s .here .unread .places i (omega arith) (omega (arith, orders, last));
                     word = subst (RawWord (cellsOf three) aTest i) (done .next-is) (linked-word l);
                   };
                   term = subst (RawTerm (groundOf a) (a .known .n) (cellsOf three) (a .known .S) (w .e) (i + 1)) (sym v)

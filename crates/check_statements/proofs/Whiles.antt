@@ -22,6 +22,7 @@ use Rattle.grammar.proofs.Places.{list-grows}
 use Rattle.check_expressions.specs.declared.Judged.{Judged}
 use Rattle.check_expressions.specs.declared.Judged.the-variants as judged
 use Rattle.store_writing.specs.Promises.{Kept}
+use Rattle.store_writing.proofs.Keeping.{place-below, linked-place}
 use Rattle.check_expressions.specs.Answers.{OfType}
 use Rattle.check_expressions.specs.Answers as expressions
 use Rattle.faults.specs.First.{Inside}
@@ -162,7 +163,7 @@ module _ (text code values : List ℕ) (k : Setting) (used i : ℕ) (g : Begins 
             place : placeAt (cellsOf three) i ≡ offsetIn (a .known .W) i
             unfolding offsetIn
             place =
-                y .head .kept .places i ∙ y .again .kept .places i ∙ y .opens .kept .places i ∙ ap (λ (t : ℕ). t % linkPart) (tail-before (done .outside) i (omega (arith, begins))) ∙ kept .places i
+                y .head .place-is ∙ linked-place (y .again) i ∙ linked-place (y .opens) i ∙ ap (λ (t : ℕ). t % linkPart) (tail-before (done .outside) i (omega (arith, begins))) ∙ place-below kept i (omega arith)
                 ∙ s .here .unread .places i (omega arith) (omega (arith, begins, listed, w .after))
 
             raw : RawWhile (groundOf a) (a .known .n) (cellsOf three) (a .known .S) i (w .e)

@@ -381,11 +381,12 @@ arising-some P e place calls cs s q = some-case (caught P calls) cs (stopping tr
 
 -- by the calls of a state that holds the error's number already
 module _ (P : Program) (R : List Head) (X after : List ℕ) (c j d i steps place : ℕ) (out : List ℕ) (t : Taken) where
-  settles : (e : ℕ) (s : State) → withErrno e s ≡ stateIn P R X d i steps out
+  settles : (e : ℕ) (s : State) → Live P R X d i → withErrno e s ≡ stateIn P R X d i steps out
       → Takes P R X after c j t → Settles P R after d i steps place out t (arising P e place (callIn P R X (windowOf c) j ∷ waiting P R X c) s)
-  settles e s q (dies z same n) =
-      stops z (arising-none P e place (callIn P R X (windowOf c) j ∷ waiting P R X c) s n ∙ ap (stopping true 3 place) (q ∙ ap (λ (x : List ℕ). stateIn P R x d i steps out) (sym same)))
-  settles e s q (errors.takes k l b deep live n rest) =
+  settles e s lv q (dies z same n) =
+      stops z (subst (λ (x : List ℕ). Live P R x d i) (sym same) lv)
+      (arising-none P e place (callIn P R X (windowOf c) j ∷ waiting P R X c) s n ∙ ap (stopping true 3 place) (q ∙ ap (λ (x : List ℕ). stateIn P R x d i steps out) (sym same)))
+  settles e s lv q (errors.takes k l b deep live n rest) =
       resumes k l b deep live
       (arising-some P e place (callIn P R X (windowOf c) j ∷ waiting P R X c) (callIn P R after (windowOf k) (t .next) ∷ waiting P R after k) s n
       ∙ ap goesOn (ap (withCalls (callIn P R after (windowOf k) (t .next) ∷ waiting P R after k)) q ∙ rest d i steps out))
@@ -417,7 +418,7 @@ module _ (code values : List ℕ) (base i : ℕ) (r : ℤ) (f : SFits w64 r) (a 
           let st = errno-state code values mid base i (natAbs (read r) - firstError) p h low steps out in
           subst (λ (cs : List Call). Settles (h .P) (h .R) (cellsOf after) (h .d) i steps place out k (arising (h .P) e place cs s))
           (sym (calls-of (h .P) (h .R) (cellsOf mid) (h .d) i steps out) ∙ ap (λ (x : State). x .calls) st)
-          (settles (h .P) (h .R) (cellsOf mid) (cellsOf after) (h .d) i (h .d) i steps place out k e s (ap (λ (x : ℕ). withErrno x s) e-is ∙ sym st) (u .does (arise-here h)));
+          (settles (h .P) (h .R) (cellsOf mid) (cellsOf after) (h .d) i (h .d) i steps place out k e s (arise-here h .live) (ap (λ (x : ℕ). withErrno x s) e-is ∙ sym st) (u .does (arise-here h)));
     }
 
   module _ (t : leZ (pos firstError) (read r) ≡ false) where
@@ -431,7 +432,7 @@ module _ (code values : List ℕ) (base i : ℕ) (r : ℤ) (f : SFits w64 r) (a 
           let d : h .d ≡ 0 = omega (arith, h .base-is) in
           let s = stateIn (h .P) (h .R) (cellsOf values) (h .d) i steps out in
           let n : caught (h .P) (waiting (h .P) (h .R) (cellsOf values) (h .d)) ≡ none = ap (λ (j : ℕ). caught (h .P) (waiting (h .P) (h .R) (cellsOf values) j)) d ∙ caught-nobody (h .P) in
-          stops refl (arising-none (h .P) (getD (cellsOf values) errnoCell 0) place (waiting (h .P) (h .R) (cellsOf values) (h .d)) s n ∙ ap (stopping true 3 place) (with-errno (h .P) (h .R) (cellsOf values) (h .d) i steps out));
+          stops refl (h .live) (arising-none (h .P) (getD (cellsOf values) errnoCell 0) place (waiting (h .P) (h .R) (cellsOf values) (h .d)) s n ∙ ap (stopping true 3 place) (with-errno (h .P) (h .R) (cellsOf values) (h .d) i steps out));
     }
 
     module _ (m : base ≡ firstWindow → ⊥) (w : ℕ) (ew : w ≡ getD (cellsOf values) (base - windowCells + waitsCell) 0) where
@@ -457,7 +458,7 @@ module _ (code values : List ℕ) (base i : ℕ) (r : ℤ) (f : SFits w64 r) (a 
           let q : callIn (h .P) (h .R) (cellsOf values) (windowOf e) w ∷ waiting (h .P) (h .R) (cellsOf values) e ≡ waiting (h .P) (h .R) (cellsOf values) (h .d) =
           ap (λ (j : ℕ). callIn (h .P) (h .R) (cellsOf values) (windowOf e) j ∷ waiting (h .P) (h .R) (cellsOf values) e) ws ∙ sym (ap (waiting (h .P) (h .R) (cellsOf values)) z) in
           subst (λ (cs : List Call). Settles (h .P) (h .R) (cellsOf after) (h .d) i steps place out k (arising (h .P) (getD (cellsOf values) errnoCell 0) place cs s)) q
-          (settles (h .P) (h .R) (cellsOf values) (cellsOf after) e w (h .d) i steps place out k (getD (cellsOf values) errnoCell 0) s (with-errno (h .P) (h .R) (cellsOf values) (h .d) i steps out) (u .does (one-up h e z)))
+          (settles (h .P) (h .R) (cellsOf values) (cellsOf after) e w (h .d) i steps place out k (getD (cellsOf values) errnoCell 0) s (h .live) (with-errno (h .P) (h .R) (cellsOf values) (h .d) i steps out) (u .does (one-up h e z)))
 
       pub arise-hands : (after : List ℕ) (k : Taken) → Unwound code values after (base - windowCells) w k → Arisen code values after base i r k
       arise-hands after k u = record {

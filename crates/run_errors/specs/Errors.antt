@@ -62,7 +62,7 @@ pub data Raises (r : ℤ) : Type 0 where
 -- How a run goes on then, as the paper has it.
 module _ (P : Program) (R : List Head) (X′ : List ℕ) (d i steps place : ℕ) (out : List ℕ) where
   pub data Settles (t : Taken) (o : Outcome) : Type 0 where
-    stops : t .next ≡ 0 → o ≡ stopping true 3 place (stateIn P R X′ d i steps out) → Settles t o
+    stops : t .next ≡ 0 → Live P R X′ d i → o ≡ stopping true 3 place (stateIn P R X′ d i steps out) → Settles t o
     resumes : (c : ℕ) → 0 < t .next → t .base ≡ windowOf c → c < depthLimit → Live P R X′ c (t .next) → o ≡ goesOn (stateIn P R X′ c (t .next) steps out) → Settles t o
 
 pub record Arisen (code values after : List ℕ) (base i : ℕ) (r : ℤ) (t : Taken) : Type 0 where

@@ -1,7 +1,6 @@
-pub mod OneStep
-pub mod RunStops
 pub mod RunBegins
-pub mod Turns
+pub mod Walking
 pub mod RunEnds
-pub mod UndoLists
 pub mod RunAborted
+pub mod RunTold
+pub mod Unique

@@ -1,32 +1,31 @@
 -- What a run asks of what it is lent, and what it promises.
 use mathlib.Core.Path.{_≡_}
-use mathlib.Core.Bool.{Bool, true, false, _||_}
-use mathlib.Core.List.{List, map}
+use mathlib.Core.List.{List, [], map}
 use mathlib.Core.Option.{Option, none, some}
-use Prim.Native.Nat.{ℕ, suc, _+_, _-_, _<_, _≤_}
-use lib.Dec.{eqb, ltb}
-use lib.ListN.{length, getD, take, drop}
+use Prim.Native.Nat.{ℕ, _<_, _≤_}
+use lib.Dec.{ltb}
+use lib.ListN.{length, getD, take}
 use mir.Syntax.{w32}
 use mir.Val.{toZ}
 use Rattle.paper.specs.Basics.{if_then_else_}
 use Rattle.paper.specs.Steps.{Program}
-use Rattle.paper.specs.States.{Rooms}
+use Rattle.paper.specs.States.{State, Rooms, withCalls}
 use Rattle.paper.specs.Running.{started}
 use Rattle.paper.specs.Running as running
 use Rattle.paper.specs.Undoing.{runAbort}
 use Rattle.paper.specs.Undoing as undoing
 use Rattle.store_cells.specs.Cells.{cellsOf}
-use Rattle.code.specs.Cells.{errnoCell, placeAt}
+use Rattle.code.specs.Cells.{placeAt}
 use Rattle.code.specs.Steps.{Head, noHead}
 use Rattle.code.specs.Holds.{Holds}
-use Rattle.code.specs.Windows.{usedCell, countAt, writtenIn, stateIn}
+use Rattle.code.specs.Windows.{writtenIn, stateIn}
 use Rattle.run_whole.specs.declared.Abort.{Abort}
 use Rattle.run_whole.specs.declared.Abort.the-variants.{Never, At}
 use Rattle.run_whole.specs.declared.Ended.{Ended}
 use Rattle.run_machine.specs.Live.{Live}
-use Rattle.layout.specs.Answers.{answers}
-use Rattle.layout.specs.Rules.{mainReturned, stepsSpent, beyondDepth, noRoom}
-use Rattle.run_machine.specs.Machine.{storeBytes, depthLimit, ended, lackedBy, Lends}
+use Rattle.layout.specs.Rules.{aborted}
+use Rattle.run_machine.specs.Machine.{storeBytes, depthLimit, Lends}
+use Rattle.run_advancing.specs.Turns.{told, Leaves}
 
 -- The code store holds a program, of which main begins at word h; the value store has the module's words as a run begins, and zeros.
 pub record Begins (text code values : List ℕ) (h depth : ℕ) : Type 0 where
@@ -55,34 +54,25 @@ unfoldable pub allowedBy : (steps : ℕ) → Abort → ℕ
 allowedBy steps Never = steps
 allowedBy steps (At at undo) = if ltb steps at then steps else at
 
--- The answer and the stores are those of the state that the paper's run ends in.
-pub record Comes (P : Program) (offset : ℕ → ℕ) (after out out′ : List ℕ) (e : running.Ended) (r : Ended) : Type 0 where
+-- The state that a run ends in is what the value store X holds: some call is the newest still and stands at a step of its routine; or it is aborted, and none is left.
+module _ (P : Program) (R : List Head) (X out : List ℕ) where
+  pub data EndsIn (ending : ℕ) (S : State) : Type 0 where
+    standing : (d i : ℕ) → d < depthLimit → Live P R X d i → S ≡ stateIn P R X d i (S .steps) out → EndsIn ending S
+    callless : ending ≡ aborted → S ≡ withCalls [] (stateIn P R X 0 0 (S .steps) out) → EndsIn ending S
+
+-- The answer is the paper's, and so is the state that the lent words hold.
+pub record Comes (P : Program) (R : List Head) (offset : ℕ → ℕ) (after out : List ℕ) (e : running.Ended) (r : Ended) : Type 0 where
   pub ending : r .ending ≡ e .ending
-  pub place : r .place ≡ (if eqb (e .ending) 1 || eqb (e .ending) 9 then 0 else offset (e .place))
+  pub place : r .place ≡ told offset (e .ending) (e .place)
   pub made : r .made ≡ e .state .steps
-  pub errno : getD (cellsOf after) errnoCell 0 ≡ e .state .errno
-  pub used : countAt (cellsOf after) usedCell ≡ e .state .used
-  pub words : map (toZ w32) (take (length (P .words)) (cellsOf after)) ≡ e .state .words
-  pub written : (R : List Head) → writtenIn P R (cellsOf after) ≡ length (e .state .output)
-  pub output : take (length (e .state .output)) out′ ≡ e .state .output
-  pub past : drop (length (e .state .output)) out′ ≡ drop (length (e .state .output)) out
+  pub state : EndsIn P R (cellsOf after) out (e .ending) (e .state)
 
 pub record Ran (text code values after inputs out out′ : List ℕ) (h steps depth : ℕ) (abort : Abort) (r : Ended) : Type 0 where
-  pub long : length after ≡ length values
-  pub out-long : length out′ ≡ length out
+  pub leaves : Leaves values after out out′
   pub is : (b : Begins text code values h depth) (rooms : Rooms) → rooms .depth ≡ depth → Lends rooms inputs out →
-      Comes (b .P) (b .offset) after out out′ (runAbort (b .P) rooms steps (abortOf abort) (started (b .P) (b .main))) r
+      Comes (b .P) (b .R) (b .offset) after out′ (runAbort (b .P) rooms steps (abortOf abort) (started (b .P) (b .main))) r
 
--- ---- the parts of a run
--- An answer that ends a run, by a step, or because no more are lent, after so many steps with the one that it is of.
-pub data Stops (code : List ℕ) (answer made : ℕ) : Type 0 where
-  byStep : (n : ℕ) → n ≤ stepsSpent → answer ≡ ended + n → length code ≡ storeBytes → Stops code answer made
-  byLack : (n w : ℕ) → beyondDepth ≤ n → n ≤ noRoom → w < answers → answer ≡ lackedBy n + w → 0 < made → length code ≡ storeBytes → Stops code answer made
-
-pub record Stopped (code : List ℕ) (i answer made : ℕ) (e : Ended) : Type 0 where
-  pub by-step : (n : ℕ) → n ≤ stepsSpent → answer ≡ ended + n → (e .ending ≡ n) × (e .place ≡ (if eqb n mainReturned then 0 else placeAt (cellsOf code) i)) × (e .made ≡ made)
-  pub by-lack : (n w : ℕ) → beyondDepth ≤ n → n ≤ noRoom → w < answers → answer ≡ lackedBy n + w → (e .ending ≡ n) × (e .place ≡ placeAt (cellsOf code) w) × (e .made ≡ made - 1)
-
+-- ---- a run begins
 pub record MayBegin (code values : List ℕ) (h : ℕ) : Type 0 where
   pub text : List ℕ
   pub depth : ℕ

@@ -6,14 +6,14 @@ use Prim.Native.Nat.{ℕ, _+_, _-_, _*_, _<_, _≤_}
 use native.Mathlib.Omega.{arith}
 use lib.ListN.{length, take, drop, getD}
 use lib.Seq.{take-take, drop-drop, getD-take, getD-drop}
-use Rattle.laws.proofs.Tests.{by-less}
+use Rattle.laws.proofs.Tests.{by-same, by-less}
 use Rattle.paper.specs.Terms.{Term}
 use Rattle.store_cells.specs.Cells.{cellsOf}
 use Rattle.store_cells.proofs.Laws.{words-take, words-drop}
-use Rattle.code.specs.Cells.{linkIn, headAt}
+use Rattle.code.specs.Cells.{placeIn, linkIn, headAt, placeAt}
 use Rattle.code.specs.Spans.{termWithin, termIn}
 use Rattle.code.proofs.Composing.{Rewritten, frame}
-use Rattle.store_writing.specs.Promises.{Kept}
+use Rattle.store_writing.specs.Promises.{Kept, Linked}
 
 -- ---- cells outside
 module _ {before after : List ℕ} {from to : ℕ} (k : Kept before after from to) where
@@ -40,6 +40,12 @@ module _ {before after : List ℕ} {from to : ℕ} (k : Kept before after from t
   pub head-above : (i : ℕ) → to ≤ i → headAt (cellsOf after) i ≡ headAt (cellsOf before) i
   head-above i h = cell-above (i * 2) (omega arith)
 
+  pub place-below : (i : ℕ) → i < from → placeAt (cellsOf after) i ≡ placeAt (cellsOf before) i
+  place-below i h = ap placeIn (cell-below (i * 2 + 1) (omega arith))
+
+  pub place-above : (i : ℕ) → to ≤ i → placeAt (cellsOf after) i ≡ placeAt (cellsOf before) i
+  place-above i h = ap placeIn (cell-above (i * 2 + 1) (omega arith))
+
   pub within-below : (d m n a b : ℕ) (t : Term) → b ≤ from → termWithin m n (cellsOf before) d a b ≡ some t → termWithin m n (cellsOf after) d a b ≡ some t
   within-below d m n a b t h e = frame d m n (cellsOf before) (cellsOf after) a b t (λ i l u. sym (cell-below i (omega arith))) e
 
@@ -61,7 +67,6 @@ module _ {before after : List ℕ} {from to : ℕ} (k : Kept before after from t
             ∙ ap (drop (b * 8 - to * 8)) (k .above)
             ∙ drop-drop (b * 8 - to * 8) (to * 8) before ∙ ap (λ (n : ℕ). drop n before) s;
         long = k .long;
-        places = k .places;
       }
 
 -- one word
@@ -74,13 +79,18 @@ kept-rewritten before after i k = record {
     same : (j : ℕ) → (j ≡ i * 2 → ⊥) → (j ≡ i * 2 + 1 → ⊥) → getD (cellsOf before) j 0 ≡ getD (cellsOf after) j 0
     same j f g = by-less j (i * 2) (λ l. sym (cell-below k j l)) (λ l. sym (cell-above k j (omega (arith, f, g))))
 
+-- where one word is written that keeps its place, all do
+pub linked-place : {before after : List ℕ} {i op value link : ℕ} → Linked before after i op value link → (j : ℕ) → placeAt (cellsOf after) j ≡ placeAt (cellsOf before) j
+linked-place {before} {after} {i} l j =
+    by-less j i (λ h. place-below (l .kept) j h)
+    (λ h. by-same j i (λ e. subst (λ (k : ℕ). placeAt (cellsOf after) k ≡ placeAt (cellsOf before) k) (sym e) (l .place-is)) (λ d. place-above (l .kept) j (omega (arith, d))))
+
 pub kept-same : (code : List ℕ) (a b : ℕ) → Kept code code a b
-kept-same code a b = record { below = refl; above = refl; long = refl; places = λ i. refl }
+kept-same code a b = record { below = refl; above = refl; long = refl }
 
 pub kept-on : {x y z : List ℕ} {a b : ℕ} → Kept x y a b → Kept y z a b → Kept x z a b
 kept-on p q = record {
   below = q .below ∙ p .below;
   above = q .above ∙ p .above;
   long = q .long ∙ p .long;
-  places = λ i. q .places i ∙ p .places i;
 }

@@ -5,7 +5,6 @@ use Prim.Native.Nat.{ℕ, _+_, _*_, _/_, _%_, _<_, _≤_}
 use native.Mathlib.Omega.{arith}
 use lib.ListN.{length, take, drop, set, getD, length-set}
 use lib.Seq.{getD-set-same, getD-set-other, set-getD}
-use Rattle.laws.proofs.Tests.{by-same}
 use Rattle.store_cells.specs.Cells.{cellsOf, Put}
 use Rattle.store_cells.proofs.Laws.{length-words}
 use Rattle.store_cells.proofs.Kept.{put-length, put-take, put-drop}
@@ -38,21 +37,14 @@ module _ (before after : List ℕ) (i op value link : ℕ) (room : i * 8 + 8 ≤
   tail : tailAt (cellsOf after) i ≡ tailWith (placeAt (cellsOf before) i) link
   tail = ap (λ (x : List ℕ). tailAt x i) w ∙ getD-set-same mid (i * 2 + 1) (tailWith (placeAt (cellsOf before) i) link) 0 (simp length-set (omega (arith, length-words before)))
 
-  places : (j : ℕ) → placeAt (cellsOf after) j ≡ placeAt (cellsOf before) j
-  places j = by-same j i
-      (λ e. ap (placeAt (cellsOf after)) e ∙ ap placeIn tail ∙ low-part (tailAt (cellsOf before) i) link ∙ sym (ap (placeAt (cellsOf before)) e))
-      (λ d. ap placeIn
-      (ap (λ (x : List ℕ). tailAt x j) w
-      ∙ getD-set-other mid (i * 2 + 1) (j * 2 + 1) (tailWith (placeAt (cellsOf before) i) link) 0 (λ e. d (omega arith))
-      ∙ getD-set-other (cellsOf before) (i * 2) (j * 2 + 1) (headWith op value) 0 (λ e. omega arith)))
-
   pub linked : take (i * 8) after ≡ take (i * 8) before → drop ((i + 1) * 8) after ≡ drop ((i + 1) * 8) before → length after ≡ length before → Linked before after i op value link
   linked b a l = record {
     words = w;
     op-is = ap opIn head ∙ omega arith;
     value-is = ap valueIn head ∙ omega arith;
+    place-is = ap placeIn tail ∙ low-part (tailAt (cellsOf before) i) link;
     link-is = ap linkIn tail ∙ high-part (tailAt (cellsOf before) i) link;
-    kept = record { below = b; above = a; long = l; places = places };
+    kept = record { below = b; above = a; long = l };
   }
 
 module _ (before after : List ℕ) (i : ℕ) (room : i * 8 + 8 ≤ length before) where

@@ -19,18 +19,20 @@ pub record Rewritten (before after : List ℕ) (i head tail : ℕ) : Type 0 wher
   pub bytes : after ≡ replaced before (i * 8) (bytesOf (head ∷ tail ∷ [])) 8
   pub words : cellsOf after ≡ set (set (cellsOf before) (i * 2) head) (i * 2 + 1) tail
 
--- Nothing but the words from `from` up to `to` has changed, and no word's place.
+-- Nothing but the words from `from` up to `to` has changed; what these hold, their places too, is said by what was written there.
+-- That is enough for offsets, which are asked of a statement's first word, of callees, of strings, and of words that the check has not come to. Each of them stands outside of the
+-- expressions that are checked around it, so it is before `from` or from `to` on; or it was written by itself, and `Linked` says that its place is what it was (D129).
 pub record Kept (before after : List ℕ) (from to : ℕ) : Type 0 where
   pub below : take (from * 8) after ≡ take (from * 8) before
   pub above : drop (to * 8) after ≡ drop (to * 8) before
   pub long : length after ≡ length before
-  pub places : (i : ℕ) → placeAt (cellsOf after) i ≡ placeAt (cellsOf before) i
 
 -- Word i has this op, value and link now, and its place still; no other word has changed.
 pub record Linked (before after : List ℕ) (i op value link : ℕ) : Type 0 where
   pub words : cellsOf after ≡ set (set (cellsOf before) (i * 2) (headWith op value)) (i * 2 + 1) (tailWith (placeAt (cellsOf before) i) link)
   pub op-is : opAt (cellsOf after) i ≡ op
   pub value-is : valueAt (cellsOf after) i ≡ value
+  pub place-is : placeAt (cellsOf after) i ≡ placeAt (cellsOf before) i
   pub link-is : linkAt (cellsOf after) i ≡ link
   pub kept : Kept before after i (i + 1)
 

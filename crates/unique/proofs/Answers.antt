@@ -6,8 +6,7 @@ use Prim.Native.Nat.{ℕ, _*_, _<_, _≤_}
 use lib.ListN.{length, getD, take, drop}
 use Rattle.laws.proofs.Tests.{apart}
 use Rattle.paper.specs.Types.{Fault}
-use Rattle.store_cells.specs.Cells.{cellsOf}
-use Rattle.code.specs.Cells.{placeAt, linkAt}
+use Rattle.code.specs.Cells.{linkAt}
 use Rattle.faults.specs.First.{First}
 use Rattle.faults.proofs.First.{least-none, least-first}
 use Rattle.store_writing.specs.Promises.{Kept}
@@ -54,19 +53,17 @@ pub record SameWalk (r s : Walked) (holds : Type 0) : Type 0 where
   pub stores : (next : ℕ) (scope : Scope) → r ≡ walked.Upto next scope → holds
 
 -- ---- the code store outside of a piece
--- Two stores that differ at most in the words from `from` up to `to`, and not in the place of any.
+-- Two stores that differ at most in the words from `from` up to `to`.
 pub record SameOutside (a b : List ℕ) (from to : ℕ) : Type 0 where
   pub below : take (from * 8) a ≡ take (from * 8) b
   pub above : drop (to * 8) a ≡ drop (to * 8) b
   pub long : length a ≡ length b
-  pub places : (i : ℕ) → placeAt (cellsOf a) i ≡ placeAt (cellsOf b) i
 
 pub kept-unique : (before a b : List ℕ) (from to : ℕ) → Kept before a from to → Kept before b from to → SameOutside a b from to
 kept-unique before a b from to p q = record {
   below = p .below ∙ sym (q .below);
   above = p .above ∙ sym (q .above);
   long = p .long ∙ sym (q .long);
-  places = λ i. p .places i ∙ sym (q .places i);
 }
 
 -- the same by cells

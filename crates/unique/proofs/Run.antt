@@ -1,5 +1,6 @@
 -- The layer Run: what its promises settle. That a list is one of bytes (`Bytes`) is known of everything that is lent.
 use mathlib.Core.Path.{_≡_, refl, sym, ap, ap₂, subst, _∙_}
+use mathlib.Core.Bool.{Bool}
 use mathlib.Core.List.{List, [], _++_, map}
 use Prim.Native.Nat.{ℕ, suc, _+_, _-_, _*_, _<_, _≤_}
 use native.Mathlib.Omega.{arith}
@@ -34,10 +35,16 @@ use Rattle.run_undoing.specs.Dropping as drops
 use Rattle.run_undoing.specs.Dropping.{Stands, Falls, gone, begins, Dropped, Quits, without, Left}
 use Rattle.run_undoing.proofs.ListsLeft.{noted-here}
 use Rattle.run_output.specs.Output.{countIn, Prints, Writes, Wrote, WroteOf, WasRead}
+use Rattle.run_advancing.specs.declared.Machine.{Machine}
+use Rattle.run_advancing.specs.declared.Turn.{Turn}
+use Rattle.run_advancing.specs.declared.Turn.the-variants.{On, Over}
+use Rattle.run_advancing.specs.Turns.{told, madeWith, Turns, on, over, Leaves, Advances}
+use Rattle.run_advancing.specs.Turns as turns
 use Rattle.run_whole.specs.declared.Abort.{Abort}
 use Rattle.run_whole.specs.declared.Ended.{Ended}
-use Rattle.run_whole.specs.Runs.{Begins, Ran}
+use Rattle.run_whole.specs.Runs.{Begins, EndsIn, Ran}
 use Rattle.run_whole.specs.Runs as runs
+use Rattle.run_whole.proofs.RunTold.{run-told}
 use Rattle.unique.proofs.Showing.{same-cells, same-part, OneState}
 use Rattle.unique.proofs.Coming.{same-depth, same-next, meet, Agrees, moved, failed, kept, answer-of, AgreesOrLacks, agreed, lacked, agree, agree-where}
 use Rattle.unique.proofs.Enough.{enough}
@@ -224,9 +231,9 @@ module _ {code values : List ℕ} {base i : ℕ} (h : Here code values base i) (
 
     settled : (place : ℕ) (o : Outcome) → Settles (h .P) (h .R) (cellsOf a) (h .d) i steps place out t o → Settles (h .P) (h .R) (cellsOf b) (h .d) i steps place out u o → OneTaken
     unfolding stateOf
-    settled place o (stops n e) (stops m f) = died n m (ap stateOf (sym e ∙ f))
-    settled place o (stops n e) (resumes c m g d l f) = apart (cc)
-    settled place o (resumes c m g d l e) (stops n f) = apart (cc)
+    settled place o (stops n l e) (stops m v f) = died n m (ap stateOf (sym e ∙ f))
+    settled place o (stops n v e) (resumes c m g d l f) = apart (cc)
+    settled place o (resumes c m g d l e) (stops n v f) = apart (cc)
     settled place o (resumes c n g d l e) (resumes k m j q v f) =
         let P = h .P in
         let R = h .R in
@@ -248,11 +255,15 @@ module _ {code values : List ℕ} {base i : ℕ} (h : Here code values base i) (
     pub arise-unique : Raises r → OneArisen
     arise-unique k = record { settles = arisen-taken k; store = kept-store values a b (h .values-size) (p .long) (q .long) (p .kept) (q .kept) }
 
+-- a state of no call is none of a live one
+callless-not : (P : Program) (R : List Head) (k : ℕ) (X x Y y : List ℕ) (e n : ℕ) → withCalls [] (stateIn P R X 0 0 k x) ≡ stateIn P R Y e n k y → ⊥
+callless-not P R k X x Y y e n same = omega (arith, ap (λ (s : State). length (s .calls)) same, depth-is P R Y e n k y)
+
 -- ---- the UNDO lists
 module _ (P : Program) (R : List Head) (X : List ℕ) (k : ℕ) (out : List ℕ) (t u : Taken) (s : State) where
   -- no call is left, or one
   none-left : (n : ℕ) (c : ℕ) → s ≡ withCalls [] (stateIn P R X 0 0 k out) → s ≡ stateIn P R X c n k out → t ≡ u
-  none-left n c e f = absurd (omega (arith, ap (λ (x : State). length (x .calls)) (sym e ∙ f), depth-is P R X c n k out))
+  none-left n c e f = absurd (callless-not P R k X out X out c n (sym e ∙ f))
 
   falls-unique : Falls P R X k out t s → Falls P R X k out u s → t ≡ u
   falls-unique (gone n b e) (gone m c f) = λ j. record { next = (n ∙ sym m) j; base = (b ∙ sym c) j }
@@ -281,6 +292,87 @@ module _ {code values a b : List ℕ} {base : ℕ} {r : ℤ} {t u : Taken} (s : 
 
   pub leave-unique : (t ≡ u) × (a ≡ b)
   leave-unique = (left-taken (subst (λ (x : List ℕ). Left code values x base r u) (sym (left-store k)) q), left-store k)
+
+-- ---- a whole step
+-- The end that an outcome tells; of a run that goes on nothing but its state.
+endOf : Outcome → running.Ended
+endOf (running.goesOn s) = record { ending = 0; place = 0; state = s }
+endOf (running.stopped counted e) = e
+
+same-writing : {values out a o b p : List ℕ} → Leaves values a out o → Leaves values b out p → take (countIn (cellsOf a)) o ≡ take (countIn (cellsOf b)) p → (o ≡ p) × (countIn (cellsOf a) ≡ countIn (cellsOf b))
+same-writing {out = out} {a = a} {o = o} {b = b} {p = p} x y front =
+    let count = same-count (countIn (cellsOf a)) (countIn (cellsOf b)) o p out (omega (arith, x .fits, x .out-long)) (omega (arith, y .fits, y .out-long)) (x .out-long) (y .out-long) front in
+    (same-output (countIn (cellsOf a)) (countIn (cellsOf b)) o p out count front (x .past) (y .past), count)
+
+-- a and b are the value stores after the step, which the call with d callers makes at i, o and p the outputs
+module _ (P : Program) (R : List Head) (d i steps : ℕ) (a o b p : List ℕ) (t u : Turn) where
+  -- What two results share: one answer, and one state, in which the run goes on or has ended.
+  pub data OneTurn : Type 0 where
+    bothOn : (e : ℕ) (k : Machine) → t ≡ On k → u ≡ On k → k .base ≡ windowOf e → OneState P R e (k .next) (steps + 1) (cellsOf a) o (cellsOf b) p → OneTurn
+    bothOver : (counts : Bool) → t ≡ u → OneState P R d i (madeWith counts steps) (cellsOf a) o (cellsOf b) p → OneTurn
+    -- aborted: no call is left
+    bothGone : t ≡ u → withCalls [] (stateIn P R (cellsOf a) 0 0 (steps + 1) o) ≡ withCalls [] (stateIn P R (cellsOf b) 0 0 (steps + 1) p) → OneTurn
+
+  one-turn : OneTurn → t ≡ u
+  one-turn (bothOn e k x y z w) = x ∙ sym y
+  one-turn (bothOver c x w) = x
+  one-turn (bothGone x w) = x
+
+  front-of : OneTurn → take (countIn (cellsOf a)) o ≡ take (countIn (cellsOf b)) p
+  unfolding stateIn writtenIn
+  front-of (bothOn e k x y z w) = ap (λ (s : State). s .output) (w .state)
+  front-of (bothOver c x w) = ap (λ (s : State). s .output) (w .state)
+  front-of (bothGone x w) = ap (λ (s : State). s .output) w
+
+  module _ (isAborted : Bool) (offset : ℕ → ℕ) (q : Outcome) where
+    turns-unique : Turns isAborted P R offset d i steps (cellsOf a) o q t → Turns isAborted P R offset d i steps (cellsOf b) p q u → OneTurn
+    unfolding stateOf endOf
+    turns-unique (on e m x de g l f) (on e′ m′ x′ de′ g′ l′ f′) =
+        let state : stateIn P R (cellsOf a) e (m .next) (steps + 1) o ≡ stateIn P R (cellsOf b) e′ (m′ .next) (steps + 1) p = ap stateOf (sym f ∙ f′) in
+        let depth : e ≡ e′ = same-depth P R (steps + 1) (cellsOf a) (cellsOf b) o p e (m .next) e′ (m′ .next) state in
+        let next : m .next ≡ m′ .next = same-next P R (steps + 1) (cellsOf a) (cellsOf b) o p e (m .next) e′ (m′ .next) state in
+        let window : m .base ≡ m′ .base = g ∙ ap windowOf depth ∙ sym g′ in
+        let machine : m ≡ m′ = λ j. record { next = next j; base = window j } in
+        bothOn e m x (x′ ∙ ap On (sym machine)) g (meet P R (steps + 1) (cellsOf a) (cellsOf b) o p e (m .next) e′ (m′ .next) state l l′)
+    turns-unique (on e m x de g l f) (over n k c x′ l′ f′) = apart (cc)
+    turns-unique (on e m x de g l f) (turns.gone ab x′ f′) = absurd (callless-not P R (steps + 1) (cellsOf b) p (cellsOf a) o e (m .next) (ap stateOf (sym f′ ∙ f)))
+    turns-unique (over n k c x l f) (on e′ m′ x′ de′ g′ l′ f′) = apart (cc)
+    turns-unique (over n k c x l f) (over n′ k′ c′ x′ l′ f′) =
+        let ending : n ≡ n′ = ap (λ (y : Outcome). endOf y .ending) (sym f ∙ f′) in
+        let place : k ≡ k′ = ap (λ (y : Outcome). endOf y .place) (sym f ∙ f′) in
+        let counts : c ≡ c′ = cc in
+        let state : stateIn P R (cellsOf a) d i (madeWith c steps) o ≡ stateIn P R (cellsOf b) d i (madeWith c steps) p = ap stateOf (sym f ∙ f′) ∙ ap (λ (y : Bool). stateIn P R (cellsOf b) d i (madeWith y steps) p) (sym counts) in
+        bothOver c (x ∙ ap₂ (λ (y z : ℕ). Over y (told offset y z) c) ending place ∙ ap (Over n′ (told offset n′ k′)) counts ∙ sym x′)
+        (meet P R (madeWith c steps) (cellsOf a) (cellsOf b) o p d i d i state l l′)
+    turns-unique (over n k c x l f) (turns.gone ab x′ f′) = apart (cc)
+    turns-unique (turns.gone ab x f) (on e′ m′ x′ de′ g′ l′ f′) = absurd (callless-not P R (steps + 1) (cellsOf a) o (cellsOf b) p e′ (m′ .next) (ap stateOf (sym f ∙ f′)))
+    turns-unique (turns.gone ab x f) (over n k c x′ l f′) = apart (cc)
+    turns-unique (turns.gone ab x f) (turns.gone ab′ x′ f′) = bothGone (x ∙ sym x′) (ap stateOf (sym f ∙ f′))
+
+pub record OneAdvanced (P : Program) (R : List Head) (d i : ℕ) (a o b p : List ℕ) (t u : Turn) : Type 0 where
+  pub answer : t ≡ u
+  pub output : o ≡ p
+  pub turns : (steps : ℕ) → OneTurn P R d i steps a o b p t u
+  pub store : OneStore a b
+
+module _ {text code values inputs out a o b p : List ℕ} {last : ℕ} {m : Machine} {isAborted : Bool} {t u : Turn} where
+  pub advance-unique : (h : Steps text code values out (m .base) last (m .next))
+      → Advances text code values a inputs out o last m isAborted t → Advances text code values b inputs out p last m isAborted u → OneAdvanced (h .here .P) (h .here .R) (h .here .d) (m .next) a o b p t u
+  advance-unique h x y =
+      let rooms : Rooms = record { depth = h .rooms .depth; output = length out; inputs = map (toZ w32) (cellsOf inputs) } in
+      let deep : LastWindow rooms last = record { some = h .deepest .some; most = h .deepest .most; is = h .deepest .is } in
+      let lends : Lends rooms inputs out = record { room = refl; reads = refl } in
+      let P = h .here .P in
+      let R = h .here .R in
+      let both : (steps : ℕ) → OneTurn P R (h .here .d) (m .next) steps a o b p t u =
+      λ steps. turns-unique P R (h .here .d) (m .next) steps a o b p t u isAborted (h .here .offset) _ (x .is (h .here) (h .text-is) rooms deep lends steps) (y .is (h .here) (h .text-is) rooms deep lends steps) in
+      let same = same-writing (x .leaves) (y .leaves) (front-of P R (h .here .d) (m .next) 0 a o b p t u (both 0)) in
+      record {
+        answer = one-turn P R (h .here .d) (m .next) 0 a o b p t u (both 0);
+        output = same .0;
+        turns = both;
+        store = one-store values a b (h .here .values-size) (x .leaves .long) (y .leaves .long) (same .1);
+      }
 
 -- ---- a new call
 -- The cells that the promise speaks of: all but those between the call's words, its loops' ends and its loops' steps, which no FOR variable has.
@@ -313,17 +405,31 @@ module _ (code before a b : List ℕ) (first at : ℕ) (h : Starts code before f
   start-words-unique = record { long = p .long ∙ sym (q .long); cells = start-cells }
 
 -- ---- a run
+-- The state that it ends in: one, of a live call or of none.
+module _ (P : Program) (R : List Head) (X out Y out′ : List ℕ) where
+  pub data OneEnd : Type 0 where
+    stood : (d i steps : ℕ) → OneState P R d i steps X out Y out′ → OneEnd
+    callless : (steps : ℕ) → withCalls [] (stateIn P R X 0 0 steps out) ≡ withCalls [] (stateIn P R Y 0 0 steps out′) → OneEnd
+
+  ends-unique : (n : ℕ) (S : State) → EndsIn P R X out n S → EndsIn P R Y out′ n S → OneEnd
+  ends-unique n S (runs.standing d i de l e) (runs.standing d′ i′ de′ l′ e′) = stood d i (S .steps) (meet P R (S .steps) X Y out out′ d i d′ i′ (sym e ∙ e′) l l′)
+  ends-unique n S (runs.standing d i de l e) (runs.callless g e′) = absurd (callless-not P R (S .steps) Y out′ X out d i (sym e′ ∙ e))
+  ends-unique n S (runs.callless g e) (runs.standing d i de l e′) = absurd (callless-not P R (S .steps) X out Y out′ d i (sym e ∙ e′))
+  ends-unique n S (runs.callless g e) (runs.callless g′ e′) = callless (S .steps) (sym e ∙ e′)
+
 -- What two results share: a and b are the value stores after the run, o and p the outputs, r and s the answers.
-pub record OneRun (P : Program) (a o b p : List ℕ) (r s : Ended) : Type 0 where
+pub record OneRun (P : Program) (R : List Head) (a o b p : List ℕ) (r s : Ended) : Type 0 where
   pub answer : r ≡ s
   pub output : o ≡ p
-  pub long : length a ≡ length b
+  pub state : OneEnd P R (cellsOf a) o (cellsOf b) p
+  pub store : OneStore a b
+  -- whatever its calls
   pub errno : getD (cellsOf a) errnoCell 0 ≡ getD (cellsOf b) errnoCell 0
   pub used : countAt (cellsOf a) usedCell ≡ countAt (cellsOf b) usedCell
-  pub written : countIn (cellsOf a) ≡ countIn (cellsOf b)
   pub words : Bytes a → Bytes b → (k : ℕ) → k < length (P .words) → getD (cellsOf a) k 0 ≡ getD (cellsOf b) k 0
 
-module _ {P : Program} {offset : ℕ → ℕ} {a out o b p : List ℕ} {e : running.Ended} {r s : Ended} (x : runs.Comes P offset a out o e r) (y : runs.Comes P offset b out p e s) where
+module _ {P : Program} {R : List Head} {offset : ℕ → ℕ} {values a out o b p : List ℕ} {e : running.Ended} {r s : Ended} (size : length values ≡ storeBytes)
+    (l : Leaves values a out o) (k : Leaves values b out p) (x : runs.Comes P R offset a o e r) (y : runs.Comes P R offset b p e s) where
   came-answer : r ≡ s
   came-answer =
       let ending : r .ending ≡ s .ending = x .ending ∙ sym (y .ending) in
@@ -331,26 +437,25 @@ module _ {P : Program} {offset : ℕ → ℕ} {a out o b p : List ℕ} {e : runn
       let made : r .made ≡ s .made = x .made ∙ sym (y .made) in
       λ j. record { ending = ending j; place = place j; made = made j }
 
-  came-output : o ≡ p
-  came-output =
-      let n : ℕ = length (e .state .output) in
-      sym (take-append-drop n o) ∙ ap₂ _++_ (x .output ∙ sym (y .output)) (x .past ∙ sym (y .past)) ∙ take-append-drop n p
-
-  came-unique : length a ≡ length b → OneRun P a o b p r s
+  came-unique : OneRun P R a o b p r s
   unfolding writtenIn
-  came-unique long = record {
-    answer = came-answer;
-    output = came-output;
-    long = long;
-    errno = x .errno ∙ sym (y .errno);
-    used = x .used ∙ sym (y .used);
-    written = x .written [] ∙ sym (y .written []);
-    words = λ i j. same-cells (length (P .words)) (cellsOf a) (cellsOf b) (words-small a i) (words-small b j) (x .words ∙ sym (y .words));
-  }
+  came-unique =
+      let f = run-told P R offset values a out o e r l x in
+      let g = run-told P R offset values b out p e s k y in
+      let n : ℕ = length (e .state .output) in
+      record {
+        answer = came-answer;
+        output = sym (take-append-drop n o) ∙ ap₂ _++_ (f .output ∙ sym (g .output)) (f .past ∙ sym (g .past)) ∙ take-append-drop n p;
+        state = ends-unique P R (cellsOf a) o (cellsOf b) p (e .ending) (e .state) (x .state) (y .state);
+        store = one-store values a b size (l .long) (k .long) (f .written [] ∙ sym (g .written []));
+        errno = f .errno ∙ sym (g .errno);
+        used = f .used ∙ sym (g .used);
+        words = λ i j. same-cells (length (P .words)) (cellsOf a) (cellsOf b) (words-small a i) (words-small b j) (f .words ∙ sym (g .words));
+      }
 
 pub run-unique : {text code values inputs out a o b p : List ℕ} {h steps depth : ℕ} {abort : Abort} {r s : Ended} (g : Begins text code values h depth)
-    → Ran text code values a inputs out o h steps depth abort r → Ran text code values b inputs out p h steps depth abort s → OneRun (g .P) a o b p r s
+    → Ran text code values a inputs out o h steps depth abort r → Ran text code values b inputs out p h steps depth abort s → OneRun (g .P) (g .R) a o b p r s
 run-unique {inputs = inputs} {out = out} {depth = depth} g x y =
     let rooms : Rooms = record { depth = depth; output = length out; inputs = map (toZ w32) (cellsOf inputs) } in
     let lends : Lends rooms inputs out = record { room = refl; reads = refl } in
-    came-unique (x .is g rooms refl lends) (y .is g rooms refl lends) (x .long ∙ sym (y .long))
+    came-unique (g .values-size) (x .leaves) (y .leaves) (x .is g rooms refl lends) (y .is g rooms refl lends)

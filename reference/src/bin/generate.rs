@@ -6,7 +6,7 @@ use std::process::ExitCode;
 use reference::generate::{Cases, Kind, Size};
 
 const USAGE: &str = "usage: generate SEED COUNT \
-                     valid|courses|counting|undo|hiding|mistyped|words|bytes|limits|listing|all [short|long]";
+                     valid|courses|counting|undo|hiding|marking|mistyped|words|bytes|limits|class|listing|all [short|long]";
 
 fn asked_for() -> Option<(Cases, usize)> {
     let arguments: Vec<String> = std::env::args().skip(1).collect();

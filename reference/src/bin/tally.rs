@@ -1,4 +1,4 @@
-//! Counts the refusals and endings in the answer lines of `run` cases.
+//! Counts the refusals and endings in the answer lines of `run` and `mark` cases.
 
 use std::io::{self, BufRead};
 

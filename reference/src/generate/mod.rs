@@ -2,12 +2,14 @@
 
 mod author;
 mod chains;
+mod class;
 mod counting;
 mod courses;
 mod damage;
 mod hiding;
 mod layout;
 mod limits;
+mod marking;
 mod phrases;
 mod random;
 mod rooms;
@@ -15,6 +17,7 @@ mod statements;
 mod undo;
 
 use crate::bench::Lent;
+use crate::class::show_class;
 use crate::lines::{show_bytes, show_run};
 use crate::scan::list;
 use layout::{write_out, Token};
@@ -32,10 +35,12 @@ pub enum Kind {
     Counting,
     Undo,
     Hiding,
+    Marking,
     Mistyped,
     Words,
     Bytes,
     Limits,
+    Class,
     Listing,
     All,
 }
@@ -48,10 +53,12 @@ impl Kind {
             "counting" => Kind::Counting,
             "undo" => Kind::Undo,
             "hiding" => Kind::Hiding,
+            "marking" => Kind::Marking,
             "mistyped" => Kind::Mistyped,
             "words" => Kind::Words,
             "bytes" => Kind::Bytes,
             "limits" => Kind::Limits,
+            "class" => Kind::Class,
             "listing" => Kind::Listing,
             "all" => Kind::All,
             _ => return None,
@@ -129,10 +136,12 @@ fn case_line(random: &mut Random, kind: Kind, size: Size) -> String {
         Kind::All => mixed_line(random, size),
         Kind::Listing => listing_line(random, size),
         Kind::Limits => show_run(&limits::limit_case(random, size)),
+        Kind::Class => show_class(&class::class_case(random, size)),
         Kind::Courses => show_run(&course_case(random)),
         Kind::Counting => show_run(&loops_case(random, counting::counting)),
         Kind::Undo => show_run(&undo::undo_case(random, size)),
         Kind::Hiding => show_run(&loops_case(random, hiding::hiding)),
+        Kind::Marking => marking::marking_line(random, size),
         _ => {
             let text = text_of(random, kind, size);
             show_run(&lend(random, text))

@@ -1,8 +1,8 @@
 use borrow.Author.Needs.{needs}
 use mathlib.Core.Path.{sym, _∙_}
 use native.Mathlib.Omega.{arith}
-use Rattle.call_pendant.proofs.Depths.{good}
-use Rattle.call_pendant.proofs.PaperAnswer.{call-short, small-code, small-values, call-deep, call-judged}
+use Rattle.call_records.proofs.Depths.{good}
+use Rattle.call_judging.proofs.PaperAnswer.{call-short, small-code, small-values, call-deep, call-judged}
 use Rattle.call_pendant.proofs.call.Statement.{statement}
 use Rattle.call_pendant.proofs.call.Tie as tie
 

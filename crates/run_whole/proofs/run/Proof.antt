@@ -1,5 +1,5 @@
 use borrow.Author.Needs.{needs}
-use Rattle.run_whole.proofs.RunAborted.{run-cast, run-stops, run-never, run-below, run-through, run-strikes, run-struck}
+use Rattle.run_whole.proofs.RunAborted.{run-never, run-below, run-through, run-strikes, run-struck}
 use Rattle.run_whole.proofs.run.Statement.{statement}
 use Rattle.run_whole.proofs.run.Tie as tie
 
@@ -12,23 +12,14 @@ set-out-requires c κs = search needs
 sub-made : tie.Need-sub-made
 sub-made c = search needs
 
-cast-made : tie.Need-cast-made
-cast-made c = search needs
+cast-t20 : tie.Need-cast-t20
+cast-t20 c = search needs
 
 enum-known-abort : tie.Need-enum-known-abort
 enum-known-abort c = search needs
 
 enum-told : tie.Need-enum-told
 enum-told c = search needs
-
-cast-ending : tie.Need-cast-ending
-cast-ending c =
-    let at-set-out = c .before .before .before .before .before .before .before .before in
-    let start = at-set-out .before .before .before .before .before .before .before .before .before in
-    run-cast _ _ _ _ _ _ _ _ (start .pre) _ _ _ (at-set-out .set-out .ensures)
-
-ending-requires : tie.Need-ending-requires
-ending-requires c κs = search (needs, run-stops)
 
 same-length : tie.Need-same-length
 same-length c = search needs
@@ -39,15 +30,6 @@ same-length-2 c = search needs
 returns : tie.Need-returns
 returns c = search (needs, run-never)
 
-cast-ending-2 : tie.Need-cast-ending-2
-cast-ending-2 c =
-    let at-set-out = c .before .before .before .before .before .before .before .before .before .before in
-    let start = at-set-out .before .before .before .before .before .before .before .before .before in
-    run-cast _ _ _ _ _ _ _ _ (start .pre) _ _ _ (at-set-out .set-out .ensures)
-
-ending-requires-2 : tie.Need-ending-requires-2
-ending-requires-2 c κs = search (needs, run-stops)
-
 same-length-3 : tie.Need-same-length-3
 same-length-3 c = search needs
 
@@ -56,15 +38,6 @@ same-length-4 c = search needs
 
 returns-2 : tie.Need-returns-2
 returns-2 c = search (needs, run-below)
-
-cast-ending-3 : tie.Need-cast-ending-3
-cast-ending-3 c =
-    let at-set-out = c .before .before .before .before .before .before .before .before .before .before .before in
-    let start = at-set-out .before .before .before .before .before .before .before .before .before in
-    run-cast _ _ _ _ _ _ _ _ (start .pre) _ _ _ (at-set-out .set-out .ensures)
-
-ending-requires-3 : tie.Need-ending-requires-3
-ending-requires-3 c κs = search (needs, run-stops)
 
 same-length-5 : tie.Need-same-length-5
 same-length-5 c = search needs
@@ -96,12 +69,13 @@ returns-4 c =
     let at-undo = c .before .before .before .before in
     let at-last = at-undo .before in
     let at-if2 = at-last .before .before .before in
-    let at-abort = at-if2 .before .before .before in
-    let at-set-out = at-abort .before .before .before .before .before .before .before .before in
+    let at-if1 = at-if2 .before .before in
+    let at-abort = at-if1 .before .before in
+    let at-set-out = at-abort .before .before .before .before .before .before .before in
     let at-allowed = at-set-out .before .before .before in
     let start = at-allowed .before .before .before .before .before .before in
     run-struck _ _ _ _ _ _ _ _ (start .pre) _ _ _ (at-set-out .set-out .ensures) (at-if2 .if2 .left) _ (at-last .last-window .ensures)
-    _ _ (at-allowed .allowed .ensures) _ _ (at-abort .abort .given .1) (at-if2 .before .if1 .left) _ _ _ (at-undo .undo .ensures)
+    _ _ (at-allowed .allowed .ensures) _ _ (at-abort .abort .given .1) (at-if1 .if1 .left) _ _ _ (at-undo .undo .ensures)
 
 pub run-spec : {M : Type 1} → statement M
 run-spec =
@@ -110,21 +84,15 @@ run-spec =
     allowed-requires
     set-out-requires
     sub-made
-    cast-made
+    cast-t20
     enum-known-abort
     enum-told
-    cast-ending
-    ending-requires
     same-length
     same-length-2
     returns
-    cast-ending-2
-    ending-requires-2
     same-length-3
     same-length-4
     returns-2
-    cast-ending-3
-    ending-requires-3
     same-length-5
     same-length-6
     returns-3

@@ -1,0 +1,4 @@
+pub mod AnswerPut
+pub mod MarkCarried
+pub mod MarkAnswer
+pub mod Unique

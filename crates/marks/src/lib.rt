@@ -1,0 +1,1 @@
+// Marking another simulator, request 14: definitions and theorems, see specs/. Nothing here runs.

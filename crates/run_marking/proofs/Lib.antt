@@ -1,0 +1,4 @@
+pub mod Entries
+pub mod Following
+pub mod Beginning
+pub mod Unique
